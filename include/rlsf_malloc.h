@@ -31,7 +31,11 @@
 extern "C" {
 #endif
 
-#define RLSF_MALLOC_VERSION "0.1.0"
+#define RLSF_VERSION_MAJOR 0
+#define RLSF_VERSION_MINOR 1
+#define RLSF_VERSION_PATCH 0
+#define RLSF_VERSION "0.1.0"
+#define RLSF_MALLOC_VERSION RLSF_VERSION
 
 /* Kinds of heaps. A small heap has 12 first-level rows of 16 size classes, for payloads of at most 126,960 bytes. A large heap has 64 rows of 64
  * classes, for payloads of all sizes; its choice of blocks is finer. */
@@ -50,6 +54,13 @@ typedef struct {
     size_t longest;  /* the bytes of the longest free block, or 0 if there is none */
 } rlsf_totals;
 
+/* A block of a list. */
+typedef struct {
+    size_t start; /* the address at which it begins, 16 bytes before its payload's if the payload's alignment is 16 */
+    size_t len;   /* its length in bytes, with its header */
+    size_t used;  /* 1 if it holds a live payload, else 0 */
+} rlsf_span;
+
 /* The exported functions. Each takes the handle's bytes behind an rlsf_heap. */
 #define RLSF_KIND_DECLARES(KIND)                                                                      \
     size_t rlsf_##KIND##_size(void);                                                                  \
@@ -65,7 +76,8 @@ typedef struct {
     size_t rlsf_##KIND##_reallocate_in_place(void *heap, size_t payload, size_t size);                \
     void rlsf_##KIND##_free(void *heap, size_t payload);                                              \
     size_t rlsf_##KIND##_usable(void *heap, size_t payload);                                          \
-    rlsf_totals rlsf_##KIND##_stats(void *heap, size_t start, size_t len);
+    rlsf_totals rlsf_##KIND##_stats(void *heap, size_t start, size_t len);                            \
+    size_t rlsf_##KIND##_list(void *heap, size_t start, size_t len, size_t from, size_t *numbers, size_t room);
 RLSF_KIND_DECLARES(small)
 RLSF_KIND_DECLARES(large)
 #undef RLSF_KIND_DECLARES
@@ -215,6 +227,17 @@ static inline size_t rlsf_usable_size(const rlsf_heap *heap, const void *payload
 static inline rlsf_totals rlsf_heap_stats(const rlsf_heap *heap) {
     return heap->kind == RLSF_SMALL ? rlsf_small_stats((void *)(heap + 1), heap->start, heap->len)
                                     : rlsf_large_stats((void *)(heap + 1), heap->start, heap->len);
+}
+
+/* Fills an array with the blocks of a pool that begin at `from` or behind it, in address order, and returns the number of filled ones: all
+ * of them, or `count` if there are more. The others stay as they are. To go on behind a full array, pass the last block's start + len as
+ * `from`. The time grows with the number of blocks up to the last listed one.
+ *
+ * The pool is one that rlsf_heap_add made of `memory`, and `len` is what it returned; or the last pool, if `memory` is NULL. */
+static inline size_t rlsf_heap_walk(const rlsf_heap *heap, const void *memory, size_t len, const void *from, rlsf_span *blocks, size_t count) {
+    size_t start = memory ? (size_t)memory : heap->start, taken = memory ? len : heap->len;
+    return heap->kind == RLSF_SMALL ? rlsf_small_list((void *)(heap + 1), start, taken, (size_t)from, &blocks->start, 3 * count)
+                                    : rlsf_large_list((void *)(heap + 1), start, taken, (size_t)from, &blocks->start, 3 * count);
 }
 
 #ifdef __cplusplus

@@ -1,5 +1,6 @@
 -- Where payloads lie whose alignment is 16 or above.
-use Rattle.std.proofs.Common.{◌≡◌, ◌≢◌, ◌⊎◌, ℕ, zero, suc, ◌+◌, ◌*◌, ◌%◌, ◌^◌, ◌<◌, ◌≤◌, Some, arith, refl, sym, ◌∙◌, ap, subst, inl, inr, pow-add, pow_pos}
+use Rattle.std.proofs.Common.{◌≡◌, ◌≢◌, ◌⊎◌, ℕ, zero, suc, ◌+◌, ◌*◌, ◌%◌, ◌^◌, ◌<◌, ◌≤◌, Some, arith, refl, sym, ◌∙◌, ap, subst}
+use Rattle.std.proofs.Common.{inl, inr, pow-add, pow_pos}
 use Rattle.rlsf_base.specs.PowerOfTwo.{IsPowerOfTwo, floor_log2}
 use Rattle.rlsf_machine.specs.Callers.{align_at}
 use Rattle.rlsf_machine.specs.Payload.{payload_of}
@@ -25,7 +26,8 @@ power_from_16 (suc (suc (suc (suc (suc k))))) n e low =
 -- a payload of the alignment 16 lies at no multiple of 32, and one of a wider alignment does
 placed_by : (u : Used) → IsUsed u → 16 ≤ u.align → ((u.payload % 32 ≢ 0) × (u.align ≡ 16)) ⊎ ((u.payload % 32 ≡ 0) × (16 < u.align))
 placed_by u is low = elim (power_from_16 (floor_log2 u.align) u.align is.power low) [
-  | inl narrow ↦ (let at : u.payload ≡ payload_of u.block.start 16 = is.placed ∙ ap (payload_of u.block.start) narrow in inl (λ e. omega (arith, at, is.whole.start, e), narrow))
+  | inl narrow ↦ (let at : u.payload ≡ payload_of u.block.start 16 = is.placed ∙ ap (payload_of u.block.start) narrow in
+      inl (λ e. omega (arith, at, is.whole.start, e), narrow))
   | inr wide ↦ inr (wide_whole u.payload u.align is.power wide (IsUsed-aligned u is), omega (arith, wide))
 ]
 

@@ -2,6 +2,7 @@
 pub mod Alignments
 pub mod Laws
 pub mod Lending
+pub mod Listing
 pub mod Outcomes
 pub mod Sums
 pub mod Walking

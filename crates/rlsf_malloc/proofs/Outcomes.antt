@@ -1,5 +1,6 @@
 -- What the calls of an allocator do, as numbers.
-use Rattle.std.proofs.Common.{◌≡◌, ◌≢◌, ℕ, zero, suc, ◌+◌, ◌*◌, ◌%◌, ◌<◌, ◌≤◌, List, length, replicate, Option, Some, None, arith, refl, sym, ◌∙◌, ap, subst}
+use Rattle.std.proofs.Common.{◌≡◌, ◌≢◌, ℕ, zero, suc, ◌+◌, ◌*◌, ◌%◌, ◌<◌, ◌≤◌, List, length, replicate, Option, Some, None, arith, refl, sym}
+use Rattle.std.proofs.Common.{◌∙◌, ap, subst}
 use Rattle.std.proofs.lemmas.List.{length-replicate}
 use Rattle.std.specs.Prelude.{IfNone, IfSome}
 use Rattle.std.specs.declared.num.NonZeroUsize.{NonZeroUsize}
@@ -62,7 +63,15 @@ module _ (sllen : ℕ) (old new : Allocator) (size align : ℕ) (layout : IsLayo
       let made : Allocates sllen old size align (at addr) new = record {
         no_layout = λ never. absurd (never layout);
         step = λ l. subst (λ o. machine.Allocates sllen old.state size align o new.state) (sym (reply_of-some (at addr) (λ e. some (is ∙ e)))) step;
-        new = λ apart. record { new = fresh; live = live; aligned = places_aligned sllen old.state new.state size align (at addr) layout step; sized = sized; few = few; kept = record { place = place; aligns = aligns; bytes = bytes } };
+        new =
+            λ apart. record {
+              new = fresh;
+              live = live;
+              aligned = places_aligned sllen old.state new.state size align (at addr) layout step;
+              sized = sized;
+              few = few;
+              kept = record { place = place; aligns = aligns; bytes = bytes };
+            };
         same = λ e. absurd (some (is ∙ e));
       } in subst (λ m. Allocates sllen old size align m new) (sym is) made
   allocated None n is step live sized few fresh aligns bytes state kept =
@@ -85,7 +94,8 @@ no_layout sllen v size align never = record {
 -- ---- payloads that get another size
 
 -- a payload that moved has left its address
-pub left_behind : (fllen sllen : ℕ) (v : Allocator) → Stands fllen sllen v → (t : State) (addr align size to : ℕ) → align_at v.state addr ≡ Some align → Reallocates sllen v.state addr size (Some to) t
+pub left_behind : (fllen sllen : ℕ) (v : Allocator) → Stands fllen sllen v → (t : State) (addr align size to : ℕ) → align_at v.state addr ≡ Some align
+    → Reallocates sllen v.state addr size (Some to) t
     → to ≢ addr → align_at t addr ≡ None
 unfolding Stands
 left_behind fllen sllen v stands t addr align size to is step apart =
@@ -93,7 +103,8 @@ left_behind fllen sllen v stands t addr align size to is step apart =
     let resized = callers_see_map fllen sllen (range_of v.memory) v.state t (reallocate addr size (Some to)) stands.stands.well_formed (u, held) step in
     align_at-none t addr (resized.left apart)
 
-module _ (fllen sllen : ℕ) (old new : Allocator) (stands : Stands fllen sllen old) (addr size align : ℕ) (was : align_at old.state addr ≡ Some align) (layout : IsLayout size align) (place : SamePlace old.memory new.memory) where
+module _ (fllen sllen : ℕ) (old new : Allocator) (stands : Stands fllen sllen old) (addr size align : ℕ) (was : align_at old.state addr ≡ Some align)
+    (layout : IsLayout size align) (place : SamePlace old.memory new.memory) where
   pub resized : (r : Option NonZeroUsize) (n : ℕ) → IsNumberOf r n → Reallocates sllen old.state addr size (reply r) new.state
       → IfSome r (λ to. align_at new.state (at to) ≡ Some align) → IfSome r (λ to. size ≤ length (bytes_at new.state (at to)))
       → IfSome r (λ to. length (bytes_at new.state (at to)) < size + 32) → IfSome r (λ to. Keeps (bytes_at old.state addr) (bytes_at new.state (at to)))
@@ -105,7 +116,18 @@ module _ (fllen sllen : ℕ) (old new : Allocator) (stands : Stands fllen sllen 
       let made : Resizes sllen old addr size align (at to) new = record {
         no_layout = λ never. absurd (never layout);
         step = λ l. subst (λ o. Reallocates sllen old.state addr size o new.state) (sym (reply_of-some (at to) (λ e. some (is ∙ e)))) step;
-        resized = λ apart. record { live = live; sized = sized; few = few; held = held; new = fresh; gone = left_behind fllen sllen old stands new.state addr align size (at to) was step; aligns = aligns; bytes = bytes; place = place };
+        resized =
+            λ apart. record {
+              live = live;
+              sized = sized;
+              few = few;
+              held = held;
+              new = fresh;
+              gone = left_behind fllen sllen old stands new.state addr align size (at to) was step;
+              aligns = aligns;
+              bytes = bytes;
+              place = place;
+            };
         same = λ e. absurd (some (is ∙ e));
       } in subst (λ m. Resizes sllen old addr size align m new) (sym is) made
   resized None n is step live sized few held fresh aligns bytes state kept =
@@ -139,9 +161,11 @@ freed fllen sllen old new addr some step gone aligns bytes place = record {
 pub none_freed : (v : Allocator) → Frees v 0 v
 none_freed v = record { freed = λ apart. absurd (apart refl); nothing = λ e. same v }
 
-pub added : (fllen sllen : ℕ) (old new : Allocator) (range : Range) (r : Option NonZeroUsize) (n : ℕ) → IsNumberOf r n → Steps fllen sllen old new (Inserts fllen old.state range (reply r))
+pub added : (fllen sllen : ℕ) (old new : Allocator) (range : Range) (r : Option NonZeroUsize) (n : ℕ) → IsNumberOf r n
+    → Steps fllen sllen old new (Inserts fllen old.state range (reply r))
     → align_at new.state ≡ align_at old.state → bytes_at new.state ≡ bytes_at old.state
-    → ((q : Range) → IsUntouched old.state.chunks q → AreApart range q → IsUntouched new.state.chunks q) → SamePlace old.memory new.memory → Adds fllen old range.start range.len n new
+    → ((q : Range) → IsUntouched old.state.chunks q → AreApart range q → IsUntouched new.state.chunks q) → SamePlace old.memory new.memory
+    → Adds fllen old range.start range.len n new
 added fllen sllen old new range r n is step aligns bytes untouched place = record {
   step = subst (λ o. Inserts fllen old.state range o new.state) (sym (reply_of-same r n is)) (step_of fllen sllen old new (Inserts fllen old.state range (reply r)) step);
   aligns = aligns;
@@ -162,7 +186,18 @@ module _ (old new : Allocator) (addr size : ℕ) (some : addr ≢ 0) (layout : I
         there = λ apart. there;
         no_layout = λ never. absurd (never layout);
         step = λ l. subst (λ o. ReallocatesWithoutMove old.state addr size o new.state) (sym (reply_of-some (at to) (λ e. nonzero (is ∙ e)))) step;
-        resized = λ apart. record { live = live; sized = sized; few = few; held = held; new = λ off. absurd (off refl); gone = λ off. absurd (off refl); aligns = λ a off off_to. (λ i. aligns i a); bytes = λ a off off_to. bytes a off; place = place };
+        resized =
+            λ apart. record {
+              live = live;
+              sized = sized;
+              few = few;
+              held = held;
+              new = λ off. absurd (off refl);
+              gone = λ off. absurd (off refl);
+              aligns = λ a off off_to. (λ i. aligns i a);
+              bytes = λ a off off_to. bytes a off;
+              place = place;
+            };
         same = λ e. absurd (nonzero (is ∙ e));
       } in subst (λ m. ResizesThere old addr size m new) (sym is) made
   resized_there None n is step there live sized few held aligns bytes state kept =

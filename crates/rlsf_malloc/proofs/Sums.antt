@@ -41,7 +41,9 @@ module _ (s : Totals) (b : Block) (bs all : List Block) (is : IsCounted s (b ∷
   below = is.behind b (inl refl)
 
   abbrev when : Bool → Totals
-  when k = cond k (record { payloads = s.payloads + 1; used = s.used + b.range.len; free = s.free; longest = s.longest }) (record { payloads = s.payloads; used = s.used; free = s.free + b.range.len; longest = max s.longest b.range.len })
+  when k =
+      cond k (record { payloads = s.payloads + 1; used = s.used + b.range.len; free = s.free; longest = s.longest })
+      (record { payloads = s.payloads; used = s.used; free = s.free + b.range.len; longest = max s.longest b.range.len })
 
   by_use : (k : Bool) → b.is_occupied ≡ k → (when k).payloads ≤ (when k).used → IsCounted (when k) bs all
   by_use true e few = record {

@@ -9,7 +9,8 @@ pub use mir.Val.{Val, vunit, vint, vptr}
 pub use prog.Wp.{WpFn}
 pub use contract.Monad.{fact}
 pub use contract.Running.{tables}
-pub use types.Kit.{‵, raw, ◌⊛◌, some, later, prop, ◌$◌, ◌∵◌, !, qed, done, move, keep, drop, use1, use2, use3, split, join, fsplit, fjoin, fpack, feq_i, feq_l, pick, await, rewrite, regoal, suffices, group}
+pub use types.Kit.{‵, raw, ◌⊛◌, some, later, prop, ◌$◌, ◌∵◌, !, qed, done, move, keep, drop, use1, use2, use3, split, join, fsplit, fjoin, fpack, feq_i, feq_l}
+pub use types.Kit.{pick, await, rewrite, regoal, suffices, group}
 pub use types.Tokens.{lft_new, lft_end}
 pub use types.SemTy.{Body}
 pub use types.Run.{enter, of_opd, addr, stop, no_more, and_then, returns}

@@ -1,5 +1,6 @@
 -- A payload of a wide alignment moves: its bytes are copied into a new payload, and it is deallocated.
-use Rattle.std.proofs.Common.{◌≡◌, ◌≢◌, ℕ, ◌<◌, ◌≤◌, List, length, min, take, drop, Some, None, arith, length-drop, true≢false, refl, sym, ◌∙◌, ap, subst}
+use Rattle.std.proofs.Common.{◌≡◌, ◌≢◌, ℕ, ◌<◌, ◌≤◌, List, length, min, take, drop, Some, None, arith, length-drop, true≢false, refl, sym, ◌∙◌, ap}
+use Rattle.std.proofs.Common.{subst}
 use Rattle.std.proofs.lemmas.List.{length-append, take_all, take_at}
 use Rattle.std.specs.Prelude.{IsSome}
 use Rattle.rlsf_base.specs.Layout.{IsLayout}
@@ -28,7 +29,8 @@ length-front n old new is short =
     let front : length (take n old) ≡ n = ap length (take_all n old (omega (arith, is))) ∙ is in
     omega (arith, length-append (take n old) (drop n new), length-drop n new, front, short)
 
-module _ (sllen : ℕ) (old mid copied new : Allocator) (addr size to : ℕ) (some : to ≢ 0) (live : IsSome (align_at old.state addr)) (did : Allocates sllen old size 16 to mid) where
+module _ (sllen : ℕ) (old mid copied new : Allocator) (addr size to : ℕ) (some : to ≢ 0) (live : IsSome (align_at old.state addr))
+    (did : Allocates sllen old size 16 to mid) where
   abbrev len : ℕ
   len = length (bytes_at old.state addr)
 
@@ -43,16 +45,21 @@ module _ (sllen : ℕ) (old mid copied new : Allocator) (addr size to : ℕ) (so
   pub still_long : len ≤ length (bytes_at mid.state addr)
   still_long = omega (arith, ap length ((did.new some).kept.bytes addr elsewhere))
 
-  pub moved_wide : len < size → Fills mid.state to (copied_over mid.state addr to len) copied.state → Deallocates copied.state addr new.state → bytes_at copied.state to ≡ copied_over mid.state addr to len → ((a : ℕ) → a ≢ to → bytes_at copied.state a ≡ bytes_at mid.state a) → align_at copied.state ≡ align_at mid.state
-      → SamePlace mid.memory copied.memory → align_at new.state addr ≡ None → ((a : ℕ) → a ≢ addr → align_at new.state a ≡ align_at copied.state a) → ((a : ℕ) → a ≢ addr → bytes_at new.state a ≡ bytes_at copied.state a)
+  pub moved_wide : len < size → Fills mid.state to (copied_over mid.state addr to len) copied.state → Deallocates copied.state addr new.state
+      → bytes_at copied.state to ≡ copied_over mid.state addr to len → ((a : ℕ) → a ≢ to → bytes_at copied.state a ≡ bytes_at mid.state a)
+      → align_at copied.state ≡ align_at mid.state
+      → SamePlace mid.memory copied.memory → align_at new.state addr ≡ None → ((a : ℕ) → a ≢ addr → align_at new.state a ≡ align_at copied.state a)
+      → ((a : ℕ) → a ≢ addr → bytes_at new.state a ≡ bytes_at copied.state a)
       → SamePlace copied.memory new.memory → ResizesWide sllen old addr size to new
   moved_wide past copying freeing filled bytes aligns place gone new_aligns new_bytes new_place =
       let is = did.new some in
       let back : to ≢ addr = λ e. elsewhere (sym e) in
       let kept : bytes_at mid.state addr ≡ bytes_at old.state addr = is.kept.bytes addr elsewhere in
-      let here : bytes_at new.state to ≡ with_front len (bytes_at old.state addr) (bytes_at mid.state to) = new_bytes to back ∙ filled ∙ ap (λ bs. with_front len bs (bytes_at mid.state to)) kept in
+      let here : bytes_at new.state to ≡ with_front len (bytes_at old.state addr) (bytes_at mid.state to) =
+      new_bytes to back ∙ filled ∙ ap (λ bs. with_front len bs (bytes_at mid.state to)) kept in
       let enough : len ≤ length (bytes_at mid.state to) = omega (arith, past, is.sized) in
-      let long : length (bytes_at new.state to) ≡ length (bytes_at mid.state to) = ap length here ∙ length-front len (bytes_at old.state addr) (bytes_at mid.state to) refl enough in
+      let long : length (bytes_at new.state to) ≡ length (bytes_at mid.state to) =
+      ap length here ∙ length-front len (bytes_at old.state addr) (bytes_at mid.state to) refl enough in
       let resized : IsResized old addr size 16 to new = record {
         live = new_aligns to back ∙ (λ i. aligns i to) ∙ is.live;
         sized = omega (arith, long, is.sized);
@@ -67,13 +74,23 @@ module _ (sllen : ℕ) (old mid copied new : Allocator) (addr size to : ℕ) (so
       record {
         stays = λ fits. absurd (omega (arith, fits, past));
         no_layout = λ p. did.no_layout;
-        step = λ p l. (mid.state, did.step l, λ apart. record { middle = copied.state; copied = subst (λ bs. Fills mid.state to (copied_over mid.state addr to (length bs)) copied.state) (sym kept) copying; freed = freeing });
+        step =
+            λ p l. (
+              mid.state,
+              did.step l,
+              λ apart. record {
+                middle = copied.state;
+                copied = subst (λ bs. Fills mid.state to (copied_over mid.state addr to (length bs)) copied.state) (sym kept) copying;
+                freed = freeing;
+              },
+            );
         resized = λ p apart. resized;
         same = λ e. absurd (some e);
       }
 
 -- one that has too few bytes stays where there is no room
-pub not_moved : (sllen : ℕ) (old new : Allocator) (addr size : ℕ) → length (bytes_at old.state addr) < size → Allocates sllen old size 16 0 new → ResizesWide sllen old addr size 0 new
+pub not_moved : (sllen : ℕ) (old new : Allocator) (addr size : ℕ) → length (bytes_at old.state addr) < size → Allocates sllen old size 16 0 new
+    → ResizesWide sllen old addr size 0 new
 not_moved sllen old new addr size past did = record {
   stays = λ fits. absurd (omega (arith, fits, past));
   no_layout = λ p. did.no_layout;

@@ -1,5 +1,6 @@
 -- What the calls do to the payloads of a heap.
-use Rattle.std.specs.Prelude.{◌≡◌, ◌≢◌, ◌↔◌, ℕ, zero, suc, ◌+◌, ◌*◌, ◌%◌, ◌<◌, ◌≤◌, List, length, replicate, nat_lt, Option, Some, None, IsSome, if◌then◌else◌}
+use Rattle.std.specs.Prelude.{◌≡◌, ◌≢◌, ◌↔◌, ℕ, zero, suc, ◌+◌, ◌*◌, ◌%◌, ◌<◌, ◌≤◌, List, length, replicate, nat_lt, Option, Some, None}
+use Rattle.std.specs.Prelude.{IsSome, if◌then◌else◌}
 use Rattle.std.specs.Ptr.{Ptr}
 use Rattle.std.specs.declared.num.NonZeroUsize.{NonZeroUsize}
 use Rattle.rlsf_base.specs.Addr.{at}
@@ -71,7 +72,9 @@ pub record Zeroes (before : Allocator) (addr : ℕ) (after : Allocator) : Type 0
 -- a zeroed allocation of `count` times `size` bytes: refused as an allocation of so many bytes is
 pub record AllocatesZeroed (sllen : ℕ) (before : Allocator) (count size addr : ℕ) (after : Allocator) : Type 0 where
   pub no_layout : (IsLayout (count * size) 16 → ⊥) → addr ≡ 0
-  pub step : IsLayout (count * size) 16 → (s : State) × machine.Allocates sllen before.state (count * size) 16 (reply_of addr) s × (addr ≢ 0 → Fills s addr (replicate (length (bytes_at s addr)) 0) after.state)
+  pub step : IsLayout (count * size) 16
+      → (s : State) × machine.Allocates sllen before.state (count * size) 16 (reply_of addr) s
+      × (addr ≢ 0 → Fills s addr (replicate (length (bytes_at s addr)) 0) after.state)
   pub new : addr ≢ 0 → IsNew (count * size) 16 addr before after
   pub zeros : addr ≢ 0 → bytes_at after.state addr ≡ replicate (length (bytes_at after.state addr)) 0
   pub same : addr ≡ 0 → IsSame before after
@@ -117,7 +120,8 @@ pub record MovesTo (s : State) (addr to : ℕ) (t : State) : Type 0 where
 pub record ResizesWide (sllen : ℕ) (before : Allocator) (addr size to : ℕ) (after : Allocator) : Type 0 where
   pub stays : size ≤ length (bytes_at before.state addr) → (to ≡ addr) × IsSame before after
   pub no_layout : length (bytes_at before.state addr) < size → (IsLayout size 16 → ⊥) → to ≡ 0
-  pub step : length (bytes_at before.state addr) < size → IsLayout size 16 → (s : State) × machine.Allocates sllen before.state size 16 (reply_of to) s × (to ≢ 0 → MovesTo s addr to after.state)
+  pub step : length (bytes_at before.state addr) < size → IsLayout size 16
+      → (s : State) × machine.Allocates sllen before.state size 16 (reply_of to) s × (to ≢ 0 → MovesTo s addr to after.state)
   pub resized : length (bytes_at before.state addr) < size → to ≢ 0 → IsResized before addr size 16 to after
   pub same : to ≡ 0 → IsSame before after
 

@@ -38,10 +38,9 @@ pub(crate) fn add<F: BitPattern, S: BitPattern, const FLLEN: usize, const SLLEN:
     number_of(heap.insert_free_block_ptr(Range { start, len }))
 }
 
-/// Allocates a payload. Returns its address, or 0.
-// Out of line, as its only caller of `Tlsf::allocate`: so the compiler puts that in line here.
-#[inline(never)]
-pub(crate) fn allocate<F: BitPattern, S: BitPattern, const FLLEN: usize, const SLLEN: usize>(
+/// Allocates a payload for a layout, if there is one. Returns its address, or 0.
+#[inline(always)]
+fn allocate_for<F: BitPattern, S: BitPattern, const FLLEN: usize, const SLLEN: usize>(
     heap: &mut Tlsf<F, S, FLLEN, SLLEN>,
     size: usize,
     align: usize,
@@ -52,6 +51,29 @@ pub(crate) fn allocate<F: BitPattern, S: BitPattern, const FLLEN: usize, const S
         Ok(layout) => number_of(heap.allocate(layout)),
         Err(_) => 0,
     }
+}
+
+/// Allocates a payload of the alignment 16. Returns its address, or 0.
+// Apart from `allocate`, and of one caller: so it is in line there, and the compiler drops the tests of a constant alignment.
+pub(crate) fn malloc<F: BitPattern, S: BitPattern, const FLLEN: usize, const SLLEN: usize>(
+    heap: &mut Tlsf<F, S, FLLEN, SLLEN>,
+    size: usize,
+) -> usize
+    ensures { Allocates SLLEN heap.old size 16 result heap.new }
+{
+    allocate_for(heap, size, 16)
+}
+
+/// Allocates a payload. Returns its address, or 0.
+#[inline(never)]
+pub(crate) fn allocate<F: BitPattern, S: BitPattern, const FLLEN: usize, const SLLEN: usize>(
+    heap: &mut Tlsf<F, S, FLLEN, SLLEN>,
+    size: usize,
+    align: usize,
+) -> usize
+    ensures { Allocates SLLEN heap.old size align result heap.new }
+{
+    allocate_for(heap, size, align)
 }
 
 /// Writes zeros to all bytes.

@@ -18,10 +18,12 @@ ghost use Rattle.rlsf_malloc.specs.Handle.{HasRoomForLarge, HasRoomForSmall, Hol
 ghost use Rattle.rlsf_malloc.specs.Totals.{AreTotals};
 
 mod calls;
+mod inspect;
 mod large;
 mod pools;
 mod resizing;
 mod small;
+mod walk;
 
 use large::Large;
 use pools::Totals;

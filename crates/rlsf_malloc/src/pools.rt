@@ -69,7 +69,7 @@ fn totals_of(blocks: Blocks<'_>) -> Totals
     sum
 }
 
-/// Returns the totals of the blocks in a range, which is contiguous whole chunks.
+/// Returns the totals of the blocks in a range, which is complete contiguous chunks.
 pub(crate) fn totals_in<F: BitPattern, S: BitPattern, const FLLEN: usize, const SLLEN: usize>(
     heap: &Tlsf<F, S, FLLEN, SLLEN>,
     start: usize,

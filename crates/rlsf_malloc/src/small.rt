@@ -52,7 +52,7 @@ pub(crate) fn allocate(heap: &mut Small, size: usize, align: usize) -> usize
 pub(crate) fn malloc(heap: &mut Small, size: usize) -> usize
     ensures { Allocates 16 heap.old size 16 result heap.new }
 {
-    calls::allocate(heap, size, 16)
+    calls::malloc(heap, size)
 }
 
 /// Allocates a payload of `count * size` zero bytes. Returns its address, or 0.
@@ -102,7 +102,7 @@ pub(crate) fn usable(heap: &mut Small, addr: usize) -> usize
     calls::usable(heap, addr)
 }
 
-/// Returns the totals of the blocks in a range, which is contiguous whole chunks.
+/// Returns the totals of the blocks in a range, which is complete contiguous chunks.
 pub(crate) fn stats(heap: &mut Small, start: usize, len: usize) -> Totals
     requires { IsRow heap.old.state (walked (range_at start len)) }
     ensures { AreTotals heap.old (range_at start len) result × (heap.new ≡ heap.old) }

@@ -1,5 +1,9 @@
 -- `rlsf_large_allocate_zeroed` lends the heap behind the handle to `allocate_zeroed`, and takes it back.
-use Rattle.rlsf_malloc.proofs.Walking.{ℕ, [], ◌∷◌, ◌++◌, refl, w64, proved, full_share, id⊢, ftrue, flft, vptr, WpFn, fact, tables, ‵, raw, ◌⊛◌, some, later, prop, ◌$◌, ◌∵◌, !, qed, done, move, keep, drop, use1, use2, use3, split, join, fsplit, fpack, pick, await, suffices, group, lft_end, enter, of_opd, addr, stop, no_more, and_then, returns, alloc_all, pass_all, free_all, look_at, get, through, sets, lands_as, yes, ref_back, part_at, uint_vals, uint_Tells, Ptr, RawPtr, block_ptr, lies_at, rawptr_vals, rawptr_Tells, plain, nothing, owned, heard, calls_at, lasts, on_entry, triple_of, Stays, walk_of, stay_dropped, Goes-dropped, ends_at, framed, usize, uint_Makes, Is, shows, peeks, uint_Lawful}
+use Rattle.rlsf_malloc.proofs.Walking.{ℕ, [], ◌∷◌, ◌++◌, refl, w64, proved, full_share, id⊢, ftrue, flft, vptr, WpFn, fact, tables, ‵, raw, ◌⊛◌, some, later}
+use Rattle.rlsf_malloc.proofs.Walking.{prop, ◌$◌, ◌∵◌, !, qed, done, move, keep, drop, use1, use2, use3, split, join, fsplit, fpack, pick, await, suffices, group}
+use Rattle.rlsf_malloc.proofs.Walking.{lft_end, enter, of_opd, addr, stop, no_more, and_then, returns, alloc_all, pass_all, free_all, look_at, get, through, sets, lands_as, yes}
+use Rattle.rlsf_malloc.proofs.Walking.{ref_back, part_at, uint_vals, uint_Tells, Ptr, RawPtr, block_ptr, lies_at, rawptr_vals, rawptr_Tells, plain, nothing, owned, heard, calls_at}
+use Rattle.rlsf_malloc.proofs.Walking.{lasts, on_entry, triple_of, Stays, walk_of, stay_dropped, Goes-dropped, ends_at, framed, usize, uint_Makes, Is, shows, peeks, uint_Lawful}
 use Rattle.rlsf_malloc.proofs.Lending.{in_its_block, lends}
 use Rattle.rlsf_malloc.specs.Handle.{SomeHeap, large as R}
 use Rattle.rlsf_malloc.specs.Calls.{AllocatesZeroed}
@@ -16,10 +20,14 @@ stayed = (stay_dropped _ yes, (stay_dropped _ yes, (stay_dropped _ yes, tt)))
 pub rlsf_large_allocate_zeroed_spec : {M : Type 1} → statement M
 rlsf_large_allocate_zeroed_spec 𝓤 𝓛 𝓜 𝓡 wired =
     let c = f.clauses 𝓛 𝓜.mem 𝓡.returns in let W = walk_of 𝓛 f.ended stayed c in let 𝓣 = tables 𝓤 𝓛.H 𝓜 𝓡 𝓡.env in
-    proved 𝓛 f.ended stayed c 𝓜 𝓡 (Goes-dropped 𝓛 0 (plain (λ _. RawPtr)) yes (λ κs x w. refl), (Goes-dropped 𝓛 0 (plain (λ _. usize)) yes (λ κs x w. refl), (Goes-dropped 𝓛 0 (plain (λ _. usize)) yes (λ κs x w. refl), tt)))
+    proved 𝓛 f.ended stayed c 𝓜 𝓡 (
+      Goes-dropped 𝓛 0 (plain (λ _. RawPtr)) yes (λ κs x w. refl),
+      (Goes-dropped 𝓛 0 (plain (λ _. usize)) yes (λ κs x w. refl), (Goes-dropped 𝓛 0 (plain (λ _. usize)) yes (λ κs x w. refl), tt)),
+    )
     f.Key.name code.function (code.unfolded 𝓤 𝓛.H 𝓜 𝓡 wired)
     (λ κs. (rawptr_vals, (uint_vals w64, (uint_vals w64, tt)))) (λ κs. (rawptr_Tells, (uint_Tells w64, (uint_Tells w64, tt)))) (λ κs qs bounds a before are.
-    let x = a.1.0 in let y' = a.1.1.0 in let s : Ptr → W.Ghost = λ p. ((κs, qs, bounds, (p, (x, (y', tt))), (rawptr_vals p, (uint_vals w64 x, (uint_vals w64 y', tt)))), before) in
+    let x = a.1.0 in let y' = a.1.1.0 in let s : Ptr → W.Ghost =
+    λ p. ((κs, qs, bounds, (p, (x, (y', tt))), (rawptr_vals p, (uint_vals w64 x, (uint_vals w64 y', tt)))), before) in
     qed 𝓛 (raw (on_entry 𝓛 f.signature κs qs a (s a.0).0.4) ∷ ‵ (lies_at R full_share a.0 before) ∷ []) ∵ drop ! $
     in_its_block ! R before a.0 (λ p. prop (WpFn 𝓤 𝓛.H 𝓣.C 𝓣.Λ code.function (rawptr_vals p ++ uint_vals w64 x ++ uint_vals w64 y' ++ []) (W.post (s p)))) (λ b o.
     enter ! _ _ _ _ _ $ alloc_all ! (λ l. pass_all ! refl ((tt, tt), ((tt, record { fits = are.1.0.1 }), ((tt, record { fits = are.1.1.0.1 }), tt))) $
@@ -29,12 +37,23 @@ rlsf_large_allocate_zeroed_spec 𝓤 𝓛 𝓜 𝓡 wired =
     -- [the loan; what the lender keeps; the token; the locals]
     sets ! (of_opd ! (get ! refl)) refl (tt, tt) $ sets ! (addr ! (through ! refl (stop !))) refl (tt, tt) $
     let G = triple_of 𝓛 g.signature (g.spec 𝓛 𝓜.mem 𝓡.returns) in
-    let y : G.Ghost = (((α ∷ [], tt), (full_share, tt), tt, (record { ref_ptr = (b, o); ghost_name = γ; now = before }, (x, (y', tt))), (vptr b o ∷ [], (uint_vals w64 x, (uint_vals w64 y', tt)))), tt) in
-    nothing ! $ owned ! usize _ (uint_Makes 𝓛 w64) y' _ (refl, are.1.1.0.1) $ join ! $ owned ! usize _ (uint_Makes 𝓛 w64) x _ (refl, are.1.0.1) $ join ! $ move ! (1 ∷ 0 ∷ []) $ join ! $ nothing ! $ move ! (3 ∷ 0 ∷ []) $ join ! $ join ! $ nothing ! $ move ! (1 ∷ 0 ∷ []) $ use2 𝓛 (raw (G.pre y)) (id⊢ 𝓤 _) $
+    let y : G.Ghost = (
+      (
+        (α ∷ [], tt),
+        (full_share, tt),
+        tt,
+        (record { ref_ptr = (b, o); ghost_name = γ; now = before }, (x, (y', tt))),
+        (vptr b o ∷ [], (uint_vals w64 x, (uint_vals w64 y', tt))),
+      ),
+      tt,
+    ) in
+    nothing ! $ owned ! usize _ (uint_Makes 𝓛 w64) y' _ (refl, are.1.1.0.1) $ join ! $ owned ! usize _ (uint_Makes 𝓛 w64) x _ (refl, are.1.0.1) $ join ! $
+    move ! (1 ∷ 0 ∷ []) $ join ! $ nothing ! $ move ! (3 ∷ 0 ∷ []) $ join ! $ join ! $ nothing ! $ move ! (1 ∷ 0 ∷ []) $ use2 𝓛 (raw (G.pre y)) (id⊢ 𝓤 _) $
     calls_at ! (framed 𝓤 𝓛.H 𝓜 (tables 𝓤 𝓛.H 𝓜 𝓡 𝓡.env)) G asked y
     (and_then ! (get ! refl) (and_then ! (get ! refl) (and_then ! (get ! refl) (no_more !)))) (λ v.
     use1 𝓛 (later (some (λ (r : ℕ). ((‵ (flft (α ∷ []) full_share) ⊛ ‵ ftrue) ⊛ ‵ (usize.own_val r (v ∷ []))) ⊛
-    some (λ (ws : Allocator × (Unit {0} × (Unit {0} × Unit {0}))). ‵ (lasts g.ended y.0.0 y.0.3 ws) ⊛ raw (fact 𝓤 (AllocatesZeroed 64 before x y' r ws.0)))))) (id⊢ 𝓤 _) $
+    some (λ (ws : Allocator × (Unit {0} × (Unit {0} × Unit {0}))). ‵ (lasts g.ended y.0.0 y.0.3 ws) ⊛ raw (fact 𝓤 (AllocatesZeroed 64 before x y' r ws.0))))))
+    (id⊢ 𝓤 _) $
     await ! tt $ pick ! (λ r. split ! $ split ! $ split ! $ lft_end ! tt $ move ! (2 ∷ []) $
     peeks ! usize (Is usize) (shows 𝓛 usize) r (v ∷ []) (λ is. lands_as ! refl refl ((uint_Lawful 𝓛 w64).typed r _ is).0 $
     -- [the result; α is over; nothing; what the call left; what the lender keeps; the locals]

@@ -1,5 +1,9 @@
 -- `rlsf_small_end` takes the heap from behind the handle, and hands its bytes to the caller.
-use Rattle.rlsf_malloc.proofs.Walking.{◌≡◌, ℕ, List, ◌∙◌, fact, heard, rewrite, [], ◌∷◌, ◌++◌, refl, sym, ap, proved, full_share, id⊢, ftrue, Val, vunit, WpFn, tables, ‵, raw, ◌⊛◌, some, later, prop, ◌$◌, ◌∵◌, !, qed, done, move, drop, use0, use1, use2, split, join, feq_i, feq_l, pick, await, regoal, suffices, group, enter, of_opd, stop, no_more, and_then, returns, alloc_all, pass_all, free_all, look_at, get, through, sets, lands_as, yes, Is, shows, Ptr, RawPtr, block_ptr, lies_at, in_a_block, rawptr_vals, rawptr_Tells, plain, nothing, peeks, calls_at, lasts, on_entry, triple_of, unit, unit_lit, fact_i, emp, Stays, walk_of, stay_dropped, Goes-dropped, ends_at, framed}
+use Rattle.rlsf_malloc.proofs.Walking.{◌≡◌, ℕ, List, ◌∙◌, fact, heard, rewrite, [], ◌∷◌, ◌++◌, refl, sym, ap, proved, full_share, id⊢, ftrue, Val, vunit}
+use Rattle.rlsf_malloc.proofs.Walking.{WpFn, tables, ‵, raw, ◌⊛◌, some, later, prop, ◌$◌, ◌∵◌, !, qed, done, move, drop, use0, use1, use2, split, join, feq_i}
+use Rattle.rlsf_malloc.proofs.Walking.{feq_l, pick, await, regoal, suffices, group, enter, of_opd, stop, no_more, and_then, returns, alloc_all, pass_all, free_all, look_at, get}
+use Rattle.rlsf_malloc.proofs.Walking.{through, sets, lands_as, yes, Is, shows, Ptr, RawPtr, block_ptr, lies_at, in_a_block, rawptr_vals, rawptr_Tells, plain, nothing, peeks}
+use Rattle.rlsf_malloc.proofs.Walking.{calls_at, lasts, on_entry, triple_of, unit, unit_lit, fact_i, emp, Stays, walk_of, stay_dropped, Goes-dropped, ends_at, framed}
 use Rattle.std.proofs.Common.{◌%◌, length}
 use base.Fml.{fat}
 use borrow.Table.OneValue.{part_out}
@@ -33,10 +37,12 @@ rlsf_small_end_spec 𝓤 𝓛 𝓜 𝓡 wired =
     (λ κs. (rawptr_vals, tt)) (λ κs. (rawptr_Tells, tt)) (λ κs qs bounds a before are.
     let s : Ptr → W.Ghost = λ p. ((κs, qs, bounds, (p, tt), (rawptr_vals p, tt)), before) in
     let m = before.memory in
-    qed 𝓛 (raw (on_entry 𝓛 f.signature κs qs a (s a.0).0.4) ∷ (‵ (lies_at R full_share a.0 before) ⊛ raw (fact 𝓤 (m.start % 8 ≡ 0))) ∷ []) ∵ drop ! $ split ! $ move ! (1 ∷ []) $ heard ! _ (λ asked.
+    qed 𝓛 (raw (on_entry 𝓛 f.signature κs qs a (s a.0).0.4) ∷ (‵ (lies_at R full_share a.0 before) ⊛ raw (fact 𝓤 (m.start % 8 ≡ 0))) ∷ []) ∵ drop ! $
+    split ! $ move ! (1 ∷ []) $ heard ! _ (λ asked.
     in_a_block ! a.0 (λ p. lies_at R full_share p before) (id⊢ 𝓤 _) (λ b o e.
     regoal ! (λ p. prop (WpFn 𝓤 𝓛.H 𝓣.C 𝓣.Λ code.function (rawptr_vals p ++ []) (W.post (s p)))) e refl $
-    use1 𝓛 (some (λ (v : Val). ‵ (fat full_share (lone R.mir) b o v) ⊛ ‵ (R.own_val before (v ∷ [])))) (part_out 𝓛 R refl full_share before b o) $ pick ! (λ v. split ! $ move ! (1 ∷ []) $
+    use1 𝓛 (some (λ (v : Val). ‵ (fat full_share (lone R.mir) b o v) ⊛ ‵ (R.own_val before (v ∷ [])))) (part_out 𝓛 R refl full_share before b o) $
+    pick ! (λ v. split ! $ move ! (1 ∷ []) $
     peeks ! R (Is R) (shows 𝓛 R) before (v ∷ []) (λ is. let typed = ((small_laws.lawful 𝓛).typed before _ is).0 in
     -- [the heap; its cell]
     enter ! _ _ _ _ _ $ alloc_all ! (λ l. pass_all ! refl ((tt, tt), tt) $
@@ -44,25 +50,31 @@ rlsf_small_end_spec 𝓤 𝓛 𝓜 𝓡 wired =
     sets ! (of_opd ! (load ! (through ! refl (stop !)) (look ! 1 refl))) refl typed $ forget ! 1 refl $
     let G = triple_of 𝓛 g.signature (g.spec 𝓛 𝓜.mem 𝓡.returns) in
     let y : G.Ghost = ((tt, tt, tt, (before, tt), (v ∷ [], tt)), tt) in
-    nothing ! $ move ! (1 ∷ 0 ∷ []) $ join ! $ nothing ! $ join ! $ use0 𝓛 (raw (fact 𝓤 (m.start % 8 ≡ 0))) (fact_i 𝓤 (m.start % 8 ≡ 0) (emp 𝓤) asked) $ move ! (1 ∷ 0 ∷ []) $ use2 𝓛 (raw (G.pre y)) (id⊢ 𝓤 _) $
+    nothing ! $ move ! (1 ∷ 0 ∷ []) $ join ! $ nothing ! $ join ! $ use0 𝓛 (raw (fact 𝓤 (m.start % 8 ≡ 0))) (fact_i 𝓤 (m.start % 8 ≡ 0) (emp 𝓤) asked) $
+    move ! (1 ∷ 0 ∷ []) $ use2 𝓛 (raw (G.pre y)) (id⊢ 𝓤 _) $
     calls_at ! (framed 𝓤 𝓛.H 𝓜 (tables 𝓤 𝓛.H 𝓜 𝓡 𝓡.env)) G (met 𝓤 𝓛 𝓜 𝓡 (code.calls-rlsf_malloc::small::parts 𝓡.env wired)) y
     (and_then ! (get ! refl) (no_more !)) (λ u.
     use1 𝓛 (later (some (λ (r : (parts.the_row).Denot). (‵ ftrue ⊛ ‵ ((parts.the_row).own_val r (u ∷ []))) ⊛
     some (λ (ws : Lasts g.ended tt (before, tt)). ‵ (lasts g.ended y.0.0 y.0.3 ws) ⊛
-    raw (fact 𝓤 ((r.base.ptr ≡ m.view.base.ptr +ₚ place_in m.view m.start) × (r.start ≡ m.start) × LiesAtBlock r × (r.bytes.bytes ≡ m.bytes) × (r.bytes.out ≡ []))))))) (id⊢ 𝓤 _) $
+    raw (fact 𝓤 ((r.base.ptr ≡ m.view.base.ptr +ₚ place_in m.view m.start) × (r.start ≡ m.start) × LiesAtBlock r × (r.bytes.bytes ≡ m.bytes)
+    × (r.bytes.out ≡ []))))))) (id⊢ 𝓤 _) $
     await ! tt $ pick ! (λ r. split ! $ split ! $ drop ! $
-    peeks ! parts.the_row (Is parts.the_row) (shows 𝓛 parts.the_row) r (u ∷ []) (λ is_parts. let parts_typed = ((parts_laws.the_row_laws.lawful 𝓛).typed r _ is_parts).0 in lands_as ! refl refl parts_typed $
+    peeks ! parts.the_row (Is parts.the_row) (shows 𝓛 parts.the_row) r (u ∷ [])
+    (λ is_parts. let parts_typed = ((parts_laws.the_row_laws.lawful 𝓛).typed r _ is_parts).0 in lands_as ! refl refl parts_typed $
     move ! (1 ∷ []) $ pick ! (λ ws. split ! $ drop ! $ heard ! _ (λ ended.
     sets ! (of_opd ! (get ! refl)) refl parts_typed $
     -- [the parts; the room; the locals]
     let K = triple_of 𝓛 k.signature (k.spec 𝓛 𝓜.mem 𝓡.returns) in
     let z : K.Ghost = ((tt, tt, tt, (r, tt), (u ∷ [], tt)), tt) in
     let Owed : Type 0 = (r.bytes.at ≡ r.base.ptr) × (r.bytes.skip ≡ 0) × (r.bytes.out ≡ []) × (r.bytes.units ≡ units_from r.start (length r.bytes.bytes)) in
-    nothing ! $ move ! (1 ∷ 0 ∷ []) $ join ! $ nothing ! $ join ! $ use0 𝓛 (raw (fact 𝓤 Owed)) (fact_i 𝓤 Owed (emp 𝓤) (ended.2.0, ended.2.1, ended.4, ended.2.3)) $ move ! (1 ∷ 0 ∷ []) $ use2 𝓛 (raw (K.pre z)) (id⊢ 𝓤 _) $
-    calls_at ! (framed 𝓤 𝓛.H 𝓜 (tables 𝓤 𝓛.H 𝓜 𝓡 𝓡.env)) K (release_met 𝓤 𝓛 𝓜 𝓡 (code.calls-rlsf_base::memory::block::RawParts::release 𝓡.env wired)) z
+    nothing ! $ move ! (1 ∷ 0 ∷ []) $ join ! $ nothing ! $ join ! $ use0 𝓛 (raw (fact 𝓤 Owed)) (fact_i 𝓤 Owed (emp 𝓤) (ended.2.0, ended.2.1, ended.4, ended.2.3)) $
+    move ! (1 ∷ 0 ∷ []) $ use2 𝓛 (raw (K.pre z)) (id⊢ 𝓤 _) $
+    calls_at ! (framed 𝓤 𝓛.H 𝓜 (tables 𝓤 𝓛.H 𝓜 𝓡 𝓡.env)) K
+    (release_met 𝓤 𝓛 𝓜 𝓡 (code.calls-rlsf_base::memory::block::RawParts::release 𝓡.env wired)) z
     (and_then ! (get ! refl) (no_more !)) (λ w.
     use1 𝓛 (later (some (λ (q : Ptr). (‵ ftrue ⊛ ‵ (RawPtr.own_val q (w ∷ []))) ⊛
-    some (λ (ws' : Lasts k.ended tt (r, tt)). ‵ (lasts k.ended z.0.0 z.0.3 ws') ⊛ (‵ (bytes_at q r.start r.bytes.bytes) ⊛ raw (fact 𝓤 (q ≡ r.base.ptr))))))) (id⊢ 𝓤 _) $
+    some (λ (ws' : Lasts k.ended tt (r, tt)). ‵ (lasts k.ended z.0.0 z.0.3 ws') ⊛ (‵ (bytes_at q r.start r.bytes.bytes) ⊛ raw (fact 𝓤 (q ≡ r.base.ptr)))))))
+    (id⊢ 𝓤 _) $
     await ! tt $ pick ! (λ q. split ! $ split ! $ drop ! $
     peeks ! RawPtr (Is RawPtr) (shows 𝓛 RawPtr) q (w ∷ []) (λ is_ptr. lands_as ! refl refl ((rawptr_Lawful 𝓛).typed q _ is_ptr).0 $ drop ! $
     pick ! (λ ws'. split ! $ drop ! $ split ! $ move ! (1 ∷ []) $ heard ! _ (λ there.

@@ -1,5 +1,10 @@
 -- `rlsf_small_free` lends the heap behind the handle to `free`, and takes it back.
-use Rattle.rlsf_malloc.proofs.Walking.{ℕ, [], ◌∷◌, ◌++◌, refl, w64, proved, full_share, id⊢, ftrue, flft, vptr, WpFn, fact, tables, ‵, raw, ◌⊛◌, some, later, prop, ◌$◌, ◌∵◌, !, qed, done, move, keep, drop, use1, use2, use3, split, join, fsplit, fpack, pick, await, suffices, group, lft_end, enter, of_opd, addr, stop, no_more, and_then, returns, alloc_all, pass_all, free_all, look_at, get, through, sets, lands_as, yes, ref_back, part_at, uint_vals, uint_Tells, Ptr, RawPtr, block_ptr, lies_at, rawptr_vals, rawptr_Tells, plain, nothing, owned, heard, calls_at, lasts, on_entry, triple_of, Stays, walk_of, stay_dropped, Goes-dropped, ends_at, framed, usize, uint_Makes, vunit, unit, only, unit_lit, feq_i, feq_l, ap, fact_i, use0, emp}
+use Rattle.rlsf_malloc.proofs.Walking.{ℕ, [], ◌∷◌, ◌++◌, refl, w64, proved, full_share, id⊢, ftrue, flft, vptr, WpFn, fact, tables, ‵, raw, ◌⊛◌, some, later}
+use Rattle.rlsf_malloc.proofs.Walking.{prop, ◌$◌, ◌∵◌, !, qed, done, move, keep, drop, use1, use2, use3, split, join, fsplit, fpack, pick, await, suffices, group}
+use Rattle.rlsf_malloc.proofs.Walking.{lft_end, enter, of_opd, addr, stop, no_more, and_then, returns, alloc_all, pass_all, free_all, look_at, get, through, sets, lands_as, yes}
+use Rattle.rlsf_malloc.proofs.Walking.{ref_back, part_at, uint_vals, uint_Tells, Ptr, RawPtr, block_ptr, lies_at, rawptr_vals, rawptr_Tells, plain, nothing, owned, heard, calls_at}
+use Rattle.rlsf_malloc.proofs.Walking.{lasts, on_entry, triple_of, Stays, walk_of, stay_dropped, Goes-dropped, ends_at, framed, usize, uint_Makes, vunit, unit, only, unit_lit}
+use Rattle.rlsf_malloc.proofs.Walking.{feq_i, feq_l, ap, fact_i, use0, emp}
 use Rattle.rlsf_malloc.proofs.Lending.{in_its_block, lends}
 use Rattle.rlsf_malloc.specs.Handle.{SomeHeap, small as R}
 use Rattle.rlsf_malloc.specs.Calls.{CanFree, Frees}
@@ -16,12 +21,14 @@ stayed = (stay_dropped _ yes, (stay_dropped _ yes, tt))
 pub rlsf_small_free_spec : {M : Type 1} → statement M
 rlsf_small_free_spec 𝓤 𝓛 𝓜 𝓡 wired =
     let c = f.clauses 𝓛 𝓜.mem 𝓡.returns in let W = walk_of 𝓛 f.ended stayed c in let 𝓣 = tables 𝓤 𝓛.H 𝓜 𝓡 𝓡.env in
-    proved 𝓛 f.ended stayed c 𝓜 𝓡 (Goes-dropped 𝓛 0 (plain (λ _. RawPtr)) yes (λ κs x w. refl), (Goes-dropped 𝓛 0 (plain (λ _. usize)) yes (λ κs x w. refl), tt))
+    proved 𝓛 f.ended stayed c 𝓜 𝓡
+    (Goes-dropped 𝓛 0 (plain (λ _. RawPtr)) yes (λ κs x w. refl), (Goes-dropped 𝓛 0 (plain (λ _. usize)) yes (λ κs x w. refl), tt))
     f.Key.name code.function (code.unfolded 𝓤 𝓛.H 𝓜 𝓡 wired)
     (λ κs. (rawptr_vals, (uint_vals w64, tt))) (λ κs. (rawptr_Tells, (uint_Tells w64, tt))) (λ κs qs bounds a before are.
     let x = a.1.0 in let s : Ptr → W.Ghost = λ p. ((κs, qs, bounds, (p, (x, tt)), (rawptr_vals p, (uint_vals w64 x, tt))), before) in
     let Owed : Type 0 = CanFree before x in
-    qed 𝓛 (raw (on_entry 𝓛 f.signature κs qs a (s a.0).0.4) ∷ (‵ (lies_at R full_share a.0 before) ⊛ raw (fact 𝓤 Owed)) ∷ []) ∵ drop ! $ split ! $ move ! (1 ∷ []) $ heard ! _ (λ live.
+    qed 𝓛 (raw (on_entry 𝓛 f.signature κs qs a (s a.0).0.4) ∷ (‵ (lies_at R full_share a.0 before) ⊛ raw (fact 𝓤 Owed)) ∷ []) ∵ drop ! $ split ! $
+    move ! (1 ∷ []) $ heard ! _ (λ live.
     in_its_block ! R before a.0 (λ p. prop (WpFn 𝓤 𝓛.H 𝓣.C 𝓣.Λ code.function (rawptr_vals p ++ uint_vals w64 x ++ []) (W.post (s p)))) (λ b o.
     enter ! _ _ _ _ _ $ alloc_all ! (λ l. pass_all ! refl ((tt, tt), ((tt, record { fits = are.1.0.1 }), tt)) $
     -- [the heap; the locals]
@@ -30,8 +37,10 @@ rlsf_small_free_spec 𝓤 𝓛 𝓜 𝓡 wired =
     -- [the loan; what the lender keeps; the token; the locals]
     sets ! (of_opd ! (get ! refl)) refl (tt, tt) $ sets ! (addr ! (through ! refl (stop !))) refl (tt, tt) $
     let G = triple_of 𝓛 g.signature (g.spec 𝓛 𝓜.mem 𝓡.returns) in
-    let y : G.Ghost = (((α ∷ [], tt), (full_share, tt), tt, (record { ref_ptr = (b, o); ghost_name = γ; now = before }, (x, tt)), (vptr b o ∷ [], (uint_vals w64 x, tt))), tt) in
-    nothing ! $ owned ! usize _ (uint_Makes 𝓛 w64) x _ (refl, are.1.0.1) $ join ! $ move ! (1 ∷ 0 ∷ []) $ join ! $ nothing ! $ move ! (3 ∷ 0 ∷ []) $ join ! $ join ! $ use0 𝓛 (raw (fact 𝓤 Owed)) (fact_i 𝓤 Owed (emp 𝓤) live) $ move ! (1 ∷ 0 ∷ []) $ use2 𝓛 (raw (G.pre y)) (id⊢ 𝓤 _) $
+    let y : G.Ghost =
+    (((α ∷ [], tt), (full_share, tt), tt, (record { ref_ptr = (b, o); ghost_name = γ; now = before }, (x, tt)), (vptr b o ∷ [], (uint_vals w64 x, tt))), tt) in
+    nothing ! $ owned ! usize _ (uint_Makes 𝓛 w64) x _ (refl, are.1.0.1) $ join ! $ move ! (1 ∷ 0 ∷ []) $ join ! $ nothing ! $ move ! (3 ∷ 0 ∷ []) $ join ! $ join ! $
+    use0 𝓛 (raw (fact 𝓤 Owed)) (fact_i 𝓤 Owed (emp 𝓤) live) $ move ! (1 ∷ 0 ∷ []) $ use2 𝓛 (raw (G.pre y)) (id⊢ 𝓤 _) $
     calls_at ! (framed 𝓤 𝓛.H 𝓜 (tables 𝓤 𝓛.H 𝓜 𝓡 𝓡.env)) G asked y
     (and_then ! (get ! refl) (and_then ! (get ! refl) (no_more !))) (λ v.
     use1 𝓛 (later (some (λ (r : Unit {0}). ((‵ (flft (α ∷ []) full_share) ⊛ ‵ ftrue) ⊛ ‵ (unit.own_val r (v ∷ []))) ⊛

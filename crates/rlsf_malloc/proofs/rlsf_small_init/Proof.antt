@@ -1,5 +1,10 @@
 -- `rlsf_small_init` makes a memory of the caller's bytes, and writes a heap over it to the room behind the handle.
-use Rattle.rlsf_malloc.proofs.Walking.{◌≡◌, ℕ, ◌≤◌, List, [], ◌∷◌, ◌++◌, refl, sym, ap, ◌∙◌, w64, proved, full_share, id⊢, ftrue, WpFn, fact, tables, ‵, raw, ◌⊛◌, some, later, prop, ◌$◌, ◌∵◌, !, qed, done, move, keep, drop, use0, use1, use2, split, join, fsplit, fpack, feq_i, pick, await, regoal, suffices, group, enter, of_opd, stop, no_more, and_then, returns, alloc_all, pass_all, free_all, look_at, get, through, sets, lands_as, usize, subst, yes, Is, shows, part_at, uint_Makes, uint_vals, uint_Tells, Ptr, RawPtr, block_ptr, lies_at, in_a_block, rawptr_vals, rawptr_Tells, plain, nothing, owned, heard, peeks, calls_at, lasts, triple_of, unit_lit, vunit, fact_i, emp, Stays, walk_of, stay_dropped, Goes-dropped, ends_at, framed}
+use Rattle.rlsf_malloc.proofs.Walking.{◌≡◌, ℕ, ◌≤◌, List, [], ◌∷◌, ◌++◌, refl, sym, ap, ◌∙◌, w64, proved, full_share, id⊢, ftrue, WpFn, fact}
+use Rattle.rlsf_malloc.proofs.Walking.{tables, ‵, raw, ◌⊛◌, some, later, prop, ◌$◌, ◌∵◌, !, qed, done, move, keep, drop, use0, use1, use2, split, join, fsplit}
+use Rattle.rlsf_malloc.proofs.Walking.{fpack, feq_i, pick, await, regoal, suffices, group, enter, of_opd, stop, no_more, and_then, returns, alloc_all, pass_all, free_all, look_at}
+use Rattle.rlsf_malloc.proofs.Walking.{get, through, sets, lands_as, usize, subst, yes, Is, shows, part_at, uint_Makes, uint_vals, uint_Tells, Ptr, RawPtr, block_ptr, lies_at}
+use Rattle.rlsf_malloc.proofs.Walking.{in_a_block, rawptr_vals, rawptr_Tells, plain, nothing, owned, heard, peeks, calls_at, lasts, triple_of, unit_lit, vunit, fact_i, emp, Stays}
+use Rattle.rlsf_malloc.proofs.Walking.{walk_of, stay_dropped, Goes-dropped, ends_at, framed}
 use Rattle.std.proofs.Common.{length}
 use base.Fml.{froom}
 use borrow.Table.OneValue.{part_in}
@@ -31,7 +36,8 @@ abbrev stayed : Stays f.ended.signature.params f.ended.kept
 stayed = (stay_dropped _ yes, (stay_dropped _ yes, (stay_dropped _ yes, (stay_dropped _ yes, (stay_dropped _ yes, tt)))))
 
 -- a heap over the caller's bytes is fresh
-fresh : (p : Ptr) (start : ℕ) (bytes : List ℕ) (m : Space) (v : Allocator) → IsOver m v → m.start ≡ start → m.bytes ≡ bytes → (m.view.base.ptr ≡ p) × (place_in m.view start ≡ 0) → IsFresh p start bytes v
+fresh : (p : Ptr) (start : ℕ) (bytes : List ℕ) (m : Space) (v : Allocator) → IsOver m v → m.start ≡ start → m.bytes ≡ bytes
+    → (m.view.base.ptr ≡ p) × (place_in m.view start ≡ 0) → IsFresh p start bytes v
 fresh p start bytes m v is its_start its_bytes lies = record {
   lies = subst (λ (n : Space). (n.view.base.ptr ≡ p) × (place_in n.view start ≡ 0)) (sym is.memory) lies;
   begins = ap (λ (n : Space). n.start) is.memory ∙ its_start;
@@ -46,28 +52,43 @@ rlsf_small_init_spec 𝓤 𝓛 𝓜 𝓡 wired =
     let goes = Goes-dropped 𝓛 0 (plain (λ _. usize)) yes (λ κs x w. refl) in let goes_ptr = Goes-dropped 𝓛 0 (plain (λ _. RawPtr)) yes (λ κs x w. refl) in
     proved 𝓛 f.ended stayed c 𝓜 𝓡 (goes_ptr, (Goes-dropped 𝓛 0 (plain (λ _. Heap)) yes (λ κs x w. refl), (goes_ptr, (goes, (goes, tt)))))
     f.Key.name code.function (code.unfolded 𝓤 𝓛.H 𝓜 𝓡 wired)
-    (λ κs. (rawptr_vals, ((λ _. heap_val ∷ []), (rawptr_vals, (uint_vals w64, (uint_vals w64, tt)))))) (λ κs. (rawptr_Tells, (heap_Tells, (rawptr_Tells, (uint_Tells w64, (uint_Tells w64, tt)))))) (λ κs qs bounds a bytes are.
+    (λ κs. (rawptr_vals, ((λ _. heap_val ∷ []), (rawptr_vals, (uint_vals w64, (uint_vals w64, tt))))))
+    (λ κs. (rawptr_Tells, (heap_Tells, (rawptr_Tells, (uint_Tells w64, (uint_Tells w64, tt)))))) (λ κs qs bounds a bytes are.
     let h = a.1.0 in let p = a.1.1.0 in let start = a.1.1.1.0 in let len = a.1.1.1.1.0 in
-    let s : Ptr → W.Ghost = λ q. ((κs, qs, bounds, (q, (h, (p, (start, (len, tt))))), (rawptr_vals q, (heap_val ∷ [], (rawptr_vals p, (uint_vals w64 start, (uint_vals w64 len, tt)))))), bytes) in
+    let s : Ptr → W.Ghost =
+    λ q. ((κs, qs, bounds, (q, (h, (p, (start, (len, tt))))), (rawptr_vals q, (heap_val ∷ [], (rawptr_vals p, (uint_vals w64 start, (uint_vals w64 len, tt)))))), bytes) in
     let Asked : Type 0 = (length bytes ≡ len) × CanStart start len in
-    qed 𝓛 ((‵ ftrue ⊛ ‵ (owns (RawPtr ∷ Heap ∷ RawPtr ∷ usize ∷ usize ∷ []) a (s a.0).0.4)) ∷ (‵ (room_at R a.0) ⊛ (‵ (bytes_at p start bytes) ⊛ raw (fact 𝓤 Asked))) ∷ []) ∵
-    split ! $ move ! (1 ∷ []) $ fsplit ! $ move ! (1 ∷ []) $ fsplit ! $ keep ! (4 ∷ 0 ∷ []) $ split ! $ move ! (1 ∷ []) $ split ! $ move ! (1 ∷ []) $ heard ! Asked (λ asked. use0 𝓛 (raw (fact 𝓤 Asked)) (fact_i 𝓤 Asked (emp 𝓤) asked) $ move ! (1 ∷ 0 ∷ []) $ join ! $ move ! (1 ∷ []) $
+    qed 𝓛 ((‵ ftrue ⊛ ‵ (owns (RawPtr ∷ Heap ∷ RawPtr ∷ usize ∷ usize ∷ []) a (s a.0).0.4))
+    ∷ (‵ (room_at R a.0) ⊛ (‵ (bytes_at p start bytes) ⊛ raw (fact 𝓤 Asked))) ∷ []) ∵
+    split ! $ move ! (1 ∷ []) $ fsplit ! $ move ! (1 ∷ []) $ fsplit ! $ keep ! (4 ∷ 0 ∷ []) $ split ! $ move ! (1 ∷ []) $ split ! $ move ! (1 ∷ []) $
+    heard ! Asked (λ asked. use0 𝓛 (raw (fact 𝓤 Asked)) (fact_i 𝓤 Asked (emp 𝓤) asked) $ move ! (1 ∷ 0 ∷ []) $ join ! $ move ! (1 ∷ []) $
     -- [the room; the bytes and what was asked; the heap's handle]
     in_a_block ! a.0 (λ q. room_at R q) (id⊢ 𝓤 _) (λ b o e.
-    regoal ! (λ q. prop (WpFn 𝓤 𝓛.H 𝓣.C 𝓣.Λ code.function (rawptr_vals q ++ (heap_val ∷ []) ++ rawptr_vals p ++ uint_vals w64 start ++ uint_vals w64 len ++ []) (W.post (s q)))) e refl $
+    regoal ! (λ q. prop (WpFn 𝓤 𝓛.H 𝓣.C 𝓣.Λ code.function (rawptr_vals q ++ (heap_val ∷ []) ++ rawptr_vals p ++ uint_vals w64 start ++ uint_vals w64 len ++ [])
+    (W.post (s q)))) e refl $
     use1 𝓛 (‵ (froom (lone R.mir) b o)) (id⊢ 𝓤 _) $
-    enter ! _ _ _ _ _ $ alloc_all ! (λ l. pass_all ! refl ((tt, tt), ((tt, ((tt, tt), tt)), (((rawptr_Lawful 𝓛).typed p _ refl).0, ((tt, record { fits = are.1.1.1.0.1 }), ((tt, record { fits = are.1.1.1.1.0.1 }), tt))))) $
+    enter ! _ _ _ _ _ $ alloc_all !
+    (λ l. pass_all ! refl (
+      (tt, tt),
+      ((tt, ((tt, tt), tt)), (((rawptr_Lawful 𝓛).typed p _ refl).0, ((tt, record { fits = are.1.1.1.0.1 }), ((tt, record { fits = are.1.1.1.1.0.1 }), tt)))),
+    ) $
     let G = triple_of 𝓛 g.signature (g.spec 𝓛 𝓜.mem 𝓡.returns) in
     let z : G.Ghost = ((tt, tt, tt, (h, (p, (start, (len, tt)))), (heap_val ∷ [], (rawptr_vals p, (uint_vals w64 start, (uint_vals w64 len, tt))))), bytes) in
-    move ! (2 ∷ []) $ nothing ! $ owned ! usize _ (uint_Makes 𝓛 w64) len _ (refl, are.1.1.1.1.0.1) $ join ! $ owned ! usize _ (uint_Makes 𝓛 w64) start _ (refl, are.1.1.1.0.1) $ join ! $ owned ! RawPtr _ (rawptr_Makes 𝓛) p _ refl $ join ! $ move ! (1 ∷ 0 ∷ []) $ join ! $ nothing ! $ join ! $
+    move ! (2 ∷ []) $ nothing ! $ owned ! usize _ (uint_Makes 𝓛 w64) len _ (refl, are.1.1.1.1.0.1) $ join ! $
+    owned ! usize _ (uint_Makes 𝓛 w64) start _ (refl, are.1.1.1.0.1) $ join ! $ owned ! RawPtr _ (rawptr_Makes 𝓛) p _ refl $ join ! $ move ! (1 ∷ 0 ∷ []) $ join ! $
+    nothing ! $ join ! $
     move ! (0 ∷ 2 ∷ []) $ use2 𝓛 (raw (G.pre z)) (id⊢ 𝓤 _) $
-    calls_at ! (framed 𝓤 𝓛.H 𝓜 (tables 𝓤 𝓛.H 𝓜 𝓡 𝓡.env)) G (raw_met 𝓤 𝓛 𝓜 𝓡 (code.calls-rlsf_base::memory::Memory::from_raw_parts 𝓡.env wired)) z
+    calls_at ! (framed 𝓤 𝓛.H 𝓜 (tables 𝓤 𝓛.H 𝓜 𝓡 𝓡.env)) G
+    (raw_met 𝓤 𝓛 𝓜 𝓡 (code.calls-rlsf_base::memory::Memory::from_raw_parts 𝓡.env wired)) z
     (and_then ! (get ! refl) (and_then ! (get ! refl) (and_then ! (get ! refl) (and_then ! (get ! refl) (no_more !))))) (λ v.
     use1 𝓛 (later (some (λ (m : (M).Denot). (‵ ftrue ⊛ ‵ ((M).own_val m (v ∷ []))) ⊛
     some (λ (ws : Unit {0} × (Unit {0} × (Unit {0} × (Unit {0} × Unit {0})))). ‵ (lasts g.ended z.0.0 z.0.3 ws) ⊛
-    (raw (fact 𝓤 (m.start ≡ start)) ⊛ (raw (fact 𝓤 (m.bytes ≡ bytes)) ⊛ (raw (fact 𝓤 ((m.touches ≡ 0) × (m.copied ≡ 0))) ⊛ raw (fact 𝓤 ((m.view.base.ptr ≡ p) × (place_in m.view start ≡ 0)))))))))) (id⊢ 𝓤 _) $
+    (raw (fact 𝓤 (m.start ≡ start)) ⊛
+    (raw (fact 𝓤 (m.bytes ≡ bytes)) ⊛
+    (raw (fact 𝓤 ((m.touches ≡ 0) × (m.copied ≡ 0))) ⊛ raw (fact 𝓤 ((m.view.base.ptr ≡ p) × (place_in m.view start ≡ 0)))))))))) (id⊢ 𝓤 _) $
     await ! tt $ pick ! (λ m. split ! $ split ! $ drop ! $
-    peeks ! M (Is M) (shows 𝓛 M) m (v ∷ []) (λ is_memory. let memory_typed = ((memory_laws.the_row_laws.lawful 𝓛).typed m _ is_memory).0 in lands_as ! refl refl memory_typed $
+    peeks ! M (Is M) (shows 𝓛 M) m (v ∷ [])
+    (λ is_memory. let memory_typed = ((memory_laws.the_row_laws.lawful 𝓛).typed m _ is_memory).0 in lands_as ! refl refl memory_typed $
     move ! (1 ∷ []) $ pick ! (λ ws. split ! $ drop ! $ split ! $ heard ! _ (λ its_start. split ! $ heard ! _ (λ its_bytes. split ! $ drop ! $ heard ! _ (λ its_block.
     sets ! (of_opd ! (get ! refl)) refl (tt, tt) $ sets ! (of_opd ! (get ! refl)) refl memory_typed $
     -- [the memory; the room; the locals]

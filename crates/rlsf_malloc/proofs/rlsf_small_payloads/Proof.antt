@@ -1,5 +1,7 @@
 -- `rlsf_small_payloads` does nothing.
-use Rattle.rlsf_malloc.proofs.Walking.{[], ◌∷◌, ◌++◌, refl, proved, full_share, vunit, WpFn, tables, ‵, raw, prop, ◌$◌, ◌∵◌, !, qed, done, drop, use1, join, feq_i, suffices, group, enter, of_opd, returns, alloc_all, pass_all, free_all, look_at, sets, yes, Ptr, RawPtr, block_ptr, lies_at, rawptr_vals, rawptr_Tells, plain, nothing, on_entry, unit_lit, Stays, walk_of, stay_dropped, Goes-dropped, ends_at}
+use Rattle.rlsf_malloc.proofs.Walking.{[], ◌∷◌, ◌++◌, refl, proved, full_share, vunit, WpFn, tables, ‵, raw, prop, ◌$◌, ◌∵◌, !, qed, done, drop, use1, join}
+use Rattle.rlsf_malloc.proofs.Walking.{feq_i, suffices, group, enter, of_opd, returns, alloc_all, pass_all, free_all, look_at, sets, yes, Ptr, RawPtr, block_ptr, lies_at}
+use Rattle.rlsf_malloc.proofs.Walking.{rawptr_vals, rawptr_Tells, plain, nothing, on_entry, unit_lit, Stays, walk_of, stay_dropped, Goes-dropped, ends_at}
 use denote.Builtin.{u16}
 use denote.Param.{number}
 use Rattle.rlsf_int.specs.contracts.impls.u16.U16BitPattern.TheImpl.{ghosts}

@@ -9,4 +9,5 @@ returns-in-Some g c =
     let old = c.args.heap.now in
     let new = c.deallocate_unknown_align.new.self in
     let did = c.deallocate_unknown_align.ensures in
-    subst (λ a. Frees old a new) c.in-Some.ensures (freed g.row.FLLEN g.row.SLLEN old new (at c.in-Some.addr) (λ e. omega (arith, c.in-Some.addr.ok, e)) did.step did.gone did.aligns did.bytes did.place)
+    subst (λ a. Frees old a new) c.in-Some.ensures
+    (freed g.row.FLLEN g.row.SLLEN old new (at c.in-Some.addr) (λ e. omega (arith, c.in-Some.addr.ok, e)) did.step did.gone did.aligns did.bytes did.place)

@@ -16,5 +16,6 @@ returns-in-Ok g c =
     let n = c.number_of.result in
     let step = step_of g.row.FLLEN sllen old new (λ t. Reallocates sllen old.state addr layout.size (reply c.reallocate.result) t) did.step in
     let done : Resizes sllen old addr layout.size layout.align n new =
-    resized g.row.FLLEN sllen old new c.memory_ref.ensures.stands addr layout.size layout.align (c.requires ∙ ap Some (sym c.in-Ok.ensures.layout.1)) layout.valid did.place c.reallocate.result n c.number_of.ensures step did.live did.sized did.few did.kept did.new did.aligns did.bytes did.same did.refused in
+    resized g.row.FLLEN sllen old new c.memory_ref.ensures.stands addr layout.size layout.align (c.requires ∙ ap Some (sym c.in-Ok.ensures.layout.1)) layout.valid did.place
+    c.reallocate.result n c.number_of.ensures step did.live did.sized did.few did.kept did.new did.aligns did.bytes did.same did.refused in
     subst (λ s. Resizes sllen old addr s c.args.align n new) c.in-Ok.ensures.layout.0 (subst (λ a. Resizes sllen old addr layout.size a n new) c.in-Ok.ensures.layout.1 done)

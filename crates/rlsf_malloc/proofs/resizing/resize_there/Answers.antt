@@ -17,5 +17,7 @@ returns-in-Ok g c =
     let n = c.number_of.result in
     let step = step_of g.row.FLLEN sllen old new (λ t. ReallocatesWithoutMove old.state addr layout.size (reply c.reallocate_no_move.result) t) did.step in
     let done : ResizesThere old addr layout.size n new =
-    resized_there old new addr layout.size (λ e. omega (arith, c.args.addr.ok, e)) (subst (IsLayout layout.size) c.in-Ok.ensures.layout.1 layout.valid) did.place c.reallocate_no_move.result n c.number_of.ensures step did.there (did.live ∙ ap Some c.in-Ok.ensures.layout.1) did.sized did.few did.kept did.aligns did.bytes did.same did.refused in
+    resized_there old new addr layout.size (λ e. omega (arith, c.args.addr.ok, e)) (subst (IsLayout layout.size) c.in-Ok.ensures.layout.1 layout.valid) did.place
+    c.reallocate_no_move.result n c.number_of.ensures step did.there (did.live ∙ ap Some c.in-Ok.ensures.layout.1) did.sized did.few did.kept did.aligns did.bytes did.same
+    did.refused in
     subst (λ s. ResizesThere old addr s n new) c.in-Ok.ensures.layout.0 done

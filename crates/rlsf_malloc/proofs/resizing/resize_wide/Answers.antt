@@ -23,10 +23,13 @@ returns-in-Some g c =
     let free = c.deallocate_unknown_align.ensures in
     let len = length (bytes_at old.state addr) in
     let copying : Fills mid.state to (copied_over mid.state addr to len) copied.state =
-    subst (λ n. Fills mid.state to (copied_over mid.state addr to n) copied.state) c.allocation_usable_size-len.ensures (step_of g.row.FLLEN sllen mid copied (Fills mid.state to (copied_over mid.state addr to c.allocation_usable_size-len.result)) copy.step) in
+    subst (λ n. Fills mid.state to (copied_over mid.state addr to n) copied.state) c.allocation_usable_size-len.ensures
+    (step_of g.row.FLLEN sllen mid copied (Fills mid.state to (copied_over mid.state addr to c.allocation_usable_size-len.result)) copy.step) in
     let freeing : Deallocates copied.state addr new.state = step_of g.row.FLLEN sllen copied new (Deallocates copied.state addr) free.step in
-    let filled : bytes_at copied.state to ≡ copied_over mid.state addr to (length (bytes_at old.state addr)) = copy.filled ∙ ap (copied_over mid.state addr to) c.allocation_usable_size-len.ensures in
+    let filled : bytes_at copied.state to ≡ copied_over mid.state addr to (length (bytes_at old.state addr)) =
+    copy.filled ∙ ap (copied_over mid.state addr to) c.allocation_usable_size-len.ensures in
     let past : length (bytes_at old.state addr) < c.args.size = omega (arith, c.if-size-len.false, c.allocation_usable_size-len.ensures) in
     let done : ResizesWide sllen old addr c.args.size to new =
-    moved_wide sllen old mid copied new addr c.args.size to some c.requires made past copying freeing filled copy.bytes copy.aligns copy.place free.gone free.aligns free.bytes free.place in
+    moved_wide sllen old mid copied new addr c.args.size to some c.requires made past copying freeing filled copy.bytes copy.aligns copy.place free.gone free.aligns free.bytes
+    free.place in
     subst (λ n. ResizesWide sllen old addr c.args.size n new) c.in-Some.ensures done
