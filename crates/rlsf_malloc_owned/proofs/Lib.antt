@@ -1,0 +1,5 @@
+pub mod Laws
+pub mod Lending
+pub mod Outcomes
+pub mod Replies
+pub mod Walking
