@@ -1,5 +1,7 @@
-//! Times the allocator: `rlsf_bench CONFIG SLOTS STEPS MODE` allocates payloads into slots and frees or reallocates them,
-//! in an order that seems random and is the same in each run.
+//! Times the allocator: `rlsf_bench CONFIG SLOTS STEPS MODE` allocates payloads into slots, and frees or reallocates them. Their
+//! order seems random, and is the same in each run.
+//!
+//! The body is `main_of` of `rlsf_bench_steps`, with these parameters.
 #![tactic(auto)]
 
 use rlsf_bench_steps::main_of;

@@ -1,4 +1,6 @@
 //! Times the allocator as `rlsf_bench` does, with payloads of seven alignments, from 1 to 64.
+//!
+//! The body is `main_of` of `rlsf_bench_steps`, with these parameters.
 #![tactic(auto)]
 
 use rlsf_bench_steps::main_of;

@@ -1,4 +1,6 @@
 //! Times the allocator as `rlsf_bench` does, with each call in a function of its own that is never inlined.
+//!
+//! The body is `main_of` of `rlsf_bench_steps`, with these parameters.
 #![tactic(auto)]
 
 use rlsf_bench_steps::main_of;

@@ -1,5 +1,7 @@
-//! Times the allocator as `rlsf_bench` does, with payloads of seven alignments, from 1 to 64, and with each call in a function of its own
+//! Times the allocator as `rlsf_bench` does, with payloads of seven alignments, from 1 to 64. Each call is in a function of its own
 //! that is never inlined.
+//!
+//! The body is `main_of` of `rlsf_bench_steps`, with these parameters.
 #![tactic(auto)]
 
 use rlsf_bench_steps::main_of;

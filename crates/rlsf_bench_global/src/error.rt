@@ -8,7 +8,7 @@ use std::{fmt, io};
 pub(crate) enum BenchError {
     /// The arguments aren't a number of slots that isn't 0 and a number of steps.
     Usage,
-    /// The system refused memory.
+    /// Out of memory.
     OutOfMemory,
     /// The command line could not be read, or the output could not be written.
     Io(io::Error),

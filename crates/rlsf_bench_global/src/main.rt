@@ -1,6 +1,9 @@
-//! Times the allocator behind the lock: `rlsf_bench_global SLOTS STEPS` does to a `GlobalTlsf` what `rlsf_bench 64x64 SLOTS STEPS free`
-//! does to a `Tlsf`: a step draws a slot; if the slot has a payload it frees it, and else it allocates one of up to 511 bytes.
-//! `rlsf_bench_global SLOTS STEPS THREADS` does so in several threads. Each has its part of the slots, and makes so many steps.
+//! Times the allocator behind the lock: `rlsf_bench_global SLOTS STEPS` does to a `GlobalTlsf` what
+//! `rlsf_bench 64x64 SLOTS STEPS free` does to a `Tlsf`. A step draws a slot. If the slot has a payload, it frees the payload; else
+//! it allocates one of up to 511 bytes. `rlsf_bench_global SLOTS STEPS THREADS` does so in several threads. Each has its part of
+//! the slots, and does that many steps.
+//!
+//! `steps.rt` has the steps, and `random.rt` draws the numbers.
 #![tactic(auto)]
 
 mod error;
@@ -37,14 +40,14 @@ fn main(rt: HostRuntime) -> ExitCode {
     match bench(&rt) {
         Ok(()) => ExitCode::SUCCESS,
         Err(error) => {
-            // Where standard error fails too, only the status tells of the error.
+            // If standard error fails too, only the status shows the error.
             let _ = eprintln!(rt; "{error}");
             ExitCode::FAILURE
         }
     }
 }
 
-/// Reads the command line, does what it asks for, and prints what came of it.
+/// Reads the command line, does what it asks for, and prints the tally.
 fn bench<R: Env + Print + AllocGlobal + Threads + Wait + Sync>(rt: &R) -> Result<(), BenchError> {
     let words: Vec<String> = env::args(rt)?.collect(rt.alloc())?;
     let load = load_of(&words).ok_or(BenchError::Usage)?;
@@ -71,7 +74,7 @@ fn load_of(words: &[String]) -> Option<Load> {
     })
 }
 
-/// Lets the threads make their steps. Adds up what came of them.
+/// Lets the threads make their steps. Adds up their tallies.
 fn tally_of<R: Threads + Wait + Sync>(
     rt: &R,
     alloc: Global,

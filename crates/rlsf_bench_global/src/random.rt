@@ -1,5 +1,5 @@
-/// The generator of `rlsf_bench`: each number follows from the one before by shifts and exclusive ors, and is multiplied by a
-/// constant on its way out.
+/// The generator of `rlsf_bench`. Each number follows from the one before by shifts and exclusive ors; the result is multiplied by
+/// a constant.
 #[derive(Drop)]
 pub(crate) struct Xorshift {
     state: u64,

@@ -7,7 +7,7 @@ use std::alloc::{AllocError, Global};
 use std::num::NonZeroUsize;
 use std::sync::Wait;
 
-/// What came of the steps so far.
+/// The tally of the steps so far.
 #[derive(Clone, Copy)]
 pub(crate) struct Tally {
     /// How many allocations found room.
@@ -28,7 +28,7 @@ impl Tally {
         }
     }
 
-    /// Adds what came of other steps.
+    /// Adds the tally of other steps.
     pub(crate) fn add(&mut self, other: Tally) {
         self.placed = self.placed.wrapping_add(other.placed);
         self.refused = self.refused.wrapping_add(other.refused);
@@ -74,7 +74,7 @@ fn step<R: Wait>(
     }
 }
 
-/// Does so many steps on so many slots. Answers what came of them.
+/// Does so many steps on so many slots. Returns their tally.
 pub(crate) fn run<R: Wait>(
     rt: &R,
     alloc: Global,

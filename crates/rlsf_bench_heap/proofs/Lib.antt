@@ -1,1 +1,2 @@
+-- Lemmas about the alignments that the benchmark draws.
 mod Alignments

@@ -1,6 +1,8 @@
 //! Times a heap: `rlsf_bench_heap SLOTS STEPS` does to a `Heap` what `rlsf_bench_aligned 64x64 SLOTS STEPS free` does to a `Tlsf`, and
 //! prints the same line. `rlsf_bench_heap SLOTS STEPS addresses` prints a line for each allocation: what a `Heap` returns, and what a
 //! `Tlsf` returns for the same calls.
+//!
+//! `slots.rt` has the steps, `tally.rt` the checksum, and `addresses.rt` the lines of addresses.
 #![tactic(auto)]
 
 mod addresses;
@@ -44,14 +46,14 @@ fn main(rt: HostRuntime) -> ExitCode {
     match bench(&rt) {
         Ok(()) => ExitCode::SUCCESS,
         Err(error) => {
-            // Where standard error fails too, only the status tells of the error.
+            // If standard error fails too, only the status shows the error.
             let _ = eprintln!(rt; "{error}");
             ExitCode::FAILURE
         }
     }
 }
 
-/// Reads the command line, does what it asks for, and prints what came of it.
+/// Reads the command line, does what it asks for, and prints the result.
 fn bench(rt: &HostRuntime) -> Result<(), BenchError> {
     let words: Vec<String> = env::args(rt)?.collect(rt.alloc())?;
     let load = load_of(&words).ok_or(BenchError::Usage)?;

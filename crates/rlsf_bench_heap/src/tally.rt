@@ -1,4 +1,4 @@
-//! What came of the steps.
+//! The tally of the steps.
 
 use crate::error::BenchError;
 use crate::slots::{Slots, Step};
@@ -7,7 +7,7 @@ use std::alloc::Global;
 use std::fmt;
 use std::num::NonZeroUsize;
 
-/// What came of the allocations so far, as `rlsf_bench` counts it.
+/// The tally of the allocations so far, as `rlsf_bench` counts it.
 #[derive(Clone, Copy)]
 pub(crate) struct Tally {
     /// How many were refused.
@@ -36,7 +36,7 @@ impl fmt::Display for Tally {
     }
 }
 
-/// Makes so many steps with a heap. Returns what came of them.
+/// Makes so many steps with a heap. Returns their tally.
 pub(crate) fn tally_of(
     alloc: Global,
     slots: NonZeroUsize,

@@ -1,1 +1,2 @@
+-- The definitions of the slots.
 pub mod Slots

@@ -1,5 +1,7 @@
 //! Times threads over one shared heap: `rlsf_bench_shared SLOTS STEPS THREADS`. Each thread has its part of the slots, and makes so many
 //! steps. A step draws a slot. If the slot has a payload, the step deallocates it, and else it allocates one of up to 511 bytes.
+//!
+//! `steps.rt` has the steps of a thread.
 #![tactic(auto)]
 
 mod error;
@@ -18,7 +20,7 @@ use std::thread::Threads;
 use std::{env, thread};
 use steps::run;
 
-/// A shared heap of 64 rows of 64 classes, as `GlobalTlsf` has.
+/// A shared heap of 64 first-level rows of 64 classes, as `GlobalTlsf` has.
 pub(crate) type Shared = SharedHeap<usize, usize, 64, 64>;
 
 /// The addresses of the pool: as long as the memory of `rlsf_bench_global`.
@@ -42,7 +44,7 @@ fn main(rt: HostRuntime) -> ExitCode {
     match bench(&rt) {
         Ok(()) => ExitCode::SUCCESS,
         Err(error) => {
-            // Where standard error fails too, only the status tells of the error.
+            // If standard error fails too, only the status shows the error.
             let _ = eprintln!(rt; "{error}");
             ExitCode::FAILURE
         }

@@ -6,6 +6,6 @@ use Rattle.rlsf_base.specs.Space.{Space, range_of}
 use Rattle.rlsf_machine.specs.Insert.{IsFresh}
 use Rattle.rlsf_machine.specs.State.{empty}
 
--- it may be handed in where nothing was handed in yet
+-- it may be inserted where nothing was inserted before
 pub pool_is_fresh : (m : Space) (pool : Range) → LiesIn pool m.start (length m.bytes) → IsFresh (range_of m) empty pool
 pool_is_fresh m pool lies = record { lies_in = (omega (arith, lies.0), omega (arith, lies.1)); apart = λ a low high. refl }

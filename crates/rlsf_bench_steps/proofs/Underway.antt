@@ -1,5 +1,6 @@
 -- A run that has done the first of its steps.
-use Rattle.std.proofs.Common.{◌≡◌, ℕ, suc, ◌+◌, ◌*◌, ◌%◌, ◌^◌, ◌≤◌, Bool, Option, List, ◌++◌, length, take, replicate, arith, refl, sym, ◌∙◌, ap, subst}
+use Rattle.std.proofs.Common.{◌≡◌, ℕ, suc, ◌+◌, ◌*◌, ◌%◌, ◌^◌, ◌≤◌, Bool, Option, List, ◌++◌, length, take, replicate, arith, refl, sym}
+use Rattle.std.proofs.Common.{◌∙◌, ap, subst}
 use Rattle.std.proofs.Math.Seq.{take-append_seam}
 use Rattle.std.proofs.lemmas.List.{length-replicate}
 use Rattle.rlsf_base.specs.declared.memory.range.Range.{Range}
@@ -41,7 +42,8 @@ pub record IsUnderway (fllen sllen aligns : ℕ) (pool : Range) (size : ℕ) (mo
 
 module _ {fllen sllen aligns : ℕ} {pool : Range} {size : ℕ} {mode : Mode} {v : Allocator} {table : List ℕ} {counts : Tally} {draws : ℕ} where
   -- before the first step
-  pub IsUnderway-beginning : (taken : Option ℕ) (s : State) → Inserts fllen empty pool taken s → IsInState fllen sllen v s → table ≡ replicate size 0 → counts ≡ nothing → draws ≡ seed
+  pub IsUnderway-beginning : (taken : Option ℕ) (s : State) → Inserts fllen empty pool taken s → IsInState fllen sllen v s → table ≡ replicate size 0
+      → counts ≡ nothing → draws ≡ seed
       → IsUnderway fllen sllen aligns pool size mode v table counts draws 0
   IsUnderway-beginning taken s inserted stands none nothing_yet seeded = record {
     taken = taken;
@@ -56,8 +58,10 @@ module _ {fllen sllen aligns : ℕ} {pool : Range} {size : ℕ} {mode : Mode} {v
   }
 
   -- one step more
-  pub IsUnderway-next : {done : ℕ} (w : IsUnderway fllen sllen aligns pool size mode v table counts draws done) (reallocates : Bool) → reallocates ≡ reallocates_at mode done → (draw now : ℕ) → now ≡ next_state draws → draw ≡ now * 0x2545f4914f6cdd1d % 2 ^ 64
-      → (u : Allocator) (new : List ℕ) (more : Tally) → ((s : BenchState) → AreSlotsAt fllen sllen aligns v table counts s → LeadsSlotsOn fllen sllen aligns (length table) reallocates draw s u new more)
+  pub IsUnderway-next : {done : ℕ} (w : IsUnderway fllen sllen aligns pool size mode v table counts draws done) (reallocates : Bool) → reallocates ≡ reallocates_at mode done
+      → (draw now : ℕ) → now ≡ next_state draws → draw ≡ now * 0x2545f4914f6cdd1d % 2 ^ 64
+      → (u : Allocator) (new : List ℕ) (more : Tally)
+      → ((s : BenchState) → AreSlotsAt fllen sllen aligns v table counts s → LeadsSlotsOn fllen sllen aligns (length table) reallocates draw s u new more)
       → length new ≡ length table → more.refused ≤ counts.refused + 1 → IsUnderway fllen sllen aligns pool size mode u new more now (done + 1)
   IsUnderway-next {done} w reallocates turn draw now after number u new more does long refused =
       let (t, step, at) = does w.state w.at in
@@ -65,7 +69,8 @@ module _ {fllen sllen aligns : ℕ} {pool : Range} {size : ℕ} {mode : Mode} {v
       let same = number ∙ ap (λ x. x * 0x2545f4914f6cdd1d % 2 ^ 64) drawing in
       let turned : DoesStep sllen aligns (length table) (reallocates_at mode done) draw w.state t = subst (λ r. DoesStep sllen aligns (length table) r draw w.state t) turn step in
       let here : DoesStep sllen aligns size (reallocates_at mode done) (drawn done) w.state t =
-      subst (λ n. DoesStep sllen aligns n (reallocates_at mode done) (drawn done) w.state t) w.slots (subst (λ d. DoesStep sllen aligns (length table) (reallocates_at mode done) d w.state t) same turned) in
+      subst (λ n. DoesStep sllen aligns n (reallocates_at mode done) (drawn done) w.state t) w.slots
+      (subst (λ d. DoesStep sllen aligns (length table) (reallocates_at mode done) d w.state t) same turned) in
       let last : suc done ≡ done + 1 = omega arith in
       record {
         taken = w.taken;
@@ -80,6 +85,7 @@ module _ {fllen sllen aligns : ℕ} {pool : Range} {size : ℕ} {mode : Mode} {v
       }
 
 -- after the last step
-pub IsBench-end : {fllen sllen aligns : ℕ} {pool : Range} {size : ℕ} {mode : Mode} {v : Allocator} {table : List ℕ} {counts : Tally} {draws done : ℕ} → IsUnderway fllen sllen aligns pool size mode v table counts draws done
+pub IsBench-end : {fllen sllen aligns : ℕ} {pool : Range} {size : ℕ} {mode : Mode} {v : Allocator} {table : List ℕ} {counts : Tally} {draws done : ℕ}
+    → IsUnderway fllen sllen aligns pool size mode v table counts draws done
     → IsBench fllen sllen aligns pool size done mode counts
 IsBench-end w = record { taken = w.taken; machine = w.machine; inserted = w.inserted; last = w.state; ran = w.ran; counts = w.at.tally }

@@ -1,4 +1,4 @@
--- RunsSteps of the benchmark: what steps do to the list machine, and what is counted.
+-- RunsSteps of the benchmark: what steps do to the reference model, and what is counted.
 use Rattle.std.specs.Prelude.{◌≡◌, ℕ, zero, suc, ◌+◌, ◌*◌, ◌/◌, ◌%◌, ◌^◌, nat_eq, ◌==◌, Bool, true, false, if◌then◌else◌, Option, Some, None}
 use Rattle.std.specs.Int.NonZero.{non_zero_usize_get}
 use Rattle.std.specs.Option.{unwrap_or}
@@ -17,13 +17,13 @@ use Rattle.rlsf_bench_steps.specs.declared.arguments.Mode.TheVariants.{Free, Rea
 use Rattle.rlsf_bench_steps.specs.declared.tally.Tally.{Tally}
 use Rattle.rlsf_bench_steps.specs.Draws.{drawn}
 
--- how many rows of size classes a configuration has
+-- the number of first-level rows of a configuration
 abbrev pub rows_of : Configuration → ℕ
 rows_of TwelveBySixteen = 12
 rows_of FiftyNineByEight = 59
 rows_of SixtyFourBySixtyFour = 64
 
--- how many classes a row of a configuration has
+-- the number of classes in a first-level row of a configuration
 abbrev pub classes_of : Configuration → ℕ
 classes_of TwelveBySixteen = 16
 classes_of FiftyNineByEight = 8
@@ -34,7 +34,7 @@ abbrev pub reallocates_at : Mode → ℕ → Bool
 reallocates_at Free step = false
 reallocates_at Realloc step = step % 8 == 0
 
--- what a run has come to: the machine's state, the address of each slot's payload, and what was counted
+-- the state of a run: the model's state, the address of each slot's payload, and what was counted
 pub record BenchState : Type 0 where
   pub machine : State
   pub slots : ℕ → Option ℕ
@@ -44,7 +44,7 @@ pub record BenchState : Type 0 where
 abbrev pub nothing : Tally
 nothing = record { refused = 0; checksum = 0 }
 
--- from this state of the machine on, with empty slots
+-- from this state of the model on, with empty slots
 abbrev pub beginning : State → BenchState
 beginning machine = record { machine = machine; slots = λ slot. None; tally = nothing }
 
@@ -52,7 +52,7 @@ beginning machine = record { machine = machine; slots = λ slot. None; tally = n
 abbrev pub with_slot : ℕ → Option ℕ → (ℕ → Option ℕ) → ℕ → Option ℕ
 with_slot slot held slots = λ other. if nat_eq slot other then held else slots other
 
--- what is counted once an allocation or a reallocation was answered too
+-- the count after one more allocation or reallocation
 abbrev pub counted : Option ℕ → Tally → Tally
 counted None tally = record { refused = tally.refused + 1; checksum = tally.checksum }
 counted (Some addr) tally = record { refused = tally.refused; checksum = (tally.checksum * 31 % 2 ^ 64 + addr) % 2 ^ 64 }
@@ -69,8 +69,8 @@ size_of draw = draw % 512
 abbrev pub alignment_of : ℕ → ℕ → ℕ
 alignment_of aligns slot = 2 ^ (slot % aligns)
 
--- where the slot holds no payload, one of this alignment and size is allocated into it; else the one that it holds is freed, or, in a
--- step that reallocates, gets this size, and stays where it was if that is refused
+-- If the slot holds no payload, one of this alignment and size is allocated into it. Else a step that reallocates resizes the
+-- payload, which stays where it is if that is refused. Any other step frees it.
 abbrev pub ChangesSlot : ℕ → ℕ → Bool → ℕ → ℕ → BenchState → Option ℕ → BenchState → Type 0
 ChangesSlot sllen align reallocates slot size s None t =
     (reply : Option ℕ) × (machine : State) × Allocates sllen s.machine size align reply machine

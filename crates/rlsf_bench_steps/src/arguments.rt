@@ -3,15 +3,14 @@ ghost use Rattle.rlsf_bench_steps.specs.Runs.{reallocates_at};
 
 use std::num::NonZeroUsize;
 
-/// The parameters of the allocator: how many rows of size classes it has, how many classes in a row, and the type of its
-/// bitmaps.
+/// The parameters of the allocator: the number of first-level rows, the number of classes in each, and the type of the bitmaps.
 #[derive(Clone, Copy)]
 pub(crate) enum Configuration {
-    /// `12x16`: 12 rows of 16 classes, with bitmaps of type `u16`.
+    /// `12x16`: 12 first-level rows of 16 classes, with bitmaps of type `u16`.
     TwelveBySixteen,
-    /// `59x8`: 59 rows of 8 classes, with bitmaps of type `u64`.
+    /// `59x8`: 59 first-level rows of 8 classes, with bitmaps of type `u64`.
     FiftyNineByEight,
-    /// `64x64`: 64 rows of 64 classes, with bitmaps of type `usize`.
+    /// `64x64`: 64 first-level rows of 64 classes, with bitmaps of type `usize`.
     SixtyFourBySixtyFour,
 }
 
@@ -32,7 +31,7 @@ impl Configuration {
 pub(crate) enum Mode {
     /// `free`: it is freed.
     Free,
-    /// `realloc`: each eighth step, from the first on, gives it another size, and the others free it.
+    /// `realloc`: each eighth step, from the first on, resizes it, and the others free it.
     Realloc,
 }
 

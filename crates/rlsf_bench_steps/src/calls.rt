@@ -1,5 +1,5 @@
-//! How the steps call the allocator: each function makes the call of `Tlsf` with its name, in place or, if `CALLED`, in a function that is
-//! never inlined. Which of the two it is the compiler decides, so a program has only the one.
+//! How the steps call the allocator: each function makes the call of `Tlsf` with its name. The call is in place or, if `CALLED`, in
+//! a function that is never inlined. The compiler decides this, so a program has only one of the two.
 
 ghost use Rattle.std.specs.Prelude.{◌≡◌, Some};
 ghost use Rattle.rlsf_base.specs.Addr.{at, reply};
@@ -43,7 +43,7 @@ fn called_allocate<
     tlsf.allocate(layout)
 }
 
-/// Gives a payload back, which is live with this alignment.
+/// Deallocates a payload, which is live with this alignment.
 #[inline(always)]
 pub(crate) fn deallocate<
     FLBitmap: BitPattern,

@@ -9,7 +9,7 @@ use std::{fmt, io};
 pub enum BenchError {
     /// The arguments aren't a configuration, a number of slots that isn't 0, a number of steps, and a mode.
     Usage,
-    /// The system refused memory.
+    /// Out of memory.
     OutOfMemory,
     /// The command line could not be read, or the output could not be written.
     Io(io::Error),

@@ -1,6 +1,10 @@
-//! The steps of the programs that time the allocator: payloads are allocated into slots and freed or reallocated, in an order that
-//! seems random and is the same in each run. A program of them says whether each call has a function of its own, and how many alignments there are, and
-//! makes no others: in a program with more places that make a call, LLVM doesn't inline the same ones.
+//! The steps of the benchmarks: payloads are allocated into slots, and freed or reallocated. Their order seems random, and is the
+//! same in each run.
+//! A program says whether each call has a function of its own, and how many alignments there are. It makes no other calls: in a
+//! program with more calls, LLVM doesn't inline the same ones.
+//!
+//! Read `steps.rt` first: the run and its step. `calls.rt` calls the allocator, `random.rt` draws the numbers, `tally.rt` has the
+//! checksum, and `arguments.rt` reads the command line.
 #![tactic(auto)]
 
 ghost use Rattle.std.specs.Prelude.{◌≡◌, ◌<◌, IfOk, IfErr};
@@ -31,14 +35,15 @@ const POOL: Range = Range {
     len: 1 << 25,
 };
 
-/// The addresses of the memory. The system gives a block of this length 16 bytes past the begin of a page: with 48
-/// bytes more before the pool no block's links lie across two of its cache lines, as they don't in the original.
+/// The addresses of the memory. The system returns a block of this length 16 bytes past the beginning of a page. With 48 bytes more
+/// before the pool, no block's links lie across two of its cache lines, as in the original.
 const MEMORY: Range = Range {
     start: 4096 - 48,
     len: (1 << 25) + 48,
 };
 
-/// Reads the command line, does what it asks for on slots of so many alignments, and prints what came of it. An error is printed to standard error.
+/// Reads the command line, does what it asks for on slots of so many alignments, and prints the tally. An error is printed to
+/// standard error.
 ///
 /// Returns the exit status of the program: a failure exactly for an error.
 pub fn main_of<R: Env + Print + Eprint + AllocGlobal, const CALLED: bool, const ALIGNS: usize>(
@@ -49,14 +54,14 @@ pub fn main_of<R: Env + Print + Eprint + AllocGlobal, const CALLED: bool, const 
     match bench::<R, CALLED, ALIGNS>(rt) {
         Ok(()) => ExitCode::SUCCESS,
         Err(error) => {
-            // Where standard error fails too, only the status tells of the error.
+            // If standard error fails too, only the status shows the error.
             let _ = eprintln!(rt; "{error}");
             ExitCode::FAILURE
         }
     }
 }
 
-/// Reads the command line, does what it asks for on slots of so many alignments, and prints what came of it.
+/// Reads the command line, does what it asks for on slots of so many alignments, and prints the tally.
 fn bench<R: Env + Print + AllocGlobal, const CALLED: bool, const ALIGNS: usize>(
     rt: &R,
 ) -> Result<(), BenchError>

@@ -1,8 +1,8 @@
 ghost use Rattle.std.specs.Prelude.{◌≡◌, ◌*◌, ◌%◌, ◌^◌};
 ghost use Rattle.rlsf_bench_steps.specs.Draws.{next_state, seed};
 
-/// A generator of numbers that seem random: each follows from the one before by shifts and exclusive ors, and is
-/// multiplied by a constant on its way out.
+/// A generator of numbers that seem random. Each follows from the one before by shifts and exclusive ors; the result is multiplied
+/// by a constant.
 #[derive(Drop)]
 pub struct Xorshift {
     pub(crate) state: u64,

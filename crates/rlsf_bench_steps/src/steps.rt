@@ -61,7 +61,7 @@ fn empty_slots(alloc: Global, slots: usize) -> Result<Vec<usize>, BenchError>
     Ok(vec![in alloc; 0; slots]?)
 }
 
-/// A slot that holds what an allocation answered.
+/// A slot that holds what an allocation returned.
 fn slot_with(placed: Option<Addr>) -> usize
     ensures { held result ≡ reply placed }
 {
@@ -122,8 +122,8 @@ fn step<
     }
 }
 
-/// Does so many steps on so many slots, with an allocator that has no chunk: the pool, which lies in its memory, is inserted
-/// first. Answers what came of the allocations and reallocations.
+/// Does so many steps on so many slots, with an allocator without chunks. The pool, which lies in its memory, is inserted first.
+/// Returns the tally of the allocations and reallocations.
 pub(crate) fn run<
     FLBitmap: BitPattern,
     SLBitmap: BitPattern,

@@ -5,12 +5,12 @@ ghost use Rattle.rlsf_bench_steps.specs.Runs.{counted, nothing};
 use rlsf_base::memory::Addr;
 use std::fmt;
 
-/// What came of the allocations and reallocations so far.
+/// The tally of the allocations and reallocations so far.
 #[derive(Clone, Copy)]
 pub(crate) struct Tally {
     /// How many were refused.
     pub(crate) refused: u64,
-    /// A sum over the addresses that they answered, in their order.
+    /// A sum over the addresses that they returned, in their order.
     pub(crate) checksum: u64,
 }
 

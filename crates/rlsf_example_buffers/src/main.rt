@@ -1,4 +1,7 @@
-//! Payloads that own their bytes: two in one struct, and buffers that two threads fill.
+//! A program of payloads that own their bytes. It has no proof file.
+//!
+//! In reading order: this file makes a heap with one pool, and prints what both users return; `pair` writes two payloads of one
+//! struct in one expression; `buffers` lets two threads fill a buffer each, by value.
 #![tactic(auto)]
 
 ghost use Rattle.std.specs.Prelude.{◌≡◌, IfSome};

@@ -1,1 +1,2 @@
+-- Lemmas about payloads that are filled with their indices.
 pub mod Numbered

@@ -1,3 +1,4 @@
+-- The definitions of the examples, one file each.
 pub mod Cache
 pub mod Note
 pub mod Rationed

@@ -6,6 +6,6 @@ pub record Noted : Type 0 where
   pub bytes : List ℕ
   pub live : ℕ
 
--- the same by its parts
+-- the note with these parts
 abbrev pub noted : List ℕ → ℕ → Noted
 noted bytes live = record { bytes = bytes; live = live }

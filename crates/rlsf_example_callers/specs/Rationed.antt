@@ -3,12 +3,12 @@ use Rattle.std.specs.Prelude.{◌≡◌, ℕ, ◌+◌, ◌<◌, ◌⊎◌, false
 use Rattle.std.proofs.Common.{ap}
 use Rattle.rlsf.specs.Sources.{Bump, BumpOwes, Note, Range, Terms, alloc, bump_in, dealloc, end_of, grow, range_at, round32}
 
--- the space with the address that no range goes past, and how many ranges it still hands out
+-- the space with the address that no range goes past, and how many ranges it still provides
 pub record Rationed : Type 0 where
   pub bump : Bump
   pub left : ℕ
 
--- the same by its parts
+-- the source with these parts
 abbrev pub rationed_in : Range → ℕ → ℕ → Rationed
 rationed_in space at left = record { bump = bump_in space at; left = left }
 
@@ -20,8 +20,8 @@ rationed_terms x = record { space = x.bump.space; dealloc = false; grow = false;
 abbrev pub RationedOwes : Rationed → List Range → Type 0
 RationedOwes x owed = BumpOwes x.bump owed
 
--- a range is of the bytes that are asked for, from the first multiple of 32 on, and one less is left; none is handed out where none is
--- left or the space ends before that, and then nothing changes
+-- A range has the requested bytes, from the first multiple of 32 on, and one range less is left. None is provided if none is left
+-- or if the space ends before; then nothing changes.
 abbrev pub RationedLeads : Rationed → Note → Rationed → Type 0
 RationedLeads x (alloc size None) y = ((x.left ≡ 0) ⊎ (end_of x.bump.space < round32 x.bump.at + size)) × (y ≡ x)
 RationedLeads x (alloc size (Some r)) y = (y.left + 1 ≡ x.left) × (r ≡ range_at (round32 x.bump.at) size) × (y.bump ≡ bump_in x.bump.space (end_of r))

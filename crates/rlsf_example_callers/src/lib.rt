@@ -1,8 +1,8 @@
-//! Programs over the allocator, as its users write them: they list the crate `rlsf` alone.
+//! Functions over the allocator as its users write them: this crate uses `rlsf` alone.
 //!
-//! `note` has a payload with the pool that it is in, `buffer` a buffer that grows, `pools` pools that never refuse within their bounds,
-//! `cache` a cache of the latest messages over such a pool, `many` loops over the addresses of many payloads, and `across` two pools
-//! with a copy between them.
+//! Read them in this order. `note.rt` has a payload with its pool, and `buffer.rt` a buffer that grows. `pools.rt` has pools that never
+//! refuse within their bounds, and `cache.rt` a cache of the latest messages over such a pool. `many.rt` has loops over the addresses
+//! of many payloads, and `across.rt` two pools with a copy between them. `paged.rt` and `source.rt` have allocators over sources.
 #![tactic(auto)]
 
 mod across;

@@ -6,7 +6,7 @@ use crate::source::RationedSource;
 use rlsf::{BumpSource, FlexTlsf, Layout, Memory, Range, Source};
 use std::alloc::Global;
 
-/// An allocator over whole pages, which begins with no pool. `None` if the system is out of memory.
+/// An allocator over whole pages that begins with no pool. `None` if the system is out of memory.
 pub fn over_pages(alloc: Global, len: usize) -> Option<FlexTlsf<Source<()>, u16, u16, 12, 16>> {
     let memory = Memory::new(alloc, 65536, len).ok()?;
     let space = Range { start: 65536, len };
@@ -20,7 +20,7 @@ pub fn over_one_range(alloc: Global, len: usize) -> Option<FlexTlsf<BumpSource, 
     Some(FlexTlsf::new(memory, BumpSource::new(space)))
 }
 
-/// An allocator over a source that hands out `left` ranges. `None` if the system is out of memory.
+/// An allocator over a source that provides `left` ranges. `None` if the system is out of memory.
 pub fn over_rations(
     alloc: Global,
     len: usize,

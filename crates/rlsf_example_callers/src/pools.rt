@@ -49,7 +49,7 @@ pub fn allocate_again(pool: &mut Pool, layout: Layout, small: Layout) -> (Addr, 
     (second, third)
 }
 
-/// Allocates two payloads and gives the first a larger size, beside which the second stays. None is refused.
+/// Allocates two payloads and resizes the first to a larger size, and the second is unchanged. None is refused.
 pub fn allocate_larger(pool: &mut Pool, layout: Layout, small: Layout) -> (Addr, Addr)
     requires sized { IsSizedFor 16 2 layout.size layout.align pool.old.state }
     requires small { (small.size ≤ layout.size) × (small.align ≡ layout.align) }

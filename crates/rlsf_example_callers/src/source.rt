@@ -7,7 +7,7 @@ ghost use Rattle.rlsf_example_callers.specs.Rationed.{RationedLeads, RationedOwe
 use rlsf::{FlexSource, Range};
 use std::marker::Model;
 
-/// A source that hands out a number of ranges of its space, one behind another. It grows none and takes none back.
+/// A source that provides a number of ranges of its space, one behind another. It grows none and takes none back.
 #[derive(Drop)]
 pub struct RationedSource {
     space: Range,

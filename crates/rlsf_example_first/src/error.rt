@@ -7,7 +7,7 @@ use std::{fmt, io};
 /// Why the program ended early.
 #[derive(Debug, Drop)]
 pub(crate) enum FirstError {
-    /// No memory has such addresses, or the system refused it.
+    /// No memory has such addresses, or the system is out of memory.
     Memory(MemoryError),
     /// No layout has such a size and such an alignment.
     Layout,

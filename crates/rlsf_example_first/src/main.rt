@@ -1,5 +1,5 @@
-//! A first program: it makes a pool, allocates payloads, fills and reads them, gives one another size, and gives them back.
-//! It is proved, and has no proof file.
+//! A first program: it makes a pool, allocates payloads, fills and reads them, resizes one, and deallocates them. It is proved, and
+//! has no proof file. `error.rt` has its errors.
 #![tactic(auto)]
 
 ghost use Rattle.std.specs.Prelude.{◌≡◌, ◌<◌, IfSome};
@@ -11,7 +11,7 @@ use rlsf::{Layout, Memory, MemoryError, Range, Tlsf};
 use std::alloc::Global;
 use std::process::ExitCode;
 
-/// Chunks of up to 131,072 bytes, in 12 rows of 16 classes.
+/// Chunks of up to 131,072 bytes, in 12 first-level rows of 16 classes.
 type Pool = Tlsf<u16, u16, 12, 16>;
 
 /// An allocator over so many bytes from the address 4096 on, all of which are its pool.
@@ -22,7 +22,7 @@ fn with_pool(alloc: Global, len: usize) -> Result<Pool, MemoryError> {
     Ok(pool)
 }
 
-/// Allocates a payload, fills it with a byte, reads it at an offset, and gives it back. Answers what was read: what was written.
+/// Allocates a payload, fills it with a byte, reads it at an offset, and deallocates it. Returns what was read: what was written.
 fn filled(pool: &mut Pool, layout: Layout, byte: u8, offset: usize) -> Option<u8>
     requires { offset < layout.size }
     ensures { IfSome result (λ read. read ≡ byte) }
@@ -34,8 +34,8 @@ fn filled(pool: &mut Pool, layout: Layout, byte: u8, offset: usize) -> Option<u8
     Some(read)
 }
 
-/// Allocates two payloads, fills both and reads the first byte of each; gives the first another size and reads it again; and gives
-/// both back, the second one first. `None` where there is no room, and then both are given back too.
+/// Allocates two payloads, fills both and reads the first byte of each. Resizes the first and reads it again. Deallocates both, the
+/// second one first. Returns `None` if there is no room; then both are deallocated, too.
 fn two(pool: &mut Pool, small: Layout, large: Layout, longer: Layout) -> Option<[u8; 3]>
     requires align { longer.align ≡ small.align }
     requires some { (0 < small.size) × (0 < large.size) × (0 < longer.size) }
@@ -81,7 +81,7 @@ fn main(rt: HostRuntime) -> ExitCode {
     match run(&rt) {
         Ok(()) => ExitCode::SUCCESS,
         Err(error) => {
-            // Where standard error fails too, only the status tells of the error.
+            // If standard error fails too, only the status shows the error.
             let _ = eprintln!(rt; "{error}");
             ExitCode::FAILURE
         }

@@ -1,5 +1,7 @@
-//! Two threads over one allocator: each keeps a list of numbers in a payload, which gets twice as long whenever it is full, reads all
-//! numbers back, and gives the payload back.
+//! Two threads over one allocator. Each keeps a list of numbers in a payload, which is reallocated to twice its length whenever it
+//! is full. At the end it reads all numbers back, and deallocates the payload.
+//!
+//! `error.rt` has its errors.
 #![tactic(auto)]
 
 mod error;
@@ -93,7 +95,7 @@ fn main(rt: HostRuntime) -> ExitCode {
     match run(&rt) {
         Ok(()) => ExitCode::SUCCESS,
         Err(error) => {
-            // Where standard error fails too, only the status tells of the error.
+            // If standard error fails too, only the status shows the error.
             let _ = eprintln!(rt; "{error}");
             ExitCode::FAILURE
         }

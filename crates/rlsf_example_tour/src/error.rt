@@ -9,11 +9,11 @@ use std::{fmt, io};
 /// Why the tour ended early.
 #[derive(Debug, Drop)]
 pub(crate) enum TourError {
-    /// No memory has such addresses, or the system refused it.
+    /// No memory has such addresses, or the system is out of memory.
     Memory(MemoryError),
     /// No layout has such a size and such an alignment.
     Layout,
-    /// The system refused memory.
+    /// Out of memory.
     OutOfMemory,
     /// The memory isn't sure to have room for so many messages of that length.
     MemoryTooShort,

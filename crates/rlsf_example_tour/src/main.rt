@@ -1,4 +1,7 @@
-//! A tour of the small libraries over the allocator: a fixed script, and a picture of the pool after each step.
+//! A tour of `rlsf_collections`, the small libraries over the allocator: a fixed script, and a picture of the pool after each step.
+//!
+//! `messages.rt`, `latest.rt`, `objects.rt` and `strings.rt` have the parts of the script, in this order. `answer.rt` and `error.rt`
+//! print answers and errors.
 #![tactic(auto)]
 
 mod answer;
@@ -14,7 +17,7 @@ use rlsf_collections::picture;
 use std::fmt::Display;
 use std::process::ExitCode;
 
-/// How many marks stand for a whole pool.
+/// The number of marks for a complete pool.
 const WIDTH: usize = 40;
 
 fn main(rt: HostRuntime) -> ExitCode {

@@ -32,7 +32,7 @@ const SCRIPT: [Step; 9] = [
     Step::Exchange(1),
 ];
 
-/// Takes objects, writes into one, gives one back, and exchanges one for another.
+/// Takes objects, writes into one, returns one, and exchanges one for another.
 pub(crate) fn show(rt: &(impl Print + AllocGlobal)) -> Result<(), TourError> {
     let memory = Memory::new(rt.alloc(), 8192, 288)?;
     let mut pool = Objects::new(rt.alloc(), memory, Layout::from_size_align(40, 32)?);
@@ -78,7 +78,7 @@ fn give_back(
     )
 }
 
-/// Gives an object back and takes another one, for which there is room then.
+/// Returns an object and takes another one, for which there is room then.
 fn exchange(pool: &mut Objects, handle: usize) -> Result<Result<usize, TakeError>, UnknownHandle>
     ensures room { IfOk result (λ taken. IsErrOf taken NoRoom → ⊥) }
     ensures unknown { IsErr result ↔ (lookup (nat_eq handle) pool.old.objects ≡ None) }

@@ -3,13 +3,13 @@
 use crate::window::Window;
 use rlsf_trace_text::{Answer, Op};
 use rlsf_trace_watch::{Moment, Watched};
-use std::alloc::{AllocError, AllocFailed, Global};
+use std::alloc::{AllocError, Global};
 use std::collections::BTreeMap;
 
 /// How many boxes are drawn at most.
 const MOST_BOXES: usize = 2000;
 
-/// A payload while it stands in one place with one size.
+/// A payload while it has one place and one size.
 #[derive(Clone, Copy)]
 pub(crate) struct PayloadBox {
     /// Its name.
@@ -87,7 +87,7 @@ impl Boxes {
                 since: index,
                 until: index,
             };
-            self.live.insert(name, payload).map_err(|_| AllocError)?;
+            self.live.insert(name, payload)?;
         }
         Ok(())
     }
@@ -101,9 +101,8 @@ impl Boxes {
             self.left_out = self.left_out.saturating_add(1);
             return Ok(());
         }
-        self.boxes
-            .push(PayloadBox { until, ..payload })
-            .map_err(|_| AllocError)
+        self.boxes.push(PayloadBox { until, ..payload })?;
+        Ok(())
     }
 
     // Ends the payloads that are live behind the window.

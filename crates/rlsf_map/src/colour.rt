@@ -8,16 +8,16 @@ const HEADER: u128 = 16;
 /// The size class of the block of a payload.
 #[derive(Clone, Copy)]
 pub(crate) struct Class {
-    /// The row: its sizes begin at 2 to this power.
+    /// The first-level row: its sizes begin at 2 to this power.
     pub(crate) row: u32,
-    /// Which of the row's classes it is, from 0.
+    /// The index of the class in its first-level row, from 0.
     pub(crate) part: u128,
-    /// How many classes the row has.
+    /// The number of classes in a first-level row.
     pub(crate) classes: u128,
 }
 
 impl Class {
-    /// The class of the block of a payload with so many usable bytes, where a row has so many classes.
+    /// The class of the block of a payload with so many usable bytes, if a first-level row has so many classes.
     pub(crate) fn of(usable: usize, classes: u128) -> Class {
         let len = usable as u128 + HEADER;
         let row = len.ilog2();
@@ -45,7 +45,7 @@ impl fmt::Display for Colour {
             Colour::Free => f.write_str("#eeeeee"),
             Colour::Sentinel => f.write_str("#444444"),
             Colour::Class(Class { row, part, classes }) => {
-                // Rows that follow one another are far apart on the circle of hues; later classes of a row are lighter.
+                // First-level rows that follow one another are far apart on the circle of hues. Later classes of a row are lighter.
                 let hue = (row as u128).saturating_mul(67) % 360;
                 let light = 42u128.saturating_add(part.saturating_mul(30) / classes.max(1));
                 write!(f, "hsl({hue},65%,{light}%)")

@@ -26,7 +26,7 @@ const FOOT: &str =
 </svg>
 ";
 
-/// The whole drawing, as SVG.
+/// The complete drawing, as SVG.
 pub(crate) fn drawing(
     alloc: Global,
     window: Window,
@@ -205,7 +205,7 @@ fn print_legend(
     )
 }
 
-// The colours of the rows of classes that the drawing shows.
+// The colours of the first-level rows that the drawing shows.
 fn print_colours(text: &mut String, boxes: &[PayloadBox]) -> Result<(), AllocError> {
     let mut x = 400;
     for row in 5..64 {
@@ -220,7 +220,7 @@ fn print_colours(text: &mut String, boxes: &[PayloadBox]) -> Result<(), AllocErr
     Ok(())
 }
 
-// The colour of a row, and its name beside it.
+// The colour of a first-level row, and its name beside it.
 fn print_colour(text: &mut String, x: u128, row: u32) -> Result<(), AllocError> {
     let class = Class {
         row,

@@ -1,4 +1,4 @@
-//! What is told beside the drawing.
+//! The text beside the drawing.
 
 use crate::pools::Pool;
 use crate::window::Window;
@@ -9,14 +9,14 @@ use std::fmt;
 /// How many pools, and how many lines without room, are listed at most.
 const MOST_LISTED: usize = 12;
 
-/// What is told beside the drawing.
+/// The numbers beside the drawing.
 #[derive(Clone, Copy)]
 pub(crate) struct Legend {
     /// The configuration's name.
     pub(crate) configuration: &'static str,
-    /// How many classes a row has.
+    /// The number of classes in a first-level row.
     pub(crate) classes: u128,
-    /// How many usable bytes the live payloads had at most, in the whole trace.
+    /// The most usable bytes that the live payloads had, in the complete trace.
     pub(crate) most_usable: u128,
     /// How many allocations and reallocations of the window found no room.
     pub(crate) denied: usize,
@@ -93,7 +93,7 @@ impl fmt::Display for PoolList<'_> {
 /// The numbers of the first lines that found no room.
 #[derive(Clone, Copy)]
 pub(crate) struct DeniedLines<'a> {
-    /// The answers of the whole trace.
+    /// The answers of the complete trace.
     pub(crate) answers: &'a [Answer],
     /// The calls that are drawn.
     pub(crate) window: Window,

@@ -1,5 +1,8 @@
 //! Draws a trace of allocator calls: reads it from standard input, and writes one SVG to standard output. Calls go from left to
 //! right, addresses upwards. `rlsf_map FIRST LAST` draws the calls of these lines of the trace.
+//!
+//! Read `map.rt` first: it reads and runs the trace. `window.rt` selects calls, `pools.rt` and `boxes.rt` find what is drawn, and
+//! `draw.rt` draws it. `scale.rt` and `colour.rt` have places and colours, and `legend.rt` the text.
 #![tactic(auto)]
 
 mod boxes;
@@ -25,7 +28,7 @@ fn main(rt: HostRuntime) -> ExitCode {
     };
     let outcome = map(rt.alloc(), &mut rt.stdin(), &mut rt.stdout(), lines);
     if let Err(fault) = &outcome {
-        // Where standard error fails too, only the status tells of the fault.
+        // If standard error fails too, only the status shows the fault.
         let _ = eprintln!(rt; "{fault}");
     }
     ExitCode::from(status(&outcome))

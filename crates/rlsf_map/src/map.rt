@@ -16,7 +16,7 @@ use rlsf_trace_watch::{Watched, watch_trace};
 use std::alloc::{AllocError, Global};
 use std::io::{Read, Write};
 
-/// Reads a trace, all that is left of the reader, runs it on a new allocator, and writes a drawing of the calls of some lines.
+/// Reads a trace from the rest of the reader, runs it on a new allocator, and writes a drawing of the calls of some lines.
 ///
 /// The faults are those of `rlsf_trace::replay`, in its order. Nothing is written with any fault but `Write`, and with that one a
 /// beginning of the drawing may be.
@@ -36,7 +36,7 @@ pub(crate) fn map<R: Read, W: Write>(
     write_text(writer, text.as_bytes()).map_err(|fault| fault.at_line(0))
 }
 
-// The drawing of an input, the whole of it.
+// The complete drawing of an input.
 fn text_for(alloc: Global, input: &[u8], lines: Lines) -> Result<String, ReplayFault>
     ensures ok { OnOk result (IsTrace input.now) }
     ensures fault { IfErr result (λ f. IsOutputFault input.now f) }

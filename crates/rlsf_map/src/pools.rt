@@ -1,16 +1,16 @@
-//! Which memory the allocator has.
+//! The pools of the allocator.
 
 use rlsf_trace_text::{Answer, Op};
 use std::alloc::{AllocError, Global};
 
-/// A range that was handed in.
+/// A range that was inserted.
 #[derive(Clone, Copy)]
 pub(crate) struct Pool {
     /// Its first address.
     pub(crate) start: usize,
-    /// How many bytes of it were taken.
+    /// How many of its bytes the pool has.
     pub(crate) len: usize,
-    /// The index of the call that handed it in.
+    /// The index of the call that inserted it.
     pub(crate) since: usize,
 }
 
@@ -21,7 +21,7 @@ impl Pool {
     }
 }
 
-/// The ranges that were handed in, those that were appended among them.
+/// The ranges that were inserted or appended.
 pub(crate) fn pools_of(
     alloc: Global,
     ops: &[Op],

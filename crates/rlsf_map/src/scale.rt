@@ -15,7 +15,7 @@ impl fmt::Display for Tenths {
     }
 }
 
-/// A rectangle, as SVG begins it: what stands behind it closes it.
+/// A rectangle, as SVG begins it. The text after it closes it.
 #[derive(Clone, Copy)]
 pub(crate) struct Rect {
     x: Tenths,

@@ -16,7 +16,7 @@ pub(crate) enum Failure {
     Answer,
     /// The trace has a fault.
     Trace(ReplayFault),
-    /// The system refused memory.
+    /// Out of memory.
     OutOfMemory,
     /// The input could not be read, or the output not be written.
     Io(io::Error),

@@ -1,21 +1,29 @@
-//! Runs traces with allocators over sources that follow lists of answers, to compare them with what a model says of them: reads
-//! runs from standard input, and writes to standard output what each answers and what its source was asked.
+//! Runs traces with allocators over sources that follow lists of answers, to compare them with the reference model in Python. It reads
+//! runs from standard input, and writes each run's answers and its source's questions to standard output.
+//!
+//! Read `replays.rt` first. `reading.rt` reads the runs, `output.rt` prints them, and `error.rt` has the errors.
 //!
 //! A run begins with a line `run CAPABILITIES MIN_ALIGN`. CAPABILITIES is what its source can do: some of `dealloc`, `grow` and
 //! `contiguous`, with `+` between them, or `-` for none. MIN_ALIGN is a power of two, of which the starts of its ranges are
-//! multiples. Then come the source's answers to its questions, each a line `answer START LEN`, which gives a range,
-//! `answer LEN`, which grows one, or `answer none`; and then the text of a trace, whose memory is the source's space. An answer
-//! that the source may not give counts as none, and so does each one past the last. Behind the trace's first line there may be lines
-//! `trim`, which are no lines of the trace, and don't count where a fault names the line that has it.
+//! multiples.
 //!
-//! For a run there is a line `run NUMBER`, counted from 1, then a line for each op, as in the replay of a trace, and `trim COUNT` for
-//! a trim with how many ranges went back, and then a line for each question: `asked 96 got 4097 96` for a range, `asked 4097 96 to grow to 159 got 159` for growth, each with
-//! `got none` where it was refused, and `given back 4097 159` for a range that goes back.
+//! Then come the source's answers to its questions, each in a line. `answer START LEN` provides a range, `answer LEN` grows one, and
+//! `answer none` refuses. An answer that the source may not give counts as none, and so does each one past the last.
 //!
-//! A text that isn't so ends the program with status 1.
+//! Then comes the text of a trace, whose memory is the source's space. Behind the trace's first line there may be lines `trim`. They
+//! are no lines of the trace, and aren't counted in the line number of a fault.
 //!
-//! The script `random_runs.py` writes the runs and what a model says of them: first random ones, and at the end those of the
-//! original's tests of this allocator, which interpret fixed lists of random bytes as calls.
+//! The output of a run begins with a line `run NUMBER`, counted from 1. Then it has a line for each op, as in the replay of a
+//! trace. A trim has a line `trim COUNT`, with the number of ranges that returned. At the end it has a line for each question:
+//!
+//! - `asked 96 got 4097 96` for a range, or `got none`;
+//! - `asked 4097 96 to grow to 159 got 159` for growth, or `got none`;
+//! - `given back 4097 159` for a range that returns to the source.
+//!
+//! A text of another form ends the program with status 1.
+//!
+//! The script `random_runs.py` writes the runs and the model's output for them. The first ones are random. The last ones are those of
+//! the original's tests of this allocator, which interpret fixed lists of random bytes as calls.
 #![tactic(auto)]
 
 mod error;
@@ -32,7 +40,7 @@ fn main(rt: HostRuntime) -> ExitCode {
     match replay(&rt) {
         Ok(()) => ExitCode::SUCCESS,
         Err(error) => {
-            // Where standard error fails too, only the status tells of the error.
+            // If standard error fails too, only the status shows the error.
             let _ = eprintln!(rt; "{error}");
             ExitCode::FAILURE
         }

@@ -26,7 +26,7 @@ pub(crate) fn output_of(alloc: Global, text: &str) -> Result<String, Failure> {
         start: trace.start,
         len: trace.len,
     };
-    // An op asks two questions at most, and each range goes back once, by a trim or at the end.
+    // An op asks two questions at most, and each range returns once, by a trim or at the end.
     let questions = ops.len().saturating_mul(3);
     let source = ListedSource::new(alloc, space, capabilities, answers, questions)?;
     let memory = Memory::new(alloc, trace.start, trace.len)?;

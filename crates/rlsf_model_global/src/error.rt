@@ -10,7 +10,7 @@ use std::{fmt, io};
 pub(crate) enum Failure {
     /// It is no head of a script and no call, or a call where no script has begun.
     Line,
-    /// The system refused memory.
+    /// Out of memory.
     OutOfMemory,
     /// The input could not be read, or the output not be written.
     Io(io::Error),

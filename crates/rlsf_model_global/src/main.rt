@@ -1,5 +1,7 @@
-//! Runs scripts with the allocator behind the lock, to compare it with what a model says: reads them from standard input, and writes
-//! the reply of each call to standard output, one a line.
+//! Runs scripts with the allocator behind the lock, to compare it with the reference model in Python. It reads the scripts from
+//! standard input, and writes the reply of each call to standard output, one a line.
+//!
+//! Read `script.rt` first: it runs the calls of `call.rt`. `reply.rt` and `error.rt` print the replies and the errors.
 //!
 //! A script begins with a line `KIND START LEN`: KIND is `coalescing` or `small`, and START and LEN are the memory's. Each other line is
 //! a call. What a line has from ` = ` on is left out.
@@ -33,7 +35,7 @@ fn main(rt: HostRuntime) -> ExitCode {
     match replay(&rt) {
         Ok(()) => ExitCode::SUCCESS,
         Err(error) => {
-            // Where standard error fails too, only the status tells of the error.
+            // If standard error fails too, only the status shows the error.
             let _ = eprintln!(rt; "{error}");
             ExitCode::FAILURE
         }

@@ -28,7 +28,7 @@ impl Reply {
         }
     }
 
-    /// The reply of a call that gives nothing.
+    /// The reply of a call that returns nothing.
     pub(crate) fn done(answer: Result<(), GlobalError>) -> Reply {
         match answer {
             Ok(()) => Reply::Done,
@@ -36,7 +36,7 @@ impl Reply {
         }
     }
 
-    /// The reply of a call that gives a size.
+    /// The reply of a call that returns a size.
     pub(crate) fn size(answer: Result<usize, GlobalError>) -> Reply {
         match answer {
             Ok(size) => Reply::Size(size),

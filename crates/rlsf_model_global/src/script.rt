@@ -46,7 +46,7 @@ fn memory_of(alloc: Global, words: &str) -> Result<Memory, Failure> {
     }
 }
 
-/// Runs scripts, and answers what they print.
+/// Runs scripts, and returns what they print.
 pub(crate) fn output_of(alloc: Global, text: &str) -> Result<String, ReplayError> {
     let mut output = String::new(alloc);
     let mut allocator = None;

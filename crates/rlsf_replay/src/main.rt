@@ -1,4 +1,6 @@
 //! Replays a trace of allocator calls: reads it from standard input, and writes the answers to standard output.
+//!
+//! The work is done by `replay` of `rlsf_trace`.
 #![tactic(auto)]
 
 use rlsf_trace::{replay, status};
@@ -7,7 +9,7 @@ use std::process::ExitCode;
 fn main(rt: HostRuntime) -> ExitCode {
     let outcome = replay(rt.alloc(), &mut rt.stdin(), &mut rt.stdout());
     if let Err(fault) = &outcome {
-        // Where standard error fails too, only the status tells of the fault.
+        // If standard error fails too, only the status shows the fault.
         let _ = eprintln!(rt; "{fault}");
     }
     ExitCode::from(status(&outcome))

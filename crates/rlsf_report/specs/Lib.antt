@@ -1,1 +1,2 @@
+-- The definitions of the report.
 pub mod Summaries

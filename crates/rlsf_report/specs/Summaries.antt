@@ -1,4 +1,4 @@
--- What a report tells of a run, by what the allocator held after each op and its blocks at the end.
+-- The numbers that a report prints of a run, from the moment after each op and the blocks at the end.
 use Rattle.std.specs.Prelude.{ℕ, ◌-◌, List, length, slice_index_or, sum_by, max, if◌then◌else◌, not}
 use Rattle.std.specs.List.{fold, count_by}
 use Rattle.rlsf_blocks.specs.Blocks.{Block}

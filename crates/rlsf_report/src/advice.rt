@@ -11,7 +11,7 @@ use rlsf_trace_text::{Answer, Configuration, Op, ReplayFault, Trace};
 use rlsf_trace_watch::{Watched, watch_ops};
 use std::alloc::{AllocError, Global};
 
-/// What is told of a trace that inserts one range.
+/// The advice for a trace that inserts one range.
 #[derive(Clone, Copy)]
 pub(crate) struct Advice {
     /// How many payloads are live at most.
@@ -25,12 +25,12 @@ pub(crate) struct Advice {
     pub(crate) enough: Option<usize>,
     /// How long the inserted range is.
     pub(crate) inserted: usize,
-    /// The number of the first line that finds no room in the first half of the range, and did in the whole.
+    /// The number of the first line that finds no room in the first half of the range, and found room in the complete range.
     pub(crate) first_denied: Option<u128>,
 }
 
-/// The advice for a trace that has one insert and no append, which is run again in half the range. None for any other. Refused
-/// where the system refuses memory.
+/// The advice for a trace that has one insert and no append, which is run again in half the range. `None` for any other trace. An
+/// error if the system is out of memory.
 pub(crate) fn advice_of(
     alloc: Global,
     trace: &Trace,

@@ -6,8 +6,8 @@ use rlsf_trace_text::{Answer, Op};
 use rlsf_trace_watch::{Moment, Watched};
 use std::alloc::{AllocError, Global};
 
-/// A line for each call, behind a line of names: the number of its line in the trace, its command, how it ended, and how many
-/// payloads are live after it, with how many usable bytes together.
+/// A line for each call, after a line of names. It has the number of its line in the trace, its command, and how it ended. Then it
+/// has the number of payloads that are live after it, and of their usable bytes.
 pub(crate) fn csv_of(alloc: Global, ops: &[Op], watched: &Watched) -> Result<String, AllocError> {
     let mut text = String::new(alloc);
     text.push_str("line,call,outcome,live,usable\n")?;

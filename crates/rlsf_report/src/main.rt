@@ -1,5 +1,8 @@
-//! Prints what a trace of allocator calls comes to: reads it from standard input, and writes a table to standard output, or with
-//! `--csv` a line for each call.
+//! Counts what a trace of allocator calls does: reads it from standard input, and writes a table to standard output. With `--csv` it
+//! writes a line for each call instead.
+//!
+//! Read `report.rt` first. `kinds.rt` and `counts.rt` count the calls, `summary.rt` and `sizes.rt` payloads and bytes, and `advice.rt`
+//! computes lengths of pools. `table.rt` and `csv.rt` print.
 #![tactic(auto)]
 
 mod advice;
@@ -24,7 +27,7 @@ fn main(rt: HostRuntime) -> ExitCode {
     };
     let outcome = report(rt.alloc(), &mut rt.stdin(), &mut rt.stdout(), form);
     if let Err(fault) = &outcome {
-        // Where standard error fails too, only the status tells of the fault.
+        // If standard error fails too, only the status shows the fault.
         let _ = eprintln!(rt; "{fault}");
     }
     ExitCode::from(status(&outcome))

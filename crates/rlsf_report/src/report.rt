@@ -1,4 +1,4 @@
-//! Reports: a trace is read, run and told of.
+//! Reports: a trace is read, run and counted.
 
 ghost use Rattle.std.specs.Prelude.{◌≡◌, ◌≢◌, ◌⊎◌, IfErr, IfSome, OnOk};
 ghost use Rattle.std.specs.Io.KnownBytes.{IsAtEnd};
@@ -17,7 +17,7 @@ use rlsf_trace_watch::{Watched, watch_trace};
 use std::alloc::Global;
 use std::io::{Read, Write};
 
-/// How a trace is told of.
+/// The form of a report.
 #[derive(Clone, Copy)]
 pub(crate) enum Form {
     /// A table of numbers.
@@ -26,7 +26,7 @@ pub(crate) enum Form {
     Csv,
 }
 
-/// Reads a trace, all that is left of the reader, runs it on a new allocator, and writes what it comes to.
+/// Reads a trace from the rest of the reader, runs it on a new allocator, and writes its report.
 ///
 /// The faults are those of `rlsf_trace::replay`, in its order. Nothing is written with any fault but `Write`, and with that one a
 /// beginning of the text may be.
@@ -46,7 +46,7 @@ pub(crate) fn report<R: Read, W: Write>(
     write_text(writer, text.as_bytes()).map_err(|fault| fault.at_line(0))
 }
 
-// What is told of an input, the whole of it.
+// The complete report of an input.
 fn text_for(alloc: Global, input: &[u8], form: Form) -> Result<String, ReplayFault>
     ensures ok { OnOk result (IsTrace input.now) }
     ensures fault { IfErr result (λ f. IsOutputFault input.now f) }

@@ -5,7 +5,8 @@ use Rattle.rlsf_base.specs.SizeClass.{is_row_length}
 use Rattle.rlsf_base.specs.Sizes.{pool_size_for_objects}
 use Rattle.rlsf_base.proofs.SizeMaps.ChunkLengths.{IsObjectPool-some}
 
-pub objects_have_room : (fllen sllen count size len asked : ℕ) → IsTrue (is_row_length sllen) → pool_size_for_objects fllen sllen count size ≡ Some (len, asked) → count * size ≤ len
+pub objects_have_room : (fllen sllen count size len asked : ℕ) → IsTrue (is_row_length sllen) → pool_size_for_objects fllen sllen count size ≡ Some (len, asked)
+    → count * size ≤ len
 objects_have_room fllen sllen count size len asked row told =
     let pool = IsObjectPool-some fllen sllen count size len asked row told in
     let enough : size ≤ pool.block = omega (arith, pool.enough) in

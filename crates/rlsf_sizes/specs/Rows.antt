@@ -1,4 +1,4 @@
--- The rows of the table.
+-- The lines of the table.
 use Rattle.std.specs.Prelude.{ℕ, ◌*◌, ◌/◌, Option}
 use Rattle.std.specs.Option.{option_map}
 use Rattle.rlsf_base.specs.Sizes.{pool_size_for_objects, pool_size_for_payloads}
@@ -17,7 +17,7 @@ payloads_pool fllen sllen count size align = option_map (pool_of count size) (po
 abbrev pub objects_pool : ℕ → ℕ → ℕ → ℕ → Option (Pool × ℕ)
 objects_pool fllen sllen count size = option_map (λ p. (pool_of count size p.0, p.1)) (pool_size_for_objects fllen sllen count size)
 
--- the row of so many payloads of a layout
+-- the line of so many payloads of a layout
 abbrev pub row_of : ℕ → ℕ → ℕ → ℕ → ℕ → Row
 row_of fllen sllen count size align =
     record { count = count; size = size; payloads = payloads_pool fllen sllen count size align; objects = objects_pool fllen sllen count size }

@@ -1,5 +1,7 @@
-//! Prints how long pools have to be, for so many payloads of a size, at three of the allocator's shapes: one that never refuses
-//! payloads up to the size, and one that holds exactly so many of the size.
+//! Prints the lengths of pools for so many payloads of a size, for three shapes of the allocator. One pool never refuses payloads
+//! up to the size. The other holds exactly so many of the size.
+//!
+//! `rows.rt` computes the lines of the table, by the definitions in `specs/Rows.antt`.
 #![tactic(auto)]
 
 ghost use Rattle.rlsf_base.specs.SizeClass.{IsValid};
@@ -34,7 +36,7 @@ fn main(rt: HostRuntime) -> ExitCode {
     match tables(&rt) {
         Ok(()) => ExitCode::SUCCESS,
         Err(error) => {
-            // Where standard error fails too, only the status tells of the error.
+            // If standard error fails too, only the status shows the error.
             let _ = eprintln!(rt; "{error}");
             ExitCode::FAILURE
         }
@@ -49,7 +51,7 @@ fn tables(rt: &impl Print) -> Result<(), SizesError> {
     table::<u64, u64, 64, 64>(rt, "\n64 rows of 64 classes, chunks of any length")
 }
 
-/// Prints the rows of a shape, below its name.
+/// Prints the lines of a shape, below its name.
 fn table<FLBitmap: BitPattern, SLBitmap: BitPattern, const FLLEN: usize, const SLLEN: usize>(
     rt: &impl Print,
     shape: &str,

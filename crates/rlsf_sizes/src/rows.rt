@@ -18,7 +18,7 @@ pub(crate) struct Pool {
     pub(crate) share: usize,
 }
 
-/// What the table tells of so many payloads of a size.
+/// A line of the table: the pools for so many payloads of a size.
 #[derive(Clone, Copy)]
 pub(crate) struct Row {
     /// How many payloads there are.
@@ -28,11 +28,11 @@ pub(crate) struct Row {
     /// The pool that never refuses payloads up to the size, while no more than so many are live before a call. None where it is
     /// longer than the longest chunk.
     pub(crate) payloads: Option<Pool>,
-    /// The pool that holds exactly so many of the size, and the size to ask for. None likewise.
+    /// The pool that holds exactly so many of the size, and the size to ask for. `None` if there is no such pool.
     pub(crate) objects: Option<(Pool, usize)>,
 }
 
-/// The row of so many payloads of a layout, at an allocator's parameters.
+/// The line of so many payloads of a layout, for an allocator's parameters.
 pub(crate) fn row_for<
     FLBitmap: BitPattern,
     SLBitmap: BitPattern,

@@ -1,1 +1,2 @@
+-- Lemmas about writing a text.
 pub mod Writing

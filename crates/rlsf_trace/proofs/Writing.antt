@@ -19,5 +19,6 @@ pub Appends-more : (a b c : Option (List ℕ)) (text done rest : List ℕ) (take
     → (x : List ℕ) × (text ≡ x ++ take (length rest - taken) (drop taken rest)) × Appends a c x
 Appends-more a b c text done rest taken split so_far piece =
     let moved : text ≡ (done ++ take taken rest) ++ take (length rest - taken) (drop taken rest) =
-    split ∙ ap (λ l. done ++ l) (sym (take-append-drop taken rest)) ∙ sym (append_assoc done (take taken rest) (drop taken rest)) ∙ ap (λ l. (done ++ take taken rest) ++ l) (sym (take_rest rest taken)) in
+    split ∙ ap (λ l. done ++ l) (sym (take-append-drop taken rest)) ∙ sym (append_assoc done (take taken rest) (drop taken rest))
+    ∙ ap (λ l. (done ++ take taken rest) ++ l) (sym (take_rest rest taken)) in
     (done ++ take taken rest, moved, Appends-trans a b c done (take taken rest) so_far piece)

@@ -1,2 +1,3 @@
+-- The definitions of a replay. Read `Replays` first.
 pub mod Output
 pub mod Replays

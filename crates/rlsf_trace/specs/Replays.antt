@@ -16,7 +16,7 @@ use Rattle.rlsf_trace_text.specs.Printing.{text_of}
 use Rattle.rlsf_trace_text.specs.Reading.{TraceText, trace_in}
 use Rattle.rlsf_trace_runs.specs.Runs.{RunState, beginning, RunsOps}
 
--- how many rows of size classes a configuration has
+-- the number of first-level rows of a configuration
 abbrev pub rows_of : Configuration → ℕ
 rows_of EightByEight = 8
 rows_of TwelveBySixteen = 12
@@ -24,7 +24,7 @@ rows_of FiftyNineByEight = 59
 rows_of OneByOne = 1
 rows_of EightByOne = 8
 
--- how many classes a row of a configuration has
+-- the number of classes in a first-level row of a configuration
 abbrev pub classes_of : Configuration → ℕ
 classes_of EightByEight = 8
 classes_of TwelveBySixteen = 16
@@ -32,7 +32,7 @@ classes_of FiftyNineByEight = 8
 classes_of OneByOne = 1
 classes_of EightByOne = 1
 
--- the ops, done from the beginning by an allocator with these parameters over this memory, are answered so
+-- an allocator with these parameters over this memory does the ops from its beginning, with these answers
 abbrev pub IsRun : ℕ → ℕ → Range → List Op → List Answer → Type 0
 IsRun fllen sllen memory ops answers = (last : RunState) × RunsOps fllen sllen memory beginning ops answers last
 
@@ -54,7 +54,7 @@ AppendsReplay input old new = (output : List ℕ) × IsOutput input output × Ap
 abbrev pub AppendsCutReplay : List ℕ → Option (List ℕ) → Option (List ℕ) → Type 0
 AppendsCutReplay input old new = (output : List ℕ) × IsOutput input output × AppendsBeginning old new output
 
--- the system refused the memory that the first line asks for
+-- there is no memory of the start and length that the first line asks for: out of memory
 abbrev pub no_memory : ReplayFault
 no_memory = record { line = 1; fault = OutOfMemory }
 
@@ -70,7 +70,7 @@ not_written = record { line = 0; fault = Write }
 abbrev pub IsTrace : List ℕ → Type 0
 IsTrace input = (trace : TraceText) × (trace_in input ≡ Ok trace)
 
--- why an input has no output: its first fault, or refused memory; that of its first line only if the text has no fault
+-- why an input has no output: its first fault, or out of memory. Out of memory on line 1 needs a text without a fault
 abbrev pub IsOutputFault : List ℕ → ReplayFault → Type 0
 IsOutputFault input f = (trace_in input ≡ Err f) ⊎ ((f ≡ out_of_memory) ⊎ ((f ≡ no_memory) × IsTrace input))
 

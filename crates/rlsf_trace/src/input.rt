@@ -5,7 +5,7 @@ use rlsf_trace_text::Fault;
 use std::alloc::Global;
 use std::io::{ErrorKind, Read};
 
-/// Reads all that is left of the input. `Read` where that fails, and `OutOfMemory` where the system refuses memory for it.
+/// Reads the rest of the input. The error is `Read` if that fails, and `OutOfMemory` if there is no memory for it.
 ///
 /// A read that a signal interrupts is tried again.
 pub fn read_input<R: Read>(alloc: Global, reader: &mut R) -> Result<Vec<u8>, Fault>

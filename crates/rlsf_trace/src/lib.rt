@@ -1,4 +1,8 @@
-//! Replays of the text of a trace: it is read, run and printed. Runs of ops are given on.
+//! Replays of traces: reads the text of a trace, runs its ops on a new allocator, and prints each op with its answer.
+//!
+//! Read `replays.rt` first: `replay` reads (`input.rt`), runs and writes (`output.rt`). The definitions of its faults and its
+//! output are in `specs/Replays.antt` and `specs/Output.antt`.
+//! The crate re-exports `run` and the types of ops, answers and faults.
 #![tactic(auto)]
 
 mod input;

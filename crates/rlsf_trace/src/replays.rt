@@ -19,7 +19,7 @@ use rlsf_trace_text::{Answer, Configuration, Fault, Op, ReplayFault, Trace, text
 use std::alloc::Global;
 use std::io::{Read, Write};
 
-// The memory of a trace, whose start and length are no fault. Where the system refuses it, the first line is to blame.
+// The memory of a trace, whose start and length are no fault. If the system is out of memory, the fault is that of line 1.
 fn memory_of(alloc: Global, trace: &Trace) -> Result<Memory, ReplayFault>
     ensures ok { IfOk result (λ memory. range_of memory ≡ range_at trace.now.start trace.now.len) }
     ensures err { IfErr result (λ f. f ≡ no_memory) }
@@ -68,7 +68,7 @@ fn answers_of(alloc: Global, trace: &Trace) -> Result<Vec<Answer>, ReplayFault>
     }
 }
 
-// The output for an input, the whole of it.
+// The complete output for an input.
 fn output_of(alloc: Global, input: &[u8]) -> Result<String, ReplayFault>
     ensures ok { IfOk result (λ text. IsOutput input.now (string_bytes text)) }
     ensures err { IfErr result (λ f. IsOutputFault input.now f) }
@@ -79,16 +79,21 @@ fn output_of(alloc: Global, input: &[u8]) -> Result<String, ReplayFault>
     Ok(text_of(alloc, &trace.ops, &answers)?)
 }
 
-/// Replays a trace: reads its text from the reader, all that is left, runs its ops on a new allocator, and writes the
-/// line of each op and its answer. The first fault ends it.
+/// Replays a trace. Reads the rest of the reader as its text, runs the ops on a new allocator, and writes each op with its answer.
+/// The first fault ends the replay.
 ///
-/// In this order: `Read` of line 0 where the input can't be read; the first fault of the text, with its line;
-/// `OutOfMemory` of line 1 where the system refuses the memory that the first line asks for; and `Write` of line 0
-/// where the output can't be written. `OutOfMemory` of line 0 comes where the system refuses any other memory. No
-/// clause says that it comes only then, and with which of these two lines.
+/// The faults, in this order:
 ///
-/// Nothing is written with any fault but `Write`, and with that one a beginning of the output may be. The reader is at
-/// its end, unless the fault is `Read`, or `OutOfMemory` of line 0.
+/// - `Read` of line 0, if the input can't be read;
+/// - the first fault of the text, with its line;
+/// - `OutOfMemory` of line 1, if there is no memory of the length that the first line asks for;
+/// - `Write` of line 0, if the output can't be written.
+///
+/// If there is no other memory, the fault is `OutOfMemory` of line 0. No clause says that this fault has no other cause, and which
+/// of the two lines it has.
+///
+/// Nothing is written with any fault but `Write`. With that one, a beginning of the output may be written. The reader is at its
+/// end, unless the fault is `Read`, or `OutOfMemory` of line 0.
 pub fn replay<R: Read, W: Write>(
     alloc: Global,
     reader: &mut R,

@@ -1,4 +1,4 @@
--- An op of a run over a source makes one call of the machine, or none.
+-- An op of a run over a source makes one call of the reference model, or none.
 use Rattle.std.proofs.Common.{◌≡◌, ℕ, List, [], ◌∷◌, ◌++◌, Option, Some, None, inl, refl, sym, ◌∙◌, ap, subst}
 use Rattle.rlsf_base.specs.declared.memory.range.Range.{Range}
 use Rattle.rlsf_machine.specs.FlexRun.{IsFlexRun, events_in}
@@ -24,8 +24,9 @@ module _ {fllen sllen : ℕ} {memory : Range} {terms : Terms} {s u : FlexState} 
   one_more {first} (one_call e is_done step) ops answers others t (cs, all, asked, run) =
       (record { event = e; notes = first } ∷ cs, (e ∷ [], events_in cs, refl, is_done, all), ap (λ ns. first ++ ns) asked, (u, step, run))
 
-  -- a payload is given back
-  pub made-deallocate : (addr : ℕ) → IsDoneBy op answer (deallocate addr ∷ []) → Deallocates s.machine addr u.machine → u ≡ with_machine s u.machine → MakesFlex fllen sllen memory terms s op answer [] u
+  -- a payload is deallocated
+  pub made-deallocate : (addr : ℕ) → IsDoneBy op answer (deallocate addr ∷ []) → Deallocates s.machine addr u.machine → u ≡ with_machine s u.machine
+      → MakesFlex fllen sllen memory terms s op answer [] u
   made-deallocate addr is_done step same = one_call (deallocate addr) is_done (record {
     may = (step.block, step.holds);
     answers = λ n i. absurd i;
@@ -33,15 +34,17 @@ module _ {fllen sllen : ℕ} {memory : Range} {terms : Terms} {s u : FlexState} 
   })
 
   -- a payload is written
-  pub made-fill : (addr : ℕ) (bytes : List ℕ) → IsDoneBy op answer (fill addr bytes ∷ []) → Fills s.machine addr bytes u.machine → u ≡ with_machine s u.machine → MakesFlex fllen sllen memory terms s op answer [] u
+  pub made-fill : (addr : ℕ) (bytes : List ℕ) → IsDoneBy op answer (fill addr bytes ∷ []) → Fills s.machine addr bytes u.machine → u ≡ with_machine s u.machine
+      → MakesFlex fllen sllen memory terms s op answer [] u
   made-fill addr bytes is_done step same = one_call (fill addr bytes) is_done (record {
     may = (step.block, step.holds);
     answers = λ n i. absurd i;
     leads = record { machine = u.machine; leads = step; none = refl; after = same };
   })
 
-  -- a payload gets another size without a move, or the call is refused
-  pub made-unmoved : (addr size : ℕ) (reply : Option ℕ) → IsDoneBy op answer (unmoved_calls addr size reply) → ReallocatesWithoutMove s.machine addr size reply u.machine → u ≡ with_machine s u.machine
+  -- a payload is resized without a move, or the call is refused
+  pub made-unmoved : (addr size : ℕ) (reply : Option ℕ) → IsDoneBy op answer (unmoved_calls addr size reply) → ReallocatesWithoutMove s.machine addr size reply u.machine
+      → u ≡ with_machine s u.machine
       → MakesFlex fllen sllen memory terms s op answer [] u
   made-unmoved addr size None is_done step same = no_call is_done refl (same ∙ ap (with_machine s) (unmoved_is_reallocated sllen s.machine u.machine addr size None step).1)
   made-unmoved addr size (Some to) is_done step same = one_call (reallocate addr size (Some to)) is_done (record {

@@ -1,3 +1,4 @@
+-- Lemmas about runs over a source. `Underway` has the run so far.
 pub mod FlexEvents
 pub mod NamedPayloads
 pub mod PlacedPayloads

@@ -45,15 +45,18 @@ AreNamed-in {s} {table} are = subst (AreNamed s table) (named-in are) are
 
 module _ {S : Type 0} {fllen sllen : ℕ} {terms : S → Terms} {owes : S → List Range → Type 0} where
   -- a step that asks the source nothing keeps the bytes outside of the ranges
-  KeepsOutside-alone : {v w : FlexContents S} → FlexStandsFor fllen sllen terms owes v → FlexStandsFor fllen sllen terms owes w → w.state ≡ with_machine v.state w.state.machine → SamePlace v.memory w.memory
+  KeepsOutside-alone : {v w : FlexContents S} → FlexStandsFor fllen sllen terms owes v → FlexStandsFor fllen sllen terms owes w
+      → w.state ≡ with_machine v.state w.state.machine → SamePlace v.memory w.memory
       → KeepsSpare v.memory v.state.machine w.memory w.state.machine → KeepsOutside v.memory v.state.pools [] w.memory w.state.pools
   KeepsOutside-alone {v} {w} before after same place keeps =
       let pools = ap (λ s. s.pools) same in
       subst (KeepsOutside v.memory v.state.pools [] w.memory) (sym pools)
-      (KeepsOutside-spare v.memory w.memory v.state.machine w.state.machine v.state.pools before.well_formed.housed (subst (λ l. AreHoused l w.state.machine.chunks) pools after.well_formed.housed) place keeps)
+      (KeepsOutside-spare v.memory w.memory v.state.machine w.state.machine v.state.pools before.well_formed.housed
+      (subst (λ l. AreHoused l w.state.machine.chunks) pools after.well_formed.housed) place keeps)
 
   -- an op that leads to names whose payloads the new table has leads to the table's
-  pub LeadsOn-named : {leads : S → Note → S → Type 0} {v w : FlexContents S} {table new : NameTable} (op : Op) (answer : Answer) (notes : List Note) (named : ℕ → Option ℕ)
+  pub LeadsOn-named : {leads : S → Note → S → Type 0} {v w : FlexContents S} {table new : NameTable} (op : Op) (answer : Answer) (notes : List Note)
+      (named : ℕ → Option ℕ)
       → DoesFlex fllen sllen (terms v.source) (run_of v table) op answer notes (record { flex = w.state; named = named })
       → MakesFlex fllen sllen (range_of v.memory) (terms v.source) v.state op answer notes w.state → LeadsBy leads v.source notes w.source
       → KeepsOutside v.memory v.state.pools notes w.memory w.state.pools → FlexStandsFor fllen sllen terms owes w → AreNamed w.state.machine new named
@@ -67,10 +70,12 @@ module _ {S : Type 0} {fllen sllen : ℕ} {terms : S → Terms} {owes : S → Li
     at = record { stands = stands; are_named = AreNamed-in are };
   }
 
-module _ {S : Type 0} {fllen sllen : ℕ} {terms : S → Terms} {owes : S → List Range → Type 0} {v : FlexContents S} {table : NameTable} (at : IsFlexAt fllen sllen terms owes v table) where
+module _ {S : Type 0} {fllen sllen : ℕ} {terms : S → Terms} {owes : S → List Range → Type 0} {v : FlexContents S} {table : NameTable}
+    (at : IsFlexAt fllen sllen terms owes v table) where
   -- a payload of the table has a block, which its name owns, with as many bytes as are usable
   pub owned : (name : ℕ) (p : Payload) → get nat_eq table name ≡ Some p
-      → (u : Used) × Owns (without_source (run_of v table)) name u × Holds v.state.machine (address p) u × (bytes_at v.state.machine (address p) ≡ u.bytes) × (length u.bytes ≡ (usable u).len)
+      → (u : Used) × Owns (without_source (run_of v table)) name u × Holds v.state.machine (address p) u × (bytes_at v.state.machine (address p) ≡ u.bytes)
+      × (length u.bytes ≡ (usable u).len)
   owned name p is =
       let (u, owns, holds, _) = owned_live at.are_named name p is in
       (u, owns, holds, bytes_at-held at.stands.machine.well_formed (address p) u holds, (at.stands.machine.well_formed.used u owns.0).bytes)
@@ -88,39 +93,49 @@ module _ {S : Type 0} {fllen sllen : ℕ} {terms : S → Terms} {owes : S → Li
 
   module _ {leads : S → Note → S → Type 0} where
     -- an op that changes nothing
-    pub LeadsOn-nothing : (op : Op) (answer : Answer) → IsDoneBy op answer [] → DoesFlex fllen sllen (terms v.source) (run_of v table) op answer [] (run_of v table) → LeadsOn fllen sllen terms owes leads v table op answer v table
-    LeadsOn-nothing op answer is_done does = record { notes = []; does = does; makes = no_call is_done refl refl; leads_by = refl; outside = KeepsOutside-refl v.memory v.state.pools; at = at }
+    pub LeadsOn-nothing : (op : Op) (answer : Answer) → IsDoneBy op answer [] → DoesFlex fllen sllen (terms v.source) (run_of v table) op answer [] (run_of v table)
+        → LeadsOn fllen sllen terms owes leads v table op answer v table
+    LeadsOn-nothing op answer is_done does =
+        record { notes = []; does = does; makes = no_call is_done refl refl; leads_by = refl; outside = KeepsOutside-refl v.memory v.state.pools; at = at }
 
     -- an op on a range is refused
     pub not_on_ranges : (op : Op) → ((r : Range) × (op ≡ Insert r)) ⊎ (((r : Range) × (op ≡ Append r)) ⊎ ((r : Range) × (index : ℕ) × (op ≡ OpBlock r index)))
         → LeadsOn fllen sllen terms owes leads v table op (Refused NotForFlex) v table
-    not_on_ranges op (inl (r, is)) = subst (λ o. LeadsOn fllen sllen terms owes leads v table o (Refused NotForFlex) v table) (sym is) (LeadsOn-nothing (Insert r) (Refused NotForFlex) refl (refl, refl, refl))
-    not_on_ranges op (inr (inl (r, is))) = subst (λ o. LeadsOn fllen sllen terms owes leads v table o (Refused NotForFlex) v table) (sym is) (LeadsOn-nothing (Append r) (Refused NotForFlex) refl (refl, refl, refl))
+    not_on_ranges op (inl (r, is)) =
+        subst (λ o. LeadsOn fllen sllen terms owes leads v table o (Refused NotForFlex) v table) (sym is) (LeadsOn-nothing (Insert r) (Refused NotForFlex) refl (refl, refl, refl))
+    not_on_ranges op (inr (inl (r, is))) =
+        subst (λ o. LeadsOn fllen sllen terms owes leads v table o (Refused NotForFlex) v table) (sym is) (LeadsOn-nothing (Append r) (Refused NotForFlex) refl (refl, refl, refl))
     not_on_ranges op (inr (inr (r, index, is))) =
-        subst (λ o. LeadsOn fllen sllen terms owes leads v table o (Refused NotForFlex) v table) (sym is) (LeadsOn-nothing (OpBlock r index) (Refused NotForFlex) refl (refl, refl, refl))
+        subst (λ o. LeadsOn fllen sllen terms owes leads v table o (Refused NotForFlex) v table) (sym is)
+        (LeadsOn-nothing (OpBlock r index) (Refused NotForFlex) refl (refl, refl, refl))
 
     -- an op that changes nothing, where a name that was free was made free
     pub not_freed : {new : NameTable} (op : Op) (answer : Answer) (name : ℕ) → get nat_eq table name ≡ None → IsSetAt name None table new → IsDoneBy op answer []
         → DoesFlex fllen sllen (terms v.source) (run_of v table) op answer [] (run_of v table) → LeadsOn fllen sllen terms owes leads v table op answer v new
     not_freed op answer name none taken is_done does =
-        LeadsOn-named op answer [] (named_in table) does (no_call is_done refl refl) refl (KeepsOutside-refl v.memory v.state.pools) at.stands (AreNamed-untaken at.are_named name none taken)
+        LeadsOn-named op answer [] (named_in table) does (no_call is_done refl refl) refl (KeepsOutside-refl v.memory v.state.pools) at.stands
+        (AreNamed-untaken at.are_named name none taken)
 
     module _ {w : FlexContents S} (source : w.source ≡ v.source) (place : SamePlace v.memory w.memory) where
       -- an op that leads by a step that asks the source nothing to names whose payloads the new table has
       LeadsOn-alone : {new : NameTable} (step : State → Type 0) (op : Op) (answer : Answer) (named : ℕ → Option ℕ) → StepsAlone fllen sllen terms owes v w step
-          → (step w.state.machine → w.state ≡ with_machine v.state w.state.machine → DoesFlex fllen sllen (terms v.source) (run_of v table) op answer [] (record { flex = with_machine v.state w.state.machine; named = named })
+          → (step w.state.machine → w.state ≡ with_machine v.state w.state.machine
+          → DoesFlex fllen sllen (terms v.source) (run_of v table) op answer [] (record { flex = with_machine v.state w.state.machine; named = named })
           × MakesFlex fllen sllen (range_of v.memory) (terms v.source) v.state op answer [] w.state × AreNamed w.state.machine new named)
           → LeadsOn fllen sllen terms owes leads v table op answer w new
       unfolding StepsAlone
       LeadsOn-alone step op answer named (is, same, stands, spare) leads_to =
           let (does, makes, are) = leads_to is same in
-          LeadsOn-named op answer [] named (subst (λ f. DoesFlex fllen sllen (terms v.source) (run_of v table) op answer [] (record { flex = f; named = named })) (sym same) does) makes source
+          LeadsOn-named op answer [] named (subst (λ f. DoesFlex fllen sllen (terms v.source) (run_of v table) op answer [] (record { flex = f; named = named })) (sym same) does)
+          makes source
           (KeepsOutside-alone at.stands stands same place spare) stands are
 
-      -- the payload of a name was given back
+      -- the payload of a name was deallocated
       pub freed : {new : NameTable} (op : Op) (name : ℕ) (p : Payload) → get nat_eq table name ≡ Some p → IsDoneBy op Done (deallocate (address p) ∷ [])
-          → ((r : RunState) → Frees (without_source (run_of v table)) name r → DoesFlex fllen sllen (terms v.source) (run_of v table) op Done [] (with_run (run_of v table) r))
-          → StepsAlone fllen sllen terms owes v w (Deallocates v.state.machine (address p)) → IsSetAt name None table new → LeadsOn fllen sllen terms owes leads v table op Done w new
+          → ((r : RunState) → Frees (without_source (run_of v table)) name r
+          → DoesFlex fllen sllen (terms v.source) (run_of v table) op Done [] (with_run (run_of v table) r))
+          → StepsAlone fllen sllen terms owes v w (Deallocates v.state.machine (address p)) → IsSetAt name None table new
+          → LeadsOn fllen sllen terms owes leads v table op Done w new
       freed op name p there is_done does alone taken =
           let (u, owns, holds, _, _) = owned name p there in
           LeadsOn-alone (Deallocates v.state.machine (address p)) op Done (without_name name (named_in table)) alone (λ step same. (
@@ -140,7 +155,14 @@ module _ {S : Type 0} {fllen sllen : ℕ} {terms : S → Terms} {owes : S → Li
             (
               refl,
               with_state (without_source (run_of v table)) w.state.machine,
-              (u, owns, subst (IsLayout size) (sym its) valid, w.state.machine, subst (λ a. ReallocatesWithoutMove v.state.machine a size said w.state.machine) (sym holds.1) step, refl),
+              (
+                u,
+                owns,
+                subst (IsLayout size) (sym its) valid,
+                w.state.machine,
+                subst (λ a. ReallocatesWithoutMove v.state.machine a size said w.state.machine) (sym holds.1) step,
+                refl,
+              ),
               refl,
               refl,
             ),
@@ -151,7 +173,8 @@ module _ {S : Type 0} {fllen sllen : ℕ} {terms : S → Terms} {owes : S → Li
 
       -- the bytes of a payload were written
       pub filled : (op : Op) (addr : ℕ) (bytes : List ℕ) → IsDoneBy op Done (fill addr bytes ∷ [])
-          → ((m : State) → Fills v.state.machine addr bytes m → DoesFlex fllen sllen (terms v.source) (run_of v table) op Done [] (with_run (run_of v table) (with_state (without_source (run_of v table)) m)))
+          → ((m : State) → Fills v.state.machine addr bytes m
+          → DoesFlex fllen sllen (terms v.source) (run_of v table) op Done [] (with_run (run_of v table) (with_state (without_source (run_of v table)) m)))
           → StepsAlone fllen sllen terms owes v w (Fills v.state.machine addr bytes) → LeadsOn fllen sllen terms owes leads v table op Done w table
       filled op addr bytes is_done does alone = LeadsOn-alone (Fills v.state.machine addr bytes) op Done (named_in table) alone (λ step same. (
         does w.state.machine step,

@@ -1,4 +1,4 @@
--- FlexRuns: what the ops of a trace do to the list machine that asks a source for memory, and what they answer.
+-- FlexRuns: what the ops of a trace do to the reference model over a source, and their answers.
 use Rattle.std.specs.Prelude.{◌≡◌, ℕ, ◌++◌, Bool, true, false, List, [], ◌∷◌, Option, None}
 use Rattle.rlsf_base.specs.Addr.{reply}
 use Rattle.rlsf_base.specs.Layout.{IsLayout}
@@ -16,7 +16,7 @@ use Rattle.rlsf_trace_text.specs.declared.op.Answer.{Answer}
 use Rattle.rlsf_trace_text.specs.declared.op.Answer.TheVariants.{Placed, Trimmed, Refused}
 use Rattle.rlsf_trace_text.specs.declared.op.TraceError.TheVariants.{NotForFlex, NotForTlsf}
 
--- what a run over a source has come to: the state of the machine that asks the source, and the address of each live payload by its name
+-- the state of a run over a source: the model's state over the source, and the address of each live payload by its name
 pub record FlexRunState : Type 0 where
   pub flex : FlexState
   pub named : ℕ → Option ℕ
@@ -25,11 +25,11 @@ pub record FlexRunState : Type 0 where
 abbrev pub beginning : FlexRunState
 beginning = record { flex = empty; named = λ name. None }
 
--- the run, as one of the machine without a source: its pools are the ranges that are outstanding
+-- the run as one without a source: its pools are the outstanding ranges
 abbrev pub without_source : FlexRunState → RunState
 without_source s = record { machine = s.flex.machine; named = s.named; pools = s.flex.pools }
 
--- with what an op that asks nothing left of the machine's state and of the names
+-- with the model's state and the names that an op without a question left
 abbrev pub with_run : FlexRunState → RunState → FlexRunState
 with_run s r = record { flex = with_machine s.flex r.machine; named = r.named }
 
@@ -40,9 +40,8 @@ is_on_range (Append r) = true
 is_on_range (OpBlock r index) = true
 is_on_range op = false
 
--- An op, its answer, and what the source was asked for it with what it answered. An op on a range is refused; an allocation, a
--- reallocation and a trim are those of the machine that asks a source, and no trim is refused; every other op is what it is without
--- a source, and asks nothing.
+-- An op, its answer, and its notes. An op on a range is refused. An allocation, a reallocation and a trim are those of the model
+-- over a source, and no trim is refused. Every other op is what it is without a source, and asks nothing.
 abbrev pub DoesFlex : ℕ → ℕ → Terms → FlexRunState → Op → Answer → List Note → FlexRunState → Type 0
 DoesFlex fllen sllen terms s op (Refused NotForFlex) notes t = (is_on_range op ≡ true) × (notes ≡ []) × (t ≡ s)
 DoesFlex fllen sllen terms s op (Refused NotForTlsf) notes t = ⊥

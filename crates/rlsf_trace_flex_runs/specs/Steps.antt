@@ -1,2 +1,2 @@
--- What the functions of a run say to each other: no public contract cites these.
+-- The definitions of private functions: no public contract cites these.
 pub mod Names

@@ -1,4 +1,4 @@
--- What a whole run of ops leaves of the allocator over a source that it began with.
+-- What a complete run of ops leaves of its allocator over a source.
 use Rattle.std.specs.Prelude.{◌≡◌, ℕ, List, []}
 use Rattle.rlsf_base.specs.Space.{range_of}
 use Rattle.rlsf_flex.specs.Outside.{KeepsOutside}
@@ -11,10 +11,11 @@ use Rattle.rlsf_machine.specs.Terms.{Terms}
 use Rattle.rlsf_trace_text.specs.declared.op.Op.{Op}
 use Rattle.rlsf_trace_text.specs.declared.op.Answer.{Answer}
 
--- From no chunk, no range and no name the ops lead, with these answers and with notes that lead the source on, to the state in the
--- allocator after them, which a run of the machine's calls with the same notes reaches. Bytes outside of all ranges that the source
--- ever gave are as they were.
-abbrev pub RunsFlexTo : {S : Type 0} → ℕ → ℕ → (S → Terms) → (S → Note → S → Type 0) → FlexContents S → List Op → List Answer → FlexContents S → Type 0
+-- From no chunk, no range and no name, the ops with these answers and notes lead to the state in the allocator after them. The
+-- notes lead the source on. A run of the model's calls with these notes reaches that state, too. Bytes outside of all ranges that
+-- the source ever provided are unchanged.
+abbrev pub RunsFlexTo : {S : Type 0} → ℕ → ℕ → (S → Terms) → (S → Note → S → Type 0) → FlexContents S → List Op → List Answer → FlexContents S
+    → Type 0
 RunsFlexTo fllen sllen terms leads before ops answers after =
     (notes : List Note) × (t : FlexRunState)
     × RunsFlex fllen sllen (terms before.source) beginning ops answers notes t × LeadsBy leads before.source notes after.source

@@ -48,7 +48,8 @@ pub(crate) fn alloc<
     Answer::Placed(placed)
 }
 
-/// Gives the payload of a name back, and tells its alignment or doesn't, unless no live one has it. The name is free again.
+/// Deallocates the payload of a name, with its alignment or without. Refused if no live payload has the name. The name is free
+/// again.
 pub(crate) fn free<
     S: FlexSource,
     FLBitmap: BitPattern,
@@ -110,8 +111,8 @@ pub(crate) fn realloc<
     Answer::Placed(placed)
 }
 
-/// Gives the payload of a name another size where it stands, unless no live one has it or no layout has that size with its
-/// alignment. Where the bytes there don't suffice, it stays as it is. The name keeps its payload in each case.
+/// Resizes the payload of a name in place. Refused if no live payload has the name, or if no layout has that size with its
+/// alignment. If there is no room, the payload is unchanged. The name keeps its payload in each case.
 pub(crate) fn realloc_no_move<
     S: FlexSource,
     FLBitmap: BitPattern,
@@ -159,7 +160,8 @@ pub(crate) fn fill<
     Answer::Done
 }
 
-/// Sets the byte at an offset of the payload of a name, unless no live one has it or the offset isn't below its usable size.
+/// Sets the byte at an offset of the payload of a name. Refused if no live payload has the name, or if the offset isn't below its
+/// usable size.
 pub(crate) fn put<
     S: FlexSource,
     FLBitmap: BitPattern,
@@ -186,7 +188,8 @@ pub(crate) fn put<
     Answer::Done
 }
 
-/// Reads the byte at an offset of the payload of a name, unless no live one has it or the offset isn't below its usable size.
+/// Reads the byte at an offset of the payload of a name. Refused if no live payload has the name, or if the offset isn't below its
+/// usable size.
 pub(crate) fn get<
     S: FlexSource,
     FLBitmap: BitPattern,

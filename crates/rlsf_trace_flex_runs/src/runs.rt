@@ -16,7 +16,7 @@ use rlsf_trace_text::{Answer, Op, TraceError};
 use std::alloc::Global;
 use std::collections::HashMap;
 
-/// Does one op, and answers it.
+/// Does one op and returns its answer.
 fn step<
     S: FlexSource,
     FLBitmap: BitPattern,
@@ -51,11 +51,11 @@ fn step<
 /// Does the ops, one after another, with an allocator over a source at which nothing is outstanding yet. One answer an op
 /// follows those already there. `Insert`, `Append` and `Block` are refused as `NotForFlex`.
 ///
-/// The memory stays in place, its bytes outside of the ranges that the source gave stay, and the source is asked what the machine
-/// asks it, and nothing else.
+/// The memory stays in place, and its bytes outside of the source's ranges are unchanged. The source is asked what the model asks
+/// it, and nothing else.
 ///
-/// `OutOfMemory` comes where the system refuses memory for the answers or for the run's own table; no clause says that it
-/// comes only then. No op was done then, nothing was asked, and the answers are as before.
+/// The error is `OutOfMemory` if there is no memory for the answers or the run's own table. No clause says that it has no other
+/// cause. Then no op was done, nothing was asked, and the answers are unchanged.
 pub fn run_flex<
     S: FlexSource,
     FLBitmap: BitPattern,
@@ -74,7 +74,7 @@ pub fn run_flex<
     ensures refused { OnErr result ((answers.new.items ≡ answers.old.items) × (flex.new ≡ flex.old)) }
     ensures place { SamePlace flex.old.memory flex.new.memory }
 {
-    // What `memory_ref` says of every allocator: its parts stand for its state.
+    // What `memory_ref` says of every allocator: its parts represent its state.
     let _ = flex.memory_ref();
     answers.try_reserve(ops.len())?;
     let mut names = HashMap::with_capacity(alloc, ops.len())?;

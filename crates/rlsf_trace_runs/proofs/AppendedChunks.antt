@@ -25,8 +25,10 @@ IsLonger-extended : (s : State) (r : Range) (n : ℕ) → n ≤ r.len → IsLong
 IsLonger-extended s r n fits = record { within = fits; coverage = coverage-extended r.start n s }
 
 -- chunks of their own follow the one that ends where the range begins
-IsLonger-with_chunks : (s : State) (r : Range) (cs : List Range) → round32 r.start ≡ r.start → ((d : Range) → IsIn d cs → 64 ≤ d.len) → ((a : ℕ) → coverage itself cs a ≤ covers (aligned_part r) a)
-    → ((a : ℕ) → coverage itself cs a ≤ covers (range_at (round32 r.start) (end_of_last (round32 r.start) cs - round32 r.start)) a) → IsLonger s r (end_of_last r.start cs - r.start) (with_chunks cs s)
+IsLonger-with_chunks : (s : State) (r : Range) (cs : List Range) → round32 r.start ≡ r.start → ((d : Range) → IsIn d cs → 64 ≤ d.len)
+    → ((a : ℕ) → coverage itself cs a ≤ covers (aligned_part r) a)
+    → ((a : ℕ) → coverage itself cs a ≤ covers (range_at (round32 r.start) (end_of_last (round32 r.start) cs - round32 r.start)) a)
+    → IsLonger s r (end_of_last r.start cs - r.start) (with_chunks cs s)
 IsLonger-with_chunks s r [] whole room within covered = record {
   within = omega arith;
   coverage = λ a. omega arith;
@@ -34,7 +36,8 @@ IsLonger-with_chunks s r [] whole room within covered = record {
 IsLonger-with_chunks s r (c ∷ cs) whole room within covered =
     let n = end_of_last (end_of c) cs - r.start in
     let (some, fits) = bounds_of_chunks r (c ∷ cs) n refl room within in
-    let here : (a : ℕ) → coverage itself (c ∷ cs) a ≤ covers (range_at r.start n) a = subst (λ at. (a : ℕ) → coverage itself (c ∷ cs) a ≤ covers (range_at at (end_of_last (end_of c) cs - at)) a) whole covered in
+    let here : (a : ℕ) → coverage itself (c ∷ cs) a ≤ covers (range_at r.start n) a =
+    subst (λ at. (a : ℕ) → coverage itself (c ∷ cs) a ≤ covers (range_at at (end_of_last (end_of c) cs - at)) a) whole covered in
     record {
       within = omega (arith, fits);
       coverage = λ a. omega (arith, coverage-with_chunks (c ∷ cs) s a, here a);
@@ -51,9 +54,10 @@ module _ {fllen sllen : ℕ} {memory : Range} {s : State} (w : IsWellFormed flle
   IsLonger-by None new = IsLonger-extended s r (r.len / 32 * 32) (omega arith)
   IsLonger-by (Some most) new =
       let cs = cut (Some most) (aligned_part r) in
-      IsLonger-with_chunks s r cs begins_whole (λ d i. (new.chunks d (IsIn-with_chunks cs s d i)).has_room) (coverage-cut (aligned_part r) (IsWhole-aligned_part r) (Some most)) (coverage-cut_last (Some most) (aligned_part r))
+      IsLonger-with_chunks s r cs begins_whole (λ d i. (new.chunks d (IsIn-with_chunks cs s d i)).has_room) (coverage-cut (aligned_part r) (IsWhole-aligned_part r) (Some most))
+      (coverage-cut_last (Some most) (aligned_part r))
 
-  -- an append gives the pool that ends where the range begins so many bytes more
+  -- an append makes the pool that ends where the range begins so many bytes longer
   pub IsLonger-appended : {there : Range} (reply : ℕ) (t : State) → Appends fllen s r reply t → IsWellFormed fllen sllen there t → IsLonger s r reply t
   IsLonger-appended {there} reply t step new =
       subst (λ n. IsLonger s r n t) (sym step.answer) (subst (IsLonger s r (appended_bytes (max_pool_size fllen) r)) (sym step.after)

@@ -1,5 +1,6 @@
 -- Pools of which one gets longer: where they are, and their order.
-use Rattle.std.proofs.Common.{◌≡◌, ℕ, ◌+◌, ◌-◌, ◌<◌, ◌≤◌, ◌≢◌, ◌⊎◌, List, [], ◌∷◌, length, map, slice_index_or, slice_set, cond, arith, refl, inl, inr, sym, ◌∙◌, ap, subst}
+use Rattle.std.proofs.Common.{◌≡◌, ℕ, ◌+◌, ◌-◌, ◌<◌, ◌≤◌, ◌≢◌, ◌⊎◌, List, [], ◌∷◌, length, map, slice_index_or, slice_set, cond, arith}
+use Rattle.std.proofs.Common.{refl, inl, inr, sym, ◌∙◌, ap, subst}
 use Rattle.std.proofs.lemmas.Bool.{cases_eq, cases_lt}
 use Rattle.std.proofs.lemmas.Bool.Decides.{eqb_tells}
 use Rattle.std.proofs.lemmas.List.{ext_get_or, get_or-map, get_or-set_same, get_or-set_other, get_or_default, length-map, length-set}
@@ -16,14 +17,16 @@ use Rattle.rlsf_trace_runs.proofs.SamePools.{IsIn-each}
 use Rattle.rlsf_trace_runs.proofs.Overlapping.{IsIn-at, no_range, nth_range}
 
 -- a pool that ends at the address is longer, and any other is as it was
-pub is_lengthened : (addr more : ℕ) (p : Range) → ((end_of p ≡ addr) × (longer_pool_at addr more p ≡ longer_pool more p)) ⊎ ((end_of p ≢ addr) × (longer_pool_at addr more p ≡ p))
+pub is_lengthened : (addr more : ℕ) (p : Range)
+    → ((end_of p ≡ addr) × (longer_pool_at addr more p ≡ longer_pool more p)) ⊎ ((end_of p ≢ addr) × (longer_pool_at addr more p ≡ p))
 is_lengthened addr more p = elim (eqb_tells (end_of p) addr) [
   | inl (is_true, same) ↦ inl (same, ap (λ b. cond b (longer_pool more p) p) is_true)
   | inr (is_false, differ) ↦ inr (differ, ap (λ b. cond b (longer_pool more p) p) is_false)
 ]
 
 -- each pool of the new list is one of the old ones, lengthened if it ends there
-pub IsIn-longer_pool : (addr more : ℕ) (p : Range) (xs : List Range) → IsIn p (map (longer_pool_at addr more) xs) → (q : Range) × IsIn q xs × (p ≡ longer_pool_at addr more q)
+pub IsIn-longer_pool : (addr more : ℕ) (p : Range) (xs : List Range) → IsIn p (map (longer_pool_at addr more) xs)
+    → (q : Range) × IsIn q xs × (p ≡ longer_pool_at addr more q)
 IsIn-longer_pool addr more p [] there = absurd there
 IsIn-longer_pool addr more p (x ∷ xs) (inl is) = (x, inl refl, is)
 IsIn-longer_pool addr more p (x ∷ xs) (inr there) = let (q, i, is) = IsIn-longer_pool addr more p xs there in (q, inr i, is)
@@ -44,7 +47,8 @@ coverage-longer_pool-le addr more [] a = omega arith
 coverage-longer_pool-le addr more (x ∷ xs) a = omega (arith, covers-longer_pool_at addr more x a, coverage-longer_pool-le addr more xs a)
 
 -- and so has a list of pools one of which gets longer
-pub coverage-longer_pool : (addr more : ℕ) (p : Range) (xs : List Range) (a : ℕ) → IsIn p xs → end_of p ≡ addr → covers (range_at addr more) a + coverage itself xs a ≤ coverage itself (map (longer_pool_at addr more) xs) a
+pub coverage-longer_pool : (addr more : ℕ) (p : Range) (xs : List Range) (a : ℕ) → IsIn p xs → end_of p ≡ addr
+    → covers (range_at addr more) a + coverage itself xs a ≤ coverage itself (map (longer_pool_at addr more) xs) a
 coverage-longer_pool addr more p [] a there ends = absurd there
 coverage-longer_pool addr more p (x ∷ xs) a (inl is) ends = elim (is_lengthened addr more x) [
   | inl (same, longer) ↦ omega (arith, ap (λ q. covers q a) longer, covers-longer_pool addr more x a same, coverage-longer_pool-le addr more xs a)
@@ -97,12 +101,14 @@ module _ {xs : List Range} (o : IsInOrder xs) where
           let long = length-set xs i new in
           let there : k < length xs = omega arith in
           elim (cases_eq k i) [
-            | inl same ↦ subst (λ n. slice_index_or (slice_set xs i new) n no_range ≡ slice_index_or (map f xs) n no_range) (sym same) (get_or-set_same xs i new no_range below ∙ sym its_own)
+            | inl same ↦ subst (λ n. slice_index_or (slice_set xs i new) n no_range ≡ slice_index_or (map f xs) n no_range) (sym same)
+                (get_or-set_same xs i new no_range below ∙ sym its_own)
             | inr other ↦ get_or-set_other xs i k new no_range other ∙ sym (get_or-map f xs k no_range no_range there ∙ left k there other)
           ]
 
   -- no pool ends at an address if the last one that begins before it doesn't
-  pub none_ends : (addr i : ℕ) → i ≤ length xs → IsPartitionPoint (λ p. p.start < addr) (λ p. addr ≤ p.start) xs i → ((j : ℕ) → i ≡ j + 1 → end_of (nth_range xs j) ≢ addr)
+  pub none_ends : (addr i : ℕ) → i ≤ length xs → IsPartitionPoint (λ p. p.start < addr) (λ p. addr ≤ p.start) xs i
+      → ((j : ℕ) → i ≡ j + 1 → end_of (nth_range xs j) ≢ addr)
       → (p : Range) → IsIn p xs → end_of p ≢ addr
   none_ends addr i fits point last p there = IsIn-each (λ q. end_of q ≢ addr) p xs (λ k d below same. elim (cases_lt k i) [
     | inr upper ↦ absurd (omega (arith, point.1 k d upper below, o.some k d below, same))
@@ -149,7 +155,8 @@ module _ {xs : List Range} (o : IsInOrder xs) where
     IsInOrder-longer_pool =
         let f = longer_pool_at addr more in
         record {
-          some = λ k d below. let there : k < length xs = omega (arith, length-map xs f) in subst (λ p. p.start < end_of p) (sym (get_or-map f xs k no_range d there)) (some_each k there);
+          some = λ k d below. let there : k < length xs = omega (arith, length-map xs f) in
+              subst (λ p. p.start < end_of p) (sym (get_or-map f xs k no_range d there)) (some_each k there);
           apart = λ j k d lower below.
               let there : k < length xs = omega (arith, length-map xs f) in
               omega (arith, ap end_of (get_or-map f xs j no_range d (omega arith)), ap (λ p. p.start) (get_or-map f xs k no_range d there), apart_two j k lower there);

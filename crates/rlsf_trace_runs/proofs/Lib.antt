@@ -1,3 +1,4 @@
+-- Lemmas about runs: payloads by their names, pools, and calls of the reference model. `Underway` has the run so far.
 pub mod AppendedChunks
 pub mod Events
 pub mod Lengthened

@@ -1,5 +1,6 @@
--- The live payloads of a run by their names, and what a step of the machine leaves of them.
-use Rattle.std.proofs.Common.{◌≡◌, ◌≢◌, ◌⊎◌, ℕ, nat_eq, cond, Bool, true, false, not, Option, Some, None, List, [], ◌∷◌, inl, inr, refl, sym, ◌∙◌, ap, subst}
+-- The live payloads of a run by their names, and which of them a step of the reference model keeps.
+use Rattle.std.proofs.Common.{◌≡◌, ◌≢◌, ◌⊎◌, ℕ, nat_eq, cond, Bool, true, false, not, Option, Some, None, List, [], ◌∷◌, inl, inr, refl, sym, ◌∙◌}
+use Rattle.std.proofs.Common.{ap, subst}
 use Rattle.std.proofs.lemmas.Bool.{cases_eq, ne_eqb}
 use Rattle.std.proofs.lemmas.Bool.Decides.{eqb_tells}
 use Rattle.std.specs.HashMap.{get}
@@ -37,7 +38,8 @@ payload_with None a e = absurd (cc)
 payload_with (Some p) a e = let is : address p ≡ a = cc in (p, refl, is)
 
 -- what is live stays live over a fill
-IsLive-filled : (fllen sllen : ℕ) (memory : Range) (s t : State) (at : ℕ) (bytes : List ℕ) (addr align : ℕ) → IsWellFormed fllen sllen memory s → Fills s at bytes t → IsLive s addr align → IsLive t addr align
+IsLive-filled : (fllen sllen : ℕ) (memory : Range) (s t : State) (at : ℕ) (bytes : List ℕ) (addr align : ℕ) → IsWellFormed fllen sllen memory s → Fills s at bytes t
+    → IsLive s addr align → IsLive t addr align
 IsLive-filled fllen sllen memory s t at bytes addr align whole step live = elim (cases_eq at addr) [
   | inl same ↦ subst (λ a. IsLive t a align) same ((filled_has_bytes fllen sllen memory s t at align bytes whole (subst (λ a. IsLive s a align) (sym same) live) step).0)
   | inr other ↦ live_stays fllen sllen s t (fill at bytes) addr align step live other
@@ -64,7 +66,8 @@ module _ {s : State} {table : NameTable} {named : ℕ → Option ℕ} (are : Are
   its_name name p is = sym (are.names name) ∙ ap (option_map address) is
 
   -- a payload of the table has a block of its alignment, which its name owns
-  pub owned_live : (name : ℕ) (p : Payload) → get nat_eq table name ≡ Some p → (u : Used) × (IsIn u s.used × (named name ≡ Some u.payload)) × Holds s (address p) u × (u.align ≡ p.align)
+  pub owned_live : (name : ℕ) (p : Payload) → get nat_eq table name ≡ Some p
+      → (u : Used) × (IsIn u s.used × (named name ≡ Some u.payload)) × Holds s (address p) u × (u.align ≡ p.align)
   owned_live name p is = let (u, (i, at), align) = are.live name p is in (u, (i, its_name name p is ∙ ap Some (sym at)), (i, at), align)
 
   -- a name that the table doesn't have is free
@@ -91,7 +94,8 @@ module _ {s : State} {table : NameTable} {named : ℕ → Option ℕ} (are : Are
   AreNamed-kept t keeps = record { names = are.names; live = λ name p is. keeps (address p) p.align (are.live name p is); one_name = are.one_name }
 
   -- after a fill
-  pub AreNamed-filled : (fllen sllen : ℕ) (memory : Range) (t : State) (addr : ℕ) (bytes : List ℕ) → IsWellFormed fllen sllen memory s → Fills s addr bytes t → AreNamed t table named
+  pub AreNamed-filled : (fllen sllen : ℕ) (memory : Range) (t : State) (addr : ℕ) (bytes : List ℕ) → IsWellFormed fllen sllen memory s → Fills s addr bytes t
+      → AreNamed t table named
   AreNamed-filled fllen sllen memory t addr bytes whole step = AreNamed-kept t (λ a align. IsLive-filled fllen sllen memory s t addr bytes a align whole step)
 
   -- where one name has another payload or none, and no other name has its address
@@ -112,7 +116,8 @@ module _ {s : State} {table : NameTable} {named : ℕ → Option ℕ} (are : Are
       chosen true other = refl
       chosen false other = are.names other
 
-      one_name : (n other addr : ℕ) → cond (nat_eq name n) (option_map address o) (named n) ≡ Some addr → cond (nat_eq name other) (option_map address o) (named other) ≡ Some addr → n ≡ other
+      one_name : (n other addr : ℕ) → cond (nat_eq name n) (option_map address o) (named n) ≡ Some addr
+          → cond (nat_eq name other) (option_map address o) (named other) ≡ Some addr → n ≡ other
       one_name n other addr first second = elim (by_name name n (option_map address o) (named n)) [
         | inl (same, its) ↦ elim (by_name name other (option_map address o) (named other)) [
           | inl (same_other, _) ↦ sym same ∙ same_other
@@ -125,7 +130,8 @@ module _ {s : State} {table : NameTable} {named : ℕ → Option ℕ} (are : Are
       ]
 
   -- after a deallocation of a name's payload
-  pub AreNamed-freed : (t : State) {new : NameTable} (name addr : ℕ) → named name ≡ Some addr → Deallocates s addr t → IsSetAt name None table new → AreNamed t new (without_name name named)
+  pub AreNamed-freed : (t : State) {new : NameTable} (name addr : ℕ) → named name ≡ Some addr → Deallocates s addr t → IsSetAt name None table new
+      → AreNamed t new (without_name name named)
   AreNamed-freed t name addr its step taken = AreNamed-set t name None (λ p is. absurd (cc))
       (λ other q differ there. live_stays 0 0 s t (deallocate addr) (address q) q.align step (are.live other q there)
       (λ same. differ (are.one_name name other (address q) (its ∙ ap Some same) (its_name other q there))))
@@ -133,7 +139,8 @@ module _ {s : State} {table : NameTable} {named : ℕ → Option ℕ} (are : Are
 
   -- where a payload was placed and named
   AreNamed-placed : (t : State) {new : NameTable} (name addr : ℕ) (p : Payload) → address p ≡ addr → IsLive t addr p.align
-      → ((other : ℕ) (q : Payload) → name ≢ other → get nat_eq table other ≡ Some q → IsLive t (address q) q.align × (address q ≢ addr)) → IsSetAt name (Some p) table new
+      → ((other : ℕ) (q : Payload) → name ≢ other → get nat_eq table other ≡ Some q → IsLive t (address q) q.align × (address q ≢ addr))
+      → IsSetAt name (Some p) table new
       → AreNamed t new (with_name name (Some addr) named)
   AreNamed-placed t {new} name addr p p_addr lives others_live added = subst (λ a. AreNamed t new (with_name name (Some a) named)) p_addr (AreNamed-set t name (Some p)
       (λ q is. let same : p ≡ q = cc in subst (λ x. IsLive t (address x) x.align) same (subst (λ a. IsLive t a p.align) (sym p_addr) lives))
@@ -144,7 +151,8 @@ module _ {s : State} {table : NameTable} {named : ℕ → Option ℕ} (are : Are
 
   -- after an allocation to a well-formed state
   pub AreNamed-allocated : (fllen sllen : ℕ) (memory : Range) (t : State) {new : NameTable} (name size align addr : ℕ) (p : Payload) → IsWellFormed fllen sllen memory t
-      → Allocates sllen s size align (Some addr) t → address p ≡ addr → p.align ≡ align → IsSetAt name (Some p) table new → AreNamed t new (with_name name (Some addr) named)
+      → Allocates sllen s size align (Some addr) t → address p ≡ addr → p.align ≡ align → IsSetAt name (Some p) table new
+      → AreNamed t new (with_name name (Some addr) named)
   AreNamed-allocated fllen sllen memory t name size align addr p whole step p_addr p_align = AreNamed-placed t name addr p p_addr
       (v, (subst (IsIn v) (sym used) (inl refl), sym step.answer), sym p_align)
       (λ other q _ there. (
@@ -173,13 +181,16 @@ module _ {s : State} {table : NameTable} {named : ℕ → Option ℕ} (are : Are
 
   -- after a name's payload moved to another address, to a well-formed state
   pub AreNamed-moved : (fllen sllen : ℕ) (memory : Range) (t : State) {new : NameTable} (name size to : ℕ) (u : Used) (p : Payload) → IsWellFormed fllen sllen memory t
-      → IsIn u s.used → named name ≡ Some u.payload → MovesAway sllen s u size to t → to ≢ u.payload → address p ≡ to → p.align ≡ u.align → IsSetAt name (Some p) table new
+      → IsIn u s.used → named name ≡ Some u.payload → MovesAway sllen s u size to t → to ≢ u.payload → address p ≡ to → p.align ≡ u.align
+      → IsSetAt name (Some p) table new
       → AreNamed t new (with_name name (Some to) named)
   AreNamed-moved fllen sllen memory t name size to u p whole i its step apart p_addr p_align = AreNamed-placed t name to p p_addr
       (v, (subst (IsIn v) (sym used) (inl refl), sym step.allocated.answer), sym p_align)
       (λ other q differ there.
       let (x, (j, x_at), x_align) = are.live other q there in
-      let left = IsIn-others_from gone.block.payload x s.used j (λ at. differ (are.one_name name other (address q) (its ∙ ap Some (sym gone.holds.1 ∙ sym at ∙ x_at)) (its_name other q there))) in (
+      let left =
+      IsIn-others_from gone.block.payload x s.used j
+      (λ at. differ (are.one_name name other (address q) (its ∙ ap Some (sym gone.holds.1 ∙ sym at ∙ x_at)) (its_name other q there))) in (
         (x, (subst (IsIn x) (sym used) (inr left), x_at), x_align),
         λ at. first_alone whole v x (others gone.block.payload s.used) used left (x_at ∙ at ∙ step.allocated.answer),
       ))
@@ -193,4 +204,5 @@ module _ {s : State} {table : NameTable} {named : ℕ → Option ℕ} (are : Are
       used : t.used ≡ v ∷ others gone.block.payload s.used
       used =
           ap (λ x. x.used) gone.after ∙ ap (λ x. others gone.block.payload x.used) step.allocated.after
-          ∙ ap (λ b. cond (not b) (v ∷ others gone.block.payload s.used) (others gone.block.payload s.used)) (ne_eqb v.payload gone.block.payload (λ at. apart (step.allocated.answer ∙ at ∙ gone.holds.1)))
+          ∙ ap (λ b. cond (not b) (v ∷ others gone.block.payload s.used) (others gone.block.payload s.used))
+          (ne_eqb v.payload gone.block.payload (λ at. apart (step.allocated.answer ∙ at ∙ gone.holds.1)))

@@ -1,5 +1,6 @@
 -- What an op on a named payload leaves of the run's tables.
-use Rattle.std.proofs.Common.{◌≡◌, ℕ, ◌+◌, ◌≤◌, nat_eq, true, false, true≢false, Option, Some, None, IsSome, List, length, refl, sym, ◌∙◌, ap, subst, arith}
+use Rattle.std.proofs.Common.{◌≡◌, ℕ, ◌+◌, ◌≤◌, nat_eq, true, false, true≢false, Option, Some, None, IsSome, List, length, refl, sym, ◌∙◌, ap, subst}
+use Rattle.std.proofs.Common.{arith}
 use Rattle.std.specs.HashMap.{get}
 use Rattle.std.specs.Prelude.{IsPermutation}
 use Rattle.std.specs.Option.{is_some, option_map}
@@ -39,13 +40,14 @@ pub some_is : {A B : Type 0} (f : A → B) (o : Option A) → is_some o ≡ true
 some_is f None e = absurd (true≢false (sym e))
 some_is f (Some x) e = refl
 
--- tables with room for one op more have it for the others
+-- tables with room for one op more have room for these ops
 pub room_left : (tables : Tables) (ops : ℕ) → HasRoom tables (ops + 1) → HasRoom tables ops
 room_left tables ops room = record { names = omega (arith, room.names); pools = omega (arith, room.pools) }
 
 module _ {fllen sllen : ℕ} {v : Allocator} {tables : Tables} {s : RunState} (at : IsAt fllen sllen v tables s) where
   -- a payload of the table has a block that its name owns, which has as many bytes as are usable
-  pub owned : (name : ℕ) (p : Payload) → get nat_eq tables.names name ≡ Some p → (u : Used) × Owns s name u × Holds s.machine (address p) u × (length u.bytes ≡ (usable u).len)
+  pub owned : (name : ℕ) (p : Payload) → get nat_eq tables.names name ≡ Some p
+      → (u : Used) × Owns s name u × Holds s.machine (address p) u × (length u.bytes ≡ (usable u).len)
   owned name p is =
       let (u, owns, holds, _) = owned_live at.named name p is in
       (u, owns, holds, (at.stands.stands.well_formed.used u owns.0).bytes)
@@ -55,7 +57,8 @@ module _ {fllen sllen : ℕ} {v : Allocator} {tables : Tables} {s : RunState} (a
   LeadsOn-nothing op answer does = (s, does, at, λ a from to was is. refl)
 
   -- where other payloads may be named, but the chunks stay
-  pub IsAt-named : {w : Allocator} {new : Tables} {named : ℕ → Option ℕ} → SamePlace v.memory w.memory → (t : State) → IsInState fllen sllen w t → t.chunks ≡ s.machine.chunks → new.pools ≡ tables.pools
+  pub IsAt-named : {w : Allocator} {new : Tables} {named : ℕ → Option ℕ} → SamePlace v.memory w.memory → (t : State) → IsInState fllen sllen w t
+      → t.chunks ≡ s.machine.chunks → new.pools ≡ tables.pools
       → AreNamed t new.names named → IsAt fllen sllen w new (record { machine = t; named = named; pools = s.pools })
   IsAt-named {w} {new} place t stands chunks same are = record {
     stands = stands;
@@ -71,34 +74,46 @@ module _ {fllen sllen : ℕ} {v : Allocator} {tables : Tables} {s : RunState} (a
       moved p (from, to) = (omega (arith, from, place.0), omega (arith, to, place))
 
   -- after a fill
-  pub IsAt-filled : {w : Allocator} → SamePlace v.memory w.memory → (t : State) → IsInState fllen sllen w t → (addr : ℕ) (bytes : List ℕ) → Fills s.machine addr bytes t → IsAt fllen sllen w tables (with_machine s t)
-  IsAt-filled place t stands addr bytes step = IsAt-named place t stands (fill_leaves_others s.machine t addr bytes step).0 refl (AreNamed-filled at.named fllen sllen (range_of v.memory) t addr bytes at.stands.stands.well_formed step)
+  pub IsAt-filled : {w : Allocator} → SamePlace v.memory w.memory → (t : State) → IsInState fllen sllen w t → (addr : ℕ) (bytes : List ℕ)
+      → Fills s.machine addr bytes t → IsAt fllen sllen w tables (with_machine s t)
+  IsAt-filled place t stands addr bytes step =
+      IsAt-named place t stands (fill_leaves_others s.machine t addr bytes step).0 refl
+      (AreNamed-filled at.named fllen sllen (range_of v.memory) t addr bytes at.stands.stands.well_formed step)
 
   -- after a step that leaves the chunks and every alignment
-  pub IsAt-aligned : {w : Allocator} → SamePlace v.memory w.memory → (t : State) → IsInState fllen sllen w t → w.state.chunks ≡ v.state.chunks → align_at w.state ≡ align_at v.state → IsAt fllen sllen w tables (with_machine s t)
+  pub IsAt-aligned : {w : Allocator} → SamePlace v.memory w.memory → (t : State) → IsInState fllen sllen w t → w.state.chunks ≡ v.state.chunks
+      → align_at w.state ≡ align_at v.state → IsAt fllen sllen w tables (with_machine s t)
   IsAt-aligned {w} place t stands chunks aligns =
       IsAt-named place t stands (ap (λ x. x.chunks) (sym stands.state) ∙ chunks ∙ ap (λ x. x.chunks) at.stands.state) refl
-      (AreNamed-kept at.named t (λ addr align live. subst (λ x. IsLive x addr align) stands.state (align_at-live w.state addr align (ap (λ f. f addr) aligns ∙ live_in at.stands addr align live))))
+      (AreNamed-kept at.named t
+      (λ addr align live. subst (λ x. IsLive x addr align) stands.state (align_at-live w.state addr align (ap (λ f. f addr) aligns ∙ live_in at.stands addr align live))))
 
   -- after a step that changed nothing
-  pub IsAt-unmoved : {w : Allocator} → SamePlace v.memory w.memory → (t : State) → IsInState fllen sllen w t → t ≡ s.machine → IsAt fllen sllen w tables (record { machine = t; named = s.named; pools = s.pools })
+  pub IsAt-unmoved : {w : Allocator} → SamePlace v.memory w.memory → (t : State) → IsInState fllen sllen w t → t ≡ s.machine
+      → IsAt fllen sllen w tables (record { machine = t; named = s.named; pools = s.pools })
   IsAt-unmoved place t stands is = IsAt-named place t stands (ap (λ u. u.chunks) is) refl (subst (λ u. AreNamed u tables.names s.named) (sym is) at.named)
 
   -- a name that no payload has isn't freed
   pub not_freed : {new : Tables} (name : ℕ) → get nat_eq tables.names name ≡ None → new.pools ≡ tables.pools → IsSetAt name None tables.names new.names
       → (r : RunState) × ((s.named name ≡ None) × (r ≡ s)) × IsAt fllen sllen v new r × KeepsSpare v.memory s.machine v.memory r.machine
-  not_freed name none same taken =
-      (s, (unnamed at.named name none, refl), IsAt-named (refl, refl, refl, λ none. none) s.machine at.stands refl same (AreNamed-untaken at.named name none taken), λ a from to was is. refl)
+  not_freed name none same taken = (
+    s,
+    (unnamed at.named name none, refl),
+    IsAt-named (refl, refl, refl, λ none. none) s.machine at.stands refl same (AreNamed-untaken at.named name none taken),
+    λ a from to was is. refl,
+  )
 
-  -- the payload of a name was given back
-  pub freed : {w : Allocator} {new : Tables} → SamePlace v.memory w.memory → (t : State) → IsInState fllen sllen w t → KeepsSpare v.memory s.machine w.memory t → (name : ℕ) (p : Payload)
+  -- the payload of a name was deallocated
+  pub freed : {w : Allocator} {new : Tables} → SamePlace v.memory w.memory → (t : State) → IsInState fllen sllen w t → KeepsSpare v.memory s.machine w.memory t
+      → (name : ℕ) (p : Payload)
       → get nat_eq tables.names name ≡ Some p → Deallocates s.machine (address p) t → new.pools ≡ tables.pools → IsSetAt name None tables.names new.names
       → (r : RunState) × Frees s name r × IsAt fllen sllen w new r × KeepsSpare v.memory s.machine w.memory r.machine
   freed place t stands keeps name p there step same taken =
       let (u, owns, holds, _) = owned name p there in (
         _,
         (u, owns, t, subst (λ a. Deallocates s.machine a t) (sym holds.1) step, refl),
-        IsAt-named place t stands (deallocation_leaves_others s.machine t (address p) step).0 same (AreNamed-freed at.named t name (address p) (owns.1 ∙ ap Some holds.1) step taken),
+        IsAt-named place t stands (deallocation_leaves_others s.machine t (address p) step).0 same
+            (AreNamed-freed at.named t name (address p) (owns.1 ∙ ap Some holds.1) step taken),
         keeps,
       )
 

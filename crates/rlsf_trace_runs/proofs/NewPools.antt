@@ -68,8 +68,9 @@ bounds_of_chunks r (c ∷ cs) len is room within =
       | behind none _ ↦ absurd (omega arith)
     ]
 
--- a pool has a byte, and ends in its range
-pub pool_bounds : {sllen : ℕ} {memory : Range} (fllen : ℕ) (s : State) (r : Range) (len : ℕ) (t : State) → Inserts fllen s r (Some len) t → IsWellFormed fllen sllen memory t
+-- a pool has a byte, and its end is that of its range
+pub pool_bounds : {sllen : ℕ} {memory : Range} (fllen : ℕ) (s : State) (r : Range) (len : ℕ) (t : State) → Inserts fllen s r (Some len) t
+    → IsWellFormed fllen sllen memory t
     → (round32 r.start < r.start + len) × (r.start + len ≤ end_of r)
 pool_bounds fllen s r len t step w =
     let cs = cut (max_pool_size fllen) (aligned_part r) in

@@ -1,5 +1,6 @@
 -- Pools in the order of their addresses.
-use Rattle.std.proofs.Common.{◌≡◌, ℕ, ◌+◌, ◌-◌, ◌<◌, ◌≤◌, List, length, slice_index_or, Bool, IsTrue, false, true≢false, ◌↔◌, arith, sym, ◌∙◌, ap, subst, inl, inr}
+use Rattle.std.proofs.Common.{◌≡◌, ℕ, ◌+◌, ◌-◌, ◌<◌, ◌≤◌, List, length, slice_index_or, Bool, IsTrue, false, true≢false, ◌↔◌, arith, sym}
+use Rattle.std.proofs.Common.{◌∙◌, ap, subst, inl, inr}
 use Rattle.std.proofs.lemmas.Bool.{cases_lt}
 use Rattle.std.proofs.lemmas.List.Edits.{length-insert, get_or-insert_at, get_or-insert_below, get_or-insert_above}
 use Rattle.std.specs.List.{insert}
@@ -69,12 +70,14 @@ module _ {xs : List Range} (o : IsInOrder xs) where
       ]
 
   -- so that one is asked
-  pub overlaps_last : (r : Range) (i : ℕ) → i ≤ length xs → IsPartitionPoint (λ p. p.start < end_of r) (λ p. end_of r ≤ p.start) xs i → 0 < i → (p : Range) → p ≡ nth_range xs (i - 1) → (overlaps : Bool)
+  pub overlaps_last : (r : Range) (i : ℕ) → i ≤ length xs → IsPartitionPoint (λ p. p.start < end_of r) (λ p. end_of r ≤ p.start) xs i → 0 < i → (p : Range)
+      → p ≡ nth_range xs (i - 1) → (overlaps : Bool)
       → (IsTrue overlaps ↔ ((a : ℕ) × ((r.start ≤ a) × (a < end_of r)) × ((p.start ≤ a) × (a < end_of p))))
       → IsTrue overlaps ↔ ((a : ℕ) × ((r.start ≤ a) × (a < end_of r)) × (0 < coverage itself xs a))
   overlaps_last r i fits point some p is overlaps (if_so, if_not) = (
     λ yes. (let (a, in_range, (low, high)) = if_so yes in (a, in_range, omega (arith, covers-inside p a low high, coverage-IsIn itself p xs a there))),
-    λ (a, in_range, covered). by_test overlaps (λ yes. yes) (λ is_false. absurd (omega (arith, covered, coverage-last r i fits point (separate is_false) a in_range.0 in_range.1))),
+    λ (a, in_range, covered). by_test overlaps (λ yes. yes)
+        (λ is_false. absurd (omega (arith, covered, coverage-last r i fits point (separate is_false) a in_range.0 in_range.1))),
   )
     where
       there : IsIn p xs
@@ -87,7 +90,8 @@ module _ {xs : List Range} (o : IsInOrder xs) where
         | behind none _ ↦ none
       ]))
 
-  module _ (pool : Range) (i : ℕ) (fits : i ≤ length xs) (point : IsPartitionPoint (λ p. p.start < pool.start) (λ p. pool.start ≤ p.start) xs i) (some : pool.start < end_of pool)
+  module _ (pool : Range) (i : ℕ) (fits : i ≤ length xs) (point : IsPartitionPoint (λ p. p.start < pool.start) (λ p. pool.start ≤ p.start) xs i)
+      (some : pool.start < end_of pool)
       (apart : IsClear pool xs) where
     -- those that begin before a range which overlaps none end before it
     ends_before : (k : ℕ) (d : Range) → k < i → end_of (slice_index_or xs k d) ≤ pool.start
@@ -96,7 +100,12 @@ module _ {xs : List Range} (o : IsInOrder xs) where
         let begun = point.0 k d (omega arith) lower in
         elim (cases_lt pool.start (end_of p)) [
           | inr past ↦ past
-          | inl under ↦ absurd (omega (arith, apart pool.start (omega arith) some, covers-inside p pool.start (omega (arith, begun)) under, coverage-IsIn itself p xs pool.start (IsIn-at xs k d (omega arith))))
+          | inl under ↦ absurd (omega (
+            arith,
+            apart pool.start (omega arith) some,
+            covers-inside p pool.start (omega (arith, begun)) under,
+            coverage-IsIn itself p xs pool.start (IsIn-at xs k d (omega arith)),
+          ))
         ]
 
     -- and the others begin behind it
@@ -105,7 +114,12 @@ module _ {xs : List Range} (o : IsInOrder xs) where
         let p = slice_index_or xs k d in
         elim (cases_lt p.start (end_of pool)) [
           | inr past ↦ past
-          | inl under ↦ absurd (omega (arith, apart p.start (point.1 k d upper below) under, covers-inside p p.start (omega arith) (o.some k d below), coverage-IsIn itself p xs p.start (IsIn-at xs k d below)))
+          | inl under ↦ absurd (omega (
+            arith,
+            apart p.start (point.1 k d upper below) under,
+            covers-inside p p.start (omega arith) (o.some k d below),
+            coverage-IsIn itself p xs p.start (IsIn-at xs k d below),
+          ))
         ]
 
     some_each : (k : ℕ) (d : Range) → k < length (insert xs i pool) → (slice_index_or (insert xs i pool) k d).start < end_of (slice_index_or (insert xs i pool) k d)
@@ -115,7 +129,8 @@ module _ {xs : List Range} (o : IsInOrder xs) where
       | later m next _ is ↦ subst (λ p. p.start < end_of p) (sym is) (o.some m d (omega (arith, length-insert xs i pool fits)))
     ]
 
-    apart_two : (j k : ℕ) (d : Range) → j < k → k < length (insert xs i pool) → end_of (slice_index_or (insert xs i pool) j d) ≤ (slice_index_or (insert xs i pool) k d).start
+    apart_two : (j k : ℕ) (d : Range) → j < k → k < length (insert xs i pool)
+        → end_of (slice_index_or (insert xs i pool) j d) ≤ (slice_index_or (insert xs i pool) k d).start
     apart_two j k d lower below = elim (at_insert xs i pool j d fits) [
       | earlier low j_is ↦ elim (at_insert xs i pool k d fits) [
         | earlier high k_is ↦ omega (arith, ap end_of j_is, ap (λ p. p.start) k_is, o.apart j k d lower (omega arith))

@@ -1,5 +1,6 @@
--- Where a run has come to, by its tables, and where an op takes it.
-use Rattle.std.proofs.Common.{◌≡◌, ◌≢◌, ℕ, ◌+◌, ◌-◌, ◌<◌, nat_eq, length, [], ◌∷◌, map, slice_set, Some, None, arith, refl, inl, inr, sym, ◌∙◌, ap, subst}
+-- The state of a run, from its tables, and how an op changes it.
+use Rattle.std.proofs.Common.{◌≡◌, ◌≢◌, ℕ, ◌+◌, ◌-◌, ◌<◌, nat_eq, length, [], ◌∷◌, map, slice_set, Some, None, arith, refl, inl, inr, sym}
+use Rattle.std.proofs.Common.{◌∙◌, ap, subst}
 use Rattle.std.proofs.lemmas.List.Sorted.{IsPermutation-cons, IsPermutation-map, IsPermutation-refl, IsPermutation-sym, IsPermutation-trans}
 use Rattle.std.specs.Prelude.{IsPermutation}
 use Rattle.std.specs.HashMap.{get}
@@ -27,7 +28,7 @@ use Rattle.rlsf_trace_runs.proofs.Lengthened.{coverage-longer_pool, is_lengthene
 use Rattle.rlsf_trace_runs.proofs.Overlapping.{IsIn-at, no_range, nth_range}
 use Rattle.rlsf_trace_runs.proofs.SamePools.{coverage-permutation, IsIn-each, IsIn-permutation}
 
--- a chunk ends where a row does that isn't empty
+-- a chunk ends at the end of contiguous chunks that have a byte
 row_end : (s : State) (p : Range) → 0 < p.len → IsRow s p → (c : Range) × IsIn c s.chunks × (end_of c ≡ end_of p)
 row_end s p some row = let (c, i, _, _, high, to) = row (end_of p - 1) (omega arith) (omega arith) in (c, i, omega arith)
 
@@ -51,11 +52,14 @@ module _ {fllen sllen : ℕ} {v : Allocator} {tables : Tables} {s : RunState} (a
   }
 
   -- a range may be appended if a pool of the table ends where it begins
-  pub MayAppend-tested : (r : Range) (place : ℕ) → MayInsert (range_of v.memory) s.pools r → EndsAt tables.pools.items place r.start → MayAppend (range_of v.memory) s.pools r
+  pub MayAppend-tested : (r : Range) (place : ℕ) → MayInsert (range_of v.memory) s.pools r → EndsAt tables.pools.items place r.start
+      → MayAppend (range_of v.memory) s.pools r
   MayAppend-tested r place may (below, ends) = record {
     vacant = may;
     pool = nth_range tables.pools.items place;
-    is_pool = IsIn-permutation (nth_range tables.pools.items place) tables.pools.items s.pools (IsPermutation-sym s.pools tables.pools.items at.pools) (IsIn-at tables.pools.items place no_range below);
+    is_pool =
+        IsIn-permutation (nth_range tables.pools.items place) tables.pools.items s.pools (IsPermutation-sym s.pools tables.pools.items at.pools)
+        (IsIn-at tables.pools.items place no_range below);
     ends = ends no_range;
   }
 
@@ -68,7 +72,8 @@ module _ {fllen sllen : ℕ} {v : Allocator} {tables : Tables} {s : RunState} (a
   IsClear-tables r may a low high = coverage-tables a ∙ may.apart a low high
 
   -- nor does the pool that is made of it, which has a byte
-  pub new_pool : (r pool : Range) (len : ℕ) (t : State) {memory : Range} → MayInsert (range_of v.memory) s.pools r → Inserts fllen s.machine r (Some len) t → IsWellFormed fllen sllen memory t
+  pub new_pool : (r pool : Range) (len : ℕ) (t : State) {memory : Range} → MayInsert (range_of v.memory) s.pools r → Inserts fllen s.machine r (Some len) t
+      → IsWellFormed fllen sllen memory t
       → pool ≡ between (round32 r.start) (r.start + len) → (pool.start < end_of pool) × IsClear pool tables.pools.items
   new_pool r pool len t may step whole is =
       let bounds = pool_bounds fllen s.machine r len t step whole in
@@ -94,7 +99,8 @@ module _ {fllen sllen : ℕ} {v : Allocator} {tables : Tables} {s : RunState} (a
   module _ {w : Allocator} (place : SamePlace v.memory w.memory) (t : State) (stands : IsInState fllen sllen w t) where
     -- after an insert that made a pool
     pub IsAt-inserted : {new : Tables} (r pool : Range) (len : ℕ) → Inserts fllen s.machine r (Some len) t → LiesIn r v.memory.start (length v.memory.bytes)
-        → pool ≡ between (round32 r.start) (r.start + len) → new.names ≡ tables.names → IsPermutation (pool ∷ tables.pools.items) new.pools.items → IsInOrder new.pools.items
+        → pool ≡ between (round32 r.start) (r.start + len) → new.names ≡ tables.names → IsPermutation (pool ∷ tables.pools.items) new.pools.items
+        → IsInOrder new.pools.items
         → IsAt fllen sllen w new (record { machine = t; named = s.named; pools = with_pool r (Some len) s.pools })
     IsAt-inserted {new} r pool len step (from, to) is names added in_order =
         let made = between (round32 r.start) (r.start + len) in
@@ -103,8 +109,12 @@ module _ {fllen sllen : ℕ} {v : Allocator} {tables : Tables} {s : RunState} (a
         let home : LiesIn made w.memory.start (length w.memory.bytes) = (omega (arith, from, low, place), omega (arith, bounds, to, place)) in
         record {
           stands = stands;
-          named = AreNamed-kept (AreNamed-same at.named (λ name. ap (λ table. get nat_eq table name) names)) t (λ addr align live. live_stays fllen sllen s.machine t (insert r (Some len)) addr align step live (λ never. never));
-          pools = IsPermutation-trans _ _ _ (IsPermutation-cons made s.pools tables.pools.items at.pools) (subst (λ p. IsPermutation (p ∷ tables.pools.items) new.pools.items) is added);
+          named =
+              AreNamed-kept (AreNamed-same at.named (λ name. ap (λ table. get nat_eq table name) names)) t
+              (λ addr align live. live_stays fllen sllen s.machine t (insert r (Some len)) addr align step live (λ never. never));
+          pools =
+              IsPermutation-trans _ _ _ (IsPermutation-cons made s.pools tables.pools.items at.pools)
+              (subst (λ p. IsPermutation (p ∷ tables.pools.items) new.pools.items) is added);
           in_order = in_order;
           inside = λ p i. elim (IsIn-permutation p new.pools.items (pool ∷ tables.pools.items) (IsPermutation-sym (pool ∷ tables.pools.items) new.pools.items added) i) [
             | inl new ↦ subst (λ q. LiesIn q w.memory.start (length w.memory.bytes)) (sym (new ∙ is)) home
@@ -130,12 +140,15 @@ module _ {fllen sllen : ℕ} {v : Allocator} {tables : Tables} {s : RunState} (a
     }
 
     -- after an append
-    pub IsAt-appended : {new : Tables} (r : Range) (more i : ℕ) → Appends fllen s.machine r more t → MayAppend (range_of v.memory) s.pools r → EndsAt tables.pools.items i r.start
+    pub IsAt-appended : {new : Tables} (r : Range) (more i : ℕ) → Appends fllen s.machine r more t → MayAppend (range_of v.memory) s.pools r
+        → EndsAt tables.pools.items i r.start
         → new.names ≡ tables.names → new.pools.items ≡ slice_set tables.pools.items i (longer_pool more (nth_range tables.pools.items i))
         → IsAt fllen sllen w new (record { machine = t; named = s.named; pools = map (longer_pool_at r.start more) s.pools })
     IsAt-appended {new} r more i step may ends names set = record {
       stands = stands;
-      named = AreNamed-kept (AreNamed-same at.named (λ name. ap (λ table. get nat_eq table name) names)) t (λ addr align live. live_stays fllen sllen s.machine t (append r more) addr align step live (λ never. never));
+      named =
+          AreNamed-kept (AreNamed-same at.named (λ name. ap (λ table. get nat_eq table name) names)) t
+          (λ addr align live. live_stays fllen sllen s.machine t (append r more) addr align step live (λ never. never));
       pools = subst (IsPermutation (map f s.pools)) (sym is) (IsPermutation-map f s.pools tables.pools.items at.pools);
       in_order = subst IsInOrder (sym is) (IsInOrder-longer_pool at.in_order r (IsClear-tables r may.vacant) r.start more refl longer.within);
       inside = λ p there. inside p (subst (IsIn p) is there);
@@ -159,7 +172,8 @@ module _ {fllen sllen : ℕ} {v : Allocator} {tables : Tables} {s : RunState} (a
             let (_, end) = may.vacant.lies_in in
             let within = longer.within in
             elim (is_lengthened r.start more q) [
-              | inl (same, new_q) ↦ subst (λ x. LiesIn x w.memory.start (length w.memory.bytes)) (sym (is_q ∙ new_q)) (omega (arith, from, place), omega (arith, same, end, within, place))
+              | inl (same, new_q) ↦ subst (λ x. LiesIn x w.memory.start (length w.memory.bytes)) (sym (is_q ∙ new_q))
+                  (omega (arith, from, place), omega (arith, same, end, within, place))
               | inr (_, new_q) ↦ subst (λ x. LiesIn x w.memory.start (length w.memory.bytes)) (sym (is_q ∙ new_q)) (omega (arith, from, place), omega (arith, to, place))
             ]
 
@@ -168,11 +182,13 @@ module _ {fllen sllen : ℕ} {v : Allocator} {tables : Tables} {s : RunState} (a
             let (q, old, is_q) = IsIn-longer_pool r.start more p s.pools there in
             elim (is_lengthened r.start more q) [
               | inl (same, new_q) ↦ subst (IsRow t) (sym (is_q ∙ new_q)) (IsRow-appended at.stands.stands.well_formed r q same (some_pool q old) (at.rows q old) more t step)
-              | inr (differ, new_q) ↦ subst (IsRow t) (sym (is_q ∙ new_q)) (IsRow-kept_apart s.machine r q (IsFresh-MayInsert r may.vacant).apart differ (at.rows q old) fllen more t step)
+              | inr (differ, new_q) ↦ subst (IsRow t) (sym (is_q ∙ new_q))
+                  (IsRow-kept_apart s.machine r q (IsFresh-MayInsert r may.vacant).apart differ (at.rows q old) fllen more t step)
             ]
 
 -- with no chunk and empty tables, a run is at its beginning
-pub IsAt-beginning : {fllen sllen : ℕ} {v : Allocator} {tables : Tables} → IsInState fllen sllen v empty → tables.names.entries ≡ [] → tables.pools.items ≡ [] → IsAt fllen sllen v tables beginning
+pub IsAt-beginning : {fllen sllen : ℕ} {v : Allocator} {tables : Tables} → IsInState fllen sllen v empty → tables.names.entries ≡ [] → tables.pools.items ≡ []
+    → IsAt fllen sllen v tables beginning
 IsAt-beginning {v = v} stands no_names no_pools = record {
   stands = stands;
   named = AreNamed-empty empty no_names;

@@ -14,7 +14,7 @@ IsIn-each P p [] each there = absurd there
 IsIn-each P p (x ∷ xs) each (inl is) = subst P (sym is) (each 0 no_range (omega arith))
 IsIn-each P p (x ∷ xs) each (inr there) = IsIn-each P p xs (λ k d below. each (suc k) d (omega arith)) there
 
--- the same elements, in another order
+-- the same elements in another order
 pub IsIn-permutation : (p : Range) (xs ys : List Range) → IsPermutation xs ys → IsIn p xs → IsIn p ys
 IsIn-permutation p xs ys same there =
     IsIn-each (λ q. IsIn q ys) p xs (All-permutation (λ q. IsIn q ys) ys xs (IsPermutation-sym xs ys same) (λ k d below. IsIn-at ys k d below)) there

@@ -10,7 +10,8 @@ use Rattle.rlsf_trace_text.specs.declared.op.Op.{Op}
 use Rattle.rlsf_trace_runs.proofs.Events.{Makes, no_call, one_call}
 
 -- an op makes no byte spare that wasn't
-IsSpare-before_op : (fllen sllen : ℕ) (memory : Range) (s t : State) (op : Op) (answer : Answer) (a : ℕ) → Makes fllen sllen memory s op answer t → IsSpare t a → IsSpare s a
+IsSpare-before_op : (fllen sllen : ℕ) (memory : Range) (s t : State) (op : Op) (answer : Answer) (a : ℕ) → Makes fllen sllen memory s op answer t → IsSpare t a
+    → IsSpare s a
 IsSpare-before_op fllen sllen memory s t op answer a (no_call _ is) spare = subst (λ x. IsSpare x a) is spare
 IsSpare-before_op fllen sllen memory s t op answer a (one_call e _ lasts _ leads) spare = IsSpare-before fllen sllen s t e a lasts leads spare
 

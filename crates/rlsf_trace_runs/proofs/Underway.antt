@@ -21,8 +21,10 @@ use Rattle.rlsf_trace_runs.proofs.SpareBytes.{KeepsSpare-op}
 pub record IsUnderway (fllen sllen : ℕ) (m : Space) (ops : List Op) (v : Allocator) (tables : Tables) (done : ℕ) (given : List Answer) : Type 0 where
   pub state : RunState
   pub at : IsAt fllen sllen v tables state
-  pub leads : (more : List Answer) (t : RunState) → RunsOps fllen sllen (range_of m) state (drop done ops) more t → RunsOps fllen sllen (range_of m) beginning ops (given ++ more) t
-  pub events : (more : List Answer) (t : State) → RunsByEvents fllen sllen (range_of m) state.machine (drop done ops) more t → RunsByEvents fllen sllen (range_of m) empty ops (given ++ more) t
+  pub leads : (more : List Answer) (t : RunState) → RunsOps fllen sllen (range_of m) state (drop done ops) more t
+      → RunsOps fllen sllen (range_of m) beginning ops (given ++ more) t
+  pub events : (more : List Answer) (t : State) → RunsByEvents fllen sllen (range_of m) state.machine (drop done ops) more t
+      → RunsByEvents fllen sllen (range_of m) empty ops (given ++ more) t
   pub place : SamePlace m v.memory
   pub spare : KeepsSpare m empty v.memory state.machine
   pub room : HasRoom tables (length ops - done)
@@ -44,7 +46,8 @@ module _ {fllen sllen : ℕ} {m : Space} {ops : List Op} {v : Allocator} {tables
       whole = omega arith
 
   -- one op more
-  pub IsUnderway-next : {done : ℕ} {given : List Answer} (w : IsUnderway fllen sllen m ops v tables done given) (op : Op) → ((d : Op) → op ≡ slice_index_or ops done d) → done < length ops → (answer : Answer) (w2 : Allocator) (new : Tables)
+  pub IsUnderway-next : {done : ℕ} {given : List Answer} (w : IsUnderway fllen sllen m ops v tables done given) (op : Op) → ((d : Op) → op ≡ slice_index_or ops done d)
+      → done < length ops → (answer : Answer) (w2 : Allocator) (new : Tables)
       → ((s : RunState) → IsAt fllen sllen v tables s → LeadsOn fllen sllen v s op answer w2 new)
       → ((n : ℕ) → HasRoom tables (n + 1) → HasRoom new n) → SamePlace v.memory w2.memory
       → IsUnderway fllen sllen m ops w2 new (done + 1) (given ++ answer ∷ [])
@@ -75,11 +78,13 @@ module _ {fllen sllen : ℕ} {m : Space} {ops : List Op} {v : Allocator} {tables
       left = omega arith
 
   -- at the end
-  pub RunsOps-end : {done : ℕ} {given : List Answer} (w : IsUnderway fllen sllen m ops v tables done given) → length ops ≤ done → RunsOps fllen sllen (range_of m) beginning ops given w.state
+  pub RunsOps-end : {done : ℕ} {given : List Answer} (w : IsUnderway fllen sllen m ops v tables done given) → length ops ≤ done
+      → RunsOps fllen sllen (range_of m) beginning ops given w.state
   RunsOps-end {done} {given} w past = subst (λ l. RunsOps fllen sllen (range_of m) beginning ops l w.state) (append-nil given)
       (w.leads [] w.state (subst (λ l. RunsOps fllen sllen (range_of m) w.state l [] w.state) (sym (drop_of_length-le ops past)) refl))
 
-  -- and by the machine's calls
-  pub RunsByEvents-end : {done : ℕ} {given : List Answer} (w : IsUnderway fllen sllen m ops v tables done given) → length ops ≤ done → RunsByEvents fllen sllen (range_of m) empty ops given w.state.machine
+  -- and by the calls of the reference model
+  pub RunsByEvents-end : {done : ℕ} {given : List Answer} (w : IsUnderway fllen sllen m ops v tables done given) → length ops ≤ done
+      → RunsByEvents fllen sllen (range_of m) empty ops given w.state.machine
   RunsByEvents-end {done} {given} w past = subst (λ l. RunsByEvents fllen sllen (range_of m) empty ops l w.state.machine) (append-nil given)
       (w.events [] w.state.machine (subst (λ l. RunsByEvents fllen sllen (range_of m) w.state.machine l [] w.state.machine) (sym (drop_of_length-le ops past)) ([], refl, refl)))

@@ -19,14 +19,14 @@ use Rattle.rlsf_trace_runs.specs.Steps.Tables.{IsAt}
 use Rattle.rlsf_trace_runs.proofs.RunStates.{some_pool}
 use Rattle.rlsf_trace_runs.proofs.SamePools.{IsIn-permutation}
 
--- a row that begins at a range's start rounded up and ends at its end is what is walked of the range
+-- contiguous chunks from a range's rounded start to its end are those of an iteration over the range
 IsRow-between : (s : State) (p r : Range) → p.start ≡ round32 r.start → end_of p ≡ end_of r → 0 < p.len → IsRow s p → IsRow s (walked r)
 IsRow-between s p r begins ends some row a low high =
     let (c, i, from, at, under, to) = row a (omega arith) (omega arith) in
     (c, i, omega arith, at, under, omega arith)
 
 module _ {fllen sllen : ℕ} {v : Allocator} {tables : Tables} {s : RunState} (at : IsAt fllen sllen v tables s) where
-  -- a range that passes the test may be walked
+  -- an iteration is allowed over a range that passes the test
   pub MayWalk-tested : (r : Range) {m : Space} → m ≡ v.memory → MayWalk (range_of m) tables.pools.items r → MayWalk (range_of v.memory) s.pools r
   MayWalk-tested r same may = record {
     lies_in = subst (λ m. LiesIn r m.start (length m.bytes)) same may.lies_in;
@@ -36,7 +36,7 @@ module _ {fllen sllen : ℕ} {v : Allocator} {tables : Tables} {s : RunState} (a
     ends = may.ends;
   }
 
-  -- and one that may be walked passes it
+  -- a range over which an iteration is allowed passes the test
   pub MayWalk-tables : (r : Range) {m : Space} → m ≡ v.memory → MayWalk (range_of v.memory) s.pools r → MayWalk (range_of m) tables.pools.items r
   MayWalk-tables r same may = record {
     lies_in = subst (λ m. LiesIn r m.start (length m.bytes)) (sym same) may.lies_in;
@@ -46,7 +46,7 @@ module _ {fllen sllen : ℕ} {v : Allocator} {tables : Tables} {s : RunState} (a
     ends = may.ends;
   }
 
-  -- its chunks are a row
+  -- its chunks are contiguous
   pub IsRow-walked : (r : Range) → MayWalk (range_of v.memory) s.pools r → IsRow s.machine (walked r)
   IsRow-walked r may = IsRow-between s.machine may.pool r may.begins may.ends (some_pool at may.pool may.is_pool) (at.rows may.pool may.is_pool)
 

@@ -1,4 +1,4 @@
--- The calls of the list machine by which the ops of a run are done.
+-- The calls of the reference model that the ops of a run make.
 use Rattle.std.specs.Prelude.{◌≡◌, ℕ, List, [], ◌∷◌, ◌++◌, Option, Some, None}
 use Rattle.rlsf_base.specs.Addr.{reply}
 use Rattle.rlsf_base.specs.declared.memory.range.Range.{Range}
@@ -9,13 +9,14 @@ use Rattle.rlsf_trace_text.specs.declared.op.Op.TheVariants.{Insert, Append, All
 use Rattle.rlsf_trace_text.specs.declared.op.Answer.{Answer}
 use Rattle.rlsf_trace_text.specs.declared.op.Answer.TheVariants.{Inserted, Appended, Placed, Done, Trimmed}
 
--- a reallocation without a move is the machine's reallocation, with the payload's own address for a reply; one that found no room is no call
+-- a reallocation without a move is the model's reallocation, with the payload's own address as its reply; without room it is no
+-- call
 abbrev pub unmoved_calls : ℕ → ℕ → Option ℕ → List Event
 unmoved_calls old size None = []
 unmoved_calls old size (Some addr) = reallocate old size (Some addr) ∷ []
 
--- The calls of the machine by which an op with its answer is done: one, or none if it is refused or reads, or may not move and finds
--- no room. An op that sets one byte or all is a fill. A trim that isn't refused is one over a source.
+-- The calls of the model that an op with its answer makes: one or none. A refusal, a read and a reallocation without a move and
+-- without room make none. An op that sets one byte or all bytes is a fill. A trim that isn't refused is one over a source.
 abbrev pub IsDoneBy : Op → Answer → List Event → Type 0
 IsDoneBy (Insert r) (Inserted len) es = es ≡ insert r (reply len) ∷ []
 IsDoneBy (Append r) (Appended more) es = es ≡ append r more ∷ []
@@ -36,6 +37,6 @@ AreDoneBy [] (answer ∷ answers) es = ⊥
 AreDoneBy (op ∷ ops) [] es = ⊥
 AreDoneBy (op ∷ ops) (answer ∷ answers) es = (now : List Event) × (later : List Event) × (es ≡ now ++ later) × IsDoneBy op answer now × AreDoneBy ops answers later
 
--- the ops with their answers are done by a run of the machine's calls, each of which its caller may make, from one state to another
+-- the ops with their answers are a run of the model's calls from one state to another; its caller may make each call
 abbrev pub RunsByEvents : ℕ → ℕ → Range → State → List Op → List Answer → State → Type 0
 RunsByEvents fllen sllen memory s ops answers t = (es : List Event) × AreDoneBy ops answers es × Runs fllen sllen memory s es t

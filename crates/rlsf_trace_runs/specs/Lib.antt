@@ -1,3 +1,4 @@
+-- The definitions of a run, in reading order: `Runs`, `Events`, `Names`, `Whole`.
 pub mod Events
 pub mod Names
 pub mod Runs

@@ -16,8 +16,8 @@ address p = at p.addr
 abbrev pub NameTable : Type 0
 NameTable = HashMap ℕ Payload (BuildHasherDefault FoldHasher)
 
--- The table has the live payloads of the machine's state by their names: where each is, that it is live with its alignment, and
--- that no two names have one address.
+-- The table has the live payloads of the model's state by their names: where each is, and that it is live with its alignment. No
+-- two names have the same address.
 pub record AreNamed (s : State) (table : NameTable) (named : ℕ → Option ℕ) : Type 0 where
   pub names : (name : ℕ) → option_map address (get nat_eq table name) ≡ named name
   pub live : (name : ℕ) (p : Payload) → get nat_eq table name ≡ Some p → IsLive s (address p) p.align

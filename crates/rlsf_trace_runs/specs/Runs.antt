@@ -1,5 +1,6 @@
--- RunsOps: what the ops of a trace do to the list machine, and what they answer.
-use Rattle.std.specs.Prelude.{◌≡◌, ℕ, ◌+◌, ◌<◌, ◌≤◌, ◌==◌, nat_eq, if◌then◌else◌, Bool, List, [], ◌∷◌, map, Option, Some, None, IsSome, replicate, slice_index, slice_set}
+-- RunsOps: what the ops of a trace do to the reference model, and their answers.
+use Rattle.std.specs.Prelude.{◌≡◌, ℕ, ◌+◌, ◌<◌, ◌≤◌, ◌==◌, nat_eq, if◌then◌else◌, Bool, List, [], ◌∷◌, map, Option, Some, None, IsSome}
+use Rattle.std.specs.Prelude.{replicate, slice_index, slice_set}
 use Rattle.std.specs.List.{slice_get}
 use Rattle.std.specs.Option.{option_map}
 use Rattle.rlsf_base.specs.Addr.{reply}
@@ -17,14 +18,15 @@ use Rattle.rlsf_machine.specs.Release.{Deallocates}
 use Rattle.rlsf_machine.specs.Run.{Fills}
 use Rattle.rlsf_machine.specs.State.{State, Used, between, empty, usable}
 use Rattle.rlsf_trace_text.specs.declared.op.Op.{Op}
-use Rattle.rlsf_trace_text.specs.declared.op.Op.TheVariants.{Insert, Append, Alloc, Free, FreeUnknown, Realloc, ReallocNoMove, Fill, Put, Get, Usable as OpUsable, Block as OpBlock, Trim}
+use Rattle.rlsf_trace_text.specs.declared.op.Op.TheVariants.{Insert, Append, Alloc, Free, FreeUnknown, Realloc, ReallocNoMove, Fill, Put, Get, Usable as OpUsable, Block as OpBlock}
+use Rattle.rlsf_trace_text.specs.declared.op.Op.TheVariants.{Trim}
 use Rattle.rlsf_trace_text.specs.declared.op.Answer.{Answer}
 use Rattle.rlsf_trace_text.specs.declared.op.Answer.TheVariants.{Inserted, Appended, Placed, Done, Byte, Usable, Block, Refused}
 use Rattle.rlsf_trace_text.specs.declared.op.TraceError.{TraceError}
 use Rattle.rlsf_trace_text.specs.declared.op.TraceError.TheVariants.{UnknownName, NameTaken, BadRange, BadOffset, BadLayout, NotForTlsf}
 
--- what a run has come to: the machine's state, the address of each live payload by its name, and the pools, each the row of chunks that was
--- made of an inserted range and of what was appended to it
+-- The state of a run: the model's state, the address of each live payload by its name, and the pools. A pool is the contiguous
+-- chunks of an inserted range and of what was appended to it.
 pub record RunState : Type 0 where
   pub machine : State
   pub named : ℕ → Option ℕ
@@ -38,7 +40,7 @@ beginning = record { machine = empty; named = λ name. None; pools = [] }
 abbrev pub MayInsert : Range → List Range → Range → Type 0
 MayInsert memory pools r = IsVacant memory pools r
 
--- the pools with the one that is made of a range: it goes from the range's start rounded up to 32 as far as the answer counts
+-- the pools with the new one of a range: it begins at the range's start rounded up to 32, and the answer has its end
 abbrev pub with_pool : Range → Option ℕ → List Range → List Range
 with_pool r None pools = pools
 with_pool r (Some len) pools = between (round32 r.start) (r.start + len) ∷ pools
@@ -79,17 +81,17 @@ without_name name named = λ other. if nat_eq name other then None else named ot
 abbrev pub Owns : RunState → ℕ → Used → Type 0
 Owns s name u = IsIn u s.machine.used × (s.named name ≡ Some u.payload)
 
--- with another state of the machine
+-- with another state of the model
 abbrev pub with_machine : RunState → State → RunState
 with_machine s machine = record { machine = machine; named = s.named; pools = s.pools }
 
--- the payload that has a name is given back, and the name is free
+-- the payload of a name is deallocated, and the name is free
 abbrev pub Frees : RunState → ℕ → RunState → Type 0
 Frees s name t =
     (u : Used) × Owns s name u × (machine : State) × Deallocates s.machine u.payload machine
     × (t ≡ record { machine = machine; named = without_name name s.named; pools = s.pools })
 
--- what is told of a block: its range, and whether it is used
+-- the answer for a block: its range, and whether it is used
 abbrev pub told_of : BlockOf → Range × Bool
 told_of b = (b.range, b.is_occupied)
 
@@ -114,7 +116,7 @@ IsOpRefused memory s (OpBlock r index) BadRange = MayWalk memory s.pools r → �
 IsOpRefused memory s Trim NotForTlsf = Unit {0}
 IsOpRefused memory s op error = ⊥
 
--- an op and its answer: a step of the machine, or a refusal, which comes exactly where it has to and changes nothing
+-- an op and its answer: a step of the model, or a refusal, which changes nothing and has its own condition
 abbrev pub Does : ℕ → ℕ → Range → RunState → Op → Answer → RunState → Type 0
 Does fllen sllen memory s op (Refused error) t = IsOpRefused memory s op error × (t ≡ s)
 Does fllen sllen memory s (Insert r) (Inserted len) t =
@@ -132,11 +134,13 @@ Does fllen sllen memory s (Realloc name size) (Placed addr) t =
     (u : Used) × Owns s name u × IsLayout size u.align × (machine : State) × Reallocates sllen s.machine u.payload size (reply addr) machine
     × (t ≡ record { machine = machine; named = with_name name (reply addr) s.named; pools = s.pools })
 Does fllen sllen memory s (ReallocNoMove name size) (Placed addr) t =
-    (u : Used) × Owns s name u × IsLayout size u.align × (machine : State) × ReallocatesWithoutMove s.machine u.payload size (reply addr) machine × (t ≡ with_machine s machine)
+    (u : Used) × Owns s name u × IsLayout size u.align × (machine : State) × ReallocatesWithoutMove s.machine u.payload size (reply addr) machine
+    × (t ≡ with_machine s machine)
 Does fllen sllen memory s (Fill name byte) Done t =
     (u : Used) × Owns s name u × (machine : State) × Fills s.machine u.payload (replicate (usable u).len byte) machine × (t ≡ with_machine s machine)
 Does fllen sllen memory s (Put name offset byte) Done t =
-    (u : Used) × Owns s name u × (offset < (usable u).len) × (machine : State) × Fills s.machine u.payload (slice_set u.bytes offset byte) machine × (t ≡ with_machine s machine)
+    (u : Used) × Owns s name u × (offset < (usable u).len) × (machine : State) × Fills s.machine u.payload (slice_set u.bytes offset byte) machine
+    × (t ≡ with_machine s machine)
 Does fllen sllen memory s (Get name offset) (Byte byte) t =
     (u : Used) × Owns s name u × (offset < (usable u).len) × (byte ≡ slice_index u.bytes offset) × (t ≡ s)
 Does fllen sllen memory s (OpUsable name) (Usable bytes) t = (u : Used) × Owns s name u × (bytes ≡ (usable u).len) × (t ≡ s)

@@ -1,5 +1,8 @@
-//! Runs of a trace: its ops, done one after another with an allocator. `Tables` and `step` are for the crates above, which look at
-//! the allocator between two ops.
+//! Runs of a trace with a `Tlsf`: its ops, done one after another.
+//!
+//! Read `runs.rt` first: `run` and its step, whose contract is the headline of `docs/READING.md`. `payloads.rt` and `walks.rt` have the
+//! ops on a payload and on blocks. `names.rt` and `tables.rt` have the names and the pools of a run. `Tables` and `step` are public
+//! for the crates above, which inspect the allocator between two ops.
 #![tactic(auto)]
 
 mod names;

@@ -84,8 +84,8 @@ pub(crate) fn realloc<
     Answer::Placed(placed)
 }
 
-/// Gives the payload of a name another size where it stands, unless no live one has it or no layout has that size with its
-/// alignment. Where the bytes there don't suffice, it stays as it is. The name keeps its payload in each case.
+/// Resizes the payload of a name in place. Refused if no live payload has the name, or if no layout has that size with its
+/// alignment. If there is no room, the payload is unchanged. The name keeps its payload in each case.
 pub(crate) fn realloc_no_move<
     FLBitmap: BitPattern,
     SLBitmap: BitPattern,
@@ -133,7 +133,8 @@ pub(crate) fn fill<
     Answer::Done
 }
 
-/// Sets the byte at an offset of the payload of a name, unless no live one has it or the offset isn't below its usable size.
+/// Sets the byte at an offset of the payload of a name. Refused if no live payload has the name, or if the offset isn't below its
+/// usable size.
 pub(crate) fn put<
     FLBitmap: BitPattern,
     SLBitmap: BitPattern,
@@ -160,7 +161,8 @@ pub(crate) fn put<
     Answer::Done
 }
 
-/// Reads the byte at an offset of the payload of a name, unless no live one has it or the offset isn't below its usable size.
+/// Reads the byte at an offset of the payload of a name. Refused if no live payload has the name, or if the offset isn't below its
+/// usable size.
 pub(crate) fn get<
     FLBitmap: BitPattern,
     SLBitmap: BitPattern,

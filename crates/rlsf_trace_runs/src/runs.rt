@@ -30,7 +30,7 @@ use std::collections::VecDeque;
 /// Why a run did nothing.
 #[derive(Clone, Copy, Debug, PartialEq, Eq)]
 pub enum RunError {
-    /// The system refused memory for the answers or for the run's own tables.
+    /// Out of memory for the answers or for the run's own tables.
     OutOfMemory = 1,
 }
 
@@ -61,7 +61,7 @@ fn is_vacant(memory: &Memory, pools: &VecDeque<Range>, range: Range) -> bool
     lies_in(memory, range) && !overlaps_any(pools, range)
 }
 
-/// Does one op, and answers it. The tables have room for it.
+/// Does one op and returns its answer. The tables have room for it.
 pub fn step<FLBitmap: BitPattern, SLBitmap: BitPattern, const FLLEN: usize, const SLLEN: usize>(
     tlsf: &mut Tlsf<FLBitmap, SLBitmap, FLLEN, SLLEN>,
     tables: &mut Tables,
@@ -178,8 +178,8 @@ fn alloc<FLBitmap: BitPattern, SLBitmap: BitPattern, const FLLEN: usize, const S
 ///
 /// The memory stays in place, and at `Ok` each of its bytes that no block is made of at the end is as it was.
 ///
-/// `OutOfMemory` comes where the system refuses memory for the answers or for the run's own tables; no clause says that it
-/// comes only then. No op was done then, and the answers are as before.
+/// The error is `OutOfMemory` if there is no memory for the answers or the run's own tables. No clause says that it has no other
+/// cause. Then no op was done, and the answers are unchanged.
 pub fn run<FLBitmap: BitPattern, SLBitmap: BitPattern, const FLLEN: usize, const SLLEN: usize>(
     alloc: Global,
     tlsf: &mut Tlsf<FLBitmap, SLBitmap, FLLEN, SLLEN>,
@@ -194,7 +194,7 @@ pub fn run<FLBitmap: BitPattern, SLBitmap: BitPattern, const FLLEN: usize, const
     ensures refused { OnErr result ((answers.new.items ≡ answers.old.items) × (tlsf.new ≡ tlsf.old)) }
     ensures place { SamePlace tlsf.old.memory tlsf.new.memory }
 {
-    // What `memory_ref` says of every allocator: its memory and its class table stand for its state.
+    // What `memory_ref` says of every allocator: its memory and its class table represent its state.
     let _ = tlsf.memory_ref();
     answers.try_reserve(ops.len())?;
     let mut tables = Tables::with_room(alloc, ops.len())?;

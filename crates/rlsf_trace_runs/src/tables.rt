@@ -27,7 +27,7 @@ pub struct Tables {
 }
 
 impl Tables {
-    /// Empty tables with room for so many ops, or an error where the system refused memory.
+    /// Empty tables with room for so many ops, or an error if the system is out of memory.
     pub fn with_room(alloc: Global, ops: usize) -> Result<Tables, AllocError>
         ensures empty { IfOk result (λ tables. IsEmpty tables.names × (tables.pools.items ≡ [])) }
         ensures room { IfOk result (λ tables. HasRoom tables ops) }
@@ -73,7 +73,7 @@ impl Tables {
         let _ = self.names.insert(name, payload);
     }
 
-    /// Makes a name free, and answers the payload that had it, if one did.
+    /// Makes a name free, and returns the payload that had it, if one did.
     pub(crate) fn take_name(&mut self, name: usize) -> Option<Payload>
         ensures value { result ≡ get nat_eq self.old.names name }
         ensures names { (other : ℕ) → get nat_eq self.new.names other ≡ (if nat_eq name other then None else get nat_eq self.old.names other) }
@@ -99,7 +99,7 @@ fn overlap(one: Range, other: Range) -> bool
     one.start.max(other.start) < (one.start + one.len).min(other.start + other.len)
 }
 
-/// How many pools begin before an address. These stand before the others.
+/// The number of pools that begin before an address. They come first in the table.
 fn begun_before(pools: &VecDeque<Range>, addr: usize) -> usize
     requires { IsInOrder pools.now.items }
     ensures bound { result ≤ length pools.now.items }

@@ -13,20 +13,23 @@ use Rattle.rlsf_trace_text.specs.Reading.{command_in, commands_in}
 abbrev pub commands_from : ℕ → List (List ℕ) → Result (List Command) ReplayFault
 commands_from number lines = all_or_fault (map (λ line. at_line line.0 (command_in (words line.1))) (enumerate_from number lines))
 
--- the same, behind the commands of earlier lines
+-- the commands of earlier lines, with those of the lines from this number on behind them
 abbrev pub commands_behind : List Command → ℕ → List (List ℕ) → Result (List Command) ReplayFault
 commands_behind front number lines = commands_from number lines >>= λ commands. Ok (front ++ commands)
 
-regroup : (front : List Command) (command : Command) (read : Result (List Command) ReplayFault) → ((read >>= λ xs. Ok (command ∷ xs)) >>= λ xs. Ok (front ++ xs)) ≡ (read >>= λ xs. Ok ((front ++ command ∷ []) ++ xs))
+regroup : (front : List Command) (command : Command) (read : Result (List Command) ReplayFault)
+    → ((read >>= λ xs. Ok (command ∷ xs)) >>= λ xs. Ok (front ++ xs)) ≡ (read >>= λ xs. Ok ((front ++ command ∷ []) ++ xs))
 regroup front command (Ok xs) = ap (λ (ys : List Command). Ok ys) (sym (append_assoc front (command ∷ []) xs))
 regroup front command (Err f) = refl
 
 -- a line without a fault
-pub commands_behind-line : (front : List Command) (number : ℕ) (line : List ℕ) (lines : List (List ℕ)) (command : Command) → command_in (words line) ≡ Ok command → commands_behind front number (line ∷ lines) ≡ commands_behind (front ++ command ∷ []) (number + 1) lines
+pub commands_behind-line : (front : List Command) (number : ℕ) (line : List ℕ) (lines : List (List ℕ)) (command : Command) → command_in (words line) ≡ Ok command
+    → commands_behind front number (line ∷ lines) ≡ commands_behind (front ++ command ∷ []) (number + 1) lines
 commands_behind-line front number line lines command e = rw e (regroup front command (commands_from (number + 1) lines))
 
 -- a line with a fault
-pub commands_behind-fault : (front : List Command) (number : ℕ) (line : List ℕ) (lines : List (List ℕ)) (fault : Fault) → command_in (words line) ≡ Err fault → commands_behind front number (line ∷ lines) ≡ Err (record { line = number; fault = fault })
+pub commands_behind-fault : (front : List Command) (number : ℕ) (line : List ℕ) (lines : List (List ℕ)) (fault : Fault) → command_in (words line) ≡ Err fault
+    → commands_behind front number (line ∷ lines) ≡ Err (record { line = number; fault = fault })
 commands_behind-fault front number line lines fault e = rw e refl
 
 -- no more lines

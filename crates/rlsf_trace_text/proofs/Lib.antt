@@ -1,3 +1,4 @@
+-- Lemmas about the text of a trace: its lines, commands, numbers and faults.
 pub mod Commands
 pub mod LayoutTests
 pub mod LineParts

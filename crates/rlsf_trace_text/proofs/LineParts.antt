@@ -1,5 +1,6 @@
 -- How a text falls into lines.
-use Rattle.std.proofs.Common.{◌≡◌, ℕ, ◌+◌, ◌-◌, ◌^◌, ◌<◌, ◌≤◌, Bool, true, false, not, cond, eqb, List, [], ◌∷◌, length, take, drop, Option, Some, None, refl, sym, ap, ◌∙◌, arith, ltb}
+use Rattle.std.proofs.Common.{◌≡◌, ℕ, ◌+◌, ◌-◌, ◌^◌, ◌<◌, ◌≤◌, Bool, true, false, not, cond, eqb, List, [], ◌∷◌, length, take, drop, Option}
+use Rattle.std.proofs.Common.{Some, None, refl, sym, ap, ◌∙◌, arith, ltb}
 use Rattle.std.specs.Prelude.{◌==◌, IfNone, MatchOption}
 use Rattle.std.specs.Borrow.{Bor}
 use Rattle.std.specs.Option.{option_map_or}
@@ -11,7 +12,8 @@ use Rattle.std.proofs.lemmas.Option.{cond_some}
 use Rattle.rlsf_trace_text.specs.Lines.{without_empty_last, lines}
 
 -- the first part ends at the first place that passes
-pub slice_split-at : (p : ℕ → Bool) (xs : List ℕ) (place : ℕ) → Some place ≡ position p xs → slice_split p xs ≡ take place xs ∷ slice_split p (take (length xs - (place + 1)) (drop (place + 1) xs))
+pub slice_split-at : (p : ℕ → Bool) (xs : List ℕ) (place : ℕ) → Some place ≡ position p xs
+    → slice_split p xs ≡ take place xs ∷ slice_split p (take (length xs - (place + 1)) (drop (place + 1) xs))
 slice_split-at p xs place e =
     let found = cond_some (ltb (position_or_len p xs) (length xs)) (position_or_len p xs) place (sym e) in
     let inside : position_or_len p xs < length xs = ltb-true _ _ found.0 in
@@ -23,7 +25,8 @@ slice_split-whole : (p : ℕ → Bool) (xs : List ℕ) → length xs ≤ positio
 slice_split-whole p [] none = refl
 slice_split-whole p (x ∷ xs) none = by_test (p x) none (slice_split-whole p xs)
   where
-    by_test : (t : Bool) → length (x ∷ xs) ≤ cond (not t) (1 + position_or_len p xs) 0 → (length xs ≤ position_or_len p xs → slice_split p xs ≡ xs ∷ []) → cond t ([] ∷ slice_split p xs) (onto_first x (slice_split p xs)) ≡ (x ∷ xs) ∷ []
+    by_test : (t : Bool) → length (x ∷ xs) ≤ cond (not t) (1 + position_or_len p xs) 0 → (length xs ≤ position_or_len p xs → slice_split p xs ≡ xs ∷ [])
+        → cond t ([] ∷ slice_split p xs) (onto_first x (slice_split p xs)) ≡ (x ∷ xs) ∷ []
     by_test true none more = absurd (omega arith)
     by_test false none more = ap (onto_first x) (more (omega arith))
 
@@ -39,7 +42,8 @@ slice_split-cons : (p : ℕ → Bool) (xs : List ℕ) → (part : List ℕ) × (
 slice_split-cons p [] = ([], [], refl)
 slice_split-cons p (x ∷ xs) = by_test (p x) (slice_split p xs) (slice_split-cons p xs)
   where
-    by_test : (t : Bool) (rest : List (List ℕ)) → (part : List ℕ) × (parts : List (List ℕ)) × (rest ≡ part ∷ parts) → (part : List ℕ) × (parts : List (List ℕ)) × (cond t ([] ∷ rest) (onto_first x rest) ≡ part ∷ parts)
+    by_test : (t : Bool) (rest : List (List ℕ)) → (part : List ℕ) × (parts : List (List ℕ)) × (rest ≡ part ∷ parts)
+        → (part : List ℕ) × (parts : List (List ℕ)) × (cond t ([] ∷ rest) (onto_first x rest) ≡ part ∷ parts)
     by_test true rest h = ([], rest, refl)
     by_test false rest h = (x ∷ h.0, h.1, ap (onto_first x) h.2)
 
@@ -47,7 +51,9 @@ abbrev is_lf : ℕ → Bool
 is_lf b = b == 10
 
 -- the first line, and the lines of what follows it
-pub lines_step : (text line : List ℕ) (after : Option (Bor (List ℕ))) → 0 < length text → slice_split is_lf text ≡ line ∷ option_map_or (λ rest. slice_split is_lf rest.now) after [] → IfNone after (line ≡ text) → lines text ≡ line ∷ option_map_or (λ rest. lines rest.now) after []
+pub lines_step : (text line : List ℕ) (after : Option (Bor (List ℕ))) → 0 < length text
+    → slice_split is_lf text ≡ line ∷ option_map_or (λ rest. slice_split is_lf rest.now) after [] → IfNone after (line ≡ text)
+    → lines text ≡ line ∷ option_map_or (λ rest. lines rest.now) after []
 unfolding lines
 lines_step text line (Some rest) some parts whole =
     let more = slice_split-cons is_lf rest.now in
@@ -63,11 +69,13 @@ unfolding lines
 length-lines [] = omega arith
 length-lines (b ∷ bs) = by_test (is_lf b) (slice_split is_lf bs) (slice_split-cons is_lf bs) (length-lines bs)
   where
-    by_parts : (part : List ℕ) (parts : List (List ℕ)) → length (without_empty_last (part ∷ parts)) ≤ length bs → length (without_empty_last ((b ∷ part) ∷ parts)) ≤ length (b ∷ bs)
+    by_parts : (part : List ℕ) (parts : List (List ℕ)) → length (without_empty_last (part ∷ parts)) ≤ length bs
+        → length (without_empty_last ((b ∷ part) ∷ parts)) ≤ length (b ∷ bs)
     by_parts part [] fewer = rw (cond-false (eqb (length (b ∷ part)) 0) [] ((b ∷ part) ∷ []) (ne_eqb (length (b ∷ part)) 0 (λ none. omega arith))) (omega arith)
     by_parts part (next ∷ parts) fewer = omega arith
 
-    by_test : (t : Bool) (rest : List (List ℕ)) → (part : List ℕ) × (parts : List (List ℕ)) × (rest ≡ part ∷ parts) → length (without_empty_last rest) ≤ length bs → length (without_empty_last (cond t ([] ∷ rest) (onto_first b rest))) ≤ length (b ∷ bs)
+    by_test : (t : Bool) (rest : List (List ℕ)) → (part : List ℕ) × (parts : List (List ℕ)) × (rest ≡ part ∷ parts) → length (without_empty_last rest) ≤ length bs
+        → length (without_empty_last (cond t ([] ∷ rest) (onto_first b rest))) ≤ length (b ∷ bs)
     by_test true rest h fewer = rw h.2 (omega (arith, rw h.2 at fewer))
     by_test false rest h fewer = rw h.2 (by_parts h.0 h.1 (rw h.2 at fewer))
 
@@ -80,7 +88,8 @@ lines_empty (b ∷ bs) none = absurd (omega arith)
 pub ruleset lines_taken = (lines_step, lines_empty)
 
 -- the lines after the first are fewer than all, if there are any
-pub lines_fewer : (all others : List (List ℕ)) (first : Option (Bor (List ℕ))) → MatchOption first ((all ≡ []) × (others ≡ [])) (λ line. all ≡ line.now ∷ others) → length all < 2 ^ 64 → 1 + length others < 2 ^ 64
+pub lines_fewer : (all others : List (List ℕ)) (first : Option (Bor (List ℕ))) → MatchOption first ((all ≡ []) × (others ≡ [])) (λ line. all ≡ line.now ∷ others)
+    → length all < 2 ^ 64 → 1 + length others < 2 ^ 64
 lines_fewer all others (Some line) step few = omega (arith, ap length step)
 lines_fewer all others None step few = omega (arith, ap length step.1)
 

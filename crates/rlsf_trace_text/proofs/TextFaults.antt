@@ -9,7 +9,8 @@ use Rattle.rlsf_trace_text.specs.declared.parse.Trace.{Trace}
 use Rattle.rlsf_trace_text.specs.Faults.{out_of_memory, IsOfText, IsOfLine}
 use Rattle.rlsf_trace_text.specs.Lines.{lines, first_line}
 use Rattle.rlsf_trace_text.specs.Numbers.{number_of, byte_of}
-use Rattle.rlsf_trace_text.specs.Reading.{layout_of, one_number, two_numbers, three_numbers, insert_in, append_in, alloc_in, free_in, free_unknown_in, realloc_in, realloc_no_move_in, fill_in, put_in, get_in, usable_in, block_in, command_in, header_in, commands_in, trace_in, trace_text}
+use Rattle.rlsf_trace_text.specs.Reading.{layout_of, one_number, two_numbers, three_numbers, insert_in, append_in, alloc_in, free_in, free_unknown_in, realloc_in}
+use Rattle.rlsf_trace_text.specs.Reading.{realloc_no_move_in, fill_in, put_in, get_in, usable_in, block_in, command_in, header_in, commands_in, trace_in, trace_text}
 use Rattle.rlsf_trace_text.specs.FallibleSteps.{◌>>=◌, or_fault, at_line, all_or_fault, ReadsAsOrRefused}
 use Rattle.rlsf_trace_text.specs.Words.{words, exactly_one, exactly_two, exactly_three}
 use Rattle.rlsf_trace_text.proofs.Commands.{commands_from}
@@ -120,7 +121,22 @@ block_in-faults fields = search (step, three_numbers-faults)
 command_in-faults : (line : List (List ℕ)) → IfErr (command_in line) IsOfText
 unfolding command_in
 command_in-faults [] = tt
-command_in-faults (name ∷ fields) = search (choice, insert_in-faults, append_in-faults, alloc_in-faults, free_in-faults, free_unknown_in-faults, realloc_in-faults, realloc_no_move_in-faults, fill_in-faults, put_in-faults, get_in-faults, usable_in-faults, block_in-faults) depth 15
+command_in-faults (name ∷ fields) =
+    search (
+      choice,
+      insert_in-faults,
+      append_in-faults,
+      alloc_in-faults,
+      free_in-faults,
+      free_unknown_in-faults,
+      realloc_in-faults,
+      realloc_no_move_in-faults,
+      fill_in-faults,
+      put_in-faults,
+      get_in-faults,
+      usable_in-faults,
+      block_in-faults,
+    ) depth 15
 
 header_in-faults : (fields : List (List ℕ)) → IfErr (header_in fields) IsOfText
 unfolding header_in
@@ -130,7 +146,8 @@ at_line-faults : {A : Type 0} (n : ℕ) (r : Result A Fault) → 0 < n → IfErr
 at_line-faults n (Ok x) numbered kind = tt
 at_line-faults n (Err f) numbered kind = record { numbered = numbered; of_text = kind }
 
-all_or_fault-cons : {A : Type 0} (P : ReplayFault → Type 0) (r : Result A ReplayFault) (others : List (Result A ReplayFault)) → IfErr r P → IfErr (all_or_fault others) P → IfErr (all_or_fault (r ∷ others)) P
+all_or_fault-cons : {A : Type 0} (P : ReplayFault → Type 0) (r : Result A ReplayFault) (others : List (Result A ReplayFault)) → IfErr r P → IfErr (all_or_fault others) P
+    → IfErr (all_or_fault (r ∷ others)) P
 all_or_fault-cons P (Ok x) others first rest = step P (all_or_fault others) (λ xs. Ok (x ∷ xs)) rest (λ xs. tt)
 all_or_fault-cons P (Err f) others first rest = first
 
@@ -153,7 +170,7 @@ trace_in-faults text =
 trace_in-fault : (text : List ℕ) (f : ReplayFault) → trace_in text ≡ Err f → IsOfLine f
 trace_in-fault text f e = IfErr-at_err IsOfLine e (trace_in-faults text)
 
--- what reading gives, or a refusal
+-- the result of reading, or a refusal
 pub fault_of_line : (text : List ℕ) (r : Result Trace ReplayFault) → ReadsAsOrRefused trace_text r (trace_in text) → IfErr r (λ f. IsOfLine f ⊎ (f ≡ out_of_memory))
 fault_of_line text (Ok t) read = tt
 fault_of_line text (Err f) (inl read) = inl (trace_in-fault text f read)

@@ -3,7 +3,7 @@ use Rattle.std.specs.Prelude.{ℕ}
 use Rattle.rlsf_trace_text.specs.declared.op.Op.{Op}
 use Rattle.rlsf_trace_text.specs.declared.op.Op.TheVariants.{Insert, Append, Alloc, Free, FreeUnknown, Realloc, ReallocNoMove, Fill, Put, Get, Usable, Block, Trim}
 
--- a command, with its numbers as they stand on the line; no line asks for a trim
+-- a command with its numbers, as the line has them; no line asks for a trim
 pub data Command : Type 0 where
   insert : (start len : ℕ) → Command
   append : (start len : ℕ) → Command

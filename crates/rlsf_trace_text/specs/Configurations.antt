@@ -4,7 +4,7 @@ use Rattle.std.specs.Str.{bytes_eq}
 use Rattle.rlsf_trace_text.specs.declared.configuration.Configuration.{Configuration}
 use Rattle.rlsf_trace_text.specs.declared.configuration.Configuration.TheVariants.{EightByEight, TwelveBySixteen, FiftyNineByEight, OneByOne, EightByOne}
 
--- the configuration that a word names: its rows of size classes, an x, and the classes in a row
+-- the configuration that a word names: the number of first-level rows, an x, and the number of classes in each
 abbrev pub configuration_named : List ℕ → Option Configuration
 configuration_named word =
     if bytes_eq word (codes "8x8") then Some EightByEight

@@ -26,12 +26,12 @@ all_or_fault [] = Ok []
 all_or_fault ((Ok x) ∷ others) = all_or_fault others >>= λ xs. Ok (x ∷ xs)
 all_or_fault ((Err f) ∷ others) = Err f
 
--- what a function returned, seen by view, is what reading gives
+-- what a function returned, seen by view, is the result of reading
 abbrev pub ReadsAs : {X Y E : Type 0} → (X → Y) → Result X E → Result Y E → Type 0
 ReadsAs view (Ok x) read = read ≡ Ok (view x)
 ReadsAs view (Err f) read = read ≡ Err f
 
--- the same, unless the system refused memory
+-- what a function returned, seen by view, is the result of reading, unless the system is out of memory
 abbrev pub ReadsAsOrRefused : {X Y : Type 0} → (X → Y) → Result X ReplayFault → Result Y ReplayFault → Type 0
 ReadsAsOrRefused view (Ok x) read = read ≡ Ok (view x)
 ReadsAsOrRefused view (Err f) read = (read ≡ Err f) ⊎ (f ≡ out_of_memory)

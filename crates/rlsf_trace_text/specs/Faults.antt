@@ -1,4 +1,4 @@
--- Faults: their words, and what is told of them.
+-- Faults: their names, and how they are reported.
 use Rattle.std.specs.Prelude.{ℕ, ◌<◌, List, ◌++◌, codes}
 use Rattle.std.specs.Fmt.{decimal}
 use Rattle.rlsf_trace_text.specs.declared.fault.Fault.{Fault}
@@ -18,11 +18,11 @@ fault_word OutOfMemory = codes "OutOfMemory"
 fault_word Read = codes "Read"
 fault_word Write = codes "Write"
 
--- what is told of a fault: the number of its line, and its word
+-- the report of a fault: the number of its line, and its name
 abbrev pub fault_text : ReplayFault → List ℕ
 fault_text f = codes "line " ++ decimal f.line ++ codes ": " ++ fault_word f.fault
 
--- the system refused memory, and no line is to blame
+-- out of memory, on no line
 abbrev pub out_of_memory : ReplayFault
 out_of_memory = record { line = 0; fault = OutOfMemory }
 

@@ -1,3 +1,4 @@
+-- The definitions of the text of a trace. Read `Reading` first.
 pub mod Commands
 pub mod Configurations
 pub mod FallibleSteps

@@ -6,7 +6,8 @@ use Rattle.std.specs.List.{flat_map, zip}
 use Rattle.std.specs.declared.num.NonZeroUsize.{NonZeroUsize}
 use Rattle.rlsf_base.specs.declared.memory.range.Range.{Range}
 use Rattle.rlsf_trace_text.specs.declared.op.Op.{Op}
-use Rattle.rlsf_trace_text.specs.declared.op.Op.TheVariants.{Insert, Append, Alloc, Free, FreeUnknown, Realloc, ReallocNoMove, Fill, Put, Get, Usable as OpUsable, Block as OpBlock, Trim}
+use Rattle.rlsf_trace_text.specs.declared.op.Op.TheVariants.{Insert, Append, Alloc, Free, FreeUnknown, Realloc, ReallocNoMove, Fill, Put, Get, Usable as OpUsable, Block as OpBlock}
+use Rattle.rlsf_trace_text.specs.declared.op.Op.TheVariants.{Trim}
 use Rattle.rlsf_trace_text.specs.declared.op.Answer.{Answer}
 use Rattle.rlsf_trace_text.specs.declared.op.Answer.TheVariants.{Inserted, Appended, Placed, Done, Byte, Usable, Block, Trimmed, Refused}
 use Rattle.rlsf_trace_text.specs.declared.op.TraceError.{TraceError}
@@ -63,7 +64,7 @@ abbrev pub block_text : Option (Range × Bool) → List ℕ
 block_text (Some block) = codes " " ++ decimal block.0.start ++ codes " " ++ decimal block.0.len ++ (if block.1 then codes " used" else codes " free")
 block_text None = codes " none"
 
--- what the line of an op tells of its answer
+-- the answer, as the line of an op shows it
 abbrev pub answer_text : Answer → List ℕ
 answer_text (Inserted len) = inserted_text len
 answer_text (Appended len) = codes " " ++ decimal len

@@ -3,19 +3,19 @@ ghost use Rattle.rlsf_trace_text.specs.Configurations.{configuration_named};
 
 use crate::words::is_same;
 
-/// The parameters of the allocator that a trace runs on: how many rows of size classes it has, how many
-/// classes in a row, and the type of its bitmaps.
+/// The parameters of the allocator that runs a trace: how many first-level rows there are, how many classes each has, and the type
+/// of the bitmaps.
 #[derive(Clone, Copy, Debug, PartialEq, Eq)]
 pub enum Configuration {
-    /// `8x8`: 8 rows of 8 classes, with bitmaps of type `u8`.
+    /// `8x8`: 8 first-level rows of 8 classes, with bitmaps of type `u8`.
     EightByEight,
-    /// `12x16`: 12 rows of 16 classes, with bitmaps of type `u16`.
+    /// `12x16`: 12 first-level rows of 16 classes, with bitmaps of type `u16`.
     TwelveBySixteen,
-    /// `59x8`: 59 rows of 8 classes, with bitmaps of type `u64`.
+    /// `59x8`: 59 first-level rows of 8 classes, with bitmaps of type `u64`.
     FiftyNineByEight,
-    /// `1x1`: one row of one class, with bitmaps of type `u8`.
+    /// `1x1`: one first-level row of one class, with bitmaps of type `u8`.
     OneByOne,
-    /// `8x1`: 8 rows of one class, with bitmaps of type `u8`.
+    /// `8x1`: 8 first-level rows of one class, with bitmaps of type `u8`.
     EightByOne,
 }
 

@@ -2,7 +2,7 @@ ghost use Rattle.std.specs.Prelude.{◌≡◌, ◌==◌, [], ◌∷◌, position
 ghost use Rattle.std.specs.List.{slice_split};
 ghost use Rattle.std.specs.Option.{option_map_or};
 
-/// What stands before the first `at` of a text, and what stands after it, if there is one.
+/// The part of a text before the first `at`, and the part after it, if there is one.
 #[tactic(auto, using(crate::proofs::LineParts::parts_cut))]
 pub(crate) fn cut(text: &[u8], at: u8) -> (&[u8], Option<&[u8]>)
     ensures parts { slice_split (λ b. b == at) text.now

@@ -14,8 +14,7 @@ pub enum Fault {
     Config,
     /// No command has the name that a line begins with.
     UnknownOp,
-    /// A word that is to be a number isn't one to twenty decimal digits, or is above `2^64 - 1`, or
-    /// above 255 where it is to be a byte.
+    /// A word isn't the number that it has to be: one to twenty decimal digits, at most `2^64 - 1`. A byte is at most 255.
     BadNumber,
     /// The memory is to start at address 0.
     ZeroStart,
@@ -23,7 +22,7 @@ pub enum Fault {
     TooLong,
     /// No layout has the size and the alignment of an allocation.
     BadLayout,
-    /// The system refused memory.
+    /// Out of memory.
     OutOfMemory,
     /// The input could not be read.
     Read,
@@ -49,7 +48,7 @@ pub struct ReplayFault {
     pub fault: Fault,
 }
 
-/// The status that a program ends with after a replay: 0 where it went well, else 1.
+/// The status that a program ends with after a replay: 0 after success, else 1.
 pub fn status(outcome: &Result<(), ReplayFault>) -> u8
     ensures { MatchResult outcome.now (λ _. result ≡ 0) (λ _. result ≡ 1) }
 {

@@ -1,4 +1,7 @@
-//! The text of allocator traces: their ops and answers, how a trace is read from text, and how its answers are printed.
+//! The text of allocator traces: a trace is read from text, and its answers are printed.
+//!
+//! Read `op.rt` first: the ops, their answers and the refusals. `configuration.rt` and `fault.rt` have the first line and the faults.
+//! `parse.rt` reads a trace by `reading.rt`, `lines.rt`, `words.rt`, `cut.rt` and `number.rt`. `printing.rt` prints the answers.
 #![tactic(auto)]
 
 mod configuration;

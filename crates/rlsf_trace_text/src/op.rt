@@ -2,7 +2,7 @@ use rlsf_base::memory::{Addr, Layout, Range};
 use std::fmt;
 use std::num::NonZeroUsize;
 
-/// One op of a trace. Payloads are named by whole numbers of 64 bits.
+/// One op of a trace. The names of payloads are numbers of 64 bits.
 #[derive(Clone, Copy, Debug, PartialEq, Eq)]
 pub enum Op {
     /// Gives the allocator the range as a pool.
@@ -17,7 +17,7 @@ pub enum Op {
     FreeUnknown(usize),
     /// Gives the payload of this name another size, with the alignment that it was allocated with.
     Realloc(usize, usize),
-    /// Gives the payload of this name another size where it stands, with the alignment that it was allocated with.
+    /// Resizes the payload of this name in place, with the alignment of its allocation.
     ReallocNoMove(usize, usize),
     /// Sets every usable byte of the payload to the byte.
     Fill(usize, u8),
@@ -29,21 +29,21 @@ pub enum Op {
     Usable(usize),
     /// Asks for the block at an index, from 0, of the pool that is the range.
     Block(Range, usize),
-    /// Gives the newest ranges back to the source, as far as they hold no payload. The text of traces has no line for it.
+    /// Returns the newest ranges without a payload to the source. The text of traces has no line for it.
     Trim,
 }
 
 /// What an op of a trace answers.
 #[derive(Clone, Copy, Debug, PartialEq, Eq)]
 pub enum Answer {
-    /// How many bytes there are from the range's start up to the end of the pool that was made of it, what was skipped in front
-    /// included; none where it was too short for one.
+    /// The number of bytes from the range's start to the end of its pool, with those that were skipped in front. None if the range
+    /// is too short for a pool.
     Inserted(Option<NonZeroUsize>),
     /// How many bytes of the range the pool took.
     Appended(usize),
     /// The address of the payload, or that there was no room for it.
     Placed(Option<Addr>),
-    /// The op was done, and there is nothing to tell of it.
+    /// The op was done, and has no other answer.
     Done,
     /// The byte that was read.
     Byte(u8),
@@ -51,7 +51,7 @@ pub enum Answer {
     Usable(usize),
     /// The block's range with its header, and whether it is used; none past the last one.
     Block(Option<(Range, bool)>),
-    /// How many ranges went back to the source.
+    /// How many ranges returned to the source.
     Trimmed(usize),
     /// The op was refused, and changed nothing.
     Refused(TraceError),
@@ -64,17 +64,17 @@ pub enum TraceError {
     UnknownName = 1,
     /// The name of a new payload is that of a live one.
     NameTaken = 2,
-    /// The range doesn't lie in the memory; or it is to be inserted or appended, and overlaps a pool; or it is to be appended, and
-    /// no pool ends where it begins; or its blocks are asked for, and its start rounded up to 32 and its end aren't those of one
-    /// pool.
+    /// The range doesn't lie in the memory. An op that inserts or appends it is also refused if it overlaps a pool. An append is
+    /// also refused if no pool ends where the range begins. A `block` is also refused if the range isn't one pool: from its start
+    /// rounded up to 32, to its end.
     BadRange = 3,
     /// The offset isn't below the usable size of the payload.
     BadOffset = 4,
     /// No layout has the new size and the alignment of the payload.
     BadLayout = 5,
-    /// A range is inserted, appended or walked in a run over a source: there the source's ranges are the pools.
+    /// An op inserts, appends or iterates over a range in a run over a source, whose ranges are the pools.
     NotForFlex = 6,
-    /// A trim in a run without a source: nobody takes ranges back.
+    /// A trim in a run without a source, to which no range can return.
     NotForTlsf = 7,
 }
 

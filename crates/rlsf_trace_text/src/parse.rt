@@ -28,20 +28,21 @@ impl Trace {
     ghost use Rattle.rlsf_trace_text.specs.FallibleSteps.{ReadsAsOrRefused};
     ghost use Rattle.rlsf_trace_text.specs.Reading.{trace_in, trace_text};
 
-    /// Reads a trace from its text, the whole of it.
+    /// Reads a trace from its complete text.
     ///
-    /// LF ends a line, and what follows the last LF is a line if it is not empty; there is a first line
-    /// in any text. Single spaces part the words of a line, and CR means nothing. A number is one to
-    /// twenty decimal digits with a value of at most `2^64 - 1`.
+    /// LF ends a line. What follows the last LF is a line if it is not empty, and any text has a first line. Single spaces
+    /// separate the words of a line, and CR has no meaning. A number is one to twenty decimal digits with a value of at most
+    /// `2^64 - 1`. A BYTE is a number of at most 255.
     ///
     /// The first line is `CONFIG START LEN`. The others are `insert START LEN`, `append START LEN`,
     /// `alloc NAME SIZE ALIGN`, `free NAME`, `ufree NAME`, `realloc NAME SIZE`, `nrealloc NAME SIZE`,
-    /// `fill NAME BYTE`, `put NAME OFFSET BYTE`, `get NAME OFFSET`, `usable NAME` or `block START LEN INDEX`, where a BYTE is
-    /// a number of at most 255. The first line that isn't so is a fault, with its number. The first line is
-    /// tested for `FieldCount`, `Config`, `BadNumber`, `ZeroStart` and `TooLong`, in this order, and any
-    /// other for `UnknownOp`, `FieldCount`, `BadNumber` and `BadLayout`.
+    /// `fill NAME BYTE`, `put NAME OFFSET BYTE`, `get NAME OFFSET`, `usable NAME` or `block START LEN INDEX`.
     ///
-    /// `OutOfMemory`, of no line, comes where the system refuses memory for the ops; no clause says that it comes only then.
+    /// The first line that has another form is the fault, with its number. The first line is tested for `FieldCount`, `Config`,
+    /// `BadNumber`, `ZeroStart` and `TooLong`, in this order. Any other line is tested for `UnknownOp`, `FieldCount`, `BadNumber`
+    /// and `BadLayout`.
+    ///
+    /// The error is `OutOfMemory` of no line if there is no memory for the ops. No clause says that it has no other cause.
     #[tactic(auto, using(crate::proofs::TextFaults::fault_of_line))]
     pub fn parse(alloc: Global, text: &[u8]) -> Result<Trace, ReplayFault>
         ensures read { ReadsAsOrRefused trace_text result (trace_in text.now) }
@@ -50,7 +51,7 @@ impl Trace {
         Trace::read(alloc, text)
     }
 
-    // What the text gives. That each fault of it is of a line follows.
+    // The result for the text. That each fault of it is of a line follows.
     #[tactic(auto, using(crate::proofs::LineParts::lines_counted), unfolding(crate::specs::Reading::trace_in))]
     fn read(alloc: Global, text: &[u8]) -> Result<Trace, ReplayFault>
         ensures { ReadsAsOrRefused trace_text result (trace_in text.now) }

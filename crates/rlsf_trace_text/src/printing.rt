@@ -9,7 +9,7 @@ use std::num::NonZeroUsize;
 /// The lines that are printed for ops and their answers: one for each op that has an answer, in their
 /// order, each ended by LF.
 ///
-/// An error comes where the system refuses memory; no clause says that it comes only then.
+/// Returns an error if the system is out of memory. No clause says that it has no other cause.
 pub fn text_of(alloc: Global, ops: &[Op], answers: &[Answer]) -> Result<String, AllocError>
     ensures { IfOk result (λ text. string_bytes text ≡ text_of ops.now answers.now) }
 {

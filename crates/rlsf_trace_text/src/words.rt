@@ -74,7 +74,7 @@ impl<'a> Words<'a> {
     }
 }
 
-/// Whether two words are the same.
+/// Whether two words are equal.
 pub(crate) fn is_same(word: &[u8], other: &[u8]) -> bool
     ensures { result ≡ bytes_eq word.now other.now }
 {

@@ -1,3 +1,4 @@
+-- Lemmas about moments: the blocks and the counts of a state before and after an op.
 mod Ops
 mod Passing
 mod Steps

@@ -1,5 +1,6 @@
 -- What an op changes: the payload that it is on, and no other.
-use Rattle.std.proofs.Common.{◌≡◌, ℕ, ◌+◌, cond, length, List, [], ◌∷◌, Option, Some, None, arith, refl, sym, ◌∙◌, ap, subst, inl, inr, replicate, slice_set}
+use Rattle.std.proofs.Common.{◌≡◌, ℕ, ◌+◌, cond, length, List, [], ◌∷◌, Option, Some, None, arith, refl, sym, ◌∙◌, ap, subst, inl, inr, replicate}
+use Rattle.std.proofs.Common.{slice_set}
 use Rattle.std.specs.Prelude.{◌⊎◌, sum_by}
 use Rattle.std.proofs.lemmas.Bool.{eq-eqb}
 use Rattle.std.proofs.lemmas.List.Sums.{sum_by-cons}
@@ -19,7 +20,8 @@ use Rattle.rlsf_machine.proofs.NoMove.{unmoved_is_reallocated}
 use Rattle.rlsf_trace_text.specs.declared.op.Answer.{Answer}
 use Rattle.rlsf_trace_text.specs.declared.op.Answer.TheVariants.{Inserted, Appended, Placed, Done, Byte, Usable, Block, Trimmed, Refused}
 use Rattle.rlsf_trace_text.specs.declared.op.Op.{Op}
-use Rattle.rlsf_trace_text.specs.declared.op.Op.TheVariants.{Insert, Append, Alloc, Free, FreeUnknown, Realloc, ReallocNoMove, Fill, Put, Get, Usable as OpUsable, Block as OpBlock, Trim}
+use Rattle.rlsf_trace_text.specs.declared.op.Op.TheVariants.{Insert, Append, Alloc, Free, FreeUnknown, Realloc, ReallocNoMove, Fill, Put, Get, Usable as OpUsable, Block as OpBlock}
+use Rattle.rlsf_trace_text.specs.declared.op.Op.TheVariants.{Trim}
 use Rattle.rlsf_trace_runs.specs.Runs.{Does, Frees, RunState, with_name, without_name}
 use Rattle.rlsf_trace_runs.proofs.NamedPayloads.{reallocation_refused}
 use Rattle.rlsf_trace_watch.specs.Moments.{name_in, usable_bytes}
@@ -40,14 +42,16 @@ module _ (f : Used → ℕ) (m : State) (named : ℕ → Option ℕ) where
   weighs-none name n free (inl (_, is)) = is
   weighs-none name n free (inr (u, (_, its), _)) = let bad : None ≡ Some u.payload = sym free ∙ its in absurd (cc)
 
-  weighs-held : {fllen sllen : ℕ} {memory : Range} → IsWellFormed fllen sllen memory m → (name addr n : ℕ) (u : Used) → named name ≡ Some addr → Holds m addr u → WeighsIn f m named name n → n ≡ f u
+  weighs-held : {fllen sllen : ℕ} {memory : Range} → IsWellFormed fllen sllen memory m → (name addr n : ℕ) (u : Used) → named name ≡ Some addr → Holds m addr u
+      → WeighsIn f m named name n → n ≡ f u
   weighs-held w name addr n u its held (inl (free, _)) = let bad : None ≡ Some addr = sym free ∙ its in absurd (cc)
   weighs-held w name addr n u its held (inr (v, (i, at), is)) =
       let same : Some v.payload ≡ Some addr = sym at ∙ its in
       let here : v.payload ≡ addr = cc in
       is ∙ ap f (Holds-unique w addr v u (i, here) held)
 
-  weighs-once : {fllen sllen : ℕ} {memory : Range} → IsWellFormed fllen sllen memory m → (name x y : ℕ) → WeighsIn f m named name x → WeighsIn f m named name y → x ≡ y
+  weighs-once : {fllen sllen : ℕ} {memory : Range} → IsWellFormed fllen sllen memory m → (name x y : ℕ) → WeighsIn f m named name x → WeighsIn f m named name y
+      → x ≡ y
   weighs-once w name x y (inl (free, is)) wy = is ∙ sym (weighs-none name y free wy)
   weighs-once w name x y (inr (u, (i, its), is)) wy = is ∙ sym (weighs-held w name u.payload y u its (i, refl) wy)
 
@@ -58,7 +62,8 @@ with_name-here name addr named = ap (λ b. cond b (Some addr) (named name)) (eq-
 without_name-here : (name : ℕ) (named : ℕ → Option ℕ) → without_name name named name ≡ None
 without_name-here name named = ap (λ b. cond b None (named name)) (eq-eqb name name refl)
 
-module _ {fllen sllen : ℕ} {memory : Range} (f : Used → ℕ) (blind : IsBlind f) (s t : RunState) (ws : IsWellFormed fllen sllen memory s.machine) (wt : IsWellFormed fllen sllen memory t.machine) where
+module _ {fllen sllen : ℕ} {memory : Range} (f : Used → ℕ) (blind : IsBlind f) (s t : RunState) (ws : IsWellFormed fllen sllen memory s.machine)
+    (wt : IsWellFormed fllen sllen memory t.machine) where
   -- the two sides: what the payload weighed, and what it weighs
   abbrev Balance : State → ℕ → ℕ → Type 0
   Balance m x y = weight f m + x ≡ weight f s.machine + y
@@ -82,24 +87,37 @@ module _ {fllen sllen : ℕ} {memory : Range} (f : Used → ℕ) (blind : IsBlin
       go (Some name) ax ay = omega (arith, same, weighs-once f s.machine s.named ws name x y ax ay)
 
   -- the payload stayed in its place, and no other changed
-  stayed : (m : State) (pools : List Range) (name x y : ℕ) → m ≡ s.machine → t ≡ record { machine = m; named = s.named; pools = pools } → WeighsIn f s.machine s.named name x → WeighsIn f t.machine t.named name y → Balance t.machine x y
+  stayed : (m : State) (pools : List Range) (name x y : ℕ) → m ≡ s.machine → t ≡ record { machine = m; named = s.named; pools = pools }
+      → WeighsIn f s.machine s.named name x → WeighsIn f t.machine t.named name y → Balance t.machine x y
   stayed m pools name x y same is wx = onto m s.named pools name x y is
       (λ w wy. omega (arith, ap (weight f) same, weighs-once f s.machine s.named ws name x y wx (subst (λ r. WeighsIn f r s.named name y) same wy)))
 
-  -- a payload was given back
+  -- a payload was deallocated
   freed : (name x y : ℕ) → Frees s name t → WeighsIn f s.machine s.named name x → WeighsIn f t.machine t.named name y → Balance t.machine x y
   freed name x y (u, (i, its), m, step, is) wx = onto m (without_name name s.named) s.pools name x y is
-      (λ w wy. omega (arith, weight-deallocated f ws u.payload m u (i, refl) step, weighs-held f s.machine s.named ws name u.payload x u its (i, refl) wx, weighs-none f m (without_name name s.named) name y (without_name-here name s.named) wy))
+      (λ w wy. omega (
+        arith,
+        weight-deallocated f ws u.payload m u (i, refl) step,
+        weighs-held f s.machine s.named ws name u.payload x u its (i, refl) wx,
+        weighs-none f m (without_name name s.named) name y (without_name-here name s.named) wy,
+      ))
 
   -- a payload was placed
   placed_new : (name size align addr x y : ℕ) (m : State) → s.named name ≡ None → Allocates sllen s.machine size align (Some addr) m
-      → t ≡ record { machine = m; named = with_name name (Some addr) s.named; pools = s.pools } → WeighsIn f s.machine s.named name x → WeighsIn f t.machine t.named name y → Balance t.machine x y
+      → t ≡ record { machine = m; named = with_name name (Some addr) s.named; pools = s.pools } → WeighsIn f s.machine s.named name x → WeighsIn f t.machine t.named name y
+      → Balance t.machine x y
   placed_new name size align addr x y m free step is wx = onto m (with_name name (Some addr) s.named) s.pools name x y is
       (λ w wy. let (v, held, more) = weight-allocated f sllen s.machine m size align addr step in
-      omega (arith, more, weighs-none f s.machine s.named name x free wx, weighs-held f m (with_name name (Some addr) s.named) w name addr y v (with_name-here name addr s.named) held wy))
+      omega (
+        arith,
+        more,
+        weighs-none f s.machine s.named name x free wx,
+        weighs-held f m (with_name name (Some addr) s.named) w name addr y v (with_name-here name addr s.named) held wy,
+      ))
 
   -- a payload has another size
-  resized : (name size to x y : ℕ) (u : Used) (m : State) (named : ℕ → Option ℕ) → IsIn u s.machine.used → s.named name ≡ Some u.payload → Reallocates sllen s.machine u.payload size (Some to) m → named name ≡ Some to
+  resized : (name size to x y : ℕ) (u : Used) (m : State) (named : ℕ → Option ℕ) → IsIn u s.machine.used → s.named name ≡ Some u.payload
+      → Reallocates sllen s.machine u.payload size (Some to) m → named name ≡ Some to
       → t ≡ record { machine = m; named = named; pools = s.pools } → WeighsIn f s.machine s.named name x → WeighsIn f t.machine t.named name y → Balance t.machine x y
   resized name size to x y u m named i its step there is wx = onto m named s.pools name x y is
       (λ w wy. let (v, held, sum) = weight-reallocated f ws u.payload size to m u (i, refl) step in
@@ -122,7 +140,8 @@ module _ {fllen sllen : ℕ} {memory : Range} (f : Used → ℕ) (blind : IsBlin
   given m x y used is zx zy = omega (arith, ap (λ (r : State). sum_by f r.used) is, ap (sum_by f) used, zx, zy)
 
   -- over an op the balance holds
-  pub balanced : (op : Op) (answer : Answer) → Does fllen sllen memory s op answer t → (x y : ℕ) → Weighs f s (name_in op) x → Weighs f t (name_in op) y → Balance t.machine x y
+  pub balanced : (op : Op) (answer : Answer) → Does fllen sllen memory s op answer t → (x y : ℕ) → Weighs f s (name_in op) x → Weighs f t (name_in op) y
+      → Balance t.machine x y
   balanced (Insert r) (Refused error) (_, is) x y wx wy = still (Insert r) is x y wx wy
   balanced (Append r) (Refused error) (_, is) x y wx wy = still (Append r) is x y wx wy
   balanced (Alloc name layout) (Refused error) (_, is) x y wx wy = still (Alloc name layout) is x y wx wy
@@ -250,7 +269,7 @@ module _ {fllen sllen : ℕ} {memory : Range} (f : Used → ℕ) (blind : IsBlin
   balanced Trim (Block block) step x y wx wy = absurd step
   balanced Trim (Trimmed count) step x y wx wy = absurd step
 
--- ---- what is told of a payload, by two measures
+-- ---- the moment of a payload, by two measures
 
 -- every used block counts as one
 abbrev pub one : Used → ℕ
@@ -275,7 +294,8 @@ Weighs-bytes s (Some name) None is = inl (is, refl)
 Weighs-bytes s (Some name) (Some bytes) (u, owns, is) = inr (u, owns, is)
 
 module _ {fllen sllen : ℕ} {memory : Range} (s t : RunState) (ws : IsWellFormed fllen sllen memory s.machine) (wt : IsWellFormed fllen sllen memory t.machine)
-    (op : Op) (answer : Answer) (does : Does fllen sllen memory s op answer t) (before after : Option ℕ) (was : Measures s (name_in op) before) (is : Measures t (name_in op) after) where
+    (op : Op) (answer : Answer) (does : Does fllen sllen memory s op answer t) (before after : Option ℕ) (was : Measures s (name_in op) before)
+    (is : Measures t (name_in op) after) where
   pub live-balanced : length t.machine.used + live_in before ≡ length s.machine.used + live_in after
   live-balanced =
       omega (
@@ -286,4 +306,6 @@ module _ {fllen sllen : ℕ} {memory : Range} (s t : RunState) (ws : IsWellForme
       )
 
   pub usable-balanced : usable_bytes t.machine.used + usable_in before ≡ usable_bytes s.machine.used + usable_in after
-  usable-balanced = balanced length_of (λ u bytes. refl) s t ws wt op answer does (usable_in before) (usable_in after) (Weighs-bytes s (name_in op) before was) (Weighs-bytes t (name_in op) after is)
+  usable-balanced =
+      balanced length_of (λ u bytes. refl) s t ws wt op answer does (usable_in before) (usable_in after) (Weighs-bytes s (name_in op) before was)
+      (Weighs-bytes t (name_in op) after is)

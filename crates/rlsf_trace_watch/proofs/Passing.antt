@@ -1,6 +1,7 @@
 -- A run that is watched and has done the first of its ops.
 use mathlib.Core.Path.{ap₂}
-use Rattle.std.proofs.Common.{◌≡◌, ℕ, ◌+◌, ◌-◌, ◌<◌, ◌≤◌, ◌++◌, length, map, List, [], ◌∷◌, slice_index_or, arith, refl, sym, ◌∙◌, ap, subst}
+use Rattle.std.proofs.Common.{◌≡◌, ℕ, ◌+◌, ◌-◌, ◌<◌, ◌≤◌, ◌++◌, length, map, List, [], ◌∷◌, slice_index_or, arith, refl, sym, ◌∙◌, ap}
+use Rattle.std.proofs.Common.{subst}
 use Rattle.std.proofs.Math.ListN.{drop, drop_of_length-le}
 use Rattle.std.proofs.lemmas.List.{append_assoc, append-nil, at_drop_more}
 use Rattle.rlsf_base.specs.Range.{range_at}
@@ -25,20 +26,23 @@ map-push [] u = refl
 map-push (x ∷ xs) u = ap (λ l. moment_of x ∷ l) (map-push xs u)
 
 -- the first ops were done, with one answer and one moment each, and there is room for the others
-pub record IsPassing (fllen sllen : ℕ) (m : Space) (ops : List Op) (v : Allocator) (tables : Tables) (moment : Moment) (done : ℕ) (given : List Answer) (told : List Moment) : Type 0 where
+pub record IsPassing (fllen sllen : ℕ) (m : Space) (ops : List Op) (v : Allocator) (tables : Tables) (moment : Moment) (done : ℕ) (given : List Answer)
+    (told : List Moment) : Type 0 where
   pub states : List RunState
   pub state : RunState
   pub last : last_of beginning states ≡ state
   pub at : IsAt fllen sllen v tables state
   pub now : moment ≡ moment_of state
-  pub leads : (more : List Answer) (us : List RunState) → Passes fllen sllen (range_of m) state (drop done ops) more us → Passes fllen sllen (range_of m) beginning ops (given ++ more) (states ++ us)
+  pub leads : (more : List Answer) (us : List RunState) → Passes fllen sllen (range_of m) state (drop done ops) more us
+      → Passes fllen sllen (range_of m) beginning ops (given ++ more) (states ++ us)
   pub moments : told ≡ map moment_of states
   pub place : SamePlace m v.memory
   pub room : HasRoom tables (length ops - done)
 
 module _ {fllen sllen : ℕ} {m : Space} {ops : List Op} {v : Allocator} {tables : Tables} {moment : Moment} where
   -- at the beginning
-  pub IsPassing-beginning : IsAt fllen sllen v tables beginning → m ≡ v.memory → moment ≡ moment_of beginning → HasRoom tables (length ops) → IsPassing fllen sllen m ops v tables moment 0 [] []
+  pub IsPassing-beginning : IsAt fllen sllen v tables beginning → m ≡ v.memory → moment ≡ moment_of beginning → HasRoom tables (length ops)
+      → IsPassing fllen sllen m ops v tables moment 0 [] []
   IsPassing-beginning at same now room = record {
     states = [];
     state = beginning;
@@ -55,8 +59,10 @@ module _ {fllen sllen : ℕ} {m : Space} {ops : List Op} {v : Allocator} {tables
       whole = omega arith
 
   -- one op more
-  pub IsPassing-next : {done : ℕ} {given : List Answer} {told : List Moment} (w : IsPassing fllen sllen m ops v tables moment done given told) (op : Op) → ((d : Op) → op ≡ slice_index_or ops done d) → done < length ops
-      → (answer : Answer) (after : Moment) (w2 : Allocator) (new : Tables) → ((s : RunState) → IsAt fllen sllen v tables s → LeadsWatched fllen sllen v s op moment answer after w2 new)
+  pub IsPassing-next : {done : ℕ} {given : List Answer} {told : List Moment} (w : IsPassing fllen sllen m ops v tables moment done given told) (op : Op)
+      → ((d : Op) → op ≡ slice_index_or ops done d) → done < length ops
+      → (answer : Answer) (after : Moment) (w2 : Allocator) (new : Tables)
+      → ((s : RunState) → IsAt fllen sllen v tables s → LeadsWatched fllen sllen v s op moment answer after w2 new)
       → ((n : ℕ) → HasRoom tables (n + 1) → HasRoom new n) → SamePlace v.memory w2.memory
       → IsPassing fllen sllen m ops w2 new after (done + 1) (given ++ answer ∷ []) (told ++ after ∷ [])
   IsPassing-next {done} {given} {told} w op is below answer after w2 new does room place =
@@ -88,19 +94,22 @@ module _ {fllen sllen : ℕ} {m : Space} {ops : List Op} {v : Allocator} {tables
       left = omega arith
 
   -- at the end
-  pub Passes-end : {done : ℕ} {given : List Answer} {told : List Moment} (w : IsPassing fllen sllen m ops v tables moment done given told) → length ops ≤ done → Passes fllen sllen (range_of m) beginning ops given w.states
+  pub Passes-end : {done : ℕ} {given : List Answer} {told : List Moment} (w : IsPassing fllen sllen m ops v tables moment done given told) → length ops ≤ done
+      → Passes fllen sllen (range_of m) beginning ops given w.states
   Passes-end {done} {given} w past =
       subst (λ l. Passes fllen sllen (range_of m) beginning ops l w.states) (append-nil given)
       (subst (λ l. Passes fllen sllen (range_of m) beginning ops (given ++ []) l) (append-nil w.states)
       (w.leads [] [] (subst (λ l. Passes fllen sllen (range_of m) w.state l [] []) (sym (drop_of_length-le ops past)) tt)))
 
   -- the lists by other names
-  pub IsPassing-told : {done : ℕ} {given more : List Answer} {told tell : List Moment} → IsPassing fllen sllen m ops v tables moment done given told → given ≡ more → told ≡ tell → IsPassing fllen sllen m ops v tables moment done more tell
+  pub IsPassing-told : {done : ℕ} {given more : List Answer} {told tell : List Moment} → IsPassing fllen sllen m ops v tables moment done given told → given ≡ more
+      → told ≡ tell → IsPassing fllen sllen m ops v tables moment done more tell
   IsPassing-told {done} {given} {more} {told} {tell} w same_answers same_moments =
       subst (λ l. IsPassing fllen sllen m ops v tables moment done more l) same_moments (subst (λ l. IsPassing fllen sllen m ops v tables moment done l told) same_answers w)
 
   -- the blocks of the allocator are those of the last state
-  pub all_blocks_of : {done : ℕ} {given : List Answer} {told : List Moment} (w : IsPassing fllen sllen m ops v tables moment done given told) (bs : List Block) → AreBlocks v.state (range_of v.memory) bs
+  pub all_blocks_of : {done : ℕ} {given : List Answer} {told : List Moment} (w : IsPassing fllen sllen m ops v tables moment done given told) (bs : List Block)
+      → AreBlocks v.state (range_of v.memory) bs
       → AreBlocks (last_of beginning w.states).machine (range_of m) bs
   all_blocks_of w bs are =
       subst (λ (s : RunState). AreBlocks s.machine (range_of m) bs) (sym w.last)

@@ -1,4 +1,4 @@
--- One op, and what is told of the states before and after it.
+-- One op, and the moments before and after it.
 use mathlib.Core.Path.{ap₂}
 use Rattle.std.proofs.Common.{◌≡◌, ℕ, ◌+◌, length, Option, arith, ap, subst}
 use Rattle.rlsf_base.specs.Range.{range_at}
@@ -15,8 +15,10 @@ use Rattle.rlsf_trace_watch.specs.Moments.{moment_of, name_in, usable_bytes}
 use Rattle.rlsf_trace_watch.specs.Steps.Changes.{live_in, Measures, usable_in}
 use Rattle.rlsf_trace_watch.proofs.Ops.{live-balanced, usable-balanced}
 
-module _ {fllen sllen : ℕ} {v w : Allocator} {tables new : Tables} (s t : RunState) (at : IsAt fllen sllen v tables s) (then : IsAt fllen sllen w new t) (place : SamePlace v.memory w.memory)
-    (op : Op) (answer : Answer) (does : Does fllen sllen (range_of v.memory) s op answer t) (before after : Option ℕ) (was : Measures s (name_in op) before) (is : Measures t (name_in op) after) (moment : Moment) (now : moment ≡ moment_of s) where
+module _ {fllen sllen : ℕ} {v w : Allocator} {tables new : Tables} (s t : RunState) (at : IsAt fllen sllen v tables s) (then : IsAt fllen sllen w new t)
+    (place : SamePlace v.memory w.memory)
+    (op : Op) (answer : Answer) (does : Does fllen sllen (range_of v.memory) s op answer t) (before after : Option ℕ) (was : Measures s (name_in op) before)
+    (is : Measures t (name_in op) after) (moment : Moment) (now : moment ≡ moment_of s) where
   whole : IsWellFormed fllen sllen (range_of v.memory) t.machine
   whole = subst (λ r. IsWellFormed fllen sllen r t.machine) (ap₂ range_at place.0 place.1) then.stands.stands.well_formed
 
@@ -27,8 +29,9 @@ module _ {fllen sllen : ℕ} {v w : Allocator} {tables new : Tables} (s t : RunS
   pub usable-after : usable_bytes t.machine.used + usable_in before ≡ moment.usable + usable_in after
   usable-after = omega (arith, usable-balanced s t at.stands.stands.well_formed whole op answer does before after was is, ap (λ (x : Moment). x.usable) now)
 
-  -- so what has these counts is what is told of the state after it
-  pub moment-after : (told : Moment) → told.live + live_in before ≡ moment.live + live_in after → told.usable + usable_in before ≡ moment.usable + usable_in after → told ≡ moment_of t
+  -- so what has these counts is the moment of the state after it
+  pub moment-after : (told : Moment) → told.live + live_in before ≡ moment.live + live_in after → told.usable + usable_in before ≡ moment.usable + usable_in after
+      → told ≡ moment_of t
   moment-after told live usable =
       let lives : told.live ≡ length t.machine.used = omega (arith, live, live-after) in
       let bytes : told.usable ≡ usable_bytes t.machine.used = omega (arith, usable, usable-after) in

@@ -1,5 +1,6 @@
 -- The blocks of all pools are those of the state.
-use Rattle.std.proofs.Common.{◌≡◌, ℕ, zero, suc, ◌%◌, ◌<◌, ◌≤◌, ◌++◌, length, take, List, [], ◌∷◌, slice_index_or, arith, refl, sym, ap, subst, inl, inr}
+use Rattle.std.proofs.Common.{◌≡◌, ℕ, zero, suc, ◌%◌, ◌<◌, ◌≤◌, ◌++◌, length, take, List, [], ◌∷◌, slice_index_or, arith, refl, sym, ap, subst, inl}
+use Rattle.std.proofs.Common.{inr}
 use Rattle.std.specs.Prelude.{◌↔◌}
 use Rattle.std.proofs.lemmas.List.Sorted.{IsPermutation-sym}
 use Rattle.rlsf_base.specs.declared.memory.range.Range.{Range}
@@ -33,8 +34,9 @@ pub record AreGathered (s : State) (pools : List Range) (bs : List Block) : Type
 pub AreGathered-none : (s : State) → AreGathered s [] []
 AreGathered-none s = record { exactly = λ b. (λ i. absurd i, λ (p, i, _, _). absurd i); in_order = tt }
 
--- rows of blocks one behind another
-IsInOrder-append : (bs cs : List Block) → IsInOrder bs → IsInOrder cs → ((b c : Block) → IsIn b bs → IsIn c cs → end_of b.range ≤ c.range.start) → IsInOrder (bs ++ cs)
+-- lists of blocks one behind another
+IsInOrder-append : (bs cs : List Block) → IsInOrder bs → IsInOrder cs → ((b c : Block) → IsIn b bs → IsIn c cs → end_of b.range ≤ c.range.start)
+    → IsInOrder (bs ++ cs)
 IsInOrder-append [] cs first second apart = second
 IsInOrder-append (b ∷ bs) cs (before, first) second apart = (
   λ c i. elim (IsIn-append c bs cs i) [ inl j ↦ before c j | inr j ↦ apart b c (inl refl) j ],
@@ -42,7 +44,8 @@ IsInOrder-append (b ∷ bs) cs (before, first) second apart = (
 )
 
 -- one range more, behind the others
-pub AreGathered-more : {s : State} {pools : List Range} {bs : List Block} → AreGathered s pools bs → (p : Range) (cs : List Block) → ((q : Range) → IsIn q pools → end_of q ≤ p.start)
+pub AreGathered-more : {s : State} {pools : List Range} {bs : List Block} → AreGathered s pools bs → (p : Range) (cs : List Block)
+    → ((q : Range) → IsIn q pools → end_of q ≤ p.start)
     → (r : Range) → r.start ≡ p.start → end_of r ≡ end_of p → AreBlocks s r cs → AreGathered s (pools ++ p ∷ []) (bs ++ cs)
 AreGathered-more {s} {pools} {bs} have p cs behind r begins ends are = record {
   exactly = λ b. (to b, from b);
@@ -77,7 +80,8 @@ IsIn-take (x ∷ xs) (suc i) q (inl same) = (0, omega arith, omega arith, λ d. 
 IsIn-take (x ∷ xs) (suc i) q (inr there) = let (j, below, within, is) = IsIn-take xs i q there in (suc j, omega (arith, below), omega (arith, within), is)
 
 -- pools before one in their order end before it begins
-pub pools_before : {pools : List Range} → ArePoolsInOrder pools → (i : ℕ) → i < length pools → (p : Range) → ((d : Range) → slice_index_or pools i d ≡ p) → (q : Range) → IsIn q (take i pools) → end_of q ≤ p.start
+pub pools_before : {pools : List Range} → ArePoolsInOrder pools → (i : ℕ) → i < length pools → (p : Range) → ((d : Range) → slice_index_or pools i d ≡ p)
+    → (q : Range) → IsIn q (take i pools) → end_of q ≤ p.start
 pools_before {pools} order i within p is q there =
     let (j, below, _, at) = IsIn-take pools i q there in
     omega (arith, order.apart j i p below within, ap end_of (at p), ap (λ (x : Range). x.start) (is p))
@@ -99,7 +103,7 @@ module _ {fllen sllen : ℕ} {v : Allocator} {tables : Tables} {s : RunState} (a
       let same : c.start ≡ p.start = omega arith in
       subst (λ a. a % 32 ≡ 0) same (whole.chunks c is_chunk).whole.start
 
-  -- so its blocks are those that a walk of it gives
+  -- so its blocks are those that an iteration over it yields
   pub pool_walked : (p : Range) → IsIn p tables.pools.items → IsRow s.machine (walked p)
   pool_walked p i =
       let start = pool_start p i in
@@ -132,10 +136,12 @@ module _ {fllen sllen : ℕ} {v : Allocator} {tables : Tables} {s : RunState} (a
   -- and so does each block
   block_in_pool : (b : Block) → HasBlock s.machine b → (p : Range) × IsIn p tables.pools.items × LiesBetween p b
   block_in_pool b (used u i same occupied) =
-      let (p, is_pool, low, high) = pool_of u.block (lies_in_chunk s.machine (tiling_of whole) u.block (IsUsed-some u (whole.used u i)) (IsPart-used s.machine (tiling_of whole) u i)) in
+      let (p, is_pool, low, high) =
+      pool_of u.block (lies_in_chunk s.machine (tiling_of whole) u.block (IsUsed-some u (whole.used u i)) (IsPart-used s.machine (tiling_of whole) u i)) in
       (p, is_pool, (omega (arith, low, ap (λ (x : Range). x.start) same), omega (arith, high, ap end_of same)))
   block_in_pool b (free i occupied) =
-      let (p, is_pool, low, high) = pool_of b.range (lies_in_chunk s.machine (tiling_of whole) b.range (whole.free b.range i).some (IsPart-free s.machine (tiling_of whole) b.range i)) in
+      let (p, is_pool, low, high) =
+      pool_of b.range (lies_in_chunk s.machine (tiling_of whole) b.range (whole.free b.range i).some (IsPart-free s.machine (tiling_of whole) b.range i)) in
       (p, is_pool, (low, high))
 
   -- all blocks of all pools are all blocks

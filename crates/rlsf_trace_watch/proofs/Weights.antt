@@ -1,4 +1,4 @@
--- What used blocks weigh together, by any measure that sees no bytes, over a call of the machine.
+-- The sum of a measure over the used blocks, which doesn't depend on bytes, before and after a call of the reference model.
 use Rattle.std.proofs.Common.{◌≡◌, ℕ, ◌+◌, eqb, not, cond, filter, map, List, [], ◌∷◌, Option, Some, None, arith, refl, sym, ◌∙◌, ap, subst, inl, inr}
 use Rattle.std.specs.Prelude.{sum_by}
 use Rattle.std.proofs.lemmas.List.Filters.{sum_by-filter_both}
@@ -26,26 +26,31 @@ weight f s = sum_by f s.used
 
 module _ (f : Used → ℕ) where
   -- a block and the others
-  weight-others : {fllen sllen : ℕ} {memory : Range} {s : State} → IsWellFormed fllen sllen memory s → (u : Used) → IsIn u s.used → f u + sum_by f (others u.payload s.used) ≡ sum_by f s.used
+  weight-others : {fllen sllen : ℕ} {memory : Range} {s : State} → IsWellFormed fllen sllen memory s → (u : Used) → IsIn u s.used
+      → f u + sum_by f (others u.payload s.used) ≡ sum_by f s.used
   weight-others {fllen} {sllen} {memory} {s} w u i =
-      let one : sum_by f (filter (λ v. eqb v.payload u.payload) s.used) ≡ sum_by f (u ∷ []) = ap (sum_by f) (live_address_has_one_block fllen sllen memory s u.payload u w (i, refl)) in
+      let one : sum_by f (filter (λ v. eqb v.payload u.payload) s.used) ≡ sum_by f (u ∷ []) =
+      ap (sum_by f) (live_address_has_one_block fllen sllen memory s u.payload u w (i, refl)) in
       let both = sum_by-filter_both (λ (v : Used). eqb v.payload u.payload) (λ v. not (eqb v.payload u.payload)) (λ v. refl) f s.used in
       omega (arith, one, both, sum_by-cons f u [])
 
-  pub weight-allocated : (sllen : ℕ) (s t : State) (size align addr : ℕ) → Allocates sllen s size align (Some addr) t → (v : Used) × Holds t addr v × (weight f t ≡ weight f s + f v)
+  pub weight-allocated : (sllen : ℕ) (s t : State) (size align addr : ℕ) → Allocates sllen s size align (Some addr) t
+      → (v : Used) × Holds t addr v × (weight f t ≡ weight f s + f v)
   weight-allocated sllen s t size align addr step =
       let v = placed step.range size align step.bytes in
       let used : t.used ≡ v ∷ s.used = ap (λ x. x.used) step.after in
       (v, (subst (IsIn v) (sym used) (inl refl), sym step.answer), ap (sum_by f) used ∙ omega (arith, sum_by-cons f v s.used))
 
-  pub weight-deallocated : {fllen sllen : ℕ} {memory : Range} {s : State} → IsWellFormed fllen sllen memory s → (addr : ℕ) (t : State) (u : Used) → Holds s addr u → Deallocates s addr t → weight f t + f u ≡ weight f s
+  pub weight-deallocated : {fllen sllen : ℕ} {memory : Range} {s : State} → IsWellFormed fllen sllen memory s → (addr : ℕ) (t : State) (u : Used) → Holds s addr u
+      → Deallocates s addr t → weight f t + f u ≡ weight f s
   weight-deallocated {s = s} w addr t u held step =
       let same : step.block ≡ u = Holds-unique w addr step.block u step.holds held in
       let left : weight f t ≡ sum_by f (others step.block.payload s.used) = ap (λ x. sum_by f x.used) step.after in
       omega (arith, left, weight-others w step.block step.holds.0, ap f same)
 
   -- by a plan, or elsewhere
-  weight-by : {fllen sllen : ℕ} {memory : Range} {s : State} → IsWellFormed fllen sllen memory s → (u : Used) → IsIn u s.used → (size : ℕ) (o : Option Plan) (to : ℕ) (t : State) → ReallocatesBy sllen s u size o (Some to) t
+  weight-by : {fllen sllen : ℕ} {memory : Range} {s : State} → IsWellFormed fllen sllen memory s → (u : Used) → IsIn u s.used
+      → (size : ℕ) (o : Option Plan) (to : ℕ) (t : State) → ReallocatesBy sllen s u size o (Some to) t
       → (v : Used) × Holds t to v × (weight f t + f u ≡ weight f s + f v)
   weight-by {s = s} w u i size (Some p) to t step =
       let v = moved u p step.bytes in
@@ -64,7 +69,8 @@ module _ (f : Used → ℕ) where
       let apart = λ (same : v.payload ≡ gone.payload). new u.align (u, (i, sym (sym held.1 ∙ same ∙ step.released.holds.1)), refl) in
       (v, (subst (λ (x : State). IsIn v x.used) (sym step.released.after) (IsIn-others_from gone.payload v m.used held.0 apart), held.1), omega (arith, more, less))
 
-  pub weight-reallocated : {fllen sllen : ℕ} {memory : Range} {s : State} → IsWellFormed fllen sllen memory s → (addr size to : ℕ) (t : State) (u : Used) → Holds s addr u → Reallocates sllen s addr size (Some to) t
+  pub weight-reallocated : {fllen sllen : ℕ} {memory : Range} {s : State} → IsWellFormed fllen sllen memory s → (addr size to : ℕ) (t : State) (u : Used) → Holds s addr u
+      → Reallocates sllen s addr size (Some to) t
       → (v : Used) × Holds t to v × (weight f t + f u ≡ weight f s + f v)
   weight-reallocated {s = s} w addr size to t u held step =
       let (v, there, sum) = weight-by w step.block step.holds.0 size (plan s step.block size) to t step.step in

@@ -1,2 +1,3 @@
+-- The definitions of runs that are watched. Read `Moments` first.
 pub mod Moments
 pub mod Steps

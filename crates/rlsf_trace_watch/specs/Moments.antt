@@ -1,4 +1,4 @@
--- Runs that are watched: the states after each op, and what is told of them.
+-- Runs that are watched: the states after each op, and the moment of each.
 use Rattle.std.specs.Prelude.{◌≡◌, ℕ, List, [], ◌∷◌, length, map, sum_by, Option, Some, None, ⊤}
 use Rattle.rlsf_base.specs.declared.memory.range.Range.{Range}
 use Rattle.rlsf_machine.specs.State.{Used, usable}
@@ -14,7 +14,7 @@ use Rattle.rlsf_trace_watch.specs.declared.runs.Watched.{Watched}
 abbrev pub usable_bytes : List Used → ℕ
 usable_bytes used = sum_by (λ u. (usable u).len) used
 
--- what is told of a state: how many blocks are used, and how many of their bytes are usable
+-- the moment of a state: how many blocks are used, and how many of their bytes are usable
 abbrev pub moment_of : RunState → Moment
 moment_of s = record { live = length s.machine.used; usable = usable_bytes s.machine.used }
 
@@ -45,7 +45,7 @@ abbrev pub last_of : RunState → List RunState → RunState
 last_of s [] = s
 last_of s (u ∷ us) = last_of u us
 
--- A run of the ops from the beginning has these answers, what is told after each op is that of the state then, and the blocks are all
+-- A run of the ops from the beginning has these answers. The moment after each op is that of the state then. The blocks are all
 -- those of the last state.
 pub record IsWatched (fllen sllen : ℕ) (memory : Range) (ops : List Op) (w : Watched) : Type 0 where
   pub states : List RunState

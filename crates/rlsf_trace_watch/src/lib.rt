@@ -1,4 +1,8 @@
-//! Runs of a trace that are watched: what the allocator holds after each op, and its blocks at the end.
+//! Runs of a trace that record a moment after each op, and the blocks at the end. A moment is what the allocator holds: how many
+//! payloads, with how many usable bytes.
+//!
+//! Read `traces.rt` first: it makes the allocator of a trace and calls `watch` in `runs.rt`. `moments.rt` has the moment after an
+//! op, and `blocks.rt` lists all blocks. The definitions are in `specs/Moments.antt`.
 #![tactic(auto)]
 
 mod blocks;

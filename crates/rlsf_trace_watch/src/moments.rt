@@ -69,7 +69,7 @@ fn moved_on(moment: Moment, before: Option<usize>, after: Option<usize>) -> Mome
     Moment { live, usable }
 }
 
-/// Does one op, and answers it, with the moment after it, where the moment before it is told.
+/// Does one op, and returns its answer and the moment after it. The caller passes the moment before.
 pub(crate) fn watched_step<
     FLBitmap: BitPattern,
     SLBitmap: BitPattern,

@@ -25,11 +25,11 @@ pub struct Watched {
     pub blocks: Vec<BlockInfo>,
 }
 
-/// Does the ops, one after another, with an allocator that has no chunk yet, as `run` does, and tells what it held after each
-/// op, and its blocks at the end.
+/// Does the ops one after another, as `run` does, with an allocator without chunks. Returns what it held after each op, and its
+/// blocks at the end.
 ///
-/// `OutOfMemory` comes where the system refuses memory for what is told or for the run's own tables; no clause says that it
-/// comes only then.
+/// The error is `OutOfMemory` if there is no memory for the result or the run's own tables. No clause says that it has no other
+/// cause.
 pub fn watch<FLBitmap: BitPattern, SLBitmap: BitPattern, const FLLEN: usize, const SLLEN: usize>(
     alloc: Global,
     tlsf: &mut Tlsf<FLBitmap, SLBitmap, FLLEN, SLLEN>,
@@ -38,7 +38,7 @@ pub fn watch<FLBitmap: BitPattern, SLBitmap: BitPattern, const FLLEN: usize, con
     requires { tlsf.old.state ≡ empty }
     ensures { IfOk result (λ w. IsWatched FLLEN SLLEN (range_of tlsf.old.memory) ops.now w) }
 {
-    // What `memory_ref` says of every allocator: its memory and its class table stand for its state.
+    // What `memory_ref` says of every allocator: its memory and its class table represent its state.
     let _ = tlsf.memory_ref();
     let mut tables = Tables::with_room(alloc, ops.len())?;
     let mut answers = Vec::new(alloc);

@@ -15,7 +15,7 @@ use rlsf_tlsf::Tlsf;
 use rlsf_trace_text::{Configuration, Fault, Op, ReplayFault, Trace};
 use std::alloc::Global;
 
-// The memory of a trace, whose start and length are no fault. Where the machine refuses it, the first line is to blame.
+// The memory of a trace, whose start and length are no fault. If the system is out of memory, the fault is that of line 1.
 fn memory_of(alloc: Global, trace: &Trace) -> Result<Memory, ReplayFault>
     ensures ok { IfOk result (λ memory. range_of memory ≡ range_at trace.now.start trace.now.len) }
     ensures err { IfErr result (λ f. f ≡ no_memory) }
@@ -36,10 +36,10 @@ fn watch_with<FLBitmap: BitPattern, SLBitmap: BitPattern, const FLLEN: usize, co
     watch(alloc, &mut tlsf, ops).or(Err(Fault::OutOfMemory.at_line(0)))
 }
 
-/// Runs ops with the configuration and the memory of a trace, and tells what was seen.
+/// Runs ops with the configuration and the memory of a trace, and returns the watched run.
 ///
-/// `OutOfMemory` of line 1 comes where the system refuses the memory that the first line asks for, and of line 0 where it refuses
-/// other memory; no clause says that it comes only then. There is no other fault.
+/// The fault is `OutOfMemory` of line 1 if there is no memory of the length that the first line asks for. It is that of line 0 if
+/// there is no other memory. No clause says that it has no other cause. There is no other fault.
 pub fn watch_ops(alloc: Global, trace: &Trace, ops: &[Op]) -> Result<Watched, ReplayFault>
     ensures ok { IfOk result (λ w. IsWatched
         (rows_of trace.now.configuration) (classes_of trace.now.configuration) (range_at trace.now.start trace.now.len) ops.now w) }
@@ -63,7 +63,7 @@ pub fn watch_ops(alloc: Global, trace: &Trace, ops: &[Op]) -> Result<Watched, Re
     }
 }
 
-/// Runs a trace, and tells what was seen. The faults are those of `watch_ops`.
+/// Runs a trace, and returns the watched run. The faults are those of `watch_ops`.
 pub fn watch_trace(alloc: Global, trace: &Trace) -> Result<Watched, ReplayFault>
     ensures ok { IfOk result (λ w. IsWatched (rows_of trace.now.configuration) (classes_of trace.now.configuration)
         (range_at trace.now.start trace.now.len) trace.now.ops.items w) }

@@ -1,4 +1,4 @@
--- Where a run over a source has come to, by its table of names.
+-- The state of a run over a source, from its table of names.
 use Rattle.std.specs.Prelude.{◌≡◌, ℕ, nat_eq, List, [], ◌∷◌, Option}
 use Rattle.std.specs.HashMap.{get}
 use Rattle.std.specs.Option.{option_map}
@@ -21,25 +21,26 @@ use Rattle.rlsf_trace_text.specs.declared.op.Op.{Op}
 abbrev pub named_in : NameTable → ℕ → Option ℕ
 named_in table = λ name. option_map address (get nat_eq table name)
 
--- what the run has come to: the allocator's state, and the names of the table
+-- the state of the run: the allocator's state, and the names of the table
 abbrev pub run_of : {S : Type 0} → FlexContents S → NameTable → FlexRunState
 run_of v table = record { flex = v.state; named = named_in table }
 
--- the allocator's parts stand for its state, and the table has its live payloads
+-- the allocator's parts represent its state, and the table has its live payloads
 pub record IsFlexAt {S : Type 0} (fllen sllen : ℕ) (terms : S → Terms) (owes : S → List Range → Type 0) (v : FlexContents S) (table : NameTable) : Type 0 where
   pub stands : FlexStandsFor fllen sllen terms owes v
   pub are_named : AreNamed v.state.machine table (named_in table)
 
--- what an op with its answer makes of the machine's state: no call is made, nothing is asked and it stays; or one call that may be
--- made, with answers that a source may give, leads on
+-- What an op with its answer does to the model's state. It makes no call, asks nothing, and the state stays; or it makes one call
+-- that is allowed, with answers that a source may give.
 pub data MakesFlex (fllen sllen : ℕ) (memory : Range) (terms : Terms) (s : FlexState) (op : Op) (answer : Answer) (notes : List Note) (u : FlexState) : Type 0 where
   no_call : IsDoneBy op answer [] → notes ≡ [] → u ≡ s → MakesFlex fllen sllen memory terms s op answer notes u
   one_call : (e : Event) → IsDoneBy op answer (e ∷ []) → IsFlexStep fllen sllen memory terms s e notes u → MakesFlex fllen sllen memory terms s op answer notes u
 
--- An op and its answer lead on from what the run has come to: there are notes, with which the op leads to what the allocator and the
--- table then are, by a call of the machine or none; they, one by one and no others, lead from the source's value before to the one after. Bytes of the memory outside
--- of the ranges that ever were outstanding stay.
-pub record LeadsOn {S : Type 0} (fllen sllen : ℕ) (terms : S → Terms) (owes : S → List Range → Type 0) (leads : S → Note → S → Type 0) (v : FlexContents S) (table : NameTable) (op : Op) (answer : Answer) (w : FlexContents S) (new : NameTable) : Type 0 where
+-- An op and its answer lead on from this state of the run. There are notes with which the op, by one call of the model or none,
+-- leads to the state of the allocator and the table. These notes alone change the source's value. Bytes outside of all ranges that
+-- ever were outstanding are unchanged.
+pub record LeadsOn {S : Type 0} (fllen sllen : ℕ) (terms : S → Terms) (owes : S → List Range → Type 0) (leads : S → Note → S → Type 0) (v : FlexContents S)
+    (table : NameTable) (op : Op) (answer : Answer) (w : FlexContents S) (new : NameTable) : Type 0 where
   pub notes : List Note
   pub does : DoesFlex fllen sllen (terms v.source) (run_of v table) op answer notes (run_of w new)
   pub makes : MakesFlex fllen sllen (range_of v.memory) (terms v.source) v.state op answer notes w.state

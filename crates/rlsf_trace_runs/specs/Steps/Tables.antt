@@ -30,7 +30,7 @@ pub record IsInOrder (pools : List Range) : Type 0 where
 abbrev pub EndsAt : List Range → ℕ → ℕ → Type 0
 EndsAt pools i addr = (i < length pools) × ((d : Range) → end_of (slice_index_or pools i d) ≡ addr)
 
--- the allocator and the tables are where the run has come to
+-- the allocator and the tables have the state of the run
 pub record IsAt (fllen sllen : ℕ) (v : Allocator) (tables : Tables) (s : RunState) : Type 0 where
   pub stands : IsInState fllen sllen v s.machine
   pub named : AreNamed s.machine tables.names s.named
@@ -40,6 +40,7 @@ pub record IsAt (fllen sllen : ℕ) (v : Allocator) (tables : Tables) (s : RunSt
   pub covered : (a : ℕ) → coverage itself s.machine.chunks a ≤ coverage itself s.pools a
   pub rows : (p : Range) → IsIn p s.pools → IsRow s.machine p
 
--- an op and its answer lead on from this state of the run to one where the allocator and the tables then are, and spare bytes stay
+-- an op and its answer lead from this state of the run to that of the allocator and the tables; spare bytes are unchanged
 abbrev pub LeadsOn : ℕ → ℕ → Allocator → RunState → Op → Answer → Allocator → Tables → Type 0
-LeadsOn fllen sllen v s op answer w new = (t : RunState) × Does fllen sllen (range_of v.memory) s op answer t × IsAt fllen sllen w new t × KeepsSpare v.memory s.machine w.memory t.machine
+LeadsOn fllen sllen v s op answer w new =
+    (t : RunState) × Does fllen sllen (range_of v.memory) s op answer t × IsAt fllen sllen w new t × KeepsSpare v.memory s.machine w.memory t.machine

@@ -21,7 +21,7 @@ abbrev pub usable_in : Option ℕ → ℕ
 usable_in None = 0
 usable_in (Some bytes) = bytes
 
--- a live payload has the name, and as many usable bytes as are told; or none has it, and none are told
+-- a live payload has the name and this many usable bytes; or no number is given, and no live payload has it
 abbrev pub MeasuresName : RunState → ℕ → Option ℕ → Type 0
 MeasuresName s name None = s.named name ≡ None
 MeasuresName s name (Some bytes) = (u : Used) × Owns s name u × (bytes ≡ (usable u).len)
@@ -31,8 +31,8 @@ abbrev pub Measures : RunState → Option ℕ → Option ℕ → Type 0
 Measures s None told = told ≡ None
 Measures s (Some name) told = MeasuresName s name told
 
--- an op and its answer lead on from this state of the run to one where the allocator and the tables then are, and what is told after
--- it is that of the state then, where that before it was told
+-- An op and its answer lead from this state of the run to that of the allocator and the tables. If the moment before was that of
+-- its state, the moment after is that of the new state.
 abbrev pub LeadsWatched : ℕ → ℕ → Allocator → RunState → Op → Moment → Answer → Moment → Allocator → Tables → Type 0
 LeadsWatched fllen sllen v s op moment answer after w new = (t : RunState)
     × Does fllen sllen (range_of v.memory) s op answer t × IsAt fllen sllen w new t × (moment ≡ moment_of s → after ≡ moment_of t)

@@ -42,7 +42,8 @@ pub returns : goal.returns
 returns g c = record {
   told = λ yes. absurd (false≢true (sym c.if-tells_align.false ∙ yes));
   untold = λ _.
-      freed c.requires c.deallocate_unknown_align.ensures.source c.deallocate_unknown_align.ensures.place (FreeUnknown c.args.name) c.args.name c.in-Some.payload (sym c.remove.ensures.value ∙ c.in-Some.is)
+      freed c.requires c.deallocate_unknown_align.ensures.source c.deallocate_unknown_align.ensures.place (FreeUnknown c.args.name) c.args.name c.in-Some.payload
+      (sym c.remove.ensures.value ∙ c.in-Some.is)
       (address c.in-Some.payload, refl) (λ r frees. (refl, r, frees, refl, refl)) c.deallocate_unknown_align.ensures.step c.remove.ensures.updates.0;
   room = λ ops more. omega (arith, more, c.remove.ensures.spare);
 }

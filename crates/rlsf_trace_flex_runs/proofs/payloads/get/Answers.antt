@@ -21,11 +21,21 @@ returns-in-Some-get g c =
     let (u, owns, holds, its, long) = owned c.requires c.args.name c.in-Some.payload (sym c.payload_of.ensures ∙ c.in-Some.is) in
     let bytes = c.payload.ensures ∙ its in
     let (below, value) = c.in-Some-get.ensures.lookup.3 in
-    LeadsOn-nothing c.requires (Get c.args.name c.args.offset) (Byte c.in-Some-get.byte.now) refl
-    (refl, without_source (run_of c.args.flex.now c.args.names.now), (u, owns, omega (arith, below, ap length bytes, long), value 0 ∙ ap (λ l. slice_index l c.args.offset) bytes, refl), refl, refl)
+    LeadsOn-nothing c.requires (Get c.args.name c.args.offset) (Byte c.in-Some-get.byte.now) refl (
+      refl,
+      without_source (run_of c.args.flex.now c.args.names.now),
+      (u, owns, omega (arith, below, ap length bytes, long), value 0 ∙ ap (λ l. slice_index l c.args.offset) bytes, refl),
+      refl,
+      refl,
+    )
 
 pub returns-in-None : goal.returns-in-None
 returns-in-None g c =
     let (u, owns, holds, its, long) = owned c.requires c.args.name c.in-Some.payload (sym c.payload_of.ensures ∙ c.in-Some.is) in
-    LeadsOn-nothing c.requires (Get c.args.name c.args.offset) (Refused BadOffset) refl
-    (refl, without_source (run_of c.args.flex.now c.args.names.now), ((u, owns, omega (arith, c.in-None.ensures.lookup.3, ap length (c.payload.ensures ∙ its), long)), refl), refl, refl)
+    LeadsOn-nothing c.requires (Get c.args.name c.args.offset) (Refused BadOffset) refl (
+      refl,
+      without_source (run_of c.args.flex.now c.args.names.now),
+      ((u, owns, omega (arith, c.in-None.ensures.lookup.3, ap length (c.payload.ensures ∙ its), long)), refl),
+      refl,
+      refl,
+    )

@@ -23,8 +23,13 @@ allocation_usable_size-requires g c = (omega arith, some_live c.requires c.args.
 pub returns-then-offset-allocation_usable_size : goal.returns-then-offset-allocation_usable_size
 returns-then-offset-allocation_usable_size g c =
     let (u, owns, holds, its, long) = owned c.requires c.args.name c.in-Some.payload (sym c.payload_of.ensures ∙ c.in-Some.is) in
-    LeadsOn-nothing c.requires (Put c.args.name c.args.offset c.args.byte) (Refused BadOffset) refl
-    (refl, without_source (run_of c.args.flex.now c.args.names.now), ((u, owns, omega (arith, c.if-offset-allocation_usable_size.true, c.allocation_usable_size.ensures, ap length its, long)), refl), refl, refl)
+    LeadsOn-nothing c.requires (Put c.args.name c.args.offset c.args.byte) (Refused BadOffset) refl (
+      refl,
+      without_source (run_of c.args.flex.now c.args.names.now),
+      ((u, owns, omega (arith, c.if-offset-allocation_usable_size.true, c.allocation_usable_size.ensures, ap length its, long)), refl),
+      refl,
+      refl,
+    )
 
 pub payload_mut-requires : goal.payload_mut-requires
 payload_mut-requires g c = (omega arith, some_live c.requires c.args.name c.in-Some.payload (sym c.payload_of.ensures ∙ c.in-Some.is))
@@ -38,7 +43,9 @@ returns g c =
     let lent = c.payload_mut.ensures.value ∙ its in
     let rest = c.payload_mut.ensures.rest w in
     filled c.requires rest.2 rest.3 (Put c.args.name c.args.offset c.args.byte) (address p) w (address p, w, refl) (λ m step.
-    let fills = subst (λ a. Fills s.flex.machine a (slice_set u.bytes c.args.offset c.args.byte) m) (sym holds.1) (subst (λ l. Fills s.flex.machine (address p) (slice_set l c.args.offset c.args.byte) m) lent step) in (
+    let fills =
+    subst (λ a. Fills s.flex.machine a (slice_set u.bytes c.args.offset c.args.byte) m) (sym holds.1)
+    (subst (λ l. Fills s.flex.machine (address p) (slice_set l c.args.offset c.args.byte) m) lent step) in (
       refl,
       with_machine (without_source s) m,
       (u, owns, omega (arith, c.if-offset-allocation_usable_size.false, c.allocation_usable_size.ensures, ap length its, long), m, fills, refl),

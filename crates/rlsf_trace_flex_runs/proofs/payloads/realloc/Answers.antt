@@ -29,8 +29,13 @@ returns-in_default-from_size_align g c = record {
   does =
       let at = c.requires.state in
       let (u, owns, _, aligned) = owned_live at.are_named c.args.name c.in-Some.old (sym c.payload_of.ensures ∙ c.in-Some.is) in
-      LeadsOn-nothing at (Realloc c.args.name c.args.size) (Refused BadLayout) refl
-      (refl, without_source (run_of c.args.flex.now c.args.names.now), ((u, owns, λ valid. true≢false (sym (c.in_default-from_size_align.ensures.succeeds.1 (subst (IsLayout c.args.size) aligned valid)))), refl), refl, refl);
+      LeadsOn-nothing at (Realloc c.args.name c.args.size) (Refused BadLayout) refl (
+        refl,
+        without_source (run_of c.args.flex.now c.args.names.now),
+        ((u, owns, λ valid. true≢false (sym (c.in_default-from_size_align.ensures.succeeds.1 (subst (IsLayout c.args.size) aligned valid)))), refl),
+        refl,
+        refl,
+      );
   room = λ ops more. omega (arith, more);
 }
 
@@ -39,7 +44,8 @@ returns-in-Some-placed g c = record {
   does =
       let (size, align) = c.in-Ok.ensures.layout in
       let added = of_ok c.insert.result (c.insert.ensures.succeeds c.requires.room) c.insert.ensures.updates in
-      reallocated c.requires.state c.args.name c.args.size c.in-Some.old _ c.in-Some-placed.addr size (sym c.payload_of.ensures ∙ c.in-Some.is) (c.in-Ok.ensures.succeeds.0 refl) refl refl c.in-Some-placed.ensures.step added.0;
+      reallocated c.requires.state c.args.name c.args.size c.in-Some.old _ c.in-Some-placed.addr size (sym c.payload_of.ensures ∙ c.in-Some.is) (c.in-Ok.ensures.succeeds.0 refl)
+      refl refl c.in-Some-placed.ensures.step added.0;
   room = λ ops more. omega (arith, more, c.insert.ensures.spare);
 }
 
@@ -47,6 +53,7 @@ pub returns-in_default-placed : goal.returns-in_default-placed
 returns-in_default-placed g c = record {
   does =
       let (size, align) = c.in-Ok.ensures.layout in
-      not_reallocated c.requires.state c.args.name c.args.size c.in-Some.old c.reallocate-placed.result size (sym c.payload_of.ensures ∙ c.in-Some.is) (c.in-Ok.ensures.succeeds.0 refl) c.in_default-placed.is c.reallocate-placed.ensures.step;
+      not_reallocated c.requires.state c.args.name c.args.size c.in-Some.old c.reallocate-placed.result size (sym c.payload_of.ensures ∙ c.in-Some.is)
+      (c.in-Ok.ensures.succeeds.0 refl) c.in_default-placed.is c.reallocate-placed.ensures.step;
   room = λ ops more. omega (arith, more);
 }

@@ -21,8 +21,13 @@ returns-in_default g c =
 pub returns-in_default-from_size_align : goal.returns-in_default-from_size_align
 returns-in_default-from_size_align g c =
     let (u, owns, _, aligned) = owned_live c.requires.are_named c.args.name c.in-Some.payload (sym c.payload_of.ensures ∙ c.in-Some.is) in
-    LeadsOn-nothing c.requires (ReallocNoMove c.args.name c.args.size) (Refused BadLayout) refl
-    (refl, without_source (run_of c.args.flex.now c.args.names.now), ((u, owns, λ valid. true≢false (sym (c.in_default-from_size_align.ensures.succeeds.1 (subst (IsLayout c.args.size) aligned valid)))), refl), refl, refl)
+    LeadsOn-nothing c.requires (ReallocNoMove c.args.name c.args.size) (Refused BadLayout) refl (
+      refl,
+      without_source (run_of c.args.flex.now c.args.names.now),
+      ((u, owns, λ valid. true≢false (sym (c.in_default-from_size_align.ensures.succeeds.1 (subst (IsLayout c.args.size) aligned valid)))), refl),
+      refl,
+      refl,
+    )
 
 pub reallocate_no_move-requires : goal.reallocate_no_move-requires
 reallocate_no_move-requires g c =
@@ -34,6 +39,9 @@ returns g c =
     let p = c.in-Some.payload in
     let (size, align) = c.in-Ok.ensures.layout in
     let w = c.reallocate_no_move.new.self in
-    let alone = subst (λ n. StepsAlone g.row.FLLEN g.row.SLLEN g.S.FlexSource.terms g.S.FlexSource.owes c.args.flex.now w (ReallocatesWithoutMove c.args.flex.now.state.machine (address p) n (reply c.reallocate_no_move.result)))
+    let alone =
+    subst (λ n. StepsAlone g.row.FLLEN g.row.SLLEN g.S.FlexSource.terms g.S.FlexSource.owes c.args.flex.now w
+    (ReallocatesWithoutMove c.args.flex.now.state.machine (address p) n (reply c.reallocate_no_move.result)))
     size c.reallocate_no_move.ensures.step in
-    unmoved c.requires c.reallocate_no_move.ensures.source c.reallocate_no_move.ensures.place c.args.name c.args.size p c.reallocate_no_move.result (sym c.payload_of.ensures ∙ c.in-Some.is) (c.in-Ok.ensures.succeeds.0 refl) alone c.reallocate_no_move.ensures.aligns
+    unmoved c.requires c.reallocate_no_move.ensures.source c.reallocate_no_move.ensures.place c.args.name c.args.size p c.reallocate_no_move.result
+    (sym c.payload_of.ensures ∙ c.in-Some.is) (c.in-Ok.ensures.succeeds.0 refl) alone c.reallocate_no_move.ensures.aligns

@@ -15,7 +15,9 @@ loop-op-preserved g c =
     let ((given, items, u), space) = c.loop-op.invariant in
     let pushed = c.push.ensures.succeeds (omega (arith, space, c.loop-op-test.true)) in
     let answer = c.step-answer.result in
-    let next = IsUnderway-next g.met.S.FlexSource.constant u c.op-item.result (λ d. c.op-item.is ∙ get_or_default c.args.ops.now c.loop-op.op-index _ d c.loop-op-test.true) c.loop-op-test.true answer
+    let next =
+    IsUnderway-next g.met.S.FlexSource.constant u c.op-item.result (λ d. c.op-item.is ∙ get_or_default c.args.ops.now c.loop-op.op-index _ d c.loop-op-test.true)
+    c.loop-op-test.true answer
     c.step-answer.new.flex c.step-answer.new.names c.step-answer.ensures.does c.step-answer.ensures.room in
     let more = when_ok c.push.result _ pushed c.push.ensures.items ∙ ap (λ l. l ++ answer ∷ []) items ∙ append_assoc c.args.answers.now.items given (answer ∷ []) in
     ((given ++ answer ∷ [], more, next), omega (arith, space, c.loop-op-test.true, when_ok c.push.result _ pushed c.push.ensures.len, c.push.ensures.capacity))
@@ -23,8 +25,19 @@ loop-op-preserved g c =
 pub returns : goal.returns
 returns g c = record {
   runs =
-      let ((given, items, u), _) = c.loop-op.invariant in
-      (given, items, (u.notes, run_of c.loop-op.flex c.loop-op.names, RunsFlex-end u c.loop-op-test.false, u.leads_by, refl, u.outside, RunsFlexByEvents-end u c.loop-op-test.false));
+      let ((given, items, u), _) = c.loop-op.invariant in (
+        given,
+        items,
+        (
+          u.notes,
+          run_of c.loop-op.flex c.loop-op.names,
+          RunsFlex-end u c.loop-op-test.false,
+          u.leads_by,
+          refl,
+          u.outside,
+          RunsFlexByEvents-end u c.loop-op-test.false,
+        ),
+      );
   refused = tt;
   place = search rules;
 }

@@ -7,8 +7,11 @@ use Rattle.rlsf_trace_runs.proofs.payloads.free.Goals as goal
 
 pub deallocate-requires : goal.deallocate-requires
 deallocate-requires g c =
-    let (s, at) = c.requires in
-    (omega arith, live_in at.stands (address c.in-Some.payload) c.in-Some.payload.align (at.named.live c.args.name c.in-Some.payload (sym c.take_name.ensures.value ∙ c.in-Some.is)))
+    let (s, at) = c.requires in (
+      omega arith,
+      live_in at.stands (address c.in-Some.payload) c.in-Some.payload.align
+          (at.named.live c.args.name c.in-Some.payload (sym c.take_name.ensures.value ∙ c.in-Some.is)),
+    )
 
 pub returns-in_default : goal.returns-in_default
 returns-in_default g c = record {

@@ -13,7 +13,8 @@ returns-in-Some-get g c = λ s at.
     let (u, owns, holds, long) = owned at c.args.name c.in-Some.payload (sym c.payload.ensures ∙ c.in-Some.is) in
     let bytes = c.payload-2.ensures ∙ bytes_in at.stands (address c.in-Some.payload) u holds in
     let (below, value) = c.in-Some-get.ensures.lookup.3 in
-    LeadsOn-nothing at (Get c.args.name c.args.offset) (Byte c.in-Some-get.byte.now) (u, owns, omega (arith, below, ap length bytes, long), value 0 ∙ ap (λ l. slice_index l c.args.offset) bytes, refl)
+    LeadsOn-nothing at (Get c.args.name c.args.offset) (Byte c.in-Some-get.byte.now)
+    (u, owns, omega (arith, below, ap length bytes, long), value 0 ∙ ap (λ l. slice_index l c.args.offset) bytes, refl)
 
 pub returns-in-None : goal.returns-in-None
 returns-in-None g c = λ s at.

@@ -24,14 +24,18 @@ returns-in-Some-placed g c = record {
       let live = at.named.live c.args.name p there in
       let to = non_zero_usize_get c.in-Some-placed.addr in
       let (size, _) = c.in-Ok.ensures.layout in
-      let (t, moved, stands, keeps) = stepped at.stands c.reallocate-placed.new.self (λ x. Reallocates g.row.SLLEN x (address p) c.in-Ok.layout.size (Some to)) c.in-Some-placed.ensures.step in
+      let (t, moved, stands, keeps) =
+      stepped at.stands c.reallocate-placed.new.self (λ x. Reallocates g.row.SLLEN x (address p) c.in-Ok.layout.size (Some to)) c.in-Some-placed.ensures.step in
       let step = subst (λ n. Reallocates g.row.SLLEN s.machine (address p) n (Some to) t) size moved in
       let (u, owns, holds, its) = owned_live at.named c.args.name p there in
       let valid = subst (IsLayout c.args.size) (sym its) (c.in-Ok.ensures.succeeds.0 refl) in
-      let named = AreNamed-reallocated at.named g.row.FLLEN g.row.SLLEN _ t c.args.name c.args.size (address p) to _ at.stands.stands.well_formed (owns.1 ∙ ap Some holds.1) live step refl c.add_name.ensures.names in (
+      let named =
+      AreNamed-reallocated at.named g.row.FLLEN g.row.SLLEN _ t c.args.name c.args.size (address p) to _ at.stands.stands.well_formed (owns.1 ∙ ap Some holds.1) live step
+      refl c.add_name.ensures.names in (
         _,
         (u, owns, valid, t, subst (λ a. Reallocates g.row.SLLEN s.machine a c.args.size (Some to) t) (sym holds.1) step, refl),
-        IsAt-named at c.in-Some-placed.ensures.place t stands (reallocation_keeps_chunks g.row.SLLEN s.machine t (address p) c.args.size (Some to) step) c.add_name.ensures.pools named,
+        IsAt-named at c.in-Some-placed.ensures.place t stands (reallocation_keeps_chunks g.row.SLLEN s.machine t (address p) c.args.size (Some to) step) c.add_name.ensures.pools
+            named,
         keeps,
       );
   room = search rules;
@@ -63,14 +67,20 @@ returns-in_default-placed g c = record {
       let p = c.in-Some.old in
       let there = sym c.payload.ensures ∙ c.in-Some.is in
       let (size, _) = c.in-Ok.ensures.layout in
-      let (t, moved, stands, keeps) = stepped at.stands c.reallocate-placed.new.self (λ x. Reallocates g.row.SLLEN x (address p) c.in-Ok.layout.size (reply c.reallocate-placed.result)) c.reallocate-placed.ensures.step in
+      let (t, moved, stands, keeps) =
+      stepped at.stands c.reallocate-placed.new.self (λ x. Reallocates g.row.SLLEN x (address p) c.in-Ok.layout.size (reply c.reallocate-placed.result))
+      c.reallocate-placed.ensures.step in
       let none : reply c.reallocate-placed.result ≡ None = ap reply c.in_default-placed.is in
-      let step = subst (λ o. Reallocates g.row.SLLEN s.machine (address p) c.args.size o t) none (subst (λ n. Reallocates g.row.SLLEN s.machine (address p) n (reply c.reallocate-placed.result) t) size moved) in
+      let step =
+      subst (λ o. Reallocates g.row.SLLEN s.machine (address p) c.args.size o t) none
+      (subst (λ n. Reallocates g.row.SLLEN s.machine (address p) n (reply c.reallocate-placed.result) t) size moved) in
       let (u, owns, holds, its) = owned_live at.named c.args.name p there in
       let valid = subst (IsLayout c.args.size) (sym its) (c.in-Ok.ensures.succeeds.0 refl) in
-      subst (λ o. (x : RunState) × ((v : Used) × Owns s c.args.name v × IsLayout c.args.size v.align × (machine : State) × Reallocates g.row.SLLEN s.machine v.payload c.args.size o machine
+      subst (λ o. (x : RunState)
+      × ((v : Used) × Owns s c.args.name v × IsLayout c.args.size v.align × (machine : State) × Reallocates g.row.SLLEN s.machine v.payload c.args.size o machine
       × (x ≡ record { machine = machine; named = with_name c.args.name o s.named; pools = s.pools }))
-      × IsAt g.row.FLLEN g.row.SLLEN c.reallocate-placed.new.self c.args.tables.now x × KeepsSpare c.args.tlsf.now.memory s.machine c.reallocate-placed.new.self.memory x.machine) (sym none) (
+      × IsAt g.row.FLLEN g.row.SLLEN c.reallocate-placed.new.self c.args.tables.now x × KeepsSpare c.args.tlsf.now.memory s.machine c.reallocate-placed.new.self.memory x.machine)
+      (sym none) (
         _,
         (u, owns, valid, t, subst (λ a. Reallocates g.row.SLLEN s.machine a c.args.size None t) (sym holds.1) step, refl),
         IsAt-unmoved at c.reallocate-placed.ensures.place t stands (reallocation_refused g.row.SLLEN s.machine t (address p) c.args.size step),
@@ -85,7 +95,8 @@ returns-in_default-from_size_align g c = record {
   does = λ s at.
       let p = c.in-Some.old in
       let (u, owns, holds, its) = owned_live at.named c.args.name p (sym c.payload.ensures ∙ c.in-Some.is) in
-      LeadsOn-nothing at (Realloc c.args.name c.args.size) (Refused BadLayout) ((u, owns, λ valid. true≢false (sym (c.in_default-from_size_align.ensures.succeeds.1 (subst (IsLayout c.args.size) its valid)))), refl);
+      LeadsOn-nothing at (Realloc c.args.name c.args.size) (Refused BadLayout)
+      ((u, owns, λ valid. true≢false (sym (c.in_default-from_size_align.ensures.succeeds.1 (subst (IsLayout c.args.size) its valid)))), refl);
   room = room_left c.args.tables.now;
   place = search rules;
 }

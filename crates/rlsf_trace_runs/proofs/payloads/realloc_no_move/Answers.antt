@@ -34,7 +34,8 @@ returns g c = record {
       let there = sym c.payload.ensures ∙ c.in-Some.is in
       let said = reply c.reallocate_no_move.result in
       let (size, _) = c.in-Ok.ensures.layout in
-      let (t, did, stands, keeps) = stepped at.stands c.reallocate_no_move.new.self (λ x. ReallocatesWithoutMove x (address p) c.in-Ok.layout.size said) c.reallocate_no_move.ensures.step in
+      let (t, did, stands, keeps) =
+      stepped at.stands c.reallocate_no_move.new.self (λ x. ReallocatesWithoutMove x (address p) c.in-Ok.layout.size said) c.reallocate_no_move.ensures.step in
       let step = subst (λ n. ReallocatesWithoutMove s.machine (address p) n said t) size did in
       let (u, owns, holds, its) = owned_live at.named c.args.name p there in
       let valid = subst (IsLayout c.args.size) (sym its) (c.in-Ok.ensures.succeeds.0 refl) in (
@@ -51,6 +52,7 @@ returns-in_default-from_size_align g c = record {
   does = λ s at.
       let p = c.in-Some.payload in
       let (u, owns, holds, its) = owned_live at.named c.args.name p (sym c.payload.ensures ∙ c.in-Some.is) in
-      LeadsOn-nothing at (ReallocNoMove c.args.name c.args.size) (Refused BadLayout) ((u, owns, λ valid. true≢false (sym (c.in_default-from_size_align.ensures.succeeds.1 (subst (IsLayout c.args.size) its valid)))), refl);
+      LeadsOn-nothing at (ReallocNoMove c.args.name c.args.size) (Refused BadLayout)
+      ((u, owns, λ valid. true≢false (sym (c.in_default-from_size_align.ensures.succeeds.1 (subst (IsLayout c.args.size) its valid)))), refl);
   place = search rules;
 }

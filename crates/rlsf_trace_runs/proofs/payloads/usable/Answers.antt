@@ -11,7 +11,8 @@ use Rattle.rlsf_trace_runs.proofs.payloads.usable.Goals as goal
 pub returns-in-Some : goal.returns-in-Some
 returns-in-Some g c = λ s at.
     let (u, owns, holds, long) = owned at c.args.name c.in-Some.payload (sym c.payload.ensures ∙ c.in-Some.is) in
-    LeadsOn-nothing at (Usable c.args.name) (Told c.allocation_usable_size.result) (u, owns, c.allocation_usable_size.ensures ∙ ap length (bytes_in at.stands (address c.in-Some.payload) u holds) ∙ long, refl)
+    LeadsOn-nothing at (Usable c.args.name) (Told c.allocation_usable_size.result)
+    (u, owns, c.allocation_usable_size.ensures ∙ ap length (bytes_in at.stands (address c.in-Some.payload) u holds) ∙ long, refl)
 
 pub returns-in-None : goal.returns-in-None
 returns-in-None g c = λ s at.

@@ -22,7 +22,9 @@ returns-in-Some g c = record {
       let addr = non_zero_usize_get c.in-Some.addr in
       let (t, step, stands, keeps) = stepped at.stands c.allocate-placed.new.self (λ x. Allocates g.row.SLLEN x layout.size layout.align (Some addr)) c.in-Some.ensures.step in
       let free = unnamed at.named c.args.name (none_is _ (sym c.contains_key.ensures ∙ c.if-contains_key.false)) in
-      let named = AreNamed-allocated at.named g.row.FLLEN g.row.SLLEN _ t c.args.name layout.size layout.align addr _ stands.stands.well_formed step refl c.align.ensures.value c.add_name.ensures.names in (
+      let named =
+      AreNamed-allocated at.named g.row.FLLEN g.row.SLLEN _ t c.args.name layout.size layout.align addr _ stands.stands.well_formed step refl c.align.ensures.value
+      c.add_name.ensures.names in (
         _,
         (free, t, step, refl),
         IsAt-named at c.in-Some.ensures.place t stands (allocation_keeps_chunks g.row.SLLEN s.machine t layout.size layout.align (Some addr) step) c.add_name.ensures.pools named,
@@ -39,13 +41,15 @@ pub returns-in_default : goal.returns-in_default
 returns-in_default g c = record {
   does = λ s at.
       let layout = c.args.layout in
-      let (t, step, stands, keeps) = stepped at.stands c.allocate-placed.new.self (λ x. Allocates g.row.SLLEN x layout.size layout.align (reply c.allocate-placed.result)) c.allocate-placed.ensures.step in
+      let (t, step, stands, keeps) =
+      stepped at.stands c.allocate-placed.new.self (λ x. Allocates g.row.SLLEN x layout.size layout.align (reply c.allocate-placed.result)) c.allocate-placed.ensures.step in
       let free = unnamed at.named c.args.name (none_is _ (sym c.contains_key.ensures ∙ c.if-contains_key.false)) in
       let none : reply c.allocate-placed.result ≡ None = ap reply c.in_default.is in
       let refused = subst (λ o. Allocates g.row.SLLEN s.machine layout.size layout.align o t) none step in
       subst (λ o. (x : RunState) × ((s.named c.args.name ≡ None) × (machine : State) × Allocates g.row.SLLEN s.machine c.args.layout.size c.args.layout.align o machine
       × (x ≡ record { machine = machine; named = with_name c.args.name o s.named; pools = s.pools }))
-      × IsAt g.row.FLLEN g.row.SLLEN c.allocate-placed.new.self c.args.tables.now x × KeepsSpare c.args.tlsf.now.memory s.machine c.allocate-placed.new.self.memory x.machine) (sym none)
+      × IsAt g.row.FLLEN g.row.SLLEN c.allocate-placed.new.self c.args.tables.now x × KeepsSpare c.args.tlsf.now.memory s.machine c.allocate-placed.new.self.memory x.machine)
+      (sym none)
       (_, (free, t, refused, refl), IsAt-unmoved at c.allocate-placed.ensures.place t stands refused.1, keeps);
   room = room_left c.args.tables.now;
   place = search rules;

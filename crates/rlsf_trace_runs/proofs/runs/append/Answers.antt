@@ -25,7 +25,9 @@ ending_at-requires-clause-addressable g c =
 pub append_free_block_ptr-taken-requires : goal.append_free_block_ptr-taken-requires
 append_free_block_ptr-taken-requires g c =
     let (s, at) = c.requires in
-    let may = MayAppend-tested at c.args.range c.in-Some.place (MayInsert-tested at c.args.range c.memory_ref.ensures.memory (c.is_vacant.ensures.0 c.if-not-is_vacant.false)) c.in-Some.ensures.found in
+    let may =
+    MayAppend-tested at c.args.range c.in-Some.place (MayInsert-tested at c.args.range c.memory_ref.ensures.memory (c.is_vacant.ensures.0 c.if-not-is_vacant.false))
+    c.in-Some.ensures.found in
     (omega arith, of_state at.stands (λ x. IsNext (range_of c.args.tlsf.now.memory) x c.args.range) (IsNext-MayAppend at c.args.range may))
 
 pub lengthen_pool-requires : goal.lengthen_pool-requires
@@ -35,7 +37,8 @@ lengthen_pool-requires g c =
     let (below, ends) = c.in-Some.ensures.found in
     let may = MayAppend-tested at r c.in-Some.place (MayInsert-tested at r c.memory_ref.ensures.memory (c.is_vacant.ensures.0 c.if-not-is_vacant.false)) c.in-Some.ensures.found in
     let next = IsNext-MayAppend at r may in
-    let (t, step, stands, _) = stepped at.stands c.append_free_block_ptr-taken.new.self (λ x. Appends g.row.FLLEN x r c.append_free_block_ptr-taken.result) c.append_free_block_ptr-taken.ensures.step in
+    let (t, step, stands, _) =
+    stepped at.stands c.append_free_block_ptr-taken.new.self (λ x. Appends g.row.FLLEN x r c.append_free_block_ptr-taken.result) c.append_free_block_ptr-taken.ensures.step in
     let longer = IsLonger-appended at.stands.stands.well_formed r next c.append_free_block_ptr-taken.result t step stands.stands.well_formed in
     (below, λ d. omega (arith, ends d, longer.within, may.vacant.lies_in.1, at.stands.stands.well_formed.addressable))
 
@@ -78,8 +81,15 @@ returns g c = record {
       let place = c.in-Some.place in
       let ends = c.in-Some.ensures.found in
       let may = MayAppend-tested at r place (MayInsert-tested at r c.memory_ref.ensures.memory (c.is_vacant.ensures.0 c.if-not-is_vacant.false)) ends in
-      let (t, step, stands, keeps) = stepped at.stands c.append_free_block_ptr-taken.new.self (λ x. Appends g.row.FLLEN x r c.append_free_block_ptr-taken.result) c.append_free_block_ptr-taken.ensures.step in
-      (_, (may, t, step, refl), IsAt-appended at c.append_free_block_ptr-taken.ensures.place t stands r c.append_free_block_ptr-taken.result place step may ends c.lengthen_pool.ensures.names (c.lengthen_pool.ensures.pools no_range), keeps);
+      let (t, step, stands, keeps) =
+      stepped at.stands c.append_free_block_ptr-taken.new.self (λ x. Appends g.row.FLLEN x r c.append_free_block_ptr-taken.result)
+      c.append_free_block_ptr-taken.ensures.step in (
+        _,
+        (may, t, step, refl),
+        IsAt-appended at c.append_free_block_ptr-taken.ensures.place t stands r c.append_free_block_ptr-taken.result place step may ends c.lengthen_pool.ensures.names
+            (c.lengthen_pool.ensures.pools no_range),
+        keeps,
+      );
   room = c.lengthen_pool.ensures.room;
   place = search rules;
 }

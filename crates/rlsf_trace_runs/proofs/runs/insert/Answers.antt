@@ -35,7 +35,8 @@ pub pool_of-requires : goal.pool_of-requires
 pool_of-requires g c =
     let (s, at) = c.requires.state in
     let may = MayInsert-tested at c.args.range c.memory_ref.ensures.memory (c.is_vacant.ensures.0 c.if-not-is_vacant.false) in
-    let (t, step, stands, _) = stepped at.stands c.insert_free_block_ptr-taken.new.self (λ x. Inserts g.row.FLLEN x c.args.range (Some (non_zero_usize_get c.in-Some.len))) c.in-Some.ensures.step in
+    let (t, step, stands, _) =
+    stepped at.stands c.insert_free_block_ptr-taken.new.self (λ x. Inserts g.row.FLLEN x c.args.range (Some (non_zero_usize_get c.in-Some.len))) c.in-Some.ensures.step in
     let bounds = pool_bounds g.row.FLLEN s.machine c.args.range (non_zero_usize_get c.in-Some.len) t step stands.stands.well_formed in
     (omega (arith, bounds, c.get.ensures.value), omega (arith, bounds, c.get.ensures.value, may.lies_in.1, at.stands.stands.well_formed.addressable))
 
@@ -43,7 +44,8 @@ pub add_pool-requires : goal.add_pool-requires
 add_pool-requires g c =
     let (s, at) = c.requires.state in
     let may = MayInsert-tested at c.args.range c.memory_ref.ensures.memory (c.is_vacant.ensures.0 c.if-not-is_vacant.false) in
-    let (t, step, stands, _) = stepped at.stands c.insert_free_block_ptr-taken.new.self (λ x. Inserts g.row.FLLEN x c.args.range (Some (non_zero_usize_get c.in-Some.len))) c.in-Some.ensures.step in
+    let (t, step, stands, _) =
+    stepped at.stands c.insert_free_block_ptr-taken.new.self (λ x. Inserts g.row.FLLEN x c.args.range (Some (non_zero_usize_get c.in-Some.len))) c.in-Some.ensures.step in
     let pool = subst (λ n. c.pool_of.result ≡ between (round32 c.args.range.start) (c.args.range.start + n)) c.get.ensures.value c.pool_of.ensures in
     let (some, apart) = new_pool at c.args.range c.pool_of.result (non_zero_usize_get c.in-Some.len) t may step stands.stands.well_formed pool in
     record { room = c.requires.room; in_order = at.in_order; some = some; apart = apart }
@@ -52,9 +54,15 @@ pub returns-in-Some : goal.returns-in-Some
 returns-in-Some g c = record {
   does = λ s at.
       let may = MayInsert-tested at c.args.range c.memory_ref.ensures.memory (c.is_vacant.ensures.0 c.if-not-is_vacant.false) in
-      let (t, step, stands, keeps) = stepped at.stands c.insert_free_block_ptr-taken.new.self (λ x. Inserts g.row.FLLEN x c.args.range (Some (non_zero_usize_get c.in-Some.len))) c.in-Some.ensures.step in
-      let pool = subst (λ n. c.pool_of.result ≡ between (round32 c.args.range.start) (c.args.range.start + n)) c.get.ensures.value c.pool_of.ensures in
-      (_, (may, t, step, refl), IsAt-inserted at c.in-Some.ensures.place t stands c.args.range c.pool_of.result (non_zero_usize_get c.in-Some.len) step may.lies_in pool c.add_pool.ensures.names c.add_pool.ensures.pools c.add_pool.ensures.in_order, keeps);
+      let (t, step, stands, keeps) =
+      stepped at.stands c.insert_free_block_ptr-taken.new.self (λ x. Inserts g.row.FLLEN x c.args.range (Some (non_zero_usize_get c.in-Some.len))) c.in-Some.ensures.step in
+      let pool = subst (λ n. c.pool_of.result ≡ between (round32 c.args.range.start) (c.args.range.start + n)) c.get.ensures.value c.pool_of.ensures in (
+        _,
+        (may, t, step, refl),
+        IsAt-inserted at c.in-Some.ensures.place t stands c.args.range c.pool_of.result (non_zero_usize_get c.in-Some.len) step may.lies_in pool c.add_pool.ensures.names
+            c.add_pool.ensures.pools c.add_pool.ensures.in_order,
+        keeps,
+      );
   room = search rules;
   place = search rules;
 }
@@ -82,12 +90,15 @@ pub returns-in_default : goal.returns-in_default
 returns-in_default g c = record {
   does = λ s at.
       let may = MayInsert-tested at c.args.range c.memory_ref.ensures.memory (c.is_vacant.ensures.0 c.if-not-is_vacant.false) in
-      let (t, step, stands, keeps) = stepped at.stands c.insert_free_block_ptr-taken.new.self (λ x. Inserts g.row.FLLEN x c.args.range (reply c.insert_free_block_ptr-taken.result)) c.insert_free_block_ptr-taken.ensures.step in
+      let (t, step, stands, keeps) =
+      stepped at.stands c.insert_free_block_ptr-taken.new.self (λ x. Inserts g.row.FLLEN x c.args.range (reply c.insert_free_block_ptr-taken.result))
+      c.insert_free_block_ptr-taken.ensures.step in
       let none : reply c.insert_free_block_ptr-taken.result ≡ None = ap reply c.in_default.is in
       let refused = subst (λ o. Inserts g.row.FLLEN s.machine c.args.range o t) none step in
       subst (λ o. (x : RunState) × (MayInsert (range_of c.args.tlsf.now.memory) s.pools c.args.range × (machine : State) × Inserts g.row.FLLEN s.machine c.args.range o machine
       × (x ≡ record { machine = machine; named = s.named; pools = with_pool c.args.range o s.pools }))
-      × IsAt g.row.FLLEN g.row.SLLEN c.insert_free_block_ptr-taken.new.self c.args.tables.now x × KeepsSpare c.args.tlsf.now.memory s.machine c.insert_free_block_ptr-taken.new.self.memory x.machine) (sym none)
+      × IsAt g.row.FLLEN g.row.SLLEN c.insert_free_block_ptr-taken.new.self c.args.tables.now x
+      × KeepsSpare c.args.tlsf.now.memory s.machine c.insert_free_block_ptr-taken.new.self.memory x.machine) (sym none)
       (_, (may, t, refused, refl), IsAt-not_inserted at c.insert_free_block_ptr-taken.ensures.place t stands c.args.range refused, keeps);
   room = room_left c.args.tables.now;
   place = search rules;

@@ -22,7 +22,9 @@ loop-op-preserved g c =
     let ((given, items, w), space) = c.loop-op.invariant in
     let pushed = c.push.ensures.succeeds (omega (arith, space, c.loop-op-test.true)) in
     let answer = c.step-answer.result in
-    let next = IsUnderway-next w c.op-item.result (λ d. c.op-item.is ∙ get_or_default c.args.ops.now c.loop-op.op-index _ d c.loop-op-test.true) c.loop-op-test.true answer c.step-answer.new.tlsf c.step-answer.new.tables c.step-answer.ensures.does c.step-answer.ensures.room c.step-answer.ensures.place in
+    let next =
+    IsUnderway-next w c.op-item.result (λ d. c.op-item.is ∙ get_or_default c.args.ops.now c.loop-op.op-index _ d c.loop-op-test.true) c.loop-op-test.true answer
+    c.step-answer.new.tlsf c.step-answer.new.tables c.step-answer.ensures.does c.step-answer.ensures.room c.step-answer.ensures.place in
     let more = when_ok c.push.result _ pushed c.push.ensures.items ∙ ap (λ l. l ++ answer ∷ []) items ∙ append_assoc c.args.answers.now.items given (answer ∷ []) in
     ((given ++ answer ∷ [], more, next), omega (arith, space, c.loop-op-test.true, when_ok c.push.result _ pushed c.push.ensures.len, c.push.ensures.capacity))
 
@@ -32,8 +34,12 @@ returns g c = record {
       let ((given, items, w), _) = c.loop-op.invariant in
       (given, items, (w.state, RunsOps-end w c.loop-op-test.false, w.at.stands.state, w.spare));
   events =
-      let ((given, items, w), _) = c.loop-op.invariant in
-      (given, items, subst (RunsByEvents g.row.FLLEN g.row.SLLEN (range_of c.args.tlsf.now.memory) empty c.args.ops.now given) (sym w.at.stands.state) (RunsByEvents-end w c.loop-op-test.false));
+      let ((given, items, w), _) = c.loop-op.invariant in (
+        given,
+        items,
+        subst (RunsByEvents g.row.FLLEN g.row.SLLEN (range_of c.args.tlsf.now.memory) empty c.args.ops.now given) (sym w.at.stands.state)
+            (RunsByEvents-end w c.loop-op-test.false),
+      );
   refused = search rules;
   place = search rules;
 }

@@ -9,14 +9,18 @@ use Rattle.rlsf_trace_runs.proofs.tables.ending_at.Goals as goal
 pub returns-then-begun-eq0 : goal.returns-then-begun-eq0
 returns-then-begun-eq0 c = record {
   found = search rules;
-  none = none_ends c.requires.in_order c.args.addr c.begun_before-begun.result c.begun_before-begun.ensures.bound c.begun_before-begun.ensures.point (λ j is. absurd (omega (arith, is, c.if-begun-eq0.true)));
+  none =
+      none_ends c.requires.in_order c.args.addr c.begun_before-begun.result c.begun_before-begun.ensures.bound c.begun_before-begun.ensures.point
+      (λ j is. absurd (omega (arith, is, c.if-begun-eq0.true)));
 }
 
 pub overflow_add-last : goal.overflow_add-last
 overflow_add-last c =
     let i = c.begun_before-begun.result in
     let fits = c.begun_before-begun.ensures.bound in
-    let there = subst (λ p. IsIn p c.args.pools.now.items) (sym c.index-last.ensures) (IsIn-at c.args.pools.now.items (i - 1) c.index-last.result.now (omega (arith, fits, c.if-begun-eq0.false))) in
+    let there =
+    subst (λ p. IsIn p c.args.pools.now.items) (sym c.index-last.ensures)
+    (IsIn-at c.args.pools.now.items (i - 1) c.index-last.result.now (omega (arith, fits, c.if-begun-eq0.false))) in
     omega (arith, c.requires.addressable c.index-last.result.now there)
 
 pub returns-else-last-addr : goal.returns-else-last-addr

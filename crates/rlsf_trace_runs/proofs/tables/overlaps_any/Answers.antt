@@ -7,7 +7,9 @@ use Rattle.rlsf_trace_runs.proofs.tables.overlaps_any.Goals as goal
 
 pub overlap-requires : goal.overlap-requires
 overlap-requires c =
-    let there = subst (λ p. IsIn p c.args.pools.now.items) (sym c.index.ensures) (IsIn-at c.args.pools.now.items (c.begun_before-begun.result - 1) c.index.result.now (omega (arith, c.begun_before-begun.ensures.bound))) in
+    let there =
+    subst (λ p. IsIn p c.args.pools.now.items) (sym c.index.ensures)
+    (IsIn-at c.args.pools.now.items (c.begun_before-begun.result - 1) c.index.result.now (omega (arith, c.begun_before-begun.ensures.bound))) in
     (c.requires.addressable.0, c.requires.addressable.1 c.index.result.now there)
 
 pub returns-then-begun-gt0 : goal.returns-then-begun-gt0
@@ -20,5 +22,9 @@ returns-then-begun-gt0 c =
 
 pub returns-else-begun-gt0 : goal.returns-else-begun-gt0
 returns-else-begun-gt0 c =
-    let none = coverage-last c.requires.in_order c.args.range c.begun_before-begun.result c.begun_before-begun.ensures.bound c.begun_before-begun.ensures.point (λ j is. absurd (omega (arith, is, c.if-begun-gt0.false))) in
-    (λ some. absurd (omega (arith, ltb-true 0 c.begun_before-begun.result some, c.if-begun-gt0.false)), λ (a, in_range, covered). absurd (omega (arith, covered, none a in_range.0 in_range.1)))
+    let none =
+    coverage-last c.requires.in_order c.args.range c.begun_before-begun.result c.begun_before-begun.ensures.bound c.begun_before-begun.ensures.point
+    (λ j is. absurd (omega (arith, is, c.if-begun-gt0.false))) in (
+      λ some. absurd (omega (arith, ltb-true 0 c.begun_before-begun.result some, c.if-begun-gt0.false)),
+      λ (a, in_range, covered). absurd (omega (arith, covered, none a in_range.0 in_range.1)),
+    )

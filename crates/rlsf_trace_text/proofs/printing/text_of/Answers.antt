@@ -8,7 +8,9 @@ use Rattle.rlsf_trace_text.specs.Printing.{line_text, text_of}
 use Rattle.rlsf_trace_text.proofs.printing.text_of.Goals as goal
 
 -- one more line
-one_more : (text line next whole : List ℕ) (op : Op) (answer : Answer) (ops other_ops : List Op) (answers other_answers : List Answer) → ops ≡ op ∷ other_ops → answers ≡ answer ∷ other_answers → line ≡ text ++ line_text op answer → next ≡ line ++ 10 ∷ [] → text ++ text_of ops answers ≡ whole → next ++ text_of other_ops other_answers ≡ whole
+one_more : (text line next whole : List ℕ) (op : Op) (answer : Answer) (ops other_ops : List Op) (answers other_answers : List Answer) → ops ≡ op ∷ other_ops
+    → answers ≡ answer ∷ other_answers → line ≡ text ++ line_text op answer → next ≡ line ++ 10 ∷ [] → text ++ text_of ops answers ≡ whole
+    → next ++ text_of other_ops other_answers ≡ whole
 one_more text line next whole op answer ops other_ops answers other_answers first second printed ended so_far =
     let before : text ++ text_of (op ∷ other_ops) (answer ∷ other_answers) ≡ whole = rw (first, second) at so_far in
     rw (ended, printed) (simp append_assoc (simp append_assoc at before))

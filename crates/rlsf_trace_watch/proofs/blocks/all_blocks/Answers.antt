@@ -36,7 +36,8 @@ loop-place-preserved g c =
     let collected : c.in_ok-blocks.blocks.items ≡ c.iter_blocks.result = items_from_collect {E = Unit {0}} (Ok c.in_ok-blocks.blocks) c.in_ok-blocks.ensures.ran given in
     let items = c.in_ok-extend_from_slice.ensures.items ∙ ap (λ l. c.loop-place.all.items ++ l) (c.deref.ensures.value ∙ collected) in
     let walked_pools : take (i + 1) pools ≡ take i pools ++ p ∷ [] = take_more pools i p below ∙ ap (λ q. take i pools ++ q ∷ []) (sym c.index.ensures) in
-    subst (λ l. AreGathered c.args.tlsf.now.state (take (i + 1) pools) l) (sym items) (subst (λ l. AreGathered c.args.tlsf.now.state l (c.loop-place.all.items ++ c.iter_blocks.result)) (sym walked_pools) more)
+    subst (λ l. AreGathered c.args.tlsf.now.state (take (i + 1) pools) l) (sym items)
+    (subst (λ l. AreGathered c.args.tlsf.now.state l (c.loop-place.all.items ++ c.iter_blocks.result)) (sym walked_pools) more)
 
 pub returns : goal.returns
 returns g c =

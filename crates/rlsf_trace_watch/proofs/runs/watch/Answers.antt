@@ -18,8 +18,11 @@ loop-op-preserved g c =
     let (w, live, usable) = c.loop-op.invariant in
     let next = IsPassing-next w c.op-item.result (λ d. c.op-item.is ∙ get_or_default c.args.ops.now c.loop-op.op-index _ d c.loop-op-test.true) c.loop-op-test.true
     c.watched_step-answer.result.0 c.watched_step-answer.result.1 c.watched_step-answer.new.tlsf c.watched_step-answer.new.tables
-    c.watched_step-answer.ensures.does c.watched_step-answer.ensures.room c.watched_step-answer.ensures.place in
-    (IsPassing-told next (sym c.in-Ok.ensures.items) (sym c.in-Ok-push.ensures.items), omega (arith, live, c.watched_step-answer.ensures.few), omega (arith, usable, c.watched_step-answer.ensures.few))
+    c.watched_step-answer.ensures.does c.watched_step-answer.ensures.room c.watched_step-answer.ensures.place in (
+      IsPassing-told next (sym c.in-Ok.ensures.items) (sym c.in-Ok-push.ensures.items),
+      omega (arith, live, c.watched_step-answer.ensures.few),
+      omega (arith, usable, c.watched_step-answer.ensures.few),
+    )
 
 pub returns : goal.returns
 returns g c =

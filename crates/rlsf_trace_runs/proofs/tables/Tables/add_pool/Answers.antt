@@ -13,7 +13,9 @@ returns c = record {
       subst (IsPermutation (c.args.pool ∷ c.args.self.now.pools.items)) (sym is) (IsPermutation-insert c.args.self.now.pools.items c.begun_before-begun.result c.args.pool);
   in_order =
       let is = unless_err c.insert.result c.insert.ensures.items c.insert.ensures.full (λ full. omega (arith, full, c.requires.room.pools)) in
-      subst IsInOrder (sym is) (IsInOrder-insert c.requires.in_order c.args.pool c.begun_before-begun.result c.begun_before-begun.ensures.bound c.begun_before-begun.ensures.point c.requires.some c.requires.apart);
+      subst IsInOrder (sym is)
+      (IsInOrder-insert c.requires.in_order c.args.pool c.begun_before-begun.result c.begun_before-begun.ensures.bound c.begun_before-begun.ensures.point c.requires.some
+      c.requires.apart);
   names = search rules;
   room = search rules;
 }
