@@ -1,5 +1,7 @@
 -- Pools of objects, over the calls of their items.
-use Rattle.std.proofs.Common.{◌≡◌, ◌↔◌, ◌⊎◌, ℕ, ◌+◌, ◌-◌, ◌*◌, ◌/◌, ◌<◌, ◌≤◌, Bool, true, false, cond, ◌&&◌, nat_eq, nat_le, nat_lt, List, [], ◌∷◌, ◌++◌, length, length-append, replicate, Option, Some, None, Result, Ok, Err, IfOk, IsErr, OnOk, OnErr, lit<, arith, refl, sym, ◌∙◌, ap, subst, inl, inr}
+use Rattle.std.proofs.Common.{◌≡◌, ◌↔◌, ◌⊎◌, ℕ, ◌+◌, ◌-◌, ◌*◌, ◌/◌, ◌<◌, ◌≤◌, Bool, true, false, cond, ◌&&◌, nat_eq, nat_le}
+use Rattle.std.proofs.Common.{nat_lt, List, [], ◌∷◌, ◌++◌, length, length-append, replicate, Option, Some, None, Result, Ok, Err, IfOk, IsErr, OnOk, OnErr, lit<, arith}
+use Rattle.std.proofs.Common.{refl, sym, ◌∙◌, ap, subst, inl, inr}
 use Rattle.std.proofs.lemmas.Bool.{cases_Bool, cases_lt, false≢true, lt-ltb}
 use Rattle.std.proofs.lemmas.Bool.Decides.{nat_tests}
 use Rattle.std.proofs.lemmas.List.{length-replicate}
@@ -32,7 +34,8 @@ shown size align capacity h = record { objects = h.lists; next = h.next; size = 
 -- ---- a pool after a call
 
 -- other objects of the size, no more than the capacity, in the same memory
-pub IsObjectPool-after : (o n : Handled) (size align capacity : ℕ) → IsObjectPool o size align capacity → n.align ≡ o.align → n.memory ≡ o.memory → HaveSize size n.lists → length n.lists ≤ capacity
+pub IsObjectPool-after : (o n : Handled) (size align capacity : ℕ) → IsObjectPool o size align capacity → n.align ≡ o.align → n.memory ≡ o.memory
+    → HaveSize size n.lists → length n.lists ≤ capacity
     → (align ≤ 32 → KeepsUniform o.state n.state (request_size size align)) → IsObjectPool n size align capacity
 IsObjectPool-after o n size align capacity pool same_align same_memory sized within keeps = record {
   aligned = same_align ∙ pool.aligned;
@@ -45,7 +48,8 @@ IsObjectPool-after o n size align capacity pool same_align same_memory sized wit
       small = tiled.small;
       begins = tiled.begins;
       room = λ some. subst (λ m. capacity * request_size size align + 32 ≤ (aligned_part m).len) (sym same_memory) (tiled.room some);
-      uniform = λ some. subst (λ m. IsUniform (request_size size align) (aligned_part m) n.state) (sym same_memory) (keeps tiled.small (aligned_part o.memory) (tiled.uniform some));
+      uniform = λ some. subst (λ m. IsUniform (request_size size align) (aligned_part m) n.state) (sym same_memory)
+          (keeps tiled.small (aligned_part o.memory) (tiled.uniform some));
     })
   ];
 }
@@ -56,15 +60,18 @@ HaveSize-more size (e ∷ es) n (first, rest) = (first, HaveSize-more size es n 
 
 -- one more object is out, or none, and then there was no memory for its handle
 pub IsObjectPool-taken : {E : Type 0} (r : Result ℕ E) (o n : Handled) (size align capacity : ℕ) → IsObjectPool o size align capacity → length o.lists < capacity
-    → IfOk r (λ handle. (handle ≡ o.next) × (n ≡ record o { lists = o.lists ++ (handle, replicate size 0) ∷ []; next = handle + 1; state = n.state })) → OnErr r (n ≡ record o { state = n.state })
+    → IfOk r (λ handle. (handle ≡ o.next) × (n ≡ record o { lists = o.lists ++ (handle, replicate size 0) ∷ []; next = handle + 1; state = n.state }))
+    → OnErr r (n ≡ record o { state = n.state })
     → (align ≤ 32 → KeepsUniform o.state n.state (request_size size align)) → IsObjectPool n size align capacity
 IsObjectPool-taken (Ok handle) o n size align capacity pool few (_, taken) refused keeps =
     let lists : n.lists ≡ o.lists ++ (handle, replicate size 0) ∷ [] = ap (λ h. h.lists) taken in
     let more : length n.lists ≡ length o.lists + 1 = ap length lists ∙ length-append o.lists ((handle, replicate size 0) ∷ []) in
-    IsObjectPool-after o n size align capacity pool (ap (λ h. h.align) taken) (ap (λ h. h.memory) taken) (subst (HaveSize size) (sym lists) (HaveSize-more size o.lists handle pool.sized)) (omega (arith, more, few)) keeps
+    IsObjectPool-after o n size align capacity pool (ap (λ h. h.align) taken) (ap (λ h. h.memory) taken)
+    (subst (HaveSize size) (sym lists) (HaveSize-more size o.lists handle pool.sized)) (omega (arith, more, few)) keeps
 IsObjectPool-taken (Err e) o n size align capacity pool few taken refused keeps =
     let lists : n.lists ≡ o.lists = ap (λ h. h.lists) refused in
-    IsObjectPool-after o n size align capacity pool (ap (λ h. h.align) refused) (ap (λ h. h.memory) refused) (subst (HaveSize size) (sym lists) pool.sized) (omega (arith, few, ap length lists)) keeps
+    IsObjectPool-after o n size align capacity pool (ap (λ h. h.align) refused) (ap (λ h. h.memory) refused) (subst (HaveSize size) (sym lists) pool.sized)
+    (omega (arith, few, ap length lists)) keeps
 
 length-remove_entry : {A : Type 0} (test : ℕ → Bool) (es : List (ℕ × A)) → length (remove_entry test es) ≤ length es
 length-remove_entry test [] = omega arith
@@ -83,7 +90,8 @@ length-remove_entry_found test (e ∷ es) found = elim (cases_Bool (test e.0)) [
 
 -- once one is given back, fewer are out than the capacity
 pub room_given_back : {T E : Type 0} (r : Result T E) (o n : Handled) (size align capacity handle : ℕ) (P : Type 0) → IsObjectPool o size align capacity
-    → OnOk r ((n ≡ record o { lists = remove_entry (nat_eq handle) o.lists; state = n.state }) × P) → IsErr r ↔ (lookup (nat_eq handle) o.lists ≡ None) → OnOk r (length n.lists < capacity)
+    → OnOk r ((n ≡ record o { lists = remove_entry (nat_eq handle) o.lists; state = n.state }) × P) → IsErr r ↔ (lookup (nat_eq handle) o.lists ≡ None)
+    → OnOk r (length n.lists < capacity)
 room_given_back (Ok x) o n size align capacity handle P pool (gone, _) unknown =
     let less = length-remove_entry_found (nat_eq handle) o.lists (λ none. false≢true (unknown.1 none)) in
     omega (arith, less, ap (λ h. length h.lists) gone, pool.within)
@@ -98,15 +106,18 @@ length-set_value test (e ∷ es) x = elim (cases_Bool (test e.0)) [
 
 -- one is given back, or its handle is unknown
 pub IsObjectPool-given_back : {T E : Type 0} (r : Result T E) (o n : Handled) (size align capacity handle : ℕ) (P : Type 0) → IsObjectPool o size align capacity
-    → OnOk r ((n ≡ record o { lists = remove_entry (nat_eq handle) o.lists; state = n.state }) × P) → OnErr r (n ≡ o) → ((len : ℕ) → KeepsUniform o.state n.state len) → IsObjectPool n size align capacity
+    → OnOk r ((n ≡ record o { lists = remove_entry (nat_eq handle) o.lists; state = n.state }) × P) → OnErr r (n ≡ o)
+    → ((len : ℕ) → KeepsUniform o.state n.state len) → IsObjectPool n size align capacity
 IsObjectPool-given_back (Ok x) o n size align capacity handle P pool (gone, _) refused keeps =
     let lists : n.lists ≡ remove_entry (nat_eq handle) o.lists = ap (λ h. h.lists) gone in
-    IsObjectPool-after o n size align capacity pool (ap (λ h. h.align) gone) (ap (λ h. h.memory) gone) (subst (HaveSize size) (sym lists) (AllByRecursion-remove_entry (λ e. length e.1 ≡ size) _ _ pool.sized))
+    IsObjectPool-after o n size align capacity pool (ap (λ h. h.align) gone) (ap (λ h. h.memory) gone)
+    (subst (HaveSize size) (sym lists) (AllByRecursion-remove_entry (λ e. length e.1 ≡ size) _ _ pool.sized))
     (omega (arith, ap length lists, length-remove_entry (nat_eq handle) o.lists, pool.within)) (λ _. keeps (request_size size align))
 IsObjectPool-given_back (Err e) o n size align capacity handle P pool removed refused keeps = subst (λ h. IsObjectPool h size align capacity) (sym refused) pool
 
 -- one has other bytes
-pub IsObjectPool-set : (o n : Handled) (size align capacity handle : ℕ) (bytes : List ℕ) → length bytes ≡ size → IsObjectPool o size align capacity → n ≡ record o { lists = set_value (nat_eq handle) o.lists bytes; state = n.state }
+pub IsObjectPool-set : (o n : Handled) (size align capacity handle : ℕ) (bytes : List ℕ) → length bytes ≡ size → IsObjectPool o size align capacity
+    → n ≡ record o { lists = set_value (nat_eq handle) o.lists bytes; state = n.state }
     → ((len : ℕ) → KeepsUniform o.state n.state len) → IsObjectPool n size align capacity
 IsObjectPool-set o n size align capacity handle bytes long pool set keeps =
     let lists : n.lists ≡ set_value (nat_eq handle) o.lists bytes = ap (λ h. h.lists) set in
@@ -121,14 +132,17 @@ at_most size [] sized = tt
 at_most size (e ∷ es) (first, rest) = (omega (arith, first), at_most size es rest)
 
 -- a pool of which fewer are out than its capacity refuses nothing for want of room
-pub pool_has_room : (h : Handled) (size align capacity : ℕ) (Refused : Type 0) → IsObjectPool h size align capacity → length h.lists < capacity → (h.lists ≡ [] → FitsPool h.memory size align → Refused → ⊥)
-    → ((live n : ℕ) → HasBudgetOf h live n → size ≤ n → Refused → ⊥) → ((d : Range) → HasTileFor h.state d size align (length h.lists) → Refused → ⊥) → Refused → ⊥
+pub pool_has_room : (h : Handled) (size align capacity : ℕ) (Refused : Type 0) → IsObjectPool h size align capacity → length h.lists < capacity
+    → (h.lists ≡ [] → FitsPool h.memory size align → Refused → ⊥)
+    → ((live n : ℕ) → HasBudgetOf h live n → size ≤ n → Refused → ⊥) → ((d : Range) → HasTileFor h.state d size align (length h.lists) → Refused → ⊥)
+    → Refused → ⊥
 pool_has_room h size align capacity Refused pool few empty enough tiled refused = elim pool.room [
   | inl spread ↦ go spread h.lists refl
   | inr tiles ↦
       let len = request_size size align in
       let more : (length h.lists + 1) * len ≤ capacity * len = mul-le-mul_right len (omega (arith, few)) in
-      tiled (aligned_part h.memory) (record { uniform = tiles.uniform (omega (arith, few)); begins = tiles.begins; room = omega (arith, more, tiles.room (omega (arith, few))) }) refused
+      tiled (aligned_part h.memory) (record { uniform = tiles.uniform (omega (arith, few)); begins = tiles.begins; room = omega (arith, more, tiles.room (omega (arith, few))) })
+      refused
 ]
   where
     go : IsSpread h.memory size align capacity → (es : List (ℕ × List ℕ)) → h.lists ≡ es → ⊥
@@ -145,13 +159,16 @@ pool_has_room h size align capacity Refused pool few empty enough tiled refused 
 -- ---- a new pool
 
 -- the block of a pool that is made for an allocation is taken for it
-pool_taken : (size align least : ℕ) → pool_size_to_contain_allocation 59 8 size align ≡ Some least → IsSize (least - 32) × Reaches 8 (class_of 8 (least - 32)) (request_size size align)
+pool_taken : (size align least : ℕ) → pool_size_to_contain_allocation 59 8 size align ≡ Some least → IsSize (least - 32)
+    × Reaches 8 (class_of 8 (least - 32)) (request_size size align)
 pool_taken size align least told =
-    let is = pool_contains_its_allocation 64 64 59 8 size align least (record { some_rows = lit< tt; rows_fit = omega arith; power_of_two = refl; classes_fit = omega arith }) told in
+    let is = pool_contains_its_allocation 64 64 59 8 size align least (record { some_rows = lit< tt; rows_fit = omega arith; power_of_two = refl; classes_fit = omega arith })
+    told in
     ((omega (arith, is.0), omega (arith, is.0, is.1.1)), is.3)
 
 -- one more of so many lengths fits
-rooms : (n len least block : ℕ) → 64 ≤ least → least ≤ len → n + 1 ≤ (len - least) / (block + (least - 64)) → (n + 1) * block + (n + 1) * (least - 32 - 32) + (least - 32 + 32) ≤ len
+rooms : (n len least block : ℕ) → 64 ≤ least → least ≤ len → n + 1 ≤ (len - least) / (block + (least - 64)) → (n + 1) * block + (n + 1) * (least - 32 - 32)
+    + (least - 32 + 32) ≤ len
 rooms n len least block some long few =
     let d = block + (least - 64) in
     let whole : (len - least) / d * d ≤ len - least = omega (arith, div-add-mod' (len - least) d) in
@@ -164,7 +181,8 @@ rooms n len least block some long few =
     product : (a b c : ℕ) → a * (b + c) ≡ a * b + a * c
     product a b c = omega arith
 
-module _ (h : Handled) (size align : ℕ) (layout : IsLayout size align) (aligned : h.align ≡ align) (none : h.lists ≡ []) (fresh : (len : ℕ) → 64 ≤ (aligned_part h.memory).len → IsUniform len (aligned_part h.memory) h.state) where
+module _ (h : Handled) (size align : ℕ) (layout : IsLayout size align) (aligned : h.align ≡ align) (none : h.lists ≡ [])
+    (fresh : (len : ℕ) → 64 ≤ (aligned_part h.memory).len → IsUniform len (aligned_part h.memory) h.state) where
   abbrev len : ℕ
   len = (aligned_part h.memory).len
 
@@ -174,7 +192,8 @@ module _ (h : Handled) (size align : ℕ) (layout : IsLayout size align) (aligne
   some : 32 ≤ block
   some = omega (arith, round32-multiple (size + (align - 16) + 16), round32-le (size + (align - 16) + 16))
 
-  made : (capacity : ℕ) → (FitsPool h.memory size align → 1 ≤ capacity) → IsSpread h.memory size align capacity ⊎ IsTiled h size align capacity → IsObjectPool h size align capacity
+  made : (capacity : ℕ) → (FitsPool h.memory size align → 1 ≤ capacity) → IsSpread h.memory size align capacity ⊎ IsTiled h size align capacity
+      → IsObjectPool h size align capacity
   made capacity fits room = record { aligned = aligned; sized = subst (HaveSize size) (sym none) tt; within = omega (arith, ap length none); fits = fits; room = room }
 
   made_of_none : (FitsPool h.memory size align → ⊥) → IsObjectPool h size align 0
@@ -214,7 +233,8 @@ module _ (h : Handled) (size align : ℕ) (layout : IsLayout size align) (aligne
     of_test true e = tiled (grind (arith, nat_tests)) (grind (arith, nat_tests))
     of_test false e = spread
 
-    of_length : (b : Bool) → nat_lt len least ≡ b → IsObjectPool h size align (cond b 0 (cond (nat_le align 32 && nat_eq least (block + 32)) blocks ((len - least) / (block + (least - 64)) + 1)))
+    of_length : (b : Bool) → nat_lt len least ≡ b → IsObjectPool h size align
+        (cond b 0 (cond (nat_le align 32 && nat_eq least (block + 32)) blocks ((len - least) / (block + (least - 64)) + 1)))
     of_length true e = absurd (grind (arith, nat_tests))
     of_length false e = of_test (nat_le align 32 && nat_eq least (block + 32)) refl
 
@@ -222,7 +242,8 @@ module _ (h : Handled) (size align : ℕ) (layout : IsLayout size align) (aligne
   of_pool None e = made_of_none (λ (least, told, long). none-some least (sym e ∙ told))
   of_pool (Some least) e = elim (cases_lt len least) [
     | inl short ↦
-        subst (λ b. IsObjectPool h size align (cond b 0 (cond (nat_le align 32 && nat_eq least (block + 32)) ((len - 32) / block) ((len - least) / (block + (least - 64)) + 1)))) (sym (lt-ltb len least short))
+        subst (λ b. IsObjectPool h size align (cond b 0 (cond (nat_le align 32 && nat_eq least (block + 32)) ((len - 32) / block) ((len - least) / (block + (least - 64)) + 1))))
+        (sym (lt-ltb len least short))
         (made_of_none (λ (other, told, long). let same : least ≡ other = same_Some least other (sym e ∙ told) in omega (arith, short, long, same)))
     | inr long ↦ of_length least e long (nat_lt len least) refl
   ]

@@ -1,5 +1,6 @@
 -- Lists of entries, each a handle with a value.
-use Rattle.std.proofs.Common.{◌≡◌, ℕ, ◌<◌, Bool, true, false, List, [], ◌∷◌, ◌++◌, None, Some, map, nat_eq, arith, refl, sym, ap, subst, ◌∙◌, Greater, inl, inr}
+use Rattle.std.proofs.Common.{◌≡◌, ℕ, ◌<◌, Bool, true, false, List, [], ◌∷◌, ◌++◌, None, Some, map, nat_eq, arith, refl, sym, ap, subst, ◌∙◌, Greater}
+use Rattle.std.proofs.Common.{inl, inr}
 use Rattle.std.proofs.Math.Path.{fun_ext, ap₂}
 use Rattle.std.proofs.lemmas.Bool.{cases_Bool, ne_eqb}
 use Rattle.std.proofs.lemmas.Option.{none-some}
@@ -36,9 +37,11 @@ module _ {A : Type 0} where
 
   pub AllByRecursion-remove_entry : (P : ℕ × A → Type 0) (test : ℕ → Bool) (es : List (ℕ × A)) → AllByRecursion P es → AllByRecursion P (remove_entry test es)
   AllByRecursion-remove_entry P test [] all = tt
-  AllByRecursion-remove_entry P test (e ∷ es) (first, rest) = elim (cases_Bool (test e.0)) [ inl here ↦ rw here rest | inr other ↦ rw other (first, AllByRecursion-remove_entry P test es rest) ]
+  AllByRecursion-remove_entry P test (e ∷ es) (first, rest) =
+      elim (cases_Bool (test e.0)) [ inl here ↦ rw here rest | inr other ↦ rw other (first, AllByRecursion-remove_entry P test es rest) ]
 
-  pub AllByRecursion-set_value : (P : ℕ × A → Type 0) (test : ℕ → Bool) (es : List (ℕ × A)) (x : A) → ((n : ℕ) (y : A) → P (n, y) → P (n, x)) → AllByRecursion P es → AllByRecursion P (set_value test es x)
+  pub AllByRecursion-set_value : (P : ℕ × A → Type 0) (test : ℕ → Bool) (es : List (ℕ × A)) (x : A) → ((n : ℕ) (y : A) → P (n, y) → P (n, x))
+      → AllByRecursion P es → AllByRecursion P (set_value test es x)
   AllByRecursion-set_value P test [] x keeps all = tt
   AllByRecursion-set_value P test (e ∷ es) x keeps (first, rest) =
       elim (cases_Bool (test e.0)) [ inl here ↦ rw here (keeps e.0 e.1 first, rest) | inr other ↦ rw other (first, AllByRecursion-set_value P test es x keeps rest) ]
@@ -76,7 +79,16 @@ found test (e ∷ es) x is = elim (cases_Bool (test e.0)) [
       record { before = []; after = es; key = e.0; whole = ap (λ y. (e.0, y) ∷ es) same; less = rw here refl; changed = λ y. rw here refl; passes = here; others = tt }
   | inr other ↦
       let f : IsFound test es x = found test es x (rw other at is) in
-      record { before = e ∷ f.before; after = f.after; key = f.key; whole = ap (λ l. e ∷ l) f.whole; less = rw other (ap (λ l. e ∷ l) f.less); changed = λ y. rw other (ap (λ l. e ∷ l) (f.changed y)); passes = f.passes; others = (other, f.others) }
+      record {
+        before = e ∷ f.before;
+        after = f.after;
+        key = f.key;
+        whole = ap (λ l. e ∷ l) f.whole;
+        less = rw other (ap (λ l. e ∷ l) f.less);
+        changed = λ y. rw other (ap (λ l. e ∷ l) (f.changed y));
+        passes = f.passes;
+        others = (other, f.others);
+      }
 ]
 
 -- ---- with f of each value
@@ -88,10 +100,15 @@ module _ {A B : Type 0} (f : A → B) where
 
   pub remove_entry-map_values : (test : ℕ → Bool) (es : List (ℕ × A)) → remove_entry test (map_values f es) ≡ map_values f (remove_entry test es)
   remove_entry-map_values test [] = refl
-  remove_entry-map_values test (e ∷ es) = elim (cases_Bool (test e.0)) [ inl here ↦ rw here refl | inr other ↦ rw other (ap (λ l. (e.0, f e.1) ∷ l) (remove_entry-map_values test es)) ]
+  remove_entry-map_values test (e ∷ es) = elim (cases_Bool (test e.0)) [
+    | inl here ↦ rw here refl
+    | inr other ↦ rw other
+        (ap (λ l. (e.0, f e.1) ∷ l) (remove_entry-map_values test es))
+  ]
 
 -- the value of a key that none before it passes for
-pub set_value-middle : {A B : Type 0} (f : A → B) (test : ℕ → Bool) (before after : List (ℕ × A)) (key : ℕ) (x : A) (y : B) → AllByRecursion (λ e. test e.0 ≡ false) before → test key ≡ true
+pub set_value-middle : {A B : Type 0} (f : A → B) (test : ℕ → Bool) (before after : List (ℕ × A)) (key : ℕ) (x : A) (y : B)
+    → AllByRecursion (λ e. test e.0 ≡ false) before → test key ≡ true
     → set_value test (map_values f (before ++ (key, x) ∷ after)) y ≡ map_values f before ++ (key, y) ∷ map_values f after
 set_value-middle f test [] after key x y others passes = rw passes refl
 set_value-middle f test (e ∷ es) after key x y (first, rest) passes = rw first (ap (λ l. (e.0, f e.1) ∷ l) (set_value-middle f test es after key x y rest passes))

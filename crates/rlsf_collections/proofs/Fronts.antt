@@ -11,7 +11,8 @@ pub front-le : {A : Type 0} (front xs : List A) → take (length front) xs ≡ f
 front-le front xs begins = omega (arith, length-take (length front) xs, ap length begins)
 
 -- what is replaced in a list is replaced in its front
-pub take-splice : {A : Type 0} (xs ys : List A) (i n : ℕ) → i + length ys ≤ n → n ≤ length xs → take n (splice xs i (i + length ys) ys) ≡ splice (take n xs) i (i + length ys) ys
+pub take-splice : {A : Type 0} (xs ys : List A) (i n : ℕ) → i + length ys ≤ n → n ≤ length xs → take n (splice xs i (i + length ys) ys) ≡ splice (take n xs) i
+    (i + length ys) ys
 take-splice xs ys i n inside room =
     let k = length ys in
     let m = n - (i + k) in
@@ -20,7 +21,8 @@ take-splice xs ys i n inside room =
     let long : length front ≡ i = length-take-le i xs (omega arith) in
     let parts : n ≡ length front + (k + m) = omega arith in
     let whole : n ≡ i + k + m = omega arith in
-    let left : take n (front ++ (ys ++ rest)) ≡ front ++ (ys ++ take m rest) = ap (λ j. take j (front ++ (ys ++ rest))) parts ∙ take-append-add front (ys ++ rest) (k + m) ∙ ap (λ l. front ++ l) (take-append-add ys rest m) in
+    let left : take n (front ++ (ys ++ rest)) ≡ front ++ (ys ++ take m rest) = ap (λ j. take j (front ++ (ys ++ rest))) parts ∙ take-append-add front (ys ++ rest) (k + m)
+    ∙ ap (λ l. front ++ l) (take-append-add ys rest m) in
     let first : take i (take n xs) ≡ front = take-take i n xs (omega arith) in
     let last : drop (i + k) (take n xs) ≡ take m rest = ap (λ j. drop (i + k) (take j xs)) whole ∙ drop-take (i + k) m xs in
     left ∙ sym (ap₂ (λ f l. f ++ (ys ++ l)) first last)
@@ -34,14 +36,17 @@ front-splice front xs ys i begins inside =
     ap (λ j. take j (splice xs i (i + length ys) ys)) long ∙ take-splice xs ys i n inside (front-le front xs begins) ∙ ap (λ l. splice l i (i + length ys) ys) begins
 
 -- what is written behind the front of a longer list is appended to it
-pub front-append : (front xs ys : List ℕ) (i : ℕ) → length front ≡ i → take i xs ≡ front → take (length (front ++ ys)) (splice xs i (i + length ys) ys) ≡ front ++ ys
+pub front-append : (front xs ys : List ℕ) (i : ℕ) → length front ≡ i → take i xs ≡ front → take (length (front ++ ys)) (splice xs i (i + length ys) ys) ≡ front
+    ++ ys
 front-append front xs ys i at begins =
     let rest = drop (i + length ys) xs in
     let long : length (front ++ ys) ≡ length (take i xs) + (length ys + 0) = omega (arith, length-append front ys, ap length begins) in
-    ap (λ j. take j (take i xs ++ (ys ++ rest))) long ∙ take-append-add (take i xs) (ys ++ rest) (length ys + 0) ∙ ap (λ l. take i xs ++ l) (ap (λ j. take j (ys ++ rest)) (omega arith) ∙ take-append_seam ys rest) ∙ ap (λ l. l ++ ys) begins
+    ap (λ j. take j (take i xs ++ (ys ++ rest))) long ∙ take-append-add (take i xs) (ys ++ rest) (length ys + 0)
+    ∙ ap (λ l. take i xs ++ l) (ap (λ j. take j (ys ++ rest)) (omega arith) ∙ take-append_seam ys rest) ∙ ap (λ l. l ++ ys) begins
 
 -- a list begins with as much of another as a third one does that keeps it
-pub front-kept : (front old new : List ℕ) → take (length front) old ≡ front → length front ≤ length new → take (min (length old) (length new)) new ≡ take (min (length old) (length new)) old
+pub front-kept : (front old new : List ℕ) → take (length front) old ≡ front → length front ≤ length new
+    → take (min (length old) (length new)) new ≡ take (min (length old) (length new)) old
     → take (length front) new ≡ front
 front-kept front old new begins room kept =
     let n = length front in

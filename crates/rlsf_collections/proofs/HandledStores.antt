@@ -1,5 +1,6 @@
 -- A store with a handle for each list of bytes.
-use Rattle.std.proofs.Common.{◌≡◌, ℕ, ◌+◌, ◌≤◌, List, [], ◌∷◌, ◌++◌, length, Option, None, Some, Result, Ok, Err, OnErr, IsSomeAnd, map, nat_eq, arith, refl, sym, ap, subst, ◌∙◌}
+use Rattle.std.proofs.Common.{◌≡◌, ℕ, ◌+◌, ◌≤◌, List, [], ◌∷◌, ◌++◌, length, Option, None, Some, Result, Ok, Err, OnErr, IsSomeAnd, map, nat_eq, arith}
+use Rattle.std.proofs.Common.{refl, sym, ap, subst, ◌∙◌}
 use Rattle.std.proofs.Math.Path.{ap₂}
 use Rattle.std.proofs.lemmas.List.{length-map, map-append}
 use Rattle.std.proofs.lemmas.Simd.{map-map}
@@ -24,9 +25,11 @@ abbrev here : StoreContents → ℕ → Spot → List ℕ
 here v align s = bytes_at_place v.heap.memory (place_at align s)
 
 -- where all have the same bytes, callers see the same
-lists_in-same : (v w : StoreContents) (align : ℕ) (rows : List (ℕ × Spot)) → lists_at w (places_in align rows) ≡ lists_at v (places_in align rows) → lists_in w align rows ≡ lists_in v align rows
+lists_in-same : (v w : StoreContents) (align : ℕ) (rows : List (ℕ × Spot)) → lists_at w (places_in align rows) ≡ lists_at v (places_in align rows)
+    → lists_in w align rows ≡ lists_in v align rows
 lists_in-same v w align rows same =
-    map_values-same (here w align) (here v align) rows (sym (map-map (bytes_at_place w.heap.memory) (place_at align) (values_of rows)) ∙ same ∙ map-map (bytes_at_place v.heap.memory) (place_at align) (values_of rows))
+    map_values-same (here w align) (here v align) rows (sym (map-map (bytes_at_place w.heap.memory) (place_at align) (values_of rows)) ∙ same
+    ∙ map-map (bytes_at_place v.heap.memory) (place_at align) (values_of rows))
 
 -- as many lists as places
 pub length-lists_in : (v : StoreContents) (align : ℕ) (rows : List (ℕ × Spot)) → length (places_in align rows) ≡ length (lists_in v align rows)
@@ -47,9 +50,11 @@ one_alignment : (align : ℕ) (rows : List (ℕ × Spot)) → AllByRecursion (λ
 one_alignment align [] = tt
 one_alignment align (e ∷ es) = (refl, one_alignment align es)
 
-pub HasBudgetFor-handled : (v : StoreContents) (align : ℕ) (h : HandleRows) (live size : ℕ) → IsHandled v align h.rows → HasBudgetOf (handled_by v align h) live size → HasBudgetFor v (places_in align h.rows) live size align
+pub HasBudgetFor-handled : (v : StoreContents) (align : ℕ) (h : HandleRows) (live size : ℕ) → IsHandled v align h.rows → HasBudgetOf (handled_by v align h) live size
+    → HasBudgetFor v (places_in align h.rows) live size align
 HasBudgetFor-handled v align h live size kept budget =
-    HasBudgetFor-lists kept (omega (arith, budget.few, length-lists_in v align h.rows)) budget.layout (short_lists v align size h.rows budget.small) (one_alignment align h.rows) budget.bytes
+    HasBudgetFor-lists kept (omega (arith, budget.few, length-lists_in v align h.rows)) budget.layout (short_lists v align size h.rows budget.small)
+    (one_alignment align h.rows) budget.bytes
 
 -- no spot, no bytes
 pub absent : (v : StoreContents) (align : ℕ) (rows : List (ℕ × Spot)) (n : ℕ) → lookup (nat_eq n) rows ≡ None → lookup (nat_eq n) (lists_in v align rows) ≡ None
@@ -63,15 +68,18 @@ places_in-append align before after = ap (map (place_at align)) (map-append (λ 
 abbrev pub Shows : StoreContents → ℕ → List (ℕ × List ℕ) → ℕ → StoreContents → HandleRows → Type 0
 Shows v align lists next w g = IsHandled w align g.rows × (handled_by w align g ≡ handled lists next align (range_of v.heap.memory) w.heap.state)
 
-shows : (v : StoreContents) {w : StoreContents} {align : ℕ} {g : HandleRows} {rows : List (ℕ × Spot)} {lists : List (ℕ × List ℕ)} {next : ℕ} → SamePlace v.heap.memory w.heap.memory → g.rows ≡ rows → g.next ≡ next
+shows : (v : StoreContents) {w : StoreContents} {align : ℕ} {g : HandleRows} {rows : List (ℕ × Spot)} {lists : List (ℕ × List ℕ)} {next : ℕ}
+    → SamePlace v.heap.memory w.heap.memory → g.rows ≡ rows → g.next ≡ next
     → IsHandled w align rows → lists_in w align rows ≡ lists → Shows v align lists next w g
 shows v {w} {align} {g} {rows} {lists} {next} place same count kept are = (
   subst (IsHandled w align) (sym same) kept,
-  ap₂ (λ (l : List (ℕ × List ℕ)) (m : Range). handled l g.next align m w.heap.state) (ap (lists_in w align) same ∙ are) (ap₂ range_at place.0 place.1) ∙ ap (λ n. handled lists n align (range_of v.heap.memory) w.heap.state) count,
+  ap₂ (λ (l : List (ℕ × List ℕ)) (m : Range). handled l g.next align m w.heap.state) (ap (lists_in w align) same ∙ are) (ap₂ range_at place.0 place.1)
+      ∙ ap (λ n. handled lists n align (range_of v.heap.memory) w.heap.state) count,
 )
 
 -- one row among others whose bytes are as they were
-shows_among : (v : StoreContents) {w : StoreContents} {align : ℕ} {g : HandleRows} (before after : List (ℕ × Spot)) (n : ℕ) (s : Spot) {bytes : List ℕ} {next : ℕ} → SamePlace v.heap.memory w.heap.memory
+shows_among : (v : StoreContents) {w : StoreContents} {align : ℕ} {g : HandleRows} (before after : List (ℕ × Spot)) (n : ℕ) (s : Spot) {bytes : List ℕ} {next : ℕ}
+    → SamePlace v.heap.memory w.heap.memory
     → g.rows ≡ before ++ (n, s) ∷ after → g.next ≡ next → HasAmong v w (places_in align before) (places_in align after) (place_at align s) bytes
     → Shows v align (lists_in v align before ++ (n, bytes) ∷ lists_in v align after) next w g
 shows_among v {w} {align} {g} before after n s {bytes} place rows next m =
@@ -88,14 +96,17 @@ pub record IsAt (v : StoreContents) (align : ℕ) (h : HandleRows) (n : ℕ) (s 
   pub has : KeepsAt v (before ++ place_at align s ∷ after)
   pub len : length (bytes_at_place v.heap.memory (place_at align s)) ≡ s.len
   pub bytes : lookup (nat_eq n) (lists_in v align h.rows) ≡ Some (bytes_at_place v.heap.memory (place_at align s))
-  pub removed : (w : StoreContents) (g : HandleRows) → SamePlace v.heap.memory w.heap.memory → HasSame v w (before ++ after) → g.rows ≡ remove_entry (nat_eq n) h.rows → g.next ≡ h.next
+  pub removed : (w : StoreContents) (g : HandleRows) → SamePlace v.heap.memory w.heap.memory → HasSame v w (before ++ after) → g.rows ≡ remove_entry (nat_eq n) h.rows
+      → g.next ≡ h.next
       → Shows v align (remove_entry (nat_eq n) (lists_in v align h.rows)) h.next w g
-  pub changed : (w : StoreContents) (g : HandleRows) → SamePlace v.heap.memory w.heap.memory → (now : Spot) (bytes : List ℕ) → HasAmong v w before after (place_at align now) bytes
+  pub changed : (w : StoreContents) (g : HandleRows) → SamePlace v.heap.memory w.heap.memory → (now : Spot) (bytes : List ℕ)
+      → HasAmong v w before after (place_at align now) bytes
       → g.rows ≡ set_value (nat_eq n) h.rows now → g.next ≡ h.next → Shows v align (set_value (nat_eq n) (lists_in v align h.rows) bytes) h.next w g
 
 module _ {v : StoreContents} {align : ℕ} (h : HandleRows) (kept : IsHandled v align h.rows) where
   -- the same rows, with the same bytes, in another store
-  pub same_items : (w : StoreContents) (g : HandleRows) → SamePlace v.heap.memory w.heap.memory → HasSame v w (places_in align h.rows) → g.rows ≡ h.rows → g.next ≡ h.next → Shows v align (lists_in v align h.rows) h.next w g
+  pub same_items : (w : StoreContents) (g : HandleRows) → SamePlace v.heap.memory w.heap.memory → HasSame v w (places_in align h.rows) → g.rows ≡ h.rows
+      → g.next ≡ h.next → Shows v align (lists_in v align h.rows) h.next w g
   same_items w g place same rows next = shows v {g = g} place rows next same.0 (lists_in-same v w align h.rows same.1)
 
   -- a handle with its spot is stored there
@@ -124,7 +135,8 @@ module _ {v : StoreContents} {align : ℕ} (h : HandleRows) (kept : IsHandled v 
       }
 
   -- one more under a new handle
-  pub one_more : (w : StoreContents) (g : HandleRows) → SamePlace v.heap.memory w.heap.memory → (n : ℕ) (s : Spot) (bytes : List ℕ) → HasAmong v w (places_in align h.rows) [] (place_at align s) bytes
+  pub one_more : (w : StoreContents) (g : HandleRows) → SamePlace v.heap.memory w.heap.memory → (n : ℕ) (s : Spot) (bytes : List ℕ)
+      → HasAmong v w (places_in align h.rows) [] (place_at align s) bytes
       → g.rows ≡ h.rows ++ (n, s) ∷ [] → g.next ≡ n + 1 → Shows v align (lists_in v align h.rows ++ (n, bytes) ∷ []) (n + 1) w g
   one_more w g place n s bytes among rows next = shows_among v {g = g} h.rows [] n s place rows next among
 

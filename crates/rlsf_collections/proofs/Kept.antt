@@ -1,5 +1,6 @@
 -- What is kept in the payloads of a state.
-use Rattle.std.proofs.Common.{◌≡◌, ◌≢◌, ◌⊎◌, ℕ, ◌+◌, ◌<◌, List, [], ◌∷◌, ◌++◌, length, take, None, arith, refl, sym, ◌∙◌, ap, subst, inl, inr}
+use Rattle.std.proofs.Common.{◌≡◌, ◌≢◌, ◌⊎◌, ℕ, ◌+◌, ◌<◌, List, [], ◌∷◌, ◌++◌, length, take, None, arith, refl, sym, ◌∙◌, ap, subst}
+use Rattle.std.proofs.Common.{inl, inr}
 use Rattle.std.proofs.lemmas.Bool.{cases_eq}
 use Rattle.std.proofs.lemmas.Option.{none-some}
 use Rattle.rlsf_machine.specs.Callers.{align_at, bytes_at}
@@ -54,7 +55,8 @@ KeepsPlaces-same k align bytes is = record { live = align ∙ is.live; front = a
 
 module _ {s t : State} (before after : List Stored) where
   -- of a new payload, its front
-  pub KeepsOnly-new : {size : ℕ} (addr align : ℕ) (front : List ℕ) → take (length front) (bytes_at t addr) ≡ front → length (bytes_at t addr) < length front + 32 → SeesNew s t size align addr
+  pub KeepsOnly-new : {size : ℕ} (addr align : ℕ) (front : List ℕ) → take (length front) (bytes_at t addr) ≡ front → length (bytes_at t addr) < length front + 32
+      → SeesNew s t size align addr
       → KeepsOnly s (before ++ after) → KeepsOnly t (before ++ stored addr align front ∷ after)
   KeepsOnly-new addr align front begins few new is =
       let k = stored addr align front in

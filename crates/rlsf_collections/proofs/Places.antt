@@ -32,7 +32,8 @@ pub record IsMiddle (v : StoreContents) (before after : List Place) (p : Place) 
   pub back_at : map place_of back ≡ after
 
 parts : (before : List Place) (p : Place) (after : List Place) (all : List Stored) → map place_of all ≡ before ++ p ∷ after
-    → (front : List Stored) × (here : Stored) × (back : List Stored) × (all ≡ front ++ here ∷ back) × (map place_of front ≡ before) × (place_of here ≡ p) × (map place_of back ≡ after)
+    → (front : List Stored) × (here : Stored) × (back : List Stored) × (all ≡ front ++ here ∷ back) × (map place_of front ≡ before) × (place_of here ≡ p)
+    × (map place_of back ≡ after)
 parts [] p after [] at = cc
 parts [] p after (k ∷ ks) at = ([], k, ks, refl, refl, cc, cc)
 parts (q ∷ qs) p after [] at = cc
@@ -67,7 +68,8 @@ length-bytes_at_place before after p has = let a = among before after p has in a
 -- ---- what a call leaves
 
 -- one list among the others
-pub HasAmong-stored : {v w : StoreContents} {before after : List Place} (front back : List Stored) (j : Stored) {p : Place} {bytes : List ℕ} → IsStore w (front ++ j ∷ back) → map place_of front ≡ before → map place_of back ≡ after
+pub HasAmong-stored : {v w : StoreContents} {before after : List Place} (front back : List Stored) (j : Stored) {p : Place} {bytes : List ℕ} → IsStore w (front ++ j ∷ back)
+    → map place_of front ≡ before → map place_of back ≡ after
     → place_of j ≡ p → j.bytes ≡ bytes → map bytes_of front ≡ lists_at v before → map bytes_of back ≡ lists_at v after → HasAmong v w before after p bytes
 HasAmong-stored {v} {w} {before} {after} front back j {p} is front_at back_at at are front_are back_are =
     let m : IsMiddle w before after p = record { front = front; back = back; here = j; is = is; front_at = front_at; here_at = at; back_at = back_at } in
@@ -79,20 +81,25 @@ HasAmong-stored {v} {w} {before} {after} front back j {p} is front_at back_at at
     }
 
 pub HasAmong-added : {v w : StoreContents} (places : List Place) (addr align : ℕ) (bytes : List ℕ) (len : ℕ) → length bytes ≡ len → KeepsAt v places
-    → ((before after : List Stored) → IsStore v (before ++ after) → IsStore w (before ++ stored addr align bytes ∷ after)) → HasAmong v w places [] (place addr align len) bytes
+    → ((before after : List Stored) → IsStore v (before ++ after) → IsStore w (before ++ stored addr align bytes ∷ after))
+    → HasAmong v w places [] (place addr align len) bytes
 HasAmong-added {v} places addr align bytes len long (all, is, at) stores =
-    HasAmong-stored all [] (stored addr align bytes) (stores all [] (subst (IsStore v) (sym (append-nil all)) is)) at refl (ap (place addr align) long) refl (sym (bytes_at_place-stored v all is) ∙ ap (lists_at v) at) refl
+    HasAmong-stored all [] (stored addr align bytes) (stores all [] (subst (IsStore v) (sym (append-nil all)) is)) at refl (ap (place addr align) long) refl
+    (sym (bytes_at_place-stored v all is) ∙ ap (lists_at v) at) refl
 
 pub HasAmong-changed : {v w : StoreContents} (before after : List Place) (p q : Place) (bytes : List ℕ) → KeepsAt v (before ++ p ∷ after)
-    → ((front back : List Stored) (k : Stored) → IsStore v (front ++ k ∷ back) → place_of k ≡ p → k.bytes ≡ bytes_at_place v.heap.memory p → (j : Stored) × IsStore w (front ++ j ∷ back) × (place_of j ≡ q) × (j.bytes ≡ bytes))
+    → ((front back : List Stored) (k : Stored) → IsStore v (front ++ k ∷ back) → place_of k ≡ p → k.bytes ≡ bytes_at_place v.heap.memory p → (j : Stored)
+    × IsStore w (front ++ j ∷ back) × (place_of j ≡ q) × (j.bytes ≡ bytes))
     → HasAmong v w before after q bytes
 HasAmong-changed before after p q bytes has changes =
     let a = among before after p has in
     let (j, is, at, are) = changes a.front a.back a.here a.is a.here_at (here_bytes a) in
     HasAmong-stored a.front a.back j is a.front_at a.back_at at are (front_bytes a) (back_bytes a)
 
-pub HasSame-removed : {v w : StoreContents} {addr align : ℕ} (before after : List Place) (p : Place) → KeepsAt v (before ++ p ∷ after) → p.addr ≡ addr → p.align ≡ align
-    → ((front back : List Stored) (k : Stored) → IsStore v (front ++ k ∷ back) → k.addr ≡ addr → k.align ≡ align → IsStore w (front ++ back)) → HasSame v w (before ++ after)
+pub HasSame-removed : {v w : StoreContents} {addr align : ℕ} (before after : List Place) (p : Place) → KeepsAt v (before ++ p ∷ after) → p.addr ≡ addr
+    → p.align ≡ align
+    → ((front back : List Stored) (k : Stored) → IsStore v (front ++ k ∷ back) → k.addr ≡ addr → k.align ≡ align → IsStore w (front ++ back))
+    → HasSame v w (before ++ after)
 HasSame-removed {v} {w} before after p has addr align stores =
     let a = among before after p has in
     let is = stores a.front a.back a.here a.is (ap (λ q. q.addr) a.here_at ∙ addr) (ap (λ q. q.align) a.here_at ∙ align) in
@@ -101,5 +108,6 @@ HasSame-removed {v} {w} before after p has addr align stores =
     ((a.front ++ a.back, is, at), ap (lists_at w) (sym at) ∙ bytes_at_place-stored w (a.front ++ a.back) is ∙ are)
 
 -- what is left once a list was added and given back
-pub HasSame-given_back : {u v w : StoreContents} {p : Place} {bytes : List ℕ} (places : List Place) → HasAmong u v places [] p bytes → HasSame v w (places ++ []) → HasSame u w places
+pub HasSame-given_back : {u v w : StoreContents} {p : Place} {bytes : List ℕ} (places : List Place) → HasAmong u v places [] p bytes → HasSame v w (places ++ [])
+    → HasSame u w places
 HasSame-given_back {v = v} {w = w} places added left = let now = subst (HasSame v w) (append-nil places) left in (now.0, now.1 ∙ added.front)

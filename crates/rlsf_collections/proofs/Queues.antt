@@ -1,5 +1,6 @@
 -- A queue's messages, as its entries and its store have them.
-use Rattle.std.proofs.Common.{◌≡◌, ℕ, ◌-◌, ◌<◌, ◌≤◌, List, [], ◌∷◌, ◌++◌, length, map, drop, slice_index_or, Option, None, Some, IfSome, IsSomeAnd, arith, inl, inr, refl, sym, ◌∙◌, ap, subst}
+use Rattle.std.proofs.Common.{◌≡◌, ℕ, ◌-◌, ◌<◌, ◌≤◌, List, [], ◌∷◌, ◌++◌, length, map, drop, slice_index_or, Option, None, Some, IfSome, IsSomeAnd}
+use Rattle.std.proofs.Common.{arith, inl, inr, refl, sym, ◌∙◌, ap, subst}
 use Rattle.std.proofs.Math.Path.{ap₂}
 use Rattle.std.proofs.lemmas.Bool.{cases_lt}
 use Rattle.std.proofs.lemmas.List.{length-map, map-append}
@@ -28,7 +29,8 @@ pub pushed : (v w : StoreContents) (entries : List Entry) (e : Entry) (bytes : L
 pushed v w entries e bytes added =
     let places = map-append place_of_entry entries (e ∷ []) in (
       subst (KeepsAt w) (sym places) added.places,
-      ap (lists_at w) places ∙ map-append (bytes_at_place w.heap.memory) (map place_of_entry entries) (place_of_entry e ∷ []) ∙ ap₂ (λ l b. l ++ b ∷ []) added.front added.here,
+      ap (lists_at w) places ∙ map-append (bytes_at_place w.heap.memory) (map place_of_entry entries) (place_of_entry e ∷ [])
+          ∙ ap₂ (λ l b. l ++ b ∷ []) added.front added.here,
     )
 
 -- what is stored at a first entry is the oldest message
@@ -37,11 +39,17 @@ pub record Oldest (v : StoreContents) (entries : List Entry) (e : Entry) : Type 
   pub messages : messages_in v.heap.memory entries ≡ bytes_at_place v.heap.memory (place_of_entry e) ∷ messages_in v.heap.memory (drop 1 entries)
   pub len : length (bytes_at_place v.heap.memory (place_of_entry e)) ≡ e.len
 
-pub oldest_stored : (v : StoreContents) (entries : List Entry) (e : Entry) → KeepsAt v (map place_of_entry entries) → 0 < length entries → e ≡ slice_index_or entries 0 e → Oldest v entries e
+pub oldest_stored : (v : StoreContents) (entries : List Entry) (e : Entry) → KeepsAt v (map place_of_entry entries) → 0 < length entries → e ≡ slice_index_or entries 0 e
+    → Oldest v entries e
 oldest_stored v [] e has some first = absurd (omega arith)
 oldest_stored v (x ∷ xs) e has some first =
     let places = subst (λ y. KeepsAt v (place_of_entry y ∷ map place_of_entry xs)) (sym first) has in
-    record { places = places; messages = ap (λ y. messages_in v.heap.memory (y ∷ xs)) (sym first); len = length-bytes_at_place [] (map place_of_entry xs) (place_of_entry e) places }
+    record {
+      places = places;
+      messages = ap (λ y. messages_in v.heap.memory (y ∷ xs)) (sym first);
+      len = length-bytes_at_place [] (map place_of_entry xs)
+          (place_of_entry e) places;
+    }
 
 -- ---- a longest length
 
@@ -50,7 +58,8 @@ AllByRecursion-more P [] e last all = (last, tt)
 AllByRecursion-more P (x ∷ xs) e last (first, rest) = (first, AllByRecursion-more P xs e last rest)
 
 -- one more entry that isn't longer
-pub KeepsLongest-more : (longest : Option ℕ) (memory : Range) (capacity : ℕ) (es : List Entry) (e : Entry) → (IsSomeAnd longest (λ n. n < e.len) → ⊥) → KeepsLongest longest memory capacity es
+pub KeepsLongest-more : (longest : Option ℕ) (memory : Range) (capacity : ℕ) (es : List Entry) (e : Entry) → (IsSomeAnd longest (λ n. n < e.len) → ⊥)
+    → KeepsLongest longest memory capacity es
     → KeepsLongest longest memory capacity (es ++ e ∷ [])
 KeepsLongest-more None memory capacity es e short keeps = tt
 KeepsLongest-more (Some n) memory capacity es e short (all, fits) =
@@ -58,7 +67,8 @@ KeepsLongest-more (Some n) memory capacity es e short (all, fits) =
     (AllByRecursion-more (λ x. x.len ≤ n) es e within all, fits)
 
 -- and one less
-pub KeepsLongest-less : (longest : Option ℕ) (memory : Range) (capacity : ℕ) (es : List Entry) → KeepsLongest longest memory capacity es → KeepsLongest longest memory capacity (drop 1 es)
+pub KeepsLongest-less : (longest : Option ℕ) (memory : Range) (capacity : ℕ) (es : List Entry) → KeepsLongest longest memory capacity es
+    → KeepsLongest longest memory capacity (drop 1 es)
 KeepsLongest-less None memory capacity es keeps = tt
 KeepsLongest-less (Some n) memory capacity [] keeps = keeps
 KeepsLongest-less (Some n) memory capacity (e ∷ es) ((first, rest), fits) = (rest, fits)
@@ -68,7 +78,8 @@ small_entries n [] all = tt
 small_entries n (e ∷ es) (first, rest) = ((first, refl), small_entries n es rest)
 
 -- a queue that isn't full has the budget for a message that isn't too long
-pub budget_for_message : (longest : Option ℕ) (v : StoreContents) (es : List Entry) (capacity len : ℕ) → KeepsAt v (map place_of_entry es) → KeepsLongest longest (range_of v.heap.memory) capacity es → length es < capacity
+pub budget_for_message : (longest : Option ℕ) (v : StoreContents) (es : List Entry) (capacity len : ℕ) → KeepsAt v (map place_of_entry es)
+    → KeepsLongest longest (range_of v.heap.memory) capacity es → length es < capacity
     → IsSomeAnd longest (λ n. len ≤ n) → (n : ℕ) × HasBudgetFor v (map place_of_entry es) (capacity - 1) n 1 × (len ≤ n)
 budget_for_message None v es capacity len has keeps few short = absurd short
 budget_for_message (Some n) v es capacity len has (all, fits) few short = (
@@ -84,7 +95,8 @@ budget_for_message (Some n) v es capacity len has (all, fits) few short = (
 )
 
 -- no message is longer than a slice that has the longest length
-pub oldest_within : (longest : Option ℕ) (memory : Range) (capacity len : ℕ) (es : List Entry) (e : Entry) → KeepsLongest longest memory capacity es → 0 < length es → e ≡ slice_index_or es 0 e
+pub oldest_within : (longest : Option ℕ) (memory : Range) (capacity len : ℕ) (es : List Entry) (e : Entry) → KeepsLongest longest memory capacity es → 0 < length es
+    → e ≡ slice_index_or es 0 e
     → IsSomeAnd longest (λ n. n ≤ len) → e.len ≤ len
 oldest_within None memory capacity len es e keeps some first within = absurd within
 oldest_within (Some n) memory capacity len [] e keeps some first within = absurd (omega arith)
@@ -96,6 +108,7 @@ not_both None len longer short = longer
 not_both (Some n) len longer short = omega arith
 
 -- the same of equal parts
-pub KeepsLongest-same : (longest : Option ℕ) {m n : Range} {c d : ℕ} {es fs : List Entry} → m ≡ n → c ≡ d → es ≡ fs → KeepsLongest longest m c es → KeepsLongest longest n d fs
+pub KeepsLongest-same : (longest : Option ℕ) {m n : Range} {c d : ℕ} {es fs : List Entry} → m ≡ n → c ≡ d → es ≡ fs → KeepsLongest longest m c es
+    → KeepsLongest longest n d fs
 KeepsLongest-same longest {m} {n} {c} {d} {es} {fs} memory capacity entries keeps =
     subst (λ r. KeepsLongest longest r d fs) memory (subst (λ k. KeepsLongest longest m k fs) capacity (subst (KeepsLongest longest m c) entries keeps))

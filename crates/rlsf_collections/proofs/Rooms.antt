@@ -1,5 +1,6 @@
 -- Stores whose pool is sure to have room for one more list of bytes.
-use Rattle.std.proofs.Common.{◌≡◌, ℕ, ◌+◌, ◌-◌, ◌*◌, ◌<◌, ◌≤◌, cond, List, [], ◌∷◌, length, map, Option, Some, None, arith, refl, sym, ◌∙◌, ap, subst, inl, inr}
+use Rattle.std.proofs.Common.{◌≡◌, ℕ, ◌+◌, ◌-◌, ◌*◌, ◌<◌, ◌≤◌, cond, List, [], ◌∷◌, length, map, Option, Some, None, arith, refl, sym}
+use Rattle.std.proofs.Common.{◌∙◌, ap, subst, inl, inr}
 use Rattle.std.proofs.lemmas.Bool.{le-leb}
 use Rattle.std.proofs.lemmas.List.{length-map}
 use Rattle.std.proofs.lemmas.List.Sums.{sum_by-cons}
@@ -47,7 +48,8 @@ block-le u size is few =
 -- ---- as many lists as used blocks, or more
 
 -- no two blocks have one payload
-NoTwo-used : (us : List Used) → ((u : Used) → IsIn u us → IsUsed u) → ((a : ℕ) → coverage (λ (u : Used). u.block) us a ≤ 1) → NoTwo (λ (u : Used) (k : Stored). u.payload ≡ k.addr) us
+NoTwo-used : (us : List Used) → ((u : Used) → IsIn u us → IsUsed u) → ((a : ℕ) → coverage (λ (u : Used). u.block) us a ≤ 1)
+    → NoTwo (λ (u : Used) (k : Stored). u.payload ≡ k.addr) us
 NoTwo-used [] are once = tt
 NoTwo-used (u ∷ us) are once = (
   λ z k i p q.
@@ -86,7 +88,8 @@ module _ {v : StoreContents} {all : List Stored} (store : IsStore v all) where
 
 -- ---- room
 
-small_stored : (size align : ℕ) (all : List Stored) → AllByRecursion (λ (p : Place). (p.len ≤ size) × (p.align ≡ align)) (map place_of all) → (k : Stored) → IsIn k all → request_size (length k.bytes) k.align ≤ request_size size align
+small_stored : (size align : ℕ) (all : List Stored) → AllByRecursion (λ (p : Place). (p.len ≤ size) × (p.align ≡ align)) (map place_of all) → (k : Stored)
+    → IsIn k all → request_size (length k.bytes) k.align ≤ request_size size align
 small_stored size align [] small k i = absurd i
 small_stored size align (j ∷ js) (first, rest) k (inl same) =
     let long : length k.bytes ≤ size = omega (arith, first.0, ap (λ x. length x.bytes) same) in
@@ -112,7 +115,8 @@ module _ (memory : Range) (live size align : ℕ) (bytes : HasBytesFor memory li
   long_part = omega (arith, request_size-part, (IsWhole-aligned_part memory).len, round32-multiple (size + (align - 16) + 16), round32-le (size + (align - 16) + 16))
 
 -- the chunk of a store whose pool is that long
-pub one_chunk : {v : StoreContents} {all : List Stored} → IsStore v all → 64 ≤ (aligned_part (range_of v.heap.memory)).len → v.heap.state.chunks ≡ aligned_part (range_of v.heap.memory) ∷ []
+pub one_chunk : {v : StoreContents} {all : List Stored} → IsStore v all → 64 ≤ (aligned_part (range_of v.heap.memory)).len
+    → v.heap.state.chunks ≡ aligned_part (range_of v.heap.memory) ∷ []
 one_chunk {v} store long =
     let part = aligned_part (range_of v.heap.memory) in
     store.chunks ∙ ap (λ b. cond b (range_at part.start part.len ∷ []) []) (le-leb 64 part.len long)
@@ -125,16 +129,19 @@ module _ {v : StoreContents} {places : List Place} {live size align : ℕ} (budg
       let long = long_part (range_of v.heap.memory) live size align budget.bytes in
       let count : length all ≡ length places = sym (length-map all place_of) ∙ ap length at in
       let few : length v.heap.state.used ≤ live = omega (arith, length-used_le store, budget.few, count) in
-      let small = AreAtMost-stored store (request_size size align) (small_stored size align all (subst (AllByRecursion (λ (p : Place). (p.len ≤ size) × (p.align ≡ align))) (sym at) budget.small)) in
+      let small = AreAtMost-stored store (request_size size align)
+      (small_stored size align all (subst (AllByRecursion (λ (p : Place). (p.len ≤ size) × (p.align ≡ align))) (sym at) budget.small)) in
       let fronts = AreFronts-one part v.heap.state.chunks (subst (IsIn part) (sym (one_chunk store long)) (inl refl)) (omega arith) in
       not_denied live (request_size size align) (well_formed v.heap store.stands) (part ∷ []) fronts small budget.bytes few n a fits t step
 
   -- an allocation has room
   pub budget_has_room : (w : Allocator) (n : ℕ) → n ≤ size → Steps 59 8 v.heap w (Allocates 8 v.heap.state n align None) → ⊥
-  budget_has_room w n short steps = denied w.state n align (request_size-mono n align size align short (omega arith)) (opened 59 8 v.heap w (Allocates 8 v.heap.state n align None) steps).0
+  budget_has_room w n short steps = denied w.state n align (request_size-mono n align size align short (omega arith))
+      (opened 59 8 v.heap w (Allocates 8 v.heap.state n align None) steps).0
 
   -- a reallocation too
-  pub budget_has_room_again : (w : Allocator) (addr n : ℕ) → align_at v.heap.state addr ≡ Some align → n ≤ size → Steps 59 8 v.heap w (Reallocates 8 v.heap.state addr n None) → ⊥
+  pub budget_has_room_again : (w : Allocator) (addr n : ℕ) → align_at v.heap.state addr ≡ Some align → n ≤ size
+      → Steps 59 8 v.heap w (Reallocates 8 v.heap.state addr n None) → ⊥
   budget_has_room_again w addr n live short steps =
       let s = v.heap.state in
       let (all, store, at) = budget.has in
@@ -156,25 +163,30 @@ module _ {v : StoreContents} {places : List Place} {live size align : ℕ} (budg
 -- a pool that fits payloads has the bytes for them
 pub bytes_for-fits : (memory : Range) (count size align : ℕ) → FitsPayloads memory count size align → HasBytesFor memory count size align
 bytes_for-fits memory count size align (layout, (e, told, long)) =
-    HasBudget-pool count (request_size size align) 8 e (aligned_part memory) (IsPayloadPool-some 59 8 count (request_size size align) e refl (IsSize-request_size size align) told) long
+    HasBudget-pool count (request_size size align) 8 e (aligned_part memory)
+    (IsPayloadPool-some 59 8 count (request_size size align) e refl (IsSize-request_size size align) told) long
 
 -- ---- budgets of lists of bytes
 
-small_places : (size align : ℕ) (all : List Stored) → AllByRecursion (λ (b : List ℕ). length b ≤ size) (map bytes_of all) → AllByRecursion (λ (p : Place). p.align ≡ align) (map place_of all)
+small_places : (size align : ℕ) (all : List Stored) → AllByRecursion (λ (b : List ℕ). length b ≤ size) (map bytes_of all)
+    → AllByRecursion (λ (p : Place). p.align ≡ align) (map place_of all)
     → AllByRecursion (λ (p : Place). (p.len ≤ size) × (p.align ≡ align)) (map place_of all)
 small_places size align [] short aligned = tt
 small_places size align (k ∷ ks) (short, shorts) (aligned, rest) = ((short, aligned), small_places size align ks shorts rest)
 
 -- a store has a budget if its lists of bytes are short and have one alignment
-pub HasBudgetFor-lists : {v : StoreContents} {places : List Place} {live size align : ℕ} → KeepsAt v places → length places ≤ live → IsLayout size align → AllByRecursion (λ (b : List ℕ). length b ≤ size) (lists_at v places)
+pub HasBudgetFor-lists : {v : StoreContents} {places : List Place} {live size align : ℕ} → KeepsAt v places → length places ≤ live → IsLayout size align
+    → AllByRecursion (λ (b : List ℕ). length b ≤ size) (lists_at v places)
     → AllByRecursion (λ (p : Place). p.align ≡ align) places → HasBytesFor (range_of v.heap.memory) live size align → HasBudgetFor v places live size align
 HasBudgetFor-lists {v} {places} {live} {size} {align} (all, store, at) few layout short aligned bytes =
     let are : lists_at v places ≡ map bytes_of all = ap (lists_at v) (sym at) ∙ bytes_at_place-stored v all store in
-    let small = small_places size align all (subst (AllByRecursion (λ (b : List ℕ). length b ≤ size)) are short) (subst (AllByRecursion (λ (p : Place). p.align ≡ align)) (sym at) aligned) in
+    let small = small_places size align all (subst (AllByRecursion (λ (b : List ℕ). length b ≤ size)) are short)
+    (subst (AllByRecursion (λ (p : Place). p.align ≡ align)) (sym at) aligned) in
     record { has = (all, store, at); few = few; layout = layout; small = subst (AllByRecursion (λ (p : Place). (p.len ≤ size) × (p.align ≡ align))) at small; bytes = bytes }
 
 -- few short strings have a budget
-pub HasBudgetOf-strings : (h : Handled) (next : ℕ) (count longest : ℕ) → h.align ≡ 1 → AreFewStrings (record { strings = h.lists; next = next; memory = h.memory }) count longest → HasBudgetOf h count longest
+pub HasBudgetOf-strings : (h : Handled) (next : ℕ) (count longest : ℕ) → h.align ≡ 1 → AreFewStrings
+    (record { strings = h.lists; next = next; memory = h.memory }) count longest → HasBudgetOf h count longest
 HasBudgetOf-strings h next count longest one few = record {
   few = few.few;
   layout = subst (IsLayout longest) (sym one) few.fits.0;

@@ -1,6 +1,7 @@
 -- What a store keeps, over the allocator's steps.
 use mathlib.Core.Path.{ap₂}
-use Rattle.std.proofs.Common.{◌≡◌, ◌≢◌, ℕ, ◌+◌, ◌-◌, ◌<◌, ◌≤◌, cond, lit<, List, [], ◌∷◌, ◌++◌, length, map, take, drop, Option, Some, None, IsSome, arith, refl, sym, ◌∙◌, ap, subst, inl, inr}
+use Rattle.std.proofs.Common.{◌≡◌, ◌≢◌, ℕ, ◌+◌, ◌-◌, ◌<◌, ◌≤◌, cond, lit<, List, [], ◌∷◌, ◌++◌, length, map, take, drop, Option, Some}
+use Rattle.std.proofs.Common.{None, IsSome, arith, refl, sym, ◌∙◌, ap, subst, inl, inr}
 use Rattle.std.proofs.lemmas.Bool.{cases_lt, le-leb, lt-leb}
 use Rattle.std.proofs.lemmas.List.{length-take-le, take-take}
 use Rattle.std.specs.Option.{unwrap_or}
@@ -22,7 +23,8 @@ use Rattle.rlsf_machine.specs.Reallocate.{Reallocates}
 use Rattle.rlsf_machine.specs.Release.{Deallocates}
 use Rattle.rlsf_machine.specs.Run.{Fills, reallocate}
 use Rattle.rlsf_machine.specs.State.{State, Used, Holds, empty, usable}
-use Rattle.rlsf_machine.proofs.CallerWords.{SeesGone, SeesResized, align_at-held, align_at-live, align_at-none, align_at-some, bytes_at-held, filled_seen, gone_seen, new_seen, resized_seen}
+use Rattle.rlsf_machine.proofs.CallerWords.{SeesGone, SeesResized, align_at-held, align_at-live, align_at-none, align_at-some, bytes_at-held, filled_seen, gone_seen, new_seen}
+use Rattle.rlsf_machine.proofs.CallerWords.{resized_seen}
 use Rattle.rlsf_machine.proofs.Callers.{callers_see_map}
 use Rattle.rlsf_machine.proofs.ChunkRows.{IsRow-inserted, IsRow-same}
 use Rattle.rlsf_machine.proofs.Chunks.{chunks-allocated, chunks-deallocated, chunks-filled, chunks-reallocated, used-inserted}
@@ -38,7 +40,8 @@ use Rattle.rlsf_collections.proofs.Kept.{IsIn-middle, KeepsOnly-changed, KeepsOn
 -- ---- a store after a call
 
 -- another allocator in its place, with the same chunks
-IsStore-after : {v : StoreContents} {all : List Stored} (store : IsStore v all) (w : Allocator) (now : List Stored) → Stands 59 8 w → SamePlace v.heap.memory w.memory → w.state.chunks ≡ v.heap.state.chunks
+IsStore-after : {v : StoreContents} {all : List Stored} (store : IsStore v all) (w : Allocator) (now : List Stored) → Stands 59 8 w → SamePlace v.heap.memory w.memory
+    → w.state.chunks ≡ v.heap.state.chunks
     → KeepsOnly w.state now → IsStore (store_contents w v.pool) now
 IsStore-after {v} store w now stands place chunks keeps = record {
   stands = stands;
@@ -49,7 +52,8 @@ IsStore-after {v} store w now stands place chunks keeps = record {
 }
 
 -- a refused call leaves the store
-pub IsStore-refused : {v : StoreContents} (w : Allocator) (step : State → Type 0) (all : List Stored) → Steps 59 8 v.heap w step → w.state ≡ v.heap.state → SamePlace v.heap.memory w.memory → IsStore v all
+pub IsStore-refused : {v : StoreContents} (w : Allocator) (step : State → Type 0) (all : List Stored) → Steps 59 8 v.heap w step → w.state ≡ v.heap.state
+    → SamePlace v.heap.memory w.memory → IsStore v all
     → IsStore (store_contents w v.pool) all
 IsStore-refused {v} w step all steps same place store =
     IsStore-after store w all (opened 59 8 v.heap w step steps).1 place (ap (λ s. s.chunks) same) (subst (λ s. KeepsOnly s all) (sym same) store.payloads)
@@ -63,7 +67,8 @@ pub length-asked_at : (w : Allocator) (addr size : ℕ) → size ≤ length (byt
 length-asked_at w addr size sized = length-take-le size (bytes_at w.state addr) sized
 
 -- an allocated payload keeps what it has, as many bytes as were asked for
-pub IsStore-allocated : {v : StoreContents} (w : Allocator) (size align addr : ℕ) → IsPowerOfTwo align → (before after : List Stored) → Steps 59 8 v.heap w (Allocates 8 v.heap.state size align (Some addr))
+pub IsStore-allocated : {v : StoreContents} (w : Allocator) (size align addr : ℕ) → IsPowerOfTwo align → (before after : List Stored)
+    → Steps 59 8 v.heap w (Allocates 8 v.heap.state size align (Some addr))
     → SamePlace v.heap.memory w.memory → IsStore v (before ++ after) → IsStore (store_contents w v.pool) (before ++ stored addr align (asked_at w addr size) ∷ after)
 IsStore-allocated {v} w size align addr power before after steps place store =
     let s = v.heap.state in
@@ -89,7 +94,8 @@ module _ {v : StoreContents} {addr : ℕ} (before after : List Stored) (k : Stor
   few_stored = omega (arith, kept_there.few, ap (λ a. length (bytes_at v.heap.state a)) at)
 
   -- its payload is filled with other bytes
-  pub IsStore-filled : (w : Allocator) (bytes front : List ℕ) → take (length front) bytes ≡ front → length bytes < length front + 32 → Steps 59 8 v.heap w (Fills v.heap.state addr bytes) → SamePlace v.heap.memory w.memory
+  pub IsStore-filled : (w : Allocator) (bytes front : List ℕ) → take (length front) bytes ≡ front → length bytes < length front + 32
+      → Steps 59 8 v.heap w (Fills v.heap.state addr bytes) → SamePlace v.heap.memory w.memory
       → IsStore (store_contents w v.pool) (before ++ stored k.addr k.align front ∷ after)
   IsStore-filled w bytes front begins few steps place =
       let s = v.heap.state in
@@ -97,18 +103,26 @@ module _ {v : StoreContents} {addr : ℕ} (before after : List Stored) (k : Stor
       let (step, stands, _) = opened 59 8 v.heap w (Fills s addr bytes) steps in
       let filled = filled_seen (well_formed v.heap store.stands) w.state addr bytes step in
       let here = ap (bytes_at w.state) at ∙ filled.here in
-      let keeps : KeepsPlaces w.state j = record { live = filled.aligns k.addr ∙ kept_there.live; front = ap (take (length front)) here ∙ begins; few = omega (arith, ap length here, few) } in
+      let keeps : KeepsPlaces w.state j = record {
+        live = filled.aligns k.addr ∙ kept_there.live;
+        front = ap (take (length front)) here ∙ begins;
+        few = omega (arith, ap length here, few);
+      } in
       IsStore-after store w (before ++ j ∷ after) stands place (chunks-filled s w.state addr bytes step)
-      (KeepsOnly-changed before after k j keeps (λ off. absurd (off refl)) (λ off. absurd (off refl)) (λ a _ _. filled.aligns a) (λ a off _. filled.bytes a (λ e. off (e ∙ sym at))) store.payloads)
+      (KeepsOnly-changed before after k j keeps (λ off. absurd (off refl)) (λ off. absurd (off refl)) (λ a _ _. filled.aligns a)
+      (λ a off _. filled.bytes a (λ e. off (e ∙ sym at))) store.payloads)
 
   -- its payload gets another size
-  resized_stored : (w : Allocator) (size to : ℕ) → Steps 59 8 v.heap w (Reallocates 8 v.heap.state addr size (Some to)) → SeesResized v.heap.state w.state addr size k.align to
+  resized_stored : (w : Allocator) (size to : ℕ) → Steps 59 8 v.heap w (Reallocates 8 v.heap.state addr size (Some to))
+      → SeesResized v.heap.state w.state addr size k.align to
   resized_stored w size to steps =
       let s = v.heap.state in
-      resized_seen (well_formed v.heap store.stands) w.state addr size k.align to (align_at-live s addr k.align live_stored) (opened 59 8 v.heap w (Reallocates 8 s addr size (Some to)) steps).0
+      resized_seen (well_formed v.heap store.stands) w.state addr size k.align to (align_at-live s addr k.align live_stored)
+      (opened 59 8 v.heap w (Reallocates 8 s addr size (Some to)) steps).0
 
   -- in which it has room
-  pub front-resized : (w : Allocator) (size to : ℕ) → length k.bytes ≤ size → Steps 59 8 v.heap w (Reallocates 8 v.heap.state addr size (Some to)) → take (length k.bytes) (bytes_at w.state to) ≡ k.bytes
+  pub front-resized : (w : Allocator) (size to : ℕ) → length k.bytes ≤ size → Steps 59 8 v.heap w (Reallocates 8 v.heap.state addr size (Some to))
+      → take (length k.bytes) (bytes_at w.state to) ≡ k.bytes
   front-resized w size to room steps =
       let moved = resized_stored w size to steps in
       front-kept k.bytes (bytes_at v.heap.state addr) (bytes_at w.state to) front_stored (omega (arith, moved.sized, room)) moved.kept
@@ -131,12 +145,14 @@ module _ {v : StoreContents} {addr : ℕ} (before after : List Stored) (k : Stor
       (λ a apart other. moved.aligns a (off a apart) other) (λ a apart other. moved.bytes a (off a apart) other) store.payloads)
 
   -- its payload is given back
-  pub IsStore-removed : (w : Allocator) → Steps 59 8 v.heap w (Deallocates v.heap.state addr) → SamePlace v.heap.memory w.memory → IsStore (store_contents w v.pool) (before ++ after)
+  pub IsStore-removed : (w : Allocator) → Steps 59 8 v.heap w (Deallocates v.heap.state addr) → SamePlace v.heap.memory w.memory
+      → IsStore (store_contents w v.pool) (before ++ after)
   IsStore-removed w steps place =
       let s = v.heap.state in
       let (step, stands, _) = opened 59 8 v.heap w (Deallocates s addr) steps in
       let gone = gone_seen (well_formed v.heap store.stands) w.state addr (align_at-some s addr (subst IsSome (sym live_stored) refl)) step in
-      IsStore-after store w (before ++ after) stands place (chunks-deallocated s w.state addr step) (KeepsOnly-gone before after k (subst (SeesGone s w.state) (sym at) gone) store.payloads)
+      IsStore-after store w (before ++ after) stands place (chunks-deallocated s w.state addr step)
+      (KeepsOnly-gone before after k (subst (SeesGone s w.state) (sym at) gone) store.payloads)
 
 -- the block of what is kept
 pub block_of : {v : StoreContents} {all : List Stored} (store : IsStore v all) (k : Stored) → IsIn k all → (u : Used) × Holds v.heap.state k.addr u
@@ -156,7 +172,8 @@ module _ (v : StoreContents) (all : List Stored) (store : IsStore v all) where
       let room = front-le k.bytes u.bytes front in
       let long = (stands.well_formed.used u held.0).bytes in
       let begin = k.addr - m.start in
-      let whole : take (usable u).len (drop begin m.bytes) ≡ u.bytes = ap (λ a. take (usable u).len (drop (a - m.start) m.bytes)) (sym held.1) ∙ stands.payloads.bytes u held.0 in
+      let whole : take (usable u).len (drop begin m.bytes) ≡ u.bytes = ap (λ a. take (usable u).len (drop (a - m.start) m.bytes)) (sym held.1)
+      ∙ stands.payloads.bytes u held.0 in
       sym (take-take n (usable u).len (drop begin m.bytes) (omega arith)) ∙ ap (take n) whole ∙ front
 
   -- and so at the places of some of them
@@ -179,7 +196,8 @@ none_used {v} store = go v.heap.state.used (λ u i. i)
         absurd bad
 
 -- an empty store has room for each payload that fits its pool
-pub empty_has_room : {v : StoreContents} (w : Allocator) (size align : ℕ) → FitsPool (range_of v.heap.memory) size align → Steps 59 8 v.heap w (Allocates 8 v.heap.state size align None) → IsStore v [] → ⊥
+pub empty_has_room : {v : StoreContents} (w : Allocator) (size align : ℕ) → FitsPool (range_of v.heap.memory) size align
+    → Steps 59 8 v.heap w (Allocates 8 v.heap.state size align None) → IsStore v [] → ⊥
 empty_has_room {v} w size align (e, told, long) steps store =
     let s = v.heap.state in
     let part = aligned_part (range_of v.heap.memory) in
@@ -188,7 +206,8 @@ empty_has_room {v} w size align (e, told, long) steps store =
     let enough : 64 ≤ part.len = omega (arith, long, room) in
     let one : s.chunks ≡ range_at part.start part.len ∷ [] = store.chunks ∙ ap (λ b. cond b (range_at part.start part.len ∷ []) []) (le-leb 64 part.len enough) in
     let step = (opened 59 8 v.heap w (Allocates 8 s size align None) steps).0 in
-    idle_chunk_has_room 64 64 59 8 size align e (range_of v.heap.memory) s w.state part None valid (well_formed v.heap store.stands) told (none_used store) (subst (IsIn part) (sym one) (inl refl)) long step refl
+    idle_chunk_has_room 64 64 59 8 size align e (range_of v.heap.memory) s w.state part None valid (well_formed v.heap store.stands) told (none_used store)
+    (subst (IsIn part) (sym one) (inl refl)) long step refl
 
 -- ---- a new store
 
@@ -219,16 +238,19 @@ row-first t r (Some len) step = IsRow-inserted 59 empty t r len step
 row-first t r None step = λ a low high. absurd (omega (arith, round32-le r.start))
 
 -- the chunk that is cut of a pool lies in what is taken
-chunks_lie-first : (r : Range) (reply : Option ℕ) → reply ≡ bytes_taken r.start (cut (max_pool_size 59) (aligned_part r)) → (c : Range) → IsIn c (cut (max_pool_size 59) (aligned_part r))
+chunks_lie-first : (r : Range) (reply : Option ℕ) → reply ≡ bytes_taken r.start (cut (max_pool_size 59) (aligned_part r)) → (c : Range)
+    → IsIn c (cut (max_pool_size 59) (aligned_part r))
     → ((walked (range_at r.start (unwrap_or reply 0))).start ≤ c.start) × (end_of c ≤ end_of (walked (range_at r.start (unwrap_or reply 0))))
 chunks_lie-first r reply answer c i = elim (cases_lt part.len 64) [
   | inl few ↦ absurd (subst (IsIn c) (ap (λ b. cond b (part ∷ []) []) (lt-leb 64 part.len few)) i)
   | inr enough ↦
       let one : cut (max_pool_size 59) part ≡ part ∷ [] = ap (λ b. cond b (part ∷ []) []) (le-leb 64 part.len enough) in
       let taken : reply ≡ Some (end_of part - r.start) = answer ∙ ap (bytes_taken r.start) one in
-      let lies : (round32 r.start ≤ part.start) × (end_of part ≤ end_of (walked (range_at r.start (end_of part - r.start)))) = (omega arith, omega (arith, round32-le r.start)) in
+      let lies : (round32 r.start ≤ part.start) × (end_of part ≤ end_of (walked (range_at r.start (end_of part - r.start)))) =
+      (omega arith, omega (arith, round32-le r.start)) in
       elim (subst (IsIn c) one i) [
-        | inl same ↦ subst (λ o. (round32 r.start ≤ c.start) × (end_of c ≤ end_of (walked (range_at r.start (unwrap_or o 0))))) (sym taken) (subst (λ p. (round32 r.start ≤ p.start) × (end_of p ≤ end_of (walked (range_at r.start (end_of part - r.start))))) (sym same) lies)
+        | inl same ↦ subst (λ o. (round32 r.start ≤ c.start) × (end_of c ≤ end_of (walked (range_at r.start (unwrap_or o 0))))) (sym taken)
+            (subst (λ p. (round32 r.start ≤ p.start) × (end_of p ≤ end_of (walked (range_at r.start (end_of part - r.start))))) (sym same) lies)
         | inr bad ↦ absurd bad
       ]
 ]
@@ -236,7 +258,8 @@ chunks_lie-first r reply answer c i = elim (cases_lt part.len 64) [
     part : Range
     part = aligned_part r
 
-pub IsStore-new : (v w : Allocator) (r : Range) (reply : Option ℕ) → v.state ≡ empty → range_of v.memory ≡ r → Steps 59 8 v w (Inserts 59 v.state r reply) → SamePlace v.memory w.memory
+pub IsStore-new : (v w : Allocator) (r : Range) (reply : Option ℕ) → v.state ≡ empty → range_of v.memory ≡ r → Steps 59 8 v w (Inserts 59 v.state r reply)
+    → SamePlace v.memory w.memory
     → IsStore (store_contents w (range_at r.start (unwrap_or reply 0))) []
 IsStore-new v w r reply none whole steps place =
     let (first, stands, _) = opened 59 8 v w (Inserts 59 v.state r reply) steps in

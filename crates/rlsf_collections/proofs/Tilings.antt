@@ -24,11 +24,13 @@ use Rattle.rlsf_collections.proofs.Rooms.{length-used_le}
 -- ---- steps
 
 -- an empty pool that is long enough is one chunk, which blocks of any length fill
-pub IsUniform-new : (v w : Allocator) (r : Range) (reply : Option ℕ) (len : ℕ) → v.state ≡ empty → Steps 59 8 v w (Inserts 59 v.state r reply) → 64 ≤ (aligned_part r).len → IsUniform len (aligned_part r) w.state
+pub IsUniform-new : (v w : Allocator) (r : Range) (reply : Option ℕ) (len : ℕ) → v.state ≡ empty → Steps 59 8 v w (Inserts 59 v.state r reply)
+    → 64 ≤ (aligned_part r).len → IsUniform len (aligned_part r) w.state
 IsUniform-new v w r reply len none steps enough =
     let part = aligned_part r in
     let step = subst (λ s. Inserts 59 s r reply w.state) none (opened 59 8 v w (Inserts 59 v.state r reply) steps).0 in
-    let after : w.state ≡ with_chunks (part ∷ []) empty = step.after ∙ ap (λ b. with_chunks (cond b (range_at part.start part.len ∷ []) []) empty) (le-leb 64 part.len enough) in
+    let after : w.state ≡ with_chunks (part ∷ []) empty = step.after ∙ ap (λ b. with_chunks (cond b (range_at part.start part.len ∷ []) []) empty)
+    (le-leb 64 part.len enough) in
     subst (IsUniform len part) (sym after) (record {
       chunks = refl;
       used = λ u i. absurd i;
@@ -36,14 +38,17 @@ IsUniform-new v w r reply len none steps enough =
     })
 
 module _ (h : Allocator) (stands : Stands 59 8 h) (w : Allocator) where
-  pub KeepsUniform-allocated : (size align : ℕ) (reply : Option ℕ) → IsPowerOfTwo align → align ≤ 32 → Steps 59 8 h w (Allocates 8 h.state size align reply) → KeepsUniform h.state w.state (request_size size align)
+  pub KeepsUniform-allocated : (size align : ℕ) (reply : Option ℕ) → IsPowerOfTwo align → align ≤ 32 → Steps 59 8 h w (Allocates 8 h.state size align reply)
+      → KeepsUniform h.state w.state (request_size size align)
   KeepsUniform-allocated size align reply power small steps c is =
-      allocation_keeps_uniform 59 8 (range_of h.memory) h.state w.state c size align reply (well_formed h stands) power small is (opened 59 8 h w (Allocates 8 h.state size align reply) steps).0
+      allocation_keeps_uniform 59 8 (range_of h.memory) h.state w.state c size align reply (well_formed h stands) power small is
+      (opened 59 8 h w (Allocates 8 h.state size align reply) steps).0
 
   pub KeepsUniform-filled : (addr len : ℕ) (bytes : List ℕ) → Steps 59 8 h w (Fills h.state addr bytes) → KeepsUniform h.state w.state len
   KeepsUniform-filled addr len bytes steps c is =
       let step = (opened 59 8 h w (Fills h.state addr bytes) steps).0 in
-      let asks : (e : Event) → IsIn e (fill addr bytes ∷ []) → AsksUniformly len e = λ e. elim [ inl same ↦ subst (AsksUniformly len) (sym same) tt | inr bad ↦ absurd bad ] in
+      let asks : (e : Event) → IsIn e (fill addr bytes ∷ []) → AsksUniformly len e =
+      λ e. elim [ inl same ↦ subst (AsksUniformly len) (sym same) tt | inr bad ↦ absurd bad ] in
       runs_keep_uniform len 59 8 (range_of h.memory) h.state w.state c (fill addr bytes ∷ []) (well_formed h stands) is (w.state, (step.block, step.holds), step, refl) asks
 
 pub KeepsUniform-released : (h w : Allocator) (addr len : ℕ) → Steps 59 8 h w (Deallocates h.state addr) → KeepsUniform h.state w.state len
@@ -52,7 +57,8 @@ KeepsUniform-released h w addr len steps c is = deallocation_keeps_uniform len h
 -- ---- room
 
 -- where the chunk is long enough for one more, an allocation has room
-pub tile_has_room : {v : StoreContents} {all : List Stored} → IsStore v all → (w : Allocator) (c : Range) (size align : ℕ) → HasTileFor v.heap.state c size align (length all)
+pub tile_has_room : {v : StoreContents} {all : List Stored} → IsStore v all → (w : Allocator) (c : Range) (size align : ℕ)
+    → HasTileFor v.heap.state c size align (length all)
     → Steps 59 8 v.heap w (Allocates 8 v.heap.state size align None) → ⊥
 tile_has_room {v} {all} store w c size align tile steps =
     let s = v.heap.state in

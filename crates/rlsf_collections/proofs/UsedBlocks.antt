@@ -1,5 +1,6 @@
 -- The used blocks of a store are as many as the lists of bytes that it keeps.
-use Rattle.std.proofs.Common.{◌≡◌, ◌<◌, ◌≤◌, Bool, true, List, [], ◌∷◌, ◌++◌, cond, filter, length, length-append, arith, refl, sym, ◌∙◌, ap, subst, inl, inr}
+use Rattle.std.proofs.Common.{◌≡◌, ◌<◌, ◌≤◌, Bool, true, List, [], ◌∷◌, ◌++◌, cond, filter, length, length-append, arith, refl, sym, ◌∙◌, ap, subst}
+use Rattle.std.proofs.Common.{inl, inr}
 use Rattle.std.specs.Prelude.{⊤}
 use Rattle.std.proofs.lemmas.Bool.{cases_Bool}
 use Rattle.std.proofs.lemmas.List.Sums.{length-filter}
@@ -85,7 +86,10 @@ module _ {v : StoreContents} {all : List Stored} (store : IsStore v all) where
       let others = NoTwo-blocks bs (λ c i. some c (inr i)) rest in
       let left : Bool → Type 0 = λ t. NoTwo (IsBlockOf v.heap.state) (cond t (b ∷ filter occupied bs) (filter occupied bs)) in
       elim (cases_Bool (occupied b)) [
-        | inl is ↦ subst left (sym is) (λ c k i p q. omega (arith, first c (IsIn-filter occupied c bs i).0, some b (inl refl), ap (λ r. r.start) (same_range b c k p q)), others)
+        | inl is ↦ subst left (sym is) (
+          λ c k i p q. omega (arith, first c (IsIn-filter occupied c bs i).0, some b (inl refl), ap (λ r. r.start) (same_range b c k p q)),
+          others,
+        )
         | inr not ↦ subst left (sym not) others
       ]
 

@@ -1,4 +1,4 @@
--- Pools that are sure to have room for so many lists of bytes of so many bytes.
+-- Pools that are sure to have room for a number of lists of bytes up to a length.
 use Rattle.std.specs.Prelude.{◌≡◌, ℕ, ◌≤◌, List, [], ◌∷◌, length, Some}
 use Rattle.std.specs.List.{AllByRecursion}
 use Rattle.rlsf_base.specs.declared.memory.range.Range.{Range}
@@ -30,14 +30,14 @@ pub record HasBudgetFor (v : StoreContents) (places : List Place) (live size ali
   pub small : AllByRecursion (λ p. (p.len ≤ size) × (p.align ≡ align)) places
   pub bytes : HasBytesFor (range_of v.heap.memory) live size align
 
--- the same of lists of bytes by their handles
+-- the lists of bytes by their handles are within such bounds
 pub record HasBudgetOf (h : Handled) (live size : ℕ) : Type 0 where
   pub few : length h.lists ≤ live
   pub layout : IsLayout size h.align
   pub small : AllByRecursion (λ e. length e.1 ≤ size) h.lists
   pub bytes : HasBytesFor h.memory live size h.align
 
--- there are `count` strings or fewer, none is longer than `longest` bytes, and their memory fits so many of that length
+-- there are at most `count` strings, none is longer than `longest` bytes, and their memory has room for `count` of that length
 pub record AreFewStrings (t : Texts) (count longest : ℕ) : Type 0 where
   pub few : length t.strings ≤ count
   pub short : AllByRecursion (λ e. length e.1 ≤ longest) t.strings

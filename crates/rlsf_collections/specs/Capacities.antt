@@ -1,4 +1,4 @@
--- Pools that have room for each object as long as fewer are out than they are sure to hold.
+-- Pools with a capacity: while fewer objects are out, there is room for one more.
 use Rattle.std.specs.Prelude.{◌≡◌, ◌⊎◌, ℕ, ◌+◌, ◌*◌, ◌<◌, ◌≤◌, length}
 use Rattle.rlsf_base.specs.declared.memory.range.Range.{Range}
 use Rattle.rlsf_base.specs.Layout.{IsLayout}

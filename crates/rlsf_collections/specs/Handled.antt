@@ -26,7 +26,7 @@ map_values f es = map (λ e. (e.0, f e.1)) es
 abbrev pub place_at : ℕ → Spot → Place
 place_at align s = record { addr = at s.addr; align = align; len = s.len }
 
--- the bytes of each handle, where the rows say
+-- the bytes of each handle, at the places that the rows have
 abbrev pub lists_in : StoreContents → ℕ → List (ℕ × Spot) → List (ℕ × List ℕ)
 lists_in v align rows = map_values (λ s. bytes_at_place v.heap.memory (place_at align s)) rows
 
@@ -34,7 +34,7 @@ lists_in v align rows = map_values (λ s. bytes_at_place v.heap.memory (place_at
 abbrev pub places_in : ℕ → List (ℕ × Spot) → List Place
 places_in align rows = map (place_at align) (values_of rows)
 
--- the store keeps a list of bytes for each handle, where the rows say, and nothing else
+-- the store keeps a list of bytes for each handle, at the places that the rows have, and nothing else
 abbrev pub IsHandled : StoreContents → ℕ → List (ℕ × Spot) → Type 0
 IsHandled v align rows = KeepsAt v (places_in align rows)
 
@@ -47,7 +47,7 @@ pub record Handled : Type 0 where
   pub memory : Range
   pub state : State
 
--- the same by its parts
+-- these by their parts
 abbrev pub handled : List (ℕ × List ℕ) → ℕ → ℕ → Range → State → Handled
 handled lists next align memory state = record { lists = lists; next = next; align = align; memory = memory; state = state }
 
@@ -59,7 +59,7 @@ with_list h handle bytes state = record h { lists = h.lists ++ (handle, bytes) �
 abbrev pub with_bytes_of : Handled → ℕ → List ℕ → State → Handled
 with_bytes_of h handle bytes state = record h { lists = set_value (nat_eq handle) h.lists bytes; state = state }
 
--- with so many more bytes the list of a handle is no longer than a size
+-- with this many more bytes the list of a handle is no longer than a size
 abbrev pub IsShortWithMore : Handled → ℕ → ℕ → ℕ → Type 0
 IsShortWithMore h handle more size = IsSomeAnd (lookup (nat_eq handle) h.lists) (λ old. length old + more ≤ size)
 

@@ -1,4 +1,4 @@
--- What the libraries of this crate promise.
+-- The definitions of this crate's contracts, a file for each library; `Stored`, `Handled`, `Budgets` and `Tiles` are what they share.
 pub mod Budgets
 pub mod Capacities
 pub mod Handled

@@ -1,5 +1,6 @@
 -- A pool of objects of one size and alignment.
-use Rattle.std.specs.Prelude.{◌≡◌, ℕ, ◌+◌, ◌-◌, ◌/◌, ◌&&◌, List, length, Option, Some, None, IsSomeAnd, Result, Ok, Err, if◌then◌else◌, nat_eq, nat_le, nat_lt}
+use Rattle.std.specs.Prelude.{◌≡◌, ℕ, ◌+◌, ◌-◌, ◌/◌, ◌&&◌, List, length, Option, Some, None, IsSomeAnd, Result, Ok, Err, if◌then◌else◌, nat_eq}
+use Rattle.std.specs.Prelude.{nat_le, nat_lt}
 use Rattle.std.specs.List.{AllByRecursion, splice}
 use Rattle.std.specs.Map.{lookup, set_value}
 use Rattle.rlsf_base.specs.declared.memory.range.Range.{Range}
@@ -26,7 +27,7 @@ Writes p handle offset bytes q = IsSomeAnd (lookup (nat_eq handle) p.objects) (�
 abbrev pub HaveSize : ℕ → List (ℕ × List ℕ) → Type 0
 HaveSize size objects = AllByRecursion (λ e. length e.1 ≡ size) objects
 
--- what a write up to an end returns
+-- what a write that ends at `end` returns
 abbrev pub set_answer : Option (List ℕ) → ℕ → Result Unit SetError
 set_answer None end = Err UnknownHandle
 set_answer (Some old) end = if nat_le end (length old) then Ok tt else Err OutOfRange

@@ -16,7 +16,8 @@ bar_of width total b = repeat (div_ceil (b.range.len * width) total) (if b.is_oc
 
 -- a block's line: where it begins and ends, whether it is used, its bar, and LF
 abbrev pub line_of : ℕ → ℕ → Block → List ℕ
-line_of width total b = decimal b.range.start ++ codes ".." ++ decimal (end_of b.range) ++ (if b.is_occupied then codes " used " else codes " free ") ++ bar_of width total b ++ 10 ∷ []
+line_of width total b = decimal b.range.start ++ codes ".." ++ decimal (end_of b.range) ++ (if b.is_occupied then codes " used " else codes " free ") ++ bar_of width total b
+    ++ 10 ∷ []
 
 -- the line of each block, in their order
 abbrev pub picture_of : ℕ → List Block → List ℕ

@@ -8,8 +8,8 @@ use Rattle.rlsf_collections.specs.declared.messages.Entry.{Entry}
 use Rattle.rlsf_collections.specs.Budgets.{FitsPayloads}
 use Rattle.rlsf_collections.specs.Stored.{Place, bytes_at_place}
 
--- a queue as its callers see it: the messages that are in it, the oldest first, how many it can hold, how long they may be if
--- it was made with a longest message, the addresses of its memory, and how often the words of that memory were accessed
+-- a queue as its callers see it: its messages from the oldest on, the most that it can hold, the greatest length of one if
+-- it was created with a longest message, the addresses of its memory, and how often the words of that memory were accessed
 pub record Queue : Type 0 where
   pub messages : List (List ℕ)
   pub capacity : ℕ
@@ -26,11 +26,11 @@ oldest (m ∷ _) = Some m
 abbrev pub place_of_entry : Entry → Place
 place_of_entry e = record { addr = at e.addr; align = 1; len = e.len }
 
--- the messages of these entries, as they stand in a memory
+-- the messages of these entries, as a memory has them
 abbrev pub messages_in : Space → List Entry → List (List ℕ)
 messages_in m entries = map (bytes_at_place m) (map place_of_entry entries)
 
--- a pool of a memory has room for as many messages as a queue can hold, each of so many bytes or fewer
+-- a pool of a memory has room for `capacity` messages, each of `longest` bytes or fewer
 abbrev pub FitsMessages : Range → ℕ → ℕ → Type 0
 FitsMessages memory capacity longest = FitsPayloads memory (capacity - 1) longest 1
 

@@ -15,7 +15,7 @@ pub record Texts : Type 0 where
 abbrev pub with_string : Texts → ℕ → List ℕ → Texts
 with_string t handle bytes = record t { strings = t.strings ++ (handle, bytes) ∷ []; next = handle + 1 }
 
--- with so many more bytes the string is no longer than the longest may be
+-- with this many more bytes the string is no longer than the longest may be
 abbrev pub IsShortWith : Texts → ℕ → ℕ → ℕ → Type 0
 IsShortWith t handle more longest = IsSomeAnd (lookup (nat_eq handle) t.strings) (λ old. length old + more ≤ longest)
 

@@ -7,9 +7,9 @@ ghost use Rattle.rlsf_collections.specs.Picture.{total_size, line_of, picture_of
 use rlsf::{BlockInfo, Blocks, Range};
 use std::alloc::{AllocError, Global};
 
-/// A picture of blocks, as `iter_blocks` gives them: a line for each block, in their order, ended by LF.
+/// Returns a picture of blocks, as `iter_blocks` yields them: a line for each block, in their order, ended by LF.
 ///
-/// A line is the block's range in decimal, `used` or `free`, and a bar of `#` or of `.`:
+/// A line has the block's range in decimal, `used` or `free`, and a bar of `#` or of `.`:
 ///
 /// ```text
 /// 4096..4128 used ###
@@ -17,10 +17,10 @@ use std::alloc::{AllocError, Global};
 /// 4192..4320 free ..........
 /// ```
 ///
-/// A bar of `width` marks would stand for the bytes of all the blocks together. A block's bar is its part of that one,
-/// rounded up, so that each block has a bar if `width` isn't 0.
+/// A bar of `width` marks represents all the blocks together. A block's bar is its part of that bar, rounded up. So each block
+/// has a mark if `width` isn't 0.
 ///
-/// An error comes where the system refuses memory; no clause says that it comes only then.
+/// Returns an error if the system is out of memory. No clause says that it does so only then.
 pub fn picture(alloc: Global, blocks: Blocks<'_>, width: usize) -> Result<String, AllocError>
     ensures { IfOk result (λ text. string_bytes text ≡ picture_of width blocks.entry) }
 {
@@ -67,7 +67,7 @@ fn print_line(
     writeln!(text, "{start}..{end} {state} {bar}")
 }
 
-/// How many of the `width` marks that stand for `total` bytes stand for `size` of them, rounded up.
+/// Returns how many marks represent `size` bytes if `width` marks represent `total` bytes, rounded up.
 fn part_of(width: usize, size: usize, total: u128) -> usize
     requires part { size ≤ total }
     requires some { 0 < total }

@@ -1,4 +1,4 @@
-//! Handles, and where the bytes of each are stored.
+//! Handles, and the place of the bytes of each.
 
 ghost use Rattle.std.specs.Prelude.{◌≡◌, ◌+◌, length, [], ◌∷◌, ◌++◌, None, IfOk, IfNone, OnErr, nat_eq};
 ghost use Rattle.std.specs.Map.{lookup, remove_entry, set_value};
@@ -8,14 +8,14 @@ use std::alloc::{AllocError, Global};
 use std::collections::BTreeMap;
 use std::marker::Model;
 
-/// Where bytes are stored: the address of their payload, and how many they are.
+/// The place of a list of bytes: the address of its payload, and its length.
 #[derive(Clone, Copy)]
 pub(crate) struct Spot {
     pub(crate) addr: Addr,
     pub(crate) len: usize,
 }
 
-/// Handles with their spots. They count up from 0, and a handle that was taken out is never used again.
+/// Handles with their spots. Handles count up from 0, and a removed handle is never used again.
 #[derive(Drop)]
 pub(crate) struct Handles {
     rows: BTreeMap<usize, Spot>,
@@ -33,7 +33,7 @@ impl Model for Handles {
 }
 
 impl Handles {
-    /// No handle.
+    /// Creates a list without a handle.
     pub(crate) fn new(alloc: Global) -> Handles
         ensures rows { result.rows ≡ [] }
         ensures next { result.next ≡ 0 }
@@ -44,15 +44,16 @@ impl Handles {
         }
     }
 
-    /// How many handles there are.
+    /// Returns the number of handles.
     pub(crate) fn len(&self) -> usize
         ensures { result ≡ length self.now.rows }
     {
         self.rows.len()
     }
 
-    /// Adds a new handle with its spot. Refused if the system is out of memory, or if every number was a handle already, and then
-    /// nothing changes.
+    /// Adds a new handle with its spot, and returns the handle.
+    ///
+    /// Returns an error if the system is out of memory, or if every number was a handle already; then nothing changes.
     pub(crate) fn add(&mut self, spot: Spot) -> Result<usize, AllocError>
         ensures added { IfOk result (λ handle. self.new.rows ≡ self.old.rows ++ (handle, spot) ∷ []) }
         ensures new { IfOk result (λ handle. lookup (nat_eq handle) self.old.rows ≡ None) }
@@ -66,14 +67,14 @@ impl Handles {
         Ok(handle)
     }
 
-    /// The spot of a handle.
+    /// Returns the spot of a handle, or `None` if there is no such handle.
     pub(crate) fn get(&self, handle: usize) -> Option<Spot>
         ensures { result ≡ lookup (nat_eq handle) self.now.rows }
     {
         self.rows.get(&handle).copied()
     }
 
-    /// Changes the spot of a handle, if there is one.
+    /// Changes the spot of a handle. Does nothing if there is no such handle.
     pub(crate) fn set(&mut self, handle: usize, spot: Spot)
         ensures rows { self.new.rows ≡ set_value (nat_eq handle) self.old.rows spot }
         ensures next { self.new.next ≡ self.old.next }
@@ -83,7 +84,7 @@ impl Handles {
         }
     }
 
-    /// Takes a handle out, and returns its spot. Without that handle nothing changes.
+    /// Removes a handle, and returns its spot. Returns `None` if there is no such handle; then nothing changes.
     pub(crate) fn remove(&mut self, handle: usize) -> Option<Spot>
         ensures spot { result ≡ lookup (nat_eq handle) self.old.rows }
         ensures rows { self.new.rows ≡ remove_entry (nat_eq handle) self.old.rows }

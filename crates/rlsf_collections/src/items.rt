@@ -1,4 +1,4 @@
-//! Lists of bytes by handle, each in a payload of one store: what the pool of objects and the strings share.
+//! Lists of bytes by handle, each in a payload of one store. `objects` and `strings` are made of them.
 
 ghost use Rattle.std.specs.Prelude.{◌≡◌, ◌≤◌, ◌+◌, ◌↔◌, ℕ, [], ◌∷◌, ◌++◌, List, None, Some, IfOk, OnOk, OnErr, IsErr, IsErrOf, IsSomeAnd, length, nat_eq, replicate};
 ghost use Rattle.std.specs.Map.{lookup, remove_entry};
@@ -45,7 +45,7 @@ impl Model for Items {
 }
 
 impl Items {
-    /// No list of bytes, over a memory that is the pool.
+    /// Creates items without a list of bytes, over a memory that becomes the pool.
     pub(crate) fn new(alloc: Global, memory: Memory, align: usize) -> Items
         ensures empty { result.lists ≡ [] }
         ensures next { result.next ≡ 0 }
@@ -60,15 +60,17 @@ impl Items {
         }
     }
 
-    /// How many there are.
+    /// Returns the number of lists.
     pub(crate) fn len(&self) -> usize
         ensures { result ≡ length self.now.lists }
     {
         self.handles.len()
     }
 
-    /// Adds a list of bytes under a new handle. Refused without room for it, or without memory for the handle, and then nothing
-    /// changes.
+    /// Adds a list of bytes under a new handle, and returns the handle.
+    ///
+    /// Returns `NoRoom` if the pool has no room for the list, or `OutOfMemory` if the system has no memory for the handle; then
+    /// no list changes.
     pub(crate) fn add(&mut self, bytes: &[u8]) -> Result<usize, StringError>
         requires { self.old.align ≡ 1 }
         ensures added { IfOk result (λ handle. (handle ≡ self.old.next)
@@ -90,8 +92,10 @@ impl Items {
         Ok(handle)
     }
 
-    /// Adds as many zeros as a layout has bytes under a new handle. Refused without room for them, or without memory for the
-    /// handle, and then nothing changes.
+    /// Adds as many zeros as a layout has bytes under a new handle, and returns the handle.
+    ///
+    /// Returns `NoRoom` if the pool has no room for them, or `OutOfMemory` if the system has no memory for the handle; then no
+    /// list changes.
     pub(crate) fn add_zeros(&mut self, layout: Layout) -> Result<usize, TakeError>
         requires { self.old.align ≡ layout.align }
         ensures added { IfOk result (λ handle. (handle ≡ self.old.next)
@@ -114,7 +118,7 @@ impl Items {
         Ok(handle)
     }
 
-    /// The bytes of a handle.
+    /// Returns the bytes of a handle, or an error if there is no such handle.
     pub(crate) fn get(&self, handle: usize) -> Result<&[u8], UnknownHandle>
         ensures known { IfOk result (λ bytes. lookup (nat_eq handle) self.now.lists ≡ Some bytes.now) }
         ensures unknown { OnErr result (lookup (nat_eq handle) self.now.lists ≡ None) }
@@ -125,8 +129,10 @@ impl Items {
         Ok(self.store.read(spot.addr, spot.len))
     }
 
-    /// Writes bytes over those of a handle, from an offset on. Refused if the handle isn't there, or doesn't have that many bytes,
-    /// and then nothing changes.
+    /// Overwrites the bytes of a handle from `offset` on.
+    ///
+    /// Returns `UnknownHandle` if there is no such handle, else `OutOfRange` if `bytes` reaches past the end of the list; then
+    /// nothing changes.
     pub(crate) fn write(
         &mut self,
         handle: usize,
@@ -149,7 +155,8 @@ impl Items {
         Ok(())
     }
 
-    /// Adds bytes behind those of a handle. Refused if the handle isn't there, or without room, and then nothing changes.
+    /// Appends bytes to those of a handle. Returns `UnknownHandle` if there is no such handle, or `NoRoom` if the pool has no room;
+    /// then no list changes.
     pub(crate) fn append(&mut self, handle: usize, more: &[u8]) -> Result<(), StringError>
         requires { self.old.align ≡ 1 }
         ensures appended { OnOk result (IsSomeAnd (lookup (nat_eq handle) self.old.lists) (λ old.
@@ -171,7 +178,7 @@ impl Items {
         Ok(())
     }
 
-    /// Takes a handle out, and deallocates its payload. Refused if the handle isn't there, and then nothing changes.
+    /// Removes a handle, and deallocates its payload. Returns an error if there is no such handle; then nothing changes.
     pub(crate) fn remove(&mut self, handle: usize) -> Result<(), UnknownHandle>
         ensures removed { OnOk result ((self.new ≡ record self.old { lists = remove_entry (nat_eq handle) self.old.lists; state = self.new.state })
             × (lookup (nat_eq handle) self.new.lists ≡ None)) }
@@ -186,7 +193,7 @@ impl Items {
         Ok(())
     }
 
-    /// The blocks of the pool, used and free, in address order, as for a picture. As many are used as there are lists.
+    /// Returns the blocks of the pool, used and free, in address order. There is one used block for each list.
     pub(crate) fn blocks(&self) -> Blocks<'_>
         ensures used { used_count result ≡ length self.now.lists }
         ensures order { IsInOrder result }
@@ -196,7 +203,7 @@ impl Items {
     }
 }
 
-/// Adds a new handle for what is stored last in a store. If the system has no memory for the handle, the payload is deallocated.
+/// Adds a new handle for the list that a store got last. If the system has no memory for the handle, the payload is deallocated.
 fn keep(
     store: &mut Store,
     handles: &mut Handles,

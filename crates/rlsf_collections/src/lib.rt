@@ -1,6 +1,9 @@
-//! Small libraries over the allocator: a queue of messages, a pool of objects, strings that grow, and a picture of a pool.
+//! Small libraries over the allocators: a queue of messages, two pools of objects, strings that grow, and a picture of a pool.
 //!
-//! No block, chunk or free range appears in their contracts: a caller sees a list of messages, or a map from handles to bytes.
+//! Their contracts speak of messages, objects and strings. They name no block, no chunk and no free range.
+//! In reading order: `owned` (objects that own their bytes, over a `Heap`); `store` (lists of bytes in the payloads of one
+//! `Tlsf`), and `messages` over it; `handles` and `items` (a store with a handle for each list), and `objects` and `strings`
+//! over them; `drawing` (a pool's blocks as text).
 #![tactic(auto)]
 
 mod drawing;

@@ -15,23 +15,23 @@ use std::alloc::{AllocError, Global};
 use std::collections::VecDeque;
 use std::marker::Model;
 
-/// Why a message wasn't put into a queue.
+/// Why a message wasn't pushed.
 #[derive(Clone, Copy, Debug, PartialEq, Eq)]
 pub enum PushError {
-    /// The queue has as many messages as it can hold.
+    /// The number of messages is the queue's capacity.
     Full,
-    /// The message is longer than the queue takes.
+    /// The message is longer than the queue's longest message.
     TooLong,
     /// The pool has no room for a message of this length.
     NoRoom,
 }
 
-/// Why no queue with a longest message was made.
+/// Why no queue with a longest message was created.
 #[derive(Clone, Copy, Debug, PartialEq, Eq)]
 pub enum LongestError {
-    /// The memory isn't sure to have room for as many messages of that length.
+    /// The memory isn't long enough to be sure of room for all messages of that length.
     MemoryTooShort,
-    /// No memory was left for the table of the messages.
+    /// The system has no memory for the table of messages.
     OutOfMemory,
 }
 
@@ -43,16 +43,16 @@ impl From<AllocError> for LongestError {
     }
 }
 
-/// Why no message was taken out of a queue.
+/// Why no message was popped.
 #[derive(Clone, Copy, Debug, PartialEq, Eq)]
 pub enum PopError {
     /// There is no message.
     Empty,
-    /// The oldest message is longer than the slice for it.
+    /// The oldest message is longer than the slice that it would be written to.
     TooShort,
 }
 
-/// Where a message is stored, and its length.
+/// The address of a message, and its length.
 #[derive(Clone, Copy)]
 struct Entry {
     addr: Addr,
@@ -61,13 +61,13 @@ struct Entry {
 
 /// A queue of messages over an allocator's pool: first in, first out.
 ///
-/// It holds at most `capacity` messages, each a list of bytes of any length, as long as the pool has room.
+/// It has at most `capacity` messages. Each is a list of bytes of any length, while the pool has room.
 #[derive(Drop)]
 pub struct Messages {
     store: Store,
-    // The oldest message first.
+    // From the oldest message to the newest.
     entries: VecDeque<Entry>,
-    // The most bytes that a message may have, if the queue was made with a longest message.
+    // The greatest length of a message, if the queue was created with one.
     longest: Option<usize>,
 }
 
@@ -87,8 +87,9 @@ impl Model for Messages {
 }
 
 impl Messages {
-    /// An empty queue for at most `capacity` messages, over a memory that is its allocator's pool. Refused if the system has
-    /// no room for the table of the messages; one that holds none asks for no room.
+    /// Creates an empty queue for at most `capacity` messages, over a memory that becomes its allocator's pool.
+    ///
+    /// Returns an error if the system has no memory for the table of messages. With the capacity 0 there is no error.
     pub fn new(alloc: Global, memory: Memory, capacity: usize) -> Result<Messages, AllocError>
         ensures none { capacity ≡ 0 → IsOk result }
         ensures messages { IfOk result (λ q. q.messages ≡ []) }
@@ -106,12 +107,14 @@ impl Messages {
         })
     }
 
-    /// An empty queue for at most `capacity` messages of at most `longest` bytes, over a memory that is its allocator's pool
-    /// and sure to have room for all of them. So such a message is refused exactly if the queue is full.
+    /// Creates an empty queue for at most `capacity` messages of at most `longest` bytes each, over a memory that becomes its
+    /// allocator's pool. The memory is sure to have room for all of them. So `push` refuses such a message if and only if the
+    /// queue is full.
     ///
-    /// Refused with `MemoryTooShort` exactly if the memory's part from one multiple of 32 to another is shorter than what
-    /// `classes::pool_size_for_payloads` returns for `capacity - 1` payloads of that length, and otherwise with `OutOfMemory` if
-    /// the system has no room for the table of the messages.
+    /// Returns one of these errors:
+    /// - `MemoryTooShort` if and only if the memory's part from the first multiple of 32 to the last is shorter than the length
+    ///   that `classes::pool_size_for_payloads` returns for `capacity - 1` payloads of `longest` bytes.
+    /// - `OutOfMemory` otherwise, if the system has no memory for the table of messages.
     pub fn with_longest(
         alloc: Global,
         memory: Memory,
@@ -138,12 +141,13 @@ impl Messages {
         })
     }
 
-    /// Puts a message behind the others.
+    /// Appends a message to the queue.
     ///
-    /// Refused with `Full` if the queue has as many messages as it can hold, otherwise with `TooLong` if it was made for shorter
-    /// ones, otherwise with `NoRoom` if the pool has no room for this one, and then no message changes. An empty queue that can
-    /// hold a message takes each one that fits its pool and isn't too long. A queue that was made with a longest message refuses
-    /// one of at most that length exactly if the queue is full. So right after a message was popped, such a message is taken.
+    /// Returns the first of these errors that applies; then no message changes:
+    /// - `Full` if the number of messages is the capacity.
+    /// - `TooLong` if the queue was created with a longest message and this one is longer.
+    /// - `NoRoom` if the pool has no room for the message. This error isn't returned for a message that isn't longer than the
+    ///   longest one of `with_longest`, nor by an empty queue whose pool is long enough for the message.
     pub fn push(&mut self, message: &[u8]) -> Result<(), PushError>
         ensures ok { OnOk result (self.new.messages ≡ self.old.messages ++ message.now ∷ []) }
         ensures refused { OnErr result (self.new.messages ≡ self.old.messages) }
@@ -171,11 +175,12 @@ impl Messages {
         Ok(())
     }
 
-    /// Takes the oldest message out, writes it to the front of `into` and returns its length. The bytes behind it stay, and the
-    /// queue can hold one more message then.
+    /// Removes the oldest message, writes it to the front of `into` and returns its length. The bytes of `into` behind it don't
+    /// change. Then the queue can hold one more message.
     ///
-    /// Refused with `Empty` if there is no message, and with `TooShort` if the oldest one is longer than `into`, and then nothing
-    /// changes. A queue that was made with a longest message never refuses with `TooShort` if `into` has that length.
+    /// Returns `Empty` if and only if there is no message, and `TooShort` if and only if the oldest one is longer than `into`;
+    /// then nothing changes. If the queue was created with a longest message and `into` has that length, `TooShort` is never
+    /// returned.
     pub fn pop(&mut self, into: &mut [u8]) -> Result<usize, PopError>
         ensures ok { IfOk result (λ len. (m : List ℕ) × (self.old.messages ≡ m ∷ self.new.messages) × (len ≡ length m) × (into.new ≡ m ++ drop len into.old)) }
         ensures refused { OnErr result ((self.new.messages ≡ self.old.messages) × (into.new ≡ into.old)) }
@@ -200,7 +205,7 @@ impl Messages {
         Ok(entry.len)
     }
 
-    /// The oldest message's length, or `None` without a message.
+    /// Returns the length of the oldest message, or `None` if there is no message.
     pub fn front_len(&self) -> Option<usize>
         ensures { result ≡ option_map length (oldest self.now.messages) }
     {
@@ -208,7 +213,7 @@ impl Messages {
         Some(entry.len)
     }
 
-    /// How many messages are in the queue.
+    /// Returns the number of messages.
     pub fn len(&self) -> usize
         ensures value { result ≡ length self.now.messages }
         ensures most { result ≤ self.now.capacity }
@@ -216,21 +221,21 @@ impl Messages {
         self.entries.len()
     }
 
-    /// Whether no message is in the queue.
+    /// Returns whether the queue has no message.
     pub fn is_empty(&self) -> bool
         ensures { IsTrue result ↔ (self.now.messages ≡ []) }
     {
         self.entries.is_empty()
     }
 
-    /// How many messages the queue can hold.
+    /// Returns the greatest number of messages that the queue can hold.
     pub fn capacity(&self) -> usize
         ensures { result ≡ self.now.capacity }
     {
         self.entries.capacity()
     }
 
-    /// The blocks of the pool, used and free, in address order, as for a picture. As many are used as there are messages.
+    /// Returns the blocks of the pool, used and free, in address order. There is one used block for each message.
     pub fn blocks(&self) -> Blocks<'_>
         ensures used { used_count result ≡ length self.now.messages }
         ensures order { IsInOrder result }
@@ -240,7 +245,7 @@ impl Messages {
     }
 }
 
-/// Whether a length is greater than the greatest one, if there is one.
+/// Returns whether there is a greatest length and `len` is above it.
 fn is_longer(len: usize, longest: Option<usize>) -> bool
     ensures { IsTrue result ↔ IsSomeAnd longest (λ longest. longest < len) }
 {
@@ -250,7 +255,7 @@ fn is_longer(len: usize, longest: Option<usize>) -> bool
     }
 }
 
-/// Whether a memory is sure to have room for so many messages of so many bytes or fewer.
+/// Returns whether a memory is sure to have room for `capacity` messages of at most `longest` bytes each.
 fn fits_messages(memory: &Memory, capacity: usize, longest: usize) -> bool
     ensures { IsTrue result ↔ FitsMessages (range_of memory.now) capacity longest }
 {

@@ -1,4 +1,4 @@
-//! A pool of objects of one size and alignment, which are handed out and taken back by handle.
+//! A pool of objects of one size and alignment, each named by a handle.
 
 ghost use Rattle.std.specs.Prelude.{◌≡◌, ◌<◌, ◌≤◌, ◌+◌, ◌↔◌, [], ◌∷◌, ◌++◌, None, Some, IfOk, OnOk, OnErr, IsErr, IsErrOf, IsSomeAnd, length, nat_eq, replicate};
 ghost use Rattle.std.specs.List.{splice};
@@ -19,12 +19,12 @@ use rlsf::{BlockInfo, Blocks, Layout, Memory, classes};
 use std::alloc::{AllocError, Global};
 use std::marker::Model;
 
-/// Why no object was handed out.
+/// Why no object was taken out of a pool.
 #[derive(Clone, Copy, Debug, PartialEq, Eq)]
 pub enum TakeError {
-    /// As many objects are out as the pool may have.
+    /// The number of objects that are out is the pool's capacity.
     NoRoom,
-    /// No memory was left for the table of handles, or every number was a handle already.
+    /// The system has no memory for the table of handles, or every number was a handle already.
     OutOfMemory,
 }
 
@@ -45,18 +45,18 @@ pub struct UnknownHandle;
 pub enum SetError {
     /// No object with that handle is out.
     UnknownHandle,
-    /// The bytes would reach past the end of the object.
+    /// The bytes reach past the end of the object.
     OutOfRange,
 }
 
 /// A pool of objects of one layout, in a memory of its own.
 ///
-/// Handles count up from 0, and the handle of an object that was given back is never used again.
+/// Handles count up from 0, and the handle of an object that was taken back is never used again.
 #[derive(Drop)]
 pub struct Objects {
     items: Items,
     layout: Layout,
-    // How many may be out at once. Below that, the pool has room.
+    // The greatest number of objects that are out at once. While fewer are out, the pool has room for one more.
     capacity: usize,
 }
 
@@ -72,13 +72,13 @@ impl Model for Objects {
 }
 
 impl Objects {
-    /// A pool of which no object is out yet. Its memory is all that objects are taken from, and the memory's length determines how
-    /// many may be out at once.
+    /// Creates a pool over a memory. No object is out. The memory's length determines the capacity: how many objects may be out
+    /// at once.
     ///
-    /// In a memory of the length that `classes::pool_size_for_objects` computes, from a multiple of 32 on, as many objects of the
-    /// size that it returns may be out as were asked for, at an alignment of 16 or less. If the block of an object doesn't begin a
-    /// size class, or the alignment is above 32, as many may be out as the greatest `n` for which
-    /// `classes::pool_size_for_payloads(n - 1, layout)` is not above the length.
+    /// - Suppose that the memory begins at a multiple of 32 and has the length that `classes::pool_size_for_objects` returns. At
+    ///   an alignment of 16 or less, the capacity for objects of the size that it returns is the number that was passed to it.
+    /// - If the block of an object doesn't begin a size class, or the alignment is above 32, the capacity is the greatest `n` for
+    ///   which `classes::pool_size_for_payloads(n - 1, layout)` is at most the length.
     pub fn new(alloc: Global, memory: Memory, layout: Layout) -> Objects
         ensures pool { result ≡ record { objects = []; next = 0; size = layout.size; align = layout.align; memory = range_of memory; capacity = result.capacity } }
         ensures capacity { result.capacity ≡ objects.capacity_of (aligned_part (range_of memory)).len layout.size layout.align }
@@ -91,14 +91,14 @@ impl Objects {
         }
     }
 
-    /// How many objects may be out at once.
+    /// Returns the capacity: the greatest number of objects that are out at once.
     pub fn capacity(&self) -> usize
         ensures { result ≡ self.now.capacity }
     {
         self.capacity
     }
 
-    /// How many objects are out.
+    /// Returns the number of objects that are out.
     pub fn len(&self) -> usize
         ensures value { result ≡ length self.now.objects }
         ensures most { result ≤ self.now.capacity }
@@ -106,10 +106,12 @@ impl Objects {
         self.items.len()
     }
 
-    /// Hands out an object of zeros, under a new handle.
+    /// Takes an object of zeros out of the pool, and returns its new handle.
     ///
-    /// Refused with `NoRoom` exactly if as many are out as the capacity, and otherwise with `OutOfMemory` without memory for its
-    /// handle, and then nothing changes. A pool of which no object is out, and whose memory fits one, has room.
+    /// Returns one of these errors; then nothing changes:
+    /// - `NoRoom` if and only if the number of objects that are out is the capacity. A pool of which no object is out, and whose
+    ///   memory is long enough for one, has room.
+    /// - `OutOfMemory` otherwise, if the system has no memory for the handle.
     pub fn take(&mut self) -> Result<usize, TakeError>
         ensures taken { IfOk result (λ handle. (handle ≡ self.old.next)
             × (self.new ≡ record self.old { objects = self.old.objects ++ (handle, replicate self.old.size 0) ∷ []; next = handle + 1 })) }
@@ -124,9 +126,9 @@ impl Objects {
         self.items.add_zeros(self.layout)
     }
 
-    /// Takes an object back. Its handle is unknown from then on, all others are as they were, and the pool has room for one more.
+    /// Takes an object back. Then its handle is unknown, and the pool has room for one more. No other object changes.
     ///
-    /// Refused exactly if no object with that handle is out, and then nothing changes.
+    /// Returns an error if and only if no object with that handle is out; then nothing changes.
     pub fn give_back(&mut self, handle: usize) -> Result<(), UnknownHandle>
         ensures given_back { OnOk result (self.new ≡ record self.old { objects = remove_entry (nat_eq handle) self.old.objects }) }
         ensures gone { lookup (nat_eq handle) self.new.objects ≡ None }
@@ -137,7 +139,7 @@ impl Objects {
         self.items.remove(handle)
     }
 
-    /// The bytes of an object. Refused exactly if no object with that handle is out.
+    /// Returns the bytes of an object. Returns an error if and only if no object with that handle is out.
     pub fn get(&self, handle: usize) -> Result<&[u8], UnknownHandle>
         ensures bytes { IfOk result (λ bytes. lookup (nat_eq handle) self.now.objects ≡ Some bytes.now) }
         ensures len { IfOk result (λ bytes. length bytes.now ≡ self.now.size) }
@@ -146,10 +148,10 @@ impl Objects {
         self.items.get(handle)
     }
 
-    /// Writes bytes over those of one object, from an offset on. All others are as they were.
+    /// Overwrites the bytes of one object from `offset` on. No other object changes.
     ///
-    /// Refused exactly if no object with that handle is out, or otherwise if the bytes would reach past its end, and then nothing
-    /// changes.
+    /// Returns `UnknownHandle` if and only if no object with that handle is out. Otherwise returns `OutOfRange` if and only if
+    /// `bytes` reaches past its end. Then nothing changes.
     pub fn set(&mut self, handle: usize, offset: usize, bytes: &[u8]) -> Result<(), SetError>
         ensures answer { result ≡ set_answer (lookup (nat_eq handle) self.old.objects) (offset + length bytes.now) }
         ensures written { OnOk result (Writes self.old handle offset bytes.now self.new) }
@@ -158,7 +160,7 @@ impl Objects {
         self.items.write(handle, offset, bytes)
     }
 
-    /// The blocks of the pool, used and free, in address order, as for a picture. As many are used as objects are out.
+    /// Returns the blocks of the pool, used and free, in address order. There is one used block for each object that is out.
     pub fn blocks(&self) -> Blocks<'_>
         ensures used { used_count result ≡ length self.now.objects }
         ensures order { IsInOrder result }
@@ -168,7 +170,7 @@ impl Objects {
     }
 }
 
-/// How many objects of a layout a pool of so many bytes is sure to hold.
+/// Returns how many objects of a layout a pool of `len` bytes is sure to hold.
 fn capacity_of(len: usize, layout: Layout) -> usize
     ensures { result ≡ objects.capacity_of len layout.size layout.align }
 {
@@ -186,7 +188,7 @@ fn capacity_of(len: usize, layout: Layout) -> usize
     }
 }
 
-/// The least length of a block for a layout: its payload begins 16 bytes into it, or up to `align - 16` bytes later.
+/// Returns the least length of a block for a layout. Its payload begins 16 bytes into it, or up to `align - 16` bytes later.
 fn request_size(layout: Layout) -> usize
     ensures { result ≡ sizes.request_size layout.size layout.align }
 {

@@ -21,7 +21,7 @@ const START: usize = 4096;
 pub struct OwnedObjects {
     heap: Heap<u64, u64, 59, 8>,
     layout: Layout,
-    // The greatest number of objects that are out at once. Below it, the heap never refuses.
+    // The greatest number of objects that are out at once. While fewer are out, the heap never refuses one.
     capacity: usize,
 }
 
@@ -37,7 +37,7 @@ impl Model for OwnedObjects {
 }
 
 impl OwnedObjects {
-    /// Creates a pool of which at most `capacity` objects of `layout` are out at once. It allocates a memory that suffices for
+    /// Creates a pool of which at most `capacity` objects of `layout` are out at once. Allocates a memory that is long enough for
     /// them, in a time that doesn't depend on its length.
     ///
     /// Returns the first of these errors that applies:
@@ -82,7 +82,7 @@ impl OwnedObjects {
     /// Takes an object of zeros out of the pool. Its address is a multiple of the alignment, and it has at least as many bytes
     /// as the layout, and less than 32 more.
     ///
-    /// Returns `None` if and only if as many objects are out as the capacity; then nothing changes.
+    /// Returns `None` if and only if the number of objects that are out is the capacity; then nothing changes.
     pub fn take(&mut self) -> Option<Payload>
         ensures full { IsNone result ↔ (self.old.live ≡ self.old.capacity) }
         ensures refused { IsNone result → self.new ≡ self.old }
@@ -101,7 +101,7 @@ impl OwnedObjects {
         self.heap.allocate_zeroed(self.layout)
     }
 
-    /// Puts an object back into the pool, which has room for one more then.
+    /// Takes an object back. Then the pool has room for one more.
     ///
     /// The object must be one of this pool.
     pub fn give_back(&mut self, object: Payload)

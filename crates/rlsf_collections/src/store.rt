@@ -1,4 +1,4 @@
-//! Lists of bytes, each in a payload of one allocator: what the libraries of this crate share.
+//! Lists of bytes, each in a payload of one allocator. `messages` and `items` are made of them.
 
 ghost use Rattle.std.specs.Prelude.{◌≡◌, ◌≤◌, ◌+◌, ◌∷◌, ◌++◌, ℕ, List, [], length, replicate, IfNone, IfSome, IsSome};
 ghost use Rattle.std.specs.List.{splice};
@@ -19,10 +19,10 @@ use rlsf::{Addr, BlockInfo, Blocks, Layout, Memory, Range, Tlsf};
 use std::marker::Model;
 use std::num::NonZeroUsize;
 
-/// The allocator of these libraries: chunks of any length, and eight size classes a row.
+/// The allocator of these libraries: chunks of any length, and eight size classes in each row.
 pub type Heap = Tlsf<u64, u64, 59, 8>;
 
-/// An allocator over one pool, whose payloads each keep a list of bytes in their front.
+/// An allocator over one pool. Each of its payloads begins with a list of bytes.
 #[derive(Drop)]
 pub(crate) struct Store {
     heap: Heap,
@@ -38,7 +38,7 @@ impl Model for Store {
 }
 
 impl Store {
-    /// A store that keeps nothing, over a memory that is its pool.
+    /// Creates a store without a list, over a memory that becomes its pool.
     pub(crate) fn new(memory: Memory) -> Store
         ensures empty { KeepsAt result [] }
         ensures place { SamePlace memory result.heap.memory }
@@ -56,7 +56,7 @@ impl Store {
         }
     }
 
-    /// Stores bytes in a payload of their own. Returns its address, or `None` without room, and then nothing changes.
+    /// Stores bytes in a new payload, and returns its address. Returns `None` if there is no room; then no list changes.
     pub(crate) fn add(&mut self, bytes: &[u8]) -> Option<Addr>
         ensures stored { IfSome result (λ addr. (places : List Place) → KeepsAt self.old places
             → HasAmong self.old self.new places [] (place (at addr) 1 (length bytes.now)) bytes.now) }
@@ -74,8 +74,8 @@ impl Store {
         Some(addr)
     }
 
-    /// Stores as many zeros as a layout has bytes, at its alignment. Returns their address, or `None` without room, and then
-    /// nothing changes.
+    /// Stores as many zeros as a layout has bytes, at its alignment, and returns their address. Returns `None` if there is no
+    /// room; then no list changes.
     pub(crate) fn add_zeros(&mut self, layout: Layout) -> Option<Addr>
         ensures stored { IfSome result (λ addr. (places : List Place) → KeepsAt self.old places
             → HasAmong self.old self.new places [] (place (at addr) layout.align layout.size) (replicate layout.size 0)) }
@@ -93,7 +93,7 @@ impl Store {
         Some(addr)
     }
 
-    /// The bytes that are stored at an address, as many as are kept there.
+    /// Returns the `len` bytes that are stored at an address.
     pub(crate) fn read(&self, addr: Addr, len: usize) -> &[u8]
         requires { (before after : List Place) × (p : Place) × KeepsAt self.now (before ++ p ∷ after) × (p.addr ≡ at addr) × (p.len ≡ len) }
         ensures bytes { result.now ≡ bytes_in self.now.heap.memory (range_at (at addr) len) }
@@ -102,7 +102,7 @@ impl Store {
         &self.heap.payload(addr)[..len]
     }
 
-    /// Writes bytes over those that are stored at an address, from an offset on.
+    /// Overwrites the bytes that are stored at an address, from `offset` on.
     pub(crate) fn write(&mut self, addr: Addr, offset: usize, bytes: &[u8])
         requires { (before after : List Place) × (p : Place) × KeepsAt self.old (before ++ p ∷ after) × (p.addr ≡ at addr) × (offset + length bytes.now ≤ p.len) }
         ensures stored { WritesOver self.old self.new (at addr) offset bytes.now }
@@ -113,8 +113,8 @@ impl Store {
         write_at(self.heap.payload_mut(addr), offset, bytes);
     }
 
-    /// Stores more bytes behind the `len` bytes that are stored at an address, whose payload may move. Returns its address, or
-    /// `None` without room, and then nothing changes.
+    /// Stores more bytes behind the `len` bytes that are stored at an address. Their payload may move. Returns its address, or
+    /// `None` if there is no room; then no list changes.
     pub(crate) fn append(&mut self, addr: Addr, len: usize, more: &[u8]) -> Option<Addr>
         requires { (before after : List Place) × (p : Place) × KeepsAt self.old (before ++ p ∷ after) × (p.addr ≡ at addr) × (p.align ≡ 1) × (p.len ≡ len) }
         ensures stored { IfSome result (λ to. AppendsAt self.old self.new (at addr) len more.now (at to)) }
@@ -132,7 +132,7 @@ impl Store {
         Some(to)
     }
 
-    /// Deallocates what is stored at an address, with that alignment.
+    /// Deallocates the payload at an address, which has this alignment.
     pub(crate) fn remove(&mut self, addr: Addr, align: usize)
         requires { (before after : List Place) × (p : Place) × KeepsAt self.old (before ++ p ∷ after) × (p.addr ≡ at addr) × (p.align ≡ align) }
         ensures removed { (before after : List Place) (p : Place) → KeepsAt self.old (before ++ p ∷ after) → p.addr ≡ at addr → p.align ≡ align
@@ -144,7 +144,7 @@ impl Store {
         self.heap.deallocate(addr, align);
     }
 
-    /// The blocks of the pool, used and free, in address order.
+    /// Returns the blocks of the pool, used and free, in address order.
     pub(crate) fn blocks(&self) -> Blocks<'_>
         requires { (places : List Place) × KeepsAt self.now places }
         ensures used { (places : List Place) → KeepsAt self.now places → used_count result ≡ length places }
@@ -155,7 +155,7 @@ impl Store {
     }
 }
 
-/// Writes bytes over those of a payload, from an offset on.
+/// Overwrites the bytes of a payload from `offset` on.
 fn write_at(payload: &mut [u8], offset: usize, bytes: &[u8])
     requires { offset + length bytes.now ≤ length payload.old }
     ensures bytes { payload.new ≡ splice payload.old offset (offset + length bytes.now) bytes.now }
@@ -164,7 +164,7 @@ fn write_at(payload: &mut [u8], offset: usize, bytes: &[u8])
     payload[offset..offset + bytes.len()].copy_from_slice(bytes);
 }
 
-/// How long the pool of a memory is: its part from one multiple of 32 to another.
+/// Returns the length of the pool of a memory: its part from the first multiple of 32 to the last.
 pub(crate) fn pool_len(memory: &Memory) -> usize
     ensures { result ≡ (aligned_part (range_of memory.now)).len }
 {

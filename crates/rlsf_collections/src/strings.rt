@@ -1,4 +1,4 @@
-//! An interpreter's strings: handles to lists of bytes that grow.
+//! Strings as an interpreter has them: handles to lists of bytes that grow.
 
 ghost use Rattle.std.specs.Prelude.{◌≡◌, ◌≤◌, ◌+◌, ◌↔◌, ℕ, [], ◌∷◌, ◌++◌, None, Some, IfOk, OnOk, OnErr, IsErr, IsErrOf, IsSomeAnd, length, nat_eq};
 ghost use Rattle.std.specs.Map.{lookup, remove_entry, set_value};
@@ -16,14 +16,14 @@ use rlsf::{BlockInfo, Blocks, Memory};
 use std::alloc::{AllocError, Global};
 use std::marker::Model;
 
-/// Why no string was made, or none grew.
+/// Why no string was created, or none grew.
 #[derive(Clone, Copy, Debug, PartialEq, Eq)]
 pub enum StringError {
     /// There is no string with that handle.
     UnknownHandle,
-    /// The memory of the strings has no room.
+    /// The memory of the strings has no room for the bytes.
     NoRoom,
-    /// No memory was left for the table of handles or for a copy, or every number was a handle already.
+    /// The system has no memory for the table of handles or for a copy, or every number was a handle already.
     OutOfMemory,
 }
 
@@ -64,7 +64,7 @@ impl Model for Strings {
 }
 
 impl Strings {
-    /// No string yet. The memory is all that strings are kept in.
+    /// Creates a pool without a string. All strings are stored in `memory`.
     pub fn new(alloc: Global, memory: Memory) -> Strings
         ensures { result ≡ record { strings = []; next = 0; memory = range_of memory } }
     {
@@ -74,17 +74,18 @@ impl Strings {
         }
     }
 
-    /// How many strings there are.
+    /// Returns the number of strings.
     pub fn len(&self) -> usize
         ensures { result ≡ length self.now.strings }
     {
         self.items.len()
     }
 
-    /// Makes an empty string, under a new handle.
+    /// Creates an empty string, and returns its new handle.
     ///
-    /// Refused without room, or without memory for its handle, and then nothing changes. If there is no string yet, and the memory
-    /// fits one, there is room.
+    /// Returns `NoRoom` if the memory has no room, or `OutOfMemory` if the system has no memory for the handle; then nothing
+    /// changes. There is room if there is no string and the memory is long enough for one, and while the strings are within
+    /// bounds for which the memory is long enough (`AreFewStrings`).
     pub fn create(&mut self) -> Result<usize, StringError>
         ensures made { IfOk result (λ handle. (handle ≡ self.old.next)
             × (self.new ≡ with_string self.old handle [])) }
@@ -97,9 +98,10 @@ impl Strings {
         self.items.add(&[])
     }
 
-    /// Adds bytes behind those of a string. All others are as they were.
+    /// Appends bytes to a string. No other string changes.
     ///
-    /// Refused with `UnknownHandle` exactly if there is no string with that handle, and without room, and then nothing changes.
+    /// Returns `UnknownHandle` if and only if there is no string with that handle, or `NoRoom` if the memory has no room; then
+    /// nothing changes. There is room within the bounds of `AreFewStrings`.
     pub fn append(&mut self, handle: usize, more: &[u8]) -> Result<(), StringError>
         ensures appended { OnOk result (IsSomeAnd (lookup (nat_eq handle) self.old.strings) (λ old.
             self.new ≡ record self.old { strings = set_value (nat_eq handle) self.old.strings (old ++ more.now) })) }
@@ -111,9 +113,11 @@ impl Strings {
         self.items.append(handle, more)
     }
 
-    /// Makes a string of the bytes of one string and then those of another, under a new handle. The two stay.
+    /// Creates a string of the bytes of `left` and then those of `right`, and returns its new handle. The two don't change.
     ///
-    /// Refused with `UnknownHandle` exactly if one of the two isn't there, and without room or memory, and then nothing changes.
+    /// Returns `UnknownHandle` if and only if there is no string with one of the two handles. Returns `NoRoom` if the memory has
+    /// no room, or `OutOfMemory` if the system has no memory for a copy or the handle. Then nothing changes. There is room within
+    /// the bounds of `AreFewStrings`.
     pub fn concat(&mut self, left: usize, right: usize) -> Result<usize, StringError>
         ensures joined { IfOk result (λ handle. (handle ≡ self.old.next)
             × IsSomeAnd (joined_of left right self.old.strings) (λ bytes. self.new ≡ with_string self.old handle bytes)) }
@@ -127,7 +131,7 @@ impl Strings {
         self.items.add(bytes.as_slice())
     }
 
-    /// The bytes of two strings, one after the other.
+    /// Returns the bytes of two strings, one after the other.
     fn joined(&self, left: usize, right: usize) -> Result<Vec<u8>, StringError>
         ensures bytes { IfOk result (λ v. joined_of left right self.now.strings ≡ Some v.items) }
         ensures unknown { IsErrOf result string_error.UnknownHandle ↔ (joined_of left right self.now.strings ≡ None) }
@@ -140,9 +144,9 @@ impl Strings {
         Ok(joined)
     }
 
-    /// Drops a string. Its handle is unknown from then on, and all others are as they were.
+    /// Drops a string. Then its handle is unknown. No other string changes.
     ///
-    /// Refused exactly if there is no string with that handle, and then nothing changes.
+    /// Returns an error if and only if there is no string with that handle; then nothing changes.
     pub fn drop_string(&mut self, handle: usize) -> Result<(), UnknownHandle>
         ensures dropped { OnOk result (self.new ≡ record self.old { strings = remove_entry (nat_eq handle) self.old.strings }) }
         ensures gone { lookup (nat_eq handle) self.new.strings ≡ None }
@@ -152,7 +156,7 @@ impl Strings {
         self.items.remove(handle)
     }
 
-    /// The bytes of a string. Refused exactly if there is no string with that handle.
+    /// Returns the bytes of a string. Returns an error if and only if there is no string with that handle.
     pub fn bytes(&self, handle: usize) -> Result<&[u8], UnknownHandle>
         ensures bytes { IfOk result (λ bytes. lookup (nat_eq handle) self.now.strings ≡ Some bytes.now) }
         ensures unknown { OnErr result (lookup (nat_eq handle) self.now.strings ≡ None) }
@@ -160,7 +164,7 @@ impl Strings {
         self.items.get(handle)
     }
 
-    /// The blocks of the pool, used and free, in address order, as for a picture. As many are used as there are strings.
+    /// Returns the blocks of the pool, used and free, in address order. There is one used block for each string.
     pub fn blocks(&self) -> Blocks<'_>
         ensures used { used_count result ≡ length self.now.strings }
         ensures order { IsInOrder result }

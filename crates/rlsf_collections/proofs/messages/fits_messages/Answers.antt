@@ -17,5 +17,6 @@ returns-in-Some c =
     (subst (λ n. pool_size_for_payloads 59 8 most n 1 ≡ Some len) size
     (subst (λ n. pool_size_for_payloads 59 8 most layout.size n ≡ Some len) align (sym c.pool_size_for_payloads.ensures ∙ c.in-Some.is))) in (
       (λ short. (c.in-Ok.ensures.succeeds.0 refl, (len, told, subst (λ n. len ≤ n) c.pool_len.ensures (leb-true len c.pool_len.result short)))),
-      λ (_, (e, is, fits)). le-leb len c.pool_len.result (subst (λ n. len ≤ n) (sym c.pool_len.ensures) (subst (λ n. n ≤ (aligned_part (range_of c.args.memory.now)).len) (same_Some e len (sym is ∙ told)) fits)),
+      λ (_, (e, is, fits)). le-leb len c.pool_len.result (subst (λ n. len ≤ n) (sym c.pool_len.ensures)
+          (subst (λ n. n ≤ (aligned_part (range_of c.args.memory.now)).len) (same_Some e len (sym is ∙ told)) fits)),
     )

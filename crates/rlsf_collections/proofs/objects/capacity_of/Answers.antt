@@ -9,7 +9,8 @@ use Rattle.rlsf_base.proofs.SizeMaps.Laws.{pool_contains_its_allocation}
 use Rattle.rlsf_collections.proofs.objects.capacity_of.Goals as goal
 
 least_long : (size align least : ℕ) → pool_size_to_contain_allocation 59 8 size align ≡ Some least → 64 ≤ least
-least_long size align least told = (pool_contains_its_allocation 64 64 59 8 size align least (record { some_rows = lit< tt; rows_fit = omega arith; power_of_two = refl; classes_fit = omega arith }) told).0
+least_long size align least told = (pool_contains_its_allocation 64 64 59 8 size align least
+    (record { some_rows = lit< tt; rows_fit = omega arith; power_of_two = refl; classes_fit = omega arith }) told).0
 
 pub overflow_sub-least : goal.overflow_sub-least
 overflow_sub-least c = least_long c.args.layout.size c.args.layout.align c.in-Some.least (sym c.pool_size_to_contain_allocation.ensures ∙ c.in-Some.is)
@@ -31,6 +32,7 @@ returns-else-layout-le32 c =
     let d = block + (c.in-Some.least - 64) in
     let long : 64 ≤ c.in-Some.least = least_long c.args.layout.size c.args.layout.align c.in-Some.least (sym c.pool_size_to_contain_allocation.ensures ∙ c.in-Some.is) in
     let some : 0 < d = omega (arith, c.request_size-block.ensures, round32-le (c.args.layout.size + (c.args.layout.align - 16) + 16)) in
-    let quotient : n / c.saturating_add.result ≡ n / d = cut_off n d c.saturating_add.result (2 ^ 64) (omega (arith, long, c.ranges.len.fits)) some (λ fits. omega (arith, c.saturating_add.ensures, fits)) (λ past. omega (arith, c.saturating_add.ensures, past)) in
+    let quotient : n / c.saturating_add.result ≡ n / d = cut_off n d c.saturating_add.result (2 ^ 64) (omega (arith, long, c.ranges.len.fits)) some
+    (λ fits. omega (arith, c.saturating_add.ensures, fits)) (λ past. omega (arith, c.saturating_add.ensures, past)) in
     let told = sym c.pool_size_to_contain_allocation.ensures ∙ c.in-Some.is in
     grind (arith, nat_tests, common_steps, quotient, told, c.request_size-block.ensures)

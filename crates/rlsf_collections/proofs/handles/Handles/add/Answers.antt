@@ -7,7 +7,8 @@ use Rattle.rlsf_collections.proofs.handles.Handles.add.Goals as goal
 pub invariant_of-self-2 : goal.invariant_of-self-2
 invariant_of-self-2 c =
     let less : c.self.inside.next < c.in_ok-next.next = grind (arith, common_steps) in
-    subst (λ es. AreBelow es c.in_ok-next.next) (sym (c.in_ok-insert.ensures.entries ∙ insert_entry-above _ _ _ c.self.invariant)) (AreBelow-more _ _ _ c.args.spot less c.self.invariant)
+    subst (λ es. AreBelow es c.in_ok-next.next) (sym (c.in_ok-insert.ensures.entries ∙ insert_entry-above _ _ _ c.self.invariant))
+    (AreBelow-more _ _ _ c.args.spot less c.self.invariant)
 
 pub returns : goal.returns
 returns c = record {

@@ -22,7 +22,8 @@ returns-in_default-clause-enough c = λ live size budget short _.
 
 pub returns-in_default-clause-refused : goal.returns-in_default-clause-refused
 returns-in_default-clause-refused c =
-    let kept = same_items c.self.inside.handles c.self.invariant c.add_zeros.new.self c.self.inside.handles c.add_zeros.ensures.place (c.in_default.ensures.refused _ c.self.invariant) refl refl in
+    let kept = same_items c.self.inside.handles c.self.invariant c.add_zeros.new.self c.self.inside.handles c.add_zeros.ensures.place
+    (c.in_default.ensures.refused _ c.self.invariant) refl refl in
     rw (← c.self.view_is) kept.1
 
 pub invariant_of-self : goal.invariant_of-self
@@ -32,26 +33,42 @@ pub keep-requires : goal.keep-requires
 keep-requires c = (_, _, (c.in-Some.ensures.stored _ c.self.invariant).places, refl, refl)
 
 -- the store after the payload was given back
-kept : (c : goal.After-from_residual) → Shows c.self.inside.store c.self.inside.align (lists_in c.self.inside.store c.self.inside.align c.self.inside.handles.rows) c.self.inside.handles.next c.keep.new.store c.keep.new.handles
+kept : (c : goal.After-from_residual) → Shows c.self.inside.store c.self.inside.align (lists_in c.self.inside.store c.self.inside.align c.self.inside.handles.rows)
+    c.self.inside.handles.next c.keep.new.store c.keep.new.handles
 kept c =
     let added = c.in-Some.ensures.stored _ c.self.invariant in
     let back = HasSame-given_back _ added (c.in_err-handle.ensures.given_back _ _ added.places refl refl) in
-    same_items c.self.inside.handles c.self.invariant c.keep.new.store c.keep.new.handles (c.keep.ensures.place.0 ∙ c.add_zeros.ensures.place.0, c.keep.ensures.place.1 ∙ c.add_zeros.ensures.place.1, c.keep.ensures.place.2 ∙ c.add_zeros.ensures.place.2, λ none. c.keep.ensures.place.3 (c.add_zeros.ensures.place.3 none)) back
+    same_items c.self.inside.handles c.self.invariant c.keep.new.store c.keep.new.handles (
+      c.keep.ensures.place.0 ∙ c.add_zeros.ensures.place.0,
+      c.keep.ensures.place.1
+          ∙ c.add_zeros.ensures.place.1,
+      c.keep.ensures.place.2 ∙ c.add_zeros.ensures.place.2,
+      λ none. c.keep.ensures.place.3 (c.add_zeros.ensures.place.3 none),
+    ) back
     (ap (λ h. h.rows) c.in_err-handle.ensures.refused) (ap (λ h. h.next) c.in_err-handle.ensures.refused)
 
 pub invariant_of-self-in_err-handle : goal.invariant_of-self-in_err-handle
 invariant_of-self-in_err-handle c = (kept c).0
 
 -- the store with one more
-more : (c : goal.In_ok-handle) → Shows c.self.inside.store c.self.inside.align (lists_in c.self.inside.store c.self.inside.align c.self.inside.handles.rows ++ (c.in_ok-handle.handle, (replicate c.args.layout.size 0)) ∷ []) (c.in_ok-handle.handle + 1) c.keep.new.store c.keep.new.handles
+more : (c : goal.In_ok-handle) → Shows c.self.inside.store c.self.inside.align (lists_in c.self.inside.store c.self.inside.align c.self.inside.handles.rows
+    ++ (c.in_ok-handle.handle, (replicate c.args.layout.size 0)) ∷ []) (c.in_ok-handle.handle + 1) c.keep.new.store c.keep.new.handles
 more c =
     let v = c.self.inside.store in
     let places = places_in c.self.inside.align c.self.inside.handles.rows in
     let addr = non_zero_usize_get c.in-Some.addr in
     let added = c.in-Some.ensures.stored places c.self.invariant in
     let now = subst (λ w. HasAmong v w places [] (place addr c.args.layout.align c.args.layout.size) (replicate c.args.layout.size 0)) (sym c.in_ok-handle.ensures.kept.0) added in
-    let there = subst (λ a. HasAmong v c.keep.new.store places [] (place addr a c.args.layout.size) (replicate c.args.layout.size 0)) (sym (ap (λ h. h.align) c.self.view_is ∙ c.requires)) now in
-    one_more c.self.inside.handles c.self.invariant c.keep.new.store c.keep.new.handles (c.keep.ensures.place.0 ∙ c.add_zeros.ensures.place.0, c.keep.ensures.place.1 ∙ c.add_zeros.ensures.place.1, c.keep.ensures.place.2 ∙ c.add_zeros.ensures.place.2, λ none. c.keep.ensures.place.3 (c.add_zeros.ensures.place.3 none)) c.in_ok-handle.handle _ (replicate c.args.layout.size 0) there
+    let there = subst (λ a. HasAmong v c.keep.new.store places [] (place addr a c.args.layout.size) (replicate c.args.layout.size 0))
+    (sym (ap (λ h. h.align) c.self.view_is ∙ c.requires)) now in
+    one_more c.self.inside.handles c.self.invariant c.keep.new.store c.keep.new.handles (
+      c.keep.ensures.place.0 ∙ c.add_zeros.ensures.place.0,
+      c.keep.ensures.place.1
+          ∙ c.add_zeros.ensures.place.1,
+      c.keep.ensures.place.2 ∙ c.add_zeros.ensures.place.2,
+      λ none. c.keep.ensures.place.3 (c.add_zeros.ensures.place.3 none),
+    )
+    c.in_ok-handle.handle _ (replicate c.args.layout.size 0) there
     (ap (λ h. h.rows) c.in_ok-handle.ensures.kept.2) (ap (λ h. h.next) c.in_ok-handle.ensures.kept.2)
 
 pub invariant_of-self-2 : goal.invariant_of-self-2

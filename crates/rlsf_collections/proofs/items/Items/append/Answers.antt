@@ -54,8 +54,10 @@ returns-in_default-append c = record {
       let few = subst (λ o. IsSomeAnd o (λ old. length old + length c.args.more.now ≤ size)) there short in
       let here = HasBudgetFor-handled i.store i.align i.handles live size c.self.invariant (subst (λ h. HasBudgetOf h live size) (sym c.self.view_is) budget) in
       let one = ap (λ h. h.align) c.self.view_is ∙ c.requires in
-      absurd (false≢true (c.in_default-append.ensures.enough _ live size (subst (λ n. HasBudgetFor i.store (places_in i.align i.handles.rows) live size n) one here) (omega (arith, few, a.len))));
-  refused = rw (← c.self.view_is) (same_items c.self.inside.handles c.self.invariant c.append.new.self c.self.inside.handles c.append.ensures.place (c.in_default-append.ensures.refused _ c.self.invariant) refl refl).1;
+      absurd (false≢true (c.in_default-append.ensures.enough _ live size (subst (λ n. HasBudgetFor i.store (places_in i.align i.handles.rows) live size n) one here)
+      (omega (arith, few, a.len))));
+  refused = rw (← c.self.view_is) (same_items c.self.inside.handles c.self.invariant c.append.new.self c.self.inside.handles c.append.ensures.place
+      (c.in_default-append.ensures.refused _ c.self.invariant) refl refl).1;
 }
 
 -- what is stored at the handle
@@ -64,7 +66,9 @@ found c = stored_at c.self.inside.handles c.self.invariant c.args.handle c.in-So
 
 -- the handle with more bytes
 grown : (c : goal.After-set) → Shows c.self.inside.store c.self.inside.align
-    (set_value (nat_eq c.args.handle) (lists_in c.self.inside.store c.self.inside.align c.self.inside.handles.rows) (bytes_at_place c.self.inside.store.heap.memory (place_at c.self.inside.align c.in-Some.spot) ++ c.args.more.now)) c.self.inside.handles.next c.append.new.self c.set.new.self
+    (set_value (nat_eq c.args.handle) (lists_in c.self.inside.store c.self.inside.align c.self.inside.handles.rows)
+    (bytes_at_place c.self.inside.store.heap.memory (place_at c.self.inside.align c.in-Some.spot) ++ c.args.more.now)) c.self.inside.handles.next c.append.new.self
+    c.set.new.self
 grown c =
     let a = found c in
     let one = ap (λ h. h.align) c.self.view_is ∙ c.requires in

@@ -22,6 +22,7 @@ pub returns : goal.returns
 returns c = record {
   known =
       let here : Spot → List ℕ = λ s. bytes_at_place c.self.inside.store.heap.memory (place_at c.self.inside.align s) in
-      rw (← c.self.view_is) (lookup-map_values here (nat_eq c.args.handle) c.self.inside.handles.rows ∙ ap (option_map here) (sym c.get.ensures ∙ c.in-Some.is) ∙ ap Some (sym c.read.ensures.bytes));
+      rw (← c.self.view_is) (lookup-map_values here (nat_eq c.args.handle) c.self.inside.handles.rows ∙ ap (option_map here) (sym c.get.ensures ∙ c.in-Some.is)
+      ∙ ap Some (sym c.read.ensures.bytes));
   unknown = search rules;
 }

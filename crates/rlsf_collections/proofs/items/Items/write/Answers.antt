@@ -31,11 +31,13 @@ pub returns-then-offset-spot : goal.returns-then-offset-spot
 returns-then-offset-spot c = record {
   answer =
       let a = stored_at c.self.inside.handles c.self.invariant c.args.handle c.in-Some.spot (sym c.get.ensures ∙ c.in-Some.is) in
-      let past : length (bytes_at_place c.self.inside.store.heap.memory (place_at c.self.inside.align c.in-Some.spot)) < c.args.offset + length c.args.bytes.now = elim c.then-offset-spot.branch [
+      let past : length (bytes_at_place c.self.inside.store.heap.memory (place_at c.self.inside.align c.in-Some.spot)) < c.args.offset + length c.args.bytes.now =
+      elim c.then-offset-spot.branch [
         | then-offset-spot-via-then-offset-spot w ↦ omega (arith, a.len)
         | then-offset-spot-via-else-offset-spot+then-bytes-spot w ↦ omega (arith, a.len)
       ] in
-      rw (← c.self.view_is) (sym (set_answer-out _ (c.args.offset + length c.args.bytes.now) past) ∙ ap (λ o. set_answer o (c.args.offset + length c.args.bytes.now)) (sym a.bytes));
+      rw (← c.self.view_is) (sym (set_answer-out _ (c.args.offset + length c.args.bytes.now) past) ∙ ap (λ o. set_answer o (c.args.offset + length c.args.bytes.now))
+      (sym a.bytes));
   written = search rules;
   uniform = search rules;
   refused = search rules;
@@ -52,12 +54,15 @@ found c = stored_at c.self.inside.handles c.self.invariant c.args.handle c.in-So
 
 -- the handle with other bytes
 written : (c : goal.After-write) → Shows c.self.inside.store c.self.inside.align
-    (set_value (nat_eq c.args.handle) (lists_in c.self.inside.store c.self.inside.align c.self.inside.handles.rows) (splice (bytes_at_place c.self.inside.store.heap.memory (place_at c.self.inside.align c.in-Some.spot)) c.args.offset (c.args.offset + length c.args.bytes.now) c.args.bytes.now)) c.self.inside.handles.next
+    (set_value (nat_eq c.args.handle) (lists_in c.self.inside.store c.self.inside.align c.self.inside.handles.rows)
+    (splice (bytes_at_place c.self.inside.store.heap.memory (place_at c.self.inside.align c.in-Some.spot)) c.args.offset
+    (c.args.offset + length c.args.bytes.now) c.args.bytes.now)) c.self.inside.handles.next
     c.write.new.self c.self.inside.handles
 written c =
     let a = found c in
     let new = c.write.ensures.stored a.before a.after _ a.has refl (omega arith) in
-    a.changed c.write.new.self c.self.inside.handles c.write.ensures.place c.in-Some.spot _ new (sym (set_value_same (nat_eq c.args.handle) c.self.inside.handles.rows c.in-Some.spot (sym c.get.ensures ∙ c.in-Some.is))) refl
+    a.changed c.write.new.self c.self.inside.handles c.write.ensures.place c.in-Some.spot _ new
+    (sym (set_value_same (nat_eq c.args.handle) c.self.inside.handles.rows c.in-Some.spot (sym c.get.ensures ∙ c.in-Some.is))) refl
 
 pub invariant_of-self : goal.invariant_of-self
 invariant_of-self c = (written c).0
@@ -66,7 +71,8 @@ pub returns : goal.returns
 returns c = record {
   answer =
       let a = found c in
-      rw (← c.self.view_is) (sym (set_answer-in _ (c.args.offset + length c.args.bytes.now) (omega (arith, a.len))) ∙ ap (λ o. set_answer o (c.args.offset + length c.args.bytes.now)) (sym a.bytes));
+      rw (← c.self.view_is) (sym (set_answer-in _ (c.args.offset + length c.args.bytes.now) (omega (arith, a.len)))
+      ∙ ap (λ o. set_answer o (c.args.offset + length c.args.bytes.now)) (sym a.bytes));
   written = rw (← c.self.view_is) (IsSomeAnd-is _ _ _ (found c).bytes (written c).1);
   uniform = rw (← c.self.view_is) (λ len. c.write.ensures.uniform _ len c.self.invariant);
   refused = search rules;

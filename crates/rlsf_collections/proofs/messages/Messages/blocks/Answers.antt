@@ -6,7 +6,8 @@ use Rattle.rlsf_collections.proofs.messages.Messages.blocks.Goals as goal
 
 pub returns : goal.returns
 returns c = record {
-  used = rw (← c.self.view_is) (c.blocks-2.ensures.used _ c.self.invariant.0 ∙ sym (length-map (map place_of_entry c.self.inside.entries.items) (bytes_at_place c.self.inside.store.heap.memory)));
+  used = rw (← c.self.view_is) (c.blocks-2.ensures.used _ c.self.invariant.0
+      ∙ sym (length-map (map place_of_entry c.self.inside.entries.items) (bytes_at_place c.self.inside.store.heap.memory)));
   order = search rules;
   runs = search rules;
 }

@@ -29,7 +29,8 @@ returns-then-into-entry-clause-enough c =
     let here = c.in-Some.ensures in
     rw (← c.self.view_is) (λ within _. absurd (omega (
       arith,
-      oldest_within i.longest (range_of i.store.heap.memory) (deque_capacity i.entries) (length c.args.into.now) i.entries.items c.in-Some.field-0.now c.self.invariant.1 (omega (arith, i.entries.ok.0, here.variant.0 refl)) here.lookup within,
+      oldest_within i.longest (range_of i.store.heap.memory) (deque_capacity i.entries) (length c.args.into.now) i.entries.items c.in-Some.field-0.now c.self.invariant.1
+          (omega (arith, i.entries.ok.0, here.variant.0 refl)) here.lookup within,
     )))
 
 pub read-requires : goal.read-requires
@@ -42,17 +43,21 @@ pub remove-requires : goal.remove-requires
 remove-requires c = ([], _, _, (found (goal.at.remove-requires c).In-Some).places, refl, refl)
 
 -- the messages that are left
-left : (c : After-remove) → Oldest c.self.inside.store c.self.inside.entries.items c.in-Some.field-0.now → HasSame c.self.inside.store c.remove.new.self (map place_of_entry (drop 1 c.self.inside.entries.items))
+left : (c : After-remove) → Oldest c.self.inside.store c.self.inside.entries.items c.in-Some.field-0.now
+    → HasSame c.self.inside.store c.remove.new.self (map place_of_entry (drop 1 c.self.inside.entries.items))
 left c o = c.remove.ensures.removed [] _ _ o.places refl refl
 
 pub invariant_of-self : goal.invariant_of-self
 invariant_of-self c =
     let at = goal.at.invariant_of-self c in
     let rest : drop 1 c.self.inside.entries.items ≡ c.pop_front.new.self.items = cc in
-    let place : range_of c.self.inside.store.heap.memory ≡ range_of c.remove.new.self.heap.memory = ap₂ range_at (sym c.remove.ensures.place.0) (sym c.remove.ensures.place.1) in
+    let place : range_of c.self.inside.store.heap.memory ≡ range_of c.remove.new.self.heap.memory = ap₂ range_at (sym c.remove.ensures.place.0)
+    (sym c.remove.ensures.place.1) in
     let holds : deque_capacity c.self.inside.entries ≡ deque_capacity c.pop_front.new.self = omega arith in (
       subst (λ es. KeepsAt c.remove.new.self (map place_of_entry es)) rest (left at.After-remove (found at.In-Some)).0,
-      KeepsLongest-same c.self.inside.longest place holds rest (KeepsLongest-less c.self.inside.longest (range_of c.self.inside.store.heap.memory) (deque_capacity c.self.inside.entries) c.self.inside.entries.items c.self.invariant.1),
+      KeepsLongest-same c.self.inside.longest place holds rest
+          (KeepsLongest-less c.self.inside.longest (range_of c.self.inside.store.heap.memory) (deque_capacity c.self.inside.entries) c.self.inside.entries.items
+          c.self.invariant.1),
     )
 
 pub returns : goal.returns

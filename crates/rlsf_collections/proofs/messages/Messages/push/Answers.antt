@@ -12,9 +12,13 @@ invariant_of-self-2 c =
     let i = c.self.inside in
     let place : range_of i.store.heap.memory ≡ range_of c.add.new.self.heap.memory = ap₂ range_at (sym c.add.ensures.place.0) (sym c.add.ensures.place.1) in
     let holds : deque_capacity i.entries ≡ deque_capacity c.push_back_reserved.new.self = omega arith in
-    let keeps = KeepsLongest-more i.longest (range_of i.store.heap.memory) (deque_capacity i.entries) i.entries.items (record { addr = c.in-Some.addr; len = length c.args.message.now })
-    (λ longer. absurd (false≢true (sym c.if-is_longer.false ∙ c.is_longer.ensures.1 longer))) c.self.invariant.1 in
-    (rw c.push_back_reserved.ensures.items (pushed c.self.inside.store c.add.new.self c.self.inside.entries.items _ c.args.message.now (c.in-Some.ensures.stored _ c.self.invariant.0)).0, KeepsLongest-same i.longest place holds (sym c.push_back_reserved.ensures.items) keeps)
+    let keeps = KeepsLongest-more i.longest (range_of i.store.heap.memory) (deque_capacity i.entries) i.entries.items
+    (record { addr = c.in-Some.addr; len = length c.args.message.now })
+    (λ longer. absurd (false≢true (sym c.if-is_longer.false ∙ c.is_longer.ensures.1 longer))) c.self.invariant.1 in (
+      rw c.push_back_reserved.ensures.items (pushed c.self.inside.store c.add.new.self c.self.inside.entries.items _ c.args.message.now
+          (c.in-Some.ensures.stored _ c.self.invariant.0)).0,
+      KeepsLongest-same i.longest place holds (sym c.push_back_reserved.ensures.items) keeps,
+    )
 
 pub returns-then-len-capacity : goal.returns-then-len-capacity
 returns-then-len-capacity c = record {
@@ -44,7 +48,10 @@ returns-then-is_longer c = record {
   ok = search rules;
   refused = search rules;
   full = rw (← c.self.view_is) (λ bad. absurd cc, λ full. absurd (omega (arith, length-messages c.self.inside.store.heap.memory c.self.inside.entries.items)));
-  long = rw (← c.self.view_is) (λ _. (omega (arith, length-messages c.self.inside.store.heap.memory c.self.inside.entries.items), c.is_longer.ensures.0 c.if-is_longer.true), λ _. refl);
+  long = rw (← c.self.view_is) (
+    λ _. (omega (arith, length-messages c.self.inside.store.heap.memory c.self.inside.entries.items), c.is_longer.ensures.0 c.if-is_longer.true),
+    λ _. refl,
+  );
   room = rw (← c.self.view_is) (λ _ _ _ short. both c.self.inside.longest (length c.args.message.now) (c.is_longer.ensures.0 c.if-is_longer.true) short);
   enough = rw (← c.self.view_is) (λ short _. both_told c.self.inside.longest (length c.args.message.now) (c.is_longer.ensures.0 c.if-is_longer.true) short);
   capacity = search rules;
@@ -63,7 +70,8 @@ returns-in_default c = record {
   enough = rw (← c.self.view_is) (λ short _.
       let i = c.self.inside in
       let few : length i.entries.items < deque_capacity i.entries = omega arith in
-      let (n, budget, fits) = budget_for_message i.longest i.store i.entries.items (deque_capacity i.entries) (length c.args.message.now) c.self.invariant.0 c.self.invariant.1 few short in
+      let (n, budget, fits) = budget_for_message i.longest i.store i.entries.items (deque_capacity i.entries)
+      (length c.args.message.now) c.self.invariant.0 c.self.invariant.1 few short in
       absurd (false≢true (c.in_default.ensures.enough _ _ _ budget fits)));
   capacity = search rules;
   longest = search rules;
@@ -73,7 +81,8 @@ returns-in_default c = record {
 
 pub returns : goal.returns
 returns c = record {
-  ok = rw (← c.self.view_is, c.push_back_reserved.ensures.items) (pushed c.self.inside.store c.add.new.self c.self.inside.entries.items _ c.args.message.now (c.in-Some.ensures.stored _ c.self.invariant.0)).1;
+  ok = rw (← c.self.view_is, c.push_back_reserved.ensures.items)
+      (pushed c.self.inside.store c.add.new.self c.self.inside.entries.items _ c.args.message.now (c.in-Some.ensures.stored _ c.self.invariant.0)).1;
   refused = search rules;
   full = rw (← c.self.view_is) (λ bad. absurd cc, λ full. absurd (omega (arith, length-messages c.self.inside.store.heap.memory c.self.inside.entries.items)));
   long = rw (← c.self.view_is) (λ bad. absurd cc, λ (_, longer). absurd (false≢true (sym c.if-is_longer.false ∙ c.is_longer.ensures.1 longer)));

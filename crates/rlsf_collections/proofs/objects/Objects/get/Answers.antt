@@ -8,6 +8,7 @@ returns c = record {
   bytes = search rules;
   len =
       let size = c.self.inside.layout.size in
-      IfOk-weaker c.get.result _ _ (λ bytes there. AllByRecursion-lookup (λ x. length x ≡ size) _ _ bytes.now c.self.invariant.sized there ∙ ap (λ p. p.size) c.self.view_is) c.get.ensures.known;
+      IfOk-weaker c.get.result _ _ (λ bytes there. AllByRecursion-lookup (λ x. length x ≡ size) _ _ bytes.now c.self.invariant.sized there
+      ∙ ap (λ p. p.size) c.self.view_is) c.get.ensures.known;
   unknown = search rules;
 }

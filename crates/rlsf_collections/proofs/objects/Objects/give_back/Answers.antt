@@ -8,7 +8,8 @@ use Rattle.rlsf_collections.proofs.objects.Objects.give_back.Goals as goal
 pub invariant_of-self : goal.invariant_of-self
 invariant_of-self c =
     let i = c.self.inside in
-    IsObjectPool-given_back c.remove.result i.items c.remove.new.self i.layout.size i.layout.align i.capacity _ _ c.self.invariant c.remove.ensures.removed c.remove.ensures.refused c.remove.ensures.uniform
+    IsObjectPool-given_back c.remove.result i.items c.remove.new.self i.layout.size i.layout.align i.capacity _ _ c.self.invariant c.remove.ensures.removed
+    c.remove.ensures.refused c.remove.ensures.uniform
 
 without : {E : Type 0} (r : Result Unit E) (o n : Handled) (size align capacity handle : ℕ) (s : State) (P : Type 0)
     → OnOk r ((n ≡ record o { lists = remove_entry (nat_eq handle) o.lists; state = s }) × P)
@@ -16,7 +17,8 @@ without : {E : Type 0} (r : Result Unit E) (o n : Handled) (size align capacity 
 without (Ok _) o n size align capacity handle s P removed = ap (shown size align capacity) removed.0
 without (Err e) o n size align capacity handle s P removed = tt
 
-gone : {E : Type 0} (r : Result Unit E) (o n : Handled) (handle : ℕ) (P : Type 0) → OnOk r (P × (lookup (nat_eq handle) n.lists ≡ None)) → IsErr r ↔ (lookup (nat_eq handle) o.lists ≡ None) → OnErr r (n ≡ o)
+gone : {E : Type 0} (r : Result Unit E) (o n : Handled) (handle : ℕ) (P : Type 0) → OnOk r (P × (lookup (nat_eq handle) n.lists ≡ None)) → IsErr r
+    ↔ (lookup (nat_eq handle) o.lists ≡ None) → OnErr r (n ≡ o)
     → lookup (nat_eq handle) n.lists ≡ None
 gone (Ok _) o n handle P removed unknown refused = removed.1
 gone (Err e) o n handle P removed unknown refused = ap (λ h. lookup (nat_eq handle) h.lists) refused ∙ unknown.0 refl
@@ -29,7 +31,8 @@ returns c = record {
   gone = gone c.remove.result c.self.inside.items c.remove.new.self c.args.handle _ c.remove.ensures.removed c.remove.ensures.unknown c.remove.ensures.refused;
   room =
       let i = c.self.inside in
-      room_given_back c.remove.result i.items c.remove.new.self i.layout.size i.layout.align i.capacity c.args.handle _ c.self.invariant c.remove.ensures.removed c.remove.ensures.unknown;
+      room_given_back c.remove.result i.items c.remove.new.self i.layout.size i.layout.align i.capacity c.args.handle _ c.self.invariant c.remove.ensures.removed
+      c.remove.ensures.unknown;
   unknown = rw (← c.self.view_is) c.remove.ensures.unknown;
   refused = search rules;
 }

@@ -14,5 +14,6 @@ invariant_of-result c =
     let made = IsObjectPool-new h layout.size layout.align layout.valid c.new.ensures.align c.new.ensures.empty
     (λ len enough. subst (λ m. IsUniform len (aligned_part m) h.state) (sym memory) (c.new.ensures.uniform len (subst (λ m. 64 ≤ (aligned_part m).len) memory enough))) in
     let same : capacity_of (aligned_part h.memory).len layout.size layout.align ≡ c.capacity_of-capacity.result =
-    ap (λ m. capacity_of (aligned_part m).len layout.size layout.align) memory ∙ sym (c.capacity_of-capacity.ensures ∙ ap (λ n. capacity_of n layout.size layout.align) c.pool_len.ensures) in
+    ap (λ m. capacity_of (aligned_part m).len layout.size layout.align) memory
+    ∙ sym (c.capacity_of-capacity.ensures ∙ ap (λ n. capacity_of n layout.size layout.align) c.pool_len.ensures) in
     subst (IsObjectPool h layout.size layout.align) same made

@@ -22,19 +22,23 @@ returns-in_err-addr c = record {
   stored = search rules;
   refused =
       subst (λ (old : StoreContents). IfNone c.from_residual.result (KeepsAll old (store_contents c.allocate.new.self c.self.inside.pool))) c.self.view_is
-      (subst (λ o. IfNone o (KeepsAll (store_contents c.self.inside.heap c.self.inside.pool) (store_contents c.allocate.new.self c.self.inside.pool))) (sym c.from_residual.ensures)
-      (λ places has. HasSame-stored places has (λ all. IsStore-refused c.allocate.new.self _ all c.in_err-addr.ensures.step c.in_err-addr.ensures.same c.in_err-addr.ensures.place)));
+      (subst (λ o. IfNone o (KeepsAll (store_contents c.self.inside.heap c.self.inside.pool) (store_contents c.allocate.new.self c.self.inside.pool)))
+      (sym c.from_residual.ensures)
+      (λ places has. HasSame-stored places has (λ all. IsStore-refused c.allocate.new.self _ all c.in_err-addr.ensures.step c.in_err-addr.ensures.same
+      c.in_err-addr.ensures.place)));
   room =
       let layout = c.args.layout in
       subst (λ (old : StoreContents). KeepsAt old [] → FitsPool (range_of old.heap.memory) layout.size layout.align → IsSome c.from_residual.result) c.self.view_is
       (λ has fits. absurd (empty_has_room c.allocate.new.self layout.size layout.align fits c.in_err-addr.ensures.step (IsStore-none has)));
   enough =
       let layout = c.args.layout in
-      subst (λ (old : StoreContents). (places : List Place) (live size : ℕ) → HasBudgetFor old places live size layout.align → layout.size ≤ size → IsSome c.from_residual.result) c.self.view_is
+      subst (λ (old : StoreContents). (places : List Place) (live size : ℕ) → HasBudgetFor old places live size layout.align → layout.size ≤ size
+      → IsSome c.from_residual.result) c.self.view_is
       (λ places live size budget short. absurd (budget_has_room budget c.allocate.new.self layout.size short c.in_err-addr.ensures.step));
   tiled =
       let layout = c.args.layout in
-      subst (λ (old : StoreContents). (places : List Place) (d : Range) → KeepsAt old places → HasTileFor old.heap.state d layout.size layout.align (length places) → IsSome c.from_residual.result) c.self.view_is
+      subst (λ (old : StoreContents). (places : List Place) (d : Range) → KeepsAt old places → HasTileFor old.heap.state d layout.size layout.align (length places)
+      → IsSome c.from_residual.result) c.self.view_is
       (λ places d (all, store, at) tile.
       let same = subst (HasTileFor c.self.inside.heap.state d layout.size layout.align) (sym (ap length at) ∙ length-map all place_of) tile in
       absurd (tile_has_room store c.allocate.new.self d layout.size layout.align same c.in_err-addr.ensures.step));
@@ -53,13 +57,24 @@ returns c = record {
       let front : List ℕ = replicate layout.size 0 in
       let room : layout.size ≤ length lent = omega (arith, ap length c.payload_mut.ensures.value, c.in_ok-addr.ensures.sized) in
       let zeros : w ≡ replicate (length lent) 0 = c.fill.ensures.after (λ y same. same) in
-      let begins : take (length front) w ≡ front = ap (λ n. take n w) (length-replicate layout.size 0) ∙ ap (take layout.size) zeros ∙ take-replicate layout.size (length lent) 0 room in
-      subst (λ (old : StoreContents). (places : List Place) → KeepsAt old places → HasAmong old (store_contents (written c.allocate.new.self addr (length lent) w) c.self.inside.pool) places [] (place addr layout.align layout.size) front) c.self.view_is
+      let begins : take (length front) w ≡ front = ap (λ n. take n w) (length-replicate layout.size 0) ∙ ap (take layout.size) zeros
+      ∙ take-replicate layout.size (length lent) 0 room in
+      subst (λ (old : StoreContents). (places : List Place) → KeepsAt old places
+      → HasAmong old (store_contents (written c.allocate.new.self addr (length lent) w) c.self.inside.pool) places [] (place addr layout.align layout.size) front)
+      c.self.view_is
       (λ places has. HasAmong-added places addr layout.align front layout.size (length-replicate layout.size 0) has
       (λ before after store.
-      let allocated = IsStore-allocated c.allocate.new.self layout.size layout.align addr layout.valid.aligned before after c.in_ok-addr.ensures.step c.in_ok-addr.ensures.place store in
-      let few : length w < length front + 32 = omega (arith, c.fill.ensures.len, ap length c.payload_mut.ensures.value, c.in_ok-addr.ensures.few, length-replicate {A = ℕ} layout.size 0) in
-      IsStore-filled before after (stored addr layout.align (asked_at c.allocate.new.self addr layout.size)) refl allocated (written c.allocate.new.self addr (length lent) w) w front begins few (c.payload_mut.ensures.meaning w c.fill.ensures.len) (c.payload_mut.ensures.rest w).1));
+      let allocated = IsStore-allocated c.allocate.new.self layout.size layout.align addr layout.valid.aligned before after c.in_ok-addr.ensures.step c.in_ok-addr.ensures.place
+      store in
+      let few : length w < length front + 32 = omega (
+        arith,
+        c.fill.ensures.len,
+        ap length c.payload_mut.ensures.value,
+        c.in_ok-addr.ensures.few,
+        length-replicate {A = ℕ} layout.size 0,
+      ) in
+      IsStore-filled before after (stored addr layout.align (asked_at c.allocate.new.self addr layout.size)) refl allocated
+      (written c.allocate.new.self addr (length lent) w) w front begins few (c.payload_mut.ensures.meaning w c.fill.ensures.len) (c.payload_mut.ensures.rest w).1));
   refused = search rules;
   room = search rules;
   enough = search rules;
@@ -79,9 +94,11 @@ returns c = record {
   place =
       let first = c.in_ok-addr.ensures.place in
       let then = (c.payload_mut.ensures.rest c.fill.new.self).1 in
-      subst (λ (old : StoreContents). SamePlace old.heap.memory (written c.allocate.new.self (non_zero_usize_get c.in_ok-addr.addr) (length c.payload_mut.result.now) c.fill.new.self).memory) c.self.view_is
+      subst (λ (old : StoreContents). SamePlace old.heap.memory
+      (written c.allocate.new.self (non_zero_usize_get c.in_ok-addr.addr) (length c.payload_mut.result.now) c.fill.new.self).memory) c.self.view_is
       (then.0 ∙ first.0, then.1 ∙ first.1, then.2 ∙ first.2, λ none. then.3 (first.3 none));
   touches =
-      subst (λ (old : StoreContents). (written c.allocate.new.self (non_zero_usize_get c.in_ok-addr.addr) (length c.payload_mut.result.now) c.fill.new.self).memory.touches ≤ old.heap.memory.touches + 30) c.self.view_is
+      subst (λ (old : StoreContents). (written c.allocate.new.self (non_zero_usize_get c.in_ok-addr.addr)
+      (length c.payload_mut.result.now) c.fill.new.self).memory.touches ≤ old.heap.memory.touches + 30) c.self.view_is
       (omega (arith, c.in_ok-addr.ensures.touches, (c.payload_mut.ensures.rest c.fill.new.self).3));
 }

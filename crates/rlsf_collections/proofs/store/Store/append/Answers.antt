@@ -1,4 +1,5 @@
-use Rattle.std.proofs.Common.{rules, ◌≡◌, ◌+◌, ◌<◌, ◌≤◌, ◌∷◌, ◌++◌, ℕ, List, length, length-append, take, IsSome, Some, lit<, arith, refl, sym, ◌∙◌, ap, subst}
+use Rattle.std.proofs.Common.{rules, ◌≡◌, ◌+◌, ◌<◌, ◌≤◌, ◌∷◌, ◌++◌, ℕ, List, length, length-append, take, IsSome, Some, lit<, arith, refl, sym}
+use Rattle.std.proofs.Common.{◌∙◌, ap, subst}
 use Rattle.std.specs.Prelude.{IfNone}
 use Rattle.std.specs.Int.NonZero.{non_zero_usize_get}
 use Rattle.rlsf_base.specs.Space.{SamePlace}
@@ -13,7 +14,8 @@ use Rattle.rlsf_collections.proofs.store.Store.append.Goals as goal
 
 pub reallocate-requires : goal.reallocate-requires
 reallocate-requires c =
-    let (before, after, p, has, at, aligned, long) = subst (λ (old : StoreContents). (before after : List Place) × (p : Place) × KeepsAt old (before ++ p ∷ after) × (p.addr ≡ non_zero_usize_get c.args.addr) × (p.align ≡ 1) × (p.len ≡ c.args.len)) (sym c.self.view_is) c.requires in
+    let (before, after, p, has, at, aligned, long) = subst (λ (old : StoreContents). (before after : List Place) × (p : Place) × KeepsAt old (before ++ p ∷ after)
+    × (p.addr ≡ non_zero_usize_get c.args.addr) × (p.align ≡ 1) × (p.len ≡ c.args.len)) (sym c.self.view_is) c.requires in
     let a = among before after p has in
     (lit< tt, live_stored a.front a.back a.here (ap (λ q. q.addr) a.here_at ∙ at) a.is ∙ ap Some (ap (λ q. q.align) a.here_at ∙ aligned ∙ sym c.in-Ok.ensures.layout.1))
 
@@ -22,15 +24,19 @@ returns-in_err-to c = record {
   stored = search rules;
   refused =
       subst (λ (old : StoreContents). IfNone c.from_residual-in_err-to.result (KeepsAll old (store_contents c.reallocate.new.self c.self.inside.pool))) c.self.view_is
-      (subst (λ o. IfNone o (KeepsAll (store_contents c.self.inside.heap c.self.inside.pool) (store_contents c.reallocate.new.self c.self.inside.pool))) (sym c.from_residual-in_err-to.ensures)
+      (subst (λ o. IfNone o (KeepsAll (store_contents c.self.inside.heap c.self.inside.pool) (store_contents c.reallocate.new.self c.self.inside.pool)))
+      (sym c.from_residual-in_err-to.ensures)
       (λ places has. HasSame-stored places has (λ all. IsStore-refused c.reallocate.new.self _ all c.in_err-to.ensures.step c.in_err-to.ensures.same c.in_err-to.ensures.place)));
   enough =
-      let (before, after, p, has, at, aligned, long) = subst (λ (old : StoreContents). (before after : List Place) × (p : Place) × KeepsAt old (before ++ p ∷ after) × (p.addr ≡ non_zero_usize_get c.args.addr) × (p.align ≡ 1) × (p.len ≡ c.args.len)) (sym c.self.view_is) c.requires in
+      let (before, after, p, has, at, aligned, long) = subst (λ (old : StoreContents). (before after : List Place) × (p : Place) × KeepsAt old (before ++ p ∷ after)
+      × (p.addr ≡ non_zero_usize_get c.args.addr) × (p.align ≡ 1) × (p.len ≡ c.args.len)) (sym c.self.view_is) c.requires in
       let a = among before after p has in
       let live_here = live_stored a.front a.back a.here (ap (λ q. q.addr) a.here_at ∙ at) a.is ∙ ap Some (ap (λ q. q.align) a.here_at ∙ aligned) in
       let size_is : c.in-Ok.layout.size ≡ c.args.len + length c.args.more.now = omega (arith, c.in-Ok.ensures.layout.0, c.in_ok-size.ensures) in
-      subst (λ (old : StoreContents). (places : List Place) (live size : ℕ) → HasBudgetFor old places live size 1 → c.args.len + length c.args.more.now ≤ size → IsSome c.from_residual-in_err-to.result) c.self.view_is
-      (λ places live size budget short. absurd (budget_has_room_again budget c.reallocate.new.self (non_zero_usize_get c.args.addr) c.in-Ok.layout.size live_here (omega (arith, short, size_is)) c.in_err-to.ensures.step));
+      subst (λ (old : StoreContents). (places : List Place) (live size : ℕ) → HasBudgetFor old places live size 1 → c.args.len + length c.args.more.now ≤ size
+      → IsSome c.from_residual-in_err-to.result) c.self.view_is
+      (λ places live size budget short. absurd (budget_has_room_again budget c.reallocate.new.self (non_zero_usize_get c.args.addr) c.in-Ok.layout.size live_here
+      (omega (arith, short, size_is)) c.in_err-to.ensures.step));
   place = search rules;
   touches = search rules;
 }
@@ -43,9 +49,12 @@ returns c = record {
       let more = c.args.more.now in
       let lent = c.payload_mut.result.now in
       let w = c.write_at.new.payload in
-      subst (λ (old : StoreContents). (before after : List Place) (p : Place) → KeepsAt old (before ++ p ∷ after) → p.addr ≡ non_zero_usize_get c.args.addr → p.align ≡ 1 → p.len ≡ c.args.len
-      → HasAmong old (store_contents (written c.reallocate.new.self to (length lent) w) c.self.inside.pool) before after (place to 1 (c.args.len + length more)) (bytes_at_place old.heap.memory p ++ more)) c.self.view_is
-      (λ before after p has at one p_len. HasAmong-changed before after p (place to 1 (c.args.len + length more)) (bytes_at_place c.self.inside.heap.memory p ++ more) has (λ front back k store there are.
+      subst (λ (old : StoreContents). (before after : List Place) (p : Place) → KeepsAt old (before ++ p ∷ after) → p.addr ≡ non_zero_usize_get c.args.addr
+      → p.align ≡ 1 → p.len ≡ c.args.len
+      → HasAmong old (store_contents (written c.reallocate.new.self to (length lent) w) c.self.inside.pool) before after (place to 1 (c.args.len + length more))
+      (bytes_at_place old.heap.memory p ++ more)) c.self.view_is
+      (λ before after p has at one p_len. HasAmong-changed before after p (place to 1 (c.args.len + length more)) (bytes_at_place c.self.inside.heap.memory p ++ more) has
+      (λ front back k store there are.
       let aligned = ap (λ q. q.align) there ∙ one in
       let long : length k.bytes ≡ c.args.len = ap (λ q. q.len) there ∙ p_len in
       let room : length k.bytes ≤ layout.size = omega (arith, long, c.in-Ok.ensures.layout.0, c.in_ok-size.ensures) in
@@ -59,17 +68,20 @@ returns c = record {
       let new_len : length (k.bytes ++ more) ≡ c.args.len + length more = length-append k.bytes more ∙ ap (λ n. n + length more) long in
       let few : length w < length (k.bytes ++ more) + 32 =
       omega (arith, c.write_at.ensures.len, ap length c.payload_mut.ensures.value, c.in_ok-to.ensures.few, c.in-Ok.ensures.layout.0, c.in_ok-size.ensures, new_len) in
-      let stores = IsStore-filled front back moved refl resized (written c.reallocate.new.self to (length lent) w) w (k.bytes ++ more) writes few (c.payload_mut.ensures.meaning w c.write_at.ensures.len) (c.payload_mut.ensures.rest w).1 in
+      let stores = IsStore-filled front back moved refl resized (written c.reallocate.new.self to (length lent) w) w (k.bytes ++ more) writes few
+      (c.payload_mut.ensures.meaning w c.write_at.ensures.len) (c.payload_mut.ensures.rest w).1 in
       (stored to k.align (k.bytes ++ more), stores, ap (λ n. place to n (length (k.bytes ++ more))) aligned ∙ ap (place to 1) new_len, ap (λ bs. bs ++ more) are)));
   refused = search rules;
   enough = search rules;
   place =
       let first = c.in_ok-to.ensures.place in
       let then = (c.payload_mut.ensures.rest c.write_at.new.payload).1 in
-      subst (λ (old : StoreContents). SamePlace old.heap.memory (written c.reallocate.new.self (non_zero_usize_get c.in_ok-to.to) (length c.payload_mut.result.now) c.write_at.new.payload).memory) c.self.view_is
+      subst (λ (old : StoreContents). SamePlace old.heap.memory
+      (written c.reallocate.new.self (non_zero_usize_get c.in_ok-to.to) (length c.payload_mut.result.now) c.write_at.new.payload).memory) c.self.view_is
       (then.0 ∙ first.0, then.1 ∙ first.1, then.2 ∙ first.2, λ none. then.3 (first.3 none));
   touches =
-      subst (λ (old : StoreContents). (written c.reallocate.new.self (non_zero_usize_get c.in_ok-to.to) (length c.payload_mut.result.now) c.write_at.new.payload).memory.touches ≤ old.heap.memory.touches + 69) c.self.view_is
+      subst (λ (old : StoreContents). (written c.reallocate.new.self (non_zero_usize_get c.in_ok-to.to)
+      (length c.payload_mut.result.now) c.write_at.new.payload).memory.touches ≤ old.heap.memory.touches + 69) c.self.view_is
       (omega (arith, c.in_ok-to.ensures.touches, (c.payload_mut.ensures.rest c.write_at.new.payload).3));
 }
 

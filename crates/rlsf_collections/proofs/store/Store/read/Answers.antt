@@ -21,7 +21,8 @@ payload-requires c =
     (lit< tt, subst IsSome (sym (live_stored a.front a.back a.here (ap (λ q. q.addr) a.here_at ∙ at) a.is)) refl)
 
 -- the payload begins with the bytes that are kept there
-front : (c : goal.After-payload) → (c.args.len ≤ length c.payload.result.now) × (take c.args.len c.payload.result.now ≡ bytes_in c.self.inside.heap.memory (range_at (non_zero_usize_get c.args.addr) c.args.len))
+front : (c : goal.After-payload) → (c.args.len ≤ length c.payload.result.now)
+    × (take c.args.len c.payload.result.now ≡ bytes_in c.self.inside.heap.memory (range_at (non_zero_usize_get c.args.addr) c.args.len))
 front c =
     let (before, after, p, has, at, long) = subst (λ (now : StoreContents). HasHere now (non_zero_usize_get c.args.addr) c.args.len) (sym c.self.view_is) c.requires in
     let a = among before after p has in
@@ -29,7 +30,8 @@ front c =
     let lent = c.payload.result.now in
     let front : take (length a.here.bytes) lent ≡ a.here.bytes = ap (take (length a.here.bytes)) c.payload.ensures ∙ begins in
     let is : length a.here.bytes ≡ c.args.len = ap (λ q. q.len) a.here_at ∙ long in
-    let there : bytes_at_place c.self.inside.heap.memory p ≡ bytes_in c.self.inside.heap.memory (range_at (non_zero_usize_get c.args.addr) c.args.len) = ap₂ (λ addr len. bytes_in c.self.inside.heap.memory (range_at addr len)) at long in (
+    let there : bytes_at_place c.self.inside.heap.memory p ≡ bytes_in c.self.inside.heap.memory (range_at (non_zero_usize_get c.args.addr) c.args.len) =
+    ap₂ (λ addr len. bytes_in c.self.inside.heap.memory (range_at addr len)) at long in (
       omega (arith, front-le a.here.bytes lent front, is),
       ap (λ n. take n lent) (sym is) ∙ front ∙ here_bytes a ∙ there,
     )

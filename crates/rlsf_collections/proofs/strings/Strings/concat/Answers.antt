@@ -7,4 +7,5 @@ use Rattle.rlsf_collections.proofs.strings.Strings.concat.Goals as goal
 pub returns-clause-enough : goal.returns-clause-enough
 returns-clause-enough c = λ count longest few short refused.
     let items = c.self.inside.items in
-    c.add.ensures.enough count longest (HasBudgetOf-strings items items.next count longest c.self.invariant (subst (λ t. AreFewStrings t count longest) (sym c.self.view_is) few)) (grind (arith, common_steps)) refused
+    c.add.ensures.enough count longest (HasBudgetOf-strings items items.next count longest c.self.invariant
+    (subst (λ t. AreFewStrings t count longest) (sym c.self.view_is) few)) (grind (arith, common_steps)) refused

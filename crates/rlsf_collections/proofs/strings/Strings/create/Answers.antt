@@ -6,4 +6,5 @@ use Rattle.rlsf_collections.proofs.strings.Strings.create.Goals as goal
 pub returns-clause-enough : goal.returns-clause-enough
 returns-clause-enough c = λ count longest few refused.
     let items = c.self.inside.items in
-    c.add.ensures.enough count longest (HasBudgetOf-strings items items.next count longest c.self.invariant (subst (λ t. AreFewStrings t count longest) (sym c.self.view_is) few)) (omega arith) refused
+    c.add.ensures.enough count longest (HasBudgetOf-strings items items.next count longest c.self.invariant
+    (subst (λ t. AreFewStrings t count longest) (sym c.self.view_is) few)) (omega arith) refused
