@@ -2,12 +2,12 @@
 
 use std::process::Abort;
 
-/// Passes where the answer is true. A number of the case, as its index or its length, helps to find it.
+/// Passes if the answer is true. A number of the case, as its index or its length, helps to find it.
 pub(crate) fn passes(rt: &impl Abort, answer: bool, case: usize) {
     assert!(rt; answer, "the case of {case}");
 }
 
-/// Passes where all are true.
+/// Passes if all are true.
 pub(crate) fn all(rt: &impl Abort, answers: &[bool]) {
     for (index, answer) in answers.iter().enumerate() {
         passes(rt, *answer, index);

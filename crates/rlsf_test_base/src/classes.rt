@@ -29,7 +29,7 @@ fn row<F: BitPattern, S: BitPattern, const FLLEN: usize, const SLLEN: usize>(siz
     )
 }
 
-/// Passes where what is computed of each size is what stands beside it.
+/// Passes if what is computed of each size is the expected value beside it.
 fn are<F: BitPattern, S: BitPattern, const FLLEN: usize, const SLLEN: usize>(
     rt: &impl Abort,
     rows: &[(usize, Row)],
@@ -206,8 +206,8 @@ fn chunk_laws_hold<F: BitPattern, S: BitPattern, const FLLEN: usize, const SLLEN
     }
 }
 
-/// Whether the laws hold of all sizes up to `2^14`, of ten around each power of two from there on, and of the longest
-/// chunk; and whether the lengths of pools that are computed for one allocation are enough.
+/// Whether the laws hold of all sizes up to `2^14`, of ten around each greater power of two, and of the longest chunk. The lengths
+/// of pools that are computed for one allocation have to be enough, too.
 fn all_laws_hold<
     FLBitmap: BitPattern,
     SLBitmap: BitPattern,

@@ -21,7 +21,7 @@ fn empty<F: BinInteger>() -> F
     F::ZERO
 }
 
-/// Moves the first one from `start` on to the position `to`, and answers where it stood.
+/// Moves the first one from `start` on to the position `to`, and returns its old position.
 fn move_first<F: BinInteger>(map: &mut F, start: u32, to: u32) -> Option<u32>
     requires { to < F.BITS }
     ensures from { IfSome result (λ k. (start ≤ k) × (k < F.BITS) × (bit (F.pattern map.old) k ≡ true)) }

@@ -1,5 +1,7 @@
-//! Tests of `rlsf_int` and `rlsf_base`: of bitmaps, size classes and computed lengths of pools, layouts and memories. This crate has no
-//! other code, so that these two are proved once.
+//! Tests of `rlsf_int` and `rlsf_base`. This crate has no other code, so that these two are proved once.
+//!
+//! `integers.rt` tests bitmaps, `classes.rt` size classes, and `pools.rt` computed lengths of pools. `layouts.rt` tests layouts,
+//! and `memory.rt` and `open_memory.rt` memories. `answers.rt` has results that several tests compare.
 #![tactic(auto)]
 
 #[cfg(test)]

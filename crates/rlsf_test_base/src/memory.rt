@@ -68,7 +68,7 @@ fn copied(memory: &mut Memory, range: Range, to: usize) -> bool {
     is_inside
 }
 
-/// Fills a range that is lent, if the memory has it, and tells whether the range is as long as was asked.
+/// Fills a lent range, if the memory has it, and returns whether the range has the requested length.
 fn filled(memory: &mut Memory, range: Range, byte: u8) -> bool {
     if !has(memory, range) {
         return false;
@@ -100,7 +100,7 @@ fn is_right(memory: &mut Memory, step: Step) -> bool {
     }
 }
 
-/// The index of the first step that the memory answers otherwise.
+/// The index of the first step with a wrong result.
 fn first_wrong(memory: &mut Memory, steps: &[Step]) -> Option<usize> {
     for (index, step) in steps.iter().enumerate() {
         if !is_right(memory, *step) {
@@ -110,7 +110,7 @@ fn first_wrong(memory: &mut Memory, steps: &[Step]) -> Option<usize> {
     None
 }
 
-/// Whether a memory that was made so has this start and length, and answers each step so.
+/// Whether a new memory has this start and length, and each step has its expected result.
 fn goes_so(alloc: Global, start: usize, len: usize, steps: &[Step]) -> bool {
     let Ok(mut memory) = Memory::new(alloc, start, len) else {
         return false;
@@ -279,14 +279,14 @@ fn first_number(text: &str) -> Option<usize> {
     word.parse().ok()
 }
 
-/// How many bytes of addresses the process has, by the pages that the system tells.
+/// How many bytes of addresses the process has, by the pages that the system reports.
 fn mapped(rt: &(impl Files + AllocGlobal)) -> Option<usize> {
     let sizes = fs::read_to_string(rt, "/proc/self/statm").ok()?;
     let pages = first_number(&sizes)?;
     Some(pages.saturating_mul(4096))
 }
 
-// They are 6400 MiB together, so a process that stays below 2 GiB more than before has given them back.
+// They are 6400 MiB together, so a process that stays below 2 GiB more than before has freed them.
 #[test]
 fn dropped_memories_are_given_back(rt: HostRuntime) {
     let steps = [Step::SetWord(4096, 1), Step::Word(4096, 1)];
@@ -337,7 +337,7 @@ fn block_keeps_its_bytes(first: Global, second: Global, len: usize) -> bool
     before == None && is_told && is_placed && first_wrong(&mut moved, MOVED) == None
 }
 
-// The block has 96 MiB, so a process that has 64 MiB more than before hasn't given it back.
+// The block has 96 MiB, so a process that has 64 MiB more than before hasn't freed it.
 #[test]
 fn dropped_memory_leaves_the_block_of_its_caller(rt: HostRuntime) {
     let before = mapped(&rt).expect(&rt, "a number");

@@ -48,8 +48,8 @@ fn is_long_enough<
     }
 }
 
-/// Whether each computed length is enough for its layout: of sizes beside each power of two from 16 to `2^18`, at alignments from
-/// 16 to 256. For one byte the length is 64 in every shape.
+/// Whether each computed length is enough for its layout. The sizes are those beside each power of two from 16 to `2^18`, at
+/// alignments from 16 to 256. For one byte the length is 64 in every shape.
 pub(crate) fn are_long_enough<
     FLBitmap: BitPattern,
     SLBitmap: BitPattern,

@@ -16,14 +16,16 @@ use Rattle.rlsf_machine.proofs.Coverage.{covers-behind}
 use Rattle.rlsf_machine.proofs.Chunks.{used-inserted}
 use Rattle.rlsf_machine.proofs.Cuts.{chunks_are_cut_off_the_front, max_pool-cases}
 
--- a whole range that is one chunk, inserted first
-pub chunks-inserted : (fllen : ℕ) (r : Range) (reply : Option ℕ) (t : State) → r.start % 32 ≡ 0 → r.len % 32 ≡ 0 → cut (max_pool_size fllen) r ≡ r ∷ [] → Inserts fllen empty r reply t → t.chunks ≡ r ∷ []
+-- a complete range that is one chunk, inserted first
+pub chunks-inserted : (fllen : ℕ) (r : Range) (reply : Option ℕ) (t : State) → r.start % 32 ≡ 0 → r.len % 32 ≡ 0 → cut (max_pool_size fllen) r ≡ r ∷ []
+    → Inserts fllen empty r reply t → t.chunks ≡ r ∷ []
 chunks-inserted fllen r reply t start len one step =
     let part : aligned_part r ≡ r = ap₂ range_at (omega arith) (omega arith) in
     ap (λ x. x.chunks) (step.after ∙ ap (λ p. with_chunks (cut (max_pool_size fllen) p) empty) part ∙ ap (λ cs. with_chunks cs empty) one)
 
--- the same, of an allocator in the empty state
-pub chunks-first : (fllen sllen : ℕ) (before after : Allocator) (r : Range) → before.state ≡ empty → r.start % 32 ≡ 0 → r.len % 32 ≡ 0 → cut (max_pool_size fllen) r ≡ r ∷ []
+-- as above, for an allocator in the empty state
+pub chunks-first : (fllen sllen : ℕ) (before after : Allocator) (r : Range) → before.state ≡ empty → r.start % 32 ≡ 0 → r.len % 32 ≡ 0
+    → cut (max_pool_size fllen) r ≡ r ∷ []
     → Steps fllen sllen before after (λ t. (taken : Option ℕ) × Inserts fllen before.state r taken t) → after.state.chunks ≡ r ∷ []
 chunks-first fllen sllen before after r new start len one step =
     let (taken, inserts) = (opened fllen sllen before after (λ t. (taken : Option ℕ) × Inserts fllen before.state r taken t) step).0 in
@@ -51,11 +53,12 @@ Appends-few fllen s r reply t rows few step =
     ]
 
 -- an allocator that was in the empty state has no payload once a range was inserted
-pub used-first : (fllen sllen : ℕ) (before after : Allocator) (r : Range) → before.state ≡ empty → Steps fllen sllen before after (λ t. (taken : Option ℕ) × Inserts fllen before.state r taken t) → after.state.used ≡ []
+pub used-first : (fllen sllen : ℕ) (before after : Allocator) (r : Range) → before.state ≡ empty
+    → Steps fllen sllen before after (λ t. (taken : Option ℕ) × Inserts fllen before.state r taken t) → after.state.used ≡ []
 used-first fllen sllen before after r new step =
     let (taken, inserts) = (opened fllen sllen before after (λ t. (taken : Option ℕ) × Inserts fllen before.state r taken t) step).0 in
     used-inserted fllen before.state after.state r taken inserts ∙ ap (λ (s : State). s.used) new
 
--- the one chunk is a row
+-- the one chunk is contiguous
 pub IsRow-one : (s : State) (c : Range) → s.chunks ≡ c ∷ [] → IsRow s c
 IsRow-one s c one a from to = (c, subst (λ cs. IsIn c cs) (sym one) (inl refl), omega arith, from, to, omega arith)

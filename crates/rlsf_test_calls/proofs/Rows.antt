@@ -1,4 +1,4 @@
--- The row of chunks that a pool becomes.
+-- The contiguous chunks that a pool becomes.
 use Rattle.std.proofs.Common.{◌≡◌, ℕ, ◌+◌, Option, Some, None, IfSome, subst}
 use Rattle.rlsf_base.specs.declared.memory.range.Range.{Range}
 use Rattle.rlsf_base.specs.Rounding.{round32}
@@ -19,10 +19,13 @@ TakesRow-inserts fllen s t r taken step = go (bytes_taken r.start (cut (max_pool
     go (Some len) e = IsRow-inserted fllen s t r len (subst (λ o. Inserts fllen s r o t) e step)
 
 -- an insert, whether its caller asks how many bytes were taken or not
-pub TakesRow-asked : (fllen sllen : ℕ) (before after : Allocator) (r : Range) (taken : Option ℕ) → Steps fllen sllen before after (Inserts fllen before.state r taken) → TakesRow fllen r after.state
-TakesRow-asked fllen sllen before after r taken step = TakesRow-inserts fllen before.state after.state r taken (opened fllen sllen before after (Inserts fllen before.state r taken) step).0
+pub TakesRow-asked : (fllen sllen : ℕ) (before after : Allocator) (r : Range) (taken : Option ℕ) → Steps fllen sllen before after (Inserts fllen before.state r taken)
+    → TakesRow fllen r after.state
+TakesRow-asked fllen sllen before after r taken step =
+    TakesRow-inserts fllen before.state after.state r taken (opened fllen sllen before after (Inserts fllen before.state r taken) step).0
 
-pub TakesRow-unasked : (fllen sllen : ℕ) (before after : Allocator) (r : Range) → Steps fllen sllen before after (λ t. (taken : Option ℕ) × Inserts fllen before.state r taken t) → TakesRow fllen r after.state
+pub TakesRow-unasked : (fllen sllen : ℕ) (before after : Allocator) (r : Range)
+    → Steps fllen sllen before after (λ t. (taken : Option ℕ) × Inserts fllen before.state r taken t) → TakesRow fllen r after.state
 TakesRow-unasked fllen sllen before after r step =
     let did = (opened fllen sllen before after (λ t. (taken : Option ℕ) × Inserts fllen before.state r taken t) step).0 in
     TakesRow-inserts fllen before.state after.state r did.0 did.1

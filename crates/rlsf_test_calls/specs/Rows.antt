@@ -1,4 +1,4 @@
--- The row of chunks that a pool becomes.
+-- The contiguous chunks that a pool becomes.
 use Rattle.std.specs.Prelude.{ℕ, ◌+◌, IfSome}
 use Rattle.rlsf_base.specs.declared.memory.range.Range.{Range}
 use Rattle.rlsf_base.specs.Rounding.{round32}
@@ -7,6 +7,6 @@ use Rattle.rlsf_machine.specs.ChunkRows.{IsRow}
 use Rattle.rlsf_machine.specs.Insert.{aligned_part, bytes_taken, cut}
 use Rattle.rlsf_machine.specs.State.{State, between}
 
--- the bytes that are taken of a range, from the first multiple of 32 on, are a row of chunks
+-- the bytes that an insert uses of a range, from the first multiple of 32 on, are contiguous chunks
 abbrev pub TakesRow : ℕ → Range → State → Type 0
 TakesRow fllen r s = IfSome (bytes_taken r.start (cut (max_pool_size fllen) (aligned_part r))) (λ taken. IsRow s (between (round32 r.start) (r.start + taken)))

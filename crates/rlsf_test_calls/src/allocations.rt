@@ -1,4 +1,4 @@
-//! What is inserted, which addresses are allocated, and the words that stand then.
+//! Ranges that are inserted, the addresses that are allocated, and the words in the memory then.
 
 ghost use Rattle.std.specs.Prelude.{◌≡◌, ◌≢◌, IfSome};
 ghost use Rattle.rlsf_base.specs.Addr.{at};
@@ -79,7 +79,7 @@ static WORDS: [(usize, u64); 8] = [
     (4168, 4128),
 ];
 
-/// The index of the first address at which another word stands.
+/// The index of the first address that has another word.
 fn first_other(memory: &Memory, words: &[(usize, u64)]) -> Option<usize> {
     for (index, (addr, word)) in words.iter().enumerate() {
         if word_at(memory, *addr) != Some(*word) {
@@ -102,7 +102,7 @@ fn words_of_a_pool(rt: HostRuntime) {
     none_is_wrong(&rt, first_other(&tlsf.into_memory(), &WORDS));
 }
 
-/// Allocates two payloads. What the clauses of the calls say is enough to give either back, in any order.
+/// Allocates two payloads. The clauses of the calls are enough to deallocate either, in any order.
 fn two(tlsf: &mut Small, first: Layout, second: Layout) -> Option<(Addr, Addr)>
     ensures first { IfSome result (λ r. align_at tlsf.new.state (at r.0) ≡ Some first.align) }
     ensures second { IfSome result (λ r. align_at tlsf.new.state (at r.1) ≡ Some second.align) }

@@ -1,4 +1,4 @@
-//! Ranges appended behind a pool: what is taken, which addresses are allocated then, and the words that stand.
+//! Ranges appended behind a pool: how many bytes are used, which addresses are allocated then, and the words in the memory.
 
 ghost use Rattle.std.specs.Prelude.{◌≡◌, ◌≤◌, length};
 ghost use Rattle.rlsf_machine.specs.State.{empty};
@@ -8,8 +8,8 @@ use rlsf::int::BitPattern;
 use rlsf::{Layout, Range, Tlsf};
 use std::process::Abort;
 
-/// One chunk of the first `pool` of 4096 bytes from the address 4096 on, a payload of `size` bytes that is asked for, and a
-/// range of `few` and one of `many` bytes that are appended behind the chunk. Then the payload is asked for again.
+/// One chunk of the first `pool` of 4096 bytes from the address 4096 on. First a payload of `size` bytes is requested. Then a range
+/// of `few` and one of `many` bytes are appended behind the chunk, and the payload is requested again.
 #[derive(Clone, Copy)]
 struct Case {
     pool: usize,
@@ -18,12 +18,12 @@ struct Case {
     many: usize,
     /// The address of the first payload, or 0, the bytes taken of the two ranges, and the address of the second payload, or 0.
     answers: [usize; 4],
-    /// The words that stand then, and in some cases a third payload.
+    /// The words in the memory then, and in some cases a third payload.
     then: &'static [Step],
 }
 
-/// Makes the chunk of a case, asks for the payload, appends the ranges and asks again. Answers the payload's address, or 0, the
-/// bytes taken of the ranges, and the second payload's address, or 0.
+/// Makes the chunk of a case, requests the payload, appends the ranges and requests it again. Returns the payload's address, or 0,
+/// the bytes used of the ranges, and the second payload's address, or 0.
 fn appended<FLBitmap: BitPattern, SLBitmap: BitPattern, const FLLEN: usize>(
     tlsf: &mut Tlsf<FLBitmap, SLBitmap, FLLEN, 8>,
     case: Case,
@@ -39,7 +39,7 @@ fn appended<FLBitmap: BitPattern, SLBitmap: BitPattern, const FLLEN: usize>(
         many,
         ..
     } = case;
-    // No whole chunk, or too many bytes.
+    // No complete chunk, or too many bytes.
     if pool % 32 != 0 || pool < 64 || pool > 2048 || few >= 32 || many > 2048 {
         return None;
     }
@@ -55,7 +55,7 @@ fn appended<FLBitmap: BitPattern, SLBitmap: BitPattern, const FLLEN: usize>(
     Some([before, less, more, after])
 }
 
-/// Passes where a case goes as it has to in an allocator that has no pool yet.
+/// Passes if a case has its expected results in an allocator that has no pool yet.
 fn goes_so<FLBitmap: BitPattern, SLBitmap: BitPattern, const FLLEN: usize>(
     rt: &impl Abort,
     tlsf: &mut Tlsf<FLBitmap, SLBitmap, FLLEN, 8>,

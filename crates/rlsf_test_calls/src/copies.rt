@@ -23,7 +23,7 @@ fn left(tlsf: &mut Small, layout: Layout, bytes: &[u8]) -> Option<Addr>
     Some(addr)
 }
 
-/// Allocates two payloads, leaves bytes in both, and copies the first `len` bytes of the one over those of the other. Answers
+/// Allocates two payloads, leaves bytes in both, and copies the first `len` bytes of the one over those of the other. Returns
 /// where they lie, or 0 where the one doesn't have what was left there, or the other not what is expected.
 fn copied(
     tlsf: &mut Small,
@@ -43,7 +43,7 @@ fn copied(
     ])
 }
 
-/// Allocates a payload, leaves bytes in it, and copies its first `len` bytes over themselves. Answers whether it has what was
+/// Allocates a payload, leaves bytes in it, and copies its first `len` bytes over themselves. Returns whether it has what was
 /// left there.
 fn copied_onto_itself(tlsf: &mut Small, layout: Layout, bytes: &[u8], len: usize) -> Option<bool>
     requires { len ≤ layout.size }
@@ -53,8 +53,8 @@ fn copied_onto_itself(tlsf: &mut Small, layout: Layout, bytes: &[u8], len: usize
     Some(tlsf.payload(addr) == bytes)
 }
 
-/// Makes one chunk of the first 256 of 288 bytes from the address 4096 on, and sets a word in the last 16 bytes of its
-/// sentinel or behind it.
+/// Makes one chunk of the first 256 of 288 bytes from the address 4096 on. Then sets a word in the last 16 bytes of its sentinel or
+/// behind it.
 fn with_spare_word(rt: &(impl Abort + AllocGlobal), addr: usize, word: u64) -> Small
     requires { (addr % 8 ≡ 0) × (4336 ≤ addr) × (addr + 8 ≤ 4384) }
 {
@@ -67,7 +67,7 @@ fn with_spare_word(rt: &(impl Abort + AllocGlobal), addr: usize, word: u64) -> S
     tlsf
 }
 
-/// How many bytes are copied over `abcdefghijklmnop`, and what stands there then.
+/// How many bytes are copied over `abcdefghijklmnop`, and the result.
 static COPIES: [(usize, &[u8]); 2] = [(10, b"ABCDEFGHIJklmnop"), (0, b"abcdefghijklmnop")];
 
 #[test]
@@ -92,7 +92,7 @@ fn word_in_a_sentinel(rt: HostRuntime) {
         Step::Word(4344, 77),
         Step::Word(4320, 35),
         Step::Word(4328, 4096),
-        // The whole pool is free, and the word stays when it is allocated.
+        // The complete pool is free, and the word stays when it is allocated.
         Step::Allocate(208, 1, 4112),
         Step::Word(4336, 0),
         Step::Word(4344, 77),

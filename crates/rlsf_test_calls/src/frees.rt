@@ -1,4 +1,4 @@
-//! Payloads given back: which addresses are allocated then, and the words that stand.
+//! Deallocated payloads: which addresses are allocated then, and the words in the memory.
 
 ghost use Rattle.std.specs.Prelude.{◌≡◌, ◌≢◌, ℕ, IfSome};
 ghost use Rattle.rlsf_base.specs.Addr.{at};
@@ -8,14 +8,14 @@ use super::pools::{Step, are, inserts, layout_of, takes_steps, wide, with_pool};
 use rlsf::int::BitPattern;
 use rlsf::{Addr, Layout, Tlsf};
 
-/// When the first one of two payloads is given back.
+/// When the first one of two payloads is deallocated.
 #[derive(Clone, Copy)]
 enum Order {
     FirstFirst,
     FirstLast,
 }
 
-/// Allocates a payload, if there is room. What was live stays live. Answers its address, or 0.
+/// Allocates a payload, if there is room. What was live stays live. Returns its address, or 0.
 fn third<Bits: BitPattern, const FLLEN: usize, const SLLEN: usize>(
     tlsf: &mut Tlsf<Bits, Bits, FLLEN, SLLEN>,
     layout: Layout,
@@ -28,7 +28,7 @@ fn third<Bits: BitPattern, const FLLEN: usize, const SLLEN: usize>(
     }
 }
 
-/// Allocates two payloads for a layout, and asks for a third for another layout. Answers the two, and the third's address, or 0.
+/// Allocates two payloads for a layout, and requests a third for another layout. Returns the two, and the third's address, or 0.
 fn two_taken<Bits: BitPattern, const FLLEN: usize, const SLLEN: usize>(
     tlsf: &mut Tlsf<Bits, Bits, FLLEN, SLLEN>,
     layout: Layout,
@@ -47,8 +47,7 @@ fn two_taken<Bits: BitPattern, const FLLEN: usize, const SLLEN: usize>(
     Some(((first, second), third(tlsf, other)))
 }
 
-/// Allocates two payloads for a layout, asks for a third for another layout, and gives the two back. Answers the three
-/// addresses.
+/// Allocates two payloads for a layout, requests a third for another layout, and deallocates the two. Returns the three addresses.
 fn two_freed<Bits: BitPattern, const FLLEN: usize, const SLLEN: usize>(
     tlsf: &mut Tlsf<Bits, Bits, FLLEN, SLLEN>,
     layout: Layout,

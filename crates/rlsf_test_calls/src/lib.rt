@@ -1,6 +1,9 @@
-//! Tests of `rlsf` by calls: what becomes of pools, as addresses, words and walks tell it, and what payloads hold, when they are
-//! lent, copied or get another size; how long pools have to be; and what the calls of a `CheckedTlsf` and of the libraries of
-//! `rlsf_collections` answer. This crate has no other code, so that these three and the crates below them are proved once.
+//! Tests of `rlsf` by calls, and of `rlsf_checked`, `rlsf_collections` and `rlsf_example_callers`. This crate has no other code, so
+//! that these and the crates below them are proved once.
+//!
+//! `pools.rt` has steps as tables, which most files use. `allocations.rt`, `frees.rt`, `reallocations.rt`, `appends.rt`,
+//! `removals.rt` and `tables.rt` test the calls. `walks.rt` tests the iteration over blocks, and `loans.rt` and `copies.rt` bytes.
+//! `sizes.rt` tests computed lengths of pools. `checked.rt`, `collections.rt` and `callers.rt` test the other crates.
 #![tactic(auto)]
 
 #[cfg(test)]

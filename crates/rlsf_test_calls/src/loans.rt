@@ -9,7 +9,7 @@ use super::pools::{Small, Wide, are, layout_of, wide, with_pool};
 use rlsf::int::BitPattern;
 use rlsf::{Addr, Layout, Tlsf};
 
-/// Allocates a payload, fills it with a byte, reads it at an offset, and gives it back. Answers what was read.
+/// Allocates a payload, fills it with a byte, reads it at an offset, and deallocates it. Returns what was read.
 fn filled(tlsf: &mut Small, layout: Layout, byte: u8, offset: usize) -> Option<u8>
     requires { offset < layout.size }
     ensures { IfSome result (λ read. read ≡ byte) }
@@ -65,7 +65,7 @@ fn front_word(bytes: &[u8]) -> Option<u64> {
         .map(|front| u64::from_le_bytes(*front))
 }
 
-/// Where two payloads lie, in whose fronts words were left one after the other, and the words that stand there then.
+/// The addresses of two payloads, whose first words were written one after the other, and the words that are there then.
 fn words(
     tlsf: &mut Wide,
     layout: Layout,
@@ -124,7 +124,7 @@ fn filled_reads_back(rt: HostRuntime) {
     let layout = layout_of(&rt, 100, 1);
     let mut tlsf = with_pool(&rt, 256);
     let first = filled(&mut tlsf, layout, 7, 99);
-    // It was given back: else there would be no room for another.
+    // It was deallocated: else there would be no room for another.
     let second = filled(&mut tlsf, layout, 8, 0);
     are(&rt, &numbers(first, second), &[7, 8]);
 }

@@ -1,4 +1,4 @@
-//! Allocators with their pools, what they answer as numbers, and the words of their memories.
+//! Allocators with their pools, their results as numbers, and the words of their memories.
 
 ghost use Rattle.std.specs.Prelude.{◌≡◌, ◌+◌, ◌≤◌, replicate};
 ghost use Rattle.rlsf_base.specs.Range.{LiesIn, range_at};
@@ -32,22 +32,22 @@ pub(crate) fn zeros(rt: &(impl Abort + AllocGlobal), start: usize, len: usize) -
     Memory::new(rt.alloc(), start, len).expect(rt, "memory")
 }
 
-/// Passes where the answers are the expected ones.
+/// Passes if the answers are the expected ones.
 pub(crate) fn are(rt: &impl Abort, answers: &[usize], expected: &[usize]) {
     assert_eq!(rt; answers, expected);
 }
 
-/// Passes where no step was answered otherwise than it has to be.
+/// Passes if no step has another result than expected.
 pub(crate) fn none_is_wrong(rt: &impl Abort, wrong: Option<usize>) {
     assert_eq!(rt; wrong, None);
 }
 
-/// A step of a test, and what it answers.
+/// A step of a test, and its expected result.
 #[derive(Clone, Copy)]
 pub(crate) enum Step {
     /// Allocates for a size and an alignment: the payload's address, or 0.
     Allocate(usize, usize, usize),
-    /// The same, and gives the payload back.
+    /// As above, and deallocates the payload.
     GiveBack(usize, usize, usize),
     /// Reads the word at an address.
     Word(usize, u64),
@@ -82,7 +82,7 @@ pub(crate) fn with_pool(rt: &(impl Abort + AllocGlobal), len: usize) -> Small
     tlsf
 }
 
-/// The same, in the wide shape.
+/// As above, in the wide shape.
 pub(crate) fn wide(rt: &(impl Abort + AllocGlobal), len: usize) -> Wide
     ensures { TakesRow 12 (range_at 4096 len) result.state }
 {
@@ -96,7 +96,7 @@ pub(crate) fn number(addr: Option<Addr>) -> usize {
     addr.map_or(0, NonZeroUsize::get)
 }
 
-/// The address that is allocated for a layout, or 0; or 1, if there is no such layout. The payload is given back, unless it is to
+/// The address that is allocated for a layout, or 0; or 1, if there is no such layout. The payload is deallocated, unless it is to
 /// stay.
 fn asked<FLBitmap: BitPattern, SLBitmap: BitPattern, const FLLEN: usize, const SLLEN: usize>(
     tlsf: &mut Tlsf<FLBitmap, SLBitmap, FLLEN, SLLEN>,
@@ -128,7 +128,7 @@ pub(crate) fn word_at(memory: &Memory, addr: usize) -> Option<u64> {
     }
 }
 
-/// Whether a step answers what is expected.
+/// Whether a step has its expected result.
 fn goes_so<FLBitmap: BitPattern, SLBitmap: BitPattern, const FLLEN: usize, const SLLEN: usize>(
     tlsf: &mut Tlsf<FLBitmap, SLBitmap, FLLEN, SLLEN>,
     step: Step,
@@ -140,7 +140,7 @@ fn goes_so<FLBitmap: BitPattern, SLBitmap: BitPattern, const FLLEN: usize, const
     }
 }
 
-/// The index of the first step that answers otherwise.
+/// The index of the first step with a wrong result.
 fn first_wrong<FLBitmap: BitPattern, SLBitmap: BitPattern, const FLLEN: usize, const SLLEN: usize>(
     tlsf: &mut Tlsf<FLBitmap, SLBitmap, FLLEN, SLLEN>,
     steps: &[Step],
@@ -153,7 +153,7 @@ fn first_wrong<FLBitmap: BitPattern, SLBitmap: BitPattern, const FLLEN: usize, c
     None
 }
 
-/// Passes where each step answers what is expected.
+/// Passes if each step has its expected result.
 pub(crate) fn takes_steps<
     FLBitmap: BitPattern,
     SLBitmap: BitPattern,
@@ -163,8 +163,8 @@ pub(crate) fn takes_steps<
     none_is_wrong(rt, first_wrong(tlsf, steps));
 }
 
-/// Inserts a pool into a memory and does the steps; passes where each answers what is expected. Answers the allocator, and the
-/// bytes taken, or 0. The memory and the pool are a start and a length.
+/// Inserts a pool into a memory and does the steps. Passes if each has its expected result. Returns the allocator, and the bytes
+/// used, or 0. The memory and the pool are a start and a length.
 pub(crate) fn inserts<
     FLBitmap: BitPattern,
     SLBitmap: BitPattern,

@@ -1,4 +1,4 @@
-//! Payloads that get another size: where they lie then, and what they hold.
+//! Payloads that are resized: where they are then, and what they hold.
 
 ghost use Rattle.std.specs.Prelude.{◌≡◌, ◌≢◌, ◌<◌, length, IfSome, unwrap_or};
 ghost use Rattle.rlsf_base.specs.Addr.{at};
@@ -10,11 +10,10 @@ use super::pools::{Small, Step, Wide, are, layout_of, number, takes_steps, wide,
 use rlsf::{Addr, Layout};
 use std::process::Abort;
 
-// What is left in a payload, as far as there is room, before it gets another size.
+// The bytes that are written into a payload, as far as there is room, before it is resized.
 const BYTES: &[u8] = b"abcdefghijklmnopqrstuvwxyzABCDEFGHIJKLMNOPQRSTUVWXYZ0123456789+-";
 
-/// Allocates a payload, fills it with a byte, gives it another size, and reads it at an offset that both sizes have. Answers
-/// what was read.
+/// Allocates a payload, fills it with a byte, resizes it, and reads it at an offset that both sizes have. Returns what was read.
 fn kept(tlsf: &mut Small, layout: Layout, wanted: Layout, byte: u8, offset: usize) -> Option<u8>
     requires { (wanted.align ≡ layout.align) × (offset < layout.size) × (offset < wanted.size) }
     ensures { IfSome result (λ read. read ≡ byte) }
@@ -28,8 +27,8 @@ fn kept(tlsf: &mut Small, layout: Layout, wanted: Layout, byte: u8, offset: usiz
     Some(read)
 }
 
-/// Allocates a payload, fills it with a byte, gives it another size where it stands, and reads it at an offset that both sizes
-/// have. Answers what was read, if the size could be given.
+/// Allocates a payload, fills it with a byte, resizes it in place, and reads it at an offset that both sizes have. Returns what was
+/// read, if it was resized.
 fn kept_there(
     tlsf: &mut Small,
     layout: Layout,
@@ -51,7 +50,7 @@ fn kept_there(
     Some(read)
 }
 
-/// Leaves bytes in a payload, as far as there is room. Answers how many it has.
+/// Writes these bytes into a payload, as far as there is room. Returns how many bytes it has.
 fn leave_bytes(payload: &mut [u8]) -> usize
     ensures { length payload.new ≡ length payload.old }
 {
@@ -68,7 +67,7 @@ struct Moved {
     moved: Option<Addr>,
 }
 
-/// What became of a payload: where it was and where it is, or 0; how many bytes it has; and whether they begin as they did.
+/// The result for a payload: where it was and where it is, or 0; its length; and whether its first bytes are unchanged.
 type Outcome = ((usize, usize), (usize, bool));
 
 /// Where a payload was and where it is, or 0; how many bytes it has; and whether they begin as they did.
@@ -78,12 +77,12 @@ fn outcome(payload: Moved, bytes: &[u8]) -> Outcome {
     (places, (bytes.len(), bytes[..n] == BYTES[..n]))
 }
 
-/// Passes where this became of a payload.
+/// Passes if this is the result for a payload.
 fn became(rt: &impl Abort, outcome: Option<Outcome>, expected: Outcome) {
     assert_eq!(rt; outcome, Some(expected));
 }
 
-/// What becomes of a payload, in which bytes are left, that is asked to get another size.
+/// The result for a payload that is filled and resized.
 fn one(tlsf: &mut Small, layout: Layout, wanted: Layout) -> Option<Outcome>
     requires { wanted.align ≡ layout.align }
 {
@@ -99,7 +98,32 @@ fn one(tlsf: &mut Small, layout: Layout, wanted: Layout) -> Option<Outcome>
     Some(outcome(payload, bytes))
 }
 
-/// Which neighbour of a payload is given back.
+/// Writes bytes to a payload, reallocates it without its alignment, deallocates it, and returns what happened to it.
+/// If there is a layout for it, another payload is allocated behind it first.
+fn unaligned(
+    tlsf: &mut Small,
+    layout: Layout,
+    behind: Option<Layout>,
+    wanted: Layout,
+) -> Option<Outcome> {
+    let addr = tlsf.allocate(layout)?;
+    let had = leave_bytes(tlsf.payload_mut(addr));
+    if let Some(layout) = behind {
+        let _ = tlsf.allocate(layout);
+    }
+    let moved = tlsf.reallocate_unknown_align(addr, wanted);
+    let now = moved.unwrap_or(addr);
+    let payload = Moved {
+        was: addr,
+        had,
+        moved,
+    };
+    let outcome = outcome(payload, tlsf.payload(now));
+    tlsf.deallocate_unknown_align(now);
+    Some(outcome)
+}
+
+/// Which neighbour of a payload is deallocated.
 #[derive(Clone, Copy)]
 enum Freed {
     Neither,
@@ -127,8 +151,8 @@ fn give_back(
     }
 }
 
-/// Allocates three payloads, leaves bytes in the second one, gives one of its neighbours back, and asks for another size
-/// for it.
+/// Allocates three payloads, leaves bytes in the second one, deallocates one of its neighbours or neither, and
+/// resizes the second one.
 fn second_moved(
     tlsf: &mut Small,
     layouts: (Layout, Layout, Layout),
@@ -151,7 +175,7 @@ fn second_moved(
     })
 }
 
-/// What became of the second of three payloads.
+/// The result for the second of three payloads.
 fn second(
     tlsf: &mut Small,
     layouts: (Layout, Layout, Layout),
@@ -165,7 +189,7 @@ fn second(
     Some(outcome(payload, bytes))
 }
 
-/// What becomes of a payload that has moved before its neighbour, once it is asked to get another size again.
+/// The result for a payload that has moved before its neighbour, and is then resized again.
 fn second_again(
     tlsf: &mut Small,
     layouts: (Layout, Layout, Layout),
@@ -201,8 +225,8 @@ fn wide_give_back(tlsf: &mut Wide, addresses: (Addr, Addr, Addr), layout: Layout
     }
 }
 
-/// What becomes of the second of three payloads of one layout, in which bytes are left, that is asked to get another size once
-/// one of its neighbours was given back, or neither.
+/// Writes bytes into the second of three payloads of one layout, deallocates one of its neighbours or neither, and resizes it.
+/// Returns its result.
 fn wide_second(tlsf: &mut Wide, layout: Layout, freed: Freed, wanted: Layout) -> Option<Outcome>
     requires { wanted.align ≡ layout.align }
 {
@@ -242,8 +266,8 @@ fn shrunk_to_nothing(rt: HostRuntime) {
     takes_steps(&rt, &mut tlsf, &[Step::Allocate(0, 1, 4144)]);
 }
 
-/// The second of three payloads of these sizes, in a pool of 256 bytes, that is asked to get another size once one of its
-/// neighbours was given back, or neither: what becomes of it, and what stands then, where a test tells it.
+/// The second of three payloads of these sizes, in a pool of 256 bytes. One of its neighbours or neither is deallocated, and it is
+/// resized. A case has its result, and the words in the memory, where a test needs them.
 #[derive(Clone, Copy)]
 struct Case {
     sizes: (usize, usize, usize),
@@ -304,7 +328,7 @@ static CASES: [Case; 4] = [
     GREATEST_LAYOUT_IS_REFUSED,
 ];
 
-/// Passes where the class table is as a case tells it.
+/// Passes if the class table is as in a case.
 fn has_table(rt: &impl Abort, tlsf: &Small, case: &Case) {
     if let Some(rows) = case.first_level {
         are(rt, &[tlsf.fl_bitmap() as usize], &[rows]);
@@ -312,6 +336,21 @@ fn has_table(rt: &impl Abort, tlsf: &Small, case: &Case) {
     if let Some(addr) = case.newest {
         are(rt, &[number(tlsf.first_free(0, 0))], &[addr]);
     }
+}
+
+#[test]
+fn alignment_is_not_known(rt: HostRuntime) {
+    let layout = layout_of(&rt, 8, 64);
+    let behind = layout_of(&rt, 8, 1);
+    let mut tlsf = with_pool(&rt, 512);
+    let same = unaligned(&mut tlsf, layout, None, layout_of(&rt, 20, 1));
+    became(&rt, same, ((4160, 4160), (32, true)));
+    let grown = unaligned(&mut tlsf, layout, None, layout_of(&rt, 100, 1));
+    became(&rt, grown, ((4160, 4160), (128, true)));
+    let moved = unaligned(&mut tlsf, layout, Some(behind), layout_of(&rt, 100, 1));
+    became(&rt, moved, ((4160, 4240), (112, true)));
+    let refused = unaligned(&mut tlsf, layout, None, layout_of(&rt, 1000, 1));
+    became(&rt, refused, ((4160, 0), (32, true)));
 }
 
 #[test]
@@ -338,7 +377,8 @@ fn refused_without_room(rt: HostRuntime) {
     are(&rt, &[tlsf.fl_bitmap() as usize], &[0]);
 }
 
-// Of three payloads of 40 bytes in a pool of 65,536 bytes: which neighbour is given back, the alignment, the size that is asked for, and what becomes of the payload.
+// Of three payloads of 40 bytes in a pool of 65,536 bytes: which neighbour is deallocated, the alignment, the requested size, and
+// the result.
 static WIDE_CASES: [(Freed, usize, usize, Outcome); 16] = [
     // in place
     (Freed::Neither, 1, 0, ((4176, 4176), (16, true))),

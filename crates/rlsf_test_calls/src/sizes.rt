@@ -1,10 +1,10 @@
-//! Runs in pools of computed lengths: the first allocation that is refused is the one that has to be, and none is refused in a
-//! pool that is long enough.
+//! Runs in pools of computed lengths. In a long enough pool nothing is refused. In a shorter pool the expected allocation is the
+//! first one that is refused.
 //!
-//! Lengths are worked out by hand. The last 32 bytes of a pool end its chunk. With SLLEN classes a row, objects of L bytes with
-//! the 16 before them need `32 + 100 * L`, where L is rounded up to a multiple of 32 and then of one SLLENth of the power of two
-//! below it. Payloads in blocks of up to S bytes, of which n are live before each call, need `(m + 32) + n * (S + m - 32)`, where
-//! m is the least size whose class reaches S.
+//! Lengths are worked out by hand. The last 32 bytes of a pool end its chunk. 100 objects of L bytes, with the 16 before them, need
+//! `32 + 100 * L`. L is rounded up to a multiple of 32, and then of one SLLENth of the power of two below it. For payloads in
+//! blocks of up to S bytes, let m be the least size whose class reaches S. If n are live before each call, they need
+//! `(m + 32) + n * (S + m - 32)`.
 
 ghost use Rattle.rlsf_base.specs.SizeClass.{IsValid};
 
@@ -81,7 +81,7 @@ impl Script {
         self.add(rt, Op::Alloc(count, layout), false);
     }
 
-    /// The payloads of the names at these places of an order are given back.
+    /// The payloads of the names at these places of an order are deallocated.
     fn give_back(
         &mut self,
         rt: &(impl Abort + AllocGlobal),
@@ -94,7 +94,7 @@ impl Script {
         }
     }
 
-    /// The index of the first op that is answered otherwise.
+    /// The index of the first op with another result.
     fn first_wrong(&self, answers: &[Answer]) -> Option<usize> {
         for (index, granted) in self.granted.iter().enumerate() {
             if answers.get(index).copied().and_then(is_granted) != Some(*granted) {
@@ -119,7 +119,7 @@ type Shape<'a, Bits, const FLLEN: usize, const SLLEN: usize> = Option<
     &'a Tlsf<Bits, Bits, FLLEN, SLLEN>,
 >;
 
-/// The index of the first op that is answered otherwise in a memory of so many bytes.
+/// The index of the first op with another result in a memory of so many bytes.
 fn wrong_in<Bits: BitPattern, const FLLEN: usize, const SLLEN: usize>(
     rt: &(impl Abort + AllocGlobal),
     script: &Script,
@@ -134,8 +134,8 @@ fn wrong_in<Bits: BitPattern, const FLLEN: usize, const SLLEN: usize>(
     script.first_wrong(answers.as_slice())
 }
 
-/// A pool of so many bytes holds `count` payloads: they are taken and given back in an order, all of them and each half of them,
-/// and whenever all are taken one more is refused.
+/// A pool of so many bytes holds `count` payloads. They are allocated and deallocated in an order, all of them and each half of
+/// them. Whenever all are allocated, one more is refused.
 fn filled_in_order(
     rt: &(impl Abort + AllocGlobal),
     order: Order,
@@ -174,8 +174,8 @@ fn holds<Bits: BitPattern, const FLLEN: usize, const SLLEN: usize>(
     true
 }
 
-/// The length of a pool for 100 objects of a size, and the size to ask for, where the pool holds 100 and one that is 32 bytes
-/// shorter holds 99, in each order.
+/// The length of a pool for 100 objects of a size, and the size to ask for. The pool has to hold 100, and one that is 32 bytes
+/// shorter 99, in each order.
 fn pool_of_100<Bits: BitPattern, const FLLEN: usize, const SLLEN: usize>(
     rt: &(impl Abort + AllocGlobal),
     size: usize,
@@ -196,7 +196,7 @@ fn pool_of_100<Bits: BitPattern, const FLLEN: usize, const SLLEN: usize>(
     }
 }
 
-/// The same for objects of 40, of 700 and of 1100 bytes.
+/// As above, for objects of 40, of 700 and of 1100 bytes.
 fn pools_of_100<Bits: BitPattern, const FLLEN: usize, const SLLEN: usize>(
     rt: &(impl Abort + AllocGlobal),
     shape: Shape<'_, Bits, FLLEN, SLLEN>,
@@ -228,8 +228,8 @@ fn pools_of_100_objects(rt: HostRuntime) {
 /// How many payloads are live at most in the random run.
 const NAMES: usize = 50;
 
-/// What a word does to the payload of a name: one that isn't live is allocated, and a live one gets another size, or is given
-/// back, in one of eight times. Sizes go up to 700 bytes, alignments up to 64.
+/// What a word does to the payload of a name: one that isn't live is allocated. A live one is deallocated one time of eight, and
+/// else resized. Sizes go up to 700 bytes, alignments up to 64.
 fn random_op(rt: &impl Abort, word: u64, live: &mut [bool; NAMES]) -> Op {
     let [name, kind, high, low, shift, ..] = word.to_be_bytes();
     let name = name as usize % NAMES;
@@ -245,7 +245,8 @@ fn random_op(rt: &impl Abort, word: u64, live: &mut [bool; NAMES]) -> Op {
     }
 }
 
-/// 100,000 random ops in a pool of so many bytes, each of which has to be granted, and for how many of them all names were live.
+/// 100,000 random ops in a pool of so many bytes, each of which has to be granted. The number is that of ops before which all names
+/// were live.
 fn random_script(rt: &(impl Abort + AllocGlobal), len: usize) -> (Script, usize) {
     let mut script = Script::new(rt, len);
     let mut live = [false; NAMES];
@@ -261,7 +262,7 @@ fn random_script(rt: &(impl Abort + AllocGlobal), len: usize) -> (Script, usize)
     (script, full)
 }
 
-/// The length of a pool for as many payloads as may be live before an op of the random run, where none of its ops is refused.
+/// The length of a pool for as many payloads as may be live before an op of the random run. None of its ops is refused.
 fn pool_of_random_run<Bits: BitPattern, const FLLEN: usize, const SLLEN: usize>(
     rt: &(impl Abort + AllocGlobal),
     shape: Shape<'_, Bits, FLLEN, SLLEN>,
@@ -280,8 +281,8 @@ fn pool_of_random_run<Bits: BitPattern, const FLLEN: usize, const SLLEN: usize>(
 
 #[test]
 fn random_run_without_a_refusal(rt: HostRuntime) {
-    // A payload of 700 bytes at a multiple of 64 needs a block of up to 768, at which a class begins: 800 bytes, and 50 times
-    // 1,504.
+    // A payload of 700 bytes at a multiple of 64 needs a block of up to 768, where a class begins. So the length is 800 bytes, and
+    // 50 times 1,504.
     let found = [
         pool_of_random_run::<u16, 12, 16>(&rt, None),
         pool_of_random_run::<u64, 59, 8>(&rt, None),
@@ -293,8 +294,9 @@ fn random_run_without_a_refusal(rt: HostRuntime) {
 /// How many payloads are live at most before a call of the run that leaves fragments.
 const FRAGMENTS: usize = 15;
 
-/// Fifteen times a payload shrinks in place to a block of 992 bytes, one with a block of 1024 is allocated behind it, and the first
-/// is given back: so fifteen free blocks are left that are 32 bytes too short for the last allocation, which is granted or not.
+/// Fifteen times a payload shrinks in place to a block of 992 bytes. Then one with a block of 1024 is allocated behind it, and the
+/// first is deallocated. So fifteen free blocks are left that are 32 bytes too short for the last allocation. That allocation is
+/// granted or not.
 fn fragments(rt: &(impl Abort + AllocGlobal), len: usize, granted: bool) -> Script {
     let mut script = Script::new(rt, len);
     let greatest = layout_of(rt, 1008, 1);
@@ -309,8 +311,8 @@ fn fragments(rt: &(impl Abort + AllocGlobal), len: usize, granted: bool) -> Scri
     script
 }
 
-/// The length of a pool that never refuses while so many payloads are live, where the last allocation is granted beside the
-/// fragments, and refused in a pool that is 32 bytes shorter.
+/// The length of a pool that never refuses while so many payloads are live. The last allocation is granted beside the fragments,
+/// and refused in a pool that is 32 bytes shorter.
 fn pool_of_fragments<Bits: BitPattern, const FLLEN: usize, const SLLEN: usize>(
     rt: &(impl Abort + AllocGlobal),
     shape: Shape<'_, Bits, FLLEN, SLLEN>,

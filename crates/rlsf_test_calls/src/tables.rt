@@ -14,7 +14,7 @@ fn newest(tlsf: &Small, fl: usize, sl: usize) -> usize
     number(tlsf.first_free(fl, sl))
 }
 
-/// Allocates four payloads, and gives the first one and then the third one back. Answers their addresses.
+/// Allocates four payloads, and deallocates the first one and then the third one. Returns their addresses.
 fn every_other_freed(tlsf: &mut Small, layout: Layout) -> Option<[usize; 4]> {
     let first = tlsf.allocate(layout)?;
     let second = tlsf.allocate(layout)?;

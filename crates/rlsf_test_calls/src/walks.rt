@@ -1,4 +1,4 @@
-//! Walks over the blocks of a range, payloads given back without their alignment, and how many bytes a payload has.
+//! The iteration over the blocks of a range, payloads deallocated without their alignment, and how many bytes a payload has.
 
 ghost use Rattle.rlsf_base.specs.Range.{range_at};
 ghost use Rattle.rlsf_machine.specs.ChunkRows.{IsRow};
@@ -14,12 +14,12 @@ type Growing = Tlsf<u64, u64, 59, 8>;
 /// Where a block begins, its size, and whether it is used.
 type Row = (usize, usize, bool);
 
-/// A block as a row.
+/// A block as a range, and whether it is used.
 fn row(block: BlockInfo) -> Row {
     (block.as_ptr().start, block.size(), block.is_occupied())
 }
 
-/// A row as numbers, which are 0 if there is none.
+/// A block as numbers, which are 0 if there is none.
 fn numbers(row: Option<Row>) -> [usize; 3] {
     match row {
         Some((start, size, is_used)) => [start, size, is_used as usize],
@@ -27,7 +27,7 @@ fn numbers(row: Option<Row>) -> [usize; 3] {
     }
 }
 
-/// Passes where a walk gives these rows and no more.
+/// Passes if an iteration yields these blocks and no more.
 fn gives(rt: &impl Abort, mut blocks: Blocks<'_>, rows: &[Row]) {
     for i in 0..=rows.len() {
         let given = numbers(blocks.next().map(row));
@@ -40,7 +40,7 @@ fn greatest_size(block: BlockInfo) -> usize {
     block.max_payload_size()
 }
 
-/// The greatest sizes that fit in the first two blocks of a walk, 0 if there is none.
+/// The greatest sizes that fit in the first two blocks of an iteration, 0 if there is none.
 fn greatest_sizes(mut blocks: Blocks<'_>) -> [usize; 2] {
     [
         blocks.next().map_or(0, greatest_size),
@@ -48,7 +48,7 @@ fn greatest_sizes(mut blocks: Blocks<'_>) -> [usize; 2] {
     ]
 }
 
-/// The text of the first block of a walk, or none.
+/// The text of the first block of an iteration, or none.
 fn first_text(alloc: Global, mut blocks: Blocks<'_>) -> Result<String, AllocError> {
     match blocks.next() {
         Some(block) => format!(in alloc; "{block:?}"),
@@ -56,7 +56,7 @@ fn first_text(alloc: Global, mut blocks: Blocks<'_>) -> Result<String, AllocErro
     }
 }
 
-/// Passes where a walk over no bytes gives nothing.
+/// Passes if an iteration over no bytes yields nothing.
 fn walks_nowhere(rt: &impl Abort, tlsf: &Small) {
     let nowhere = Range {
         start: 4096,
@@ -65,8 +65,8 @@ fn walks_nowhere(rt: &impl Abort, tlsf: &Small) {
     gives(rt, tlsf.iter_blocks(nowhere), &[]);
 }
 
-/// Passes where a walk over a pool of 96 bytes gives these rows, in the first two of which fit these greatest sizes, 0 if there is
-/// none.
+/// Passes if an iteration over a pool of 96 bytes yields these blocks. The greatest sizes are those that fit in the first two, 0 if
+/// there is none.
 fn walks(rt: &impl Abort, tlsf: &Small, expected: &[Row], sizes: [usize; 2])
     requires { IsRow tlsf.now.state (range_at 4096 96) }
 {
@@ -114,7 +114,7 @@ fn adjacent_chunks_are_walked(rt: HostRuntime) {
     gives(&rt, tlsf.iter_blocks(range), &rows);
 }
 
-/// The greatest sizes that fit in the free blocks of a walk, added up.
+/// The sum of the greatest sizes that fit in the free blocks of an iteration.
 fn free_bytes(blocks: Blocks<'_>) -> usize {
     let mut total: usize = 0;
     for block in blocks {
@@ -139,7 +139,7 @@ fn free_bytes_are_added_up(rt: HostRuntime) {
     are(&rt, &[before, after], &[976, 944]);
 }
 
-/// Allocates a payload and gives it back without its alignment. Passes where a walk gives these rows then.
+/// Allocates a payload and deallocates it without its alignment. Passes if an iteration yields these blocks then.
 fn frees(rt: &impl Abort, tlsf: &mut Growing, layout: Layout, rows: &[Row])
     requires { IsRow tlsf.old.state (range_at 4096 16384) }
 {
@@ -166,7 +166,7 @@ fn growing(rt: &(impl Abort + AllocGlobal)) -> Growing
     tlsf
 }
 
-// What stands then: one free block, and one behind the other payload's block.
+// The blocks then: a free one, and one behind the other payload's block.
 const ALONE: &[Row] = &[(4096, 16352, false)];
 
 const BEHIND: &[Row] = &[(4096, 32, true), (4128, 16320, false)];
@@ -194,7 +194,7 @@ fn alignments_are_found(rt: HostRuntime) {
         let least = layout_of(&rt, 1, 1);
         // The first payload of a new allocator, before which no word was written.
         frees(&rt, &mut growing(&rt), layout, ALONE);
-        // The same behind another payload.
+        // As above, behind another payload.
         let mut tlsf = growing(&rt);
         let _ = tlsf.allocate(least);
         frees(&rt, &mut tlsf, layout, BEHIND);

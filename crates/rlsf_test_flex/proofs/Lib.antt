@@ -1,3 +1,4 @@
+-- Lemmas about the sources of the tests, and about what they are asked.
 pub mod Cursors
 pub mod HeapCursors
 pub mod OneByte

@@ -1,5 +1,6 @@
--- What a range has room for: once a payload of one byte is placed in it, another one has room exactly if the range has 96 bytes or more.
-use Rattle.std.proofs.Common.{◌≡◌, ℕ, zero, suc, ◌+◌, ◌-◌, ◌*◌, ◌/◌, ◌%◌, ◌<◌, ◌≤◌, ◌⊎◌, cond, List, [], ◌∷◌, length, Some, None, arith, refl, sym, ◌∙◌, ap, subst, inl, inr}
+-- What a range has room for. If a payload of one byte is in it, another one has room exactly if the range has 96 bytes or more.
+use Rattle.std.proofs.Common.{◌≡◌, ℕ, zero, suc, ◌+◌, ◌-◌, ◌*◌, ◌/◌, ◌%◌, ◌<◌, ◌≤◌, ◌⊎◌, cond, List, [], ◌∷◌, length, Some, None}
+use Rattle.std.proofs.Common.{arith, refl, sym, ◌∙◌, ap, subst, inl, inr}
 use Rattle.std.proofs.lemmas.Bool.{cases_lt, le-leb, lt-leb}
 use Rattle.std.proofs.lemmas.List.{length-append}
 use Rattle.std.proofs.lemmas.List.Sums.{sum_by-append, sum_by-cons}
@@ -29,7 +30,9 @@ adjacent-sums (suc n) at len =
     let (total, many) = adjacent-sums n (at + len) len in
     (omega (arith, total, sum_by-cons (λ (r : Range). r.len) (range_at at len) (adjacent (at + len) len n)), omega (arith, many))
 
-remainder-sums : (at len : ℕ) → ((len < 64) × (total_len (remainder at len) ≡ 0) × (length (remainder at len) ≡ 0)) ⊎ ((64 ≤ len) × (total_len (remainder at len) ≡ len) × (length (remainder at len) ≡ 1))
+remainder-sums : (at len : ℕ)
+    → ((len < 64) × (total_len (remainder at len) ≡ 0) × (length (remainder at len) ≡ 0))
+    ⊎ ((64 ≤ len) × (total_len (remainder at len) ≡ len) × (length (remainder at len) ≡ 1))
 remainder-sums at len = elim (cases_lt len 64) [
   | inl short ↦
       let is : remainder at len ≡ [] = ap (λ b. cond b (range_at at len ∷ []) []) (lt-leb 64 len short) in
@@ -41,7 +44,8 @@ remainder-sums at len = elim (cases_lt len 64) [
 
 -- chunks of 8192 bytes, and perhaps one of what is left
 cut-sums : (part : Range) → (n : ℕ) × (rest : ℕ) × (part.len ≡ n * 8192 + rest)
-    × (((rest < 64) × (total_len (cut (Some 8192) part) ≡ n * 8192) × (length (cut (Some 8192) part) ≡ n)) ⊎ ((64 ≤ rest) × (total_len (cut (Some 8192) part) ≡ n * 8192 + rest) × (length (cut (Some 8192) part) ≡ n + 1)))
+    × (((rest < 64) × (total_len (cut (Some 8192) part) ≡ n * 8192) × (length (cut (Some 8192) part) ≡ n))
+    ⊎ ((64 ≤ rest) × (total_len (cut (Some 8192) part) ≡ n * 8192 + rest) × (length (cut (Some 8192) part) ≡ n + 1)))
 cut-sums part =
     let n = part.len / 8192 in
     let rest = part.len - n * 8192 in
@@ -57,7 +61,8 @@ cut-sums part =
       ],
     )
 
-chunks-sums : (cs : List Range) (s : State) → (total_len (with_chunks cs s).chunks ≡ total_len cs + total_len s.chunks) × (length (with_chunks cs s).chunks ≡ length cs + length s.chunks)
+chunks-sums : (cs : List Range) (s : State)
+    → (total_len (with_chunks cs s).chunks ≡ total_len cs + total_len s.chunks) × (length (with_chunks cs s).chunks ≡ length cs + length s.chunks)
 chunks-sums [] s = (omega arith, omega arith)
 chunks-sums (c ∷ cs) s =
     let (total, many) = chunks-sums cs (with_chunk c s) in
@@ -81,7 +86,8 @@ reaches_32 len some whole = elim (cases_lt len 64) [
 
 -- ---- what one payload leaves of a range
 
-module _ {memory : Range} (m s : State) (r : Range) (len addr : ℕ) (w : IsWellFormed 8 8 memory s) (inserts : Inserts 8 empty r (Some len) m) (places : Places 8 m 1 1 addr s) (aligned : r.start % 32 ≡ 0) (long : 64 ≤ r.len) where
+module _ {memory : Range} (m s : State) (r : Range) (len addr : ℕ) (w : IsWellFormed 8 8 memory s) (inserts : Inserts 8 empty r (Some len) m) (places : Places 8 m 1 1 addr s)
+    (aligned : r.start % 32 ≡ 0) (long : 64 ≤ r.len) where
   abbrev block : Used
   block = placed places.range 1 1 places.bytes
 
@@ -101,7 +107,17 @@ module _ {memory : Range} (m s : State) (r : Range) (len addr : ℕ) (w : IsWell
       let cs = cut (Some 8192) (aligned_part r) in
       let (total, many) = chunks-sums cs empty in
       let same : s.chunks ≡ (with_chunks cs empty).chunks = chunks-allocated 8 m s 1 1 (Some addr) places ∙ ap (λ (x : State). x.chunks) inserts.after in
-      omega (arith, bytes_add_up 8 8 memory s w, ap used_bytes used_is, sum_by-cons (λ (u : Used). u.block.len) block [], block_len, ap total_len same, ap length same, total, many)
+      omega (
+        arith,
+        bytes_add_up 8 8 memory s w,
+        ap used_bytes used_is,
+        sum_by-cons (λ (u : Used). u.block.len) block [],
+        block_len,
+        ap total_len same,
+        ap length same,
+        total,
+        many,
+      )
 
   part_len : (aligned_part r).len ≡ r.len / 32 * 32
   part_len = let is : (aligned_part r).len ≡ (r.start + r.len - r.start) / 32 * 32 = ap (λ n. (end_of r - n) / 32 * 32) (round32-same r.start aligned) in omega (arith, is)

@@ -1,4 +1,4 @@
--- A source that hands out its space from a cursor on.
+-- A source that provides its space from a cursor on.
 use Rattle.std.specs.Prelude.{◌≡◌, ℕ, ◌^◌, ◌≤◌, ◌<◌, List}
 use Rattle.rlsf_base.specs.declared.memory.range.Range.{Range}
 use Rattle.rlsf_base.specs.PowerOfTwo.{IsPowerOfTwo}
@@ -13,7 +13,7 @@ pub record Cursor : Type 0 where
   pub terms : Terms
   pub at : ℕ
 
--- the cursor stands in the space, whose addresses fit in a word
+-- the cursor lies in the space, whose addresses fit in a word
 pub record IsCursor (c : Cursor) : Type 0 where
   pub after_start : c.terms.space.start ≤ c.at
   pub before_end : c.at ≤ end_of c.terms.space

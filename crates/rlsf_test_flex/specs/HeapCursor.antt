@@ -1,4 +1,4 @@
--- An allocator that hands out its space from a cursor on.
+-- An allocator that provides its space from a cursor on.
 use Rattle.std.specs.Prelude.{◌≡◌, ℕ, List, map}
 use Rattle.rlsf_base.specs.declared.memory.range.Range.{Range}
 use Rattle.rlsf_test_flex.specs.Cursor.{Cursor, MayOwe}

@@ -9,9 +9,9 @@ use Rattle.rlsf_machine.specs.Terms.{Terms}
 abbrev pub plain : Range → Terms
 plain space = record { space = space; dealloc = false; grow = false; contiguous = false; min_align = 32 }
 
--- What was asked for two allocations of one byte from the empty state, as they reply: the first one asks for a range of 64 bytes. Where
--- that was refused, the second one asks for the same again. Else it has room if the range that came has 96 bytes or more, and asks for
--- another if it has fewer.
+-- The questions for two allocations of one byte from the empty state, by their replies. The first allocation asks for a range of 64
+-- bytes. If that is refused, the second one asks for 64 bytes again. Else it has room if the range has 96 bytes or more, and asks
+-- for another range if it has fewer.
 abbrev pub IsAskedForTwo : {A : Type 0} → Option A → Option A → List Question → Type 0
 IsAskedForTwo None None asked = asked ≡ Alloc 64 None ∷ Alloc 64 None ∷ []
 IsAskedForTwo None (Some b) asked = (r : Range) × (asked ≡ Alloc 64 None ∷ Alloc 64 (Some r) ∷ [])

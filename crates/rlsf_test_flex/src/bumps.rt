@@ -7,8 +7,8 @@ use rlsf_sources::BumpSource;
 
 #[test]
 fn bump_source_provides_and_grows_twice(rt: HostRuntime) {
-    // A payload of one byte needs a block of 32 bytes, and a pool of 64. The range begins at the first multiple of 32 behind 4097,
-    // which is 4128, and ends at 4192, then at 4256, and then at 4320, where the space ends. Each part has a payload behind 16 bytes.
+    // A payload of one byte needs a block of 32 bytes, and a pool of 64. The range begins at 4128, the first multiple of 32 behind
+    // 4097. It ends at 4192, then at 4256, and then at 4320, where the space ends. Each part has a payload behind 16 bytes.
     let space = Range {
         start: 4097,
         len: 223,

@@ -5,7 +5,7 @@
 pub enum Call {
     /// A payload of this name is allocated, of so many bytes, with this alignment.
     Alloc(usize, usize, usize),
-    /// It is given back.
+    /// It is deallocated.
     Free(usize),
     /// It gets this size.
     Realloc(usize, usize),

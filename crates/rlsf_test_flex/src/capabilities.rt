@@ -14,7 +14,7 @@ const NEITHER: Habits = Habits {
     refuses: false,
 };
 
-/// Allocates for one byte, then for 100, gives the 100 back and allocates for them again.
+/// Allocates for one byte and then for 100, deallocates the 100, and allocates for them again.
 const USED: Case = Case {
     space: Range {
         start: 4096,

@@ -1,4 +1,4 @@
-//! A source that hands out its space from a cursor on, as its terms say, and remembers what it was asked.
+//! A source that provides its space from a cursor on, as its terms say, and remembers what it was asked.
 
 ghost use Rattle.std.specs.Prelude.{◌≡◌, ◌<◌, ◌≤◌, ◌+◌, ◌%◌, ◌^◌, [], IfSome};
 ghost use Rattle.rlsf_base.specs.PowerOfTwo.{IsPowerOfTwo};
@@ -38,7 +38,7 @@ pub struct Habits {
     pub contiguous: bool,
     /// What its ranges' starts are multiples of.
     pub min_align: usize,
-    /// How many bytes more than asked it gives.
+    /// How many bytes more than requested it provides.
     pub extra: usize,
     /// Whether it refuses all.
     pub refuses: bool,
@@ -78,7 +78,7 @@ impl Questions {
     }
 }
 
-/// A source that hands out its space from a cursor on. What it is asked can be read after it was dropped.
+/// A source that provides its space from a cursor on. What it is asked can be read after it was dropped.
 #[derive(Drop)]
 pub struct CursorSource<'a> {
     space: Range,

@@ -1,4 +1,4 @@
-//! Footers, and what goes back to a source.
+//! Footers, and the ranges that return to a source.
 
 use crate::cursor::{Habits, Question, Questions};
 use crate::heaps::{Case, Step, are_right, first_wrong, is_right, small};
@@ -6,7 +6,7 @@ use rlsf_base::memory::Range;
 use std::cell::Cell;
 use std::process::Abort;
 
-/// A source that takes ranges back, and gives what is asked at multiples of 32.
+/// A source that takes ranges back, and provides what is requested at multiples of 32.
 const TAKING: Habits = Habits {
     dealloc: true,
     grow: false,
@@ -69,7 +69,7 @@ static CASES: [Case; 3] = [
         ],
         left: Some((4304, (4096, 101))),
     },
-    // Two ranges go back.
+    // Two ranges return.
     Case {
         space: ALL,
         habits: TAKING,
@@ -84,7 +84,7 @@ static CASES: [Case; 3] = [
     },
 ];
 
-/// Takes the steps of a case and drops the allocator. Answers the index of the first step that went otherwise.
+/// Takes the steps of a case and drops the allocator. Returns the index of the first step with another result.
 fn dropped(rt: &(impl Abort + AllocGlobal), case: Case, seen: &Cell<Questions>) -> Option<usize> {
     let mut flex = small(rt, case.space, case.habits, seen);
     first_wrong(&mut flex, case.steps)
@@ -93,7 +93,7 @@ fn dropped(rt: &(impl Abort + AllocGlobal), case: Case, seen: &Cell<Questions>) 
 #[test]
 fn ends(rt: HostRuntime) {
     are_right(&rt, &CASES);
-    // A drop gives back what `into_parts` does.
+    // A drop returns the ranges that `into_parts` returns.
     for case in &CASES {
         let seen = Cell::new(Questions::new());
         let wrong = dropped(&rt, *case, &seen);

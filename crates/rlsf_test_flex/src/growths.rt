@@ -24,7 +24,7 @@ const GROWING: Habits = Habits {
     refuses: false,
 };
 
-/// A source that gives nothing.
+/// A source that returns nothing.
 const REFUSING: Habits = Habits {
     refuses: true,
     ..GROWING
@@ -37,9 +37,9 @@ enum Shape {
     Wide,
     /// For chunks of any length.
     Long,
-    /// Of 59 rows that have one class each.
+    /// Of 59 first-level rows that have one class each.
     Few,
-    /// Of 64 such rows.
+    /// Of 64 such first-level rows.
     All,
 }
 
@@ -71,7 +71,7 @@ fn allocates<FLBitmap: BitPattern, SLBitmap: BitPattern, const FLLEN: usize, con
     (wrong, flex.source_ref().asked())
 }
 
-/// What comes of the allocations.
+/// The outcome of the allocations.
 fn outcome(rt: &(impl Abort + AllocGlobal), growth: Growth) -> Outcome {
     let layout = Layout::from_size_align(growth.size, 1).expect(rt, "a layout");
     let seen = Cell::new(Questions::new());
@@ -98,7 +98,7 @@ fn outcome(rt: &(impl Abort + AllocGlobal), growth: Growth) -> Outcome {
     }
 }
 
-/// Passes where what must comes of each.
+/// Passes if each has its expected outcome.
 fn go_so(rt: &(impl Abort + AllocGlobal), growths: &[Growth]) {
     for growth in growths {
         is_right(rt, outcome(rt, *growth), growth.asked);

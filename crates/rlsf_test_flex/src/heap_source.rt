@@ -13,7 +13,7 @@ use std::marker::Model;
 use std::num::NonZeroUsize;
 use std::process::Abort;
 
-/// An allocator that hands out its space from a cursor on, and remembers what it was asked.
+/// An allocator that provides its space from a cursor on, and remembers what it was asked.
 #[derive(Drop)]
 pub struct CursorAlloc {
     space: Range,

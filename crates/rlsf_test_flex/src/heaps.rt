@@ -1,4 +1,4 @@
-//! The allocators that the tests are about, what they are asked, and what must come of it.
+//! The allocators of the tests, the questions that they ask, and their expected results.
 
 ghost use Rattle.std.specs.Prelude.{◌≡◌, [], length, IfSome};
 ghost use Rattle.rlsf_base.specs.Range.{LiesIn};
@@ -14,7 +14,7 @@ use std::process::Abort;
 /// The shape of most tests, over any source: chunks up to 8160 bytes.
 pub type Shaped<S> = FlexTlsf<S, u8, u8, 8, 8>;
 
-/// The same over a source with a cursor.
+/// As above, over a source with a cursor.
 pub type Small<'a> = Shaped<CursorSource<'a>>;
 
 /// A step of a test, and what it answers.
@@ -22,15 +22,15 @@ pub type Small<'a> = Shaped<CursorSource<'a>>;
 pub enum Step {
     /// Allocates for so many bytes: the payload's address, or 0.
     Allocate(u32, usize),
-    /// The same, and gives the payload back.
+    /// As above, and deallocates the payload.
     GiveBack(u32, usize),
-    /// Trims: how many ranges went.
+    /// Trims: how many ranges returned to the source.
     Trim(usize),
     /// Reads the footer at an address.
     Footer(usize, (u64, u64)),
 }
 
-/// An allocator over a source, and what must come of its steps.
+/// An allocator over a source, and the expected results of its steps.
 #[derive(Clone, Copy)]
 pub struct Case {
     /// The space of the source, a part of the memory of 4096 bytes from the address 4096 on.
@@ -39,20 +39,20 @@ pub struct Case {
     pub steps: &'static [Step],
     /// What the source is asked, up to the end.
     pub asked: &'static [Question],
-    /// A footer that stands after the end.
+    /// A footer behind the end.
     pub left: Option<(usize, (u64, u64))>,
 }
 
-/// The index of the first step that went otherwise, and what the source was asked.
+/// The index of the first step with a wrong result, and the questions to the source.
 pub type Outcome = (Option<usize>, [Question; 8]);
 
-/// Passes where no step went otherwise, and the source was asked so.
+/// Passes if no step has a wrong result, and these are the questions to the source.
 pub fn is_right(rt: &impl Abort, outcome: Outcome, asked: &[Question]) {
     assert_eq!(rt; outcome, (None, only(asked)));
 }
 
-/// A memory of 4096 bytes from the address 4096 on, and a source of a part of it; nothing where it is no part of it, or the system
-/// refuses memory.
+/// A memory of 4096 bytes from the address 4096 on, and a source of a part of it. `None` if it is no part of the memory, or if the
+/// system is out of memory.
 pub fn parts<'a>(
     alloc: Global,
     space: Range,
@@ -102,7 +102,7 @@ pub fn bytes(size: u32) -> Layout
     Layout::from_size_align_unchecked(size as usize, 1)
 }
 
-/// The address that is allocated for so many bytes, or 0. The payload is given back.
+/// The address that is allocated for so many bytes, or 0. The payload is deallocated.
 fn given_back<S: FlexSource>(flex: &mut Shaped<S>, size: u32) -> usize {
     match flex.allocate(bytes(size)) {
         Some(addr) => {
@@ -123,7 +123,7 @@ pub fn footer(memory: &Memory, addr: usize) -> Option<(u64, u64)> {
     }
 }
 
-/// Whether the allocator answers a step as it has to.
+/// Whether a step has its expected result.
 fn goes_so<S: FlexSource>(flex: &mut Shaped<S>, step: Step) -> bool {
     match step {
         Step::Allocate(size, addr) => number(flex.allocate(bytes(size))) == addr,
@@ -133,7 +133,7 @@ fn goes_so<S: FlexSource>(flex: &mut Shaped<S>, step: Step) -> bool {
     }
 }
 
-/// The index of the first step that the allocator answers otherwise.
+/// The index of the first step with a wrong result.
 pub fn first_wrong<S: FlexSource>(flex: &mut Shaped<S>, steps: &[Step]) -> Option<usize> {
     for (index, step) in steps.iter().enumerate() {
         if !goes_so(flex, *step) {
@@ -143,7 +143,7 @@ pub fn first_wrong<S: FlexSource>(flex: &mut Shaped<S>, steps: &[Step]) -> Optio
     None
 }
 
-/// What comes of a case up to its end. A source that takes nothing back must be asked nothing in the end.
+/// The outcome of a case up to its end. A source that takes nothing back must be asked nothing in the end.
 pub fn outcome(rt: &(impl Abort + AllocGlobal), case: Case) -> Outcome {
     let seen = Cell::new(Questions::new());
     let mut flex = small(rt, case.space, case.habits, &seen);
@@ -162,7 +162,7 @@ pub fn outcome(rt: &(impl Abort + AllocGlobal), case: Case) -> Outcome {
     }
 }
 
-/// Passes where what must comes of each case.
+/// Passes if each case has its expected outcome.
 pub fn are_right(rt: &(impl Abort + AllocGlobal), cases: &[Case]) {
     for case in cases {
         is_right(rt, outcome(rt, *case), case.asked);

@@ -1,5 +1,9 @@
-//! Tests of `rlsf_flex`, over sources of their own, and of `rlsf_trace_flex_runs`: what runs over a source answer, and what sources that
-//! refuse leave. This crate has no other code.
+//! Tests of `rlsf_flex`, `rlsf_trace_flex_runs` and `rlsf_sources`. This crate has no other code.
+//!
+//! `originals.rt` has the original's tests, with their tables below. `growths.rt`, `trims.rt` and `ends.rt` test the life of
+//! ranges. `refusals.rt`, `questions.rt` and `capabilities.rt` test what sources are asked. `loans.rt`, `calls.rt` and `runs.rt`
+//! test calls. `cursor.rt`, `heap_source.rt`, `heaps.rt` and `bumps.rt` have sources and tests over them, and `sources.rt` makes
+//! sources that answer from a list.
 #![tactic(auto)]
 
 #[cfg(test)]

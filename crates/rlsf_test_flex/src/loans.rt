@@ -10,7 +10,7 @@ use rlsf_base::memory::{Addr, Layout, Range};
 use rlsf_flex::{FlexSource, SourceChange};
 use std::cell::Cell;
 
-/// Leaves the source as it is, and answers a number.
+/// Leaves the source as it is, and returns a number.
 #[derive(Drop)]
 struct Look(usize);
 
@@ -61,8 +61,8 @@ fn reads(flex: &Small, addr: Addr, usable: usize, byte: u8) -> bool
     flex.allocation_usable_size(addr) == usable && ends == (Some(byte), Some(byte))
 }
 
-/// Allocates a payload and fills it with 7, allocates another, which may need more memory, and fills that with 9. Reads the first byte
-/// of each, and gives both back.
+/// Allocates a payload and fills it with 7, allocates another, which may need more memory, and fills that with 9. Reads the first
+/// byte of each, and deallocates both.
 fn two(flex: &mut Small, first: Layout, second: Layout) -> Option<(u8, u8)>
     requires { (0 < first.size) × (0 < second.size) }
     ensures { IfSome result (λ reads. (reads.0 ≡ 7) × (reads.1 ≡ 9)) }
@@ -80,8 +80,8 @@ fn two(flex: &mut Small, first: Layout, second: Layout) -> Option<(u8, u8)>
     Some(reads)
 }
 
-/// Fills a payload of 16 bytes, moves it into one of 500, and gives that back. Answers the two addresses, and whether the bytes were
-/// right at each.
+/// Fills a payload of 16 bytes, moves it into one of 500, and deallocates that. Returns the two addresses, and whether the bytes
+/// were right at each.
 fn moved(flex: &mut Small) -> Option<([usize; 2], [bool; 2])> {
     let addr = filled(flex, bytes(16), 7)?;
     let before = reads(flex, addr, 16, 7);

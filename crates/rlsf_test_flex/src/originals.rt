@@ -1,5 +1,5 @@
-//! The original's tests of its allocator over sources, in its thirty configurations and over its two sources: fixed calls, and fixed
-//! lists of bytes that mean calls. What has to come of them are tables, as the list machine over a source computed them
+//! The original's tests of its allocator over sources, in its thirty configurations and over its two sources. They are fixed calls,
+//! and fixed lists of bytes that mean calls. The expected results are tables, as the reference model over a source computed them
 //! (`originals/tables.py`).
 
 mod asked;
@@ -31,7 +31,7 @@ use std::process::Abort;
 /// Where the spaces of the sources start.
 const START: usize = 65536;
 
-/// What has to come of a run.
+/// The expected outcome of a run.
 #[derive(Clone, Copy)]
 struct Outcome {
     /// The address that each call answers which places a payload, less the space's start, or 0 where there is none.
@@ -73,8 +73,7 @@ static AADAADARAAADR: [Call; 13] = [
     Call::Realloc(3, 4),
 ];
 
-/// Bytes that mean calls, and what else the original's test `random` is given: the first byte of the vector that is used, and a
-/// bound of sizes.
+/// Bytes that mean calls, and the other inputs of the original's test `random`: the first byte of the vector, and a bound of sizes.
 #[derive(Clone, Copy)]
 struct List {
     bytes: [u8; 160],
@@ -104,7 +103,7 @@ fn calls_at(place: usize) -> Option<Calls> {
     }
 }
 
-/// What comes of the run at a place over the system: in each configuration one of these.
+/// The expected outcomes of the run at a place over the system: in each configuration one of these.
 fn over_system(place: usize) -> &'static [Outcome] {
     match place {
         0 => &system::MINIMAL,
@@ -118,7 +117,7 @@ fn over_system(place: usize) -> &'static [Outcome] {
     }
 }
 
-/// What comes of the run at a place over a vector: in each configuration one of these.
+/// The expected outcomes of the run at a place over a vector: in each configuration one of these.
 fn over_contiguous(place: usize) -> &'static [Outcome] {
     match place {
         0 => &contiguous::MINIMAL,
@@ -137,7 +136,7 @@ type Shape<'a, FLBitmap, SLBitmap, const FLLEN: usize, const SLLEN: usize> = Opt
     &'a FlexTlsf<ListedSource, FLBitmap, SLBitmap, FLLEN, SLLEN>,
 >;
 
-/// What is done in a run, and what has to be answered.
+/// The ops of a run, and their expected answers.
 fn script_of(rt: &(impl Abort + AllocGlobal), calls: Calls, placed: &[u32]) -> Script {
     let mut script = Script::new(rt, placed);
     match calls {
@@ -147,7 +146,7 @@ fn script_of(rt: &(impl Abort + AllocGlobal), calls: Calls, placed: &[u32]) -> S
     script
 }
 
-/// What a run leaves over a source: what it answered, and the source.
+/// The result of a run over a source: its answers, and the source.
 #[derive(Drop)]
 struct Left {
     answers: Vec<Answer>,
@@ -175,7 +174,7 @@ fn left_by<FLBitmap: BitPattern, SLBitmap: BitPattern, const FLLEN: usize, const
     Left { answers, source }
 }
 
-/// A run, and what has to come of it.
+/// A run, and its expected outcome.
 #[derive(Drop)]
 struct Plan {
     source: Source,
@@ -232,7 +231,7 @@ fn goes_so<FLBitmap: BitPattern, SLBitmap: BitPattern, const FLLEN: usize, const
     Some(is_right(&script, &questions, &left))
 }
 
-/// The number of the first run that goes otherwise.
+/// The number of the first run with a wrong outcome.
 fn first_wrong<FLBitmap: BitPattern, SLBitmap: BitPattern, const FLLEN: usize, const SLLEN: usize>(
     rt: &(impl Abort + AllocGlobal),
     choice: usize,
@@ -248,7 +247,7 @@ fn first_wrong<FLBitmap: BitPattern, SLBitmap: BitPattern, const FLLEN: usize, c
     None
 }
 
-/// Passes where no run goes otherwise, in none of the configurations.
+/// Passes if no run has a wrong outcome, in any of the configurations.
 fn none_is_wrong(rt: &impl Abort, found: &[Option<usize>]) {
     for (index, wrong) in found.iter().enumerate() {
         assert_eq!(rt; *wrong, None, "in the configuration at {index}");

@@ -1,5 +1,5 @@
-//! Sources that answer from a list, as it is and with each answer replaced by none in turn: after each call that is refused, all
-//! bytes and the source's outstanding ranges are as before, and the run goes on.
+//! Sources that answer from a list, first as it is, and then with each answer replaced by none in turn. After each refused call,
+//! all bytes and the source's outstanding ranges are unchanged, and the run goes on.
 
 mod tables;
 
@@ -15,15 +15,15 @@ use rlsf_trace_text::{Answer, Op, Trace, text_of};
 use std::alloc::AllocError;
 use std::process::Abort;
 
-/// The answers of a source, the calls of its runs, and what each run answers and asks: first with the answers as they are, and then
-/// with each of them replaced by none.
+/// The answers of a source, the calls of its runs, and the expected answers and questions of each run. The first run has the
+/// answers as they are. Each later run has one of them replaced by none.
 struct List {
     answers: &'static [SourceAnswer],
     trace: &'static str,
     runs: &'static [&'static str],
 }
 
-/// What calls leave at the end: what they answered, the memory and the source.
+/// The result of calls: their answers, the memory and the source.
 #[derive(Drop)]
 struct Left {
     answers: Vec<Answer>,
@@ -62,7 +62,7 @@ fn up_to_end(asked: &[Question]) -> (&[Question], &[Question]) {
     (asked, &[])
 }
 
-/// Whether a question was answered with none.
+/// Whether the answer to a question was none.
 fn is_refused(question: &Question) -> bool {
     matches!(
         question,
@@ -99,8 +99,8 @@ fn follows(before: &Left, after: &Left) -> bool {
     }
 }
 
-/// What the ops leave; nothing where one of them, done as the last one, doesn't answer what it answers among all of them, or is refused and
-/// leaves something else than was there.
+/// The result of the ops. `None` if one of them, done as the last one, has another answer than among all of them. `None` also if it
+/// is refused and changes something.
 fn left_by_each(
     rt: &(impl Abort + AllocGlobal),
     capabilities: Capabilities,
@@ -172,7 +172,7 @@ fn told(
     Some(text)
 }
 
-/// The first run that goes otherwise, or 0 where there isn't a run for each answer and one more.
+/// The first run with a wrong result. 0 if there isn't a run for each answer and one more.
 fn first_wrong(
     rt: &(impl Abort + AllocGlobal),
     capabilities: Capabilities,

@@ -17,7 +17,7 @@ const GROWING: Capabilities = Capabilities {
     min_align: 1,
 };
 
-/// The range that it gives.
+/// The range that it provides.
 const RANGE: Range = Range {
     start: 4097,
     len: 96,

@@ -12,7 +12,7 @@ use std::alloc::Global;
 /// How many questions a source remembers.
 const ROOM: usize = 64;
 
-/// A memory of 16384 bytes from the address 4096 on, and a source of all of it with these answers; nothing where the system refuses
+/// A memory of 16384 bytes from the address 4096 on, and a source of all of it with these answers. `None` if the system is out of
 /// memory.
 pub fn parts(
     alloc: Global,
@@ -30,8 +30,8 @@ pub fn parts(
     parts_of(alloc, space, capabilities, answers, ROOM)
 }
 
-/// A memory of the space's bytes, and a source of all of it with these answers, which remembers so many questions; nothing where
-/// the system refuses memory.
+/// A memory of the space's bytes, and a source of all of it with these answers, which remembers so many questions. `None` if the
+/// system is out of memory.
 pub fn parts_of(
     alloc: Global,
     space: Range,

@@ -1,4 +1,4 @@
-//! Trims: what goes back to a source while payloads live, what comes after it, and what is left for the end.
+//! Trims: which ranges return to a source while payloads live, what follows, and what is left for the end.
 
 use crate::cursor::{Habits, Question, Questions};
 use crate::heap_source::over_allocator;
@@ -26,8 +26,8 @@ const NEITHER: Habits = Habits {
     refuses: false,
 };
 
-/// Trims with nothing outstanding. Allocates for one byte, allocates for 100 and gives them back, trims twice, and allocates for 100
-/// again.
+/// Trims with nothing outstanding. Allocates for one byte, allocates for 100 and deallocates them, trims twice, and allocates for
+/// 100 again.
 const USED: Case = Case {
     space: ALL,
     habits: NEITHER,
@@ -70,7 +70,7 @@ static CASES: [Case; 8] = [
         asked: &[Question::Alloc(64), Question::Grow(4096, 64, 224)],
         ..USED
     },
-    // The second range goes back, and another is asked for.
+    // The second range returns to the source, and another is asked for.
     Case {
         habits: Habits {
             dealloc: true,
@@ -111,7 +111,7 @@ static CASES: [Case; 8] = [
         asked: &[Question::Alloc(64), Question::Dealloc(4096, 64)],
         ..USED
     },
-    // What a range grew by doesn't go back alone.
+    // The part by which a range grew doesn't return alone.
     Case {
         habits: Habits {
             dealloc: true,
@@ -141,11 +141,11 @@ static CASES: [Case; 8] = [
     },
 ];
 
-/// The addresses of two payloads, and how many ranges went with each of three trims.
+/// The addresses of two payloads, and how many ranges returned to the source with each of three trims.
 type Shrunk = ([usize; 2], [usize; 3]);
 
-/// Allocates two payloads of so many bytes and trims, gives the newer one back and trims, gives the older one back and trims. Answers
-/// the addresses, and how many ranges went each time.
+/// Allocates two payloads of so many bytes and trims. Deallocates the newer one and trims, then the older one and trims. Returns
+/// the addresses, and how many ranges returned to the source each time.
 fn shrinks<S: FlexSource>(flex: &mut Shaped<S>, first: u32, second: u32) -> Option<Shrunk> {
     let older = flex.allocate(bytes(first))?;
     let newer = flex.allocate(bytes(second))?;
@@ -157,7 +157,7 @@ fn shrinks<S: FlexSource>(flex: &mut Shaped<S>, first: u32, second: u32) -> Opti
     Some(([older.get(), newer.get()], [held, one_left, none_left]))
 }
 
-/// Passes where so many ranges went.
+/// Passes if so many ranges returned to the source.
 fn went(rt: &impl Abort, shrunk: Option<Shrunk>, expected: Shrunk) {
     assert_eq!(rt; shrunk, Some(expected));
 }
@@ -189,7 +189,7 @@ const ODD: Range = Range {
     len: 4095,
 };
 
-/// A source that grows its ranges, takes them back, and gives them from any address on.
+/// A source that grows its ranges, takes them back, and provides them from any address on.
 const GROWING: Habits = Habits {
     dealloc: true,
     grow: true,
@@ -213,7 +213,7 @@ fn a_range_that_grew_goes_back_once(rt: HostRuntime) {
     is_right(&rt, (None, source.asked()), &A_GROWN_RANGE_WENT);
 }
 
-/// The two ranges of a source that gives one, doesn't grow it at first, and gives another.
+/// The two ranges of a source that provides one, doesn't grow it at first, and provides another.
 const FIRST: Range = Range {
     start: 4096,
     len: 101,

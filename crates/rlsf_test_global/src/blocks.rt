@@ -41,7 +41,7 @@ static GROWN: [(usize, u64); 10] = [
     (262120, 135584),
 ];
 
-/// Passes where calls on an allocator over so many bytes answer what stands beside them, and leave these words.
+/// Passes if calls on an allocator over so many bytes have the results beside them, and leave these words.
 fn leave(
     rt: &impl Abort,
     alloc: Global,
@@ -61,7 +61,7 @@ fn a_chunk_that_grew(rt: HostRuntime) -> Result<(), Fail> {
     leave(&rt, rt.alloc(), 196608, &two_pages(65584), &GROWN)
 }
 
-/// A free block of 64 bytes, a used one of 96 with the word before its payload, a free one of 65344 and the chunk's end.
+/// A free block of 64 bytes, a used one of 96 with the word before its payload, a free one of 65344, and the end.
 static MOVED: [(usize, u64); 13] = [
     (65536, 64),
     (65544, 0),

@@ -42,7 +42,7 @@ fn read<Options: GlobalTlsfOptions>(
     told(answer, &all, len)
 }
 
-/// The place of the first step that doesn't answer what stands beside it, and its answer.
+/// The place of the first step with another result than the one beside it, and its result.
 pub fn first_wrong<Options: GlobalTlsfOptions>(
     locked: &mut Locked<Options>,
     steps: &[(Step, usize)],
@@ -67,7 +67,7 @@ pub fn over<Options: GlobalTlsfOptions>(
     Ok(Locked::new(alloc, Memory::new(alloc, 65536, len)?))
 }
 
-/// The same of a new allocator over so many bytes.
+/// As above, for a new allocator over so many bytes.
 fn first_wrong_over<Options: GlobalTlsfOptions>(
     alloc: Global,
     len: usize,

@@ -1,5 +1,6 @@
-//! The original's random tests of its shared allocator, of both kinds: fixed lists of bytes that mean calls. Where the payloads have to lie
-//! are tables, as the machine behind the lock computed them (`originals/tables.py`), the same for both kinds.
+//! The original's random tests of its shared allocator, of both kinds: fixed lists of bytes that mean calls. The places of the
+//! payloads are tables, as the reference model behind the lock computed them (`originals/tables.py`). They are equal for both
+//! kinds.
 
 mod lists;
 mod tables;
@@ -43,7 +44,7 @@ enum Call {
 }
 
 impl<Options: GlobalTlsfOptions> Run<Options> {
-    /// Nothing is live yet. Nothing where the system refuses memory.
+    /// Nothing is live yet. `None` if the system is out of memory.
     fn new(alloc: Global, bytes: &[u8], placed: &[u32]) -> Option<Self> {
         let mut bytes = bytes.to_vec(alloc).ok()?;
         bytes.reverse();
@@ -58,7 +59,8 @@ impl<Options: GlobalTlsfOptions> Run<Options> {
         })
     }
 
-    /// Whether all calls answer what they have to, up to the last whole one, and all payloads that are live then can be freed.
+    /// Whether all calls up to the last complete one have their expected results, and all payloads that are live then can be
+    /// deallocated.
     fn is_right<R: Wait>(&mut self, rt: &R) -> bool {
         for _ in 0..self.bytes.len() {
             let Some(call) = self.next_call() else {
@@ -110,7 +112,7 @@ impl<Options: GlobalTlsfOptions> Run<Options> {
         Some(index.checked_rem(self.live.len()))
     }
 
-    /// Whether a call answers what it has to.
+    /// Whether a call has its expected result.
     fn goes_so<R: Wait>(&mut self, rt: &R, call: Call) -> bool {
         match call {
             Call::Nothing => true,
@@ -208,7 +210,7 @@ fn filling(mark: u8) -> [u8; 256] {
     bytes
 }
 
-/// Whether a list's calls are answered as they have to be.
+/// Whether a list's calls have their expected results.
 fn goes_so<R: Wait, Options: GlobalTlsfOptions>(
     rt: &R,
     alloc: Global,
@@ -221,7 +223,7 @@ fn goes_so<R: Wait, Options: GlobalTlsfOptions>(
     }
 }
 
-/// Passes where all lists go as they have to.
+/// Passes if all lists have their expected results.
 fn all_go_so<R: Abort + Wait, Options: GlobalTlsfOptions>(rt: &R, alloc: Global) {
     let found = [
         goes_so::<_, Options>(rt, alloc, &LIST_1, &PLACED_1),

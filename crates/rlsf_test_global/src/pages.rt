@@ -1,4 +1,4 @@
-//! What the page source hands out.
+//! What the page source provides.
 
 use rlsf_base::memory::Range;
 use rlsf_flex::FlexSource;
@@ -13,7 +13,7 @@ fn numbers(answer: Option<Range>) -> [usize; 2] {
     }
 }
 
-/// Passes where the ranges are the expected ones.
+/// Passes if the ranges are the expected ones.
 fn are(rt: &impl Abort, ranges: &[[usize; 2]], expected: &[[usize; 2]]) {
     assert_eq!(rt; ranges, expected);
 }

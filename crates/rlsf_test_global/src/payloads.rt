@@ -87,8 +87,8 @@ static WRITES: [(usize, usize, &[u8], usize); 9] = [
     (7, usize::MAX, &[46], 2),
 ];
 
-/// Addresses and offsets from which four bytes are read into four sevens, each with 0, or the number of the error, and with what is there
-/// then.
+/// Addresses and offsets from which four bytes are read into four sevens. Each has 0 or the number of the error, and the bytes that
+/// are there then.
 static READS: [(usize, usize, usize, [u8; 4]); 8] = [
     (65552, 0, 0, [1, 2, 3, 20]),
     (65552, 2, 0, [3, 20, 21, 6]),
@@ -112,7 +112,7 @@ fn written(
     Some(done(shared.write(rt, addr, offset, bytes)))
 }
 
-/// The same of a read, with the bytes that are there then.
+/// As above for a read, with the bytes that are there then.
 fn read(
     rt: &impl Wait,
     shared: &impl Shared,
@@ -125,7 +125,7 @@ fn read(
     Some((done(answer), bytes))
 }
 
-/// The place of the first write that answers otherwise.
+/// The place of the first write with a wrong result.
 fn first_wrong_write(rt: &impl Wait, shared: &impl Shared) -> Option<usize> {
     for (place, (addr, offset, bytes, wanted)) in WRITES.iter().enumerate() {
         if written(rt, shared, *addr, *offset, bytes) != Some(*wanted) {
@@ -135,7 +135,7 @@ fn first_wrong_write(rt: &impl Wait, shared: &impl Shared) -> Option<usize> {
     None
 }
 
-/// The place of the first read that answers otherwise, or leaves other bytes.
+/// The place of the first read with a wrong result or other bytes.
 fn first_wrong_read(rt: &impl Wait, shared: &impl Shared) -> Option<usize> {
     for (place, (addr, offset, wanted, bytes)) in READS.iter().enumerate() {
         if read(rt, shared, *addr, *offset) != Some((*wanted, *bytes)) {
@@ -145,7 +145,7 @@ fn first_wrong_read(rt: &impl Wait, shared: &impl Shared) -> Option<usize> {
     None
 }
 
-/// Passes where all writes, and then all reads, are answered as they have to be.
+/// Passes if all writes, and then all reads, have their expected results.
 fn are_right(rt: &(impl Wait + Abort), shared: &impl Shared) {
     assert_eq!(rt; first_wrong_write(rt, shared), None);
     assert_eq!(rt; first_wrong_read(rt, shared), None);
@@ -156,7 +156,7 @@ fn layout() -> Layout {
     Layout::from_size_align_unchecked(40, 8)
 }
 
-/// Passes where they are of an allocator of this kind.
+/// Passes if they are of an allocator of this kind.
 fn are_right_of<Options: GlobalTlsfOptions>(
     rt: &(impl Wait + Abort),
     alloc: Global,

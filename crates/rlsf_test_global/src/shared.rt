@@ -50,7 +50,7 @@ fn read<R: Wait, Options: GlobalTlsfOptions>(
     told(answer, &all, len)
 }
 
-/// The place of the first step that doesn't answer what stands beside it, and its answer, over so many bytes from 65536 on.
+/// The place of the first step with another result than the one beside it, and its result, over so many bytes from 65536 on.
 fn first_wrong<R: Wait, Options: GlobalTlsfOptions>(
     rt: &R,
     alloc: Global,

@@ -1,5 +1,5 @@
-//! Calls as rows of tables, each with what it has to answer: an address, a number of bytes, 0 for done, or the number of an error.
-//! They are made of the value under the lock and of the allocator with its lock.
+//! Calls as entries of tables, each with its expected result: an address, a number of bytes, 0 for done, or the number of an error.
+//! They are calls of the value under the lock, and of the allocator with its lock.
 
 ghost use Rattle.rlsf_base.specs.Layout.{IsLayout};
 
@@ -134,7 +134,7 @@ pub fn counted(answer: Result<usize, GlobalError>) -> usize {
 /// What the bytes are that a read goes into. A read that is refused has to leave them.
 pub const UNREAD: [u8; 40] = [77; 40];
 
-/// 0 where a read gave the first of the bytes that are written, or the number of the error.
+/// 0 if a read returned the first of the bytes that are written, or the number of the error.
 pub fn told(answer: Result<(), GlobalError>, bytes: &[u8; 40], len: usize) -> usize {
     match answer {
         Ok(()) if bytes.get(..len) == rising(len) => 0,
@@ -143,10 +143,10 @@ pub fn told(answer: Result<(), GlobalError>, bytes: &[u8; 40], len: usize) -> us
     }
 }
 
-/// What is answered where bytes aren't those that they should be.
+/// The result if bytes aren't those that they should be.
 const OTHER_BYTES: usize = 99;
 
-/// What is answered where a step can't be done, as it names no address, no layout or too many bytes.
+/// The result if a step can't be done, since it names no address, no layout or too many bytes.
 pub const NO_STEP: usize = 98;
 
 pub const NO_ROOM: usize = GlobalError::NoRoom as usize;
@@ -157,7 +157,7 @@ pub const WRONG_LAYOUT: usize = GlobalError::WrongLayout as usize;
 
 const OUT_OF_RANGE: usize = GlobalError::OutOfRange as usize;
 
-/// Passes where no step was answered otherwise in any of the runs: it and its answer stand where one was.
+/// Passes if no step has another result in any of the runs. Otherwise the failure shows the step and its result.
 pub fn none_is_wrong(rt: &impl Abort, found: &[Option<(usize, usize)>]) {
     for (index, wrong) in found.iter().enumerate() {
         assert_eq!(rt; *wrong, None, "in the run at {index}");
@@ -182,7 +182,7 @@ pub fn tables() -> [&'static [(Step, usize)]; 7] {
     [&FREED, &WRITES, &READS, &MOVES, &STAYS, &SHRINKS, &ASKED]
 }
 
-/// An address that is strange, one that was freed, and one that was freed and handed out again, which is live then.
+/// An address that is strange, one that was freed, and one that was freed and provided again, which is live then.
 static FREED: [(Step, usize); 15] = [
     (Step::Allocate(1, 1), 65552),
     (Step::Deallocate(65552), 0),
@@ -240,8 +240,8 @@ static STAYS: [(Step, usize); 4] = [
     (Step::NoMove(65552, 100, 8, 70000), NO_ROOM),
 ];
 
-/// A payload that gets shorter where it stands: fewer bytes are usable, the next payload lies behind them, and the bytes that are left
-/// stay.
+/// A payload that gets shorter in place: fewer bytes are usable, the next payload lies behind them, and the other bytes are
+/// unchanged.
 static SHRINKS: [(Step, usize); 11] = [
     (Step::Alloc(100, 8), 65552),
     (Step::Usable(65552), 112),

@@ -92,7 +92,7 @@ fn of_two<R: Threads + Wait + Sync, Options: GlobalTlsfOptions + Send>(
 fn fill_and_read_back(rt: HostRuntime) -> Result<(), Fail> {
     let coalescing = of_two::<_, ()>(&rt, rt.alloc())?;
     let small = of_two::<_, SmallGlobalTlsfOptions>(&rt, rt.alloc())?;
-    // Nothing is live behind them, so one free block has nearly the whole page.
+    // Nothing is live behind them, so one free block has nearly the complete page.
     assert_eq!(rt; [coalescing, small], [(ROUNDS, ROUNDS, Some(65552)); 2]);
     Ok(())
 }

@@ -17,7 +17,8 @@ abbrev chunk : Range
 chunk = range_at 4096 256
 
 -- the range becomes the chunk
-pub one_chunk : (before after : HeapView) → before.state ≡ empty → Steps 59 8 after (λ t. (taken : Option ℕ) × Inserts 59 before.state chunk taken t) → (after.state.chunks ≡ chunk ∷ []) × (after.state.used ≡ [])
+pub one_chunk : (before after : HeapView) → before.state ≡ empty → Steps 59 8 after (λ t. (taken : Option ℕ) × Inserts 59 before.state chunk taken t)
+    → (after.state.chunks ≡ chunk ∷ []) × (after.state.used ≡ [])
 unfolding Steps
 one_chunk before after new ((taken, step), stands) =
     let e : after.state ≡ with_chunks (cut (max_pool_size 59) (aligned_part chunk)) empty = step.after ∙ ap (with_chunks (cut (max_pool_size 59) (aligned_part chunk))) new in
@@ -30,7 +31,11 @@ module _ (s : State) (one : s.chunks ≡ chunk ∷ []) where
   -- a range may be appended behind it
   pub next_of_chunk : (m : Space) (len : ℕ) → m.start ≡ 4096 → length m.bytes ≡ 1024 → len ≤ 512 → IsNext (range_of m) s (range_at 4352 len)
   next_of_chunk m len start long short = record {
-    fresh = record { lies_in = (omega (arith, start), omega (arith, start, long, short)); apart = λ a low high. ap (λ cs. coverage itself cs a) one ∙ ap (λ n. n + 0) (covers-behind chunk a low) };
+    fresh = record {
+      lies_in = (omega (arith, start), omega (arith, start, long, short));
+      apart = λ a low high. ap (λ cs. coverage itself cs a) one
+          ∙ ap (λ n. n + 0) (covers-behind chunk a low);
+    };
     chunk = chunk;
     is_chunk = is_chunk;
     ends = refl;

@@ -1,5 +1,5 @@
 //! What becomes of a heap's memory when the heap is dropped.
-use rlsf_base::memory::{OpenMemory, Range};
+use rlsf_base::memory::{MemoryError, OpenMemory, Range};
 use rlsf_heap::Heap;
 use std::alloc::Global;
 use std::fs;
@@ -14,16 +14,12 @@ const POOL: Range = Range {
     len: 1 << 25,
 };
 
-/// Makes a heap, and drops it with no payload. Returns whether the system had the memory.
-fn made_and_dropped(alloc: Global) -> bool {
-    match OpenMemory::reserve(alloc, POOL.start, POOL.len) {
-        Ok(memory) => {
-            let mut heap = Large::new(memory);
-            heap.insert_free_block_ptr(POOL);
-            true
-        }
-        Err(_) => false,
-    }
+/// Makes a heap, and drops it with no payload. Returns an error if the system has no memory.
+fn made_and_dropped(alloc: Global) -> Result<(), MemoryError> {
+    let memory = OpenMemory::reserve(alloc, POOL.start, POOL.len)?;
+    let mut heap = Large::new(memory);
+    heap.insert_free_block_ptr(POOL);
+    Ok(())
 }
 
 /// The number in front of the first space.
@@ -44,7 +40,7 @@ fn mapped(rt: &(impl Files + AllocGlobal)) -> Option<usize> {
 fn dropped_heaps_deallocate_their_memory(rt: HostRuntime) {
     let before = mapped(&rt).expect(&rt, "a number");
     for _ in 0..200 {
-        assert!(rt; made_and_dropped(rt.alloc()));
+        made_and_dropped(rt.alloc()).expect(&rt, "memory");
         let then = mapped(&rt).expect(&rt, "a number");
         assert!(rt; then.saturating_sub(before) < 1 << 31);
     }

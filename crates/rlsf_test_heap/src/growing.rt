@@ -63,7 +63,7 @@ fn grown_in_new_heap(alloc: Global, layout: Layout) -> Option<(u8, [bool; 3])>
 fn growing_keeps_bytes(rt: HostRuntime) {
     let layout = Layout::from_size_align(17, 1).expect(&rt, "a layout");
     if layout.size() > 0 {
-        let answer = grown_in_new_heap(rt.alloc(), layout);
-        assert!(rt; answer == Some((7, [true, true, false])));
+        let answer = grown_in_new_heap(rt.alloc(), layout).expect(&rt, "memory and room");
+        assert!(rt; answer == (7, [true, true, false]));
     }
 }

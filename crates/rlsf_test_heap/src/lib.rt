@@ -1,5 +1,8 @@
-//! Tests of `rlsf_heap`, `rlsf_local` and `rlsf_shared_heap`: programs without a proof file, worked examples through payloads, collections, and
-//! threads. This crate has no other code, so that these three are proved once.
+//! Tests of `rlsf_heap`, `rlsf_local` and `rlsf_shared_heap`. This crate has no other code, so that these three are proved once.
+//!
+//! In reading order: `pair` and `growing` are programs without a proof file; `rows` and `resized_rows` compare the addresses of
+//! payloads with worked examples; `ends` shows that a dropped heap deallocates its memory; `local` has collections in a heap, and
+//! `printed` what is printed of one; `raw` takes a payload apart; `shared` and `returned` share a heap between threads, and take it apart again.
 #![tactic(auto)]
 
 #[cfg(test)]
@@ -11,7 +14,13 @@ mod local;
 #[cfg(test)]
 mod pair;
 #[cfg(test)]
+mod printed;
+#[cfg(test)]
+mod raw;
+#[cfg(test)]
 mod resized_rows;
+#[cfg(test)]
+mod returned;
 #[cfg(test)]
 mod rows;
 #[cfg(test)]

@@ -103,7 +103,8 @@ fn served_in_place(memory: OpenMemory, layout: Layout) -> RawParts
 #[test]
 fn two_payloads_are_written_at_once(rt: HostRuntime) {
     let layout = Layout::from_size_align_unchecked(100, 64);
-    assert!(rt; pair_of_new_heap(rt.alloc(), layout) == Some([7, 9]));
+    let reads = pair_of_new_heap(rt.alloc(), layout).expect(&rt, "memory and room");
+    assert!(rt; reads == [7, 9]);
 }
 
 #[test]

@@ -1,5 +1,6 @@
--- Ranges that were handed out, and those of them that are outstanding.
-use Rattle.std.proofs.Common.{◌≡◌, ℕ, suc, ◌+◌, ◌-◌, ◌%◌, ◌≤◌, ◌⊎◌, List, [], ◌∷◌, ◌++◌, Bool, IsTrue, Option, Some, None, MatchOption, length, arith, refl, sym, subst, inl, inr}
+-- Ranges that were provided, and those of them that are outstanding.
+use Rattle.std.proofs.Common.{◌≡◌, ℕ, suc, ◌+◌, ◌-◌, ◌%◌, ◌≤◌, ◌⊎◌, List, [], ◌∷◌, ◌++◌, Bool, IsTrue, Option, Some, None, MatchOption}
+use Rattle.std.proofs.Common.{length, arith, refl, sym, subst, inl, inr}
 use Rattle.std.specs.Bool.{MatchBool}
 use Rattle.std.specs.List.{AllWithin}
 use Rattle.rlsf_base.specs.declared.memory.range.Range.{Range}
@@ -10,7 +11,8 @@ use Rattle.rlsf_machine.specs.Lists.{IsIn}
 use Rattle.rlsf_machine.specs.Terms.{IsGiven, IsGrown, with_len}
 use Rattle.rlsf_machine.specs.WellFormed.{covers, coverage, itself}
 use Rattle.rlsf_machine.proofs.Between.{IsIn-between, coverage-between}
-use Rattle.rlsf_machine.proofs.Coverage.{IsIn-append, IsIn-append_left, IsIn-append_right, inside, before, behind, covers-before, covers-behind, covers-split, coverage-append, where_is}
+use Rattle.rlsf_machine.proofs.Coverage.{IsIn-append, IsIn-append_left, IsIn-append_right, inside, before, behind, covers-before, covers-behind, covers-split, coverage-append}
+use Rattle.rlsf_machine.proofs.Coverage.{where_is}
 use Rattle.rlsf_test_source.specs.declared.listed.Question.{Question}
 use Rattle.rlsf_test_source.specs.Listed.{HandsOut, Listed, MayOwe}
 
@@ -26,7 +28,8 @@ clear_from_each r (x ∷ xs) each a low high =
     omega (arith, first, clear_from_each r xs (λ k d from below. each (suc k) d (omega arith) (omega arith)) a low high)
 
 -- so is one that was found to be apart from each
-pub clear_if_true : (r : Range) (xs : List Range) (Other : Type 0) (answer : Bool) → MatchBool answer (AllWithin (AreApart r) xs 0 (length xs)) Other → IsTrue answer → IsClear r xs
+pub clear_if_true : (r : Range) (xs : List Range) (Other : Type 0) (answer : Bool) → MatchBool answer (AllWithin (AreApart r) xs 0 (length xs)) Other → IsTrue answer
+    → IsClear r xs
 clear_if_true r xs Other answer found is_true = clear_from_each r xs (subst (λ (b : Bool). MatchBool b (AllWithin (AreApart r) xs 0 (length xs)) Other) is_true found)
 
 coverage-one : (xs : List Range) (r : Range) (a : ℕ) → coverage itself (xs ++ r ∷ []) a ≡ coverage itself xs a + covers r a
@@ -40,11 +43,11 @@ is_other q r xs ys i = elim (IsIn-append q xs (r ∷ ys) i) [
   | inr (inr h) ↦ inr (IsIn-append_right q xs ys h)
 ]
 
--- the source with one more range handed out
+-- the source with one more range provided
 abbrev with_taken : Listed → Range → Listed
 with_taken s r = record s { taken = s.taken ++ r ∷ [] }
 
--- a range that was handed out may be outstanding beside the others
+-- a range that was provided may be outstanding beside the others
 new_range : (s t : Listed) (r : Range) → HandsOut s r t → (owed : List Range) → MayOwe s owed → MayOwe t (r ∷ owed)
 new_range s t r out owed may = subst (λ (u : Listed). MayOwe u (r ∷ owed)) (sym out.after) (record { in_space = in_space; taken = taken; disjoint = disjoint })
   where
@@ -68,7 +71,8 @@ remembering t u asked same owed may = subst (λ (v : Listed). MayOwe v owed) (sy
 
 -- what an answer to the question for a range leaves
 pub answered : (s t u : Listed) (asked : List Question) (min_size : ℕ) (answer : Option Range)
-    → MatchOption answer (t ≡ s) (λ r. HandsOut s r t × (min_size ≤ r.len) × IsPowerOfTwo s.terms.min_align × (r.start % s.terms.min_align ≡ 0)) → u ≡ record t { asked = asked }
+    → MatchOption answer (t ≡ s) (λ r. HandsOut s r t × (min_size ≤ r.len) × IsPowerOfTwo s.terms.min_align × (r.start % s.terms.min_align ≡ 0))
+    → u ≡ record t { asked = asked }
     → (owed : List Range) → MayOwe s owed → MatchOption answer (MayOwe u owed) (λ r. IsGiven s.terms owed min_size r × MayOwe u (r ∷ owed))
 answered s t u asked min_size None as_before same owed may = remembering t u asked same owed (subst (λ (v : Listed). MayOwe v owed) (sym as_before) may)
 answered s t u asked min_size (Some r) (out, long, power, aligned) same owed may = (
@@ -80,8 +84,9 @@ answered s t u asked min_size (Some r) (out, long, power, aligned) same owed may
 abbrev pub behind_range : Range → ℕ → Range
 behind_range r len = range_at (end_of r) (len - r.len)
 
--- a range and the bytes behind it that were handed out are one that may be outstanding
-longer_range : (s t : Listed) (r : Range) (min_new_len len : ℕ) → r.len ≤ min_new_len → min_new_len ≤ len → HandsOut s (behind_range r len) t → (xs ys : List Range) → MayOwe s (xs ++ r ∷ ys)
+-- a range and the bytes behind it that were provided are one that may be outstanding
+longer_range : (s t : Listed) (r : Range) (min_new_len len : ℕ) → r.len ≤ min_new_len → min_new_len ≤ len → HandsOut s (behind_range r len) t → (xs ys : List Range)
+    → MayOwe s (xs ++ r ∷ ys)
     → IsGrown s.terms (xs ++ ys) r min_new_len len × MayOwe t (xs ++ with_len r len ∷ ys)
 longer_range s t r min_new_len len longer long out xs ys may = (
   record { lies_in = lies_in; apart = apart; long = long },
@@ -126,13 +131,15 @@ longer_range s t r min_new_len len longer long out xs ys may = (
 -- what an answer to the question for growth leaves
 pub answered_growth : (s t u : Listed) (asked : List Question) (r : Range) (min_new_len : ℕ) (answer : Option ℕ) → r.len ≤ min_new_len
     → MatchOption answer (t ≡ s) (λ len. HandsOut s (behind_range r len) t × (min_new_len ≤ len)) → u ≡ record t { asked = asked }
-    → (xs ys : List Range) → MayOwe s (xs ++ r ∷ ys) → MatchOption answer (MayOwe u (xs ++ r ∷ ys)) (λ len. IsGrown s.terms (xs ++ ys) r min_new_len len × MayOwe u (xs ++ with_len r len ∷ ys))
-answered_growth s t u asked r min_new_len None longer as_before same xs ys may = remembering t u asked same (xs ++ r ∷ ys) (subst (λ (v : Listed). MayOwe v (xs ++ r ∷ ys)) (sym as_before) may)
+    → (xs ys : List Range) → MayOwe s (xs ++ r ∷ ys)
+    → MatchOption answer (MayOwe u (xs ++ r ∷ ys)) (λ len. IsGrown s.terms (xs ++ ys) r min_new_len len × MayOwe u (xs ++ with_len r len ∷ ys))
+answered_growth s t u asked r min_new_len None longer as_before same xs ys may =
+    remembering t u asked same (xs ++ r ∷ ys) (subst (λ (v : Listed). MayOwe v (xs ++ r ∷ ys)) (sym as_before) may)
 answered_growth s t u asked r min_new_len (Some len) longer (out, long) same xs ys may =
     let (grown, owes) = longer_range s t r min_new_len len longer long out xs ys may in
     (grown, remembering t u asked same (xs ++ with_len r len ∷ ys) owes)
 
--- a range goes back
+-- a range returns to the source
 pub gone_range : (s : Listed) (r : Range) (xs ys : List Range) → MayOwe s (xs ++ r ∷ ys) → MayOwe s (xs ++ ys)
 gone_range s r xs ys may = record {
   in_space = λ q i. may.in_space q (IsIn-between q r xs ys i);

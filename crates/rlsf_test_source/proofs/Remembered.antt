@@ -1,5 +1,6 @@
 -- What a source remembers of a question and its answer.
-use Rattle.std.proofs.Common.{◌≡◌, ℕ, ◌+◌, ◌%◌, ◌≤◌, List, [], ◌∷◌, ◌++◌, length, length-append, append-nil, append_assoc, map, Option, Some, None, MatchOption, arith, sym, ap, ◌∙◌}
+use Rattle.std.proofs.Common.{◌≡◌, ℕ, ◌+◌, ◌%◌, ◌≤◌, List, [], ◌∷◌, ◌++◌, length, length-append, append-nil, append_assoc, map, Option, Some, None}
+use Rattle.std.proofs.Common.{MatchOption, arith, sym, ap, ◌∙◌}
 use Rattle.std.specs.Prelude.{if◌then◌else◌}
 use Rattle.std.proofs.lemmas.Bool.{lt-ltb}
 use Rattle.rlsf_base.specs.declared.memory.range.Range.{Range}
@@ -8,15 +9,15 @@ use Rattle.rlsf_machine.specs.Note.{LeadsBy, Note, alloc, grow}
 use Rattle.rlsf_test_source.specs.Listed.{HandsOut, Listed, Remembers, question_of, remembered}
 use Rattle.rlsf_test_source.proofs.HandedOut.{behind_range}
 
--- two values of a source keep to the same, and remember the same
+-- two values of a source have equal terms, equal room and equal questions
 abbrev IsAlike : Listed → Listed → Type 0
 IsAlike s t = (t.terms ≡ s.terms) × (t.room ≡ s.room) × (t.asked ≡ s.asked)
 
--- the same value is alike
+-- equal values are alike
 alike_if_same : (s t : Listed) → t ≡ s → IsAlike s t
 alike_if_same s t e = (ap (λ (v : Listed). v.terms) e, ap (λ (v : Listed). v.room) e, ap (λ (v : Listed). v.asked) e)
 
--- what is handed out leaves the rest alike
+-- what is provided leaves the rest alike
 alike_if_out : (s t : Listed) (r : Range) → HandsOut s r t → IsAlike s t
 alike_if_out s t r out = (ap (λ (v : Listed). v.terms) out.after, ap (λ (v : Listed). v.room) out.after, ap (λ (v : Listed). v.asked) out.after)
 
@@ -43,10 +44,12 @@ remembers_growth s t u r min_new_len None as_before is = remembers s t u (grow r
 remembers_growth s t u r min_new_len (Some len) (out, long) is = remembers s t u (grow r min_new_len (Some len)) (alike_if_out s t (behind_range r len) out) is
 
 -- notes lead to a source that remembers them behind the others, if there is room for all
-pub remembered-led : (x y : Listed) (ns : List Note) → LeadsBy Remembers x ns y → length x.asked + length ns ≤ x.room → (y.room ≡ x.room) × (y.asked ≡ x.asked ++ map question_of ns)
+pub remembered-led : (x y : Listed) (ns : List Note) → LeadsBy Remembers x ns y → length x.asked + length ns ≤ x.room
+    → (y.room ≡ x.room) × (y.asked ≡ x.asked ++ map question_of ns)
 remembered-led x y [] same room = (ap (λ (v : Listed). v.room) same, ap (λ (v : Listed). v.asked) same ∙ sym (append-nil x.asked))
 remembered-led x y (n ∷ ns) (z, led, rest) room =
-    let at_end : z.asked ≡ x.asked ++ question_of n ∷ [] = led.asked ∙ ap (λ b. if b then x.asked ++ question_of n ∷ [] else x.asked) (lt-ltb (length x.asked) x.room (omega (arith, room))) in
+    let at_end : z.asked ≡ x.asked ++ question_of n ∷ [] =
+    led.asked ∙ ap (λ b. if b then x.asked ++ question_of n ∷ [] else x.asked) (lt-ltb (length x.asked) x.room (omega (arith, room))) in
     let longer : length z.asked ≡ length x.asked + 1 = ap length at_end ∙ length-append x.asked (question_of n ∷ []) in
     let (same, others) = remembered-led z y ns rest (omega (arith, room, longer, led.room)) in
     (same ∙ led.room, others ∙ ap (λ xs. xs ++ map question_of ns) at_end ∙ append_assoc x.asked (question_of n ∷ []) (map question_of ns))

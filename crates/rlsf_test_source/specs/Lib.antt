@@ -1,1 +1,2 @@
+-- The definition of a source that answers from a list.
 pub mod Listed

@@ -15,21 +15,21 @@ use Rattle.rlsf_machine.specs.WellFormed.{coverage, itself}
 abbrev pub terms_in : Range → Capabilities → Terms
 terms_in space c = record { space = space; dealloc = c.dealloc; grow = c.grow; contiguous = c.contiguous; min_align = c.min_align }
 
--- what the source keeps to; all that it handed out: new ranges, and the new bytes of ranges that grew; how many questions it has
--- room for; and the questions with their answers that it remembers, in order
+-- The terms of the source; the new ranges that it has provided, and the new bytes of ranges that grew; for how many questions it
+-- has room; and the notes that it remembers, in order.
 pub record Listed : Type 0 where
   pub terms : Terms
   pub taken : List Range
   pub room : ℕ
   pub asked : List Question
 
--- the ranges lie in the space, have no address that wasn't handed out, and don't overlap
+-- the ranges lie in the space, have no address that wasn't provided, and don't overlap
 pub record MayOwe (s : Listed) (owed : List Range) : Type 0 where
   pub in_space : (r : Range) → IsIn r owed → LiesIn r s.terms.space.start s.terms.space.len
   pub taken : (a : ℕ) → coverage itself owed a ≤ coverage itself s.taken a
   pub disjoint : (a : ℕ) → coverage itself owed a ≤ 1
 
--- a range is handed out that lies in the space and overlaps nothing that was handed out before
+-- a range is provided that lies in the space and overlaps no range provided before
 pub record HandsOut (s : Listed) (r : Range) (t : Listed) : Type 0 where
   pub vacant : IsVacant s.terms.space s.taken r
   pub after : t ≡ record s { taken = s.taken ++ r ∷ [] }

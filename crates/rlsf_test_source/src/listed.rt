@@ -22,14 +22,14 @@ pub enum SourceAnswer {
     Len(usize),
 }
 
-/// What a source was asked, and what it answered.
+/// A question that a source was asked, and its answer.
 #[derive(Clone, Copy, Debug, PartialEq, Eq)]
 pub enum Question {
     /// A new range of so many bytes.
     Alloc(usize, Option<Range>),
     /// Growth of a range to so many bytes.
     Grow(Range, usize, Option<usize>),
-    /// To take a range back.
+    /// A range returns to the source.
     Dealloc(Range),
 }
 
@@ -48,10 +48,14 @@ pub struct Capabilities {
 
 /// A source that answers from a list, in order: each question for a range or for growth takes the next answer.
 ///
-/// An answer that a source may not give is answered as none: one of the other kind, a range that doesn't lie in the space, overlaps
-/// what was handed out, is shorter than asked or doesn't start at a multiple of `min_align`, a length that is shorter than asked
-/// or whose new bytes don't lie in the space or overlap what was handed out. So is each question past the list's end. What was
-/// taken back counts as handed out still, and isn't given again.
+/// A question past the list's end gets the answer none. So does one whose next answer isn't allowed:
+///
+/// - an answer of the other kind;
+/// - a range that doesn't lie in the space, overlaps what was provided before, is too short, or doesn't start at a multiple of
+///   `min_align`;
+/// - a length that is too short, or whose new bytes don't lie in the space or overlap what was provided before.
+///
+/// A range that was returned still counts as provided, and isn't provided again.
 #[derive(Drop)]
 pub struct ListedSource {
     space: Range,
@@ -82,9 +86,9 @@ impl Model for ListedSource {
 }
 
 impl ListedSource {
-    /// A source of the space with these answers, or an error where the system refused memory.
+    /// A source of the space with these answers, or an error if the system is out of memory.
     ///
-    /// Room for so many questions and ranges is reserved here; a question past that is answered with none, and not remembered.
+    /// Reserves room for so many questions and ranges. A later question gets the answer none, and isn't remembered.
     pub fn new(
         alloc: Global,
         space: Range,
@@ -139,7 +143,7 @@ impl ListedSource {
         }
     }
 
-    /// Hands out the next answer, if it is a range that may be given.
+    /// Provides the next answer, if it is a range that is allowed.
     fn given(&mut self, min_size: usize) -> Option<Range>
         ensures { MatchOption result (self.new ≡ self.old) (λ r. HandsOut self.old r self.new × (min_size ≤ r.len) × IsPowerOfTwo self.old.terms.min_align × (r.start % self.old.terms.min_align ≡ 0)) }
     {
@@ -156,7 +160,7 @@ impl ListedSource {
         }
     }
 
-    /// Hands out the next answer, if it is a length that may be given: the bytes behind the range.
+    /// Provides the next answer, if it is a length that is allowed: the bytes behind the range.
     fn grown(&mut self, range: Range, min_new_len: usize) -> Option<usize>
         requires { range.len ≤ min_new_len }
         ensures { MatchOption result (self.new ≡ self.old) (λ len. HandsOut self.old (range_at (end_of range) (len - range.len)) self.new × (min_new_len ≤ len)) }

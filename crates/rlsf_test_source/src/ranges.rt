@@ -1,4 +1,4 @@
-//! Ranges that were handed out.
+//! Ranges that were provided.
 
 ghost use Rattle.std.specs.Prelude.{◌≡◌, ◌≤◌, ◌⊎◌, ◌∷◌, ◌++◌, [], IsTrue, IsFalse};
 ghost use Rattle.rlsf_base.specs.Range.{end_of, LiesIn};
@@ -29,14 +29,14 @@ fn are_apart(one: Range, other: Range) -> bool
     ends_before(one, other) || ends_before(other, one)
 }
 
-/// Whether a range overlaps none of those that were handed out.
+/// Whether a range overlaps none of those that were provided.
 fn is_clear(range: Range, taken: &[Range]) -> bool
     ensures { IsTrue result → IsClear range taken.now }
 {
     taken.iter().all(|other| are_apart(range, *other))
 }
 
-/// Notes that a range is handed out, and answers whether it is: it has to lie in the space and to overlap none that was before.
+/// Notes that a range is provided, and returns whether it is. It has to lie in the space, and to overlap no range provided before.
 pub(crate) fn hand_out(taken: &mut Vec<Range>, space: Range, range: Range) -> bool
     ensures given { IsTrue result → LiesIn range space.start space.len × IsClear range taken.old.items × (taken.new.items ≡ taken.old.items ++ range ∷ []) }
     ensures refused { IsFalse result → taken.new.items ≡ taken.old.items }

@@ -1,5 +1,7 @@
-//! Tests of `rlsf_trace_text`, `rlsf_trace_runs` and `rlsf_trace`: how the text of a trace is read and how answers are printed, of runs and of
-//! replays. This crate has no other code, so that these three are proved once.
+//! Tests of `rlsf_trace_text`, `rlsf_trace_runs` and `rlsf_trace`. This crate has no other code, so that these three are proved
+//! once.
+//!
+//! `reading.rt` and `printing.rt` test the text of a trace, `runs.rt` runs of ops, and `replays.rt` replays.
 #![tactic(auto)]
 
 #[cfg(test)]

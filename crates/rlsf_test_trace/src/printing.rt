@@ -3,7 +3,7 @@ use rlsf_trace_text::{Answer, Op, TraceError, text_of};
 use std::num::NonZeroUsize;
 use std::process::Abort;
 
-/// Passes where the answers to the ops are printed as the text.
+/// Passes if the answers to the ops are printed as the text.
 fn prints(rt: &(impl Abort + AllocGlobal), ops: &[Op], answers: &[Answer], text: &str) {
     let printed = text_of(rt.alloc(), ops, answers).expect(rt, "memory");
     assert_eq!(rt; printed.as_str(), text);

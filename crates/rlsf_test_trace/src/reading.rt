@@ -6,7 +6,7 @@ use std::process::Abort;
 /// A trace's configuration, the start of its memory and its length.
 type Head = (Configuration, usize, usize);
 
-/// Passes where a trace with the head and the ops is read from the text.
+/// Passes if a trace with the head and the ops is read from the text.
 fn reads(rt: &(impl Abort + AllocGlobal), text: &[u8], head: Head, ops: &[Op]) {
     let trace = Trace::parse(rt.alloc(), text).expect(rt, "a trace");
     assert_eq!(rt; (trace.configuration, trace.start, trace.len), head);
@@ -111,7 +111,7 @@ fn blocks_and_their_bytes(rt: HostRuntime) {
     reads(&rt, text, (Configuration::EightByEight, 4096, 96), &ops);
 }
 
-/// Passes where line 2 of each text has this fault, which is the first one.
+/// Passes if line 2 of each text has this fault, which is the first one.
 fn are_refused(rt: &(impl Abort + AllocGlobal), texts: &[&[u8]], fault: Fault) {
     let wanted = ReplayFault { line: 2, fault };
     for text in texts {
@@ -181,7 +181,7 @@ fn words_that_are_no_ops(rt: HostRuntime) {
     are_refused(&rt, &[b"1x1 1 0\nFree 1"], Fault::UnknownOp);
 }
 
-/// Passes where a fault is told in these words.
+/// Passes if the report of a fault has these words.
 fn is_told(rt: &impl Abort, text: Result<String, AllocError>, words: &str) {
     assert_eq!(rt; text.expect(rt, "memory").as_str(), words);
 }

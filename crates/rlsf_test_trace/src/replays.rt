@@ -1,4 +1,4 @@
-//! Replays: what is written for texts, what is told of their faults, and the status.
+//! Replays: what is written for texts, how their faults are reported, and the status.
 
 mod examples;
 mod faults;
@@ -10,7 +10,7 @@ use std::process::Abort;
 
 const FIRST_RUN: &[u8] = b"8x8 4096 4096\ninsert 4096 96\nalloc 1 0 1\nalloc 2 0 1\nalloc 3 0 1\n";
 
-/// What is written for a text, and what is told of its fault and the status.
+/// The output for a text, the report of its fault, and the status.
 fn replayed(rt: &(impl Abort + AllocGlobal), text: &[u8]) -> String {
     let mut reader = text;
     let mut written = Vec::new(rt.alloc());
@@ -24,7 +24,7 @@ fn replayed(rt: &(impl Abort + AllocGlobal), text: &[u8]) -> String {
     told
 }
 
-/// Passes where for each text is written, and told of its fault and the status, what stands beside it.
+/// Passes if each text has the output, the report of its fault and the status beside it.
 pub fn replays(rt: &(impl Abort + AllocGlobal), cases: &[(&[u8], &str)]) {
     for (text, wanted) in cases {
         assert_eq!(rt; replayed(rt, text).as_str(), *wanted);
@@ -39,7 +39,7 @@ static TEXTS: [(&[u8], &str); 17] = [
     ),
     // A first line alone.
     (b"8x8 4096 96", "status 0"),
-    // Memory that the machine lacks.
+    // More memory than the system has.
     (
         b"8x8 1 18446744073709551614\nalloc 1 0 1\n",
         "line 1: OutOfMemory, status 1",
@@ -83,13 +83,12 @@ static TEXTS: [(&[u8], &str); 17] = [
         b"8x8 4096 4096\ninsert 4096 96\nalloc 1 17 1\nusable 1\nrealloc 1 0\nfree 9\nalloc 1 0 1\nalloc 2 0 1\nblock 4096 96 1\nblock 4096 96 2\n",
         "insert some 96\nalloc 1 at 4112\nusable 1 48\nrealloc 1 at 4112\nrefused 1 UnknownName\nrefused 2 NameTaken\nalloc 2 at 4144\nblock 4128 32 used\nblock none\nstatus 0",
     ),
-    // Configurations.
-    // One row of one class makes chunks of 64 bytes.
+    // Configurations. One first-level row of one class makes chunks of 64 bytes.
     (
         b"1x1 4096 4096\ninsert 4096 200\nalloc 1 0 1\n",
         "insert some 192\nalloc 1 at 4240\nstatus 0",
     ),
-    // A free block of 96 bytes is in the class from 64 bytes on where a row has one class, which does not reach 96.
+    // A free block of 96 bytes is in the class from 64 bytes on if a first-level row has one class. That class does not reach 96.
     (
         b"8x1 4096 128\ninsert 4096 128\nalloc 1 66 1\n",
         "insert some 128\nalloc 1 none\nstatus 0",

@@ -10,7 +10,7 @@ use rlsf_trace_text::{Answer, Op, TraceError};
 use std::num::NonZeroUsize;
 use std::process::Abort;
 
-/// Traces, and what is written for them. With 59 rows of classes no chunk is too long for the memory.
+/// Traces and their outputs. With 59 first-level rows no chunk is too long for the memory.
 static RUNS: [(&[u8], &str); 15] = [
     // One answer an op.
     (
@@ -69,7 +69,7 @@ static RUNS: [(&[u8], &str); 15] = [
          get 1 3\n\
          status 0",
     ),
-    // Bytes are written and read up to a payload's end, and a payload is given back once.
+    // Bytes are written and read up to a payload's end, and a payload is deallocated once.
     (
         b"8x8 4096 4096\n\
           insert 4096 96\n\
@@ -185,7 +185,7 @@ static RUNS: [(&[u8], &str); 15] = [
          append 32\n\
          status 0",
     ),
-    // The same, where chunks have a greatest length.
+    // As above, with chunks of a greatest length.
     (
         b"8x8 4096 4096\n\
           insert 4096 64\n\
@@ -268,8 +268,7 @@ static RUNS: [(&[u8], &str); 15] = [
          refused 1 UnknownName\n\
          status 0",
     ),
-    // Sizes have layouts.
-    // An unknown name is told first.
+    // Sizes have layouts. An unknown name is reported first.
     (
         b"8x8 4096 4096\n\
           insert 4096 96\n\
@@ -321,9 +320,8 @@ static RUNS: [(&[u8], &str); 15] = [
          refused 1 UnknownName\n\
          status 0",
     ),
-    // The ranges of walks are those of one pool.
-    // Not in the memory, two pools, and parts of one.
-    // The start is rounded up to that of the pool.
+    // The ranges of `block` are those of one pool. Others are refused: outside of the memory, two pools, and parts of one. The
+    // start is rounded up to that of the pool.
     (
         b"8x8 4096 4096\n\
           insert 4096 96\n\
@@ -355,7 +353,7 @@ fn lines_and_their_answers(rt: HostRuntime) {
     replays(&rt, &RUNS);
 }
 
-/// Passes where a run of the ops, with these answers there already, leaves the wanted ones.
+/// Passes if a run of the ops, with these answers there already, leaves the wanted ones.
 fn leaves(rt: &(impl Abort + AllocGlobal), there: &[Answer], ops: &[Op], wanted: &[Answer]) {
     let memory = Memory::new(rt.alloc(), 4096, 4096).expect(rt, "a memory");
     let mut tlsf = Tlsf::<u8, u8, 8, 8>::new(memory);

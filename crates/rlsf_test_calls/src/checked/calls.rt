@@ -40,7 +40,7 @@ fn read_four(
     Ok(bytes)
 }
 
-/// Whether the block of this place in the walk is this one.
+/// Whether the block at this place of the iteration is this one.
 fn has_block(pool: &Small, place: usize, start: usize, size: usize, is_used: bool) -> bool {
     match pool.blocks().nth(place) {
         Some(block) => block.as_ptr().start == start
@@ -50,7 +50,7 @@ fn has_block(pool: &Small, place: usize, start: usize, size: usize, is_used: boo
     }
 }
 
-/// Whether a call on a payload answers what it should.
+/// Whether a call on a payload has its expected result.
 fn answers_as(pool: &mut Small, rt: &impl Abort, step: &Step) -> bool {
     match step {
         Step::Insert(start, len, wanted) => pool.insert(Range {
@@ -81,7 +81,7 @@ fn answers_as(pool: &mut Small, rt: &impl Abort, step: &Step) -> bool {
     }
 }
 
-/// Passes where the calls answer what they should, one after another.
+/// Passes if the calls have their expected results, one after another.
 fn answers_all(pool: &mut Small, rt: &impl Abort, steps: &[Step]) {
     for (index, step) in steps.iter().enumerate() {
         assert!(rt; answers_as(pool, rt, step), "the step at {index}");
@@ -122,7 +122,7 @@ const RANGES: &[Step] = &[
     Step::Append(4288, 833, Err(CheckedError::OutsideMemory)),
     Step::Append(4320, 128, Err(CheckedError::NotNext)),
     Step::Append(4288, 63, Err(CheckedError::TooShort)),
-    // With 12 rows chunks have a greatest length, so the range is a chunk of its own.
+    // With 12 first-level rows chunks have a greatest length, so the range is a chunk of its own.
     Step::Append(4288, 140, Ok(128)),
     Step::Block(0, 4224, 32, false),
     Step::Block(1, 4288, 96, false),
@@ -161,7 +161,7 @@ fn scripts(rt: HostRuntime) {
     }
 }
 
-/// Passes where all that a payload's address is asked for is refused.
+/// Passes if every call on this address of a payload is refused.
 fn is_strange(pool: &mut Small, rt: &impl Abort, addr: usize) {
     let strange = CheckedError::UnknownAddress;
     let steps = [

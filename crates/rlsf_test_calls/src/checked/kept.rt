@@ -1,4 +1,4 @@
-//! The first example of docs/CHECKED.md, as it stands there, and what it answers.
+//! The first example of docs/CHECKED.md, and its result.
 
 use rlsf_base::memory::{Layout, Memory, Range};
 use rlsf_checked::{CheckedError, CheckedTlsf};

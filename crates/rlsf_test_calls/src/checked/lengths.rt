@@ -6,7 +6,8 @@ use rlsf_checked::CheckedTlsf;
 
 #[test]
 fn lengths_of_pools(rt: HostRuntime) {
-    // A payload of 16 bytes at a multiple of 16 needs a block of 32 bytes, at which a class begins: (32 + 32) + 10 * (32 + 32 - 32).
+    // A payload of 16 bytes at a multiple of 16 needs a block of 32 bytes, where a class begins. So the length is (32 + 32) + 10 *
+    // (32 + 32 - 32).
     let short = layout_of(&rt, 16, 16);
     // One of 112 bytes needs a block of 128, at which a class begins too: 128 + 32.
     let long = layout_of(&rt, 112, 8);

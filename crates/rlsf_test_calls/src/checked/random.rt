@@ -23,7 +23,7 @@ struct Entry {
     byte: u8,
 }
 
-/// Passes where the answer is true, and tells else what is wrong.
+/// Passes if the answer is true. Otherwise the failure shows what is wrong.
 fn passes(rt: &impl Abort, answer: bool, wrong: &str) {
     assert!(rt; answer, "{wrong}");
 }
@@ -99,7 +99,7 @@ fn is_listed(table: &[Option<Entry>], addr: Addr) -> bool {
     false
 }
 
-/// Asks at any address of the memory or near it, and gives back what lives there by chance, if the table says so too.
+/// Asks at any address of the memory or near it, and deallocates the payload that is there by chance, if the table has it too.
 fn asked(pool: &mut Small, rt: &impl Abort, table: &[Option<Entry>], word: u64) {
     let [_, _, high, low, ..] = word.to_be_bytes();
     let offset = usize::from(high) * 256 + usize::from(low);
@@ -115,7 +115,7 @@ fn asked(pool: &mut Small, rt: &impl Abort, table: &[Option<Entry>], word: u64) 
     }
 }
 
-/// Makes a call that a word chooses on the payload of a place, and answers what must live there then.
+/// Makes a call that a word chooses on the payload of a place, and returns what must live there then.
 fn after(pool: &mut Small, rt: &impl Abort, entry: Option<Entry>, word: u64) -> Option<Entry> {
     let [kind, byte, shift, long, ..] = word.to_be_bytes();
     let size = usize::from(long) + usize::from(kind) / 64 * 60;

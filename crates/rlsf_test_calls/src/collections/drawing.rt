@@ -1,4 +1,4 @@
-//! Pictures of one pool: what stands in each line, and the widths 0 and 1.
+//! Pictures of one pool: the text of each line, and the widths 0 and 1.
 
 ghost use Rattle.rlsf_base.specs.Range.{range_at};
 ghost use Rattle.rlsf_machine.specs.ChunkRows.{IsRow};
@@ -18,13 +18,13 @@ fn two_payloads(rt: &(impl Abort + AllocGlobal)) -> Small
     tlsf
 }
 
-/// Passes where the picture of these blocks is this text.
+/// Passes if the picture of these blocks is this text.
 fn are_drawn(rt: &(impl Abort + AllocGlobal), blocks: Blocks<'_>, width: usize, text: &str) {
     let drawn = picture(rt.alloc(), blocks, width).expect(rt, "memory");
     assert_eq!(rt; drawn.as_str(), text);
 }
 
-/// Passes where the picture of the chunk is this text.
+/// Passes if the picture of the chunk is this text.
 fn is_drawn(rt: &(impl Abort + AllocGlobal), tlsf: &Small, width: usize, text: &str)
     requires { IsRow tlsf.now.state (range_at 4096 256) }
 {

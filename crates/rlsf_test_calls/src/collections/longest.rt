@@ -1,17 +1,16 @@
 //! Queues that were made with a longest message: how much memory they need, what they refuse, and that they have room for
 //! everything else.
 //!
-//! A message of `len` bytes needs a block of S bytes: `len + 16`, rounded up to a multiple of 32. A queue for `n + 1` messages
-//! needs `(m + 32) + n * (S + m - 32)` bytes, where m is the least size whose class reaches S. Up to 512 bytes m is S, and from
-//! 1024 to 2048 bytes it is S rounded up to a multiple of 128.
+//! A message of `len` bytes needs a block of S bytes: `len + 16`, rounded up to a multiple of 32. Let m be the least size whose
+//! class reaches S. A queue for `n + 1` messages needs `(m + 32) + n * (S + m - 32)` bytes. Up to 512 bytes m is S. From 1024 to
+//! 2048 bytes it is S rounded up to a multiple of 128.
 
 use super::queues::{Pair, Step, first_wrong, wrong_random_step};
 use crate::pools::{none_is_wrong, zeros};
 use rlsf_collections::{LongestError, Messages, PushError};
 use std::process::Abort;
 
-/// The start and the length of a memory, how many messages a queue over it can hold and how long they may be, and whether it is
-/// made.
+/// The start and the length of a memory, how many messages a queue over it can hold, how long they may be, and whether it exists.
 static MEMORIES: [(usize, usize, usize, usize, bool); 17] = [
     // Three messages in blocks of 128 bytes: 160, and two times 224.
     (4096, 607, 3, 100, false),

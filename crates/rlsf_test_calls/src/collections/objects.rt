@@ -1,6 +1,6 @@
 //! Pools of objects: filled, emptied in another order and filled again, written, and each refusal.
 //!
-//! A memory from the address 4096 on loses 32 bytes to the word behind its last block, and an object of 16 bytes takes 32 of the
+//! A memory from the address 4096 on loses 32 bytes to the word behind its last block. An object of 16 bytes takes 32 of the
 //! others.
 
 use crate::pools::{layout_of, none_is_wrong, zeros};
@@ -23,7 +23,7 @@ fn pool(
 enum Step {
     /// An object is taken.
     Take(Result<usize, TakeError>),
-    /// The one with this handle is given back.
+    /// The one with this handle is returned.
     GiveBack(usize, Result<(), UnknownHandle>),
     /// These bytes are written into one, from an offset on.
     Set(usize, usize, &'static [u8], Result<(), SetError>),
@@ -44,7 +44,7 @@ fn is_right(pool: &mut Objects, step: Step) -> bool {
     }
 }
 
-/// The index of the first step that a pool answers otherwise.
+/// The index of the first step on a pool with a wrong result.
 fn first_wrong(pool: &mut Objects, steps: &[Step]) -> Option<usize> {
     for (index, step) in steps.iter().enumerate() {
         if !is_right(pool, *step) {
@@ -83,7 +83,7 @@ const EMPTIED_IN_ANOTHER_ORDER: &[Step] = &[
     Step::Take(Ok(13)),
     Step::Take(Err(TakeError::NoRoom)),
     Step::Len(7),
-    // A handle that was given back never comes back.
+    // A handle that was returned never comes again.
     Step::GiveBack(0, Err(UnknownHandle)),
     Step::GiveBack(1, Err(UnknownHandle)),
     Step::GiveBack(2, Err(UnknownHandle)),
@@ -152,7 +152,7 @@ fn objects(rt: HostRuntime) {
     }
 }
 
-/// The start and the length of a memory, the size and the alignment of the objects in it, and how many may be out at once.
+/// The start and the length of a memory, the size and the alignment of its objects, and how many may be out at once.
 static CAPACITIES: [(usize, usize, usize, usize, usize); 16] = [
     (4096, 63, 16, 8, 0),
     (4096, 64, 16, 8, 1),
@@ -178,7 +178,7 @@ static CAPACITIES: [(usize, usize, usize, usize, usize); 16] = [
     (4096, 1280, 64, 64, 6),
 ];
 
-/// How many objects a pool hands out until it refuses one for want of room, and at most 200.
+/// The number of objects until a pool has no room for one, at most 200.
 fn taken(pool: &mut Objects) -> usize {
     for count in 0..200 {
         if pool.take() == Err(TakeError::NoRoom) {

@@ -53,7 +53,7 @@ fn is_right(queue: &mut Messages, step: Step) -> bool {
     }
 }
 
-/// The index of the first step that a queue answers otherwise.
+/// The index of the first step on a queue with a wrong result.
 pub(crate) fn first_wrong(queue: &mut Messages, steps: &[Step]) -> Option<usize> {
     for (index, step) in steps.iter().enumerate() {
         if !is_right(queue, *step) {
@@ -149,7 +149,7 @@ fn is_message(bytes: &[u8], word: u64) -> bool {
     true
 }
 
-/// A queue, the messages that must be in it, each as the word that gives it and its length, and how often each refusal came.
+/// A queue, the messages that must be in it, each as the word that determines it and its length, and how often each refusal came.
 #[derive(Drop)]
 pub(crate) struct Pair {
     queue: Messages,
@@ -173,8 +173,8 @@ impl Pair {
         }
     }
 
-    /// Pushes a message that a word gives to both, and tells whether the answer is right: `Full` exactly if there are as many as
-    /// the queue can hold, and `NoRoom` only while it has a message.
+    /// Pushes a message that a word determines to both, and returns whether the result is right. It is `Full` exactly if there are
+    /// as many as the queue can hold, and `NoRoom` only while it has a message.
     fn push(&mut self, rt: &impl Abort, message: &[u8], word: u64) -> bool {
         let is_full = self.expected.len() == self.queue.capacity();
         match self.queue.push(message) {
@@ -209,8 +209,8 @@ impl Pair {
         self.queue.len() == self.expected.len() && self.queue.front_len() == self.front_len()
     }
 
-    /// Takes the oldest message that must be in the queue, and tells whether it has this length and stands in front of bytes that are
-    /// all `rest`.
+    /// Takes the oldest message that must be in the queue. Returns whether it has this length and is in front of bytes that are all
+    /// `rest`.
     fn takes(&mut self, bytes: &[u8], len: usize, rest: u8) -> bool {
         let Some((word, expected_len)) = self.expected.pop_front() else {
             return false;
@@ -223,7 +223,7 @@ impl Pair {
         }
     }
 
-    /// Pops from both, and tells whether the answer is right, with the message in front of bytes that are all `rest`.
+    /// Pops from both, and returns whether the result is right, with the message in front of bytes that are all `rest`.
     fn pop(&mut self, into: &mut [u8], rest: u8) -> bool {
         into.fill(rest);
         let expected_len = self.front_len();
@@ -255,7 +255,7 @@ fn random_step(rt: &impl Abort, pair: &mut Pair, bytes: &mut [u8; 1024], word: u
     pair.pop(&mut bytes[..len], rest)
 }
 
-/// Does so many random steps, and answers the index of the first one that comes out otherwise.
+/// Does so many random steps, and returns the index of the first one with a wrong result.
 pub(crate) fn wrong_random_step(rt: &impl Abort, pair: &mut Pair, steps: usize) -> Option<usize> {
     let mut bytes = [0; 1024];
     let mut word = 0x9e3779b97f4a7c15;

@@ -1,7 +1,7 @@
 //! Strings that grow past one another, are joined and dropped, and each refusal.
 //!
-//! A memory from the address 4096 on loses 32 bytes to the word behind its last block, and a string of up to 16 bytes takes 32 of
-//! the others.
+//! A memory from the address 4096 on loses 32 bytes to the word behind its last block. A string of up to 16 bytes takes 32 of the
+//! others.
 
 use crate::pools::{none_is_wrong, zeros};
 use crate::words::next;
@@ -37,7 +37,7 @@ fn is_right(strings: &mut Strings, step: Step) -> bool {
     }
 }
 
-/// The index of the first step that strings in so many bytes answer otherwise.
+/// The index of the first step on strings in so many bytes with a wrong result.
 fn first_wrong(rt: &(impl Abort + AllocGlobal), len: usize, steps: &[Step]) -> Option<usize> {
     let mut strings = Strings::new(rt.alloc(), zeros(rt, 4096, len));
     for (index, step) in steps.iter().enumerate() {
@@ -138,7 +138,7 @@ const LONGEST: usize = 200;
 /// The handles of strings, and their lengths.
 type Known = [Option<(usize, usize)>; MOST];
 
-/// Makes a string, of two times the bytes of another one if that has few enough. Answers its handle and its length.
+/// Makes a string, of two times the bytes of another one if that has few enough. Returns its handle and its length.
 fn made(strings: &mut Strings, other: Option<(usize, usize)>) -> Option<(usize, usize)> {
     match other {
         Some((handle, len)) if len <= LONGEST / 2 => {
@@ -152,7 +152,7 @@ fn made(strings: &mut Strings, other: Option<(usize, usize)>) -> Option<(usize, 
 /// What is added to strings, up to 63 bytes of it at once.
 static ADDED: [u8; 64] = [7; 64];
 
-/// Adds bytes to a string, or drops it where it would grow past the longest. Answers its handle and its length if it is still there,
+/// Adds bytes to a string, or drops it where it would grow past the longest. Returns its handle and its length if it is still there,
 /// and whether that was granted.
 fn changed(
     strings: &mut Strings,
@@ -168,8 +168,8 @@ fn changed(
     }
 }
 
-/// One step that a word chooses: a string is made if there is none in its place, and else grows or is dropped. Tells whether it was
-/// granted.
+/// One step that a word chooses: a string is made if there is none in its place, and else grows or is dropped. Returns whether it
+/// was granted.
 fn random_step(strings: &mut Strings, known: &mut Known, word: u64) -> bool {
     let [place, other, len, ..] = word.to_be_bytes();
     let place = place as usize % MOST;

@@ -66,7 +66,7 @@ impl Asked {
         asked
     }
 
-    /// Ranges one behind another, each of which goes back at the end, the newest first.
+    /// Ranges one behind another, each of which returns at the end, the newest first.
     fn add_ranges(&mut self, rt: &(impl Abort + AllocGlobal), sizes: &[u32]) {
         let mut ranges = Vec::new(rt.alloc());
         let mut start = START;

@@ -1,4 +1,4 @@
-//! What comes of the runs over a vector, as the list machine over a source computed it (`tables.py`).
+//! The expected results of the runs over a vector, as the reference model over a source computed them (`tables.py`).
 
 use super::Outcome;
 

@@ -1,4 +1,4 @@
-//! The lists of bytes: list `n` is what Python gives as `random.Random(n).randbytes(160)`.
+//! The lists of bytes: list `n` is Python's `random.Random(n).randbytes(160)`.
 
 use super::List;
 

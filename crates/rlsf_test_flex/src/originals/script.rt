@@ -55,7 +55,7 @@ impl Script {
         }
     }
 
-    /// Adds the calls that bytes mean, up to the last whole one. Sizes are below the bound.
+    /// Adds the calls that bytes mean, up to the last complete one. Sizes are below the bound.
     pub fn add_bytes(&mut self, rt: &impl Abort, bytes: &[u8], bound: usize) {
         self.bytes.extend_from_slice(bytes).expect(rt, "memory");
         self.bytes.reverse();
@@ -150,7 +150,7 @@ impl Script {
         self.live.iter().position(|payload| payload.name == name)
     }
 
-    /// Adds an op that places a payload, and tells whether it is to find room.
+    /// Adds an op that places a payload, and returns whether it has to find room.
     fn place(&mut self, rt: &impl Abort, op: Op) -> bool {
         let addr = match self.placed.pop().expect(rt, "an address") {
             0 => None,

@@ -1,4 +1,4 @@
-//! What each run answers and asks, as the list machine over a source computed it (`tables.py`).
+//! The expected answers and questions of each run, as the reference model over a source computed them (`tables.py`).
 
 use super::List;
 use rlsf_base::memory::Range;

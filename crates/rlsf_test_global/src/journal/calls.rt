@@ -17,8 +17,8 @@ enum Step {
     Reallocate(usize, usize, usize),
 }
 
-/// Calls, each with the number of its caller before it and what it answers behind it: an address, 0 for a deallocation, or the number
-/// of the error.
+/// Calls with the number of the caller before each, and the result behind it: an address, 0 for a deallocation, or the number of
+/// the error.
 type Steps = &'static [(usize, Step, usize)];
 
 /// Calls over an allocator, and what is closed behind them.
@@ -77,7 +77,7 @@ fn answer(rt: &impl Wait, journaled: &Journaled, pass: &mut Pass, call: Call) ->
     }
 }
 
-/// The place of the first step that answers otherwise, or that can't be done.
+/// The place of the first step with a wrong result, or that can't be done.
 fn first_wrong(
     rt: &impl Wait,
     journaled: &Journaled,
@@ -106,7 +106,7 @@ fn has_receipts(pass: &Pass, numbers: &[usize]) -> bool {
     receipts.len() == numbers.len()
 }
 
-/// Whether each pass has the receipts that stand at its place.
+/// Whether each pass has the receipts at its place.
 fn have_receipts(passes: &[Pass], numbers: &[&[usize]]) -> bool {
     for (pass, numbers) in passes.iter().zip(numbers) {
         if !has_receipts(pass, numbers) {
@@ -122,7 +122,7 @@ pub fn over(alloc: Global, len: usize, callers: usize) -> Result<(Journaled, Vec
     Ok(Journaled::new(alloc, memory, callers)?)
 }
 
-/// What is left when all steps of a case have answered as they have to.
+/// The state after a case whose steps all have their expected results.
 fn after_steps(
     rt: &(impl Wait + Abort),
     alloc: Global,
@@ -134,7 +134,7 @@ fn after_steps(
     Ok((journaled, passes))
 }
 
-/// What closing leaves. Passes where the passes agree with the journal, and there are so many entries and so many live payloads.
+/// The result of closing. Passes if the passes agree with the journal, and there are so many entries and so many live payloads.
 pub fn agreed(
     rt: &impl Abort,
     journaled: Journaled,
@@ -146,7 +146,7 @@ pub fn agreed(
     closed
 }
 
-/// Passes where what must comes of a case.
+/// Passes if a case has its expected result.
 fn is_right(rt: &(impl Wait + Abort), alloc: Global, case: Case) -> Result<(), Fail> {
     let (journaled, mut passes) = after_steps(rt, alloc, case)?;
     assert!(rt; have_receipts(&passes, case.receipts));

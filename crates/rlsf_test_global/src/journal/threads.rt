@@ -109,7 +109,7 @@ fn two_callers(rt: HostRuntime) -> Result<(), Fail> {
     Ok(())
 }
 
-/// Writes 100 bytes, moves them into a payload of 200, reads them back, and frees it: whether they were the same.
+/// Writes 100 bytes, moves them into a payload of 200, reads them, and deallocates it. Returns whether they were equal.
 fn move_hundred(
     rt: &impl Wait,
     journaled: &Journaled,

@@ -1,4 +1,4 @@
-//! The lists of bytes: list `n` is what Python gives as `random.Random(n).randbytes(400)`.
+//! The lists of bytes: list `n` is Python's `random.Random(n).randbytes(400)`.
 
 pub static LIST_1: [u8; 400] = [
     245, 177, 101, 34, 74, 88, 183, 145, 223, 106, 241, 216, 48, 62, 97, 205, 196, 187, 134, 195,

@@ -1,5 +1,5 @@
-//! Where the payloads of each list lie, less the start of the memory, call by call, as the machine behind the lock computed them
-//! (`tables.py`).
+//! Where the payloads of each list lie, less the start of the memory, call by call. The reference model behind the lock computed
+//! them (`tables.py`).
 
 pub static PLACED_1: [u32; 84] = [
     16, 144, 400, 656, 16, 32, 304, 16, 144, 336, 496, 752, 16, 80, 768, 976, 512, 976, 304, 528,

@@ -3,7 +3,7 @@
 use super::replays;
 
 static EXAMPLES: [(&[u8], &str); 24] = [
-    // What is given back is joined with its neighbours.
+    // A freed block is joined with its neighbours.
     (
         b"8x8 4096 4096\ninsert 4096 96\nalloc 1 0 1\nalloc 2 0 1\nalloc 3 0 1\nfree 1\nfree 2\nblock 4096 96 0\nblock 4096 96 1\n",
         "insert some 96\nalloc 1 at 4112\nalloc 2 at 4144\nalloc 3 none\nfree 1 done\nfree 2 done\nblock 4096 64 free\nblock none\nstatus 0",
@@ -23,7 +23,7 @@ static EXAMPLES: [(&[u8], &str); 24] = [
         b"8x8 4096 4096\ninsert 4096 256\nalloc 1 384 1\nappend 4352 256\nalloc 1 384 1\n",
         "insert some 256\nalloc 1 none\nappend 256\nalloc 1 none\nstatus 0",
     ),
-    // A class of the same row that does not reach.
+    // A class of the same first-level row that does not reach.
     (
         b"8x1 4096 4096\ninsert 4096 128\nalloc 1 66 1\n",
         "insert some 128\nalloc 1 none\nstatus 0",
@@ -43,7 +43,7 @@ static EXAMPLES: [(&[u8], &str); 24] = [
         b"12x16 4096 65536\ninsert 4096 65536\nalloc 1 1 32\nusable 1\n",
         "insert some 65536\nalloc 1 at 4128\nusable 1 32\nstatus 0",
     ),
-    // A payload of no bytes at its block's end, given back without its alignment.
+    // A payload of no bytes at its block's end, deallocated without its alignment.
     (
         b"12x16 4096 65536\ninsert 4096 65536\nalloc 1 0 32\nusable 1\nufree 1\nblock 4096 65536 0\n",
         "insert some 65536\nalloc 1 at 4128\nusable 1 0\nufree 1 done\nblock 4096 65504 free\nstatus 0",
@@ -103,7 +103,7 @@ static EXAMPLES: [(&[u8], &str); 24] = [
         b"59x8 4096 4096\ninsert 4096 64\nalloc 1 0 1\nappend 4160 31\nappend 4160 32\nblock 4096 96 1\n",
         "insert some 64\nalloc 1 at 4112\nappend 0\nappend 32\nblock 4128 32 free\nstatus 0",
     ),
-    // The same, where chunks have a greatest length.
+    // The example above, with chunks of a greatest length.
     (
         b"8x8 4096 4096\ninsert 4096 64\nalloc 1 0 1\nappend 4160 31\nappend 4160 32\n",
         "insert some 64\nalloc 1 at 4112\nappend 0\nappend 0\nstatus 0",

@@ -83,7 +83,7 @@ fn fault_of(alloc: Global, reader: &mut Source, writer: &mut Narrow) -> Option<R
     replay(alloc, reader, writer).err()
 }
 
-/// Passes where a replay over the streams has this fault or none, and these bytes were written. All of the text is read.
+/// Passes if a replay over the streams has this fault or none, and these bytes were written. All of the text is read.
 fn leaves(
     rt: &impl Abort,
     alloc: Global,
@@ -166,7 +166,7 @@ static CASES: [(Streams, Option<ReplayFault>, &[u8]); 11] = [
         NOT_READ,
         b"",
     ),
-    // The same where it fails behind a whole trace.
+    // As above, with a failure behind a complete trace.
     (
         Streams {
             reader_fails: true,
@@ -230,7 +230,7 @@ static CASES: [(Streams, Option<ReplayFault>, &[u8]); 11] = [
     (Streams { room: 0, ..NO_POOL }, NOT_WRITTEN, b""),
 ];
 
-/// Passes where a replay leaves what stands beside its streams, for each of these.
+/// Passes if each replay has the expected result beside its streams.
 fn leave_so(rt: &(impl Abort + AllocGlobal), cases: &[(Streams, Option<ReplayFault>, &[u8])]) {
     for (streams, fault, written) in cases {
         leaves(rt, rt.alloc(), *streams, *fault, written);

@@ -1,5 +1,5 @@
-//! Runs over fixed lists of random bytes, with tables of every shape. What is known of the answers without looking at the
-//! allocator is kept beside it: where payloads lie, which bytes they were filled with, and which chunks the pool has.
+//! Runs over fixed lists of random bytes, with tables of every shape. Each run keeps beside it what it can know of the answers
+//! without the allocator. It knows where payloads lie, which bytes they were filled with, and which chunks the pool has.
 
 mod lists;
 
@@ -20,7 +20,7 @@ const MEMORY_START: usize = 4096;
 
 const MEMORY_LEN: usize = 16384;
 
-/// What is missing where the system refuses memory.
+/// The error if the system is out of memory.
 const MEMORY: &str = "memory";
 
 /// The ops of a list, what those on the pool answer, and the chunks that the pool has at the end.
@@ -33,7 +33,7 @@ struct Plan {
     most: usize,
 }
 
-/// Cuts a range into chunks of at most `most` bytes while 64 or more are left, and tells how many of its bytes they have.
+/// Cuts a range into chunks of at most `most` bytes while 64 or more are left, and returns how many of its bytes they have.
 fn add_chunks(rt: &impl Abort, chunks: &mut Vec<Range>, range: Range, most: usize) -> usize {
     let mut taken: usize = 0;
     for _ in 0..range.len / 64 {
@@ -109,7 +109,7 @@ impl Plan {
         self.ask_pool(rt, Op::Append(range), Answer::Appended(taken));
     }
 
-    /// Frees of all names, and a walk over the pool, each of whose chunks is one free block then.
+    /// Frees of all names, and an iteration over the pool, in which each chunk is one free block then.
     fn end(&mut self, rt: &impl Abort) {
         for name in 0..NAMES {
             self.ask(rt, Op::Free(name));
@@ -167,8 +167,8 @@ fn free_ops(draw: Draw, last: usize) -> [Op; 5] {
     ]
 }
 
-/// Allocates or reallocates a payload, some without a move, and reads the first and the last byte that were asked for: of a payload that moves, of
-/// both its sizes.
+/// Allocates or reallocates a payload, some without a move, and reads the first and the last requested byte. Of a payload that
+/// moves, it reads those of both sizes.
 fn size_ops(rt: &impl Abort, draw: Draw, old_last: usize) -> [Op; 5] {
     let name = draw.name;
     let last = draw.size.saturating_sub(1);
@@ -196,7 +196,7 @@ fn size_ops(rt: &impl Abort, draw: Draw, old_last: usize) -> [Op; 5] {
     ]
 }
 
-/// What a word does to a payload. `sizes` are those that the names were given last.
+/// What a word does to a payload. `sizes` are the last ones of the names.
 fn payload_ops(rt: &impl Abort, word: u32, scale: usize, sizes: &mut [usize; NAMES]) -> [Op; 5] {
     let draw = drawn(word, scale);
     let name = draw.name % NAMES;
@@ -226,7 +226,7 @@ fn plan_of(rt: &(impl Abort + AllocGlobal), list: &[u32; 40], most: usize) -> Pl
     plan
 }
 
-/// A live payload, as the answers tell of it.
+/// A live payload, as the answers show it.
 #[derive(Clone, Copy)]
 struct Payload {
     addr: usize,
@@ -400,7 +400,7 @@ fn wrong_of<FLBitmap: BitPattern, SLBitmap: BitPattern, const FLLEN: usize, cons
     first_wrong(&plan, answers.as_slice())
 }
 
-/// Passes where all lists' ops have right answers.
+/// Passes if all lists' ops have right answers.
 fn lists_pass<FLBitmap: BitPattern, SLBitmap: BitPattern, const FLLEN: usize, const SLLEN: usize>(
     rt: &(impl Abort + AllocGlobal),
     shape: Shape<'_, FLBitmap, SLBitmap, FLLEN, SLLEN>,

@@ -49,8 +49,10 @@ pub readdressed_spec : {M : Type 1} → statement M
 readdressed_spec 𝓤 𝓛 𝓜 𝓡 wired =
     let c = f.clauses 𝓛 𝓜.mem 𝓡.returns in let W = walk_of 𝓛 f.ended stayed c in let 𝓣 = tables 𝓤 𝓛.H 𝓜 𝓡 𝓡.env in
     let goes = Goes-dropped 𝓛 0 (plain (λ _. usize)) yes (λ κs x w. refl) in
-    proved 𝓛 f.ended stayed c 𝓜 𝓡
-    (Goes-dropped 𝓛 0 (plain (λ _. Heap)) yes (λ κs x w. refl), (goes, (goes, (Goes-blank 𝓛 0 (plain (λ _. parts_type.the_row)) f.ended.kept.1.1.1.0 (λ κs x w. tt), tt))))
+    proved 𝓛 f.ended stayed c 𝓜 𝓡 (
+      Goes-dropped 𝓛 0 (plain (λ _. Heap)) yes (λ κs x w. refl),
+      (goes, (goes, (Goes-blank 𝓛 0 (plain (λ _. parts_type.the_row)) f.ended.kept.1.1.1.0 (λ κs x w. tt), tt))),
+    )
     f.Key.name code.function (code.unfolded 𝓤 𝓛.H 𝓜 𝓡 wired)
     (λ κs. ((λ _. heap_val ∷ []), (uint_vals w64, (uint_vals w64, ((λ r. parts_laws.lowers.lowered r ∷ []), tt)))))
     (λ κs. (heap_Tells, (uint_Tells w64, (uint_Tells w64, (parts_laws.lowers.val_is, tt))))) (λ κs qs bounds a none are.
@@ -61,18 +63,24 @@ readdressed_spec 𝓤 𝓛 𝓜 𝓡 wired =
     move ! (1 ∷ []) $ heard ! Asked (λ asked. split ! $ drop ! $ fsplit ! $ move ! (1 ∷ []) $ fsplit ! $ drop ! $ fsplit ! $ drop ! $ fsplit ! $ keep ! (0 ∷ 2 ∷ []) $
     -- [the parts; the heap's handle]
     peeks ! parts_type.the_row (Is parts_type.the_row) (shows 𝓛 parts_type.the_row) parts pv (λ is.
-    enter ! 𝓣.C 𝓣.Λ code.function (heap_val ∷ vint w64 start ∷ vint w64 len ∷ parts_laws.lowers.lowered parts ∷ []) (W.post y) $ alloc_all ! (λ l. pass_all ! refl ((tt, ((tt, tt), tt)), ((tt, record { fits = are.1.0.1 }), ((tt, record { fits = are.1.1.0.1 }), (((parts_laws.the_row_laws.lawful 𝓛).typed parts _ is).0, tt)))) $
+    enter ! 𝓣.C 𝓣.Λ code.function (heap_val ∷ vint w64 start ∷ vint w64 len ∷ parts_laws.lowers.lowered parts ∷ []) (W.post y) $ alloc_all !
+    (λ l. pass_all ! refl (
+      (tt, ((tt, tt), tt)),
+      ((tt, record { fits = are.1.0.1 }), ((tt, record { fits = are.1.1.0.1 }), (((parts_laws.the_row_laws.lawful 𝓛).typed parts _ is).0, tt))),
+    ) $
     sets ! (of_opd ! (get ! refl)) refl ((parts_laws.the_row_laws.lawful 𝓛).typed parts _ is).0 $
     let G = triple_of 𝓛 g.signature (g.spec 𝓛 𝓜.mem 𝓡.returns) in
     let z : G.Ghost = ((tt, tt, tt, (parts, tt), (pv, tt)), tt) in
     let n = length parts.bytes.bytes in
     let Owed : Type 0 = (parts.bytes.at ≡ parts.base.ptr) × (parts.bytes.skip ≡ 0) × (parts.bytes.out ≡ []) × (parts.bytes.units ≡ units_from parts.start n) in
     nothing ! $ move ! (1 ∷ 0 ∷ []) $ join ! $ nothing ! $ join ! $
-    use0 𝓛 (raw (fact 𝓤 Owed)) (fact_i 𝓤 Owed (emp 𝓤) (asked.0.0, asked.0.1, asked.1, asked.0.3)) $ move ! (1 ∷ 0 ∷ []) $ join ! $ use1 𝓛 (raw (G.pre z)) (id⊢ 𝓤 _) $
+    use0 𝓛 (raw (fact 𝓤 Owed)) (fact_i 𝓤 Owed (emp 𝓤) (asked.0.0, asked.0.1, asked.1, asked.0.3)) $ move ! (1 ∷ 0 ∷ []) $ join ! $ use1 𝓛 (raw (G.pre z))
+    (id⊢ 𝓤 _) $
     calls_at ! (fm 𝓛 𝓜 𝓡) G (release_met 𝓤 𝓛 𝓜 𝓡 (code.calls-rlsf_base::memory::block::RawParts::release 𝓡.env wired)) z
     (and_then ! (get ! refl) (no_more !)) (λ v.
     use1 𝓛 (later (some (λ (p : Ptr). (‵ ftrue ⊛ ‵ (RawPtr.own_val p (v ∷ []))) ⊛
-    some (λ (ws : (Unit {0} × (Unit {0} × (Unit {0} × (Unit {0} × Unit {0})))) × Unit {0}). ‵ (lasts g.ended z.0.0 z.0.3 ws) ⊛ (‵ (bytes_at p parts.start parts.bytes.bytes) ⊛ raw (fact 𝓤 (p ≡ parts.base.ptr))))))) (id⊢ 𝓤 _) $
+    some (λ (ws : (Unit {0} × (Unit {0} × (Unit {0} × (Unit {0} × Unit {0})))) × Unit {0}). ‵ (lasts g.ended z.0.0 z.0.3 ws) ⊛
+    (‵ (bytes_at p parts.start parts.bytes.bytes) ⊛ raw (fact 𝓤 (p ≡ parts.base.ptr))))))) (id⊢ 𝓤 _) $
     await ! tt $ pick ! (λ p. split ! $ split ! $ drop ! $
     peeks ! RawPtr (Is RawPtr) (shows 𝓛 RawPtr) p (v ∷ []) (λ is_ptr. lands_as ! refl refl ((rawptr_Lawful 𝓛).typed p _ is_ptr).0 $
     move ! (1 ∷ []) $ pick ! (λ ws. split ! $ drop ! $ split ! $ move ! (1 ∷ []) $ drop ! $
@@ -88,10 +96,14 @@ readdressed_spec 𝓤 𝓛 𝓜 𝓡 wired =
     (and_then ! (get ! refl) (and_then ! (get ! refl) (and_then ! (get ! refl) (and_then ! (get ! refl) (no_more !))))) (λ u.
     use1 𝓛 (later (some (λ (r : (memory.the_row).Denot). (‵ ftrue ⊛ ‵ ((memory.the_row).own_val r (u ∷ []))) ⊛
     some (λ (ws' : Unit {0} × (Unit {0} × (Unit {0} × (Unit {0} × Unit {0})))). ‵ (lasts k.ended m.0.0 m.0.3 ws') ⊛
-    (raw (fact 𝓤 (r.start ≡ start)) ⊛ (raw (fact 𝓤 (r.bytes ≡ parts.bytes.bytes)) ⊛ (raw (fact 𝓤 ((r.touches ≡ 0) × (r.copied ≡ 0))) ⊛ raw (fact 𝓤 ((r.view.base.ptr ≡ p) × (place_in r.view start ≡ 0)))))))))) (id⊢ 𝓤 _) $
+    (raw (fact 𝓤 (r.start ≡ start)) ⊛
+    (raw (fact 𝓤 (r.bytes ≡ parts.bytes.bytes)) ⊛
+    (raw (fact 𝓤 ((r.touches ≡ 0) × (r.copied ≡ 0))) ⊛ raw (fact 𝓤 ((r.view.base.ptr ≡ p) × (place_in r.view start ≡ 0)))))))))) (id⊢ 𝓤 _) $
     await ! tt $ pick ! (λ r. split ! $ split ! $ drop ! $
-    peeks ! memory.the_row (Is memory.the_row) (shows 𝓛 memory.the_row) r (u ∷ []) (λ is_memory. lands_last ! refl ((memory_laws.the_row_laws.lawful 𝓛).typed r _ is_memory).0 $
-    exec ! 𝓣.C 𝓣.Λ (env code.function.locals l) code.Mir.t-4 (at_ret (env code.function.locals l) (W.post y)) $ sets ! (of_opd ! (get ! refl)) refl ((memory_laws.the_row_laws.lawful 𝓛).typed r _ is_memory).0 $
+    peeks ! memory.the_row (Is memory.the_row) (shows 𝓛 memory.the_row) r (u ∷ [])
+    (λ is_memory. lands_last ! refl ((memory_laws.the_row_laws.lawful 𝓛).typed r _ is_memory).0 $
+    exec ! 𝓣.C 𝓣.Λ (env code.function.locals l) code.Mir.t-4 (at_ret (env code.function.locals l) (W.post y)) $ sets ! (of_opd ! (get ! refl)) refl
+    ((memory_laws.the_row_laws.lawful 𝓛).typed r _ is_memory).0 $
     move ! (1 ∷ []) $ pick ! (λ ws'. split ! $ drop ! $ split ! $ heard ! _ (λ its_start. split ! $ heard ! _ (λ its_bytes. drop ! $
     returns ! (look_at ! 0 refl) $ free_all ! refl $
     suffices ! _ (ends_at 𝓛 f.ended stayed c y u r (tt, (tt, (tt, ((tt, (tt, (tt, (tt, tt)))), tt)))) (tt, (tt, (tt, (tt, tt))))) $

@@ -22,7 +22,8 @@ free-requires g c =
     λ a lo hi. elim (cases_lt a 4104) [
       | inl low ↦ c.put_back-2.ensures.own a (omega (arith, lower_at, lo, at6)) (omega (arith, lower_at, lower_long, low))
       | inr past ↦
-          let step : is_own (out_at m5 a) ≡ true → is_own (out_at m6 a) ≡ true = c.put_back-2.ensures.own_beside a (omega (arith, at5, past)) (inr (omega (arith, lower_at, lower_long, past))) in
+          let step : is_own (out_at m5 a) ≡ true → is_own (out_at m6 a) ≡ true =
+          c.put_back-2.ensures.own_beside a (omega (arith, at5, past)) (inr (omega (arith, lower_at, lower_long, past))) in
           elim (cases_lt a 4112) [
             | inl middle ↦ step (c.put_back.ensures.own a (omega (arith, upper_at, past)) (omega (arith, upper_at, upper_long, middle)))
             | inr high ↦ step (c.put_back.ensures.own_beside a (omega (arith, at4, past)) (inr (omega (arith, upper_at, upper_long, high)))

@@ -24,11 +24,15 @@ append_free_block_ptr-less-requires g c =
     let few = c.args.case.few in
     let chunk = range_at 4096 pool in
     let place = c.requires.place in
-    let one = chunks-first g.row.FLLEN 8 c.args.tlsf.now c.insert_free_block.new.self chunk c.requires.state refl (omega arith) (cut-one g.row.FLLEN pool c.requires.rows (omega arith) (omega arith)) c.insert_free_block.ensures.step in
+    let one =
+    chunks-first g.row.FLLEN 8 c.args.tlsf.now c.insert_free_block.new.self chunk c.requires.state refl (omega arith)
+    (cut-one g.row.FLLEN pool c.requires.rows (omega arith) (omega arith)) c.insert_free_block.ensures.step in
     let still = c.allocate.ensures.chunks ∙ one in
     let put = c.insert_free_block.ensures.place in
     let kept = c.allocate.ensures.place in
-    let behind = LiesIn-behind c.allocate.new.self.memory.start (length c.allocate.new.self.memory.bytes) pool few (omega (arith, kept, put, place)) (omega (arith, kept, put, place)) (omega arith) in
+    let behind =
+    LiesIn-behind c.allocate.new.self.memory.start (length c.allocate.new.self.memory.bytes) pool few (omega (arith, kept, put, place)) (omega (arith, kept, put, place))
+    (omega arith) in
     (search rules, IsNext-behind (range_of c.allocate.new.self.memory) c.allocate.new.self.state chunk (range_at (4096 + pool) few) still refl behind)
 
 pub append_free_block_ptr-more-requires : goal.append_free_block_ptr-more-requires
@@ -38,7 +42,9 @@ append_free_block_ptr-more-requires g c =
     let many = c.args.case.many in
     let chunk = range_at 4096 pool in
     let place = c.requires.place in
-    let one = chunks-first g.row.FLLEN 8 c.args.tlsf.now c.insert_free_block.new.self chunk c.requires.state refl (omega arith) (cut-one g.row.FLLEN pool c.requires.rows (omega arith) (omega arith)) c.insert_free_block.ensures.step in
+    let one =
+    chunks-first g.row.FLLEN 8 c.args.tlsf.now c.insert_free_block.new.self chunk c.requires.state refl (omega arith)
+    (cut-one g.row.FLLEN pool c.requires.rows (omega arith) (omega arith)) c.insert_free_block.ensures.step in
     let still = c.allocate.ensures.chunks ∙ one in
     let put = c.insert_free_block.ensures.place in
     let kept = c.allocate.ensures.place in
@@ -46,6 +52,7 @@ append_free_block_ptr-more-requires g c =
     let t = c.append_free_block_ptr-less.new.self in
     let less = (opened g.row.FLLEN 8 s t (Appends g.row.FLLEN s.state few c.append_free_block_ptr-less.result) c.append_free_block_ptr-less.ensures.step).0 in
     let last = c.append_free_block_ptr-less.ensures.place in
-    let same = ap (λ q. q.chunks) (Appends-few g.row.FLLEN s.state few c.append_free_block_ptr-less.result t.state (omega (arith, c.requires.rows)) (omega arith) less) ∙ still in
+    let same =
+    ap (λ q. q.chunks) (Appends-few g.row.FLLEN s.state few c.append_free_block_ptr-less.result t.state (omega (arith, c.requires.rows)) (omega arith) less) ∙ still in
     let further = LiesIn-behind t.memory.start (length t.memory.bytes) pool many (omega (arith, last, kept, put, place)) (omega (arith, last, kept, put, place)) (omega arith) in
     (search rules, IsNext-behind (range_of t.memory) t.state chunk (range_at (4096 + pool) many) same refl further)

@@ -6,6 +6,7 @@ use Rattle.rlsf_test_calls.proofs.removals.with_chunk.Goals as goal
 
 pub returns : goal.returns
 returns g c = (
-  chunks-first 8 8 c.new-tlsf.result c.insert_free_block.new.self (range_at 4096 256) c.new-tlsf.ensures.state refl refl (cut-one 8 256 (omega arith) (omega arith) (omega arith)) c.insert_free_block.ensures.step,
+  chunks-first 8 8 c.new-tlsf.result c.insert_free_block.new.self (range_at 4096 256) c.new-tlsf.ensures.state refl refl (cut-one 8 256 (omega arith) (omega arith) (omega arith))
+      c.insert_free_block.ensures.step,
   used-first 8 8 c.new-tlsf.result c.insert_free_block.new.self (range_at 4096 256) c.new-tlsf.ensures.state c.insert_free_block.ensures.step,
 )

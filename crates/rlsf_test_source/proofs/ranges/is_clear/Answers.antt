@@ -5,4 +5,5 @@ use Rattle.rlsf_test_source.proofs.ranges.is_clear.Goals as goal
 
 pub returns : goal.returns
 returns c = clear_if_true c.args.range c.args.taken.now _ c.all.result
-    (cases_from_all _ _ c.all.result (AreApart c.args.range) (λ x. Unit {0}) c.all.ensures.ran (YieldsList-from_slice c.args.taken.now cc) (λ x q k. search (rules, tests)) (λ x q k. search (rules, tests)))
+    (cases_from_all _ _ c.all.result (AreApart c.args.range) (λ x. Unit {0}) c.all.ensures.ran (YieldsList-from_slice c.args.taken.now cc) (λ x q k. search (rules, tests))
+    (λ x q k. search (rules, tests)))

@@ -1,4 +1,4 @@
-//! The words of list `n`, from 1 on, are the bytes that Python gives as `random.Random(n).randbytes(160)`, four a word, the
+//! The words of list `n`, from 1 on, are Python's bytes `random.Random(n).randbytes(160)`, four a word, the
 //! lowest first.
 
 const FIRST: [u32; 40] = [

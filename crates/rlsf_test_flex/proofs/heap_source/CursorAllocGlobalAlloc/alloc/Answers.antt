@@ -19,8 +19,11 @@ returns-clause-owes c =
     let is_start : addr ≡ start = c.in_ok-addr.ensures in
     let (begins, whole) = subst (λ (v : Cursor). (v.at ≤ start) × (start % c.align-align.result ≡ 0)) (sym c.self.view_is) c.in_ok-start.ensures in
     let aligned : addr % align ≡ 0 = ap (λ n. n % align) is_start ∙ ap (λ n. start % n) (sym c.align-align.ensures.value) ∙ whole in
-    let (stops, fits) = subst (λ (v : Cursor). (c.in_ok-end.end ≡ start + c.size-size.result) × (c.in_ok-end.end ≤ end_of v.terms.space)) (sym c.self.view_is) c.in_ok-end.ensures in
+    let (stops, fits) =
+    subst (λ (v : Cursor). (c.in_ok-end.end ≡ start + c.size-size.result) × (c.in_ok-end.end ≤ end_of v.terms.space)) (sym c.self.view_is) c.in_ok-end.ensures in
     let ends : addr + size ≡ c.in_ok-end.end = omega (arith, is_start, stops, c.size-size.ensures.value) in
-    subst (λ (end : ℕ). (owed : List Allocation) → OwesAllocations c.args.self.now owed → IsAllocated c.args.self.now.terms.space owed a × OwesAllocations (heap_cursor space end) (a ∷ owed)) ends
-    (subst (λ (old : Cursor). (owed : List Allocation) → OwesAllocations old owed → IsAllocated old.terms.space owed a × OwesAllocations (heap_cursor space (addr + size)) (a ∷ owed)) same
+    subst (λ (end : ℕ). (owed : List Allocation) → OwesAllocations c.args.self.now owed
+    → IsAllocated c.args.self.now.terms.space owed a × OwesAllocations (heap_cursor space end) (a ∷ owed)) ends
+    (subst (λ (old : Cursor). (owed : List Allocation) → OwesAllocations old owed
+    → IsAllocated old.terms.space owed a × OwesAllocations (heap_cursor space (addr + size)) (a ∷ owed)) same
     (answered_allocation space c.self.inside.at addr size align c.self.invariant (omega (arith, begins, is_start)) aligned (omega (arith, ends, fits))))
