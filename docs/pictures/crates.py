@@ -16,35 +16,35 @@ WIDTH, LEFT, GAP, LINE = 1200, 190, 8, 15
 # Layers from top to bottom: name, what they are, colour, and rows of boxes (share of the width, crates, lines of text, marked).
 LAYERS = [
     ("Tests", "in crates of their own, so that what they test is proved once", "#eeeeee", [
-        [(1, "rlsf_test_calls", "calls of Tlsf and of libraries"), (1, "rlsf_test_heap", "heaps, with threads"),
+        [(1, "rlsf_test_tlsf", "calls of Tlsf and of libraries"), (1, "rlsf_test_heap", "heaps, with threads"),
          (1, "rlsf_test_flex", "sources and FlexTlsf"), (1, "rlsf_test_global", "lock and journal, with threads")],
         [(1, "rlsf_test_base", "integers and memories"), (1, "rlsf_test_trace", "traces"),
-         (1, "rlsf_test_source", "a source for tests"), (1, "rlsf_model_flex rlsf_model_global", "comparison with Python")],
+         (1, "rlsf_test_source", "a source for tests"), (1, "rlsf_compare_model_flex rlsf_compare_model_global", "comparison with Python")],
     ]),
     ("Benchmarks", "one set of steps, seven programs", "#eeeeee", [
-        [(1, "rlsf_bench_steps", "the steps"), (2.2, "rlsf_bench rlsf_bench_aligned rlsf_bench_called rlsf_bench_called_aligned", "Tlsf: in place or by calls, one alignment or seven"),
+        [(1, "rlsf_bench_steps", "the steps"), (2.2, "rlsf_bench rlsf_bench_aligned rlsf_bench_not_inlined rlsf_bench_not_inlined_aligned", "Tlsf: in place or by calls, one alignment or seven"),
          (1.4, "rlsf_bench_heap rlsf_bench_shared rlsf_bench_global", "heaps; threads")],
     ]),
     ("Examples", "programs to copy from", "#fff3d0", [
         [(1, "rlsf_example_first", "a first program"), (1, "rlsf_example_readme", "the program of README.md"),
          (1, "rlsf_example_callers", "buffer, cache, pools, source"), (1, "rlsf_example_tour", "tour of the collections")],
         [(1, "rlsf_example_buffers", "payloads that own their bytes"), (1, "rlsf_example_tenants", "std's collections in heaps"),
-         (1, "rlsf_example_shared", "two threads, one allocator"), (1, "", "")],
+         (1, "rlsf_example_threads", "two threads, one allocator"), (1, "", "")],
     ]),
     ("Libraries, a tool", "for other code", "#fff3d0", [
-        [(1, "rlsf_collections", "queues, objects and strings in a pool"), (1, "rlsf_c", "static library for C: pools of numbers"),
-         (1, "rlsf_malloc rlsf_malloc_owned", "static libraries for C: malloc in place"), (1, "rlsf_sizes", "program: prints lengths of pools")],
+        [(1, "rlsf_example_collections", "queues, objects and strings in a pool"), (1, "rlsf_c", "static library for C: pools of numbers"),
+         (1, "rlsf_malloc rlsf_malloc_owned", "static libraries for C: malloc in place"), (1, "rlsf_pool_lengths", "program: prints lengths of pools")],
     ]),
     ("Traces", "a text of calls, run and compared with the model", "#fbe3d6", [
         [(1, "rlsf_replay", "program: prints the answers"), (1, "rlsf_report", "program: counts"), (1, "rlsf_map", "program: draws")],
-        [(1, "rlsf_trace", "reads, runs and prints"), (1, "rlsf_trace_watch", "what is held after each op"), (1, "rlsf_trace_flex_runs", "runs with a FlexTlsf")],
+        [(1, "rlsf_trace_replay", "reads, runs and prints"), (1, "rlsf_trace_watch", "what is held after each op"), (1, "rlsf_trace_flex_runs", "runs with a FlexTlsf")],
         [(1, "rlsf_trace_text", "the text: ops and answers"), (2, "rlsf_trace_runs", "runs of ops with a Tlsf: the headline contract")],
     ]),
     ("Allocators", "each column adds to what is below it", "#d9efd9", [
         [(1, "", ""), (1, "rlsf_journal", "a journal that explains all replies"),
          (3, "", "A Tlsf lends its payloads. A Heap returns them as values that own their bytes. A FlexTlsf grows: it asks a source for memory.")],
         [(1, "rlsf", "re-exports Tlsf and FlexTlsf", True), (1, "rlsf_global", "behind one lock, for threads", True), (3, "", "")],
-        [(2, "rlsf_sources", "two sources of memory"), (1, "", ""), (1, "rlsf_shared_heap", "Heap for threads"), (1, "rlsf_local", "Heap for std's collections")],
+        [(2, "rlsf_flex_sources", "two sources of memory"), (1, "", ""), (1, "rlsf_shared_heap", "Heap for threads"), (1, "rlsf_local", "Heap for std's collections")],
         [(2, "rlsf_flex", "FlexTlsf: memory from a source"), (1, "rlsf_checked", "errors in place of conditions"),
          (2, "rlsf_heap", "Heap: payloads own their bytes", True)],
         [(1, "rlsf_tlsf", "Tlsf: the allocator over one memory; the work of each call has a bound")],
@@ -53,7 +53,7 @@ LAYERS = [
         [(1, "rlsf_table", "free blocks by size class"), (1, "rlsf_blocks", "chunks and blocks in the memory"), (1, "rlsf_reallocate", "payloads that are resized")],
     ]),
     ("Model", "definitions and laws", "#e4dcf2", [
-        [(1, "rlsf_machine", "the reference model: lists of ranges"), (1, "rlsf_placement", "the model behind the lock")],
+        [(1, "rlsf_model", "the reference model: lists of ranges"), (1, "rlsf_model_global", "the model behind the lock")],
     ]),
     ("Base", "below all others", "#d6e4f5", [
         [(1, "rlsf_int", "integers as sets of bits"), (2, "rlsf_base", "memory, layouts, size classes")],

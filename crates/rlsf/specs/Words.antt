@@ -6,26 +6,26 @@ pub use Rattle.rlsf_base.specs.ClassLaws.{LongestBlockHasAClass, MappedIsFirstRe
 pub use Rattle.rlsf_base.specs.Range.{AreApart, LiesIn, end_of, range_at}
 pub use Rattle.rlsf_base.specs.SizeClass.{IsValid}
 pub use Rattle.rlsf_base.specs.Space.{SamePlace, Space, range_of}
-pub use Rattle.rlsf_machine.specs.Allocate.{Allocates}
-pub use Rattle.rlsf_machine.specs.Callers.{align_at, bytes_at}
-pub use Rattle.rlsf_machine.specs.ChunkRows.{IsRow}
-pub use Rattle.rlsf_machine.specs.Insert.{Appends, Inserts, IsNext, IsUntouched}
-pub use Rattle.rlsf_machine.specs.NoMove.{ReallocatesWithoutMove}
-pub use Rattle.rlsf_machine.specs.Reallocate.{Keeps, Reallocates}
-pub use Rattle.rlsf_machine.specs.Release.{Deallocates}
-pub use Rattle.rlsf_machine.specs.Remove.{IsIdle, Removes}
-pub use Rattle.rlsf_machine.specs.Run.{Fills}
-pub use Rattle.rlsf_machine.specs.Sized.{IsSizedFor, live_count}
-pub use Rattle.rlsf_machine.specs.State.{State, Used, empty, Holds}
+pub use Rattle.rlsf_model.specs.Allocate.{Allocates}
+pub use Rattle.rlsf_model.specs.Callers.{align_at, bytes_at}
+pub use Rattle.rlsf_model.specs.ChunkRows.{IsRow}
+pub use Rattle.rlsf_model.specs.Insert.{Appends, Inserts, IsNext, IsUntouched}
+pub use Rattle.rlsf_model.specs.NoMove.{ReallocatesWithoutMove}
+pub use Rattle.rlsf_model.specs.Reallocate.{Keeps, Reallocates}
+pub use Rattle.rlsf_model.specs.Release.{Deallocates}
+pub use Rattle.rlsf_model.specs.Remove.{IsIdle, Removes}
+pub use Rattle.rlsf_model.specs.Run.{Fills}
+pub use Rattle.rlsf_model.specs.Sized.{IsSizedFor, live_count}
+pub use Rattle.rlsf_model.specs.State.{State, Used, empty, Holds}
 pub use Rattle.rlsf_blocks.specs.Blocks.{walked}
 pub use Rattle.rlsf_blocks.specs.Spare.{IsSpareWord, KeepsSpare}
 pub use Rattle.rlsf_tlsf.specs.Allocator.{Allocator, IsInState, Stands, Steps}
 -- those that contracts over an allocator with a source cite
-pub use Rattle.rlsf_machine.specs.FlexAllocate.{FlexAllocates}
-pub use Rattle.rlsf_machine.specs.FlexReallocate.{FlexReallocates}
-pub use Rattle.rlsf_machine.specs.FlexState.{FlexState, KeptPool}
-pub use Rattle.rlsf_machine.specs.Note.{Note, LeadsBy}
-pub use Rattle.rlsf_machine.specs.Terms.{IsGiven, IsGrown, Terms}
+pub use Rattle.rlsf_model.specs.FlexAllocate.{FlexAllocates}
+pub use Rattle.rlsf_model.specs.FlexReallocate.{FlexReallocates}
+pub use Rattle.rlsf_model.specs.FlexState.{FlexState, KeptPool}
+pub use Rattle.rlsf_model.specs.Note.{Note, LeadsBy}
+pub use Rattle.rlsf_model.specs.Terms.{IsGiven, IsGrown, Terms}
 pub use Rattle.rlsf_flex.specs.Laws.{FlexStatesAreWellFormed, FlexWordsReadNoPayload}
 pub use Rattle.rlsf_flex.specs.Outside.{IsOutside, KeepsOutside, NothingGoesBack, ever_owed}
 pub use Rattle.rlsf_flex.specs.StandsFor.{FlexContents, FlexStands, FlexSteps, StepsAlone}

@@ -8,13 +8,13 @@ use Rattle.std.specs.Option.{option_map, unwrap_or}
 use Rattle.std.specs.declared.num.NonZeroUsize.{NonZeroUsize}
 use Rattle.rlsf_base.proofs.Numbers.PowersOfTwo.{IsPowerOfTwo-pow}
 use Rattle.rlsf_base.specs.Space.{range_of}
-use Rattle.rlsf_machine.specs.Allocate.{Allocates}
-use Rattle.rlsf_machine.specs.Reallocate.{Reallocates}
-use Rattle.rlsf_machine.specs.Release.{Deallocates}
-use Rattle.rlsf_machine.specs.Run.{allocate, deallocate, reallocate}
-use Rattle.rlsf_machine.specs.State.{State, IsLive}
-use Rattle.rlsf_machine.proofs.Determined.{refusal_changes_nothing}
-use Rattle.rlsf_machine.proofs.Live.{handed_out_is_new, live_stays, reallocated_is_live}
+use Rattle.rlsf_model.specs.Allocate.{Allocates}
+use Rattle.rlsf_model.specs.Reallocate.{Reallocates}
+use Rattle.rlsf_model.specs.Release.{Deallocates}
+use Rattle.rlsf_model.specs.Run.{allocate, deallocate, reallocate}
+use Rattle.rlsf_model.specs.State.{State, IsLive}
+use Rattle.rlsf_model.proofs.Determined.{refusal_changes_nothing}
+use Rattle.rlsf_model.proofs.Live.{handed_out_is_new, live_stays, reallocated_is_live}
 use Rattle.rlsf_tlsf.specs.Allocator.{Allocator, IsInState}
 use Rattle.rlsf_bench_steps.specs.declared.tally.Tally.{Tally}
 use Rattle.rlsf_bench_steps.specs.Runs.{ChangesSlot, DoesStep, BenchState, alignment_of, beginning, counted, nothing, size_of, slot_of, with_slot}

@@ -4,11 +4,11 @@ use Rattle.std.specs.Int.NonZero.{non_zero_usize_get}
 use Rattle.std.specs.Option.{unwrap_or}
 use Rattle.rlsf_base.specs.declared.memory.range.Range.{Range}
 use Rattle.rlsf_base.specs.Range.{range_at}
-use Rattle.rlsf_machine.specs.Allocate.{Allocates}
-use Rattle.rlsf_machine.specs.Insert.{Inserts}
-use Rattle.rlsf_machine.specs.Reallocate.{Reallocates}
-use Rattle.rlsf_machine.specs.Release.{Deallocates}
-use Rattle.rlsf_machine.specs.State.{State, empty}
+use Rattle.rlsf_model.specs.Allocate.{Allocates}
+use Rattle.rlsf_model.specs.Insert.{Inserts}
+use Rattle.rlsf_model.specs.Reallocate.{Reallocates}
+use Rattle.rlsf_model.specs.Release.{Deallocates}
+use Rattle.rlsf_model.specs.State.{State, empty}
 use Rattle.rlsf_bench_steps.specs.declared.arguments.Arguments.{Arguments}
 use Rattle.rlsf_bench_steps.specs.declared.arguments.Configuration.{Configuration}
 use Rattle.rlsf_bench_steps.specs.declared.arguments.Configuration.TheVariants.{TwelveBySixteen, FiftyNineByEight, SixtyFourBySixtyFour}

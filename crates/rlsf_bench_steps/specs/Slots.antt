@@ -1,6 +1,6 @@
 -- What the slots of a run hold.
 use Rattle.std.specs.Prelude.{◌≡◌, ℕ, zero, suc, Bool, List, Option, Some, None, slice_index_or}
-use Rattle.rlsf_machine.specs.State.{IsLive}
+use Rattle.rlsf_model.specs.State.{IsLive}
 use Rattle.rlsf_tlsf.specs.Allocator.{Allocator, IsInState}
 use Rattle.rlsf_bench_steps.specs.declared.tally.Tally.{Tally}
 use Rattle.rlsf_bench_steps.specs.Runs.{BenchState, DoesStep, alignment_of}

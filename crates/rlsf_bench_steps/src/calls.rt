@@ -3,10 +3,10 @@
 
 ghost use Rattle.std.specs.Prelude.{◌≡◌, Some};
 ghost use Rattle.rlsf_base.specs.Addr.{at, reply};
-ghost use Rattle.rlsf_machine.specs.Allocate.{Allocates};
-ghost use Rattle.rlsf_machine.specs.Callers.{align_at};
-ghost use Rattle.rlsf_machine.specs.Reallocate.{Reallocates};
-ghost use Rattle.rlsf_machine.specs.Release.{Deallocates};
+ghost use Rattle.rlsf_model.specs.Allocate.{Allocates};
+ghost use Rattle.rlsf_model.specs.Callers.{align_at};
+ghost use Rattle.rlsf_model.specs.Reallocate.{Reallocates};
+ghost use Rattle.rlsf_model.specs.Release.{Deallocates};
 ghost use Rattle.rlsf_tlsf.specs.Allocator.{Steps};
 
 use rlsf_base::memory::{Addr, Layout};

@@ -4,7 +4,7 @@ ghost use Rattle.std.specs.Prelude.{◌≡◌, ◌+◌, ◌<◌, ◌≤◌, ◌^
 ghost use Rattle.std.specs.Int.NonZero.{non_zero_usize_get};
 ghost use Rattle.rlsf_base.specs.Addr.{reply};
 ghost use Rattle.rlsf_base.specs.Range.{LiesIn};
-ghost use Rattle.rlsf_machine.specs.State.{empty};
+ghost use Rattle.rlsf_model.specs.State.{empty};
 ghost use Rattle.rlsf_bench_steps.specs.Runs.{alignment_of, slot_of, size_of, BenchState, IsBench};
 ghost use Rattle.rlsf_bench_steps.specs.Slots.{AreSlotsAt, LeadsSlotsOn, held};
 

@@ -1,8 +1,8 @@
 -- Statements about the words inside the pools, which `laws` of `rlsf_tlsf` proves; and the state with the bytes of a memory.
 use Rattle.std.specs.Prelude.{◌≡◌, ℕ, ◌+◌, ◌-◌, ◌≤◌, ◌==◌, length, map, nat_lt, if◌then◌else◌}
 use Rattle.rlsf_base.specs.Space.{Space, out_at, byte_at, bytes_in, word_at}
-use Rattle.rlsf_machine.specs.Lists.{IsIn}
-use Rattle.rlsf_machine.specs.State.{State, Used, usable, with_bytes}
+use Rattle.rlsf_model.specs.Lists.{IsIn}
+use Rattle.rlsf_model.specs.State.{State, Used, usable, with_bytes}
 use Rattle.rlsf_table.specs.Table.{Table}
 use Rattle.rlsf_blocks.specs.StandsFor.{Contents, contents, IsUnlent, StandsFor}
 

@@ -4,8 +4,8 @@ use Rattle.rlsf_base.specs.declared.memory.range.Range.{Range}
 use Rattle.rlsf_base.specs.Range.{end_of}
 use Rattle.rlsf_base.specs.Space.{Space, byte_at, IsWord}
 use Rattle.rlsf_blocks.specs.InBand.{sentinel_of}
-use Rattle.rlsf_machine.specs.Lists.{IsIn}
-use Rattle.rlsf_machine.specs.State.{State}
+use Rattle.rlsf_model.specs.Lists.{IsIn}
+use Rattle.rlsf_model.specs.State.{State}
 
 -- a byte that no block is made of: it lies in no chunk, or in the last 16 bytes of a sentinel
 abbrev pub IsSpare : State → ℕ → Type 0

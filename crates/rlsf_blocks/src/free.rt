@@ -4,9 +4,9 @@ ghost use Rattle.std.specs.Prelude.{◌≡◌, ◌+◌, ◌<◌, ℕ, List, IfSo
 ghost use Rattle.rlsf_base.specs.declared.memory.range.Range.{Range};
 ghost use Rattle.rlsf_base.specs.SizeClass.{IsValid};
 ghost use Rattle.rlsf_base.specs.OpenSpace.{IsOwned, SameOwn, StaysHere};
-ghost use Rattle.rlsf_machine.specs.Lists.{IsIn};
-ghost use Rattle.rlsf_machine.specs.Release.{released};
-ghost use Rattle.rlsf_machine.specs.State.{State, Used, IsLive, usable};
+ghost use Rattle.rlsf_model.specs.Lists.{IsIn};
+ghost use Rattle.rlsf_model.specs.Release.{released};
+ghost use Rattle.rlsf_model.specs.State.{State, Used, IsLive, usable};
 ghost use Rattle.rlsf_table.specs.Counts.{Costs, Counts};
 ghost use Rattle.rlsf_table.specs.FreeTable.{IsFreeTable};
 ghost use Rattle.rlsf_table.specs.Table.{Table};

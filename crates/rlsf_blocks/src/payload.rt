@@ -1,7 +1,7 @@
 //! The block of a payload, and the bytes that its caller may use.
 
 ghost use Rattle.std.specs.Prelude.{◌≡◌, ◌+◌};
-ghost use Rattle.rlsf_machine.specs.State.{usable};
+ghost use Rattle.rlsf_model.specs.State.{usable};
 ghost use Rattle.rlsf_blocks.specs.Steps.LiveBlock.{IsLiveIn, AtEachBlock};
 
 use crate::HEADER;

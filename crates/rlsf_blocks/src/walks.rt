@@ -10,9 +10,9 @@ ghost use Rattle.rlsf_base.specs.Space.{Space};
 ghost use Rattle.rlsf_blocks.specs.Blocks.{AreBlocks, walked};
 ghost use Rattle.rlsf_blocks.specs.StandsFor.{contents, StandsFor};
 ghost use Rattle.rlsf_blocks.specs.Steps.Walk.{IsSpan};
-ghost use Rattle.rlsf_machine.specs.ChunkRows.{IsRow};
-ghost use Rattle.rlsf_machine.specs.Lists.{IsIn};
-ghost use Rattle.rlsf_machine.specs.State.{State};
+ghost use Rattle.rlsf_model.specs.ChunkRows.{IsRow};
+ghost use Rattle.rlsf_model.specs.Lists.{IsIn};
+ghost use Rattle.rlsf_model.specs.State.{State};
 ghost use Rattle.rlsf_table.specs.Table.{Table};
 
 use crate::pool::SENTINEL;

@@ -9,10 +9,10 @@ use Rattle.rlsf_base.specs.declared.memory.range.Range.{Range}
 use Rattle.rlsf_base.specs.Range.{range_at}
 use Rattle.rlsf_base.specs.Space.{SamePlace, range_of}
 use Rattle.rlsf_blocks.specs.Blocks.{walked}
-use Rattle.rlsf_machine.specs.Callers.{align_at, bytes_at, copied_over}
-use Rattle.rlsf_machine.specs.Remove.{IsIdle, Removes}
-use Rattle.rlsf_machine.specs.Run.{Fills}
-use Rattle.rlsf_machine.specs.State.{State, empty}
+use Rattle.rlsf_model.specs.Callers.{align_at, bytes_at, copied_over}
+use Rattle.rlsf_model.specs.Remove.{IsIdle, Removes}
+use Rattle.rlsf_model.specs.Run.{Fills}
+use Rattle.rlsf_model.specs.State.{State, empty}
 use Rattle.rlsf_tlsf.specs.Allocator.{Steps}
 use Rattle.rlsf_checked.specs.Answers.{both_have, copy_answer, if_both_in_range, if_live}
 use Rattle.rlsf_checked.specs.Checked.{Checked}

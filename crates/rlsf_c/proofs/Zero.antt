@@ -1,9 +1,9 @@
 -- No payload lives at 0.
 use Rattle.std.proofs.Common.{◌≡◌, ℕ, Option, Some, None, arith, refl}
-use Rattle.rlsf_machine.specs.Callers.{align_at}
-use Rattle.rlsf_machine.proofs.CallerWords.{align_at-live}
+use Rattle.rlsf_model.specs.Callers.{align_at}
+use Rattle.rlsf_model.proofs.CallerWords.{align_at-live}
 use Rattle.rlsf_tlsf.specs.Allocator.{Allocator, Stands}
-use Rattle.rlsf_machine.proofs.Payloads.{IsUsed-after_start}
+use Rattle.rlsf_model.proofs.Payloads.{IsUsed-after_start}
 
 pub none_at_zero : (fllen sllen : ℕ) (v : Allocator) → Stands fllen sllen v → align_at v.state 0 ≡ None
 unfolding Stands

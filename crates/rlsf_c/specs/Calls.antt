@@ -3,13 +3,13 @@ use Rattle.std.specs.Prelude.{◌≡◌, ◌≢◌, ◌⊎◌, ◌↔◌, ℕ, �
 use Rattle.std.specs.List.{splice}
 use Rattle.rlsf_base.specs.Range.{range_at}
 use Rattle.rlsf_base.specs.Layout.{IsLayout}
-use Rattle.rlsf_machine.specs.Allocate as machine
+use Rattle.rlsf_model.specs.Allocate as machine
 use Rattle.rlsf_blocks.specs.Blocks.{walked}
-use Rattle.rlsf_machine.specs.Callers.{align_at, bytes_at, copied_over}
-use Rattle.rlsf_machine.specs.NoMove.{ReallocatesWithoutMove}
-use Rattle.rlsf_machine.specs.Reallocate.{Keeps, Reallocates}
-use Rattle.rlsf_machine.specs.Remove.{IsIdle, Removes}
-use Rattle.rlsf_machine.specs.Run.{Fills}
+use Rattle.rlsf_model.specs.Callers.{align_at, bytes_at, copied_over}
+use Rattle.rlsf_model.specs.NoMove.{ReallocatesWithoutMove}
+use Rattle.rlsf_model.specs.Reallocate.{Keeps, Reallocates}
+use Rattle.rlsf_model.specs.Remove.{IsIdle, Removes}
+use Rattle.rlsf_model.specs.Run.{Fills}
 use Rattle.rlsf_checked.specs.Answers.{copy_answer, fits, if_in_range, if_live, size_refusal}
 use Rattle.rlsf_checked.specs.declared.error.CheckedError.{CheckedError}
 use Rattle.rlsf_c.specs.declared.answers.Answer.{Answer}

@@ -2,7 +2,7 @@
 
 ghost use Rattle.std.specs.Prelude.{◌≡◌, length, IsSome};
 ghost use Rattle.rlsf_base.specs.Addr.{at};
-ghost use Rattle.rlsf_machine.specs.Callers.{align_at};
+ghost use Rattle.rlsf_model.specs.Callers.{align_at};
 ghost use Rattle.rlsf_checked.specs.Answers.{append_answer, insert_answer};
 ghost use Rattle.rlsf_c.specs.Calls.{Allocates, AllocatesZeroed, Appends, Copies, Frees, Inserts, Reads, RemovesLast, Resizes, ResizesThere, Tells, Writes, Zeroes};
 ghost use Rattle.rlsf_c.specs.Seen.{nothing, seen_in};

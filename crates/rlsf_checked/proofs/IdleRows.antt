@@ -3,14 +3,14 @@ use Rattle.std.proofs.Common.{◌≡◌, ℕ, ◌+◌, ◌<◌, ◌≤◌, ◌||
 use Rattle.std.proofs.lemmas.Bool.{cases_lt}
 use Rattle.rlsf_base.specs.declared.memory.range.Range.{Range}
 use Rattle.rlsf_base.specs.Range.{end_of}
-use Rattle.rlsf_machine.specs.ChunkRows.{IsRow}
-use Rattle.rlsf_machine.specs.Lists.{IsIn}
-use Rattle.rlsf_machine.specs.Remove.{IsIdle}
-use Rattle.rlsf_machine.specs.State.{State, Used}
-use Rattle.rlsf_machine.specs.WellFormed.{coverage, IsWellFormed}
-use Rattle.rlsf_machine.proofs.Coverage.{by_test, coverage-IsIn, coverage-some, covers-inside}
-use Rattle.rlsf_machine.proofs.Payloads.{IsUsed-some}
-use Rattle.rlsf_machine.proofs.Tiling.{block_of}
+use Rattle.rlsf_model.specs.ChunkRows.{IsRow}
+use Rattle.rlsf_model.specs.Lists.{IsIn}
+use Rattle.rlsf_model.specs.Remove.{IsIdle}
+use Rattle.rlsf_model.specs.State.{State, Used}
+use Rattle.rlsf_model.specs.WellFormed.{coverage, IsWellFormed}
+use Rattle.rlsf_model.proofs.Coverage.{by_test, coverage-IsIn, coverage-some, covers-inside}
+use Rattle.rlsf_model.proofs.Payloads.{IsUsed-some}
+use Rattle.rlsf_model.proofs.Tiling.{block_of}
 use Rattle.rlsf_blocks.specs.Blocks.{AreBlocks, Block, HasBlock, used, free}
 use Rattle.rlsf_checked.specs.Steps.UsedBlocks.{has_used}
 use Rattle.rlsf_blocks.proofs.Words.Apart.{chunk_chunk, home_of_used}

@@ -11,19 +11,19 @@ use Rattle.rlsf_base.specs.Sizes.{max_pool_size}
 use Rattle.rlsf_base.specs.Space.{SamePlace, range_of}
 use Rattle.rlsf_base.proofs.Numbers.Roundings.{round32-le}
 use Rattle.rlsf_blocks.specs.Blocks.{walked}
-use Rattle.rlsf_machine.specs.Callers.{align_at}
-use Rattle.rlsf_machine.specs.ChunkRows.{IsRow}
-use Rattle.rlsf_machine.specs.Insert.{Appends, Inserts, IsNext, IsUntouched, aligned_part, appended, appended_bytes, bytes_taken, cut, end_of_last, extended, grown_if, with_chunks}
-use Rattle.rlsf_machine.specs.Join.{ends_at}
-use Rattle.rlsf_machine.specs.Lists.{IsIn}
-use Rattle.rlsf_machine.specs.State.{State, empty}
-use Rattle.rlsf_machine.specs.WellFormed.{coverage, itself}
-use Rattle.rlsf_machine.proofs.CallerWords.{align_at-none}
-use Rattle.rlsf_machine.proofs.ChunkRows.{IsRow-appended, IsRow-inserted}
-use Rattle.rlsf_machine.proofs.Chunks.{IsIn-with_chunks}
-use Rattle.rlsf_machine.proofs.Coverage.{IsIn-without, coverage-IsIn, coverage-some, covers-inside, covers-some, find-some}
-use Rattle.rlsf_machine.proofs.Cuts.{IsIn-cut_within, coverage-cut_last}
-use Rattle.rlsf_machine.proofs.Untouched.{IsFresh-untouched}
+use Rattle.rlsf_model.specs.Callers.{align_at}
+use Rattle.rlsf_model.specs.ChunkRows.{IsRow}
+use Rattle.rlsf_model.specs.Insert.{Appends, Inserts, IsNext, IsUntouched, aligned_part, appended, appended_bytes, bytes_taken, cut, end_of_last, extended, grown_if, with_chunks}
+use Rattle.rlsf_model.specs.Join.{ends_at}
+use Rattle.rlsf_model.specs.Lists.{IsIn}
+use Rattle.rlsf_model.specs.State.{State, empty}
+use Rattle.rlsf_model.specs.WellFormed.{coverage, itself}
+use Rattle.rlsf_model.proofs.CallerWords.{align_at-none}
+use Rattle.rlsf_model.proofs.ChunkRows.{IsRow-appended, IsRow-inserted}
+use Rattle.rlsf_model.proofs.Chunks.{IsIn-with_chunks}
+use Rattle.rlsf_model.proofs.Coverage.{IsIn-without, coverage-IsIn, coverage-some, covers-inside, covers-some, find-some}
+use Rattle.rlsf_model.proofs.Cuts.{IsIn-cut_within, coverage-cut_last}
+use Rattle.rlsf_model.proofs.Untouched.{IsFresh-untouched}
 use Rattle.rlsf_tlsf.specs.Allocator.{Allocator, Stands}
 use Rattle.rlsf_checked.specs.Answers.{append_answer, if_appended, if_taken, insert_answer, is_next, is_within}
 use Rattle.rlsf_checked.specs.Checked.{Checked}

@@ -6,12 +6,12 @@ use Rattle.rlsf_base.specs.Rounding.{round32}
 use Rattle.rlsf_base.specs.Space.{SamePlace, range_of}
 use Rattle.rlsf_base.proofs.Numbers.Roundings.{round32-le, round32-least}
 use Rattle.rlsf_blocks.specs.Blocks.{AreBlocks, Block, walked}
-use Rattle.rlsf_machine.specs.Callers.{align_at}
-use Rattle.rlsf_machine.specs.Lists.{IsIn}
-use Rattle.rlsf_machine.specs.Remove.{IsIdle, Removes}
-use Rattle.rlsf_machine.specs.State.{State}
-use Rattle.rlsf_machine.specs.WellFormed.{IsWellFormed}
-use Rattle.rlsf_machine.proofs.Removals.{IsIn-outside, lies_within-le}
+use Rattle.rlsf_model.specs.Callers.{align_at}
+use Rattle.rlsf_model.specs.Lists.{IsIn}
+use Rattle.rlsf_model.specs.Remove.{IsIdle, Removes}
+use Rattle.rlsf_model.specs.State.{State}
+use Rattle.rlsf_model.specs.WellFormed.{IsWellFormed}
+use Rattle.rlsf_model.proofs.Removals.{IsIn-outside, lies_within-le}
 use Rattle.rlsf_tlsf.specs.Allocator.{Allocator, Stands}
 use Rattle.rlsf_checked.specs.Steps.UsedBlocks.{has_used}
 use Rattle.rlsf_checked.specs.declared.marks.Marks.{Marks}

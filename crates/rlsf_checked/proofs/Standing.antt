@@ -14,17 +14,17 @@ use Rattle.rlsf_base.specs.Space.{SamePlace, range_of}
 use Rattle.rlsf_base.proofs.Numbers.PowersOfTwo.{IsPowerOfTwo-pow, pow-between}
 use Rattle.rlsf_base.proofs.Numbers.Roundings.{next_multiple_of-multiple}
 use Rattle.rlsf_blocks.specs.Blocks.{walked}
-use Rattle.rlsf_machine.specs.Callers.{align_at}
-use Rattle.rlsf_machine.specs.Lists.{IsIn}
-use Rattle.rlsf_machine.specs.Payload.{payload_of}
-use Rattle.rlsf_machine.specs.Reallocate.{Reallocates}
-use Rattle.rlsf_machine.specs.Run.{reallocate}
-use Rattle.rlsf_machine.specs.State.{State}
-use Rattle.rlsf_machine.proofs.CallerWords.{align_at-live, align_at-none}
-use Rattle.rlsf_machine.proofs.Callers.{callers_see_map}
-use Rattle.rlsf_machine.proofs.ChunkRows.{IsRow-same}
-use Rattle.rlsf_machine.proofs.Live.{payload_lies_in_one_chunk}
-use Rattle.rlsf_machine.proofs.Payloads.{IsUsed-after_start, IsUsed-aligned}
+use Rattle.rlsf_model.specs.Callers.{align_at}
+use Rattle.rlsf_model.specs.Lists.{IsIn}
+use Rattle.rlsf_model.specs.Payload.{payload_of}
+use Rattle.rlsf_model.specs.Reallocate.{Reallocates}
+use Rattle.rlsf_model.specs.Run.{reallocate}
+use Rattle.rlsf_model.specs.State.{State}
+use Rattle.rlsf_model.proofs.CallerWords.{align_at-live, align_at-none}
+use Rattle.rlsf_model.proofs.Callers.{callers_see_map}
+use Rattle.rlsf_model.proofs.ChunkRows.{IsRow-same}
+use Rattle.rlsf_model.proofs.Live.{payload_lies_in_one_chunk}
+use Rattle.rlsf_model.proofs.Payloads.{IsUsed-after_start, IsUsed-aligned}
 use Rattle.rlsf_tlsf.specs.Allocator.{Allocator, Stands, Steps}
 use Rattle.rlsf_checked.specs.Answers.{size_refusal}
 use Rattle.rlsf_checked.specs.declared.error.CheckedError.TheVariants.{NoLayout}

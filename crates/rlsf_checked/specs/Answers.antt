@@ -8,9 +8,9 @@ use Rattle.rlsf_base.specs.Range.{end_of}
 use Rattle.rlsf_base.specs.Sizes.{max_pool_size}
 use Rattle.rlsf_base.specs.Space.{range_of}
 use Rattle.rlsf_blocks.specs.Blocks.{Block}
-use Rattle.rlsf_machine.specs.Callers.{align_at, bytes_at}
-use Rattle.rlsf_machine.specs.Insert.{aligned_part, appended_bytes, bytes_taken, cut}
-use Rattle.rlsf_machine.specs.State.{State}
+use Rattle.rlsf_model.specs.Callers.{align_at, bytes_at}
+use Rattle.rlsf_model.specs.Insert.{aligned_part, appended_bytes, bytes_taken, cut}
+use Rattle.rlsf_model.specs.State.{State}
 use Rattle.rlsf_checked.specs.declared.error.CheckedError.{CheckedError}
 use Rattle.rlsf_checked.specs.declared.error.CheckedError.TheVariants.{NoLayout, NoRoom, NotBehind, NotNext, OutOfRange, OutsideMemory, TooShort, UnknownAddress}
 use Rattle.rlsf_checked.specs.Checked.{Checked}

@@ -3,9 +3,9 @@
 ghost use Rattle.std.specs.Prelude.{◌≡◌, ◌≢◌, ◌≤◌, ◌+◌, ◌&&◌, ℕ, length, nat_le, replicate, OnErr, OnOk};
 ghost use Rattle.rlsf_base.specs.Addr.{at};
 ghost use Rattle.rlsf_base.specs.Space.{SamePlace};
-ghost use Rattle.rlsf_machine.specs.Callers.{align_at, bytes_at, copied_over};
-ghost use Rattle.rlsf_machine.specs.Run.{Fills};
-ghost use Rattle.rlsf_machine.specs.Sized.{IsSizedFor, live_count};
+ghost use Rattle.rlsf_model.specs.Callers.{align_at, bytes_at, copied_over};
+ghost use Rattle.rlsf_model.specs.Run.{Fills};
+ghost use Rattle.rlsf_model.specs.Sized.{IsSizedFor, live_count};
 ghost use Rattle.rlsf_tlsf.specs.Allocator.{Steps};
 ghost use Rattle.rlsf_checked.specs.Answers.{copy_answer, if_live};
 

@@ -4,10 +4,10 @@ ghost use Rattle.std.specs.Prelude.{◌≡◌, ◌≤◌, ◌↔◌, true, false
 ghost use Rattle.rlsf_base.specs.Range.{range_at};
 ghost use Rattle.rlsf_base.specs.SizeClass.{IsValid};
 ghost use Rattle.rlsf_base.specs.Space.{SamePlace};
-ghost use Rattle.rlsf_machine.specs.Callers.{align_at, bytes_at};
-ghost use Rattle.rlsf_machine.specs.Remove.{IsIdle, Removes};
-ghost use Rattle.rlsf_machine.specs.Sized.{live_count};
-ghost use Rattle.rlsf_machine.specs.State.{empty};
+ghost use Rattle.rlsf_model.specs.Callers.{align_at, bytes_at};
+ghost use Rattle.rlsf_model.specs.Remove.{IsIdle, Removes};
+ghost use Rattle.rlsf_model.specs.Sized.{live_count};
+ghost use Rattle.rlsf_model.specs.State.{empty};
 ghost use Rattle.rlsf_blocks.specs.Blocks.{walked};
 ghost use Rattle.rlsf_tlsf.specs.Allocator.{Stands, Steps};
 ghost use Rattle.rlsf_checked.specs.Steps.UsedBlocks.{has_used};

@@ -1,6 +1,6 @@
 //! Two payloads in one struct, both of which are written in one expression.
 ghost use Rattle.std.specs.Prelude.{◌≡◌, ◌<◌, [], ◌∷◌, length, replicate, IfSome};
-ghost use Rattle.rlsf_machine.specs.Sized.{live_count};
+ghost use Rattle.rlsf_model.specs.Sized.{live_count};
 
 use crate::Small;
 use rlsf_base::memory::Layout;

@@ -1,7 +1,7 @@
 //! What ends the tour early.
 
 use rlsf::{LayoutError, MemoryError};
-use rlsf_collections::LongestError;
+use rlsf_example_collections::LongestError;
 use std::alloc::AllocError;
 use std::error::Error;
 use std::{fmt, io};

@@ -6,7 +6,7 @@ use crate::answer::Refusal;
 use crate::draw;
 use crate::error::TourError;
 use rlsf::{Blocks, Memory};
-use rlsf_collections::{LongestError, Messages, PushError};
+use rlsf_example_collections::{LongestError, Messages, PushError};
 use std::alloc::Global;
 use std::marker::Model;
 
@@ -21,7 +21,7 @@ struct Latest {
 
 impl Model for Latest {
     ghost use Rattle.std.specs.Prelude.{◌≡◌, ◌<◌, Some};
-    ghost use Rattle.rlsf_collections.specs.Queue.{Queue};
+    ghost use Rattle.rlsf_example_collections.specs.Queue.{Queue};
 
     ghost Value = { Queue };
 

@@ -1,4 +1,4 @@
-//! A tour of `rlsf_collections`, the small libraries over the allocator: a fixed script, and a picture of the pool after each step.
+//! A tour of `rlsf_example_collections`, the small libraries over the allocator: a fixed script, and a picture of the pool after each step.
 //!
 //! `messages.rt`, `latest.rt`, `objects.rt` and `strings.rt` have the parts of the script, in this order. `answer.rt` and `error.rt`
 //! print answers and errors.
@@ -13,7 +13,7 @@ mod strings;
 
 use error::TourError;
 use rlsf::Blocks;
-use rlsf_collections::picture;
+use rlsf_example_collections::picture;
 use std::fmt::Display;
 use std::process::ExitCode;
 

@@ -4,7 +4,7 @@ use crate::answer::{Answer, Refusal};
 use crate::draw;
 use crate::error::TourError;
 use rlsf::Memory;
-use rlsf_collections::Messages;
+use rlsf_example_collections::Messages;
 
 /// A call of the script.
 #[derive(Clone, Copy)]

@@ -2,14 +2,14 @@
 
 ghost use Rattle.std.specs.Prelude.{◌≡◌, ◌↔◌, IfOk, IsErr, IsErrOf, None, nat_eq};
 ghost use Rattle.std.specs.Map.{lookup};
-ghost use Rattle.rlsf_collections.specs.declared.objects.TakeError.TheVariants.{NoRoom};
+ghost use Rattle.rlsf_example_collections.specs.declared.objects.TakeError.TheVariants.{NoRoom};
 
 use crate::answer::{Answer, Refusal};
 use crate::draw;
 use crate::error::TourError;
 use crate::messages::text;
 use rlsf::{Layout, Memory};
-use rlsf_collections::{Objects, TakeError, UnknownHandle};
+use rlsf_example_collections::{Objects, TakeError, UnknownHandle};
 
 /// A call of the script.
 #[derive(Clone, Copy)]

@@ -5,7 +5,7 @@ use crate::draw;
 use crate::error::TourError;
 use crate::messages::text;
 use rlsf::Memory;
-use rlsf_collections::Strings;
+use rlsf_example_collections::Strings;
 
 /// A call of the script.
 #[derive(Clone, Copy)]

@@ -12,17 +12,17 @@ use Rattle.rlsf_flex.specs.Steps.Outside.{KeepsOutsideNow}
 use Rattle.rlsf_flex.specs.SpareBytes.{KeepsSpareButFooter}
 use Rattle.rlsf_flex.specs.StandsFor.{FlexContents, FlexStandsFor, FlexSteps, allocator_of, with_allocator}
 use Rattle.rlsf_flex.specs.Steps.Growth.{Extended}
-use Rattle.rlsf_machine.specs.Allocate.{Allocates}
-use Rattle.rlsf_machine.specs.Answers.{MayAnswerAll}
-use Rattle.rlsf_machine.specs.FlexAllocate.{Asks, FlexAllocates}
-use Rattle.rlsf_machine.specs.FlexState.{FlexState, with_machine}
-use Rattle.rlsf_machine.specs.FlexWellFormed.{IsNewest}
-use Rattle.rlsf_machine.specs.Growth.{Extends, Outcome, range_came, growth_came, is_more, refused, TakesIn}
-use Rattle.rlsf_machine.specs.Note.{Note, LeadsBy}
-use Rattle.rlsf_machine.specs.State.{State}
-use Rattle.rlsf_machine.specs.Terms.{Terms}
-use Rattle.rlsf_machine.proofs.Chunks.{chunks-allocated}
-use Rattle.rlsf_machine.proofs.TakenPools.{pool_has_a_choice}
+use Rattle.rlsf_model.specs.Allocate.{Allocates}
+use Rattle.rlsf_model.specs.Answers.{MayAnswerAll}
+use Rattle.rlsf_model.specs.FlexAllocate.{Asks, FlexAllocates}
+use Rattle.rlsf_model.specs.FlexState.{FlexState, with_machine}
+use Rattle.rlsf_model.specs.FlexWellFormed.{IsNewest}
+use Rattle.rlsf_model.specs.Growth.{Extends, Outcome, range_came, growth_came, is_more, refused, TakesIn}
+use Rattle.rlsf_model.specs.Note.{Note, LeadsBy}
+use Rattle.rlsf_model.specs.State.{State}
+use Rattle.rlsf_model.specs.Terms.{Terms}
+use Rattle.rlsf_model.proofs.Chunks.{chunks-allocated}
+use Rattle.rlsf_model.proofs.TakenPools.{pool_has_a_choice}
 use Rattle.rlsf_flex.proofs.Calls.{stands_alone}
 use Rattle.rlsf_flex.proofs.Outside.{KeepsOutside-alone, KeepsOutside-asked}
 use Rattle.rlsf_flex.proofs.OutsideNow.{KeepsOutsideNow-stands, KeepsOutsideNow-then}

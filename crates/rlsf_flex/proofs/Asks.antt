@@ -9,15 +9,15 @@ use Rattle.rlsf_blocks.specs.Spare.{KeepsSpare}
 use Rattle.rlsf_flex.specs.SpareBytes.{KeepsSpareButFooter}
 use Rattle.rlsf_flex.specs.StandsFor.{FlexContents, FlexStandsFor}
 use Rattle.rlsf_flex.specs.Steps.Growth.{AskedGrowth, AskedRange, Extended, MayCome, Took, outcome_of_growth, outcome_of_range}
-use Rattle.rlsf_machine.specs.Answers.{MayAnswer, MayAnswerAll}
-use Rattle.rlsf_machine.specs.FlexState.{FlexState, KeptPool}
-use Rattle.rlsf_machine.specs.Growth.{IsPossible, Questions, growth_came, growth_note, growth_question, if_fits, is_more, notes_of, nothing, questions, questions_for}
-use Rattle.rlsf_machine.specs.Growth.{questions_kept, range_length, range_note, refused, TakesIn}
-use Rattle.rlsf_machine.specs.Note.{Note, LeadsBy, alloc, grow}
-use Rattle.rlsf_machine.specs.Terms.{Terms}
-use Rattle.rlsf_machine.proofs.Coverage.{IsIn-append}
-use Rattle.rlsf_machine.proofs.Notes.{LeadsBy-append, terms-led}
-use Rattle.rlsf_machine.proofs.RangeLengths.{if_fits-some}
+use Rattle.rlsf_model.specs.Answers.{MayAnswer, MayAnswerAll}
+use Rattle.rlsf_model.specs.FlexState.{FlexState, KeptPool}
+use Rattle.rlsf_model.specs.Growth.{IsPossible, Questions, growth_came, growth_note, growth_question, if_fits, is_more, notes_of, nothing, questions, questions_for}
+use Rattle.rlsf_model.specs.Growth.{questions_kept, range_length, range_note, refused, TakesIn}
+use Rattle.rlsf_model.specs.Note.{Note, LeadsBy, alloc, grow}
+use Rattle.rlsf_model.specs.Terms.{Terms}
+use Rattle.rlsf_model.proofs.Coverage.{IsIn-append}
+use Rattle.rlsf_model.proofs.Notes.{LeadsBy-append, terms-led}
+use Rattle.rlsf_model.proofs.RangeLengths.{if_fits-some}
 use Rattle.rlsf_flex.proofs.OutsideNow.{KeepsOutsideNow-refl, KeepsOutsideNow-then}
 use Rattle.rlsf_flex.proofs.SpareBytes.{KeepsSpare-room, KeepsSpareButFooter-behind}
 

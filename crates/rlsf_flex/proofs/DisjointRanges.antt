@@ -3,9 +3,9 @@ use Rattle.std.proofs.Common.{◌≡◌, ℕ, zero, suc, ◌+◌, ◌<◌, ◌�
 use Rattle.std.proofs.lemmas.Bool.{cases_lt}
 use Rattle.rlsf_base.specs.declared.memory.range.Range.{Range}
 use Rattle.rlsf_base.specs.Range.{LiesIn}
-use Rattle.rlsf_machine.specs.Lists.{IsIn}
-use Rattle.rlsf_machine.specs.WellFormed.{covers, coverage, itself}
-use Rattle.rlsf_machine.proofs.Coverage.{covers-inside}
+use Rattle.rlsf_model.specs.Lists.{IsIn}
+use Rattle.rlsf_model.specs.WellFormed.{covers, coverage, itself}
+use Rattle.rlsf_model.proofs.Coverage.{covers-inside}
 
 -- the sum of what f is at the n numbers from `low` on
 abbrev total : (ℕ → ℕ) → ℕ → ℕ → ℕ

@@ -8,10 +8,10 @@ use Rattle.rlsf_tlsf.specs.Allocator.{Allocator, Stands}
 use Rattle.rlsf_tlsf.proofs.Standing.{in_state}
 use Rattle.rlsf_flex.specs.StandsFor.{FlexStandsFor}
 use Rattle.rlsf_flex.proofs.Standing.{contents_at}
-use Rattle.rlsf_machine.specs.FlexState.{empty}
-use Rattle.rlsf_machine.specs.State as state
-use Rattle.rlsf_machine.specs.Terms.{Terms}
-use Rattle.rlsf_machine.proofs.FlexSteps.{flex_empty_is_well_formed}
+use Rattle.rlsf_model.specs.FlexState.{empty}
+use Rattle.rlsf_model.specs.State as state
+use Rattle.rlsf_model.specs.Terms.{Terms}
+use Rattle.rlsf_model.proofs.FlexSteps.{flex_empty_is_well_formed}
 
 pub FlexStandsFor-empty : {S : Type 0} (fllen sllen : ℕ) (terms : S → Terms) (owes : S → List Range → Type 0) (v : Allocator) (m : Space) (x : S)
     → v.state ≡ state.empty → Stands fllen sllen v → v.memory ≡ m

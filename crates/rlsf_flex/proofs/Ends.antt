@@ -11,16 +11,16 @@ use Rattle.rlsf_tlsf.specs.Allocator.{Allocator}
 use Rattle.rlsf_flex.specs.declared.pool.Pool.{Pool}
 use Rattle.rlsf_flex.specs.Footers.{AreSpelled, Footers, first, footer_of}
 use Rattle.rlsf_flex.specs.StandsFor.{FlexStandsFor, flex_contents, kept_of}
-use Rattle.rlsf_machine.specs.FlexWellFormed.{IsNewest}
-use Rattle.rlsf_machine.specs.End.{notes_at_end, owed_at_end}
-use Rattle.rlsf_machine.specs.Lists.{IsIn}
-use Rattle.rlsf_machine.specs.Note.{Note, LeadsBy, dealloc}
-use Rattle.rlsf_machine.specs.Terms.{Terms}
-use Rattle.rlsf_machine.proofs.Notes.{LeadsBy-append}
+use Rattle.rlsf_model.specs.FlexWellFormed.{IsNewest}
+use Rattle.rlsf_model.specs.End.{notes_at_end, owed_at_end}
+use Rattle.rlsf_model.specs.Lists.{IsIn}
+use Rattle.rlsf_model.specs.Note.{Note, LeadsBy, dealloc}
+use Rattle.rlsf_model.specs.Terms.{Terms}
+use Rattle.rlsf_model.proofs.Notes.{LeadsBy-append}
 use Rattle.rlsf_flex.proofs.DisjointRanges.{length-disjoint}
 use Rattle.rlsf_flex.proofs.FooterWords.{before, before-first}
 use Rattle.rlsf_flex.proofs.Frames.{outstanding_in}
-use Rattle.rlsf_machine.proofs.Housing.{AreOutstanding-rest}
+use Rattle.rlsf_model.proofs.Housing.{AreOutstanding-rest}
 
 -- ---- the ranges that are left
 

@@ -12,8 +12,8 @@ use Rattle.rlsf_base.proofs.Lending.Replaced.{byte_at-same}
 use Rattle.rlsf_base.proofs.Words.Written.{bytes_in-with_word, word_at-same, word_at-other}
 use Rattle.rlsf_blocks.specs.Spare.{IsSpareWord}
 use Rattle.rlsf_flex.specs.Footers.{footer_of, first, first_start, Footers, WritesFooter}
-use Rattle.rlsf_machine.specs.Lists.{IsIn}
-use Rattle.rlsf_machine.specs.State.{State}
+use Rattle.rlsf_model.specs.Lists.{IsIn}
+use Rattle.rlsf_model.specs.State.{State}
 use Rattle.rlsf_flex.proofs.Places.{SamePlace-then}
 
 -- a spare word of a memory is one of every memory at the same place

@@ -12,14 +12,14 @@ use Rattle.rlsf_tlsf.specs.Allocator.{Allocator}
 use Rattle.rlsf_blocks.proofs.Allocate.Placements.{length-bytes_in}
 use Rattle.rlsf_flex.specs.Footers.{footer_of, Footers}
 use Rattle.rlsf_flex.specs.StandsFor.{FlexContents, FlexStandsFor, with_allocator}
-use Rattle.rlsf_machine.specs.FlexState.{FlexState, with_machine}
-use Rattle.rlsf_machine.specs.FlexWellFormed.{AreHoused, AreOutstanding, IsFlexWellFormed}
-use Rattle.rlsf_machine.specs.Lists.{IsIn}
-use Rattle.rlsf_machine.specs.State.{State}
-use Rattle.rlsf_machine.specs.Terms.{Terms}
-use Rattle.rlsf_machine.specs.WellFormed.{itself, IsWellFormed}
-use Rattle.rlsf_machine.proofs.Coverage.{covers-inside, coverage-unique}
-use Rattle.rlsf_machine.proofs.FlexSteps.{with_machine_keeps}
+use Rattle.rlsf_model.specs.FlexState.{FlexState, with_machine}
+use Rattle.rlsf_model.specs.FlexWellFormed.{AreHoused, AreOutstanding, IsFlexWellFormed}
+use Rattle.rlsf_model.specs.Lists.{IsIn}
+use Rattle.rlsf_model.specs.State.{State}
+use Rattle.rlsf_model.specs.Terms.{Terms}
+use Rattle.rlsf_model.specs.WellFormed.{itself, IsWellFormed}
+use Rattle.rlsf_model.proofs.Coverage.{covers-inside, coverage-unique}
+use Rattle.rlsf_model.proofs.FlexSteps.{with_machine_keeps}
 use Rattle.rlsf_flex.proofs.Places.{out_at-place}
 
 -- the two words of a range's footer are spare

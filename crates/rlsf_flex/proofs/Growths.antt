@@ -13,20 +13,20 @@ use Rattle.rlsf_flex.specs.Outside.{IsOutside}
 use Rattle.rlsf_flex.specs.Steps.Outside.{KeepsOutsideNow}
 use Rattle.rlsf_flex.specs.StandsFor.{FlexContents, FlexStandsFor}
 use Rattle.rlsf_flex.specs.Steps.Growth.{Took}
-use Rattle.rlsf_machine.specs.Answers.{MayAnswer}
-use Rattle.rlsf_machine.specs.FlexState.{FlexState, KeptPool}
-use Rattle.rlsf_machine.specs.FlexWellFormed.{AreHoused, AreOutstanding, IsFlexWellFormed, IsKeptPool}
-use Rattle.rlsf_machine.specs.Growth.{behind, growth_came, longer}
-use Rattle.rlsf_machine.specs.Insert.{Appends, IsNext}
-use Rattle.rlsf_machine.specs.Lists.{IsIn}
-use Rattle.rlsf_machine.specs.Note.{grow}
-use Rattle.rlsf_machine.specs.PoolLength.{HasPool, IsPoolSize}
-use Rattle.rlsf_machine.specs.State.{State}
-use Rattle.rlsf_machine.specs.Terms.{IsGrown, Terms, with_len}
-use Rattle.rlsf_machine.specs.WellFormed.{coverage, itself, IsWellFormed}
-use Rattle.rlsf_machine.proofs.FlexGrowths.{behind_next, grown_keeps, housed_before, is_longer, old_pools}
-use Rattle.rlsf_machine.proofs.Housing.{AreOutstanding-more, AreOutstanding-rest, coverage-in, coverage-none}
-use Rattle.rlsf_machine.proofs.TakenPools.{appended_pool, IsTaken, pool_size_is}
+use Rattle.rlsf_model.specs.Answers.{MayAnswer}
+use Rattle.rlsf_model.specs.FlexState.{FlexState, KeptPool}
+use Rattle.rlsf_model.specs.FlexWellFormed.{AreHoused, AreOutstanding, IsFlexWellFormed, IsKeptPool}
+use Rattle.rlsf_model.specs.Growth.{behind, growth_came, longer}
+use Rattle.rlsf_model.specs.Insert.{Appends, IsNext}
+use Rattle.rlsf_model.specs.Lists.{IsIn}
+use Rattle.rlsf_model.specs.Note.{grow}
+use Rattle.rlsf_model.specs.PoolLength.{HasPool, IsPoolSize}
+use Rattle.rlsf_model.specs.State.{State}
+use Rattle.rlsf_model.specs.Terms.{IsGrown, Terms, with_len}
+use Rattle.rlsf_model.specs.WellFormed.{coverage, itself, IsWellFormed}
+use Rattle.rlsf_model.proofs.FlexGrowths.{behind_next, grown_keeps, housed_before, is_longer, old_pools}
+use Rattle.rlsf_model.proofs.Housing.{AreOutstanding-more, AreOutstanding-rest, coverage-in, coverage-none}
+use Rattle.rlsf_model.proofs.TakenPools.{appended_pool, IsTaken, pool_size_is}
 use Rattle.rlsf_flex.proofs.Frames.{Footers-kept, HasSpareFooter, footer_ends, outstanding_in, range_of-same, spare_footer, spare_here}
 use Rattle.rlsf_flex.proofs.Outcomes.{FlexStandsFor-answered}
 use Rattle.rlsf_flex.proofs.OutsideNow.{KeepsOutsideNow-footed, KeepsOutsideNow-spare, KeepsOutsideNow-then}

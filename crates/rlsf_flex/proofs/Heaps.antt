@@ -5,11 +5,11 @@ use Rattle.std.specs.Int.{next_multiple_of}
 use Rattle.rlsf_base.proofs.Numbers.Roundings.{next_multiple_of-le}
 use Rattle.rlsf_base.specs.declared.memory.range.Range.{Range}
 use Rattle.rlsf_base.specs.Layout.{IsLayout}
-use Rattle.rlsf_machine.specs.Insert.{IsClear}
-use Rattle.rlsf_machine.specs.Lists.{IsIn}
-use Rattle.rlsf_machine.specs.Terms.{IsGiven}
-use Rattle.rlsf_machine.proofs.Between.{IsIn-between}
-use Rattle.rlsf_machine.proofs.Coverage.{IsIn-append_right}
+use Rattle.rlsf_model.specs.Insert.{IsClear}
+use Rattle.rlsf_model.specs.Lists.{IsIn}
+use Rattle.rlsf_model.specs.Terms.{IsGiven}
+use Rattle.rlsf_model.proofs.Between.{IsIn-between}
+use Rattle.rlsf_model.proofs.Coverage.{IsIn-append_right}
 use Rattle.rlsf_flex.specs.Heap.{Allocation, HeapNote, allocate, allocation_at, allocation_of, bytes_of_allocation, HeapOwes, heap_terms, IsAllocated}
 
 -- the bytes of the ranges' allocations are the ranges

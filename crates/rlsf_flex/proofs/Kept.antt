@@ -7,9 +7,9 @@ use Rattle.rlsf_flex.specs.declared.pool.Pool.{Pool}
 use Rattle.rlsf_flex.specs.Footers.{first_len, first_start}
 use Rattle.rlsf_flex.specs.StandsFor.{flex_contents, FlexStandsFor, kept_of, kept_pool}
 use Rattle.rlsf_flex.specs.Steps.Growth.{kept_len, kept_start}
-use Rattle.rlsf_machine.specs.FlexWellFormed.{IsKeptPool, IsNewest}
-use Rattle.rlsf_machine.specs.Growth.{keeps}
-use Rattle.rlsf_machine.specs.Terms.{Terms}
+use Rattle.rlsf_model.specs.FlexWellFormed.{IsKeptPool, IsNewest}
+use Rattle.rlsf_model.specs.Growth.{keeps}
+use Rattle.rlsf_model.specs.Terms.{Terms}
 
 -- where ranges are returned, a pool is kept
 pub keeps-dealloc : (t : Terms) → t.dealloc ≡ true → keeps t ≡ true

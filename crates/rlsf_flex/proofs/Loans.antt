@@ -11,10 +11,10 @@ use Rattle.rlsf_blocks.proofs.Payloads.Filled.{filled_in}
 use Rattle.rlsf_blocks.proofs.Payloads.UnknownAlignment.{IsPayloadOf-holds, LiesIn-usable}
 use Rattle.rlsf_flex.specs.Lending.{written}
 use Rattle.rlsf_flex.specs.StandsFor.{FlexContents, FlexStandsFor, allocator_of}
-use Rattle.rlsf_machine.specs.Callers.{align_at, bytes_at}
-use Rattle.rlsf_machine.specs.State.{Used, usable, Holds}
-use Rattle.rlsf_machine.specs.Terms.{Terms}
-use Rattle.rlsf_machine.proofs.CallerWords.{align_at-some, bytes_at-held}
+use Rattle.rlsf_model.specs.Callers.{align_at, bytes_at}
+use Rattle.rlsf_model.specs.State.{Used, usable, Holds}
+use Rattle.rlsf_model.specs.Terms.{Terms}
+use Rattle.rlsf_model.proofs.CallerWords.{align_at-some, bytes_at-held}
 use Rattle.rlsf_tlsf.specs.Lending as tlsf
 use Rattle.rlsf_tlsf.specs.Lending.{touched}
 use Rattle.rlsf_tlsf.proofs.Lent.{IsSameOutside-lent}

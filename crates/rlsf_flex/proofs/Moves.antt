@@ -6,16 +6,16 @@ use Rattle.rlsf_base.specs.PowerOfTwo.{IsPowerOfTwo}
 use Rattle.rlsf_base.specs.Space.{range_of, SamePlace}
 use Rattle.rlsf_blocks.specs.Spare.{KeepsSpare}
 use Rattle.rlsf_tlsf.specs.Allocator.{Allocator, IsInState}
-use Rattle.rlsf_machine.specs.Allocate.{Allocates, given, placed, Places}
-use Rattle.rlsf_machine.specs.Callers.{bytes_at}
-use Rattle.rlsf_machine.specs.Reallocate.{Keeps, MovesAway}
-use Rattle.rlsf_machine.specs.Release.{Deallocates}
-use Rattle.rlsf_machine.specs.Run.{Fills, allocate, deallocate, fill}
-use Rattle.rlsf_machine.specs.State.{State, Used, usable, with_front, Holds}
-use Rattle.rlsf_machine.specs.WellFormed.{IsWellFormed}
-use Rattle.rlsf_machine.proofs.CallerWords.{bytes_at-held}
-use Rattle.rlsf_machine.proofs.Changes.{Holds-unique}
-use Rattle.rlsf_machine.proofs.Live.{allocated_filled, allocation_has_size, other_payloads_stay}
+use Rattle.rlsf_model.specs.Allocate.{Allocates, given, placed, Places}
+use Rattle.rlsf_model.specs.Callers.{bytes_at}
+use Rattle.rlsf_model.specs.Reallocate.{Keeps, MovesAway}
+use Rattle.rlsf_model.specs.Release.{Deallocates}
+use Rattle.rlsf_model.specs.Run.{Fills, allocate, deallocate, fill}
+use Rattle.rlsf_model.specs.State.{State, Used, usable, with_front, Holds}
+use Rattle.rlsf_model.specs.WellFormed.{IsWellFormed}
+use Rattle.rlsf_model.proofs.CallerWords.{bytes_at-held}
+use Rattle.rlsf_model.proofs.Changes.{Holds-unique}
+use Rattle.rlsf_model.proofs.Live.{allocated_filled, allocation_has_size, other_payloads_stay}
 use Rattle.rlsf_blocks.proofs.Machine.SpareBytes.{KeepsSpare-trans}
 use Rattle.rlsf_flex.proofs.Places.{SamePlace-then}
 

@@ -14,17 +14,17 @@ use Rattle.rlsf_flex.specs.Steps.Footing.{IsFooted}
 use Rattle.rlsf_flex.specs.Steps.Outside.{KeepsOutsideNow}
 use Rattle.rlsf_flex.specs.StandsFor.{FlexContents, FlexStandsFor, kept_of}
 use Rattle.rlsf_flex.specs.Steps.Growth.{kept_len, kept_start, Took}
-use Rattle.rlsf_machine.specs.FlexState.{KeptPool}
-use Rattle.rlsf_machine.specs.FlexWellFormed.{IsFlexWellFormed, IsNewest}
-use Rattle.rlsf_machine.specs.Growth.{range_came, keeps, range_length}
-use Rattle.rlsf_machine.specs.Insert.{Inserts}
-use Rattle.rlsf_machine.specs.Lists.{IsIn}
-use Rattle.rlsf_machine.specs.PoolLength.{HasPool, IsPoolSize}
-use Rattle.rlsf_machine.specs.State.{State}
-use Rattle.rlsf_machine.specs.Terms.{IsGiven, Terms}
-use Rattle.rlsf_machine.proofs.FlexGrowths.{given_keeps}
-use Rattle.rlsf_machine.proofs.RangeLengths.{HasAlignedPart-given}
-use Rattle.rlsf_machine.proofs.TakenPools.{inserted_pool, IsTaken, pool_size_is}
+use Rattle.rlsf_model.specs.FlexState.{KeptPool}
+use Rattle.rlsf_model.specs.FlexWellFormed.{IsFlexWellFormed, IsNewest}
+use Rattle.rlsf_model.specs.Growth.{range_came, keeps, range_length}
+use Rattle.rlsf_model.specs.Insert.{Inserts}
+use Rattle.rlsf_model.specs.Lists.{IsIn}
+use Rattle.rlsf_model.specs.PoolLength.{HasPool, IsPoolSize}
+use Rattle.rlsf_model.specs.State.{State}
+use Rattle.rlsf_model.specs.Terms.{IsGiven, Terms}
+use Rattle.rlsf_model.proofs.FlexGrowths.{given_keeps}
+use Rattle.rlsf_model.proofs.RangeLengths.{HasAlignedPart-given}
+use Rattle.rlsf_model.proofs.TakenPools.{inserted_pool, IsTaken, pool_size_is}
 use Rattle.rlsf_flex.proofs.Frames.{Footers-kept, HasSpareFooter, ends_here, outstanding_in, range_of-same, spare_here}
 use Rattle.rlsf_flex.proofs.Kept.{keeps-dealloc, words-first}
 use Rattle.rlsf_flex.proofs.Outcomes.{FlexStandsFor-answered}

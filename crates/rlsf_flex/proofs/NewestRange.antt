@@ -12,18 +12,18 @@ use Rattle.rlsf_flex.specs.declared.pool.Pool.{Pool}
 use Rattle.rlsf_flex.specs.Footers.{Footers, first, footer_of}
 use Rattle.rlsf_flex.specs.StandsFor.{FlexStandsFor, flex_contents, kept_of, kept_pool}
 use Rattle.rlsf_flex.specs.Steps.Trim.{GaveNewest, HasRoomForChunk, older}
-use Rattle.rlsf_machine.specs.FlexState.{FlexState}
-use Rattle.rlsf_machine.specs.FlexWellFormed.{IsFlexWellFormed, IsKeptPool, IsNewest, IsPool}
-use Rattle.rlsf_machine.specs.Lists.{IsIn}
-use Rattle.rlsf_machine.specs.Note.{Note, dealloc}
-use Rattle.rlsf_machine.specs.Remove.{IsIdle, removed}
-use Rattle.rlsf_machine.specs.State.{State}
-use Rattle.rlsf_machine.specs.Terms.{Terms}
-use Rattle.rlsf_machine.specs.Trim.{IsNewestHeld}
-use Rattle.rlsf_machine.specs.WellFormed.{itself}
-use Rattle.rlsf_machine.proofs.Coverage.{coverage-unique, covers-inside}
-use Rattle.rlsf_machine.proofs.RangePools.{IsPool-kept, IsPool-last}
-use Rattle.rlsf_machine.proofs.Trims.{IsOver, IsOver-all_removed, IsOver-flex}
+use Rattle.rlsf_model.specs.FlexState.{FlexState}
+use Rattle.rlsf_model.specs.FlexWellFormed.{IsFlexWellFormed, IsKeptPool, IsNewest, IsPool}
+use Rattle.rlsf_model.specs.Lists.{IsIn}
+use Rattle.rlsf_model.specs.Note.{Note, dealloc}
+use Rattle.rlsf_model.specs.Remove.{IsIdle, removed}
+use Rattle.rlsf_model.specs.State.{State}
+use Rattle.rlsf_model.specs.Terms.{Terms}
+use Rattle.rlsf_model.specs.Trim.{IsNewestHeld}
+use Rattle.rlsf_model.specs.WellFormed.{itself}
+use Rattle.rlsf_model.proofs.Coverage.{coverage-unique, covers-inside}
+use Rattle.rlsf_model.proofs.RangePools.{IsPool-kept, IsPool-last}
+use Rattle.rlsf_model.proofs.Trims.{IsOver, IsOver-all_removed, IsOver-flex}
 use Rattle.rlsf_flex.proofs.Frames.{Footers-kept, ends_here, outstanding_in, range_of-same, spare_here}
 use Rattle.rlsf_flex.proofs.Kept.{IsKeptPool-known, keeps-dealloc}
 use Rattle.rlsf_flex.proofs.Outcomes.{FlexStandsFor-answered}

@@ -8,11 +8,11 @@ use Rattle.rlsf_tlsf.specs.Allocator.{Allocator}
 use Rattle.rlsf_flex.specs.Footers.{Footers}
 use Rattle.rlsf_flex.specs.StandsFor.{FlexContents, FlexStandsFor, allocator_of}
 use Rattle.rlsf_flex.specs.Steps.Growth.{Took}
-use Rattle.rlsf_machine.specs.FlexState.{FlexState, KeptPool}
-use Rattle.rlsf_machine.specs.FlexWellFormed.{IsFlexWellFormed}
-use Rattle.rlsf_machine.specs.Growth.{Outcome, refused}
-use Rattle.rlsf_machine.specs.State.{State}
-use Rattle.rlsf_machine.specs.Terms.{Terms}
+use Rattle.rlsf_model.specs.FlexState.{FlexState, KeptPool}
+use Rattle.rlsf_model.specs.FlexWellFormed.{IsFlexWellFormed}
+use Rattle.rlsf_model.specs.Growth.{Outcome, refused}
+use Rattle.rlsf_model.specs.State.{State}
+use Rattle.rlsf_model.specs.Terms.{Terms}
 use Rattle.rlsf_flex.proofs.OutsideNow.{KeepsOutsideNow-refl}
 use Rattle.rlsf_flex.proofs.Standing.{contents_at}
 

@@ -8,15 +8,15 @@ use Rattle.rlsf_base.specs.Space.{Space, SamePlace}
 use Rattle.rlsf_blocks.specs.Spare.{KeepsSpare}
 use Rattle.rlsf_flex.specs.Outside.{IsOutside, KeepsOutside, NothingGoesBack, ever_owed, handed, handed_by}
 use Rattle.rlsf_flex.specs.Steps.Outside.{KeepsOutsideNow}
-use Rattle.rlsf_machine.specs.FlexState.{FlexState, KeptPool}
-use Rattle.rlsf_machine.specs.FlexWellFormed.{AreHoused, IsNewest}
-use Rattle.rlsf_machine.specs.Growth.{Extends, IsPossible, Outcome, range_came, growth_came, growth_note, if_fits, longer, notes_of, questions, questions_kept, range_note, refused}
-use Rattle.rlsf_machine.specs.Growth.{TakesIn}
-use Rattle.rlsf_machine.specs.Note.{Note, dealloc}
-use Rattle.rlsf_machine.specs.State.{State}
-use Rattle.rlsf_machine.specs.Terms.{Terms, with_len}
-use Rattle.rlsf_machine.specs.WellFormed.{coverage, itself}
-use Rattle.rlsf_machine.proofs.Coverage.{IsIn-append_left, IsIn-append_right, coverage-append}
+use Rattle.rlsf_model.specs.FlexState.{FlexState, KeptPool}
+use Rattle.rlsf_model.specs.FlexWellFormed.{AreHoused, IsNewest}
+use Rattle.rlsf_model.specs.Growth.{Extends, IsPossible, Outcome, range_came, growth_came, growth_note, if_fits, longer, notes_of, questions, questions_kept, range_note, refused}
+use Rattle.rlsf_model.specs.Growth.{TakesIn}
+use Rattle.rlsf_model.specs.Note.{Note, dealloc}
+use Rattle.rlsf_model.specs.State.{State}
+use Rattle.rlsf_model.specs.Terms.{Terms, with_len}
+use Rattle.rlsf_model.specs.WellFormed.{coverage, itself}
+use Rattle.rlsf_model.proofs.Coverage.{IsIn-append_left, IsIn-append_right, coverage-append}
 use Rattle.rlsf_flex.proofs.OutsideNow.{KeepsOutsideNow-spare}
 use Rattle.rlsf_flex.proofs.Places.{SamePlace-refl, SamePlace-then}
 

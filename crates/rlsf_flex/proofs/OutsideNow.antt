@@ -8,11 +8,11 @@ use Rattle.rlsf_flex.specs.Outside.{IsOutside}
 use Rattle.rlsf_flex.specs.StandsFor.{FlexContents, FlexStandsFor, with_allocator}
 use Rattle.rlsf_flex.specs.Steps.Outside.{KeepsOutsideNow}
 use Rattle.rlsf_tlsf.specs.Allocator.{Allocator}
-use Rattle.rlsf_machine.specs.FlexWellFormed.{AreHoused}
-use Rattle.rlsf_machine.specs.Lists.{IsIn}
-use Rattle.rlsf_machine.specs.State.{State}
-use Rattle.rlsf_machine.specs.Terms.{Terms}
-use Rattle.rlsf_machine.proofs.Housing.{coverage-in}
+use Rattle.rlsf_model.specs.FlexWellFormed.{AreHoused}
+use Rattle.rlsf_model.specs.Lists.{IsIn}
+use Rattle.rlsf_model.specs.State.{State}
+use Rattle.rlsf_model.specs.Terms.{Terms}
+use Rattle.rlsf_model.proofs.Housing.{coverage-in}
 use Rattle.rlsf_flex.proofs.Places.{SamePlace-refl, SamePlace-then}
 
 -- a byte outside of the ranges that house all chunks is spare

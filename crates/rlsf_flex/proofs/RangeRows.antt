@@ -8,17 +8,17 @@ use Rattle.rlsf_base.specs.Range.{end_of, range_at}
 use Rattle.rlsf_base.specs.Rounding.{round32}
 use Rattle.rlsf_base.proofs.Numbers.Roundings.{round32-le, round32-least}
 use Rattle.rlsf_blocks.specs.Blocks.{AreBlocks, Block, used, free, walked}
-use Rattle.rlsf_machine.specs.ChunkRows.{IsRow}
-use Rattle.rlsf_machine.specs.FlexWellFormed.{IsPool}
-use Rattle.rlsf_machine.specs.Lists.{IsIn}
-use Rattle.rlsf_machine.specs.Remove.{IsIdle, lies_within, outside_of, removed}
-use Rattle.rlsf_machine.specs.State.{State}
-use Rattle.rlsf_machine.specs.WellFormed.{coverage, itself, IsWellFormed}
-use Rattle.rlsf_machine.proofs.Coverage.{by_test, coverage-IsIn, coverage-some, coverage-unique, covers-inside}
-use Rattle.rlsf_machine.proofs.Housing.{coverage-in, coverage-none}
-use Rattle.rlsf_machine.proofs.Payloads.{payload_of-after}
-use Rattle.rlsf_machine.proofs.Removals.{lies_within-le, lies_within-true}
-use Rattle.rlsf_machine.proofs.Tiling.{block_of, lies_in_chunk, tiling_of, IsPart-free, IsPart-used}
+use Rattle.rlsf_model.specs.ChunkRows.{IsRow}
+use Rattle.rlsf_model.specs.FlexWellFormed.{IsPool}
+use Rattle.rlsf_model.specs.Lists.{IsIn}
+use Rattle.rlsf_model.specs.Remove.{IsIdle, lies_within, outside_of, removed}
+use Rattle.rlsf_model.specs.State.{State}
+use Rattle.rlsf_model.specs.WellFormed.{coverage, itself, IsWellFormed}
+use Rattle.rlsf_model.proofs.Coverage.{by_test, coverage-IsIn, coverage-some, coverage-unique, covers-inside}
+use Rattle.rlsf_model.proofs.Housing.{coverage-in, coverage-none}
+use Rattle.rlsf_model.proofs.Payloads.{payload_of-after}
+use Rattle.rlsf_model.proofs.Removals.{lies_within-le, lies_within-true}
+use Rattle.rlsf_model.proofs.Tiling.{block_of, lies_in_chunk, tiling_of, IsPart-free, IsPart-used}
 
 -- the range, up to the end of its last chunk
 abbrev pub row_of : Range → ℕ → Range

@@ -9,22 +9,22 @@ use Rattle.rlsf_blocks.specs.Spare.{KeepsSpare}
 use Rattle.rlsf_flex.specs.Steps.Outside.{KeepsOutsideNow}
 use Rattle.rlsf_flex.specs.StandsFor.{FlexContents, FlexStandsFor, FlexSteps, allocator_of, with_allocator}
 use Rattle.rlsf_flex.specs.Steps.Growth.{Extended, MovesTo}
-use Rattle.rlsf_machine.specs.Allocate.{Allocates}
-use Rattle.rlsf_machine.specs.FlexAllocate.{Asks, FlexAllocates}
-use Rattle.rlsf_machine.specs.FlexReallocate.{FlexReallocates, IsStuck}
-use Rattle.rlsf_machine.specs.FlexState.{FlexState, with_machine}
-use Rattle.rlsf_machine.specs.Growth.{refused}
-use Rattle.rlsf_machine.specs.Lists.{IsIn}
-use Rattle.rlsf_machine.specs.Note.{Note}
-use Rattle.rlsf_machine.specs.Reallocate.{MovesAway, Plan, Reallocates, ReallocatesBy, in_place, into_next, into_previous, or_else, plan}
-use Rattle.rlsf_machine.specs.State.{State, Used, usable, Holds, IsLive}
-use Rattle.rlsf_machine.specs.Terms.{Terms}
-use Rattle.rlsf_machine.specs.WellFormed.{IsWellFormed}
-use Rattle.rlsf_machine.proofs.Changes.{Holds-unique}
-use Rattle.rlsf_machine.proofs.Chunks.{chunks-allocated, chunks-deallocated, chunks-reallocated}
-use Rattle.rlsf_machine.proofs.Growths.{Holds-same, used-taken}
-use Rattle.rlsf_machine.proofs.Live.{handed_out_is_new}
-use Rattle.rlsf_machine.proofs.Payloads.{usable-short}
+use Rattle.rlsf_model.specs.Allocate.{Allocates}
+use Rattle.rlsf_model.specs.FlexAllocate.{Asks, FlexAllocates}
+use Rattle.rlsf_model.specs.FlexReallocate.{FlexReallocates, IsStuck}
+use Rattle.rlsf_model.specs.FlexState.{FlexState, with_machine}
+use Rattle.rlsf_model.specs.Growth.{refused}
+use Rattle.rlsf_model.specs.Lists.{IsIn}
+use Rattle.rlsf_model.specs.Note.{Note}
+use Rattle.rlsf_model.specs.Reallocate.{MovesAway, Plan, Reallocates, ReallocatesBy, in_place, into_next, into_previous, or_else, plan}
+use Rattle.rlsf_model.specs.State.{State, Used, usable, Holds, IsLive}
+use Rattle.rlsf_model.specs.Terms.{Terms}
+use Rattle.rlsf_model.specs.WellFormed.{IsWellFormed}
+use Rattle.rlsf_model.proofs.Changes.{Holds-unique}
+use Rattle.rlsf_model.proofs.Chunks.{chunks-allocated, chunks-deallocated, chunks-reallocated}
+use Rattle.rlsf_model.proofs.Growths.{Holds-same, used-taken}
+use Rattle.rlsf_model.proofs.Live.{handed_out_is_new}
+use Rattle.rlsf_model.proofs.Payloads.{usable-short}
 use Rattle.rlsf_flex.proofs.Allocations.{Tried, asked_answers, asked_by, asked_noted, asked_outside, asked_spare, asks, refused_alone}
 use Rattle.rlsf_flex.proofs.Calls.{stands_alone}
 use Rattle.rlsf_flex.proofs.Frames.{stands_stepped}

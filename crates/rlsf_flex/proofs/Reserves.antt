@@ -3,17 +3,17 @@ use Rattle.std.proofs.Common.{◌≡◌, ℕ, ◌+◌, ◌≤◌, length, Some, 
 use Rattle.rlsf_base.specs.declared.memory.range.Range.{Range}
 use Rattle.rlsf_base.specs.SizeClass.{IsValid}
 use Rattle.rlsf_base.specs.Sizes.{pool_size_for_payloads}
-use Rattle.rlsf_machine.specs.Callers.{bytes_at}
-use Rattle.rlsf_machine.specs.Lists.{IsIn}
-use Rattle.rlsf_machine.specs.Release.{Deallocates}
-use Rattle.rlsf_machine.specs.Sized.{IsSizedFor, live_count}
-use Rattle.rlsf_machine.specs.State.{State, usable}
-use Rattle.rlsf_machine.specs.WellFormed.{IsWellFormed}
-use Rattle.rlsf_machine.proofs.CallerWords.{bytes_at-held}
-use Rattle.rlsf_machine.proofs.Chunks.{chunks-deallocated}
-use Rattle.rlsf_machine.proofs.Payloads.{IsUsed-after_start, IsUsed-some}
-use Rattle.rlsf_machine.proofs.SizedWords.{count_gone, sized_chunk}
-use Rattle.rlsf_machine.proofs.Tiling.{IsPart-used, lies_in_chunk, tiling_of}
+use Rattle.rlsf_model.specs.Callers.{bytes_at}
+use Rattle.rlsf_model.specs.Lists.{IsIn}
+use Rattle.rlsf_model.specs.Release.{Deallocates}
+use Rattle.rlsf_model.specs.Sized.{IsSizedFor, live_count}
+use Rattle.rlsf_model.specs.State.{State, usable}
+use Rattle.rlsf_model.specs.WellFormed.{IsWellFormed}
+use Rattle.rlsf_model.proofs.CallerWords.{bytes_at-held}
+use Rattle.rlsf_model.proofs.Chunks.{chunks-deallocated}
+use Rattle.rlsf_model.proofs.Payloads.{IsUsed-after_start, IsUsed-some}
+use Rattle.rlsf_model.proofs.SizedWords.{count_gone, sized_chunk}
+use Rattle.rlsf_model.proofs.Tiling.{IsPart-used, lies_in_chunk, tiling_of}
 
 -- the payload that is deallocated was the only one, and its chunk has 16 bytes before its bytes and 32 behind them
 pub sized_behind : (fl_bits sl_bits fllen sllen : ℕ) (memory : Range) (s t : State) → IsValid fl_bits sl_bits fllen sllen → IsWellFormed fllen sllen memory s → (addr : ℕ)

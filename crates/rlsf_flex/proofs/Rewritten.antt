@@ -6,11 +6,11 @@ use Rattle.rlsf_base.specs.Range.{end_of, LiesIn}
 use Rattle.rlsf_base.specs.Space.{IsWord, Space, word_at}
 use Rattle.rlsf_flex.specs.Footers.{footer_of, Footers, WritesFooter}
 use Rattle.rlsf_flex.specs.Steps.Footing.{IsFooted}
-use Rattle.rlsf_machine.specs.Insert.{IsClear}
-use Rattle.rlsf_machine.specs.Lists.{IsIn}
+use Rattle.rlsf_model.specs.Insert.{IsClear}
+use Rattle.rlsf_model.specs.Lists.{IsIn}
 use Rattle.rlsf_flex.proofs.Frames.{word_at-bytes}
 use Rattle.rlsf_flex.proofs.Places.{SamePlace-refl, out_at-place}
-use Rattle.rlsf_machine.proofs.Housing.{coverage-in}
+use Rattle.rlsf_model.proofs.Housing.{coverage-in}
 
 -- a range's footer reads as it did
 abbrev ReadsSame : Space → Space → Range → Type 0

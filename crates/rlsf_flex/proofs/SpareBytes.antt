@@ -4,10 +4,10 @@ use Rattle.rlsf_base.specs.declared.memory.range.Range.{Range}
 use Rattle.rlsf_base.specs.Space.{Space, SamePlace}
 use Rattle.rlsf_blocks.specs.Spare.{IsSpare, KeepsSpare}
 use Rattle.rlsf_flex.specs.SpareBytes.{KeepsSpareButFooter}
-use Rattle.rlsf_machine.specs.FlexState.{FlexState, with_machine}
-use Rattle.rlsf_machine.specs.Lists.{IsIn}
-use Rattle.rlsf_machine.specs.State.{State}
-use Rattle.rlsf_machine.specs.Terms.{Terms}
+use Rattle.rlsf_model.specs.FlexState.{FlexState, with_machine}
+use Rattle.rlsf_model.specs.Lists.{IsIn}
+use Rattle.rlsf_model.specs.State.{State}
+use Rattle.rlsf_model.specs.Terms.{Terms}
 
 -- what is spare depends on the chunks alone
 IsSpare-chunks : (s t : State) (a : ℕ) → t.chunks ≡ s.chunks → IsSpare t a → IsSpare s a

@@ -7,11 +7,11 @@ use Rattle.rlsf_tlsf.specs.Allocator.{Allocator, IsInState, Stands, Steps}
 use Rattle.rlsf_flex.specs.Outside.{KeepsOutside}
 use Rattle.rlsf_flex.specs.SpareBytes.{KeepsSpareButFooter}
 use Rattle.rlsf_flex.specs.StandsFor.{FlexContents, FlexStands, FlexStandsFor, FlexSteps, StepsAlone, allocator_of}
-use Rattle.rlsf_machine.specs.Answers.{MayAnswerAll}
-use Rattle.rlsf_machine.specs.FlexState.{FlexState, with_machine}
-use Rattle.rlsf_machine.specs.Note.{LeadsBy, Note}
-use Rattle.rlsf_machine.specs.State.{State}
-use Rattle.rlsf_machine.specs.Terms.{Terms}
+use Rattle.rlsf_model.specs.Answers.{MayAnswerAll}
+use Rattle.rlsf_model.specs.FlexState.{FlexState, with_machine}
+use Rattle.rlsf_model.specs.Note.{LeadsBy, Note}
+use Rattle.rlsf_model.specs.State.{State}
+use Rattle.rlsf_model.specs.Terms.{Terms}
 
 -- the one over pools is in the reference model's state
 pub inner_in : {S : Type 0} {fllen sllen : ℕ} {terms : S → Terms} {owes : S → List Range → Type 0} {v : FlexContents S} → FlexStandsFor fllen sllen terms owes v

@@ -9,21 +9,21 @@ use Rattle.rlsf_flex.specs.Footers.{first}
 use Rattle.rlsf_flex.specs.Outside.{IsOutside, KeepsOutside, NothingGoesBack, ever_owed, handed}
 use Rattle.rlsf_flex.specs.StandsFor.{FlexContents, FlexStandsFor, FlexSteps}
 use Rattle.rlsf_flex.specs.Steps.Trim.{GaveBack, GaveNewest}
-use Rattle.rlsf_machine.specs.Answers.{MayAnswer}
-use Rattle.rlsf_machine.specs.FlexState.{KeptPool}
-use Rattle.rlsf_machine.specs.FlexWellFormed.{ArePools, IsNewest}
-use Rattle.rlsf_machine.specs.Lists.{IsIn}
-use Rattle.rlsf_machine.specs.Note.{Note, LeadsBy, dealloc}
-use Rattle.rlsf_machine.specs.Remove.{IsIdle, removed}
-use Rattle.rlsf_machine.specs.State.{State, Used}
-use Rattle.rlsf_machine.specs.Terms.{Terms}
-use Rattle.rlsf_machine.specs.Trim.{all_removed, EndsLast, GivesBack, IsKeptToLast, IsNewestHeld, Trims}
-use Rattle.rlsf_machine.specs.WellFormed.{coverage, itself, IsWellFormed}
-use Rattle.rlsf_machine.proofs.Coverage.{IsIn-append, IsIn-map_from, coverage-append}
-use Rattle.rlsf_machine.proofs.Notes.{LeadsBy-append, terms-led}
-use Rattle.rlsf_machine.proofs.RangePools.{IsPool-kept}
-use Rattle.rlsf_machine.proofs.Removals.{IsIn-outside}
-use Rattle.rlsf_machine.proofs.Trims.{EndsLast-pool, used-all_removed}
+use Rattle.rlsf_model.specs.Answers.{MayAnswer}
+use Rattle.rlsf_model.specs.FlexState.{KeptPool}
+use Rattle.rlsf_model.specs.FlexWellFormed.{ArePools, IsNewest}
+use Rattle.rlsf_model.specs.Lists.{IsIn}
+use Rattle.rlsf_model.specs.Note.{Note, LeadsBy, dealloc}
+use Rattle.rlsf_model.specs.Remove.{IsIdle, removed}
+use Rattle.rlsf_model.specs.State.{State, Used}
+use Rattle.rlsf_model.specs.Terms.{Terms}
+use Rattle.rlsf_model.specs.Trim.{all_removed, EndsLast, GivesBack, IsKeptToLast, IsNewestHeld, Trims}
+use Rattle.rlsf_model.specs.WellFormed.{coverage, itself, IsWellFormed}
+use Rattle.rlsf_model.proofs.Coverage.{IsIn-append, IsIn-map_from, coverage-append}
+use Rattle.rlsf_model.proofs.Notes.{LeadsBy-append, terms-led}
+use Rattle.rlsf_model.proofs.RangePools.{IsPool-kept}
+use Rattle.rlsf_model.proofs.Removals.{IsIn-outside}
+use Rattle.rlsf_model.proofs.Trims.{EndsLast-pool, used-all_removed}
 use Rattle.rlsf_flex.proofs.DisjointRanges.{length-disjoint}
 use Rattle.rlsf_flex.proofs.Frames.{outstanding_in}
 use Rattle.rlsf_flex.proofs.Kept.{keeps-dealloc}

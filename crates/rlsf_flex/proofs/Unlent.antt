@@ -11,10 +11,10 @@ use Rattle.rlsf_blocks.proofs.Words.Apart.{home_of_used}
 use Rattle.rlsf_flex.specs.Laws.{FlexStatesAreWellFormed, FlexWordsReadNoPayload}
 use Rattle.rlsf_flex.proofs.Frames.{stands_kept}
 use Rattle.rlsf_flex.proofs.Standing.{flex_stood}
-use Rattle.rlsf_machine.specs.State.{State}
-use Rattle.rlsf_machine.specs.Terms.{Terms}
-use Rattle.rlsf_machine.specs.WellFormed.{IsWellFormed}
-use Rattle.rlsf_machine.proofs.Payloads.{IsUsed-after_start}
+use Rattle.rlsf_model.specs.State.{State}
+use Rattle.rlsf_model.specs.Terms.{Terms}
+use Rattle.rlsf_model.specs.WellFormed.{IsWellFormed}
+use Rattle.rlsf_model.proofs.Payloads.{IsUsed-after_start}
 
 -- a byte that no block is made of is no usable byte of a live payload
 spare_unlent : {fllen sllen : ℕ} {memory : Range} {s : State} → IsWellFormed fllen sllen memory s → (a : ℕ) → IsSpare s a → IsUnlent s a

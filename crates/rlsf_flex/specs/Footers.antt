@@ -3,7 +3,7 @@ use Rattle.std.specs.Prelude.{◌≡◌, ℕ, ◌+◌, ◌-◌, ◌*◌, ◌/◌
 use Rattle.rlsf_base.specs.declared.memory.range.Range.{Range}
 use Rattle.rlsf_base.specs.Range.{end_of}
 use Rattle.rlsf_base.specs.Space.{Space, byte_at, range_of, word_at, SamePlace}
-use Rattle.rlsf_machine.specs.FlexWellFormed.{AreOutstanding}
+use Rattle.rlsf_model.specs.FlexWellFormed.{AreOutstanding}
 
 -- where a range's footer is: the last multiple of 8 that leaves 16 bytes of the range
 abbrev pub footer_of : Range → ℕ

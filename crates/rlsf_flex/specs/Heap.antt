@@ -6,10 +6,10 @@ use Rattle.rlsf_base.specs.declared.memory.range.Range.{Range}
 use Rattle.rlsf_base.specs.Addr.{at}
 use Rattle.rlsf_base.specs.Layout.{IsLayout}
 use Rattle.rlsf_base.specs.Range.{range_at}
-use Rattle.rlsf_machine.specs.Insert.{IsVacant}
-use Rattle.rlsf_machine.specs.Lists.{IsIn}
-use Rattle.rlsf_machine.specs.Note.{Note, alloc, dealloc, grow}
-use Rattle.rlsf_machine.specs.Terms.{OwesGrown, Terms}
+use Rattle.rlsf_model.specs.Insert.{IsVacant}
+use Rattle.rlsf_model.specs.Lists.{IsIn}
+use Rattle.rlsf_model.specs.Note.{Note, alloc, dealloc, grow}
+use Rattle.rlsf_model.specs.Terms.{OwesGrown, Terms}
 
 -- an address with the layout that it was provided for
 pub record Allocation : Type 0 where

@@ -3,7 +3,7 @@ use Rattle.std.specs.Prelude.{◌≡◌, ℕ, Some, None}
 use Rattle.std.proofs.Common.{ap, inl, inr}
 use Rattle.rlsf_base.specs.declared.memory.range.Range.{Range}
 use Rattle.rlsf_flex.specs.Heap.{HeapLeads, HeapNote, heap_terms}
-use Rattle.rlsf_machine.specs.Note.{Note, alloc, dealloc, grow}
+use Rattle.rlsf_model.specs.Note.{Note, alloc, dealloc, grow}
 
 module _ {T : Type 0} (leads : T → HeapNote → T → Type 0) (space : T → Range) (align : ℕ)
     (constant : (x y : T) (n : HeapNote) → leads x n y → space y ≡ space x) where

@@ -4,8 +4,8 @@ use Rattle.rlsf_base.specs.declared.memory.range.Range.{Range}
 use Rattle.rlsf_base.specs.Space.{Space, range_of}
 use Rattle.rlsf_blocks.specs.Laws.{DiffersInPayloads, read_from}
 use Rattle.rlsf_flex.specs.StandsFor.{FlexContents, FlexStands, FlexStandsFor, with_allocator}
-use Rattle.rlsf_machine.specs.FlexWellFormed.{IsFlexWellFormed}
-use Rattle.rlsf_machine.specs.Terms.{Terms}
+use Rattle.rlsf_model.specs.FlexWellFormed.{IsFlexWellFormed}
+use Rattle.rlsf_model.specs.Terms.{Terms}
 
 -- The state of every valid allocator is well-formed with its ranges and its kept pool. So the reference model's laws over a source
 -- apply to it.

@@ -4,8 +4,8 @@ use Rattle.std.specs.Borrow.{Fml, RattleType, MutBor, Array, Lends, u8}
 use Rattle.rlsf_base.specs.declared.memory.range.Range.{Range}
 use Rattle.rlsf_base.specs.Space.{SamePlace}
 use Rattle.rlsf_flex.specs.StandsFor.{FlexContents, FlexStands, allocator_of, with_allocator}
-use Rattle.rlsf_machine.specs.FlexState.{with_machine}
-use Rattle.rlsf_machine.specs.Terms.{Terms}
+use Rattle.rlsf_model.specs.FlexState.{with_machine}
+use Rattle.rlsf_model.specs.Terms.{Terms}
 use Rattle.rlsf_flex.specs.contracts.flex.FlexTlsf.{the_row}
 use Rattle.rlsf_flex.specs.declared.source.FlexSource as source
 use Rattle.rlsf_int.specs.declared.int.BitPattern as pattern

@@ -2,10 +2,10 @@
 use Rattle.std.specs.Prelude.{◌≡◌, ℕ, ◌+◌, ◌<◌, ◌≤◌, List, [], ◌∷◌, ◌++◌, Some, None, length}
 use Rattle.rlsf_base.specs.declared.memory.range.Range.{Range}
 use Rattle.rlsf_base.specs.Space.{Space, byte_at, SamePlace}
-use Rattle.rlsf_machine.specs.Lists.{IsIn}
-use Rattle.rlsf_machine.specs.Note.{Note, alloc, dealloc, grow}
-use Rattle.rlsf_machine.specs.Terms.{with_len}
-use Rattle.rlsf_machine.specs.WellFormed.{coverage, itself}
+use Rattle.rlsf_model.specs.Lists.{IsIn}
+use Rattle.rlsf_model.specs.Note.{Note, alloc, dealloc, grow}
+use Rattle.rlsf_model.specs.Terms.{with_len}
+use Rattle.rlsf_model.specs.WellFormed.{coverage, itself}
 
 -- the address lies in none of the ranges
 abbrev pub IsOutside : List Range → ℕ → Type 0

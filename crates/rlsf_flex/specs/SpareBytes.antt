@@ -4,8 +4,8 @@ use Rattle.rlsf_base.specs.declared.memory.range.Range.{Range}
 use Rattle.rlsf_base.specs.Space.{Space, byte_at}
 use Rattle.rlsf_blocks.specs.Spare.{IsSpare}
 use Rattle.rlsf_flex.specs.Footers.{footer_of}
-use Rattle.rlsf_machine.specs.FlexState.{FlexState}
-use Rattle.rlsf_machine.specs.Terms.{Terms}
+use Rattle.rlsf_model.specs.FlexState.{FlexState}
+use Rattle.rlsf_model.specs.Terms.{Terms}
 
 -- a source takes ranges back, the newest range came or grew, and the address lies in its footer
 pub record IsInNewFooter (t : Terms) (before after : List Range) (a : ℕ) : Type 0 where

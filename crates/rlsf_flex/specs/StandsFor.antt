@@ -12,13 +12,13 @@ use Rattle.rlsf_flex.specs.declared.pool.Pool.{Pool}
 use Rattle.rlsf_flex.specs.Footers.{Footers}
 use Rattle.rlsf_flex.specs.Outside.{KeepsOutside}
 use Rattle.rlsf_flex.specs.SpareBytes.{KeepsSpareButFooter}
-use Rattle.rlsf_machine.specs.Answers.{MayAnswerAll}
-use Rattle.rlsf_machine.specs.FlexState.{FlexState, KeptPool, with_machine}
-use Rattle.rlsf_machine.specs.FlexWellFormed.{IsFlexWellFormed}
-use Rattle.rlsf_machine.specs.Note.{Note, LeadsBy}
-use Rattle.rlsf_machine.specs.Run.{Fills}
-use Rattle.rlsf_machine.specs.State.{State}
-use Rattle.rlsf_machine.specs.Terms.{Terms}
+use Rattle.rlsf_model.specs.Answers.{MayAnswerAll}
+use Rattle.rlsf_model.specs.FlexState.{FlexState, KeptPool, with_machine}
+use Rattle.rlsf_model.specs.FlexWellFormed.{IsFlexWellFormed}
+use Rattle.rlsf_model.specs.Note.{Note, LeadsBy}
+use Rattle.rlsf_model.specs.Run.{Fills}
+use Rattle.rlsf_model.specs.State.{State}
+use Rattle.rlsf_model.specs.Terms.{Terms}
 
 -- The allocator as contracts see it: its memory, its class table, its source, and its state. That is the state of the reference model,
 -- the ranges that are outstanding at the source, and the kept pool.

@@ -6,8 +6,8 @@ ghost use Rattle.rlsf_base.specs.declared.memory.range.Range.{Range};
 ghost use Rattle.rlsf_base.specs.Range.{end_of};
 ghost use Rattle.rlsf_base.specs.Space.{IsWord};
 ghost use Rattle.rlsf_flex.specs.Footers.{AreSpelled, Footers, first, footer_of};
-ghost use Rattle.rlsf_machine.specs.Lists.{IsIn};
-ghost use Rattle.rlsf_machine.specs.Note.{LeadsBy, dealloc};
+ghost use Rattle.rlsf_model.specs.Lists.{IsIn};
+ghost use Rattle.rlsf_model.specs.Note.{LeadsBy, dealloc};
 
 use crate::footers::read_footer;
 use crate::pool::Pool;

@@ -8,12 +8,12 @@ ghost use Rattle.rlsf_tlsf.specs.Allocator.{Stands};
 ghost use Rattle.rlsf_flex.specs.StandsFor.{FlexStandsFor, kept_pool};
 ghost use Rattle.rlsf_flex.specs.Steps.Growth.{AskedGrowth, AskedRange, Extended, IsAsBefore, KeepsPayloads, MovesTo, kept_len, kept_start};
 ghost use Rattle.rlsf_flex.specs.Steps.Parts.{flex_over};
-ghost use Rattle.rlsf_machine.specs.Allocate.{Allocates};
-ghost use Rattle.rlsf_machine.specs.Callers.{align_at, bytes_at};
-ghost use Rattle.rlsf_machine.specs.Growth.{keeps, range_length};
-ghost use Rattle.rlsf_machine.specs.PoolLength.{IsPoolSize};
-ghost use Rattle.rlsf_machine.specs.Reallocate.{Keeps};
-ghost use Rattle.rlsf_machine.specs.Sized.{IsSizedFor, live_count};
+ghost use Rattle.rlsf_model.specs.Allocate.{Allocates};
+ghost use Rattle.rlsf_model.specs.Callers.{align_at, bytes_at};
+ghost use Rattle.rlsf_model.specs.Growth.{keeps, range_length};
+ghost use Rattle.rlsf_model.specs.PoolLength.{IsPoolSize};
+ghost use Rattle.rlsf_model.specs.Reallocate.{Keeps};
+ghost use Rattle.rlsf_model.specs.Sized.{IsSizedFor, live_count};
 
 use crate::footers::{read_footer, write_footer, write_footer_if};
 use crate::parts::Parts;

@@ -6,7 +6,7 @@ ghost use Rattle.std.specs.Option.{option_map};
 ghost use Rattle.rlsf_base.specs.declared.memory.range.Range.{Range};
 ghost use Rattle.rlsf_flex.specs.HeapConstant.{heap_terms-constant};
 ghost use Rattle.rlsf_flex.specs.Heap.{Allocation, allocation_at, HeapNote, allocate, deallocate, OwesAllocated, heap_terms, HeapOwes, HeapOwesGrown, HeapLeads};
-ghost use Rattle.rlsf_machine.specs.Note.{grow};
+ghost use Rattle.rlsf_model.specs.Note.{grow};
 
 use crate::source::FlexSource;
 use rlsf_base::memory::{Addr, Layout, Range};

@@ -3,7 +3,7 @@ ghost use Rattle.std.specs.Prelude.{◌≡◌, ℕ, List, [], ◌∷◌};
 ghost use Rattle.std.specs.Borrow.{ftrue};
 ghost use Rattle.rlsf_base.specs.declared.memory.range.Range.{Range};
 ghost use Rattle.rlsf_flex.specs.Steps.Trim.{older};
-ghost use Rattle.rlsf_machine.specs.Growth.{longer};
+ghost use Rattle.rlsf_model.specs.Growth.{longer};
 
 use rlsf_base::memory::Range;
 use std::marker::{Model, Send, Sync};

@@ -2,8 +2,8 @@
 
 ghost use Rattle.std.specs.Prelude.{◌≡◌, ◌≤◌, ◌<◌, ◌%◌, ◌++◌, ◌∷◌, List, true, MatchOption};
 ghost use Rattle.rlsf_base.specs.declared.memory.range.Range.{Range};
-ghost use Rattle.rlsf_machine.specs.Note.{Note, alloc, dealloc, grow};
-ghost use Rattle.rlsf_machine.specs.Terms.{IsGiven, OwesGrown, Terms};
+ghost use Rattle.rlsf_model.specs.Note.{Note, alloc, dealloc, grow};
+ghost use Rattle.rlsf_model.specs.Terms.{IsGiven, OwesGrown, Terms};
 
 use rlsf_base::memory::Range;
 

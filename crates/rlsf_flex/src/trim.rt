@@ -8,12 +8,12 @@ ghost use Rattle.rlsf_blocks.specs.Blocks.{walked};
 ghost use Rattle.rlsf_flex.specs.StandsFor.{FlexStandsFor};
 ghost use Rattle.rlsf_flex.specs.Steps.Parts.{flex_over};
 ghost use Rattle.rlsf_flex.specs.Steps.Trim.{GaveBack, GaveNewest, HasRoomForChunk};
-ghost use Rattle.rlsf_machine.specs.Callers.{align_at, bytes_at};
-ghost use Rattle.rlsf_machine.specs.ChunkRows.{IsRow};
-ghost use Rattle.rlsf_machine.specs.FlexWellFormed.{IsPool};
-ghost use Rattle.rlsf_machine.specs.Remove.{IsIdle};
-ghost use Rattle.rlsf_machine.specs.Sized.{live_count};
-ghost use Rattle.rlsf_machine.specs.Trim.{IsNewestHeld};
+ghost use Rattle.rlsf_model.specs.Callers.{align_at, bytes_at};
+ghost use Rattle.rlsf_model.specs.ChunkRows.{IsRow};
+ghost use Rattle.rlsf_model.specs.FlexWellFormed.{IsPool};
+ghost use Rattle.rlsf_model.specs.Remove.{IsIdle};
+ghost use Rattle.rlsf_model.specs.Sized.{live_count};
+ghost use Rattle.rlsf_model.specs.Trim.{IsNewestHeld};
 ghost use Rattle.rlsf_tlsf.specs.Allocator.{Stands};
 
 use crate::end::range_before;

@@ -2,11 +2,11 @@
 use Rattle.std.proofs.Common.{◌≡◌, ℕ, nat_eq, Bool, true, false, true≢false, MatchBool, length, take, drop, List, Some, Ok, Err, ap, refl, subst, sym}
 use Rattle.std.proofs.lemmas.Bool.{and_parts, eqb-true}
 use Rattle.rlsf_base.specs.declared.memory.layout.Layout.{Layout}
-use Rattle.rlsf_machine.specs.Callers.{bytes_at}
-use Rattle.rlsf_placement.specs.declared.error.GlobalError.TheVariants.{OutOfRange, WrongLayout}
-use Rattle.rlsf_placement.specs.Heap.{Heap}
-use Rattle.rlsf_placement.specs.Rows.{Row}
-use Rattle.rlsf_placement.specs.Steps.{DeallocatesAsAt, Done, HeapReads, HeapUsable, HeapWrites, ReadsAt, Releases, UsableAt, WritesAt, WritesIn, fits, is_same}
+use Rattle.rlsf_model.specs.Callers.{bytes_at}
+use Rattle.rlsf_model_global.specs.declared.error.GlobalError.TheVariants.{OutOfRange, WrongLayout}
+use Rattle.rlsf_model_global.specs.Heap.{Heap}
+use Rattle.rlsf_model_global.specs.Rows.{Row}
+use Rattle.rlsf_model_global.specs.Steps.{DeallocatesAsAt, Done, HeapReads, HeapUsable, HeapWrites, ReadsAt, Releases, UsableAt, WritesAt, WritesIn, fits, is_same}
 use Rattle.rlsf_global.proofs.Placements.{some_row}
 use Rattle.rlsf_global.specs.Steps.Table.{IsFound}
 

@@ -1,7 +1,7 @@
 -- The value under the lock has a heap, so the heap's laws are laws of it.
 use Rattle.rlsf_base.specs.Space.{range_of}
 use Rattle.rlsf_global.specs.Locked.{LockedContents, LockedStands}
-use Rattle.rlsf_placement.specs.Standing.{IsHeap}
+use Rattle.rlsf_model_global.specs.Standing.{IsHeap}
 
 pub locked_heap : (v : LockedContents) → LockedStands v → IsHeap (range_of v.memory) v.heap
 unfolding LockedStands

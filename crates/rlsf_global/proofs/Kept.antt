@@ -10,15 +10,15 @@ use Rattle.rlsf_global.proofs.Layouts.{content_at-is}
 use Rattle.rlsf_global.proofs.Placements.{locked_stands}
 use Rattle.rlsf_global.specs.Kept.{KeepsFirst}
 use Rattle.rlsf_global.specs.Locked.{IsLocked, LockedContents}
-use Rattle.rlsf_machine.specs.Callers.{bytes_at}
-use Rattle.rlsf_placement.proofs.Histories.{steps_keep_heap}
-use Rattle.rlsf_placement.proofs.Left.{payloads_serve}
-use Rattle.rlsf_placement.proofs.Moved.{reallocation_as_leaves, reallocation_leaves, reallocation_there_leaves}
-use Rattle.rlsf_placement.specs.Heap.{Heap, content_at}
-use Rattle.rlsf_placement.specs.History.{reallocate_as}
-use Rattle.rlsf_placement.specs.Left.{IsMovedTo, in_both}
-use Rattle.rlsf_placement.specs.Moves.{HeapReallocates, HeapReallocatesAs, HeapReallocatesThere}
-use Rattle.rlsf_placement.specs.Standing.{IsHeap}
+use Rattle.rlsf_model.specs.Callers.{bytes_at}
+use Rattle.rlsf_model_global.proofs.Histories.{steps_keep_heap}
+use Rattle.rlsf_model_global.proofs.Left.{payloads_serve}
+use Rattle.rlsf_model_global.proofs.Moved.{reallocation_as_leaves, reallocation_leaves, reallocation_there_leaves}
+use Rattle.rlsf_model_global.specs.Heap.{Heap, content_at}
+use Rattle.rlsf_model_global.specs.History.{reallocate_as}
+use Rattle.rlsf_model_global.specs.Left.{IsMovedTo, in_both}
+use Rattle.rlsf_model_global.specs.Moves.{HeapReallocates, HeapReallocatesAs, HeapReallocatesThere}
+use Rattle.rlsf_model_global.specs.Standing.{IsHeap}
 
 -- who keeps more bytes keeps fewer
 fewer : (n m : ℕ) (before after : Heap) (addr to : ℕ) → n ≤ m → KeepsFirst m before addr after to → KeepsFirst n before addr after to

@@ -1,10 +1,10 @@
 -- What users see of a step: the layouts and the bytes at addresses.
 use Rattle.std.proofs.Common.{◌≡◌, ◌≢◌, ℕ, List, Some, None, ◌∙◌, ap, sym}
 use Rattle.std.specs.Option.{option_map}
-use Rattle.rlsf_machine.specs.Callers.{bytes_at}
-use Rattle.rlsf_placement.proofs.Maps.{row_at-put_here, row_at-put_other, row_at-without_here, row_at-without_other}
-use Rattle.rlsf_placement.specs.Heap.{Heap, content_at, layout_at, row_layout}
-use Rattle.rlsf_placement.specs.Rows.{Row, key, put, row_at, without_row}
+use Rattle.rlsf_model.specs.Callers.{bytes_at}
+use Rattle.rlsf_model_global.proofs.Maps.{row_at-put_here, row_at-put_other, row_at-without_here, row_at-without_other}
+use Rattle.rlsf_model_global.specs.Heap.{Heap, content_at, layout_at, row_layout}
+use Rattle.rlsf_model_global.specs.Rows.{Row, key, put, row_at, without_row}
 
 -- the layout of an address is that of its entry
 pub layout_at-row : (h g : Heap) (a b : ℕ) → row_at a g.asked ≡ row_at b h.asked → layout_at g a ≡ layout_at h b

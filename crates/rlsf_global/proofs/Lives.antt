@@ -6,11 +6,11 @@ use Rattle.rlsf_global.proofs.Layouts.{layout_at-none, layout_at-some}
 use Rattle.rlsf_global.proofs.Placements.{some_row}
 use Rattle.rlsf_global.specs.Locked.{heap_of}
 use Rattle.rlsf_global.specs.Steps.Table.{IsFound, IsPlaceFor}
-use Rattle.rlsf_placement.specs.Cursor.{PageCursor}
-use Rattle.rlsf_placement.specs.Heap.{layout_at}
-use Rattle.rlsf_placement.specs.Rows.{Row}
-use Rattle.rlsf_placement.specs.declared.error.GlobalError.{GlobalError}
-use Rattle.rlsf_placement.specs.declared.error.GlobalError.TheVariants.{UnknownAddress}
+use Rattle.rlsf_model_global.specs.Cursor.{PageCursor}
+use Rattle.rlsf_model_global.specs.Heap.{layout_at}
+use Rattle.rlsf_model_global.specs.Rows.{Row}
+use Rattle.rlsf_model_global.specs.declared.error.GlobalError.{GlobalError}
+use Rattle.rlsf_model_global.specs.declared.error.GlobalError.TheVariants.{UnknownAddress}
 
 -- the answer is that the address is unknown
 abbrev pub is_unknown : {A : Type 0} → Result A GlobalError → Bool

@@ -9,30 +9,30 @@ use Rattle.rlsf_base.specs.declared.memory.layout.Layout.{Layout}
 use Rattle.rlsf_flex.specs.StandsFor.{FlexContents, FlexStandsFor, FlexSteps, StepsAlone}
 use Rattle.rlsf_flex.proofs.Standing.{alone_opened, flex_opened}
 use Rattle.rlsf_global.specs.Locked.{IsLocked, heap_of, locked_contents}
-use Rattle.rlsf_placement.specs.Pages.{MayOwe}
+use Rattle.rlsf_model_global.specs.Pages.{MayOwe}
 use Rattle.rlsf_global.specs.Steps.Moves.{IsGivenLayout, StaysRefused}
 use Rattle.rlsf_global.proofs.Checks.{when_false, when_true}
-use Rattle.rlsf_placement.proofs.Maps.{IsServed, Lists-moved, row_at-without_other}
+use Rattle.rlsf_model_global.proofs.Maps.{IsServed, Lists-moved, row_at-without_other}
 use Rattle.rlsf_global.proofs.Placements.{no_row}
-use Rattle.rlsf_placement.proofs.PageAnswers.{refused_notes}
+use Rattle.rlsf_model_global.proofs.PageAnswers.{refused_notes}
 use Rattle.rlsf_global.proofs.Resizes.{IsPlaced, none_left}
-use Rattle.rlsf_placement.proofs.Rows.{absent-row_at, put-sorted, without_row-sorted}
-use Rattle.rlsf_machine.specs.Callers.{IsResized, align_at, bytes_at, payload_at}
-use Rattle.rlsf_machine.specs.FlexAllocate.{FlexAllocates}
-use Rattle.rlsf_machine.specs.FlexReallocate.{FlexReallocates}
-use Rattle.rlsf_machine.specs.FlexState.{FlexState, with_machine}
-use Rattle.rlsf_machine.specs.Note.{LeadsBy}
-use Rattle.rlsf_machine.specs.Release.{Deallocates}
-use Rattle.rlsf_machine.specs.Run.{Fills, IsSomeLive, reallocate}
-use Rattle.rlsf_machine.specs.State.{with_front}
-use Rattle.rlsf_machine.proofs.CallerWords.{SeesFilled, align_at-none, filled_seen}
-use Rattle.rlsf_machine.proofs.FlexCallers.{flex_callers_see_map}
-use Rattle.rlsf_placement.specs.declared.error.GlobalError.TheVariants.{NoRoom, WrongLayout}
-use Rattle.rlsf_placement.specs.Cursor.{PageCursor, PageLeads, terms_of}
-use Rattle.rlsf_placement.specs.Heap.{Heap, Lists}
-use Rattle.rlsf_placement.specs.Moves.{MovesAway, ReallocatesAsAt, ReallocatesTo, ResizesTo, Wanted}
-use Rattle.rlsf_placement.specs.Rows.{Row, put, row_at, without_row}
-use Rattle.rlsf_placement.specs.Steps.{Placed, is_same}
+use Rattle.rlsf_model_global.proofs.Rows.{absent-row_at, put-sorted, without_row-sorted}
+use Rattle.rlsf_model.specs.Callers.{IsResized, align_at, bytes_at, payload_at}
+use Rattle.rlsf_model.specs.FlexAllocate.{FlexAllocates}
+use Rattle.rlsf_model.specs.FlexReallocate.{FlexReallocates}
+use Rattle.rlsf_model.specs.FlexState.{FlexState, with_machine}
+use Rattle.rlsf_model.specs.Note.{LeadsBy}
+use Rattle.rlsf_model.specs.Release.{Deallocates}
+use Rattle.rlsf_model.specs.Run.{Fills, IsSomeLive, reallocate}
+use Rattle.rlsf_model.specs.State.{with_front}
+use Rattle.rlsf_model.proofs.CallerWords.{SeesFilled, align_at-none, filled_seen}
+use Rattle.rlsf_model.proofs.FlexCallers.{flex_callers_see_map}
+use Rattle.rlsf_model_global.specs.declared.error.GlobalError.TheVariants.{NoRoom, WrongLayout}
+use Rattle.rlsf_model_global.specs.Cursor.{PageCursor, PageLeads, terms_of}
+use Rattle.rlsf_model_global.specs.Heap.{Heap, Lists}
+use Rattle.rlsf_model_global.specs.Moves.{MovesAway, ReallocatesAsAt, ReallocatesTo, ResizesTo, Wanted}
+use Rattle.rlsf_model_global.specs.Rows.{Row, put, row_at, without_row}
+use Rattle.rlsf_model_global.specs.Steps.{Placed, is_same}
 
 -- ---- the entry decides
 

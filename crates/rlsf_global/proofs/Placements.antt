@@ -7,22 +7,22 @@ use Rattle.rlsf_base.specs.declared.memory.layout.Layout.{Layout}
 use Rattle.rlsf_flex.specs.StandsFor.{FlexContents, FlexSteps, StepsAlone}
 use Rattle.rlsf_flex.proofs.Standing.{alone_opened, flex_opened}
 use Rattle.rlsf_global.specs.Locked.{IsLocked, LockedContents, LockedStands, heap_of, locked_contents}
-use Rattle.rlsf_placement.specs.Pages.{MayOwe}
+use Rattle.rlsf_model_global.specs.Pages.{MayOwe}
 use Rattle.rlsf_global.specs.Steps.Table.{IsFound}
-use Rattle.rlsf_placement.proofs.PageAnswers.{refused_notes}
-use Rattle.rlsf_placement.proofs.Maps.{IsServed, Lists-filled, Lists-put, Lists-without_row, agrees-none}
-use Rattle.rlsf_placement.proofs.Rows.{absent-row_at, put-sorted, without_row-sorted}
-use Rattle.rlsf_machine.specs.Callers.{align_at, bytes_at}
-use Rattle.rlsf_machine.specs.FlexAllocate.{FlexAllocates}
-use Rattle.rlsf_machine.specs.FlexState.{FlexState, with_machine}
-use Rattle.rlsf_machine.specs.Note.{LeadsBy}
-use Rattle.rlsf_machine.specs.Release.{Deallocates}
-use Rattle.rlsf_machine.specs.Run.{Fills}
-use Rattle.rlsf_placement.specs.declared.error.GlobalError.TheVariants.{NoRoom}
-use Rattle.rlsf_placement.specs.Cursor.{PageCursor, PageLeads, terms_of}
-use Rattle.rlsf_placement.specs.Heap.{Agrees, Lists, with_state}
-use Rattle.rlsf_placement.specs.Rows.{Row, put, row_at, without_row}
-use Rattle.rlsf_placement.specs.Steps.{HeapAllocates, Releases}
+use Rattle.rlsf_model_global.proofs.PageAnswers.{refused_notes}
+use Rattle.rlsf_model_global.proofs.Maps.{IsServed, Lists-filled, Lists-put, Lists-without_row, agrees-none}
+use Rattle.rlsf_model_global.proofs.Rows.{absent-row_at, put-sorted, without_row-sorted}
+use Rattle.rlsf_model.specs.Callers.{align_at, bytes_at}
+use Rattle.rlsf_model.specs.FlexAllocate.{FlexAllocates}
+use Rattle.rlsf_model.specs.FlexState.{FlexState, with_machine}
+use Rattle.rlsf_model.specs.Note.{LeadsBy}
+use Rattle.rlsf_model.specs.Release.{Deallocates}
+use Rattle.rlsf_model.specs.Run.{Fills}
+use Rattle.rlsf_model_global.specs.declared.error.GlobalError.TheVariants.{NoRoom}
+use Rattle.rlsf_model_global.specs.Cursor.{PageCursor, PageLeads, terms_of}
+use Rattle.rlsf_model_global.specs.Heap.{Agrees, Lists, with_state}
+use Rattle.rlsf_model_global.specs.Rows.{Row, put, row_at, without_row}
+use Rattle.rlsf_model_global.specs.Steps.{HeapAllocates, Releases}
 
 -- an entry that was found
 pub some_row : (rows : List Row) (addr i : ℕ) → IsFound rows addr i → (r : Row) × (row_at addr rows ≡ Some r)

@@ -2,12 +2,12 @@
 use Rattle.std.proofs.Common.{◌≡◌, ℕ, inl, inr, Bool, true, false, List, [], ◌∷◌, Option, Some, None, Result, Ok, Err, MatchBool, length, OnErr, refl, subst, sym}
 use Rattle.rlsf_base.specs.declared.memory.layout.Layout.{Layout}
 use Rattle.rlsf_global.specs.Refusals.{RefusesOnlyBy}
-use Rattle.rlsf_placement.specs.declared.error.GlobalError.{GlobalError}
-use Rattle.rlsf_placement.specs.declared.error.GlobalError.TheVariants.{JournalMemory, NoRoom, OutOfRange, TableMemory, UnknownAddress, WrongLayout}
-use Rattle.rlsf_placement.specs.Heap.{Heap}
-use Rattle.rlsf_placement.specs.Moves.{MovesAway, ReallocatesAsAt, ReallocatesAt, ReallocatesThereAt, ReallocatesTo, ResizesThere, ResizesTo}
-use Rattle.rlsf_placement.specs.Rows.{Row}
-use Rattle.rlsf_placement.specs.Steps.{DeallocatesAsAt, DeallocatesAt, Done, HeapAllocates, Placed, ReadsAt, UsableAt, WritesAt, is_same, fits}
+use Rattle.rlsf_model_global.specs.declared.error.GlobalError.{GlobalError}
+use Rattle.rlsf_model_global.specs.declared.error.GlobalError.TheVariants.{JournalMemory, NoRoom, OutOfRange, TableMemory, UnknownAddress, WrongLayout}
+use Rattle.rlsf_model_global.specs.Heap.{Heap}
+use Rattle.rlsf_model_global.specs.Moves.{MovesAway, ReallocatesAsAt, ReallocatesAt, ReallocatesThereAt, ReallocatesTo, ResizesThere, ResizesTo}
+use Rattle.rlsf_model_global.specs.Rows.{Row}
+use Rattle.rlsf_model_global.specs.Steps.{DeallocatesAsAt, DeallocatesAt, Done, HeapAllocates, Placed, ReadsAt, UsableAt, WritesAt, is_same, fits}
 
 -- a known answer is refused by what it is
 same : {A : Type 0} (errors : List GlobalError) (r s : Result A GlobalError) → r ≡ s → RefusesOnlyBy errors s → RefusesOnlyBy errors r

@@ -6,19 +6,19 @@ use Rattle.rlsf_base.specs.declared.memory.layout.Layout.{Layout}
 use Rattle.rlsf_flex.specs.StandsFor.{FlexContents, StepsAlone}
 use Rattle.rlsf_flex.proofs.Standing.{alone_opened}
 use Rattle.rlsf_global.specs.Locked.{IsLocked, heap_of, locked_contents}
-use Rattle.rlsf_placement.specs.Pages.{MayOwe}
+use Rattle.rlsf_model_global.specs.Pages.{MayOwe}
 use Rattle.rlsf_global.proofs.Checks.{when_false, when_true}
-use Rattle.rlsf_placement.proofs.Maps.{IsServed, Lists-moved, row_at-without_here}
-use Rattle.rlsf_placement.proofs.Rows.{absent-row_at, put-sorted, without_row-sorted}
-use Rattle.rlsf_machine.specs.Callers.{align_at, bytes_at}
-use Rattle.rlsf_machine.specs.FlexState.{FlexState, with_machine}
-use Rattle.rlsf_machine.specs.NoMove.{ReallocatesWithoutMove}
-use Rattle.rlsf_placement.specs.declared.error.GlobalError.TheVariants.{NoRoom, WrongLayout}
-use Rattle.rlsf_placement.specs.Cursor.{PageCursor, terms_of}
-use Rattle.rlsf_placement.specs.Heap.{Heap, Lists}
-use Rattle.rlsf_placement.specs.Moves.{ReallocatesThereAt, ResizesThere, Wanted}
-use Rattle.rlsf_placement.specs.Rows.{Row, put, row_at, without_row}
-use Rattle.rlsf_placement.specs.Steps.{Placed, is_same}
+use Rattle.rlsf_model_global.proofs.Maps.{IsServed, Lists-moved, row_at-without_here}
+use Rattle.rlsf_model_global.proofs.Rows.{absent-row_at, put-sorted, without_row-sorted}
+use Rattle.rlsf_model.specs.Callers.{align_at, bytes_at}
+use Rattle.rlsf_model.specs.FlexState.{FlexState, with_machine}
+use Rattle.rlsf_model.specs.NoMove.{ReallocatesWithoutMove}
+use Rattle.rlsf_model_global.specs.declared.error.GlobalError.TheVariants.{NoRoom, WrongLayout}
+use Rattle.rlsf_model_global.specs.Cursor.{PageCursor, terms_of}
+use Rattle.rlsf_model_global.specs.Heap.{Heap, Lists}
+use Rattle.rlsf_model_global.specs.Moves.{ReallocatesThereAt, ResizesThere, Wanted}
+use Rattle.rlsf_model_global.specs.Rows.{Row, put, row_at, without_row}
+use Rattle.rlsf_model_global.specs.Steps.{Placed, is_same}
 
 -- two answers are equal
 abbrev pub IsPlaced : Placed → Placed → Type 0

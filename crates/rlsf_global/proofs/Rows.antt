@@ -8,9 +8,9 @@ use Rattle.std.proofs.lemmas.Bool.{lt-ltb}
 use Rattle.std.proofs.lemmas.Bool.Decides.{nat_tests, eqb_tells}
 use Rattle.std.proofs.lemmas.Cmp.{ranked}
 use Rattle.rlsf_global.proofs.Results.{clash}
-use Rattle.rlsf_machine.specs.Lists.{IsIn}
+use Rattle.rlsf_model.specs.Lists.{IsIn}
 use Rattle.rlsf_global.specs.Steps.Table.{IsRowOf, IsGapFor, IsFound, IsPlaceFor}
-use Rattle.rlsf_placement.specs.Rows.{Row, key, IsSorted, row_at, put, without_row}
+use Rattle.rlsf_model_global.specs.Rows.{Row, key, IsSorted, row_at, put, without_row}
 
 -- an element by its place is in the list
 pub IsIn-at : (rows : List Row) (i : ℕ) (d : Row) → i < length rows → IsIn (get_or rows i d) rows

@@ -2,10 +2,10 @@
 use Rattle.std.specs.Prelude.{List}
 use Rattle.rlsf_base.specs.Space.{Space}
 use Rattle.rlsf_flex.specs.StandsFor.{FlexContents, FlexStandsFor}
-use Rattle.rlsf_placement.specs.Pages.{MayOwe}
-use Rattle.rlsf_placement.specs.Cursor.{PageCursor, terms_of}
-use Rattle.rlsf_placement.specs.Heap.{Heap, Lists}
-use Rattle.rlsf_placement.specs.Rows.{IsSorted, Row}
+use Rattle.rlsf_model_global.specs.Pages.{MayOwe}
+use Rattle.rlsf_model_global.specs.Cursor.{PageCursor, terms_of}
+use Rattle.rlsf_model_global.specs.Heap.{Heap, Lists}
+use Rattle.rlsf_model_global.specs.Rows.{IsSorted, Row}
 use Rattle.rlsf_table.specs.Table.{Table}
 
 -- Its memory, its class table, and its heap. The heap is the model's state with the ranges that the source provided, the source's

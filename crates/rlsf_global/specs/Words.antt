@@ -1,12 +1,12 @@
 -- The definitions that contracts over the allocator behind the lock cite, from this crate and those below it.
 pub use Rattle.rlsf_base.specs.Addr.{at, reply}
 pub use Rattle.rlsf_base.specs.Range.{end_of, range_at}
-pub use Rattle.rlsf_placement.specs.Heap.{HasLayout, HaveSamePlacement, Heap, beginning, content_at, layout_at}
-pub use Rattle.rlsf_placement.specs.History.{IsHistory, LeadsTo, Names, Step}
-pub use Rattle.rlsf_placement.specs.Left.{HasByte, Serves, in_both}
-pub use Rattle.rlsf_placement.specs.Moves.{HeapReallocates, HeapReallocatesAs, HeapReallocatesThere}
-pub use Rattle.rlsf_placement.specs.Standing.{IsHeap}
-pub use Rattle.rlsf_placement.specs.Steps.{HeapAllocates, HeapDeallocates, HeapDeallocatesAs, HeapReads, HeapUsable, HeapWrites}
+pub use Rattle.rlsf_model_global.specs.Heap.{HasLayout, HaveSamePlacement, Heap, beginning, content_at, layout_at}
+pub use Rattle.rlsf_model_global.specs.History.{IsHistory, LeadsTo, Names, Step}
+pub use Rattle.rlsf_model_global.specs.Left.{HasByte, Serves, in_both}
+pub use Rattle.rlsf_model_global.specs.Moves.{HeapReallocates, HeapReallocatesAs, HeapReallocatesThere}
+pub use Rattle.rlsf_model_global.specs.Standing.{IsHeap}
+pub use Rattle.rlsf_model_global.specs.Steps.{HeapAllocates, HeapDeallocates, HeapDeallocatesAs, HeapReads, HeapUsable, HeapWrites}
 pub use Rattle.rlsf_global.specs.Kept.{KeepsFirst}
 pub use Rattle.rlsf_global.specs.Locked.{LockedContents, LockedStands}
 pub use Rattle.rlsf_global.specs.Refusals.{RefusesOnlyBy}

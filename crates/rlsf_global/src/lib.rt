@@ -2,7 +2,7 @@
 //!
 //! Read `locked.rt` first: `Locked` is the value under the lock, with all calls. `shared.rt` puts it behind the lock. `table.rt`
 //! searches and changes the table, and `moves.rt` moves payloads.
-//! The contracts cite `specs/Locked.antt`, and the heap and its steps in `rlsf_placement`.
+//! The contracts cite `specs/Locked.antt`, and the heap and its steps in `rlsf_model_global`.
 #![tactic(auto)]
 
 mod locked;
@@ -11,6 +11,6 @@ mod shared;
 mod table;
 
 pub use locked::Locked;
-pub use rlsf_placement::{GlobalError, isolation, replays};
-pub use rlsf_sources::{GlobalTlsfOptions, SmallGlobalTlsfOptions, Source};
+pub use rlsf_model_global::{GlobalError, isolation, replays};
+pub use rlsf_flex_sources::{GlobalTlsfOptions, SmallGlobalTlsfOptions, Source};
 pub use shared::{CAlloc, GlobalTlsf, SmallGlobalTlsf};

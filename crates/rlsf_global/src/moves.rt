@@ -4,19 +4,19 @@ ghost use Rattle.std.specs.Prelude.{◌≡◌, ◌≤◌, ◌+◌, ℕ, List, Ok
 ghost use Rattle.rlsf_base.specs.Addr.{at};
 ghost use Rattle.rlsf_flex.specs.StandsFor.{FlexStandsFor};
 ghost use Rattle.rlsf_global.specs.Locked.{heap_of};
-ghost use Rattle.rlsf_placement.specs.Pages.{MayOwe};
+ghost use Rattle.rlsf_model_global.specs.Pages.{MayOwe};
 ghost use Rattle.rlsf_global.specs.Steps.Moves.{IsGivenLayout, ResizesTo, StaysRefused};
-ghost use Rattle.rlsf_machine.specs.Allocate.{HasRoomFor};
-ghost use Rattle.rlsf_machine.specs.Callers.{align_at, bytes_at};
-ghost use Rattle.rlsf_machine.specs.Reallocate.{HasRoomToResize};
-ghost use Rattle.rlsf_placement.specs.declared.error.GlobalError.TheVariants.{NoRoom};
-ghost use Rattle.rlsf_placement.specs.Cursor.{terms_of};
-ghost use Rattle.rlsf_placement.specs.Moves.{MovesAway, ReallocatesTo};
-ghost use Rattle.rlsf_placement.specs.Rows.{Row, put, without_row};
+ghost use Rattle.rlsf_model.specs.Allocate.{HasRoomFor};
+ghost use Rattle.rlsf_model.specs.Callers.{align_at, bytes_at};
+ghost use Rattle.rlsf_model.specs.Reallocate.{HasRoomToResize};
+ghost use Rattle.rlsf_model_global.specs.declared.error.GlobalError.TheVariants.{NoRoom};
+ghost use Rattle.rlsf_model_global.specs.Cursor.{terms_of};
+ghost use Rattle.rlsf_model_global.specs.Moves.{MovesAway, ReallocatesTo};
+ghost use Rattle.rlsf_model_global.specs.Rows.{Row, put, without_row};
 
 use rlsf_base::memory::{Addr, Layout};
 use rlsf_flex::FlexTlsf;
-use rlsf_sources::{GlobalTlsfOptions, Source};
+use rlsf_flex_sources::{GlobalTlsfOptions, Source};
 
 /// The allocator over the page source.
 pub(crate) type PagedTlsf<Options> = FlexTlsf<Source<Options>, usize, usize, 64, 64>;

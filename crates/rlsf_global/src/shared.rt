@@ -3,12 +3,12 @@
 ghost use Rattle.std.specs.Prelude.{◌≡◌, [], ◌∷◌, OnErr};
 ghost use Rattle.rlsf_base.specs.Layout.{IsLayout};
 ghost use Rattle.rlsf_global.specs.Refusals.{RefusesOnlyBy};
-ghost use Rattle.rlsf_placement.specs.declared.error.GlobalError.TheVariants.{NoRoom, OutOfRange, TableMemory, UnknownAddress, WrongLayout};
+ghost use Rattle.rlsf_model_global.specs.declared.error.GlobalError.TheVariants.{NoRoom, OutOfRange, TableMemory, UnknownAddress, WrongLayout};
 
 use crate::locked::Locked;
 use rlsf_base::memory::{Addr, Layout, Memory};
-use rlsf_placement::GlobalError;
-use rlsf_sources::{GlobalTlsfOptions, SmallGlobalTlsfOptions};
+use rlsf_model_global::GlobalError;
+use rlsf_flex_sources::{GlobalTlsfOptions, SmallGlobalTlsfOptions};
 use std::alloc::Global;
 use std::sync::{Mutex, Wait};
 

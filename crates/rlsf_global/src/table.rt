@@ -4,7 +4,7 @@ ghost use Rattle.std.specs.Prelude.{◌≡◌, ◌<◌, IfOk, IfErr, None};
 ghost use Rattle.std.specs.Vec.{vec_len, vec_capacity};
 ghost use Rattle.rlsf_base.specs.Addr.{at};
 ghost use Rattle.rlsf_global.specs.Steps.Table.{IsFound, IsPlaceFor};
-ghost use Rattle.rlsf_placement.specs.Rows.{key, put, row_at, without_row, IsSorted};
+ghost use Rattle.rlsf_model_global.specs.Rows.{key, put, row_at, without_row, IsSorted};
 
 use rlsf_base::memory::{Addr, Layout};
 

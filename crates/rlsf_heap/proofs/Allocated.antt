@@ -7,15 +7,15 @@ use Rattle.rlsf_base.specs.PowerOfTwo.{IsPowerOfTwo}
 use Rattle.rlsf_base.specs.Range.{LiesIn}
 use Rattle.rlsf_base.specs.Space.{Space}
 use Rattle.rlsf_base.proofs.Lending.Present.{own-there, own-inside, own-same}
-use Rattle.rlsf_machine.specs.Allocate.{Places, placed}
-use Rattle.rlsf_machine.specs.Lists.{IsIn}
-use Rattle.rlsf_machine.specs.Sized.{live_count}
-use Rattle.rlsf_machine.specs.State.{State, Used, usable}
-use Rattle.rlsf_machine.proofs.Allocations.{placed-fits}
-use Rattle.rlsf_machine.proofs.Payloads.{IsUsed-after_start}
-use Rattle.rlsf_machine.proofs.CallerWords.{bytes_at-held}
-use Rattle.rlsf_machine.proofs.SizedWords.{count_new}
-use Rattle.rlsf_machine.specs.Callers.{bytes_at}
+use Rattle.rlsf_model.specs.Allocate.{Places, placed}
+use Rattle.rlsf_model.specs.Lists.{IsIn}
+use Rattle.rlsf_model.specs.Sized.{live_count}
+use Rattle.rlsf_model.specs.State.{State, Used, usable}
+use Rattle.rlsf_model.proofs.Allocations.{placed-fits}
+use Rattle.rlsf_model.proofs.Payloads.{IsUsed-after_start}
+use Rattle.rlsf_model.proofs.CallerWords.{bytes_at-held}
+use Rattle.rlsf_model.proofs.SizedWords.{count_new}
+use Rattle.rlsf_model.specs.Callers.{bytes_at}
 use Rattle.rlsf_table.specs.Table.{Table}
 use Rattle.rlsf_blocks.specs.StandsFor.{contents, StandsFor}
 use Rattle.rlsf_blocks.proofs.Allocate.Placements.{IsFitting, fitting, is_free}

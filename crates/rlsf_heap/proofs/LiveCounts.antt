@@ -2,14 +2,14 @@
 use Rattle.std.proofs.Common.{◌≡◌, ℕ, zero, suc, ◌+◌, ◌-◌, ◌^◌, ◌<◌, ◌≤◌, List, [], ◌∷◌, length, arith, refl, ap, inl, inr}
 use Rattle.rlsf_base.specs.declared.memory.range.Range.{Range}
 use Rattle.rlsf_base.specs.Range.{end_of}
-use Rattle.rlsf_machine.specs.Lists.{IsIn}
-use Rattle.rlsf_machine.specs.Sized.{live_count}
-use Rattle.rlsf_machine.specs.State.{State, Used}
-use Rattle.rlsf_machine.specs.WellFormed.{covers, coverage, IsWellFormed}
-use Rattle.rlsf_machine.proofs.Coverage.{inside, before, behind, where_is, covers-inside}
-use Rattle.rlsf_machine.proofs.Payloads.{IsUsed-some}
-use Rattle.rlsf_machine.proofs.Sums.{total, coverage-le, first, used_below}
-use Rattle.rlsf_machine.proofs.Tiling.{block_of, tiling_of, blocks-le}
+use Rattle.rlsf_model.specs.Lists.{IsIn}
+use Rattle.rlsf_model.specs.Sized.{live_count}
+use Rattle.rlsf_model.specs.State.{State, Used}
+use Rattle.rlsf_model.specs.WellFormed.{covers, coverage, IsWellFormed}
+use Rattle.rlsf_model.proofs.Coverage.{inside, before, behind, where_is, covers-inside}
+use Rattle.rlsf_model.proofs.Payloads.{IsUsed-some}
+use Rattle.rlsf_model.proofs.Sums.{total, coverage-le, first, used_below}
+use Rattle.rlsf_model.proofs.Tiling.{block_of, tiling_of, blocks-le}
 
 -- ---- sums over the addresses below n
 

@@ -4,12 +4,12 @@ use Rattle.std.proofs.lemmas.Bool.{cases_lt}
 use Rattle.rlsf_base.specs.declared.memory.range.Range.{Range}
 use Rattle.rlsf_base.specs.Ledger.{Entry, Extent, entry_of, extent, IsIssued}
 use Rattle.rlsf_base.specs.Range.{AreApart, end_of, range_at}
-use Rattle.rlsf_machine.specs.Callers.{align_at, bytes_at}
-use Rattle.rlsf_machine.specs.State.{State, Used}
-use Rattle.rlsf_machine.specs.WellFormed.{IsWellFormed}
-use Rattle.rlsf_machine.proofs.CallerWords.{align_at-held, bytes_at-held}
-use Rattle.rlsf_machine.proofs.Live.{live_addresses_are_aligned}
-use Rattle.rlsf_machine.proofs.Payloads.{IsUsed-after_start, IsUsed-some}
+use Rattle.rlsf_model.specs.Callers.{align_at, bytes_at}
+use Rattle.rlsf_model.specs.State.{State, Used}
+use Rattle.rlsf_model.specs.WellFormed.{IsWellFormed}
+use Rattle.rlsf_model.proofs.CallerWords.{align_at-held, bytes_at-held}
+use Rattle.rlsf_model.proofs.Live.{live_addresses_are_aligned}
+use Rattle.rlsf_model.proofs.Payloads.{IsUsed-after_start, IsUsed-some}
 use Rattle.rlsf_blocks.proofs.Words.Apart.{home_of_used, used_used}
 use Rattle.rlsf_heap.specs.Heap.{IsPayload, LiesInChunk, PayloadView}
 use Rattle.rlsf_heap.specs.Renewed.{IsRedeemed}

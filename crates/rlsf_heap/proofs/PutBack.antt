@@ -9,10 +9,10 @@ use Rattle.rlsf_base.specs.Range.{LiesIn, range_at}
 use Rattle.rlsf_base.specs.Space.{Space, bytes_in, with_bytes}
 use Rattle.rlsf_base.proofs.Changes.{back-before, back-behind, back-there}
 use Rattle.rlsf_base.proofs.Lending.Replaced.{bytes_in-there, bytes_in-with, length-with}
-use Rattle.rlsf_machine.specs.Run.{Fills}
-use Rattle.rlsf_machine.specs.State.{State, Used, Holds, filled, filled_at, others, usable, with_bytes as with_these}
-use Rattle.rlsf_machine.proofs.Coverage.{IsIn-map, by_test}
-use Rattle.rlsf_machine.proofs.Payloads.{IsUsed-after_start}
+use Rattle.rlsf_model.specs.Run.{Fills}
+use Rattle.rlsf_model.specs.State.{State, Used, Holds, filled, filled_at, others, usable, with_bytes as with_these}
+use Rattle.rlsf_model.proofs.Coverage.{IsIn-map, by_test}
+use Rattle.rlsf_model.proofs.Payloads.{IsUsed-after_start}
 use Rattle.rlsf_table.specs.Table.{Table}
 use Rattle.rlsf_blocks.specs.Laws.{read_from, with_bytes_of}
 use Rattle.rlsf_blocks.specs.StandsFor.{contents, StandsFor}

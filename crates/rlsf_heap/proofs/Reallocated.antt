@@ -3,16 +3,16 @@ use Rattle.std.proofs.Common.{arith, get_or-take, inl, inr, min, slice_index, �
 use Rattle.std.proofs.Common.{◌∙◌, ap, subst}
 use Rattle.std.proofs.lemmas.Bool.{cases_eq}
 use Rattle.rlsf_base.specs.declared.memory.range.Range.{Range}
-use Rattle.rlsf_machine.specs.Callers.{align_at, bytes_at}
-use Rattle.rlsf_machine.specs.Reallocate.{Keeps, Reallocates}
-use Rattle.rlsf_machine.specs.Run.{Fills, IsSomeLive}
-use Rattle.rlsf_machine.specs.Sized.{IsSizedFor, live_count}
-use Rattle.rlsf_machine.specs.State.{State, filled}
-use Rattle.rlsf_machine.specs.WellFormed.{IsWellFormed}
-use Rattle.rlsf_machine.proofs.CallerWords.{SeesFilled, align_at-live, filled_seen, resized_seen}
-use Rattle.rlsf_machine.proofs.Chunks.{chunks-reallocated}
-use Rattle.rlsf_machine.proofs.SizedWords.{count_filled, count_resized, never_refused_again, sized_filled, sized_resized}
-use Rattle.rlsf_machine.proofs.Steps.{Fills-keeps}
+use Rattle.rlsf_model.specs.Callers.{align_at, bytes_at}
+use Rattle.rlsf_model.specs.Reallocate.{Keeps, Reallocates}
+use Rattle.rlsf_model.specs.Run.{Fills, IsSomeLive}
+use Rattle.rlsf_model.specs.Sized.{IsSizedFor, live_count}
+use Rattle.rlsf_model.specs.State.{State, filled}
+use Rattle.rlsf_model.specs.WellFormed.{IsWellFormed}
+use Rattle.rlsf_model.proofs.CallerWords.{SeesFilled, align_at-live, filled_seen, resized_seen}
+use Rattle.rlsf_model.proofs.Chunks.{chunks-reallocated}
+use Rattle.rlsf_model.proofs.SizedWords.{count_filled, count_resized, never_refused_again, sized_filled, sized_resized}
+use Rattle.rlsf_model.proofs.Steps.{Fills-keeps}
 
 -- a payload has another size, at a new address or at its own, and all others are unchanged
 pub record SeesReallocated (s t : State) (addr : ℕ) (old : List ℕ) (size align to : ℕ) : Type 0 where

@@ -6,17 +6,17 @@ use Rattle.rlsf_base.specs.Piece.{Piece, piece_range}
 use Rattle.rlsf_base.specs.Range.{range_at}
 use Rattle.rlsf_base.specs.Space.{Space, bytes_in, with_bytes}
 use Rattle.rlsf_base.proofs.Lending.Present.{here-same}
-use Rattle.rlsf_machine.specs.NoMove.{ReallocatesUnmovedBy, ReallocatesWithoutMove, unmoved_plan}
-use Rattle.rlsf_machine.specs.Reallocate.{Plan, Reallocates, ReallocatesBy, Replans, plan}
-use Rattle.rlsf_machine.specs.Join.{join}
-use Rattle.rlsf_machine.specs.Release.{released}
-use Rattle.rlsf_machine.specs.Run.{Fills, reallocate}
-use Rattle.rlsf_machine.specs.State.{State, Used, Holds, IsLive, filled, others, usable}
-use Rattle.rlsf_machine.proofs.Changes.{Holds-unique, IsIn-others_from}
-use Rattle.rlsf_machine.proofs.Determined.{refusal_changes_nothing}
-use Rattle.rlsf_machine.proofs.NoMove.{unmoved_is_reallocated}
-use Rattle.rlsf_machine.proofs.SizedWords.{count_filled, count_resized}
-use Rattle.rlsf_machine.specs.Sized.{live_count}
+use Rattle.rlsf_model.specs.NoMove.{ReallocatesUnmovedBy, ReallocatesWithoutMove, unmoved_plan}
+use Rattle.rlsf_model.specs.Reallocate.{Plan, Reallocates, ReallocatesBy, Replans, plan}
+use Rattle.rlsf_model.specs.Join.{join}
+use Rattle.rlsf_model.specs.Release.{released}
+use Rattle.rlsf_model.specs.Run.{Fills, reallocate}
+use Rattle.rlsf_model.specs.State.{State, Used, Holds, IsLive, filled, others, usable}
+use Rattle.rlsf_model.proofs.Changes.{Holds-unique, IsIn-others_from}
+use Rattle.rlsf_model.proofs.Determined.{refusal_changes_nothing}
+use Rattle.rlsf_model.proofs.NoMove.{unmoved_is_reallocated}
+use Rattle.rlsf_model.proofs.SizedWords.{count_filled, count_resized}
+use Rattle.rlsf_model.specs.Sized.{live_count}
 use Rattle.rlsf_table.specs.Table.{Table}
 use Rattle.rlsf_blocks.specs.Laws.{read_from, with_bytes_of}
 use Rattle.rlsf_blocks.specs.StandsFor.{contents, StandsFor}

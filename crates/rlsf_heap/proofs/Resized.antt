@@ -5,15 +5,15 @@ use Rattle.rlsf_base.specs.OpenSpace.{IsOwned, SameOwn}
 use Rattle.rlsf_base.specs.Range.{end_of}
 use Rattle.rlsf_base.specs.Space.{Space, range_of}
 use Rattle.rlsf_base.proofs.Lending.Present.{own-there}
-use Rattle.rlsf_machine.specs.Lists.{IsIn}
-use Rattle.rlsf_machine.specs.Reallocate.{Reallocates}
-use Rattle.rlsf_machine.specs.Release.{released}
-use Rattle.rlsf_machine.specs.Run.{reallocate}
-use Rattle.rlsf_machine.specs.State.{State, Used, Holds, IsLive, usable}
-use Rattle.rlsf_machine.proofs.Changes.{IsIn-others}
-use Rattle.rlsf_machine.proofs.Live.{other_payloads_stay, reallocated_is_live}
-use Rattle.rlsf_machine.proofs.Payloads.{IsUsed-after_start}
-use Rattle.rlsf_machine.proofs.Releases.{IsWellFormed-released}
+use Rattle.rlsf_model.specs.Lists.{IsIn}
+use Rattle.rlsf_model.specs.Reallocate.{Reallocates}
+use Rattle.rlsf_model.specs.Release.{released}
+use Rattle.rlsf_model.specs.Run.{reallocate}
+use Rattle.rlsf_model.specs.State.{State, Used, Holds, IsLive, usable}
+use Rattle.rlsf_model.proofs.Changes.{IsIn-others}
+use Rattle.rlsf_model.proofs.Live.{other_payloads_stay, reallocated_is_live}
+use Rattle.rlsf_model.proofs.Payloads.{IsUsed-after_start}
+use Rattle.rlsf_model.proofs.Releases.{IsWellFormed-released}
 use Rattle.rlsf_table.specs.Table.{Table}
 use Rattle.rlsf_blocks.specs.StandsFor.{contents, StandsFor}
 use Rattle.rlsf_blocks.proofs.Words.Apart.{Has, used_in_memory, used_used}

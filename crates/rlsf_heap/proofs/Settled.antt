@@ -13,7 +13,7 @@ use Rattle.rlsf_heap.specs.Heap.{HeapView, heap_view}
 use Rattle.rlsf_heap.specs.Settled.{IsSettled}
 use Rattle.rlsf_heap.specs.Zeroed.{IsZeroed}
 use Rattle.rlsf_table.specs.Table.{Table}
-use Rattle.rlsf_machine.specs.State.{State}
+use Rattle.rlsf_model.specs.State.{State}
 
 pub settled-stays : {m n : Space} → Stays m n → IsSettled m → IsSettled n
 unfolding IsSettled

@@ -8,11 +8,11 @@ use Rattle.rlsf_base.specs.OpenSpace.{Home, IsOwned, home_of, out_raw}
 use Rattle.rlsf_base.specs.Piece.{CanCome, Piece, piece_range}
 use Rattle.rlsf_base.specs.Range.{range_at}
 use Rattle.rlsf_base.specs.Space.{Space}
-use Rattle.rlsf_machine.specs.Allocate.{Allocates, placed}
-use Rattle.rlsf_machine.specs.Lists.{IsIn}
-use Rattle.rlsf_machine.specs.Release.{released}
-use Rattle.rlsf_machine.specs.State.{State, Used, Holds, usable}
-use Rattle.rlsf_machine.proofs.Payloads.{IsUsed-after_start}
+use Rattle.rlsf_model.specs.Allocate.{Allocates, placed}
+use Rattle.rlsf_model.specs.Lists.{IsIn}
+use Rattle.rlsf_model.specs.Release.{released}
+use Rattle.rlsf_model.specs.State.{State, Used, Holds, usable}
+use Rattle.rlsf_model.proofs.Payloads.{IsUsed-after_start}
 use Rattle.rlsf_table.specs.Table.{Table}
 use Rattle.rlsf_blocks.specs.Steps.LiveBlock.{AtEachBlock}
 use Rattle.rlsf_blocks.specs.StandsFor.{contents, StandsFor}

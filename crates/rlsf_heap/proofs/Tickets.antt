@@ -4,7 +4,7 @@ use Rattle.std.proofs.Common.{inr, refl, sym, ap, subst, ◌∙◌}
 use Rattle.std.proofs.lemmas.Bool.{cases_eq, cases_lt}
 use Rattle.std.proofs.lemmas.List.{get_or-set_same, get_or-set_other, get_or_append_left, get_or-append_right, length-set}
 use Rattle.rlsf_base.specs.Ledger.{Entry, Extent, entry_of, nowhere, IsIssued}
-use Rattle.rlsf_machine.specs.State.{State}
+use Rattle.rlsf_model.specs.State.{State}
 use Rattle.rlsf_heap.specs.Heap.{AreIssued, IsPayload}
 
 -- ---- the k-th ticket was redeemed

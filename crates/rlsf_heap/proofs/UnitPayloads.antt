@@ -12,14 +12,14 @@ use Rattle.rlsf_base.specs.Rounding.{round32}
 use Rattle.rlsf_base.specs.Space.{Space, word_at}
 use Rattle.rlsf_base.proofs.Lending.WordIsHere.{is_word}
 use Rattle.rlsf_base.proofs.Lending.Present.{own-word}
-use Rattle.rlsf_machine.specs.Allocate.{Allocates, placed}
-use Rattle.rlsf_machine.specs.Callers.{bytes_at}
-use Rattle.rlsf_machine.specs.Lists.{IsIn}
-use Rattle.rlsf_machine.specs.Payload.{payload_of}
-use Rattle.rlsf_machine.specs.Release.{released}
-use Rattle.rlsf_machine.specs.State.{State, Used, Holds, usable}
-use Rattle.rlsf_machine.proofs.CallerWords.{bytes_at-held}
-use Rattle.rlsf_machine.proofs.Payloads.{payload_of-le, payload_of-after}
+use Rattle.rlsf_model.specs.Allocate.{Allocates, placed}
+use Rattle.rlsf_model.specs.Callers.{bytes_at}
+use Rattle.rlsf_model.specs.Lists.{IsIn}
+use Rattle.rlsf_model.specs.Payload.{payload_of}
+use Rattle.rlsf_model.specs.Release.{released}
+use Rattle.rlsf_model.specs.State.{State, Used, Holds, usable}
+use Rattle.rlsf_model.proofs.CallerWords.{bytes_at-held}
+use Rattle.rlsf_model.proofs.Payloads.{payload_of-le, payload_of-after}
 use Rattle.rlsf_table.specs.Table.{Table}
 use Rattle.rlsf_blocks.specs.StandsFor.{contents, StandsFor}
 use Rattle.rlsf_blocks.proofs.Words.Apart.{used_in_memory}

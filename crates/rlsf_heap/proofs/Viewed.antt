@@ -3,17 +3,17 @@ use Rattle.std.proofs.Common.{◌≡◌, ℕ, List, Option, Some, sym, ap, subst
 use Rattle.rlsf_base.specs.Ledger.{Entry}
 use Rattle.rlsf_base.specs.Piece.{Piece}
 use Rattle.rlsf_base.specs.Space.{Space, range_of}
-use Rattle.rlsf_machine.specs.Callers.{align_at}
-use Rattle.rlsf_machine.specs.NoMove.{ReallocatesWithoutMove, unmoved_plan}
-use Rattle.rlsf_machine.specs.Reallocate.{HasRoomToStay, Plan, Reallocates, in_place, into_next, or_else}
-use Rattle.rlsf_machine.specs.Run.{Fills}
-use Rattle.rlsf_machine.specs.State.{State, Used, AreAlike, filled}
-use Rattle.rlsf_machine.specs.WellFormed.{IsWellFormed}
-use Rattle.rlsf_machine.proofs.CallerWords.{align_at-held, filled_seen}
-use Rattle.rlsf_machine.proofs.Changes.{Holds-unique}
-use Rattle.rlsf_machine.specs.Sized.{IsSizedFor, live_count}
-use Rattle.rlsf_machine.proofs.Fillings.{AreAlike-filled}
-use Rattle.rlsf_machine.proofs.SizedWords.{count_filled, sized_filled}
+use Rattle.rlsf_model.specs.Callers.{align_at}
+use Rattle.rlsf_model.specs.NoMove.{ReallocatesWithoutMove, unmoved_plan}
+use Rattle.rlsf_model.specs.Reallocate.{HasRoomToStay, Plan, Reallocates, in_place, into_next, or_else}
+use Rattle.rlsf_model.specs.Run.{Fills}
+use Rattle.rlsf_model.specs.State.{State, Used, AreAlike, filled}
+use Rattle.rlsf_model.specs.WellFormed.{IsWellFormed}
+use Rattle.rlsf_model.proofs.CallerWords.{align_at-held, filled_seen}
+use Rattle.rlsf_model.proofs.Changes.{Holds-unique}
+use Rattle.rlsf_model.specs.Sized.{IsSizedFor, live_count}
+use Rattle.rlsf_model.proofs.Fillings.{AreAlike-filled}
+use Rattle.rlsf_model.proofs.SizedWords.{count_filled, sized_filled}
 use Rattle.rlsf_table.specs.Table.{Table}
 use Rattle.rlsf_blocks.specs.Laws.{read_from}
 use Rattle.rlsf_heap.specs.Heap.{HeapView, PayloadView, heap_view, payload_view}

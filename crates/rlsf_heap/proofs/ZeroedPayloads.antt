@@ -6,11 +6,11 @@ use Rattle.rlsf_base.specs.Out.{is_own}
 use Rattle.rlsf_base.specs.OpenSpace.{SameOwn}
 use Rattle.rlsf_base.specs.Range.{end_of}
 use Rattle.rlsf_base.specs.Space.{Space, bytes_in, out_at}
-use Rattle.rlsf_machine.specs.Allocate.{Places, given, placed}
-use Rattle.rlsf_machine.specs.Lists.{IsIn}
-use Rattle.rlsf_machine.specs.Run.{Fills}
-use Rattle.rlsf_machine.specs.State.{State, Used, filled, filled_at, filled_if, usable, with_bytes}
-use Rattle.rlsf_machine.proofs.Coverage.{by_test}
+use Rattle.rlsf_model.specs.Allocate.{Places, given, placed}
+use Rattle.rlsf_model.specs.Lists.{IsIn}
+use Rattle.rlsf_model.specs.Run.{Fills}
+use Rattle.rlsf_model.specs.State.{State, Used, filled, filled_at, filled_if, usable, with_bytes}
+use Rattle.rlsf_model.proofs.Coverage.{by_test}
 use Rattle.rlsf_table.specs.Table.{Table}
 use Rattle.rlsf_blocks.specs.Laws.{read_from}
 use Rattle.rlsf_blocks.specs.StandsFor.{contents, StandsFor}

@@ -9,9 +9,9 @@ use Rattle.rlsf_base.specs.declared.memory.range.Range.{Range}
 use Rattle.rlsf_base.specs.Range.{end_of, range_at}
 use Rattle.rlsf_base.specs.SizeClass.{IsValid}
 use Rattle.rlsf_base.specs.Space.{Space}
-use Rattle.rlsf_machine.specs.Lists.{IsIn as IsListed}
-use Rattle.rlsf_machine.specs.Sized.{live_count}
-use Rattle.rlsf_machine.specs.State.{State, Used, usable}
+use Rattle.rlsf_model.specs.Lists.{IsIn as IsListed}
+use Rattle.rlsf_model.specs.Sized.{live_count}
+use Rattle.rlsf_model.specs.State.{State, Used, usable}
 use Rattle.rlsf_table.specs.Table.{Table}
 use Rattle.rlsf_blocks.specs.Laws.{read_from}
 use Rattle.rlsf_blocks.specs.StandsFor.{contents, StandsFor}

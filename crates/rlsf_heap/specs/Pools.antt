@@ -1,8 +1,8 @@
 -- Pools that are removed if they can be.
 use Rattle.std.specs.Prelude.{◌≡◌, ◌||◌, Bool, true, false, List, [], ◌∷◌}
 use Rattle.rlsf_base.specs.declared.memory.range.Range.{Range}
-use Rattle.rlsf_machine.specs.Remove.{IsIdle, Removes}
-use Rattle.rlsf_machine.specs.State.{State}
+use Rattle.rlsf_model.specs.Remove.{IsIdle, Removes}
+use Rattle.rlsf_model.specs.State.{State}
 use Rattle.rlsf_blocks.specs.Blocks.{Block}
 
 -- a range is removed if and only if no used block has a byte of it; otherwise nothing changes

@@ -1,7 +1,7 @@
 -- Reallocated payloads, as contracts see them.
 use Rattle.std.specs.Prelude.{ℕ, length, min, Option, Some, None, Result, Ok, Err}
 use Rattle.rlsf_base.specs.Changes.{IsIn}
-use Rattle.rlsf_machine.specs.State.{State, filled}
+use Rattle.rlsf_model.specs.State.{State, filled}
 use Rattle.rlsf_heap.specs.Heap.{PayloadView}
 
 -- the state in which a payload has the bytes that its owner wrote

@@ -2,7 +2,7 @@
 ghost use Rattle.std.specs.Prelude.{◌≡◌, ◌≢◌, ◌%◌, ◌++◌, ◌∷◌, [], Some, length, true};
 ghost use Rattle.rlsf_base.specs.Ledger.{entry_of, extent};
 ghost use Rattle.rlsf_base.specs.Range.{AreApart};
-ghost use Rattle.rlsf_machine.specs.Callers.{align_at, bytes_at};
+ghost use Rattle.rlsf_model.specs.Callers.{align_at, bytes_at};
 ghost use Rattle.rlsf_heap.specs.Heap.{LiesInChunk, payload_range, payload_view};
 ghost use Rattle.rlsf_heap.specs.Renewed.{IsRedeemed};
 

@@ -1,8 +1,8 @@
 //! Deallocation of payloads whose bytes are here.
 ghost use Rattle.std.specs.Prelude.{◌≡◌, ◌≢◌, ◌≤◌, ◌+◌, ℕ, None, length};
-ghost use Rattle.rlsf_machine.specs.Callers.{align_at};
-ghost use Rattle.rlsf_machine.specs.Release.{Deallocates};
-ghost use Rattle.rlsf_machine.specs.Sized.{IsSizedFor, live_count};
+ghost use Rattle.rlsf_model.specs.Callers.{align_at};
+ghost use Rattle.rlsf_model.specs.Release.{Deallocates};
+ghost use Rattle.rlsf_model.specs.Sized.{IsSizedFor, live_count};
 ghost use Rattle.rlsf_heap.specs.Heap.{IsOwners, IsWritten};
 ghost use Rattle.rlsf_heap.specs.Settled.{IsSettled};
 

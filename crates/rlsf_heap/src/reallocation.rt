@@ -1,11 +1,11 @@
 //! Reallocations: a payload gets another size.
 ghost use Rattle.std.specs.Prelude.{◌≡◌, ◌≢◌, ◌≤◌, ◌<◌, ◌+◌, ◌%◌, ℕ, Some, None, length, slice_index, IfErr, IfOk, IsErr, IsOk, MatchResult};
 ghost use Rattle.rlsf_base.specs.Layout.{IsLayout};
-ghost use Rattle.rlsf_machine.specs.Callers.{align_at, bytes_at};
-ghost use Rattle.rlsf_machine.specs.NoMove.{ReallocatesWithoutMove};
-ghost use Rattle.rlsf_machine.specs.Reallocate.{HasRoomToStay, Keeps, Reallocates};
-ghost use Rattle.rlsf_machine.specs.Sized.{IsSizedFor, live_count};
-ghost use Rattle.rlsf_machine.specs.State.{AreAlike, State};
+ghost use Rattle.rlsf_model.specs.Callers.{align_at, bytes_at};
+ghost use Rattle.rlsf_model.specs.NoMove.{ReallocatesWithoutMove};
+ghost use Rattle.rlsf_model.specs.Reallocate.{HasRoomToStay, Keeps, Reallocates};
+ghost use Rattle.rlsf_model.specs.Sized.{IsSizedFor, live_count};
+ghost use Rattle.rlsf_model.specs.State.{AreAlike, State};
 ghost use Rattle.rlsf_heap.specs.Heap.{IsWritten};
 ghost use Rattle.rlsf_heap.specs.Reallocation.{IsKeptHere, moved_to, owned_by};
 ghost use Rattle.rlsf_heap.specs.Settled.{IsSettled};

@@ -2,8 +2,8 @@
 ghost use Rattle.std.specs.Prelude.{◌≡◌, ℕ};
 ghost use Rattle.std.specs.Borrow.{ftrue};
 ghost use Rattle.rlsf_base.specs.Range.{range_at};
-ghost use Rattle.rlsf_machine.specs.Remove.{removed};
-ghost use Rattle.rlsf_machine.specs.State.{State, empty};
+ghost use Rattle.rlsf_model.specs.Remove.{removed};
+ghost use Rattle.rlsf_model.specs.State.{State, empty};
 ghost use Rattle.rlsf_blocks.specs.Blocks.{walked};
 ghost use Rattle.rlsf_tlsf.specs.Steps.Moves.{allocated, appended_to, deallocated, inserted, reallocated};
 

@@ -3,10 +3,10 @@ ghost use Rattle.std.specs.Prelude.{◌≡◌, ◌≢◌, ◌≤◌, ◌<◌, �
 ghost use Rattle.std.specs.Borrow.{sem};
 ghost use Rattle.rlsf_base.specs.Ledger.{extent};
 ghost use Rattle.rlsf_base.specs.Piece.{CanCome, Piece, piece_owns};
-ghost use Rattle.rlsf_machine.specs.Allocate.{Allocates};
-ghost use Rattle.rlsf_machine.specs.Callers.{align_at, bytes_at};
-ghost use Rattle.rlsf_machine.specs.Release.{Deallocates};
-ghost use Rattle.rlsf_machine.specs.Sized.{IsSizedFor, live_count};
+ghost use Rattle.rlsf_model.specs.Allocate.{Allocates};
+ghost use Rattle.rlsf_model.specs.Callers.{align_at, bytes_at};
+ghost use Rattle.rlsf_model.specs.Release.{Deallocates};
+ghost use Rattle.rlsf_model.specs.Sized.{IsSizedFor, live_count};
 ghost use Rattle.rlsf_heap.specs.Heap.{Identity, IsTicketOf};
 ghost use Rattle.rlsf_heap.specs.Thin.{IsThinOf, owns_reply, reply_of};
 

@@ -1,9 +1,9 @@
 //! Payloads of complete units, which a pointer alone shows: what an allocator of collections needs of a heap.
 ghost use Rattle.std.specs.Prelude.{◌≡◌, ◌≢◌, ◌≤◌, ◌<◌, ◌+◌, ◌-◌, ◌*◌, ◌/◌, ◌%◌, ◌^◌, ◌↔◌, IsTrue, ℕ, Some, None, length, IfNone, IfSome, IsSome};
-ghost use Rattle.rlsf_machine.specs.Allocate.{Allocates};
-ghost use Rattle.rlsf_machine.specs.Callers.{align_at};
-ghost use Rattle.rlsf_machine.specs.Release.{Deallocates};
-ghost use Rattle.rlsf_machine.specs.Sized.{IsSizedFor, live_count};
+ghost use Rattle.rlsf_model.specs.Allocate.{Allocates};
+ghost use Rattle.rlsf_model.specs.Callers.{align_at};
+ghost use Rattle.rlsf_model.specs.Release.{Deallocates};
+ghost use Rattle.rlsf_model.specs.Sized.{IsSizedFor, live_count};
 ghost use Rattle.rlsf_heap.specs.Units.{GivesUnits, heap_of, payload_len, unit_addr_of};
 
 use crate::heap::Heap;

@@ -7,8 +7,8 @@ use Rattle.rlsf_journal.specs.declared.entry.Entry.{Entry}
 use Rattle.rlsf_journal.specs.Close.{Agree, AreComplete, HasEach, LacksOne, has_pass, is_strange}
 use Rattle.rlsf_journal.specs.Passes.{PassContents}
 use Rattle.rlsf_journal.specs.Replay.{BookContents, IsRun}
-use Rattle.rlsf_placement.specs.Heap.{Heap}
-use Rattle.rlsf_placement.specs.Rows.{IsSorted}
+use Rattle.rlsf_model_global.specs.Heap.{Heap}
+use Rattle.rlsf_model_global.specs.Rows.{IsSorted}
 
 -- the returned journal is one run, and what is live is what it leads to
 pub closed_history : (b : BookContents) (r : Result Closed CloseError) → IfOk r (λ c. (c.journal.items ≡ b.journal) × IsRun b.journal b.locked.heap)

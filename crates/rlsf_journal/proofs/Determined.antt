@@ -12,14 +12,14 @@ use Rattle.rlsf_journal.specs.Entries.{IsReplyTo}
 use Rattle.rlsf_journal.specs.Laws.{CallsDetermineReplies, ReplayDetermines, RunsDetermineReplies, calls_of, replies_of}
 use Rattle.rlsf_journal.specs.Passes.{done_by, placed_by}
 use Rattle.rlsf_journal.specs.Replay.{beginning_of, step_by, step_of}
-use Rattle.rlsf_placement.proofs.Isolated.{beginning_is_heap}
-use Rattle.rlsf_placement.proofs.Journals.{journal_determines}
-use Rattle.rlsf_placement.proofs.Similars.{same_placement-refl}
-use Rattle.rlsf_placement.specs.declared.error.GlobalError.TheVariants as error
-use Rattle.rlsf_placement.specs.Heap.{Heap, beginning}
-use Rattle.rlsf_placement.specs.History.{IsHistory}
-use Rattle.rlsf_placement.specs.Replays.{AreSameAnswers, AreSameCalls, IsSameAnswer, IsSameCall, journal_of}
-use Rattle.rlsf_placement.specs.Steps.{Done, Placed as Answer}
+use Rattle.rlsf_model_global.proofs.Isolated.{beginning_is_heap}
+use Rattle.rlsf_model_global.proofs.Journals.{journal_determines}
+use Rattle.rlsf_model_global.proofs.Similars.{same_placement-refl}
+use Rattle.rlsf_model_global.specs.declared.error.GlobalError.TheVariants as error
+use Rattle.rlsf_model_global.specs.Heap.{Heap, beginning}
+use Rattle.rlsf_model_global.specs.History.{IsHistory}
+use Rattle.rlsf_model_global.specs.Replays.{AreSameAnswers, AreSameCalls, IsSameAnswer, IsSameCall, journal_of}
+use Rattle.rlsf_model_global.specs.Steps.{Done, Placed as Answer}
 
 -- ---- one entry
 

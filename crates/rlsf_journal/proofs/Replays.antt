@@ -14,18 +14,18 @@ use Rattle.rlsf_journal.specs.declared.entry.Reply.{Reply}
 use Rattle.rlsf_journal.specs.declared.entry.Reply.TheVariants.{Placed, Freed, NoRoom, UnknownAddress, TableMemory, JournalMemory}
 use Rattle.rlsf_journal.specs.Entries.{IsReplyTo, entries_of}
 use Rattle.rlsf_journal.specs.Replay.{BookContents, BookStands, LeadsOrRefused, IsReplay, IsRun, Leads, beginning_of, step_by, step_of}
-use Rattle.rlsf_machine.specs.FlexState.{FlexState}
-use Rattle.rlsf_machine.specs.Note.{LeadsBy, Note, alloc, dealloc, grow}
-use Rattle.rlsf_placement.proofs.Journals.{replay_begins, replay_goes_on}
-use Rattle.rlsf_placement.specs.declared.error.GlobalError.TheVariants as error
-use Rattle.rlsf_placement.specs.Cursor.{PageCursor, PageLeads}
-use Rattle.rlsf_placement.specs.Heap.{Heap, beginning}
-use Rattle.rlsf_placement.specs.History.{IsHistory, LeadsTo, Step, write}
-use Rattle.rlsf_placement.specs.Moves.{MovesAway, ReallocatesAt}
-use Rattle.rlsf_placement.specs.Replays as placement
-use Rattle.rlsf_placement.specs.Replays.{journal_of}
-use Rattle.rlsf_placement.specs.Rows.{Row, row_at}
-use Rattle.rlsf_placement.specs.Steps.{DeallocatesAt, Done, HeapWrites, Placed as Answer, Takes, WritesAt, fits}
+use Rattle.rlsf_model.specs.FlexState.{FlexState}
+use Rattle.rlsf_model.specs.Note.{LeadsBy, Note, alloc, dealloc, grow}
+use Rattle.rlsf_model_global.proofs.Journals.{replay_begins, replay_goes_on}
+use Rattle.rlsf_model_global.specs.declared.error.GlobalError.TheVariants as error
+use Rattle.rlsf_model_global.specs.Cursor.{PageCursor, PageLeads}
+use Rattle.rlsf_model_global.specs.Heap.{Heap, beginning}
+use Rattle.rlsf_model_global.specs.History.{IsHistory, LeadsTo, Step, write}
+use Rattle.rlsf_model_global.specs.Moves.{MovesAway, ReallocatesAt}
+use Rattle.rlsf_model_global.specs.Replays as placement
+use Rattle.rlsf_model_global.specs.Replays.{journal_of}
+use Rattle.rlsf_model_global.specs.Rows.{Row, row_at}
+use Rattle.rlsf_model_global.specs.Steps.{DeallocatesAt, Done, HeapWrites, Placed as Answer, Takes, WritesAt, fits}
 
 -- ---- a step leaves the space
 

@@ -7,10 +7,10 @@ use Rattle.rlsf_journal.specs.declared.entry.Call.{Call}
 use Rattle.rlsf_journal.specs.declared.entry.Call.TheVariants.{Allocate}
 use Rattle.rlsf_journal.specs.declared.entry.Reply.TheVariants.{Placed, NoRoom}
 use Rattle.rlsf_journal.specs.Replay.{Leads}
-use Rattle.rlsf_placement.specs.declared.error.GlobalError.{GlobalError}
-use Rattle.rlsf_placement.specs.declared.error.GlobalError.TheVariants as error
-use Rattle.rlsf_placement.specs.Heap.{Heap}
-use Rattle.rlsf_placement.specs.Steps.{HeapAllocates, Placed as Answer}
+use Rattle.rlsf_model_global.specs.declared.error.GlobalError.{GlobalError}
+use Rattle.rlsf_model_global.specs.declared.error.GlobalError.TheVariants as error
+use Rattle.rlsf_model_global.specs.Heap.{Heap}
+use Rattle.rlsf_model_global.specs.Steps.{HeapAllocates, Placed as Answer}
 
 -- an allocation that finds no room leads on by that reply
 pub no_room : (h g : Heap) {call : Call} {layout : Layout} {r : Answer} {e : GlobalError} → call ≡ Allocate layout → r ≡ Err e → e ≡ error.NoRoom

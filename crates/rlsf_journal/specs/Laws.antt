@@ -7,8 +7,8 @@ use Rattle.rlsf_journal.specs.declared.entry.Receipt.{Receipt}
 use Rattle.rlsf_journal.specs.declared.entry.Reply.{Reply}
 use Rattle.rlsf_journal.specs.Entries.{receipts_of}
 use Rattle.rlsf_journal.specs.Replay.{IsReplay, IsRun, beginning_of}
-use Rattle.rlsf_machine.specs.Lists.{IsIn}
-use Rattle.rlsf_placement.specs.Heap.{HaveSamePlacement, Heap}
+use Rattle.rlsf_model.specs.Lists.{IsIn}
+use Rattle.rlsf_model_global.specs.Heap.{HaveSamePlacement, Heap}
 
 -- the entry at the receipt's number is this caller's, with the receipt's call and reply
 pub record IsEntryOf (caller : ℕ) (journal : List Entry) (r : Receipt) : Type 0 where

@@ -5,8 +5,8 @@ use Rattle.rlsf_journal.specs.declared.entry.Receipt.{Receipt}
 use Rattle.rlsf_journal.specs.declared.entry.Reply.{Reply}
 use Rattle.rlsf_journal.specs.declared.entry.Reply.TheVariants as reply
 use Rattle.rlsf_journal.specs.Entries.{IsReplyTo, receipts_for}
-use Rattle.rlsf_placement.specs.declared.error.GlobalError.TheVariants.{NoRoom, UnknownAddress, TableMemory, JournalMemory}
-use Rattle.rlsf_placement.specs.Steps.{Done, Placed}
+use Rattle.rlsf_model_global.specs.declared.error.GlobalError.TheVariants.{NoRoom, UnknownAddress, TableMemory, JournalMemory}
+use Rattle.rlsf_model_global.specs.Steps.{Done, Placed}
 
 -- a pass as contracts see it: its caller's number, and the receipts of that caller's calls
 pub record PassContents : Type 0 where

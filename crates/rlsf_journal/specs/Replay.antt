@@ -8,14 +8,14 @@ use Rattle.rlsf_journal.specs.declared.entry.Call.TheVariants.{Allocate, Dealloc
 use Rattle.rlsf_journal.specs.declared.entry.Entry.{Entry}
 use Rattle.rlsf_journal.specs.declared.entry.Reply.{Reply}
 use Rattle.rlsf_journal.specs.declared.entry.Reply.TheVariants.{Placed, Freed, NoRoom, UnknownAddress, TableMemory, JournalMemory}
-use Rattle.rlsf_placement.specs.declared.error.GlobalError.TheVariants as error
+use Rattle.rlsf_model_global.specs.declared.error.GlobalError.TheVariants as error
 use Rattle.rlsf_journal.specs.Entries.{IsReplyTo}
 use Rattle.rlsf_journal.specs.Passes.{done_by, placed_by}
-use Rattle.rlsf_placement.specs.Heap.{Heap, beginning}
-use Rattle.rlsf_placement.specs.History.{Step, allocate, deallocate, reallocate}
-use Rattle.rlsf_placement.specs.Moves.{HeapReallocates}
-use Rattle.rlsf_placement.specs.Replays as placement
-use Rattle.rlsf_placement.specs.Steps.{HeapAllocates, HeapDeallocates}
+use Rattle.rlsf_model_global.specs.Heap.{Heap, beginning}
+use Rattle.rlsf_model_global.specs.History.{Step, allocate, deallocate, reallocate}
+use Rattle.rlsf_model_global.specs.Moves.{HeapReallocates}
+use Rattle.rlsf_model_global.specs.Replays as placement
+use Rattle.rlsf_model_global.specs.Steps.{HeapAllocates, HeapDeallocates}
 
 -- a call with its reply is a step from one heap to another
 abbrev pub Leads : Heap → Call → Reply → Heap → Type 0

@@ -8,9 +8,9 @@ ghost use Rattle.rlsf_journal.specs.declared.close.CloseError.TheVariants.{Missi
 ghost use Rattle.rlsf_journal.specs.declared.entry.Reply.TheVariants.{JournalMemory};
 ghost use Rattle.rlsf_journal.specs.Entries.{IfRefused, IsReplyTo, entries_of};
 ghost use Rattle.rlsf_journal.specs.Replay.{BookStands, IsRun, LeadsOrRefused};
-ghost use Rattle.rlsf_placement.specs.Heap.{beginning};
-ghost use Rattle.rlsf_placement.specs.Rows.{IsSorted};
-ghost use Rattle.rlsf_placement.specs.Steps.{HeapReads, HeapWrites};
+ghost use Rattle.rlsf_model_global.specs.Heap.{beginning};
+ghost use Rattle.rlsf_model_global.specs.Rows.{IsSorted};
+ghost use Rattle.rlsf_model_global.specs.Steps.{HeapReads, HeapWrites};
 
 use crate::checks::{agree, is_missing, is_strange};
 use crate::close::{CloseError, Closed};

@@ -8,10 +8,10 @@ ghost use Rattle.rlsf_journal.specs.declared.entry.Call.TheVariants.{Allocate, D
 ghost use Rattle.rlsf_journal.specs.Entries.{IsReplyTo, receipts_for};
 ghost use Rattle.rlsf_journal.specs.Passes.{AreFirst, Receipted, done_by, placed_by};
 ghost use Rattle.rlsf_journal.specs.Replay.{BookContents, BookStands, IsRun};
-ghost use Rattle.rlsf_placement.specs.declared.error.GlobalError.TheVariants.{JournalMemory};
-ghost use Rattle.rlsf_placement.specs.Heap.{Heap};
-ghost use Rattle.rlsf_placement.specs.Rows.{IsSorted};
-ghost use Rattle.rlsf_placement.specs.Steps.{HeapReads, HeapWrites};
+ghost use Rattle.rlsf_model_global.specs.declared.error.GlobalError.TheVariants.{JournalMemory};
+ghost use Rattle.rlsf_model_global.specs.Heap.{Heap};
+ghost use Rattle.rlsf_model_global.specs.Rows.{IsSorted};
+ghost use Rattle.rlsf_model_global.specs.Steps.{HeapReads, HeapWrites};
 
 use crate::book::Book;
 use crate::close::{CloseError, Closed};

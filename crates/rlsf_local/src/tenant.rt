@@ -1,8 +1,8 @@
 //! Heaps over ranges of one memory.
 ghost use Rattle.std.specs.Prelude.{◌≡◌, ◌≢◌, ◌+◌, ◌^◌, ◌<◌, ℕ, None, IfSome, IfNone, IsSome, IsNone, true, false};
-ghost use Rattle.rlsf_machine.specs.Callers.{align_at};
+ghost use Rattle.rlsf_model.specs.Callers.{align_at};
 ghost use Rattle.rlsf_base.specs.SizeClass.{IsValid};
-ghost use Rattle.rlsf_machine.specs.Sized.{live_count};
+ghost use Rattle.rlsf_model.specs.Sized.{live_count};
 
 use crate::lease::{Lease, START};
 use crate::local::LocalHeap;

@@ -2,12 +2,12 @@
 use Rattle.std.proofs.Common.{◌≡◌, ◌≢◌, ◌⊎◌, ℕ, zero, suc, ◌+◌, ◌*◌, ◌%◌, ◌^◌, ◌<◌, ◌≤◌, Some, arith, refl, sym, ◌∙◌, ap, subst}
 use Rattle.std.proofs.Common.{inl, inr, pow-add, pow_pos}
 use Rattle.rlsf_base.specs.PowerOfTwo.{IsPowerOfTwo, floor_log2}
-use Rattle.rlsf_machine.specs.Callers.{align_at}
-use Rattle.rlsf_machine.specs.Payload.{payload_of}
-use Rattle.rlsf_machine.specs.State.{Used}
-use Rattle.rlsf_machine.specs.WellFormed.{IsUsed}
-use Rattle.rlsf_machine.proofs.CallerWords.{align_at-live}
-use Rattle.rlsf_machine.proofs.Payloads.{IsUsed-aligned}
+use Rattle.rlsf_model.specs.Callers.{align_at}
+use Rattle.rlsf_model.specs.Payload.{payload_of}
+use Rattle.rlsf_model.specs.State.{Used}
+use Rattle.rlsf_model.specs.WellFormed.{IsUsed}
+use Rattle.rlsf_model.proofs.CallerWords.{align_at-live}
+use Rattle.rlsf_model.proofs.Payloads.{IsUsed-aligned}
 use Rattle.rlsf_blocks.proofs.Words.Frames.{wide_whole}
 use Rattle.rlsf_tlsf.specs.Allocator.{Allocator, Stands}
 

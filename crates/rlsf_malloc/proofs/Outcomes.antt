@@ -9,17 +9,17 @@ use Rattle.rlsf_base.specs.Layout.{IsLayout}
 use Rattle.rlsf_base.specs.Range.{AreApart}
 use Rattle.rlsf_base.specs.Space.{SamePlace, Space, range_of}
 use Rattle.rlsf_base.specs.declared.memory.range.Range.{Range}
-use Rattle.rlsf_machine.specs.Allocate as machine
-use Rattle.rlsf_machine.specs.Callers.{align_at, bytes_at}
-use Rattle.rlsf_machine.specs.Insert.{Inserts, IsUntouched}
-use Rattle.rlsf_machine.specs.NoMove.{ReallocatesWithoutMove}
-use Rattle.rlsf_machine.specs.Reallocate.{Keeps, Reallocates}
-use Rattle.rlsf_machine.specs.Release.{Deallocates}
-use Rattle.rlsf_machine.specs.Run.{reallocate}
-use Rattle.rlsf_machine.specs.State.{State}
-use Rattle.rlsf_machine.proofs.CallerWords.{align_at-live, align_at-none}
-use Rattle.rlsf_machine.proofs.Callers.{callers_see_map}
-use Rattle.rlsf_machine.proofs.Payloads.{payload_of-aligned}
+use Rattle.rlsf_model.specs.Allocate as machine
+use Rattle.rlsf_model.specs.Callers.{align_at, bytes_at}
+use Rattle.rlsf_model.specs.Insert.{Inserts, IsUntouched}
+use Rattle.rlsf_model.specs.NoMove.{ReallocatesWithoutMove}
+use Rattle.rlsf_model.specs.Reallocate.{Keeps, Reallocates}
+use Rattle.rlsf_model.specs.Release.{Deallocates}
+use Rattle.rlsf_model.specs.Run.{reallocate}
+use Rattle.rlsf_model.specs.State.{State}
+use Rattle.rlsf_model.proofs.CallerWords.{align_at-live, align_at-none}
+use Rattle.rlsf_model.proofs.Callers.{callers_see_map}
+use Rattle.rlsf_model.proofs.Payloads.{payload_of-aligned}
 use Rattle.rlsf_tlsf.specs.Allocator.{Allocator, Stands, Steps}
 use Rattle.rlsf_malloc.specs.Calls.{Adds, Allocates, AllocatesZeroed, Frees, IsKeptBut, IsNew, IsNumberOf, IsResized, IsSame, Resizes, ResizesThere, reply_of}
 

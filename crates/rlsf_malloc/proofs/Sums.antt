@@ -3,7 +3,7 @@ use Rattle.std.proofs.Common.{◌≡◌, ℕ, ◌+◌, ◌≤◌, Bool, true, fa
 use Rattle.std.proofs.lemmas.List.Sums.{sum_by-cons}
 use Rattle.std.specs.Prelude.{max}
 use Rattle.rlsf_blocks.specs.Blocks.{Block, IsInOrder}
-use Rattle.rlsf_machine.specs.Lists.{IsIn}
+use Rattle.rlsf_model.specs.Lists.{IsIn}
 use Rattle.rlsf_malloc.specs.declared.pools.Totals.{Totals}
 use Rattle.rlsf_malloc.specs.Totals.{counted, free_of, greatest, total, used_of}
 

@@ -5,11 +5,11 @@ use Rattle.std.proofs.lemmas.List.{length-append, take_all, take_at}
 use Rattle.std.specs.Prelude.{IsSome}
 use Rattle.rlsf_base.specs.Layout.{IsLayout}
 use Rattle.rlsf_base.specs.Space.{SamePlace}
-use Rattle.rlsf_machine.specs.Callers.{align_at, bytes_at, copied_over}
-use Rattle.rlsf_machine.specs.Reallocate.{Keeps}
-use Rattle.rlsf_machine.specs.Release.{Deallocates}
-use Rattle.rlsf_machine.specs.Run.{Fills}
-use Rattle.rlsf_machine.specs.State.{with_front}
+use Rattle.rlsf_model.specs.Callers.{align_at, bytes_at, copied_over}
+use Rattle.rlsf_model.specs.Reallocate.{Keeps}
+use Rattle.rlsf_model.specs.Release.{Deallocates}
+use Rattle.rlsf_model.specs.Run.{Fills}
+use Rattle.rlsf_model.specs.State.{with_front}
 use Rattle.rlsf_tlsf.specs.Allocator.{Allocator}
 use Rattle.rlsf_malloc.specs.Calls.{Allocates, IsNew, IsResized, IsSame, ResizesWide}
 use Rattle.rlsf_malloc.proofs.Outcomes.{place_after}

@@ -9,14 +9,14 @@ use Rattle.rlsf_base.specs.declared.memory.range.Range.{Range}
 use Rattle.rlsf_base.specs.OpenSpace.{place_in}
 use Rattle.rlsf_base.specs.Range.{AreApart, LiesIn, range_at}
 use Rattle.rlsf_base.specs.Space.{SamePlace, Space}
-use Rattle.rlsf_machine.specs.Allocate as machine
-use Rattle.rlsf_machine.specs.Callers.{align_at, bytes_at, copied_over}
-use Rattle.rlsf_machine.specs.Insert.{Inserts, IsUntouched}
-use Rattle.rlsf_machine.specs.NoMove.{ReallocatesWithoutMove}
-use Rattle.rlsf_machine.specs.Reallocate.{Keeps, Reallocates}
-use Rattle.rlsf_machine.specs.Release.{Deallocates}
-use Rattle.rlsf_machine.specs.Run.{Fills}
-use Rattle.rlsf_machine.specs.State.{State, empty}
+use Rattle.rlsf_model.specs.Allocate as machine
+use Rattle.rlsf_model.specs.Callers.{align_at, bytes_at, copied_over}
+use Rattle.rlsf_model.specs.Insert.{Inserts, IsUntouched}
+use Rattle.rlsf_model.specs.NoMove.{ReallocatesWithoutMove}
+use Rattle.rlsf_model.specs.Reallocate.{Keeps, Reallocates}
+use Rattle.rlsf_model.specs.Release.{Deallocates}
+use Rattle.rlsf_model.specs.Run.{Fills}
+use Rattle.rlsf_model.specs.State.{State, empty}
 use Rattle.rlsf_tlsf.specs.Allocator.{Allocator}
 
 -- the address that a call returns, where 0 says that there is none

@@ -4,7 +4,7 @@ ghost use Rattle.std.specs.Borrow.{sem};
 ghost use Rattle.std.specs.Prelude.{◌≡◌};
 ghost use Rattle.rlsf_base.specs.Range.{range_at};
 ghost use Rattle.rlsf_blocks.specs.Blocks.{walked};
-ghost use Rattle.rlsf_machine.specs.ChunkRows.{IsRow};
+ghost use Rattle.rlsf_model.specs.ChunkRows.{IsRow};
 ghost use Rattle.rlsf_tlsf.specs.Allocator.{Allocator};
 ghost use Rattle.rlsf_malloc.specs.Handle.{HoldsLarge, HoldsSmall, HoldsSomeLarge, HoldsSomeSmall};
 ghost use Rattle.rlsf_malloc.specs.Walk.{IsListing};

@@ -6,7 +6,7 @@ ghost use Rattle.rlsf_base.specs.OpenSpace.{place_in};
 ghost use Rattle.rlsf_base.specs.Range.{range_at};
 ghost use Rattle.rlsf_base.specs.RawParts.{LiesAtBlock};
 ghost use Rattle.rlsf_blocks.specs.Blocks.{walked};
-ghost use Rattle.rlsf_machine.specs.ChunkRows.{IsRow};
+ghost use Rattle.rlsf_model.specs.ChunkRows.{IsRow};
 ghost use Rattle.rlsf_malloc.specs.Calls.{Adds, Allocates, AllocatesZeroed, CanAdd, CanFree, CanResize, CanResizeAligned, Frees, IsOver, IsUsable, ResizesAligned, ResizesAny, ResizesInPlace, aligned_for};
 ghost use Rattle.rlsf_malloc.specs.Totals.{AreTotals};
 

@@ -10,7 +10,7 @@ ghost use Rattle.rlsf_base.specs.Range.{range_at};
 ghost use Rattle.rlsf_base.specs.RawParts.{CanStart};
 ghost use Rattle.rlsf_base.specs.Steps.Ownership.{bytes_at};
 ghost use Rattle.rlsf_blocks.specs.Blocks.{walked};
-ghost use Rattle.rlsf_machine.specs.ChunkRows.{IsRow};
+ghost use Rattle.rlsf_model.specs.ChunkRows.{IsRow};
 ghost use Rattle.rlsf_tlsf.specs.Allocator.{Allocator};
 ghost use Rattle.rlsf_tlsf.specs.InPlace.{LendsPayloads};
 ghost use Rattle.rlsf_malloc.specs.Calls.{Adds, Allocates, AllocatesZeroed, CanAdd, CanFree, CanResize, CanResizeAligned, Frees, IsFresh, IsUsable, ResizesAligned, ResizesAny, ResizesInPlace, aligned_for};

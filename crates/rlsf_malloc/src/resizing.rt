@@ -2,7 +2,7 @@
 
 ghost use Rattle.std.specs.Prelude.{◌≡◌, ◌≢◌, ◌↔◌, IsSome, IsTrue, Some};
 ghost use Rattle.rlsf_base.specs.Addr.{at};
-ghost use Rattle.rlsf_machine.specs.Callers.{align_at};
+ghost use Rattle.rlsf_model.specs.Callers.{align_at};
 ghost use Rattle.rlsf_malloc.specs.Calls.{CanResize, CanResizeAligned, IsLiveAligned, Resizes, ResizesAligned, ResizesAny, ResizesInPlace, ResizesThere, ResizesWide, StaysWide};
 
 use crate::calls::{allocate, at_least_16, number_of};

@@ -4,7 +4,7 @@ ghost use Rattle.std.specs.Prelude.{◌≡◌, ◌+◌, ◌*◌, ◌≤◌, leng
 ghost use Rattle.std.specs.List.{splice};
 ghost use Rattle.rlsf_base.specs.Range.{range_at};
 ghost use Rattle.rlsf_blocks.specs.Blocks.{walked};
-ghost use Rattle.rlsf_machine.specs.ChunkRows.{IsRow};
+ghost use Rattle.rlsf_model.specs.ChunkRows.{IsRow};
 ghost use Rattle.rlsf_malloc.specs.Walk.{IsListing, IsListingOf, all_from, numbers_of};
 
 use crate::large::Large;

@@ -11,7 +11,7 @@ use denote.RawPtr.{◌+ₚ◌}
 use Rattle.rlsf_base.specs.OpenSpace.{Home, place_in}
 use Rattle.rlsf_base.specs.Steps.Ownership.{room_at as room_for_bytes}
 use Rattle.rlsf_int.specs.contracts.impls.u64.U64BitPattern.TheImpl.{ghosts as ghosts64}
-use Rattle.rlsf_machine.specs.Callers.{bytes_at}
+use Rattle.rlsf_model.specs.Callers.{bytes_at}
 use Rattle.rlsf_heap.specs.Heap.{HeapView}
 use Rattle.rlsf_heap.specs.Thin.{owns_reply}
 use Rattle.rlsf_heap.specs.contracts.heap.Heap.{the_row}

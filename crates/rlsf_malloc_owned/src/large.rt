@@ -3,7 +3,7 @@
 ghost use Rattle.std.specs.Prelude.{◌≡◌, ◌%◌};
 ghost use Rattle.rlsf_base.specs.Changes.{IsAllOwn, IsOwn};
 ghost use Rattle.rlsf_base.specs.RawParts.{LiesAtBlock};
-ghost use Rattle.rlsf_machine.specs.Sized.{live_count};
+ghost use Rattle.rlsf_model.specs.Sized.{live_count};
 ghost use Rattle.rlsf_malloc_owned.specs.Calls.{Adds, Allocates, CanAdd, Frees, IsOver, IsReplyOf};
 ghost use Rattle.rlsf_malloc_owned.specs.Handle.{first_of};
 

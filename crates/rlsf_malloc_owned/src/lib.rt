@@ -5,7 +5,7 @@ ghost use Rattle.std.specs.Borrow.{sem};
 ghost use Rattle.std.specs.Prelude.{◌≡◌, ◌%◌, ℕ};
 ghost use Rattle.rlsf_base.specs.RawParts.{CanStart};
 ghost use Rattle.rlsf_base.specs.Steps.Ownership.{room_at};
-ghost use Rattle.rlsf_machine.specs.Sized.{live_count};
+ghost use Rattle.rlsf_model.specs.Sized.{live_count};
 ghost use Rattle.rlsf_heap.specs.Heap.{HeapView};
 ghost use Rattle.rlsf_heap.specs.Thin.{owns_reply};
 ghost use Rattle.rlsf_malloc_owned.specs.Calls.{Adds, Allocates, CanAdd, Frees, IsFresh};

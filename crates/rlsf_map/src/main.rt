@@ -15,7 +15,7 @@ mod scale;
 mod window;
 
 use map::map;
-use rlsf_trace::status;
+use rlsf_trace_replay::status;
 use std::env;
 use std::process::ExitCode;
 use std::rt::Env;

@@ -3,14 +3,14 @@
 ghost use Rattle.std.specs.Prelude.{◌≡◌, ◌≢◌, ◌⊎◌, IfErr, IfSome, OnOk};
 ghost use Rattle.std.specs.Io.KnownBytes.{IsAtEnd};
 ghost use Rattle.rlsf_trace_text.specs.Faults.{out_of_memory};
-ghost use Rattle.rlsf_trace.specs.Replays.{not_read, IsOutputFault, IsReplayFault, IsTrace};
+ghost use Rattle.rlsf_trace_replay.specs.Replays.{not_read, IsOutputFault, IsReplayFault, IsTrace};
 
 use crate::boxes::boxes_of;
 use crate::draw::drawing;
 use crate::legend::legend_of;
 use crate::pools::pools_of;
 use crate::window::{Lines, Window};
-use rlsf_trace::{read_input, write_text};
+use rlsf_trace_replay::{read_input, write_text};
 use rlsf_trace_text::{Fault, ReplayFault, Trace};
 use rlsf_trace_watch::{Watched, watch_trace};
 use std::alloc::{AllocError, Global};
@@ -18,7 +18,7 @@ use std::io::{Read, Write};
 
 /// Reads a trace from the rest of the reader, runs it on a new allocator, and writes a drawing of the calls of some lines.
 ///
-/// The faults are those of `rlsf_trace::replay`, in its order. Nothing is written with any fault but `Write`, and with that one a
+/// The faults are those of `rlsf_trace_replay::replay`, in its order. Nothing is written with any fault but `Write`, and with that one a
 /// beginning of the drawing may be.
 pub(crate) fn map<R: Read, W: Write>(
     alloc: Global,

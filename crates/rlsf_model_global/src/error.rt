@@ -1,77 +1,19 @@
-//! What ends the program early.
+//! Refusals.
 
-use rlsf_base::memory::{LayoutError, MemoryError};
-use std::alloc::{AllocError, AllocFailed};
-use std::error::Error;
-use std::{fmt, io};
-
-/// Why a line wasn't done.
-#[derive(Debug, Drop)]
-pub(crate) enum Failure {
-    /// It is no head of a script and no call, or a call where no script has begun.
-    Line,
-    /// Out of memory.
-    OutOfMemory,
-    /// The input could not be read, or the output not be written.
-    Io(io::Error),
-}
-
-/// A failure, and the number of the line that has it, or 0 if it has none.
-#[derive(Debug, Drop)]
-pub(crate) struct ReplayError {
-    /// The number of the line.
-    pub(crate) line: usize,
-    /// What is wrong.
-    pub(crate) failure: Failure,
-}
-
-impl fmt::Display for Failure {
-    fn fmt<W: fmt::Write>(&self, f: &mut fmt::Formatter<W>) -> fmt::Result {
-        match self {
-            Failure::Line => f.write_str("a bad line"),
-            Failure::OutOfMemory => f.write_str("the system refused memory"),
-            Failure::Io(error) => write!(f, "{error}"),
-        }
-    }
-}
-
-impl fmt::Display for ReplayError {
-    fn fmt<W: fmt::Write>(&self, f: &mut fmt::Formatter<W>) -> fmt::Result {
-        write!(f, "line {}: {}", self.line, self.failure)
-    }
-}
-
-impl Error for ReplayError {}
-
-impl From<LayoutError> for Failure {
-    fn from(_error: LayoutError) -> Failure {
-        Failure::Line
-    }
-}
-
-impl From<MemoryError> for Failure {
-    fn from(error: MemoryError) -> Failure {
-        match error {
-            MemoryError::OutOfMemory => Failure::OutOfMemory,
-            _ => Failure::Line,
-        }
-    }
-}
-
-impl From<AllocError> for Failure {
-    fn from(_refused: AllocError) -> Failure {
-        Failure::OutOfMemory
-    }
-}
-
-impl<T: Drop> From<AllocFailed<T>> for Failure {
-    fn from(_refused: AllocFailed<T>) -> Failure {
-        Failure::OutOfMemory
-    }
-}
-
-impl From<io::Error> for Failure {
-    fn from(error: io::Error) -> Failure {
-        Failure::Io(error)
-    }
+/// The reason why a call of the allocator behind the lock was refused. Each error has a number. If more than one holds, a call returns
+/// `JournalMemory` first, then `UnknownAddress`, `WrongLayout`, `OutOfRange`, `TableMemory` and `NoRoom`.
+#[derive(Clone, Copy, Debug, PartialEq, Eq)]
+pub enum GlobalError {
+    /// There is no room, and no memory came.
+    NoRoom = 1,
+    /// The address isn't live.
+    UnknownAddress = 2,
+    /// The layout isn't the one that was last requested for the address.
+    WrongLayout = 3,
+    /// The system is out of memory for one more entry of the table of live addresses.
+    TableMemory = 4,
+    /// The bytes go past the usable ones.
+    OutOfRange = 5,
+    /// The system is out of memory for the journal, a receipt or the passes.
+    JournalMemory = 6,
 }

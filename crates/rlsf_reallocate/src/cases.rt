@@ -4,9 +4,9 @@ ghost use Rattle.std.specs.Prelude.{◌≡◌, ◌+◌, ◌≤◌, Some, IfNone,
 ghost use Rattle.rlsf_base.specs.SizeClass.{IsValid};
 ghost use Rattle.rlsf_base.specs.Space.{SamePlace};
 ghost use Rattle.rlsf_base.specs.OpenSpace.{IsHere, SameOwn, StaysHere};
-ghost use Rattle.rlsf_machine.specs.NoMove.{unmoved_plan};
-ghost use Rattle.rlsf_machine.specs.Reallocate.{Plan};
-ghost use Rattle.rlsf_machine.specs.State.{State, Used, usable};
+ghost use Rattle.rlsf_model.specs.NoMove.{unmoved_plan};
+ghost use Rattle.rlsf_model.specs.Reallocate.{Plan};
+ghost use Rattle.rlsf_model.specs.State.{State, Used, usable};
 ghost use Rattle.rlsf_blocks.specs.StandsFor.{contents, StandsFor};
 ghost use Rattle.rlsf_reallocate.specs.Steps.Resize.{AtEachPayload, IsHereStill, IsReallocated, IsUsedAt};
 

@@ -4,10 +4,10 @@ ghost use Rattle.std.specs.Prelude.{◌≡◌, ◌+◌, ◌≤◌, ℕ, None, fi
 ghost use Rattle.rlsf_base.specs.SizeClass.{IsValid};
 ghost use Rattle.rlsf_base.specs.Space.{SamePlace};
 ghost use Rattle.rlsf_base.specs.OpenSpace.{IsHere, SameOwn, StaysHere};
-ghost use Rattle.rlsf_machine.specs.Join.{ends_at, start_or};
-ghost use Rattle.rlsf_machine.specs.Lists.{IsIn};
-ghost use Rattle.rlsf_machine.specs.Reallocate.{in_place, into_previous};
-ghost use Rattle.rlsf_machine.specs.State.{State, Used, usable};
+ghost use Rattle.rlsf_model.specs.Join.{ends_at, start_or};
+ghost use Rattle.rlsf_model.specs.Lists.{IsIn};
+ghost use Rattle.rlsf_model.specs.Reallocate.{in_place, into_previous};
+ghost use Rattle.rlsf_model.specs.State.{State, Used, usable};
 ghost use Rattle.rlsf_blocks.specs.StandsFor.{contents, StandsFor};
 ghost use Rattle.rlsf_blocks.specs.Steps.Standing.{AtEachUsed};
 ghost use Rattle.rlsf_table.specs.Counts.{Counts};

@@ -1,6 +1,6 @@
 //! The heap behind the lock.
 ghost use Rattle.std.specs.Prelude.{◌≡◌, ◌+◌, ◌%◌, ◌<◌, ◌≤◌, length, replicate, IfErr, IfOk, IfSome, MatchResult};
-ghost use Rattle.rlsf_machine.specs.Reallocate.{Keeps};
+ghost use Rattle.rlsf_model.specs.Reallocate.{Keeps};
 ghost use Rattle.rlsf_heap.specs.Heap.{IsWritten};
 ghost use Rattle.rlsf_heap.specs.Reallocation.{IsKeptHere};
 

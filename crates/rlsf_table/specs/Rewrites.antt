@@ -4,7 +4,7 @@ use Rattle.rlsf_base.specs.declared.memory.range.Range.{Range}
 use Rattle.rlsf_base.specs.OpenSpace.{IsOwned, SameOwn, StaysHere}
 use Rattle.rlsf_base.specs.Range.{end_of, LiesIn}
 use Rattle.rlsf_base.specs.Space.{Space, bytes_in, out_at, word_at}
-use Rattle.rlsf_machine.specs.Lists.{IsIn}
+use Rattle.rlsf_model.specs.Lists.{IsIn}
 
 -- a range that can be a block: not at the address 0, at a multiple of 32, 32 bytes or more, and inside the memory
 pub record CanBeBlock (m : Space) (f : Range) : Type 0 where

@@ -6,7 +6,7 @@ use Rattle.rlsf_base.specs.declared.memory.range.Range.{Range}
 use Rattle.rlsf_base.specs.SizeClass.{SizeClass, class_of}
 use Rattle.rlsf_base.specs.Space.{Space}
 use Rattle.rlsf_int.specs.Bits.{bit}
-use Rattle.rlsf_machine.specs.Allocate.{has_class}
+use Rattle.rlsf_model.specs.Allocate.{has_class}
 use Rattle.rlsf_table.specs.FreeList.{Links}
 
 -- the table as contracts see it: the first-level bitmap, the second-level bitmap of each row, and the heads of each row's lists

@@ -4,9 +4,9 @@ use Rattle.rlsf_base.specs.declared.memory.range.Range.{Range}
 use Rattle.rlsf_base.specs.PowerOfTwo.{IsPowerOfTwo}
 use Rattle.rlsf_base.specs.Range.{end_of, range_at}
 use Rattle.rlsf_base.proofs.Numbers.PowersOfTwo.{IsPowerOfTwo-positive}
-use Rattle.rlsf_machine.specs.Terms.{IsGiven, IsGrown, with_len}
-use Rattle.rlsf_machine.proofs.Coverage.{IsIn-append_right}
-use Rattle.rlsf_placement.proofs.Apart.{IsClear-grown, LieApart, LieApart-above, LieApart-grown, LieApart-less, LieApart-more}
+use Rattle.rlsf_model.specs.Terms.{IsGiven, IsGrown, with_len}
+use Rattle.rlsf_model.proofs.Coverage.{IsIn-append_right}
+use Rattle.rlsf_model_global.proofs.Apart.{IsClear-grown, LieApart, LieApart-above, LieApart-grown, LieApart-less, LieApart-more}
 use Rattle.rlsf_test_flex.specs.Cursor.{Cursor, IsCursor, MayOwe}
 
 -- a power of two isn't 0

@@ -8,18 +8,18 @@ use Rattle.rlsf_base.specs.declared.memory.range.Range.{Range}
 use Rattle.rlsf_base.specs.Space.{range_of}
 use Rattle.rlsf_base.specs.Sizes.{pool_size_to_contain_allocation}
 use Rattle.rlsf_flex.specs.StandsFor.{FlexContents, FlexSteps}
-use Rattle.rlsf_machine.specs.Allocate.{choice, Places}
-use Rattle.rlsf_machine.specs.Answers.{MayAnswerAll}
-use Rattle.rlsf_machine.specs.FlexAllocate.{FlexAllocates}
-use Rattle.rlsf_machine.specs.FlexState.{FlexState, KeptPool, empty}
-use Rattle.rlsf_machine.specs.Growth.{Extends, Outcome, range_came, growth_came, is_more, notes_of, questions, refused}
-use Rattle.rlsf_machine.specs.Insert.{Inserts}
-use Rattle.rlsf_machine.specs.Lists.{IsIn}
-use Rattle.rlsf_machine.specs.Note.{LeadsBy, Note, alloc}
-use Rattle.rlsf_machine.specs.State.{State}
-use Rattle.rlsf_machine.specs.Terms.{IsGiven, Terms}
-use Rattle.rlsf_machine.specs.WellFormed.{IsWellFormed}
-use Rattle.rlsf_machine.proofs.Notes.{terms-led}
+use Rattle.rlsf_model.specs.Allocate.{choice, Places}
+use Rattle.rlsf_model.specs.Answers.{MayAnswerAll}
+use Rattle.rlsf_model.specs.FlexAllocate.{FlexAllocates}
+use Rattle.rlsf_model.specs.FlexState.{FlexState, KeptPool, empty}
+use Rattle.rlsf_model.specs.Growth.{Extends, Outcome, range_came, growth_came, is_more, notes_of, questions, refused}
+use Rattle.rlsf_model.specs.Insert.{Inserts}
+use Rattle.rlsf_model.specs.Lists.{IsIn}
+use Rattle.rlsf_model.specs.Note.{LeadsBy, Note, alloc}
+use Rattle.rlsf_model.specs.State.{State}
+use Rattle.rlsf_model.specs.Terms.{IsGiven, Terms}
+use Rattle.rlsf_model.specs.WellFormed.{IsWellFormed}
+use Rattle.rlsf_model.proofs.Notes.{terms-led}
 use Rattle.rlsf_test_source.specs.Listed.{Listed, Remembers, question_of}
 use Rattle.rlsf_test_source.specs.declared.listed.Question.{Question}
 use Rattle.rlsf_test_flex.specs.Questions.{IsAskedForTwo, plain}

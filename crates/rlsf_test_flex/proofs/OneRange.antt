@@ -10,17 +10,17 @@ use Rattle.rlsf_base.specs.Rounding.{round32}
 use Rattle.rlsf_base.specs.SizeClass.{class_of, Reaches}
 use Rattle.rlsf_base.proofs.Numbers.Roundings.{round32-same}
 use Rattle.rlsf_base.proofs.SizeClasses.Reach.{Reaches-from_slack}
-use Rattle.rlsf_machine.specs.Allocate.{choice, placed, Places}
-use Rattle.rlsf_machine.specs.Budget.{total_len, used_bytes}
-use Rattle.rlsf_machine.specs.Insert.{adjacent, aligned_part, cut, remainder, with_chunk, with_chunks, Inserts}
-use Rattle.rlsf_machine.specs.Lists.{IsIn}
-use Rattle.rlsf_machine.specs.Payload.{payload_of}
-use Rattle.rlsf_machine.specs.State.{State, Used, empty}
-use Rattle.rlsf_machine.specs.WellFormed.{IsWellFormed}
-use Rattle.rlsf_machine.proofs.Choices.{choice-none, choice-from_none}
-use Rattle.rlsf_machine.proofs.Chunks.{chunks-allocated, used-inserted}
-use Rattle.rlsf_machine.proofs.Payloads.{payload_of-after, payload_of-le}
-use Rattle.rlsf_machine.proofs.Sums.{bytes_add_up}
+use Rattle.rlsf_model.specs.Allocate.{choice, placed, Places}
+use Rattle.rlsf_model.specs.Budget.{total_len, used_bytes}
+use Rattle.rlsf_model.specs.Insert.{adjacent, aligned_part, cut, remainder, with_chunk, with_chunks, Inserts}
+use Rattle.rlsf_model.specs.Lists.{IsIn}
+use Rattle.rlsf_model.specs.Payload.{payload_of}
+use Rattle.rlsf_model.specs.State.{State, Used, empty}
+use Rattle.rlsf_model.specs.WellFormed.{IsWellFormed}
+use Rattle.rlsf_model.proofs.Choices.{choice-none, choice-from_none}
+use Rattle.rlsf_model.proofs.Chunks.{chunks-allocated, used-inserted}
+use Rattle.rlsf_model.proofs.Payloads.{payload_of-after, payload_of-le}
+use Rattle.rlsf_model.proofs.Sums.{bytes_add_up}
 
 -- ---- the chunks of a range
 

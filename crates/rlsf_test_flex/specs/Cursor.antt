@@ -3,10 +3,10 @@ use Rattle.std.specs.Prelude.{◌≡◌, ℕ, ◌^◌, ◌≤◌, ◌<◌, List}
 use Rattle.rlsf_base.specs.declared.memory.range.Range.{Range}
 use Rattle.rlsf_base.specs.PowerOfTwo.{IsPowerOfTwo}
 use Rattle.rlsf_base.specs.Range.{end_of}
-use Rattle.rlsf_machine.specs.Lists.{IsIn}
-use Rattle.rlsf_machine.specs.Note.{Note}
-use Rattle.rlsf_machine.specs.Terms.{Terms}
-use Rattle.rlsf_machine.specs.WellFormed.{coverage, itself}
+use Rattle.rlsf_model.specs.Lists.{IsIn}
+use Rattle.rlsf_model.specs.Note.{Note}
+use Rattle.rlsf_model.specs.Terms.{Terms}
+use Rattle.rlsf_model.specs.WellFormed.{coverage, itself}
 
 -- what the source keeps to, and the address that no outstanding range goes past
 pub record Cursor : Type 0 where

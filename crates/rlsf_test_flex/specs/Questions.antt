@@ -3,7 +3,7 @@ use Rattle.std.specs.Prelude.{◌≡◌, ◌<◌, ◌≤◌, ◌⊎◌, false, L
 use Rattle.rlsf_base.specs.declared.memory.range.Range.{Range}
 use Rattle.rlsf_test_source.specs.declared.listed.Question.{Question}
 use Rattle.rlsf_test_source.specs.declared.listed.Question.TheVariants.{Alloc}
-use Rattle.rlsf_machine.specs.Terms.{Terms}
+use Rattle.rlsf_model.specs.Terms.{Terms}
 
 -- a source of a space that neither grows a range nor takes one back, and whose ranges start at multiples of 32
 abbrev pub plain : Range → Terms

@@ -3,7 +3,7 @@
 use crate::heaps::number;
 use rlsf_base::memory::{Layout, Memory, Range};
 use rlsf_flex::FlexTlsf;
-use rlsf_sources::BumpSource;
+use rlsf_flex_sources::BumpSource;
 
 #[test]
 fn bump_source_provides_and_grows_twice(rt: HostRuntime) {

@@ -2,7 +2,7 @@
 
 ghost use Rattle.std.specs.Prelude.{◌≡◌, ◌<◌, Some, IfSome, IsSome};
 ghost use Rattle.rlsf_base.specs.Addr.{at};
-ghost use Rattle.rlsf_machine.specs.Callers.{align_at};
+ghost use Rattle.rlsf_model.specs.Callers.{align_at};
 
 use crate::cursor::{Habits, Question, Questions};
 use crate::heaps::{Small, bytes, is_right, small};

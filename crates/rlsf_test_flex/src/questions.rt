@@ -3,7 +3,7 @@
 ghost use Rattle.std.specs.Prelude.{◌≡◌, ◌≤◌, []};
 ghost use Rattle.rlsf_base.specs.Addr.{reply};
 ghost use Rattle.rlsf_test_flex.specs.Questions.{IsAskedForTwo, plain};
-ghost use Rattle.rlsf_machine.specs.FlexState.{empty};
+ghost use Rattle.rlsf_model.specs.FlexState.{empty};
 
 use rlsf_base::memory::{Addr, Layout, Memory, Range};
 use rlsf_flex::FlexTlsf;

@@ -1,5 +1,5 @@
 //! What a run over a source answers follows what was there already. What each op answers, each refusal, ranges that grow and trims
-//! are stored runs of `rlsf_model_flex` (`listed_runs.py`).
+//! are stored runs of `rlsf_compare_model_flex` (`listed_runs.py`).
 
 use crate::sources::parts;
 use rlsf_base::memory::{Layout, Range};

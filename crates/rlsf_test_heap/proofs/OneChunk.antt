@@ -4,13 +4,13 @@ use Rattle.rlsf_base.specs.declared.memory.range.Range.{Range}
 use Rattle.rlsf_base.specs.Range.{end_of, range_at}
 use Rattle.rlsf_base.specs.Sizes.{max_pool_size}
 use Rattle.rlsf_base.specs.Space.{Space, range_of}
-use Rattle.rlsf_machine.specs.ChunkRows.{IsRow}
-use Rattle.rlsf_machine.specs.Insert.{Inserts, IsNext, aligned_part, cut, with_chunks}
-use Rattle.rlsf_machine.specs.Lists.{IsIn}
-use Rattle.rlsf_machine.specs.Remove.{IsIdle}
-use Rattle.rlsf_machine.specs.State.{State, empty}
-use Rattle.rlsf_machine.specs.WellFormed.{coverage, itself}
-use Rattle.rlsf_machine.proofs.Coverage.{covers-behind}
+use Rattle.rlsf_model.specs.ChunkRows.{IsRow}
+use Rattle.rlsf_model.specs.Insert.{Inserts, IsNext, aligned_part, cut, with_chunks}
+use Rattle.rlsf_model.specs.Lists.{IsIn}
+use Rattle.rlsf_model.specs.Remove.{IsIdle}
+use Rattle.rlsf_model.specs.State.{State, empty}
+use Rattle.rlsf_model.specs.WellFormed.{coverage, itself}
+use Rattle.rlsf_model.proofs.Coverage.{covers-behind}
 use Rattle.rlsf_heap.specs.Heap.{HeapView, Steps}
 
 abbrev chunk : Range

@@ -4,7 +4,7 @@ ghost use denote.RawPtr.{◌+ₚ◌};
 ghost use Rattle.rlsf_base.specs.Changes.{IsAllOwn, IsOwn};
 ghost use Rattle.rlsf_base.specs.OpenSpace.{place_in};
 ghost use Rattle.rlsf_base.specs.RawParts.{LiesAtBlock};
-ghost use Rattle.rlsf_machine.specs.Sized.{live_count};
+ghost use Rattle.rlsf_model.specs.Sized.{live_count};
 
 use rlsf_base::memory::{Layout, OpenMemory, Range, RawParts};
 use rlsf_heap::{Heap, Payload};

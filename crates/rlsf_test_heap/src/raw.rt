@@ -1,6 +1,6 @@
 //! A payload that passes through numbers, as through a foreign structure.
 ghost use Rattle.std.specs.Prelude.{◌≡◌, ◌<◌, IfSome};
-ghost use Rattle.rlsf_machine.specs.Sized.{live_count};
+ghost use Rattle.rlsf_model.specs.Sized.{live_count};
 
 use rlsf_base::memory::{Layout, OpenMemory, Range, View};
 use rlsf_heap::{Heap, Payload};

@@ -6,13 +6,13 @@ use Rattle.std.specs.List.{AllWithin}
 use Rattle.rlsf_base.specs.declared.memory.range.Range.{Range}
 use Rattle.rlsf_base.specs.PowerOfTwo.{IsPowerOfTwo}
 use Rattle.rlsf_base.specs.Range.{end_of, range_at, LiesIn}
-use Rattle.rlsf_machine.specs.Insert.{IsClear}
-use Rattle.rlsf_machine.specs.Lists.{IsIn}
-use Rattle.rlsf_machine.specs.Terms.{IsGiven, IsGrown, with_len}
-use Rattle.rlsf_machine.specs.WellFormed.{covers, coverage, itself}
-use Rattle.rlsf_machine.proofs.Between.{IsIn-between, coverage-between}
-use Rattle.rlsf_machine.proofs.Coverage.{IsIn-append, IsIn-append_left, IsIn-append_right, inside, before, behind, covers-before, covers-behind, covers-split, coverage-append}
-use Rattle.rlsf_machine.proofs.Coverage.{where_is}
+use Rattle.rlsf_model.specs.Insert.{IsClear}
+use Rattle.rlsf_model.specs.Lists.{IsIn}
+use Rattle.rlsf_model.specs.Terms.{IsGiven, IsGrown, with_len}
+use Rattle.rlsf_model.specs.WellFormed.{covers, coverage, itself}
+use Rattle.rlsf_model.proofs.Between.{IsIn-between, coverage-between}
+use Rattle.rlsf_model.proofs.Coverage.{IsIn-append, IsIn-append_left, IsIn-append_right, inside, before, behind, covers-before, covers-behind, covers-split, coverage-append}
+use Rattle.rlsf_model.proofs.Coverage.{where_is}
 use Rattle.rlsf_test_source.specs.declared.listed.Question.{Question}
 use Rattle.rlsf_test_source.specs.Listed.{HandsOut, Listed, MayOwe}
 

@@ -5,7 +5,7 @@ use Rattle.std.specs.Prelude.{if◌then◌else◌}
 use Rattle.std.proofs.lemmas.Bool.{lt-ltb}
 use Rattle.rlsf_base.specs.declared.memory.range.Range.{Range}
 use Rattle.rlsf_base.specs.PowerOfTwo.{IsPowerOfTwo}
-use Rattle.rlsf_machine.specs.Note.{LeadsBy, Note, alloc, grow}
+use Rattle.rlsf_model.specs.Note.{LeadsBy, Note, alloc, grow}
 use Rattle.rlsf_test_source.specs.Listed.{HandsOut, Listed, Remembers, question_of, remembered}
 use Rattle.rlsf_test_source.proofs.HandedOut.{behind_range}
 

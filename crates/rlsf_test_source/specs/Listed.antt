@@ -5,11 +5,11 @@ use Rattle.rlsf_base.specs.Range.{LiesIn}
 use Rattle.rlsf_test_source.specs.declared.listed.Capabilities.{Capabilities}
 use Rattle.rlsf_test_source.specs.declared.listed.Question.{Question}
 use Rattle.rlsf_test_source.specs.declared.listed.Question.TheVariants.{Alloc, Grow, Dealloc}
-use Rattle.rlsf_machine.specs.Insert.{IsVacant}
-use Rattle.rlsf_machine.specs.Lists.{IsIn}
-use Rattle.rlsf_machine.specs.Note.{Note, alloc, grow, dealloc}
-use Rattle.rlsf_machine.specs.Terms.{Terms}
-use Rattle.rlsf_machine.specs.WellFormed.{coverage, itself}
+use Rattle.rlsf_model.specs.Insert.{IsVacant}
+use Rattle.rlsf_model.specs.Lists.{IsIn}
+use Rattle.rlsf_model.specs.Note.{Note, alloc, grow, dealloc}
+use Rattle.rlsf_model.specs.Terms.{Terms}
+use Rattle.rlsf_model.specs.WellFormed.{coverage, itself}
 
 -- the terms of a source in a space, by what it can do
 abbrev pub terms_in : Range → Capabilities → Terms

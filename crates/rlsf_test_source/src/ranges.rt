@@ -2,7 +2,7 @@
 
 ghost use Rattle.std.specs.Prelude.{◌≡◌, ◌≤◌, ◌⊎◌, ◌∷◌, ◌++◌, [], IsTrue, IsFalse};
 ghost use Rattle.rlsf_base.specs.Range.{end_of, LiesIn};
-ghost use Rattle.rlsf_machine.specs.Insert.{IsClear};
+ghost use Rattle.rlsf_model.specs.Insert.{IsClear};
 
 use rlsf_base::memory::Range;
 

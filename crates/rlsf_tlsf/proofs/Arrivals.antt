@@ -2,14 +2,14 @@
 use Rattle.std.proofs.Common.{◌≡◌, ℕ, ◌≤◌, eqb, cond, length, map, List, [], ◌∷◌, Some, IsSome, refl, sym, ◌∙◌, ap, subst, inl, inr}
 use Rattle.rlsf_base.specs.SizeClass.{IsValid}
 use Rattle.rlsf_base.specs.Space.{Space, range_of}
-use Rattle.rlsf_machine.specs.Lists.{IsIn}
-use Rattle.rlsf_machine.specs.Callers.{align_at, bytes_at}
-use Rattle.rlsf_machine.specs.Release.{released}
-use Rattle.rlsf_machine.specs.Run.{Fills, IsSomeLive}
-use Rattle.rlsf_machine.specs.State.{State, Used, filled_at, usable, with_bytes, Holds, IsLive}
-use Rattle.rlsf_machine.proofs.CallerWords.{align_at-live, align_at-some, bytes_at-held}
-use Rattle.rlsf_machine.specs.WellFormed.{IsWellFormed}
-use Rattle.rlsf_machine.proofs.Coverage.{by_test}
+use Rattle.rlsf_model.specs.Lists.{IsIn}
+use Rattle.rlsf_model.specs.Callers.{align_at, bytes_at}
+use Rattle.rlsf_model.specs.Release.{released}
+use Rattle.rlsf_model.specs.Run.{Fills, IsSomeLive}
+use Rattle.rlsf_model.specs.State.{State, Used, filled_at, usable, with_bytes, Holds, IsLive}
+use Rattle.rlsf_model.proofs.CallerWords.{align_at-live, align_at-some, bytes_at-held}
+use Rattle.rlsf_model.specs.WellFormed.{IsWellFormed}
+use Rattle.rlsf_model.proofs.Coverage.{by_test}
 use Rattle.rlsf_table.specs.Table.{Table}
 use Rattle.rlsf_blocks.specs.Laws.{read_from, with_bytes_of}
 use Rattle.rlsf_blocks.specs.Spare.{KeepsSpare}

@@ -1,8 +1,8 @@
 -- A call that is handed a payload seeks its block by the words before the payload.
 use Rattle.std.proofs.Common.{◌≡◌, ℕ, sym, ◌∙◌, ap, subst}
 use Rattle.rlsf_base.specs.Space.{Space}
-use Rattle.rlsf_machine.specs.State.{State, Used, Holds, IsLive}
-use Rattle.rlsf_machine.proofs.Changes.{Holds-unique}
+use Rattle.rlsf_model.specs.State.{State, Used, Holds, IsLive}
+use Rattle.rlsf_model.proofs.Changes.{Holds-unique}
 use Rattle.rlsf_table.specs.Counts.{Counts}
 use Rattle.rlsf_table.specs.Table.{Table}
 use Rattle.rlsf_blocks.specs.StandsFor.{Contents, contents, StandsFor}

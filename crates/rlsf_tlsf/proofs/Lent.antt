@@ -5,12 +5,12 @@ use Rattle.rlsf_base.specs.Lends.{lent_space}
 use Rattle.rlsf_base.specs.Range.{LiesIn}
 use Rattle.rlsf_base.specs.Space.{Space, bytes_in}
 use Rattle.rlsf_base.proofs.Lending.Lent.{bytes_in-lent, bytes_in-lent_space, length-lent_space}
-use Rattle.rlsf_machine.specs.Callers.{align_at, bytes_at}
-use Rattle.rlsf_machine.specs.Run.{Fills}
-use Rattle.rlsf_machine.specs.State.{State, Used, usable, Holds}
-use Rattle.rlsf_machine.specs.Sized.{IsSizedFor, live_count}
-use Rattle.rlsf_machine.proofs.CallerWords.{filled_seen}
-use Rattle.rlsf_machine.proofs.SizedWords.{count_filled, sized_filled}
+use Rattle.rlsf_model.specs.Callers.{align_at, bytes_at}
+use Rattle.rlsf_model.specs.Run.{Fills}
+use Rattle.rlsf_model.specs.State.{State, Used, usable, Holds}
+use Rattle.rlsf_model.specs.Sized.{IsSizedFor, live_count}
+use Rattle.rlsf_model.proofs.CallerWords.{filled_seen}
+use Rattle.rlsf_model.proofs.SizedWords.{count_filled, sized_filled}
 use Rattle.rlsf_table.specs.Table.{Table}
 use Rattle.rlsf_blocks.specs.Laws.{read_from}
 use Rattle.rlsf_blocks.specs.Spare.{KeepsSpare}

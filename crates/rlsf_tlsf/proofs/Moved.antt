@@ -3,17 +3,17 @@ use Rattle.std.proofs.Common.{◌≡◌, ℕ, zero, suc, eqb, not, cond, map, fi
 use Rattle.std.proofs.lemmas.Bool.{eq-eqb, eqb-true}
 use Rattle.rlsf_base.specs.declared.memory.range.Range.{Range}
 use Rattle.rlsf_base.specs.Sizes.{max_pool_size}
-use Rattle.rlsf_machine.specs.Allocate.{Places}
-use Rattle.rlsf_machine.specs.Insert.{Appends, Inserts, aligned_part, appended, cut, extended, grown_if, with_chunk, with_chunks}
-use Rattle.rlsf_machine.specs.Join.{ends_at}
-use Rattle.rlsf_machine.specs.Lists.{IsIn}
-use Rattle.rlsf_machine.specs.Reallocate.{Plan, Reallocates, ReallocatesBy, plan}
-use Rattle.rlsf_machine.specs.Release.{Deallocates, released}
-use Rattle.rlsf_machine.specs.State.{State, Used, Holds, others}
-use Rattle.rlsf_machine.specs.WellFormed.{IsWellFormed}
-use Rattle.rlsf_machine.proofs.Allocations.{Allocates-keeps}
-use Rattle.rlsf_machine.proofs.Changes.{Holds-unique}
-use Rattle.rlsf_machine.proofs.Coverage.{by_test, find-some, find-none}
+use Rattle.rlsf_model.specs.Allocate.{Places}
+use Rattle.rlsf_model.specs.Insert.{Appends, Inserts, aligned_part, appended, cut, extended, grown_if, with_chunk, with_chunks}
+use Rattle.rlsf_model.specs.Join.{ends_at}
+use Rattle.rlsf_model.specs.Lists.{IsIn}
+use Rattle.rlsf_model.specs.Reallocate.{Plan, Reallocates, ReallocatesBy, plan}
+use Rattle.rlsf_model.specs.Release.{Deallocates, released}
+use Rattle.rlsf_model.specs.State.{State, Used, Holds, others}
+use Rattle.rlsf_model.specs.WellFormed.{IsWellFormed}
+use Rattle.rlsf_model.proofs.Allocations.{Allocates-keeps}
+use Rattle.rlsf_model.proofs.Changes.{Holds-unique}
+use Rattle.rlsf_model.proofs.Coverage.{by_test, find-some, find-none}
 use Rattle.rlsf_tlsf.specs.Steps.Moves.{allocated, appended_to, bare, bare_used, deallocated, given_if, inserted, moved_by, moved_if, reallocated, released_if, used_at}
 
 -- ---- a state without bytes

@@ -19,8 +19,8 @@ use Rattle.rlsf_base.proofs.Changes.{none-out}
 use Rattle.rlsf_base.proofs.Lending.Lent.{bytes_in-lent_space, length-lent_space}
 use Rattle.rlsf_base.proofs.Lending.Replaced.{byte_at-same}
 use Rattle.rlsf_base.proofs.RawBlock.Rows.{Row, Around, held-in, run_out, run_in}
-use Rattle.rlsf_machine.specs.Lists.{IsIn as IsInList}
-use Rattle.rlsf_machine.specs.State.{Used, usable}
+use Rattle.rlsf_model.specs.Lists.{IsIn as IsInList}
+use Rattle.rlsf_model.specs.State.{Used, usable}
 use Rattle.rlsf_blocks.specs.Laws.{DiffersInPayloads}
 use Rattle.rlsf_blocks.specs.StandsFor.{contents, StandsFor}
 use Rattle.rlsf_blocks.proofs.Payloads.UnknownAlignment.{IsPayloadOf-holds, LiesIn-usable}

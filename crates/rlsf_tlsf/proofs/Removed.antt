@@ -3,14 +3,14 @@ use Rattle.std.proofs.Common.{◌≡◌, ℕ, ◌+◌, ◌<◌, ◌≤◌, arith
 use Rattle.std.proofs.lemmas.Bool.{cases_lt}
 use Rattle.rlsf_base.specs.declared.memory.range.Range.{Range}
 use Rattle.rlsf_base.specs.Range.{end_of}
-use Rattle.rlsf_machine.specs.ChunkRows.{IsRow}
-use Rattle.rlsf_machine.specs.Insert.{IsUntouched}
-use Rattle.rlsf_machine.specs.Lists.{IsIn}
-use Rattle.rlsf_machine.specs.Remove.{IsIdle, IsRemovable, IsWithinOrOff, Removes}
-use Rattle.rlsf_machine.specs.State.{State}
-use Rattle.rlsf_machine.specs.WellFormed.{covers, coverage, itself, IsWellFormed}
-use Rattle.rlsf_machine.proofs.Coverage.{covers-inside, covers-le, coverage-some, coverage-unique, covers-some, coverage-IsIn}
-use Rattle.rlsf_machine.proofs.Removals.{removal_leaves_others}
+use Rattle.rlsf_model.specs.ChunkRows.{IsRow}
+use Rattle.rlsf_model.specs.Insert.{IsUntouched}
+use Rattle.rlsf_model.specs.Lists.{IsIn}
+use Rattle.rlsf_model.specs.Remove.{IsIdle, IsRemovable, IsWithinOrOff, Removes}
+use Rattle.rlsf_model.specs.State.{State}
+use Rattle.rlsf_model.specs.WellFormed.{covers, coverage, itself, IsWellFormed}
+use Rattle.rlsf_model.proofs.Coverage.{covers-inside, covers-le, coverage-some, coverage-unique, covers-some, coverage-IsIn}
+use Rattle.rlsf_model.proofs.Removals.{removal_leaves_others}
 
 module _ {fllen sllen : ℕ} {memory : Range} {s : State} (w : IsWellFormed fllen sllen memory s) (r : Range) (row : IsRow s r) (idle : IsIdle s r) where
   -- a chunk lies in the row, or has no address there

@@ -5,18 +5,18 @@ use Rattle.std.proofs.lemmas.List.{length-append, take_all, take_at}
 use Rattle.rlsf_base.specs.Range.{end_of}
 use Rattle.rlsf_base.specs.Space.{Space, SamePlace}
 use Rattle.rlsf_base.proofs.Numbers.Roundings.{next_multiple_of-le}
-use Rattle.rlsf_machine.specs.Allocate.{Allocates}
-use Rattle.rlsf_machine.specs.Callers.{align_at, bytes_at, copied_over}
-use Rattle.rlsf_machine.specs.Lists.{IsIn}
-use Rattle.rlsf_machine.specs.NoMove.{ReallocatesUnmovedBy, ReallocatesWithoutMove, unmoved_plan}
-use Rattle.rlsf_machine.specs.Reallocate.{HasRoomToStay, Keeps, Plan, Reallocates, resized}
-use Rattle.rlsf_machine.specs.Release.{Deallocates}
-use Rattle.rlsf_machine.specs.Run.{allocate, deallocate, fill, Fills}
-use Rattle.rlsf_machine.specs.State.{State, Used, with_front}
-use Rattle.rlsf_machine.proofs.CallerWords.{SeesResized, align_at-held, bytes_at-held, resized_seen}
-use Rattle.rlsf_machine.proofs.Changes.{Holds-unique}
-use Rattle.rlsf_machine.proofs.NoMove.{unmoved_is_reallocated}
-use Rattle.rlsf_machine.proofs.Payloads.{usable-short}
+use Rattle.rlsf_model.specs.Allocate.{Allocates}
+use Rattle.rlsf_model.specs.Callers.{align_at, bytes_at, copied_over}
+use Rattle.rlsf_model.specs.Lists.{IsIn}
+use Rattle.rlsf_model.specs.NoMove.{ReallocatesUnmovedBy, ReallocatesWithoutMove, unmoved_plan}
+use Rattle.rlsf_model.specs.Reallocate.{HasRoomToStay, Keeps, Plan, Reallocates, resized}
+use Rattle.rlsf_model.specs.Release.{Deallocates}
+use Rattle.rlsf_model.specs.Run.{allocate, deallocate, fill, Fills}
+use Rattle.rlsf_model.specs.State.{State, Used, with_front}
+use Rattle.rlsf_model.proofs.CallerWords.{SeesResized, align_at-held, bytes_at-held, resized_seen}
+use Rattle.rlsf_model.proofs.Changes.{Holds-unique}
+use Rattle.rlsf_model.proofs.NoMove.{unmoved_is_reallocated}
+use Rattle.rlsf_model.proofs.Payloads.{usable-short}
 use Rattle.rlsf_blocks.specs.Spare.{KeepsSpare}
 use Rattle.rlsf_blocks.specs.StandsFor.{contents, StandsFor}
 use Rattle.rlsf_blocks.proofs.Machine.SpareBytes.{KeepsSpare-trans}

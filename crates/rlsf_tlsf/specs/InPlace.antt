@@ -9,7 +9,7 @@ use denote.RawPtr.{Ptr, block_ptr, null_ptr}
 use Rattle.rlsf_base.specs.Lends.{refilled}
 use Rattle.rlsf_base.specs.Space.{Space, bytes_in}
 use Rattle.rlsf_base.specs.OpenSpace.{place_in}
-use Rattle.rlsf_machine.specs.State.{Used, usable}
+use Rattle.rlsf_model.specs.State.{Used, usable}
 use Rattle.rlsf_blocks.specs.Laws.{DiffersInPayloads}
 use Rattle.rlsf_tlsf.specs.Allocator.{Allocator, allocator}
 

@@ -1,12 +1,12 @@
 -- A reallocation by a caller that does not know the alignment of the payload.
 use Rattle.std.specs.Prelude.{ℕ, length, Option, None, Some}
-use Rattle.rlsf_machine.specs.Allocate.{Allocates}
-use Rattle.rlsf_machine.specs.Callers.{copied_over}
-use Rattle.rlsf_machine.specs.NoMove.{unmoved_plan}
-use Rattle.rlsf_machine.specs.Reallocate.{Plan, ReallocatesBy}
-use Rattle.rlsf_machine.specs.Release.{Deallocates}
-use Rattle.rlsf_machine.specs.Run.{Fills}
-use Rattle.rlsf_machine.specs.State.{State, Used, Holds}
+use Rattle.rlsf_model.specs.Allocate.{Allocates}
+use Rattle.rlsf_model.specs.Callers.{copied_over}
+use Rattle.rlsf_model.specs.NoMove.{unmoved_plan}
+use Rattle.rlsf_model.specs.Reallocate.{Plan, ReallocatesBy}
+use Rattle.rlsf_model.specs.Release.{Deallocates}
+use Rattle.rlsf_model.specs.Run.{Fills}
+use Rattle.rlsf_model.specs.State.{State, Used, Holds}
 
 -- the payload at an address moves to another: a payload of the alignment is allocated there, the bytes are copied, and the old one is deallocated
 pub record MovesTo (sllen : ℕ) (s : State) (addr len size align to : ℕ) (t : State) : Type 0 where

@@ -3,7 +3,7 @@
 ghost use Rattle.std.specs.Prelude.{◌≡◌, ◌<◌, ℕ};
 ghost use Rattle.std.specs.List.{list_any};
 ghost use Rattle.rlsf_int.specs.Bits.{bit};
-ghost use Rattle.rlsf_machine.specs.Allocate.{has_class};
+ghost use Rattle.rlsf_model.specs.Allocate.{has_class};
 ghost use Rattle.rlsf_table.specs.Table.{class_at, is_in_row};
 
 use crate::tlsf::Tlsf;

@@ -5,8 +5,8 @@
 //! to the class table, and `src/state` holds the ghost state. `specs/Steps` is for private functions.
 #![tactic(auto)]
 
-ghost use Rattle.rlsf_machine.specs.Laws.{SourceLaws, StepLaws};
-ghost use Rattle.rlsf_machine.specs.Sizing.{SizingLaws};
+ghost use Rattle.rlsf_model.specs.Laws.{SourceLaws, StepLaws};
+ghost use Rattle.rlsf_model.specs.Sizing.{SizingLaws};
 ghost use Rattle.rlsf_blocks.specs.Laws.{WordsGiveBlock, WordsReadNoPayload};
 
 mod bitmaps;
@@ -19,7 +19,7 @@ pub use tlsf::Tlsf;
 
 /// Does nothing. Its contract states the laws of the states that an allocator represents, so that a check proves them.
 ///
-/// `steps`, `sources` and `sizing` are the laws of the reference model. The documentation of `rlsf_machine::laws`
+/// `steps`, `sources` and `sizing` are the laws of the reference model. The documentation of `rlsf_model::laws`
 /// describes them.
 ///
 /// `words`: the in-band layout and the class table depend on no usable byte of a live payload. A memory that differs only
@@ -34,5 +34,5 @@ pub fn laws()
     ensures words { WordsReadNoPayload }
     ensures by_words { WordsGiveBlock }
 {
-    rlsf_machine::laws();
+    rlsf_model::laws();
 }

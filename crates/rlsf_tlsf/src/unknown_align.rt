@@ -3,9 +3,9 @@
 ghost use Rattle.std.specs.Prelude.{◌≡◌, ◌≢◌, ◌≤◌, ◌<◌, ◌+◌, ℕ, None, Some, length, IfNone, IfSome, IsSome};
 ghost use Rattle.rlsf_base.specs.Addr.{at, reply};
 ghost use Rattle.rlsf_base.specs.Space.{SamePlace};
-ghost use Rattle.rlsf_machine.specs.Callers.{align_at, bytes_at};
-ghost use Rattle.rlsf_machine.specs.Reallocate.{HasRoomToStay, Keeps};
-ghost use Rattle.rlsf_machine.specs.Sized.{IsSizedFor, live_count};
+ghost use Rattle.rlsf_model.specs.Callers.{align_at, bytes_at};
+ghost use Rattle.rlsf_model.specs.Reallocate.{HasRoomToStay, Keeps};
+ghost use Rattle.rlsf_model.specs.Sized.{IsSizedFor, live_count};
 
 use crate::tlsf::Tlsf;
 use rlsf_base::memory::{Addr, Layout};

@@ -14,16 +14,16 @@ use Rattle.rlsf_flex.proofs.Outside.{KeepsOutside-refl, KeepsOutside-spare}
 use Rattle.rlsf_trace_flex_runs.specs.FlexRuns.{DoesFlex, with_run, without_source}
 use Rattle.rlsf_trace_flex_runs.specs.Steps.Names.{IsFlexAt, LeadsOn, MakesFlex, named_in, no_call, run_of}
 use Rattle.rlsf_trace_flex_runs.proofs.FlexEvents.{made-deallocate, made-fill, made-unmoved}
-use Rattle.rlsf_machine.specs.Callers.{align_at, bytes_at}
-use Rattle.rlsf_machine.specs.FlexState.{with_machine}
-use Rattle.rlsf_machine.specs.FlexWellFormed.{AreHoused}
-use Rattle.rlsf_machine.specs.NoMove.{ReallocatesWithoutMove}
-use Rattle.rlsf_machine.specs.Note.{Note, LeadsBy}
-use Rattle.rlsf_machine.specs.Release.{Deallocates}
-use Rattle.rlsf_machine.specs.Run.{deallocate, fill, Fills}
-use Rattle.rlsf_machine.specs.State.{State, Used, Holds, IsLive, usable}
-use Rattle.rlsf_machine.specs.Terms.{Terms}
-use Rattle.rlsf_machine.proofs.CallerWords.{align_at-held, align_at-live, bytes_at-held}
+use Rattle.rlsf_model.specs.Callers.{align_at, bytes_at}
+use Rattle.rlsf_model.specs.FlexState.{with_machine}
+use Rattle.rlsf_model.specs.FlexWellFormed.{AreHoused}
+use Rattle.rlsf_model.specs.NoMove.{ReallocatesWithoutMove}
+use Rattle.rlsf_model.specs.Note.{Note, LeadsBy}
+use Rattle.rlsf_model.specs.Release.{Deallocates}
+use Rattle.rlsf_model.specs.Run.{deallocate, fill, Fills}
+use Rattle.rlsf_model.specs.State.{State, Used, Holds, IsLive, usable}
+use Rattle.rlsf_model.specs.Terms.{Terms}
+use Rattle.rlsf_model.proofs.CallerWords.{align_at-held, align_at-live, bytes_at-held}
 use Rattle.rlsf_trace_runs.specs.declared.names.Payload.{Payload}
 use Rattle.rlsf_trace_runs.specs.Events.{IsDoneBy}
 use Rattle.rlsf_trace_runs.specs.Names.{address, AreNamed, NameTable}

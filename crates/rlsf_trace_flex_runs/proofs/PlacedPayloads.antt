@@ -10,21 +10,21 @@ use Rattle.rlsf_base.specs.Layout.{IsLayout}
 use Rattle.rlsf_base.specs.Space.{range_of}
 use Rattle.rlsf_flex.specs.StandsFor.{FlexContents, FlexSteps}
 use Rattle.rlsf_trace_flex_runs.specs.Steps.Names.{IsFlexAt, LeadsOn, named_in, one_call}
-use Rattle.rlsf_machine.specs.Allocate.{Allocates}
-use Rattle.rlsf_machine.specs.FlexAllocate.{Asks, FlexAllocates}
-use Rattle.rlsf_machine.specs.FlexReallocate.{FlexReallocates}
-use Rattle.rlsf_machine.specs.FlexState.{FlexState}
-use Rattle.rlsf_machine.specs.Growth.{Outcome}
-use Rattle.rlsf_machine.specs.Note.{Note}
-use Rattle.rlsf_machine.specs.Reallocate.{MovesAway, Reallocates}
-use Rattle.rlsf_machine.specs.Run.{allocate, reallocate, trim}
-use Rattle.rlsf_machine.specs.State.{IsLive}
-use Rattle.rlsf_machine.specs.Terms.{Terms}
-use Rattle.rlsf_machine.specs.Trim.{Trims}
-use Rattle.rlsf_machine.specs.WellFormed.{IsWellFormed}
-use Rattle.rlsf_machine.proofs.Changes.{Holds-unique}
-use Rattle.rlsf_machine.proofs.Growths.{Holds-same, used-taken}
-use Rattle.rlsf_machine.proofs.Trims.{used-trimmed}
+use Rattle.rlsf_model.specs.Allocate.{Allocates}
+use Rattle.rlsf_model.specs.FlexAllocate.{Asks, FlexAllocates}
+use Rattle.rlsf_model.specs.FlexReallocate.{FlexReallocates}
+use Rattle.rlsf_model.specs.FlexState.{FlexState}
+use Rattle.rlsf_model.specs.Growth.{Outcome}
+use Rattle.rlsf_model.specs.Note.{Note}
+use Rattle.rlsf_model.specs.Reallocate.{MovesAway, Reallocates}
+use Rattle.rlsf_model.specs.Run.{allocate, reallocate, trim}
+use Rattle.rlsf_model.specs.State.{IsLive}
+use Rattle.rlsf_model.specs.Terms.{Terms}
+use Rattle.rlsf_model.specs.Trim.{Trims}
+use Rattle.rlsf_model.specs.WellFormed.{IsWellFormed}
+use Rattle.rlsf_model.proofs.Changes.{Holds-unique}
+use Rattle.rlsf_model.proofs.Growths.{Holds-same, used-taken}
+use Rattle.rlsf_model.proofs.Trims.{used-trimmed}
 use Rattle.rlsf_trace_runs.specs.declared.names.Payload.{Payload}
 use Rattle.rlsf_trace_runs.specs.Names.{address, AreNamed, NameTable}
 use Rattle.rlsf_trace_runs.specs.Runs.{with_name}

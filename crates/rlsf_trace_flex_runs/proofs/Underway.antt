@@ -14,10 +14,10 @@ use Rattle.rlsf_flex.proofs.Outside.{KeepsOutside-refl, KeepsOutside-then}
 use Rattle.rlsf_trace_flex_runs.specs.FlexEvents.{RunsFlexByEvents}
 use Rattle.rlsf_trace_flex_runs.specs.FlexRuns.{beginning, DoesFlex, FlexRunState, RunsFlex}
 use Rattle.rlsf_trace_flex_runs.specs.Steps.Names.{IsFlexAt, LeadsOn, MakesFlex, run_of}
-use Rattle.rlsf_machine.specs.FlexState.{empty, FlexState}
-use Rattle.rlsf_machine.specs.Note.{Note, LeadsBy}
-use Rattle.rlsf_machine.specs.Terms.{Terms}
-use Rattle.rlsf_machine.proofs.Notes.{LeadsBy-append, terms-led}
+use Rattle.rlsf_model.specs.FlexState.{empty, FlexState}
+use Rattle.rlsf_model.specs.Note.{Note, LeadsBy}
+use Rattle.rlsf_model.specs.Terms.{Terms}
+use Rattle.rlsf_model.proofs.Notes.{LeadsBy-append, terms-led}
 use Rattle.rlsf_trace_runs.specs.Names.{AreNamed, NameTable}
 use Rattle.rlsf_trace_runs.proofs.Named.{AreNamed-empty}
 use Rattle.rlsf_trace_text.specs.declared.op.Answer.{Answer}

@@ -1,10 +1,10 @@
 -- The calls that the ops of a run make of the reference model over a source.
 use Rattle.std.specs.Prelude.{◌≡◌, ℕ, List}
 use Rattle.rlsf_base.specs.declared.memory.range.Range.{Range}
-use Rattle.rlsf_machine.specs.FlexRun.{FlexEvent, IsFlexRun, events_in, notes_in}
-use Rattle.rlsf_machine.specs.FlexState.{FlexState}
-use Rattle.rlsf_machine.specs.Note.{Note}
-use Rattle.rlsf_machine.specs.Terms.{Terms}
+use Rattle.rlsf_model.specs.FlexRun.{FlexEvent, IsFlexRun, events_in, notes_in}
+use Rattle.rlsf_model.specs.FlexState.{FlexState}
+use Rattle.rlsf_model.specs.Note.{Note}
+use Rattle.rlsf_model.specs.Terms.{Terms}
 use Rattle.rlsf_trace_runs.specs.Events.{AreDoneBy}
 use Rattle.rlsf_trace_text.specs.declared.op.Answer.{Answer}
 use Rattle.rlsf_trace_text.specs.declared.op.Op.{Op}

@@ -2,13 +2,13 @@
 use Rattle.std.specs.Prelude.{◌≡◌, ℕ, ◌++◌, Bool, true, false, List, [], ◌∷◌, Option, None}
 use Rattle.rlsf_base.specs.Addr.{reply}
 use Rattle.rlsf_base.specs.Layout.{IsLayout}
-use Rattle.rlsf_machine.specs.FlexAllocate.{FlexAllocates}
-use Rattle.rlsf_machine.specs.FlexReallocate.{FlexReallocates}
-use Rattle.rlsf_machine.specs.FlexState.{FlexState, empty, with_machine}
-use Rattle.rlsf_machine.specs.Note.{Note}
-use Rattle.rlsf_machine.specs.State.{Used}
-use Rattle.rlsf_machine.specs.Terms.{Terms}
-use Rattle.rlsf_machine.specs.Trim.{Trims}
+use Rattle.rlsf_model.specs.FlexAllocate.{FlexAllocates}
+use Rattle.rlsf_model.specs.FlexReallocate.{FlexReallocates}
+use Rattle.rlsf_model.specs.FlexState.{FlexState, empty, with_machine}
+use Rattle.rlsf_model.specs.Note.{Note}
+use Rattle.rlsf_model.specs.State.{Used}
+use Rattle.rlsf_model.specs.Terms.{Terms}
+use Rattle.rlsf_model.specs.Trim.{Trims}
 use Rattle.rlsf_trace_runs.specs.Runs.{Does, Owns, RunState, with_name}
 use Rattle.rlsf_trace_text.specs.declared.op.Op.{Op}
 use Rattle.rlsf_trace_text.specs.declared.op.Op.TheVariants.{Insert, Append, Alloc, Realloc, Block as OpBlock, Trim}

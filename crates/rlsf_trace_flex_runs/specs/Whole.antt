@@ -5,9 +5,9 @@ use Rattle.rlsf_flex.specs.Outside.{KeepsOutside}
 use Rattle.rlsf_flex.specs.StandsFor.{FlexContents}
 use Rattle.rlsf_trace_flex_runs.specs.FlexEvents.{RunsFlexByEvents}
 use Rattle.rlsf_trace_flex_runs.specs.FlexRuns.{FlexRunState, RunsFlex, beginning}
-use Rattle.rlsf_machine.specs.FlexState.{empty}
-use Rattle.rlsf_machine.specs.Note.{Note, LeadsBy}
-use Rattle.rlsf_machine.specs.Terms.{Terms}
+use Rattle.rlsf_model.specs.FlexState.{empty}
+use Rattle.rlsf_model.specs.Note.{Note, LeadsBy}
+use Rattle.rlsf_model.specs.Terms.{Terms}
 use Rattle.rlsf_trace_text.specs.declared.op.Op.{Op}
 use Rattle.rlsf_trace_text.specs.declared.op.Answer.{Answer}
 

@@ -5,7 +5,7 @@ ghost use Rattle.std.specs.HashMap.{spare};
 ghost use Rattle.rlsf_base.specs.Space.{range_of, SamePlace};
 ghost use Rattle.rlsf_trace_flex_runs.specs.Steps.Names.{IsFlexAt, LeadsOn};
 ghost use Rattle.rlsf_trace_flex_runs.specs.Whole.{RunsFlexTo};
-ghost use Rattle.rlsf_machine.specs.FlexState.{empty};
+ghost use Rattle.rlsf_model.specs.FlexState.{empty};
 ghost use Rattle.rlsf_trace_text.specs.declared.op.Answer.{Answer};
 
 use crate::payloads::{alloc, fill, free, get, put, realloc, realloc_no_move, usable};

@@ -5,14 +5,14 @@ use Rattle.rlsf_base.specs.Range.{end_of, range_at}
 use Rattle.rlsf_base.specs.Rounding.{round32}
 use Rattle.rlsf_base.proofs.Numbers.Roundings.{round32-same}
 use Rattle.rlsf_base.specs.Sizes.{max_pool_size}
-use Rattle.rlsf_machine.specs.Insert.{aligned_part, appended, appended_bytes, Appends, cut, end_of_last, extended, IsNext, with_chunks}
-use Rattle.rlsf_machine.specs.Lists.{IsIn}
-use Rattle.rlsf_machine.specs.State.{State}
-use Rattle.rlsf_machine.specs.WellFormed.{covers, coverage, itself, IsWellFormed}
-use Rattle.rlsf_machine.proofs.AppendedRanges.{coverage-extended}
-use Rattle.rlsf_machine.proofs.Cuts.{coverage-cut, coverage-cut_last}
-use Rattle.rlsf_machine.proofs.Insertions.{IsWhole-aligned_part}
-use Rattle.rlsf_machine.proofs.Untouched.{coverage-with_chunks}
+use Rattle.rlsf_model.specs.Insert.{aligned_part, appended, appended_bytes, Appends, cut, end_of_last, extended, IsNext, with_chunks}
+use Rattle.rlsf_model.specs.Lists.{IsIn}
+use Rattle.rlsf_model.specs.State.{State}
+use Rattle.rlsf_model.specs.WellFormed.{covers, coverage, itself, IsWellFormed}
+use Rattle.rlsf_model.proofs.AppendedRanges.{coverage-extended}
+use Rattle.rlsf_model.proofs.Cuts.{coverage-cut, coverage-cut_last}
+use Rattle.rlsf_model.proofs.Insertions.{IsWhole-aligned_part}
+use Rattle.rlsf_model.proofs.Untouched.{coverage-with_chunks}
 use Rattle.rlsf_trace_runs.proofs.NewPools.{bounds_of_chunks, IsIn-with_chunks}
 
 -- the chunks once so many bytes of a range are theirs, behind a chunk that ended where it begins

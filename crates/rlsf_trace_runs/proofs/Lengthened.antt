@@ -7,10 +7,10 @@ use Rattle.std.proofs.lemmas.List.{ext_get_or, get_or-map, get_or-set_same, get_
 use Rattle.std.specs.List.Sorted.{IsPartitionPoint}
 use Rattle.rlsf_base.specs.declared.memory.range.Range.{Range}
 use Rattle.rlsf_base.specs.Range.{end_of, range_at}
-use Rattle.rlsf_machine.specs.Insert.{IsClear}
-use Rattle.rlsf_machine.specs.Lists.{IsIn}
-use Rattle.rlsf_machine.specs.WellFormed.{covers, coverage, itself}
-use Rattle.rlsf_machine.proofs.Coverage.{covers-inside, covers-split, coverage-IsIn}
+use Rattle.rlsf_model.specs.Insert.{IsClear}
+use Rattle.rlsf_model.specs.Lists.{IsIn}
+use Rattle.rlsf_model.specs.WellFormed.{covers, coverage, itself}
+use Rattle.rlsf_model.proofs.Coverage.{covers-inside, covers-split, coverage-IsIn}
 use Rattle.rlsf_trace_runs.specs.Runs.{longer_pool, longer_pool_at}
 use Rattle.rlsf_trace_runs.specs.Steps.Tables.{EndsAt, IsInOrder}
 use Rattle.rlsf_trace_runs.proofs.SamePools.{IsIn-each}

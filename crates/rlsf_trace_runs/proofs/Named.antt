@@ -7,16 +7,16 @@ use Rattle.std.specs.HashMap.{get}
 use Rattle.std.specs.Map.{lookup}
 use Rattle.std.specs.Option.{option_map}
 use Rattle.rlsf_base.specs.declared.memory.range.Range.{Range}
-use Rattle.rlsf_machine.specs.Allocate.{Allocates, placed}
-use Rattle.rlsf_machine.specs.Lists.{IsIn}
-use Rattle.rlsf_machine.specs.Reallocate.{MovesAway, Reallocates}
-use Rattle.rlsf_machine.specs.Release.{Deallocates}
-use Rattle.rlsf_machine.specs.Run.{allocate, deallocate, fill, Fills, reallocate}
-use Rattle.rlsf_machine.specs.State.{State, Used, Holds, IsLive, others}
-use Rattle.rlsf_machine.specs.WellFormed.{IsWellFormed}
-use Rattle.rlsf_machine.proofs.Changes.{IsIn-others_from}
-use Rattle.rlsf_machine.proofs.FlexCallers.{first_alone}
-use Rattle.rlsf_machine.proofs.Live.{filled_has_bytes, live_stays, reallocated_is_live}
+use Rattle.rlsf_model.specs.Allocate.{Allocates, placed}
+use Rattle.rlsf_model.specs.Lists.{IsIn}
+use Rattle.rlsf_model.specs.Reallocate.{MovesAway, Reallocates}
+use Rattle.rlsf_model.specs.Release.{Deallocates}
+use Rattle.rlsf_model.specs.Run.{allocate, deallocate, fill, Fills, reallocate}
+use Rattle.rlsf_model.specs.State.{State, Used, Holds, IsLive, others}
+use Rattle.rlsf_model.specs.WellFormed.{IsWellFormed}
+use Rattle.rlsf_model.proofs.Changes.{IsIn-others_from}
+use Rattle.rlsf_model.proofs.FlexCallers.{first_alone}
+use Rattle.rlsf_model.proofs.Live.{filled_has_bytes, live_stays, reallocated_is_live}
 use Rattle.rlsf_trace_runs.specs.declared.names.Payload.{Payload}
 use Rattle.rlsf_trace_runs.specs.Names.{address, AreNamed, NameTable}
 use Rattle.rlsf_trace_runs.specs.Runs.{with_name, without_name}

@@ -7,17 +7,17 @@ use Rattle.std.specs.Option.{is_some, option_map}
 use Rattle.rlsf_base.specs.declared.memory.range.Range.{Range}
 use Rattle.rlsf_base.specs.Range.{LiesIn}
 use Rattle.rlsf_base.specs.Space.{range_of, SamePlace}
-use Rattle.rlsf_machine.specs.Allocate.{Allocates}
-use Rattle.rlsf_machine.specs.Lists.{IsIn}
-use Rattle.rlsf_machine.specs.Reallocate.{Plan, plan, Reallocates, ReallocatesBy}
-use Rattle.rlsf_machine.specs.Release.{Deallocates}
-use Rattle.rlsf_machine.specs.State.{State, Used, Holds, IsLive, usable}
-use Rattle.rlsf_machine.specs.WellFormed.{coverage, itself}
-use Rattle.rlsf_machine.specs.Callers.{align_at}
-use Rattle.rlsf_machine.proofs.CallerWords.{align_at-live}
-use Rattle.rlsf_machine.proofs.ChunkRows.{IsRow-same}
-use Rattle.rlsf_machine.proofs.Live.{deallocation_leaves_others, fill_leaves_others}
-use Rattle.rlsf_machine.specs.Run.{Fills}
+use Rattle.rlsf_model.specs.Allocate.{Allocates}
+use Rattle.rlsf_model.specs.Lists.{IsIn}
+use Rattle.rlsf_model.specs.Reallocate.{Plan, plan, Reallocates, ReallocatesBy}
+use Rattle.rlsf_model.specs.Release.{Deallocates}
+use Rattle.rlsf_model.specs.State.{State, Used, Holds, IsLive, usable}
+use Rattle.rlsf_model.specs.WellFormed.{coverage, itself}
+use Rattle.rlsf_model.specs.Callers.{align_at}
+use Rattle.rlsf_model.proofs.CallerWords.{align_at-live}
+use Rattle.rlsf_model.proofs.ChunkRows.{IsRow-same}
+use Rattle.rlsf_model.proofs.Live.{deallocation_leaves_others, fill_leaves_others}
+use Rattle.rlsf_model.specs.Run.{Fills}
 use Rattle.rlsf_blocks.specs.Spare.{KeepsSpare}
 use Rattle.rlsf_tlsf.specs.Allocator.{Allocator, IsInState}
 use Rattle.rlsf_tlsf.proofs.Standing.{live_in}

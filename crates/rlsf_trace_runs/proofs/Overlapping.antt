@@ -2,9 +2,9 @@
 use Rattle.std.proofs.Common.{◌≡◌, ℕ, zero, suc, ◌<◌, ◌≤◌, List, [], ◌∷◌, length, slice_index_or, arith, refl, inl, inr}
 use Rattle.rlsf_base.specs.declared.memory.range.Range.{Range}
 use Rattle.rlsf_base.specs.Range.{end_of}
-use Rattle.rlsf_machine.specs.Insert.{IsClear}
-use Rattle.rlsf_machine.specs.Lists.{IsIn}
-use Rattle.rlsf_machine.specs.WellFormed.{covers}
+use Rattle.rlsf_model.specs.Insert.{IsClear}
+use Rattle.rlsf_model.specs.Lists.{IsIn}
+use Rattle.rlsf_model.specs.WellFormed.{covers}
 
 -- a range of no bytes
 abbrev pub no_range : Range

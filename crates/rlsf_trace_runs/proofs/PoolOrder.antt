@@ -7,10 +7,10 @@ use Rattle.std.specs.List.{insert}
 use Rattle.std.specs.List.Sorted.{IsNonDecreasingBy, IsPartitionPoint}
 use Rattle.rlsf_base.specs.declared.memory.range.Range.{Range}
 use Rattle.rlsf_base.specs.Range.{end_of}
-use Rattle.rlsf_machine.specs.Insert.{IsClear}
-use Rattle.rlsf_machine.specs.Lists.{IsIn}
-use Rattle.rlsf_machine.specs.WellFormed.{coverage, itself}
-use Rattle.rlsf_machine.proofs.Coverage.{inside, before, behind, by_test, where_is, covers-before, covers-behind, covers-inside, coverage-IsIn}
+use Rattle.rlsf_model.specs.Insert.{IsClear}
+use Rattle.rlsf_model.specs.Lists.{IsIn}
+use Rattle.rlsf_model.specs.WellFormed.{coverage, itself}
+use Rattle.rlsf_model.proofs.Coverage.{inside, before, behind, by_test, where_is, covers-before, covers-behind, covers-inside, coverage-IsIn}
 use Rattle.rlsf_trace_runs.specs.Steps.Tables.{IsInOrder}
 use Rattle.rlsf_trace_runs.proofs.Overlapping.{coverage-apart, IsApart, IsIn-at, no_range, nth_range}
 

@@ -9,15 +9,15 @@ use Rattle.rlsf_base.specs.Range.{end_of, LiesIn}
 use Rattle.rlsf_base.specs.Rounding.{round32}
 use Rattle.rlsf_base.proofs.Numbers.Roundings.{round32-le}
 use Rattle.rlsf_base.specs.Space.{Space, range_of, SamePlace}
-use Rattle.rlsf_machine.specs.Insert.{Appends, Inserts, IsClear, IsFresh, IsNext, IsVacant}
-use Rattle.rlsf_machine.specs.ChunkRows.{IsRow}
-use Rattle.rlsf_machine.specs.Lists.{IsIn}
-use Rattle.rlsf_machine.specs.State.{State, between, empty}
-use Rattle.rlsf_machine.specs.WellFormed.{coverage, itself, IsWellFormed}
+use Rattle.rlsf_model.specs.Insert.{Appends, Inserts, IsClear, IsFresh, IsNext, IsVacant}
+use Rattle.rlsf_model.specs.ChunkRows.{IsRow}
+use Rattle.rlsf_model.specs.Lists.{IsIn}
+use Rattle.rlsf_model.specs.State.{State, between, empty}
+use Rattle.rlsf_model.specs.WellFormed.{coverage, itself, IsWellFormed}
 use Rattle.rlsf_tlsf.specs.Allocator.{Allocator, IsInState}
-use Rattle.rlsf_machine.specs.Run.{append, insert}
-use Rattle.rlsf_machine.proofs.ChunkRows.{IsRow-appended, IsRow-inserted, IsRow-kept, IsRow-kept_apart}
-use Rattle.rlsf_machine.proofs.Live.{live_stays}
+use Rattle.rlsf_model.specs.Run.{append, insert}
+use Rattle.rlsf_model.proofs.ChunkRows.{IsRow-appended, IsRow-inserted, IsRow-kept, IsRow-kept_apart}
+use Rattle.rlsf_model.proofs.Live.{live_stays}
 use Rattle.rlsf_trace_runs.specs.declared.tables.Tables.{Tables}
 use Rattle.rlsf_trace_runs.specs.Runs.{RunState, beginning, longer_pool, longer_pool_at, MayAppend, MayInsert, with_pool}
 use Rattle.rlsf_trace_runs.specs.Steps.Tables.{EndsAt, IsAt, IsInOrder}

@@ -5,7 +5,7 @@ use Rattle.std.proofs.Math.ListN.{drop, drop_of_length-le}
 use Rattle.std.proofs.lemmas.List.{append_assoc, append-nil, at_drop_more}
 use Rattle.rlsf_base.specs.Range.{range_at}
 use Rattle.rlsf_base.specs.Space.{Space, byte_at, range_of, SamePlace}
-use Rattle.rlsf_machine.specs.State.{State, empty}
+use Rattle.rlsf_model.specs.State.{State, empty}
 use Rattle.rlsf_blocks.specs.Spare.{KeepsSpare}
 use Rattle.rlsf_tlsf.specs.Allocator.{Allocator}
 use Rattle.rlsf_trace_text.specs.declared.op.Answer.{Answer}

@@ -5,7 +5,7 @@ use Rattle.std.specs.declared.hash.FoldHasher.{FoldHasher}
 use Rattle.std.specs.HashMap.{get, HashMap}
 use Rattle.std.specs.Option.{option_map}
 use Rattle.rlsf_base.specs.Addr.{at}
-use Rattle.rlsf_machine.specs.State.{State, IsLive}
+use Rattle.rlsf_model.specs.State.{State, IsLive}
 use Rattle.rlsf_trace_runs.specs.declared.names.Payload.{Payload}
 
 -- where a payload is

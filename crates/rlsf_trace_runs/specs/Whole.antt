@@ -1,7 +1,7 @@
 -- What a complete run of ops leaves of its allocator.
 use Rattle.std.specs.Prelude.{◌≡◌, ℕ, List}
 use Rattle.rlsf_base.specs.Space.{range_of}
-use Rattle.rlsf_machine.specs.State.{empty}
+use Rattle.rlsf_model.specs.State.{empty}
 use Rattle.rlsf_blocks.specs.Spare.{KeepsSpare}
 use Rattle.rlsf_tlsf.specs.Allocator.{Allocator}
 use Rattle.rlsf_trace_runs.specs.Runs.{RunState, RunsOps, beginning}

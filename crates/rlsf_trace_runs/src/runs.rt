@@ -4,9 +4,9 @@ ghost use Rattle.std.specs.Prelude.{◌≡◌, ℕ, ◌+◌, ◌<◌, ◌≤◌,
 ghost use Rattle.rlsf_base.specs.Range.{end_of, LiesIn};
 ghost use Rattle.rlsf_base.specs.Rounding.{round32};
 ghost use Rattle.rlsf_base.specs.Space.{range_of, SamePlace};
-ghost use Rattle.rlsf_machine.specs.Insert.{IsVacant};
-ghost use Rattle.rlsf_machine.specs.Lists.{IsIn};
-ghost use Rattle.rlsf_machine.specs.State.{between, empty};
+ghost use Rattle.rlsf_model.specs.Insert.{IsVacant};
+ghost use Rattle.rlsf_model.specs.Lists.{IsIn};
+ghost use Rattle.rlsf_model.specs.State.{between, empty};
 ghost use Rattle.rlsf_blocks.specs.Spare.{KeepsSpare};
 ghost use Rattle.rlsf_trace_text.specs.declared.op.Answer.{Answer};
 ghost use Rattle.rlsf_trace_runs.specs.declared.runs.RunError.TheVariants.{OutOfMemory};

@@ -4,9 +4,9 @@ ghost use Rattle.std.specs.List.Sorted.{IsPartitionPoint};
 ghost use Rattle.rlsf_base.specs.declared.memory.range.Range.{Range};
 ghost use Rattle.rlsf_base.specs.Range.{end_of};
 ghost use Rattle.rlsf_base.specs.Rounding.{round32};
-ghost use Rattle.rlsf_machine.specs.Insert.{IsClear};
-ghost use Rattle.rlsf_machine.specs.Lists.{IsIn};
-ghost use Rattle.rlsf_machine.specs.WellFormed.{coverage, itself};
+ghost use Rattle.rlsf_model.specs.Insert.{IsClear};
+ghost use Rattle.rlsf_model.specs.Lists.{IsIn};
+ghost use Rattle.rlsf_model.specs.WellFormed.{coverage, itself};
 ghost use Rattle.rlsf_trace_runs.specs.Runs.{longer_pool};
 ghost use Rattle.rlsf_trace_runs.specs.Steps.Tables.{EndsAt, HasRoom, IsInOrder};
 

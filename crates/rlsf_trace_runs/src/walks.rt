@@ -3,7 +3,7 @@
 ghost use Rattle.std.specs.Prelude.{◌<◌, ◌^◌, length, IsTrue, ◌↔◌};
 ghost use Rattle.rlsf_base.specs.Range.{end_of, LiesIn};
 ghost use Rattle.rlsf_base.specs.Space.{range_of};
-ghost use Rattle.rlsf_machine.specs.Lists.{IsIn};
+ghost use Rattle.rlsf_model.specs.Lists.{IsIn};
 ghost use Rattle.rlsf_trace_text.specs.declared.op.Op.TheVariants.{Block};
 ghost use Rattle.rlsf_trace_runs.specs.Runs.{MayWalk, RunState};
 ghost use Rattle.rlsf_trace_runs.specs.Steps.Tables.{IsAt, IsInOrder, LeadsOn};

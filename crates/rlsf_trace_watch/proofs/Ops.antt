@@ -7,16 +7,16 @@ use Rattle.std.proofs.lemmas.List.Sums.{sum_by-cons}
 use Rattle.std.specs.Int.NonZero.{non_zero_usize_get}
 use Rattle.rlsf_base.specs.Addr.{reply}
 use Rattle.rlsf_base.specs.declared.memory.range.Range.{Range}
-use Rattle.rlsf_machine.specs.Allocate.{Allocates}
-use Rattle.rlsf_machine.specs.Lists.{IsIn}
-use Rattle.rlsf_machine.specs.Reallocate.{Reallocates}
-use Rattle.rlsf_machine.specs.Run.{Fills}
-use Rattle.rlsf_machine.specs.State.{State, Used, Holds, usable, with_bytes}
-use Rattle.rlsf_machine.specs.WellFormed.{IsWellFormed}
-use Rattle.rlsf_machine.proofs.Changes.{Holds-unique}
-use Rattle.rlsf_machine.proofs.Chunks.{used-inserted, used-appended}
-use Rattle.rlsf_machine.proofs.Fillings.{filled_holds}
-use Rattle.rlsf_machine.proofs.NoMove.{unmoved_is_reallocated}
+use Rattle.rlsf_model.specs.Allocate.{Allocates}
+use Rattle.rlsf_model.specs.Lists.{IsIn}
+use Rattle.rlsf_model.specs.Reallocate.{Reallocates}
+use Rattle.rlsf_model.specs.Run.{Fills}
+use Rattle.rlsf_model.specs.State.{State, Used, Holds, usable, with_bytes}
+use Rattle.rlsf_model.specs.WellFormed.{IsWellFormed}
+use Rattle.rlsf_model.proofs.Changes.{Holds-unique}
+use Rattle.rlsf_model.proofs.Chunks.{used-inserted, used-appended}
+use Rattle.rlsf_model.proofs.Fillings.{filled_holds}
+use Rattle.rlsf_model.proofs.NoMove.{unmoved_is_reallocated}
 use Rattle.rlsf_trace_text.specs.declared.op.Answer.{Answer}
 use Rattle.rlsf_trace_text.specs.declared.op.Answer.TheVariants.{Inserted, Appended, Placed, Done, Byte, Usable, Block, Trimmed, Refused}
 use Rattle.rlsf_trace_text.specs.declared.op.Op.{Op}

@@ -7,13 +7,13 @@ use Rattle.rlsf_base.specs.declared.memory.range.Range.{Range}
 use Rattle.rlsf_base.specs.Range.{end_of}
 use Rattle.rlsf_base.specs.Rounding.{round32}
 use Rattle.rlsf_base.specs.Space.{range_of}
-use Rattle.rlsf_machine.specs.ChunkRows.{IsRow}
-use Rattle.rlsf_machine.specs.Lists.{IsIn}
-use Rattle.rlsf_machine.specs.State.{State}
-use Rattle.rlsf_machine.specs.WellFormed.{itself, IsWellFormed}
-use Rattle.rlsf_machine.proofs.Coverage.{covers-inside, coverage-IsIn, coverage-some, coverage-unique, IsIn-append, IsIn-append_left, IsIn-append_right}
-use Rattle.rlsf_machine.proofs.Payloads.{IsUsed-some}
-use Rattle.rlsf_machine.proofs.Tiling.{tiling_of, lies_in_chunk, IsPart-free, IsPart-used, LiesInChunk}
+use Rattle.rlsf_model.specs.ChunkRows.{IsRow}
+use Rattle.rlsf_model.specs.Lists.{IsIn}
+use Rattle.rlsf_model.specs.State.{State}
+use Rattle.rlsf_model.specs.WellFormed.{itself, IsWellFormed}
+use Rattle.rlsf_model.proofs.Coverage.{covers-inside, coverage-IsIn, coverage-some, coverage-unique, IsIn-append, IsIn-append_left, IsIn-append_right}
+use Rattle.rlsf_model.proofs.Payloads.{IsUsed-some}
+use Rattle.rlsf_model.proofs.Tiling.{tiling_of, lies_in_chunk, IsPart-free, IsPart-used, LiesInChunk}
 use Rattle.rlsf_blocks.specs.Blocks.{Block, HasBlock, used, free, AreBlocks, IsInOrder, walked}
 use Rattle.rlsf_tlsf.specs.Allocator.{Allocator}
 use Rattle.rlsf_trace_runs.specs.declared.tables.Tables.{Tables}

@@ -1,7 +1,7 @@
 -- Runs that are watched: the states after each op, and the moment of each.
 use Rattle.std.specs.Prelude.{◌≡◌, ℕ, List, [], ◌∷◌, length, map, sum_by, Option, Some, None, ⊤}
 use Rattle.rlsf_base.specs.declared.memory.range.Range.{Range}
-use Rattle.rlsf_machine.specs.State.{Used, usable}
+use Rattle.rlsf_model.specs.State.{Used, usable}
 use Rattle.rlsf_blocks.specs.Blocks.{AreBlocks}
 use Rattle.rlsf_trace_text.specs.declared.op.Answer.{Answer}
 use Rattle.rlsf_trace_text.specs.declared.op.Op.{Op}

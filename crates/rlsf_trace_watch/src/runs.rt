@@ -2,7 +2,7 @@
 
 ghost use Rattle.std.specs.Prelude.{◌≡◌, ℕ, ◌+◌, ◌<◌, ◌≤◌, ◌^◌, ◌++◌, List, length, IfOk};
 ghost use Rattle.rlsf_base.specs.Space.{range_of};
-ghost use Rattle.rlsf_machine.specs.State.{empty};
+ghost use Rattle.rlsf_model.specs.State.{empty};
 ghost use Rattle.rlsf_trace_watch.specs.Moments.{IsWatched};
 
 use crate::blocks::all_blocks;

@@ -22,11 +22,11 @@ use Rattle.rlsf_table.proofs.Words.Writes.{CanBeBlock-Rewrites, Rewrites-trans, 
 use Rattle.rlsf_table.proofs.Words.Writing.{IsWrite, write, rewrites_of, reads_of}
 use Rattle.rlsf_blocks.specs.Steps.Touched.{Touched, in_hole}
 use Rattle.rlsf_blocks.specs.InBand.{sentinel_of}
-use Rattle.rlsf_machine.specs.Allocate.{choice, given, has_class, placed, Places, rest_behind}
-use Rattle.rlsf_machine.specs.Lists.{IsIn, without}
-use Rattle.rlsf_machine.specs.Payload.{block_for, block_length, payload_of}
-use Rattle.rlsf_machine.specs.State.{State, Used, between}
-use Rattle.rlsf_machine.specs.WellFormed.{IsWellFormed}
+use Rattle.rlsf_model.specs.Allocate.{choice, given, has_class, placed, Places, rest_behind}
+use Rattle.rlsf_model.specs.Lists.{IsIn, without}
+use Rattle.rlsf_model.specs.Payload.{block_for, block_length, payload_of}
+use Rattle.rlsf_model.specs.State.{State, Used, between}
+use Rattle.rlsf_model.specs.WellFormed.{IsWellFormed}
 use Rattle.rlsf_blocks.specs.Spare.{KeepsSpare}
 use Rattle.rlsf_blocks.specs.Steps.Rest.{IsOpened, IsTaken}
 use Rattle.rlsf_blocks.specs.StandsFor.{contents, StandsFor}
@@ -34,11 +34,11 @@ use Rattle.rlsf_blocks.proofs.Words.Apart.{Has, free_in_memory, home_of_free}
 use Rattle.rlsf_blocks.proofs.Allocate.UsedBlocks.{IsCarved, StandsFor-carved}
 use Rattle.rlsf_blocks.proofs.Words.Frames.{wide_whole}
 use Rattle.rlsf_blocks.proofs.Machine.FreeBlocks.{CanBeBlock-free}
-use Rattle.rlsf_machine.proofs.Allocations.{IsWellFormed-given, placed-fits}
-use Rattle.rlsf_machine.proofs.Changes.{IsIn-rest_behind}
-use Rattle.rlsf_machine.proofs.Choices.{choice-some}
-use Rattle.rlsf_machine.proofs.Coverage.{IsIn-append, IsIn-without}
-use Rattle.rlsf_machine.proofs.Payloads.{block_length-le, block_length-whole, payload_of-after, payload_of-aligned}
+use Rattle.rlsf_model.proofs.Allocations.{IsWellFormed-given, placed-fits}
+use Rattle.rlsf_model.proofs.Changes.{IsIn-rest_behind}
+use Rattle.rlsf_model.proofs.Choices.{choice-some}
+use Rattle.rlsf_model.proofs.Coverage.{IsIn-append, IsIn-without}
+use Rattle.rlsf_model.proofs.Payloads.{block_length-le, block_length-whole, payload_of-after, payload_of-aligned}
 use Rattle.rlsf_blocks.proofs.Allocate.TakenOut.{left_apart}
 use Rattle.rlsf_blocks.proofs.Chunks.Pools.{KeepsSpare-Touched}
 

@@ -17,10 +17,10 @@ use Rattle.rlsf_table.proofs.Tables.FreeTables.{IsFreeTable-Rewrites}
 use Rattle.rlsf_table.proofs.Words.Writes.{before_links, Rewrites-trans, Rewrites-weaken, Rewrites-word, CanBeBlock-Rewrites}
 use Rattle.rlsf_table.proofs.Words.Writing.{IsWrite, write, rewrites_of, reads_of}
 use Rattle.rlsf_blocks.specs.Steps.Touched.{Touched, at_link, in_hole, at_other}
-use Rattle.rlsf_machine.specs.Lists.{IsIn}
-use Rattle.rlsf_machine.specs.WellFormed.{itself}
+use Rattle.rlsf_model.specs.Lists.{IsIn}
+use Rattle.rlsf_model.specs.WellFormed.{itself}
 use Rattle.rlsf_blocks.specs.Steps.Rest.{IsInnerRoom, IsFreeBlockBehind}
-use Rattle.rlsf_machine.proofs.Coverage.{covers-inside, coverage-IsIn}
+use Rattle.rlsf_model.proofs.Coverage.{covers-inside, coverage-IsIn}
 
 -- the memories m1 to m3 after the three writes
 pub record AreLeft (m m1 m2 m3 : Space) (block : ℕ) (r : Range) : Type 0 where

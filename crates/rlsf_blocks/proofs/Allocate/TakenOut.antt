@@ -17,18 +17,18 @@ use Rattle.rlsf_table.proofs.Tables.FreeTables.{IsFreeTable-removal}
 use Rattle.rlsf_table.proofs.FreeLists.Chains.{find-split}
 use Rattle.rlsf_table.proofs.Words.Writes.{Rewrites-trans, Rewrites-weaken}
 use Rattle.rlsf_blocks.specs.Steps.Touched.{Touched, at_link, in_hole, at_other}
-use Rattle.rlsf_machine.specs.Allocate.{has_class, rest_behind}
-use Rattle.rlsf_machine.specs.Lists.{IsIn, without}
-use Rattle.rlsf_machine.specs.State.{State, between}
-use Rattle.rlsf_machine.specs.WellFormed.{covers, itself}
+use Rattle.rlsf_model.specs.Allocate.{has_class, rest_behind}
+use Rattle.rlsf_model.specs.Lists.{IsIn, without}
+use Rattle.rlsf_model.specs.State.{State, between}
+use Rattle.rlsf_model.specs.WellFormed.{covers, itself}
 use Rattle.rlsf_blocks.specs.Steps.Rest.{IsInnerRoom, IsFreeBlockBehind, IsOpened, IsTaken}
 use Rattle.rlsf_blocks.specs.StandsFor.{contents, StandsFor}
 use Rattle.rlsf_blocks.proofs.Words.Apart.{free_in_memory}
 use Rattle.rlsf_blocks.proofs.Machine.FreeBlocks.{IsFreeTable-free}
-use Rattle.rlsf_machine.proofs.Changes.{IsIn-rest_behind}
-use Rattle.rlsf_machine.proofs.Tiling.{IsValidClass-le}
-use Rattle.rlsf_machine.proofs.Coverage.{inside, before, behind, where_is, covers-inside, coverage-append, coverage-IsIn, find-some, IsIn-append, IsIn-append_left}
-use Rattle.rlsf_machine.proofs.Coverage.{IsIn-append_right}
+use Rattle.rlsf_model.proofs.Changes.{IsIn-rest_behind}
+use Rattle.rlsf_model.proofs.Tiling.{IsValidClass-le}
+use Rattle.rlsf_model.proofs.Coverage.{inside, before, behind, where_is, covers-inside, coverage-append, coverage-IsIn, find-some, IsIn-append, IsIn-append_left}
+use Rattle.rlsf_model.proofs.Coverage.{IsIn-append_right}
 
 -- a part of a range has no address that the range doesn't have
 pub covers-part : (r f : Range) (a : ℕ) → f.start ≤ r.start → end_of r ≤ end_of f → covers r a ≤ covers f a

@@ -9,15 +9,15 @@ use Rattle.rlsf_table.specs.Rewrites.{Rewrites}
 use Rattle.rlsf_table.specs.Table.{Table, HasTable}
 use Rattle.rlsf_blocks.specs.Steps.Touched.{Touched}
 use Rattle.rlsf_blocks.specs.InBand.{sentinel_of}
-use Rattle.rlsf_machine.specs.Allocate.{given, has_class, rest_behind}
-use Rattle.rlsf_machine.specs.Lists.{IsIn, without}
-use Rattle.rlsf_machine.specs.State.{State, Used, usable}
-use Rattle.rlsf_machine.specs.WellFormed.{IsWellFormed}
+use Rattle.rlsf_model.specs.Allocate.{given, has_class, rest_behind}
+use Rattle.rlsf_model.specs.Lists.{IsIn, without}
+use Rattle.rlsf_model.specs.State.{State, Used, usable}
+use Rattle.rlsf_model.specs.WellFormed.{IsWellFormed}
 use Rattle.rlsf_blocks.specs.StandsFor.{contents, StandsFor}
 use Rattle.rlsf_blocks.proofs.Words.Apart.{Has, used_free, free_free, chunk_chunk, free_last, home_of_free}
 use Rattle.rlsf_blocks.proofs.Words.Frames.{used_size, used_previous, used_bytes, used_pad, free_size, free_previous, chunk_first, chunk_sentinel}
-use Rattle.rlsf_machine.proofs.Coverage.{IsIn-append, IsIn-without}
-use Rattle.rlsf_machine.proofs.Payloads.{IsUsed-some}
+use Rattle.rlsf_model.proofs.Coverage.{IsIn-append, IsIn-without}
+use Rattle.rlsf_model.proofs.Payloads.{IsUsed-some}
 
 -- the words of the used block u at the front of the free block f; those of the rest behind it; and the table without f
 pub record IsCarved (fllen sllen : ℕ) (m n : Space) (table : Table) (s : State) (f : Range) (u : Used) : Type 0 where

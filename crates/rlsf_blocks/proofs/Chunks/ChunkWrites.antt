@@ -15,17 +15,17 @@ use Rattle.rlsf_table.proofs.Words.Writing.{IsWrite, write, rewrites_of, reads_o
 use Rattle.rlsf_table.proofs.Words.Writes.{before_links, Rewrites-word, Rewrites-trans, Rewrites-weaken, CanBeBlock-Rewrites}
 use Rattle.rlsf_blocks.specs.Steps.Touched.{Touched, at_link, in_hole}
 use Rattle.rlsf_blocks.specs.InBand.{sentinel_of}
-use Rattle.rlsf_machine.specs.Insert.{body}
-use Rattle.rlsf_machine.specs.Lists.{IsIn}
-use Rattle.rlsf_machine.specs.State.{State}
-use Rattle.rlsf_machine.specs.WellFormed.{coverage, itself}
+use Rattle.rlsf_model.specs.Insert.{body}
+use Rattle.rlsf_model.specs.Lists.{IsIn}
+use Rattle.rlsf_model.specs.State.{State}
+use Rattle.rlsf_model.specs.WellFormed.{coverage, itself}
 use Rattle.rlsf_blocks.specs.Steps.Pool.{IsAdded, IsNewChunk, opened}
 use Rattle.rlsf_blocks.specs.StandsFor.{contents, StandsFor}
 use Rattle.rlsf_blocks.proofs.Words.Apart.{Has}
 use Rattle.rlsf_blocks.proofs.Words.Frames.{free_size}
 use Rattle.rlsf_blocks.proofs.Machine.FreeBlocks.{IsFreeTable-free}
-use Rattle.rlsf_machine.proofs.Coverage.{inside, before, behind, where_is, covers-inside, coverage-IsIn}
-use Rattle.rlsf_machine.proofs.Tiling.{free-le, tiling_of}
+use Rattle.rlsf_model.proofs.Coverage.{inside, before, behind, where_is, covers-inside, coverage-IsIn}
+use Rattle.rlsf_model.proofs.Tiling.{free-le, tiling_of}
 
 -- the memories m1 to m4 after the four writes
 pub record AreWrites (m m1 m2 m3 m4 : Space) (c : Range) : Type 0 where

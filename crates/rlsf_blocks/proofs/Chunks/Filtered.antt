@@ -5,11 +5,11 @@ use Rattle.std.proofs.lemmas.Bool.{cases_lt, false_from_ne_true, or_from}
 use Rattle.std.proofs.lemmas.List.Elements.{filter-append}
 use Rattle.rlsf_base.specs.declared.memory.range.Range.{Range}
 use Rattle.rlsf_base.specs.Range.{end_of}
-use Rattle.rlsf_machine.specs.Lists.{IsIn, without}
-use Rattle.rlsf_machine.specs.Remove.{lies_within, outside_of}
-use Rattle.rlsf_machine.specs.State.{between}
-use Rattle.rlsf_machine.proofs.Coverage.{by_test}
-use Rattle.rlsf_machine.proofs.Removals.{lies_within-le, lies_within-true}
+use Rattle.rlsf_model.specs.Lists.{IsIn, without}
+use Rattle.rlsf_model.specs.Remove.{lies_within, outside_of}
+use Rattle.rlsf_model.specs.State.{between}
+use Rattle.rlsf_model.proofs.Coverage.{by_test}
+use Rattle.rlsf_model.proofs.Removals.{lies_within-le, lies_within-true}
 use Rattle.rlsf_table.proofs.FreeLists.Chains.{find-split}
 
 -- where none lies in the range, all are left

@@ -6,14 +6,14 @@ use Rattle.rlsf_base.specs.Space.{Space, bytes_in, range_of, word_at}
 use Rattle.rlsf_table.specs.Table.{Table}
 use Rattle.rlsf_blocks.specs.Steps.Pool.{IsAdded, opened}
 use Rattle.rlsf_blocks.specs.InBand.{sentinel_of}
-use Rattle.rlsf_machine.specs.Insert.{body}
-use Rattle.rlsf_machine.specs.Lists.{IsIn}
-use Rattle.rlsf_machine.specs.State.{State, Used, usable}
-use Rattle.rlsf_machine.specs.WellFormed.{coverage, itself, IsWhole, IsWellFormed}
+use Rattle.rlsf_model.specs.Insert.{body}
+use Rattle.rlsf_model.specs.Lists.{IsIn}
+use Rattle.rlsf_model.specs.State.{State, Used, usable}
+use Rattle.rlsf_model.specs.WellFormed.{coverage, itself, IsWhole, IsWellFormed}
 use Rattle.rlsf_blocks.specs.StandsFor.{contents, StandsFor}
 use Rattle.rlsf_blocks.proofs.Words.Apart.{Has, home_of_free, home_of_used}
 use Rattle.rlsf_blocks.proofs.Words.Frames.{used_size, used_previous, used_bytes, used_pad, free_size, free_previous, chunk_first, chunk_sentinel}
-use Rattle.rlsf_machine.proofs.Coverage.{covers-inside, coverage-IsIn}
+use Rattle.rlsf_model.proofs.Coverage.{covers-inside, coverage-IsIn}
 
 module _ {fllen sllen : ℕ} {m n : Space} {table changed : Table} {s : State} (old : StandsFor fllen sllen (contents m table) s) (c : Range) (whole : IsWhole c)
     (room : 64 ≤ c.len)

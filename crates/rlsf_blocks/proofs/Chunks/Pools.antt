@@ -13,20 +13,20 @@ use Rattle.rlsf_table.specs.Counts.{Costs}
 use Rattle.rlsf_table.specs.Rewrites.{Rewrites}
 use Rattle.rlsf_table.specs.Table.{Table}
 use Rattle.rlsf_blocks.specs.Steps.Touched.{Touched, at_link, in_hole, at_other}
-use Rattle.rlsf_machine.specs.Insert.{aligned_part, body, bytes_taken, cut, end_of_last, Inserts, IsFresh, with_chunk, with_chunks}
-use Rattle.rlsf_machine.specs.Laws.{first_length}
-use Rattle.rlsf_machine.specs.Lists.{IsIn}
-use Rattle.rlsf_machine.specs.State.{State}
-use Rattle.rlsf_machine.specs.WellFormed.{IsChunk, IsFree, IsWellFormed}
+use Rattle.rlsf_model.specs.Insert.{aligned_part, body, bytes_taken, cut, end_of_last, Inserts, IsFresh, with_chunk, with_chunks}
+use Rattle.rlsf_model.specs.Laws.{first_length}
+use Rattle.rlsf_model.specs.Lists.{IsIn}
+use Rattle.rlsf_model.specs.State.{State}
+use Rattle.rlsf_model.specs.WellFormed.{IsChunk, IsFree, IsWellFormed}
 use Rattle.rlsf_blocks.specs.Steps.Pool.{IsAdded, IsNewChunk, opened}
 use Rattle.rlsf_blocks.specs.Spare.{IsSpare, KeepsSpare}
 use Rattle.rlsf_blocks.specs.StandsFor.{contents, StandsFor}
 use Rattle.rlsf_blocks.proofs.Chunks.NewChunks.{StandsFor-added}
 use Rattle.rlsf_blocks.proofs.Words.Apart.{Has, home_of_free}
 use Rattle.rlsf_blocks.proofs.Words.Stays.{Stays, Stays-rewrites, Stays-same, Stays-then}
-use Rattle.rlsf_machine.proofs.Coverage.{covers-inside}
-use Rattle.rlsf_machine.proofs.Cuts.{chunks_are_cut_off_the_front}
-use Rattle.rlsf_machine.proofs.Insertions.{AreNew, AreNew-cut, IsWellFormed-with_chunk}
+use Rattle.rlsf_model.proofs.Coverage.{covers-inside}
+use Rattle.rlsf_model.proofs.Cuts.{chunks_are_cut_off_the_front}
+use Rattle.rlsf_model.proofs.Insertions.{AreNew, AreNew-cut, IsWellFormed-with_chunk}
 
 -- ---- bytes that no block is made of
 

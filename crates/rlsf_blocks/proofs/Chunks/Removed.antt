@@ -17,16 +17,16 @@ use Rattle.rlsf_blocks.specs.Spare.{KeepsSpare}
 use Rattle.rlsf_blocks.specs.StandsFor.{contents, StandsFor}
 use Rattle.rlsf_blocks.specs.Steps.Join.{IsMarked, IsNextOut}
 use Rattle.rlsf_blocks.specs.Steps.Touched.{at_link}
-use Rattle.rlsf_machine.specs.Insert.{body}
-use Rattle.rlsf_machine.specs.Join.{starts_at, end_or}
-use Rattle.rlsf_machine.specs.Lists.{IsIn, without}
-use Rattle.rlsf_machine.specs.Remove.{lies_within, outside_of, removed, IsIdle, IsRemovable, IsWithinOrOff}
-use Rattle.rlsf_machine.specs.State.{State}
-use Rattle.rlsf_machine.specs.WellFormed.{covers, coverage, itself, IsWellFormed}
-use Rattle.rlsf_machine.proofs.Coverage.{covers-inside, covers-le, covers-some, coverage-append, coverage-IsIn, IsIn-append, IsIn-append_left, IsIn-append_right}
-use Rattle.rlsf_machine.proofs.Removals.{lies_within-le, lies_within-true, IsIn-outside, Removes-keeps}
-use Rattle.rlsf_machine.proofs.Room.{idle_chunk_is_one_range}
-use Rattle.rlsf_machine.proofs.Tiling.{LiesInChunk, free-le, tiling_of}
+use Rattle.rlsf_model.specs.Insert.{body}
+use Rattle.rlsf_model.specs.Join.{starts_at, end_or}
+use Rattle.rlsf_model.specs.Lists.{IsIn, without}
+use Rattle.rlsf_model.specs.Remove.{lies_within, outside_of, removed, IsIdle, IsRemovable, IsWithinOrOff}
+use Rattle.rlsf_model.specs.State.{State}
+use Rattle.rlsf_model.specs.WellFormed.{covers, coverage, itself, IsWellFormed}
+use Rattle.rlsf_model.proofs.Coverage.{covers-inside, covers-le, covers-some, coverage-append, coverage-IsIn, IsIn-append, IsIn-append_left, IsIn-append_right}
+use Rattle.rlsf_model.proofs.Removals.{lies_within-le, lies_within-true, IsIn-outside, Removes-keeps}
+use Rattle.rlsf_model.proofs.Room.{idle_chunk_is_one_range}
+use Rattle.rlsf_model.proofs.Tiling.{LiesInChunk, free-le, tiling_of}
 use Rattle.rlsf_blocks.proofs.Chunks.Filtered.{outside_of-found}
 use Rattle.rlsf_blocks.proofs.Deallocate.Marks.{free_even}
 use Rattle.rlsf_blocks.proofs.Words.Apart.{chunk_chunk, free_free, free_in_memory, used_free}

@@ -11,11 +11,11 @@ use Rattle.rlsf_blocks.specs.Spare.{KeepsSpare}
 use Rattle.rlsf_blocks.specs.StandsFor.{contents, StandsFor}
 use Rattle.rlsf_blocks.specs.Steps.Removal.{IsIdleChunk}
 use Rattle.rlsf_blocks.specs.Steps.Walk.{IsSpan}
-use Rattle.rlsf_machine.specs.ChunkRows.{IsRow}
-use Rattle.rlsf_machine.specs.Lists.{IsIn}
-use Rattle.rlsf_machine.specs.Remove.{lies_within, outside_of, removed, IsIdle}
-use Rattle.rlsf_machine.specs.State.{State, between}
-use Rattle.rlsf_machine.proofs.Removals.{lies_within-le, lies_within-true, IsIn-outside, IsIn-outside_from}
+use Rattle.rlsf_model.specs.ChunkRows.{IsRow}
+use Rattle.rlsf_model.specs.Lists.{IsIn}
+use Rattle.rlsf_model.specs.Remove.{lies_within, outside_of, removed, IsIdle}
+use Rattle.rlsf_model.specs.State.{State, between}
+use Rattle.rlsf_model.proofs.Removals.{lies_within-le, lies_within-true, IsIn-outside, IsIn-outside_from}
 use Rattle.rlsf_blocks.proofs.Chunks.Filtered.{lies_within-split, length-outside_of_one, outside_of-none, outside_of-twice}
 use Rattle.rlsf_blocks.proofs.Words.Apart.{chunk_chunk, home_of_free}
 

@@ -8,9 +8,9 @@ use Rattle.rlsf_base.specs.OpenSpace.{IsReadable}
 use Rattle.rlsf_base.proofs.Numbers.PowersOfTwo.{IsPowerOfTwo-le}
 use Rattle.rlsf_table.specs.Table.{Table}
 use Rattle.rlsf_blocks.specs.StandsFor.{contents, StandsFor}
-use Rattle.rlsf_machine.specs.Lists.{IsIn}
-use Rattle.rlsf_machine.specs.State.{State, Used, between}
-use Rattle.rlsf_machine.proofs.Payloads.{payload_of-le, IsUsed-aligned, IsUsed-after_start}
+use Rattle.rlsf_model.specs.Lists.{IsIn}
+use Rattle.rlsf_model.specs.State.{State, Used, between}
+use Rattle.rlsf_model.proofs.Payloads.{payload_of-le, IsUsed-aligned, IsUsed-after_start}
 use Rattle.rlsf_blocks.proofs.Words.Apart.{used_in_memory}
 use Rattle.rlsf_blocks.proofs.Words.Frames.{wide_whole}
 

@@ -18,9 +18,9 @@ use Rattle.rlsf_table.proofs.Words.Writing.{IsWrite, write, rewrites_of, reads_o
 use Rattle.rlsf_blocks.specs.Steps.Touched.{Touched, at_link, in_hole, at_other}
 use Rattle.rlsf_blocks.specs.Steps.Join.{IsNewFreeBlock}
 use Rattle.rlsf_blocks.specs.Steps.Rest.{IsInnerRoom}
-use Rattle.rlsf_machine.specs.Lists.{IsIn}
-use Rattle.rlsf_machine.specs.WellFormed.{itself}
-use Rattle.rlsf_machine.proofs.Coverage.{covers-inside, coverage-IsIn}
+use Rattle.rlsf_model.specs.Lists.{IsIn}
+use Rattle.rlsf_model.specs.WellFormed.{itself}
+use Rattle.rlsf_model.proofs.Coverage.{covers-inside, coverage-IsIn}
 
 -- the memories m1 and m2 after the two writes
 pub record ArePut (m m1 m2 : Space) (r : Range) : Type 0 where

@@ -5,8 +5,8 @@ use Rattle.std.proofs.Common.{◌<◌, ◌^◌}
 use Rattle.rlsf_base.proofs.Lending.Present.{own-word}
 use Rattle.rlsf_base.specs.Range.{range_at}
 use Rattle.rlsf_base.specs.Space.{word_range}
-use Rattle.rlsf_machine.specs.State.{between}
-use Rattle.rlsf_machine.proofs.Payloads.{IsUsed-after_start}
+use Rattle.rlsf_model.specs.State.{between}
+use Rattle.rlsf_model.proofs.Payloads.{IsUsed-after_start}
 use Rattle.rlsf_blocks.proofs.Words.NeverOut.{here_free, here_front, here_behind_used}
 use Rattle.std.proofs.Common.{◌≡◌, ◌≢◌, ◌↔◌, ℕ, eqb, false, ◌+◌, ◌-◌, ◌%◌, ◌<◌, ◌≤◌, Some, None, find, arith, inl, inr, sym, ◌∙◌}
 use Rattle.std.proofs.Common.{ap, subst}
@@ -22,11 +22,11 @@ use Rattle.rlsf_table.proofs.FreeLists.Counted.{IsFreeTable-counted, Rewrites-co
 use Rattle.rlsf_blocks.specs.InBand.{sentinel_of}
 use Rattle.rlsf_blocks.specs.StandsFor.{contents, StandsFor}
 use Rattle.rlsf_blocks.specs.Steps.Join.{FreeBlockBegins, IsMarked, IsNextOut, IsPreviousOut}
-use Rattle.rlsf_machine.specs.Join.{ends_at, starts_at, start_or, end_or}
-use Rattle.rlsf_machine.specs.Lists.{IsIn, without}
-use Rattle.rlsf_machine.specs.State.{State, Used}
-use Rattle.rlsf_machine.proofs.Coverage.{IsIn-without, IsIn-without_other, without-none}
-use Rattle.rlsf_machine.proofs.Payloads.{IsUsed-some}
+use Rattle.rlsf_model.specs.Join.{ends_at, starts_at, start_or, end_or}
+use Rattle.rlsf_model.specs.Lists.{IsIn, without}
+use Rattle.rlsf_model.specs.State.{State, Used}
+use Rattle.rlsf_model.proofs.Coverage.{IsIn-without, IsIn-without_other, without-none}
+use Rattle.rlsf_model.proofs.Payloads.{IsUsed-some}
 use Rattle.rlsf_blocks.proofs.Machine.FreeBlocks.{IsFreeTable-free}
 use Rattle.rlsf_blocks.proofs.Machine.Neighbours.{Before, free_before, used_before, none_before, Behind, free_behind, used_behind, last_behind, before_used, behind_used}
 use Rattle.rlsf_blocks.proofs.Words.Apart.{used_free, free_free, free_last, chunk_chunk, home_of_free, used_in_memory, free_in_memory}

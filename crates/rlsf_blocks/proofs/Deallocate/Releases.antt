@@ -15,16 +15,16 @@ use Rattle.rlsf_blocks.specs.StandsFor.{contents, StandsFor}
 use Rattle.rlsf_blocks.specs.Steps.Touched.{Touched, at_link, in_hole, at_other}
 use Rattle.rlsf_blocks.specs.Steps.Join.{IsNextOut, IsPreviousOut, IsNewFreeBlock, union, untouched}
 use Rattle.rlsf_blocks.specs.Steps.Rest.{IsInnerRoom}
-use Rattle.rlsf_machine.specs.Join.{ends_at, starts_at, join}
-use Rattle.rlsf_machine.specs.Lists.{IsIn, without}
-use Rattle.rlsf_machine.specs.Release.{released}
-use Rattle.rlsf_machine.specs.State.{State, Used, others, usable}
-use Rattle.rlsf_machine.specs.WellFormed.{itself, IsFree, IsWellFormed}
-use Rattle.rlsf_machine.proofs.Changes.{IsIn-others}
-use Rattle.rlsf_machine.proofs.Coverage.{covers-inside, coverage-IsIn, IsIn-without}
-use Rattle.rlsf_machine.proofs.Joins.{left_of}
-use Rattle.rlsf_machine.proofs.Releases.{IsSound-free, IsWellFormed-released}
-use Rattle.rlsf_machine.proofs.Tiling.{LiesInChunk, free-le, tiling_of}
+use Rattle.rlsf_model.specs.Join.{ends_at, starts_at, join}
+use Rattle.rlsf_model.specs.Lists.{IsIn, without}
+use Rattle.rlsf_model.specs.Release.{released}
+use Rattle.rlsf_model.specs.State.{State, Used, others, usable}
+use Rattle.rlsf_model.specs.WellFormed.{itself, IsFree, IsWellFormed}
+use Rattle.rlsf_model.proofs.Changes.{IsIn-others}
+use Rattle.rlsf_model.proofs.Coverage.{covers-inside, coverage-IsIn, IsIn-without}
+use Rattle.rlsf_model.proofs.Joins.{left_of}
+use Rattle.rlsf_model.proofs.Releases.{IsSound-free, IsWellFormed-released}
+use Rattle.rlsf_model.proofs.Tiling.{LiesInChunk, free-le, tiling_of}
 use Rattle.rlsf_blocks.proofs.Words.Apart.{used_free, free_in_memory, home_of_free}
 use Rattle.rlsf_blocks.proofs.Words.Refilled.{old_used, IsFreeStill, old_free, new_free, IsRefilled, StandsFor-refilled, KeepsSpare-refilled}
 

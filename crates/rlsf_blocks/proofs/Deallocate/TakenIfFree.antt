@@ -10,9 +10,9 @@ use Rattle.rlsf_table.proofs.FreeLists.Counted.{IsFreeTable-counted, Rewrites-co
 use Rattle.rlsf_table.proofs.FreeLists.Found.{find-start, find-no_start}
 use Rattle.rlsf_table.proofs.Tables.FreeTables.{IsFreeTable-removal}
 use Rattle.rlsf_blocks.specs.Steps.Join.{IsMarked, IsNextOut}
-use Rattle.rlsf_machine.specs.Join.{starts_at, end_or}
-use Rattle.rlsf_machine.specs.Lists.{IsIn}
-use Rattle.rlsf_machine.proofs.Coverage.{without-none}
+use Rattle.rlsf_model.specs.Join.{starts_at, end_or}
+use Rattle.rlsf_model.specs.Lists.{IsIn}
+use Rattle.rlsf_model.proofs.Coverage.{without-none}
 
 -- a size word whose block isn't free is odd
 pub odd_from : (size : ℕ) {free : Bool} → (IsTrue free ↔ (size % 2 ≡ 0)) → free ≡ false → size % 2 ≡ 1

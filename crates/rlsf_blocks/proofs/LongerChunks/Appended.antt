@@ -9,11 +9,11 @@ use Rattle.rlsf_base.specs.Range.{end_of}
 use Rattle.rlsf_base.specs.Sizes.{max_pool_size}
 use Rattle.rlsf_base.specs.Space.{Space}
 use Rattle.rlsf_table.specs.Counts.{Costs}
-use Rattle.rlsf_machine.specs.Insert.{aligned_part, appended, appended_bytes, bytes_taken, cut, extended, grown, grown_if, total_length, with_chunks, Appends, Inserts, IsNext}
-use Rattle.rlsf_machine.specs.Join.{ends_at}
-use Rattle.rlsf_machine.specs.State.{State}
-use Rattle.rlsf_machine.proofs.Coverage.{find-none, find-some}
-use Rattle.rlsf_machine.proofs.Cuts.{max_pool-cases}
+use Rattle.rlsf_model.specs.Insert.{aligned_part, appended, appended_bytes, bytes_taken, cut, extended, grown, grown_if, total_length, with_chunks, Appends, Inserts, IsNext}
+use Rattle.rlsf_model.specs.Join.{ends_at}
+use Rattle.rlsf_model.specs.State.{State}
+use Rattle.rlsf_model.proofs.Coverage.{find-none, find-some}
+use Rattle.rlsf_model.proofs.Cuts.{max_pool-cases}
 use Rattle.rlsf_blocks.specs.Steps.Extension.{IsExtensible}
 
 -- ---- whether chunks have a greatest length

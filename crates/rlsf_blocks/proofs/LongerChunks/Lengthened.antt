@@ -7,16 +7,16 @@ use Rattle.rlsf_base.specs.declared.memory.range.Range.{Range}
 use Rattle.rlsf_base.specs.Range.{end_of, range_at}
 use Rattle.rlsf_base.proofs.SizeClasses.Reach.{IsValidClass-class_of}
 use Rattle.rlsf_base.proofs.SizeMaps.PoolSizes.{max_pool_size-none}
-use Rattle.rlsf_machine.specs.Insert.{grown}
-use Rattle.rlsf_machine.specs.Join.{ends_at, join}
-use Rattle.rlsf_machine.specs.Lists.{IsIn, without}
-use Rattle.rlsf_machine.specs.Release.{released}
-use Rattle.rlsf_machine.specs.State.{State, Used, others}
-use Rattle.rlsf_machine.specs.WellFormed.{covers, coverage, itself, last_bytes, IsChunk, IsUsed, IsWellFormed}
-use Rattle.rlsf_machine.proofs.Coverage.{inside, before, behind, where_is, covers-inside, covers-split, coverage-IsIn, coverage-without, find-some, IsIn-without}
-use Rattle.rlsf_machine.proofs.Payloads.{others-none, IsUsed-after_start}
-use Rattle.rlsf_machine.proofs.Tiling.{block_of, used-le, tiling_of, IsWellFormed-from}
-use Rattle.rlsf_machine.proofs.Releases.{IsSound-free}
+use Rattle.rlsf_model.specs.Insert.{grown}
+use Rattle.rlsf_model.specs.Join.{ends_at, join}
+use Rattle.rlsf_model.specs.Lists.{IsIn, without}
+use Rattle.rlsf_model.specs.Release.{released}
+use Rattle.rlsf_model.specs.State.{State, Used, others}
+use Rattle.rlsf_model.specs.WellFormed.{covers, coverage, itself, last_bytes, IsChunk, IsUsed, IsWellFormed}
+use Rattle.rlsf_model.proofs.Coverage.{inside, before, behind, where_is, covers-inside, covers-split, coverage-IsIn, coverage-without, find-some, IsIn-without}
+use Rattle.rlsf_model.proofs.Payloads.{others-none, IsUsed-after_start}
+use Rattle.rlsf_model.proofs.Tiling.{block_of, used-le, tiling_of, IsWellFormed-from}
+use Rattle.rlsf_model.proofs.Releases.{IsSound-free}
 use Rattle.rlsf_blocks.specs.Steps.Extension.{IsExtensible, lengthened, more_block}
 use Rattle.rlsf_blocks.proofs.Words.Apart.{Has}
 

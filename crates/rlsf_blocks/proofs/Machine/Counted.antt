@@ -2,8 +2,8 @@
 use Rattle.rlsf_base.proofs.Lending.Present.{own-same}
 use Rattle.std.proofs.Common.{◌≡◌, ℕ, ◌+◌, arith, sym, ◌∙◌, ap, subst}
 use Rattle.rlsf_base.specs.Space.{Space}
-use Rattle.rlsf_machine.specs.State.{State, usable}
-use Rattle.rlsf_machine.specs.WellFormed.{IsWellFormed}
+use Rattle.rlsf_model.specs.State.{State, usable}
+use Rattle.rlsf_model.specs.WellFormed.{IsWellFormed}
 use Rattle.rlsf_table.specs.Table.{Table}
 use Rattle.rlsf_table.proofs.FreeLists.Counted.{byte_at-counted, bytes_in-counted, word_at-counted, length-counted, range_of-counted, HasTable-counted}
 use Rattle.rlsf_blocks.specs.Spare.{KeepsSpare}

@@ -6,11 +6,11 @@ use Rattle.std.proofs.Common.{true, ◌≤◌}
 use Rattle.std.proofs.Common.{ℕ, ◌+◌, ◌^◌, ◌<◌, [], length}
 use Rattle.rlsf_base.specs.SizeClass.{IsValid}
 use Rattle.rlsf_base.specs.Space.{Space, range_of}
-use Rattle.rlsf_machine.specs.State.{empty}
+use Rattle.rlsf_model.specs.State.{empty}
 use Rattle.rlsf_table.specs.Table.{Table, HasTable}
 use Rattle.rlsf_table.proofs.Tables.RowLengths.{row_length-bounds}
 use Rattle.rlsf_blocks.specs.StandsFor.{contents, StandsFor}
-use Rattle.rlsf_machine.proofs.Steps.{empty_is_well_formed}
+use Rattle.rlsf_model.proofs.Steps.{empty_is_well_formed}
 
 pub StandsFor-empty : {fl_bits sl_bits fllen sllen : ℕ} {m : Space} {t : Table} → IsValid fl_bits sl_bits fllen sllen → (0 < m.start) × (m.start + length m.bytes < 2 ^ 64)
     → HasTable fllen sllen m t [] → ((a : ℕ) → m.start ≤ a → is_own (out_at m a) ≡ true) → StandsFor fllen sllen (contents m t) empty

@@ -3,9 +3,9 @@ use Rattle.rlsf_blocks.proofs.Words.NeverOut.{here_free}
 use Rattle.std.proofs.Common.{ℕ, arith}
 use Rattle.rlsf_base.specs.declared.memory.range.Range.{Range}
 use Rattle.rlsf_base.specs.Space.{Space}
-use Rattle.rlsf_machine.specs.Lists.{IsIn}
-use Rattle.rlsf_machine.specs.State.{State}
-use Rattle.rlsf_machine.proofs.Tiling.{free-le, tiling_of}
+use Rattle.rlsf_model.specs.Lists.{IsIn}
+use Rattle.rlsf_model.specs.State.{State}
+use Rattle.rlsf_model.proofs.Tiling.{free-le, tiling_of}
 use Rattle.rlsf_table.specs.Rewrites.{CanBeBlock}
 use Rattle.rlsf_table.specs.FreeTable.{IsFreeTable}
 use Rattle.rlsf_table.specs.Table.{Table}

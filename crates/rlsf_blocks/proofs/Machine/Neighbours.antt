@@ -4,12 +4,12 @@ use Rattle.std.proofs.lemmas.Bool.{cases_lt}
 use Rattle.rlsf_base.specs.declared.memory.range.Range.{Range}
 use Rattle.rlsf_base.specs.Range.{end_of}
 use Rattle.rlsf_blocks.specs.InBand.{sentinel_of}
-use Rattle.rlsf_machine.specs.Lists.{IsIn}
-use Rattle.rlsf_machine.specs.State.{State, Used}
-use Rattle.rlsf_machine.specs.WellFormed.{coverage, itself, last_bytes, IsWellFormed}
-use Rattle.rlsf_machine.proofs.Coverage.{covers-inside, coverage-IsIn, coverage-some}
-use Rattle.rlsf_machine.proofs.Payloads.{IsUsed-some}
-use Rattle.rlsf_machine.proofs.Tiling.{block_of}
+use Rattle.rlsf_model.specs.Lists.{IsIn}
+use Rattle.rlsf_model.specs.State.{State, Used}
+use Rattle.rlsf_model.specs.WellFormed.{coverage, itself, last_bytes, IsWellFormed}
+use Rattle.rlsf_model.proofs.Coverage.{covers-inside, coverage-IsIn, coverage-some}
+use Rattle.rlsf_model.proofs.Payloads.{IsUsed-some}
+use Rattle.rlsf_model.proofs.Tiling.{block_of}
 use Rattle.rlsf_blocks.proofs.Words.Apart.{Has, used_free, used_used, used_last, chunk_chunk, home_of_used}
 
 -- what begins at an address: a free range, a used block, or the last bytes of a chunk

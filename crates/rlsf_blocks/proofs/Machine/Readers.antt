@@ -10,9 +10,9 @@ use Rattle.rlsf_base.specs.SizeClass.{class_of}
 use Rattle.rlsf_base.specs.Space.{Space}
 use Rattle.rlsf_base.proofs.SizeClasses.Reach.{division-lt}
 use Rattle.rlsf_int.specs.Bits.{bit}
-use Rattle.rlsf_machine.specs.Allocate.{has_class}
-use Rattle.rlsf_machine.specs.Lists.{IsIn}
-use Rattle.rlsf_machine.specs.State.{State}
+use Rattle.rlsf_model.specs.Allocate.{has_class}
+use Rattle.rlsf_model.specs.Lists.{IsIn}
+use Rattle.rlsf_model.specs.State.{State}
 use Rattle.rlsf_table.specs.FreeList.{Links}
 use Rattle.rlsf_table.specs.Table.{class_at, head_at, is_in_row, newest_of, of_class}
 use Rattle.rlsf_table.proofs.FreeLists.Classes.{IsIn-of_class}

@@ -3,10 +3,10 @@ use Rattle.std.proofs.Common.{ℕ, ◌+◌, ◌<◌, ◌≤◌, List, [], ◌∷
 use Rattle.rlsf_base.specs.declared.memory.range.Range.{Range}
 use Rattle.rlsf_base.specs.Range.{end_of}
 use Rattle.rlsf_base.specs.Space.{Space, SamePlace}
-use Rattle.rlsf_machine.specs.Lists.{IsIn}
-use Rattle.rlsf_machine.specs.Run.{Event, IsRemoval, Leads, Runs}
-use Rattle.rlsf_machine.specs.State.{State}
-use Rattle.rlsf_machine.proofs.Chunks.{chunks_stay}
+use Rattle.rlsf_model.specs.Lists.{IsIn}
+use Rattle.rlsf_model.specs.Run.{Event, IsRemoval, Leads, Runs}
+use Rattle.rlsf_model.specs.State.{State}
+use Rattle.rlsf_model.proofs.Chunks.{chunks_stay}
 use Rattle.rlsf_blocks.specs.InBand.{sentinel_of}
 use Rattle.rlsf_blocks.specs.Spare.{IsSpare, KeepsSpare}
 

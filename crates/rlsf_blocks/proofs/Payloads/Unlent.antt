@@ -6,15 +6,15 @@ use Rattle.std.proofs.lemmas.List.{ext_get_or}
 use Rattle.rlsf_base.specs.declared.memory.range.Range.{Range}
 use Rattle.rlsf_base.specs.Range.{end_of}
 use Rattle.rlsf_base.specs.Space.{Space, byte_at, bytes_in, range_of, word_at, word_range}
-use Rattle.rlsf_machine.specs.Lists.{IsIn}
-use Rattle.rlsf_machine.specs.State.{State, Used, usable}
-use Rattle.rlsf_machine.specs.WellFormed.{coverage, covers, IsUsed, IsWellFormed}
+use Rattle.rlsf_model.specs.Lists.{IsIn}
+use Rattle.rlsf_model.specs.State.{State, Used, usable}
+use Rattle.rlsf_model.specs.WellFormed.{coverage, covers, IsUsed, IsWellFormed}
 use Rattle.rlsf_blocks.specs.StandsFor.{IsUnlent}
 use Rattle.rlsf_base.specs.Out.{is_own}
 use Rattle.rlsf_base.proofs.Lending.WordIsHere.{word_at-kept}
-use Rattle.rlsf_machine.proofs.Coverage.{IsIn-map, IsIn-map_from}
-use Rattle.rlsf_machine.proofs.Payloads.{IsUsed-after_start}
-use Rattle.rlsf_machine.proofs.Tiling.{block_of}
+use Rattle.rlsf_model.proofs.Coverage.{IsIn-map, IsIn-map_from}
+use Rattle.rlsf_model.proofs.Payloads.{IsUsed-after_start}
+use Rattle.rlsf_model.proofs.Tiling.{block_of}
 use Rattle.rlsf_table.specs.Table.{Table, head_at, of_class, HasTable}
 use Rattle.rlsf_table.proofs.FreeLists.Chains.{Links-same}
 use Rattle.rlsf_table.proofs.FreeLists.Classes.{IsIn-of_class}

@@ -6,9 +6,9 @@ use Rattle.rlsf_base.specs.Range.{end_of}
 use Rattle.rlsf_blocks.specs.Blocks.{Block, HasBlock}
 use Rattle.rlsf_blocks.specs.InBand.{sentinel_of}
 use Rattle.rlsf_blocks.specs.Steps.Walk.{BlockBegins}
-use Rattle.rlsf_machine.specs.Lists.{IsIn}
-use Rattle.rlsf_machine.specs.State.{State}
-use Rattle.rlsf_machine.specs.WellFormed.{IsWellFormed}
+use Rattle.rlsf_model.specs.Lists.{IsIn}
+use Rattle.rlsf_model.specs.State.{State}
+use Rattle.rlsf_model.specs.WellFormed.{IsWellFormed}
 use Rattle.rlsf_blocks.proofs.Walking.Blocks.{block-some, block_block, block_last, home_of_block}
 use Rattle.rlsf_blocks.proofs.Walking.Places.{in_block, in_last_bytes, block_place}
 use Rattle.rlsf_blocks.proofs.Words.Apart.{Has, chunk_chunk}

@@ -2,11 +2,11 @@
 use Rattle.std.proofs.Common.{◌≡◌, ℕ, ◌+◌, ◌<◌, ◌≤◌, sym, ◌∙◌, ap, subst}
 use Rattle.rlsf_base.specs.declared.memory.range.Range.{Range}
 use Rattle.rlsf_base.specs.Range.{end_of}
-use Rattle.rlsf_machine.specs.Lists.{IsIn}
-use Rattle.rlsf_machine.specs.State.{State}
-use Rattle.rlsf_machine.specs.WellFormed.{IsWellFormed, IsWhole}
-use Rattle.rlsf_machine.proofs.Payloads.{IsUsed-some}
-use Rattle.rlsf_machine.proofs.Tiling.{LiesInChunk}
+use Rattle.rlsf_model.specs.Lists.{IsIn}
+use Rattle.rlsf_model.specs.State.{State}
+use Rattle.rlsf_model.specs.WellFormed.{IsWellFormed, IsWhole}
+use Rattle.rlsf_model.proofs.Payloads.{IsUsed-some}
+use Rattle.rlsf_model.proofs.Tiling.{LiesInChunk}
 use Rattle.rlsf_blocks.specs.Blocks.{Block, HasBlock, used, free}
 use Rattle.rlsf_blocks.proofs.Words.Apart.{Has, free_free, free_last, home_of_free, home_of_used, used_free, used_last, used_used}
 

@@ -1,9 +1,9 @@
 -- Each address of a chunk is one of a block, or of the last bytes of a chunk.
 use Rattle.std.proofs.Common.{ℕ, true, false, refl}
 use Rattle.rlsf_base.specs.declared.memory.range.Range.{Range}
-use Rattle.rlsf_machine.specs.Lists.{IsIn}
-use Rattle.rlsf_machine.specs.State.{State, Used}
-use Rattle.rlsf_machine.specs.WellFormed.{IsWellFormed, last_bytes}
+use Rattle.rlsf_model.specs.Lists.{IsIn}
+use Rattle.rlsf_model.specs.State.{State, Used}
+use Rattle.rlsf_model.specs.WellFormed.{IsWellFormed, last_bytes}
 use Rattle.rlsf_blocks.specs.Blocks.{Block, HasBlock, used, free}
 use Rattle.rlsf_blocks.proofs.Machine.Neighbours.{Place, in_free, in_used, in_last, place_of}
 use Rattle.rlsf_blocks.proofs.Words.Apart.{Has}

@@ -5,8 +5,8 @@ use Rattle.rlsf_base.specs.declared.memory.range.Range.{Range}
 use Rattle.rlsf_base.specs.Range.{end_of}
 use Rattle.rlsf_base.specs.Rounding.{round32}
 use Rattle.rlsf_base.specs.Space.{Space}
-use Rattle.rlsf_machine.specs.ChunkRows.{IsRow}
-use Rattle.rlsf_machine.specs.State.{State}
+use Rattle.rlsf_model.specs.ChunkRows.{IsRow}
+use Rattle.rlsf_model.specs.State.{State}
 use Rattle.rlsf_table.specs.Table.{Table}
 use Rattle.rlsf_blocks.specs.Blocks.{AreBlocks, walked}
 use Rattle.rlsf_blocks.specs.StandsFor.{contents, StandsFor}

@@ -2,12 +2,12 @@
 use Rattle.std.proofs.Common.{◌≡◌, ℕ, ◌+◌, ◌<◌, ◌≤◌, arith}
 use Rattle.rlsf_base.specs.declared.memory.range.Range.{Range}
 use Rattle.rlsf_base.specs.Range.{end_of}
-use Rattle.rlsf_machine.specs.Lists.{IsIn}
-use Rattle.rlsf_machine.specs.State.{State, Used}
-use Rattle.rlsf_machine.specs.WellFormed.{itself, IsWellFormed}
-use Rattle.rlsf_machine.proofs.Coverage.{covers-inside, coverage-IsIn, coverage-unique}
-use Rattle.rlsf_machine.proofs.Payloads.{IsUsed-some}
-use Rattle.rlsf_machine.proofs.Tiling.{block_of, blocks-le, free-le, used-le, tiling_of, LiesInChunk, lies_in_chunk, apart_from_last, IsPart-free, IsPart-used}
+use Rattle.rlsf_model.specs.Lists.{IsIn}
+use Rattle.rlsf_model.specs.State.{State, Used}
+use Rattle.rlsf_model.specs.WellFormed.{itself, IsWellFormed}
+use Rattle.rlsf_model.proofs.Coverage.{covers-inside, coverage-IsIn, coverage-unique}
+use Rattle.rlsf_model.proofs.Payloads.{IsUsed-some}
+use Rattle.rlsf_model.proofs.Tiling.{block_of, blocks-le, free-le, used-le, tiling_of, LiesInChunk, lies_in_chunk, apart_from_last, IsPart-free, IsPart-used}
 
 -- an address of a range
 pub record Has (r : Range) (a : ℕ) : Type 0 where

@@ -13,10 +13,10 @@ use Rattle.rlsf_table.specs.Rewrites.{Rewrites}
 use Rattle.rlsf_table.proofs.Words.Writes.{link_place}
 use Rattle.rlsf_blocks.specs.Steps.Touched.{Touched, at_link, in_hole, at_other}
 use Rattle.rlsf_blocks.specs.InBand.{sentinel_of}
-use Rattle.rlsf_machine.specs.Lists.{IsIn}
-use Rattle.rlsf_machine.specs.State.{State, Used, usable}
-use Rattle.rlsf_machine.specs.WellFormed.{IsWellFormed}
-use Rattle.rlsf_machine.proofs.Payloads.{IsUsed-aligned, IsUsed-after_start, IsUsed-some}
+use Rattle.rlsf_model.specs.Lists.{IsIn}
+use Rattle.rlsf_model.specs.State.{State, Used, usable}
+use Rattle.rlsf_model.specs.WellFormed.{IsWellFormed}
+use Rattle.rlsf_model.proofs.Payloads.{IsUsed-aligned, IsUsed-after_start, IsUsed-some}
 use Rattle.rlsf_blocks.proofs.Words.Apart.{Has, used_free, free_in_memory, used_in_memory}
 
 -- of two ranges that have no address in common, one ends before the other begins

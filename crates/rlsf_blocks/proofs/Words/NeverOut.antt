@@ -1,18 +1,18 @@
 -- What isn't out, since it is no usable byte of a payload: free blocks, the first words of each block, and a chunk's last bytes.
 use Rattle.std.proofs.Common.{true, subst, sym, ◌≡◌, ℕ, ◌+◌, ◌-◌, ◌^◌, ◌<◌, ◌≤◌, arith, ap, inl, inr}
 use Rattle.std.proofs.lemmas.Bool.{cases_eq, cases_lt}
-use Rattle.rlsf_machine.specs.Release.{released}
-use Rattle.rlsf_machine.proofs.Changes.{IsIn-others_from}
+use Rattle.rlsf_model.specs.Release.{released}
+use Rattle.rlsf_model.proofs.Changes.{IsIn-others_from}
 use Rattle.rlsf_base.specs.declared.memory.range.Range.{Range}
 use Rattle.rlsf_base.specs.Out.{is_own}
 use Rattle.rlsf_base.specs.Range.{end_of, range_at}
 use Rattle.rlsf_base.specs.Space.{Space, out_at, range_of, word_at, word_range}
 use Rattle.rlsf_base.specs.OpenSpace.{IsOwned}
-use Rattle.rlsf_machine.specs.Lists.{IsIn}
-use Rattle.rlsf_machine.specs.State.{State, Used, between, usable}
-use Rattle.rlsf_machine.specs.WellFormed.{IsWellFormed, coverage, itself, last_bytes}
-use Rattle.rlsf_machine.proofs.Coverage.{covers-inside, coverage-IsIn}
-use Rattle.rlsf_machine.proofs.Payloads.{IsUsed-after_start}
+use Rattle.rlsf_model.specs.Lists.{IsIn}
+use Rattle.rlsf_model.specs.State.{State, Used, between, usable}
+use Rattle.rlsf_model.specs.WellFormed.{IsWellFormed, coverage, itself, last_bytes}
+use Rattle.rlsf_model.proofs.Coverage.{covers-inside, coverage-IsIn}
+use Rattle.rlsf_model.proofs.Payloads.{IsUsed-after_start}
 use Rattle.rlsf_table.specs.Table.{Table}
 use Rattle.rlsf_blocks.specs.StandsFor.{contents, IsUnlent, StandsFor}
 use Rattle.rlsf_base.proofs.Lending.Present.{own-word}

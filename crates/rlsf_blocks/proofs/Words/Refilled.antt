@@ -11,11 +11,11 @@ use Rattle.rlsf_blocks.specs.Steps.Touched.{Touched}
 use Rattle.rlsf_blocks.specs.InBand.{sentinel_of}
 use Rattle.rlsf_blocks.specs.Spare.{KeepsSpare}
 use Rattle.rlsf_blocks.specs.StandsFor.{contents, StandsFor}
-use Rattle.rlsf_machine.specs.Lists.{IsIn}
-use Rattle.rlsf_machine.specs.State.{State, Used, usable}
-use Rattle.rlsf_machine.specs.WellFormed.{IsWhole, IsWellFormed}
-use Rattle.rlsf_machine.proofs.Payloads.{IsUsed-some}
-use Rattle.rlsf_machine.proofs.Tiling.{LiesInChunk}
+use Rattle.rlsf_model.specs.Lists.{IsIn}
+use Rattle.rlsf_model.specs.State.{State, Used, usable}
+use Rattle.rlsf_model.specs.WellFormed.{IsWhole, IsWellFormed}
+use Rattle.rlsf_model.proofs.Payloads.{IsUsed-some}
+use Rattle.rlsf_model.proofs.Tiling.{LiesInChunk}
 use Rattle.rlsf_blocks.proofs.Chunks.Pools.{KeepsSpare-Touched}
 use Rattle.rlsf_blocks.proofs.Words.Apart.{Has, chunk_chunk}
 use Rattle.rlsf_blocks.proofs.Words.Frames.{used_size, used_previous, used_bytes, used_pad, free_size, free_previous, chunk_first, chunk_sentinel}

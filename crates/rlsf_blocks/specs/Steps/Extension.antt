@@ -6,10 +6,10 @@ use Rattle.rlsf_base.specs.Sizes.{max_pool_size}
 use Rattle.rlsf_base.specs.Space.{Space, range_of}
 use Rattle.rlsf_table.specs.Table.{Table}
 use Rattle.rlsf_blocks.specs.StandsFor.{contents, StandsFor}
-use Rattle.rlsf_machine.specs.Insert.{IsFresh}
-use Rattle.rlsf_machine.specs.Join.{ends_at}
-use Rattle.rlsf_machine.specs.Lists.{without}
-use Rattle.rlsf_machine.specs.State.{State, Used}
+use Rattle.rlsf_model.specs.Insert.{IsFresh}
+use Rattle.rlsf_model.specs.Join.{ends_at}
+use Rattle.rlsf_model.specs.Lists.{without}
+use Rattle.rlsf_model.specs.State.{State, Used}
 
 -- a chunk can grow by so many bytes: it is found by its end, the bytes behind it are fresh, and chunks have no greatest length
 pub record IsExtensible (fllen : ℕ) (memory : Range) (s : State) (c : Range) (n : ℕ) : Type 0 where

@@ -1,8 +1,8 @@
 -- The block of a live payload, in the states that a memory represents.
 use Rattle.std.specs.Prelude.{◌≡◌, ℕ}
 use Rattle.rlsf_base.specs.Space.{Space}
-use Rattle.rlsf_machine.specs.Run.{IsSomeLive}
-use Rattle.rlsf_machine.specs.State.{State, Used, Holds}
+use Rattle.rlsf_model.specs.Run.{IsSomeLive}
+use Rattle.rlsf_model.specs.State.{State, Used, Holds}
 use Rattle.rlsf_blocks.specs.StandsFor.{Contents, StandsFor}
 
 -- some represented state has a payload at the address

@@ -8,9 +8,9 @@ use Rattle.rlsf_table.specs.Rewrites.{Rewrites}
 use Rattle.rlsf_table.specs.Table.{Table, HasTable}
 use Rattle.rlsf_blocks.specs.Steps.Touched.{Touched}
 use Rattle.rlsf_blocks.specs.InBand.{sentinel_of}
-use Rattle.rlsf_machine.specs.Insert.{body, IsClear}
-use Rattle.rlsf_machine.specs.State.{State}
-use Rattle.rlsf_machine.specs.WellFormed.{IsFree, IsWhole}
+use Rattle.rlsf_model.specs.Insert.{body, IsClear}
+use Rattle.rlsf_model.specs.State.{State}
+use Rattle.rlsf_model.specs.WellFormed.{IsFree, IsWhole}
 
 -- a range can become a chunk: it has room for a sentinel and a block of a valid class, lies in the memory, and overlaps no chunk
 pub record IsNewChunk (fllen sllen : ℕ) (m : Space) (s : State) (c : Range) : Type 0 where

@@ -6,9 +6,9 @@ use Rattle.rlsf_base.specs.Space.{Space}
 use Rattle.rlsf_table.specs.Table.{Table}
 use Rattle.rlsf_blocks.specs.Spare.{KeepsSpare}
 use Rattle.rlsf_blocks.specs.StandsFor.{contents, StandsFor}
-use Rattle.rlsf_machine.specs.Lists.{IsIn}
-use Rattle.rlsf_machine.specs.Remove.{IsIdle, removed}
-use Rattle.rlsf_machine.specs.State.{State}
+use Rattle.rlsf_model.specs.Lists.{IsIn}
+use Rattle.rlsf_model.specs.Remove.{IsIdle, removed}
+use Rattle.rlsf_model.specs.State.{State}
 
 -- a chunk of the state begins at the address, and no block of it is in use
 pub record IsIdleChunk (s : State) (c : Range) (start : ℕ) : Type 0 where

@@ -12,9 +12,9 @@ use Rattle.rlsf_table.specs.FreeTable.{IsRoom}
 use Rattle.rlsf_table.specs.Table.{Table, HasTable}
 use Rattle.rlsf_blocks.specs.StandsFor.{contents, StandsFor}
 use Rattle.rlsf_blocks.specs.Steps.Touched.{Touched}
-use Rattle.rlsf_machine.specs.Allocate.{choice, has_class, rest_behind}
-use Rattle.rlsf_machine.specs.Lists.{IsIn, without}
-use Rattle.rlsf_machine.specs.State.{State}
+use Rattle.rlsf_model.specs.Allocate.{choice, has_class, rest_behind}
+use Rattle.rlsf_model.specs.Lists.{IsIn, without}
+use Rattle.rlsf_model.specs.State.{State}
 
 -- a range can become a free block beside those of a list, with the first words of another block behind it
 pub record IsInnerRoom (fllen sllen : ℕ) (m : Space) (t : Table) (free : List Range) (r : Range) : Type 0 where

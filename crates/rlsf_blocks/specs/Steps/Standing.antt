@@ -4,8 +4,8 @@ use Rattle.rlsf_base.specs.Space.{Space}
 use Rattle.rlsf_table.specs.Table.{Table}
 use Rattle.rlsf_blocks.specs.Spare.{KeepsSpare}
 use Rattle.rlsf_blocks.specs.StandsFor.{contents, StandsFor}
-use Rattle.rlsf_machine.specs.Lists.{IsIn}
-use Rattle.rlsf_machine.specs.State.{State, Used}
+use Rattle.rlsf_model.specs.Lists.{IsIn}
+use Rattle.rlsf_model.specs.State.{State, Used}
 
 -- this is true of each state that memory and table represent
 abbrev pub InEach : ℕ → ℕ → Space → Table → (State → Type 0) → Type 0

@@ -8,16 +8,16 @@ use Rattle.rlsf_flex.specs.declared.pool.Pool.{Pool}
 use Rattle.rlsf_flex.specs.Steps.Outside.{KeepsOutsideNow}
 use Rattle.rlsf_flex.specs.SpareBytes.{KeepsSpareButFooter}
 use Rattle.rlsf_flex.specs.StandsFor.{FlexContents, FlexStandsFor}
-use Rattle.rlsf_machine.specs.Answers.{MayAnswer, MayAnswerAll}
-use Rattle.rlsf_machine.specs.Callers.{align_at, bytes_at}
-use Rattle.rlsf_machine.specs.FlexState.{FlexState, KeptPool}
-use Rattle.rlsf_machine.specs.Growth.{Extends, Outcome, TakesIn, range_came, growth_came, growth_note, growth_question, is_more, range_length, range_note, refused}
-use Rattle.rlsf_machine.specs.Note.{Note, LeadsBy, alloc, grow}
-use Rattle.rlsf_machine.specs.Reallocate.{MovesAway}
-use Rattle.rlsf_machine.specs.Sized.{IsSizedFor, live_count}
-use Rattle.rlsf_machine.specs.State.{Used, Holds}
-use Rattle.rlsf_machine.specs.Terms.{Terms}
-use Rattle.rlsf_machine.specs.PoolLength.{HasPool}
+use Rattle.rlsf_model.specs.Answers.{MayAnswer, MayAnswerAll}
+use Rattle.rlsf_model.specs.Callers.{align_at, bytes_at}
+use Rattle.rlsf_model.specs.FlexState.{FlexState, KeptPool}
+use Rattle.rlsf_model.specs.Growth.{Extends, Outcome, TakesIn, range_came, growth_came, growth_note, growth_question, is_more, range_length, range_note, refused}
+use Rattle.rlsf_model.specs.Note.{Note, LeadsBy, alloc, grow}
+use Rattle.rlsf_model.specs.Reallocate.{MovesAway}
+use Rattle.rlsf_model.specs.Sized.{IsSizedFor, live_count}
+use Rattle.rlsf_model.specs.State.{Used, Holds}
+use Rattle.rlsf_model.specs.Terms.{Terms}
+use Rattle.rlsf_model.specs.PoolLength.{HasPool}
 
 -- the outcome of a question for a range
 abbrev pub outcome_of_range : Option Range → Outcome

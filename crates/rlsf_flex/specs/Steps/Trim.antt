@@ -5,11 +5,11 @@ use Rattle.rlsf_base.specs.Range.{end_of}
 use Rattle.rlsf_base.specs.Space.{SamePlace}
 use Rattle.rlsf_blocks.specs.Spare.{KeepsSpare}
 use Rattle.rlsf_flex.specs.StandsFor.{FlexContents, FlexStandsFor}
-use Rattle.rlsf_machine.specs.Lists.{IsIn}
-use Rattle.rlsf_machine.specs.Note.{Note, LeadsBy, dealloc}
-use Rattle.rlsf_machine.specs.Remove.{IsIdle, removed}
-use Rattle.rlsf_machine.specs.Terms.{Terms}
-use Rattle.rlsf_machine.specs.Trim.{all_removed}
+use Rattle.rlsf_model.specs.Lists.{IsIn}
+use Rattle.rlsf_model.specs.Note.{Note, LeadsBy, dealloc}
+use Rattle.rlsf_model.specs.Remove.{IsIdle, removed}
+use Rattle.rlsf_model.specs.Terms.{Terms}
+use Rattle.rlsf_model.specs.Trim.{all_removed}
 
 -- the range has room for a chunk, and ends below 2^64
 abbrev pub HasRoomForChunk : Range → Type 0

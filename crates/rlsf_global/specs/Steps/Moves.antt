@@ -4,11 +4,11 @@ use Rattle.std.specs.declared.num.NonZeroUsize.{NonZeroUsize}
 use Rattle.rlsf_base.specs.declared.memory.layout.Layout.{Layout}
 use Rattle.rlsf_flex.specs.StandsFor.{FlexContents, FlexStandsFor}
 use Rattle.rlsf_global.specs.Locked.{heap_of}
-use Rattle.rlsf_placement.specs.Pages.{MayOwe}
-use Rattle.rlsf_machine.specs.Callers.{align_at, bytes_at}
-use Rattle.rlsf_placement.specs.Cursor.{PageCursor, terms_of}
-use Rattle.rlsf_placement.specs.Moves.{ReallocatesTo}
-use Rattle.rlsf_placement.specs.Rows.{Row, put, without_row}
+use Rattle.rlsf_model_global.specs.Pages.{MayOwe}
+use Rattle.rlsf_model.specs.Callers.{align_at, bytes_at}
+use Rattle.rlsf_model_global.specs.Cursor.{PageCursor, terms_of}
+use Rattle.rlsf_model_global.specs.Moves.{ReallocatesTo}
+use Rattle.rlsf_model_global.specs.Rows.{Row, put, without_row}
 
 -- the payload at an address is now at another, or at its own, and serves a layout there; all others stay
 pub record IsGivenLayout (before after : FlexContents PageCursor) (addr : ℕ) (wanted : Layout) (to : ℕ) : Type 0 where

@@ -1,7 +1,7 @@
 -- Where a search in the live table ends.
 use Rattle.std.specs.Prelude.{◌≡◌, ℕ, ◌<◌, ◌≤◌, List, length, Some, None, slice_index_or, slice_set}
 use Rattle.std.specs.List.{insert, remove}
-use Rattle.rlsf_placement.specs.Rows.{Row, key, put, row_at, without_row}
+use Rattle.rlsf_model_global.specs.Rows.{Row, key, put, row_at, without_row}
 
 -- the entry at place i has the address
 pub record IsRowOf (rows : List Row) (addr i : ℕ) : Type 0 where

@@ -10,7 +10,7 @@ use Rattle.rlsf_malloc.specs.Handle.{SomeHeap, small as R}
 use Rattle.std.specs.Prelude.{◌≡◌}
 use Rattle.rlsf_base.specs.Range.{range_at}
 use Rattle.rlsf_blocks.specs.Blocks.{walked}
-use Rattle.rlsf_machine.specs.ChunkRows.{IsRow}
+use Rattle.rlsf_model.specs.ChunkRows.{IsRow}
 use Rattle.rlsf_malloc.specs.Totals.{AreTotals}
 use Rattle.rlsf_malloc.specs.declared.pools.Totals.{Totals}
 use Rattle.rlsf_malloc.specs.contracts.pools.Totals.{the_row as A}

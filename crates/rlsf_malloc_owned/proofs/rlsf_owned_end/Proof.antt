@@ -14,7 +14,7 @@ use types.Run.{forget, load, look}
 use Rattle.rlsf_base.specs.RawParts.{LiesAtBlock}
 use Rattle.rlsf_base.specs.Changes.{IsOwn}
 use Rattle.rlsf_base.specs.Steps.Ownership.{room_at as room_for_bytes, units_from}
-use Rattle.rlsf_machine.specs.Sized.{live_count}
+use Rattle.rlsf_model.specs.Sized.{live_count}
 use Rattle.rlsf_base.specs.contracts.memory.block.RawParts as parts
 use Rattle.rlsf_base.proofs.memory.block.RawParts.TheLaws as parts_laws
 use Rattle.rlsf_base.specs.contracts.memory.block.RawParts.release_room as k

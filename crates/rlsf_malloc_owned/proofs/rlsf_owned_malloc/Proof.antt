@@ -7,7 +7,7 @@ use Rattle.rlsf_malloc_owned.proofs.Walking.{rawptr_vals, rawptr_Tells, plain, n
 use Rattle.rlsf_malloc_owned.proofs.Walking.{Goes-dropped, ends_at, framed, usize, uint_Makes, Is, shows, peeks, uint_Lawful}
 use base.Fml.{Fml, fsep}
 use Rattle.std.proofs.Common.{length}
-use Rattle.rlsf_machine.specs.Callers.{bytes_at}
+use Rattle.rlsf_model.specs.Callers.{bytes_at}
 use Rattle.rlsf_heap.specs.Heap.{HeapView}
 use Rattle.rlsf_heap.specs.Thin.{owns_reply}
 use Rattle.rlsf_heap.specs.contracts.thin.ThinPayload as raw_payload

@@ -7,10 +7,10 @@ use Rattle.rlsf_base.specs.Space.{Space, word_at}
 use Rattle.rlsf_base.specs.OpenSpace.{IsReadable}
 use Rattle.rlsf_base.proofs.Lending.WordIsHere.{is_word}
 use Rattle.rlsf_base.proofs.Lending.Present.{own-word}
-use Rattle.rlsf_machine.specs.Join.{starts_at, end_or}
-use Rattle.rlsf_machine.specs.Reallocate.{resized}
-use Rattle.rlsf_machine.specs.State.{State, Used, between}
-use Rattle.rlsf_machine.proofs.Payloads.{block_length-le, block_length-whole, IsUsed-after_start}
+use Rattle.rlsf_model.specs.Join.{starts_at, end_or}
+use Rattle.rlsf_model.specs.Reallocate.{resized}
+use Rattle.rlsf_model.specs.State.{State, Used, between}
+use Rattle.rlsf_model.proofs.Payloads.{block_length-le, block_length-whole, IsUsed-after_start}
 use Rattle.rlsf_blocks.specs.StandsFor.{contents, StandsFor}
 use Rattle.rlsf_blocks.specs.Steps.Join.{IsMarked, IsNextOut}
 use Rattle.rlsf_reallocate.specs.Steps.Resize.{IsUsedAt}

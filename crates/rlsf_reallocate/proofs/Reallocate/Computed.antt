@@ -7,11 +7,11 @@ use Rattle.rlsf_base.specs.Space.{Space, bytes_in, with_bytes, word_range}
 use Rattle.rlsf_base.specs.OpenSpace.{IsHere, IsOwned, IsWritable, SameOwn, out_with}
 use Rattle.rlsf_base.proofs.Lending.Copied.{out_at-there}
 use Rattle.rlsf_base.proofs.Lending.Present.{own-here, own-inside, own-there, own-word}
-use Rattle.rlsf_machine.specs.Join.{ends_at, start_or}
-use Rattle.rlsf_machine.specs.Lists.{IsIn, without}
-use Rattle.rlsf_machine.specs.Payload.{block_length, payload_of}
-use Rattle.rlsf_machine.specs.Reallocate.{Plan, in_place, into_previous}
-use Rattle.rlsf_machine.specs.State.{State, Used, usable}
+use Rattle.rlsf_model.specs.Join.{ends_at, start_or}
+use Rattle.rlsf_model.specs.Lists.{IsIn, without}
+use Rattle.rlsf_model.specs.Payload.{block_length, payload_of}
+use Rattle.rlsf_model.specs.Reallocate.{Plan, in_place, into_previous}
+use Rattle.rlsf_model.specs.State.{State, Used, usable}
 use Rattle.rlsf_blocks.specs.StandsFor.{contents, StandsFor}
 use Rattle.rlsf_blocks.specs.Steps.Join.{IsNextOut, IsPreviousOut, union, untouched}
 use Rattle.rlsf_reallocate.specs.Steps.Previous.{FitsBefore, IsUsedBlock}

@@ -8,9 +8,9 @@ use Rattle.rlsf_base.specs.OpenSpace.{IsOwned, out_with}
 use Rattle.rlsf_base.proofs.Lending.Copied.{length-with_bytes, bytes_in-with_bytes, word_at-with_bytes, out_at-copied, none-copied, is_own-copied, here-copied}
 use Rattle.rlsf_base.proofs.Lending.Whole.{none-with}
 use Rattle.rlsf_base.proofs.Lending.Present.{own-inside, own-there}
-use Rattle.rlsf_machine.specs.Lists.{IsIn}
-use Rattle.rlsf_machine.specs.WellFormed.{itself}
-use Rattle.rlsf_machine.proofs.Coverage.{covers-inside, coverage-IsIn}
+use Rattle.rlsf_model.specs.Lists.{IsIn}
+use Rattle.rlsf_model.specs.WellFormed.{itself}
+use Rattle.rlsf_model.proofs.Coverage.{covers-inside, coverage-IsIn}
 use Rattle.rlsf_table.specs.Counts.{Costs}
 use Rattle.rlsf_table.specs.Rewrites.{Rewrites}
 use Rattle.rlsf_blocks.specs.Steps.Rest.{IsInnerRoom}

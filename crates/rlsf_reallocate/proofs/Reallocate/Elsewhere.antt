@@ -10,17 +10,17 @@ use Rattle.rlsf_base.specs.OpenSpace.{IsHere, IsOwned, SameOwn, StaysHere, out_w
 use Rattle.rlsf_base.proofs.Lending.Copied.{out_at-copied, out_at-there, here-copied, is_own-copied}
 use Rattle.rlsf_base.proofs.Lending.Present.{own-inside, own-there}
 use Rattle.rlsf_base.proofs.Lending.Replaced.{length-with, bytes_in-with, bytes_in-there}
-use Rattle.rlsf_machine.specs.Allocate.{given, placed, Places}
-use Rattle.rlsf_machine.specs.Lists.{IsIn}
-use Rattle.rlsf_machine.specs.Reallocate.{in_place, Keeps, MovesAway}
-use Rattle.rlsf_machine.specs.Release.{released}
-use Rattle.rlsf_machine.specs.State.{State, Used, usable, Holds}
-use Rattle.rlsf_machine.specs.WellFormed.{IsWellFormed}
-use Rattle.rlsf_machine.proofs.Changes.{Holds-unique}
-use Rattle.rlsf_machine.proofs.Allocations.{placed-fits}
-use Rattle.rlsf_machine.proofs.Choices.{choice-some}
-use Rattle.rlsf_machine.proofs.Live.{allocated_filled}
-use Rattle.rlsf_machine.proofs.Payloads.{payload_of-after, usable-short, IsUsed-after_start}
+use Rattle.rlsf_model.specs.Allocate.{given, placed, Places}
+use Rattle.rlsf_model.specs.Lists.{IsIn}
+use Rattle.rlsf_model.specs.Reallocate.{in_place, Keeps, MovesAway}
+use Rattle.rlsf_model.specs.Release.{released}
+use Rattle.rlsf_model.specs.State.{State, Used, usable, Holds}
+use Rattle.rlsf_model.specs.WellFormed.{IsWellFormed}
+use Rattle.rlsf_model.proofs.Changes.{Holds-unique}
+use Rattle.rlsf_model.proofs.Allocations.{placed-fits}
+use Rattle.rlsf_model.proofs.Choices.{choice-some}
+use Rattle.rlsf_model.proofs.Live.{allocated_filled}
+use Rattle.rlsf_model.proofs.Payloads.{payload_of-after, usable-short, IsUsed-after_start}
 use Rattle.rlsf_blocks.specs.Spare.{IsSpare, KeepsSpare}
 use Rattle.rlsf_blocks.specs.StandsFor.{contents, StandsFor}
 use Rattle.rlsf_table.specs.Table.{Table}

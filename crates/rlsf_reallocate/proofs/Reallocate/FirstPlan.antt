@@ -1,9 +1,9 @@
 -- A reallocation follows the first plan that can be, or else it goes elsewhere.
 use Rattle.std.proofs.Common.{◌≡◌, ℕ, Option, Some, None, MatchOption, IfNone, refl, sym, ◌∙◌, ap, subst}
 use Rattle.rlsf_base.specs.Space.{Space}
-use Rattle.rlsf_machine.specs.Allocate.{Allocates}
-use Rattle.rlsf_machine.specs.Reallocate.{Plan, in_place, into_next, into_previous, or_else, plan, MovesAway, ReallocatesBy, Replans}
-use Rattle.rlsf_machine.specs.State.{State, Used}
+use Rattle.rlsf_model.specs.Allocate.{Allocates}
+use Rattle.rlsf_model.specs.Reallocate.{Plan, in_place, into_next, into_previous, or_else, plan, MovesAway, ReallocatesBy, Replans}
+use Rattle.rlsf_model.specs.State.{State, Used}
 use Rattle.rlsf_blocks.specs.Spare.{KeepsSpare}
 use Rattle.rlsf_blocks.specs.StandsFor.{contents, StandsFor}
 use Rattle.rlsf_table.specs.Counts.{Counts}

@@ -5,7 +5,7 @@ use Rattle.rlsf_base.specs.Space.{Space, word_at}
 use Rattle.rlsf_table.specs.FreeTable.{IsFreeTable}
 use Rattle.rlsf_blocks.specs.Steps.Join.{IsMarked}
 use Rattle.rlsf_table.specs.Table.{Table}
-use Rattle.rlsf_machine.specs.Join.{starts_at, end_or}
+use Rattle.rlsf_model.specs.Join.{starts_at, end_or}
 use Rattle.rlsf_blocks.proofs.Deallocate.TakenIfFree.{block_there}
 use Rattle.rlsf_table.proofs.FreeLists.Found.{find-start, find-no_start}
 

@@ -10,11 +10,11 @@ use Rattle.rlsf_base.proofs.Lending.Present.{own-word}
 use Rattle.rlsf_blocks.specs.StandsFor.{contents, StandsFor}
 use Rattle.rlsf_blocks.specs.Steps.Join.{FreeBlockBegins, IsMarked}
 use Rattle.rlsf_table.specs.Table.{Table}
-use Rattle.rlsf_machine.specs.Join.{ends_at, starts_at, start_or, end_or}
-use Rattle.rlsf_machine.specs.Lists.{IsIn, without}
-use Rattle.rlsf_machine.specs.State.{State, Used}
-use Rattle.rlsf_machine.specs.WellFormed.{IsWellFormed}
-use Rattle.rlsf_machine.proofs.Coverage.{by_test, find-some}
+use Rattle.rlsf_model.specs.Join.{ends_at, starts_at, start_or, end_or}
+use Rattle.rlsf_model.specs.Lists.{IsIn, without}
+use Rattle.rlsf_model.specs.State.{State, Used}
+use Rattle.rlsf_model.specs.WellFormed.{IsWellFormed}
+use Rattle.rlsf_model.proofs.Coverage.{by_test, find-some}
 use Rattle.rlsf_blocks.proofs.Deallocate.Marks.{Named, named, names_free, names_used, names_none, used_odd, used_begins, last_begins, free_even}
 use Rattle.rlsf_table.proofs.FreeLists.Found.{find-start, find-no_start}
 use Rattle.rlsf_blocks.proofs.Machine.FreeBlocks.{IsFreeTable-free}

@@ -5,15 +5,15 @@ use mathlib.Core.Path.{ap₂}
 use Rattle.std.proofs.lemmas.Bool.{cases_lt, eqb-true, le-leb, lt-leb, le-ltb, lt-ltb}
 use Rattle.rlsf_base.specs.declared.memory.range.Range.{Range}
 use Rattle.rlsf_base.specs.Range.{end_of}
-use Rattle.rlsf_machine.specs.Allocate.{rest_behind}
-use Rattle.rlsf_machine.specs.Join.{join, ends_at, starts_at, start_or, end_or}
-use Rattle.rlsf_machine.specs.Lists.{IsIn, without}
-use Rattle.rlsf_machine.specs.Reallocate.{Plan, resized, tail_joined, in_place, into_next, or_else}
-use Rattle.rlsf_machine.specs.State.{State, Used, between}
-use Rattle.rlsf_machine.specs.WellFormed.{IsWellFormed}
-use Rattle.rlsf_machine.proofs.Coverage.{without-none}
-use Rattle.rlsf_machine.proofs.Payloads.{IsUsed-after_start}
-use Rattle.rlsf_machine.proofs.Plans.{IsSoundPlan, IsSound-in_place, IsSound-into_next}
+use Rattle.rlsf_model.specs.Allocate.{rest_behind}
+use Rattle.rlsf_model.specs.Join.{join, ends_at, starts_at, start_or, end_or}
+use Rattle.rlsf_model.specs.Lists.{IsIn, without}
+use Rattle.rlsf_model.specs.Reallocate.{Plan, resized, tail_joined, in_place, into_next, or_else}
+use Rattle.rlsf_model.specs.State.{State, Used, between}
+use Rattle.rlsf_model.specs.WellFormed.{IsWellFormed}
+use Rattle.rlsf_model.proofs.Coverage.{without-none}
+use Rattle.rlsf_model.proofs.Payloads.{IsUsed-after_start}
+use Rattle.rlsf_model.proofs.Plans.{IsSoundPlan, IsSound-in_place, IsSound-into_next}
 use Rattle.rlsf_table.proofs.FreeLists.Found.{find-no}
 use Rattle.rlsf_reallocate.proofs.Reallocate.Spans.{reach, staying}
 use Rattle.rlsf_blocks.proofs.Words.Apart.{used_free}

@@ -7,13 +7,13 @@ use Rattle.rlsf_base.specs.Range.{end_of, range_at}
 use Rattle.rlsf_base.specs.Space.{Space, word_at, word_range, with_word}
 use Rattle.rlsf_base.specs.OpenSpace.{out_with}
 use Rattle.rlsf_base.proofs.Lending.Present.{own-inside, own-there, own-word}
-use Rattle.rlsf_machine.specs.Allocate.{rest_behind}
-use Rattle.rlsf_machine.specs.Lists.{IsIn}
-use Rattle.rlsf_machine.specs.State.{between}
-use Rattle.rlsf_machine.specs.WellFormed.{itself}
-use Rattle.rlsf_machine.proofs.Changes.{IsIn-rest_behind}
-use Rattle.rlsf_machine.proofs.Coverage.{covers-inside, coverage-IsIn}
-use Rattle.rlsf_machine.proofs.Tiling.{IsValidClass-le}
+use Rattle.rlsf_model.specs.Allocate.{rest_behind}
+use Rattle.rlsf_model.specs.Lists.{IsIn}
+use Rattle.rlsf_model.specs.State.{between}
+use Rattle.rlsf_model.specs.WellFormed.{itself}
+use Rattle.rlsf_model.proofs.Changes.{IsIn-rest_behind}
+use Rattle.rlsf_model.proofs.Coverage.{covers-inside, coverage-IsIn}
+use Rattle.rlsf_model.proofs.Tiling.{IsValidClass-le}
 use Rattle.rlsf_table.specs.Rewrites.{IsLink}
 use Rattle.rlsf_blocks.specs.Steps.Touched.{Touched, at_link, in_hole, at_other}
 use Rattle.rlsf_table.specs.FreeTable.{IsFreeTable}

@@ -9,18 +9,18 @@ use Rattle.rlsf_base.specs.PowerOfTwo.{IsPowerOfTwo}
 use Rattle.rlsf_base.specs.Range.{end_of}
 use Rattle.rlsf_base.proofs.Numbers.PowersOfTwo.{IsPowerOfTwo-positive}
 use Rattle.rlsf_base.proofs.Numbers.Roundings.{next_multiple_of-least, next_multiple_of-multiple}
-use Rattle.rlsf_machine.specs.Allocate.{rest_behind}
-use Rattle.rlsf_machine.specs.Join.{ends_at, starts_at, start_or, end_or}
-use Rattle.rlsf_machine.specs.Lists.{without}
-use Rattle.rlsf_machine.specs.Payload.{block_for, block_length, payload_of}
-use Rattle.rlsf_machine.specs.Reallocate.{Plan, into_previous, into_previous_at}
-use Rattle.rlsf_machine.specs.State.{State, Used}
-use Rattle.rlsf_machine.specs.WellFormed.{IsWellFormed}
+use Rattle.rlsf_model.specs.Allocate.{rest_behind}
+use Rattle.rlsf_model.specs.Join.{ends_at, starts_at, start_or, end_or}
+use Rattle.rlsf_model.specs.Lists.{without}
+use Rattle.rlsf_model.specs.Payload.{block_for, block_length, payload_of}
+use Rattle.rlsf_model.specs.Reallocate.{Plan, into_previous, into_previous_at}
+use Rattle.rlsf_model.specs.State.{State, Used}
+use Rattle.rlsf_model.specs.WellFormed.{IsWellFormed}
 use Rattle.rlsf_blocks.specs.Steps.Join.{untouched}
 use Rattle.rlsf_reallocate.specs.Steps.Previous.{FitsBefore, IsUsedBlock}
 use Rattle.rlsf_reallocate.proofs.Reallocate.Neighbours.{find-ends_at-none, find-ends_at-some, find-starts_at-without, start_or-le, end_or-in_memory}
 use Rattle.rlsf_blocks.proofs.Words.Apart.{used_in_memory}
-use Rattle.rlsf_machine.proofs.Payloads.{IsUsed-some, payload_of-after}
+use Rattle.rlsf_model.proofs.Payloads.{IsUsed-some, payload_of-after}
 
 -- a block at a lower address has its payload at a lower one
 payload_of-order : (a b align : ℕ) → IsPowerOfTwo align → a ≤ b → payload_of a align ≤ payload_of b align

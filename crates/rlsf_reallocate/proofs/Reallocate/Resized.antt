@@ -10,15 +10,15 @@ use Rattle.rlsf_base.specs.Range.{end_of, range_at, LiesIn}
 use Rattle.rlsf_base.specs.Space.{Space, bytes_in, out_at, range_of, word_at, word_range}
 use Rattle.rlsf_base.specs.OpenSpace.{IsOwned}
 use Rattle.rlsf_base.proofs.Lending.WordIsHere.{is_here-word, word_at-is}
-use Rattle.rlsf_machine.specs.Allocate.{rest_behind}
-use Rattle.rlsf_machine.specs.Lists.{IsIn}
-use Rattle.rlsf_machine.specs.Reallocate.{Plan, resized, Keeps, moved, replanned}
-use Rattle.rlsf_machine.specs.State.{State, Used, between, others, usable}
-use Rattle.rlsf_machine.specs.WellFormed.{IsWellFormed}
-use Rattle.rlsf_machine.proofs.Changes.{IsIn-others}
-use Rattle.rlsf_machine.proofs.Coverage.{IsIn-append}
-use Rattle.rlsf_machine.proofs.Payloads.{IsUsed-after_start, IsUsed-aligned, IsUsed-some}
-use Rattle.rlsf_machine.proofs.Plans.{IsSoundPlan, IsWellFormed-replanned}
+use Rattle.rlsf_model.specs.Allocate.{rest_behind}
+use Rattle.rlsf_model.specs.Lists.{IsIn}
+use Rattle.rlsf_model.specs.Reallocate.{Plan, resized, Keeps, moved, replanned}
+use Rattle.rlsf_model.specs.State.{State, Used, between, others, usable}
+use Rattle.rlsf_model.specs.WellFormed.{IsWellFormed}
+use Rattle.rlsf_model.proofs.Changes.{IsIn-others}
+use Rattle.rlsf_model.proofs.Coverage.{IsIn-append}
+use Rattle.rlsf_model.proofs.Payloads.{IsUsed-after_start, IsUsed-aligned, IsUsed-some}
+use Rattle.rlsf_model.proofs.Plans.{IsSoundPlan, IsWellFormed-replanned}
 use Rattle.rlsf_blocks.specs.StandsFor.{contents, IsUnlent, StandsFor}
 use Rattle.rlsf_table.specs.Rewrites.{IsLink}
 use Rattle.rlsf_blocks.specs.Steps.Touched.{Touched, at_link, in_hole, at_other}

@@ -6,17 +6,17 @@ use Rattle.rlsf_base.specs.Range.{end_of, range_at}
 use Rattle.rlsf_base.specs.Space.{Space, range_of}
 use Rattle.rlsf_base.specs.OpenSpace.{IsOwned}
 use Rattle.rlsf_base.proofs.Lending.Present.{own-there}
-use Rattle.rlsf_machine.specs.Join.{starts_at, end_or}
-use Rattle.rlsf_machine.specs.Lists.{IsIn, without}
-use Rattle.rlsf_machine.specs.Release.{released}
-use Rattle.rlsf_machine.specs.State.{State, Used, between, others, usable}
-use Rattle.rlsf_machine.specs.WellFormed.{covers, coverage, itself, IsFree, IsWellFormed, IsWhole}
-use Rattle.rlsf_machine.proofs.Changes.{coverage-others, IsIn-others}
-use Rattle.rlsf_machine.proofs.Coverage.{covers-inside, covers-split, coverage-IsIn, IsIn-without}
-use Rattle.rlsf_machine.proofs.Joins.{IsRight, right_of}
-use Rattle.rlsf_machine.proofs.Payloads.{IsUsed-after_start, IsUsed-some}
-use Rattle.rlsf_machine.proofs.Releases.{IsSound-free, IsWellFormed-released}
-use Rattle.rlsf_machine.proofs.Tiling.{block_of, blocks, blocks-le, tiling_of, IsValidClass-le, LiesInChunk, lies_in_chunk}
+use Rattle.rlsf_model.specs.Join.{starts_at, end_or}
+use Rattle.rlsf_model.specs.Lists.{IsIn, without}
+use Rattle.rlsf_model.specs.Release.{released}
+use Rattle.rlsf_model.specs.State.{State, Used, between, others, usable}
+use Rattle.rlsf_model.specs.WellFormed.{covers, coverage, itself, IsFree, IsWellFormed, IsWhole}
+use Rattle.rlsf_model.proofs.Changes.{coverage-others, IsIn-others}
+use Rattle.rlsf_model.proofs.Coverage.{covers-inside, covers-split, coverage-IsIn, IsIn-without}
+use Rattle.rlsf_model.proofs.Joins.{IsRight, right_of}
+use Rattle.rlsf_model.proofs.Payloads.{IsUsed-after_start, IsUsed-some}
+use Rattle.rlsf_model.proofs.Releases.{IsSound-free, IsWellFormed-released}
+use Rattle.rlsf_model.proofs.Tiling.{block_of, blocks, blocks-le, tiling_of, IsValidClass-le, LiesInChunk, lies_in_chunk}
 use Rattle.rlsf_blocks.specs.StandsFor.{contents, StandsFor}
 use Rattle.rlsf_blocks.specs.Steps.Join.{IsNextOut}
 use Rattle.rlsf_blocks.specs.Steps.Rest.{IsInnerRoom}

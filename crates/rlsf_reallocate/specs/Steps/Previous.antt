@@ -2,11 +2,11 @@
 use Rattle.std.specs.Prelude.{◌≡◌, ℕ, ◌+◌, ◌≤◌, Option, None, Some, MatchOption, find}
 use Rattle.rlsf_base.specs.declared.memory.range.Range.{Range}
 use Rattle.rlsf_base.specs.Range.{end_of}
-use Rattle.rlsf_machine.specs.Join.{ends_at, starts_at, end_or}
-use Rattle.rlsf_machine.specs.Lists.{IsIn, without}
-use Rattle.rlsf_machine.specs.Payload.{block_length, payload_of}
-use Rattle.rlsf_machine.specs.Reallocate.{into_previous}
-use Rattle.rlsf_machine.specs.State.{State, Used}
+use Rattle.rlsf_model.specs.Join.{ends_at, starts_at, end_or}
+use Rattle.rlsf_model.specs.Lists.{IsIn, without}
+use Rattle.rlsf_model.specs.Payload.{block_length, payload_of}
+use Rattle.rlsf_model.specs.Reallocate.{into_previous}
+use Rattle.rlsf_model.specs.State.{State, Used}
 
 -- a used block of the state goes from `block` to `end`, and its payload has that alignment
 pub record IsUsedBlock (s : State) (u : Used) (block end align : ℕ) : Type 0 where

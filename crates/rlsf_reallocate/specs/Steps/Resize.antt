@@ -5,12 +5,12 @@ use Rattle.rlsf_base.specs.declared.memory.range.Range.{Range}
 use Rattle.rlsf_base.specs.Range.{end_of, range_at}
 use Rattle.rlsf_base.specs.OpenSpace.{IsHere}
 use Rattle.rlsf_base.specs.Space.{Space, bytes_in, word_at}
-use Rattle.rlsf_machine.specs.Allocate.{Allocates, rest_behind}
-use Rattle.rlsf_machine.specs.Join.{end_or, starts_at}
-use Rattle.rlsf_machine.specs.Lists.{IsIn}
-use Rattle.rlsf_machine.specs.NoMove.{unmoved_plan}
-use Rattle.rlsf_machine.specs.Reallocate.{MovesAway, Plan, ReallocatesBy, Replans, in_place, plan}
-use Rattle.rlsf_machine.specs.State.{State, Used, usable}
+use Rattle.rlsf_model.specs.Allocate.{Allocates, rest_behind}
+use Rattle.rlsf_model.specs.Join.{end_or, starts_at}
+use Rattle.rlsf_model.specs.Lists.{IsIn}
+use Rattle.rlsf_model.specs.NoMove.{unmoved_plan}
+use Rattle.rlsf_model.specs.Reallocate.{MovesAway, Plan, ReallocatesBy, Replans, in_place, plan}
+use Rattle.rlsf_model.specs.State.{State, Used, usable}
 use Rattle.rlsf_blocks.specs.Spare.{KeepsSpare}
 use Rattle.rlsf_blocks.specs.StandsFor.{Contents, contents, StandsFor}
 use Rattle.rlsf_blocks.specs.Steps.Standing.{StepsTo}

@@ -5,9 +5,9 @@ use Rattle.rlsf_base.specs.declared.memory.range.Range.{Range}
 use Rattle.rlsf_base.specs.Space.{Space, word_at}
 use Rattle.rlsf_table.specs.FreeList.{Links}
 use Rattle.rlsf_table.specs.Rewrites.{CanBeBlock, Rewrites}
-use Rattle.rlsf_machine.specs.Lists.{IsIn, without}
-use Rattle.rlsf_machine.specs.WellFormed.{coverage, covers, itself}
-use Rattle.rlsf_machine.proofs.Coverage.{by_test, covers-inside, coverage-append, coverage-IsIn, coverage-unique, IsIn-append, IsIn-append_left, IsIn-append_right}
+use Rattle.rlsf_model.specs.Lists.{IsIn, without}
+use Rattle.rlsf_model.specs.WellFormed.{coverage, covers, itself}
+use Rattle.rlsf_model.proofs.Coverage.{by_test, covers-inside, coverage-append, coverage-IsIn, coverage-unique, IsIn-append, IsIn-append_left, IsIn-append_right}
 
 -- ---- blocks that begin at different addresses
 

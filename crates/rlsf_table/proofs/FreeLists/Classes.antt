@@ -2,10 +2,10 @@
 use Rattle.std.proofs.Common.{◌≡◌, ℕ, ◌≤◌, Bool, true, false, cond, filter, List, [], ◌∷◌, ◌++◌, arith, inl, inr, sym, ◌∙◌, ap, subst, true≢false}
 use Rattle.std.proofs.lemmas.List.Elements.{filter-append}
 use Rattle.rlsf_base.specs.declared.memory.range.Range.{Range}
-use Rattle.rlsf_machine.specs.Allocate.{has_class}
-use Rattle.rlsf_machine.specs.Lists.{IsIn}
-use Rattle.rlsf_machine.specs.WellFormed.{coverage, itself}
-use Rattle.rlsf_machine.proofs.Coverage.{by_test}
+use Rattle.rlsf_model.specs.Allocate.{has_class}
+use Rattle.rlsf_model.specs.Lists.{IsIn}
+use Rattle.rlsf_model.specs.WellFormed.{coverage, itself}
+use Rattle.rlsf_model.proofs.Coverage.{by_test}
 use Rattle.rlsf_table.specs.Table.{class_at, of_class}
 
 -- ---- what a filter keeps

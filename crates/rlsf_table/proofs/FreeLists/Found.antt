@@ -2,10 +2,10 @@
 use Rattle.std.proofs.Common.{◌≡◌, ℕ, ◌<◌, ◌≤◌, Bool, true, cond, find, true≢false, List, [], ◌∷◌, Some, None, inl, inr, refl, sym, ◌∙◌, ap}
 use Rattle.std.proofs.lemmas.Bool.{eq-eqb, eqb-true}
 use Rattle.rlsf_base.specs.declared.memory.range.Range.{Range}
-use Rattle.rlsf_machine.specs.Join.{starts_at}
-use Rattle.rlsf_machine.specs.Lists.{IsIn, without}
-use Rattle.rlsf_machine.specs.WellFormed.{coverage, itself}
-use Rattle.rlsf_machine.proofs.Coverage.{by_test, find-some}
+use Rattle.rlsf_model.specs.Join.{starts_at}
+use Rattle.rlsf_model.specs.Lists.{IsIn, without}
+use Rattle.rlsf_model.specs.WellFormed.{coverage, itself}
+use Rattle.rlsf_model.proofs.Coverage.{by_test, find-some}
 use Rattle.rlsf_table.proofs.FreeLists.Chains.{starts_apart}
 
 -- the one element that passes is found

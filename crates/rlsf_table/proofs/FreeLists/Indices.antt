@@ -8,7 +8,7 @@ use Rattle.rlsf_base.specs.declared.memory.range.Range.{Range}
 use Rattle.rlsf_base.proofs.Numbers.PowersOfTwo.{floor_log2-lt, pow-between}
 use Rattle.rlsf_base.proofs.SizeClasses.Reach.{division-lt}
 use Rattle.rlsf_base.proofs.SizeMaps.RowLengths.{IsPower-row_length}
-use Rattle.rlsf_machine.specs.WellFormed.{IsFree}
+use Rattle.rlsf_model.specs.WellFormed.{IsFree}
 use Rattle.rlsf_table.specs.Table.{IsClassAt}
 
 module _ {fl_bits sl_bits fllen sllen : ℕ} {r : Range} (valid : IsValid fl_bits sl_bits fllen sllen) (free : IsFree fllen sllen r) where

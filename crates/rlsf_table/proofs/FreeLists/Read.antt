@@ -5,8 +5,8 @@ use Rattle.rlsf_base.specs.Space.{Space, word_at}
 use Rattle.rlsf_base.specs.OpenSpace.{IsReadable}
 use Rattle.rlsf_base.proofs.Lending.WordIsHere.{is_word}
 use Rattle.rlsf_base.proofs.Lending.Present.{own-same}
-use Rattle.rlsf_machine.specs.Lists.{IsIn}
-use Rattle.rlsf_machine.proofs.Coverage.{IsIn-append_left, IsIn-append_right}
+use Rattle.rlsf_model.specs.Lists.{IsIn}
+use Rattle.rlsf_model.proofs.Coverage.{IsIn-append_left, IsIn-append_right}
 use Rattle.rlsf_table.specs.FreeList.{Links}
 use Rattle.rlsf_table.specs.Rewrites.{CanBeBlock}
 use Rattle.rlsf_table.specs.Steps.ClassList.{IsFreeList}

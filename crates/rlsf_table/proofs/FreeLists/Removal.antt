@@ -8,9 +8,9 @@ use Rattle.rlsf_base.proofs.Lending.Present.{own-same}
 use Rattle.rlsf_table.specs.Steps.ClassList.{IsFreeList}
 use Rattle.rlsf_table.specs.FreeList.{Links}
 use Rattle.rlsf_table.specs.Rewrites.{IsLink, CanBeBlock, Rewrites}
-use Rattle.rlsf_machine.specs.Lists.{IsIn}
-use Rattle.rlsf_machine.specs.WellFormed.{coverage, itself}
-use Rattle.rlsf_machine.proofs.Coverage.{coverage-append, IsIn-append_left, IsIn-append_right}
+use Rattle.rlsf_model.specs.Lists.{IsIn}
+use Rattle.rlsf_model.specs.WellFormed.{coverage, itself}
+use Rattle.rlsf_model.proofs.Coverage.{coverage-append, IsIn-append_left, IsIn-append_right}
 use Rattle.rlsf_table.proofs.Words.Writes.{IsWritable-at, Rewrites-trans, Rewrites-weaken, Writes, Writes-some}
 use Rattle.rlsf_table.proofs.FreeLists.Chains.{first_of, head-whole, IsIn-split, Links-behind, Links-hung, previous_in, previous_of, starts_differ}
 

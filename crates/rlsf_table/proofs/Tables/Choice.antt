@@ -11,11 +11,11 @@ use Rattle.rlsf_base.specs.Space.{Space}
 use Rattle.rlsf_base.proofs.SizeClasses.Order.{IsFirstReaching-reaching_class, Reaches-IsAtMost}
 use Rattle.rlsf_base.proofs.SizeClasses.Reach.{division-lt}
 use Rattle.rlsf_base.proofs.SizeMaps.Unmapped.{row_after}
-use Rattle.rlsf_machine.specs.Allocate.{has_class, choice}
-use Rattle.rlsf_machine.specs.Lists.{IsIn}
-use Rattle.rlsf_machine.specs.WellFormed.{IsFree}
-use Rattle.rlsf_machine.proofs.Choices.{choice-from, choice-from_none, has_class-from, has_class-true}
-use Rattle.rlsf_machine.proofs.Coverage.{find-some}
+use Rattle.rlsf_model.specs.Allocate.{has_class, choice}
+use Rattle.rlsf_model.specs.Lists.{IsIn}
+use Rattle.rlsf_model.specs.WellFormed.{IsFree}
+use Rattle.rlsf_model.proofs.Choices.{choice-from, choice-from_none, has_class-from, has_class-true}
+use Rattle.rlsf_model.proofs.Coverage.{find-some}
 use Rattle.rlsf_table.specs.declared.table.ClassIndex.{ClassIndex}
 use Rattle.rlsf_table.specs.FreeList.{Links}
 use Rattle.rlsf_table.specs.FreeTable.{IsLeastFrom}

@@ -4,11 +4,11 @@ use Rattle.std.proofs.lemmas.Bool.{false_from_ne_true}
 use Rattle.rlsf_base.specs.SizeClass.{class_of}
 use Rattle.rlsf_base.specs.declared.memory.range.Range.{Range}
 use Rattle.rlsf_base.specs.Space.{Space}
-use Rattle.rlsf_machine.specs.Allocate.{has_class}
-use Rattle.rlsf_machine.specs.Lists.{IsIn}
-use Rattle.rlsf_machine.specs.WellFormed.{coverage, itself}
-use Rattle.rlsf_machine.proofs.Choices.{has_class-from, has_class-true}
-use Rattle.rlsf_machine.proofs.Coverage.{IsIn-append_right}
+use Rattle.rlsf_model.specs.Allocate.{has_class}
+use Rattle.rlsf_model.specs.Lists.{IsIn}
+use Rattle.rlsf_model.specs.WellFormed.{coverage, itself}
+use Rattle.rlsf_model.proofs.Choices.{has_class-from, has_class-true}
+use Rattle.rlsf_model.proofs.Coverage.{IsIn-append_right}
 use Rattle.rlsf_table.specs.FreeList.{Links}
 use Rattle.rlsf_table.specs.Rewrites.{IsLink, CanBeBlock, Rewrites}
 use Rattle.rlsf_table.specs.Steps.ClassList.{IsFreeList}

@@ -8,10 +8,10 @@ use Rattle.rlsf_base.specs.SizeClass.{class_of, IsAtMost}
 use Rattle.rlsf_base.proofs.Numbers.PowersOfTwo.{floor_log2-lt, pow-between}
 use Rattle.rlsf_base.proofs.SizeClasses.Reach.{division-lt}
 use Rattle.rlsf_int.specs.Bits.{bit, IsFirstOne}
-use Rattle.rlsf_machine.specs.Allocate.{has_class}
-use Rattle.rlsf_machine.specs.Lists.{IsIn}
-use Rattle.rlsf_machine.specs.WellFormed.{IsFree}
-use Rattle.rlsf_machine.proofs.Choices.{has_class-from, has_class-true}
+use Rattle.rlsf_model.specs.Allocate.{has_class}
+use Rattle.rlsf_model.specs.Lists.{IsIn}
+use Rattle.rlsf_model.specs.WellFormed.{IsFree}
+use Rattle.rlsf_model.proofs.Choices.{has_class-from, has_class-true}
 use Rattle.rlsf_table.specs.FreeTable.{IsLeastFrom}
 use Rattle.rlsf_table.specs.Table.{Table, class_at, is_in_row, HasBits}
 use Rattle.rlsf_table.specs.Steps.Places.{scanned_places}

@@ -3,8 +3,8 @@ use Rattle.std.proofs.Common.{◌≡◌, ◌⊎◌, Bool, true, false, cond, ◌
 use Rattle.std.proofs.Common.{subst, inl, inr}
 use Rattle.std.specs.List.{list_any}
 use Rattle.rlsf_base.specs.declared.memory.range.Range.{Range}
-use Rattle.rlsf_machine.specs.Lists.{IsIn}
-use Rattle.rlsf_machine.proofs.Coverage.{by_test, IsIn-append, IsIn-append_left, IsIn-append_right}
+use Rattle.rlsf_model.specs.Lists.{IsIn}
+use Rattle.rlsf_model.proofs.Coverage.{by_test, IsIn-append, IsIn-append_left, IsIn-append_right}
 use Rattle.rlsf_table.proofs.FreeLists.Chains.{IsIn-removal}
 
 module _ (p : Range → Bool) where

@@ -6,7 +6,7 @@ use Rattle.rlsf_base.specs.OpenSpace.{IsWritable, SameOwn, out_with}
 use Rattle.rlsf_base.proofs.Lending.Present.{own-there, own-inside}
 use Rattle.rlsf_base.proofs.Words.Written.{here-written, none-written, is_own-written, out_at-other, bytes_in-with_word, length-with_word, word_at-other, word_at-same}
 use Rattle.rlsf_table.specs.Rewrites.{IsLink, CanBeBlock, Rewrites}
-use Rattle.rlsf_machine.specs.Lists.{IsIn}
+use Rattle.rlsf_model.specs.Lists.{IsIn}
 
 pub Rewrites-refl : (m : Space) (at : ℕ → Type 0) → Rewrites m m at
 Rewrites-refl m at =

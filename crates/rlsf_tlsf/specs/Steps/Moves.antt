@@ -2,11 +2,11 @@
 use Rattle.std.specs.Prelude.{ℕ, [], map, find, ◌==◌, Option, Some, None}
 use Rattle.rlsf_base.specs.declared.memory.range.Range.{Range}
 use Rattle.rlsf_base.specs.Sizes.{max_pool_size, request_size}
-use Rattle.rlsf_machine.specs.Allocate.{choice, given, placed}
-use Rattle.rlsf_machine.specs.Insert.{aligned_part, appended, cut, with_chunks}
-use Rattle.rlsf_machine.specs.Reallocate.{Plan, plan, replanned}
-use Rattle.rlsf_machine.specs.Release.{released}
-use Rattle.rlsf_machine.specs.State.{State, Used}
+use Rattle.rlsf_model.specs.Allocate.{choice, given, placed}
+use Rattle.rlsf_model.specs.Insert.{aligned_part, appended, cut, with_chunks}
+use Rattle.rlsf_model.specs.Reallocate.{Plan, plan, replanned}
+use Rattle.rlsf_model.specs.Release.{released}
+use Rattle.rlsf_model.specs.State.{State, Used}
 
 -- a used block without its bytes
 abbrev pub bare_used : Used → Used

@@ -7,11 +7,11 @@ use Rattle.rlsf_base.specs.Space.{range_of}
 use Rattle.rlsf_flex.specs.Outside.{KeepsOutside}
 use Rattle.rlsf_flex.specs.StandsFor.{FlexContents, FlexStandsFor}
 use Rattle.rlsf_trace_flex_runs.specs.FlexRuns.{DoesFlex, FlexRunState}
-use Rattle.rlsf_machine.specs.FlexRun.{IsFlexStep}
-use Rattle.rlsf_machine.specs.FlexState.{FlexState}
-use Rattle.rlsf_machine.specs.Note.{Note, LeadsBy}
-use Rattle.rlsf_machine.specs.Run.{Event}
-use Rattle.rlsf_machine.specs.Terms.{Terms}
+use Rattle.rlsf_model.specs.FlexRun.{IsFlexStep}
+use Rattle.rlsf_model.specs.FlexState.{FlexState}
+use Rattle.rlsf_model.specs.Note.{Note, LeadsBy}
+use Rattle.rlsf_model.specs.Run.{Event}
+use Rattle.rlsf_model.specs.Terms.{Terms}
 use Rattle.rlsf_trace_runs.specs.Events.{IsDoneBy}
 use Rattle.rlsf_trace_runs.specs.Names.{address, AreNamed, NameTable}
 use Rattle.rlsf_trace_text.specs.declared.op.Answer.{Answer}

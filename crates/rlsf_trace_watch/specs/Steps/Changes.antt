@@ -1,7 +1,7 @@
 -- What an op changes: the payload that it is on, and no other.
 use Rattle.std.specs.Prelude.{◌≡◌, ℕ, Option, Some, None}
 use Rattle.rlsf_base.specs.Space.{range_of}
-use Rattle.rlsf_machine.specs.State.{Used, usable}
+use Rattle.rlsf_model.specs.State.{Used, usable}
 use Rattle.rlsf_tlsf.specs.Allocator.{Allocator}
 use Rattle.rlsf_trace_text.specs.declared.op.Answer.{Answer}
 use Rattle.rlsf_trace_text.specs.declared.op.Op.{Op}

@@ -2,8 +2,8 @@ use Rattle.std.proofs.Common.{◌≡◌, ◌+◌, length, drop, replicate, arith
 use Rattle.std.specs.Int.NonZero.{non_zero_usize_get}
 use Rattle.rlsf_base.specs.Addr.{reply}
 use Rattle.rlsf_base.specs.Space.{range_of}
-use Rattle.rlsf_machine.specs.Insert.{Inserts, IsFresh}
-use Rattle.rlsf_machine.proofs.Untouched.{parts_of-IsFresh}
+use Rattle.rlsf_model.specs.Insert.{Inserts, IsFresh}
+use Rattle.rlsf_model.proofs.Untouched.{parts_of-IsFresh}
 use Rattle.rlsf_tlsf.proofs.Arrivals.{opened}
 use Rattle.rlsf_tlsf.proofs.Standing.{in_state}
 use Rattle.rlsf_bench_steps.proofs.FirstPool.{pool_is_fresh}

@@ -3,10 +3,10 @@ use Rattle.std.proofs.lemmas.List.{get_or_default}
 use Rattle.std.specs.Int.NonZero.{non_zero_usize_get}
 use Rattle.std.specs.Option.{option_map}
 use Rattle.rlsf_base.specs.Addr.{reply}
-use Rattle.rlsf_machine.specs.Allocate.{Allocates}
-use Rattle.rlsf_machine.specs.Reallocate.{Reallocates}
-use Rattle.rlsf_machine.specs.Release.{Deallocates}
-use Rattle.rlsf_machine.specs.State.{IsLive}
+use Rattle.rlsf_model.specs.Allocate.{Allocates}
+use Rattle.rlsf_model.specs.Reallocate.{Reallocates}
+use Rattle.rlsf_model.specs.Release.{Deallocates}
+use Rattle.rlsf_model.specs.State.{IsLive}
 use Rattle.rlsf_tlsf.proofs.Standing.{live_in, stepped}
 use Rattle.rlsf_bench_steps.specs.Slots.{held}
 use Rattle.rlsf_bench_steps.proofs.SlotChanges.{LeadsSlotsOn-freed, LeadsSlotsOn-reallocated, LeadsSlotsOn-answered, held-address, held-moved}

@@ -2,7 +2,7 @@ use Rattle.std.proofs.Common.{◌*◌, ◌/◌, ◌^◌, ◌+◌, arith, refl, a
 use Rattle.std.specs.Int.NonZero.{non_zero_usize_get}
 use Rattle.std.specs.Option.{option_map}
 use Rattle.rlsf_base.specs.Space.{range_of}
-use Rattle.rlsf_machine.specs.Insert.{grown}
+use Rattle.rlsf_model.specs.Insert.{grown}
 use Rattle.rlsf_blocks.proofs.LongerChunks.Appended.{Appends-grown, Appends-inserted, found_chunk, no_most, or_zero, some_most, Costs-cut, Costs-grown}
 use Rattle.rlsf_table.proofs.Costs.{Costs-same, Costs-within}
 use Rattle.rlsf_blocks.proofs.extend.append_chunks.Goals as goal

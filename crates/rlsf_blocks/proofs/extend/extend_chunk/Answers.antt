@@ -4,7 +4,7 @@ use Rattle.rlsf_base.proofs.Lending.Present.{own-there, own-word}
 use Rattle.rlsf_base.specs.declared.memory.range.Range.{Range}
 use Rattle.rlsf_base.specs.Range.{end_of}
 use Rattle.rlsf_base.specs.Space.{range_of, word_range, with_word}
-use Rattle.rlsf_machine.specs.State.{State}
+use Rattle.rlsf_model.specs.State.{State}
 use Rattle.rlsf_blocks.specs.StandsFor.{contents, StandsFor}
 use Rattle.rlsf_blocks.specs.Steps.Extension.{IsExtensible, lengthened, more_block}
 use Rattle.rlsf_blocks.proofs.LongerChunks.Extensions.{extension, here_more, here_extension, AreExtended, AreExtended-from, StandsFor-lengthened, grown_stands, more_bytes, placed}

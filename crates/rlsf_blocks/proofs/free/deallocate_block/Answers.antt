@@ -3,13 +3,13 @@ use Rattle.std.proofs.Common.{subst, ◌<◌, ◌^◌}
 use Rattle.rlsf_base.specs.Space.{word_at}
 use Rattle.std.proofs.Common.{arith, rules, sym, ◌∙◌}
 use Rattle.rlsf_base.proofs.Lending.Present.{owned-same, own-word}
-use Rattle.rlsf_machine.specs.State.{between, usable}
-use Rattle.rlsf_machine.proofs.Payloads.{IsUsed-after_start}
+use Rattle.rlsf_model.specs.State.{between, usable}
+use Rattle.rlsf_model.proofs.Payloads.{IsUsed-after_start}
 use Rattle.rlsf_blocks.proofs.Words.NeverOut.{here_front}
 use Rattle.rlsf_blocks.specs.Steps.Join.{union, untouched}
-use Rattle.rlsf_machine.specs.Join.{ends_at}
-use Rattle.rlsf_machine.specs.Lists.{without}
-use Rattle.rlsf_machine.specs.Release.{released}
+use Rattle.rlsf_model.specs.Join.{ends_at}
+use Rattle.rlsf_model.specs.Lists.{without}
+use Rattle.rlsf_model.specs.Release.{released}
 use Rattle.rlsf_blocks.proofs.Deallocate.Marks.{IsMarked-behind}
 use Rattle.rlsf_blocks.proofs.Deallocate.Releases.{before_at, behind_at, end_computed, gone, IsInnerRoom-union, released_stands, start_before, union_end, union_len, union_start}
 use Rattle.rlsf_blocks.proofs.Deallocate.Releases.{word_computed}

@@ -5,9 +5,9 @@ use Rattle.std.proofs.Common.{◌≡◌, Option, arith, refl, sym, ◌∙◌, ap
 use Rattle.rlsf_base.specs.declared.memory.range.Range.{Range}
 use Rattle.rlsf_base.specs.Sizes.{request_size}
 use Rattle.rlsf_base.specs.Space.{word_at}
-use Rattle.rlsf_machine.specs.Allocate.{Allocates, choice}
-use Rattle.rlsf_machine.specs.State.{State}
-use Rattle.rlsf_machine.proofs.Choices.{choice-some}
+use Rattle.rlsf_model.specs.Allocate.{Allocates, choice}
+use Rattle.rlsf_model.specs.State.{State}
+use Rattle.rlsf_model.proofs.Choices.{choice-some}
 use Rattle.rlsf_table.specs.Table.{IsClassAt}
 use Rattle.rlsf_table.proofs.FreeLists.Counted.{word_at-counted}
 use Rattle.rlsf_blocks.specs.StandsFor.{contents, StandsFor}

@@ -1,7 +1,7 @@
 -- An alignment below 32 is 16 or less, so it divides the address 16 bytes into a block.
 use Rattle.std.proofs.Common.{rules, ◌^◌, ◌<◌, arith}
 use Rattle.rlsf_base.proofs.Numbers.PowersOfTwo.{IsPowerOfTwo-le}
-use Rattle.rlsf_machine.proofs.Payloads.{payload_of-after, payload_of-le}
+use Rattle.rlsf_model.proofs.Payloads.{payload_of-after, payload_of-le}
 use Rattle.rlsf_blocks.proofs.placement.front.Goals as goal
 
 pub returns-else-align-ge-GRANULARITY : goal.returns-else-align-ge-GRANULARITY

@@ -7,9 +7,9 @@ use Rattle.rlsf_base.proofs.Lending.Present.{own-word}
 use Rattle.rlsf_blocks.proofs.Words.NeverOut.{here_free}
 use Rattle.rlsf_base.specs.declared.memory.range.Range.{Range}
 use Rattle.rlsf_base.specs.Sizes.{request_size}
-use Rattle.rlsf_machine.specs.Allocate.{choice}
-use Rattle.rlsf_machine.specs.Payload.{block_length, payload_of}
-use Rattle.rlsf_machine.specs.State.{State}
+use Rattle.rlsf_model.specs.Allocate.{choice}
+use Rattle.rlsf_model.specs.Payload.{block_length, payload_of}
+use Rattle.rlsf_model.specs.State.{State}
 use Rattle.rlsf_table.proofs.FreeLists.Counted.{word_at-counted}
 use Rattle.rlsf_table.proofs.Words.Writes.{Writes, Writes-none, Writes-some}
 use Rattle.rlsf_table.proofs.Words.Writing.{wrote, wrote_there, rewrites_of}
@@ -20,7 +20,7 @@ use Rattle.rlsf_blocks.proofs.Words.Apart.{free_in_memory}
 use Rattle.rlsf_blocks.proofs.Machine.Counted.{KeepsSpare-counted_first, StandsFor-counted}
 use Rattle.rlsf_blocks.proofs.Allocate.Placements.{AreComputed, AreComputed-from, fitting, is_free, IsSized, IsSized-from, IsTaken-computed, IsWritable-block, IsWritable-pad}
 use Rattle.rlsf_blocks.proofs.Allocate.Placements.{Places-sized}
-use Rattle.rlsf_machine.proofs.Allocations.{placed-fits}
+use Rattle.rlsf_model.proofs.Allocations.{placed-fits}
 use Rattle.rlsf_table.proofs.Costs.{Costs-loaded, Costs-then, Costs-within, Costs-written}
 use Rattle.rlsf_blocks.proofs.placement.place.Given as given
 use Rattle.rlsf_blocks.proofs.placement.place.Goals as goal

@@ -1,6 +1,6 @@
 use Rattle.std.proofs.Common.{ℕ, ◌<◌, ◌++◌, arith, refl, rules, sym, subst}
 use Rattle.rlsf_base.specs.declared.memory.range.Range.{Range}
-use Rattle.rlsf_machine.specs.State.{State}
+use Rattle.rlsf_model.specs.State.{State}
 use Rattle.rlsf_table.specs.Table.{IsClassAt}
 use Rattle.rlsf_blocks.specs.Steps.Rest.{IsTaken}
 use Rattle.rlsf_blocks.proofs.Allocate.TakenOut.{ahead, later, is_newest, IsInnerRoom-rest, IsOpened-rest, IsOpened-whole, rest, split_list}

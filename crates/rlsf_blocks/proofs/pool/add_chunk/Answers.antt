@@ -1,8 +1,8 @@
 use Rattle.rlsf_base.specs.Space.{word_range}
 use Rattle.rlsf_base.proofs.Lending.Present.{own-there, own-word}
 use Rattle.std.proofs.Common.{◌+◌, ◌-◌, arith, refl, rules}
-use Rattle.rlsf_machine.specs.Insert.{body}
-use Rattle.rlsf_machine.specs.State.{State}
+use Rattle.rlsf_model.specs.Insert.{body}
+use Rattle.rlsf_model.specs.State.{State}
 use Rattle.rlsf_table.proofs.Words.Writing.{wrote, wrote_there}
 use Rattle.rlsf_blocks.specs.StandsFor.{contents, StandsFor}
 use Rattle.rlsf_blocks.specs.Steps.Pool.{IsNewChunk}

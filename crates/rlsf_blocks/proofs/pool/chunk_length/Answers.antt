@@ -1,6 +1,6 @@
 use Rattle.std.proofs.Common.{rules, ◌≤◌, arith, sym, subst}
 use Rattle.rlsf_base.proofs.SizeMaps.PoolSizes.{max_pool_size-some}
-use Rattle.rlsf_machine.proofs.Cuts.{most_whole}
+use Rattle.rlsf_model.proofs.Cuts.{most_whole}
 use Rattle.rlsf_blocks.proofs.pool.chunk_length.Goals as goal
 
 pub returns-in-Some : goal.returns-in-Some

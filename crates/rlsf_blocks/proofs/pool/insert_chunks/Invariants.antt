@@ -1,6 +1,6 @@
 use Rattle.rlsf_base.specs.Space.{range_of}
-use Rattle.rlsf_machine.specs.Insert.{IsFresh}
-use Rattle.rlsf_machine.specs.State.{State}
+use Rattle.rlsf_model.specs.Insert.{IsFresh}
+use Rattle.rlsf_model.specs.State.{State}
 use Rattle.rlsf_blocks.specs.StandsFor.{contents, StandsFor}
 use Rattle.rlsf_blocks.proofs.Chunks.Pools.{IsFilled}
 use Rattle.rlsf_blocks.proofs.pool.insert_chunks.Given as goal

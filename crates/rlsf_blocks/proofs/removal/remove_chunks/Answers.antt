@@ -2,8 +2,8 @@ use Rattle.std.proofs.Common.{◌≡◌, ◌<◌, length, arith, ap, subst}
 use Rattle.rlsf_base.specs.Range.{end_of}
 use Rattle.rlsf_blocks.specs.Blocks.{walked}
 use Rattle.rlsf_blocks.specs.StandsFor.{contents, StandsFor}
-use Rattle.rlsf_machine.specs.Remove.{removed, outside_of}
-use Rattle.rlsf_machine.specs.State.{State, between}
+use Rattle.rlsf_model.specs.Remove.{removed, outside_of}
+use Rattle.rlsf_model.specs.State.{State, between}
 use Rattle.rlsf_blocks.proofs.Chunks.RemovedRows.{chunk, IsIdle-span, IsIdleChunk-next, IsRemovedTo-next, IsRemovedTo-start, IsRow-span, removed-span}
 use Rattle.rlsf_blocks.proofs.removal.remove_chunks.Goals as goal
 

@@ -1,5 +1,5 @@
 use Rattle.std.proofs.Common.{sym, subst}
-use Rattle.rlsf_machine.specs.Allocate as machine
+use Rattle.rlsf_model.specs.Allocate as machine
 use Rattle.rlsf_checked.specs.Answers.{addr_in}
 use Rattle.rlsf_c.specs.Answers.{place_of}
 use Rattle.rlsf_c.specs.Calls.{Allocates}

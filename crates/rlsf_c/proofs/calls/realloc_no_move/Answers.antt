@@ -1,7 +1,7 @@
 use Rattle.std.proofs.Common.{◌≡◌, None, sym, subst}
 use Rattle.rlsf_base.specs.Addr.{at}
-use Rattle.rlsf_machine.specs.Callers.{align_at}
-use Rattle.rlsf_machine.specs.NoMove.{ReallocatesWithoutMove}
+use Rattle.rlsf_model.specs.Callers.{align_at}
+use Rattle.rlsf_model.specs.NoMove.{ReallocatesWithoutMove}
 use Rattle.rlsf_checked.specs.Answers.{addr_in}
 use Rattle.rlsf_c.specs.Answers.{place_of}
 use Rattle.rlsf_c.specs.Calls.{ResizesThere}

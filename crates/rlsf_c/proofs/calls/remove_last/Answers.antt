@@ -1,6 +1,6 @@
 use Rattle.std.proofs.Common.{◌≡◌, true, cond, subst}
 use Rattle.rlsf_blocks.specs.Blocks.{walked}
-use Rattle.rlsf_machine.specs.Remove.{Removes}
+use Rattle.rlsf_model.specs.Remove.{Removes}
 use Rattle.rlsf_c.specs.Calls.{RemovesLast}
 use Rattle.rlsf_c.specs.Seen.{seen_in}
 use Rattle.rlsf_c.proofs.Outcomes.{step_of}

@@ -1,5 +1,5 @@
 use Rattle.std.proofs.Common.{◌≡◌, None, sym, subst}
-use Rattle.rlsf_machine.specs.Callers.{align_at}
+use Rattle.rlsf_model.specs.Callers.{align_at}
 use Rattle.rlsf_c.specs.Calls.{Tells}
 use Rattle.rlsf_c.specs.Seen.{seen_in}
 use Rattle.rlsf_c.proofs.Outcomes.{none_told}

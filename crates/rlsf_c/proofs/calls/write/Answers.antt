@@ -1,6 +1,6 @@
 use Rattle.std.proofs.Common.{◌≡◌, None, sym, subst}
 use Rattle.rlsf_base.specs.Addr.{at}
-use Rattle.rlsf_machine.specs.Callers.{align_at}
+use Rattle.rlsf_model.specs.Callers.{align_at}
 use Rattle.rlsf_c.specs.Answers.{code_of}
 use Rattle.rlsf_c.specs.Calls.{Writes}
 use Rattle.rlsf_c.specs.Seen.{seen_in}

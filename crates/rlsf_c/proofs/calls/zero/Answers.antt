@@ -1,7 +1,7 @@
 use Rattle.std.proofs.Common.{◌≡◌, None, IsSome, sym, subst}
 use Rattle.std.proofs.lemmas.Bool.{false≢true}
 use Rattle.rlsf_base.specs.Addr.{at}
-use Rattle.rlsf_machine.specs.Callers.{align_at}
+use Rattle.rlsf_model.specs.Callers.{align_at}
 use Rattle.rlsf_c.specs.Calls.{Zeroes}
 use Rattle.rlsf_c.specs.Seen.{seen_in}
 use Rattle.rlsf_c.proofs.Rewritten.{zeroed}

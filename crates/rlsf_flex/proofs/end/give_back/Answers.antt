@@ -1,5 +1,5 @@
 use Rattle.std.proofs.Common.{◌∙◌, [], refl, ap}
-use Rattle.rlsf_machine.specs.Terms.{Terms}
+use Rattle.rlsf_model.specs.Terms.{Terms}
 use Rattle.rlsf_flex.proofs.Ends.{IsAt-back, IsAt-begun, IsAt-fewer, IsAt-front, IsAt-owed, IsAt-starts}
 use Rattle.rlsf_flex.proofs.end.give_back.Goals as goal
 

@@ -1,12 +1,12 @@
 use Rattle.std.proofs.Common.{◌≡◌, ◌≢◌, ◌≤◌, ◌<◌, ◌+◌, ℕ, None, Some, arith, length, refl, sym, ◌∙◌, ap, subst}
 use Rattle.std.proofs.lemmas.Option.{none-some}
 use Rattle.rlsf_base.specs.Addr.{at}
-use Rattle.rlsf_machine.specs.Callers.{align_at, bytes_at}
-use Rattle.rlsf_machine.specs.Reallocate.{Keeps}
-use Rattle.rlsf_machine.specs.Run.{Fills}
-use Rattle.rlsf_machine.specs.Sized.{live_count}
-use Rattle.rlsf_machine.specs.State.{State, with_front}
-use Rattle.rlsf_machine.proofs.CallerWords.{align_at-live, bytes_at-held}
+use Rattle.rlsf_model.specs.Callers.{align_at, bytes_at}
+use Rattle.rlsf_model.specs.Reallocate.{Keeps}
+use Rattle.rlsf_model.specs.Run.{Fills}
+use Rattle.rlsf_model.specs.Sized.{live_count}
+use Rattle.rlsf_model.specs.State.{State, with_front}
+use Rattle.rlsf_model.proofs.CallerWords.{align_at-live, bytes_at-held}
 use Rattle.rlsf_tlsf.specs.Allocator.{IsInState}
 use Rattle.rlsf_tlsf.proofs.Standing.{in_state}
 use Rattle.rlsf_flex.specs.Steps.Growth.{MovesTo}

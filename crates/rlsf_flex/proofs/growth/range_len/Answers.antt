@@ -1,6 +1,6 @@
 use Rattle.std.proofs.Common.{◌+◌, Some, cond, arith, sym, ◌∙◌, ap}
 use Rattle.std.proofs.lemmas.Bool.{lt-ltb}
-use Rattle.rlsf_machine.specs.Growth.{if_fits}
+use Rattle.rlsf_model.specs.Growth.{if_fits}
 use Rattle.rlsf_flex.proofs.Asks.{sum_is}
 use Rattle.rlsf_flex.proofs.growth.range_len.Goals as goal
 

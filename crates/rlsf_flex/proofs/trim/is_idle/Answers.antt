@@ -1,7 +1,7 @@
 use Rattle.std.proofs.Common.{true≢false, refl, sym, ◌∙◌, ap, subst, inl, inr}
 use Rattle.std.proofs.lemmas.Bool.{false≢true}
 use Rattle.rlsf_blocks.specs.Blocks.{Block, walked}
-use Rattle.rlsf_machine.specs.Lists.{IsIn}
+use Rattle.rlsf_model.specs.Lists.{IsIn}
 use Rattle.rlsf_flex.proofs.RangeRows.{none_occupied, occupied_held}
 use Rattle.rlsf_flex.proofs.Standing.{stood}
 use Rattle.rlsf_flex.proofs.trim.is_idle.Goals as goal

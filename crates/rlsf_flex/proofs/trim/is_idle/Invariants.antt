@@ -1,7 +1,7 @@
 -- The used blocks of the iteration are among those that are left of it.
 use Rattle.std.proofs.Common.{◌≡◌, true}
 use Rattle.rlsf_blocks.specs.Blocks.{Block}
-use Rattle.rlsf_machine.specs.Lists.{IsIn}
+use Rattle.rlsf_model.specs.Lists.{IsIn}
 use Rattle.rlsf_flex.proofs.trim.is_idle.Given as goal
 
 abbrev pub invariant-loop-block : goal.invariant-loop-block

@@ -1,7 +1,7 @@
 -- The iteration is at an address where a chunk of the range begins, or at the end of the last.
 use Rattle.std.proofs.Common.{ℕ, ◌-◌}
 use Rattle.rlsf_base.specs.Range.{end_of}
-use Rattle.rlsf_machine.specs.FlexWellFormed.{IsPool}
+use Rattle.rlsf_model.specs.FlexWellFormed.{IsPool}
 use Rattle.rlsf_flex.proofs.RangeRows.{IsEdge}
 use Rattle.rlsf_flex.proofs.trim.pool_len.Given as goal
 

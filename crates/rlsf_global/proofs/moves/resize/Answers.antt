@@ -3,16 +3,16 @@ use Rattle.std.specs.declared.num.NonZeroUsize.{NonZeroUsize}
 use Rattle.rlsf_base.specs.Addr.{at, reply}
 use Rattle.rlsf_flex.specs.StandsFor.{FlexSteps}
 use Rattle.rlsf_global.specs.Locked.{heap_of}
-use Rattle.rlsf_placement.specs.Pages.{MayOwe}
+use Rattle.rlsf_model_global.specs.Pages.{MayOwe}
 use Rattle.rlsf_global.proofs.MovedPayloads.{not_reallocated, not_reallocated_stays, reallocated, reallocated_left, reallocated_stands}
 use Rattle.rlsf_global.proofs.Results.{for_none, for_some, none_of, some_of}
-use Rattle.rlsf_machine.specs.Callers.{align_at, bytes_at}
-use Rattle.rlsf_machine.specs.FlexReallocate.{FlexReallocates}
-use Rattle.rlsf_machine.proofs.CallerWords.{align_at-some}
-use Rattle.rlsf_placement.specs.declared.error.GlobalError.TheVariants.{NoRoom}
-use Rattle.rlsf_placement.specs.Cursor.{PageLeads, terms_of}
-use Rattle.rlsf_placement.specs.Moves.{ReallocatesTo}
-use Rattle.rlsf_placement.specs.Rows.{put, without_row}
+use Rattle.rlsf_model.specs.Callers.{align_at, bytes_at}
+use Rattle.rlsf_model.specs.FlexReallocate.{FlexReallocates}
+use Rattle.rlsf_model.proofs.CallerWords.{align_at-some}
+use Rattle.rlsf_model_global.specs.declared.error.GlobalError.TheVariants.{NoRoom}
+use Rattle.rlsf_model_global.specs.Cursor.{PageLeads, terms_of}
+use Rattle.rlsf_model_global.specs.Moves.{ReallocatesTo}
+use Rattle.rlsf_model_global.specs.Rows.{put, without_row}
 use Rattle.rlsf_global.proofs.moves.resize.Given as given
 use Rattle.rlsf_global.proofs.moves.resize.Goals as goal
 

@@ -1,6 +1,6 @@
 use Rattle.std.proofs.Common.{rules}
 use Rattle.std.proofs.lemmas.List.Sorted.{answers_always}
-use Rattle.rlsf_placement.specs.Rows.{key}
+use Rattle.rlsf_model_global.specs.Rows.{key}
 use Rattle.rlsf_global.proofs.Rows.{all_searched}
 use Rattle.rlsf_global.proofs.table.search.Goals as goal
 

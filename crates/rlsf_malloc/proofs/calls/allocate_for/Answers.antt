@@ -1,6 +1,6 @@
 use Rattle.std.proofs.Common.{sym, subst}
 use Rattle.rlsf_base.specs.Addr.{reply}
-use Rattle.rlsf_machine.specs.Allocate as machine
+use Rattle.rlsf_model.specs.Allocate as machine
 use Rattle.rlsf_malloc.specs.Calls.{Allocates}
 use Rattle.rlsf_malloc.proofs.Outcomes.{allocated, no_layout, step_of}
 use Rattle.rlsf_malloc.proofs.calls.allocate_for.Goals as goal

@@ -1,8 +1,8 @@
 use Rattle.std.proofs.Common.{◌≡◌, ℕ, List, length, replicate, ◌∙◌, ap, subst}
 use Rattle.std.proofs.lemmas.List.{length-replicate}
 use Rattle.rlsf_base.specs.Addr.{at}
-use Rattle.rlsf_machine.specs.Callers.{bytes_at}
-use Rattle.rlsf_machine.specs.Run.{Fills}
+use Rattle.rlsf_model.specs.Callers.{bytes_at}
+use Rattle.rlsf_model.specs.Run.{Fills}
 use Rattle.rlsf_tlsf.specs.Lending.{written}
 use Rattle.rlsf_malloc.proofs.Outcomes.{step_of}
 use Rattle.rlsf_malloc.proofs.calls.zero_payload.Goals as goal

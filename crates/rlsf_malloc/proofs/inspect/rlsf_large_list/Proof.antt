@@ -15,7 +15,7 @@ use Rattle.rlsf_malloc.proofs.Lending.{in_its_block, lends}
 use Rattle.rlsf_malloc.specs.Handle.{SomeHeap, large as R}
 use Rattle.rlsf_base.specs.Range.{range_at}
 use Rattle.rlsf_blocks.specs.Blocks.{walked}
-use Rattle.rlsf_machine.specs.ChunkRows.{IsRow}
+use Rattle.rlsf_model.specs.ChunkRows.{IsRow}
 use Rattle.rlsf_tlsf.specs.Allocator.{Allocator}
 use Rattle.rlsf_malloc.specs.Walk.{IsListing}
 use Rattle.rlsf_malloc.specs.contracts.inspect.rlsf_large_list as f

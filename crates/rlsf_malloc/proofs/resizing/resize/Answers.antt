@@ -1,6 +1,6 @@
 use Rattle.std.proofs.Common.{sym, subst, ◌∙◌, ap, Some}
 use Rattle.rlsf_base.specs.Addr.{at, reply}
-use Rattle.rlsf_machine.specs.Reallocate.{Reallocates}
+use Rattle.rlsf_model.specs.Reallocate.{Reallocates}
 use Rattle.rlsf_malloc.specs.Calls.{Resizes}
 use Rattle.rlsf_malloc.proofs.Outcomes.{resized, step_of}
 use Rattle.rlsf_malloc.proofs.resizing.resize.Goals as goal

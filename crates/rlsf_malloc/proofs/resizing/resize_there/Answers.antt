@@ -1,7 +1,7 @@
 use Rattle.std.proofs.Common.{arith, sym, subst, ◌∙◌, ap, Some}
 use Rattle.rlsf_base.specs.Addr.{at, reply}
 use Rattle.rlsf_base.specs.Layout.{IsLayout}
-use Rattle.rlsf_machine.specs.NoMove.{ReallocatesWithoutMove}
+use Rattle.rlsf_model.specs.NoMove.{ReallocatesWithoutMove}
 use Rattle.rlsf_malloc.specs.Calls.{ResizesThere}
 use Rattle.rlsf_malloc.proofs.Outcomes.{resized_there, step_of}
 use Rattle.rlsf_malloc.proofs.resizing.resize_there.Goals as goal

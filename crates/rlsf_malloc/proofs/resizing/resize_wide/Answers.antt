@@ -1,8 +1,8 @@
 use Rattle.std.proofs.Common.{◌≡◌, ◌≢◌, ℕ, ◌<◌, arith, length, sym, subst, ◌∙◌, ap}
 use Rattle.rlsf_base.specs.Addr.{at}
-use Rattle.rlsf_machine.specs.Callers.{bytes_at, copied_over}
-use Rattle.rlsf_machine.specs.Release.{Deallocates}
-use Rattle.rlsf_machine.specs.Run.{Fills}
+use Rattle.rlsf_model.specs.Callers.{bytes_at, copied_over}
+use Rattle.rlsf_model.specs.Release.{Deallocates}
+use Rattle.rlsf_model.specs.Run.{Fills}
 use Rattle.rlsf_malloc.specs.Calls.{Allocates, ResizesWide}
 use Rattle.rlsf_malloc.proofs.Outcomes.{step_of}
 use Rattle.rlsf_malloc.proofs.WidePayloads.{moved_wide}

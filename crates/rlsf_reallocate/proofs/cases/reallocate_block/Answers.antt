@@ -1,6 +1,6 @@
 use Rattle.std.proofs.Common.{Some, arith, ◌∙◌, sym, rules}
 use Rattle.rlsf_base.proofs.Lending.Present.{here-same, own-here}
-use Rattle.rlsf_machine.specs.State.{usable}
+use Rattle.rlsf_model.specs.State.{usable}
 use Rattle.rlsf_reallocate.proofs.Reallocate.FirstPlan.{in_place-none, IsReallocated-counted_first, IsReallocated-elsewhere, IsReallocated-planned, plan-moves, plan-stays}
 use Rattle.rlsf_reallocate.proofs.Reallocate.FirstPlan.{StandsFor-unchanged}
 use Rattle.std.proofs.lemmas.Option.{none-some}
@@ -9,7 +9,7 @@ use Rattle.rlsf_blocks.proofs.Refused.{none_more}
 use Rattle.rlsf_blocks.proofs.Words.Apart.{used_in_memory}
 use Rattle.rlsf_blocks.proofs.Words.Stays.{Stays, Stays-same, Stays-then}
 use Rattle.rlsf_table.proofs.Costs.{SamePlace-costs, copied_none}
-use Rattle.rlsf_machine.proofs.Payloads.{IsUsed-after_start}
+use Rattle.rlsf_model.proofs.Payloads.{IsUsed-after_start}
 use Rattle.rlsf_reallocate.proofs.cases.reallocate_block.Given as given
 use Rattle.rlsf_reallocate.proofs.cases.reallocate_block.Goals as goal
 use Rattle.rlsf_reallocate.proofs.cases.reallocate_block.Goals.{After-resize_block}

@@ -6,12 +6,12 @@ use Rattle.rlsf_base.specs.Sizes.{request_size}
 use Rattle.rlsf_base.specs.Space.{Space}
 use Rattle.rlsf_base.specs.OpenSpace.{IsHere, IsOwned, SameOwn, StaysHere}
 use Rattle.rlsf_base.proofs.Lending.Present.{out-same, own-here, own-same, own-there}
-use Rattle.rlsf_machine.specs.Allocate.{choice, Places}
-use Rattle.rlsf_machine.specs.Lists.{IsIn}
-use Rattle.rlsf_machine.specs.Reallocate.{in_place}
-use Rattle.rlsf_machine.proofs.Payloads.{IsUsed-after_start}
-use Rattle.rlsf_machine.specs.Release.{released}
-use Rattle.rlsf_machine.specs.State.{State, Used, between, usable}
+use Rattle.rlsf_model.specs.Allocate.{choice, Places}
+use Rattle.rlsf_model.specs.Lists.{IsIn}
+use Rattle.rlsf_model.specs.Reallocate.{in_place}
+use Rattle.rlsf_model.proofs.Payloads.{IsUsed-after_start}
+use Rattle.rlsf_model.specs.Release.{released}
+use Rattle.rlsf_model.specs.State.{State, Used, between, usable}
 use Rattle.rlsf_blocks.specs.Spare.{KeepsSpare}
 use Rattle.rlsf_blocks.specs.StandsFor.{contents, StandsFor}
 use Rattle.rlsf_reallocate.specs.Steps.Resize.{IsUsedAt}

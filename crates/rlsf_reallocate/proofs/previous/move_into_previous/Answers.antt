@@ -2,10 +2,10 @@ use Rattle.std.proofs.Common.{◌≡◌, ◌-◌, ◌≤◌, None, rules, arith,
 use Rattle.rlsf_base.specs.Range.{end_of, range_at}
 use Rattle.rlsf_base.specs.OpenSpace.{IsHere}
 use Rattle.rlsf_base.proofs.Lending.Present.{here-same}
-use Rattle.rlsf_machine.specs.Join.{ends_at}
-use Rattle.rlsf_machine.specs.Lists.{without}
-use Rattle.rlsf_machine.specs.Reallocate.{in_place, into_previous}
-use Rattle.rlsf_machine.specs.State.{State, Used, between, usable}
+use Rattle.rlsf_model.specs.Join.{ends_at}
+use Rattle.rlsf_model.specs.Lists.{without}
+use Rattle.rlsf_model.specs.Reallocate.{in_place, into_previous}
+use Rattle.rlsf_model.specs.State.{State, Used, between, usable}
 use Rattle.rlsf_blocks.specs.StandsFor.{contents, StandsFor}
 use Rattle.rlsf_blocks.specs.Steps.Join.{union, untouched}
 use Rattle.rlsf_reallocate.specs.Steps.Resize.{IsUsedAt}

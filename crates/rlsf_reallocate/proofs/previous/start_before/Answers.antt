@@ -1,8 +1,8 @@
 use Rattle.std.proofs.Common.{◌+◌, rules, arith, refl}
 use Rattle.rlsf_base.proofs.Lending.WordIsHere.{is_word}
 use Rattle.rlsf_base.proofs.Lending.Present.{own-word}
-use Rattle.rlsf_machine.specs.State.{between}
-use Rattle.rlsf_machine.proofs.Payloads.{IsUsed-after_start}
+use Rattle.rlsf_model.specs.State.{between}
+use Rattle.rlsf_model.proofs.Payloads.{IsUsed-after_start}
 use Rattle.rlsf_blocks.proofs.Deallocate.Loaded.{IsMarked-loaded}
 use Rattle.rlsf_blocks.proofs.Deallocate.Marks.{IsMarked-previous, IsPreviousOut-none, previous-fits}
 use Rattle.rlsf_table.proofs.FreeLists.Counted.{IsFreeTable-counted}

@@ -1,8 +1,8 @@
 use Rattle.std.proofs.Common.{◌≡◌, ◌≢◌, ◌+◌, ◌-◌, ◌%◌, ◌<◌, ◌≤◌, arith, rules, sym, ◌∙◌, subst, refl, true≢false}
 use mathlib.Core.Path.{ap₂}
 use Rattle.rlsf_base.specs.Range.{end_of, range_at}
-use Rattle.rlsf_machine.specs.Reallocate.{resized}
-use Rattle.rlsf_machine.specs.State.{State, Used}
+use Rattle.rlsf_model.specs.Reallocate.{resized}
+use Rattle.rlsf_model.specs.State.{State, Used}
 use Rattle.rlsf_blocks.specs.StandsFor.{contents, StandsFor}
 use Rattle.rlsf_blocks.specs.Steps.Join.{IsMarked, IsNextOut}
 use Rattle.rlsf_reallocate.specs.Steps.Resize.{IsOccupied, IsUsedAt}

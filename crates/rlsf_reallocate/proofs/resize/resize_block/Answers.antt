@@ -1,8 +1,8 @@
 use Rattle.std.proofs.Common.{ℕ, ◌+◌, ◌-◌, ◌^◌, ◌<◌, refl, arith, rules}
 use Rattle.rlsf_base.specs.Layout.{IsLayout}
-use Rattle.rlsf_machine.specs.WellFormed.{IsUsed}
-use Rattle.rlsf_machine.proofs.Payloads.{payload_of-le}
-use Rattle.rlsf_machine.specs.State.{State, Used}
+use Rattle.rlsf_model.specs.WellFormed.{IsUsed}
+use Rattle.rlsf_model.proofs.Payloads.{payload_of-le}
+use Rattle.rlsf_model.specs.State.{State, Used}
 use Rattle.rlsf_reallocate.specs.Steps.Resize.{IsUsedAt}
 use Rattle.rlsf_reallocate.proofs.resize.resize_block.Goals as goal
 

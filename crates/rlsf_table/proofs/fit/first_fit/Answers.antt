@@ -1,7 +1,7 @@
 -- The head of the least class from the first on that reaches the size is the choice.
 use Rattle.std.proofs.Common.{arith, rules, ◌≡◌, Some, None, MatchOption, ◌∙◌, sym, subst}
 use Rattle.rlsf_base.specs.declared.memory.range.Range.{Range}
-use Rattle.rlsf_machine.specs.Allocate.{choice}
+use Rattle.rlsf_model.specs.Allocate.{choice}
 use Rattle.rlsf_table.specs.Table.{IsClassAt}
 use Rattle.rlsf_table.proofs.Tables.RowLengths.{row_length-bounds}
 use Rattle.rlsf_table.proofs.Tables.Choice.{choice-past_rows, choice-none_from, choice-head, IsReaching-map_ceil}

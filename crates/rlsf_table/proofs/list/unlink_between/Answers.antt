@@ -9,7 +9,7 @@ use Rattle.rlsf_table.proofs.FreeLists.Read.{next_word, previous_word}
 use Rattle.rlsf_table.proofs.FreeLists.Removal.{Cuts, Links-out, next_placed, previous_placed, Rewrites-out, Writes-back, Writes-forth}
 use Rattle.rlsf_table.proofs.FreeLists.Touches.{behind_touches, between_touches, least_touches}
 use Rattle.rlsf_table.proofs.Words.Writes.{fits_at, IsWritable-at, Writes, Writes-none}
-use Rattle.rlsf_machine.proofs.Coverage.{IsIn-append_right}
+use Rattle.rlsf_model.proofs.Coverage.{IsIn-append_right}
 use Rattle.rlsf_table.proofs.Costs.{Costs-loaded, Costs-same, Costs-then, Costs-within, Costs-written}
 use Rattle.rlsf_table.proofs.list.unlink_between.Goals as goal
 use Rattle.rlsf_table.proofs.list.unlink_between.Goals.{Joined-next-ne0, After-load_at-previous, then-next-ne0, else-next-ne0}

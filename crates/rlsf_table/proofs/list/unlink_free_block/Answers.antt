@@ -1,7 +1,7 @@
 -- The block is taken out of the list of its class; where it was the newest one there, the class's head is set.
 use Rattle.std.proofs.Common.{◌∷◌, arith, inl, refl}
-use Rattle.rlsf_machine.proofs.Choices.{has_class-from}
-use Rattle.rlsf_machine.proofs.Coverage.{IsIn-append_right}
+use Rattle.rlsf_model.proofs.Choices.{has_class-from}
+use Rattle.rlsf_model.proofs.Coverage.{IsIn-append_right}
 use Rattle.rlsf_table.specs.Table.{class_at, head_at, of_class}
 use Rattle.rlsf_table.proofs.Costs.{Costs-counted, Costs-then, Costs-within}
 use Rattle.rlsf_table.proofs.Tables.Linking.{HasTable-removal, HasTable-removal_behind, IsFreeList-amid, IsFreeList-of_class, IsHeadOf-removal, Rewrites-amid_class}

@@ -2,7 +2,7 @@ use Rattle.std.proofs.Common.{length, slice_set, arith, refl, sym, ◌∙◌, ap
 use Rattle.std.proofs.lemmas.List.{length-set}
 use Rattle.rlsf_trace_flex_runs.specs.FlexRuns.{without_source}
 use Rattle.rlsf_trace_flex_runs.specs.Steps.Names.{run_of}
-use Rattle.rlsf_machine.specs.Run.{Fills}
+use Rattle.rlsf_model.specs.Run.{Fills}
 use Rattle.rlsf_trace_runs.specs.Names.{address}
 use Rattle.rlsf_trace_runs.specs.Runs.{with_machine}
 use Rattle.rlsf_trace_runs.proofs.Named.{unnamed}

@@ -4,7 +4,7 @@ use Rattle.rlsf_base.specs.Layout.{IsLayout}
 use Rattle.rlsf_flex.specs.StandsFor.{StepsAlone}
 use Rattle.rlsf_trace_flex_runs.specs.FlexRuns.{without_source}
 use Rattle.rlsf_trace_flex_runs.specs.Steps.Names.{run_of}
-use Rattle.rlsf_machine.specs.NoMove.{ReallocatesWithoutMove}
+use Rattle.rlsf_model.specs.NoMove.{ReallocatesWithoutMove}
 use Rattle.rlsf_trace_runs.specs.Names.{address}
 use Rattle.rlsf_trace_runs.proofs.Named.{owned_live, unnamed}
 use Rattle.rlsf_trace_text.specs.declared.op.Answer.TheVariants.{Refused}

@@ -1,5 +1,5 @@
 use Rattle.std.proofs.Common.{arith, length, replicate, refl, sym, ◌∙◌, ap, subst, rules}
-use Rattle.rlsf_machine.specs.Run.{Fills}
+use Rattle.rlsf_model.specs.Run.{Fills}
 use Rattle.rlsf_tlsf.proofs.Standing.{bytes_in, some_live_in, stepped}
 use Rattle.rlsf_trace_runs.specs.Names.{address}
 use Rattle.rlsf_trace_runs.specs.Runs.{with_machine}

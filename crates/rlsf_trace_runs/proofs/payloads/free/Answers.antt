@@ -1,5 +1,5 @@
 use Rattle.std.proofs.Common.{arith, sym, ◌∙◌, rules}
-use Rattle.rlsf_machine.specs.Release.{Deallocates}
+use Rattle.rlsf_model.specs.Release.{Deallocates}
 use Rattle.rlsf_tlsf.proofs.Standing.{live_in, stepped}
 use Rattle.rlsf_trace_runs.specs.Names.{address}
 use Rattle.rlsf_trace_runs.proofs.NamedPayloads.{freed, not_freed}

@@ -2,8 +2,8 @@ use Rattle.std.proofs.Common.{arith, ◌≡◌, Some, None, refl, ap, sym, ◌�
 use Rattle.std.specs.Int.NonZero.{non_zero_usize_get}
 use Rattle.rlsf_base.specs.Addr.{reply}
 use Rattle.rlsf_base.specs.Layout.{IsLayout}
-use Rattle.rlsf_machine.specs.Reallocate.{Reallocates}
-use Rattle.rlsf_machine.specs.State.{State, Used, IsLive}
+use Rattle.rlsf_model.specs.Reallocate.{Reallocates}
+use Rattle.rlsf_model.specs.State.{State, Used, IsLive}
 use Rattle.rlsf_blocks.specs.Spare.{KeepsSpare}
 use Rattle.rlsf_tlsf.proofs.Standing.{live_in, stepped}
 use Rattle.rlsf_trace_runs.specs.Names.{address}

@@ -1,6 +1,6 @@
 use Rattle.std.proofs.Common.{rules, length, true≢false, arith, refl, sym, ◌∙◌, subst, ◌<◌, ◌^◌}
 use Rattle.rlsf_base.specs.Range.{LiesIn, end_of}
-use Rattle.rlsf_machine.specs.Insert.{Appends, IsNext}
+use Rattle.rlsf_model.specs.Insert.{Appends, IsNext}
 use Rattle.rlsf_trace_text.specs.declared.op.Answer.TheVariants.{Refused}
 use Rattle.rlsf_trace_text.specs.declared.op.Op.TheVariants.{Append}
 use Rattle.rlsf_trace_text.specs.declared.op.TraceError.TheVariants.{BadRange}

@@ -4,9 +4,9 @@ use Rattle.rlsf_base.specs.Addr.{reply}
 use Rattle.rlsf_base.specs.Range.{LiesIn, end_of}
 use Rattle.rlsf_base.specs.Rounding.{round32}
 use Rattle.rlsf_base.specs.Space.{range_of}
-use Rattle.rlsf_machine.specs.Insert.{Inserts, IsFresh}
-use Rattle.rlsf_machine.specs.State.{State, between}
-use Rattle.rlsf_machine.proofs.Untouched.{parts_of-IsFresh}
+use Rattle.rlsf_model.specs.Insert.{Inserts, IsFresh}
+use Rattle.rlsf_model.specs.State.{State, between}
+use Rattle.rlsf_model.proofs.Untouched.{parts_of-IsFresh}
 use Rattle.rlsf_trace_text.specs.declared.op.Answer.TheVariants.{Refused}
 use Rattle.rlsf_trace_text.specs.declared.op.Op.TheVariants.{Insert}
 use Rattle.rlsf_trace_text.specs.declared.op.TraceError.TheVariants.{BadRange}

@@ -1,7 +1,7 @@
 use Rattle.std.proofs.Common.{rules, ◌++◌, [], ◌∷◌, arith, refl, sym, ◌∙◌, ap, subst}
 use Rattle.std.proofs.lemmas.List.{append_assoc, append-nil, get_or_default}
 use Rattle.rlsf_base.specs.Space.{range_of}
-use Rattle.rlsf_machine.specs.State.{empty}
+use Rattle.rlsf_model.specs.State.{empty}
 use Rattle.rlsf_trace_runs.specs.Events.{RunsByEvents}
 use Rattle.rlsf_tlsf.specs.Allocator.{IsInState}
 use Rattle.rlsf_tlsf.proofs.Standing.{in_state}

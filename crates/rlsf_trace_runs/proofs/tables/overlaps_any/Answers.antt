@@ -1,6 +1,6 @@
 use Rattle.std.proofs.Common.{◌-◌, ltb-true, arith, sym, ◌∙◌, subst}
 use Rattle.std.proofs.lemmas.List.{get_or_default}
-use Rattle.rlsf_machine.specs.Lists.{IsIn}
+use Rattle.rlsf_model.specs.Lists.{IsIn}
 use Rattle.rlsf_trace_runs.proofs.PoolOrder.{coverage-last, overlaps_last}
 use Rattle.rlsf_trace_runs.proofs.Overlapping.{IsIn-at, no_range}
 use Rattle.rlsf_trace_runs.proofs.tables.overlaps_any.Goals as goal

@@ -3,7 +3,7 @@ use Rattle.std.proofs.Common.{arith, length, Some, None, true≢false, refl, sym
 use Rattle.std.specs.Option.{option_map}
 use Rattle.rlsf_base.specs.Range.{LiesIn, end_of}
 use Rattle.rlsf_base.specs.Space.{range_of}
-use Rattle.rlsf_machine.specs.ChunkRows.{IsRow}
+use Rattle.rlsf_model.specs.ChunkRows.{IsRow}
 use Rattle.rlsf_blocks.specs.Blocks.{AreBlocks, walked}
 use Rattle.rlsf_trace_text.specs.declared.op.Answer.TheVariants.{Block as Told, Refused}
 use Rattle.rlsf_trace_text.specs.declared.op.Op.TheVariants.{Block}

@@ -5,8 +5,8 @@ use Rattle.std.proofs.lemmas.List.{get_or_default, take_all, take_more}
 use Rattle.std.specs.Map.Iter.{TakesFirst}
 use Rattle.rlsf_base.specs.Space.{range_of}
 use Rattle.rlsf_blocks.specs.Blocks.{AreBlocks, Block, walked}
-use Rattle.rlsf_machine.specs.ChunkRows.{IsRow}
-use Rattle.rlsf_machine.specs.Lists.{IsIn}
+use Rattle.rlsf_model.specs.ChunkRows.{IsRow}
+use Rattle.rlsf_model.specs.Lists.{IsIn}
 use Rattle.rlsf_tlsf.proofs.Standing.{at_state, of_state}
 use Rattle.rlsf_trace_runs.proofs.Overlapping.{IsIn-at}
 use Rattle.rlsf_trace_watch.proofs.Walks.{AreBlocks-all, AreGathered, AreGathered-more, pool_walked, pools_before, walked_bounds}

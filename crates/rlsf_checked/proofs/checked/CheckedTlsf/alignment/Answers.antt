@@ -1,6 +1,6 @@
 use Rattle.std.proofs.Common.{◌^◌, ◌-◌, Some, arith, sym, ◌∙◌, ap, subst}
 use Rattle.rlsf_base.specs.PowerOfTwo.{IsPowerOfTwo}
-use Rattle.rlsf_machine.specs.Callers.{align_at}
+use Rattle.rlsf_model.specs.Callers.{align_at}
 use Rattle.rlsf_checked.proofs.Standing.{marked_as}
 use Rattle.rlsf_checked.proofs.checked.CheckedTlsf.alignment.Goals as goal
 

@@ -1,6 +1,6 @@
 use Rattle.std.proofs.Common.{rules, ◌≡◌, Some, refl, sym, ◌∙◌, ap, subst}
 use Rattle.rlsf_base.specs.Addr.{at}
-use Rattle.rlsf_machine.specs.Callers.{align_at}
+use Rattle.rlsf_model.specs.Callers.{align_at}
 use Rattle.rlsf_checked.specs.Answers.{if_live}
 use Rattle.rlsf_checked.specs.Steps.Marks.{HasMark, mark_at, mark_of}
 use Rattle.rlsf_checked.proofs.Standing.{has_mark, marked_at, stands_after}

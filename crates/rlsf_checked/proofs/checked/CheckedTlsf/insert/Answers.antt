@@ -2,8 +2,8 @@ use Rattle.std.proofs.Common.{rules, ◌≡◌, ◌≤◌, true, Ok, Some, None,
 use Rattle.rlsf_base.specs.Addr.{at}
 use Rattle.rlsf_base.specs.Range.{end_of, range_at}
 use Rattle.rlsf_base.specs.Space.{range_of}
-use Rattle.rlsf_machine.specs.Insert.{Inserts}
-use Rattle.rlsf_machine.specs.State.{State}
+use Rattle.rlsf_model.specs.Insert.{Inserts}
+use Rattle.rlsf_model.specs.State.{State}
 use Rattle.rlsf_tlsf.specs.Allocator.{Steps}
 use Rattle.rlsf_checked.specs.Answers.{if_taken, is_within}
 use Rattle.rlsf_checked.specs.Checked.{checked}

@@ -1,7 +1,7 @@
 use Rattle.std.proofs.Common.{rules, arith, ◌≡◌, ◌+◌, true, false, cond, nat_le, Ok, Err, length, sym, ◌∙◌, ap, subst}
 use Rattle.std.proofs.lemmas.Bool.{leb-true}
 use Rattle.rlsf_base.specs.Addr.{at}
-use Rattle.rlsf_machine.specs.Callers.{bytes_at}
+use Rattle.rlsf_model.specs.Callers.{bytes_at}
 use Rattle.rlsf_checked.specs.Answers.{fits, if_in_range}
 use Rattle.rlsf_checked.specs.Checked.{Checked}
 use Rattle.rlsf_checked.specs.declared.error.CheckedError.TheVariants.{OutOfRange}

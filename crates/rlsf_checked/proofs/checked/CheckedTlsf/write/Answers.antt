@@ -1,8 +1,8 @@
 use Rattle.std.proofs.Common.{rules, refl, ◌≡◌, ◌+◌, true, false, cond, nat_le, Ok, Err, sym, subst, length, arith, ◌∙◌, ap}
 use Rattle.std.specs.List.{splice}
 use Rattle.rlsf_base.specs.Addr.{at}
-use Rattle.rlsf_machine.specs.Callers.{bytes_at, written_over}
-use Rattle.rlsf_machine.specs.Run.{Fills}
+use Rattle.rlsf_model.specs.Callers.{bytes_at, written_over}
+use Rattle.rlsf_model.specs.Run.{Fills}
 use Rattle.rlsf_tlsf.specs.Allocator.{Steps}
 use Rattle.rlsf_tlsf.specs.Lending.{written}
 use Rattle.rlsf_checked.specs.Answers.{fits, if_in_range}

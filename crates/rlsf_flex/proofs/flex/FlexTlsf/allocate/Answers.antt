@@ -3,10 +3,10 @@ use Rattle.std.proofs.Common.{subst}
 use Rattle.rlsf_base.specs.Addr.{at, reply}
 use Rattle.rlsf_flex.specs.StandsFor.{flex_contents, FlexSteps}
 use Rattle.rlsf_flex.specs.Steps.Parts.{flex_over}
-use Rattle.rlsf_machine.specs.Allocate.{Allocates}
-use Rattle.rlsf_machine.specs.Callers.{align_at, bytes_at}
-use Rattle.rlsf_machine.specs.FlexAllocate.{FlexAllocates}
-use Rattle.rlsf_machine.specs.Sized.{IsSizedFor, live_count}
+use Rattle.rlsf_model.specs.Allocate.{Allocates}
+use Rattle.rlsf_model.specs.Callers.{align_at, bytes_at}
+use Rattle.rlsf_model.specs.FlexAllocate.{FlexAllocates}
+use Rattle.rlsf_model.specs.Sized.{IsSizedFor, live_count}
 use Rattle.rlsf_table.proofs.Parameters.{IsValid-widest}
 use Rattle.rlsf_tlsf.specs.Allocator.{Allocator, Steps}
 use Rattle.rlsf_flex.proofs.Allocations.{Tried, allocated_in_more, allocated_in_room, allocated_stands, extended_none, more_is_found, no_room, not_none, nothing_asked}

@@ -1,6 +1,6 @@
 use Rattle.std.proofs.Common.{◌∙◌, ap, length}
 use Rattle.rlsf_base.specs.Addr.{at}
-use Rattle.rlsf_machine.specs.Callers.{bytes_at}
+use Rattle.rlsf_model.specs.Callers.{bytes_at}
 use Rattle.rlsf_flex.specs.StandsFor.{FlexContents}
 use Rattle.rlsf_flex.proofs.flex.FlexTlsf.allocation_usable_size.Goals as goal
 

@@ -1,6 +1,6 @@
 use Rattle.std.proofs.Common.{◌≤◌, IsSome, arith, length, refl, sym, subst}
 use Rattle.rlsf_base.specs.Addr.{at}
-use Rattle.rlsf_machine.specs.Callers.{align_at, bytes_at}
+use Rattle.rlsf_model.specs.Callers.{align_at, bytes_at}
 use Rattle.rlsf_flex.specs.StandsFor.{FlexContents}
 use Rattle.rlsf_flex.proofs.Calls.{stands_alone, steps_alone}
 use Rattle.rlsf_flex.proofs.flex.FlexTlsf.copy_payload.Goals as goal

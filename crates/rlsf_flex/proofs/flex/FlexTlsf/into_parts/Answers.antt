@@ -1,6 +1,6 @@
 use Rattle.std.proofs.Common.{◌∙◌, sym, subst}
-use Rattle.rlsf_machine.specs.End.{notes_at_end, owed_at_end}
-use Rattle.rlsf_machine.specs.Note.{LeadsBy}
+use Rattle.rlsf_model.specs.End.{notes_at_end, owed_at_end}
+use Rattle.rlsf_model.specs.Note.{LeadsBy}
 use Rattle.rlsf_flex.specs.Footers.{AreSpelled}
 use Rattle.rlsf_flex.proofs.Ends.{spelled, ends_with, ends_without}
 use Rattle.rlsf_flex.proofs.flex.FlexTlsf.into_parts.Given as given

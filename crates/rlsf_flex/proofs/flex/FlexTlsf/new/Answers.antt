@@ -1,6 +1,6 @@
 use Rattle.std.proofs.Common.{◌≡◌, None, refl, sym, subst}
 use Rattle.rlsf_flex.specs.StandsFor.{FlexStandsFor, flex_contents}
-use Rattle.rlsf_machine.specs.FlexState.{FlexState, empty}
+use Rattle.rlsf_model.specs.FlexState.{FlexState, empty}
 use Rattle.rlsf_tlsf.proofs.Standing.{in_state}
 use Rattle.rlsf_flex.proofs.EmptyFlex.{FlexStandsFor-empty}
 use Rattle.rlsf_flex.proofs.Standing.{contents_at, flex_stood_at}

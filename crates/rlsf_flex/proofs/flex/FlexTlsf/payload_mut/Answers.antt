@@ -1,7 +1,7 @@
 use Rattle.std.proofs.Common.{length, refl, sym, ap, subst}
 use Rattle.rlsf_base.specs.Addr.{at}
 use Rattle.std.proofs.Common.{IsSome}
-use Rattle.rlsf_machine.specs.Callers.{align_at}
+use Rattle.rlsf_model.specs.Callers.{align_at}
 use Rattle.rlsf_flex.specs.StandsFor.{FlexContents}
 use Rattle.rlsf_tlsf.specs.Lending.{written}
 use Rattle.rlsf_flex.proofs.Calls.{steps_alone}

@@ -5,13 +5,13 @@ use Rattle.rlsf_base.specs.Addr.{at, reply}
 use Rattle.rlsf_flex.specs.StandsFor.{FlexContents, flex_contents, FlexSteps}
 use Rattle.rlsf_flex.specs.Steps.Parts.{flex_over}
 use Rattle.rlsf_flex.specs.Steps.Growth.{MovesTo}
-use Rattle.rlsf_machine.specs.Allocate.{Allocates}
-use Rattle.rlsf_machine.specs.Callers.{align_at, bytes_at}
-use Rattle.rlsf_machine.specs.FlexReallocate.{FlexReallocates, IsStuck}
-use Rattle.rlsf_machine.specs.Reallocate.{HasRoomToResize, HasRoomToStay, Keeps, Reallocates}
-use Rattle.rlsf_machine.specs.Sized.{IsSizedFor, live_count}
-use Rattle.rlsf_machine.specs.State.{Used, usable}
-use Rattle.rlsf_machine.proofs.CallerWords.{align_at-live, bytes_at-held}
+use Rattle.rlsf_model.specs.Allocate.{Allocates}
+use Rattle.rlsf_model.specs.Callers.{align_at, bytes_at}
+use Rattle.rlsf_model.specs.FlexReallocate.{FlexReallocates, IsStuck}
+use Rattle.rlsf_model.specs.Reallocate.{HasRoomToResize, HasRoomToStay, Keeps, Reallocates}
+use Rattle.rlsf_model.specs.Sized.{IsSizedFor, live_count}
+use Rattle.rlsf_model.specs.State.{Used, usable}
+use Rattle.rlsf_model.proofs.CallerWords.{align_at-live, bytes_at-held}
 use Rattle.rlsf_table.proofs.Parameters.{IsValid-widest}
 use Rattle.rlsf_tlsf.specs.Allocator.{Allocator, Steps}
 use Rattle.rlsf_flex.proofs.Allocations.{Tried, extended_none, for_some, more_is_found, not_none, nothing_asked, nothing_more}

@@ -1,5 +1,5 @@
 use Rattle.std.proofs.Common.{None, Some, Option, IfNone, refl, ap}
-use Rattle.rlsf_machine.specs.State.{State}
+use Rattle.rlsf_model.specs.State.{State}
 use Rattle.rlsf_flex.specs.StandsFor.{kept_of}
 use Rattle.rlsf_flex.proofs.Calls.{stands_alone, steps_alone}
 use Rattle.rlsf_flex.proofs.flex.FlexTlsf.reallocate_no_move.Goals as goal

@@ -6,12 +6,12 @@ use Rattle.rlsf_flex.specs.Steps.Footing.{IsFooted}
 use Rattle.rlsf_flex.specs.StandsFor.{kept_pool}
 use Rattle.rlsf_flex.specs.Steps.Growth.{KeepsPayloads}
 use Rattle.rlsf_flex.specs.Steps.Parts.{flex_over}
-use Rattle.rlsf_machine.specs.Growth.{behind, longer}
-use Rattle.rlsf_machine.specs.Insert.{Appends, IsNext}
-use Rattle.rlsf_machine.specs.Lists.{IsIn}
-use Rattle.rlsf_machine.specs.Note.{grow}
-use Rattle.rlsf_machine.specs.Terms.{Terms, with_len}
-use Rattle.rlsf_machine.proofs.TakenPools.{pool_size_is}
+use Rattle.rlsf_model.specs.Growth.{behind, longer}
+use Rattle.rlsf_model.specs.Insert.{Appends, IsNext}
+use Rattle.rlsf_model.specs.Lists.{IsIn}
+use Rattle.rlsf_model.specs.Note.{grow}
+use Rattle.rlsf_model.specs.Terms.{Terms, with_len}
+use Rattle.rlsf_model.proofs.TakenPools.{pool_size_is}
 use Rattle.rlsf_tlsf.proofs.Standing.{of_state, stepped}
 use Rattle.rlsf_flex.proofs.Asks.{AskedGrowth-asked, AskedGrowth-none}
 use Rattle.rlsf_flex.proofs.Calls.{stays_in}

@@ -10,13 +10,13 @@ use Rattle.rlsf_tlsf.specs.Allocator.{IsInState}
 use Rattle.rlsf_flex.specs.StandsFor.{kept_of, kept_pool}
 use Rattle.rlsf_flex.specs.Steps.Growth.{KeepsPayloads}
 use Rattle.rlsf_flex.specs.Steps.Parts.{flex_over}
-use Rattle.rlsf_machine.specs.Growth.{keeps}
-use Rattle.rlsf_machine.specs.Insert.{Inserts}
-use Rattle.rlsf_machine.proofs.Untouched.{parts_of-IsFresh}
-use Rattle.rlsf_machine.specs.Note.{alloc}
-use Rattle.rlsf_machine.specs.Terms.{Terms}
-use Rattle.rlsf_machine.proofs.FlexGrowths.{given_fresh}
-use Rattle.rlsf_machine.proofs.TakenPools.{pool_size_is}
+use Rattle.rlsf_model.specs.Growth.{keeps}
+use Rattle.rlsf_model.specs.Insert.{Inserts}
+use Rattle.rlsf_model.proofs.Untouched.{parts_of-IsFresh}
+use Rattle.rlsf_model.specs.Note.{alloc}
+use Rattle.rlsf_model.specs.Terms.{Terms}
+use Rattle.rlsf_model.proofs.FlexGrowths.{given_fresh}
+use Rattle.rlsf_model.proofs.TakenPools.{pool_size_is}
 use Rattle.rlsf_flex.proofs.Asks.{AskedRange-asked, AskedRange-none}
 use Rattle.rlsf_flex.proofs.Calls.{stays_in}
 use Rattle.rlsf_flex.proofs.NewRanges.{Came, Came-footer, Came-took}

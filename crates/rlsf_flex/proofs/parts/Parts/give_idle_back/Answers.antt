@@ -1,7 +1,7 @@
 use Rattle.std.proofs.Common.{◌+◌, arith, refl, sym, ◌∙◌, ap, subst}
-use Rattle.rlsf_machine.specs.Note.{dealloc}
-use Rattle.rlsf_machine.specs.Terms.{Terms}
-use Rattle.rlsf_machine.specs.Trim.{IsNewestHeld}
+use Rattle.rlsf_model.specs.Note.{dealloc}
+use Rattle.rlsf_model.specs.Terms.{Terms}
+use Rattle.rlsf_model.specs.Trim.{IsNewestHeld}
 use Rattle.rlsf_flex.specs.StandsFor.{FlexContents}
 use Rattle.rlsf_flex.specs.Steps.Parts.{flex_over}
 use Rattle.rlsf_flex.specs.Steps.Trim.{GaveBack}

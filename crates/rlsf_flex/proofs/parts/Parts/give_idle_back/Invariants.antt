@@ -1,7 +1,7 @@
 -- So many of the newest ranges were returned, and nothing else changed.
 use Rattle.std.proofs.Common.{◌≡◌, ◌≤◌, ◌+◌, ◌*◌, true, [], length}
-use Rattle.rlsf_machine.specs.Callers.{align_at, bytes_at}
-use Rattle.rlsf_machine.specs.Sized.{live_count}
+use Rattle.rlsf_model.specs.Callers.{align_at, bytes_at}
+use Rattle.rlsf_model.specs.Sized.{live_count}
 use Rattle.rlsf_flex.specs.Steps.Parts.{flex_over}
 use Rattle.rlsf_flex.specs.Steps.Trim.{GaveBack}
 use Rattle.rlsf_flex.proofs.parts.Parts.give_idle_back.Given as goal

@@ -3,8 +3,8 @@ use Rattle.std.proofs.lemmas.Bool.{false≢true}
 use Rattle.rlsf_base.specs.Space.{IsWord}
 use Rattle.rlsf_flex.specs.Footers.{Footers, first, footer_of}
 use Rattle.rlsf_flex.specs.Steps.Trim.{HasRoomForChunk}
-use Rattle.rlsf_machine.specs.FlexWellFormed.{IsNewest, IsPool}
-use Rattle.rlsf_machine.specs.Trim.{IsNewestHeld}
+use Rattle.rlsf_model.specs.FlexWellFormed.{IsNewest, IsPool}
+use Rattle.rlsf_model.specs.Trim.{IsNewestHeld}
 use Rattle.rlsf_flex.specs.StandsFor.{kept_of}
 use Rattle.rlsf_flex.proofs.NewestRange.{gave_newest, newest_ends, newest_first, newest_footers, newest_held, newest_pool, newest_words, next_pool, others, others_start}
 use Rattle.rlsf_flex.proofs.Standing.{opened, opened_whole, stood_at}

@@ -1,4 +1,4 @@
-use Rattle.rlsf_machine.specs.Growth.{longer}
+use Rattle.rlsf_model.specs.Growth.{longer}
 use Rattle.rlsf_flex.proofs.ranges.GhostRanges.grow.Given as goal
 
 abbrev pub ghost-advance : goal.ghost-advance

@@ -6,9 +6,9 @@ use Rattle.rlsf_global.proofs.Checks.{deallocates_in, deallocates_out}
 use Rattle.rlsf_global.proofs.Lives.{known, unknown}
 use Rattle.rlsf_global.proofs.Placements.{live_row, released, released_locked}
 use Rattle.rlsf_global.proofs.Results.{not-false, not-true}
-use Rattle.rlsf_placement.specs.declared.error.GlobalError.TheVariants.{UnknownAddress, WrongLayout}
-use Rattle.rlsf_placement.specs.Steps.{DeallocatesAsAt}
-use Rattle.rlsf_placement.specs.Rows.{without_row}
+use Rattle.rlsf_model_global.specs.declared.error.GlobalError.TheVariants.{UnknownAddress, WrongLayout}
+use Rattle.rlsf_model_global.specs.Steps.{DeallocatesAsAt}
+use Rattle.rlsf_model_global.specs.Rows.{without_row}
 use Rattle.rlsf_global.proofs.locked.Locked.dealloc.Given as given
 use Rattle.rlsf_global.proofs.locked.Locked.dealloc.Goals as goal
 

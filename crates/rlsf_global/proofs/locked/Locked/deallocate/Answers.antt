@@ -4,9 +4,9 @@ use Rattle.rlsf_base.specs.Addr.{at}
 use Rattle.rlsf_global.specs.Locked.{heap_of}
 use Rattle.rlsf_global.proofs.Lives.{known, unknown}
 use Rattle.rlsf_global.proofs.Placements.{live_row, released, released_locked, some_row}
-use Rattle.rlsf_placement.specs.Steps.{DeallocatesAt}
-use Rattle.rlsf_placement.specs.declared.error.GlobalError.TheVariants.{UnknownAddress}
-use Rattle.rlsf_placement.specs.Rows.{without_row}
+use Rattle.rlsf_model_global.specs.Steps.{DeallocatesAt}
+use Rattle.rlsf_model_global.specs.declared.error.GlobalError.TheVariants.{UnknownAddress}
+use Rattle.rlsf_model_global.specs.Rows.{without_row}
 use Rattle.rlsf_global.proofs.locked.Locked.deallocate.Given as given
 use Rattle.rlsf_global.proofs.locked.Locked.deallocate.Goals as goal
 

@@ -1,7 +1,7 @@
 use Rattle.std.proofs.Common.{rules, subst, sym}
 use Rattle.rlsf_flex.proofs.Standing.{flex_stood}
 use Rattle.rlsf_global.specs.Locked.{IsLocked, locked_contents}
-use Rattle.rlsf_placement.proofs.Maps.{Lists-none}
+use Rattle.rlsf_model_global.proofs.Maps.{Lists-none}
 use Rattle.rlsf_global.proofs.Placements.{locked_stands}
 use Rattle.rlsf_global.proofs.locked.Locked.new.Goals as goal
 

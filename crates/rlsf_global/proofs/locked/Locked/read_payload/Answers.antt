@@ -5,7 +5,7 @@ use Rattle.rlsf_global.proofs.Checks.{reads_in, reads_out}
 use Rattle.rlsf_global.proofs.Layouts.{content_at-is}
 use Rattle.rlsf_global.proofs.Lives.{known, unknown}
 use Rattle.rlsf_global.proofs.Placements.{live_here}
-use Rattle.rlsf_placement.specs.declared.error.GlobalError.TheVariants.{OutOfRange}
+use Rattle.rlsf_model_global.specs.declared.error.GlobalError.TheVariants.{OutOfRange}
 use Rattle.rlsf_global.proofs.locked.Locked.read_payload.Goals as goal
 
 pub payload-payload-requires : goal.payload-payload-requires

@@ -1,6 +1,6 @@
 use Rattle.rlsf_base.specs.Sizes.{request_size}
-use Rattle.rlsf_machine.specs.Allocate.{choice}
-use Rattle.rlsf_machine.specs.Reallocate.{HasRoomToResize}
+use Rattle.rlsf_model.specs.Allocate.{choice}
+use Rattle.rlsf_model.specs.Reallocate.{HasRoomToResize}
 use Rattle.std.proofs.Common.{rules, IsSome, ◌≡◌, ◌≤◌, length, Some, Ok, Err, lit<, ap, ◌∙◌, subst, sym, refl, arith}
 use Rattle.rlsf_global.proofs.Layouts.{content_at-bytes, layout_at-moved_left, layout_at-moved_other, layout_at-none, layout_at-put_here}
 use Rattle.rlsf_base.specs.Addr.{at}
@@ -11,10 +11,10 @@ use Rattle.rlsf_global.proofs.Kept.{kept_asked, kept_usable}
 use Rattle.rlsf_global.proofs.Lives.{known, unknown}
 use Rattle.rlsf_global.proofs.Placements.{live_row, no_row, row_sized}
 use Rattle.rlsf_global.proofs.Results.{not-false, not-true}
-use Rattle.rlsf_machine.specs.Callers.{bytes_at}
-use Rattle.rlsf_placement.specs.declared.error.GlobalError.TheVariants.{NoRoom, WrongLayout}
-use Rattle.rlsf_placement.specs.Moves.{ReallocatesAsAt, ReallocatesTo}
-use Rattle.rlsf_placement.specs.Rows.{put, without_row}
+use Rattle.rlsf_model.specs.Callers.{bytes_at}
+use Rattle.rlsf_model_global.specs.declared.error.GlobalError.TheVariants.{NoRoom, WrongLayout}
+use Rattle.rlsf_model_global.specs.Moves.{ReallocatesAsAt, ReallocatesTo}
+use Rattle.rlsf_model_global.specs.Rows.{put, without_row}
 use Rattle.rlsf_global.proofs.locked.Locked.realloc.Given as given
 use Rattle.rlsf_global.proofs.locked.Locked.realloc.Goals as goal
 

@@ -6,10 +6,10 @@ use Rattle.rlsf_global.proofs.MovedPayloads.{moved_locked, moved_row, same_heap}
 use Rattle.rlsf_global.proofs.Kept.{kept_elsewhere}
 use Rattle.rlsf_global.proofs.Lives.{known, unknown}
 use Rattle.rlsf_global.proofs.Placements.{live_here, live_row, no_row}
-use Rattle.rlsf_placement.proofs.Rows.{without_row-sorted}
-use Rattle.rlsf_placement.specs.declared.error.GlobalError.TheVariants.{NoRoom}
-use Rattle.rlsf_placement.specs.Moves.{MovesAway, ReallocatesAt}
-use Rattle.rlsf_placement.specs.Rows.{IsSorted, put, row_at, without_row}
+use Rattle.rlsf_model_global.proofs.Rows.{without_row-sorted}
+use Rattle.rlsf_model_global.specs.declared.error.GlobalError.TheVariants.{NoRoom}
+use Rattle.rlsf_model_global.specs.Moves.{MovesAway, ReallocatesAt}
+use Rattle.rlsf_model_global.specs.Rows.{IsSorted, put, row_at, without_row}
 use Rattle.rlsf_global.proofs.locked.Locked.reallocate.Given as given
 use Rattle.rlsf_global.proofs.locked.Locked.reallocate.Goals as goal
 

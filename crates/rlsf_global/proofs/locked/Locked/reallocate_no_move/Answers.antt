@@ -1,5 +1,5 @@
 use Rattle.std.proofs.Common.{rules, ◌≡◌, Some, Ok, Err, lit<, ap, ◌∙◌, subst, sym, refl, arith}
-use Rattle.rlsf_placement.specs.Heap.{layout_at}
+use Rattle.rlsf_model_global.specs.Heap.{layout_at}
 use Rattle.rlsf_global.proofs.MovedPayloads.{same_heap}
 use Rattle.rlsf_global.proofs.Layouts.{content_at-bytes, layout_at-moved_other, layout_at-put_here}
 use Rattle.rlsf_base.specs.Addr.{at}
@@ -10,10 +10,10 @@ use Rattle.rlsf_global.proofs.Lives.{known, unknown}
 use Rattle.rlsf_global.proofs.Placements.{live_row}
 use Rattle.rlsf_global.proofs.Resizes.{not_resized, not_resized_locked, resized, resized_locked, resizes_in, resizes_out, row_there}
 use Rattle.rlsf_global.proofs.Results.{not-false, not-true}
-use Rattle.rlsf_placement.specs.declared.error.GlobalError.TheVariants.{NoRoom, WrongLayout}
-use Rattle.rlsf_placement.specs.Moves.{ReallocatesThereAt}
+use Rattle.rlsf_model_global.specs.declared.error.GlobalError.TheVariants.{NoRoom, WrongLayout}
+use Rattle.rlsf_model_global.specs.Moves.{ReallocatesThereAt}
 use Rattle.rlsf_global.specs.Steps.Table.{IsFound}
-use Rattle.rlsf_placement.specs.Rows.{put, without_row}
+use Rattle.rlsf_model_global.specs.Rows.{put, without_row}
 use Rattle.rlsf_global.proofs.locked.Locked.reallocate_no_move.Given as given
 use Rattle.rlsf_global.proofs.locked.Locked.reallocate_no_move.Goals as goal
 

@@ -7,8 +7,8 @@ use Rattle.rlsf_global.specs.Locked.{heap_of}
 use Rattle.rlsf_global.proofs.Checks.{writes_in, writes_out}
 use Rattle.rlsf_global.proofs.Lives.{known, unknown}
 use Rattle.rlsf_global.proofs.Placements.{filled, filled_locked, live_here}
-use Rattle.rlsf_machine.specs.Run.{Fills}
-use Rattle.rlsf_placement.specs.declared.error.GlobalError.TheVariants.{OutOfRange}
+use Rattle.rlsf_model.specs.Run.{Fills}
+use Rattle.rlsf_model_global.specs.declared.error.GlobalError.TheVariants.{OutOfRange}
 use Rattle.rlsf_global.proofs.locked.Locked.write_payload.Goals as goal
 
 pub allocation_usable_size-requires : goal.allocation_usable_size-requires

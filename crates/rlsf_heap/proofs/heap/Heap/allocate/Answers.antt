@@ -4,14 +4,14 @@ use Rattle.rlsf_base.specs.Ledger.{extent}
 use Rattle.rlsf_base.specs.OpenSpace.{IsOwned, out_without}
 use Rattle.rlsf_base.specs.Range.{LiesIn}
 use Rattle.rlsf_base.specs.Space.{range_of}
-use Rattle.rlsf_machine.specs.Allocate.{Allocates, Places}
-use Rattle.rlsf_machine.specs.Callers.{bytes_at}
-use Rattle.rlsf_machine.specs.State.{State, usable}
-use Rattle.rlsf_machine.specs.Sized.{IsSizedFor}
-use Rattle.rlsf_machine.specs.WellFormed.{IsWellFormed}
-use Rattle.rlsf_machine.proofs.CallerWords.{SeesNew, new_seen}
-use Rattle.rlsf_machine.proofs.Payloads.{payload_of-aligned}
-use Rattle.rlsf_machine.proofs.SizedWords.{count_new, never_refused, sized_new}
+use Rattle.rlsf_model.specs.Allocate.{Allocates, Places}
+use Rattle.rlsf_model.specs.Callers.{bytes_at}
+use Rattle.rlsf_model.specs.State.{State, usable}
+use Rattle.rlsf_model.specs.Sized.{IsSizedFor}
+use Rattle.rlsf_model.specs.WellFormed.{IsWellFormed}
+use Rattle.rlsf_model.proofs.CallerWords.{SeesNew, new_seen}
+use Rattle.rlsf_model.proofs.Payloads.{payload_of-aligned}
+use Rattle.rlsf_model.proofs.SizedWords.{count_new, never_refused, sized_new}
 use Rattle.rlsf_blocks.specs.Laws.{read_from}
 use Rattle.rlsf_blocks.specs.StandsFor.{contents, StandsFor}
 use Rattle.rlsf_tlsf.specs.Steps.Moves.{allocated, bare}

@@ -1,5 +1,5 @@
 use Rattle.std.proofs.Common.{true≢false, Some, sym, subst, ◌∙◌}
-use Rattle.rlsf_machine.specs.Allocate.{Allocates}
+use Rattle.rlsf_model.specs.Allocate.{Allocates}
 use Rattle.rlsf_heap.specs.Heap.{Steps}
 use Rattle.rlsf_heap.proofs.ThinPayloads.{reply_some, some_address}
 use Rattle.rlsf_heap.proofs.heap.Heap.allocate_thin.Goals as goal

@@ -1,5 +1,5 @@
 use Rattle.std.proofs.Common.{◌≡◌, ℕ, ◌%◌, Some, length, ap, subst, ◌∙◌}
-use Rattle.rlsf_machine.specs.Allocate.{Allocates}
+use Rattle.rlsf_model.specs.Allocate.{Allocates}
 use Rattle.rlsf_heap.specs.Heap.{Identity, Steps}
 use Rattle.rlsf_heap.specs.Units.{payload_len}
 use Rattle.rlsf_heap.proofs.UnitPayloads.{units-long, payload_len-whole}

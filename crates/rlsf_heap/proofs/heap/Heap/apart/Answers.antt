@@ -1,7 +1,7 @@
 use Rattle.std.proofs.Common.{◌≡◌, ◌≢◌, ℕ, ◌++◌, ◌∷◌, [], List, length, set, Some, true, false, sym, ap, subst, ◌∙◌}
 use Rattle.rlsf_base.specs.Ledger.{Entry, Extent, entry_of, extent, IsIssued}
-use Rattle.rlsf_machine.specs.Callers.{align_at, bytes_at}
-use Rattle.rlsf_machine.specs.State.{State}
+use Rattle.rlsf_model.specs.Callers.{align_at, bytes_at}
+use Rattle.rlsf_model.specs.State.{State}
 use Rattle.rlsf_blocks.specs.Laws.{read_from}
 use Rattle.rlsf_heap.specs.Heap.{AreIssued, HeapView, IsPayload, LiesInChunk, PayloadView, payload_range}
 use Rattle.rlsf_heap.proofs.PayloadsApart.{redeemed_ticket, shown_aligned, shown_apart, shown_inside, shown_live, shown_long}

@@ -1,14 +1,14 @@
 use Rattle.std.proofs.Common.{◌≡◌, arith, sym, ◌∙◌, ap, subst}
 use Rattle.rlsf_base.specs.Space.{range_of}
-use Rattle.rlsf_machine.specs.Insert.{Appends, IsNext}
-use Rattle.rlsf_machine.specs.Run.{append}
-use Rattle.rlsf_machine.specs.State.{State}
-use Rattle.rlsf_machine.specs.WellFormed.{IsWellFormed}
-use Rattle.rlsf_machine.proofs.AppendedRanges.{untouched_appended}
-use Rattle.rlsf_machine.proofs.CallerWords.{same_seen}
-use Rattle.rlsf_machine.proofs.Callers.{callers_see_map}
-use Rattle.rlsf_machine.proofs.Chunks.{used-appended}
-use Rattle.rlsf_machine.proofs.SizedWords.{count_appended, sized_appended}
+use Rattle.rlsf_model.specs.Insert.{Appends, IsNext}
+use Rattle.rlsf_model.specs.Run.{append}
+use Rattle.rlsf_model.specs.State.{State}
+use Rattle.rlsf_model.specs.WellFormed.{IsWellFormed}
+use Rattle.rlsf_model.proofs.AppendedRanges.{untouched_appended}
+use Rattle.rlsf_model.proofs.CallerWords.{same_seen}
+use Rattle.rlsf_model.proofs.Callers.{callers_see_map}
+use Rattle.rlsf_model.proofs.Chunks.{used-appended}
+use Rattle.rlsf_model.proofs.SizedWords.{count_appended, sized_appended}
 use Rattle.rlsf_table.proofs.Parameters.{IsValid-widest}
 use Rattle.rlsf_blocks.specs.Laws.{read_from}
 use Rattle.rlsf_blocks.specs.StandsFor.{contents, StandsFor}

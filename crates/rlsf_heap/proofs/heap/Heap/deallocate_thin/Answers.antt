@@ -1,17 +1,17 @@
 use Rattle.std.proofs.Common.{◌≡◌, ℕ, ◌+◌, ◌-◌, Some, rules, arith, refl, sym, ap, subst, ◌∙◌}
-use Rattle.rlsf_machine.specs.Callers.{align_at}
+use Rattle.rlsf_model.specs.Callers.{align_at}
 use Rattle.rlsf_base.specs.declared.memory.ledger.Ticket.{Ticket}
 use Rattle.rlsf_base.specs.OpenSpace.{IsOwned, home_of}
 use Rattle.rlsf_base.specs.Piece.{Piece}
 use Rattle.rlsf_base.specs.Space.{Space, range_of}
 use Rattle.rlsf_base.proofs.Lending.Present.{owned-same}
-use Rattle.rlsf_machine.specs.Release.{Deallocates, released}
-use Rattle.rlsf_machine.specs.Run.{IsSomeLive}
-use Rattle.rlsf_machine.specs.Sized.{live_count}
-use Rattle.rlsf_machine.specs.State.{State, Used, Holds, usable}
-use Rattle.rlsf_machine.specs.WellFormed.{IsWellFormed}
-use Rattle.rlsf_machine.proofs.CallerWords.{align_at-held, gone_seen}
-use Rattle.rlsf_machine.proofs.SizedWords.{count_gone, sized_gone}
+use Rattle.rlsf_model.specs.Release.{Deallocates, released}
+use Rattle.rlsf_model.specs.Run.{IsSomeLive}
+use Rattle.rlsf_model.specs.Sized.{live_count}
+use Rattle.rlsf_model.specs.State.{State, Used, Holds, usable}
+use Rattle.rlsf_model.specs.WellFormed.{IsWellFormed}
+use Rattle.rlsf_model.proofs.CallerWords.{align_at-held, gone_seen}
+use Rattle.rlsf_model.proofs.SizedWords.{count_gone, sized_gone}
 use Rattle.rlsf_table.proofs.Parameters.{IsValid-widest}
 use Rattle.rlsf_blocks.specs.Laws.{read_from}
 use Rattle.rlsf_blocks.specs.Steps.LiveBlock.{AtEachBlock}

@@ -2,8 +2,8 @@ use Rattle.std.proofs.Common.{◌≡◌, ℕ, Option, Some, None, IfNone, sym, �
 use Rattle.std.proofs.lemmas.Option.{none-some}
 use Rattle.std.specs.declared.num.NonZeroUsize.{NonZeroUsize}
 use Rattle.rlsf_base.specs.Addr.{at, reply}
-use Rattle.rlsf_machine.specs.Insert.{Inserts, bytes_taken}
-use Rattle.rlsf_machine.specs.State.{State}
+use Rattle.rlsf_model.specs.Insert.{Inserts, bytes_taken}
+use Rattle.rlsf_model.specs.State.{State}
 use Rattle.rlsf_heap.specs.Heap.{HeapView, Steps}
 use Rattle.rlsf_heap.proofs.heap.Heap.insert_free_block.Goals as goal
 

@@ -1,15 +1,15 @@
 use Rattle.std.proofs.Common.{◌≡◌, arith, sym, ◌∙◌, ap, subst}
 use Rattle.rlsf_base.specs.Addr.{reply}
 use Rattle.rlsf_base.specs.Space.{range_of}
-use Rattle.rlsf_machine.specs.Insert.{Inserts, IsFresh}
-use Rattle.rlsf_machine.specs.Run.{insert}
-use Rattle.rlsf_machine.specs.State.{State}
-use Rattle.rlsf_machine.specs.WellFormed.{IsWellFormed}
-use Rattle.rlsf_machine.proofs.CallerWords.{same_seen}
-use Rattle.rlsf_machine.proofs.Callers.{callers_see_map}
-use Rattle.rlsf_machine.proofs.Chunks.{used-inserted}
-use Rattle.rlsf_machine.proofs.SizedWords.{count_inserted, sized_inserted, sized_pool}
-use Rattle.rlsf_machine.proofs.Untouched.{IsFresh-untouched, untouched_inserted}
+use Rattle.rlsf_model.specs.Insert.{Inserts, IsFresh}
+use Rattle.rlsf_model.specs.Run.{insert}
+use Rattle.rlsf_model.specs.State.{State}
+use Rattle.rlsf_model.specs.WellFormed.{IsWellFormed}
+use Rattle.rlsf_model.proofs.CallerWords.{same_seen}
+use Rattle.rlsf_model.proofs.Callers.{callers_see_map}
+use Rattle.rlsf_model.proofs.Chunks.{used-inserted}
+use Rattle.rlsf_model.proofs.SizedWords.{count_inserted, sized_inserted, sized_pool}
+use Rattle.rlsf_model.proofs.Untouched.{IsFresh-untouched, untouched_inserted}
 use Rattle.rlsf_table.proofs.Parameters.{IsValid-widest}
 use Rattle.rlsf_blocks.specs.Laws.{read_from}
 use Rattle.rlsf_blocks.specs.StandsFor.{contents, StandsFor}

@@ -9,8 +9,8 @@ use Rattle.rlsf_base.specs.Space.{Space, bytes_in, out_at, range_of}
 use Rattle.rlsf_base.specs.Out.{here, kept_at}
 use Rattle.rlsf_base.specs.Piece.{HasStatesOf, piece_range}
 use Rattle.rlsf_base.proofs.Lending.Present.{out-same, own-here}
-use Rattle.rlsf_machine.specs.Reallocate.{Reallocates}
-use Rattle.rlsf_machine.specs.State.{State, Used, Holds, filled, usable}
+use Rattle.rlsf_model.specs.Reallocate.{Reallocates}
+use Rattle.rlsf_model.specs.State.{State, Used, Holds, filled, usable}
 use Rattle.rlsf_table.proofs.Parameters.{IsValid-widest}
 use Rattle.rlsf_blocks.specs.Laws.{read_from}
 use Rattle.rlsf_blocks.specs.StandsFor.{contents, StandsFor}
@@ -19,14 +19,14 @@ use Rattle.rlsf_heap.proofs.Leaving.{lies-usable, stands-without}
 use Rattle.rlsf_heap.proofs.Reallocating.{asked, block, came, counted, counted_here, held, reallocates, stands, state, used_at}
 use Rattle.rlsf_heap.proofs.Resized.{holds_new, new, own_new}
 use Rattle.rlsf_base.specs.Layout.{IsLayout}
-use Rattle.rlsf_machine.specs.Callers.{align_at, bytes_at}
-use Rattle.rlsf_machine.specs.NoMove.{unmoved_plan}
-use Rattle.rlsf_machine.specs.Reallocate.{Keeps}
+use Rattle.rlsf_model.specs.Callers.{align_at, bytes_at}
+use Rattle.rlsf_model.specs.NoMove.{unmoved_plan}
+use Rattle.rlsf_model.specs.Reallocate.{Keeps}
 use Rattle.rlsf_reallocate.specs.Steps.Resize.{IsUsedAt}
-use Rattle.rlsf_machine.specs.Run.{Fills}
-use Rattle.rlsf_machine.specs.WellFormed.{IsWellFormed}
-use Rattle.rlsf_machine.proofs.CallerWords.{align_at-live, bytes_at-held}
-use Rattle.rlsf_machine.proofs.Live.{live_addresses_are_aligned}
+use Rattle.rlsf_model.specs.Run.{Fills}
+use Rattle.rlsf_model.specs.WellFormed.{IsWellFormed}
+use Rattle.rlsf_model.proofs.CallerWords.{align_at-live, bytes_at-held}
+use Rattle.rlsf_model.proofs.Live.{live_addresses_are_aligned}
 use Rattle.rlsf_blocks.proofs.Words.Stays.{Stays, Stays-same, Stays-then}
 use Rattle.rlsf_tlsf.specs.Steps.Moves.{bare}
 use Rattle.rlsf_tlsf.proofs.Arrivals.{arrived}

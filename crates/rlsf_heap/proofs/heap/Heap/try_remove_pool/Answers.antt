@@ -1,8 +1,8 @@
 use Rattle.std.proofs.Common.{ℕ, arith, refl, sym, ◌∙◌}
 use Rattle.rlsf_base.specs.Space.{range_of}
-use Rattle.rlsf_machine.specs.Remove.{Removes}
-use Rattle.rlsf_machine.specs.State.{State}
-use Rattle.rlsf_machine.specs.WellFormed.{IsWellFormed}
+use Rattle.rlsf_model.specs.Remove.{Removes}
+use Rattle.rlsf_model.specs.State.{State}
+use Rattle.rlsf_model.specs.WellFormed.{IsWellFormed}
 use Rattle.rlsf_blocks.specs.Blocks.{walked}
 use Rattle.rlsf_heap.specs.Heap.{HeapView, Stands, Steps}
 use Rattle.rlsf_heap.proofs.IdleRows.{idle_if, used_if}

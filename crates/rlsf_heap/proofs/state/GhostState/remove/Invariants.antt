@@ -1,5 +1,5 @@
 use Rattle.rlsf_base.specs.Range.{range_at}
-use Rattle.rlsf_machine.specs.Remove.{removed}
+use Rattle.rlsf_model.specs.Remove.{removed}
 use Rattle.rlsf_blocks.specs.Blocks.{walked}
 use Rattle.rlsf_heap.proofs.state.GhostState.remove.Given as goal
 

@@ -3,7 +3,7 @@ use Rattle.rlsf_base.specs.declared.memory.range.Range.{Range}
 use Rattle.rlsf_base.specs.Range.{end_of, range_at}
 use Rattle.rlsf_test_flex.specs.Cursor.{Cursor, MayOwe}
 use Rattle.rlsf_test_flex.proofs.Cursors.{given_range, moved_to}
-use Rattle.rlsf_machine.specs.Terms.{IsGiven}
+use Rattle.rlsf_model.specs.Terms.{IsGiven}
 use Rattle.rlsf_test_flex.proofs.cursor.CursorSourceFlexSource.alloc.Goals as goal
 
 pub returns-clause-owes : goal.returns-clause-owes

@@ -3,7 +3,7 @@ use Rattle.rlsf_base.specs.declared.memory.range.Range.{Range}
 use Rattle.rlsf_base.specs.Range.{end_of}
 use Rattle.rlsf_test_flex.specs.Cursor.{Cursor, MayOwe}
 use Rattle.rlsf_test_flex.proofs.Cursors.{grown_range, moved_to, owed_ends}
-use Rattle.rlsf_machine.specs.Terms.{IsGrown, with_len}
+use Rattle.rlsf_model.specs.Terms.{IsGrown, with_len}
 use Rattle.rlsf_test_flex.proofs.cursor.CursorSourceFlexSource.realloc_inplace_grow.Goals as goal
 
 pub overflow_add-range : goal.overflow_add-range

@@ -10,7 +10,7 @@ use denote.Shadow.{makes_shadow}
 use denote.Steps.{nothing}
 use denote.Triple.Walked.{says, Stays, walk_of, ends_at}
 use Rattle.std.proofs.raw_atomic.Walks.{proved}
-use Rattle.rlsf_machine.specs.State.{empty}
+use Rattle.rlsf_model.specs.State.{empty}
 use Rattle.rlsf_tlsf.specs.contracts.state.GhostState as ghost_state
 use Rattle.rlsf_tlsf.specs.contracts.state.GhostState.new as f
 use Rattle.rlsf_tlsf.proofs.state.GhostState.new.Statement.{statement}

@@ -3,15 +3,15 @@ use Rattle.std.proofs.lemmas.Option.{none-some}
 use Rattle.std.specs.declared.num.NonZeroUsize.{NonZeroUsize}
 use Rattle.rlsf_base.specs.Addr.{reply}
 use Rattle.rlsf_base.specs.Space.{SamePlace, range_of}
-use Rattle.rlsf_machine.specs.Allocate.{Allocates, Places}
-use Rattle.rlsf_machine.specs.Callers.{align_at, bytes_at}
-use Rattle.rlsf_machine.specs.Sized.{IsSizedFor, live_count}
-use Rattle.rlsf_machine.specs.State.{State}
-use Rattle.rlsf_machine.specs.WellFormed.{IsWellFormed}
-use Rattle.rlsf_machine.proofs.CallerWords.{SeesNew, new_seen}
-use Rattle.rlsf_machine.proofs.Chunks.{chunks-allocated}
-use Rattle.rlsf_machine.proofs.Payloads.{payload_of-after}
-use Rattle.rlsf_machine.proofs.SizedWords.{count_new, never_refused, sized_new}
+use Rattle.rlsf_model.specs.Allocate.{Allocates, Places}
+use Rattle.rlsf_model.specs.Callers.{align_at, bytes_at}
+use Rattle.rlsf_model.specs.Sized.{IsSizedFor, live_count}
+use Rattle.rlsf_model.specs.State.{State}
+use Rattle.rlsf_model.specs.WellFormed.{IsWellFormed}
+use Rattle.rlsf_model.proofs.CallerWords.{SeesNew, new_seen}
+use Rattle.rlsf_model.proofs.Chunks.{chunks-allocated}
+use Rattle.rlsf_model.proofs.Payloads.{payload_of-after}
+use Rattle.rlsf_model.proofs.SizedWords.{count_new, never_refused, sized_new}
 use Rattle.rlsf_blocks.specs.Laws.{read_from}
 use Rattle.rlsf_blocks.specs.Spare.{KeepsSpare}
 use Rattle.rlsf_blocks.specs.StandsFor.{contents, StandsFor}

@@ -1,12 +1,12 @@
 use Rattle.std.proofs.Common.{[], ◌≡◌, arith, sym, ◌∙◌, ap, subst, ◌≤◌, ◌+◌, ◌*◌, length, is_some, if◌then◌else◌}
 use Rattle.rlsf_base.specs.Space.{range_of, SamePlace}
-use Rattle.rlsf_machine.specs.Insert.{Appends, IsNext, aligned_part, cut}
-use Rattle.rlsf_machine.specs.Run.{append}
-use Rattle.rlsf_machine.specs.State.{State}
-use Rattle.rlsf_machine.proofs.AppendedRanges.{untouched_appended}
-use Rattle.rlsf_machine.proofs.CallerWords.{SeesSame, same_seen}
-use Rattle.rlsf_machine.proofs.Callers.{callers_see_map}
-use Rattle.rlsf_machine.proofs.SizedWords.{count_appended, sized_appended}
+use Rattle.rlsf_model.specs.Insert.{Appends, IsNext, aligned_part, cut}
+use Rattle.rlsf_model.specs.Run.{append}
+use Rattle.rlsf_model.specs.State.{State}
+use Rattle.rlsf_model.proofs.AppendedRanges.{untouched_appended}
+use Rattle.rlsf_model.proofs.CallerWords.{SeesSame, same_seen}
+use Rattle.rlsf_model.proofs.Callers.{callers_see_map}
+use Rattle.rlsf_model.proofs.SizedWords.{count_appended, sized_appended}
 use Rattle.rlsf_table.proofs.Parameters.{IsValid-widest}
 use Rattle.rlsf_blocks.specs.Laws.{read_from}
 use Rattle.rlsf_blocks.specs.Spare.{KeepsSpare}

@@ -4,12 +4,12 @@ use Rattle.rlsf_base.specs.Range.{range_at}
 use Rattle.rlsf_base.proofs.Lending.Present.{here-none, own-none}
 use Rattle.rlsf_base.proofs.Lending.Whole.{none-with}
 use Rattle.rlsf_base.specs.Space.{Space, bytes_in, with_bytes, SamePlace}
-use Rattle.rlsf_machine.specs.Callers.{bytes_at}
-use Rattle.rlsf_machine.specs.Run.{Fills, IsSomeLive}
-use Rattle.rlsf_machine.specs.State.{State, with_front}
-use Rattle.rlsf_machine.proofs.CallerWords.{SeesFilled, filled_seen}
-use Rattle.rlsf_machine.proofs.Chunks.{chunks-filled}
-use Rattle.rlsf_machine.proofs.SizedWords.{count_filled, sized_filled}
+use Rattle.rlsf_model.specs.Callers.{bytes_at}
+use Rattle.rlsf_model.specs.Run.{Fills, IsSomeLive}
+use Rattle.rlsf_model.specs.State.{State, with_front}
+use Rattle.rlsf_model.proofs.CallerWords.{SeesFilled, filled_seen}
+use Rattle.rlsf_model.proofs.Chunks.{chunks-filled}
+use Rattle.rlsf_model.proofs.SizedWords.{count_filled, sized_filled}
 use Rattle.rlsf_blocks.specs.Laws.{read_from}
 use Rattle.rlsf_blocks.specs.Spare.{KeepsSpare}
 use Rattle.rlsf_blocks.specs.StandsFor.{contents, StandsFor}

@@ -1,10 +1,10 @@
 use Rattle.std.proofs.Common.{[], arith, rules, ◌≡◌, refl, sym, ◌∙◌, ◌≤◌, ◌+◌, ap, subst}
 use Rattle.rlsf_base.specs.Addr.{at}
-use Rattle.rlsf_machine.specs.Release.{Deallocates, released}
-use Rattle.rlsf_machine.specs.State.{State, Used, usable, Holds}
-use Rattle.rlsf_machine.proofs.CallerWords.{SeesGone, align_at-some, gone_seen}
-use Rattle.rlsf_machine.proofs.Chunks.{chunks-deallocated}
-use Rattle.rlsf_machine.proofs.SizedWords.{count_gone, sized_gone}
+use Rattle.rlsf_model.specs.Release.{Deallocates, released}
+use Rattle.rlsf_model.specs.State.{State, Used, usable, Holds}
+use Rattle.rlsf_model.proofs.CallerWords.{SeesGone, align_at-some, gone_seen}
+use Rattle.rlsf_model.proofs.Chunks.{chunks-deallocated}
+use Rattle.rlsf_model.proofs.SizedWords.{count_gone, sized_gone}
 use Rattle.rlsf_table.proofs.Parameters.{IsValid-widest}
 use Rattle.rlsf_blocks.specs.Laws.{read_from}
 use Rattle.rlsf_blocks.specs.StandsFor.{contents, StandsFor}

@@ -2,7 +2,7 @@ use Rattle.std.proofs.Common.{◌≡◌, Option, Some, None, IfNone, sym, ◌∙
 use Rattle.std.proofs.lemmas.Option.{none-some}
 use Rattle.std.specs.declared.num.NonZeroUsize.{NonZeroUsize}
 use Rattle.rlsf_base.specs.Addr.{at, reply}
-use Rattle.rlsf_machine.specs.Insert.{Inserts, bytes_taken}
+use Rattle.rlsf_model.specs.Insert.{Inserts, bytes_taken}
 use Rattle.rlsf_tlsf.specs.Allocator.{Steps}
 use Rattle.rlsf_tlsf.proofs.Arrivals.{opened}
 use Rattle.rlsf_tlsf.proofs.tlsf.Tlsf.insert_free_block.Goals as goal

@@ -1,5 +1,5 @@
 use Rattle.std.proofs.Common.{rules, sym, subst}
-use Rattle.rlsf_machine.specs.ChunkRows.{IsRow}
+use Rattle.rlsf_model.specs.ChunkRows.{IsRow}
 use Rattle.rlsf_blocks.specs.Blocks.{AreBlocks, walked}
 use Rattle.rlsf_blocks.specs.Laws.{read_from}
 use Rattle.rlsf_tlsf.specs.Allocator.{Allocator}

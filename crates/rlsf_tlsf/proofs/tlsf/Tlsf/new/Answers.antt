@@ -2,11 +2,11 @@ use Rattle.std.proofs.Common.{◌≡◌, ℕ, ◌+◌, ◌^◌, ◌<◌, ◌≤�
 use Rattle.rlsf_base.specs.Out.{is_own}
 use Rattle.rlsf_base.specs.Space.{Space, byte_range, out_at}
 use Rattle.rlsf_base.proofs.Lending.Present.{own-none}
-use Rattle.rlsf_machine.specs.Insert.{IsUntouched}
-use Rattle.rlsf_machine.specs.Sized.{live_count}
-use Rattle.rlsf_machine.specs.State.{State, empty}
-use Rattle.rlsf_machine.proofs.SizedWords.{live_count-empty}
-use Rattle.rlsf_machine.proofs.Untouched.{untouched_empty}
+use Rattle.rlsf_model.specs.Insert.{IsUntouched}
+use Rattle.rlsf_model.specs.Sized.{live_count}
+use Rattle.rlsf_model.specs.State.{State, empty}
+use Rattle.rlsf_model.proofs.SizedWords.{live_count-empty}
+use Rattle.rlsf_model.proofs.Untouched.{untouched_empty}
 use Rattle.rlsf_blocks.specs.Laws.{read_from}
 use Rattle.rlsf_blocks.specs.StandsFor.{contents, StandsFor}
 use Rattle.rlsf_blocks.proofs.Machine.EmptyState.{StandsFor-empty}

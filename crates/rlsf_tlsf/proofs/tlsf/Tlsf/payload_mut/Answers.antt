@@ -2,7 +2,7 @@ use Rattle.std.proofs.Common.{length, refl, sym, ◌∙◌, ap, subst}
 use Rattle.rlsf_base.specs.Addr.{at}
 use Rattle.rlsf_base.specs.Range.{LiesIn}
 use Rattle.rlsf_base.specs.Space.{Space, bytes_in}
-use Rattle.rlsf_machine.proofs.CallerWords.{bytes_at-held}
+use Rattle.rlsf_model.proofs.CallerWords.{bytes_at-held}
 use Rattle.rlsf_blocks.specs.Laws.{read_from}
 use Rattle.rlsf_blocks.specs.StandsFor.{contents}
 use Rattle.rlsf_tlsf.proofs.Arrivals.{some_inside}

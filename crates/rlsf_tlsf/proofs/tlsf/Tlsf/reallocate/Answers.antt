@@ -2,17 +2,17 @@ use Rattle.std.proofs.Common.{[], ◌≡◌, ◌≢◌, ◌+◌, ◌<◌, ◌≤
 use Rattle.std.proofs.lemmas.Option.{none-some}
 use Rattle.std.specs.declared.num.NonZeroUsize.{NonZeroUsize}
 use Rattle.rlsf_base.specs.Addr.{at, reply}
-use Rattle.rlsf_machine.specs.Callers.{align_at, bytes_at}
-use Rattle.rlsf_machine.specs.Reallocate.{Keeps, Plan, Reallocates, in_place, into_next, or_else}
-use Rattle.rlsf_machine.specs.Run.{reallocate, IsSomeLive}
-use Rattle.rlsf_machine.specs.Sized.{IsSizedFor, live_count}
-use Rattle.rlsf_machine.specs.State.{State, Used, usable, Holds}
-use Rattle.rlsf_machine.proofs.CallerWords.{SeesResized, align_at-live, resized_seen}
-use Rattle.rlsf_machine.proofs.Changes.{Holds-unique}
-use Rattle.rlsf_machine.proofs.Chunks.{chunks-reallocated}
-use Rattle.rlsf_machine.proofs.Determined.{refusal_changes_nothing}
-use Rattle.rlsf_machine.proofs.Payloads.{IsUsed-after_start}
-use Rattle.rlsf_machine.proofs.SizedWords.{count_resized, never_refused_again, sized_resized}
+use Rattle.rlsf_model.specs.Callers.{align_at, bytes_at}
+use Rattle.rlsf_model.specs.Reallocate.{Keeps, Plan, Reallocates, in_place, into_next, or_else}
+use Rattle.rlsf_model.specs.Run.{reallocate, IsSomeLive}
+use Rattle.rlsf_model.specs.Sized.{IsSizedFor, live_count}
+use Rattle.rlsf_model.specs.State.{State, Used, usable, Holds}
+use Rattle.rlsf_model.proofs.CallerWords.{SeesResized, align_at-live, resized_seen}
+use Rattle.rlsf_model.proofs.Changes.{Holds-unique}
+use Rattle.rlsf_model.proofs.Chunks.{chunks-reallocated}
+use Rattle.rlsf_model.proofs.Determined.{refusal_changes_nothing}
+use Rattle.rlsf_model.proofs.Payloads.{IsUsed-after_start}
+use Rattle.rlsf_model.proofs.SizedWords.{count_resized, never_refused_again, sized_resized}
 use Rattle.rlsf_table.proofs.Parameters.{IsValid-widest}
 use Rattle.rlsf_blocks.specs.Laws.{read_from}
 use Rattle.rlsf_blocks.specs.Spare.{KeepsSpare}

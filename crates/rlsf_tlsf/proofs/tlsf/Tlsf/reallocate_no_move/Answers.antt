@@ -1,15 +1,15 @@
 use Rattle.std.proofs.Common.{[], arith, ◌≡◌, ℕ, eqb, Some, None, refl, sym, ◌∙◌, ap, subst, ◌≤◌, ◌+◌, rules}
 use Rattle.std.proofs.lemmas.Bool.{eqb-true, eqb-false}
 use Rattle.rlsf_base.specs.Addr.{at}
-use Rattle.rlsf_machine.specs.Callers.{align_at, bytes_at}
-use Rattle.rlsf_machine.specs.NoMove.{ReallocatesUnmovedBy, ReallocatesWithoutMove}
-use Rattle.rlsf_machine.specs.Reallocate.{Reallocates, Replans}
-use Rattle.rlsf_machine.specs.Sized.{IsSizedFor, live_count}
-use Rattle.rlsf_machine.specs.State.{State, Used, usable}
-use Rattle.rlsf_machine.proofs.CallerWords.{SeesResized, align_at-live, resized_seen}
-use Rattle.rlsf_machine.proofs.Coverage.{by_test}
-use Rattle.rlsf_machine.proofs.NoMove.{unmoved_is_reallocated}
-use Rattle.rlsf_machine.proofs.SizedWords.{count_resized, sized_resized}
+use Rattle.rlsf_model.specs.Callers.{align_at, bytes_at}
+use Rattle.rlsf_model.specs.NoMove.{ReallocatesUnmovedBy, ReallocatesWithoutMove}
+use Rattle.rlsf_model.specs.Reallocate.{Reallocates, Replans}
+use Rattle.rlsf_model.specs.Sized.{IsSizedFor, live_count}
+use Rattle.rlsf_model.specs.State.{State, Used, usable}
+use Rattle.rlsf_model.proofs.CallerWords.{SeesResized, align_at-live, resized_seen}
+use Rattle.rlsf_model.proofs.Coverage.{by_test}
+use Rattle.rlsf_model.proofs.NoMove.{unmoved_is_reallocated}
+use Rattle.rlsf_model.proofs.SizedWords.{count_resized, sized_resized}
 use Rattle.rlsf_table.proofs.Parameters.{IsValid-widest}
 use Rattle.rlsf_blocks.specs.Laws.{read_from}
 use Rattle.rlsf_blocks.specs.Spare.{KeepsSpare}
@@ -24,7 +24,7 @@ use Rattle.rlsf_tlsf.proofs.Moved.{reallocated-bare}
 use Rattle.rlsf_base.specs.Space.{Space, SamePlace}
 use Rattle.rlsf_base.specs.OpenSpace.{IsOwned}
 use Rattle.rlsf_base.proofs.Lending.Present.{own-none}
-use Rattle.rlsf_machine.proofs.Chunks.{chunks-reallocated}
+use Rattle.rlsf_model.proofs.Chunks.{chunks-reallocated}
 use Rattle.rlsf_blocks.proofs.Counting.{SamePlace-counted_first, copied-counted_first, grow-counted_first, touches-counted_first}
 use Rattle.rlsf_tlsf.proofs.Opened.{IsAllocator-opened, view-opened}
 use Rattle.rlsf_table.proofs.Costs.{SamePlace-costs, copied_none}

@@ -1,10 +1,10 @@
 use Rattle.std.proofs.Common.{arith, ◌≡◌, ◌≢◌, ℕ, Some, None, IsSome, length, refl, sym, ◌∙◌, ap, subst, ◌≤◌, ◌<◌}
 use Rattle.rlsf_base.specs.Addr.{at}
-use Rattle.rlsf_machine.specs.Callers.{align_at, bytes_at}
-use Rattle.rlsf_machine.specs.NoMove.{ReallocatesWithoutMove}
-use Rattle.rlsf_machine.specs.Sized.{IsSizedFor, live_count}
-use Rattle.rlsf_machine.proofs.Chunks.{chunks-reallocated}
-use Rattle.rlsf_machine.proofs.SizedWords.{count_resized, sized_resized}
+use Rattle.rlsf_model.specs.Callers.{align_at, bytes_at}
+use Rattle.rlsf_model.specs.NoMove.{ReallocatesWithoutMove}
+use Rattle.rlsf_model.specs.Sized.{IsSizedFor, live_count}
+use Rattle.rlsf_model.proofs.Chunks.{chunks-reallocated}
+use Rattle.rlsf_model.proofs.SizedWords.{count_resized, sized_resized}
 use Rattle.rlsf_tlsf.specs.Allocator.{Allocator, Steps}
 use Rattle.rlsf_tlsf.proofs.Arrivals.{well_formed}
 use Rattle.rlsf_tlsf.proofs.UnknownAlign.{denied_everywhere, denied_same, denied_short, made_elsewhere, moved, moved_keeps, moved_long, no_room_to_stay, place_after, stay_reached}

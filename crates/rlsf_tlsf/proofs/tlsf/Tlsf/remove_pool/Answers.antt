@@ -1,11 +1,11 @@
 use Rattle.std.proofs.Common.{[], rules, ◌≡◌, arith, refl, sym, ◌∙◌, ap, subst, ◌≤◌}
 use Rattle.rlsf_base.specs.Space.{range_of, SamePlace}
-use Rattle.rlsf_machine.specs.ChunkRows.{IsRow}
-use Rattle.rlsf_machine.specs.Remove.{IsIdle, Removes, removed}
-use Rattle.rlsf_machine.specs.Run.{remove}
-use Rattle.rlsf_machine.proofs.CallerWords.{SeesSame, same_seen}
-use Rattle.rlsf_machine.proofs.Callers.{callers_see_map}
-use Rattle.rlsf_machine.proofs.SizedWords.{count_removed}
+use Rattle.rlsf_model.specs.ChunkRows.{IsRow}
+use Rattle.rlsf_model.specs.Remove.{IsIdle, Removes, removed}
+use Rattle.rlsf_model.specs.Run.{remove}
+use Rattle.rlsf_model.proofs.CallerWords.{SeesSame, same_seen}
+use Rattle.rlsf_model.proofs.Callers.{callers_see_map}
+use Rattle.rlsf_model.proofs.SizedWords.{count_removed}
 use Rattle.rlsf_table.proofs.Parameters.{IsValid-widest}
 use Rattle.rlsf_blocks.specs.Blocks.{walked}
 use Rattle.rlsf_blocks.specs.Laws.{read_from}

@@ -1,11 +1,11 @@
 use Rattle.std.proofs.Common.{[], arith, ◌≡◌, Some, None, refl, sym, ◌∙◌, ap, subst, ◌≤◌, ◌<◌, ◌+◌, ◌-◌, ◌^◌, rules, length, true≢false}
 use Rattle.rlsf_base.specs.Addr.{at}
-use Rattle.rlsf_machine.specs.Callers.{bytes_at}
-use Rattle.rlsf_machine.specs.NoMove.{ReallocatesUnmovedBy, ReallocatesWithoutMove}
-use Rattle.rlsf_machine.specs.Reallocate.{Replans}
-use Rattle.rlsf_machine.specs.State.{State, Used, Holds, usable}
-use Rattle.rlsf_machine.proofs.NoMove.{unmoved_is_reallocated}
-use Rattle.rlsf_machine.proofs.Payloads.{IsUsed-after_start}
+use Rattle.rlsf_model.specs.Callers.{bytes_at}
+use Rattle.rlsf_model.specs.NoMove.{ReallocatesUnmovedBy, ReallocatesWithoutMove}
+use Rattle.rlsf_model.specs.Reallocate.{Replans}
+use Rattle.rlsf_model.specs.State.{State, Used, Holds, usable}
+use Rattle.rlsf_model.proofs.NoMove.{unmoved_is_reallocated}
+use Rattle.rlsf_model.proofs.Payloads.{IsUsed-after_start}
 use Rattle.rlsf_table.proofs.Parameters.{IsValid-widest}
 use Rattle.rlsf_table.specs.Counts.{Counts}
 use Rattle.rlsf_blocks.specs.Laws.{read_from}

@@ -1,0 +1,45 @@
+-- A source that provides its space from a cursor on.
+use Rattle.std.specs.Prelude.{◌≡◌, ◌≢◌, ℕ, ◌+◌, ◌^◌, ◌≤◌, ◌<◌, ◌⊎◌, true, false, Some, None, List}
+use Rattle.rlsf_base.specs.declared.memory.range.Range.{Range}
+use Rattle.rlsf_base.specs.Range.{end_of, range_at}
+use Rattle.rlsf_base.specs.Rounding.{round32}
+use Rattle.rlsf_model.specs.Lists.{IsIn}
+use Rattle.rlsf_model.specs.Note.{Note, alloc, dealloc, grow}
+use Rattle.rlsf_model.specs.Terms.{Terms}
+use Rattle.rlsf_model.specs.WellFormed.{coverage, itself}
+
+-- the space, and the address that no outstanding range goes past
+pub record Bump : Type 0 where
+  pub space : Range
+  pub at : ℕ
+
+-- the same by its parts
+abbrev pub bump_in : Range → ℕ → Bump
+bump_in space at = record { space = space; at = at }
+
+-- the cursor is in the space, whose addresses fit in a word
+pub record IsBump (b : Bump) : Type 0 where
+  pub after_start : b.space.start ≤ b.at
+  pub before_end : b.at ≤ end_of b.space
+  pub addressable : end_of b.space < 2 ^ 64
+
+-- the ranges lie in the space before the cursor, and don't overlap
+pub record BumpOwes (b : Bump) (owed : List Range) : Type 0 where
+  pub start : (r : Range) → IsIn r owed → b.space.start ≤ r.start
+  pub end : (r : Range) → IsIn r owed → end_of r ≤ b.at
+  pub disjoint : (a : ℕ) → coverage itself owed a ≤ 1
+
+-- ---- the source of this crate
+
+-- its ranges are one that grows and begins at a multiple of 32, and nothing is taken back
+abbrev pub bump_terms : Bump → Terms
+bump_terms b = record { space = b.space; dealloc = false; grow = true; contiguous = true; min_align = 32 }
+
+-- the bytes that are asked for are provided from the first multiple of 32 behind the cursor on, which moves to their end; the range
+-- that ends at the cursor grows in the same way; what doesn't fit is refused, and then nothing changes
+abbrev pub BumpLeads : Bump → Note → Bump → Type 0
+BumpLeads x (alloc size None) y = (end_of x.space < round32 x.at + size) × (y ≡ x)
+BumpLeads x (alloc size (Some r)) y = (end_of r ≤ end_of x.space) × (r ≡ range_at (round32 x.at) size) × (y ≡ bump_in x.space (end_of r))
+BumpLeads x (grow r len None) y = ((end_of r ≢ x.at) ⊎ (end_of x.space < r.start + len)) × (y ≡ x)
+BumpLeads x (grow r len (Some given)) y = (end_of r ≡ x.at) × (r.start + len ≤ end_of x.space) × (given ≡ len) × (y ≡ bump_in x.space (r.start + len))
+BumpLeads x (dealloc r) y = y ≡ x

@@ -1,0 +1,330 @@
+-- Runs whose calls ask for little enough that none is refused.
+use Rattle.std.proofs.Common.{◌≡◌, ℕ, ◌+◌, ◌-◌, ◌*◌, ◌<◌, ◌≤◌, eqb, not, filter, List, [], ◌∷◌, Option, Some, None, length, arith, refl, sym}
+use Rattle.std.proofs.Common.{◌∙◌, ap, subst, inl, inr}
+use Rattle.std.proofs.lemmas.List.{length-map}
+use Rattle.std.proofs.lemmas.List.Sums.{sum_by-cons}
+use Rattle.std.proofs.lemmas.List.Filters.{length-filter_both}
+use Rattle.std.proofs.Math.Nat.{mul-le-mul_right}
+use Rattle.rlsf_base.specs.declared.memory.range.Range.{Range}
+use Rattle.rlsf_base.specs.Range.{range_at}
+use Rattle.rlsf_base.specs.PowerOfTwo.{IsPowerOfTwo}
+use Rattle.rlsf_base.specs.Sizes.{request_size}
+use Rattle.rlsf_base.proofs.Numbers.Roundings.{round32-mono}
+use Rattle.rlsf_model.specs.Allocate.{placed, Allocates}
+use Rattle.rlsf_model.specs.Budget.{total_len, used_bytes, AreFronts, IsFront, AreAtMost, IsModest, RunsModestly, HasBudget, IsDenied, live_after, AsksWithin, AreWithin}
+use Rattle.rlsf_model.specs.Insert.{with_chunk}
+use Rattle.rlsf_model.specs.Lists.{IsIn}
+use Rattle.rlsf_model.specs.Reallocate.{Plan, plan, moved, ReallocatesBy}
+use Rattle.rlsf_model.specs.Release.{Deallocates}
+use Rattle.rlsf_model.specs.Run.{Event, insert, append, allocate, deallocate, reallocate, fill, remove, trim, IsRemoval, Leads, MayCall, Runs}
+use Rattle.rlsf_model.specs.Sizing.{ModestRunsAreNotDenied, LiveIsCounted, BoundedRunsAreNotDenied}
+use Rattle.rlsf_model.specs.State.{empty, State, Used, Holds, others, filled_if, filled_at}
+use Rattle.rlsf_model.specs.WellFormed.{IsWellFormed}
+use Rattle.rlsf_model.proofs.Allocations.{Allocates-keeps}
+use Rattle.rlsf_model.proofs.Changes.{IsIn-others}
+use Rattle.rlsf_model.proofs.Choices.{choice-none, choice-some}
+use Rattle.rlsf_model.proofs.Chunks.{chunks_stay, used-inserted, used-appended}
+use Rattle.rlsf_model.proofs.Coverage.{covers-le}
+use Rattle.rlsf_model.proofs.Fillings.{shape-filled_from}
+use Rattle.rlsf_model.proofs.Live.{live_address_has_one_block}
+use Rattle.rlsf_model.proofs.Parts.{begins_in, part, IsIn-filter, length-filter_le, part_is_well_formed, have_chunks}
+use Rattle.rlsf_model.proofs.Payloads.{payload_of-le, block_length-request}
+use Rattle.rlsf_model.proofs.Plans.{IsSoundPlan, IsSound-plan}
+use Rattle.rlsf_model.proofs.Steps.{empty_is_well_formed, steps_keep_well_formed}
+use Rattle.rlsf_model.proofs.Sums.{bytes_add_up, taken_free}
+
+-- ---- one call
+
+used_bytes-le : (most : ℕ) (us : List Used) → AreAtMost most us → used_bytes us ≤ length us * most
+used_bytes-le most [] small = omega arith
+used_bytes-le most (u ∷ us) small = omega (arith, sum_by-cons (λ v. v.block.len) u us, small u (inl refl), used_bytes-le most us (λ v i. small v (inr i)))
+
+-- within the budget an allocation is not refused
+pub not_denied : (live most : ℕ) {fllen sllen : ℕ} {memory : Range} {s : State} → IsWellFormed fllen sllen memory s → (fronts : List Range) → AreFronts s.chunks fronts
+    → AreAtMost most s.used
+    → HasBudget live most sllen fronts → length s.used ≤ live → (size align : ℕ) → request_size size align ≤ most → (t : State)
+    → Allocates sllen s size align None t → ⊥
+not_denied live most {fllen} {sllen} {memory} {s} w fronts are small budget few size align fits t step =
+    let have = have_chunks s.chunks w.disjoint fronts are.each are.disjoint in
+    let cs = have.whole in
+    let n = length cs in
+    let p = part cs s in
+    let wp = part_is_well_formed w cs have.are have.disjoint in
+    let least = budget.least in
+    let fewer : length p.used ≤ live = omega (arith, length-filter_le (λ u. begins_in cs u.block) s.used) in
+    let blocks : length p.used * most ≤ live * most = mul-le-mul_right most fewer in
+    let gaps : (length p.used + n) * (least - 32) ≤ (live + n) * (least - 32) = mul-le-mul_right (least - 32) (omega arith) in
+    let same : 32 * n + live * most + (live + n) * (least - 32) < total_len fronts =
+    subst (λ k. 32 * k + live * most + (live + k) * (least - 32) < total_len fronts) (sym have.count) budget.enough in
+    let used = used_bytes-le most p.used (λ u i. small u (IsIn-filter (λ v. begins_in cs v.block) u s.used i)) in
+    let (f, i, reached) = taken_free p wp most least (request_size size align) budget.taken fits (omega (arith, bytes_add_up fllen sllen memory p wp, used, have.longer)) in
+    choice-none sllen (request_size size align) s.free step.0 f (IsIn-filter (begins_in cs) f s.free i) reached
+
+-- ---- steps
+
+-- a call within a budget takes no memory away
+pub IsModest-stays : (live most : ℕ) (s : State) (e : Event) → IsModest live most s e → IsRemoval e → ⊥
+IsModest-stays live most s (insert r reply) modest removal = removal
+IsModest-stays live most s (append r reply) modest removal = removal
+IsModest-stays live most s (allocate size align reply) modest removal = removal
+IsModest-stays live most s (deallocate addr) modest removal = removal
+IsModest-stays live most s (reallocate addr size reply) modest removal = removal
+IsModest-stays live most s (fill addr bytes) modest removal = removal
+IsModest-stays live most s (remove r) modest removal = modest
+IsModest-stays live most s (trim n) modest removal = modest
+
+-- each step that takes no memory away keeps the fronts of chunks
+pub AreFronts-kept : (fllen sllen : ℕ) (s : State) (fronts : List Range) → AreFronts s.chunks fronts → (t : State) (e : Event) → (IsRemoval e → ⊥)
+    → Leads fllen sllen s e t → AreFronts t.chunks fronts
+AreFronts-kept fllen sllen s fronts are t e left step = record {
+  each = λ r i.
+      let (c, j, start, long, some) = are.each r i in
+      let (d, k, at, grew) = chunks_stay fllen sllen s t e c left step j in
+      (d, k, at ∙ start, elim grew [ inl same ↦ (let len : d.len ≡ c.len = ap (λ x. x.len) same in omega arith) | inr more ↦ omega arith ], some);
+  disjoint = are.disjoint;
+}
+
+still : {most : ℕ} {s t : State} → t ≡ s → AreAtMost most s.used → AreAtMost most t.used
+still {most} is = subst (λ x. AreAtMost most x.used) (sym is)
+
+deallocate_modest : (most : ℕ) (s t : State) (addr : ℕ) → AreAtMost most s.used → Deallocates s addr t → AreAtMost most t.used
+deallocate_modest most s t addr small step = still step.after (λ u i. small u (IsIn-others step.block.payload u s.used i).0)
+
+filled_modest : (most : ℕ) (used : List Used) (addr : ℕ) (bytes : List ℕ) → AreAtMost most used → AreAtMost most (filled_at addr bytes used)
+filled_modest most used addr bytes small v i =
+    let (u, j, same) = shape-filled_from addr bytes v used i in
+    subst (λ b. b.len ≤ most) (sym (ap (λ h. h.block) same)) (small u j)
+
+module _ (most : ℕ) {fllen sllen : ℕ} {memory : Range} {s : State} (w : IsWellFormed fllen sllen memory s) (small : AreAtMost most s.used) where
+  allocate_modest : (size align : ℕ) (reply : Option ℕ) (t : State) → IsPowerOfTwo align → request_size size align ≤ most → Allocates sllen s size align reply t
+      → AreAtMost most t.used
+  allocate_modest size align None t power fits step = still step.1 small
+  allocate_modest size align (Some addr) t power fits step =
+      let f = step.range in
+      let chosen = choice-some sllen (request_size size align) s.free f step.chosen in
+      let v = placed f size align step.bytes in
+      let v_len : v.block.len ≤ most = omega (arith, block_length-request f.start size align (w.free f chosen.is_in).whole.start power) in
+      still step.after (λ u. elim [ inl same ↦ subst (λ x. x.block.len ≤ most) (sym same) v_len | inr i ↦ small u i ])
+
+  plan_modest : (u : Used) (size : ℕ) (p : Plan) → IsPowerOfTwo u.align → IsSoundPlan s u size p → request_size size u.align ≤ most → p.block.len ≤ most
+  plan_modest u size p power sound fits =
+      let whole = sound.whole in
+      omega (arith, sound.placed, sound.within, sound.few, whole.len, payload_of-le p.block.start u.align whole.start power)
+
+module _ (most : ℕ) {fllen sllen : ℕ} {memory : Range} {s : State} (w : IsWellFormed fllen sllen memory s) (small : AreAtMost most s.used) where
+  reallocate_modest : (u : Used) → IsIn u s.used → (size : ℕ) → request_size size u.align ≤ most → (o : Option Plan) → plan s u size ≡ o
+      → (reply : Option ℕ) (t : State) → ReallocatesBy sllen s u size o reply t → AreAtMost most t.used
+  reallocate_modest u h size fits (Some p) e None t step = absurd step
+  reallocate_modest u h size fits (Some p) e (Some addr) t step =
+      let p_len = plan_modest most w small u size p (w.used u h).power (IsSound-plan w u h size p e) fits in
+      still step.after (λ v. elim [ inl same ↦ subst (λ x. x.block.len ≤ most) (sym same) p_len | inr i ↦ small v (IsIn-others u.payload v s.used i).0 ])
+  reallocate_modest u h size fits None e None t step = still step.1 small
+  reallocate_modest u h size fits None e (Some addr) t step =
+      deallocate_modest most step.meanwhile t u.payload (allocate_modest most w small size u.align (Some addr) step.meanwhile (w.used u h).power fits step.allocated) step.released
+
+  pub step_modest : (live : ℕ) (t : State) (e : Event) → MayCall memory s e → IsModest live most s e → Leads fllen sllen s e t → AreAtMost most t.used
+  step_modest live t (insert r reply) may modest step = subst (AreAtMost most) (sym (used-inserted fllen s t r reply step)) small
+  step_modest live t (append r reply) may modest step = subst (AreAtMost most) (sym (used-appended fllen s t r reply step)) small
+  step_modest live t (allocate size align reply) may modest step = allocate_modest most w small size align reply t may modest.1 step
+  step_modest live t (deallocate addr) may modest step = deallocate_modest most s t addr small step
+  step_modest live t (reallocate addr size reply) may modest step =
+      reallocate_modest step.block step.holds.0 size (modest.1 step.block step.holds) (plan s step.block size) refl reply t step.step
+  step_modest live t (fill addr bytes) may modest step = still step.after (filled_modest most s.used addr bytes small)
+  step_modest live t (remove r) may modest step = absurd modest
+  step_modest live t (trim n) may modest step = absurd modest
+
+  -- and the call is not refused
+  step_not_denied : (live : ℕ) (fronts : List Range) (t : State) (e : Event) → AreFronts s.chunks fronts → HasBudget live most sllen fronts → IsModest live most s e
+      → Leads fllen sllen s e t → IsDenied e → ⊥
+  step_not_denied live fronts t (insert r reply) are budget modest step denied = absurd denied
+  step_not_denied live fronts t (append r reply) are budget modest step denied = absurd denied
+  step_not_denied live fronts t (allocate size align reply) are budget modest step denied =
+      not_denied live most w fronts are small budget modest.0 size align modest.1 t (subst (λ r. Allocates sllen s size align r t) denied step)
+  step_not_denied live fronts t (deallocate addr) are budget modest step denied = absurd denied
+  step_not_denied live fronts t (reallocate addr size reply) are budget modest step denied =
+      let u = step.block in
+      none_left (plan s u size) (subst (λ r. ReallocatesBy sllen s u size (plan s u size) r t) denied step.step)
+    where
+      none_left : (o : Option Plan) → ReallocatesBy sllen s step.block size o None t → ⊥
+      none_left (Some p) impossible = impossible
+      none_left None allocated = not_denied live most w fronts are small budget modest.0 size step.block.align (modest.1 step.block step.holds) t allocated
+  step_not_denied live fronts t (fill addr bytes) are budget modest step denied = absurd denied
+  step_not_denied live fronts t (remove r) are budget modest step denied = absurd denied
+  step_not_denied live fronts t (trim n) are budget modest step denied = absurd denied
+
+-- ---- runs
+
+pub modest_runs_are_not_denied : ModestRunsAreNotDenied
+modest_runs_are_not_denied live most fllen sllen memory s t fronts [] w are small budget run e i denied = absurd i
+modest_runs_are_not_denied live most fllen sllen memory s t fronts (d ∷ es) w are small budget (u, may, modest, step, rest) e i denied = elim i [
+  | inl same ↦ step_not_denied most w small live fronts u d are budget modest step (subst IsDenied same denied)
+  | inr j ↦
+      modest_runs_are_not_denied live most fllen sllen memory u t fronts es (steps_keep_well_formed fllen sllen memory s u d w may step)
+      (AreFronts-kept fllen sllen s fronts are u d (IsModest-stays live most s d modest) step) (step_modest most w small live u d may modest step) budget rest e j denied
+]
+
+-- ---- how many payloads are live
+
+length-others : {fllen sllen : ℕ} {memory : Range} {s : State} → IsWellFormed fllen sllen memory s → (addr : ℕ) (u : Used) → Holds s addr u
+    → length s.used ≡ length (others addr s.used) + 1
+length-others {fllen} {sllen} {memory} {s} w addr u h =
+    let one : length (filter (λ v. eqb v.payload addr) s.used) ≡ 1 = ap length (live_address_has_one_block fllen sllen memory s addr u w h) in
+    let both = length-filter_both (λ (v : Used). eqb v.payload addr) (λ v. not (eqb v.payload addr)) (λ v. refl) s.used in
+    omega arith
+
+length-deallocated : {fllen sllen : ℕ} {memory : Range} {s : State} → IsWellFormed fllen sllen memory s → (addr : ℕ) (t : State) → Deallocates s addr t
+    → length s.used ≡ length t.used + 1
+length-deallocated {s = s} w addr t step =
+    let left : length t.used ≡ length (others step.block.payload s.used) = ap (λ x. length x.used) step.after in
+    omega (arith, length-others w step.block.payload step.block (step.holds.0, refl))
+
+length-reallocated : {fllen sllen : ℕ} {memory : Range} {s : State} → IsWellFormed fllen sllen memory s → (u : Used) → IsIn u s.used
+    → (size : ℕ) (o : Option Plan) (reply : Option ℕ) (t : State) → ReallocatesBy sllen s u size o reply t → length t.used ≡ length s.used
+length-reallocated w u h size (Some p) None t step = absurd step
+length-reallocated {s = s} w u h size (Some p) (Some addr) t step =
+    let now : length t.used ≡ length (others u.payload s.used) + 1 = ap (λ x. length x.used) step.after ∙ omega arith in
+    omega (arith, length-others w u.payload u (h, refl))
+length-reallocated w u h size None None t step = ap (λ x. length x.used) step.1
+length-reallocated {s = s} w u h size None (Some addr) t step =
+    let kept = Allocates-keeps w size u.align (Some addr) step.meanwhile (w.used u h).power step.allocated in
+    let first : length step.meanwhile.used ≡ length s.used + 1 = ap (λ x. length x.used) step.allocated.after ∙ omega arith in
+    omega (arith, length-deallocated kept u.payload t step.released)
+
+pub live_is_counted : LiveIsCounted
+live_is_counted fllen sllen memory s t (insert r reply) w may step = ap length (used-inserted fllen s t r reply step)
+live_is_counted fllen sllen memory s t (append r reply) w may step = ap length (used-appended fllen s t r reply step)
+live_is_counted fllen sllen memory s t (allocate size align None) w may step = ap (λ x. length x.used) step.1
+live_is_counted fllen sllen memory s t (allocate size align (Some addr)) w may step = ap (λ x. length x.used) step.after ∙ omega arith
+live_is_counted fllen sllen memory s t (deallocate addr) w may step = omega (arith, length-deallocated w addr t step)
+live_is_counted fllen sllen memory s t (reallocate addr size reply) w may step = length-reallocated w step.block step.holds.0 size (plan s step.block size) reply t step.step
+live_is_counted fllen sllen memory s t (fill addr bytes) w may step = ap (λ x. length x.used) step.after ∙ length-map s.used (filled_if addr bytes)
+live_is_counted fllen sllen memory s t (remove r) w may step = ap (λ (x : State). length x.used) step
+live_is_counted fllen sllen memory s t (trim n) w may step = absurd step
+
+-- ---- alignments
+
+-- no used block has a greater alignment
+pub AreAligned : ℕ → List Used → Type 0
+AreAligned most used = (u : Used) → IsIn u used → u.align ≤ most
+
+module _ (most : ℕ) where
+  aligned_by : {t r : State} → t ≡ r → AreAligned most r.used → AreAligned most t.used
+  aligned_by is = subst (λ x. AreAligned most x.used) (sym is)
+
+  aligned_cons : (v : Used) (used : List Used) → v.align ≤ most → AreAligned most used → AreAligned most (v ∷ used)
+  unfolding AreAligned
+  aligned_cons v used fits small u (inl same) = subst (λ x. x.align ≤ most) (sym same) fits
+  aligned_cons v used fits small u (inr i) = small u i
+
+  aligned_others : (addr : ℕ) (used : List Used) → AreAligned most used → AreAligned most (others addr used)
+  unfolding AreAligned
+  aligned_others addr used small u i = small u (IsIn-others addr u used i).0
+
+  aligned_at : (u : Used) (used : List Used) → AreAligned most used → IsIn u used → u.align ≤ most
+  unfolding AreAligned
+  aligned_at u used small i = small u i
+
+  aligned_filled : (addr : ℕ) (bytes : List ℕ) (used : List Used) → AreAligned most used → AreAligned most (filled_at addr bytes used)
+  unfolding AreAligned
+  aligned_filled addr bytes used small v i =
+      let (u, j, same) = shape-filled_from addr bytes v used i in
+      subst (λ n. n ≤ most) (sym (ap (λ h. h.align) same)) (small u j)
+
+  pub aligned_none : (used : List Used) → used ≡ [] → AreAligned most used
+  unfolding AreAligned
+  aligned_none used is u i = absurd (subst (IsIn u) is i)
+
+  allocate_aligned : (sllen size align : ℕ) (reply : Option ℕ) (s t : State) → align ≤ most → AreAligned most s.used → Allocates sllen s size align reply t
+      → AreAligned most t.used
+  allocate_aligned sllen size align None s t fits small step = aligned_by step.1 small
+  allocate_aligned sllen size align (Some addr) s t fits small step = aligned_by step.after (aligned_cons (placed step.range size align step.bytes) s.used fits small)
+
+  reallocate_aligned : (sllen size : ℕ) (u : Used) (o : Option Plan) (reply : Option ℕ) (s t : State) → u.align ≤ most → AreAligned most s.used
+      → ReallocatesBy sllen s u size o reply t → AreAligned most t.used
+  reallocate_aligned sllen size u (Some p) None s t fits small step = absurd step
+  reallocate_aligned sllen size u (Some p) (Some addr) s t fits small step =
+      aligned_by step.after (aligned_cons (moved u p step.bytes) (others u.payload s.used) fits (aligned_others u.payload s.used small))
+  reallocate_aligned sllen size u None None s t fits small step = aligned_by step.1 small
+  reallocate_aligned sllen size u None (Some addr) s t fits small step =
+      aligned_by step.released.after
+      (aligned_others step.released.block.payload step.meanwhile.used (allocate_aligned sllen size u.align (Some addr) s step.meanwhile fits small step.allocated))
+
+  pub step_aligned : (live size n fllen sllen : ℕ) (s t : State) (e : Event) → AsksWithin live size most n e → AreAligned most s.used → Leads fllen sllen s e t
+      → AreAligned most t.used
+  step_aligned live size n fllen sllen s t (insert r reply) within small step = subst (AreAligned most) (sym (used-inserted fllen s t r reply step)) small
+  step_aligned live size n fllen sllen s t (append r reply) within small step = subst (AreAligned most) (sym (used-appended fllen s t r reply step)) small
+  step_aligned live size n fllen sllen s t (allocate z align reply) (few, short, fits) small step = allocate_aligned sllen z align reply s t fits small step
+  step_aligned live size n fllen sllen s t (deallocate addr) within small step = aligned_by step.after (aligned_others step.block.payload s.used small)
+  step_aligned live size n fllen sllen s t (reallocate addr z reply) within small step =
+      reallocate_aligned sllen z step.block (plan s step.block z) reply s t (aligned_at step.block s.used small step.holds.0) small step.step
+  step_aligned live size n fllen sllen s t (fill addr bytes) within small step =
+      aligned_by step.after (aligned_filled addr bytes s.used small)
+  step_aligned live size n fllen sllen s t (remove r) within small step = absurd within
+  step_aligned live size n fllen sllen s t (trim k) within small step = absurd within
+
+-- ---- runs, by their calls alone
+
+pub request_size-mono : (size align most_size most_align : ℕ) → size ≤ most_size → align ≤ most_align → request_size size align ≤ request_size most_size most_align
+request_size-mono size align most_size most_align short fits = round32-mono (size + (align - 16) + 16) (most_size + (most_align - 16) + 16) (omega arith)
+
+pub modest_by : (live size align n : ℕ) (s : State) (e : Event) → length s.used ≡ n → AreAligned align s.used → AsksWithin live size align n e
+    → IsModest live (request_size size align) s e
+modest_by live size align n s (insert r reply) count small within = tt
+modest_by live size align n s (append r reply) count small within = tt
+modest_by live size align n s (allocate z a reply) count small (few, short, fits) = (omega arith, request_size-mono z a size align short fits)
+modest_by live size align n s (deallocate addr) count small within = tt
+modest_by live size align n s (reallocate addr z reply) count small (few, short) =
+    (omega arith, λ u holds. request_size-mono z u.align size align short (aligned_at align u s.used small holds.0))
+modest_by live size align n s (fill addr bytes) count small within = tt
+modest_by live size align n s (remove r) count small within = absurd within
+modest_by live size align n s (trim k) count small within = absurd within
+
+runs_modestly : (live size align n fllen sllen : ℕ) (memory : Range) (s t : State) (es : List Event) → IsWellFormed fllen sllen memory s → length s.used ≡ n
+    → AreAligned align s.used
+    → Runs fllen sllen memory s es t → AreWithin live size align n es → RunsModestly live (request_size size align) fllen sllen memory s es t
+runs_modestly live size align n fllen sllen memory s t [] w count small run within = run
+runs_modestly live size align n fllen sllen memory s t (e ∷ es) w count small (u, may, step, rest) (asks, within) = (
+  u,
+  may,
+  modest_by live size align n s e count small asks,
+  step,
+  runs_modestly live size align (live_after e n) fllen sllen memory u t es (steps_keep_well_formed fllen sllen memory s u e w may step)
+      (live_is_counted fllen sllen memory s u e w may step ∙ ap (live_after e) count)
+      (step_aligned align live size n fllen sllen s u e asks small step) rest within,
+)
+
+pub bounded_runs_are_not_denied : BoundedRunsAreNotDenied
+bounded_runs_are_not_denied live size align fllen sllen memory s t fronts es w idle are budget run within =
+    let most = request_size size align in
+    modest_runs_are_not_denied live most fllen sllen memory s t fronts es w are (subst (AreAtMost most) (sym idle) (λ u i. absurd i)) budget
+    (runs_modestly live size align 0 fllen sllen memory s t es w (ap length idle) (aligned_none align s.used idle) run within)
+
+-- ---- fronts
+
+-- a chunk that isn't empty is one front
+pub AreFronts-one : (c : Range) (chunks : List Range) → IsIn c chunks → 0 < c.len → AreFronts chunks (c ∷ [])
+AreFronts-one c chunks i some = record {
+  each = λ r. elim [ inl same ↦ subst (IsFront chunks) (sym same) (c, i, refl, omega arith, some) | inr none ↦ absurd none ];
+  disjoint = λ a. omega (arith, covers-le c a);
+}
+
+-- the chunks of a well-formed state are all fronts
+pub AreFronts-chunks : {fllen sllen : ℕ} {memory : Range} (s : State) → IsWellFormed fllen sllen memory s → AreFronts s.chunks s.chunks
+AreFronts-chunks s w = record {
+  each = λ c i. (c, i, refl, omega arith, let room = (w.chunks c i).has_room in omega arith);
+  disjoint = w.disjoint;
+}
+
+-- ---- an example
+
+-- a chunk of 384 bytes has room for four payloads of 48 bytes or fewer, whatever was allocated and freed before, and
+-- whatever memory came
+four_payloads : (t : State) (es : List Event) → Runs 8 8 (range_at 4096 8192) (with_chunk (range_at 4096 384) empty) es t → AreWithin 3 48 16 0 es → (e : Event) → IsIn e es
+    → IsDenied e → ⊥
+four_payloads t es run within =
+    let memory = range_at 4096 8192 in
+    let c = range_at 4096 384 in
+    let w = steps_keep_well_formed 8 8 memory empty (with_chunk c empty) (insert c (Some 384)) (empty_is_well_formed 8 8 memory (omega arith) (omega arith) (omega arith))
+    (record { lies_in = (omega arith, omega arith); apart = λ a low high. refl }) (record { answer = refl; after = refl }) in
+    bounded_runs_are_not_denied 3 48 16 8 8 memory (with_chunk c empty) t (c ∷ []) es w refl (AreFronts-one c (c ∷ []) (inl refl) (omega arith))
+    (record { least = 64; taken = record { is = (omega arith, omega arith); reaches = omega arith }; enough = omega arith }) run within

@@ -1,0 +1,168 @@
+-- The range that an allocation takes.
+use mathlib.Core.Path.{ap₂}
+use Rattle.std.proofs.Common.{false, ◌≡◌, ℕ, ◌*◌, true, cond, ◌&&◌, ◌||◌, leb, eqb, true≢false, List, [], ◌∷◌, Option, Some, None, find}
+use Rattle.std.proofs.Common.{option_and_then, arith, refl, sym, ◌∙◌, ap, subst, inl, inr, ◌≢◌, ◌++◌}
+use Rattle.std.proofs.lemmas.Bool.{cases_lt, leb-true, le-leb, lt-ltb, le-ltb, eqb-true, eq-eqb, and_parts, and_from, false_from_ne_true}
+use Rattle.rlsf_base.specs.declared.memory.range.Range.{Range}
+use Rattle.rlsf_base.specs.SizeClass.{SizeClass, class_of, class_start, reaches, Reaches, IsAtMost}
+use Rattle.rlsf_base.proofs.SizeClasses.Order.{IsAtMost-refl, IsAtMost-trans, IsAtMost-total, IsAtMost-antisymm}
+use Rattle.rlsf_model.specs.Lists.{IsIn, without}
+use Rattle.rlsf_model.specs.Allocate.{is_at_most, has_class, earlier, least_reaching, choice}
+use Rattle.rlsf_model.proofs.Coverage.{by_test, find-some, find-none, find-at, IsIn-append_right}
+
+pub is_at_most-true : (c d : SizeClass) → is_at_most c d ≡ true → IsAtMost c d
+is_at_most-true c d h = elim (cases_lt c.exponent d.exponent) [
+  | inl less ↦ inl less
+  | inr from ↦
+      let rest =
+      and_parts (eqb c.exponent d.exponent) (leb c.division d.division)
+      (sym (ap (λ b. b || (eqb c.exponent d.exponent && leb c.division d.division)) (le-ltb c.exponent d.exponent from)) ∙ h) in
+      inr (eqb-true c.exponent d.exponent rest.0, leb-true c.division d.division rest.1)
+]
+
+pub is_at_most-from : (c d : SizeClass) → IsAtMost c d → is_at_most c d ≡ true
+is_at_most-from c d (inl less) = ap (λ b. b || (eqb c.exponent d.exponent && leb c.division d.division)) (lt-ltb c.exponent d.exponent less)
+is_at_most-from c d (inr (same, order)) =
+    ap (λ b. b || (eqb c.exponent d.exponent && leb c.division d.division)) (le-ltb c.exponent d.exponent (omega arith))
+    ∙ and_from (eqb c.exponent d.exponent) (leb c.division d.division) (eq-eqb c.exponent d.exponent same) (le-leb c.division d.division order)
+
+pub has_class-true : (sllen : ℕ) (c : SizeClass) (f : Range) → has_class sllen c f ≡ true → class_of sllen f.len ≡ c
+has_class-true sllen c f h =
+    let d = class_of sllen f.len in
+    let parts = and_parts (eqb d.exponent c.exponent) (eqb d.division c.division) h in
+    ap₂ (λ k j. record { exponent = k; division = j }) (eqb-true d.exponent c.exponent parts.0) (eqb-true d.division c.division parts.1)
+
+pub has_class-from : (sllen : ℕ) (c : SizeClass) (f : Range) → class_of sllen f.len ≡ c → has_class sllen c f ≡ true
+has_class-from sllen c f e =
+    let d = class_of sllen f.len in
+    and_from (eqb d.exponent c.exponent) (eqb d.division c.division) (eq-eqb d.exponent c.exponent (ap (λ x. x.exponent) e))
+    (eq-eqb d.division c.division (ap (λ x. x.division) e))
+
+-- c is the least class that reaches a size among those of some ranges
+pub record IsLeast (sllen size : ℕ) (free : List Range) (c : SizeClass) : Type 0 where
+  pub range : Range
+  pub is_in : IsIn range free
+  pub has : class_of sllen range.len ≡ c
+  pub reached : Reaches sllen c size
+  pub least : (g : Range) → IsIn g free → Reaches sllen (class_of sllen g.len) size → IsAtMost c (class_of sllen g.len)
+
+-- either no class reaches, or there is the least one
+pub data Least (sllen size : ℕ) (free : List Range) (o : Option SizeClass) : Type 0 where
+  none_reaches : o ≡ None → ((g : Range) → IsIn g free → Reaches sllen (class_of sllen g.len) size → ⊥) → Least sllen size free o
+  one_reaches : (c : SizeClass) → o ≡ Some c → IsLeast sllen size free c → Least sllen size free o
+
+module _ (sllen size : ℕ) where
+  pub least_of : (free : List Range) → Least sllen size free (least_reaching sllen size free)
+  least_of [] = none_reaches refl (λ g h. absurd h)
+  least_of (f ∷ fs) =
+      let c = class_of sllen f.len in
+      let least = least_reaching sllen size fs in
+      by_test (reaches sllen c size)
+      (λ yes_reaches. let reached : Reaches sllen c size = leb-true (size * sllen) (class_start sllen c) yes_reaches in
+      let is : least_reaching sllen size (f ∷ fs) ≡ Some (earlier c least) = ap (λ b. cond b (Some (earlier c least)) least) yes_reaches in
+      elim (least_of fs) [
+        | none_reaches e none ↦ one_reaches c (is ∙ ap (λ o. Some (earlier c o)) e) (record {
+          range = f;
+          is_in = inl refl;
+          has = refl;
+          reached = reached;
+          least = λ g h r. elim h [ inl same ↦ subst (λ x. IsAtMost c (class_of sllen x.len)) (sym same) (IsAtMost-refl c) | inr i ↦ absurd (none g i r) ];
+        })
+        | one_reaches d e l ↦ by_test (is_at_most c d)
+            (λ first. one_reaches c (is ∙ ap (λ o. Some (earlier c o)) e ∙ ap (λ b. Some (cond b c d)) first) (record {
+              range = f;
+              is_in = inl refl;
+              has = refl;
+              reached = reached;
+              least = λ g h r. elim h [
+                | inl same ↦ subst (λ x. IsAtMost c (class_of sllen x.len)) (sym same) (IsAtMost-refl c)
+                | inr i ↦ IsAtMost-trans c d (class_of sllen g.len) (is_at_most-true c d first) (l.least g i r)
+              ];
+            }))
+            (λ later. let order : IsAtMost d c =
+            elim (IsAtMost-total c d) [ inl back ↦ absurd (true≢false (sym (is_at_most-from c d back) ∙ later)) | inr order ↦ order ] in
+            one_reaches d (is ∙ ap (λ o. Some (earlier c o)) e ∙ ap (λ b. Some (cond b c d)) later) (record {
+              range = l.range;
+              is_in = inr l.is_in;
+              has = l.has;
+              reached = l.reached;
+              least = λ g h r. elim h [ inl same ↦ subst (λ x. IsAtMost d (class_of sllen x.len)) (sym same) order | inr i ↦ l.least g i r ];
+            }))
+      ])
+      (λ fails. let is : least_reaching sllen size (f ∷ fs) ≡ least = ap (λ b. cond b (Some (earlier c least)) least) fails in
+      let short : Reaches sllen c size → ⊥ = λ r. true≢false (sym (le-leb (size * sllen) (class_start sllen c) r) ∙ fails) in
+      elim (least_of fs) [
+        | none_reaches e none ↦ none_reaches (is ∙ e)
+            (λ g h r. elim h [ inl same ↦ absurd (short (subst (λ x. Reaches sllen (class_of sllen x.len) size) same r)) | inr i ↦ none g i r ])
+        | one_reaches d e l ↦ one_reaches d (is ∙ e) (record {
+          range = l.range;
+          is_in = inr l.is_in;
+          has = l.has;
+          reached = l.reached;
+          least = λ g h r. elim h [ inl same ↦ absurd (short (subst (λ x. Reaches sllen (class_of sllen x.len) size) same r)) | inr i ↦ l.least g i r ];
+        })
+      ])
+
+-- f is the choice for a size: the first of the free ranges of its class, which is the least that reaches
+pub record IsChoice (sllen size : ℕ) (free : List Range) (f : Range) : Type 0 where
+  pub is_in : IsIn f free
+  pub found : find (has_class sllen (class_of sllen f.len)) free ≡ Some f
+  pub reached : Reaches sllen (class_of sllen f.len) size
+  pub least : (g : Range) → IsIn g free → Reaches sllen (class_of sllen g.len) size → IsAtMost (class_of sllen f.len) (class_of sllen g.len)
+
+module _ (sllen size : ℕ) (free : List Range) where
+  pub choice-some : (f : Range) → choice sllen size free ≡ Some f → IsChoice sllen size free f
+  choice-some f h = elim (least_of sllen size free) [
+    | none_reaches e none ↦ let bad : None ≡ Some f = sym (ap (λ o. option_and_then (λ c. find (has_class sllen c) free) o) e) ∙ h in absurd (cc)
+    | one_reaches c e l ↦
+        let found : find (has_class sllen c) free ≡ Some f = sym (ap (λ o. option_and_then (λ c. find (has_class sllen c) free) o) e) ∙ h in
+        let is = find-some (has_class sllen c) f free found in
+        let same : class_of sllen f.len ≡ c = has_class-true sllen c f is.1 in
+        record {
+          is_in = is.0;
+          found = subst (λ d. find (has_class sllen d) free ≡ Some f) (sym same) found;
+          reached = subst (λ d. Reaches sllen d size) (sym same) l.reached;
+          least = λ g i r. subst (λ d. IsAtMost d (class_of sllen g.len)) (sym same) (l.least g i r);
+        }
+  ]
+
+  -- where nothing is chosen, no free range's class reaches
+  pub choice-none : choice sllen size free ≡ None → (g : Range) → IsIn g free → Reaches sllen (class_of sllen g.len) size → ⊥
+  choice-none h = elim (least_of sllen size free) [
+    | none_reaches e none ↦ none
+    | one_reaches c e l ↦
+        let missing : find (has_class sllen c) free ≡ None = sym (ap (λ o. option_and_then (λ c. find (has_class sllen c) free) o) e) ∙ h in
+        absurd (true≢false (sym (has_class-from sllen c l.range l.has) ∙ find-none (has_class sllen c) l.range free missing l.is_in))
+  ]
+
+  -- where no class reaches, nothing is chosen
+  pub choice-from_none : ((g : Range) → IsIn g free → Reaches sllen (class_of sllen g.len) size → ⊥) → choice sllen size free ≡ None
+  choice-from_none short = elim (least_of sllen size free) [
+    | none_reaches e none ↦ ap (λ o. option_and_then (λ c. find (has_class sllen c) free) o) e
+    | one_reaches c e l ↦ absurd (short l.range l.is_in (subst (λ d. Reaches sllen d size) (sym l.has) l.reached))
+  ]
+
+  -- the range that is found first of the least class that reaches is the choice
+  pub choice-from : (f : Range) → IsChoice sllen size free f → choice sllen size free ≡ Some f
+  choice-from f is = elim (least_of sllen size free) [
+    | none_reaches e none ↦ absurd (none f is.is_in is.reached)
+    | one_reaches c e l ↦
+        let below : IsAtMost c (class_of sllen f.len) = l.least f is.is_in is.reached in
+        let above : IsAtMost (class_of sllen f.len) c =
+        subst (IsAtMost (class_of sllen f.len)) l.has (is.least l.range l.is_in (subst (λ d. Reaches sllen d size) (sym l.has) l.reached)) in
+        ap (λ o. option_and_then (λ c. find (has_class sllen c) free) o) e ∙ ap (λ d. find (has_class sllen d) free) (IsAtMost-antisymm c (class_of sllen f.len) below above)
+        ∙ is.found
+  ]
+
+-- the choice, from its place in the list on
+pub choice-from_split : (sllen size : ℕ) (front : List Range) (f : Range) (back : List Range) → ((g : Range) → IsIn g front → class_of sllen g.len ≢ class_of sllen f.len)
+    → Reaches sllen (class_of sllen f.len) size
+    → ((g : Range) → IsIn g (front ++ f ∷ back) → Reaches sllen (class_of sllen g.len) size → IsAtMost (class_of sllen f.len) (class_of sllen g.len))
+    → (choice sllen size (front ++ f ∷ back) ≡ Some f) × (without (has_class sllen (class_of sllen f.len)) (front ++ f ∷ back) ≡ front ++ back)
+choice-from_split sllen size front f back apart reached least =
+    let c = class_of sllen f.len in
+    let fails : (g : Range) → IsIn g front → has_class sllen c g ≡ false = λ g i. false_from_ne_true (has_class sllen c g) (λ e. apart g i (has_class-true sllen c g e)) in
+    let found = find-at (has_class sllen c) front f back fails (has_class-from sllen c f refl) in (
+      choice-from sllen size (front ++ f ∷ back) f (record { is_in = IsIn-append_right f front (f ∷ back) (inl refl); found = found.0; reached = reached; least = least }),
+      found.1,
+    )

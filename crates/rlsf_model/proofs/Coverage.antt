@@ -1,0 +1,240 @@
+-- How many ranges of a list have an address.
+use Rattle.std.proofs.Common.{◌≡◌, ℕ, ◌+◌, ◌<◌, ◌≤◌, ◌⊎◌, Bool, true, false, cond, ◌&&◌, ltb, filter, find, map, true≢false, List, [], ◌∷◌}
+use Rattle.std.proofs.Common.{◌++◌, Some, None, arith, refl, sym, ◌∙◌, ap, subst, inl, inr}
+use Rattle.std.proofs.lemmas.Bool.{cases_lt, le-leb, lt-leb, lt-ltb, le-ltb}
+use Rattle.rlsf_base.specs.declared.memory.range.Range.{Range}
+use Rattle.rlsf_base.specs.Range.{end_of}
+use Rattle.rlsf_model.specs.Lists.{IsIn, without}
+use Rattle.rlsf_model.specs.WellFormed.{covers, coverage}
+
+-- an address is in a range, or before it or behind it
+pub data Where (r : Range) (a : ℕ) : Type 0 where
+  inside : covers r a ≡ 1 → r.start ≤ a → a < end_of r → Where r a
+  before : covers r a ≡ 0 → a < r.start → Where r a
+  behind : covers r a ≡ 0 → end_of r ≤ a → Where r a
+
+pub covers-inside : (r : Range) (a : ℕ) → r.start ≤ a → a < end_of r → covers r a ≡ 1
+unfolding covers
+covers-inside r a low high = ap (λ b. cond (b && ltb a (end_of r)) 1 0) (le-leb r.start a low) ∙ ap (λ b. cond b 1 0) (lt-ltb a (end_of r) high)
+
+pub covers-before : (r : Range) (a : ℕ) → a < r.start → covers r a ≡ 0
+unfolding covers
+covers-before r a low = ap (λ b. cond (b && ltb a (end_of r)) 1 0) (lt-leb r.start a low)
+
+pub covers-behind : (r : Range) (a : ℕ) → end_of r ≤ a → covers r a ≡ 0
+unfolding covers
+covers-behind r a high = elim (cases_lt a r.start) [
+  | inl low ↦ covers-before r a low
+  | inr from ↦ ap (λ b. cond (b && ltb a (end_of r)) 1 0) (le-leb r.start a from) ∙ ap (λ b. cond b 1 0) (le-ltb a (end_of r) high)
+]
+
+pub where_is : (r : Range) (a : ℕ) → Where r a
+where_is r a = elim (cases_lt a r.start) [
+  | inl low ↦ before (covers-before r a low) low
+  | inr from ↦ elim (cases_lt a (end_of r)) [
+    | inl high ↦ inside (covers-inside r a from high) from high
+    | inr past ↦ behind (covers-behind r a past) past
+  ]
+]
+
+-- a range that has an address
+pub covers-some : (r : Range) (a : ℕ) → 1 ≤ covers r a → (r.start ≤ a) × (a < end_of r)
+covers-some r a some = elim (where_is r a) [
+  | inside one low high ↦ (low, high)
+  | before none low ↦ absurd (omega arith)
+  | behind none high ↦ absurd (omega arith)
+]
+
+pub covers-le : (r : Range) (a : ℕ) → covers r a ≤ 1
+covers-le r a = elim (where_is r a) [
+  | inside one low high ↦ omega arith
+  | before none low ↦ omega arith
+  | behind none high ↦ omega arith
+]
+
+-- a range is cut in two at any address in it
+pub covers-split : (low mid high a : ℕ) → low ≤ mid → mid ≤ high → (r s t : Range) → r.start ≡ low → end_of r ≡ high → s.start ≡ low → end_of s ≡ mid
+    → t.start ≡ mid → end_of t ≡ high
+    → covers r a ≡ covers s a + covers t a
+covers-split low mid high a first second r s t r0 r1 s0 s1 t0 t1 = elim (where_is r a) [
+  | inside one l h ↦ elim (where_is s a) [
+    | inside s_one sl sh ↦ elim (where_is t a) [ inside t_one tl th ↦ absurd (omega arith) | before none tl ↦ omega arith | behind none th ↦ omega arith ]
+    | before s_none sl ↦ absurd (omega arith)
+    | behind s_none sh ↦ elim (where_is t a) [ inside t_one tl th ↦ omega arith | before none tl ↦ absurd (omega arith) | behind none th ↦ absurd (omega arith) ]
+  ]
+  | before none l ↦ let left = covers-before s a (omega arith) in let right = covers-before t a (omega arith) in omega arith
+  | behind none h ↦ let left = covers-behind s a (omega arith) in let right = covers-behind t a (omega arith) in omega arith
+]
+
+-- a range of no bytes has no address
+pub covers-empty : (r : Range) (a : ℕ) → r.len ≡ 0 → covers r a ≡ 0
+covers-empty r a empty = elim (where_is r a) [
+  | inside one low high ↦ absurd (omega arith)
+  | before none low ↦ none
+  | behind none high ↦ none
+]
+
+-- what is true of a Bool either way
+pub by_test : {X : Type 0} (t : Bool) → (t ≡ true → X) → (t ≡ false → X) → X
+by_test true y n = y refl
+by_test false y n = n refl
+
+-- ---- elements
+
+pub IsIn-append : {A : Type 0} (x : A) (xs ys : List A) → IsIn x (xs ++ ys) → IsIn x xs ⊎ IsIn x ys
+IsIn-append x [] ys h = inr h
+IsIn-append x (y ∷ xs) ys (inl e) = inl (inl e)
+IsIn-append x (y ∷ xs) ys (inr h) = elim (IsIn-append x xs ys h) [ inl l ↦ inl (inr l) | inr r ↦ inr r ]
+
+pub IsIn-append_left : {A : Type 0} (x : A) (xs ys : List A) → IsIn x xs → IsIn x (xs ++ ys)
+IsIn-append_left x [] ys h = absurd h
+IsIn-append_left x (y ∷ xs) ys (inl e) = inl e
+IsIn-append_left x (y ∷ xs) ys (inr h) = inr (IsIn-append_left x xs ys h)
+
+pub IsIn-append_right : {A : Type 0} (x : A) (xs ys : List A) → IsIn x ys → IsIn x (xs ++ ys)
+IsIn-append_right x [] ys h = h
+IsIn-append_right x (y ∷ xs) ys h = inr (IsIn-append_right x xs ys h)
+
+pub IsIn-append_swap : {A : Type 0} (x : A) (xs ys : List A) → IsIn x (xs ++ ys) → IsIn x (ys ++ xs)
+IsIn-append_swap x xs ys h = elim (IsIn-append x xs ys h) [ inl l ↦ IsIn-append_right x ys xs l | inr r ↦ IsIn-append_left x ys xs r ]
+
+pub IsIn-map : {A B : Type 0} (f : A → B) (x : A) (xs : List A) → IsIn x xs → IsIn (f x) (map f xs)
+IsIn-map f x [] i = absurd i
+IsIn-map f x (y ∷ ys) (inl same) = inl (ap f same)
+IsIn-map f x (y ∷ ys) (inr i) = inr (IsIn-map f x ys i)
+
+pub IsIn-map_from : {A B : Type 0} (f : A → B) (y : B) (xs : List A) → IsIn y (map f xs) → (x : A) × IsIn x xs × (y ≡ f x)
+IsIn-map_from f y [] i = absurd i
+IsIn-map_from f y (x ∷ xs) (inl same) = (x, inl refl, same)
+IsIn-map_from f y (x ∷ xs) (inr i) = let (z, j, is) = IsIn-map_from f y xs i in (z, inr j, is)
+
+-- functions that agree on the elements make one list of them
+pub map-same : {A B : Type 0} (f g : A → B) (xs : List A) → ((x : A) → IsIn x xs → f x ≡ g x) → map f xs ≡ map g xs
+map-same f g [] same = refl
+map-same f g (x ∷ xs) same = λ k. same x (inl refl) k ∷ map-same f g xs (λ y i. same y (inr i)) k
+
+pub IsIn-without : {A : Type 0} (p : A → Bool) (x : A) (xs : List A) → IsIn x (without p xs) → IsIn x xs
+IsIn-without p x [] h = h
+IsIn-without p x (y ∷ xs) h = by_test (p y)
+    (λ e. inr (subst (λ b. IsIn x (cond b xs (y ∷ without p xs))) e h))
+    (λ e. let left : (x ≡ y) ⊎ IsIn x (without p xs) = subst (λ b. IsIn x (cond b xs (y ∷ without p xs))) e h in
+    elim left [ inl same ↦ inl same | inr rest ↦ inr (IsIn-without p x xs rest) ])
+
+-- an element that the test fails is left
+pub IsIn-without_other : {A : Type 0} (p : A → Bool) (x : A) (xs : List A) → p x ≡ false → IsIn x xs → IsIn x (without p xs)
+IsIn-without_other p x [] failed h = h
+IsIn-without_other p x (y ∷ xs) failed h = by_test (p y)
+    (λ e. subst (λ b. IsIn x (cond b xs (y ∷ without p xs))) (sym e)
+    (elim h [ inl same ↦ absurd (true≢false (sym e ∙ ap p (sym same) ∙ failed)) | inr rest ↦ rest ]))
+    (λ e. subst (λ b. IsIn x (cond b xs (y ∷ without p xs))) (sym e)
+    (elim h [ inl same ↦ inl same | inr rest ↦ inr (IsIn-without_other p x xs failed rest) ]))
+
+-- what was found is an element that passes
+pub find-some : {A : Type 0} (p : A → Bool) (x : A) (xs : List A) → find p xs ≡ Some x → IsIn x xs × (p x ≡ true)
+find-some p x [] h = absurd (cc)
+find-some p x (y ∷ xs) h = by_test (p y)
+    (λ e. let same : Some y ≡ Some x = sym (ap (λ b. cond b (Some y) (find p xs)) e) ∙ h in let is : y ≡ x = cc in (inl (sym is), subst (λ z. p z ≡ true) is e))
+    (λ e. let rest = find-some p x xs (sym (ap (λ b. cond b (Some y) (find p xs)) e) ∙ h) in (inr rest.0, rest.1))
+
+-- where nothing was found, no element passes
+pub find-none : {A : Type 0} (p : A → Bool) (x : A) (xs : List A) → find p xs ≡ None → IsIn x xs → p x ≡ false
+find-none p x [] h i = absurd i
+find-none p x (y ∷ xs) h i = by_test (p y)
+    (λ e. let bad : Some y ≡ None = sym (ap (λ b. cond b (Some y) (find p xs)) e) ∙ h in absurd (cc))
+    (λ e. elim i [ inl same ↦ ap p same ∙ e | inr j ↦ find-none p x xs (sym (ap (λ b. cond b (Some y) (find p xs)) e) ∙ h) j ])
+
+pub without-none : {A : Type 0} (p : A → Bool) (xs : List A) → find p xs ≡ None → without p xs ≡ xs
+without-none p [] h = refl
+without-none p (y ∷ xs) h = by_test (p y)
+    (λ e. let bad : Some y ≡ None = sym (ap (λ b. cond b (Some y) (find p xs)) e) ∙ h in absurd (cc))
+    (λ e. ap (λ b. cond b xs (y ∷ without p xs)) e ∙ ap (λ l. y ∷ l) (without-none p xs (sym (ap (λ b. cond b (Some y) (find p xs)) e) ∙ h)))
+
+-- an element that is left by a filter passes its test
+pub IsIn-filter : {A : Type 0} (p : A → Bool) (x : A) (xs : List A) → IsIn x (filter p xs) → IsIn x xs × (p x ≡ true)
+IsIn-filter p x [] i = absurd i
+IsIn-filter p x (y ∷ ys) i = by_test (p y)
+    (λ e. elim (subst (λ b. IsIn x (cond b (y ∷ filter p ys) (filter p ys))) e i) [
+      | inl same ↦ (inl same, ap p same ∙ e)
+      | inr j ↦ let rest = IsIn-filter p x ys j in (inr rest.0, rest.1)
+    ])
+    (λ e. let rest = IsIn-filter p x ys (subst (λ b. IsIn x (cond b (y ∷ filter p ys) (filter p ys))) e i) in (inr rest.0, rest.1))
+
+pub IsIn-filter_from : {A : Type 0} (p : A → Bool) (x : A) (xs : List A) → IsIn x xs → p x ≡ true → IsIn x (filter p xs)
+IsIn-filter_from p x [] i passes = i
+IsIn-filter_from p x (y ∷ ys) i passes = by_test (p y)
+    (λ e. subst (λ b. IsIn x (cond b (y ∷ filter p ys) (filter p ys))) (sym e) (elim i [ inl same ↦ inl same | inr j ↦ inr (IsIn-filter_from p x ys j passes) ]))
+    (λ e. subst (λ b. IsIn x (cond b (y ∷ filter p ys) (filter p ys))) (sym e)
+    (elim i [ inl same ↦ absurd (true≢false (sym passes ∙ ap p same ∙ e)) | inr j ↦ IsIn-filter_from p x ys j passes ]))
+
+-- an element that passes, behind elements that fail, is the one that is found and taken out
+pub find-at : {A : Type 0} (p : A → Bool) (front : List A) (x : A) (back : List A) → ((y : A) → IsIn y front → p y ≡ false) → p x ≡ true
+    → (find p (front ++ x ∷ back) ≡ Some x) × (without p (front ++ x ∷ back) ≡ front ++ back)
+find-at p [] x back fails passes = (ap (λ b. cond b (Some x) (find p back)) passes, ap (λ b. cond b back (x ∷ without p back)) passes)
+find-at p (y ∷ front) x back fails passes =
+    let rest = find-at p front x back (λ z i. fails z (inr i)) passes in
+    let fail = fails y (inl refl) in (
+      ap (λ b. cond b (Some y) (find p (front ++ x ∷ back))) fail ∙ rest.0,
+      ap (λ b. cond b (front ++ x ∷ back) (y ∷ without p (front ++ x ∷ back))) fail ∙ ap (λ l. y ∷ l) rest.1,
+    )
+
+-- ---- coverage
+
+module _ {A : Type 0} (range : A → Range) where
+  pub coverage-append : (xs ys : List A) (a : ℕ) → coverage range (xs ++ ys) a ≡ coverage range xs a + coverage range ys a
+  coverage-append [] ys a = omega arith
+  coverage-append (x ∷ xs) ys a = omega (arith, coverage-append xs ys a)
+
+  pub coverage-without : (p : A → Bool) (x : A) (xs : List A) (a : ℕ) → find p xs ≡ Some x → coverage range xs a ≡ covers (range x) a + coverage range (without p xs) a
+  coverage-without p x [] a h = absurd (cc)
+  coverage-without p x (y ∷ xs) a h = by_test (p y)
+      (λ e. let same : Some y ≡ Some x = sym (ap (λ b. cond b (Some y) (find p xs)) e) ∙ h in let is : y ≡ x = cc in
+      ap (λ z. covers (range z) a + coverage range xs a) is ∙ ap (λ b. covers (range x) a + coverage range (cond b xs (y ∷ without p xs)) a) (sym e))
+      (λ e. let rest = coverage-without p x xs a (sym (ap (λ b. cond b (Some y) (find p xs)) e) ∙ h) in
+      let cut : coverage range (without p (y ∷ xs)) a ≡ covers (range y) a + coverage range (without p xs) a = ap (λ b. coverage range (cond b xs (y ∷ without p xs)) a) e in
+      omega arith)
+
+  -- an element's range has no address that the list's ranges don't have
+  pub coverage-IsIn : (x : A) (xs : List A) (a : ℕ) → IsIn x xs → covers (range x) a ≤ coverage range xs a
+  coverage-IsIn x [] a h = absurd h
+  coverage-IsIn x (y ∷ xs) a (inl e) = let same : covers (range x) a ≡ covers (range y) a = ap (λ z. covers (range z) a) e in omega arith
+  coverage-IsIn x (y ∷ xs) a (inr h) = omega (arith, coverage-IsIn x xs a h)
+
+  -- an address that no element's range has
+  pub coverage-none : (xs : List A) (a : ℕ) → ((x : A) → IsIn x xs → covers (range x) a ≡ 0) → coverage range xs a ≡ 0
+  coverage-none [] a none = refl
+  coverage-none (x ∷ xs) a none = omega (arith, none x (inl refl), coverage-none xs a (λ y i. none y (inr i)))
+
+  -- without elements whose ranges don't have the address
+  pub coverage-filter : (p : A → Bool) (xs : List A) (a : ℕ) → ((x : A) → IsIn x xs → p x ≡ false → covers (range x) a ≡ 0)
+      → coverage range (filter p xs) a ≡ coverage range xs a
+  coverage-filter p [] a none = refl
+  coverage-filter p (x ∷ xs) a none =
+      let rest = coverage-filter p xs a (λ y i. none y (inr i)) in
+      by_test (p x)
+      (λ e. let kept : coverage range (filter p (x ∷ xs)) a
+      ≡ covers (range x) a + coverage range (filter p xs) a = ap (λ b. coverage range (cond b (x ∷ filter p xs) (filter p xs)) a) e in omega arith)
+      (λ e. let gone : coverage range (filter p (x ∷ xs)) a ≡ coverage range (filter p xs) a = ap (λ b. coverage range (cond b (x ∷ filter p xs) (filter p xs)) a) e in
+      omega (arith, none x (inl refl) e))
+
+  -- an address that some range has
+  pub coverage-some : (xs : List A) (a : ℕ) → 1 ≤ coverage range xs a → (x : A) × IsIn x xs × ((range x).start ≤ a) × (a < end_of (range x))
+  coverage-some [] a h = absurd (omega arith)
+  coverage-some (x ∷ xs) a h = elim (where_is (range x) a) [
+    | inside one low high ↦ (x, inl refl, low, high)
+    | before none low ↦ more (coverage-some xs a (omega arith))
+    | behind none high ↦ more (coverage-some xs a (omega arith))
+  ]
+    where
+      more : (y : A) × IsIn y xs × ((range y).start ≤ a) × (a < end_of (range y)) → (y : A) × IsIn y (x ∷ xs) × ((range y).start ≤ a) × (a < end_of (range y))
+      more (y, h, low, high) = (y, inr h, low, high)
+
+  -- an address that at most one range has is in one element's range alone
+  pub coverage-unique : (x y : A) (xs : List A) (a : ℕ) → coverage range xs a ≤ 1 → IsIn x xs → IsIn y xs → covers (range x) a ≡ 1 → covers (range y) a ≡ 1
+      → x ≡ y
+  coverage-unique x y [] a one i j cx cy = absurd i
+  coverage-unique x y (z ∷ xs) a one (inl e) (inl f) cx cy = e ∙ sym f
+  coverage-unique x y (z ∷ xs) a one (inl e) (inr j) cx cy =
+      let same : covers (range x) a ≡ covers (range z) a = ap (λ w. covers (range w) a) e in absurd (omega (arith, coverage-IsIn y xs a j))
+  coverage-unique x y (z ∷ xs) a one (inr i) (inl f) cx cy =
+      let same : covers (range y) a ≡ covers (range z) a = ap (λ w. covers (range w) a) f in absurd (omega (arith, coverage-IsIn x xs a i))
+  coverage-unique x y (z ∷ xs) a one (inr i) (inr j) cx cy = coverage-unique x y xs a (omega arith) i j cx cy

@@ -1,0 +1,149 @@
+-- What reallocations leave.
+use Rattle.std.proofs.Common.{◌≡◌, ◌≢◌, ℕ, ◌≤◌, Bool, true, false, cond, eqb, length, min, take, drop, List, [], Option, Some, None, IsSome, Ok, Err, arith}
+use Rattle.std.proofs.Common.{refl, sym, ◌∙◌, ap, subst, inl}
+use Rattle.std.proofs.lemmas.Bool.{and_parts, eqb-true}
+use Rattle.std.proofs.lemmas.List.{length-take-le, take_at}
+use Rattle.std.specs.Option.{option_map}
+use Rattle.std.specs.declared.num.NonZeroUsize.{NonZeroUsize}
+use Rattle.rlsf_base.specs.Addr.{at}
+use Rattle.rlsf_base.specs.declared.memory.layout.Layout.{Layout}
+use Rattle.rlsf_base.specs.declared.memory.range.Range.{Range}
+use Rattle.rlsf_model.specs.Callers.{IsResized, align_at, bytes_at, payload_at}
+use Rattle.rlsf_model.specs.FlexReallocate.{ReallocatesInRoom}
+use Rattle.rlsf_model.specs.FlexState.{with_machine}
+use Rattle.rlsf_model.specs.Note.{Note}
+use Rattle.rlsf_model.specs.Reallocate.{Keeps}
+use Rattle.rlsf_model.specs.Run.{IsSomeLive, reallocate as machine_reallocates}
+use Rattle.rlsf_model.specs.State.{with_front}
+use Rattle.rlsf_model.proofs.CallerWords.{align_at-some, bytes_at-told}
+use Rattle.rlsf_model.proofs.NoMove.{unmoved_is_reallocated}
+use Rattle.rlsf_model_global.specs.Heap.{Agrees, Heap, Lists, content_at, layout_at, row_layout, with_state}
+use Rattle.rlsf_model_global.specs.Left.{IsMoved, IsMovedTo, ReallocationAsLeaves, ReallocationLeaves, ReallocationThereLeaves, in_both}
+use Rattle.rlsf_model_global.specs.Moves.{ReallocatesAsAt, ReallocatesAt, ReallocatesThereAt, ReallocatesTo, Replaces, ResizesThere, Wanted}
+use Rattle.rlsf_model_global.specs.Rows.{Row, put, row_at, without_row}
+use Rattle.rlsf_model_global.specs.Standing.{IsHeap}
+use Rattle.rlsf_model_global.specs.Steps.{Placed, is_same}
+use Rattle.rlsf_model_global.specs.declared.error.GlobalError.TheVariants.{WrongLayout}
+use Rattle.rlsf_model_global.proofs.StepLeavesFlex.{FlexGoes, flex_goes}
+use Rattle.rlsf_model_global.proofs.StepLeavesHeap.{live_row, replacement}
+use Rattle.rlsf_model_global.proofs.Histories.{either}
+use Rattle.rlsf_model_global.proofs.Left.{no_layout, put_layout, refused_not}
+use Rattle.rlsf_model_global.proofs.Maps.{row_at-put_other, row_at-without_here}
+
+-- the first bytes of what was filled are those of the old payload
+take-with_front : (n : ℕ) (new old : List ℕ) → n ≤ length new → take n (with_front n new old) ≡ take n new
+take-with_front n new old short = take_at (take n new) (drop n old) n (length-take-le n new short)
+
+-- where a payload moved from, no layout is listed
+left_layout : (g : Heap) (addr : ℕ) (to : NonZeroUsize) (wanted : Layout) (rows : List Row) → g.asked ≡ put (to, wanted) (without_row addr rows) → at to ≢ addr
+    → layout_at g addr ≡ None
+unfolding layout_at
+left_layout g addr to wanted rows asked off =
+    ap (option_map row_layout) (ap (row_at addr) asked ∙ row_at-put_other (to, wanted) (without_row addr rows) addr (λ same. off (sym same)) ∙ row_at-without_here addr rows)
+
+-- the entry's size is usable
+row_size : (h : Heap) (addr : ℕ) (row : Row) → Lists h.asked h.flex.machine → row_at addr h.asked ≡ Some row → row.1.size ≤ length (bytes_at h.flex.machine addr)
+row_size h addr row lists there = (subst (λ o. Agrees o (align_at h.flex.machine addr) (bytes_at h.flex.machine addr)) there (lists addr)).1
+
+is_same-size : (a b : Layout) → is_same a b ≡ true → a.size ≡ b.size
+is_same-size a b e = eqb-true a.size b.size (and_parts (eqb a.size b.size) (eqb a.align b.align) e).0
+
+module _ {memory : Range} (h : Heap) (w : IsHeap memory h) (addr : ℕ) (row : Row) (there : row_at addr h.asked ≡ Some row) (to : NonZeroUsize) (wanted : Layout) where
+  lives : IsSomeLive h.flex.machine addr
+  lives = align_at-some h.flex.machine addr (subst IsSome (sym (live_row h addr row w.lists there)) refl)
+
+  -- by the reference model
+  resized_moved : (g : Heap) → g.asked ≡ put (to, wanted) (without_row addr h.asked) → (notes : List Note)
+      → FlexGoes memory h.source h.flex (machine_reallocates addr wanted.size (Some (at to))) notes g.source g.flex
+      → IsMoved h g addr (at to) (in_both h g addr (at to)) wanted
+  unfolding content_at
+  resized_moved g asked notes is =
+      let r : IsResized (payload_at h.flex.machine) addr wanted.size (at to) (payload_at g.flex.machine) = is.changes in
+      let was : bytes_at h.flex.machine addr ≡ r.old.bytes = bytes_at-told h.flex.machine addr r.old r.was in
+      let now : bytes_at g.flex.machine (at to) ≡ r.now.bytes = bytes_at-told g.flex.machine (at to) r.now r.here in
+      record {
+        layout = put_layout g to wanted (without_row addr h.asked) asked;
+        bytes = subst (λ l. Keeps l (bytes_at g.flex.machine (at to))) (sym was) (subst (Keeps r.old.bytes) (sym now) r.kept);
+        new = λ off. no_layout h (at to) w.lists (r.new off);
+        gone = left_layout g addr to wanted h.asked asked;
+      }
+
+  -- into a payload that was allocated while the old one is live
+  replaced_moved : (g : Heap) → g.asked ≡ put (to, wanted) (without_row addr h.asked) → (keep : ℕ) → keep ≤ length (bytes_at h.flex.machine addr)
+      → Replaces h addr keep wanted.size wanted.align (at to) g.flex g.source
+      → (at to ≢ addr) × IsMoved h g addr (at to) keep wanted
+  unfolding content_at
+  replaced_moved g asked keep short step =
+      let is = replacement h w addr row there g.flex g.source (at to) keep wanted step in
+      let now : bytes_at g.flex.machine (at to) ≡ with_front keep (bytes_at h.flex.machine addr) is.rest = bytes_at-told g.flex.machine (at to) is.now is.here ∙ is.bytes in (
+        is.apart,
+        record {
+          layout = put_layout g to wanted (without_row addr h.asked) asked;
+          bytes = ap (take keep) now ∙ take-with_front keep (bytes_at h.flex.machine addr) is.rest short;
+          new = λ off. no_layout h (at to) w.lists is.new;
+          gone = left_layout g addr to wanted h.asked asked;
+        },
+      )
+
+  -- in place
+  there_moved : (g : Heap) → ResizesThere h addr wanted (Ok to) g → (at to ≡ addr) × IsMoved h g addr (at to) (in_both h g addr (at to)) wanted
+  there_moved g (m, did, after) =
+      let u = with_machine h.flex m in
+      let (same, step) = (unmoved_is_reallocated 64 h.flex.machine m addr wanted.size (Some (at to)) did).0 in
+      let room : ReallocatesInRoom 64 h.flex addr wanted.size (at to) [] u = record { machine = m; reallocates = step; none = refl; after = refl } in
+      let x = with_state h m (put (to, wanted) (without_row addr h.asked)) in (
+        same,
+        subst (λ (y : Heap). IsMoved h y addr (at to) (in_both h y addr (at to)) wanted) (sym after)
+            (resized_moved x refl []
+            (flex_goes h.source h.source w.owed.cursor h.flex w.flex w.owed u [] refl (machine_reallocates addr wanted.size (Some (at to))) tt lives (inl room))),
+      )
+
+-- two answers are the same
+abbrev AreSamePlaces : Placed → Placed → Type 0
+AreSamePlaces a b = a ≡ b
+
+pub reallocation_leaves : ReallocationLeaves
+unfolding content_at
+reallocation_leaves memory h g addr wanted to w step = go (row_at addr h.asked) refl step
+  where
+    keep : ℕ
+    keep = min wanted.size (length (bytes_at h.flex.machine addr))
+
+    go : (o : Option Row) → row_at addr h.asked ≡ o → ReallocatesAt h addr wanted o (Ok to) g → (at to ≢ addr) × IsMoved h g addr (at to) keep wanted
+    go None there step = refused_not to _ step.0
+    go (Some row) there (step, asked) = replaced_moved h w addr row there to wanted g asked keep (omega arith) step
+
+pub reallocation_there_leaves : ReallocationThereLeaves
+reallocation_there_leaves memory h g addr layout n to w step = go (row_at addr h.asked) refl step
+  where
+    go : (o : Option Row) → row_at addr h.asked ≡ o → ReallocatesThereAt h addr layout n o (Ok to) g
+        → (at to ≡ addr) × IsMovedTo h g addr (at to) (in_both h g addr (at to)) layout n
+    go None there step = refused_not to _ step.0
+    go (Some row) there step =
+        either (Wanted n layout.align (λ wanted. ResizesThere h addr wanted (Ok to) g)) (AreSamePlaces (Ok to) (Err WrongLayout) × (g ≡ h))
+        ((at to ≡ addr) × IsMovedTo h g addr (at to) (in_both h g addr (at to)) layout n) (is_same row.1 layout)
+        (λ e did. let (same, moved) = there_moved h w addr row there to did.layout g did.made in (same, (did.layout, did.size, did.align, moved)))
+        (λ e did. refused_not to WrongLayout did.0) step
+
+pub reallocation_as_leaves : ReallocationAsLeaves
+reallocation_as_leaves memory enabled h g addr layout n to w step = go (row_at addr h.asked) refl step
+  where
+    made : (b : Bool) (row : Row) → row_at addr h.asked ≡ Some row → row.1.size ≡ layout.size → (wanted : Layout) → wanted.size ≡ n
+        → ReallocatesTo b h addr layout wanted (Ok to) g
+        → IsMoved h g addr (at to) (cond b (in_both h g addr (at to)) (min layout.size n)) wanted
+    made true row there same wanted size ((notes, step, led), asked) =
+        resized_moved h w addr row there to wanted g asked notes
+        (flex_goes h.source g.source w.owed.cursor h.flex w.flex w.owed g.flex notes led (machine_reallocates addr wanted.size (Some (at to))) tt
+        (lives h w addr row there to wanted) step)
+    made false row there same wanted size (step, asked) =
+        subst (λ i. IsMoved h g addr (at to) (min layout.size i) wanted) size
+        (replaced_moved h w addr row there to wanted g asked (min layout.size wanted.size) (omega (arith, row_size h addr row w.lists there, same)) step).1
+
+    go : (o : Option Row) → row_at addr h.asked ≡ o → ReallocatesAsAt enabled h addr layout n o (Ok to) g
+        → IsMovedTo h g addr (at to) (cond enabled (in_both h g addr (at to)) (min layout.size n)) layout n
+    go None there step = refused_not to _ step.0
+    go (Some row) there step =
+        either (Wanted n layout.align (λ wanted. ReallocatesTo enabled h addr layout wanted (Ok to) g)) (AreSamePlaces (Ok to) (Err WrongLayout) × (g ≡ h))
+        (IsMovedTo h g addr (at to) (cond enabled (in_both h g addr (at to)) (min layout.size n)) layout n) (is_same row.1 layout)
+        (λ e did. (did.layout, did.size, did.align, made enabled row there (is_same-size row.1 layout e) did.layout did.size did.made))
+        (λ e did. refused_not to WrongLayout did.0) step

@@ -1,6 +1,0 @@
-use Rattle.rlsf_base.specs.Range.{range_at}
-use Rattle.rlsf_test_calls.proofs.Rows.{TakesRow-unasked}
-use Rattle.rlsf_test_calls.proofs.pools.with_pool.Goals as goal
-
-pub returns : goal.returns
-returns g c = TakesRow-unasked 8 8 c.new-tlsf.result c.insert_free_block.new.self (range_at 4096 c.args.len) c.insert_free_block.ensures.step

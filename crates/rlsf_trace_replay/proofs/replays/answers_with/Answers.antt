@@ -1,0 +1,1 @@
+use Rattle.rlsf_trace_replay.proofs.replays.answers_with.Goals as goal
