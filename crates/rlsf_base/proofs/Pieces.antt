@@ -1,10 +1,10 @@
 -- What a part owned is that part again.
-use Rattle.std.proofs.Common.{◌≡◌, ℕ, ◌+◌, ◌%◌, ◌^◌, List, length, arith, refl, sym, ap, ◌∙◌, subst}
+use Rattle.std.proofs.Common.{◌≡◌, ℕ, List, length, arith, refl, sym, ap, ◌∙◌, subst}
 use Rattle.rlsf_base.specs.Changes.{IsOwn}
 use Rattle.rlsf_base.specs.Out.{Change}
 use Rattle.rlsf_base.specs.OpenSpace.{Home, place_in}
 use Rattle.rlsf_base.specs.Piece.{CanCome, IsPiece, IsPieceOf, Piece, first_place, home_from, piece_range}
-use Rattle.rlsf_base.specs.Range.{LiesIn, range_at}
+use Rattle.rlsf_base.specs.Range.{LiesIn}
 use Rattle.rlsf_base.specs.Steps.Block.{start_of}
 use Rattle.rlsf_base.specs.Steps.Ownership.{units_in}
 use Rattle.rlsf_base.specs.declared.memory.block.Bytes.{Bytes}

@@ -18,3 +18,4 @@ pub mod Sizes
 pub mod Space
 pub mod Steps
 pub mod UnitPayload
+pub mod UnitTail

@@ -1,4 +1,4 @@
--- Definitions that the private functions of a memory share. No public contract cites these.
+-- Definitions that the functions of a memory share. Public contracts cite those of `Ownership`.
 pub mod Block
 pub mod LentParts
 pub mod Ownership

@@ -47,7 +47,12 @@ pub fn map_ceil<FLBitmap: BitPattern, SLBitmap: BitPattern, const FLLEN: usize, 
     requires size { sizes.IsSize size }
     ensures { result ≡ sizes.map_ceil FLLEN SLLEN size }
 {
-    within_rows::<FLLEN>(reaching_class::<SLLEN>(size))
+    // Each class that reaches a size is in one of 60 rows. With as many, no row has to be tested.
+    if FLLEN >= 60 {
+        Some(reaching_class::<SLLEN>(size))
+    } else {
+        within_rows::<FLLEN>(reaching_class::<SLLEN>(size))
+    }
 }
 
 /// Returns the least size, in bytes, of the first class that reaches `size`. Returns `None` if and only if `map_ceil`
@@ -215,16 +220,16 @@ fn within_rows<const FLLEN: usize>(class: (usize, usize)) -> Option<(usize, usiz
 /// Returns the class of `size`, in bytes, if a row has `SLLEN` classes. Its row may be past an allocator's last row.
 ///
 /// `size` must be at least 32. `SLLEN` must be a power of two, at most 128.
-// The exponent of its row, 5 in the first one, is the position of its highest one. With that at position 63, the leading
-// positions, one more than a place has, are the number SLLEN + place.
+// The exponent of its row, 5 in the first one, is the position of its highest one, 63 less the zeros before it. With that at
+// position 63, the leading positions, one more than a place has, are the number SLLEN + place.
 pub fn class_of<const SLLEN: usize>(size: usize) -> (usize, usize)
     requires parameters { IsTrue (is_row_length SLLEN) }
     requires size { 32 ≤ size }
     ensures { result ≡ sizes.indices (class_of SLLEN size) }
 {
-    let row = size.ilog2();
-    let parts = (size << (63 - row)) >> (63 - SLLEN.trailing_zeros());
-    (row as usize - 5, parts - SLLEN)
+    let leading = size.leading_zeros();
+    let parts = (size << leading) >> (63 - SLLEN.trailing_zeros());
+    (58 - leading as usize, parts - SLLEN)
 }
 
 // The first class that reaches a size: what is below the leading ones counts them up. At 2 * SLLEN the next row

@@ -15,10 +15,12 @@ pub(crate) mod filling;
 mod layout;
 pub mod ledger;
 mod open_memory;
+mod opening;
 mod part;
 mod range;
 mod raw_parts;
 mod unit_payload;
+mod unit_tail;
 mod view;
 pub(crate) mod zeroed;
 
@@ -28,6 +30,7 @@ pub use open_memory::OpenMemory;
 pub use part::{Part, UnitPart};
 pub use range::{Addr, Range};
 pub use unit_payload::UnitPayload;
+pub use unit_tail::UnitTail;
 pub use view::View;
 
 /// The reason why a `Memory` was not created. Each error has a number.

@@ -1,5 +1,5 @@
 -- A range leaves, comes back, or is written: what its bytes are then, and what those beside it are.
-use Rattle.std.proofs.Common.{◌≡◌, ℕ, ◌-◌, ◌≤◌, ap, arith, inl, inr, sym, ◌∙◌, true, ◌∷◌}
+use Rattle.std.proofs.Common.{◌≡◌, ◌-◌, ◌≤◌, ap, arith, inl, inr, sym, ◌∙◌, true, ◌∷◌}
 use Rattle.std.proofs.lemmas.Bool.{cases_lt}
 use Rattle.rlsf_base.specs.declared.memory.range.Range.{Range}
 use Rattle.rlsf_base.specs.Out.{Kept, is_own, kept_at}

@@ -5,6 +5,7 @@ ghost use Rattle.rlsf_base.specs.Ledger.{Entry, Extent, entry_of, extent, IsIssu
 
 use super::block::{Bytes, Units};
 use super::unit_payload::UnitPayload;
+use super::unit_tail::UnitTail;
 use super::view::View;
 use std::marker::{Model, PhantomData, Send};
 
@@ -143,5 +144,24 @@ impl Ticket {
         let Bytes { mark: _ } = rest;
         let ptr = unsafe { view.base.ptr.add(place) };
         UnitPayload { ptr, len }
+    }
+}
+
+impl Ticket {
+    ghost use Rattle.std.specs.Prelude.{◌+◌, ◌-◌, ◌*◌, ◌≤◌};
+    ghost use Rattle.rlsf_base.specs.OpenSpace.{place_in};
+    ghost use Rattle.rlsf_base.specs.Piece.{home_from};
+    ghost use Rattle.rlsf_base.specs.UnitPayload.{IsPlaced, pointer_to};
+
+    // Returns the last units of the `len` bytes at a place of the block, with this ticket for all of these bytes.
+    pub(crate) fn with_tail(self, view: View, place: usize, len: usize, units: Units) -> UnitTail
+        requires parts { (units.at ≡ view.base.ptr) × (units.first * 16 + units.count * 16 ≡ place + len) × (units.count * 16 ≤ len) × (self.len ≡ len) × (self.align ≡ 16) × (place ≡ place_in view self.addr) }
+        requires placed { IsPlaced (home_from view units.of) (pointer_to view self.addr) self.addr self.len }
+        ensures { (result.home ≡ home_from view units.of) × (result.name ≡ self.name) × (result.key ≡ self.key) × (result.start ≡ self.addr) × (result.len ≡ len) × (result.kept ≡ len - units.count * 16) }
+    {
+        let Ticket { mark: _ } = self;
+        let Units { mark: _ } = units;
+        let ptr = unsafe { view.base.ptr.add(place) };
+        UnitTail { ptr, len }
     }
 }

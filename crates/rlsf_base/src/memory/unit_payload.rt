@@ -123,7 +123,7 @@ impl OpenMemory {
 
 // Returns the word of eight bytes, the least significant byte first.
 #[inline(always)]
-fn word_of(bytes: &[u8]) -> u64
+pub(crate) fn word_of(bytes: &[u8]) -> u64
     requires { length bytes.now ≡ 8 }
     ensures { result ≡ from_le_bytes w64 bytes.now }
 {

@@ -1,5 +1,5 @@
 -- Shows that `from_raw` is the owner of what it is handed. Assumes `Logic`.
-use Rattle.std.proofs.Common.{List, [], ◌∷◌, refl}
+use Rattle.std.proofs.Common.{[], ◌∷◌, refl}
 use types.Kit.{‵, raw, ◌$◌, ◌∵◌, !, qed, drop, use0, fjoin, suffices, done}
 use types.Part.{agg}
 use types.Run.{no_more, and_then, returns, enter}

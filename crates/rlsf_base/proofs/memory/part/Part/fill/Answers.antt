@@ -1,7 +1,6 @@
 use Rattle.std.proofs.Common.{ℕ, length, ap, ◌∙◌, sym, arith}
 use Rattle.std.proofs.lemmas.List.{length-replicate}
 use Rattle.rlsf_base.specs.Out.{is_own, kept_at}
-use Rattle.rlsf_base.specs.Piece.{home_from}
 use Rattle.rlsf_base.specs.Steps.Ownership.{units_in}
 use Rattle.rlsf_base.proofs.Changes.{none-out}
 use Rattle.rlsf_base.proofs.memory.part.Part.fill.Goals as goal

@@ -1,5 +1,5 @@
 -- Shows that `from_raw` is the part of what it is handed. Assumes `Logic`.
-use Rattle.std.proofs.Common.{◌≡◌, ℕ, List, [], ◌∷◌, ◌++◌, length, refl}
+use Rattle.std.proofs.Common.{List, [], ◌∷◌, ◌++◌, refl}
 use mir.Syntax.{Fn}
 use mir.Val.{Val}
 use base.Logic.{SProp, emp, id⊢}
@@ -9,13 +9,12 @@ use contract.Monad.{fact, fact_i}
 use contract.Running.{tables}
 use types.Kit.{‵, raw, ◌⊛◌, some, later, prop, ◌$◌, ◌∵◌, !, qed, done, move, drop, use0, use1, use2, split, join, keep, pick, await, rewrite, regoal, suffices}
 use types.Kit.{fsplit}
-use types.Run.{enter, of_opd, no_more, and_then, returns}
-use types.ByLocal.{alloc_all, pass_all, free_all, look_at, get, sets, lands_as}
+use types.Run.{enter, no_more, and_then, returns}
+use types.ByLocal.{alloc_all, pass_all, free_all, look_at, get, lands_as}
 use denote.Exit.{rest, yes}
 use denote.Laws.{Is, shows}
 use denote.Param.{layout}
 use denote.RattleType.{owns}
-use denote.RawPtr.{Ptr}
 use denote.Signature.{plain, types_at}
 use denote.Steps.{nothing, heard, peeks}
 use denote.Triple.Call.{calls_at}

@@ -1,5 +1,5 @@
 -- Shows that `into_raw` hands out what the part owns. Assumes `Logic`.
-use Rattle.std.proofs.Common.{◌≡◌, ℕ, List, [], ◌∷◌, ◌++◌, length, arith, refl, sym, ◌∙◌, ap}
+use Rattle.std.proofs.Common.{◌≡◌, ℕ, List, [], ◌∷◌, ◌++◌, arith, refl, sym, ◌∙◌, ap}
 use mir.Syntax.{Fn}
 use mir.Val.{Val, vunit}
 use base.Logic.{SProp, id⊢}
@@ -7,7 +7,7 @@ use base.Fml.{ftrue}
 use prog.Wp.{WpFn}
 use contract.Monad.{fact}
 use contract.Running.{tables}
-use types.Kit.{‵, raw, ◌⊛◌, some, later, prop, ◌$◌, ◌∵◌, !, qed, by, done, frame, move, drop, use1, use2, split, join, keep, feq_i, feq_l, pick, await, rewrite}
+use types.Kit.{‵, raw, ◌⊛◌, some, later, prop, ◌$◌, ◌∵◌, !, qed, done, frame, move, drop, use1, use2, split, join, keep, feq_i, feq_l, pick, await, rewrite}
 use types.Kit.{regoal, suffices, group, fsplit}
 use types.Run.{enter, of_opd, no_more, and_then, returns, unit_lit}
 use types.ByLocal.{alloc_all, pass_all, free_all, look_at, get, sets, lands_as}
@@ -30,7 +30,7 @@ use Rattle.core.proofs.cell.Inside.{one}
 use Rattle.std.proofs.raw_atomic.Walks.{proved_at}
 use Rattle.rlsf_base.specs.Out.{Change}
 use Rattle.rlsf_base.specs.OpenSpace.{Home}
-use Rattle.rlsf_base.specs.Piece.{HasBytes, first_place, piece_owns}
+use Rattle.rlsf_base.specs.Piece.{HasBytes, first_place}
 use Rattle.rlsf_base.specs.Steps.Ownership.{bytes_own, units_in}
 use Rattle.rlsf_base.proofs.Pieces.{can_come}
 use Rattle.rlsf_base.specs.contracts.memory.block.Bytes as owner

@@ -1,0 +1,67 @@
+use Rattle.std.proofs.Common.{◌≡◌, ℕ, ◌+◌, ◌-◌, ◌*◌, ◌%◌, ◌^◌, ◌≤◌, ◌∙◌, ap, arith, drop, length, take, sym, subst, w64}
+use Rattle.std.specs.Int.{from_le_bytes}
+use denote.RawPtr.{◌+ₚ◌}
+use Rattle.rlsf_base.specs.Ledger.{IsIssued, extent}
+use Rattle.rlsf_base.specs.OpenSpace.{Home, IsReadable}
+use Rattle.rlsf_base.specs.Space.{Space, bytes_in, word_range}
+use Rattle.rlsf_base.specs.Steps.Block.{start_of}
+use Rattle.rlsf_base.proofs.Lending.WordIsHere.{word_at-is}
+use Rattle.rlsf_base.proofs.Lending.Present.{here-in}
+use Rattle.rlsf_base.proofs.memory.open_memory.OpenMemory.put_unit_tail.Goals as goal
+use Rattle.rlsf_base.proofs.memory.open_memory.OpenMemory.put_unit_tail.Goals.{After-self}
+
+-- the address of the word
+abbrev addr : After-self → ℕ
+addr c = c.args.tail.start + (c.args.tail.len + c.args.behind)
+
+-- the ticket is live, so the word can be read
+readable : (c : After-self) → IsReadable c.args.self.now (addr c)
+readable c =
+    let e = c.into_parts-units.ensures in
+    c.requires.readable (subst (λ (u : ℕ × (ℕ × ℕ × ℕ)). IsIssued c.args.ledger.now.entries u.0 (extent u.1.0 u.1.1 u.1.2)) (λ i. (e.6 i, (e.7 i, e.8 i, e.9 i)))
+    c.redeem.ensures.issued)
+
+-- where the units begin in the block, and the word behind them in the memory
+starts : (c : After-self) → c.into_parts-units.result.1.first * 16 ≡ (c.self.inside.shift + c.args.tail.start) % 2 ^ 64 + c.args.tail.kept
+starts c =
+    let shift : c.args.tail.home.view.shift ≡ c.self.inside.shift =
+    ap (λ (h : Home). h.view.shift) c.requires.home ∙ sym (ap (λ (s : Space). s.view.shift) c.self.view_is) in
+    c.into_parts-units.ensures.3 ∙ ap (λ k. (k + c.args.tail.start) % 2 ^ 64 + c.args.tail.kept) shift
+
+record Lies (c : After-self) : Type 0 where
+  from : c.self.inside.bytes.skip ≤ c.into_parts-units.result.1.first * 16 + (c.into_parts-units.result.0.len - c.args.kept + c.args.behind)
+  to : c.into_parts-units.result.1.first * 16 + (c.into_parts-units.result.0.len - c.args.kept + c.args.behind) + 8 ≤ c.self.inside.bytes.skip + length c.self.inside.bytes.bytes
+  at : c.into_parts-units.result.1.first * 16 + (c.into_parts-units.result.0.len - c.args.kept + c.args.behind) - c.self.inside.bytes.skip ≡ addr c - c.args.self.now.start
+
+word_lies : (c : After-self) → Lies c
+word_lies c =
+    let m = c.self.inside in let now = c.args.self.now in
+    let start : start_of m.shift m.len_and_skip ≡ now.start = ap (λ (s : Space). s.start) c.self.view_is in
+    let long : length m.bytes.bytes ≡ length now.bytes = ap (λ (s : Space). length s.bytes) c.self.view_is in
+    let home : c.args.tail.home.start ≡ now.start = ap (λ (h : Home). h.start) c.requires.home in
+    let whole : c.args.tail.home.len ≡ length now.bytes = ap (λ (h : Home). h.len) c.requires.home in
+    let len : c.into_parts-units.result.0.len ≡ c.args.tail.len = c.into_parts-units.ensures.1 in
+    let kept : c.args.kept ≡ c.args.tail.kept = c.requires.kept in let within = c.args.tail.within in let first = starts c in let lies = c.args.tail.placed.lies in let word = (readable c).1 in let skip = c.self.invariant.lies.1 in let bounds = c.self.invariant.bounds in
+    record { from = omega arith; to = omega arith; at = omega arith }
+
+pub slice_ahead-requires : goal.slice_ahead-requires
+slice_ahead-requires c =
+    let d = (goal.at.slice_ahead-requires c).After-self in
+    let m = c.self.inside in let e = c.into_parts-units.ensures in let l = word_lies d in
+    let base : c.args.tail.home.view.base.ptr ≡ m.bytes.at =
+    ap (λ (h : Home). h.view.base.ptr) c.requires.home ∙ ap (λ (s : Space). s.view.base.ptr) (sym c.self.view_is) ∙ c.self.invariant.lies.0 in (
+      c.at-from.ensures ∙ e.0 ∙ (λ i. (e.2 ∙ base) i +ₚ c.into_parts-units.result.1.first * 16),
+      l.from,
+      l.to,
+      here-in m.bytes.out c.args.self.now (word_range (addr d)) _ (ap (λ (s : Space). s.out) c.self.view_is) (readable d).1.0 l.at (readable d).2,
+    )
+
+pub returns-clause-word : goal.returns-clause-word
+returns-clause-word c =
+    let d = (goal.at.returns-clause-word c).After-self in
+    let m = c.self.inside in let now = c.args.self.now in let l = word_lies d in
+    let start : start_of m.shift m.len_and_skip ≡ now.start = ap (λ (s : Space). s.start) c.self.view_is in
+    let read : c.slice_ahead.result.now ≡ bytes_in now (word_range (addr d)) =
+    c.slice_ahead.ensures ∙ ap (λ n. take 8 (drop n m.bytes.bytes)) (l.at ∙ ap (λ n. addr d - n) (sym start))
+    ∙ ap (λ (s : Space). bytes_in s (word_range (addr d))) c.self.view_is in
+    c.word_of-word.ensures ∙ ap (λ bs. from_le_bytes w64 bs) read ∙ sym (word_at-is now (addr d) (readable d).1.0 (readable d).2)
