@@ -2,6 +2,8 @@
 pub mod Blocks
 pub mod InBand
 pub mod Laws
+pub mod Listing
 pub mod Spare
 pub mod StandsFor
 pub mod Steps
+pub mod Totals

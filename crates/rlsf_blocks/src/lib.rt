@@ -2,23 +2,28 @@
 //!
 //! A call takes a memory and its class table. Its contract says what it does to the state of the reference model. Read `specs/InBand` (the
 //! words of a block), `specs/StandsFor` (the represented state) and `specs/Spare` first. Then `src/pool` and `src/extend` (chunks),
-//! `src/placement` and `src/free` (blocks), `src/payload`, `src/walks` (iteration) and `src/removal`. `specs/Laws` is proved in `rlsf_tlsf`.
+//! `src/placement` and `src/free` (blocks), `src/payload`, `src/walks` (iteration), `src/listing`, `src/totals` and `src/removal`.
+//! `specs/Laws` is proved in `rlsf_tlsf`.
 #![tactic(auto)]
 
 mod extend;
 mod free;
+mod listing;
 mod payload;
 mod placement;
 mod pool;
 mod removal;
+mod totals;
 mod walks;
 
 pub use extend::append_chunks;
 pub use free::{deallocate_block, take_if_free, take_previous, used_block};
+pub use listing::list;
 pub use payload::{load_block_of, load_usable_bytes, usable_bytes};
 pub use placement::{allocate_block, leave_rest};
 pub use pool::insert_chunks;
 pub use removal::remove_chunks;
+pub use totals::{NO_TOTALS, Totals, totals_of};
 pub use walks::{BlockInfo, Blocks, chunk_end, walk_blocks};
 
 /// The unit of sizes and addresses of blocks, in bytes.

@@ -11,8 +11,7 @@ ghost use Rattle.rlsf_blocks.specs.StandsFor.{contents, StandsFor};
 ghost use Rattle.rlsf_table.specs.Counts.{Costs, Counts};
 ghost use Rattle.rlsf_table.specs.FreeTable.{IsFreeTable};
 ghost use Rattle.rlsf_blocks.specs.Steps.Join.{IsMarked};
-ghost use Rattle.rlsf_reallocate.specs.Steps.Resize.{AtEachAligned, AtEachPayload, IsFreeLength, IsOccupied, IsResized, IsUsedAt};
-ghost use Rattle.rlsf_blocks.specs.Steps.Rest.{AtEachInnerRoom, IsInnerRoom};
+ghost use Rattle.rlsf_reallocate.specs.Steps.Resize.{AtEachAligned, AtEachPayload, AtEachSpanRoom, IsFreeLength, IsOccupied, IsOwnedBehind, IsResized, IsSpanRoom, IsUsedAt};
 ghost use Rattle.rlsf_table.specs.Table.{Table};
 
 use rlsf_base::memory::{Layout, OpenMemory, View};
@@ -32,7 +31,7 @@ pub(crate) fn free_length(memory: &mut OpenMemory, view: View, block: usize) -> 
 }
 
 /// Makes a used block of the first `taken` of the `total` bytes at `block`, which belong to no block. The rest becomes a free
-/// block. The word that names the block before it stays, and so do the bytes of the used block behind its first 16.
+/// block. The word that names the block before it stays, and so do the bytes of the used block behind its first 16, which may be out.
 pub(crate) fn occupy<const FLLEN: usize, const SLLEN: usize>(
     memory: &mut OpenMemory,
     view: View,
@@ -42,10 +41,10 @@ pub(crate) fn occupy<const FLLEN: usize, const SLLEN: usize>(
     taken: usize,
 )
     requires parameters { IsValid 128 128 FLLEN SLLEN }
-    requires room { (free : List Range) × (span : Range) × (span.start ≡ block) × (span.len ≡ total) × IsInnerRoom FLLEN SLLEN memory.old table.old free span }
+    requires room { (free : List Range) × (span : Range) × (span.start ≡ block) × (span.len ≡ total) × IsSpanRoom FLLEN SLLEN memory.old table.old free span taken }
     requires part { (taken % 32 ≡ 0) × (0 < taken) × (taken ≤ total) }
     requires view { view ≡ memory.old.view }
-    ensures step { AtEachInnerRoom FLLEN SLLEN memory.old table.old block total (λ free span. IsOccupied FLLEN SLLEN memory.old memory.new table.new free span (range_at block taken)) }
+    ensures step { AtEachSpanRoom FLLEN SLLEN memory.old table.old block total taken (λ free span. IsOccupied FLLEN SLLEN memory.old memory.new table.new free span (range_at block taken)) }
     ensures costs { Costs memory.old memory.new 13 0 }
 {
     memory.set_word_at(view, block, used_size_word(taken));
@@ -59,10 +58,51 @@ pub(crate) fn occupy<const FLLEN: usize, const SLLEN: usize>(
 /// Gives the payload at `payload`, in the used block at `block`, the size of `layout` in bytes without moving it. It does so if the
 /// bytes of the block and of a free block behind it suffice. The rest of them becomes a free block.
 ///
+/// Of `layout` only the size counts: the payload has any alignment. The length of its block has to fit in a word. Usable bytes
+/// of the payload may be out if they are in its block of the new size, too. They stay out, and no byte is read or written there.
+///
+/// Returns whether the bytes suffice. If not, no byte and no block changes.
+pub fn resize_kept_block<const FLLEN: usize, const SLLEN: usize>(
+    memory: &mut OpenMemory,
+    view: View,
+    table: &mut ClassTable<FLLEN, SLLEN>,
+    block: usize,
+    payload: usize,
+    layout: Layout,
+) -> bool
+    requires parameters { IsValid 128 128 FLLEN SLLEN }
+    requires used { (s : State) × (u : Used) × StandsFor FLLEN SLLEN (contents memory.old table.old) s × IsUsedAt s u block payload u.align × IsOwnedBehind memory.old u layout.size }
+    requires view { view ≡ memory.old.view }
+    requires fits { payload - block + layout.size + 31 < 2 ^ 64 }
+    ensures done { AtEachAligned FLLEN SLLEN memory.old table.old block payload
+        (λ s u. IsOwnedBehind memory.old u layout.size → result ≡ true → IsResized FLLEN SLLEN memory.old memory.new table.new s u layout.size payload) }
+    ensures refused { AtEachAligned FLLEN SLLEN memory.old table.old block payload (λ s u. result ≡ false → unmoved_plan s u layout.size ≡ None) }
+    ensures unchanged { result ≡ false → Counts memory.old memory.new 2 × (table.new ≡ table.old) }
+    ensures costs { Costs memory.old memory.new 24 0 }
+    ensures own { SameOwn memory.old memory.new }
+    ensures here { StaysHere memory.old memory.new }
+{
+    let len = len_of_used(memory.load_at(view, block));
+    let taken = next_multiple_of_32(payload - block + layout.size());
+    if taken == len {
+        return true;
+    }
+    let end = block + len;
+    if taken > len + free_length(memory, view, end) {
+        return false;
+    }
+    let next = take_if_free(memory, view, table, end);
+    occupy(memory, view, table, block, len + next, taken);
+    true
+}
+
+/// Gives the payload at `payload` the size of `layout`, as `resize_kept_block` does.
+///
 /// Of `layout` only the size counts: the payload has any alignment. The length of its block has to fit in a word. No usable
 /// byte of the payload may be out.
 ///
 /// Returns whether the bytes suffice. If not, no byte and no block changes.
+#[inline(always)]
 pub fn resize_any_block<const FLLEN: usize, const SLLEN: usize>(
     memory: &mut OpenMemory,
     view: View,
@@ -83,18 +123,7 @@ pub fn resize_any_block<const FLLEN: usize, const SLLEN: usize>(
     ensures own { SameOwn memory.old memory.new }
     ensures here { StaysHere memory.old memory.new }
 {
-    let len = len_of_used(memory.load_at(view, block));
-    let taken = next_multiple_of_32(payload - block + layout.size());
-    if taken == len {
-        return true;
-    }
-    let end = block + len;
-    if taken > len + free_length(memory, view, end) {
-        return false;
-    }
-    let next = take_if_free(memory, view, table, end);
-    occupy(memory, view, table, block, len + next, taken);
-    true
+    resize_kept_block(memory, view, table, block, payload, layout)
 }
 
 /// Gives the payload at `payload`, in the used block at `block`, the size of `layout` in bytes without moving it, if the

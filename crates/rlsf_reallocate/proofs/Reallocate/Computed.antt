@@ -15,12 +15,13 @@ use Rattle.rlsf_model.specs.State.{State, Used, usable}
 use Rattle.rlsf_blocks.specs.StandsFor.{contents, StandsFor}
 use Rattle.rlsf_blocks.specs.Steps.Join.{IsNextOut, IsPreviousOut, union, untouched}
 use Rattle.rlsf_reallocate.specs.Steps.Previous.{FitsBefore, IsUsedBlock}
-use Rattle.rlsf_reallocate.specs.Steps.Resize.{IsCarriedOut, IsOccupied, IsUsedAt}
+use Rattle.rlsf_reallocate.specs.Steps.Resize.{IsCarriedOut, IsOccupied, IsSpanRoom, IsUsedAt}
 use Rattle.rlsf_blocks.specs.Steps.Rest.{IsInnerRoom}
 use Rattle.rlsf_table.specs.Table.{Table}
 use Rattle.rlsf_blocks.proofs.Deallocate.Releases.{before_at, behind_at, gone, IsInnerRoom-union, start_before, union_len, union_start}
 use Rattle.rlsf_table.proofs.Words.Writes.{Writes}
 use Rattle.rlsf_blocks.proofs.Words.Stays.{Stays, Stays-rewrites, Stays-then}
+use Rattle.rlsf_reallocate.proofs.Reallocate.Occupied.{IsSpanRoom-inner}
 use Rattle.rlsf_reallocate.proofs.Reallocate.Copies.{IsCopied, IsInnerRoom-copied, LiesIn-copied, Rewrites-copied}
 use Rattle.rlsf_reallocate.proofs.Reallocate.Moves.{IsSpan, span, payload_here, payload_placed, IsCarriedOut-moved}
 use Rattle.rlsf_reallocate.proofs.Reallocate.Previous.{into_previous-fits, planned, reach}
@@ -147,10 +148,10 @@ module _ {fllen sllen : ℕ} {m : Space} {t : Table} {s : State} {u : Used} {blo
 
     -- and the block was made there
     module _ {m4 : Space} {t4 : Table}
-        (made : (free : List Range) (whole : Range) → whole.start ≡ start → whole.len ≡ end - start + next → IsInnerRoom fllen sllen m3 t2 free whole
+        (made : (free : List Range) (whole : Range) → whole.start ≡ start → whole.len ≡ end - start + next → IsSpanRoom fllen sllen m3 t2 free whole taken
         → IsOccupied fllen sllen m3 m4 t4 free whole (range_at start taken)) where
       occupied : IsOccupied fllen sllen m3 m4 t4 (untouched u.block s.free) (union u.block s.free) (range_at start taken)
-      occupied = made (untouched u.block s.free) (union u.block s.free) union_begins total_is.1 room
+      occupied = made (untouched u.block s.free) (union u.block s.free) union_begins total_is.1 (IsSpanRoom-inner taken room)
 
       -- start and length of the memory stay, and what is its own; and where nothing was out, nothing is
       place-occupied : (m4.start ≡ m.start) × (length m4.bytes ≡ length m.bytes) × (m.out ≡ [] → m4.out ≡ []) × SameOwn m m4

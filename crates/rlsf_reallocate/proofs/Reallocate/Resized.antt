@@ -8,12 +8,11 @@ use Rattle.rlsf_base.specs.declared.memory.range.Range.{Range}
 use Rattle.rlsf_base.specs.Out.{is_own}
 use Rattle.rlsf_base.specs.Range.{end_of, range_at, LiesIn}
 use Rattle.rlsf_base.specs.Space.{Space, bytes_in, out_at, range_of, word_at, word_range}
-use Rattle.rlsf_base.specs.OpenSpace.{IsOwned}
 use Rattle.rlsf_base.proofs.Lending.WordIsHere.{is_here-word, word_at-is}
 use Rattle.rlsf_model.specs.Allocate.{rest_behind}
 use Rattle.rlsf_model.specs.Lists.{IsIn}
-use Rattle.rlsf_model.specs.Reallocate.{Plan, resized, Keeps, moved, replanned}
-use Rattle.rlsf_model.specs.State.{State, Used, between, others, usable}
+use Rattle.rlsf_model.specs.Reallocate.{resized, Keeps, moved, replanned}
+use Rattle.rlsf_model.specs.State.{State, Used, between, others}
 use Rattle.rlsf_model.specs.WellFormed.{IsWellFormed}
 use Rattle.rlsf_model.proofs.Changes.{IsIn-others}
 use Rattle.rlsf_model.proofs.Coverage.{IsIn-append}
@@ -23,16 +22,15 @@ use Rattle.rlsf_blocks.specs.StandsFor.{contents, IsUnlent, StandsFor}
 use Rattle.rlsf_table.specs.Rewrites.{IsLink}
 use Rattle.rlsf_blocks.specs.Steps.Touched.{Touched, at_link, in_hole, at_other}
 use Rattle.rlsf_blocks.specs.Steps.Join.{IsNextOut}
-use Rattle.rlsf_reallocate.specs.Steps.Resize.{IsCarriedOut, IsOccupied}
+use Rattle.rlsf_reallocate.specs.Steps.Resize.{IsCarriedOut, IsOccupied, IsOwnedBehind}
 use Rattle.rlsf_table.specs.Table.{Table, HasTable}
 use Rattle.rlsf_blocks.proofs.Allocate.Placements.{length-bytes_in}
 use Rattle.rlsf_blocks.proofs.Machine.Counted.{KeepsSpare-counted, StandsFor-counted}
 use Rattle.rlsf_table.proofs.Words.Writes.{Rewrites-trans, Rewrites-weaken}
 use Rattle.rlsf_reallocate.proofs.Reallocate.NextPlans.{stretched, kept_whole, tail_joined-same, IsSound-kept, IsSound-stretched}
-use Rattle.rlsf_reallocate.proofs.Reallocate.Spans.{reach, span_of, staying, end_of-span, home, IsWhole-span, free_apart, used_apart, span-some, span_in_memory, was_free}
+use Rattle.rlsf_reallocate.proofs.Reallocate.Spans.{own_but_front, reach, span_of, staying, end_of-span, home, IsWhole-span, free_apart, used_apart, span-some, span_in_memory, was_free}
 use Rattle.rlsf_blocks.proofs.Words.Apart.{used_free, used_in_memory}
 use Rattle.rlsf_blocks.proofs.Words.Frames.{sides, wide_whole}
-use Rattle.rlsf_blocks.proofs.Words.NeverOut.{here_released}
 use Rattle.rlsf_blocks.proofs.Words.Refilled.{IsUsedStill, old_used, new_used, IsFreeStill, old_free, new_free, IsRefilled, StandsFor-refilled, KeepsSpare-refilled}
 
 -- as many first bytes of two ranges at one address as both have are the same, if they are the same in both memories
@@ -54,10 +52,13 @@ abbrev pub resized_bytes : Space → Used → ℕ → List ℕ
 resized_bytes n u size = bytes_in n (between u.payload (end_of (resized u size)))
 
 module _ {fllen sllen : ℕ} {m : Space} {t : Table} {s : State} (v : StandsFor fllen sllen (contents m t) s) (u : Used) (i : IsIn u s.used) (size : ℕ)
-    (own : IsOwned m (usable u)) where
+    (own : IsOwnedBehind m u size) where
   -- nothing is out but usable bytes of the other payloads
-  own_replanned : (p : Plan) (bytes : List ℕ) (a : ℕ) → m.start ≤ a → IsUnlent (replanned s u p bytes) a → is_own (out_at m a) ≡ true
-  own_replanned p bytes a from unlent = here_released v u i own a from (λ x j. unlent x (inr j))
+  own_replanned : (free : List Range) (bytes : List ℕ) (a : ℕ) → m.start ≤ a
+      → IsUnlent (replanned s u (record { block = resized u size; payload = u.payload; free = free }) bytes) a → is_own (out_at m a) ≡ true
+  own_replanned free bytes a from unlent =
+      own_but_front v u i (end_of (resized u size)) own a from
+      (unlent (moved u (record { block = resized u size; payload = u.payload; free = free }) bytes) (inl refl)) (λ x j. unlent x (inr j))
 
   -- ---- its length is as it was
 
@@ -93,7 +94,7 @@ module _ {fllen sllen : ℕ} {m : Space} {t : Table} {s : State} (v : StandsFor 
         after,
         record { bytes = u.bytes; answer = refl; length = long; kept = refl; after = refl },
         StandsFor-counted m n start bytes out
-            (StandsFor-reordered (moved u p u.bytes ∷ others u.payload s.used) p.free among (tail_joined-same s u size same) (own_replanned p u.bytes) well_formed),
+            (StandsFor-reordered (moved u p u.bytes ∷ others u.payload s.used) p.free among (tail_joined-same s u size same) (own_replanned p.free u.bytes) well_formed),
         KeepsSpare-counted m n start bytes out s after,
       )
 
@@ -171,7 +172,7 @@ module _ {fllen sllen : ℕ} {m : Space} {t : Table} {s : State} (v : StandsFor 
           used_still = still_used;
           free_still = still_free;
           table = subst (λ l. HasTable fllen sllen n x (l ++ staying s u)) listed occupied.table;
-          own = own_replanned (stretched s u size) (resized_bytes n u size);
+          own = own_replanned (stretched s u size).free (resized_bytes n u size);
         }
       where
         listed : rest_behind (resized u size) (end_of (span_of s u)) ≡ rest_behind (resized u size) (reach s u)

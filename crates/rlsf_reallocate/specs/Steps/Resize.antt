@@ -1,19 +1,21 @@
 -- A used block gets another size, in place or at another place.
-use Rattle.std.specs.Prelude.{◌≡◌, ℕ, ◌+◌, ◌≤◌, List, ◌++◌, Option, None, Some, IfSome, MatchOption, find}
+use Rattle.std.specs.Prelude.{◌≡◌, ℕ, ◌+◌, ◌<◌, ◌≤◌, List, ◌∷◌, ◌++◌, length, Option, None, Some, IfSome, MatchOption, find}
 use Rattle.rlsf_base.specs.declared.memory.layout.Layout.{Layout}
 use Rattle.rlsf_base.specs.declared.memory.range.Range.{Range}
-use Rattle.rlsf_base.specs.Range.{end_of, range_at}
-use Rattle.rlsf_base.specs.OpenSpace.{IsHere}
+use Rattle.rlsf_base.specs.Range.{end_of, range_at, LiesIn}
+use Rattle.rlsf_base.specs.OpenSpace.{IsHere, IsOwned}
 use Rattle.rlsf_base.specs.Space.{Space, bytes_in, word_at}
 use Rattle.rlsf_model.specs.Allocate.{Allocates, rest_behind}
 use Rattle.rlsf_model.specs.Join.{end_or, starts_at}
 use Rattle.rlsf_model.specs.Lists.{IsIn}
 use Rattle.rlsf_model.specs.NoMove.{unmoved_plan}
-use Rattle.rlsf_model.specs.Reallocate.{MovesAway, Plan, ReallocatesBy, Replans, in_place, plan}
-use Rattle.rlsf_model.specs.State.{State, Used, usable}
+use Rattle.rlsf_model.specs.Reallocate.{MovesAway, Plan, ReallocatesBy, Replans, in_place, plan, resized}
+use Rattle.rlsf_model.specs.State.{State, Used, between, usable}
+use Rattle.rlsf_model.specs.WellFormed.{coverage, itself, IsFree}
 use Rattle.rlsf_blocks.specs.Spare.{KeepsSpare}
 use Rattle.rlsf_blocks.specs.StandsFor.{Contents, contents, StandsFor}
 use Rattle.rlsf_blocks.specs.Steps.Standing.{StepsTo}
+use Rattle.rlsf_table.specs.FreeTable.{IsFreeTable}
 use Rattle.rlsf_table.specs.Rewrites.{Rewrites}
 use Rattle.rlsf_blocks.specs.Steps.Touched.{Touched}
 use Rattle.rlsf_table.specs.Table.{Table, HasTable}
@@ -41,6 +43,29 @@ AtEachShort fllen sllen m t block payload layout P = (s : State) (u : Used) → 
 -- the bytes of the free range at the address, or 0 if none begins there
 abbrev pub IsFreeLength : List Range → ℕ → ℕ → Type 0
 IsFreeLength free block len = block + len ≡ end_or block (find (starts_at block) free)
+
+-- A range is no block's, and no block of a list has an address of it. A used block of its first `taken` bytes can be made, and a free block of
+-- the others: the first 16 bytes, the others, and the first words of another block behind them are the memory's own. What is between may be out
+pub record IsSpanRoom (fllen sllen : ℕ) (m : Space) (t : Table) (free : List Range) (r : Range) (taken : ℕ) : Type 0 where
+  pub list : IsFreeTable fllen sllen m t free
+  pub block : IsFree fllen sllen r
+  pub some : 0 < r.start
+  pub room : 32 ≤ r.len
+  pub lies_in : LiesIn r m.start (length m.bytes)
+  pub apart : (a : ℕ) → coverage itself (r ∷ free) a ≤ 1
+  pub front : IsOwned m (range_at r.start 16)
+  pub rest : IsOwned m (between (r.start + taken) (end_of r))
+  pub not_last : end_of r + 16 ≤ m.start + length m.bytes
+  pub behind : IsOwned m (range_at (end_of r) 16)
+
+-- this is true of each list of free blocks beside which so many bytes at the address are such a range, and of these bytes
+abbrev pub AtEachSpanRoom : ℕ → ℕ → Space → Table → ℕ → ℕ → ℕ → (List Range → Range → Type 0) → Type 0
+AtEachSpanRoom fllen sllen m t block len taken P =
+    (free : List Range) (r : Range) → r.start ≡ block → r.len ≡ len → IsSpanRoom fllen sllen m t free r taken → P free r
+
+-- the bytes of a used block that are behind its end once its payload has so many bytes are the memory's own
+abbrev pub IsOwnedBehind : Space → Used → ℕ → Type 0
+IsOwnedBehind m u size = IsOwned m (between (end_of (resized u size)) (end_of u.block))
 
 -- The words after a used block took the front of a span that was no block's. A rest of the span became the newest free block.
 -- Behind the first 16 bytes of the front no byte has changed, and the word that names the block before it stays

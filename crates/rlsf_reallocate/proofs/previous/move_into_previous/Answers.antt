@@ -25,6 +25,7 @@ use Rattle.rlsf_base.specs.declared.memory.range.Range.{Range}
 use Rattle.rlsf_table.specs.Counts.{Costs, Counts}
 use Rattle.rlsf_blocks.proofs.Counting.{Counts-counted_first, Counts-loaded, SamePlace-counted, copied-more, grow_copied-same, touches-counted, touches-more}
 use Rattle.rlsf_table.proofs.Costs.{Costs-counted, Costs-loaded, Costs-then, Costs-written, SamePlace-costs}
+use Rattle.rlsf_reallocate.proofs.Reallocate.Occupied.{IsSpanRoom-inner}
 use Rattle.rlsf_reallocate.proofs.Reallocate.Copies.{Costs-copied, Costs-moving, copied-costs, grow_copied-costs}
 use Rattle.rlsf_reallocate.proofs.previous.move_into_previous.Given as given
 use Rattle.rlsf_reallocate.proofs.previous.move_into_previous.Goals as goal
@@ -229,7 +230,7 @@ occupy-requires g c =
     let at = goal.at.occupy-requires g c in
     let are = outs g at.After-take_if_free-next v used short here in
     let inner = room are c.copy_payload.ensures.start c.copy_payload.ensures.bytes c.copy_payload.ensures.out in
-    (omega arith, (c.requires.parameters, ((untouched u.block s.free, union u.block s.free, union_begins are, (total_is are).1, inner), (part are, search rules))))
+    (omega arith, (c.requires.parameters, ((untouched u.block s.free, union u.block s.free, union_begins are, (total_is are).1, IsSpanRoom-inner c.in_ok-moved.taken inner), (part are, search rules))))
 
 pub overflow_sub-moved : goal.overflow_sub-moved
 overflow_sub-moved g c =
