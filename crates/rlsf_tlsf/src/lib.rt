@@ -2,7 +2,7 @@
 //!
 //! Read `specs/Allocator` (the allocator as contracts see it, and its steps) first, then `src/tlsf`, which has all calls of `Tlsf`.
 //! `specs/Lending` is for calls that lend bytes, `specs/InPlace` for a caller that writes payloads itself. `src/bitmaps` gives read access
-//! to the class table, and `src/state` holds the ghost state. `specs/Steps` is for private functions.
+//! to the class table, `src/consistency` reads the words of a pool again, and `src/state` holds the ghost state. `specs/Steps` is for private functions.
 #![tactic(auto)]
 
 ghost use Rattle.rlsf_model.specs.Laws.{SourceLaws, StepLaws};
@@ -10,11 +10,13 @@ ghost use Rattle.rlsf_model.specs.Sizing.{SizingLaws};
 ghost use Rattle.rlsf_blocks.specs.Laws.{WordsGiveBlock, WordsReadNoPayload};
 
 mod bitmaps;
+mod consistency;
 mod state;
 mod tlsf;
 mod unknown_align;
 
 pub use rlsf_blocks::{BlockInfo, Blocks, GRANULARITY};
+pub use state::GhostState;
 pub use tlsf::Tlsf;
 
 /// Does nothing. Its contract states the laws of the states that an allocator represents, so that a check proves them.

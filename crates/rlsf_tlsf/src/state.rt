@@ -11,8 +11,8 @@ use std::marker::{Model, Send, Sync};
 
 /// The state of the reference model without the bytes of payloads, which are in the memory.
 #[derive(Drop)]
-pub(crate) struct GhostState {
-    pub(crate) ghost state: { State },
+pub struct GhostState {
+    pub ghost state: { State },
 }
 
 const _: () = prove!(size_of::<GhostState>() == 0);
@@ -27,7 +27,7 @@ unsafe impl Sync for GhostState {}
 
 impl GhostState {
     /// Returns the empty state, into which no range was inserted.
-    pub(crate) fn new() -> GhostState
+    pub fn new() -> GhostState
         ensures { result.state ≡ empty }
     {
         GhostState {}
@@ -40,42 +40,42 @@ impl GhostState {
     {}
 
     /// Updates the state as an insert does.
-    pub(crate) fn insert(&mut self, fllen: usize, start: usize, len: usize)
+    pub fn insert(&mut self, fllen: usize, start: usize, len: usize)
         ensures { self.new.state ≡ inserted fllen (range_at start len) self.old.state }
     {
         self.advance(fllen, start, len);
     }
 
     /// Updates the state as an append does.
-    pub(crate) fn append(&mut self, fllen: usize, start: usize, len: usize)
+    pub fn append(&mut self, fllen: usize, start: usize, len: usize)
         ensures { self.new.state ≡ appended_to fllen (range_at start len) self.old.state }
     {
         self.advance(fllen, start, len);
     }
 
     /// Updates the state as an allocation does that isn't refused.
-    pub(crate) fn allocate(&mut self, sllen: usize, size: usize, align: usize)
+    pub fn allocate(&mut self, sllen: usize, size: usize, align: usize)
         ensures { self.new.state ≡ allocated sllen size align self.old.state }
     {
         self.advance(sllen, size, align);
     }
 
     /// Updates the state as a deallocation does.
-    pub(crate) fn deallocate(&mut self, addr: usize)
+    pub fn deallocate(&mut self, addr: usize)
         ensures { self.new.state ≡ deallocated addr self.old.state }
     {
         self.advance(addr, 0, 0);
     }
 
     /// Updates the state as a reallocation does that isn't refused.
-    pub(crate) fn reallocate(&mut self, sllen: usize, addr: usize, size: usize)
+    pub fn reallocate(&mut self, sllen: usize, addr: usize, size: usize)
         ensures { self.new.state ≡ reallocated sllen addr size self.old.state }
     {
         self.advance(sllen, addr, size);
     }
 
     /// Updates the state as a removal of the chunks of a range does.
-    pub(crate) fn remove(&mut self, start: usize, len: usize)
+    pub fn remove(&mut self, start: usize, len: usize)
         ensures { self.new.state ≡ removed (walked (range_at start len)) self.old.state }
     {
         self.advance(start, len, 0);

@@ -549,10 +549,11 @@ impl<FLBitmap: BitPattern, SLBitmap: BitPattern, const FLLEN: usize, const SLLEN
         NonZeroUsize::new(self.table.newest(fl, sl))
     }
 
-    /// Returns the memory, for reading. Its words and the class table represent the state.
+    /// Returns the memory, for reading. Its words and the class table represent the state, and the parameters are valid as for `new`.
     pub fn memory_ref(&self) -> &Memory
         ensures memory { result.now ≡ self.now.memory }
         ensures stands { Stands FLLEN SLLEN self.now }
+        ensures valid { IsValid FLBitmap.width SLBitmap.width FLLEN SLLEN }
     {
         &self.memory
     }

@@ -6,4 +6,5 @@ pub returns : goal.returns
 returns g c = record {
   memory = search rules;
   stands = Stands-view c.self.inside.memory c.self.inside.table c.self.inside.state.state c.args.self.now c.self.view_is c.self.invariant.stands c.self.invariant.whole;
+  valid = c.self.invariant.valid;
 }

@@ -1,0 +1,3 @@
+-- Definitions for private functions. No public contract cites these.
+pub mod BlockAt
+pub mod Legible
