@@ -16,10 +16,11 @@ use Rattle.rlsf_model.proofs.Payloads.{IsUsed-after_start}
 use Rattle.rlsf_model.proofs.CallerWords.{bytes_at-held}
 use Rattle.rlsf_model.proofs.SizedWords.{count_new}
 use Rattle.rlsf_model.specs.Callers.{bytes_at}
+use Rattle.rlsf_table.specs.Counts.{Counts}
 use Rattle.rlsf_table.specs.Table.{Table}
 use Rattle.rlsf_blocks.specs.StandsFor.{contents, StandsFor}
 use Rattle.rlsf_blocks.proofs.Allocate.Placements.{IsFitting, fitting, is_free}
-use Rattle.rlsf_blocks.proofs.Machine.Counted.{StandsFor-touched}
+use Rattle.rlsf_blocks.proofs.Machine.Counted.{StandsFor-counted, StandsFor-touched}
 use Rattle.rlsf_blocks.proofs.Payloads.UnknownAlignment.{IsPayloadOf-holds}
 use Rattle.rlsf_blocks.proofs.Words.Apart.{used_free, free_in_memory, used_in_memory}
 use Rattle.rlsf_blocks.proofs.Words.NeverOut.{here_free}
@@ -46,6 +47,17 @@ placing-touched {n = n} o more start touched p = record {
   places = p.places;
   now = StandsFor-touched n o more touched p.now;
   own = λ a from. own-same n o (ap (λ (x : Space). x.start) touched) (ap (λ (x : Space). x.out) touched) a (omega (arith, from, start)) ∙ p.own a from;
+}
+
+-- the same, where words were read
+pub placing-counted : {fllen sllen : ℕ} {m n : Space} {table changed : Table} {s t : State} {size align addr : ℕ} (o : Space) (most : ℕ) → n.start ≡ m.start
+    → Counts n o most → Placing fllen sllen m n table changed s t size align addr → Placing fllen sllen m o table changed s t size align addr
+placing-counted {n = n} o most start counts p = record {
+  old = p.old;
+  power = p.power;
+  places = p.places;
+  now = StandsFor-counted n o counts.start counts.bytes counts.out p.now;
+  own = λ a from. own-same n o counts.start counts.out a (omega (arith, from, start)) ∙ p.own a from;
 }
 
 module _ {fllen sllen : ℕ} {m n : Space} {table changed : Table} {s t : State} {size align addr : ℕ} (p : Placing fllen sllen m n table changed s t size align addr) where

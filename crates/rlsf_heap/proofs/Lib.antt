@@ -1,7 +1,6 @@
 -- Lemmas of the heap's calls, and what the manual proofs cite.
 pub mod Allocated
 pub mod Arrivals
-mod Crossing
 pub mod Leaving
 pub mod PutBack
 pub mod IdleRows
@@ -19,6 +18,12 @@ pub mod Viewed
 pub mod ThinPayloads
 pub mod ThinValues
 pub mod Tickets
+pub mod Found
+pub mod ThinTickets
+pub mod WrittenBytes
+pub mod OwnedBytes
+pub mod MovedThin
 pub mod Zeros
 pub mod ZeroedPayloads
 pub mod UnitPayloads
+pub mod UnitTails

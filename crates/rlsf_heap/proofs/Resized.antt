@@ -41,7 +41,7 @@ module _ {fllen sllen : ℕ} {m : Space} {table : Table} {s : State} (v : Stands
   other_place : (y : Used) → IsIn y s.used → y.payload ≡ to → y.payload ≡ u.payload
   other_place y j at = at ∙ live.1 y.align (y, (j, at), refl)
 
-  stays : (y : Used) → IsIn y s.used → y.payload ≢ u.payload → IsIn y t.used
+  pub stays : (y : Used) → IsIn y s.used → y.payload ≢ u.payload → IsIn y t.used
   stays y j apart = other_payloads_stay fllen sllen s t (reallocate u.payload size (Some to)) y step j (λ same. apart (sym same))
 
   -- so the tickets of the other payloads are unchanged

@@ -7,4 +7,6 @@ pub mod Renewed
 pub mod Settled
 pub mod Zeroed
 pub mod Thin
+pub mod ThinReplies
+pub mod ThinInPlace
 pub mod Units

@@ -1,31 +1,23 @@
 -- Payloads by their address alone, as a caller that holds a pointer has them.
-use Rattle.std.specs.Prelude.{◌≡◌, ℕ, zero, suc, length, Option, Some, None}
-use base.Fml.{Fml, fex, fsep, ftrue}
-use Rattle.rlsf_base.specs.Ledger.{extent, ticket_owns}
-use Rattle.rlsf_base.specs.Piece.{CanCome, Piece, piece_owns, piece_range}
-use Rattle.rlsf_heap.specs.Heap.{Identity}
+use Rattle.std.specs.Prelude.{ℕ, zero, suc, List, []}
+use base.Fml.{Fml, ftrue}
+pub use Rattle.rlsf_base.specs.Addr.{reply_of}
+use Rattle.rlsf_heap.specs.Heap.{Identity, PayloadView}
+use Rattle.rlsf_heap.specs.Raw.{payload_owns}
 
--- bytes of this address and length that left the memory of a heap, each with a value or raw
-pub record IsThinOf (h : Identity) (addr len : ℕ) (p : Piece) : Type 0 where
-  pub home : p.home ≡ h.home
-  pub start : p.start ≡ addr
-  pub long : length p.bytes ≡ len
-  pub can : CanCome p p.home.view (piece_range p)
+-- what the owner of a payload at an address owns; at the address 0, which says that there is no payload, nothing
+abbrev pub owns_at : ℕ → PayloadView → Fml
+owns_at zero p = ftrue
+owns_at (suc n) p = payload_owns p
 
--- such bytes, and the key of their ticket in the heap's ledger
-abbrev pub Held : Identity → ℕ → ℕ → Type 0
-Held h addr len = (p : Piece) × (key : ℕ) × IsThinOf h addr len p
+-- what the owner of a payload owns, its bytes and its ticket, or nothing if its address is 0
+abbrev pub owns_reply : PayloadView → Fml
+owns_reply p = owns_at p.start p
 
--- what the owner of a payload owns: its bytes, and its ticket
-abbrev pub owns_payload : Identity → ℕ → ℕ → ℕ → Fml
-owns_payload h addr len align = fex (Held h addr len) (λ x. fsep (piece_owns x.0) (ticket_owns h.ledger x.1 (extent addr len align)))
+-- a payload of a heap at an address, of which all bytes are here, with these values
+abbrev pub written_payload : Identity → ℕ → List ℕ → ℕ → PayloadView
+written_payload h addr bytes align = record { identity = h; start = addr; align = align; bytes = bytes; out = [] }
 
--- the same of an address that a call returned, where 0 says that there is no payload
-abbrev pub owns_reply : Identity → ℕ → ℕ → ℕ → Fml
-owns_reply h zero len align = ftrue
-owns_reply h (suc n) len align = owns_payload h (suc n) len align
-
--- an address that a call returned
-abbrev pub reply_of : ℕ → Option ℕ
-reply_of zero = None
-reply_of (suc n) = Some (suc n)
+-- what the owner of such a payload owns, or nothing if the address is 0
+abbrev pub owns_bytes : Identity → ℕ → List ℕ → ℕ → Fml
+owns_bytes h addr bytes align = owns_reply (written_payload h addr bytes align)

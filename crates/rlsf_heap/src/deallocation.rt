@@ -1,13 +1,18 @@
 //! Deallocation of payloads whose bytes are here.
-ghost use Rattle.std.specs.Prelude.{◌≡◌, ◌≢◌, ◌≤◌, ◌+◌, ℕ, None, length};
+ghost use Rattle.std.specs.Prelude.{◌≡◌, ◌≢◌, ◌≤◌, ◌+◌, ℕ, None, Some, length};
+ghost use Rattle.rlsf_base.specs.Ledger.{extent};
+ghost use Rattle.rlsf_base.specs.OpenSpace.{IsAway};
+ghost use Rattle.rlsf_base.specs.Piece.{IsFull, piece_range};
 ghost use Rattle.rlsf_model.specs.Callers.{align_at};
 ghost use Rattle.rlsf_model.specs.Release.{Deallocates};
 ghost use Rattle.rlsf_model.specs.Sized.{IsSizedFor, live_count};
-ghost use Rattle.rlsf_heap.specs.Heap.{IsOwners, IsWritten};
+ghost use Rattle.rlsf_heap.specs.Heap.{IsOwners, IsTicketOf, IsWritten};
 ghost use Rattle.rlsf_heap.specs.Settled.{IsSettled};
 
 use crate::heap::Heap;
 use crate::payload::Payload;
+use rlsf_base::memory::Part;
+use rlsf_base::memory::ledger::Ticket;
 use rlsf_blocks::{deallocate_block, load_block_of};
 use rlsf_int::BitPattern;
 
@@ -44,6 +49,30 @@ impl<FLBitmap: BitPattern, SLBitmap: BitPattern, const FLLEN: usize, const SLLEN
         ensures copied { self.new.memory.copied ≡ self.old.memory.copied }
     {
         let (part, ticket) = payload.into_parts();
+        self.put_written(part, ticket);
+    }
+
+    // Deallocates a payload by its bytes, which are here, and its ticket.
+    #[inline(always)]
+    pub(crate) fn put_written(&mut self, part: Part, ticket: Ticket)
+        requires ticket { IsTicketOf part ticket.align (extent ticket.addr ticket.len ticket.align) }
+        requires identity { record { home = part.home; ledger = ticket.name } ≡ self.old.identity }
+        requires full { IsFull part }
+        ensures step { Steps FLLEN SLLEN self.new (Deallocates self.old.state part.start) }
+        ensures identity { self.new.identity ≡ self.old.identity }
+        ensures place { (self.new.memory.start ≡ self.old.memory.start) × (length self.new.memory.bytes ≡ length self.old.memory.bytes) }
+        ensures owner { IsAway self.old.memory (piece_range part) }
+        ensures live { align_at self.old.state part.start ≡ Some ticket.align }
+        ensures count { live_count self.old.state ≡ live_count self.new.state + 1 }
+        ensures bounds { (count size align : ℕ) → IsSizedFor SLLEN count size align self.old.state → IsSizedFor SLLEN count size align self.new.state }
+        ensures chunks { self.new.state.chunks ≡ self.old.state.chunks }
+        ensures gone { align_at self.new.state part.start ≡ None }
+        ensures aligns { (a : ℕ) → a ≢ part.start → align_at self.new.state a ≡ align_at self.old.state a }
+        ensures settled { IsSettled self.old.memory → IsSettled self.new.memory }
+        ensures touches { self.new.memory.touches ≤ self.old.memory.touches + 33 }
+        ensures grow { self.old.memory.touches ≤ self.new.memory.touches }
+        ensures copied { self.new.memory.copied ≡ self.old.memory.copied }
+    {
         let addr = part.start();
         self.ledger.redeem(ticket);
         self.memory.put_back(part);

@@ -15,13 +15,14 @@ ghost use Rattle.rlsf_heap.specs.Heap.{addr_of, IsOwners, IsWritten};
 ghost use Rattle.rlsf_heap.specs.Settled.{IsSettled};
 
 use crate::payload::Payload;
-use crate::state::GhostState;
+use crate::usable::load_usable_of;
 use crate::zeroed::fill_zero;
 use rlsf_base::memory::ledger::Ledger;
 use rlsf_base::memory::{Layout, OpenMemory};
 use rlsf_blocks::{allocate_block, deallocate_block, load_block_of, load_usable_bytes};
 use rlsf_int::BitPattern;
 use rlsf_table::ClassTable;
+use rlsf_tlsf::GhostState;
 use std::marker::{Model, PhantomData};
 use std::mem::ManuallyDrop;
 
@@ -137,6 +138,8 @@ impl<FLBitmap: BitPattern, SLBitmap: BitPattern, const FLLEN: usize, const SLLEN
     ///
     /// Returns `None` if and only if no free block has a class that reaches the sought size; then nothing changes. Within
     /// bounds that the heap is sized for (`IsSizedFor`), an allocation is never refused.
+    // In line, so that the tests of an alignment that is constant at the call go away, and no payload is passed in memory.
+    #[inline(always)]
     pub fn allocate(&mut self, layout: Layout) -> Option<Payload>
         ensures step { Steps FLLEN SLLEN self.new (Allocates SLLEN self.old.state layout.size layout.align (addr_of result)) }
         ensures identity { self.new.identity ≡ self.old.identity }
@@ -167,7 +170,7 @@ impl<FLBitmap: BitPattern, SLBitmap: BitPattern, const FLLEN: usize, const SLLEN
         let align = layout.align();
         self.live += 1;
         self.state.allocate(SLLEN, layout.size(), align);
-        let range = load_usable_bytes(&mut self.memory, addr);
+        let range = load_usable_of(&mut self.memory, view, addr, align);
         let part = self.memory.take_out(range);
         let ticket = self.ledger.issue(range.start, range.len, align);
         Some(Payload {
@@ -230,6 +233,8 @@ impl<FLBitmap: BitPattern, SLBitmap: BitPattern, const FLLEN: usize, const SLLEN
     /// Until the call, each byte of the payload was its owner's, and none was the memory's (`owner`).
     ///
     /// The payload must be one of this heap.
+    // In line, so that no payload is passed in memory.
+    #[inline(always)]
     pub fn deallocate(&mut self, payload: Payload)
         requires { payload.identity ≡ self.old.identity }
         ensures step { Steps FLLEN SLLEN self.new (Deallocates self.old.state payload.start) }

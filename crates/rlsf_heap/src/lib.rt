@@ -2,11 +2,14 @@
 //! other payloads are.
 //!
 //! Read `payload.rt` and `heap.rt` first, then `deallocation.rt`, `reallocation.rt`, `pools.rt` and `reading.rt`. `apart.rt`
-//! states the laws of payloads that are out together, `raw.rt` takes payloads apart, `thin.rt` has those of which a
-//! caller knows only the address, and `units.rt` has those of `rlsf_local`. `zeroed.rt` and `state.rt` are helpers. `specs/Heap.antt` defines what contracts see.
+//! states the laws of payloads that are out together, and `raw.rt` takes payloads apart. `thin.rt` has those of which a caller knows
+//! only the address, with their calls in `thin_calls.rt` and `thin_reallocation.rt`, and `units.rt` has those of `rlsf_local`.
+//! `consistency.rt` reads the words of a pool again. `usable.rt` and `zeroed.rt` are helpers. `specs/Heap.antt` defines what
+//! contracts see.
 #![tactic(auto)]
 
 mod apart;
+mod consistency;
 mod deallocation;
 mod heap;
 mod payload;
@@ -14,9 +17,11 @@ mod pools;
 mod raw;
 mod reading;
 mod reallocation;
-mod state;
 mod thin;
+mod thin_calls;
+mod thin_reallocation;
 mod units;
+mod usable;
 mod zeroed;
 
 pub use heap::Heap;

@@ -1,16 +1,37 @@
 //! Payloads of complete units, which a pointer alone shows: what an allocator of collections needs of a heap.
-ghost use Rattle.std.specs.Prelude.{◌≡◌, ◌≢◌, ◌≤◌, ◌<◌, ◌+◌, ◌-◌, ◌*◌, ◌/◌, ◌%◌, ◌^◌, ◌↔◌, IsTrue, ℕ, Some, None, length, IfNone, IfSome, IsSome};
+ghost use Rattle.std.specs.Prelude.{◌≡◌, ◌≢◌, ◌≤◌, ◌<◌, ◌+◌, ◌-◌, ◌*◌, ◌/◌, ◌%◌, ◌^◌, ◌↔◌, IsTrue, ℕ, Some, None, length, min, IfErr, IfNone, IfSome, IsOk, IsSome, MatchResult};
 ghost use Rattle.rlsf_model.specs.Allocate.{Allocates};
 ghost use Rattle.rlsf_model.specs.Callers.{align_at};
+ghost use Rattle.rlsf_model.specs.NoMove.{ReallocatesWithoutMove};
 ghost use Rattle.rlsf_model.specs.Release.{Deallocates};
 ghost use Rattle.rlsf_model.specs.Sized.{IsSizedFor, live_count};
-ghost use Rattle.rlsf_heap.specs.Units.{GivesUnits, heap_of, payload_len, unit_addr_of};
+ghost use Rattle.rlsf_heap.specs.Units.{GivesUnits, heap_of, heap_of_tail, payload_len, stayed_at, unit_addr_of};
 
 use crate::heap::Heap;
 use crate::payload::Payload;
-use rlsf_base::memory::{Layout, UnitPayload};
+use rlsf_base::memory::{Layout, UnitPayload, UnitTail};
+use rlsf_base::rounding::next_multiple_of_32;
 use rlsf_blocks::deallocate_block;
 use rlsf_int::BitPattern;
+use rlsf_reallocate::resize_kept_block;
+
+/// The length of a unit, and its alignment.
+const UNIT: usize = 16;
+
+// Returns the length of a payload of units for `size` bytes.
+fn payload_len(size: usize) -> usize
+    requires { size < 2 ^ 63 }
+    ensures { result ≡ payload_len size }
+{
+    next_multiple_of_32(size + 16) - 16
+}
+
+// Returns the lesser of two numbers.
+fn lesser(x: usize, y: usize) -> usize
+    ensures { result ≡ min x y }
+{
+    if x < y { x } else { y }
+}
 
 impl Payload {
     // Consumes the payload, and returns its units. Values that its bytes have are lost.
@@ -92,5 +113,61 @@ impl<FLBitmap: BitPattern, SLBitmap: BitPattern, const FLLEN: usize, const SLLEN
         deallocate_block(&mut self.memory, view, &mut self.table, block);
         self.live -= 1;
         self.state.deallocate(block + 16);
+    }
+
+    /// Gives a payload of units the size of `size` bytes without moving it. It uses the bytes of the payload's block and of a free
+    /// block behind it. Its first bytes, as many as both lengths have, stay with their owner: no byte of them is read, written or copied.
+    ///
+    /// Returns the payload with the length for `size` bytes, and the units behind the kept ones. Returns it as it was, as the error,
+    /// if and only if these bytes don't suffice; then nothing changes. A payload can always become shorter.
+    ///
+    /// The payload must be one of this heap, `len` its length, and all of its bytes but those that stay must be in it.
+    pub fn resize_units(
+        &mut self,
+        tail: UnitTail,
+        len: usize,
+        size: usize,
+    ) -> Result<UnitTail, UnitTail>
+        requires heap { heap_of_tail tail ≡ self.old.identity }
+        requires len { len ≡ tail.len }
+        requires size { size ≤ 2 ^ 63 - 16 }
+        requires kept { tail.kept ≡ min tail.len (payload_len size) }
+        ensures step { Steps FLLEN SLLEN self.new (ReallocatesWithoutMove self.old.state tail.start size (stayed_at result)) }
+        ensures identity { self.new.identity ≡ self.old.identity }
+        ensures heap { MatchResult result (λ p. heap_of_tail p ≡ self.old.identity) (λ p. heap_of_tail p ≡ self.old.identity) }
+        ensures there { MatchResult result (λ p. (p.start ≡ tail.start) × (p.ptr ≡ tail.ptr)) (λ p. (p.start ≡ tail.start) × (p.ptr ≡ tail.ptr)) }
+        ensures kept { MatchResult result (λ p. p.kept ≡ tail.kept) (λ p. p.kept ≡ tail.kept) }
+        ensures long { MatchResult result (λ p. p.len ≡ payload_len size) (λ p. p.len ≡ tail.len) }
+        ensures shrinks { payload_len size ≤ tail.len → IsOk result }
+        ensures aligns { align_at self.new.state ≡ align_at self.old.state }
+        ensures count { live_count self.new.state ≡ live_count self.old.state }
+        ensures bounds { (count most align : ℕ) → IsSizedFor SLLEN count most align self.old.state → size ≤ most → 16 ≤ align → IsSizedFor SLLEN count most align self.new.state }
+        ensures chunks { self.new.state.chunks ≡ self.old.state.chunks }
+        ensures same { IfErr result (λ p. self.new.state ≡ self.old.state) }
+        ensures touches { self.new.memory.touches ≤ self.old.memory.touches + 25 }
+        ensures grow { self.old.memory.touches ≤ self.new.memory.touches }
+        ensures copied { self.new.memory.copied ≡ self.old.memory.copied }
+    {
+        let wanted = payload_len(size);
+        let kept = lesser(len, wanted);
+        // The word at 8 bytes past the payload's end names its block.
+        let block = self.memory.put_unit_tail(&mut self.ledger, tail, kept, 8) as usize;
+        let start = block + 16;
+        let view = self.memory.view();
+        let sought = Layout::from_size_align_unchecked(size, UNIT);
+        if !resize_kept_block(
+            &mut self.memory,
+            view,
+            &mut self.table,
+            block,
+            start,
+            sought,
+        ) {
+            let ticket = self.ledger.issue(start, len, UNIT);
+            return Err(self.memory.take_unit_tail(ticket, start, len, kept));
+        }
+        self.state.reallocate(SLLEN, start, size);
+        let ticket = self.ledger.issue(start, wanted, UNIT);
+        Ok(self.memory.take_unit_tail(ticket, start, wanted, kept))
     }
 }

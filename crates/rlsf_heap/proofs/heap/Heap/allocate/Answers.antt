@@ -1,4 +1,4 @@
-use Rattle.std.proofs.Common.{◌≡◌, arith, ◌+◌, ◌%◌, ◌<◌, ◌≤◌, length, None, Some, refl, sym, ap, subst, ◌∙◌}
+use Rattle.std.proofs.Common.{◌≡◌, arith, ◌+◌, ◌%◌, ◌<◌, ◌≤◌, length, None, Some, sym, ap, subst, ◌∙◌}
 use Rattle.rlsf_base.specs.declared.memory.range.Range.{Range}
 use Rattle.rlsf_base.specs.Ledger.{extent}
 use Rattle.rlsf_base.specs.OpenSpace.{IsOwned, out_without}
@@ -18,15 +18,14 @@ use Rattle.rlsf_tlsf.specs.Steps.Moves.{allocated, bare}
 use Rattle.rlsf_tlsf.proofs.Arrivals.{arrived}
 use Rattle.rlsf_tlsf.proofs.Moved.{allocated-bare}
 use Rattle.rlsf_heap.specs.Heap.{AreIssued, addr_of}
-use Rattle.rlsf_heap.proofs.Allocated.{Placing, at_new, is_new, issued-new, new, one_more, new-here, new-lies, new-long, placing-touched, stands-left}
+use Rattle.rlsf_heap.proofs.Allocated.{Placing, at_new, is_new, issued-new, new, one_more, new-here, new-lies, new-long, placing-counted, stands-left}
 use Rattle.rlsf_heap.proofs.Arrivals.{IsHeap-arrived, Steps-arrived, bare-kept, stepped, view_well_formed}
-use Rattle.rlsf_base.specs.Space.{Space}
 use Rattle.rlsf_blocks.proofs.Words.Stays.{Stays, Stays-same, Stays-then}
 use Rattle.rlsf_heap.specs.Settled.{IsSettled}
 use Rattle.rlsf_heap.proofs.Settled.{settled-here, settled-inside, settled-left, settled-stays}
 use Rattle.rlsf_heap.proofs.heap.Heap.allocate.Given as given
 use Rattle.rlsf_heap.proofs.heap.Heap.allocate.Goals as goal
-use Rattle.rlsf_heap.proofs.heap.Heap.allocate.Goals.{After-issue-ticket, After-load_usable_bytes-range, In_err-addr, In_ok-addr, After-allocate}
+use Rattle.rlsf_heap.proofs.heap.Heap.allocate.Goals.{After-issue-ticket, After-load_usable_of-range, In_err-addr, In_ok-addr, After-allocate}
 
 -- ---- a refused allocation changes nothing
 
@@ -84,19 +83,19 @@ overflow_add-self g c =
     let (t, p) = placing_first g (goal.at.overflow_add-self g c).In_ok-addr in
     omega (arith, (one_more p c.self.inside.live c.self.invariant.counted).1)
 
-pub load_usable_bytes-range-requires : goal.load_usable_bytes-range-requires
-load_usable_bytes-range-requires g c =
-    let (t, p) = placing_first g (goal.at.load_usable_bytes-range-requires g c).In_ok-addr in
-    (g.row.FLLEN, g.row.SLLEN, contents c.allocate_block.new.memory c.allocate_block.new.table, t, refl, p.now, (new p, (is_new p, at_new p)))
+pub load_usable_of-range-requires-clause-live : goal.load_usable_of-range-requires-clause-live
+load_usable_of-range-requires-clause-live g c =
+    let (t, p) = placing_first g (goal.at.load_usable_of-range-requires-clause-live g c).In_ok-addr in
+    (g.row.FLLEN, g.row.SLLEN, c.allocate_block.new.table, t, p.now, (new p, (is_new p, at_new p), sym c.align-align.ensures.value))
 
-abbrev before : (g : given.Over) → After-load_usable_bytes-range g → State
+abbrev before : (g : given.Over) → After-load_usable_of-range g → State
 before g c = read_from c.self.inside.memory c.self.inside.state.state
 
 -- the state with the payload
-after : (g : given.Over) → After-load_usable_bytes-range g → State
+after : (g : given.Over) → After-load_usable_of-range g → State
 after g c = (c.in_ok-addr.ensures.step (before g c) c.self.invariant.stands).0
 
-placing : (g : given.Over) (c : After-load_usable_bytes-range g)
+placing : (g : given.Over) (c : After-load_usable_of-range g)
     → Placing g.row.FLLEN g.row.SLLEN c.self.inside.memory c.allocate_block.new.memory c.self.inside.table c.allocate_block.new.table (before g c) (after g c) c.args.layout.size
     c.args.layout.align c.in_ok-addr.addr
 unfolding after
@@ -105,33 +104,33 @@ placing g c =
     record { old = c.self.invariant.stands; power = c.args.layout.valid.aligned; places = is.1; now = is.2; own = c.in_ok-addr.ensures.own }
 
 -- the payload after its length is read
-reading : (g : given.Over) (c : After-load_usable_bytes-range g)
-    → Placing g.row.FLLEN g.row.SLLEN c.self.inside.memory c.load_usable_bytes-range.new.memory c.self.inside.table c.allocate_block.new.table (before g c) (after g c)
+reading : (g : given.Over) (c : After-load_usable_of-range g)
+    → Placing g.row.FLLEN g.row.SLLEN c.self.inside.memory c.load_usable_of-range.new.memory c.self.inside.table c.allocate_block.new.table (before g c) (after g c)
     c.args.layout.size c.args.layout.align c.in_ok-addr.addr
-reading g c = placing-touched c.load_usable_bytes-range.new.memory 3 c.in_ok-addr.ensures.costs.start c.load_usable_bytes-range.ensures.memory (placing g c)
+reading g c = placing-counted c.load_usable_of-range.new.memory 2 c.in_ok-addr.ensures.costs.start c.load_usable_of-range.ensures.counts (placing g c)
 
 -- the range is that of its bytes
-range : (g : given.Over) (c : After-load_usable_bytes-range g) → c.load_usable_bytes-range.result ≡ usable (new (reading g c))
+range : (g : given.Over) (c : After-load_usable_of-range g) → c.load_usable_of-range.result ≡ usable (new (reading g c))
 range g c =
     let p = reading g c in
-    c.load_usable_bytes-range.ensures.range g.row.FLLEN g.row.SLLEN (contents c.allocate_block.new.memory c.allocate_block.new.table) (after g c) (new p) refl (placing g c).now
-    (is_new p, at_new p)
+    c.load_usable_of-range.ensures.range g.row.FLLEN g.row.SLLEN c.allocate_block.new.table (after g c) (new p) (placing g c).now (is_new p, at_new p)
+    (sym c.align-align.ensures.value)
 
 pub take_out-part-requires-clause-place : goal.take_out-part-requires-clause-place
 take_out-part-requires-clause-place g c =
-    let d = (goal.at.take_out-part-requires-clause-place g c).After-load_usable_bytes-range in
-    let m = c.load_usable_bytes-range.new.memory in
+    let d = (goal.at.take_out-part-requires-clause-place g c).After-load_usable_of-range in
+    let m = c.load_usable_of-range.new.memory in
     subst (λ (r : Range). LiesIn r m.start (length m.bytes)) (sym (range g d)) (new-lies (reading g d))
 
 pub take_out-part-requires-clause-own : goal.take_out-part-requires-clause-own
 take_out-part-requires-clause-own g c =
-    let d = (goal.at.take_out-part-requires-clause-own g c).After-load_usable_bytes-range in
-    subst (IsOwned c.load_usable_bytes-range.new.memory) (sym (range g d)) (new-here (reading g d))
+    let d = (goal.at.take_out-part-requires-clause-own g c).After-load_usable_of-range in
+    subst (IsOwned c.load_usable_of-range.new.memory) (sym (range g d)) (new-here (reading g d))
 
 -- ---- its bytes leave
 
-abbrev read : (g : given.Over) → After-issue-ticket g → After-load_usable_bytes-range g
-read g c = (goal.at.invariant_of-self-2 g c).After-load_usable_bytes-range
+abbrev read : (g : given.Over) → After-issue-ticket g → After-load_usable_of-range g
+read g c = (goal.at.invariant_of-self-2 g c).After-load_usable_of-range
 
 abbrev reached : (g : given.Over) → After-issue-ticket g → State
 reached g c = after g (read g c)
@@ -139,7 +138,7 @@ reached g c = after g (read g c)
 standing : (g : given.Over) (c : After-issue-ticket g) → StandsFor g.row.FLLEN g.row.SLLEN (contents c.take_out-part.new.self c.allocate_block.new.table) (reached g c)
 standing g c =
     let e = c.take_out-part.ensures in
-    stands-left (reading g (read g c)) c.take_out-part.new.self e.start e.bytes (e.out ∙ ap (out_without c.load_usable_bytes-range.new.memory) (range g (read g c)))
+    stands-left (reading g (read g c)) c.take_out-part.new.self e.start e.bytes (e.out ∙ ap (out_without c.load_usable_of-range.new.memory) (range g (read g c)))
 
 -- the ghost state is the one with the payload
 kept : (g : given.Over) (c : After-issue-ticket g) → c.allocate.new.self.state ≡ bare (reached g c)
@@ -149,13 +148,13 @@ kept g c =
     ∙ allocated-bare g.row.SLLEN (before g (read g c)) (reached g c) c.args.layout.size c.args.layout.align c.in_ok-addr.addr p.places
 
 -- the address that the ticket is issued for
-address : (g : given.Over) (c : After-issue-ticket g) → c.load_usable_bytes-range.result.start ≡ c.in_ok-addr.addr
+address : (g : given.Over) (c : After-issue-ticket g) → c.load_usable_of-range.result.start ≡ c.in_ok-addr.addr
 address g c = ap (λ (r : Range). r.start) (range g (read g c)) ∙ at_new (reading g (read g c))
 
 pub invariant_of-self-2 : goal.invariant_of-self-2
 invariant_of-self-2 g c =
     let d = (goal.at.invariant_of-self-2 g c).After-issue-ticket in
-    let r = c.load_usable_bytes-range.result in
+    let r = c.load_usable_of-range.result in
     IsHeap-arrived (standing g d) c.allocate.new.self.state (kept g d) c.self.invariant.valid c.issue-ticket.new.self.entries
     (subst (AreIssued (reached g d)) (sym c.issue-ticket.ensures.entries)
     (issued-new (reading g (read g d)) c.self.inside.ledger.entries c.self.invariant.tickets (extent r.start r.len c.align-align.result) (address g d)
@@ -234,22 +233,22 @@ returns-in_err-addr-clause-settled g c = λ settled.
     settled-stays stays (settled-inside c.self.inside.state.state c.args.self.now c.self.view_is settled)
 
 -- before its bytes leave
-settled_read : (g : given.Over) (c : After-issue-ticket g) → IsSettled c.args.self.now.memory → IsSettled c.load_usable_bytes-range.new.memory
+settled_read : (g : given.Over) (c : After-issue-ticket g) → IsSettled c.args.self.now.memory → IsSettled c.load_usable_of-range.new.memory
 settled_read g c settled =
     let e = c.in_ok-addr.ensures in
-    let touched = c.load_usable_bytes-range.ensures.memory in
+    let counts = c.load_usable_of-range.ensures.counts in
     let stays : Stays c.self.inside.memory c.allocate_block.new.memory = record { start = e.costs.start; own = e.own; here = e.here } in
-    let counted = Stays-same c.allocate_block.new.memory c.load_usable_bytes-range.new.memory (ap (λ (o : Space). o.start) touched) (ap (λ (o : Space). o.out) touched) in
+    let counted = Stays-same c.allocate_block.new.memory c.load_usable_of-range.new.memory counts.start counts.out in
     settled-stays (Stays-then stays counted) (settled-inside c.self.inside.state.state c.args.self.now c.self.view_is settled)
 
-low_range : (g : given.Over) (c : After-issue-ticket g) → c.load_usable_bytes-range.new.memory.start ≤ c.load_usable_bytes-range.result.start
-low_range g c = subst (λ (r : Range). c.load_usable_bytes-range.new.memory.start ≤ r.start) (sym (range g (read g c))) (new-lies (reading g (read g c))).0
+low_range : (g : given.Over) (c : After-issue-ticket g) → c.load_usable_of-range.new.memory.start ≤ c.load_usable_of-range.result.start
+low_range g c = subst (λ (r : Range). c.load_usable_of-range.new.memory.start ≤ r.start) (sym (range g (read g c))) (new-lies (reading g (read g c))).0
 
 pub returns-clause-settled : goal.returns-clause-settled
-returns-clause-settled g c = λ settled. settled-left c.load_usable_bytes-range.new.memory c.take_out-part.new.self c.load_usable_bytes-range.result c.take_out-part.ensures.start
+returns-clause-settled g c = λ settled. settled-left c.load_usable_of-range.new.memory c.take_out-part.new.self c.load_usable_of-range.result c.take_out-part.ensures.start
     (low_range g c) c.take_out-part.ensures.out (settled_read g c settled)
 
 pub returns-clause-written : goal.returns-clause-written
 returns-clause-written g c = λ settled.
-    let own = subst (IsOwned c.load_usable_bytes-range.new.memory) (sym (range g (read g c))) (new-here (reading g (read g c))) in
-    c.take_out-part.ensures.full (settled-here c.load_usable_bytes-range.new.memory c.load_usable_bytes-range.result (low_range g c) own (settled_read g c settled))
+    let own = subst (IsOwned c.load_usable_of-range.new.memory) (sym (range g (read g c))) (new-here (reading g (read g c))) in
+    c.take_out-part.ensures.full (settled-here c.load_usable_of-range.new.memory c.load_usable_of-range.result (low_range g c) own (settled_read g c settled))

@@ -1,5 +1,6 @@
 use Rattle.std.proofs.Common.{◌≡◌, ℕ, ◌+◌, ◌-◌, Some, rules, arith, refl, sym, ap, subst, ◌∙◌}
 use Rattle.rlsf_model.specs.Callers.{align_at}
+use Rattle.rlsf_base.specs.Ledger.{IsIssued}
 use Rattle.rlsf_base.specs.declared.memory.ledger.Ticket.{Ticket}
 use Rattle.rlsf_base.specs.OpenSpace.{IsOwned, home_of}
 use Rattle.rlsf_base.specs.Piece.{Piece}
@@ -21,7 +22,7 @@ use Rattle.rlsf_tlsf.specs.Steps.Moves.{bare}
 use Rattle.rlsf_heap.specs.Heap.{HeapView, Identity}
 use Rattle.rlsf_heap.proofs.Arrivals.{IsHeap-arrived, Steps-arrived, kept_without, stepped, view_well_formed}
 use Rattle.rlsf_heap.proofs.ThinPayloads as P
-use Rattle.rlsf_heap.proofs.ThinPayloads.{IsTicketFor}
+use Rattle.rlsf_heap.proofs.ThinPayloads.{IsTicketFor, known_by, shown}
 use Rattle.rlsf_heap.proofs.heap.Heap.deallocate_thin.Given as given
 use Rattle.rlsf_heap.proofs.heap.Heap.deallocate_thin.Goals as goal
 use Rattle.rlsf_heap.proofs.heap.Heap.deallocate_thin.Goals.{After-load_usable_bytes-arg-1, After-load_block_of-arg-1, After-deallocate}
@@ -36,20 +37,23 @@ bytes g c = c.into_parts.result.0.piece
 abbrev ticket : (g : given.Over) (c : After-load_usable_bytes-arg-1 g) → Ticket
 ticket g c = c.into_parts.result.1
 
-is_for : (g : given.Over) (c : After-load_usable_bytes-arg-1 g)
-    → IsTicketFor c.args.payload.heap c.args.payload.addr c.args.payload.len c.args.payload.align (bytes g c) (ticket g c)
-is_for g c = record { of = c.into_parts.ensures.bytes; shown = c.into_parts.ensures.ticket }
+is_for : (g : given.Over) (c : After-load_usable_bytes-arg-1 g) → IsTicketFor c.args.payload.of (ticket g c)
+is_for g c = c.into_parts.ensures.ticket
+
+known : (g : given.Over) (c : After-load_usable_bytes-arg-1 g) → IsIssued c.self.inside.ledger.entries (ticket g c).key (shown c.args.payload.of)
+known g c = known_by c.args.payload.of (ticket g c) (is_for g c) c.self.inside.ledger.entries c.redeem.ensures.issued
+
+home : (g : given.Over) (c : After-load_usable_bytes-arg-1 g) → c.args.payload.of.identity.home ≡ home_of c.self.inside.memory
+home g c = ap (λ (h : Identity). h.home) c.requires.heap ∙ sym (ap (λ (v : HeapView). v.identity.home) c.self.view_is)
 
 -- the payload's block
 abbrev block : (g : given.Over) (c : After-load_usable_bytes-arg-1 g) → Used
 block g c =
-    P.block c.self.invariant.stands c.self.invariant.tickets c.args.payload.heap c.args.payload.addr c.args.addr c.args.payload.len c.args.payload.align (bytes g c) (ticket g c)
-    (is_for g c) c.requires.some.0 c.redeem.ensures.issued
+    P.block c.self.invariant.stands c.self.invariant.tickets c.args.payload.of c.args.addr (ticket g c).key c.requires.some.0 (known g c)
 
 held : (g : given.Over) (c : After-load_usable_bytes-arg-1 g) → Holds (before g c) c.args.addr (block g c)
 held g c =
-    P.held c.self.invariant.stands c.self.invariant.tickets c.args.payload.heap c.args.payload.addr c.args.addr c.args.payload.len c.args.payload.align (bytes g c) (ticket g c)
-    (is_for g c) c.requires.some.0 c.redeem.ensures.issued
+    P.held c.self.invariant.stands c.self.invariant.tickets c.args.payload.of c.args.addr (ticket g c).key c.requires.some.0 (known g c)
 
 pub load_usable_bytes-range-requires : goal.load_usable_bytes-range-requires
 load_usable_bytes-range-requires g c =
@@ -59,16 +63,15 @@ load_usable_bytes-range-requires g c =
 pub into_part-part-requires : goal.into_part-part-requires
 into_part-part-requires g c =
     let d = (goal.at.into_part-part-requires g c).After-load_usable_bytes-arg-1 in
-    P.comes c.self.invariant.stands c.self.invariant.tickets c.args.payload.heap c.args.payload.addr c.args.addr c.args.payload.len c.args.payload.align (bytes g d) (ticket g d)
-    (is_for g d) c.requires.some.0 c.redeem.ensures.issued
-    (c.into_parts.ensures.bytes.home ∙ ap (λ (h : Identity). h.home) c.requires.heap ∙ sym (ap (λ (v : HeapView). v.identity.home) c.self.view_is))
+    P.comes c.self.invariant.stands c.self.invariant.tickets c.args.payload.of c.args.addr (ticket g d).key c.requires.some.0 (known g d)
+    c.into_parts.ensures.bytes.1 (home g d) (bytes g d) c.into_parts.ensures.bytes.0
     c.load_usable_bytes-range.new.memory c.load_usable_bytes-range.ensures.memory c.view-view.result c.view-view.ensures c.load_usable_bytes-range.result
     c.load_usable_bytes-range.ensures.range
 
 pub put_room-requires : goal.put_room-requires
 put_room-requires g c =
-    ap (λ (p : Piece). p.home) c.into_part-part.ensures
-    ∙ (c.into_parts.ensures.bytes.home ∙ ap (λ (h : Identity). h.home) c.requires.heap ∙ sym (ap (λ (v : HeapView). v.identity.home) c.self.view_is))
+    ap (λ (p : Piece). p.home) (c.into_part-part.ensures ∙ c.into_parts.ensures.bytes.0)
+    ∙ home g (goal.at.put_room-requires g c).After-load_usable_bytes-arg-1
     ∙ sym (ap home_of c.load_usable_bytes-range.ensures.memory)
 
 -- as the length is sought
@@ -79,9 +82,9 @@ sought g c = (goal.at.load_block_of-block-requires g c).After-load_usable_bytes-
 back : (g : given.Over) (c : After-load_block_of-arg-1 g) → StandsFor g.row.FLLEN g.row.SLLEN (contents c.put_room.new.self c.self.inside.table) (before g (sought g c))
 back g c =
     let d = sought g c in let e = c.put_room.ensures in
-    P.back c.self.invariant.stands c.self.invariant.tickets c.args.payload.heap c.args.payload.addr c.args.addr c.args.payload.len c.args.payload.align (bytes g d) (ticket g d)
-    (is_for g d) c.requires.some.0 c.redeem.ensures.issued
-    c.load_usable_bytes-range.new.memory c.load_usable_bytes-range.ensures.memory c.into_part-part.result c.into_part-part.ensures c.put_room.new.self e.start e.bytes e.out
+    P.back c.self.invariant.stands c.self.invariant.tickets c.args.payload.of c.args.addr (ticket g d).key c.requires.some.0 (known g d)
+    c.load_usable_bytes-range.new.memory c.load_usable_bytes-range.ensures.memory c.into_part-part.result (c.into_part-part.ensures ∙ c.into_parts.ensures.bytes.0)
+    c.put_room.new.self e.start e.bytes e.out
 
 pub load_block_of-block-requires : goal.load_block_of-block-requires
 load_block_of-block-requires g c =
@@ -94,9 +97,9 @@ own : (g : given.Over) (c : After-load_block_of-arg-1 g) (n : Space) → n ≡ r
 own g c n touched =
     let d = sought g c in let e = c.put_room.ensures in
     owned-same c.put_room.new.self n (usable (block g d)) (ap (λ (o : Space). o.start) touched) (ap (λ (o : Space). o.out) touched)
-    (P.own c.self.invariant.stands c.self.invariant.tickets c.args.payload.heap c.args.payload.addr c.args.addr c.args.payload.len c.args.payload.align (bytes g d) (ticket g d)
-    (is_for g d) c.requires.some.0 c.redeem.ensures.issued
-    c.load_usable_bytes-range.new.memory c.load_usable_bytes-range.ensures.memory c.into_part-part.result c.into_part-part.ensures c.put_room.new.self e.start e.bytes e.out)
+    (P.own c.self.invariant.stands c.self.invariant.tickets c.args.payload.of c.args.addr (ticket g d).key c.requires.some.0 (known g d)
+    c.load_usable_bytes-range.new.memory c.load_usable_bytes-range.ensures.memory c.into_part-part.result (c.into_part-part.ensures ∙ c.into_parts.ensures.bytes.0)
+    c.put_room.new.self e.start e.bytes e.out)
 
 -- its block is the one that was found
 starts : (g : given.Over) (c : After-load_block_of-arg-1 g) (start : ℕ) → AtEachBlock c.put_room.new.self c.args.addr (λ u. start ≡ u.block.start)
@@ -149,9 +152,8 @@ pub invariant_of-self : goal.invariant_of-self
 invariant_of-self g c =
     let d = sought g (first g c) in
     IsHeap-arrived (standing g c) c.deallocate.new.self.state (kept g c) c.self.invariant.valid c.redeem.new.self.entries
-    (P.left c.self.invariant.stands c.self.invariant.tickets c.args.payload.heap c.args.payload.addr c.args.addr c.args.payload.len c.args.payload.align (bytes g d) (ticket g d)
-    (is_for g d) c.requires.some.0 c.redeem.ensures.issued
-    c.redeem.new.self.entries c.redeem.ensures.entries)
+    (P.left c.self.invariant.stands c.self.invariant.tickets c.args.payload.of c.args.addr (ticket g d).key c.requires.some.0 (known g d)
+    (ticket g d) (is_for g d) refl c.redeem.new.self.entries c.redeem.ensures.entries)
     (c.self.inside.live - 1) (omega (arith, c.self.invariant.counted, less g d))
 
 -- the state that contracts see
@@ -176,10 +178,9 @@ returns-clause-step g c = Steps-arrived (standing g c) c.deallocate.new.self.sta
 pub returns-clause-live : goal.returns-clause-live
 returns-clause-live g c =
     let d = sought g (first g c) in
-    subst (λ (v : HeapView). align_at v.state c.args.addr ≡ Some c.args.payload.align) c.self.view_is
+    subst (λ (v : HeapView). align_at v.state c.args.addr ≡ Some c.args.payload.of.align) c.self.view_is
     (align_at-held c.self.invariant.stands.well_formed c.args.addr (block g d) (held g d) ∙ ap (λ n. Some n)
-    (P.wide c.self.invariant.stands c.self.invariant.tickets c.args.payload.heap c.args.payload.addr c.args.addr c.args.payload.len c.args.payload.align (bytes g d) (ticket g d)
-    (is_for g d) c.requires.some.0 c.redeem.ensures.issued))
+    (P.wide c.self.invariant.stands c.self.invariant.tickets c.args.payload.of c.args.addr (ticket g d).key c.requires.some.0 (known g d)))
 
 pub returns-clause-count : goal.returns-clause-count
 returns-clause-count g c = count_gone (well g c) (now g c) c.args.addr (live g c) (did g c)

@@ -29,10 +29,10 @@ from_raw_spec 𝓤 𝓛 𝓜 𝓡 wired =
     (code.unfolded 𝓤 𝓛.H 𝓜 𝓡 wired)
     (λ κs. (uint_vals w64, tt)) (λ κs. (uint_Tells w64, tt)) (λ κs qs bounds a g are.
     let y : W.Ghost = ((κs, qs, bounds, a, (uint_vals w64 a.0, tt)), g) in
-    let made : (raw_payload.the_row).Denot = record { addr = a.0; heap = g.0; len = g.1; align = g.2 } in
-    qed 𝓛 (raw (on_entry 𝓛 f.signature κs qs a (uint_vals w64 a.0, tt)) ∷ ‵ (owns_reply g.0 a.0 g.1 g.2) ∷ []) ∵ drop ! $
+    let made : (raw_payload.the_row).Denot = record { addr = a.0; of = g } in
+    qed 𝓛 (raw (on_entry 𝓛 f.signature κs qs a (uint_vals w64 a.0, tt)) ∷ ‵ (owns_reply g) ∷ []) ∵ drop ! $
     enter ! _ _ _ _ _ $ alloc_all ! (λ l. pass_all ! refl ((tt, record { fits = are.0.1 }), tt) $
     sets ! (agg ! (and_then ! (get ! refl) (no_more !))) refl (tt, (record { fits = are.0.1 }, tt)) $
     returns ! (look_at ! 0 refl) $ free_all ! refl $
-    suffices ! _ (ends_at 𝓛 f.ended stayed c y (addr_val a.0) made (tt, tt) (tt, tt)) $ says ! (refl, refl, refl, refl) $
+    suffices ! _ (ends_at 𝓛 f.ended stayed c y (addr_val a.0) made (tt, tt) (tt, tt)) $ says ! (refl, refl) $
     use0 𝓛 (‵ (addr_own a.0 (addr_val a.0 ∷ []))) (addr_made 𝓛 a.0 are.0.1) $ fjoin ! $ nothing ! $ nothing ! $ join ! $ nothing ! $ done !))

@@ -1,0 +1,197 @@
+use Rattle.std.proofs.Common.{Some, ◌≤◌, ◌≡◌, ℕ, ◌+◌, ◌-◌, set, false, length, rules, arith, refl, sym, ap, subst, ◌∙◌}
+use Rattle.rlsf_base.specs.Ledger.{entry_of, extent}
+use Rattle.rlsf_base.specs.OpenSpace.{IsAway, IsOwned}
+use Rattle.rlsf_base.specs.Piece.{piece_range}
+use Rattle.rlsf_base.specs.Space.{Space, range_of}
+use Rattle.rlsf_base.proofs.Lending.Present.{own-here, owned-same}
+use Rattle.rlsf_model.specs.Release.{Deallocates, released}
+use Rattle.rlsf_model.specs.Run.{IsSomeLive}
+use Rattle.rlsf_model.specs.Sized.{live_count}
+use Rattle.rlsf_model.specs.State.{State, Used, Holds, usable}
+use Rattle.rlsf_model.specs.WellFormed.{IsWellFormed}
+use Rattle.rlsf_model.specs.Callers.{align_at}
+use Rattle.rlsf_model.proofs.CallerWords.{gone_seen}
+use Rattle.rlsf_model.proofs.Chunks.{chunks-deallocated}
+use Rattle.rlsf_model.proofs.SizedWords.{count_gone, sized_gone}
+use Rattle.rlsf_table.proofs.Parameters.{IsValid-widest}
+use Rattle.rlsf_blocks.specs.Steps.LiveBlock.{AtEachBlock}
+use Rattle.rlsf_blocks.specs.Laws.{read_from}
+use Rattle.rlsf_blocks.specs.StandsFor.{contents, StandsFor}
+use Rattle.rlsf_blocks.proofs.Machine.Counted.{StandsFor-touched}
+use Rattle.rlsf_tlsf.specs.Steps.Moves.{bare}
+use Rattle.rlsf_heap.specs.Heap.{AreIssued, HeapView}
+use Rattle.rlsf_heap.proofs.Arrivals.{IsHeap-arrived, Steps-arrived, kept_without, stepped, view_well_formed}
+use Rattle.rlsf_blocks.proofs.Words.Stays.{Stays, Stays-same, Stays-then}
+use Rattle.rlsf_heap.proofs.Leaving.{lies-usable}
+use Rattle.rlsf_heap.proofs.PayloadsApart.{shown_live}
+use Rattle.rlsf_heap.proofs.Reallocating.{IsBackIn, block as filled_block, came, held as held_of, held_before, here, issued_gone, old_block, released_back, stands, state}
+use Rattle.rlsf_heap.proofs.Settled.{settled-back, settled-inside, settled-stays}
+use Rattle.rlsf_heap.proofs.heap.Heap.put_written.Given as given
+use Rattle.rlsf_heap.proofs.heap.Heap.put_written.Goals as goal
+use Rattle.rlsf_heap.proofs.heap.Heap.put_written.Goals.{After-put_back, After-deallocate}
+
+-- the heap's state as the call begins
+abbrev before : (g : given.Over) (c : After-put_back g) → State
+before g c = read_from c.self.inside.memory c.self.inside.state.state
+
+-- the payload is back in the memory
+back_in : (g : given.Over) (c : After-put_back g) → IsBackIn g.row.FLLEN g.row.SLLEN c.self.inside.memory c.put_back.new.self c.self.inside.table (before g c)
+    c.self.inside.ledger.entries c.args.ticket.key c.args.part c.args.ticket.align
+back_in g c = came c.args.part c.self.invariant c.requires.ticket c.redeem.ensures.issued c.put_back.ensures.start c.put_back.ensures.bytes
+    c.put_back.ensures.out
+
+-- its block, without the bytes that came back
+abbrev block : (g : given.Over) → After-put_back g → Used
+block g c = old_block (back_in g c)
+
+held : (g : given.Over) (c : After-put_back g) → Holds (before g c) c.start-addr.result (block g c)
+held g c = let h = held_before (back_in g c) in (h.0, h.1 ∙ sym c.start-addr.ensures)
+
+held_back : (g : given.Over) (c : After-put_back g) → Holds (state (back_in g c)) c.start-addr.result (filled_block (back_in g c))
+held_back g c = let h = held_of (back_in g c) in (h.0, h.1 ∙ sym c.start-addr.ensures)
+
+pub load_block_of-block-requires : goal.load_block_of-block-requires
+load_block_of-block-requires g c =
+    let d = (goal.at.load_block_of-block-requires g c).After-put_back in
+    (g.row.FLLEN, g.row.SLLEN, contents c.put_back.new.self c.self.inside.table, state (back_in g d), refl, stands (back_in g d), (filled_block (back_in g d), held_back g d))
+
+-- its bytes are the memory's own again, once more touches were counted
+own : (g : given.Over) (d : After-put_back g) (n : Space) → n ≡ record d.put_back.new.self { touches = d.put_back.new.self.touches + 2 }
+    → IsOwned n (usable (filled_block (back_in g d)))
+own g d n touched =
+    owned-same d.put_back.new.self n (usable (filled_block (back_in g d))) (ap (λ (o : Space). o.start) touched) (ap (λ (o : Space). o.out) touched)
+    (own-here d.put_back.new.self (usable (filled_block (back_in g d))) (here (back_in g d)))
+
+-- its block is the one that was found
+starts : (g : given.Over) (d : After-put_back g) (start : ℕ) → AtEachBlock d.put_back.new.self d.start-addr.result (λ u. start ≡ u.block.start)
+    → (filled_block (back_in g d)).block.start ≡ start
+starts g d start each = sym (each g.row.FLLEN g.row.SLLEN (contents d.put_back.new.self d.self.inside.table) (state (back_in g d)) (filled_block (back_in g d)) refl
+    (stands (back_in g d)) (held_back g d))
+
+pub deallocate_block-requires : goal.deallocate_block-requires
+deallocate_block-requires g c =
+    let d = (goal.at.deallocate_block-requires g c).After-put_back in
+    let n = c.load_block_of-block.new.memory in
+    let touched = c.load_block_of-block.ensures.memory in
+    let now_stands = StandsFor-touched c.put_back.new.self n 2 touched (stands (back_in g d)) in (
+      omega arith,
+      (
+        IsValid-widest g.FLBitmap.BitPattern.width_limit c.self.invariant.valid,
+        (
+          (
+            state (back_in g d),
+            filled_block (back_in g d),
+            now_stands,
+            (held_back g d).0,
+            starts g d c.load_block_of-block.result c.load_block_of-block.ensures.block,
+            own g d n touched,
+          ),
+          search rules,
+        ),
+      ),
+    )
+
+-- one payload less is live
+less : (g : given.Over) (d : After-put_back g) → live_count (before g d) ≡ live_count (released (before g d) (block g d)) + 1
+less g d =
+    count_gone d.self.invariant.stands.well_formed (released (before g d) (block g d)) d.start-addr.result (block g d, held g d)
+    (record { block = block g d; holds = held g d; after = refl })
+
+pub overflow_sub-self : goal.overflow_sub-self
+overflow_sub-self g c = let d = (goal.at.overflow_sub-self g c).After-put_back in omega (arith, c.self.invariant.counted, less g d)
+
+-- the block is released
+abbrev first : (g : given.Over) → After-deallocate g → After-put_back g
+first g c = (goal.at.invariant_of-self g c).After-put_back
+
+abbrev after : (g : given.Over) → After-deallocate g → State
+after g c = released (before g (first g c)) (block g (first g c))
+
+standing : (g : given.Over) (c : After-deallocate g) → StandsFor g.row.FLLEN g.row.SLLEN (contents c.deallocate_block.new.memory c.deallocate_block.new.table) (after g c)
+standing g c =
+    let d = first g c in
+    let n = c.load_block_of-block.new.memory in
+    let touched = c.load_block_of-block.ensures.memory in
+    subst (StandsFor g.row.FLLEN g.row.SLLEN (contents c.deallocate_block.new.memory c.deallocate_block.new.table)) (released_back (back_in g d))
+    (c.deallocate_block.ensures.step (state (back_in g d)) (filled_block (back_in g d)) (StandsFor-touched c.put_back.new.self n 2 touched (stands (back_in g d))) (held_back g d).0
+    (starts g d c.load_block_of-block.result c.load_block_of-block.ensures.block) (own g d n touched)).0
+
+-- the ghost state is the one without the payload
+kept : (g : given.Over) (c : After-deallocate g) → c.deallocate.new.self.state ≡ bare (after g c)
+kept g c = c.deallocate.ensures ∙ kept_without c.self.invariant c.start-addr.result (block g (first g c)) (held g (first g c)) refl
+
+pub invariant_of-self : goal.invariant_of-self
+invariant_of-self g c =
+    let d = first g c in
+    let k = c.args.ticket.key in
+    let gone : set c.self.inside.ledger.entries k (entry_of (extent c.args.part.start (length c.args.part.bytes) c.args.ticket.align)
+    false) ≡ c.redeem.new.self.entries =
+    (λ i. set c.self.inside.ledger.entries k
+    (entry_of (extent (c.requires.ticket.0 i) (c.requires.ticket.1 i) (c.requires.ticket.2 i))
+    false)) ∙ sym c.redeem.ensures.entries in
+    IsHeap-arrived (standing g c) c.deallocate.new.self.state (kept g c) c.self.invariant.valid c.redeem.new.self.entries
+    (subst (AreIssued (after g c)) gone (issued_gone (back_in g d)))
+    (c.self.inside.live - 1) (omega (arith, c.self.invariant.counted, less g d))
+
+-- the state that contracts see
+abbrev now : (g : given.Over) → After-deallocate g → State
+now g c = read_from c.deallocate_block.new.memory c.deallocate.new.self.state
+
+-- the address is the part's
+at : (g : given.Over) (c : After-deallocate g) → c.start-addr.result ≡ c.args.part.start
+at g c = c.start-addr.ensures
+
+did : (g : given.Over) (c : After-deallocate g) → Deallocates c.args.self.now.state c.args.part.start (now g c)
+did g c =
+    let d = first g c in
+    subst (λ addr. Deallocates c.args.self.now.state addr (now g c)) (at g c)
+    (stepped (standing g c) c.deallocate.new.self.state (kept g c) c.self.inside.memory c.self.inside.state.state c.args.self.now c.self.view_is
+    (λ old. Deallocates old c.start-addr.result) (record { block = block g d; holds = held g d; after = refl }))
+
+well : (g : given.Over) (c : After-deallocate g) → IsWellFormed g.row.FLLEN g.row.SLLEN (range_of c.args.self.now.memory) c.args.self.now.state
+well g c = view_well_formed c.self.invariant c.args.self.now c.self.view_is
+
+live : (g : given.Over) (c : After-deallocate g) → IsSomeLive c.args.self.now.state c.args.part.start
+live g c = ((did g c).block, (did g c).holds)
+
+pub returns-clause-step : goal.returns-clause-step
+returns-clause-step g c = Steps-arrived (standing g c) c.deallocate.new.self.state (kept g c) c.redeem.new.self.name (Deallocates c.args.self.now.state c.args.part.start)
+    (did g c)
+
+pub returns-clause-owner : goal.returns-clause-owner
+returns-clause-owner g c = subst (λ (o : HeapView). IsAway o.memory (piece_range c.args.part)) c.self.view_is c.put_back.ensures.away
+
+pub returns-clause-live : goal.returns-clause-live
+returns-clause-live g c =
+    let d = first g c in
+    subst (λ (v : HeapView). align_at v.state c.args.part.start ≡ Some c.args.ticket.align) c.self.view_is
+    (shown_live c.self.invariant.stands.well_formed (extent c.args.part.start (length c.args.part.bytes) c.args.ticket.align)
+    (c.self.invariant.tickets.issued c.args.ticket.key (extent c.args.part.start (length c.args.part.bytes) c.args.ticket.align) (back_in g d).known))
+
+pub returns-clause-count : goal.returns-clause-count
+returns-clause-count g c = count_gone (well g c) (now g c) c.args.part.start (live g c) (did g c)
+
+pub returns-clause-bounds : goal.returns-clause-bounds
+returns-clause-bounds g c = λ count size align sized. sized_gone (well g c) (now g c) count size align sized c.args.part.start (live g c) (did g c)
+
+pub returns-clause-gone : goal.returns-clause-gone
+returns-clause-gone g c = (gone_seen (well g c) (now g c) c.args.part.start (live g c) (did g c)).gone
+
+pub returns-clause-aligns : goal.returns-clause-aligns
+returns-clause-aligns g c = (gone_seen (well g c) (now g c) c.args.part.start (live g c) (did g c)).aligns
+
+pub returns-clause-settled : goal.returns-clause-settled
+returns-clause-settled g c = λ settled.
+    let d = first g c in
+    let b = back_in g d in
+    let touched = c.load_block_of-block.ensures.memory in
+    let first_stays = Stays-same c.put_back.new.self c.load_block_of-block.new.memory (ap (λ (o : Space). o.start) touched) (ap (λ (o : Space). o.out) touched) in
+    let last : Stays c.load_block_of-block.new.memory c.deallocate_block.new.memory =
+    record { start = c.deallocate_block.ensures.costs.start; own = c.deallocate_block.ensures.own; here = c.deallocate_block.ensures.here } in
+    let low : c.put_back.new.self.start ≤ c.args.part.start = omega (arith, (lies-usable (stands b) (filled_block b) (held_of b).0).0, (held_of b).1) in
+    settled-stays (Stays-then first_stays last)
+    (settled-back c.self.inside.memory c.put_back.new.self (piece_range c.args.part) c.put_back.ensures.start (omega (arith, low, c.put_back.ensures.start))
+    c.put_back.ensures.out (settled-inside c.self.inside.state.state c.args.self.now c.self.view_is settled))
+
+pub returns-clause-chunks : goal.returns-clause-chunks
+returns-clause-chunks g c = chunks-deallocated c.args.self.now.state (now g c) c.args.part.start (did g c)
