@@ -1,5 +1,5 @@
 -- Room for units is room for a memory of their bytes, and back. Assumes `Logic`.
-use Rattle.std.proofs.Common.{◌≡◌, ℕ, ◌+◌, ◌*◌, ◌/◌, ◌%◌, ◌≤◌, ◌<◌, Bool, true, [], ◌∷◌, refl, sym, ◌∙◌, arith}
+use Rattle.std.proofs.Common.{◌≡◌, ℕ, ◌+◌, ◌*◌, ◌/◌, ◌%◌, Bool, [], ◌∷◌, refl, sym, ◌∙◌, arith}
 use seplogic.Ra.Ura.{Ura}
 use base.Logic.{ent}
 use base.Fml.{Fml, froom}

@@ -1,5 +1,8 @@
+pub mod Grains
+pub mod Grown
 pub mod LeasedRooms
-pub mod RoomForTypes
 pub mod SlotContents
+pub mod Stretched
 pub mod Taken
+pub mod Values
 pub mod Walks

@@ -2,12 +2,12 @@
 use Rattle.std.proofs.Common.{◌≡◌, ℕ, ◌^◌, ◌<◌, ◌≤◌, ◌/◌, ◌%◌, List, [], ◌∷◌, ◌++◌, IfSome, None, Some, refl, sym, ap, subst, ◌∙◌}
 use Rattle.std.proofs.Common.{arith}
 use seplogic.Ra.Ura.{Ura}
-use mir.Syntax.{Ty, Width, w8, w16, w32, w64, w128}
-use mir.Val.{Val, vcons, vnil, of_list, bytes}
+use mir.Syntax.{Ty}
+use mir.Val.{Val, vcons, vnil, of_list}
 use base.Logic.{ent, sep, never, id⊢}
-use base.Fml.{fex, fsep, fwand, froom}
+use base.Fml.{fex, fsep, froom}
 use prog.Memory.{size, align, capped}
-use prog.Align.{Dv, align_w, align-bytes}
+use prog.Align.{align_w}
 use prog.Capped.{capped_is, capped_small}
 use types.Logic.{Logic, sem}
 use types.Kit.{Item, Goal, Seq, ‵, ◌⊛◌, ◌$◌, ◌∵◌, !, qed, move, drop, use1, split, frame, rewrite, fsplit, fpick, fpack, fjoin, feq_l, done}
@@ -25,8 +25,8 @@ use Rattle.rlsf_base.specs.contracts.memory.unit_payload.UnitPayload as payload
 use Rattle.rlsf_base.proofs.RawBlock.Spots.{spot_val, spot_own, spot_told}
 use Rattle.rlsf_heap.specs.Heap.{Identity}
 use Rattle.rlsf_heap.specs.Units.{heap_of, payload_len}
-use Rattle.rlsf_local.specs.Ownership.{block_token}
-use Rattle.rlsf_local.proofs.RoomForTypes.{retypes}
+use Rattle.rlsf_local.specs.Ownership.{beside_value, block_token}
+use Rattle.rlsf_local.proofs.Grains.{handed}
 
 abbrev pub Taken : RattleType
 Taken = option.the_row payload.the_row
@@ -34,20 +34,13 @@ Taken = option.the_row payload.the_row
 abbrev pub Told : Identity → ℕ → ℕ → Taken.Denot → Type 0
 Told r n a x = IfSome x (λ p. (heap_of p ≡ r) × (p.len ≡ payload_len n) × (n < 2 ^ 63) × (a ≤ 16))
 
-divides_16 : (w : Width) → Dv (bytes w) 16
-divides_16 w8 = tt
-divides_16 w16 = tt
-divides_16 w32 = tt
-divides_16 w64 = tt
-divides_16 w128 = tt
-
-holds : (n : ℕ) → n ≤ payload_len n
+pub holds : (n : ℕ) → n ≤ payload_len n
 holds n = omega arith
 
-whole : (n : ℕ) → payload_len n % 16 ≡ 0
+pub whole : (n : ℕ) → payload_len n % 16 ≡ 0
 whole n = omega arith
 
--- the units of a payload for n bytes are room for a type of that size, and the way back is its token
+-- the units of a payload for n bytes are room for a type of that size, and what the block has beside it is in its token
 pub hands_out : {M : Type 1} {𝓤 : Ura M} (𝓛 : Logic 𝓤) (r : Identity) (τ : Ty) (b o start key n a : ℕ) → capped (size τ) ≡ n → capped (align τ) ≡ a
     → IsPlaced r.home (block_ptr b o) start (payload_len n) → n < 2 ^ 63 → a ≤ 16
     → ent 𝓤 (sep 𝓤 (sem 𝓛 (ticket_owns r.ledger key (extent start (payload_len n) 16))) (sem 𝓛 (froom (units_ty (payload_len n / 16)) b o)))
@@ -61,15 +54,14 @@ hands_out {𝓤 = 𝓤} 𝓛 r τ b o start key n a sized aligned placed small s
     qed 𝓛 (‵ (ticket_owns r.ledger key (extent start (payload_len n) 16)) ∷ ‵ (froom (units_ty (payload_len n / 16)) b o) ∷ []) ∵
     rewrite ! 0 (λ (k : ℕ). ‵ (ticket_owns r.ledger key (extent start (payload_len k) 16))) same refl $
     rewrite ! 1 (λ (k : ℕ). ‵ (froom (units_ty (payload_len k / 16)) b o)) same refl $ move ! (1 ∷ []) $
-    use1 𝓛 (‵ (froom τ b o) ⊛ ‵ (fwand (froom τ b o) (froom (units_ty (m / 16)) b o)))
-    (retypes 𝓛 b τ o m (whole (size τ)) (holds (size τ)) (subst (λ (k : ℕ). Dv k 16) (sym (align-bytes τ)) (divides_16 (align_w τ)))) $ split ! $ frame ! $
+    use1 𝓛 (‵ (froom τ b o) ⊛ ‵ (beside_value (align_w τ) (size τ) m p)) (handed 𝓛 τ b o m (holds (size τ)) (whole (size τ))) $ split ! $ frame ! $
     move ! (1 ∷ 0 ∷ []) $ fjoin ! $
-    fpack ! (IsPlaced r.home p start m × (size τ < 2 ^ 63)) (λ _. fsep (ticket_owns r.ledger key (extent start m 16)) (fwand (froom τ b o) (froom (units_ty (m / 16)) b o)))
+    fpack ! (IsPlaced r.home p start m × (size τ < 2 ^ 63)) (λ _. fsep (ticket_owns r.ledger key (extent start m 16)) (beside_value (align_w τ) (size τ) m p))
     (is, short) $
     fpack ! ℕ (λ k. fex (IsPlaced r.home p start m × (size τ < 2 ^ 63))
-    (λ _. fsep (ticket_owns r.ledger k (extent start m 16)) (fwand (froom τ b o) (froom (units_ty (m / 16)) b o)))) key $
+    (λ _. fsep (ticket_owns r.ledger k (extent start m 16)) (beside_value (align_w τ) (size τ) m p))) key $
     fpack ! ℕ (λ j. fex ℕ (λ k. fex (IsPlaced r.home p j m × (size τ < 2 ^ 63))
-    (λ _. fsep (ticket_owns r.ledger k (extent j m 16)) (fwand (froom τ b o) (froom (units_ty (m / 16)) b o))))) start $ done !
+    (λ _. fsep (ticket_owns r.ledger k (extent j m 16)) (beside_value (align_w τ) (size τ) m p)))) start $ done !
 
 module _ {M : Type 1} {𝓤 : Ura M} {𝓛 : Logic 𝓤} {K : Type 0} {Γ : List (Item 𝓤)} {G : Goal 𝓤 𝓛.H} where
   pub taken : K → (r : Identity) (n a : ℕ) (x : Taken.Denot) (v : Val) → Told r n a x

@@ -1,3 +1,4 @@
 pub mod Leases
 pub mod Ownership
+pub mod Resized
 pub mod Tenants

@@ -1,14 +1,17 @@
 //! Heaps as the allocators of one thread's collections.
 //!
-//! `LocalHeap` (`local.rt`) is a heap behind a `&`, which a cell holds (`slot.rt`). A `Tenant` (`tenant.rt`) is one over a range
+//! `LocalHeap` (`local.rt`) is a heap (`unit_heap.rt`) behind a `&`, which a cell holds (`slot.rt`). A block that gets another
+//! size (`buffer.rt`) stays at its address where it can. A `Tenant` (`tenant.rt`) is one over a range
 //! of another heap's memory: a payload whose units are a memory of their own (`lease.rt`). Blocks are found again by their
 //! pointers alone, so that no table of them is kept.
 #![tactic(auto)]
 
+mod buffer;
 mod lease;
 mod local;
 mod slot;
 mod tenant;
+mod unit_heap;
 
 pub use lease::Lease;
 pub use local::LocalHeap;

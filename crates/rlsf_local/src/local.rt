@@ -1,20 +1,22 @@
-//! The allocator: a heap behind a `&`.
-ghost use Rattle.std.specs.Prelude.{◌≡◌, ◌^◌, ◌<◌, ◌≤◌, IfSome};
+//! The allocator: a heap behind a `&`, whose blocks grow and shrink in place where they can.
+ghost use Rattle.std.specs.Prelude.{◌≡◌, ◌*◌, ◌^◌, ◌<◌, ◌≤◌, min, IfSome, MatchResult};
+ghost use Rattle.std.specs.Mem.{type_size};
 ghost use Rattle.rlsf_base.specs.SizeClass.{IsValid};
-ghost use Rattle.rlsf_heap.specs.Units.{heap_of, payload_len};
+ghost use Rattle.rlsf_heap.specs.Units.{heap_of, heap_of_tail, payload_len};
 ghost use Rattle.rlsf_local.specs.Ownership.{block_token};
+ghost use Rattle.rlsf_local.specs.Resized.{IsAtSamePlace};
 
-use crate::slot::{Identified, Slot};
-use rlsf_base::memory::{MemoryError, OpenMemory, Range, UnitPayload};
+use crate::buffer::Buffer;
+use crate::slot::Slot;
+use crate::unit_heap::{UNIT, UnitHeap};
+use rlsf_base::memory::{MemoryError, OpenMemory, Range, UnitPayload, UnitTail};
 use rlsf_heap::Heap;
 use rlsf_int::BitPattern;
 use std::alloc::{AllocError, Allocator, Global};
 use std::cell::Cell;
 use std::fmt;
-use std::mem::ManuallyDrop;
-
-/// The greatest alignment of a block: no type of the language has a greater one.
-const UNIT: usize = 16;
+use std::marker::PhantomData;
+use std::mem::{ManuallyDrop, size_of};
 
 /// The address at which the memory of a heap begins that `LocalHeap::new` makes. Any multiple of 32 but 0 would do.
 const START: usize = 4096;
@@ -30,79 +32,23 @@ fn payload_len(size: usize) -> usize
     (size + 47) / 32 * 32 - 16
 }
 
-/// A heap that a `LocalHeap` can be over: each `Heap` is one, and each `Box` of one. A call moves it, so the `Box` is faster.
-pub trait UnitHeap: Identified + Drop {
-    /// Allocates a payload of units for `size` bytes. Returns `None` if the heap refuses it.
-    fn take(&mut self, size: usize) -> Option<UnitPayload>
-        ensures identity { Self.identity self.new ≡ Self.identity self.old }
-        ensures payload { IfSome result (λ p. (heap_of p ≡ Self.identity self.old) × (p.len ≡ payload_len size) × (size < 2 ^ 63)) };
-
-    /// Deallocates a payload of this heap.
-    fn give(&mut self, payload: UnitPayload)
-        requires { heap_of payload ≡ Self.identity self.old }
-        ensures { Self.identity self.new ≡ Self.identity self.old };
-
-    /// Returns the number of bytes of the heap's memory.
-    fn size(&self) -> usize;
-
-    /// Returns the number of payloads that are out.
-    fn live(&self) -> usize;
-}
-
-impl<FLBitmap: BitPattern, SLBitmap: BitPattern, const FLLEN: usize, const SLLEN: usize> Identified
-    for Heap<FLBitmap, SLBitmap, FLLEN, SLLEN> {
-    ghost identity = { λ h. h.identity };
-}
-
-impl<FLBitmap: BitPattern, SLBitmap: BitPattern, const FLLEN: usize, const SLLEN: usize> UnitHeap
-    for Heap<FLBitmap, SLBitmap, FLLEN, SLLEN> {
-    fn take(&mut self, size: usize) -> Option<UnitPayload> {
-        if size > isize::MAX as usize - UNIT || !self.has_units() {
-            return None;
-        }
-        self.allocate_units(size)
-    }
-
-    fn give(&mut self, payload: UnitPayload) {
-        self.deallocate_units(payload);
-    }
-
-    fn size(&self) -> usize {
-        self.memory_ref().len()
-    }
-
-    fn live(&self) -> usize {
-        Heap::live(self)
-    }
-}
-
-impl<H: UnitHeap> Identified for Box<H> {
-    ghost identity = { λ b. H.identity b.value };
-}
-
-impl<H: UnitHeap> UnitHeap for Box<H> {
-    fn take(&mut self, size: usize) -> Option<UnitPayload> {
-        (**self).take(size)
-    }
-
-    fn give(&mut self, payload: UnitPayload) {
-        (**self).give(payload);
-    }
-
-    fn size(&self) -> usize {
-        (**self).size()
-    }
-
-    fn live(&self) -> usize {
-        (**self).live()
-    }
+// Returns the length of the payload of an array of `cap` values.
+fn array_len<T>(cap: usize) -> usize
+    requires { cap * type_size T.row < 2 ^ 63 }
+    ensures { result ≡ payload_len (cap * type_size T.row) }
+{
+    payload_len(cap * size_of::<T>())
 }
 
 /// A heap as the allocator of one thread's collections, which hold a `&` to it.
 ///
-/// `allocate` and `deallocate` take a bounded number of word accesses, however many blocks are out. Alignments up to 16 are
-/// served; a greater one is refused. The heap's memory must have units of 16 bytes (`Heap::has_units`), as a memory has that
-/// the system allocated; otherwise each allocation is refused.
+/// `allocate` and `deallocate` take a bounded number of word accesses, however many blocks are out. So do `grow` and `shrink`, but
+/// for the values that move. A block that grows stays at its address if the block behind it is free and long enough, as
+/// `Heap::resize_units` says. Otherwise its values move to a new block. A block that shrinks always stays, and the heap has the
+/// bytes behind it again.
+///
+/// Alignments up to 16 are served; a greater one is refused. The heap's memory must have units of 16 bytes (`Heap::has_units`),
+/// as a memory has that the system allocated; otherwise each allocation is refused.
 ///
 /// Dropping it drops the heap, which deallocates its memory if no block is out.
 pub struct LocalHeap<H: UnitHeap> {
@@ -132,25 +78,25 @@ impl<FLBitmap: BitPattern, SLBitmap: BitPattern, const FLLEN: usize, const SLLEN
 }
 
 impl<H: UnitHeap> LocalHeap<H> {
-    /// Returns the number of bytes of the heap's memory.
+    /// Returns the number of bytes of the heap's memory. No clause states this number: nothing is known of a heap through a `&`.
     pub fn size(&self) -> usize {
         self.counts().0
     }
 
     /// Returns the number of bytes of the blocks that were allocated here and are out. A block has 16 bytes more than its
-    /// payload, which has as many bytes as were requested or up to 31 more. It takes constant time.
+    /// payload, which has as many bytes as were requested or up to 31 more. It takes constant time. No clause states this number.
     pub fn used(&self) -> usize {
         self.used.get()
     }
 
     /// Returns the number of the other bytes of the heap's memory, so that `used` and `free` together are `size`. A request
     /// for as many can be refused: a free block is needed that is long enough, and the heap keeps some bytes for itself. It
-    /// takes constant time.
+    /// takes constant time. No clause states this number.
     pub fn free(&self) -> usize {
         self.size().saturating_sub(self.used())
     }
 
-    /// Returns the number of payloads of the heap that are out.
+    /// Returns the number of payloads of the heap that are out. No clause states this number.
     pub fn live(&self) -> usize {
         self.counts().1
     }
@@ -215,6 +161,94 @@ impl<H: UnitHeap> LocalHeap<H> {
             }
         }
     }
+
+    // Gives a payload the length for `size` bytes without moving it, as `UnitHeap::resize` does. Refuses sizes that no payload has.
+    fn resize(&self, tail: UnitTail, len: usize, size: usize) -> Result<UnitTail, UnitTail>
+        requires heap { heap_of_tail tail ≡ self.now.slot }
+        requires len { len ≡ tail.len }
+        requires small { size < 2 ^ 63 }
+        requires kept { tail.kept ≡ min tail.len (payload_len size) }
+        ensures { MatchResult result (λ p. IsAtSamePlace tail p (payload_len size)) (λ p. IsAtSamePlace tail p tail.len) }
+    {
+        if size > isize::MAX as usize - UNIT {
+            return Err(tail);
+        }
+        let Some(mut heap) = self.slot.replace(None) else {
+            return Err(tail);
+        };
+        let resized = heap.resize(tail, len, size);
+        self.slot.replace(Some(heap));
+        if resized.is_ok() {
+            self.discount(len);
+            self.count(payload_len(size));
+        }
+        resized
+    }
+
+    // Gives a block with `len` values more places, in place or at another place. Returns it as it was if the heap refuses both.
+    pub(crate) fn grown<T>(
+        &self,
+        buffer: Buffer<T>,
+        len: usize,
+        old_cap: usize,
+        new_cap: usize,
+    ) -> Result<Buffer<T>, Buffer<T>>
+        requires buffer { (buffer.heap ≡ self.now.slot) × (buffer.len ≡ len) × (buffer.cap ≡ old_cap) }
+        requires sizes { (len ≤ old_cap) × (old_cap ≤ new_cap) × (new_cap * type_size T.row < 2 ^ 63) }
+        ensures { MatchResult result (λ b. (b.heap ≡ buffer.heap) × (b.len ≡ len) × (b.cap ≡ new_cap) × (b.items ≡ buffer.items))
+            (λ b. (b.ptr ≡ buffer.ptr) × (b.heap ≡ buffer.heap) × (b.len ≡ len) × (b.cap ≡ old_cap) × (b.items ≡ buffer.items)) }
+    {
+        let whole = array_len::<T>(old_cap);
+        let (seats, tail) = buffer.lend(whole, old_cap);
+        match self.resize(tail, whole, new_cap * size_of::<T>()) {
+            Ok(tail) => Ok(seats.with(tail, new_cap)),
+            Err(tail) => self.moved(seats.with(tail, old_cap), len, old_cap, new_cap),
+        }
+    }
+
+    // Gives a block with `len` values fewer places. Returns it as it was only if the heap is in use.
+    pub(crate) fn shrunk<T>(
+        &self,
+        buffer: Buffer<T>,
+        len: usize,
+        old_cap: usize,
+        new_cap: usize,
+    ) -> Result<Buffer<T>, Buffer<T>>
+        requires buffer { (buffer.heap ≡ self.now.slot) × (buffer.len ≡ len) × (buffer.cap ≡ old_cap) }
+        requires sizes { (len ≤ new_cap) × (new_cap ≤ old_cap) × (old_cap * type_size T.row < 2 ^ 63) }
+        ensures { MatchResult result (λ b. (b.heap ≡ buffer.heap) × (b.len ≡ len) × (b.cap ≡ new_cap) × (b.items ≡ buffer.items))
+            (λ b. (b.ptr ≡ buffer.ptr) × (b.heap ≡ buffer.heap) × (b.len ≡ len) × (b.cap ≡ old_cap) × (b.items ≡ buffer.items)) }
+    {
+        let whole = array_len::<T>(old_cap);
+        let (seats, tail) = buffer.lend(whole, new_cap);
+        match self.resize(tail, whole, new_cap * size_of::<T>()) {
+            Ok(tail) => Ok(seats.with(tail, new_cap)),
+            Err(tail) => Err(seats.with(tail, old_cap)),
+        }
+    }
+
+    // Moves the `len` values of a block to a new one, and deallocates the old one.
+    fn moved<T>(
+        &self,
+        buffer: Buffer<T>,
+        len: usize,
+        old_cap: usize,
+        new_cap: usize,
+    ) -> Result<Buffer<T>, Buffer<T>>
+        requires buffer { (buffer.heap ≡ self.now.slot) × (buffer.len ≡ len) × (buffer.cap ≡ old_cap) }
+        requires sizes { (len ≤ old_cap) × (len ≤ new_cap) × (old_cap * type_size T.row < 2 ^ 63) × (new_cap * type_size T.row < 2 ^ 63) }
+        ensures { MatchResult result (λ b. (b.heap ≡ buffer.heap) × (b.len ≡ len) × (b.cap ≡ new_cap) × (b.items ≡ buffer.items))
+            (λ b. (b.ptr ≡ buffer.ptr) × (b.heap ≡ buffer.heap) × (b.len ≡ len) × (b.cap ≡ old_cap) × (b.items ≡ buffer.items)) }
+    {
+        // A payload has the greatest alignment of a type.
+        let Some(payload) = self.take(new_cap * size_of::<T>(), UNIT) else {
+            return Err(buffer);
+        };
+        let whole = array_len::<T>(old_cap);
+        let (buffer, old) = buffer.move_to(payload, len, whole, new_cap);
+        self.give(old, whole);
+        Ok(buffer)
+    }
 }
 
 impl<H: UnitHeap> From<H> for LocalHeap<H> {
@@ -241,6 +275,34 @@ unsafe impl<H: UnitHeap> Allocator for LocalHeap<H> {
     unsafe fn deallocate(&self, ptr: *mut u8, size: usize, _align: usize) {
         let len = payload_len(size);
         self.give(UnitPayload { ptr, len }, len);
+    }
+
+    unsafe fn grow<T>(
+        &self,
+        ptr: *mut T,
+        len: usize,
+        old_cap: usize,
+        new_cap: usize,
+    ) -> Result<*mut T, AllocError> {
+        let marker = PhantomData;
+        match self.grown(Buffer { ptr, marker }, len, old_cap, new_cap) {
+            Ok(Buffer { ptr, marker: _ }) => Ok(ptr),
+            Err(Buffer { ptr: _, marker: _ }) => Err(AllocError),
+        }
+    }
+
+    unsafe fn shrink<T>(
+        &self,
+        ptr: *mut T,
+        len: usize,
+        old_cap: usize,
+        new_cap: usize,
+    ) -> Result<*mut T, AllocError> {
+        let marker = PhantomData;
+        match self.shrunk(Buffer { ptr, marker }, len, old_cap, new_cap) {
+            Ok(Buffer { ptr, marker: _ }) => Ok(ptr),
+            Err(Buffer { ptr: _, marker: _ }) => Err(AllocError),
+        }
     }
 }
 

@@ -39,8 +39,9 @@ impl<FLBitmap: BitPattern, SLBitmap: BitPattern, const FLLEN: usize, const SLLEN
     ghost use Rattle.rlsf_heap.specs.Units.{heap_of};
     ghost use Rattle.rlsf_local.specs.Tenants.{lessor};
 
-    /// Creates a heap over `len` bytes or up to 31 more of `pool`, which are one pool of the new heap. It takes constant
-    /// time.
+    /// Creates a heap over a range of `pool`: a payload of it for `len` bytes, which has up to 31 bytes more. The range is the
+    /// only pool of the new heap. A range of less than 64 bytes, for a `len` up to 48, holds no pool: each allocation is then
+    /// refused. It takes constant time.
     ///
     /// Returns `None` if `pool` refuses such a payload, if its memory has no units of 16 bytes, if `len` is 2^58 or more, or if
     /// the system has no memory for the new heap's own fields. Then nothing changes. The parameters must be valid

@@ -1,5 +1,5 @@
 -- Shows that `begin` makes a memory of the units, and keeps the ticket for the payload. Assumes `Logic`.
-use Rattle.std.proofs.Common.{◌≡◌, ◌∙◌, ◌+◌, ◌/◌, ◌%◌, ◌^◌, ◌<◌, ◌≤◌, Bool, true, false, T, List, [], ◌∷◌, length, refl, sym, arith}
+use Rattle.std.proofs.Common.{◌≡◌, ◌∙◌, ◌/◌, ◌%◌, ◌^◌, ◌<◌, Bool, true, false, T, List, [], ◌∷◌, length, refl, sym, arith}
 use Rattle.std.proofs.Common.{lit<, w64}
 use Rattle.std.specs.Prelude.{◌&&◌}
 use mir.Val.{Val}

@@ -3,15 +3,14 @@ use Rattle.std.proofs.Common.{◌≡◌, ℕ, ◌^◌, ◌<◌, ◌/◌, List, [
 use mir.Syntax.{Ty, Fn, Args, a_type, dcons, dnil}
 use mir.MapTy.{inst_fn}
 use mir.Val.{Val, vint, vptr, vunit}
-use base.Logic.{SProp, emp, id⊢, apply∗, never}
-use base.Fml.{ftrue, fwand, froom}
+use base.Logic.{SProp, emp, id⊢, never}
+use base.Fml.{ftrue, froom}
 use contract.BorrowLft.{◌⊑◌}
 use prog.Memory.{size, align, capped}
 use prog.Capped.{capped_is}
 use prog.Wp.{Env, WpFn}
 use contract.Monad.{fact, fact_i}
 use contract.Running.{tables}
-use types.Logic.{sem}
 use types.Kit.{‵, raw, ◌⊛◌, some, later, prop, ◌$◌, ◌∵◌, !, qed, by, move, keep, drop, use0, use1, use2, split, split3, join, pick, rewrite, regoal, fsplit}
 use types.Kit.{fjoin, fpick, feq_l, feq_i, flt_i, await}
 use types.Part.{agg}
@@ -38,7 +37,9 @@ use Rattle.rlsf_heap.specs.Heap.{Identity}
 use Rattle.rlsf_heap.specs.Units.{heap_of, payload_len}
 use Rattle.rlsf_local.specs.contracts.local.payload_len as sizer
 use Rattle.rlsf_local.proofs.local.payload_len.Met.{met as sizes}
-use Rattle.rlsf_local.specs.Ownership.{block_token}
+use Rattle.rlsf_local.specs.Ownership.{block_beside, block_token}
+use Rattle.rlsf_local.proofs.Grains.{returned}
+use Rattle.rlsf_local.proofs.Taken.{holds, whole}
 use Rattle.rlsf_local.specs.contracts.local.LocalHeap.give as callee
 use Rattle.rlsf_local.proofs.local.LocalHeap.give.Met.{met as gives}
 use Rattle.rlsf_local.proofs.Walks.{slot_at}
@@ -95,8 +96,8 @@ deallocate_spec 𝓤 𝓛 𝓜 𝓡 wired T L gU dU gI dI dd mU mI md =
     move ! (1 ∷ []) $ split ! $ heard ! Lives (λ lives. split3 ! $ heard ! Asked (λ asked.
     move ! (1 ∷ []) $ fpick !
     (λ start. fpick ! (λ key. fpick ! (λ is. fsplit ! $ move ! (2 ∷ 1 ∷ []) $ in_a_block ! from (λ p. room_for τ p) (id⊢ 𝓤 (never 𝓤)) (λ b o e.
-    rewrite ! 1 (λ (p : Ptr). ‵ (fwand (room_for τ p) (room_for (units_ty (m / 16)) p))) e refl $
-    use2 𝓛 (‵ (froom (units_ty (m / 16)) b o)) (apply∗ 𝓤 (sem 𝓛 (froom τ b o)) (sem 𝓛 (froom (units_ty (m / 16)) b o))) $
+    rewrite ! 1 (λ (p : Ptr). ‵ (block_beside τ p)) e refl $
+    use2 𝓛 (‵ (froom (units_ty (m / 16)) b o)) (returned 𝓛 τ b o m (holds (size τ)) (whole (size τ))) $
     move ! (1 ∷ 0 ∷ []) $ fjoin ! $
     let p : Ptr = block_ptr b o in let short : size τ < 2 ^ 63 = is.1 in let same : size τ ≡ n = sym (capped_is (size τ) (omega arith)) ∙ asked.0 in
     let placed : IsPlaced r.home p start m = subst (λ (u : Ptr). IsPlaced r.home u start m) e is.0 in
