@@ -213,7 +213,13 @@ static void removals(size_t kind) {
     WANT(addr >= 8224, 1);
     WANT(rlsf_remove_last(p), RLSF_IN_USE);
     ANSWER(rlsf_usable(p, addr), RLSF_OK, rlsf_usable(p, addr).value);
-    WANT(rlsf_stats(p).payloads, 1);
+    WANT(rlsf_stats(p).payloads, 2);                             /* one in each range */
+    rlsf_span spans[4];
+    WANT(rlsf_blocks(p, 0, spans, 4), 3);                        /* of the first range one, and of the other two */
+    WANT(spans[0].start == 4096 && spans[0].len == 64 && spans[0].used == 1, 1);
+    WANT(spans[1].start == 8224 && spans[1].len == 1024 && spans[1].used == 1, 1);
+    WANT(spans[2].start == 9248 && spans[2].len == 3008 && spans[2].used == 0, 1);
+    WANT(rlsf_walk(p, 4097).start, 8224);
     WANT(rlsf_free(p, addr), RLSF_OK);
     WANT(rlsf_remove_last(p), RLSF_OK);
     WANT(rlsf_stats(p).free, 0);

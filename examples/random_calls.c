@@ -15,7 +15,7 @@ typedef struct {
 
 static payload live[MOST];
 static size_t count;
-static size_t pool_start, pool_end, inserted; /* what was handed in last */
+static size_t pool_end, inserted; /* what was handed in last */
 static uint64_t state = 0x9E3779B97F4A7C15u;
 static size_t tally[16];
 
@@ -101,7 +101,6 @@ static void hand_in(rlsf_pool *pool, size_t kind) {
     if (!appends && start < pool_end) return want(a.error == RLSF_NOT_BEHIND, "a range that isn't behind", start);
     if (a.error) return want(a.error == RLSF_TOO_SHORT && len < (appends && kind == RLSF_LARGE ? 32 : 95), "a range that is long enough", len);
     want(a.value <= len && a.value + 32 > (len >= 64 ? len - 64 : 0), "the bytes that were taken", a.value);
-    if (!appends) pool_start = start;
     pool_end = start + a.value;
     inserted = 1;
 }
@@ -161,32 +160,31 @@ static void copy(rlsf_pool *pool, int writes) {
     } else
         for (size_t i = 0; i < len; i++) want(!p->known[offset + i] || bytes[i] == p->bytes[offset + i], "another byte is read", addr);
 }
-/* The blocks, and what they come to; the payloads behind the start of what was handed in last are theirs. */
+/* The blocks of all ranges, and their totals; each payload has one of them. */
 static void look(rlsf_pool *pool) {
     rlsf_statistics s = rlsf_stats(pool), sum = {0, 0, 0, 0};
     size_t end = 0, alive = 0;
     for (rlsf_block b = rlsf_walk(pool, 0); !b.error; b = rlsf_walk(pool, end)) {
-        want(b.start >= end && b.start >= pool_start && b.start + b.len <= pool_end, "a block's place", b.start);
+        want(b.start >= end && b.start >= START && b.start + b.len <= pool_end, "a block's place", b.start);
         end = b.start + b.len;
         sum.payloads += b.used;
         *(b.used ? &sum.used : &sum.free) += b.len;
         if (!b.used && b.len > sum.longest) sum.longest = b.len;
         for (size_t i = 0; i < count; i++)
-            if (live[i].addr >= b.start && live[i].addr < end) {
+            if (live[i].addr > b.start && live[i].addr <= end) { /* a payload without bytes lies at its block's end */
                 want(b.used == 1 && live[i].addr + live[i].usable == end, "a payload's block", b.start);
                 alive++;
             }
     }
     want(alive == s.payloads, "payloads in blocks", alive);
-    for (size_t i = 0; i < count; i++) alive -= live[i].addr >= pool_start;
-    want(alive == 0, "payloads without a block", alive);
+    want(alive == count, "payloads without a block", alive);
     want(!memcmp(&s, &sum, sizeof s), "statistics", s.payloads);
 }
 
 static void run(size_t kind) {
     rlsf_pool *pool = malloc(rlsf_size());
     if (!pool) abort();
-    pool_start = pool_end = START;
+    pool_end = START;
     inserted = count = 0;
     want(rlsf_init(pool, kind, START, LEN) == RLSF_OK, "init", kind);
     for (size_t i = 0; i < CALLS; i++) {

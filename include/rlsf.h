@@ -229,25 +229,24 @@ size_t rlsf_write(rlsf_pool *pool, size_t addr, size_t offset, const void *bytes
  * fewer bytes. */
 size_t rlsf_copy(rlsf_pool *pool, size_t from, size_t to, size_t len);
 
-/* Returns the totals of the blocks of the last range. These are all blocks if one range was inserted and all others were appended.
- * The time grows with the number of these blocks. */
+/* Returns the totals of the used and free blocks of all ranges. The time grows with the number of blocks and the length of the memory. */
 rlsf_statistics rlsf_stats(const rlsf_pool *pool);
 
-/* Returns the first block of the last range that begins at `from` or behind it. To iterate, begin at 0 and continue at each block's
- * start + len. The time grows with the number of blocks up to that one.
+/* Returns the first block, of any range, that begins at `from` or behind it. To iterate, begin at 0 and continue at each block's
+ * start + len. The time grows with the number of blocks up to that one and the length of the memory before it.
  *
  * Returns RLSF_NO_BLOCK exactly if it applies. */
 rlsf_block rlsf_walk(const rlsf_pool *pool, size_t from);
 
-/* Lists the blocks of the last range that begin at `from` or behind it, in address order, as three numbers each: start, length, and 1 if
+/* Lists the blocks of all ranges that begin at `from` or behind it, in address order, as three numbers each: start, length, and 1 if
  * used, else 0. Returns the number of listed blocks: all of them, or `len / 3` if there are more. The numbers behind those of the listed
- * blocks are unchanged. The time grows with the number of blocks up to the last listed one.
+ * blocks are unchanged. The time grows with the number of blocks and the length of the memory.
  *
  * The condition for `into` applies to `numbers`, which has room for `len` numbers, less than 2^60. */
 size_t rlsf_list(const rlsf_pool *pool, size_t from, size_t *numbers, size_t len);
 
 /* Fills an array of `count` blocks as rlsf_list does, and returns the number of filled ones. To go on behind a full array, pass the last
- * block's start + len as `from`. The function only calls rlsf_list. */
+ * block's start + len as `from`. 3 * count is less than 2^60. The function only calls rlsf_list. */
 static inline size_t rlsf_blocks(const rlsf_pool *pool, size_t from, rlsf_span *blocks, size_t count) {
     return rlsf_list(pool, from, &blocks->start, 3 * count);
 }

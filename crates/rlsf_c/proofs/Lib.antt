@@ -1,8 +1,5 @@
--- Lemmas, and what the walks cite.
-pub mod Lending
-pub mod Listing
+-- Lemmas, and what the exports return.
 pub mod Outcomes
+pub mod Results
 pub mod Rewritten
-pub mod Sums
-pub mod Walking
 pub mod Zero

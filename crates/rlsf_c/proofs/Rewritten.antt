@@ -20,7 +20,7 @@ use Rattle.rlsf_checked.specs.declared.error.CheckedError.{CheckedError}
 use Rattle.rlsf_checked.specs.declared.error.CheckedError.TheVariants.{UnknownAddress}
 use Rattle.rlsf_c.specs.Answers.{code_of}
 use Rattle.rlsf_c.specs.declared.answers.Answer.{Answer}
-use Rattle.rlsf_c.specs.Calls.{Allocates, AllocatesZeroed, Copies, IsKeptBut, IsNew, RemovesLast, Zeroes, zeros_for}
+use Rattle.rlsf_c.specs.Calls.{Allocates, AllocatesZeroed, Copies, IsNew, RemovesLast, Zeroes}
 use Rattle.rlsf_c.specs.Seen.{Seen, nothing, seen_in, without_payloads}
 use Rattle.rlsf_c.proofs.Outcomes.{kept_but, kept_same, number_of-some, on_done, same_range, same_unless, step_of}
 

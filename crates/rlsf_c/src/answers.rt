@@ -48,20 +48,6 @@ pub struct BlockAnswer {
     pub used: usize,
 }
 
-/// The totals of some blocks.
-#[repr(C)]
-#[derive(Clone, Copy)]
-pub struct Statistics {
-    /// The number of live payloads, one in each used block.
-    pub payloads: usize,
-    /// The total length of all used blocks in bytes, with their headers.
-    pub used: usize,
-    /// The total length of all free blocks in bytes.
-    pub free: usize,
-    /// The length of the longest free block in bytes, or 0 if there is none.
-    pub longest: usize,
-}
-
 /// Returns the number of an error.
 pub(crate) fn number(error: CheckedError) -> usize
     ensures { result ≡ number_of error }

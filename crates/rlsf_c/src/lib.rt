@@ -16,8 +16,9 @@ mod lengths;
 mod pool;
 mod walks;
 
-use answers::{Answer, BlockAnswer, Statistics};
+use answers::{Answer, BlockAnswer};
 use pool::{Pool, discard, finish, reset};
+use rlsf_blocks::Totals;
 use std::alloc::Global;
 use std::mem::size_of;
 
@@ -219,9 +220,9 @@ pub unsafe extern "C" fn rlsf_write(
     Pool::write(&mut *(pool as *mut Pool), addr, offset, bytes)
 }
 
-/// Returns the totals of the blocks of the last inserted range, with everything appended to it. Nothing changes.
+/// Returns the totals of the used and free blocks of all ranges. Nothing changes.
 #[unsafe(no_mangle)]
-pub unsafe extern "C" fn rlsf_stats(pool: *mut u8) -> Statistics
+pub unsafe extern "C" fn rlsf_stats(pool: *mut u8) -> Totals
     ghost before: { PoolValue }
     requires* { sem 𝓛 (Holds pool before) }
     ensures* { sem 𝓛 (HoldsSome pool (λ after. IsSummary (seen before) result × (after ≡ before))) }
@@ -229,8 +230,7 @@ pub unsafe extern "C" fn rlsf_stats(pool: *mut u8) -> Statistics
     Pool::stats(&mut *(pool as *mut Pool))
 }
 
-/// Returns the first block that begins at an address or behind it. It considers the blocks of the last inserted range, with everything
-/// appended to it. Nothing changes.
+/// Returns the first block, of any range, that begins at an address or behind it. Nothing changes.
 #[unsafe(no_mangle)]
 pub unsafe extern "C" fn rlsf_walk(pool: *mut u8, from: usize) -> BlockAnswer
     ghost before: { PoolValue }
@@ -240,9 +240,8 @@ pub unsafe extern "C" fn rlsf_walk(pool: *mut u8, from: usize) -> BlockAnswer
     Pool::walk(&mut *(pool as *mut Pool), from)
 }
 
-/// Lists the blocks that begin at an address or behind it, three numbers for each: where it begins, its length, and 1 if it is used, else
-/// 0. It considers the blocks of the last inserted range, with everything appended to it. Returns how many are listed: all, or as many as
-/// there is room for. Nothing else changes.
+/// Lists the blocks of all ranges that begin at an address or behind it, three numbers for each: where it begins, its length, and 1 if it
+/// is used, else 0. Returns how many are listed: all, or as many as there is room for. Nothing else changes.
 #[unsafe(no_mangle)]
 pub unsafe extern "C" fn rlsf_list(pool: *mut u8, from: usize, into: &mut [usize]) -> usize
     ghost before: { PoolValue }

@@ -6,11 +6,10 @@ ghost use Rattle.rlsf_c.specs.Calls.{Allocates, AllocatesZeroed, Appends, Copies
 ghost use Rattle.rlsf_c.specs.Seen.{IsMade, IsReset, append_result, ended, init_refusal, insert_result, seen, status_of};
 ghost use Rattle.rlsf_c.specs.Walks.{IsListing, IsNext, IsSummary};
 
-use crate::answers::{
-    Answer, BlockAnswer, NO_KIND, OK, Statistics, TOO_LONG, ZERO_START, number, refused,
-};
+use crate::answers::{Answer, BlockAnswer, NO_KIND, OK, TOO_LONG, ZERO_START, number, refused};
 use crate::{calls, walks};
 use rlsf_base::memory::{Memory, Range};
+use rlsf_blocks::{NO_TOTALS, Totals};
 use rlsf_checked::{CheckedError, CheckedTlsf};
 use std::alloc::Global;
 
@@ -218,36 +217,36 @@ impl Pool {
         }
     }
 
-    /// Returns the totals of the blocks of the last pool.
-    pub fn stats(&mut self) -> Statistics
+    /// Returns the totals of the blocks of all pools.
+    pub fn stats(&mut self) -> Totals
         ensures { IsSummary (seen self.old) result × (self.new ≡ self.old) }
     {
         match self {
-            Pool::Refused(_) => walks::NOTHING,
-            Pool::Small(heap) => walks::summary(heap.blocks()),
-            Pool::Large(heap) => walks::summary(heap.blocks()),
+            Pool::Refused(_) => NO_TOTALS,
+            Pool::Small(heap) => heap.totals(),
+            Pool::Large(heap) => heap.totals(),
         }
     }
 
-    /// Returns the first block of the last pool that begins at an address or behind it.
+    /// Returns the first block that begins at an address or behind it.
     pub fn walk(&mut self, from: usize) -> BlockAnswer
         ensures { IsNext (seen self.old) from result × (self.new ≡ self.old) }
     {
         match self {
             Pool::Refused(_) => walks::NO_BLOCK,
-            Pool::Small(heap) => walks::next_block(heap.blocks(), from),
-            Pool::Large(heap) => walks::next_block(heap.blocks(), from),
+            Pool::Small(heap) => walks::to_block(heap.next_block(from)),
+            Pool::Large(heap) => walks::to_block(heap.next_block(from)),
         }
     }
 
-    /// Lists the blocks of the last pool that begin at an address or behind it. Returns how many are listed.
+    /// Lists the blocks of all pools that begin at an address or behind it. Returns how many are listed.
     pub fn list(&mut self, from: usize, into: &mut [usize]) -> usize
         ensures { IsListing (seen self.old) from into.old result into.new × (self.new ≡ self.old) }
     {
         match self {
             Pool::Refused(_) => 0,
-            Pool::Small(heap) => walks::list(heap.blocks(), from, into),
-            Pool::Large(heap) => walks::list(heap.blocks(), from, into),
+            Pool::Small(heap) => heap.list(from, into),
+            Pool::Large(heap) => heap.list(from, into),
         }
     }
 }

@@ -1,5 +1,5 @@
 -- Contiguous chunks without a used block.
-use Rattle.std.proofs.Common.{◌≡◌, ℕ, ◌+◌, ◌<◌, ◌≤◌, ◌||◌, List, [], ◌∷◌, true, false, true≢false, arith, refl, inl, inr, sym, ap, ◌∙◌}
+use Rattle.std.proofs.Common.{◌≡◌, ℕ, ◌<◌, ◌≤◌, ◌||◌, List, [], ◌∷◌, true, false, true≢false, arith, refl, inl, inr, sym, ap, ◌∙◌}
 use Rattle.std.proofs.lemmas.Bool.{cases_lt}
 use Rattle.rlsf_base.specs.declared.memory.range.Range.{Range}
 use Rattle.rlsf_base.specs.Range.{end_of}
@@ -11,7 +11,7 @@ use Rattle.rlsf_model.specs.WellFormed.{coverage, IsWellFormed}
 use Rattle.rlsf_model.proofs.Coverage.{by_test, coverage-IsIn, coverage-some, covers-inside}
 use Rattle.rlsf_model.proofs.Payloads.{IsUsed-some}
 use Rattle.rlsf_model.proofs.Tiling.{block_of}
-use Rattle.rlsf_blocks.specs.Blocks.{AreBlocks, Block, HasBlock, used, free}
+use Rattle.rlsf_blocks.specs.Blocks.{AreBlocks, Block, used, free}
 use Rattle.rlsf_checked.specs.Steps.UsedBlocks.{has_used}
 use Rattle.rlsf_blocks.proofs.Words.Apart.{chunk_chunk, home_of_used}
 

@@ -1,7 +1,12 @@
 -- Lemmas on the checked allocator: inserted pools, refused sizes, its invariant and its parameters.
+mod Edges
+mod Gathered
 mod IdleRows
+mod Joined
 mod Pools
 mod Removed
+mod RunsByEdges
 mod SizeRefusals
 mod Standing
+mod Toggled
 mod Validity

@@ -29,8 +29,9 @@ use Rattle.rlsf_checked.specs.Answers.{append_answer, if_appended, if_taken, ins
 use Rattle.rlsf_checked.specs.Checked.{Checked}
 use Rattle.rlsf_checked.specs.declared.error.CheckedError.TheVariants.{NotBehind, NotNext, OutsideMemory}
 use Rattle.rlsf_checked.specs.declared.marks.Marks.{Marks}
-use Rattle.rlsf_checked.specs.Steps.Marks.{HasMark, mark_at, mark_of}
-use Rattle.rlsf_checked.specs.Steps.Standing.{IsChecked}
+use Rattle.rlsf_checked.specs.Steps.Marks.{HasMark, byte_at, mark_at, mark_of}
+use Rattle.rlsf_checked.specs.Steps.Standing.{AreEdges, IsChecked}
+use Rattle.rlsf_checked.proofs.Edges.{no_edges}
 
 -- no chunk of a part ends behind the last one
 end_of-cut : (fllen : ℕ) (part c : Range) → IsIn c (cut (max_pool_size fllen) part)
@@ -58,7 +59,7 @@ end_of_some c [] = (c, inl refl, refl)
 end_of_some c (d ∷ ds) = let (x, i, ends) = end_of_some d ds in (x, inr i, ends)
 
 -- so that no more is taken than the range has, and more than is skipped
-taken-within : (fllen : ℕ) (r : Range) (n : ℕ) → bytes_taken r.start (cut (max_pool_size fllen) (aligned_part r)) ≡ Some n
+pub taken-within : (fllen : ℕ) (r : Range) (n : ℕ) → bytes_taken r.start (cut (max_pool_size fllen) (aligned_part r)) ≡ Some n
     → (n ≤ r.len) × (round32 r.start < r.start + n)
 taken-within fllen r n e = go (cut (max_pool_size fllen) (aligned_part r)) refl e
   where
@@ -69,6 +70,24 @@ taken-within fllen r n e = go (cut (max_pool_size fllen) (aligned_part r)) refl 
         let (from, to, within, some) = end_of-cut fllen (aligned_part r) c (subst (IsIn c) (sym same) i) in
         let taken : end_of_last (end_of d) ds - r.start ≡ n = cc in
         (omega (arith, round32-le r.start, from, within, some, ends), omega (arith, taken, round32-le r.start, from, within, some, ends))
+
+-- no chunk ends behind what is taken of a range that is inserted behind all chunks
+pub inserted-below : (fllen : ℕ) (s t : State) (r : Range) (n : ℕ) → ((c : Range) → IsIn c s.chunks → end_of c ≤ r.start) → Inserts fllen s r (Some n) t
+    → (c : Range) → IsIn c t.chunks → end_of c ≤ r.start + n
+inserted-below fllen s t r n below step c i =
+    let cs = cut (max_pool_size fllen) (aligned_part r) in
+    elim (IsIn-with_chunks c cs s (subst (λ (x : State). IsIn c x.chunks) step.after i)) [
+      | inl made ↦
+          let (from, to, in_part, some) = end_of-cut fllen (aligned_part r) c made in
+          end_of-taken r.start n (aligned_part r).start cs c (sym step.answer) made (omega (arith, round32-le r.start, from, to)) to
+      | inr old ↦ omega (arith, below c old)
+    ]
+
+-- marks that show the same payloads, with the edges of a state
+pub record AreRenewed (m k : Marks) (s : State) : Type 0 where
+  pub marks : (a : ℕ) → mark_at k a ≡ mark_at m a
+  pub places : (a : ℕ) → HasMark m a → HasMark k a
+  pub edges : AreEdges k s
 
 module _ {fllen sllen : ℕ} {v : Allocator} {m : Marks} {pool : Range} (is : IsChecked fllen sllen v m pool) (r : Range) (behind : end_of pool ≤ r.start) where
   -- no chunk has a byte behind the last pool
@@ -82,29 +101,21 @@ module _ {fllen sllen : ℕ} {v : Allocator} {m : Marks} {pool : Range} (is : Is
   module _ (lies_in : LiesIn r v.memory.start (length v.memory.bytes)) (w : Allocator) (stands : Stands fllen sllen w) (place : SamePlace v.memory w.memory)
       (aligns : align_at w.state ≡ align_at v.state) where
     -- what was taken of the range is the last pool
-    pub handed_in : (n : ℕ) → Inserts fllen v.state r (Some n) w.state → IsChecked fllen sllen w m (range_at r.start n)
-    handed_in n step = record {
+    pub handed_in : (n : ℕ) → Inserts fllen v.state r (Some n) w.state → (k : Marks) → AreRenewed m k w.state → IsChecked fllen sllen w k (range_at r.start n)
+    handed_in n step k renewed = record {
       stands = stands;
-      marked = λ a. is.marked a ∙ ap (λ f. mark_of (f a)) (sym aligns);
-      covers = λ a even low high. is.covers a even (omega (arith, place.0, low)) (omega (arith, place.0, place.1, high));
+      marked = λ a. renewed.marks a ∙ is.marked a ∙ ap (λ f. mark_of (f a)) (sym aligns);
+      covers = λ a even low high. renewed.places a (is.covers a even (omega (arith, place.0, low)) (omega (arith, place.0, place.1, high)));
+      edged = renewed.edges;
+      some_address = omega (arith, is.some_address, place.0);
       low = omega (arith, lies_in.0, place.0);
       high = omega (arith, lies_in.1, place.0, place.1, (taken-within fllen r n (sym step.answer)).0);
-      below = below;
+      below = inserted-below fllen v.state w.state r n (λ c i. omega (arith, is.below c i, behind)) step;
       apart = apart;
       room = λ more. (taken-within fllen r n (sym step.answer)).1;
       row = IsRow-inserted fllen v.state w.state r n step;
     }
       where
-        below : (c : Range) → IsIn c w.state.chunks → end_of c ≤ r.start + n
-        below c i =
-            let cs = cut (max_pool_size fllen) (aligned_part r) in
-            elim (IsIn-with_chunks c cs v.state (subst (λ (s : State). IsIn c s.chunks) step.after i)) [
-              | inl made ↦
-                  let (from, to, in_part, some) = end_of-cut fllen (aligned_part r) c made in
-                  end_of-taken r.start n (aligned_part r).start cs c (sym step.answer) made (omega (arith, round32-le r.start, from, to)) to
-              | inr old ↦ omega (arith, is.below c old, behind)
-            ]
-
         apart : (c : Range) → IsIn c w.state.chunks → (end_of c ≤ r.start) ⊎ (r.start ≤ c.start)
         apart c i =
             let cs = cut (max_pool_size fllen) (aligned_part r) in
@@ -114,13 +125,15 @@ module _ {fllen sllen : ℕ} {v : Allocator} {m : Marks} {pool : Range} (is : Is
             ]
 
 -- an allocator to which nothing was handed, with marks that are all 0
-pub made : {fllen sllen : ℕ} (heap : Allocator) (m : Marks) → Stands fllen sllen heap → heap.state ≡ empty → ((a : ℕ) → mark_at m a ≡ 0)
+pub made : {fllen sllen : ℕ} (heap : Allocator) (m : Marks) → Stands fllen sllen heap → heap.state ≡ empty → 0 < heap.memory.start → ((a : ℕ) → byte_at m a ≡ 0)
     → ((a : ℕ) → a % 16 ≡ 0 → heap.memory.start ≤ a → a ≤ end_of (range_of heap.memory) → HasMark m a)
     → IsChecked fllen sllen heap m (range_at heap.memory.start 0)
-made heap m stands none zeros covers = record {
+made heap m stands none some zeros covers = record {
   stands = stands;
-  marked = λ a. zeros a ∙ ap mark_of (sym (ap (λ s. align_at s a) none ∙ align_at-none empty a refl));
+  marked = λ a. ap (λ b. b % 128) (zeros a) ∙ ap mark_of (sym (ap (λ s. align_at s a) none ∙ align_at-none empty a refl));
   covers = covers;
+  edged = no_edges m heap.state zeros (ap (λ (s : State). s.chunks) none);
+  some_address = some;
   low = omega arith;
   high = omega arith;
   below = λ c i. absurd (subst (λ (s : State). IsIn c s.chunks) none i);
@@ -181,7 +194,7 @@ last_chunk {pool = pool} is some =
     (c, i, omega (arith, room, high, to))
 
 -- the chunks of a range that begins where a chunk ends don't end behind what is appended of it
-appended-below : (fllen : ℕ) (s : State) (r : Range) → r.start % 32 ≡ 0 → (n : ℕ) → n ≡ appended_bytes (max_pool_size fllen) r
+pub appended-below : (fllen : ℕ) (s : State) (r : Range) → r.start % 32 ≡ 0 → (n : ℕ) → n ≡ appended_bytes (max_pool_size fllen) r
     → ((c : Range) → IsIn c s.chunks → end_of c ≤ r.start)
     → (c : Range) → IsIn c (appended (max_pool_size fllen) r s).chunks → end_of c ≤ r.start + n
 appended-below fllen s r whole n told below = go (max_pool_size fllen) refl told
@@ -244,7 +257,7 @@ appended-apart fllen s r start whole before apart = go (max_pool_size fllen) ref
     ]
 
 -- no more is taken than the range has, and where nothing is, nothing changes
-appended-le : (fllen : ℕ) (s : State) (r : Range) → (appended_bytes (max_pool_size fllen) r ≤ r.len) × ((t : State) → Appends fllen s r 0 t → t ≡ s)
+pub appended-le : (fllen : ℕ) (s : State) (r : Range) → (appended_bytes (max_pool_size fllen) r ≤ r.len) × ((t : State) → Appends fllen s r 0 t → t ≡ s)
 appended-le fllen s r = go (max_pool_size fllen) refl
   where
     cut-le : (most : ℕ) → max_pool_size fllen ≡ Some most → (cs : List Range) → cut (Some most) (aligned_part r) ≡ cs
@@ -278,14 +291,14 @@ module _ {fllen sllen : ℕ} {v : Allocator} {m : Marks} {pool : Range} (is : Is
       let (c, i, ends) = last_chunk is some in
       record { fresh = IsFresh-untouched (range_of v.memory) v.state r lies_in (untouched is r (omega (arith, next))); chunk = c; is_chunk = i; ends = ends ∙ sym next }
 
-  whole_start : r.start % 32 ≡ 0
+  pub whole_start : r.start % 32 ≡ 0
   unfolding Stands
   whole_start =
       let (c, i, ends) = last_chunk is some in
       let whole = (is.stands.stands.well_formed.chunks c i).whole in
       omega (arith, whole.start, whole.len, ends, next)
 
-  longer_row : (w : Allocator) (n : ℕ) → Appends fllen v.state r n w.state → IsRow w.state (walked (range_at pool.start (pool.len + n)))
+  pub longer_row : (w : Allocator) (n : ℕ) → Appends fllen v.state r n w.state → IsRow w.state (walked (range_at pool.start (pool.len + n)))
   unfolding Stands
   longer_row w n step =
       let room = is.room some in
@@ -294,14 +307,22 @@ module _ {fllen sllen : ℕ} {v : Allocator} {m : Marks} {pool : Range} (is : Is
       let long : p.len + n ≡ pool.start + (pool.len + n) - p.start = omega (arith, room) in
       subst (λ l. IsRow w.state (range_at p.start l)) long (IsRow-appended is.stands.stands.well_formed r p ends (omega (arith, room)) is.row n w.state step)
 
+  -- no more is taken than the range has, so its end fits in a word
+  pub appended_fits : (w : Allocator) (n : ℕ) → Appends fllen v.state r n w.state → (n ≤ r.len) × (end_of pool + n < 2 ^ 64)
+  unfolding Stands
+  appended_fits w n step =
+      let few : n ≤ r.len = omega (arith, step.answer, (appended-le fllen v.state r).0) in
+      (few, omega (arith, few, lies_in.1, is.stands.stands.well_formed.addressable, next))
+
   -- the last pool is longer by what was taken
   pub handed_on : (w : Allocator) → Stands fllen sllen w → SamePlace v.memory w.memory → align_at w.state ≡ align_at v.state → (n : ℕ)
-      → Appends fllen v.state r n w.state
-      → IsChecked fllen sllen w m (range_at pool.start (pool.len + n))
-  handed_on w stands place aligns n step = record {
+      → Appends fllen v.state r n w.state → (k : Marks) → AreRenewed m k w.state → IsChecked fllen sllen w k (range_at pool.start (pool.len + n))
+  handed_on w stands place aligns n step k renewed = record {
     stands = stands;
-    marked = λ a. is.marked a ∙ ap (λ f. mark_of (f a)) (sym aligns);
-    covers = λ a even low high. is.covers a even (omega (arith, place.0, low)) (omega (arith, place.0, place.1, high));
+    marked = λ a. renewed.marks a ∙ is.marked a ∙ ap (λ f. mark_of (f a)) (sym aligns);
+    covers = λ a even low high. renewed.places a (is.covers a even (omega (arith, place.0, low)) (omega (arith, place.0, place.1, high)));
+    edged = renewed.edges;
+    some_address = omega (arith, is.some_address, place.0);
     low = omega (arith, is.low, place.0);
     high = omega (arith, lies_in.1, place.0, place.1, next, step.answer, (appended-le fllen v.state r).0);
     below = λ c i. omega (

@@ -1,5 +1,5 @@
 -- What is true of a checked allocator's fields once the last pool was removed, and once all were.
-use Rattle.std.proofs.Common.{◌≡◌, ℕ, ◌<◌, ◌≤◌, ◌⊎◌, false, true, true≢false, List, arith, refl, sym, ◌∙◌, ap, subst, inl, inr}
+use Rattle.std.proofs.Common.{◌≡◌, ℕ, ◌≤◌, false, true, true≢false, List, arith, sym, ◌∙◌, ap, subst, inl, inr}
 use Rattle.rlsf_base.specs.declared.memory.range.Range.{Range}
 use Rattle.rlsf_base.specs.Range.{end_of, range_at}
 use Rattle.rlsf_base.specs.Rounding.{round32}
@@ -15,9 +15,10 @@ use Rattle.rlsf_model.proofs.Removals.{IsIn-outside, lies_within-le}
 use Rattle.rlsf_tlsf.specs.Allocator.{Allocator, Stands}
 use Rattle.rlsf_checked.specs.Steps.UsedBlocks.{has_used}
 use Rattle.rlsf_checked.specs.declared.marks.Marks.{Marks}
-use Rattle.rlsf_checked.specs.Steps.Marks.{HasMark, mark_at, mark_of}
+use Rattle.rlsf_checked.specs.Steps.Marks.{mark_of}
 use Rattle.rlsf_checked.specs.Steps.Standing.{IsChecked}
 use Rattle.rlsf_checked.proofs.IdleRows.{idle_if, used_if}
+use Rattle.rlsf_checked.proofs.Pools.{AreRenewed}
 
 module _ {fllen sllen : ℕ} {v : Allocator} {m : Marks} {pool : Range} (is : IsChecked fllen sllen v m pool) where
   pub well_formed : IsWellFormed fllen sllen (range_of v.memory) v.state
@@ -36,7 +37,7 @@ module _ {fllen sllen : ℕ} {v : Allocator} {m : Marks} {pool : Range} (is : Is
     old_chunk c i = (IsIn-outside (walked pool) c v.state.chunks (subst (λ (s : State). IsIn c s.chunks) removes i)).0
 
     -- a chunk that is left ends where the pool began, or before
-    left_below : (c : Range) → IsIn c w.state.chunks → end_of c ≤ pool.start
+    pub left_below : (c : Range) → IsIn c w.state.chunks → end_of c ≤ pool.start
     left_below c i =
         let (j, out) = IsIn-outside (walked pool) c v.state.chunks (subst (λ (s : State). IsIn c s.chunks) removes i) in
         elim (is.apart c j) [
@@ -50,11 +51,14 @@ module _ {fllen sllen : ℕ} {v : Allocator} {m : Marks} {pool : Range} (is : Is
         ]
 
     -- what was the last pool is empty
-    pub removed_last : Stands fllen sllen w → SamePlace v.memory w.memory → align_at w.state ≡ align_at v.state → IsChecked fllen sllen w m (range_at pool.start 0)
-    removed_last stands place aligns = record {
+    pub removed_last : Stands fllen sllen w → SamePlace v.memory w.memory → align_at w.state ≡ align_at v.state → (k : Marks) → AreRenewed m k w.state
+        → IsChecked fllen sllen w k (range_at pool.start 0)
+    removed_last stands place aligns k renewed = record {
       stands = stands;
-      marked = λ a. is.marked a ∙ ap (λ f. mark_of (f a)) (sym aligns);
-      covers = λ a even low high. is.covers a even (omega (arith, place.0, low)) (omega (arith, place.0, place.1, high));
+      marked = λ a. renewed.marks a ∙ is.marked a ∙ ap (λ f. mark_of (f a)) (sym aligns);
+      covers = λ a even low high. renewed.places a (is.covers a even (omega (arith, place.0, low)) (omega (arith, place.0, place.1, high)));
+      edged = renewed.edges;
+      some_address = omega (arith, is.some_address, place.0);
       low = omega (arith, is.low, place.0);
       high = omega (arith, is.high, place.0, place.1);
       below = λ c i. omega (arith, left_below c i);

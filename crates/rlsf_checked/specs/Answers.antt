@@ -1,5 +1,5 @@
 -- The results of the calls, and when each error is returned.
-use Rattle.std.specs.Prelude.{◌≡◌, ◌==◌, ℕ, zero, suc, ◌+◌, ◌^◌, Bool, false, ◌&&◌, ◌||◌, List, [], ◌∷◌, length, nat_le, nat_lt, Option, Some}
+use Rattle.std.specs.Prelude.{◌≡◌, ◌==◌, ℕ, zero, suc, ◌+◌, ◌^◌, Bool, ◌&&◌, List, length, nat_le, nat_lt, Option, Some}
 use Rattle.std.specs.Prelude.{None, Result, Ok, Err, IfErr, if◌then◌else◌}
 use Rattle.std.specs.declared.num.NonZeroUsize.{NonZeroUsize}
 use Rattle.rlsf_base.specs.declared.memory.range.Range.{Range}
@@ -7,7 +7,6 @@ use Rattle.rlsf_base.specs.Addr.{at}
 use Rattle.rlsf_base.specs.Range.{end_of}
 use Rattle.rlsf_base.specs.Sizes.{max_pool_size}
 use Rattle.rlsf_base.specs.Space.{range_of}
-use Rattle.rlsf_blocks.specs.Blocks.{Block}
 use Rattle.rlsf_model.specs.Callers.{align_at, bytes_at}
 use Rattle.rlsf_model.specs.Insert.{aligned_part, appended_bytes, bytes_taken, cut}
 use Rattle.rlsf_model.specs.State.{State}

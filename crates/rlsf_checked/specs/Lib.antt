@@ -1,4 +1,5 @@
 -- Definitions for the checked allocator. Read `Checked` and `Answers` first.
+pub mod AllBlocks
 pub mod Answers
 pub mod Checked
 pub mod Steps

@@ -1,6 +1,7 @@
 //! The bytes of payloads that the allocator itself writes.
 
 ghost use Rattle.std.specs.Prelude.{◌≡◌, ◌≢◌, ◌≤◌, ◌+◌, ◌&&◌, ℕ, length, nat_le, replicate, OnErr, OnOk};
+ghost use Rattle.std.specs.List.{splice};
 ghost use Rattle.rlsf_base.specs.Addr.{at};
 ghost use Rattle.rlsf_base.specs.Space.{SamePlace};
 ghost use Rattle.rlsf_model.specs.Callers.{align_at, bytes_at, copied_over};
@@ -96,4 +97,13 @@ fn fill_all(bytes: &mut [u8], value: u8)
     ensures { bytes.new ≡ replicate (length bytes.old) value }
 {
     bytes.fill(value);
+}
+
+/// Overwrites bytes of a payload, from an offset on.
+pub(crate) fn write_at(payload: &mut [u8], offset: usize, bytes: &[u8])
+    requires { offset + length bytes.now ≤ length payload.old }
+    ensures bytes { payload.new ≡ splice payload.old offset (offset + length bytes.now) bytes.now }
+    ensures len { length payload.new ≡ length payload.old }
+{
+    payload[offset..offset + bytes.len()].copy_from_slice(bytes);
 }

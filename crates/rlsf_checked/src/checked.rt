@@ -1,7 +1,6 @@
 //! The allocator with a mark for each address at which a payload may be live.
 
 ghost use Rattle.std.specs.Prelude.{◌≡◌, ◌≢◌, ◌≤◌, ◌<◌, ◌+◌, ◌*◌, ◌%◌, ◌^◌, ℕ, length, drop, take, nat_le, is_some, if◌then◌else◌, IfErr, IfOk, IfSome, IsErrOf, IsOk, IsSome, None, OnErr, OnOk, Some, ◌↔◌};
-ghost use Rattle.std.specs.List.{splice};
 ghost use Rattle.std.specs.Map.Iter.{GivesInOrder};
 ghost use Rattle.rlsf_base.specs.Addr.{at};
 ghost use Rattle.rlsf_base.specs.PowerOfTwo.{IsPowerOfTwo};
@@ -23,10 +22,12 @@ ghost use Rattle.rlsf_tlsf.specs.Allocator.{Steps, Stands};
 ghost use Rattle.rlsf_checked.specs.Answers.{IsRefusedBy, append_answer, fits, if_in_range, if_live, insert_answer, is_next, is_within, addr_in, refusal_at, taken};
 ghost use Rattle.rlsf_checked.specs.declared.error.CheckedError.TheVariants.{InvalidClasses, NoRoom, OutOfMemory, UnknownAddress};
 
+use crate::bytes::write_at;
 use crate::classes::are_valid;
 use crate::error::CheckedError;
 use crate::marks::{Marks, align_of, mark_of};
 use rlsf_base::memory::{Addr, Layout, Memory, Range};
+use rlsf_base::rounding::next_multiple_of_32;
 use rlsf_blocks::{BlockInfo, Blocks};
 use rlsf_int::{BitPattern, Bitmap};
 use rlsf_tlsf::Tlsf;
@@ -36,7 +37,8 @@ use std::marker::Model;
 /// An allocator whose calls have no preconditions: each call tests its arguments, and refuses those that a caller may not pass.
 ///
 /// A mark is a byte for each 16 addresses of the memory. It records whether a payload begins there, and with which alignment. Each call
-/// reads one mark and writes at most two. After `new`, the allocator requests nothing from the system.
+/// reads one mark and writes at most two. The byte's highest bit is set where a run of contiguous chunks begins or ends, so that the blocks
+/// of all pools can be found. After `new`, the allocator requests nothing from the system.
 #[derive(Drop)]
 pub struct CheckedTlsf<
     FLBitmap: BitPattern,
@@ -172,6 +174,8 @@ impl<
             start: range.start,
             len: taken.get(),
         };
+        self.marks.flip(next_multiple_of_32(range.start));
+        self.marks.flip(range.start + taken.get());
         Ok(taken.get())
     }
 
@@ -217,6 +221,8 @@ impl<
             start: pool.start,
             len: pool.len + taken,
         };
+        self.marks.flip(range.start);
+        self.marks.flip(range.start + taken);
         Ok(taken)
     }
 
@@ -483,13 +489,4 @@ fn reaches(offset: usize, len: usize, usable: usize) -> bool
     ensures { result ≡ nat_le (offset + len) usable }
 {
     offset <= usable && len <= usable - offset
-}
-
-/// Overwrites bytes of a payload, from an offset on.
-fn write_at(payload: &mut [u8], offset: usize, bytes: &[u8])
-    requires { offset + length bytes.now ≤ length payload.old }
-    ensures bytes { payload.new ≡ splice payload.old offset (offset + length bytes.now) bytes.now }
-    ensures len { length payload.new ≡ length payload.old }
-{
-    payload[offset..offset + bytes.len()].copy_from_slice(bytes);
 }

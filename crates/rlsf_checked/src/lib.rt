@@ -1,10 +1,12 @@
 //! An allocator that refuses each call that its caller may not make, in place of preconditions.
 //!
 //! Read `specs/Checked` (the allocator as contracts see it) and `specs/Answers` (when each error is returned) first, then `src/checked`, which
-//! has all calls. `src/error` has the errors. `src/marks` keeps a mark for each address at which a payload may be. `src/classes` and
-//! `src/lengths` test parameters and lengths. `specs/Steps` is for private functions.
+//! has most calls. `src/error` has the errors. `src/marks` keeps a mark for each address at which a payload may be, and an edge where
+//! contiguous chunks begin or end. `src/runs` and `src/all_blocks` find the blocks of all pools by these. `src/classes` and `src/lengths`
+//! test parameters and lengths. `specs/Steps` is for private functions.
 #![tactic(auto)]
 
+mod all_blocks;
 mod bytes;
 mod checked;
 mod classes;
@@ -12,6 +14,7 @@ mod error;
 mod lengths;
 mod marks;
 mod removal;
+mod runs;
 
 pub use checked::CheckedTlsf;
 pub use error::CheckedError;

@@ -2,7 +2,6 @@
 
 ghost use Rattle.std.specs.Prelude.{◌≡◌, ◌≤◌, ◌↔◌, true, false};
 ghost use Rattle.rlsf_base.specs.Range.{range_at};
-ghost use Rattle.rlsf_base.specs.SizeClass.{IsValid};
 ghost use Rattle.rlsf_base.specs.Space.{SamePlace};
 ghost use Rattle.rlsf_model.specs.Callers.{align_at, bytes_at};
 ghost use Rattle.rlsf_model.specs.Remove.{IsIdle, Removes};
@@ -14,6 +13,7 @@ ghost use Rattle.rlsf_checked.specs.Steps.UsedBlocks.{has_used};
 
 use crate::checked::CheckedTlsf;
 use rlsf_base::memory::Range;
+use rlsf_base::rounding::next_multiple_of_32;
 use rlsf_blocks::Blocks;
 use rlsf_int::BitPattern;
 use rlsf_tlsf::Tlsf;
@@ -52,15 +52,17 @@ impl<
             start: pool.start,
             len: 0,
         };
+        if pool.len == 0 {
+            return true;
+        }
+        self.marks.flip(next_multiple_of_32(pool.start));
+        self.marks.flip(pool.start + pool.len);
         true
     }
 
     /// Returns the allocator without payloads and without a pool, over the same memory, whose bytes are unchanged. Nothing is requested
     /// from the system.
-    ///
-    /// The parameters are valid, as those of each allocator that `new` returns.
     pub fn reset(self) -> Self
-        requires { IsValid FLBitmap.width SLBitmap.width FLLEN SLLEN }
         ensures state { result.heap.state ≡ empty }
         ensures count { live_count result.heap.state ≡ 0 }
         ensures memory { result.heap.memory ≡ self.heap.memory }
@@ -72,6 +74,8 @@ impl<
             mut marks,
             ..
         } = self;
+        // What `memory_ref` says of every allocator: its parameters are valid.
+        let _ = heap.memory_ref();
         let memory = heap.into_memory();
         let pool = Range {
             start: memory.start(),

@@ -14,8 +14,9 @@ invariant_of-self g c =
 pub set-requires : goal.set-requires
 set-requires g c =
     let did = c.in-Some.ensures in
-    subst (HasMark c.self.inside.marks) (sym c.get.ensures.value)
-    (has_mark c.self.invariant c.allocate.new.self (stands_after _ _ _ _ _ did.step) did.place (at c.in-Some.addr) c.args.layout.align did.live)
+    let there = subst (HasMark c.self.inside.marks) (sym c.get.ensures.value)
+    (has_mark c.self.invariant c.allocate.new.self (stands_after _ _ _ _ _ did.step) did.place (at c.in-Some.addr) c.args.layout.align did.live) in
+    record { place = there; small = c.mark_of.ensures.small }
 
 pub invariant_of-self-2 : goal.invariant_of-self-2
 invariant_of-self-2 g c =
@@ -25,8 +26,8 @@ invariant_of-self-2 g c =
     let addr = at c.in-Some.addr in
     let here : mark_at marks addr ≡ mark_of (align_at heap.state addr) =
     subst (λ a. mark_at marks a ≡ suc (floor_log2 c.args.layout.align)) c.get.ensures.value
-    (c.set.ensures.here ∙ c.mark_of.ensures ∙ ap (λ n. suc (floor_log2 n)) c.align.ensures.value) ∙ sym (ap mark_of did.live) in
-    marked_at c.self.invariant heap marks addr (stands_after _ _ _ _ _ did.step) did.place did.chunks c.set.ensures.places here
+    (c.set.ensures.here ∙ c.mark_of.ensures.value ∙ ap (λ n. suc (floor_log2 n)) c.align.ensures.value) ∙ sym (ap mark_of did.live) in
+    marked_at c.self.invariant heap marks addr (stands_after _ _ _ _ _ did.step) did.place did.chunks c.set.ensures.places c.set.ensures.edges here
     (λ a apart. c.set.ensures.others a (λ same. apart (same ∙ c.get.ensures.value))) did.aligns
 
 pub returns-in_default : goal.returns-in_default

@@ -1,12 +1,13 @@
-use Rattle.std.proofs.Common.{rules, ◌≡◌, ◌+◌, true, arith, refl, sym, ◌∙◌, ap, subst, false}
-use Rattle.rlsf_base.specs.Range.{range_at}
+use Rattle.std.proofs.Common.{rules, ◌≡◌, true, arith, refl, sym, ◌∙◌, ap, subst, false}
 use Rattle.rlsf_base.specs.Space.{range_of}
 use Rattle.rlsf_model.specs.Insert.{Appends}
+use Rattle.rlsf_model.specs.State.{State}
 use Rattle.rlsf_checked.specs.Answers.{if_appended, is_next, is_within}
 use Rattle.rlsf_checked.specs.Checked.{checked}
-use Rattle.rlsf_checked.specs.Steps.Standing.{IsChecked}
-use Rattle.rlsf_checked.proofs.Pools.{handed_on, next_answer, next_is, next_range, none_apart, none_appended, none_outside, pool_fits, some_appended, within_is}
-use Rattle.rlsf_checked.proofs.Standing.{stands_after, step_of}
+use Rattle.rlsf_checked.proofs.Edges.{flips}
+use Rattle.rlsf_checked.proofs.Pools.{appended_fits, handed_on, next_answer, next_is, next_range, none_apart, none_appended, none_outside, pool_fits, some_appended, within_is}
+use Rattle.rlsf_checked.proofs.Standing.{stands_after, step_of, unchanged}
+use Rattle.rlsf_checked.proofs.Toggled.{appended_edges, appended_place}
 use Rattle.rlsf_checked.proofs.checked.CheckedTlsf.append.Goals as goal
 
 pub is_next-requires : goal.is_next-requires
@@ -23,18 +24,12 @@ append_free_block_ptr-taken-requires g c =
 
 pub invariant_of-self : goal.invariant_of-self
 invariant_of-self g c =
-    let within : true ≡ is_within (range_of c.self.inside.heap.memory) c.args.range =
-    sym c.if-not-lies_in.false ∙ c.lies_in.ensures ∙ ap (λ m. is_within (range_of m) c.args.range) c.memory_ref.ensures.memory in
-    let lies = within_is (range_of c.self.inside.heap.memory) c.args.range within in
-    let is : true ≡ is_next c.self.inside.pool c.args.range.start = sym c.if-not-is_next.false ∙ c.is_next.ensures in
-    let (some, ends) = next_is c.self.inside.pool c.args.range is in
     let heap = c.append_free_block_ptr-taken.new.self in
-    let n = c.append_free_block_ptr-taken.result in
     let did = c.append_free_block_ptr-taken.ensures in
-    let step : Appends g.row.FLLEN c.self.inside.heap.state c.args.range n heap.state = step_of _ _ _ _ _ did.step in
-    let same : c.self.inside.pool.len + n ≡ c.self.inside.pool.len = omega (arith, c.if-taken-eq0.true) in
-    subst (λ l. IsChecked g.row.FLLEN g.row.SLLEN heap c.self.inside.marks (range_at c.self.inside.pool.start l)) same
-    (handed_on c.self.invariant c.args.range some ends lies heap (stands_after _ _ _ _ _ did.step) did.place did.aligns n step)
+    let step : Appends g.row.FLLEN c.self.inside.heap.state c.args.range c.append_free_block_ptr-taken.result heap.state = step_of _ _ _ _ _ did.step in
+    let same : heap.state ≡ c.self.inside.heap.state = none_appended g.row.FLLEN c.self.inside.heap.state heap.state c.args.range
+    (subst (λ k. Appends g.row.FLLEN c.self.inside.heap.state c.args.range k heap.state) c.if-taken-eq0.true step) in
+    unchanged c.self.invariant heap (stands_after _ _ _ _ _ did.step) did.place (ap (λ (s : State). s.chunks) same) did.aligns
 
 pub overflow_add-self : goal.overflow_add-self
 overflow_add-self g c =
@@ -47,8 +42,50 @@ overflow_add-self g c =
     let n = c.append_free_block_ptr-taken.result in
     let did = c.append_free_block_ptr-taken.ensures in
     let step : Appends g.row.FLLEN c.self.inside.heap.state c.args.range n heap.state = step_of _ _ _ _ _ did.step in
-    let fits = pool_fits (handed_on c.self.invariant c.args.range some ends lies heap (stands_after _ _ _ _ _ did.step) did.place did.aligns n step) in
+    let fits = appended_fits c.self.invariant c.args.range some ends lies heap n step in
     record { fits = omega (arith, fits) }
+
+pub flip-requires : goal.flip-requires
+flip-requires g c =
+    let within : true ≡ is_within (range_of c.self.inside.heap.memory) c.args.range =
+    sym c.if-not-lies_in.false ∙ c.lies_in.ensures ∙ ap (λ m. is_within (range_of m) c.args.range) c.memory_ref.ensures.memory in
+    let lies = within_is (range_of c.self.inside.heap.memory) c.args.range within in
+    let is : true ≡ is_next c.self.inside.pool c.args.range.start = sym c.if-not-is_next.false ∙ c.is_next.ensures in
+    let (some, ends) = next_is c.self.inside.pool c.args.range is in
+    let heap = c.append_free_block_ptr-taken.new.self in
+    let n = c.append_free_block_ptr-taken.result in
+    let did = c.append_free_block_ptr-taken.ensures in
+    let step : Appends g.row.FLLEN c.self.inside.heap.state c.args.range n heap.state = step_of _ _ _ _ _ did.step in
+    let stands = stands_after _ _ _ _ _ did.step in
+    (appended_place c.self.invariant heap stands c.args.range n some ends lies (omega (arith, c.if-taken-eq0.false)) step).low
+
+pub overflow_add-range : goal.overflow_add-range
+overflow_add-range g c =
+    let within : true ≡ is_within (range_of c.self.inside.heap.memory) c.args.range =
+    sym c.if-not-lies_in.false ∙ c.lies_in.ensures ∙ ap (λ m. is_within (range_of m) c.args.range) c.memory_ref.ensures.memory in
+    let lies = within_is (range_of c.self.inside.heap.memory) c.args.range within in
+    let is : true ≡ is_next c.self.inside.pool c.args.range.start = sym c.if-not-is_next.false ∙ c.is_next.ensures in
+    let (some, ends) = next_is c.self.inside.pool c.args.range is in
+    let heap = c.append_free_block_ptr-taken.new.self in
+    let n = c.append_free_block_ptr-taken.result in
+    let did = c.append_free_block_ptr-taken.ensures in
+    let step : Appends g.row.FLLEN c.self.inside.heap.state c.args.range n heap.state = step_of _ _ _ _ _ did.step in
+    let fits = appended_fits c.self.invariant c.args.range some ends lies heap n step in
+    record { fits = omega (arith, fits, ends) }
+
+pub flip-requires-2 : goal.flip-requires-2
+flip-requires-2 g c =
+    let within : true ≡ is_within (range_of c.self.inside.heap.memory) c.args.range =
+    sym c.if-not-lies_in.false ∙ c.lies_in.ensures ∙ ap (λ m. is_within (range_of m) c.args.range) c.memory_ref.ensures.memory in
+    let lies = within_is (range_of c.self.inside.heap.memory) c.args.range within in
+    let is : true ≡ is_next c.self.inside.pool c.args.range.start = sym c.if-not-is_next.false ∙ c.is_next.ensures in
+    let (some, ends) = next_is c.self.inside.pool c.args.range is in
+    let heap = c.append_free_block_ptr-taken.new.self in
+    let n = c.append_free_block_ptr-taken.result in
+    let did = c.append_free_block_ptr-taken.ensures in
+    let step : Appends g.row.FLLEN c.self.inside.heap.state c.args.range n heap.state = step_of _ _ _ _ _ did.step in
+    let stands = stands_after _ _ _ _ _ did.step in
+    c.flip.ensures.places _ (appended_place c.self.invariant heap stands c.args.range n some ends lies (omega (arith, c.if-taken-eq0.false)) step).high
 
 pub invariant_of-self-2 : goal.invariant_of-self-2
 invariant_of-self-2 g c =
@@ -61,7 +98,11 @@ invariant_of-self-2 g c =
     let n = c.append_free_block_ptr-taken.result in
     let did = c.append_free_block_ptr-taken.ensures in
     let step : Appends g.row.FLLEN c.self.inside.heap.state c.args.range n heap.state = step_of _ _ _ _ _ did.step in
-    handed_on c.self.invariant c.args.range some ends lies heap (stands_after _ _ _ _ _ did.step) did.place did.aligns n step
+    let stands = stands_after _ _ _ _ _ did.step in
+    let first = flips c.flip.ensures.here c.flip.ensures.others c.flip.ensures.marks c.flip.ensures.places in
+    let second = flips c.flip-2.ensures.here c.flip-2.ensures.others c.flip-2.ensures.marks c.flip-2.ensures.places in
+    handed_on c.self.invariant c.args.range some ends lies heap stands did.place did.aligns n step c.flip-2.new.self
+    (appended_edges c.self.invariant heap stands c.args.range n some ends lies (omega (arith, c.if-taken-eq0.false)) step c.flip.new.self c.flip-2.new.self first second)
 
 pub returns-then-not-lies_in : goal.returns-then-not-lies_in
 returns-then-not-lies_in g c = record {

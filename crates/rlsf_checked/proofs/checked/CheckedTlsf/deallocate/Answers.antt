@@ -1,4 +1,4 @@
-use Rattle.std.proofs.Common.{rules, ◌≡◌, Some, refl, sym, ◌∙◌, ap, subst}
+use Rattle.std.proofs.Common.{rules, ◌≡◌, Some, arith, refl, sym, ◌∙◌, ap, subst}
 use Rattle.rlsf_base.specs.Addr.{at}
 use Rattle.rlsf_model.specs.Callers.{align_at}
 use Rattle.rlsf_checked.specs.Answers.{if_live}
@@ -9,8 +9,9 @@ use Rattle.rlsf_checked.proofs.checked.CheckedTlsf.deallocate.Goals as goal
 pub set-requires : goal.set-requires
 set-requires g c =
     let live : align_at c.self.inside.heap.state (at c.args.addr) ≡ Some c.in-Some.align = sym (rw (← c.self.view_is) at c.in-Some.ensures.value) in
-    subst (HasMark c.self.inside.marks) (sym c.get.ensures.value)
-    (has_mark c.self.invariant c.self.inside.heap c.self.invariant.stands (refl, refl, refl, λ none. none) (at c.args.addr) c.in-Some.align live)
+    let there = subst (HasMark c.self.inside.marks) (sym c.get.ensures.value)
+    (has_mark c.self.invariant c.self.inside.heap c.self.invariant.stands (refl, refl, refl, λ none. none) (at c.args.addr) c.in-Some.align live) in
+    record { place = there; small = omega arith }
 
 pub invariant_of-self : goal.invariant_of-self
 invariant_of-self g c =
@@ -20,7 +21,7 @@ invariant_of-self g c =
     let addr = at c.args.addr in
     let here : mark_at marks addr ≡ mark_of (align_at heap.state addr) =
     subst (λ a. mark_at marks a ≡ 0) c.get.ensures.value c.set.ensures.here ∙ sym (ap mark_of did.gone) in
-    marked_at c.self.invariant heap marks addr (stands_after _ _ _ _ _ did.step) did.place did.chunks c.set.ensures.places here
+    marked_at c.self.invariant heap marks addr (stands_after _ _ _ _ _ did.step) did.place did.chunks c.set.ensures.places c.set.ensures.edges here
     (λ a apart. c.set.ensures.others a (λ same. apart (same ∙ c.get.ensures.value))) did.aligns
 
 pub returns-in-Some : goal.returns-in-Some

@@ -1,4 +1,4 @@
-use Rattle.std.proofs.Common.{rules, ◌≡◌, ◌≤◌, true, Ok, Some, None, arith, refl, sym, ◌∙◌, ap, subst, false}
+use Rattle.std.proofs.Common.{rules, ◌≡◌, ◌+◌, ◌^◌, ◌<◌, ◌≤◌, true, Ok, Some, None, arith, refl, sym, ◌∙◌, ap, subst, false}
 use Rattle.rlsf_base.specs.Addr.{at}
 use Rattle.rlsf_base.specs.Range.{end_of, range_at}
 use Rattle.rlsf_base.specs.Space.{range_of}
@@ -7,7 +7,10 @@ use Rattle.rlsf_model.specs.State.{State}
 use Rattle.rlsf_tlsf.specs.Allocator.{Steps}
 use Rattle.rlsf_checked.specs.Answers.{if_taken, is_within}
 use Rattle.rlsf_checked.specs.Checked.{checked}
+use Rattle.rlsf_checked.specs.Steps.Marks.{HasMark}
 use Rattle.rlsf_checked.specs.Steps.Standing.{IsChecked}
+use Rattle.rlsf_checked.proofs.Edges.{Flips, flips}
+use Rattle.rlsf_checked.proofs.Toggled.{inserted_edges, inserted_place}
 use Rattle.rlsf_checked.proofs.Pools.{before_answer, behind_answer, handed_in, none_taken, outside_answer, pool_fits, untouched, within_is}
 use Rattle.rlsf_checked.proofs.Standing.{stands_after, step_of, unchanged}
 use Rattle.rlsf_checked.proofs.checked.CheckedTlsf.insert.Goals as goal
@@ -29,17 +32,68 @@ invariant_of-self g c =
     let same : heap.state ≡ c.self.inside.heap.state = none_taken g.row.FLLEN c.self.inside.heap.state heap.state c.args.range (step_of _ _ _ _ _ did.step) in
     unchanged c.self.invariant heap (stands_after _ _ _ _ _ did.step) did.place (ap (λ (s : State). s.chunks) same) did.aligns
 
+pub next_multiple_of_32-requires : goal.next_multiple_of_32-requires
+next_multiple_of_32-requires g c =
+    let did = c.in-Some.ensures in
+    let heap = c.insert_free_block_ptr.new.self in
+    let within : true ≡ is_within (range_of c.self.inside.heap.memory) c.args.range =
+    sym c.if-not-lies_in.false ∙ c.lies_in.ensures ∙ ap (λ m. is_within (range_of m) c.args.range) c.memory_ref.ensures.memory in
+    let lies = within_is (range_of c.self.inside.heap.memory) c.args.range within in
+    let behind : end_of c.self.inside.pool ≤ c.args.range.start = omega (arith, c.if-range-self.false) in
+    let place = inserted_place c.self.invariant heap (stands_after _ _ _ _ _ did.step) c.args.range (at c.in-Some.taken) behind lies (step_of _ _ _ _ _ did.step) in
+    record { fits = place.fits }
+
+pub overflow_add-range : goal.overflow_add-range
+overflow_add-range g c =
+    let did = c.in-Some.ensures in
+    let heap = c.insert_free_block_ptr.new.self in
+    let within : true ≡ is_within (range_of c.self.inside.heap.memory) c.args.range =
+    sym c.if-not-lies_in.false ∙ c.lies_in.ensures ∙ ap (λ m. is_within (range_of m) c.args.range) c.memory_ref.ensures.memory in
+    let lies = within_is (range_of c.self.inside.heap.memory) c.args.range within in
+    let behind : end_of c.self.inside.pool ≤ c.args.range.start = omega (arith, c.if-range-self.false) in
+    let place = inserted_place c.self.invariant heap (stands_after _ _ _ _ _ did.step) c.args.range (at c.in-Some.taken) behind lies (step_of _ _ _ _ _ did.step) in
+    record { fits = subst (λ a. c.args.range.start + a < 2 ^ 64) (sym c.get-2.ensures.value) place.last_fits }
+
+pub flip-requires : goal.flip-requires
+flip-requires g c =
+    let did = c.in-Some.ensures in
+    let heap = c.insert_free_block_ptr.new.self in
+    let within : true ≡ is_within (range_of c.self.inside.heap.memory) c.args.range =
+    sym c.if-not-lies_in.false ∙ c.lies_in.ensures ∙ ap (λ m. is_within (range_of m) c.args.range) c.memory_ref.ensures.memory in
+    let lies = within_is (range_of c.self.inside.heap.memory) c.args.range within in
+    let behind : end_of c.self.inside.pool ≤ c.args.range.start = omega (arith, c.if-range-self.false) in
+    subst (HasMark c.self.inside.marks) (sym c.next_multiple_of_32.ensures.value)
+    (inserted_place c.self.invariant heap (stands_after _ _ _ _ _ did.step) c.args.range (at c.in-Some.taken) behind lies (step_of _ _ _ _ _ did.step)).low
+
+pub flip-requires-2 : goal.flip-requires-2
+flip-requires-2 g c =
+    let did = c.in-Some.ensures in
+    let heap = c.insert_free_block_ptr.new.self in
+    let within : true ≡ is_within (range_of c.self.inside.heap.memory) c.args.range =
+    sym c.if-not-lies_in.false ∙ c.lies_in.ensures ∙ ap (λ m. is_within (range_of m) c.args.range) c.memory_ref.ensures.memory in
+    let lies = within_is (range_of c.self.inside.heap.memory) c.args.range within in
+    let behind : end_of c.self.inside.pool ≤ c.args.range.start = omega (arith, c.if-range-self.false) in
+    subst (λ a. HasMark c.flip.new.self (c.args.range.start + a)) (sym c.get-2.ensures.value) (c.flip.ensures.places _
+    (inserted_place c.self.invariant heap (stands_after _ _ _ _ _ did.step) c.args.range (at c.in-Some.taken) behind lies (step_of _ _ _ _ _ did.step)).high)
+
 pub invariant_of-self-2 : goal.invariant_of-self-2
 invariant_of-self-2 g c =
     let did = c.in-Some.ensures in
     let heap = c.insert_free_block_ptr.new.self in
     let within : true ≡ is_within (range_of c.self.inside.heap.memory) c.args.range =
     sym c.if-not-lies_in.false ∙ c.lies_in.ensures ∙ ap (λ m. is_within (range_of m) c.args.range) c.memory_ref.ensures.memory in
+    let lies = within_is (range_of c.self.inside.heap.memory) c.args.range within in
     let behind : end_of c.self.inside.pool ≤ c.args.range.start = omega (arith, c.if-range-self.false) in
-    let step : Inserts g.row.FLLEN c.self.inside.heap.state c.args.range (Some (at c.in-Some.taken)) heap.state = step_of _ _ _ _ _ did.step in
-    subst (λ n. IsChecked g.row.FLLEN g.row.SLLEN heap c.self.inside.marks (range_at c.args.range.start n)) (sym c.get.ensures.value)
-    (handed_in c.self.invariant c.args.range behind (within_is (range_of c.self.inside.heap.memory) c.args.range within) heap (stands_after _ _ _ _ _ did.step) did.place did.aligns
-    (at c.in-Some.taken) step)
+    let n = at c.in-Some.taken in
+    let step : Inserts g.row.FLLEN c.self.inside.heap.state c.args.range (Some n) heap.state = step_of _ _ _ _ _ did.step in
+    let stands = stands_after _ _ _ _ _ did.step in
+    let first = subst (Flips c.self.inside.marks c.flip.new.self) c.next_multiple_of_32.ensures.value
+    (flips c.flip.ensures.here c.flip.ensures.others c.flip.ensures.marks c.flip.ensures.places) in
+    let second = subst (λ a. Flips c.flip.new.self c.flip-2.new.self (c.args.range.start + a)) c.get-2.ensures.value
+    (flips c.flip-2.ensures.here c.flip-2.ensures.others c.flip-2.ensures.marks c.flip-2.ensures.places) in
+    subst (λ k. IsChecked g.row.FLLEN g.row.SLLEN heap c.flip-2.new.self (range_at c.args.range.start k)) (sym c.get.ensures.value)
+    (handed_in c.self.invariant c.args.range behind lies heap stands did.place did.aligns n step c.flip-2.new.self
+    (inserted_edges c.self.invariant heap stands c.args.range n behind lies step c.flip.new.self c.flip-2.new.self first second))
 
 pub returns-then-not-lies_in : goal.returns-then-not-lies_in
 returns-then-not-lies_in g c = record {
@@ -118,10 +172,10 @@ returns g c = record {
       let behind : end_of c.self.inside.pool ≤ c.args.range.start = omega (arith, c.if-range-self.false) in
       let step : Inserts g.row.FLLEN c.self.inside.heap.state c.args.range (Some (at c.in-Some.taken)) c.insert_free_block_ptr.new.self.state =
       step_of _ _ _ _ _ c.in-Some.ensures.step in
-      ap Ok c.get-2.ensures.value ∙ sym (behind_answer g.row.FLLEN (checked c.self.inside.heap c.self.inside.pool) c.args.range within behind ∙ ap if_taken (sym step.answer)));
+      ap Ok c.get-3.ensures.value ∙ sym (behind_answer g.row.FLLEN (checked c.self.inside.heap c.self.inside.pool) c.args.range within behind ∙ ap if_taken (sym step.answer)));
   step =
       subst (λ n. Steps g.row.FLLEN g.row.SLLEN c.args.self.now.heap c.insert_free_block_ptr.new.self (Inserts g.row.FLLEN c.args.self.now.heap.state c.args.range (Some n)))
-      (sym c.get-2.ensures.value)
+      (sym c.get-3.ensures.value)
       (rw (← c.self.view_is) c.in-Some.ensures.step);
   pool = search rules;
   same = search rules;

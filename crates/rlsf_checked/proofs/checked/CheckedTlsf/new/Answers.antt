@@ -1,4 +1,4 @@
-use Rattle.std.proofs.Common.{arith, ◌≡◌, ◌≤◌, ◌%◌, Ok, Err, ℕ, refl, sym, ◌∙◌, ap, subst}
+use Rattle.std.proofs.Common.{arith, ◌≡◌, ◌<◌, ◌≤◌, ◌%◌, Ok, Err, ℕ, refl, sym, ◌∙◌, ap, subst}
 use Rattle.std.proofs.lemmas.Bool.{false≢true}
 use Rattle.rlsf_base.specs.Range.{end_of, range_at}
 use Rattle.rlsf_base.specs.Space.{Space, range_of}
@@ -15,7 +15,8 @@ invariant_of-result g c =
     subst (λ (x : Space). (a : ℕ) → a % 16 ≡ 0 → x.start ≤ a → a ≤ end_of (range_of x) → HasMark marks a) (sym c.new-2.ensures.memory)
     c.in-Some.ensures.covers in
     subst (λ n. IsChecked g.row.FLLEN g.row.SLLEN heap marks (range_at n 0)) (ap (λ (x : Space). x.start) c.new-2.ensures.memory ∙ sym c.start.ensures.value)
-    (made heap marks c.new-2.ensures.stands c.new-2.ensures.state c.in-Some.ensures.none covers)
+    (made heap marks c.new-2.ensures.stands c.new-2.ensures.state
+    (subst (λ (x : Space). 0 < x.start) (sym c.new-2.ensures.memory) c.start.ensures.bounds.0) c.in-Some.ensures.none covers)
 
 pub returns-clause-invalid : goal.returns-clause-invalid
 returns-clause-invalid g c = ((λ bad. absurd (no_error bad)), (λ none. absurd (none (c.are_valid.ensures.0 c.if-not-are_valid.false))))

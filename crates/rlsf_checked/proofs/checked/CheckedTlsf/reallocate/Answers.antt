@@ -21,15 +21,17 @@ invariant_of-self g c =
 pub set-requires : goal.set-requires
 set-requires g c =
     let live : align_at c.self.inside.heap.state (at c.args.addr) ≡ Some c.in-Some.align = sym (rw (← c.self.view_is) at c.in-Some.ensures.value) in
-    subst (HasMark c.self.inside.marks) (sym c.get-left.ensures.value)
-    (has_mark c.self.invariant c.self.inside.heap c.self.invariant.stands (refl, refl, refl, λ none. none) (at c.args.addr) c.in-Some.align live)
+    let there = subst (HasMark c.self.inside.marks) (sym c.get-left.ensures.value)
+    (has_mark c.self.invariant c.self.inside.heap c.self.invariant.stands (refl, refl, refl, λ none. none) (at c.args.addr) c.in-Some.align live) in
+    record { place = there; small = omega arith }
 
 pub set-requires-2 : goal.set-requires-2
 set-requires-2 g c =
     let did = c.in-Some-reallocate.ensures in
-    c.set.ensures.places c.get.result
+    let there = c.set.ensures.places c.get.result
     (subst (HasMark c.self.inside.marks) (sym c.get.ensures.value)
-    (has_mark c.self.invariant c.reallocate.new.self (stands_after _ _ _ _ _ did.step) did.place (at c.in-Some-reallocate.moved) c.in-Ok.layout.align did.live))
+    (has_mark c.self.invariant c.reallocate.new.self (stands_after _ _ _ _ _ did.step) did.place (at c.in-Some-reallocate.moved) c.in-Ok.layout.align did.live)) in
+    record { place = there; small = c.mark_of-mark.ensures.small }
 
 pub invariant_of-self-2 : goal.invariant_of-self-2
 invariant_of-self-2 g c =
@@ -43,9 +45,9 @@ invariant_of-self-2 g c =
     let cleared : mark_at c.set.new.self addr ≡ 0 = subst (λ a. mark_at c.set.new.self a ≡ 0) c.get-left.ensures.value c.set.ensures.here in
     let set : mark_at c.set-2.new.self to ≡ suc (floor_log2 layout.align) =
     subst (λ a. mark_at c.set-2.new.self a ≡ suc (floor_log2 layout.align)) c.get.ensures.value
-    (c.set-2.ensures.here ∙ c.mark_of-mark.ensures ∙ ap (λ n. suc (floor_log2 n)) (sym c.in-Ok.ensures.layout.1)) in
+    (c.set-2.ensures.here ∙ c.mark_of-mark.ensures.value ∙ ap (λ n. suc (floor_log2 n)) (sym c.in-Ok.ensures.layout.1)) in
     marked_moved c.self.invariant heap c.set.new.self c.set-2.new.self addr to layout.align (stands_after _ _ _ _ _ did.step) did.place did.chunks
-    (λ a has. c.set-2.ensures.places a (c.set.ensures.places a has))
+    (λ a has. c.set-2.ensures.places a (c.set.ensures.places a has)) (λ a. c.set-2.ensures.edges a ∙ c.set.ensures.edges a)
     (λ a apart. c.set.ensures.others a (λ same. apart (same ∙ c.get-left.ensures.value))) cleared
     (λ a apart. c.set-2.ensures.others a (λ same. apart (same ∙ c.get.ensures.value))) set did.live
     (left_behind g.row.FLLEN g.row.SLLEN c.self.inside.heap c.self.invariant.stands heap.state addr c.in-Some.align layout.size to live step) did.aligns

@@ -1,4 +1,4 @@
-use Rattle.std.proofs.Common.{rules, ◌≡◌, ◌≤◌, ◌%◌, ℕ, refl, sym, ◌∙◌, ap, subst}
+use Rattle.std.proofs.Common.{◌≡◌, ◌<◌, ◌≤◌, ◌%◌, ℕ, sym, ◌∙◌, ap, subst}
 use Rattle.rlsf_base.specs.Range.{end_of, range_at}
 use Rattle.rlsf_base.specs.Space.{Space, range_of}
 use Rattle.rlsf_checked.specs.Steps.Marks.{HasMark}
@@ -15,4 +15,4 @@ invariant_of-result g c =
     let covers = subst (λ (x : Space). (a : ℕ) → a % 16 ≡ 0 → x.start ≤ a → a ≤ end_of (range_of x) → HasMark marks a) (sym memory)
     (λ a even low high. c.clear.ensures.places a (c.self.invariant.covers a even low high)) in
     subst (λ n. IsChecked g.row.FLLEN g.row.SLLEN heap marks (range_at n 0)) (ap (λ (x : Space). x.start) c.new.ensures.memory ∙ sym c.start.ensures.value)
-    (made heap marks c.new.ensures.stands c.new.ensures.state c.clear.ensures.none covers)
+    (made heap marks c.new.ensures.stands c.new.ensures.state (subst (λ (x : Space). 0 < x.start) (sym memory) c.self.invariant.some_address) c.clear.ensures.none covers)

@@ -1,4 +1,4 @@
--- What the walks of the exports cite.
+-- What manual proofs of exports cite.
 pub use Rattle.std.proofs.Common.{◌≡◌, ℕ, ◌≤◌, List, [], ◌∷◌, ◌++◌, refl, sym, ap, ◌∙◌, lit<, w64, MutBor, arith, subst}
 pub use Rattle.std.proofs.raw_atomic.Walks.{proved}
 pub use base.Fraction.{full_share}
@@ -31,3 +31,9 @@ pub use denote.Triple.Entry.{on_entry}
 pub use denote.Triple.Spec.{triple_of}
 pub use denote.Triple.Walked.{Stays, walk_of, stay_dropped, Goes-dropped, ends_at}
 pub use denote.Triple.Table.{framed}
+pub use base.Logic.{emp}
+pub use contract.Monad.{fact_i}
+pub use denote.Builtin.{unit}
+pub use denote.Steps.{only}
+pub use types.Kit.{use0}
+pub use types.Run.{unit_lit}

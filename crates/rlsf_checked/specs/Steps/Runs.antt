@@ -1,0 +1,33 @@
+-- Runs of contiguous chunks, in the order of their addresses.
+use Rattle.std.specs.Prelude.{◌≡◌, ℕ, ◌-◌, ◌%◌, ◌<◌, ◌≤◌, List}
+use Rattle.rlsf_base.specs.declared.memory.range.Range.{Range}
+use Rattle.rlsf_base.specs.Range.{end_of, range_at}
+use Rattle.rlsf_blocks.specs.Blocks.{AreBlocks, Block, walked}
+use Rattle.rlsf_model.specs.ChunkRows.{IsRow}
+use Rattle.rlsf_model.specs.Lists.{IsIn}
+use Rattle.rlsf_model.specs.State.{State}
+use Rattle.rlsf_checked.specs.Steps.Standing.{in_chunks}
+
+-- where a search for a run may begin: at a multiple of 32, and no chunk has the address before it. No chunk ends behind `end`
+pub record IsStart (s : State) (from end : ℕ) : Type 0 where
+  pub whole : from % 32 ≡ 0
+  pub end_whole : end % 32 ≡ 0
+  pub order : from ≤ end
+  pub outside : from < end → in_chunks s (from - 1) ≡ 0
+  pub below : (c : Range) → IsIn c s.chunks → end_of c ≤ end
+
+-- The range r is complete contiguous chunks, or empty. From `from` up to `next`, no other address is in a chunk. The search goes on at `next`
+pub record IsNextRun (s : State) (from end : ℕ) (r : Range) (next : ℕ) : Type 0 where
+  pub row : IsRow s (walked r)
+  pub start : r.start % 32 ≡ 0
+  pub low : from ≤ r.start
+  pub high : end_of r ≤ next
+  pub before : (a : ℕ) → from ≤ a → a < r.start → in_chunks s a ≡ 0
+  pub behind : (a : ℕ) → end_of r ≤ a → a < next → in_chunks s a ≡ 0
+  pub progress : from < next
+  pub left : IsStart s next end
+
+-- the blocks before an address from which the search goes on
+pub record AreUpTo (s : State) (from end : ℕ) (bs : List Block) : Type 0 where
+  pub start : IsStart s from end
+  pub blocks : AreBlocks s (range_at 0 from) bs
