@@ -1,4 +1,5 @@
-/* Lists of the blocks of a heap: they agree with the payloads that the program holds, in each of several pools. */
+/* Lists and checks of the blocks of a heap: they agree with the payloads that the program holds, in each of several pools. A check finds
+ * words that were overwritten. */
 #include "rlsf_malloc.h"
 #include <stdio.h>
 #include <stdlib.h>
@@ -35,7 +36,7 @@ static void lists(rlsf_heap *heap, void **live, size_t most) {
     size_t found = 0, held = 0;
     for (size_t i = 0; i < PAYLOADS; i++) held += live[i] != NULL;
     for (size_t i = 0; i < POOLS; i++) {
-        size_t at = (size_t)pool(i), got;
+        size_t at = (size_t)pool(i), got, before = found, used = 0, unused = 0;
         do {
             memset(spans, 7, sizeof spans);
             got = rlsf_heap_walk(heap, pool(i), taken[i], (void *)at, spans, most);
@@ -43,14 +44,40 @@ static void lists(rlsf_heap *heap, void **live, size_t most) {
             for (size_t j = 0; j < got; j++) {
                 WANT(spans[j].start >= at && spans[j].start + spans[j].len <= (size_t)pool(i) + taken[i], 1);
                 at = spans[j].start + spans[j].len;
+                *(spans[j].used ? &used : &unused) += spans[j].len;
                 size_t payloads = 0;
                 for (size_t k = 0; k < PAYLOADS; k++) payloads += live[k] && (size_t)live[k] >= spans[j].start && (size_t)live[k] < at;
                 WANT(spans[j].used, payloads);
                 found += payloads;
             }
         } while (got == most);
+        rlsf_totals totals = rlsf_heap_pool_stats(heap, pool(i), taken[i]);
+        WANT(totals.payloads, found - before);
+        WANT(totals.used, used);
+        WANT(totals.free, unused);
+        WANT(rlsf_heap_check(heap, pool(i), taken[i]), 1);
     }
     WANT(found, held);
+}
+
+/* Each wrong word in a header of the last pool is found, and a pool is right again once the word is written back. */
+static void overruns(rlsf_heap *heap) {
+    static rlsf_span spans[MOST];
+    size_t count = rlsf_heap_walk(heap, NULL, 0, NULL, spans, MOST), words = 0;
+    WANT(rlsf_heap_check(heap, NULL, 0), 1);
+    for (size_t i = 0; i < count; i++) {
+        size_t *word = (size_t *)spans[i].start;
+        for (size_t j = 0; j < (spans[i].used ? 2 : 4); j++, words++) {
+            size_t right = word[j];
+            word[j] = right ^ 0x4545454545454545u;
+            WANT(rlsf_heap_check(heap, NULL, 0), 0);
+            word[j] = right + 32;
+            WANT(rlsf_heap_check(heap, NULL, 0), 0);
+            word[j] = right;
+            WANT(rlsf_heap_check(heap, NULL, 0), 1);
+        }
+    }
+    WANT(words > 20, 1);
 }
 
 static void run(size_t kind) {
@@ -70,6 +97,7 @@ static void run(size_t kind) {
     WANT(rlsf_heap_walk(heap, pool(POOLS - 1), taken[POOLS - 1], NULL, same, MOST), count);
     WANT(memcmp(last, same, count * sizeof *last), 0);
     WANT(rlsf_heap_walk(heap, NULL, 0, NULL, last, 0), 0);
+    overruns(heap);
     rlsf_heap_end(heap);
 }
 
@@ -79,6 +107,6 @@ int main(void) {
     run(RLSF_SMALL);
     run(RLSF_LARGE);
     if (failures) return 1;
-    puts("walks: the lists agree with the payloads");
+    puts("walks: the lists and checks agree with the payloads");
     return 0;
 }

@@ -7,11 +7,14 @@
  *   - `payload` is NULL, or a pointer that a call on this heap returned. It is live: it wasn't freed since, and no rlsf_realloc or
  *     rlsf_aligned_realloc of it succeeded since.
  *   - Only the library writes to the heap's memory, except to the bytes of live payloads: rlsf_usable_size of them from the pointer on.
+ *   - Each byte of the memory has a value when the heap is made, as in static, mapped and allocated memory.
  *   - One call on a heap runs at a time. A lock orders the calls of several threads.
  *
- * The crate crates/rlsf_malloc proves what each call does, under these conditions. Its law says that payloads may be read and written in
- * place between two calls (rlsf_large_payloads, rlsf_small_payloads): during a call the heap owns the bytes of all payloads. So the proof
- * doesn't cover a thread that reads or writes its payload while another thread's call runs. Such programs are tested.
+ * Who owns the bytes. From rlsf_heap_begin to rlsf_heap_end the memory's bytes belong to the heap. A call that returns a payload passes the
+ * payload's bytes to its caller, and rlsf_free takes them back. A call on the heap accesses no byte of a payload that is out, but for the one
+ * that it is passed. So each thread may read and write its payloads while another thread's call runs under the lock.
+ *
+ * The crate crates/rlsf_malloc proves what each call does, with this ownership, under these conditions.
  *
  * The inline functions below aren't proved. They do this and no more:
  *   - They pass a pointer to an exported function as the number (size_t)pointer, and cast the returned number back.
@@ -43,8 +46,8 @@ extern "C" {
 #define RLSF_LARGE ((size_t)2)
 
 /* The size of a handle of each kind in bytes. A handle is aligned to 8. */
-#define RLSF_SMALL_HEAP_SIZE 1792
-#define RLSF_LARGE_HEAP_SIZE 33856
+#define RLSF_SMALL_HEAP_SIZE 1800
+#define RLSF_LARGE_HEAP_SIZE 33864
 
 /* The totals of some blocks. */
 typedef struct {
@@ -66,7 +69,6 @@ typedef struct {
     size_t rlsf_##KIND##_size(void);                                                                  \
     void rlsf_##KIND##_init(void *heap, void *block, size_t start, size_t len);                       \
     void rlsf_##KIND##_end(void *heap);                                                               \
-    void rlsf_##KIND##_payloads(void *heap);                                                          \
     size_t rlsf_##KIND##_add(void *heap, size_t start, size_t len);                                   \
     size_t rlsf_##KIND##_malloc(void *heap, size_t size);                                             \
     size_t rlsf_##KIND##_allocate(void *heap, size_t size, size_t align);                             \
@@ -77,7 +79,8 @@ typedef struct {
     void rlsf_##KIND##_free(void *heap, size_t payload);                                              \
     size_t rlsf_##KIND##_usable(void *heap, size_t payload);                                          \
     rlsf_totals rlsf_##KIND##_stats(void *heap, size_t start, size_t len);                            \
-    size_t rlsf_##KIND##_list(void *heap, size_t start, size_t len, size_t from, size_t *numbers, size_t room);
+    size_t rlsf_##KIND##_list(void *heap, size_t start, size_t len, size_t from, size_t *numbers, size_t room); \
+    size_t rlsf_##KIND##_check(void *heap, size_t start, size_t len);
 RLSF_KIND_DECLARES(small)
 RLSF_KIND_DECLARES(large)
 #undef RLSF_KIND_DECLARES
@@ -147,7 +150,8 @@ static inline rlsf_heap *rlsf_heap_init(void *handle, size_t kind, void *memory,
     return heap;
 }
 
-/* Ends a heap. Its memory and its handle are the caller's again. The bytes of payloads keep their values. */
+/* Ends a heap. Its memory and its handle are the caller's again. The bytes of payloads keep their values. The proof is about heaps of which no
+ * payload is live: the others' bytes were their callers' all the time. */
 static inline void rlsf_heap_end(rlsf_heap *heap) {
     if (heap->kind == RLSF_SMALL)
         rlsf_small_end(heap + 1);
@@ -229,6 +233,14 @@ static inline rlsf_totals rlsf_heap_stats(const rlsf_heap *heap) {
                                     : rlsf_large_stats((void *)(heap + 1), heap->start, heap->len);
 }
 
+/* Returns the totals of the blocks of any pool. The time grows with the number of these blocks.
+ *
+ * The pool is one that rlsf_heap_add made of `memory`, and `len` is what it returned. */
+static inline rlsf_totals rlsf_heap_pool_stats(const rlsf_heap *heap, const void *memory, size_t len) {
+    return heap->kind == RLSF_SMALL ? rlsf_small_stats((void *)(heap + 1), (size_t)memory, len)
+                                    : rlsf_large_stats((void *)(heap + 1), (size_t)memory, len);
+}
+
 /* Fills an array with the blocks of a pool that begin at `from` or behind it, in address order, and returns the number of filled ones: all
  * of them, or `count` if there are more. The others stay as they are. To go on behind a full array, pass the last block's start + len as
  * `from`. The time grows with the number of blocks up to the last listed one.
@@ -238,6 +250,20 @@ static inline size_t rlsf_heap_walk(const rlsf_heap *heap, const void *memory, s
     size_t start = memory ? (size_t)memory : heap->start, taken = memory ? len : heap->len;
     return heap->kind == RLSF_SMALL ? rlsf_small_list((void *)(heap + 1), start, taken, (size_t)from, &blocks->start, 3 * count)
                                     : rlsf_large_list((void *)(heap + 1), start, taken, (size_t)from, &blocks->start, 3 * count);
+}
+
+/* For debugging: reads the words of each block of a pool again, the links of its free blocks, and the lists' beginnings in the handle.
+ * Returns 1 if they agree. Returns 0 if they don't: then the program wrote to bytes that it may not write to, and no other call on the heap
+ * is defined. Whatever the words are, the call reads only the heap's memory and its handle. The time grows with the number of blocks.
+ *
+ * It finds each wrong header of a block, each missing sentinel, two free blocks side by side, and a free block whose neighbours in its list
+ * don't name it. It doesn't read payloads, nor the words before payloads with an alignment above 16. A call in another thread must not run
+ * at the same time.
+ *
+ * The pool is one that rlsf_heap_add made of `memory`, and `len` is what it returned; or the last pool, if `memory` is NULL. */
+static inline int rlsf_heap_check(const rlsf_heap *heap, const void *memory, size_t len) {
+    size_t start = memory ? (size_t)memory : heap->start, taken = memory ? len : heap->len;
+    return (int)(heap->kind == RLSF_SMALL ? rlsf_small_check((void *)(heap + 1), start, taken) : rlsf_large_check((void *)(heap + 1), start, taken));
 }
 
 #ifdef __cplusplus

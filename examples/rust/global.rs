@@ -32,7 +32,7 @@ unsafe extern "C" {
 }
 
 const LEN: usize = 64 << 20;
-const HANDLE: usize = 33_832;
+const HANDLE: usize = 33_840;
 
 #[repr(align(4096))]
 struct Region<const N: usize>(UnsafeCell<[u8; N]>);

@@ -8,7 +8,7 @@ use denote.Struct.Field.{u16-field, u64-field}
 use denote.Struct.Laws.{u16-laws, u16-copy, u64-laws, u64-copy}
 use Rattle.rlsf_int.specs.contracts.impls.u16.U16BitPattern.TheImpl.{ghosts as ghosts16}
 use Rattle.rlsf_int.specs.contracts.impls.u64.U64BitPattern.TheImpl.{ghosts as ghosts64}
-use Rattle.rlsf_tlsf.proofs.tlsf.Tlsf.TheLaws.{the_row_laws}
+use Rattle.rlsf_heap.proofs.heap.Heap.TheLaws.{the_row_laws}
 use Rattle.rlsf_malloc.specs.Handle.{large, small}
 
 u16_laws : Laws u16

@@ -1,6 +1,6 @@
 -- What each export does with the pool behind its handle before it calls: it finds the pool's block, and lends the pool.
-use Rattle.rlsf_malloc.proofs.Walking.{ℕ, List, [], ◌∷◌, refl, full_share, id⊢, flft, flent, named, vptr, ‵, ◌⊛◌, some, later, ◌$◌, move, use1, split, pick}
-use Rattle.rlsf_malloc.proofs.Walking.{await, regoal, lft_new, Body, lends_ref, part_at, mem, Ptr, block_ptr, lies_at, in_a_block, MutRef}
+use Rattle.rlsf_malloc.proofs.Walking.{ℕ, List, [], ◌∷◌, refl, full_share, id⊢, flft, flent, named, vptr, ‵, ◌⊛◌, some, later, ◌$◌, move, use1, split}
+use Rattle.rlsf_malloc.proofs.Walking.{pick, await, regoal, lft_new, Body, lends_ref, part_at, mem, Ptr, block_ptr, lies_at, in_a_block, MutRef}
 use seplogic.Ra.Ura.{Ura}
 use types.Logic.{Logic}
 use types.Kit.{Item, Goal, Seq, Soaks}

@@ -1,9 +1,7 @@
--- Lemmas, and what the manual proofs cite.
-pub mod Alignments
+mod Alignments
 pub mod Laws
 pub mod Lending
-pub mod Listing
-pub mod Outcomes
-pub mod Sums
+mod Outcomes
+mod Reallocated
+pub mod Templates
 pub mod Walking
-pub mod WidePayloads

@@ -1,210 +1,107 @@
--- What the calls of an allocator do, as numbers.
-use Rattle.std.proofs.Common.{◌≡◌, ◌≢◌, ℕ, zero, suc, ◌+◌, ◌*◌, ◌%◌, ◌<◌, ◌≤◌, List, length, replicate, Option, Some, None, arith, refl, sym}
-use Rattle.std.proofs.Common.{◌∙◌, ap, subst}
-use Rattle.std.proofs.lemmas.List.{length-replicate}
-use Rattle.std.specs.Prelude.{IfNone, IfSome}
-use Rattle.std.specs.declared.num.NonZeroUsize.{NonZeroUsize}
-use Rattle.rlsf_base.specs.Addr.{at, reply}
+-- What the calls of a heap come to, as the exports say it.
+use Rattle.std.proofs.Common.{◌≡◌, ◌≢◌, ℕ, zero, suc, ◌+◌, ◌-◌, ◌%◌, ◌<◌, ◌≤◌, length, List, [], Option, Some, None, arith, refl, sym, subst, ◌∙◌, ap, true}
+use denote.RawPtr.{Ptr}
+use Rattle.rlsf_base.specs.OpenSpace.{home_of, place_in}
+use Rattle.rlsf_base.specs.Changes.{IsAllOwn, IsIn}
 use Rattle.rlsf_base.specs.Layout.{IsLayout}
+use Rattle.rlsf_base.specs.Out.{Change, here, is_own, kept_at}
 use Rattle.rlsf_base.specs.Range.{AreApart}
-use Rattle.rlsf_base.specs.Space.{SamePlace, Space, range_of}
+use Rattle.rlsf_base.specs.Space.{Space}
 use Rattle.rlsf_base.specs.declared.memory.range.Range.{Range}
 use Rattle.rlsf_model.specs.Allocate as machine
 use Rattle.rlsf_model.specs.Callers.{align_at, bytes_at}
 use Rattle.rlsf_model.specs.Insert.{Inserts, IsUntouched}
-use Rattle.rlsf_model.specs.NoMove.{ReallocatesWithoutMove}
-use Rattle.rlsf_model.specs.Reallocate.{Keeps, Reallocates}
 use Rattle.rlsf_model.specs.Release.{Deallocates}
-use Rattle.rlsf_model.specs.Run.{reallocate}
+use Rattle.rlsf_model.specs.Sized.{live_count}
 use Rattle.rlsf_model.specs.State.{State}
-use Rattle.rlsf_model.proofs.CallerWords.{align_at-live, align_at-none}
-use Rattle.rlsf_model.proofs.Callers.{callers_see_map}
-use Rattle.rlsf_model.proofs.Payloads.{payload_of-aligned}
-use Rattle.rlsf_tlsf.specs.Allocator.{Allocator, Stands, Steps}
-use Rattle.rlsf_malloc.specs.Calls.{Adds, Allocates, AllocatesZeroed, Frees, IsKeptBut, IsNew, IsNumberOf, IsResized, IsSame, Resizes, ResizesThere, reply_of}
+use Rattle.rlsf_heap.specs.Heap.{HeapView, IsWritten, PayloadView, Steps}
+use Rattle.rlsf_heap.specs.Settled.{IsSettled}
+use Rattle.rlsf_heap.specs.Thin.{reply_of}
+use Rattle.rlsf_malloc.specs.Calls.{Adds, Allocates, Frees, IsFresh, IsOver, IsReady, IsSameHeap}
 
--- the model made the step
-pub step_of : (fllen sllen : ℕ) (v w : Allocator) (step : State → Type 0) → Steps fllen sllen v w step → step w.state
+-- a step leads to the state after
+pub step_of : (fllen sllen : ℕ) (new : HeapView) (P : State → Type 0) → Steps fllen sllen new P → P new.state
 unfolding Steps
-step_of fllen sllen v w step did = did.0
+step_of fllen sllen new P step = step.0
 
 -- a number that isn't 0 is an address
-pub reply_of-some : (n : ℕ) → n ≢ 0 → reply_of n ≡ Some n
-reply_of-some zero some = absurd (some refl)
-reply_of-some (suc n) some = refl
+pub reply_some : (n : ℕ) → n ≢ 0 → Some n ≡ reply_of n
+reply_some zero some = absurd (some refl)
+reply_some (suc n) some = refl
 
--- what is returned as a number is what is returned
-pub reply_of-same : (r : Option NonZeroUsize) (n : ℕ) → IsNumberOf r n → reply_of n ≡ reply r
-reply_of-same None n is = ap reply_of is
-reply_of-same (Some addr) n (is, some) = reply_of-some n some ∙ ap Some is
+pub same_heap : (old new : HeapView) → new.identity ≡ old.identity
+    → (new.memory.start ≡ old.memory.start) × (length new.memory.bytes ≡ length old.memory.bytes) → IsReady new → IsSameHeap old new
+same_heap old new identity place ready = record { identity = identity; start = place.0; len = place.1; ready = ready }
 
--- nothing changes
-pub same : (v : Allocator) → IsSame v v
-same v = record { place = (refl, refl, refl, λ none. none); state = refl; bytes = refl }
+-- where nothing changed, each byte is the memory's own
+pub all_own : (cs : List Change) → cs ≡ [] → IsAllOwn cs
+unfolding kept_at
+all_own cs none k = ap (λ (ds : List Change). is_own (kept_at ds k)) none
 
--- a memory that stays in its place twice stays there
-pub place_after : (m n k : Space) → SamePlace m n → SamePlace n k → SamePlace m k
-place_after m n k first then = (then.0 ∙ first.0, then.1 ∙ first.1, then.2 ∙ first.2, λ none. then.3 (first.3 none))
+-- a memory of which no byte is raw or out has all its bytes here
+pub all_here : (m : Space) → IsSettled m → IsAllOwn m.out → IsIn m.out 0 (length m.bytes)
+unfolding IsSettled
+all_here m settled own k low high =
+    let e : m.start + k - m.start ≡ k = omega arith in
+    subst (λ (n : ℕ). kept_at m.out n ≡ here) e (settled (m.start + k) (omega arith) (subst (λ (n : ℕ). is_own (kept_at m.out n) ≡ true) (sym e) (own k)))
 
--- ---- payloads that are new
-
--- the address is a multiple of the alignment
-pub places_aligned : (sllen : ℕ) (s t : State) (size align addr : ℕ) → IsLayout size align → machine.Allocates sllen s size align (Some addr) t → addr % align ≡ 0
-places_aligned sllen s t size align addr layout step = subst (λ a. a % align ≡ 0) (sym step.answer) (payload_of-aligned step.range.start align layout.aligned)
-
-module _ (sllen : ℕ) (old new : Allocator) (size align : ℕ) (layout : IsLayout size align) (place : SamePlace old.memory new.memory) where
-  pub allocated : (r : Option NonZeroUsize) (n : ℕ) → IsNumberOf r n → machine.Allocates sllen old.state size align (reply r) new.state
-      → IfSome r (λ addr. align_at new.state (at addr) ≡ Some align) → IfSome r (λ addr. size ≤ length (bytes_at new.state (at addr)))
-      → IfSome r (λ addr. length (bytes_at new.state (at addr)) < size + 32) → IfSome r (λ addr. align_at old.state (at addr) ≡ None)
-      → IfSome r (λ addr. (a : ℕ) → a ≢ at addr → align_at new.state a ≡ align_at old.state a)
-      → IfSome r (λ addr. (a : ℕ) → a ≢ at addr → bytes_at new.state a ≡ bytes_at old.state a)
-      → IfNone r (new.state ≡ old.state) → IfNone r (new.memory.bytes ≡ old.memory.bytes) → Allocates sllen old size align n new
-  allocated (Some addr) n (is, some) step live sized few fresh aligns bytes state kept =
-      let made : Allocates sllen old size align (at addr) new = record {
-        no_layout = λ never. absurd (never layout);
-        step = λ l. subst (λ o. machine.Allocates sllen old.state size align o new.state) (sym (reply_of-some (at addr) (λ e. some (is ∙ e)))) step;
-        new =
-            λ apart. record {
-              new = fresh;
-              live = live;
-              aligned = places_aligned sllen old.state new.state size align (at addr) layout step;
-              sized = sized;
-              few = few;
-              kept = record { place = place; aligns = aligns; bytes = bytes };
-            };
-        same = λ e. absurd (some (is ∙ e));
-      } in subst (λ m. Allocates sllen old size align m new) (sym is) made
-  allocated None n is step live sized few fresh aligns bytes state kept =
-      let made : Allocates sllen old size align 0 new = record {
-        no_layout = λ never. refl;
-        step = λ l. step;
-        new = λ apart. absurd (apart refl);
-        same = λ e. record { place = place; state = state; bytes = kept };
-      } in subst (λ m. Allocates sllen old size align m new) (sym is) made
-
--- no layout has the size and the alignment
-pub no_layout : (sllen : ℕ) (v : Allocator) (size align : ℕ) → (IsLayout size align → ⊥) → Allocates sllen v size align 0 v
-no_layout sllen v size align never = record {
-  no_layout = λ n. refl;
-  step = λ l. absurd (never l);
-  new = λ apart. absurd (apart refl);
-  same = λ e. same v;
+-- a heap over the caller's bytes is fresh
+pub fresh : (p : Ptr) (start : ℕ) (bytes : List ℕ) (m : Space) (v : HeapView) → IsOver m v → m.start ≡ start → m.bytes ≡ bytes
+    → (m.view.base.ptr ≡ p) × (place_in m.view start ≡ 0) → IsFresh p start bytes v
+fresh p start bytes m v is its_start its_bytes lies = record {
+  lies = subst (λ (n : Space). (n.view.base.ptr ≡ p) × (place_in n.view start ≡ 0)) (sym is.memory) lies;
+  begins = ap (λ (n : Space). n.start) is.memory ∙ its_start;
+  kept = ap (λ (n : Space). n.bytes) is.memory ∙ its_bytes;
+  home = is.home ∙ ap home_of (sym is.memory);
+  state = is.state;
+  untouched = is.untouched;
+  ready = is.ready;
 }
 
--- ---- payloads that get another size
+module _ (fllen sllen : ℕ) (old new : HeapView) (same : IsSameHeap old new) where
+  pub allocated : (size align : ℕ) (p : PayloadView) → IsLayout size align → Steps fllen sllen new (machine.Allocates sllen old.state size align (reply_of p.start))
+      → (p.start ≢ 0 → IsWritten p) → (p.start ≢ 0 → p.identity ≡ old.identity) → (p.start ≢ 0 → align_at new.state p.start ≡ Some align)
+      → (p.start ≢ 0 → p.align ≡ align) → (p.start ≢ 0 → length p.bytes ≡ length (bytes_at new.state p.start)) → (p.start ≢ 0 → p.start % align ≡ 0)
+      → (p.start ≢ 0 → size ≤ length p.bytes) → (p.start ≢ 0 → length p.bytes < size + 32) → (p.start ≢ 0 → align_at old.state p.start ≡ None)
+      → ((a : ℕ) → a ≢ p.start → align_at new.state a ≡ align_at old.state a) → (p.start ≢ 0 → live_count new.state ≡ live_count old.state + 1)
+      → new.state.chunks ≡ old.state.chunks → (p.start ≡ 0 → new.state ≡ old.state) → Allocates sllen old size align p new
+  allocated size align p layout step written heap live requested long aligned sized few fresh aligns count chunks unchanged = record {
+    no_layout = λ never. absurd (never layout);
+    step = λ l. step_of fllen sllen new (machine.Allocates sllen old.state size align (reply_of p.start)) step;
+    heap = same;
+    at = record { start = refl; heap = λ some. heap some ∙ sym same.identity; written = written };
+    new = fresh;
+    sized = λ some. record { live = live some; requested = requested some; aligned = aligned some; sized = sized some; few = few some; long = long some };
+    aligns = aligns;
+    count = count;
+    chunks = chunks;
+    same = unchanged;
+  }
 
--- a payload that moved has left its address
-pub left_behind : (fllen sllen : ℕ) (v : Allocator) → Stands fllen sllen v → (t : State) (addr align size to : ℕ) → align_at v.state addr ≡ Some align
-    → Reallocates sllen v.state addr size (Some to) t
-    → to ≢ addr → align_at t addr ≡ None
-unfolding Stands
-left_behind fllen sllen v stands t addr align size to is step apart =
-    let (u, held, aligned) = align_at-live v.state addr align is in
-    let resized = callers_see_map fllen sllen (range_of v.memory) v.state t (reallocate addr size (Some to)) stands.stands.well_formed (u, held) step in
-    align_at-none t addr (resized.left apart)
+  pub freed : (addr : ℕ) (p : PayloadView) → p.start ≡ addr → addr ≢ 0 → Steps fllen sllen new (Deallocates old.state addr)
+      → align_at old.state addr ≡ Some p.align → align_at new.state addr ≡ None → ((a : ℕ) → a ≢ addr → align_at new.state a ≡ align_at old.state a)
+      → live_count old.state ≡ live_count new.state + 1 → new.state.chunks ≡ old.state.chunks → Frees old addr p new
+  freed addr p at some step live gone aligns count chunks = record {
+    heap = same;
+    freed = λ apart. record {
+      step = subst (λ (n : ℕ). Deallocates old.state n new.state) (sym at) (step_of fllen sllen new (Deallocates old.state addr) step);
+      live = subst (λ (n : ℕ). align_at old.state n ≡ Some p.align) (sym at) live;
+      gone = subst (λ (n : ℕ). align_at new.state n ≡ None) (sym at) gone;
+      count = count;
+      chunks = chunks;
+      aligns = λ a off. aligns a (λ e. off (e ∙ sym at));
+    };
+    nothing = λ e. absurd (some e);
+  }
 
-module _ (fllen sllen : ℕ) (old new : Allocator) (stands : Stands fllen sllen old) (addr size align : ℕ) (was : align_at old.state addr ≡ Some align)
-    (layout : IsLayout size align) (place : SamePlace old.memory new.memory) where
-  pub resized : (r : Option NonZeroUsize) (n : ℕ) → IsNumberOf r n → Reallocates sllen old.state addr size (reply r) new.state
-      → IfSome r (λ to. align_at new.state (at to) ≡ Some align) → IfSome r (λ to. size ≤ length (bytes_at new.state (at to)))
-      → IfSome r (λ to. length (bytes_at new.state (at to)) < size + 32) → IfSome r (λ to. Keeps (bytes_at old.state addr) (bytes_at new.state (at to)))
-      → IfSome r (λ to. at to ≢ addr → align_at old.state (at to) ≡ None)
-      → IfSome r (λ to. (a : ℕ) → a ≢ addr → a ≢ at to → align_at new.state a ≡ align_at old.state a)
-      → IfSome r (λ to. (a : ℕ) → a ≢ addr → a ≢ at to → bytes_at new.state a ≡ bytes_at old.state a)
-      → IfNone r (new.state ≡ old.state) → IfNone r (new.memory.bytes ≡ old.memory.bytes) → Resizes sllen old addr size align n new
-  resized (Some to) n (is, some) step live sized few held fresh aligns bytes state kept =
-      let made : Resizes sllen old addr size align (at to) new = record {
-        no_layout = λ never. absurd (never layout);
-        step = λ l. subst (λ o. Reallocates sllen old.state addr size o new.state) (sym (reply_of-some (at to) (λ e. some (is ∙ e)))) step;
-        resized =
-            λ apart. record {
-              live = live;
-              sized = sized;
-              few = few;
-              held = held;
-              new = fresh;
-              gone = left_behind fllen sllen old stands new.state addr align size (at to) was step;
-              aligns = aligns;
-              bytes = bytes;
-              place = place;
-            };
-        same = λ e. absurd (some (is ∙ e));
-      } in subst (λ m. Resizes sllen old addr size align m new) (sym is) made
-  resized None n is step live sized few held fresh aligns bytes state kept =
-      let made : Resizes sllen old addr size align 0 new = record {
-        no_layout = λ never. refl;
-        step = λ l. step;
-        resized = λ apart. absurd (apart refl);
-        same = λ e. record { place = place; state = state; bytes = kept };
-      } in subst (λ m. Resizes sllen old addr size align m new) (sym is) made
-
--- no layout has the size and the alignment
-pub not_resized : (sllen : ℕ) (v : Allocator) (addr size align : ℕ) → (IsLayout size align → ⊥) → Resizes sllen v addr size align 0 v
-not_resized sllen v addr size align never = record {
-  no_layout = λ n. refl;
-  step = λ l. absurd (never l);
-  resized = λ apart. absurd (apart refl);
-  same = λ e. same v;
-}
-
--- ---- other calls
-
-pub freed : (fllen sllen : ℕ) (old new : Allocator) (addr : ℕ) → addr ≢ 0 → Steps fllen sllen old new (Deallocates old.state addr) → align_at new.state addr ≡ None
-    → ((a : ℕ) → a ≢ addr → align_at new.state a ≡ align_at old.state a) → ((a : ℕ) → a ≢ addr → bytes_at new.state a ≡ bytes_at old.state a)
-    → SamePlace old.memory new.memory → Frees old addr new
-freed fllen sllen old new addr some step gone aligns bytes place = record {
-  freed = λ apart. record { step = step_of fllen sllen old new (Deallocates old.state addr) step; gone = gone; kept = record { place = place; aligns = aligns; bytes = bytes } };
-  nothing = λ e. absurd (some e);
-}
-
--- the address 0 does nothing
-pub none_freed : (v : Allocator) → Frees v 0 v
-none_freed v = record { freed = λ apart. absurd (apart refl); nothing = λ e. same v }
-
-pub added : (fllen sllen : ℕ) (old new : Allocator) (range : Range) (r : Option NonZeroUsize) (n : ℕ) → IsNumberOf r n
-    → Steps fllen sllen old new (Inserts fllen old.state range (reply r))
-    → align_at new.state ≡ align_at old.state → bytes_at new.state ≡ bytes_at old.state
-    → ((q : Range) → IsUntouched old.state.chunks q → AreApart range q → IsUntouched new.state.chunks q) → SamePlace old.memory new.memory
-    → Adds fllen old range.start range.len n new
-added fllen sllen old new range r n is step aligns bytes untouched place = record {
-  step = subst (λ o. Inserts fllen old.state range o new.state) (sym (reply_of-same r n is)) (step_of fllen sllen old new (Inserts fllen old.state range (reply r)) step);
-  aligns = aligns;
-  bytes = bytes;
-  untouched = untouched;
-  place = place;
-}
-
--- the same without a move
-module _ (old new : Allocator) (addr size : ℕ) (some : addr ≢ 0) (layout : IsLayout size 16) (place : SamePlace old.memory new.memory) where
-  pub resized_there : (r : Option NonZeroUsize) (n : ℕ) → IsNumberOf r n → ReallocatesWithoutMove old.state addr size (reply r) new.state
-      → IfSome r (λ to. at to ≡ addr) → align_at new.state addr ≡ Some 16 → IfSome r (λ to. size ≤ length (bytes_at new.state addr))
-      → IfSome r (λ to. length (bytes_at new.state addr) < size + 32) → IfSome r (λ to. Keeps (bytes_at old.state addr) (bytes_at new.state addr))
-      → align_at new.state ≡ align_at old.state → ((a : ℕ) → a ≢ addr → bytes_at new.state a ≡ bytes_at old.state a)
-      → IfNone r (new.state ≡ old.state) → IfNone r (new.memory.bytes ≡ old.memory.bytes) → ResizesThere old addr size n new
-  resized_there (Some to) n (is, nonzero) step there live sized few held aligns bytes state kept =
-      let made : ResizesThere old addr size (at to) new = record {
-        there = λ apart. there;
-        no_layout = λ never. absurd (never layout);
-        step = λ l. subst (λ o. ReallocatesWithoutMove old.state addr size o new.state) (sym (reply_of-some (at to) (λ e. nonzero (is ∙ e)))) step;
-        resized =
-            λ apart. record {
-              live = live;
-              sized = sized;
-              few = few;
-              held = held;
-              new = λ off. absurd (off refl);
-              gone = λ off. absurd (off refl);
-              aligns = λ a off off_to. (λ i. aligns i a);
-              bytes = λ a off off_to. bytes a off;
-              place = place;
-            };
-        same = λ e. absurd (nonzero (is ∙ e));
-      } in subst (λ m. ResizesThere old addr size m new) (sym is) made
-  resized_there None n is step there live sized few held aligns bytes state kept =
-      let made : ResizesThere old addr size 0 new = record {
-        there = λ apart. absurd (apart refl);
-        no_layout = λ never. refl;
-        step = λ l. step;
-        resized = λ apart. absurd (apart refl);
-        same = λ e. record { place = place; state = state; bytes = kept };
-      } in subst (λ m. ResizesThere old addr size m new) (sym is) made
+  pub added : (range : Range) (taken : Option ℕ) (n : ℕ) → taken ≡ reply_of n → Steps fllen sllen new (Inserts fllen old.state range taken)
+      → align_at new.state ≡ align_at old.state
+      → live_count new.state ≡ live_count old.state → ((r : Range) → IsUntouched old.state.chunks r → AreApart range r → IsUntouched new.state.chunks r)
+      → Adds fllen old range.start range.len n new
+  added range taken n is step aligns count untouched = record {
+    step = subst (λ o. Inserts fllen old.state range o new.state) is (step_of fllen sllen new (Inserts fllen old.state range taken) step);
+    heap = same;
+    aligns = aligns;
+    count = count;
+    untouched = untouched;
+  }

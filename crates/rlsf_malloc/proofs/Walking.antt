@@ -37,3 +37,16 @@ pub use denote.Builtin.{unit}
 pub use denote.Steps.{only}
 pub use types.Kit.{use0}
 pub use types.Run.{unit_lit}
+pub use seplogic.Ra.Ura.{Ura}
+pub use base.Fml.{Fml}
+pub use base.Logic.{SProp, sep}
+pub use types.Logic.{Logic, sem}
+pub use prog.Model.{Model}
+pub use prog.Wp.{Closed}
+pub use contract.Running.{Running}
+pub use mir.Syntax.{Fn, Callee, Ty, local, value_local, ty_ptr, ty_int, ty_ref, ty_unit, erased, mut, seq, assign, place, rv_opd, copy, opd_unit, addr_of, deref, call, return}
+pub use denote.RattleType.{RattleType}
+pub use denote.Builtin.{One, RefMutOf}
+pub use denote.Triple.Clauses.{Ended, Clauses, Lasts, closing}
+pub use denote.Triple.Spec.{Meets}
+pub use Rattle.core.proofs.cell.Inside.{Good}

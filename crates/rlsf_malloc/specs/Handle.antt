@@ -1,16 +1,23 @@
 -- The heap behind a handle.
 use Rattle.std.specs.Borrow.{Fml, full_share}
 use Rattle.std.specs.Ptr.{Ptr, lies_at, room_at}
-use Rattle.std.specs.Prelude.{ℕ}
-use base.Fml.{fex}
-use prog.Memory.{size}
+use Rattle.std.specs.Prelude.{◌≡◌, ℕ, List, [], length}
+use base.Fml.{fex, fsep}
 use denote.Builtin.{u16, u64}
+use prog.Memory.{size}
 use denote.Param.{layout, number}
 use denote.RattleType.{RattleType}
+use denote.RawPtr.{◌+ₚ◌}
+use Rattle.rlsf_base.specs.OpenSpace.{Home, place_in}
+use Rattle.rlsf_base.specs.RawParts.{LiesAtBlock}
+use Rattle.rlsf_base.specs.Steps.Ownership.{bytes_at}
+use Rattle.rlsf_base.specs.declared.memory.block.RawParts.{RawParts}
 use Rattle.rlsf_int.specs.contracts.impls.u16.U16BitPattern.TheImpl.{ghosts as ghosts16}
 use Rattle.rlsf_int.specs.contracts.impls.u64.U64BitPattern.TheImpl.{ghosts as ghosts64}
-use Rattle.rlsf_tlsf.specs.Allocator.{Allocator}
-use Rattle.rlsf_tlsf.specs.contracts.tlsf.Tlsf.{the_row}
+use Rattle.rlsf_heap.specs.Heap.{HeapView, PayloadView}
+use Rattle.rlsf_heap.specs.Thin.{owns_reply}
+use Rattle.rlsf_heap.specs.contracts.heap.Heap.{the_row}
+use Rattle.rlsf_malloc.specs.Calls.{IsReady}
 
 -- the type of a large heap
 abbrev pub large : RattleType
@@ -20,17 +27,29 @@ large = the_row u64 u64 (number 64) (number 64) ghosts64 ghosts64
 abbrev pub small : RattleType
 small = the_row u16 u16 (number 12) (number 16) ghosts16 ghosts16
 
--- a heap of which P is true
-abbrev pub SomeHeap : (Allocator → Type 0) → Type 0
-SomeHeap P = (v : Allocator) × P v
+-- a value of a type lies at a pointer, and S is true of it
+abbrev pub Holds : (R : RattleType) → (R.Denot → Type 0) → Ptr → R.Denot → Fml
+Holds R S p v = fex (S v) (λ _. lies_at R full_share p v)
 
--- a large heap lies at the handle
-abbrev pub HoldsLarge : Ptr → Allocator → Fml
-HoldsLarge p v = lies_at large full_share p v
+-- a value of which P is true lies at a pointer
+abbrev pub HoldsSome : (R : RattleType) → Ptr → (R.Denot → Type 0) → Fml
+HoldsSome R p P = fex ((v : R.Denot) × P v) (λ x. lies_at R full_share p x.0)
+
+-- a value lies at a pointer, and the caller owns F, for a y such that P is true of both
+abbrev pub HoldsBeside : (R : RattleType) → Ptr → (Y : Type 0) → (R.Denot → Y → Type 0) → (R.Denot → Y → Fml) → Fml
+HoldsBeside R p Y P F = fex ((v : R.Denot) × (y : Y) × P v y) (λ x. fsep (lies_at R full_share p x.0) (F x.0 x.1))
+
+-- a large heap lies at the handle. It owns its memory except for the payloads that are out
+abbrev pub HoldsLarge : Ptr → HeapView → Fml
+HoldsLarge p v = Holds large IsReady p v
 
 -- a large heap of which P is true lies at the handle
-abbrev pub HoldsSomeLarge : Ptr → (Allocator → Type 0) → Fml
-HoldsSomeLarge p P = fex (SomeHeap P) (λ x. lies_at large full_share p x.0)
+abbrev pub HoldsSomeLarge : Ptr → (HeapView → Type 0) → Fml
+HoldsSomeLarge p P = HoldsSome large p P
+
+-- a large heap lies at the handle, and the caller owns a payload, such that P is true of both; or no payload, if its address is 0
+abbrev pub LargeGives : Ptr → (HeapView → PayloadView → Type 0) → Fml
+LargeGives p P = HoldsBeside large p PayloadView P (λ v q. owns_reply q)
 
 -- there is room for a large heap at the handle
 abbrev pub HasRoomForLarge : Ptr → Fml
@@ -40,13 +59,17 @@ HasRoomForLarge p = room_at large p
 abbrev pub large_size : ℕ
 large_size = size (layout large)
 
--- a small heap lies at the handle
-abbrev pub HoldsSmall : Ptr → Allocator → Fml
-HoldsSmall p v = lies_at small full_share p v
+-- a small heap lies at the handle. It owns its memory except for the payloads that are out
+abbrev pub HoldsSmall : Ptr → HeapView → Fml
+HoldsSmall p v = Holds small IsReady p v
 
 -- a small heap of which P is true lies at the handle
-abbrev pub HoldsSomeSmall : Ptr → (Allocator → Type 0) → Fml
-HoldsSomeSmall p P = fex (SomeHeap P) (λ x. lies_at small full_share p x.0)
+abbrev pub HoldsSomeSmall : Ptr → (HeapView → Type 0) → Fml
+HoldsSomeSmall p P = HoldsSome small p P
+
+-- a small heap lies at the handle, and the caller owns a payload, such that P is true of both; or no payload, if its address is 0
+abbrev pub SmallGives : Ptr → (HeapView → PayloadView → Type 0) → Fml
+SmallGives p P = HoldsBeside small p PayloadView P (λ v q. owns_reply q)
 
 -- there is room for a small heap at the handle
 abbrev pub HasRoomForSmall : Ptr → Fml
@@ -55,3 +78,15 @@ HasRoomForSmall p = room_at small p
 -- the number of bytes of that room
 abbrev pub small_size : ℕ
 small_size = size (layout small)
+
+-- where the first byte of a memory lies
+abbrev pub first_of : Home → Ptr
+first_of h = h.view.base.ptr +ₚ place_in h.view h.start
+
+-- the parts of a memory, each byte of which has a value
+abbrev pub ArePartsOf : Home → RawParts → Type 0
+ArePartsOf h r = (r.base.ptr ≡ first_of h) × (r.start ≡ h.start) × LiesAtBlock r × (length r.bytes.bytes ≡ h.len) × (r.bytes.out ≡ [])
+
+-- the bytes of a memory, where they lie, each with some value
+abbrev pub bytes_of : Home → Fml
+bytes_of h = fex ((bytes : List ℕ) × (length bytes ≡ h.len)) (λ x. bytes_at (first_of h) h.start x.0)

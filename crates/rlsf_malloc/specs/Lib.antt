@@ -1,4 +1,5 @@
+pub mod Blocks
 pub mod Calls
 pub mod Handle
-pub mod Totals
-pub mod Walk
+pub mod Replies
+pub mod Resizing

@@ -1,13 +1,12 @@
-//! The calls of a heap, over numbers.
+//! The calls of a heap, over numbers and payloads.
 
-ghost use Rattle.std.specs.Prelude.{◌≡◌, ◌≢◌, length, replicate, IsSome};
-ghost use Rattle.rlsf_base.specs.Addr.{at};
-ghost use Rattle.rlsf_model.specs.Callers.{align_at};
-ghost use Rattle.rlsf_malloc.specs.Calls.{Adds, Allocates, AllocatesZeroed, CanAdd, CanFree, Frees, IsNumberOf, IsUsable, Zeroes, aligned_for};
+ghost use Rattle.std.specs.Prelude.{◌≡◌, ◌≢◌};
+ghost use Rattle.rlsf_malloc.specs.Calls.{Adds, Allocates, AllocatesZeroed, CanAdd, Frees, IsAt, IsReady, IsUsable, aligned_for};
 
-use rlsf_base::memory::{Addr, Layout, Range};
+use crate::replies::Measured;
+use rlsf_base::memory::{Layout, Range};
+use rlsf_heap::{Heap, ThinPayload};
 use rlsf_int::BitPattern;
-use rlsf_tlsf::Tlsf;
 
 /// Returns the alignment of a payload for which `align` was requested: 16 at least.
 pub(crate) fn at_least_16(align: usize) -> usize
@@ -16,125 +15,106 @@ pub(crate) fn at_least_16(align: usize) -> usize
     if align < 16 { 16 } else { align }
 }
 
-/// Returns an address as a number, or 0 if there is none.
-pub(crate) fn number_of(addr: Option<Addr>) -> usize
-    ensures { IsNumberOf addr result }
+/// Adds a range of the memory. Returns the number of bytes taken, or 0.
+pub(crate) fn add<F: BitPattern, S: BitPattern, const FLLEN: usize, const SLLEN: usize>(
+    heap: &mut Heap<F, S, FLLEN, SLLEN>,
+    start: usize,
+    len: usize,
+) -> usize
+    requires { IsReady heap.old × CanAdd heap.old start len }
+    ensures { Adds FLLEN heap.old start len result heap.new }
 {
-    match addr {
-        Some(addr) => addr.get(),
+    match heap.insert_free_block_ptr(Range { start, len }) {
+        Some(taken) => taken.get(),
         None => 0,
     }
 }
 
-/// Adds a range of the memory. Returns the number of bytes taken, or 0.
-pub(crate) fn add<F: BitPattern, S: BitPattern, const FLLEN: usize, const SLLEN: usize>(
-    heap: &mut Tlsf<F, S, FLLEN, SLLEN>,
-    start: usize,
-    len: usize,
-) -> usize
-    requires { CanAdd heap.old start len }
-    ensures { Adds FLLEN heap.old start len result heap.new }
-{
-    number_of(heap.insert_free_block_ptr(Range { start, len }))
-}
-
-/// Allocates a payload for a layout, if there is one. Returns its address, or 0.
+/// Allocates a payload for a layout, if there is one, or returns none.
 #[inline(always)]
 fn allocate_for<F: BitPattern, S: BitPattern, const FLLEN: usize, const SLLEN: usize>(
-    heap: &mut Tlsf<F, S, FLLEN, SLLEN>,
+    heap: &mut Heap<F, S, FLLEN, SLLEN>,
     size: usize,
     align: usize,
-) -> usize
-    ensures { Allocates SLLEN heap.old size align result heap.new }
+) -> ThinPayload
+    requires { IsReady heap.old }
+    ensures { (result.addr ≡ result.of.start) × Allocates SLLEN heap.old size align result.of heap.new }
 {
     match Layout::from_size_align(size, align) {
-        Ok(layout) => number_of(heap.allocate(layout)),
-        Err(_) => 0,
+        Ok(layout) => heap.allocate_thin(layout),
+        Err(_) => ThinPayload::none(),
     }
 }
 
-/// Allocates a payload of the alignment 16. Returns its address, or 0.
+/// Allocates a payload of the alignment 16, or returns none.
 // Apart from `allocate`, and of one caller: so it is in line there, and the compiler drops the tests of a constant alignment.
 pub(crate) fn malloc<F: BitPattern, S: BitPattern, const FLLEN: usize, const SLLEN: usize>(
-    heap: &mut Tlsf<F, S, FLLEN, SLLEN>,
+    heap: &mut Heap<F, S, FLLEN, SLLEN>,
     size: usize,
-) -> usize
-    ensures { Allocates SLLEN heap.old size 16 result heap.new }
+) -> ThinPayload
+    requires { IsReady heap.old }
+    ensures { (result.addr ≡ result.of.start) × Allocates SLLEN heap.old size 16 result.of heap.new }
 {
     allocate_for(heap, size, 16)
 }
 
-/// Allocates a payload. Returns its address, or 0.
+/// Allocates a payload, or returns none.
 #[inline(never)]
 pub(crate) fn allocate<F: BitPattern, S: BitPattern, const FLLEN: usize, const SLLEN: usize>(
-    heap: &mut Tlsf<F, S, FLLEN, SLLEN>,
+    heap: &mut Heap<F, S, FLLEN, SLLEN>,
     size: usize,
     align: usize,
-) -> usize
-    ensures { Allocates SLLEN heap.old size align result heap.new }
+) -> ThinPayload
+    requires { IsReady heap.old }
+    ensures { (result.addr ≡ result.of.start) × Allocates SLLEN heap.old size align result.of heap.new }
 {
     allocate_for(heap, size, align)
 }
 
-/// Writes zeros to all bytes.
-fn zero(bytes: &mut [u8])
-    ensures { bytes.new ≡ replicate (length bytes.old) 0 }
-{
-    bytes.fill(0);
-}
-
-/// Writes zeros to all bytes of a payload.
-fn zero_payload<F: BitPattern, S: BitPattern, const FLLEN: usize, const SLLEN: usize>(
-    heap: &mut Tlsf<F, S, FLLEN, SLLEN>,
-    addr: Addr,
-)
-    requires { IsSome (align_at heap.old.state (at addr)) }
-    ensures { Zeroes heap.old (at addr) heap.new }
-{
-    zero(heap.payload_mut(addr));
-}
-
-/// Allocates a payload of `count * size` zero bytes. Returns its address, or 0.
+/// Allocates a payload of `count * size` zero bytes, or returns none.
 pub(crate) fn allocate_zeroed<F: BitPattern, S: BitPattern, const FLLEN: usize, const SLLEN: usize>(
-    heap: &mut Tlsf<F, S, FLLEN, SLLEN>,
+    heap: &mut Heap<F, S, FLLEN, SLLEN>,
     count: usize,
     size: usize,
-) -> usize
-    ensures { AllocatesZeroed SLLEN heap.old count size result heap.new }
+) -> ThinPayload
+    requires { IsReady heap.old }
+    ensures { (result.addr ≡ result.of.start) × AllocatesZeroed SLLEN heap.old count size result.of heap.new }
 {
     let Some(total) = count.checked_mul(size) else {
-        return 0;
+        return ThinPayload::none();
     };
-    let addr = allocate(heap, total, 16);
-    if let Some(payload) = Addr::new(addr) {
-        zero_payload(heap, payload);
+    match Layout::from_size_align(total, 16) {
+        Ok(layout) => heap.allocate_thin_zeroed(layout),
+        Err(_) => ThinPayload::none(),
     }
-    addr
 }
 
-/// Deallocates a payload. Does nothing if `addr` is 0.
+/// Deallocates the payload at an address. Does nothing if that is 0.
 pub(crate) fn free<F: BitPattern, S: BitPattern, const FLLEN: usize, const SLLEN: usize>(
-    heap: &mut Tlsf<F, S, FLLEN, SLLEN>,
+    heap: &mut Heap<F, S, FLLEN, SLLEN>,
     addr: usize,
+    payload: ThinPayload,
 )
-    requires { CanFree heap.old addr }
-    ensures { Frees heap.old addr heap.new }
+    requires { IsReady heap.old × IsAt heap.old addr payload.of }
+    ensures { Frees heap.old addr payload.of heap.new }
 {
-    if let Some(addr) = Addr::new(addr) {
-        heap.deallocate_unknown_align(addr);
+    if addr != 0 {
+        heap.deallocate_thin_written(addr, payload);
     }
 }
 
-/// Returns the number of usable bytes of a payload, or 0 if `addr` is 0.
+/// Returns the number of usable bytes of the payload at an address, or 0 if that is 0, and the payload.
 pub(crate) fn usable<F: BitPattern, S: BitPattern, const FLLEN: usize, const SLLEN: usize>(
-    heap: &Tlsf<F, S, FLLEN, SLLEN>,
+    heap: &mut Heap<F, S, FLLEN, SLLEN>,
     addr: usize,
-) -> usize
-    requires { CanFree heap.now addr }
-    ensures { IsUsable heap.now addr result }
+    payload: ThinPayload,
+) -> Measured
+    requires { IsReady heap.old × IsAt heap.old addr payload.of }
+    ensures { IsUsable heap.old addr payload.of result.len result.payload.of heap.new }
 {
-    match Addr::new(addr) {
-        Some(addr) => heap.allocation_usable_size(addr),
-        None => 0,
+    if addr == 0 {
+        return Measured { len: 0, payload };
     }
+    let (len, payload) = heap.usable_thin(addr, payload);
+    Measured { len, payload }
 }

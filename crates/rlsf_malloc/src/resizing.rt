@@ -1,18 +1,20 @@
-//! Reallocations, over numbers.
+//! Reallocations, over numbers and payloads.
 
-ghost use Rattle.std.specs.Prelude.{◌≡◌, ◌≢◌, ◌↔◌, IsSome, IsTrue, Some};
-ghost use Rattle.rlsf_base.specs.Addr.{at};
+ghost use Rattle.std.specs.Prelude.{◌≡◌, ◌≢◌, ◌↔◌, ◌≤◌, IsTrue, Some, length};
 ghost use Rattle.rlsf_model.specs.Callers.{align_at};
-ghost use Rattle.rlsf_malloc.specs.Calls.{CanResize, CanResizeAligned, IsLiveAligned, Resizes, ResizesAligned, ResizesAny, ResizesInPlace, ResizesThere, ResizesWide, StaysWide};
+ghost use Rattle.rlsf_malloc.specs.Calls.{IsAt, IsLiveAligned, IsReady, aligned_for};
+ghost use Rattle.rlsf_malloc.specs.Replies.{number_of};
+ghost use Rattle.rlsf_malloc.specs.Resizing.{Resizes, ResizesAligned, ResizesAny, ResizesInPlace, ResizesThere, ResizesWide};
 
-use crate::calls::{allocate, at_least_16, number_of};
-use rlsf_base::memory::{Addr, Layout};
+use crate::calls::{allocate, at_least_16};
+use crate::replies::Resized;
+use rlsf_base::memory::Layout;
+use rlsf_heap::{Heap, ThinPayload};
 use rlsf_int::BitPattern;
-use rlsf_tlsf::Tlsf;
 
 /// Returns whether a payload has the alignment 16. Those of wider alignments begin at multiples of 32.
 fn is_narrow<F: BitPattern, S: BitPattern, const FLLEN: usize, const SLLEN: usize>(
-    heap: &Tlsf<F, S, FLLEN, SLLEN>,
+    heap: &Heap<F, S, FLLEN, SLLEN>,
     addr: usize,
 ) -> bool
     requires { IsLiveAligned heap.now addr }
@@ -22,127 +24,155 @@ fn is_narrow<F: BitPattern, S: BitPattern, const FLLEN: usize, const SLLEN: usiz
     addr % 32 != 0
 }
 
-/// Changes the size of a payload, and moves it if necessary. Returns its address, or 0.
+/// Changes the size of the payload at an address, and moves it if necessary.
 fn resize<F: BitPattern, S: BitPattern, const FLLEN: usize, const SLLEN: usize>(
-    heap: &mut Tlsf<F, S, FLLEN, SLLEN>,
-    addr: Addr,
+    heap: &mut Heap<F, S, FLLEN, SLLEN>,
+    addr: usize,
+    payload: ThinPayload,
     size: usize,
     align: usize,
-) -> usize
-    requires { align_at heap.old.state (at addr) ≡ Some align }
-    ensures { Resizes SLLEN heap.old (at addr) size align result heap.new }
+) -> Resized
+    requires { IsReady heap.old × IsAt heap.old addr payload.of × (addr ≢ 0) × (payload.addr ≡ addr) × (payload.of.align ≡ align) }
+    ensures { Resizes SLLEN heap.old payload.of size align (number_of result) result.payload.of heap.new }
 {
-    heap.memory_ref();
-    match Layout::from_size_align(size, align) {
-        Ok(layout) => number_of(heap.reallocate(addr, layout)),
-        Err(_) => 0,
+    match heap.reallocate_thin(addr, payload, size, align) {
+        Ok(payload) => Resized {
+            done: true,
+            payload,
+        },
+        Err(payload) => Resized {
+            done: false,
+            payload,
+        },
     }
 }
 
-/// Changes the size of a payload of a known alignment, and moves it if necessary; allocates one if `addr` is 0. Returns its address, or 0.
+/// Changes the size of the payload at an address, whose alignment is known, and moves it if necessary; allocates one if the address is 0.
 pub(crate) fn resize_aligned<F: BitPattern, S: BitPattern, const FLLEN: usize, const SLLEN: usize>(
-    heap: &mut Tlsf<F, S, FLLEN, SLLEN>,
+    heap: &mut Heap<F, S, FLLEN, SLLEN>,
     addr: usize,
+    payload: ThinPayload,
     size: usize,
     align: usize,
-) -> usize
-    requires { CanResizeAligned heap.old addr align }
-    ensures { ResizesAligned SLLEN heap.old addr size align result heap.new }
+) -> Resized
+    requires { IsReady heap.old × IsAt heap.old addr payload.of × (payload.addr ≡ addr) × (addr ≢ 0 → payload.of.align ≡ aligned_for align) }
+    ensures { ResizesAligned SLLEN heap.old addr payload.of size align (number_of result) result.payload.of heap.new }
 {
     let align = at_least_16(align);
-    match Addr::new(addr) {
-        Some(addr) => resize(heap, addr, size, align),
-        None => allocate(heap, size, align),
+    if addr == 0 {
+        return Resized {
+            done: true,
+            payload: allocate(heap, size, align),
+        };
     }
+    resize(heap, addr, payload, size, align)
 }
 
-/// Changes the size of a payload whose alignment isn't known: leaves it as it is if its bytes suffice, else moves it into a payload of
-/// the alignment 16. Returns its address, or 0.
+/// Changes the size of a payload of a wide alignment, which isn't known: leaves it as it is if its `len` bytes suffice, else moves it into
+/// a payload of the alignment 16.
 fn resize_wide<F: BitPattern, S: BitPattern, const FLLEN: usize, const SLLEN: usize>(
-    heap: &mut Tlsf<F, S, FLLEN, SLLEN>,
-    addr: Addr,
+    heap: &mut Heap<F, S, FLLEN, SLLEN>,
+    addr: usize,
+    payload: ThinPayload,
     size: usize,
-) -> usize
-    requires { IsSome (align_at heap.old.state (at addr)) }
-    ensures { ResizesWide SLLEN heap.old (at addr) size result heap.new }
+    len: usize,
+) -> Resized
+    requires { IsReady heap.old × IsAt heap.old addr payload.of × (addr ≢ 0) × (payload.addr ≡ addr) × (len ≡ length payload.of.bytes) }
+    ensures { ResizesWide SLLEN heap.old payload.of size (number_of result) result.payload.of heap.new }
 {
-    let len = heap.allocation_usable_size(addr);
     if size <= len {
-        return addr.get();
+        return Resized {
+            done: true,
+            payload,
+        };
     }
-    let to = allocate(heap, size, 16);
-    if let Some(moved) = Addr::new(to) {
-        heap.copy_payload(addr, moved, len);
-        heap.deallocate_unknown_align(addr);
+    let Ok(layout) = Layout::from_size_align(size, 16) else {
+        return Resized {
+            done: false,
+            payload,
+        };
+    };
+    match heap.move_thin(addr, payload, layout) {
+        Ok(payload) => Resized {
+            done: true,
+            payload,
+        },
+        Err(payload) => Resized {
+            done: false,
+            payload,
+        },
     }
-    to
 }
 
-/// Changes the size of a payload, and moves it if necessary; allocates one if `addr` is 0. Returns its address, or 0.
+/// Changes the size of the payload at an address, and moves it if necessary; allocates one if the address is 0.
 pub(crate) fn resize_any<F: BitPattern, S: BitPattern, const FLLEN: usize, const SLLEN: usize>(
-    heap: &mut Tlsf<F, S, FLLEN, SLLEN>,
+    heap: &mut Heap<F, S, FLLEN, SLLEN>,
     addr: usize,
+    payload: ThinPayload,
     size: usize,
-) -> usize
-    requires { CanResize heap.old addr }
-    ensures { ResizesAny SLLEN heap.old addr size result heap.new }
+) -> Resized
+    requires { IsReady heap.old × IsAt heap.old addr payload.of × (payload.addr ≡ addr) × (addr ≢ 0 → 16 ≤ payload.of.align) }
+    ensures { ResizesAny SLLEN heap.old addr payload.of size (number_of result) result.payload.of heap.new }
 {
-    let Some(payload) = Addr::new(addr) else {
-        return allocate(heap, size, 16);
-    };
+    if addr == 0 {
+        return Resized {
+            done: true,
+            payload: allocate(heap, size, 16),
+        };
+    }
+    let (len, payload) = heap.usable_thin(addr, payload);
     if is_narrow(heap, addr) {
-        resize(heap, payload, size, 16)
+        resize(heap, addr, payload, size, 16)
     } else {
-        resize_wide(heap, payload, size)
+        resize_wide(heap, addr, payload, size, len)
     }
 }
 
-/// Changes the size of a payload of the alignment 16 without moving it. Returns its address, or 0.
+/// Changes the size of the payload of the alignment 16 at an address without moving it.
 fn resize_there<F: BitPattern, S: BitPattern, const FLLEN: usize, const SLLEN: usize>(
-    heap: &mut Tlsf<F, S, FLLEN, SLLEN>,
-    addr: Addr,
-    size: usize,
-) -> usize
-    requires { align_at heap.old.state (at addr) ≡ Some 16 }
-    ensures { ResizesThere heap.old (at addr) size result heap.new }
-{
-    match Layout::from_size_align(size, 16) {
-        Ok(layout) => number_of(heap.reallocate_no_move(addr, layout)),
-        Err(_) => 0,
-    }
-}
-
-/// Returns the address of a payload if it has as many bytes, else 0.
-fn stay_wide<F: BitPattern, S: BitPattern, const FLLEN: usize, const SLLEN: usize>(
-    heap: &Tlsf<F, S, FLLEN, SLLEN>,
-    addr: Addr,
-    size: usize,
-) -> usize
-    requires { IsSome (align_at heap.now.state (at addr)) }
-    ensures { StaysWide heap.now (at addr) size result heap.now }
-{
-    if size <= heap.allocation_usable_size(addr) {
-        addr.get()
-    } else {
-        0
-    }
-}
-
-/// Changes the size of a payload without moving it. Returns its address, or 0.
-pub(crate) fn resize_in_place<F: BitPattern, S: BitPattern, const FLLEN: usize, const SLLEN: usize>(
-    heap: &mut Tlsf<F, S, FLLEN, SLLEN>,
+    heap: &mut Heap<F, S, FLLEN, SLLEN>,
     addr: usize,
+    payload: ThinPayload,
     size: usize,
-) -> usize
-    requires { CanResize heap.old addr }
-    ensures { ResizesInPlace heap.old addr size result heap.new }
+) -> Resized
+    requires { IsReady heap.old × IsAt heap.old addr payload.of × (addr ≢ 0) × (payload.addr ≡ addr) × (payload.of.align ≡ 16) }
+    ensures { ResizesThere heap.old payload.of size (number_of result) result.payload.of heap.new }
 {
-    let Some(payload) = Addr::new(addr) else {
-        return 0;
-    };
+    match heap.reallocate_thin_no_move(addr, payload, size, 16) {
+        Ok(payload) => Resized {
+            done: true,
+            payload,
+        },
+        Err(payload) => Resized {
+            done: false,
+            payload,
+        },
+    }
+}
+
+/// Changes the size of the payload at an address without moving it. Does nothing if the address is 0.
+pub(crate) fn resize_in_place<F: BitPattern, S: BitPattern, const FLLEN: usize, const SLLEN: usize>(
+    heap: &mut Heap<F, S, FLLEN, SLLEN>,
+    addr: usize,
+    payload: ThinPayload,
+    size: usize,
+) -> Resized
+    requires { IsReady heap.old × IsAt heap.old addr payload.of × (payload.addr ≡ addr) × (addr ≢ 0 → 16 ≤ payload.of.align) }
+    ensures { ResizesInPlace heap.old addr payload.of size (number_of result) result.payload.of heap.new }
+{
+    if addr == 0 {
+        return Resized {
+            done: false,
+            payload,
+        };
+    }
+    let (len, payload) = heap.usable_thin(addr, payload);
     if is_narrow(heap, addr) {
-        resize_there(heap, payload, size)
+        resize_there(heap, addr, payload, size)
     } else {
-        stay_wide(heap, payload, size)
+        Resized {
+            done: size <= len,
+            payload,
+        }
     }
 }

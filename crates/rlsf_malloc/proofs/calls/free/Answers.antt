@@ -1,13 +1,26 @@
-use Rattle.std.proofs.Common.{arith, subst}
-use Rattle.rlsf_base.specs.Addr.{at}
-use Rattle.rlsf_malloc.specs.Calls.{Frees}
-use Rattle.rlsf_malloc.proofs.Outcomes.{freed, none_freed}
+use Rattle.std.proofs.Common.{arith, rules}
+use Rattle.rlsf_malloc.proofs.Outcomes.{freed, same_heap}
 use Rattle.rlsf_malloc.proofs.calls.free.Goals as goal
 
-pub returns-in-Some : goal.returns-in-Some
-returns-in-Some g c =
-    let old = c.args.heap.now in
-    let new = c.deallocate_unknown_align.new.self in
-    let did = c.deallocate_unknown_align.ensures in
-    subst (λ a. Frees old a new) c.in-Some.ensures
-    (freed g.row.FLLEN g.row.SLLEN old new (at c.in-Some.addr) (λ e. omega (arith, c.in-Some.addr.ok, e)) did.step did.gone did.aligns did.bytes did.place)
+pub deallocate_thin_written-requires : goal.deallocate_thin_written-requires
+deallocate_thin_written-requires g c =
+    let is = c.requires.1 in (
+      search rules,
+      (
+        (is.start, λ e. omega (arith, c.if-addr-ne0.true, e)),
+        (
+          is.heap (λ e. omega (arith, c.if-addr-ne0.true, e)),
+          is.written (λ e. omega (
+            arith,
+            c.if-addr-ne0.true,
+            e,
+          )),
+        ),
+      ),
+    )
+
+pub returns-then-addr-ne0 : goal.returns-then-addr-ne0
+returns-then-addr-ne0 g c =
+    let old = c.args.heap.now in let new = c.deallocate_thin_written.new.self in let did = c.deallocate_thin_written.ensures in
+    freed g.row.FLLEN g.row.SLLEN old new (same_heap old new did.identity did.place (did.settled c.requires.0)) c.args.addr c.args.payload.of c.requires.1.start
+    (λ e. omega (arith, c.if-addr-ne0.true, e)) did.step did.live did.gone did.aligns did.count did.chunks

@@ -1,4 +1,4 @@
-use Rattle.std.proofs.Common.{◌≡◌, ℕ, ◌%◌, Some, not, arith, ap, sym, ◌∙◌, inl, inr, subst, true≢false}
+use Rattle.std.proofs.Common.{◌≡◌, ℕ, ◌%◌, Some, not, arith, ap, sym, ◌∙◌, inl, inr, true≢false}
 use Rattle.std.proofs.lemmas.Bool.{eq-eqb, ne_eqb}
 use Rattle.rlsf_malloc.proofs.Alignments.{narrow_or_wide}
 use Rattle.rlsf_malloc.proofs.resizing.is_narrow.Goals as goal

@@ -1,0 +1,126 @@
+-- What the reallocations of a heap come to, as the exports say it.
+use Rattle.std.proofs.Common.{◌≡◌, ◌≢◌, ℕ, ◌+◌, ◌%◌, ◌<◌, ◌≤◌, length, map, Some, None, arith, refl, sym, subst, ◌∙◌, ap}
+use Rattle.rlsf_base.specs.Layout.{IsLayout}
+use Rattle.rlsf_model.specs.Callers.{align_at, bytes_at}
+use Rattle.rlsf_model.specs.NoMove.{ReallocatesWithoutMove}
+use Rattle.rlsf_model.specs.Reallocate.{Keeps, Reallocates}
+use Rattle.rlsf_model.specs.Sized.{live_count}
+use Rattle.rlsf_model.specs.State.{AreAlike, State, shape_of}
+use Rattle.rlsf_heap.specs.Heap.{HeapView, IsWritten, PayloadView}
+use Rattle.rlsf_heap.specs.Reallocation.{owned_by}
+use Rattle.rlsf_heap.specs.Thin.{reply_of}
+use Rattle.rlsf_heap.specs.ThinReplies.{MovesElsewhere}
+use Rattle.rlsf_malloc.specs.Calls.{IsSameHeap}
+use Rattle.rlsf_malloc.specs.Resizing.{IsRefused, IsResized, Resizes, ResizesThere, ResizesWide}
+use Rattle.rlsf_malloc.proofs.Outcomes.{reply_some}
+
+-- equal states are alike
+pub are_alike : (s t : State) → t ≡ s → AreAlike s t
+are_alike s t e = record { chunks = ap (λ (r : State). r.chunks) (sym e); used = ap (λ (r : State). map shape_of r.used) (sym e); free = ap (λ (r : State). r.free) (sym e) }
+
+module _ (old new : HeapView) (same : IsSameHeap old new) (p : PayloadView) (addr : ℕ) (at : p.start ≡ addr) (some : addr ≢ 0) (size : ℕ) where
+  -- the payload has its new size
+  pub is_resized : (align : ℕ) (q : PayloadView) → q.identity ≡ old.identity → q.align ≡ align → IsWritten q → align_at new.state q.start ≡ Some align
+      → length q.bytes ≡ length (bytes_at new.state q.start) → q.start % align ≡ 0 → size ≤ length q.bytes → length q.bytes < size + 32
+      → Keeps p.bytes q.bytes → (q.start ≢ addr → align_at old.state q.start ≡ None)
+      → ((a : ℕ) → a ≢ addr → a ≢ q.start → align_at new.state a ≡ align_at old.state a) → IsResized old p size align q new
+  is_resized align q heap requested written live long aligned sized few kept fresh aligns = record {
+    at = record { start = refl; heap = λ _. heap ∙ sym same.identity; written = λ _. written };
+    sized = record { live = live; requested = requested; aligned = aligned; sized = sized; few = few; long = long };
+    held = kept;
+    new = λ apart. fresh (λ e. apart (e ∙ sym at));
+    aligns = λ a off off_new. aligns a (λ e. off (e ∙ sym at)) off_new;
+  }
+
+  -- it is as it was
+  pub is_refused : (q : PayloadView) → q.identity ≡ p.identity → q.align ≡ p.align → q.start ≡ addr → q.bytes ≡ p.bytes → IsWritten q
+      → AreAlike old.state new.state → align_at new.state ≡ align_at old.state → IsRefused old p q new
+  is_refused q heap align start bytes written alike aligns = record {
+    kept = record { heap = heap; start = start ∙ sym at; align = align; bytes = bytes; written = written };
+    alike = alike;
+    aligns = aligns;
+  }
+
+  module _ (sllen align : ℕ) where
+    pub resized : (q : PayloadView) (to : ℕ) → to ≡ q.start → q.start ≢ 0 → IsLayout size align
+        → (IsLayout size align → Reallocates sllen (owned_by old.state p) addr size (Some q.start) new.state) → IsResized old p size align q new
+        → live_count new.state ≡ live_count old.state → Resizes sllen old p size align to q new
+    resized q to is nonzero layout step done count = record {
+      no_layout = λ never. absurd (never layout);
+      step = λ l. subst (λ (n : ℕ). Reallocates sllen (owned_by old.state p) n size (reply_of to) new.state) (sym at)
+          (subst (λ o. Reallocates sllen (owned_by old.state p) addr size o new.state) (reply_some q.start nonzero ∙ ap reply_of (sym is)) (step l));
+      heap = same;
+      at = λ _. sym is;
+      resized = λ _. done;
+      refused = λ e. absurd (nonzero (sym is ∙ e));
+      count = count;
+    }
+
+    pub not_resized : (q : PayloadView) → (IsLayout size align → Reallocates sllen (owned_by old.state p) addr size None new.state) → IsRefused old p q new
+        → live_count new.state ≡ live_count old.state → Resizes sllen old p size align 0 q new
+    not_resized q step refused count = record {
+      no_layout = λ _. refl;
+      step = λ l. subst (λ (n : ℕ). Reallocates sllen (owned_by old.state p) n size None new.state) (sym at) (step l);
+      heap = same;
+      at = λ apart. absurd (apart refl);
+      resized = λ apart. absurd (apart refl);
+      refused = λ _. refused;
+      count = count;
+    }
+
+  pub resized_there : (q : PayloadView) (to : ℕ) → to ≡ q.start → q.start ≡ addr → IsLayout size 16
+      → (IsLayout size 16 → ReallocatesWithoutMove (owned_by old.state p) addr size (Some q.start) new.state) → IsResized old p size 16 q new
+      → live_count new.state ≡ live_count old.state → ResizesThere old p size to q new
+  resized_there q to is there layout step done count = record {
+    there = there ∙ sym at;
+    at = λ _. is ∙ there ∙ sym at;
+    no_layout = λ never. absurd (never layout);
+    step = λ l. subst (λ (n : ℕ). ReallocatesWithoutMove (owned_by old.state p) n size (reply_of to) new.state) (sym at)
+        (subst (λ o. ReallocatesWithoutMove (owned_by old.state p) addr size o new.state) (reply_some q.start (λ e. some (sym there ∙ e)) ∙ ap reply_of (sym is)) (step l));
+    heap = same;
+    resized = λ _. done;
+    refused = λ e. absurd (some (sym there ∙ sym is ∙ e));
+    count = count;
+  }
+
+  pub not_resized_there : (q : PayloadView) → q.start ≡ addr → (IsLayout size 16 → ReallocatesWithoutMove (owned_by old.state p) addr size None new.state)
+      → IsRefused old p q new → live_count new.state ≡ live_count old.state → ResizesThere old p size 0 q new
+  not_resized_there q there step refused count = record {
+    there = there ∙ sym at;
+    at = λ apart. absurd (apart refl);
+    no_layout = λ _. refl;
+    step = λ l. subst (λ (n : ℕ). ReallocatesWithoutMove (owned_by old.state p) n size None new.state) (sym at) (step l);
+    heap = same;
+    resized = λ apart. absurd (apart refl);
+    refused = λ _. refused;
+    count = count;
+  }
+
+  module _ (sllen : ℕ) (low : length p.bytes < size) where
+    pub moved : (q : PayloadView) (to : ℕ) → to ≡ q.start → q.start ≢ 0 → IsLayout size 16
+        → MovesElsewhere sllen old.state addr size 16 (Some q.start) new.state → IsResized old p size 16 q new
+        → live_count new.state ≡ live_count old.state → ResizesWide sllen old p size to q new
+    moved q to is nonzero layout step done count = record {
+      stays = λ enough. absurd (omega (arith, low, enough));
+      no_layout = λ _ never. absurd (never layout);
+      step = λ _ l. subst (λ (n : ℕ). MovesElsewhere sllen old.state n size 16 (reply_of to) new.state) (sym at)
+          (subst (λ o. MovesElsewhere sllen old.state addr size 16 o new.state) (reply_some q.start nonzero ∙ ap reply_of (sym is)) step);
+      heap = same;
+      at = λ _. sym is;
+      resized = λ _ _. done;
+      refused = λ e. absurd (nonzero (sym is ∙ e));
+      count = count;
+    }
+
+    pub not_moved : (q : PayloadView) → (IsLayout size 16 → MovesElsewhere sllen old.state addr size 16 None new.state) → IsRefused old p q new
+        → live_count new.state ≡ live_count old.state → ResizesWide sllen old p size 0 q new
+    not_moved q step refused count = record {
+      stays = λ enough. absurd (omega (arith, low, enough));
+      no_layout = λ _ _. refl;
+      step = λ _ l. subst (λ (n : ℕ). MovesElsewhere sllen old.state n size 16 None new.state) (sym at) (step l);
+      heap = same;
+      at = λ apart. absurd (apart refl);
+      resized = λ _ apart. absurd (apart refl);
+      refused = λ _. refused;
+      count = count;
+    }

@@ -1,0 +1,11 @@
+-- What the exports of a shape share, for each type of heaps.
+pub mod Begins
+pub mod Ends
+pub mod Gives1
+pub mod Gives2
+pub mod Lends2
+pub mod Lists
+pub mod Takes
+pub mod Trades0
+pub mod Trades1
+pub mod Trades2

@@ -1,5 +1,0 @@
-use Rattle.std.proofs.Common.{rules}
-use Rattle.rlsf_malloc.proofs.pools.counted.Goals as goal
-
-pub returns-else-is_occupied-clause-value : goal.returns-else-is_occupied-clause-value
-returns-else-is_occupied-clause-value c = search rules

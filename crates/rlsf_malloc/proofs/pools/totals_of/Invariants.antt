@@ -1,6 +1,0 @@
--- What was counted, and what is left to count.
-use Rattle.rlsf_malloc.proofs.Sums.{IsCounted}
-use Rattle.rlsf_malloc.proofs.pools.totals_of.Given as goal
-
-abbrev pub invariant-loop-block : goal.invariant-loop-block
-invariant-loop-block l = goal.iterator-loop-block.can_next l.blocks × goal.iterator-loop-block.is_finite l.blocks × IsCounted l.sum l.blocks l.initial.blocks

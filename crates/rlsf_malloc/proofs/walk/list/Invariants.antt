@@ -1,9 +1,0 @@
--- What was listed of the blocks that were passed, and what is left of them.
-use Rattle.std.proofs.Common.{◌≡◌, ◌/◌, length}
-use Rattle.rlsf_malloc.proofs.Listing.{IsListed}
-use Rattle.rlsf_malloc.proofs.walk.list.Given as goal
-
-abbrev pub invariant-loop-block : goal.invariant-loop-block
-invariant-loop-block l =
-    goal.iterator-loop-block.can_next l.blocks × goal.iterator-loop-block.is_finite l.blocks × (l.room ≡ length l.initial.into / 3)
-    × IsListed l.from l.initial.into l.into l.count l.blocks l.initial.blocks

@@ -1,0 +1,92 @@
+-- What the reallocations do to a heap and its payloads.
+use Rattle.std.specs.Prelude.{◌≡◌, ◌≢◌, ℕ, ◌<◌, ◌≤◌, length, None}
+use Rattle.rlsf_base.specs.Layout.{IsLayout}
+use Rattle.rlsf_model.specs.Callers.{align_at}
+use Rattle.rlsf_model.specs.NoMove.{ReallocatesWithoutMove}
+use Rattle.rlsf_model.specs.Reallocate.{Keeps, Reallocates}
+use Rattle.rlsf_model.specs.Sized.{live_count}
+use Rattle.rlsf_model.specs.State.{AreAlike}
+use Rattle.rlsf_heap.specs.Heap.{HeapView, IsWritten, PayloadView}
+use Rattle.rlsf_heap.specs.Reallocation.{owned_by}
+use Rattle.rlsf_heap.specs.Thin.{reply_of}
+use Rattle.rlsf_heap.specs.ThinReplies.{MovesElsewhere}
+use Rattle.rlsf_malloc.specs.Calls.{Allocates, IsAt, IsSameHeap, IsSized, aligned_for}
+
+-- a payload is as it was: at its address, with its bytes
+pub record IsKept (p q : PayloadView) : Type 0 where
+  pub heap : q.identity ≡ p.identity
+  pub start : q.start ≡ p.start
+  pub align : q.align ≡ p.align
+  pub bytes : q.bytes ≡ p.bytes
+  pub written : IsWritten q
+
+-- a payload p became q, of another size, at its address or at one where none was. As many of its first bytes as both have are kept
+pub record IsResized (before : HeapView) (p : PayloadView) (size align : ℕ) (q : PayloadView) (after : HeapView) : Type 0 where
+  pub at : IsAt after q.start q
+  pub sized : IsSized size align q after
+  pub held : Keeps p.bytes q.bytes
+  pub new : q.start ≢ p.start → align_at before.state q.start ≡ None
+  pub aligns : (a : ℕ) → a ≢ p.start → a ≢ q.start → align_at after.state a ≡ align_at before.state a
+
+-- the payload is as it was, and so are all others
+pub record IsRefused (before : HeapView) (p q : PayloadView) (after : HeapView) : Type 0 where
+  pub kept : IsKept p q
+  pub alike : AreAlike before.state after.state
+  pub aligns : align_at after.state ≡ align_at before.state
+
+-- a reallocation of a payload of this alignment: 0 is returned exactly where there is no such layout or the model refuses it
+pub record Resizes (sllen : ℕ) (before : HeapView) (p : PayloadView) (size align to : ℕ) (q : PayloadView) (after : HeapView) : Type 0 where
+  pub no_layout : (IsLayout size align → ⊥) → to ≡ 0
+  pub step : IsLayout size align → Reallocates sllen (owned_by before.state p) p.start size (reply_of to) after.state
+  pub heap : IsSameHeap before after
+  pub at : to ≢ 0 → q.start ≡ to
+  pub resized : to ≢ 0 → IsResized before p size align q after
+  pub refused : to ≡ 0 → IsRefused before p q after
+  pub count : live_count after.state ≡ live_count before.state
+
+-- a reallocation of a payload of a wide alignment, which isn't known: it stays as it is where its bytes suffice. Else it moves into a
+-- payload of the alignment 16, and 0 is returned exactly where there is no such layout or an allocation is refused
+pub record ResizesWide (sllen : ℕ) (before : HeapView) (p : PayloadView) (size to : ℕ) (q : PayloadView) (after : HeapView) : Type 0 where
+  pub stays : size ≤ length p.bytes → (to ≡ p.start) × (q ≡ p) × (after ≡ before)
+  pub no_layout : length p.bytes < size → (IsLayout size 16 → ⊥) → to ≡ 0
+  pub step : length p.bytes < size → IsLayout size 16 → MovesElsewhere sllen before.state p.start size 16 (reply_of to) after.state
+  pub heap : IsSameHeap before after
+  pub at : to ≢ 0 → q.start ≡ to
+  pub resized : length p.bytes < size → to ≢ 0 → IsResized before p size 16 q after
+  pub refused : to ≡ 0 → IsRefused before p q after
+  pub count : live_count after.state ≡ live_count before.state
+
+-- a reallocation, where the address 0 allocates
+pub record ResizesAny (sllen : ℕ) (before : HeapView) (addr : ℕ) (p : PayloadView) (size to : ℕ) (q : PayloadView) (after : HeapView) : Type 0 where
+  pub fresh : addr ≡ 0 → (q.start ≡ to) × Allocates sllen before size 16 q after
+  pub narrow : addr ≢ 0 → p.align ≡ 16 → Resizes sllen before p size 16 to q after
+  pub wide : addr ≢ 0 → 16 < p.align → ResizesWide sllen before p size to q after
+
+-- a reallocation of a payload of a known alignment, where the address 0 allocates
+pub record ResizesAligned (sllen : ℕ) (before : HeapView) (addr : ℕ) (p : PayloadView) (size align to : ℕ) (q : PayloadView) (after : HeapView) : Type 0 where
+  pub fresh : addr ≡ 0 → (q.start ≡ to) × Allocates sllen before size (aligned_for align) q after
+  pub known : addr ≢ 0 → Resizes sllen before p size (aligned_for align) to q after
+
+-- a reallocation of a payload of the alignment 16 without a move: 0 is returned exactly where there is no such layout or the model refuses it
+pub record ResizesThere (before : HeapView) (p : PayloadView) (size to : ℕ) (q : PayloadView) (after : HeapView) : Type 0 where
+  pub there : q.start ≡ p.start
+  pub at : to ≢ 0 → to ≡ p.start
+  pub no_layout : (IsLayout size 16 → ⊥) → to ≡ 0
+  pub step : IsLayout size 16 → ReallocatesWithoutMove (owned_by before.state p) p.start size (reply_of to) after.state
+  pub heap : IsSameHeap before after
+  pub resized : to ≢ 0 → IsResized before p size 16 q after
+  pub refused : to ≡ 0 → IsRefused before p q after
+  pub count : live_count after.state ≡ live_count before.state
+
+-- the same of a payload of a wide alignment: it stays as it is, and 0 is returned exactly where its bytes don't suffice
+pub record StaysWide (before : HeapView) (p : PayloadView) (size to : ℕ) (q : PayloadView) (after : HeapView) : Type 0 where
+  pub stays : size ≤ length p.bytes → to ≡ p.start
+  pub refused : length p.bytes < size → to ≡ 0
+  pub payload : q ≡ p
+  pub same : after ≡ before
+
+-- a reallocation without a move, where the address 0 does nothing
+pub record ResizesInPlace (before : HeapView) (addr : ℕ) (p : PayloadView) (size to : ℕ) (q : PayloadView) (after : HeapView) : Type 0 where
+  pub nothing : addr ≡ 0 → (to ≡ 0) × (q ≡ p) × (after ≡ before)
+  pub narrow : addr ≢ 0 → p.align ≡ 16 → ResizesThere before p size to q after
+  pub wide : addr ≢ 0 → 16 < p.align → StaysWide before p size to q after

@@ -1,0 +1,219 @@
+//! The exports of the large kind.
+
+ghost use Rattle.std.specs.Borrow.{sem};
+ghost use Rattle.std.specs.Prelude.{◌≡◌, ◌≢◌, ◌%◌, ◌≤◌, ℕ, List, length};
+ghost use Rattle.rlsf_base.specs.Range.{range_at};
+ghost use Rattle.rlsf_base.specs.RawParts.{CanStart};
+ghost use Rattle.rlsf_base.specs.Steps.Ownership.{bytes_at};
+ghost use Rattle.rlsf_blocks.specs.Blocks.{walked};
+ghost use Rattle.rlsf_model.specs.ChunkRows.{IsRow};
+ghost use Rattle.rlsf_model.specs.Sized.{live_count};
+ghost use Rattle.rlsf_heap.specs.Heap.{HeapView, PayloadView};
+ghost use Rattle.rlsf_heap.specs.Thin.{owns_reply};
+ghost use Rattle.rlsf_malloc.specs.Blocks.{AreTotals, IsCheckOf, IsListing};
+ghost use Rattle.rlsf_malloc.specs.Calls.{Adds, Allocates, AllocatesZeroed, CanAdd, Frees, IsAt, IsFresh, IsUsable, aligned_for};
+ghost use Rattle.rlsf_malloc.specs.Handle.{HasRoomForLarge, HoldsLarge, HoldsSomeLarge, LargeGives, bytes_of, large_size};
+ghost use Rattle.rlsf_malloc.specs.Resizing.{ResizesAligned, ResizesAny, ResizesInPlace};
+
+use crate::large;
+use crate::large::Large;
+use rlsf_base::memory::Memory;
+use rlsf_blocks::Totals;
+use rlsf_heap::ThinPayload;
+use std::alloc::Global;
+use std::mem::size_of;
+
+/// Returns the size of a handle of the large kind in bytes.
+#[unsafe(no_mangle)]
+pub extern "C" fn rlsf_large_size() -> usize
+    ensures { result ≡ large_size }
+{
+    size_of::<Large>()
+}
+
+/// Creates a heap of the large kind at a handle, over the `len` bytes at `block`, whose addresses begin at `start`. No range of them is
+/// added yet. The bytes are the heap's from now on.
+#[unsafe(no_mangle)]
+pub unsafe extern "C" fn rlsf_large_init(
+    heap: *mut u8,
+    alloc: Global,
+    block: *mut u8,
+    start: usize,
+    len: usize,
+)
+    ghost bytes: { List ℕ }
+    requires* { sem 𝓛 (HasRoomForLarge heap) ∗ (sem 𝓛 (bytes_at block start bytes) ∗ ⌜ (length bytes ≡ len) × CanStart start len ⌝) }
+    ensures* { sem 𝓛 (HoldsSomeLarge heap (λ after. IsFresh block start bytes after)) }
+{
+    let memory = Memory::from_raw_parts(alloc, block, start, len);
+    std::ptr::write(heap as *mut Large, large::over(memory));
+}
+
+/// Ends a heap of which no payload is live. Its handle is room for one again, and its block's bytes are the caller's.
+#[unsafe(no_mangle)]
+pub unsafe extern "C" fn rlsf_large_end(heap: *mut u8)
+    ghost before: { HeapView }
+    requires* { sem 𝓛 (HoldsLarge heap before) ∗ ⌜ (live_count before.state ≡ 0) × (before.identity.home.start % 8 ≡ 0) ⌝ }
+    ensures* { sem 𝓛 (HasRoomForLarge heap) ∗ sem 𝓛 (bytes_of before.identity.home) }
+{
+    let parts = large::parts(std::ptr::read(heap as *const Large));
+    let _ = parts.release();
+}
+
+/// Adds a range of the memory. Returns the number of bytes from its start to the end of its last chunk, or 0 if it makes no chunk.
+#[unsafe(no_mangle)]
+pub unsafe extern "C" fn rlsf_large_add(heap: *mut u8, start: usize, len: usize) -> usize
+    ghost before: { HeapView }
+    requires* { sem 𝓛 (HoldsLarge heap before) ∗ ⌜ CanAdd before start len ⌝ }
+    ensures* { sem 𝓛 (HoldsSomeLarge heap (λ after. Adds 64 before start len result after)) }
+{
+    large::add(&mut *(heap as *mut Large), start, len)
+}
+
+/// Allocates a payload of the alignment 16. Returns its address, or 0. The caller owns its bytes from now on, and the right to free
+/// it.
+#[unsafe(no_mangle)]
+pub unsafe extern "C" fn rlsf_large_malloc(heap: *mut u8, size: usize) -> usize
+    ghost before: { HeapView }
+    requires* { sem 𝓛 (HoldsLarge heap before) }
+    ensures* { sem 𝓛 (LargeGives heap (λ after payload. (payload.start ≡ result) × Allocates 64 before size 16 payload after)) }
+{
+    let payload = large::malloc(&mut *(heap as *mut Large), size);
+    payload.into_raw()
+}
+
+/// Allocates a payload. Returns its address, or 0. The caller owns it from now on.
+#[unsafe(no_mangle)]
+pub unsafe extern "C" fn rlsf_large_allocate(heap: *mut u8, size: usize, align: usize) -> usize
+    ghost before: { HeapView }
+    requires* { sem 𝓛 (HoldsLarge heap before) }
+    ensures* { sem 𝓛 (LargeGives heap (λ after payload. (payload.start ≡ result) × Allocates 64 before size (aligned_for align) payload after)) }
+{
+    let payload = large::allocate(&mut *(heap as *mut Large), size, align);
+    payload.into_raw()
+}
+
+/// Allocates a payload of `count * size` zero bytes. Returns its address, or 0. The caller owns it from now on.
+#[unsafe(no_mangle)]
+pub unsafe extern "C" fn rlsf_large_allocate_zeroed(
+    heap: *mut u8,
+    count: usize,
+    size: usize,
+) -> usize
+    ghost before: { HeapView }
+    requires* { sem 𝓛 (HoldsLarge heap before) }
+    ensures* { sem 𝓛 (LargeGives heap (λ after payload. (payload.start ≡ result) × AllocatesZeroed 64 before count size payload after)) }
+{
+    let payload = large::allocate_zeroed(&mut *(heap as *mut Large), count, size);
+    payload.into_raw()
+}
+
+/// Frees a payload, which the caller owns and gives up. Does nothing if `addr` is 0.
+#[unsafe(no_mangle)]
+pub unsafe extern "C" fn rlsf_large_free(heap: *mut u8, addr: usize)
+    ghost before: { HeapView × PayloadView }
+    requires* { sem 𝓛 (HoldsLarge heap before.0) ∗ (sem 𝓛 (owns_reply before.1) ∗ ⌜ IsAt before.0 addr before.1 ⌝) }
+    ensures* { sem 𝓛 (HoldsSomeLarge heap (λ after. Frees before.0 addr before.1 after)) }
+{
+    let payload = ThinPayload::from_raw(addr);
+    large::free(&mut *(heap as *mut Large), addr, payload);
+}
+
+/// Changes the size of a payload, which the caller owns, and moves it if necessary; allocates one if `addr` is 0. Returns its address, or
+/// 0. The caller owns it from now on; or the old one, if 0 is returned.
+#[unsafe(no_mangle)]
+pub unsafe extern "C" fn rlsf_large_reallocate(heap: *mut u8, addr: usize, size: usize) -> usize
+    ghost before: { HeapView × PayloadView }
+    requires* { sem 𝓛 (HoldsLarge heap before.0) ∗ (sem 𝓛 (owns_reply before.1) ∗ ⌜ IsAt before.0 addr before.1 × (addr ≢ 0 → 16 ≤ before.1.align) ⌝) }
+    ensures* { sem 𝓛 (LargeGives heap (λ after payload. ResizesAny 64 before.0 addr before.1 size result payload after)) }
+{
+    let payload = ThinPayload::from_raw(addr);
+    let resized = large::reallocate(&mut *(heap as *mut Large), addr, payload, size);
+    resized.into_raw()
+}
+
+/// Changes the size of a payload of a known alignment, which the caller owns, and moves it if necessary; allocates one if `addr` is 0.
+/// Returns its address, or 0. The caller owns it from now on; or the old one, if 0 is returned.
+#[unsafe(no_mangle)]
+pub unsafe extern "C" fn rlsf_large_reallocate_aligned(
+    heap: *mut u8,
+    addr: usize,
+    size: usize,
+    align: usize,
+) -> usize
+    ghost before: { HeapView × PayloadView }
+    requires* { sem 𝓛 (HoldsLarge heap before.0) ∗ (sem 𝓛 (owns_reply before.1) ∗ ⌜ IsAt before.0 addr before.1 × (addr ≢ 0 → before.1.align ≡ aligned_for align) ⌝) }
+    ensures* { sem 𝓛 (LargeGives heap (λ after payload. ResizesAligned 64 before.0 addr before.1 size align result payload after)) }
+{
+    let payload = ThinPayload::from_raw(addr);
+    let resized = large::reallocate_aligned(&mut *(heap as *mut Large), addr, payload, size, align);
+    resized.into_raw()
+}
+
+/// Changes the size of a payload, which the caller owns, without moving it. Returns its address, or 0. Does nothing if `addr` is 0. The
+/// caller still owns it.
+#[unsafe(no_mangle)]
+pub unsafe extern "C" fn rlsf_large_reallocate_in_place(
+    heap: *mut u8,
+    addr: usize,
+    size: usize,
+) -> usize
+    ghost before: { HeapView × PayloadView }
+    requires* { sem 𝓛 (HoldsLarge heap before.0) ∗ (sem 𝓛 (owns_reply before.1) ∗ ⌜ IsAt before.0 addr before.1 × (addr ≢ 0 → 16 ≤ before.1.align) ⌝) }
+    ensures* { sem 𝓛 (LargeGives heap (λ after payload. ResizesInPlace before.0 addr before.1 size result payload after)) }
+{
+    let payload = ThinPayload::from_raw(addr);
+    let resized = large::reallocate_in_place(&mut *(heap as *mut Large), addr, payload, size);
+    resized.into_raw()
+}
+
+/// Returns the number of usable bytes of a payload, which the caller owns, or 0 if `addr` is 0. Nothing changes.
+#[unsafe(no_mangle)]
+pub unsafe extern "C" fn rlsf_large_usable(heap: *mut u8, addr: usize) -> usize
+    ghost before: { HeapView × PayloadView }
+    requires* { sem 𝓛 (HoldsLarge heap before.0) ∗ (sem 𝓛 (owns_reply before.1) ∗ ⌜ IsAt before.0 addr before.1 ⌝) }
+    ensures* { sem 𝓛 (LargeGives heap (λ after payload. IsUsable before.0 addr before.1 result payload after)) }
+{
+    let payload = ThinPayload::from_raw(addr);
+    let measured = large::usable(&mut *(heap as *mut Large), addr, payload);
+    measured.into_raw()
+}
+
+/// Returns the totals of the blocks in a range, which is one added range or several that follow each other. Nothing changes.
+#[unsafe(no_mangle)]
+pub unsafe extern "C" fn rlsf_large_stats(heap: *mut u8, start: usize, len: usize) -> Totals
+    ghost before: { HeapView }
+    requires* { sem 𝓛 (HoldsLarge heap before) ∗ ⌜ IsRow before.state (walked (range_at start len)) ⌝ }
+    ensures* { sem 𝓛 (HoldsSomeLarge heap (λ after. AreTotals before (range_at start len) result × (after ≡ before))) }
+{
+    large::stats(&mut *(heap as *mut Large), start, len)
+}
+
+/// Lists the blocks in a range that begin at an address or behind it, three numbers for each: where it begins, its length, and 1 if it is
+/// used, else 0. The range is one added range or several that follow each other. Returns how many are listed: all, or as many as there is
+/// room for. Nothing else changes.
+#[unsafe(no_mangle)]
+pub unsafe extern "C" fn rlsf_large_list(
+    heap: *mut u8,
+    start: usize,
+    len: usize,
+    from: usize,
+    into: &mut [usize],
+) -> usize
+    ghost before: { HeapView }
+    requires* { sem 𝓛 (HoldsLarge heap before) ∗ ⌜ IsRow before.state (walked (range_at start len)) ⌝ }
+    ensures* { sem 𝓛 (HoldsSomeLarge heap (λ after. IsListing before (range_at start len) from into.old result into.new × (after ≡ before))) }
+{
+    large::list(&mut *(heap as *mut Large), start, len, from, into)
+}
+
+/// Returns 1 if the words of a range and the class table are consistent, else 0. The range is one added range or several that follow each
+/// other. The result is 1 unless the caller wrote to words that are the heap's. Nothing changes.
+#[unsafe(no_mangle)]
+pub unsafe extern "C" fn rlsf_large_check(heap: *mut u8, start: usize, len: usize) -> usize
+    ghost before: { HeapView }
+    requires* { sem 𝓛 (HoldsLarge heap before) ∗ ⌜ IsRow before.state (walked (range_at start len)) ⌝ }
+    ensures* { sem 𝓛 (HoldsSomeLarge heap (λ after. IsCheckOf 64 64 before (range_at start len) result × (after ≡ before))) }
+{
+    large::check(&mut *(heap as *mut Large), start, len)
+}

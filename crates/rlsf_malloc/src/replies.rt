@@ -1,0 +1,48 @@
+//! What the calls return: a payload, which is the caller's from now on, and a number.
+
+ghost use Rattle.std.specs.Borrow.{sem};
+ghost use Rattle.std.specs.Prelude.{◌≡◌};
+ghost use Rattle.rlsf_heap.specs.Thin.{owns_reply};
+ghost use Rattle.rlsf_malloc.specs.Replies.{number_of};
+
+use rlsf_heap::ThinPayload;
+
+/// A payload and the number of its usable bytes.
+pub struct Measured {
+    /// The number of bytes, or 0 if there is no payload.
+    pub len: usize,
+    /// The payload, or none.
+    pub payload: ThinPayload,
+}
+
+impl Measured {
+    /// Passes the payload to the caller, and returns the number.
+    pub(crate) fn into_raw(self) -> usize
+        ensures* handed { sem 𝓛 (owns_reply self.payload.of) }
+        ensures len { result ≡ self.len }
+    {
+        let Measured { len, payload } = self;
+        let _ = payload.into_raw();
+        len
+    }
+}
+
+/// A payload whose size was changed, or that was left as it was.
+pub struct Resized {
+    /// Whether its size was changed.
+    pub done: bool,
+    /// The payload, or none.
+    pub payload: ThinPayload,
+}
+
+impl Resized {
+    /// Passes the payload to the caller, and returns its address if its size was changed, else 0.
+    pub(crate) fn into_raw(self) -> usize
+        ensures* handed { sem 𝓛 (owns_reply self.payload.of) }
+        ensures number { result ≡ number_of self }
+    {
+        let Resized { done, payload } = self;
+        let addr = payload.into_raw();
+        if done { addr } else { 0 }
+    }
+}
