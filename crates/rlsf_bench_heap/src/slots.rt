@@ -48,6 +48,8 @@ fn layout_of(draw: u64, slot: usize) -> Layout {
 }
 
 /// Deallocates the payload of the slot that a drawn number names. If it has none, allocates one.
+// In line, as the steps of `rlsf_bench_aligned` are.
+#[inline(always)]
 pub(crate) fn advance(heap: &mut Large, slots: &mut [Option<Payload>], draw: u64) -> Step
     requires some { 0 < length slots.old }
     requires own { AreOf heap.old.identity slots.old }
@@ -96,6 +98,7 @@ impl Slots {
     }
 
     /// Deallocates the payload of the slot that a drawn number names. If it has none, allocates one.
+    #[inline(always)]
     pub(crate) fn step(&mut self, draw: u64) -> Step {
         advance(&mut self.heap, &mut self.payloads, draw)
     }

@@ -7,8 +7,8 @@ ghost use Rattle.rlsf_local.specs.Tenants.{lessor};
 
 use rlsf_base::memory::{OpenMemory, Range};
 use rlsf_heap::Heap;
-use rlsf_local::{LocalHeap, Tenant};
-use std::alloc::{AllocError, Global};
+use rlsf_local::Tenant;
+use std::alloc::{AllocError, Allocator, Global};
 use std::collections::BTreeMap;
 use std::io;
 use std::process::ExitCode;
@@ -19,11 +19,8 @@ type Small = Heap<u16, u16, 12, 16>;
 /// A tenant's heap, over a range of the pool.
 type Room = Tenant<u16, u16, 12, 16>;
 
-/// The allocator of a tenant's collections.
-type Local = LocalHeap<Box<Small>>;
-
 /// The words of a text, and how often each occurs.
-type Counts<'a> = BTreeMap<String<&'a Local>, u64, &'a Local>;
+type Counts<A> = BTreeMap<String<A>, u64, A>;
 
 /// The addresses of the one memory. It has room for the two tenants, and for no third one.
 const POOL: Range = Range {
@@ -45,12 +42,12 @@ fn pool(alloc: Global) -> Option<Small> {
     Some(pool)
 }
 
-/// Counts the words of a text. Each word and each entry is in the tenant's heap.
-fn count<'a>(heap: &'a Local, text: &str) -> Result<Counts<'a>, AllocError> {
-    let mut counts = Counts::new(heap);
+/// Counts the words of a text. Each word and each entry is in memory of the allocator.
+fn count<A: Allocator + Copy>(alloc: A, text: &str) -> Result<Counts<A>, AllocError> {
+    let mut counts = Counts::new(alloc);
     for word in text.split(' ') {
         let before = counts.get(word).copied().unwrap_or(0);
-        let key = String::from_str(heap, word)?;
+        let key = String::from_str(alloc, word)?;
         if counts.insert(key, before.saturating_add(1)).is_err() {
             return Err(AllocError);
         }
@@ -58,9 +55,9 @@ fn count<'a>(heap: &'a Local, text: &str) -> Result<Counts<'a>, AllocError> {
     Ok(counts)
 }
 
-/// Pushes numbers until the heap refuses one.
-fn fill(heap: &Local) {
-    let mut numbers = Vec::new(heap);
+/// Pushes numbers until the allocator refuses one.
+fn fill<A: Allocator + Copy>(alloc: A) {
+    let mut numbers = Vec::new(alloc);
     for n in 0..100_000u64 {
         if numbers.push(n).is_err() {
             return;
@@ -78,7 +75,33 @@ fn has_room(pool: &mut Small, alloc: Global) -> bool
     }
 }
 
-/// Counts the words for the blog, while the shop fills its range and ends.
+/// Ends the shop, once it filled its range. Another shop has room only afterwards.
+fn end(rt: &(impl Print + AllocGlobal), pool: &mut Small, shop: Room) -> Result<(), io::Error>
+    requires { lessor shop.lease ≡ pool.old.identity }
+    ensures { pool.new.identity ≡ pool.old.identity }
+{
+    fill(shop.heap());
+    println!(rt;
+        "blocks of the shop, once it filled its range: {}",
+        shop.heap().live()
+    )?;
+    let before = has_room(pool, rt.alloc());
+    let ended = shop.end(pool);
+    let after = has_room(pool, rt.alloc());
+    println!(rt; "the shop has ended: {ended}")?;
+    println!(rt; "room for another shop before and after: {before}, {after}")
+}
+
+/// Prints how many words there are, and how often one of them occurs.
+fn print_counts<A: Allocator + Copy>(rt: &impl Print, counts: &Counts<A>) -> Result<(), io::Error> {
+    println!(rt; "the blog has {} words", counts.len())?;
+    println!(rt;
+        "\"the\" occurs {} times",
+        counts.get("the").copied().unwrap_or(0)
+    )
+}
+
+/// Counts the words for the blog, and ends the shop while the counts are in the blog's range.
 fn serve(
     rt: &(impl Print + AllocGlobal),
     pool: &mut Small,
@@ -91,21 +114,8 @@ fn serve(
     let Ok(counts) = count(blog.heap(), "the cat saw the dog") else {
         return rt.println("the blog has no room");
     };
-    fill(shop.heap());
-    println!(rt;
-        "blocks of the shop, once it filled its range: {}",
-        shop.heap().live()
-    )?;
-    let before = has_room(pool, rt.alloc());
-    let ended = shop.end(pool);
-    let after = has_room(pool, rt.alloc());
-    println!(rt; "the shop has ended: {ended}")?;
-    println!(rt; "room for another shop before and after: {before}, {after}")?;
-    println!(rt; "the blog has {} words", counts.len())?;
-    println!(rt;
-        "\"the\" occurs {} times",
-        counts.get("the").copied().unwrap_or(0)
-    )
+    end(rt, pool, shop)?;
+    print_counts(rt, &counts)
 }
 
 fn show(rt: &(impl Print + AllocGlobal)) -> Result<(), io::Error> {

@@ -1,13 +1,16 @@
-//! Tests of `rlsf_int` and `rlsf_base`. This crate has no other code, so that these two are proved once.
+//! Tests of `rlsf_int`, `rlsf_base` and `rlsf_consistency_check`. This crate has no other code, so that these are proved once.
 //!
 //! `integers.rt` tests bitmaps, `classes.rt` size classes, and `pools.rt` computed lengths of pools. `layouts.rt` tests layouts,
-//! and `memory.rt` and `open_memory.rt` memories. `answers.rt` has results that several tests compare.
+//! and `memory.rt` and `open_memory.rt` memories. `consistency.rt` tests the check of a pool.
+//! `answers.rt` has results that several tests compare.
 #![tactic(auto)]
 
 #[cfg(test)]
 mod answers;
 #[cfg(test)]
 mod classes;
+#[cfg(test)]
+mod consistency;
 #[cfg(test)]
 mod integers;
 #[cfg(test)]

@@ -262,6 +262,27 @@ fn pool_with_a_payload_out_stays(rt: HostRuntime) {
     assert!(rt; answers == Some([false, true]));
 }
 
+/// Checks the chunk while a payload is out, and once it is back.
+fn checked(heap: &mut Long, layout: Layout) -> Option<[bool; 2]>
+    requires { heap.old.state.chunks ≡ range_at 4096 256 ∷ [] }
+{
+    let pool = Range {
+        start: 4096,
+        len: 256,
+    };
+    let payload = heap.allocate(layout)?;
+    let while_out = heap.is_consistent(pool);
+    heap.deallocate(payload);
+    Some([while_out, heap.is_consistent(pool)])
+}
+
+#[test]
+fn pool_with_a_payload_out_is_consistent(rt: HostRuntime) {
+    let mut heap = with_chunk(&rt);
+    let answers = checked(&mut heap, layout(&rt, 40, 1));
+    assert!(rt; answers == Some([true, true]));
+}
+
 #[test]
 fn removed_pool_serves_nothing(rt: HostRuntime) {
     let mut heap = with_chunk(&rt);

@@ -1,5 +1,6 @@
 //! Calls of a `CheckedTlsf`: what each answers, wrong addresses and sizes among them.
 
+mod all_blocks;
 mod calls;
 mod kept;
 mod lengths;

@@ -1,0 +1,5 @@
+use Rattle.std.proofs.Common.{◌≡◌, length}
+use Rattle.rlsf_test_base.proofs.consistency.each_wrong_word_is_found.Given as goal
+
+abbrev pub invariant-loop-i : goal.invariant-loop-i
+invariant-loop-i g l = (l.memory.start ≡ 4096) × (length l.memory.bytes ≡ 256)

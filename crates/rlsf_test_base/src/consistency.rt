@@ -1,0 +1,144 @@
+//! Tests of `rlsf_consistency_check`, on a pool whose words docs/TLSF.md describes: 256 bytes at 4096, in 8 rows of 8 classes. Blocks 4096 and
+//! 4160 of 32 bytes are free, and so is block 4224 of 96. Blocks 4128 and 4192 of 32 are used.
+
+ghost use Rattle.std.specs.Prelude.{◌≡◌, ◌<◌, length};
+
+use rlsf_base::memory::{Layout, Memory, Range};
+use rlsf_consistency_check::is_consistent;
+use rlsf_table::ClassTable;
+use rlsf_tlsf::Tlsf;
+
+const ALL: Range = Range {
+    start: 4096,
+    len: 256,
+};
+
+/// The words of the pool, eight to a line.
+const WORDS: [u64; 32] = [
+    32, 0, 0, 4160, 33, 4096, 0, 0, 32, 4128, 4096, 0, 33, 4160, 0, 0, 96, 4192, 0, 0, 0, 0, 0, 0,
+    0, 0, 0, 0, 35, 4224, 0, 0,
+];
+
+/// Which of these words matter: headers, and the links of free blocks.
+const MATTERS: [bool; 32] = [
+    true, true, true, true, true, true, false, false, true, true, true, true, true, true, false,
+    false, true, true, true, true, false, false, false, false, false, false, false, false, true,
+    true, false, false,
+];
+
+/// Writes the words of the pool.
+fn write_words(memory: &mut Memory)
+    requires { (memory.old.start ≡ 4096) × (length memory.old.bytes ≡ 256) }
+    ensures { (memory.new.start ≡ 4096) × (length memory.new.bytes ≡ 256) }
+{
+    for i in 0..32 {
+        memory.set_word(4096 + 8 * i, WORDS[i]);
+    }
+}
+
+/// Returns the class table of the pool. The class of 32 bytes is the first of row 0, and that of 96 the fifth of row 1.
+fn table_of(memory: &mut Memory) -> ClassTable<8, 8>
+    ensures { (memory.new.start ≡ memory.old.start) × (length memory.new.bytes ≡ length memory.old.bytes) }
+{
+    let mut table = ClassTable::new();
+    table.put(&mut memory.inner, 0, 0, 4160);
+    table.put(&mut memory.inner, 1, 4, 4224);
+    table
+}
+
+/// Returns whether a memory and a table are consistent over a range.
+fn are_consistent(memory: &Memory, table: &ClassTable<8, 8>, range: Range) -> bool {
+    is_consistent(&memory.inner, table, range)
+}
+
+/// Writes a wrong word in place of the one at an index, and then the right one again. Returns whether the check finds the wrong word, and
+/// accepts the right one.
+fn finds(memory: &mut Memory, table: &ClassTable<8, 8>, i: usize, wrong: u64) -> bool
+    requires index { i < 32 }
+    requires place { (memory.old.start ≡ 4096) × (length memory.old.bytes ≡ 256) }
+    ensures { (memory.new.start ≡ 4096) × (length memory.new.bytes ≡ 256) }
+{
+    let addr = 4096 + 8 * i;
+    memory.set_word(addr, wrong);
+    let found = !are_consistent(memory, table, ALL);
+    memory.set_word(addr, WORDS[i]);
+    found && are_consistent(memory, table, ALL)
+}
+
+/// Whether wrong words at an index are found: one of another flag, one of another length or address, and another one.
+fn finds_wrong_words(memory: &mut Memory, table: &ClassTable<8, 8>, i: usize) -> [bool; 5]
+    requires index { i < 32 }
+    requires place { (memory.old.start ≡ 4096) × (length memory.old.bytes ≡ 256) }
+    ensures { (memory.new.start ≡ 4096) × (length memory.new.bytes ≡ 256) }
+{
+    let right = WORDS[i];
+    [
+        finds(memory, table, i, right ^ 1),
+        finds(memory, table, i, right ^ 2),
+        finds(memory, table, i, right.wrapping_add(32)),
+        finds(memory, table, i, right.wrapping_sub(32)),
+        finds(memory, table, i, right ^ 0x4545_4545_4545_4545),
+    ]
+}
+
+#[test]
+fn each_wrong_word_is_found(rt: HostRuntime) {
+    let mut memory = Memory::new(rt.alloc(), 4096, 256).expect(&rt, "a memory");
+    write_words(&mut memory);
+    let table = table_of(&mut memory);
+    assert!(rt; are_consistent(&memory, &table, ALL));
+    for i in 0..32 {
+        let found = finds_wrong_words(&mut memory, &table, i);
+        assert!(rt; found == [MATTERS[i]; 5]);
+    }
+}
+
+#[test]
+fn other_tables_and_ranges(rt: HostRuntime) {
+    let mut memory = Memory::new(rt.alloc(), 4096, 256).expect(&rt, "a memory");
+    write_words(&mut memory);
+    let mut table = table_of(&mut memory);
+    // From the second block on, up to the sentinel, and past the memory.
+    let wrong = [
+        (4097, 255),
+        (4096, 224),
+        (4096, 255),
+        (4096, 257),
+        (8192, 32),
+        (usize::MAX, usize::MAX),
+    ];
+    for (start, len) in wrong {
+        assert!(rt; !are_consistent(&memory, &table, Range { start, len }));
+    }
+    // No address is left, once the start is rounded.
+    for (start, len) in [(4097, 31), (0, 0), (usize::MAX, 1)] {
+        assert!(rt; are_consistent(&memory, &table, Range { start, len }));
+    }
+    // The head of a class is a used block.
+    table.put(&mut memory.inner, 0, 1, 4128);
+    assert!(rt; !are_consistent(&memory, &table, ALL));
+    // A table without a block.
+    assert!(rt; !are_consistent(&memory, &ClassTable::new(), ALL));
+}
+
+#[test]
+fn an_allocator_is_consistent(rt: HostRuntime) {
+    let memory = Memory::new(rt.alloc(), 4096, 256).expect(&rt, "a memory");
+    let mut pool: Tlsf<u8, u8, 8, 8> = Tlsf::new(memory);
+    pool.insert_free_block(ALL);
+    let layout = Layout::from_size_align(40, 16).expect(&rt, "a layout");
+    let first = pool.allocate(layout);
+    let second = pool.allocate(layout);
+    assert!(rt; first.is_some() && second.is_some() && pool.is_consistent(ALL));
+    if let Some(addr) = second {
+        pool.deallocate(addr, layout.align());
+    }
+    assert!(rt; pool.is_consistent(ALL));
+    // A chunk doesn't begin at the second block.
+    assert!(rt;
+        !pool.is_consistent(Range {
+            start: 4160,
+            len: 192
+        })
+    );
+}
