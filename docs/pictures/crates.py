@@ -32,8 +32,9 @@ LAYERS = [
          (1, "rlsf_example_threads", "two threads, one allocator"), (1, "", "")],
     ]),
     ("Libraries, a tool", "for other code", "#fff3d0", [
-        [(1, "rlsf_example_collections", "queues, objects and strings in a pool"), (1, "rlsf_c", "static library for C: pools of numbers"),
-         (1, "rlsf_malloc rlsf_malloc_owned", "static libraries for C: malloc in place"), (1, "rlsf_pool_lengths", "program: prints lengths of pools")],
+        [(1, "rlsf_export_proofs", "proofs of C's exports: their template"), (1, "rlsf_c", "static library for C: pools of numbers"),
+         (1, "rlsf_malloc", "static library for C: malloc in place"), (1, "rlsf_pool_lengths", "program: prints lengths of pools")],
+        [(1, "rlsf_example_collections", "queues, objects and strings in a pool"), (3, "", "")],
     ]),
     ("Traces", "a text of calls, run and compared with the model", "#fbe3d6", [
         [(1, "rlsf_replay", "program: prints the answers"), (1, "rlsf_report", "program: counts"), (1, "rlsf_map", "program: draws")],
@@ -50,7 +51,8 @@ LAYERS = [
         [(1, "rlsf_tlsf", "Tlsf: the allocator over one memory; the work of each call has a bound")],
     ]),
     ("Parts", "of an allocator's calls", "#d9efd9", [
-        [(1, "rlsf_table", "free blocks by size class"), (1, "rlsf_blocks", "chunks and blocks in the memory"), (1, "rlsf_reallocate", "payloads that are resized")],
+        [(1, "rlsf_table", "free blocks by size class"), (1, "rlsf_blocks", "chunks and blocks in the memory"),
+         (1, "rlsf_consistency_check", "reads a pool's words again"), (1, "rlsf_reallocate", "payloads that are resized")],
     ]),
     ("Model", "definitions and laws", "#e4dcf2", [
         [(1, "rlsf_model", "the reference model: lists of ranges"), (1, "rlsf_model_global", "the model behind the lock")],

@@ -19,8 +19,8 @@ use crate::moves::{PagedTlsf, move_away, resize};
 use crate::table::{move_row, place, replace, search};
 use rlsf_base::memory::{Addr, Layout, Memory, Range};
 use rlsf_flex::FlexTlsf;
-use rlsf_model_global::GlobalError;
 use rlsf_flex_sources::{GlobalTlsfOptions, Source};
+use rlsf_model_global::GlobalError;
 use std::alloc::Global;
 use std::marker::Model;
 
