@@ -1,3 +1,5 @@
+//! The random numbers of the benchmark.
+
 /// The generator of `rlsf_bench`. Each number follows from the one before by shifts and exclusive ors; the result is multiplied by
 /// a constant.
 #[derive(Drop)]

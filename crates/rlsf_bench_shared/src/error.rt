@@ -1,3 +1,5 @@
+//! Why the benchmark did nothing.
+
 use rlsf_base::memory::MemoryError;
 use std::alloc::AllocError;
 use std::error::Error;

@@ -1,3 +1,5 @@
+//! The command line of the benchmarks.
+
 ghost use Rattle.std.specs.Prelude.{◌≡◌};
 ghost use Rattle.rlsf_bench_steps.specs.Runs.{reallocates_at};
 

@@ -1,3 +1,5 @@
+//! Why a benchmark did nothing.
+
 ghost use Rattle.std.specs.Prelude.{◌≡◌};
 
 use std::alloc::AllocError;

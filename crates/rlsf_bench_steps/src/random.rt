@@ -1,3 +1,5 @@
+//! The random numbers of the benchmarks.
+
 ghost use Rattle.std.specs.Prelude.{◌≡◌, ◌*◌, ◌%◌, ◌^◌};
 ghost use Rattle.rlsf_bench_steps.specs.Draws.{next_state, seed};
 

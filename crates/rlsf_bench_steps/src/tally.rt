@@ -1,3 +1,5 @@
+//! The tally that a benchmark prints.
+
 ghost use Rattle.std.specs.Prelude.{◌≡◌, ◌+◌, ◌<◌, ◌≤◌, ◌^◌};
 ghost use Rattle.rlsf_base.specs.Addr.{reply};
 ghost use Rattle.rlsf_bench_steps.specs.Runs.{counted, nothing};

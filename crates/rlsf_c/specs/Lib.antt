@@ -1,3 +1,4 @@
+-- Definitions for the library of pools of numbers. Read `Seen`, `Calls` and `Handle` first.
 pub mod Answers
 pub mod Calls
 pub mod Handle

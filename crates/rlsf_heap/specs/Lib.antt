@@ -1,3 +1,4 @@
+-- Definitions for the heap and its payloads. Read `Heap` first.
 pub mod Heap
 pub mod Lends
 pub mod Reallocation

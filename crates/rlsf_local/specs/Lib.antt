@@ -1,3 +1,4 @@
+-- Definitions for the allocator of collections, and tenants. Read `Ownership` and `Tenants` first.
 pub mod Leases
 pub mod Ownership
 pub mod Resized

@@ -1,3 +1,4 @@
+-- Definitions for the library of heaps that are used in place. Read `Handle` and `Calls` first.
 pub mod Blocks
 pub mod Calls
 pub mod Handle

@@ -1,3 +1,4 @@
+-- Definitions for the shared heap. Read `Shared` first.
 pub mod Locks
 pub mod Nameless
 pub mod Shared

@@ -1,3 +1,5 @@
+//! Tests of size classes.
+
 ghost use Rattle.rlsf_base.specs.SizeClass.{IsValid};
 ghost use Rattle.rlsf_base.specs.Sizes as sizes;
 

@@ -1,3 +1,5 @@
+//! Tests of layouts.
+
 use crate::answers::passes;
 use rlsf_base::memory::Layout;
 

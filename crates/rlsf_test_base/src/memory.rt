@@ -1,3 +1,5 @@
+//! Tests of the calls of a memory.
+
 ghost use Rattle.std.specs.Prelude.{◌≡◌, ◌%◌, ◌^◌, ◌<◌, ◌≤◌, [], length, IsTrue};
 ghost use Rattle.rlsf_base.specs.Range.{LiesIn};
 ghost use Rattle.rlsf_base.specs.RawParts.{CanStart, LiesAtBlock};

@@ -1,3 +1,5 @@
+//! Tests that print answers.
+
 use rlsf_base::memory::{Layout, Range};
 use rlsf_trace_text::{Answer, Op, TraceError, text_of};
 use std::num::NonZeroUsize;

@@ -1,3 +1,5 @@
+//! Tests that read traces.
+
 use rlsf_base::memory::{Layout, Range};
 use rlsf_trace_text::{Configuration, Fault, Op, ReplayFault, Trace};
 use std::alloc::AllocError;

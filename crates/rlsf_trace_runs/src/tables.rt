@@ -1,3 +1,5 @@
+//! What a run remembers: the live payloads by name, and the pools.
+
 ghost use Rattle.std.specs.Prelude.{◌≡◌, ◌≢◌, ℕ, ◌+◌, ◌<◌, ◌≤◌, ◌^◌, [], ◌∷◌, length, slice_index_or, slice_set, nat_eq, if◌then◌else◌, IsPermutation, IsTrue, IfOk, IfSome, IfNone, ◌↔◌, Some, None};
 ghost use Rattle.std.specs.HashMap.{get, IsEmpty};
 ghost use Rattle.std.specs.List.Sorted.{IsPartitionPoint};

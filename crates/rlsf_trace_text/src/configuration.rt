@@ -1,3 +1,5 @@
+//! The parameters of the allocator that runs a trace.
+
 ghost use Rattle.std.specs.Prelude.{◌≡◌};
 ghost use Rattle.rlsf_trace_text.specs.Configurations.{configuration_named};
 

@@ -1,3 +1,5 @@
+//! What can be wrong with a replay.
+
 ghost use Rattle.std.specs.Prelude.{◌≡◌, MatchResult};
 ghost use Rattle.rlsf_trace_text.specs.Faults.{out_of_memory};
 

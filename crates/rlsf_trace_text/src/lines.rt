@@ -1,3 +1,5 @@
+//! Iteration over the lines of a text.
+
 use crate::cut::cut;
 
 /// The lines of a text, from the first on. LF ends a line, and what follows the last LF is a line if it

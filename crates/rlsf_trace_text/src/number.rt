@@ -1,3 +1,5 @@
+//! Reads numbers.
+
 ghost use Rattle.std.specs.Prelude.{◌≡◌};
 ghost use Rattle.rlsf_trace_text.specs.Numbers.{with_digit, value_of, number_of, byte_of};
 

@@ -1,3 +1,5 @@
+//! The ops of a trace and their answers.
+
 use rlsf_base::memory::{Addr, Layout, Range};
 use std::fmt;
 use std::num::NonZeroUsize;

@@ -1,3 +1,5 @@
+//! A trace, read from its text.
+
 ghost use Rattle.std.specs.Prelude.{◌+◌, ◌^◌, ◌<◌};
 
 use crate::configuration::Configuration;

@@ -1,3 +1,5 @@
+//! Prints ops with their answers.
+
 ghost use Rattle.std.specs.Prelude.{◌≡◌, ◌++◌, OnOk, IfOk, string_bytes};
 ghost use Rattle.rlsf_trace_text.specs.Printing.{op_text, inserted_text, placed_text, block_text, answer_text, line_text, text_of};
 

@@ -1,3 +1,5 @@
+//! Iteration over the words of a line.
+
 ghost use Rattle.std.specs.Prelude.{◌≡◌};
 ghost use Rattle.std.specs.Str.{bytes_eq};
 

@@ -1,3 +1,5 @@
+//! Layouts: the size and the alignment that a caller requests.
+
 ghost use Rattle.std.specs.Prelude.{◌≡◌, ◌%◌, ◌^◌, ◌+◌, ◌<◌, ◌≤◌, ◌↔◌, IsOk, IfOk, IsTrue};
 ghost use Rattle.std.specs.Int.{next_multiple_of};
 ghost use Rattle.rlsf_base.specs.Layout.{IsLayout};

@@ -1,3 +1,5 @@
+//! Addresses, and ranges of bytes.
+
 use std::num::NonZeroUsize;
 
 /// An address: a nonzero whole number that names a byte of a memory.
