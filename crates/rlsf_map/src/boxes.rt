@@ -2,7 +2,7 @@
 
 use crate::window::Window;
 use rlsf_trace_text::{Answer, Op};
-use rlsf_trace_watch::{Moment, Watched};
+use rlsf_trace_watch::Watched;
 use std::alloc::{AllocError, Global};
 use std::collections::BTreeMap;
 
@@ -50,42 +50,51 @@ pub(crate) fn boxes_of(
     let mut before = 0;
     let told = watched.answers.iter().zip(&watched.moments);
     for (index, (op, (answer, moment))) in ops.iter().zip(told).enumerate().take(window.end) {
-        boxes.pass(index, *op, *answer, before, *moment, window)?;
-        before = moment.usable;
+        let call = Call {
+            index,
+            op: *op,
+            answer: *answer,
+            before,
+            after: moment.usable,
+        };
+        before = call.after;
+        boxes.pass(call, window)?;
     }
     boxes.end_all(window)?;
     Ok(boxes)
 }
 
+// A call, with the usable bytes of the live payloads before and after it.
+#[derive(Clone, Copy)]
+struct Call {
+    index: usize,
+    op: Op,
+    answer: Answer,
+    before: u128,
+    after: u128,
+}
+
 impl Boxes {
-    // Takes a call into account, by how many bytes were usable before it and what the allocator holds after it.
-    fn pass(
-        &mut self,
-        index: usize,
-        op: Op,
-        answer: Answer,
-        before: u128,
-        moment: Moment,
-        window: Window,
-    ) -> Result<(), AllocError> {
-        let Some(name) = changed_name(op, answer) else {
+    // Takes a call into account.
+    fn pass(&mut self, call: Call, window: Window) -> Result<(), AllocError> {
+        let Some(name) = changed_name(call.op, call.answer) else {
             return Ok(());
         };
         let old_len = match self.live.remove(&name) {
             Some(payload) => {
-                self.end(payload, index, window)?;
+                self.end(payload, call.index, window)?;
                 payload.len as u128
             }
             None => 0,
         };
-        if let Answer::Placed(Some(addr)) = answer {
-            let len = (moment.usable.saturating_add(old_len)).saturating_sub(before);
+        if let Answer::Placed(Some(addr)) = call.answer {
+            let len = (call.after.saturating_add(old_len)).saturating_sub(call.before);
             let payload = PayloadBox {
                 name,
                 addr: addr.get(),
                 len: usize::try_from(len).unwrap_or(usize::MAX),
-                since: index,
-                until: index,
+                since: call.index,
+                until: call.index,
             };
             self.live.insert(name, payload)?;
         }

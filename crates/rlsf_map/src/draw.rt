@@ -26,21 +26,29 @@ const FOOT: &str =
 </svg>
 ";
 
+/// What is drawn.
+#[derive(Clone, Copy)]
+pub(crate) struct Scene<'a> {
+    /// The calls of the drawing.
+    pub(crate) window: Window,
+    /// All pools of the trace.
+    pub(crate) pools: &'a [Pool],
+    /// The payloads of the window.
+    pub(crate) boxes: &'a [PayloadBox],
+    /// What the allocator held after each call.
+    pub(crate) watched: &'a Watched,
+    /// The numbers beside the drawing.
+    pub(crate) legend: &'a Legend,
+}
+
 /// The complete drawing, as SVG.
-pub(crate) fn drawing(
-    alloc: Global,
-    window: Window,
-    pools: &[Pool],
-    boxes: &[PayloadBox],
-    watched: &Watched,
-    legend: &Legend,
-) -> Result<String, AllocError> {
+pub(crate) fn drawing(alloc: Global, scene: &Scene) -> Result<String, AllocError> {
     let mut text = String::new(alloc);
-    print_head(&mut text, window)?;
-    print_shapes(&mut text, window, pools, boxes, watched, legend)?;
+    print_head(&mut text, scene.window)?;
+    print_shapes(&mut text, scene)?;
     text.push_str(KINDS)?;
-    print_legend(&mut text, pools, watched, window, legend)?;
-    print_colours(&mut text, boxes)?;
+    print_legend(&mut text, scene)?;
+    print_colours(&mut text, scene.boxes)?;
     text.push_str(FOOT)?;
     Ok(text)
 }
@@ -56,20 +64,13 @@ fn print_head(text: &mut String, window: Window) -> Result<(), AllocError> {
 }
 
 // All that has a place on the scale.
-fn print_shapes(
-    text: &mut String,
-    window: Window,
-    pools: &[Pool],
-    boxes: &[PayloadBox],
-    watched: &Watched,
-    legend: &Legend,
-) -> Result<(), AllocError> {
-    let scale = Scale::new(window, pools);
-    print_pools(text, scale, pools, window)?;
-    print_boxes(text, scale, boxes, legend.classes)?;
-    print_sentinels(text, scale, &watched.blocks)?;
-    print_denied(text, scale, watched, window)?;
-    print_axes(text, scale, window)
+fn print_shapes(text: &mut String, scene: &Scene) -> Result<(), AllocError> {
+    let scale = Scale::new(scene.window, scene.pools);
+    print_pools(text, scale, scene.pools, scene.window)?;
+    print_boxes(text, scale, scene.boxes, scene.legend.classes)?;
+    print_sentinels(text, scale, &scene.watched.blocks)?;
+    print_denied(text, scale, scene.watched, scene.window)?;
+    print_axes(text, scale, scene.window)
 }
 
 fn print_pools(
@@ -173,24 +174,19 @@ fn print_axes(text: &mut String, scale: Scale, window: Window) -> Result<(), All
     )
 }
 
-fn print_legend(
-    text: &mut String,
-    pools: &[Pool],
-    watched: &Watched,
-    window: Window,
-    legend: &Legend,
-) -> Result<(), AllocError> {
+fn print_legend(text: &mut String, scene: &Scene) -> Result<(), AllocError> {
+    let window = scene.window;
     let Legend {
         configuration,
         most_usable,
         denied,
         left_out,
         ..
-    } = *legend;
+    } = *scene.legend;
     let left_out = LeftOut(left_out);
-    let pools = PoolList(pools);
+    let pools = PoolList(scene.pools);
     let lines = DeniedLines {
-        answers: &watched.answers,
+        answers: &scene.watched.answers,
         window,
     };
     writeln!(

@@ -6,7 +6,7 @@ ghost use Rattle.rlsf_trace_text.specs.Faults.{out_of_memory};
 ghost use Rattle.rlsf_trace_replay.specs.Replays.{not_read, IsOutputFault, IsReplayFault, IsTrace};
 
 use crate::boxes::boxes_of;
-use crate::draw::drawing;
+use crate::draw::{Scene, drawing};
 use crate::legend::legend_of;
 use crate::pools::pools_of;
 use crate::window::{Lines, Window};
@@ -58,5 +58,12 @@ fn drawing_for(
     let pools = pools_of(alloc, &trace.ops, &watched.answers)?;
     let boxes = boxes_of(alloc, &trace.ops, watched, window)?;
     let legend = legend_of(trace.configuration, watched, window, boxes.left_out);
-    drawing(alloc, window, &pools, &boxes.boxes, watched, &legend)
+    let scene = Scene {
+        window,
+        pools: &pools,
+        boxes: &boxes.boxes,
+        watched,
+        legend: &legend,
+    };
+    drawing(alloc, &scene)
 }
