@@ -2,6 +2,8 @@
 pub mod Beside
 pub mod Copied
 pub mod Lent
+pub mod Memories
+pub mod Placed
 pub mod Refilled
 pub mod Replaced
 pub mod Present

@@ -9,6 +9,7 @@ use Rattle.rlsf_base.proofs.Lending.Replaced.{bytes_in-there, bytes_in-with}
 use Rattle.rlsf_base.specs.OpenSpace.{Home, out_with}
 use Rattle.rlsf_base.specs.Steps.Block.{start_of, view_of}
 use Rattle.rlsf_base.specs.Steps.Ownership.{units_in}
+use Rattle.rlsf_base.proofs.Lending.Memories.{with_contents}
 use Rattle.rlsf_base.proofs.memory.open_memory.OpenMemory.put_back.Goals as goal
 
 pub put_back-requires : goal.put_back-requires
@@ -34,15 +35,7 @@ put_back-requires c =
 pub returns-clause-here : goal.returns-clause-here
 returns-clause-here c =
     let m = c.self.inside in let p = c.args.part in let now = c.args.self.now in
-    let n : Space =
-    record {
-      start = start_of m.shift m.len_and_skip;
-      bytes = c.put_back.new.self.bytes;
-      touches = m.counters.touches;
-      copied = m.counters.copied;
-      view = view_of m.base m.shift;
-      out = c.put_back.new.self.out;
-    } in
+    let n : Space = with_contents now (start_of m.shift m.len_and_skip) c.put_back.new.self.bytes c.put_back.new.self.out in
     let start : n.start ≡ now.start = ap (λ (s : Space). s.start) c.self.view_is in
     let out : n.out ≡ out_with now (piece_range p) = search rules in
     let lies : LiesIn (piece_range p) now.start (length now.bytes) = search rules in
@@ -51,15 +44,7 @@ returns-clause-here c =
 pub returns-clause-stays : goal.returns-clause-stays
 returns-clause-stays c =
     let m = c.self.inside in let p = c.args.part in let now = c.args.self.now in
-    let n : Space =
-    record {
-      start = start_of m.shift m.len_and_skip;
-      bytes = c.put_back.new.self.bytes;
-      touches = m.counters.touches;
-      copied = m.counters.copied;
-      view = view_of m.base m.shift;
-      out = c.put_back.new.self.out;
-    } in
+    let n : Space = with_contents now (start_of m.shift m.len_and_skip) c.put_back.new.self.bytes c.put_back.new.self.out in
     let start : n.start ≡ now.start = ap (λ (s : Space). s.start) c.self.view_is in
     let out : n.out ≡ out_with now (piece_range p) = search rules in
     let lies : LiesIn (piece_range p) now.start (length now.bytes) = search rules in
@@ -71,15 +56,7 @@ returns-clause-own c a lo hi = ap is_own (returns-clause-here c a lo hi)
 pub returns-clause-own_beside : goal.returns-clause-own_beside
 returns-clause-own_beside c =
     let m = c.self.inside in let p = c.args.part in let now = c.args.self.now in
-    let n : Space =
-    record {
-      start = start_of m.shift m.len_and_skip;
-      bytes = c.put_back.new.self.bytes;
-      touches = m.counters.touches;
-      copied = m.counters.copied;
-      view = view_of m.base m.shift;
-      out = c.put_back.new.self.out;
-    } in
+    let n : Space = with_contents now (start_of m.shift m.len_and_skip) c.put_back.new.self.bytes c.put_back.new.self.out in
     let start : n.start ≡ now.start = ap (λ (s : Space). s.start) c.self.view_is in
     let out : n.out ≡ out_with now (piece_range p) = search rules in
     let lies : LiesIn (piece_range p) now.start (length now.bytes) = search rules in
@@ -88,15 +65,7 @@ returns-clause-own_beside c =
 pub returns-clause-values : goal.returns-clause-values
 returns-clause-values c =
     let m = c.self.inside in let p = c.args.part in let now = c.args.self.now in
-    let n : Space =
-    record {
-      start = start_of m.shift m.len_and_skip;
-      bytes = c.put_back.new.self.bytes;
-      touches = m.counters.touches;
-      copied = m.counters.copied;
-      view = view_of m.base m.shift;
-      out = c.put_back.new.self.out;
-    } in
+    let n : Space = with_contents now (start_of m.shift m.len_and_skip) c.put_back.new.self.bytes c.put_back.new.self.out in
     let start : n.start ≡ now.start = ap (λ (s : Space). s.start) c.self.view_is in
     let lies : LiesIn (piece_range p) now.start (length now.bytes) = search rules in
     let bytes : n.bytes ≡ with_bytes now p.start p.bytes = search rules in
@@ -105,15 +74,7 @@ returns-clause-values c =
 pub returns-clause-others : goal.returns-clause-others
 returns-clause-others c q from side =
     let m = c.self.inside in let p = c.args.part in let now = c.args.self.now in
-    let n : Space =
-    record {
-      start = start_of m.shift m.len_and_skip;
-      bytes = c.put_back.new.self.bytes;
-      touches = m.counters.touches;
-      copied = m.counters.copied;
-      view = view_of m.base m.shift;
-      out = c.put_back.new.self.out;
-    } in
+    let n : Space = with_contents now (start_of m.shift m.len_and_skip) c.put_back.new.self.bytes c.put_back.new.self.out in
     let start : n.start ≡ now.start = ap (λ (s : Space). s.start) c.self.view_is in
     let lies : LiesIn (piece_range p) now.start (length now.bytes) = search rules in
     let bytes : n.bytes ≡ with_bytes now p.start p.bytes = search rules in

@@ -4,22 +4,15 @@ use Rattle.rlsf_base.specs.Out.{raw}
 use Rattle.rlsf_base.specs.Piece.{piece_range}
 use Rattle.rlsf_base.specs.Range.{LiesIn}
 use Rattle.rlsf_base.specs.Space.{Space}
-use Rattle.rlsf_base.specs.Steps.Block.{start_of, view_of}
+use Rattle.rlsf_base.specs.Steps.Block.{start_of}
 use Rattle.rlsf_base.proofs.Lending.Beside.{changed-own, changed-own_stays, changed-stays}
+use Rattle.rlsf_base.proofs.Lending.Memories.{with_contents}
 use Rattle.rlsf_base.proofs.memory.open_memory.OpenMemory.put_room.Goals as goal
 
 pub returns-clause-own : goal.returns-clause-own
 returns-clause-own c =
     let m = c.self.inside in let p = c.args.part in let now = c.args.self.now in
-    let n : Space =
-    record {
-      start = start_of m.shift m.len_and_skip;
-      bytes = c.put_room.new.self.bytes;
-      touches = m.counters.touches;
-      copied = m.counters.copied;
-      view = view_of m.base m.shift;
-      out = c.put_room.new.self.out;
-    } in
+    let n : Space = with_contents now (start_of m.shift m.len_and_skip) c.put_room.new.self.bytes c.put_room.new.self.out in
     let start : n.start ≡ now.start = ap (λ (s : Space). s.start) c.self.view_is in
     let out : n.out ≡ out_raw now (piece_range p) = search rules in
     let lies : LiesIn (piece_range p) now.start (length now.bytes) = search rules in
@@ -28,15 +21,7 @@ returns-clause-own c =
 pub returns-clause-beside : goal.returns-clause-beside
 returns-clause-beside c =
     let m = c.self.inside in let p = c.args.part in let now = c.args.self.now in
-    let n : Space =
-    record {
-      start = start_of m.shift m.len_and_skip;
-      bytes = c.put_room.new.self.bytes;
-      touches = m.counters.touches;
-      copied = m.counters.copied;
-      view = view_of m.base m.shift;
-      out = c.put_room.new.self.out;
-    } in
+    let n : Space = with_contents now (start_of m.shift m.len_and_skip) c.put_room.new.self.bytes c.put_room.new.self.out in
     let start : n.start ≡ now.start = ap (λ (s : Space). s.start) c.self.view_is in
     let out : n.out ≡ out_raw now (piece_range p) = search rules in
     let lies : LiesIn (piece_range p) now.start (length now.bytes) = search rules in
@@ -45,15 +30,7 @@ returns-clause-beside c =
 pub returns-clause-own_beside : goal.returns-clause-own_beside
 returns-clause-own_beside c =
     let m = c.self.inside in let p = c.args.part in let now = c.args.self.now in
-    let n : Space =
-    record {
-      start = start_of m.shift m.len_and_skip;
-      bytes = c.put_room.new.self.bytes;
-      touches = m.counters.touches;
-      copied = m.counters.copied;
-      view = view_of m.base m.shift;
-      out = c.put_room.new.self.out;
-    } in
+    let n : Space = with_contents now (start_of m.shift m.len_and_skip) c.put_room.new.self.bytes c.put_room.new.self.out in
     let start : n.start ≡ now.start = ap (λ (s : Space). s.start) c.self.view_is in
     let out : n.out ≡ out_raw now (piece_range p) = search rules in
     let lies : LiesIn (piece_range p) now.start (length now.bytes) = search rules in

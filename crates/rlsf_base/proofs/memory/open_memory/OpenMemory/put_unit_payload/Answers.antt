@@ -1,11 +1,12 @@
-use Rattle.std.proofs.Common.{◌≡◌, ℕ, ◌+◌, ◌-◌, ◌*◌, ◌%◌, ◌^◌, ◌≤◌, ◌∙◌, ap, arith, drop, length, take, sym, subst, w64}
+use Rattle.std.proofs.Common.{◌≡◌, ℕ, ◌+◌, ◌-◌, ◌*◌, ◌%◌, ◌^◌, ◌≤◌, ◌∙◌, ap, arith, length, sym, subst, w64}
 use Rattle.std.specs.Int.{from_le_bytes}
 use denote.RawPtr.{◌+ₚ◌}
 use Rattle.rlsf_base.specs.Ledger.{IsIssued, extent}
 use Rattle.rlsf_base.specs.OpenSpace.{Home, IsReadable}
-use Rattle.rlsf_base.specs.Space.{Space, bytes_in, word_range}
+use Rattle.rlsf_base.specs.Space.{Space, word_range}
 use Rattle.rlsf_base.specs.Steps.Block.{start_of}
 use Rattle.rlsf_base.proofs.Lending.WordIsHere.{word_at-is}
+use Rattle.rlsf_base.proofs.Lending.Placed.{bytes_there}
 use Rattle.rlsf_base.proofs.Lending.Present.{here-in}
 use Rattle.rlsf_base.proofs.memory.open_memory.OpenMemory.put_unit_payload.Goals as goal
 use Rattle.rlsf_base.proofs.memory.open_memory.OpenMemory.put_unit_payload.Goals.{After-self}
@@ -58,10 +59,6 @@ slice_ahead-requires c =
 
 pub returns-clause-word : goal.returns-clause-word
 returns-clause-word c =
-    let d = (goal.at.returns-clause-word c).After-self in
-    let m = c.self.inside in let now = c.args.self.now in let l = word_lies d in
-    let start : start_of m.shift m.len_and_skip ≡ now.start = ap (λ (s : Space). s.start) c.self.view_is in
-    let read : c.slice_ahead.result.now ≡ bytes_in now (word_range (addr d)) =
-    c.slice_ahead.ensures ∙ ap (λ n. take 8 (drop n m.bytes.bytes)) (l.at ∙ ap (λ n. addr d - n) (sym start))
-    ∙ ap (λ (s : Space). bytes_in s (word_range (addr d))) c.self.view_is in
+    let d = (goal.at.returns-clause-word c).After-self in let now = c.args.self.now in
+    let read = c.slice_ahead.ensures ∙ bytes_there c.self.view_is (word_range (addr d)) (word_lies d).at in
     c.word_of-word.ensures ∙ ap (λ bs. from_le_bytes w64 bs) read ∙ sym (word_at-is now (addr d) (readable d).1.0 (readable d).2)

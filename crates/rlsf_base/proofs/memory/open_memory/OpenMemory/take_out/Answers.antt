@@ -9,19 +9,14 @@ use Rattle.rlsf_base.specs.Out.{is_own, kept_at, out as gone}
 use Rattle.rlsf_base.proofs.Changes.{shifted-at, shifted-own}
 use Rattle.rlsf_base.proofs.Lending.Beside.{changed-own_stays, changed-stays}
 use Rattle.rlsf_base.proofs.Lending.Present.{own-in}
+use Rattle.rlsf_base.proofs.Lending.Memories.{with_contents}
+use Rattle.rlsf_base.proofs.Lending.Placed.{can_write}
 use Rattle.rlsf_base.proofs.memory.open_memory.OpenMemory.take_out.Goals as goal
 
 pub take_out-bytes-requires : goal.take_out-bytes-requires
 take_out-bytes-requires c =
-    let m = c.self.inside in
-    let start : start_of m.shift m.len_and_skip ≡ c.args.self.now.start = ap (λ (s : Space). s.start) c.self.view_is in
-    let shift : c.view-view.result.shift ≡ m.shift = ap (λ (v : View). v.shift) (c.view-view.ensures ∙ sym (ap (λ (s : Space). s.view) c.self.view_is)) in
-    let long : length m.bytes.bytes ≡ length c.args.self.now.bytes = ap (λ (s : Space). length s.bytes) c.self.view_is in
-    let place : c.place.result - m.bytes.skip ≡ c.args.range.start - c.args.self.now.start = omega arith in (
-      omega arith,
-      omega arith,
-      own-in m.bytes.out c.args.self.now c.args.range (c.place.result - m.bytes.skip) (ap (λ (s : Space). s.out) c.self.view_is) c.requires.place.0 place c.requires.own,
-    )
+    let lies = can_write c.self.invariant c.self.view_is c.view-view.ensures (omega arith) c.args.range c.requires.place c.place.ensures c.requires.own in
+    (lies.1, lies.2, lies.3)
 
 pub invariant_of-result : goal.invariant_of-result
 invariant_of-result c =
@@ -74,15 +69,7 @@ returns-clause-full c here k lo hi =
 pub returns-clause-beside : goal.returns-clause-beside
 returns-clause-beside c =
     let m = c.self.inside in let now = c.args.self.now in let new = c.take_out-bytes.new.self in
-    let n : Space =
-    record {
-      start = start_of m.shift m.len_and_skip;
-      bytes = new.bytes;
-      touches = m.counters.touches;
-      copied = m.counters.copied;
-      view = view_of m.base m.shift;
-      out = new.out;
-    } in
+    let n : Space = with_contents now (start_of m.shift m.len_and_skip) new.bytes new.out in
     let start : n.start ≡ now.start = ap (λ (s : Space). s.start) c.self.view_is in
     let out : n.out ≡ out_without now c.args.range = search rules in
     changed-stays gone now n c.args.range c.requires.place.0 start out
@@ -90,15 +77,7 @@ returns-clause-beside c =
 pub returns-clause-own_beside : goal.returns-clause-own_beside
 returns-clause-own_beside c =
     let m = c.self.inside in let now = c.args.self.now in let new = c.take_out-bytes.new.self in
-    let n : Space =
-    record {
-      start = start_of m.shift m.len_and_skip;
-      bytes = new.bytes;
-      touches = m.counters.touches;
-      copied = m.counters.copied;
-      view = view_of m.base m.shift;
-      out = new.out;
-    } in
+    let n : Space = with_contents now (start_of m.shift m.len_and_skip) new.bytes new.out in
     let start : n.start ≡ now.start = ap (λ (s : Space). s.start) c.self.view_is in
     let out : n.out ≡ out_without now c.args.range = search rules in
     changed-own_stays gone now n c.args.range c.requires.place.0 start out
