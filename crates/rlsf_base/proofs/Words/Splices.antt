@@ -1,7 +1,10 @@
--- A part of a list that is replaced by as many elements.
+-- A part of a list: its length, and what the list is where it is replaced by as many elements.
 use Rattle.std.proofs.Common.{◌≡◌, ℕ, ◌+◌, ◌-◌, ◌≤◌, List, ◌++◌, length, take, drop, arith, sym, ◌∙◌, ap}
 use Rattle.std.proofs.lemmas.List.{drop-append-le, drop-drop, drop-take, drop_at, length-append, length-drop, length-take-le, take-append-le, take-take, take_at}
 use Rattle.std.specs.List.{splice}
+
+pub length-part : {A : Type 0} (k i : ℕ) (xs : List A) → i + k ≤ length xs → length (take k (drop i xs)) ≡ k
+length-part k i xs room = length-take-le k (drop i xs) (omega (arith, room, length-drop i xs))
 
 module _ {A : Type 0} (xs ys : List A) (i k : ℕ) (room : i + k ≤ length xs) (full : length ys ≡ k) where
   front : length (take i xs) ≡ i
