@@ -1,8 +1,11 @@
 -- The raw block of a memory: lemmas for the manual proofs.
 pub mod Copies
 pub mod Crosses
+pub mod Dropped
 pub mod Fills
 pub mod Grid
+pub mod Marks
+pub mod Parts
 pub mod Rooms
 pub mod Rows
 pub mod Sharing

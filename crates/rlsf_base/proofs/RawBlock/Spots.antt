@@ -13,6 +13,7 @@ use denote.Shadow.{shadow, makes_shadow}
 use denote.Struct.Struct.{Struct}
 use Rattle.core.proofs.cell.Inside.{Good}
 use Rattle.rlsf_base.specs.Steps.Ownership.{units_ty, units_own}
+use Rattle.rlsf_base.specs.declared.memory.view.View.{View}
 use Rattle.rlsf_base.proofs.RawBlock.Values.{base_val, mark_val, three_val}
 
 -- a struct by its fields alone: what it owns does not read its name
@@ -68,3 +69,7 @@ view_told p n vs s = s.1.1.1.0.1
 pub view_typed : (p : Ptr) (n : ℕ) → (n < 2 ^ 64) → Good (ty_struct [] (tcons (ty_struct [] (tcons ty_ptr tnil)) (tcons (ty_int w64) tnil))) (view_val p n)
 view_typed (block_ptr b o) n f = (tt, ((tt, tt), (record { fits = f }, tt)))
 view_typed null_ptr n f = (tt, ((record { fits = lit< tt }, tt), (record { fits = f }, tt)))
+
+pub view_fits : (v : View) → shadow (view_own v.base.ptr v.shift (view_val v.base.ptr v.shift ∷ []))
+    → Good (ty_struct [] (tcons (ty_struct [] (tcons ty_ptr tnil)) (tcons (ty_int w64) tnil))) (view_val v.base.ptr v.shift)
+view_fits v s = view_typed v.base.ptr v.shift (view_told v.base.ptr v.shift (view_val v.base.ptr v.shift ∷ []) s)

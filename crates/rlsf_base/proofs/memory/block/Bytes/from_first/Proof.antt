@@ -16,7 +16,6 @@ use denote.Param.{layout}
 use denote.RawPtr.{Ptr, block_ptr, in_a_block, ◌+ₚ◌}
 use denote.Plain.{uint_vals, uint_Tells}
 use denote.Builtin.{usize}
-use denote.Laws.{Tells, Is}
 use denote.Signature.{plain, types_at}
 use denote.Steps.{nothing, heard}
 use denote.Struct.Tuple.{Tuple}
@@ -27,19 +26,13 @@ use Rattle.std.proofs.raw_atomic.Walks.{proved}
 use Rattle.rlsf_base.specs.Out.{kept_at}
 use Rattle.rlsf_base.specs.Steps.Ownership.{held, bytes_own, ways_of, own_unit}
 use Rattle.rlsf_base.proofs.RawBlock.Units.{ways_first}
+use Rattle.rlsf_base.proofs.RawBlock.Marks.{bytes_vals, bytes_Tells}
 use Rattle.rlsf_base.proofs.RawBlock.Values.{base_val, base_vals, base_Tells, base_typed, base_own, base_made, mark_val, mark_own, mark_made, two_val, two_of}
-use Rattle.rlsf_base.proofs.memory.block.Bytes.TheLaws.{lowers}
 use Rattle.rlsf_base.specs.contracts.memory.block.Base as base_type
 use Rattle.rlsf_base.specs.contracts.memory.block.Bytes as owner
 use Rattle.rlsf_base.specs.contracts.memory.block.Bytes.from_first as f
 use Rattle.rlsf_base.proofs.memory.block.Bytes.from_first.Statement.{statement}
 use Rattle.rlsf_base.proofs.memory.block.Bytes.from_first.Code as code
-
-abbrev owner_vals : (owner.the_row).Denot → List Val
-owner_vals d = mark_val ∷ []
-
-owner_Tells : Tells owner.the_row (Is owner.the_row) owner_vals
-owner_Tells = lowers.val_is
 
 abbrev stayed : Stays f.ended.signature.params f.ended.kept
 stayed = (
@@ -58,7 +51,7 @@ from_first_spec 𝓤 𝓛 𝓜 𝓡 wired =
       ),
     )
     f.Key.name code.function (code.unfolded 𝓤 𝓛.H 𝓜 𝓡 wired)
-    (λ κs. (owner_vals, (base_vals, (uint_vals w64, tt)))) (λ κs. (owner_Tells, (base_Tells, (uint_Tells w64, tt)))) (λ κs qs bounds a g are.
+    (λ κs. (bytes_vals, (base_vals, (uint_vals w64, tt)))) (λ κs. (bytes_Tells, (base_Tells, (uint_Tells w64, tt)))) (λ κs qs bounds a g are.
     let d = a.0 in let base = a.1.0 in let skip = a.1.1.0 in
     let vss : List Val × (List Val × (List Val × Unit {0})) = (mark_val ∷ [], (base_vals base, (uint_vals w64 skip, tt))) in
     let Asked : Type 0 = (base.ptr ≡ d.at) × (d.skip ≡ skip) in

@@ -4,7 +4,6 @@ use Rattle.std.proofs.Common.{length-take, length-drop, length-append}
 use Rattle.std.specs.List.{splice}
 use mir.Syntax.{named}
 use mir.Val.{Val, vunit}
-use base.Logic.{never, id⊢}
 use base.Fml.{Fml, ftrue, flft}
 use contract.Monad.{fact}
 use contract.Running.{tables}
@@ -12,8 +11,7 @@ use types.Kit.{‵, raw, ◌⊛◌, ◌$◌, ◌∵◌, !, qed, move, keep, use2
 use types.Run.{unit_lit, of_opd, returns, enter}
 use types.ByLocal.{alloc_all, pass_all, free_all, look_at, sets}
 use denote.RattleType.{owns}
-use denote.Laws.{Tells, Is}
-use denote.RawPtr.{Ptr, in_a_block}
+use denote.RawPtr.{Ptr}
 use denote.Ref.{mut_vals, mut_Tells}
 use denote.Signature.{plain, types_at}
 use denote.Steps.{nothing, heard, opens, closes}
@@ -26,19 +24,14 @@ use Rattle.rlsf_base.specs.Steps.Ownership.{held, bytes_own, ways_of, own_unit}
 use Rattle.rlsf_base.proofs.RawBlock.Rows.{Row, comes, clash_row, held-in}
 use Rattle.rlsf_base.proofs.Changes.{own-in}
 use Rattle.rlsf_base.proofs.RawBlock.Units.{Shares, parted, around-back, ways_join, back-own}
+use Rattle.rlsf_base.proofs.RawBlock.Marks.{bytes_vals, bytes_Tells}
+use Rattle.rlsf_base.proofs.RawBlock.Parts.{in_its_block}
 use Rattle.rlsf_base.proofs.RawBlock.Values.{mark_val}
 use Rattle.rlsf_base.proofs.RawBlock.Walks.{learns}
-use Rattle.rlsf_base.proofs.memory.block.Bytes.TheLaws.{lowers}
 use Rattle.rlsf_base.specs.contracts.memory.block.Bytes as owner
 use Rattle.rlsf_base.specs.contracts.memory.block.Bytes.put_back as f
 use Rattle.rlsf_base.proofs.memory.block.Bytes.put_back.Statement.{statement}
 use Rattle.rlsf_base.proofs.memory.block.Bytes.put_back.Code as code
-
-abbrev owner_vals : (owner.the_row).Denot → List Val
-owner_vals d = mark_val ∷ []
-
-owner_Tells : Tells owner.the_row (Is owner.the_row) owner_vals
-owner_Tells = lowers.val_is
 
 abbrev stayed : Stays f.ended.signature.params f.ended.kept
 stayed = (stay_ref (0 ∷ []) tt (plain (λ _. owner.the_row)), (stay_dropped (plain (λ _. owner.the_row)) f.ended.kept.1.0, tt))
@@ -49,7 +42,7 @@ put_back_spec 𝓤 𝓛 𝓜 𝓡 wired =
     proved 𝓛 f.ended stayed c 𝓜 𝓡
     (Goes-ref 𝓛 1 0 tt (plain (λ _. owner.the_row)), (Goes-blank 𝓛 1 (plain (λ _. owner.the_row)) f.ended.kept.1.0 (λ κs x w. tt), tt))
     f.Key.name code.function (code.unfolded 𝓤 𝓛.H 𝓜 𝓡 wired)
-    (λ κs. (mut_vals, (owner_vals, tt))) (λ κs. (mut_Tells (named 0) κs.0 owner.the_row, (owner_Tells, tt))) (λ κs qs bounds a g are.
+    (λ κs. (mut_vals, (bytes_vals, tt))) (λ κs. (mut_Tells (named 0) κs.0 owner.the_row, (bytes_Tells, tt))) (λ κs qs bounds a g are.
     let rb = a.0.ref_ptr.0 in let ro = a.0.ref_ptr.1 in let d = a.0.now in let part = a.1.0 in
     let vss : List Val × (List Val × Unit {0}) = (mut_vals a.0, (mark_val ∷ [], tt)) in
     let ws = part.bytes in let i = part.skip - d.skip in let n = length ws in
@@ -62,8 +55,7 @@ put_back_spec 𝓤 𝓛 𝓜 𝓡 wired =
     -- [self; its token; the part's bytes]
     enter ! _ _ _ _ _ $ alloc_all ! (λ l. pass_all ! refl ((tt, tt), ((tt, (tt, tt)), tt)) $
     fsplit3 ! $ move ! (1 ∷ 2 ∷ 3 ∷ []) $ opens ! tt owner.the_row rb ro (λ us. move ! (1 ∷ []) $ fsplit ! $ move ! (1 ∷ []) $
-    in_a_block ! d.at (λ p. bytes_own p d.skip d.bytes d.out d.units) (id⊢ 𝓤 (never 𝓤)) (λ b o e. fsplit ! $ flt_l ! (λ small.
-    fsplit ! $ move ! (1 ∷ 2 ∷ []) $ fjoin ! $ move ! (1 ∷ []) $
+    in_its_block ! d.at d.skip d.bytes d.out d.units (λ b o e small. move ! (1 ∷ 2 ∷ []) $ fjoin ! $ move ! (1 ∷ []) $
     -- [the bytes; the mark; its cell; the open borrow; self's first part; the part's bytes; ..]
     let within : i + n ≤ length d.bytes = omega (arith, asked.1, asked.2) in
     let there : part.skip + o ≡ i + (d.skip + o) = omega (arith, asked.1) in
@@ -103,4 +95,4 @@ put_back_spec 𝓤 𝓛 𝓜 𝓡 wired =
     (1 ∷ 2 ∷ 3 ∷ 0 ∷ 4 ∷ []) $
     suffices ! _ (ends_at 𝓛 f.ended stayed c y vunit tt (new, (tt, tt)) (tt, (tt, tt))) $ says ! (was, refl, refl, refl, refl, refl) $
     nothing ! $ move ! (3 ∷ 0 ∷ []) $ join ! $ frame ! $ move ! (3 ∷ 0 ∷ 1 ∷ []) $ fjoin3 ! $ nothing ! $ nothing ! $ fjoin ! $ move ! (1 ∷ 0 ∷ []) $ fjoin ! $
-    done !))))))))
+    done !)))))))

@@ -10,7 +10,6 @@ use types.Kit.{‵, raw, ◌⊛◌, ◌$◌, ◌∵◌, !, qed, move, keep, use3
 use types.Run.{unit_lit, of_opd, returns, enter}
 use types.ByLocal.{alloc_all, pass_all, free_all, look_at, sets}
 use denote.RattleType.{owns}
-use denote.Laws.{Tells, Is}
 use denote.RawPtr.{Ptr, in_a_block}
 use denote.Ref.{mut_vals, mut_Tells}
 use denote.Signature.{plain, types_at}
@@ -22,20 +21,14 @@ use Rattle.rlsf_base.specs.Out.{kept_at}
 use Rattle.rlsf_base.specs.Changes.{IsOut, came_raw}
 use Rattle.rlsf_base.specs.Steps.Ownership.{held, ways_of, own_unit, bytes_own, units_own}
 use Rattle.rlsf_base.proofs.RawBlock.Grid.{puts_units, clash_units}
+use Rattle.rlsf_base.proofs.RawBlock.Marks.{units_vals, units_Tells}
 use Rattle.rlsf_base.proofs.RawBlock.Values.{mark_val}
 use Rattle.rlsf_base.proofs.RawBlock.Walks.{learns}
-use Rattle.rlsf_base.proofs.memory.block.Units.TheLaws.{lowers}
 use Rattle.rlsf_base.specs.contracts.memory.block.Bytes as owner
 use Rattle.rlsf_base.specs.contracts.memory.block.Units as units
 use Rattle.rlsf_base.specs.contracts.memory.block.Bytes.put_units as f
 use Rattle.rlsf_base.proofs.memory.block.Bytes.put_units.Statement.{statement}
 use Rattle.rlsf_base.proofs.memory.block.Bytes.put_units.Code as code
-
-abbrev units_vals : (units.the_row).Denot → List Val
-units_vals u = mark_val ∷ []
-
-units_Tells : Tells units.the_row (Is units.the_row) units_vals
-units_Tells = lowers.val_is
 
 abbrev stayed : Stays f.ended.signature.params f.ended.kept
 stayed = (stay_ref (0 ∷ []) tt (plain (λ _. owner.the_row)), (stay_dropped (plain (λ _. units.the_row)) f.ended.kept.1.0, tt))

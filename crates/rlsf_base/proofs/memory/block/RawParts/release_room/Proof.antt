@@ -1,14 +1,13 @@
 -- Shows that `release_room` returns the room of the bytes that it was given. Assumes `Logic`.
 use Rattle.std.proofs.Common.{◌≡◌, ℕ, ◌+◌, List, [], ◌∷◌, length, refl, sym, ap, ◌∙◌, arith}
 use mir.Val.{Val}
-use base.Fml.{Fml, ftrue, feq, froom}
+use base.Fml.{Fml, ftrue, froom}
 use contract.Monad.{fact}
-use types.Kit.{‵, raw, ◌⊛◌, ◌$◌, ◌∵◌, !, qed, move, keep, drop, split, join, frame, group, fsplit, fjoin, feq_i, flt_l, rewrite, suffices, done}
+use types.Kit.{use1, ‵, raw, ◌⊛◌, ◌$◌, ◌∵◌, !, qed, move, keep, drop, split, join, frame, group, fsplit, fjoin, feq_i, flt_l, rewrite, suffices, done}
 use types.Part.{whole, sub}
 use types.Run.{stop, fld, of_opd, returns, enter}
 use types.ByLocal.{alloc_all, pass_all, free_all, look_at, get_in, sets}
 use denote.RawPtr.{Ptr, in_a_block, ptr_val, rawptr_Lawful}
-use denote.Builtin.{usize}
 use denote.Signature.{plain}
 use denote.Steps.{nothing, heard}
 use denote.Triple.Walked.{says, Stays, walk_of, stay_dropped, ends_at}
@@ -19,16 +18,11 @@ use Rattle.rlsf_base.specs.Changes.{IsOwn}
 use Rattle.rlsf_base.specs.Steps.Ownership.{bytes_ty, bytes_own, room_at, units_from, begins_in, own_unit}
 use Rattle.rlsf_base.proofs.RawBlock.Rows.{held-room}
 use Rattle.rlsf_base.proofs.RawBlock.Units.{ways-same, unit-all}
+use Rattle.rlsf_base.proofs.RawBlock.Parts.{bytes_of_parts}
 use Rattle.rlsf_base.proofs.RawBlock.Values.{base_typed}
-use Rattle.rlsf_base.specs.contracts.memory.block.Base as base_type
-use Rattle.rlsf_base.specs.contracts.memory.block.Bytes as owner
 use Rattle.rlsf_base.specs.contracts.memory.block.RawParts.release_room as f
 use Rattle.rlsf_base.proofs.memory.block.RawParts.release_room.Statement.{statement}
 use Rattle.rlsf_base.proofs.memory.block.RawParts.release_room.Code as code
-use denote.RattleType.{Valss}
-use types.Kit.{some, use1, pick}
-use denote.Laws.{Is, shows}
-use denote.Steps.{peeks}
 use Rattle.rlsf_base.proofs.memory.block.RawParts.TheLaws as parts_laws
 use base.Logic.{never, id⊢}
 use Rattle.rlsf_base.proofs.memory.block.RawParts.TheLaws.{lowers as parts_lowers}
@@ -52,12 +46,7 @@ release_room_spec 𝓤 𝓛 𝓜 𝓡 wired =
     qed 𝓛 ((‵ ftrue ⊛ (‵ ((parts_type.the_row).own_val a.0 (parts_lowers.lowered a.0 ∷ [])) ⊛ ‵ ftrue)) ∷ (raw (fact 𝓤 Asked) ⊛ raw (fact 𝓤 Owned)) ∷ [])
     ∵
     move ! (1 ∷ []) $ split ! $ heard ! Asked (λ asked. heard ! Owned (λ own. split ! $ drop ! $ split ! $
-    peeks ! parts_type.the_row (Is parts_type.the_row) (shows 𝓛 parts_type.the_row) a.0 (parts_lowers.lowered a.0 ∷ []) (λ is.
-    use1 𝓛 (some (λ (us : Valss (base_type.the_row ∷ usize ∷ usize ∷ owner.the_row ∷ [])). ‵ (feq (List Val) (parts_lowers.lowered a.0 ∷ []) _) ⊛
-    (‵ ((base_type.the_row).own_val base us.0) ⊛
-    (‵ (usize.own_val a.0.start us.1.0) ⊛ (‵ (usize.own_val a.0.len us.1.1.0) ⊛ (‵ ((owner.the_row).own_val d us.1.1.1.0) ⊛ ‵ ftrue)))))) (id⊢ 𝓤 _) $
-    pick ! (λ us.
-    split ! $ drop ! $ split ! $ drop ! $ split ! $ drop ! $ split ! $ drop ! $ split ! $ fsplit ! $ keep ! (1 ∷ []) $
+    bytes_of_parts ! a.0 (λ is. keep ! (0 ∷ []) $
     enter ! _ _ _ _ _ $ alloc_all ! (λ l. pass_all ! refl ((parts_laws.the_row_laws.lawful 𝓛).typed a.0 _ is) $
     sets ! (of_opd ! (get_in ! (fld ! refl (stop !)) (sub ! 0 refl (whole !)))) refl (base_typed base.ptr) $
     sets ! (of_opd ! (get_in ! (fld ! refl (stop !)) (sub ! 3 refl (whole !)))) refl (tt, (tt, tt)) $
@@ -75,4 +64,4 @@ release_room_spec 𝓤 𝓛 𝓜 𝓡 wired =
     rewrite ! 0 (λ (u : ℕ × ℕ). ‵ (froom (bytes_ty u.0) b u.1)) {x = (a.0.len, o)} {y = (length d.bytes, 0 + o)} (λ i. (asked.2 i, first i)) refl $ fjoin ! $
     rewrite ! 0 (λ (p : Ptr). ‵ (room_at p a.0.start a.0.len)) (sym e) refl $
     suffices ! _ (ends_at 𝓛 f.ended stayed c y (ptr_val base.ptr) base.ptr ((tt, (tt, (tt, (tt, tt)))), tt) (tt, tt)) $
-    feq_i ! _ (ptr_val base.ptr ∷ []) _ refl $ nothing ! $ nothing ! $ join ! $ nothing ! $ group ! 3 $ frame ! $ says ! refl $ done !))))))))
+    feq_i ! _ (ptr_val base.ptr ∷ []) _ refl $ nothing ! $ nothing ! $ join ! $ nothing ! $ group ! 3 $ frame ! $ says ! refl $ done !)))))))

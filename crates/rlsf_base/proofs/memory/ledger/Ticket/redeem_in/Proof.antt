@@ -9,7 +9,6 @@ use types.Kit.{‵, raw, ◌⊛◌, given, learn, ◌$◌, ◌∵◌, !, qed, mo
 use types.Run.{unit_lit, of_opd, returns, enter}
 use types.ByLocal.{alloc_all, pass_all, free_all, look_at, sets}
 use denote.RattleType.{owns}
-use denote.Laws.{Tells, Is}
 use denote.Ref.{mut_vals, mut_Tells}
 use denote.Signature.{plain, types_at}
 use denote.Steps.{nothing, heard, opens, closes}
@@ -19,19 +18,13 @@ use Rattle.core.proofs.mem.Facts.{says_three}
 use Rattle.std.proofs.raw_atomic.Walks.{proved}
 use Rattle.rlsf_base.specs.Ledger.{Extent, entry_of, extent, ledger_owns, ticket_owns, IsIssued}
 use Rattle.rlsf_base.proofs.RawBlock.Tickets.{redeems}
+use Rattle.rlsf_base.proofs.RawBlock.Marks.{ticket_vals, ticket_Tells}
 use Rattle.rlsf_base.proofs.RawBlock.Values.{mark_val}
-use Rattle.rlsf_base.proofs.memory.ledger.Ticket.TheLaws.{lowers}
 use Rattle.rlsf_base.specs.contracts.memory.ledger.Ledger as ledger
 use Rattle.rlsf_base.specs.contracts.memory.ledger.Ticket as ticket
 use Rattle.rlsf_base.specs.contracts.memory.ledger.Ticket.redeem_in as f
 use Rattle.rlsf_base.proofs.memory.ledger.Ticket.redeem_in.Statement.{statement}
 use Rattle.rlsf_base.proofs.memory.ledger.Ticket.redeem_in.Code as code
-
-abbrev ticket_vals : (ticket.the_row).Denot → List Val
-ticket_vals d = mark_val ∷ []
-
-ticket_Tells : Tells ticket.the_row (Is ticket.the_row) ticket_vals
-ticket_Tells = lowers.val_is
 
 abbrev stayed : Stays f.ended.signature.params f.ended.kept
 stayed = (stay_dropped (plain (λ _. ticket.the_row)) f.ended.kept.0, (stay_ref (0 ∷ []) tt (plain (λ _. ledger.the_row)), tt))

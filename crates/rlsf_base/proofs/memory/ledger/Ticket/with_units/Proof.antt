@@ -1,5 +1,5 @@
 -- Shows that `with_units` puts the room of the units and the ticket together. Assumes `Logic`.
-use Rattle.std.proofs.Common.{◌≡◌, ℕ, ◌+◌, ◌*◌, ◌/◌, List, [], ◌∷◌, refl, sym, ap, subst, ◌∙◌, arith, w64}
+use Rattle.std.proofs.Common.{◌≡◌, ℕ, ◌+◌, ◌*◌, ◌/◌, List, [], ◌∷◌, refl, sym, ◌∙◌, arith, w64}
 use base.Fraction.{full_share}
 use mir.Val.{Val}
 use base.Logic.{never, id⊢}
@@ -12,10 +12,9 @@ use types.Run.{stop, fld, of_opd, bin, no_more, and_then, first, blocks, exec, r
 use types.ByLocal.{alloc_all, pass_all, free_all, look_at, get, get_in, sets, sets_last, take_at, give_at, env}
 use denote.RattleType.{owns}
 use denote.Param.{layout}
-use denote.RawPtr.{Ptr, block_ptr, in_a_block, ◌+ₚ◌}
+use denote.RawPtr.{Ptr, block_ptr, in_a_block}
 use denote.Plain.{uint_vals, uint_Tells}
 use denote.Builtin.{usize}
-use denote.Laws.{Tells, Is}
 use denote.Signature.{plain, types_at}
 use denote.Steps.{nothing, heard}
 use denote.Triple.Walked.{says, Stays, stay_dropped, walk_of, Goes-dropped, ends_at}
@@ -27,12 +26,10 @@ use Rattle.rlsf_base.specs.Ledger.{extent, ticket_owns}
 use Rattle.rlsf_base.specs.Piece.{home_from}
 use Rattle.rlsf_base.specs.Steps.Ownership.{units_ty, units_own}
 use Rattle.rlsf_base.specs.UnitPayload.{IsPlaced, pointer_to}
-use Rattle.rlsf_base.proofs.RawBlock.Spots.{spot_val, spot_own, spot_made, view_val, view_told, view_typed}
+use Rattle.rlsf_base.proofs.RawBlock.Marks.{bytes_vals, bytes_Tells, ticket_vals, ticket_Tells, units_vals, units_Tells, view_vals, view_Tells}
+use Rattle.rlsf_base.proofs.RawBlock.Parts.{placed_in_block}
+use Rattle.rlsf_base.proofs.RawBlock.Spots.{spot_val, spot_own, spot_made, view_val, view_fits}
 use Rattle.rlsf_base.proofs.RawBlock.Values.{mark_val}
-use Rattle.rlsf_base.proofs.memory.view.View.TheLaws.{lowers as view_lowers}
-use Rattle.rlsf_base.proofs.memory.block.Bytes.TheLaws.{lowers as bytes_lowers}
-use Rattle.rlsf_base.proofs.memory.block.Units.TheLaws.{lowers as units_lower}
-use Rattle.rlsf_base.proofs.memory.ledger.Ticket.TheLaws.{lowers as ticket_lowers}
 use Rattle.rlsf_base.specs.contracts.memory.view.View as view_type
 use Rattle.rlsf_base.specs.contracts.memory.block.Bytes as bytes_type
 use Rattle.rlsf_base.specs.contracts.memory.block.Units as units_type
@@ -41,30 +38,6 @@ use Rattle.rlsf_base.specs.contracts.memory.unit_payload.UnitPayload as payload_
 use Rattle.rlsf_base.specs.contracts.memory.ledger.Ticket.with_units as f
 use Rattle.rlsf_base.proofs.memory.ledger.Ticket.with_units.Statement.{statement}
 use Rattle.rlsf_base.proofs.memory.ledger.Ticket.with_units.Code as code
-
-abbrev view_vals : (view_type.the_row).Denot → List Val
-view_vals v = view_val v.base.ptr v.shift ∷ []
-
-view_Tells : Tells view_type.the_row (Is view_type.the_row) view_vals
-view_Tells = view_lowers.val_is
-
-abbrev units_vals : (units_type.the_row).Denot → List Val
-units_vals u = mark_val ∷ []
-
-units_Tells : Tells units_type.the_row (Is units_type.the_row) units_vals
-units_Tells = units_lower.val_is
-
-abbrev ticket_vals : (ticket_type.the_row).Denot → List Val
-ticket_vals d = mark_val ∷ []
-
-ticket_Tells : Tells ticket_type.the_row (Is ticket_type.the_row) ticket_vals
-ticket_Tells = ticket_lowers.val_is
-
-abbrev bytes_vals : (bytes_type.the_row).Denot → List Val
-bytes_vals d = mark_val ∷ []
-
-bytes_Tells : Tells bytes_type.the_row (Is bytes_type.the_row) bytes_vals
-bytes_Tells = bytes_lowers.val_is
 
 abbrev stayed : Stays f.ended.signature.params f.ended.kept
 stayed = (
@@ -117,26 +90,17 @@ with_units_spec 𝓤 𝓛 𝓜 𝓡 wired =
     $ fsplit ! $ keep ! (1 ∷ 3 ∷ []) $
     -- [the units' room; the ticket]
     enter ! _ _ _ _ _ $ alloc_all !
-    (λ l. pass_all ! refl (
-      (tt, (tt, tt)),
-      (
-        view_typed view.base.ptr view.shift (view_told view.base.ptr view.shift (view_val view.base.ptr view.shift ∷ []) are.1.0),
-        ((tt, record { fits = are.1.1.0.1 }), ((tt, record { fits = are.1.1.1.0.1 }), ((tt, (tt, tt)), ((tt, (tt, tt)), tt)))),
-      ),
-    ) $
+    (λ l. pass_all ! refl ((tt, (tt, tt)), (view_fits view are.1.0, ((tt, record { fits = are.1.1.0.1 }), ((tt, record { fits = are.1.1.1.0.1 }), ((tt, (tt, tt)), ((tt, (tt, tt)), tt)))))) $
     in_a_block ! run.at (λ p. units_own p run.first run.count) (id⊢ 𝓤 (never 𝓤)) (λ b o e.
-    let here : view.base.ptr ≡ block_ptr b o = sym asked.0 ∙ e in
-    take_at ! 2 $ rewrite ! 0 (λ (p : Ptr). ‵ (fat full_share (layout view_type.the_row) (l 2) 0 (view_val p view.shift))) here refl $ give_at ! 2 $
+    take_at ! 2 $ rewrite ! 0 (λ (p : Ptr). ‵ (fat full_share (layout view_type.the_row) (l 2) 0 (view_val p view.shift))) (sym asked.0 ∙ e) refl $ give_at ! 2 $
     first ! $ blocks ! $ sets_last ! (bin ! (get_in ! (fld ! refl (fld ! refl (stop !))) (sub ! 0 refl (sub ! 0 refl (whole !)))) (get ! refl) tt) refl (tt, tt) $
     exec ! 𝓣.C 𝓣.Λ (env code.Mir.locals l) (after 1 (code.function).body) (at_ret _ (W.post y)) $ sets ! (of_opd ! (get ! refl)) refl (tt, tt) $
     sets ! (agg ! (and_then ! (get ! refl) (and_then ! (get ! refl) (no_more !)))) refl (tt, (tt, (record { fits = are.1.1.1.0.1 }, tt))) $
     returns ! (look_at ! 0 refl) $ free_all ! refl $
     let p : Ptr = block_ptr b (place + o) in
-    let swapped : place + o ≡ o + place = omega arith in let many : run.count ≡ len / 16 = omega (arith, asked.2) in let there : run.first * 16 + o ≡ place + o =
+    let many : run.count ≡ len / 16 = omega (arith, asked.2) in let there : run.first * 16 + o ≡ place + o =
     omega (arith, asked.1) in
-    let pointed : pointer_to view t.addr ≡ p =
-    ap (λ (k : ℕ). view.base.ptr +ₚ k) (sym asked.5) ∙ ap (λ (q : Ptr). q +ₚ place) here ∙ ap (λ (k : ℕ). block_ptr b k) (sym swapped) in
-    let placed : IsPlaced home p t.addr len = subst (λ (u : Ptr × ℕ). IsPlaced home u.0 t.addr u.1) (λ i. (pointed i, asked.3 i)) lies in
+    let placed : IsPlaced home p t.addr len = placed_in_block view home b o t.addr place len t.len (sym asked.0 ∙ e) asked.5 asked.3 lies in
     let x : (payload_type.the_row).Denot = record { ptr = p; len = len; home = home; name = t.name; key = t.key; start = t.addr; placed = placed } in
     rewrite ! 0 (λ (u : ℕ × ℕ). ‵ (froom (units_ty u.0) b u.1)) {x = (len / 16, place + o)} {y = (run.count, run.first * 16 + o)} (λ i. (many i, there i)) refl $
     move ! (1 ∷ []) $ rewrite ! 0 (λ (u : ℕ × ℕ). ‵ (ticket_owns t.name t.key (extent t.addr u.0 u.1))) {x = (len, 16)} {y = (t.len, t.align)}
