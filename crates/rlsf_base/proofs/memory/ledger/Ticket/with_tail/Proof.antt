@@ -73,7 +73,8 @@ with_tail_spec 𝓤 𝓛 𝓜 𝓡 wired =
     f.Key.name code.function (code.unfolded 𝓤 𝓛.H 𝓜 𝓡 wired)
     (λ κs. (ticket_vals, (view_vals, (uint_vals w64, (uint_vals w64, (units_vals, tt))))))
     (λ κs. (ticket_Tells, (view_Tells, (uint_Tells w64, (uint_Tells w64, (units_Tells, tt)))))) (λ κs qs bounds a g are.
-    let t = a.0 in let view = a.1.0 in let place = a.1.1.0 in let len = a.1.1.1.0 in let run = a.1.1.1.1.0 in let home : Home = home_from view run.of in let kept : ℕ = len - run.count * 16 in
+    let t = a.0 in let view = a.1.0 in let place = a.1.1.0 in let len = a.1.1.1.0 in let run = a.1.1.1.1.0 in let home : Home = home_from view run.of in
+    let kept : ℕ = len - run.count * 16 in
     let vss : List Val × (List Val × (List Val × (List Val × (List Val × Unit {0})))) =
     (mark_val ∷ [], (view_vals view, (uint_vals w64 place, (uint_vals w64 len, (mark_val ∷ [], tt))))) in
     let Asked : Type 0 =

@@ -90,7 +90,8 @@ with_units_spec 𝓤 𝓛 𝓜 𝓡 wired =
     $ fsplit ! $ keep ! (1 ∷ 3 ∷ []) $
     -- [the units' room; the ticket]
     enter ! _ _ _ _ _ $ alloc_all !
-    (λ l. pass_all ! refl ((tt, (tt, tt)), (view_fits view are.1.0, ((tt, record { fits = are.1.1.0.1 }), ((tt, record { fits = are.1.1.1.0.1 }), ((tt, (tt, tt)), ((tt, (tt, tt)), tt)))))) $
+    (λ l. pass_all ! refl
+    ((tt, (tt, tt)), (view_fits view are.1.0, ((tt, record { fits = are.1.1.0.1 }), ((tt, record { fits = are.1.1.1.0.1 }), ((tt, (tt, tt)), ((tt, (tt, tt)), tt)))))) $
     in_a_block ! run.at (λ p. units_own p run.first run.count) (id⊢ 𝓤 (never 𝓤)) (λ b o e.
     take_at ! 2 $ rewrite ! 0 (λ (p : Ptr). ‵ (fat full_share (layout view_type.the_row) (l 2) 0 (view_val p view.shift))) (sym asked.0 ∙ e) refl $ give_at ! 2 $
     first ! $ blocks ! $ sets_last ! (bin ! (get_in ! (fld ! refl (fld ! refl (stop !))) (sub ! 0 refl (sub ! 0 refl (whole !)))) (get ! refl) tt) refl (tt, tt) $

@@ -42,7 +42,8 @@ word_lies c =
     let home : c.args.tail.home.start ≡ now.start = ap (λ (h : Home). h.start) c.requires.home in
     let whole : c.args.tail.home.len ≡ length now.bytes = ap (λ (h : Home). h.len) c.requires.home in
     let len : c.into_parts-units.result.0.len ≡ c.args.tail.len = c.into_parts-units.ensures.1 in
-    let kept : c.args.kept ≡ c.args.tail.kept = c.requires.kept in let within = c.args.tail.within in let first = starts c in let lies = c.args.tail.placed.lies in let word = (readable c).1 in let skip = c.self.invariant.lies.1 in let bounds = c.self.invariant.bounds in
+    let kept : c.args.kept ≡ c.args.tail.kept = c.requires.kept in let within = c.args.tail.within in
+    let first = starts c in let lies = c.args.tail.placed.lies in let word = (readable c).1 in let skip = c.self.invariant.lies.1 in let bounds = c.self.invariant.bounds in
     record { from = omega arith; to = omega arith; at = omega arith }
 
 pub slice_ahead-requires : goal.slice_ahead-requires

@@ -6,4 +6,6 @@ pub slice-requires : goal.slice-requires
 slice-requires c = can_lend c.self.invariant c.self.view_is c.requires.view (omega arith) c.args.range c.requires.place c.place.ensures c.requires.here
 
 pub returns : goal.returns
-returns c = c.slice.ensures ∙ bytes_there c.self.view_is c.args.range (placed c.self.invariant c.self.view_is c.requires.view (omega arith) c.args.range c.requires.place c.place.ensures)
+returns c =
+    let place = placed c.self.invariant c.self.view_is c.requires.view (omega arith) c.args.range c.requires.place c.place.ensures in
+    c.slice.ensures ∙ bytes_there c.self.view_is c.args.range place
