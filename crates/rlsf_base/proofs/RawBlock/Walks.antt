@@ -1,5 +1,5 @@
 -- What the manual proofs about a call of the allocator share.
-use Rattle.std.proofs.Common.{ℕ, zero, suc, List, [], ◌∷◌, take, drop, take-append-drop, subst}
+use Rattle.std.proofs.Common.{ℕ, List, take, drop, take-append-drop, subst}
 use base.Logic.{ent, via, fst∗}
 use contract.Monad.{fact, fact_use}
 use seplogic.Ra.Ura.{Ura}
@@ -7,14 +7,6 @@ use mir.Syntax.{Body}
 use prog.Wp.{Env, Calls, Loops, Wp, after_seq, after_block}
 use types.Logic.{Logic}
 use types.Kit.{Item, Goal, Seq, Post, any_q, post, ⋆, ⊢++}
-use denote.Builtin.{unit}
-use denote.Signature.{Slot, plain}
-
--- the k-th parameter
-abbrev pub slot_at : {n : ℕ} → ℕ → List (Slot n) → Slot n
-slot_at k [] = plain (λ _. unit)
-slot_at zero (s ∷ ss) = s
-slot_at (suc k) (s ∷ ss) = slot_at k ss
 
 module _ {M : Type 1} {𝓤 : Ura M} (𝓛 : Logic 𝓤) where
   open 𝓛 use {H}
