@@ -1,0 +1,164 @@
+//! The pools of an allocator: they are inserted, appended to and removed, and their blocks are listed.
+
+ghost use Rattle.std.specs.Prelude.{◌≡◌, ◌≤◌, ◌+◌, ◌*◌, ◌%◌, ℕ, [], Option, Some, length, is_some, IfNone, if◌then◌else◌};
+ghost use Rattle.std.specs.Map.Iter.{GivesInOrder};
+ghost use Rattle.rlsf_base.specs.Addr.{reply};
+ghost use Rattle.rlsf_base.specs.declared.memory.range.Range.{Range};
+ghost use Rattle.rlsf_base.specs.Range.{AreApart, LiesIn, end_of};
+ghost use Rattle.rlsf_base.specs.Sizes.{max_pool_size, pool_size_for_payloads};
+ghost use Rattle.rlsf_base.specs.Space.{range_of, SamePlace};
+ghost use Rattle.rlsf_model.specs.Callers.{align_at, bytes_at};
+ghost use Rattle.rlsf_model.specs.ChunkRows.{IsRow};
+ghost use Rattle.rlsf_model.specs.Insert.{Appends, Inserts, IsNext, IsUntouched, aligned_part, cut};
+ghost use Rattle.rlsf_model.specs.Lists.{IsIn};
+ghost use Rattle.rlsf_model.specs.Remove.{IsIdle, Removes};
+ghost use Rattle.rlsf_model.specs.Sized.{IsSizedFor, live_count};
+ghost use Rattle.rlsf_blocks.specs.Blocks.{AreBlocks, walked};
+
+use crate::tlsf::Tlsf;
+use rlsf_base::memory::Range;
+use rlsf_blocks::{
+    BlockInfo, Blocks, append_chunks, chunk_end, insert_chunks, remove_chunks, walk_blocks,
+};
+use rlsf_int::BitPattern;
+use std::num::NonZeroUsize;
+
+impl<FLBitmap: BitPattern, SLBitmap: BitPattern, const FLLEN: usize, const SLLEN: usize> Tlsf<
+    FLBitmap,
+    SLBitmap,
+    FLLEN,
+    SLLEN,
+> {
+    ghost use Rattle.rlsf_tlsf.specs.Allocator.{Steps};
+
+    /// Inserts a range of the memory as a pool, and makes free chunks of its aligned part. No chunk has fewer than 64
+    /// bytes.
+    ///
+    /// Returns the number of bytes from the range's start to the end of its last chunk. Returns `None` if the range makes
+    /// no chunk; then nothing changes.
+    ///
+    /// Suppose that no payload is live and that the range starts at a multiple of 32. If its length is at least what
+    /// `pool_size_for_payloads` returns for some bounds, the allocator is then sized for them (`IsSizedFor`).
+    ///
+    /// The range must lie in the memory and overlap no chunk.
+    pub fn insert_free_block_ptr(&mut self, range: Range) -> Option<NonZeroUsize>
+        requires lies_in { LiesIn range self.old.memory.start (length self.old.memory.bytes) }
+        requires untouched { IsUntouched self.old.state.chunks range }
+        ensures step { Steps FLLEN SLLEN self.old self.new (Inserts FLLEN self.old.state range (reply result)) }
+        ensures untouched { (r : Range) → IsUntouched self.old.state.chunks r → AreApart range r → IsUntouched self.new.state.chunks r }
+        ensures aligns { align_at self.new.state ≡ align_at self.old.state }
+        ensures bytes { bytes_at self.new.state ≡ bytes_at self.old.state }
+        ensures count { live_count self.new.state ≡ live_count self.old.state }
+        ensures bounds { (count size align : ℕ) → IsSizedFor SLLEN count size align self.old.state → IsSizedFor SLLEN count size align self.new.state }
+        ensures pool { (count size align len : ℕ) → pool_size_for_payloads FLLEN SLLEN count size align ≡ Some len → range.start % 32 ≡ 0 → len ≤ range.len
+            → live_count self.old.state ≡ 0 → IsSizedFor SLLEN count size align self.new.state }
+        ensures refused { IfNone result (self.new.memory.bytes ≡ self.old.memory.bytes) }
+        ensures place { SamePlace self.old.memory self.new.memory }
+        ensures touches { self.new.memory.touches ≤ self.old.memory.touches + 13 * length (cut (max_pool_size FLLEN) (aligned_part range)) }
+        ensures grow { self.old.memory.touches ≤ self.new.memory.touches }
+        ensures copied { self.new.memory.copied ≡ self.old.memory.copied }
+    {
+        let taken = insert_chunks(&mut self.memory.inner, &mut self.table, range);
+        self.state.insert(FLLEN, range.start, range.len);
+        taken
+    }
+
+    /// Inserts a range of the memory as a pool, as `insert_free_block_ptr` does, but does not return the number of bytes
+    /// taken.
+    ///
+    /// The range must lie in the memory and overlap no chunk.
+    pub fn insert_free_block(&mut self, range: Range)
+        requires lies_in { LiesIn range self.old.memory.start (length self.old.memory.bytes) }
+        requires untouched { IsUntouched self.old.state.chunks range }
+        ensures step { Steps FLLEN SLLEN self.old self.new (λ t. (taken : Option ℕ) × Inserts FLLEN self.old.state range taken t) }
+        ensures untouched { (r : Range) → IsUntouched self.old.state.chunks r → AreApart range r → IsUntouched self.new.state.chunks r }
+        ensures aligns { align_at self.new.state ≡ align_at self.old.state }
+        ensures bytes { bytes_at self.new.state ≡ bytes_at self.old.state }
+        ensures count { live_count self.new.state ≡ live_count self.old.state }
+        ensures bounds { (count size align : ℕ) → IsSizedFor SLLEN count size align self.old.state → IsSizedFor SLLEN count size align self.new.state }
+        ensures pool { (count size align len : ℕ) → pool_size_for_payloads FLLEN SLLEN count size align ≡ Some len → range.start % 32 ≡ 0 → len ≤ range.len
+            → live_count self.old.state ≡ 0 → IsSizedFor SLLEN count size align self.new.state }
+        ensures unchanged { cut (max_pool_size FLLEN) (aligned_part range) ≡ [] → self.new.memory.bytes ≡ self.old.memory.bytes }
+        ensures place { SamePlace self.old.memory self.new.memory }
+        ensures touches { self.new.memory.touches ≤ self.old.memory.touches + 13 * length (cut (max_pool_size FLLEN) (aligned_part range)) }
+        ensures grow { self.old.memory.touches ≤ self.new.memory.touches }
+        ensures copied { self.new.memory.copied ≡ self.old.memory.copied }
+    {
+        let _ = self.insert_free_block_ptr(range);
+    }
+
+    /// Appends a range of the memory that begins at the end of a chunk, and returns the number of bytes taken. If it
+    /// returns 0, nothing changes.
+    ///
+    /// - If there is a longest chunk (`FLLEN` is below 59), the range becomes chunks of its own, as
+    ///   `insert_free_block_ptr` makes them.
+    /// - Otherwise the chunk grows by the range's length, rounded down to a multiple of 32. Its old sentinel, any free
+    ///   block directly before that, and the new bytes except a new sentinel become one free block. This is the newest of
+    ///   all free blocks.
+    ///
+    /// The range must lie in the memory, overlap no chunk, and begin where a chunk ends.
+    pub fn append_free_block_ptr(&mut self, range: Range) -> usize
+        requires { IsNext (range_of self.old.memory) self.old.state range }
+        ensures step { Steps FLLEN SLLEN self.old self.new (Appends FLLEN self.old.state range result) }
+        ensures untouched { (r : Range) → IsUntouched self.old.state.chunks r → AreApart range r → IsUntouched self.new.state.chunks r }
+        ensures aligns { align_at self.new.state ≡ align_at self.old.state }
+        ensures bytes { bytes_at self.new.state ≡ bytes_at self.old.state }
+        ensures count { live_count self.new.state ≡ live_count self.old.state }
+        ensures bounds { (count size align : ℕ) → IsSizedFor SLLEN count size align self.old.state → IsSizedFor SLLEN count size align self.new.state }
+        ensures unchanged { result ≡ 0 → self.new.memory.bytes ≡ self.old.memory.bytes }
+        ensures place { SamePlace self.old.memory self.new.memory }
+        ensures touches { self.new.memory.touches ≤ self.old.memory.touches + (if is_some (max_pool_size FLLEN) then 13 * length (cut (max_pool_size FLLEN) (aligned_part range)) else 34) }
+        ensures grow { self.old.memory.touches ≤ self.new.memory.touches }
+        ensures copied { self.new.memory.copied ≡ self.old.memory.copied }
+    {
+        let taken = append_chunks(&mut self.memory.inner, &mut self.table, range);
+        self.state.append(FLLEN, range.start, range.len);
+        taken
+    }
+
+    /// Removes an inserted range: its chunks, and the free blocks in them. The removed part is the range from its start,
+    /// rounded up to a multiple of 32, to its end. The other free blocks keep their order, and every used block is
+    /// unchanged. Afterwards no chunk overlaps the removed part.
+    ///
+    /// The removed part must be complete contiguous chunks, or empty. No block in it may be used.
+    pub fn remove_pool(&mut self, range: Range)
+        requires row { IsRow self.old.state (walked range) }
+        requires idle { IsIdle self.old.state (walked range) }
+        ensures step { Steps FLLEN SLLEN self.old self.new (Removes self.old.state (walked range)) }
+        ensures untouched { (r : Range) → IsUntouched self.old.state.chunks r → IsUntouched self.new.state.chunks r }
+        ensures gone { IsUntouched self.new.state.chunks (walked range) }
+        ensures aligns { align_at self.new.state ≡ align_at self.old.state }
+        ensures bytes { bytes_at self.new.state ≡ bytes_at self.old.state }
+        ensures count { live_count self.new.state ≡ live_count self.old.state }
+        ensures place { SamePlace self.old.memory self.new.memory }
+        ensures touches { self.new.memory.touches + 9 * length self.new.state.chunks ≤ self.old.memory.touches + 9 * length self.old.state.chunks }
+        ensures grow { self.old.memory.touches ≤ self.new.memory.touches }
+        ensures copied { self.new.memory.copied ≡ self.old.memory.copied }
+    {
+        remove_chunks(&mut self.memory.inner, &mut self.table, range);
+        self.state.remove(range.start, range.len);
+    }
+
+    /// Returns the address of the end of the chunk that begins at `addr`. This is the address just past its sentinel. The
+    /// iteration over the chunk's blocks is not counted as word accesses.
+    ///
+    /// A chunk must begin at `addr`.
+    pub fn chunk_end(&self, addr: usize) -> usize
+        requires { (c : Range) × IsIn c self.now.state.chunks × (c.start ≡ addr) }
+        ensures { (c : Range) → IsIn c self.now.state.chunks → c.start ≡ addr → result ≡ end_of c }
+    {
+        chunk_end(&self.memory.inner, addr)
+    }
+
+    /// Returns an iterator over the blocks of a range, used and free, in address order. It begins at the range's start,
+    /// rounded up to a multiple of 32, and stops at the range's end. It skips the sentinels at the ends of chunks.
+    ///
+    /// This part of the range must be complete contiguous chunks, or empty.
+    pub fn iter_blocks(&self, range: Range) -> Blocks<'_>
+        requires { IsRow self.now.state (walked range) }
+        ensures blocks { AreBlocks self.now.state (walked range) result }
+        ensures runs { GivesInOrder BlockInfo }
+    {
+        walk_blocks(&self.memory.inner, range)
+    }
+}
