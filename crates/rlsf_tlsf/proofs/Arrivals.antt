@@ -14,6 +14,7 @@ use Rattle.rlsf_table.specs.Table.{Table}
 use Rattle.rlsf_blocks.specs.Laws.{read_from, with_bytes_of}
 use Rattle.rlsf_blocks.specs.Spare.{KeepsSpare}
 use Rattle.rlsf_blocks.specs.StandsFor.{contents, StandsFor}
+use Rattle.rlsf_blocks.specs.Steps.LiveBlock.{IsLiveIn}
 use Rattle.rlsf_tlsf.specs.Allocator.{Allocator, allocator, IsAllocator, IsStanding, Stands, Steps}
 use Rattle.rlsf_tlsf.specs.Steps.Moves.{bare, bare_used, deallocated}
 use Rattle.rlsf_tlsf.proofs.Moved.{bare-bare, deallocated-bare}
@@ -108,6 +109,11 @@ module _ {fl_bits sl_bits fllen sllen : ℕ} {m : Space} {x : Table} {s : State}
   -- and so is one with any alignment
   pub some_inside : (addr : ℕ) → IsSome (align_at v.state addr) → IsSomeLive (read_from m s) addr
   some_inside addr live = align_at-some (read_from m s) addr (subst (λ (o : Allocator). IsSome (align_at o.state addr)) (sym view) live)
+
+  -- so it is live where its block is sought by the words before it
+  pub IsLiveIn-inside : (addr : ℕ) {payload : ℕ} → payload ≡ addr → IsSome (align_at v.state addr) → IsLiveIn m payload
+  IsLiveIn-inside addr same live =
+      let (u, holds) = some_inside addr live in (fllen, sllen, contents m x, read_from m s, refl, is.stands, (u, (holds.0, holds.1 ∙ sym same)))
 
   -- its bytes are those that the used block has
   pub bytes_inside : (addr : ℕ) (u : Used) → Holds (read_from m s) addr u → bytes_at v.state addr ≡ u.bytes

@@ -1,4 +1,4 @@
-use Rattle.std.proofs.Common.{[], arith, rules, ◌≡◌, refl, sym, ◌∙◌, subst, ◌≤◌, ◌+◌, ap}
+use Rattle.std.proofs.Common.{[], arith, rules, ◌≡◌, refl, sym, ◌∙◌, subst, ap}
 use Rattle.rlsf_base.specs.Addr.{at}
 use Rattle.rlsf_model.specs.Release.{Deallocates, released}
 use Rattle.rlsf_model.specs.Run.{IsSomeLive}
@@ -13,11 +13,10 @@ use Rattle.rlsf_blocks.proofs.Machine.Counted.{KeepsSpare-counted_first, StandsF
 use Rattle.rlsf_tlsf.specs.Allocator.{Allocator, allocator, Steps}
 use Rattle.rlsf_tlsf.specs.Steps.Moves.{bare}
 use Rattle.rlsf_tlsf.proofs.Arrivals.{IsAllocator-arrived, Steps-arrived, kept_without, live_inside, opened, view_well_formed}
-use Rattle.rlsf_base.specs.Space.{SamePlace}
 use Rattle.rlsf_base.specs.OpenSpace.{IsOwned}
 use Rattle.rlsf_base.proofs.Lending.Present.{own-none}
-use Rattle.rlsf_blocks.proofs.Counting.{SamePlace-counted_first, copied-counted_first, grow-counted_first, touches-counted_first}
 use Rattle.rlsf_tlsf.proofs.Opened.{IsAllocator-opened, view-opened}
+use Rattle.rlsf_tlsf.proofs.AfterReading.{Costs-read_first}
 use Rattle.rlsf_table.proofs.Costs.{SamePlace-costs, copied_none}
 use Rattle.rlsf_tlsf.proofs.tlsf.Tlsf.deallocate.Given as given
 use Rattle.rlsf_tlsf.proofs.tlsf.Tlsf.deallocate.Goals as goal
@@ -125,6 +124,7 @@ live g c = let (u, holds, is) = align_at-live c.args.self.now.state (at c.args.a
 pub returns : goal.returns
 returns g c =
     let view = view-opened c.self-inside.view_is c.self.view_is in
+    let costs = Costs-read_first (ap (λ (o : Allocator). o.memory) view) c.used_block-block.ensures.counts c.deallocate_block.ensures.costs in
     record {
       step = done g c;
       chunks = chunks-deallocated c.args.self.now.state (after g c).state (at c.args.addr) (stepped g c);
@@ -135,19 +135,8 @@ returns g c =
       bounds =
           λ count size align sized. sized_gone (view_well_formed c.self.invariant c.args.self.now c.self.view_is) (after g c).state count size align sized (at c.args.addr)
           (live g c) (stepped g c);
-      place =
-          subst (λ (o : Allocator). SamePlace o.memory c.deallocate_block.new.memory) view
-          (SamePlace-counted_first c.self-inside.inside.0.0.inner c.used_block-block.new.memory 1 c.used_block-block.ensures.counts c.deallocate_block.new.memory
-          (SamePlace-costs c.deallocate_block.ensures.costs));
-      touches =
-          subst (λ (o : Allocator). c.deallocate_block.new.memory.touches ≤ o.memory.touches + 32) view
-          (touches-counted_first c.self-inside.inside.0.0.inner c.used_block-block.new.memory 1 c.used_block-block.ensures.counts c.deallocate_block.new.memory 31
-          c.deallocate_block.ensures.costs.touches);
-      grow =
-          subst (λ (o : Allocator). o.memory.touches ≤ c.deallocate_block.new.memory.touches) view
-          (grow-counted_first c.self-inside.inside.0.0.inner c.used_block-block.new.memory 1 c.used_block-block.ensures.counts c.deallocate_block.new.memory
-          c.deallocate_block.ensures.costs.grow);
-      copied =
-          copied-counted_first c.self-inside.inside.0.0.inner c.used_block-block.new.memory 1 c.used_block-block.ensures.counts c.deallocate_block.new.memory
-          (copied_none c.deallocate_block.ensures.costs) ∙ ap (λ (o : Allocator). o.memory.copied) view;
+      place = SamePlace-costs costs;
+      touches = costs.touches;
+      grow = costs.grow;
+      copied = copied_none costs;
     }

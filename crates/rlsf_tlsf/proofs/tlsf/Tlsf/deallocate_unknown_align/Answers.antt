@@ -1,4 +1,4 @@
-use Rattle.std.proofs.Common.{[], arith, rules, ◌≡◌, refl, sym, ◌∙◌, ◌≤◌, ◌+◌, ap, subst}
+use Rattle.std.proofs.Common.{[], arith, rules, ◌≡◌, refl, sym, ◌∙◌, ap}
 use Rattle.rlsf_base.specs.Addr.{at}
 use Rattle.rlsf_model.specs.Release.{Deallocates, released}
 use Rattle.rlsf_model.specs.State.{State, Used, usable, Holds}
@@ -11,12 +11,13 @@ use Rattle.rlsf_blocks.specs.StandsFor.{contents, StandsFor}
 use Rattle.rlsf_blocks.proofs.Machine.Counted.{KeepsSpare-touched_first, StandsFor-touched}
 use Rattle.rlsf_tlsf.specs.Allocator.{Allocator, allocator, Steps}
 use Rattle.rlsf_tlsf.specs.Steps.Moves.{bare}
-use Rattle.rlsf_tlsf.proofs.Arrivals.{IsAllocator-arrived, Steps-arrived, kept_without, opened, some_inside, view_well_formed}
-use Rattle.rlsf_base.specs.Space.{Space, SamePlace}
+use Rattle.rlsf_tlsf.proofs.Arrivals.{IsAllocator-arrived, IsLiveIn-inside, Steps-arrived, kept_without, opened, some_inside, view_well_formed}
+use Rattle.rlsf_base.specs.Space.{Space}
 use Rattle.rlsf_base.specs.OpenSpace.{IsOwned}
 use Rattle.rlsf_base.proofs.Lending.Present.{own-none}
-use Rattle.rlsf_blocks.proofs.Counting.{Counts-touched, SamePlace-counted_first, copied-counted_first, grow-counted_first, touches-counted_first}
+use Rattle.rlsf_blocks.proofs.Counting.{Counts-touched}
 use Rattle.rlsf_tlsf.proofs.Opened.{IsAllocator-opened, view-opened}
+use Rattle.rlsf_tlsf.proofs.AfterReading.{Costs-read_first}
 use Rattle.rlsf_table.proofs.Costs.{SamePlace-costs, copied_none}
 use Rattle.rlsf_tlsf.proofs.tlsf.Tlsf.deallocate_unknown_align.Given as given
 use Rattle.rlsf_tlsf.proofs.tlsf.Tlsf.deallocate_unknown_align.Goals as goal
@@ -24,17 +25,8 @@ use Rattle.rlsf_tlsf.proofs.tlsf.Tlsf.deallocate_unknown_align.Goals.{After-load
 
 pub load_block_of-block-requires : goal.load_block_of-block-requires
 load_block_of-block-requires g c =
-    let is = IsAllocator-opened c.self-inside.view_is c.self.invariant in
-    let (u, holds) = some_inside is c.args.self.now (view-opened c.self-inside.view_is c.self.view_is) (at c.args.addr) c.requires in
-    let fields = contents c.self-inside.inside.0.0.inner c.self-inside.inside.0.1.0 in (
-      g.row.FLLEN,
-      g.row.SLLEN,
-      fields,
-      read_from c.self-inside.inside.0.0.inner c.self-inside.inside.0.1.1.0.state,
-      refl,
-      is.stands,
-      (u, (holds.0, holds.1 ∙ sym c.get.ensures.value)),
-    )
+    IsLiveIn-inside (IsAllocator-opened c.self-inside.view_is c.self.invariant) c.args.self.now (view-opened c.self-inside.view_is c.self.view_is) (at c.args.addr)
+    c.get.ensures.value c.requires
 
 -- the allocator's state as the call begins
 abbrev state : (g : given.Over) (c : After-load_block_of-block g) → State
@@ -119,6 +111,8 @@ seen g c =
 pub returns : goal.returns
 returns g c =
     let view = view-opened c.self-inside.view_is c.self.view_is in
+    let counts = Counts-touched c.self-inside.inside.0.0.inner c.load_block_of-block.new.memory 2 c.load_block_of-block.ensures.memory in
+    let costs = Costs-read_first (ap (λ (o : Allocator). o.memory) view) counts c.deallocate_block.ensures.costs in
     record {
       step = done g c;
       chunks = chunks-deallocated c.args.self.now.state (after g c).state (at c.args.addr) (stepped g c);
@@ -131,23 +125,8 @@ returns g c =
       bounds = λ count size align sized.
           sized_gone (view_well_formed c.self.invariant c.args.self.now c.self.view_is) (after g c).state count size align sized (at c.args.addr)
           (align_at-some c.args.self.now.state (at c.args.addr) c.requires) (stepped g c);
-      place =
-          subst (λ (o : Allocator). SamePlace o.memory c.deallocate_block.new.memory) view
-          (SamePlace-counted_first c.self-inside.inside.0.0.inner c.load_block_of-block.new.memory 2
-          (Counts-touched c.self-inside.inside.0.0.inner c.load_block_of-block.new.memory 2 c.load_block_of-block.ensures.memory) c.deallocate_block.new.memory
-          (SamePlace-costs c.deallocate_block.ensures.costs));
-      touches =
-          subst (λ (o : Allocator). c.deallocate_block.new.memory.touches ≤ o.memory.touches + 33) view
-          (touches-counted_first c.self-inside.inside.0.0.inner c.load_block_of-block.new.memory 2
-          (Counts-touched c.self-inside.inside.0.0.inner c.load_block_of-block.new.memory 2 c.load_block_of-block.ensures.memory) c.deallocate_block.new.memory 31
-          c.deallocate_block.ensures.costs.touches);
-      grow =
-          subst (λ (o : Allocator). o.memory.touches ≤ c.deallocate_block.new.memory.touches) view
-          (grow-counted_first c.self-inside.inside.0.0.inner c.load_block_of-block.new.memory 2
-          (Counts-touched c.self-inside.inside.0.0.inner c.load_block_of-block.new.memory 2 c.load_block_of-block.ensures.memory) c.deallocate_block.new.memory
-          c.deallocate_block.ensures.costs.grow);
-      copied =
-          copied-counted_first c.self-inside.inside.0.0.inner c.load_block_of-block.new.memory 2
-          (Counts-touched c.self-inside.inside.0.0.inner c.load_block_of-block.new.memory 2 c.load_block_of-block.ensures.memory) c.deallocate_block.new.memory
-          (copied_none c.deallocate_block.ensures.costs) ∙ ap (λ (o : Allocator). o.memory.copied) view;
+      place = SamePlace-costs costs;
+      touches = costs.touches;
+      grow = costs.grow;
+      copied = copied_none costs;
     }

@@ -3,26 +3,16 @@ use Rattle.rlsf_base.specs.Addr.{at}
 use Rattle.rlsf_base.specs.Range.{LiesIn}
 use Rattle.rlsf_base.specs.Space.{Space, bytes_in}
 use Rattle.rlsf_model.proofs.CallerWords.{bytes_at-held}
-use Rattle.rlsf_blocks.specs.Laws.{read_from}
 use Rattle.rlsf_blocks.specs.StandsFor.{contents}
-use Rattle.rlsf_tlsf.proofs.Arrivals.{some_inside}
+use Rattle.rlsf_tlsf.proofs.Arrivals.{IsLiveIn-inside, some_inside}
 use Rattle.rlsf_tlsf.proofs.Lent.{IsAllocator-lent, is_left, is_lent, LiesIn-lent, written-lent}
 use Rattle.rlsf_tlsf.proofs.Opened.{IsAllocator-opened, view-opened}
 use Rattle.rlsf_tlsf.proofs.tlsf.Tlsf.payload_mut.Goals as goal
 
 pub load_usable_bytes-range-requires : goal.load_usable_bytes-range-requires
 load_usable_bytes-range-requires g c =
-    let is = IsAllocator-opened c.self-inside.view_is c.self.invariant in
-    let fields = contents c.self-inside.inside.0.0.inner c.self-inside.inside.0.1.0 in
-    let (u, holds) = some_inside is c.args.self.now (view-opened c.self-inside.view_is c.self.view_is) (at c.args.addr) c.requires in (
-      g.row.FLLEN,
-      g.row.SLLEN,
-      fields,
-      read_from c.self-inside.inside.0.0.inner c.self-inside.inside.0.1.1.0.state,
-      refl,
-      is.stands,
-      (u, (holds.0, holds.1 ∙ sym c.get.ensures.value)),
-    )
+    IsLiveIn-inside (IsAllocator-opened c.self-inside.view_is c.self.invariant) c.args.self.now (view-opened c.self-inside.view_is c.self.view_is) (at c.args.addr)
+    c.get.ensures.value c.requires
 
 pub slice_mut-requires : goal.slice_mut-requires
 slice_mut-requires g c =

@@ -21,15 +21,15 @@ use Rattle.rlsf_blocks.proofs.Machine.Counted.{KeepsSpare-counted_first}
 use Rattle.rlsf_blocks.proofs.Words.NonZeroNumbers.{number, on_none, on_some}
 use Rattle.rlsf_tlsf.specs.Allocator.{Allocator, allocator, Steps}
 use Rattle.rlsf_tlsf.specs.Steps.Moves.{bare, reallocated}
-use Rattle.rlsf_tlsf.proofs.Arrivals.{IsAllocator-arrived, Steps-arrived, bare-kept, bytes_inside, live_inside, opened, view_well_formed, well_formed, arrived}
+use Rattle.rlsf_tlsf.proofs.Arrivals.{IsAllocator-arrived, Steps-arrived, bare-kept, bytes_inside, opened, view_well_formed, well_formed, arrived}
 use Rattle.rlsf_tlsf.proofs.Found.{Found, live_in, payload_found}
 use Rattle.rlsf_tlsf.proofs.Moved.{reallocated-bare}
 use Rattle.rlsf_base.specs.Space.{Space, SamePlace}
 use Rattle.rlsf_base.specs.OpenSpace.{IsHere}
 use Rattle.rlsf_base.proofs.Lending.Present.{here-none}
-use Rattle.rlsf_blocks.proofs.Counting.{SamePlace-counted_first, grow-counted_first, grow_copied-counted_first, touches-counted_first}
 use Rattle.rlsf_blocks.proofs.Refused.{none_none, none_some}
 use Rattle.rlsf_tlsf.proofs.Opened.{IsAllocator-opened, view-opened}
+use Rattle.rlsf_tlsf.proofs.AfterReading.{SamePlace-read_first, copied-read_first, grow-read_first, grow_copied-read_first, most_copied-read_first, touches-read_first}
 use Rattle.rlsf_tlsf.proofs.tlsf.Tlsf.reallocate.Given as given
 use Rattle.rlsf_tlsf.proofs.tlsf.Tlsf.reallocate.Goals as goal
 use Rattle.rlsf_tlsf.proofs.tlsf.Tlsf.reallocate.Goals.{After-from_residual, After-new, After-reallocate, After-used_block-block, In_err-moved}
@@ -43,23 +43,17 @@ found : (g : given.Over) (c : After-used_block-block g)
     → Found g.row.FLLEN g.row.SLLEN (contents c.used_block-block.new.memory c.self-inside.inside.0.1.0) (state g c) (at c.args.addr) c.used_block-block.result
     c.get-payload.result c.args.layout.align
 found g c =
-    let is = IsAllocator-opened c.self-inside.view_is c.self.invariant in
-    let live = live_inside is c.args.self.now (view-opened c.self-inside.view_is c.self.view_is) (at c.args.addr) c.args.layout.align c.requires in
-    payload_found is.stands c.get-payload.ensures.value c.align.ensures.value live c.used_block-block.ensures.counts c.used_block-block.ensures.block
+    payload_found (IsAllocator-opened c.self-inside.view_is c.self.invariant) (view-opened c.self-inside.view_is c.self.view_is) c.get-payload.ensures.value
+    c.align.ensures.value c.requires c.used_block-block.ensures.counts c.used_block-block.ensures.block
 
--- nothing is out of it
-whole : (g : given.Over) (c : After-used_block-block g) → c.used_block-block.new.memory.out ≡ []
-whole g c = c.used_block-block.ensures.counts.out ∙ (IsAllocator-opened c.self-inside.view_is c.self.invariant).whole
-
--- so the payload's usable bytes are here
+-- nothing is out of the memory, so the payload's usable bytes are here
 here : (g : given.Over) (c : After-used_block-block g) (u : Used) → IsHere c.used_block-block.new.memory (usable u)
-here g c u = here-none c.used_block-block.new.memory (usable u) (whole g c)
+here g c u = here-none c.used_block-block.new.memory (usable u) (found g c).whole
 
 pub used_block-block-requires-clause-live : goal.used_block-block-requires-clause-live
 used_block-block-requires-clause-live g c =
-    live_in (IsAllocator-opened c.self-inside.view_is c.self.invariant).stands c.get-payload.ensures.value c.align.ensures.value
-    (live_inside (IsAllocator-opened c.self-inside.view_is c.self.invariant) c.args.self.now (view-opened c.self-inside.view_is c.self.view_is) (at c.args.addr)
-    c.args.layout.align c.requires)
+    live_in (IsAllocator-opened c.self-inside.view_is c.self.invariant) (view-opened c.self-inside.view_is c.self.view_is) c.get-payload.ensures.value
+    c.align.ensures.value c.requires
 
 pub reallocate_block-requires : goal.reallocate_block-requires
 reallocate_block-requires g c =
@@ -68,7 +62,7 @@ reallocate_block-requires g c =
       omega arith,
       (
         IsValid-widest g.FLBitmap.BitPattern.width_limit (IsAllocator-opened c.self-inside.view_is c.self.invariant).valid,
-        ((state g before, f.used, f.stands, f.used_at, here g before f.used), (search rules, λ one. whole g before)),
+        ((state g before, f.used, f.stands, f.used_at, here g before f.used), (search rules, λ one. f.whole)),
       ),
     )
 
@@ -100,7 +94,7 @@ module _ (g : given.Over) (c : In_err-moved g) where
 
 -- nothing is out after it
 none : (g : given.Over) (c : After-used_block-block g) (n : Space) → SamePlace c.used_block-block.new.memory n → n.out ≡ []
-none g c n place = place.3 (whole g c)
+none g c n place = place.3 (found g c).whole
 
 none_refused : (g : given.Over) (c : In_err-moved g) → c.reallocate_block.new.memory.out ≡ []
 none_refused g c = none g (before g c) c.reallocate_block.new.memory c.reallocate_block.ensures.place
@@ -114,6 +108,14 @@ invariant_of-self g c =
     c.self.invariant.valid
 
 -- ---- the bytes that are copied
+
+-- no more than the payload has
+long : (g : given.Over) (c : After-used_block-block g) → length (bytes_at c.args.self.now.state (at c.args.addr)) ≡ (usable (found g c).used).len
+long g c =
+    let is = IsAllocator-opened c.self-inside.view_is c.self.invariant in
+    let f = found g c in
+    ap length (bytes_inside is c.args.self.now (view-opened c.self-inside.view_is c.self.view_is) (at c.args.addr) f.used f.holds)
+    ∙ (is.stands.well_formed.used f.used f.holds.0).bytes
 
 -- none, where the payload stays or takes from the block behind
 stays : (g : given.Over) (c : After-used_block-block g) (u : Used) (p : Plan) → Holds c.args.self.now.state (at c.args.addr) u
@@ -203,6 +205,7 @@ pub returns-in_err-moved : goal.returns-in_err-moved
 returns-in_err-moved g c =
     let is = IsAllocator-opened c.self-inside.view_is c.self.invariant in
     let view = view-opened c.self-inside.view_is c.self.view_is in
+    let viewed = ap (λ (o : Allocator). o.memory) view in
     record {
       step =
           Steps-arrived (staying g (refused g c)).1 c.self-inside.inside.0.1.1.0.state (sym (bare-kept is)) (none_refused g (refused g c)) c.args.self.now
@@ -230,35 +233,21 @@ returns-in_err-moved g c =
       same =
           none_none c.from_residual.result (arrived (staying g (refused g c)).1 c.self-inside.inside.0.1.1.0.state (sym (bare-kept is)) ∙ ap (λ (o : Allocator). o.state) view);
       refused = none_none c.from_residual.result (c.in_err-moved.ensures.refused ∙ c.used_block-block.ensures.counts.bytes ∙ ap (λ (o : Allocator). o.memory.bytes) view);
-      place =
-          subst (λ (o : Allocator). SamePlace o.memory c.reallocate_block.new.memory) view
-          (SamePlace-counted_first c.self-inside.inside.0.0.inner c.used_block-block.new.memory 1 c.used_block-block.ensures.counts c.reallocate_block.new.memory
-          c.reallocate_block.ensures.place);
-      touches =
-          subst (λ (o : Allocator). c.reallocate_block.new.memory.touches ≤ o.memory.touches + 66) view
-          (touches-counted_first c.self-inside.inside.0.0.inner c.used_block-block.new.memory 1 c.used_block-block.ensures.counts c.reallocate_block.new.memory 65
-          c.reallocate_block.ensures.touches);
-      grow =
-          subst (λ (o : Allocator). o.memory.touches ≤ c.reallocate_block.new.memory.touches) view
-          (grow-counted_first c.self-inside.inside.0.0.inner c.used_block-block.new.memory 1 c.used_block-block.ensures.counts c.reallocate_block.new.memory
-          c.reallocate_block.ensures.grow);
+      place = SamePlace-read_first viewed c.used_block-block.ensures.counts c.reallocate_block.new.memory c.reallocate_block.ensures.place;
+      touches = touches-read_first viewed c.used_block-block.ensures.counts c.reallocate_block.new.memory 65 c.reallocate_block.ensures.touches;
+      grow = grow-read_first viewed c.used_block-block.ensures.counts c.reallocate_block.new.memory c.reallocate_block.ensures.grow;
       copied =
           let before = (goal.at.returns-in_err-moved g c).After-used_block-block in
           let f = found g before in
-          let counted = ap (λ (o : Allocator). o.memory.copied) view in
-          let least = c.reallocate_block.ensures.copied (state g before) f.used f.stands f.used_at in
-          let long = ap length (bytes_inside is c.args.self.now view (at c.args.addr) f.used f.holds) ∙ (is.stands.well_formed.used f.used f.holds.0).bytes in
-          omega (arith, c.used_block-block.ensures.counts.copied, least, long, counted);
-      grow_copied =
-          subst (λ (o : Allocator). o.memory.copied ≤ c.reallocate_block.new.memory.copied) view
-          (grow_copied-counted_first c.self-inside.inside.0.0.inner c.used_block-block.new.memory 1 c.used_block-block.ensures.counts c.reallocate_block.new.memory
-          c.reallocate_block.ensures.grow_copied);
+          most_copied-read_first viewed c.used_block-block.ensures.counts c.reallocate_block.new.memory (usable f.used).len (length (bytes_at c.args.self.now.state (at c.args.addr)))
+          (c.reallocate_block.ensures.copied (state g before) f.used f.stands f.used_at) (long g before);
+      grow_copied = grow_copied-read_first viewed c.used_block-block.ensures.counts c.reallocate_block.new.memory c.reallocate_block.ensures.grow_copied;
       stays = λ room.
           let (u, p, held, first) = room in
           let before = (goal.at.returns-in_err-moved g c).After-used_block-block in
           let f = found g before in
-          c.reallocate_block.ensures.stays (state g before) f.used f.stands f.used_at p (stays g before u p held first) ∙ c.used_block-block.ensures.counts.copied
-          ∙ ap (λ (o : Allocator). o.memory.copied) view;
+          copied-read_first viewed c.used_block-block.ensures.counts c.reallocate_block.new.memory
+          (c.reallocate_block.ensures.stays (state g before) f.used f.stands f.used_at p (stays g before u p held first));
     }
 
 -- ---- the counts of a payload with another size
@@ -274,6 +263,7 @@ pub returns : goal.returns
 returns g c =
     let is = IsAllocator-opened c.self-inside.view_is c.self.invariant in
     let view = view-opened c.self-inside.view_is c.self.view_is in
+    let viewed = ap (λ (o : Allocator). o.memory) view in
     record {
       step =
           subst (λ o. Steps g.row.FLLEN g.row.SLLEN c.args.self.now (after g c) (Reallocates g.row.SLLEN c.args.self.now.state (at c.args.addr) c.args.layout.size o))
@@ -307,33 +297,19 @@ returns g c =
           (done g c)).0;
       same = let some = positive g c in on_none c.new.result c.in_ok-moved.moved c.new.ensures (λ zero. absurd (omega arith));
       refused = let some = positive g c in on_none c.new.result c.in_ok-moved.moved c.new.ensures (λ zero. absurd (omega arith));
-      place =
-          subst (λ (o : Allocator). SamePlace o.memory c.reallocate_block.new.memory) view
-          (SamePlace-counted_first c.self-inside.inside.0.0.inner c.used_block-block.new.memory 1 c.used_block-block.ensures.counts c.reallocate_block.new.memory
-          c.reallocate_block.ensures.place);
-      touches =
-          subst (λ (o : Allocator). c.reallocate_block.new.memory.touches ≤ o.memory.touches + 66) view
-          (touches-counted_first c.self-inside.inside.0.0.inner c.used_block-block.new.memory 1 c.used_block-block.ensures.counts c.reallocate_block.new.memory 65
-          c.reallocate_block.ensures.touches);
-      grow =
-          subst (λ (o : Allocator). o.memory.touches ≤ c.reallocate_block.new.memory.touches) view
-          (grow-counted_first c.self-inside.inside.0.0.inner c.used_block-block.new.memory 1 c.used_block-block.ensures.counts c.reallocate_block.new.memory
-          c.reallocate_block.ensures.grow);
+      place = SamePlace-read_first viewed c.used_block-block.ensures.counts c.reallocate_block.new.memory c.reallocate_block.ensures.place;
+      touches = touches-read_first viewed c.used_block-block.ensures.counts c.reallocate_block.new.memory 65 c.reallocate_block.ensures.touches;
+      grow = grow-read_first viewed c.used_block-block.ensures.counts c.reallocate_block.new.memory c.reallocate_block.ensures.grow;
       copied =
           let before = (goal.at.returns g c).After-used_block-block in
           let f = found g before in
-          let counted = ap (λ (o : Allocator). o.memory.copied) view in
-          let least = c.reallocate_block.ensures.copied (state g before) f.used f.stands f.used_at in
-          let long = ap length (bytes_inside is c.args.self.now view (at c.args.addr) f.used f.holds) ∙ (is.stands.well_formed.used f.used f.holds.0).bytes in
-          omega (arith, c.used_block-block.ensures.counts.copied, least, long, counted);
-      grow_copied =
-          subst (λ (o : Allocator). o.memory.copied ≤ c.reallocate_block.new.memory.copied) view
-          (grow_copied-counted_first c.self-inside.inside.0.0.inner c.used_block-block.new.memory 1 c.used_block-block.ensures.counts c.reallocate_block.new.memory
-          c.reallocate_block.ensures.grow_copied);
+          most_copied-read_first viewed c.used_block-block.ensures.counts c.reallocate_block.new.memory (usable f.used).len (length (bytes_at c.args.self.now.state (at c.args.addr)))
+          (c.reallocate_block.ensures.copied (state g before) f.used f.stands f.used_at) (long g before);
+      grow_copied = grow_copied-read_first viewed c.used_block-block.ensures.counts c.reallocate_block.new.memory c.reallocate_block.ensures.grow_copied;
       stays = λ room.
           let (u, p, held, first) = room in
           let before = (goal.at.returns g c).After-used_block-block in
           let f = found g before in
-          c.reallocate_block.ensures.stays (state g before) f.used f.stands f.used_at p (stays g before u p held first) ∙ c.used_block-block.ensures.counts.copied
-          ∙ ap (λ (o : Allocator). o.memory.copied) view;
+          copied-read_first viewed c.used_block-block.ensures.counts c.reallocate_block.new.memory
+          (c.reallocate_block.ensures.stays (state g before) f.used f.stands f.used_at p (stays g before u p held first));
     }

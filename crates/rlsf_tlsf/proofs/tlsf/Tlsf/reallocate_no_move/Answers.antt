@@ -1,4 +1,4 @@
-use Rattle.std.proofs.Common.{[], arith, ◌≡◌, ℕ, eqb, Some, None, refl, sym, ◌∙◌, ap, subst, ◌≤◌, ◌+◌, rules}
+use Rattle.std.proofs.Common.{[], arith, ◌≡◌, ℕ, eqb, Some, None, refl, sym, ◌∙◌, ap, subst, rules}
 use Rattle.std.proofs.lemmas.Bool.{eqb-true, eqb-false}
 use Rattle.rlsf_base.specs.Addr.{at}
 use Rattle.rlsf_model.specs.Callers.{align_at, bytes_at}
@@ -18,15 +18,15 @@ use Rattle.rlsf_blocks.proofs.Machine.Counted.{KeepsSpare-counted, KeepsSpare-co
 use Rattle.rlsf_reallocate.proofs.Reallocate.FirstPlan.{StandsFor-unchanged}
 use Rattle.rlsf_tlsf.specs.Allocator.{Allocator, allocator, Steps}
 use Rattle.rlsf_tlsf.specs.Steps.Moves.{bare, reallocated}
-use Rattle.rlsf_tlsf.proofs.Arrivals.{IsAllocator-arrived, Steps-arrived, arrived, bare-kept, live_inside, opened, view_well_formed}
+use Rattle.rlsf_tlsf.proofs.Arrivals.{IsAllocator-arrived, Steps-arrived, arrived, bare-kept, opened, view_well_formed}
 use Rattle.rlsf_tlsf.proofs.Found.{Found, live_in, payload_found}
 use Rattle.rlsf_tlsf.proofs.Moved.{reallocated-bare}
 use Rattle.rlsf_base.specs.Space.{Space, SamePlace}
 use Rattle.rlsf_base.specs.OpenSpace.{IsOwned}
 use Rattle.rlsf_base.proofs.Lending.Present.{own-none}
 use Rattle.rlsf_model.proofs.Chunks.{chunks-reallocated}
-use Rattle.rlsf_blocks.proofs.Counting.{SamePlace-counted_first, copied-counted_first, grow-counted_first, touches-counted_first}
 use Rattle.rlsf_tlsf.proofs.Opened.{IsAllocator-opened, view-opened}
+use Rattle.rlsf_tlsf.proofs.AfterReading.{Costs-read_first}
 use Rattle.rlsf_table.proofs.Costs.{SamePlace-costs, copied_none}
 use Rattle.rlsf_tlsf.proofs.tlsf.Tlsf.reallocate_no_move.Given as given
 use Rattle.rlsf_tlsf.proofs.tlsf.Tlsf.reallocate_no_move.Goals as goal
@@ -41,23 +41,17 @@ found : (g : given.Over) (c : After-used_block-block g)
     → Found g.row.FLLEN g.row.SLLEN (contents c.used_block-block.new.memory c.self-inside.inside.0.1.0) (state g c) (at c.args.addr) c.used_block-block.result
     c.get-payload.result c.args.layout.align
 found g c =
-    let is = IsAllocator-opened c.self-inside.view_is c.self.invariant in
-    let live = live_inside is c.args.self.now (view-opened c.self-inside.view_is c.self.view_is) (at c.args.addr) c.args.layout.align c.requires in
-    payload_found is.stands c.get-payload.ensures.value c.align.ensures.value live c.used_block-block.ensures.counts c.used_block-block.ensures.block
+    payload_found (IsAllocator-opened c.self-inside.view_is c.self.invariant) (view-opened c.self-inside.view_is c.self.view_is) c.get-payload.ensures.value
+    c.align.ensures.value c.requires c.used_block-block.ensures.counts c.used_block-block.ensures.block
 
--- nothing is out of it
-whole : (g : given.Over) (c : After-used_block-block g) → c.used_block-block.new.memory.out ≡ []
-whole g c = c.used_block-block.ensures.counts.out ∙ (IsAllocator-opened c.self-inside.view_is c.self.invariant).whole
-
--- so the payload's usable bytes are the memory's own
+-- nothing is out of the memory, so the payload's usable bytes are the memory's own
 own : (g : given.Over) (c : After-used_block-block g) (u : Used) → IsOwned c.used_block-block.new.memory (usable u)
-own g c u = own-none c.used_block-block.new.memory (usable u) (whole g c)
+own g c u = own-none c.used_block-block.new.memory (usable u) (found g c).whole
 
 pub used_block-block-requires-clause-live : goal.used_block-block-requires-clause-live
 used_block-block-requires-clause-live g c =
-    live_in (IsAllocator-opened c.self-inside.view_is c.self.invariant).stands c.get-payload.ensures.value c.align.ensures.value
-    (live_inside (IsAllocator-opened c.self-inside.view_is c.self.invariant) c.args.self.now (view-opened c.self-inside.view_is c.self.view_is) (at c.args.addr)
-    c.args.layout.align c.requires)
+    live_in (IsAllocator-opened c.self-inside.view_is c.self.invariant) (view-opened c.self-inside.view_is c.self.view_is) c.get-payload.ensures.value
+    c.align.ensures.value c.requires
 
 pub resize_block-requires : goal.resize_block-requires
 resize_block-requires g c =
@@ -97,7 +91,7 @@ module _ (g : given.Over) (c : Then-not-resize_block g) where
 
 -- nothing is out after it
 none : (g : given.Over) (c : After-used_block-block g) (n : Space) → SamePlace c.used_block-block.new.memory n → n.out ≡ []
-none g c n place = place.3 (whole g c)
+none g c n place = place.3 (found g c).whole
 
 none_refused : (g : given.Over) (c : Then-not-resize_block g) → c.resize_block.new.memory.out ≡ []
 none_refused g c = none g (before g c) c.resize_block.new.memory (SamePlace-costs c.resize_block.ensures.costs)
@@ -193,6 +187,7 @@ pub returns-then-not-resize_block : goal.returns-then-not-resize_block
 returns-then-not-resize_block g c =
     let is = IsAllocator-opened c.self-inside.view_is c.self.invariant in
     let view = view-opened c.self-inside.view_is c.self.view_is in
+    let costs = Costs-read_first (ap (λ (o : Allocator). o.memory) view) c.used_block-block.ensures.counts c.resize_block.ensures.costs in
     record {
       step =
           Steps-arrived (stands g c) c.self-inside.inside.0.1.1.0.state (sym (bare-kept is)) (none_refused g c) c.args.self.now c.self-inside.inside.0.0.inner
@@ -210,21 +205,10 @@ returns-then-not-resize_block g c =
       chunks = ap (λ (o : Allocator). o.state.chunks) view;
       same = same g c;
       refused = (c.resize_block.ensures.unchanged c.if-not-resize_block.true).0.bytes ∙ c.used_block-block.ensures.counts.bytes ∙ ap (λ (o : Allocator). o.memory.bytes) view;
-      place =
-          subst (λ (o : Allocator). SamePlace o.memory c.resize_block.new.memory) view
-          (SamePlace-counted_first c.self-inside.inside.0.0.inner c.used_block-block.new.memory 1 c.used_block-block.ensures.counts c.resize_block.new.memory
-          (SamePlace-costs c.resize_block.ensures.costs));
-      touches =
-          subst (λ (o : Allocator). c.resize_block.new.memory.touches ≤ o.memory.touches + 25) view
-          (touches-counted_first c.self-inside.inside.0.0.inner c.used_block-block.new.memory 1 c.used_block-block.ensures.counts c.resize_block.new.memory 24
-          c.resize_block.ensures.costs.touches);
-      grow =
-          subst (λ (o : Allocator). o.memory.touches ≤ c.resize_block.new.memory.touches) view
-          (grow-counted_first c.self-inside.inside.0.0.inner c.used_block-block.new.memory 1 c.used_block-block.ensures.counts c.resize_block.new.memory
-          c.resize_block.ensures.costs.grow);
-      copied =
-          copied-counted_first c.self-inside.inside.0.0.inner c.used_block-block.new.memory 1 c.used_block-block.ensures.counts c.resize_block.new.memory
-          (copied_none c.resize_block.ensures.costs) ∙ ap (λ (o : Allocator). o.memory.copied) view;
+      place = SamePlace-costs costs;
+      touches = costs.touches;
+      grow = costs.grow;
+      copied = copied_none costs;
     }
 
 -- ---- the counts of a payload with another size
@@ -232,6 +216,7 @@ returns-then-not-resize_block g c =
 pub returns : goal.returns
 returns g c =
     let view = view-opened c.self-inside.view_is c.self.view_is in
+    let costs = Costs-read_first (ap (λ (o : Allocator). o.memory) view) c.used_block-block.ensures.counts c.resize_block.ensures.costs in
     record {
       step = done g c;
       there = refl;
@@ -250,19 +235,8 @@ returns g c =
       chunks = chunks-reallocated g.row.SLLEN c.args.self.now.state (after g c).state (at c.args.addr) c.args.layout.size (Some (at c.args.addr)) (reached g c);
       same = tt;
       refused = tt;
-      place =
-          subst (λ (o : Allocator). SamePlace o.memory c.resize_block.new.memory) view
-          (SamePlace-counted_first c.self-inside.inside.0.0.inner c.used_block-block.new.memory 1 c.used_block-block.ensures.counts c.resize_block.new.memory
-          (SamePlace-costs c.resize_block.ensures.costs));
-      touches =
-          subst (λ (o : Allocator). c.resize_block.new.memory.touches ≤ o.memory.touches + 25) view
-          (touches-counted_first c.self-inside.inside.0.0.inner c.used_block-block.new.memory 1 c.used_block-block.ensures.counts c.resize_block.new.memory 24
-          c.resize_block.ensures.costs.touches);
-      grow =
-          subst (λ (o : Allocator). o.memory.touches ≤ c.resize_block.new.memory.touches) view
-          (grow-counted_first c.self-inside.inside.0.0.inner c.used_block-block.new.memory 1 c.used_block-block.ensures.counts c.resize_block.new.memory
-          c.resize_block.ensures.costs.grow);
-      copied =
-          copied-counted_first c.self-inside.inside.0.0.inner c.used_block-block.new.memory 1 c.used_block-block.ensures.counts c.resize_block.new.memory
-          (copied_none c.resize_block.ensures.costs) ∙ ap (λ (o : Allocator). o.memory.copied) view;
+      place = SamePlace-costs costs;
+      touches = costs.touches;
+      grow = costs.grow;
+      copied = copied_none costs;
     }

@@ -16,16 +16,16 @@ use Rattle.rlsf_reallocate.specs.Steps.Resize.{IsUsedAt}
 use Rattle.rlsf_reallocate.proofs.Reallocate.FirstPlan.{StandsFor-unchanged}
 use Rattle.rlsf_tlsf.specs.Allocator.{Allocator, allocator, Steps}
 use Rattle.rlsf_tlsf.specs.Steps.Moves.{bare, reallocated}
-use Rattle.rlsf_tlsf.proofs.Arrivals.{IsAllocator-arrived, Steps-arrived, bare-kept, bytes_inside, some_inside}
+use Rattle.rlsf_tlsf.proofs.Arrivals.{IsAllocator-arrived, IsLiveIn-inside, Steps-arrived, bare-kept, bytes_inside, some_inside}
 use Rattle.rlsf_tlsf.proofs.Moved.{reallocated-bare}
 use Rattle.rlsf_base.specs.Space.{Space, SamePlace}
 use Rattle.rlsf_base.specs.OpenSpace.{IsOwned}
 use Rattle.rlsf_base.proofs.Lending.Present.{own-none}
 use Rattle.rlsf_blocks.proofs.Words.Apart.{used_in_memory}
-use Rattle.rlsf_blocks.proofs.Counting.{Counts-counted_first, Counts-touched, SamePlace-counted, SamePlace-counted_first, copied-counted_first, grow-counted_first}
-use Rattle.rlsf_blocks.proofs.Counting.{touches-counted_first}
+use Rattle.rlsf_blocks.proofs.Counting.{Counts-counted_first, Counts-touched, SamePlace-counted}
 use Rattle.rlsf_tlsf.proofs.UnknownAlign.{too_long}
 use Rattle.rlsf_tlsf.proofs.Opened.{IsAllocator-opened, view-opened}
+use Rattle.rlsf_tlsf.proofs.AfterReading.{Costs-read_first, touches-read_first}
 use Rattle.rlsf_table.proofs.Costs.{SamePlace-costs, copied_none}
 use Rattle.rlsf_tlsf.proofs.tlsf.Tlsf.resize_unknown_align.Given as given
 use Rattle.rlsf_tlsf.proofs.tlsf.Tlsf.resize_unknown_align.Goals as goal
@@ -33,17 +33,8 @@ use Rattle.rlsf_tlsf.proofs.tlsf.Tlsf.resize_unknown_align.Goals.{After-load_blo
 
 pub load_usable_bytes-usable-requires : goal.load_usable_bytes-usable-requires
 load_usable_bytes-usable-requires g c =
-    let is = IsAllocator-opened c.self-inside.view_is c.self.invariant in
-    let (u, holds) = some_inside is c.args.self.now (view-opened c.self-inside.view_is c.self.view_is) (at c.args.addr) c.requires in
-    let fields = contents c.self-inside.inside.0.0.inner c.self-inside.inside.0.1.0 in (
-      g.row.FLLEN,
-      g.row.SLLEN,
-      fields,
-      read_from c.self-inside.inside.0.0.inner c.self-inside.inside.0.1.1.0.state,
-      refl,
-      is.stands,
-      (u, (holds.0, holds.1 ∙ sym c.get-payload.ensures.value)),
-    )
+    IsLiveIn-inside (IsAllocator-opened c.self-inside.view_is c.self.invariant) c.args.self.now (view-opened c.self-inside.view_is c.self.view_is) (at c.args.addr)
+    c.get-payload.ensures.value c.requires
 
 pub load_block_of-block-requires : goal.load_block_of-block-requires
 load_block_of-block-requires g c =
@@ -305,6 +296,7 @@ returns-then-not-resize_any_block g c =
     let early = before g c in
     let counts = counts g early in
     let more = (c.resize_any_block.ensures.unchanged c.if-not-resize_any_block.true).0 in
+    let costs = Costs-read_first (ap (λ (o : Allocator). o.memory) view) counts c.resize_any_block.ensures.costs in
     record {
       resized = λ no. absurd (true≢false (sym no));
       refused = λ no.
@@ -313,47 +305,27 @@ returns-then-not-resize_any_block g c =
           (λ old. ReallocatesWithoutMove old (at c.args.addr) c.args.layout.size None) (refused g c) (keeps g c);
       unchanged = λ no. (
         more.bytes ∙ counts.bytes ∙ ap (λ (o : Allocator). o.memory.bytes) view,
-        subst (λ (o : Allocator). c.resize_any_block.new.memory.touches ≤ o.memory.touches + 7) view
-            (touches-counted_first c.self-inside.inside.0.0.inner c.load_block_of-block.new.memory 5 counts c.resize_any_block.new.memory 2 more.touches),
+        touches-read_first (ap (λ (o : Allocator). o.memory) view) counts c.resize_any_block.new.memory 2 more.touches,
       );
       len = long g early;
-      place =
-          subst (λ (o : Allocator). SamePlace o.memory c.resize_any_block.new.memory) view
-          (SamePlace-counted_first c.self-inside.inside.0.0.inner c.load_block_of-block.new.memory 5 counts c.resize_any_block.new.memory
-          (SamePlace-costs c.resize_any_block.ensures.costs));
-      touches =
-          subst (λ (o : Allocator). c.resize_any_block.new.memory.touches ≤ o.memory.touches + 29) view
-          (touches-counted_first c.self-inside.inside.0.0.inner c.load_block_of-block.new.memory 5 counts c.resize_any_block.new.memory 24
-          c.resize_any_block.ensures.costs.touches);
-      grow =
-          subst (λ (o : Allocator). o.memory.touches ≤ c.resize_any_block.new.memory.touches) view
-          (grow-counted_first c.self-inside.inside.0.0.inner c.load_block_of-block.new.memory 5 counts c.resize_any_block.new.memory c.resize_any_block.ensures.costs.grow);
-      copied =
-          copied-counted_first c.self-inside.inside.0.0.inner c.load_block_of-block.new.memory 5 counts c.resize_any_block.new.memory (copied_none c.resize_any_block.ensures.costs)
-          ∙ ap (λ (o : Allocator). o.memory.copied) view;
+      place = SamePlace-costs costs;
+      touches = costs.touches;
+      grow = costs.grow;
+      copied = copied_none costs;
     }
 
 pub returns : goal.returns
 returns g c =
     let view = view-opened c.self-inside.view_is c.self.view_is in
     let counts = counts g (early g c) in
+    let costs = Costs-read_first (ap (λ (o : Allocator). o.memory) view) counts c.resize_any_block.ensures.costs in
     record {
       resized = λ yes. done g c;
       refused = λ yes. absurd (true≢false yes);
       unchanged = λ yes. absurd (true≢false yes);
       len = long g (early g c);
-      place =
-          subst (λ (o : Allocator). SamePlace o.memory c.resize_any_block.new.memory) view
-          (SamePlace-counted_first c.self-inside.inside.0.0.inner c.load_block_of-block.new.memory 5 counts c.resize_any_block.new.memory
-          (SamePlace-costs c.resize_any_block.ensures.costs));
-      touches =
-          subst (λ (o : Allocator). c.resize_any_block.new.memory.touches ≤ o.memory.touches + 29) view
-          (touches-counted_first c.self-inside.inside.0.0.inner c.load_block_of-block.new.memory 5 counts c.resize_any_block.new.memory 24
-          c.resize_any_block.ensures.costs.touches);
-      grow =
-          subst (λ (o : Allocator). o.memory.touches ≤ c.resize_any_block.new.memory.touches) view
-          (grow-counted_first c.self-inside.inside.0.0.inner c.load_block_of-block.new.memory 5 counts c.resize_any_block.new.memory c.resize_any_block.ensures.costs.grow);
-      copied =
-          copied-counted_first c.self-inside.inside.0.0.inner c.load_block_of-block.new.memory 5 counts c.resize_any_block.new.memory (copied_none c.resize_any_block.ensures.costs)
-          ∙ ap (λ (o : Allocator). o.memory.copied) view;
+      place = SamePlace-costs costs;
+      touches = costs.touches;
+      grow = costs.grow;
+      copied = copied_none costs;
     }
