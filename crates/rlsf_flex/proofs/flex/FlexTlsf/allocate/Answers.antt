@@ -33,6 +33,9 @@ returns-in-Some g c =
       step =
           allocated_in_room c.args.layout.size c.args.layout.align c.allocate.new.self is.place c.self.invariant.stands c.self.invariant.whole g.S.FlexSource.leads
           (at c.in-Some.addr) is.step;
+      unasked = λ count size align sized few short fits. refl;
+      same = tt;
+      refused = tt;
       live = is.live;
       sized = is.sized;
       few = is.few;
@@ -40,11 +43,8 @@ returns-in-Some g c =
       aligns = is.aligns;
       bytes = is.bytes;
       room = is.room;
-      unasked = λ count size align sized few short fits. refl;
       count = is.count;
       bounds = is.bounds;
-      same = tt;
-      refused = tt;
       place = is.place;
       touches = λ room. is.touches;
       grow = is.grow;
