@@ -19,8 +19,8 @@ use Rattle.rlsf_model.proofs.ChunkRows.{IsRow-same}
 use Rattle.rlsf_model.proofs.Live.{deallocation_leaves_others, fill_leaves_others}
 use Rattle.rlsf_model.specs.Run.{Fills}
 use Rattle.rlsf_blocks.specs.Spare.{KeepsSpare}
-use Rattle.rlsf_tlsf.specs.Allocator.{Allocator, IsInState}
-use Rattle.rlsf_tlsf.proofs.Standing.{live_in}
+use Rattle.rlsf_tlsf.specs.Allocator.{Allocator, IsInState, Steps}
+use Rattle.rlsf_tlsf.proofs.Standing.{live_in, stepped}
 use Rattle.rlsf_trace_text.specs.declared.op.Answer.{Answer}
 use Rattle.rlsf_trace_text.specs.declared.op.Op.{Op}
 use Rattle.rlsf_trace_runs.specs.declared.names.Payload.{Payload}
@@ -116,6 +116,13 @@ module _ {fllen sllen : ℕ} {v : Allocator} {tables : Tables} {s : RunState} (a
             (AreNamed-freed at.named t name (address p) (owns.1 ∙ ap Some holds.1) step taken),
         keeps,
       )
+
+  -- so it is where an allocator's call deallocated it
+  pub freed_by : {new : Tables} (w : Allocator) → SamePlace v.memory w.memory → (name : ℕ) (p : Payload) → get nat_eq tables.names name ≡ Some p
+      → Steps fllen sllen v w (Deallocates v.state (address p)) → new.pools ≡ tables.pools → IsSetAt name None tables.names new.names
+      → (r : RunState) × Frees s name r × IsAt fllen sllen w new r × KeepsSpare v.memory s.machine w.memory r.machine
+  freed_by w place name p there step same taken =
+      let (t, does, stands, keeps) = stepped at.stands w (λ x. Deallocates x (address p)) step in freed place t stands keeps name p there does same taken
 
 -- the chunks stay over an allocation
 pub allocation_keeps_chunks : (sllen : ℕ) (s t : State) (size align : ℕ) (reply : Option ℕ) → Allocates sllen s size align reply t → t.chunks ≡ s.chunks

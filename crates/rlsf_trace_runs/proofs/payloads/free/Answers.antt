@@ -1,8 +1,7 @@
 use Rattle.std.proofs.Common.{arith, sym, ◌∙◌, rules}
-use Rattle.rlsf_model.specs.Release.{Deallocates}
-use Rattle.rlsf_tlsf.proofs.Standing.{live_in, stepped}
+use Rattle.rlsf_tlsf.proofs.Standing.{live_in}
 use Rattle.rlsf_trace_runs.specs.Names.{address}
-use Rattle.rlsf_trace_runs.proofs.NamedPayloads.{freed, not_freed}
+use Rattle.rlsf_trace_runs.proofs.NamedPayloads.{freed_by, not_freed}
 use Rattle.rlsf_trace_runs.proofs.payloads.free.Goals as goal
 
 pub deallocate-requires : goal.deallocate-requires
@@ -23,10 +22,8 @@ returns-in_default g c = record {
 pub returns : goal.returns
 returns g c = record {
   does = λ s at.
-      let p = c.in-Some.payload in
-      let there = sym c.take_name.ensures.value ∙ c.in-Some.is in
-      let (t, step, stands, keeps) = stepped at.stands c.deallocate.new.self (λ x. Deallocates x (address p)) c.deallocate.ensures.step in
-      freed at c.deallocate.ensures.place t stands keeps c.args.name p there step c.take_name.ensures.pools c.take_name.ensures.names;
+      freed_by at c.deallocate.new.self c.deallocate.ensures.place c.args.name c.in-Some.payload (sym c.take_name.ensures.value ∙ c.in-Some.is)
+      c.deallocate.ensures.step c.take_name.ensures.pools c.take_name.ensures.names;
   room = c.take_name.ensures.room;
   place = search rules;
 }
