@@ -8,15 +8,19 @@ use Rattle.std.specs.Map.{lookup, remove_entry, set_value, values_of}
 use Rattle.std.specs.Option.{option_map}
 use Rattle.rlsf_base.specs.declared.memory.range.Range.{Range}
 use Rattle.rlsf_base.specs.Range.{range_at}
-use Rattle.rlsf_base.specs.Space.{SamePlace, range_of}
+use Rattle.rlsf_base.specs.Space.{SamePlace, Space, range_of}
 use Rattle.std.specs.List.{AllByRecursion}
 use Rattle.rlsf_example_collections.specs.Budgets.{HasBudgetFor, HasBudgetOf}
 use Rattle.rlsf_example_collections.specs.Handled.{HandleRows, IsHandled, handled, handled_by, lists_in, place_at, places_in}
 use Rattle.rlsf_example_collections.specs.Stored.{HasAmong, KeepsAt, HasSame, Place, StoreContents, bytes_at_place, lists_at}
 use Rattle.rlsf_example_collections.specs.declared.handles.Spot.{Spot}
 use Rattle.rlsf_example_collections.proofs.Entries.{IsFound, found, lookup-map_values, map_values-same, remove_entry-map_values, set_value-middle}
-use Rattle.rlsf_example_collections.proofs.Places.{length-bytes_at_place}
+use Rattle.rlsf_example_collections.proofs.Places.{HasSame-given_back, length-bytes_at_place}
 use Rattle.rlsf_example_collections.proofs.Rooms.{HasBudgetFor-lists}
+
+-- a memory stays at its place through two changes
+pub SamePlace-then : {l m n : Space} → SamePlace l m → SamePlace m n → SamePlace l n
+SamePlace-then one two = (two.0 ∙ one.0, two.1 ∙ one.1, two.2 ∙ one.2, λ none. two.3 (one.3 none))
 
 -- ---- what callers see
 
@@ -108,6 +112,12 @@ module _ {v : StoreContents} {align : ℕ} (h : HandleRows) (kept : IsHandled v 
   pub same_items : (w : StoreContents) (g : HandleRows) → SamePlace v.heap.memory w.heap.memory → HasSame v w (places_in align h.rows) → g.rows ≡ h.rows
       → g.next ≡ h.next → Shows v align (lists_in v align h.rows) h.next w g
   same_items w g place same rows next = shows v {g = g} place rows next same.0 (lists_in-same v w align h.rows same.1)
+
+  -- the same, once a list was added and given back
+  pub same_given_back : (u w : StoreContents) (g : HandleRows) {p : Place} {bytes : List ℕ} → SamePlace v.heap.memory u.heap.memory → SamePlace u.heap.memory w.heap.memory
+      → HasAmong v u (places_in align h.rows) [] p bytes → HasSame u w (places_in align h.rows ++ []) → g.rows ≡ h.rows → g.next ≡ h.next
+      → Shows v align (lists_in v align h.rows) h.next w g
+  same_given_back u w g first then added left = same_items w g (SamePlace-then first then) (HasSame-given_back (places_in align h.rows) added left)
 
   -- a handle with its spot is stored there
   pub stored_at : (n : ℕ) (s : Spot) → lookup (nat_eq n) h.rows ≡ Some s → IsAt v align h n s

@@ -1,11 +1,16 @@
 -- What a store keeps, by its places.
-use Rattle.std.proofs.Common.{◌≡◌, ℕ, List, [], ◌∷◌, ◌++◌, length, map, refl, sym, ◌∙◌, ap, subst, inr}
+use Rattle.std.proofs.Common.{◌≡◌, ℕ, List, [], ◌∷◌, ◌++◌, length, map, Option, None, IfNone, refl, sym, ◌∙◌, ap, subst, inr}
 use Rattle.std.proofs.Math.Path.{ap₂}
 use Rattle.std.proofs.lemmas.List.{append-nil, map-append}
+use Rattle.rlsf_base.specs.Space.{SamePlace}
+use Rattle.rlsf_base.specs.declared.memory.range.Range.{Range}
+use Rattle.rlsf_model.specs.State.{State}
 use Rattle.rlsf_model.proofs.Coverage.{IsIn-append_left, IsIn-append_right}
-use Rattle.rlsf_example_collections.specs.Stored.{HasAmong, KeepsAt, HasSame, IsStore, Place, Stored, StoreContents, bytes_at_place, lists_at, place, place_of, stored}
+use Rattle.rlsf_tlsf.specs.Allocator.{Allocator, Steps}
+use Rattle.rlsf_example_collections.specs.Stored.{HasAmong, KeepsAll, KeepsAt, HasSame, IsStore, Place, Stored, StoreContents, bytes_at_place, lists_at, place, place_of}
+use Rattle.rlsf_example_collections.specs.Stored.{store_contents, stored}
 use Rattle.rlsf_example_collections.proofs.Kept.{IsIn-middle}
-use Rattle.rlsf_example_collections.proofs.Stores.{bytes_at_place-kept, bytes_at_place-some, bytes_at_place-stored}
+use Rattle.rlsf_example_collections.proofs.Stores.{IsStore-refused, bytes_at_place-kept, bytes_at_place-some, bytes_at_place-stored}
 
 abbrev pub bytes_of : Stored → List ℕ
 bytes_of k = k.bytes
@@ -15,6 +20,14 @@ pub HasSame-stored : {v w : StoreContents} (places : List Place) → KeepsAt v p
 HasSame-stored {v} {w} places (all, is, at) keeps =
     let now = keeps all is in
     ((all, now, at), ap (lists_at w) (sym at) ∙ bytes_at_place-stored w all now ∙ sym (bytes_at_place-stored v all is) ∙ ap (lists_at v) at)
+
+-- where an allocator refused a call that asked for a payload, each list stays at its place
+pub KeepsAll-refused : {A : Type 0} {heap : Allocator} {pool : Range} {old : StoreContents} → store_contents heap pool ≡ old → (w : Allocator) {step : State → Type 0}
+    → Steps 59 8 heap w step → w.state ≡ heap.state → SamePlace heap.memory w.memory → (o : Option A) → o ≡ None → IfNone o (KeepsAll old (store_contents w pool))
+KeepsAll-refused {heap = heap} {pool = pool} view w steps same place o none =
+    subst (λ (x : StoreContents). IfNone o (KeepsAll x (store_contents w pool))) view
+    (subst (λ z. IfNone z (KeepsAll (store_contents heap pool) (store_contents w pool))) (sym none)
+    (λ places has. HasSame-stored places has (λ all. IsStore-refused w _ all steps same place)))
 
 -- nothing is stored at no place
 pub IsStore-none : {v : StoreContents} → KeepsAt v [] → IsStore v []

@@ -4,8 +4,7 @@ use Rattle.std.specs.Int.NonZero.{non_zero_usize_get}
 use Rattle.rlsf_example_collections.specs.Handled.{lists_in, places_in}
 use Rattle.rlsf_example_collections.specs.Budgets.{HasBudgetFor, HasBudgetOf}
 use Rattle.rlsf_example_collections.specs.Stored.{FitsPool, HasAmong, place}
-use Rattle.rlsf_example_collections.proofs.HandledStores.{HasBudgetFor-handled, OnErr-always, Shows, absent, none_stored, one_more, same_items}
-use Rattle.rlsf_example_collections.proofs.Places.{HasSame-given_back}
+use Rattle.rlsf_example_collections.proofs.HandledStores.{HasBudgetFor-handled, OnErr-always, SamePlace-then, Shows, absent, none_stored, one_more, same_given_back, same_items}
 use Rattle.rlsf_example_collections.proofs.items.Items.add.Goals as goal
 
 pub returns-in_default : goal.returns-in_default
@@ -38,15 +37,8 @@ kept : (c : goal.After-from_residual) → Shows c.self.inside.store c.self.insid
     c.self.inside.handles.next c.keep.new.store c.keep.new.handles
 kept c =
     let added = c.in-Some.ensures.stored _ c.self.invariant in
-    let back = HasSame-given_back _ added (c.in_err-handle.ensures.given_back _ _ added.places refl refl) in
-    same_items c.self.inside.handles c.self.invariant c.keep.new.store c.keep.new.handles (
-      c.keep.ensures.place.0 ∙ c.add.ensures.place.0,
-      c.keep.ensures.place.1
-          ∙ c.add.ensures.place.1,
-      c.keep.ensures.place.2 ∙ c.add.ensures.place.2,
-      λ none. c.keep.ensures.place.3 (c.add.ensures.place.3 none),
-    ) back
-    (ap (λ h. h.rows) c.in_err-handle.ensures.refused) (ap (λ h. h.next) c.in_err-handle.ensures.refused)
+    same_given_back c.self.inside.handles c.self.invariant c.add.new.self c.keep.new.store c.keep.new.handles c.add.ensures.place c.keep.ensures.place added
+    (c.in_err-handle.ensures.given_back _ _ added.places refl refl) (ap (λ h. h.rows) c.in_err-handle.ensures.refused) (ap (λ h. h.next) c.in_err-handle.ensures.refused)
 
 pub invariant_of-self-in_err-handle : goal.invariant_of-self-in_err-handle
 invariant_of-self-in_err-handle c = (kept c).0
@@ -72,13 +64,8 @@ more c =
     let now = subst (λ w. HasAmong v w places [] (place addr 1 (length c.args.bytes.now)) c.args.bytes.now) (sym c.in_ok-handle.ensures.kept.0) added in
     let there = subst (λ a. HasAmong v c.keep.new.store places [] (place addr a (length c.args.bytes.now)) c.args.bytes.now)
     (sym (ap (λ h. h.align) c.self.view_is ∙ c.requires)) now in
-    one_more c.self.inside.handles c.self.invariant c.keep.new.store c.keep.new.handles (
-      c.keep.ensures.place.0 ∙ c.add.ensures.place.0,
-      c.keep.ensures.place.1
-          ∙ c.add.ensures.place.1,
-      c.keep.ensures.place.2 ∙ c.add.ensures.place.2,
-      λ none. c.keep.ensures.place.3 (c.add.ensures.place.3 none),
-    ) c.in_ok-handle.handle _
+    one_more c.self.inside.handles c.self.invariant c.keep.new.store c.keep.new.handles (SamePlace-then c.add.ensures.place c.keep.ensures.place)
+    c.in_ok-handle.handle _
     c.args.bytes.now there
     (ap (λ h. h.rows) c.in_ok-handle.ensures.kept.2) (ap (λ h. h.next) c.in_ok-handle.ensures.kept.2)
 

@@ -1,26 +1,23 @@
 use Rattle.std.proofs.Common.{rules, ◌≡◌, ℕ, [], List, Some, length, take, refl, sym, ◌∙◌, ap, subst, ◌+◌, ◌<◌, ◌≤◌, arith}
-use Rattle.std.specs.Prelude.{IfNone, IsSome}
+use Rattle.std.specs.Prelude.{IsSome}
 use Rattle.std.specs.Int.NonZero.{non_zero_usize_get}
 use Rattle.rlsf_base.specs.Sizes.{pool_size_to_contain_allocation}
 use Rattle.rlsf_base.specs.Space.{range_of, SamePlace}
 use Rattle.rlsf_tlsf.specs.Lending.{written}
 use Rattle.rlsf_example_collections.specs.Budgets.{HasBudgetFor}
-use Rattle.rlsf_example_collections.specs.Stored.{FitsPool, HasAmong, KeepsAt, KeepsAll, Place, StoreContents, place, store_contents, stored}
+use Rattle.rlsf_example_collections.specs.Stored.{FitsPool, HasAmong, KeepsAt, Place, StoreContents, place, store_contents, stored}
 use Rattle.rlsf_example_collections.proofs.Fronts.{front-append}
-use Rattle.rlsf_example_collections.proofs.Places.{HasAmong-added, HasSame-stored, IsStore-none}
+use Rattle.rlsf_example_collections.proofs.Places.{HasAmong-added, KeepsAll-refused, IsStore-none}
 use Rattle.rlsf_example_collections.proofs.Rooms.{budget_has_room}
-use Rattle.rlsf_example_collections.proofs.Stores.{IsStore-allocated, IsStore-filled, IsStore-refused, asked_at, empty_has_room}
+use Rattle.rlsf_example_collections.proofs.Stores.{IsStore-allocated, IsStore-filled, asked_at, empty_has_room}
 use Rattle.rlsf_example_collections.proofs.store.Store.add.Goals as goal
 
 pub returns-in_err-addr : goal.returns-in_err-addr
 returns-in_err-addr c = record {
   stored = search rules;
   refused =
-      subst (λ (old : StoreContents). IfNone c.from_residual.result (KeepsAll old (store_contents c.allocate.new.self c.self.inside.pool))) c.self.view_is
-      (subst (λ o. IfNone o (KeepsAll (store_contents c.self.inside.heap c.self.inside.pool) (store_contents c.allocate.new.self c.self.inside.pool)))
-      (sym c.from_residual.ensures)
-      (λ places has. HasSame-stored places has (λ all. IsStore-refused c.allocate.new.self _ all c.in_err-addr.ensures.step c.in_err-addr.ensures.same
-      c.in_err-addr.ensures.place)));
+      KeepsAll-refused c.self.view_is c.allocate.new.self c.in_err-addr.ensures.step c.in_err-addr.ensures.same c.in_err-addr.ensures.place
+      c.from_residual.result c.from_residual.ensures;
   room =
       let layout = c.in-Ok.layout in
       subst (λ (old : StoreContents). KeepsAt old [] → FitsPool (range_of old.heap.memory) (length c.args.bytes.now) 1 → IsSome c.from_residual.result) c.self.view_is

@@ -1,6 +1,6 @@
 use Rattle.std.proofs.Common.{rules, ◌≡◌, ◌<◌, ◌≤◌, ℕ, [], List, Some, length, replicate, take, arith, refl, sym, ◌∙◌, ap, subst, ◌+◌}
 use Rattle.std.proofs.lemmas.List.{length-map, length-replicate, take-replicate}
-use Rattle.std.specs.Prelude.{IfNone, IsSome}
+use Rattle.std.specs.Prelude.{IsSome}
 use Rattle.std.specs.Int.NonZero.{non_zero_usize_get}
 use Rattle.rlsf_base.specs.Space.{range_of, SamePlace}
 use Rattle.rlsf_tlsf.specs.Lending.{written}
@@ -11,21 +11,18 @@ use Rattle.rlsf_model.specs.Allocate.{Allocates}
 use Rattle.rlsf_tlsf.proofs.Arrivals.{opened}
 use Rattle.rlsf_example_collections.specs.Tiles.{HasTileFor, KeepsUniform}
 use Rattle.rlsf_example_collections.proofs.Tilings.{KeepsUniform-allocated, KeepsUniform-filled, tile_has_room}
-use Rattle.rlsf_example_collections.specs.Stored.{place_of, FitsPool, HasAmong, KeepsAt, KeepsAll, Place, StoreContents, place, store_contents, stored}
-use Rattle.rlsf_example_collections.proofs.Places.{HasAmong-added, HasSame-stored, IsStore-none}
+use Rattle.rlsf_example_collections.specs.Stored.{place_of, FitsPool, HasAmong, KeepsAt, Place, StoreContents, place, store_contents, stored}
+use Rattle.rlsf_example_collections.proofs.Places.{HasAmong-added, KeepsAll-refused, IsStore-none}
 use Rattle.rlsf_example_collections.proofs.Rooms.{budget_has_room}
-use Rattle.rlsf_example_collections.proofs.Stores.{IsStore-allocated, IsStore-filled, IsStore-refused, asked_at, empty_has_room}
+use Rattle.rlsf_example_collections.proofs.Stores.{IsStore-allocated, IsStore-filled, asked_at, empty_has_room}
 use Rattle.rlsf_example_collections.proofs.store.Store.add_zeros.Goals as goal
 
 pub returns-in_err-addr : goal.returns-in_err-addr
 returns-in_err-addr c = record {
   stored = search rules;
   refused =
-      subst (λ (old : StoreContents). IfNone c.from_residual.result (KeepsAll old (store_contents c.allocate.new.self c.self.inside.pool))) c.self.view_is
-      (subst (λ o. IfNone o (KeepsAll (store_contents c.self.inside.heap c.self.inside.pool) (store_contents c.allocate.new.self c.self.inside.pool)))
-      (sym c.from_residual.ensures)
-      (λ places has. HasSame-stored places has (λ all. IsStore-refused c.allocate.new.self _ all c.in_err-addr.ensures.step c.in_err-addr.ensures.same
-      c.in_err-addr.ensures.place)));
+      KeepsAll-refused c.self.view_is c.allocate.new.self c.in_err-addr.ensures.step c.in_err-addr.ensures.same c.in_err-addr.ensures.place
+      c.from_residual.result c.from_residual.ensures;
   room =
       let layout = c.args.layout in
       subst (λ (old : StoreContents). KeepsAt old [] → FitsPool (range_of old.heap.memory) layout.size layout.align → IsSome c.from_residual.result) c.self.view_is

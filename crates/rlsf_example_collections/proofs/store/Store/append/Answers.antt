@@ -1,15 +1,14 @@
 use Rattle.std.proofs.Common.{rules, ◌≡◌, ◌+◌, ◌<◌, ◌≤◌, ◌∷◌, ◌++◌, ℕ, List, length, length-append, take, IsSome, Some, lit<, arith, refl, sym}
 use Rattle.std.proofs.Common.{◌∙◌, ap, subst}
-use Rattle.std.specs.Prelude.{IfNone}
 use Rattle.std.specs.Int.NonZero.{non_zero_usize_get}
 use Rattle.rlsf_base.specs.Space.{SamePlace}
 use Rattle.rlsf_tlsf.specs.Lending.{written}
 use Rattle.rlsf_example_collections.specs.Budgets.{HasBudgetFor}
-use Rattle.rlsf_example_collections.specs.Stored.{HasAmong, KeepsAt, KeepsAll, Place, StoreContents, bytes_at_place, place, store_contents, stored}
+use Rattle.rlsf_example_collections.specs.Stored.{HasAmong, KeepsAt, Place, StoreContents, bytes_at_place, place, store_contents, stored}
 use Rattle.rlsf_example_collections.proofs.Fronts.{front-append}
-use Rattle.rlsf_example_collections.proofs.Places.{HasAmong-changed, HasSame-stored, among}
+use Rattle.rlsf_example_collections.proofs.Places.{HasAmong-changed, KeepsAll-refused, among}
 use Rattle.rlsf_example_collections.proofs.Rooms.{budget_has_room_again}
-use Rattle.rlsf_example_collections.proofs.Stores.{IsStore-filled, IsStore-refused, IsStore-resized, asked_at, front-resized, live_stored}
+use Rattle.rlsf_example_collections.proofs.Stores.{IsStore-filled, IsStore-resized, asked_at, front-resized, live_stored}
 use Rattle.rlsf_example_collections.proofs.store.Store.append.Goals as goal
 
 pub reallocate-requires : goal.reallocate-requires
@@ -23,10 +22,8 @@ pub returns-in_err-to : goal.returns-in_err-to
 returns-in_err-to c = record {
   stored = search rules;
   refused =
-      subst (λ (old : StoreContents). IfNone c.from_residual-in_err-to.result (KeepsAll old (store_contents c.reallocate.new.self c.self.inside.pool))) c.self.view_is
-      (subst (λ o. IfNone o (KeepsAll (store_contents c.self.inside.heap c.self.inside.pool) (store_contents c.reallocate.new.self c.self.inside.pool)))
-      (sym c.from_residual-in_err-to.ensures)
-      (λ places has. HasSame-stored places has (λ all. IsStore-refused c.reallocate.new.self _ all c.in_err-to.ensures.step c.in_err-to.ensures.same c.in_err-to.ensures.place)));
+      KeepsAll-refused c.self.view_is c.reallocate.new.self c.in_err-to.ensures.step c.in_err-to.ensures.same c.in_err-to.ensures.place
+      c.from_residual-in_err-to.result c.from_residual-in_err-to.ensures;
   enough =
       let (before, after, p, has, at, aligned, long) = subst (λ (old : StoreContents). (before after : List Place) × (p : Place) × KeepsAt old (before ++ p ∷ after)
       × (p.addr ≡ non_zero_usize_get c.args.addr) × (p.align ≡ 1) × (p.len ≡ c.args.len)) (sym c.self.view_is) c.requires in
