@@ -1,5 +1,5 @@
 -- What the results of tests show about steps.
-use Rattle.std.proofs.Common.{◌≡◌, ℕ, nat_eq, Bool, true, false, true≢false, MatchBool, length, take, drop, List, Some, Ok, Err, ap, refl, subst, sym}
+use Rattle.std.proofs.Common.{◌≡◌, ℕ, nat_eq, Bool, true, false, true≢false, MatchBool, length, take, drop, List, Option, Some, Ok, Err, ap, refl, subst, sym}
 use Rattle.std.proofs.lemmas.Bool.{and_parts, eqb-true}
 use Rattle.rlsf_base.specs.declared.memory.layout.Layout.{Layout}
 use Rattle.rlsf_model.specs.Callers.{bytes_at}
@@ -34,8 +34,10 @@ module _ (h : Heap) (addr : ℕ) (layout : Layout) (row : Row) where
   pub deallocates_in : (g : Heap) → true ≡ is_same row.1 layout → Releases h addr g → DeallocatesAsAt h addr layout (Some row) (Ok tt) g
   deallocates_in g e gone = when_true (Is (Ok tt) (Ok tt) × Releases h addr g) (Is (Ok tt) (Err WrongLayout) × (g ≡ h)) (is_same row.1 layout) e (refl, gone)
 
-  pub deallocates_out : false ≡ is_same row.1 layout → DeallocatesAsAt h addr layout (Some row) (Err WrongLayout) h
-  deallocates_out e = when_false (Is (Err WrongLayout) (Ok tt) × Releases h addr h) (Is (Err WrongLayout) (Err WrongLayout) × (h ≡ h)) (is_same row.1 layout) e (refl, refl)
+  pub deallocates_out : false ≡ is_same row.1 layout → {o : Option Row} → o ≡ Some row → DeallocatesAsAt h addr layout o (Err WrongLayout) h
+  deallocates_out e found =
+      subst (λ o. DeallocatesAsAt h addr layout o (Err WrongLayout) h) (sym found)
+      (when_false (Is (Err WrongLayout) (Ok tt) × Releases h addr h) (Is (Err WrongLayout) (Err WrongLayout) × (h ≡ h)) (is_same row.1 layout) e (refl, refl))
 
 module _ (h : Heap) (addr offset i : ℕ) (found : IsFound h.asked addr i) where
   module _ (lent : List ℕ) where

@@ -1,5 +1,5 @@
 -- A payload moves into another one, or is resized as the allocator does.
-use Rattle.std.proofs.Common.{◌≡◌, ◌≢◌, ℕ, arith, length, Bool, true, false, List, Some, None, Ok, Err, refl, sym, ◌∙◌, ap, subst, inl, inr}
+use Rattle.std.proofs.Common.{◌≡◌, ◌≢◌, ℕ, arith, length, Bool, true, false, List, Option, Some, None, Ok, Err, refl, sym, ◌∙◌, ap, subst, inl, inr}
 use Rattle.std.proofs.lemmas.Bool.{cases_eq}
 use Rattle.std.proofs.lemmas.Option.{none-some}
 use Rattle.std.specs.declared.num.NonZeroUsize.{NonZeroUsize}
@@ -44,10 +44,11 @@ module _ (enabled : Bool) (h : Heap) (addr : ℕ) (layout : Layout) (n : ℕ) (r
       when_true (Wanted n layout.align (λ wanted. ReallocatesTo enabled h addr layout wanted result g)) ((result ≡ Err WrongLayout) × (g ≡ h)) (is_same row.1 layout) e
       (record { layout = wanted; size = size; align = align; made = step })
 
-  pub reallocates_out : false ≡ is_same row.1 layout → ReallocatesAsAt enabled h addr layout n (Some row) (Err WrongLayout) h
-  reallocates_out e =
-      when_false (Wanted n layout.align (λ wanted. ReallocatesTo enabled h addr layout wanted (Err WrongLayout) h)) (IsPlaced (Err WrongLayout) (Err WrongLayout) × (h ≡ h))
-      (is_same row.1 layout) e (refl, refl)
+  pub reallocates_out : false ≡ is_same row.1 layout → {o : Option Row} → o ≡ Some row → ReallocatesAsAt enabled h addr layout n o (Err WrongLayout) h
+  reallocates_out e found =
+      subst (λ o. ReallocatesAsAt enabled h addr layout n o (Err WrongLayout) h) (sym found)
+      (when_false (Wanted n layout.align (λ wanted. ReallocatesTo enabled h addr layout wanted (Err WrongLayout) h)) (IsPlaced (Err WrongLayout) (Err WrongLayout) × (h ≡ h))
+      (is_same row.1 layout) e (refl, refl))
 
 -- ---- the table after a move
 

@@ -1,5 +1,5 @@
 -- A payload is resized in place, and its entry gets another layout.
-use Rattle.std.proofs.Common.{◌≡◌, ◌≢◌, ℕ, true, false, List, Some, None, Ok, Err, refl, sym, ◌∙◌, ap, subst}
+use Rattle.std.proofs.Common.{◌≡◌, ◌≢◌, ℕ, true, false, List, Option, Some, None, Ok, Err, refl, sym, ◌∙◌, ap, subst}
 use Rattle.std.specs.declared.num.NonZeroUsize.{NonZeroUsize}
 use Rattle.rlsf_base.specs.Addr.{at}
 use Rattle.rlsf_base.specs.declared.memory.layout.Layout.{Layout}
@@ -32,10 +32,11 @@ module _ (h : Heap) (addr : ℕ) (layout : Layout) (n : ℕ) (row : Row) where
       when_true (Wanted n layout.align (λ wanted. ResizesThere h addr wanted result g)) ((result ≡ Err WrongLayout) × (g ≡ h)) (is_same row.1 layout) e
       (record { layout = wanted; size = size; align = align; made = step })
 
-  pub resizes_out : false ≡ is_same row.1 layout → ReallocatesThereAt h addr layout n (Some row) (Err WrongLayout) h
-  resizes_out e =
-      when_false (Wanted n layout.align (λ wanted. ResizesThere h addr wanted (Err WrongLayout) h)) (IsPlaced (Err WrongLayout) (Err WrongLayout) × (h ≡ h))
-      (is_same row.1 layout) e (refl, refl)
+  pub resizes_out : false ≡ is_same row.1 layout → {o : Option Row} → o ≡ Some row → ReallocatesThereAt h addr layout n o (Err WrongLayout) h
+  resizes_out e found =
+      subst (λ o. ReallocatesThereAt h addr layout n o (Err WrongLayout) h) (sym found)
+      (when_false (Wanted n layout.align (λ wanted. ResizesThere h addr wanted (Err WrongLayout) h)) (IsPlaced (Err WrongLayout) (Err WrongLayout) × (h ≡ h))
+      (is_same row.1 layout) e (refl, refl))
 
 -- the new entry is that of the address
 pub row_there : (rows after : List Row) (addr : ℕ) (to : NonZeroUsize) (wanted : Layout) → at to ≡ addr → after ≡ put (to, wanted) (without_row (at to) rows)

@@ -107,11 +107,9 @@ returns-in_default g c = record {
 pub returns-then-ne : goal.returns-then-ne
 returns-then-ne g c = record {
   step = rw (← c.self.view_is) (
-      let h = heap_of c.self.inside.flex c.self.inside.rows.items in
       let found = rw c.deref.ensures.value at c.in-Ok.ensures.found in
-      let row = found.row c.index.result.now ∙ ap Some (sym c.index.ensures) in
-      subst (λ o. ReallocatesThereAt h (at c.args.addr) c.args.layout c.args.new_size o (Err WrongLayout) h) (sym row)
-      (resizes_out h (at c.args.addr) c.args.layout c.args.new_size c.index.result.now (not-true _ c.if-ne.ensures)));
+      resizes_out (heap_of c.self.inside.flex c.self.inside.rows.items) (at c.args.addr) c.args.layout c.args.new_size
+      c.index.result.now (not-true _ c.if-ne.ensures) (found.row c.index.result.now ∙ ap Some (sym c.index.ensures)));
   refused = refl;
   unknown =
       rw (← c.self.view_is) (known c.self.inside.flex c.self.inside.rows.items (at c.args.addr) _ (rw c.deref.ensures.value at c.in-Ok.ensures.found) (Err WrongLayout) refl);
