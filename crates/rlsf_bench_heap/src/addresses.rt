@@ -1,10 +1,9 @@
 //! The addresses that a heap and a `Tlsf` return for the same calls.
 
-use crate::error::BenchError;
 use crate::slots::{Slots, Step};
 use crate::{MEMORY, POOL};
 use rlsf_base::memory::{Addr, Memory};
-use rlsf_bench_steps::Xorshift;
+use rlsf_bench_steps::{BenchError, Xorshift};
 use rlsf_tlsf::Tlsf;
 use rlsf_trace_runs::run;
 use rlsf_trace_text::{Answer, Op};

@@ -6,18 +6,21 @@
 #![tactic(auto)]
 
 mod addresses;
-mod error;
 mod slots;
 mod tally;
 
 use addresses::write_addresses;
-use error::BenchError;
 use rlsf_base::memory::Range;
+use rlsf_bench_steps::{BenchError, exit_of};
 use std::env;
 use std::io::{BufWriter, Write};
 use std::num::NonZeroUsize;
 use std::process::ExitCode;
 use tally::tally_of;
+
+/// The arguments that the program takes.
+const USAGE: &str =
+    "usage: rlsf_bench_heap SLOTS STEPS, with SLOTS from 1 on, or rlsf_bench_heap SLOTS STEPS addresses";
 
 /// The addresses of the pool.
 const POOL: Range = Range {
@@ -43,20 +46,13 @@ struct Load {
 }
 
 fn main(rt: HostRuntime) -> ExitCode {
-    match bench(&rt) {
-        Ok(()) => ExitCode::SUCCESS,
-        Err(error) => {
-            // If standard error fails too, only the status shows the error.
-            let _ = eprintln!(rt; "{error}");
-            ExitCode::FAILURE
-        }
-    }
+    exit_of(&rt, bench(&rt))
 }
 
 /// Reads the command line, does what it asks for, and prints the result.
 fn bench(rt: &HostRuntime) -> Result<(), BenchError> {
     let words: Vec<String> = env::args(rt)?.collect(rt.alloc())?;
-    let load = load_of(&words).ok_or(BenchError::Usage)?;
+    let load = load_of(&words).ok_or(BenchError::Usage(USAGE))?;
     if load.addresses {
         let mut out = BufWriter::new(rt.alloc(), rt.stdout())?;
         write_addresses(rt.alloc(), &mut out, load.slots, load.steps)?;

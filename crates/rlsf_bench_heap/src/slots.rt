@@ -4,10 +4,9 @@ ghost use Rattle.std.proofs.Props.{props};
 ghost use Rattle.rlsf_heap.specs.Heap.{Identity};
 ghost use Rattle.rlsf_bench_heap.specs.Slots.{AreOf};
 
-use crate::error::BenchError;
 use crate::{MEMORY, POOL};
 use rlsf_base::memory::{Layout, OpenMemory};
-use rlsf_bench_steps::Xorshift;
+use rlsf_bench_steps::{BenchError, Xorshift};
 use rlsf_heap::{Heap, Payload};
 use std::alloc::{AllocError, Global};
 use std::num::NonZeroUsize;

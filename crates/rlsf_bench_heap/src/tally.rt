@@ -1,8 +1,7 @@
 //! The tally of the steps.
 
-use crate::error::BenchError;
 use crate::slots::{Slots, Step};
-use rlsf_bench_steps::Xorshift;
+use rlsf_bench_steps::{BenchError, Xorshift};
 use std::alloc::Global;
 use std::fmt;
 use std::num::NonZeroUsize;

@@ -4,20 +4,18 @@
 //! `steps.rt` has the steps of a thread.
 #![tactic(auto)]
 
-mod error;
 mod steps;
 
-use error::BenchError;
 use rlsf_base::memory::{OpenMemory, Range};
+use rlsf_bench_steps::{BenchError, Load, exit_of, load_of};
 use rlsf_heap::Heap;
 use rlsf_shared_heap::SharedHeap;
 use std::alloc::{AllocError, Global};
-use std::num::NonZeroUsize;
 use std::process::ExitCode;
 use std::rt::Env;
 use std::sync::Wait;
+use std::thread;
 use std::thread::Threads;
-use std::{env, thread};
 use steps::run;
 
 /// A shared heap of 64 first-level rows of 64 classes, as `GlobalTlsf` has.
@@ -29,48 +27,21 @@ const POOL: Range = Range {
     len: 1 << 25,
 };
 
-/// What the command line asks for.
-#[derive(Clone, Copy)]
-struct Load {
-    /// How many payloads can be live at once.
-    slots: NonZeroUsize,
-    /// How many steps each thread makes.
-    steps: u64,
-    /// How many threads there are.
-    threads: NonZeroUsize,
-}
+/// The arguments that the program takes.
+const USAGE: &str =
+    "usage: rlsf_bench_shared SLOTS STEPS THREADS, with SLOTS and THREADS from 1 on";
 
 fn main(rt: HostRuntime) -> ExitCode {
-    match bench(&rt) {
-        Ok(()) => ExitCode::SUCCESS,
-        Err(error) => {
-            // If standard error fails too, only the status shows the error.
-            let _ = eprintln!(rt; "{error}");
-            ExitCode::FAILURE
-        }
-    }
+    exit_of(&rt, bench(&rt))
 }
 
 /// Reads the command line, does what it asks for, and prints how many allocations were refused.
 fn bench<R: Env + Print + AllocGlobal + Threads + Wait + Sync>(rt: &R) -> Result<(), BenchError> {
-    let words: Vec<String> = env::args(rt)?.collect(rt.alloc())?;
-    let load = load_of(&words).ok_or(BenchError::Usage)?;
+    let load = load_of(rt, None, USAGE)?;
     let shared = new_shared(rt.alloc())?;
     let refused = refused_of(rt, rt.alloc(), &shared, load)?;
     println!(rt; "{refused} refused")?;
     Ok(())
-}
-
-/// What the words of a command line ask for. `None` if a word is missing, wrong or too many.
-fn load_of(words: &[String]) -> Option<Load> {
-    let [_, slots, steps, threads] = words else {
-        return None;
-    };
-    Some(Load {
-        slots: slots.parse().ok()?,
-        steps: steps.parse().ok()?,
-        threads: threads.parse().ok()?,
-    })
 }
 
 /// Creates a shared heap of one pool.

@@ -2,6 +2,7 @@
 
 ghost use Rattle.std.specs.Prelude.{◌≡◌};
 
+use rlsf_base::memory::MemoryError;
 use std::alloc::AllocError;
 use std::error::Error;
 use std::{fmt, io};
@@ -9,8 +10,8 @@ use std::{fmt, io};
 /// Why nothing was done.
 #[derive(Debug, Drop)]
 pub enum BenchError {
-    /// The arguments aren't a configuration, a number of slots that isn't 0, a number of steps, and a mode.
-    Usage,
+    /// The arguments aren't those that the program takes. The text says which these are.
+    Usage(&'static str),
     /// Out of memory.
     OutOfMemory,
     /// The command line could not be read, or the output could not be written.
@@ -20,9 +21,7 @@ pub enum BenchError {
 impl fmt::Display for BenchError {
     fn fmt<W: fmt::Write>(&self, f: &mut fmt::Formatter<W>) -> fmt::Result {
         match self {
-            BenchError::Usage => f.write_str(
-                "the arguments are 12x16|59x8|64x64 SLOTS STEPS free|realloc, with SLOTS from 1 on",
-            ),
+            BenchError::Usage(usage) => write!(f, "{usage}"),
             BenchError::OutOfMemory => f.write_str("the system refused memory"),
             BenchError::Io(error) => write!(f, "{error}"),
         }
@@ -37,6 +36,12 @@ impl From<AllocError> for BenchError {
     ghost from_gives = { λ _ error. error ≡ OutOfMemory };
 
     fn from(_refused: AllocError) -> BenchError {
+        BenchError::OutOfMemory
+    }
+}
+
+impl From<MemoryError> for BenchError {
+    fn from(_refused: MemoryError) -> BenchError {
         BenchError::OutOfMemory
     }
 }

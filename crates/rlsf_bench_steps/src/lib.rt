@@ -4,7 +4,8 @@
 //! program with more calls, LLVM doesn't inline the same ones.
 //!
 //! Read `steps.rt` first: the run and its step. `calls.rt` calls the allocator, `random.rt` draws the numbers, `tally.rt` has the
-//! checksum, and `arguments.rt` reads the command line.
+//! checksum, and `arguments.rt` reads the command line. `exit_of` ends a benchmark, `error.rt` has what ends it early, and `load.rt` reads
+//! the command line of one with threads.
 #![tactic(auto)]
 
 ghost use Rattle.std.specs.Prelude.{◌≡◌, ◌<◌, IfOk, IfErr};
@@ -13,12 +14,14 @@ ghost use Rattle.rlsf_bench_steps.specs.Runs.{IsAsked};
 mod arguments;
 mod calls;
 mod error;
+mod load;
 mod random;
 mod steps;
 mod tally;
 
 use arguments::{Arguments, Configuration};
-use error::BenchError;
+pub use error::BenchError;
+pub use load::{Load, load_of};
 pub use random::Xorshift;
 use rlsf_base::memory::Range;
 use rlsf_tlsf::Tlsf;
@@ -28,6 +31,10 @@ use std::process::ExitCode;
 use std::rt::Env;
 use steps::{memory_of, run};
 use tally::Tally;
+
+/// The arguments that a program takes.
+const USAGE: &str =
+    "the arguments are 12x16|59x8|64x64 SLOTS STEPS free|realloc, with SLOTS from 1 on";
 
 /// The addresses of the pool.
 const POOL: Range = Range {
@@ -51,7 +58,12 @@ pub fn main_of<R: Env + Print + Eprint + AllocGlobal, const CALLED: bool, const 
 ) -> ExitCode
     requires { (0 < ALIGNS) × (ALIGNS < 64) }
 {
-    match bench::<R, CALLED, ALIGNS>(rt) {
+    exit_of(rt, bench::<R, CALLED, ALIGNS>(rt))
+}
+
+/// The exit status of a program that ended so: a failure exactly for an error. The error is printed to standard error.
+pub fn exit_of<R: Eprint>(rt: &R, ended: Result<(), BenchError>) -> ExitCode {
+    match ended {
         Ok(()) => ExitCode::SUCCESS,
         Err(error) => {
             // If standard error fails too, only the status shows the error.
@@ -75,7 +87,7 @@ fn bench<R: Env + Print + AllocGlobal, const CALLED: bool, const ALIGNS: usize>(
 /// What the command line asks for.
 fn arguments_of<R: Env + AllocGlobal>(rt: &R) -> Result<Arguments, BenchError> {
     let words: Vec<String> = env::args(rt)?.collect(rt.alloc())?;
-    Arguments::read(&words).ok_or(BenchError::Usage)
+    Arguments::read(&words).ok_or(BenchError::Usage(USAGE))
 }
 
 /// Does the steps that are asked for, with the configuration's allocator.
