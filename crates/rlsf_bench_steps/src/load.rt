@@ -1,3 +1,5 @@
+//! What the command line of a benchmark asks for.
+
 use crate::error::BenchError;
 use std::env;
 use std::num::NonZeroUsize;
