@@ -1,7 +1,6 @@
 -- Lemmas on the checked allocator: inserted pools, refused sizes, its invariant and its parameters.
 mod Edges
 mod Gathered
-mod IdleRows
 mod Joined
 mod Pools
 mod Removed

@@ -13,11 +13,11 @@ use Rattle.rlsf_model.specs.State.{State}
 use Rattle.rlsf_model.specs.WellFormed.{IsWellFormed}
 use Rattle.rlsf_model.proofs.Removals.{IsIn-outside, lies_within-le}
 use Rattle.rlsf_tlsf.specs.Allocator.{Allocator, Stands}
-use Rattle.rlsf_checked.specs.Steps.UsedBlocks.{has_used}
+use Rattle.rlsf_tlsf.specs.Steps.UsedBlocks.{has_used}
 use Rattle.rlsf_checked.specs.declared.marks.Marks.{Marks}
 use Rattle.rlsf_checked.specs.Steps.Marks.{mark_of}
 use Rattle.rlsf_checked.specs.Steps.Standing.{IsChecked}
-use Rattle.rlsf_checked.proofs.IdleRows.{idle_if, used_if}
+use Rattle.rlsf_tlsf.proofs.IdleRows.{idle_if, used_if}
 use Rattle.rlsf_checked.proofs.Pools.{AreRenewed}
 
 module _ {fllen sllen : ℕ} {v : Allocator} {m : Marks} {pool : Range} (is : IsChecked fllen sllen v m pool) where

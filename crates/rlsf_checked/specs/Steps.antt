@@ -3,4 +3,3 @@ pub mod Classes
 pub mod Marks
 pub mod Runs
 pub mod Standing
-pub mod UsedBlocks

@@ -9,7 +9,7 @@ ghost use Rattle.rlsf_model.specs.Sized.{live_count};
 ghost use Rattle.rlsf_model.specs.State.{empty};
 ghost use Rattle.rlsf_blocks.specs.Blocks.{walked};
 ghost use Rattle.rlsf_tlsf.specs.Allocator.{Stands, Steps};
-ghost use Rattle.rlsf_checked.specs.Steps.UsedBlocks.{has_used};
+ghost use Rattle.rlsf_tlsf.specs.Steps.UsedBlocks.{has_used};
 
 use crate::checked::CheckedTlsf;
 use rlsf_base::memory::Range;

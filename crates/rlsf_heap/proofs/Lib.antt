@@ -3,7 +3,6 @@ pub mod Allocated
 pub mod Arrivals
 pub mod Leaving
 pub mod PutBack
-pub mod IdleRows
 pub mod LiveCounts
 pub mod PayloadsApart
 pub mod RawPayloads

@@ -1,5 +1,5 @@
 -- Payloads that are known by their address.
-use Rattle.std.proofs.Common.{◌≡◌, ◌≢◌, ℕ, ◌+◌, set, false, List, length, Some, arith, inl, refl, sym, ap, subst, ◌∙◌}
+use Rattle.std.proofs.Common.{◌≡◌, ◌≢◌, ℕ, ◌+◌, ◌%◌, ◌<◌, ◌≤◌, set, false, List, length, None, Some, arith, inl, refl, sym, ap, subst, ◌∙◌}
 use Rattle.rlsf_base.specs.Ledger.{Entry, Extent, IsIssued, entry_of, extent}
 use Rattle.rlsf_base.specs.declared.memory.ledger.Ticket.{Ticket}
 use Rattle.rlsf_base.specs.declared.memory.range.Range.{Range}
@@ -9,6 +9,7 @@ use Rattle.rlsf_base.specs.Piece.{CanCome, Piece, piece_range}
 use Rattle.rlsf_base.specs.Range.{range_at}
 use Rattle.rlsf_base.specs.Space.{Space}
 use Rattle.rlsf_model.specs.Allocate.{Allocates, placed}
+use Rattle.rlsf_model.specs.Callers.{align_at, bytes_at}
 use Rattle.rlsf_model.specs.Lists.{IsIn}
 use Rattle.rlsf_model.specs.Release.{released}
 use Rattle.rlsf_model.specs.State.{State, Used, Holds, usable}
@@ -16,7 +17,7 @@ use Rattle.rlsf_model.proofs.Payloads.{IsUsed-after_start}
 use Rattle.rlsf_table.specs.Table.{Table}
 use Rattle.rlsf_blocks.specs.Steps.LiveBlock.{AtEachBlock}
 use Rattle.rlsf_blocks.specs.StandsFor.{contents, StandsFor}
-use Rattle.rlsf_heap.specs.Heap.{AreIssued, HeapView, PayloadView, Stands, Steps, payload_range}
+use Rattle.rlsf_heap.specs.Heap.{AreIssued, HeapView, Identity, PayloadView, Stands, Steps, payload_range}
 use Rattle.rlsf_heap.specs.Raw.{IsWhole, bytes_of}
 use Rattle.rlsf_heap.specs.Thin.{reply_of}
 use Rattle.rlsf_heap.proofs.ThinValues.{one_more_than}
@@ -104,6 +105,18 @@ module _ {fllen sllen : ℕ} {m : Space} {table : Table} {s : State} {entries : 
 -- an address that isn't 0 is a reply
 pub reply_some : (n : ℕ) → n ≢ 0 → Some n ≡ reply_of n
 reply_some n some = let (k, e) = one_more_than n some in ap (λ m. Some m) e ∙ ap reply_of (sym e)
+
+-- what callers see of an allocated payload
+pub record SeesAllocated (identity : Identity) (s t : State) (size align : ℕ) (p : PayloadView) : Type 0 where
+  pub identified : p.identity ≡ identity
+  pub live : align_at t p.start ≡ Some align
+  pub wide : p.align ≡ align
+  pub long : length p.bytes ≡ length (bytes_at t p.start)
+  pub aligned : p.start % align ≡ 0
+  pub sized : size ≤ length p.bytes
+  pub few : length p.bytes < size + 32
+  pub new : align_at s p.start ≡ None
+  pub aligns : (a : ℕ) → a ≢ p.start → align_at t a ≡ align_at s a
 
 -- an allocated payload, known by its address
 module _ (fllen sllen : ℕ) (v : HeapView) (s : State) (size align : ℕ) (p q : PayloadView) (is : q ≡ p)

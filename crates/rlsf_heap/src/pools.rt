@@ -11,7 +11,7 @@ ghost use Rattle.rlsf_model.specs.Insert.{Appends, Inserts, IsNext, IsUntouched,
 ghost use Rattle.rlsf_model.specs.Remove.{IsIdle, Removes};
 ghost use Rattle.rlsf_model.specs.Sized.{IsSizedFor, live_count};
 ghost use Rattle.rlsf_blocks.specs.Blocks.{walked};
-ghost use Rattle.rlsf_heap.specs.Pools.{has_used};
+ghost use Rattle.rlsf_tlsf.specs.Steps.UsedBlocks.{has_used};
 ghost use Rattle.rlsf_heap.specs.Settled.{IsSettled};
 
 use crate::heap::Heap;

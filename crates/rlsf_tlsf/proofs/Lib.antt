@@ -3,6 +3,7 @@ mod AfterReading
 mod Crossing
 mod Found
 pub mod Arrivals
+pub mod IdleRows
 pub mod Lent
 pub mod Moved
 mod Opened

@@ -1,2 +1,3 @@
 -- Definitions for private functions.
 pub mod Moves
+pub mod UsedBlocks

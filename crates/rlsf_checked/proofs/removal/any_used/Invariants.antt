@@ -1,6 +1,6 @@
 -- One of the blocks is used exactly if one of those that are left is.
 use Rattle.std.proofs.Common.{◌≡◌}
-use Rattle.rlsf_checked.specs.Steps.UsedBlocks.{has_used}
+use Rattle.rlsf_tlsf.specs.Steps.UsedBlocks.{has_used}
 use Rattle.rlsf_checked.proofs.removal.any_used.Given as goal
 
 abbrev pub invariant-loop-block : goal.invariant-loop-block

@@ -5,7 +5,7 @@ use Rattle.rlsf_model.specs.State.{State}
 use Rattle.rlsf_model.specs.WellFormed.{IsWellFormed}
 use Rattle.rlsf_blocks.specs.Blocks.{walked}
 use Rattle.rlsf_heap.specs.Heap.{HeapView, Stands, Steps}
-use Rattle.rlsf_heap.proofs.IdleRows.{idle_if, used_if}
+use Rattle.rlsf_tlsf.proofs.IdleRows.{idle_if, used_if}
 use Rattle.rlsf_heap.proofs.heap.Heap.try_remove_pool.Goals as goal
 
 -- the state that memory and table represent is well-formed

@@ -1,4 +1,4 @@
--- Contiguous chunks without a used block.
+-- Contiguous chunks are idle if and only if an iteration over them yields no used block.
 use Rattle.std.proofs.Common.{◌≡◌, ℕ, ◌<◌, ◌≤◌, ◌||◌, List, [], ◌∷◌, true, false, true≢false, arith, refl, inl, inr, sym, ap, ◌∙◌}
 use Rattle.std.proofs.lemmas.Bool.{cases_lt}
 use Rattle.rlsf_base.specs.declared.memory.range.Range.{Range}
@@ -12,10 +12,10 @@ use Rattle.rlsf_model.proofs.Coverage.{by_test, coverage-IsIn, coverage-some, co
 use Rattle.rlsf_model.proofs.Payloads.{IsUsed-some}
 use Rattle.rlsf_model.proofs.Tiling.{block_of}
 use Rattle.rlsf_blocks.specs.Blocks.{AreBlocks, Block, used, free}
-use Rattle.rlsf_checked.specs.Steps.UsedBlocks.{has_used}
+use Rattle.rlsf_tlsf.specs.Steps.UsedBlocks.{has_used}
 use Rattle.rlsf_blocks.proofs.Words.Apart.{chunk_chunk, home_of_used}
 
--- where no block is used, none of the blocks is
+-- where none of some blocks is used, each is free
 none_used : (bs : List Block) → has_used bs ≡ false → (b : Block) → IsIn b bs → b.is_occupied ≡ false
 none_used [] none b i = absurd i
 none_used (c ∷ bs) none b i = by_test c.is_occupied
@@ -25,7 +25,7 @@ none_used (c ∷ bs) none b i = by_test c.is_occupied
       | inr there ↦ none_used bs (sym (ap (λ t. t || has_used bs) e) ∙ none) b there
     ])
 
--- where one is, it is one of them
+-- where one of some blocks is used, a used one is among them
 one_used : (bs : List Block) → has_used bs ≡ true → (b : Block) × IsIn b bs × (b.is_occupied ≡ true)
 one_used [] some = absurd (true≢false (sym some))
 one_used (c ∷ bs) some = by_test c.is_occupied
@@ -33,14 +33,14 @@ one_used (c ∷ bs) some = by_test c.is_occupied
     (λ e. let (b, i, is) = one_used bs (sym (ap (λ t. t || has_used bs) e) ∙ some) in (b, inr i, is))
 
 module _ {fllen sllen : ℕ} {memory : Range} {s : State} (w : IsWellFormed fllen sllen memory s) (r : Range) (row : IsRow s r) (bs : List Block) (are : AreBlocks s r bs) where
-  -- a used block with a byte in the row lies in it
+  -- a used block with a byte in the chunks lies in them
   inside : (u : Used) → IsIn u s.used → (a : ℕ) → r.start ≤ a → a < end_of r → u.block.start ≤ a → a < end_of u.block
       → (r.start ≤ u.block.start) × (end_of u.block ≤ end_of r)
   inside u i a lo hi from to =
       let (c, j, low, c_from, c_to, high) = row a lo hi in
       let home = home_of_used w u i in
-      let same =
-      chunk_chunk w c home.chunk a j home.is_chunk (record { from = c_from; to = c_to }) (record { from = omega (arith, home.from, from); to = omega (arith, home.to, to) }) in
+      let same = chunk_chunk w c home.chunk a j home.is_chunk (record { from = c_from; to = c_to })
+      (record { from = omega (arith, home.from, from); to = omega (arith, home.to, to) }) in
       (omega (arith, low, home.from, ap (λ (x : Range). x.start) same), omega (arith, high, home.to, ap (λ (x : Range). end_of x) same))
 
   pub idle_if : has_used bs ≡ false → IsIdle s r
