@@ -1,20 +1,21 @@
 -- Allocation: a payload is placed, and its bytes leave the memory.
-use Rattle.std.proofs.Common.{◌≡◌, ℕ, ◌+◌, ◌-◌, ◌%◌, ◌^◌, ◌<◌, true, List, [], ◌∷◌, ◌++◌, length, arith, inl, inr, refl, sym, ap, subst}
+use Rattle.std.proofs.Common.{◌≡◌, ℕ, ◌+◌, ◌-◌, ◌%◌, ◌^◌, ◌<◌, ◌≤◌, true, List, [], ◌∷◌, ◌++◌, length, None, Some, arith, inl, inr, refl, sym, ap, subst}
 use Rattle.std.proofs.Common.{◌∙◌}
 use Rattle.rlsf_base.specs.Ledger.{Entry, Extent, entry_of}
 use Rattle.rlsf_base.specs.OpenSpace.{IsOwned, SameOwn, out_without}
 use Rattle.rlsf_base.specs.PowerOfTwo.{IsPowerOfTwo}
 use Rattle.rlsf_base.specs.Range.{LiesIn}
-use Rattle.rlsf_base.specs.Space.{Space}
+use Rattle.rlsf_base.specs.Space.{Space, range_of}
 use Rattle.rlsf_base.proofs.Lending.Present.{own-there, own-inside, own-same}
-use Rattle.rlsf_model.specs.Allocate.{Places, placed}
+use Rattle.rlsf_model.specs.Allocate.{Allocates, Places, placed}
 use Rattle.rlsf_model.specs.Lists.{IsIn}
-use Rattle.rlsf_model.specs.Sized.{live_count}
+use Rattle.rlsf_model.specs.Sized.{IsSizedFor, live_count}
 use Rattle.rlsf_model.specs.State.{State, Used, usable}
 use Rattle.rlsf_model.proofs.Allocations.{placed-fits}
-use Rattle.rlsf_model.proofs.Payloads.{IsUsed-after_start}
-use Rattle.rlsf_model.proofs.CallerWords.{bytes_at-held}
-use Rattle.rlsf_model.proofs.SizedWords.{count_new}
+use Rattle.rlsf_model.specs.WellFormed.{IsWellFormed}
+use Rattle.rlsf_model.proofs.Payloads.{IsUsed-after_start, payload_of-aligned}
+use Rattle.rlsf_model.proofs.CallerWords.{SeesNew, bytes_at-held, new_seen}
+use Rattle.rlsf_model.proofs.SizedWords.{count_new, never_refused, sized_new}
 use Rattle.rlsf_model.specs.Callers.{bytes_at}
 use Rattle.rlsf_table.specs.Counts.{Counts}
 use Rattle.rlsf_table.specs.Table.{Table}
@@ -24,7 +25,11 @@ use Rattle.rlsf_blocks.proofs.Machine.Counted.{StandsFor-counted, StandsFor-touc
 use Rattle.rlsf_blocks.proofs.Payloads.UnknownAlignment.{IsPayloadOf-holds}
 use Rattle.rlsf_blocks.proofs.Words.Apart.{used_free, free_in_memory, used_in_memory}
 use Rattle.rlsf_blocks.proofs.Words.NeverOut.{here_free}
-use Rattle.rlsf_heap.specs.Heap.{AreIssued}
+use Rattle.rlsf_blocks.specs.Laws.{read_from}
+use Rattle.rlsf_tlsf.specs.Steps.Moves.{bare}
+use Rattle.rlsf_tlsf.proofs.Arrivals.{arrived}
+use Rattle.rlsf_heap.specs.Heap.{AreIssued, HeapView, IsHeap, Steps, heap_view}
+use Rattle.rlsf_heap.proofs.Arrivals.{IsHeap-arrived, Steps-arrived, bare-kept, stepped, view_well_formed}
 use Rattle.rlsf_heap.proofs.LiveCounts.{live_fits}
 use Rattle.rlsf_heap.proofs.Read.{out-left, stands_same}
 use Rattle.rlsf_heap.proofs.Tickets.{issued-more}
@@ -132,3 +137,58 @@ module _ {fllen sllen : ℕ} {m n : Space} {table changed : Table} {s t : State}
         let old : AreIssued t entries = record { issued = λ k w is. let (u, i, at, len, wide) = tickets.issued k w is in (u, still u i, at, len, wide); apart = tickets.apart } in
         issued-more entries shown t old (new, is_new, at_new ∙ sym address, sym long, sym aligned)
         (λ k w is same. let (u, i, at, len, wide) = tickets.issued k w is in new-apart u i (at ∙ same ∙ address ∙ sym at_new))
+
+-- ---- a refused allocation changes nothing
+
+module _ {fl_bits sl_bits fllen sllen : ℕ} {m n : Space} {x y : Table} {k t : State} {es : List Entry} {count : ℕ}
+    (is : IsHeap fl_bits sl_bits fllen sllen m x k es count) (size align : ℕ) (step : Allocates sllen (read_from m k) size align None t) (stands : StandsFor fllen sllen (contents n y) t) where
+  stands_still : StandsFor fllen sllen (contents n y) (read_from m k)
+  stands_still = subst (StandsFor fllen sllen (contents n y)) step.1 stands
+
+  pub IsHeap-refused : IsHeap fl_bits sl_bits fllen sllen n y k es count
+  IsHeap-refused = IsHeap-arrived stands_still k (sym (bare-kept is)) is.valid es is.tickets count is.counted
+
+  module _ (old : HeapView) {ledger : ℕ} (view : heap_view m x k ledger ≡ old) where
+    pub refused : Allocates sllen old.state size align None (read_from n k)
+    refused = stepped stands_still k (sym (bare-kept is)) m k old view (λ s. Allocates sllen s size align None) (step.0, refl)
+
+    pub Steps-refused : Steps fllen sllen (heap_view n y k ledger) (Allocates sllen old.state size align None)
+    Steps-refused = Steps-arrived stands_still k (sym (bare-kept is)) ledger (Allocates sllen old.state size align None) refused
+
+    -- within the bounds that the heap is sized for, none is refused
+    pub none_refused : (most longest widest : ℕ) → IsSizedFor sllen most longest widest old.state → live_count old.state ≤ most → size ≤ longest → align ≤ widest → ⊥
+    none_refused most longest widest sized few short fits =
+        never_refused (view_well_formed is old view) (read_from n k) most longest widest sized size align few short fits refused
+
+    pub sized_refused : (most longest widest : ℕ) → IsSizedFor sllen most longest widest old.state → IsSizedFor sllen most longest widest (read_from n k)
+    sized_refused most longest widest sized = subst (IsSizedFor sllen most longest widest) (sym refused.1) sized
+
+-- ---- what contracts see of a placed payload, once its bytes left
+
+pub record SeesPlaced (fllen sllen : ℕ) (old new : HeapView) (size align at : ℕ) : Type 0 where
+  pub step : Steps fllen sllen new (Allocates sllen old.state size align (Some at))
+  pub seen : SeesNew old.state new.state size align at
+  pub aligned : at % align ≡ 0
+  pub count : live_count new.state ≡ live_count old.state + 1
+  pub chunks : new.state.chunks ≡ old.state.chunks
+  pub bounds : (most longest widest : ℕ) → IsSizedFor sllen most longest widest old.state → size ≤ longest → align ≤ widest → IsSizedFor sllen most longest widest new.state
+
+module _ {fl_bits sl_bits fllen sllen : ℕ} {m n o : Space} {table changed : Table} {k t : State} {es : List Entry} {count size align addr : ℕ}
+    (is : IsHeap fl_bits sl_bits fllen sllen m table k es count) (p : Placing fllen sllen m n table changed (read_from m k) t size align addr)
+    (stands : StandsFor fllen sllen (contents o changed) t) (after : State) (kept : after ≡ bare t) (at : ℕ) (same : addr ≡ at) where
+  pub long_placed : (usable (new p)).len ≡ length (bytes_at (read_from o after) at)
+  long_placed = sym (new-long p) ∙ (λ i. length (bytes_at (sym (arrived stands after kept) i) (same i)))
+
+  pub seen_placed : (old : HeapView) {ledger : ℕ} → heap_view m table k ledger ≡ old → (name : ℕ) → SeesPlaced fllen sllen old (heap_view o changed after name) size align at
+  seen_placed old view name =
+      let now = read_from o after in
+      let did : Allocates sllen old.state size align (Some at) now =
+      subst (λ a. Allocates sllen old.state size align (Some a) now) same (stepped stands after kept m k old view (λ s. Allocates sllen s size align (Some addr)) p.places) in
+      let well = view_well_formed is old view in record {
+        step = Steps-arrived stands after kept name (Allocates sllen old.state size align (Some at)) did;
+        seen = new_seen well now size align at p.power did;
+        aligned = subst (λ a. a % align ≡ 0) (sym did.answer) (payload_of-aligned did.range.start align p.power);
+        count = count_new well now size align at p.power did;
+        chunks = ap (λ (s : State). s.chunks) did.after;
+        bounds = λ most longest widest sized short fits. sized_new well now most longest widest sized size align (Some at) p.power short fits did;
+      }

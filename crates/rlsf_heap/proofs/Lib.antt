@@ -1,6 +1,7 @@
 -- Lemmas of the heap's calls, and what the manual proofs cite.
 pub mod Allocated
 pub mod Arrivals
+pub mod Costs
 pub mod Leaving
 pub mod PutBack
 pub mod LiveCounts

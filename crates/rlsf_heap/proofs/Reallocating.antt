@@ -220,6 +220,21 @@ module _ {fllen sllen : ℕ} {m n : Space} {x : Table} {s : State} {es : List En
       issued-more redeemed name state less (block, held.0, held.1 ∙ sym at, long ∙ sym len, wide ∙ sym wide_name)
       (λ j w was same. apart_redeemed j w was (same ∙ at ∙ sym held.1))
 
+  -- after the old ticket is redeemed and a new one is issued
+  module _ {addr len wide : ℕ} (ticket : IsTicketOf p align (extent addr len wide)) {fs gs : List Entry} (gone : fs ≡ set es key (entry_of (extent addr len wide) false))
+      (name : Extent) (came_new : gs ≡ fs ++ entry_of name true ∷ []) where
+    entries_are : set es key (entry_of shown false) ++ entry_of name true ∷ [] ≡ gs
+    entries_are =
+        let same : set es key (entry_of shown false) ≡ fs = (λ i. set es key (entry_of (extent (ticket.0 i) (ticket.1 i) (ticket.2 i)) false)) ∙ sym gone in
+        ap (λ (l : List Entry). l ++ entry_of name true ∷ []) same ∙ sym came_new
+
+    pub issued_again : name.addr ≡ p.start → name.len ≡ length p.bytes → name.align ≡ align → AreIssued state gs
+    issued_again at as_long as_wide = subst (AreIssued state) entries_are (issued_stayed name at as_long as_wide)
+
+    pub issued_anew : {size to : ℕ} {t : State} (step : Reallocates sllen state block.payload size (Some to) t) → name.addr ≡ to
+        → name.len ≡ (usable (new stands block held.0 size to step)).len → name.align ≡ align → AreIssued t gs
+    issued_anew {t = t} step at as_long as_wide = subst (AreIssued t) entries_are (issued_moved step name at as_long as_wide)
+
   -- ---- as many payloads are live
 
   pub counted_stayed : live_count state ≡ live_count s

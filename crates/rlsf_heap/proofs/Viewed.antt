@@ -1,5 +1,5 @@
 -- Reallocation as contracts see it: a payload is back in the memory, and has another size or is unchanged.
-use Rattle.std.proofs.Common.{◌≡◌, ℕ, List, Option, Some, sym, ap, subst, ◌∙◌}
+use Rattle.std.proofs.Common.{◌≡◌, ℕ, ◌%◌, ◌≤◌, List, Option, Some, sym, ap, subst, ◌∙◌}
 use Rattle.rlsf_base.specs.Ledger.{Entry}
 use Rattle.rlsf_base.specs.Piece.{Piece}
 use Rattle.rlsf_base.specs.Space.{Space, range_of}
@@ -9,16 +9,30 @@ use Rattle.rlsf_model.specs.Reallocate.{HasRoomToStay, Plan, Reallocates, in_pla
 use Rattle.rlsf_model.specs.Run.{Fills}
 use Rattle.rlsf_model.specs.State.{State, Used, AreAlike, filled}
 use Rattle.rlsf_model.specs.WellFormed.{IsWellFormed}
-use Rattle.rlsf_model.proofs.CallerWords.{align_at-held, filled_seen}
+use Rattle.rlsf_model.proofs.CallerWords.{align_at-held, align_at-live, filled_seen}
+use Rattle.rlsf_model.proofs.Live.{live_addresses_are_aligned}
 use Rattle.rlsf_model.proofs.Changes.{Holds-unique}
 use Rattle.rlsf_model.specs.Sized.{IsSizedFor, live_count}
 use Rattle.rlsf_model.proofs.Fillings.{AreAlike-filled}
 use Rattle.rlsf_model.proofs.SizedWords.{count_filled, sized_filled}
 use Rattle.rlsf_table.specs.Table.{Table}
 use Rattle.rlsf_blocks.specs.Laws.{read_from}
+use Rattle.rlsf_blocks.specs.StandsFor.{contents, StandsFor}
+use Rattle.rlsf_tlsf.specs.Steps.Moves.{bare}
+use Rattle.rlsf_tlsf.proofs.Arrivals.{arrived}
 use Rattle.rlsf_heap.specs.Heap.{HeapView, PayloadView, heap_view, payload_view}
 use Rattle.rlsf_heap.specs.Reallocation.{owned_by}
+use Rattle.rlsf_heap.proofs.Reallocated.{SeesReallocated, chunks_reallocated, count_reallocated, reallocated_seen, sized_reallocated}
 use Rattle.rlsf_heap.proofs.Reallocating.{IsBackIn, block, fills, held, held_before, is_state, old_block, state, wide_before}
+
+-- a payload has another size, at a new address or at its own
+pub record SeesChanged (sllen : ℕ) (old : HeapView) (pay : PayloadView) (now : State) (size to : ℕ) : Type 0 where
+  pub did : Reallocates sllen (owned_by old.state pay) pay.start size (Some to) now
+  pub seen : SeesReallocated old.state now pay.start pay.bytes size pay.align to
+  pub aligned : to % pay.align ≡ 0
+  pub count : live_count now ≡ live_count old.state
+  pub bounds : (most longest widest : ℕ) → IsSizedFor sllen most longest widest old.state → size ≤ longest → pay.align ≤ widest → IsSizedFor sllen most longest widest now
+  pub chunks : now.chunks ≡ old.state.chunks
 
 module _ {fllen sllen : ℕ} {m n : Space} {x : Table} (k : State) {es : List Entry} {key align : ℕ} {p : Piece} (b : IsBackIn fllen sllen m n x (read_from m k) es key p align)
     (old : HeapView) {ledger : ℕ} (view : heap_view m x k ledger ≡ old) (pay : PayloadView) {mark : ℕ} (is : payload_view p align mark ≡ pay) where
@@ -76,3 +90,31 @@ module _ {fllen sllen : ℕ} {m n : Space} {x : Table} (k : State) {es : List En
     pub sized_view : (count most wide : ℕ) → IsSizedFor sllen count most wide old.state → IsSizedFor sllen count most wide now
     sized_view count most wide sized = subst (IsSizedFor sllen count most wide) (sym now_is)
         (sized_filled well (owned_by old.state pay) count most wide sized pay.start pay.bytes (fills_view.block, fills_view.holds) fills_view)
+
+  -- ---- where it has another size, and its bytes left again
+
+  module _ {o : Space} {y : Table} {t : State} (stands_now : StandsFor fllen sllen (contents o y) t) (after : State) (kept : after ≡ bare t) (size to at : ℕ) (same : to ≡ at)
+    where
+      pub stayed_changed : ReallocatesWithoutMove (state b) (block b).payload size (Some to) t
+          → ReallocatesWithoutMove (owned_by old.state pay) pay.start size (Some at) (read_from o after)
+      stayed_changed step =
+          subst (λ (z : ℕ × State). ReallocatesWithoutMove (owned_by old.state pay) pay.start size (Some z.0) z.1) (λ i. (same i, sym (arrived stands_now after kept) i))
+          (stayed_view step)
+
+      pub seen_changed : Reallocates sllen (state b) (block b).payload size (Some to) t → SeesChanged sllen old pay (read_from o after) size at
+      seen_changed step =
+          let now = read_from o after in
+          let did : Reallocates sllen (owned_by old.state pay) pay.start size (Some at) now =
+          subst (λ (z : ℕ × State). Reallocates sllen (owned_by old.state pay) pay.start size (Some z.0) z.1) (λ i. (same i, sym (arrived stands_now after kept) i))
+          (did_view step) in
+          let seen = reallocated_seen well pay.start pay.bytes fills_view now size pay.align live_view at did in
+          let well_now = subst (IsWellFormed fllen sllen (range_of o)) (sym (arrived stands_now after kept)) stands_now.well_formed in
+          let (u, holds, wide) = align_at-live now at pay.align seen.live in record {
+            did = did;
+            seen = seen;
+            aligned = live_addresses_are_aligned fllen sllen (range_of o) now at pay.align well_now (u, holds, wide);
+            count = count_reallocated well pay.start pay.bytes fills_view now size pay.align live_view (Some at) did;
+            bounds = λ most longest widest sized short fits.
+                sized_reallocated well pay.start pay.bytes fills_view now size pay.align live_view most longest widest sized short fits (Some at) did;
+            chunks = chunks_reallocated well pay.start pay.bytes fills_view now size pay.align live_view (Some at) did;
+          }

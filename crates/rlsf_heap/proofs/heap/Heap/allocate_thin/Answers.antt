@@ -1,4 +1,4 @@
-use Rattle.std.proofs.Common.{ℕ, true≢false, sym, ap, subst, ◌∙◌}
+use Rattle.std.proofs.Common.{true≢false, sym, ap, subst, ◌∙◌}
 use Rattle.rlsf_model.specs.Allocate.{Allocates}
 use Rattle.rlsf_model.specs.Callers.{align_at}
 use Rattle.rlsf_model.specs.State.{State}

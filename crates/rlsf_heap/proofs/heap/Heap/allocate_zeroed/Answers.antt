@@ -1,77 +1,55 @@
-use Rattle.std.proofs.Common.{◌≡◌, ◌+◌, ◌%◌, ◌<◌, ◌≤◌, length, None, Some, refl, sym, ap, subst, ◌∙◌, arith}
+use Rattle.std.proofs.Common.{replicate, ◌/◌, ℕ, ◌≡◌, ◌+◌, ◌%◌, ◌<◌, ◌≤◌, length, refl, sym, ap, subst, ◌∙◌, arith}
 use Rattle.std.proofs.lemmas.List.{length-replicate}
 use Rattle.rlsf_base.proofs.Lending.Present.{own-here}
 use Rattle.rlsf_base.specs.declared.memory.range.Range.{Range}
 use Rattle.rlsf_base.specs.Ledger.{extent}
 use Rattle.rlsf_base.specs.OpenSpace.{IsOwned, out_without}
 use Rattle.rlsf_base.specs.Range.{LiesIn}
-use Rattle.rlsf_base.specs.Space.{Space, range_of}
-use Rattle.rlsf_model.specs.Allocate.{Allocates, Places}
+use Rattle.rlsf_base.specs.Space.{Space}
+use Rattle.rlsf_model.specs.Allocate.{Allocates}
 use Rattle.rlsf_model.specs.Callers.{bytes_at}
 use Rattle.rlsf_model.specs.State.{State, usable}
-use Rattle.rlsf_model.specs.Sized.{IsSizedFor}
-use Rattle.rlsf_model.specs.WellFormed.{IsWellFormed}
-use Rattle.rlsf_model.proofs.CallerWords.{SeesNew, new_seen}
-use Rattle.rlsf_model.proofs.Payloads.{payload_of-aligned}
-use Rattle.rlsf_model.proofs.SizedWords.{count_new, never_refused, sized_new}
 use Rattle.rlsf_blocks.specs.Laws.{read_from}
 use Rattle.rlsf_blocks.specs.StandsFor.{contents, StandsFor}
 use Rattle.rlsf_tlsf.specs.Steps.Moves.{allocated, bare}
-use Rattle.rlsf_tlsf.proofs.Arrivals.{arrived}
 use Rattle.rlsf_tlsf.proofs.Moved.{allocated-bare}
-use Rattle.rlsf_heap.specs.Heap.{AreIssued, addr_of}
-use Rattle.rlsf_heap.proofs.Allocated.{Placing, at_new, is_new, issued-new, new, one_more, new-here, new-lies, new-long, new-whole, placing-touched, stands-left}
+use Rattle.rlsf_heap.specs.Heap.{AreIssued, HeapView, Steps, addr_of, heap_view}
+use Rattle.rlsf_heap.proofs.Allocated.{IsHeap-refused, SeesPlaced, Steps-refused, long_placed, none_refused, seen_placed, sized_refused}
+use Rattle.rlsf_heap.proofs.Allocated.{Placing, at_new, is_new, issued-new, new, one_more, new-here, new-lies, new-whole, placing-touched, stands-left}
 use Rattle.rlsf_heap.specs.Zeroed.{IsZeroed}
 use Rattle.rlsf_heap.proofs.ZeroedPayloads.{placing-zeroed, usable-zeroed}
-use Rattle.rlsf_heap.proofs.Arrivals.{IsHeap-arrived, Steps-arrived, bare-kept, stepped, view_well_formed}
+use Rattle.rlsf_heap.proofs.Costs.{Leaves, is_of_heap, sees_left}
+use Rattle.rlsf_heap.proofs.Arrivals.{IsHeap-arrived, bare-kept}
 use Rattle.rlsf_blocks.proofs.Words.Stays.{Stays, Stays-same, Stays-then}
 use Rattle.rlsf_heap.specs.Settled.{IsSettled}
 use Rattle.rlsf_heap.proofs.Settled.{settled-inside, settled-left, settled-stays, settled-zeroed}
 use Rattle.rlsf_heap.proofs.heap.Heap.allocate_zeroed.Given as given
 use Rattle.rlsf_heap.proofs.heap.Heap.allocate_zeroed.Goals as goal
-use Rattle.rlsf_heap.proofs.heap.Heap.allocate_zeroed.Goals.{After-issue-ticket, After-load_usable_bytes-range, In_err-addr, In_ok-addr}
+use Rattle.rlsf_heap.proofs.heap.Heap.allocate_zeroed.Goals.{After-issue-ticket, After-load_usable_bytes-range, In_ok-addr}
 
 -- ---- a refused allocation changes nothing
 
-abbrev stayed : (g : given.Over) → In_err-addr g → State
-stayed g c = read_from c.self.inside.memory c.self.inside.state.state
-
-refusing : (g : given.Over) (c : In_err-addr g) → Allocates g.row.SLLEN (stayed g c) c.args.layout.size c.args.layout.align None (stayed g c)
-    × StandsFor g.row.FLLEN g.row.SLLEN (contents c.allocate_block.new.memory c.allocate_block.new.table) (stayed g c)
-refusing g c =
-    let (t, step, stands, spare) = c.in_err-addr.ensures.step (stayed g c) c.self.invariant.stands in
-    subst (λ (x : State). Allocates g.row.SLLEN (stayed g c) c.args.layout.size c.args.layout.align None x
-    × StandsFor g.row.FLLEN g.row.SLLEN (contents c.allocate_block.new.memory c.allocate_block.new.table) x) step.1 (step, stands)
-
 pub invariant_of-self : goal.invariant_of-self
 invariant_of-self g c =
-    let d = (goal.at.invariant_of-self g c).In_err-addr in
-    IsHeap-arrived (refusing g d).1 c.self.inside.state.state (sym (bare-kept c.self.invariant)) c.self.invariant.valid c.self.inside.ledger.entries c.self.invariant.tickets
-    c.self.inside.live c.self.invariant.counted
-
-refused : (g : given.Over) (c : In_err-addr g) → Allocates g.row.SLLEN c.args.self.now.state c.args.layout.size c.args.layout.align None
-    (read_from c.allocate_block.new.memory c.self.inside.state.state)
-refused g c = stepped (refusing g c).1 c.self.inside.state.state (sym (bare-kept c.self.invariant)) c.self.inside.memory c.self.inside.state.state c.args.self.now c.self.view_is
-    (λ old. Allocates g.row.SLLEN old c.args.layout.size c.args.layout.align None) (refusing g c).0
+    let (t, step, stands, spare) = c.in_err-addr.ensures.step (read_from c.self.inside.memory c.self.inside.state.state) c.self.invariant.stands in
+    IsHeap-refused c.self.invariant c.args.layout.size c.args.layout.align step stands
 
 pub returns-in_err-addr-clause-step : goal.returns-in_err-addr-clause-step
 returns-in_err-addr-clause-step g c =
-    let d = (goal.at.returns-in_err-addr-clause-step g c).In_err-addr in
-    Steps-arrived (refusing g d).1 c.self.inside.state.state (sym (bare-kept c.self.invariant)) c.self.inside.ledger.name
-    (Allocates g.row.SLLEN c.args.self.now.state c.args.layout.size c.args.layout.align (addr_of c.from_residual.result))
-    (subst (λ o. Allocates g.row.SLLEN c.args.self.now.state c.args.layout.size c.args.layout.align (addr_of o) (read_from c.allocate_block.new.memory c.self.inside.state.state))
-    (sym c.from_residual.ensures) (refused g d))
+    let (t, step, stands, spare) = c.in_err-addr.ensures.step (read_from c.self.inside.memory c.self.inside.state.state) c.self.invariant.stands in
+    subst (λ o. Steps g.row.FLLEN g.row.SLLEN (heap_view c.allocate_block.new.memory c.allocate_block.new.table c.self.inside.state.state c.self.inside.ledger.name)
+    (Allocates g.row.SLLEN c.args.self.now.state c.args.layout.size c.args.layout.align (addr_of o))) (sym c.from_residual.ensures)
+    (Steps-refused c.self.invariant c.args.layout.size c.args.layout.align step stands c.args.self.now c.self.view_is)
 
 pub returns-in_err-addr-clause-room : goal.returns-in_err-addr-clause-room
 returns-in_err-addr-clause-room g c = λ count size align sized few short fits.
-    let d = (goal.at.returns-in_err-addr-clause-room g c).In_err-addr in
-    absurd (never_refused (view_well_formed c.self.invariant c.args.self.now c.self.view_is) (read_from c.allocate_block.new.memory c.self.inside.state.state) count size align
-    sized c.args.layout.size c.args.layout.align few short fits (refused g d))
+    let (t, step, stands, spare) = c.in_err-addr.ensures.step (read_from c.self.inside.memory c.self.inside.state.state) c.self.invariant.stands in
+    absurd (none_refused c.self.invariant c.args.layout.size c.args.layout.align step stands c.args.self.now c.self.view_is count size align sized few short fits)
 
 pub returns-in_err-addr-clause-bounds : goal.returns-in_err-addr-clause-bounds
 returns-in_err-addr-clause-bounds g c = λ count size align sized short fits.
-    let d = (goal.at.returns-in_err-addr-clause-bounds g c).In_err-addr in
-    subst (IsSizedFor g.row.SLLEN count size align) (sym (refused g d).1) sized
+    let (t, step, stands, spare) = c.in_err-addr.ensures.step (read_from c.self.inside.memory c.self.inside.state.state) c.self.invariant.stands in
+    sized_refused c.self.invariant c.args.layout.size c.args.layout.align step stands c.args.self.now c.self.view_is count size align sized
 
 -- ---- a payload is placed
 
@@ -206,63 +184,16 @@ now g c = read_from c.take_out-zeros.new.self c.allocate.new.self.state
 at : (g : given.Over) (c : After-issue-ticket g) → c.in_ok-addr.addr ≡ c.take_out-zeros.result.start
 at g c = sym (address g c) ∙ sym c.take_out-zeros.ensures.part.1
 
-did : (g : given.Over) (c : After-issue-ticket g) → Places g.row.SLLEN c.args.self.now.state c.args.layout.size c.args.layout.align c.take_out-zeros.result.start (now g c)
-did g c =
-    let p = filling g c in
-    subst (λ addr. Places g.row.SLLEN c.args.self.now.state c.args.layout.size c.args.layout.align addr (now g c)) (at g c)
-    (stepped (standing g c) c.allocate.new.self.state (kept g c) c.self.inside.memory c.self.inside.state.state c.args.self.now c.self.view_is
-    (λ old. Places g.row.SLLEN old c.args.layout.size c.args.layout.align c.in_ok-addr.addr) p.places)
-
-well : (g : given.Over) (c : After-issue-ticket g) → IsWellFormed g.row.FLLEN g.row.SLLEN (range_of c.args.self.now.memory) c.args.self.now.state
-well g c = view_well_formed c.self.invariant c.args.self.now c.self.view_is
-
-seen : (g : given.Over) (c : After-issue-ticket g) → SeesNew c.args.self.now.state (now g c) c.args.layout.size c.args.layout.align c.take_out-zeros.result.start
-seen g c = new_seen (well g c) (now g c) c.args.layout.size c.args.layout.align c.take_out-zeros.result.start c.args.layout.valid.aligned (did g c)
+sees : (g : given.Over) (c : After-issue-ticket g) → SeesPlaced g.row.FLLEN g.row.SLLEN c.args.self.now
+    (heap_view c.take_out-zeros.new.self c.allocate_block.new.table c.allocate.new.self.state c.issue-ticket.new.self.name) c.args.layout.size c.args.layout.align c.take_out-zeros.result.start
+sees g c = seen_placed c.self.invariant (filling g c) (standing g c) c.allocate.new.self.state (kept g c) c.take_out-zeros.result.start (at g c) c.args.self.now c.self.view_is c.issue-ticket.new.self.name
 
 -- the part is as long as the payload of the reference model
 long : (g : given.Over) (c : After-issue-ticket g) → length c.take_out-zeros.result.bytes ≡ length (bytes_at (now g c) c.take_out-zeros.result.start)
 long g c =
     let e = c.take_out-zeros.ensures.part in
-    ap length (e.2 ∙ c.fill_zero.ensures.zeros) ∙ length-replicate c.load_usable_bytes-range.result.len 0
-    ∙ ap (λ (r : Range). r.len) (filled g c) ∙ sym (new-long (filling g c))
-    ∙ (λ i. length (bytes_at (sym (arrived (standing g c) c.allocate.new.self.state (kept g c)) i) (at g c i)))
-
-pub returns-clause-written : goal.returns-clause-written
-returns-clause-written g c = c.take_out-zeros.ensures.full c.fill_zero.ensures.here
-
-pub returns-clause-step : goal.returns-clause-step
-returns-clause-step g c = Steps-arrived (standing g c) c.allocate.new.self.state (kept g c) c.issue-ticket.new.self.name
-    (Allocates g.row.SLLEN c.args.self.now.state c.args.layout.size c.args.layout.align (Some c.take_out-zeros.result.start)) (did g c)
-
-pub returns-clause-live : goal.returns-clause-live
-returns-clause-live g c = (seen g c).live
-
-pub returns-clause-long : goal.returns-clause-long
-returns-clause-long g c = long g c
-
-pub returns-clause-aligned : goal.returns-clause-aligned
-returns-clause-aligned g c = subst (λ a. a % c.args.layout.align ≡ 0) (sym (did g c).answer)
-    (payload_of-aligned (did g c).range.start c.args.layout.align c.args.layout.valid.aligned)
-
-pub returns-clause-sized : goal.returns-clause-sized
-returns-clause-sized g c = subst (λ n. c.args.layout.size ≤ n) (sym (long g c)) (seen g c).sized
-
-pub returns-clause-few : goal.returns-clause-few
-returns-clause-few g c = subst (λ n. n < c.args.layout.size + 32) (sym (long g c)) (seen g c).few
-
-pub returns-clause-new : goal.returns-clause-new
-returns-clause-new g c = (seen g c).new
-
-pub returns-clause-aligns : goal.returns-clause-aligns
-returns-clause-aligns g c = (seen g c).aligns
-
-pub returns-clause-count : goal.returns-clause-count
-returns-clause-count g c = count_new (well g c) (now g c) c.args.layout.size c.args.layout.align c.take_out-zeros.result.start c.args.layout.valid.aligned (did g c)
-
-pub returns-clause-bounds : goal.returns-clause-bounds
-returns-clause-bounds g c = λ count size align sized short fits.
-    sized_new (well g c) (now g c) count size align sized c.args.layout.size c.args.layout.align (Some c.take_out-zeros.result.start) c.args.layout.valid.aligned short fits
-    (did g c)
+    ap length (e.2 ∙ c.fill_zero.ensures.zeros) ∙ length-replicate c.load_usable_bytes-range.result.len 0 ∙ ap (λ (r : Range). r.len) (filled g c)
+    ∙ long_placed c.self.invariant (filling g c) (standing g c) c.allocate.new.self.state (kept g c) c.take_out-zeros.result.start (at g c)
 
 -- ---- no byte is raw, if none was
 
@@ -284,9 +215,66 @@ settled_read g c settled =
 low_range : (g : given.Over) (c : After-issue-ticket g) → c.load_usable_bytes-range.new.memory.start ≤ c.load_usable_bytes-range.result.start
 low_range g c = subst (λ (r : Range). c.load_usable_bytes-range.new.memory.start ≤ r.start) (sym (range g (read g c))) (new-lies (reading g (read g c))).0
 
-pub returns-clause-settled : goal.returns-clause-settled
-returns-clause-settled g c = λ settled.
-    let z = c.fill_zero.ensures in
-    settled-left c.fill_zero.new.memory c.take_out-zeros.new.self c.load_usable_bytes-range.result c.take_out-zeros.ensures.start (omega (arith, low_range g c, z.start))
-    c.take_out-zeros.ensures.out
-    (settled-zeroed c.load_usable_bytes-range.new.memory c.fill_zero.new.memory c.load_usable_bytes-range.result z (settled_read g c settled))
+-- the memory that is left, before its bytes leave
+left_first : (g : given.Over) (c : After-issue-ticket g) → Leaves c.self.inside.memory c.fill_zero.new.memory (30 + c.load_usable_bytes-range.result.len / 8)
+left_first g c =
+    let a = c.in_ok-addr.ensures.costs in
+    let b = c.load_usable_bytes-range.ensures.memory in
+    let z = c.fill_zero.ensures in record {
+      start = z.start ∙ ap (λ (m : Space). m.start) b ∙ a.start;
+      length = z.length ∙ ap (λ (m : Space). length m.bytes) b ∙ a.length;
+      view = z.view ∙ ap (λ (m : Space). m.view) b ∙ a.view;
+      touches = omega (arith, a.touches, ap (λ (m : Space). m.touches) b, z.touches);
+      grow = omega (arith, a.grow, ap (λ (m : Space). m.touches) b, z.touches);
+    }
+
+left : (g : given.Over) (c : After-issue-ticket g) → Leaves c.self.inside.memory c.take_out-zeros.new.self (30 + c.load_usable_bytes-range.result.len / 8)
+left g c =
+    let b = left_first g c in
+    let e = c.take_out-zeros.ensures in record {
+      start = e.start ∙ b.start;
+      length = ap length e.bytes ∙ b.length;
+      view = e.view ∙ b.view;
+      touches = omega (arith, b.touches, e.touches);
+      grow = omega (arith, b.grow, e.touches);
+    }
+
+pub returns : goal.returns
+returns g c =
+    let a = c.in_ok-addr.ensures.costs in
+    let e = c.take_out-zeros.ensures in
+    let p = sees g c in
+    let o = sees_left c.self.inside.memory c.take_out-zeros.new.self c.self.inside.table c.allocate_block.new.table c.self.inside.state.state c.allocate.new.self.state
+    c.self.inside.ledger.name c.issue-ticket.new.self.name (30 + c.load_usable_bytes-range.result.len / 8) (left g c) c.issue-ticket.ensures.name.1 c.args.self.now c.self.view_is in record {
+      step = p.step;
+      identity = o.identity;
+      place = o.place;
+      settled = λ settled.
+          let z = c.fill_zero.ensures in
+          settled-left c.fill_zero.new.memory c.take_out-zeros.new.self c.load_usable_bytes-range.result c.take_out-zeros.ensures.start (omega (arith, low_range g c, z.start))
+          c.take_out-zeros.ensures.out
+          (settled-zeroed c.load_usable_bytes-range.new.memory c.fill_zero.new.memory c.load_usable_bytes-range.result z (settled_read g c settled));
+      payload =
+          is_of_heap c.self.inside.memory c.fill_zero.new.memory c.self.inside.table c.self.inside.state.state c.self.inside.ledger.name c.issue-ticket.result.name (30 + c.load_usable_bytes-range.result.len / 8)
+          (left_first g c) c.issue-ticket.ensures.name.0 c.args.self.now c.self.view_is c.take_out-zeros.result.home e.part.0 _ refl;
+      written = c.take_out-zeros.ensures.full c.fill_zero.ensures.here;
+      zeros = e.part.2 ∙ c.fill_zero.ensures.zeros ∙ ap (λ (n : ℕ). replicate n 0) (sym e.len);
+      live = p.seen.live;
+      align = c.align-align.ensures.value;
+      long = long g c;
+      aligned = p.aligned;
+      sized = subst (λ n. c.args.layout.size ≤ n) (sym (long g c)) p.seen.sized;
+      few = subst (λ n. n < c.args.layout.size + 32) (sym (long g c)) p.seen.few;
+      new = p.seen.new;
+      aligns = p.seen.aligns;
+      room = λ count size align sized few short fits. refl;
+      count = p.count;
+      bounds = p.bounds;
+      chunks = p.chunks;
+      same = tt;
+      refused = tt;
+      few_touches = tt;
+      touches = subst (λ (n : ℕ). c.take_out-zeros.new.self.touches ≤ c.args.self.now.memory.touches + 30 + n / 8) (sym e.len) (omega (arith, o.touches));
+      grow = o.grow;
+      copied = omega (arith, a.copied, ap (λ (m : Space). m.copied) c.load_usable_bytes-range.ensures.memory, c.fill_zero.ensures.copied, e.copied, ap (λ (o : HeapView). o.memory.copied) c.self.view_is);
+    }

@@ -1,23 +1,16 @@
-use Rattle.std.proofs.Common.{◌≡◌, ◌≢◌, ℕ, List, None, length, arith, refl, sym, ap, subst, ◌∙◌}
+use Rattle.std.proofs.Common.{◌≡◌, ◌≢◌, ◌+◌, ◌%◌, ◌<◌, ◌≤◌, ℕ, List, None, length, true≢false, arith, refl, sym, ap, subst, ◌∙◌}
 use Rattle.rlsf_model.specs.Allocate.{Allocates}
 use Rattle.rlsf_model.specs.Callers.{align_at, bytes_at}
 use Rattle.rlsf_model.specs.Reallocate.{Keeps}
-use Rattle.rlsf_heap.specs.Heap.{HeapView, IsWritten, PayloadView, Steps}
+use Rattle.rlsf_model.specs.Sized.{IsSizedFor, live_count}
+use Rattle.rlsf_model.specs.State.{State}
+use Rattle.rlsf_heap.specs.Heap.{HeapView, IsWritten, PayloadView, Steps, payload_view}
 use Rattle.rlsf_heap.proofs.Found.{settled_found}
 use Rattle.rlsf_heap.proofs.MovedThin.{move_step, new_is_other, others_stay}
 use Rattle.rlsf_heap.proofs.Reallocated.{Keeps-each}
 use Rattle.rlsf_heap.proofs.ThinPayloads.{some_address}
 use Rattle.rlsf_heap.proofs.heap.Heap.move_thin.Given as given
 use Rattle.rlsf_heap.proofs.heap.Heap.move_thin.Goals as goal
-
-pub returns-in_default-clause-step : goal.returns-in_default-clause-step
-returns-in_default-clause-step g c =
-    subst (λ s. Steps g.row.FLLEN g.row.SLLEN c.allocate.new.self (Allocates g.row.SLLEN s c.args.layout.size c.args.layout.align None))
-    (ap (λ (v : HeapView). v.state) c.find_part-part.ensures.heap) c.in_default.ensures.step
-
-pub returns-in_default-clause-settled : goal.returns-in_default-clause-settled
-returns-in_default-clause-settled g c =
-    c.in_default.ensures.settled (settled_found c.args.self.now c.find_part-part.new.self c.find_part-part.ensures.heap c.requires.settled)
 
 pub as_mut_slice-requires : goal.as_mut_slice-requires
 as_mut_slice-requires g c = c.in-Some.ensures.written (settled_found c.args.self.now c.find_part-part.new.self c.find_part-part.ensures.heap c.requires.settled)
@@ -58,41 +51,99 @@ other : (g : given.Over) (c : goal.After-into_thin g) → c.in-Some.to.start ≢
 other g c = new_is_other c.args.self.now.state c.find_part-part.new.self.state (ap (λ (v : HeapView). v.state) c.find_part-part.ensures.heap) c.args.addr
     c.in-Some.to.start c.args.payload.of.align c.find_part-part.ensures.live c.in-Some.ensures.new
 
-pub returns-clause-step : goal.returns-clause-step
-returns-clause-step g c =
-    move_step g.row.FLLEN g.row.SLLEN c.args.self.now c.find_part-part.new.self c.allocate.new.self c.put_written.new.self c.find_part-part.ensures.heap
-    c.args.layout.size c.args.layout.align c.args.addr c.find_part-part.result.0.start c.in-Some.to.start (from g c) c.in-Some.ensures.step c.put_written.ensures.step
-    c.into_thin.result.of.start (there g c)
+pub returns-in_default : goal.returns-in_default
+returns-in_default g c =
+    let e = c.in_default.ensures in
+    let heap = c.find_part-part.ensures.heap in
+    let state = ap (λ (v : HeapView). v.state) heap in
+    let t = c.find_part-part.ensures.ticket in
+    let of_is : c.from_parts.result.of ≡ c.args.payload.of =
+    c.from_parts.ensures.1 ∙ (λ i. payload_view c.find_part-part.result.0 (sym t.2 i) c.find_part-part.result.1.name) ∙ c.find_part-part.ensures.parts in
+    record {
+      step = subst (λ s. Steps g.row.FLLEN g.row.SLLEN c.allocate.new.self (Allocates g.row.SLLEN s c.args.layout.size c.args.layout.align None)) (ap (λ (v : HeapView). v.state) c.find_part-part.ensures.heap) c.in_default.ensures.step;
+      identity = e.identity ∙ ap (λ (v : HeapView). v.identity) heap;
+      place = (e.place.0 ∙ ap (λ (v : HeapView). v.memory.start) heap, e.place.1 ∙ ap (λ (v : HeapView). length v.memory.bytes) heap);
+      at = c.from_parts.ensures.0 ∙ sym c.requires.some.0 ∙ ap (λ (p : PayloadView). p.start) (sym of_is);
+      some = tt;
+      payload = ap (λ (p : PayloadView). p.identity) of_is ∙ c.requires.heap;
+      align = ap (λ (p : PayloadView). p.align) of_is;
+      back = of_is;
+      live = tt;
+      gone = tt;
+      long = tt;
+      aligned = tt;
+      sized = tt;
+      few = tt;
+      kept = tt;
+      each = tt;
+      written = tt;
+      settled = c.in_default.ensures.settled (settled_found c.args.self.now c.find_part-part.new.self c.find_part-part.ensures.heap c.requires.settled);
+      new = tt;
+      aligns = tt;
+      room = λ count most wide sized few short fits.
+          absurd (true≢false (sym (e.room count most wide (subst (IsSizedFor g.row.SLLEN count most wide) (sym state) sized) (subst (λ s. live_count s ≤ count) (sym state) few)
+          short fits)));
+      count = ap live_count (e.same ∙ state);
+      bounds = λ count most wide sized short fits. e.bounds count most wide (subst (IsSizedFor g.row.SLLEN count most wide) (sym state) sized) short fits;
+      chunks = e.chunks ∙ ap (λ (s : State). s.chunks) state;
+      same = e.same ∙ state;
+      refused = e.refused ∙ ap (λ (v : HeapView). v.memory.bytes) heap;
+      touches = omega (arith, e.touches, ap (λ (v : HeapView). v.memory.touches) heap);
+      grow = omega (arith, e.grow, ap (λ (v : HeapView). v.memory.touches) heap);
+      copied = e.copied ∙ ap (λ (v : HeapView). v.memory.copied) heap;
+    }
 
-pub returns-clause-some : goal.returns-clause-some
-returns-clause-some g c = λ e.
-    some_address g.row.FLLEN g.row.SLLEN c.allocate.new.self c.find_part-part.new.self.state c.args.layout.size c.args.layout.align c.in-Some.to.start c.in-Some.ensures.step
-    (sym (there g c) ∙ e)
-
-pub returns-clause-live : goal.returns-clause-live
-returns-clause-live g c =
-    ap (align_at c.put_written.new.self.state) (there g c) ∙ c.put_written.ensures.aligns c.in-Some.to.start (λ e. other g c (e ∙ from g c)) ∙ c.in-Some.ensures.live
-
-pub returns-clause-long : goal.returns-clause-long
-returns-clause-long g c =
-    ap length (bytes g c) ∙ c.copy_front.ensures.1 ∙ ap length c.as_mut_slice.ensures.value ∙ c.in-Some.ensures.long
-    ∙ ap length (sym (others_stay g.row.FLLEN g.row.SLLEN c.args.self.now c.find_part-part.new.self c.allocate.new.self c.put_written.new.self c.find_part-part.ensures.heap
-    c.args.layout.size c.args.layout.align c.args.addr c.find_part-part.result.0.start c.in-Some.to.start (from g c) c.in-Some.ensures.step c.put_written.ensures.step
-    c.in-Some.to.start (other g c)))
-    ∙ ap (λ a. length (bytes_at c.put_written.new.self.state a)) (sym (there g c))
-
-pub returns-clause-each : goal.returns-clause-each
-returns-clause-each g c =
+-- the bytes that both payloads have are copied
+kept : (g : given.Over) (c : goal.After-into_thin g) → Keeps c.args.payload.of.bytes c.into_thin.result.of.bytes
+kept g c =
     let old = c.as_slice.ensures ∙ ap (λ (p : PayloadView). p.bytes) c.find_part-part.ensures.parts in
-    Keeps-each c.args.payload.of.bytes c.into_thin.result.of.bytes
-    (subst (λ (l : List ℕ × List ℕ). Keeps l.0 l.1) (λ i. (old i, sym (bytes g c) i)) c.copy_front.ensures.0)
+    subst (λ (l : List ℕ × List ℕ). Keeps l.0 l.1) (λ i. (old i, sym (bytes g c) i)) c.copy_front.ensures.0
 
-pub returns-clause-settled : goal.returns-clause-settled
-returns-clause-settled g c =
-    c.put_written.ensures.settled
-    (c.in-Some.ensures.settled (settled_found c.args.self.now c.find_part-part.new.self c.find_part-part.ensures.heap c.requires.settled))
+-- the new payload is as long as the one that was allocated
+as_long : (g : given.Over) (c : goal.After-into_thin g) → length c.into_thin.result.of.bytes ≡ length c.in-Some.to.bytes
+as_long g c = ap length (bytes g c) ∙ c.copy_front.ensures.1 ∙ ap length c.as_mut_slice.ensures.value
 
-pub returns-clause-aligns : goal.returns-clause-aligns
-returns-clause-aligns g c = λ a apart new.
-    c.put_written.ensures.aligns a (λ e. apart (e ∙ from g c)) ∙ c.in-Some.ensures.aligns a (λ e. new (e ∙ sym (there g c)))
-    ∙ ap (λ (v : HeapView). align_at v.state a) c.find_part-part.ensures.heap
+pub returns : goal.returns
+returns g c =
+    let a = c.in-Some.ensures in
+    let p = c.put_written.ensures in
+    let heap = c.find_part-part.ensures.heap in
+    let state = ap (λ (v : HeapView). v.state) heap in
+    let thin = c.into_thin.ensures.1 in
+    let w = c.copy_front.new.to in
+    let is = there g c in
+    record {
+      step = move_step g.row.FLLEN g.row.SLLEN c.args.self.now c.find_part-part.new.self c.allocate.new.self c.put_written.new.self c.find_part-part.ensures.heap c.args.layout.size c.args.layout.align c.args.addr c.find_part-part.result.0.start c.in-Some.to.start (from g c) c.in-Some.ensures.step c.put_written.ensures.step c.into_thin.result.of.start (there g c);
+      identity = p.identity ∙ a.identity ∙ ap (λ (v : HeapView). v.identity) heap;
+      place = (
+        p.place.0 ∙ a.place.0 ∙ ap (λ (v : HeapView). v.memory.start) heap,
+        p.place.1 ∙ a.place.1 ∙ ap (λ (v : HeapView). length v.memory.bytes) heap,
+      );
+      at = c.into_thin.ensures.0 ∙ ap (λ (o : PayloadView). o.start) (sym thin);
+      some = λ e. some_address g.row.FLLEN g.row.SLLEN c.allocate.new.self c.find_part-part.new.self.state c.args.layout.size c.args.layout.align c.in-Some.to.start c.in-Some.ensures.step (sym (there g c) ∙ e);
+      payload = ap (λ (o : PayloadView). o.identity) thin ∙ c.as_mut_slice.ensures.identity w ∙ a.payload ∙ ap (λ (v : HeapView). v.identity) heap;
+      align = ap (λ (o : PayloadView). o.align) thin ∙ c.as_mut_slice.ensures.align w ∙ a.align;
+      back = tt;
+      live = ap (align_at c.put_written.new.self.state) (there g c) ∙ c.put_written.ensures.aligns c.in-Some.to.start (λ e. other g c (e ∙ from g c)) ∙ c.in-Some.ensures.live;
+      gone = subst (λ n. align_at c.put_written.new.self.state n ≡ None) (from g c) p.gone;
+      long = ap length (bytes g c) ∙ c.copy_front.ensures.1 ∙ ap length c.as_mut_slice.ensures.value ∙ c.in-Some.ensures.long ∙ ap length (sym (others_stay g.row.FLLEN g.row.SLLEN c.args.self.now c.find_part-part.new.self c.allocate.new.self c.put_written.new.self c.find_part-part.ensures.heap c.args.layout.size c.args.layout.align c.args.addr c.find_part-part.result.0.start c.in-Some.to.start (from g c) c.in-Some.ensures.step c.put_written.ensures.step c.in-Some.to.start (other g c))) ∙ ap (λ a. length (bytes_at c.put_written.new.self.state a)) (sym (there g c));
+      aligned = subst (λ n. n % c.args.layout.align ≡ 0) (sym is) a.aligned;
+      sized = subst (λ n. c.args.layout.size ≤ n) (sym (as_long g c)) a.sized;
+      few = subst (λ n. n < c.args.layout.size + 32) (sym (as_long g c)) a.few;
+      kept = kept g c;
+      each = Keeps-each c.args.payload.of.bytes c.into_thin.result.of.bytes (kept g c);
+      written = subst (λ (o : PayloadView). IsWritten o) (sym thin) (c.as_mut_slice.ensures.written w);
+      settled = c.put_written.ensures.settled (c.in-Some.ensures.settled (settled_found c.args.self.now c.find_part-part.new.self c.find_part-part.ensures.heap c.requires.settled));
+      new = (λ e. other g c (sym is ∙ e), (λ i. align_at (sym state i) (is i)) ∙ a.new);
+      aligns = λ a apart new. c.put_written.ensures.aligns a (λ e. apart (e ∙ from g c)) ∙ c.in-Some.ensures.aligns a (λ e. new (e ∙ sym (there g c))) ∙ ap (λ (v : HeapView). align_at v.state a) c.find_part-part.ensures.heap;
+      room = λ count most wide sized few short fits. refl;
+      count = omega (arith, p.count, a.count, ap (λ (v : HeapView). live_count v.state) heap);
+      bounds = λ count most wide sized short fits.
+          p.bounds count most wide (a.bounds count most wide (subst (IsSizedFor g.row.SLLEN count most wide) (sym state) sized) short fits);
+      chunks = p.chunks ∙ a.chunks ∙ ap (λ (s : State). s.chunks) state;
+      same = tt;
+      refused = tt;
+      touches = omega (arith, p.touches, a.touches, ap (λ (v : HeapView). v.memory.touches) heap);
+      grow = omega (arith, p.grow, a.grow, ap (λ (v : HeapView). v.memory.touches) heap);
+      copied = p.copied ∙ a.copied ∙ ap (λ (v : HeapView). v.memory.copied) heap;
+    }

@@ -38,10 +38,11 @@ use Rattle.rlsf_heap.specs.Settled.{IsSettled}
 use Rattle.rlsf_heap.proofs.Arrivals.{IsHeap-arrived, Steps-arrived, bare-kept}
 use Rattle.rlsf_heap.proofs.Reallocated.{Keeps-each, SeesReallocated, aligns_stay, chunks_reallocated, count_reallocated, reallocated_seen}
 use Rattle.rlsf_heap.proofs.Reallocated.{sized_reallocated}
-use Rattle.rlsf_heap.proofs.Reallocating.{IsBackIn, bare_state, bytes_are, counted_moved, counted_stayed, here as here_of, here_still, issued_moved, issued_stayed, kept_moved}
+use Rattle.rlsf_heap.proofs.Reallocating.{IsBackIn, bare_state, bytes_are, counted_moved, counted_stayed, here as here_of, here_still, issued_again, issued_anew, kept_moved}
 use Rattle.rlsf_heap.proofs.Reallocating.{unmoved, unmoved_moves, unmoved_refused, usable_is}
 use Rattle.rlsf_heap.proofs.Settled.{settled-back, settled-here, settled-left, settled-stays}
-use Rattle.rlsf_heap.proofs.Viewed.{aligns_view, alike_view, count_view, sized_view, stayed_view, fills_view, live_view, well}
+use Rattle.rlsf_heap.proofs.Viewed.{SeesChanged, seen_changed}
+use Rattle.rlsf_heap.proofs.Viewed.{stayed_changed, aligns_view, alike_view, count_view, sized_view, stayed_view, fills_view, live_view, well}
 use Rattle.rlsf_heap.proofs.heap.Heap.reallocate_no_move.Goals.{After-issue-ticket, After-issue-ticket-2}
 use Rattle.rlsf_heap.proofs.heap.Heap.reallocate_no_move.Given as given
 use Rattle.rlsf_heap.proofs.heap.Heap.reallocate_no_move.Goals as goal
@@ -204,14 +205,8 @@ kept_still g c = sym (bare_state (came_back g c) c.self.inside.state.state (bare
 
 -- the entries after the old ticket is redeemed and one like it is issued
 issued_still : (g : given.Over) (c : After-issue-ticket g) → AreIssued (state (came_back g c)) c.issue-ticket.new.self.entries
-issued_still g c =
-    let ticket = c.into_parts-part.ensures.ticket in
-    let name = extent c.start-addr.result c.len-len.result c.align-align.result in
-    let same : set c.self.inside.ledger.entries c.into_parts-part.result.1.key
-    (entry_of (extent c.into_parts-part.result.0.start (length c.into_parts-part.result.0.bytes) c.args.payload.align) false) ≡ c.redeem.new.self.entries =
-    (λ i. set c.self.inside.ledger.entries c.into_parts-part.result.1.key (entry_of (extent (ticket.0 i) (ticket.1 i) (ticket.2 i)) false)) ∙ sym c.redeem.ensures.entries in
-    subst (AreIssued (state (came_back g c))) (ap (λ (es : List Entry). es ++ entry_of name true ∷ []) same ∙ sym c.issue-ticket.ensures.entries)
-    (issued_stayed (came_back g c) name c.start-addr.ensures c.len-len.ensures c.align-align.ensures)
+issued_still g c = issued_again (came_back g c) c.into_parts-part.ensures.ticket c.redeem.ensures.entries (extent c.start-addr.result c.len-len.result c.align-align.result)
+    c.issue-ticket.ensures.entries c.start-addr.ensures c.len-len.ensures c.align-align.ensures
 
 pub invariant_of-self : goal.invariant_of-self
 invariant_of-self g c = IsHeap-arrived (still g c) c.self.inside.state.state (kept_still g c) c.self.invariant.valid c.issue-ticket.new.self.entries (issued_still g c)
@@ -359,13 +354,8 @@ invariant_of-result-2 g c =
 issued : (g : given.Over) (c : After-issue-ticket-2 g) → AreIssued (after g c) c.issue-ticket-2.new.self.entries
 issued g c =
     let r = c.load_usable_bytes-range.result in
-    let name = extent r.start r.len c.align-align.result in
-    let ticket = c.into_parts-part.ensures.ticket in
-    let same : set c.self.inside.ledger.entries c.into_parts-part.result.1.key
-    (entry_of (extent c.into_parts-part.result.0.start (length c.into_parts-part.result.0.bytes) c.args.payload.align) false) ≡ c.redeem.new.self.entries =
-    (λ i. set c.self.inside.ledger.entries c.into_parts-part.result.1.key (entry_of (extent (ticket.0 i) (ticket.1 i) (ticket.2 i)) false)) ∙ sym c.redeem.ensures.entries in
-    subst (AreIssued (after g c)) (ap (λ (es : List Entry). es ++ entry_of name true ∷ []) same ∙ sym c.issue-ticket-2.ensures.entries)
-    (issued_moved (back_in g c) (step g c) name (ap (λ (q : Range). q.start) (range g c) ∙ (fresh_in g c).1) (ap (λ (q : Range). q.len) (range g c)) c.align-align.ensures)
+    issued_anew (back_in g c) c.into_parts-part.ensures.ticket c.redeem.ensures.entries (extent r.start r.len c.align-align.result) c.issue-ticket-2.ensures.entries (step g c)
+    (ap (λ (q : Range). q.start) (range g c) ∙ (fresh_in g c).1) (ap (λ (q : Range). q.len) (range g c)) c.align-align.ensures
 
 pub invariant_of-self-2 : goal.invariant_of-self-2
 invariant_of-self-2 g c = IsHeap-arrived (standing g c) c.reallocate.new.self.state (kept g c) c.self.invariant.valid c.issue-ticket-2.new.self.entries (issued g c)
@@ -373,36 +363,21 @@ invariant_of-self-2 g c = IsHeap-arrived (standing g c) c.reallocate.new.self.st
 
 -- ---- the payload as contracts see it
 
+sees : (g : given.Over) (c : After-issue-ticket-2 g) → SeesChanged g.row.SLLEN c.args.self.now c.args.payload (now g c) c.args.size c.take_out-part-2.result.start
+sees g c =
+    seen_changed c.self.inside.state.state (back_in g c) c.args.self.now c.self.view_is c.args.payload c.into_parts-part.ensures.parts (standing g c) c.reallocate.new.self.state (kept g c) c.args.size (block (back_in g c)).payload c.take_out-part-2.result.start (at g c) (step g c)
+
 did : (g : given.Over) (c : After-issue-ticket-2 g) → ReallocatesWithoutMove (owned_by c.args.self.now.state c.args.payload) c.args.payload.start c.args.size
     (Some c.take_out-part-2.result.start) (now g c)
 did g c =
-    let view = stayed_view c.self.inside.state.state (back_in g c) c.args.self.now c.self.view_is c.args.payload c.into_parts-part.ensures.parts (stayed g c) in
-    subst (λ (o : ℕ × State). ReallocatesWithoutMove (owned_by c.args.self.now.state c.args.payload) c.args.payload.start c.args.size (Some o.0) o.1)
-    (λ i. (at g c i, sym (arrived (standing g c) c.reallocate.new.self.state (kept g c)) i)) view
+    stayed_changed c.self.inside.state.state (back_in g c) c.args.self.now c.self.view_is c.args.payload c.into_parts-part.ensures.parts (standing g c) c.reallocate.new.self.state (kept g c) c.args.size (block (back_in g c)).payload c.take_out-part-2.result.start (at g c) (stayed g c)
 
 there : (g : given.Over) (c : After-issue-ticket-2 g) → c.take_out-part-2.result.start ≡ c.args.payload.start
 there g c = (unmoved_is_reallocated g.row.SLLEN (owned_by c.args.self.now.state c.args.payload) (now g c) c.args.payload.start c.args.size (Some c.take_out-part-2.result.start)
     (did g c)).0.0
 
-moves : (g : given.Over) (c : After-issue-ticket-2 g) → Reallocates g.row.SLLEN (owned_by c.args.self.now.state c.args.payload) c.args.payload.start c.args.size
-    (Some c.take_out-part-2.result.start) (now g c)
-moves g c = (unmoved_is_reallocated g.row.SLLEN (owned_by c.args.self.now.state c.args.payload) (now g c) c.args.payload.start c.args.size (Some c.take_out-part-2.result.start)
-    (did g c)).0.1
-
-is_well : (g : given.Over) (c : After-issue-ticket-2 g) → IsWellFormed g.row.FLLEN g.row.SLLEN (range_of c.args.self.now.memory) c.args.self.now.state
-is_well g c = well c.self.inside.state.state (back_in g c) c.args.self.now c.self.view_is c.args.payload c.into_parts-part.ensures.parts
-
-is_filled : (g : given.Over) (c : After-issue-ticket-2 g) → Fills c.args.self.now.state c.args.payload.start c.args.payload.bytes
-    (filled c.args.self.now.state c.args.payload.start c.args.payload.bytes)
-is_filled g c = fills_view c.self.inside.state.state (back_in g c) c.args.self.now c.self.view_is c.args.payload c.into_parts-part.ensures.parts
-
 is_live : (g : given.Over) (c : After-issue-ticket-2 g) → align_at c.args.self.now.state c.args.payload.start ≡ Some c.args.payload.align
 is_live g c = live_view c.self.inside.state.state (back_in g c) c.args.self.now c.self.view_is c.args.payload c.into_parts-part.ensures.parts
-
-seen : (g : given.Over) (c : After-issue-ticket-2 g) → SeesReallocated c.args.self.now.state (now g c) c.args.payload.start c.args.payload.bytes c.args.size c.args.payload.align
-    c.take_out-part-2.result.start
-seen g c = reallocated_seen (is_well g c) c.args.payload.start c.args.payload.bytes (is_filled g c) (now g c) c.args.size c.args.payload.align (is_live g c)
-    c.take_out-part-2.result.start (moves g c)
 
 pub returns-clause-step : goal.returns-clause-step
 returns-clause-step g c =
@@ -412,48 +387,40 @@ returns-clause-step g c =
     (λ fits. did g c)
 
 pub returns-clause-live : goal.returns-clause-live
-returns-clause-live g c = (seen g c).live
+returns-clause-live g c = (sees g c).seen.live
 
 pub returns-clause-long : goal.returns-clause-long
 returns-clause-long g c = ap length (bytes g c)
 
 pub returns-clause-aligned : goal.returns-clause-aligned
-returns-clause-aligned g c =
-    let (u, holds, wide) = align_at-live (now g c) c.take_out-part-2.result.start c.args.payload.align (seen g c).live in
-    live_addresses_are_aligned g.row.FLLEN g.row.SLLEN (range_of c.take_out-part-2.new.self) (now g c) c.take_out-part-2.result.start c.args.payload.align
-    (subst (IsWellFormed g.row.FLLEN g.row.SLLEN (range_of c.take_out-part-2.new.self)) (sym (arrived (standing g c) c.reallocate.new.self.state (kept g c)))
-    (standing g c).well_formed) (u, holds, wide)
+returns-clause-aligned g c = (sees g c).aligned
 
 pub returns-clause-each : goal.returns-clause-each
-returns-clause-each g c = Keeps-each c.args.payload.bytes c.take_out-part-2.result.bytes (subst (Keeps c.args.payload.bytes) (sym (bytes g c)) (seen g c).kept)
+returns-clause-each g c = Keeps-each c.args.payload.bytes c.take_out-part-2.result.bytes (subst (Keeps c.args.payload.bytes) (sym (bytes g c)) (sees g c).seen.kept)
 
 pub returns-clause-sized : goal.returns-clause-sized
-returns-clause-sized g c = subst (λ (l : List ℕ). c.args.size ≤ length l) (sym (bytes g c)) (seen g c).sized
+returns-clause-sized g c = subst (λ (l : List ℕ). c.args.size ≤ length l) (sym (bytes g c)) (sees g c).seen.sized
 
 pub returns-clause-few : goal.returns-clause-few
-returns-clause-few g c = subst (λ (l : List ℕ). length l < c.args.size + 32) (sym (bytes g c)) (seen g c).few
+returns-clause-few g c = subst (λ (l : List ℕ). length l < c.args.size + 32) (sym (bytes g c)) (sees g c).seen.few
 
 pub returns-clause-kept : goal.returns-clause-kept
-returns-clause-kept g c = subst (Keeps c.args.payload.bytes) (sym (bytes g c)) (seen g c).kept
+returns-clause-kept g c = subst (Keeps c.args.payload.bytes) (sym (bytes g c)) (sees g c).seen.kept
 
 pub returns-clause-there : goal.returns-clause-there
 returns-clause-there g c = there g c
 
 pub returns-clause-aligns : goal.returns-clause-aligns
-returns-clause-aligns g c = aligns_stay (seen g c) (there g c) (is_live g c)
+returns-clause-aligns g c = aligns_stay (sees g c).seen (there g c) (is_live g c)
 
 pub returns-clause-count : goal.returns-clause-count
-returns-clause-count g c = count_reallocated (is_well g c) c.args.payload.start c.args.payload.bytes (is_filled g c) (now g c) c.args.size c.args.payload.align (is_live g c)
-    (Some c.take_out-part-2.result.start) (moves g c)
+returns-clause-count g c = (sees g c).count
 
 pub returns-clause-bounds : goal.returns-clause-bounds
-returns-clause-bounds g c = λ count most align sized short fits.
-    sized_reallocated (is_well g c) c.args.payload.start c.args.payload.bytes (is_filled g c) (now g c) c.args.size c.args.payload.align (is_live g c) count most align sized short
-    fits (Some c.take_out-part-2.result.start) (moves g c)
+returns-clause-bounds g c = (sees g c).bounds
 
 pub returns-clause-chunks : goal.returns-clause-chunks
-returns-clause-chunks g c = chunks_reallocated (is_well g c) c.args.payload.start c.args.payload.bytes (is_filled g c) (now g c) c.args.size c.args.payload.align (is_live g c)
-    (Some c.take_out-part-2.result.start) (moves g c)
+returns-clause-chunks g c = (sees g c).chunks
 
 -- ---- which of its bytes are here
 
