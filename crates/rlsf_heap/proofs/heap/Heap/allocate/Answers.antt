@@ -148,8 +148,10 @@ at : (g : given.Over) (c : After-issue-ticket g) → c.in_ok-addr.addr ≡ c.tak
 at g c = sym (address g c) ∙ sym c.take_out-part.ensures.part.1
 
 sees : (g : given.Over) (c : After-issue-ticket g) → SeesPlaced g.row.FLLEN g.row.SLLEN c.args.self.now
-    (heap_view c.take_out-part.new.self c.allocate_block.new.table c.allocate.new.self.state c.issue-ticket.new.self.name) c.args.layout.size c.args.layout.align c.take_out-part.result.start
-sees g c = seen_placed c.self.invariant (reading g (read g c)) (standing g c) c.allocate.new.self.state (kept g c) c.take_out-part.result.start (at g c) c.args.self.now c.self.view_is c.issue-ticket.new.self.name
+    (heap_view c.take_out-part.new.self c.allocate_block.new.table c.allocate.new.self.state c.issue-ticket.new.self.name) c.args.layout.size c.args.layout.align
+    c.take_out-part.result.start
+sees g c = seen_placed c.self.invariant (reading g (read g c)) (standing g c) c.allocate.new.self.state (kept g c) c.take_out-part.result.start (at g c) c.args.self.now
+    c.self.view_is c.issue-ticket.new.self.name
 
 -- the part is as long as the payload of the reference model
 long : (g : given.Over) (c : After-issue-ticket g) → length c.take_out-part.result.bytes ≡ length (bytes_at (now g c) c.take_out-part.result.start)

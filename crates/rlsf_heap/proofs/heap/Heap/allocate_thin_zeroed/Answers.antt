@@ -15,7 +15,8 @@ pub returns-in-Some : goal.returns-in-Some
 returns-in-Some g c =
     let e = c.in-Some.ensures in
     let is = c.into_thin.ensures.1 in
-    let some = is_some g.row.FLLEN g.row.SLLEN c.allocate_zeroed.new.self c.args.self.now.state c.args.layout.size c.args.layout.align c.in-Some.payload c.into_thin.result.of is e.step in
+    let some = is_some g.row.FLLEN g.row.SLLEN c.allocate_zeroed.new.self c.args.self.now.state c.args.layout.size c.args.layout.align c.in-Some.payload c.into_thin.result.of
+    is e.step in
     let sees = subst (SeesAllocated c.args.self.now.identity c.args.self.now.state c.allocate_zeroed.new.self.state c.args.layout.size c.args.layout.align) (sym is) (record {
       identified = e.payload;
       live = e.live;
@@ -27,7 +28,8 @@ returns-in-Some g c =
       new = e.new;
       aligns = e.aligns;
     }) in record {
-      step = thin_step g.row.FLLEN g.row.SLLEN c.allocate_zeroed.new.self c.args.self.now.state c.args.layout.size c.args.layout.align c.in-Some.payload c.into_thin.result.of is e.step;
+      step = thin_step g.row.FLLEN g.row.SLLEN c.allocate_zeroed.new.self c.args.self.now.state c.args.layout.size c.args.layout.align c.in-Some.payload c.into_thin.result.of
+          is e.step;
       identity = e.identity;
       place = e.place;
       settled = e.settled;
@@ -60,7 +62,8 @@ returns-in-None g c =
     let e = c.in-None.ensures in
     let none = c.none.ensures.1 in record {
       step =
-          subst (λ n. Steps g.row.FLLEN g.row.SLLEN c.allocate_zeroed.new.self (Allocates g.row.SLLEN c.args.self.now.state c.args.layout.size c.args.layout.align (reply_of n))) (sym none)
+          subst (λ n. Steps g.row.FLLEN g.row.SLLEN c.allocate_zeroed.new.self (Allocates g.row.SLLEN c.args.self.now.state c.args.layout.size c.args.layout.align (reply_of
+          n))) (sym none)
           e.step;
       identity = e.identity;
       place = e.place;

@@ -185,8 +185,10 @@ at : (g : given.Over) (c : After-issue-ticket g) → c.in_ok-addr.addr ≡ c.tak
 at g c = sym (address g c) ∙ sym c.take_out-zeros.ensures.part.1
 
 sees : (g : given.Over) (c : After-issue-ticket g) → SeesPlaced g.row.FLLEN g.row.SLLEN c.args.self.now
-    (heap_view c.take_out-zeros.new.self c.allocate_block.new.table c.allocate.new.self.state c.issue-ticket.new.self.name) c.args.layout.size c.args.layout.align c.take_out-zeros.result.start
-sees g c = seen_placed c.self.invariant (filling g c) (standing g c) c.allocate.new.self.state (kept g c) c.take_out-zeros.result.start (at g c) c.args.self.now c.self.view_is c.issue-ticket.new.self.name
+    (heap_view c.take_out-zeros.new.self c.allocate_block.new.table c.allocate.new.self.state c.issue-ticket.new.self.name) c.args.layout.size c.args.layout.align
+    c.take_out-zeros.result.start
+sees g c = seen_placed c.self.invariant (filling g c) (standing g c) c.allocate.new.self.state (kept g c) c.take_out-zeros.result.start (at g c) c.args.self.now c.self.view_is
+    c.issue-ticket.new.self.name
 
 -- the part is as long as the payload of the reference model
 long : (g : given.Over) (c : After-issue-ticket g) → length c.take_out-zeros.result.bytes ≡ length (bytes_at (now g c) c.take_out-zeros.result.start)
@@ -245,7 +247,8 @@ returns g c =
     let e = c.take_out-zeros.ensures in
     let p = sees g c in
     let o = sees_left c.self.inside.memory c.take_out-zeros.new.self c.self.inside.table c.allocate_block.new.table c.self.inside.state.state c.allocate.new.self.state
-    c.self.inside.ledger.name c.issue-ticket.new.self.name (30 + c.load_usable_bytes-range.result.len / 8) (left g c) c.issue-ticket.ensures.name.1 c.args.self.now c.self.view_is in record {
+    c.self.inside.ledger.name c.issue-ticket.new.self.name (30 + c.load_usable_bytes-range.result.len / 8) (left g c) c.issue-ticket.ensures.name.1 c.args.self.now
+    c.self.view_is in record {
       step = p.step;
       identity = o.identity;
       place = o.place;
@@ -255,7 +258,8 @@ returns g c =
           c.take_out-zeros.ensures.out
           (settled-zeroed c.load_usable_bytes-range.new.memory c.fill_zero.new.memory c.load_usable_bytes-range.result z (settled_read g c settled));
       payload =
-          is_of_heap c.self.inside.memory c.fill_zero.new.memory c.self.inside.table c.self.inside.state.state c.self.inside.ledger.name c.issue-ticket.result.name (30 + c.load_usable_bytes-range.result.len / 8)
+          is_of_heap c.self.inside.memory c.fill_zero.new.memory c.self.inside.table c.self.inside.state.state c.self.inside.ledger.name c.issue-ticket.result.name (30 +
+          c.load_usable_bytes-range.result.len / 8)
           (left_first g c) c.issue-ticket.ensures.name.0 c.args.self.now c.self.view_is c.take_out-zeros.result.home e.part.0 _ refl;
       written = c.take_out-zeros.ensures.full c.fill_zero.ensures.here;
       zeros = e.part.2 ∙ c.fill_zero.ensures.zeros ∙ ap (λ (n : ℕ). replicate n 0) (sym e.len);
@@ -276,5 +280,13 @@ returns g c =
       few_touches = tt;
       touches = subst (λ (n : ℕ). c.take_out-zeros.new.self.touches ≤ c.args.self.now.memory.touches + 30 + n / 8) (sym e.len) (omega (arith, o.touches));
       grow = o.grow;
-      copied = omega (arith, a.copied, ap (λ (m : Space). m.copied) c.load_usable_bytes-range.ensures.memory, c.fill_zero.ensures.copied, e.copied, ap (λ (o : HeapView). o.memory.copied) c.self.view_is);
+      copied = omega (
+        arith,
+        a.copied,
+        ap (λ (m : Space). m.copied) c.load_usable_bytes-range.ensures.memory,
+        c.fill_zero.ensures.copied,
+        e.copied,
+        ap (λ (o : HeapView).
+            o.memory.copied) c.self.view_is,
+      );
     }

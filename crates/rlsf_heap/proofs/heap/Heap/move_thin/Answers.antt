@@ -60,7 +60,8 @@ returns-in_default g c =
     let of_is : c.from_parts.result.of ≡ c.args.payload.of =
     c.from_parts.ensures.1 ∙ (λ i. payload_view c.find_part-part.result.0 (sym t.2 i) c.find_part-part.result.1.name) ∙ c.find_part-part.ensures.parts in
     record {
-      step = subst (λ s. Steps g.row.FLLEN g.row.SLLEN c.allocate.new.self (Allocates g.row.SLLEN s c.args.layout.size c.args.layout.align None)) (ap (λ (v : HeapView). v.state) c.find_part-part.ensures.heap) c.in_default.ensures.step;
+      step = subst (λ s. Steps g.row.FLLEN g.row.SLLEN c.allocate.new.self (Allocates g.row.SLLEN s c.args.layout.size c.args.layout.align None)) (ap (λ (v : HeapView).
+          v.state) c.find_part-part.ensures.heap) c.in_default.ensures.step;
       identity = e.identity ∙ ap (λ (v : HeapView). v.identity) heap;
       place = (e.place.0 ∙ ap (λ (v : HeapView). v.memory.start) heap, e.place.1 ∙ ap (λ (v : HeapView). length v.memory.bytes) heap);
       at = c.from_parts.ensures.0 ∙ sym c.requires.some.0 ∙ ap (λ (p : PayloadView). p.start) (sym of_is);
@@ -113,29 +114,37 @@ returns g c =
     let w = c.copy_front.new.to in
     let is = there g c in
     record {
-      step = move_step g.row.FLLEN g.row.SLLEN c.args.self.now c.find_part-part.new.self c.allocate.new.self c.put_written.new.self c.find_part-part.ensures.heap c.args.layout.size c.args.layout.align c.args.addr c.find_part-part.result.0.start c.in-Some.to.start (from g c) c.in-Some.ensures.step c.put_written.ensures.step c.into_thin.result.of.start (there g c);
+      step = move_step g.row.FLLEN g.row.SLLEN c.args.self.now c.find_part-part.new.self c.allocate.new.self c.put_written.new.self c.find_part-part.ensures.heap
+          c.args.layout.size c.args.layout.align c.args.addr c.find_part-part.result.0.start c.in-Some.to.start (from g c) c.in-Some.ensures.step c.put_written.ensures.step
+          c.into_thin.result.of.start (there g c);
       identity = p.identity ∙ a.identity ∙ ap (λ (v : HeapView). v.identity) heap;
       place = (
         p.place.0 ∙ a.place.0 ∙ ap (λ (v : HeapView). v.memory.start) heap,
         p.place.1 ∙ a.place.1 ∙ ap (λ (v : HeapView). length v.memory.bytes) heap,
       );
       at = c.into_thin.ensures.0 ∙ ap (λ (o : PayloadView). o.start) (sym thin);
-      some = λ e. some_address g.row.FLLEN g.row.SLLEN c.allocate.new.self c.find_part-part.new.self.state c.args.layout.size c.args.layout.align c.in-Some.to.start c.in-Some.ensures.step (sym (there g c) ∙ e);
+      some = λ e. some_address g.row.FLLEN g.row.SLLEN c.allocate.new.self c.find_part-part.new.self.state c.args.layout.size c.args.layout.align c.in-Some.to.start
+          c.in-Some.ensures.step (sym (there g c) ∙ e);
       payload = ap (λ (o : PayloadView). o.identity) thin ∙ c.as_mut_slice.ensures.identity w ∙ a.payload ∙ ap (λ (v : HeapView). v.identity) heap;
       align = ap (λ (o : PayloadView). o.align) thin ∙ c.as_mut_slice.ensures.align w ∙ a.align;
       back = tt;
       live = ap (align_at c.put_written.new.self.state) (there g c) ∙ c.put_written.ensures.aligns c.in-Some.to.start (λ e. other g c (e ∙ from g c)) ∙ c.in-Some.ensures.live;
       gone = subst (λ n. align_at c.put_written.new.self.state n ≡ None) (from g c) p.gone;
-      long = ap length (bytes g c) ∙ c.copy_front.ensures.1 ∙ ap length c.as_mut_slice.ensures.value ∙ c.in-Some.ensures.long ∙ ap length (sym (others_stay g.row.FLLEN g.row.SLLEN c.args.self.now c.find_part-part.new.self c.allocate.new.self c.put_written.new.self c.find_part-part.ensures.heap c.args.layout.size c.args.layout.align c.args.addr c.find_part-part.result.0.start c.in-Some.to.start (from g c) c.in-Some.ensures.step c.put_written.ensures.step c.in-Some.to.start (other g c))) ∙ ap (λ a. length (bytes_at c.put_written.new.self.state a)) (sym (there g c));
+      long = ap length (bytes g c) ∙ c.copy_front.ensures.1 ∙ ap length c.as_mut_slice.ensures.value ∙ c.in-Some.ensures.long ∙ ap length (sym (others_stay g.row.FLLEN
+          g.row.SLLEN c.args.self.now c.find_part-part.new.self c.allocate.new.self c.put_written.new.self c.find_part-part.ensures.heap c.args.layout.size c.args.layout.align
+          c.args.addr c.find_part-part.result.0.start c.in-Some.to.start (from g c) c.in-Some.ensures.step c.put_written.ensures.step c.in-Some.to.start (other g c))) ∙ ap
+          (λ a. length (bytes_at c.put_written.new.self.state a)) (sym (there g c));
       aligned = subst (λ n. n % c.args.layout.align ≡ 0) (sym is) a.aligned;
       sized = subst (λ n. c.args.layout.size ≤ n) (sym (as_long g c)) a.sized;
       few = subst (λ n. n < c.args.layout.size + 32) (sym (as_long g c)) a.few;
       kept = kept g c;
       each = Keeps-each c.args.payload.of.bytes c.into_thin.result.of.bytes (kept g c);
       written = subst (λ (o : PayloadView). IsWritten o) (sym thin) (c.as_mut_slice.ensures.written w);
-      settled = c.put_written.ensures.settled (c.in-Some.ensures.settled (settled_found c.args.self.now c.find_part-part.new.self c.find_part-part.ensures.heap c.requires.settled));
+      settled = c.put_written.ensures.settled (c.in-Some.ensures.settled (settled_found c.args.self.now c.find_part-part.new.self c.find_part-part.ensures.heap
+          c.requires.settled));
       new = (λ e. other g c (sym is ∙ e), (λ i. align_at (sym state i) (is i)) ∙ a.new);
-      aligns = λ a apart new. c.put_written.ensures.aligns a (λ e. apart (e ∙ from g c)) ∙ c.in-Some.ensures.aligns a (λ e. new (e ∙ sym (there g c))) ∙ ap (λ (v : HeapView). align_at v.state a) c.find_part-part.ensures.heap;
+      aligns = λ a apart new. c.put_written.ensures.aligns a (λ e. apart (e ∙ from g c)) ∙ c.in-Some.ensures.aligns a (λ e. new (e ∙ sym (there g c))) ∙ ap (λ (v : HeapView).
+          align_at v.state a) c.find_part-part.ensures.heap;
       room = λ count most wide sized few short fits. refl;
       count = omega (arith, p.count, a.count, ap (λ (v : HeapView). live_count v.state) heap);
       bounds = λ count most wide sized short fits.

@@ -18,7 +18,8 @@ returns-in-Ok g c =
     let heap = c.find_payload-payload.ensures.heap in
     let same = c.find_payload-payload.ensures.payload in
     let thin = c.into_thin.ensures.1 in
-    let as_now = as_found c.args.self.now c.find_payload-payload.new.self c.find_payload-payload.ensures.heap c.args.payload.of c.find_payload-payload.result c.find_payload-payload.ensures.payload c.args.addr
+    let as_now = as_found c.args.self.now c.find_payload-payload.new.self c.find_payload-payload.ensures.heap c.args.payload.of c.find_payload-payload.result
+    c.find_payload-payload.ensures.payload c.args.addr
     c.args.align c.requires.some.0 c.requires.align c.in-Ok.payload
     c.into_thin.result.of thin in
     let sees = as_now (SeesResized g.row.SLLEN c.args.size c.reallocate.new.self) (record {
@@ -43,7 +44,8 @@ returns-in-Ok g c =
     record {
       step =
           step_found g.row.FLLEN g.row.SLLEN c.args.self.now c.find_payload-payload.new.self c.reallocate.new.self heap c.args.payload.of c.find_payload-payload.result same
-          c.args.addr c.args.align c.args.size c.requires.some.0 c.requires.align (λ s addr to t. Reallocates g.row.SLLEN s addr c.args.size to t) (Some c.in-Ok.payload.start) (Some c.into_thin.result.of.start)
+          c.args.addr c.args.align c.args.size c.requires.some.0 c.requires.align (λ s addr to t. Reallocates g.row.SLLEN s addr c.args.size to t) (Some c.in-Ok.payload.start)
+          (Some c.into_thin.result.of.start)
           (ap (λ (o : PayloadView). Some o.start) (sym thin)) e.step;
       layout = λ ok. sees.layout;
       identity = sees.identity;
@@ -91,7 +93,9 @@ returns-in-Err g c =
     let wide = ap (λ (o : PayloadView). o.align) same ∙ c.requires.align in
     let state = ap (λ (v : HeapView). v.state) heap in
     record {
-      step = step_found g.row.FLLEN g.row.SLLEN c.args.self.now c.find_payload-payload.new.self c.reallocate.new.self c.find_payload-payload.ensures.heap c.args.payload.of c.find_payload-payload.result c.find_payload-payload.ensures.payload c.args.addr c.args.align c.args.size c.requires.some.0 c.requires.align (λ s addr to t. Reallocates g.row.SLLEN s addr c.args.size to t) None None refl e.step;
+      step = step_found g.row.FLLEN g.row.SLLEN c.args.self.now c.find_payload-payload.new.self c.reallocate.new.self c.find_payload-payload.ensures.heap c.args.payload.of
+          c.find_payload-payload.result c.find_payload-payload.ensures.payload c.args.addr c.args.align c.args.size c.requires.some.0 c.requires.align (λ s addr to t.
+          Reallocates g.row.SLLEN s addr c.args.size to t) None None refl e.step;
       layout = λ ok. absurd (true≢false (sym ok));
       identity = e.identity ∙ ap (λ (v : HeapView). v.identity) heap;
       place = (e.place.0 ∙ ap (λ (v : HeapView). v.memory.start) heap, e.place.1 ∙ ap (λ (v : HeapView). length v.memory.bytes) heap);
