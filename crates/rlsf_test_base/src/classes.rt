@@ -131,7 +131,7 @@ fn longest_chunks(rt: HostRuntime) {
         None,
         None,
     ];
-    assert!(rt; ends == expected);
+    all(&rt, &[ends == expected]);
 }
 
 #[test]
@@ -144,8 +144,8 @@ fn pools_for_one_allocation(rt: HostRuntime) {
         pool_size_to_contain_allocation::<u8, u8, 8, 8>(middling),
         pool_size_to_contain_allocation::<u8, u8, 8, 8>(large),
     ];
-    assert!(rt; request_size(one) == 32);
-    assert!(rt; pools == [Some(64), Some(2080), None]);
+    let is_least = request_size(one) == 32;
+    all(&rt, &[is_least, pools == [Some(64), Some(2080), None]]);
 }
 
 const HALF: usize = 1 << 63;

@@ -3,10 +3,12 @@
 
 ghost use Rattle.std.specs.Prelude.{◌≡◌, ◌<◌, length};
 
+use crate::answers::{all, passes};
 use rlsf_base::memory::{Layout, Memory, Range};
 use rlsf_consistency_check::is_consistent;
 use rlsf_table::ClassTable;
 use rlsf_tlsf::Tlsf;
+use std::process::Abort;
 
 const ALL: Range = Range {
     start: 4096,
@@ -81,64 +83,80 @@ fn finds_wrong_words(memory: &mut Memory, table: &ClassTable<8, 8>, i: usize) ->
     ]
 }
 
-#[test]
-fn each_wrong_word_is_found(rt: HostRuntime) {
-    let mut memory = Memory::new(rt.alloc(), 4096, 256).expect(&rt, "a memory");
-    write_words(&mut memory);
-    let table = table_of(&mut memory);
-    assert!(rt; are_consistent(&memory, &table, ALL));
-    for i in 0..32 {
-        let found = finds_wrong_words(&mut memory, &table, i);
-        assert!(rt; found == [MATTERS[i]; 5]);
-    }
+/// The memory of the pool, all of whose bytes are 0 yet.
+fn zeros(rt: &(impl Abort + AllocGlobal)) -> Memory
+    ensures { (result.start ≡ 4096) × (length result.bytes ≡ 256) }
+{
+    Memory::new(rt.alloc(), 4096, 256).expect(rt, "a memory")
 }
 
 #[test]
+fn each_wrong_word_is_found(rt: HostRuntime) {
+    let mut memory = zeros(&rt);
+    write_words(&mut memory);
+    let table = table_of(&mut memory);
+    all(&rt, &[are_consistent(&memory, &table, ALL)]);
+    for i in 0..32 {
+        let found = finds_wrong_words(&mut memory, &table, i);
+        passes(&rt, found == [MATTERS[i]; 5], i);
+    }
+}
+
+/// A start, a length, and whether the pool is consistent over that range.
+static RANGES: [(usize, usize, bool); 9] = [
+    // From the second block on, up to the sentinel, and past the memory.
+    (4097, 255, false),
+    (4096, 224, false),
+    (4096, 255, false),
+    (4096, 257, false),
+    (8192, 32, false),
+    (usize::MAX, usize::MAX, false),
+    // No address is left, once the start is rounded.
+    (4097, 31, true),
+    (0, 0, true),
+    (usize::MAX, 1, true),
+];
+
+#[test]
 fn other_tables_and_ranges(rt: HostRuntime) {
-    let mut memory = Memory::new(rt.alloc(), 4096, 256).expect(&rt, "a memory");
+    let mut memory = zeros(&rt);
     write_words(&mut memory);
     let mut table = table_of(&mut memory);
-    // From the second block on, up to the sentinel, and past the memory.
-    let wrong = [
-        (4097, 255),
-        (4096, 224),
-        (4096, 255),
-        (4096, 257),
-        (8192, 32),
-        (usize::MAX, usize::MAX),
-    ];
-    for (start, len) in wrong {
-        assert!(rt; !are_consistent(&memory, &table, Range { start, len }));
-    }
-    // No address is left, once the start is rounded.
-    for (start, len) in [(4097, 31), (0, 0), (usize::MAX, 1)] {
-        assert!(rt; are_consistent(&memory, &table, Range { start, len }));
+    for (index, (start, len, wanted)) in RANGES.iter().enumerate() {
+        let range = Range {
+            start: *start,
+            len: *len,
+        };
+        passes(
+            &rt,
+            are_consistent(&memory, &table, range) == *wanted,
+            index,
+        );
     }
     // The head of a class is a used block.
     table.put(&mut memory.inner, 0, 1, 4128);
-    assert!(rt; !are_consistent(&memory, &table, ALL));
+    let used = are_consistent(&memory, &table, ALL);
     // A table without a block.
-    assert!(rt; !are_consistent(&memory, &ClassTable::new(), ALL));
+    let none = are_consistent(&memory, &ClassTable::new(), ALL);
+    all(&rt, &[!used, !none]);
 }
 
 #[test]
 fn an_allocator_is_consistent(rt: HostRuntime) {
-    let memory = Memory::new(rt.alloc(), 4096, 256).expect(&rt, "a memory");
-    let mut pool: Tlsf<u8, u8, 8, 8> = Tlsf::new(memory);
+    let mut pool: Tlsf<u8, u8, 8, 8> = Tlsf::new(zeros(&rt));
     pool.insert_free_block(ALL);
-    let layout = Layout::from_size_align(40, 16).expect(&rt, "a layout");
+    let layout = Layout::from_size_align_unchecked(40, 16);
     let first = pool.allocate(layout);
     let second = pool.allocate(layout);
-    assert!(rt; first.is_some() && second.is_some() && pool.is_consistent(ALL));
+    let before = first.is_some() && second.is_some() && pool.is_consistent(ALL);
     if let Some(addr) = second {
         pool.deallocate(addr, layout.align());
     }
-    assert!(rt; pool.is_consistent(ALL));
+    let after = pool.is_consistent(ALL);
     // A chunk doesn't begin at the second block.
-    assert!(rt;
-        !pool.is_consistent(Range {
-            start: 4160,
-            len: 192
-        })
-    );
+    let part = pool.is_consistent(Range {
+        start: 4160,
+        len: 192,
+    });
+    all(&rt, &[before, after, !part]);
 }

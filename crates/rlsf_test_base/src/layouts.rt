@@ -1,6 +1,6 @@
 //! Tests of layouts.
 
-use crate::answers::passes;
+use crate::answers::{all, passes};
 use rlsf_base::memory::Layout;
 
 const HALF: usize = 1 << 63;
@@ -27,5 +27,5 @@ fn sizes_and_alignments(rt: HostRuntime) {
     let padded = layout.pad_to_align();
     let is_padded = padded.pad_to_align() == padded;
     let numbers = [layout.size(), layout.align(), padded.size(), padded.align()];
-    assert!(rt; numbers == [20, 16, 32, 16] && is_padded);
+    all(&rt, &[numbers == [20, 16, 32, 16], is_padded]);
 }

@@ -1,8 +1,15 @@
 //! Tests of a memory from which bytes can leave.
 #![tactic(auto)]
 
+ghost use Rattle.std.specs.Prelude.{◌≡◌, length};
+ghost use Rattle.rlsf_base.specs.Changes.{IsAllOwn};
+ghost use Rattle.rlsf_base.specs.OpenSpace.{IsHere};
+ghost use Rattle.rlsf_base.specs.Space.{range_of};
+
+use crate::answers::all;
 use rlsf_base::memory::ledger::Ledger;
 use rlsf_base::memory::{OpenMemory, Range};
+use std::process::Abort;
 use std::thread;
 
 /// Both words that most tests write: their bytes are 1 to 16.
@@ -26,28 +33,47 @@ const UPPER: Range = Range {
     len: 8,
 };
 
+/// A memory of 32 raw bytes.
+fn reserved(rt: &(impl Abort + AllocGlobal)) -> OpenMemory
+    ensures start { result.start ≡ 4096 }
+    ensures len { length result.bytes ≡ 32 }
+    ensures own { IsAllOwn result.out }
+{
+    OpenMemory::reserve(rt.alloc(), 4096, 32).expect(rt, "a memory")
+}
+
+/// A memory of 32 bytes, all of them 0.
+fn zeros(rt: &(impl Abort + AllocGlobal)) -> OpenMemory
+    ensures start { result.start ≡ 4096 }
+    ensures len { length result.bytes ≡ 32 }
+    ensures here { IsHere result (range_of result) }
+    ensures own { IsAllOwn result.out }
+{
+    OpenMemory::new(rt.alloc(), 4096, 32).expect(rt, "a memory")
+}
+
 #[test]
 fn words_on_raw_bytes(rt: HostRuntime) {
-    let mut memory = OpenMemory::reserve(rt.alloc(), 4096, 32).expect(&rt, "a memory");
+    let mut memory = reserved(&rt);
     memory.set_word(4096, FIRST);
     memory.set_word(4104, SECOND);
     let words = [memory.word(4096), memory.load(4104)];
     memory.free();
-    assert!(rt; words == [FIRST, SECOND]);
+    all(&rt, &[words == [FIRST, SECOND]]);
 }
 
 #[test]
 fn new_bytes_are_zero(rt: HostRuntime) {
-    let memory = OpenMemory::new(rt.alloc(), 4096, 32).expect(&rt, "a memory");
+    let memory = zeros(&rt);
     let are_zero = memory.slice(ALL) == [0; 32].as_slice();
     let is_placed = memory.start() == 4096 && memory.len() == 32;
     memory.free();
-    assert!(rt; are_zero && is_placed);
+    all(&rt, &[are_zero, is_placed]);
 }
 
 #[test]
 fn two_parts_at_once(rt: HostRuntime) {
-    let mut memory = OpenMemory::new(rt.alloc(), 4096, 32).expect(&rt, "a memory");
+    let mut memory = zeros(&rt);
     memory.set_word(4096, FIRST);
     memory.set_word(4104, SECOND);
     let mut lower = memory.take_out(LOWER);
@@ -60,12 +86,12 @@ fn two_parts_at_once(rt: HostRuntime) {
     memory.put_back(lower);
     let words = [memory.word(4096), memory.word(4104), memory.word(4112)];
     memory.free();
-    assert!(rt; are_read && are_placed && words == [SECOND, FIRST, 0]);
+    all(&rt, &[are_read, are_placed, words == [SECOND, FIRST, 0]]);
 }
 
 #[test]
 fn part_crosses_threads(rt: HostRuntime) {
-    let mut memory = OpenMemory::new(rt.alloc(), 4096, 32).expect(&rt, "a memory");
+    let mut memory = zeros(&rt);
     let mut part = memory.take_out(LOWER);
     let bytes = part.as_mut_slice();
     thread::join(&rt, || bytes.fill(7), || ());
@@ -73,12 +99,12 @@ fn part_crosses_threads(rt: HostRuntime) {
     memory.put_back(part);
     let words = [memory.word(4096), memory.word(4104)];
     memory.free();
-    assert!(rt; words == [0x0707070707070707, SECOND]);
+    all(&rt, &[words == [0x0707070707070707, SECOND]]);
 }
 
 #[test]
 fn room_leaves_and_comes_back(rt: HostRuntime) {
-    let mut memory = OpenMemory::reserve(rt.alloc(), 4096, 32).expect(&rt, "a memory");
+    let mut memory = reserved(&rt);
     memory.set_word(4104, SECOND);
     let room = memory.take_out(LOWER);
     let is_placed = room.start() == 4096 && room.len() == 8;
@@ -87,7 +113,7 @@ fn room_leaves_and_comes_back(rt: HostRuntime) {
     memory.set_word(4096, FIRST);
     let words = [memory.word(4096), memory.word(4104)];
     memory.free();
-    assert!(rt; is_placed && word == SECOND && words == [FIRST, SECOND]);
+    all(&rt, &[is_placed, word == SECOND, words == [FIRST, SECOND]]);
 }
 
 #[test]
@@ -101,7 +127,7 @@ fn tickets_are_redeemed(_rt: HostRuntime) {
 
 #[test]
 fn copies_onto_raw_bytes_apart(rt: HostRuntime) {
-    let mut memory = OpenMemory::reserve(rt.alloc(), 4096, 32).expect(&rt, "a memory");
+    let mut memory = reserved(&rt);
     memory.set_word(4096, FIRST);
     let from = Range {
         start: 4097,
@@ -114,12 +140,12 @@ fn copies_onto_raw_bytes_apart(rt: HostRuntime) {
     };
     let is_copied = memory.slice(place) == [2, 3, 4].as_slice();
     memory.free();
-    assert!(rt; is_copied);
+    all(&rt, &[is_copied]);
 }
 
 #[test]
 fn copies_up_onto_raw_bytes(rt: HostRuntime) {
-    let mut memory = OpenMemory::reserve(rt.alloc(), 4096, 32).expect(&rt, "a memory");
+    let mut memory = reserved(&rt);
     memory.set_word(4096, FIRST);
     memory.set_word(4104, SECOND);
     let from = Range {
@@ -137,12 +163,12 @@ fn copies_up_onto_raw_bytes(rt: HostRuntime) {
         ]
         .as_slice();
     memory.free();
-    assert!(rt; is_copied);
+    all(&rt, &[is_copied]);
 }
 
 #[test]
 fn copies_down_onto_raw_bytes(rt: HostRuntime) {
-    let mut memory = OpenMemory::reserve(rt.alloc(), 4096, 32).expect(&rt, "a memory");
+    let mut memory = reserved(&rt);
     memory.set_word(4104, FIRST);
     memory.set_word(4112, SECOND);
     let from = Range {
@@ -160,5 +186,5 @@ fn copies_down_onto_raw_bytes(rt: HostRuntime) {
         ]
         .as_slice();
     memory.free();
-    assert!(rt; is_copied);
+    all(&rt, &[is_copied]);
 }
