@@ -32,14 +32,32 @@ pub(crate) fn zeros(rt: &(impl Abort + AllocGlobal), start: usize, len: usize) -
     Memory::new(rt.alloc(), start, len).expect(rt, "memory")
 }
 
-/// Passes if the answers are the expected ones.
+/// Passes if the answers are the expected ones. Otherwise the failure shows an expected one that isn't there.
 pub(crate) fn are(rt: &impl Abort, answers: &[usize], expected: &[usize]) {
-    assert_eq!(rt; answers, expected);
+    passes(rt, answers.len() == expected.len(), answers.len());
+    for (index, wanted) in expected.iter().enumerate() {
+        let answer = answers.get(index).copied();
+        passes(rt, answer == Some(*wanted), *wanted);
+    }
+}
+
+/// Passes if an answer is true. A number, as the index of a step, helps to find it.
+pub(crate) fn passes(rt: &impl Abort, answer: bool, number: usize) {
+    assert!(rt; answer, "at {number}");
+}
+
+/// Passes if all answers are true.
+pub(crate) fn all(rt: &impl Abort, answers: &[bool]) {
+    for (index, answer) in answers.iter().enumerate() {
+        passes(rt, *answer, index);
+    }
 }
 
 /// Passes if no step has another result than expected.
 pub(crate) fn none_is_wrong(rt: &impl Abort, wrong: Option<usize>) {
-    assert_eq!(rt; wrong, None);
+    if let Some(step) = wrong {
+        passes(rt, false, step);
+    }
 }
 
 /// A step of a test, and its expected result.

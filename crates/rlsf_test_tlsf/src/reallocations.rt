@@ -6,7 +6,7 @@ ghost use Rattle.rlsf_model.specs.Callers.{align_at};
 
 use super::bytes::copy_front;
 use super::loans::numbers;
-use super::pools::{Small, Step, Wide, are, layout_of, number, takes_steps, wide, with_pool};
+use super::pools::{Small, Step, Wide, all, are, layout_of, number, takes_steps, wide, with_pool};
 use rlsf::{Addr, Layout};
 use std::process::Abort;
 
@@ -79,7 +79,11 @@ fn outcome(payload: Moved, bytes: &[u8]) -> Outcome {
 
 /// Passes if this is the result for a payload.
 fn became(rt: &impl Abort, outcome: Option<Outcome>, expected: Outcome) {
-    assert_eq!(rt; outcome, Some(expected));
+    let ((was, moved), (len, is_kept)) = outcome.unwrap_or(((0, 0), (0, false)));
+    let ((wanted_was, wanted_moved), (wanted_len, wanted_kept)) = expected;
+    let wanted = [wanted_was, wanted_moved, wanted_len];
+    are(rt, &[was, moved, len], &wanted);
+    all(rt, &[is_kept == wanted_kept]);
 }
 
 /// The result for a payload that is filled and resized.
@@ -439,5 +443,5 @@ fn kept_there_reads_back(rt: HostRuntime) {
     let shrunk = kept_there(&mut tlsf, wanted, layout, 8, 39);
     are(&rt, &numbers(grown, shrunk), &[7, 8]);
     let refused = kept_there(&mut tlsf, layout, longest, 9, 39);
-    assert!(rt; refused.is_none());
+    all(&rt, &[refused.is_none()]);
 }

@@ -3,7 +3,7 @@
 ghost use Rattle.std.specs.Prelude.{◌<◌};
 
 use super::pools::{
-    Small, Step, are, inserts, layout_of, number, takes_steps, with_inserted, with_pool,
+    Small, Step, all, are, inserts, layout_of, number, takes_steps, with_inserted, with_pool,
 };
 use rlsf::{Layout, Range};
 
@@ -72,7 +72,7 @@ fn signed_bitmaps(rt: HostRuntime) {
     };
     let (tlsf, _) = with_inserted::<i8, i8, 8, 8>(&rt, pool, pool);
     // The pool's block has the highest class: its bits are those of the signs.
-    assert_eq!(rt; (tlsf.fl_bitmap(), tlsf.sl_bitmap(7)), (-128, -128));
+    all(&rt, &[tlsf.fl_bitmap() == -128, tlsf.sl_bitmap(7) == -128]);
 }
 
 #[test]

@@ -3,7 +3,7 @@
 ghost use Rattle.rlsf_base.specs.Range.{range_at};
 ghost use Rattle.rlsf_model.specs.ChunkRows.{IsRow};
 
-use super::pools::{Small, are, layout_of, number, wide, with_inserted, with_pool};
+use super::pools::{Small, all, are, layout_of, number, wide, with_inserted, with_pool};
 use rlsf::{BlockInfo, Blocks, Layout, Range, Tlsf};
 use std::alloc::{AllocError, Global};
 use std::process::Abort;
@@ -97,10 +97,8 @@ fn blocks_have_a_text(rt: HostRuntime) {
         len: 96,
     };
     let text = first_text(rt.alloc(), tlsf.iter_blocks(range)).expect(&rt, "memory");
-    assert_eq!(rt;
-        text.as_str(),
-        "BlockInfo { ptr: 4096..4160, size: 64, is_occupied: false }"
-    );
+    let expected = "BlockInfo { ptr: 4096..4160, size: 64, is_occupied: false }";
+    all(&rt, &[text.as_str() == expected]);
 }
 
 #[test]
