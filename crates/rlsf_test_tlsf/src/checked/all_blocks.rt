@@ -1,15 +1,15 @@
 //! The blocks of several pools, and a reset.
 
 use crate::checked::pools::{START, Small, small};
-use rlsf_base::memory::{Layout, Range};
+use crate::pools::{all, are, layout_of, passes};
+use rlsf_base::memory::{Addr, Range};
 use rlsf_blocks::BlockInfo;
 use std::process::Abort;
-use std::test::Fail;
 
 /// Inserts a range of 1,024 bytes: one chunk, of which all but the last 32 bytes are free.
 fn insert(rt: &impl Abort, pool: &mut Small, start: usize) {
     let range = Range { start, len: 1024 };
-    assert!(rt; pool.insert(range) == Ok(1024));
+    passes(rt, pool.insert(range) == Ok(1024), start);
 }
 
 /// The address at which the first block from another address on begins, or 0.
@@ -24,50 +24,72 @@ fn start_of(block: BlockInfo) -> usize {
     block.as_ptr().start
 }
 
-#[test]
-fn blocks_of_all_pools_are_found(rt: HostRuntime) -> Result<(), Fail> {
-    let mut pool = small(&rt, 65536);
-    assert!(rt; next(&pool, 0) == 0);
-    insert(&rt, &mut pool, START);
-    insert(&rt, &mut pool, 8192);
-    insert(&rt, &mut pool, 9216);
+/// A payload of 100 bytes. Its block has 128: 16 before the payload, and 100, rounded up to a multiple of 32.
+fn allocated(rt: &impl Abort, pool: &mut Small) -> Addr {
+    pool.allocate(layout_of(rt, 100, 16))
+        .ok()
+        .expect(rt, "a payload")
+}
+
+/// Passes if there are so many payloads, used bytes and free bytes, and the longest free block has so many bytes.
+fn has_totals(rt: &impl Abort, pool: &Small, expected: &[usize]) {
     let totals = pool.totals();
-    assert!(rt; totals.payloads == 0 && totals.used == 0);
-    assert!(rt; totals.free == 3 * 992 && totals.longest == 992);
+    let found = [totals.payloads, totals.used, totals.free, totals.longest];
+    are(rt, &found, expected);
+}
+
+/// Passes if the free blocks of three pools are listed.
+fn are_listed(rt: &impl Abort, pool: &Small) {
     let mut numbers = [7; 10];
-    assert!(rt; pool.list(0, &mut numbers) == 3);
-    assert!(rt; numbers == [START, 992, 0, 8192, 992, 0, 9216, 992, 0, 7]);
-    assert!(rt; pool.list(START + 1, &mut numbers) == 2);
-    assert!(rt; numbers == [8192, 992, 0, 9216, 992, 0, 9216, 992, 0, 7]);
-    assert!(rt; next(&pool, START + 1) == 8192);
-    assert!(rt; next(&pool, 9217) == 0);
-    // A block of 128 bytes: 16 before the payload, and 100, rounded up to a multiple of 32.
-    let addr = pool.allocate(Layout::from_size_align_unchecked(100, 16))?;
-    let totals = pool.totals();
-    assert!(rt; totals.payloads == 1 && totals.used == 128);
-    assert!(rt; totals.free == 3 * 992 - 128 && totals.longest == 992);
-    pool.deallocate(addr)?;
-    assert!(rt; pool.remove_last());
-    assert!(rt; pool.totals().free == 2 * 992);
-    assert!(rt; next(&pool, 8193) == 0);
-    Ok(())
+    let three = [START, 992, 0, 8192, 992, 0, 9216, 992, 0, 7];
+    are(rt, &[pool.list(0, &mut numbers)], &[3]);
+    are(rt, &numbers, &three);
+    let two = [8192, 992, 0, 9216, 992, 0, 9216, 992, 0, 7];
+    are(rt, &[pool.list(START + 1, &mut numbers)], &[2]);
+    are(rt, &numbers, &two);
 }
 
 #[test]
-fn a_reset_keeps_the_bytes_of_the_memory(rt: HostRuntime) -> Result<(), Fail> {
-    let layout = Layout::from_size_align_unchecked(100, 16);
+fn blocks_of_all_pools_are_found(rt: HostRuntime) {
+    let mut pool = small(&rt, 65536);
+    are(&rt, &[next(&pool, 0)], &[0]);
+    insert(&rt, &mut pool, START);
+    insert(&rt, &mut pool, 8192);
+    insert(&rt, &mut pool, 9216);
+    has_totals(&rt, &pool, &[0, 0, 3 * 992, 992]);
+    are_listed(&rt, &pool);
+    are(
+        &rt,
+        &[next(&pool, START + 1), next(&pool, 9217)],
+        &[8192, 0],
+    );
+    let addr = allocated(&rt, &mut pool);
+    has_totals(&rt, &pool, &[1, 128, 3 * 992 - 128, 992]);
+    let is_freed = pool.deallocate(addr).is_ok();
+    all(&rt, &[is_freed, pool.remove_last()]);
+    has_totals(&rt, &pool, &[0, 0, 2 * 992, 992]);
+    are(&rt, &[next(&pool, 8193)], &[0]);
+}
+
+/// Writes 100 sevens into a payload. Returns its address.
+fn written(rt: &impl Abort, pool: &mut Small) -> Addr {
+    let addr = allocated(rt, pool);
+    all(rt, &[pool.write(addr, 0, &[7; 100]).is_ok()]);
+    addr
+}
+
+#[test]
+fn a_reset_keeps_the_bytes_of_the_memory(rt: HostRuntime) {
     let mut pool = small(&rt, 1024);
     insert(&rt, &mut pool, START);
-    let addr = pool.allocate(layout)?;
-    pool.write(addr, 0, &[7; 100])?;
+    let addr = written(&rt, &mut pool);
     let mut pool = pool.reset();
-    assert!(rt; pool.totals().free == 0);
+    has_totals(&rt, &pool, &[0; 4]);
     insert(&rt, &mut pool, START);
-    let again = pool.allocate(layout)?;
-    assert!(rt; again.get() == addr.get());
+    let again = allocated(&rt, &mut pool);
+    are(&rt, &[again.get()], &[addr.get()]);
     // The links of the free block were in the payload's first 16 bytes.
     let mut bytes = [0; 84];
-    pool.read(again, 16, &mut bytes)?;
-    assert!(rt; bytes == [7; 84]);
-    Ok(())
+    let is_read = pool.read(again, 16, &mut bytes).is_ok();
+    all(&rt, &[is_read, bytes == [7; 84]]);
 }

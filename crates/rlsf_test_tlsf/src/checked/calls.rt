@@ -2,7 +2,7 @@
 //! blocks are as short as multiples of 32 allow.
 
 use super::pools::{START, Small, at, number, small};
-use crate::pools::{layout_of, zeros};
+use crate::pools::{all, layout_of, passes, zeros};
 use rlsf_base::memory::Range;
 use rlsf_checked::{CheckedError, CheckedTlsf};
 use std::process::Abort;
@@ -84,7 +84,7 @@ fn answers_as(pool: &mut Small, rt: &impl Abort, step: &Step) -> bool {
 /// Passes if the calls have their expected results, one after another.
 fn answers_all(pool: &mut Small, rt: &impl Abort, steps: &[Step]) {
     for (index, step) in steps.iter().enumerate() {
-        assert!(rt; answers_as(pool, rt, step), "the step at {index}");
+        passes(rt, answers_as(pool, rt, step), index);
     }
 }
 
@@ -217,16 +217,16 @@ fn classes_are_tested(rt: HostRuntime) {
     let no_rows = CheckedTlsf::<u8, u8, 0, 4>::new(alloc, zeros(&rt, START, 64)).err();
     let no_power_of_two = CheckedTlsf::<u8, u8, 8, 3>::new(alloc, zeros(&rt, START, 64)).err();
     let too_many_classes = CheckedTlsf::<u8, u8, 8, 16>::new(alloc, zeros(&rt, START, 64)).err();
-    let all = CheckedTlsf::<u8, u8, 8, 8>::new(alloc, zeros(&rt, START, 64)).err();
+    let most = CheckedTlsf::<u8, u8, 8, 8>::new(alloc, zeros(&rt, START, 64)).err();
     let errors = [
         too_many_rows,
         no_rows,
         no_power_of_two,
         too_many_classes,
-        all,
+        most,
     ];
     let invalid = Some(CheckedError::InvalidClasses);
-    assert_eq!(rt; errors, [invalid, invalid, invalid, invalid, None]);
+    all(&rt, &[errors == [invalid, invalid, invalid, invalid, None]]);
 }
 
 /// Chunks of any length.
@@ -262,7 +262,7 @@ fn first_size(pool: &Growing) -> Option<usize> {
 fn the_last_chunk_grows(rt: HostRuntime) {
     let pool = Growing::new(rt.alloc(), zeros(&rt, START, 1024));
     let mut pool = pool.expect(&rt, "an allocator");
-    let found = (grown(&mut pool), first_size(&pool));
-    let taken = [Ok(128), Err(CheckedError::TooShort), Ok(64)];
-    assert_eq!(rt; found, (taken, Some(160)));
+    let taken = grown(&mut pool);
+    let expected = [Ok(128), Err(CheckedError::TooShort), Ok(64)];
+    all(&rt, &[taken == expected, first_size(&pool) == Some(160)]);
 }

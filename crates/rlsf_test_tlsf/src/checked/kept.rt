@@ -1,8 +1,9 @@
 //! The first example of docs/CHECKED.md, and its result.
 
+use crate::pools::all;
 use rlsf_base::memory::{Layout, Memory, Range};
 use rlsf_checked::{CheckedError, CheckedTlsf};
-use std::test::Fail;
+use std::process::Abort;
 
 type Pool = CheckedTlsf<u16, u16, 12, 16>;
 
@@ -12,18 +13,30 @@ fn kept(pool: &mut Pool, bytes: &[u8], layout: Layout) -> Result<(), CheckedErro
     pool.deallocate(addr)
 }
 
+/// An allocator over 1,024 bytes, without a pool.
+fn over_memory(rt: &(impl Abort + AllocGlobal)) -> Pool {
+    let memory = Memory::new(rt.alloc(), 4096, 1024).expect(rt, "memory");
+    Pool::new(rt.alloc(), memory).expect(rt, "an allocator")
+}
+
 #[test]
-fn bytes_are_kept_where_they_fit(rt: HostRuntime) -> Result<(), Fail> {
-    let mut pool = Pool::new(rt.alloc(), Memory::new(rt.alloc(), 4096, 1024)?)?;
-    let small = Layout::from_size_align_unchecked(4, 1);
-    assert!(rt; kept(&mut pool, &[1, 2, 3, 4], small) == Err(CheckedError::NoRoom));
+fn bytes_are_kept_where_they_fit(rt: HostRuntime) {
+    let mut pool = over_memory(&rt);
+    let layout = Layout::from_size_align_unchecked(4, 1);
+    let before = kept(&mut pool, &[1, 2, 3, 4], layout);
     let range = Range {
         start: 4096,
         len: 1024,
     };
-    assert!(rt; pool.insert(range) == Ok(1024));
-    assert!(rt; kept(&mut pool, &[1, 2, 3, 4], small) == Ok(()));
+    let inserted = pool.insert(range);
+    let fitting = kept(&mut pool, &[1, 2, 3, 4], layout);
     // A payload of 4 bytes has 16, since blocks are multiples of 32 with 16 bytes before the payload.
-    assert!(rt; kept(&mut pool, &[7; 17], small) == Err(CheckedError::OutOfRange));
-    Ok(())
+    let long = kept(&mut pool, &[7; 17], layout);
+    let answers = [
+        before == Err(CheckedError::NoRoom),
+        inserted == Ok(1024),
+        fitting == Ok(()),
+        long == Err(CheckedError::OutOfRange),
+    ];
+    all(&rt, &answers);
 }
