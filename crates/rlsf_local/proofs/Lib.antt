@@ -1,6 +1,7 @@
 pub mod Grains
-pub mod Grown
 pub mod LeasedRooms
+pub mod Resized
+pub mod Resizing
 pub mod SlotContents
 pub mod Stretched
 pub mod Taken

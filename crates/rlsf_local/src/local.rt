@@ -185,50 +185,9 @@ impl<H: UnitHeap> LocalHeap<H> {
         resized
     }
 
-    // Gives a block with `len` values more places, in place or at another place. Returns it as it was if the heap refuses both.
-    pub(crate) fn grown<T>(
-        &self,
-        buffer: Buffer<T>,
-        len: usize,
-        old_cap: usize,
-        new_cap: usize,
-    ) -> Result<Buffer<T>, Buffer<T>>
-        requires buffer { (buffer.heap ≡ self.now.slot) × (buffer.len ≡ len) × (buffer.cap ≡ old_cap) }
-        requires sizes { (len ≤ old_cap) × (old_cap ≤ new_cap) × (new_cap * type_size T.row < 2 ^ 63) }
-        ensures { MatchResult result (λ b. (b.heap ≡ buffer.heap) × (b.len ≡ len) × (b.cap ≡ new_cap) × (b.items ≡ buffer.items))
-            (λ b. (b.ptr ≡ buffer.ptr) × (b.heap ≡ buffer.heap) × (b.len ≡ len) × (b.cap ≡ old_cap) × (b.items ≡ buffer.items)) }
-    {
-        let whole = array_len::<T>(old_cap);
-        let (seats, tail) = buffer.lend(whole, old_cap);
-        match self.resize(tail, whole, new_cap * size_of::<T>()) {
-            Ok(tail) => Ok(seats.with(tail, new_cap)),
-            Err(tail) => self.moved(seats.with(tail, old_cap), len, old_cap, new_cap),
-        }
-    }
-
-    // Gives a block with `len` values fewer places. Returns it as it was only if the heap is in use.
-    pub(crate) fn shrunk<T>(
-        &self,
-        buffer: Buffer<T>,
-        len: usize,
-        old_cap: usize,
-        new_cap: usize,
-    ) -> Result<Buffer<T>, Buffer<T>>
-        requires buffer { (buffer.heap ≡ self.now.slot) × (buffer.len ≡ len) × (buffer.cap ≡ old_cap) }
-        requires sizes { (len ≤ new_cap) × (new_cap ≤ old_cap) × (old_cap * type_size T.row < 2 ^ 63) }
-        ensures { MatchResult result (λ b. (b.heap ≡ buffer.heap) × (b.len ≡ len) × (b.cap ≡ new_cap) × (b.items ≡ buffer.items))
-            (λ b. (b.ptr ≡ buffer.ptr) × (b.heap ≡ buffer.heap) × (b.len ≡ len) × (b.cap ≡ old_cap) × (b.items ≡ buffer.items)) }
-    {
-        let whole = array_len::<T>(old_cap);
-        let (seats, tail) = buffer.lend(whole, new_cap);
-        match self.resize(tail, whole, new_cap * size_of::<T>()) {
-            Ok(tail) => Ok(seats.with(tail, new_cap)),
-            Err(tail) => Err(seats.with(tail, old_cap)),
-        }
-    }
-
-    // Moves the `len` values of a block to a new one, and deallocates the old one.
-    fn moved<T>(
+    // Gives a block with `len` values another number of places. It stays where it is, or moves if it can't get more there. Returns it as
+    // it was if the heap refuses both.
+    pub(crate) fn resized<T>(
         &self,
         buffer: Buffer<T>,
         len: usize,
@@ -240,11 +199,38 @@ impl<H: UnitHeap> LocalHeap<H> {
         ensures { MatchResult result (λ b. (b.heap ≡ buffer.heap) × (b.len ≡ len) × (b.cap ≡ new_cap) × (b.items ≡ buffer.items))
             (λ b. (b.ptr ≡ buffer.ptr) × (b.heap ≡ buffer.heap) × (b.len ≡ len) × (b.cap ≡ old_cap) × (b.items ≡ buffer.items)) }
     {
+        let whole = array_len::<T>(old_cap);
+        let (seats, tail) = buffer.lend(whole, old_cap.min(new_cap));
+        match self.resize(tail, whole, new_cap * size_of::<T>()) {
+            Ok(tail) => Ok(seats.with(tail, new_cap)),
+            Err(tail) => {
+                let buffer = seats.with(tail, old_cap);
+                if old_cap < new_cap {
+                    self.moved(buffer, len, whole, new_cap)
+                } else {
+                    Err(buffer)
+                }
+            }
+        }
+    }
+
+    // Moves the `len` values of a block to a new one, and deallocates the old one. `whole` is the length of the old one's payload.
+    fn moved<T>(
+        &self,
+        buffer: Buffer<T>,
+        len: usize,
+        whole: usize,
+        new_cap: usize,
+    ) -> Result<Buffer<T>, Buffer<T>>
+        requires buffer { (buffer.heap ≡ self.now.slot) × (buffer.len ≡ len) × (whole ≡ payload_len (buffer.cap * type_size T.row)) }
+        requires sizes { (len ≤ buffer.cap) × (len ≤ new_cap) × (new_cap * type_size T.row < 2 ^ 63) }
+        ensures { MatchResult result (λ b. (b.heap ≡ buffer.heap) × (b.len ≡ len) × (b.cap ≡ new_cap) × (b.items ≡ buffer.items))
+            (λ b. (b.ptr ≡ buffer.ptr) × (b.heap ≡ buffer.heap) × (b.len ≡ len) × (b.cap ≡ buffer.cap) × (b.items ≡ buffer.items)) }
+    {
         // A payload has the greatest alignment of a type.
         let Some(payload) = self.take(new_cap * size_of::<T>(), UNIT) else {
             return Err(buffer);
         };
-        let whole = array_len::<T>(old_cap);
         let (buffer, old) = buffer.move_to(payload, len, whole, new_cap);
         self.give(old, whole);
         Ok(buffer)
@@ -284,8 +270,15 @@ unsafe impl<H: UnitHeap> Allocator for LocalHeap<H> {
         old_cap: usize,
         new_cap: usize,
     ) -> Result<*mut T, AllocError> {
-        let marker = PhantomData;
-        match self.grown(Buffer { ptr, marker }, len, old_cap, new_cap) {
+        match self.resized(
+            Buffer {
+                ptr,
+                marker: PhantomData,
+            },
+            len,
+            old_cap,
+            new_cap,
+        ) {
             Ok(Buffer { ptr, marker: _ }) => Ok(ptr),
             Err(Buffer { ptr: _, marker: _ }) => Err(AllocError),
         }
@@ -295,11 +288,18 @@ unsafe impl<H: UnitHeap> Allocator for LocalHeap<H> {
         &self,
         ptr: *mut T,
         len: usize,
-        old_cap: usize,
-        new_cap: usize,
+        cap: usize,
+        fewer: usize,
     ) -> Result<*mut T, AllocError> {
-        let marker = PhantomData;
-        match self.shrunk(Buffer { ptr, marker }, len, old_cap, new_cap) {
+        match self.resized(
+            Buffer {
+                ptr,
+                marker: PhantomData,
+            },
+            len,
+            cap,
+            fewer,
+        ) {
             Ok(Buffer { ptr, marker: _ }) => Ok(ptr),
             Err(Buffer { ptr: _, marker: _ }) => Err(AllocError),
         }

@@ -11,7 +11,8 @@ use prog.Wp.{Env, WpFn}
 use contract.BorrowLft.{◌⊑◌}
 use contract.Monad.{fact, fact_i}
 use contract.Running.{tables}
-use types.Kit.{‵, raw, ◌⊛◌, given, later, prop, settles, at_ret, ◌$◌, ◌∵◌, !, qed, by, move, keep, drop, use0, use1, use2, use3, split, split3, join, learn, rewrite, regoal, fsplit, fsplit3, fjoin, fjoin3, fpick, fpack, await}
+use types.Kit.{‵, raw, ◌⊛◌, given, later, prop, settles, at_ret, ◌$◌, ◌∵◌, !, qed, by, move, keep, drop, use0, use1, use2, use3, split, split3, join}
+use types.Kit.{learn, rewrite, regoal, fsplit, fsplit3, fjoin, fjoin3, fpick, fpack, await}
 use types.Part.{whole, sub, agg}
 use types.Run.{stop, fld, of_opd, no_more, and_then, first, blocks, exec, returns, enter}
 use types.ByLocal.{alloc_all, pass_all, free_all, look_at, get, get_in, sets, lands_last, env}
@@ -23,9 +24,8 @@ use denote.Signature.{types_at}
 use denote.Steps.{nothing, heard}
 use denote.Struct.Tuple.{Tuple}
 use denote.Triple.Call.{calls_at_last}
-use denote.Triple.Walked.{Stays, stay_dropped, walk_of, Goes-dropped}
+use denote.Triple.Walked.{walk_of}
 use denote.Array.{Array}
-use Rattle.core.proofs.alloc.Calls.{Goes-blank}
 use Rattle.core.proofs.alloc.Shapes.{after}
 use Rattle.core.proofs.atomic.Steps.{fm}
 use Rattle.core.proofs.ptr.Rows.{El, times_below}
@@ -39,6 +39,7 @@ use Rattle.rlsf_base.specs.UnitPayload.{IsPlaced}
 use Rattle.rlsf_base.specs.contracts.memory.unit_payload.UnitPayload as payload_type
 use Rattle.rlsf_base.proofs.RawBlock.Spots.{spot_val, spot_own, spot_told, spot_made}
 use Rattle.rlsf_base.proofs.RawBlock.Values.{two_val, two_of}
+use Rattle.rlsf_base.proofs.RawBlock.Walks.{then_runs, out_of_block}
 use Rattle.rlsf_heap.specs.Heap.{Identity}
 use Rattle.rlsf_heap.specs.Units.{heap_of, payload_len}
 use Rattle.rlsf_local.specs.Ownership.{block_beside, block_token}
@@ -46,7 +47,7 @@ use Rattle.rlsf_local.proofs.Grains.{handed, returned}
 use Rattle.rlsf_local.proofs.Stretched.{array_len, block_size, block_type, emptied, parted}
 use Rattle.rlsf_local.proofs.Taken.{holds, whole as in_units}
 use Rattle.rlsf_local.proofs.Values.{list_val, list_own, list_told, list_made}
-use Rattle.rlsf_local.proofs.Walks.{slot_at, then_runs, out_of_block}
+use Rattle.rlsf_local.proofs.Walks.{dropped, all_go}
 use Rattle.rlsf_local.specs.contracts.buffer.Buffer as buffer
 use Rattle.rlsf_local.specs.contracts.buffer.Buffer.move_to.{ended, clauses}
 use Rattle.rlsf_local.specs.contracts.buffer.Buffer.move_to.Key.{name as #self}
@@ -55,28 +56,15 @@ use Rattle.rlsf_local.proofs.buffer.Buffer.move_to.Code as compiled
 
 pub move_to_spec : {M : Type 1} → statement M
 move_to_spec 𝓤 𝓛 𝓜 𝓡 wired T L =
-    let H = 𝓛.H in
-    let En₀ = ended T in
-    let c = clauses T 𝓛 𝓜.mem 𝓡.returns in
-    let args : Args = layouts (a_type ∷ []) (T, tt) in
-    let fn : Fn = inst_fn args compiled.function in
-    let stays : Stays En₀.signature.params En₀.kept = (stay_dropped (slot_at 0 En₀.signature.params) En₀.kept.0, (stay_dropped (slot_at 1 En₀.signature.params) En₀.kept.1.0, (stay_dropped (slot_at 2 En₀.signature.params) En₀.kept.1.1.0, (stay_dropped (slot_at 3 En₀.signature.params) En₀.kept.1.1.1.0, (stay_dropped (slot_at 4 En₀.signature.params) En₀.kept.1.1.1.1.0, tt))))) in
-    let C = (tables 𝓤 H 𝓜 𝓡 𝓡.env).C in
-    let Λ = (tables 𝓤 H 𝓜 𝓡 𝓡.env).Λ in
-    proved_at 𝓛 En₀ stays c 𝓜 𝓡 (Goes-blank 𝓛 1 (slot_at 0 En₀.signature.params) En₀.kept.0 (λ κs x f. tt), (Goes-blank 𝓛 1 (slot_at 1 En₀.signature.params) En₀.kept.1.0 (λ κs x f. tt), (Goes-dropped 𝓛 1 (slot_at 2 En₀.signature.params) En₀.kept.1.1.0 (λ κs x f. refl), (Goes-dropped 𝓛 1 (slot_at 3 En₀.signature.params) En₀.kept.1.1.1.0 (λ κs x f. refl), (Goes-dropped 𝓛 1 (slot_at 4 En₀.signature.params) En₀.kept.1.1.1.1.0 (λ κs x f. refl), tt))))) (#self args) fn
-    (compiled.unfolded 𝓤 H 𝓜 𝓡 wired (T, tt)) (λ z are.
-    let Post : Val → SProp 𝓤 = (walk_of 𝓛 En₀ stays c).post z in
-    let a = z.0.3 in
-    let vss = z.0.4 in
-    let κ : Lft = z.0.0.0 in
-    let q : Share = z.0.1.0 in
-    let R : RattleType = param 0 T in
-    let E : El = record { row = T; laws = L } in
-    let τ : Ty = layout T in
-    let s = size τ in
-    let x = a.0 in
-    let xs = x.items in
-    let cap = x.cap in
+    let H = 𝓛.H in let En₀ = ended T in let c = clauses T 𝓛 𝓜.mem 𝓡.returns in let stays = dropped En₀.signature.params En₀.kept in
+    let args : Args = layouts (a_type ∷ []) (T, tt) in let fn : Fn = inst_fn args compiled.function in
+    let C = (tables 𝓤 H 𝓜 𝓡 𝓡.env).C in let Λ = (tables 𝓤 H 𝓜 𝓡 𝓡.env).Λ in
+    proved_at 𝓛 En₀ stays c 𝓜 𝓡 (all_go 𝓛 1 En₀.signature.params En₀.kept ((λ κs x f. tt), ((λ κs x f. tt), ((λ κs x f. tt), ((λ κs x f. tt), ((λ κs x f. tt), tt))))))
+    (#self args) fn (compiled.unfolded 𝓤 H 𝓜 𝓡 wired (T, tt)) (λ z are.
+    let Post : Val → SProp 𝓤 = (walk_of 𝓛 En₀ stays c).post z in let a = z.0.3 in let vss = z.0.4 in
+    let κ : Lft = z.0.0.0 in let q : Share = z.0.1.0 in
+    let R : RattleType = param 0 T in let E : El = record { row = T; laws = L } in let τ : Ty = layout T in let s = size τ in
+    let x = a.0 in let xs = x.items in let cap = x.cap in
     let w = a.1.0 in
     let len = a.1.1.0 in
     let full = a.1.1.1.0 in

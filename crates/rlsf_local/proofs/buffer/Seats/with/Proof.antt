@@ -20,9 +20,8 @@ use denote.RawPtr.{Ptr, block_ptr, in_a_block, room_for, ◌+ₚ◌, lies_at}
 use denote.Param.{param, layout, layouts}
 use denote.Signature.{types_at}
 use denote.Steps.{nothing, heard}
-use denote.Triple.Walked.{Stays, stay_dropped, walk_of, Goes-dropped}
+use denote.Triple.Walked.{walk_of}
 use denote.Array.{Array}
-use Rattle.core.proofs.alloc.Calls.{Goes-blank}
 use Rattle.core.proofs.ptr.Rows.{El}
 use Rattle.std.proofs.raw_atomic.Walks.{proved_at, leaves}
 use Rattle.rlsf_base.specs.Ledger.{extent, ticket_owns}
@@ -34,7 +33,7 @@ use Rattle.rlsf_heap.specs.Units.{heap_of_tail, payload_len}
 use Rattle.rlsf_local.specs.Ownership.{block_beside}
 use Rattle.rlsf_local.proofs.Stretched.{array_len, block_size, block_type, stretched}
 use Rattle.rlsf_local.proofs.Values.{list_val, list_own, list_told, list_made}
-use Rattle.rlsf_local.proofs.Walks.{slot_at}
+use Rattle.rlsf_local.proofs.Walks.{dropped, all_go}
 use Rattle.rlsf_local.specs.contracts.buffer.Buffer as buffer
 use Rattle.rlsf_local.specs.contracts.buffer.Seats.with.{ended, clauses}
 use Rattle.rlsf_local.specs.contracts.buffer.Seats.with.Key.{name as #self}
@@ -43,29 +42,15 @@ use Rattle.rlsf_local.proofs.buffer.Seats.with.Code as compiled
 
 pub with_spec : {M : Type 1} → statement M
 with_spec 𝓤 𝓛 𝓜 𝓡 wired T L =
-    let H = 𝓛.H in
-    let En₀ = ended T in
-    let c = clauses T 𝓛 𝓜.mem 𝓡.returns in
-    let args : Args = layouts (a_type ∷ []) (T, tt) in
-    let fn : Fn = inst_fn args compiled.function in
-    let stays : Stays En₀.signature.params En₀.kept = (stay_dropped (slot_at 0 En₀.signature.params) En₀.kept.0, (stay_dropped (slot_at 1 En₀.signature.params) En₀.kept.1.0, (stay_dropped (slot_at 2 En₀.signature.params) En₀.kept.1.1.0, tt))) in
-    let C = (tables 𝓤 H 𝓜 𝓡 𝓡.env).C in
-    let Λ = (tables 𝓤 H 𝓜 𝓡 𝓡.env).Λ in
-    proved_at 𝓛 En₀ stays c 𝓜 𝓡 (Goes-blank 𝓛 1 (slot_at 0 En₀.signature.params) En₀.kept.0 (λ κs x f. tt), (Goes-blank 𝓛 1 (slot_at 1 En₀.signature.params) En₀.kept.1.0 (λ κs x f. tt), (Goes-dropped 𝓛 1 (slot_at 2 En₀.signature.params) En₀.kept.1.1.0 (λ κs x f. refl), tt))) (#self args) fn
-    (compiled.unfolded 𝓤 H 𝓜 𝓡 wired (T, tt)) (λ z are.
-    let Post : Val → SProp 𝓤 = (walk_of 𝓛 En₀ stays c).post z in
-    let a = z.0.3 in
-    let vss = z.0.4 in
-    let κ : Lft = z.0.0.0 in
-    let q : Share = z.0.1.0 in
-    let R : RattleType = param 0 T in
-    let E : El = record { row = T; laws = L } in
-    let τ : Ty = layout T in
-    let s = size τ in
-    let x = a.0 in
-    let xs = x.items in
-    let len = x.len in
-    let small = x.cap in
+    let H = 𝓛.H in let En₀ = ended T in let c = clauses T 𝓛 𝓜.mem 𝓡.returns in let stays = dropped En₀.signature.params En₀.kept in
+    let args : Args = layouts (a_type ∷ []) (T, tt) in let fn : Fn = inst_fn args compiled.function in
+    let C = (tables 𝓤 H 𝓜 𝓡 𝓡.env).C in let Λ = (tables 𝓤 H 𝓜 𝓡 𝓡.env).Λ in
+    proved_at 𝓛 En₀ stays c 𝓜 𝓡 (all_go 𝓛 1 En₀.signature.params En₀.kept ((λ κs x f. tt), ((λ κs x f. tt), ((λ κs x f. tt), tt))))
+    (#self args) fn (compiled.unfolded 𝓤 H 𝓜 𝓡 wired (T, tt)) (λ z are.
+    let Post : Val → SProp 𝓤 = (walk_of 𝓛 En₀ stays c).post z in let a = z.0.3 in let vss = z.0.4 in
+    let κ : Lft = z.0.0.0 in let q : Share = z.0.1.0 in
+    let R : RattleType = param 0 T in let E : El = record { row = T; laws = L } in let s = size (layout T) in
+    let x = a.0 in let xs = x.items in let len = x.len in let small = x.cap in
     let t = a.1.0 in
     let cap = a.1.1.0 in
     let h : Identity = heap_of_tail t in

@@ -26,7 +26,7 @@ use denote.Triple.Entry.{alive}
 use denote.Triple.Spec.{triple_of}
 use denote.Triple.Call.{calls_at}
 use denote.Triple.Clauses.{Lasts, lasts}
-use denote.Triple.Walked.{Stays, stay_dropped, walk_of, Goes-dropped}
+use denote.Triple.Walked.{walk_of}
 use Rattle.core.proofs.atomic.Steps.{fm}
 use Rattle.std.proofs.raw_atomic.Walks.{proved_at, leaves}
 use Rattle.rlsf_base.specs.Steps.Ownership.{units_ty}
@@ -42,7 +42,7 @@ use Rattle.rlsf_local.proofs.Grains.{returned}
 use Rattle.rlsf_local.proofs.Taken.{holds, whole}
 use Rattle.rlsf_local.specs.contracts.local.LocalHeap.give as callee
 use Rattle.rlsf_local.proofs.local.LocalHeap.give.Met.{met as gives}
-use Rattle.rlsf_local.proofs.Walks.{slot_at}
+use Rattle.rlsf_local.proofs.Walks.{dropped, all_go}
 use Rattle.rlsf_local.specs.contracts.local.LocalHeapAllocator.deallocate.{ended, clauses}
 use Rattle.rlsf_local.specs.contracts.local.LocalHeapAllocator.deallocate.Key.{name as #self}
 use Rattle.rlsf_local.proofs.local.LocalHeapAllocator.deallocate.Statement.{statement}
@@ -55,25 +55,10 @@ deallocate_spec 𝓤 𝓛 𝓜 𝓡 wired T L gU dU gI dI dd mU mI md =
     let En₀ = ended T gU dU gI dI dd in
     let c = clauses T gU dU gI dI dd 𝓛 𝓜.mem 𝓡.returns in
     let fn : Fn = inst_fn args compiled.function in
-    let stays : Stays En₀.signature.params En₀.kept = (
-      stay_dropped (slot_at 0 En₀.signature.params) En₀.kept.0,
-      (
-        stay_dropped (slot_at 1 En₀.signature.params) En₀.kept.1.0,
-        (stay_dropped (slot_at 2 En₀.signature.params) En₀.kept.1.1.0, (stay_dropped (slot_at 3 En₀.signature.params) En₀.kept.1.1.1.0, tt)),
-      ),
-    ) in
+    let stays = dropped En₀.signature.params En₀.kept in
     let C = (tables 𝓤 H 𝓜 𝓡 𝓡.env).C in
     let Λ = (tables 𝓤 H 𝓜 𝓡 𝓡.env).Λ in
-    proved_at 𝓛 En₀ stays c 𝓜 𝓡 (
-      Goes-dropped 𝓛 2 (slot_at 0 En₀.signature.params) En₀.kept.0 (λ κs x f. refl),
-      (
-        Goes-dropped 𝓛 2 (slot_at 1 En₀.signature.params) En₀.kept.1.0 (λ κs x f. refl),
-        (
-          Goes-dropped 𝓛 2 (slot_at 2 En₀.signature.params) En₀.kept.1.1.0 (λ κs x f. refl),
-          (Goes-dropped 𝓛 2 (slot_at 3 En₀.signature.params) En₀.kept.1.1.1.0 (λ κs x f. refl), tt),
-        ),
-      ),
-    ) (#self args) fn
+    proved_at 𝓛 En₀ stays c 𝓜 𝓡 (all_go 𝓛 2 En₀.signature.params En₀.kept ((λ κs x f. tt), ((λ κs x f. tt), ((λ κs x f. tt), ((λ κs x f. tt), tt))))) (#self args) fn
     (compiled.unfolded 𝓤 H 𝓜 𝓡 wired (T, tt) dU dI dd) (λ z are.
     let Post : Val → SProp 𝓤 = (walk_of 𝓛 En₀ stays c).post z in
     let a = z.0.3 in

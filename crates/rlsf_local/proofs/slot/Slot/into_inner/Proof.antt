@@ -18,13 +18,12 @@ use denote.Param.{bounded}
 use denote.Signature.{types_at}
 use denote.Steps.{nothing}
 use denote.Triple.Entry.{alive}
-use denote.Triple.Walked.{Stays, stay_dropped, walk_of}
-use Rattle.core.proofs.alloc.Calls.{Goes-blank}
+use denote.Triple.Walked.{walk_of}
 use Rattle.core.proofs.cell.Inside.{round}
 use Rattle.std_alloc.proofs.ResultValues.{and_tt}
 use Rattle.std.proofs.raw_atomic.Walks.{proved_at, leaves}
 use Rattle.rlsf_local.proofs.SlotContents.{Over, contents_out}
-use Rattle.rlsf_local.proofs.Walks.{slot_at}
+use Rattle.rlsf_local.proofs.Walks.{dropped, all_go}
 use Rattle.rlsf_local.specs.contracts.slot.Slot.into_inner.{ended, clauses}
 use Rattle.rlsf_local.specs.contracts.slot.Slot.into_inner.Key.{name as #self}
 use Rattle.rlsf_local.proofs.slot.Slot.into_inner.Statement.{statement}
@@ -32,19 +31,12 @@ use Rattle.rlsf_local.proofs.slot.Slot.into_inner.Code as compiled
 
 pub into_inner_spec : {M : Type 1} → statement M
 into_inner_spec 𝓤 𝓛 𝓜 𝓡 wired T L g d met =
-    let H = 𝓛.H in
-    let args : Args = bounded (a_type ∷ []) (T, tt) (dcons d dnil) in
-    let En₀ = ended T g d in
-    let c = clauses T g d 𝓛 𝓜.mem 𝓡.returns in
-    let fn : Fn = inst_fn args compiled.function in
-    let stays : Stays En₀.signature.params En₀.kept = (stay_dropped (slot_at 0 En₀.signature.params) En₀.kept.0, tt) in
-    let C = (tables 𝓤 H 𝓜 𝓡 𝓡.env).C in
-    let Λ = (tables 𝓤 H 𝓜 𝓡 𝓡.env).Λ in
-    proved_at 𝓛 En₀ stays c 𝓜 𝓡 (Goes-blank 𝓛 1 (slot_at 0 En₀.signature.params) En₀.kept.0 (λ κs x f. tt), tt) (#self args) fn
+    let H = 𝓛.H in let En₀ = ended T g d in let c = clauses T g d 𝓛 𝓜.mem 𝓡.returns in let stays = dropped En₀.signature.params En₀.kept in
+    let args : Args = bounded (a_type ∷ []) (T, tt) (dcons d dnil) in let fn : Fn = inst_fn args compiled.function in
+    let C = (tables 𝓤 H 𝓜 𝓡 𝓡.env).C in let Λ = (tables 𝓤 H 𝓜 𝓡 𝓡.env).Λ in
+    proved_at 𝓛 En₀ stays c 𝓜 𝓡 (all_go 𝓛 1 En₀.signature.params En₀.kept ((λ κs x f. tt), tt)) (#self args) fn
     (compiled.unfolded 𝓤 H 𝓜 𝓡 wired (T, tt) d) (λ z are.
-    let Post : Val → SProp 𝓤 = (walk_of 𝓛 En₀ stays c).post z in
-    let a = z.0.3 in
-    let vss = z.0.4 in
+    let Post : Val → SProp 𝓤 = (walk_of 𝓛 En₀ stays c).post z in let a = z.0.3 in let vss = z.0.4 in
     qed 𝓛 ((raw (alive 𝓛 En₀.signature z.0.0 z.0.1) ⊛ ‵ (owns (types_at En₀.signature.params z.0.0) a vss)) ∷ (raw (fact 𝓤 (z.0.0.0 ⊑ T.lives)) ⊛ ‵ ftrue)
     ∷ []) ∵ move ! (1 ∷ []) $ drop ! $ split ! $ move ! (1 ∷ []) $
     fsplit ! $ move ! (1 ∷ []) $ drop ! $ fsplit ! $ drop ! $ contents_out T L g a.0 ! vss.0 (λ x v over typed told.

@@ -21,14 +21,14 @@ use denote.Param.Laws.{param_laws}
 use denote.Signature.{types_at}
 use denote.Steps.{nothing}
 use denote.Triple.Entry.{alive}
-use denote.Triple.Walked.{Stays, stay_dropped, walk_of, Goes-dropped}
+use denote.Triple.Walked.{walk_of}
 use Rattle.core.proofs.cell.Inside.{one, round}
 use Rattle.core.proofs.option.Made.{Some-of}
 use Rattle.std_alloc.proofs.ResultValues.{and_tt}
 use Rattle.std.proofs.raw_atomic.Walks.{proved_at, leaves}
 use Rattle.rlsf_heap.specs.Heap.{Identity}
 use Rattle.rlsf_local.proofs.SlotContents.{Value, Held, Fields, contents_in}
-use Rattle.rlsf_local.proofs.Walks.{slot_at}
+use Rattle.rlsf_local.proofs.Walks.{dropped, all_go}
 use Rattle.rlsf_local.specs.contracts.slot.Slot.new.{ended, clauses}
 use Rattle.rlsf_local.specs.contracts.slot.Slot.new.Key.{name as #self}
 use Rattle.rlsf_local.proofs.slot.Slot.new.Statement.{statement}
@@ -36,19 +36,12 @@ use Rattle.rlsf_local.proofs.slot.Slot.new.Code as compiled
 
 pub new_spec : {M : Type 1} → statement M
 new_spec 𝓤 𝓛 𝓜 𝓡 wired T L g d met =
-    let H = 𝓛.H in
-    let args : Args = bounded (a_type ∷ []) (T, tt) (dcons d dnil) in
-    let En₀ = ended T g d in
-    let c = clauses T g d 𝓛 𝓜.mem 𝓡.returns in
-    let fn : Fn = inst_fn args compiled.function in
-    let stays : Stays En₀.signature.params En₀.kept = (stay_dropped (slot_at 0 En₀.signature.params) En₀.kept.0, tt) in
-    let C = (tables 𝓤 H 𝓜 𝓡 𝓡.env).C in
-    let Λ = (tables 𝓤 H 𝓜 𝓡 𝓡.env).Λ in
-    proved_at 𝓛 En₀ stays c 𝓜 𝓡 (Goes-dropped 𝓛 1 (slot_at 0 En₀.signature.params) En₀.kept.0 (λ κs x f. refl), tt) (#self args) fn
+    let H = 𝓛.H in let En₀ = ended T g d in let c = clauses T g d 𝓛 𝓜.mem 𝓡.returns in let stays = dropped En₀.signature.params En₀.kept in
+    let args : Args = bounded (a_type ∷ []) (T, tt) (dcons d dnil) in let fn : Fn = inst_fn args compiled.function in
+    let C = (tables 𝓤 H 𝓜 𝓡 𝓡.env).C in let Λ = (tables 𝓤 H 𝓜 𝓡 𝓡.env).Λ in
+    proved_at 𝓛 En₀ stays c 𝓜 𝓡 (all_go 𝓛 1 En₀.signature.params En₀.kept ((λ κs x f. tt), tt)) (#self args) fn
     (compiled.unfolded 𝓤 H 𝓜 𝓡 wired (T, tt) d) (λ z are.
-    let Post : Val → SProp 𝓤 = (walk_of 𝓛 En₀ stays c).post z in
-    let a = z.0.3 in
-    let vss = z.0.4 in
+    let Post : Val → SProp 𝓤 = (walk_of 𝓛 En₀ stays c).post z in let a = z.0.3 in let vss = z.0.4 in
     let x = a.0 in
     let r : Identity = g.identity x in
     let got = one (layout (Value T)) vss.0 (((param_laws 0 T L).lawful 𝓛).typed x vss.0 are.0) in

@@ -17,13 +17,12 @@ use denote.RattleType.{owns}
 use denote.Param.{bounded, layout}
 use denote.Signature.{types_at}
 use denote.Steps.{nothing, heard}
-use denote.Triple.Walked.{Stays, stay_dropped, walk_of, Goes-dropped}
-use Rattle.core.proofs.alloc.Calls.{Goes-blank}
+use denote.Triple.Walked.{walk_of}
 use Rattle.core.proofs.alloc.Shapes.{after}
 use Rattle.core.proofs.cell.Inside.{one}
 use Rattle.std.proofs.raw_atomic.Walks.{leaves}
 use Rattle.rlsf_heap.specs.Heap.{Identity}
-use Rattle.rlsf_local.proofs.Walks.{slot_at, with_token, proved_with_token}
+use Rattle.rlsf_local.proofs.Walks.{dropped, all_go, with_token, proved_with_token}
 use Rattle.rlsf_local.proofs.SlotContents.{Held, Over, ends, held_Lawful, quiet, opens_slot, shuts_slot}
 use Rattle.rlsf_local.specs.contracts.slot.Slot.replace.{ended, clauses}
 use Rattle.rlsf_local.specs.contracts.slot.Slot.replace.Key.{name as #self}
@@ -39,13 +38,10 @@ replace_spec 𝓤 𝓛 𝓜 𝓡 wired T L g d met =
     let En₀ = ended T g d in
     let c₀ = clauses T g d 𝓛 𝓜.mem 𝓡.returns in
     let fn : Fn = inst_fn args compiled.function in
-    let stays : Stays En₀.signature.params En₀.kept =
-    (stay_dropped (slot_at 0 En₀.signature.params) En₀.kept.0, (stay_dropped (slot_at 1 En₀.signature.params) En₀.kept.1.0, tt)) in
+    let stays = dropped En₀.signature.params En₀.kept in
     let c = with_token 𝓛 En₀ stays c₀ in
-    proved_with_token 𝓛 En₀ stays c₀ 𝓜 𝓡 (
-      Goes-dropped 𝓛 2 (slot_at 0 En₀.signature.params) En₀.kept.0 (λ κs x f. refl),
-      (Goes-blank 𝓛 2 (slot_at 1 En₀.signature.params) En₀.kept.1.0 (λ κs. quiet T), tt),
-    ) (#self args) fn (wired.0.0 (#self args) refl) (λ C Λ z are.
+    proved_with_token 𝓛 En₀ stays c₀ 𝓜 𝓡 (all_go 𝓛 2 En₀.signature.params En₀.kept ((λ κs x f. tt), ((λ κs. quiet T), tt)))
+    (#self args) fn (wired.0.0 (#self args) refl) (λ C Λ z are.
     let Post : Val → SProp 𝓤 = (walk_of 𝓛 En₀ stays c).post z in
     let a = z.0.3 in
     let vss = z.0.4 in
