@@ -2,8 +2,10 @@
 mod Edges
 mod Gathered
 mod Joined
+mod Parts
 mod Pools
 mod Removed
+mod RemovedRanges
 mod RunsByEdges
 mod SizeRefusals
 mod Standing

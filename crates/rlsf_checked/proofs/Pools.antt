@@ -1,7 +1,7 @@
 -- What is true of a checked allocator's fields once a range was inserted.
 use Rattle.std.proofs.Common.{◌≡◌, ℕ, zero, suc, ◌*◌, ◌/◌, find, ◌+◌, ◌-◌, ◌%◌, ◌^◌, ◌<◌, ◌≤◌, ◌⊎◌, true, false, cond, nat_le}
 use Rattle.std.proofs.Common.{nat_lt, List, [], ◌∷◌, length, Option, None, Some, Ok, Err, arith, refl, sym, ◌∙◌, ap, subst, inl, inr}
-use Rattle.std.proofs.lemmas.Bool.{and_parts, cases_lt, eqb-true, le-ltb, leb-true, lt-ltb, ltb-true}
+use Rattle.std.proofs.lemmas.Bool.{and_from, and_parts, cases_lt, eqb-true, le-leb, le-ltb, leb-true, lt-ltb, ltb-true}
 use Rattle.std.proofs.lemmas.Option.{none-some}
 use Rattle.std.specs.Prelude.{◌==◌}
 use Rattle.rlsf_base.specs.declared.memory.range.Range.{Range}
@@ -160,6 +160,10 @@ pub within_is : (whole r : Range) → true ≡ is_within whole r → LiesIn r wh
 within_is whole r e =
     let (from, to) = and_parts (nat_le whole.start r.start) (nat_le (end_of r) (end_of whole)) (sym e) in
     (leb-true whole.start r.start from, leb-true (end_of r) (end_of whole) to)
+
+-- and one that does is found to
+pub is_within-lies : (whole r : Range) → LiesIn r whole.start whole.len → is_within whole r ≡ true
+is_within-lies whole r (from, to) = and_from _ _ (le-leb whole.start r.start from) (le-leb (end_of r) (end_of whole) to)
 
 -- what is returned of a range in the memory that doesn't begin before the end of the last pool
 pub behind_answer : (fllen : ℕ) (v : Checked) (r : Range) → true ≡ is_within (range_of v.heap.memory) r → end_of v.pool ≤ r.start

@@ -28,6 +28,7 @@ use Rattle.rlsf_checked.specs.declared.marks.Marks.{Marks}
 use Rattle.rlsf_checked.specs.Steps.Marks.{HasMark}
 use Rattle.rlsf_checked.specs.Steps.Standing.{AreEdges, IsChecked, in_chunks}
 use Rattle.rlsf_checked.proofs.Edges.{AreToggled, Flips, flipped, in_chunks-behind}
+use Rattle.rlsf_checked.proofs.Parts.{in_row, row_end}
 use Rattle.rlsf_checked.proofs.Pools.{AreRenewed, appended-below, appended-le, inserted-below, longer_row, taken-within, whole_start}
 use Rattle.rlsf_checked.proofs.Removed.{left_below}
 
@@ -39,28 +40,13 @@ pub record HasPlaces (m : Marks) (first last : ℕ) : Type 0 where
   pub high : HasMark m last
 
 -- two edges were flipped
-renewed : {s t : State} {m n k : Marks} {low high : ℕ} → AreEdges m s → 0 < low → low < high → AreToggled s t low high → ((a : ℕ) → in_chunks s a ≤ 1)
+pub renewed : {s t : State} {m n k : Marks} {low high : ℕ} → AreEdges m s → 0 < low → low < high → AreToggled s t low high → ((a : ℕ) → in_chunks s a ≤ 1)
     → Flips m n low → Flips n k high → AreRenewed m k t
 renewed are some order toggled one first second = record {
   marks = λ a. second.marks a ∙ first.marks a;
   places = λ a has. second.places a (first.places a has);
   edges = flipped are some order toggled one first.edge second.edge;
 }
-
--- each address of a row is in one chunk
-in_row : {fllen sllen : ℕ} {memory : Range} {s : State} → IsWellFormed fllen sllen memory s → (p : Range) → IsRow s p → (a : ℕ) → p.start ≤ a → a < end_of p
-    → in_chunks s a ≡ 1
-in_row {s = s} w p row a low high =
-    let (c, i, from, at, to, up_to) = row a low high in
-    omega (arith, w.disjoint a, coverage-IsIn itself c s.chunks a i, covers-inside c a at to)
-
--- where a row ends, a chunk does: at a multiple of 32
-row_end : {fllen sllen : ℕ} {memory : Range} {s : State} → IsWellFormed fllen sllen memory s → (p : Range) → IsRow s p → 0 < p.len → end_of p % 32 ≡ 0
-row_end w p row some =
-    let (c, i, from, at, to, up_to) = row (end_of p - 1) (omega (arith, some)) (omega (arith, some)) in
-    let whole = (w.chunks c i).whole in
-    let ends : end_of c ≡ end_of p = omega (arith, to, up_to, some) in
-    omega (arith, whole.start, whole.len, ends)
 
 module _ {fllen sllen : ℕ} {v : Allocator} {m : Marks} {pool : Range} (is : IsChecked fllen sllen v m pool) where
   well : IsWellFormed fllen sllen (range_of v.memory) v.state

@@ -2,4 +2,5 @@
 pub mod AllBlocks
 pub mod Answers
 pub mod Checked
+pub mod Removal
 pub mod Steps

@@ -469,7 +469,7 @@ impl<
 }
 
 /// Returns whether a range lies in a memory.
-fn lies_in(memory: &Memory, range: Range) -> bool
+pub(crate) fn lies_in(memory: &Memory, range: Range) -> bool
     ensures { result ≡ is_within (range_of memory.now) range }
 {
     let end = memory.start() + memory.len();

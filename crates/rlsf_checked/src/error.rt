@@ -23,4 +23,8 @@ pub enum CheckedError {
     NoLayout = 9,
     /// There is no room.
     NoRoom = 10,
+    /// A block of the range is used. The numbers between are those of the library for C.
+    InUse = 15,
+    /// The range isn't complete contiguous chunks.
+    NotChunks = 16,
 }

@@ -1,17 +1,19 @@
 //! Pools that are removed.
 
-ghost use Rattle.std.specs.Prelude.{◌≡◌, ◌≤◌, ◌↔◌, true, false};
-ghost use Rattle.rlsf_base.specs.Range.{range_at};
-ghost use Rattle.rlsf_base.specs.Space.{SamePlace};
+ghost use Rattle.std.specs.Prelude.{◌≡◌, ◌≤◌, ◌<◌, ◌+◌, ◌*◌, ◌%◌, ◌^◌, ◌↔◌, true, false, length, OnErr, OnOk};
+ghost use Rattle.rlsf_base.specs.Range.{end_of, range_at};
+ghost use Rattle.rlsf_base.specs.Space.{SamePlace, range_of};
 ghost use Rattle.rlsf_model.specs.Callers.{align_at, bytes_at};
 ghost use Rattle.rlsf_model.specs.Remove.{IsIdle, Removes};
 ghost use Rattle.rlsf_model.specs.Sized.{live_count};
-ghost use Rattle.rlsf_model.specs.State.{empty};
+ghost use Rattle.rlsf_model.specs.State.{between, empty};
 ghost use Rattle.rlsf_blocks.specs.Blocks.{walked};
 ghost use Rattle.rlsf_tlsf.specs.Allocator.{Stands, Steps};
 ghost use Rattle.rlsf_tlsf.specs.Steps.UsedBlocks.{has_used};
+ghost use Rattle.rlsf_checked.specs.Removal.{IsRemovalOf, pool_without};
 
 use crate::checked::CheckedTlsf;
+use crate::error::CheckedError;
 use rlsf_base::memory::Range;
 use rlsf_base::rounding::next_multiple_of_32;
 use rlsf_blocks::Blocks;
@@ -60,6 +62,51 @@ impl<
         true
     }
 
+    /// Removes a range: its chunks, and the free blocks in them. The removed part is the range from its start, rounded up to a multiple of
+    /// 32, to its end. It may be a pool, a part of one, or several contiguous pools. All payloads keep their bytes.
+    ///
+    /// If the removed part was the end of the last pool, the last pool ends where it began, so it can be inserted again. An empty last pool
+    /// ends at its start. If the removed part is another part of the last pool, the last pool becomes what is behind it. Otherwise the last
+    /// pool is unchanged.
+    ///
+    /// Refuses, and changes nothing:
+    ///
+    /// - `NotChunks` exactly if the range doesn't lie in the memory, or the part isn't complete contiguous chunks, at least one.
+    /// - else `InUse` exactly if a block of the part is used.
+    ///
+    /// The time grows with the number of blocks of the contiguous chunks, and with the length of the memory before them, of which one mark
+    /// in 32 bytes is read.
+    pub fn remove_pool(&mut self, range: Range) -> Result<(), CheckedError>
+        ensures answer { IsRemovalOf (range_of self.old.heap.memory) self.old.heap.state range result }
+        ensures step { OnOk result (Steps FLLEN SLLEN self.old.heap self.new.heap (Removes self.old.heap.state (walked range))) }
+        ensures pool { OnOk result (self.new.pool ≡ pool_without self.old.pool (walked range)) }
+        ensures same { OnErr result (self.new ≡ self.old) }
+        ensures aligns { align_at self.new.heap.state ≡ align_at self.old.heap.state }
+        ensures bytes { bytes_at self.new.heap.state ≡ bytes_at self.old.heap.state }
+        ensures count { live_count self.new.heap.state ≡ live_count self.old.heap.state }
+        ensures place { SamePlace self.old.heap.memory self.new.heap.memory }
+        ensures touches { self.new.heap.memory.touches + 9 * length self.new.heap.state.chunks
+            ≤ self.old.heap.memory.touches + 9 * length self.old.heap.state.chunks }
+        ensures grow { self.old.heap.memory.touches ≤ self.new.heap.memory.touches }
+        ensures copied { self.new.heap.memory.copied ≡ self.old.heap.memory.copied }
+    {
+        // What `memory_ref` says of every allocator: its state is well-formed.
+        let _ = self.heap.memory_ref();
+        if !self.are_chunks(range) {
+            return Err(CheckedError::NotChunks);
+        }
+        if any_used(self.heap.iter_blocks(range)) {
+            return Err(CheckedError::InUse);
+        }
+        self.heap.remove_pool(range);
+        let start = next_multiple_of_32(range.start);
+        let end = range.start + range.len;
+        self.pool = pool_left(self.pool, start, end);
+        self.marks.flip(start);
+        self.marks.flip(end);
+        Ok(())
+    }
+
     /// Returns the allocator without payloads and without a pool, over the same memory, whose bytes are unchanged. Nothing is requested
     /// from the system.
     pub fn reset(self) -> Self
@@ -87,6 +134,36 @@ impl<
             marks,
             pool,
         }
+    }
+}
+
+/// Returns the last pool, once the chunks from `start` to `end` were removed.
+fn pool_left(pool: Range, start: usize, end: usize) -> Range
+    requires order { start < end }
+    requires last { end ≤ end_of pool }
+    requires fits { end_of pool < 2 ^ 64 }
+    ensures { result ≡ pool_without pool (between start end) }
+{
+    let last = pool.start + pool.len;
+    if end == last {
+        let before = start.saturating_sub(pool.start);
+        if before < 32 {
+            return Range {
+                start: pool.start.min(start),
+                len: 0,
+            };
+        }
+        return Range {
+            start: pool.start,
+            len: before,
+        };
+    }
+    if end <= pool.start {
+        return pool;
+    }
+    Range {
+        start: end,
+        len: last - end,
     }
 }
 

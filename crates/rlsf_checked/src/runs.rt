@@ -1,10 +1,16 @@
 //! The runs of contiguous chunks, found by their edges.
 
-ghost use Rattle.std.specs.Prelude.{◌≡◌, ◌^◌, ◌<◌, ◌≤◌};
-ghost use Rattle.rlsf_checked.specs.Steps.Runs.{IsNextRun, IsStart};
+ghost use Rattle.std.specs.Prelude.{◌≡◌, ◌↔◌, ◌^◌, ◌<◌, ◌≤◌, true};
+ghost use Rattle.rlsf_base.specs.Range.{end_of};
+ghost use Rattle.rlsf_base.specs.Space.{range_of};
+ghost use Rattle.rlsf_model.specs.ChunkRows.{IsRow};
+ghost use Rattle.rlsf_checked.specs.Removal.{AreChunks};
+ghost use Rattle.rlsf_checked.specs.Steps.Runs.{IsCut, IsNextRun, IsRunOf, IsStart};
+ghost use Rattle.rlsf_checked.specs.Steps.Standing.{in_chunks};
 
-use crate::checked::CheckedTlsf;
+use crate::checked::{CheckedTlsf, lies_in};
 use rlsf_base::memory::Range;
+use rlsf_base::rounding::next_multiple_of_32;
 use rlsf_int::BitPattern;
 
 /// A run of contiguous chunks, and where the search for the next one begins.
@@ -52,5 +58,60 @@ impl<
             },
             next: stop + (end - stop).min(32),
         }
+    }
+
+    /// Returns the run that has an address, or an empty range if no chunk has it.
+    fn run_of(&self, addr: usize) -> Range
+        ensures run { IsRunOf self.now.heap.state addr result }
+        ensures fits { end_of result < 2 ^ 64 }
+    {
+        // What the type keeps of each allocator.
+        let _ = &self.heap;
+        let (start, end) = self.bounds_of_runs();
+        let mut from = start;
+        while from < end {
+            let run = self.next_run(from, end);
+            if run.range.start <= addr && addr - run.range.start < run.range.len {
+                return run.range;
+            }
+            from = run.next;
+        }
+        Range {
+            start: addr,
+            len: 0,
+        }
+    }
+
+    /// Returns whether no chunk begins before an address of a run and ends behind it. It iterates over the chunks before the address.
+    fn is_cut(&self, run: Range, addr: usize) -> bool
+        requires row { IsRow self.now.heap.state run }
+        requires outside { in_chunks self.now.heap.state (end_of run) ≡ 0 }
+        requires low { run.start ≤ addr }
+        requires high { addr ≤ end_of run }
+        ensures { (result ≡ true) ↔ IsCut self.now.heap.state addr }
+    {
+        // What the type keeps of each allocator.
+        let _ = &self.heap;
+        let mut end = run.start;
+        while end < addr {
+            end = self.heap.chunk_end(end);
+        }
+        end == addr
+    }
+
+    /// Returns whether a range is complete contiguous chunks, at least one, from its start, rounded up to a multiple of 32, to its end.
+    pub(crate) fn are_chunks(&self, range: Range) -> bool
+        ensures { (result ≡ true) ↔ AreChunks (range_of self.now.heap.memory) self.now.heap.state range }
+    {
+        if range.len < 64 || !lies_in(self.heap.memory_ref(), range) {
+            return false;
+        }
+        let start = next_multiple_of_32(range.start);
+        let end = range.start + range.len;
+        let run = self.run_of(start);
+        if start < run.start || run.start + run.len < end {
+            return false;
+        }
+        self.is_cut(run, start) && self.is_cut(run, end)
     }
 }

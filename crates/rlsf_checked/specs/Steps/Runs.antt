@@ -1,5 +1,5 @@
 -- Runs of contiguous chunks, in the order of their addresses.
-use Rattle.std.specs.Prelude.{◌≡◌, ℕ, ◌-◌, ◌%◌, ◌<◌, ◌≤◌, List}
+use Rattle.std.specs.Prelude.{◌≡◌, ◌≢◌, ◌⊎◌, ℕ, ◌-◌, ◌%◌, ◌<◌, ◌≤◌, List}
 use Rattle.rlsf_base.specs.declared.memory.range.Range.{Range}
 use Rattle.rlsf_base.specs.Range.{end_of, range_at}
 use Rattle.rlsf_blocks.specs.Blocks.{AreBlocks, Block, walked}
@@ -31,3 +31,13 @@ pub record IsNextRun (s : State) (from end : ℕ) (r : Range) (next : ℕ) : Typ
 pub record AreUpTo (s : State) (from end : ℕ) (bs : List Block) : Type 0 where
   pub start : IsStart s from end
   pub blocks : AreBlocks s (range_at 0 from) bs
+
+-- no chunk begins before the address and ends behind it
+abbrev pub IsCut : State → ℕ → Type 0
+IsCut s a = (c : Range) → IsIn c s.chunks → (end_of c ≤ a) ⊎ (a ≤ c.start)
+
+-- The range is complete contiguous chunks, or empty. It has the address if a chunk does, and no chunk has the address behind it
+pub record IsRunOf (s : State) (addr : ℕ) (r : Range) : Type 0 where
+  pub row : IsRow s r
+  pub outside : in_chunks s (end_of r) ≡ 0
+  pub has : in_chunks s addr ≢ 0 → (r.start ≤ addr) × (addr < end_of r)
