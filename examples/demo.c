@@ -44,6 +44,7 @@ static void numbers(void) {
     WANT(RLSF_TOO_LONG, 13);
     WANT(RLSF_NO_BLOCK, 14);
     WANT(RLSF_IN_USE, 15);
+    WANT(RLSF_NOT_CHUNKS, 16);
     WANT(sizeof(rlsf_handle), RLSF_POOL_SIZE);
     WANT(rlsf_size(), RLSF_POOL_SIZE);
     WANT(sizeof(rlsf_span), 3 * sizeof(size_t));
@@ -52,12 +53,12 @@ _Static_assert(RLSF_POOL_SIZE % sizeof(size_t) == 0, "handles in an array are al
 
 /* Each error has a text of its own, and no other number has one. */
 static void texts(void) {
-    static const size_t errors[] = {0, 2, 3, 4, 5, 6, 7, 8, 9, 10, 11, 12, 13, 14, 15};
+    static const size_t errors[] = {0, 2, 3, 4, 5, 6, 7, 8, 9, 10, 11, 12, 13, 14, 15, 16};
     enum { COUNT = sizeof errors / sizeof *errors };
     for (size_t i = 0; i < COUNT; i++)
         for (size_t j = 0; j <= i; j++) WANT(strcmp(rlsf_error_text(errors[i]), rlsf_error_text(errors[j])) == 0, i == j);
     WANT(strcmp(rlsf_error_text(1), "unknown error"), 0);
-    WANT(strcmp(rlsf_error_text(16), "unknown error"), 0);
+    WANT(strcmp(rlsf_error_text(17), "unknown error"), 0);
     WANT(strcmp(rlsf_error_text((size_t)-1), "unknown error"), 0);
     WANT(strcmp(rlsf_error_text(RLSF_NO_ROOM), "there is no room"), 0);
     char version[16];
@@ -92,6 +93,8 @@ static void no_pool(size_t kind, size_t start, size_t len, size_t error) {
     ANSWER(rlsf_allocate_zeroed(p, 1, 1), RLSF_NO_ROOM, 0);
     WANT(rlsf_copy(p, 4112, 4112, 0), RLSF_UNKNOWN_ADDRESS);
     WANT(rlsf_remove_last(p), RLSF_OK);
+    WANT(rlsf_remove(p, 4096, 4096), RLSF_NOT_CHUNKS);
+    WANT(rlsf_remove(p, 0, 0), RLSF_NOT_CHUNKS);
     rlsf_reset(p);
     WANT(rlsf_len(p), 0);
     rlsf_destroy(p);
@@ -237,6 +240,37 @@ static void removals(size_t kind) {
     ANSWER(rlsf_allocate(p, 1, 1), RLSF_NO_ROOM, 0);
     ANSWER(rlsf_insert(p, 4096, 96), RLSF_OK, 96);
     ANSWER(rlsf_allocate(p, 48, 16), RLSF_OK, 4112);
+    rlsf_destroy(p);
+    free(p);
+}
+
+/* Any range is removed once no payload lives in it, and nothing but complete chunks is. */
+static void ranges(size_t kind) {
+    rlsf_pool *p = room();
+    WANT(rlsf_init(p, kind, 4096, 65536), RLSF_OK);
+    WANT(rlsf_remove(p, 4096, 1024), RLSF_NOT_CHUNKS);
+    ANSWER(rlsf_insert(p, 4096, 1024), RLSF_OK, 1024);
+    size_t addr = rlsf_allocate(p, 900, 16).value;
+    ANSWER(rlsf_insert(p, 8192, 1024), RLSF_OK, 1024);
+    ANSWER(rlsf_insert(p, 9216, 1024), RLSF_OK, 1024);           /* contiguous with the range before */
+    size_t wrong[][2] = {{0, 0}, {4096, 0}, {4096, 992}, {4096, 1025}, {4128, 992}, {4064, 1056}, {4095, 1025}, {5120, 1024}, {8192, 1536},
+                         {8704, 512}, {9216, 1056}, {8192, 4096}, {69632, 0}, {4096, (size_t)-1}, {(size_t)-1, (size_t)-1}};
+    for (size_t i = 0; i < sizeof wrong / sizeof *wrong; i++) WANT(rlsf_remove(p, wrong[i][0], wrong[i][1]), RLSF_NOT_CHUNKS);
+    WANT(rlsf_remove(p, 4096, 1024), RLSF_IN_USE);
+    WANT(rlsf_remove(p, 8185, 1031), RLSF_OK);                   /* from 8192 on */
+    WANT(rlsf_remove(p, 8192, 1024), RLSF_NOT_CHUNKS);           /* twice */
+    WANT(rlsf_stats(p).free, 1024 - 32 + 1024 - 32 - 928);
+    ANSWER(rlsf_insert(p, 8192, 1024), RLSF_NOT_BEHIND, 0);
+    ANSWER(rlsf_append(p, 10240, 64), RLSF_OK, 64);              /* the last range is unchanged */
+    WANT(rlsf_usable(p, addr).error, RLSF_OK);
+    WANT(rlsf_remove(p, 9216, 1088), RLSF_OK);
+    ANSWER(rlsf_allocate(p, 900, 16), RLSF_NO_ROOM, 0);
+    ANSWER(rlsf_append(p, 9216, 64), RLSF_NOT_NEXT, 0);
+    ANSWER(rlsf_insert(p, 9216, 1088), RLSF_OK, 1088);
+    WANT(rlsf_allocate(p, 900, 16).error, RLSF_OK);
+    WANT(rlsf_free(p, addr), RLSF_OK);
+    WANT(rlsf_remove(p, 4096, 1024), RLSF_OK);                   /* a payload lives in the other range */
+    WANT(rlsf_stats(p).payloads, 1);
     rlsf_destroy(p);
     free(p);
 }
@@ -404,6 +438,8 @@ int main(void) {
     zeroed(RLSF_LARGE);
     removals(RLSF_SMALL);
     removals(RLSF_LARGE);
+    ranges(RLSF_SMALL);
+    ranges(RLSF_LARGE);
     if (failures) return 1;
     puts("demo: all calls answered as the header says");
     return 0;

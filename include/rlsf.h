@@ -53,7 +53,8 @@ typedef enum rlsf_error {
     RLSF_ZERO_START = 12,     /* the start is 0, which is no address */
     RLSF_TOO_LONG = 13,       /* the end lies past the greatest address */
     RLSF_NO_BLOCK = 14,       /* no block begins at the address or behind it */
-    RLSF_IN_USE = 15          /* a payload is live in the last range */
+    RLSF_IN_USE = 15,         /* a payload is live in the range */
+    RLSF_NOT_CHUNKS = 16      /* the range isn't complete contiguous chunks of the memory */
 } rlsf_error;
 
 /* Returns the text of an error, in lower case and without a full stop. Returns "unknown error" if no error has the number. The text is
@@ -74,7 +75,8 @@ static inline const char *rlsf_error_text(size_t error) {
     case RLSF_ZERO_START: return "the start is 0, which is no address";
     case RLSF_TOO_LONG: return "the end lies past the greatest address";
     case RLSF_NO_BLOCK: return "no block begins at the address or behind it";
-    case RLSF_IN_USE: return "a payload is live in the last range";
+    case RLSF_IN_USE: return "a payload is live in the range";
+    case RLSF_NOT_CHUNKS: return "the range isn't complete contiguous chunks";
     default: return "unknown error";
     }
 }
@@ -169,6 +171,17 @@ size_t rlsf_len(const rlsf_pool *pool);
  *
  * Returns RLSF_OUTSIDE_MEMORY, RLSF_NOT_BEHIND or RLSF_TOO_SHORT, each exactly if it applies. */
 rlsf_answer rlsf_insert(rlsf_pool *pool, size_t start, size_t len);
+
+/* Removes a range, from its start, rounded up to a multiple of 32, to its end. It may be an inserted range of the length that rlsf_insert
+ * returned, a part of one that begins and ends where chunks do, or several contiguous ranges. Payloads and their bytes are unchanged.
+ *
+ * If the removed part ended where the last range ends, the last range then ends where that part began, so the part can be inserted again. If
+ * it was another part of the last range, the last range becomes what is behind it. Otherwise the last range is unchanged. Then rlsf_insert
+ * refuses the removed part, because it isn't behind the last range. The time grows with the number of blocks of the contiguous ranges, and
+ * with the length of the memory before them.
+ *
+ * Returns RLSF_NOT_CHUNKS exactly if it applies or the range is outside of the memory, else RLSF_IN_USE exactly if it applies. */
+size_t rlsf_remove(rlsf_pool *pool, size_t start, size_t len);
 
 /* Removes the last range. Then the last range is empty and has the same start, so the range can be inserted again. Payloads and their bytes
  * are unchanged. If no range was inserted, nothing changes. The time grows with the number of blocks of the last range.

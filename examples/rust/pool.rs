@@ -27,6 +27,7 @@ unsafe extern "C" {
     fn rlsf_len(pool: *const u8) -> usize;
     fn rlsf_insert(pool: *mut u8, start: usize, len: usize) -> Answer;
     fn rlsf_append(pool: *mut u8, start: usize, len: usize) -> Answer;
+    fn rlsf_remove(pool: *mut u8, start: usize, len: usize) -> usize;
     fn rlsf_remove_last(pool: *mut u8) -> usize;
     fn rlsf_allocate(pool: *mut u8, size: usize, align: usize) -> Answer;
     fn rlsf_allocate_zeroed(pool: *mut u8, size: usize, align: usize) -> Answer;
@@ -80,6 +81,7 @@ impl Pool {
     }
     pub fn insert(&mut self, start: usize, len: usize) -> Result<usize> { value(unsafe { rlsf_insert(self.at.as_ptr(), start, len) }) }
     pub fn append(&mut self, start: usize, len: usize) -> Result<usize> { value(unsafe { rlsf_append(self.at.as_ptr(), start, len) }) }
+    pub fn remove(&mut self, start: usize, len: usize) -> Result<()> { done(unsafe { rlsf_remove(self.at.as_ptr(), start, len) }) }
     pub fn remove_last(&mut self) -> Result<()> { done(unsafe { rlsf_remove_last(self.at.as_ptr()) }) }
     pub fn reset(&mut self) { unsafe { rlsf_reset(self.at.as_ptr()) } }
     pub fn len(&mut self) -> usize { unsafe { rlsf_len(self.at.as_ptr()) } }
@@ -135,12 +137,16 @@ fn main() -> Result<()> {
     assert_eq!(&bytes, b"he\0\0\0");
     pool.free(zeros)?;
     assert_eq!(pool.remove_last(), Err(Error(15)));
+    assert_eq!(pool.remove(4096, 65536), Err(Error(15)));
+    assert_eq!(pool.remove(4096, 4096), Err(Error(16)));
     let mut pool = std::thread::spawn(move || pool.free(addr).map(|()| pool)).join().unwrap()?;
     assert_eq!(pool.free(addr), Err(Error(3)));
     assert_eq!(pool.read(addr, 0, &mut []), Err(Error(3)));
     assert_eq!(pool.allocate(1, 3), Err(Error(9)));
     pool.remove_last()?;
     assert_eq!(pool.allocate(1, 1), Err(Error(10)));
+    assert_eq!(pool.insert(4096, 65536)?, 65536);
+    pool.remove(4096, 65536)?;
     assert_eq!(pool.insert(4096, 65536)?, 65536);
     pool.allocate(1, 1)?;
     pool.reset();

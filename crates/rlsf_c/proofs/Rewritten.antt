@@ -16,11 +16,12 @@ use Rattle.rlsf_model.specs.State.{State, empty}
 use Rattle.rlsf_tlsf.specs.Allocator.{Steps}
 use Rattle.rlsf_checked.specs.Answers.{both_have, copy_answer, if_both_in_range, if_live}
 use Rattle.rlsf_checked.specs.Checked.{Checked}
+use Rattle.rlsf_checked.specs.Removal.{AreChunks, IsRemovalOf, pool_without}
 use Rattle.rlsf_checked.specs.declared.error.CheckedError.{CheckedError}
-use Rattle.rlsf_checked.specs.declared.error.CheckedError.TheVariants.{UnknownAddress}
-use Rattle.rlsf_c.specs.Answers.{code_of}
+use Rattle.rlsf_checked.specs.declared.error.CheckedError.TheVariants.{NotChunks, UnknownAddress}
+use Rattle.rlsf_c.specs.Answers.{code_of, number_of}
 use Rattle.rlsf_c.specs.declared.answers.Answer.{Answer}
-use Rattle.rlsf_c.specs.Calls.{Allocates, AllocatesZeroed, Copies, IsNew, RemovesLast, Zeroes}
+use Rattle.rlsf_c.specs.Calls.{Allocates, AllocatesZeroed, Copies, IsNew, RemovesLast, RemovesRange, Zeroes}
 use Rattle.rlsf_c.specs.Seen.{Seen, nothing, seen_in, without_payloads}
 use Rattle.rlsf_c.proofs.Outcomes.{kept_but, kept_same, number_of-some, on_done, same_range, same_unless, step_of}
 
@@ -158,6 +159,38 @@ none_removed = record {
   step = λ e. refl;
   kept = record { classes = refl; memory = refl; aligns = refl; bytes = refl };
   pool = λ e. refl;
+  same = λ some. refl;
+}
+
+-- the reference model made the step, if one was made
+step_if : (fllen sllen : ℕ) (old new : Checked) (range : Range) (r : Result (Unit {0}) CheckedError)
+    → OnOk r (Steps fllen sllen old.heap new.heap (Removes old.heap.state (walked range))) → OnOk r (Removes old.heap.state (walked range) new.heap.state)
+step_if fllen sllen old new range (Ok x) step = step_of fllen sllen old.heap new.heap (Removes old.heap.state (walked range)) step
+step_if fllen sllen old new range (Err e) step = tt
+
+pub range_removed : (fllen sllen : ℕ) (old new : Checked) (range : Range) (r : Result (Unit {0}) CheckedError)
+    → IsRemovalOf (range_of old.heap.memory) old.heap.state range r → OnOk r (Steps fllen sllen old.heap new.heap (Removes old.heap.state (walked range)))
+    → OnOk r (new.pool ≡ pool_without old.pool (walked range)) → OnErr r (new ≡ old) → align_at new.heap.state ≡ align_at old.heap.state
+    → bytes_at new.heap.state ≡ bytes_at old.heap.state
+    → SamePlace old.heap.memory new.heap.memory → RemovesRange (seen_in sllen old) range (code_of r) (seen_in sllen new)
+range_removed fllen sllen old new range r told step pool same aligns bytes place = record {
+  told = (r, refl, told);
+  step = on_done (Removes old.heap.state (walked range) new.heap.state) r (step_if fllen sllen old new range r step);
+  kept = record { classes = refl; memory = same_range old.heap.memory new.heap.memory place; aligns = aligns; bytes = bytes };
+  pool = on_done (new.pool ≡ pool_without old.pool (walked range)) r pool;
+  same = same_unless sllen old new r same;
+}
+
+-- where there is no allocator, no range is chunks
+no_chunks : (r : Range) → AreChunks (nothing).memory (nothing).state r → ⊥
+no_chunks r are = let (c, i, from, begins, ends, up_to) = are.row (walked r).start (omega arith) (omega (arith, are.some)) in absurd i
+
+pub no_range_removed : (r : Range) → RemovesRange nothing r (number_of NotChunks) nothing
+no_range_removed r = record {
+  told = (Err NotChunks, refl, inl (refl, no_chunks r));
+  step = λ e. absurd (number_of-some NotChunks e);
+  kept = record { classes = refl; memory = refl; aligns = refl; bytes = refl };
+  pool = λ e. absurd (number_of-some NotChunks e);
   same = λ some. refl;
 }
 

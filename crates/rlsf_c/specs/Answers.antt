@@ -4,7 +4,7 @@ use Rattle.std.specs.declared.num.NonZeroUsize.{NonZeroUsize}
 use Rattle.rlsf_base.specs.Addr.{at}
 use Rattle.rlsf_checked.specs.declared.error.CheckedError.{CheckedError}
 use Rattle.rlsf_checked.specs.declared.error.CheckedError.TheVariants.{InvalidClasses, OutOfMemory, UnknownAddress, OutOfRange, OutsideMemory, NotBehind, NotNext, TooShort}
-use Rattle.rlsf_checked.specs.declared.error.CheckedError.TheVariants.{NoLayout, NoRoom}
+use Rattle.rlsf_checked.specs.declared.error.CheckedError.TheVariants.{NoLayout, NoRoom, InUse, NotChunks}
 use Rattle.rlsf_c.specs.declared.answers.Answer.{Answer}
 
 -- the number of an error
@@ -19,6 +19,8 @@ number_of NotNext = 7
 number_of TooShort = 8
 number_of NoLayout = 9
 number_of NoRoom = 10
+number_of InUse = 15
+number_of NotChunks = 16
 
 -- an answer that is an error
 abbrev pub refused_by : CheckedError → Answer

@@ -1,6 +1,7 @@
 -- What the calls return, and what they do to the map of live payloads.
 use Rattle.std.specs.Prelude.{◌≡◌, ◌≢◌, ◌⊎◌, ◌↔◌, ℕ, ◌+◌, ◌<◌, ◌≤◌, List, length, take, drop, replicate, Option, Some, None, Result}
 use Rattle.std.specs.List.{splice}
+use Rattle.rlsf_base.specs.declared.memory.range.Range.{Range}
 use Rattle.rlsf_base.specs.Range.{range_at}
 use Rattle.rlsf_base.specs.Layout.{IsLayout}
 use Rattle.rlsf_model.specs.Allocate as machine
@@ -11,6 +12,7 @@ use Rattle.rlsf_model.specs.Reallocate.{Keeps, Reallocates}
 use Rattle.rlsf_model.specs.Remove.{IsIdle, Removes}
 use Rattle.rlsf_model.specs.Run.{Fills}
 use Rattle.rlsf_checked.specs.Answers.{copy_answer, fits, if_in_range, if_live, size_refusal}
+use Rattle.rlsf_checked.specs.Removal.{IsRemovalOf, pool_without}
 use Rattle.rlsf_checked.specs.declared.error.CheckedError.{CheckedError}
 use Rattle.rlsf_c.specs.declared.answers.Answer.{Answer}
 use Rattle.rlsf_c.specs.Answers.{answer_of, code_of, number_of, addr_in}
@@ -159,4 +161,12 @@ pub record RemovesLast (before : Seen) (answer : ℕ) (after : Seen) : Type 0 wh
   pub step : answer ≡ 0 → Removes before.state (walked before.pool) after.state
   pub kept : IsKept before after
   pub pool : answer ≡ 0 → after.pool ≡ range_at before.pool.start 0
+  pub same : answer ≢ 0 → after ≡ before
+
+-- a range is removed if it is complete contiguous chunks in which no payload lives, or why it isn't; and the last range then
+pub record RemovesRange (before : Seen) (r : Range) (answer : ℕ) (after : Seen) : Type 0 where
+  pub told : (e : Result (Unit {0}) CheckedError) × (answer ≡ code_of e) × IsRemovalOf before.memory before.state r e
+  pub step : answer ≡ 0 → Removes before.state (walked r) after.state
+  pub kept : IsKept before after
+  pub pool : answer ≡ 0 → after.pool ≡ pool_without before.pool (walked r)
   pub same : answer ≢ 0 → after ≡ before

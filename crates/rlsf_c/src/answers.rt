@@ -9,7 +9,7 @@ use rlsf_checked::CheckedError;
 /// No error.
 pub(crate) const OK: usize = 0;
 
-/// There is no such kind of pool. This number and those that follow come after the numbers of `CheckedError`.
+/// There is no such kind of pool. `CheckedError` has neither this number nor the three that follow.
 pub(crate) const NO_KIND: usize = 11;
 
 /// The memory starts at 0, which is no address.
@@ -21,7 +21,7 @@ pub(crate) const TOO_LONG: usize = 13;
 /// No block begins at an address or behind it.
 pub(crate) const NO_BLOCK: usize = 14;
 
-/// A payload is live in the last range.
+/// A payload is live in the range. It is the number of `CheckedError::InUse`.
 pub(crate) const IN_USE: usize = 15;
 
 /// A number, or the error because of which there is none.
@@ -63,6 +63,8 @@ pub(crate) fn number(error: CheckedError) -> usize
         CheckedError::TooShort => 8,
         CheckedError::NoLayout => 9,
         CheckedError::NoRoom => 10,
+        CheckedError::InUse => 15,
+        CheckedError::NotChunks => 16,
     }
 }
 

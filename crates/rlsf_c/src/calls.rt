@@ -4,7 +4,7 @@ ghost use Rattle.std.specs.Prelude.{◌≡◌, length, IsSome};
 ghost use Rattle.rlsf_base.specs.Addr.{at};
 ghost use Rattle.rlsf_model.specs.Callers.{align_at};
 ghost use Rattle.rlsf_checked.specs.Answers.{append_answer, insert_answer};
-ghost use Rattle.rlsf_c.specs.Calls.{Allocates, AllocatesZeroed, Appends, Copies, Frees, Inserts, Reads, RemovesLast, Resizes, ResizesThere, Tells, Writes, Zeroes};
+ghost use Rattle.rlsf_c.specs.Calls.{Allocates, AllocatesZeroed, Appends, Copies, Frees, Inserts, Reads, RemovesLast, RemovesRange, Resizes, ResizesThere, Tells, Writes, Zeroes};
 ghost use Rattle.rlsf_c.specs.Seen.{nothing, seen_in};
 
 use crate::answers::{Answer, IN_USE, OK, number, refused, to_answer, to_code, to_place};
@@ -192,6 +192,16 @@ pub(crate) fn allocate_zeroed<F: BitPattern, S: BitPattern, const FLLEN: usize, 
         zero(heap, answer.value);
     }
     answer
+}
+
+/// Removes a range if no payload lives in it.
+pub(crate) fn remove<F: BitPattern, S: BitPattern, const FLLEN: usize, const SLLEN: usize>(
+    heap: &mut CheckedTlsf<F, S, FLLEN, SLLEN>,
+    range: Range,
+) -> usize
+    ensures { RemovesRange (seen_in SLLEN heap.old) range result (seen_in SLLEN heap.new) }
+{
+    to_code(heap.remove_pool(range))
 }
 
 /// Removes the last range if no payload lives in it.

@@ -4,7 +4,7 @@
 ghost use Rattle.std.specs.Borrow.{sem};
 ghost use Rattle.std.specs.Prelude.{◌≡◌};
 ghost use Rattle.rlsf_base.specs.Range.{range_at};
-ghost use Rattle.rlsf_c.specs.Calls.{Allocates, AllocatesZeroed, Appends, Copies, Frees, Inserts, Reads, RemovesLast, Resizes, ResizesThere, Tells, Writes};
+ghost use Rattle.rlsf_c.specs.Calls.{Allocates, AllocatesZeroed, Appends, Copies, Frees, Inserts, Reads, RemovesLast, RemovesRange, Resizes, ResizesThere, Tells, Writes};
 ghost use Rattle.rlsf_c.specs.Handle.{HasRoomForPool, Holds, HoldsSome, room_size};
 ghost use Rattle.rlsf_c.specs.Lengths.{IsLengthForAllocation, IsLengthForPayloads};
 ghost use Rattle.rlsf_c.specs.Seen.{IsMade, IsReset, PoolValue, append_result, ended, insert_result, seen, status_of};
@@ -269,6 +269,16 @@ pub unsafe extern "C" fn rlsf_allocate_zeroed(pool: *mut u8, size: usize, align:
     ensures* { sem 𝓛 (HoldsSome pool (λ after. AllocatesZeroed (seen before) size align result (seen after))) }
 {
     Pool::allocate_zeroed(&mut *(pool as *mut Pool), size, align)
+}
+
+/// Removes a range if it is complete contiguous chunks and no payload lives in it. Returns 0, or the error.
+#[unsafe(no_mangle)]
+pub unsafe extern "C" fn rlsf_remove(pool: *mut u8, start: usize, len: usize) -> usize
+    ghost before: { PoolValue }
+    requires* { sem 𝓛 (Holds pool before) }
+    ensures* { sem 𝓛 (HoldsSome pool (λ after. RemovesRange (seen before) (range_at start len) result (seen after))) }
+{
+    Pool::remove(&mut *(pool as *mut Pool), start, len)
 }
 
 /// Removes the last inserted range, with everything appended to it, if no payload lives in it. Returns 0, or the error.

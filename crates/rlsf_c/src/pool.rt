@@ -2,7 +2,7 @@
 
 ghost use Rattle.std.specs.Prelude.{◌≡◌};
 ghost use Rattle.rlsf_base.specs.Range.{range_at};
-ghost use Rattle.rlsf_c.specs.Calls.{Allocates, AllocatesZeroed, Appends, Copies, Frees, Inserts, Reads, RemovesLast, Resizes, ResizesThere, Tells, Writes};
+ghost use Rattle.rlsf_c.specs.Calls.{Allocates, AllocatesZeroed, Appends, Copies, Frees, Inserts, Reads, RemovesLast, RemovesRange, Resizes, ResizesThere, Tells, Writes};
 ghost use Rattle.rlsf_c.specs.Seen.{IsMade, IsReset, append_result, ended, init_refusal, insert_result, seen, status_of};
 ghost use Rattle.rlsf_c.specs.Walks.{IsListing, IsNext, IsSummary};
 
@@ -203,6 +203,17 @@ impl Pool {
             Pool::Refused(_) => calls::allocate_nothing(size, align),
             Pool::Small(heap) => calls::allocate_zeroed(heap, size, align),
             Pool::Large(heap) => calls::allocate_zeroed(heap, size, align),
+        }
+    }
+
+    /// Removes a range if no payload lives in it.
+    pub fn remove(&mut self, start: usize, len: usize) -> usize
+        ensures { RemovesRange (seen self.old) (range_at start len) result (seen self.new) }
+    {
+        match self {
+            Pool::Refused(_) => number(CheckedError::NotChunks),
+            Pool::Small(heap) => calls::remove(heap, Range { start, len }),
+            Pool::Large(heap) => calls::remove(heap, Range { start, len }),
         }
     }
 
