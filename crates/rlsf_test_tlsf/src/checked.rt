@@ -6,3 +6,4 @@ mod kept;
 mod lengths;
 mod pools;
 mod random;
+mod removals;
