@@ -33,9 +33,9 @@ pool_cases : (P : Range → Type 0) (pool r : Range) → (end_of r ≡ end_of po
     → ((end_of r ≡ end_of pool → ⊥) → pool.start < end_of r → P (between (end_of r) (end_of pool))) → P (pool_without pool r)
 pool_cases P pool r all end before behind = cond_both (end_of r == end_of pool) _ _ P
     (λ e. let at = eqb-true (end_of r) (end_of pool) e in
-        cond_both (nat_lt (r.start - pool.start) 32) _ _ P (λ l. all at (ltb-true _ _ l)) (λ l. end at (ltb-false _ _ l)))
+    cond_both (nat_lt (r.start - pool.start) 32) _ _ P (λ l. all at (ltb-true _ _ l)) (λ l. end at (ltb-false _ _ l)))
     (λ e. let off = eqb-false (end_of r) (end_of pool) e in
-        cond_both (nat_le (end_of r) pool.start) _ _ P (λ l. before off (leb-true _ _ l)) (λ l. behind off (leb-false _ _ l)))
+    cond_both (nat_le (end_of r) pool.start) _ _ P (λ l. before off (leb-true _ _ l)) (λ l. behind off (leb-false _ _ l)))
 
 module _ {fllen sllen : ℕ} {v : Allocator} {m : Marks} {pool : Range} (is : IsChecked fllen sllen v m pool) (r : Range) (are : AreChunks (range_of v.memory) v.state r) where
   well : IsWellFormed fllen sllen (range_of v.memory) v.state
@@ -161,8 +161,8 @@ module _ {fllen sllen : ℕ} {v : Allocator} {m : Marks} {pool : Range} (is : Is
       apart = λ c i. is.apart c (old_chunk c i);
       room = λ more. omega (arith, far, round32-lt pool.start);
       row = subst (λ x. IsRow w.state (between (round32 pool.start) x)) (omega (arith, far))
-      (left_part (round32 pool.start) (round32 r.start) (omega arith) (omega (arith, far, round32-lt pool.start)) (omega (arith, some, high_below))
-      (cut_at_start well (walked pool) is.row (omega (arith, far, some, same, round32-lt pool.start))) (cut_at_start well (walked r) are.row are.some) (inl (omega arith)));
+          (left_part (round32 pool.start) (round32 r.start) (omega arith) (omega (arith, far, round32-lt pool.start)) (omega (arith, some, high_below))
+          (cut_at_start well (walked pool) is.row (omega (arith, far, some, same, round32-lt pool.start))) (cut_at_start well (walked r) are.row are.some) (inl (omega arith)));
     }
 
     last_unchanged : end_of r ≤ pool.start → IsLast pool
@@ -190,8 +190,8 @@ module _ {fllen sllen : ℕ} {v : Allocator} {m : Marks} {pool : Range} (is : Is
           apart = λ c i. elim (left_off c i) [ inl before ↦ inl (omega (arith, before, some)) | inr behind ↦ inr behind ];
           room = λ more. omega (arith, at, last, less);
           row = subst (λ x. IsRow w.state (between (round32 (end_of r)) x)) (sym last)
-          (subst (λ x. IsRow w.state (between x (end_of pool))) (sym at)
-          (left_part (end_of r) (end_of pool) from less (omega arith) cut pool_cut (inr (omega arith))));
+              (subst (λ x. IsRow w.state (between x (end_of pool))) (sym at)
+              (left_part (end_of r) (end_of pool) from less (omega arith) cut pool_cut (inr (omega arith))));
         }
 
     last_left : IsLast (pool_without pool (walked r))

@@ -8,6 +8,7 @@ use std::test::Fail;
 
 /// Where the second and the third pool begin: contiguous pools, with a gap before them.
 const SECOND: usize = 8192;
+
 const THIRD: usize = 9216;
 
 /// A layout of which a chunk of 1,024 bytes has room for one payload.

@@ -52,11 +52,11 @@ returns-then-start-run g c =
     let run : IsRunOf c.args.self.now.heap.state (round32 c.args.range.start) c.run_of-run.result =
     subst (λ a. IsRunOf c.args.self.now.heap.state a c.run_of-run.result) c.next_multiple_of_32-start.ensures.value c.run_of-run.ensures.run in
     let no : AreChunks (range_of c.args.self.now.heap.memory) c.args.self.now.heap.state c.args.range → ⊥ = λ are.
-        let (low, high) = chunks_lie w c.args.range _ run lies_now enough are in
-        elim c.then-start-run.branch [
-          | then-start-run-via-then-start-run b ↦ absurd (omega (arith, low, b.if-start-run.true, c.next_multiple_of_32-start.ensures.value))
-          | then-start-run-via-else-start-run+then-run-end b ↦ absurd (omega (arith, high, b.if-run-end.true))
-        ] in
+    let (low, high) = chunks_lie w c.args.range _ run lies_now enough are in
+    elim c.then-start-run.branch [
+      | then-start-run-via-then-start-run b ↦ absurd (omega (arith, low, b.if-start-run.true, c.next_multiple_of_32-start.ensures.value))
+      | then-start-run-via-else-start-run+then-run-end b ↦ absurd (omega (arith, high, b.if-run-end.true))
+    ] in
     ((λ e. absurd (true≢false (sym e))), (λ are. absurd (no are)))
 
 pub returns-then-is_cut : goal.returns-then-is_cut
@@ -88,7 +88,7 @@ returns-else-is_cut g c =
     let run : IsRunOf c.args.self.now.heap.state (round32 c.args.range.start) c.run_of-run.result =
     subst (λ a. IsRunOf c.args.self.now.heap.state a c.run_of-run.result) c.next_multiple_of_32-start.ensures.value c.run_of-run.ensures.run in
     let no : AreChunks (range_of c.args.self.now.heap.memory) c.args.self.now.heap.state c.args.range → ⊥ = λ are.
-        let start : IsCut c.args.self.now.heap.state c.next_multiple_of_32-start.result =
-        subst (IsCut c.args.self.now.heap.state) (sym c.next_multiple_of_32-start.ensures.value) (chunks_cut w c.args.range _ run lies_now enough are).0 in
-        true≢false (sym (c.is_cut.ensures.1 start) ∙ c.if-is_cut.false) in
+    let start : IsCut c.args.self.now.heap.state c.next_multiple_of_32-start.result =
+    subst (IsCut c.args.self.now.heap.state) (sym c.next_multiple_of_32-start.ensures.value) (chunks_cut w c.args.range _ run lies_now enough are).0 in
+    true≢false (sym (c.is_cut.ensures.1 start) ∙ c.if-is_cut.false) in
     ((λ e. absurd (true≢false (sym e ∙ c.if-is_cut.false))), (λ are. absurd (no are)))
