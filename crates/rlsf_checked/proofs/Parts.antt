@@ -204,7 +204,8 @@ module _ {fllen sllen : ℕ} {memory : Range} {s : State} (w : IsWellFormed flle
           | inl less ↦ run.behind (end_of r) (omega arith) less
           | inr same ↦ elim (cases_lt next end) [
             | inl more ↦
-                let last : in_chunks s (next - 1) ≡ 1 = in_row (walked r) run.row (next - 1) (omega (arith, low, high, same, run.high, at)) (omega (arith, low, high, same, run.high, at)) in
+                let last : in_chunks s (next - 1) ≡ 1 =
+                in_row (walked r) run.row (next - 1) (omega (arith, low, high, same, run.high, at)) (omega (arith, low, high, same, run.high, at)) in
                 absurd (omega (arith, last, run.left.outside more))
             | inr past ↦ in_chunks-behind s end run.left.below (end_of r) (omega (arith, same, past))
           ]

@@ -23,7 +23,8 @@ iter_blocks-requires g c =
 pub remove_pool-requires : goal.remove_pool-requires
 remove_pool-requires g c =
     let are : AreChunks (range_of c.self.inside.heap.memory) c.self.inside.heap.state c.args.range = rw (← c.self.view_is) at c.are_chunks.ensures.0 c.if-not-are_chunks.false in
-    let idle = idle_if (well_formed c.self.invariant) (walked c.args.range) are.row c.iter_blocks.result c.iter_blocks.ensures.blocks (sym c.any_used.ensures ∙ c.if-any_used.false) in
+    let idle =
+    idle_if (well_formed c.self.invariant) (walked c.args.range) are.row c.iter_blocks.result c.iter_blocks.ensures.blocks (sym c.any_used.ensures ∙ c.if-any_used.false) in
     (omega arith, (are.row, idle))
 
 pub next_multiple_of_32-start-requires : goal.next_multiple_of_32-start-requires
@@ -82,7 +83,8 @@ returns-then-any_used-clause-answer g c =
 pub returns-clause-answer : goal.returns-clause-answer
 returns-clause-answer g c =
     let are : AreChunks (range_of c.self.inside.heap.memory) c.self.inside.heap.state c.args.range = rw (← c.self.view_is) at c.are_chunks.ensures.0 c.if-not-are_chunks.false in
-    let idle = idle_if (well_formed c.self.invariant) (walked c.args.range) are.row c.iter_blocks.result c.iter_blocks.ensures.blocks (sym c.any_used.ensures ∙ c.if-any_used.false) in
+    let idle =
+    idle_if (well_formed c.self.invariant) (walked c.args.range) are.row c.iter_blocks.result c.iter_blocks.ensures.blocks (sym c.any_used.ensures ∙ c.if-any_used.false) in
     rw (← c.self.view_is) (are, idle)
 
 pub returns-clause-step : goal.returns-clause-step
