@@ -21,7 +21,7 @@ use Rattle.rlsf_checked.specs.Answers.{IsRefusedBy, append_answer, fits, if_in_r
 use Rattle.rlsf_checked.specs.Checked.{Checked}
 use Rattle.rlsf_checked.specs.declared.error.CheckedError.{CheckedError}
 use Rattle.rlsf_checked.specs.declared.error.CheckedError.TheVariants.{InvalidClasses, OutOfMemory, UnknownAddress, OutOfRange, OutsideMemory, NotBehind, NotNext, TooShort}
-use Rattle.rlsf_checked.specs.declared.error.CheckedError.TheVariants.{NoLayout, NoRoom}
+use Rattle.rlsf_checked.specs.declared.error.CheckedError.TheVariants.{NoLayout, NoRoom, InUse, NotChunks}
 use Rattle.rlsf_c.specs.Answers.{answer_of, code_of, number_of, place_of, addr_in, refused_by}
 use Rattle.rlsf_c.specs.Calls.{Allocates, Appends, Frees, Inserts, IsKeptBut, IsResized, IsToldBy, Reads, Resizes, ResizesThere, Tells, Writes, reach}
 use Rattle.rlsf_c.specs.Seen.{Seen, nothing, seen_in}
@@ -40,6 +40,8 @@ number_of-some NotNext e = omega (arith, e)
 number_of-some TooShort e = omega (arith, e)
 number_of-some NoLayout e = omega (arith, e)
 number_of-some NoRoom e = omega (arith, e)
+number_of-some InUse e = omega (arith, e)
+number_of-some NotChunks e = omega (arith, e)
 
 -- an error places nothing
 pub addr_in-refused : (e : CheckedError) → addr_in (refused_by e) ≡ None
@@ -53,6 +55,8 @@ addr_in-refused NotNext = refl
 addr_in-refused TooShort = refl
 addr_in-refused NoLayout = refl
 addr_in-refused NoRoom = refl
+addr_in-refused InUse = refl
+addr_in-refused NotChunks = refl
 
 -- what is placed is what the answer says
 pub addr_in-same : (r : Result NonZeroUsize CheckedError) → addr_in_result r ≡ addr_in (place_of r)
