@@ -8,7 +8,7 @@ use Rattle.rlsf_checked.specs.Removal.{AreChunks, pool_without}
 use Rattle.rlsf_checked.specs.Steps.Marks.{HasMark}
 use Rattle.rlsf_checked.specs.Steps.Standing.{IsChecked}
 use Rattle.rlsf_checked.proofs.Edges.{Flips, flips}
-use Rattle.rlsf_checked.proofs.IdleRows.{idle_if, used_if}
+use Rattle.rlsf_tlsf.proofs.IdleRows.{idle_if, used_if}
 use Rattle.rlsf_checked.proofs.Pools.{pool_fits}
 use Rattle.rlsf_checked.proofs.RemovedRanges.{high_below, removed_range, removed_range_edges, removed_range_place}
 use Rattle.rlsf_checked.proofs.RunsByEdges.{well_formed}
