@@ -1,7 +1,8 @@
 mod Alignments
 pub mod Laws
-pub mod Lending
 mod Outcomes
+pub mod Payloads
 mod Reallocated
+pub mod Steps
 pub mod Templates
 pub mod Walking

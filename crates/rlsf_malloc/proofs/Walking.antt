@@ -1,28 +1,26 @@
 -- What the walks of the exports cite.
-pub use Rattle.std.proofs.Common.{◌≡◌, ℕ, ◌≤◌, List, [], ◌∷◌, ◌++◌, refl, sym, ap, ◌∙◌, lit<, w64, MutBor, arith, subst}
+pub use Rattle.std.proofs.Common.{◌≡◌, ℕ, List, [], ◌∷◌, ◌++◌, refl, sym, ap, ◌∙◌, w64, MutBor, subst}
 pub use Rattle.std.proofs.raw_atomic.Walks.{proved}
 pub use base.Fraction.{full_share}
 pub use base.Logic.{id⊢}
-pub use base.Fml.{ftrue, flft, fres, flent, fsep}
-pub use mir.Syntax.{named}
+pub use base.Fml.{ftrue, flft, flent, fsep}
 pub use mir.Val.{Val, vunit, vint, vptr}
 pub use prog.Wp.{WpFn}
 pub use contract.Monad.{fact}
 pub use contract.Running.{tables}
 pub use types.Kit.{‵, raw, ◌⊛◌, some, later, prop, ◌$◌, ◌∵◌, !, qed, done, move, keep, drop, use1, use2, use3, split, join, fsplit, fjoin, fpack, feq_i, feq_l}
 pub use types.Kit.{pick, await, rewrite, regoal, suffices, group}
-pub use types.Tokens.{lft_new, lft_end}
+pub use types.Tokens.{lft_end}
 pub use types.SemTy.{Body}
 pub use types.Run.{enter, of_opd, addr, stop, no_more, and_then, returns}
 pub use types.ByLocal.{alloc_all, pass_all, free_all, look_at, get, through, sets, lands_as}
 pub use denote.Builtin.{usize}
 pub use denote.Exit.{yes}
 pub use denote.Laws.{Is, shows}
-pub use denote.Lend.{lends_ref, ref_back}
+pub use denote.Lend.{ref_back}
 pub use denote.Memory.{part_at, mem}
 pub use denote.Plain.{uint_Makes, uint_vals, uint_Tells, uint_Lawful}
 pub use denote.RawPtr.{Ptr, RawPtr, block_ptr, lies_at, in_a_block, rawptr_vals, rawptr_Tells}
-pub use denote.Ref.{MutRef}
 pub use denote.Signature.{plain}
 pub use denote.Steps.{nothing, owned, heard, peeks}
 pub use denote.Triple.Call.{calls_at}
@@ -39,7 +37,7 @@ pub use types.Kit.{use0}
 pub use types.Run.{unit_lit}
 pub use seplogic.Ra.Ura.{Ura}
 pub use base.Fml.{Fml}
-pub use base.Logic.{SProp, sep}
+pub use base.Logic.{sep}
 pub use types.Logic.{Logic, sem}
 pub use prog.Model.{Model}
 pub use prog.Wp.{Closed}

@@ -1,14 +1,17 @@
 -- Exports that lend the heap behind the handle to a call with two numbers, and return what it returns.
-use Rattle.rlsf_malloc.proofs.Walking.{ℕ, [], ◌∷◌, ◌++◌, refl, w64, proved, full_share, id⊢, ftrue, flft, vptr, WpFn, fact, tables, ‵, raw, ◌⊛◌, some, later}
-use Rattle.rlsf_malloc.proofs.Walking.{prop, ◌$◌, ◌∵◌, !, qed, done, move, keep, drop, use0, use1, use2, use3, split, join, fsplit, fpack, pick, await}
-use Rattle.rlsf_malloc.proofs.Walking.{suffices, group, lft_end, enter, of_opd, addr, stop, no_more, and_then, returns, alloc_all, pass_all, free_all, look_at}
-use Rattle.rlsf_malloc.proofs.Walking.{get, through, sets, lands_as, yes, ref_back, part_at, uint_vals, uint_Tells, Ptr, RawPtr, block_ptr, lies_at}
-use Rattle.rlsf_malloc.proofs.Walking.{rawptr_vals, rawptr_Tells, plain, nothing, owned, heard, calls_at, lasts, on_entry, triple_of, Stays, walk_of}
-use Rattle.rlsf_malloc.proofs.Walking.{stay_dropped, Goes-dropped, ends_at, framed, usize, uint_Makes, Is, shows, peeks, fact_i, emp, Val, Ura, sep, Logic}
-use Rattle.rlsf_malloc.proofs.Walking.{sem, Model, Closed, Running, Fn, Callee, Ty, local, value_local, ty_ptr, ty_int, ty_ref, erased, mut, seq, assign}
-use Rattle.rlsf_malloc.proofs.Walking.{place, rv_opd, copy, addr_of, deref, call, return, RattleType, One, RefMutOf, Ended, Clauses, Lasts, closing, Meets}
-use Rattle.rlsf_malloc.proofs.Walking.{Good}
-use Rattle.rlsf_malloc.proofs.Lending.{in_its_block, lends}
+use Rattle.rlsf_malloc.proofs.Walking.{ℕ, List, [], ◌∷◌, ◌++◌, refl, w64, proved, full_share, ftrue, WpFn, fact, tables, ‵, raw, ◌⊛◌, some, prop, ◌$◌, ◌∵◌, ! }
+use Rattle.rlsf_malloc.proofs.Walking.{qed, done, move, keep, drop, split, join, fpack, pick, suffices, group, enter, of_opd, addr, stop, no_more, and_then}
+use Rattle.rlsf_malloc.proofs.Walking.{returns, alloc_all, pass_all, free_all, look_at, get, through, sets, lands_as, yes, uint_vals, uint_Tells, Ptr, RawPtr}
+use Rattle.rlsf_malloc.proofs.Walking.{block_ptr, lies_at, rawptr_vals, rawptr_Tells, plain, nothing, owned, heard, on_entry, Stays, walk_of, stay_dropped}
+use Rattle.rlsf_malloc.proofs.Walking.{Goes-dropped, ends_at, framed, usize, uint_Makes, Is, Val, Ura, sep, Logic, sem, Model, Closed, Running, Fn, Callee}
+use Rattle.rlsf_malloc.proofs.Walking.{Ty, local, value_local, ty_ptr, ty_int, ty_ref, erased, mut, seq, assign, place, rv_opd, copy, addr_of, deref, call}
+use Rattle.rlsf_malloc.proofs.Walking.{return, RattleType, One, Ended, Clauses, closing, Meets, Good}
+use Rattle.rlsf_malloc.proofs.Steps.{called, changes, lends_heap}
+use Rattle.rlsf_export_proofs.proofs.Lending.{in_its_block}
+use contract.Lifetimes.{Lfts}
+use denote.RattleType.{Denots}
+use denote.Signature.{Slot, types_at}
+use denote.Triple.End.{Kepts}
 use Rattle.rlsf_malloc.specs.Handle.{Holds, HoldsSome}
 
 -- the code
@@ -29,23 +32,18 @@ function σ τ θ callee = record {
       return)));
 }
 
--- its signature, and those of what it calls
+-- its signature, and what the call is passed beside the heap
 abbrev pub exported : RattleType → Ended
 exported A = record {
   signature = record { lifetimes = 0; outlives = []; params = plain (λ κs. RawPtr) ∷ plain (λ κs. usize) ∷ plain (λ κs. usize) ∷ []; result = plain (λ κs. A) };
   kept = (yes, (yes, (yes, tt)));
 }
 
-abbrev pub called : (R : RattleType) → One R.mir → RattleType → Ended
-called R one A = record {
-  signature = record {
-    lifetimes = 1;
-    outlives = [];
-    params = RefMutOf (0 ∷ []) tt (plain (λ κs. R)) (λ κs. one) ∷ plain (λ κs. usize) ∷ plain (λ κs. usize) ∷ [];
-    result = plain (λ κs. A);
-  };
-  kept = (yes, (yes, (yes, tt)));
-}
+abbrev pub more : List (Slot 1)
+more = plain (λ κs. usize) ∷ plain (λ κs. usize) ∷ []
+
+abbrev pub keeps : Kepts more
+keeps = (yes, (yes, tt))
 
 abbrev stayed : (A : RattleType) → Stays (exported A).signature.params (exported A).kept
 stayed A = (stay_dropped _ yes, (stay_dropped _ yes, (stay_dropped _ yes, tt)))
@@ -54,6 +52,16 @@ module _ (R : RattleType) (one : One R.mir) (S : R.Denot → Type 0)
     (A : RattleType)
     (Fact : R.Denot → ℕ → ℕ → Type 0)
     (Post : R.Denot → ℕ → ℕ → A.Denot → R.Denot → Type 0) where
+  -- what the call asks of the heap and its other arguments, and what it does
+  abbrev Asked : (κs : Lfts 1) → R.Denot → Denots (types_at more κs) → Type 0
+  Asked κs v a = S v × Fact v a.0 a.1.0
+
+  abbrev Did : (κs : Lfts 1) → R.Denot → Denots (types_at more κs) → A.Denot → R.Denot → Type 0
+  Did κs v a r w = Post v a.0 a.1.0 r w
+
+  abbrev lent : Ended
+  lent = called R one more keeps A
+
   module _ {M : Type 1} {𝓤 : Ura M} (𝓛 : Logic 𝓤) where
     abbrev pub outer : Clauses 𝓤 (exported A)
     outer κs a = record {
@@ -62,59 +70,32 @@ module _ (R : RattleType) (one : One R.mir) (S : R.Denot → Type 0)
       ensures = λ g r end. sem 𝓛 (HoldsSome R a.0 (λ w. Post g a.1.0 a.1.1.0 r w));
     }
 
-    abbrev pub inner : Clauses 𝓤 (called R one A)
-    inner κs a = record { ghost = Unit {0}; requires = λ g. fact 𝓤 (S a.0.now × Fact a.0.now a.1.0 a.1.1.0); ensures = λ g r end. fact 𝓤 (Post a.0.now a.1.0 a.1.1.0 r end.0.now) }
+    abbrev pub inner : Clauses 𝓤 lent
+    inner = changes 𝓛 R one more keeps A Asked Did
 
   pub exports : {M : Type 1} (𝓤 : Ura M) (𝓛 : Logic 𝓤) (𝓜 : Model 𝓤 𝓛.H) (𝓡 : Running 𝓤 𝓛.H 𝓜) (σ τ θ : Ty) (key callee : Callee)
       → ((r : A.Denot) (v : Val) → Is A r (v ∷ []) → Good θ v)
       → Closed 𝓤 𝓛.H (tables 𝓤 𝓛.H 𝓜 𝓡 𝓡.env).C (tables 𝓤 𝓛.H 𝓜 𝓡 𝓡.env).Λ key (function σ τ θ callee)
-      → Meets 𝓛 (called R one A).signature (𝓡.run (𝓡.env callee)) (closing 𝓛 (called R one A) (inner 𝓛))
+      → Meets 𝓛 lent.signature (𝓡.run (𝓡.env callee)) (closing 𝓛 lent (inner 𝓛))
       → Meets 𝓛 (exported A).signature (𝓡.run (𝓡.env key)) (closing 𝓛 (exported A) (outer 𝓛))
   exports 𝓤 𝓛 𝓜 𝓡 σ τ θ key callee good closed met =
-      let c = outer 𝓛 in let W = walk_of 𝓛 (exported A) (stayed A) c in let 𝓣 = tables 𝓤 𝓛.H 𝓜 𝓡 𝓡.env in let goes = Goes-dropped 𝓛 0 (plain (λ _. usize)) yes (λ κs x w. refl) in
-      proved 𝓛 (exported A) (stayed A) c 𝓜 𝓡 (Goes-dropped 𝓛 0 (plain (λ _. RawPtr)) yes (λ κs x w. refl), (goes, (goes, tt)))
-      key (function σ τ θ callee) closed
+      let c = outer 𝓛 in let W = walk_of 𝓛 (exported A) (stayed A) c in let 𝓣 = tables 𝓤 𝓛.H 𝓜 𝓡 𝓡.env in
+      let goes = Goes-dropped 𝓛 0 (plain (λ _. usize)) yes (λ κs x w. refl) in
+      let is_framed = framed 𝓤 𝓛.H 𝓜 𝓣 in
+      proved 𝓛 (exported A) (stayed A) c 𝓜 𝓡 (Goes-dropped 𝓛 0 (plain (λ _. RawPtr)) yes (λ κs x w. refl), (goes, (goes, tt))) key (function σ τ θ callee) closed
       (λ κs. (rawptr_vals, (uint_vals w64, (uint_vals w64, tt)))) (λ κs. (rawptr_Tells, (uint_Tells w64, (uint_Tells w64, tt)))) (λ κs qs bounds a g are.
       let n = a.1.0 in let k = a.1.1.0 in let s : Ptr → W.Ghost = λ p. ((κs, qs, bounds, (p, (n, (k, tt))), (rawptr_vals p, (uint_vals w64 n, (uint_vals w64 k, tt)))), g) in
-      qed 𝓛 (raw (on_entry 𝓛 (exported A).signature κs qs a (s a.0).0.4) ∷ (some (λ (_ : S (g)). ‵ (lies_at R full_share a.0 (g))) ⊛ raw (fact 𝓤 (Fact g n k))) ∷ []) ∵ drop ! $
+      qed 𝓛 (raw (on_entry 𝓛 (exported A).signature κs qs a (s a.0).0.4) ∷ (some (λ (_ : S g). ‵ (lies_at R full_share a.0 g)) ⊛ raw (fact 𝓤 (Fact g n k))) ∷ []) ∵ drop ! $
       split ! $ pick ! (λ ready. move ! (1 ∷ []) $ heard ! (Fact g n k) (λ known.
-      in_its_block ! R (g) a.0 (λ p. prop (WpFn 𝓤 𝓛.H 𝓣.C 𝓣.Λ (function σ τ θ callee) (rawptr_vals p ++ uint_vals w64 n ++ uint_vals w64 k ++ []) (W.post (s p)))) (λ b o.
+      in_its_block ! R g a.0 (λ p. prop (WpFn 𝓤 𝓛.H 𝓣.C 𝓣.Λ (function σ τ θ callee) (rawptr_vals p ++ uint_vals w64 n ++ uint_vals w64 k ++ []) (W.post (s p)))) (λ b o.
       enter ! _ _ _ _ _ $ alloc_all ! (λ l. pass_all ! refl ((tt, tt), ((tt, record { fits = are.1.0.1 }), ((tt, record { fits = are.1.1.0.1 }), tt))) $
-      lends ! tt R (g) b o (λ α γ.
-      -- [the loan; what the lender keeps; the token; the locals]
-      sets ! (of_opd ! (get ! refl)) refl (tt, tt) $ sets ! (addr ! (through ! refl (stop !))) refl (tt, tt) $
-      let C = triple_of 𝓛 (called R one A).signature (closing 𝓛 (called R one A) (inner 𝓛)) in
-      let y : C.Ghost = (
-        (
-          (α ∷ [], tt),
-          (full_share, tt),
-          tt,
-          (record { ref_ptr = (b, o); ghost_name = γ; now = g }, (n, (k, tt))),
-          (
-            vptr b o ∷ [],
-            (
-              uint_vals w64 n,
-              (uint_vals w64 k, tt),
-            ),
-          ),
-        ),
-        tt,
-      ) in
-      nothing ! $ owned ! usize _ (uint_Makes 𝓛 w64) k _ (refl, are.1.1.0.1) $ join ! $ owned ! usize _ (uint_Makes 𝓛 w64) n _ (refl, are.1.0.1) $ join ! $ move ! (1 ∷ 0 ∷
-      []) $ join ! $
-      nothing ! $ move ! (3 ∷ 0 ∷ []) $ join ! $ join ! $ use0 𝓛 (raw (fact 𝓤 (S g × Fact g n k))) (fact_i 𝓤 (S g × Fact g n k) (emp 𝓤) ((ready, known))) $
-      move ! (1 ∷ 0 ∷ []) $ use2 𝓛 (raw (C.pre y)) (id⊢ 𝓤 _) $
-      calls_at ! (framed 𝓤 𝓛.H 𝓜 (tables 𝓤 𝓛.H 𝓜 𝓡 𝓡.env)) C met y (and_then ! (get ! refl) (and_then ! (get ! refl) (and_then ! (get ! refl) (no_more !)))) (λ v.
-      use1 𝓛 (later (some (λ (r : A.Denot). ((‵ (flft (α ∷ []) full_share) ⊛ ‵ ftrue) ⊛ ‵ (A.own_val r (v ∷ []))) ⊛
-      some (λ (ws : Lasts (called R one A) y.0.0 y.0.3). ‵ (lasts (called R one A) y.0.0 y.0.3 ws) ⊛ raw (fact 𝓤 (Post g n k r ws.0)))))) (id⊢ 𝓤 _) $
-      await ! tt $ pick ! (λ r. split ! $ split ! $ split ! $ lft_end ! tt $ move ! (2 ∷ []) $
-      peeks ! A (Is A) (shows 𝓛 A) r (v ∷ []) (λ is. let typed = good r v is in lands_as ! refl refl typed $
-      -- [what was returned; α is over; nothing; what the call left; what the lender keeps; the locals]
-      move ! (3 ∷ []) $ pick ! (λ ws. split ! $ move ! (1 ∷ []) $ heard ! (Post g n k r ws.0) (λ did. fsplit ! $ fsplit ! $
-      -- [the last value; its borrow; the rest; what was returned; α is over; nothing; what the lender keeps]
-      move ! (4 ∷ 6 ∷ 0 ∷ []) $ use3 𝓛 (later (‵ (part_at R full_share ws.0 b o))) (ref_back 𝓛 R (α ∷ []) γ ws.0 b o) $ await ! tt $
-      -- [the heap; its borrow; the rest; what was returned; nothing; the locals]
-      returns ! (look_at ! 0 refl) $ free_all ! refl $ keep ! (0 ∷ 3 ∷ []) $
-      fpack ! ((w : R.Denot) × Post g n k r w) (λ t. lies_at R full_share (block_ptr b o) t.0) (ws.0, did) $ move ! (1 ∷ []) $
+      sets ! (of_opd ! (get ! refl)) refl (tt, tt) $ sets ! (addr ! (through ! refl (stop !))) refl (tt, tt) $ nothing ! $ move ! (1 ∷ 0 ∷ []) $
+      lends_heap ! is_framed R one more keeps A Asked Did met b o g (λ κs. (n, (k, tt))) (λ κs. (uint_vals w64 n, (uint_vals w64 k, tt))) _ (λ κs. refl)
+      (λ κs. qed 𝓛 (‵ ftrue ∷ []) ∵ owned ! usize _ (uint_Makes 𝓛 w64) k _ (refl, are.1.1.0.1) $ join ! $ owned ! usize _ (uint_Makes 𝓛 w64) n _ (refl, are.1.0.1) $
+      join ! $ done !) (λ κs. (ready, known)) (λ i. and_then ! (get ! refl) (and_then ! (get ! refl) (and_then ! (get ! refl) (no_more !))))
+      (λ v κs r w is did. let typed = good r v is in lands_as ! refl refl typed $
+      -- [the heap; what was returned; the locals]
+      returns ! (look_at ! 0 refl) $ free_all ! refl $ keep ! (0 ∷ 1 ∷ []) $
+      fpack ! ((w : R.Denot) × Post g n k r w) (λ t. lies_at R full_share (block_ptr b o) t.0) (w, did) $ move ! (1 ∷ []) $
       suffices ! _ (ends_at 𝓛 (exported A) (stayed A) c (s (block_ptr b o)) v r (tt, (tt, (tt, tt))) (tt, (tt, (tt, tt)))) $
-      nothing ! $ nothing ! $ join ! $ nothing ! $ join ! $ nothing ! $ join ! $ nothing ! $ group ! 3 $ done !)))))))))))
+      nothing ! $ nothing ! $ join ! $ nothing ! $ join ! $ nothing ! $ join ! $ nothing ! $ group ! 3 $ done !))))))

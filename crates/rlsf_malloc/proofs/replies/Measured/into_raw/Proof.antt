@@ -16,6 +16,7 @@ use Rattle.rlsf_heap.specs.contracts.thin.ThinPayload as thin
 use Rattle.rlsf_heap.proofs.thin.ThinPayload.TheLaws as thin_laws
 use Rattle.rlsf_heap.specs.contracts.thin.ThinPayload.into_raw as k
 use Rattle.rlsf_heap.proofs.thin.ThinPayload.into_raw.Met.{met}
+use Rattle.rlsf_malloc.proofs.Steps.{passes_number}
 use Rattle.rlsf_malloc.specs.contracts.replies.Measured as reply
 use Rattle.rlsf_malloc.proofs.replies.Measured.TheLaws as reply_laws
 use Rattle.rlsf_malloc.specs.contracts.replies.Measured.into_raw as f
@@ -46,18 +47,11 @@ into_raw_spec 𝓤 𝓛 𝓜 𝓡 wired =
     sets ! (of_opd ! (get_in ! (fld ! refl (stop !)) (sub ! 0 refl (whole !)))) refl (tt, record { fits = is_n.1 }) $
     sets ! (of_opd ! (get_in ! (fld ! refl (stop !)) (sub ! 1 refl (whole !)))) refl typed $
     sets ! (of_opd ! (get ! refl)) refl typed $
-    let K = triple_of 𝓛 k.signature (k.spec 𝓛 𝓜.mem 𝓡.returns) in
-    let z : K.Ghost = ((tt, tt, tt, (q, tt), (vq ∷ [], tt)), tt) in
-    nothing ! $ move ! (1 ∷ 0 ∷ []) $ join ! $ nothing ! $ join ! $ nothing ! $ move ! (1 ∷ 0 ∷ []) $ use2 𝓛 (raw (K.pre z)) (id⊢ 𝓤 _) $
-    calls_at ! (framed 𝓤 𝓛.H 𝓜 (tables 𝓤 𝓛.H 𝓜 𝓡 𝓡.env)) K (met 𝓤 𝓛 𝓜 𝓡 (code.calls-rlsf_heap::thin::ThinPayload::into_raw 𝓡.env wired)) z
-    (and_then ! (get ! refl) (no_more !)) (λ u.
-    use1 𝓛 (later (some (λ (m : ℕ). (‵ ftrue ⊛ ‵ (usize.own_val m (u ∷ []))) ⊛
-    some (λ (ws : Lasts k.ended tt (q, tt)). ‵ (lasts k.ended z.0.0 z.0.3 ws) ⊛ (‵ (owns_reply q.of) ⊛ raw (fact 𝓤 (m ≡ q.addr))))))) (id⊢ 𝓤 _) $
-    await ! tt $ pick ! (λ m. split ! $ split ! $ drop ! $
-    peeks ! usize (Is usize) (shows 𝓛 usize) m (u ∷ []) (λ is_m. lands_as ! refl refl ((uint_Lawful 𝓛 w64).typed m _ is_m).0 $ drop ! $
-    pick ! (λ ws. split ! $ drop ! $ split ! $
+    passes_number ! (framed 𝓤 𝓛.H 𝓜 (tables 𝓤 𝓛.H 𝓜 𝓡 𝓡.env)) Q (λ p. p.addr) (λ p. owns_reply p.of)
+    (met 𝓤 𝓛 𝓜 𝓡 (code.calls-rlsf_heap::thin::ThinPayload::into_raw 𝓡.env wired)) q vq (λ i. and_then ! (get ! refl) (no_more !))
+    (λ u m is_m at. lands_as ! refl refl ((uint_Lawful 𝓛 w64).typed m _ is_m).0 $
     -- [what the payload owned; its address; the locals]
     sets ! (of_opd ! (get ! refl)) refl (tt, record { fits = is_n.1 }) $
     returns ! (look_at ! 0 refl) $ free_all ! refl $ keep ! (0 ∷ []) $
     suffices ! _ (ends_at 𝓛 f.ended stayed c y (vint w64 r.len) r.len ((tt, (tt, tt)), tt) (tt, tt)) $
-    owned ! usize _ (uint_Makes 𝓛 w64) r.len _ (refl, is_n.1) $ nothing ! $ nothing ! $ join ! $ nothing ! $ group ! 3 $ frame ! $ says ! refl $ done !)))))))))))
+    owned ! usize _ (uint_Makes 𝓛 w64) r.len _ (refl, is_n.1) $ nothing ! $ nothing ! $ join ! $ nothing ! $ group ! 3 $ frame ! $ says ! refl $ done !))))))))

@@ -26,6 +26,7 @@ use Rattle.rlsf_heap.specs.contracts.thin.ThinPayload as payload
 use Rattle.rlsf_heap.proofs.thin.ThinPayload.TheLaws as payload_laws
 use Rattle.rlsf_heap.specs.contracts.thin.ThinPayload.into_raw as k
 use Rattle.rlsf_heap.proofs.thin.ThinPayload.into_raw.Met.{met}
+use Rattle.rlsf_malloc.proofs.Steps.{passes_number}
 use Rattle.rlsf_malloc.specs.contracts.replies.Resized as reply
 use Rattle.rlsf_malloc.proofs.replies.Resized.TheLaws as reply_laws
 use Rattle.rlsf_malloc.specs.contracts.replies.Resized.into_raw as f
@@ -67,16 +68,9 @@ into_raw_spec 𝓤 𝓛 𝓜 𝓡 wired =
     sets ! (of_opd ! (get_in ! (fld ! refl (stop !)) (sub ! 0 refl (whole !)))) refl (tt, tt) $
     sets ! (of_opd ! (get_in ! (fld ! refl (stop !)) (sub ! 1 refl (whole !)))) refl typed $
     sets ! (of_opd ! (get ! refl)) refl typed $
-    let K = triple_of 𝓛 k.signature (k.spec 𝓛 𝓜.mem 𝓡.returns) in
-    let z : K.Ghost = ((tt, tt, tt, (q, tt), (vq ∷ [], tt)), tt) in
-    nothing ! $ move ! (1 ∷ 0 ∷ []) $ join ! $ nothing ! $ join ! $ nothing ! $ move ! (1 ∷ 0 ∷ []) $ use2 𝓛 (raw (K.pre z)) (id⊢ 𝓤 _) $
-    calls_at ! (framed 𝓤 𝓛.H 𝓜 (tables 𝓤 𝓛.H 𝓜 𝓡 𝓡.env)) K (met 𝓤 𝓛 𝓜 𝓡 (code.calls-rlsf_heap::thin::ThinPayload::into_raw 𝓡.env wired)) z
-    (and_then ! (get ! refl) (no_more !)) (λ u.
-    use1 𝓛 (later (some (λ (m : ℕ). (‵ ftrue ⊛ ‵ (usize.own_val m (u ∷ []))) ⊛
-    some (λ (ws : Lasts k.ended tt (q, tt)). ‵ (lasts k.ended z.0.0 z.0.3 ws) ⊛ (‵ (owns_reply q.of) ⊛ raw (fact 𝓤 (m ≡ q.addr))))))) (id⊢ 𝓤 _) $
-    await ! tt $ pick ! (λ m. split ! $ split ! $ drop ! $
-    peeks ! usize (Is usize) (shows 𝓛 usize) m (u ∷ []) (λ is_m. lands_as ! (ap only is_m.0) refl (tt, record { fits = is_m.1 }) $ drop ! $
-    pick ! (λ ws. split ! $ drop ! $ split ! $ move ! (1 ∷ []) $ heard ! (m ≡ q.addr) (λ at.
+    passes_number ! (framed 𝓤 𝓛.H 𝓜 (tables 𝓤 𝓛.H 𝓜 𝓡 𝓡.env)) Q (λ p. p.addr) (λ p. owns_reply p.of)
+    (met 𝓤 𝓛 𝓜 𝓡 (code.calls-rlsf_heap::thin::ThinPayload::into_raw 𝓡.env wired)) q vq (λ i. and_then ! (get ! refl) (no_more !))
+    (λ u m is_m at. lands_as ! (ap only is_m.0) refl (tt, record { fits = is_m.1 }) $
     -- [what the payload owned; the locals]
     sets ! (of_opd ! (get ! refl)) refl (tt, tt) $
     first ! $ branches ! (get ! refl)
@@ -85,4 +79,4 @@ into_raw_spec 𝓤 𝓛 𝓜 𝓡 wired =
     returns ! (look_at ! 0 refl) $ free_all ! refl $ keep ! (0 ∷ []) $ out m is_m.1 (at ∙ number_yes r.done q.addr yes))
     (λ no. sets_last ! (of_opd ! (lit ! tt)) refl (tt, record { fits = lit< tt }) $ exec ! 𝓣.C 𝓣.Λ (env code.Mir.locals l) code.Mir.t-7 (at_ret _ (W.post y)) $
     sets ! (of_opd ! (get ! refl)) refl (tt, record { fits = lit< tt }) $
-    returns ! (look_at ! 0 refl) $ free_all ! refl $ keep ! (0 ∷ []) $ out 0 (lit< tt) (number_no r.done q.addr no)))))))))))))
+    returns ! (look_at ! 0 refl) $ free_all ! refl $ keep ! (0 ∷ []) $ out 0 (lit< tt) (number_no r.done q.addr no)))))))))

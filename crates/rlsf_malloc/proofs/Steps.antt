@@ -1,0 +1,151 @@
+-- The steps that the templates share: a payload is made of its address, a heap is lent to a call and comes back, and a result becomes a number.
+use Rattle.std.proofs.Common.{◌<◌, ◌^◌}
+use Rattle.rlsf_malloc.proofs.Walking.{Good, tables, Fn, Ty, Model, Closed, Running, Meets}
+use Rattle.rlsf_malloc.proofs.Walking.{◌≡◌, ℕ, List, [], ◌∷◌, refl, sym, subst, w64, MutBor, full_share, id⊢, ftrue, flft, flent, fsep, vptr, fact, ‵, raw, ◌⊛◌}
+use Rattle.rlsf_malloc.proofs.Walking.{some, later, ◌$◌, move, drop, use0, use1, use2, use3, split, join, fsplit, fjoin, fpack, pick, await, rewrite}
+use Rattle.rlsf_malloc.proofs.Walking.{lft_end, Body, yes, ref_back, part_at, mem, uint_vals, uint_Makes, block_ptr, lies_at, plain, nothing, owned, heard, peeks}
+use Rattle.rlsf_malloc.proofs.Walking.{lasts, triple_of, usize, Is, shows, fact_i, emp, sep, Val, Ura, Fml, Logic, sem, Callee, seq, call, RattleType, One, RefMutOf}
+use Rattle.rlsf_malloc.proofs.Walking.{Ended, Clauses, Lasts, closing}
+use Rattle.rlsf_export_proofs.proofs.Lending.{lends}
+use Rattle.rlsf_malloc.specs.Handle.{HoldsBeside}
+use base.Logic.{ent, via, mono_l}
+use contract.Lifetimes.{Lfts}
+use denote.RattleType.{Denots, Valss, flat, owns}
+use denote.Signature.{Slot, types_at}
+use denote.Triple.Call.{calls_from}
+use denote.Triple.End.{Kepts}
+use denote.Triple.Statement.{Triple}
+use mir.Syntax.{Opd, Place, Body as Code}
+use prog.Wp.{Calls, Env, Loops}
+use sound.WpLaws.{FmC}
+use types.Kit.{Item, Goal, Post, Seq, Step, step, mean, runs, lands}
+use types.Run.{Opds}
+
+-- a type Q of payloads: a value of Q that is made of an address owns a d of D
+pub record Payloads : Type 2 where
+  pub Q : RattleType
+  pub D : Type 0
+  pub owns : D → Fml
+  pub Makes : ℕ → D → Q.Denot → Type 0
+
+-- the signatures of the calls: one that makes a value of the type Q of an address, one that makes a number of a value of the type Z, and one that is
+-- lent a heap of the type R and passed more
+abbrev pub taken : RattleType → Ended
+taken Q = record { signature = record { lifetimes = 0; outlives = []; params = plain (λ κs. usize) ∷ []; result = plain (λ κs. Q) }; kept = (yes, tt) }
+
+abbrev pub finished : RattleType → Ended
+finished Z = record { signature = record { lifetimes = 0; outlives = []; params = plain (λ κs. Z) ∷ []; result = plain (λ κs. usize) }; kept = (yes, tt) }
+
+abbrev pub called : (R : RattleType) → One R.mir → (more : List (Slot 1)) → Kepts more → RattleType → Ended
+called R one more keeps Z = record {
+  signature = record { lifetimes = 1; outlives = []; params = RefMutOf (0 ∷ []) tt (plain (λ κs. R)) (λ κs. one) ∷ more; result = plain (λ κs. Z) };
+  kept = (yes, keeps);
+}
+
+-- their contracts: what a payload owns is given up, and comes back, and what is asked and done of a heap is a fact
+module _ {M : Type 1} {𝓤 : Ura M} (𝓛 : Logic 𝓤) where
+  abbrev pub takes : (Q : RattleType) {D : Type 0} → (D → Fml) → (ℕ → D → Q.Denot → Type 0) → Clauses 𝓤 (taken Q)
+  takes Q {D} owns Makes κs a = record { ghost = D; requires = λ d. sem 𝓛 (owns d); ensures = λ d r end. fact 𝓤 (Makes a.0 d r) }
+
+  abbrev pub passes : (Z : RattleType) → (Z.Denot → ℕ) → (Z.Denot → Fml) → Clauses 𝓤 (finished Z)
+  passes Z num gives κs a = record { ghost = Unit {0}; requires = λ g. emp 𝓤; ensures = λ g r end. sep 𝓤 (sem 𝓛 (gives a.0)) (fact 𝓤 (r ≡ num a.0)) }
+
+  abbrev pub changes : (R : RattleType) (one : One R.mir) (more : List (Slot 1)) (keeps : Kepts more) (Z : RattleType)
+      → ((κs : Lfts 1) → R.Denot → Denots (types_at more κs) → Type 0) → ((κs : Lfts 1) → R.Denot → Denots (types_at more κs) → Z.Denot → R.Denot → Type 0)
+      → Clauses 𝓤 (called R one more keeps Z)
+  changes R one more keeps Z Asks Did κs a = record {
+    ghost = Unit {0};
+    requires = λ g. fact 𝓤 (Asks κs a.0.now a.1);
+    ensures = λ g r end. fact 𝓤 (Did κs a.0.now a.1 r end.0.now);
+  }
+
+-- An export meets its contract where its calls meet theirs: it makes a payload of an address, lends the heap, and makes a number of the result.
+abbrev pub Trades : (M : Type 1) (exported lent : Ended) → ((𝓤 : Ura M) (𝓛 : Logic 𝓤) → Clauses 𝓤 exported) → ((𝓤 : Ura M) (𝓛 : Logic 𝓤) → Clauses 𝓤 lent)
+    → (P : Payloads) (Z : RattleType) → (Z.Denot → ℕ) → (Z.Denot → Fml) → (Ty → Ty → Ty → Ty → Callee → Callee → Callee → Fn) → Type 2
+Trades M exported lent outer inner P Z num gives function =
+    (𝓤 : Ura M) (𝓛 : Logic 𝓤) (𝓜 : Model 𝓤 𝓛.H) (𝓡 : Running 𝓤 𝓛.H 𝓜) (σ τ θ ζ : Ty) (key source callee finish : Callee)
+    → ((r : P.Q.Denot) (v : Val) → Is P.Q r (v ∷ []) → Good θ v)
+    → ((r : Z.Denot) (v : Val) → Is Z r (v ∷ []) → Good ζ v)
+    → Closed 𝓤 𝓛.H (tables 𝓤 𝓛.H 𝓜 𝓡 𝓡.env).C (tables 𝓤 𝓛.H 𝓜 𝓡 𝓡.env).Λ key (function σ τ θ ζ source callee finish)
+    → Meets 𝓛 (taken P.Q).signature (𝓡.run (𝓡.env source)) (closing 𝓛 (taken P.Q) (takes 𝓛 P.Q P.owns P.Makes))
+    → Meets 𝓛 lent.signature (𝓡.run (𝓡.env callee)) (closing 𝓛 lent (inner 𝓤 𝓛))
+    → Meets 𝓛 (finished Z).signature (𝓡.run (𝓡.env finish)) (closing 𝓛 (finished Z) (passes 𝓛 Z num gives))
+    → Meets 𝓛 exported.signature (𝓡.run (𝓡.env key)) (closing 𝓛 exported (outer 𝓤 𝓛))
+
+module _ {M : Type 1} {𝓤 : Ura M} {𝓛 : Logic 𝓤} {K : Type 0} {Γ : List (Item 𝓤)} {E : Env 𝓤 𝓛.H} {C : Calls 𝓤 𝓛.H} {Λ : Loops 𝓤 𝓛.H} {f : Callee} {xs : List Opd}
+    {place : Place} {rest : Code} {end : Post 𝓤 𝓛.H} where
+  -- a payload that owns d is made of its address
+  pub takes_payload : K → FmC 𝓤 𝓛.H 𝓛.laws C → (Q : RattleType) {D : Type 0} (owns : D → Fml) (Makes : ℕ → D → Q.Denot → Type 0)
+      → Triple 𝓤 (C f) (triple_of 𝓛 (taken Q).signature (closing 𝓛 (taken Q) (takes 𝓛 Q owns Makes)))
+      → (d : D) (x : ℕ) → x < 2 ^ 64 → ((i : Item 𝓤) → Opds K 𝓛 (i ∷ Γ) E xs (uint_vals w64 x))
+      → ((u : Val) (q : Q.Denot) → Is Q q (u ∷ []) → Makes x d q → Seq K 𝓛 (‵ (Q.own_val q (u ∷ [])) ∷ Γ) (lands C Λ E place u rest end))
+      → Seq K 𝓛 (‵ (owns d) ∷ Γ) (runs C Λ E (seq (call f xs place) rest) end)
+  takes_payload t fm Q {D} owns Makes met d x fits operands next =
+      let T = triple_of 𝓛 (taken Q).signature (closing 𝓛 (taken Q) (takes 𝓛 Q owns Makes)) in let y : T.Ghost = ((tt, tt, tt, (x, tt), (uint_vals w64 x, tt)), d) in
+      nothing t $ owned t usize _ (uint_Makes 𝓛 w64) x _ (refl, fits) $ join t $ nothing t $ join t $ use2 𝓛 (raw (T.pre y)) (id⊢ 𝓤 _) $
+      calls_from t fm (raw (T.pre y)) (T.args y) (T.post y) (met y) (operands (raw (T.pre y))) (λ u.
+      use1 𝓛 (later (some (λ (q : Q.Denot). (‵ ftrue ⊛ ‵ (Q.own_val q (u ∷ []))) ⊛
+      some (λ (ws : Lasts (taken Q) tt (x, tt)). ‵ (lasts (taken Q) tt (x, tt) ws) ⊛ raw (fact 𝓤 (Makes x d q)))))) (id⊢ 𝓤 _) $
+      await t tt $ pick t (λ q. split t $ split t $ drop t $ peeks t Q (Is Q) (shows 𝓛 Q) q (u ∷ []) (λ is.
+      move t (1 ∷ []) $ pick t (λ ws. split t $ drop t $ heard t (Makes x d q) (λ made. next u q is made)))))
+
+  -- a number is made of a value, and the caller gets what it owns
+  pub passes_number : K → FmC 𝓤 𝓛.H 𝓛.laws C → (Z : RattleType) (num : Z.Denot → ℕ) (gives : Z.Denot → Fml)
+      → Triple 𝓤 (C f) (triple_of 𝓛 (finished Z).signature (closing 𝓛 (finished Z) (passes 𝓛 Z num gives)))
+      → (z : Z.Denot) (v : Val) → ((i : Item 𝓤) → Opds K 𝓛 (i ∷ Γ) E xs (v ∷ []))
+      → ((h : Val) (m : ℕ) → Is usize m (h ∷ []) → m ≡ num z → Seq K 𝓛 (‵ (gives z) ∷ ‵ (usize.own_val m (h ∷ [])) ∷ Γ) (lands C Λ E place h rest end))
+      → Seq K 𝓛 (‵ (Z.own_val z (v ∷ [])) ∷ Γ) (runs C Λ E (seq (call f xs place) rest) end)
+  passes_number t fm Z num gives met z v operands next =
+      let T = triple_of 𝓛 (finished Z).signature (closing 𝓛 (finished Z) (passes 𝓛 Z num gives)) in let y : T.Ghost = ((tt, tt, tt, (z, tt), (v ∷ [], tt)), tt) in
+      nothing t $ move t (1 ∷ 0 ∷ []) $ join t $ nothing t $ join t $ nothing t $ move t (1 ∷ 0 ∷ []) $ use2 𝓛 (raw (T.pre y)) (id⊢ 𝓤 _) $
+      calls_from t fm (raw (T.pre y)) (T.args y) (T.post y) (met y) (operands (raw (T.pre y))) (λ h.
+      use1 𝓛 (later (some (λ (m : ℕ). (‵ ftrue ⊛ ‵ (usize.own_val m (h ∷ []))) ⊛
+      some (λ (ws : Lasts (finished Z) tt (z, tt)). ‵ (lasts (finished Z) tt (z, tt) ws) ⊛ (‵ (gives z) ⊛ raw (fact 𝓤 (m ≡ num z))))))) (id⊢ 𝓤 _) $
+      await t tt $ pick t (λ m. split t $ split t $ drop t $ peeks t usize (Is usize) (shows 𝓛 usize) m (h ∷ []) (λ is.
+      move t (1 ∷ []) $ pick t (λ ws. split t $ drop t $ split t $ move t (1 ∷ []) $ heard t (m ≡ num z) (λ at. next h m is at)))))
+
+  -- the heap at (b, o) is lent to a call, which is passed more, and comes back
+  pub lends_heap : K → FmC 𝓤 𝓛.H 𝓛.laws C → (R : RattleType) (one : One R.mir) (more : List (Slot 1)) (keeps : Kepts more) (Z : RattleType)
+      (Asks : (κs : Lfts 1) → R.Denot → Denots (types_at more κs) → Type 0) (Did : (κs : Lfts 1) → R.Denot → Denots (types_at more κs) → Z.Denot → R.Denot → Type 0)
+      → Triple 𝓤 (C f) (triple_of 𝓛 (called R one more keeps Z).signature (closing 𝓛 (called R one more keeps Z) (changes 𝓛 R one more keeps Z Asks Did)))
+      → (b o : ℕ) (before : R.Denot) {i : Item 𝓤} (args : (κs : Lfts 1) → Denots (types_at more κs)) (vss : (κs : Lfts 1) → Valss (types_at more κs)) (vs : List Val)
+      → ((κs : Lfts 1) → flat (types_at more κs) (vss κs) ≡ vs)
+      → ((κs : Lfts 1) → ent 𝓤 (mean 𝓛 i) (sem 𝓛 (owns (types_at more κs) (args κs) (vss κs))))
+      → ((κs : Lfts 1) → Asks κs before (args κs)) → ((j : Item 𝓤) → Opds K 𝓛 (j ∷ Γ) E xs (vptr b o ∷ vs))
+      → ((v : Val) (κs : Lfts 1) (r : Z.Denot) (w : R.Denot) → Is Z r (v ∷ []) → Did κs before (args κs) r w
+      → Seq K 𝓛 (‵ (part_at R full_share w b o) ∷ ‵ (Z.own_val r (v ∷ [])) ∷ Γ) (lands C Λ E place v rest end))
+      → Seq K 𝓛 (‵ (part_at R full_share before b o) ∷ i ∷ Γ) (runs C Λ E (seq (call f xs place) rest) end)
+  lends_heap t fm R one more keeps Z Asks Did met b o before {i} args vss vs is_flat has asks operands next =
+      lends t tt R before b o (λ α γ.
+      -- [the loan; what the lender keeps; the token; the other arguments]
+      let T = triple_of 𝓛 (called R one more keeps Z).signature (closing 𝓛 (called R one more keeps Z) (changes 𝓛 R one more keeps Z Asks Did)) in
+      let κs : Lfts 1 = (α ∷ [], tt) in let loan : MutBor R.Denot = record { ref_ptr = (b, o); ghost_name = γ; now = before } in
+      let y : T.Ghost = ((κs, (full_share, tt), tt, (loan, args κs), (vptr b o ∷ [], vss κs)), tt) in
+      let lender = sem 𝓛 (flent (α ∷ []) (Body (mem R) b o γ)) in
+      move t (3 ∷ []) $ use1 𝓛 (‵ (owns (types_at more κs) (args κs) (vss κs))) (has κs) $ move t (1 ∷ 0 ∷ []) $ join t $
+      nothing t $ move t (3 ∷ 0 ∷ []) $ join t $ join t $ use0 𝓛 (raw (fact 𝓤 (Asks κs before (args κs)))) (fact_i 𝓤 (Asks κs before (args κs)) (emp 𝓤) (asks κs)) $
+      move t (1 ∷ 0 ∷ []) $ use2 𝓛 (raw (T.pre y)) (id⊢ 𝓤 _) $ join t $
+      calls_from t fm _ (vptr b o ∷ vs) (λ v. sep 𝓤 (T.post y v) lender)
+      (via 𝓤 (sep 𝓤 (C f (vptr b o ∷ vs) (T.post y)) lender)
+      (mono_l 𝓤 lender (subst (λ (us : List Val). ent 𝓤 (T.pre y) (C f (vptr b o ∷ us) (T.post y))) (is_flat κs) (met y)))
+      (fm f (vptr b o ∷ vs) (T.post y) (λ v. sep 𝓤 (T.post y v) lender) lender (λ v. id⊢ 𝓤 _))) (operands _) (λ v.
+      use1 𝓛 (later (some (λ (r : Z.Denot). ((‵ (flft (α ∷ []) full_share) ⊛ ‵ ftrue) ⊛ ‵ (Z.own_val r (v ∷ []))) ⊛
+      some (λ (ws : Lasts (called R one more keeps Z) κs (loan, args κs)). ‵ (lasts (called R one more keeps Z) κs (loan, args κs) ws) ⊛
+      raw (fact 𝓤 (Did κs before (args κs) r ws.0))))) ⊛ ‵ (flent (α ∷ []) (Body (mem R) b o γ))) (id⊢ 𝓤 _) $ split t $
+      await t tt $ pick t (λ r. split t $ split t $ split t $ lft_end t tt $ move t (2 ∷ []) $ peeks t Z (Is Z) (shows 𝓛 Z) r (v ∷ []) (λ is.
+      -- [what was returned; α is over; nothing; what the call left; what the lender keeps]
+      move t (3 ∷ []) $ pick t (λ ws. split t $ move t (1 ∷ []) $ heard t (Did κs before (args κs) r ws.0) (λ did. fsplit t $ fsplit t $
+      -- [the last value; its borrow; the rest; what was returned; α is over; nothing; what the lender keeps]
+      move t (4 ∷ 6 ∷ 0 ∷ []) $ use3 𝓛 (later (‵ (part_at R full_share ws.0 b o))) (ref_back 𝓛 R (α ∷ []) γ ws.0 b o) $ await t tt $
+      -- [the heap; its borrow; the rest; what was returned; nothing]
+      move t (1 ∷ []) $ drop t $ move t (1 ∷ []) $ drop t $ move t (2 ∷ []) $ drop t $ next v κs r ws.0 is did))))))
+
+module _ {M : Type 1} {𝓤 : Ura M} {𝓛 : Logic 𝓤} {K : Type 0} {Γ : List (Item 𝓤)} {G : Goal 𝓤 𝓛.H} where
+  -- the heap lies at its handle, and the caller owns what it gets
+  pub gives_out : K → (R : RattleType) (w : R.Denot) (b o : ℕ) {F : Fml} (Y : Type 0) (Outer : ℕ → R.Denot → Y → Type 0) (Own : ℕ → R.Denot → Y → Fml) (m n : ℕ)
+      → m ≡ n → (y : Y) × Outer n w y × (F ≡ Own n w y)
+      → Step K 𝓛 (‵ (HoldsBeside R (block_ptr b o) Y (Outer m) (Own m)) ∷ Γ) G (‵ F ∷ ‵ (part_at R full_share w b o) ∷ Γ) G
+  gives_out t R w b o Y Outer Own m n at packed = step (λ s.
+      rewrite t 0 (λ (F : Fml). ‵ F) packed.2 refl $ rewrite t 0 (λ (i : ℕ). ‵ (Own i w packed.0)) {x = m} {y = n} (sym at) refl $ move t (1 ∷ 0 ∷ []) $ fjoin t $
+      fpack t ((w : R.Denot) × (y : Y) × Outer m w y) (λ z. fsep (lies_at R full_share (block_ptr b o) z.0) (Own m z.0 z.1))
+      (w, packed.0, subst (λ (i : ℕ). Outer i w packed.0) (sym at) packed.1) $ s)
