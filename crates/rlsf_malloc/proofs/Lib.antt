@@ -1,5 +1,6 @@
 mod Alignments
 pub mod Laws
+mod Moved
 mod Outcomes
 pub mod Payloads
 mod Reallocated

@@ -22,13 +22,14 @@ module _ (old new : HeapView) (same : IsSameHeap old new) (p : PayloadView) (add
   -- the payload has its new size
   pub is_resized : (align : ℕ) (q : PayloadView) → q.identity ≡ old.identity → q.align ≡ align → IsWritten q → align_at new.state q.start ≡ Some align
       → length q.bytes ≡ length (bytes_at new.state q.start) → q.start % align ≡ 0 → size ≤ length q.bytes → length q.bytes < size + 32
-      → Keeps p.bytes q.bytes → (q.start ≢ addr → align_at old.state q.start ≡ None)
+      → Keeps p.bytes q.bytes → (q.start ≢ addr → align_at old.state q.start ≡ None) → (q.start ≢ addr → align_at new.state addr ≡ None)
       → ((a : ℕ) → a ≢ addr → a ≢ q.start → align_at new.state a ≡ align_at old.state a) → IsResized old p size align q new
-  is_resized align q heap requested written live long aligned sized few kept fresh aligns = record {
+  is_resized align q heap requested written live long aligned sized few kept fresh gone aligns = record {
     at = record { start = refl; heap = λ _. heap ∙ sym same.identity; written = λ _. written };
     sized = record { live = live; requested = requested; aligned = aligned; sized = sized; few = few; long = long };
     held = kept;
     new = λ apart. fresh (λ e. apart (e ∙ sym at));
+    gone = λ apart. subst (λ (n : ℕ). align_at new.state n ≡ None) (sym at) (gone (λ e. apart (e ∙ sym at)));
     aligns = λ a off off_new. aligns a (λ e. off (e ∙ sym at)) off_new;
   }
 

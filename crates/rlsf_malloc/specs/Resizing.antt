@@ -20,12 +20,14 @@ pub record IsKept (p q : PayloadView) : Type 0 where
   pub bytes : q.bytes ≡ p.bytes
   pub written : IsWritten q
 
--- a payload p became q, of another size, at its address or at one where none was. As many of its first bytes as both have are kept
+-- a payload p became q, of another size, at its address or at one where none was. As many of its first bytes as both have are kept. If it
+-- moved, no payload is at its old address
 pub record IsResized (before : HeapView) (p : PayloadView) (size align : ℕ) (q : PayloadView) (after : HeapView) : Type 0 where
   pub at : IsAt after q.start q
   pub sized : IsSized size align q after
   pub held : Keeps p.bytes q.bytes
   pub new : q.start ≢ p.start → align_at before.state q.start ≡ None
+  pub gone : q.start ≢ p.start → align_at after.state p.start ≡ None
   pub aligns : (a : ℕ) → a ≢ p.start → a ≢ q.start → align_at after.state a ≡ align_at before.state a
 
 -- the payload is as it was, and so are all others

@@ -2,6 +2,7 @@ use Rattle.std.proofs.Common.{Some, None, refl, sym, ◌∙◌}
 use Rattle.rlsf_base.specs.Layout.{IsLayout}
 use Rattle.rlsf_model.specs.Reallocate.{Reallocates}
 use Rattle.rlsf_heap.specs.Reallocation.{owned_by}
+use Rattle.rlsf_malloc.proofs.Moved.{gone_where_moved}
 use Rattle.rlsf_malloc.proofs.Outcomes.{same_heap, step_of}
 use Rattle.rlsf_malloc.proofs.Reallocated.{is_refused, is_resized, not_resized, resized}
 use Rattle.rlsf_malloc.proofs.resizing.resize.Goals as goal
@@ -14,7 +15,7 @@ returns-in-Ok g c =
     let step = step_of g.row.FLLEN sllen new (λ t. IsLayout size c.args.align → Reallocates sllen (owned_by old.state p) addr size (Some q.start) t) did.step in
     resized old new same p addr is.start some size sllen c.args.align q c.in-Ok.payload.addr did.at did.some (did.layout refl) step
     (is_resized old new same p addr is.start some size c.args.align q did.payload did.align (did.written ready) did.live did.long did.aligned did.sized did.few did.kept did.new
-    did.aligns) did.count
+    (λ off. gone_where_moved sllen (owned_by old.state p) new.state addr size q.start off (step (did.layout refl))) did.aligns) did.count
 
 pub returns-in-Err : goal.returns-in-Err
 returns-in-Err g c =

@@ -14,7 +14,7 @@ returns-in-Ok g c =
     let step = step_of g.row.FLLEN g.row.SLLEN new (λ t. IsLayout size 16 → ReallocatesWithoutMove (owned_by old.state p) addr size (Some q.start) t) did.step in
     resized_there old new same p addr is.start some size q c.in-Ok.payload.addr did.at did.there (did.layout refl) step
     (is_resized old new same p addr is.start some size 16 q did.payload did.align (did.written ready) did.live did.long did.aligned did.sized did.few did.kept
-    (λ off. absurd (off did.there)) (λ a off off_new. (λ i. did.aligns i a))) did.count
+    (λ off. absurd (off did.there)) (λ off. absurd (off did.there)) (λ a off off_new. (λ i. did.aligns i a))) did.count
 
 pub returns-in-Err : goal.returns-in-Err
 returns-in-Err g c =

@@ -20,7 +20,8 @@ returns-in-Ok-move_thin g c =
     (step_of g.row.FLLEN sllen new (λ t. MovesElsewhere sllen old.state addr layout.size layout.align (Some q.start) t) did.step)) in
     moved old new same p addr is.start some size sllen low q c.in-Ok-move_thin.payload.addr did.at did.some (c.in-Ok.ensures.succeeds.0 refl) step
     (is_resized old new same p addr is.start some size 16 q did.payload (did.align ∙ shape.1) did.written (did.live ∙ ap Some shape.1) did.long
-    (subst (λ a. q.start % a ≡ 0) shape.1 did.aligned) (omega (arith, did.sized, shape.0)) (omega (arith, did.few, shape.0)) did.kept (λ _. did.new.1) did.aligns) did.count
+    (subst (λ a. q.start % a ≡ 0) shape.1 did.aligned) (omega (arith, did.sized, shape.0)) (omega (arith, did.few, shape.0)) did.kept (λ _. did.new.1)
+    (λ _. did.gone) did.aligns) did.count
 
 pub returns-in-Err : goal.returns-in-Err
 returns-in-Err g c =
