@@ -22,7 +22,7 @@ LAYERS = [
          (1, "rlsf_test_source", "a source for tests"), (1, "rlsf_compare_model_flex rlsf_compare_model_global", "comparison with Python")],
     ]),
     ("Benchmarks", "one set of steps, seven programs", "#eeeeee", [
-        [(1, "rlsf_bench_steps", "the steps"), (2.2, "rlsf_bench rlsf_bench_aligned rlsf_bench_not_inlined rlsf_bench_not_inlined_aligned", "Tlsf: in place or by calls, one alignment or seven"),
+        [(1, "rlsf_bench_common", "the steps"), (2.2, "rlsf_bench rlsf_bench_aligned rlsf_bench_not_inlined rlsf_bench_not_inlined_aligned", "Tlsf: in place or by calls, one alignment or seven"),
          (1.4, "rlsf_bench_heap rlsf_bench_shared rlsf_bench_global", "heaps; threads")],
     ]),
     ("Examples", "programs to copy from", "#fff3d0", [
@@ -32,13 +32,13 @@ LAYERS = [
          (1, "rlsf_example_threads", "two threads, one allocator"), (1, "", "")],
     ]),
     ("Libraries, a tool", "for other code", "#fff3d0", [
-        [(1, "rlsf_export_proofs", "proofs of C's exports: their template"), (1, "rlsf_c", "static library for C: pools of numbers"),
+        [(1, "rlsf_c_lemmas", "proofs of C's exports: their template"), (1, "rlsf_c", "static library for C: pools of numbers"),
          (1, "rlsf_malloc", "static library for C: malloc in place"), (1, "rlsf_pool_lengths", "program: prints lengths of pools")],
         [(1, "rlsf_example_collections", "queues, objects and strings in a pool"), (3, "", "")],
     ]),
     ("Traces", "a text of calls, run and compared with the model", "#fbe3d6", [
         [(1, "rlsf_replay", "program: prints the answers"), (1, "rlsf_report", "program: counts"), (1, "rlsf_map", "program: draws")],
-        [(1, "rlsf_trace_replay", "reads, runs and prints"), (1, "rlsf_trace_watch", "what is held after each op"), (1, "rlsf_trace_flex_runs", "runs with a FlexTlsf")],
+        [(1, "rlsf_trace_replay", "reads, runs and prints"), (1, "rlsf_trace_moments", "what is held after each op"), (1, "rlsf_trace_flex_runs", "runs with a FlexTlsf")],
         [(1, "rlsf_trace_text", "the text: ops and answers"), (2, "rlsf_trace_runs", "runs of ops with a Tlsf: the headline contract")],
     ]),
     ("Allocators", "each column adds to what is below it", "#d9efd9", [

@@ -1,10 +1,10 @@
 //! Times the allocator: `rlsf_bench CONFIG SLOTS STEPS MODE` allocates payloads into slots, and frees or reallocates them. Their
 //! order seems random, and is the same in each run.
 //!
-//! The body is `main_of` of `rlsf_bench_steps`, with these parameters.
+//! The body is `main_of` of `rlsf_bench_common`, with these parameters.
 #![tactic(auto)]
 
-use rlsf_bench_steps::main_of;
+use rlsf_bench_common::main_of;
 use std::process::ExitCode;
 
 /// Whether each call has a function of its own.

@@ -3,13 +3,13 @@
 //! it allocates one of up to 511 bytes. `rlsf_bench_global SLOTS STEPS THREADS` does so in several threads. Each has its part of
 //! the slots, and does that many steps.
 //!
-//! `steps.rt` has the steps. `rlsf_bench_steps` draws the numbers, and reads the command line.
+//! `steps.rt` has the steps. `rlsf_bench_common` draws the numbers, and reads the command line.
 #![tactic(auto)]
 
 mod steps;
 
 use rlsf_base::memory::Memory;
-use rlsf_bench_steps::{BenchError, Load, exit_of, load_of};
+use rlsf_bench_common::{BenchError, Load, exit_of, load_of};
 use rlsf_global::GlobalTlsf;
 use std::alloc::{AllocError, Global};
 use std::num::NonZeroUsize;

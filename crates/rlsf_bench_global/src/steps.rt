@@ -1,7 +1,7 @@
 //! The run: payloads are allocated into slots and freed, through the lock.
 
 use rlsf_base::memory::{Addr, Layout};
-use rlsf_bench_steps::Xorshift;
+use rlsf_bench_common::Xorshift;
 use rlsf_global::GlobalTlsf;
 use std::alloc::{AllocError, Global};
 use std::num::NonZeroUsize;

@@ -3,7 +3,7 @@
 use crate::slots::{Slots, Step};
 use crate::{MEMORY, POOL};
 use rlsf_base::memory::{Addr, Memory};
-use rlsf_bench_steps::{BenchError, Xorshift};
+use rlsf_bench_common::{BenchError, Xorshift};
 use rlsf_tlsf::Tlsf;
 use rlsf_trace_runs::run;
 use rlsf_trace_text::{Answer, Op};

@@ -11,7 +11,7 @@ mod tally;
 
 use addresses::write_addresses;
 use rlsf_base::memory::Range;
-use rlsf_bench_steps::{BenchError, exit_of};
+use rlsf_bench_common::{BenchError, exit_of};
 use std::env;
 use std::io::{BufWriter, Write};
 use std::num::NonZeroUsize;

@@ -6,7 +6,7 @@ ghost use Rattle.rlsf_bench_heap.specs.Slots.{AreOf};
 
 use crate::{MEMORY, POOL};
 use rlsf_base::memory::{Layout, OpenMemory};
-use rlsf_bench_steps::{BenchError, Xorshift};
+use rlsf_bench_common::{BenchError, Xorshift};
 use rlsf_heap::{Heap, Payload};
 use std::alloc::{AllocError, Global};
 use std::num::NonZeroUsize;

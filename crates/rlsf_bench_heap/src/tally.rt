@@ -1,7 +1,7 @@
 //! The tally of the steps.
 
 use crate::slots::{Slots, Step};
-use rlsf_bench_steps::{BenchError, Xorshift};
+use rlsf_bench_common::{BenchError, Xorshift};
 use std::alloc::Global;
 use std::fmt;
 use std::num::NonZeroUsize;

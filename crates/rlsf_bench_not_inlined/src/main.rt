@@ -1,9 +1,9 @@
 //! Times the allocator as `rlsf_bench` does, with each call in a function of its own that is never inlined.
 //!
-//! The body is `main_of` of `rlsf_bench_steps`, with these parameters.
+//! The body is `main_of` of `rlsf_bench_common`, with these parameters.
 #![tactic(auto)]
 
-use rlsf_bench_steps::main_of;
+use rlsf_bench_common::main_of;
 use std::process::ExitCode;
 
 /// Whether each call has a function of its own.

@@ -1,10 +1,10 @@
 //! Times the allocator as `rlsf_bench` does, with payloads of seven alignments, from 1 to 64. Each call is in a function of its own
 //! that is never inlined.
 //!
-//! The body is `main_of` of `rlsf_bench_steps`, with these parameters.
+//! The body is `main_of` of `rlsf_bench_common`, with these parameters.
 #![tactic(auto)]
 
-use rlsf_bench_steps::main_of;
+use rlsf_bench_common::main_of;
 use std::process::ExitCode;
 
 /// Whether each call has a function of its own.

@@ -7,7 +7,7 @@
 mod steps;
 
 use rlsf_base::memory::{OpenMemory, Range};
-use rlsf_bench_steps::{BenchError, Load, exit_of, load_of};
+use rlsf_bench_common::{BenchError, Load, exit_of, load_of};
 use rlsf_heap::Heap;
 use rlsf_shared_heap::SharedHeap;
 use std::alloc::{AllocError, Global};

@@ -5,7 +5,7 @@ ghost use Rattle.rlsf_bench_shared.specs.Slots.{AreOf};
 
 use crate::Shared;
 use rlsf_base::memory::Layout;
-use rlsf_bench_steps::Xorshift;
+use rlsf_bench_common::Xorshift;
 use rlsf_heap::Payload;
 use std::alloc::{AllocError, Global};
 use std::sync::Wait;

@@ -1,5 +1,5 @@
 -- What the exports return, other than numbers, and what lies behind their handle.
-use Rattle.rlsf_export_proofs.proofs.Contracts.{Returned}
+use Rattle.rlsf_c_lemmas.proofs.Contracts.{Returned}
 use Rattle.rlsf_c.specs.contracts.answers.Answer as an_answer
 use Rattle.rlsf_c.specs.contracts.answers.BlockAnswer as a_block
 use Rattle.rlsf_blocks.specs.contracts.totals.Totals as the_totals

@@ -6,7 +6,7 @@ use Rattle.rlsf_malloc.proofs.Walking.{some, later, ◌$◌, move, drop, use0, u
 use Rattle.rlsf_malloc.proofs.Walking.{lft_end, Body, yes, ref_back, part_at, mem, uint_vals, uint_Makes, block_ptr, lies_at, plain, nothing, owned, heard, peeks}
 use Rattle.rlsf_malloc.proofs.Walking.{lasts, triple_of, usize, Is, shows, fact_i, emp, sep, Val, Ura, Fml, Logic, sem, Callee, seq, call, RattleType, One, RefMutOf}
 use Rattle.rlsf_malloc.proofs.Walking.{Ended, Clauses, Lasts, closing}
-use Rattle.rlsf_export_proofs.proofs.Lending.{lends}
+use Rattle.rlsf_c_lemmas.proofs.Lending.{lends}
 use Rattle.rlsf_malloc.specs.Handle.{HoldsBeside}
 use base.Logic.{ent, via, mono_l}
 use contract.Lifetimes.{Lfts}

@@ -1,8 +1,8 @@
 //! Payloads as boxes: from the call that placed one to the call that ended, moved or resized it.
 
 use crate::window::Window;
+use rlsf_trace_moments::Watched;
 use rlsf_trace_text::{Answer, Op};
-use rlsf_trace_watch::Watched;
 use std::alloc::{AllocError, Global};
 use std::collections::BTreeMap;
 

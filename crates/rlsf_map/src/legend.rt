@@ -2,8 +2,8 @@
 
 use crate::pools::Pool;
 use crate::window::Window;
+use rlsf_trace_moments::Watched;
 use rlsf_trace_text::{Answer, Configuration};
-use rlsf_trace_watch::Watched;
 use std::fmt;
 
 /// How many pools, and how many lines without room, are listed at most.

@@ -2,8 +2,8 @@
 
 use crate::counts::Outcome;
 use crate::kinds::Kind;
+use rlsf_trace_moments::{Moment, Watched};
 use rlsf_trace_text::{Answer, Op};
-use rlsf_trace_watch::{Moment, Watched};
 use std::alloc::{AllocError, Global};
 
 /// A line for each call, after a line of names. It has the number of its line in the trace, its command, and how it ended. Then it

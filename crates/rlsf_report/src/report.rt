@@ -11,9 +11,9 @@ use crate::csv::csv_of;
 use crate::sizes::asked_bytes;
 use crate::summary::summary_of;
 use crate::table::table_of;
+use rlsf_trace_moments::{Watched, watch_trace};
 use rlsf_trace_replay::{read_input, write_text};
 use rlsf_trace_text::{Fault, ReplayFault, Trace};
-use rlsf_trace_watch::{Watched, watch_trace};
 use std::alloc::Global;
 use std::io::{Read, Write};
 

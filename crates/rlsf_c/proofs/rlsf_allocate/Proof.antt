@@ -1,6 +1,6 @@
 -- `rlsf_allocate` lends the pool behind the handle to `Pool::allocate`, and takes it back.
-use Rattle.rlsf_export_proofs.proofs.Contracts.{changes}
-use Rattle.rlsf_export_proofs.proofs.Exports.{exports2}
+use Rattle.rlsf_c_lemmas.proofs.Contracts.{changes}
+use Rattle.rlsf_c_lemmas.proofs.Exports.{exports2}
 use Rattle.rlsf_c.proofs.Results.{answer}
 use Rattle.rlsf_c.specs.Calls.{Allocates}
 use Rattle.rlsf_c.specs.Seen.{seen}

@@ -1,6 +1,6 @@
 -- `rlsf_copy` lends the pool behind the handle to `Pool::copy`, and takes it back.
-use Rattle.rlsf_export_proofs.proofs.Contracts.{changes, number}
-use Rattle.rlsf_export_proofs.proofs.Exports.{exports3}
+use Rattle.rlsf_c_lemmas.proofs.Contracts.{changes, number}
+use Rattle.rlsf_c_lemmas.proofs.Exports.{exports3}
 use Rattle.rlsf_c.specs.Calls.{Copies}
 use Rattle.rlsf_c.specs.Seen.{seen}
 use Rattle.rlsf_c.specs.contracts.rlsf_copy as f

@@ -1,6 +1,6 @@
 -- `rlsf_destroy` takes the pool from behind the handle, drops it, and puts an ended one there.
 use Rattle.std.proofs.Common.{◌≡◌, refl}
-use Rattle.rlsf_export_proofs.proofs.Replacing.{replaces}
+use Rattle.rlsf_c_lemmas.proofs.Replacing.{replaces}
 use Rattle.rlsf_c.proofs.Results.{pool}
 use Rattle.rlsf_c.specs.Seen.{ended}
 use Rattle.rlsf_c.specs.contracts.rlsf_destroy as f

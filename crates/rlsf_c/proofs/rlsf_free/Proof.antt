@@ -1,6 +1,6 @@
 -- `rlsf_free` lends the pool behind the handle to `Pool::free`, and takes it back.
-use Rattle.rlsf_export_proofs.proofs.Contracts.{changes, number}
-use Rattle.rlsf_export_proofs.proofs.Exports.{exports1}
+use Rattle.rlsf_c_lemmas.proofs.Contracts.{changes, number}
+use Rattle.rlsf_c_lemmas.proofs.Exports.{exports1}
 use Rattle.rlsf_c.specs.Calls.{Frees}
 use Rattle.rlsf_c.specs.Seen.{seen}
 use Rattle.rlsf_c.specs.contracts.rlsf_free as f

@@ -1,11 +1,11 @@
 -- `rlsf_init` makes a pool by `Pool::new`, writes it to the room behind the handle, and lends it to `Pool::status`.
-use Rattle.rlsf_export_proofs.proofs.Walking.{◌≡◌, ℕ, [], ◌∷◌, ◌++◌, refl, sym, ap, ◌∙◌, w64, proved, full_share, id⊢, ftrue, flft, flent, named, vptr, WpFn, fact}
-use Rattle.rlsf_export_proofs.proofs.Walking.{tables, ‵, raw, ◌⊛◌, some, later, prop, ◌$◌, ◌∵◌, !, qed, done, move, keep, drop, use1, use2, use3, split, join, fsplit, fpack}
-use Rattle.rlsf_export_proofs.proofs.Walking.{pick, await, regoal, suffices, group, lft_new, lft_end, Body, enter, of_opd, addr, stop, no_more, and_then, returns, alloc_all, pass_all}
-use Rattle.rlsf_export_proofs.proofs.Walking.{free_all, look_at, get, through, sets, lands_as, usize, subst, yes, Is, shows, lends_ref, ref_back, part_at, mem, uint_Makes, uint_vals}
-use Rattle.rlsf_export_proofs.proofs.Walking.{uint_Tells, uint_Lawful, Ptr, RawPtr, block_ptr, lies_at, in_a_block, rawptr_vals, rawptr_Tells, MutRef, plain, nothing, owned, heard}
-use Rattle.rlsf_export_proofs.proofs.Walking.{peeks}
-use Rattle.rlsf_export_proofs.proofs.Walking.{calls_at, lasts, triple_of, Stays, walk_of, stay_dropped, Goes-dropped, ends_at, framed}
+use Rattle.rlsf_c_lemmas.proofs.Walking.{◌≡◌, ℕ, [], ◌∷◌, ◌++◌, refl, sym, ap, ◌∙◌, w64, proved, full_share, id⊢, ftrue, flft, flent, named, vptr, WpFn, fact}
+use Rattle.rlsf_c_lemmas.proofs.Walking.{tables, ‵, raw, ◌⊛◌, some, later, prop, ◌$◌, ◌∵◌, !, qed, done, move, keep, drop, use1, use2, use3, split, join, fsplit, fpack}
+use Rattle.rlsf_c_lemmas.proofs.Walking.{pick, await, regoal, suffices, group, lft_new, lft_end, Body, enter, of_opd, addr, stop, no_more, and_then, returns, alloc_all, pass_all}
+use Rattle.rlsf_c_lemmas.proofs.Walking.{free_all, look_at, get, through, sets, lands_as, usize, subst, yes, Is, shows, lends_ref, ref_back, part_at, mem, uint_Makes, uint_vals}
+use Rattle.rlsf_c_lemmas.proofs.Walking.{uint_Tells, uint_Lawful, Ptr, RawPtr, block_ptr, lies_at, in_a_block, rawptr_vals, rawptr_Tells, MutRef, plain, nothing, owned, heard}
+use Rattle.rlsf_c_lemmas.proofs.Walking.{peeks}
+use Rattle.rlsf_c_lemmas.proofs.Walking.{calls_at, lasts, triple_of, Stays, walk_of, stay_dropped, Goes-dropped, ends_at, framed}
 use base.Fml.{froom}
 use types.Run.{assigns, init}
 use borrow.Table.OneValue.{part_in}

@@ -1,7 +1,7 @@
 -- `rlsf_len` lends the pool behind the handle to `Pool::len`, and takes it back.
 use Rattle.std.proofs.Common.{◌≡◌}
-use Rattle.rlsf_export_proofs.proofs.Contracts.{changes, number}
-use Rattle.rlsf_export_proofs.proofs.Exports.{exports0}
+use Rattle.rlsf_c_lemmas.proofs.Contracts.{changes, number}
+use Rattle.rlsf_c_lemmas.proofs.Exports.{exports0}
 use Rattle.rlsf_c.specs.Seen.{seen}
 use Rattle.rlsf_c.specs.contracts.rlsf_len as f
 use Rattle.rlsf_c.proofs.rlsf_len.Statement.{statement}

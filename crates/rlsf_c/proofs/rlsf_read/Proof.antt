@@ -1,8 +1,8 @@
 -- `rlsf_read` lends the pool behind the handle to `Pool::read`, passes on where the bytes go, and takes the pool back.
 use Rattle.std.proofs.Common.{◌≡◌}
 use denote.Builtin.{u8}
-use Rattle.rlsf_export_proofs.proofs.Contracts.{changes, number}
-use Rattle.rlsf_export_proofs.proofs.Exports.{exports_mutable2}
+use Rattle.rlsf_c_lemmas.proofs.Contracts.{changes, number}
+use Rattle.rlsf_c_lemmas.proofs.Exports.{exports_mutable2}
 use Rattle.rlsf_c.specs.Calls.{Reads}
 use Rattle.rlsf_c.specs.Seen.{seen}
 use Rattle.rlsf_c.specs.contracts.rlsf_read as f

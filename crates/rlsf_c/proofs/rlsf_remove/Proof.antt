@@ -1,6 +1,6 @@
 -- `rlsf_remove` lends the pool behind the handle to `Pool::remove`, and takes it back.
-use Rattle.rlsf_export_proofs.proofs.Contracts.{changes, number}
-use Rattle.rlsf_export_proofs.proofs.Exports.{exports2}
+use Rattle.rlsf_c_lemmas.proofs.Contracts.{changes, number}
+use Rattle.rlsf_c_lemmas.proofs.Exports.{exports2}
 use Rattle.rlsf_base.specs.Range.{range_at}
 use Rattle.rlsf_c.specs.Calls.{RemovesRange}
 use Rattle.rlsf_c.specs.Seen.{seen}

@@ -1,6 +1,6 @@
 -- `rlsf_remove_last` lends the pool behind the handle to `Pool::remove_last`, and takes it back.
-use Rattle.rlsf_export_proofs.proofs.Contracts.{changes, number}
-use Rattle.rlsf_export_proofs.proofs.Exports.{exports0}
+use Rattle.rlsf_c_lemmas.proofs.Contracts.{changes, number}
+use Rattle.rlsf_c_lemmas.proofs.Exports.{exports0}
 use Rattle.rlsf_c.specs.Calls.{RemovesLast}
 use Rattle.rlsf_c.specs.Seen.{seen}
 use Rattle.rlsf_c.specs.contracts.rlsf_remove_last as f

@@ -1,6 +1,6 @@
 -- `rlsf_reset` takes the pool from behind the handle, and puts it back without payloads and ranges.
 use Rattle.std.proofs.Common.{refl}
-use Rattle.rlsf_export_proofs.proofs.Replacing.{replaces}
+use Rattle.rlsf_c_lemmas.proofs.Replacing.{replaces}
 use Rattle.rlsf_c.proofs.Results.{pool}
 use Rattle.rlsf_c.specs.Seen.{IsReset}
 use Rattle.rlsf_c.specs.contracts.rlsf_reset as f

@@ -1,10 +1,10 @@
 -- `rlsf_room` takes the pool from behind the handle, and drops it. The handle is room then.
-use Rattle.rlsf_export_proofs.proofs.Walking.{[], ◌∷◌, ◌++◌, refl, ap, proved, full_share, id⊢, ftrue, Val, vunit, WpFn, tables, ‵, raw, ◌⊛◌, some, later, prop, ◌$◌}
-use Rattle.rlsf_export_proofs.proofs.Walking.{◌∵◌, !, qed, done, move, drop, use1, use2, split, join, feq_i, feq_l, pick, await, regoal, suffices, group, enter, of_opd, stop, no_more}
-use Rattle.rlsf_export_proofs.proofs.Walking.{and_then, returns, alloc_all, pass_all, free_all, look_at, get, through, sets, lands_as, yes, Is, shows, Ptr, RawPtr, block_ptr, lies_at}
-use Rattle.rlsf_export_proofs.proofs.Walking.{in_a_block, rawptr_vals, rawptr_Tells, plain, nothing, peeks, calls_at, lasts, on_entry, triple_of, Stays, walk_of, stay_dropped}
-use Rattle.rlsf_export_proofs.proofs.Walking.{Goes-dropped}
-use Rattle.rlsf_export_proofs.proofs.Walking.{◌≡◌, ends_at, fact, framed, heard}
+use Rattle.rlsf_c_lemmas.proofs.Walking.{[], ◌∷◌, ◌++◌, refl, ap, proved, full_share, id⊢, ftrue, Val, vunit, WpFn, tables, ‵, raw, ◌⊛◌, some, later, prop, ◌$◌}
+use Rattle.rlsf_c_lemmas.proofs.Walking.{◌∵◌, !, qed, done, move, drop, use1, use2, split, join, feq_i, feq_l, pick, await, regoal, suffices, group, enter, of_opd, stop, no_more}
+use Rattle.rlsf_c_lemmas.proofs.Walking.{and_then, returns, alloc_all, pass_all, free_all, look_at, get, through, sets, lands_as, yes, Is, shows, Ptr, RawPtr, block_ptr, lies_at}
+use Rattle.rlsf_c_lemmas.proofs.Walking.{in_a_block, rawptr_vals, rawptr_Tells, plain, nothing, peeks, calls_at, lasts, on_entry, triple_of, Stays, walk_of, stay_dropped}
+use Rattle.rlsf_c_lemmas.proofs.Walking.{Goes-dropped}
+use Rattle.rlsf_c_lemmas.proofs.Walking.{◌≡◌, ends_at, fact, framed, heard}
 use Rattle.rlsf_c.specs.Seen.{ended}
 use base.Fml.{fat}
 use types.Run.{forget, load, look, unit_lit}

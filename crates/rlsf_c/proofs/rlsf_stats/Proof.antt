@@ -1,7 +1,7 @@
 -- `rlsf_stats` lends the pool behind the handle to `Pool::stats`, and takes it back.
 use Rattle.std.proofs.Common.{◌≡◌}
-use Rattle.rlsf_export_proofs.proofs.Contracts.{changes}
-use Rattle.rlsf_export_proofs.proofs.Exports.{exports0}
+use Rattle.rlsf_c_lemmas.proofs.Contracts.{changes}
+use Rattle.rlsf_c_lemmas.proofs.Exports.{exports0}
 use Rattle.rlsf_c.proofs.Results.{totals}
 use Rattle.rlsf_c.specs.Walks.{IsSummary}
 use Rattle.rlsf_c.specs.Seen.{seen}

@@ -1,7 +1,7 @@
 -- `rlsf_usable` lends the pool behind the handle to `Pool::usable`, and takes it back.
 use Rattle.std.proofs.Common.{◌≡◌}
-use Rattle.rlsf_export_proofs.proofs.Contracts.{changes}
-use Rattle.rlsf_export_proofs.proofs.Exports.{exports1}
+use Rattle.rlsf_c_lemmas.proofs.Contracts.{changes}
+use Rattle.rlsf_c_lemmas.proofs.Exports.{exports1}
 use Rattle.rlsf_c.proofs.Results.{answer}
 use Rattle.rlsf_c.specs.Calls.{Tells}
 use Rattle.rlsf_c.specs.Seen.{seen}

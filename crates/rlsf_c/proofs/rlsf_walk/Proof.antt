@@ -1,7 +1,7 @@
 -- `rlsf_walk` lends the pool behind the handle to `Pool::walk`, and takes it back.
 use Rattle.std.proofs.Common.{◌≡◌}
-use Rattle.rlsf_export_proofs.proofs.Contracts.{changes}
-use Rattle.rlsf_export_proofs.proofs.Exports.{exports1}
+use Rattle.rlsf_c_lemmas.proofs.Contracts.{changes}
+use Rattle.rlsf_c_lemmas.proofs.Exports.{exports1}
 use Rattle.rlsf_c.proofs.Results.{block}
 use Rattle.rlsf_c.specs.Walks.{IsNext}
 use Rattle.rlsf_c.specs.Seen.{seen}

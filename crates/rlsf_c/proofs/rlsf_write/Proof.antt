@@ -1,7 +1,7 @@
 -- `rlsf_write` lends the pool behind the handle to `Pool::write`, passes the bytes on, and takes the pool back.
 use denote.Builtin.{u8}
-use Rattle.rlsf_export_proofs.proofs.Contracts.{changes, number}
-use Rattle.rlsf_export_proofs.proofs.Exports.{exports_shared2}
+use Rattle.rlsf_c_lemmas.proofs.Contracts.{changes, number}
+use Rattle.rlsf_c_lemmas.proofs.Exports.{exports_shared2}
 use Rattle.rlsf_c.specs.Calls.{Writes}
 use Rattle.rlsf_c.specs.Seen.{seen}
 use Rattle.rlsf_c.specs.contracts.rlsf_write as f

@@ -7,7 +7,7 @@ use Rattle.rlsf_malloc.proofs.Walking.{Goes-dropped, ends_at, framed, usize, uin
 use Rattle.rlsf_malloc.proofs.Walking.{Ty, local, value_local, ty_ptr, ty_int, ty_ref, erased, mut, seq, assign, place, rv_opd, copy, addr_of, deref, call}
 use Rattle.rlsf_malloc.proofs.Walking.{return, RattleType, One, Ended, Clauses, closing, Meets, Good}
 use Rattle.rlsf_malloc.proofs.Steps.{called, changes, finished, gives_out, lends_heap, passes, passes_number}
-use Rattle.rlsf_export_proofs.proofs.Lending.{in_its_block}
+use Rattle.rlsf_c_lemmas.proofs.Lending.{in_its_block}
 use contract.Lifetimes.{Lfts}
 use denote.RattleType.{Denots}
 use denote.Signature.{Slot, types_at}

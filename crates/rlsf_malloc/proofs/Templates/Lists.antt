@@ -16,7 +16,7 @@ use types.Part.{agg, sub, whole}
 use denote.Builtin.{SliceRefMutOf}
 use denote.Slice.{MutSlice, mut_slice_vals, mut_slice_Tells}
 use denote.Triple.Walked.{gave_slice, Goes-gave_slice}
-use Rattle.rlsf_export_proofs.proofs.Lending.{in_its_block, lends}
+use Rattle.rlsf_c_lemmas.proofs.Lending.{in_its_block, lends}
 use Rattle.rlsf_malloc.specs.Handle.{Holds, HoldsSome}
 use denote.Memory.{lone}
 

@@ -8,7 +8,7 @@ use Rattle.rlsf_malloc.proofs.Walking.{Logic, sem, Model, Closed, Running, Fn, C
 use Rattle.rlsf_malloc.proofs.Walking.{seq, assign, place, rv_opd, copy, opd_unit, addr_of, deref, call, return, RattleType, One, Ended, Clauses, closing}
 use Rattle.rlsf_malloc.proofs.Walking.{Meets, Good}
 use Rattle.rlsf_malloc.proofs.Steps.{Payloads, called, changes, lends_heap, taken, takes, takes_payload}
-use Rattle.rlsf_export_proofs.proofs.Lending.{in_its_block}
+use Rattle.rlsf_c_lemmas.proofs.Lending.{in_its_block}
 use contract.Lifetimes.{Lfts}
 use denote.RattleType.{Denots}
 use denote.Signature.{Slot, types_at}

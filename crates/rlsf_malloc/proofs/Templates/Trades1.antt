@@ -7,7 +7,7 @@ use Rattle.rlsf_malloc.proofs.Walking.{stay_dropped, Goes-dropped, ends_at, fram
 use Rattle.rlsf_malloc.proofs.Walking.{value_local, ty_ptr, ty_int, ty_ref, erased, mut, seq, assign, place, rv_opd, copy, addr_of, deref, call, return}
 use Rattle.rlsf_malloc.proofs.Walking.{RattleType, One, Ended, Clauses}
 use Rattle.rlsf_malloc.proofs.Steps.{Payloads, Trades, called, changes, gives_out, lends_heap, passes_number, takes_payload}
-use Rattle.rlsf_export_proofs.proofs.Lending.{in_its_block}
+use Rattle.rlsf_c_lemmas.proofs.Lending.{in_its_block}
 use contract.Lifetimes.{Lfts}
 use denote.RattleType.{Denots}
 use denote.Signature.{Slot, types_at}
