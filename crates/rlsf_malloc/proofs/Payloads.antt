@@ -26,7 +26,7 @@ IsAtSuch P v x d = IsAt v x d × (x ≢ 0 → P d.align)
 abbrev CanResize : (ℕ → Type 0) → HeapView → ℕ → thin.the_row.Denot → Type 0
 CanResize P v x q = IsReady v × IsAt v x q.of × (q.addr ≡ x) × (x ≢ 0 → P q.of.align)
 
-can_resize : (P : ℕ → Type 0) (v : HeapView) (d : PayloadView) (x : ℕ) (q : thin.the_row.Denot) → IsReady v → IsAtSuch P v x d → payloads.Makes x d q → CanResize P v x q
+pub can_resize : (P : ℕ → Type 0) (v : HeapView) (d : PayloadView) (x : ℕ) (q : thin.the_row.Denot) → IsReady v → IsAtSuch P v x d → payloads.Makes x d q → CanResize P v x q
 can_resize P v d x q ready known made =
     (ready, subst (λ (p : PayloadView). IsAt v x p) (sym made.1) known.0, made.0, λ some. subst (λ (p : PayloadView). P p.align) (sym made.1) (known.1 some))
 
