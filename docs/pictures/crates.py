@@ -19,7 +19,7 @@ LAYERS = [
         [(1, "rlsf_test_tlsf", "calls of Tlsf and of libraries"), (1, "rlsf_test_heap", "heaps, with threads"),
          (1, "rlsf_test_flex", "sources and FlexTlsf"), (1, "rlsf_test_global", "lock and journal, with threads")],
         [(1, "rlsf_test_base", "integers and memories"), (1, "rlsf_test_trace", "traces"),
-         (1, "rlsf_test_source", "a source for tests"), (1, "rlsf_compare_model_flex rlsf_compare_model_global", "comparison with Python")],
+         (1, "rlsf_listed_source", "a source for tests"), (1, "rlsf_compare_model_flex rlsf_compare_model_global", "comparison with Python")],
     ]),
     ("Benchmarks", "one set of steps, seven programs", "#eeeeee", [
         [(1, "rlsf_bench_common", "the steps"), (2.2, "rlsf_bench rlsf_bench_aligned rlsf_bench_not_inlined rlsf_bench_not_inlined_aligned", "Tlsf: in place or by calls, one alignment or seven"),
@@ -27,18 +27,18 @@ LAYERS = [
     ]),
     ("Examples", "programs to copy from", "#fff3d0", [
         [(1, "rlsf_example_first", "a first program"), (1, "rlsf_example_readme", "the program of README.md"),
-         (1, "rlsf_example_callers", "buffer, cache, pools, source"), (1, "rlsf_example_tour", "tour of the collections")],
+         (1, "rlsf_example_functions", "buffer, cache, pools, source"), (1, "rlsf_example_libraries_tour", "tour of the collections")],
         [(1, "rlsf_example_buffers", "payloads that own their bytes"), (1, "rlsf_example_tenants", "std's collections in heaps"),
          (1, "rlsf_example_threads", "two threads, one allocator"), (1, "", "")],
     ]),
     ("Libraries, a tool", "for other code", "#fff3d0", [
         [(1, "rlsf_c_lemmas", "proofs of C's exports: their template"), (1, "rlsf_c", "static library for C: pools of numbers"),
          (1, "rlsf_malloc", "static library for C: malloc in place"), (1, "rlsf_pool_lengths", "program: prints lengths of pools")],
-        [(1, "rlsf_example_collections", "queues, objects and strings in a pool"), (3, "", "")],
+        [(1, "rlsf_example_libraries", "queues, objects and strings in a pool"), (3, "", "")],
     ]),
     ("Traces", "a text of calls, run and compared with the model", "#fbe3d6", [
         [(1, "rlsf_replay", "program: prints the answers"), (1, "rlsf_report", "program: counts"), (1, "rlsf_map", "program: draws")],
-        [(1, "rlsf_trace_replay", "reads, runs and prints"), (1, "rlsf_trace_moments", "what is held after each op"), (1, "rlsf_trace_flex_runs", "runs with a FlexTlsf")],
+        [(1, "rlsf_trace_replay", "reads, runs and prints"), (1, "rlsf_trace_measured_runs", "what is held after each op"), (1, "rlsf_trace_flex_runs", "runs with a FlexTlsf")],
         [(1, "rlsf_trace_text", "the text: ops and answers"), (2, "rlsf_trace_runs", "runs of ops with a Tlsf: the headline contract")],
     ]),
     ("Allocators", "each column adds to what is below it", "#d9efd9", [

@@ -10,7 +10,7 @@ use crate::draw::{Scene, drawing};
 use crate::legend::legend_of;
 use crate::pools::pools_of;
 use crate::window::{Lines, Window};
-use rlsf_trace_moments::{Watched, watch_trace};
+use rlsf_trace_measured_runs::{Watched, watch_trace};
 use rlsf_trace_replay::{read_input, write_text};
 use rlsf_trace_text::{Fault, ReplayFault, Trace};
 use std::alloc::{AllocError, Global};

@@ -11,7 +11,7 @@ use crate::csv::csv_of;
 use crate::sizes::asked_bytes;
 use crate::summary::summary_of;
 use crate::table::table_of;
-use rlsf_trace_moments::{Watched, watch_trace};
+use rlsf_trace_measured_runs::{Watched, watch_trace};
 use rlsf_trace_replay::{read_input, write_text};
 use rlsf_trace_text::{Fault, ReplayFault, Trace};
 use std::alloc::Global;

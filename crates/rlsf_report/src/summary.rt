@@ -3,7 +3,7 @@
 ghost use Rattle.std.specs.Prelude.{◌≡◌};
 ghost use Rattle.rlsf_report.specs.Summaries as spec;
 
-use rlsf_trace_moments::{BlockInfo, Moment, Watched};
+use rlsf_trace_measured_runs::{BlockInfo, Moment, Watched};
 
 /// What the allocator held.
 #[derive(Clone, Copy)]

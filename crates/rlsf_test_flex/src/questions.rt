@@ -7,7 +7,7 @@ ghost use Rattle.rlsf_model.specs.FlexState.{empty};
 
 use rlsf_base::memory::{Addr, Layout, Memory, Range};
 use rlsf_flex::FlexTlsf;
-use rlsf_test_source::{Capabilities, ListedSource, Question, SourceAnswer};
+use rlsf_listed_source::{Capabilities, ListedSource, Question, SourceAnswer};
 use std::process::Abort;
 
 /// Two payloads of one byte, from an allocator that has asked for nothing, over a source that neither grows a range nor takes one

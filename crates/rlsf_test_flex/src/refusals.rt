@@ -9,7 +9,7 @@ use self::tables::{CLAIMS_CONTIGUITY, GROWS_AND_TAKES_BACK, TAKES_BACK};
 use crate::sources::parts;
 use rlsf_base::memory::{Memory, Range};
 use rlsf_flex::FlexTlsf;
-use rlsf_test_source::{Capabilities, ListedSource, Question, SourceAnswer};
+use rlsf_listed_source::{Capabilities, ListedSource, Question, SourceAnswer};
 use rlsf_trace_flex_runs::run_flex;
 use rlsf_trace_text::{Answer, Op, Trace, text_of};
 use std::alloc::AllocError;

@@ -6,7 +6,7 @@ use crate::heaps::{Case, Shaped, Step, are_right, bytes, first_wrong, footer, is
 use crate::sources::parts_of;
 use rlsf_base::memory::Range;
 use rlsf_flex::{FlexSource, FlexTlsf};
-use rlsf_test_source::{Capabilities, ListedSource, Question as Asked, SourceAnswer};
+use rlsf_listed_source::{Capabilities, ListedSource, Question as Asked, SourceAnswer};
 use std::cell::Cell;
 use std::process::Abort;
 

@@ -1,7 +1,7 @@
-//! Runs of the programs of `rlsf_example_callers`, whose clauses don't say when they succeed.
+//! Runs of the programs of `rlsf_example_functions`, whose clauses don't say when they succeed.
 
 use crate::pools::{layout_of, number};
-use rlsf_example_callers::{
+use rlsf_example_functions::{
     Buffer, Cache, Note, allocate_all, fill_all, filled, free_all, over_one_range, over_pages,
     over_rations, read_back, with_pool,
 };

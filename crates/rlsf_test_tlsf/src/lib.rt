@@ -1,4 +1,4 @@
-//! Tests of `rlsf` by calls, and of `rlsf_checked`, `rlsf_example_collections` and `rlsf_example_callers`. This crate has no other code, so
+//! Tests of `rlsf` by calls, and of `rlsf_checked`, `rlsf_example_libraries` and `rlsf_example_functions`. This crate has no other code, so
 //! that these and the crates below them are proved once.
 //!
 //! `pools.rt` has steps as tables, which most files use. `allocations.rt`, `frees.rt`, `reallocations.rt`, `appends.rt`,

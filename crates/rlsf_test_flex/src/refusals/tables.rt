@@ -2,7 +2,7 @@
 
 use super::List;
 use rlsf_base::memory::Range;
-use rlsf_test_source::SourceAnswer;
+use rlsf_listed_source::SourceAnswer;
 
 pub static GROWS_AND_TAKES_BACK: List = List {
     answers: &[

@@ -5,7 +5,7 @@ ghost use Rattle.rlsf_model.specs.ChunkRows.{IsRow};
 
 use crate::pools::{Small, layout_of, with_pool};
 use rlsf::{Blocks, Range};
-use rlsf_example_collections::picture;
+use rlsf_example_libraries::picture;
 use std::process::Abort;
 
 /// An allocator over 256 bytes from the address 4096 on, which are one chunk, with two payloads, of 1 byte and of 40.

@@ -7,7 +7,7 @@
 
 use super::queues::{Pair, Step, first_wrong, wrong_random_step};
 use crate::pools::{none_is_wrong, zeros};
-use rlsf_example_collections::{LongestError, Messages, PushError};
+use rlsf_example_libraries::{LongestError, Messages, PushError};
 use std::process::Abort;
 
 /// The start and the length of a memory, how many messages a queue over it can hold, how long they may be, and whether it exists.

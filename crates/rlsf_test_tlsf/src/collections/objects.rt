@@ -4,7 +4,7 @@
 //! others.
 
 use crate::pools::{layout_of, none_is_wrong, zeros};
-use rlsf_example_collections::{Objects, SetError, TakeError, UnknownHandle};
+use rlsf_example_libraries::{Objects, SetError, TakeError, UnknownHandle};
 use std::process::Abort;
 
 /// A pool of objects of so many bytes at multiples of an alignment, in a memory of a start and a length.

@@ -3,7 +3,7 @@
 ghost use Rattle.rlsf_heap.specs.Heap.{IsWritten};
 
 use rlsf::Layout;
-use rlsf_example_collections::OwnedObjects;
+use rlsf_example_libraries::OwnedObjects;
 use rlsf_heap::Payload;
 
 /// Whether each byte of an object is this one.

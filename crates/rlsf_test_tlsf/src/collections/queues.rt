@@ -3,7 +3,7 @@
 use crate::bytes::is_all;
 use crate::pools::{none_is_wrong, zeros};
 use crate::words::next;
-use rlsf_example_collections::{Messages, PopError, PushError};
+use rlsf_example_libraries::{Messages, PopError, PushError};
 use std::alloc::Global;
 use std::collections::VecDeque;
 use std::process::Abort;

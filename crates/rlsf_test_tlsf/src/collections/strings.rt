@@ -5,7 +5,7 @@
 
 use crate::pools::{none_is_wrong, zeros};
 use crate::words::next;
-use rlsf_example_collections::{StringError, Strings, UnknownHandle};
+use rlsf_example_libraries::{StringError, Strings, UnknownHandle};
 use std::process::Abort;
 
 /// What strings are asked, and what they must answer.

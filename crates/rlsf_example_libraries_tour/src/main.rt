@@ -1,0 +1,50 @@
+//! A tour of `rlsf_example_libraries`, the small libraries over the allocator: a fixed script, and a picture of the pool after each step.
+//!
+//! `messages.rt`, `latest.rt`, `objects.rt` and `strings.rt` have the parts of the script, in this order. `answer.rt` and `error.rt`
+//! print answers and errors.
+#![tactic(auto)]
+
+mod answer;
+mod error;
+mod latest;
+mod messages;
+mod objects;
+mod strings;
+
+use error::TourError;
+use rlsf::Blocks;
+use rlsf_example_libraries::picture;
+use std::fmt::Display;
+use std::process::ExitCode;
+
+/// The number of marks for a complete pool.
+const WIDTH: usize = 40;
+
+fn main(rt: HostRuntime) -> ExitCode {
+    match tour(&rt) {
+        Ok(()) => ExitCode::SUCCESS,
+        Err(error) => {
+            // If standard error fails too, only the status reports the error.
+            let _ = eprintln!(rt; "{error}");
+            ExitCode::FAILURE
+        }
+    }
+}
+
+fn tour(rt: &(impl Print + AllocGlobal)) -> Result<(), TourError> {
+    messages::show(rt)?;
+    latest::show(rt)?;
+    objects::show(rt)?;
+    strings::show(rt)
+}
+
+/// Prints what was done, and the blocks of the pool behind it.
+fn draw(
+    rt: &(impl Print + AllocGlobal),
+    done: impl Display + Drop,
+    blocks: Blocks<'_>,
+) -> Result<(), TourError> {
+    rt.println(done)?;
+    let picture = picture(rt.alloc(), blocks, WIDTH)?;
+    Ok(rt.println(picture)?)
+}
