@@ -19,8 +19,8 @@ use Rattle.rlsf_example_libraries.proofs.Places.{HasSame-given_back, length-byte
 use Rattle.rlsf_example_libraries.proofs.Rooms.{HasBudgetFor-lists}
 
 -- a memory stays at its place through two changes
-pub SamePlace-then : {l m n : Space} → SamePlace l m → SamePlace m n → SamePlace l n
-SamePlace-then one two = (two.0 ∙ one.0, two.1 ∙ one.1, two.2 ∙ one.2, λ none. two.3 (one.3 none))
+pub SamePlace-then : (l m n : Space) → SamePlace l m → SamePlace m n → SamePlace l n
+SamePlace-then _ _ _ one two = (two.0 ∙ one.0, two.1 ∙ one.1, two.2 ∙ one.2, λ none. two.3 (one.3 none))
 
 -- ---- what callers see
 
@@ -117,7 +117,8 @@ module _ {v : StoreContents} {align : ℕ} (h : HandleRows) (kept : IsHandled v 
   pub same_given_back : (u w : StoreContents) (g : HandleRows) {p : Place} {bytes : List ℕ} → SamePlace v.heap.memory u.heap.memory → SamePlace u.heap.memory w.heap.memory
       → HasAmong v u (places_in align h.rows) [] p bytes → HasSame u w (places_in align h.rows ++ []) → g.rows ≡ h.rows → g.next ≡ h.next
       → Shows v align (lists_in v align h.rows) h.next w g
-  same_given_back u w g first then added left = same_items w g (SamePlace-then first then) (HasSame-given_back (places_in align h.rows) added left)
+  same_given_back u w g first then added left =
+      same_items w g (SamePlace-then v.heap.memory u.heap.memory w.heap.memory first then) (HasSame-given_back (places_in align h.rows) added left)
 
   -- a handle with its spot is stored there
   pub stored_at : (n : ℕ) (s : Spot) → lookup (nat_eq n) h.rows ≡ Some s → IsAt v align h n s

@@ -22,9 +22,9 @@ HasSame-stored {v} {w} places (all, is, at) keeps =
     ((all, now, at), ap (lists_at w) (sym at) ∙ bytes_at_place-stored w all now ∙ sym (bytes_at_place-stored v all is) ∙ ap (lists_at v) at)
 
 -- where an allocator refused a call that asked for a payload, each list stays at its place
-pub KeepsAll-refused : {A : Type 0} {heap : Allocator} {pool : Range} {old : StoreContents} → store_contents heap pool ≡ old → (w : Allocator) {step : State → Type 0}
+pub KeepsAll-refused : {A : Type 0} {heap : Allocator} {pool : Range} {old : StoreContents} → store_contents heap pool ≡ old → (w : Allocator) (step : State → Type 0)
     → Steps 59 8 heap w step → w.state ≡ heap.state → SamePlace heap.memory w.memory → (o : Option A) → o ≡ None → IfNone o (KeepsAll old (store_contents w pool))
-KeepsAll-refused {heap = heap} {pool = pool} view w steps same place o none =
+KeepsAll-refused {heap = heap} {pool = pool} view w _ steps same place o none =
     subst (λ (x : StoreContents). IfNone o (KeepsAll x (store_contents w pool))) view
     (subst (λ z. IfNone z (KeepsAll (store_contents heap pool) (store_contents w pool))) (sym none)
     (λ places has. HasSame-stored places has (λ all. IsStore-refused w _ all steps same place)))

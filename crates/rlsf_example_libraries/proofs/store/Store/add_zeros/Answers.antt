@@ -21,7 +21,7 @@ pub returns-in_err-addr : goal.returns-in_err-addr
 returns-in_err-addr c = record {
   stored = search rules;
   refused =
-      KeepsAll-refused c.self.view_is c.allocate.new.self c.in_err-addr.ensures.step c.in_err-addr.ensures.same c.in_err-addr.ensures.place
+      KeepsAll-refused c.self.view_is c.allocate.new.self _ c.in_err-addr.ensures.step c.in_err-addr.ensures.same c.in_err-addr.ensures.place
       c.from_residual.result c.from_residual.ensures;
   room =
       let layout = c.args.layout in

@@ -22,7 +22,7 @@ pub returns-in_err-to : goal.returns-in_err-to
 returns-in_err-to c = record {
   stored = search rules;
   refused =
-      KeepsAll-refused c.self.view_is c.reallocate.new.self c.in_err-to.ensures.step c.in_err-to.ensures.same c.in_err-to.ensures.place
+      KeepsAll-refused c.self.view_is c.reallocate.new.self _ c.in_err-to.ensures.step c.in_err-to.ensures.same c.in_err-to.ensures.place
       c.from_residual-in_err-to.result c.from_residual-in_err-to.ensures;
   enough =
       let (before, after, p, has, at, aligned, long) = subst (λ (old : StoreContents). (before after : List Place) × (p : Place) × KeepsAt old (before ++ p ∷ after)
