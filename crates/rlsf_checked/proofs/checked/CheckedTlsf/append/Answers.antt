@@ -1,14 +1,45 @@
-use Rattle.std.proofs.Common.{rules, ◌≡◌, true, arith, refl, sym, ◌∙◌, ap, subst, false}
+use Rattle.std.proofs.Common.{rules, ◌≡◌, ◌<◌, length, true, arith, refl, sym, ◌∙◌, ap, subst, false}
+use Rattle.rlsf_base.specs.Range.{LiesIn, end_of}
 use Rattle.rlsf_base.specs.Space.{range_of}
 use Rattle.rlsf_model.specs.Insert.{Appends}
 use Rattle.rlsf_model.specs.State.{State}
+use Rattle.rlsf_tlsf.specs.Allocator.{Stands}
 use Rattle.rlsf_checked.specs.Answers.{if_appended, is_next, is_within}
 use Rattle.rlsf_checked.specs.Checked.{checked}
 use Rattle.rlsf_checked.proofs.Edges.{flips}
 use Rattle.rlsf_checked.proofs.Pools.{appended_fits, handed_on, next_answer, next_is, next_range, none_apart, none_appended, none_outside, pool_fits, some_appended, within_is}
 use Rattle.rlsf_checked.proofs.Standing.{stands_after, step_of, unchanged}
 use Rattle.rlsf_checked.proofs.Toggled.{appended_edges, appended_place}
+use Rattle.rlsf_checked.proofs.checked.CheckedTlsf.append.Given as given
 use Rattle.rlsf_checked.proofs.checked.CheckedTlsf.append.Goals as goal
+use Rattle.rlsf_checked.proofs.checked.CheckedTlsf.append.Goals.{After-append_free_block_ptr-taken}
+
+-- a range that lies in the memory and begins where the last pool ends was appended
+record IsAppended (g : given.Over) (c : After-append_free_block_ptr-taken g) : Type 0 where
+  pub within : true ≡ is_within (range_of c.self.inside.heap.memory) c.args.range
+  pub next : true ≡ is_next c.self.inside.pool c.args.range.start
+  pub some : 0 < c.self.inside.pool.len
+  pub ends : c.args.range.start ≡ end_of c.self.inside.pool
+  pub lies : LiesIn c.args.range c.self.inside.heap.memory.start (length c.self.inside.heap.memory.bytes)
+  pub stands : Stands g.row.FLLEN g.row.SLLEN c.append_free_block_ptr-taken.new.self
+  pub step : Appends g.row.FLLEN c.self.inside.heap.state c.args.range c.append_free_block_ptr-taken.result c.append_free_block_ptr-taken.new.self.state
+
+an_append : (g : given.Over) (c : After-append_free_block_ptr-taken g) → IsAppended g c
+an_append g c =
+    let within : true ≡ is_within (range_of c.self.inside.heap.memory) c.args.range =
+    sym c.if-not-lies_in.false ∙ c.lies_in.ensures ∙ ap (λ m. is_within (range_of m) c.args.range) c.memory_ref.ensures.memory in
+    let next : true ≡ is_next c.self.inside.pool c.args.range.start = sym c.if-not-is_next.false ∙ c.is_next.ensures in
+    let (some, ends) = next_is c.self.inside.pool c.args.range next in
+    let did = c.append_free_block_ptr-taken.ensures in
+    record {
+      within = within;
+      next = next;
+      some = some;
+      ends = ends;
+      lies = within_is (range_of c.self.inside.heap.memory) c.args.range within;
+      stands = stands_after _ _ _ _ _ did.step;
+      step = step_of _ _ _ _ _ did.step;
+    }
 
 pub is_next-requires : goal.is_next-requires
 is_next-requires g c = pool_fits c.self.invariant
@@ -33,131 +64,55 @@ invariant_of-self g c =
 
 pub overflow_add-self : goal.overflow_add-self
 overflow_add-self g c =
-    let within : true ≡ is_within (range_of c.self.inside.heap.memory) c.args.range =
-    sym c.if-not-lies_in.false ∙ c.lies_in.ensures ∙ ap (λ m. is_within (range_of m) c.args.range) c.memory_ref.ensures.memory in
-    let lies = within_is (range_of c.self.inside.heap.memory) c.args.range within in
-    let is : true ≡ is_next c.self.inside.pool c.args.range.start = sym c.if-not-is_next.false ∙ c.is_next.ensures in
-    let (some, ends) = next_is c.self.inside.pool c.args.range is in
-    let heap = c.append_free_block_ptr-taken.new.self in
-    let n = c.append_free_block_ptr-taken.result in
-    let did = c.append_free_block_ptr-taken.ensures in
-    let step : Appends g.row.FLLEN c.self.inside.heap.state c.args.range n heap.state = step_of _ _ _ _ _ did.step in
-    let fits = appended_fits c.self.invariant c.args.range some ends lies heap n step in
+    let is = an_append g (goal.at.overflow_add-self g c).After-append_free_block_ptr-taken in
+    let fits = appended_fits c.self.invariant c.args.range is.some is.ends is.lies c.append_free_block_ptr-taken.new.self _ is.step in
     record { fits = omega (arith, fits) }
 
 pub flip-requires : goal.flip-requires
 flip-requires g c =
-    let within : true ≡ is_within (range_of c.self.inside.heap.memory) c.args.range =
-    sym c.if-not-lies_in.false ∙ c.lies_in.ensures ∙ ap (λ m. is_within (range_of m) c.args.range) c.memory_ref.ensures.memory in
-    let lies = within_is (range_of c.self.inside.heap.memory) c.args.range within in
-    let is : true ≡ is_next c.self.inside.pool c.args.range.start = sym c.if-not-is_next.false ∙ c.is_next.ensures in
-    let (some, ends) = next_is c.self.inside.pool c.args.range is in
-    let heap = c.append_free_block_ptr-taken.new.self in
-    let n = c.append_free_block_ptr-taken.result in
-    let did = c.append_free_block_ptr-taken.ensures in
-    let step : Appends g.row.FLLEN c.self.inside.heap.state c.args.range n heap.state = step_of _ _ _ _ _ did.step in
-    let stands = stands_after _ _ _ _ _ did.step in
-    (appended_place c.self.invariant heap stands c.args.range n some ends lies (omega (arith, c.if-taken-eq0.false)) step).low
+    let is = an_append g (goal.at.flip-requires g c).After-append_free_block_ptr-taken in
+    (appended_place c.self.invariant _ is.stands c.args.range _ is.some is.ends is.lies (omega (arith, c.if-taken-eq0.false)) is.step).low
 
 pub overflow_add-range : goal.overflow_add-range
 overflow_add-range g c =
-    let within : true ≡ is_within (range_of c.self.inside.heap.memory) c.args.range =
-    sym c.if-not-lies_in.false ∙ c.lies_in.ensures ∙ ap (λ m. is_within (range_of m) c.args.range) c.memory_ref.ensures.memory in
-    let lies = within_is (range_of c.self.inside.heap.memory) c.args.range within in
-    let is : true ≡ is_next c.self.inside.pool c.args.range.start = sym c.if-not-is_next.false ∙ c.is_next.ensures in
-    let (some, ends) = next_is c.self.inside.pool c.args.range is in
-    let heap = c.append_free_block_ptr-taken.new.self in
-    let n = c.append_free_block_ptr-taken.result in
-    let did = c.append_free_block_ptr-taken.ensures in
-    let step : Appends g.row.FLLEN c.self.inside.heap.state c.args.range n heap.state = step_of _ _ _ _ _ did.step in
-    let fits = appended_fits c.self.invariant c.args.range some ends lies heap n step in
-    record { fits = omega (arith, fits, ends) }
+    let is = an_append g (goal.at.overflow_add-range g c).After-append_free_block_ptr-taken in
+    let fits = appended_fits c.self.invariant c.args.range is.some is.ends is.lies c.append_free_block_ptr-taken.new.self _ is.step in
+    record { fits = omega (arith, fits, is.ends) }
 
 pub flip-requires-2 : goal.flip-requires-2
 flip-requires-2 g c =
-    let within : true ≡ is_within (range_of c.self.inside.heap.memory) c.args.range =
-    sym c.if-not-lies_in.false ∙ c.lies_in.ensures ∙ ap (λ m. is_within (range_of m) c.args.range) c.memory_ref.ensures.memory in
-    let lies = within_is (range_of c.self.inside.heap.memory) c.args.range within in
-    let is : true ≡ is_next c.self.inside.pool c.args.range.start = sym c.if-not-is_next.false ∙ c.is_next.ensures in
-    let (some, ends) = next_is c.self.inside.pool c.args.range is in
-    let heap = c.append_free_block_ptr-taken.new.self in
-    let n = c.append_free_block_ptr-taken.result in
-    let did = c.append_free_block_ptr-taken.ensures in
-    let step : Appends g.row.FLLEN c.self.inside.heap.state c.args.range n heap.state = step_of _ _ _ _ _ did.step in
-    let stands = stands_after _ _ _ _ _ did.step in
-    c.flip.ensures.places _ (appended_place c.self.invariant heap stands c.args.range n some ends lies (omega (arith, c.if-taken-eq0.false)) step).high
+    let is = an_append g (goal.at.flip-requires-2 g c).After-append_free_block_ptr-taken in
+    c.flip.ensures.places _ (appended_place c.self.invariant _ is.stands c.args.range _ is.some is.ends is.lies (omega (arith, c.if-taken-eq0.false)) is.step).high
 
 pub invariant_of-self-2 : goal.invariant_of-self-2
 invariant_of-self-2 g c =
-    let within : true ≡ is_within (range_of c.self.inside.heap.memory) c.args.range =
-    sym c.if-not-lies_in.false ∙ c.lies_in.ensures ∙ ap (λ m. is_within (range_of m) c.args.range) c.memory_ref.ensures.memory in
-    let lies = within_is (range_of c.self.inside.heap.memory) c.args.range within in
-    let is : true ≡ is_next c.self.inside.pool c.args.range.start = sym c.if-not-is_next.false ∙ c.is_next.ensures in
-    let (some, ends) = next_is c.self.inside.pool c.args.range is in
-    let heap = c.append_free_block_ptr-taken.new.self in
-    let n = c.append_free_block_ptr-taken.result in
-    let did = c.append_free_block_ptr-taken.ensures in
-    let step : Appends g.row.FLLEN c.self.inside.heap.state c.args.range n heap.state = step_of _ _ _ _ _ did.step in
-    let stands = stands_after _ _ _ _ _ did.step in
+    let is = an_append g (goal.at.invariant_of-self-2 g c).After-append_free_block_ptr-taken in
     let first = flips c.flip.ensures.here c.flip.ensures.others c.flip.ensures.marks c.flip.ensures.places in
     let second = flips c.flip-2.ensures.here c.flip-2.ensures.others c.flip-2.ensures.marks c.flip-2.ensures.places in
-    handed_on c.self.invariant c.args.range some ends lies heap stands did.place did.aligns n step c.flip-2.new.self
-    (appended_edges c.self.invariant heap stands c.args.range n some ends lies (omega (arith, c.if-taken-eq0.false)) step c.flip.new.self c.flip-2.new.self first second)
+    let did = c.append_free_block_ptr-taken.ensures in
+    handed_on c.self.invariant c.args.range is.some is.ends is.lies _ is.stands did.place did.aligns _ is.step c.flip-2.new.self
+    (appended_edges c.self.invariant _ is.stands c.args.range _ is.some is.ends is.lies (omega (arith, c.if-taken-eq0.false)) is.step c.flip.new.self c.flip-2.new.self first second)
 
 pub returns-then-not-lies_in : goal.returns-then-not-lies_in
-returns-then-not-lies_in g c = record {
-  answer = rw (← c.self.view_is) (
-      let outside : false ≡ is_within (range_of c.self.inside.heap.memory) c.args.range =
-      sym c.if-not-lies_in.true ∙ c.lies_in.ensures ∙ ap (λ m. is_within (range_of m) c.args.range) c.memory_ref.ensures.memory in
-      sym (none_outside g.row.FLLEN (checked c.self.inside.heap c.self.inside.pool) c.args.range outside));
-  step = search rules;
-  pool = search rules;
-  same = search rules;
-  refused = search rules;
-  aligns = search rules;
-  bytes = search rules;
-  count = rw (← c.self.view_is) refl;
-  bounds = rw (← c.self.view_is) (λ count size align sized. sized);
-  place = search rules;
-  touches = search rules;
-  grow = search rules;
-  copied = search rules;
-}
+returns-then-not-lies_in g c =
+    let outside : false ≡ is_within (range_of c.self.inside.heap.memory) c.args.range =
+    sym c.if-not-lies_in.true ∙ c.lies_in.ensures ∙ ap (λ m. is_within (range_of m) c.args.range) c.memory_ref.ensures.memory in
+    let refused = sym (none_outside g.row.FLLEN (checked c.self.inside.heap c.self.inside.pool) c.args.range outside) in
+    rw (← c.self.view_is) (search (rules, refused))
 
 pub returns-then-not-is_next : goal.returns-then-not-is_next
-returns-then-not-is_next g c = record {
-  answer = rw (← c.self.view_is) (
-      let within : true ≡ is_within (range_of c.self.inside.heap.memory) c.args.range =
-      sym c.if-not-lies_in.false ∙ c.lies_in.ensures ∙ ap (λ m. is_within (range_of m) c.args.range) c.memory_ref.ensures.memory in
-      let apart : false ≡ is_next c.self.inside.pool c.args.range.start = sym c.if-not-is_next.true ∙ c.is_next.ensures in
-      sym (none_apart g.row.FLLEN (checked c.self.inside.heap c.self.inside.pool) c.args.range within apart));
-  step = search rules;
-  pool = search rules;
-  same = search rules;
-  refused = search rules;
-  aligns = search rules;
-  bytes = search rules;
-  count = rw (← c.self.view_is) refl;
-  bounds = rw (← c.self.view_is) (λ count size align sized. sized);
-  place = search rules;
-  touches = search rules;
-  grow = search rules;
-  copied = search rules;
-}
+returns-then-not-is_next g c =
+    let within : true ≡ is_within (range_of c.self.inside.heap.memory) c.args.range =
+    sym c.if-not-lies_in.false ∙ c.lies_in.ensures ∙ ap (λ m. is_within (range_of m) c.args.range) c.memory_ref.ensures.memory in
+    let apart : false ≡ is_next c.self.inside.pool c.args.range.start = sym c.if-not-is_next.true ∙ c.is_next.ensures in
+    let refused = sym (none_apart g.row.FLLEN (checked c.self.inside.heap c.self.inside.pool) c.args.range within apart) in
+    rw (← c.self.view_is) (search (rules, refused))
 
 pub returns-then-taken-eq0 : goal.returns-then-taken-eq0
 returns-then-taken-eq0 g c = record {
   answer = rw (← c.self.view_is) (
-      let within : true ≡ is_within (range_of c.self.inside.heap.memory) c.args.range =
-      sym c.if-not-lies_in.false ∙ c.lies_in.ensures ∙ ap (λ m. is_within (range_of m) c.args.range) c.memory_ref.ensures.memory in
-      let lies = within_is (range_of c.self.inside.heap.memory) c.args.range within in
-      let is : true ≡ is_next c.self.inside.pool c.args.range.start = sym c.if-not-is_next.false ∙ c.is_next.ensures in
-      let (some, ends) = next_is c.self.inside.pool c.args.range is in
-      let heap = c.append_free_block_ptr-taken.new.self in
-      let n = c.append_free_block_ptr-taken.result in
-      let did = c.append_free_block_ptr-taken.ensures in
-      let step : Appends g.row.FLLEN c.self.inside.heap.state c.args.range n heap.state = step_of _ _ _ _ _ did.step in
-      sym (next_answer g.row.FLLEN (checked c.self.inside.heap c.self.inside.pool) c.args.range within is ∙ ap if_appended (sym step.answer ∙ c.if-taken-eq0.true)));
+      let is = an_append g (goal.at.returns-then-taken-eq0 g c).After-append_free_block_ptr-taken in
+      sym (next_answer g.row.FLLEN (checked c.self.inside.heap c.self.inside.pool) c.args.range is.within is.next ∙ ap if_appended (sym is.step.answer ∙ c.if-taken-eq0.true)));
   step = search rules;
   pool = search rules;
   same = rw (← c.self.view_is) (
@@ -183,17 +138,9 @@ returns-then-taken-eq0 g c = record {
 pub returns : goal.returns
 returns g c = record {
   answer = rw (← c.self.view_is) (
-      let within : true ≡ is_within (range_of c.self.inside.heap.memory) c.args.range =
-      sym c.if-not-lies_in.false ∙ c.lies_in.ensures ∙ ap (λ m. is_within (range_of m) c.args.range) c.memory_ref.ensures.memory in
-      let lies = within_is (range_of c.self.inside.heap.memory) c.args.range within in
-      let is : true ≡ is_next c.self.inside.pool c.args.range.start = sym c.if-not-is_next.false ∙ c.is_next.ensures in
-      let (some, ends) = next_is c.self.inside.pool c.args.range is in
-      let heap = c.append_free_block_ptr-taken.new.self in
-      let n = c.append_free_block_ptr-taken.result in
-      let did = c.append_free_block_ptr-taken.ensures in
-      let step : Appends g.row.FLLEN c.self.inside.heap.state c.args.range n heap.state = step_of _ _ _ _ _ did.step in
-      sym (next_answer g.row.FLLEN (checked c.self.inside.heap c.self.inside.pool) c.args.range within is ∙ ap if_appended (sym step.answer)
-      ∙ some_appended n c.if-taken-eq0.false));
+      let is = an_append g (goal.at.returns g c).After-append_free_block_ptr-taken in
+      sym (next_answer g.row.FLLEN (checked c.self.inside.heap c.self.inside.pool) c.args.range is.within is.next ∙ ap if_appended (sym is.step.answer)
+      ∙ some_appended _ c.if-taken-eq0.false));
   step = rw (← c.self.view_is) c.append_free_block_ptr-taken.ensures.step;
   pool = rw (← c.self.view_is) refl;
   same = search rules;
