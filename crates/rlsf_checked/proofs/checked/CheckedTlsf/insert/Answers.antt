@@ -96,25 +96,11 @@ invariant_of-self-2 g c =
     (inserted_edges c.self.invariant heap stands c.args.range n behind lies step c.flip.new.self c.flip-2.new.self first second))
 
 pub returns-then-not-lies_in : goal.returns-then-not-lies_in
-returns-then-not-lies_in g c = record {
-  answer = rw (← c.self.view_is) (
-      let outside : false ≡ is_within (range_of c.self.inside.heap.memory) c.args.range =
-      sym c.if-not-lies_in.true ∙ c.lies_in.ensures ∙ ap (λ m. is_within (range_of m) c.args.range) c.memory_ref.ensures.memory in
-      sym (outside_answer g.row.FLLEN (checked c.self.inside.heap c.self.inside.pool) c.args.range outside));
-  step = search rules;
-  pool = search rules;
-  same = search rules;
-  refused = search rules;
-  aligns = search rules;
-  bytes = search rules;
-  count = rw (← c.self.view_is) refl;
-  bounds = rw (← c.self.view_is) (λ count size align sized. sized);
-  sized_pool = λ count size align len told at32 long idle. tt;
-  place = search rules;
-  touches = search rules;
-  grow = search rules;
-  copied = search rules;
-}
+returns-then-not-lies_in g c =
+    let outside : false ≡ is_within (range_of c.self.inside.heap.memory) c.args.range =
+    sym c.if-not-lies_in.true ∙ c.lies_in.ensures ∙ ap (λ m. is_within (range_of m) c.args.range) c.memory_ref.ensures.memory in
+    let refused = sym (outside_answer g.row.FLLEN (checked c.self.inside.heap c.self.inside.pool) c.args.range outside) in
+    rw (← c.self.view_is) (search (rules, refused))
 
 pub returns-then-range-self : goal.returns-then-range-self
 returns-then-range-self g c = record {
