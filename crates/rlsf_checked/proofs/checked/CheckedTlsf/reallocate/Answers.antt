@@ -1,5 +1,4 @@
 use Rattle.std.proofs.Common.{rules, arith, ◌≡◌, IfSome, ◌≤◌, ◌<◌, ◌+◌, length, suc, Some, None, Ok, Err, refl, sym, ◌∙◌, ap, subst}
-use Rattle.std.proofs.lemmas.Bool.{false≢true}
 use Rattle.std.specs.declared.num.NonZeroUsize.{NonZeroUsize}
 use Rattle.rlsf_base.specs.Addr.{at}
 use Rattle.rlsf_base.specs.PowerOfTwo.{floor_log2}
@@ -9,7 +8,7 @@ use Rattle.rlsf_tlsf.specs.Allocator.{Steps}
 use Rattle.rlsf_checked.specs.Answers.{IsRefusedBy, size_refusal}
 use Rattle.rlsf_checked.specs.declared.error.CheckedError.TheVariants.{NoRoom}
 use Rattle.rlsf_checked.specs.Steps.Marks.{HasMark, mark_at}
-use Rattle.rlsf_checked.proofs.SizeRefusals.{unknown_is_refused, unknown_is_not_fine, past_is_refused, past_is_not_fine}
+use Rattle.rlsf_checked.proofs.SizeRefusals.{past_is_refused, unknown_is_refused}
 use Rattle.rlsf_checked.proofs.Standing.{has_mark, left_behind, marked_moved, size_fits, stands_after, step_of, unchanged}
 use Rattle.rlsf_checked.proofs.checked.CheckedTlsf.reallocate.Goals as goal
 
@@ -53,58 +52,15 @@ invariant_of-self-2 g c =
     (left_behind g.row.FLLEN g.row.SLLEN c.self.inside.heap c.self.invariant.stands heap.state addr c.in-Some.align layout.size to live step) did.aligns
 
 pub returns-in_default : goal.returns-in_default
-returns-in_default g c = record {
-  answer = unknown_is_refused c.args.size _ c.in_default.ensures.value;
-  step = λ fine. absurd (unknown_is_not_fine c.args.size _ c.in_default.ensures.value fine);
-  live = search rules;
-  sized = search rules;
-  few = search rules;
-  kept = search rules;
-  new = search rules;
-  left = search rules;
-  aligns = search rules;
-  bytes = search rules;
-  room = λ count most_size align sized few short fits fine. absurd (unknown_is_not_fine c.args.size _ c.in_default.ensures.value fine);
-  count = rw (← c.self.view_is) refl;
-  bounds = rw (← c.self.view_is) (λ count most_size align sized short fits. sized);
-  same = search rules;
-  refused = search rules;
-  pool = search rules;
-  place = search rules;
-  touches = search rules;
-  grow = search rules;
-  copied = search rules;
-  grow_copied = search rules;
-}
+returns-in_default g c =
+    let refused = unknown_is_refused c.args.size _ (rw (← c.self.view_is) at c.in_default.ensures.value) in
+    rw (← c.self.view_is) (search (rules, refused))
 
 pub returns-in_default-from_size_align : goal.returns-in_default-from_size_align
-returns-in_default-from_size_align g c = record {
-  answer = past_is_refused c.args.size c.in-Some.align _ c.in-Some.ensures.value c.in-Some.ensures.power (λ is. false≢true (c.in_default-from_size_align.ensures.succeeds.1 is));
-  step = λ fine.
-      absurd (past_is_not_fine c.args.size c.in-Some.align _ c.in-Some.ensures.value c.in-Some.ensures.power
-      (λ is. false≢true (c.in_default-from_size_align.ensures.succeeds.1 is)) fine);
-  live = search rules;
-  sized = search rules;
-  few = search rules;
-  kept = search rules;
-  new = search rules;
-  left = search rules;
-  aligns = search rules;
-  bytes = search rules;
-  room = λ count most_size align sized few short fits fine.
-      absurd (past_is_not_fine c.args.size c.in-Some.align _ c.in-Some.ensures.value c.in-Some.ensures.power
-      (λ is. false≢true (c.in_default-from_size_align.ensures.succeeds.1 is)) fine);
-  count = rw (← c.self.view_is) refl;
-  bounds = rw (← c.self.view_is) (λ count most_size align sized short fits. sized);
-  same = search rules;
-  refused = search rules;
-  pool = search rules;
-  place = search rules;
-  touches = search rules;
-  grow = search rules;
-  copied = search rules;
-  grow_copied = search rules;
-}
+returns-in_default-from_size_align g c =
+    let live = rw (← c.self.view_is) at c.in-Some.ensures.value in
+    let refused = past_is_refused c.args.size c.in-Some.align _ live c.in-Some.ensures.power c.in_default-from_size_align.ensures.succeeds.1 in
+    rw (← c.self.view_is) (search (rules, refused))
 
 pub returns-in_default-reallocate : goal.returns-in_default-reallocate
 returns-in_default-reallocate g c = record {
