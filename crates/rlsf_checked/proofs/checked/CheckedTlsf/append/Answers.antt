@@ -12,86 +12,86 @@ use Rattle.rlsf_checked.proofs.Standing.{stands_after, step_of, unchanged}
 use Rattle.rlsf_checked.proofs.Toggled.{appended_edges, appended_place}
 use Rattle.rlsf_checked.proofs.checked.CheckedTlsf.append.Given as given
 use Rattle.rlsf_checked.proofs.checked.CheckedTlsf.append.Goals as goal
-use Rattle.rlsf_checked.proofs.checked.CheckedTlsf.append.Goals.{After-append_free_block_ptr-taken}
+use Rattle.rlsf_checked.proofs.checked.CheckedTlsf.append.Goals.{After-append_free_block_ptr-taken, Else-not-is_next, Then-taken-eq0}
 
--- a range that lies in the memory and begins where the last pool ends was appended
-record IsAppended (g : given.Over) (c : After-append_free_block_ptr-taken g) : Type 0 where
+-- the range lies in the memory and begins where the last pool ends
+record IsNextRange (g : given.Over) (c : Else-not-is_next g) : Type 0 where
   pub within : true ≡ is_within (range_of c.self.inside.heap.memory) c.args.range
   pub next : true ≡ is_next c.self.inside.pool c.args.range.start
   pub some : 0 < c.self.inside.pool.len
   pub ends : c.args.range.start ≡ end_of c.self.inside.pool
   pub lies : LiesIn c.args.range c.self.inside.heap.memory.start (length c.self.inside.heap.memory.bytes)
-  pub stands : Stands g.row.FLLEN g.row.SLLEN c.append_free_block_ptr-taken.new.self
-  pub step : Appends g.row.FLLEN c.self.inside.heap.state c.args.range c.append_free_block_ptr-taken.result c.append_free_block_ptr-taken.new.self.state
 
-an_append : (g : given.Over) (c : After-append_free_block_ptr-taken g) → IsAppended g c
-an_append g c =
+is_next_range : (g : given.Over) (c : Else-not-is_next g) → IsNextRange g c
+is_next_range g c =
     let within : true ≡ is_within (range_of c.self.inside.heap.memory) c.args.range =
     sym c.if-not-lies_in.false ∙ c.lies_in.ensures ∙ ap (λ m. is_within (range_of m) c.args.range) c.memory_ref.ensures.memory in
     let next : true ≡ is_next c.self.inside.pool c.args.range.start = sym c.if-not-is_next.false ∙ c.is_next.ensures in
     let (some, ends) = next_is c.self.inside.pool c.args.range next in
-    let did = c.append_free_block_ptr-taken.ensures in
-    record {
-      within = within;
-      next = next;
-      some = some;
-      ends = ends;
-      lies = within_is (range_of c.self.inside.heap.memory) c.args.range within;
-      stands = stands_after _ _ _ _ _ did.step;
-      step = step_of _ _ _ _ _ did.step;
-    }
+    record { within = within; next = next; some = some; ends = ends; lies = within_is (range_of c.self.inside.heap.memory) c.args.range within }
+
+-- the allocator is valid after the reference model's step
+appended : (g : given.Over) (c : After-append_free_block_ptr-taken g)
+    → Stands g.row.FLLEN g.row.SLLEN c.append_free_block_ptr-taken.new.self
+    × Appends g.row.FLLEN c.self.inside.heap.state c.args.range c.append_free_block_ptr-taken.result c.append_free_block_ptr-taken.new.self.state
+appended g c = let did = c.append_free_block_ptr-taken.ensures in (stands_after _ _ _ _ _ did.step, step_of _ _ _ _ _ did.step)
 
 pub is_next-requires : goal.is_next-requires
 is_next-requires g c = pool_fits c.self.invariant
 
 pub append_free_block_ptr-taken-requires : goal.append_free_block_ptr-taken-requires
 append_free_block_ptr-taken-requires g c =
-    let within : true ≡ is_within (range_of c.self.inside.heap.memory) c.args.range =
-    sym c.if-not-lies_in.false ∙ c.lies_in.ensures ∙ ap (λ m. is_within (range_of m) c.args.range) c.memory_ref.ensures.memory in
-    let lies = within_is (range_of c.self.inside.heap.memory) c.args.range within in
-    let is : true ≡ is_next c.self.inside.pool c.args.range.start = sym c.if-not-is_next.false ∙ c.is_next.ensures in
-    let (some, ends) = next_is c.self.inside.pool c.args.range is in
-    (omega arith, next_range c.self.invariant c.args.range some ends lies)
+    let is = is_next_range g (goal.at.append_free_block_ptr-taken-requires g c).Else-not-is_next in
+    (omega arith, next_range c.self.invariant c.args.range is.some is.ends is.lies)
+
+-- nothing is changed where no byte is taken
+same_state : (g : given.Over) (c : Then-taken-eq0 g) → c.append_free_block_ptr-taken.new.self.state ≡ c.self.inside.heap.state
+same_state g c =
+    let (stands, step) = appended g (goal.at.invariant_of-self g c).After-append_free_block_ptr-taken in
+    let heap = c.append_free_block_ptr-taken.new.self in
+    none_appended g.row.FLLEN c.self.inside.heap.state heap.state c.args.range
+    (subst (λ k. Appends g.row.FLLEN c.self.inside.heap.state c.args.range k heap.state) c.if-taken-eq0.true step)
 
 pub invariant_of-self : goal.invariant_of-self
 invariant_of-self g c =
-    let heap = c.append_free_block_ptr-taken.new.self in
     let did = c.append_free_block_ptr-taken.ensures in
-    let step : Appends g.row.FLLEN c.self.inside.heap.state c.args.range c.append_free_block_ptr-taken.result heap.state = step_of _ _ _ _ _ did.step in
-    let same : heap.state ≡ c.self.inside.heap.state = none_appended g.row.FLLEN c.self.inside.heap.state heap.state c.args.range
-    (subst (λ k. Appends g.row.FLLEN c.self.inside.heap.state c.args.range k heap.state) c.if-taken-eq0.true step) in
-    unchanged c.self.invariant heap (stands_after _ _ _ _ _ did.step) did.place (ap (λ (s : State). s.chunks) same) did.aligns
+    unchanged c.self.invariant c.append_free_block_ptr-taken.new.self (stands_after _ _ _ _ _ did.step) did.place (ap (λ (s : State). s.chunks) (same_state g c)) did.aligns
 
 pub overflow_add-self : goal.overflow_add-self
 overflow_add-self g c =
-    let is = an_append g (goal.at.overflow_add-self g c).After-append_free_block_ptr-taken in
-    let fits = appended_fits c.self.invariant c.args.range is.some is.ends is.lies c.append_free_block_ptr-taken.new.self _ is.step in
+    let is = is_next_range g (goal.at.overflow_add-self g c).Else-not-is_next in
+    let (stands, step) = appended g (goal.at.overflow_add-self g c).After-append_free_block_ptr-taken in
+    let fits = appended_fits c.self.invariant c.args.range is.some is.ends is.lies c.append_free_block_ptr-taken.new.self _ step in
     record { fits = omega (arith, fits) }
 
 pub flip-requires : goal.flip-requires
 flip-requires g c =
-    let is = an_append g (goal.at.flip-requires g c).After-append_free_block_ptr-taken in
-    (appended_place c.self.invariant _ is.stands c.args.range _ is.some is.ends is.lies (omega (arith, c.if-taken-eq0.false)) is.step).low
+    let is = is_next_range g (goal.at.flip-requires g c).Else-not-is_next in
+    let (stands, step) = appended g (goal.at.flip-requires g c).After-append_free_block_ptr-taken in
+    (appended_place c.self.invariant _ stands c.args.range _ is.some is.ends is.lies (omega (arith, c.if-taken-eq0.false)) step).low
 
 pub overflow_add-range : goal.overflow_add-range
 overflow_add-range g c =
-    let is = an_append g (goal.at.overflow_add-range g c).After-append_free_block_ptr-taken in
-    let fits = appended_fits c.self.invariant c.args.range is.some is.ends is.lies c.append_free_block_ptr-taken.new.self _ is.step in
+    let is = is_next_range g (goal.at.overflow_add-range g c).Else-not-is_next in
+    let (stands, step) = appended g (goal.at.overflow_add-range g c).After-append_free_block_ptr-taken in
+    let fits = appended_fits c.self.invariant c.args.range is.some is.ends is.lies c.append_free_block_ptr-taken.new.self _ step in
     record { fits = omega (arith, fits, is.ends) }
 
 pub flip-requires-2 : goal.flip-requires-2
 flip-requires-2 g c =
-    let is = an_append g (goal.at.flip-requires-2 g c).After-append_free_block_ptr-taken in
-    c.flip.ensures.places _ (appended_place c.self.invariant _ is.stands c.args.range _ is.some is.ends is.lies (omega (arith, c.if-taken-eq0.false)) is.step).high
+    let is = is_next_range g (goal.at.flip-requires-2 g c).Else-not-is_next in
+    let (stands, step) = appended g (goal.at.flip-requires-2 g c).After-append_free_block_ptr-taken in
+    c.flip.ensures.places _ (appended_place c.self.invariant _ stands c.args.range _ is.some is.ends is.lies (omega (arith, c.if-taken-eq0.false)) step).high
 
 pub invariant_of-self-2 : goal.invariant_of-self-2
 invariant_of-self-2 g c =
-    let is = an_append g (goal.at.invariant_of-self-2 g c).After-append_free_block_ptr-taken in
+    let is = is_next_range g (goal.at.invariant_of-self-2 g c).Else-not-is_next in
+    let (stands, step) = appended g (goal.at.invariant_of-self-2 g c).After-append_free_block_ptr-taken in
     let first = flips c.flip.ensures.here c.flip.ensures.others c.flip.ensures.marks c.flip.ensures.places in
     let second = flips c.flip-2.ensures.here c.flip-2.ensures.others c.flip-2.ensures.marks c.flip-2.ensures.places in
     let did = c.append_free_block_ptr-taken.ensures in
-    handed_on c.self.invariant c.args.range is.some is.ends is.lies _ is.stands did.place did.aligns _ is.step c.flip-2.new.self
-    (appended_edges c.self.invariant _ is.stands c.args.range _ is.some is.ends is.lies (omega (arith, c.if-taken-eq0.false)) is.step c.flip.new.self c.flip-2.new.self first second)
+    handed_on c.self.invariant c.args.range is.some is.ends is.lies _ stands did.place did.aligns _ step c.flip-2.new.self
+    (appended_edges c.self.invariant _ stands c.args.range _ is.some is.ends is.lies (omega (arith, c.if-taken-eq0.false)) step c.flip.new.self c.flip-2.new.self first second)
 
 pub returns-then-not-lies_in : goal.returns-then-not-lies_in
 returns-then-not-lies_in g c =
@@ -111,19 +111,12 @@ returns-then-not-is_next g c =
 pub returns-then-taken-eq0 : goal.returns-then-taken-eq0
 returns-then-taken-eq0 g c = record {
   answer = rw (← c.self.view_is) (
-      let is = an_append g (goal.at.returns-then-taken-eq0 g c).After-append_free_block_ptr-taken in
-      sym (next_answer g.row.FLLEN (checked c.self.inside.heap c.self.inside.pool) c.args.range is.within is.next ∙ ap if_appended (sym is.step.answer ∙ c.if-taken-eq0.true)));
+      let is = is_next_range g (goal.at.returns-then-taken-eq0 g c).Else-not-is_next in
+      let (stands, step) = appended g (goal.at.returns-then-taken-eq0 g c).After-append_free_block_ptr-taken in
+      sym (next_answer g.row.FLLEN (checked c.self.inside.heap c.self.inside.pool) c.args.range is.within is.next ∙ ap if_appended (sym step.answer ∙ c.if-taken-eq0.true)));
   step = search rules;
   pool = search rules;
-  same = rw (← c.self.view_is) (
-      let heap = c.append_free_block_ptr-taken.new.self in
-      let n = c.append_free_block_ptr-taken.result in
-      let did = c.append_free_block_ptr-taken.ensures in
-      let step : Appends g.row.FLLEN c.self.inside.heap.state c.args.range n heap.state = step_of _ _ _ _ _ did.step in (
-        none_appended g.row.FLLEN c.self.inside.heap.state heap.state c.args.range
-            (subst (λ k. Appends g.row.FLLEN c.self.inside.heap.state c.args.range k heap.state) c.if-taken-eq0.true step),
-        refl,
-      ));
+  same = rw (← c.self.view_is) (same_state g (goal.at.returns-then-taken-eq0 g c).Then-taken-eq0, refl);
   refused = rw (← c.self.view_is) (c.append_free_block_ptr-taken.ensures.unchanged c.if-taken-eq0.true);
   aligns = rw (← c.self.view_is) c.append_free_block_ptr-taken.ensures.aligns;
   bytes = rw (← c.self.view_is) c.append_free_block_ptr-taken.ensures.bytes;
@@ -138,8 +131,9 @@ returns-then-taken-eq0 g c = record {
 pub returns : goal.returns
 returns g c = record {
   answer = rw (← c.self.view_is) (
-      let is = an_append g (goal.at.returns g c).After-append_free_block_ptr-taken in
-      sym (next_answer g.row.FLLEN (checked c.self.inside.heap c.self.inside.pool) c.args.range is.within is.next ∙ ap if_appended (sym is.step.answer)
+      let is = is_next_range g (goal.at.returns g c).Else-not-is_next in
+      let (stands, step) = appended g (goal.at.returns g c).After-append_free_block_ptr-taken in
+      sym (next_answer g.row.FLLEN (checked c.self.inside.heap c.self.inside.pool) c.args.range is.within is.next ∙ ap if_appended (sym step.answer)
       ∙ some_appended _ c.if-taken-eq0.false));
   step = rw (← c.self.view_is) c.append_free_block_ptr-taken.ensures.step;
   pool = rw (← c.self.view_is) refl;
