@@ -1,10 +1,10 @@
-use Rattle.std.proofs.Common.{rules, ◌≡◌, ◌+◌, ◌^◌, ◌<◌, ◌≤◌, true, Ok, Some, None, arith, refl, sym, ◌∙◌, ap, subst, false}
+use Rattle.std.proofs.Common.{rules, ◌≡◌, ◌+◌, ◌^◌, ◌<◌, ◌≤◌, length, true, Ok, Some, None, arith, refl, sym, ◌∙◌, ap, subst, false}
 use Rattle.rlsf_base.specs.Addr.{at}
-use Rattle.rlsf_base.specs.Range.{end_of, range_at}
+use Rattle.rlsf_base.specs.Range.{LiesIn, end_of, range_at}
 use Rattle.rlsf_base.specs.Space.{range_of}
 use Rattle.rlsf_model.specs.Insert.{Inserts}
 use Rattle.rlsf_model.specs.State.{State}
-use Rattle.rlsf_tlsf.specs.Allocator.{Steps}
+use Rattle.rlsf_tlsf.specs.Allocator.{Stands, Steps}
 use Rattle.rlsf_checked.specs.Answers.{if_taken, is_within}
 use Rattle.rlsf_checked.specs.Checked.{checked}
 use Rattle.rlsf_checked.specs.Steps.Marks.{HasMark}
@@ -13,17 +13,35 @@ use Rattle.rlsf_checked.proofs.Edges.{Flips, flips}
 use Rattle.rlsf_checked.proofs.Toggled.{inserted_edges, inserted_place}
 use Rattle.rlsf_checked.proofs.Pools.{before_answer, behind_answer, handed_in, none_taken, outside_answer, pool_fits, untouched, within_is}
 use Rattle.rlsf_checked.proofs.Standing.{stands_after, step_of, unchanged}
+use Rattle.rlsf_checked.proofs.checked.CheckedTlsf.insert.Given as given
 use Rattle.rlsf_checked.proofs.checked.CheckedTlsf.insert.Goals as goal
+use Rattle.rlsf_checked.proofs.checked.CheckedTlsf.insert.Goals.{Else-range-self, In-Some}
+
+-- the range lies in the memory, behind the last pool
+record IsBehind (g : given.Over) (c : Else-range-self g) : Type 0 where
+  pub within : true ≡ is_within (range_of c.self.inside.heap.memory) c.args.range
+  pub behind : end_of c.self.inside.pool ≤ c.args.range.start
+  pub lies : LiesIn c.args.range c.self.inside.heap.memory.start (length c.self.inside.heap.memory.bytes)
+
+is_behind : (g : given.Over) (c : Else-range-self g) → IsBehind g c
+is_behind g c =
+    let within : true ≡ is_within (range_of c.self.inside.heap.memory) c.args.range =
+    sym c.if-not-lies_in.false ∙ c.lies_in.ensures ∙ ap (λ m. is_within (range_of m) c.args.range) c.memory_ref.ensures.memory in
+    record { within = within; behind = omega (arith, c.if-range-self.false); lies = within_is (range_of c.self.inside.heap.memory) c.args.range within }
+
+-- the allocator is valid after the reference model's step
+inserted : (g : given.Over) (c : In-Some g)
+    → Stands g.row.FLLEN g.row.SLLEN c.insert_free_block_ptr.new.self
+    × Inserts g.row.FLLEN c.self.inside.heap.state c.args.range (Some (at c.in-Some.taken)) c.insert_free_block_ptr.new.self.state
+inserted g c = let did = c.in-Some.ensures in (stands_after _ _ _ _ _ did.step, step_of _ _ _ _ _ did.step)
 
 pub overflow_add-self-inside : goal.overflow_add-self-inside
 overflow_add-self-inside g c = record { fits = pool_fits c.self.invariant }
 
 pub insert_free_block_ptr-requires : goal.insert_free_block_ptr-requires
 insert_free_block_ptr-requires g c =
-    let within : true ≡ is_within (range_of c.self.inside.heap.memory) c.args.range =
-    sym c.if-not-lies_in.false ∙ c.lies_in.ensures ∙ ap (λ m. is_within (range_of m) c.args.range) c.memory_ref.ensures.memory in
-    let behind : end_of c.self.inside.pool ≤ c.args.range.start = omega (arith, c.if-range-self.false) in
-    (omega arith, (within_is (range_of c.self.inside.heap.memory) c.args.range within, untouched c.self.invariant c.args.range behind))
+    let is = is_behind g (goal.at.insert_free_block_ptr-requires g c).Else-range-self in
+    (omega arith, (is.lies, untouched c.self.invariant c.args.range is.behind))
 
 pub invariant_of-self : goal.invariant_of-self
 invariant_of-self g c =
@@ -34,66 +52,42 @@ invariant_of-self g c =
 
 pub next_multiple_of_32-requires : goal.next_multiple_of_32-requires
 next_multiple_of_32-requires g c =
-    let did = c.in-Some.ensures in
-    let heap = c.insert_free_block_ptr.new.self in
-    let within : true ≡ is_within (range_of c.self.inside.heap.memory) c.args.range =
-    sym c.if-not-lies_in.false ∙ c.lies_in.ensures ∙ ap (λ m. is_within (range_of m) c.args.range) c.memory_ref.ensures.memory in
-    let lies = within_is (range_of c.self.inside.heap.memory) c.args.range within in
-    let behind : end_of c.self.inside.pool ≤ c.args.range.start = omega (arith, c.if-range-self.false) in
-    let place = inserted_place c.self.invariant heap (stands_after _ _ _ _ _ did.step) c.args.range (at c.in-Some.taken) behind lies (step_of _ _ _ _ _ did.step) in
-    record { fits = place.fits }
+    let is = is_behind g (goal.at.next_multiple_of_32-requires g c).Else-range-self in
+    let (stands, step) = inserted g (goal.at.next_multiple_of_32-requires g c).In-Some in
+    record { fits = (inserted_place c.self.invariant _ stands c.args.range _ is.behind is.lies step).fits }
 
 pub overflow_add-range : goal.overflow_add-range
 overflow_add-range g c =
-    let did = c.in-Some.ensures in
-    let heap = c.insert_free_block_ptr.new.self in
-    let within : true ≡ is_within (range_of c.self.inside.heap.memory) c.args.range =
-    sym c.if-not-lies_in.false ∙ c.lies_in.ensures ∙ ap (λ m. is_within (range_of m) c.args.range) c.memory_ref.ensures.memory in
-    let lies = within_is (range_of c.self.inside.heap.memory) c.args.range within in
-    let behind : end_of c.self.inside.pool ≤ c.args.range.start = omega (arith, c.if-range-self.false) in
-    let place = inserted_place c.self.invariant heap (stands_after _ _ _ _ _ did.step) c.args.range (at c.in-Some.taken) behind lies (step_of _ _ _ _ _ did.step) in
-    record { fits = subst (λ a. c.args.range.start + a < 2 ^ 64) (sym c.get-2.ensures.value) place.last_fits }
+    let is = is_behind g (goal.at.overflow_add-range g c).Else-range-self in
+    let (stands, step) = inserted g (goal.at.overflow_add-range g c).In-Some in
+    record { fits = subst (λ a. c.args.range.start + a < 2 ^ 64) (sym c.get-2.ensures.value) (inserted_place c.self.invariant _ stands c.args.range _ is.behind is.lies step).last_fits }
 
 pub flip-requires : goal.flip-requires
 flip-requires g c =
-    let did = c.in-Some.ensures in
-    let heap = c.insert_free_block_ptr.new.self in
-    let within : true ≡ is_within (range_of c.self.inside.heap.memory) c.args.range =
-    sym c.if-not-lies_in.false ∙ c.lies_in.ensures ∙ ap (λ m. is_within (range_of m) c.args.range) c.memory_ref.ensures.memory in
-    let lies = within_is (range_of c.self.inside.heap.memory) c.args.range within in
-    let behind : end_of c.self.inside.pool ≤ c.args.range.start = omega (arith, c.if-range-self.false) in
-    subst (HasMark c.self.inside.marks) (sym c.next_multiple_of_32.ensures.value)
-    (inserted_place c.self.invariant heap (stands_after _ _ _ _ _ did.step) c.args.range (at c.in-Some.taken) behind lies (step_of _ _ _ _ _ did.step)).low
+    let is = is_behind g (goal.at.flip-requires g c).Else-range-self in
+    let (stands, step) = inserted g (goal.at.flip-requires g c).In-Some in
+    subst (HasMark c.self.inside.marks) (sym c.next_multiple_of_32.ensures.value) (inserted_place c.self.invariant _ stands c.args.range _ is.behind is.lies step).low
 
 pub flip-requires-2 : goal.flip-requires-2
 flip-requires-2 g c =
-    let did = c.in-Some.ensures in
-    let heap = c.insert_free_block_ptr.new.self in
-    let within : true ≡ is_within (range_of c.self.inside.heap.memory) c.args.range =
-    sym c.if-not-lies_in.false ∙ c.lies_in.ensures ∙ ap (λ m. is_within (range_of m) c.args.range) c.memory_ref.ensures.memory in
-    let lies = within_is (range_of c.self.inside.heap.memory) c.args.range within in
-    let behind : end_of c.self.inside.pool ≤ c.args.range.start = omega (arith, c.if-range-self.false) in
-    subst (λ a. HasMark c.flip.new.self (c.args.range.start + a)) (sym c.get-2.ensures.value) (c.flip.ensures.places _
-    (inserted_place c.self.invariant heap (stands_after _ _ _ _ _ did.step) c.args.range (at c.in-Some.taken) behind lies (step_of _ _ _ _ _ did.step)).high)
+    let is = is_behind g (goal.at.flip-requires-2 g c).Else-range-self in
+    let (stands, step) = inserted g (goal.at.flip-requires-2 g c).In-Some in
+    subst (λ a. HasMark c.flip.new.self (c.args.range.start + a)) (sym c.get-2.ensures.value)
+    (c.flip.ensures.places _ (inserted_place c.self.invariant _ stands c.args.range _ is.behind is.lies step).high)
 
 pub invariant_of-self-2 : goal.invariant_of-self-2
 invariant_of-self-2 g c =
-    let did = c.in-Some.ensures in
+    let is = is_behind g (goal.at.invariant_of-self-2 g c).Else-range-self in
+    let (stands, step) = inserted g (goal.at.invariant_of-self-2 g c).In-Some in
     let heap = c.insert_free_block_ptr.new.self in
-    let within : true ≡ is_within (range_of c.self.inside.heap.memory) c.args.range =
-    sym c.if-not-lies_in.false ∙ c.lies_in.ensures ∙ ap (λ m. is_within (range_of m) c.args.range) c.memory_ref.ensures.memory in
-    let lies = within_is (range_of c.self.inside.heap.memory) c.args.range within in
-    let behind : end_of c.self.inside.pool ≤ c.args.range.start = omega (arith, c.if-range-self.false) in
-    let n = at c.in-Some.taken in
-    let step : Inserts g.row.FLLEN c.self.inside.heap.state c.args.range (Some n) heap.state = step_of _ _ _ _ _ did.step in
-    let stands = stands_after _ _ _ _ _ did.step in
+    let did = c.in-Some.ensures in
     let first = subst (Flips c.self.inside.marks c.flip.new.self) c.next_multiple_of_32.ensures.value
     (flips c.flip.ensures.here c.flip.ensures.others c.flip.ensures.marks c.flip.ensures.places) in
     let second = subst (λ a. Flips c.flip.new.self c.flip-2.new.self (c.args.range.start + a)) c.get-2.ensures.value
     (flips c.flip-2.ensures.here c.flip-2.ensures.others c.flip-2.ensures.marks c.flip-2.ensures.places) in
     subst (λ k. IsChecked g.row.FLLEN g.row.SLLEN heap c.flip-2.new.self (range_at c.args.range.start k)) (sym c.get.ensures.value)
-    (handed_in c.self.invariant c.args.range behind lies heap stands did.place did.aligns n step c.flip-2.new.self
-    (inserted_edges c.self.invariant heap stands c.args.range n behind lies step c.flip.new.self c.flip-2.new.self first second))
+    (handed_in c.self.invariant c.args.range is.behind is.lies heap stands did.place did.aligns _ step c.flip-2.new.self
+    (inserted_edges c.self.invariant heap stands c.args.range _ is.behind is.lies step c.flip.new.self c.flip-2.new.self first second))
 
 pub returns-then-not-lies_in : goal.returns-then-not-lies_in
 returns-then-not-lies_in g c =
@@ -126,11 +120,9 @@ returns-then-range-self g c = record {
 pub returns-in_default : goal.returns-in_default
 returns-in_default g c = record {
   answer = rw (← c.self.view_is) (
-      let within : true ≡ is_within (range_of c.self.inside.heap.memory) c.args.range =
-      sym c.if-not-lies_in.false ∙ c.lies_in.ensures ∙ ap (λ m. is_within (range_of m) c.args.range) c.memory_ref.ensures.memory in
-      let behind : end_of c.self.inside.pool ≤ c.args.range.start = omega (arith, c.if-range-self.false) in
+      let is = is_behind g (goal.at.returns-in_default g c).Else-range-self in
       let step : Inserts g.row.FLLEN c.self.inside.heap.state c.args.range None c.insert_free_block_ptr.new.self.state = step_of _ _ _ _ _ c.in_default.ensures.step in
-      sym (behind_answer g.row.FLLEN (checked c.self.inside.heap c.self.inside.pool) c.args.range within behind ∙ ap if_taken (sym step.answer)));
+      sym (behind_answer g.row.FLLEN (checked c.self.inside.heap c.self.inside.pool) c.args.range is.within is.behind ∙ ap if_taken (sym step.answer)));
   step = search rules;
   pool = search rules;
   same =
@@ -153,12 +145,9 @@ returns-in_default g c = record {
 pub returns : goal.returns
 returns g c = record {
   answer = rw (← c.self.view_is) (
-      let within : true ≡ is_within (range_of c.self.inside.heap.memory) c.args.range =
-      sym c.if-not-lies_in.false ∙ c.lies_in.ensures ∙ ap (λ m. is_within (range_of m) c.args.range) c.memory_ref.ensures.memory in
-      let behind : end_of c.self.inside.pool ≤ c.args.range.start = omega (arith, c.if-range-self.false) in
-      let step : Inserts g.row.FLLEN c.self.inside.heap.state c.args.range (Some (at c.in-Some.taken)) c.insert_free_block_ptr.new.self.state =
-      step_of _ _ _ _ _ c.in-Some.ensures.step in
-      ap Ok c.get-3.ensures.value ∙ sym (behind_answer g.row.FLLEN (checked c.self.inside.heap c.self.inside.pool) c.args.range within behind ∙ ap if_taken (sym step.answer)));
+      let is = is_behind g (goal.at.returns g c).Else-range-self in
+      let (stands, step) = inserted g (goal.at.returns g c).In-Some in
+      ap Ok c.get-3.ensures.value ∙ sym (behind_answer g.row.FLLEN (checked c.self.inside.heap c.self.inside.pool) c.args.range is.within is.behind ∙ ap if_taken (sym step.answer)));
   step =
       subst (λ n. Steps g.row.FLLEN g.row.SLLEN c.args.self.now.heap c.insert_free_block_ptr.new.self (Inserts g.row.FLLEN c.args.self.now.heap.state c.args.range (Some n)))
       (sym c.get-3.ensures.value)
