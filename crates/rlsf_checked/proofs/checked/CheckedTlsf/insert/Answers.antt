@@ -60,7 +60,8 @@ pub overflow_add-range : goal.overflow_add-range
 overflow_add-range g c =
     let is = is_behind g (goal.at.overflow_add-range g c).Else-range-self in
     let (stands, step) = inserted g (goal.at.overflow_add-range g c).In-Some in
-    record { fits = subst (λ a. c.args.range.start + a < 2 ^ 64) (sym c.get-2.ensures.value) (inserted_place c.self.invariant _ stands c.args.range _ is.behind is.lies step).last_fits }
+    let place = inserted_place c.self.invariant _ stands c.args.range _ is.behind is.lies step in
+    record { fits = subst (λ a. c.args.range.start + a < 2 ^ 64) (sym c.get-2.ensures.value) place.last_fits }
 
 pub flip-requires : goal.flip-requires
 flip-requires g c =
@@ -147,7 +148,8 @@ returns g c = record {
   answer = rw (← c.self.view_is) (
       let is = is_behind g (goal.at.returns g c).Else-range-self in
       let (stands, step) = inserted g (goal.at.returns g c).In-Some in
-      ap Ok c.get-3.ensures.value ∙ sym (behind_answer g.row.FLLEN (checked c.self.inside.heap c.self.inside.pool) c.args.range is.within is.behind ∙ ap if_taken (sym step.answer)));
+      ap Ok c.get-3.ensures.value
+      ∙ sym (behind_answer g.row.FLLEN (checked c.self.inside.heap c.self.inside.pool) c.args.range is.within is.behind ∙ ap if_taken (sym step.answer)));
   step =
       subst (λ n. Steps g.row.FLLEN g.row.SLLEN c.args.self.now.heap c.insert_free_block_ptr.new.self (Inserts g.row.FLLEN c.args.self.now.heap.state c.args.range (Some n)))
       (sym c.get-3.ensures.value)
