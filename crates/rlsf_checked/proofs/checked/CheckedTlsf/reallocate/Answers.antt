@@ -1,16 +1,27 @@
-use Rattle.std.proofs.Common.{rules, arith, ◌≡◌, IfSome, ◌≤◌, ◌<◌, ◌+◌, length, suc, Some, None, Ok, Err, refl, sym, ◌∙◌, ap, subst}
+use Rattle.std.proofs.Common.{rules, arith, ◌≡◌, ℕ, IfSome, ◌≤◌, ◌<◌, ◌+◌, length, suc, Some, None, Ok, Err, refl, sym, ◌∙◌, ap, subst}
 use Rattle.std.specs.declared.num.NonZeroUsize.{NonZeroUsize}
 use Rattle.rlsf_base.specs.Addr.{at}
 use Rattle.rlsf_base.specs.PowerOfTwo.{floor_log2}
 use Rattle.rlsf_model.specs.Callers.{align_at, bytes_at}
 use Rattle.rlsf_model.specs.Reallocate.{Reallocates}
+use Rattle.rlsf_model.specs.Sized.{IsSizedFor}
 use Rattle.rlsf_tlsf.specs.Allocator.{Steps}
 use Rattle.rlsf_checked.specs.Answers.{IsRefusedBy, size_refusal}
 use Rattle.rlsf_checked.specs.declared.error.CheckedError.TheVariants.{NoRoom}
 use Rattle.rlsf_checked.specs.Steps.Marks.{HasMark, mark_at}
 use Rattle.rlsf_checked.proofs.SizeRefusals.{past_is_refused, unknown_is_refused}
 use Rattle.rlsf_checked.proofs.Standing.{has_mark, left_behind, marked_moved, size_fits, stands_after, step_of, unchanged}
+use Rattle.rlsf_checked.proofs.checked.CheckedTlsf.reallocate.Given as given
 use Rattle.rlsf_checked.proofs.checked.CheckedTlsf.reallocate.Goals as goal
+use Rattle.rlsf_checked.proofs.checked.CheckedTlsf.reallocate.Goals.{After-reallocate}
+
+-- what the pools are sized for is kept
+bounds_kept : (g : given.Over) (c : After-reallocate g) (count most_size align : ℕ) → IsSizedFor g.row.SLLEN count most_size align c.self.inside.heap.state → c.args.size ≤ most_size
+    → IfSome (align_at c.self.inside.heap.state (at c.args.addr)) (λ a. a ≤ align) → IsSizedFor g.row.SLLEN count most_size align c.reallocate.new.self.state
+bounds_kept g c count most_size align sized short fits =
+    let live : align_at c.self.inside.heap.state (at c.args.addr) ≡ Some c.in-Some.align = sym (rw (← c.self.view_is) at c.in-Some.ensures.value) in
+    let low : c.in-Some.align ≤ align = subst (λ o. IfSome o (λ a. a ≤ align)) live fits in
+    c.reallocate.ensures.bounds count most_size align sized (omega (arith, short, c.in-Ok.ensures.layout.0)) (omega (arith, low, c.in-Ok.ensures.layout.1))
 
 pub invariant_of-self : goal.invariant_of-self
 invariant_of-self g c =
@@ -86,11 +97,7 @@ returns-in_default-reallocate g c = record {
       let low : c.in-Some.align ≤ align = subst (λ o. IfSome o (λ a. a ≤ align)) live fits in
       c.in_default-reallocate.ensures.room count most_size align sized few (omega (arith, short, c.in-Ok.ensures.layout.0)) (omega (arith, low, c.in-Ok.ensures.layout.1)));
   count = rw (← c.self.view_is) c.in_default-reallocate.ensures.count;
-  bounds =
-      let live : align_at c.self.inside.heap.state (at c.args.addr) ≡ Some c.in-Some.align = sym (rw (← c.self.view_is) at c.in-Some.ensures.value) in
-      rw (← c.self.view_is) (λ count most_size align sized short fits.
-      let low : c.in-Some.align ≤ align = subst (λ o. IfSome o (λ a. a ≤ align)) live fits in
-      c.in_default-reallocate.ensures.bounds count most_size align sized (omega (arith, short, c.in-Ok.ensures.layout.0)) (omega (arith, low, c.in-Ok.ensures.layout.1)));
+  bounds = rw (← c.self.view_is) (bounds_kept g (goal.at.returns-in_default-reallocate g c).After-reallocate);
   same = rw (← c.self.view_is) c.in_default-reallocate.ensures.same;
   refused = rw (← c.self.view_is) c.in_default-reallocate.ensures.refused;
   pool = search rules;
@@ -127,11 +134,7 @@ returns g c = record {
   bytes = rw (← c.self.view_is) c.in-Some-reallocate.ensures.bytes;
   room = λ count most_size align sized few short fits fine. refl;
   count = rw (← c.self.view_is) c.in-Some-reallocate.ensures.count;
-  bounds =
-      let live : align_at c.self.inside.heap.state (at c.args.addr) ≡ Some c.in-Some.align = sym (rw (← c.self.view_is) at c.in-Some.ensures.value) in
-      rw (← c.self.view_is) (λ count most_size align sized short fits.
-      let low : c.in-Some.align ≤ align = subst (λ o. IfSome o (λ a. a ≤ align)) live fits in
-      c.in-Some-reallocate.ensures.bounds count most_size align sized (omega (arith, short, c.in-Ok.ensures.layout.0)) (omega (arith, low, c.in-Ok.ensures.layout.1)));
+  bounds = rw (← c.self.view_is) (bounds_kept g (goal.at.returns g c).After-reallocate);
   same = search rules;
   refused = search rules;
   pool = search rules;

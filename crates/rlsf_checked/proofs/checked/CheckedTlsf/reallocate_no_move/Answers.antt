@@ -1,8 +1,9 @@
-use Rattle.std.proofs.Common.{rules, arith, ◌≡◌, IfSome, Option, ◌≤◌, ◌<◌, ◌+◌, length, Some, None, Ok, Err, refl, sym, subst}
+use Rattle.std.proofs.Common.{rules, arith, ◌≡◌, ℕ, IfSome, Option, ◌≤◌, ◌<◌, ◌+◌, length, Some, None, Ok, Err, refl, sym, subst}
 use Rattle.std.specs.declared.num.NonZeroUsize.{NonZeroUsize}
 use Rattle.rlsf_base.specs.Addr.{at, reply}
 use Rattle.rlsf_model.specs.Callers.{align_at, bytes_at}
 use Rattle.rlsf_model.specs.NoMove.{ReallocatesWithoutMove}
+use Rattle.rlsf_model.specs.Sized.{IsSizedFor}
 use Rattle.rlsf_tlsf.specs.Allocator.{Steps}
 use Rattle.rlsf_checked.specs.Answers.{IsRefusedBy, size_refusal}
 use Rattle.rlsf_checked.specs.declared.error.CheckedError.TheVariants.{NoRoom}
@@ -21,6 +22,14 @@ did_step g c answer is =
     subst (λ r. Steps g.row.FLLEN g.row.SLLEN heap new (ReallocatesWithoutMove heap.state (at c.args.addr) c.args.size (reply r))) is
     (subst (λ n. Steps g.row.FLLEN g.row.SLLEN heap new (ReallocatesWithoutMove heap.state (at c.args.addr) n (reply c.reallocate_no_move.result))) c.in-Ok.ensures.layout.0
     c.reallocate_no_move.ensures.step)
+
+-- what the pools are sized for is kept
+bounds_kept : (g : given.Over) (c : After-reallocate_no_move g) (count most_size align : ℕ) → IsSizedFor g.row.SLLEN count most_size align c.self.inside.heap.state → c.args.size ≤ most_size
+    → IfSome (align_at c.self.inside.heap.state (at c.args.addr)) (λ a. a ≤ align) → IsSizedFor g.row.SLLEN count most_size align c.reallocate_no_move.new.self.state
+bounds_kept g c count most_size align sized short fits =
+    let live : align_at c.self.inside.heap.state (at c.args.addr) ≡ Some c.in-Some.align = sym (rw (← c.self.view_is) at c.in-Some.ensures.value) in
+    let low : c.in-Some.align ≤ align = subst (λ o. IfSome o (λ a. a ≤ align)) live fits in
+    c.reallocate_no_move.ensures.bounds count most_size align sized (omega (arith, short, c.in-Ok.ensures.layout.0)) (omega (arith, low, c.in-Ok.ensures.layout.1))
 
 pub invariant_of-self : goal.invariant_of-self
 invariant_of-self g c =
@@ -57,11 +66,7 @@ returns-in_default-reallocate_no_move g c = record {
   aligns = rw (← c.self.view_is) c.in_default-reallocate_no_move.ensures.aligns;
   bytes = rw (← c.self.view_is) c.in_default-reallocate_no_move.ensures.bytes;
   count = rw (← c.self.view_is) c.in_default-reallocate_no_move.ensures.count;
-  bounds =
-      let live : align_at c.self.inside.heap.state (at c.args.addr) ≡ Some c.in-Some.align = sym (rw (← c.self.view_is) at c.in-Some.ensures.value) in
-      rw (← c.self.view_is) (λ count most_size align sized short fits.
-      let low : c.in-Some.align ≤ align = subst (λ o. IfSome o (λ a. a ≤ align)) live fits in
-      c.in_default-reallocate_no_move.ensures.bounds count most_size align sized (omega (arith, short, c.in-Ok.ensures.layout.0)) (omega (arith, low, c.in-Ok.ensures.layout.1)));
+  bounds = rw (← c.self.view_is) (bounds_kept g (goal.at.returns-in_default-reallocate_no_move g c).After-reallocate_no_move);
   same = rw (← c.self.view_is) c.in_default-reallocate_no_move.ensures.same;
   refused = rw (← c.self.view_is) c.in_default-reallocate_no_move.ensures.refused;
   pool = search rules;
@@ -85,11 +90,7 @@ returns g c = record {
   aligns = rw (← c.self.view_is) c.in-Some-reallocate_no_move.ensures.aligns;
   bytes = rw (← c.self.view_is) c.in-Some-reallocate_no_move.ensures.bytes;
   count = rw (← c.self.view_is) c.in-Some-reallocate_no_move.ensures.count;
-  bounds =
-      let live : align_at c.self.inside.heap.state (at c.args.addr) ≡ Some c.in-Some.align = sym (rw (← c.self.view_is) at c.in-Some.ensures.value) in
-      rw (← c.self.view_is) (λ count most_size align sized short fits.
-      let low : c.in-Some.align ≤ align = subst (λ o. IfSome o (λ a. a ≤ align)) live fits in
-      c.in-Some-reallocate_no_move.ensures.bounds count most_size align sized (omega (arith, short, c.in-Ok.ensures.layout.0)) (omega (arith, low, c.in-Ok.ensures.layout.1)));
+  bounds = rw (← c.self.view_is) (bounds_kept g (goal.at.returns g c).After-reallocate_no_move);
   same = search rules;
   refused = search rules;
   pool = search rules;
