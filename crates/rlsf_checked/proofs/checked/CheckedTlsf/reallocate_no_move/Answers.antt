@@ -24,8 +24,9 @@ did_step g c answer is =
     c.reallocate_no_move.ensures.step)
 
 -- what the pools are sized for is kept
-bounds_kept : (g : given.Over) (c : After-reallocate_no_move g) (count most_size align : ℕ) → IsSizedFor g.row.SLLEN count most_size align c.self.inside.heap.state → c.args.size ≤ most_size
-    → IfSome (align_at c.self.inside.heap.state (at c.args.addr)) (λ a. a ≤ align) → IsSizedFor g.row.SLLEN count most_size align c.reallocate_no_move.new.self.state
+bounds_kept : (g : given.Over) (c : After-reallocate_no_move g) (count most_size align : ℕ) → IsSizedFor g.row.SLLEN count most_size align c.self.inside.heap.state
+    → c.args.size ≤ most_size → IfSome (align_at c.self.inside.heap.state (at c.args.addr)) (λ a. a ≤ align)
+    → IsSizedFor g.row.SLLEN count most_size align c.reallocate_no_move.new.self.state
 bounds_kept g c count most_size align sized short fits =
     let live : align_at c.self.inside.heap.state (at c.args.addr) ≡ Some c.in-Some.align = sym (rw (← c.self.view_is) at c.in-Some.ensures.value) in
     let low : c.in-Some.align ≤ align = subst (λ o. IfSome o (λ a. a ≤ align)) live fits in
