@@ -65,7 +65,7 @@ more c =
     let there = subst (λ a. HasAmong v c.keep.new.store places [] (place addr a (length c.args.bytes.now)) c.args.bytes.now)
     (sym (ap (λ h. h.align) c.self.view_is ∙ c.requires)) now in
     one_more c.self.inside.handles c.self.invariant c.keep.new.store c.keep.new.handles
-        (SamePlace-then c.self.inside.store.heap.memory c.add.new.self.heap.memory c.keep.new.store.heap.memory c.add.ensures.place c.keep.ensures.place)
+    (SamePlace-then c.self.inside.store.heap.memory c.add.new.self.heap.memory c.keep.new.store.heap.memory c.add.ensures.place c.keep.ensures.place)
     c.in_ok-handle.handle _
     c.args.bytes.now there
     (ap (λ h. h.rows) c.in_ok-handle.ensures.kept.2) (ap (λ h. h.next) c.in_ok-handle.ensures.kept.2)

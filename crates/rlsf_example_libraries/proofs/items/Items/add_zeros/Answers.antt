@@ -54,7 +54,7 @@ more c =
     let there = subst (λ a. HasAmong v c.keep.new.store places [] (place addr a c.args.layout.size) (replicate c.args.layout.size 0))
     (sym (ap (λ h. h.align) c.self.view_is ∙ c.requires)) now in
     one_more c.self.inside.handles c.self.invariant c.keep.new.store c.keep.new.handles
-        (SamePlace-then c.self.inside.store.heap.memory c.add_zeros.new.self.heap.memory c.keep.new.store.heap.memory c.add_zeros.ensures.place c.keep.ensures.place)
+    (SamePlace-then c.self.inside.store.heap.memory c.add_zeros.new.self.heap.memory c.keep.new.store.heap.memory c.add_zeros.ensures.place c.keep.ensures.place)
     c.in_ok-handle.handle _ (replicate c.args.layout.size 0) there
     (ap (λ h. h.rows) c.in_ok-handle.ensures.kept.2) (ap (λ h. h.next) c.in_ok-handle.ensures.kept.2)
 
