@@ -137,7 +137,7 @@ fn main() -> Result<()> {
     assert_eq!(&bytes, b"he\0\0\0");
     pool.free(zeros)?;
     assert_eq!(pool.remove_last(), Err(Error(15)));
-    assert_eq!(pool.remove(4096, 65536), Err(Error(15)));
+    assert_eq!(pool.remove(4096, 61440), Err(Error(15)));
     assert_eq!(pool.remove(4096, 4096), Err(Error(16)));
     let mut pool = std::thread::spawn(move || pool.free(addr).map(|()| pool)).join().unwrap()?;
     assert_eq!(pool.free(addr), Err(Error(3)));
