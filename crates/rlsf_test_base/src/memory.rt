@@ -276,22 +276,15 @@ fn steps(rt: HostRuntime) {
     }
 }
 
-/// The number at the front of a text, if it begins with a digit.
-fn first_number(text: &[u8]) -> Option<usize> {
-    let mut number = None;
-    for byte in text {
-        if !byte.is_ascii_digit() {
-            break;
-        }
-        let before = number.unwrap_or(0usize).wrapping_mul(10);
-        number = Some(before.wrapping_add(usize::from(*byte - b'0')));
-    }
-    number
+/// The number in front of the first space.
+fn first_number(text: &str) -> Option<usize> {
+    let (word, _) = text.split_once(' ')?;
+    word.parse().ok()
 }
 
 /// How many bytes of addresses the process has, by the pages that the system reports.
 fn mapped(rt: &(impl Abort + Files + AllocGlobal)) -> usize {
-    let sizes = fs::read(rt, "/proc/self/statm").expect(rt, "a file");
+    let sizes = fs::read_to_string(rt, "/proc/self/statm").expect(rt, "a file");
     let pages = first_number(&sizes).expect(rt, "a number");
     pages.saturating_mul(4096)
 }
