@@ -2,7 +2,8 @@
 pub use Rattle.rlsf_base.specs.declared.memory.layout.Layout.{Layout}
 pub use Rattle.rlsf_base.specs.declared.memory.range.Range.{Range}
 pub use Rattle.rlsf_base.specs.Addr.{at, reply}
-pub use Rattle.rlsf_base.specs.ClassLaws.{LongestBlockHasAClass, MappedIsFirstReaching, PoolContainsItsAllocation, PoolIsOneChunk, UnmappedBeginsItsClass, UnmappedIsEnough, UnreachedIsNotUnmapped}
+pub use Rattle.rlsf_base.specs.ClassLaws.{LongestBlockHasAClass, MappedIsFirstReaching, PoolContainsItsAllocation, PoolIsOneChunk, UnmappedBeginsItsClass, UnmappedIsEnough}
+pub use Rattle.rlsf_base.specs.ClassLaws.{UnreachedIsNotUnmapped}
 pub use Rattle.rlsf_base.specs.Range.{AreApart, LiesIn, end_of, range_at}
 pub use Rattle.rlsf_base.specs.SizeClass.{IsValid}
 pub use Rattle.rlsf_base.specs.Space.{SamePlace, Space, range_of}

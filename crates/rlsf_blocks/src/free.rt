@@ -48,7 +48,8 @@ fn take_free<const FLLEN: usize, const SLLEN: usize>(
     requires parameters { IsValid 128 128 FLLEN SLLEN }
     requires marked { (free : List Range) × IsFreeTable FLLEN SLLEN memory.old table.old free × IsMarked memory.old free block }
     requires view { view ≡ memory.old.view }
-    ensures step { (free : List Range) → IsFreeTable FLLEN SLLEN memory.old table.old free → IsMarked memory.old free block → IsNextOut FLLEN SLLEN memory.old memory.new table.new free block (unwrap_or result 0) }
+    ensures step { (free : List Range) → IsFreeTable FLLEN SLLEN memory.old table.old free → IsMarked memory.old free block
+        → IsNextOut FLLEN SLLEN memory.old memory.new table.new free block (unwrap_or result 0) }
     ensures some { IfSome result (λ len. 0 < len) }
     ensures costs { Costs memory.old memory.new 9 0 }
 {
@@ -118,7 +119,8 @@ fn put<const FLLEN: usize, const SLLEN: usize>(
     requires parameters { IsValid 128 128 FLLEN SLLEN }
     requires room { (free : List Range) × (r : Range) × (r.start ≡ block) × (r.len ≡ len) × IsInnerRoom FLLEN SLLEN memory.old table.old free r }
     requires view { view ≡ memory.old.view }
-    ensures step { (free : List Range) (r : Range) → r.start ≡ block → r.len ≡ len → IsInnerRoom FLLEN SLLEN memory.old table.old free r → IsNewFreeBlock FLLEN SLLEN memory.old memory.new table.new free r }
+    ensures step { (free : List Range) (r : Range) → r.start ≡ block → r.len ≡ len → IsInnerRoom FLLEN SLLEN memory.old table.old free r
+        → IsNewFreeBlock FLLEN SLLEN memory.old memory.new table.new free r }
     ensures costs { Costs memory.old memory.new 11 0 }
 {
     memory.set_word_at(view, block, len as u64);

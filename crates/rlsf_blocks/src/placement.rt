@@ -107,7 +107,8 @@ fn place<const FLLEN: usize, const SLLEN: usize>(
 ) -> usize
     requires parameters { IsValid 128 128 FLLEN SLLEN }
     requires class { IsClassAt FLLEN SLLEN (word_at memory.old found.start) found.class.fl found.class.sl }
-    requires chosen { (s : State) × (f : Range) × StandsFor FLLEN SLLEN (contents memory.old table.old) s × (choice SLLEN (request_size layout.size layout.align) s.free ≡ Some f) × (f.start ≡ found.start) }
+    requires chosen { (s : State) × (f : Range) × StandsFor FLLEN SLLEN (contents memory.old table.old) s
+        × (choice SLLEN (request_size layout.size layout.align) s.free ≡ Some f) × (f.start ≡ found.start) }
     requires view { view ≡ memory.old.view }
     ensures step { AtEachChosen FLLEN SLLEN memory.old table.old layout found.start (λ s f. StepsTo FLLEN SLLEN memory.old memory.new table.new s (Places SLLEN s layout.size layout.align result)) }
     ensures costs { Costs memory.old memory.new 23 0 }

@@ -31,7 +31,8 @@ pub fn add_chunk<const FLLEN: usize, const SLLEN: usize>(
 )
     requires parameters { IsValid 128 128 FLLEN SLLEN }
     requires fresh { (s : State) × StandsFor FLLEN SLLEN (contents memory.old table.old) s × IsNewChunk FLLEN SLLEN memory.old s chunk }
-    ensures step { (s : State) → StandsFor FLLEN SLLEN (contents memory.old table.old) s → IsNewChunk FLLEN SLLEN memory.old s chunk → IsAdded FLLEN SLLEN memory.old memory.new table.new s.free chunk }
+    ensures step { (s : State) → StandsFor FLLEN SLLEN (contents memory.old table.old) s → IsNewChunk FLLEN SLLEN memory.old s chunk
+        → IsAdded FLLEN SLLEN memory.old memory.new table.new s.free chunk }
     ensures costs { Costs memory.old memory.new 13 0 }
 {
     let block = chunk.start;

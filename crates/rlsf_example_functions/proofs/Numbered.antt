@@ -15,8 +15,9 @@ unfolding AreNumbered
 numbered_none s addrs k a below is = absurd (omega arith)
 
 -- one more payload is filled
-pub numbered_more : (s t : State) (align : ℕ) (addrs : List NonZeroUsize) (i n : ℕ) (a : NonZeroUsize) → AreNumbered s addrs i → AreLive s align addrs → i < length addrs → a ≡ get_or addrs i a
-    → bytes_at t (at a) ≡ replicate n (i % 256) → length (bytes_at t (at a)) ≡ n → ((b : ℕ) → b ≢ at a → bytes_at t b ≡ bytes_at s b) → AreNumbered t addrs (i + 1)
+pub numbered_more : (s t : State) (align : ℕ) (addrs : List NonZeroUsize) (i n : ℕ) (a : NonZeroUsize) → AreNumbered s addrs i → AreLive s align addrs
+    → i < length addrs → a ≡ get_or addrs i a → bytes_at t (at a) ≡ replicate n (i % 256)
+    → length (bytes_at t (at a)) ≡ n → ((b : ℕ) → b ≢ at a → bytes_at t b ≡ bytes_at s b) → AreNumbered t addrs (i + 1)
 unfolding AreNumbered
 numbered_more s t align addrs i n a before live below is filled long others k b low = below_more (IsNumbered t addrs) i there here k low b
   where

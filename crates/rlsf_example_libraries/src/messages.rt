@@ -80,7 +80,13 @@ impl Model for Messages {
 
     ghost Value = { Queue };
 
-    ghost view = { λ q. record { messages = messages_in q.store.heap.memory q.entries.items; capacity = deque_capacity q.entries; longest = q.longest; memory = range_of q.store.heap.memory; touches = q.store.heap.memory.touches } };
+    ghost view = { λ q. record {
+      messages = messages_in q.store.heap.memory q.entries.items;
+      capacity = deque_capacity q.entries;
+      longest = q.longest;
+      memory = range_of q.store.heap.memory;
+      touches = q.store.heap.memory.touches;
+    } };
 
     ghost invariant = { λ q. KeepsAt q.store (map place_of_entry q.entries.items)
         × KeepsLongest q.longest (range_of q.store.heap.memory) (deque_capacity q.entries) q.entries.items };

@@ -24,4 +24,6 @@ pub list_told : (p0 : Ptr) (vs : List Val) → shadow (list_own p0 vs) → (vs �
 list_told p0 vs s = (s.1.0 ∙ (λ i. vstruct (of_list (s.1.1.0 i ++ (s.1.1.1.0.1.0 i ++ []))) ∷ []), tt)
 
 pub list_made : {M : Type 1} {𝓤 : Ura M} (𝓛 : Logic 𝓤) (p0 : Ptr) → Unit {0} → ent 𝓤 (emp 𝓤) (sem 𝓛 (list_own p0 (list_val p0 ∷ [])))
-list_made 𝓛 p0 f = makes_shadow 𝓛 (list_own p0 (list_val p0 ∷ [])) (λ _. (tt, (tt, ((λ _. (tt, tt)), tt)))) ((ptr_val p0 ∷ [], (vstruct vnil ∷ [], tt)), (refl, (refl, ((tt, (refl, tt)), tt))))
+list_made 𝓛 p0 f =
+    makes_shadow 𝓛 (list_own p0 (list_val p0 ∷ [])) (λ _. (tt, (tt, ((λ _. (tt, tt)), tt))))
+    ((ptr_val p0 ∷ [], (vstruct vnil ∷ [], tt)), (refl, (refl, ((tt, (refl, tt)), tt))))

@@ -7,8 +7,8 @@ use Rattle.rlsf_base.specs.declared.memory.range.Range.{Range}
 use Rattle.rlsf_model.proofs.FlexSteps.{flex_empty_is_well_formed}
 use Rattle.rlsf_model_global.specs.Cursor.{first_page, page_cursor, terms_of}
 use Rattle.rlsf_model_global.specs.Heap.{Heap, beginning, layout_at}
-use Rattle.rlsf_model_global.specs.History.{Gives, IsHistory, Names, NoneNames, Step, allocate, deallocate, deallocate_as, reallocate, reallocate_as, reallocate_there, read, usable}
-use Rattle.rlsf_model_global.specs.History.{write}
+use Rattle.rlsf_model_global.specs.History.{Gives, IsHistory, Names, NoneNames, Step, allocate, deallocate, deallocate_as, reallocate, reallocate_as, reallocate_there}
+use Rattle.rlsf_model_global.specs.History.{read, usable, write}
 use Rattle.rlsf_model_global.specs.Isolation.{BeginningIsHeap, HistoriesListPayloads, IsLeftBy, PayloadsAreIsolated}
 use Rattle.rlsf_model_global.specs.Standing.{IsHeap}
 use Rattle.rlsf_model_global.specs.Steps.{Placed}

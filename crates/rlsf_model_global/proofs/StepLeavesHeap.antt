@@ -23,7 +23,8 @@ use Rattle.rlsf_model_global.specs.Rows.{IsSorted, Row, put, row_at, without_row
 use Rattle.rlsf_model_global.specs.Standing.{IsHeap}
 use Rattle.rlsf_model_global.specs.Steps.{Releases, Takes, WritesIn}
 use Rattle.rlsf_model_global.proofs.StepLeavesFlex.{FlexGoes, flex_goes}
-use Rattle.rlsf_model_global.proofs.Maps.{IsServed, Lists-filled, Lists-moved, Lists-put, Lists-without_row, agrees-none, row_at-put_other, row_at-without_here, row_at-without_other}
+use Rattle.rlsf_model_global.proofs.Maps.{IsServed, Lists-filled, Lists-moved, Lists-put, Lists-without_row, agrees-none}
+use Rattle.rlsf_model_global.proofs.Maps.{row_at-put_other, row_at-without_here, row_at-without_other}
 use Rattle.rlsf_model_global.proofs.Rows.{absent-row_at, put-sorted, without_row-sorted}
 
 -- the payload at the address and its entry are as they were

@@ -40,7 +40,8 @@ pub fn reallocate_block<const FLLEN: usize, const SLLEN: usize, const WHOLE: usi
     requires used { (s : State) × (u : Used) × StandsFor FLLEN SLLEN (contents memory.old table.old) s × IsUsedAt s u block payload layout.align × IsHere memory.old (usable u) }
     requires view { view ≡ memory.old.view }
     requires whole { WHOLE ≡ 1 → memory.old.out ≡ [] }
-    ensures step { AtEachPayload FLLEN SLLEN memory.old table.old block payload layout (λ s u. IsHere memory.old (usable u) → IsReallocated FLLEN SLLEN memory.old memory.new table.new s u layout.size result) }
+    ensures step { AtEachPayload FLLEN SLLEN memory.old table.old block payload layout
+        (λ s u. IsHere memory.old (usable u) → IsReallocated FLLEN SLLEN memory.old memory.new table.new s u layout.size result) }
     ensures refused { IfNone result (memory.new.bytes ≡ memory.old.bytes) }
     ensures place { SamePlace memory.old memory.new }
     ensures touches { memory.new.touches ≤ memory.old.touches + 65 }

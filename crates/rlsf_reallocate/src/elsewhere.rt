@@ -32,9 +32,11 @@ pub fn move_elsewhere<const FLLEN: usize, const SLLEN: usize, const WHOLE: usize
 ) -> Option<usize>
     requires parameters { IsValid 128 128 FLLEN SLLEN }
     requires view { view ≡ memory.old.view }
-    requires used { (s : State) × (u : Used) × StandsFor FLLEN SLLEN (contents memory.old table.old) s × IsUsedAt s u block payload layout.align × (in_place s u layout.size ≡ None) × IsHere memory.old (usable u) }
+    requires used { (s : State) × (u : Used) × StandsFor FLLEN SLLEN (contents memory.old table.old) s × IsUsedAt s u block payload layout.align
+        × (in_place s u layout.size ≡ None) × IsHere memory.old (usable u) }
     requires whole { WHOLE ≡ 1 → memory.old.out ≡ [] }
-    ensures step { AtEachShort FLLEN SLLEN memory.old table.old block payload layout (λ s u. IsHere memory.old (usable u) → IsElsewhere FLLEN SLLEN memory.old memory.new table.new s u layout.size result) }
+    ensures step { AtEachShort FLLEN SLLEN memory.old table.old block payload layout
+        (λ s u. IsHere memory.old (usable u) → IsElsewhere FLLEN SLLEN memory.old memory.new table.new s u layout.size result) }
     ensures unchanged { IfNone result (Counts memory.old memory.new 5 × (table.new ≡ table.old)) }
     ensures place { SamePlace memory.old memory.new }
     ensures touches { memory.new.touches ≤ memory.old.touches + 59 }

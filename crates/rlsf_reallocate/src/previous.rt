@@ -49,7 +49,8 @@ fn place_before(
 ) -> Option<(usize, usize)>
     requires used { (fllen : ℕ) × (sllen : ℕ) × (t : Table) × (s : State) × (u : Used) × StandsFor fllen sllen (contents memory.old t) s × IsUsedBlock s u block end layout.align }
     requires view { view ≡ memory.old.view }
-    ensures place { (fllen sllen : ℕ) (t : Table) (s : State) (u : Used) → StandsFor fllen sllen (contents memory.old t) s → IsUsedBlock s u block end layout.align → IsPlaceBefore s u layout.size result }
+    ensures place { (fllen sllen : ℕ) (t : Table) (s : State) (u : Used) → StandsFor fllen sllen (contents memory.old t) s
+        → IsUsedBlock s u block end layout.align → IsPlaceBefore s u layout.size result }
     ensures counts { Counts memory.old memory.new 3 }
 {
     let start = start_before(memory, view, block);
@@ -82,7 +83,8 @@ pub(crate) fn move_into_previous<const FLLEN: usize, const SLLEN: usize, const W
     layout: Layout,
 ) -> Option<usize>
     requires parameters { IsValid 128 128 FLLEN SLLEN }
-    requires used { (s : State) × (u : Used) × StandsFor FLLEN SLLEN (contents memory.old table.old) s × IsUsedAt s u block payload layout.align × (in_place s u layout.size ≡ None) × IsHere memory.old (usable u) }
+    requires used { (s : State) × (u : Used) × StandsFor FLLEN SLLEN (contents memory.old table.old) s × IsUsedAt s u block payload layout.align
+        × (in_place s u layout.size ≡ None) × IsHere memory.old (usable u) }
     requires view { view ≡ memory.old.view }
     requires whole { WHOLE ≡ 1 → memory.old.out ≡ [] }
     ensures moved { AtEachShort FLLEN SLLEN memory.old table.old block payload layout

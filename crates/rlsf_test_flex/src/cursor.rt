@@ -92,9 +92,15 @@ impl<'a> Model for CursorSource<'a> {
 
     ghost Value = { Cursor };
 
-    ghost view = { λ c. record { terms = record { space = c.space; dealloc = c.habits.dealloc; grow = c.habits.grow; contiguous = c.habits.contiguous; min_align = c.habits.min_align }; at = c.at } };
+    ghost view = { λ c. record {
+      terms = record { space = c.space; dealloc = c.habits.dealloc; grow = c.habits.grow; contiguous = c.habits.contiguous; min_align = c.habits.min_align };
+      at = c.at;
+    } };
 
-    ghost invariant = { λ c. IsCursor (record { terms = record { space = c.space; dealloc = c.habits.dealloc; grow = c.habits.grow; contiguous = c.habits.contiguous; min_align = c.habits.min_align }; at = c.at }) };
+    ghost invariant = { λ c. IsCursor (record {
+      terms = record { space = c.space; dealloc = c.habits.dealloc; grow = c.habits.grow; contiguous = c.habits.contiguous; min_align = c.habits.min_align };
+      at = c.at;
+    }) };
 }
 
 impl<'a> CursorSource<'a> {
@@ -102,7 +108,10 @@ impl<'a> CursorSource<'a> {
     pub fn new(space: Range, habits: Habits, seen: &'a Cell<Questions>) -> CursorSource<'a>
         requires addressable { end_of space < 2 ^ 64 }
         requires power { IsPowerOfTwo habits.min_align }
-        ensures value { result ≡ record { terms = record { space = space; dealloc = habits.dealloc; grow = habits.grow; contiguous = habits.contiguous; min_align = habits.min_align }; at = space.start } }
+        ensures value { result ≡ record {
+          terms = record { space = space; dealloc = habits.dealloc; grow = habits.grow; contiguous = habits.contiguous; min_align = habits.min_align };
+          at = space.start;
+        } }
         ensures owed { MayOwe result [] }
     {
         CursorSource {

@@ -345,7 +345,8 @@ impl<FLBitmap: BitPattern, SLBitmap: BitPattern, const FLLEN: usize, const SLLEN
         ensures bytes { (w : List ℕ) (a : ℕ) → a ≢ at addr → bytes_at (written self.old (at addr) (length result.now) w).state a ≡ bytes_at self.old.state a }
         ensures aligns { (w : List ℕ) → align_at (written self.old (at addr) (length result.now) w).state ≡ align_at self.old.state }
         ensures count { (w : List ℕ) → live_count (written self.old (at addr) (length result.now) w).state ≡ live_count self.old.state }
-        ensures bounds { (w : List ℕ) (count size align : ℕ) → IsSizedFor SLLEN count size align self.old.state → IsSizedFor SLLEN count size align (written self.old (at addr) (length result.now) w).state }
+        ensures bounds { (w : List ℕ) (count size align : ℕ) → IsSizedFor SLLEN count size align self.old.state
+            → IsSizedFor SLLEN count size align (written self.old (at addr) (length result.now) w).state }
         ensures lengths { (w : List ℕ) → length (bytes_at (written self.old (at addr) (length result.now) w).state (at addr)) ≡ length result.now }
         ensures rest { (w : List ℕ) → LeavesRest FLLEN SLLEN self.old (written self.old (at addr) (length result.now) w) }
     {

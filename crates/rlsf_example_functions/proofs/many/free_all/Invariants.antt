@@ -7,4 +7,5 @@ abbrev pub decreases-loop-addr : goal.decreases-loop-addr
 decreases-loop-addr l = vec_len l.addrs
 
 abbrev pub invariant-loop-addr : goal.invariant-loop-addr
-invariant-loop-addr l = AreLive l.pool.state l.align l.addrs.items × (live_count l.pool.state + length l.initial.addrs.items ≡ live_count l.initial.pool.state + length l.addrs.items)
+invariant-loop-addr l =
+    AreLive l.pool.state l.align l.addrs.items × (live_count l.pool.state + length l.initial.addrs.items ≡ live_count l.initial.pool.state + length l.addrs.items)

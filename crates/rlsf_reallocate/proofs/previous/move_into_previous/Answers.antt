@@ -229,8 +229,13 @@ occupy-requires g c =
     let (s, u, v, used, short, here) = c.requires.used in
     let at = goal.at.occupy-requires g c in
     let are = outs g at.After-take_if_free-next v used short here in
-    let inner = room are c.copy_payload.ensures.start c.copy_payload.ensures.bytes c.copy_payload.ensures.out in
-    (omega arith, (c.requires.parameters, ((untouched u.block s.free, union u.block s.free, union_begins are, (total_is are).1, IsSpanRoom-inner c.in_ok-moved.taken inner), (part are, search rules))))
+    let inner = room are c.copy_payload.ensures.start c.copy_payload.ensures.bytes c.copy_payload.ensures.out in (
+      omega arith,
+      (
+        c.requires.parameters,
+        ((untouched u.block s.free, union u.block s.free, union_begins are, (total_is are).1, IsSpanRoom-inner c.in_ok-moved.taken inner), (part are, search rules)),
+      ),
+    )
 
 pub overflow_sub-moved : goal.overflow_sub-moved
 overflow_sub-moved g c =

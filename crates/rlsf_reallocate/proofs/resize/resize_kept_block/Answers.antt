@@ -197,7 +197,9 @@ returns-clause-done g c =
     let ends = reached g here.After-free_length v u at in
     let end = end_is v u at c.load_at.ensures.word c.len_of_used-len.ensures in
     let start = at.start in
-    let words = c.occupy.ensures.step (staying s u) (span_of s u) at.start (omega (arith, span_len v u at.is_used gone)) (spanned g here.After-take_if_free-next v u at own taken (omega (arith, gone.end, ends, end, c.if-taken-len-2.false))) in
+    let words =
+    c.occupy.ensures.step (staying s u) (span_of s u) at.start (omega (arith, span_len v u at.is_used gone))
+    (spanned g here.After-take_if_free-next v u at own taken (omega (arith, gone.end, ends, end, c.if-taken-len-2.false))) in
     let front : range_at c.args.block c.next_multiple_of_32-taken.result ≡ resized u size = ap₂ (λ b l. range_at b l) (sym at.start) taken in
     let occupied =
     subst (λ q. IsOccupied g.row.FLLEN g.row.SLLEN c.take_if_free-next.new.memory c.occupy.new.memory c.occupy.new.table (staying s u) (span_of s u) q) front words in
@@ -254,7 +256,9 @@ returns-clause-own g c =
     let ends = reached g here.After-free_length v u at in
     let end = end_is v u at c.load_at.ensures.word c.len_of_used-len.ensures in
     let start = at.start in
-    let words = c.occupy.ensures.step (staying s u) (span_of s u) at.start (omega (arith, span_len v u at.is_used gone)) (spanned g here.After-take_if_free-next v u at own taken (omega (arith, gone.end, ends, end, c.if-taken-len-2.false))) in
+    let words =
+    c.occupy.ensures.step (staying s u) (span_of s u) at.start (omega (arith, span_len v u at.is_used gone))
+    (spanned g here.After-take_if_free-next v u at own taken (omega (arith, gone.end, ends, end, c.if-taken-len-2.false))) in
     (Stays-then (Stays-rewrites gone.rewrites) (Stays-rewrites words.rewrites)).own
 
 pub returns-clause-here : goal.returns-clause-here
@@ -266,5 +270,7 @@ returns-clause-here g c =
     let ends = reached g here.After-free_length v u at in
     let end = end_is v u at c.load_at.ensures.word c.len_of_used-len.ensures in
     let start = at.start in
-    let words = c.occupy.ensures.step (staying s u) (span_of s u) at.start (omega (arith, span_len v u at.is_used gone)) (spanned g here.After-take_if_free-next v u at own taken (omega (arith, gone.end, ends, end, c.if-taken-len-2.false))) in
+    let words =
+    c.occupy.ensures.step (staying s u) (span_of s u) at.start (omega (arith, span_len v u at.is_used gone))
+    (spanned g here.After-take_if_free-next v u at own taken (omega (arith, gone.end, ends, end, c.if-taken-len-2.false))) in
     (Stays-then (Stays-rewrites gone.rewrites) (Stays-rewrites words.rewrites)).here

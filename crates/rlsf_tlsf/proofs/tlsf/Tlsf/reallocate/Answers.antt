@@ -239,8 +239,8 @@ returns-in_err-moved g c =
       copied =
           let before = (goal.at.returns-in_err-moved g c).After-used_block-block in
           let f = found g before in
-          most_copied-read_first viewed c.used_block-block.ensures.counts c.reallocate_block.new.memory (usable f.used).len (length (bytes_at c.args.self.now.state (at c.args.addr)))
-          (c.reallocate_block.ensures.copied (state g before) f.used f.stands f.used_at) (long g before);
+          most_copied-read_first viewed c.used_block-block.ensures.counts c.reallocate_block.new.memory (usable f.used).len
+          (length (bytes_at c.args.self.now.state (at c.args.addr))) (c.reallocate_block.ensures.copied (state g before) f.used f.stands f.used_at) (long g before);
       grow_copied = grow_copied-read_first viewed c.used_block-block.ensures.counts c.reallocate_block.new.memory c.reallocate_block.ensures.grow_copied;
       stays = λ room.
           let (u, p, held, first) = room in
@@ -303,8 +303,8 @@ returns g c =
       copied =
           let before = (goal.at.returns g c).After-used_block-block in
           let f = found g before in
-          most_copied-read_first viewed c.used_block-block.ensures.counts c.reallocate_block.new.memory (usable f.used).len (length (bytes_at c.args.self.now.state (at c.args.addr)))
-          (c.reallocate_block.ensures.copied (state g before) f.used f.stands f.used_at) (long g before);
+          most_copied-read_first viewed c.used_block-block.ensures.counts c.reallocate_block.new.memory (usable f.used).len
+          (length (bytes_at c.args.self.now.state (at c.args.addr))) (c.reallocate_block.ensures.copied (state g before) f.used f.stands f.used_at) (long g before);
       grow_copied = grow_copied-read_first viewed c.used_block-block.ensures.counts c.reallocate_block.new.memory c.reallocate_block.ensures.grow_copied;
       stays = λ room.
           let (u, p, held, first) = room in
