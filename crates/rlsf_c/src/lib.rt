@@ -1,4 +1,9 @@
 //! The allocator for C and Rust programs: calls over a handle that holds a pool. `include/rlsf.h` declares them.
+//!
+//! Every call accepts any numbers, and returns an error for wrong ones. Read `specs/Seen` (a pool as contracts see it), `specs/Calls` and
+//! `specs/Handle` first, then this file, which has the exports. `pool.rt` has the two kinds of pools, and `calls.rt` the calls of one kind.
+//! `lengths.rt` computes lengths of pools, `walks.rt` describes blocks by numbers, and `answers.rt` has the returned values.
+//! `rlsf_c_lemmas` has the template of the exports' proofs.
 #![tactic(auto)]
 
 ghost use Rattle.std.specs.Borrow.{sem};
