@@ -1,9 +1,10 @@
 //! An allocator that refuses each call that its caller may not make, in place of preconditions.
 //!
 //! Read `specs/Checked` (the allocator as contracts see it) and `specs/Answers` (when each error is returned) first, then `src/checked`, which
-//! has most calls. `src/error` has the errors. `src/marks` keeps a mark for each address at which a payload may be, and an edge where
-//! contiguous chunks begin or end. `src/runs` and `src/all_blocks` find the blocks of all pools by these. `src/classes` and `src/lengths`
-//! test parameters and lengths. `specs/Steps` is for private functions.
+//! has most calls. `src/removal` removes pools, and `src/bytes` copies and fills the bytes of payloads. `src/error` has the errors.
+//! `src/marks` keeps a mark for each address at which a payload may be, and an edge where contiguous chunks begin or end. `src/runs` and
+//! `src/all_blocks` find the blocks of all pools by these. `src/classes` and `src/lengths` test parameters and lengths. `specs/Steps` is for
+//! private functions.
 #![tactic(auto)]
 
 mod all_blocks;

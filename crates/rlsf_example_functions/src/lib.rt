@@ -3,6 +3,7 @@
 //! Read them in this order. `note.rt` has a payload with its pool, and `buffer.rt` a buffer that grows. `pools.rt` has pools that never
 //! refuse within their bounds, and `cache.rt` a cache of the latest messages over such a pool. `many.rt` has loops over the addresses
 //! of many payloads, and `across.rt` two pools with a copy between them. `paged.rt` and `source.rt` have allocators over sources.
+//! `bytes.rt` copies bytes into a payload.
 #![tactic(auto)]
 
 mod across;

@@ -1,7 +1,7 @@
 //! Prints the lengths of pools for so many payloads of a size, for three shapes of the allocator. One pool never refuses payloads
 //! up to the size. The other holds exactly so many of the size.
 //!
-//! `rows.rt` computes the lines of the table, by the definitions in `specs/Rows.antt`.
+//! `rows.rt` computes the lines of the table, by the definitions in `specs/Rows.antt`. `error.rt` has the errors.
 #![tactic(auto)]
 
 ghost use Rattle.rlsf_base.specs.SizeClass.{IsValid};
