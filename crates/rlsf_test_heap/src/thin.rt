@@ -1,5 +1,5 @@
 //! Payloads that are known by their address alone.
-ghost use Rattle.std.specs.Prelude.{◌≡◌, ◌≢◌, ◌≤◌, IfErr, IfOk};
+ghost use Rattle.std.specs.Prelude.{◌≡◌, ◌≢◌, ◌≤◌};
 ghost use Rattle.rlsf_heap.specs.Heap.{IsWritten};
 ghost use Rattle.rlsf_heap.specs.Settled.{IsSettled};
 
