@@ -1,5 +1,5 @@
 //! The steps of a thread: payloads of the shared heap are allocated into slots, and deallocated.
-ghost use Rattle.std.specs.Prelude.{◌≡◌, ◌<◌, length, IfOk};
+ghost use Rattle.std.specs.Prelude.{◌<◌, IfOk};
 ghost use Rattle.rlsf_heap.specs.Heap.{Identity};
 ghost use Rattle.rlsf_bench_shared.specs.Slots.{AreOf};
 

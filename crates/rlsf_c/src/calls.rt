@@ -1,7 +1,6 @@
 //! The calls of a checked allocator, over numbers.
 
-ghost use Rattle.std.specs.Prelude.{◌≡◌, length, IsSome};
-ghost use Rattle.rlsf_base.specs.Addr.{at};
+ghost use Rattle.std.specs.Prelude.{IsSome};
 ghost use Rattle.rlsf_model.specs.Callers.{align_at};
 ghost use Rattle.rlsf_checked.specs.Answers.{append_answer, insert_answer};
 ghost use Rattle.rlsf_c.specs.Calls.{Allocates, AllocatesZeroed, Appends, Copies, Frees, Inserts, Reads, RemovesLast, RemovesRange, Resizes, ResizesThere, Tells, Writes, Zeroes};

@@ -1,6 +1,5 @@
 //! Lengths of pools, over numbers.
 
-ghost use Rattle.std.specs.Prelude.{◌≡◌};
 ghost use Rattle.rlsf_c.specs.Lengths.{IsLengthForAllocation, IsLengthForPayloads};
 
 use rlsf_base::classes::{pool_size_for_payloads, pool_size_to_contain_allocation};

@@ -1,5 +1,5 @@
 -- Ranges that are removed, and the last pool afterwards.
-use Rattle.std.specs.Prelude.{◌≡◌, ◌==◌, ◌⊎◌, ℕ, ◌-◌, ◌<◌, min, nat_le, nat_lt, Result, Ok, Err, if◌then◌else◌}
+use Rattle.std.specs.Prelude.{◌≡◌, ◌==◌, ◌⊎◌, ◌-◌, ◌<◌, min, nat_le, nat_lt, Result, Ok, Err, if◌then◌else◌}
 use Rattle.rlsf_base.specs.declared.memory.range.Range.{Range}
 use Rattle.rlsf_base.specs.Range.{LiesIn, end_of, range_at}
 use Rattle.rlsf_blocks.specs.Blocks.{walked}

@@ -1,7 +1,7 @@
 //! The blocks of all pools: their totals, lists of them, and one after an address.
 
 ghost use Rattle.std.specs.Prelude.{◌≡◌, ◌+◌, ◌*◌, ◌^◌, ◌<◌, ◌≤◌, ◌++◌, ℕ, List, find, length, nat_le};
-ghost use Rattle.rlsf_blocks.specs.Blocks.{Block, IsInOrder};
+ghost use Rattle.rlsf_blocks.specs.Blocks.{Block};
 ghost use Rattle.rlsf_blocks.specs.Listing.{IsListingOf, all_from};
 ghost use Rattle.rlsf_blocks.specs.Totals.{AreTotalsOf};
 ghost use Rattle.rlsf_checked.specs.AllBlocks.{AreAllTotals, IsFirstFrom, IsListingOfAll};

@@ -1,6 +1,6 @@
 //! Pools that are removed.
 
-ghost use Rattle.std.specs.Prelude.{◌≡◌, ◌≤◌, ◌<◌, ◌+◌, ◌*◌, ◌%◌, ◌^◌, ◌↔◌, true, false, length, OnErr, OnOk};
+ghost use Rattle.std.specs.Prelude.{◌≡◌, ◌≤◌, ◌<◌, ◌+◌, ◌*◌, ◌^◌, ◌↔◌, true, false, length, OnErr, OnOk};
 ghost use Rattle.rlsf_base.specs.Range.{end_of, range_at};
 ghost use Rattle.rlsf_base.specs.Space.{SamePlace, range_of};
 ghost use Rattle.rlsf_model.specs.Callers.{align_at, bytes_at};

@@ -1,6 +1,6 @@
 //! A buffer that grows.
 
-ghost use Rattle.std.specs.Prelude.{◌≡◌, ◌≢◌, ◌<◌, ◌++◌, ◌∷◌, [], IfSome, IsTrue, OnSome, if◌then◌else◌};
+ghost use Rattle.std.specs.Prelude.{◌≡◌, ◌<◌, ◌++◌, ◌∷◌, [], IfSome, if◌then◌else◌};
 
 use crate::pools::Pool;
 use rlsf::{Addr, Layout};

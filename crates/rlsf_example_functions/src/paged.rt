@@ -1,6 +1,6 @@
 //! Allocators that ask a source for their memory.
 
-ghost use Rattle.std.specs.Prelude.{◌≡◌, ◌<◌, ◌+◌, ◌^◌, IfSome};
+ghost use Rattle.std.specs.Prelude.{◌≡◌, ◌<◌, IfSome};
 
 use crate::source::RationedSource;
 use rlsf::{BumpSource, FlexTlsf, Layout, Memory, Range, Source};

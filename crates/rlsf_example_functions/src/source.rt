@@ -1,7 +1,7 @@
 //! A source of memory of the caller's own.
 
 ghost use Rattle.std.specs.Prelude.{◌≡◌, ◌<◌, ◌≤◌, ◌+◌, ◌^◌, ◌++◌, ◌∷◌, [], List, MatchOption};
-ghost use Rattle.rlsf.specs.Sources.{OwesGrown, Range, dealloc, end_of, grow, round32};
+ghost use Rattle.rlsf.specs.Sources.{OwesGrown, Range, dealloc, end_of, grow};
 ghost use Rattle.rlsf_example_functions.specs.Rationed.{RationedLeads, RationedOwes, constant_rationed, rationed_in, rationed_terms};
 
 use rlsf::{FlexSource, Range};

@@ -1,8 +1,7 @@
 //! A pool of objects of one size and alignment, each named by a handle.
 
-ghost use Rattle.std.specs.Prelude.{◌≡◌, ◌<◌, ◌≤◌, ◌+◌, ◌↔◌, [], ◌∷◌, ◌++◌, None, Some, IfOk, OnOk, OnErr, IsErr, IsErrOf, IsSomeAnd, length, nat_eq, replicate};
-ghost use Rattle.std.specs.List.{splice};
-ghost use Rattle.std.specs.Map.{lookup, remove_entry, set_value};
+ghost use Rattle.std.specs.Prelude.{◌≡◌, ◌<◌, ◌≤◌, ◌+◌, ◌↔◌, [], ◌∷◌, ◌++◌, None, Some, IfOk, OnOk, OnErr, IsErr, IsErrOf, length, nat_eq, replicate};
+ghost use Rattle.std.specs.Map.{lookup, remove_entry};
 ghost use Rattle.rlsf_base.specs.Sizes as sizes;
 ghost use Rattle.rlsf_base.specs.Space.{range_of};
 ghost use Rattle.std.specs.Map.Iter.{GivesInOrder};

@@ -18,7 +18,6 @@ ghost use Rattle.rlsf_model.specs.Note.{LeadsBy};
 ghost use Rattle.rlsf_model.specs.NoMove.{ReallocatesWithoutMove};
 ghost use Rattle.rlsf_model.specs.Reallocate.{HasRoomToResize, HasRoomToStay, Keeps};
 ghost use Rattle.rlsf_model.specs.Release.{Deallocates};
-ghost use Rattle.rlsf_model.specs.Run.{Fills};
 ghost use Rattle.rlsf_model.specs.Sized.{IsSizedFor, live_count};
 ghost use Rattle.rlsf_model.specs.Trim.{Trims};
 

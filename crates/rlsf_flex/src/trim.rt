@@ -1,9 +1,6 @@
 //! Trim: returns the newest ranges without a used block to their source.
 
-ghost use Rattle.std.specs.Prelude.{◌≡◌, ◌↔◌, ◌≤◌, ◌<◌, ◌+◌, ◌*◌, ◌^◌, ℕ, List, [], Some, None, true, false, length, MatchOption, IfSome};
-ghost use Rattle.rlsf_base.specs.Range.{end_of};
-ghost use Rattle.rlsf_base.specs.SizeClass.{IsValid};
-ghost use Rattle.rlsf_base.specs.Space.{SamePlace};
+ghost use Rattle.std.specs.Prelude.{◌≡◌, ◌↔◌, ◌≤◌, ◌<◌, ◌+◌, ◌*◌, ℕ, [], Some, None, true, false, length, MatchOption, IfSome};
 ghost use Rattle.rlsf_blocks.specs.Blocks.{walked};
 ghost use Rattle.rlsf_flex.specs.StandsFor.{FlexStandsFor};
 ghost use Rattle.rlsf_flex.specs.Steps.Parts.{flex_over};

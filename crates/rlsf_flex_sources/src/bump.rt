@@ -1,9 +1,8 @@
 //! The bump source: it provides exactly the requested bytes, from a cursor on.
 
-ghost use Rattle.std.specs.Prelude.{◌≡◌, ◌<◌, ◌≤◌, ◌+◌, ◌^◌, ◌++◌, ◌∷◌, List, [], MatchOption, min};
+ghost use Rattle.std.specs.Prelude.{◌≡◌, ◌<◌, ◌≤◌, ◌+◌, ◌^◌, ◌++◌, ◌∷◌, List, [], MatchOption};
 ghost use Rattle.rlsf_base.specs.declared.memory.range.Range.{Range};
 ghost use Rattle.rlsf_base.specs.Range.{end_of};
-ghost use Rattle.rlsf_base.specs.Rounding.{round32};
 ghost use Rattle.rlsf_model.specs.Note.{dealloc};
 ghost use Rattle.rlsf_flex_sources.specs.Bump.{BumpLeads, BumpOwes, bump_in, bump_terms};
 ghost use Rattle.rlsf_flex_sources.specs.BumpConstant.{constant_bump};

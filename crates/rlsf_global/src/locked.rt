@@ -1,6 +1,6 @@
 //! The value behind the lock: an allocator over pages, and the table of its live addresses.
 
-ghost use Rattle.std.specs.Prelude.{◌≡◌, ◌≢◌, ◌↔◌, ℕ, ◌+◌, ◌≤◌, length, min, nat_le, IfOk, IsErrOf, IsSome, None, OnErr, OnOk, Some, drop, false, take, true};
+ghost use Rattle.std.specs.Prelude.{◌≡◌, ◌≢◌, ◌↔◌, ℕ, ◌+◌, ◌≤◌, length, min, nat_le, IfOk, IsErrOf, None, OnErr, OnOk, Some, drop, false, take, true};
 ghost use Rattle.std.specs.List.{splice};
 ghost use Rattle.rlsf_base.specs.Addr.{at};
 ghost use Rattle.rlsf_base.specs.Layout.{IsLayout};

@@ -1,6 +1,6 @@
 //! The trait of the integers that serve as bitmaps, and the meaning of their values.
 
-ghost use Rattle.std.specs.Prelude.{◌≡◌, ◌+◌, ◌<◌, ◌≤◌, ℕ, ℤ, Bool, false, ◌&&◌, ◌||◌, not, nat_eq, nat_lt, nat_le, option_map};
+ghost use Rattle.std.specs.Prelude.{◌≡◌, ◌+◌, ◌<◌, ◌≤◌, ℕ, ℤ, false, ◌&&◌, ◌||◌, not, nat_eq, nat_lt, nat_le, option_map};
 ghost use Rattle.rlsf_int.specs.Bits.{bit, IsFirstOne, IsLeadingZeros, ones_below};
 ghost use Rattle.rlsf_int.specs.Ceilings.{IsCheckedCeiling};
 ghost use Rattle.rlsf_int.specs.Values.{IsOneToOne, IsSpelled, IsValue};

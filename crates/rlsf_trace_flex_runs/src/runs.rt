@@ -1,8 +1,8 @@
 //! Runs: the ops of a trace, done with an allocator over a source.
 
-ghost use Rattle.std.specs.Prelude.{◌≡◌, ℕ, ◌+◌, ◌≤◌, ◌++◌, List, [], OnOk, OnErr};
+ghost use Rattle.std.specs.Prelude.{◌≡◌, ℕ, ◌+◌, ◌≤◌, ◌++◌, List, OnOk, OnErr};
 ghost use Rattle.std.specs.HashMap.{spare};
-ghost use Rattle.rlsf_base.specs.Space.{range_of, SamePlace};
+ghost use Rattle.rlsf_base.specs.Space.{SamePlace};
 ghost use Rattle.rlsf_trace_flex_runs.specs.Steps.Names.{IsFlexAt, LeadsOn};
 ghost use Rattle.rlsf_trace_flex_runs.specs.Whole.{RunsFlexTo};
 ghost use Rattle.rlsf_model.specs.FlexState.{empty};

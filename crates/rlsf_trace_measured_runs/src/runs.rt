@@ -1,6 +1,6 @@
 //! Runs that are watched.
 
-ghost use Rattle.std.specs.Prelude.{◌≡◌, ℕ, ◌+◌, ◌<◌, ◌≤◌, ◌^◌, ◌++◌, List, length, IfOk};
+ghost use Rattle.std.specs.Prelude.{◌≡◌, ◌<◌, IfOk};
 ghost use Rattle.rlsf_base.specs.Space.{range_of};
 ghost use Rattle.rlsf_model.specs.State.{empty};
 ghost use Rattle.rlsf_trace_measured_runs.specs.Moments.{IsWatched};

@@ -1,6 +1,6 @@
 //! Writes the output of a replay.
 
-ghost use Rattle.std.specs.Prelude.{◌≡◌, OnOk, OnErr, IfErr};
+ghost use Rattle.std.specs.Prelude.{◌≡◌, OnOk, IfErr};
 ghost use Rattle.std.specs.Io.KnownBytes.{Appends};
 ghost use Rattle.rlsf_trace_replay.specs.Output.{AppendsBeginning};
 

@@ -7,7 +7,6 @@ ghost use Rattle.rlsf_base.specs.Space.{range_of, SamePlace};
 ghost use Rattle.rlsf_model.specs.Insert.{IsVacant};
 ghost use Rattle.rlsf_model.specs.Lists.{IsIn};
 ghost use Rattle.rlsf_model.specs.State.{between, empty};
-ghost use Rattle.rlsf_blocks.specs.Spare.{KeepsSpare};
 ghost use Rattle.rlsf_trace_text.specs.declared.op.Answer.{Answer};
 ghost use Rattle.rlsf_trace_runs.specs.declared.runs.RunError.TheVariants.{OutOfMemory};
 ghost use Rattle.rlsf_trace_text.specs.declared.op.Op.TheVariants.{Insert, Append, Alloc};

@@ -1,6 +1,6 @@
 //! Reads the first line of a trace, and the ops of the others.
 
-ghost use Rattle.std.specs.Prelude.{◌≡◌, ◌+◌, ◌^◌, ◌<◌, map, length, IfOk};
+ghost use Rattle.std.specs.Prelude.{◌+◌, ◌^◌, ◌<◌, map, length, IfOk};
 ghost use Rattle.rlsf_trace_text.specs.FallibleSteps.{ReadsAs, ReadsAsOrRefused};
 ghost use Rattle.rlsf_trace_text.specs.Commands.{command_of};
 ghost use Rattle.rlsf_trace_text.specs.Lines.{lines_left};

@@ -1,4 +1,4 @@
-use Rattle.std.proofs.Common.{rules, ◌≡◌, ◌≤◌, length, true, arith, inl, inr, ◌∙◌}
+use Rattle.std.proofs.Common.{rules, ◌≡◌, length, true, arith, inl, inr, ◌∙◌}
 use Rattle.std.proofs.lemmas.Bool.{cases_lt}
 use Rattle.rlsf_base.specs.LendsPiece.{lent_piece}
 use Rattle.rlsf_base.specs.OpenSpace.{IsOwned}

@@ -1,4 +1,4 @@
-use Rattle.std.proofs.Common.{◌≡◌, ℕ, length, lit<, [], ◌∷◌, arith, inl, inr, refl, ◌∙◌, ap, subst}
+use Rattle.std.proofs.Common.{ℕ, length, lit<, arith, inl, inr, refl, ◌∙◌, ap, subst}
 use Rattle.std.proofs.lemmas.List.{length-replicate}
 use Rattle.rlsf_base.specs.Range.{end_of, range_at}
 use Rattle.rlsf_model.specs.Lists.{IsIn}

@@ -1,4 +1,4 @@
-use Rattle.std.proofs.Common.{◌≡◌, ◌≢◌, ◌∙◌}
+use Rattle.std.proofs.Common.{◌≢◌, ◌∙◌}
 use Rattle.rlsf_base.specs.Addr.{at}
 use Rattle.rlsf_test_tlsf.proofs.frees.two_taken.Goals as goal
 

@@ -1,4 +1,4 @@
-use Rattle.std.proofs.Common.{refl, sym, inl, inr, arith, subst, ap}
+use Rattle.std.proofs.Common.{refl, sym, inl, arith, subst, ap}
 use Rattle.rlsf_base.specs.Range.{range_at}
 use Rattle.rlsf_model.specs.Lists.{IsIn}
 use Rattle.rlsf_model.specs.WellFormed.{coverage}

@@ -1,4 +1,4 @@
-use Rattle.std.proofs.Common.{refl, arith, ap, ◌∙◌}
+use Rattle.std.proofs.Common.{refl, arith}
 use Rattle.rlsf_base.specs.Range.{range_at}
 use Rattle.rlsf_test_tlsf.proofs.OneChunk.{cut-one}
 use Rattle.rlsf_test_tlsf.proofs.FirstChunk.{chunks-first, used-first}

@@ -1,4 +1,4 @@
-use Rattle.std.proofs.Common.{arith, length, Some, sym, ◌∙◌, ap, subst, rules}
+use Rattle.std.proofs.Common.{arith, length, Some, sym, ◌∙◌, ap, subst}
 use Rattle.rlsf_tlsf.proofs.Standing.{bytes_in, some_live_in}
 use Rattle.rlsf_trace_runs.specs.Names.{address}
 use Rattle.rlsf_trace_runs.proofs.NamedPayloads.{owned}

@@ -1,4 +1,4 @@
-use Rattle.std.proofs.Common.{length, slice_index, arith, refl, sym, ◌∙◌, ap, rules}
+use Rattle.std.proofs.Common.{length, slice_index, arith, refl, sym, ◌∙◌, ap}
 use Rattle.rlsf_trace_text.specs.declared.op.Answer.TheVariants.{Byte, Refused}
 use Rattle.rlsf_trace_text.specs.declared.op.Op.TheVariants.{Get}
 use Rattle.rlsf_trace_text.specs.declared.op.TraceError.TheVariants.{BadOffset, UnknownName}

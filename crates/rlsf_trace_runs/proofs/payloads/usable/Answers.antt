@@ -1,4 +1,4 @@
-use Rattle.std.proofs.Common.{arith, length, refl, sym, ◌∙◌, ap, rules}
+use Rattle.std.proofs.Common.{arith, length, refl, sym, ◌∙◌, ap}
 use Rattle.rlsf_trace_text.specs.declared.op.Answer.TheVariants.{Usable as Told, Refused}
 use Rattle.rlsf_trace_text.specs.declared.op.Op.TheVariants.{Usable}
 use Rattle.rlsf_tlsf.proofs.Standing.{bytes_in, some_live_in}

@@ -1,4 +1,4 @@
-use Rattle.std.proofs.Common.{◌≡◌, ◌≤◌, length, false, true, true≢false, arith, refl, sym, ◌∙◌, ap, subst}
+use Rattle.std.proofs.Common.{◌≡◌, ◌≤◌, length, false, true, true≢false, arith, sym, ◌∙◌, ap, subst}
 use Rattle.rlsf_base.specs.Range.{LiesIn, end_of}
 use Rattle.rlsf_base.specs.Rounding.{round32}
 use Rattle.rlsf_base.specs.Space.{range_of}
