@@ -1,1 +1,0 @@
-use Rattle.rlsf_trace_replay.proofs.replays.answers_with.Goals as goal
