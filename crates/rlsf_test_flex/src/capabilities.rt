@@ -1,76 +1,30 @@
 //! A source of each combination of capabilities: two allocations, a free, another allocation, and the end.
 
-use crate::cursor::{Habits, Question};
-use crate::heaps::{Case, Step, are_right};
-use rlsf_base::memory::Range;
-
-/// A source that neither grows ranges nor takes them back.
-const NEITHER: Habits = Habits {
-    dealloc: false,
-    grow: false,
-    contiguous: false,
-    min_align: 32,
-    extra: 0,
-    refuses: false,
-};
+use crate::cursor::{Habits, NEITHER, Question};
+use crate::heaps::{Case, NO_STEPS, Step, are_right_with_each_capability};
 
 /// Allocates for one byte and then for 100, deallocates the 100, and allocates for them again.
-const USED: Case = Case {
-    space: Range {
-        start: 4096,
-        len: 4096,
-    },
-    habits: NEITHER,
-    steps: &[
-        Step::Allocate(1, 4112),
-        Step::GiveBack(100, 4176),
-        Step::Allocate(100, 4176),
-    ],
-    asked: &[Question::Alloc(64), Question::Alloc(160)],
-    left: None,
-};
+const USED: &[Step] = &[
+    Step::Allocate(1, 4112),
+    Step::GiveBack(100, 4176),
+    Step::Allocate(100, 4176),
+];
 
-static CASES: [Case; 8] = [
-    // It neither grows ranges nor takes them back.
-    USED,
-    Case {
-        habits: Habits {
-            contiguous: true,
-            ..NEITHER
-        },
-        ..USED
-    },
-    // It grows ranges.
-    Case {
-        habits: Habits {
-            grow: true,
-            ..NEITHER
-        },
-        asked: &[Question::Alloc(64), Question::Grow(4096, 64, 224)],
-        ..USED
-    },
-    Case {
-        habits: Habits {
-            grow: true,
-            contiguous: true,
-            ..NEITHER
-        },
-        asked: &[Question::Alloc(64), Question::Grow(4096, 64, 224)],
-        ..USED
-    },
-    // It takes ranges back.
+/// Sources that take ranges back and don't grow them.
+static TAKING: [Case; 2] = [
     Case {
         habits: Habits {
             dealloc: true,
             ..NEITHER
         },
+        steps: USED,
         asked: &[
             Question::Alloc(64),
             Question::Alloc(160),
             Question::Dealloc(4160, 160),
             Question::Dealloc(4096, 64),
         ],
-        ..USED
+        ..NO_STEPS
     },
     // One range that can't grow is all there is.
     Case {
@@ -85,39 +39,11 @@ static CASES: [Case; 8] = [
             Step::Allocate(100, 0),
         ],
         asked: &[Question::Alloc(64), Question::Dealloc(4096, 64)],
-        ..USED
-    },
-    // It grows ranges and takes them back.
-    Case {
-        habits: Habits {
-            dealloc: true,
-            grow: true,
-            ..NEITHER
-        },
-        asked: &[
-            Question::Alloc(64),
-            Question::Grow(4096, 64, 224),
-            Question::Dealloc(4096, 224),
-        ],
-        ..USED
-    },
-    Case {
-        habits: Habits {
-            dealloc: true,
-            grow: true,
-            contiguous: true,
-            ..NEITHER
-        },
-        asked: &[
-            Question::Alloc(64),
-            Question::Grow(4096, 64, 224),
-            Question::Dealloc(4096, 224),
-        ],
-        ..USED
+        ..NO_STEPS
     },
 ];
 
 #[test]
 fn capabilities(rt: HostRuntime) {
-    are_right(&rt, &CASES);
+    are_right_with_each_capability(&rt, USED, &TAKING);
 }

@@ -44,6 +44,16 @@ pub struct Habits {
     pub refuses: bool,
 }
 
+/// A source that neither grows ranges nor takes them back.
+pub const NEITHER: Habits = Habits {
+    dealloc: false,
+    grow: false,
+    contiguous: false,
+    min_align: 32,
+    extra: 0,
+    refuses: false,
+};
+
 /// The first eight questions.
 #[derive(Clone, Copy)]
 pub struct Questions {

@@ -4,7 +4,7 @@ ghost use Rattle.std.specs.Prelude.{◌≡◌, [], length, IfSome};
 ghost use Rattle.rlsf_base.specs.Range.{LiesIn};
 ghost use Rattle.rlsf_test_flex.specs.Cursor.{MayOwe};
 
-use crate::cursor::{CursorSource, Habits, Question, Questions};
+use crate::cursor::{CursorSource, Habits, NEITHER, Question, Questions};
 use rlsf_base::memory::{Addr, Layout, Memory, Range};
 use rlsf_flex::{FlexSource, FlexTlsf};
 use std::alloc::Global;
@@ -42,6 +42,78 @@ pub struct Case {
     /// A footer behind the end.
     pub left: Option<(usize, (u64, u64))>,
 }
+
+/// A case without steps, over a source of all addresses that neither grows ranges nor takes them back. What it is asked is for one
+/// byte and then for 100.
+pub const NO_STEPS: Case = Case {
+    space: Range {
+        start: 4096,
+        len: 4096,
+    },
+    habits: NEITHER,
+    steps: &[],
+    asked: &[Question::Alloc(64), Question::Alloc(160)],
+    left: None,
+};
+
+/// What a source of each combination of capabilities is asked for one byte and then for 100. These take nothing back before the end.
+static KEPT: [Case; 6] = [
+    // It neither grows ranges nor takes them back.
+    NO_STEPS,
+    Case {
+        habits: Habits {
+            contiguous: true,
+            ..NEITHER
+        },
+        ..NO_STEPS
+    },
+    // It grows ranges.
+    Case {
+        habits: Habits {
+            grow: true,
+            ..NEITHER
+        },
+        asked: &[Question::Alloc(64), Question::Grow(4096, 64, 224)],
+        ..NO_STEPS
+    },
+    Case {
+        habits: Habits {
+            grow: true,
+            contiguous: true,
+            ..NEITHER
+        },
+        asked: &[Question::Alloc(64), Question::Grow(4096, 64, 224)],
+        ..NO_STEPS
+    },
+    // It grows ranges and takes them back. The part by which a range grew doesn't return alone.
+    Case {
+        habits: Habits {
+            dealloc: true,
+            grow: true,
+            ..NEITHER
+        },
+        asked: &[
+            Question::Alloc(64),
+            Question::Grow(4096, 64, 224),
+            Question::Dealloc(4096, 224),
+        ],
+        ..NO_STEPS
+    },
+    Case {
+        habits: Habits {
+            dealloc: true,
+            grow: true,
+            contiguous: true,
+            ..NEITHER
+        },
+        asked: &[
+            Question::Alloc(64),
+            Question::Grow(4096, 64, 224),
+            Question::Dealloc(4096, 224),
+        ],
+        ..NO_STEPS
+    },
+];
 
 /// The index of the first step with a wrong result, and the questions to the source.
 pub type Outcome = (Option<usize>, [Question; 8]);
@@ -167,6 +239,20 @@ pub fn are_right(rt: &(impl Abort + AllocGlobal), cases: &[Case]) {
     for case in cases {
         is_right(rt, outcome(rt, *case), case.asked);
     }
+}
+
+/// Passes if these steps have their expected results over each source that takes nothing back before the end, and if each other
+/// case has its expected outcome. The steps allocate for one byte and then for 100.
+pub fn are_right_with_each_capability(
+    rt: &(impl Abort + AllocGlobal),
+    steps: &'static [Step],
+    others: &[Case],
+) {
+    for kept in &KEPT {
+        let case = Case { steps, ..*kept };
+        is_right(rt, outcome(rt, case), case.asked);
+    }
+    are_right(rt, others);
 }
 
 /// These questions, and no others.

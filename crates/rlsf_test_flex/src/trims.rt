@@ -1,8 +1,11 @@
 //! Trims: which ranges return to a source while payloads live, what follows, and what is left for the end.
 
-use crate::cursor::{Habits, Question, Questions};
+use crate::cursor::{Habits, NEITHER, Question, Questions};
 use crate::heap_source::over_allocator;
-use crate::heaps::{Case, Shaped, Step, are_right, bytes, first_wrong, footer, is_right, small};
+use crate::heaps::{
+    Case, NO_STEPS, Shaped, Step, are_right_with_each_capability, bytes, first_wrong, footer,
+    is_right, small,
+};
 use crate::sources::parts_of;
 use rlsf_base::memory::Range;
 use rlsf_flex::{FlexSource, FlexTlsf};
@@ -10,66 +13,19 @@ use rlsf_listed_source::{Capabilities, ListedSource, Question as Asked, SourceAn
 use std::cell::Cell;
 use std::process::Abort;
 
-/// All addresses of the memory.
-const ALL: Range = Range {
-    start: 4096,
-    len: 4096,
-};
-
-/// A source that neither grows ranges nor takes them back.
-const NEITHER: Habits = Habits {
-    dealloc: false,
-    grow: false,
-    contiguous: false,
-    min_align: 32,
-    extra: 0,
-    refuses: false,
-};
-
 /// Trims with nothing outstanding. Allocates for one byte, allocates for 100 and deallocates them, trims twice, and allocates for
 /// 100 again.
-const USED: Case = Case {
-    space: ALL,
-    habits: NEITHER,
-    steps: &[
-        Step::Trim(0),
-        Step::Allocate(1, 4112),
-        Step::GiveBack(100, 4176),
-        Step::Trim(0),
-        Step::Trim(0),
-        Step::Allocate(100, 4176),
-    ],
-    asked: &[Question::Alloc(64), Question::Alloc(160)],
-    left: None,
-};
+const USED: &[Step] = &[
+    Step::Trim(0),
+    Step::Allocate(1, 4112),
+    Step::GiveBack(100, 4176),
+    Step::Trim(0),
+    Step::Trim(0),
+    Step::Allocate(100, 4176),
+];
 
-static CASES: [Case; 8] = [
-    // What takes nothing back keeps all.
-    USED,
-    Case {
-        habits: Habits {
-            contiguous: true,
-            ..NEITHER
-        },
-        ..USED
-    },
-    Case {
-        habits: Habits {
-            grow: true,
-            ..NEITHER
-        },
-        asked: &[Question::Alloc(64), Question::Grow(4096, 64, 224)],
-        ..USED
-    },
-    Case {
-        habits: Habits {
-            grow: true,
-            contiguous: true,
-            ..NEITHER
-        },
-        asked: &[Question::Alloc(64), Question::Grow(4096, 64, 224)],
-        ..USED
-    },
+/// Sources that take ranges back and don't grow them.
+static TAKING: [Case; 2] = [
     // The second range returns to the source, and another is asked for.
     Case {
         habits: Habits {
@@ -93,7 +49,7 @@ static CASES: [Case; 8] = [
             Question::Dealloc(4320, 160),
             Question::Dealloc(4096, 64),
         ],
-        ..USED
+        ..NO_STEPS
     },
     // The only range holds a payload.
     Case {
@@ -109,35 +65,7 @@ static CASES: [Case; 8] = [
             Step::Allocate(100, 0),
         ],
         asked: &[Question::Alloc(64), Question::Dealloc(4096, 64)],
-        ..USED
-    },
-    // The part by which a range grew doesn't return alone.
-    Case {
-        habits: Habits {
-            dealloc: true,
-            grow: true,
-            ..NEITHER
-        },
-        asked: &[
-            Question::Alloc(64),
-            Question::Grow(4096, 64, 224),
-            Question::Dealloc(4096, 224),
-        ],
-        ..USED
-    },
-    Case {
-        habits: Habits {
-            dealloc: true,
-            grow: true,
-            contiguous: true,
-            ..NEITHER
-        },
-        asked: &[
-            Question::Alloc(64),
-            Question::Grow(4096, 64, 224),
-            Question::Dealloc(4096, 224),
-        ],
-        ..USED
+        ..NO_STEPS
     },
 ];
 
@@ -164,7 +92,7 @@ fn went(rt: &impl Abort, shrunk: Option<Shrunk>, expected: Shrunk) {
 
 #[test]
 fn trims_with_each_capability(rt: HostRuntime) {
-    are_right(&rt, &CASES);
+    are_right_with_each_capability(&rt, USED, &TAKING);
 }
 
 static TWO_RANGES_WENT: [Question; 4] = [
