@@ -93,16 +93,15 @@ impl<FLBitmap: Bitmap, SLBitmap: Bitmap, const FLLEN: usize, const SLLEN: usize>
     FLLEN,
     SLLEN,
 > {
-    /// Returns the first-level bitmap. The bit of a row is set if and only if there is a free block whose class is in the
-    /// row.
+    /// Returns the first-level bitmap, as `Tlsf::fl_bitmap` does. The bit of a row is set if and only if the row has a free block.
     pub fn fl_bitmap(&self) -> FLBitmap
         ensures { (fl : ℕ) → bit (FLBitmap.pattern result) fl ≡ list_any (is_in_row SLLEN fl) self.now.state.free }
     {
         self.table.fl_bitmap()
     }
 
-    /// Returns the second-level bitmap of the row `fl`. The bit of a class is set if and only if there is a free block of
-    /// the class.
+    /// Returns the second-level bitmap of the row `fl`, as `Tlsf::sl_bitmap` does. The bit of a class is set if and only if the
+    /// class has a free block.
     ///
     /// `fl` must be below `FLLEN`.
     pub fn sl_bitmap(&self, fl: usize) -> SLBitmap
