@@ -5,14 +5,13 @@ use Rattle.rlsf_base.specs.Ledger.{Entry, Extent, entry_of}
 use Rattle.rlsf_base.specs.OpenSpace.{IsOwned, SameOwn, out_without}
 use Rattle.rlsf_base.specs.PowerOfTwo.{IsPowerOfTwo}
 use Rattle.rlsf_base.specs.Range.{LiesIn}
-use Rattle.rlsf_base.specs.Space.{Space, range_of}
+use Rattle.rlsf_base.specs.Space.{Space}
 use Rattle.rlsf_base.proofs.Lending.Present.{own-there, own-inside, own-same}
 use Rattle.rlsf_model.specs.Allocate.{Allocates, Places, placed}
 use Rattle.rlsf_model.specs.Lists.{IsIn}
 use Rattle.rlsf_model.specs.Sized.{IsSizedFor, live_count}
 use Rattle.rlsf_model.specs.State.{State, Used, usable}
 use Rattle.rlsf_model.proofs.Allocations.{placed-fits}
-use Rattle.rlsf_model.specs.WellFormed.{IsWellFormed}
 use Rattle.rlsf_model.proofs.Payloads.{IsUsed-after_start, payload_of-aligned}
 use Rattle.rlsf_model.proofs.CallerWords.{SeesNew, bytes_at-held, new_seen}
 use Rattle.rlsf_model.proofs.SizedWords.{count_new, never_refused, sized_new}
@@ -21,8 +20,7 @@ use Rattle.rlsf_table.specs.Counts.{Counts}
 use Rattle.rlsf_table.specs.Table.{Table}
 use Rattle.rlsf_blocks.specs.StandsFor.{contents, StandsFor}
 use Rattle.rlsf_blocks.proofs.Allocate.Placements.{IsFitting, fitting, is_free}
-use Rattle.rlsf_blocks.proofs.Machine.Counted.{StandsFor-counted, StandsFor-touched}
-use Rattle.rlsf_blocks.proofs.Payloads.UnknownAlignment.{IsPayloadOf-holds}
+use Rattle.rlsf_blocks.proofs.Machine.Counted.{StandsFor-counted}
 use Rattle.rlsf_blocks.proofs.Words.Apart.{used_free, free_in_memory, used_in_memory}
 use Rattle.rlsf_blocks.proofs.Words.NeverOut.{here_free}
 use Rattle.rlsf_blocks.specs.Laws.{read_from}
@@ -42,19 +40,7 @@ pub record Placing (fllen sllen : ℕ) (m n : Space) (table changed : Table) (s 
   pub now : StandsFor fllen sllen (contents n changed) t
   pub own : SameOwn m n
 
--- a payload is still placed after more touches were counted
-pub placing-touched : {fllen sllen : ℕ} {m n : Space} {table changed : Table} {s t : State} {size align addr : ℕ} (o : Space) (more : ℕ) → n.start ≡ m.start
-    → o ≡ record n { touches = n.touches + more }
-    → Placing fllen sllen m n table changed s t size align addr → Placing fllen sllen m o table changed s t size align addr
-placing-touched {n = n} o more start touched p = record {
-  old = p.old;
-  power = p.power;
-  places = p.places;
-  now = StandsFor-touched n o more touched p.now;
-  own = λ a from. own-same n o (ap (λ (x : Space). x.start) touched) (ap (λ (x : Space). x.out) touched) a (omega (arith, from, start)) ∙ p.own a from;
-}
-
--- the same, where words were read
+-- a payload is still placed after words were read
 pub placing-counted : {fllen sllen : ℕ} {m n : Space} {table changed : Table} {s t : State} {size align addr : ℕ} (o : Space) (most : ℕ) → n.start ≡ m.start
     → Counts n o most → Placing fllen sllen m n table changed s t size align addr → Placing fllen sllen m o table changed s t size align addr
 placing-counted {n = n} o most start counts p = record {
@@ -95,13 +81,6 @@ module _ {fllen sllen : ℕ} {m n : Space} {table changed : Table} {s t : State}
   new-lies =
       let is = now.well_formed.used new is_new in let place = used_in_memory now.well_formed new is_new in
       (omega (arith, place.0, IsUsed-after_start new is), omega (arith, place.1, is.within))
-
-  -- they begin and end at multiples of 8
-  pub new-whole : ((usable new).start % 8 ≡ 0) × ((usable new).len % 8 ≡ 0)
-  new-whole =
-      let is = now.well_formed.used new is_new in let q = IsPayloadOf-holds new refl now (is_new, at_new) in
-      let at : new.payload % 8 ≡ 0 = omega (arith, at_new, q.word.0, q.in_block) in
-      (at, omega (arith, at, is.whole.start, is.whole.len, is.within))
 
   -- there are as many as the payload of the reference model has
   pub new-long : length (bytes_at t addr) ≡ (usable new).len

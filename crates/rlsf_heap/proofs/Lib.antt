@@ -23,7 +23,5 @@ pub mod ThinTickets
 pub mod WrittenBytes
 pub mod OwnedBytes
 pub mod MovedThin
-pub mod Zeros
-pub mod ZeroedPayloads
 pub mod UnitPayloads
 pub mod UnitTails

@@ -11,7 +11,6 @@ use Rattle.rlsf_base.proofs.Changes.{back-before, back-behind, back-there, chang
 use Rattle.rlsf_blocks.proofs.Words.Stays.{Stays}
 use Rattle.rlsf_heap.specs.Heap.{HeapView, heap_view}
 use Rattle.rlsf_heap.specs.Settled.{IsSettled}
-use Rattle.rlsf_heap.specs.Zeroed.{IsZeroed}
 use Rattle.rlsf_table.specs.Table.{Table}
 use Rattle.rlsf_model.specs.State.{State}
 
@@ -76,19 +75,6 @@ settled-here m r inside own settled a lo hi = settled a (omega (arith, inside)) 
 pub settled-none : (m : Space) → m.out ≡ [] → IsSettled m
 unfolding IsSettled
 settled-none m none a from own = here-none m (range_at a 1) none a (omega arith) (omega arith)
-
--- a settled memory is settled after zeros are written
-pub settled-zeroed : (m n : Space) (r : Range) → IsZeroed m n r → IsSettled m → IsSettled n
-unfolding IsSettled
-settled-zeroed m n r z settled a from own =
-    let low : m.start ≤ a = omega (arith, from, z.start) in
-    elim (cases_lt a r.start) [
-      | inl before ↦ z.out a low (inl before) ∙ settled a low (ap is_own (sym (z.out a low (inl before))) ∙ own)
-      | inr behind ↦ elim (cases_lt a (end_of r)) [
-        | inl within ↦ z.here a behind within
-        | inr past ↦ z.out a low (inr past) ∙ settled a low (ap is_own (sym (z.out a low (inr past))) ∙ own)
-      ]
-    ]
 
 -- a heap's memory is that of its fields
 pub settled-inside : {m : Space} {x : Table} (k : State) {ledger : ℕ} (v : HeapView) → heap_view m x k ledger ≡ v → IsSettled v.memory → IsSettled m

@@ -6,7 +6,6 @@ pub mod Pools
 pub mod Raw
 pub mod Renewed
 pub mod Settled
-pub mod Zeroed
 pub mod Thin
 pub mod ThinReplies
 pub mod ThinInPlace

@@ -16,10 +16,9 @@ ghost use Rattle.rlsf_heap.specs.Settled.{IsSettled};
 
 use crate::payload::Payload;
 use crate::usable::load_usable_of;
-use crate::zeroed::fill_zero;
 use rlsf_base::memory::ledger::Ledger;
 use rlsf_base::memory::{Layout, OpenMemory};
-use rlsf_blocks::{allocate_block, deallocate_block, load_block_of, load_usable_bytes};
+use rlsf_blocks::{allocate_block, deallocate_block, load_block_of};
 use rlsf_int::BitPattern;
 use rlsf_table::ClassTable;
 use rlsf_tlsf::GhostState;
@@ -180,8 +179,8 @@ impl<FLBitmap: BitPattern, SLBitmap: BitPattern, const FLLEN: usize, const SLLEN
         })
     }
 
-    /// Allocates a payload for `layout`, as `allocate` does, and fills it with zeros: its bytes are here. One word access
-    /// for each 8 bytes is counted as well.
+    /// Allocates a payload for `layout`, as `allocate` does, and fills it with zeros: its bytes are here. It is filled after it
+    /// left the memory. So filling it counts no word access, but takes time proportional to its length.
     ///
     /// Returns `None` if and only if `allocate` does.
     pub fn allocate_zeroed(&mut self, layout: Layout) -> Option<Payload>
@@ -211,20 +210,9 @@ impl<FLBitmap: BitPattern, SLBitmap: BitPattern, const FLLEN: usize, const SLLEN
         ensures grow { self.old.memory.touches ≤ self.new.memory.touches }
         ensures copied { self.new.memory.copied ≡ self.old.memory.copied }
     {
-        let view = self.memory.view();
-        let addr = allocate_block(&mut self.memory, view, &mut self.table, layout)?;
-        let align = layout.align();
-        self.live += 1;
-        self.state.allocate(SLLEN, layout.size(), align);
-        let range = load_usable_bytes(&mut self.memory, addr);
-        fill_zero(&mut self.memory, range);
-        let zeros = self.memory.take_out(range);
-        let ticket = self.ledger.issue(range.start, range.len, align);
-        Some(Payload {
-            part: zeros,
-            align,
-            ticket,
-        })
+        let mut payload = self.allocate(layout)?;
+        payload.fill(0);
+        Some(payload)
     }
 
     /// Deallocates a payload. Its block becomes free, and is joined with the free block before it and the free block

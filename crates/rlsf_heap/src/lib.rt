@@ -4,8 +4,7 @@
 //! Read `payload.rt` and `heap.rt` first, then `deallocation.rt`, `reallocation.rt`, `pools.rt` and `reading.rt`. `apart.rt`
 //! states the laws of payloads that are out together, and `raw.rt` takes payloads apart. `thin.rt` has those of which a caller knows
 //! only the address, with their calls in `thin_calls.rt` and `thin_reallocation.rt`, and `units.rt` has those of `rlsf_local`.
-//! `consistency.rt` reads the words of a pool again. `usable.rt` and `zeroed.rt` are helpers. `specs/Heap.antt` defines what
-//! contracts see.
+//! `consistency.rt` reads the words of a pool again. `usable.rt` is a helper. `specs/Heap.antt` defines what contracts see.
 #![tactic(auto)]
 
 mod apart;
@@ -22,7 +21,6 @@ mod thin_calls;
 mod thin_reallocation;
 mod units;
 mod usable;
-mod zeroed;
 
 pub use heap::Heap;
 pub use payload::Payload;
