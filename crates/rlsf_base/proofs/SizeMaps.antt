@@ -6,6 +6,7 @@ pub mod PoolSizes
 pub mod Quotients
 pub mod Reaching
 pub mod RowLengths
+pub mod SearchStarts
 pub mod Shifts
 pub mod Starts
 pub mod Unmapped

@@ -13,6 +13,7 @@ pub mod PowerOfTwo
 pub mod Range
 pub mod RawParts
 pub mod Rounding
+pub mod SearchStart
 pub mod SizeClass
 pub mod Sizes
 pub mod Space

@@ -1,8 +1,8 @@
 //! Size classes. An allocator's first-level rows begin at the powers of two from 32 on, and each row has `SLLEN` classes
 //! of equal width.
 //!
-//! Each function except `request_size` is generic over an allocator's parameters, and `class_of` over the length of a row
-//! alone. The parameters must be valid:
+//! Each function except `request_size` is generic over an allocator's parameters: `class_of` over the length of a row alone,
+//! and `search_start` over both lengths. The parameters must be valid:
 //! - `FLLEN`, the number of rows, is at least 1 and at most the number of bits of `FLBitmap`.
 //! - `SLLEN`, the number of classes of a row, is a power of two and at most the number of bits of `SLBitmap`.
 //!
@@ -10,8 +10,9 @@
 //! in the row. If its condition holds, no function panics or refuses its arguments. No function asks the system for
 //! memory, and each does constant work.
 
-ghost use Rattle.std.specs.Prelude.{◌≡◌, ◌%◌, ◌^◌, ◌<◌, ◌≤◌, ◌*◌, ◌-◌, IsTrue, IfSome, IfNone};
+ghost use Rattle.std.specs.Prelude.{◌≡◌, ◌%◌, ◌^◌, ◌<◌, ◌≤◌, ◌+◌, ◌*◌, ◌-◌, IsTrue, IfSome, IfNone, MatchOption};
 ghost use Rattle.rlsf_base.specs.ClassLaws.{MappedIsFirstReaching, UnmappedIsEnough, UnmappedBeginsItsClass, UnreachedIsNotUnmapped, LongestBlockHasAClass, PoolIsOneChunk, PoolContainsItsAllocation};
+ghost use Rattle.rlsf_base.specs.SearchStart.{IsSearchStart, NoneReaches};
 ghost use Rattle.rlsf_base.specs.SizeClass.{SizeClass, IsValid, is_row_length, class_of, class_start, reaching_class};
 ghost use Rattle.rlsf_base.specs.Sizes as sizes;
 
@@ -52,6 +53,26 @@ pub fn map_ceil<FLBitmap: BitPattern, SLBitmap: BitPattern, const FLLEN: usize, 
         Some(reaching_class::<SLLEN>(size))
     } else {
         within_rows::<FLLEN>(reaching_class::<SLLEN>(size))
+    }
+}
+
+/// Returns where the search for a block of `size` bytes begins: a row, and a place in it. The classes that reach `size` are
+/// those from there on. Returns `None` only if no class of the rows reaches `size`.
+///
+/// In rows of 32 classes or fewer, the place may be `SLLEN`, which is behind the last one. This takes fewer instructions than
+/// to find the first place of the next row.
+///
+/// `size` must be a nonzero multiple of 32.
+pub fn search_start<const FLLEN: usize, const SLLEN: usize>(size: usize) -> Option<(usize, usize)>
+    requires parameters { IsValid 128 128 FLLEN SLLEN }
+    requires size { sizes.IsSize size }
+    ensures { MatchOption result (NoneReaches FLLEN SLLEN size) (λ at. IsSearchStart FLLEN SLLEN size at.0 at.1) }
+{
+    if SLLEN <= 32 {
+        let (row, parts) = reaching_parts::<SLLEN>(size);
+        within_rows::<FLLEN>((row - 5, parts - SLLEN))
+    } else {
+        map_ceil::<u128, u128, FLLEN, SLLEN>(size)
     }
 }
 
@@ -232,16 +253,28 @@ pub fn class_of<const SLLEN: usize>(size: usize) -> (usize, usize)
     (58 - leading as usize, parts - SLLEN)
 }
 
-// The first class that reaches a size: what is below the leading ones counts them up. At 2 * SLLEN the next row
-// begins, at its first place. There is no branch here, since nothing foretells which way it would go.
+// The first class that reaches a size. At 2 * SLLEN parts the next row begins, at its first place. There is no branch here, since
+// nothing foretells which way it would go.
 fn reaching_class<const SLLEN: usize>(size: usize) -> (usize, usize)
     requires parameters { IsTrue (is_row_length SLLEN) }
     requires size { 32 ≤ size }
     ensures { result ≡ sizes.indices (reaching_class SLLEN size) }
 {
+    let (row, parts) = reaching_parts::<SLLEN>(size);
+    (row + parts / SLLEN - 6, parts % SLLEN)
+}
+
+// The row of a size, by its exponent, and the number SLLEN + place of the first of its classes that reaches the size: what is
+// below the leading ones counts them up. The number is 2 * SLLEN if no class of the row does.
+fn reaching_parts<const SLLEN: usize>(size: usize) -> (usize, usize)
+    requires parameters { IsTrue (is_row_length SLLEN) }
+    requires size { 32 ≤ size }
+    ensures row { (5 ≤ result.0) × (result.0 < 64) × (2 ^ result.0 ≤ size) × (size < 2 * 2 ^ result.0) }
+    ensures parts { (size * SLLEN ≤ result.1 * 2 ^ result.0) × (result.1 * 2 ^ result.0 < size * SLLEN + 2 ^ result.0) }
+{
     let row = size.ilog2();
     let parts = (((size << (63 - row)) - 1) >> (63 - SLLEN.trailing_zeros())) + 1;
-    (row as usize + parts / SLLEN - 6, parts % SLLEN)
+    (row as usize, parts)
 }
 
 // A size rounded up to where the first class that reaches it begins. `None` where that is past a `usize`.

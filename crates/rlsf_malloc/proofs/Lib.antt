@@ -6,4 +6,5 @@ pub mod Payloads
 mod Reallocated
 pub mod Steps
 pub mod Templates
+mod TooLong
 pub mod Walking

@@ -1,6 +1,6 @@
 //! The calls of a heap, over numbers and payloads.
 
-ghost use Rattle.std.specs.Prelude.{◌≡◌, ◌≢◌};
+ghost use Rattle.std.specs.Prelude.{false, ◌+◌, ◌<◌, ◌^◌, ◌≡◌, ◌≢◌};
 ghost use Rattle.rlsf_malloc.specs.Calls.{Adds, Allocates, AllocatesZeroed, CanAdd, Frees, IsAt, IsReady, IsUsable, aligned_for};
 
 use crate::replies::Measured;
@@ -30,6 +30,15 @@ pub(crate) fn add<F: BitPattern, S: BitPattern, const FLLEN: usize, const SLLEN:
     }
 }
 
+/// Returns whether a payload of `size` bytes may fit in the longest chunk of a heap.
+#[inline(always)]
+fn may_fit<const FLLEN: usize>(size: usize) -> bool
+    ensures { result ≡ false → 2 ^ (5 + FLLEN) < size + 48 }
+{
+    // The last block of a chunk takes 32 bytes, and the header of the payload 16.
+    FLLEN >= 59 || size <= (1usize << (FLLEN + 5)).saturating_sub(48)
+}
+
 /// Allocates a payload for a layout, if there is one, or returns none.
 #[inline(always)]
 fn allocate_for<F: BitPattern, S: BitPattern, const FLLEN: usize, const SLLEN: usize>(
@@ -40,6 +49,11 @@ fn allocate_for<F: BitPattern, S: BitPattern, const FLLEN: usize, const SLLEN: u
     requires { IsReady heap.old }
     ensures { (result.addr ≡ result.of.start) × Allocates SLLEN heap.old size align result.of heap.new }
 {
+    // After this test the compiler leaves out those of the layout's size and of its row.
+    if !may_fit::<FLLEN>(size) {
+        heap.memory_ref();
+        return ThinPayload::none();
+    }
     match Layout::from_size_align(size, align) {
         Ok(layout) => heap.allocate_thin(layout),
         Err(_) => ThinPayload::none(),

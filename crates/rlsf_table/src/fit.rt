@@ -8,7 +8,7 @@ ghost use Rattle.rlsf_table.specs.Counts.{Counts};
 ghost use Rattle.rlsf_table.specs.FreeTable.{IsFirstFit, IsFreeTable};
 
 use crate::table::{ClassIndex, ClassTable};
-use rlsf_base::classes::map_ceil;
+use rlsf_base::classes::search_start;
 use rlsf_base::memory::OpenMemory;
 
 /// A free block that a search found.
@@ -35,7 +35,7 @@ pub fn first_fit<const FLLEN: usize, const SLLEN: usize>(
     ensures choice { (free : List Range) → IsFreeTable FLLEN SLLEN memory.old table.now free → IsFirstFit FLLEN SLLEN size free result }
     ensures counts { Counts memory.old memory.new 4 }
 {
-    let (fl, sl) = map_ceil::<u128, u128, FLLEN, SLLEN>(size)?;
+    let (fl, sl) = search_start::<FLLEN, SLLEN>(size)?;
     let class = table.first_from(memory, fl, sl)?;
     Some(FoundBlock {
         start: table.head(memory, class.fl, class.sl),

@@ -1,6 +1,7 @@
 //! Rows of places that are set or not: the two levels of a class table.
 
 ghost use Rattle.std.specs.Prelude.{◌≡◌, ◌≢◌, ℕ, ◌+◌, ◌<◌, ◌≤◌, ◌↔◌, ◌||◌, ◌==◌, false, IsTrue, slice_index};
+ghost use Rattle.rlsf_base.specs.SearchStart.{CanBegin};
 ghost use Rattle.rlsf_int.specs.Bits.{bit, IsFirstOne};
 ghost use Rattle.rlsf_table.specs.Steps.Places.{joined, row_word, scanned_places, IsFirstFrom};
 
@@ -80,9 +81,9 @@ impl<const ROWS: usize, const PLACES: usize> Rows<ROWS, PLACES> {
         }
     }
 
-    /// Returns the least set place of a row from `start` on, if there is one.
+    /// Returns the least set place of a row from `start` on, if there is one. A short row may be searched from behind its last place.
     pub(crate) fn first_from(&self, fl: usize, start: usize) -> Option<usize>
-        requires { (fl < ROWS) × (start < PLACES) × (PLACES ≤ 128) }
+        requires { (fl < ROWS) × CanBegin PLACES start × (PLACES ≤ 128) }
         ensures { IsFirstFrom PLACES (row_word PLACES self.now.low self.now.high fl) start result }
     {
         if PLACES <= 64 {

@@ -2,6 +2,7 @@
 
 ghost use Rattle.std.specs.Prelude.{◌≡◌, ℕ, ◌<◌, ◌≤◌, false, List, [], ◌∷◌, ◌==◌, if◌then◌else◌, slice_index};
 ghost use Rattle.rlsf_base.specs.declared.memory.range.Range.{Range};
+ghost use Rattle.rlsf_base.specs.SearchStart.{CanBegin};
 ghost use Rattle.rlsf_base.specs.SizeClass.{IsValid, class_of};
 ghost use Rattle.rlsf_base.specs.Space.{Space};
 ghost use Rattle.rlsf_int.specs.Bits.{bit};
@@ -159,10 +160,11 @@ impl<const FLLEN: usize, const SLLEN: usize> ClassTable<FLLEN, SLLEN> {
 
     /// Returns the first class from a row and place on that has a free block, or `None` exactly if none has. At most three touches.
     ///
-    /// The row is below `FLLEN`, and the place below `SLLEN`.
+    /// The row is below `FLLEN`, and the place below `SLLEN`. In a table of 32 classes a row or fewer the place may be `SLLEN`: the
+    /// classes of the next row are the first from there on.
     pub fn first_from(&self, memory: &mut OpenMemory, fl: usize, sl: usize) -> Option<ClassIndex>
         requires parameters { IsValid 128 128 FLLEN SLLEN }
-        requires class { (fl < FLLEN) × (sl < SLLEN) }
+        requires class { (fl < FLLEN) × CanBegin SLLEN sl }
         ensures first { (free : List Range) → HasBits FLLEN SLLEN self.now free → ((f : Range) → IsIn f free → IsFree FLLEN SLLEN f) → IsLeastFrom FLLEN SLLEN fl sl free result }
         ensures counts { Counts memory.old memory.new 3 }
     {

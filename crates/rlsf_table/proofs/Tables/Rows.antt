@@ -1,6 +1,6 @@
 -- The words of a table's rows: those of rows of 64 places or fewer, and those of longer rows.
 use Rattle.std.proofs.Common.{◌≡◌, ◌≢◌, ℕ, ◌-◌, ◌*◌, ◌%◌, ◌^◌, ◌<◌, ◌≤◌, bit_and, bit_or, ◌==◌, false, ◌||◌, List, Some, None}
-use Rattle.std.proofs.Common.{slice_index, slice_set, length, get_or-set_same, nat_le, arith, ◌∙◌, ap, sym, subst}
+use Rattle.std.proofs.Common.{slice_index, slice_set, length, get_or-set_same, nat_le, arith, inl, inr, ◌∙◌, ap, sym, subst}
 use Rattle.std.specs.Int.{Width, w64, w128, trailing_zeros}
 use mir.Val.{bits}
 use Rattle.std.specs.Int.Count.{trailing_of_zero}
@@ -8,6 +8,7 @@ use Rattle.std.proofs.lemmas.Bool.{cond-true, cond-false, le-leb, lt-leb}
 use Rattle.std.proofs.lemmas.List.FromFn.{get_or-map-range_with_len, length-map-range_with_len}
 use Rattle.std.proofs.lemmas.Nat.Bits.{bit_at-trailing_zeros}
 use Rattle.std.proofs.lemmas.Nat.{and_le_l}
+use Rattle.rlsf_base.specs.SearchStart.{CanBegin}
 use Rattle.rlsf_int.specs.Bits.{bit, IsFirstOne}
 use Rattle.rlsf_int.proofs.Unsigned as unsigned
 use Rattle.rlsf_table.specs.Steps.Places.{joined, row_word, row_words, scanned_places, IsFirstFrom}
@@ -64,6 +65,11 @@ trailing-some : (w : Width) (n : ℕ) → n ≢ 0 → n < 2 ^ bits w → trailin
 trailing-some w n some fits = (bit_at-trailing_zeros w n (omega arith) fits).0
 
 -- ---- rows of one word
+
+-- a search of them begins at a position of the word
+pub CanBegin-word : (places start : ℕ) → places ≤ 64 → CanBegin places start → start < 64
+CanBegin-word places start few (inl within) = omega arith
+CanBegin-word places start few (inr behind) = omega (arith, behind.0, behind.1)
 
 module _ (sllen : ℕ) (low high : List ℕ) (fl : ℕ) (few : sllen ≤ 64) where
   -- a one is put at a place

@@ -1,6 +1,7 @@
-use Rattle.std.proofs.Common.{subst}
+use Rattle.std.proofs.Common.{sym, ◌∙◌, subst}
 use Rattle.rlsf_malloc.specs.Calls.{Allocates}
 use Rattle.rlsf_malloc.proofs.Outcomes.{allocated, same_heap}
+use Rattle.rlsf_malloc.proofs.TooLong.{refused}
 use Rattle.rlsf_malloc.proofs.calls.allocate_for.Goals as goal
 
 pub returns-in-Ok : goal.returns-in-Ok
@@ -11,3 +12,8 @@ returns-in-Ok g c =
     allocated g.row.FLLEN sllen old new (same_heap old new did.identity did.place (did.settled c.requires)) layout.size layout.align p layout.valid did.step
     (did.written c.requires) did.payload did.live did.align did.long did.aligned did.sized did.few did.new did.aligns did.count did.chunks did.same in
     (did.at, subst (λ s. Allocates sllen old s c.args.align p new) c.in-Ok.ensures.layout.0 (subst (λ a. Allocates sllen old layout.size a p new) c.in-Ok.ensures.layout.1 done))
+
+pub returns-then-not-may_fit : goal.returns-then-not-may_fit
+returns-then-not-may_fit g c =
+    let p = c.none.result.of in
+    (c.none.ensures.0 ∙ sym c.none.ensures.1, refused g.row.FLLEN g.row.SLLEN c.args.heap.now c.memory_ref.ensures.stands c.args.size c.args.align (c.may_fit.ensures c.if-not-may_fit.true) p c.none.ensures.1 c.requires)
