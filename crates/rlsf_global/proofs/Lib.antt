@@ -1,5 +1,6 @@
 -- Lemmas about the value under the lock: its table, its heap and the steps of its calls.
 pub mod Checks
+pub mod Deallocations
 pub mod Heaps
 pub mod Kept
 pub mod Layouts

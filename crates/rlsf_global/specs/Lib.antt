@@ -1,4 +1,5 @@
 -- The definitions of the calls behind the lock. Read `Locked` first.
+pub mod Calls
 pub mod Kept
 pub mod Locked
 pub mod Refusals

@@ -7,6 +7,7 @@ pub use Rattle.rlsf_model_global.specs.Left.{HasByte, Serves, in_both}
 pub use Rattle.rlsf_model_global.specs.Moves.{HeapReallocates, HeapReallocatesAs, HeapReallocatesThere}
 pub use Rattle.rlsf_model_global.specs.Standing.{IsHeap}
 pub use Rattle.rlsf_model_global.specs.Steps.{HeapAllocates, HeapDeallocates, HeapDeallocatesAs, HeapReads, HeapUsable, HeapWrites}
+pub use Rattle.rlsf_global.specs.Calls.{IsAllocation, IsDeallocation}
 pub use Rattle.rlsf_global.specs.Kept.{KeepsFirst}
 pub use Rattle.rlsf_global.specs.Locked.{LockedContents, LockedStands}
 pub use Rattle.rlsf_global.specs.Refusals.{RefusesOnlyBy}

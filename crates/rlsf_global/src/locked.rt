@@ -5,6 +5,7 @@ ghost use Rattle.std.specs.List.{splice};
 ghost use Rattle.rlsf_base.specs.Addr.{at};
 ghost use Rattle.rlsf_base.specs.Layout.{IsLayout};
 ghost use Rattle.rlsf_base.specs.Space.{range_of};
+ghost use Rattle.rlsf_global.specs.Calls.{IsAllocation, IsDeallocation};
 ghost use Rattle.rlsf_global.specs.Kept.{KeepsFirst};
 ghost use Rattle.rlsf_model.specs.Allocate.{HasRoomFor};
 ghost use Rattle.rlsf_model.specs.Reallocate.{HasRoomToResize};
@@ -78,12 +79,7 @@ impl<Options: GlobalTlsfOptions> Locked<Options> {
     pub fn allocate(&mut self, layout: Layout) -> Result<Addr, GlobalError>
         ensures step { HeapAllocates self.old.heap layout result self.new.heap }
         ensures refused { OnErr result (self.new.memory.bytes ≡ self.old.memory.bytes) }
-        ensures live { IfOk result (λ addr. layout_at self.new.heap (at addr) ≡ Some layout) }
-        ensures sized { IfOk result (λ addr. layout.size ≤ length (content_at self.new.heap (at addr))) }
-        ensures new { IfOk result (λ addr. layout_at self.old.heap (at addr) ≡ None) }
-        ensures layouts { IfOk result (λ addr. (a : ℕ) → a ≢ at addr → layout_at self.new.heap a ≡ layout_at self.old.heap a) }
-        ensures contents { IfOk result (λ addr. (a : ℕ) → a ≢ at addr → content_at self.new.heap a ≡ content_at self.old.heap a) }
-        ensures same { OnErr result (self.new.heap ≡ self.old.heap) }
+        ensures allocation { IsAllocation self.old.heap self.new.heap layout result }
         ensures touches { HasRoomFor 64 self.old.heap.flex.machine layout.size layout.align → self.new.memory.touches ≤ self.old.memory.touches + 27 }
         ensures grow { self.old.memory.touches ≤ self.new.memory.touches }
     {
@@ -106,12 +102,7 @@ impl<Options: GlobalTlsfOptions> Locked<Options> {
     pub fn alloc(&mut self, layout: Layout) -> Result<Addr, GlobalError>
         ensures step { HeapAllocates self.old.heap layout result self.new.heap }
         ensures refused { OnErr result (self.new.memory.bytes ≡ self.old.memory.bytes) }
-        ensures live { IfOk result (λ addr. layout_at self.new.heap (at addr) ≡ Some layout) }
-        ensures sized { IfOk result (λ addr. layout.size ≤ length (content_at self.new.heap (at addr))) }
-        ensures new { IfOk result (λ addr. layout_at self.old.heap (at addr) ≡ None) }
-        ensures layouts { IfOk result (λ addr. (a : ℕ) → a ≢ at addr → layout_at self.new.heap a ≡ layout_at self.old.heap a) }
-        ensures contents { IfOk result (λ addr. (a : ℕ) → a ≢ at addr → content_at self.new.heap a ≡ content_at self.old.heap a) }
-        ensures same { OnErr result (self.new.heap ≡ self.old.heap) }
+        ensures allocation { IsAllocation self.old.heap self.new.heap layout result }
         ensures touches { HasRoomFor 64 self.old.heap.flex.machine layout.size layout.align → self.new.memory.touches ≤ self.old.memory.touches + 27 }
         ensures grow { self.old.memory.touches ≤ self.new.memory.touches }
     {
@@ -124,11 +115,7 @@ impl<Options: GlobalTlsfOptions> Locked<Options> {
     pub fn deallocate(&mut self, addr: Addr) -> Result<(), GlobalError>
         ensures step { HeapDeallocates self.old.heap (at addr) result self.new.heap }
         ensures refused { OnErr result (self.new.memory ≡ self.old.memory) }
-        ensures unknown { IsErrOf result UnknownAddress ↔ (layout_at self.old.heap (at addr) ≡ None) }
-        ensures gone { OnOk result (layout_at self.new.heap (at addr) ≡ None) }
-        ensures layouts { OnOk result ((a : ℕ) → a ≢ at addr → layout_at self.new.heap a ≡ layout_at self.old.heap a) }
-        ensures contents { OnOk result ((a : ℕ) → a ≢ at addr → content_at self.new.heap a ≡ content_at self.old.heap a) }
-        ensures same { OnErr result (self.new.heap ≡ self.old.heap) }
+        ensures deallocation { IsDeallocation self.old.heap self.new.heap (at addr) result }
         ensures touches { self.new.memory.touches ≤ self.old.memory.touches + 32 }
         ensures grow { self.old.memory.touches ≤ self.new.memory.touches }
     {
@@ -152,11 +139,7 @@ impl<Options: GlobalTlsfOptions> Locked<Options> {
     pub fn dealloc(&mut self, addr: Addr, layout: Layout) -> Result<(), GlobalError>
         ensures step { HeapDeallocatesAs self.old.heap (at addr) layout result self.new.heap }
         ensures refused { OnErr result (self.new.memory ≡ self.old.memory) }
-        ensures unknown { IsErrOf result UnknownAddress ↔ (layout_at self.old.heap (at addr) ≡ None) }
-        ensures gone { OnOk result (layout_at self.new.heap (at addr) ≡ None) }
-        ensures layouts { OnOk result ((a : ℕ) → a ≢ at addr → layout_at self.new.heap a ≡ layout_at self.old.heap a) }
-        ensures contents { OnOk result ((a : ℕ) → a ≢ at addr → content_at self.new.heap a ≡ content_at self.old.heap a) }
-        ensures same { OnErr result (self.new.heap ≡ self.old.heap) }
+        ensures deallocation { IsDeallocation self.old.heap self.new.heap (at addr) result }
         ensures touches { self.new.memory.touches ≤ self.old.memory.touches + 32 }
         ensures grow { self.old.memory.touches ≤ self.new.memory.touches }
     {

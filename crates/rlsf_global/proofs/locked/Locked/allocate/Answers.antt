@@ -9,12 +9,14 @@ pub returns-then-is_err : goal.returns-then-is_err
 returns-then-is_err g c = record {
   step = rw (← c.self.view_is, c.try_reserve.ensures.items) refl;
   refused = search rules;
-  live = tt;
-  sized = tt;
-  new = tt;
-  layouts = tt;
-  contents = tt;
-  same = search rules;
+  allocation = record {
+    live = tt;
+    sized = tt;
+    new = tt;
+    layouts = tt;
+    contents = tt;
+    same = search rules;
+  };
   touches = search rules;
   grow = search rules;
 }
@@ -39,14 +41,16 @@ returns-in_default g c = record {
       rw (← c.self.view_is, c.try_reserve.ensures.items)
       (not_allocated c.self.inside.flex c.self.inside.rows.items c.self.invariant c.allocate.new.self c.args.layout c.in_default.ensures.step c.in_default.ensures.same);
   refused = search rules;
-  live = tt;
-  sized = tt;
-  new = tt;
-  layouts = tt;
-  contents = tt;
-  same =
-      rw (← c.self.view_is, c.try_reserve.ensures.items)
-      (heap_stays c.self.inside.flex c.self.inside.rows.items c.self.invariant c.allocate.new.self c.args.layout c.in_default.ensures.step c.in_default.ensures.same);
+  allocation = record {
+    live = tt;
+    sized = tt;
+    new = tt;
+    layouts = tt;
+    contents = tt;
+    same =
+        rw (← c.self.view_is, c.try_reserve.ensures.items)
+        (heap_stays c.self.inside.flex c.self.inside.rows.items c.self.invariant c.allocate.new.self c.args.layout c.in_default.ensures.step c.in_default.ensures.same);
+  };
   touches = rw (← c.self.view_is) c.in_default.ensures.touches;
   grow = rw (← c.self.view_is) c.in_default.ensures.grow;
 }
@@ -58,25 +62,27 @@ returns g c = record {
       rw (← c.self.view_is) (allocated c.self.inside.flex c.self.inside.rows.items c.self.invariant c.allocate.new.self c.args.layout c.in-Some.addr c.in-Some.ensures.step _
       rows);
   refused = tt;
-  live =
-      let rows = rw c.try_reserve.ensures.items at c.place.ensures in
-      let before = heap_of c.self.inside.flex c.self.inside.rows.items in
-      let after = heap_of c.allocate.new.self c.place.new.rows.items in
-      layout_at-put_here before after (c.in-Some.addr, c.args.layout) c.self.inside.rows.items rows;
-  sized = subst (λ l. c.args.layout.size ≤ length l) (sym (content_at-is (heap_of c.allocate.new.self c.place.new.rows.items) (at c.in-Some.addr))) c.in-Some.ensures.sized;
-  new = rw (← c.self.view_is)
-      (layout_at-none (heap_of c.self.inside.flex c.self.inside.rows.items) (at c.in-Some.addr)
-      (no_row c.self.inside.flex c.self.inside.rows.items c.self.invariant (at c.in-Some.addr) c.in-Some.ensures.new));
-  layouts = rw (← c.self.view_is) (
-      let rows = rw c.try_reserve.ensures.items at c.place.ensures in
-      let before = heap_of c.self.inside.flex c.self.inside.rows.items in
-      let after = heap_of c.allocate.new.self c.place.new.rows.items in
-      layout_at-put_other before after (c.in-Some.addr, c.args.layout) rows);
-  contents = rw (← c.self.view_is) (
-      let before = heap_of c.self.inside.flex c.self.inside.rows.items in
-      let after = heap_of c.allocate.new.self c.place.new.rows.items in
-      λ a off. content_at-bytes before after a a (c.in-Some.ensures.bytes a off));
-  same = tt;
+  allocation = record {
+    live =
+        let rows = rw c.try_reserve.ensures.items at c.place.ensures in
+        let before = heap_of c.self.inside.flex c.self.inside.rows.items in
+        let after = heap_of c.allocate.new.self c.place.new.rows.items in
+        layout_at-put_here before after (c.in-Some.addr, c.args.layout) c.self.inside.rows.items rows;
+    sized = subst (λ l. c.args.layout.size ≤ length l) (sym (content_at-is (heap_of c.allocate.new.self c.place.new.rows.items) (at c.in-Some.addr))) c.in-Some.ensures.sized;
+    new = rw (← c.self.view_is)
+        (layout_at-none (heap_of c.self.inside.flex c.self.inside.rows.items) (at c.in-Some.addr)
+        (no_row c.self.inside.flex c.self.inside.rows.items c.self.invariant (at c.in-Some.addr) c.in-Some.ensures.new));
+    layouts = rw (← c.self.view_is) (
+        let rows = rw c.try_reserve.ensures.items at c.place.ensures in
+        let before = heap_of c.self.inside.flex c.self.inside.rows.items in
+        let after = heap_of c.allocate.new.self c.place.new.rows.items in
+        layout_at-put_other before after (c.in-Some.addr, c.args.layout) rows);
+    contents = rw (← c.self.view_is) (
+        let before = heap_of c.self.inside.flex c.self.inside.rows.items in
+        let after = heap_of c.allocate.new.self c.place.new.rows.items in
+        λ a off. content_at-bytes before after a a (c.in-Some.ensures.bytes a off));
+    same = tt;
+  };
   touches = rw (← c.self.view_is) c.in-Some.ensures.touches;
   grow = rw (← c.self.view_is) c.in-Some.ensures.grow;
 }

@@ -1,4 +1,4 @@
-use Rattle.rlsf_global.proofs.Layouts.{content_at-bytes, layout_at-without_here, layout_at-without_other}
+use Rattle.rlsf_global.proofs.Deallocations.{IsDeallocation-done, IsDeallocation-refused}
 use Rattle.std.proofs.Common.{◌≡◌, Some, Ok, Err, lit<, ap, ◌∙◌, subst, sym, refl, arith}
 use Rattle.rlsf_base.specs.Addr.{at}
 use Rattle.rlsf_global.specs.Locked.{heap_of}
@@ -36,11 +36,10 @@ returns-in_default g c = record {
       let absent = rw c.deref.ensures.value at c.in_default.ensures.absent in
       subst (λ o. DeallocatesAsAt h (at c.args.addr) c.args.layout o (Err UnknownAddress) h) (sym absent.none) (refl, refl));
   refused = refl;
-  unknown = rw (← c.self.view_is) (unknown c.self.inside.flex c.self.inside.rows.items (at c.args.addr) _ (rw c.deref.ensures.value at c.in_default.ensures.absent));
-  gone = tt;
-  layouts = tt;
-  contents = tt;
-  same = refl;
+  deallocation = rw (← c.self.view_is) (
+      let absent = rw c.deref.ensures.value at c.in_default.ensures.absent in
+      let none = unknown c.self.inside.flex c.self.inside.rows.items (at c.args.addr) _ absent in
+      IsDeallocation-refused (heap_of c.self.inside.flex c.self.inside.rows.items) (at c.args.addr) UnknownAddress none);
   touches = omega arith;
   grow = omega arith;
 }
@@ -52,12 +51,10 @@ returns-then-ne g c = record {
       deallocates_out (heap_of c.self.inside.flex c.self.inside.rows.items) (at c.args.addr) c.args.layout
       c.index.result.now (not-true _ c.if-ne.ensures) (found.row c.index.result.now ∙ ap Some (sym c.index.ensures)));
   refused = refl;
-  unknown =
-      rw (← c.self.view_is) (known c.self.inside.flex c.self.inside.rows.items (at c.args.addr) _ (rw c.deref.ensures.value at c.in-Ok.ensures.found) (Err WrongLayout) refl);
-  gone = tt;
-  layouts = tt;
-  contents = tt;
-  same = refl;
+  deallocation = rw (← c.self.view_is) (
+      let found = rw c.deref.ensures.value at c.in-Ok.ensures.found in
+      let unknown = known c.self.inside.flex c.self.inside.rows.items (at c.args.addr) _ found (Err WrongLayout) refl in
+      IsDeallocation-refused (heap_of c.self.inside.flex c.self.inside.rows.items) (at c.args.addr) WrongLayout unknown);
   touches = omega arith;
   grow = omega arith;
 }
@@ -75,20 +72,12 @@ returns g c = record {
       subst (λ o. DeallocatesAsAt h (at c.args.addr) c.args.layout o (Ok tt) after) (sym row)
       (deallocates_in h (at c.args.addr) c.args.layout c.index.result.now after (not-false _ c.if-ne.ensures) gone));
   refused = tt;
-  unknown = rw (← c.self.view_is) (known c.self.inside.flex c.self.inside.rows.items (at c.args.addr) _ (rw c.deref.ensures.value at c.in-Ok.ensures.found) (Ok tt) refl);
-  gone =
+  deallocation = rw (← c.self.view_is) (
       let before = heap_of c.self.inside.flex c.self.inside.rows.items in
       let after = heap_of c.deallocate.new.self c.remove-row.new.self.items in
-      layout_at-without_here before after (at c.args.addr) (taken_out g c);
-  layouts = rw (← c.self.view_is) (
-      let before = heap_of c.self.inside.flex c.self.inside.rows.items in
-      let after = heap_of c.deallocate.new.self c.remove-row.new.self.items in
-      layout_at-without_other before after (at c.args.addr) (taken_out g c));
-  contents = rw (← c.self.view_is) (
-      let before = heap_of c.self.inside.flex c.self.inside.rows.items in
-      let after = heap_of c.deallocate.new.self c.remove-row.new.self.items in
-      λ a off. content_at-bytes before after a a (c.deallocate.ensures.bytes a off));
-  same = tt;
+      let found = rw c.deref.ensures.value at c.in-Ok.ensures.found in
+      let unknown = known c.self.inside.flex c.self.inside.rows.items (at c.args.addr) _ found (Ok tt) refl in
+      IsDeallocation-done before after (at c.args.addr) unknown (taken_out g c) c.deallocate.ensures.bytes);
   touches = rw (← c.self.view_is) c.deallocate.ensures.touches;
   grow = rw (← c.self.view_is) c.deallocate.ensures.grow;
 }
