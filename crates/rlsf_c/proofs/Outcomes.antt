@@ -19,6 +19,7 @@ use Rattle.rlsf_model.specs.State.{State, empty}
 use Rattle.rlsf_tlsf.specs.Allocator.{Allocator, Steps}
 use Rattle.rlsf_checked.specs.Answers.{IsRefusedBy, append_answer, fits, if_in_range, if_live, insert_answer, addr_in as addr_in_result, size_refusal}
 use Rattle.rlsf_checked.specs.Checked.{Checked}
+use Rattle.rlsf_checked.specs.Writes.{WritesOnlyAt}
 use Rattle.rlsf_checked.specs.declared.error.CheckedError.{CheckedError}
 use Rattle.rlsf_checked.specs.declared.error.CheckedError.TheVariants.{InvalidClasses, OutOfMemory, UnknownAddress, OutOfRange, OutsideMemory, NotBehind, NotNext, TooShort}
 use Rattle.rlsf_checked.specs.declared.error.CheckedError.TheVariants.{NoLayout, NoRoom, InUse, NotChunks}
@@ -356,18 +357,21 @@ pub on_refused : (A : Type 0) (r : Result (Unit {0}) CheckedError) → OnErr r A
 on_refused A (Ok x) did some = absurd (some refl)
 on_refused A (Err d) did some = did
 
+-- a call that writes bytes of one payload keeps the others
+pub kept_only : (sllen : ℕ) (old new : Checked) (addr : ℕ) (r : Result (Unit {0}) CheckedError) → WritesOnlyAt sllen old new addr r
+    → IsKeptBut addr (seen_in sllen old) (seen_in sllen new)
+kept_only sllen old new addr r only = kept_but sllen old new addr only.place only.pool (λ a apart. ap (λ f. f a) only.aligns) only.bytes
+
 pub written : (sllen : ℕ) (old new : Checked) (addr offset : ℕ) (bytes : List ℕ) (r : Result (Unit {0}) CheckedError)
     → r ≡ if_in_range (align_at old.heap.state addr) (fits offset (length bytes) (bytes_at old.heap.state addr))
     → OnOk r (bytes_at new.heap.state addr ≡ splice (bytes_at old.heap.state addr) offset (offset + length bytes) bytes)
-    → align_at new.heap.state ≡ align_at old.heap.state → ((a : ℕ) → a ≢ addr → bytes_at new.heap.state a ≡ bytes_at old.heap.state a)
-    → OnErr r (new ≡ old) → new.pool ≡ old.pool → SamePlace old.heap.memory new.heap.memory
-    → Writes (seen_in sllen old) addr offset bytes (code_of r) (seen_in sllen new)
-written sllen old new addr offset bytes r told did aligns others same pool place = record {
+    → WritesOnlyAt sllen old new addr r → Writes (seen_in sllen old) addr offset bytes (code_of r) (seen_in sllen new)
+written sllen old new addr offset bytes r told did only = record {
   told = ap code_of told;
   written = on_done (bytes_at new.heap.state addr ≡ splice (bytes_at old.heap.state addr) offset (offset + length bytes) bytes) r did;
-  aligns = aligns;
-  kept = kept_but sllen old new addr place pool (λ a apart. ap (λ f. f a) aligns) others;
-  same = same_unless sllen old new r same;
+  aligns = only.aligns;
+  kept = kept_only sllen old new addr r only;
+  same = same_unless sllen old new r only.same;
 }
 
 pub read_as : (v : Seen) (addr offset : ℕ) (was now : List ℕ) (r : Result (Unit {0}) CheckedError)

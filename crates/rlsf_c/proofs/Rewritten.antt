@@ -17,27 +17,26 @@ use Rattle.rlsf_tlsf.specs.Allocator.{Steps}
 use Rattle.rlsf_checked.specs.Answers.{both_have, copy_answer, if_both_in_range, if_live}
 use Rattle.rlsf_checked.specs.Checked.{Checked}
 use Rattle.rlsf_checked.specs.Removal.{AreChunks, IsRemovalOf, pool_without}
+use Rattle.rlsf_checked.specs.Writes.{WritesOnlyAt}
 use Rattle.rlsf_checked.specs.declared.error.CheckedError.{CheckedError}
 use Rattle.rlsf_checked.specs.declared.error.CheckedError.TheVariants.{NotChunks, UnknownAddress}
 use Rattle.rlsf_c.specs.Answers.{code_of, number_of}
 use Rattle.rlsf_c.specs.declared.answers.Answer.{Answer}
 use Rattle.rlsf_c.specs.Calls.{Allocates, AllocatesZeroed, Copies, IsNew, RemovesLast, RemovesRange, Zeroes}
 use Rattle.rlsf_c.specs.Seen.{Seen, nothing, seen_in, without_payloads}
-use Rattle.rlsf_c.proofs.Outcomes.{kept_but, kept_same, number_of-some, on_done, same_range, same_unless, step_of}
+use Rattle.rlsf_c.proofs.Outcomes.{kept_only, kept_same, number_of-some, on_done, same_range, same_unless, step_of}
 
 -- ---- copies
 
 pub copied : (sllen : ℕ) (old new : Checked) (from to len : ℕ) (r : Result (Unit {0}) CheckedError) → r ≡ copy_answer old.heap.state from to len
-    → OnOk r (bytes_at new.heap.state to ≡ copied_over old.heap.state from to len) → align_at new.heap.state ≡ align_at old.heap.state
-    → ((a : ℕ) → a ≢ to → bytes_at new.heap.state a ≡ bytes_at old.heap.state a) → OnErr r (new ≡ old) → new.pool ≡ old.pool
-    → SamePlace old.heap.memory new.heap.memory
+    → OnOk r (bytes_at new.heap.state to ≡ copied_over old.heap.state from to len) → WritesOnlyAt sllen old new to r
     → Copies (seen_in sllen old) from to len (code_of r) (seen_in sllen new)
-copied sllen old new from to len r told did aligns others same pool place = record {
+copied sllen old new from to len r told did only = record {
   told = ap code_of told;
   copied = on_done (bytes_at new.heap.state to ≡ copied_over old.heap.state from to len) r did;
-  aligns = aligns;
-  kept = kept_but sllen old new to place pool (λ a apart. ap (λ f. f a) aligns) others;
-  same = same_unless sllen old new r same;
+  aligns = only.aligns;
+  kept = kept_only sllen old new to r only;
+  same = same_unless sllen old new r only.same;
 }
 
 -- where none lives at one of the addresses, the copy is refused
@@ -66,18 +65,17 @@ is_done (Some align) r told live = told
 pub zeroed : (fllen sllen : ℕ) (old new : Checked) (addr : ℕ) (r : Result (Unit {0}) CheckedError) → r ≡ if_live (align_at old.heap.state addr) tt
     → IsSome (align_at old.heap.state addr)
     → OnOk r (Steps fllen sllen old.heap new.heap (Fills old.heap.state addr (replicate (length (bytes_at old.heap.state addr)) 0)))
-    → OnOk r (bytes_at new.heap.state addr ≡ replicate (length (bytes_at old.heap.state addr)) 0) → align_at new.heap.state ≡ align_at old.heap.state
-    → ((a : ℕ) → a ≢ addr → bytes_at new.heap.state a ≡ bytes_at old.heap.state a) → new.pool ≡ old.pool → SamePlace old.heap.memory new.heap.memory
+    → OnOk r (bytes_at new.heap.state addr ≡ replicate (length (bytes_at old.heap.state addr)) 0) → WritesOnlyAt sllen old new addr r
     → Zeroes (seen_in sllen old) addr (seen_in sllen new)
-zeroed fllen sllen old new addr r told live step filled aligns others pool place =
+zeroed fllen sllen old new addr r told live step filled only =
     let zeros = replicate (length (bytes_at old.heap.state addr)) 0 in
     let done = is_done (align_at old.heap.state addr) r told live in record {
       step =
           step_of fllen sllen old.heap new.heap (Fills old.heap.state addr zeros)
           (subst (λ x. OnOk x (Steps fllen sllen old.heap new.heap (Fills old.heap.state addr zeros))) done step);
       zeros = subst (λ x. OnOk x (bytes_at new.heap.state addr ≡ zeros)) done filled;
-      aligns = aligns;
-      kept = kept_but sllen old new addr place pool (λ a apart. ap (λ f. f a) aligns) others;
+      aligns = only.aligns;
+      kept = kept_only sllen old new addr r only;
     }
 
 -- a payload that is new and then zeroed

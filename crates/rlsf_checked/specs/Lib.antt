@@ -4,3 +4,4 @@ pub mod Answers
 pub mod Checked
 pub mod Removal
 pub mod Steps
+pub mod Writes

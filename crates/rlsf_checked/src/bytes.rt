@@ -1,14 +1,13 @@
 //! The bytes of payloads that the allocator itself writes.
 
-ghost use Rattle.std.specs.Prelude.{◌≡◌, ◌≢◌, ◌≤◌, ◌+◌, ◌&&◌, ℕ, length, nat_le, replicate, OnErr, OnOk};
+ghost use Rattle.std.specs.Prelude.{◌≡◌, ◌≤◌, ◌+◌, ◌&&◌, length, nat_le, replicate, OnOk};
 ghost use Rattle.std.specs.List.{splice};
 ghost use Rattle.rlsf_base.specs.Addr.{at};
-ghost use Rattle.rlsf_base.specs.Space.{SamePlace};
 ghost use Rattle.rlsf_model.specs.Callers.{align_at, bytes_at, copied_over};
 ghost use Rattle.rlsf_model.specs.Run.{Fills};
-ghost use Rattle.rlsf_model.specs.Sized.{IsSizedFor, live_count};
 ghost use Rattle.rlsf_tlsf.specs.Allocator.{Steps};
 ghost use Rattle.rlsf_checked.specs.Answers.{copy_answer, if_live};
+ghost use Rattle.rlsf_checked.specs.Writes.{WritesOnlyAt};
 
 use crate::checked::CheckedTlsf;
 use crate::error::CheckedError;
@@ -31,13 +30,7 @@ impl<
         ensures step { OnOk result (Steps FLLEN SLLEN self.old.heap self.new.heap (Fills self.old.heap.state (at to)
             (copied_over self.old.heap.state (at from) (at to) len))) }
         ensures filled { OnOk result (bytes_at self.new.heap.state (at to) ≡ copied_over self.old.heap.state (at from) (at to) len) }
-        ensures aligns { align_at self.new.heap.state ≡ align_at self.old.heap.state }
-        ensures bytes { (a : ℕ) → a ≢ at to → bytes_at self.new.heap.state a ≡ bytes_at self.old.heap.state a }
-        ensures count { live_count self.new.heap.state ≡ live_count self.old.heap.state }
-        ensures bounds { (count size align : ℕ) → IsSizedFor SLLEN count size align self.old.heap.state → IsSizedFor SLLEN count size align self.new.heap.state }
-        ensures same { OnErr result (self.new ≡ self.old) }
-        ensures pool { self.new.pool ≡ self.old.pool }
-        ensures place { SamePlace self.old.heap.memory self.new.heap.memory }
+        ensures only { WritesOnlyAt SLLEN self.old self.new (at to) result }
         ensures touches { self.new.heap.memory.touches ≡ self.old.heap.memory.touches }
         ensures copied { OnOk result (self.new.heap.memory.copied ≡ self.old.heap.memory.copied + len) }
     {
@@ -66,13 +59,7 @@ impl<
         ensures step { OnOk result (Steps FLLEN SLLEN self.old.heap self.new.heap (Fills self.old.heap.state (at addr)
             (replicate (length (bytes_at self.old.heap.state (at addr))) value))) }
         ensures filled { OnOk result (bytes_at self.new.heap.state (at addr) ≡ replicate (length (bytes_at self.old.heap.state (at addr))) value) }
-        ensures aligns { align_at self.new.heap.state ≡ align_at self.old.heap.state }
-        ensures bytes { (a : ℕ) → a ≢ at addr → bytes_at self.new.heap.state a ≡ bytes_at self.old.heap.state a }
-        ensures count { live_count self.new.heap.state ≡ live_count self.old.heap.state }
-        ensures bounds { (count size align : ℕ) → IsSizedFor SLLEN count size align self.old.heap.state → IsSizedFor SLLEN count size align self.new.heap.state }
-        ensures same { OnErr result (self.new ≡ self.old) }
-        ensures pool { self.new.pool ≡ self.old.pool }
-        ensures place { SamePlace self.old.heap.memory self.new.heap.memory }
+        ensures only { WritesOnlyAt SLLEN self.old self.new (at addr) result }
         ensures touches { self.new.heap.memory.touches ≤ self.old.heap.memory.touches + 3 }
         ensures grow { self.old.heap.memory.touches ≤ self.new.heap.memory.touches }
         ensures copied { self.new.heap.memory.copied ≡ self.old.heap.memory.copied }

@@ -21,6 +21,7 @@ ghost use Rattle.rlsf_blocks.specs.Blocks.{AreBlocks, walked};
 ghost use Rattle.rlsf_tlsf.specs.Allocator.{Steps, Stands};
 ghost use Rattle.rlsf_checked.specs.Answers.{IsRefusedBy, append_answer, fits, if_in_range, if_live, insert_answer, is_next, is_within, addr_in, refusal_at, taken};
 ghost use Rattle.rlsf_checked.specs.declared.error.CheckedError.TheVariants.{InvalidClasses, NoRoom, OutOfMemory, UnknownAddress};
+ghost use Rattle.rlsf_checked.specs.Writes.{WritesOnlyAt};
 
 use crate::bytes::write_at;
 use crate::classes::are_valid;
@@ -446,13 +447,7 @@ impl<
         ensures step { OnOk result (Steps FLLEN SLLEN self.old.heap self.new.heap (Fills self.old.heap.state (at addr)
             (written_over self.old.heap.state (at addr) offset bytes.now))) }
         ensures written { OnOk result (bytes_at self.new.heap.state (at addr) ≡ written_over self.old.heap.state (at addr) offset bytes.now) }
-        ensures aligns { align_at self.new.heap.state ≡ align_at self.old.heap.state }
-        ensures bytes { (a : ℕ) → a ≢ at addr → bytes_at self.new.heap.state a ≡ bytes_at self.old.heap.state a }
-        ensures count { live_count self.new.heap.state ≡ live_count self.old.heap.state }
-        ensures bounds { (count size align : ℕ) → IsSizedFor SLLEN count size align self.old.heap.state → IsSizedFor SLLEN count size align self.new.heap.state }
-        ensures same { OnErr result (self.new ≡ self.old) }
-        ensures pool { self.new.pool ≡ self.old.pool }
-        ensures place { SamePlace self.old.heap.memory self.new.heap.memory }
+        ensures only { WritesOnlyAt SLLEN self.old self.new (at addr) result }
         ensures touches { self.new.heap.memory.touches ≤ self.old.heap.memory.touches + 3 }
         ensures grow { self.old.heap.memory.touches ≤ self.new.heap.memory.touches }
         ensures copied { self.new.heap.memory.copied ≡ self.old.heap.memory.copied }

@@ -35,13 +35,15 @@ returns g c = record {
       (c.payload_mut.ensures.meaning c.fill_all.new.bytes (long g k)));
   filled = rw (← c.self.view_is) (
       let k = (goal.at.returns g c).After-fill_all in c.payload_mut.ensures.filled c.fill_all.new.bytes (long g k) ∙ over g k);
-  aligns = rw (← c.self.view_is) (c.payload_mut.ensures.aligns c.fill_all.new.bytes);
-  bytes = rw (← c.self.view_is) (c.payload_mut.ensures.bytes c.fill_all.new.bytes);
-  count = rw (← c.self.view_is) (c.payload_mut.ensures.count c.fill_all.new.bytes);
-  bounds = rw (← c.self.view_is) (c.payload_mut.ensures.bounds c.fill_all.new.bytes);
-  same = search rules;
-  pool = search rules;
-  place = rw (← c.self.view_is) (c.payload_mut.ensures.rest c.fill_all.new.bytes).1;
+  only = record {
+    aligns = rw (← c.self.view_is) (c.payload_mut.ensures.aligns c.fill_all.new.bytes);
+    bytes = rw (← c.self.view_is) (c.payload_mut.ensures.bytes c.fill_all.new.bytes);
+    count = rw (← c.self.view_is) (c.payload_mut.ensures.count c.fill_all.new.bytes);
+    bounds = rw (← c.self.view_is) (c.payload_mut.ensures.bounds c.fill_all.new.bytes);
+    same = search rules;
+    pool = search rules;
+    place = rw (← c.self.view_is) (c.payload_mut.ensures.rest c.fill_all.new.bytes).1;
+  };
   touches = rw (← c.self.view_is) (omega (arith, (c.payload_mut.ensures.rest c.fill_all.new.bytes).3));
   grow = search rules;
   copied = rw (← c.self.view_is) (c.payload_mut.ensures.rest c.fill_all.new.bytes).4;

@@ -33,13 +33,15 @@ returns-then-not-reaches g c = record {
       (ap (λ b. cond b (Ok tt) (Err OutOfRange)) told);
   step = search rules;
   written = search rules;
-  aligns = search rules;
-  bytes = search rules;
-  count = rw (← c.self.view_is) refl;
-  bounds = rw (← c.self.view_is) (λ count size align sized. sized);
-  same = search rules;
-  pool = search rules;
-  place = search rules;
+  only = record {
+    aligns = search rules;
+    bytes = search rules;
+    count = rw (← c.self.view_is) refl;
+    bounds = rw (← c.self.view_is) (λ count size align sized. sized);
+    same = search rules;
+    pool = search rules;
+    place = search rules;
+  };
   touches = search rules;
   grow = search rules;
   copied = search rules;
@@ -60,13 +62,15 @@ returns g c = record {
       (over g (goal.at.returns g c).After-write_at)
       (c.payload_mut.ensures.meaning c.write_at.new.payload c.write_at.ensures.len));
   written = rw (← c.self.view_is) (c.payload_mut.ensures.filled c.write_at.new.payload c.write_at.ensures.len ∙ over g (goal.at.returns g c).After-write_at);
-  aligns = rw (← c.self.view_is) (c.payload_mut.ensures.aligns c.write_at.new.payload);
-  bytes = rw (← c.self.view_is) (c.payload_mut.ensures.bytes c.write_at.new.payload);
-  count = rw (← c.self.view_is) (c.payload_mut.ensures.count c.write_at.new.payload);
-  bounds = rw (← c.self.view_is) (c.payload_mut.ensures.bounds c.write_at.new.payload);
-  same = search rules;
-  pool = search rules;
-  place = rw (← c.self.view_is) (c.payload_mut.ensures.rest c.write_at.new.payload).1;
+  only = record {
+    aligns = rw (← c.self.view_is) (c.payload_mut.ensures.aligns c.write_at.new.payload);
+    bytes = rw (← c.self.view_is) (c.payload_mut.ensures.bytes c.write_at.new.payload);
+    count = rw (← c.self.view_is) (c.payload_mut.ensures.count c.write_at.new.payload);
+    bounds = rw (← c.self.view_is) (c.payload_mut.ensures.bounds c.write_at.new.payload);
+    same = search rules;
+    pool = search rules;
+    place = rw (← c.self.view_is) (c.payload_mut.ensures.rest c.write_at.new.payload).1;
+  };
   touches = rw (← c.self.view_is) (omega (arith, (c.payload_mut.ensures.rest c.write_at.new.payload).3));
   grow = search rules;
   copied = rw (← c.self.view_is) (c.payload_mut.ensures.rest c.write_at.new.payload).4;
