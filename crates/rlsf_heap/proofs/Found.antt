@@ -1,17 +1,17 @@
 -- A heap in which the length of a payload was found: only touches were counted.
-use Rattle.std.proofs.Common.{slice_index, ◌≡◌, ◌≢◌, ℕ, ◌+◌, ◌%◌, ◌<◌, ◌≤◌, length, Option, Some, arith, sym, ap, subst, ◌∙◌}
+use Rattle.std.proofs.Common.{◌≡◌, ◌≢◌, ℕ, ◌+◌, Option, Some, arith, refl, sym, ap, subst, ◌∙◌}
 use Rattle.rlsf_base.specs.Layout.{IsLayout}
 use Rattle.rlsf_base.specs.OpenSpace.{IsAway}
 use Rattle.rlsf_base.specs.Piece.{Piece, piece_range}
-use Rattle.rlsf_model.specs.Callers.{align_at, bytes_at}
-use Rattle.rlsf_model.specs.Reallocate.{Keeps}
-use Rattle.rlsf_model.specs.Sized.{IsSizedFor, live_count}
+use Rattle.rlsf_model.specs.Callers.{align_at}
 use Rattle.rlsf_model.specs.State.{State}
 use Rattle.rlsf_model.proofs.CallerWords.{align_at-live}
 use Rattle.rlsf_model.proofs.Payloads.{IsUsed-after_start}
-use Rattle.rlsf_heap.specs.Heap.{HeapView, IsOwners, IsWritten, PayloadView, Stands, Steps, payload_range, payload_view}
-use Rattle.rlsf_heap.specs.Reallocation.{IsKeptHere, owned_by}
+use Rattle.rlsf_heap.specs.declared.thin.ThinPayload.{ThinPayload}
+use Rattle.rlsf_heap.specs.Heap.{HeapView, IsOwners, PayloadView, Stands, Steps, payload_range, payload_view}
+use Rattle.rlsf_heap.specs.Reallocation.{owned_by}
 use Rattle.rlsf_heap.specs.Settled.{IsSettled}
+use Rattle.rlsf_heap.specs.ThinReplies.{IsReallocatedHere, IsThinOf, KeepsHeap}
 
 -- the heap once three words were read
 abbrev pub found : HeapView → HeapView
@@ -21,6 +21,18 @@ found v = record v { memory = record v.memory { touches = v.memory.touches + 3 }
 pub settled_found : (v w : HeapView) → w ≡ found v → IsSettled v.memory → IsSettled w.memory
 unfolding IsSettled
 settled_found v w is settled = subst (λ (o : HeapView). IsSettled o.memory) (sym is) settled
+
+-- a heap that is kept since then is kept since before
+pub kept_found : (sllen size align : ℕ) (v w new : HeapView) → w ≡ found v → KeepsHeap sllen size align w new → KeepsHeap sllen size align v new
+kept_found sllen size align v w new is kept =
+    let k = subst (λ (x : HeapView). KeepsHeap sllen size align x new) is kept in record {
+      identity = k.identity;
+      place = k.place;
+      settled = λ settled. kept.settled (settled_found v w is settled);
+      bounds = k.bounds;
+      chunks = k.chunks;
+      grow = omega (arith, k.grow);
+    }
 
 -- the bytes of a payload that were away were its owner's
 pub owners : (v : HeapView) (q : Piece) (align ledger : ℕ) (p : PayloadView) → payload_view q align ledger ≡ p → IsAway v.memory (piece_range q) → IsOwners v p
@@ -32,47 +44,49 @@ pub owners_found : (v w : HeapView) → w ≡ found v → (q : Piece) (align led
 owners_found v w is q align ledger p same away =
     owners v q align ledger p same (subst (λ (o : HeapView). IsAway o.memory (piece_range q)) is away)
 
--- a step of a payload that was found is one of the payload as its caller has it
-pub step_found : (fllen sllen : ℕ) (v w new : HeapView) → w ≡ found v → (p q : PayloadView) → q ≡ p → (addr align size : ℕ) → p.start ≡ addr → p.align ≡ align
-    → (Step : State → ℕ → Option ℕ → State → Type 0) (from to : Option ℕ) → from ≡ to
-    → Steps fllen sllen new (λ t. IsLayout size q.align → Step (owned_by w.state q) q.start from t)
-    → Steps fllen sllen new (λ t. IsLayout size align → Step (owned_by v.state p) addr to t)
-step_found fllen sllen v w new is p q same addr align size at wide Step from to reply did =
-    subst (λ (x : State × PayloadView × ℕ × ℕ × Option ℕ). Steps fllen sllen new (λ t. IsLayout size x.3 → Step (owned_by x.0 x.1) x.2 x.4 t))
-    (λ i. (
-      (is i).state,
-      same i,
-      (ap (λ (o : PayloadView). o.start) same ∙ at) i,
-      (ap (λ (o : PayloadView). o.align) same ∙ wide) i,
-      reply i,
-    )) did
+-- the length of a payload was found in the memory, and the payload is returned with it and with its alignment
+pub record IsFound (v w : HeapView) (p q : PayloadView) (addr align : ℕ) : Type 0 where
+  pub heap : w ≡ found v
+  pub same : q ≡ p
+  pub at : p.start ≡ addr
+  pub wide : p.align ≡ align
 
--- what is so of a payload that was found, and of a payload made of it, is so of the payload as its caller has it, and of that one by its address
-module _ (v w : HeapView) (is : w ≡ found v) (p q : PayloadView) (same : q ≡ p) (addr align : ℕ) (at : p.start ≡ addr) (wide : p.align ≡ align) where
+module _ {v w : HeapView} {p q : PayloadView} {addr align : ℕ} (f : IsFound v w p q addr align) where
+  start_is : q.start ≡ addr
+  start_is = ap (λ (o : PayloadView). o.start) f.same ∙ f.at
+
+  align_is : q.align ≡ align
+  align_is = ap (λ (o : PayloadView). o.align) f.same ∙ f.wide
+
+  -- what is so of the payload that was found, and of a payload made of it, is so of the payload as its caller has it, and of that one by its address
   pub as_found : (to now : PayloadView) → now ≡ to → (So : HeapView → PayloadView → ℕ → ℕ → PayloadView → Type 0) → So w q q.start q.align to → So (found v) p addr align now
   as_found to now thin So so =
-      subst (λ (x : HeapView × PayloadView × ℕ × ℕ × PayloadView). So x.0 x.1 x.2 x.3 x.4)
-      (λ i. (is i, same i, (ap (λ (o : PayloadView). o.start) same ∙ at) i, (ap (λ (o : PayloadView). o.align) same ∙ wide) i, sym thin i)) so
+      subst (λ (x : HeapView × PayloadView × ℕ × ℕ × PayloadView). So x.0 x.1 x.2 x.3 x.4) (λ i. (f.heap i, f.same i, start_is i, align_is i, sym thin i)) so
 
--- what callers see of a reallocated payload, wherever it is
-pub record SeesResized (sllen size : ℕ) (new old : HeapView) (from : PayloadView) (addr align : ℕ) (to : PayloadView) : Type 0 where
-  pub identity : new.identity ≡ old.identity
-  pub place : (new.memory.start ≡ old.memory.start) × (length new.memory.bytes ≡ length old.memory.bytes)
-  pub layout : IsLayout size align
-  pub identified : to.identity ≡ old.identity
-  pub wide : to.align ≡ align
-  pub live : align_at new.state to.start ≡ Some align
-  pub long : length to.bytes ≡ length (bytes_at new.state to.start)
-  pub aligned : to.start % align ≡ 0
-  pub sized : size ≤ length to.bytes
-  pub few : length to.bytes < size + 32
-  pub kept : Keeps from.bytes to.bytes
-  pub each : (k : ℕ) → k < length from.bytes → k < length to.bytes → slice_index to.bytes k ≡ slice_index from.bytes k
-  pub here : IsKeptHere from to
-  pub shrunk : length to.bytes ≤ length from.bytes → IsWritten to
-  pub count : live_count new.state ≡ live_count old.state
-  pub bounds : (count most wide : ℕ) → IsSizedFor sllen count most wide old.state → size ≤ most → align ≤ wide → IsSizedFor sllen count most wide new.state
-  pub chunks : new.state.chunks ≡ old.state.chunks
+  -- a step of the payload that was found is one of the payload as its caller has it
+  pub step_found : (fllen sllen : ℕ) (new : HeapView) (size : ℕ) (Step : State → ℕ → Option ℕ → State → Type 0) (from to : Option ℕ) → from ≡ to
+      → Steps fllen sllen new (λ t. IsLayout size q.align → Step (owned_by w.state q) q.start from t)
+      → Steps fllen sllen new (λ t. IsLayout size align → Step (owned_by v.state p) addr to t)
+  step_found fllen sllen new size Step from to reply did =
+      subst (λ (x : State × PayloadView × ℕ × ℕ × Option ℕ). Steps fllen sllen new (λ t. IsLayout size x.3 → Step (owned_by x.0 x.1) x.2 x.4 t))
+      (λ i. ((f.heap i).state, f.same i, start_is i, align_is i, reply i)) did
+
+  pub heap_found : (sllen size : ℕ) (new : HeapView) → KeepsHeap sllen size q.align w new → KeepsHeap sllen size align v new
+  heap_found sllen size new kept = kept_found sllen size align v w new f.heap (subst (λ n. KeepsHeap sllen size n w new) align_is kept)
+
+  -- the payload by its address is of the same heap, with the same alignment
+  pub thin_found : (to : PayloadView) (r : ThinPayload) → (r.addr ≡ to.start) × (r.of ≡ to) → to.identity ≡ w.identity → to.align ≡ q.align → IsThinOf v.identity align r
+  thin_found to r made identity requested = record {
+    at = made.0 ∙ ap (λ (o : PayloadView). o.start) (sym made.1);
+    identity = ap (λ (o : PayloadView). o.identity) made.1 ∙ identity ∙ ap (λ (x : HeapView). x.identity) f.heap;
+    requested = ap (λ (o : PayloadView). o.align) made.1 ∙ requested ∙ align_is;
+  }
+
+  -- the same of its bytes are here
+  pub here_found : (to now : PayloadView) → now ≡ to → IsReallocatedHere w q to → IsReallocatedHere v p now
+  here_found to now thin here =
+      let h = as_found to now thin (λ x from addr align made. IsReallocatedHere x from made) here in
+      record { here = h.here; shrunk = h.shrunk; written = λ settled. h.written (settled_found v (found v) refl settled) }
 
 -- no payload is live at the address 0
 pub live_somewhere : (fllen sllen : ℕ) (v : HeapView) (step : State → Type 0) (a align : ℕ) → Steps fllen sllen v step → align_at v.state a ≡ Some align → a ≢ 0

@@ -1,5 +1,5 @@
 -- Payloads that are known by their address.
-use Rattle.std.proofs.Common.{◌≡◌, ◌≢◌, ℕ, ◌+◌, ◌%◌, ◌<◌, ◌≤◌, set, false, List, length, None, Some, arith, inl, refl, sym, ap, subst, ◌∙◌}
+use Rattle.std.proofs.Common.{◌≡◌, ◌≢◌, ℕ, ◌+◌, ◌≤◌, set, false, List, length, Some, arith, inl, refl, sym, ap, subst, ◌∙◌}
 use Rattle.rlsf_base.specs.Ledger.{Entry, Extent, IsIssued, entry_of, extent}
 use Rattle.rlsf_base.specs.declared.memory.ledger.Ticket.{Ticket}
 use Rattle.rlsf_base.specs.declared.memory.range.Range.{Range}
@@ -9,17 +9,19 @@ use Rattle.rlsf_base.specs.Piece.{CanCome, Piece, piece_range}
 use Rattle.rlsf_base.specs.Range.{range_at}
 use Rattle.rlsf_base.specs.Space.{Space}
 use Rattle.rlsf_model.specs.Allocate.{Allocates, placed}
-use Rattle.rlsf_model.specs.Callers.{align_at, bytes_at}
+use Rattle.rlsf_model.specs.Callers.{align_at}
 use Rattle.rlsf_model.specs.Lists.{IsIn}
 use Rattle.rlsf_model.specs.Release.{released}
+use Rattle.rlsf_model.specs.Sized.{IsSizedFor, live_count}
 use Rattle.rlsf_model.specs.State.{State, Used, Holds, usable}
 use Rattle.rlsf_model.proofs.Payloads.{IsUsed-after_start}
 use Rattle.rlsf_table.specs.Table.{Table}
 use Rattle.rlsf_blocks.specs.Steps.LiveBlock.{AtEachBlock}
 use Rattle.rlsf_blocks.specs.StandsFor.{contents, StandsFor}
-use Rattle.rlsf_heap.specs.Heap.{AreIssued, HeapView, Identity, PayloadView, Stands, Steps, payload_range}
+use Rattle.rlsf_heap.specs.Heap.{AreIssued, HeapView, PayloadView, Stands, Steps, payload_range}
 use Rattle.rlsf_heap.specs.Raw.{IsWhole, bytes_of}
 use Rattle.rlsf_heap.specs.Thin.{reply_of}
+use Rattle.rlsf_heap.specs.ThinReplies.{AllocationLeaves}
 use Rattle.rlsf_heap.proofs.ThinValues.{one_more_than}
 use Rattle.rlsf_heap.proofs.Released as R
 
@@ -106,24 +108,35 @@ module _ {fllen sllen : ℕ} {m : Space} {table : Table} {s : State} {entries : 
 pub reply_some : (n : ℕ) → n ≢ 0 → Some n ≡ reply_of n
 reply_some n some = let (k, e) = one_more_than n some in ap (λ m. Some m) e ∙ ap reply_of (sym e)
 
--- what callers see of an allocated payload
-pub record SeesAllocated (identity : Identity) (s t : State) (size align : ℕ) (p : PayloadView) : Type 0 where
-  pub identified : p.identity ≡ identity
-  pub live : align_at t p.start ≡ Some align
-  pub wide : p.align ≡ align
-  pub long : length p.bytes ≡ length (bytes_at t p.start)
-  pub aligned : p.start % align ≡ 0
-  pub sized : size ≤ length p.bytes
-  pub few : length p.bytes < size + 32
-  pub new : align_at s p.start ≡ None
-  pub aligns : (a : ℕ) → a ≢ p.start → align_at t a ≡ align_at s a
+-- a refused allocation leaves all as it was
+pub none_leaves : (sllen size align : ℕ) (before after : HeapView) (addr : ℕ) → addr ≡ 0
+    → ((count most wide : ℕ) → IsSizedFor sllen count most wide before.state → live_count before.state ≤ count → size ≤ most → align ≤ wide → ⊥)
+    → after.state ≡ before.state → after.memory.bytes ≡ before.memory.bytes → after.memory.copied ≡ before.memory.copied
+    → AllocationLeaves sllen size align before after addr
+none_leaves sllen size align before after addr none room same refused copied = record {
+  aligns = λ a apart. ap (λ (s : State). align_at s a) same;
+  room = λ count most wide sized few short fits. absurd (room count most wide sized few short fits);
+  same = λ _. same;
+  refused = λ _. refused;
+  copied = copied;
+}
 
 -- an allocated payload, known by its address
-module _ (fllen sllen : ℕ) (v : HeapView) (s : State) (size align : ℕ) (p q : PayloadView) (is : q ≡ p)
-    (did : Steps fllen sllen v (Allocates sllen s size align (Some p.start))) where
+module _ (fllen sllen : ℕ) (before after : HeapView) (size align : ℕ) (p q : PayloadView) (is : q ≡ p)
+    (did : Steps fllen sllen after (Allocates sllen before.state size align (Some p.start))) where
   pub is_some : q.start ≢ 0
-  is_some e = some_address fllen sllen v s size align p.start did (ap (λ (o : PayloadView). o.start) (sym is) ∙ e)
+  is_some e = some_address fllen sllen after before.state size align p.start did (ap (λ (o : PayloadView). o.start) (sym is) ∙ e)
 
-  pub thin_step : Steps fllen sllen v (Allocates sllen s size align (reply_of q.start))
+  pub thin_step : Steps fllen sllen after (Allocates sllen before.state size align (reply_of q.start))
   thin_step =
-      subst (λ o. Steps fllen sllen v (Allocates sllen s size align o)) ((λ i. Some (sym is i).start) ∙ reply_some q.start is_some) did
+      subst (λ o. Steps fllen sllen after (Allocates sllen before.state size align o)) ((λ i. Some (sym is i).start) ∙ reply_some q.start is_some) did
+
+  pub thin_leaves : ((a : ℕ) → a ≢ p.start → align_at after.state a ≡ align_at before.state a) → after.memory.copied ≡ before.memory.copied
+      → AllocationLeaves sllen size align before after q.start
+  thin_leaves aligns copied = record {
+    aligns = subst (λ (o : PayloadView). (a : ℕ) → a ≢ o.start → align_at after.state a ≡ align_at before.state a) (sym is) aligns;
+    room = λ count most wide sized few short fits. is_some;
+    same = λ none. absurd (is_some none);
+    refused = λ none. absurd (is_some none);
+    copied = copied;
+  }

@@ -1,5 +1,5 @@
 //! Allocation and deallocation of payloads that are known by their address alone.
-ghost use Rattle.std.specs.Prelude.{◌≡◌, ◌≢◌, ◌≤◌, ◌<◌, ◌+◌, ◌/◌, ◌%◌, ℕ, None, Some, length, replicate};
+ghost use Rattle.std.specs.Prelude.{◌≡◌, ◌≢◌, ◌≤◌, ◌+◌, ◌/◌, ℕ, None, Some, length, replicate};
 ghost use Rattle.rlsf_base.specs.Ledger.{extent};
 ghost use Rattle.rlsf_model.specs.Allocate.{Allocates};
 ghost use Rattle.rlsf_model.specs.Callers.{align_at, bytes_at};
@@ -8,6 +8,7 @@ ghost use Rattle.rlsf_model.specs.Sized.{IsSizedFor, live_count};
 ghost use Rattle.rlsf_heap.specs.Heap.{IsOwners, IsTicketOf, IsWritten, payload_view};
 ghost use Rattle.rlsf_heap.specs.Settled.{IsSettled};
 ghost use Rattle.rlsf_heap.specs.Thin.{reply_of};
+ghost use Rattle.rlsf_heap.specs.ThinReplies.{AllocationLeaves, IsAllocatedThin, KeepsHeap};
 
 use crate::heap::Heap;
 use crate::thin::ThinPayload;
@@ -30,31 +31,12 @@ impl<FLBitmap: BitPattern, SLBitmap: BitPattern, const FLLEN: usize, const SLLEN
     #[inline(always)]
     pub fn allocate_thin(&mut self, layout: Layout) -> ThinPayload
         ensures step { Steps FLLEN SLLEN self.new (Allocates SLLEN self.old.state layout.size layout.align (reply_of result.of.start)) }
-        ensures identity { self.new.identity ≡ self.old.identity }
-        ensures place { (self.new.memory.start ≡ self.old.memory.start) × (length self.new.memory.bytes ≡ length self.old.memory.bytes) }
-        ensures settled { IsSettled self.old.memory → IsSettled self.new.memory }
         ensures at { result.addr ≡ result.of.start }
+        ensures payload { result.of.start ≢ 0 → IsAllocatedThin self.old self.new layout.size layout.align result.of }
+        ensures heap { KeepsHeap SLLEN layout.size layout.align self.old self.new }
+        ensures leaves { AllocationLeaves SLLEN layout.size layout.align self.old self.new result.of.start }
         ensures written { IsSettled self.old.memory → result.of.start ≢ 0 → IsWritten result.of }
-        ensures payload { result.of.start ≢ 0 → result.of.identity ≡ self.old.identity }
-        ensures live { result.of.start ≢ 0 → align_at self.new.state result.of.start ≡ Some layout.align }
-        ensures align { result.of.start ≢ 0 → result.of.align ≡ layout.align }
-        ensures long { result.of.start ≢ 0 → length result.of.bytes ≡ length (bytes_at self.new.state result.of.start) }
-        ensures aligned { result.of.start ≢ 0 → result.of.start % layout.align ≡ 0 }
-        ensures sized { result.of.start ≢ 0 → layout.size ≤ length result.of.bytes }
-        ensures few { result.of.start ≢ 0 → length result.of.bytes < layout.size + 32 }
-        ensures new { result.of.start ≢ 0 → align_at self.old.state result.of.start ≡ None }
-        ensures aligns { (a : ℕ) → a ≢ result.of.start → align_at self.new.state a ≡ align_at self.old.state a }
-        ensures room { (count size align : ℕ) → IsSizedFor SLLEN count size align self.old.state → live_count self.old.state ≤ count
-            → layout.size ≤ size → layout.align ≤ align → result.of.start ≢ 0 }
-        ensures count { result.of.start ≢ 0 → live_count self.new.state ≡ live_count self.old.state + 1 }
-        ensures bounds { (count size align : ℕ) → IsSizedFor SLLEN count size align self.old.state
-            → layout.size ≤ size → layout.align ≤ align → IsSizedFor SLLEN count size align self.new.state }
-        ensures chunks { self.new.state.chunks ≡ self.old.state.chunks }
-        ensures same { result.of.start ≡ 0 → self.new.state ≡ self.old.state }
-        ensures refused { result.of.start ≡ 0 → self.new.memory.bytes ≡ self.old.memory.bytes }
         ensures touches { self.new.memory.touches ≤ self.old.memory.touches + 30 }
-        ensures grow { self.old.memory.touches ≤ self.new.memory.touches }
-        ensures copied { self.new.memory.copied ≡ self.old.memory.copied }
     {
         match self.allocate(layout) {
             Some(payload) => payload.into_thin(),
@@ -68,33 +50,14 @@ impl<FLBitmap: BitPattern, SLBitmap: BitPattern, const FLLEN: usize, const SLLEN
     #[inline(always)]
     pub fn allocate_thin_zeroed(&mut self, layout: Layout) -> ThinPayload
         ensures step { Steps FLLEN SLLEN self.new (Allocates SLLEN self.old.state layout.size layout.align (reply_of result.of.start)) }
-        ensures identity { self.new.identity ≡ self.old.identity }
-        ensures place { (self.new.memory.start ≡ self.old.memory.start) × (length self.new.memory.bytes ≡ length self.old.memory.bytes) }
-        ensures settled { IsSettled self.old.memory → IsSettled self.new.memory }
         ensures at { result.addr ≡ result.of.start }
+        ensures payload { result.of.start ≢ 0 → IsAllocatedThin self.old self.new layout.size layout.align result.of }
+        ensures heap { KeepsHeap SLLEN layout.size layout.align self.old self.new }
+        ensures leaves { AllocationLeaves SLLEN layout.size layout.align self.old self.new result.of.start }
         ensures written { result.of.start ≢ 0 → IsWritten result.of }
         ensures zeros { result.of.start ≢ 0 → result.of.bytes ≡ replicate (length result.of.bytes) 0 }
-        ensures payload { result.of.start ≢ 0 → result.of.identity ≡ self.old.identity }
-        ensures live { result.of.start ≢ 0 → align_at self.new.state result.of.start ≡ Some layout.align }
-        ensures align { result.of.start ≢ 0 → result.of.align ≡ layout.align }
-        ensures long { result.of.start ≢ 0 → length result.of.bytes ≡ length (bytes_at self.new.state result.of.start) }
-        ensures aligned { result.of.start ≢ 0 → result.of.start % layout.align ≡ 0 }
-        ensures sized { result.of.start ≢ 0 → layout.size ≤ length result.of.bytes }
-        ensures few { result.of.start ≢ 0 → length result.of.bytes < layout.size + 32 }
-        ensures new { result.of.start ≢ 0 → align_at self.old.state result.of.start ≡ None }
-        ensures aligns { (a : ℕ) → a ≢ result.of.start → align_at self.new.state a ≡ align_at self.old.state a }
-        ensures room { (count size align : ℕ) → IsSizedFor SLLEN count size align self.old.state → live_count self.old.state ≤ count
-            → layout.size ≤ size → layout.align ≤ align → result.of.start ≢ 0 }
-        ensures count { result.of.start ≢ 0 → live_count self.new.state ≡ live_count self.old.state + 1 }
-        ensures bounds { (count size align : ℕ) → IsSizedFor SLLEN count size align self.old.state
-            → layout.size ≤ size → layout.align ≤ align → IsSizedFor SLLEN count size align self.new.state }
-        ensures chunks { self.new.state.chunks ≡ self.old.state.chunks }
-        ensures same { result.of.start ≡ 0 → self.new.state ≡ self.old.state }
-        ensures refused { result.of.start ≡ 0 → self.new.memory.bytes ≡ self.old.memory.bytes }
         ensures few_touches { result.of.start ≡ 0 → self.new.memory.touches ≤ self.old.memory.touches + 30 }
         ensures touches { result.of.start ≢ 0 → self.new.memory.touches ≤ self.old.memory.touches + 30 + length result.of.bytes / 8 }
-        ensures grow { self.old.memory.touches ≤ self.new.memory.touches }
-        ensures copied { self.new.memory.copied ≡ self.old.memory.copied }
     {
         match self.allocate_zeroed(layout) {
             Some(payload) => payload.into_thin(),

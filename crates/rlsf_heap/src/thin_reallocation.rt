@@ -1,14 +1,14 @@
 //! Reallocation of payloads that are known by their address alone.
-ghost use Rattle.std.specs.Prelude.{◌≡◌, ◌≢◌, ◌≤◌, ◌<◌, ◌+◌, ◌%◌, ℕ, Some, None, length, slice_index, IfErr, IfOk, IsErr, IsOk, MatchResult};
+ghost use Rattle.std.specs.Prelude.{◌≡◌, ◌≢◌, ◌≤◌, ◌+◌, ℕ, None, length, IfErr, IfOk, IsOk, MatchResult};
 ghost use Rattle.rlsf_base.specs.Layout.{IsLayout};
-ghost use Rattle.rlsf_model.specs.Callers.{align_at, bytes_at};
+ghost use Rattle.rlsf_model.specs.Callers.{align_at};
 ghost use Rattle.rlsf_model.specs.NoMove.{ReallocatesWithoutMove};
-ghost use Rattle.rlsf_model.specs.Reallocate.{HasRoomToStay, Keeps, Reallocates};
+ghost use Rattle.rlsf_model.specs.Reallocate.{Keeps, Reallocates};
 ghost use Rattle.rlsf_model.specs.Sized.{IsSizedFor, live_count};
-ghost use Rattle.rlsf_model.specs.State.{AreAlike, State};
 ghost use Rattle.rlsf_heap.specs.Heap.{IsWritten};
-ghost use Rattle.rlsf_heap.specs.Reallocation.{IsKeptHere, owned_by};
+ghost use Rattle.rlsf_heap.specs.Reallocation.{owned_by};
 ghost use Rattle.rlsf_heap.specs.Settled.{IsSettled};
+ghost use Rattle.rlsf_heap.specs.ThinReplies.{CopiesToMove, IsReallocatedHere, IsReallocatedThin, IsRefusedThin, IsThinOf, KeepsHeap, LeavesOthers};
 ghost use Rattle.rlsf_heap.specs.ThinReplies.{MovesElsewhere, thin_moved_to};
 
 use crate::heap::Heap;
@@ -56,44 +56,22 @@ impl<FLBitmap: BitPattern, SLBitmap: BitPattern, const FLLEN: usize, const SLLEN
         size: usize,
         align: usize,
     ) -> Result<ThinPayload, ThinPayload>
-        requires some { (payload.of.start ≡ addr) × (addr ≢ 0) }
+        requires some { (payload.of.start ≡ addr) × (addr ≢ 0) × (payload.of.align ≡ align) }
         requires heap { payload.of.identity ≡ self.old.identity }
-        requires align { payload.of.align ≡ align }
         requires written { IsWritten payload.of }
         ensures step { Steps FLLEN SLLEN self.new (λ t. IsLayout size align → Reallocates SLLEN (owned_by self.old.state payload.of) addr size (thin_moved_to result) t) }
         ensures layout { IsOk result → IsLayout size align }
-        ensures identity { self.new.identity ≡ self.old.identity }
-        ensures place { (self.new.memory.start ≡ self.old.memory.start) × (length self.new.memory.bytes ≡ length self.old.memory.bytes) }
-        ensures at { MatchResult result (λ p. p.addr ≡ p.of.start) (λ p. p.addr ≡ p.of.start) }
-        ensures some { IfOk result (λ p. p.of.start ≢ 0) }
-        ensures payload { MatchResult result (λ p. p.of.identity ≡ self.old.identity) (λ p. p.of.identity ≡ self.old.identity) }
-        ensures align { MatchResult result (λ p. p.of.align ≡ align) (λ p. p.of.align ≡ align) }
-        ensures back { IfErr result (λ p. (p.of.start ≡ addr) × (p.of.bytes ≡ payload.of.bytes) × IsWritten p.of) }
-        ensures live { IfOk result (λ p. align_at self.new.state p.of.start ≡ Some align) }
-        ensures long { IfOk result (λ p. length p.of.bytes ≡ length (bytes_at self.new.state p.of.start)) }
-        ensures aligned { IfOk result (λ p. p.of.start % align ≡ 0) }
-        ensures sized { IfOk result (λ p. size ≤ length p.of.bytes) }
-        ensures few { IfOk result (λ p. length p.of.bytes < size + 32) }
-        ensures kept { IfOk result (λ p. Keeps payload.of.bytes p.of.bytes) }
-        ensures each { IfOk result (λ p. (k : ℕ) → k < length payload.of.bytes → k < length p.of.bytes → slice_index p.of.bytes k ≡ slice_index payload.of.bytes k) }
-        ensures here { IfOk result (λ p. IsKeptHere payload.of p.of) }
-        ensures shrunk { IfOk result (λ p. length p.of.bytes ≤ length payload.of.bytes → IsWritten p.of) }
-        ensures written { IsSettled self.old.memory → IfOk result (λ p. IsWritten p.of) }
-        ensures settled { IsSettled self.old.memory → IsSettled self.new.memory }
-        ensures new { IfOk result (λ p. p.of.start ≢ addr → align_at self.old.state p.of.start ≡ None) }
-        ensures aligns { IfOk result (λ p. (a : ℕ) → a ≢ addr → a ≢ p.of.start → align_at self.new.state a ≡ align_at self.old.state a) }
         ensures room { (count most wide : ℕ) → IsSizedFor SLLEN count most wide self.old.state → live_count self.old.state ≤ count
             → size ≤ most → align ≤ wide → IsLayout size align → IsOk result }
+        ensures thin { MatchResult result (λ p. IsThinOf self.old.identity align p) (λ p. IsThinOf self.old.identity align p) }
+        ensures payload { IfOk result (λ p. IsReallocatedThin self.new.state payload.of size align p.of) }
+        ensures here { IfOk result (λ p. IsReallocatedHere self.old payload.of p.of) }
+        ensures others { IfOk result (λ p. LeavesOthers self.old.state self.new.state addr p.of.start) }
+        ensures refused { IfErr result (λ p. IsRefusedThin self.old.state self.new.state addr payload.of p.of) }
+        ensures heap { KeepsHeap SLLEN size align self.old self.new }
         ensures count { live_count self.new.state ≡ live_count self.old.state }
-        ensures bounds { (count most wide : ℕ) → IsSizedFor SLLEN count most wide self.old.state → size ≤ most → align ≤ wide → IsSizedFor SLLEN count most wide self.new.state }
-        ensures chunks { self.new.state.chunks ≡ self.old.state.chunks }
-        ensures same { IfErr result (λ p. AreAlike self.old.state self.new.state) }
-        ensures same_aligns { IfErr result (λ p. align_at self.new.state ≡ align_at self.old.state) }
         ensures touches { self.new.memory.touches ≤ self.old.memory.touches + 72 }
-        ensures grow { self.old.memory.touches ≤ self.new.memory.touches }
-        ensures copied { self.new.memory.copied ≤ self.old.memory.copied + length payload.of.bytes }
-        ensures grow_copied { self.old.memory.copied ≤ self.new.memory.copied }
-        ensures stays { HasRoomToStay self.old.state addr size → self.new.memory.copied ≡ self.old.memory.copied }
+        ensures copied { CopiesToMove self.old.state payload.of addr size self.old.memory.copied self.new.memory.copied }
     {
         let payload = self.find_payload(addr, payload, align);
         match self.reallocate(payload, size) {
@@ -117,37 +95,20 @@ impl<FLBitmap: BitPattern, SLBitmap: BitPattern, const FLLEN: usize, const SLLEN
         size: usize,
         align: usize,
     ) -> Result<ThinPayload, ThinPayload>
-        requires some { (payload.of.start ≡ addr) × (addr ≢ 0) }
+        requires some { (payload.of.start ≡ addr) × (addr ≢ 0) × (payload.of.align ≡ align) }
         requires heap { payload.of.identity ≡ self.old.identity }
-        requires align { payload.of.align ≡ align }
         requires written { IsWritten payload.of }
         ensures step { Steps FLLEN SLLEN self.new (λ t. IsLayout size align → ReallocatesWithoutMove (owned_by self.old.state payload.of) addr size (thin_moved_to result) t) }
         ensures layout { IsOk result → IsLayout size align }
-        ensures identity { self.new.identity ≡ self.old.identity }
-        ensures place { (self.new.memory.start ≡ self.old.memory.start) × (length self.new.memory.bytes ≡ length self.old.memory.bytes) }
-        ensures at { MatchResult result (λ p. p.addr ≡ p.of.start) (λ p. p.addr ≡ p.of.start) }
-        ensures payload { MatchResult result (λ p. p.of.identity ≡ self.old.identity) (λ p. p.of.identity ≡ self.old.identity) }
-        ensures align { MatchResult result (λ p. p.of.align ≡ align) (λ p. p.of.align ≡ align) }
+        ensures thin { MatchResult result (λ p. IsThinOf self.old.identity align p) (λ p. IsThinOf self.old.identity align p) }
         ensures there { MatchResult result (λ p. p.of.start ≡ addr) (λ p. p.of.start ≡ addr) }
-        ensures back { IfErr result (λ p. (p.of.bytes ≡ payload.of.bytes) × IsWritten p.of) }
-        ensures live { IfOk result (λ p. align_at self.new.state p.of.start ≡ Some align) }
-        ensures long { IfOk result (λ p. length p.of.bytes ≡ length (bytes_at self.new.state p.of.start)) }
-        ensures aligned { IfOk result (λ p. p.of.start % align ≡ 0) }
-        ensures sized { IfOk result (λ p. size ≤ length p.of.bytes) }
-        ensures few { IfOk result (λ p. length p.of.bytes < size + 32) }
-        ensures kept { IfOk result (λ p. Keeps payload.of.bytes p.of.bytes) }
-        ensures each { IfOk result (λ p. (k : ℕ) → k < length payload.of.bytes → k < length p.of.bytes → slice_index p.of.bytes k ≡ slice_index payload.of.bytes k) }
-        ensures here { IfOk result (λ p. IsKeptHere payload.of p.of) }
-        ensures shrunk { IfOk result (λ p. length p.of.bytes ≤ length payload.of.bytes → IsWritten p.of) }
-        ensures written { IsSettled self.old.memory → IfOk result (λ p. IsWritten p.of) }
-        ensures settled { IsSettled self.old.memory → IsSettled self.new.memory }
+        ensures payload { IfOk result (λ p. IsReallocatedThin self.new.state payload.of size align p.of) }
+        ensures here { IfOk result (λ p. IsReallocatedHere self.old payload.of p.of) }
         ensures aligns { align_at self.new.state ≡ align_at self.old.state }
+        ensures refused { IfErr result (λ p. IsRefusedThin self.old.state self.new.state addr payload.of p.of) }
+        ensures heap { KeepsHeap SLLEN size align self.old self.new }
         ensures count { live_count self.new.state ≡ live_count self.old.state }
-        ensures bounds { (count most wide : ℕ) → IsSizedFor SLLEN count most wide self.old.state → size ≤ most → align ≤ wide → IsSizedFor SLLEN count most wide self.new.state }
-        ensures chunks { self.new.state.chunks ≡ self.old.state.chunks }
-        ensures same { IfErr result (λ p. AreAlike self.old.state self.new.state) }
         ensures touches { self.new.memory.touches ≤ self.old.memory.touches + 31 }
-        ensures grow { self.old.memory.touches ≤ self.new.memory.touches }
         ensures copied { self.new.memory.copied ≡ self.old.memory.copied }
     {
         let payload = self.find_payload(addr, payload, align);
@@ -176,35 +137,17 @@ impl<FLBitmap: BitPattern, SLBitmap: BitPattern, const FLLEN: usize, const SLLEN
         requires written { IsWritten payload.of }
         requires settled { IsSettled self.old.memory }
         ensures step { Steps FLLEN SLLEN self.new (MovesElsewhere SLLEN self.old.state addr layout.size layout.align (thin_moved_to result)) }
-        ensures identity { self.new.identity ≡ self.old.identity }
-        ensures place { (self.new.memory.start ≡ self.old.memory.start) × (length self.new.memory.bytes ≡ length self.old.memory.bytes) }
-        ensures at { MatchResult result (λ p. p.addr ≡ p.of.start) (λ p. p.addr ≡ p.of.start) }
-        ensures some { IfOk result (λ p. p.of.start ≢ 0) }
-        ensures payload { MatchResult result (λ p. p.of.identity ≡ self.old.identity) (λ p. p.of.identity ≡ self.old.identity) }
-        ensures align { MatchResult result (λ p. p.of.align ≡ layout.align) (λ p. p.of.align ≡ payload.of.align) }
-        ensures back { IfErr result (λ p. p.of ≡ payload.of) }
-        ensures live { IfOk result (λ p. align_at self.new.state p.of.start ≡ Some layout.align) }
-        ensures gone { IfOk result (λ p. align_at self.new.state addr ≡ None) }
-        ensures long { IfOk result (λ p. length p.of.bytes ≡ length (bytes_at self.new.state p.of.start)) }
-        ensures aligned { IfOk result (λ p. p.of.start % layout.align ≡ 0) }
-        ensures sized { IfOk result (λ p. layout.size ≤ length p.of.bytes) }
-        ensures few { IfOk result (λ p. length p.of.bytes < layout.size + 32) }
-        ensures kept { IfOk result (λ p. Keeps payload.of.bytes p.of.bytes) }
-        ensures each { IfOk result (λ p. (k : ℕ) → k < length payload.of.bytes → k < length p.of.bytes → slice_index p.of.bytes k ≡ slice_index payload.of.bytes k) }
-        ensures written { IfOk result (λ p. IsWritten p.of) }
-        ensures settled { IsSettled self.new.memory }
-        ensures new { IfOk result (λ p. (p.of.start ≢ addr) × (align_at self.old.state p.of.start ≡ None)) }
-        ensures aligns { IfOk result (λ p. (a : ℕ) → a ≢ addr → a ≢ p.of.start → align_at self.new.state a ≡ align_at self.old.state a) }
         ensures room { (count most wide : ℕ) → IsSizedFor SLLEN count most wide self.old.state → live_count self.old.state ≤ count
             → layout.size ≤ most → layout.align ≤ wide → IsOk result }
+        ensures thin { MatchResult result (λ p. IsThinOf self.old.identity layout.align p) (λ p. IsThinOf self.old.identity payload.of.align p) }
+        ensures payload { IfOk result (λ p. IsReallocatedThin self.new.state payload.of layout.size layout.align p.of) }
+        ensures written { IfOk result (λ p. IsWritten p.of) }
+        ensures gone { IfOk result (λ p. (p.of.start ≢ addr) × (align_at self.new.state addr ≡ None)) }
+        ensures others { IfOk result (λ p. LeavesOthers self.old.state self.new.state addr p.of.start) }
+        ensures refused { IfErr result (λ p. (p.of ≡ payload.of) × (self.new.state ≡ self.old.state) × (self.new.memory.bytes ≡ self.old.memory.bytes)) }
+        ensures heap { KeepsHeap SLLEN layout.size layout.align self.old self.new }
         ensures count { live_count self.new.state ≡ live_count self.old.state }
-        ensures bounds { (count most wide : ℕ) → IsSizedFor SLLEN count most wide self.old.state
-            → layout.size ≤ most → layout.align ≤ wide → IsSizedFor SLLEN count most wide self.new.state }
-        ensures chunks { self.new.state.chunks ≡ self.old.state.chunks }
-        ensures same { IfErr result (λ p. self.new.state ≡ self.old.state) }
-        ensures refused { IfErr result (λ p. self.new.memory.bytes ≡ self.old.memory.bytes) }
         ensures touches { self.new.memory.touches ≤ self.old.memory.touches + 66 }
-        ensures grow { self.old.memory.touches ≤ self.new.memory.touches }
         ensures copied { self.new.memory.copied ≡ self.old.memory.copied }
     {
         let (part, ticket) = self.find_part(addr, payload);

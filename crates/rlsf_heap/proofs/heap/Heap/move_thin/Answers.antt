@@ -3,9 +3,8 @@ use Rattle.rlsf_model.specs.Allocate.{Allocates}
 use Rattle.rlsf_model.specs.Callers.{align_at, bytes_at}
 use Rattle.rlsf_model.specs.Reallocate.{Keeps}
 use Rattle.rlsf_model.specs.Sized.{IsSizedFor, live_count}
-use Rattle.rlsf_model.specs.State.{State}
 use Rattle.rlsf_heap.specs.Heap.{HeapView, IsWritten, PayloadView, Steps, payload_view}
-use Rattle.rlsf_heap.proofs.Found.{settled_found}
+use Rattle.rlsf_heap.proofs.Found.{kept_found, settled_found}
 use Rattle.rlsf_heap.proofs.MovedThin.{move_step, new_is_other, others_stay}
 use Rattle.rlsf_heap.proofs.Reallocated.{Keeps-each}
 use Rattle.rlsf_heap.proofs.ThinPayloads.{some_address}
@@ -60,37 +59,24 @@ returns-in_default g c =
     let of_is : c.from_parts.result.of ≡ c.args.payload.of =
     c.from_parts.ensures.1 ∙ (λ i. payload_view c.find_part-part.result.0 (sym t.2 i) c.find_part-part.result.1.name) ∙ c.find_part-part.ensures.parts in
     record {
-      step = subst (λ s. Steps g.row.FLLEN g.row.SLLEN c.allocate.new.self (Allocates g.row.SLLEN s c.args.layout.size c.args.layout.align None)) (ap (λ (v : HeapView).
-          v.state) c.find_part-part.ensures.heap) c.in_default.ensures.step;
-      identity = e.identity ∙ ap (λ (v : HeapView). v.identity) heap;
-      place = (e.place.0 ∙ ap (λ (v : HeapView). v.memory.start) heap, e.place.1 ∙ ap (λ (v : HeapView). length v.memory.bytes) heap);
-      at = c.from_parts.ensures.0 ∙ sym c.requires.some.0 ∙ ap (λ (p : PayloadView). p.start) (sym of_is);
-      some = tt;
-      payload = ap (λ (p : PayloadView). p.identity) of_is ∙ c.requires.heap;
-      align = ap (λ (p : PayloadView). p.align) of_is;
-      back = of_is;
-      live = tt;
-      gone = tt;
-      long = tt;
-      aligned = tt;
-      sized = tt;
-      few = tt;
-      kept = tt;
-      each = tt;
-      written = tt;
-      settled = c.in_default.ensures.settled (settled_found c.args.self.now c.find_part-part.new.self c.find_part-part.ensures.heap c.requires.settled);
-      new = tt;
-      aligns = tt;
+      step = subst (λ s. Steps g.row.FLLEN g.row.SLLEN c.allocate.new.self (Allocates g.row.SLLEN s c.args.layout.size c.args.layout.align None)) state e.step;
       room = λ count most wide sized few short fits.
           absurd (true≢false (sym (e.room count most wide (subst (IsSizedFor g.row.SLLEN count most wide) (sym state) sized) (subst (λ s. live_count s ≤ count) (sym state) few)
           short fits)));
+      thin = record {
+        at = c.from_parts.ensures.0 ∙ sym c.requires.some.0 ∙ ap (λ (p : PayloadView). p.start) (sym of_is);
+        identity = ap (λ (p : PayloadView). p.identity) of_is ∙ c.requires.heap;
+        requested = ap (λ (p : PayloadView). p.align) of_is;
+      };
+      payload = tt;
+      written = tt;
+      gone = tt;
+      others = tt;
+      refused = (of_is, e.same ∙ state, e.refused ∙ ap (λ (v : HeapView). v.memory.bytes) heap);
+      heap = kept_found g.row.SLLEN c.args.layout.size c.args.layout.align c.args.self.now c.find_part-part.new.self c.allocate.new.self heap
+          (record { identity = e.identity; place = e.place; settled = e.settled; bounds = e.bounds; chunks = e.chunks; grow = e.grow });
       count = ap live_count (e.same ∙ state);
-      bounds = λ count most wide sized short fits. e.bounds count most wide (subst (IsSizedFor g.row.SLLEN count most wide) (sym state) sized) short fits;
-      chunks = e.chunks ∙ ap (λ (s : State). s.chunks) state;
-      same = e.same ∙ state;
-      refused = e.refused ∙ ap (λ (v : HeapView). v.memory.bytes) heap;
       touches = omega (arith, e.touches, ap (λ (v : HeapView). v.memory.touches) heap);
-      grow = omega (arith, e.grow, ap (λ (v : HeapView). v.memory.touches) heap);
       copied = e.copied ∙ ap (λ (v : HeapView). v.memory.copied) heap;
     }
 
@@ -114,45 +100,43 @@ returns g c =
     let w = c.copy_front.new.to in
     let is = there g c in
     record {
-      step = move_step g.row.FLLEN g.row.SLLEN c.args.self.now c.find_part-part.new.self c.allocate.new.self c.put_written.new.self c.find_part-part.ensures.heap
-          c.args.layout.size c.args.layout.align c.args.addr c.find_part-part.result.0.start c.in-Some.to.start (from g c) c.in-Some.ensures.step c.put_written.ensures.step
-          c.into_thin.result.of.start (there g c);
-      identity = p.identity ∙ a.identity ∙ ap (λ (v : HeapView). v.identity) heap;
-      place = (
-        p.place.0 ∙ a.place.0 ∙ ap (λ (v : HeapView). v.memory.start) heap,
-        p.place.1 ∙ a.place.1 ∙ ap (λ (v : HeapView). length v.memory.bytes) heap,
-      );
-      at = c.into_thin.ensures.0 ∙ ap (λ (o : PayloadView). o.start) (sym thin);
-      some = λ e. some_address g.row.FLLEN g.row.SLLEN c.allocate.new.self c.find_part-part.new.self.state c.args.layout.size c.args.layout.align c.in-Some.to.start
-          c.in-Some.ensures.step (sym (there g c) ∙ e);
-      payload = ap (λ (o : PayloadView). o.identity) thin ∙ c.as_mut_slice.ensures.identity w ∙ a.payload ∙ ap (λ (v : HeapView). v.identity) heap;
-      align = ap (λ (o : PayloadView). o.align) thin ∙ c.as_mut_slice.ensures.align w ∙ a.align;
-      back = tt;
-      live = ap (align_at c.put_written.new.self.state) (there g c) ∙ c.put_written.ensures.aligns c.in-Some.to.start (λ e. other g c (e ∙ from g c)) ∙ c.in-Some.ensures.live;
-      gone = subst (λ n. align_at c.put_written.new.self.state n ≡ None) (from g c) p.gone;
-      long = ap length (bytes g c) ∙ c.copy_front.ensures.1 ∙ ap length c.as_mut_slice.ensures.value ∙ c.in-Some.ensures.long ∙ ap length (sym (others_stay g.row.FLLEN
-          g.row.SLLEN c.args.self.now c.find_part-part.new.self c.allocate.new.self c.put_written.new.self c.find_part-part.ensures.heap c.args.layout.size c.args.layout.align
-          c.args.addr c.find_part-part.result.0.start c.in-Some.to.start (from g c) c.in-Some.ensures.step c.put_written.ensures.step c.in-Some.to.start (other g c))) ∙ ap
-          (λ a. length (bytes_at c.put_written.new.self.state a)) (sym (there g c));
-      aligned = subst (λ n. n % c.args.layout.align ≡ 0) (sym is) a.aligned;
-      sized = subst (λ n. c.args.layout.size ≤ n) (sym (as_long g c)) a.sized;
-      few = subst (λ n. n < c.args.layout.size + 32) (sym (as_long g c)) a.few;
-      kept = kept g c;
-      each = Keeps-each c.args.payload.of.bytes c.into_thin.result.of.bytes (kept g c);
-      written = subst (λ (o : PayloadView). IsWritten o) (sym thin) (c.as_mut_slice.ensures.written w);
-      settled = c.put_written.ensures.settled (c.in-Some.ensures.settled (settled_found c.args.self.now c.find_part-part.new.self c.find_part-part.ensures.heap
-          c.requires.settled));
-      new = (λ e. other g c (sym is ∙ e), (λ i. align_at (sym state i) (is i)) ∙ a.new);
-      aligns = λ a apart new. c.put_written.ensures.aligns a (λ e. apart (e ∙ from g c)) ∙ c.in-Some.ensures.aligns a (λ e. new (e ∙ sym (there g c))) ∙ ap (λ (v : HeapView).
-          align_at v.state a) c.find_part-part.ensures.heap;
+      step = move_step g.row.FLLEN g.row.SLLEN c.args.self.now c.find_part-part.new.self c.allocate.new.self c.put_written.new.self heap c.args.layout.size
+          c.args.layout.align c.args.addr c.find_part-part.result.0.start c.in-Some.to.start (from g c) a.step p.step c.into_thin.result.of.start is;
       room = λ count most wide sized few short fits. refl;
-      count = omega (arith, p.count, a.count, ap (λ (v : HeapView). live_count v.state) heap);
-      bounds = λ count most wide sized short fits.
-          p.bounds count most wide (a.bounds count most wide (subst (IsSizedFor g.row.SLLEN count most wide) (sym state) sized) short fits);
-      chunks = p.chunks ∙ a.chunks ∙ ap (λ (s : State). s.chunks) state;
-      same = tt;
+      thin = record {
+        at = c.into_thin.ensures.0 ∙ ap (λ (o : PayloadView). o.start) (sym thin);
+        identity = ap (λ (o : PayloadView). o.identity) thin ∙ c.as_mut_slice.ensures.identity w ∙ a.payload ∙ ap (λ (v : HeapView). v.identity) heap;
+        requested = ap (λ (o : PayloadView). o.align) thin ∙ c.as_mut_slice.ensures.align w ∙ a.align;
+      };
+      payload = record {
+        live = ap (align_at c.put_written.new.self.state) is ∙ p.aligns c.in-Some.to.start (λ e. other g c (e ∙ from g c)) ∙ a.live;
+        long = as_long g c ∙ a.long ∙ ap length (sym (others_stay g.row.FLLEN g.row.SLLEN c.args.self.now c.find_part-part.new.self c.allocate.new.self c.put_written.new.self
+            heap c.args.layout.size c.args.layout.align c.args.addr c.find_part-part.result.0.start c.in-Some.to.start (from g c) a.step p.step c.in-Some.to.start (other g c)))
+            ∙ ap (λ n. length (bytes_at c.put_written.new.self.state n)) (sym is);
+        aligned = subst (λ n. n % c.args.layout.align ≡ 0) (sym is) a.aligned;
+        sized = subst (λ n. c.args.layout.size ≤ n) (sym (as_long g c)) a.sized;
+        few = subst (λ n. n < c.args.layout.size + 32) (sym (as_long g c)) a.few;
+        kept = kept g c;
+        each = Keeps-each c.args.payload.of.bytes c.into_thin.result.of.bytes (kept g c);
+      };
+      written = subst (λ (o : PayloadView). IsWritten o) (sym thin) (c.as_mut_slice.ensures.written w);
+      gone = (λ e. other g c (sym is ∙ e), subst (λ n. align_at c.put_written.new.self.state n ≡ None) (from g c) p.gone);
+      others = record {
+        some = λ e. some_address g.row.FLLEN g.row.SLLEN c.allocate.new.self c.find_part-part.new.self.state c.args.layout.size c.args.layout.align c.in-Some.to.start a.step
+            (sym is ∙ e);
+        new = λ _. (λ i. align_at (sym state i) (is i)) ∙ a.new;
+        aligns = λ n apart new. p.aligns n (λ e. apart (e ∙ from g c)) ∙ a.aligns n (λ e. new (e ∙ sym is)) ∙ ap (λ (v : HeapView). align_at v.state n) heap;
+      };
       refused = tt;
+      heap = kept_found g.row.SLLEN c.args.layout.size c.args.layout.align c.args.self.now c.find_part-part.new.self c.put_written.new.self heap (record {
+        identity = p.identity ∙ a.identity;
+        place = (p.place.0 ∙ a.place.0, p.place.1 ∙ a.place.1);
+        settled = λ settled. p.settled (a.settled settled);
+        bounds = λ count most wide sized short fits. p.bounds count most wide (a.bounds count most wide sized short fits);
+        chunks = p.chunks ∙ a.chunks;
+        grow = omega (arith, p.grow, a.grow);
+      });
+      count = omega (arith, p.count, a.count, ap (λ (v : HeapView). live_count v.state) heap);
       touches = omega (arith, p.touches, a.touches, ap (λ (v : HeapView). v.memory.touches) heap);
-      grow = omega (arith, p.grow, a.grow, ap (λ (v : HeapView). v.memory.touches) heap);
       copied = p.copied ∙ a.copied ∙ ap (λ (v : HeapView). v.memory.copied) heap;
     }
