@@ -1,7 +1,8 @@
 //! The blocks that calls leave, by their words in the memory.
 
+use crate::answers::all;
 use crate::locked::{first_wrong, over};
-use crate::steps::{Step, two_pages};
+use crate::steps::{PAGES, Step};
 use rlsf_base::memory::Memory;
 use std::alloc::Global;
 use std::process::Abort;
@@ -52,13 +53,14 @@ fn leave(
     let mut locked = over::<()>(alloc, len)?;
     let step = first_wrong(&mut locked, steps);
     let word = first_wrong_word(locked.memory_ref(), words);
-    assert_eq!(rt; (step, word), (None, None));
+    all(rt, &[step.is_none(), word.is_none()]);
     Ok(())
 }
 
 #[test]
 fn a_chunk_that_grew(rt: HostRuntime) -> Result<(), Fail> {
-    leave(&rt, rt.alloc(), 196608, &two_pages(65584), &GROWN)
+    let (len, steps) = PAGES[0];
+    leave(&rt, rt.alloc(), len, steps, &GROWN)
 }
 
 /// A free block of 64 bytes, a used one of 96 with the word before its payload, a free one of 65344, and the end.

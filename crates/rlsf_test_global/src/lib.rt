@@ -1,10 +1,12 @@
 //! Tests of `rlsf_global` and of `rlsf_journal`. This crate has no other code.
 //!
-//! `steps.rt` has calls as tables, which `locked.rt` and `shared.rt` make. `blocks.rt`, `pages.rt` and `payloads.rt` test the
-//! layout, the source and the bytes. `originals.rt` has the original's random tests, with their tables below. `threads.rt` has
-//! threads, and `journal.rt` the tests of journals.
+//! `answers.rt` has the assertions. `steps.rt` has calls as tables, which `locked.rt` and `shared.rt` make. `blocks.rt`, `pages.rt`
+//! and `payloads.rt` test the layout, the source and the bytes. `originals.rt` has the original's random tests, with their tables
+//! below. `threads.rt` has threads, and `journal.rt` the tests of journals.
 #![tactic(auto)]
 
+#[cfg(test)]
+mod answers;
 #[cfg(test)]
 mod blocks;
 #[cfg(test)]

@@ -1,12 +1,13 @@
 //! Calls of the value under the lock, with what they answer.
 
 use crate::steps::{
-    Call, NO_ROOM, NO_STEP, Step, UNREAD, call_of, counted, done, none_is_wrong, placed, rising,
-    tables, told, two_pages,
+    ALIKE, Call, NO_STEP, PAGES, Run, SMALL_PAGES, Step, UNREAD, call_of, counted, done,
+    none_is_wrong, placed, rising, told,
 };
 use rlsf_base::memory::{Addr, Memory};
 use rlsf_global::{GlobalTlsfOptions, Locked, SmallGlobalTlsfOptions};
 use std::alloc::Global;
+use std::process::Abort;
 use std::test::Fail;
 
 /// What a call answers.
@@ -42,18 +43,18 @@ fn read<Options: GlobalTlsfOptions>(
     told(answer, &all, len)
 }
 
-/// The place of the first step with another result than the one beside it, and its result.
+/// The place of the first step with another result than the one beside it.
 pub fn first_wrong<Options: GlobalTlsfOptions>(
     locked: &mut Locked<Options>,
     steps: &[(Step, usize)],
-) -> Option<(usize, usize)> {
+) -> Option<usize> {
     for (place, (step, wanted)) in steps.iter().enumerate() {
         let answered = match call_of(*step) {
             Some(call) => answer(locked, call),
             None => NO_STEP,
         };
         if answered != *wanted {
-            return Some((place, answered));
+            return Some(place);
         }
     }
     None
@@ -67,37 +68,27 @@ pub fn over<Options: GlobalTlsfOptions>(
     Ok(Locked::new(alloc, Memory::new(alloc, 65536, len)?))
 }
 
-/// As above, for a new allocator over so many bytes.
-fn first_wrong_over<Options: GlobalTlsfOptions>(
+/// Passes if each step of each run has its expected result, with a new allocator for each run.
+fn all_go_so<Options: GlobalTlsfOptions>(
+    rt: &impl Abort,
     alloc: Global,
-    len: usize,
-    steps: &[(Step, usize)],
-) -> Result<Option<(usize, usize)>, Fail> {
-    let mut locked = over::<Options>(alloc, len)?;
-    Ok(first_wrong(&mut locked, steps))
+    runs: &[Run],
+) -> Result<(), Fail> {
+    for (len, steps) in runs {
+        let mut locked = over::<Options>(alloc, *len)?;
+        none_is_wrong(rt, first_wrong(&mut locked, steps));
+    }
+    Ok(())
 }
 
 #[test]
 fn pages_are_taken_as_they_are_needed(rt: HostRuntime) -> Result<(), Fail> {
-    let alloc = rt.alloc();
-    let found = [
-        first_wrong_over::<()>(alloc, 196608, &two_pages(65584))?,
-        first_wrong_over::<()>(alloc, 131072, &two_pages(NO_ROOM))?,
-        first_wrong_over::<SmallGlobalTlsfOptions>(alloc, 196608, &two_pages(131088))?,
-    ];
-    none_is_wrong(&rt, &found);
-    Ok(())
+    all_go_so::<()>(&rt, rt.alloc(), &PAGES)?;
+    all_go_so::<SmallGlobalTlsfOptions>(&rt, rt.alloc(), &SMALL_PAGES)
 }
 
 #[test]
 fn addresses_layouts_and_offsets_are_tested(rt: HostRuntime) -> Result<(), Fail> {
-    let alloc = rt.alloc();
-    for table in tables() {
-        let found = [
-            first_wrong_over::<()>(alloc, 131072, table)?,
-            first_wrong_over::<SmallGlobalTlsfOptions>(alloc, 131072, table)?,
-        ];
-        none_is_wrong(&rt, &found);
-    }
-    Ok(())
+    all_go_so::<()>(&rt, rt.alloc(), &ALIKE)?;
+    all_go_so::<SmallGlobalTlsfOptions>(&rt, rt.alloc(), &ALIKE)
 }

@@ -7,6 +7,7 @@ mod tables;
 
 use self::lists::{LIST_1, LIST_2, LIST_3, LIST_4};
 use self::tables::{PLACED_1, PLACED_2, PLACED_3, PLACED_4};
+use crate::answers::all;
 use rlsf_base::memory::{Addr, Layout, Memory};
 use rlsf_global::{CAlloc, GlobalTlsf, GlobalTlsfOptions, SmallGlobalTlsfOptions};
 use std::alloc::Global;
@@ -231,7 +232,7 @@ fn all_go_so<R: Abort + Wait, Options: GlobalTlsfOptions>(rt: &R, alloc: Global)
         goes_so::<_, Options>(rt, alloc, &LIST_3, &PLACED_3),
         goes_so::<_, Options>(rt, alloc, &LIST_4, &PLACED_4),
     ];
-    assert_eq!(rt; found, [true; 4]);
+    all(rt, &found);
 }
 
 #[test]

@@ -1,9 +1,9 @@
 //! What the page source provides.
 
+use crate::answers::all;
 use rlsf_base::memory::Range;
 use rlsf_flex::FlexSource;
 use rlsf_global::Source;
-use std::process::Abort;
 
 /// The start and the length of a range, or two zeros for none.
 fn numbers(answer: Option<Range>) -> [usize; 2] {
@@ -11,11 +11,6 @@ fn numbers(answer: Option<Range>) -> [usize; 2] {
         Some(range) => [range.start, range.len],
         None => [0, 0],
     }
-}
-
-/// Passes if the ranges are the expected ones.
-fn are(rt: &impl Abort, ranges: &[[usize; 2]], expected: &[[usize; 2]]) {
-    assert_eq!(rt; ranges, expected);
 }
 
 #[test]
@@ -30,11 +25,8 @@ fn whole_pages_from_the_rounded_start(rt: HostRuntime) {
         numbers(source.alloc(65536)),
         numbers(source.alloc(32)),
     ];
-    are(
-        &rt,
-        &ranges,
-        &[[65568, 65536], [0, 0], [131104, 65536], [0, 0]],
-    );
+    let expected = [[65568, 65536], [0, 0], [131104, 65536], [0, 0]];
+    all(&rt, &[ranges == expected]);
 }
 
 #[test]
@@ -48,5 +40,5 @@ fn no_page_in_the_space(rt: HostRuntime) {
         len: 10,
     });
     let ranges = [numbers(short.alloc(32)), numbers(last.alloc(32))];
-    are(&rt, &ranges, &[[0, 0], [0, 0]]);
+    all(&rt, &[ranges == [[0, 0], [0, 0]]]);
 }

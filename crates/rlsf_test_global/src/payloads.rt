@@ -1,10 +1,11 @@
 //! Reads and writes through the locks, at offsets. What is refused changes nothing, and none of them has an entry in a journal.
 
+use crate::answers::all;
 use crate::journal::{agreed, over};
-use crate::steps::done;
+use crate::steps::{done, placed};
 use rlsf_base::memory::{Addr, Layout, Memory};
 use rlsf_global::{GlobalError, GlobalTlsf, GlobalTlsfOptions, SmallGlobalTlsfOptions};
-use rlsf_journal::Journaled;
+use rlsf_journal::{Journaled, Pass};
 use std::alloc::Global;
 use std::num::NonZeroUsize;
 use std::process::Abort;
@@ -147,8 +148,11 @@ fn first_wrong_read(rt: &impl Wait, shared: &impl Shared) -> Option<usize> {
 
 /// Passes if all writes, and then all reads, have their expected results.
 fn are_right(rt: &(impl Wait + Abort), shared: &impl Shared) {
-    assert_eq!(rt; first_wrong_write(rt, shared), None);
-    assert_eq!(rt; first_wrong_read(rt, shared), None);
+    let answers = [
+        first_wrong_write(rt, shared).is_none(),
+        first_wrong_read(rt, shared).is_none(),
+    ];
+    all(rt, &answers);
 }
 
 /// A payload of 48 usable bytes.
@@ -163,7 +167,7 @@ fn are_right_of<Options: GlobalTlsfOptions>(
 ) -> Result<(), Fail> {
     let shared = GlobalTlsf::<Options>::new(alloc, Memory::new(alloc, 65536, 65536)?);
     let addr = shared.alloc(rt, layout())?;
-    assert_eq!(rt; addr.get(), 65552);
+    all(rt, &[addr.get() == 65552]);
     are_right(rt, &shared);
     Ok(())
 }
@@ -174,16 +178,21 @@ fn of_shared_allocators(rt: HostRuntime) -> Result<(), Fail> {
     are_right_of::<SmallGlobalTlsfOptions>(&rt, rt.alloc())
 }
 
+/// The address of a payload that the first caller allocates, or the number of the error; or 0 without a caller.
+fn allocated(rt: &impl Wait, journaled: &Journaled, passes: &mut [Pass]) -> usize {
+    match passes.first_mut() {
+        Some(pass) if pass.caller() < journaled.callers() => {
+            placed(journaled.allocate(rt, pass, layout()))
+        }
+        _ => 0,
+    }
+}
+
 #[test]
 fn of_one_with_a_journal(rt: HostRuntime) -> Result<(), Fail> {
     let (journaled, mut passes) = over(rt.alloc(), 65536, 1)?;
-    let Some(mut pass) = passes.pop() else {
-        return Err(Fail::new("a pass"));
-    };
-    assert!(rt; pass.caller() < journaled.callers());
-    let addr = journaled.allocate(&rt, &mut pass, layout())?;
-    assert_eq!(rt; addr.get(), 65552);
+    all(&rt, &[allocated(&rt, &journaled, &mut passes) == 65552]);
     are_right(&rt, &journaled);
-    agreed(&rt, journaled, vec![in rt.alloc(); pass]?, (1, 1));
+    agreed(&rt, journaled, passes, (1, 1));
     Ok(())
 }

@@ -1,12 +1,13 @@
 //! Calls through the lock, with what they answer.
 
 use crate::steps::{
-    Call, NO_ROOM, NO_STEP, Step, UNREAD, WRONG_LAYOUT, call_of, counted, done, none_is_wrong,
-    placed, rising, tables, told, two_pages,
+    ALIKE, Call, NO_ROOM, NO_STEP, PAGES, Run, SMALL_PAGES, Step, UNREAD, WRONG_LAYOUT, call_of,
+    counted, done, none_is_wrong, placed, rising, told,
 };
 use rlsf_base::memory::{Addr, Memory};
 use rlsf_global::{CAlloc, GlobalTlsf, GlobalTlsfOptions, SmallGlobalTlsfOptions};
 use std::alloc::Global;
+use std::process::Abort;
 use std::sync::Wait;
 use std::test::Fail;
 
@@ -50,71 +51,79 @@ fn read<R: Wait, Options: GlobalTlsfOptions>(
     told(answer, &all, len)
 }
 
-/// The place of the first step with another result than the one beside it, and its result, over so many bytes from 65536 on.
+/// The place of the first step with another result than the one beside it.
 fn first_wrong<R: Wait, Options: GlobalTlsfOptions>(
     rt: &R,
-    alloc: Global,
-    len: usize,
+    shared: &GlobalTlsf<Options>,
     steps: &[(Step, usize)],
-) -> Result<Option<(usize, usize)>, Fail> {
-    let shared = GlobalTlsf::<Options>::new(alloc, Memory::new(alloc, 65536, len)?);
+) -> Option<usize> {
     for (place, (step, wanted)) in steps.iter().enumerate() {
         let answered = match call_of(*step) {
-            Some(call) => answer(rt, &shared, call),
+            Some(call) => answer(rt, shared, call),
             None => NO_STEP,
         };
         if answered != *wanted {
-            return Ok(Some((place, answered)));
+            return Some(place);
         }
     }
-    Ok(None)
+    None
+}
+
+/// Passes if each step of each run has its expected result, with a new allocator for each run.
+fn all_go_so<R: Abort + Wait, Options: GlobalTlsfOptions>(
+    rt: &R,
+    alloc: Global,
+    runs: &[Run],
+) -> Result<(), Fail> {
+    for (len, steps) in runs {
+        let shared = GlobalTlsf::<Options>::new(alloc, Memory::new(alloc, 65536, *len)?);
+        none_is_wrong(rt, first_wrong(rt, &shared, steps));
+    }
+    Ok(())
 }
 
 #[test]
 fn pages_are_taken_as_they_are_needed(rt: HostRuntime) -> Result<(), Fail> {
-    let alloc = rt.alloc();
-    let found = [
-        first_wrong::<_, ()>(&rt, alloc, 196608, &two_pages(65584))?,
-        first_wrong::<_, ()>(&rt, alloc, 131072, &two_pages(NO_ROOM))?,
-        first_wrong::<_, SmallGlobalTlsfOptions>(&rt, alloc, 196608, &two_pages(131088))?,
-    ];
-    none_is_wrong(&rt, &found);
-    Ok(())
+    all_go_so::<_, ()>(&rt, rt.alloc(), &PAGES)?;
+    all_go_so::<_, SmallGlobalTlsfOptions>(&rt, rt.alloc(), &SMALL_PAGES)
 }
 
 #[test]
 fn addresses_layouts_and_offsets_are_tested(rt: HostRuntime) -> Result<(), Fail> {
-    let alloc = rt.alloc();
-    for table in tables() {
-        let found = [
-            first_wrong::<_, ()>(&rt, alloc, 131072, table)?,
-            first_wrong::<_, SmallGlobalTlsfOptions>(&rt, alloc, 131072, table)?,
-        ];
-        none_is_wrong(&rt, &found);
-    }
-    Ok(())
+    all_go_so::<_, ()>(&rt, rt.alloc(), &ALIKE)?;
+    all_go_so::<_, SmallGlobalTlsfOptions>(&rt, rt.alloc(), &ALIKE)
 }
 
-/// A payload that gets shorter, and is at this address then.
-fn shortened(to: usize) -> [(Step, usize); 7] {
-    [
+/// A payload that gets shorter, and stays at its address.
+static STAYS: [Run; 1] = [(
+    131072,
+    &[
         (Step::Alloc(40, 8), 65552),
         (Step::Write(65552, 0, 40), 0),
-        (Step::Realloc(65552, 40, 8, 20), to),
-        (Step::Read(to, 0, 20), 0),
-        (Step::Realloc(to, 40, 8, 20), WRONG_LAYOUT),
-        (Step::Realloc(to, 20, 8, 200000), NO_ROOM),
-        (Step::Dealloc(to, 20, 8), 0),
-    ]
-}
+        (Step::Realloc(65552, 40, 8, 20), 65552),
+        (Step::Read(65552, 0, 20), 0),
+        (Step::Realloc(65552, 40, 8, 20), WRONG_LAYOUT),
+        (Step::Realloc(65552, 20, 8, 200000), NO_ROOM),
+        (Step::Dealloc(65552, 20, 8), 0),
+    ],
+)];
+
+/// A payload that gets shorter, and moves.
+static MOVES: [Run; 1] = [(
+    131072,
+    &[
+        (Step::Alloc(40, 8), 65552),
+        (Step::Write(65552, 0, 40), 0),
+        (Step::Realloc(65552, 40, 8, 20), 65616),
+        (Step::Read(65616, 0, 20), 0),
+        (Step::Realloc(65616, 40, 8, 20), WRONG_LAYOUT),
+        (Step::Realloc(65616, 20, 8, 200000), NO_ROOM),
+        (Step::Dealloc(65616, 20, 8), 0),
+    ],
+)];
 
 #[test]
 fn a_shorter_payload_stays_if_that_is_enabled(rt: HostRuntime) -> Result<(), Fail> {
-    let alloc = rt.alloc();
-    let found = [
-        first_wrong::<_, ()>(&rt, alloc, 131072, &shortened(65552))?,
-        first_wrong::<_, SmallGlobalTlsfOptions>(&rt, alloc, 131072, &shortened(65616))?,
-    ];
-    none_is_wrong(&rt, &found);
-    Ok(())
+    all_go_so::<_, ()>(&rt, rt.alloc(), &STAYS)?;
+    all_go_so::<_, SmallGlobalTlsfOptions>(&rt, rt.alloc(), &MOVES)
 }

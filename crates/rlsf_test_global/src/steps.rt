@@ -3,6 +3,7 @@
 
 ghost use Rattle.rlsf_base.specs.Layout.{IsLayout};
 
+use crate::answers::{all, passes};
 use rlsf_base::memory::{Addr, Layout};
 use rlsf_global::GlobalError;
 use std::num::NonZeroUsize;
@@ -157,10 +158,10 @@ pub const WRONG_LAYOUT: usize = GlobalError::WrongLayout as usize;
 
 const OUT_OF_RANGE: usize = GlobalError::OutOfRange as usize;
 
-/// Passes if no step has another result in any of the runs. Otherwise the failure shows the step and its result.
-pub fn none_is_wrong(rt: &impl Abort, found: &[Option<(usize, usize)>]) {
-    for (index, wrong) in found.iter().enumerate() {
-        assert_eq!(rt; *wrong, None, "in the run at {index}");
+/// Passes if no step has another result. Otherwise the failure shows the step.
+pub fn none_is_wrong(rt: &impl Abort, wrong: Option<usize>) {
+    if let Some(step) = wrong {
+        passes(rt, false, step);
     }
 }
 
@@ -174,16 +175,52 @@ fn errors_have_their_numbers(rt: HostRuntime) {
         OUT_OF_RANGE,
         GlobalError::JournalMemory as usize,
     ];
-    assert_eq!(rt; numbers, [1, 2, 3, 4, 5, 6]);
+    all(&rt, &[numbers == [1, 2, 3, 4, 5, 6]]);
 }
 
-/// Calls with what they answer, over 131072 bytes from 65536 on. Both kinds answer them alike.
-pub fn tables() -> [&'static [(Step, usize)]; 7] {
-    [&FREED, &WRITES, &READS, &MOVES, &STAYS, &SHRINKS, &ASKED]
-}
+/// How many bytes an allocator has, from 65536 on, and calls with their results.
+pub type Run = (usize, &'static [(Step, usize)]);
+
+/// Runs that both kinds of allocators have.
+pub static ALIKE: [Run; 7] = [
+    (131072, &FREED),
+    (131072, &WRITES),
+    (131072, &READS),
+    (131072, &MOVES),
+    (131072, &STAYS),
+    (131072, &SHRINKS),
+    (131072, &ASKED),
+];
+
+/// Two allocations, the second of which needs another page. One that coalesces joins it with the first, if it is there.
+pub static PAGES: [Run; 2] = [
+    (
+        196608,
+        &[
+            (Step::Allocate(1, 1), 65552),
+            (Step::Allocate(70000, 1), 65584),
+        ],
+    ),
+    (
+        131072,
+        &[
+            (Step::Allocate(1, 1), 65552),
+            (Step::Allocate(70000, 1), NO_ROOM),
+        ],
+    ),
+];
+
+/// The same of one that doesn't coalesce.
+pub static SMALL_PAGES: [Run; 1] = [(
+    196608,
+    &[
+        (Step::Allocate(1, 1), 65552),
+        (Step::Allocate(70000, 1), 131088),
+    ],
+)];
 
 /// An address that is strange, one that was freed, and one that was freed and provided again, which is live then.
-static FREED: [(Step, usize); 15] = [
+const FREED: [(Step, usize); 15] = [
     (Step::Allocate(1, 1), 65552),
     (Step::Deallocate(65552), 0),
     (Step::Deallocate(65552), UNKNOWN_ADDRESS),
@@ -202,7 +239,7 @@ static FREED: [(Step, usize); 15] = [
 ];
 
 /// Bytes past the usable ones, and a layout that wasn't asked for.
-static WRITES: [(Step, usize); 6] = [
+const WRITES: [(Step, usize); 6] = [
     (Step::Allocate(1, 1), 65552),
     (Step::Write(65552, 10, 7), OUT_OF_RANGE),
     (Step::Write(65552, 10, 6), 0),
@@ -211,7 +248,7 @@ static WRITES: [(Step, usize); 6] = [
     (Step::Dealloc(65552, 1, 1), 0),
 ];
 
-static READS: [(Step, usize); 6] = [
+const READS: [(Step, usize); 6] = [
     (Step::Allocate(1, 1), 65552),
     (Step::Read(65552, 16, 0), 0),
     (Step::Read(65552, 17, 0), OUT_OF_RANGE),
@@ -221,7 +258,7 @@ static READS: [(Step, usize); 6] = [
 ];
 
 /// A payload that gets another alignment moves, and its old address isn't live any more.
-static MOVES: [(Step, usize); 8] = [
+const MOVES: [(Step, usize); 8] = [
     (Step::Allocate(40, 8), 65552),
     (Step::Write(65552, 0, 40), 0),
     (Step::Reallocate(65552, 10, 64), 65664),
@@ -233,7 +270,7 @@ static MOVES: [(Step, usize); 8] = [
 ];
 
 /// The layout that counts is the one that was last asked for.
-static STAYS: [(Step, usize); 4] = [
+const STAYS: [(Step, usize); 4] = [
     (Step::Alloc(40, 8), 65552),
     (Step::NoMove(65552, 40, 8, 100), 65552),
     (Step::NoMove(65552, 40, 8, 20), WRONG_LAYOUT),
@@ -242,7 +279,7 @@ static STAYS: [(Step, usize); 4] = [
 
 /// A payload that gets shorter in place: fewer bytes are usable, the next payload lies behind them, and the other bytes are
 /// unchanged.
-static SHRINKS: [(Step, usize); 11] = [
+const SHRINKS: [(Step, usize); 11] = [
     (Step::Alloc(100, 8), 65552),
     (Step::Usable(65552), 112),
     (Step::Write(65552, 0, 40), 0),
@@ -257,7 +294,7 @@ static SHRINKS: [(Step, usize); 11] = [
 ];
 
 /// A payload is freed by the layout with which it was allocated.
-static ASKED: [(Step, usize); 6] = [
+const ASKED: [(Step, usize); 6] = [
     (Step::Alloc(40, 8), 65552),
     (Step::Usable(65552), 48),
     (Step::Dealloc(65552, 41, 8), WRONG_LAYOUT),
@@ -265,11 +302,3 @@ static ASKED: [(Step, usize); 6] = [
     (Step::Dealloc(65552, 40, 8), 0),
     (Step::Usable(65552), UNKNOWN_ADDRESS),
 ];
-
-/// Two allocations, the second of which needs another page.
-pub fn two_pages(second: usize) -> [(Step, usize); 2] {
-    [
-        (Step::Allocate(1, 1), 65552),
-        (Step::Allocate(70000, 1), second),
-    ]
-}

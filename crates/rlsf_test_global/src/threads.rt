@@ -1,5 +1,6 @@
 //! Two threads over one allocator.
 
+use crate::answers::all;
 use rlsf_base::memory::{Addr, Layout, Memory};
 use rlsf_global::{CAlloc, GlobalTlsf, GlobalTlsfOptions, SmallGlobalTlsfOptions};
 use std::alloc::Global;
@@ -93,6 +94,7 @@ fn fill_and_read_back(rt: HostRuntime) -> Result<(), Fail> {
     let coalescing = of_two::<_, ()>(&rt, rt.alloc())?;
     let small = of_two::<_, SmallGlobalTlsfOptions>(&rt, rt.alloc())?;
     // Nothing is live behind them, so one free block has nearly the complete page.
-    assert_eq!(rt; [coalescing, small], [(ROUNDS, ROUNDS, Some(65552)); 2]);
+    let expected = (ROUNDS, ROUNDS, Some(65552));
+    all(&rt, &[coalescing == expected, small == expected]);
     Ok(())
 }

@@ -1,5 +1,6 @@
 //! Calls under the passes of several callers on one thread, and what closing finds.
 
+use crate::answers::all;
 use rlsf_base::memory::{Addr, Layout, Memory};
 use rlsf_global::GlobalError;
 use rlsf_journal::{Call, CloseError, Closed, Journaled, Pass};
@@ -130,7 +131,7 @@ fn after_steps(
 ) -> Result<(Journaled, Vec<Pass>), Fail> {
     let (journaled, mut passes) = over(alloc, case.len, case.callers)?;
     let wrong = first_wrong(rt, &journaled, &mut passes, case.steps);
-    assert_eq!(rt; wrong, None);
+    all(rt, &[wrong.is_none()]);
     Ok((journaled, passes))
 }
 
@@ -142,19 +143,24 @@ pub fn agreed(
     counts: (usize, usize),
 ) -> Closed {
     let closed = journaled.close(passes).ok().expect(rt, "the passes agree");
-    assert_eq!(rt; (closed.journal.len(), closed.live.len()), counts);
+    let (entries, live) = counts;
+    all(
+        rt,
+        &[closed.journal.len() == entries, closed.live.len() == live],
+    );
     closed
 }
 
 /// Passes if a case has its expected result.
 fn is_right(rt: &(impl Wait + Abort), alloc: Global, case: Case) -> Result<(), Fail> {
     let (journaled, mut passes) = after_steps(rt, alloc, case)?;
-    assert!(rt; have_receipts(&passes, case.receipts));
+    let received = have_receipts(&passes, case.receipts);
     if case.last_first {
         passes.reverse();
     }
     let closed = agreed(rt, journaled, passes, case.counts);
-    assert_eq!(rt; closed.to_string(alloc)?.as_str(), case.text);
+    let text = closed.to_string(alloc)?;
+    all(rt, &[received, text.as_str() == case.text]);
     Ok(())
 }
 
@@ -308,7 +314,7 @@ static FAULTS: [(&[Handed], usize); 5] = [
 #[test]
 fn faults_come_in_their_order(rt: HostRuntime) -> Result<(), Fail> {
     for (handed, error) in &FAULTS {
-        assert_eq!(rt; closing(&rt, rt.alloc(), handed)?, *error);
+        all(&rt, &[closing(&rt, rt.alloc(), handed)? == *error]);
     }
     Ok(())
 }
@@ -317,6 +323,6 @@ fn faults_come_in_their_order(rt: HostRuntime) -> Result<(), Fail> {
 fn too_many_callers(rt: HostRuntime) -> Result<(), Fail> {
     let memory = Memory::new(rt.alloc(), 65536, 65536)?;
     let refused = Journaled::new(rt.alloc(), memory, usize::MAX).err();
-    assert_eq!(rt; refused, Some(GlobalError::JournalMemory));
+    all(&rt, &[refused == Some(GlobalError::JournalMemory)]);
     Ok(())
 }

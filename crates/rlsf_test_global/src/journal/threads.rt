@@ -1,6 +1,7 @@
 //! Callers in threads.
 
 use super::calls::{agreed, over};
+use crate::answers::all;
 use rlsf_base::memory::Layout;
 use rlsf_global::GlobalError;
 use rlsf_journal::{Closed, Journaled, Pass};
@@ -95,17 +96,18 @@ fn two_callers(rt: HostRuntime) -> Result<(), Fail> {
     let (Some(second), Some(first)) = (passes.pop(), passes.pop()) else {
         return Err(Fail::new("two passes"));
     };
-    let (left, right) = visits(&rt, &journaled, first, second);
-    let (own, other) = (numbers(&left.0), numbers(&right.0));
-    assert!(rt; left.1 && right.1);
-    let closed = agreed(
-        &rt,
-        journaled,
-        vec![in rt.alloc(); left.0, right.0]?,
-        (4, 0),
-    );
-    let callers = [callers_of(&closed, own), callers_of(&closed, other)];
-    assert_eq!(rt; callers, [[0, 0], [1, 1]]);
+    let ((first, left), (second, right)) = visits(&rt, &journaled, first, second);
+    let (own, other) = (numbers(&first), numbers(&second));
+    passes.push(first)?;
+    passes.push(second)?;
+    let closed = agreed(&rt, journaled, passes, (4, 0));
+    let answers = [
+        left,
+        right,
+        callers_of(&closed, own) == [0, 0],
+        callers_of(&closed, other) == [1, 1],
+    ];
+    all(&rt, &answers);
     Ok(())
 }
 
@@ -145,8 +147,8 @@ fn eight_callers(rt: HostRuntime) -> Result<(), Fail> {
     let (journaled, passes) = over(rt.alloc(), 196608, 8)?;
     let done = thread::map_vec(&rt, passes, &|pass| rounds(&rt, &journaled, pass))?;
     let mut passes = Vec::new(rt.alloc());
-    for (pass, all) in done {
-        assert!(rt; all);
+    for (pass, same) in done {
+        all(&rt, &[same]);
         passes.push(pass)?;
     }
     agreed(&rt, journaled, passes, (24000, 0));
