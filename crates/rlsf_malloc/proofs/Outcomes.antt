@@ -1,5 +1,5 @@
 -- What the calls of a heap come to, as the exports say it.
-use Rattle.std.proofs.Common.{◌≡◌, ◌≢◌, ℕ, zero, suc, ◌+◌, ◌-◌, ◌%◌, ◌<◌, ◌≤◌, length, List, [], Option, Some, None, arith, refl, sym, subst, ◌∙◌, ap, true}
+use Rattle.std.proofs.Common.{◌≡◌, ◌≢◌, ℕ, zero, suc, ◌+◌, ◌-◌, length, List, [], Option, Some, None, arith, refl, sym, subst, ◌∙◌, ap, true}
 use denote.RawPtr.{Ptr}
 use Rattle.rlsf_base.specs.OpenSpace.{home_of, place_in}
 use Rattle.rlsf_base.specs.Changes.{IsAllOwn, IsIn}
@@ -9,7 +9,7 @@ use Rattle.rlsf_base.specs.Range.{AreApart}
 use Rattle.rlsf_base.specs.Space.{Space}
 use Rattle.rlsf_base.specs.declared.memory.range.Range.{Range}
 use Rattle.rlsf_model.specs.Allocate as machine
-use Rattle.rlsf_model.specs.Callers.{align_at, bytes_at}
+use Rattle.rlsf_model.specs.Callers.{align_at}
 use Rattle.rlsf_model.specs.Insert.{Inserts, IsUntouched}
 use Rattle.rlsf_model.specs.Release.{Deallocates}
 use Rattle.rlsf_model.specs.Sized.{live_count}
@@ -17,6 +17,7 @@ use Rattle.rlsf_model.specs.State.{State}
 use Rattle.rlsf_heap.specs.Heap.{HeapView, IsWritten, PayloadView, Steps}
 use Rattle.rlsf_heap.specs.Settled.{IsSettled}
 use Rattle.rlsf_heap.specs.Thin.{reply_of}
+use Rattle.rlsf_heap.specs.ThinReplies.{AllocationLeaves, IsAllocatedThin, KeepsHeap}
 use Rattle.rlsf_malloc.specs.Calls.{Adds, Allocates, Frees, IsFresh, IsOver, IsReady, IsSameHeap}
 
 -- a step leads to the state after
@@ -58,26 +59,29 @@ fresh p start bytes m v is its_start its_bytes lies = record {
   ready = is.ready;
 }
 
-module _ (fllen sllen : ℕ) (old new : HeapView) (same : IsSameHeap old new) where
-  pub allocated : (size align : ℕ) (p : PayloadView) → IsLayout size align → Steps fllen sllen new (machine.Allocates sllen old.state size align (reply_of p.start))
-      → (p.start ≢ 0 → IsWritten p) → (p.start ≢ 0 → p.identity ≡ old.identity) → (p.start ≢ 0 → align_at new.state p.start ≡ Some align)
-      → (p.start ≢ 0 → p.align ≡ align) → (p.start ≢ 0 → length p.bytes ≡ length (bytes_at new.state p.start)) → (p.start ≢ 0 → p.start % align ≡ 0)
-      → (p.start ≢ 0 → size ≤ length p.bytes) → (p.start ≢ 0 → length p.bytes < size + 32) → (p.start ≢ 0 → align_at old.state p.start ≡ None)
-      → ((a : ℕ) → a ≢ p.start → align_at new.state a ≡ align_at old.state a) → (p.start ≢ 0 → live_count new.state ≡ live_count old.state + 1)
-      → new.state.chunks ≡ old.state.chunks → (p.start ≡ 0 → new.state ≡ old.state) → Allocates sllen old size align p new
-  allocated size align p layout step written heap live requested long aligned sized few fresh aligns count chunks unchanged = record {
-    no_layout = λ never. absurd (never layout);
-    step = λ l. step_of fllen sllen new (machine.Allocates sllen old.state size align (reply_of p.start)) step;
-    heap = same;
-    at = record { start = refl; heap = λ some. heap some ∙ sym same.identity; written = written };
-    new = fresh;
-    sized = λ some. record { live = live some; requested = requested some; aligned = aligned some; sized = sized some; few = few some; long = long some };
-    aligns = aligns;
-    count = count;
-    chunks = chunks;
-    same = unchanged;
-  }
+-- a heap that is kept is the same one
+pub kept_heap : {sllen size align : ℕ} {old new : HeapView} → KeepsHeap sllen size align old new → IsReady old → IsSameHeap old new
+kept_heap {old = old} {new = new} kept ready = same_heap old new kept.identity kept.place (kept.settled ready)
 
+pub allocated : (fllen sllen : ℕ) (old new : HeapView) (size align : ℕ) (p : PayloadView) → IsReady old → IsLayout size align
+    → Steps fllen sllen new (machine.Allocates sllen old.state size align (reply_of p.start)) → (p.start ≢ 0 → IsWritten p)
+    → (p.start ≢ 0 → IsAllocatedThin old new size align p) → KeepsHeap sllen size align old new → AllocationLeaves sllen size align old new p.start
+    → Allocates sllen old size align p new
+allocated fllen sllen old new size align p ready layout step written made heap leaves = record {
+  no_layout = λ never. absurd (never layout);
+  step = λ l. step_of fllen sllen new (machine.Allocates sllen old.state size align (reply_of p.start)) step;
+  heap = kept_heap heap ready;
+  at = record { start = refl; heap = λ some. (made some).identity ∙ sym heap.identity; written = written };
+  new = λ some. (made some).new;
+  sized = λ some. let m = made some in
+      record { live = m.live; requested = m.requested; aligned = m.aligned; sized = m.sized; few = m.few; long = m.long };
+  aligns = leaves.aligns;
+  count = λ some. (made some).count;
+  chunks = heap.chunks;
+  same = leaves.same;
+}
+
+module _ (fllen sllen : ℕ) (old new : HeapView) (same : IsSameHeap old new) where
   pub freed : (addr : ℕ) (p : PayloadView) → p.start ≡ addr → addr ≢ 0 → Steps fllen sllen new (Deallocates old.state addr)
       → align_at old.state addr ≡ Some p.align → align_at new.state addr ≡ None → ((a : ℕ) → a ≢ addr → align_at new.state a ≡ align_at old.state a)
       → live_count old.state ≡ live_count new.state + 1 → new.state.chunks ≡ old.state.chunks → Frees old addr p new

@@ -1,15 +1,16 @@
 -- What the reallocations of a heap come to, as the exports say it.
-use Rattle.std.proofs.Common.{◌≡◌, ◌≢◌, ℕ, ◌+◌, ◌%◌, ◌<◌, ◌≤◌, length, map, Some, None, arith, refl, sym, subst, ◌∙◌, ap}
+use Rattle.std.proofs.Common.{◌≡◌, ◌≢◌, ℕ, ◌<◌, length, map, Some, None, arith, refl, sym, subst, ◌∙◌, ap}
 use Rattle.rlsf_base.specs.Layout.{IsLayout}
-use Rattle.rlsf_model.specs.Callers.{align_at, bytes_at}
+use Rattle.rlsf_model.specs.Callers.{align_at}
 use Rattle.rlsf_model.specs.NoMove.{ReallocatesWithoutMove}
-use Rattle.rlsf_model.specs.Reallocate.{Keeps, Reallocates}
+use Rattle.rlsf_model.specs.Reallocate.{Reallocates}
 use Rattle.rlsf_model.specs.Sized.{live_count}
 use Rattle.rlsf_model.specs.State.{AreAlike, State, shape_of}
 use Rattle.rlsf_heap.specs.Heap.{HeapView, IsWritten, PayloadView}
 use Rattle.rlsf_heap.specs.Reallocation.{owned_by}
 use Rattle.rlsf_heap.specs.Thin.{reply_of}
-use Rattle.rlsf_heap.specs.ThinReplies.{MovesElsewhere}
+use Rattle.rlsf_heap.specs.ThinReplies.{IsReallocatedThin, IsRefusedThin, IsThinOf, LeavesOthers, MovesElsewhere}
+use Rattle.rlsf_heap.specs.declared.thin.ThinPayload.{ThinPayload}
 use Rattle.rlsf_malloc.specs.Calls.{IsSameHeap}
 use Rattle.rlsf_malloc.specs.Resizing.{IsRefused, IsResized, Resizes, ResizesThere, ResizesWide}
 use Rattle.rlsf_malloc.proofs.Outcomes.{reply_some}
@@ -20,26 +21,30 @@ are_alike s t e = record { chunks = ap (λ (r : State). r.chunks) (sym e); used 
 
 module _ (old new : HeapView) (same : IsSameHeap old new) (p : PayloadView) (addr : ℕ) (at : p.start ≡ addr) (some : addr ≢ 0) (size : ℕ) where
   -- the payload has its new size
-  pub is_resized : (align : ℕ) (q : PayloadView) → q.identity ≡ old.identity → q.align ≡ align → IsWritten q → align_at new.state q.start ≡ Some align
-      → length q.bytes ≡ length (bytes_at new.state q.start) → q.start % align ≡ 0 → size ≤ length q.bytes → length q.bytes < size + 32
-      → Keeps p.bytes q.bytes → (q.start ≢ addr → align_at old.state q.start ≡ None) → (q.start ≢ addr → align_at new.state addr ≡ None)
-      → ((a : ℕ) → a ≢ addr → a ≢ q.start → align_at new.state a ≡ align_at old.state a) → IsResized old p size align q new
-  is_resized align q heap requested written live long aligned sized few kept fresh gone aligns = record {
-    at = record { start = refl; heap = λ _. heap ∙ sym same.identity; written = λ _. written };
-    sized = record { live = live; requested = requested; aligned = aligned; sized = sized; few = few; long = long };
-    held = kept;
-    new = λ apart. fresh (λ e. apart (e ∙ sym at));
+  pub is_resized : (align : ℕ) (r : ThinPayload) → IsThinOf old.identity align r → IsReallocatedThin new.state p size align r.of → IsWritten r.of
+      → LeavesOthers old.state new.state addr r.of.start → (r.of.start ≢ addr → align_at new.state addr ≡ None) → IsResized old p size align r.of new
+  is_resized align r thin made written others gone = record {
+    at = record { start = refl; heap = λ _. thin.identity ∙ sym same.identity; written = λ _. written };
+    sized = record { live = made.live; requested = thin.requested; aligned = made.aligned; sized = made.sized; few = made.few; long = made.long };
+    held = made.kept;
+    new = λ apart. others.new (λ e. apart (e ∙ sym at));
     gone = λ apart. subst (λ (n : ℕ). align_at new.state n ≡ None) (sym at) (gone (λ e. apart (e ∙ sym at)));
-    aligns = λ a off off_new. aligns a (λ e. off (e ∙ sym at)) off_new;
+    aligns = λ a off off_new. others.aligns a (λ e. off (e ∙ sym at)) off_new;
   }
 
   -- it is as it was
-  pub is_refused : (q : PayloadView) → q.identity ≡ p.identity → q.align ≡ p.align → q.start ≡ addr → q.bytes ≡ p.bytes → IsWritten q
-      → AreAlike old.state new.state → align_at new.state ≡ align_at old.state → IsRefused old p q new
-  is_refused q heap align start bytes written alike aligns = record {
-    kept = record { heap = heap; start = start ∙ sym at; align = align; bytes = bytes; written = written };
-    alike = alike;
-    aligns = aligns;
+  pub is_refused : (align : ℕ) (r : ThinPayload) → p.identity ≡ old.identity → p.align ≡ align → IsThinOf old.identity align r
+      → IsRefusedThin old.state new.state addr p r.of → IsRefused old p r.of new
+  is_refused align r heap wide thin refused = record {
+    kept = record {
+      heap = thin.identity ∙ sym heap;
+      start = refused.start ∙ sym at;
+      align = thin.requested ∙ sym wide;
+      bytes = refused.bytes;
+      written = refused.written;
+    };
+    alike = refused.alike;
+    aligns = refused.aligns;
   }
 
   module _ (sllen align : ℕ) where

@@ -1,6 +1,6 @@
 use Rattle.std.proofs.Common.{sym, ◌∙◌, subst}
 use Rattle.rlsf_malloc.specs.Calls.{Allocates}
-use Rattle.rlsf_malloc.proofs.Outcomes.{allocated, same_heap}
+use Rattle.rlsf_malloc.proofs.Outcomes.{allocated}
 use Rattle.rlsf_malloc.proofs.TooLong.{refused}
 use Rattle.rlsf_malloc.proofs.calls.allocate_for.Goals as goal
 
@@ -9,11 +9,12 @@ returns-in-Ok g c =
     let sllen = g.row.SLLEN in let old = c.args.heap.now in let new = c.allocate_thin.new.self in let p = c.allocate_thin.result.of in
     let did = c.allocate_thin.ensures in let layout = c.in-Ok.layout in
     let done : Allocates sllen old layout.size layout.align p new =
-    allocated g.row.FLLEN sllen old new (same_heap old new did.identity did.place (did.settled c.requires)) layout.size layout.align p layout.valid did.step
-    (did.written c.requires) did.payload did.live did.align did.long did.aligned did.sized did.few did.new did.aligns did.count did.chunks did.same in
+    allocated g.row.FLLEN sllen old new layout.size layout.align p c.requires layout.valid did.step (did.written c.requires) did.payload did.heap did.leaves in
     (did.at, subst (λ s. Allocates sllen old s c.args.align p new) c.in-Ok.ensures.layout.0 (subst (λ a. Allocates sllen old layout.size a p new) c.in-Ok.ensures.layout.1 done))
 
 pub returns-then-not-may_fit : goal.returns-then-not-may_fit
 returns-then-not-may_fit g c =
     let p = c.none.result.of in
-    (c.none.ensures.0 ∙ sym c.none.ensures.1, refused g.row.FLLEN g.row.SLLEN c.args.heap.now c.memory_ref.ensures.stands c.args.size c.args.align (c.may_fit.ensures c.if-not-may_fit.true) p c.none.ensures.1 c.requires)
+    let long = c.may_fit.ensures c.if-not-may_fit.true in
+    let none = refused g.row.FLLEN g.row.SLLEN c.args.heap.now c.memory_ref.ensures.stands c.args.size c.args.align long p c.none.ensures.1 c.requires in
+    (c.none.ensures.0 ∙ sym c.none.ensures.1, none)

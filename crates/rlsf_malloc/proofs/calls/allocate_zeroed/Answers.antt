@@ -1,6 +1,6 @@
 use Rattle.std.proofs.Common.{◌∙◌, subst}
 use Rattle.rlsf_malloc.specs.Calls.{Allocates}
-use Rattle.rlsf_malloc.proofs.Outcomes.{allocated, same_heap}
+use Rattle.rlsf_malloc.proofs.Outcomes.{allocated}
 use Rattle.rlsf_malloc.proofs.calls.allocate_zeroed.Goals as goal
 
 pub returns-in-Ok : goal.returns-in-Ok
@@ -8,8 +8,7 @@ returns-in-Ok g c =
     let sllen = g.row.SLLEN in let old = c.args.heap.now in let new = c.allocate_thin_zeroed.new.self in let p = c.allocate_thin_zeroed.result.of in
     let did = c.allocate_thin_zeroed.ensures in let layout = c.in-Ok.layout in
     let done : Allocates sllen old layout.size layout.align p new =
-    allocated g.row.FLLEN sllen old new (same_heap old new did.identity did.place (did.settled c.requires)) layout.size layout.align p layout.valid did.step
-    did.written did.payload did.live did.align did.long did.aligned did.sized did.few did.new did.aligns did.count did.chunks did.same in (
+    allocated g.row.FLLEN sllen old new layout.size layout.align p c.requires layout.valid did.step did.written did.payload did.heap did.leaves in (
       did.at,
       record {
         allocates = subst (λ s. Allocates sllen old s 16 p new) (c.in-Ok.ensures.layout.0 ∙ c.in-Some.ensures.1)
