@@ -1,8 +1,7 @@
 //! The calls of `Heap` that a `SharedHeap` makes, first on the heap and then through the lock.
-ghost use Rattle.std.specs.Prelude.{◌≡◌, ◌+◌, ◌%◌, ◌<◌, ◌≤◌, length, replicate, IfErr, IfOk, IfSome, MatchResult};
-ghost use Rattle.rlsf_model.specs.Reallocate.{Keeps};
+ghost use Rattle.std.specs.Prelude.{◌≡◌, ◌+◌, ◌%◌, ◌<◌, ◌≤◌, length, replicate, IfSome};
 ghost use Rattle.rlsf_heap.specs.Heap.{IsWritten};
-ghost use Rattle.rlsf_heap.specs.Reallocation.{IsKeptHere};
+ghost use Rattle.rlsf_shared_heap.specs.Reallocation.{IsReallocation};
 
 use crate::held::{Held, Identified, Named};
 use crate::lock::{Lock, open};
@@ -39,15 +38,7 @@ pub(crate) trait Calls: Identified {
         requires own { payload.identity ≡ Self.identity self.old }
         requires written { IsWritten payload }
         ensures identity { Self.identity self.new ≡ Self.identity self.old }
-        ensures payload { MatchResult result (λ p. p.identity ≡ Self.identity self.old) (λ p. p.identity ≡ Self.identity self.old) }
-        ensures align { MatchResult result (λ p. p.align ≡ payload.align) (λ p. p.align ≡ payload.align) }
-        ensures aligned { IfOk result (λ p. p.start % payload.align ≡ 0) }
-        ensures sized { IfOk result (λ p. size ≤ length p.bytes) }
-        ensures few { IfOk result (λ p. length p.bytes < size + 32) }
-        ensures kept { IfOk result (λ p. Keeps payload.bytes p.bytes) }
-        ensures here { IfOk result (λ p. IsKeptHere payload p) }
-        ensures shrunk { IfOk result (λ p. length p.bytes ≤ length payload.bytes → IsWritten p) }
-        ensures back { IfErr result (λ p. (p.start ≡ payload.start) × (p.bytes ≡ payload.bytes) × IsWritten p) };
+        ensures reply { IsReallocation (Self.identity self.old) payload size result };
 }
 
 impl<FLBitmap: BitPattern, SLBitmap: BitPattern, const FLLEN: usize, const SLLEN: usize> Calls
@@ -101,15 +92,7 @@ impl<T: Calls, Name: Named> Held<T, Name> {
     fn reallocate(&mut self, payload: Payload, size: usize) -> Result<Payload, Payload>
         requires own { payload.identity ≡ Name.name }
         requires written { IsWritten payload }
-        ensures payload { MatchResult result (λ p. p.identity ≡ Name.name) (λ p. p.identity ≡ Name.name) }
-        ensures align { MatchResult result (λ p. p.align ≡ payload.align) (λ p. p.align ≡ payload.align) }
-        ensures aligned { IfOk result (λ p. p.start % payload.align ≡ 0) }
-        ensures sized { IfOk result (λ p. size ≤ length p.bytes) }
-        ensures few { IfOk result (λ p. length p.bytes < size + 32) }
-        ensures kept { IfOk result (λ p. Keeps payload.bytes p.bytes) }
-        ensures here { IfOk result (λ p. IsKeptHere payload p) }
-        ensures shrunk { IfOk result (λ p. length p.bytes ≤ length payload.bytes → IsWritten p) }
-        ensures back { IfErr result (λ p. (p.start ≡ payload.start) × (p.bytes ≡ payload.bytes) × IsWritten p) }
+        ensures reply { IsReallocation Name.name payload size result }
     {
         self.value.reallocate(payload, size)
     }
@@ -170,15 +153,7 @@ pub(crate) fn reallocate<T: Calls, Name: Named, R: Wait>(
     requires lock { lock.now ≡ Name.name }
     requires own { payload.identity ≡ Name.name }
     requires written { IsWritten payload }
-    ensures payload { MatchResult result (λ p. p.identity ≡ Name.name) (λ p. p.identity ≡ Name.name) }
-    ensures align { MatchResult result (λ p. p.align ≡ payload.align) (λ p. p.align ≡ payload.align) }
-    ensures aligned { IfOk result (λ p. p.start % payload.align ≡ 0) }
-    ensures sized { IfOk result (λ p. size ≤ length p.bytes) }
-    ensures few { IfOk result (λ p. length p.bytes < size + 32) }
-    ensures kept { IfOk result (λ p. Keeps payload.bytes p.bytes) }
-    ensures here { IfOk result (λ p. IsKeptHere payload p) }
-    ensures shrunk { IfOk result (λ p. length p.bytes ≤ length payload.bytes → IsWritten p) }
-    ensures back { IfErr result (λ p. (p.start ≡ payload.start) × (p.bytes ≡ payload.bytes) × IsWritten p) }
+    ensures reply { IsReallocation Name.name payload size result }
 {
     let mutex = open::<T, Name>(lock);
     mutex.lock(rt).reallocate(payload, size)

@@ -1,8 +1,7 @@
 //! The heap behind the lock.
-ghost use Rattle.std.specs.Prelude.{◌≡◌, ◌+◌, ◌%◌, ◌<◌, ◌≤◌, length, replicate, IfErr, IfOk, IfSome, MatchResult};
-ghost use Rattle.rlsf_model.specs.Reallocate.{Keeps};
+ghost use Rattle.std.specs.Prelude.{◌≡◌, ◌+◌, ◌%◌, ◌<◌, ◌≤◌, length, replicate, IfSome};
 ghost use Rattle.rlsf_heap.specs.Heap.{IsWritten};
-ghost use Rattle.rlsf_heap.specs.Reallocation.{IsKeptHere};
+ghost use Rattle.rlsf_shared_heap.specs.Reallocation.{IsReallocation};
 
 use crate::calls;
 use crate::lock::Lock;
@@ -110,15 +109,7 @@ impl<FLBitmap: BitPattern, SLBitmap: BitPattern, const FLLEN: usize, const SLLEN
     ) -> Result<Payload, Payload>
         requires own { payload.identity ≡ self.now.identity }
         requires written { IsWritten payload }
-        ensures payload { MatchResult result (λ p. p.identity ≡ self.now.identity) (λ p. p.identity ≡ self.now.identity) }
-        ensures align { MatchResult result (λ p. p.align ≡ payload.align) (λ p. p.align ≡ payload.align) }
-        ensures aligned { IfOk result (λ p. p.start % payload.align ≡ 0) }
-        ensures sized { IfOk result (λ p. size ≤ length p.bytes) }
-        ensures few { IfOk result (λ p. length p.bytes < size + 32) }
-        ensures kept { IfOk result (λ p. Keeps payload.bytes p.bytes) }
-        ensures here { IfOk result (λ p. IsKeptHere payload p) }
-        ensures shrunk { IfOk result (λ p. length p.bytes ≤ length payload.bytes → IsWritten p) }
-        ensures back { IfErr result (λ p. (p.start ≡ payload.start) × (p.bytes ≡ payload.bytes) × IsWritten p) }
+        ensures reply { IsReallocation self.now.identity payload size result }
     {
         calls::reallocate::<Heap<FLBitmap, SLBitmap, FLLEN, SLLEN>, Brand, R>(
             &self.lock, rt, payload, size,
