@@ -5,7 +5,6 @@ ghost use Rattle.std.specs.Prelude.{◌≡◌, ◌≢◌, ◌≤◌, ◌<◌, �
 ghost use Rattle.rlsf_base.specs.Addr.{at, reply};
 ghost use Rattle.rlsf_base.specs.Range.{LiesIn};
 ghost use Rattle.rlsf_base.specs.SizeClass.{IsValid};
-ghost use Rattle.rlsf_base.specs.Sizes.{pool_size_for_payloads};
 ghost use Rattle.rlsf_base.specs.Space.{SamePlace};
 ghost use Rattle.rlsf_blocks.specs.Spare.{KeepsSpare};
 ghost use Rattle.rlsf_model.specs.Allocate.{HasRoomFor};
@@ -68,6 +67,7 @@ impl<
     const FLLEN: usize,
     const SLLEN: usize,
 > FlexTlsf<S, FLBitmap, SLBitmap, FLLEN, SLLEN> {
+    ghost use Rattle.rlsf_flex.specs.Deallocations.{IsFlexDeallocation};
     ghost use Rattle.rlsf_flex.specs.Lending.{LeavesRest, lends_payload, written};
     ghost use Rattle.rlsf_flex.specs.StandsFor.{FillsAlone, FlexStands, FlexSteps, StepsAlone};
 
@@ -182,14 +182,7 @@ impl<
     pub fn deallocate(&mut self, addr: Addr, align: usize)
         requires { align_at self.old.state.machine (at addr) ≡ Some align }
         ensures step { StepsAlone FLLEN SLLEN S.terms S.owes self.old self.new (Deallocates self.old.state.machine (at addr)) }
-        ensures count { live_count self.old.state.machine ≡ live_count self.new.state.machine + 1 }
-        ensures bounds { (count size align : ℕ) → IsSizedFor SLLEN count size align self.old.state.machine → IsSizedFor SLLEN count size align self.new.state.machine }
-        ensures pool { (count size align len : ℕ) → pool_size_for_payloads FLLEN SLLEN count size align ≡ Some len → len ≤ length (bytes_at self.old.state.machine (at addr)) + 48
-            → live_count self.old.state.machine ≡ 1 → IsSizedFor SLLEN count size align self.new.state.machine }
-        ensures chunks { self.new.state.machine.chunks ≡ self.old.state.machine.chunks }
-        ensures gone { align_at self.new.state.machine (at addr) ≡ None }
-        ensures aligns { (a : ℕ) → a ≢ at addr → align_at self.new.state.machine a ≡ align_at self.old.state.machine a }
-        ensures bytes { (a : ℕ) → a ≢ at addr → bytes_at self.new.state.machine a ≡ bytes_at self.old.state.machine a }
+        ensures deallocation { IsFlexDeallocation FLLEN SLLEN self.old.state.machine self.new.state.machine (at addr) }
         ensures source { self.new.source ≡ self.old.source }
         ensures place { SamePlace self.old.memory self.new.memory }
         ensures touches { self.new.memory.touches ≤ self.old.memory.touches + 32 }
@@ -205,14 +198,7 @@ impl<
     pub fn deallocate_unknown_align(&mut self, addr: Addr)
         requires { IsSome (align_at self.old.state.machine (at addr)) }
         ensures step { StepsAlone FLLEN SLLEN S.terms S.owes self.old self.new (Deallocates self.old.state.machine (at addr)) }
-        ensures count { live_count self.old.state.machine ≡ live_count self.new.state.machine + 1 }
-        ensures bounds { (count size align : ℕ) → IsSizedFor SLLEN count size align self.old.state.machine → IsSizedFor SLLEN count size align self.new.state.machine }
-        ensures pool { (count size align len : ℕ) → pool_size_for_payloads FLLEN SLLEN count size align ≡ Some len → len ≤ length (bytes_at self.old.state.machine (at addr)) + 48
-            → live_count self.old.state.machine ≡ 1 → IsSizedFor SLLEN count size align self.new.state.machine }
-        ensures chunks { self.new.state.machine.chunks ≡ self.old.state.machine.chunks }
-        ensures gone { align_at self.new.state.machine (at addr) ≡ None }
-        ensures aligns { (a : ℕ) → a ≢ at addr → align_at self.new.state.machine a ≡ align_at self.old.state.machine a }
-        ensures bytes { (a : ℕ) → a ≢ at addr → bytes_at self.new.state.machine a ≡ bytes_at self.old.state.machine a }
+        ensures deallocation { IsFlexDeallocation FLLEN SLLEN self.old.state.machine self.new.state.machine (at addr) }
         ensures source { self.new.source ≡ self.old.source }
         ensures place { SamePlace self.old.memory self.new.memory }
         ensures touches { self.new.memory.touches ≤ self.old.memory.touches + 33 }

@@ -2,7 +2,7 @@ use Rattle.std.proofs.Common.{refl}
 use Rattle.rlsf_base.specs.Addr.{at}
 use Rattle.rlsf_base.specs.Space.{range_of}
 use Rattle.rlsf_flex.proofs.Calls.{stands_alone, steps_alone}
-use Rattle.rlsf_flex.proofs.Reserves.{sized_behind}
+use Rattle.rlsf_flex.proofs.Reserves.{IsFlexDeallocation-step}
 use Rattle.rlsf_flex.proofs.Standing.{opened}
 use Rattle.rlsf_flex.proofs.flex.FlexTlsf.deallocate_unknown_align.Goals as goal
 
@@ -20,17 +20,10 @@ returns g c =
     let is = c.deallocate_unknown_align.ensures in
     rw (← c.self.view_is) (record {
       step = steps_alone c.self.invariant.stands c.deallocate_unknown_align.new.self _ is.place c.self.invariant.whole is.chunks is.step;
-      chunks = is.chunks;
-      gone = is.gone;
-      aligns = is.aligns;
-      bytes = is.bytes;
-      count = is.count;
-      bounds = is.bounds;
-      pool =
+      deallocation =
           let (step, stands, spare) = opened _ _ _ is.step in
-          sized_behind g.FLBitmap.BitPattern.width g.SLBitmap.BitPattern.width g.row.FLLEN g.row.SLLEN (range_of c.self.inside.parts.tlsf.memory) c.self.inside.parts.tlsf.state
-          c.deallocate_unknown_align.new.self.state c.self.invariant.valid
-          c.self.invariant.stands.machine.well_formed (at c.args.addr) step;
+          IsFlexDeallocation-step g.FLBitmap.BitPattern.width g.SLBitmap.BitPattern.width g.row.FLLEN g.row.SLLEN (range_of c.self.inside.parts.tlsf.memory)
+          c.self.inside.parts.tlsf.state c.deallocate_unknown_align.new.self.state c.self.invariant.valid c.self.invariant.stands.machine.well_formed (at c.args.addr) step;
       source = refl;
       place = is.place;
       touches = is.touches;

@@ -25,7 +25,7 @@ deallocate-requires g c =
 pub invariant_of-self : goal.invariant_of-self
 invariant_of-self g c =
     released_locked c.self.inside.flex c.self.inside.rows.items c.self.invariant c.deallocate.new.self (at c.args.addr) c.deallocate.ensures.step c.deallocate.ensures.source _
-    (taken_out g c) c.deallocate.ensures.gone c.deallocate.ensures.aligns c.deallocate.ensures.bytes
+    (taken_out g c) c.deallocate.ensures.deallocation.gone c.deallocate.ensures.deallocation.aligns c.deallocate.ensures.deallocation.bytes
 
 pub returns-in_default : goal.returns-in_default
 returns-in_default g c = record {
@@ -58,7 +58,7 @@ returns g c = record {
       let after = heap_of c.deallocate.new.self c.remove-gone.new.self.items in
       let found = rw c.deref.ensures.value at c.in-Ok.ensures.found in
       let unknown = known c.self.inside.flex c.self.inside.rows.items (at c.args.addr) _ found (Ok tt) refl in
-      IsDeallocation-done before after (at c.args.addr) unknown (taken_out g c) c.deallocate.ensures.bytes);
+      IsDeallocation-done before after (at c.args.addr) unknown (taken_out g c) c.deallocate.ensures.deallocation.bytes);
   touches = rw (← c.self.view_is) c.deallocate.ensures.touches;
   grow = rw (← c.self.view_is) c.deallocate.ensures.grow;
 }
