@@ -25,3 +25,5 @@ pub mod OwnedBytes
 pub mod MovedThin
 pub mod UnitPayloads
 pub mod UnitTails
+pub mod ResizedThin
+pub mod UnknownAlign

@@ -9,4 +9,5 @@ pub mod Settled
 pub mod Thin
 pub mod ThinReplies
 pub mod ThinInPlace
+pub mod ThinUnknownAlign
 pub mod Units

@@ -1,15 +1,17 @@
 //! `Heap`, an allocator whose payloads leave its memory: a `Payload` owns its bytes, and can be kept, moved and written while
 //! other payloads are.
 //!
-//! Read `payload.rt` and `heap.rt` first, then `deallocation.rt`, `reallocation.rt`, `pools.rt` and `reading.rt`. `apart.rt`
+//! Read `payload.rt`, `handover.rt` and `heap.rt` first, then `deallocation.rt`, `reallocation.rt`, `pools.rt` and `reading.rt`. `apart.rt`
 //! states the laws of payloads that are out together, and `raw.rt` takes payloads apart. `thin.rt` has those of which a caller knows
-//! only the address, with their calls in `thin_calls.rt` and `thin_reallocation.rt`, and `units.rt` has those of `rlsf_local`.
-//! `consistency.rt` reads the words of a pool again. `usable.rt` is a helper. `specs/Heap.antt` defines what contracts see.
+//! only the address, with their calls in `thin_calls.rt`, `thin_reallocation.rt` and `thin_unknown_align.rt`, and `units.rt` has
+//! those of `rlsf_local`. `consistency.rt` reads the words of a pool again. `usable.rt` is a helper.
+//! `specs/Heap.antt` defines what contracts see.
 #![tactic(auto)]
 
 mod apart;
 mod consistency;
 mod deallocation;
+mod handover;
 mod heap;
 mod payload;
 mod pools;
@@ -19,6 +21,7 @@ mod reallocation;
 mod thin;
 mod thin_calls;
 mod thin_reallocation;
+mod thin_unknown_align;
 mod units;
 mod usable;
 

@@ -1,0 +1,72 @@
+-- Shows that `renewed` takes a ticket, which agrees with an entry that is out, and makes an entry and its ticket. Assumes `Logic`.
+use Rattle.std.proofs.Common.{◌≡◌, ℕ, List, [], ◌∷◌, ◌++◌, length, set, true, false, refl, sym, arith, w64}
+use mir.Syntax.{named}
+use mir.Val.{Val}
+use base.Fml.{ftrue, flft}
+use contract.Monad.{fact}
+use contract.Running.{tables}
+use types.Kit.{‵, raw, ◌⊛◌, given, later, learn, await, ◌$◌, ◌∵◌, !, qed, move, keep, use0, use1, use2, split, join, rewrite, suffices, frame, fsplit, fsplit3, fjoin}
+use types.Kit.{fjoin3, done}
+use types.Run.{of_opd, returns, enter}
+use types.ByLocal.{alloc_all, pass_all, free_all, look_at, get, sets}
+use denote.RattleType.{owns}
+use denote.Ref.{mut_vals, mut_Tells}
+use denote.Plain.{uint_vals, uint_Tells}
+use denote.Builtin.{usize}
+use denote.Signature.{plain, types_at}
+use denote.Steps.{nothing, heard, opens, closes}
+use denote.Triple.Walked.{Stays, stay_ref, stay_dropped, walk_of, Goes-ref, Goes-dropped, ends_at}
+use Rattle.core.proofs.alloc.Calls.{Goes-blank}
+use Rattle.core.proofs.mem.Facts.{says_three}
+use Rattle.std.proofs.raw_atomic.Walks.{proved}
+use Rattle.rlsf_base.specs.Ledger.{Entry, Extent, entry_of, extent, ledger_owns, ticket_owns, IsIssued}
+use Rattle.rlsf_base.proofs.RawBlock.Tickets.{issues, redeems}
+use Rattle.rlsf_base.proofs.RawBlock.Marks.{ticket_vals, ticket_Tells}
+use Rattle.rlsf_base.proofs.RawBlock.Values.{mark_val, mark_own, mark_made}
+use Rattle.rlsf_base.specs.contracts.memory.ledger.Ledger as ledger
+use Rattle.rlsf_base.specs.contracts.memory.ledger.Ticket as ticket
+use Rattle.rlsf_heap.specs.contracts.thin_unknown_align.renewed as f
+use Rattle.rlsf_heap.proofs.thin_unknown_align.renewed.Statement.{statement}
+use Rattle.rlsf_heap.proofs.thin_unknown_align.renewed.Code as code
+
+abbrev stayed : Stays f.ended.signature.params f.ended.kept
+stayed = (
+  stay_dropped (plain (λ _. ticket.the_row)) f.ended.kept.0,
+  (stay_ref (0 ∷ []) tt (plain (λ _. ledger.the_row)), (stay_dropped (plain (λ _. usize)) f.ended.kept.1.1.0, tt)),
+)
+
+pub renewed_spec : {M : Type 1} → statement M
+renewed_spec 𝓤 𝓛 𝓜 𝓡 wired =
+    let c = f.clauses 𝓛 𝓜.mem 𝓡.returns in let W = walk_of 𝓛 f.ended stayed c in let 𝓣 = tables 𝓤 𝓛.H 𝓜 𝓡 𝓡.env in
+    proved 𝓛 f.ended stayed c 𝓜 𝓡 (
+      Goes-blank 𝓛 1 (plain (λ _. ticket.the_row)) f.ended.kept.0 (λ κs x w. tt),
+      (Goes-ref 𝓛 1 0 tt (plain (λ _. ledger.the_row)), (Goes-dropped 𝓛 1 (plain (λ _. usize)) f.ended.kept.1.1.0 (λ κs x w. refl), tt)),
+    )
+    f.Key.name code.function (code.unfolded 𝓤 𝓛.H 𝓜 𝓡 wired)
+    (λ κs. (ticket_vals, (mut_vals, (uint_vals w64, tt)))) (λ κs. (ticket_Tells, (mut_Tells (named 0) κs.0 ledger.the_row, (uint_Tells w64, tt)))) (λ κs qs bounds a g are.
+    let rb = a.1.0.ref_ptr.0 in let ro = a.1.0.ref_ptr.1 in let d = a.1.0.now in let t = a.0 in let len : ℕ = a.1.1.0 in
+    let vss : List Val × (List Val × (List Val × Unit {0})) = (mark_val ∷ [], (mut_vals a.1.0, (uint_vals w64 len, tt))) in
+    let v : Extent = extent t.addr t.len t.align in let u : Extent = extent t.addr len t.align in
+    let Asked : Type 0 = t.name ≡ d.name in
+    let y : W.Ghost = ((κs, qs, bounds, a, vss), g) in
+    let less : List Entry = set d.entries t.key (entry_of v false) in let k : ℕ = length less in
+    let new : (ledger.the_row).Denot = record { mark = d.mark; name = d.name; entries = less ++ entry_of u true ∷ [] } in
+    let out : (ticket.the_row).Denot = record { mark = record {}; name = d.name; key = k; addr = t.addr; len = len; align = t.align } in
+    qed 𝓛 (((‵ (flft κs.0 qs.0) ⊛ ‵ ftrue) ⊛ ‵ (owns (types_at f.signature.params κs) a vss)) ∷ raw (fact 𝓤 Asked) ∷ []) ∵
+    move ! (1 ∷ []) $ heard ! Asked
+    (λ asked. split ! $ split ! $ move ! (2 ∷ []) $ fsplit ! $ move ! (1 ∷ []) $ fsplit ! $ move ! (2 ∷ []) $ fsplit ! $ keep ! (2 ∷ 4 ∷ 1 ∷ []) $
+    -- [the ledger; its token; the ticket]
+    enter ! _ _ _ _ _ $ alloc_all ! (λ l. pass_all ! refl ((tt, (tt, tt)), ((tt, tt), ((tt, record { fits = are.1.1.0.1 }), tt))) $
+    fsplit3 ! $ move ! (1 ∷ 2 ∷ 3 ∷ []) $ opens ! tt ledger.the_row rb ro (λ us. move ! (1 ∷ []) $ fsplit ! $ move ! (1 ∷ []) $
+    -- [the entries; the mark; its cell; the open borrow; the ledger's first part; the ticket; ..]
+    move ! (7 ∷ []) $ rewrite ! 0 (λ (n : ℕ). ‵ (ticket_owns n t.key v)) asked refl $ move ! (1 ∷ 0 ∷ []) $
+    use2 𝓛 (given (IsIssued d.entries t.key v) (‵ (ledger_owns d.name 0 less))) (redeems 𝓛 d.name d.entries 0 t.key t.key v (omega arith)) $ learn ! (λ was.
+    use1 𝓛 (later (‵ (ledger_owns d.name 0 new.entries) ⊛ ‵ (ticket_owns d.name k u))) (issues 𝓛 d.name less 0 k u (omega arith)) $ await ! tt $ split ! $
+    move ! (2 ∷ 0 ∷ []) $ fjoin ! $ move ! (2 ∷ 0 ∷ 3 ∷ 4 ∷ 5 ∷ []) $ closes ! tt ledger.the_row new us rb ro $
+    -- [the ledger's last value; its borrow; its token; the new ticket; its first part; ..]
+    sets ! (of_opd ! (get ! refl)) refl (tt, (tt, tt)) $
+    returns ! (look_at ! 0 refl) $ free_all ! refl $ move ! (3 ∷ []) $
+    use0 𝓛 (‵ (mark_own (mark_val ∷ []))) (mark_made 𝓛) $ fjoin ! $ move ! (1 ∷ 2 ∷ 3 ∷ 0 ∷ 4 ∷ []) $
+    suffices ! _ (ends_at 𝓛 f.ended stayed c y mark_val out (tt, (new, (tt, tt))) (tt, (tt, (tt, tt)))) $ says_three ! (was, (sym asked, refl, refl, refl), (refl, refl)) $
+    nothing ! $ move ! (3 ∷ 0 ∷ []) $ join ! $ frame ! $ move ! (3 ∷ 0 ∷ 1 ∷ []) $ fjoin3 ! $ nothing ! $ nothing ! $ fjoin ! $ move ! (1 ∷ 0 ∷ []) $ fjoin ! $
+    nothing ! $ fjoin ! $ done !)))))
