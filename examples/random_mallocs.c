@@ -122,18 +122,14 @@ static void resize(worker *w, slot *s) {
     if (at) usable = rlsf_usable_size(w->heap, at);
     leave(w);
     if (!at) {
-        want(how != 2 || size > s->size, "a payload doesn't shrink where it is");
+        want(how != 2 || size > old, "a payload doesn't shrink where it is");
         check(s, s->size);
         return;
     }
     want(how != 2 || at == s->at, "a payload moved");
-    if (how != 1 && s->align > 16 && size <= old) {
-        want(at == s->at && usable == old, "a payload of a wide alignment changed");
-        fits(w, at, size, s->align, size);
-    } else {
-        if (how != 1 && s->align > 16) s->align = 16;
-        fits(w, at, size, s->align, usable);
-    }
+    want(size > old || at == s->at, "a payload moved though its bytes suffice");
+    if (how != 1 && s->align > 16 && at != s->at) s->align = 16;
+    fits(w, at, size, s->align, usable);
     s->at = at;
     check(s, least);
     s->size = size;

@@ -194,8 +194,9 @@ static inline void rlsf_free(rlsf_heap *heap, void *payload) {
  * first bytes as both sizes have are kept. All other payloads and their bytes are unchanged. Allocates a payload if `payload` is NULL, as
  * rlsf_malloc does.
  *
- * The library doesn't store alignments. So a payload that was requested with an alignment above 16 stays as it is if its usable bytes
- * suffice, also if `size` is less. Otherwise it moves, and its new alignment is 16. rlsf_aligned_realloc keeps the alignment.
+ * The library doesn't store alignments. So a payload that was requested with an alignment above 16 stays at its address, and keeps its
+ * alignment, if its usable bytes and those of a free block behind it suffice. Otherwise it moves, and its new alignment is 16.
+ * rlsf_aligned_realloc keeps the alignment.
  *
  * Returns NULL exactly if `size` is above 2^63 - 16 or there is no room. Then nothing changes, and `payload` is still live. */
 static inline void *rlsf_realloc(rlsf_heap *heap, void *payload, size_t size) {

@@ -1,23 +1,20 @@
 -- What the reallocations of a heap come to, as the exports say it.
-use Rattle.std.proofs.Common.{◌≡◌, ◌≢◌, ℕ, ◌<◌, length, map, Some, None, arith, refl, sym, subst, ◌∙◌, ap}
+use Rattle.std.proofs.Common.{◌≡◌, ◌≢◌, ℕ, ◌≤◌, length, Some, None, refl, sym, subst, ◌∙◌, ap}
 use Rattle.rlsf_base.specs.Layout.{IsLayout}
 use Rattle.rlsf_model.specs.Callers.{align_at}
 use Rattle.rlsf_model.specs.NoMove.{ReallocatesWithoutMove}
 use Rattle.rlsf_model.specs.Reallocate.{Reallocates}
 use Rattle.rlsf_model.specs.Sized.{live_count}
-use Rattle.rlsf_model.specs.State.{AreAlike, State, shape_of}
+use Rattle.rlsf_model.specs.State.{AreAlike}
 use Rattle.rlsf_heap.specs.Heap.{HeapView, IsWritten, PayloadView}
 use Rattle.rlsf_heap.specs.Reallocation.{owned_by}
 use Rattle.rlsf_heap.specs.Thin.{reply_of}
-use Rattle.rlsf_heap.specs.ThinReplies.{IsReallocatedThin, IsRefusedThin, IsThinOf, LeavesOthers, MovesElsewhere}
+use Rattle.rlsf_heap.specs.ThinReplies.{IsReallocatedThin, IsRefusedThin, IsThinOf, LeavesOthers}
 use Rattle.rlsf_heap.specs.declared.thin.ThinPayload.{ThinPayload}
+use Rattle.rlsf_heap.specs.ThinUnknownAlign.{StaysOrMoves}
 use Rattle.rlsf_malloc.specs.Calls.{IsSameHeap}
 use Rattle.rlsf_malloc.specs.Resizing.{IsRefused, IsResized, Resizes, ResizesThere, ResizesWide}
 use Rattle.rlsf_malloc.proofs.Outcomes.{reply_some}
-
--- equal states are alike
-pub are_alike : (s t : State) → t ≡ s → AreAlike s t
-are_alike s t e = record { chunks = ap (λ (r : State). r.chunks) (sym e); used = ap (λ (r : State). map shape_of r.used) (sym e); free = ap (λ (r : State). r.free) (sym e) }
 
 module _ (old new : HeapView) (same : IsSameHeap old new) (p : PayloadView) (addr : ℕ) (at : p.start ≡ addr) (some : addr ≢ 0) (size : ℕ) where
   -- the payload has its new size
@@ -75,58 +72,65 @@ module _ (old new : HeapView) (same : IsSameHeap old new) (p : PayloadView) (add
     }
 
   pub resized_there : (q : PayloadView) (to : ℕ) → to ≡ q.start → q.start ≡ addr → IsLayout size 16
-      → (IsLayout size 16 → ReallocatesWithoutMove (owned_by old.state p) addr size (Some q.start) new.state) → IsResized old p size 16 q new
+      → ReallocatesWithoutMove (owned_by old.state p) addr size (Some q.start) new.state → IsResized old p size p.align q new
       → live_count new.state ≡ live_count old.state → ResizesThere old p size to q new
   resized_there q to is there layout step done count = record {
+    stays = λ _ enough. is ∙ there ∙ sym at;
     there = there ∙ sym at;
     at = λ _. is ∙ there ∙ sym at;
     no_layout = λ never. absurd (never layout);
-    step = λ l. subst (λ (n : ℕ). ReallocatesWithoutMove (owned_by old.state p) n size (reply_of to) new.state) (sym at)
-        (subst (λ o. ReallocatesWithoutMove (owned_by old.state p) addr size o new.state) (reply_some q.start (λ e. some (sym there ∙ e)) ∙ ap reply_of (sym is)) (step l));
+    step = λ _. subst (λ (n : ℕ). ReallocatesWithoutMove (owned_by old.state p) n size (reply_of to) new.state) (sym at)
+        (subst (λ o. ReallocatesWithoutMove (owned_by old.state p) addr size o new.state) (reply_some q.start (λ e. some (sym there ∙ e)) ∙ ap reply_of (sym is)) step);
     heap = same;
     resized = λ _. done;
     refused = λ e. absurd (some (sym there ∙ sym is ∙ e));
     count = count;
   }
 
-  pub not_resized_there : (q : PayloadView) → q.start ≡ addr → (IsLayout size 16 → ReallocatesWithoutMove (owned_by old.state p) addr size None new.state)
+  pub not_resized_there : (q : PayloadView) → q.start ≡ addr → ReallocatesWithoutMove (owned_by old.state p) addr size None new.state → (size ≤ length p.bytes → ⊥)
       → IsRefused old p q new → live_count new.state ≡ live_count old.state → ResizesThere old p size 0 q new
-  not_resized_there q there step refused count = record {
+  not_resized_there q there step short refused count = record {
+    stays = λ _ enough. absurd (short enough);
     there = there ∙ sym at;
     at = λ apart. absurd (apart refl);
     no_layout = λ _. refl;
-    step = λ l. subst (λ (n : ℕ). ReallocatesWithoutMove (owned_by old.state p) n size None new.state) (sym at) (step l);
+    step = λ _. subst (λ (n : ℕ). ReallocatesWithoutMove (owned_by old.state p) n size None new.state) (sym at) step;
     heap = same;
     resized = λ apart. absurd (apart refl);
     refused = λ _. refused;
     count = count;
   }
 
-  module _ (sllen : ℕ) (low : length p.bytes < size) where
-    pub moved : (q : PayloadView) (to : ℕ) → to ≡ q.start → q.start ≢ 0 → IsLayout size 16
-        → MovesElsewhere sllen old.state addr size 16 (Some q.start) new.state → IsResized old p size 16 q new
+  module _ (sllen : ℕ) where
+    pub resized_wide : (q : PayloadView) (to : ℕ) → to ≡ q.start → q.start ≢ 0 → IsLayout size 16
+        → StaysOrMoves sllen (owned_by old.state p) addr size 16 (Some q.start) new.state → (size ≤ length p.bytes → q.start ≡ addr)
+        → (q.start ≡ addr → q.align ≡ p.align) → (q.start ≢ addr → q.align ≡ 16) → IsResized old p size q.align q new
         → live_count new.state ≡ live_count old.state → ResizesWide sllen old p size to q new
-    moved q to is nonzero layout step done count = record {
-      stays = λ enough. absurd (omega (arith, low, enough));
-      no_layout = λ _ never. absurd (never layout);
-      step = λ _ l. subst (λ (n : ℕ). MovesElsewhere sllen old.state n size 16 (reply_of to) new.state) (sym at)
-          (subst (λ o. MovesElsewhere sllen old.state addr size 16 o new.state) (reply_some q.start nonzero ∙ ap reply_of (sym is)) step);
+    resized_wide q to is nonzero layout step enough there moved done count = record {
+      stays = λ _ long. is ∙ enough long ∙ sym at;
+      no_layout = λ never. absurd (never layout);
+      step = λ _. subst (λ (n : ℕ). StaysOrMoves sllen (owned_by old.state p) n size 16 (reply_of to) new.state) (sym at)
+          (subst (λ o. StaysOrMoves sllen (owned_by old.state p) addr size 16 o new.state) (reply_some q.start nonzero ∙ ap reply_of (sym is)) step);
       heap = same;
       at = λ _. sym is;
-      resized = λ _ _. done;
+      there = λ e. there (sym is ∙ e ∙ at);
+      moved = λ _ apart. moved (λ e. apart (is ∙ e ∙ sym at));
+      resized = λ _. done;
       refused = λ e. absurd (nonzero (sym is ∙ e));
       count = count;
     }
 
-    pub not_moved : (q : PayloadView) → (IsLayout size 16 → MovesElsewhere sllen old.state addr size 16 None new.state) → IsRefused old p q new
-        → live_count new.state ≡ live_count old.state → ResizesWide sllen old p size 0 q new
-    not_moved q step refused count = record {
-      stays = λ enough. absurd (omega (arith, low, enough));
-      no_layout = λ _ _. refl;
-      step = λ _ l. subst (λ (n : ℕ). MovesElsewhere sllen old.state n size 16 None new.state) (sym at) (step l);
+    pub not_resized_wide : (q : PayloadView) → StaysOrMoves sllen (owned_by old.state p) addr size 16 None new.state → (size ≤ length p.bytes → ⊥)
+        → IsRefused old p q new → live_count new.state ≡ live_count old.state → ResizesWide sllen old p size 0 q new
+    not_resized_wide q step short refused count = record {
+      stays = λ _ long. absurd (short long);
+      no_layout = λ _. refl;
+      step = λ _. subst (λ (n : ℕ). StaysOrMoves sllen (owned_by old.state p) n size 16 None new.state) (sym at) step;
       heap = same;
       at = λ apart. absurd (apart refl);
-      resized = λ _ apart. absurd (apart refl);
+      there = λ e. absurd (some (sym at ∙ sym e));
+      moved = λ apart. absurd (apart refl);
+      resized = λ apart. absurd (apart refl);
       refused = λ _. refused;
       count = count;
     }

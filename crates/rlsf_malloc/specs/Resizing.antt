@@ -9,7 +9,7 @@ use Rattle.rlsf_model.specs.State.{AreAlike}
 use Rattle.rlsf_heap.specs.Heap.{HeapView, IsWritten, PayloadView}
 use Rattle.rlsf_heap.specs.Reallocation.{owned_by}
 use Rattle.rlsf_heap.specs.Thin.{reply_of}
-use Rattle.rlsf_heap.specs.ThinReplies.{MovesElsewhere}
+use Rattle.rlsf_heap.specs.ThinUnknownAlign.{StaysOrMoves}
 use Rattle.rlsf_malloc.specs.Calls.{Allocates, IsAt, IsSameHeap, IsSized, aligned_for}
 
 -- a payload is as it was: at its address, with its bytes
@@ -46,15 +46,18 @@ pub record Resizes (sllen : ℕ) (before : HeapView) (p : PayloadView) (size ali
   pub refused : to ≡ 0 → IsRefused before p q after
   pub count : live_count after.state ≡ live_count before.state
 
--- a reallocation of a payload of a wide alignment, which isn't known: it stays as it is where its bytes suffice. Else it moves into a
--- payload of the alignment 16, and 0 is returned exactly where there is no such layout or an allocation is refused
+-- a reallocation of a payload of a wide alignment, which isn't known: it stays at its address, with its alignment, if the bytes of its block
+-- and of a free block behind it suffice, so also if its own do. Else it moves into a payload of the alignment 16. 0 is returned exactly where
+-- there is no such layout or an allocation is refused
 pub record ResizesWide (sllen : ℕ) (before : HeapView) (p : PayloadView) (size to : ℕ) (q : PayloadView) (after : HeapView) : Type 0 where
-  pub stays : size ≤ length p.bytes → (to ≡ p.start) × (q ≡ p) × (after ≡ before)
-  pub no_layout : length p.bytes < size → (IsLayout size 16 → ⊥) → to ≡ 0
-  pub step : length p.bytes < size → IsLayout size 16 → MovesElsewhere sllen before.state p.start size 16 (reply_of to) after.state
+  pub stays : IsLayout size 16 → size ≤ length p.bytes → to ≡ p.start
+  pub no_layout : (IsLayout size 16 → ⊥) → to ≡ 0
+  pub step : IsLayout size 16 → StaysOrMoves sllen (owned_by before.state p) p.start size 16 (reply_of to) after.state
   pub heap : IsSameHeap before after
   pub at : to ≢ 0 → q.start ≡ to
-  pub resized : length p.bytes < size → to ≢ 0 → IsResized before p size 16 q after
+  pub there : to ≡ p.start → q.align ≡ p.align
+  pub moved : to ≢ 0 → to ≢ p.start → q.align ≡ 16
+  pub resized : to ≢ 0 → IsResized before p size q.align q after
   pub refused : to ≡ 0 → IsRefused before p q after
   pub count : live_count after.state ≡ live_count before.state
 
@@ -69,26 +72,20 @@ pub record ResizesAligned (sllen : ℕ) (before : HeapView) (addr : ℕ) (p : Pa
   pub fresh : addr ≡ 0 → (q.start ≡ to) × Allocates sllen before size (aligned_for align) q after
   pub known : addr ≢ 0 → Resizes sllen before p size (aligned_for align) to q after
 
--- a reallocation of a payload of the alignment 16 without a move: 0 is returned exactly where there is no such layout or the model refuses it
+-- a reallocation without a move of a payload of any alignment, which it keeps: 0 is returned exactly where there is no such layout or the
+-- model refuses it, and not where the payload's own bytes suffice
 pub record ResizesThere (before : HeapView) (p : PayloadView) (size to : ℕ) (q : PayloadView) (after : HeapView) : Type 0 where
+  pub stays : IsLayout size 16 → size ≤ length p.bytes → to ≡ p.start
   pub there : q.start ≡ p.start
   pub at : to ≢ 0 → to ≡ p.start
   pub no_layout : (IsLayout size 16 → ⊥) → to ≡ 0
   pub step : IsLayout size 16 → ReallocatesWithoutMove (owned_by before.state p) p.start size (reply_of to) after.state
   pub heap : IsSameHeap before after
-  pub resized : to ≢ 0 → IsResized before p size 16 q after
+  pub resized : to ≢ 0 → IsResized before p size p.align q after
   pub refused : to ≡ 0 → IsRefused before p q after
   pub count : live_count after.state ≡ live_count before.state
-
--- the same of a payload of a wide alignment: it stays as it is, and 0 is returned exactly where its bytes don't suffice
-pub record StaysWide (before : HeapView) (p : PayloadView) (size to : ℕ) (q : PayloadView) (after : HeapView) : Type 0 where
-  pub stays : size ≤ length p.bytes → to ≡ p.start
-  pub refused : length p.bytes < size → to ≡ 0
-  pub payload : q ≡ p
-  pub same : after ≡ before
 
 -- a reallocation without a move, where the address 0 does nothing
 pub record ResizesInPlace (before : HeapView) (addr : ℕ) (p : PayloadView) (size to : ℕ) (q : PayloadView) (after : HeapView) : Type 0 where
   pub nothing : addr ≡ 0 → (to ≡ 0) × (q ≡ p) × (after ≡ before)
-  pub narrow : addr ≢ 0 → p.align ≡ 16 → ResizesThere before p size to q after
-  pub wide : addr ≢ 0 → 16 < p.align → StaysWide before p size to q after
+  pub resized : addr ≢ 0 → ResizesThere before p size to q after

@@ -1,6 +1,6 @@
 //! Reallocations, over numbers and payloads.
 
-ghost use Rattle.std.specs.Prelude.{◌≡◌, ◌≢◌, ◌↔◌, ◌≤◌, IsTrue, Some, length};
+ghost use Rattle.std.specs.Prelude.{◌≡◌, ◌≢◌, ◌↔◌, ◌≤◌, IsTrue, Some};
 ghost use Rattle.rlsf_model.specs.Callers.{align_at};
 ghost use Rattle.rlsf_malloc.specs.Calls.{IsAt, IsLiveAligned, IsReady, aligned_for};
 ghost use Rattle.rlsf_malloc.specs.Replies.{number_of};
@@ -68,31 +68,24 @@ pub(crate) fn resize_aligned<F: BitPattern, S: BitPattern, const FLLEN: usize, c
     resize(heap, addr, payload, size, align)
 }
 
-/// Changes the size of a payload of a wide alignment, which isn't known: leaves it as it is if its `len` bytes suffice, else moves it into
-/// a payload of the alignment 16.
+/// Changes the size of a payload of a wide alignment, which isn't known. It stays at its address, with its alignment, if the bytes of its
+/// block and of a free block behind it suffice. Else it moves into a payload of the alignment 16.
 fn resize_wide<F: BitPattern, S: BitPattern, const FLLEN: usize, const SLLEN: usize>(
     heap: &mut Heap<F, S, FLLEN, SLLEN>,
     addr: usize,
     payload: ThinPayload,
     size: usize,
-    len: usize,
 ) -> Resized
-    requires { IsReady heap.old × IsAt heap.old addr payload.of × (addr ≢ 0) × (payload.addr ≡ addr) × (len ≡ length payload.of.bytes) }
+    requires { IsReady heap.old × IsAt heap.old addr payload.of × (addr ≢ 0) × (payload.addr ≡ addr) }
     ensures { ResizesWide SLLEN heap.old payload.of size (number_of result) result.payload.of heap.new }
 {
-    if size <= len {
-        return Resized {
-            done: true,
-            payload,
-        };
-    }
     let Ok(layout) = Layout::from_size_align(size, 16) else {
         return Resized {
             done: false,
             payload,
         };
     };
-    match heap.move_thin(addr, payload, layout) {
+    match heap.reallocate_thin_unknown_align(addr, payload, layout) {
         Ok(payload) => Resized {
             done: true,
             payload,
@@ -120,25 +113,33 @@ pub(crate) fn resize_any<F: BitPattern, S: BitPattern, const FLLEN: usize, const
             payload: allocate(heap, size, 16),
         };
     }
-    let (len, payload) = heap.usable_thin(addr, payload);
+    // By this call it is known that the payload is live.
+    let (_, payload) = heap.usable_thin(addr, payload);
     if is_narrow(heap, addr) {
         resize(heap, addr, payload, size, 16)
     } else {
-        resize_wide(heap, addr, payload, size, len)
+        resize_wide(heap, addr, payload, size)
     }
 }
 
-/// Changes the size of the payload of the alignment 16 at an address without moving it.
+/// Changes the size of the payload at an address without moving it, whatever its alignment is.
 fn resize_there<F: BitPattern, S: BitPattern, const FLLEN: usize, const SLLEN: usize>(
     heap: &mut Heap<F, S, FLLEN, SLLEN>,
     addr: usize,
     payload: ThinPayload,
     size: usize,
 ) -> Resized
-    requires { IsReady heap.old × IsAt heap.old addr payload.of × (addr ≢ 0) × (payload.addr ≡ addr) × (payload.of.align ≡ 16) }
+    requires { IsReady heap.old × IsAt heap.old addr payload.of × (addr ≢ 0) × (payload.addr ≡ addr) }
     ensures { ResizesThere heap.old payload.of size (number_of result) result.payload.of heap.new }
 {
-    match heap.reallocate_thin_no_move(addr, payload, size, 16) {
+    // Of the layout only the size counts.
+    let Ok(layout) = Layout::from_size_align(size, 16) else {
+        return Resized {
+            done: false,
+            payload,
+        };
+    };
+    match heap.resize_thin_unknown_align(addr, payload, layout) {
         Ok(payload) => Resized {
             done: true,
             payload,
@@ -166,13 +167,5 @@ pub(crate) fn resize_in_place<F: BitPattern, S: BitPattern, const FLLEN: usize, 
             payload,
         };
     }
-    let (len, payload) = heap.usable_thin(addr, payload);
-    if is_narrow(heap, addr) {
-        resize_there(heap, addr, payload, size)
-    } else {
-        Resized {
-            done: size <= len,
-            payload,
-        }
-    }
+    resize_there(heap, addr, payload, size)
 }
