@@ -3,7 +3,8 @@
 //! In reading order: `pair` and `growing` are programs without a proof file; `rows` and `resized_rows` compare the addresses of
 //! payloads with worked examples; `ends` shows that a dropped heap deallocates its memory; `local` has collections in a heap,
 //! `in_place` vectors that grow and shrink there, and `printed` what is printed of one; `raw` takes a payload apart, and `thin` has
-//! payloads by their address; `shared` and `returned` share a heap between threads, and take it apart again.
+//! payloads by their address, in `unknown_align` also of any alignment; `shared` and `returned` share a heap between threads, and
+//! take it apart again.
 #![tactic(auto)]
 
 #[cfg(test)]
@@ -30,3 +31,5 @@ mod rows;
 mod shared;
 #[cfg(test)]
 mod thin;
+#[cfg(test)]
+mod unknown_align;
