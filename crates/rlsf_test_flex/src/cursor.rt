@@ -11,7 +11,7 @@ use std::cell::Cell;
 use std::marker::Model;
 
 /// What a source was asked.
-#[derive(Clone, Copy, Debug, PartialEq, Eq)]
+#[derive(Clone, Copy, PartialEq, Eq)]
 pub enum Question {
     /// Nothing.
     None,

@@ -1,8 +1,12 @@
 //! What a source is asked, and which addresses are allocated in what came.
 
+ghost use Rattle.std.specs.Prelude.{◌≡◌, [], length};
+ghost use Rattle.rlsf_base.specs.Range.{LiesIn};
+ghost use Rattle.rlsf_test_flex.specs.Cursor.{MayOwe};
+
 use crate::cursor::{CursorSource, Habits, Question, Questions};
 use crate::heaps::{Case, Outcome, Step, are_right, is_right, number, parts};
-use rlsf_base::memory::{Layout, Range};
+use rlsf_base::memory::{Layout, Memory, Range};
 use rlsf_flex::FlexTlsf;
 use rlsf_int::BitPattern;
 use std::cell::Cell;
@@ -56,46 +60,57 @@ struct Growth {
     asked: &'static [Question],
 }
 
-/// Whether an allocator allocates these addresses for a layout, and what the source was asked.
-fn allocates<FLBitmap: BitPattern, SLBitmap: BitPattern, const FLLEN: usize, const SLLEN: usize>(
-    mut flex: FlexTlsf<CursorSource, FLBitmap, SLBitmap, FLLEN, SLLEN>,
+/// The index of the first allocation for a layout that has another address.
+fn first_other<FLBitmap: BitPattern, SLBitmap: BitPattern, const FLLEN: usize, const SLLEN: usize>(
+    flex: &mut FlexTlsf<CursorSource, FLBitmap, SLBitmap, FLLEN, SLLEN>,
     layout: Layout,
     addresses: &[usize],
-) -> Outcome {
-    let mut wrong = None;
+) -> Option<usize> {
     for (index, addr) in addresses.iter().enumerate() {
-        if wrong.is_none() && number(flex.allocate(layout)) != *addr {
-            wrong = Some(index);
+        if number(flex.allocate(layout)) != *addr {
+            return Some(index);
         }
     }
-    (wrong, flex.source_ref().asked())
+    None
 }
 
-/// The outcome of the allocations.
+/// The index of the first allocation with another address, by an allocator of a shape over these parts.
+fn first_wrong(
+    shape: Shape,
+    parts: (Memory, CursorSource),
+    layout: Layout,
+    addresses: &[usize],
+) -> Option<usize>
+    requires { (parts.0.start ≡ 4096) × (length parts.0.bytes ≡ 4096) × LiesIn parts.1.terms.space 4096 4096 × MayOwe parts.1 [] }
+{
+    let (memory, source) = parts;
+    match shape {
+        Shape::Wide => {
+            let mut flex = FlexTlsf::<_, u16, u16, 12, 16>::new(memory, source);
+            first_other(&mut flex, layout, addresses)
+        }
+        Shape::Long => {
+            let mut flex = FlexTlsf::<_, u64, u64, 59, 8>::new(memory, source);
+            first_other(&mut flex, layout, addresses)
+        }
+        Shape::Few => {
+            let mut flex = FlexTlsf::<_, u64, u8, 59, 1>::new(memory, source);
+            first_other(&mut flex, layout, addresses)
+        }
+        Shape::All => {
+            let mut flex = FlexTlsf::<_, u64, u8, 64, 1>::new(memory, source);
+            first_other(&mut flex, layout, addresses)
+        }
+    }
+}
+
+/// The outcome of the allocations, with what the source is asked up to the end.
 fn outcome(rt: &(impl Abort + AllocGlobal), growth: Growth) -> Outcome {
     let layout = Layout::from_size_align(growth.size, 1).expect(rt, "a layout");
     let seen = Cell::new(Questions::new());
-    let parts = parts(rt.alloc(), ODD, growth.habits, &seen);
-    let (memory, source) = parts.expect(rt, "a memory and a source");
-    let addresses = growth.addresses;
-    match growth.shape {
-        Shape::Wide => {
-            let flex = FlexTlsf::<_, u16, u16, 12, 16>::new(memory, source);
-            allocates(flex, layout, addresses)
-        }
-        Shape::Long => {
-            let flex = FlexTlsf::<_, u64, u64, 59, 8>::new(memory, source);
-            allocates(flex, layout, addresses)
-        }
-        Shape::Few => {
-            let flex = FlexTlsf::<_, u64, u8, 59, 1>::new(memory, source);
-            allocates(flex, layout, addresses)
-        }
-        Shape::All => {
-            let flex = FlexTlsf::<_, u64, u8, 64, 1>::new(memory, source);
-            allocates(flex, layout, addresses)
-        }
-    }
+    let parts = parts(rt.alloc(), ODD, growth.habits, &seen).expect(rt, "a memory and a source");
+    let wrong = first_wrong(growth.shape, parts, layout, growth.addresses);
+    (wrong, seen.get().asked())
 }
 
 /// Passes if each has its expected outcome.

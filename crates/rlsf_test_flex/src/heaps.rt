@@ -118,9 +118,20 @@ static KEPT: [Case; 6] = [
 /// The index of the first step with a wrong result, and the questions to the source.
 pub type Outcome = (Option<usize>, [Question; 8]);
 
+/// Passes if all answers are true. Otherwise the failure shows the index of one that isn't.
+pub fn all(rt: &impl Abort, answers: &[bool]) {
+    for (index, answer) in answers.iter().enumerate() {
+        assert!(rt; *answer, "at {index}");
+    }
+}
+
 /// Passes if no step has a wrong result, and these are the questions to the source.
 pub fn is_right(rt: &impl Abort, outcome: Outcome, asked: &[Question]) {
-    assert_eq!(rt; outcome, (None, only(asked)));
+    let (wrong, found) = outcome;
+    if let Some(index) = wrong {
+        assert!(rt; false, "the step at {index}");
+    }
+    all(rt, &[found == only(asked)]);
 }
 
 /// A memory of 4096 bytes from the address 4096 on, and a source of a part of it. `None` if it is no part of the memory, or if the

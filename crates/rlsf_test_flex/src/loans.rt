@@ -5,7 +5,7 @@ ghost use Rattle.rlsf_base.specs.Addr.{at};
 ghost use Rattle.rlsf_model.specs.Callers.{align_at};
 
 use crate::cursor::{Habits, Question, Questions};
-use crate::heaps::{Small, bytes, is_right, small};
+use crate::heaps::{Small, all, bytes, is_right, small};
 use rlsf_base::memory::{Addr, Layout, Range};
 use rlsf_flex::{FlexSource, SourceChange};
 use std::cell::Cell;
@@ -103,7 +103,7 @@ fn a_payload_moves_into_growth(rt: HostRuntime) {
     let mut flex = small(&rt, ALL, HABITS, &seen);
     let moved = moved(&mut flex);
     let (_, source) = flex.into_parts();
-    assert_eq!(rt; moved, Some(([4112, 4176], [true, true])));
+    all(&rt, &[moved == Some(([4112, 4176], [true, true]))]);
     is_right(&rt, (None, source.asked()), &GROWN_AND_GIVEN_BACK);
 }
 
@@ -111,11 +111,11 @@ static GROWN: [Question; 2] = [Question::Alloc(64), Question::Grow(4096, 64, 672
 
 #[test]
 fn two_payloads_with_a_growth_between(rt: HostRuntime) {
-    let second = Layout::from_size_align(500, 8).expect(&rt, "a layout");
+    let second = Layout::from_size_align_unchecked(500, 8);
     let seen = Cell::new(Questions::new());
     let mut flex = small(&rt, ALL, HABITS, &seen);
     let read = two(&mut flex, bytes(16), second);
-    assert_eq!(rt; read, Some((7, 9)));
+    all(&rt, &[read == Some((7, 9))]);
     is_right(&rt, (None, flex.source_ref().asked()), &GROWN);
 }
 
@@ -135,6 +135,6 @@ fn a_change_of_the_source(rt: HostRuntime) {
     let seen = Cell::new(Questions::new());
     let mut flex = small(&rt, ALL, HABITS, &seen);
     let looked = flex.source_mut_unchecked(Look(7));
-    assert_eq!(rt; looked, 7);
+    all(&rt, &[looked == 7]);
     is_right(&rt, (None, flex.source_ref().asked()), &[]);
 }

@@ -26,6 +26,7 @@ use rlsf_int::BitPattern;
 use rlsf_listed_source::{ListedSource, Question, SourceAnswer};
 use rlsf_trace_flex_runs::run_flex;
 use rlsf_trace_text::{Answer, Op};
+use std::alloc::Global;
 use std::process::Abort;
 
 /// Where the spaces of the sources start.
@@ -153,25 +154,26 @@ struct Left {
     source: ListedSource,
 }
 
-/// What ops leave.
+/// What ops leave. `None` if the system is out of memory.
 fn left_by<FLBitmap: BitPattern, SLBitmap: BitPattern, const FLLEN: usize, const SLLEN: usize>(
-    rt: &(impl Abort + AllocGlobal),
+    alloc: Global,
     source: Source,
     given: Vec<SourceAnswer>,
     ops: &[Op],
     _shape: Shape<'_, FLBitmap, SLBitmap, FLLEN, SLLEN>,
-) -> Left
+) -> Option<Left>
     requires { IsValid FLBitmap.width SLBitmap.width FLLEN SLLEN }
 {
-    let alloc = rt.alloc();
     let (space, capabilities) = (source.space(), source.capabilities());
-    let parts = parts_of(alloc, space, capabilities, given, QUESTIONS);
-    let (memory, source) = parts.expect(rt, "memory");
+    let (memory, source) = parts_of(alloc, space, capabilities, given, QUESTIONS)?;
     let mut flex = FlexTlsf::<_, FLBitmap, SLBitmap, FLLEN, SLLEN>::new(memory, source);
     let mut answers = Vec::new(alloc);
-    run_flex(alloc, &mut flex, ops, &mut answers).expect(rt, "memory");
+    let run = run_flex(alloc, &mut flex, ops, &mut answers);
     let (_, source) = flex.into_parts();
-    Left { answers, source }
+    match run {
+        Ok(()) => Some(Left { answers, source }),
+        Err(_) => None,
+    }
 }
 
 /// A run, and its expected outcome.
@@ -212,7 +214,7 @@ fn is_right(script: &Script, questions: &[Question], left: &Left) -> bool {
     script.is_answered_by(&left.answers) && left.source.asked() == questions
 }
 
-/// Whether the run with a number goes as it has to; nothing where there is none.
+/// Whether the run with a number goes as it has to. `None` where there is none, or if the system is out of memory.
 fn goes_so<FLBitmap: BitPattern, SLBitmap: BitPattern, const FLLEN: usize, const SLLEN: usize>(
     rt: &(impl Abort + AllocGlobal),
     choice: usize,
@@ -227,7 +229,7 @@ fn goes_so<FLBitmap: BitPattern, SLBitmap: BitPattern, const FLLEN: usize, const
         asked,
     } = plan_of(rt, choice, number)?;
     let Asked { answers, questions } = asked;
-    let left = left_by(rt, source, answers, &script.ops, shape);
+    let left = left_by(rt.alloc(), source, answers, &script.ops, shape)?;
     Some(is_right(&script, &questions, &left))
 }
 
@@ -250,7 +252,7 @@ fn first_wrong<FLBitmap: BitPattern, SLBitmap: BitPattern, const FLLEN: usize, c
 /// Passes if no run has a wrong outcome, in any of the configurations.
 fn none_is_wrong(rt: &impl Abort, found: &[Option<usize>]) {
     for (index, wrong) in found.iter().enumerate() {
-        assert_eq!(rt; *wrong, None, "in the configuration at {index}");
+        assert!(rt; wrong.is_none(), "in the configuration at {index}");
     }
 }
 

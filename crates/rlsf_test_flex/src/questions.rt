@@ -5,10 +5,11 @@ ghost use Rattle.rlsf_base.specs.Addr.{reply};
 ghost use Rattle.rlsf_test_flex.specs.Questions.{IsAskedForTwo, plain};
 ghost use Rattle.rlsf_model.specs.FlexState.{empty};
 
+use crate::heaps::all;
 use rlsf_base::memory::{Addr, Layout, Memory, Range};
 use rlsf_flex::FlexTlsf;
 use rlsf_listed_source::{Capabilities, ListedSource, Question, SourceAnswer};
-use std::process::Abort;
+use std::alloc::Global;
 
 /// Two payloads of one byte, from an allocator that has asked for nothing, over a source that neither grows a range nor takes one
 /// back. It has room for two questions.
@@ -33,23 +34,18 @@ const PLAIN: Capabilities = Capabilities {
     min_align: 32,
 };
 
-/// Whether a source with one answer is asked these questions for two payloads.
-fn are_asked(
-    rt: &(impl Abort + AllocGlobal),
-    answer: SourceAnswer,
-    questions: &[Question],
-) -> bool {
-    let alloc = rt.alloc();
+/// Whether a source with one answer is asked these questions for two payloads. `None` if the system is out of memory.
+fn are_asked(alloc: Global, answer: SourceAnswer, questions: &[Question]) -> Option<bool> {
     let space = Range {
         start: 4096,
         len: 1024,
     };
-    let memory = Memory::new(alloc, 4096, 1024).expect(rt, "memory");
-    let answers = [answer].to_vec(alloc).expect(rt, "memory");
-    let source = ListedSource::new(alloc, space, PLAIN, answers, 2).expect(rt, "memory");
+    let memory = Memory::new(alloc, 4096, 1024).ok()?;
+    let answers = [answer].to_vec(alloc).ok()?;
+    let source = ListedSource::new(alloc, space, PLAIN, answers, 2).ok()?;
     let mut flex = FlexTlsf::<_, u8, u8, 8, 8>::new(memory, source);
     let _payloads = two_payloads(&mut flex);
-    flex.source_ref().asked() == questions
+    Some(flex.source_ref().asked() == questions)
 }
 
 /// A range for one payload.
@@ -79,8 +75,10 @@ static CASES: [(SourceAnswer, &[Question]); 3] = [
 
 #[test]
 fn questions_for_two_payloads(rt: HostRuntime) {
-    for (index, (answer, questions)) in CASES.iter().enumerate() {
-        let is_so = are_asked(&rt, *answer, questions);
-        assert!(rt; is_so, "the case at {index}");
+    for (answer, questions) in &CASES {
+        all(
+            &rt,
+            &[are_asked(rt.alloc(), *answer, questions) == Some(true)],
+        );
     }
 }

@@ -6,14 +6,14 @@ mod tables;
 ghost use Rattle.rlsf_base.specs.PowerOfTwo.{IsPowerOfTwo};
 
 use self::tables::{CLAIMS_CONTIGUITY, GROWS_AND_TAKES_BACK, TAKES_BACK};
+use crate::heaps::all;
 use crate::sources::parts;
 use rlsf_base::memory::{Memory, Range};
 use rlsf_flex::FlexTlsf;
 use rlsf_listed_source::{Capabilities, ListedSource, Question, SourceAnswer};
 use rlsf_trace_flex_runs::run_flex;
 use rlsf_trace_text::{Answer, Op, Trace, text_of};
-use std::alloc::AllocError;
-use std::process::Abort;
+use std::alloc::{AllocError, Global};
 
 /// The answers of a source, the calls of its runs, and the expected answers and questions of each run. The first run has the
 /// answers as they are. Each later run has one of them replaced by none.
@@ -31,24 +31,27 @@ struct Left {
     source: ListedSource,
 }
 
-/// What ops leave over a source with these answers.
+/// What ops leave over a source with these answers. `None` if the system is out of memory.
 fn left_by(
-    rt: &(impl Abort + AllocGlobal),
+    alloc: Global,
     capabilities: Capabilities,
     given: &[SourceAnswer],
     ops: &[Op],
-) -> Left
+) -> Option<Left>
     requires { IsPowerOfTwo capabilities.min_align }
 {
-    let (first, fresh) = parts(rt.alloc(), capabilities, given).expect(rt, "memory");
+    let (first, fresh) = parts(alloc, capabilities, given)?;
     let mut flex = FlexTlsf::<_, u8, u8, 8, 8>::new(first, fresh);
-    let mut answers = Vec::new(rt.alloc());
-    run_flex(rt.alloc(), &mut flex, ops, &mut answers).expect(rt, "memory");
+    let mut answers = Vec::new(alloc);
+    let run = run_flex(alloc, &mut flex, ops, &mut answers);
     let (memory, source) = flex.into_parts();
-    Left {
-        answers,
-        memory,
-        source,
+    match run {
+        Ok(()) => Some(Left {
+            answers,
+            memory,
+            source,
+        }),
+        Err(_) => None,
     }
 }
 
@@ -100,18 +103,18 @@ fn follows(before: &Left, after: &Left) -> bool {
 }
 
 /// The result of the ops. `None` if one of them, done as the last one, has another answer than among all of them. `None` also if it
-/// is refused and changes something.
+/// is refused and changes something, or if the system is out of memory.
 fn left_by_each(
-    rt: &(impl Abort + AllocGlobal),
+    alloc: Global,
     capabilities: Capabilities,
     given: &[SourceAnswer],
     ops: &[Op],
 ) -> Option<Left>
     requires { IsPowerOfTwo capabilities.min_align }
 {
-    let mut before = left_by(rt, capabilities, given, &[]);
+    let mut before = left_by(alloc, capabilities, given, &[])?;
     for (place, _) in ops.iter().enumerate() {
-        let after = left_by(rt, capabilities, given, &ops[..=place]);
+        let after = left_by(alloc, capabilities, given, &ops[..=place])?;
         if !follows(&before, &after) {
             return None;
         }
@@ -120,17 +123,13 @@ fn left_by_each(
     Some(before)
 }
 
-/// The answers of a list, one of which is replaced by none if the run isn't the first.
-fn replaced(
-    rt: &(impl Abort + AllocGlobal),
-    given: &[SourceAnswer],
-    run: usize,
-) -> Vec<SourceAnswer> {
-    let mut answers = given.to_vec(rt.alloc()).expect(rt, "memory");
+/// The answers of a list, one of which is replaced by none if the run isn't the first. `None` if the system is out of memory.
+fn replaced(alloc: Global, given: &[SourceAnswer], run: usize) -> Option<Vec<SourceAnswer>> {
+    let mut answers = given.to_vec(alloc).ok()?;
     if 0 < run && run <= answers.len() {
         answers[run - 1] = SourceAnswer::None;
     }
-    answers
+    Some(answers)
 }
 
 /// A line for a question.
@@ -153,38 +152,29 @@ fn tell(text: &mut String, question: Question) -> Result<(), AllocError> {
     }
 }
 
-/// What a run answers and asks; nothing where a refused call changes something.
-fn told(
-    rt: &(impl Abort + AllocGlobal),
-    capabilities: Capabilities,
-    list: &List,
-    run: usize,
-) -> Option<String>
+/// What a run answers and asks. `None` where a refused call changes something, or if the system is out of memory.
+fn told(alloc: Global, capabilities: Capabilities, list: &List, run: usize) -> Option<String>
     requires { IsPowerOfTwo capabilities.min_align }
 {
-    let trace = Trace::parse(rt.alloc(), list.trace.as_bytes()).expect(rt, "a trace");
-    let given = replaced(rt, list.answers, run);
-    let left = left_by_each(rt, capabilities, &given, &trace.ops)?;
-    let mut text = text_of(rt.alloc(), &trace.ops, &left.answers).expect(rt, "memory");
+    let trace = Trace::parse(alloc, list.trace.as_bytes()).ok()?;
+    let given = replaced(alloc, list.answers, run)?;
+    let left = left_by_each(alloc, capabilities, &given, &trace.ops)?;
+    let mut text = text_of(alloc, &trace.ops, &left.answers).ok()?;
     for question in left.source.asked() {
-        tell(&mut text, *question).expect(rt, "memory");
+        tell(&mut text, *question).ok()?;
     }
     Some(text)
 }
 
 /// The first run with a wrong result. 0 if there isn't a run for each answer and one more.
-fn first_wrong(
-    rt: &(impl Abort + AllocGlobal),
-    capabilities: Capabilities,
-    list: &List,
-) -> Option<usize>
+fn first_wrong(alloc: Global, capabilities: Capabilities, list: &List) -> Option<usize>
     requires { IsPowerOfTwo capabilities.min_align }
 {
     if list.answers.len().checked_add(1) != Some(list.runs.len()) {
         return Some(0);
     }
     for (run, wanted) in list.runs.iter().enumerate() {
-        match told(rt, capabilities, list, run) {
+        match told(alloc, capabilities, list, run) {
             Some(text) if text.as_str() == *wanted => {}
             _ => return Some(run),
         }
@@ -216,10 +206,10 @@ const TAKES: Capabilities = Capabilities {
 
 #[test]
 fn each_answer_refused(rt: HostRuntime) {
-    let found = [
-        first_wrong(&rt, GROWS, &GROWS_AND_TAKES_BACK),
-        first_wrong(&rt, CLAIMS, &CLAIMS_CONTIGUITY),
-        first_wrong(&rt, TAKES, &TAKES_BACK),
+    let answers = [
+        first_wrong(rt.alloc(), GROWS, &GROWS_AND_TAKES_BACK).is_none(),
+        first_wrong(rt.alloc(), CLAIMS, &CLAIMS_CONTIGUITY).is_none(),
+        first_wrong(rt.alloc(), TAKES, &TAKES_BACK).is_none(),
     ];
-    assert_eq!(rt; found, [None; 3]);
+    all(&rt, &answers);
 }

@@ -3,7 +3,7 @@
 use crate::cursor::{Habits, NEITHER, Question, Questions};
 use crate::heap_source::over_allocator;
 use crate::heaps::{
-    Case, NO_STEPS, Shaped, Step, are_right_with_each_capability, bytes, first_wrong, footer,
+    Case, NO_STEPS, Shaped, Step, all, are_right_with_each_capability, bytes, first_wrong, footer,
     is_right, small,
 };
 use crate::sources::parts_of;
@@ -87,7 +87,7 @@ fn shrinks<S: FlexSource>(flex: &mut Shaped<S>, first: u32, second: u32) -> Opti
 
 /// Passes if so many ranges returned to the source.
 fn went(rt: &impl Abort, shrunk: Option<Shrunk>, expected: Shrunk) {
-    assert_eq!(rt; shrunk, Some(expected));
+    all(rt, &[shrunk == Some(expected)]);
 }
 
 #[test]
@@ -204,6 +204,10 @@ fn the_range_before_grows_after_a_trim(rt: HostRuntime) {
     let (memory, source) = flex.into_parts();
     // The footer moved there from 4176.
     let moved = footer(&memory, 4240);
-    let found = (wrong, moved, source.asked());
-    assert_eq!(rt; found, (None, Some((0, 0)), ASKED.as_slice()));
+    let answers = [
+        wrong.is_none(),
+        moved == Some((0, 0)),
+        source.asked() == ASKED.as_slice(),
+    ];
+    all(&rt, &answers);
 }
