@@ -44,6 +44,36 @@ enum Call {
     Move(usize, Layout),
 }
 
+/// The call that the next bytes mean, if they don't end before. The first chooses which one. With more than 64 payloads live none
+/// is allocated.
+fn next_call(bytes: &mut Vec<u8>, live: usize) -> Option<Call> {
+    match bytes.pop()? % 8 {
+        0..=2 if live > 64 => Some(Call::Nothing),
+        0..=2 => Some(Call::Allocate(next_layout(bytes)?)),
+        3..=5 => Some(match next_place(bytes, live)? {
+            Some(place) => Call::Free(place),
+            None => Call::Nothing,
+        }),
+        _ => match next_place(bytes, live)? {
+            Some(place) => Some(Call::Move(place, next_layout(bytes)?)),
+            None => Some(Call::Nothing),
+        },
+    }
+}
+
+/// A layout: a byte is the size, and another the alignment.
+fn next_layout(bytes: &mut Vec<u8>) -> Option<Layout> {
+    let size = usize::from(bytes.pop()?);
+    let align = 1 << (bytes.pop()? % 6);
+    Layout::from_size_align(size, align).ok()
+}
+
+/// The payload that a byte chooses. The outer is none at the end of the bytes, and the inner where none is live.
+fn next_place(bytes: &mut Vec<u8>, live: usize) -> Option<Option<usize>> {
+    let index = usize::from(bytes.pop()?);
+    Some(index.checked_rem(live))
+}
+
 impl<Options: GlobalTlsfOptions> Run<Options> {
     /// Nothing is live yet. `None` if the system is out of memory.
     fn new(alloc: Global, bytes: &[u8], placed: &[u32]) -> Option<Self> {
@@ -64,7 +94,7 @@ impl<Options: GlobalTlsfOptions> Run<Options> {
     /// deallocated.
     fn is_right<R: Wait>(&mut self, rt: &R) -> bool {
         for _ in 0..self.bytes.len() {
-            let Some(call) = self.next_call() else {
+            let Some(call) = next_call(&mut self.bytes, self.live.len()) else {
                 break;
             };
             if !self.goes_so(rt, call) {
@@ -81,36 +111,6 @@ impl<Options: GlobalTlsfOptions> Run<Options> {
             }
         }
         true
-    }
-
-    /// The call that the next bytes mean, if they don't end before. The first chooses which one. With more than 64 payloads live none
-    /// is allocated.
-    fn next_call(&mut self) -> Option<Call> {
-        match self.bytes.pop()? % 8 {
-            0..=2 if self.live.len() > 64 => Some(Call::Nothing),
-            0..=2 => Some(Call::Allocate(self.next_layout()?)),
-            3..=5 => Some(match self.next_place()? {
-                Some(place) => Call::Free(place),
-                None => Call::Nothing,
-            }),
-            _ => match self.next_place()? {
-                Some(place) => Some(Call::Move(place, self.next_layout()?)),
-                None => Some(Call::Nothing),
-            },
-        }
-    }
-
-    /// A layout: a byte is the size, and another the alignment.
-    fn next_layout(&mut self) -> Option<Layout> {
-        let size = usize::from(self.bytes.pop()?);
-        let align = 1 << (self.bytes.pop()? % 6);
-        Layout::from_size_align(size, align).ok()
-    }
-
-    /// The payload that a byte chooses. The outer is none at the end of the bytes, and the inner where none is live.
-    fn next_place(&mut self) -> Option<Option<usize>> {
-        let index = usize::from(self.bytes.pop()?);
-        Some(index.checked_rem(self.live.len()))
     }
 
     /// Whether a call has its expected result.
