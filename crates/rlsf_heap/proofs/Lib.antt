@@ -4,6 +4,7 @@ pub mod Arrivals
 pub mod Costs
 pub mod Leaving
 pub mod PutBack
+pub mod HandedOver
 pub mod LiveCounts
 pub mod PayloadsApart
 pub mod RawPayloads

@@ -1,15 +1,11 @@
 //! What is true of any two payloads that are out at the same time.
-ghost use Rattle.std.specs.Prelude.{◌≡◌, ◌≢◌, ◌%◌, ◌++◌, ◌∷◌, [], Some, length, true};
-ghost use Rattle.rlsf_base.specs.Ledger.{entry_of, extent};
+ghost use Rattle.std.specs.Prelude.{◌≡◌, ◌≢◌, ◌%◌, Some, length};
 ghost use Rattle.rlsf_base.specs.Range.{AreApart};
 ghost use Rattle.rlsf_model.specs.Callers.{align_at, bytes_at};
-ghost use Rattle.rlsf_heap.specs.Heap.{LiesInChunk, payload_range, payload_view};
-ghost use Rattle.rlsf_heap.specs.Renewed.{IsRedeemed};
+ghost use Rattle.rlsf_heap.specs.Heap.{LiesInChunk, payload_range};
 
 use crate::heap::Heap;
 use crate::payload::Payload;
-use rlsf_base::memory::Part;
-use rlsf_base::memory::ledger::Ledger;
 use rlsf_int::BitPattern;
 
 impl<FLBitmap: BitPattern, SLBitmap: BitPattern, const FLLEN: usize, const SLLEN: usize> Heap<
@@ -44,34 +40,5 @@ impl<FLBitmap: BitPattern, SLBitmap: BitPattern, const FLLEN: usize, const SLLEN
         let first = Payload::issued(part, align, &mut self.ledger);
         let second = Payload::issued(other, wide, &mut self.ledger);
         (first, second)
-    }
-}
-
-impl Payload {
-    // Redeems the payload's ticket. Returns its bytes and its alignment.
-    fn redeemed(self, ledger: &mut Ledger) -> (Part, usize)
-        requires { self.identity.ledger ≡ ledger.old.name }
-        ensures parts { payload_view result.0 result.1 self.identity.ledger ≡ self }
-        ensures name { ledger.new.name ≡ ledger.old.name }
-        ensures entries { IsRedeemed self ledger.old.entries ledger.new.entries }
-    {
-        let align = self.align();
-        let (part, ticket) = self.into_parts();
-        ledger.redeem(ticket);
-        (part, align)
-    }
-
-    // Makes a payload of bytes that have no ticket.
-    fn issued(part: Part, align: usize, ledger: &mut Ledger) -> Payload
-        ensures payload { result ≡ payload_view part align ledger.old.name }
-        ensures name { ledger.new.name ≡ ledger.old.name }
-        ensures entries { ledger.new.entries ≡ ledger.old.entries ++ entry_of (extent part.start (length part.bytes) align) true ∷ [] }
-    {
-        let ticket = ledger.issue(part.start(), part.len(), align);
-        Payload {
-            part,
-            align,
-            ticket,
-        }
     }
 }

@@ -170,13 +170,8 @@ impl<FLBitmap: BitPattern, SLBitmap: BitPattern, const FLLEN: usize, const SLLEN
         self.live += 1;
         self.state.allocate(SLLEN, layout.size(), align);
         let range = load_usable_of(&mut self.memory, view, addr, align);
-        let part = self.memory.take_out(range);
-        let ticket = self.ledger.issue(range.start, range.len, align);
-        Some(Payload {
-            part,
-            align,
-            ticket,
-        })
+        let payload = Payload::hand_over(&mut self.memory, &mut self.ledger, range, align);
+        Some(payload)
     }
 
     /// Allocates a payload for `layout`, as `allocate` does, and fills it with zeros: its bytes are here. It is filled after it

@@ -78,11 +78,9 @@ impl<FLBitmap: BitPattern, SLBitmap: BitPattern, const FLLEN: usize, const SLLEN
         let Ok(layout) = Layout::from_size_align(size, align) else {
             return Err(payload);
         };
-        let (part, ticket) = payload.into_parts();
-        let addr = part.start();
-        let len = part.len();
-        self.ledger.redeem(ticket);
-        self.memory.put_back(part);
+        let addr = payload.addr();
+        let len = payload.len();
+        payload.take_back(&mut self.memory, &mut self.ledger);
         let block = used_block(&mut self.memory, view, addr, align);
         let moved = reallocate_block::<FLLEN, SLLEN, 0>(
             &mut self.memory,
@@ -93,23 +91,14 @@ impl<FLBitmap: BitPattern, SLBitmap: BitPattern, const FLLEN: usize, const SLLEN
             layout,
         );
         let Some(to) = moved else {
-            let part = self.memory.take_out(Range { start: addr, len });
-            let ticket = self.ledger.issue(addr, len, align);
-            return Err(Payload {
-                part,
-                align,
-                ticket,
-            });
+            let range = Range { start: addr, len };
+            let payload = Payload::hand_over(&mut self.memory, &mut self.ledger, range, align);
+            return Err(payload);
         };
         self.state.reallocate(SLLEN, addr, size);
         let range = load_usable_bytes(&mut self.memory, to);
-        let part = self.memory.take_out(range);
-        let ticket = self.ledger.issue(range.start, range.len, align);
-        Ok(Payload {
-            part,
-            align,
-            ticket,
-        })
+        let payload = Payload::hand_over(&mut self.memory, &mut self.ledger, range, align);
+        Ok(payload)
     }
 
     /// Changes the size of a payload to `size` bytes without moving it, and returns it with its alignment. It uses the bytes
@@ -158,29 +147,18 @@ impl<FLBitmap: BitPattern, SLBitmap: BitPattern, const FLLEN: usize, const SLLEN
         let Ok(layout) = Layout::from_size_align(size, align) else {
             return Err(payload);
         };
-        let (part, ticket) = payload.into_parts();
-        let addr = part.start();
-        let len = part.len();
-        self.ledger.redeem(ticket);
-        self.memory.put_back(part);
+        let addr = payload.addr();
+        let len = payload.len();
+        payload.take_back(&mut self.memory, &mut self.ledger);
         let block = used_block(&mut self.memory, view, addr, align);
         if !resize_block(&mut self.memory, view, &mut self.table, block, addr, layout) {
-            let part = self.memory.take_out(Range { start: addr, len });
-            let ticket = self.ledger.issue(addr, len, align);
-            return Err(Payload {
-                part,
-                align,
-                ticket,
-            });
+            let range = Range { start: addr, len };
+            let payload = Payload::hand_over(&mut self.memory, &mut self.ledger, range, align);
+            return Err(payload);
         }
         self.state.reallocate(SLLEN, addr, size);
         let range = load_usable_bytes(&mut self.memory, addr);
-        let part = self.memory.take_out(range);
-        let ticket = self.ledger.issue(range.start, range.len, align);
-        Ok(Payload {
-            part,
-            align,
-            ticket,
-        })
+        let payload = Payload::hand_over(&mut self.memory, &mut self.ledger, range, align);
+        Ok(payload)
     }
 }

@@ -1,7 +1,7 @@
 use Rattle.std.proofs.Common.{refl, ◌≡◌, arith, ◌+◌, ◌<◌, ◌≤◌, length, sym, ap, subst, ◌∙◌}
 use Rattle.rlsf_base.specs.declared.memory.range.Range.{Range}
 use Rattle.rlsf_base.specs.Ledger.{extent}
-use Rattle.rlsf_base.specs.OpenSpace.{IsOwned, out_without}
+use Rattle.rlsf_base.specs.OpenSpace.{IsOwned, home_of, out_without}
 use Rattle.rlsf_base.specs.Range.{LiesIn}
 use Rattle.rlsf_model.specs.Allocate.{Allocates}
 use Rattle.rlsf_model.specs.Callers.{bytes_at}
@@ -20,7 +20,7 @@ use Rattle.rlsf_heap.specs.Settled.{IsSettled}
 use Rattle.rlsf_heap.proofs.Settled.{settled-here, settled-inside, settled-left, settled-stays}
 use Rattle.rlsf_heap.proofs.heap.Heap.allocate.Given as given
 use Rattle.rlsf_heap.proofs.heap.Heap.allocate.Goals as goal
-use Rattle.rlsf_heap.proofs.heap.Heap.allocate.Goals.{After-issue-ticket, After-load_usable_of-range, In_ok-addr}
+use Rattle.rlsf_heap.proofs.heap.Heap.allocate.Goals.{After-hand_over-payload, After-load_usable_of-range, In_ok-addr}
 
 -- ---- a refused allocation changes nothing
 
@@ -93,71 +93,71 @@ range g c =
     c.load_usable_of-range.ensures.range g.row.FLLEN g.row.SLLEN c.allocate_block.new.table (after g c) (new p) (placing g c).now (is_new p, at_new p)
     (sym c.align-align.ensures.value)
 
-pub take_out-part-requires-clause-place : goal.take_out-part-requires-clause-place
-take_out-part-requires-clause-place g c =
-    let d = (goal.at.take_out-part-requires-clause-place g c).After-load_usable_of-range in
+pub hand_over-payload-requires-clause-place : goal.hand_over-payload-requires-clause-place
+hand_over-payload-requires-clause-place g c =
+    let d = (goal.at.hand_over-payload-requires-clause-place g c).After-load_usable_of-range in
     let m = c.load_usable_of-range.new.memory in
     subst (λ (r : Range). LiesIn r m.start (length m.bytes)) (sym (range g d)) (new-lies (reading g d))
 
-pub take_out-part-requires-clause-own : goal.take_out-part-requires-clause-own
-take_out-part-requires-clause-own g c =
-    let d = (goal.at.take_out-part-requires-clause-own g c).After-load_usable_of-range in
+pub hand_over-payload-requires-clause-own : goal.hand_over-payload-requires-clause-own
+hand_over-payload-requires-clause-own g c =
+    let d = (goal.at.hand_over-payload-requires-clause-own g c).After-load_usable_of-range in
     subst (IsOwned c.load_usable_of-range.new.memory) (sym (range g d)) (new-here (reading g d))
 
 -- ---- its bytes leave
 
-abbrev read : (g : given.Over) → After-issue-ticket g → After-load_usable_of-range g
+abbrev read : (g : given.Over) → After-hand_over-payload g → After-load_usable_of-range g
 read g c = (goal.at.invariant_of-self-2 g c).After-load_usable_of-range
 
-abbrev reached : (g : given.Over) → After-issue-ticket g → State
+abbrev reached : (g : given.Over) → After-hand_over-payload g → State
 reached g c = after g (read g c)
 
-standing : (g : given.Over) (c : After-issue-ticket g) → StandsFor g.row.FLLEN g.row.SLLEN (contents c.take_out-part.new.self c.allocate_block.new.table) (reached g c)
+standing : (g : given.Over) (c : After-hand_over-payload g) → StandsFor g.row.FLLEN g.row.SLLEN (contents c.hand_over-payload.new.memory c.allocate_block.new.table) (reached g c)
 standing g c =
-    let e = c.take_out-part.ensures in
-    stands-left (reading g (read g c)) c.take_out-part.new.self e.start e.bytes (e.out ∙ ap (out_without c.load_usable_of-range.new.memory) (range g (read g c)))
+    let e = c.hand_over-payload.ensures.over in
+    stands-left (reading g (read g c)) c.hand_over-payload.new.memory e.start e.bytes (e.out ∙ ap (out_without c.load_usable_of-range.new.memory) (range g (read g c)))
 
 -- the ghost state is the one with the payload
-kept : (g : given.Over) (c : After-issue-ticket g) → c.allocate.new.self.state ≡ bare (reached g c)
+kept : (g : given.Over) (c : After-hand_over-payload g) → c.allocate.new.self.state ≡ bare (reached g c)
 kept g c =
     let p = placing g (read g c) in
     c.allocate.ensures ∙ (λ i. allocated g.row.SLLEN (c.size.ensures.value i) (c.align-align.ensures.value i) (sym (bare-kept c.self.invariant) i))
     ∙ allocated-bare g.row.SLLEN (before g (read g c)) (reached g c) c.args.layout.size c.args.layout.align c.in_ok-addr.addr p.places
 
 -- the address that the ticket is issued for
-address : (g : given.Over) (c : After-issue-ticket g) → c.load_usable_of-range.result.start ≡ c.in_ok-addr.addr
+address : (g : given.Over) (c : After-hand_over-payload g) → c.load_usable_of-range.result.start ≡ c.in_ok-addr.addr
 address g c = ap (λ (r : Range). r.start) (range g (read g c)) ∙ at_new (reading g (read g c))
 
 pub invariant_of-self-2 : goal.invariant_of-self-2
 invariant_of-self-2 g c =
-    let d = (goal.at.invariant_of-self-2 g c).After-issue-ticket in
+    let d = (goal.at.invariant_of-self-2 g c).After-hand_over-payload in
     let r = c.load_usable_of-range.result in
-    IsHeap-arrived (standing g d) c.allocate.new.self.state (kept g d) c.self.invariant.valid c.issue-ticket.new.self.entries
-    (subst (AreIssued (reached g d)) (sym c.issue-ticket.ensures.entries)
+    IsHeap-arrived (standing g d) c.allocate.new.self.state (kept g d) c.self.invariant.valid c.hand_over-payload.new.ledger.entries
+    (subst (AreIssued (reached g d)) (sym c.hand_over-payload.ensures.over.entries)
     (issued-new (reading g (read g d)) c.self.inside.ledger.entries c.self.invariant.tickets (extent r.start r.len c.align-align.result) (address g d)
     (ap (λ (q : Range). q.len) (range g (read g d))) c.align-align.ensures.value))
     (c.self.inside.live + 1) (one_more (reading g (read g d)) c.self.inside.live c.self.invariant.counted).0
 
 -- ---- what contracts see
 
-abbrev now : (g : given.Over) → After-issue-ticket g → State
-now g c = read_from c.take_out-part.new.self c.allocate.new.self.state
+abbrev now : (g : given.Over) → After-hand_over-payload g → State
+now g c = read_from c.hand_over-payload.new.memory c.allocate.new.self.state
 
--- the address is the part's
-at : (g : given.Over) (c : After-issue-ticket g) → c.in_ok-addr.addr ≡ c.take_out-part.result.start
-at g c = sym (address g c) ∙ sym c.take_out-part.ensures.part.1
+-- the address is that of the payload
+at : (g : given.Over) (c : After-hand_over-payload g) → c.in_ok-addr.addr ≡ c.hand_over-payload.result.start
+at g c = sym (address g c) ∙ sym c.hand_over-payload.ensures.over.at
 
-sees : (g : given.Over) (c : After-issue-ticket g) → SeesPlaced g.row.FLLEN g.row.SLLEN c.args.self.now
-    (heap_view c.take_out-part.new.self c.allocate_block.new.table c.allocate.new.self.state c.issue-ticket.new.self.name) c.args.layout.size c.args.layout.align
-    c.take_out-part.result.start
-sees g c = seen_placed c.self.invariant (reading g (read g c)) (standing g c) c.allocate.new.self.state (kept g c) c.take_out-part.result.start (at g c) c.args.self.now
-    c.self.view_is c.issue-ticket.new.self.name
+sees : (g : given.Over) (c : After-hand_over-payload g) → SeesPlaced g.row.FLLEN g.row.SLLEN c.args.self.now
+    (heap_view c.hand_over-payload.new.memory c.allocate_block.new.table c.allocate.new.self.state c.hand_over-payload.new.ledger.name) c.args.layout.size c.args.layout.align
+    c.hand_over-payload.result.start
+sees g c = seen_placed c.self.invariant (reading g (read g c)) (standing g c) c.allocate.new.self.state (kept g c) c.hand_over-payload.result.start (at g c) c.args.self.now
+    c.self.view_is c.hand_over-payload.new.ledger.name
 
--- the part is as long as the payload of the reference model
-long : (g : given.Over) (c : After-issue-ticket g) → length c.take_out-part.result.bytes ≡ length (bytes_at (now g c) c.take_out-part.result.start)
+-- it is as long as the payload of the reference model
+long : (g : given.Over) (c : After-hand_over-payload g) → length c.hand_over-payload.result.bytes ≡ length (bytes_at (now g c) c.hand_over-payload.result.start)
 long g c =
-    c.take_out-part.ensures.len ∙ ap (λ (r : Range). r.len) (range g (read g c))
-    ∙ long_placed c.self.invariant (reading g (read g c)) (standing g c) c.allocate.new.self.state (kept g c) c.take_out-part.result.start (at g c)
+    c.hand_over-payload.ensures.over.long ∙ ap (λ (r : Range). r.len) (range g (read g c))
+    ∙ long_placed c.self.invariant (reading g (read g c)) (standing g c) c.allocate.new.self.state (kept g c) c.hand_over-payload.result.start (at g c)
 
 -- ---- no byte is raw, if none was
 
@@ -168,7 +168,7 @@ returns-in_err-addr-clause-settled g c = λ settled.
     settled-stays stays (settled-inside c.self.inside.state.state c.args.self.now c.self.view_is settled)
 
 -- before its bytes leave
-settled_read : (g : given.Over) (c : After-issue-ticket g) → IsSettled c.args.self.now.memory → IsSettled c.load_usable_of-range.new.memory
+settled_read : (g : given.Over) (c : After-hand_over-payload g) → IsSettled c.args.self.now.memory → IsSettled c.load_usable_of-range.new.memory
 settled_read g c settled =
     let e = c.in_ok-addr.ensures in
     let counts = c.load_usable_of-range.ensures.counts in
@@ -176,11 +176,11 @@ settled_read g c settled =
     let counted = Stays-same c.allocate_block.new.memory c.load_usable_of-range.new.memory counts.start counts.out in
     settled-stays (Stays-then stays counted) (settled-inside c.self.inside.state.state c.args.self.now c.self.view_is settled)
 
-low_range : (g : given.Over) (c : After-issue-ticket g) → c.load_usable_of-range.new.memory.start ≤ c.load_usable_of-range.result.start
+low_range : (g : given.Over) (c : After-hand_over-payload g) → c.load_usable_of-range.new.memory.start ≤ c.load_usable_of-range.result.start
 low_range g c = subst (λ (r : Range). c.load_usable_of-range.new.memory.start ≤ r.start) (sym (range g (read g c))) (new-lies (reading g (read g c))).0
 
 -- the memory that is left, before its bytes leave
-left_first : (g : given.Over) (c : After-issue-ticket g) → Leaves c.self.inside.memory c.load_usable_of-range.new.memory 30
+left_first : (g : given.Over) (c : After-hand_over-payload g) → Leaves c.self.inside.memory c.load_usable_of-range.new.memory 30
 left_first g c =
     let a = c.in_ok-addr.ensures.costs in
     let b = c.load_usable_of-range.ensures.counts in record {
@@ -191,10 +191,10 @@ left_first g c =
       grow = omega (arith, a.grow, b.grow);
     }
 
-left : (g : given.Over) (c : After-issue-ticket g) → Leaves c.self.inside.memory c.take_out-part.new.self 30
+left : (g : given.Over) (c : After-hand_over-payload g) → Leaves c.self.inside.memory c.hand_over-payload.new.memory 30
 left g c =
     let b = left_first g c in
-    let e = c.take_out-part.ensures in record {
+    let e = c.hand_over-payload.ensures.over in record {
       start = e.start ∙ b.start;
       length = ap length e.bytes ∙ b.length;
       view = e.view ∙ b.view;
@@ -205,23 +205,23 @@ left g c =
 pub returns : goal.returns
 returns g c =
     let a = c.in_ok-addr.ensures.costs in
-    let e = c.take_out-part.ensures in
+    let e = c.hand_over-payload.ensures.over in
     let p = sees g c in
-    let o = sees_left c.self.inside.memory c.take_out-part.new.self c.self.inside.table c.allocate_block.new.table c.self.inside.state.state c.allocate.new.self.state
-    c.self.inside.ledger.name c.issue-ticket.new.self.name 30 (left g c) c.issue-ticket.ensures.name.1 c.args.self.now c.self.view_is in record {
+    let o = sees_left c.self.inside.memory c.hand_over-payload.new.memory c.self.inside.table c.allocate_block.new.table c.self.inside.state.state c.allocate.new.self.state
+    c.self.inside.ledger.name c.hand_over-payload.new.ledger.name 30 (left g c) c.hand_over-payload.ensures.name c.args.self.now c.self.view_is in record {
       step = p.step;
       identity = o.identity;
       place = o.place;
-      settled = λ settled. settled-left c.load_usable_of-range.new.memory c.take_out-part.new.self c.load_usable_of-range.result c.take_out-part.ensures.start
-          (low_range g c) c.take_out-part.ensures.out (settled_read g c settled);
+      settled = λ settled. settled-left c.load_usable_of-range.new.memory c.hand_over-payload.new.memory c.load_usable_of-range.result c.hand_over-payload.ensures.over.start
+          (low_range g c) c.hand_over-payload.ensures.over.out (settled_read g c settled);
       written = λ settled.
           let own = subst (IsOwned c.load_usable_of-range.new.memory) (sym (range g (read g c))) (new-here (reading g (read g c))) in
-          c.take_out-part.ensures.full (settled-here c.load_usable_of-range.new.memory c.load_usable_of-range.result (low_range g c) own (settled_read g c settled));
+          c.hand_over-payload.ensures.over.full (settled-here c.load_usable_of-range.new.memory c.load_usable_of-range.result (low_range g c) own (settled_read g c settled));
       payload =
-          is_of_heap c.self.inside.memory c.load_usable_of-range.new.memory c.self.inside.table c.self.inside.state.state c.self.inside.ledger.name c.issue-ticket.result.name 30
-          (left_first g c) c.issue-ticket.ensures.name.0 c.args.self.now c.self.view_is c.take_out-part.result.home e.part.0 _ refl;
+          is_of_heap c.self.inside.memory c.load_usable_of-range.new.memory c.self.inside.table c.self.inside.state.state c.self.inside.ledger.name c.self.inside.ledger.name 30
+          (left_first g c) refl c.args.self.now c.self.view_is (home_of c.load_usable_of-range.new.memory) refl c.hand_over-payload.result.identity e.identity;
       live = p.seen.live;
-      align = c.align-align.ensures.value;
+      align = e.align ∙ c.align-align.ensures.value;
       long = long g c;
       aligned = p.aligned;
       sized = subst (λ n. c.args.layout.size ≤ n) (sym (long g c)) p.seen.sized;

@@ -1,486 +1,261 @@
-use Rattle.std.proofs.Common.{◌≡◌, ◌+◌, ◌<◌, ◌≤◌, ℕ, List, ◌∷◌, [], ◌++◌, true, false, set, length, None, Some, arith, refl, rules, sym, ap, subst}
-use Rattle.std.proofs.Common.{◌∙◌}
+use Rattle.std.proofs.Common.{◌≡◌, ◌+◌, true, false, length, None, Some, arith, refl, rules, sym, ap, subst, ◌∙◌}
 use Rattle.std.proofs.lemmas.Bool.{false≢true}
 use Rattle.rlsf_base.specs.declared.memory.range.Range.{Range}
-use Rattle.rlsf_base.specs.Ledger.{Entry, entry_of, extent}
-use Rattle.rlsf_base.specs.OpenSpace.{IsHere, IsOwned, out_without}
+use Rattle.rlsf_base.specs.Layout.{IsLayout}
 use Rattle.rlsf_base.specs.Range.{LiesIn, range_at}
-use Rattle.rlsf_base.specs.Space.{Space, bytes_in, out_at, range_of}
-use Rattle.rlsf_base.specs.Out.{here, kept_at}
-use Rattle.rlsf_base.specs.Piece.{HasStatesOf, piece_range}
 use Rattle.rlsf_base.proofs.Lending.Present.{own-here}
-use Rattle.rlsf_model.specs.Reallocate.{Reallocates}
-use Rattle.rlsf_model.specs.State.{State, Used, Holds, filled, usable}
+use Rattle.rlsf_model.specs.NoMove.{ReallocatesWithoutMove}
+use Rattle.rlsf_model.specs.State.{State, usable}
+use Rattle.rlsf_model.proofs.NoMove.{unmoved_is_reallocated}
 use Rattle.rlsf_table.proofs.Parameters.{IsValid-widest}
 use Rattle.rlsf_blocks.specs.Laws.{read_from}
 use Rattle.rlsf_blocks.specs.StandsFor.{contents, StandsFor}
-use Rattle.rlsf_blocks.proofs.Machine.Counted.{StandsFor-touched}
-use Rattle.rlsf_heap.proofs.Leaving.{lies-usable, stands-without}
-use Rattle.rlsf_heap.proofs.Reallocating.{asked, block, came, counted, counted_here, held, stands, state, used_at}
-use Rattle.rlsf_heap.proofs.Resized.{holds_new, new, own_new}
-use Rattle.rlsf_base.specs.Layout.{IsLayout}
-use Rattle.rlsf_model.specs.Callers.{align_at, bytes_at}
-use Rattle.rlsf_model.specs.NoMove.{ReallocatesWithoutMove}
-use Rattle.rlsf_model.specs.Reallocate.{Keeps}
-use Rattle.rlsf_reallocate.specs.Steps.Resize.{IsUsedAt}
-use Rattle.rlsf_model.specs.Run.{Fills}
-use Rattle.rlsf_model.specs.WellFormed.{IsWellFormed}
-use Rattle.rlsf_model.proofs.CallerWords.{align_at-live, bytes_at-held}
-use Rattle.rlsf_model.proofs.Live.{live_addresses_are_aligned}
-use Rattle.rlsf_model.proofs.NoMove.{unmoved_is_reallocated}
-use Rattle.rlsf_reallocate.proofs.Reallocate.FirstPlan.{StandsFor-unchanged}
 use Rattle.rlsf_blocks.proofs.Words.Stays.{Stays, Stays-same, Stays-then}
-use Rattle.rlsf_tlsf.specs.Steps.Moves.{bare}
-use Rattle.rlsf_tlsf.proofs.Arrivals.{arrived}
-use Rattle.rlsf_heap.specs.Heap.{AreIssued, HeapView, PayloadView, Steps}
+use Rattle.rlsf_reallocate.proofs.Reallocate.FirstPlan.{StandsFor-unchanged}
+use Rattle.rlsf_heap.specs.Heap.{HeapView, Identity, Steps, heap_view}
+use Rattle.rlsf_heap.specs.Raw.{bytes_of}
 use Rattle.rlsf_heap.specs.Reallocation.{owned_by}
-use Rattle.rlsf_heap.specs.Settled.{IsSettled}
-use Rattle.rlsf_heap.proofs.Arrivals.{IsHeap-arrived, Steps-arrived, bare-kept}
-use Rattle.rlsf_heap.proofs.Reallocated.{Keeps-each, SeesReallocated, aligns_stay, chunks_reallocated, count_reallocated, reallocated_seen}
-use Rattle.rlsf_heap.proofs.Reallocated.{sized_reallocated}
-use Rattle.rlsf_heap.proofs.Reallocating.{IsBackIn, bare_state, bytes_are, counted_moved, counted_stayed, here as here_of, here_still, issued_again, issued_anew, kept_moved}
-use Rattle.rlsf_heap.proofs.Reallocating.{unmoved, unmoved_moves, unmoved_refused, usable_is}
-use Rattle.rlsf_heap.proofs.Settled.{settled-back, settled-here, settled-left, settled-stays}
-use Rattle.rlsf_heap.proofs.Viewed.{SeesChanged, seen_changed}
-use Rattle.rlsf_heap.proofs.Viewed.{stayed_changed, aligns_view, alike_view, count_view, sized_view, stayed_view, fills_view, live_view, well}
-use Rattle.rlsf_heap.proofs.heap.Heap.reallocate_no_move.Goals.{After-issue-ticket, After-issue-ticket-2}
+use Rattle.rlsf_heap.proofs.Arrivals.{Steps-arrived, bare-kept}
+use Rattle.rlsf_heap.proofs.HandedOver.{IsHeap-resized, IsHeap-unchanged, SeesNewSize, SeesUnchanged, Steps-resized, Steps-unchanged, back_in, found, is_view, key}
+use Rattle.rlsf_heap.proofs.HandedOver.{resized_lies, resized_live, resized_own, sees_new_size, sees_unchanged, stayed_resized}
+use Rattle.rlsf_heap.proofs.Leaving.{lies-usable}
+use Rattle.rlsf_heap.proofs.Reallocated.{aligns_stay}
+use Rattle.rlsf_heap.proofs.Reallocating.{IsBackIn, asked, block, held, here_still, stands, state, unmoved, unmoved_moves, unmoved_refused, usable_is}
+use Rattle.rlsf_heap.proofs.Viewed.{live_view, stayed_view}
 use Rattle.rlsf_heap.proofs.heap.Heap.reallocate_no_move.Given as given
 use Rattle.rlsf_heap.proofs.heap.Heap.reallocate_no_move.Goals as goal
+use Rattle.rlsf_heap.proofs.heap.Heap.reallocate_no_move.Goals.{After-hand_over-payload, After-hand_over-payload-2, After-resize_block}
 
 -- ---- the payload is back in the memory, and its block is found
 
+pub take_back-requires-clause-home : goal.take_back-requires-clause-home
+take_back-requires-clause-home g c = ap (λ (i : Identity). i.home) c.requires.identity ∙ sym (ap (λ (v : HeapView). v.identity.home) c.self.view_is)
+
+pub take_back-requires-clause-issuer : goal.take_back-requires-clause-issuer
+take_back-requires-clause-issuer g c = ap (λ (i : Identity). i.ledger) c.requires.identity ∙ sym (ap (λ (v : HeapView). v.identity.ledger) c.self.view_is)
+
 pub used_block-block-requires-clause-live : goal.used_block-block-requires-clause-live
 used_block-block-requires-clause-live g c =
-    let b = came c.into_parts-part.result.0 c.self.invariant c.into_parts-part.ensures.ticket c.redeem.ensures.issued c.put_back.ensures.start c.put_back.ensures.bytes
-    c.put_back.ensures.out in
-    (g.row.FLLEN, g.row.SLLEN, c.self.inside.table, state b, stands b, asked b c.start-addr.ensures c.align-align.ensures)
+    let b = back_in c.self.invariant c.args.payload c.take_back.ensures.back in
+    (g.row.FLLEN, g.row.SLLEN, c.self.inside.table, state b, stands b, asked b c.addr-addr.ensures c.align-align.ensures)
 
 pub resize_block-requires : goal.resize_block-requires
 resize_block-requires g c =
-    let b = came c.into_parts-part.result.0 c.self.invariant c.into_parts-part.ensures.ticket c.redeem.ensures.issued c.put_back.ensures.start c.put_back.ensures.bytes
-    c.put_back.ensures.out in
+    let b = back_in c.self.invariant c.args.payload c.take_back.ensures.back in
+    let f = found c.self.invariant c.args.payload c.take_back.ensures.back c.used_block-block.ensures.counts c.addr-addr.ensures c.align-align.ensures
+    c.used_block-block.ensures.block c.in-Ok.ensures.layout.1 in
+    let own = own-here c.used_block-block.new.memory (usable (block b)) f.here in
+    (omega arith, (IsValid-widest g.FLBitmap.BitPattern.width_limit c.self.invariant.valid, ((state b, block b, f.read, f.used, own), search rules)))
+
+abbrev back : (g : given.Over) (c : After-resize_block g) → IsBackIn g.row.FLLEN g.row.SLLEN c.self.inside.memory c.take_back.new.memory c.self.inside.table
+    (read_from c.self.inside.memory c.self.inside.state.state) c.self.inside.ledger.entries (key c.self.invariant c.args.payload c.take_back.ensures.back) (bytes_of c.args.payload)
+    c.args.payload.align
+back g c = back_in c.self.invariant c.args.payload c.take_back.ensures.back
+
+across : (g : given.Over) (c : After-resize_block g) → Stays c.take_back.new.memory c.resize_block.new.memory
+across g c =
     let counts = c.used_block-block.ensures.counts in
-    let m = c.used_block-block.new.memory in
-    let found = c.used_block-block.ensures.block g.row.FLLEN g.row.SLLEN c.self.inside.table (state b) (stands b) (asked b c.start-addr.ensures c.align-align.ensures) in (
-      omega arith,
-      (
-        IsValid-widest g.FLBitmap.BitPattern.width_limit c.self.invariant.valid,
-        (
-          (
-            state b,
-            block b,
-            counted b m counts.start counts.bytes counts.out,
-            used_at b c.start-addr.ensures found (c.in-Ok.ensures.layout.1 ∙ c.align-align.ensures),
-            own-here m (usable (block b)) (counted_here b m counts.start counts.bytes counts.out),
-          ),
-          search rules,
-        ),
-      ),
-    )
+    let e = c.resize_block.ensures in
+    let last : Stays c.used_block-block.new.memory c.resize_block.new.memory = record { start = e.costs.start; own = e.own; here = e.here } in
+    Stays-then (Stays-same c.take_back.new.memory c.used_block-block.new.memory counts.start counts.out) last
 
--- ---- the payload has the new size
+-- ---- the reallocation is refused, and the payload is handed over as it was
 
-pub load_usable_bytes-range-requires : goal.load_usable_bytes-range-requires
-load_usable_bytes-range-requires g c =
-    let b = came c.into_parts-part.result.0 c.self.invariant c.into_parts-part.ensures.ticket c.redeem.ensures.issued c.put_back.ensures.start c.put_back.ensures.bytes
-    c.put_back.ensures.out in
-    let counts = c.used_block-block.ensures.counts in
-    let m = c.used_block-block.new.memory in
-    let found = c.used_block-block.ensures.block g.row.FLLEN g.row.SLLEN c.self.inside.table (state b) (stands b) (asked b c.start-addr.ensures c.align-align.ensures) in
-    let (q, first, place, (t, replans, now, spare)) = c.resize_block.ensures.done (state b) (block b) (counted b m counts.start counts.bytes counts.out)
-    (used_at b c.start-addr.ensures found (c.in-Ok.ensures.layout.1 ∙ c.align-align.ensures))
-    (own-here m (usable (block b)) (counted_here b m counts.start counts.bytes counts.out)) c.if-not-resize_block.false in
-    let moved = unmoved_moves b (unmoved b c.in-Ok.ensures.layout.0 first place c.start-addr.ensures replans) in
-    let one = holds_new (stands b) (block b) (held b).0 c.args.size (block b).payload moved in (
-      g.row.FLLEN,
-      g.row.SLLEN,
-      contents c.resize_block.new.memory c.resize_block.new.table,
-      t,
-      refl,
-      now,
-      (new (stands b) (block b) (held b).0 c.args.size (block b).payload moved, (one.0, one.1 ∙ (held b).1 ∙ sym c.start-addr.ensures)),
-    )
+same_stands : (g : given.Over) (c : After-resize_block g) → c.resize_block.result ≡ false
+    → StandsFor g.row.FLLEN g.row.SLLEN (contents c.resize_block.new.memory c.resize_block.new.table) (state (back g c))
+same_stands g c short =
+    let f = found c.self.invariant c.args.payload c.take_back.ensures.back c.used_block-block.ensures.counts c.addr-addr.ensures c.align-align.ensures
+    c.used_block-block.ensures.block c.in-Ok.ensures.layout.1 in
+    StandsFor-unchanged c.used_block-block.new.memory c.resize_block.new.memory c.self.inside.table c.resize_block.new.table (state (back g c)) 2
+    (c.resize_block.ensures.unchanged short) f.read
 
-pub take_out-part-requires-2-clause-place : goal.take_out-part-requires-2-clause-place
-take_out-part-requires-2-clause-place g c =
-    let b = came c.into_parts-part.result.0 c.self.invariant c.into_parts-part.ensures.ticket c.redeem.ensures.issued c.put_back.ensures.start c.put_back.ensures.bytes
-    c.put_back.ensures.out in
-    let counts = c.used_block-block.ensures.counts in
-    let m = c.used_block-block.new.memory in
-    let found = c.used_block-block.ensures.block g.row.FLLEN g.row.SLLEN c.self.inside.table (state b) (stands b) (asked b c.start-addr.ensures c.align-align.ensures) in
-    let (q, first, place, (t, replans, now, spare)) = c.resize_block.ensures.done (state b) (block b) (counted b m counts.start counts.bytes counts.out)
-    (used_at b c.start-addr.ensures found (c.in-Ok.ensures.layout.1 ∙ c.align-align.ensures))
-    (own-here m (usable (block b)) (counted_here b m counts.start counts.bytes counts.out)) c.if-not-resize_block.false in
-    let moved = unmoved_moves b (unmoved b c.in-Ok.ensures.layout.0 first place c.start-addr.ensures replans) in
-    let one = holds_new (stands b) (block b) (held b).0 c.args.size (block b).payload moved in
-    let range = c.load_usable_bytes-range.ensures.range g.row.FLLEN g.row.SLLEN (contents c.resize_block.new.memory c.resize_block.new.table) t
-    (new (stands b) (block b) (held b).0 c.args.size (block b).payload moved) refl now (one.0, one.1 ∙ (held b).1 ∙ sym c.start-addr.ensures) in
-    let n = c.load_usable_bytes-range.new.memory in
-    subst (λ (r : Range). LiesIn r n.start (length n.bytes)) (sym range)
-    (lies-usable (StandsFor-touched c.resize_block.new.memory n 3 c.load_usable_bytes-range.ensures.memory now)
-    (new (stands b) (block b) (held b).0 c.args.size (block b).payload moved) one.0)
+refusing : (g : given.Over) (c : After-resize_block g) → c.resize_block.result ≡ false
+    → ReallocatesWithoutMove (state (back g c)) (block (back g c)).payload c.args.size None (state (back g c))
+refusing g c short =
+    let b = back g c in
+    let f = found c.self.invariant c.args.payload c.take_back.ensures.back c.used_block-block.ensures.counts c.addr-addr.ensures c.align-align.ensures
+    c.used_block-block.ensures.block c.in-Ok.ensures.layout.1 in
+    unmoved_refused b c.in-Ok.ensures.layout.0 (c.resize_block.ensures.refused (state b) (block b) f.read f.used short)
 
-pub take_out-part-requires-2-clause-own : goal.take_out-part-requires-2-clause-own
-take_out-part-requires-2-clause-own g c =
-    let b = came c.into_parts-part.result.0 c.self.invariant c.into_parts-part.ensures.ticket c.redeem.ensures.issued c.put_back.ensures.start c.put_back.ensures.bytes
-    c.put_back.ensures.out in
-    let counts = c.used_block-block.ensures.counts in
-    let m = c.used_block-block.new.memory in
-    let found = c.used_block-block.ensures.block g.row.FLLEN g.row.SLLEN c.self.inside.table (state b) (stands b) (asked b c.start-addr.ensures c.align-align.ensures) in
-    let (q, first, place, (t, replans, now, spare)) = c.resize_block.ensures.done (state b) (block b) (counted b m counts.start counts.bytes counts.out)
-    (used_at b c.start-addr.ensures found (c.in-Ok.ensures.layout.1 ∙ c.align-align.ensures))
-    (own-here m (usable (block b)) (counted_here b m counts.start counts.bytes counts.out)) c.if-not-resize_block.false in
-    let moved = unmoved_moves b (unmoved b c.in-Ok.ensures.layout.0 first place c.start-addr.ensures replans) in
-    let one = holds_new (stands b) (block b) (held b).0 c.args.size (block b).payload moved in
-    let range = c.load_usable_bytes-range.ensures.range g.row.FLLEN g.row.SLLEN (contents c.resize_block.new.memory c.resize_block.new.table) t
-    (new (stands b) (block b) (held b).0 c.args.size (block b).payload moved) refl now (one.0, one.1 ∙ (held b).1 ∙ sym c.start-addr.ensures) in
-    let n = c.load_usable_bytes-range.new.memory in
-    let touched = c.load_usable_bytes-range.ensures.memory in
-    let before = Stays-same c.put_back.new.self m counts.start counts.out in
-    let across : Stays m c.resize_block.new.memory = record { start = c.resize_block.ensures.costs.start; own = c.resize_block.ensures.own; here = c.resize_block.ensures.here } in
-    let behind = Stays-same c.resize_block.new.memory n (ap (λ (o : Space). o.start) touched) (ap (λ (o : Space). o.out) touched) in
-    let all = Stays-then before (Stays-then across behind) in
-    subst (IsOwned n) (sym range) (own_new (stands b) (block b) (held b).0 c.args.size (block b).payload moved (own-here c.put_back.new.self (usable (block b)) (here_of b))
-    (StandsFor-touched c.resize_block.new.memory n 3 touched now) all.start all.own)
+pub hand_over-payload-requires-clause-place : goal.hand_over-payload-requires-clause-place
+hand_over-payload-requires-clause-place g c =
+    let d = (goal.at.hand_over-payload-requires-clause-place g c).After-resize_block in
+    let m = c.resize_block.new.memory in
+    subst (λ (r : Range). LiesIn r m.start (length m.bytes)) (sym (usable_is (back g d) c.addr-addr.ensures c.len-len.ensures))
+    (lies-usable (same_stands g d c.if-not-resize_block.true) (block (back g d)) (held (back g d)).0)
 
--- ---- the reallocation is refused: the bytes leave again
+pub hand_over-payload-requires-clause-own : goal.hand_over-payload-requires-clause-own
+hand_over-payload-requires-clause-own g c =
+    let d = (goal.at.hand_over-payload-requires-clause-own g c).After-resize_block in
+    own-here c.resize_block.new.memory (range_at c.addr-addr.result c.len-len.result)
+    (here_still (back g d) c.addr-addr.ensures c.len-len.ensures (across g d))
 
-pub take_out-part-requires-clause-own : goal.take_out-part-requires-clause-own
-take_out-part-requires-clause-own g c =
-    let b = came c.into_parts-part.result.0 c.self.invariant c.into_parts-part.ensures.ticket c.redeem.ensures.issued c.put_back.ensures.start c.put_back.ensures.bytes
-    c.put_back.ensures.out in
-    let counts = c.used_block-block.ensures.counts in
-    let before = Stays-same c.put_back.new.self c.used_block-block.new.memory counts.start counts.out in
-    let across : Stays c.used_block-block.new.memory c.resize_block.new.memory =
-    record { start = c.resize_block.ensures.costs.start; own = c.resize_block.ensures.own; here = c.resize_block.ensures.here } in
-    own-here c.resize_block.new.memory (range_at c.start-addr.result c.len-len.result) (here_still b c.start-addr.ensures c.len-len.ensures (Stays-then before across))
-
-came_back : (g : given.Over) (c : After-issue-ticket g) → IsBackIn g.row.FLLEN g.row.SLLEN c.self.inside.memory c.put_back.new.self c.self.inside.table
-    (read_from c.self.inside.memory c.self.inside.state.state) c.self.inside.ledger.entries c.into_parts-part.result.1.key c.into_parts-part.result.0 c.args.payload.align
-came_back g c = came c.into_parts-part.result.0 c.self.invariant c.into_parts-part.ensures.ticket c.redeem.ensures.issued c.put_back.ensures.start c.put_back.ensures.bytes
-    c.put_back.ensures.out
-
-refused_used : (g : given.Over) (c : After-issue-ticket g) → IsUsedAt (state (came_back g c)) (block (came_back g c)) c.used_block-block.result c.start-addr.result
-    c.in-Ok.layout.align
-refused_used g c =
-    let b = came_back g c in
-    used_at b c.start-addr.ensures (c.used_block-block.ensures.block g.row.FLLEN g.row.SLLEN c.self.inside.table (state b) (stands b)
-    (asked b c.start-addr.ensures c.align-align.ensures)) (c.in-Ok.ensures.layout.1 ∙ c.align-align.ensures)
-
-refused_stands : (g : given.Over) (c : After-issue-ticket g) → StandsFor g.row.FLLEN g.row.SLLEN (contents c.used_block-block.new.memory c.self.inside.table)
-    (state (came_back g c))
-refused_stands g c = let counts = c.used_block-block.ensures.counts in counted (came_back g c) c.used_block-block.new.memory counts.start counts.bytes counts.out
-
-refusing : (g : given.Over) (c : After-issue-ticket g) → ReallocatesWithoutMove (state (came_back g c)) (block (came_back g c)).payload c.args.size None (state (came_back g c))
-refusing g c = unmoved_refused (came_back g c) c.in-Ok.ensures.layout.0
-    (c.resize_block.ensures.refused (state (came_back g c)) (block (came_back g c)) (refused_stands g c) (refused_used g c) c.if-not-resize_block.true)
-
-same_stands : (g : given.Over) (c : After-issue-ticket g)
-    → StandsFor g.row.FLLEN g.row.SLLEN (contents c.resize_block.new.memory c.resize_block.new.table) (state (came_back g c))
-same_stands g c = StandsFor-unchanged c.used_block-block.new.memory c.resize_block.new.memory c.self.inside.table c.resize_block.new.table (state (came_back g c)) 2
-    (c.resize_block.ensures.unchanged c.if-not-resize_block.true) (refused_stands g c)
-
-same_range : (g : given.Over) (c : After-issue-ticket g) → range_at c.start-addr.result c.len-len.result ≡ usable (block (came_back g c))
-same_range g c = usable_is (came_back g c) c.start-addr.ensures c.len-len.ensures
-
-refused_stays : (g : given.Over) (c : After-issue-ticket g) → Stays c.put_back.new.self c.resize_block.new.memory
-refused_stays g c =
-    let counts = c.used_block-block.ensures.counts in
-    let before = Stays-same c.put_back.new.self c.used_block-block.new.memory counts.start counts.out in
-    let across : Stays c.used_block-block.new.memory c.resize_block.new.memory =
-    record { start = c.resize_block.ensures.costs.start; own = c.resize_block.ensures.own; here = c.resize_block.ensures.here } in
-    Stays-then before across
-
-refused_here : (g : given.Over) (c : After-issue-ticket g) → IsHere c.resize_block.new.memory (range_at c.start-addr.result c.len-len.result)
-refused_here g c = here_still (came_back g c) c.start-addr.ensures c.len-len.ensures (refused_stays g c)
-
-still : (g : given.Over) (c : After-issue-ticket g) → StandsFor g.row.FLLEN g.row.SLLEN (contents c.take_out-part.new.self c.resize_block.new.table) (state (came_back g c))
-still g c =
-    let e = c.take_out-part.ensures in
-    let b = came_back g c in
-    stands-without (same_stands g c) (block b) (held b).0 c.take_out-part.new.self e.start e.bytes (e.out ∙ ap (out_without c.resize_block.new.memory) (same_range g c))
-
-kept_still : (g : given.Over) (c : After-issue-ticket g) → c.self.inside.state.state ≡ bare (state (came_back g c))
-kept_still g c = sym (bare_state (came_back g c) c.self.inside.state.state (bare-kept c.self.invariant))
-
--- the entries after the old ticket is redeemed and one like it is issued
-issued_still : (g : given.Over) (c : After-issue-ticket g) → AreIssued (state (came_back g c)) c.issue-ticket.new.self.entries
-issued_still g c = issued_again (came_back g c) c.into_parts-part.ensures.ticket c.redeem.ensures.entries (extent c.start-addr.result c.len-len.result c.align-align.result)
-    c.issue-ticket.ensures.entries c.start-addr.ensures c.len-len.ensures c.align-align.ensures
+abbrev refused : (g : given.Over) → After-hand_over-payload g → After-resize_block g
+refused g c = (goal.at.invariant_of-self g c).After-resize_block
 
 pub invariant_of-self : goal.invariant_of-self
-invariant_of-self g c = IsHeap-arrived (still g c) c.self.inside.state.state (kept_still g c) c.self.invariant.valid c.issue-ticket.new.self.entries (issued_still g c)
-    c.self.inside.live (c.self.invariant.counted ∙ sym (counted_stayed (came_back g c)))
+invariant_of-self g c =
+    let d = refused g c in
+    IsHeap-unchanged c.self.invariant c.args.payload c.take_back.ensures.back c.args.self.now c.self.view_is (same_stands g d c.if-not-resize_block.true) (across g d)
+    c.addr-addr.ensures c.len-len.ensures c.align-align.ensures c.hand_over-payload.ensures.over
 
-abbrev same_now : (g : given.Over) → After-issue-ticket g → State
-same_now g c = read_from c.take_out-part.new.self c.self.inside.state.state
-
-same_state : (g : given.Over) (c : After-issue-ticket g) → same_now g c ≡ state (came_back g c)
-same_state g c = arrived (still g c) c.self.inside.state.state (kept_still g c)
+unchanged : (g : given.Over) (c : After-hand_over-payload g) → SeesUnchanged g.row.SLLEN c.args.self.now
+    (heap_view c.hand_over-payload.new.memory c.resize_block.new.table c.self.inside.state.state c.self.inside.ledger.name) c.args.payload c.hand_over-payload.result
+unchanged g c =
+    let d = refused g c in
+    sees_unchanged c.self.invariant c.args.payload c.take_back.ensures.back c.args.self.now c.self.view_is (same_stands g d c.if-not-resize_block.true) (across g d)
+    c.addr-addr.ensures c.len-len.ensures c.align-align.ensures c.hand_over-payload.ensures.over
 
 pub returns-then-not-resize_block-clause-step : goal.returns-then-not-resize_block-clause-step
 returns-then-not-resize_block-clause-step g c =
-    Steps-arrived (still g c) c.self.inside.state.state (kept_still g c) c.issue-ticket.new.self.name
+    let d = refused g c in
+    Steps-unchanged c.self.invariant c.args.payload c.take_back.ensures.back c.args.self.now c.self.view_is (same_stands g d c.if-not-resize_block.true) (across g d)
+    c.addr-addr.ensures c.len-len.ensures c.align-align.ensures c.hand_over-payload.ensures.over c.hand_over-payload.new.ledger.name
     (λ t. IsLayout c.args.size c.args.payload.align → ReallocatesWithoutMove (owned_by c.args.self.now.state c.args.payload) c.args.payload.start c.args.size None t)
-    (λ fits. subst (ReallocatesWithoutMove (owned_by c.args.self.now.state c.args.payload) c.args.payload.start c.args.size None) (sym (same_state g c))
-    (stayed_view c.self.inside.state.state (came_back g c) c.args.self.now c.self.view_is c.args.payload c.into_parts-part.ensures.parts (refusing g c)))
+    (λ fits. stayed_view c.self.inside.state.state (back g d) c.args.self.now c.self.view_is c.args.payload
+    (is_view c.args.payload) (refusing g d c.if-not-resize_block.true))
+
+pub returns-then-not-resize_block-clause-there : goal.returns-then-not-resize_block-clause-there
+returns-then-not-resize_block-clause-there g c = (unchanged g c).back.0
 
 pub returns-then-not-resize_block-clause-back : goal.returns-then-not-resize_block-clause-back
-returns-then-not-resize_block-clause-back g c =
-    let e = c.take_out-part.ensures in
-    let b = came_back g c in
-    let as_before = e.part.2 ∙ ap (bytes_in c.resize_block.new.memory) (same_range g c) ∙ (same_stands g c).payloads.bytes (block b) (held b).0 ∙ bytes_are b in
-    (as_before ∙ ap (λ (v : PayloadView). v.bytes) c.into_parts-part.ensures.parts, e.full (refused_here g c))
+returns-then-not-resize_block-clause-back g c = let back = (unchanged g c).back in (back.1, back.2)
 
 pub returns-then-not-resize_block-clause-count : goal.returns-then-not-resize_block-clause-count
-returns-then-not-resize_block-clause-count g c = count_view c.self.inside.state.state (came_back g c) c.args.self.now c.self.view_is c.args.payload c.into_parts-part.ensures.parts
-    (same_now g c) (same_state g c)
+returns-then-not-resize_block-clause-count g c = (unchanged g c).count
 
 pub returns-then-not-resize_block-clause-bounds : goal.returns-then-not-resize_block-clause-bounds
-returns-then-not-resize_block-clause-bounds g c = λ count most align sized short fits.
-    sized_view c.self.inside.state.state (came_back g c) c.args.self.now c.self.view_is c.args.payload c.into_parts-part.ensures.parts (same_now g c) (same_state g c) count most
-    align sized
+returns-then-not-resize_block-clause-bounds g c = λ count most align sized short fits. (unchanged g c).bounds count most align sized
 
 pub returns-then-not-resize_block-clause-same : goal.returns-then-not-resize_block-clause-same
-returns-then-not-resize_block-clause-same g c = alike_view c.self.inside.state.state (came_back g c) c.args.self.now c.self.view_is c.args.payload c.into_parts-part.ensures.parts
-    (same_now g c) (same_state g c)
+returns-then-not-resize_block-clause-same g c = (unchanged g c).alike
 
 pub returns-then-not-resize_block-clause-aligns : goal.returns-then-not-resize_block-clause-aligns
-returns-then-not-resize_block-clause-aligns g c = aligns_view c.self.inside.state.state (came_back g c) c.args.self.now c.self.view_is c.args.payload
-    c.into_parts-part.ensures.parts (same_now g c) (same_state g c)
+returns-then-not-resize_block-clause-aligns g c = (unchanged g c).aligns
 
 pub returns-then-not-resize_block-clause-settled : goal.returns-then-not-resize_block-clause-settled
-returns-then-not-resize_block-clause-settled g c = λ settled.
-    let b = came_back g c in
-    let m = c.self.inside.memory in
-    let first = subst (λ (o : HeapView). IsSettled o.memory) (sym c.self.view_is) settled in
-    let low : c.put_back.new.self.start ≤ c.start-addr.result = omega (arith, (lies-usable (stands b) (block b) (held b).0).0, c.start-addr.ensures, (held b).1) in
-    let second = settled-back m c.put_back.new.self (piece_range c.into_parts-part.result.0) c.put_back.ensures.start
-    (omega (arith, low, c.start-addr.ensures, c.put_back.ensures.start)) c.put_back.ensures.out first in
-    settled-left c.resize_block.new.memory c.take_out-part.new.self (range_at c.start-addr.result c.len-len.result) c.take_out-part.ensures.start
-    (omega (arith, low, (refused_stays g c).start)) c.take_out-part.ensures.out (settled-stays (refused_stays g c) second)
+returns-then-not-resize_block-clause-settled g c = (unchanged g c).settled
 
--- ---- the payload has the new size
+-- ---- the payload has another size, and is handed over
 
-back_in : (g : given.Over) (c : After-issue-ticket-2 g) → IsBackIn g.row.FLLEN g.row.SLLEN c.self.inside.memory c.put_back.new.self c.self.inside.table
-    (read_from c.self.inside.memory c.self.inside.state.state) c.self.inside.ledger.entries c.into_parts-part.result.1.key c.into_parts-part.result.0 c.args.payload.align
-back_in g c = came c.into_parts-part.result.0 c.self.invariant c.into_parts-part.ensures.ticket c.redeem.ensures.issued c.put_back.ensures.start c.put_back.ensures.bytes
-    c.put_back.ensures.out
-
-moved_used : (g : given.Over) (c : After-issue-ticket-2 g)
-    → IsUsedAt (state (back_in g c)) (block (back_in g c)) c.used_block-block.result c.start-addr.result c.in-Ok.layout.align
-moved_used g c =
-    let b = back_in g c in
-    used_at b c.start-addr.ensures (c.used_block-block.ensures.block g.row.FLLEN g.row.SLLEN c.self.inside.table (state b) (stands b)
-    (asked b c.start-addr.ensures c.align-align.ensures)) (c.in-Ok.ensures.layout.1 ∙ c.align-align.ensures)
-
-moving : (g : given.Over) (c : After-issue-ticket-2 g) → (t : State) × ReallocatesWithoutMove (state (back_in g c)) (block (back_in g c)).payload c.args.size (Some
-    (block (back_in g c)).payload) t
+moving : (g : given.Over) (c : After-resize_block g) → c.resize_block.result ≡ true
+    → (t : State) × ReallocatesWithoutMove (state (back g c)) (block (back g c)).payload c.args.size (Some (block (back g c)).payload) t
     × StandsFor g.row.FLLEN g.row.SLLEN (contents c.resize_block.new.memory c.resize_block.new.table) t
-moving g c =
-    let b = back_in g c in
-    let counts = c.used_block-block.ensures.counts in
-    let m = c.used_block-block.new.memory in
-    let (q, first, place, (t, replans, now, spare)) = c.resize_block.ensures.done (state b) (block b) (counted b m counts.start counts.bytes counts.out) (moved_used g c)
-    (own-here m (usable (block b)) (counted_here b m counts.start counts.bytes counts.out)) c.if-not-resize_block.false in
-    (t, unmoved b c.in-Ok.ensures.layout.0 first place c.start-addr.ensures replans, now)
+moving g c enough =
+    let b = back g c in
+    let f = found c.self.invariant c.args.payload c.take_back.ensures.back c.used_block-block.ensures.counts c.addr-addr.ensures c.align-align.ensures
+    c.used_block-block.ensures.block c.in-Ok.ensures.layout.1 in
+    let (q, first, place, (t, replans, now, spare)) = c.resize_block.ensures.done (state b) (block b) f.read f.used
+    (own-here c.used_block-block.new.memory (usable (block b)) f.here) enough in
+    (t, unmoved b c.in-Ok.ensures.layout.0 first place c.addr-addr.ensures replans, now)
 
-after : (g : given.Over) → After-issue-ticket-2 g → State
-after g c = (moving g c).0
+-- its length is read at its address
+loads : (g : given.Over) (c : After-resize_block g) → (block (back g c)).payload ≡ c.addr-addr.result
+loads g c = (held (back g c)).1 ∙ sym c.addr-addr.ensures
 
-stayed : (g : given.Over) (c : After-issue-ticket-2 g)
-    → ReallocatesWithoutMove (state (back_in g c)) (block (back_in g c)).payload c.args.size (Some (block (back_in g c)).payload)
-    (after g c)
-unfolding after
-stayed g c = (moving g c).1
+pub load_usable_bytes-range-requires : goal.load_usable_bytes-range-requires
+load_usable_bytes-range-requires g c =
+    let d = (goal.at.load_usable_bytes-range-requires g c).After-resize_block in
+    let (t, did, now) = moving g d c.if-not-resize_block.false in
+    resized_live c.self.invariant c.args.payload c.take_back.ensures.back c.args.self.now c.self.view_is now (unmoved_moves (back g d) did) (loads g d)
 
-step : (g : given.Over) (c : After-issue-ticket-2 g)
-    → Reallocates g.row.SLLEN (state (back_in g c)) (block (back_in g c)).payload c.args.size (Some (block (back_in g c)).payload)
-    (after g c)
-step g c = unmoved_moves (back_in g c) (stayed g c)
+pub hand_over-payload-requires-2-clause-place : goal.hand_over-payload-requires-2-clause-place
+hand_over-payload-requires-2-clause-place g c =
+    let d = (goal.at.hand_over-payload-requires-2-clause-place g c).After-resize_block in
+    let (t, did, now) = moving g d c.if-not-resize_block.false in
+    resized_lies c.self.invariant c.args.payload c.take_back.ensures.back c.args.self.now c.self.view_is now (unmoved_moves (back g d) did) (loads g d) (across g d)
+    c.load_usable_bytes-range.ensures.range c.load_usable_bytes-range.ensures.memory
 
-reached : (g : given.Over) (c : After-issue-ticket-2 g) → StandsFor g.row.FLLEN g.row.SLLEN (contents c.resize_block.new.memory c.resize_block.new.table) (after g c)
-unfolding after
-reached g c = (moving g c).2
+pub hand_over-payload-requires-2-clause-own : goal.hand_over-payload-requires-2-clause-own
+hand_over-payload-requires-2-clause-own g c =
+    let d = (goal.at.hand_over-payload-requires-2-clause-own g c).After-resize_block in
+    let (t, did, now) = moving g d c.if-not-resize_block.false in
+    resized_own c.self.invariant c.args.payload c.take_back.ensures.back c.args.self.now c.self.view_is now (unmoved_moves (back g d) did) (loads g d) (across g d)
+    c.load_usable_bytes-range.ensures.range c.load_usable_bytes-range.ensures.memory
 
-abbrev fresh : (g : given.Over) → After-issue-ticket-2 g → Used
-fresh g c = new (stands (back_in g c)) (block (back_in g c)) (held (back_in g c)).0 c.args.size (block (back_in g c)).payload (step g c)
-
-fresh_in : (g : given.Over) (c : After-issue-ticket-2 g) → Holds (after g c) (block (back_in g c)).payload (fresh g c)
-fresh_in g c = holds_new (stands (back_in g c)) (block (back_in g c)) (held (back_in g c)).0 c.args.size (block (back_in g c)).payload (step g c)
-
--- after its length is read
-read : (g : given.Over) (c : After-issue-ticket-2 g) → StandsFor g.row.FLLEN g.row.SLLEN (contents c.load_usable_bytes-range.new.memory c.resize_block.new.table) (after g c)
-read g c = StandsFor-touched c.resize_block.new.memory c.load_usable_bytes-range.new.memory 3 c.load_usable_bytes-range.ensures.memory (reached g c)
-
-range : (g : given.Over) (c : After-issue-ticket-2 g) → c.load_usable_bytes-range.result ≡ usable (fresh g c)
-range g c = c.load_usable_bytes-range.ensures.range g.row.FLLEN g.row.SLLEN (contents c.resize_block.new.memory c.resize_block.new.table) (after g c) (fresh g c) refl (reached g c)
-    ((fresh_in g c).0, (fresh_in g c).1 ∙ (held (back_in g c)).1 ∙ sym c.start-addr.ensures)
-
--- its bytes leave
-standing : (g : given.Over) (c : After-issue-ticket-2 g) → StandsFor g.row.FLLEN g.row.SLLEN (contents c.take_out-part-2.new.self c.resize_block.new.table) (after g c)
-standing g c =
-    let e = c.take_out-part-2.ensures in
-    stands-without (read g c) (fresh g c) (fresh_in g c).0 c.take_out-part-2.new.self e.start e.bytes (e.out ∙ ap (out_without c.load_usable_bytes-range.new.memory) (range g c))
-
-kept : (g : given.Over) (c : After-issue-ticket-2 g) → c.reallocate.new.self.state ≡ bare (after g c)
-kept g c = c.reallocate.ensures ∙ kept_moved (back_in g c) (bare-kept c.self.invariant) c.start-addr.ensures (step g c)
-
--- its address and its bytes are the part's
-at : (g : given.Over) (c : After-issue-ticket-2 g) → (block (back_in g c)).payload ≡ c.take_out-part-2.result.start
-at g c = sym (fresh_in g c).1 ∙ ap (λ (r : Range). r.start) (sym (range g c)) ∙ sym c.take_out-part-2.ensures.part.1
-
-abbrev now : (g : given.Over) → After-issue-ticket-2 g → State
-now g c = read_from c.take_out-part-2.new.self c.reallocate.new.self.state
-
-bytes : (g : given.Over) (c : After-issue-ticket-2 g) → c.take_out-part-2.result.bytes ≡ bytes_at (now g c) c.take_out-part-2.result.start
-bytes g c =
-    c.take_out-part-2.ensures.part.2 ∙ ap (bytes_in c.load_usable_bytes-range.new.memory) (range g c) ∙ (read g c).payloads.bytes (fresh g c) (fresh_in g c).0
-    ∙ sym (bytes_at-held (read g c).well_formed (block (back_in g c)).payload (fresh g c) (fresh_in g c))
-    ∙ (λ i. bytes_at (sym (arrived (standing g c) c.reallocate.new.self.state (kept g c)) i) (at g c i))
-
--- it is as long as its range
-part_long : (g : given.Over) (c : After-issue-ticket-2 g) → length c.take_out-part-2.result.bytes ≡ c.load_usable_bytes-range.result.len
-part_long g c =
-    ap length (c.take_out-part-2.ensures.part.2 ∙ ap (bytes_in c.load_usable_bytes-range.new.memory) (range g c) ∙ (read g c).payloads.bytes (fresh g c) (fresh_in g c).0)
-    ∙ ((read g c).well_formed.used (fresh g c) (fresh_in g c).0).bytes ∙ ap (λ (r : Range). r.len) (sym (range g c))
-
-pub invariant_of-result-2 : goal.invariant_of-result-2
-invariant_of-result-2 g c =
-    let ticket = c.issue-ticket-2.ensures.ticket in
-    (c.take_out-part-2.ensures.part.1 ∙ sym ticket.1, part_long g c ∙ sym ticket.2, sym ticket.3)
-
--- the entries after the old ticket is redeemed and the new one is issued
-issued : (g : given.Over) (c : After-issue-ticket-2 g) → AreIssued (after g c) c.issue-ticket-2.new.self.entries
-issued g c =
-    let r = c.load_usable_bytes-range.result in
-    issued_anew (back_in g c) c.into_parts-part.ensures.ticket c.redeem.ensures.entries (extent r.start r.len c.align-align.result) c.issue-ticket-2.ensures.entries (step g c)
-    (ap (λ (q : Range). q.start) (range g c) ∙ (fresh_in g c).1) (ap (λ (q : Range). q.len) (range g c)) c.align-align.ensures
+abbrev done : (g : given.Over) → After-hand_over-payload-2 g → After-resize_block g
+done g c = (goal.at.invariant_of-self-2 g c).After-resize_block
 
 pub invariant_of-self-2 : goal.invariant_of-self-2
-invariant_of-self-2 g c = IsHeap-arrived (standing g c) c.reallocate.new.self.state (kept g c) c.self.invariant.valid c.issue-ticket-2.new.self.entries (issued g c)
-    c.self.inside.live (c.self.invariant.counted ∙ sym (counted_moved (back_in g c) (step g c)))
+invariant_of-self-2 g c =
+    let d = done g c in
+    let (t, did, now) = moving g d c.if-not-resize_block.false in
+    IsHeap-resized c.self.invariant c.args.payload c.take_back.ensures.back c.args.self.now c.self.view_is now (unmoved_moves (back g d) did) (loads g d) (across g d)
+    c.load_usable_bytes-range.ensures.range c.load_usable_bytes-range.ensures.memory c.align-align.ensures c.hand_over-payload-2.ensures.over c.addr-addr.ensures
+    c.reallocate.ensures
 
--- ---- the payload as contracts see it
+resized : (g : given.Over) (c : After-hand_over-payload-2 g) → SeesNewSize g.row.SLLEN c.args.self.now
+    (heap_view c.hand_over-payload-2.new.memory c.resize_block.new.table c.reallocate.new.self.state c.self.inside.ledger.name) c.args.payload
+    c.hand_over-payload-2.result c.args.size
+resized g c =
+    let d = done g c in
+    let (t, did, now) = moving g d c.if-not-resize_block.false in
+    sees_new_size c.self.invariant c.args.payload c.take_back.ensures.back c.args.self.now c.self.view_is now (unmoved_moves (back g d) did) (loads g d) (across g d)
+    c.load_usable_bytes-range.ensures.range c.load_usable_bytes-range.ensures.memory c.align-align.ensures c.hand_over-payload-2.ensures.over c.addr-addr.ensures
+    c.reallocate.ensures
+    (λ i below inside. here_still (back g d) c.addr-addr.ensures refl (across g d) (c.addr-addr.result + i) (omega arith) (omega (arith, below)))
 
-sees : (g : given.Over) (c : After-issue-ticket-2 g) → SeesChanged g.row.SLLEN c.args.self.now c.args.payload (now g c) c.args.size c.take_out-part-2.result.start
-sees g c =
-    seen_changed c.self.inside.state.state (back_in g c) c.args.self.now c.self.view_is c.args.payload c.into_parts-part.ensures.parts (standing g c) c.reallocate.new.self.state (kept g c) c.args.size (block (back_in g c)).payload c.take_out-part-2.result.start (at g c) (step g c)
+stayed : (g : given.Over) (c : After-hand_over-payload-2 g) → ReallocatesWithoutMove (owned_by c.args.self.now.state c.args.payload) c.args.payload.start c.args.size
+    (Some c.hand_over-payload-2.result.start) (read_from c.hand_over-payload-2.new.memory c.reallocate.new.self.state)
+stayed g c =
+    let d = done g c in
+    let (t, did, now) = moving g d c.if-not-resize_block.false in
+    stayed_resized c.self.invariant c.args.payload c.take_back.ensures.back c.args.self.now c.self.view_is now (unmoved_moves (back g d) did) (loads g d) (across g d)
+    c.load_usable_bytes-range.ensures.range c.load_usable_bytes-range.ensures.memory c.align-align.ensures c.hand_over-payload-2.ensures.over c.addr-addr.ensures
+    c.reallocate.ensures did
 
-did : (g : given.Over) (c : After-issue-ticket-2 g) → ReallocatesWithoutMove (owned_by c.args.self.now.state c.args.payload) c.args.payload.start c.args.size
-    (Some c.take_out-part-2.result.start) (now g c)
-did g c =
-    stayed_changed c.self.inside.state.state (back_in g c) c.args.self.now c.self.view_is c.args.payload c.into_parts-part.ensures.parts (standing g c) c.reallocate.new.self.state (kept g c) c.args.size (block (back_in g c)).payload c.take_out-part-2.result.start (at g c) (stayed g c)
+there : (g : given.Over) (c : After-hand_over-payload-2 g) → c.hand_over-payload-2.result.start ≡ c.args.payload.start
+there g c = (unmoved_is_reallocated g.row.SLLEN (owned_by c.args.self.now.state c.args.payload)
+    (read_from c.hand_over-payload-2.new.memory c.reallocate.new.self.state) c.args.payload.start c.args.size (Some c.hand_over-payload-2.result.start) (stayed g c)).0.0
 
-there : (g : given.Over) (c : After-issue-ticket-2 g) → c.take_out-part-2.result.start ≡ c.args.payload.start
-there g c = (unmoved_is_reallocated g.row.SLLEN (owned_by c.args.self.now.state c.args.payload) (now g c) c.args.payload.start c.args.size (Some c.take_out-part-2.result.start)
-    (did g c)).0.0
-
-is_live : (g : given.Over) (c : After-issue-ticket-2 g) → align_at c.args.self.now.state c.args.payload.start ≡ Some c.args.payload.align
-is_live g c = live_view c.self.inside.state.state (back_in g c) c.args.self.now c.self.view_is c.args.payload c.into_parts-part.ensures.parts
-
-pub returns-clause-step : goal.returns-clause-step
-returns-clause-step g c =
-    Steps-arrived (standing g c) c.reallocate.new.self.state (kept g c) c.issue-ticket-2.new.self.name
+stayed_step : (g : given.Over) (c : After-hand_over-payload-2 g) → Steps g.row.FLLEN g.row.SLLEN
+    (heap_view c.hand_over-payload-2.new.memory c.resize_block.new.table c.reallocate.new.self.state c.hand_over-payload-2.new.ledger.name)
     (λ t. IsLayout c.args.size c.args.payload.align → ReallocatesWithoutMove (owned_by c.args.self.now.state c.args.payload) c.args.payload.start c.args.size
-    (Some c.take_out-part-2.result.start) t)
-    (λ fits. did g c)
+    (Some c.hand_over-payload-2.result.start) t)
+stayed_step g c =
+    let d = done g c in
+    let (t, did, now) = moving g d c.if-not-resize_block.false in
+    Steps-resized c.self.invariant c.args.payload c.take_back.ensures.back c.args.self.now c.self.view_is now (unmoved_moves (back g d) did) (loads g d) (across g d)
+    c.load_usable_bytes-range.ensures.range c.load_usable_bytes-range.ensures.memory c.align-align.ensures c.hand_over-payload-2.ensures.over c.addr-addr.ensures
+    c.reallocate.ensures c.hand_over-payload-2.new.ledger.name
+    (λ t. IsLayout c.args.size c.args.payload.align → ReallocatesWithoutMove (owned_by c.args.self.now.state c.args.payload) c.args.payload.start c.args.size
+    (Some c.hand_over-payload-2.result.start) t)
+    (λ fits. stayed g c)
 
-pub returns-clause-live : goal.returns-clause-live
-returns-clause-live g c = (sees g c).seen.live
-
-pub returns-clause-long : goal.returns-clause-long
-returns-clause-long g c = ap length (bytes g c)
-
-pub returns-clause-aligned : goal.returns-clause-aligned
-returns-clause-aligned g c = (sees g c).aligned
-
-pub returns-clause-each : goal.returns-clause-each
-returns-clause-each g c = Keeps-each c.args.payload.bytes c.take_out-part-2.result.bytes (subst (Keeps c.args.payload.bytes) (sym (bytes g c)) (sees g c).seen.kept)
-
-pub returns-clause-sized : goal.returns-clause-sized
-returns-clause-sized g c = subst (λ (l : List ℕ). c.args.size ≤ length l) (sym (bytes g c)) (sees g c).seen.sized
-
-pub returns-clause-few : goal.returns-clause-few
-returns-clause-few g c = subst (λ (l : List ℕ). length l < c.args.size + 32) (sym (bytes g c)) (sees g c).seen.few
-
-pub returns-clause-kept : goal.returns-clause-kept
-returns-clause-kept g c = subst (Keeps c.args.payload.bytes) (sym (bytes g c)) (sees g c).seen.kept
-
-pub returns-clause-there : goal.returns-clause-there
-returns-clause-there g c = there g c
-
-pub returns-clause-aligns : goal.returns-clause-aligns
-returns-clause-aligns g c = aligns_stay (sees g c).seen (there g c) (is_live g c)
-
-pub returns-clause-count : goal.returns-clause-count
-returns-clause-count g c = (sees g c).count
-
-pub returns-clause-bounds : goal.returns-clause-bounds
-returns-clause-bounds g c = (sees g c).bounds
-
-pub returns-clause-chunks : goal.returns-clause-chunks
-returns-clause-chunks g c = (sees g c).chunks
-
--- ---- which of its bytes are here
-
-moved_stays : (g : given.Over) (c : After-issue-ticket-2 g) → Stays c.put_back.new.self c.load_usable_bytes-range.new.memory
-moved_stays g c =
-    let counts = c.used_block-block.ensures.counts in
-    let touched = c.load_usable_bytes-range.ensures.memory in
-    let before = Stays-same c.put_back.new.self c.used_block-block.new.memory counts.start counts.out in
-    let across : Stays c.used_block-block.new.memory c.resize_block.new.memory =
-    record { start = c.resize_block.ensures.costs.start; own = c.resize_block.ensures.own; here = c.resize_block.ensures.here } in
-    let behind = Stays-same c.resize_block.new.memory c.load_usable_bytes-range.new.memory (ap (λ (o : Space). o.start) touched) (ap (λ (o : Space). o.out) touched) in
-    Stays-then before (Stays-then across behind)
-
-fresh_own : (g : given.Over) (c : After-issue-ticket-2 g) → IsOwned c.load_usable_bytes-range.new.memory c.load_usable_bytes-range.result
-fresh_own g c =
-    let b = back_in g c in
-    subst (IsOwned c.load_usable_bytes-range.new.memory) (sym (range g c))
-    (own_new (stands b) (block b) (held b).0 c.args.size (block (back_in g c)).payload (step g c) (own-here c.put_back.new.self (usable (block b)) (here_of b)) (read g c)
-    (moved_stays g c).start (moved_stays g c).own)
-
--- the state of a byte of the part
-state_of : (g : given.Over) (c : After-issue-ticket-2 g) (k : ℕ) → k < length c.take_out-part-2.result.bytes
-    → kept_at c.take_out-part-2.result.out k ≡ out_at c.load_usable_bytes-range.new.memory (c.load_usable_bytes-range.result.start + k)
-unfolding HasStatesOf
-state_of g c k less = c.take_out-part-2.ensures.kept k (omega (arith, less, part_long g c))
-
-kept_here : (g : given.Over) (c : After-issue-ticket-2 g) (k : ℕ) → k < length c.args.payload.bytes → k < length c.take_out-part-2.result.bytes
-    → kept_at c.take_out-part-2.result.out k ≡ here
-kept_here g c k old less =
-    let b = back_in g c in
-    let r = c.load_usable_bytes-range.result in
-    let as_long = ap (λ (v : PayloadView). length v.bytes) c.into_parts-part.ensures.parts in
-    let begins : r.start ≡ (block b).payload = ap (λ (q : Range). q.start) (range g c) ∙ (fresh_in g c).1 in
-    state_of g c k less ∙ here_still b refl refl (moved_stays g c) (r.start + k) (omega (arith, begins, (held b).1)) (omega (arith, begins, (held b).1, old, as_long))
-
-pub returns-clause-here : goal.returns-clause-here
-returns-clause-here g c = λ k low high. kept_here g c k (omega (arith, high)) (omega (arith, high))
-
-pub returns-clause-shrunk : goal.returns-clause-shrunk
-returns-clause-shrunk g c = λ shorter k low high. kept_here g c k (omega (arith, high, shorter)) (omega (arith, high))
-
--- no byte is raw before its bytes leave
-settled_before : (g : given.Over) (c : After-issue-ticket-2 g) → IsSettled c.args.self.now.memory → IsSettled c.load_usable_bytes-range.new.memory
-settled_before g c settled =
-    let b = back_in g c in
-    let first = subst (λ (o : HeapView). IsSettled o.memory) (sym c.self.view_is) settled in
-    let low : c.put_back.new.self.start ≤ c.into_parts-part.result.0.start = omega (arith, (lies-usable (stands b) (block b) (held b).0).0, (held b).1) in
-    settled-stays (moved_stays g c) (settled-back c.self.inside.memory c.put_back.new.self (piece_range c.into_parts-part.result.0) c.put_back.ensures.start
-    (omega (arith, low, c.put_back.ensures.start)) c.put_back.ensures.out first)
-
-low_range : (g : given.Over) (c : After-issue-ticket-2 g) → c.load_usable_bytes-range.new.memory.start ≤ c.load_usable_bytes-range.result.start
-low_range g c = subst (λ (r : Range). c.load_usable_bytes-range.new.memory.start ≤ r.start) (sym (range g c)) (lies-usable (read g c) (fresh g c) (fresh_in g c).0).0
-
-pub returns-clause-written : goal.returns-clause-written
-returns-clause-written g c = λ settled. c.take_out-part-2.ensures.full
-    (settled-here c.load_usable_bytes-range.new.memory c.load_usable_bytes-range.result (low_range g c) (fresh_own g c) (settled_before g c settled))
-
-pub returns-clause-settled : goal.returns-clause-settled
-returns-clause-settled g c = λ settled. settled-left c.load_usable_bytes-range.new.memory c.take_out-part-2.new.self c.load_usable_bytes-range.result
-    c.take_out-part-2.ensures.start (low_range g c) c.take_out-part-2.ensures.out (settled_before g c settled)
+pub returns : goal.returns
+returns g c =
+    let s = resized g c in
+    let v = s.changed in record {
+      step = stayed_step g c;
+      layout = λ ok. subst (IsLayout c.args.size) c.align-align.ensures (c.in-Ok.ensures.succeeds.0 refl);
+      identity = search rules;
+      place = search rules;
+      payload = search rules;
+      align = c.hand_over-payload-2.ensures.over.align ∙ c.align-align.ensures;
+      there = there g c;
+      back = tt;
+      live = v.seen.live;
+      long = s.long;
+      aligned = v.aligned;
+      sized = s.sized;
+      few = s.few;
+      kept = s.kept;
+      each = s.each;
+      here = s.here;
+      shrunk = s.shrunk;
+      written = s.written;
+      settled = s.settled;
+      aligns =
+          aligns_stay v.seen (there g c)
+          (live_view c.self.inside.state.state (back g (done g c)) c.args.self.now c.self.view_is c.args.payload (is_view c.args.payload));
+      count = v.count;
+      bounds = v.bounds;
+      chunks = v.chunks;
+      same = tt;
+      touches = search rules;
+      grow = search rules;
+      copied = search rules;
+    }
 
 -- ---- no layout has the size
 
