@@ -3,6 +3,7 @@ ghost use Rattle.std.specs.Prelude.{◌≡◌, ◌<◌, length, slice_index, IfS
 ghost use Rattle.rlsf_heap.specs.Heap.{IsWritten};
 ghost use Rattle.rlsf_heap.specs.Settled.{IsSettled};
 
+use crate::answers::all;
 use rlsf_base::memory::{Layout, OpenMemory, Range};
 use rlsf_heap::{Heap, Payload};
 use std::alloc::Global;
@@ -64,6 +65,6 @@ fn growing_keeps_bytes(rt: HostRuntime) {
     let layout = Layout::from_size_align(17, 1).expect(&rt, "a layout");
     if layout.size() > 0 {
         let answer = grown_in_new_heap(rt.alloc(), layout).expect(&rt, "memory and room");
-        assert!(rt; answer == (7, [true, true, false]));
+        all(&rt, &[answer == (7, [true, true, false])]);
     }
 }

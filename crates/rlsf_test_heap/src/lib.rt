@@ -1,12 +1,14 @@
 //! Tests of `rlsf_heap`, `rlsf_local` and `rlsf_shared_heap`. This crate has no other code, so that these three are proved once.
 //!
-//! In reading order: `pair` and `growing` are programs without a proof file; `rows` and `resized_rows` compare the addresses of
-//! payloads with worked examples; `ends` shows that a dropped heap deallocates its memory; `local` has collections in a heap,
-//! `in_place` vectors that grow and shrink there, and `printed` what is printed of one; `raw` takes a payload apart, and `thin` has
-//! payloads by their address, in `unknown_align` also of any alignment; `shared` and `returned` share a heap between threads, and
-//! take it apart again.
+//! In reading order: `answers` has the assertions; `pair` and `growing` are programs without a proof file; `rows` and `resized_rows`
+//! compare the addresses of payloads with worked examples, as tables of steps; `ends` shows that a dropped heap deallocates its
+//! memory; `local` has collections in a heap, `in_place` vectors that grow and shrink there, and `printed` what is printed of one;
+//! `raw` takes a payload apart; `thin` has payloads by their address, in `unknown_align` also of any alignment; `shared` and `returned`
+//! share a heap between threads, and take it apart again.
 #![tactic(auto)]
 
+#[cfg(test)]
+mod answers;
 #[cfg(test)]
 mod ends;
 #[cfg(test)]

@@ -1,6 +1,11 @@
 //! Collections in a heap.
 //!
-//! What the collections do is in functions over any allocator, so that their proofs have no heap in them: that takes less time.
+//! What the collections do is in functions over any allocator, so that their proofs have no heap in them: that takes less time. One
+//! function makes a heap and does any of the cases, since each call that passes a heap as an allocator takes the prover some seconds.
+use crate::answers::{all, are};
+use crate::in_place::{
+    grow_by_the_block_behind, keep_texts, move_to_grow, refuse_to_grow, shrink_and_grow_again,
+};
 use rlsf_base::memory::{OpenMemory, Range};
 use rlsf_heap::Heap;
 use rlsf_local::{LocalHeap, Tenant};
@@ -16,16 +21,20 @@ type Small = Box<Heap<u16, u16, 12, 16>>;
 /// A heap over a range of another's memory.
 type Room = Tenant<u16, u16, 12, 16>;
 
+/// A heap with a pool of so many bytes.
 fn local(rt: &(impl Abort + AllocGlobal), len: usize) -> LocalHeap<Small> {
     LocalHeap::<Small>::new(rt.alloc(), len).expect(rt, "memory")
 }
 
-/// A pool of 16,384 bytes has one free block again: of 16,352 bytes, the first of its class.
-fn is_whole(heap: LocalHeap<Small>) -> bool {
+/// The pool has one free block again, which has all of it but 32 bytes. It is in the last class of the row.
+fn is_whole(heap: LocalHeap<Small>, row: usize) -> bool {
     let Some(heap) = heap.into_heap() else {
         return false;
     };
-    let first = heap.first_free(8, 15);
+    if row >= 12 {
+        return false;
+    }
+    let first = heap.first_free(row, 15);
     match Box::into_inner(heap).try_into_memory() {
         Ok(memory) => {
             memory.free();
@@ -35,13 +44,71 @@ fn is_whole(heap: LocalHeap<Small>) -> bool {
     }
 }
 
-/// A vector and a text grow to a thousand each, and the vector shrinks. `live` returns how many payloads are out.
-fn grow_and_shrink<A: Allocator + Copy, F: FnOnce() -> usize>(
+/// How many payloads are out, the bytes of their blocks, and the other bytes.
+fn counts_of(heap: &LocalHeap<Small>) -> [usize; 3] {
+    [heap.live(), heap.used(), heap.free()]
+}
+
+/// What collections do in a heap: the functions of these names.
+#[derive(Clone, Copy)]
+pub(crate) enum Case {
+    GrowAndShrink,
+    KeepValues,
+    RefuseUntilRoomComes,
+    FillAndClear,
+    GrowByTheBlockBehind,
+    ShrinkAndGrowAgain,
+    RefuseToGrow,
+    MoveToGrow,
+    KeepTexts,
+}
+
+/// Does a case. `counts` returns how many payloads are out, the bytes of their blocks, and the other bytes.
+fn goes<A: Allocator + Copy, F: Fn() -> [usize; 3]>(
     rt: &impl Abort,
     alloc: A,
-    live: F,
+    counts: F,
+    case: Case,
 ) -> Result<(), Fail>
-    requires { F.IsAlwaysCallable live }
+    requires { F.IsAlwaysCallable counts }
+{
+    match case {
+        Case::GrowAndShrink => grow_and_shrink(rt, alloc, counts),
+        Case::KeepValues => keep_values(rt, alloc),
+        Case::RefuseUntilRoomComes => refuse_until_room_comes(rt, alloc, counts),
+        Case::FillAndClear => fill_and_clear(alloc),
+        Case::GrowByTheBlockBehind => grow_by_the_block_behind(rt, alloc, counts),
+        Case::ShrinkAndGrowAgain => shrink_and_grow_again(rt, alloc, counts),
+        Case::RefuseToGrow => refuse_to_grow(rt, alloc, counts),
+        Case::MoveToGrow => move_to_grow(rt, alloc, counts),
+        Case::KeepTexts => keep_texts(rt, alloc),
+    }
+}
+
+/// Does a case in a heap of `len` bytes, which are 4,096 or 16,384. Passes if it has its expected results, and leaves the heap with
+/// one free block.
+pub(crate) fn passes_in_a_heap(
+    rt: &(impl Abort + AllocGlobal),
+    len: usize,
+    case: Case,
+) -> Result<(), Fail> {
+    let heap = local(rt, len);
+    goes(rt, &heap, || counts_of(&heap), case)?;
+    are(rt, &[heap.size()], &[len]);
+    are(rt, &counts_of(&heap), &[0, 0, len]);
+    // Of 4,064 bytes, or of 16,352.
+    let row = if len == 4096 { 6 } else { 8 };
+    all(rt, &[is_whole(heap, row)]);
+    Ok(())
+}
+
+/// A vector and a text grow to a thousand each, and the vector shrinks.
+fn grow_and_shrink<A: Allocator + Copy, F: Fn() -> [usize; 3]>(
+    rt: &impl Abort,
+    alloc: A,
+    counts: F,
+) -> Result<(), Fail>
+    requires { F.IsAlwaysCallable counts }
 {
     let mut numbers = Vec::new(alloc);
     let mut text = String::new(alloc);
@@ -49,23 +116,26 @@ fn grow_and_shrink<A: Allocator + Copy, F: FnOnce() -> usize>(
         numbers.push(n)?;
         text.push('a')?;
     }
-    assert_eq!(rt; (numbers.len(), text.len(), live()), (1000, 1000, 2));
-    assert_eq!(rt; (numbers[0], numbers[999]), (0, 999));
+    let [live, _, _] = counts();
+    are(rt, &[numbers.len(), text.len(), live], &[1000, 1000, 2]);
+    let full = [
+        numbers.get(0).copied() == Some(0),
+        numbers.get(999).copied() == Some(999),
+    ];
     numbers.truncate(3);
     numbers.shrink_to_fit();
-    assert_eq!(rt; numbers.as_slice(), [0, 1, 2].as_slice());
-    assert!(rt; text.as_str().bytes().all(|byte| byte == b'a'));
+    let cut = [
+        numbers.as_slice() == [0, 1, 2].as_slice(),
+        text.as_str().bytes().all(|byte| byte == b'a'),
+    ];
+    all(rt, &full);
+    all(rt, &cut);
     Ok(())
 }
 
 #[test]
 fn vectors_and_texts_grow_and_shrink(rt: HostRuntime) -> Result<(), Fail> {
-    let heap = local(&rt, 16384);
-    grow_and_shrink(&rt, &heap, || heap.live())?;
-    assert_eq!(rt; (heap.size(), heap.live()), (16384, 0));
-    assert_eq!(rt; (heap.used(), heap.free()), (0, 16384));
-    assert!(rt; is_whole(heap));
-    Ok(())
+    passes_in_a_heap(&rt, 16384, Case::GrowAndShrink)
 }
 
 /// A tree of boxes, a table and a queue keep forty values each.
@@ -78,24 +148,21 @@ fn keep_values<A: Allocator + Copy>(rt: &impl Abort, alloc: A) -> Result<(), Fai
         table.insert(n, n + 1)?;
         queue.push_back(n)?;
     }
-    assert_eq!(rt; tree.get(&7).map(|square| **square), Some(49));
-    assert_eq!(rt;
-        (table.get(&39).copied(), queue.pop_front()),
-        (Some(40), Some(0))
-    );
+    let kept = [
+        tree.get(&7).map(|square| **square) == Some(49),
+        table.get(&39).copied() == Some(40),
+        queue.pop_front() == Some(0),
+    ];
+    all(rt, &kept);
     Ok(())
 }
 
 #[test]
 fn maps_queues_and_boxes_keep_their_values(rt: HostRuntime) -> Result<(), Fail> {
-    let heap = local(&rt, 16384);
-    keep_values(&rt, &heap)?;
-    assert!(rt; is_whole(heap));
-    Ok(())
+    passes_in_a_heap(&rt, 16384, Case::KeepValues)
 }
 
-/// A vector takes most of a heap of 4,096 bytes, and a box gets room once it is dropped. `counts` returns how many payloads are out,
-/// the bytes of their blocks, and the other bytes.
+/// A vector takes most of a heap of 4,096 bytes, and a box gets room once it is dropped.
 fn refuse_until_room_comes<A: Allocator + Copy, F: Fn() -> [usize; 3]>(
     rt: &impl Abort,
     alloc: A,
@@ -105,20 +172,19 @@ fn refuse_until_room_comes<A: Allocator + Copy, F: Fn() -> [usize; 3]>(
 {
     // A block of 3,016 bytes with its header is rounded up to 3,040, and one of 1,616 to 1,632.
     let first: Vec<u8, A> = Vec::with_capacity(alloc, 3000)?;
-    assert_eq!(rt; counts(), [1, 3040, 1056]);
-    assert!(rt; Box::new(alloc, [0u64; 200]).is_err());
-    assert_eq!(rt; counts(), [1, 3040, 1056]);
+    are(rt, &counts(), &[1, 3040, 1056]);
+    let refused = Box::new(alloc, [0u64; 200]).is_err();
+    are(rt, &counts(), &[1, 3040, 1056]);
     drop(first);
     let second = Box::new(alloc, [5u64; 200])?;
-    assert_eq!(rt; (second[0], second[199]), (5, 5));
-    assert_eq!(rt; counts(), [1, 1632, 2464]);
+    are(rt, &counts(), &[1, 1632, 2464]);
+    all(rt, &[refused, second[0] == 5, second[199] == 5]);
     Ok(())
 }
 
 #[test]
 fn a_full_heap_refuses_until_room_comes(rt: HostRuntime) -> Result<(), Fail> {
-    let heap = local(&rt, 4096);
-    refuse_until_room_comes(&rt, &heap, || [heap.live(), heap.used(), heap.free()])
+    passes_in_a_heap(&rt, 4096, Case::RefuseUntilRoomComes)
 }
 
 /// A million boxes, a hundred at a time.
@@ -135,10 +201,7 @@ fn fill_and_clear<A: Allocator + Copy>(alloc: A) -> Result<(), Fail> {
 
 #[test]
 fn no_byte_leaks(rt: HostRuntime) -> Result<(), Fail> {
-    let heap = local(&rt, 16384);
-    fill_and_clear(&heap)?;
-    assert!(rt; is_whole(heap));
-    Ok(())
+    passes_in_a_heap(&rt, 16384, Case::FillAndClear)
 }
 
 /// A box that is never dropped.
@@ -156,9 +219,9 @@ fn a_range_with_a_block_out_stays(rt: HostRuntime) -> Result<(), Fail> {
         len: 8192,
     });
     let room = Room::new(&mut pool, rt.alloc(), 2032).expect(&rt, "room");
-    assert_eq!(rt; (room.heap().size(), pool.live()), (2032, 1));
+    are(&rt, &[room.heap().size(), pool.live()], &[2032, 1]);
     lose(room.heap())?;
-    assert!(rt; !room.end(&mut pool));
-    assert_eq!(rt; pool.live(), 1);
+    let ended = room.end(&mut pool);
+    all(&rt, &[!ended, pool.live() == 1]);
     Ok(())
 }

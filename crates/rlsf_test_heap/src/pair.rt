@@ -6,6 +6,7 @@ ghost use Rattle.rlsf_base.specs.OpenSpace.{place_in};
 ghost use Rattle.rlsf_base.specs.RawParts.{LiesAtBlock};
 ghost use Rattle.rlsf_model.specs.Sized.{live_count};
 
+use crate::answers::{all, are};
 use rlsf_base::memory::{Layout, OpenMemory, Range, RawParts};
 use rlsf_heap::{Heap, Payload};
 use std::alloc::Global;
@@ -104,7 +105,7 @@ fn served_in_place(memory: OpenMemory, layout: Layout) -> RawParts
 fn two_payloads_are_written_at_once(rt: HostRuntime) {
     let layout = Layout::from_size_align_unchecked(100, 64);
     let reads = pair_of_new_heap(rt.alloc(), layout).expect(&rt, "memory and room");
-    assert!(rt; reads == [7, 9]);
+    all(&rt, &[reads == [7, 9]]);
 }
 
 #[test]
@@ -112,7 +113,7 @@ fn memory_comes_back_in_parts(rt: HostRuntime) {
     let layout = Layout::from_size_align_unchecked(100, 64);
     let memory = OpenMemory::reserve(rt.alloc(), 4096, 4096).expect(&rt, "memory");
     let parts = served_in_place(memory, layout);
-    assert!(rt; parts.start == 4096 && parts.len == 4096);
+    are(&rt, &[parts.start, parts.len], &[4096, 4096]);
     let _ = parts.release_room();
 }
 
@@ -135,5 +136,5 @@ fn header_is_between_payloads(rt: HostRuntime) {
         start: 4096,
         len: 4096,
     });
-    assert!(rt; allocated_apart(&mut heap, layout) == Some(16));
+    all(&rt, &[allocated_apart(&mut heap, layout) == Some(16)]);
 }

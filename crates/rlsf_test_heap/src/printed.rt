@@ -1,4 +1,5 @@
 //! What is printed of an allocator of collections.
+use crate::answers::all;
 use rlsf_heap::Heap;
 use rlsf_local::LocalHeap;
 use std::alloc::{AllocError, Allocator, Global};
@@ -24,7 +25,7 @@ fn beside_two_boxes<A: Allocator + Copy, F: FnOnce() -> Result<String, AllocErro
     let first = Box::new(alloc, 1u64)?;
     let second = Box::new(alloc, 2u64)?;
     let text = text()?;
-    assert_eq!(rt; (*first, *second), (1, 2));
+    all(rt, &[*first == 1, *second == 2]);
     Ok(text)
 }
 
@@ -33,14 +34,11 @@ fn debug_text_has_the_size_and_the_counts(rt: HostRuntime) -> Result<(), Fail> {
     let heap = LocalHeap::<Small>::new(rt.alloc(), 4096)?;
     let before = text_of(rt.alloc(), &heap)?;
     let after = beside_two_boxes(&rt, &heap, || text_of(rt.alloc(), &heap))?;
-    assert_eq!(rt;
-        before.as_str(),
-        "LocalHeap { size: 4096, used: 0, live: 0 }"
-    );
     // A payload of 8 bytes takes a block of 32.
-    assert_eq!(rt;
-        after.as_str(),
-        "LocalHeap { size: 4096, used: 64, live: 2 }"
-    );
+    let printed = [
+        before.as_str() == "LocalHeap { size: 4096, used: 0, live: 0 }",
+        after.as_str() == "LocalHeap { size: 4096, used: 64, live: 2 }",
+    ];
+    all(&rt, &printed);
     Ok(())
 }

@@ -2,6 +2,7 @@
 ghost use Rattle.std.specs.Prelude.{◌≡◌, ◌<◌, IfSome};
 ghost use Rattle.rlsf_model.specs.Sized.{live_count};
 
+use crate::answers::are;
 use rlsf_base::memory::{Layout, OpenMemory, Range, View};
 use rlsf_heap::{Heap, Payload};
 use std::alloc::Global;
@@ -53,5 +54,5 @@ fn numbers_of_new_heap(alloc: Global, layout: Layout) -> Option<u8>
 fn payload_passes_through_numbers(rt: HostRuntime) {
     let layout = Layout::from_size_align_unchecked(100, 16);
     let read = numbers_of_new_heap(rt.alloc(), layout).expect(&rt, "memory and room");
-    assert!(rt; read == 7);
+    are(&rt, &[read as usize], &[7]);
 }

@@ -1,4 +1,5 @@
 //! A shared heap in one thread: when it refuses, and the heap that it returns.
+use crate::answers::{all, are};
 use rlsf_base::memory::{Layout, OpenMemory, Range};
 use rlsf_heap::Heap;
 use rlsf_shared_heap::SharedHeap;
@@ -64,12 +65,12 @@ fn addresses<R: Wait>(rt: &R, shared: &Shared, size: usize) -> Option<[usize; 4]
 #[test]
 fn a_shared_heap_refuses_only_without_room(rt: HostRuntime) -> Result<(), Fail> {
     let shared = shared_heap(rt.alloc())?;
-    assert_eq!(rt;
-        addresses(&rt, &shared, 100),
-        Some([65680, 65680, 65552, 65552])
-    );
-    assert_eq!(rt; addresses(&rt, &shared, 3000), Some([0, 0, 65552, 65552]));
-    assert_eq!(rt; addresses(&rt, &shared, 4096), None);
+    let answers = [
+        addresses(&rt, &shared, 100) == Some([65680, 65680, 65552, 65552]),
+        addresses(&rt, &shared, 3000) == Some([0, 0, 65552, 65552]),
+        addresses(&rt, &shared, 4096) == None,
+    ];
+    all(&rt, &answers);
     Ok(())
 }
 
@@ -100,10 +101,10 @@ fn taken_apart<R: Wait>(rt: &R, shared: Shared, layout: Layout) -> Option<[[usiz
 #[test]
 fn a_returned_heap_has_what_the_shared_heap_had(rt: HostRuntime) -> Result<(), Fail> {
     let heap = shared_heap(rt.alloc())?.into_inner();
-    assert_eq!(rt; seen(&heap), [0, 65536]);
+    are(&rt, &seen(&heap), &[0, 65536]);
     let layout = Layout::from_size_align_unchecked(100, 16);
     let both = taken_apart(&rt, Shared::new(heap), layout);
     // A block of 128 bytes is cut from the front, so the rest is in the class before.
-    assert_eq!(rt; both, Some([[1, 0], [0, 65536]]));
+    all(&rt, &[both == Some([[1, 0], [0, 65536]])]);
     Ok(())
 }

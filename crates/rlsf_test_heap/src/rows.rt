@@ -1,15 +1,17 @@
 //! Heaps whose payloads have to lie at given addresses.
-ghost use Rattle.std.specs.Prelude.{◌≡◌, ◌↔◌, [], ◌∷◌, ◌≤◌, ◌<◌, true, IfSome, length};
+ghost use Rattle.std.specs.Prelude.{◌≡◌, ◌↔◌, [], ◌∷◌, ◌≤◌, true, length};
 ghost use Rattle.rlsf_base.specs.Changes.{IsAllOwn};
 ghost use Rattle.rlsf_base.specs.Range.{range_at};
 ghost use Rattle.rlsf_model.specs.Sized.{live_count};
+ghost use Rattle.rlsf_test_heap.specs.Slots.{AreOf, IsOf};
 
+use crate::answers::{all, are, none_is_wrong};
 use rlsf_base::memory::{Layout, OpenMemory, Range};
 use rlsf_heap::{Heap, Payload};
 use std::process::Abort;
 
 /// Chunks of up to 8,160 bytes, in 8 rows of 8 classes.
-type Small = Heap<u8, u8, 8, 8>;
+pub(crate) type Small = Heap<u8, u8, 8, 8>;
 
 /// Chunks of up to 32 bytes and a sentinel, in one class.
 type Single = Heap<u8, u8, 1, 1>;
@@ -38,17 +40,9 @@ fn address(payload: &Option<Payload>) -> usize {
     }
 }
 
-/// The address and the length of a payload, or zeros.
-fn place(payload: &Option<Payload>) -> [usize; 2] {
-    match payload {
-        Some(payload) => [payload.addr(), payload.len()],
-        None => [0, 0],
-    }
-}
-
 /// Deallocates a payload, if there is one.
-fn give_back(heap: &mut Small, payload: Option<Payload>)
-    requires { IfSome payload (λ p. p.identity ≡ heap.old.identity) }
+pub(crate) fn give_back(heap: &mut Small, payload: Option<Payload>)
+    requires { IsOf heap.old.identity payload }
     ensures { heap.new.identity ≡ heap.old.identity }
 {
     if let Some(payload) = payload {
@@ -70,17 +64,22 @@ fn ends(heap: Small) -> bool
 }
 
 /// The address of the newest free block of a class, or 0.
-fn newest(heap: &Small, fl: usize, sl: usize) -> usize
-    requires { (fl < 8) × (sl < 8) }
-{
+pub(crate) fn newest(heap: &Small, fl: usize, sl: usize) -> usize {
+    if fl >= 8 || sl >= 8 {
+        return 0;
+    }
     match heap.first_free(fl, sl) {
         Some(addr) => addr.get(),
         None => 0,
     }
 }
 
-fn are(rt: &impl Abort, answers: &[usize], expected: &[usize]) {
-    assert_eq!(rt; answers, expected);
+/// The bitmap of the classes of a row that have a free block.
+fn classes(heap: &Small, fl: usize) -> usize {
+    if fl >= 8 {
+        return 0;
+    }
+    heap.sl_bitmap(fl) as usize
 }
 
 /// A heap whose pool is the first `len` bytes from the address 4096 on.
@@ -92,89 +91,166 @@ fn small(rt: &(impl Abort + AllocGlobal), len: usize) -> Small
     heap
 }
 
+/// A step of a test, and its expected result. Three slots or four hold its payloads.
+#[derive(Clone, Copy)]
+enum Step {
+    /// Allocates a payload for a size and an alignment into a slot: its address, or 0.
+    Allocate(usize, usize, usize, usize),
+    /// Returns the length of the payload in a slot, or 0.
+    Len(usize, usize),
+    /// Deallocates the payload in a slot.
+    Free(usize),
+    /// Returns the number of live payloads.
+    Live(usize),
+    /// Finds the newest free block of a class: its address, or 0.
+    Newest(usize, usize, usize),
+    /// Returns the bitmap of the rows that have a free block.
+    Rows(usize),
+    /// Returns the bitmap of the classes of a row that have a free block.
+    Classes(usize, usize),
+}
+
+/// Allocates a payload into a slot. Returns its address, or 0.
+fn allocated_at(
+    heap: &mut Small,
+    slots: &mut [Option<Payload>],
+    slot: usize,
+    size: usize,
+    align: usize,
+) -> usize
+    requires own { AreOf heap.old.identity slots.old }
+    ensures identity { heap.new.identity ≡ heap.old.identity }
+    ensures own { AreOf heap.old.identity slots.new }
+{
+    let Ok(layout) = Layout::from_size_align(size, align) else {
+        return usize::MAX;
+    };
+    if slot >= slots.len() {
+        return usize::MAX;
+    }
+    let payload = heap.allocate(layout);
+    let addr = address(&payload);
+    slots[slot] = payload;
+    addr
+}
+
+/// Deallocates the payload in a slot. Returns whether there was one.
+fn freed_at(heap: &mut Small, slots: &mut [Option<Payload>], slot: usize) -> bool
+    requires own { AreOf heap.old.identity slots.old }
+    ensures identity { heap.new.identity ≡ heap.old.identity }
+    ensures own { AreOf heap.old.identity slots.new }
+{
+    if slot >= slots.len() {
+        return false;
+    }
+    let payload = slots[slot].take();
+    let some = payload.is_some();
+    give_back(heap, payload);
+    some
+}
+
+/// The length of the payload in a slot, or 0.
+fn len_at(slots: &[Option<Payload>], slot: usize) -> usize {
+    match slots.get(slot) {
+        Some(Some(payload)) => payload.len(),
+        _ => 0,
+    }
+}
+
+/// Whether a step has its expected result.
+fn goes_so(heap: &mut Small, slots: &mut [Option<Payload>], step: Step) -> bool
+    requires own { AreOf heap.old.identity slots.old }
+    ensures identity { heap.new.identity ≡ heap.old.identity }
+    ensures own { AreOf heap.old.identity slots.new }
+{
+    match step {
+        Step::Allocate(slot, size, align, wanted) => {
+            allocated_at(heap, slots, slot, size, align) == wanted
+        }
+        Step::Len(slot, wanted) => len_at(slots, slot) == wanted,
+        Step::Free(slot) => freed_at(heap, slots, slot),
+        Step::Live(wanted) => heap.live() == wanted,
+        Step::Newest(fl, sl, wanted) => newest(heap, fl, sl) == wanted,
+        Step::Rows(wanted) => heap.fl_bitmap() as usize == wanted,
+        Step::Classes(fl, wanted) => classes(heap, fl) == wanted,
+    }
+}
+
+/// The index of the first step with another result.
+fn first_wrong(heap: &mut Small, slots: &mut [Option<Payload>], steps: &[Step]) -> Option<usize>
+    requires { AreOf heap.old.identity slots.old }
+{
+    for (index, step) in steps.iter().enumerate() {
+        if !goes_so(heap, slots, *step) {
+            return Some(index);
+        }
+    }
+    None
+}
+
+/// Passes if each step on a heap with a pool of `len` bytes has its expected result, and the heap returns its memory after them, or
+/// doesn't.
+fn take_steps(rt: &(impl Abort + AllocGlobal), len: usize, steps: &[Step], last: bool)
+    requires { len ≤ 8192 }
+{
+    let mut heap = small(rt, len);
+    let mut slots = [None, None, None, None];
+    none_is_wrong(rt, first_wrong(&mut heap, &mut slots, steps));
+    all(rt, &[ends(heap) == last]);
+}
+
 #[test]
 fn two_payloads_fit_in_96_bytes(rt: HostRuntime) {
-    let mut heap = small(&rt, 96);
-    let layout = layout(&rt, 0, 1);
-    let first = heap.allocate(layout);
-    let second = heap.allocate(layout);
-    let third = heap.allocate(layout);
-    are(
-        &rt,
-        &[
-            address(&first),
-            address(&second),
-            address(&third),
-            heap.live(),
-        ],
-        &[4112, 4144, 0, 2],
-    );
-    give_back(&mut heap, first);
-    give_back(&mut heap, second);
-    // One free block, of 64 bytes.
-    are(
-        &rt,
-        &[
-            heap.live(),
-            newest(&heap, 1, 0),
-            heap.fl_bitmap() as usize,
-            heap.sl_bitmap(1) as usize,
-        ],
-        &[0, 4096, 2, 1],
-    );
-    assert!(rt; ends(heap));
+    let steps = [
+        Step::Allocate(0, 0, 1, 4112),
+        Step::Allocate(1, 0, 1, 4144),
+        Step::Allocate(2, 0, 1, 0),
+        Step::Live(2),
+        Step::Free(0),
+        Step::Free(1),
+        // One free block, of 64 bytes.
+        Step::Live(0),
+        Step::Newest(1, 0, 4096),
+        Step::Rows(2),
+        Step::Classes(1, 1),
+    ];
+    take_steps(&rt, 96, &steps, true);
 }
 
 #[test]
 fn newest_free_block_is_taken(rt: HostRuntime) {
-    let mut heap = small(&rt, 256);
-    let layout = layout(&rt, 0, 1);
-    let first = heap.allocate(layout);
-    let second = heap.allocate(layout);
-    let third = heap.allocate(layout);
-    let fourth = heap.allocate(layout);
-    are(
-        &rt,
-        &[
-            address(&first),
-            address(&second),
-            address(&third),
-            address(&fourth),
-        ],
-        &[4112, 4144, 4176, 4208],
-    );
-    give_back(&mut heap, first);
-    give_back(&mut heap, third);
-    are(
-        &rt,
-        &[newest(&heap, 0, 0), newest(&heap, 1, 4)],
-        &[4160, 4224],
-    );
-    are(
-        &rt,
-        &[
-            heap.fl_bitmap() as usize,
-            heap.sl_bitmap(0) as usize,
-            heap.sl_bitmap(1) as usize,
-        ],
-        &[3, 1, 16],
-    );
-    are(&rt, &[address(&heap.allocate(layout))], &[4176]);
+    let steps = [
+        Step::Allocate(0, 0, 1, 4112),
+        Step::Allocate(1, 0, 1, 4144),
+        Step::Allocate(2, 0, 1, 4176),
+        Step::Allocate(3, 0, 1, 4208),
+        Step::Free(0),
+        Step::Free(2),
+        Step::Newest(0, 0, 4160),
+        Step::Newest(1, 4, 4224),
+        Step::Rows(3),
+        Step::Classes(0, 1),
+        Step::Classes(1, 16),
+        Step::Allocate(0, 0, 1, 4176),
+    ];
+    take_steps(&rt, 256, &steps, false);
 }
 
 #[test]
 fn aligned_payloads(rt: HostRuntime) {
-    let mut wide = small(&rt, 8192);
-    let page = wide.allocate(layout(&rt, 1, 4096));
-    are(&rt, &place(&page), &[8192, 32]);
-    are(&rt, &[newest(&wide, 6, 7)], &[8224]);
-    let mut heap = small(&rt, 256);
-    let first = heap.allocate(layout(&rt, 0, 1));
-    let second = heap.allocate(layout(&rt, 1, 64));
-    are(&rt, &[address(&first)], &[4112]);
-    are(&rt, &place(&second), &[4160, 32]);
-    are(&rt, &[newest(&heap, 2, 0)], &[4192]);
-    assert!(rt; !ends(heap));
+    let wide = [
+        Step::Allocate(0, 1, 4096, 8192),
+        Step::Len(0, 32),
+        Step::Newest(6, 7, 8224),
+    ];
+    take_steps(&rt, 8192, &wide, false);
+    let steps = [
+        Step::Allocate(0, 0, 1, 4112),
+        Step::Allocate(1, 1, 64, 4160),
+        Step::Len(1, 32),
+        Step::Newest(2, 0, 4192),
+    ];
+    take_steps(&rt, 256, &steps, false);
 }
 
 #[test]
@@ -189,16 +265,16 @@ fn chunks_of_one_block(rt: HostRuntime) {
     let second = heap.allocate(layout);
     let third = heap.allocate(layout);
     let fourth = heap.allocate(layout);
-    are(&rt, &[taken.map_or(0, |n| n.get())], &[192]);
     are(
         &rt,
         &[
+            taken.map_or(0, |n| n.get()),
             address(&first),
             address(&second),
             address(&third),
             address(&fourth),
         ],
-        &[4240, 4176, 4112, 0],
+        &[192, 4240, 4176, 4112, 0],
     );
 }
 
@@ -259,7 +335,7 @@ fn tried(heap: &mut Long, layout: Layout) -> Option<[bool; 2]>
 fn pool_with_a_payload_out_stays(rt: HostRuntime) {
     let mut heap = with_chunk(&rt);
     let answers = tried(&mut heap, layout(&rt, 0, 1));
-    assert!(rt; answers == Some([false, true]));
+    all(&rt, &[answers == Some([false, true])]);
 }
 
 /// Checks the chunk while a payload is out, and once it is back.
@@ -280,7 +356,7 @@ fn checked(heap: &mut Long, layout: Layout) -> Option<[bool; 2]>
 fn pool_with_a_payload_out_is_consistent(rt: HostRuntime) {
     let mut heap = with_chunk(&rt);
     let answers = checked(&mut heap, layout(&rt, 40, 1));
-    assert!(rt; answers == Some([true, true]));
+    all(&rt, &[answers == Some([true, true])]);
 }
 
 #[test]

@@ -2,6 +2,7 @@
 ghost use Rattle.std.specs.Prelude.{◌≡◌, IfSome};
 ghost use Rattle.rlsf_heap.specs.Heap.{IsWritten};
 
+use crate::answers::all;
 use rlsf_base::memory::{Layout, OpenMemory, Range};
 use rlsf_heap::{Heap, Payload};
 use rlsf_shared_heap::SharedHeap;
@@ -110,15 +111,18 @@ fn eight_threads_fill_and_read_without_the_lock(rt: HostRuntime) -> Result<(), F
     let done = of_eight(&rt, rt.alloc(), &shared)?;
     // Nothing is live behind them, so one free block has nearly the whole pool.
     let whole = shared.allocate(&rt, Layout::from_size_align_unchecked(63000, 16));
-    assert_eq!(rt; whole.map(|payload| payload.addr()), Some(65552));
-    assert!(rt; done.iter().all(|rounds| *rounds == ROUNDS));
+    let answers = [
+        whole.is_some_and(|payload| payload.addr() == 65552),
+        done.iter().all(|rounds| *rounds == ROUNDS),
+    ];
+    all(&rt, &answers);
     Ok(())
 }
 
 #[test]
 fn payloads_move_between_threads(rt: HostRuntime) -> Result<(), Fail> {
     let shared = shared_heap(rt.alloc())?;
-    assert!(rt; is_exchanged(&rt, &shared));
+    all(&rt, &[is_exchanged(&rt, &shared)]);
     Ok(())
 }
 
@@ -178,8 +182,11 @@ fn refused<R: Wait>(rt: &R, shared: &Shared) -> bool {
 #[test]
 fn payloads_get_another_size(rt: HostRuntime) -> Result<(), Fail> {
     let shared = shared_heap(rt.alloc())?;
-    assert!(rt; grown(&rt, &shared));
-    assert!(rt; shrunk(&rt, &shared));
-    assert!(rt; refused(&rt, &shared));
+    let answers = [
+        grown(&rt, &shared),
+        shrunk(&rt, &shared),
+        refused(&rt, &shared),
+    ];
+    all(&rt, &answers);
     Ok(())
 }

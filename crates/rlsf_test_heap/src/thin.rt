@@ -3,6 +3,7 @@ ghost use Rattle.std.specs.Prelude.{◌≡◌, ◌≢◌, ◌≤◌};
 ghost use Rattle.rlsf_heap.specs.Heap.{IsWritten};
 ghost use Rattle.rlsf_heap.specs.Settled.{IsSettled};
 
+use crate::answers::are;
 use rlsf_base::memory::{Layout, OpenMemory, Range};
 use rlsf_heap::{Heap, ThinPayload};
 use std::process::Abort;
@@ -109,20 +110,22 @@ fn served(heap: &mut Small, layout: Layout) -> usize {
 #[test]
 fn zeroed_payload_is_found_by_its_address(rt: HostRuntime) {
     let mut heap = small(&rt);
-    assert!(rt; served(&mut heap, Layout::from_size_align_unchecked(100, 16)) == 112);
-    assert!(rt; served(&mut heap, Layout::from_size_align_unchecked(500, 16)) == 0);
-    assert!(rt; heap.live() == 0);
+    let answers = [
+        served(&mut heap, Layout::from_size_align_unchecked(100, 16)),
+        served(&mut heap, Layout::from_size_align_unchecked(500, 16)),
+        heap.live(),
+    ];
+    are(&rt, &answers, &[112, 0, 0]);
 }
 
 #[test]
 fn payload_without_room_is_none(rt: HostRuntime) {
     let mut heap = small(&rt);
     let large = Layout::from_size_align_unchecked(500, 16);
-    let (addr, _) = heap.allocate_thin(large).with_addr();
-    assert!(rt; addr == 0);
+    let (none, _) = heap.allocate_thin(large).with_addr();
     let (addr, payload) = allocated(&rt, &mut heap, 400);
     heap.deallocate_thin(addr, payload);
-    assert!(rt; heap.live() == 0);
+    are(&rt, &[none, heap.live()], &[0, 0]);
 }
 
 #[test]
@@ -130,17 +133,19 @@ fn payload_stays_or_moves(rt: HostRuntime) {
     let mut heap = small(&rt);
     let (first, payload) = allocated(&rt, &mut heap, 100);
     let (second, other) = allocated(&rt, &mut heap, 100);
-    assert!(rt; first == 4112 && second == 4240);
-    let (first, payload) = resized_there(&mut heap, first, payload, 200);
-    let (len, payload) = heap.usable_thin(first, payload);
-    assert!(rt; first == 4112 && len == 112);
-    let (third, payload) = resized(&mut heap, first, payload, 150);
-    let (len, payload) = heap.usable_thin(third, payload);
-    assert!(rt; third == 4368 && len == 176);
-    let (third, payload) = resized(&mut heap, third, payload, 1000);
-    assert!(rt; third == 4368);
-    heap.deallocate_thin_written(third, payload);
+    let (same, payload) = resized_there(&mut heap, first, payload, 200);
+    let (len, payload) = heap.usable_thin(same, payload);
+    let (third, payload) = resized(&mut heap, same, payload, 150);
+    let (greater, payload) = heap.usable_thin(third, payload);
+    let (last, payload) = resized(&mut heap, third, payload, 1000);
+    heap.deallocate_thin_written(last, payload);
     heap.deallocate_thin_written(second, other);
+    are(&rt, &[first, second], &[4112, 4240]);
+    are(
+        &rt,
+        &[same, len, third, greater, last],
+        &[4112, 112, 4368, 176, 4368],
+    );
 }
 
 #[test]
@@ -149,8 +154,12 @@ fn payload_moves_into_a_new_one(rt: HostRuntime) {
     let (first, payload) = allocated(&rt, &mut heap, 100);
     let (second, payload) = moved(&mut heap, first, payload, 200);
     let (len, payload) = heap.usable_thin(second, payload);
-    assert!(rt; first == 4112 && second == 4240 && len == 208 && heap.live() == 1);
-    let (second, payload) = moved(&mut heap, second, payload, 1000);
-    assert!(rt; second == 4240);
-    heap.deallocate_thin_written(second, payload);
+    let live = heap.live();
+    let (last, payload) = moved(&mut heap, second, payload, 1000);
+    heap.deallocate_thin_written(last, payload);
+    are(
+        &rt,
+        &[first, second, len, live, last],
+        &[4112, 4240, 208, 1, 4240],
+    );
 }

@@ -1,0 +1,2 @@
+-- The definitions of the tests' contracts.
+pub mod Slots

@@ -1,0 +1,19 @@
+-- The payloads that the slots of a test hold.
+use Rattle.std.specs.Prelude.{◌≡◌, List, Option, All, IfSome}
+use Rattle.rlsf_heap.specs.Heap.{Identity, IsWritten, PayloadView}
+
+-- it is one of a heap
+abbrev pub IsOf : Identity → Option PayloadView → Type 0
+IsOf heap slot = IfSome slot (λ payload. payload.identity ≡ heap)
+
+-- each is
+abbrev pub AreOf : Identity → List (Option PayloadView) → Type 0
+AreOf heap slots = All (IsOf heap) slots
+
+-- it is one of a heap, and each of its bytes is here
+abbrev pub IsWrittenOf : Identity → Option PayloadView → Type 0
+IsWrittenOf heap slot = IfSome slot (λ payload. (payload.identity ≡ heap) × IsWritten payload)
+
+-- each is
+abbrev pub AreWrittenOf : Identity → List (Option PayloadView) → Type 0
+AreWrittenOf heap slots = All (IsWrittenOf heap) slots
