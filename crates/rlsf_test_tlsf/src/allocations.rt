@@ -108,8 +108,12 @@ fn two(tlsf: &mut Small, first: Layout, second: Layout) -> Option<(Addr, Addr)>
     ensures second { IfSome result (λ r. align_at tlsf.new.state (at r.1) ≡ Some second.align) }
     ensures apart { IfSome result (λ r. at r.0 ≢ at r.1) }
 {
-    let one = tlsf.allocate(first)?;
-    let other = tlsf.allocate(second)?;
+    let Some(one) = tlsf.allocate(first) else {
+        return None;
+    };
+    let Some(other) = tlsf.allocate(second) else {
+        return None;
+    };
     Some((one, other))
 }
 

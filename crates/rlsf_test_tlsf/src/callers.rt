@@ -1,39 +1,45 @@
 //! Runs of the programs of `rlsf_example_functions`, whose clauses don't say when they succeed.
 
-use crate::pools::{layout_of, number};
+use crate::pools::{all, are, layout_of, number};
+use rlsf::Layout;
 use rlsf_example_functions::{
     Buffer, Cache, Note, allocate_all, fill_all, filled, free_all, over_one_range, over_pages,
     over_rations, read_back, with_pool,
 };
+use std::alloc::Global;
 
+/// Allocates 300 payloads, fills them, reads four of them and deallocates all. Returns whether the four were read back.
 #[tactic(auto, using(rlsf::specs::Live::live_none))]
-#[test]
-fn many_payloads_are_read_back(rt: HostRuntime) {
-    let layout = layout_of(&rt, 16, 8);
-    let mut pool = with_pool(rt.alloc(), 299, layout).expect(&rt, "a pool");
-    let mut addrs = Vec::new(rt.alloc());
-    allocate_all(&mut pool, layout, 300, &mut addrs).expect(&rt, "payloads");
-    fill_all(&mut pool, 8, addrs.as_slice());
+fn are_read_back(alloc: Global, layout: Layout) -> Option<bool> {
+    let align = layout.align();
+    let mut pool = with_pool(alloc, 299, layout)?;
+    let mut addrs = Vec::new(alloc);
+    allocate_all(&mut pool, layout, 300, &mut addrs)?;
+    fill_all(&mut pool, align, addrs.as_slice());
     let found = [
-        read_back(&pool, 8, addrs.as_slice(), 0),
-        read_back(&pool, 8, addrs.as_slice(), 255),
-        read_back(&pool, 8, addrs.as_slice(), 256),
-        read_back(&pool, 8, addrs.as_slice(), 299),
+        read_back(&pool, align, addrs.as_slice(), 0),
+        read_back(&pool, align, addrs.as_slice(), 255),
+        read_back(&pool, align, addrs.as_slice(), 256),
+        read_back(&pool, align, addrs.as_slice(), 299),
     ];
-    assert_eq!(rt; found, [Some(0), Some(255), Some(0), Some(43)]);
-    free_all(&mut pool, 8, addrs);
+    free_all(&mut pool, align, addrs);
+    Some(found == [Some(0), Some(255), Some(0), Some(43)])
 }
 
 #[test]
-fn buffer_of_100_bytes(rt: HostRuntime) {
-    // The payload has 16 bytes, then 80 and then 144, beside the one before.
-    let pool = with_pool(rt.alloc(), 1, layout_of(&rt, 144, 8)).expect(&rt, "a pool");
-    let mut buffer = Buffer::new(pool).expect(&rt, "a buffer");
-    let mut pushed = [false; 100];
-    for (byte, done) in pushed.iter_mut().enumerate() {
-        *done = buffer.push(byte as u8);
+fn many_payloads_are_read_back(rt: HostRuntime) {
+    let are_read = are_read_back(rt.alloc(), layout_of(&rt, 16, 8));
+    all(&rt, &[are_read == Some(true)]);
+}
+
+/// Pushes the bytes from 0 to 99. Returns whether each was pushed and the buffer has them.
+fn are_pushed(alloc: Global, layout: Layout) -> Option<bool> {
+    let mut buffer = Buffer::new(with_pool(alloc, 1, layout)?)?;
+    for byte in 0..100 {
+        if !buffer.push(byte) {
+            return Some(false);
+        }
     }
-    assert_eq!(rt; pushed, [true; 100]);
     let bytes = buffer.bytes();
     let found = [
         bytes.first().copied(),
@@ -53,42 +59,76 @@ fn buffer_of_100_bytes(rt: HostRuntime) {
         Some(99),
         None,
     ];
-    assert_eq!(rt; found, expected);
+    Some(found == expected)
+}
+
+#[test]
+fn buffer_of_100_bytes(rt: HostRuntime) {
+    // The payload has 16 bytes, then 80 and then 144, beside the one before.
+    let are_pushed = are_pushed(rt.alloc(), layout_of(&rt, 144, 8));
+    all(&rt, &[are_pushed == Some(true)]);
+}
+
+/// Puts three messages into a cache for two.
+fn put_three(alloc: Global) -> Option<()> {
+    let layout = Layout::from_size_align_unchecked(16, 8);
+    let mut cache = Cache::new(alloc, 2, layout)?;
+    cache.put(b"first");
+    cache.put(b"second");
+    cache.put(b"third");
+    Some(())
+}
+
+/// Writes a note. Returns whether it can be read, and another can be made in the same pool.
+fn is_noted(alloc: Global, layout: Layout) -> Option<bool> {
+    let mut note = Note::new(with_pool(alloc, 0, layout)?, 16)?;
+    note.write(b"note");
+    let is_read = note.bytes().get(..4) == Some(b"note".as_slice());
+    // The pool has room for one payload, so the first one is freed.
+    let again = Note::new(note.into_pool(), 16);
+    Some(is_read && again.is_some())
 }
 
 #[test]
 fn cache_and_note(rt: HostRuntime) {
     let layout = layout_of(&rt, 16, 8);
-    let mut cache = Cache::new(rt.alloc(), 2, layout).expect(&rt, "a cache");
-    cache.put(b"first");
-    cache.put(b"second");
-    cache.put(b"third");
-    let pool = with_pool(rt.alloc(), 0, layout).expect(&rt, "a pool");
-    let mut note = Note::new(pool, 16).expect(&rt, "a note");
-    note.write(b"note");
-    assert_eq!(rt; note.bytes().get(..4), Some(b"note".as_slice()));
-    // The pool has room for one payload, so the first one is freed.
-    let again = Note::new(note.into_pool(), 16);
-    assert_eq!(rt; again.is_some(), true);
+    let is_put = put_three(rt.alloc()).is_some();
+    let is_noted = is_noted(rt.alloc(), layout) == Some(true);
+    all(&rt, &[is_put, is_noted]);
+}
+
+/// The byte that is read of a payload over pages.
+fn read_over_pages(alloc: Global) -> Option<u8> {
+    let mut pages = over_pages(alloc, 65536)?;
+    filled(&mut pages, Layout::from_size_align_unchecked(16, 8), 7, 3)
+}
+
+/// The addresses of two payloads over one range.
+fn placed_over_one_range(alloc: Global, layout: Layout) -> Option<[usize; 2]> {
+    let mut range = over_one_range(alloc, 65536)?;
+    Some([
+        number(range.allocate(layout)),
+        number(range.allocate(layout)),
+    ])
+}
+
+/// The addresses of two payloads over two rations, and of one more, or 0.
+fn placed_over_rations(alloc: Global, layout: Layout) -> Option<[usize; 3]> {
+    let mut rations = over_rations(alloc, 65536, 2)?;
+    Some([
+        number(rations.allocate(layout)),
+        number(rations.allocate(layout)),
+        number(rations.allocate(layout)),
+    ])
 }
 
 #[test]
 fn allocators_over_sources(rt: HostRuntime) {
     // A payload of 16 bytes needs a block of 32, and a pool of 64 bytes, which begins 16 bytes before the payload.
     let layout = layout_of(&rt, 16, 8);
-    let mut pages = over_pages(rt.alloc(), 65536).expect(&rt, "pages");
-    assert_eq!(rt; filled(&mut pages, layout, 7, 3), Some(7));
-    let mut range = over_one_range(rt.alloc(), 65536).expect(&rt, "a range");
-    let found = [
-        number(range.allocate(layout)),
-        number(range.allocate(layout)),
-    ];
-    assert_eq!(rt; found, [65552, 65616]);
-    let mut rations = over_rations(rt.alloc(), 65536, 2).expect(&rt, "rations");
-    let found = [
-        number(rations.allocate(layout)),
-        number(rations.allocate(layout)),
-        number(rations.allocate(layout)),
-    ];
-    assert_eq!(rt; found, [65552, 65616, 0]);
+    all(&rt, &[read_over_pages(rt.alloc()) == Some(7)]);
+    let range = placed_over_one_range(rt.alloc(), layout);
+    are(&rt, &range.unwrap_or([0; 2]), &[65552, 65616]);
+    let rations = placed_over_rations(rt.alloc(), layout);
+    are(&rt, &rations.unwrap_or([0; 3]), &[65552, 65616, 0]);
 }

@@ -8,7 +8,7 @@
 
 ghost use Rattle.rlsf_base.specs.SizeClass.{IsValid};
 
-use super::pools::{layout_of, zeros};
+use super::pools::{all, layout_of, zeros};
 use super::words::next;
 use rlsf::classes::{pool_size_for_objects, pool_size_for_payloads};
 use rlsf::int::BitPattern;
@@ -17,9 +17,10 @@ use rlsf_trace_runs::run;
 use rlsf_trace_text::{Answer, Op};
 use std::process::Abort;
 
-/// Ops, and whether each has to be granted.
+/// Ops in a memory of so many bytes, and whether each has to be granted.
 #[derive(Drop)]
 struct Script {
+    len: usize,
     ops: Vec<Op>,
     granted: Vec<bool>,
 }
@@ -50,9 +51,10 @@ fn name_at(order: Order, count: usize, place: usize) -> usize {
 }
 
 impl Script {
-    /// A pool of so many bytes.
+    /// A pool of so many bytes, which are all of the memory.
     fn new(rt: &(impl Abort + AllocGlobal), len: usize) -> Script {
         let mut script = Script {
+            len,
             ops: Vec::new(rt.alloc()),
             granted: Vec::new(rt.alloc()),
         };
@@ -119,19 +121,23 @@ type Shape<'a, Bits, const FLLEN: usize, const SLLEN: usize> = Option<
     &'a Tlsf<Bits, Bits, FLLEN, SLLEN>,
 >;
 
-/// The index of the first op with another result in a memory of so many bytes.
-fn wrong_in<Bits: BitPattern, const FLLEN: usize, const SLLEN: usize>(
+/// Whether each op of each script has its expected result.
+fn go_so<Bits: BitPattern, const FLLEN: usize, const SLLEN: usize>(
     rt: &(impl Abort + AllocGlobal),
-    script: &Script,
-    len: usize,
+    scripts: &[Script],
     _shape: Shape<'_, Bits, FLLEN, SLLEN>,
-) -> Option<usize>
+) -> bool
     requires { IsValid Bits.width Bits.width FLLEN SLLEN }
 {
-    let mut tlsf = Tlsf::<Bits, Bits, FLLEN, SLLEN>::new(zeros(rt, 4096, len));
-    let mut answers = Vec::new(rt.alloc());
-    run(rt.alloc(), &mut tlsf, script.ops.as_slice(), &mut answers).expect(rt, "memory");
-    script.first_wrong(answers.as_slice())
+    for script in scripts {
+        let mut tlsf = Tlsf::<Bits, Bits, FLLEN, SLLEN>::new(zeros(rt, 4096, script.len));
+        let mut answers = Vec::new(rt.alloc());
+        run(rt.alloc(), &mut tlsf, script.ops.as_slice(), &mut answers).expect(rt, "memory");
+        if script.first_wrong(answers.as_slice()).is_some() {
+            return false;
+        }
+    }
+    true
 }
 
 /// A pool of so many bytes holds `count` payloads. They are allocated and deallocated in an order, all of them and each half of
@@ -155,74 +161,55 @@ fn filled_in_order(
 
 static ORDERS: [Order; 3] = [Order::Ascending, Order::Descending, Order::Alternating];
 
-/// Whether a pool of so many bytes holds `count` payloads and no more, in each of the three orders.
-fn holds<Bits: BitPattern, const FLLEN: usize, const SLLEN: usize>(
-    rt: &(impl Abort + AllocGlobal),
-    count: usize,
-    layout: Layout,
-    len: usize,
-    shape: Shape<'_, Bits, FLLEN, SLLEN>,
-) -> bool
+/// The size of an object, the length of a pool for 100 of them, and the size to ask for.
+type Hundred = (usize, usize, usize);
+
+/// In each order, a pool for 100 objects that holds 100 of them, and one that is 32 bytes shorter and holds 99.
+fn scripts_of_100(rt: &(impl Abort + AllocGlobal), pools: &[Hundred]) -> Vec<Script> {
+    let mut scripts = Vec::new(rt.alloc());
+    for (_, len, size) in pools {
+        let object = layout_of(rt, *size, 16);
+        let shorter = len.saturating_sub(32);
+        for order in &ORDERS {
+            for (count, len) in [(100, *len), (99, shorter)] {
+                let script = filled_in_order(rt, *order, count, object, len);
+                scripts.push(script).expect(rt, "memory");
+            }
+        }
+    }
+    scripts
+}
+
+/// Whether the lengths of pools for 100 objects, and the sizes to ask for, are these.
+fn are_found<Bits: BitPattern, const FLLEN: usize, const SLLEN: usize>(pools: &[Hundred]) -> bool
     requires { IsValid Bits.width Bits.width FLLEN SLLEN }
 {
-    for order in &ORDERS {
-        let script = filled_in_order(rt, *order, count, layout, len);
-        if wrong_in(rt, &script, len, shape).is_some() {
+    for (size, len, wanted) in pools {
+        let found = pool_size_for_objects::<Bits, Bits, FLLEN, SLLEN>(100, *size);
+        if found != Some((*len, *wanted)) {
             return false;
         }
     }
     true
 }
 
-/// The length of a pool for 100 objects of a size, and the size to ask for. The pool has to hold 100, and one that is 32 bytes
-/// shorter 99, in each order.
-fn pool_of_100<Bits: BitPattern, const FLLEN: usize, const SLLEN: usize>(
-    rt: &(impl Abort + AllocGlobal),
-    size: usize,
-    shape: Shape<'_, Bits, FLLEN, SLLEN>,
-) -> Option<(usize, usize)>
-    requires { IsValid Bits.width Bits.width FLLEN SLLEN }
-{
-    let found = pool_size_for_objects::<Bits, Bits, FLLEN, SLLEN>(100, size);
-    let Some((len, size)) = found else {
-        return None;
-    };
-    let object = layout_of(rt, size, 16);
-    let shorter = len.saturating_sub(32);
-    if holds(rt, 100, object, len, shape) && holds(rt, 99, object, shorter, shape) {
-        Some((len, size))
-    } else {
-        None
-    }
-}
+static POOLS_12_BY_16: [Hundred; 3] = [(40, 6432, 48), (700, 73632, 720), (1100, 115232, 1136)];
 
-/// As above, for objects of 40, of 700 and of 1100 bytes.
-fn pools_of_100<Bits: BitPattern, const FLLEN: usize, const SLLEN: usize>(
-    rt: &(impl Abort + AllocGlobal),
-    shape: Shape<'_, Bits, FLLEN, SLLEN>,
-) -> [Option<(usize, usize)>; 3]
-    requires { IsValid Bits.width Bits.width FLLEN SLLEN }
-{
-    [
-        pool_of_100(rt, 40, shape),
-        pool_of_100(rt, 700, shape),
-        pool_of_100(rt, 1100, shape),
-    ]
-}
+static POOLS_59_BY_8: [Hundred; 3] = [(40, 6432, 48), (700, 76832, 752), (1100, 115232, 1136)];
+
+static POOLS_64_BY_64: [Hundred; 3] = [(40, 6432, 48), (700, 73632, 720), (1100, 112032, 1104)];
 
 #[test]
 fn pools_of_100_objects(rt: HostRuntime) {
-    let found = [
-        pools_of_100::<u16, 12, 16>(&rt, None),
-        pools_of_100::<u64, 59, 8>(&rt, None),
-        pools_of_100::<u64, 64, 64>(&rt, None),
+    let answers = [
+        are_found::<u16, 12, 16>(&POOLS_12_BY_16),
+        are_found::<u64, 59, 8>(&POOLS_59_BY_8),
+        are_found::<u64, 64, 64>(&POOLS_64_BY_64),
+        go_so::<u16, 12, 16>(&rt, &scripts_of_100(&rt, &POOLS_12_BY_16), None),
+        go_so::<u64, 59, 8>(&rt, &scripts_of_100(&rt, &POOLS_59_BY_8), None),
+        go_so::<u64, 64, 64>(&rt, &scripts_of_100(&rt, &POOLS_64_BY_64), None),
     ];
-    let expected = [
-        [Some((6432, 48)), Some((73632, 720)), Some((115232, 1136))],
-        [Some((6432, 48)), Some((76832, 752)), Some((115232, 1136))],
-        [Some((6432, 48)), Some((73632, 720)), Some((112032, 1104))],
-    ];
-    assert_eq!(rt; found, expected);
+    all(&rt, &answers);
 }
 
 /// How many payloads are live at most in the random run.
@@ -245,9 +232,9 @@ fn random_op(rt: &impl Abort, word: u64, live: &mut [bool; NAMES]) -> Op {
     }
 }
 
-/// 100,000 random ops in a pool of so many bytes, each of which has to be granted. The number is that of ops before which all names
-/// were live.
-fn random_script(rt: &(impl Abort + AllocGlobal), len: usize) -> (Script, usize) {
+/// 100,000 random ops in a pool of so many bytes, each of which has to be granted. Passes only if there are ops before which all
+/// names were live.
+fn random_script(rt: &(impl Abort + AllocGlobal), len: usize) -> Script {
     let mut script = Script::new(rt, len);
     let mut live = [false; NAMES];
     let mut full: usize = 0;
@@ -259,36 +246,25 @@ fn random_script(rt: &(impl Abort + AllocGlobal), len: usize) -> (Script, usize)
         }
         script.add(rt, random_op(rt, word, &mut live), true);
     }
-    (script, full)
-}
-
-/// The length of a pool for as many payloads as may be live before an op of the random run. None of its ops is refused.
-fn pool_of_random_run<Bits: BitPattern, const FLLEN: usize, const SLLEN: usize>(
-    rt: &(impl Abort + AllocGlobal),
-    shape: Shape<'_, Bits, FLLEN, SLLEN>,
-) -> Option<usize>
-    requires { IsValid Bits.width Bits.width FLLEN SLLEN }
-{
-    let greatest = layout_of(rt, 700, 64);
-    let len = pool_size_for_payloads::<Bits, Bits, FLLEN, SLLEN>(NAMES, greatest)?;
-    let (script, full) = random_script(rt, len);
-    let wrong = wrong_in(rt, &script, len, shape);
-    if full == 0 || wrong.is_some() {
-        return None;
-    }
-    Some(len)
+    all(rt, &[full > 0]);
+    script
 }
 
 #[test]
 fn random_run_without_a_refusal(rt: HostRuntime) {
     // A payload of 700 bytes at a multiple of 64 needs a block of up to 768, where a class begins. So the length is 800 bytes, and
     // 50 times 1,504.
-    let found = [
-        pool_of_random_run::<u16, 12, 16>(&rt, None),
-        pool_of_random_run::<u64, 59, 8>(&rt, None),
-        pool_of_random_run::<u64, 64, 64>(&rt, None),
+    let greatest = layout_of(&rt, 700, 64);
+    let scripts = [random_script(&rt, 76000)];
+    let answers = [
+        pool_size_for_payloads::<u16, u16, 12, 16>(NAMES, greatest) == Some(76000),
+        pool_size_for_payloads::<u64, u64, 59, 8>(NAMES, greatest) == Some(76000),
+        pool_size_for_payloads::<u64, u64, 64, 64>(NAMES, greatest) == Some(76000),
+        go_so::<u16, 12, 16>(&rt, &scripts, None),
+        go_so::<u64, 59, 8>(&rt, &scripts, None),
+        go_so::<u64, 64, 64>(&rt, &scripts, None),
     ];
-    assert_eq!(rt; found, [Some(76000), Some(76000), Some(76000)]);
+    all(&rt, &answers);
 }
 
 /// How many payloads are live at most before a call of the run that leaves fragments.
@@ -311,32 +287,19 @@ fn fragments(rt: &(impl Abort + AllocGlobal), len: usize, granted: bool) -> Scri
     script
 }
 
-/// The length of a pool that never refuses while so many payloads are live. The last allocation is granted beside the fragments,
-/// and refused in a pool that is 32 bytes shorter.
-fn pool_of_fragments<Bits: BitPattern, const FLLEN: usize, const SLLEN: usize>(
-    rt: &(impl Abort + AllocGlobal),
-    shape: Shape<'_, Bits, FLLEN, SLLEN>,
-) -> Option<usize>
-    requires { IsValid Bits.width Bits.width FLLEN SLLEN }
-{
-    let greatest = layout_of(rt, 1008, 1);
-    let len = pool_size_for_payloads::<Bits, Bits, FLLEN, SLLEN>(FRAGMENTS, greatest)?;
-    let shorter = len.saturating_sub(32);
-    let enough = wrong_in(rt, &fragments(rt, len, true), len, shape);
-    let refused = wrong_in(rt, &fragments(rt, shorter, false), shorter, shape);
-    if enough.is_some() || refused.is_some() {
-        return None;
-    }
-    Some(len)
-}
-
 #[test]
 fn greatest_beside_fragments(rt: HostRuntime) {
-    // The greatest payload needs a block of 1,024 bytes, at which a class begins: 1,056 bytes, and 15 times 2,016.
-    let found = [
-        pool_of_fragments::<u16, 12, 16>(&rt, None),
-        pool_of_fragments::<u64, 59, 8>(&rt, None),
-        pool_of_fragments::<u64, 64, 64>(&rt, None),
+    // The greatest payload needs a block of 1,024 bytes, at which a class begins: 1,056 bytes, and 15 times 2,016. The last
+    // allocation is granted beside the fragments, and refused in a pool that is 32 bytes shorter.
+    let greatest = layout_of(&rt, 1008, 1);
+    let scripts = [fragments(&rt, 31296, true), fragments(&rt, 31264, false)];
+    let answers = [
+        pool_size_for_payloads::<u16, u16, 12, 16>(FRAGMENTS, greatest) == Some(31296),
+        pool_size_for_payloads::<u64, u64, 59, 8>(FRAGMENTS, greatest) == Some(31296),
+        pool_size_for_payloads::<u64, u64, 64, 64>(FRAGMENTS, greatest) == Some(31296),
+        go_so::<u16, 12, 16>(&rt, &scripts, None),
+        go_so::<u64, 59, 8>(&rt, &scripts, None),
+        go_so::<u64, 64, 64>(&rt, &scripts, None),
     ];
-    assert_eq!(rt; found, [Some(31296), Some(31296), Some(31296)]);
+    all(&rt, &answers);
 }

@@ -2,6 +2,7 @@
 //! blocks are as short as multiples of 32 allow.
 
 use super::pools::{START, Small, at, number, small};
+use crate::bytes::is_all;
 use crate::pools::{all, layout_of, passes, zeros};
 use rlsf_base::memory::Range;
 use rlsf_checked::{CheckedError, CheckedTlsf};
@@ -9,7 +10,7 @@ use std::process::Abort;
 
 /// A call, and what it answers.
 #[derive(Clone, Copy)]
-enum Step {
+pub(super) enum Step {
     Insert(usize, usize, Result<usize, CheckedError>),
     Append(usize, usize, Result<usize, CheckedError>),
     Allocate(usize, usize, Result<usize, CheckedError>),
@@ -21,6 +22,14 @@ enum Step {
     Write(usize, usize, &'static [u8], Result<(), CheckedError>),
     Read(usize, usize, Result<[u8; 4], CheckedError>),
     Block(usize, usize, usize, bool),
+    Remove(usize, usize, Result<(), CheckedError>),
+    RemoveLast(bool),
+    /// The address at which the first block from another address on begins, or 0.
+    Next(usize, usize),
+    /// How many payloads there are, the used and the free bytes, and the bytes of the longest free block.
+    Totals([usize; 4]),
+    /// A payload, an offset, and how many bytes are read from there on, up to 900. Each of them is 7.
+    Sevens(usize, usize, usize),
 }
 
 /// How many bytes a payload has.
@@ -47,6 +56,42 @@ fn has_block(pool: &Small, place: usize, start: usize, size: usize, is_used: boo
             && block.size() == size
             && block.is_occupied() == is_used,
         None => false,
+    }
+}
+
+/// The address at which the first block from another address on begins, or 0.
+fn next(pool: &Small, from: usize) -> usize {
+    match pool.next_block(from) {
+        Some(block) => block.as_ptr().start,
+        None => 0,
+    }
+}
+
+/// How many payloads there are, the used and the free bytes, and the bytes of the longest free block.
+fn totals(pool: &Small) -> [usize; 4] {
+    let totals = pool.totals();
+    [totals.payloads, totals.used, totals.free, totals.longest]
+}
+
+/// Whether so many bytes of a payload from an offset on are all 7.
+fn has_sevens(pool: &Small, rt: &impl Abort, addr: usize, offset: usize, len: usize) -> bool {
+    let mut bytes = [0; 900];
+    let read = &mut bytes[..len.min(900)];
+    pool.read(at(rt, addr), offset, read).is_ok() && is_all(read, 7)
+}
+
+/// Whether a call on ranges or on all blocks has its expected result.
+fn is_so(pool: &mut Small, rt: &impl Abort, step: &Step) -> bool {
+    match step {
+        Step::Remove(start, len, wanted) => pool.remove_pool(Range {
+            start: *start,
+            len: *len,
+        }) == *wanted,
+        Step::RemoveLast(wanted) => pool.remove_last() == *wanted,
+        Step::Next(from, wanted) => next(pool, *from) == *wanted,
+        Step::Totals(wanted) => totals(pool) == *wanted,
+        Step::Sevens(addr, offset, len) => has_sevens(pool, rt, *addr, *offset, *len),
+        _ => false,
     }
 }
 
@@ -78,11 +123,12 @@ fn answers_as(pool: &mut Small, rt: &impl Abort, step: &Step) -> bool {
         Step::Block(place, start, size, is_used) => has_block(
             pool, *place, *start, *size, *is_used,
         ),
+        _ => is_so(pool, rt, step),
     }
 }
 
 /// Passes if the calls have their expected results, one after another.
-fn answers_all(pool: &mut Small, rt: &impl Abort, steps: &[Step]) {
+pub(super) fn answers_all(pool: &mut Small, rt: &impl Abort, steps: &[Step]) {
     for (index, step) in steps.iter().enumerate() {
         passes(rt, answers_as(pool, rt, step), index);
     }

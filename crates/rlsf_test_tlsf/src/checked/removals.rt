@@ -1,109 +1,77 @@
 //! Ranges that are removed, and ranges that aren't.
+//!
+//! A chunk of 1,024 bytes has 992 before its end. A payload of 900 bytes has a block of 928 there, and 64 are left.
 
-use crate::checked::pools::{START, Small, at, number, small};
-use rlsf_base::memory::{Layout, Range};
+use super::calls::{Step, answers_all};
+use super::pools::small;
 use rlsf_checked::CheckedError;
-use std::process::Abort;
-use std::test::Fail;
 
-/// Where the second and the third pool begin: contiguous pools, with a gap before them.
-const SECOND: usize = 8192;
+/// Three pools of 1,024 bytes, with a gap behind the first one. The first two are full: a payload lives in each.
+const THREE_POOLS: &[Step] = &[
+    Step::Insert(4096, 1024, Ok(1024)),
+    Step::Allocate(900, 16, Ok(4112)),
+    Step::Insert(8192, 1024, Ok(1024)),
+    Step::Allocate(900, 16, Ok(8208)),
+    Step::Insert(9216, 1024, Ok(1024)),
+];
 
-const THIRD: usize = 9216;
+const NO_POOL: &[Step] = &[Step::Remove(4096, 1024, Err(CheckedError::NotChunks))];
 
-/// A layout of which a chunk of 1,024 bytes has room for one payload.
-fn layout() -> Layout {
-    Layout::from_size_align_unchecked(900, 16)
-}
-
-/// Inserts three pools of 1,024 bytes. The first two are full: a payload lives in each.
-fn three_pools(rt: &(impl Abort + AllocGlobal)) -> Small {
-    let mut pool = small(rt, 65536);
-    insert(rt, &mut pool, START);
-    let first = number(pool.allocate(layout()));
-    assert!(rt; first == Ok(START + 16));
-    insert(rt, &mut pool, SECOND);
-    let second = number(pool.allocate(layout()));
-    assert!(rt; second == Ok(SECOND + 16));
-    insert(rt, &mut pool, THIRD);
-    pool
-}
-
-fn insert(rt: &impl Abort, pool: &mut Small, start: usize) {
-    let range = Range { start, len: 1024 };
-    assert!(rt; pool.insert(range) == Ok(1024));
-}
-
-/// Removes a range, and returns the error as a number, or 0.
-fn remove(pool: &mut Small, start: usize, len: usize) -> usize {
-    match pool.remove_pool(Range { start, len }) {
-        Ok(()) => 0,
-        Err(CheckedError::InUse) => 15,
-        Err(CheckedError::NotChunks) => 16,
-        Err(_) => 99,
-    }
-}
-
-#[test]
-fn only_complete_chunks_are_removed(rt: HostRuntime) {
-    let mut pool = small(&rt, 65536);
-    assert!(rt; remove(&mut pool, START, 1024) == 16);
-    let mut pool = three_pools(&rt);
-    let wrong = [
-        (0, 0),
-        (START, 0),
-        (START, 992),
-        (START, 1025),
-        (START + 32, 992),
-        (START - 1, 1025),
-        (5120, 1024),
-        (SECOND, 1536),
-        (SECOND + 512, 512),
-        (THIRD, 1056),
-        (START, usize::MAX),
-        (usize::MAX, usize::MAX),
-    ];
-    for (start, len) in wrong {
-        assert!(rt; remove(&mut pool, start, len) == 16);
-    }
+const ONLY_COMPLETE_CHUNKS: &[Step] = &[
+    Step::Remove(0, 0, Err(CheckedError::NotChunks)),
+    Step::Remove(4096, 0, Err(CheckedError::NotChunks)),
+    Step::Remove(4096, 992, Err(CheckedError::NotChunks)),
+    Step::Remove(4096, 1025, Err(CheckedError::NotChunks)),
+    Step::Remove(4128, 992, Err(CheckedError::NotChunks)),
+    Step::Remove(4095, 1025, Err(CheckedError::NotChunks)),
+    Step::Remove(5120, 1024, Err(CheckedError::NotChunks)),
+    Step::Remove(8192, 1536, Err(CheckedError::NotChunks)),
+    Step::Remove(8704, 512, Err(CheckedError::NotChunks)),
+    Step::Remove(9216, 1056, Err(CheckedError::NotChunks)),
+    Step::Remove(4096, usize::MAX, Err(CheckedError::NotChunks)),
+    Step::Remove(usize::MAX, usize::MAX, Err(CheckedError::NotChunks)),
     // Contiguous pools are removed together.
-    assert!(rt; remove(&mut pool, SECOND, 2048) == 15);
-    assert!(rt; pool.deallocate(at(&rt, SECOND + 16)) == Ok(()));
-    assert!(rt; remove(&mut pool, SECOND, 2048) == 0);
-    assert!(rt; remove(&mut pool, SECOND, 2048) == 16);
-    // What is free in the first pool, beside its payload.
-    assert!(rt; pool.totals().free == 992 - 928);
-}
+    Step::Remove(8192, 2048, Err(CheckedError::InUse)),
+    Step::Deallocate(8208, Ok(())),
+    Step::Remove(8192, 2048, Ok(())),
+    Step::Remove(8192, 2048, Err(CheckedError::NotChunks)),
+    // The first pool has its payload.
+    Step::Totals([1, 928, 64, 64]),
+];
 
-#[test]
-fn earlier_pool_is_removed_while_a_later_one_is_used(rt: HostRuntime) -> Result<(), Fail> {
-    let mut pool = three_pools(&rt);
-    let second = at(&rt, SECOND + 16);
-    pool.write(second, 0, &[7; 900])?;
-    assert!(rt; remove(&mut pool, START, 1024) == 15);
-    pool.deallocate(at(&rt, START + 16))?;
-    assert!(rt; remove(&mut pool, START, 1024) == 0);
-    assert!(rt; pool.totals().payloads == 1);
-    assert!(rt; pool.totals().free == 992 - 928 + 992);
+const EARLIER_POOL_WHILE_A_LATER_ONE_IS_USED: &[Step] = &[
+    Step::Write(8208, 0, &[7; 900], Ok(())),
+    Step::Remove(4096, 1024, Err(CheckedError::InUse)),
+    Step::Deallocate(4112, Ok(())),
+    Step::Remove(4096, 1024, Ok(())),
+    Step::Totals([1, 928, 64 + 992, 992]),
     // The last pool is still the third one, whose range is behind.
-    let range = Range {
-        start: START,
-        len: 1024,
-    };
-    assert!(rt; pool.insert(range) == Err(CheckedError::NotBehind));
-    let mut bytes = [0; 900];
-    pool.read(second, 0, &mut bytes)?;
-    assert!(rt; bytes == [7; 900]);
-    Ok(())
-}
+    Step::Insert(4096, 1024, Err(CheckedError::NotBehind)),
+    Step::Sevens(8208, 0, 900),
+];
+
+const END_OF_THE_LAST_POOL_IS_INSERTED_AGAIN: &[Step] = &[
+    // From 9,216 on: the start is rounded up.
+    Step::Remove(9209, 1031, Ok(())),
+    Step::Allocate(900, 16, Err(CheckedError::NoRoom)),
+    Step::Insert(9216, 1024, Ok(1024)),
+    Step::Allocate(900, 16, Ok(9232)),
+    Step::Remove(9216, 1024, Err(CheckedError::InUse)),
+];
+
+/// The pools of an allocator, and the calls then.
+static SCRIPTS: [(&[Step], &[Step]); 4] = [
+    (&[], NO_POOL),
+    (THREE_POOLS, ONLY_COMPLETE_CHUNKS),
+    (THREE_POOLS, EARLIER_POOL_WHILE_A_LATER_ONE_IS_USED),
+    (THREE_POOLS, END_OF_THE_LAST_POOL_IS_INSERTED_AGAIN),
+];
 
 #[test]
-fn removed_end_of_the_last_pool_is_inserted_again(rt: HostRuntime) {
-    let mut pool = three_pools(&rt);
-    // From 9,216 on: the start is rounded up.
-    assert!(rt; remove(&mut pool, THIRD - 7, 1031) == 0);
-    assert!(rt; pool.allocate(layout()) == Err(CheckedError::NoRoom));
-    insert(&rt, &mut pool, THIRD);
-    assert!(rt; number(pool.allocate(layout())) == Ok(THIRD + 16));
-    assert!(rt; remove(&mut pool, THIRD, 1024) == 15);
+fn ranges_are_removed(rt: HostRuntime) {
+    for (pools, steps) in &SCRIPTS {
+        let mut pool = small(&rt, 65536);
+        answers_all(&mut pool, &rt, pools);
+        answers_all(&mut pool, &rt, steps);
+    }
 }

@@ -3,7 +3,7 @@
 ghost use Rattle.rlsf_base.specs.Range.{range_at};
 ghost use Rattle.rlsf_model.specs.ChunkRows.{IsRow};
 
-use crate::pools::{Small, layout_of, with_pool};
+use crate::pools::{Small, all, layout_of, with_pool};
 use rlsf::{Blocks, Range};
 use rlsf_example_libraries::picture;
 use std::process::Abort;
@@ -21,7 +21,7 @@ fn two_payloads(rt: &(impl Abort + AllocGlobal)) -> Small
 /// Passes if the picture of these blocks is this text.
 fn are_drawn(rt: &(impl Abort + AllocGlobal), blocks: Blocks<'_>, width: usize, text: &str) {
     let drawn = picture(rt.alloc(), blocks, width).expect(rt, "memory");
-    assert_eq!(rt; drawn.as_str(), text);
+    all(rt, &[drawn.as_str() == text]);
 }
 
 /// Passes if the picture of the chunk is this text.

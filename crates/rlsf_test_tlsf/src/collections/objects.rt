@@ -3,7 +3,7 @@
 //! A memory from the address 4096 on loses 32 bytes to the word behind its last block. An object of 16 bytes takes 32 of the
 //! others.
 
-use crate::pools::{layout_of, none_is_wrong, zeros};
+use crate::pools::{are, layout_of, none_is_wrong, zeros};
 use rlsf_example_libraries::{Objects, SetError, TakeError, UnknownHandle};
 use std::process::Abort;
 
@@ -192,10 +192,6 @@ fn taken(pool: &mut Objects) -> usize {
 fn capacities(rt: HostRuntime) {
     for (start, len, size, align, capacity) in &CAPACITIES {
         let mut pool = pool(&rt, (*start, *len), *size, *align);
-        assert_eq!(rt;
-            (pool.capacity(), taken(&mut pool)),
-            (*capacity, *capacity),
-            "{size} bytes at multiples of {align} in {len}"
-        );
+        are(&rt, &[pool.capacity(), taken(&mut pool)], &[*capacity; 2]);
     }
 }

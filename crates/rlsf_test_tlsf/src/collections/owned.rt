@@ -2,9 +2,11 @@
 
 ghost use Rattle.rlsf_heap.specs.Heap.{IsWritten};
 
+use crate::pools::all;
 use rlsf::Layout;
 use rlsf_example_libraries::OwnedObjects;
 use rlsf_heap::Payload;
+use std::alloc::Global;
 
 /// Whether each byte of an object is this one.
 fn are(object: &Payload, byte: u8) -> bool
@@ -34,24 +36,34 @@ fn exchanged(pool: &mut OwnedObjects) -> Option<bool> {
     Some(full && kept && zeros && long && pool.len() == 0)
 }
 
+/// A pool for so many objects of 100 bytes. `None` if the system is out of memory.
+fn pool_of(alloc: Global, capacity: usize) -> Option<OwnedObjects> {
+    let layout = Layout::from_size_align_unchecked(100, 8);
+    OwnedObjects::new(alloc, layout, capacity).ok()
+}
+
+/// Whether a pool for three objects is empty at first, and all goes as it should two times.
+fn exchanged_twice(alloc: Global) -> Option<bool> {
+    let mut pool = pool_of(alloc, 3)?;
+    let is_new = pool.capacity() == 3 && pool.len() == 0;
+    let first = exchanged(&mut pool)?;
+    let second = exchanged(&mut pool)?;
+    Some(is_new && first && second)
+}
+
+/// Whether a pool for no objects refuses one.
+fn refuses(alloc: Global) -> Option<bool> {
+    let mut pool = pool_of(alloc, 0)?;
+    Some(pool.take().is_none())
+}
+
 #[test]
 fn as_many_are_out_as_the_capacity(rt: HostRuntime) {
-    let layout = Layout::from_size_align(100, 8).expect(&rt, "a layout");
-    let mut pool = OwnedObjects::new(rt.alloc(), layout, 3).expect(&rt, "memory");
-    assert_eq!(rt; (pool.capacity(), pool.len()), (3, 0));
-    assert!(rt; exchanged(&mut pool) == Some(true));
-    assert!(rt; exchanged(&mut pool) == Some(true));
-}
-
-#[test]
-fn a_pool_of_no_objects_refuses(rt: HostRuntime) {
-    let layout = Layout::from_size_align(100, 8).expect(&rt, "a layout");
-    let mut pool = OwnedObjects::new(rt.alloc(), layout, 0).expect(&rt, "memory");
-    assert!(rt; pool.take().is_none());
-}
-
-#[test]
-fn too_many_objects_are_refused(rt: HostRuntime) {
-    let layout = Layout::from_size_align(100, 8).expect(&rt, "a layout");
-    assert!(rt; OwnedObjects::new(rt.alloc(), layout, usize::MAX).is_err());
+    let answers = [
+        exchanged_twice(rt.alloc()) == Some(true),
+        refuses(rt.alloc()) == Some(true),
+        // Too many objects for any memory.
+        pool_of(rt.alloc(), usize::MAX).is_none(),
+    ];
+    all(&rt, &answers);
 }

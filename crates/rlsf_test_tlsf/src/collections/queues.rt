@@ -1,7 +1,7 @@
 //! Queues of messages: by values that are typed out, and in many steps beside a `VecDeque` of the standard library.
 
 use crate::bytes::is_all;
-use crate::pools::{none_is_wrong, zeros};
+use crate::pools::{all, none_is_wrong, zeros};
 use crate::words::next;
 use rlsf_example_libraries::{Messages, PopError, PushError};
 use std::alloc::Global;
@@ -277,5 +277,5 @@ fn many_steps_beside_a_deque(rt: HostRuntime) {
         .min(pair.no_room)
         .min(pair.too_short)
         .min(pair.empty);
-    assert!(rt; fewest > 0);
+    all(&rt, &[fewest > 0]);
 }

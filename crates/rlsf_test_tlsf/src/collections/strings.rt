@@ -3,7 +3,7 @@
 //! A memory from the address 4096 on loses 32 bytes to the word behind its last block. A string of up to 16 bytes takes 32 of the
 //! others.
 
-use crate::pools::{none_is_wrong, zeros};
+use crate::pools::{are, none_is_wrong, passes, zeros};
 use crate::words::next;
 use rlsf_example_libraries::{StringError, Strings, UnknownHandle};
 use std::process::Abort;
@@ -194,8 +194,8 @@ fn many_steps_within_a_budget(rt: HostRuntime) {
     let mut word = 0x9e3779b97f4a7c15;
     for index in 0..10_000 {
         word = next(word);
-        assert!(rt; random_step(&mut strings, &mut known, word), "at {index}");
+        passes(&rt, random_step(&mut strings, &mut known, word), index);
         most = strings.len().max(most);
     }
-    assert_eq!(rt; most, MOST);
+    are(&rt, &[most], &[MOST]);
 }
