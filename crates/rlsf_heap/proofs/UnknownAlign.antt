@@ -1,12 +1,11 @@
 -- A payload whose alignment isn't known stays, or moves into a new one.
-use Rattle.std.proofs.Common.{◌≡◌, ℕ, ◌+◌, ◌%◌, ◌<◌, ◌≤◌, length, Option, Some, None, Result, Ok, Err, refl, sym, subst}
+use Rattle.std.proofs.Common.{◌≡◌, ℕ, List, Option, Some, None, Result, Ok, Err, refl, sym, subst}
 use Rattle.std.specs.Prelude.{IfErr, IfOk, MatchResult}
-use Rattle.rlsf_model.specs.Callers.{align_at, bytes_at}
 use Rattle.rlsf_model.specs.NoMove.{ReallocatesUnmovedBy, ReallocatesWithoutMove, unmoved_plan}
 use Rattle.rlsf_model.specs.Reallocate.{Keeps, Plan}
 use Rattle.rlsf_model.specs.State.{State}
-use Rattle.rlsf_heap.specs.Heap.{HeapView, PayloadView, Steps}
-use Rattle.rlsf_heap.specs.ThinReplies.{IsReallocatedThin, MovesElsewhere}
+use Rattle.rlsf_heap.specs.Heap.{HeapView, Identity, PayloadView, Steps}
+use Rattle.rlsf_heap.specs.ThinReplies.{IsReallocatedThin, IsThinOf, MovesElsewhere}
 use Rattle.rlsf_heap.specs.ThinUnknownAlign.{StaysOrMoves, StaysOrMovesBy}
 use Rattle.rlsf_heap.specs.declared.thin.ThinPayload.{ThinPayload}
 use Rattle.rlsf_heap.proofs.Reallocated.{Keeps-each}
@@ -62,12 +61,11 @@ pub ok_of : (r : Result ThinPayload ThinPayload) (P Q : ThinPayload → Type 0) 
 ok_of (Ok p) P Q is = is
 ok_of (Err p) P Q is = tt
 
--- a payload that has these properties is a reallocated one
-pub reallocated_ok : (r : Result ThinPayload ThinPayload) (state : State) (was : PayloadView) (size align : ℕ) → IfOk r (λ p. p.of.align ≡ align)
-    → IfOk r (λ p. align_at state p.of.start ≡ Some align) → IfOk r (λ p. length p.of.bytes ≡ length (bytes_at state p.of.start)) → IfOk r (λ p. p.of.start % align ≡ 0)
-    → IfOk r (λ p. size ≤ length p.of.bytes) → IfOk r (λ p. length p.of.bytes < size + 32) → IfOk r (λ p. Keeps was.bytes p.of.bytes)
-    → IfOk r (λ p. IsReallocatedThin state was size p.of.align p.of)
-reallocated_ok (Ok p) state was size align wide live long aligned sized few kept =
-    subst (λ a. IsReallocatedThin state was size a p.of) (sym wide)
-    (record { live = live; long = long; aligned = aligned; sized = sized; few = few; kept = kept; each = Keeps-each was.bytes p.of.bytes kept })
-reallocated_ok (Err p) state was size align wide live long aligned sized few kept = tt
+-- a payload that moved is a reallocated one, also of the payload with the same bytes that was there before
+pub reallocated_ok : (r : Result ThinPayload ThinPayload) (state : State) (mid was : PayloadView) (size align : ℕ) (heap : Identity) → mid.bytes ≡ was.bytes
+    → IfOk r (IsThinOf heap align) → IfOk r (λ p. IsReallocatedThin state mid size align p.of) → IfOk r (λ p. IsReallocatedThin state was size p.of.align p.of)
+reallocated_ok (Ok p) state mid was size align heap same thin made =
+    let kept : Keeps was.bytes p.of.bytes = subst (λ (l : List ℕ). Keeps l p.of.bytes) same made.kept in
+    subst (λ a. IsReallocatedThin state was size a p.of) (sym thin.requested)
+    (record { live = made.live; long = made.long; aligned = made.aligned; sized = made.sized; few = made.few; kept = kept; each = Keeps-each was.bytes p.of.bytes kept })
+reallocated_ok (Err p) state mid was size align heap same thin made = tt

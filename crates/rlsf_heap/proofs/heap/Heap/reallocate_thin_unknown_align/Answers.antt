@@ -1,10 +1,9 @@
-use Rattle.std.proofs.Common.{◌≡◌, ℕ, ◌≤◌, List, arith, true≢false, refl, sym, ap, subst, ◌∙◌}
+use Rattle.std.proofs.Common.{◌≡◌, ◌≤◌, arith, true≢false, refl, sym, ap, subst, ◌∙◌}
 use Rattle.rlsf_model.specs.Callers.{align_at}
-use Rattle.rlsf_model.specs.Reallocate.{Keeps}
 use Rattle.rlsf_model.specs.State.{AreAlike}
 use Rattle.rlsf_heap.specs.Heap.{IsWritten, PayloadView}
 use Rattle.rlsf_heap.specs.Reallocation.{owned_by}
-use Rattle.rlsf_heap.specs.ThinReplies.{IsReallocatedThin, thin_moved_to}
+use Rattle.rlsf_heap.specs.ThinReplies.{IsReallocatedThin, IsThinOf, thin_moved_to}
 use Rattle.rlsf_heap.proofs.UnknownAlign.{if_err, if_ok, match_of, ok_of, reallocated_ok, step_moves, step_stays}
 use Rattle.rlsf_heap.proofs.heap.Heap.reallocate_thin_unknown_align.Goals as goal
 
@@ -63,42 +62,40 @@ returns-in-Err g c =
     let pay = c.args.payload.of in
     let size = c.args.layout.size in
     let align = c.args.layout.align in
-    let wide = ok_of r (λ q. q.of.align ≡ align) (λ q. q.of.align ≡ p.align) f.align in
+    let thin = ok_of r (IsThinOf mid.identity align) (IsThinOf mid.identity p.align) f.thin in
     record {
       step = step_moves g.row.SLLEN (owned_by old.state pay) c.args.addr size align g.row.FLLEN new mid (thin_moved_to r) e.step f.step;
-      identity = f.identity ∙ e.identity;
-      place = (f.place.0 ∙ e.place.0, f.place.1 ∙ e.place.1);
-      at = f.at;
-      some = f.some;
-      payload = match_of r (λ q is. is ∙ e.identity) (λ q is. is ∙ e.identity) f.payload;
-      there = if_ok r (λ q apart same. absurd (apart.0 same)) f.new;
-      moved = if_ok r (λ q is _. is) wide;
+      identity = f.heap.identity ∙ e.identity;
+      place = (f.heap.place.0 ∙ e.place.0, f.heap.place.1 ∙ e.place.1);
+      at = match_of r (λ q is. is.at) (λ q is. is.at) f.thin;
+      some = if_ok r (λ q is. is.some) f.others;
+      payload = match_of r (λ q is. is.identity ∙ e.identity) (λ q is. is.identity ∙ e.identity) f.thin;
+      there = if_ok r (λ q apart same. absurd (apart.0 same)) f.gone;
+      moved = if_ok r (λ q is _. is.requested) thin;
       back =
           if_err r (λ q is. (
-            ap (λ (o : PayloadView). o.start) is ∙ e.there,
-            ap (λ (o : PayloadView). o.align) is ∙ e.align,
-            ap (λ (o : PayloadView). o.bytes) is ∙ e.back.0,
-            subst (λ (o : PayloadView). IsWritten o) (sym is) e.back.1,
-          )) f.back;
+            ap (λ (o : PayloadView). o.start) is.0 ∙ e.there,
+            ap (λ (o : PayloadView). o.align) is.0 ∙ e.align,
+            ap (λ (o : PayloadView). o.bytes) is.0 ∙ e.back.0,
+            subst (λ (o : PayloadView). IsWritten o) (sym is.0) e.back.1,
+          )) f.refused;
       live = e.live;
-      resized =
-          reallocated_ok r new.state pay size align wide f.live f.long f.aligned f.sized f.few
-          (if_ok r (λ q. subst (λ (l : List ℕ). Keeps l q.of.bytes) e.back.0) f.kept);
-      gone = if_ok r (λ q is _. is) f.gone;
+      resized = reallocated_ok r new.state p pay size align mid.identity e.back.0 thin f.payload;
+      gone = if_ok r (λ q is _. is.1) f.gone;
       written = f.written;
-      settled = f.settled;
-      new = if_ok r (λ q is _. (λ i. sym e.aligns i q.of.start) ∙ is.1) f.new;
-      aligns = if_ok r (λ q is a off off_to. is a off off_to ∙ (λ i. e.aligns i a)) f.aligns;
+      settled = f.heap.settled (e.settled c.requires.settled);
+      new = if_ok r (λ q is off. (λ i. sym e.aligns i q.of.start) ∙ is.new off) f.others;
+      aligns = if_ok r (λ q is a off off_to. is.aligns a off off_to ∙ (λ i. e.aligns i a)) f.others;
       room = λ count most wide sized few short fits.
           f.room count most wide (e.same_bounds count most wide sized) (subst (λ n. n ≤ count) (sym e.count) few) short fits;
       count = f.count ∙ e.count;
-      bounds = λ count most wide sized own short fits. f.bounds count most wide (e.same_bounds count most wide sized) short fits;
-      chunks = f.chunks ∙ e.chunks;
-      same = if_err r (λ q is. subst (AreAlike old.state) (sym is) e.same) f.same;
-      same_aligns = if_err r (λ q is. ap align_at is ∙ e.aligns) f.same;
+      bounds = λ count most wide sized own short fits. f.heap.bounds count most wide (e.same_bounds count most wide sized) short fits;
+      chunks = f.heap.chunks ∙ e.chunks;
+      same = if_err r (λ q is. subst (AreAlike old.state) (sym is.1) e.same) f.refused;
+      same_aligns = if_err r (λ q is. ap align_at is.1 ∙ e.aligns) f.refused;
       enough = λ long. absurd (true≢false (sym (e.enough long)));
       stays = λ room. absurd (true≢false (sym (e.stays room)));
       touches = omega (arith, e.few_touches, f.touches);
-      grow = omega (arith, e.grow, f.grow);
+      grow = omega (arith, e.grow, f.heap.grow);
       copied = f.copied ∙ e.copied;
     }
