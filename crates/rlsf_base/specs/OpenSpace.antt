@@ -5,7 +5,7 @@ use Rattle.rlsf_base.specs.declared.memory.view.View.{View}
 use Rattle.rlsf_base.specs.Changes.{left, came_back, came_raw}
 use Rattle.rlsf_base.specs.Out.{Change, here, out, is_own}
 use Rattle.rlsf_base.specs.Range.{LiesIn, end_of}
-use Rattle.rlsf_base.specs.Space.{Space, out_at, word_range}
+use Rattle.rlsf_base.specs.Space.{Space, out_at, with_word, word_range}
 
 -- each byte of a range is here
 abbrev pub IsHere : Space → Range → Type 0
@@ -75,6 +75,19 @@ IsReadable m a = (a % 8 ≡ 0) × LiesIn (word_range a) m.start (length m.bytes)
 -- the address of a word whose eight bytes are the memory's own: they may be raw
 abbrev pub IsWritable : Space → ℕ → Type 0
 IsWritable m a = (a % 8 ≡ 0) × LiesIn (word_range a) m.start (length m.bytes) × IsOwned m (word_range a)
+
+-- a word is written at an address, and one touch is counted: its eight bytes are here then, and every other byte is as it was
+pub record WritesWord (m n : Space) (a word : ℕ) : Type 0 where
+  pub start : n.start ≡ m.start
+  pub bytes : n.bytes ≡ with_word m a word
+  pub len : length n.bytes ≡ length m.bytes
+  pub touches : n.touches ≡ m.touches + 1
+  pub copied : n.copied ≡ m.copied
+  pub view : n.view ≡ m.view
+  pub out : n.out ≡ out_with m (word_range a)
+  pub own : SameOwn m n
+  pub here : IsHere n (word_range a)
+  pub stays : StaysHere m n
 
 -- the block is aligned to 16: an address that is a multiple of 16 is that of a unit of 16 bytes
 abbrev pub HasUnits : Space → Type 0

@@ -2,9 +2,9 @@
 ghost use Rattle.std.specs.Prelude.{◌≡◌, ◌+◌, ◌-◌, ◌%◌, ◌^◌, ◌<◌, ◌≤◌, ◌↔◌, [], length, replicate, IfOk, IsOk, IsErrOf};
 ghost use Rattle.std.specs.Borrow.{sem};
 ghost use Rattle.rlsf_base.specs.Changes.{IsAllOwn};
-ghost use Rattle.rlsf_base.specs.OpenSpace.{HasUnits, IsHere, IsOwned, IsReadable, IsWritable, SameOwn, StaysHere, out_with};
+ghost use Rattle.rlsf_base.specs.OpenSpace.{HasUnits, IsHere, IsOwned, IsReadable, IsWritable, SameOwn, StaysHere, WritesWord, out_with};
 ghost use Rattle.rlsf_base.specs.Range.{range_at, LiesIn};
-ghost use Rattle.rlsf_base.specs.Space.{bytes_in, word_range, range_of, word_at, with_word, with_bytes};
+ghost use Rattle.rlsf_base.specs.Space.{bytes_in, word_range, range_of, word_at, with_bytes};
 
 use super::MemoryError;
 use super::block::{Base, Bytes};
@@ -278,16 +278,7 @@ impl OpenMemory {
     /// `addr` must be a multiple of 8. The 8 bytes must lie in the memory, and none may be out.
     pub fn set_word(&mut self, addr: usize, word: u64)
         requires { IsWritable self.old addr }
-        ensures start { self.new.start ≡ self.old.start }
-        ensures bytes { self.new.bytes ≡ with_word self.old addr word }
-        ensures len { length self.new.bytes ≡ length self.old.bytes }
-        ensures touches { self.new.touches ≡ self.old.touches + 1 }
-        ensures copied { self.new.copied ≡ self.old.copied }
-        ensures view { self.new.view ≡ self.old.view }
-        ensures out { self.new.out ≡ out_with self.old (word_range addr) }
-        ensures own { SameOwn self.old self.new }
-        ensures here { IsHere self.new (word_range addr) }
-        ensures stays { StaysHere self.old self.new }
+        ensures { WritesWord self.old self.new addr word }
     {
         let view = self.view();
         self.set_word_at(view, addr, word);
@@ -302,16 +293,7 @@ impl OpenMemory {
     pub fn set_word_at(&mut self, view: View, addr: usize, word: u64)
         requires place { IsWritable self.old addr }
         requires view { view ≡ self.old.view }
-        ensures start { self.new.start ≡ self.old.start }
-        ensures bytes { self.new.bytes ≡ with_word self.old addr word }
-        ensures len { length self.new.bytes ≡ length self.old.bytes }
-        ensures touches { self.new.touches ≡ self.old.touches + 1 }
-        ensures copied { self.new.copied ≡ self.old.copied }
-        ensures view { self.new.view ≡ self.old.view }
-        ensures out { self.new.out ≡ out_with self.old (word_range addr) }
-        ensures own { SameOwn self.old self.new }
-        ensures here { IsHere self.new (word_range addr) }
-        ensures stays { StaysHere self.old self.new }
+        ensures { WritesWord self.old self.new addr word }
     {
         self.bytes
             .write_word(view.base, view.place(addr), word.to_le_bytes());
