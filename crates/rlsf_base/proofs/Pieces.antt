@@ -6,6 +6,7 @@ use Rattle.rlsf_base.specs.OpenSpace.{Home, place_in}
 use Rattle.rlsf_base.specs.Piece.{CanCome, IsPiece, IsPieceOf, Piece, first_place, home_from, piece_range}
 use Rattle.rlsf_base.specs.Range.{LiesIn}
 use Rattle.rlsf_base.specs.Steps.Block.{start_of}
+use Rattle.rlsf_base.specs.Steps.Owners.{Owns}
 use Rattle.rlsf_base.specs.Steps.Ownership.{units_in}
 use Rattle.rlsf_base.specs.declared.memory.block.Bytes.{Bytes}
 use Rattle.rlsf_base.specs.declared.memory.range.Range.{Range}
@@ -14,8 +15,8 @@ use Rattle.rlsf_base.specs.declared.memory.view.View.{View}
 -- the owner of what a part owns
 abbrev pub IsOwnerOf : Piece → Bytes → Type 0
 IsOwnerOf p e =
-    (e.at ≡ p.home.view.base.ptr) × (e.skip ≡ place_in p.home.view p.start) × (e.bytes ≡ p.bytes) × (e.out ≡ p.out) × (e.of ≡ (first_place p.home, p.home.len))
-    × (e.units ≡ units_in p.home.view.shift (first_place p.home) p.home.len)
+    Owns e p.home.view.base.ptr (place_in p.home.view p.start) p.bytes p.out (units_in p.home.view.shift (first_place p.home) p.home.len)
+    × (e.of ≡ (first_place p.home, p.home.len))
 
 module _ (p : Piece) (view : View) (range : Range) (can : CanCome p view range) (e : Bytes) (is : IsOwnerOf p e) where
   abbrev owner : Bytes
@@ -45,12 +46,12 @@ module _ (p : Piece) (view : View) (range : Range) (can : CanCome p view range) 
       (λ i. (
         can.viewed i,
         can.placed i,
-        record { mark = e.mark; at = sym is.0 i; skip = sym is.1 i; bytes = sym is.2 i; out = sym is.3 i; of = sym is.4 i; units = sym is.5 i },
+        record { mark = e.mark; at = sym is.0.0 i; skip = sym is.0.1 i; bytes = sym is.0.2 i; out = sym is.0.3 i; of = sym is.1 i; units = sym is.0.4 i },
       )) by_itself
 
   pub same_piece : (q : Piece) → IsPieceOf view range e q → q ≡ p
   same_piece q made =
-      made ∙ (λ i. record { home = home_from (sym can.viewed i) (is.4 i); start = (sym can.placed i).start; bytes = is.2 i; out = is.3 i })
+      made ∙ (λ i. record { home = home_from (sym can.viewed i) (is.1 i); start = (sym can.placed i).start; bytes = is.0.2 i; out = is.0.3 i })
       ∙ (λ i. record { home = record { start = sym can.first.1 i; len = p.home.len; view = p.home.view }; start = p.start; bytes = p.bytes; out = p.out })
 
 -- and can be made one again

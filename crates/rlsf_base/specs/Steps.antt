@@ -1,4 +1,5 @@
 -- Definitions that the functions of a memory share. Public contracts cite those of `Ownership`.
 pub mod Block
 pub mod LentParts
+pub mod Owners
 pub mod Ownership

@@ -1,21 +1,16 @@
 -- Where a range of a memory lies in its block: what a call on the block requires.
-use Rattle.std.proofs.Common.{◌≡◌, ℕ, ◌+◌, ◌-◌, ◌^◌, ◌<◌, ◌≤◌, ◌∙◌, ap, arith, drop, length, sym, take}
+use Rattle.std.proofs.Common.{◌≡◌, ℕ, ◌-◌, ◌^◌, ◌<◌, ◌∙◌, ap, arith, drop, length, sym, take}
 use Rattle.rlsf_base.specs.declared.memory.block.Base.{Base}
 use Rattle.rlsf_base.specs.declared.memory.block.Bytes.{Bytes}
 use Rattle.rlsf_base.specs.declared.memory.range.Range.{Range}
 use Rattle.rlsf_base.specs.declared.memory.view.View.{View}
 use Rattle.rlsf_base.specs.declared.memory.zeroed.Supplier.{Supplier}
-use Rattle.rlsf_base.specs.Changes.{IsIn, IsOwn}
 use Rattle.rlsf_base.specs.OpenSpace.{IsHere, IsOwned, place_in}
 use Rattle.rlsf_base.specs.Range.{LiesIn}
 use Rattle.rlsf_base.specs.Space.{Space, bytes_in}
-use Rattle.rlsf_base.specs.Steps.Block.{IsMemory, start_of, view_of}
+use Rattle.rlsf_base.specs.Steps.Block.{IsMemory, memory_of, start_of, view_of}
+use Rattle.rlsf_base.specs.Steps.Owners.{Has, HasHere, HasOwn}
 use Rattle.rlsf_base.proofs.Lending.Present.{here-in, own-in}
-
--- the memory that these fields are
-abbrev memory_of : Base → ℕ → ℕ → Bytes → ℕ → ℕ → Space
-memory_of base shift len_and_skip bytes touches copied =
-    record { start = start_of shift len_and_skip; bytes = bytes.bytes; touches = touches; copied = copied; view = view_of base shift; out = bytes.out }
 
 -- the bytes of a range, by its place among the memory's bytes
 pub bytes_there : {seen now : Space} → seen ≡ now → (range : Range) {i : ℕ} → i ≡ range.start - now.start → take range.len (drop i seen.bytes) ≡ bytes_in now range
@@ -41,26 +36,20 @@ module _ {base : Base} {shift len_and_skip : ℕ} {bytes : Bytes} {supplier : Su
     pub placed : at - bytes.skip ≡ range.start - now.start
     placed = omega (arith, fits, start, long, shifts, lies, place, is.lies.1, is.bounds, is.whole)
 
-    within : (bytes.skip ≤ at) × (at + range.len ≤ bytes.skip + length bytes.bytes)
+    within : Has bytes at range.len
     within = (
       omega (arith, fits, start, long, shifts, lies, place, is.lies.1, is.bounds, is.whole),
       omega (arith, fits, start, long, shifts, lies, place, is.lies.1, is.bounds, is.whole),
     )
 
-    pub can_lend : IsHere now range
-        → (view.base.ptr ≡ bytes.at) × (bytes.skip ≤ at) × (at + range.len ≤ bytes.skip + length bytes.bytes) × IsIn bytes.out (at - bytes.skip) range.len
+    pub can_lend : IsHere now range → (view.base.ptr ≡ bytes.at) × HasHere bytes at range.len
     can_lend here = (
       ap (λ (v : View). v.base.ptr) same_view ∙ is.lies.0,
-      within.0,
-      within.1,
-      here-in bytes.out now range (at - bytes.skip) (ap (λ (s : Space). s.out) view_is) lies.0 placed here,
+      (within, here-in bytes.out now range (at - bytes.skip) (ap (λ (s : Space). s.out) view_is) lies.0 placed here),
     )
 
-    pub can_write : IsOwned now range
-        → (view.base.ptr ≡ bytes.at) × (bytes.skip ≤ at) × (at + range.len ≤ bytes.skip + length bytes.bytes) × IsOwn bytes.out (at - bytes.skip) range.len
+    pub can_write : IsOwned now range → (view.base.ptr ≡ bytes.at) × HasOwn bytes at range.len
     can_write own = (
       ap (λ (v : View). v.base.ptr) same_view ∙ is.lies.0,
-      within.0,
-      within.1,
-      own-in bytes.out now range (at - bytes.skip) (ap (λ (s : Space). s.out) view_is) lies.0 placed own,
+      (within, own-in bytes.out now range (at - bytes.skip) (ap (λ (s : Space). s.out) view_is) lies.0 placed own),
     )

@@ -1,6 +1,7 @@
 -- How the parts of a memory belong together.
 use Rattle.std.specs.Prelude.{◌≡◌, ℕ, ◌+◌, ◌-◌, ◌/◌, ◌%◌, ◌^◌, ◌<◌, ◌≤◌, length}
 use denote.RawPtr.{null_ptr}
+use Rattle.rlsf_base.specs.Space.{Space}
 use Rattle.rlsf_base.specs.Steps.Ownership.{units_for, units_in}
 use Rattle.rlsf_base.specs.declared.memory.block.Base.{Base}
 use Rattle.rlsf_base.specs.declared.memory.view.View.{View}
@@ -20,6 +21,11 @@ start_of shift len_and_skip = (2 ^ 64 - shift) % 2 ^ 64 + len_and_skip % 16
 
 abbrev pub view_of : Base → ℕ → View
 view_of base shift = record { base = base; shift = shift }
+
+-- the memory of these bytes, by these numbers and its two counts
+abbrev pub memory_of : Base → ℕ → ℕ → Bytes → ℕ → ℕ → Space
+memory_of base shift len_and_skip bytes touches copied =
+    record { start = start_of shift len_and_skip; bytes = bytes.bytes; touches = touches; copied = copied; view = view_of base shift; out = bytes.out }
 
 -- one where the block is the caller's, and zero where it is the system's
 abbrev pub handed_in : ℕ → ℕ

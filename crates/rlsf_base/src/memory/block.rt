@@ -1,11 +1,10 @@
 //! The block of a memory: its address, the owner of its bytes, and the right to deallocate it.
-ghost use Rattle.std.specs.Prelude.{◌≡◌, ℕ, ◌+◌, ◌-◌, ◌*◌, ◌^◌, ◌<◌, ◌≤◌, eqb, if◌then◌else◌, List, [], ◌∷◌, length, take, drop, IfSome};
-ghost use Rattle.std.specs.List.{splice};
+ghost use Rattle.std.specs.Prelude.{◌≡◌, ℕ, ◌+◌, ◌-◌, ◌*◌, ◌^◌, ◌<◌, ◌≤◌, eqb, if◌then◌else◌, List, [], ◌∷◌, length, IfSome};
 ghost use Rattle.std.specs.Borrow.{sem};
 ghost use base.Fml.{ftrue};
 ghost use denote.RawPtr.{Ptr, null_ptr, ◌+ₚ◌};
 ghost use Rattle.rlsf_base.specs.Out.{Change, kept_at};
-ghost use Rattle.rlsf_base.specs.Changes.{IsIn, IsOut, IsOwn, left, came_back, came_raw, shifted};
+ghost use Rattle.rlsf_base.specs.Changes.{IsIn, IsOwn, came_raw};
 ghost use Rattle.rlsf_base.specs.Steps.Ownership.{bytes_at, bytes_own, bytes_lent, deed_owns, room_at, units_for, units_from, units_own};
 
 use std::alloc::Allocator;
@@ -93,7 +92,8 @@ pub(crate) fn allocate<A: Allocator>(
     len: usize,
 ) -> Option<(Base, Bytes, Deed<A>)>
     requires { (units * 16 < 2 ^ 63) × (skip + len ≤ units * 16) }
-    ensures { IfSome result (λ r. (r.1.at ≡ r.0.ptr) × (r.1.skip ≡ skip) × (length r.1.bytes ≡ len) × (r.2.at ≡ r.0.ptr) × (r.2.units ≡ units) × (r.2.skip ≡ skip) × (r.2.len ≡ len) × (r.2.alloc ≡ alloc.now) × (r.1.out ≡ came_raw 0 len []) × (r.1.units ≡ units)) }
+    ensures bytes { IfSome result (λ r. (r.1.at ≡ r.0.ptr) × (r.1.skip ≡ skip) × (length r.1.bytes ≡ len) × (r.1.out ≡ came_raw 0 len []) × (r.1.units ≡ units)) }
+    ensures deed { IfSome result (λ r. (r.2.at ≡ r.0.ptr) × (r.2.units ≡ units) × (r.2.skip ≡ skip) × (r.2.len ≡ len) × (r.2.alloc ≡ alloc.now)) }
 {
     match alloc.allocate(units * 16, 16) {
         Ok(ptr) => Some((
@@ -113,7 +113,8 @@ pub(crate) fn deallocate<A: Allocator>(
     bytes: Bytes,
     deed: Deed<A>,
 )
-    requires { (bytes.at ≡ base.ptr) × (deed.at ≡ base.ptr) × (deed.units ≡ units) × (deed.skip ≡ bytes.skip) × (deed.len ≡ length bytes.bytes) × (deed.alloc ≡ alloc.now) × (units * 16 < 2 ^ 63) × IsOwn bytes.out 0 (length bytes.bytes) × (bytes.units ≡ units) }
+    requires bytes { (bytes.at ≡ base.ptr) × (bytes.units ≡ units) × IsOwn bytes.out 0 (length bytes.bytes) × (units * 16 < 2 ^ 63) }
+    requires deed { (deed.at ≡ base.ptr) × (deed.units ≡ units) × (deed.skip ≡ bytes.skip) × (deed.len ≡ length bytes.bytes) × (deed.alloc ≡ alloc.now) }
 {
     let Bytes { mark: _ } = bytes;
     let Deed { mark: _ } = deed;
@@ -176,6 +177,8 @@ pub struct RawParts {
 }
 
 impl RawParts {
+    ghost use Rattle.rlsf_base.specs.RawParts.{LiesAtBlock};
+
     /// Returns the block. Its `len` bytes are the caller's from now on, with the values that they have.
     ///
     /// Each byte must be here.
@@ -198,7 +201,7 @@ impl RawParts {
     ///
     /// No byte may be out.
     pub fn release_room(self) -> *mut u8
-        requires place { (self.bytes.at ≡ self.base.ptr) × (self.bytes.skip ≡ 0) × (length self.bytes.bytes ≡ self.len) × (self.bytes.units ≡ units_from self.start (length self.bytes.bytes)) }
+        requires place { LiesAtBlock self }
         requires own { IsOwn self.bytes.out 0 self.len }
         ensures* handed { sem 𝓛 (room_at result self.start self.len) }
         ensures block { result ≡ self.base.ptr }
@@ -239,6 +242,7 @@ impl Units {
 
 impl Bytes {
     ghost use Rattle.rlsf_base.specs.Steps.LentParts.{lends_part};
+    ghost use Rattle.rlsf_base.specs.Steps.Owners.{Has, HasHere, HasOwn, Owns, IsPartOf, AreUnitsOf, Becomes, GivesOut, TakesBack, TakesBackRoom, bytes_in, out_with, with_bytes};
 
     /// Consumes the owner: the bytes are nobody's.
     pub(crate) fn end(self) {
@@ -256,7 +260,7 @@ impl Bytes {
     pub(crate) unsafe fn from_raw() -> Bytes
         ghost of: { Ptr × ℕ × List ℕ × List Change × (ℕ × ℕ) × ℕ }
         requires* { sem 𝓛 (bytes_own of.0 of.1 of.2 of.3 of.5) }
-        ensures { (result.at ≡ of.0) × (result.skip ≡ of.1) × (result.bytes ≡ of.2) × (result.out ≡ of.3) × (result.of ≡ of.4) × (result.units ≡ of.5) }
+        ensures { Owns result of.0 of.1 of.2 of.3 of.5 × (result.of ≡ of.4) }
     {
         Bytes { mark: PhantomData }
     }
@@ -265,7 +269,7 @@ impl Bytes {
     /// the units only if the block began there before.
     pub(crate) fn from_first(self, base: Base, skip: usize) -> (Base, Bytes)
         requires { (base.ptr ≡ self.at) × (self.skip ≡ skip) }
-        ensures { (result.0.ptr ≡ base.ptr +ₚ skip) × (result.1.at ≡ result.0.ptr) × (result.1.skip ≡ 0) × (result.1.bytes ≡ self.bytes) × (result.1.out ≡ self.out) × (result.1.units ≡ if eqb skip 0 then self.units else 0) }
+        ensures { (result.0.ptr ≡ base.ptr +ₚ skip) × Owns result.1 result.0.ptr 0 self.bytes self.out (if eqb skip 0 then self.units else 0) }
     {
         let Bytes { mark: _ } = self;
         let ptr = unsafe { base.ptr.add(skip) };
@@ -274,8 +278,8 @@ impl Bytes {
 
     /// Writes the byte at the place `place` of the block. It may not be out, and is then here. No other byte changes.
     pub(crate) fn write(&mut self, base: Base, place: usize, byte: u8)
-        requires { (base.ptr ≡ self.old.at) × (self.old.skip ≤ place) × (place < self.old.skip + length self.old.bytes) × IsOwn self.old.out (place - self.old.skip) 1 }
-        ensures { (self.new.at ≡ self.old.at) × (self.new.skip ≡ self.old.skip) × (self.new.bytes ≡ splice self.old.bytes (place - self.old.skip) (place - self.old.skip + 1) (byte ∷ [])) × (self.new.out ≡ came_back (place - self.old.skip) 1 self.old.out) × (self.new.units ≡ self.old.units) × (self.new.of ≡ self.old.of) }
+        requires { (base.ptr ≡ self.old.at) × HasOwn self.old place 1 }
+        ensures { Becomes self.old self.new (with_bytes self.old place 1 (byte ∷ [])) (out_with self.old place 1) }
     {
         unsafe { base.ptr.add(place).write(byte) }
     }
@@ -284,8 +288,8 @@ impl Bytes {
     /// changes.
     #[inline(always)]
     pub(crate) fn write_word(&mut self, base: Base, place: usize, word: [u8; 8])
-        requires { (base.ptr ≡ self.old.at) × (self.old.skip ≤ place) × (place + 8 ≤ self.old.skip + length self.old.bytes) × IsOwn self.old.out (place - self.old.skip) 8 }
-        ensures { (self.new.at ≡ self.old.at) × (self.new.skip ≡ self.old.skip) × (self.new.bytes ≡ splice self.old.bytes (place - self.old.skip) (place - self.old.skip + 8) word) × (self.new.out ≡ came_back (place - self.old.skip) 8 self.old.out) × (self.new.units ≡ self.old.units) }
+        requires { (base.ptr ≡ self.old.at) × HasOwn self.old place 8 }
+        ensures { Becomes self.old self.new (with_bytes self.old place 8 word) (out_with self.old place 8) }
     {
         unsafe { (base.ptr.add(place) as *mut [u8; 8]).write(word) }
     }
@@ -295,14 +299,14 @@ impl Bytes {
     pub(crate) fn recount(&mut self)
         ghost out: { List Change }
         requires { (k : ℕ) → k < length self.old.bytes → kept_at self.old.out k ≡ kept_at out k }
-        ensures { (self.new.at ≡ self.old.at) × (self.new.skip ≡ self.old.skip) × (self.new.bytes ≡ self.old.bytes) × (self.new.out ≡ out) × (self.new.units ≡ self.old.units) × (self.new.of ≡ self.old.of) }
+        ensures { Becomes self.old self.new self.old.bytes out }
     {}
 
     /// Empties the list of changes. Each byte must be here. No byte changes.
     #[inline(always)]
     pub(crate) fn settle(&mut self)
         requires { IsIn self.old.out 0 (length self.old.bytes) }
-        ensures { (self.new.at ≡ self.old.at) × (self.new.skip ≡ self.old.skip) × (self.new.bytes ≡ self.old.bytes) × (self.new.out ≡ []) × (self.new.units ≡ self.old.units) × (self.new.of ≡ self.old.of) }
+        ensures { Becomes self.old self.new self.old.bytes [] }
     {
         self.recount();
     }
@@ -310,8 +314,8 @@ impl Bytes {
     /// Returns the `len` bytes from the place `place` of the block on. They must be here.
     #[inline(always)]
     pub(crate) fn slice(&self, base: Base, place: usize, len: usize) -> &[u8]
-        requires { (base.ptr ≡ self.now.at) × (self.now.skip ≤ place) × (place + len ≤ self.now.skip + length self.now.bytes) × IsIn self.now.out (place - self.now.skip) len }
-        ensures { result.now ≡ take len (drop (place - self.now.skip) self.now.bytes) }
+        requires { (base.ptr ≡ self.now.at) × HasHere self.now place len }
+        ensures { result.now ≡ bytes_in self.now place len }
     {
         unsafe { slice::from_raw_parts(base.ptr.add(place), len) }
     }
@@ -319,8 +323,8 @@ impl Bytes {
     /// Returns the `len` bytes that begin `ahead` bytes behind the first of `units`, to which `from` points. They must be here.
     #[inline(always)]
     pub(crate) fn slice_ahead(&self, from: Base, units: &Units, ahead: usize, len: usize) -> &[u8]
-        requires { (from.ptr ≡ self.now.at +ₚ units.now.first * 16) × (self.now.skip ≤ units.now.first * 16 + ahead) × (units.now.first * 16 + ahead + len ≤ self.now.skip + length self.now.bytes) × IsIn self.now.out (units.now.first * 16 + ahead - self.now.skip) len }
-        ensures { result.now ≡ take len (drop (units.now.first * 16 + ahead - self.now.skip) self.now.bytes) }
+        requires { (from.ptr ≡ self.now.at +ₚ units.now.first * 16) × HasHere self.now (units.now.first * 16 + ahead) len }
+        ensures { result.now ≡ bytes_in self.now (units.now.first * 16 + ahead) len }
     {
         let _ = units;
         unsafe { slice::from_raw_parts(from.ptr.add(ahead), len) }
@@ -329,9 +333,9 @@ impl Bytes {
     /// Returns the `len` bytes from the place `place` of the block on, for reading and writing. They must be here.
     #[inline(always)]
     pub(crate) fn slice_mut(&mut self, base: Base, place: usize, len: usize) -> &mut [u8]
-        requires { (base.ptr ≡ self.old.at) × (self.old.skip ≤ place) × (place + len ≤ self.old.skip + length self.old.bytes) × IsIn self.old.out (place - self.old.skip) len }
+        requires { (base.ptr ≡ self.old.at) × HasHere self.old place len }
         ensures* writes_back { sem 𝓛 (lends_part self.entry (place - self.old.skip) len result) }
-        ensures value { result.now ≡ take len (drop (place - self.old.skip) self.old.bytes) }
+        ensures value { result.now ≡ bytes_in self.old place len }
     {
         unsafe { slice::from_raw_parts_mut(base.ptr.add(place), len) }
     }
@@ -340,8 +344,8 @@ impl Bytes {
     /// out. Each keeps its state, and its value.
     #[inline(always)]
     pub(crate) fn take_out(&mut self, place: usize, len: usize) -> Bytes
-        requires { (self.old.skip ≤ place) × (place + len ≤ self.old.skip + length self.old.bytes) × IsOwn self.old.out (place - self.old.skip) len }
-        ensures { (result.at ≡ self.old.at) × (result.skip ≡ place) × (result.bytes ≡ take len (drop (place - self.old.skip) self.old.bytes)) × (result.out ≡ shifted (place - self.old.skip) self.old.out) × (result.of ≡ (self.old.skip, length self.old.bytes)) × (self.new.at ≡ self.old.at) × (self.new.skip ≡ self.old.skip) × (self.new.bytes ≡ self.old.bytes) × (self.new.out ≡ left (place - self.old.skip) len self.old.out) × (self.new.units ≡ self.old.units) × (result.units ≡ self.old.units) }
+        requires { HasOwn self.old place len }
+        ensures { IsPartOf self.old result place len × GivesOut self.old self.new place len }
     {
         Bytes { mark: PhantomData }
     }
@@ -349,8 +353,8 @@ impl Bytes {
     /// Puts bytes of this block back, which are here, with the values that they have in `part`. They were out.
     #[inline(always)]
     pub(crate) fn put_back(&mut self, part: Bytes)
-        requires { (part.at ≡ self.old.at) × (self.old.skip ≤ part.skip) × (part.skip + length part.bytes ≤ self.old.skip + length self.old.bytes) × IsIn part.out 0 (length part.bytes) × (part.units ≡ self.old.units) }
-        ensures { IsOut self.old.out (part.skip - self.old.skip) (length part.bytes) × (self.new.at ≡ self.old.at) × (self.new.skip ≡ self.old.skip) × (self.new.bytes ≡ splice self.old.bytes (part.skip - self.old.skip) (part.skip - self.old.skip + length part.bytes) part.bytes) × (self.new.out ≡ came_back (part.skip - self.old.skip) (length part.bytes) self.old.out) × (self.new.units ≡ self.old.units) }
+        requires { (part.at ≡ self.old.at) × Has self.old part.skip (length part.bytes) × IsIn part.out 0 (length part.bytes) × (part.units ≡ self.old.units) }
+        ensures { TakesBack self.old self.new part.skip part.bytes }
     {
         let Bytes { mark: _ } = part;
     }
@@ -358,8 +362,8 @@ impl Bytes {
     /// Puts bytes of this block back. They were out, and are then raw.
     #[inline(always)]
     pub(crate) fn put_room(&mut self, part: Bytes)
-        requires { (part.at ≡ self.old.at) × (self.old.skip ≤ part.skip) × (part.skip + length part.bytes ≤ self.old.skip + length self.old.bytes) × IsOwn part.out 0 (length part.bytes) × (part.units ≡ self.old.units) }
-        ensures { IsOut self.old.out (part.skip - self.old.skip) (length part.bytes) × (self.new.at ≡ self.old.at) × (self.new.skip ≡ self.old.skip) × (self.new.bytes ≡ self.old.bytes) × (self.new.out ≡ came_raw (part.skip - self.old.skip) (length part.bytes) self.old.out) × (self.new.units ≡ self.old.units) }
+        requires { (part.at ≡ self.old.at) × Has self.old part.skip (length part.bytes) × IsOwn part.out 0 (length part.bytes) × (part.units ≡ self.old.units) }
+        ensures { TakesBackRoom self.old self.new part.skip (length part.bytes) }
     {
         let Bytes { mark: _ } = part;
     }
@@ -368,8 +372,8 @@ impl Bytes {
     /// be raw.
     #[inline(always)]
     pub(crate) fn take_units(&mut self, first: usize, count: usize) -> Units
-        requires { (self.old.skip ≤ first * 16) × (first * 16 + count * 16 ≤ self.old.skip + length self.old.bytes) × (first + count ≤ self.old.units) × IsOwn self.old.out (first * 16 - self.old.skip) (count * 16) }
-        ensures { (result.at ≡ self.old.at) × (result.first ≡ first) × (result.count ≡ count) × (result.of ≡ (self.old.skip, length self.old.bytes)) × (self.new.at ≡ self.old.at) × (self.new.skip ≡ self.old.skip) × (self.new.bytes ≡ self.old.bytes) × (self.new.out ≡ left (first * 16 - self.old.skip) (count * 16) self.old.out) × (self.new.units ≡ self.old.units) × (self.new.of ≡ self.old.of) }
+        requires { HasOwn self.old (first * 16) (count * 16) × (first + count ≤ self.old.units) }
+        ensures { AreUnitsOf self.old result first count × GivesOut self.old self.new (first * 16) (count * 16) }
     {
         Units { mark: PhantomData }
     }
@@ -377,8 +381,8 @@ impl Bytes {
     /// Takes units of the block back that were taken out of this owner: their bytes are raw from now on.
     #[inline(always)]
     pub(crate) fn put_units(&mut self, units: Units)
-        requires { (units.at ≡ self.old.at) × (self.old.skip ≤ units.first * 16) × (units.first * 16 + units.count * 16 ≤ self.old.skip + length self.old.bytes) × (units.first + units.count ≤ self.old.units) }
-        ensures { IsOut self.old.out (units.first * 16 - self.old.skip) (units.count * 16) × (self.new.at ≡ self.old.at) × (self.new.skip ≡ self.old.skip) × (self.new.bytes ≡ self.old.bytes) × (self.new.out ≡ came_raw (units.first * 16 - self.old.skip) (units.count * 16) self.old.out) × (self.new.units ≡ self.old.units) }
+        requires { (units.at ≡ self.old.at) × Has self.old (units.first * 16) (units.count * 16) × (units.first + units.count ≤ self.old.units) }
+        ensures { TakesBackRoom self.old self.new (units.first * 16) (units.count * 16) }
     {
         let Units { mark: _ } = units;
     }

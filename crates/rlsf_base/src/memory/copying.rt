@@ -1,10 +1,10 @@
 //! Copies within a block's bytes.
 
-ghost use Rattle.std.specs.Prelude.{◌≡◌, ℕ, ◌+◌, ◌-◌, ◌^◌, ◌<◌, ◌≤◌, ◌⊎◌, List, length, take, drop};
+ghost use Rattle.std.specs.Prelude.{◌≡◌, ℕ, ◌+◌, ◌-◌, ◌^◌, ◌<◌, ◌≤◌, ◌⊎◌, List, length};
 ghost use Rattle.core.specs.List.{copy_within};
-ghost use Rattle.std.specs.List.{splice};
 ghost use Rattle.rlsf_base.specs.Out.{Change, kept_at};
-ghost use Rattle.rlsf_base.specs.Changes.{IsIn, IsOwn, came_back};
+ghost use Rattle.rlsf_base.specs.Changes.{IsIn, IsOwn};
+ghost use Rattle.rlsf_base.specs.Steps.Owners.{Has, Becomes, Gets, bytes_in, out_with, with_bytes};
 
 use super::block::{Base, Bytes};
 
@@ -13,10 +13,10 @@ use super::block::{Base, Bytes};
 #[inline(always)]
 pub(crate) fn copy_bytes(bytes: &mut Bytes, base: Base, from: usize, to: usize, len: usize)
     ghost out: { List Change }
-    requires lies { (base.ptr ≡ bytes.old.at) × (bytes.old.skip ≤ from) × (from + len ≤ bytes.old.skip + length bytes.old.bytes) × (bytes.old.skip ≤ to) × (to + len ≤ bytes.old.skip + length bytes.old.bytes) × (bytes.old.skip + length bytes.old.bytes < 2 ^ 64) }
+    requires lies { (base.ptr ≡ bytes.old.at) × Has bytes.old from len × Has bytes.old to len × (bytes.old.skip + length bytes.old.bytes < 2 ^ 64) }
     requires kept { IsIn bytes.old.out (from - bytes.old.skip) len × IsOwn bytes.old.out (to - bytes.old.skip) len }
-    requires out { out ≡ came_back (to - bytes.old.skip) len bytes.old.out }
-    ensures { (bytes.new.at ≡ bytes.old.at) × (bytes.new.skip ≡ bytes.old.skip) × (bytes.new.bytes ≡ splice bytes.old.bytes (to - bytes.old.skip) (to - bytes.old.skip + len) (take len (drop (from - bytes.old.skip) bytes.old.bytes))) × (bytes.new.out ≡ out) × (bytes.new.units ≡ bytes.old.units) }
+    requires out { out ≡ out_with bytes.old to len }
+    ensures { Becomes bytes.old bytes.new (with_bytes bytes.old to len (bytes_in bytes.old from len)) out }
 {
     copy(bytes, base, from, to, len);
     bytes.recount();
@@ -25,10 +25,10 @@ pub(crate) fn copy_bytes(bytes: &mut Bytes, base: Base, from: usize, to: usize, 
 // The same. What became of the bytes is as if they were written, except for how it is counted.
 #[inline(always)]
 fn copy(bytes: &mut Bytes, base: Base, from: usize, to: usize, len: usize)
-    requires lies { (base.ptr ≡ bytes.old.at) × (bytes.old.skip ≤ from) × (from + len ≤ bytes.old.skip + length bytes.old.bytes) × (bytes.old.skip ≤ to) × (to + len ≤ bytes.old.skip + length bytes.old.bytes) × (bytes.old.skip + length bytes.old.bytes < 2 ^ 64) }
+    requires lies { (base.ptr ≡ bytes.old.at) × Has bytes.old from len × Has bytes.old to len × (bytes.old.skip + length bytes.old.bytes < 2 ^ 64) }
     requires kept { IsIn bytes.old.out (from - bytes.old.skip) len × IsOwn bytes.old.out (to - bytes.old.skip) len }
-    ensures bytes { (bytes.new.at ≡ bytes.old.at) × (bytes.new.skip ≡ bytes.old.skip) × (bytes.new.bytes ≡ splice bytes.old.bytes (to - bytes.old.skip) (to - bytes.old.skip + len) (take len (drop (from - bytes.old.skip) bytes.old.bytes))) × (bytes.new.units ≡ bytes.old.units) }
-    ensures out { (k : ℕ) → kept_at bytes.new.out k ≡ kept_at (came_back (to - bytes.old.skip) len bytes.old.out) k }
+    ensures bytes { Gets bytes.old bytes.new (with_bytes bytes.old to len (bytes_in bytes.old from len)) }
+    ensures out { (k : ℕ) → kept_at bytes.new.out k ≡ kept_at (out_with bytes.old to len) k }
 {
     if from + len <= to || to + len <= from {
         copy_apart(bytes, base, from, to, len);
@@ -41,10 +41,10 @@ fn copy(bytes: &mut Bytes, base: Base, from: usize, to: usize, len: usize)
 
 // To bytes that overlap those copied, `by` places above. The last of them may be raw: they are written first.
 fn copy_up(bytes: &mut Bytes, base: Base, from: usize, by: usize, len: usize)
-    requires lies { (base.ptr ≡ bytes.old.at) × (bytes.old.skip ≤ from) × (by < len) × (from + by + len ≤ bytes.old.skip + length bytes.old.bytes) × (bytes.old.skip + length bytes.old.bytes < 2 ^ 64) }
+    requires lies { (base.ptr ≡ bytes.old.at) × (by < len) × Has bytes.old from (by + len) × (bytes.old.skip + length bytes.old.bytes < 2 ^ 64) }
     requires kept { IsIn bytes.old.out (from - bytes.old.skip) len × IsOwn bytes.old.out (from - bytes.old.skip + len) by }
-    ensures bytes { (bytes.new.at ≡ bytes.old.at) × (bytes.new.skip ≡ bytes.old.skip) × (bytes.new.bytes ≡ splice bytes.old.bytes (from - bytes.old.skip + by) (from - bytes.old.skip + by + len) (take len (drop (from - bytes.old.skip) bytes.old.bytes))) × (bytes.new.units ≡ bytes.old.units) }
-    ensures out { (k : ℕ) → kept_at bytes.new.out k ≡ kept_at (came_back (from - bytes.old.skip + by) len bytes.old.out) k }
+    ensures bytes { Gets bytes.old bytes.new (with_bytes bytes.old (from + by) len (bytes_in bytes.old from len)) }
+    ensures out { (k : ℕ) → kept_at bytes.new.out k ≡ kept_at (out_with bytes.old (from + by) len) k }
 {
     copy_apart(bytes, base, from + len - by, from + len, by);
     let rest = bytes.slice_mut(base, from, len);
@@ -53,10 +53,10 @@ fn copy_up(bytes: &mut Bytes, base: Base, from: usize, by: usize, len: usize)
 
 // To bytes that overlap those copied, `by` places below. The first of them may be raw: they are written first.
 fn copy_down(bytes: &mut Bytes, base: Base, to: usize, by: usize, len: usize)
-    requires lies { (base.ptr ≡ bytes.old.at) × (bytes.old.skip ≤ to) × (by < len) × (to + by + len ≤ bytes.old.skip + length bytes.old.bytes) × (bytes.old.skip + length bytes.old.bytes < 2 ^ 64) }
+    requires lies { (base.ptr ≡ bytes.old.at) × (by < len) × Has bytes.old to (by + len) × (bytes.old.skip + length bytes.old.bytes < 2 ^ 64) }
     requires kept { IsIn bytes.old.out (to - bytes.old.skip + by) len × IsOwn bytes.old.out (to - bytes.old.skip) by }
-    ensures bytes { (bytes.new.at ≡ bytes.old.at) × (bytes.new.skip ≡ bytes.old.skip) × (bytes.new.bytes ≡ splice bytes.old.bytes (to - bytes.old.skip) (to - bytes.old.skip + len) (take len (drop (to - bytes.old.skip + by) bytes.old.bytes))) × (bytes.new.units ≡ bytes.old.units) }
-    ensures out { (k : ℕ) → kept_at bytes.new.out k ≡ kept_at (came_back (to - bytes.old.skip) len bytes.old.out) k }
+    ensures bytes { Gets bytes.old bytes.new (with_bytes bytes.old to len (bytes_in bytes.old (to + by) len)) }
+    ensures out { (k : ℕ) → kept_at bytes.new.out k ≡ kept_at (out_with bytes.old to len) k }
 {
     copy_apart(bytes, base, to + by, to, by);
     let rest = bytes.slice_mut(base, to + by, len);
@@ -65,11 +65,11 @@ fn copy_down(bytes: &mut Bytes, base: Base, to: usize, by: usize, len: usize)
 
 // To bytes that don't overlap those copied.
 fn copy_apart(bytes: &mut Bytes, base: Base, from: usize, to: usize, len: usize)
-    requires lies { (base.ptr ≡ bytes.old.at) × (bytes.old.skip ≤ from) × (from + len ≤ bytes.old.skip + length bytes.old.bytes) × (bytes.old.skip ≤ to) × (to + len ≤ bytes.old.skip + length bytes.old.bytes) × (bytes.old.skip + length bytes.old.bytes < 2 ^ 64) }
+    requires lies { (base.ptr ≡ bytes.old.at) × Has bytes.old from len × Has bytes.old to len × (bytes.old.skip + length bytes.old.bytes < 2 ^ 64) }
     requires kept { IsIn bytes.old.out (from - bytes.old.skip) len × IsOwn bytes.old.out (to - bytes.old.skip) len }
     requires apart { (from + len ≤ to) ⊎ (to + len ≤ from) }
-    ensures bytes { (bytes.new.at ≡ bytes.old.at) × (bytes.new.skip ≡ bytes.old.skip) × (bytes.new.bytes ≡ splice bytes.old.bytes (to - bytes.old.skip) (to - bytes.old.skip + len) (take len (drop (from - bytes.old.skip) bytes.old.bytes))) × (bytes.new.units ≡ bytes.old.units) }
-    ensures out { (k : ℕ) → kept_at bytes.new.out k ≡ kept_at (came_back (to - bytes.old.skip) len bytes.old.out) k }
+    ensures bytes { Gets bytes.old bytes.new (with_bytes bytes.old to len (bytes_in bytes.old from len)) }
+    ensures out { (k : ℕ) → kept_at bytes.new.out k ≡ kept_at (out_with bytes.old to len) k }
 {
     let mut part = bytes.take_out(to, len);
     write_bytes(&mut part, base, to, bytes.slice(base, from, len));
@@ -79,7 +79,7 @@ fn copy_apart(bytes: &mut Bytes, base: Base, from: usize, to: usize, len: usize)
 // LLVM makes one call of `memcpy` of it.
 fn write_bytes(bytes: &mut Bytes, base: Base, place: usize, from: &[u8])
     requires { (base.ptr ≡ bytes.old.at) × (bytes.old.skip ≡ place) × (length bytes.old.bytes ≡ length from.now) × IsOwn bytes.old.out 0 (length from.now) × (place + length from.now < 2 ^ 64) }
-    ensures { (bytes.new.at ≡ bytes.old.at) × (bytes.new.skip ≡ bytes.old.skip) × (bytes.new.bytes ≡ from.now) × IsIn bytes.new.out 0 (length from.now) × (bytes.new.units ≡ bytes.old.units) }
+    ensures { Gets bytes.old bytes.new from.now × IsIn bytes.new.out 0 (length from.now) }
 {
     for index in 0..from.len() {
         bytes.write(base, place + index, from[index]);

@@ -1,6 +1,7 @@
 //! Fills a block's bytes with one value.
 ghost use Rattle.std.specs.Prelude.{◌≡◌, ◌+◌, ◌^◌, ◌<◌, [], length, replicate};
 ghost use Rattle.rlsf_base.specs.Changes.{IsOwn};
+ghost use Rattle.rlsf_base.specs.Steps.Owners.{Becomes};
 
 use super::block::{Base, Bytes};
 
@@ -8,7 +9,7 @@ use super::block::{Base, Bytes};
 // LLVM makes one call of `memset` of it.
 pub(crate) fn fill_bytes(bytes: &mut Bytes, base: Base, place: usize, len: usize, value: u8)
     requires { (base.ptr ≡ bytes.old.at) × (bytes.old.skip ≡ place) × (length bytes.old.bytes ≡ len) × IsOwn bytes.old.out 0 len × (place + len < 2 ^ 63) }
-    ensures { (bytes.new.at ≡ bytes.old.at) × (bytes.new.skip ≡ place) × (bytes.new.bytes ≡ replicate len value) × (bytes.new.out ≡ []) × (bytes.new.units ≡ bytes.old.units) × (bytes.new.of ≡ bytes.old.of) }
+    ensures { Becomes bytes.old bytes.new (replicate len value) [] }
 {
     for index in 0..len {
         bytes.write(base, place + index, value);

@@ -135,9 +135,11 @@ impl Ticket {
         units: Units,
         rest: Bytes,
     ) -> UnitPayload
-        requires parts { (units.at ≡ view.base.ptr) × (units.first * 16 ≡ place) × (units.count * 16 ≡ len) × (self.len ≡ len) × (self.align ≡ 16) × (place ≡ place_in view self.addr) }
+        requires units { (units.at ≡ view.base.ptr) × (units.first * 16 ≡ place) × (units.count * 16 ≡ len) }
+        requires ticket { (self.len ≡ len) × (self.align ≡ 16) × (place ≡ place_in view self.addr) }
         requires placed { IsPlaced (home_from view rest.of) (pointer_to view self.addr) self.addr self.len }
-        ensures { (result.home ≡ home_from view rest.of) × (result.name ≡ self.name) × (result.key ≡ self.key) × (result.start ≡ self.addr) × (result.len ≡ len) }
+        ensures place { (result.home ≡ home_from view rest.of) × (result.start ≡ self.addr) × (result.len ≡ len) }
+        ensures ticket { (result.name ≡ self.name) × (result.key ≡ self.key) }
     {
         let Ticket { mark: _ } = self;
         let Units { mark: _ } = units;
@@ -155,9 +157,11 @@ impl Ticket {
 
     // Returns the last units of the `len` bytes at a place of the block, with this ticket for all of these bytes.
     pub(crate) fn with_tail(self, view: View, place: usize, len: usize, units: Units) -> UnitTail
-        requires parts { (units.at ≡ view.base.ptr) × (units.first * 16 + units.count * 16 ≡ place + len) × (units.count * 16 ≤ len) × (self.len ≡ len) × (self.align ≡ 16) × (place ≡ place_in view self.addr) }
+        requires units { (units.at ≡ view.base.ptr) × (units.first * 16 + units.count * 16 ≡ place + len) × (units.count * 16 ≤ len) }
+        requires ticket { (self.len ≡ len) × (self.align ≡ 16) × (place ≡ place_in view self.addr) }
         requires placed { IsPlaced (home_from view units.of) (pointer_to view self.addr) self.addr self.len }
-        ensures { (result.home ≡ home_from view units.of) × (result.name ≡ self.name) × (result.key ≡ self.key) × (result.start ≡ self.addr) × (result.len ≡ len) × (result.kept ≡ len - units.count * 16) }
+        ensures place { (result.home ≡ home_from view units.of) × (result.start ≡ self.addr) × (result.len ≡ len) × (result.kept ≡ len - units.count * 16) }
+        ensures ticket { (result.name ≡ self.name) × (result.key ≡ self.key) }
     {
         let Ticket { mark: _ } = self;
         let Units { mark: _ } = units;

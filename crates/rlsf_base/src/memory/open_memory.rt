@@ -46,9 +46,9 @@ impl Model for OpenMemory {
 
     ghost Value = { Space };
 
-    ghost use Rattle.rlsf_base.specs.Steps.Block.{IsMemory, start_of, view_of};
+    ghost use Rattle.rlsf_base.specs.Steps.Block.{IsMemory, memory_of};
 
-    ghost view = { λ m. record { start = start_of m.shift m.len_and_skip; bytes = m.bytes.bytes; touches = m.counters.touches; copied = m.counters.copied; view = view_of m.base m.shift; out = m.bytes.out } };
+    ghost view = { λ m. memory_of m.base m.shift m.len_and_skip m.bytes m.counters.touches m.counters.copied };
 
     ghost invariant = { λ m. IsMemory m.base m.shift m.len_and_skip m.bytes m.supplier };
 }

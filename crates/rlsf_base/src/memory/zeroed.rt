@@ -84,7 +84,8 @@ impl Supplier {
 
     /// Deallocates the block, if there is one.
     pub(crate) fn give_back(self, base: Base, skip: usize, len: usize, bytes: Bytes)
-        requires bytes { (base.ptr ≡ bytes.at) × (bytes.skip ≡ skip) × (length bytes.bytes ≡ len) × (skip + len ≤ 2 ^ 63 - 16) × IsOwn bytes.out 0 (length bytes.bytes) × (bytes.units ≡ units_for skip len) }
+        requires bytes { (base.ptr ≡ bytes.at) × (bytes.skip ≡ skip) × (length bytes.bytes ≡ len) × IsOwn bytes.out 0 (length bytes.bytes) × (bytes.units ≡ units_for skip len) }
+        requires bound { skip + len ≤ 2 ^ 63 - 16 }
         requires supplier { IsSupplierOf base skip len self }
     {
         let Supplier { deed, alloc } = self;

@@ -126,10 +126,10 @@ allocate_spec 𝓤 𝓛 𝓜 𝓡 wired A L g d dd met md =
     use0 𝓛 (‵ (mark_own (mark_val ∷ []))) (mark_made 𝓛) $ fjoin ! $ use0 𝓛 (‵ (base_own p (base_val p ∷ []))) (base_made 𝓛 p) $
     use3 𝓛 (‵ (Three.own_val (x, bytes, right) (v ∷ []))) (three_of 𝓛 base_type.the_row owner.the_row (deed.the_row Z g) x bytes right (base_val p) mark_val mark_val) $
     use1 𝓛 (‵ (Out.own_val (Some (x, bytes, right)) (live 1 (vcons v vnil) ∷ []))) (Some-of 𝓛 Three (x, bytes, right) v) $
-    let Told : Type 0 =
-    (p ≡ p) × (skip ≡ skip) × (length bs ≡ len) × (p ≡ p) × (units ≡ units) × (skip ≡ skip) × (len ≡ len) × (h ≡ h) × (cs ≡ cs)
-    × (units ≡ units) in
-    use0 𝓛 (raw (fact 𝓤 Told)) (fact_i 𝓤 Told (emp 𝓤) (refl, refl, as_many, refl, refl, refl, refl, refl, refl, refl)) $
+    let Lies : Type 0 = (p ≡ p) × (skip ≡ skip) × (length bs ≡ len) × (cs ≡ cs) × (units ≡ units) in
+    let Due : Type 0 = (p ≡ p) × (units ≡ units) × (skip ≡ skip) × (len ≡ len) × (h ≡ h) in
+    use0 𝓛 (raw (fact 𝓤 Due)) (fact_i 𝓤 Due (emp 𝓤) (refl, refl, refl, refl, refl)) $
+    use0 𝓛 (raw (fact 𝓤 Lies)) (fact_i 𝓤 Lies (emp 𝓤) (refl, refl, as_many, refl, refl)) $ join ! $
     nothing ! $ nothing ! $ fjoin ! $ nothing ! $ fjoin ! $ nothing ! $ fjoin ! $ nothing ! $ fjoin ! $ move ! (3 ∷ 0 ∷ 2 ∷ 1 ∷ []) $
     by ! (leaves 𝓛 En₀ stays c z (live 1 (vcons v vnil)) (Some (x, bytes, right)) (tt, (tt, (tt, (tt, tt)))) (tt, (tt, (tt, (tt, tt))))))
     (λ e. join ! $ lands_as ! (e) refl (tt, (record { fits = lit< tt }, (tt, tt))) $
@@ -139,5 +139,6 @@ allocate_spec 𝓤 𝓛 𝓜 𝓡 wired A L g d dd met md =
     exec ! C Λ En (after 3 fn.body) (at_ret En Post) $ sets ! (of_opd ! (get ! refl)) refl (tt, (record { fits = lit< tt }, tt)) $
     returns ! (look_at ! 0 refl) $ free_all ! refl $
     use0 𝓛 (‵ (Out.own_val None (live 0 vnil ∷ []))) (none_of 𝓛 Three) $ use0 𝓛 (raw (fact 𝓤 (Unit {0}))) (fact_i 𝓤 (Unit {0}) (emp 𝓤) (tt)) $
+    use0 𝓛 (raw (fact 𝓤 (Unit {0}))) (fact_i 𝓤 (Unit {0}) (emp 𝓤) (tt)) $ join ! $
     nothing ! $ nothing ! $ fjoin ! $ nothing ! $ fjoin ! $ nothing ! $ fjoin ! $ nothing ! $ fjoin ! $ move ! (3 ∷ 0 ∷ 2 ∷ 1 ∷ []) $
     by ! (leaves 𝓛 En₀ stays c z (live 0 vnil) None (tt, (tt, (tt, (tt, tt)))) (tt, (tt, (tt, (tt, tt)))))))))))

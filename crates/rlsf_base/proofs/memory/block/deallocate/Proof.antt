@@ -61,24 +61,23 @@ deallocate_spec 𝓤 𝓛 𝓜 𝓡 wired A L g d dd met md =
     let h = a.0.now in let handle = a.0.ref_ptr in
     let base = a.1.0 in let units = a.1.1.0 in let bytes = a.1.1.1.0 in let deed = a.1.1.1.1.0 in
     let bs = bytes.bytes in let skip = bytes.skip in let τ : Ty = units_ty units in
-    let Asked : Type 0 =
-    (bytes.at ≡ base.ptr) × (deed.at ≡ base.ptr) × (deed.units ≡ units) × (deed.skip ≡ skip) × (deed.len ≡ length bs) × (deed.alloc ≡ h)
-    × (units * 16 < 2 ^ 63) × IsOwn bytes.out 0 (length bs) × (bytes.units ≡ units) in
+    let Lies : Type 0 = (bytes.at ≡ base.ptr) × (bytes.units ≡ units) × IsOwn bytes.out 0 (length bs) × (units * 16 < 2 ^ 63) in
+    let Due : Type 0 = (deed.at ≡ base.ptr) × (deed.units ≡ units) × (deed.skip ≡ skip) × (deed.len ≡ length bs) × (deed.alloc ≡ h) in
     qed 𝓛 ((raw (alive 𝓛 En₀.signature z.0.0 z.0.1) ⊛ ‵ (owns (types_at En₀.signature.params z.0.0) a vss))
-    ∷ (raw (fact 𝓤 (z.0.0.1.0 ⊑ A.lives)) ⊛ raw (fact 𝓤 Asked)) ∷ []) ∵
-    move ! (1 ∷ []) $ split ! $ heard ! (z.0.0.1.0 ⊑ A.lives) (λ le. heard ! Asked (λ asked. split ! $ move ! (1 ∷ []) $
+    ∷ (raw (fact 𝓤 (z.0.0.1.0 ⊑ A.lives)) ⊛ raw (fact 𝓤 Lies) ⊛ raw (fact 𝓤 Due)) ∷ []) ∵
+    move ! (1 ∷ []) $ split ! $ heard ! (z.0.0.1.0 ⊑ A.lives) (λ le. split ! $ heard ! Lies (λ lies. heard ! Due (λ due. split ! $ move ! (1 ∷ []) $
     fsplit ! $ fsplit ! $ skips ! $ use1 𝓛 (‵ (seen Y κ handle h)) (id⊢ 𝓤 _) $ move ! (1 ∷ []) $ fsplit ! $ skips ! $ fsplit ! $ skips ! $ fsplit ! $ fsplit ! $ skips
     ! $
     move ! (1 ∷ []) $ fsplit ! $ fsplit ! $ skips ! $ move ! (1 ∷ []) $ skips ! $
     -- [the deed; the bytes; the allocator; the tokens]
-    move ! (1 ∷ []) $ rewrite ! 0 (λ (p : Ptr). ‵ (bytes_own p skip bs bytes.out bytes.units)) asked.0 refl $
+    move ! (1 ∷ []) $ rewrite ! 0 (λ (p : Ptr). ‵ (bytes_own p skip bs bytes.out bytes.units)) lies.0 refl $
     in_a_block ! base.ptr (λ p. bytes_own p skip bs bytes.out bytes.units) (id⊢ 𝓤 (never 𝓤)) (λ b o e. fsplit ! $ flt_l ! (λ small. fsplit ! $
-    rewrite ! 1 (λ (k : ℕ). ‵ (ways_of (own_unit bytes.out skip (length bs)) 0 k b o)) asked.8 refl $
+    rewrite ! 1 (λ (k : ℕ). ‵ (ways_of (own_unit bytes.out skip (length bs)) 0 k b o)) lies.1 refl $
     rewrite ! 1 (λ (F : Fml). ‵ F)
-    (ways-same 𝓛 b (own_unit bytes.out skip (length bs)) (begins_in skip (length bs)) 0 units o (λ u. unit-all bytes.out skip (length bs) u asked.7)) refl $
-    use1 𝓛 (‵ (froom (bytes_ty (length bs)) b (skip + o))) (held-room 𝓛 b (kept_at bytes.out) 0 bs (skip + o) asked.7) $
+    (ways-same 𝓛 b (own_unit bytes.out skip (length bs)) (begins_in skip (length bs)) 0 units o (λ u. unit-all bytes.out skip (length bs) u lies.2)) refl $
+    use1 𝓛 (‵ (froom (bytes_ty (length bs)) b (skip + o))) (held-room 𝓛 b (kept_at bytes.out) 0 bs (skip + o) lies.2) $
     rewrite ! 2 (λ (u : A.Denot × Ptr × ℕ × ℕ × ℕ). ‵ (deed_owns (g.dealloc_token u.0) u.1 u.2 u.3 u.4))
-    (λ i. (asked.5 i, (asked.1 ∙ e) i, asked.2 i, asked.3 i, asked.4 i)) refl $
+    (λ i. (due.4 i, (due.0 ∙ e) i, due.1 i, due.2 i, due.3 i)) refl $
     -- [the room; the ways; the deed; the allocator; the tokens]
     let back : Fml = fwand (ways_of (begins_in skip (length bs)) 0 units b o) (froom τ b o) in
     move ! (2 ∷ []) $ fsplit ! $ move ! (2 ∷ 1 ∷ 3 ∷ 0 ∷ []) $ use2 𝓛 (‵ back) (apply∗ 𝓤 (H.room (bytes_ty (length bs)) b (skip + o)) (sem 𝓛 back)) $
@@ -87,7 +86,7 @@ deallocate_spec 𝓤 𝓛 𝓜 𝓡 wired A L g d dd met md =
     move ! (3 ∷ []) $ use1 𝓛 (‵ (flft κ q) ⊛ ‵ (flft z.0.0.1.0 z.0.1.1.0) ⊛ ‵ ftrue) (id⊢ 𝓤 _) $ split ! $ move ! (4 ∷ 0 ∷ []) $ join ! $ move !
     (2 ∷ 3 ∷ 0 ∷ []) $
     let y = at_gives Y 𝓛 𝓜.mem 𝓡.returns κ q handle h b o (units * 16) 16 τ in
-    let fits : units * 16 < 2 ^ 64 = omega (arith, asked.6) in
+    let fits : units * 16 < 2 ^ 64 = omega (arith, lies.3) in
     regoal ! (λ (us : List Val). prop (WpFn 𝓤 H C Λ fn us Post))
     (λ i. are.0.0 i ++ ((base_told base.ptr vss.1.0 are.1.0 ∙ ap (λ (p : Ptr). base_val p ∷ []) e) i ++ (are.1.1.0.0 i
     ++ (mark_told vss.1.1.1.0 are.1.1.1.0.0 i ++ (mark_told vss.1.1.1.1.0 are.1.1.1.1.0.0 i ++ []))))) refl $
@@ -105,4 +104,4 @@ deallocate_spec 𝓤 𝓛 𝓜 𝓡 wired A L g d dd met md =
     exec ! C Λ En (after 1 fn.body) (at_ret En Post) $ sets ! (of_opd ! (unit_lit !)) refl (tt, tt) $ returns ! (look_at ! 0 refl) $ free_all ! refl $
     feq_i ! (List Val) (vunit ∷ []) (vunit ∷ []) refl $ nothing ! $ nothing ! $ nothing ! $ fjoin ! $ nothing ! $ fjoin ! $ nothing ! $ fjoin ! $ nothing ! $ fjoin ! $ nothing
     ! $ fjoin ! $ move ! (3 ∷ 0 ∷ 2 ∷ 1 ∷ []) $
-    by ! (leaves 𝓛 En₀ stays c z vunit tt (tt, (tt, (tt, (tt, (tt, tt))))) (tt, (tt, (tt, (tt, (tt, tt))))))))))))))
+    by ! (leaves 𝓛 En₀ stays c z vunit tt (tt, (tt, (tt, (tt, (tt, tt))))) (tt, (tt, (tt, (tt, (tt, tt)))))))))))))))

@@ -7,37 +7,41 @@ use Rattle.rlsf_base.proofs.memory.copying.copy_apart.Goals as goal
 
 pub slice-requires : goal.slice-requires
 slice-requires c =
-    let e = c.take_out-part.ensures in let d = c.args.bytes.now in let lies = c.requires.lies in
+    let (is, gone) = c.take_out-part.ensures in let d = c.args.bytes.now in let lies = c.requires.lies in
     let side : (c.args.from - d.skip + c.args.len ≤ c.args.to - d.skip) ⊎ (c.args.to - d.skip + c.args.len ≤ c.args.from - d.skip) = elim c.requires.apart [
       | inl below ↦ inl (omega (arith, below, lies))
       | inr above ↦ inr (omega (arith, above, lies))
     ] in (
-      lies.0 ∙ sym e.5,
-      omega (arith, e.6, lies),
-      omega (arith, e.6, ap length e.7, lies),
-      λ k lo hi. ap (λ cs. kept_at cs k) e.8
-          ∙ here-beside out d.out (c.args.to - d.skip) c.args.len (c.args.from - d.skip) c.args.len side c.requires.kept.0 k (omega (arith, lo, e.6)) (omega (arith, hi, e.6)),
+      lies.0 ∙ sym gone.0.0,
+      (
+        (omega (arith, gone.0.1, lies), omega (arith, gone.0.1, ap length gone.0.2, lies)),
+        λ k lo hi. ap (λ cs. kept_at cs k) gone.1
+            ∙ here-beside out d.out (c.args.to - d.skip) c.args.len (c.args.from - d.skip) c.args.len side c.requires.kept.0 k
+            (omega (arith, lo, gone.0.1)) (omega (arith, hi, gone.0.1)),
+      ),
     )
 
 pub write_bytes-requires : goal.write_bytes-requires
 write_bytes-requires c =
-    let e = c.take_out-part.ensures in let lies = c.requires.lies in
+    let (is, gone) = c.take_out-part.ensures in let lies = c.requires.lies in
+    let rest = c.take_out-part.new.self in
     let long : length c.slice.result.now ≡ c.args.len =
-    ap length c.slice.ensures ∙ length-part c.args.len (c.args.from - c.take_out-part.new.self.skip) c.take_out-part.new.self.bytes (omega (arith, lies, e.6, ap length e.7)) in
+    ap length c.slice.ensures ∙ length-part c.args.len (c.args.from - rest.skip) rest.bytes (omega (arith, lies, gone.0.1, ap length gone.0.2)) in
     let d = c.args.bytes.now in let i = c.args.to - d.skip in
-    let taken : length c.take_out-part.result.bytes ≡ c.args.len = ap length e.2 ∙ length-part c.args.len i d.bytes (omega (arith, lies)) in (
-      lies.0 ∙ sym e.0,
-      e.1,
+    let taken : length c.take_out-part.result.bytes ≡ c.args.len = ap length is.0.2 ∙ length-part c.args.len i d.bytes (omega (arith, lies)) in (
+      lies.0 ∙ sym is.0.0,
+      is.0.1,
       taken ∙ sym long,
-      λ k lo hi. ap (λ cs. is_own (kept_at cs k)) e.3 ∙ shifted-own i d.out c.args.len c.requires.kept.1 k lo (omega (arith, hi, long)),
+      λ k lo hi. ap (λ cs. is_own (kept_at cs k)) is.0.3 ∙ shifted-own i d.out c.args.len c.requires.kept.1 k lo (omega (arith, hi, long)),
       omega (arith, lies, long),
     )
 
 pub returns-clause-out : goal.returns-clause-out
 returns-clause-out c k =
-    let e = c.take_out-part.ensures in let w = c.write_bytes.ensures in let lies = c.requires.lies in let d = c.args.bytes.now in
+    let (is, gone) = c.take_out-part.ensures in let w = c.write_bytes.ensures in let lies = c.requires.lies in let d = c.args.bytes.now in
+    let rest = c.take_out-part.new.self in
     let long : length c.slice.result.now ≡ c.args.len =
-    ap length c.slice.ensures ∙ length-part c.args.len (c.args.from - c.take_out-part.new.self.skip) c.take_out-part.new.self.bytes (omega (arith, lies, e.6, ap length e.7)) in
-    let i : c.write_bytes.new.bytes.skip - c.take_out-part.new.self.skip ≡ c.args.to - d.skip = omega (arith, w.1, e.1, e.6) in
-    let n : length c.write_bytes.new.bytes.bytes ≡ c.args.len = ap length w.2 ∙ long in
-    ap (λ cs. kept_at cs k) c.put_back.ensures.4 ∙ (λ j. kept_at (came_back (i j) (n j) (e.8 j)) k) ∙ back-over out d.out (c.args.to - d.skip) c.args.len k
+    ap length c.slice.ensures ∙ length-part c.args.len (c.args.from - rest.skip) rest.bytes (omega (arith, lies, gone.0.1, ap length gone.0.2)) in
+    let i : c.write_bytes.new.bytes.skip - rest.skip ≡ c.args.to - d.skip = omega (arith, w.0.1, is.0.1, gone.0.1) in
+    let n : length c.write_bytes.new.bytes.bytes ≡ c.args.len = ap length w.0.2 ∙ long in
+    ap (λ cs. kept_at cs k) c.put_back.ensures.1.1 ∙ (λ j. kept_at (came_back (i j) (n j) (gone.1 j)) k) ∙ back-over out d.out (c.args.to - d.skip) c.args.len k

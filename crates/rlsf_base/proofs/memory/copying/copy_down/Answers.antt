@@ -15,10 +15,11 @@ slice_mut-rest-requires c =
     let full : length (take by rest) ≡ by = length-take-le by rest (omega (arith, lies, length-drop (c.args.to + by - d.skip) d.bytes)) in
     let long : length c.copy_apart.new.bytes.bytes ≡ length d.bytes = ap length e.bytes.2 ∙ length-splice d.bytes (take by rest) i by (omega (arith, lies)) full in (
       lies.0 ∙ sym e.bytes.0,
-      omega (arith, lies, e.bytes.1),
-      omega (arith, lies, e.bytes.1, long),
-      λ k lo hi. e.out k
-          ∙ here-back d.out i by (c.args.to - d.skip + by) len c.requires.kept.0 k (omega (arith, lo, lies, e.bytes.1)) (omega (arith, hi, lies, e.bytes.1)),
+      (
+        (omega (arith, lies, e.bytes.1), omega (arith, lies, e.bytes.1, long)),
+        λ k lo hi. e.out k
+            ∙ here-back d.out i by (c.args.to - d.skip + by) len c.requires.kept.0 k (omega (arith, lo, lies, e.bytes.1)) (omega (arith, hi, lies, e.bytes.1)),
+      ),
     )
 
 pub returns-clause-bytes : goal.returns-clause-bytes
@@ -30,7 +31,10 @@ returns-clause-bytes c =
     let place : c.args.to + by - now.skip ≡ at + by = ap (λ k. c.args.to + by - k) e.1 ∙ from in
     let moved : c.copy_within.new.self ≡ copy_within (take len (drop (at + by) now.bytes)) by len 0 =
     c.copy_within.ensures.after ∙ (λ i. copy_within ((c.slice_mut-rest.ensures.value ∙ ap (λ k. take len (drop k now.bytes)) place) i) by len 0) in
-    (e.0, e.1, (λ i. refilled now.bytes (place i) len (moved i)) ∙ down-in_parts d.bytes now.bytes at by len (omega (arith, lies)) (omega (arith, lies)) first, e.3)
+    let bytes =
+    (λ i. refilled now.bytes (place i) len (moved i)) ∙ down-in_parts d.bytes now.bytes at by len (omega (arith, lies)) (omega (arith, lies)) first
+    ∙ (λ i. splice d.bytes at (at + len) (take len (drop (sym from i) d.bytes))) in
+    (e.0, e.1, bytes, e.3, e.4)
 
 pub returns-clause-out : goal.returns-clause-out
 returns-clause-out c k =

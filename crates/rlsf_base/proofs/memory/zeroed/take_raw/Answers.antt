@@ -6,8 +6,8 @@ use Rattle.rlsf_base.proofs.memory.zeroed.take_raw.Goals as goal
 
 pub returns-clause-bytes : goal.returns-clause-bytes
 returns-clause-bytes c =
-    let e = c.in_ok-base.ensures in
-    (sym e.0, e.1, e.2, omega arith, λ k. ap (λ cs. is_own (kept_at cs k)) e.8 ∙ all_own [] 0 c.args.len none_own k, e.9 ∙ c.units.ensures)
+    let e = c.in_ok-base.ensures.bytes in
+    (sym e.0, e.1, e.2, omega arith, λ k. ap (λ cs. is_own (kept_at cs k)) e.3 ∙ all_own [] 0 c.args.len none_own k, e.4 ∙ c.units.ensures)
 
 pub returns-then-len-eq0-clause-bytes : goal.returns-then-len-eq0-clause-bytes
 returns-then-len-eq0-clause-bytes c =

@@ -79,5 +79,5 @@ from_first_spec 𝓤 𝓛 𝓜 𝓡 wired =
     use0 𝓛 (‵ (mark_own (mark_val ∷ []))) (mark_made 𝓛) $ fjoin ! $ use0 𝓛 (‵ (base_own p (base_val p ∷ []))) (base_made 𝓛 p) $
     use2 𝓛 (‵ (Two.own_val (x, bytes) (v ∷ []))) (two_of 𝓛 base_type.the_row owner.the_row x bytes (base_val p) mark_val) $
     suffices ! _ (ends_at 𝓛 f.ended stayed c y v (x, bytes) (tt, (tt, (tt, tt))) (tt, (tt, (tt, tt)))) $ says !
-    (ap (λ (k : ℕ). block_ptr b k) swapped ∙ sym (ap (λ (q : Ptr). q +ₚ skip) (asked.0 ∙ e)), refl, refl, refl, refl, refl) $
+    (ap (λ (k : ℕ). block_ptr b k) swapped ∙ sym (ap (λ (q : Ptr). q +ₚ skip) (asked.0 ∙ e)), (refl, refl, refl, refl, refl)) $
     nothing ! $ nothing ! $ join ! $ nothing ! $ join ! $ nothing ! $ join ! $ nothing ! $ done !)))))

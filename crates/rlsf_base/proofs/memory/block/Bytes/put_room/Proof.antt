@@ -19,6 +19,7 @@ use Rattle.core.proofs.alloc.Calls.{Goes-blank}
 use Rattle.std.proofs.raw_atomic.Walks.{proved}
 use Rattle.rlsf_base.specs.Out.{kept_at}
 use Rattle.rlsf_base.specs.Changes.{IsOwn, IsOut, came_raw}
+use Rattle.rlsf_base.specs.Steps.Owners.{Has}
 use Rattle.rlsf_base.specs.Steps.Ownership.{bytes_ty, held, bytes_own, ways_of, own_unit}
 use Rattle.rlsf_base.proofs.RawBlock.Rows.{comes_raw, clash, held-room}
 use Rattle.rlsf_base.proofs.Changes.{raw-own}
@@ -46,8 +47,7 @@ put_room_spec 𝓤 𝓛 𝓜 𝓡 wired =
     let vss : List Val × (List Val × Unit {0}) = (mut_vals a.0, (mark_val ∷ [], tt)) in
     let ws = part.bytes in let i = part.skip - d.skip in let n = length ws in
     let Asked : Type 0 =
-    (part.at ≡ d.at) × (d.skip ≤ part.skip) × (part.skip + length part.bytes ≤ d.skip + length d.bytes) × IsOwn part.out 0 (length part.bytes)
-    × (part.units ≡ d.units) in
+    (part.at ≡ d.at) × Has d part.skip (length part.bytes) × IsOwn part.out 0 (length part.bytes) × (part.units ≡ d.units) in
     let y : W.Ghost = ((κs, qs, bounds, a, vss), g) in
     qed 𝓛 (((‵ (flft κs.0 qs.0) ⊛ ‵ ftrue) ⊛ ‵ (owns (types_at f.signature.params κs) a vss)) ∷ raw (fact 𝓤 Asked) ∷ []) ∵
     move ! (1 ∷ []) $ heard ! Asked (λ asked. split ! $ split ! $ move ! (2 ∷ []) $ fsplit ! $ move ! (1 ∷ []) $ fsplit ! $ fsplit ! $ keep ! (3 ∷ 4 ∷ 1 ∷ []) $
@@ -56,21 +56,21 @@ put_room_spec 𝓤 𝓛 𝓜 𝓡 wired =
     fsplit3 ! $ move ! (1 ∷ 2 ∷ 3 ∷ []) $ opens ! tt owner.the_row rb ro (λ us. move ! (1 ∷ []) $ fsplit ! $ move ! (1 ∷ []) $
     in_its_block ! d.at d.skip d.bytes d.out d.units (λ b o e small. move ! (1 ∷ 2 ∷ []) $ fjoin ! $ move ! (1 ∷ []) $
     -- [the bytes; the mark; its cell; the open borrow; self's first part; the part's bytes; ..]
-    let within : i + n ≤ length d.bytes = omega (arith, asked.1, asked.2) in
+    let within : i + n ≤ length d.bytes = omega (arith, asked.1) in
     let there : part.skip + o ≡ i + (d.skip + o) = omega (arith, asked.1) in
     let cs = came_raw i n d.out in
     let new : (owner.the_row).Denot = record { mark = d.mark; at = d.at; skip = d.skip; bytes = d.bytes; out = cs; of = d.of; units = d.units } in
     let come : IsOut d.out i n → (u : ℕ) → Shares (own_unit cs d.skip (length d.bytes) u) (own_unit d.out d.skip (length d.bytes) u) (own_unit part.out part.skip n u)
-    = λ was u. parted cs d.out part.out d.skip (length d.bytes) part.skip n u asked.1 asked.2 (raw-own d.out i n) was (λ k side. around-raw d.out i n k side) asked.3 in
+    = λ was u. parted cs d.out part.out d.skip (length d.bytes) part.skip n u asked.1.0 asked.1.1 (raw-own d.out i n) was (λ k side. around-raw d.out i n k side) asked.2 in
     move ! (7 ∷ []) $ rewrite ! 0 (λ (p : Ptr). ‵ (bytes_own p part.skip part.bytes part.out part.units)) (asked.0 ∙ e) refl $ fsplit ! $ flt_l ! (λ small'. fsplit ! $
     -- [the part's bytes; its ways; the bytes; the ways with the mark; ..]
     move ! (0 ∷ 2 ∷ 1 ∷ []) $
-    use1 𝓛 (‵ (froom (bytes_ty n) b (part.skip + o))) (held-room 𝓛 b (kept_at part.out) 0 ws (part.skip + o) asked.3) $ rewrite ! 0
+    use1 𝓛 (‵ (froom (bytes_ty n) b (part.skip + o))) (held-room 𝓛 b (kept_at part.out) 0 ws (part.skip + o) asked.2) $ rewrite ! 0
     (λ (k : ℕ). ‵ (froom (bytes_ty n) b k)) there refl $
     learns ! 2 (IsOut d.out i n) (clash 𝓛 b 𝓜 d.out (d.skip + o) d.bytes i n within) (λ was.
     use2 𝓛 (‵ (held (kept_at cs) 0 d.bytes b (d.skip + o))) (comes_raw 𝓛 b d.out (d.skip + o) d.bytes i n within) $
     -- [the bytes; the part's ways; the ways with the mark; ..]
-    move ! (2 ∷ []) $ fsplit ! $ move ! (3 ∷ 0 ∷ []) $ rewrite ! 0 (λ (k : ℕ). ‵ (ways_of (own_unit part.out part.skip n) 0 k b o)) asked.4 refl $
+    move ! (2 ∷ []) $ fsplit ! $ move ! (3 ∷ 0 ∷ []) $ rewrite ! 0 (λ (k : ℕ). ‵ (ways_of (own_unit part.out part.skip n) 0 k b o)) asked.3 refl $
     use2 𝓛 (‵ (ways_of (own_unit cs d.skip (length d.bytes)) 0 d.units b o))
     (ways_join 𝓛 b (own_unit cs d.skip (length d.bytes)) (own_unit d.out d.skip (length d.bytes)) (own_unit part.out part.skip n) 0 d.units o (come was)) $
     -- [the ways; the mark; the bytes; ..]
@@ -81,6 +81,6 @@ put_room_spec 𝓤 𝓛 𝓜 𝓡 wired =
     sets ! (of_opd ! (unit_lit !)) refl (tt, tt) $
     returns ! (look_at ! 0 refl) $ free_all ! refl $ keep ! (0 ∷ 1 ∷ 2 ∷ 3 ∷ []) $ feq_i ! (List Val) (vunit ∷ []) (vunit ∷ []) refl $ move !
     (1 ∷ 2 ∷ 3 ∷ 0 ∷ 4 ∷ []) $
-    suffices ! _ (ends_at 𝓛 f.ended stayed c y vunit tt (new, (tt, tt)) (tt, (tt, tt))) $ says ! (was, refl, refl, refl, refl, refl) $
+    suffices ! _ (ends_at 𝓛 f.ended stayed c y vunit tt (new, (tt, tt)) (tt, (tt, tt))) $ says ! (was, ((refl, refl, refl, refl, refl), refl)) $
     nothing ! $ move ! (3 ∷ 0 ∷ []) $ join ! $ frame ! $ move ! (3 ∷ 0 ∷ 1 ∷ []) $ fjoin3 ! $ nothing ! $ nothing ! $ fjoin ! $ move ! (1 ∷ 0 ∷ []) $ fjoin ! $
     done !)))))))

@@ -19,6 +19,7 @@ use Rattle.core.proofs.alloc.Calls.{Goes-blank}
 use Rattle.std.proofs.raw_atomic.Walks.{proved}
 use Rattle.rlsf_base.specs.Out.{kept_at}
 use Rattle.rlsf_base.specs.Changes.{IsOut, came_raw}
+use Rattle.rlsf_base.specs.Steps.Owners.{Has}
 use Rattle.rlsf_base.specs.Steps.Ownership.{held, ways_of, own_unit, bytes_own, units_own}
 use Rattle.rlsf_base.proofs.RawBlock.Grid.{puts_units, clash_units}
 use Rattle.rlsf_base.proofs.RawBlock.Marks.{units_vals, units_Tells}
@@ -43,7 +44,7 @@ put_units_spec 𝓤 𝓛 𝓜 𝓡 wired =
     let rb = a.0.ref_ptr.0 in let ro = a.0.ref_ptr.1 in let d = a.0.now in let run = a.1.0 in
     let vss : List Val × (List Val × Unit {0}) = (mut_vals a.0, (mark_val ∷ [], tt)) in
     let first = run.first in let count = run.count in let i = first * 16 - d.skip in let n = count * 16 in
-    let Asked : Type 0 = (run.at ≡ d.at) × (d.skip ≤ first * 16) × (first * 16 + count * 16 ≤ d.skip + length d.bytes) × (first + count ≤ d.units) in
+    let Asked : Type 0 = (run.at ≡ d.at) × Has d (first * 16) (count * 16) × (first + count ≤ d.units) in
     let y : W.Ghost = ((κs, qs, bounds, a, vss), g) in
     qed 𝓛 (((‵ (flft κs.0 qs.0) ⊛ ‵ ftrue) ⊛ ‵ (owns (types_at f.signature.params κs) a vss)) ∷ raw (fact 𝓤 Asked) ∷ []) ∵
     move ! (1 ∷ []) $ heard ! Asked (λ asked. split ! $ split ! $ move ! (2 ∷ []) $ fsplit ! $ move ! (1 ∷ []) $ fsplit ! $ fsplit ! $ keep ! (3 ∷ 4 ∷ 1 ∷ []) $
@@ -56,17 +57,17 @@ put_units_spec 𝓤 𝓛 𝓜 𝓡 wired =
     let cs = came_raw i n d.out in
     let new : (owner.the_row).Denot = record { mark = d.mark; at = d.at; skip = d.skip; bytes = d.bytes; out = cs; of = d.of; units = d.units } in
     move ! (7 ∷ []) $ rewrite ! 0 (λ (p : Ptr). ‵ (units_own p first count)) (asked.0 ∙ e) refl $
-    learns ! 2 (IsOut d.out i n) (clash_units 𝓛 b o d.units first count asked.3 d.out d.skip d.bytes asked.1 asked.2 𝓜) (λ was.
+    learns ! 2 (IsOut d.out i n) (clash_units 𝓛 b o d.units first count asked.2 d.out d.skip d.bytes asked.1.0 asked.1.1 𝓜) (λ was.
     -- [the units; the bytes; the ways with the mark; ..]
     move ! (2 ∷ []) $ fsplit ! $ move ! (2 ∷ 3 ∷ 0 ∷ []) $
     use3 𝓛 (‵ (held (kept_at cs) 0 d.bytes b (d.skip + o)) ⊛ ‵ (ways_of (own_unit cs d.skip (length d.bytes)) 0 d.units b o))
-    (puts_units 𝓛 b o d.units first count asked.3 d.out d.skip d.bytes asked.1 asked.2 was) $ split ! $ fjoin ! $
+    (puts_units 𝓛 b o d.units first count asked.2 d.out d.skip d.bytes asked.1.0 asked.1.1 was) $ split ! $ fjoin ! $
     flt_i ! (length d.bytes) (2 ^ 63) small $ fjoin ! $
     rewrite ! 0 (λ (p : Ptr). ‵ (bytes_own p d.skip d.bytes cs d.units)) (sym e) refl $ move ! (1 ∷ 0 ∷ []) $ fjoin ! $ move ! (1 ∷ 0 ∷ []) $ closes ! tt owner.the_row
     new us rb ro $
     sets ! (of_opd ! (unit_lit !)) refl (tt, tt) $
     returns ! (look_at ! 0 refl) $ free_all ! refl $ keep ! (0 ∷ 1 ∷ 2 ∷ 3 ∷ []) $ feq_i ! (List Val) (vunit ∷ []) (vunit ∷ []) refl $ move !
     (1 ∷ 2 ∷ 3 ∷ 0 ∷ 4 ∷ []) $
-    suffices ! _ (ends_at 𝓛 f.ended stayed c y vunit tt (new, (tt, tt)) (tt, (tt, tt))) $ says ! (was, refl, refl, refl, refl, refl) $
+    suffices ! _ (ends_at 𝓛 f.ended stayed c y vunit tt (new, (tt, tt)) (tt, (tt, tt))) $ says ! (was, ((refl, refl, refl, refl, refl), refl)) $
     nothing ! $ move ! (3 ∷ 0 ∷ []) $ join ! $ frame ! $ move ! (3 ∷ 0 ∷ 1 ∷ []) $ fjoin3 ! $ nothing ! $ nothing ! $ fjoin ! $ move ! (1 ∷ 0 ∷ []) $ fjoin ! $
     done !)))))))

@@ -36,6 +36,7 @@ use Rattle.core.proofs.alloc.Shapes.{after}
 use Rattle.std.proofs.raw_atomic.Walks.{proved}
 use Rattle.rlsf_base.specs.Out.{kept_at}
 use Rattle.rlsf_base.specs.Changes.{IsIn}
+use Rattle.rlsf_base.specs.Steps.Owners.{HasHere}
 use Rattle.rlsf_base.specs.Steps.Ownership.{held, bytes_own, ways_of, own_unit}
 use Rattle.rlsf_base.specs.Lends.{refilled}
 use Rattle.rlsf_base.specs.Steps.LentParts.{owner_with}
@@ -107,7 +108,7 @@ slice_mut_spec 𝓤 𝓛 𝓜 𝓡 wired =
     let κ = κs.0 in let q = qs.0 in let rb = a.0.ref_ptr.0 in let ro = a.0.ref_ptr.1 in let γ = a.0.ghost_name in let d = a.0.now in let base = a.1.0 in let place = a.1.1.0 in
     let len = a.1.1.1.0 in
     let vss : List Val × (List Val × (List Val × (List Val × Unit {0}))) = (mut_vals a.0, (base_vals base, (uint_vals w64 place, (uint_vals w64 len, tt)))) in
-    let Asked : Type 0 = (base.ptr ≡ d.at) × (d.skip ≤ place) × (place + len ≤ d.skip + length d.bytes) × IsIn d.out (place - d.skip) len in
+    let Asked : Type 0 = (base.ptr ≡ d.at) × HasHere d place len in
     let y : W.Ghost = ((κs, qs, bounds, a, vss), g) in
     qed 𝓛 (((‵ (flft κ q) ⊛ ‵ ftrue) ⊛ ‵ (owns (types_at f.signature.params κs) a vss)) ∷ raw (fact 𝓤 Asked) ∷ []) ∵
     move ! (1 ∷ []) $ heard ! Asked (λ asked. split ! $ split ! $ move ! (2 ∷ []) $ fsplit ! $ fsplit3 ! $ keep ! (1 ∷ 2 ∷ 4 ∷ []) $
@@ -117,16 +118,16 @@ slice_mut_spec 𝓤 𝓛 𝓜 𝓡 wired =
     fsplit ! $ move ! (1 ∷ 2 ∷ []) $ fjoin ! $ move ! (1 ∷ []) $
     -- [the bytes; the mark; its cell; the open borrow; ..]
     let i = place - d.skip in let xs = take len (drop i d.bytes) in let at = i + (d.skip + o) in
-    let within : i + len ≤ length d.bytes = omega (arith, asked.1, asked.2) in
+    let within : i + len ≤ length d.bytes = omega (arith, asked.1.0) in
     let long : length xs ≡ len = omega (arith, length-take len (drop i d.bytes), length-drop i d.bytes, within) in
-    let there : place + o ≡ at = omega (arith, asked.1) in
+    let there : place + o ≡ at = omega (arith, asked.1.0) in
     let way : (ws : List ℕ) → length ws ≡ length xs
     → ent 𝓤 (sep 𝓤 (sem 𝓛 (cells (mem u8) ws b at)) (sem 𝓛 (Rest 𝓛 rb ro b o d i len vs)))
     (sem 𝓛 ((mem owner.the_row).own_at (new 𝓛 rb ro b o d i len vs ws) rb ro))
-    = λ ws same. back 𝓛 rb ro b o d i len vs e within asked.3 small ws (same ∙ long) in
+    = λ ws same. back 𝓛 rb ro b o d i len vs e within asked.1.1 small ws (same ∙ long) in
     lift_at ! 2 $ rewrite ! 0 (λ (p : Ptr). ‵ (fat full_share (layout base_type.the_row) (l 2) 0 (base_val p))) (asked.0 ∙ e) refl $ give_at ! 2 $
     first ! $ blocks ! $ sets ! (is ! (bin ! (get_in ! (fld ! refl (stop !)) (sub ! 0 refl (whole !))) (get ! refl) tt) (ap (λ (k : ℕ). vptr b k) there)) refl (tt, tt) $
-    use1 𝓛 (‵ (Row 𝓛 b at xs) ⊛ ‵ (Around 𝓛 b (kept_at d.out) (d.skip + o) d.bytes i len)) (run_out 𝓛 b d.out (d.skip + o) d.bytes i len within asked.3) $ split !
+    use1 𝓛 (‵ (Row 𝓛 b at xs) ⊛ ‵ (Around 𝓛 b (kept_at d.out) (d.skip + o) d.bytes i len)) (run_out 𝓛 b d.out (d.skip + o) d.bytes i len within asked.1.1) $ split !
     $
     sets_last ! (agg ! (and_then ! (get ! refl) (and_then ! (get ! refl) (no_more !)))) refl (tt, (tt, (record { fits = are.1.1.1.0.1 }, tt))) $
     exec ! 𝓣.C 𝓣.Λ (env code.Mir.locals l) (after 1 (code.function).body) (at_ret _ (W.post y)) $ sets ! (of_opd ! (get ! refl)) refl

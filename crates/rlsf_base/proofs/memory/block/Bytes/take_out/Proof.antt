@@ -21,7 +21,8 @@ use denote.Steps.{nothing, heard, opens, closes}
 use denote.Triple.Walked.{says, Stays, stay_ref, stay_dropped, walk_of, Goes-ref, Goes-dropped, ends_at}
 use Rattle.std.proofs.raw_atomic.Walks.{proved}
 use Rattle.rlsf_base.specs.Out.{kept_at}
-use Rattle.rlsf_base.specs.Changes.{IsOwn, left, shifted}
+use Rattle.rlsf_base.specs.Changes.{left, shifted}
+use Rattle.rlsf_base.specs.Steps.Owners.{HasOwn}
 use Rattle.rlsf_base.specs.Steps.Ownership.{held, bytes_own, ways_of, own_unit}
 use Rattle.rlsf_base.proofs.RawBlock.Rows.{Around, part_out, goes}
 use Rattle.rlsf_base.proofs.Changes.{shifted-own}
@@ -47,7 +48,7 @@ take_out_spec 𝓤 𝓛 𝓜 𝓡 wired =
     (λ κs qs bounds a g are.
     let rb = a.0.ref_ptr.0 in let ro = a.0.ref_ptr.1 in let d = a.0.now in let place = a.1.0 in let len = a.1.1.0 in
     let vss : List Val × (List Val × (List Val × Unit {0})) = (mut_vals a.0, (uint_vals w64 place, (uint_vals w64 len, tt))) in
-    let Asked : Type 0 = (d.skip ≤ place) × (place + len ≤ d.skip + length d.bytes) × IsOwn d.out (place - d.skip) len in
+    let Asked : Type 0 = HasOwn d place len in
     let y : W.Ghost = ((κs, qs, bounds, a, vss), g) in
     qed 𝓛 (((‵ (flft κs.0 qs.0) ⊛ ‵ ftrue) ⊛ ‵ (owns (types_at f.signature.params κs) a vss)) ∷ raw (fact 𝓤 Asked) ∷ []) ∵
     move ! (1 ∷ []) $ heard ! Asked (λ asked. split ! $ split ! $ move ! (2 ∷ []) $ fsplit ! $ keep ! (0 ∷ 2 ∷ []) $
@@ -57,7 +58,7 @@ take_out_spec 𝓤 𝓛 𝓜 𝓡 wired =
     fsplit ! $ move ! (1 ∷ 2 ∷ []) $ fjoin ! $ move ! (1 ∷ []) $
     -- [the bytes; the mark; its cell; the open borrow; ..]
     let i = place - d.skip in let xs = take len (skip i d.bytes) in let cs = left i len d.out in
-    let within : i + len ≤ length d.bytes = omega (arith, asked.0, asked.1) in
+    let within : i + len ≤ length d.bytes = omega (arith, asked.0) in
     let long : length xs ≡ len = omega (arith, length-take len (skip i d.bytes), length-drop i d.bytes, within) in
     let there : i + (d.skip + o) ≡ place + o = omega (arith, asked.0) in
     let new : (owner.the_row).Denot = record { mark = d.mark; at = d.at; skip = d.skip; bytes = d.bytes; out = cs; of = d.of; units = d.units } in
@@ -65,8 +66,8 @@ take_out_spec 𝓤 𝓛 𝓜 𝓡 wired =
     let part : (owner.the_row).Denot = record { mark = record {}; at = d.at; skip = place; bytes = xs; out = taken; of = (d.skip, length d.bytes); units = d.units } in
     let go : (u : ℕ) → Shares (own_unit d.out d.skip (length d.bytes) u) (own_unit cs d.skip (length d.bytes) u) (own_unit taken place len u)
     =
-    λ u. parted d.out cs taken d.skip (length d.bytes) place len u asked.0 asked.1 asked.2 (left-out d.out i len) (λ k side. around-left d.out i len k side)
-    (shifted-own i d.out len asked.2) in
+    λ u. parted d.out cs taken d.skip (length d.bytes) place len u asked.0.0 asked.0.1 asked.1 (left-out d.out i len) (λ k side. around-left d.out i len k side)
+    (shifted-own i d.out len asked.1) in
     use1 𝓛 (‵ (held (kept_at taken) 0 xs b (i + (d.skip + o))) ⊛ ‵ (Around 𝓛 b (kept_at d.out) (d.skip + o) d.bytes i len))
     (part_out 𝓛 b d.out (d.skip + o) d.bytes i len within) $ split ! $ move ! (1 ∷ []) $
     use1 𝓛 (‵ (held (kept_at cs) 0 d.bytes b (d.skip + o))) (goes 𝓛 b d.out (d.skip + o) d.bytes i len within) $
@@ -86,6 +87,6 @@ take_out_spec 𝓤 𝓛 𝓜 𝓡 wired =
     rewrite ! 0 (λ (p : Ptr). ‵ (bytes_own p place xs taken d.units)) (sym e) refl $
     use0 𝓛 (‵ (mark_own (mark_val ∷ []))) (mark_made 𝓛) $ fjoin ! $ move ! (1 ∷ 2 ∷ 3 ∷ 0 ∷ 4 ∷ []) $
     suffices ! _ (ends_at 𝓛 f.ended stayed c y mark_val part (new, (tt, (tt, tt))) (tt, (tt, (tt, tt)))) $ says !
-    (refl, refl, refl, refl, refl, refl, refl, refl, refl, refl, refl) $
+    (((refl, refl, refl, refl, refl), refl), ((refl, refl, refl, refl, refl), refl)) $
     nothing ! $ move ! (3 ∷ 0 ∷ []) $ join ! $ frame ! $ move ! (3 ∷ 0 ∷ 1 ∷ []) $ fjoin3 ! $ nothing ! $ nothing ! $ fjoin ! $ nothing ! $ fjoin ! $ move !
     (1 ∷ 0 ∷ []) $ fjoin ! $ done !))))))

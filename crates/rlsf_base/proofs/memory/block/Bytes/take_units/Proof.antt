@@ -20,7 +20,8 @@ use denote.Steps.{nothing, heard, opens, closes}
 use denote.Triple.Walked.{says, Stays, stay_ref, stay_dropped, walk_of, Goes-ref, Goes-dropped, ends_at}
 use Rattle.std.proofs.raw_atomic.Walks.{proved}
 use Rattle.rlsf_base.specs.Out.{kept_at}
-use Rattle.rlsf_base.specs.Changes.{IsOwn, left}
+use Rattle.rlsf_base.specs.Changes.{left}
+use Rattle.rlsf_base.specs.Steps.Owners.{HasOwn}
 use Rattle.rlsf_base.specs.Steps.Ownership.{units_ty, held, ways_of, own_unit, bytes_own, units_own}
 use Rattle.rlsf_base.proofs.RawBlock.Grid.{takes_units}
 use Rattle.rlsf_base.proofs.RawBlock.Values.{mark_val, mark_own, mark_made}
@@ -45,8 +46,7 @@ take_units_spec 𝓤 𝓛 𝓜 𝓡 wired =
     (λ κs qs bounds a g are.
     let rb = a.0.ref_ptr.0 in let ro = a.0.ref_ptr.1 in let d = a.0.now in let first = a.1.0 in let count = a.1.1.0 in
     let vss : List Val × (List Val × (List Val × Unit {0})) = (mut_vals a.0, (uint_vals w64 first, (uint_vals w64 count, tt))) in
-    let Asked : Type 0 =
-    (d.skip ≤ first * 16) × (first * 16 + count * 16 ≤ d.skip + length d.bytes) × (first + count ≤ d.units) × IsOwn d.out (first * 16 - d.skip) (count * 16) in
+    let Asked : Type 0 = HasOwn d (first * 16) (count * 16) × (first + count ≤ d.units) in
     let y : W.Ghost = ((κs, qs, bounds, a, vss), g) in
     qed 𝓛 (((‵ (flft κs.0 qs.0) ⊛ ‵ ftrue) ⊛ ‵ (owns (types_at f.signature.params κs) a vss)) ∷ raw (fact 𝓤 Asked) ∷ []) ∵
     move ! (1 ∷ []) $ heard ! Asked (λ asked. split ! $ split ! $ move ! (2 ∷ []) $ fsplit ! $ keep ! (0 ∷ 2 ∷ []) $
@@ -59,7 +59,7 @@ take_units_spec 𝓤 𝓛 𝓜 𝓡 wired =
     -- [the bytes; the ways; the mark; its cell; the open borrow; ..]
     fsplit ! $ use2 𝓛 (‵ (froom (units_ty count) b (first * 16 + o)) ⊛ ‵ (held (kept_at cs) 0 d.bytes b (d.skip + o)) ⊛ ‵
     (ways_of (own_unit cs d.skip (length d.bytes)) 0 d.units b o))
-    (takes_units 𝓛 b o d.units first count asked.2 d.out d.skip d.bytes asked.0 asked.1 asked.3) $ split ! $ move ! (1 ∷ []) $ split ! $ fjoin ! $
+    (takes_units 𝓛 b o d.units first count asked.1 d.out d.skip d.bytes asked.0.0.0 asked.0.0.1 asked.0.1) $ split ! $ move ! (1 ∷ []) $ split ! $ fjoin ! $
     flt_i ! (length d.bytes) (2 ^ 63) small $ fjoin ! $
     rewrite ! 0 (λ (p : Ptr). ‵ (bytes_own p d.skip d.bytes cs d.units)) (sym e) refl $ move ! (2 ∷ 0 ∷ []) $ fjoin ! $ move ! (2 ∷ 0 ∷ 3 ∷ 4 ∷ 5 ∷ []) $ closes !
     tt owner.the_row new us rb ro $
@@ -67,6 +67,7 @@ take_units_spec 𝓤 𝓛 𝓜 𝓡 wired =
     returns ! (look_at ! 0 refl) $ free_all ! refl $ move ! (3 ∷ []) $
     rewrite ! 0 (λ (p : Ptr). ‵ (units_own p first count)) (sym e) refl $
     use0 𝓛 (‵ (mark_own (mark_val ∷ []))) (mark_made 𝓛) $ fjoin ! $ move ! (1 ∷ 2 ∷ 3 ∷ 0 ∷ 4 ∷ []) $
-    suffices ! _ (ends_at 𝓛 f.ended stayed c y mark_val run (new, (tt, (tt, tt))) (tt, (tt, (tt, tt)))) $ says ! (refl, refl, refl, refl, refl, refl, refl, refl, refl, refl) $
+    suffices ! _ (ends_at 𝓛 f.ended stayed c y mark_val run (new, (tt, (tt, tt))) (tt, (tt, (tt, tt)))) $ says !
+    ((refl, refl, refl, refl), ((refl, refl, refl, refl, refl), refl)) $
     nothing ! $ move ! (3 ∷ 0 ∷ []) $ join ! $ frame ! $ move ! (3 ∷ 0 ∷ 1 ∷ []) $ fjoin3 ! $ nothing ! $ nothing ! $ fjoin ! $ nothing ! $ fjoin ! $ move !
     (1 ∷ 0 ∷ []) $ fjoin ! $ done !))))))

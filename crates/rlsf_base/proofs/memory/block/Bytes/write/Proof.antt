@@ -1,5 +1,5 @@
 -- Shows that `write` writes the room of a byte, which is here from now on. Assumes `Logic`.
-use Rattle.std.proofs.Common.{◌≡◌, ℕ, ◌+◌, ◌-◌, ◌^◌, ◌<◌, ◌≤◌, List, [], ◌∷◌, ◌++◌, length, take, drop as behind, refl, sym, ap, ◌∙◌}
+use Rattle.std.proofs.Common.{◌≡◌, ℕ, ◌+◌, ◌-◌, ◌^◌, ◌≤◌, List, [], ◌∷◌, ◌++◌, length, take, drop as behind, refl, sym, ap, ◌∙◌}
 use Rattle.std.proofs.Common.{arith, length-append, length-take, length-drop, w8, w64}
 use Rattle.std.specs.List.{splice}
 use base.Fraction.{full_share}
@@ -26,9 +26,10 @@ use denote.Steps.{nothing, heard, opens, closes}
 use denote.Triple.Walked.{says, Stays, stay_ref, stay_dropped, walk_of, Goes-ref, Goes-dropped, ends_at}
 use Rattle.core.proofs.alloc.Shapes.{after}
 use Rattle.std.proofs.raw_atomic.Walks.{proved}
+use Rattle.rlsf_base.specs.Steps.Owners.{HasOwn}
 use Rattle.rlsf_base.specs.Steps.Ownership.{bytes_ty, bytes_own, ways_of, own_unit}
 use Rattle.rlsf_base.specs.Out.{kept_at}
-use Rattle.rlsf_base.specs.Changes.{IsOwn, came_back}
+use Rattle.rlsf_base.specs.Changes.{came_back}
 use Rattle.rlsf_base.specs.Steps.Ownership.{held}
 use Rattle.rlsf_base.proofs.RawBlock.Rows.{Row, Around, room_out, written}
 use Rattle.rlsf_base.proofs.RawBlock.Units.{ways-same, unit-written}
@@ -66,7 +67,7 @@ write_spec 𝓤 𝓛 𝓜 𝓡 wired =
     (λ κs qs bounds a g are.
     let rb = a.0.ref_ptr.0 in let ro = a.0.ref_ptr.1 in let d = a.0.now in let base = a.1.0 in let place = a.1.1.0 in let byte = a.1.1.1.0 in
     let vss : List Val × (List Val × (List Val × (List Val × Unit {0}))) = (mut_vals a.0, (base_vals base, (uint_vals w64 place, (uint_vals w8 byte, tt)))) in
-    let Asked : Type 0 = (base.ptr ≡ d.at) × (d.skip ≤ place) × (place < d.skip + length d.bytes) × IsOwn d.out (place - d.skip) 1 in
+    let Asked : Type 0 = (base.ptr ≡ d.at) × HasOwn d place 1 in
     let y : W.Ghost = ((κs, qs, bounds, a, vss), g) in
     qed 𝓛 (((‵ (flft κs.0 qs.0) ⊛ ‵ ftrue) ⊛ ‵ (owns (types_at f.signature.params κs) a vss)) ∷ raw (fact 𝓤 Asked) ∷ []) ∵
     move ! (1 ∷ []) $ heard ! Asked (λ asked. split ! $ split ! $ move ! (2 ∷ []) $ fsplit ! $ keep ! (0 ∷ 2 ∷ []) $
@@ -77,8 +78,8 @@ write_spec 𝓤 𝓛 𝓜 𝓡 wired =
     -- [the bytes; the mark; its cell; the open borrow; ..]
     let i = place - d.skip in let at = place + o in let one : List ℕ = byte ∷ [] in let bs = splice d.bytes i (i + 1) one in let cs = came_back i 1 d.out in
     let new : (owner.the_row).Denot = record { mark = d.mark; at = d.at; skip = d.skip; bytes = bs; out = cs; of = d.of; units = d.units } in
-    let within : i + 1 ≤ length d.bytes = omega (arith, asked.1, asked.2) in
-    let there : i + (d.skip + o) ≡ at = omega (arith, asked.1) in
+    let within : i + 1 ≤ length d.bytes = omega (arith, asked.1.0) in
+    let there : i + (d.skip + o) ≡ at = omega (arith, asked.1.0) in
     let long : length bs ≡ length d.bytes =
     omega (
       arith,
@@ -91,9 +92,9 @@ write_spec 𝓤 𝓛 𝓜 𝓡 wired =
     let kept : ways_of (own_unit d.out d.skip (length d.bytes)) 0 d.units b o ≡ ways_of (own_unit cs d.skip (length bs)) 0 d.units b o
     =
     ways-same 𝓛 b (own_unit d.out d.skip (length d.bytes)) (own_unit cs d.skip (length bs)) 0 d.units o
-    (λ u. unit-written d.out d.skip (length d.bytes) i 1 u asked.3 ∙ ap (λ k. own_unit cs d.skip k u) (sym long)) in
+    (λ u. unit-written d.out d.skip (length d.bytes) i 1 u asked.1.1 ∙ ap (λ k. own_unit cs d.skip k u) (sym long)) in
     use1 𝓛 (‵ (froom (bytes_ty 1) b (i + (d.skip + o))) ⊛ ‵ (Around 𝓛 b (kept_at d.out) (d.skip + o) d.bytes i 1))
-    (room_out 𝓛 b d.out (d.skip + o) d.bytes i 1 within asked.3) $ split ! $
+    (room_out 𝓛 b d.out (d.skip + o) d.bytes i 1 within asked.1.1) $ split ! $
     -- [the room; what lies around; the mark; its cell; the open borrow; ..]
     take_at ! 2 $ rewrite ! 0 (λ (p : Ptr). ‵ (fat full_share (layout base_type.the_row) (l 2) 0 (base_val p))) (asked.0 ∙ e) refl $ give_at ! 2 $
     first ! $ blocks ! $ sets ! (bin ! (get_in ! (fld ! refl (stop !)) (sub ! 0 refl (whole !))) (get ! refl) tt) refl (tt, tt) $
@@ -110,6 +111,6 @@ write_spec 𝓤 𝓛 𝓜 𝓡 wired =
     rb ro $
     returns ! (look_at ! 0 refl) $ free_all ! refl $ keep ! (0 ∷ 1 ∷ 2 ∷ 3 ∷ []) $ feq_i ! (List Val) (vunit ∷ []) (vunit ∷ []) refl $ move !
     (1 ∷ 2 ∷ 3 ∷ 0 ∷ 4 ∷ []) $
-    suffices ! _ (ends_at 𝓛 f.ended stayed c y vunit tt (new, (tt, (tt, (tt, tt)))) (tt, (tt, (tt, (tt, tt))))) $ says ! (refl, refl, refl, refl, refl, refl) $
+    suffices ! _ (ends_at 𝓛 f.ended stayed c y vunit tt (new, (tt, (tt, (tt, tt)))) (tt, (tt, (tt, (tt, tt))))) $ says ! ((refl, refl, refl, refl, refl), refl) $
     nothing ! $ move ! (3 ∷ 0 ∷ []) $ join ! $ frame ! $ move ! (3 ∷ 0 ∷ 1 ∷ []) $ fjoin3 ! $ nothing ! $ nothing ! $ fjoin ! $ nothing ! $ fjoin ! $ nothing ! $ fjoin !
     $ move ! (1 ∷ 0 ∷ []) $ fjoin ! $ done !))))))

@@ -27,9 +27,10 @@ use denote.Steps.{nothing, heard, opens, closes}
 use denote.Triple.Walked.{says, Stays, stay_ref, stay_dropped, walk_of, Goes-ref, Goes-dropped, ends_at}
 use Rattle.core.proofs.alloc.Shapes.{after}
 use Rattle.std.proofs.raw_atomic.Walks.{proved}
+use Rattle.rlsf_base.specs.Steps.Owners.{HasOwn}
 use Rattle.rlsf_base.specs.Steps.Ownership.{bytes_ty, bytes_own, ways_of, own_unit}
 use Rattle.rlsf_base.specs.Out.{kept_at}
-use Rattle.rlsf_base.specs.Changes.{IsOwn, came_back}
+use Rattle.rlsf_base.specs.Changes.{came_back}
 use Rattle.rlsf_base.specs.Steps.Ownership.{held}
 use Rattle.rlsf_base.proofs.RawBlock.Rows.{Row, Around, room_out, written, from_elems}
 use Rattle.rlsf_base.proofs.RawBlock.Units.{ways-same, unit-written}
@@ -67,7 +68,7 @@ write_word_spec 𝓤 𝓛 𝓜 𝓡 wired =
     (λ κs. (mut_Tells (named 0) κs.0 owner.the_row, (base_Tells, (uint_Tells w64, (Array-Tells u8 (uint_vals w8) (uint_Tells w8) 8, tt))))) (λ κs qs bounds a g are.
     let rb = a.0.ref_ptr.0 in let ro = a.0.ref_ptr.1 in let d = a.0.now in let base = a.1.0 in let place = a.1.1.0 in let word = a.1.1.1.0 in
     let vss : List Val × (List Val × (List Val × (List Val × Unit {0}))) = (mut_vals a.0, (base_vals base, (uint_vals w64 place, (array_vals (uint_vals w8) word, tt)))) in
-    let Asked : Type 0 = (base.ptr ≡ d.at) × (d.skip ≤ place) × (place + 8 ≤ d.skip + length d.bytes) × IsOwn d.out (place - d.skip) 8 in
+    let Asked : Type 0 = (base.ptr ≡ d.at) × HasOwn d place 8 in
     let typed = ((Array-Lawful 𝓛 u8 (uint_Lawful 𝓛 w8) 8).typed word (array_vals (uint_vals w8) word) are.1.1.1.0).0 in let eight : 8 ≡ length word =
     sym are.1.1.1.0.1.0.1 in
     let y : W.Ghost = ((κs, qs, bounds, a, vss), g) in
@@ -80,8 +81,8 @@ write_word_spec 𝓤 𝓛 𝓜 𝓡 wired =
     -- [the bytes; the mark; its cell; the open borrow; ..]
     let i = place - d.skip in let at = place + o in let bs = splice d.bytes i (i + 8) word in let cs = came_back i 8 d.out in
     let new : (owner.the_row).Denot = record { mark = d.mark; at = d.at; skip = d.skip; bytes = bs; out = cs; of = d.of; units = d.units } in
-    let within : i + 8 ≤ length d.bytes = omega (arith, asked.1, asked.2) in
-    let there : i + (d.skip + o) ≡ at = omega (arith, asked.1) in
+    let within : i + 8 ≤ length d.bytes = omega (arith, asked.1.0) in
+    let there : i + (d.skip + o) ≡ at = omega (arith, asked.1.0) in
     let long : length bs ≡ length d.bytes =
     omega (
       arith,
@@ -95,9 +96,9 @@ write_word_spec 𝓤 𝓛 𝓜 𝓡 wired =
     let kept : ways_of (own_unit d.out d.skip (length d.bytes)) 0 d.units b o ≡ ways_of (own_unit cs d.skip (length bs)) 0 d.units b o
     =
     ways-same 𝓛 b (own_unit d.out d.skip (length d.bytes)) (own_unit cs d.skip (length bs)) 0 d.units o
-    (λ u. unit-written d.out d.skip (length d.bytes) i 8 u asked.3 ∙ ap (λ k. own_unit cs d.skip k u) (sym long)) in
+    (λ u. unit-written d.out d.skip (length d.bytes) i 8 u asked.1.1 ∙ ap (λ k. own_unit cs d.skip k u) (sym long)) in
     use1 𝓛 (‵ (froom (bytes_ty 8) b (i + (d.skip + o))) ⊛ ‵ (Around 𝓛 b (kept_at d.out) (d.skip + o) d.bytes i 8))
-    (room_out 𝓛 b d.out (d.skip + o) d.bytes i 8 within asked.3) $ split ! $
+    (room_out 𝓛 b d.out (d.skip + o) d.bytes i 8 within asked.1.1) $ split ! $
     -- [the room; what lies around; the mark; its cell; the open borrow; ..]
     take_at ! 2 $ rewrite ! 0 (λ (p : Ptr). ‵ (fat full_share (layout base_type.the_row) (l 2) 0 (base_val p))) (asked.0 ∙ e) refl $ give_at ! 2 $
     first ! $ blocks ! $ sets ! (bin ! (get_in ! (fld ! refl (stop !)) (sub ! 0 refl (whole !))) (get ! refl) tt) refl (tt, tt) $ sets ! (of_opd ! (get ! refl)) refl (tt, tt) $
@@ -115,6 +116,6 @@ write_word_spec 𝓤 𝓛 𝓜 𝓡 wired =
     rb ro $
     returns ! (look_at ! 0 refl) $ free_all ! refl $ keep ! (0 ∷ 1 ∷ 2 ∷ 3 ∷ []) $ feq_i ! (List Val) (vunit ∷ []) (vunit ∷ []) refl $ move !
     (1 ∷ 2 ∷ 3 ∷ 0 ∷ 4 ∷ []) $
-    suffices ! _ (ends_at 𝓛 f.ended stayed c y vunit tt (new, (tt, (tt, (tt, tt)))) (tt, (tt, (tt, (tt, tt))))) $ says ! (refl, refl, refl, refl, refl) $
+    suffices ! _ (ends_at 𝓛 f.ended stayed c y vunit tt (new, (tt, (tt, (tt, tt)))) (tt, (tt, (tt, (tt, tt))))) $ says ! ((refl, refl, refl, refl, refl), refl) $
     nothing ! $ move ! (3 ∷ 0 ∷ []) $ join ! $ frame ! $ move ! (3 ∷ 0 ∷ 1 ∷ []) $ fjoin3 ! $ nothing ! $ nothing ! $ fjoin ! $ nothing ! $ fjoin ! $ nothing ! $ fjoin !
     $ move ! (1 ∷ 0 ∷ []) $ fjoin ! $ done !))))))

@@ -17,8 +17,9 @@ use denote.Plain.{uint_vals, uint_Tells}
 use denote.Builtin.{usize}
 use denote.Signature.{plain, types_at}
 use denote.Steps.{nothing, heard}
-use denote.Triple.Walked.{says, Stays, stay_dropped, walk_of, Goes-dropped, ends_at}
+use denote.Triple.Walked.{Stays, stay_dropped, walk_of, Goes-dropped, ends_at}
 use Rattle.core.proofs.alloc.Calls.{Goes-blank}
+use Rattle.core.proofs.mem.Facts.{says_two}
 use Rattle.core.proofs.alloc.Shapes.{after}
 use Rattle.std.proofs.raw_atomic.Walks.{proved}
 use Rattle.rlsf_base.specs.OpenSpace.{Home, place_in}
@@ -77,33 +78,33 @@ with_tail_spec 𝓤 𝓛 𝓜 𝓡 wired =
     let kept : ℕ = len - run.count * 16 in
     let vss : List Val × (List Val × (List Val × (List Val × (List Val × Unit {0})))) =
     (mark_val ∷ [], (view_vals view, (uint_vals w64 place, (uint_vals w64 len, (mark_val ∷ [], tt))))) in
-    let Asked : Type 0 =
-    (run.at ≡ view.base.ptr) × (run.first * 16 + run.count * 16 ≡ place + len) × (run.count * 16 ≤ len) × (t.len ≡ len) × (t.align ≡ 16) × (place ≡ place_in view t.addr) in
+    let Run : Type 0 = (run.at ≡ view.base.ptr) × (run.first * 16 + run.count * 16 ≡ place + len) × (run.count * 16 ≤ len) in
+    let Shown : Type 0 = (t.len ≡ len) × (t.align ≡ 16) × (place ≡ place_in view t.addr) in
     let Lies : Type 0 = IsPlaced home (pointer_to view t.addr) t.addr t.len in
     let y : W.Ghost = ((κs, qs, bounds, a, vss), g) in
-    qed 𝓛 ((‵ ftrue ⊛ ‵ (owns (types_at f.signature.params κs) a vss)) ∷ (raw (fact 𝓤 Asked) ⊛ raw (fact 𝓤 Lies)) ∷ []) ∵
-    move ! (1 ∷ []) $ split ! $ heard ! Asked
-    (λ asked. heard ! Lies (λ lies. split ! $ drop ! $ fsplit ! $ fsplit ! $ drop ! $ move ! (1 ∷ []) $ fsplit ! $ drop ! $ fsplit ! $ drop ! $ fsplit ! $ drop ! $ fsplit !
-    $ fsplit ! $ keep ! (1 ∷ 3 ∷ []) $
+    qed 𝓛 ((‵ ftrue ⊛ ‵ (owns (types_at f.signature.params κs) a vss)) ∷ (raw (fact 𝓤 Run) ⊛ raw (fact 𝓤 Shown) ⊛ raw (fact 𝓤 Lies)) ∷ []) ∵
+    move ! (1 ∷ []) $ split ! $ heard ! Run (λ is. split ! $ heard ! Shown (λ shown. heard ! Lies (λ lies.
+    split ! $ drop ! $ fsplit ! $ fsplit ! $ drop ! $ move ! (1 ∷ []) $ fsplit ! $ drop ! $ fsplit ! $ drop ! $ fsplit ! $ drop ! $ fsplit ! $ fsplit ! $ keep ! (1 ∷ 3 ∷ []) $
     -- [the units' room; the ticket]
     enter ! _ _ _ _ _ $ alloc_all !
     (λ l. pass_all ! refl ((tt, (tt, tt)), (view_fits view are.1.0, ((tt, record { fits = are.1.1.0.1 }), ((tt, record { fits = are.1.1.1.0.1 }), ((tt, (tt, tt)), tt))))) $
     in_a_block ! run.at (λ p. units_own p run.first run.count) (id⊢ 𝓤 (never 𝓤)) (λ b o e.
-    take_at ! 2 $ rewrite ! 0 (λ (p : Ptr). ‵ (fat full_share (layout view_type.the_row) (l 2) 0 (view_val p view.shift))) (sym asked.0 ∙ e) refl $ give_at ! 2 $
+    take_at ! 2 $ rewrite ! 0 (λ (p : Ptr). ‵ (fat full_share (layout view_type.the_row) (l 2) 0 (view_val p view.shift))) (sym is.0 ∙ e) refl $ give_at ! 2 $
     first ! $ blocks ! $ sets_last ! (bin ! (get_in ! (fld ! refl (fld ! refl (stop !))) (sub ! 0 refl (sub ! 0 refl (whole !)))) (get ! refl) tt) refl (tt, tt) $
     exec ! 𝓣.C 𝓣.Λ (env code.Mir.locals l) (after 1 (code.function).body) (at_ret _ (W.post y)) $ sets ! (of_opd ! (get ! refl)) refl (tt, tt) $
     sets ! (agg ! (and_then ! (get ! refl) (and_then ! (get ! refl) (no_more !)))) refl (tt, (tt, (record { fits = are.1.1.1.0.1 }, tt))) $
     returns ! (look_at ! 0 refl) $ free_all ! refl $
     let p : Ptr = block_ptr b (place + o) in
-    let many : run.count ≡ (len - kept) / 16 = omega (arith, asked.2) in
-    let within : IsKept kept len = (omega arith, omega (arith, lies.aligned.1, asked.3, asked.2)) in let there : run.first * 16 + o ≡ place + o + kept =
-    omega (arith, asked.1, asked.2) in
-    let placed : IsPlaced home p t.addr len = placed_in_block view home b o t.addr place len t.len (sym asked.0 ∙ e) asked.5 asked.3 lies in
-    let x : (tail_type.the_row).Denot = record { ptr = p; len = len; home = home; name = t.name; key = t.key; start = t.addr; kept = kept; placed = placed; within = within } in
+    let many : run.count ≡ (len - kept) / 16 = omega (arith, is.2) in
+    let within : IsKept kept len = (omega arith, omega (arith, lies.aligned.1, shown.0, is.2)) in let there : run.first * 16 + o ≡ place + o + kept =
+    omega (arith, is.1, is.2) in
+    let placed : IsPlaced home p t.addr len = placed_in_block view home b o t.addr place len t.len (sym is.0 ∙ e) shown.2 shown.0 lies in
+    let x : (tail_type.the_row).Denot =
+    record { ptr = p; len = len; home = home; name = t.name; key = t.key; start = t.addr; kept = kept; placed = placed; within = within } in
     rewrite ! 0 (λ (u : ℕ × ℕ). ‵ (froom (units_ty u.0) b u.1)) {x = ((len - kept) / 16, place + o + kept)} {y = (run.count, run.first * 16 + o)} (λ i. (many i, there i)) refl $
     move ! (1 ∷ []) $ rewrite ! 0 (λ (u : ℕ × ℕ). ‵ (ticket_owns t.name t.key (extent t.addr u.0 u.1))) {x = (len, 16)} {y = (t.len, t.align)}
-    (λ i. (asked.3 i, asked.4 i)) refl $ fjoin ! $
+    (λ i. (shown.0 i, shown.1 i)) refl $ fjoin ! $
     use0 𝓛 (‵ (spot_own p len (spot_val p len ∷ []))) (spot_made 𝓛 p len are.1.1.1.0.1) $ fjoin ! $
-    suffices ! _ (ends_at 𝓛 f.ended stayed c y (spot_val p len) x (tt, (tt, (tt, (tt, (tt, tt))))) (tt, (tt, (tt, (tt, (tt, tt)))))) $ says !
-    (refl, refl, refl, refl, refl, refl) $
-    nothing ! $ nothing ! $ join ! $ nothing ! $ join ! $ nothing ! $ join ! $ nothing ! $ join ! $ nothing ! $ join ! $ nothing ! $ done !)))))
+    suffices ! _ (ends_at 𝓛 f.ended stayed c y (spot_val p len) x (tt, (tt, (tt, (tt, (tt, tt))))) (tt, (tt, (tt, (tt, (tt, tt)))))) $ says_two !
+    ((refl, refl, refl, refl), (refl, refl)) $
+    nothing ! $ nothing ! $ join ! $ nothing ! $ join ! $ nothing ! $ join ! $ nothing ! $ join ! $ nothing ! $ join ! $ nothing ! $ done !))))))

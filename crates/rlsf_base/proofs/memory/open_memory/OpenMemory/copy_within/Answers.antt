@@ -13,7 +13,7 @@ copy_bytes-requires c =
     let from = can_lend c.self.invariant c.self.view_is c.view-view.ensures (omega arith) c.args.range c.requires.from c.place-from.ensures c.requires.here in
     let there = range_at c.args.to c.args.range.len in
     let to = can_write c.self.invariant c.self.view_is c.view-view.ensures (omega arith) there c.requires.to c.place-place.ensures c.requires.own in
-    ((from.0, from.1, from.2, to.1, to.2, omega arith), ((from.3, to.3), refl))
+    ((from.0, from.1.0, to.1.0, omega arith), ((from.1.1, to.1.1), refl))
 
 pub returns-clause-here : goal.returns-clause-here
 returns-clause-here c =

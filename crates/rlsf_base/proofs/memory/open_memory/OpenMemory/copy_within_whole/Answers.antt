@@ -15,7 +15,8 @@ pub slice_mut-bytes-requires : goal.slice_mut-bytes-requires
 slice_mut-bytes-requires c =
     let long : length c.self.inside.bytes.bytes ≡ length c.args.self.now.bytes = ap (λ (s : Space). length s.bytes) c.self.view_is in (
       c.self.invariant.lies.0,
-      omega arith,
-      omega (arith, c.len-len.ensures.value, long),
-      λ k lo hi. ap (λ cs. kept_at cs k) (ap (λ (s : Space). s.out) c.self.view_is ∙ c.requires.whole) ∙ none-out k,
+      (
+        (omega arith, omega (arith, c.len-len.ensures.value, long)),
+        λ k lo hi. ap (λ cs. kept_at cs k) (ap (λ (s : Space). s.out) c.self.view_is ∙ c.requires.whole) ∙ none-out k,
+      ),
     )

@@ -14,7 +14,6 @@ give_back-requires-clause-bytes c =
       c.self.invariant.lies.0,
       c.self.invariant.lies.1,
       c.self.invariant.whole,
-      omega arith,
       λ k lo hi. here k lo (omega (arith, hi, long)),
       c.self.invariant.lies.2 ∙ units_in-aligned m.shift (m.len_and_skip % 16) (m.len_and_skip / 32) (c.self.invariant.grid (omega arith)),
     )

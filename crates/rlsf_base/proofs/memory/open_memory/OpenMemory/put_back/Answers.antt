@@ -26,8 +26,10 @@ put_back-requires c =
     size ∙ sym long ∙ c.self.invariant.whole in
     let units : b.units ≡ m.bytes.units = is.place.2 ∙ (λ i. units_in (shift i) (skip i) (all i)) ∙ sym c.self.invariant.lies.2 in (
       sym is.place.0 ∙ ap (λ (v : View). v.base.ptr) view ∙ c.self.invariant.lies.0,
-      omega (arith, is.place, is.lies, home, size, start, long, shift, is.whole, c.self.invariant.lies, c.self.invariant.whole, is.first, is.small),
-      omega (arith, is.place, is.lies, home, size, start, long, shift, is.whole, c.self.invariant.lies, c.self.invariant.whole, is.first, is.small),
+      (
+        omega (arith, is.place, is.lies, home, size, start, long, shift, is.whole, c.self.invariant.lies, c.self.invariant.whole, is.first, is.small),
+        omega (arith, is.place, is.lies, home, size, start, long, shift, is.whole, c.self.invariant.lies, c.self.invariant.whole, is.first, is.small),
+      ),
       λ k lo hi. ap (λ (cs : List Change). kept_at cs k) out ∙ c.requires.full k lo (omega (arith, hi, ap length bytes)),
       units,
     )

@@ -53,9 +53,7 @@ slice_ahead-requires c =
     let base : c.args.tail.home.view.base.ptr ≡ m.bytes.at =
     ap (λ (h : Home). h.view.base.ptr) c.requires.home ∙ ap (λ (s : Space). s.view.base.ptr) (sym c.self.view_is) ∙ c.self.invariant.lies.0 in (
       c.at-from.ensures ∙ e.0 ∙ (λ i. (e.2 ∙ base) i +ₚ c.into_parts-units.result.1.first * 16),
-      l.from,
-      l.to,
-      here-in m.bytes.out c.args.self.now (word_range (addr d)) _ (ap (λ (s : Space). s.out) c.self.view_is) (readable d).1.0 l.at (readable d).2,
+      ((l.from, l.to), here-in m.bytes.out c.args.self.now (word_range (addr d)) _ (ap (λ (s : Space). s.out) c.self.view_is) (readable d).1.0 l.at (readable d).2),
     )
 
 pub returns-clause-word : goal.returns-clause-word

@@ -20,8 +20,8 @@ returns c =
     let place : c.place.result - c.self.inside.bytes.skip ≡ addr - now.start =
     placed c.self.invariant is c.requires.view (omega arith) (word_range addr) writable.1 c.place.ensures in
     let start : n.start ≡ now.start = t.start ∙ ap (λ (s : Space). s.start) is in
-    let bytes : n.bytes ≡ with_word now addr word = t.bytes ∙ e.2 ∙ (λ i. splice (is i).bytes (place i) (place i + 8) (c.to_le_bytes.ensures i)) in
-    let out : n.out ≡ out_with now (word_range addr) = t.out ∙ e.3 ∙ (λ i. came_back (place i) 8 (is i).out) in
+    let bytes : n.bytes ≡ with_word now addr word = t.bytes ∙ e.0.2 ∙ (λ i. splice (is i).bytes (place i) (place i + 8) (c.to_le_bytes.ensures i)) in
+    let out : n.out ≡ out_with now (word_range addr) = t.out ∙ e.1 ∙ (λ i. came_back (place i) 8 (is i).out) in
     record {
       start = start;
       bytes = bytes;

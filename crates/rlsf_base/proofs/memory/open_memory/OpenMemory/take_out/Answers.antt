@@ -15,8 +15,7 @@ use Rattle.rlsf_base.proofs.memory.open_memory.OpenMemory.take_out.Goals as goal
 
 pub take_out-bytes-requires : goal.take_out-bytes-requires
 take_out-bytes-requires c =
-    let lies = can_write c.self.invariant c.self.view_is c.view-view.ensures (omega arith) c.args.range c.requires.place c.place.ensures c.requires.own in
-    (lies.1, lies.2, lies.3)
+    (can_write c.self.invariant c.self.view_is c.view-view.ensures (omega arith) c.args.range c.requires.place c.place.ensures c.requires.own).1
 
 pub invariant_of-result : goal.invariant_of-result
 invariant_of-result c =
@@ -25,20 +24,20 @@ invariant_of-result c =
     let shift : c.view-view.result.shift ≡ m.shift = ap (λ (v : View). v.shift) view in
     let start : start_of m.shift m.len_and_skip ≡ c.args.self.now.start = ap (λ (s : Space). s.start) c.self.view_is in
     let long : length m.bytes.bytes ≡ length c.args.self.now.bytes = ap (λ (s : Space). length s.bytes) c.self.view_is in
-    let b = c.take_out-bytes.result in let e = c.take_out-bytes.ensures in
+    let b = c.take_out-bytes.result in let e = c.take_out-bytes.ensures.0 in
     let i = c.place.result - m.bytes.skip in let place : i ≡ c.args.range.start - c.args.self.now.start = omega arith in
-    let taken : length b.bytes ≡ c.args.range.len = ap length e.2 ∙ omega (arith, length-take c.args.range.len (drop i m.bytes.bytes), length-drop i m.bytes.bytes) in
+    let taken : length b.bytes ≡ c.args.range.len = ap length e.0.2 ∙ omega (arith, length-take c.args.range.len (drop i m.bytes.bytes), length-drop i m.bytes.bytes) in
     let own = own-in m.bytes.out c.args.self.now c.args.range i (ap (λ (s : Space). s.out) c.self.view_is) c.requires.place.0 place c.requires.own in
-    let skip : b.of.0 ≡ m.bytes.skip = ap (λ (u : ℕ × ℕ). u.0) e.4 in let size : b.of.1 ≡ length m.bytes.bytes = ap (λ (u : ℕ × ℕ). u.1) e.4 in
+    let skip : b.of.0 ≡ m.bytes.skip = ap (λ (u : ℕ × ℕ). u.0) e.1 in let size : b.of.1 ≡ length m.bytes.bytes = ap (λ (u : ℕ × ℕ). u.1) e.1 in
     record {
       lies = (omega arith, omega arith);
       first = omega arith;
       place = (
-        ap (λ (v : View). v.base.ptr) view ∙ c.self.invariant.lies.0 ∙ sym e.0,
-        e.1 ∙ c.place.ensures,
-        e.10 ∙ c.self.invariant.lies.2 ∙ (λ i. units_in (sym shift i) (sym (skip ∙ c.self.invariant.lies.1) i) (sym (size ∙ c.self.invariant.whole) i)),
+        ap (λ (v : View). v.base.ptr) view ∙ c.self.invariant.lies.0 ∙ sym e.0.0,
+        e.0.1 ∙ c.place.ensures,
+        e.0.4 ∙ c.self.invariant.lies.2 ∙ (λ i. units_in (sym shift i) (sym (skip ∙ c.self.invariant.lies.1) i) (sym (size ∙ c.self.invariant.whole) i)),
       );
-      whole = (taken, λ k lo hi. ap (λ cs. is_own (kept_at cs k)) e.3 ∙ shifted-own i m.bytes.out c.args.range.len own k lo (omega (arith, hi, taken)));
+      whole = (taken, λ k lo hi. ap (λ cs. is_own (kept_at cs k)) e.0.3 ∙ shifted-own i m.bytes.out c.args.range.len own k lo (omega (arith, hi, taken)));
       small = omega arith;
     }
 
@@ -48,7 +47,7 @@ returns-clause-len c =
     let start : start_of m.shift m.len_and_skip ≡ c.args.self.now.start = ap (λ (s : Space). s.start) c.self.view_is in
     let shift : c.view-view.result.shift ≡ m.shift = ap (λ (v : View). v.shift) (c.view-view.ensures ∙ sym (ap (λ (s : Space). s.view) c.self.view_is)) in
     let long : length m.bytes.bytes ≡ length c.args.self.now.bytes = ap (λ (s : Space). length s.bytes) c.self.view_is in
-    ap length c.take_out-bytes.ensures.2 ∙ omega (arith, length-take c.args.range.len (drop i m.bytes.bytes), length-drop i m.bytes.bytes)
+    ap length c.take_out-bytes.ensures.0.0.2 ∙ omega (arith, length-take c.args.range.len (drop i m.bytes.bytes), length-drop i m.bytes.bytes)
 
 pub returns-clause-kept : goal.returns-clause-kept
 unfolding HasStatesOf
@@ -58,7 +57,7 @@ returns-clause-kept c k lo =
     let shift : c.view-view.result.shift ≡ m.shift = ap (λ (v : View). v.shift) (c.view-view.ensures ∙ sym (ap (λ (s : Space). s.view) c.self.view_is)) in
     let long : length m.bytes.bytes ≡ length now.bytes = ap (λ (s : Space). length s.bytes) c.self.view_is in
     let place : c.place.result - m.bytes.skip + k ≡ c.args.range.start + k - now.start = omega arith in
-    ap (λ cs. kept_at cs k) c.take_out-bytes.ensures.3 ∙ shifted-at (c.place.result - m.bytes.skip) m.bytes.out k ∙ (λ i. kept_at (c.self.view_is i).out (place i))
+    ap (λ cs. kept_at cs k) c.take_out-bytes.ensures.0.0.3 ∙ shifted-at (c.place.result - m.bytes.skip) m.bytes.out k ∙ (λ i. kept_at (c.self.view_is i).out (place i))
 
 pub returns-clause-full : goal.returns-clause-full
 unfolding HasStatesOf

@@ -24,4 +24,4 @@ take_units-units-requires c =
     let own : IsOwn m.bytes.out ((place + kept) / 16 * 16 - m.bytes.skip) (len - kept) =
     own-in m.bytes.out now (range_at (c.args.start + kept) (len - kept)) ((place + kept) / 16 * 16 - m.bytes.skip) (ap (λ (s : Space). s.out) c.self.view_is) (omega arith) at
     c.requires.own in
-    (omega arith, omega arith, omega arith, λ k lo hi. own k lo (omega (arith, hi, all)))
+    (((omega arith, omega arith), λ k lo hi. own k lo (omega (arith, hi, all))), omega arith)

@@ -21,4 +21,4 @@ take_units-units-requires c =
     let place : c.place.result / 16 * 16 - m.bytes.skip ≡ range.start - now.start = omega arith in
     let own : IsOwn m.bytes.out (c.place.result / 16 * 16 - m.bytes.skip) range.len =
     own-in m.bytes.out now range (c.place.result / 16 * 16 - m.bytes.skip) (ap (λ (s : Space). s.out) c.self.view_is) c.requires.place.0 place c.requires.own in
-    (omega arith, omega arith, omega arith, λ k lo hi. own k lo (omega (arith, hi, all)))
+    (((omega arith, omega arith), λ k lo hi. own k lo (omega (arith, hi, all))), omega arith)

@@ -13,10 +13,11 @@ use Rattle.rlsf_base.proofs.memory.part.Part.as_mut_slice.Goals as goal
 pub slice_mut-requires : goal.slice_mut-requires
 slice_mut-requires c = (
   c.self.invariant.place.0,
-  omega arith,
-  omega arith,
-  λ k lo hi. ap (λ (q : Piece). kept_at q.out k) c.self.view_is
-      ∙ c.requires k (omega arith) (omega (arith, hi, ap (λ (q : Piece). length q.bytes) c.self.view_is, c.self.invariant.whole.0)),
+  (
+    (omega arith, omega arith),
+    λ k lo hi. ap (λ (q : Piece). kept_at q.out k) c.self.view_is
+        ∙ c.requires k (omega arith) (omega (arith, hi, ap (λ (q : Piece). length q.bytes) c.self.view_is, c.self.invariant.whole.0)),
+  ),
 )
 
 as_long : (bs w : List ℕ) (i len : ℕ) → i + len ≤ length bs → length (refilled bs i len w) ≡ length bs

@@ -18,17 +18,17 @@ fill_bytes-requires c =
 pub invariant_of-self : goal.invariant_of-self
 invariant_of-self c =
     let is = c.self.invariant in let p = c.self.inside in let e = c.fill_bytes.ensures in
-    let long = ap length e.2 ∙ length-replicate p.range.len c.args.value in
+    let long = ap length e.0.2 ∙ length-replicate p.range.len c.args.value in
     record {
       lies = (
-        omega (arith, is.lies, ap (λ (u : ℕ × ℕ). u.0) e.5, ap (λ (u : ℕ × ℕ). u.1) e.5),
-        omega (arith, is.lies, ap (λ (u : ℕ × ℕ). u.0) e.5, ap (λ (u : ℕ × ℕ). u.1) e.5),
+        omega (arith, is.lies, ap (λ (u : ℕ × ℕ). u.0) e.0.4, ap (λ (u : ℕ × ℕ). u.1) e.0.4),
+        omega (arith, is.lies, ap (λ (u : ℕ × ℕ). u.0) e.0.4, ap (λ (u : ℕ × ℕ). u.1) e.0.4),
       );
-      first = omega (arith, is.first, ap (λ (u : ℕ × ℕ). u.0) e.5);
-      place = (is.place.0 ∙ sym e.0, e.1 ∙ c.place-place.ensures, e.4 ∙ is.place.2 ∙ (λ i. units_in p.view.shift (sym e.5 i).0 (sym e.5 i).1));
-      whole = (long, λ k lo hi. ap (λ cs. is_own (kept_at cs k)) e.3 ∙ ap is_own (none-out k));
-      small = omega (arith, is.small, e.1, is.place.1, c.place-place.ensures);
+      first = omega (arith, is.first, ap (λ (u : ℕ × ℕ). u.0) e.0.4);
+      place = (is.place.0 ∙ sym e.0.0, e.0.1 ∙ is.place.1, e.0.3 ∙ is.place.2 ∙ (λ i. units_in p.view.shift (sym e.0.4 i).0 (sym e.0.4 i).1));
+      whole = (long, λ k lo hi. ap (λ cs. is_own (kept_at cs k)) e.1 ∙ ap is_own (none-out k));
+      small = omega (arith, is.small, e.0.1);
     }
 
 pub returns-clause-full : goal.returns-clause-full
-returns-clause-full c k lo hi = ap (λ cs. kept_at cs k) c.fill_bytes.ensures.3 ∙ none-out k
+returns-clause-full c k lo hi = ap (λ cs. kept_at cs k) c.fill_bytes.ensures.1 ∙ none-out k
