@@ -29,7 +29,8 @@ fn extend_chunk<const FLLEN: usize, const SLLEN: usize>(
     len: usize,
 )
     requires parameters { IsValid 128 128 FLLEN SLLEN }
-    requires extensible { (s : State) × (c : Range) × StandsFor FLLEN SLLEN (contents memory.old table.old) s × IsExtensible FLLEN (range_of memory.old) s c len × (end_of c ≡ end) }
+    requires extensible { (s : State) × (c : Range) × StandsFor FLLEN SLLEN (contents memory.old table.old) s
+        × IsExtensible FLLEN (range_of memory.old) s c len × (end_of c ≡ end) }
     ensures step { AtEachExtensible FLLEN SLLEN memory.old table.old end len (λ s c. StandsAfter FLLEN SLLEN memory.old memory.new table.new s (grown c len s)) }
     ensures costs { Costs memory.old memory.new 34 0 }
 {

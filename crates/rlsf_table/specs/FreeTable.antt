@@ -41,6 +41,11 @@ abbrev pub AtEachNewest : ℕ → ℕ → Space → Table → ℕ → ℕ → �
 AtEachNewest fllen sllen m t block fl sl P = (r : Range) (before after : List Range) → r.start ≡ block → IsNewestAt fllen sllen r before fl sl
     → IsFreeTable fllen sllen m t (before ++ (r ∷ after)) → P r before after
 
+-- some list of free blocks has one at the address, the newest of the class at two indices
+abbrev pub HasNewest : ℕ → ℕ → Space → Table → ℕ → ℕ → ℕ → Type 0
+HasNewest fllen sllen m t block fl sl = (r : Range) × (before after : List Range) × (r.start ≡ block) × IsNewestAt fllen sllen r before fl sl
+    × IsFreeTable fllen sllen m t (before ++ (r ∷ after))
+
 -- the block is the newest free one, and no words were written but links of free blocks
 abbrev pub IsLinked : ℕ → ℕ → Space → Space → Table → Range → List Range → Type 0
 IsLinked fllen sllen m n t r free = HasTable fllen sllen n t (r ∷ free) × Rewrites m n (IsLink (r ∷ free))

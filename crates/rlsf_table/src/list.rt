@@ -8,8 +8,7 @@ ghost use Rattle.rlsf_model.specs.WellFormed.{coverage, itself};
 ghost use Rattle.rlsf_table.specs.Counts.{Costs};
 ghost use Rattle.rlsf_table.specs.Rewrites.{CanBeBlock};
 ghost use Rattle.rlsf_table.specs.Steps.ClassList.{unlinking_touches, AtEachFront, AtEachPlace, IsFirstOrOwn, IsFreeList, IsRelinked};
-ghost use Rattle.rlsf_table.specs.FreeTable.{AtEachListed, AtEachNewest, AtEachRoom, IsFreeTable, IsLinked, IsRoom, IsUnlinked};
-ghost use Rattle.rlsf_table.specs.Table.{IsNewestAt};
+ghost use Rattle.rlsf_table.specs.FreeTable.{AtEachListed, AtEachNewest, AtEachRoom, HasNewest, IsFreeTable, IsLinked, IsRoom, IsUnlinked};
 
 use crate::block_words::{NEXT_FREE, PREVIOUS_FREE};
 use crate::table::{ClassIndex, ClassTable};
@@ -143,7 +142,7 @@ pub fn unlink_newest_block<const FLLEN: usize, const SLLEN: usize>(
     class: ClassIndex,
 )
     requires parameters { IsValid 128 128 FLLEN SLLEN }
-    requires newest { (r : Range) × (before after : List Range) × (r.start ≡ block) × IsNewestAt FLLEN SLLEN r before class.fl class.sl × IsFreeTable FLLEN SLLEN memory.old table.old (before ++ r ∷ after) }
+    requires newest { HasNewest FLLEN SLLEN memory.old table.old block class.fl class.sl }
     requires view { view ≡ memory.old.view }
     ensures step { AtEachNewest FLLEN SLLEN memory.old table.old block class.fl class.sl (IsUnlinked FLLEN SLLEN memory.old memory.new table.new) }
     ensures costs { Costs memory.old memory.new 8 0 }
