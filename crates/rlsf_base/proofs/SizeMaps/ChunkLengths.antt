@@ -21,6 +21,16 @@ pub chunk_length-some : (fllen len : ℕ) → len < 2 ^ 64 → len ≤ 2 ^ (5 + 
 chunk_length-some fllen len word short =
     sym (cond-true _ (cond (leb len (2 ^ (5 + fllen))) (Some len) None) None (lt-ltb len (2 ^ 64) word) ∙ cond-true _ (Some len) None (le-leb len (2 ^ (5 + fllen)) short))
 
+-- no chunk is so long that its length doesn't fit in a word
+pub chunk_length-past : (fllen len : ℕ) → 2 ^ 64 ≤ len → None ≡ chunk_length fllen len
+chunk_length-past fllen len past = sym (cond-false _ (cond (leb len (2 ^ (5 + fllen))) (Some len) None) None (le-ltb len (2 ^ 64) past))
+
+-- there is a block for an object, and no chunk of so many
+pub objects-none : (fllen sllen count size block : ℕ) → Some block ≡ object_length fllen sllen size → None ≡ chunk_length fllen (count * block + 32)
+    → None ≡ pool_size_for_objects fllen sllen count size
+objects-none fllen sllen count size block object none =
+    ap (option_map (λ n. (n, block - 16))) none ∙ ap (option_and_then (objects_in fllen count)) object
+
 div_ceil-le : (n d : ℕ) → 0 < d → div_ceil n d ≤ n
 div_ceil-le n d some = elim (cases_lt n (div_ceil n d)) [
   | inl more ↦
@@ -65,7 +75,7 @@ chunk_length-is fllen n len told = elim (cases_lt n (2 ^ 64)) [
         (sym (cond-true _ (cond (leb n (2 ^ (5 + fllen))) (Some n) None) None (lt-ltb n (2 ^ 64) word) ∙ cond-false _ (Some n) None (lt-leb n (2 ^ (5 + fllen)) long)) ∙ told))
     | inr short ↦ same_Some n len (chunk_length-some fllen n word short ∙ told)
   ]
-  | inr past ↦ absurd (none-some len (sym (cond-false _ (cond (leb n (2 ^ (5 + fllen))) (Some n) None) None (le-ltb n (2 ^ 64) past)) ∙ told))
+  | inr past ↦ absurd (none-some len (chunk_length-past fllen n past ∙ told))
 ]
 
 -- and is not longer than the longest chunk
@@ -76,7 +86,7 @@ chunk_length-short fllen n len told = elim (cases_lt n (2 ^ 64)) [
         (sym (cond-true _ (cond (leb n (2 ^ (5 + fllen))) (Some n) None) None (lt-ltb n (2 ^ 64) word) ∙ cond-false _ (Some n) None (lt-leb n (2 ^ (5 + fllen)) long)) ∙ told))
     | inr short ↦ short
   ]
-  | inr past ↦ absurd (none-some len (sym (cond-false _ (cond (leb n (2 ^ (5 + fllen))) (Some n) None) None (le-ltb n (2 ^ 64) past)) ∙ told))
+  | inr past ↦ absurd (none-some len (chunk_length-past fllen n past ∙ told))
 ]
 
 -- the least size of the class that is taken for a size is taken for it
