@@ -1,11 +1,14 @@
-use Rattle.std.proofs.Common.{rules, ◌≡◌, ap, arith, refl}
+use Rattle.std.proofs.Common.{◌≡◌, ◌+◌, ◌-◌, ◌∙◌, ap, arith, drop, length, refl, sym, take}
+use Rattle.std.specs.List.{splice}
+use Rattle.rlsf_base.specs.Changes.{came_back}
 use Rattle.rlsf_base.specs.Range.{range_at}
-use Rattle.rlsf_base.specs.Space.{Space}
+use Rattle.rlsf_base.specs.Space.{Space, bytes_in, with_bytes}
 use Rattle.rlsf_base.specs.Steps.Block.{start_of}
 use Rattle.rlsf_base.specs.OpenSpace.{out_with}
 use Rattle.rlsf_base.proofs.Lending.Beside.{with-here, with-same_own, with-stays}
 use Rattle.rlsf_base.proofs.Lending.Memories.{with_contents}
-use Rattle.rlsf_base.proofs.Lending.Placed.{can_lend, can_write}
+use Rattle.rlsf_base.proofs.Lending.Placed.{can_lend, can_write, placed}
+use Rattle.rlsf_base.proofs.Words.Splices.{length-part, length-splice}
 use Rattle.rlsf_base.proofs.memory.open_memory.OpenMemory.copy_within.Goals as goal
 
 pub copy_bytes-requires : goal.copy_bytes-requires
@@ -15,26 +18,30 @@ copy_bytes-requires c =
     let to = can_write c.self.invariant c.self.view_is c.view-view.ensures (omega arith) there c.requires.to c.place-place.ensures c.requires.own in
     ((from.0, from.1.0, to.1.0, omega arith), ((from.1.1, to.1.1), refl))
 
-pub returns-clause-here : goal.returns-clause-here
-returns-clause-here c =
-    let m = c.self.inside in let now = c.args.self.now in let there = range_at c.args.to c.args.range.len in
-    let n : Space = with_contents now (start_of m.shift m.len_and_skip) c.copy_bytes.new.bytes.bytes c.copy_bytes.new.bytes.out in
-    let start : n.start ≡ now.start = ap (λ (s : Space). s.start) c.self.view_is in
-    let out : n.out ≡ out_with now there = search rules in
-    with-here now n there c.requires.to.0 start out
-
-pub returns-clause-stays : goal.returns-clause-stays
-returns-clause-stays c =
-    let m = c.self.inside in let now = c.args.self.now in let there = range_at c.args.to c.args.range.len in
-    let n : Space = with_contents now (start_of m.shift m.len_and_skip) c.copy_bytes.new.bytes.bytes c.copy_bytes.new.bytes.out in
-    let start : n.start ≡ now.start = ap (λ (s : Space). s.start) c.self.view_is in
-    let out : n.out ≡ out_with now there = search rules in
-    with-stays now n there c.requires.to.0 start out
-
-pub returns-clause-own : goal.returns-clause-own
-returns-clause-own c =
-    let m = c.self.inside in let now = c.args.self.now in let there = range_at c.args.to c.args.range.len in
-    let n : Space = with_contents now (start_of m.shift m.len_and_skip) c.copy_bytes.new.bytes.bytes c.copy_bytes.new.bytes.out in
-    let start : n.start ≡ now.start = ap (λ (s : Space). s.start) c.self.view_is in
-    let out : n.out ≡ out_with now there = search rules in
-    with-same_own now n there c.requires.to.0 start out c.requires.own
+pub returns : goal.returns
+returns c =
+    let m = c.self.inside in let now = c.args.self.now in let is = c.self.view_is in let range = c.args.range in let there = range_at c.args.to range.len in
+    let new = c.copy_bytes.new.bytes in let e = c.copy_bytes.ensures in let counted = c.count_copy.ensures in
+    let n : Space = with_contents now (start_of m.shift m.len_and_skip) new.bytes new.out in
+    let from : c.place-from.result - m.bytes.skip ≡ range.start - now.start =
+    placed c.self.invariant is c.view-view.ensures (omega arith) range c.requires.from c.place-from.ensures in
+    let to : c.place-place.result - m.bytes.skip ≡ c.args.to - now.start =
+    placed c.self.invariant is c.view-view.ensures (omega arith) there c.requires.to c.place-place.ensures in
+    let moved = bytes_in now range in
+    let long : length moved ≡ range.len = length-part range.len (range.start - now.start) now.bytes (omega (arith, c.requires.from)) in
+    let start : n.start ≡ now.start = ap (λ (s : Space). s.start) is in
+    let out : n.out ≡ out_with now there = e.1 ∙ (λ i. came_back (to i) range.len (is i).out) in
+    let bytes : n.bytes ≡ with_bytes now c.args.to moved =
+    e.0.2 ∙ (λ i. splice (is i).bytes (to i) (to i + sym long i) (take range.len (drop (from i) (is i).bytes))) in
+    record {
+      start = start;
+      bytes = bytes;
+      len = ap length bytes ∙ length-splice now.bytes moved (c.args.to - now.start) (length moved) (omega (arith, c.requires.to, long)) refl;
+      touches = counted.0 ∙ ap (λ (s : Space). s.touches) is;
+      copied = counted.1 ∙ ap (λ (s : Space). s.copied + range.len) is;
+      view = ap (λ (s : Space). s.view) is;
+      out = out;
+      own = with-same_own now n there c.requires.to.0 start out c.requires.own;
+      here = with-here now n there c.requires.to.0 start out;
+      stays = with-stays now n there c.requires.to.0 start out;
+    }

@@ -1,10 +1,13 @@
-use Rattle.std.proofs.Common.{◌≡◌, ℕ, ◌+◌, ◌-◌, ◌*◌, ◌%◌, ◌^◌, ◌≤◌, ◌∙◌, ap, arith, length, sym, subst, w64}
+use Rattle.std.proofs.Common.{◌≡◌, ℕ, ◌+◌, ◌-◌, ◌*◌, ◌%◌, ◌^◌, ◌≤◌, ◌∙◌, ap, arith, length, set, sym, subst, w64, false}
 use Rattle.std.specs.Int.{from_le_bytes}
 use denote.RawPtr.{◌+ₚ◌}
-use Rattle.rlsf_base.specs.Ledger.{IsIssued, extent}
+use Rattle.rlsf_base.specs.Changes.{came_raw}
+use Rattle.rlsf_base.specs.Ledger.{IsIssued, entry_of, extent}
+use Rattle.rlsf_base.specs.Out.{kept_at}
+use Rattle.rlsf_base.specs.declared.memory.view.View.{View}
 use Rattle.rlsf_base.specs.OpenSpace.{Home, IsReadable}
 use Rattle.rlsf_base.specs.Space.{Space, word_range}
-use Rattle.rlsf_base.specs.Steps.Block.{start_of}
+use Rattle.rlsf_base.specs.Steps.Block.{start_of, view_of}
 use Rattle.rlsf_base.proofs.Lending.WordIsHere.{word_at-is}
 use Rattle.rlsf_base.proofs.Lending.Placed.{bytes_there}
 use Rattle.rlsf_base.proofs.Lending.Present.{here-in}
@@ -55,8 +58,35 @@ slice_ahead-requires c =
       ((l.from, l.to), here-in m.bytes.out c.args.self.now (word_range (addr d)) _ (ap (λ (s : Space). s.out) c.self.view_is) (readable d).1.0 l.at (readable d).2),
     )
 
-pub returns-clause-word : goal.returns-clause-word
-returns-clause-word c =
-    let d = (goal.at.returns-clause-word c).After-self in let now = c.args.self.now in
-    let read = c.slice_ahead.ensures ∙ bytes_there c.self.view_is (word_range (addr d)) (word_lies d).at in
-    c.word_of-word.ensures ∙ ap (λ bs. from_le_bytes w64 bs) read ∙ sym (word_at-is now (addr d) (readable d).1.0 (readable d).2)
+pub returns : goal.returns
+returns c =
+    let d = (goal.at.returns c).After-self in
+    let now = c.args.self.now in let p = c.args.payload in let e = c.into_parts-units.ensures in let t = c.touch.ensures in let back = c.put_units.ensures in
+    let was = c.self.view_is in let is = c.self-2.view_is in let m = c.self-2.inside in let run = c.into_parts-units.result.1 in
+    let read = c.slice_ahead.ensures ∙ bytes_there was (word_range (addr d)) (word_lies d).at in
+    let start : start_of m.shift m.len_and_skip ≡ now.start = ap (λ (s : Space). s.start) is ∙ t.start in
+    let view : view_of m.base m.shift ≡ now.view = ap (λ (s : Space). s.view) is ∙ t.view in
+    let out : m.bytes.out ≡ now.out = ap (λ (s : Space). s.out) is ∙ t.out in
+    let shift : m.shift ≡ c.self.inside.shift = ap (λ (v : View). v.shift) (view ∙ sym (ap (λ (s : Space). s.view) was)) in
+    let place : run.first * 16 - m.bytes.skip ≡ p.start - now.start =
+    let first = starts d in let lies = p.placed.lies in let skip = c.self-2.invariant.lies.1 in let bounds = c.self-2.invariant.bounds in
+    let home : p.home.start ≡ now.start = ap (λ (h : Home). h.start) c.requires.home in
+    let whole : p.home.len ≡ length now.bytes = ap (λ (h : Home). h.len) c.requires.home in
+    let long : length m.bytes.bytes ≡ length now.bytes = ap (λ (s : Space). length s.bytes) is ∙ ap length t.bytes in
+    let all = c.self-2.invariant.whole in omega arith in
+    let many : run.count * 16 ≡ p.len = e.5 in
+    record {
+      issued = subst (λ (u : ℕ × (ℕ × ℕ × ℕ)). IsIssued c.args.ledger.now.entries u.0 (extent u.1.0 u.1.1 u.1.2)) (λ i. (e.7 i, (e.8 i, e.9 i, e.10 i))) c.redeem.ensures.issued;
+      ledger = (
+        c.redeem.ensures.name,
+        c.redeem.ensures.entries ∙ (λ i. set c.args.ledger.now.entries (e.7 i) (entry_of (extent (e.8 i) (e.9 i) (e.10 i)) false)),
+      );
+      word = c.word_of-word.ensures ∙ ap (λ bs. from_le_bytes w64 bs) read ∙ sym (word_at-is now (addr d) (readable d).1.0 (readable d).2);
+      away = λ a lo hi. ap (λ cs. kept_at cs (a - now.start)) (sym out) ∙ back.0 (a - now.start) (omega (arith, place, lo)) (omega (arith, place, many, lo, hi, p.placed.lies));
+      start = start;
+      bytes = back.1.0.2 ∙ ap (λ (s : Space). s.bytes) is ∙ t.bytes;
+      touches = ap (λ (s : Space). s.touches) is ∙ t.touches;
+      copied = ap (λ (s : Space). s.copied) is ∙ t.copied;
+      view = view;
+      out = back.1.1 ∙ (λ i. came_raw (place i) (many i) (out i));
+    }
