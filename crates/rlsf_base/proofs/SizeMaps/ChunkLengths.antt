@@ -31,6 +31,14 @@ pub objects-none : (fllen sllen count size block : ℕ) → Some block ≡ objec
 objects-none fllen sllen count size block object none =
     ap (option_map (λ n. (n, block - 16))) none ∙ ap (option_and_then (objects_in fllen count)) object
 
+-- what a chunk for payloads is, by its length
+pub payloads-are : (fllen sllen count size asked least : ℕ) {o : Option ℕ} → size ≡ asked → Some least ≡ map_ceil_and_unmap fllen sllen size
+    → o ≡ chunk_length fllen (payloads_length count size least)
+    → o ≡ option_and_then (λ n. chunk_length fllen (payloads_length count asked n)) (map_ceil_and_unmap fllen sllen asked)
+payloads-are fllen sllen count size asked least is told chunk =
+    chunk ∙ ap (option_and_then (λ n. chunk_length fllen (payloads_length count size n))) told
+    ∙ (λ i. option_and_then (λ n. chunk_length fllen (payloads_length count (is i) n)) (map_ceil_and_unmap fllen sllen (is i)))
+
 div_ceil-le : (n d : ℕ) → 0 < d → div_ceil n d ≤ n
 div_ceil-le n d some = elim (cases_lt n (div_ceil n d)) [
   | inl more ↦
