@@ -10,8 +10,9 @@ use Rattle.rlsf_model.proofs.Payloads.{IsUsed-after_start}
 use Rattle.rlsf_heap.specs.declared.thin.ThinPayload.{ThinPayload}
 use Rattle.rlsf_heap.specs.Heap.{HeapView, IsOwners, PayloadView, Stands, Steps, payload_range, payload_view}
 use Rattle.rlsf_heap.specs.Reallocation.{owned_by}
+use Rattle.rlsf_heap.specs.Replies.{IsReallocatedHere, KeepsHeap}
 use Rattle.rlsf_heap.specs.Settled.{IsSettled}
-use Rattle.rlsf_heap.specs.ThinReplies.{IsReallocatedHere, IsThinOf, KeepsHeap}
+use Rattle.rlsf_heap.specs.ThinReplies.{IsThinOf}
 
 -- the heap once three words were read
 abbrev pub found : HeapView → HeapView

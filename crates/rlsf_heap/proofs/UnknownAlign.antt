@@ -5,7 +5,8 @@ use Rattle.rlsf_model.specs.NoMove.{ReallocatesUnmovedBy, ReallocatesWithoutMove
 use Rattle.rlsf_model.specs.Reallocate.{Keeps, Plan}
 use Rattle.rlsf_model.specs.State.{State}
 use Rattle.rlsf_heap.specs.Heap.{HeapView, Identity, PayloadView, Steps}
-use Rattle.rlsf_heap.specs.ThinReplies.{IsReallocatedThin, IsThinOf, MovesElsewhere}
+use Rattle.rlsf_heap.specs.Replies.{IsReallocated}
+use Rattle.rlsf_heap.specs.ThinReplies.{IsThinOf, MovesElsewhere}
 use Rattle.rlsf_heap.specs.ThinUnknownAlign.{StaysOrMoves, StaysOrMovesBy}
 use Rattle.rlsf_heap.specs.declared.thin.ThinPayload.{ThinPayload}
 use Rattle.rlsf_heap.proofs.Reallocated.{Keeps-each}
@@ -63,9 +64,9 @@ ok_of (Err p) P Q is = tt
 
 -- a payload that moved is a reallocated one, also of the payload with the same bytes that was there before
 pub reallocated_ok : (r : Result ThinPayload ThinPayload) (state : State) (mid was : PayloadView) (size align : ℕ) (heap : Identity) → mid.bytes ≡ was.bytes
-    → IfOk r (IsThinOf heap align) → IfOk r (λ p. IsReallocatedThin state mid size align p.of) → IfOk r (λ p. IsReallocatedThin state was size p.of.align p.of)
+    → IfOk r (IsThinOf heap align) → IfOk r (λ p. IsReallocated state mid size align p.of) → IfOk r (λ p. IsReallocated state was size p.of.align p.of)
 reallocated_ok (Ok p) state mid was size align heap same thin made =
     let kept : Keeps was.bytes p.of.bytes = subst (λ (l : List ℕ). Keeps l p.of.bytes) same made.kept in
-    subst (λ a. IsReallocatedThin state was size a p.of) (sym thin.requested)
+    subst (λ a. IsReallocated state was size a p.of) (sym thin.requested)
     (record { live = made.live; long = made.long; aligned = made.aligned; sized = made.sized; few = made.few; kept = kept; each = Keeps-each was.bytes p.of.bytes kept })
 reallocated_ok (Err p) state mid was size align heap same thin made = tt

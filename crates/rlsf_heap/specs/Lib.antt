@@ -6,6 +6,7 @@ pub mod Reallocation
 pub mod Pools
 pub mod Raw
 pub mod Renewed
+pub mod Replies
 pub mod Settled
 pub mod Thin
 pub mod ThinReplies

@@ -1,17 +1,18 @@
 //! The heap: an allocator whose payloads leave its memory.
-ghost use Rattle.std.specs.Prelude.{[], ◌≡◌, ◌≢◌, ◌≤◌, ◌<◌, ◌+◌, ◌/◌, ◌%◌, ◌↔◌, ℕ, Some, None, length, replicate, IfErr, IfNone, IfOk, IfSome, IsOk, IsSome};
+ghost use Rattle.std.specs.Prelude.{[], ◌≡◌, ◌≢◌, ◌≤◌, ◌+◌, ◌/◌, ◌↔◌, ℕ, None, length, replicate, IfErr, IfNone, IfOk, IfSome, IsOk, IsSome};
 ghost use Rattle.rlsf_base.specs.Changes.{IsAllOwn};
 ghost use Rattle.rlsf_base.specs.OpenSpace.{home_of, IsOwned};
 ghost use Rattle.rlsf_base.specs.declared.memory.range.Range.{Range};
 ghost use Rattle.rlsf_base.specs.SizeClass.{IsValid};
 ghost use Rattle.rlsf_base.specs.Space.{range_of};
 ghost use Rattle.rlsf_model.specs.Allocate.{Allocates};
-ghost use Rattle.rlsf_model.specs.Callers.{align_at, bytes_at};
+ghost use Rattle.rlsf_model.specs.Callers.{align_at};
 ghost use Rattle.rlsf_model.specs.Insert.{IsUntouched};
 ghost use Rattle.rlsf_model.specs.Release.{Deallocates};
 ghost use Rattle.rlsf_model.specs.Sized.{IsSizedFor, live_count};
 ghost use Rattle.rlsf_model.specs.State.{empty};
 ghost use Rattle.rlsf_heap.specs.Heap.{addr_of, IsOwners, IsWritten};
+ghost use Rattle.rlsf_heap.specs.Replies.{IsAllocated, KeepsHeap};
 ghost use Rattle.rlsf_heap.specs.Settled.{IsSettled};
 
 use crate::payload::Payload;
@@ -141,27 +142,15 @@ impl<FLBitmap: BitPattern, SLBitmap: BitPattern, const FLLEN: usize, const SLLEN
     #[inline(always)]
     pub fn allocate(&mut self, layout: Layout) -> Option<Payload>
         ensures step { Steps FLLEN SLLEN self.new (Allocates SLLEN self.old.state layout.size layout.align (addr_of result)) }
-        ensures identity { self.new.identity ≡ self.old.identity }
-        ensures place { (self.new.memory.start ≡ self.old.memory.start) × (length self.new.memory.bytes ≡ length self.old.memory.bytes) }
-        ensures settled { IsSettled self.old.memory → IsSettled self.new.memory }
+        ensures payload { IfSome result (λ p. IsAllocated self.old self.new layout.size layout.align p) }
+        ensures heap { KeepsHeap SLLEN layout.size layout.align self.old self.new }
         ensures written { IsSettled self.old.memory → IfSome result (λ p. IsWritten p) }
-        ensures payload { IfSome result (λ p. p.identity ≡ self.old.identity) }
-        ensures live { IfSome result (λ p. align_at self.new.state p.start ≡ Some layout.align) }
-        ensures align { IfSome result (λ p. p.align ≡ layout.align) }
-        ensures long { IfSome result (λ p. length p.bytes ≡ length (bytes_at self.new.state p.start)) }
-        ensures aligned { IfSome result (λ p. p.start % layout.align ≡ 0) }
-        ensures sized { IfSome result (λ p. layout.size ≤ length p.bytes) }
-        ensures few { IfSome result (λ p. length p.bytes < layout.size + 32) }
-        ensures new { IfSome result (λ p. align_at self.old.state p.start ≡ None) }
         ensures aligns { IfSome result (λ p. (a : ℕ) → a ≢ p.start → align_at self.new.state a ≡ align_at self.old.state a) }
-        ensures room { (count size align : ℕ) → IsSizedFor SLLEN count size align self.old.state → live_count self.old.state ≤ count → layout.size ≤ size → layout.align ≤ align → IsSome result }
-        ensures count { IfSome result (λ p. live_count self.new.state ≡ live_count self.old.state + 1) }
-        ensures bounds { (count size align : ℕ) → IsSizedFor SLLEN count size align self.old.state → layout.size ≤ size → layout.align ≤ align → IsSizedFor SLLEN count size align self.new.state }
-        ensures chunks { self.new.state.chunks ≡ self.old.state.chunks }
+        ensures room { (count most wide : ℕ) → IsSizedFor SLLEN count most wide self.old.state → live_count self.old.state ≤ count
+            → layout.size ≤ most → layout.align ≤ wide → IsSome result }
         ensures same { IfNone result (self.new.state ≡ self.old.state) }
         ensures refused { IfNone result (self.new.memory.bytes ≡ self.old.memory.bytes) }
         ensures touches { self.new.memory.touches ≤ self.old.memory.touches + 30 }
-        ensures grow { self.old.memory.touches ≤ self.new.memory.touches }
         ensures copied { self.new.memory.copied ≡ self.old.memory.copied }
     {
         let view = self.memory.view();
@@ -180,29 +169,17 @@ impl<FLBitmap: BitPattern, SLBitmap: BitPattern, const FLLEN: usize, const SLLEN
     /// Returns `None` if and only if `allocate` does.
     pub fn allocate_zeroed(&mut self, layout: Layout) -> Option<Payload>
         ensures step { Steps FLLEN SLLEN self.new (Allocates SLLEN self.old.state layout.size layout.align (addr_of result)) }
-        ensures identity { self.new.identity ≡ self.old.identity }
-        ensures place { (self.new.memory.start ≡ self.old.memory.start) × (length self.new.memory.bytes ≡ length self.old.memory.bytes) }
-        ensures settled { IsSettled self.old.memory → IsSettled self.new.memory }
-        ensures payload { IfSome result (λ p. p.identity ≡ self.old.identity) }
+        ensures payload { IfSome result (λ p. IsAllocated self.old self.new layout.size layout.align p) }
+        ensures heap { KeepsHeap SLLEN layout.size layout.align self.old self.new }
         ensures written { IfSome result (λ p. IsWritten p) }
         ensures zeros { IfSome result (λ p. p.bytes ≡ replicate (length p.bytes) 0) }
-        ensures live { IfSome result (λ p. align_at self.new.state p.start ≡ Some layout.align) }
-        ensures align { IfSome result (λ p. p.align ≡ layout.align) }
-        ensures long { IfSome result (λ p. length p.bytes ≡ length (bytes_at self.new.state p.start)) }
-        ensures aligned { IfSome result (λ p. p.start % layout.align ≡ 0) }
-        ensures sized { IfSome result (λ p. layout.size ≤ length p.bytes) }
-        ensures few { IfSome result (λ p. length p.bytes < layout.size + 32) }
-        ensures new { IfSome result (λ p. align_at self.old.state p.start ≡ None) }
         ensures aligns { IfSome result (λ p. (a : ℕ) → a ≢ p.start → align_at self.new.state a ≡ align_at self.old.state a) }
-        ensures room { (count size align : ℕ) → IsSizedFor SLLEN count size align self.old.state → live_count self.old.state ≤ count → layout.size ≤ size → layout.align ≤ align → IsSome result }
-        ensures count { IfSome result (λ p. live_count self.new.state ≡ live_count self.old.state + 1) }
-        ensures bounds { (count size align : ℕ) → IsSizedFor SLLEN count size align self.old.state → layout.size ≤ size → layout.align ≤ align → IsSizedFor SLLEN count size align self.new.state }
-        ensures chunks { self.new.state.chunks ≡ self.old.state.chunks }
+        ensures room { (count most wide : ℕ) → IsSizedFor SLLEN count most wide self.old.state → live_count self.old.state ≤ count
+            → layout.size ≤ most → layout.align ≤ wide → IsSome result }
         ensures same { IfNone result (self.new.state ≡ self.old.state) }
         ensures refused { IfNone result (self.new.memory.bytes ≡ self.old.memory.bytes) }
         ensures few_touches { IfNone result (self.new.memory.touches ≤ self.old.memory.touches + 30) }
         ensures touches { IfSome result (λ p. self.new.memory.touches ≤ self.old.memory.touches + 30 + length p.bytes / 8) }
-        ensures grow { self.old.memory.touches ≤ self.new.memory.touches }
         ensures copied { self.new.memory.copied ≡ self.old.memory.copied }
     {
         let mut payload = self.allocate(layout)?;

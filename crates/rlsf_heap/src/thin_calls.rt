@@ -6,9 +6,10 @@ ghost use Rattle.rlsf_model.specs.Callers.{align_at, bytes_at};
 ghost use Rattle.rlsf_model.specs.Release.{Deallocates};
 ghost use Rattle.rlsf_model.specs.Sized.{IsSizedFor, live_count};
 ghost use Rattle.rlsf_heap.specs.Heap.{IsOwners, IsTicketOf, IsWritten, payload_view};
+ghost use Rattle.rlsf_heap.specs.Replies.{IsAllocated, KeepsHeap};
 ghost use Rattle.rlsf_heap.specs.Settled.{IsSettled};
 ghost use Rattle.rlsf_heap.specs.Thin.{reply_of};
-ghost use Rattle.rlsf_heap.specs.ThinReplies.{AllocationLeaves, IsAllocatedThin, KeepsHeap};
+ghost use Rattle.rlsf_heap.specs.ThinReplies.{AllocationLeaves};
 
 use crate::heap::Heap;
 use crate::thin::ThinPayload;
@@ -32,7 +33,7 @@ impl<FLBitmap: BitPattern, SLBitmap: BitPattern, const FLLEN: usize, const SLLEN
     pub fn allocate_thin(&mut self, layout: Layout) -> ThinPayload
         ensures step { Steps FLLEN SLLEN self.new (Allocates SLLEN self.old.state layout.size layout.align (reply_of result.of.start)) }
         ensures at { result.addr ≡ result.of.start }
-        ensures payload { result.of.start ≢ 0 → IsAllocatedThin self.old self.new layout.size layout.align result.of }
+        ensures payload { result.of.start ≢ 0 → IsAllocated self.old self.new layout.size layout.align result.of }
         ensures heap { KeepsHeap SLLEN layout.size layout.align self.old self.new }
         ensures leaves { AllocationLeaves SLLEN layout.size layout.align self.old self.new result.of.start }
         ensures written { IsSettled self.old.memory → result.of.start ≢ 0 → IsWritten result.of }
@@ -51,7 +52,7 @@ impl<FLBitmap: BitPattern, SLBitmap: BitPattern, const FLLEN: usize, const SLLEN
     pub fn allocate_thin_zeroed(&mut self, layout: Layout) -> ThinPayload
         ensures step { Steps FLLEN SLLEN self.new (Allocates SLLEN self.old.state layout.size layout.align (reply_of result.of.start)) }
         ensures at { result.addr ≡ result.of.start }
-        ensures payload { result.of.start ≢ 0 → IsAllocatedThin self.old self.new layout.size layout.align result.of }
+        ensures payload { result.of.start ≢ 0 → IsAllocated self.old self.new layout.size layout.align result.of }
         ensures heap { KeepsHeap SLLEN layout.size layout.align self.old self.new }
         ensures leaves { AllocationLeaves SLLEN layout.size layout.align self.old self.new result.of.start }
         ensures written { result.of.start ≢ 0 → IsWritten result.of }

@@ -7,9 +7,9 @@ ghost use Rattle.rlsf_model.specs.Reallocate.{Keeps, Reallocates};
 ghost use Rattle.rlsf_model.specs.Sized.{IsSizedFor, live_count};
 ghost use Rattle.rlsf_heap.specs.Heap.{IsWritten};
 ghost use Rattle.rlsf_heap.specs.Reallocation.{owned_by};
+ghost use Rattle.rlsf_heap.specs.Replies.{CopiesToMove, IsReallocated, IsReallocatedHere, IsReturned, KeepsHeap, LeavesOthers};
 ghost use Rattle.rlsf_heap.specs.Settled.{IsSettled};
-ghost use Rattle.rlsf_heap.specs.ThinReplies.{CopiesToMove, IsReallocatedHere, IsReallocatedThin, IsRefusedThin, IsThinOf, KeepsHeap, LeavesOthers};
-ghost use Rattle.rlsf_heap.specs.ThinReplies.{MovesElsewhere, thin_moved_to};
+ghost use Rattle.rlsf_heap.specs.ThinReplies.{IsThinOf, MovesElsewhere, thin_moved_to};
 
 use crate::heap::Heap;
 use crate::payload::Payload;
@@ -64,10 +64,10 @@ impl<FLBitmap: BitPattern, SLBitmap: BitPattern, const FLLEN: usize, const SLLEN
         ensures room { (count most wide : ℕ) → IsSizedFor SLLEN count most wide self.old.state → live_count self.old.state ≤ count
             → size ≤ most → align ≤ wide → IsLayout size align → IsOk result }
         ensures thin { MatchResult result (λ p. IsThinOf self.old.identity align p) (λ p. IsThinOf self.old.identity align p) }
-        ensures payload { IfOk result (λ p. IsReallocatedThin self.new.state payload.of size align p.of) }
+        ensures payload { IfOk result (λ p. IsReallocated self.new.state payload.of size align p.of) }
         ensures here { IfOk result (λ p. IsReallocatedHere self.old payload.of p.of) }
         ensures others { IfOk result (λ p. LeavesOthers self.old.state self.new.state addr p.of.start) }
-        ensures refused { IfErr result (λ p. IsRefusedThin self.old.state self.new.state addr payload.of p.of) }
+        ensures refused { IfErr result (λ p. IsReturned self.old.state self.new.state addr payload.of p.of) }
         ensures heap { KeepsHeap SLLEN size align self.old self.new }
         ensures count { live_count self.new.state ≡ live_count self.old.state }
         ensures touches { self.new.memory.touches ≤ self.old.memory.touches + 72 }
@@ -102,10 +102,10 @@ impl<FLBitmap: BitPattern, SLBitmap: BitPattern, const FLLEN: usize, const SLLEN
         ensures layout { IsOk result → IsLayout size align }
         ensures thin { MatchResult result (λ p. IsThinOf self.old.identity align p) (λ p. IsThinOf self.old.identity align p) }
         ensures there { MatchResult result (λ p. p.of.start ≡ addr) (λ p. p.of.start ≡ addr) }
-        ensures payload { IfOk result (λ p. IsReallocatedThin self.new.state payload.of size align p.of) }
+        ensures payload { IfOk result (λ p. IsReallocated self.new.state payload.of size align p.of) }
         ensures here { IfOk result (λ p. IsReallocatedHere self.old payload.of p.of) }
         ensures aligns { align_at self.new.state ≡ align_at self.old.state }
-        ensures refused { IfErr result (λ p. IsRefusedThin self.old.state self.new.state addr payload.of p.of) }
+        ensures refused { IfErr result (λ p. IsReturned self.old.state self.new.state addr payload.of p.of) }
         ensures heap { KeepsHeap SLLEN size align self.old self.new }
         ensures count { live_count self.new.state ≡ live_count self.old.state }
         ensures touches { self.new.memory.touches ≤ self.old.memory.touches + 31 }
@@ -140,7 +140,7 @@ impl<FLBitmap: BitPattern, SLBitmap: BitPattern, const FLLEN: usize, const SLLEN
         ensures room { (count most wide : ℕ) → IsSizedFor SLLEN count most wide self.old.state → live_count self.old.state ≤ count
             → layout.size ≤ most → layout.align ≤ wide → IsOk result }
         ensures thin { MatchResult result (λ p. IsThinOf self.old.identity layout.align p) (λ p. IsThinOf self.old.identity payload.of.align p) }
-        ensures payload { IfOk result (λ p. IsReallocatedThin self.new.state payload.of layout.size layout.align p.of) }
+        ensures payload { IfOk result (λ p. IsReallocated self.new.state payload.of layout.size layout.align p.of) }
         ensures written { IfOk result (λ p. IsWritten p.of) }
         ensures gone { IfOk result (λ p. (p.of.start ≢ addr) × (align_at self.new.state addr ≡ None)) }
         ensures others { IfOk result (λ p. LeavesOthers self.old.state self.new.state addr p.of.start) }

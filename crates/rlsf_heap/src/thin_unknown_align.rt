@@ -13,8 +13,9 @@ ghost use Rattle.rlsf_blocks.specs.StandsFor.{contents, StandsFor};
 ghost use Rattle.rlsf_reallocate.specs.Steps.Resize.{IsResized};
 ghost use Rattle.rlsf_heap.specs.Heap.{IsWritten};
 ghost use Rattle.rlsf_heap.specs.Reallocation.{IsKeptHere, owned_by};
+ghost use Rattle.rlsf_heap.specs.Replies.{IsReallocated};
 ghost use Rattle.rlsf_heap.specs.Settled.{IsSettled};
-ghost use Rattle.rlsf_heap.specs.ThinReplies.{IsReallocatedThin, thin_moved_to};
+ghost use Rattle.rlsf_heap.specs.ThinReplies.{thin_moved_to};
 ghost use Rattle.rlsf_heap.specs.ThinUnknownAlign.{AtEachHeld, renewed_entries, StaysOrMoves};
 
 use crate::heap::Heap;
@@ -101,7 +102,7 @@ impl<FLBitmap: BitPattern, SLBitmap: BitPattern, const FLLEN: usize, const SLLEN
         ensures there { MatchResult result (λ p. p.of.start ≡ addr) (λ p. p.of.start ≡ addr) }
         ensures back { IfErr result (λ p. (p.of.bytes ≡ payload.of.bytes) × IsWritten p.of) }
         ensures live { align_at self.old.state addr ≡ Some payload.of.align }
-        ensures resized { IfOk result (λ p. IsReallocatedThin self.new.state payload.of layout.size payload.of.align p.of) }
+        ensures resized { IfOk result (λ p. IsReallocated self.new.state payload.of layout.size payload.of.align p.of) }
         ensures here { IfOk result (λ p. IsKeptHere payload.of p.of) }
         ensures shrunk { IfOk result (λ p. length p.of.bytes ≤ length payload.of.bytes → IsWritten p.of) }
         ensures written { IsSettled self.old.memory → IfOk result (λ p. IsWritten p.of) }
@@ -170,7 +171,7 @@ impl<FLBitmap: BitPattern, SLBitmap: BitPattern, const FLLEN: usize, const SLLEN
         ensures moved { IfOk result (λ p. p.of.start ≢ addr → p.of.align ≡ layout.align) }
         ensures back { IfErr result (λ p. (p.of.start ≡ addr) × (p.of.align ≡ payload.of.align) × (p.of.bytes ≡ payload.of.bytes) × IsWritten p.of) }
         ensures live { align_at self.old.state addr ≡ Some payload.of.align }
-        ensures resized { IfOk result (λ p. IsReallocatedThin self.new.state payload.of layout.size p.of.align p.of) }
+        ensures resized { IfOk result (λ p. IsReallocated self.new.state payload.of layout.size p.of.align p.of) }
         ensures gone { IfOk result (λ p. p.of.start ≢ addr → align_at self.new.state addr ≡ None) }
         ensures written { IfOk result (λ p. IsWritten p.of) }
         ensures settled { IsSettled self.new.memory }

@@ -15,9 +15,10 @@ use Rattle.rlsf_model.specs.Release.{Deallocates}
 use Rattle.rlsf_model.specs.Sized.{live_count}
 use Rattle.rlsf_model.specs.State.{State}
 use Rattle.rlsf_heap.specs.Heap.{HeapView, IsWritten, PayloadView, Steps}
+use Rattle.rlsf_heap.specs.Replies.{IsAllocated, KeepsHeap}
 use Rattle.rlsf_heap.specs.Settled.{IsSettled}
 use Rattle.rlsf_heap.specs.Thin.{reply_of}
-use Rattle.rlsf_heap.specs.ThinReplies.{AllocationLeaves, IsAllocatedThin, KeepsHeap}
+use Rattle.rlsf_heap.specs.ThinReplies.{AllocationLeaves}
 use Rattle.rlsf_malloc.specs.Calls.{Adds, Allocates, Frees, IsFresh, IsOver, IsReady, IsSameHeap}
 
 -- a step leads to the state after
@@ -65,7 +66,7 @@ kept_heap {old = old} {new = new} kept ready = same_heap old new kept.identity k
 
 pub allocated : (fllen sllen : ℕ) (old new : HeapView) (size align : ℕ) (p : PayloadView) → IsReady old → IsLayout size align
     → Steps fllen sllen new (machine.Allocates sllen old.state size align (reply_of p.start)) → (p.start ≢ 0 → IsWritten p)
-    → (p.start ≢ 0 → IsAllocatedThin old new size align p) → KeepsHeap sllen size align old new → AllocationLeaves sllen size align old new p.start
+    → (p.start ≢ 0 → IsAllocated old new size align p) → KeepsHeap sllen size align old new → AllocationLeaves sllen size align old new p.start
     → Allocates sllen old size align p new
 allocated fllen sllen old new size align p ready layout step written made heap leaves = record {
   no_layout = λ never. absurd (never layout);

@@ -8,8 +8,9 @@ use Rattle.rlsf_model.specs.Sized.{live_count}
 use Rattle.rlsf_model.specs.State.{AreAlike}
 use Rattle.rlsf_heap.specs.Heap.{HeapView, IsWritten, PayloadView}
 use Rattle.rlsf_heap.specs.Reallocation.{owned_by}
+use Rattle.rlsf_heap.specs.Replies.{IsReallocated, IsReturned, LeavesOthers}
 use Rattle.rlsf_heap.specs.Thin.{reply_of}
-use Rattle.rlsf_heap.specs.ThinReplies.{IsReallocatedThin, IsRefusedThin, IsThinOf, LeavesOthers}
+use Rattle.rlsf_heap.specs.ThinReplies.{IsThinOf}
 use Rattle.rlsf_heap.specs.declared.thin.ThinPayload.{ThinPayload}
 use Rattle.rlsf_heap.specs.ThinUnknownAlign.{StaysOrMoves}
 use Rattle.rlsf_malloc.specs.Calls.{IsSameHeap}
@@ -18,7 +19,7 @@ use Rattle.rlsf_malloc.proofs.Outcomes.{reply_some}
 
 module _ (old new : HeapView) (same : IsSameHeap old new) (p : PayloadView) (addr : ℕ) (at : p.start ≡ addr) (some : addr ≢ 0) (size : ℕ) where
   -- the payload has its new size
-  pub is_resized : (align : ℕ) (r : ThinPayload) → IsThinOf old.identity align r → IsReallocatedThin new.state p size align r.of → IsWritten r.of
+  pub is_resized : (align : ℕ) (r : ThinPayload) → IsThinOf old.identity align r → IsReallocated new.state p size align r.of → IsWritten r.of
       → LeavesOthers old.state new.state addr r.of.start → (r.of.start ≢ addr → align_at new.state addr ≡ None) → IsResized old p size align r.of new
   is_resized align r thin made written others gone = record {
     at = record { start = refl; heap = λ _. thin.identity ∙ sym same.identity; written = λ _. written };
@@ -31,7 +32,7 @@ module _ (old new : HeapView) (same : IsSameHeap old new) (p : PayloadView) (add
 
   -- it is as it was
   pub is_refused : (align : ℕ) (r : ThinPayload) → p.identity ≡ old.identity → p.align ≡ align → IsThinOf old.identity align r
-      → IsRefusedThin old.state new.state addr p r.of → IsRefused old p r.of new
+      → IsReturned old.state new.state addr p r.of → IsRefused old p r.of new
   is_refused align r heap wide thin refused = record {
     kept = record {
       heap = thin.identity ∙ sym heap;

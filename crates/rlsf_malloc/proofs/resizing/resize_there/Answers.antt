@@ -1,7 +1,8 @@
 use Rattle.std.proofs.Common.{◌≡◌, arith, Some, None, true≢false, refl, sym, subst, ◌∙◌}
 use Rattle.rlsf_model.specs.NoMove.{ReallocatesWithoutMove}
 use Rattle.rlsf_heap.specs.Reallocation.{owned_by}
-use Rattle.rlsf_heap.specs.ThinReplies.{IsReallocatedThin, IsThinOf, LeavesOthers}
+use Rattle.rlsf_heap.specs.Replies.{IsReallocated, LeavesOthers}
+use Rattle.rlsf_heap.specs.ThinReplies.{IsThinOf}
 use Rattle.rlsf_malloc.proofs.Outcomes.{same_heap, step_of}
 use Rattle.rlsf_malloc.proofs.Reallocated.{is_refused, is_resized, not_resized_there, resized_there}
 use Rattle.rlsf_malloc.proofs.resizing.resize_there.Goals as goal
@@ -18,7 +19,7 @@ returns-in-Ok-resize_thin_unknown_align g c =
     subst (λ s. ReallocatesWithoutMove (owned_by old.state p) addr s (Some r.of.start) new.state) shape.0
     (step_of g.row.FLLEN g.row.SLLEN new (λ t. ReallocatesWithoutMove (owned_by old.state p) addr layout.size (Some r.of.start) t) did.step) in
     let thin : IsThinOf old.identity p.align r = record { at = did.at; identity = did.payload; requested = did.align } in
-    let made : IsReallocatedThin new.state p size p.align r.of = subst (λ s. IsReallocatedThin new.state p s p.align r.of) shape.0 did.resized in
+    let made : IsReallocated new.state p size p.align r.of = subst (λ s. IsReallocated new.state p s p.align r.of) shape.0 did.resized in
     let others : LeavesOthers old.state new.state addr r.of.start =
     record { some = λ e. some (sym did.there ∙ e); new = λ off. absurd (off did.there); aligns = λ a off off_new i. did.aligns i a } in
     resized_there old new same p addr is.start some size r.of r.addr did.at did.there (c.in-Ok.ensures.succeeds.0 refl) step

@@ -1,6 +1,7 @@
 use Rattle.std.proofs.Common.{◌≡◌, arith, Some, None, refl, sym, subst, ◌∙◌}
 use Rattle.rlsf_heap.specs.Reallocation.{owned_by}
-use Rattle.rlsf_heap.specs.ThinReplies.{IsReallocatedThin, IsThinOf, LeavesOthers}
+use Rattle.rlsf_heap.specs.Replies.{IsReallocated, LeavesOthers}
+use Rattle.rlsf_heap.specs.ThinReplies.{IsThinOf}
 use Rattle.rlsf_heap.specs.ThinUnknownAlign.{StaysOrMoves}
 use Rattle.rlsf_malloc.proofs.Outcomes.{same_heap, step_of}
 use Rattle.rlsf_malloc.proofs.Reallocated.{is_refused, is_resized, not_resized_wide, resized_wide}
@@ -19,7 +20,7 @@ returns-in-Ok-reallocate_thin_unknown_align g c =
     (subst (λ a. StaysOrMoves sllen (owned_by old.state p) addr layout.size a (Some r.of.start) new.state) shape.1
     (step_of g.row.FLLEN sllen new (λ t. StaysOrMoves sllen (owned_by old.state p) addr layout.size layout.align (Some r.of.start) t) did.step)) in
     let thin : IsThinOf old.identity r.of.align r = record { at = did.at; identity = did.payload; requested = refl } in
-    let made : IsReallocatedThin new.state p size r.of.align r.of = subst (λ s. IsReallocatedThin new.state p s r.of.align r.of) shape.0 did.resized in
+    let made : IsReallocated new.state p size r.of.align r.of = subst (λ s. IsReallocated new.state p s r.of.align r.of) shape.0 did.resized in
     let others : LeavesOthers old.state new.state addr r.of.start = record { some = did.some; new = did.new; aligns = did.aligns } in
     resized_wide old new same p addr is.start some size sllen r.of r.addr did.at did.some (c.in-Ok.ensures.succeeds.0 refl) step
     (λ long. did.enough (omega (arith, long, shape.0))) did.there (λ apart. did.moved apart ∙ shape.1)

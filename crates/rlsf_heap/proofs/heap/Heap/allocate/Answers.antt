@@ -11,7 +11,7 @@ use Rattle.rlsf_blocks.specs.StandsFor.{contents, StandsFor}
 use Rattle.rlsf_tlsf.specs.Steps.Moves.{allocated, bare}
 use Rattle.rlsf_tlsf.proofs.Moved.{allocated-bare}
 use Rattle.rlsf_heap.specs.Heap.{AreIssued, HeapView, Steps, addr_of, heap_view}
-use Rattle.rlsf_heap.proofs.Allocated.{IsHeap-refused, SeesPlaced, Steps-refused, long_placed, none_refused, seen_placed, sized_refused}
+use Rattle.rlsf_heap.proofs.Allocated.{IsHeap-refused, SeesPlaced, Steps-refused, long_placed, none_refused, refused, seen_placed, sized_refused}
 use Rattle.rlsf_heap.proofs.Allocated.{Placing, at_new, is_new, issued-new, new, one_more, new-here, new-lies, placing-counted, stands-left}
 use Rattle.rlsf_heap.proofs.Costs.{Leaves, is_of_heap, sees_left}
 use Rattle.rlsf_heap.proofs.Arrivals.{IsHeap-arrived, bare-kept}
@@ -41,10 +41,22 @@ returns-in_err-addr-clause-room g c = λ count size align sized few short fits.
     let (t, step, stands, spare) = c.in_err-addr.ensures.step (read_from c.self.inside.memory c.self.inside.state.state) c.self.invariant.stands in
     absurd (none_refused c.self.invariant c.args.layout.size c.args.layout.align step stands c.args.self.now c.self.view_is count size align sized few short fits)
 
-pub returns-in_err-addr-clause-bounds : goal.returns-in_err-addr-clause-bounds
-returns-in_err-addr-clause-bounds g c = λ count size align sized short fits.
+pub returns-in_err-addr-clause-heap : goal.returns-in_err-addr-clause-heap
+returns-in_err-addr-clause-heap g c =
     let (t, step, stands, spare) = c.in_err-addr.ensures.step (read_from c.self.inside.memory c.self.inside.state.state) c.self.invariant.stands in
-    sized_refused c.self.invariant c.args.layout.size c.args.layout.align step stands c.args.self.now c.self.view_is count size align sized
+    let a = c.in_err-addr.ensures.costs in
+    let left : Leaves c.self.inside.memory c.allocate_block.new.memory 27 = record { start = a.start; length = a.length; view = a.view; touches = a.touches; grow = a.grow } in
+    let o = sees_left c.self.inside.memory c.allocate_block.new.memory c.self.inside.table c.allocate_block.new.table c.self.inside.state.state c.self.inside.state.state
+    c.self.inside.ledger.name c.self.inside.ledger.name 27 left refl c.args.self.now c.self.view_is in
+    let stays : Stays c.self.inside.memory c.allocate_block.new.memory = record { start = a.start; own = c.in_err-addr.ensures.own; here = c.in_err-addr.ensures.here } in
+    let same = refused c.self.invariant c.args.layout.size c.args.layout.align step stands c.args.self.now c.self.view_is in record {
+      identity = o.identity;
+      place = o.place;
+      settled = λ settled. settled-stays stays (settled-inside c.self.inside.state.state c.args.self.now c.self.view_is settled);
+      bounds = λ count most wide sized short fits. sized_refused c.self.invariant c.args.layout.size c.args.layout.align step stands c.args.self.now c.self.view_is count most wide sized;
+      chunks = ap (λ (s : State). s.chunks) same.1;
+      grow = o.grow;
+    }
 
 -- ---- a payload is placed
 
@@ -161,12 +173,6 @@ long g c =
 
 -- ---- no byte is raw, if none was
 
-pub returns-in_err-addr-clause-settled : goal.returns-in_err-addr-clause-settled
-returns-in_err-addr-clause-settled g c = λ settled.
-    let e = c.in_err-addr.ensures in
-    let stays : Stays c.self.inside.memory c.allocate_block.new.memory = record { start = e.costs.start; own = e.own; here = e.here } in
-    settled-stays stays (settled-inside c.self.inside.state.state c.args.self.now c.self.view_is settled)
-
 -- before its bytes leave
 settled_read : (g : given.Over) (c : After-hand_over-payload g) → IsSettled c.args.self.now.memory → IsSettled c.load_usable_of-range.new.memory
 settled_read g c settled =
@@ -210,31 +216,36 @@ returns g c =
     let o = sees_left c.self.inside.memory c.hand_over-payload.new.memory c.self.inside.table c.allocate_block.new.table c.self.inside.state.state c.allocate.new.self.state
     c.self.inside.ledger.name c.hand_over-payload.new.ledger.name 30 (left g c) c.hand_over-payload.ensures.name c.args.self.now c.self.view_is in record {
       step = p.step;
-      identity = o.identity;
-      place = o.place;
-      settled = λ settled. settled-left c.load_usable_of-range.new.memory c.hand_over-payload.new.memory c.load_usable_of-range.result c.hand_over-payload.ensures.over.start
-          (low_range g c) c.hand_over-payload.ensures.over.out (settled_read g c settled);
+      payload = record {
+        identity =
+            is_of_heap c.self.inside.memory c.load_usable_of-range.new.memory c.self.inside.table c.self.inside.state.state c.self.inside.ledger.name
+            c.self.inside.ledger.name 30 (left_first g c) refl c.args.self.now c.self.view_is (home_of c.load_usable_of-range.new.memory) refl
+            c.hand_over-payload.result.identity e.identity;
+        live = p.seen.live;
+        requested = e.align ∙ c.align-align.ensures.value;
+        long = long g c;
+        aligned = p.aligned;
+        sized = subst (λ n. c.args.layout.size ≤ n) (sym (long g c)) p.seen.sized;
+        few = subst (λ n. n < c.args.layout.size + 32) (sym (long g c)) p.seen.few;
+        new = p.seen.new;
+        count = p.count;
+      };
+      heap = record {
+        identity = o.identity;
+        place = o.place;
+        settled = λ settled. settled-left c.load_usable_of-range.new.memory c.hand_over-payload.new.memory c.load_usable_of-range.result e.start (low_range g c) e.out
+            (settled_read g c settled);
+        bounds = p.bounds;
+        chunks = p.chunks;
+        grow = o.grow;
+      };
       written = λ settled.
           let own = subst (IsOwned c.load_usable_of-range.new.memory) (sym (range g (read g c))) (new-here (reading g (read g c))) in
-          c.hand_over-payload.ensures.over.full (settled-here c.load_usable_of-range.new.memory c.load_usable_of-range.result (low_range g c) own (settled_read g c settled));
-      payload =
-          is_of_heap c.self.inside.memory c.load_usable_of-range.new.memory c.self.inside.table c.self.inside.state.state c.self.inside.ledger.name c.self.inside.ledger.name 30
-          (left_first g c) refl c.args.self.now c.self.view_is (home_of c.load_usable_of-range.new.memory) refl c.hand_over-payload.result.identity e.identity;
-      live = p.seen.live;
-      align = e.align ∙ c.align-align.ensures.value;
-      long = long g c;
-      aligned = p.aligned;
-      sized = subst (λ n. c.args.layout.size ≤ n) (sym (long g c)) p.seen.sized;
-      few = subst (λ n. n < c.args.layout.size + 32) (sym (long g c)) p.seen.few;
-      new = p.seen.new;
+          e.full (settled-here c.load_usable_of-range.new.memory c.load_usable_of-range.result (low_range g c) own (settled_read g c settled));
       aligns = p.seen.aligns;
-      room = λ count size align sized few short fits. refl;
-      count = p.count;
-      bounds = p.bounds;
-      chunks = p.chunks;
+      room = λ count most wide sized few short fits. refl;
       same = tt;
       refused = tt;
       touches = o.touches;
-      grow = o.grow;
       copied = omega (arith, a.copied, c.load_usable_of-range.ensures.counts.copied, e.copied, ap (λ (o : HeapView). o.memory.copied) c.self.view_is);
     }

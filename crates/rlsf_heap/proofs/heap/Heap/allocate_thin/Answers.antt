@@ -1,8 +1,8 @@
 use Rattle.std.proofs.Common.{true≢false, sym, ap, subst, ◌∙◌}
 use Rattle.rlsf_model.specs.Allocate.{Allocates}
 use Rattle.rlsf_heap.specs.Heap.{IsWritten, PayloadView, Steps}
+use Rattle.rlsf_heap.specs.Replies.{IsAllocated}
 use Rattle.rlsf_heap.specs.Thin.{reply_of}
-use Rattle.rlsf_heap.specs.ThinReplies.{IsAllocatedThin}
 use Rattle.rlsf_heap.proofs.ThinPayloads.{none_leaves, some_address, thin_leaves, thin_step}
 use Rattle.rlsf_heap.proofs.heap.Heap.allocate_thin.Goals as goal
 
@@ -13,14 +13,11 @@ into_thin-requires g c =
 pub returns-in-Some : goal.returns-in-Some
 returns-in-Some g c =
     let e = c.in-Some.ensures in
-    let is = c.into_thin.ensures.1 in
-    let made : IsAllocatedThin c.args.self.now c.allocate.new.self c.args.layout.size c.args.layout.align c.in-Some.payload =
-    record { identity = e.payload; live = e.live; requested = e.align; long = e.long; aligned = e.aligned; sized = e.sized; few = e.few; new = e.new; count = e.count } in
-    record {
+    let is = c.into_thin.ensures.1 in record {
       step = thin_step g.row.FLLEN g.row.SLLEN c.args.self.now c.allocate.new.self c.args.layout.size c.args.layout.align c.in-Some.payload c.into_thin.result.of is e.step;
       at = c.into_thin.ensures.0 ∙ ap (λ (p : PayloadView). p.start) (sym is);
-      payload = λ it. subst (IsAllocatedThin c.args.self.now c.allocate.new.self c.args.layout.size c.args.layout.align) (sym is) made;
-      heap = record { identity = e.identity; place = e.place; settled = e.settled; bounds = e.bounds; chunks = e.chunks; grow = e.grow };
+      payload = λ it. subst (IsAllocated c.args.self.now c.allocate.new.self c.args.layout.size c.args.layout.align) (sym is) e.payload;
+      heap = e.heap;
       leaves = thin_leaves g.row.FLLEN g.row.SLLEN c.args.self.now c.allocate.new.self c.args.layout.size c.args.layout.align c.in-Some.payload c.into_thin.result.of is e.step
           e.aligns e.copied;
       written = λ settled it. subst (λ (p : PayloadView). IsWritten p) (sym is) (e.written settled);
@@ -36,7 +33,7 @@ returns-in-None g c =
           (sym none) e.step;
       at = c.none.ensures.0 ∙ sym none;
       payload = λ some. absurd (some none);
-      heap = record { identity = e.identity; place = e.place; settled = e.settled; bounds = e.bounds; chunks = e.chunks; grow = e.grow };
+      heap = e.heap;
       leaves = none_leaves g.row.SLLEN c.args.layout.size c.args.layout.align c.args.self.now c.allocate.new.self c.none.result.of.start none
           (λ count most wide sized few short fits. true≢false (sym (e.room count most wide sized few short fits))) e.same e.refused e.copied;
       written = λ settled some. absurd (some none);

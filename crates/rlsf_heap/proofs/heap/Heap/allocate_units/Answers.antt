@@ -15,7 +15,7 @@ asked g c =
     (λ i. (e.0 i, e.1 i)) c.in_ok-payload.ensures.step
 
 long : (g : given.Over) (c : In_ok-payload g) → length c.in_ok-payload.payload.bytes ≡ payload_len c.args.size
-long g c = c.in_ok-payload.ensures.long ∙ units-long g.row.FLLEN g.row.SLLEN c.allocate.new.self c.args.self.now.state c.args.size c.in_ok-payload.payload.start (asked g c)
+long g c = c.in_ok-payload.ensures.payload.long ∙ units-long g.row.FLLEN g.row.SLLEN c.allocate.new.self c.args.self.now.state c.args.size c.in_ok-payload.payload.start (asked g c)
 
 pub into_unit_payload-requires : goal.into_unit_payload-requires
 into_unit_payload-requires g c =
@@ -23,10 +23,10 @@ into_unit_payload-requires g c =
     let e = c.from_size_align_unchecked-layout.ensures in let p = c.in_ok-payload.payload in
     record {
       units = (
-        subst (λ a. p.start % a ≡ 0) e.1 c.in_ok-payload.ensures.aligned,
+        subst (λ a. p.start % a ≡ 0) e.1 c.in_ok-payload.ensures.payload.aligned,
         ap (λ n. n % 16) (long g d) ∙ payload_len-whole c.args.size,
-        ap (λ (h : Identity). h.home.view.shift % 16) c.in_ok-payload.ensures.payload ∙ c.requires.units,
-        c.in_ok-payload.ensures.align ∙ e.1,
+        ap (λ (h : Identity). h.home.view.shift % 16) c.in_ok-payload.ensures.payload.identity ∙ c.requires.units,
+        c.in_ok-payload.ensures.payload.requested ∙ e.1,
       );
     }
 

@@ -22,7 +22,7 @@ put_written-requires g c =
         (t.0, t.1, refl),
         (
           ap (λ (p : PayloadView). p.identity) parts ∙ c.requires.heap
-              ∙ sym (ap (λ (v : HeapView). v.identity) c.find_part-part.ensures.heap) ∙ sym c.in-Some.ensures.identity,
+              ∙ sym (ap (λ (v : HeapView). v.identity) c.find_part-part.ensures.heap) ∙ sym c.in-Some.ensures.heap.identity,
           subst (λ (p : PayloadView). IsWritten p) (sym parts) c.requires.written,
         ),
       ),
@@ -48,7 +48,7 @@ from g c = ap (λ (p : PayloadView). p.start) c.find_part-part.ensures.parts ∙
 -- they are two
 other : (g : given.Over) (c : goal.After-into_thin g) → c.in-Some.to.start ≢ c.args.addr
 other g c = new_is_other c.args.self.now.state c.find_part-part.new.self.state (ap (λ (v : HeapView). v.state) c.find_part-part.ensures.heap) c.args.addr
-    c.in-Some.to.start c.args.payload.of.align c.find_part-part.ensures.live c.in-Some.ensures.new
+    c.in-Some.to.start c.args.payload.of.align c.find_part-part.ensures.live c.in-Some.ensures.payload.new
 
 pub returns-in_default : goal.returns-in_default
 returns-in_default g c =
@@ -74,7 +74,7 @@ returns-in_default g c =
       others = tt;
       refused = (of_is, e.same ∙ state, e.refused ∙ ap (λ (v : HeapView). v.memory.bytes) heap);
       heap = kept_found g.row.SLLEN c.args.layout.size c.args.layout.align c.args.self.now c.find_part-part.new.self c.allocate.new.self heap
-          (record { identity = e.identity; place = e.place; settled = e.settled; bounds = e.bounds; chunks = e.chunks; grow = e.grow });
+          e.heap;
       count = ap live_count (e.same ∙ state);
       touches = omega (arith, e.touches, ap (λ (v : HeapView). v.memory.touches) heap);
       copied = e.copied ∙ ap (λ (v : HeapView). v.memory.copied) heap;
@@ -105,17 +105,17 @@ returns g c =
       room = λ count most wide sized few short fits. refl;
       thin = record {
         at = c.into_thin.ensures.0 ∙ ap (λ (o : PayloadView). o.start) (sym thin);
-        identity = ap (λ (o : PayloadView). o.identity) thin ∙ c.as_mut_slice.ensures.identity w ∙ a.payload ∙ ap (λ (v : HeapView). v.identity) heap;
-        requested = ap (λ (o : PayloadView). o.align) thin ∙ c.as_mut_slice.ensures.align w ∙ a.align;
+        identity = ap (λ (o : PayloadView). o.identity) thin ∙ c.as_mut_slice.ensures.identity w ∙ a.payload.identity ∙ ap (λ (v : HeapView). v.identity) heap;
+        requested = ap (λ (o : PayloadView). o.align) thin ∙ c.as_mut_slice.ensures.align w ∙ a.payload.requested;
       };
       payload = record {
-        live = ap (align_at c.put_written.new.self.state) is ∙ p.aligns c.in-Some.to.start (λ e. other g c (e ∙ from g c)) ∙ a.live;
-        long = as_long g c ∙ a.long ∙ ap length (sym (others_stay g.row.FLLEN g.row.SLLEN c.args.self.now c.find_part-part.new.self c.allocate.new.self c.put_written.new.self
+        live = ap (align_at c.put_written.new.self.state) is ∙ p.aligns c.in-Some.to.start (λ e. other g c (e ∙ from g c)) ∙ a.payload.live;
+        long = as_long g c ∙ a.payload.long ∙ ap length (sym (others_stay g.row.FLLEN g.row.SLLEN c.args.self.now c.find_part-part.new.self c.allocate.new.self c.put_written.new.self
             heap c.args.layout.size c.args.layout.align c.args.addr c.find_part-part.result.0.start c.in-Some.to.start (from g c) a.step p.step c.in-Some.to.start (other g c)))
             ∙ ap (λ n. length (bytes_at c.put_written.new.self.state n)) (sym is);
-        aligned = subst (λ n. n % c.args.layout.align ≡ 0) (sym is) a.aligned;
-        sized = subst (λ n. c.args.layout.size ≤ n) (sym (as_long g c)) a.sized;
-        few = subst (λ n. n < c.args.layout.size + 32) (sym (as_long g c)) a.few;
+        aligned = subst (λ n. n % c.args.layout.align ≡ 0) (sym is) a.payload.aligned;
+        sized = subst (λ n. c.args.layout.size ≤ n) (sym (as_long g c)) a.payload.sized;
+        few = subst (λ n. n < c.args.layout.size + 32) (sym (as_long g c)) a.payload.few;
         kept = kept g c;
         each = Keeps-each c.args.payload.of.bytes c.into_thin.result.of.bytes (kept g c);
       };
@@ -124,19 +124,19 @@ returns g c =
       others = record {
         some = λ e. some_address g.row.FLLEN g.row.SLLEN c.allocate.new.self c.find_part-part.new.self.state c.args.layout.size c.args.layout.align c.in-Some.to.start a.step
             (sym is ∙ e);
-        new = λ _. (λ i. align_at (sym state i) (is i)) ∙ a.new;
+        new = λ _. (λ i. align_at (sym state i) (is i)) ∙ a.payload.new;
         aligns = λ n apart new. p.aligns n (λ e. apart (e ∙ from g c)) ∙ a.aligns n (λ e. new (e ∙ sym is)) ∙ ap (λ (v : HeapView). align_at v.state n) heap;
       };
       refused = tt;
       heap = kept_found g.row.SLLEN c.args.layout.size c.args.layout.align c.args.self.now c.find_part-part.new.self c.put_written.new.self heap (record {
-        identity = p.identity ∙ a.identity;
-        place = (p.place.0 ∙ a.place.0, p.place.1 ∙ a.place.1);
-        settled = λ settled. p.settled (a.settled settled);
-        bounds = λ count most wide sized short fits. p.bounds count most wide (a.bounds count most wide sized short fits);
-        chunks = p.chunks ∙ a.chunks;
-        grow = omega (arith, p.grow, a.grow);
+        identity = p.identity ∙ a.heap.identity;
+        place = (p.place.0 ∙ a.heap.place.0, p.place.1 ∙ a.heap.place.1);
+        settled = λ settled. p.settled (a.heap.settled settled);
+        bounds = λ count most wide sized short fits. p.bounds count most wide (a.heap.bounds count most wide sized short fits);
+        chunks = p.chunks ∙ a.heap.chunks;
+        grow = omega (arith, p.grow, a.heap.grow);
       });
-      count = omega (arith, p.count, a.count, ap (λ (v : HeapView). live_count v.state) heap);
+      count = omega (arith, p.count, a.payload.count, ap (λ (v : HeapView). live_count v.state) heap);
       touches = omega (arith, p.touches, a.touches, ap (λ (v : HeapView). v.memory.touches) heap);
       copied = p.copied ∙ a.copied ∙ ap (λ (v : HeapView). v.memory.copied) heap;
     }

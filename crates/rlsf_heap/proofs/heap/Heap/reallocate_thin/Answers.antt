@@ -3,7 +3,7 @@ use Rattle.rlsf_base.specs.Layout.{IsLayout}
 use Rattle.rlsf_model.specs.Reallocate.{Reallocates}
 use Rattle.rlsf_model.specs.Sized.{IsSizedFor, live_count}
 use Rattle.rlsf_heap.specs.Heap.{HeapView, PayloadView}
-use Rattle.rlsf_heap.specs.ThinReplies.{CopiesToMove, IsReallocatedThin, IsRefusedThin, LeavesOthers}
+use Rattle.rlsf_heap.specs.Replies.{CopiesToMove, IsReallocated, IsReturned, LeavesOthers}
 use Rattle.rlsf_heap.proofs.Found.{IsFound, as_found, heap_found, here_found, live_somewhere, step_found, thin_found}
 use Rattle.rlsf_heap.proofs.heap.Heap.reallocate_thin.Goals as goal
 
@@ -25,7 +25,7 @@ returns-in-Ok g c =
       layout = λ ok. as_now (λ v from addr align to. IsLayout c.args.size align) (e.layout refl);
       room = λ count most wide sized few short fits is. refl;
       thin = thin_found f c.in-Ok.payload c.into_thin.result c.into_thin.ensures e.payload e.align;
-      payload = as_now (λ v from addr align to. IsReallocatedThin new.state from c.args.size align to)
+      payload = as_now (λ v from addr align to. IsReallocated new.state from c.args.size align to)
           (record { live = e.live; long = e.long; aligned = e.aligned; sized = e.sized; few = e.few; kept = e.kept; each = e.each });
       here = here_found f c.in-Ok.payload c.into_thin.result.of thin (record { here = e.here; shrunk = e.shrunk; written = e.written });
       others = as_now (λ v from addr align to. LeavesOthers v.state new.state addr to.start) (record {
@@ -59,7 +59,7 @@ returns-in-Err g c =
       payload = tt;
       here = tt;
       others = tt;
-      refused = as_now (λ v from addr align to. IsRefusedThin v.state new.state addr from to)
+      refused = as_now (λ v from addr align to. IsReturned v.state new.state addr from to)
           (record { start = e.back.0; bytes = e.back.1; written = e.back.2; alike = e.same; aligns = e.same_aligns });
       heap = heap_found f g.row.SLLEN c.args.size new
           (record { identity = e.identity; place = e.place; settled = e.settled; bounds = e.bounds; chunks = e.chunks; grow = e.grow });

@@ -4,7 +4,7 @@ use Rattle.rlsf_model.specs.Callers.{align_at}
 use Rattle.rlsf_model.specs.NoMove.{ReallocatesWithoutMove}
 use Rattle.rlsf_model.specs.Sized.{live_count}
 use Rattle.rlsf_heap.specs.Heap.{HeapView, PayloadView}
-use Rattle.rlsf_heap.specs.ThinReplies.{IsReallocatedThin, IsRefusedThin}
+use Rattle.rlsf_heap.specs.Replies.{IsReallocated, IsReturned}
 use Rattle.rlsf_heap.proofs.Found.{IsFound, as_found, heap_found, here_found, step_found, thin_found}
 use Rattle.rlsf_heap.proofs.heap.Heap.reallocate_thin_no_move.Goals as goal
 
@@ -22,7 +22,7 @@ returns-in-Ok g c =
       layout = λ ok. as_now (λ v from addr align to. IsLayout c.args.size align) (e.layout refl);
       thin = thin_found f c.in-Ok.payload c.into_thin.result c.into_thin.ensures e.payload e.align;
       there = as_now (λ v from addr align to. to.start ≡ addr) e.there;
-      payload = as_now (λ v from addr align to. IsReallocatedThin new.state from c.args.size align to)
+      payload = as_now (λ v from addr align to. IsReallocated new.state from c.args.size align to)
           (record { live = e.live; long = e.long; aligned = e.aligned; sized = e.sized; few = e.few; kept = e.kept; each = e.each });
       here = here_found f c.in-Ok.payload c.into_thin.result.of thin (record { here = e.here; shrunk = e.shrunk; written = e.written });
       aligns = e.aligns ∙ ap (λ (v : HeapView). align_at v.state) f.heap;
@@ -50,7 +50,7 @@ returns-in-Err g c =
       payload = tt;
       here = tt;
       aligns = e.aligns ∙ ap (λ (v : HeapView). align_at v.state) f.heap;
-      refused = as_now (λ v from addr align to. IsRefusedThin v.state new.state addr from to)
+      refused = as_now (λ v from addr align to. IsReturned v.state new.state addr from to)
           (record { start = e.there; bytes = e.back.0; written = e.back.1; alike = e.same; aligns = e.aligns });
       heap = heap_found f g.row.SLLEN c.args.size new
           (record { identity = e.identity; place = e.place; settled = e.settled; bounds = e.bounds; chunks = e.chunks; grow = e.grow });

@@ -3,7 +3,8 @@ use Rattle.rlsf_model.specs.Callers.{align_at}
 use Rattle.rlsf_model.specs.State.{AreAlike}
 use Rattle.rlsf_heap.specs.Heap.{IsWritten, PayloadView}
 use Rattle.rlsf_heap.specs.Reallocation.{owned_by}
-use Rattle.rlsf_heap.specs.ThinReplies.{IsReallocatedThin, IsThinOf, thin_moved_to}
+use Rattle.rlsf_heap.specs.Replies.{IsReallocated}
+use Rattle.rlsf_heap.specs.ThinReplies.{IsThinOf, thin_moved_to}
 use Rattle.rlsf_heap.proofs.UnknownAlign.{if_err, if_ok, match_of, ok_of, reallocated_ok, step_moves, step_stays}
 use Rattle.rlsf_heap.proofs.heap.Heap.reallocate_thin_unknown_align.Goals as goal
 
@@ -26,7 +27,7 @@ returns-in-Ok g c =
       moved = λ apart. absurd (apart e.there);
       back = tt;
       live = e.live;
-      resized = subst (λ a. IsReallocatedThin new.state pay layout.size a p.of) (sym e.align) e.resized;
+      resized = subst (λ a. IsReallocated new.state pay layout.size a p.of) (sym e.align) e.resized;
       gone = λ apart. absurd (apart e.there);
       written = e.written c.requires.settled;
       settled = e.settled c.requires.settled;

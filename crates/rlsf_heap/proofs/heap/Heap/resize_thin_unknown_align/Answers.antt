@@ -26,8 +26,8 @@ use Rattle.rlsf_tlsf.proofs.Arrivals.{arrived}
 use Rattle.rlsf_heap.specs.Heap.{AreIssued, HeapView, Identity, IsWritten, PayloadView, Steps, heap_view, payload_view}
 use Rattle.rlsf_heap.specs.Raw.{IsWhole, bytes_of}
 use Rattle.rlsf_heap.specs.Reallocation.{IsKeptHere, owned_by}
+use Rattle.rlsf_heap.specs.Replies.{IsReallocated}
 use Rattle.rlsf_heap.specs.Settled.{IsSettled}
-use Rattle.rlsf_heap.specs.ThinReplies.{IsReallocatedThin}
 use Rattle.rlsf_heap.specs.ThinUnknownAlign.{AtEachHeld}
 use Rattle.rlsf_heap.proofs.Arrivals.{IsHeap-arrived, Steps-arrived, bare-kept}
 use Rattle.rlsf_heap.proofs.Leaving.{lies-usable}
@@ -468,7 +468,7 @@ returns g c =
       back = tt;
       live = subst (λ a. align_at old.state a ≡ Some pay.align) c.requires.some.0 alive;
       resized =
-          subst (IsReallocatedThin (now g c) pay size pay.align) of (record {
+          subst (IsReallocated (now g c) pay size pay.align) of (record {
             live = seen.live;
             long = ap length bytes;
             aligned = (sees g c).aligned;
