@@ -1,5 +1,5 @@
 -- A payload was taken back, and is handed over again, as it was or with another size: what the heap is then, and what contracts see.
-use Rattle.std.proofs.Common.{slice_index, ◌≡◌, ℕ, ◌+◌, ◌<◌, ◌≤◌, List, length, false, set, Some, arith, refl, sym, ap, subst, ◌∙◌}
+use Rattle.std.proofs.Common.{◌≡◌, ℕ, ◌+◌, ◌<◌, ◌≤◌, List, length, false, set, Some, arith, refl, sym, ap, subst, ◌∙◌}
 use Rattle.rlsf_base.specs.declared.memory.range.Range.{Range}
 use Rattle.rlsf_base.specs.Ledger.{Entry, entry_of, extent}
 use Rattle.rlsf_base.specs.OpenSpace.{IsHere, IsOwned, out_without}
@@ -7,11 +7,11 @@ use Rattle.rlsf_base.specs.Out.{here, kept_at}
 use Rattle.rlsf_base.specs.Range.{LiesIn, range_at}
 use Rattle.rlsf_base.specs.Space.{Space, bytes_in, out_at}
 use Rattle.rlsf_base.proofs.Lending.Present.{out-same, own-here}
-use Rattle.rlsf_model.specs.Callers.{align_at, bytes_at}
+use Rattle.rlsf_model.specs.Callers.{bytes_at}
 use Rattle.rlsf_model.specs.NoMove.{ReallocatesWithoutMove}
 use Rattle.rlsf_model.specs.Reallocate.{Keeps, Reallocates}
 use Rattle.rlsf_model.specs.Sized.{IsSizedFor, live_count}
-use Rattle.rlsf_model.specs.State.{AreAlike, Holds, IsLive, State, Used, usable}
+use Rattle.rlsf_model.specs.State.{Holds, IsLive, State, Used, usable}
 use Rattle.rlsf_model.proofs.CallerWords.{bytes_at-held}
 use Rattle.rlsf_table.specs.Counts.{Counts}
 use Rattle.rlsf_table.specs.Table.{Table}
@@ -24,9 +24,10 @@ use Rattle.rlsf_reallocate.specs.Steps.Resize.{IsUsedAt}
 use Rattle.rlsf_tlsf.specs.Steps.Moves.{bare, reallocated}
 use Rattle.rlsf_tlsf.proofs.Arrivals.{arrived}
 use Rattle.rlsf_heap.specs.Handover.{IsHandedOver, IsTakenBack}
-use Rattle.rlsf_heap.specs.Heap.{HeapView, IsHeap, IsTicketOf, IsWritten, PayloadView, Steps, heap_view, payload_range, payload_view}
+use Rattle.rlsf_heap.specs.Heap.{HeapView, IsHeap, IsTicketOf, PayloadView, Steps, heap_view, payload_range, payload_view}
 use Rattle.rlsf_heap.specs.Raw.{bytes_of}
-use Rattle.rlsf_heap.specs.Reallocation.{IsKeptHere, owned_by}
+use Rattle.rlsf_heap.specs.Reallocation.{owned_by}
+use Rattle.rlsf_heap.specs.Replies.{IsReallocated, IsReallocatedHere, IsReturned}
 use Rattle.rlsf_heap.specs.Settled.{IsSettled}
 use Rattle.rlsf_heap.proofs.Arrivals.{IsHeap-arrived, Steps-arrived, bare-kept}
 use Rattle.rlsf_heap.proofs.Leaving.{lies-usable, stands-without}
@@ -36,7 +37,7 @@ use Rattle.rlsf_heap.proofs.Reallocating.{IsBackIn, asked, bare_state, block, by
 use Rattle.rlsf_heap.proofs.Reallocating.{held, issued_again, issued_anew, kept_moved, stands, state, usable_is, used_at}
 use Rattle.rlsf_heap.proofs.Resized.{holds_new, new, own_new}
 use Rattle.rlsf_heap.proofs.Settled.{settled-back, settled-here, settled-inside, settled-left, settled-stays}
-use Rattle.rlsf_heap.proofs.Viewed.{SeesChanged, aligns_view, alike_view, count_view, seen_changed, sized_view, stayed_changed}
+use Rattle.rlsf_heap.proofs.Viewed.{SeesChanged, aligns_view, alike_view, chunks_view, count_view, seen_changed, sized_view, stayed_changed}
 
 -- a payload is that of its bytes
 pub is_view : (pay : PayloadView) → payload_view (bytes_of pay) pay.align pay.identity.ledger ≡ pay
@@ -50,24 +51,17 @@ pub record IsFound (fllen sllen : ℕ) (o : Space) (x : Table) (s : State) (u : 
 
 -- a payload is as it was
 pub record SeesUnchanged (sllen : ℕ) (old now : HeapView) (pay p : PayloadView) : Type 0 where
-  pub back : (p.start ≡ pay.start) × (p.bytes ≡ pay.bytes) × IsWritten p
+  pub returned : IsReturned old.state now.state pay.start pay p
   pub settled : IsSettled old.memory → IsSettled now.memory
-  pub alike : AreAlike old.state now.state
-  pub aligns : align_at now.state ≡ align_at old.state
   pub count : live_count now.state ≡ live_count old.state
   pub bounds : (most longest widest : ℕ) → IsSizedFor sllen most longest widest old.state → IsSizedFor sllen most longest widest now.state
+  pub chunks : now.state.chunks ≡ old.state.chunks
 
 -- a payload has another size
 pub record SeesNewSize (sllen : ℕ) (old now : HeapView) (pay p : PayloadView) (size : ℕ) : Type 0 where
   pub changed : SeesChanged sllen old pay now.state size p.start
-  pub long : length p.bytes ≡ length (bytes_at now.state p.start)
-  pub sized : size ≤ length p.bytes
-  pub few : length p.bytes < size + 32
-  pub kept : Keeps pay.bytes p.bytes
-  pub each : (k : ℕ) → k < length pay.bytes → k < length p.bytes → slice_index p.bytes k ≡ slice_index pay.bytes k
-  pub here : IsKeptHere pay p
-  pub shrunk : length p.bytes ≤ length pay.bytes → IsWritten p
-  pub written : IsSettled old.memory → IsWritten p
+  pub resized : IsReallocated now.state pay size pay.align p
+  pub here : IsReallocatedHere old pay p
   pub settled : IsSettled old.memory → IsSettled now.memory
 
 module _ {fl_bits sl_bits fllen sllen : ℕ} {m n : Space} {x : Table} {k : State} {es fs : List Entry} {count : ℕ} (is : IsHeap fl_bits sl_bits fllen sllen m x k es count)
@@ -139,16 +133,17 @@ module _ {fl_bits sl_bits fllen sllen : ℕ} {m n : Space} {x : Table} {k : Stat
 
       pub sees_unchanged : SeesUnchanged sllen old (heap_view q y k ledger) pay p
       sees_unchanged = record {
-        back = (
-          over.at ∙ at,
-          over.values ∙ ap (bytes_in o) same_range ∙ now.payloads.bytes u (held back_in).0 ∙ bytes_are back_in,
-          over.full (here_still back_in at long stays),
-        );
+        returned = record {
+          start = over.at ∙ at;
+          bytes = over.values ∙ ap (bytes_in o) same_range ∙ now.payloads.bytes u (held back_in).0 ∙ bytes_are back_in;
+          written = over.full (here_still back_in at long stays);
+          alike = alike_view k back_in old view pay (is_view pay) (read_from q k) unchanged_state;
+          aligns = aligns_view k back_in old view pay (is_view pay) (read_from q k) unchanged_state;
+        };
         settled = λ settled. settled-left o q (range_at addr len) over.start (omega (arith, low, at, stays.start)) over.out (settled-stays stays (settled_taken settled));
-        alike = alike_view k back_in old view pay (is_view pay) (read_from q k) unchanged_state;
-        aligns = aligns_view k back_in old view pay (is_view pay) (read_from q k) unchanged_state;
         count = count_view k back_in old view pay (is_view pay) (read_from q k) unchanged_state;
         bounds = sized_view k back_in old view pay (is_view pay) (read_from q k) unchanged_state;
+        chunks = chunks_view k back_in old view pay (is_view pay) (read_from q k) unchanged_state;
       }
 
     -- ---- it has another size
@@ -230,13 +225,19 @@ module _ {fl_bits sl_bits fllen sllen : ℕ} {m n : Space} {x : Table} {k : Stat
               over.states i inside ∙ out-same l o (r.start + i) (ap (λ (z : Space). z.start) touched) (ap (λ (z : Space). z.out) touched)
               ∙ ap (λ (a : ℕ). out_at l (a + i)) begins ∙ still i below inside in record {
                 changed = changed;
-                long = ap length resized_bytes;
-                sized = subst (λ (bs : List ℕ). size ≤ length bs) (sym resized_bytes) changed.seen.sized;
-                few = subst (λ (bs : List ℕ). length bs < size + 32) (sym resized_bytes) changed.seen.few;
-                kept = keeps;
-                each = Keeps-each pay.bytes p.bytes keeps;
-                here = λ i from high. stays_here i (omega (arith, high)) (omega (arith, high));
-                shrunk = λ shorter i from high. stays_here i (omega (arith, high, shorter)) (omega (arith, high));
-                written = λ settled. over.full (settled-here o r resized_lies.0 resized_own (before settled));
+                resized = record {
+                  live = changed.seen.live;
+                  long = ap length resized_bytes;
+                  aligned = changed.aligned;
+                  sized = subst (λ (bs : List ℕ). size ≤ length bs) (sym resized_bytes) changed.seen.sized;
+                  few = subst (λ (bs : List ℕ). length bs < size + 32) (sym resized_bytes) changed.seen.few;
+                  kept = keeps;
+                  each = Keeps-each pay.bytes p.bytes keeps;
+                };
+                here = record {
+                  here = λ i from high. stays_here i (omega (arith, high)) (omega (arith, high));
+                  shrunk = λ shorter i from high. stays_here i (omega (arith, high, shorter)) (omega (arith, high));
+                  written = λ settled. over.full (settled-here o r resized_lies.0 resized_own (before settled));
+                };
                 settled = λ settled. settled-left o q r over.start resized_lies.0 over.out (before settled);
               }

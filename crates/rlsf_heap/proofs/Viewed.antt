@@ -84,6 +84,9 @@ module _ {fllen sllen : ℕ} {m n : Space} {x : Table} (k : State) {es : List En
     pub aligns_view : align_at now ≡ align_at old.state
     aligns_view = ap align_at now_is ∙ (λ i a. (filled_seen well (owned_by old.state pay) pay.start pay.bytes fills_view).aligns a i)
 
+    pub chunks_view : now.chunks ≡ old.state.chunks
+    chunks_view = ap (λ (s : State). s.chunks) now_is
+
     pub count_view : live_count now ≡ live_count old.state
     count_view = ap live_count now_is ∙ count_filled well (owned_by old.state pay) pay.start pay.bytes (fills_view.block, fills_view.holds) fills_view
 

@@ -1,13 +1,13 @@
 //! Reallocations: a payload gets another size.
-ghost use Rattle.std.specs.Prelude.{◌≡◌, ◌≢◌, ◌≤◌, ◌<◌, ◌+◌, ◌%◌, ℕ, Some, None, length, slice_index, IfErr, IfOk, IsErr, IsOk, MatchResult};
+ghost use Rattle.std.specs.Prelude.{◌≡◌, ◌≤◌, ◌+◌, ℕ, length, IfErr, IfOk, IsOk, MatchResult};
 ghost use Rattle.rlsf_base.specs.Layout.{IsLayout};
-ghost use Rattle.rlsf_model.specs.Callers.{align_at, bytes_at};
+ghost use Rattle.rlsf_model.specs.Callers.{align_at};
 ghost use Rattle.rlsf_model.specs.NoMove.{ReallocatesWithoutMove};
-ghost use Rattle.rlsf_model.specs.Reallocate.{HasRoomToStay, Keeps, Reallocates};
+ghost use Rattle.rlsf_model.specs.Reallocate.{Reallocates};
 ghost use Rattle.rlsf_model.specs.Sized.{IsSizedFor, live_count};
-ghost use Rattle.rlsf_model.specs.State.{AreAlike, State};
 ghost use Rattle.rlsf_heap.specs.Heap.{IsWritten};
 ghost use Rattle.rlsf_heap.specs.Reallocation.{IsKeptHere, moved_to, owned_by};
+ghost use Rattle.rlsf_heap.specs.Replies.{CopiesToMove, IsReallocated, IsReturned, KeepsHeap, LeavesOthers};
 ghost use Rattle.rlsf_heap.specs.Settled.{IsSettled};
 
 use crate::heap::Heap;
@@ -43,35 +43,20 @@ impl<FLBitmap: BitPattern, SLBitmap: BitPattern, const FLLEN: usize, const SLLEN
         requires written { IsWritten payload }
         ensures step { Steps FLLEN SLLEN self.new (λ t. IsLayout size payload.align → Reallocates SLLEN (owned_by self.old.state payload) payload.start size (moved_to result) t) }
         ensures layout { IsOk result → IsLayout size payload.align }
-        ensures identity { self.new.identity ≡ self.old.identity }
-        ensures place { (self.new.memory.start ≡ self.old.memory.start) × (length self.new.memory.bytes ≡ length self.old.memory.bytes) }
+        ensures room { (count most wide : ℕ) → IsSizedFor SLLEN count most wide self.old.state → live_count self.old.state ≤ count
+            → size ≤ most → payload.align ≤ wide → IsLayout size payload.align → IsOk result }
         ensures payload { MatchResult result (λ p. p.identity ≡ self.old.identity) (λ p. p.identity ≡ self.old.identity) }
         ensures align { MatchResult result (λ p. p.align ≡ payload.align) (λ p. p.align ≡ payload.align) }
-        ensures back { IfErr result (λ p. (p.start ≡ payload.start) × (p.bytes ≡ payload.bytes) × IsWritten p) }
-        ensures live { IfOk result (λ p. align_at self.new.state p.start ≡ Some payload.align) }
-        ensures long { IfOk result (λ p. length p.bytes ≡ length (bytes_at self.new.state p.start)) }
-        ensures aligned { IfOk result (λ p. p.start % payload.align ≡ 0) }
-        ensures sized { IfOk result (λ p. size ≤ length p.bytes) }
-        ensures few { IfOk result (λ p. length p.bytes < size + 32) }
-        ensures kept { IfOk result (λ p. Keeps payload.bytes p.bytes) }
-        ensures each { IfOk result (λ p. (k : ℕ) → k < length payload.bytes → k < length p.bytes → slice_index p.bytes k ≡ slice_index payload.bytes k) }
+        ensures resized { IfOk result (λ p. IsReallocated self.new.state payload size payload.align p) }
         ensures here { IfOk result (λ p. IsKeptHere payload p) }
         ensures shrunk { IfOk result (λ p. length p.bytes ≤ length payload.bytes → IsWritten p) }
         ensures written { IsSettled self.old.memory → IfOk result (λ p. IsWritten p) }
-        ensures settled { IsSettled self.old.memory → IsSettled self.new.memory }
-        ensures new { IfOk result (λ p. p.start ≢ payload.start → align_at self.old.state p.start ≡ None) }
-        ensures aligns { IfOk result (λ p. (a : ℕ) → a ≢ payload.start → a ≢ p.start → align_at self.new.state a ≡ align_at self.old.state a) }
-        ensures room { (count most align : ℕ) → IsSizedFor SLLEN count most align self.old.state → live_count self.old.state ≤ count → size ≤ most → payload.align ≤ align → IsLayout size payload.align → IsOk result }
+        ensures others { IfOk result (λ p. LeavesOthers self.old.state self.new.state payload.start p.start) }
+        ensures refused { IfErr result (λ p. IsReturned self.old.state self.new.state payload.start payload p) }
+        ensures heap { KeepsHeap SLLEN size payload.align self.old self.new }
         ensures count { live_count self.new.state ≡ live_count self.old.state }
-        ensures bounds { (count most align : ℕ) → IsSizedFor SLLEN count most align self.old.state → size ≤ most → payload.align ≤ align → IsSizedFor SLLEN count most align self.new.state }
-        ensures chunks { self.new.state.chunks ≡ self.old.state.chunks }
-        ensures same { IfErr result (λ p. AreAlike self.old.state self.new.state) }
-        ensures same_aligns { IfErr result (λ p. align_at self.new.state ≡ align_at self.old.state) }
         ensures touches { self.new.memory.touches ≤ self.old.memory.touches + 69 }
-        ensures grow { self.old.memory.touches ≤ self.new.memory.touches }
-        ensures copied { self.new.memory.copied ≤ self.old.memory.copied + length payload.bytes }
-        ensures grow_copied { self.old.memory.copied ≤ self.new.memory.copied }
-        ensures stays { HasRoomToStay self.old.state payload.start size → self.new.memory.copied ≡ self.old.memory.copied }
+        ensures copied { CopiesToMove self.old.state payload payload.start size self.old.memory.copied self.new.memory.copied }
     {
         let view = self.memory.view();
         let align = payload.align();
@@ -116,30 +101,18 @@ impl<FLBitmap: BitPattern, SLBitmap: BitPattern, const FLLEN: usize, const SLLEN
         requires written { IsWritten payload }
         ensures step { Steps FLLEN SLLEN self.new (λ t. IsLayout size payload.align → ReallocatesWithoutMove (owned_by self.old.state payload) payload.start size (moved_to result) t) }
         ensures layout { IsOk result → IsLayout size payload.align }
-        ensures identity { self.new.identity ≡ self.old.identity }
-        ensures place { (self.new.memory.start ≡ self.old.memory.start) × (length self.new.memory.bytes ≡ length self.old.memory.bytes) }
         ensures payload { MatchResult result (λ p. p.identity ≡ self.old.identity) (λ p. p.identity ≡ self.old.identity) }
         ensures align { MatchResult result (λ p. p.align ≡ payload.align) (λ p. p.align ≡ payload.align) }
         ensures there { MatchResult result (λ p. p.start ≡ payload.start) (λ p. p.start ≡ payload.start) }
-        ensures back { IfErr result (λ p. (p.bytes ≡ payload.bytes) × IsWritten p) }
-        ensures live { IfOk result (λ p. align_at self.new.state p.start ≡ Some payload.align) }
-        ensures long { IfOk result (λ p. length p.bytes ≡ length (bytes_at self.new.state p.start)) }
-        ensures aligned { IfOk result (λ p. p.start % payload.align ≡ 0) }
-        ensures sized { IfOk result (λ p. size ≤ length p.bytes) }
-        ensures few { IfOk result (λ p. length p.bytes < size + 32) }
-        ensures kept { IfOk result (λ p. Keeps payload.bytes p.bytes) }
-        ensures each { IfOk result (λ p. (k : ℕ) → k < length payload.bytes → k < length p.bytes → slice_index p.bytes k ≡ slice_index payload.bytes k) }
+        ensures resized { IfOk result (λ p. IsReallocated self.new.state payload size payload.align p) }
         ensures here { IfOk result (λ p. IsKeptHere payload p) }
         ensures shrunk { IfOk result (λ p. length p.bytes ≤ length payload.bytes → IsWritten p) }
         ensures written { IsSettled self.old.memory → IfOk result (λ p. IsWritten p) }
-        ensures settled { IsSettled self.old.memory → IsSettled self.new.memory }
         ensures aligns { align_at self.new.state ≡ align_at self.old.state }
+        ensures refused { IfErr result (λ p. IsReturned self.old.state self.new.state payload.start payload p) }
+        ensures heap { KeepsHeap SLLEN size payload.align self.old self.new }
         ensures count { live_count self.new.state ≡ live_count self.old.state }
-        ensures bounds { (count most align : ℕ) → IsSizedFor SLLEN count most align self.old.state → size ≤ most → payload.align ≤ align → IsSizedFor SLLEN count most align self.new.state }
-        ensures chunks { self.new.state.chunks ≡ self.old.state.chunks }
-        ensures same { IfErr result (λ p. AreAlike self.old.state self.new.state) }
         ensures touches { self.new.memory.touches ≤ self.old.memory.touches + 28 }
-        ensures grow { self.old.memory.touches ≤ self.new.memory.touches }
         ensures copied { self.new.memory.copied ≡ self.old.memory.copied }
     {
         let view = self.memory.view();

@@ -16,6 +16,7 @@ use Rattle.rlsf_heap.specs.Heap.{HeapView, Identity, Steps, heap_view}
 use Rattle.rlsf_heap.specs.Raw.{bytes_of}
 use Rattle.rlsf_heap.specs.Reallocation.{owned_by}
 use Rattle.rlsf_heap.proofs.Arrivals.{Steps-arrived, bare-kept}
+use Rattle.rlsf_heap.proofs.Found.{live_somewhere}
 use Rattle.rlsf_heap.proofs.HandedOver.{IsHeap-resized, IsHeap-unchanged, SeesNewSize, SeesUnchanged, Steps-resized, Steps-unchanged, back_in, found, is_view, key}
 use Rattle.rlsf_heap.proofs.HandedOver.{resized_lies, resized_live, resized_own, sees_new_size, sees_unchanged}
 use Rattle.rlsf_heap.proofs.Leaving.{lies-usable}
@@ -114,8 +115,8 @@ returns-in_default-moved-clause-step g c =
     (λ t. IsLayout c.args.size c.args.payload.align → Reallocates g.row.SLLEN (owned_by c.args.self.now.state c.args.payload) c.args.payload.start c.args.size None t)
     (λ fits. did_not g d)
 
-pub returns-in_default-moved-clause-back : goal.returns-in_default-moved-clause-back
-returns-in_default-moved-clause-back g c = (unchanged g c).back
+pub returns-in_default-moved-clause-refused : goal.returns-in_default-moved-clause-refused
+returns-in_default-moved-clause-refused g c = (unchanged g c).returned
 
 pub returns-in_default-moved-clause-room : goal.returns-in_default-moved-clause-room
 returns-in_default-moved-clause-room g c = λ count size align sized few short fits whole.
@@ -129,20 +130,19 @@ returns-in_default-moved-clause-room g c = λ count size align sized few short f
 pub returns-in_default-moved-clause-count : goal.returns-in_default-moved-clause-count
 returns-in_default-moved-clause-count g c = (unchanged g c).count
 
-pub returns-in_default-moved-clause-bounds : goal.returns-in_default-moved-clause-bounds
-returns-in_default-moved-clause-bounds g c = λ count most align sized short fits. (unchanged g c).bounds count most align sized
+pub returns-in_default-moved-clause-heap : goal.returns-in_default-moved-clause-heap
+returns-in_default-moved-clause-heap g c =
+    let s = unchanged g c in record {
+      identity = search rules;
+      place = search rules;
+      settled = s.settled;
+      bounds = λ count most wide sized short fits. s.bounds count most wide sized;
+      chunks = s.chunks;
+      grow = search rules;
+    }
 
-pub returns-in_default-moved-clause-same : goal.returns-in_default-moved-clause-same
-returns-in_default-moved-clause-same g c = (unchanged g c).alike
-
-pub returns-in_default-moved-clause-same_aligns : goal.returns-in_default-moved-clause-same_aligns
-returns-in_default-moved-clause-same_aligns g c = (unchanged g c).aligns
-
-pub returns-in_default-moved-clause-settled : goal.returns-in_default-moved-clause-settled
-returns-in_default-moved-clause-settled g c = (unchanged g c).settled
-
-pub returns-in_default-moved-clause-copied : goal.returns-in_default-moved-clause-copied
-returns-in_default-moved-clause-copied g c =
+refused_copied : (g : given.Over) (c : After-hand_over-payload g) → c.hand_over-payload.new.memory.copied ≤ c.args.self.now.memory.copied + length c.args.payload.bytes
+refused_copied g c =
     let b = back g (refused g c) in
     let f = found c.self.invariant c.args.payload c.take_back.ensures.back c.used_block-block.ensures.counts c.addr-addr.ensures c.align-align.ensures
     c.used_block-block.ensures.block c.in-Ok.ensures.layout.1 in
@@ -150,8 +150,9 @@ returns-in_default-moved-clause-copied g c =
     let counted = ap (λ (o : HeapView). o.memory.copied) c.self.view_is in
     omega (arith, least, counted, long b, c.hand_over-payload.ensures.over.copied, c.used_block-block.ensures.counts.copied, c.take_back.ensures.back.copied)
 
-pub returns-in_default-moved-clause-stays : goal.returns-in_default-moved-clause-stays
-returns-in_default-moved-clause-stays g c = λ room.
+refused_in_place : (g : given.Over) (c : After-hand_over-payload g) → HasRoomToStay c.args.self.now.state c.args.payload.start c.args.size
+    → c.hand_over-payload.new.memory.copied ≡ c.args.self.now.memory.copied
+refused_in_place g c room =
     let b = back g (refused g c) in
     let f = found c.self.invariant c.args.payload c.take_back.ensures.back c.used_block-block.ensures.counts c.addr-addr.ensures c.align-align.ensures
     c.used_block-block.ensures.block c.in-Ok.ensures.layout.1 in
@@ -160,6 +161,9 @@ returns-in_default-moved-clause-stays g c = λ room.
     let there = subst (λ (n : ℕ). unmoved_plan (state b) (block b) n ≡ Some q) (sym c.in-Ok.ensures.layout.0) first in
     c.hand_over-payload.ensures.over.copied ∙ c.reallocate_block-moved.ensures.stays (state b) (block b) f.read f.used q there
     ∙ c.used_block-block.ensures.counts.copied ∙ c.take_back.ensures.back.copied ∙ ap (λ (o : HeapView). o.memory.copied) c.self.view_is
+
+pub returns-in_default-moved-clause-copied : goal.returns-in_default-moved-clause-copied
+returns-in_default-moved-clause-copied g c = record { copied = refused_copied g c; grow_copied = search rules; stays = refused_in_place g c }
 
 -- ---- the payload has another size, and is handed over
 
@@ -275,35 +279,24 @@ returns g c =
     let v = s.changed in record {
       step = moved_step g c;
       layout = λ ok. subst (IsLayout c.args.size) c.align-align.ensures (c.in-Ok.ensures.succeeds.0 refl);
-      identity = search rules;
-      place = search rules;
+      room = λ count most wide sized few short fits whole. refl;
       payload = search rules;
       align = c.hand_over-payload-2.ensures.over.align ∙ c.align-align.ensures;
-      back = tt;
-      live = v.seen.live;
-      long = s.long;
-      aligned = v.aligned;
-      sized = s.sized;
-      few = s.few;
-      kept = s.kept;
-      each = s.each;
-      here = s.here;
-      shrunk = s.shrunk;
-      written = s.written;
-      settled = s.settled;
-      new = v.seen.new;
-      aligns = v.seen.aligns;
-      room = λ count most align sized few short fits whole. refl;
+      resized = s.resized;
+      here = s.here.here;
+      shrunk = s.here.shrunk;
+      written = s.here.written;
+      others = record {
+        some = live_somewhere g.row.FLLEN g.row.SLLEN
+            (heap_view c.hand_over-payload-2.new.memory c.reallocate_block-moved.new.table c.reallocate.new.self.state c.hand_over-payload-2.new.ledger.name) _ c.hand_over-payload-2.result.start c.args.payload.align (moved_step g c) v.seen.live;
+        new = v.seen.new;
+        aligns = v.seen.aligns;
+      };
+      refused = tt;
+      heap = record { identity = search rules; place = search rules; settled = s.settled; bounds = v.bounds; chunks = v.chunks; grow = search rules };
       count = v.count;
-      bounds = v.bounds;
-      chunks = v.chunks;
-      same = tt;
-      same_aligns = tt;
       touches = search rules;
-      grow = search rules;
-      copied = moved_copied g c;
-      grow_copied = search rules;
-      stays = moved_in_place g c;
+      copied = record { copied = moved_copied g c; grow_copied = search rules; stays = moved_in_place g c };
     }
 
 -- ---- no layout has the size

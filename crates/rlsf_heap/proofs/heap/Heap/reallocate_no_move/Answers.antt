@@ -116,25 +116,27 @@ returns-then-not-resize_block-clause-step g c =
     (is_view c.args.payload) (refusing g d c.if-not-resize_block.true))
 
 pub returns-then-not-resize_block-clause-there : goal.returns-then-not-resize_block-clause-there
-returns-then-not-resize_block-clause-there g c = (unchanged g c).back.0
+returns-then-not-resize_block-clause-there g c = (unchanged g c).returned.start
 
-pub returns-then-not-resize_block-clause-back : goal.returns-then-not-resize_block-clause-back
-returns-then-not-resize_block-clause-back g c = let back = (unchanged g c).back in (back.1, back.2)
+pub returns-then-not-resize_block-clause-refused : goal.returns-then-not-resize_block-clause-refused
+returns-then-not-resize_block-clause-refused g c = (unchanged g c).returned
 
 pub returns-then-not-resize_block-clause-count : goal.returns-then-not-resize_block-clause-count
 returns-then-not-resize_block-clause-count g c = (unchanged g c).count
 
-pub returns-then-not-resize_block-clause-bounds : goal.returns-then-not-resize_block-clause-bounds
-returns-then-not-resize_block-clause-bounds g c = λ count most align sized short fits. (unchanged g c).bounds count most align sized
-
-pub returns-then-not-resize_block-clause-same : goal.returns-then-not-resize_block-clause-same
-returns-then-not-resize_block-clause-same g c = (unchanged g c).alike
+pub returns-then-not-resize_block-clause-heap : goal.returns-then-not-resize_block-clause-heap
+returns-then-not-resize_block-clause-heap g c =
+    let s = unchanged g c in record {
+      identity = search rules;
+      place = search rules;
+      settled = s.settled;
+      bounds = λ count most wide sized short fits. s.bounds count most wide sized;
+      chunks = s.chunks;
+      grow = search rules;
+    }
 
 pub returns-then-not-resize_block-clause-aligns : goal.returns-then-not-resize_block-clause-aligns
-returns-then-not-resize_block-clause-aligns g c = (unchanged g c).aligns
-
-pub returns-then-not-resize_block-clause-settled : goal.returns-then-not-resize_block-clause-settled
-returns-then-not-resize_block-clause-settled g c = (unchanged g c).settled
+returns-then-not-resize_block-clause-aligns g c = (unchanged g c).returned.aligns
 
 -- ---- the payload has another size, and is handed over
 
@@ -228,32 +230,20 @@ returns g c =
     let v = s.changed in record {
       step = stayed_step g c;
       layout = λ ok. subst (IsLayout c.args.size) c.align-align.ensures (c.in-Ok.ensures.succeeds.0 refl);
-      identity = search rules;
-      place = search rules;
       payload = search rules;
       align = c.hand_over-payload-2.ensures.over.align ∙ c.align-align.ensures;
       there = there g c;
-      back = tt;
-      live = v.seen.live;
-      long = s.long;
-      aligned = v.aligned;
-      sized = s.sized;
-      few = s.few;
-      kept = s.kept;
-      each = s.each;
-      here = s.here;
-      shrunk = s.shrunk;
-      written = s.written;
-      settled = s.settled;
+      resized = s.resized;
+      here = s.here.here;
+      shrunk = s.here.shrunk;
+      written = s.here.written;
       aligns =
           aligns_stay v.seen (there g c)
           (live_view c.self.inside.state.state (back g (done g c)) c.args.self.now c.self.view_is c.args.payload (is_view c.args.payload));
+      refused = tt;
+      heap = record { identity = search rules; place = search rules; settled = s.settled; bounds = v.bounds; chunks = v.chunks; grow = search rules };
       count = v.count;
-      bounds = v.bounds;
-      chunks = v.chunks;
-      same = tt;
       touches = search rules;
-      grow = search rules;
       copied = search rules;
     }
 

@@ -4,12 +4,11 @@ use Rattle.rlsf_model.specs.Reallocate.{Reallocates}
 use Rattle.rlsf_model.specs.Sized.{IsSizedFor, live_count}
 use Rattle.rlsf_heap.specs.Heap.{HeapView, PayloadView}
 use Rattle.rlsf_heap.specs.Replies.{CopiesToMove, IsReallocated, IsReturned, LeavesOthers}
-use Rattle.rlsf_heap.proofs.Found.{IsFound, as_found, heap_found, here_found, live_somewhere, step_found, thin_found}
+use Rattle.rlsf_heap.proofs.Found.{IsFound, as_found, heap_found, here_found, step_found, thin_found}
 use Rattle.rlsf_heap.proofs.heap.Heap.reallocate_thin.Goals as goal
 
 pub into_thin-requires : goal.into_thin-requires
-into_thin-requires g c =
-    live_somewhere g.row.FLLEN g.row.SLLEN c.reallocate.new.self _ c.in-Ok.payload.start c.find_payload-payload.result.align c.in-Ok.ensures.step c.in-Ok.ensures.live
+into_thin-requires g c = c.in-Ok.ensures.others.some
 
 pub returns-in-Ok : goal.returns-in-Ok
 returns-in-Ok g c =
@@ -25,21 +24,14 @@ returns-in-Ok g c =
       layout = λ ok. as_now (λ v from addr align to. IsLayout c.args.size align) (e.layout refl);
       room = λ count most wide sized few short fits is. refl;
       thin = thin_found f c.in-Ok.payload c.into_thin.result c.into_thin.ensures e.payload e.align;
-      payload = as_now (λ v from addr align to. IsReallocated new.state from c.args.size align to)
-          (record { live = e.live; long = e.long; aligned = e.aligned; sized = e.sized; few = e.few; kept = e.kept; each = e.each });
+      payload = as_now (λ v from addr align to. IsReallocated new.state from c.args.size align to) e.resized;
       here = here_found f c.in-Ok.payload c.into_thin.result.of thin (record { here = e.here; shrunk = e.shrunk; written = e.written });
-      others = as_now (λ v from addr align to. LeavesOthers v.state new.state addr to.start) (record {
-        some = live_somewhere g.row.FLLEN g.row.SLLEN new _ c.in-Ok.payload.start c.find_payload-payload.result.align e.step e.live;
-        new = e.new;
-        aligns = e.aligns;
-      });
+      others = as_now (λ v from addr align to. LeavesOthers v.state new.state addr to.start) e.others;
       refused = tt;
-      heap = heap_found f g.row.SLLEN c.args.size new
-          (record { identity = e.identity; place = e.place; settled = e.settled; bounds = e.bounds; chunks = e.chunks; grow = e.grow });
+      heap = heap_found f g.row.SLLEN c.args.size new e.heap;
       count = e.count ∙ ap (λ (v : HeapView). live_count v.state) f.heap;
       touches = omega (arith, e.touches, ap (λ (v : HeapView). v.memory.touches) f.heap);
-      copied = as_now (λ v from addr align to. CopiesToMove v.state from addr c.args.size v.memory.copied new.memory.copied)
-          (record { copied = e.copied; grow_copied = e.grow_copied; stays = e.stays });
+      copied = as_now (λ v from addr align to. CopiesToMove v.state from addr c.args.size v.memory.copied new.memory.copied) e.copied;
     }
 
 pub returns-in-Err : goal.returns-in-Err
@@ -59,12 +51,9 @@ returns-in-Err g c =
       payload = tt;
       here = tt;
       others = tt;
-      refused = as_now (λ v from addr align to. IsReturned v.state new.state addr from to)
-          (record { start = e.back.0; bytes = e.back.1; written = e.back.2; alike = e.same; aligns = e.same_aligns });
-      heap = heap_found f g.row.SLLEN c.args.size new
-          (record { identity = e.identity; place = e.place; settled = e.settled; bounds = e.bounds; chunks = e.chunks; grow = e.grow });
+      refused = as_now (λ v from addr align to. IsReturned v.state new.state addr from to) e.refused;
+      heap = heap_found f g.row.SLLEN c.args.size new e.heap;
       count = e.count ∙ ap (λ (v : HeapView). live_count v.state) f.heap;
       touches = omega (arith, e.touches, ap (λ (v : HeapView). v.memory.touches) f.heap);
-      copied = as_now (λ v from addr align to. CopiesToMove v.state from addr c.args.size v.memory.copied new.memory.copied)
-          (record { copied = e.copied; grow_copied = e.grow_copied; stays = e.stays });
+      copied = as_now (λ v from addr align to. CopiesToMove v.state from addr c.args.size v.memory.copied new.memory.copied) e.copied;
     }

@@ -22,13 +22,11 @@ returns-in-Ok g c =
       layout = λ ok. as_now (λ v from addr align to. IsLayout c.args.size align) (e.layout refl);
       thin = thin_found f c.in-Ok.payload c.into_thin.result c.into_thin.ensures e.payload e.align;
       there = as_now (λ v from addr align to. to.start ≡ addr) e.there;
-      payload = as_now (λ v from addr align to. IsReallocated new.state from c.args.size align to)
-          (record { live = e.live; long = e.long; aligned = e.aligned; sized = e.sized; few = e.few; kept = e.kept; each = e.each });
+      payload = as_now (λ v from addr align to. IsReallocated new.state from c.args.size align to) e.resized;
       here = here_found f c.in-Ok.payload c.into_thin.result.of thin (record { here = e.here; shrunk = e.shrunk; written = e.written });
       aligns = e.aligns ∙ ap (λ (v : HeapView). align_at v.state) f.heap;
       refused = tt;
-      heap = heap_found f g.row.SLLEN c.args.size new
-          (record { identity = e.identity; place = e.place; settled = e.settled; bounds = e.bounds; chunks = e.chunks; grow = e.grow });
+      heap = heap_found f g.row.SLLEN c.args.size new e.heap;
       count = e.count ∙ ap (λ (v : HeapView). live_count v.state) f.heap;
       touches = omega (arith, e.touches, ap (λ (v : HeapView). v.memory.touches) f.heap);
       copied = e.copied ∙ ap (λ (v : HeapView). v.memory.copied) f.heap;
@@ -50,10 +48,8 @@ returns-in-Err g c =
       payload = tt;
       here = tt;
       aligns = e.aligns ∙ ap (λ (v : HeapView). align_at v.state) f.heap;
-      refused = as_now (λ v from addr align to. IsReturned v.state new.state addr from to)
-          (record { start = e.there; bytes = e.back.0; written = e.back.1; alike = e.same; aligns = e.aligns });
-      heap = heap_found f g.row.SLLEN c.args.size new
-          (record { identity = e.identity; place = e.place; settled = e.settled; bounds = e.bounds; chunks = e.chunks; grow = e.grow });
+      refused = as_now (λ v from addr align to. IsReturned v.state new.state addr from to) e.refused;
+      heap = heap_found f g.row.SLLEN c.args.size new e.heap;
       count = e.count ∙ ap (λ (v : HeapView). live_count v.state) f.heap;
       touches = omega (arith, e.touches, ap (λ (v : HeapView). v.memory.touches) f.heap);
       copied = e.copied ∙ ap (λ (v : HeapView). v.memory.copied) f.heap;
