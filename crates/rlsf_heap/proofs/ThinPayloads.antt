@@ -16,9 +16,9 @@ use Rattle.rlsf_model.specs.Sized.{IsSizedFor, live_count}
 use Rattle.rlsf_model.specs.State.{State, Used, Holds, usable}
 use Rattle.rlsf_model.proofs.Payloads.{IsUsed-after_start}
 use Rattle.rlsf_table.specs.Table.{Table}
-use Rattle.rlsf_blocks.specs.Steps.LiveBlock.{AtEachBlock}
+use Rattle.rlsf_blocks.specs.Steps.LiveBlock.{AtEachBlock, IsLiveIn}
 use Rattle.rlsf_blocks.specs.StandsFor.{contents, StandsFor}
-use Rattle.rlsf_heap.specs.Heap.{AreIssued, HeapView, PayloadView, Stands, Steps, payload_range}
+use Rattle.rlsf_heap.specs.Heap.{AreIssued, HeapView, Identity, PayloadView, Stands, Steps, payload_range}
 use Rattle.rlsf_heap.specs.Raw.{IsWhole, bytes_of}
 use Rattle.rlsf_heap.specs.Thin.{reply_of}
 use Rattle.rlsf_heap.specs.ThinReplies.{AllocationLeaves}
@@ -62,6 +62,9 @@ module _ {fllen sllen : ℕ} {m : Space} {table : Table} {s : State} {entries : 
   pub wide : block.align ≡ of.align
   wide = (R.found v tickets key (bytes_of of) of.align known).4
 
+  pub live_in : IsLiveIn m addr
+  live_in = (fllen, sllen, contents m table, s, refl, v, (block, held))
+
   usable_is : usable block ≡ payload_range of
   usable_is = let found = R.found v tickets key (bytes_of of) of.align known in λ i. range_at (found.2 i) (found.3 i)
 
@@ -77,6 +80,12 @@ module _ {fllen sllen : ℕ} {m : Space} {table : Table} {s : State} {entries : 
       let at : payload_range of ≡ r = sym (ranged r each) in
       let seen : of.identity.home.view ≡ view = ap (λ (h : Home). h.view) home ∙ sym (ap (λ (o : Space). o.view) touched) ∙ sym viewed in
       subst (λ (o : Piece). CanCome o view r) (sym is) (subst (λ (u : View × Range). CanCome (bytes_of of) u.0 u.1) (λ i. (seen i, at i)) whole)
+
+  -- so the bytes of a payload that was found with its ticket do
+  pub comes_found : (h : Identity) → home_of m ≡ h.home → of.identity ≡ h → (p : PayloadView) → p ≡ of → (q : Piece) → (q ≡ bytes_of p) × IsWhole p → (n : Space)
+      → n ≡ record m { touches = m.touches + 3 } → (view : View) → view ≡ n.view → (r : Range) → AtEachBlock m addr (λ u. r ≡ usable u) → CanCome q view r
+  comes_found h home heap p same q bytes =
+      comes (subst IsWhole same bytes.1) (ap (λ (i : Identity). i.home) heap ∙ sym home) q (bytes.0 ∙ ap bytes_of same)
 
   module _ (n : Space) (touched : n ≡ record m { touches = m.touches + 3 }) (q : Piece) (one : q ≡ bytes_of of) (o : Space) (start : o.start ≡ n.start)
       (bytes : o.bytes ≡ n.bytes)

@@ -57,7 +57,7 @@ held g c =
 
 pub load_usable_bytes-range-requires : goal.load_usable_bytes-range-requires
 load_usable_bytes-range-requires g c =
-    (g.row.FLLEN, g.row.SLLEN, contents c.self.inside.memory c.self.inside.table, before g c, refl, c.self.invariant.stands, (block g c, held g c))
+    P.live_in c.self.invariant.stands c.self.invariant.tickets c.args.payload.of c.args.addr (ticket g c).key c.requires.some.0 (known g c)
 
 -- its bytes are those of the heap's memory
 pub into_part-part-requires : goal.into_part-part-requires

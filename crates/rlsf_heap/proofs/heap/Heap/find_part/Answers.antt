@@ -1,13 +1,11 @@
-use Rattle.std.proofs.Common.{◌≡◌, ◌+◌, List, Some, refl, sym, ap, subst, ◌∙◌}
+use Rattle.std.proofs.Common.{◌≡◌, ◌+◌, List, Some, refl, sym, ap, subst}
 use Rattle.rlsf_base.specs.Ledger.{Entry}
 use Rattle.rlsf_base.specs.Space.{Space}
 use Rattle.rlsf_base.specs.declared.memory.ledger.Ledger.{Ledger}
 use Rattle.rlsf_model.specs.Callers.{align_at}
 use Rattle.rlsf_blocks.specs.Laws.{read_from}
-use Rattle.rlsf_blocks.specs.StandsFor.{contents}
 use Rattle.rlsf_blocks.proofs.Machine.Counted.{StandsFor-touched}
-use Rattle.rlsf_heap.specs.Heap.{HeapView, Identity, IsHeap}
-use Rattle.rlsf_heap.specs.Raw.{IsWhole, bytes_of}
+use Rattle.rlsf_heap.specs.Heap.{HeapView, IsHeap}
 use Rattle.rlsf_heap.proofs.PayloadsApart.{shown_live}
 use Rattle.rlsf_heap.proofs.ThinPayloads as P
 use Rattle.rlsf_heap.proofs.heap.Heap.find_part.Goals as goal
@@ -15,26 +13,16 @@ use Rattle.rlsf_heap.proofs.heap.Heap.find_part.Goals as goal
 pub load_usable_bytes-range-requires : goal.load_usable_bytes-range-requires
 load_usable_bytes-range-requires g c =
     let (k, known) = c.checked-payload.ensures.issued in
-    let v = c.self.invariant.stands in let tickets = c.self.invariant.tickets in (
-      g.row.FLLEN,
-      g.row.SLLEN,
-      contents c.self.inside.memory c.self.inside.table,
-      read_from c.self.inside.memory c.self.inside.state.state,
-      refl,
-      v,
-      (P.block v tickets c.args.payload.of c.args.addr k c.requires.some.0 known, P.held v tickets c.args.payload.of c.args.addr k c.requires.some.0 known),
-    )
+    P.live_in c.self.invariant.stands c.self.invariant.tickets c.args.payload.of c.args.addr k c.requires.some.0 known
 
 pub into_part-part-requires : goal.into_part-part-requires
 into_part-part-requires g c =
     let (k, known) = c.checked-payload.ensures.issued in
-    let same = c.checked-payload.ensures.payload.1 in
-    P.comes c.self.invariant.stands c.self.invariant.tickets c.args.payload.of c.args.addr k c.requires.some.0 known
-    (subst IsWhole same c.into_parts.ensures.bytes.1)
-    (ap (λ (h : Identity). h.home) c.requires.heap ∙ sym (ap (λ (v : HeapView). v.identity.home) c.self.view_is))
-    c.into_parts.result.0.piece (c.into_parts.ensures.bytes.0 ∙ ap bytes_of same)
-    c.load_usable_bytes-range.new.memory c.load_usable_bytes-range.ensures.memory c.view-view.result c.view-view.ensures c.load_usable_bytes-range.result
-    c.load_usable_bytes-range.ensures.range
+    P.comes_found c.self.invariant.stands c.self.invariant.tickets c.args.payload.of c.args.addr k c.requires.some.0 known
+    c.args.self.now.identity (ap (λ (v : HeapView). v.identity.home) c.self.view_is) c.requires.heap
+    c.checked-payload.result.of c.checked-payload.ensures.payload.1 c.into_parts.result.0.piece c.into_parts.ensures.bytes
+    c.load_usable_bytes-range.new.memory c.load_usable_bytes-range.ensures.memory c.view-view.result c.view-view.ensures
+    c.load_usable_bytes-range.result c.load_usable_bytes-range.ensures.range
 
 pub invariant_of-self : goal.invariant_of-self
 invariant_of-self g c =

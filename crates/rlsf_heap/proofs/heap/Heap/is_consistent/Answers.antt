@@ -6,7 +6,6 @@ use Rattle.rlsf_blocks.specs.Laws.{read_from}
 use Rattle.rlsf_consistency_check.specs.Consistent.{IsConsistent}
 use Rattle.rlsf_consistency_check.proofs.Represented.{represented_is_consistent}
 use Rattle.rlsf_heap.specs.Heap.{HeapView}
-use Rattle.rlsf_heap.proofs.heap.Heap.is_consistent.Given as given
 use Rattle.rlsf_heap.proofs.heap.Heap.is_consistent.Goals as goal
 
 pub is_consistent-requires : goal.is_consistent-requires

@@ -24,7 +24,7 @@ use Rattle.rlsf_reallocate.specs.Steps.Resize.{IsResized}
 use Rattle.rlsf_tlsf.specs.Steps.Moves.{bare, reallocated}
 use Rattle.rlsf_tlsf.proofs.Arrivals.{arrived}
 use Rattle.rlsf_heap.specs.Heap.{AreIssued, HeapView, Identity, IsWritten, PayloadView, Steps, heap_view, payload_view}
-use Rattle.rlsf_heap.specs.Raw.{IsWhole, bytes_of}
+use Rattle.rlsf_heap.specs.Raw.{bytes_of}
 use Rattle.rlsf_heap.specs.Reallocation.{IsKeptHere, owned_by}
 use Rattle.rlsf_heap.specs.Replies.{IsReallocated}
 use Rattle.rlsf_heap.specs.Settled.{IsSettled}
@@ -50,26 +50,16 @@ use Rattle.rlsf_heap.proofs.heap.Heap.resize_thin_unknown_align.Goals.{After-put
 pub load_usable_bytes-was-requires : goal.load_usable_bytes-was-requires
 load_usable_bytes-was-requires g c =
     let (k, known) = c.checked-payload.ensures.issued in
-    let v = c.self.invariant.stands in let tickets = c.self.invariant.tickets in (
-      g.row.FLLEN,
-      g.row.SLLEN,
-      contents c.self.inside.memory c.self.inside.table,
-      read_from c.self.inside.memory c.self.inside.state.state,
-      refl,
-      v,
-      (P.block v tickets c.args.payload.of c.args.addr k c.requires.some.0 known, P.held v tickets c.args.payload.of c.args.addr k c.requires.some.0 known),
-    )
+    P.live_in c.self.invariant.stands c.self.invariant.tickets c.args.payload.of c.args.addr k c.requires.some.0 known
 
 pub into_part-part-requires : goal.into_part-part-requires
 into_part-part-requires g c =
     let (k, known) = c.checked-payload.ensures.issued in
-    let same = c.checked-payload.ensures.payload.1 in
-    P.comes c.self.invariant.stands c.self.invariant.tickets c.args.payload.of c.args.addr k c.requires.some.0 known
-    (subst IsWhole same c.into_parts.ensures.bytes.1)
-    (ap (λ (h : Identity). h.home) c.requires.heap ∙ sym (ap (λ (v : HeapView). v.identity.home) c.self.view_is))
-    c.into_parts.result.0.piece (c.into_parts.ensures.bytes.0 ∙ ap bytes_of same)
-    c.load_usable_bytes-was.new.memory c.load_usable_bytes-was.ensures.memory c.view-view.result c.view-view.ensures c.load_usable_bytes-was.result
-    c.load_usable_bytes-was.ensures.range
+    P.comes_found c.self.invariant.stands c.self.invariant.tickets c.args.payload.of c.args.addr k c.requires.some.0 known
+    c.args.self.now.identity (ap (λ (v : HeapView). v.identity.home) c.self.view_is) c.requires.heap
+    c.checked-payload.result.of c.checked-payload.ensures.payload.1 c.into_parts.result.0.piece c.into_parts.ensures.bytes
+    c.load_usable_bytes-was.new.memory c.load_usable_bytes-was.ensures.memory c.view-view.result c.view-view.ensures
+    c.load_usable_bytes-was.result c.load_usable_bytes-was.ensures.range
 
 pub put_back-requires-clause-home : goal.put_back-requires-clause-home
 put_back-requires-clause-home g c =

@@ -1,8 +1,7 @@
-use Rattle.std.proofs.Common.{◌≡◌, Some, length, refl, ap, subst}
+use Rattle.std.proofs.Common.{◌≡◌, Some, length, ap, subst}
 use Rattle.rlsf_base.specs.declared.memory.range.Range.{Range}
 use Rattle.rlsf_model.specs.Callers.{align_at, bytes_at}
 use Rattle.rlsf_blocks.specs.Laws.{read_from}
-use Rattle.rlsf_blocks.specs.StandsFor.{contents}
 use Rattle.rlsf_heap.specs.Heap.{HeapView}
 use Rattle.rlsf_heap.proofs.PayloadsApart.{shown_live, shown_long}
 use Rattle.rlsf_heap.proofs.ThinPayloads as P
@@ -11,15 +10,7 @@ use Rattle.rlsf_heap.proofs.heap.Heap.usable_thin.Goals as goal
 pub usable_bytes-range-requires : goal.usable_bytes-range-requires
 usable_bytes-range-requires g c =
     let (k, known) = c.checked-payload.ensures.issued in
-    let v = c.self.invariant.stands in let tickets = c.self.invariant.tickets in (
-      g.row.FLLEN,
-      g.row.SLLEN,
-      contents c.self.inside.memory c.self.inside.table,
-      read_from c.self.inside.memory c.self.inside.state.state,
-      refl,
-      v,
-      (P.block v tickets c.args.payload.of c.args.addr k c.requires.some.0 known, P.held v tickets c.args.payload.of c.args.addr k c.requires.some.0 known),
-    )
+    P.live_in c.self.invariant.stands c.self.invariant.tickets c.args.payload.of c.args.addr k c.requires.some.0 known
 
 pub returns-clause-len : goal.returns-clause-len
 returns-clause-len g c =
