@@ -120,7 +120,8 @@ module _ {fllen sllen : ℕ} {m n : Space} {table changed : Table} {s t : State}
 -- ---- a refused allocation changes nothing
 
 module _ {fl_bits sl_bits fllen sllen : ℕ} {m n : Space} {x y : Table} {k t : State} {es : List Entry} {count : ℕ}
-    (is : IsHeap fl_bits sl_bits fllen sllen m x k es count) (size align : ℕ) (step : Allocates sllen (read_from m k) size align None t) (stands : StandsFor fllen sllen (contents n y) t) where
+    (is : IsHeap fl_bits sl_bits fllen sllen m x k es count) (size align : ℕ) (step : Allocates sllen (read_from m k) size align None t)
+    (stands : StandsFor fllen sllen (contents n y) t) where
   stands_still : StandsFor fllen sllen (contents n y) (read_from m k)
   stands_still = subst (StandsFor fllen sllen (contents n y)) step.1 stands
 

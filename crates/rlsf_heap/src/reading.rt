@@ -93,13 +93,6 @@ impl<FLBitmap: Bitmap, SLBitmap: Bitmap, const FLLEN: usize, const SLLEN: usize>
     FLLEN,
     SLLEN,
 > {
-    /// Returns the first-level bitmap, as `Tlsf::fl_bitmap` does. The bit of a row is set if and only if the row has a free block.
-    pub fn fl_bitmap(&self) -> FLBitmap
-        ensures { (fl : ℕ) → bit (FLBitmap.pattern result) fl ≡ list_any (is_in_row SLLEN fl) self.now.state.free }
-    {
-        self.table.fl_bitmap()
-    }
-
     /// Returns the second-level bitmap of the row `fl`, as `Tlsf::sl_bitmap` does. The bit of a class is set if and only if the
     /// class has a free block.
     ///
@@ -109,5 +102,12 @@ impl<FLBitmap: Bitmap, SLBitmap: Bitmap, const FLLEN: usize, const SLLEN: usize>
         ensures { (sl : ℕ) → bit (SLBitmap.pattern result) sl ≡ list_any (has_class SLLEN (class_at fl sl)) self.now.state.free }
     {
         self.table.sl_bitmap(fl)
+    }
+
+    /// Returns the first-level bitmap, as `Tlsf::fl_bitmap` does. The bit of a row is set if and only if the row has a free block.
+    pub fn fl_bitmap(&self) -> FLBitmap
+        ensures { (fl : ℕ) → bit (FLBitmap.pattern result) fl ≡ list_any (is_in_row SLLEN fl) self.now.state.free }
+    {
+        self.table.fl_bitmap()
     }
 }

@@ -99,7 +99,8 @@ impl<FLBitmap: BitPattern, SLBitmap: BitPattern, const FLLEN: usize, const SLLEN
     pub fn reallocate_no_move(&mut self, payload: Payload, size: usize) -> Result<Payload, Payload>
         requires identity { payload.identity ≡ self.old.identity }
         requires written { IsWritten payload }
-        ensures step { Steps FLLEN SLLEN self.new (λ t. IsLayout size payload.align → ReallocatesWithoutMove (owned_by self.old.state payload) payload.start size (moved_to result) t) }
+        ensures step { Steps FLLEN SLLEN self.new (λ t. IsLayout size payload.align
+            → ReallocatesWithoutMove (owned_by self.old.state payload) payload.start size (moved_to result) t) }
         ensures layout { IsOk result → IsLayout size payload.align }
         ensures payload { MatchResult result (λ p. p.identity ≡ self.old.identity) (λ p. p.identity ≡ self.old.identity) }
         ensures align { MatchResult result (λ p. p.align ≡ payload.align) (λ p. p.align ≡ payload.align) }

@@ -53,7 +53,8 @@ returns-in_err-addr-clause-heap g c =
       identity = o.identity;
       place = o.place;
       settled = λ settled. settled-stays stays (settled-inside c.self.inside.state.state c.args.self.now c.self.view_is settled);
-      bounds = λ count most wide sized short fits. sized_refused c.self.invariant c.args.layout.size c.args.layout.align step stands c.args.self.now c.self.view_is count most wide sized;
+      bounds = λ count most wide sized short fits.
+          sized_refused c.self.invariant c.args.layout.size c.args.layout.align step stands c.args.self.now c.self.view_is count most wide sized;
       chunks = ap (λ (s : State). s.chunks) same.1;
       grow = o.grow;
     }

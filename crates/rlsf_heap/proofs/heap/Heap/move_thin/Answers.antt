@@ -73,8 +73,7 @@ returns-in_default g c =
       gone = tt;
       others = tt;
       refused = (of_is, e.same ∙ state, e.refused ∙ ap (λ (v : HeapView). v.memory.bytes) heap);
-      heap = kept_found g.row.SLLEN c.args.layout.size c.args.layout.align c.args.self.now c.find_part-part.new.self c.allocate.new.self heap
-          e.heap;
+      heap = kept_found g.row.SLLEN c.args.layout.size c.args.layout.align c.args.self.now c.find_part-part.new.self c.allocate.new.self heap e.heap;
       count = ap live_count (e.same ∙ state);
       touches = omega (arith, e.touches, ap (λ (v : HeapView). v.memory.touches) heap);
       copied = e.copied ∙ ap (λ (v : HeapView). v.memory.copied) heap;
@@ -110,8 +109,9 @@ returns g c =
       };
       payload = record {
         live = ap (align_at c.put_written.new.self.state) is ∙ p.aligns c.in-Some.to.start (λ e. other g c (e ∙ from g c)) ∙ a.payload.live;
-        long = as_long g c ∙ a.payload.long ∙ ap length (sym (others_stay g.row.FLLEN g.row.SLLEN c.args.self.now c.find_part-part.new.self c.allocate.new.self c.put_written.new.self
-            heap c.args.layout.size c.args.layout.align c.args.addr c.find_part-part.result.0.start c.in-Some.to.start (from g c) a.step p.step c.in-Some.to.start (other g c)))
+        long = as_long g c ∙ a.payload.long ∙ ap length (sym (others_stay g.row.FLLEN g.row.SLLEN c.args.self.now c.find_part-part.new.self c.allocate.new.self
+            c.put_written.new.self heap c.args.layout.size c.args.layout.align c.args.addr c.find_part-part.result.0.start c.in-Some.to.start (from g c) a.step
+            p.step c.in-Some.to.start (other g c)))
             ∙ ap (λ n. length (bytes_at c.put_written.new.self.state n)) (sym is);
         aligned = subst (λ n. n % c.args.layout.align ≡ 0) (sym is) a.payload.aligned;
         sized = subst (λ n. c.args.layout.size ≤ n) (sym (as_long g c)) a.payload.sized;

@@ -288,7 +288,8 @@ returns g c =
       written = s.here.written;
       others = record {
         some = live_somewhere g.row.FLLEN g.row.SLLEN
-            (heap_view c.hand_over-payload-2.new.memory c.reallocate_block-moved.new.table c.reallocate.new.self.state c.hand_over-payload-2.new.ledger.name) _ c.hand_over-payload-2.result.start c.args.payload.align (moved_step g c) v.seen.live;
+            (heap_view c.hand_over-payload-2.new.memory c.reallocate_block-moved.new.table c.reallocate.new.self.state c.hand_over-payload-2.new.ledger.name) _
+            c.hand_over-payload-2.result.start c.args.payload.align (moved_step g c) v.seen.live;
         new = v.seen.new;
         aligns = v.seen.aligns;
       };

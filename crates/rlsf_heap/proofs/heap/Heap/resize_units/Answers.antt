@@ -61,7 +61,8 @@ fits : (g : given.Over) (d : After-put_unit_tail-block g) → d.args.tail.kept �
 fits g d = omega (arith, d.requires.kept)
 
 behind : (g : given.Over) (d : After-put_unit_tail-block g) (size : ℕ) → size ≡ d.args.size → IsOwnedBehind d.put_unit_tail-block.new.self (block g d) size
-behind g d size same = subst (IsOwnedBehind d.put_unit_tail-block.new.self (block g d)) (sym same) (tails.own-behind d.self.invariant.stands d.self.invariant.tickets d.args.tail.key d.args.tail.start d.args.tail.len
+behind g d size same = subst (IsOwnedBehind d.put_unit_tail-block.new.self (block g d)) (sym same)
+    (tails.own-behind d.self.invariant.stands d.self.invariant.tickets d.args.tail.key d.args.tail.start d.args.tail.len
     d.put_unit_tail-block.ensures.issued d.args.tail.kept d.args.tail.within.0 d.put_unit_tail-block.new.self d.put_unit_tail-block.ensures.start
     d.put_unit_tail-block.ensures.bytes d.put_unit_tail-block.ensures.out d.args.size (fits g d))
 
@@ -201,7 +202,8 @@ returns-then-not-resize_kept_block-clause-there g c =
     (start, c.take_unit_tail.result.placed.at ∙ (λ i. pointer_to (view i) (start i)) ∙ sym c.args.tail.placed.at)
 
 pub returns-then-not-resize_kept_block-clause-shrinks : goal.returns-then-not-resize_kept_block-clause-shrinks
-returns-then-not-resize_kept_block-clause-shrinks g c = let d = put-of g c in λ shorter. absurd (tails.shrinks d.self.invariant.stands d.self.invariant.tickets d.args.tail.key d.args.tail.start d.args.tail.len
+returns-then-not-resize_kept_block-clause-shrinks g c = let d = put-of g c in λ shorter. absurd
+    (tails.shrinks d.self.invariant.stands d.self.invariant.tickets d.args.tail.key d.args.tail.start d.args.tail.len
     d.put_unit_tail-block.ensures.issued c.args.size shorter (refused g c))
 
 same : (g : given.Over) (c : After-take_unit_tail g) → read_from c.take_unit_tail.new.self c.self.inside.state.state ≡ c.args.self.now.state
@@ -227,7 +229,8 @@ take_unit_tail-requires-2-clause-place g c =
     let (q, first, place, (t, replans, now, spare)) = c.resize_kept_block.ensures.done (before g d) (block g d) (back g d) (used g d)
     (behind g d c.from_size_align_unchecked-sought.result.size c.from_size_align_unchecked-sought.ensures.0) c.if-not-resize_kept_block.false in
     let first_is = subst (λ k. unmoved_plan (before g d) (block g d) k ≡ Some q) c.from_size_align_unchecked-sought.ensures.0 first in
-    let place_is : q.payload ≡ (block g d).payload = place ∙ at g d ∙ sym (tails.there d.self.invariant.stands d.self.invariant.tickets d.args.tail.key d.args.tail.start d.args.tail.len
+    let place_is : q.payload ≡ (block g d).payload = place ∙ at g d ∙ sym
+    (tails.there d.self.invariant.stands d.self.invariant.tickets d.args.tail.key d.args.tail.start d.args.tail.len
     d.put_unit_tail-block.ensures.issued) in
     let inside = tails.fresh-lies d.self.invariant.stands d.self.invariant.tickets d.args.tail.key d.args.tail.start d.args.tail.len
     d.put_unit_tail-block.ensures.issued d.args.tail.kept d.args.tail.within.0 d.put_unit_tail-block.new.self d.put_unit_tail-block.ensures.start
@@ -247,7 +250,8 @@ take_unit_tail-requires-2-clause-own g c =
     let (q, first, place, (t, replans, now, spare)) = c.resize_kept_block.ensures.done (before g d) (block g d) (back g d) (used g d)
     (behind g d c.from_size_align_unchecked-sought.result.size c.from_size_align_unchecked-sought.ensures.0) c.if-not-resize_kept_block.false in
     let first_is = subst (λ k. unmoved_plan (before g d) (block g d) k ≡ Some q) c.from_size_align_unchecked-sought.ensures.0 first in
-    let place_is : q.payload ≡ (block g d).payload = place ∙ at g d ∙ sym (tails.there d.self.invariant.stands d.self.invariant.tickets d.args.tail.key d.args.tail.start d.args.tail.len
+    let place_is : q.payload ≡ (block g d).payload = place ∙ at g d ∙ sym
+    (tails.there d.self.invariant.stands d.self.invariant.tickets d.args.tail.key d.args.tail.start d.args.tail.len
     d.put_unit_tail-block.ensures.issued) in
     λ a lo hi.
     tails.fresh-own d.self.invariant.stands d.self.invariant.tickets d.args.tail.key d.args.tail.start d.args.tail.len
@@ -259,14 +263,16 @@ abbrev first-of : (g : given.Over) (c : After-take_unit_tail-2 g) → After-put_
 first-of g c = (goal.at.invariant_of-self-2 g c).After-put_unit_tail-block
 
 made : (g : given.Over) (c : After-take_unit_tail-2 g)
-    → IsResized g.row.FLLEN g.row.SLLEN c.put_unit_tail-block.new.self c.resize_kept_block.new.memory c.resize_kept_block.new.table (before g (first-of g c)) (block g (first-of g c))
+    → IsResized g.row.FLLEN g.row.SLLEN c.put_unit_tail-block.new.self c.resize_kept_block.new.memory c.resize_kept_block.new.table (before g (first-of g c))
+    (block g (first-of g c))
     c.args.size (block g (first-of g c)).payload
 made g c =
     let d = first-of g c in
     let (q, first, place, (t, replans, now, spare)) = c.resize_kept_block.ensures.done (before g d) (block g d) (back g d) (used g d)
     (behind g d c.from_size_align_unchecked-sought.result.size c.from_size_align_unchecked-sought.ensures.0) c.if-not-resize_kept_block.false in
     let first_is = subst (λ k. unmoved_plan (before g d) (block g d) k ≡ Some q) c.from_size_align_unchecked-sought.ensures.0 first in
-    let place_is : q.payload ≡ (block g d).payload = place ∙ at g d ∙ sym (tails.there d.self.invariant.stands d.self.invariant.tickets d.args.tail.key d.args.tail.start d.args.tail.len
+    let place_is : q.payload ≡ (block g d).payload = place ∙ at g d ∙ sym
+    (tails.there d.self.invariant.stands d.self.invariant.tickets d.args.tail.key d.args.tail.start d.args.tail.len
     d.put_unit_tail-block.ensures.issued) in
     (q, first_is, place_is, (t, replans, now, spare))
 
@@ -309,7 +315,8 @@ entries-2 g c =
 
 anew : (g : given.Over) (c : After-take_unit_tail-2 g) → AreIssued (after g c) c.issue-ticket-2.new.self.entries
 unfolding after
-anew g c = let d = first-of g c in subst (AreIssued (after g c)) (entries-2 g c) (tails.issued-anew d.self.invariant.stands d.self.invariant.tickets d.args.tail.key d.args.tail.start d.args.tail.len
+anew g c = let d = first-of g c in subst (AreIssued (after g c)) (entries-2 g c)
+    (tails.issued-anew d.self.invariant.stands d.self.invariant.tickets d.args.tail.key d.args.tail.start d.args.tail.len
     d.put_unit_tail-block.ensures.issued d.args.tail.kept d.args.tail.within.0 d.put_unit_tail-block.new.self d.put_unit_tail-block.ensures.start
     d.put_unit_tail-block.ensures.bytes d.put_unit_tail-block.ensures.out d.args.size (made g c).1 (made g c).2 (made g c).3.1 (made g c).3.2
     c.resize_kept_block.ensures.costs.start c.resize_kept_block.ensures.own)
@@ -343,7 +350,8 @@ stepped-2 g c = let d = first-of g c in tails.step d.self.invariant.stands d.sel
     d.put_unit_tail-block.ensures.bytes d.put_unit_tail-block.ensures.out d.args.size (made g c).1 (made g c).2 (made g c).3.1 (made g c).3.2
     c.resize_kept_block.ensures.costs.start c.resize_kept_block.ensures.own
 
-did : (g : given.Over) (c : After-take_unit_tail-2 g) → ReallocatesWithoutMove c.args.self.now.state c.args.tail.start c.args.size (Some c.take_unit_tail-2.result.start) (now-2 g c)
+did : (g : given.Over) (c : After-take_unit_tail-2 g)
+    → ReallocatesWithoutMove c.args.self.now.state c.args.tail.start c.args.size (Some c.take_unit_tail-2.result.start) (now-2 g c)
 did g c =
     let d = first-of g c in
     let there : (block g d).payload ≡ c.args.tail.start = tails.there d.self.invariant.stands d.self.invariant.tickets d.args.tail.key d.args.tail.start d.args.tail.len
@@ -352,7 +360,8 @@ did g c =
     (λ o t. ReallocatesWithoutMove o c.args.tail.start c.args.size (Some c.take_unit_tail-2.result.start) t)
     (subst (λ (a : ℕ × ℕ). ReallocatesWithoutMove (before g d) a.0 c.args.size (Some a.1) (after g c)) (λ i. (there i, (there ∙ sym (start-2 g c)) i)) (stepped-2 g c))
 
-moves : (g : given.Over) (c : After-take_unit_tail-2 g) → Reallocates g.row.SLLEN c.args.self.now.state c.args.tail.start c.args.size (Some c.take_unit_tail-2.result.start) (now-2 g c)
+moves : (g : given.Over) (c : After-take_unit_tail-2 g)
+    → Reallocates g.row.SLLEN c.args.self.now.state c.args.tail.start c.args.size (Some c.take_unit_tail-2.result.start) (now-2 g c)
 moves g c = (unmoved_is_reallocated g.row.SLLEN c.args.self.now.state (now-2 g c) c.args.tail.start c.args.size (Some c.take_unit_tail-2.result.start) (did g c)).0.1
 
 well : (g : given.Over) (c : After-take_unit_tail-2 g) → IsWellFormed g.row.FLLEN g.row.SLLEN (range_of c.args.self.now.memory) c.args.self.now.state
