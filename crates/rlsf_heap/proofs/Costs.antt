@@ -1,10 +1,15 @@
 -- What a call leaves of a heap: which one it is, where its memory is, and how many touches were counted.
-use Rattle.std.proofs.Common.{◌≡◌, ℕ, ◌+◌, ◌≤◌, length, ap, subst, ◌∙◌}
+use Rattle.std.proofs.Common.{◌≡◌, ℕ, ◌+◌, ◌≤◌, List, length, arith, refl, sym, ap, subst, ◌∙◌}
+use Rattle.rlsf_base.specs.declared.memory.range.Range.{Range}
+use Rattle.rlsf_base.specs.Ledger.{Entry}
 use Rattle.rlsf_base.specs.OpenSpace.{Home, home_of}
 use Rattle.rlsf_base.specs.Space.{Space}
 use Rattle.rlsf_model.specs.State.{State}
+use Rattle.rlsf_table.specs.Counts.{Costs, Counts}
 use Rattle.rlsf_table.specs.Table.{Table}
-use Rattle.rlsf_heap.specs.Heap.{HeapView, Identity, heap_view}
+use Rattle.rlsf_heap.specs.Handover.{IsHandedOver, IsTakenBack}
+use Rattle.rlsf_heap.specs.Heap.{HeapView, Identity, IsWritten, PayloadView, heap_view}
+use Rattle.rlsf_heap.specs.Replies.{IsReturned, KeepsHeap}
 
 -- the memory stays where it is, and no more than so many touches were counted, which are never taken back
 pub record Leaves (m n : Space) (most : ℕ) : Type 0 where
@@ -13,6 +18,39 @@ pub record Leaves (m n : Space) (most : ℕ) : Type 0 where
   pub view : n.view ≡ m.view
   pub touches : n.touches ≤ m.touches + most
   pub grow : m.touches ≤ n.touches
+
+-- by one call after another
+pub left_then : {l m n : Space} {most more : ℕ} → Leaves l m most → Leaves m n more → Leaves l n (most + more)
+left_then is then = record {
+  start = then.start ∙ is.start;
+  length = then.length ∙ is.length;
+  view = then.view ∙ is.view;
+  touches = omega (arith, is.touches, then.touches);
+  grow = omega (arith, is.grow, then.grow);
+}
+
+pub left_counts : {m n : Space} {most : ℕ} → Counts m n most → Leaves m n most
+left_counts is = record { start = is.start; length = ap length is.bytes; view = is.view; touches = is.touches; grow = is.grow }
+
+pub left_costs : {m n : Space} {most moved : ℕ} → Costs m n most moved → Leaves m n most
+left_costs is = record { start = is.start; length = is.length; view = is.view; touches = is.touches; grow = is.grow }
+
+-- three words were read
+pub left_touched : {m n : Space} → n ≡ record m { touches = m.touches + 3 } → Leaves m n 3
+left_touched {m = m} is = record {
+  start = ap (λ (o : Space). o.start) is;
+  length = ap (λ (o : Space). length o.bytes) is;
+  view = ap (λ (o : Space). o.view) is;
+  touches = omega (arith, ap (λ (o : Space). o.touches) is);
+  grow = omega (arith, ap (λ (o : Space). o.touches) is);
+}
+
+-- a payload left the memory, or came back
+pub left_over : {m n : Space} {r : Range} {wide ledger : ℕ} {es fs : List Entry} {p : PayloadView} → IsHandedOver m n r wide ledger es fs p → Leaves m n 0
+left_over is = record { start = is.start; length = ap length is.bytes; view = is.view; touches = omega (arith, is.touches); grow = omega (arith, is.touches) }
+
+pub left_taken : {m n : Space} {es fs : List Entry} {p : PayloadView} → IsTakenBack m n es fs p → Leaves m n 0
+left_taken is = record { start = is.start; length = is.long; view = is.view; touches = omega (arith, is.touches); grow = omega (arith, is.touches) }
 
 -- as contracts see it
 pub record SeesLeft (old new : HeapView) (most : ℕ) : Type 0 where
@@ -33,6 +71,21 @@ module _ (m n : Space) (x y : Table) (j k : State) (ledger name most : ℕ) (is 
       touches = is.touches;
       grow = is.grow;
     })
+
+-- a heap that is unchanged is kept
+pub kept_same : (sllen size align : ℕ) (v : HeapView) → KeepsHeap sllen size align v v
+kept_same sllen size align v = record {
+  identity = refl;
+  place = (refl, refl);
+  settled = λ settled. settled;
+  bounds = λ count most wide sized short fits. sized;
+  chunks = refl;
+  grow = omega arith;
+}
+
+-- and a payload that goes back to its caller at once is as it was
+pub returned_same : (v : HeapView) (p : PayloadView) → IsWritten p → IsReturned v.state v.state p.start p p
+returned_same v p written = record { start = refl; bytes = refl; written = written; alike = record { chunks = refl; used = refl; free = refl }; aligns = refl }
 
 -- a payload whose bytes were in the memory is one of the heap
 pub is_of_heap : (m n : Space) (x : Table) (j : State) (ledger name most : ℕ) → Leaves m n most → name ≡ ledger → (old : HeapView) → heap_view m x j ledger ≡ old

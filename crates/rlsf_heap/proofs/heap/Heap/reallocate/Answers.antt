@@ -2,11 +2,13 @@ use Rattle.std.proofs.Common.{◌≡◌, ℕ, ◌+◌, ◌≤◌, length, None, 
 use Rattle.std.proofs.lemmas.Bool.{false≢true}
 use Rattle.rlsf_base.specs.declared.memory.range.Range.{Range}
 use Rattle.rlsf_base.specs.Layout.{IsLayout}
+use Rattle.rlsf_base.specs.OpenSpace.{home_of}
 use Rattle.rlsf_base.specs.Range.{LiesIn, range_at}
 use Rattle.rlsf_base.specs.Space.{Space}
 use Rattle.rlsf_base.proofs.Lending.Present.{own-here}
 use Rattle.rlsf_model.specs.NoMove.{unmoved_plan}
 use Rattle.rlsf_model.specs.Reallocate.{HasRoomToStay, Reallocates}
+use Rattle.rlsf_model.specs.Sized.{live_count}
 use Rattle.rlsf_model.specs.State.{State}
 use Rattle.rlsf_table.proofs.Parameters.{IsValid-widest}
 use Rattle.rlsf_blocks.specs.Laws.{read_from}
@@ -16,6 +18,7 @@ use Rattle.rlsf_heap.specs.Heap.{HeapView, Identity, Steps, heap_view}
 use Rattle.rlsf_heap.specs.Raw.{bytes_of}
 use Rattle.rlsf_heap.specs.Reallocation.{owned_by}
 use Rattle.rlsf_heap.proofs.Arrivals.{Steps-arrived, bare-kept}
+use Rattle.rlsf_heap.proofs.Costs.{Leaves, is_of_heap, kept_same, left_counts, left_over, left_taken, left_then, left_touched, returned_same, sees_left}
 use Rattle.rlsf_heap.proofs.Found.{live_somewhere}
 use Rattle.rlsf_heap.proofs.HandedOver.{IsHeap-resized, IsHeap-unchanged, SeesNewSize, SeesUnchanged, Steps-resized, Steps-unchanged, back_in, found, is_view, key}
 use Rattle.rlsf_heap.proofs.HandedOver.{resized_lies, resized_live, resized_own, sees_new_size, sees_unchanged}
@@ -107,39 +110,15 @@ did_not : (g : given.Over) (c : In_default-moved g)
 did_not g c = did_view c.self.inside.state.state (back g c) c.args.self.now c.self.view_is c.args.payload (is_view c.args.payload)
     (refusing g c).0
 
-pub returns-in_default-moved-clause-step : goal.returns-in_default-moved-clause-step
-returns-in_default-moved-clause-step g c =
+refused_step : (g : given.Over) (c : After-hand_over-payload g) → Steps g.row.FLLEN g.row.SLLEN
+    (heap_view c.hand_over-payload.new.memory c.reallocate_block-moved.new.table c.self.inside.state.state c.hand_over-payload.new.ledger.name)
+    (λ t. IsLayout c.args.size c.args.payload.align → Reallocates g.row.SLLEN (owned_by c.args.self.now.state c.args.payload) c.args.payload.start c.args.size None t)
+refused_step g c =
     let d = refused g c in
     Steps-unchanged c.self.invariant c.args.payload c.take_back.ensures.back c.args.self.now c.self.view_is (refusing g d).1 (refused_stays g d) c.addr-addr.ensures
     c.len-len.ensures c.align-align.ensures c.hand_over-payload.ensures.over c.hand_over-payload.new.ledger.name
     (λ t. IsLayout c.args.size c.args.payload.align → Reallocates g.row.SLLEN (owned_by c.args.self.now.state c.args.payload) c.args.payload.start c.args.size None t)
     (λ fits. did_not g d)
-
-pub returns-in_default-moved-clause-refused : goal.returns-in_default-moved-clause-refused
-returns-in_default-moved-clause-refused g c = (unchanged g c).returned
-
-pub returns-in_default-moved-clause-room : goal.returns-in_default-moved-clause-room
-returns-in_default-moved-clause-room g c = λ count size align sized few short fits whole.
-    let d = refused g c in
-    let k = c.self.inside.state.state in
-    let v = is_view c.args.payload in
-    absurd (never_refused_reallocation (well k (back g d) c.args.self.now c.self.view_is c.args.payload v) c.args.payload.start c.args.payload.bytes
-    (fills_view k (back g d) c.args.self.now c.self.view_is c.args.payload v) (state (back g d)) c.args.size c.args.payload.align
-    (live_view k (back g d) c.args.self.now c.self.view_is c.args.payload v) count size align sized short fits few (did_not g d))
-
-pub returns-in_default-moved-clause-count : goal.returns-in_default-moved-clause-count
-returns-in_default-moved-clause-count g c = (unchanged g c).count
-
-pub returns-in_default-moved-clause-heap : goal.returns-in_default-moved-clause-heap
-returns-in_default-moved-clause-heap g c =
-    let s = unchanged g c in record {
-      identity = search rules;
-      place = search rules;
-      settled = s.settled;
-      bounds = λ count most wide sized short fits. s.bounds count most wide sized;
-      chunks = s.chunks;
-      grow = search rules;
-    }
 
 refused_copied : (g : given.Over) (c : After-hand_over-payload g) → c.hand_over-payload.new.memory.copied ≤ c.args.self.now.memory.copied + length c.args.payload.bytes
 refused_copied g c =
@@ -162,8 +141,57 @@ refused_in_place g c room =
     c.hand_over-payload.ensures.over.copied ∙ c.reallocate_block-moved.ensures.stays (state b) (block b) f.read f.used q there
     ∙ c.used_block-block.ensures.counts.copied ∙ c.take_back.ensures.back.copied ∙ ap (λ (o : HeapView). o.memory.copied) c.self.view_is
 
-pub returns-in_default-moved-clause-copied : goal.returns-in_default-moved-clause-copied
-returns-in_default-moved-clause-copied g c = record { copied = refused_copied g c; grow_copied = search rules; stays = refused_in_place g c }
+refused_grow : (g : given.Over) (c : After-hand_over-payload g) → c.args.self.now.memory.copied ≤ c.hand_over-payload.new.memory.copied
+refused_grow g c =
+    omega (arith, ap (λ (o : HeapView). o.memory.copied) c.self.view_is, c.take_back.ensures.back.copied, c.used_block-block.ensures.counts.copied,
+    c.reallocate_block-moved.ensures.grow_copied, c.hand_over-payload.ensures.over.copied)
+
+-- the memory before its bytes leave again
+refused_left : (g : given.Over) (c : In_default-moved g) → Leaves c.self.inside.memory c.reallocate_block-moved.new.memory 66
+refused_left g c =
+    let e = c.in_default-moved.ensures in
+    left_then (left_taken c.take_back.ensures.back) (left_then (left_counts c.used_block-block.ensures.counts)
+    (record { start = e.place.0; length = e.place.1; view = e.place.2; touches = e.touches; grow = e.grow }))
+
+pub returns-in_default-moved : goal.returns-in_default-moved
+returns-in_default-moved g c =
+    let d = refused g c in
+    let k = c.self.inside.state.state in
+    let v = is_view c.args.payload in
+    let e = c.hand_over-payload.ensures in
+    let ledger = c.self.inside.ledger.name in
+    let name = c.take_back.ensures.name in
+    let left = refused_left g d in
+    let o = sees_left c.self.inside.memory c.hand_over-payload.new.memory c.self.inside.table c.reallocate_block-moved.new.table k k ledger
+    c.hand_over-payload.new.ledger.name 66 (left_then left (left_over e.over)) (e.name ∙ name) c.args.self.now c.self.view_is in
+    let s = unchanged g c in record {
+      step = refused_step g c;
+      layout = λ ok. absurd (false≢true ok);
+      room = λ count most wide sized few short fits whole.
+          absurd (never_refused_reallocation (well k (back g d) c.args.self.now c.self.view_is c.args.payload v) c.args.payload.start c.args.payload.bytes
+          (fills_view k (back g d) c.args.self.now c.self.view_is c.args.payload v) (state (back g d)) c.args.size c.args.payload.align
+          (live_view k (back g d) c.args.self.now c.self.view_is c.args.payload v) count most wide sized short fits few (did_not g d));
+      payload = is_of_heap c.self.inside.memory c.reallocate_block-moved.new.memory c.self.inside.table k ledger c.take_back.new.ledger.name 66 left name
+          c.args.self.now c.self.view_is (home_of c.reallocate_block-moved.new.memory) refl c.hand_over-payload.result.identity e.over.identity;
+      align = e.over.align ∙ c.align-align.ensures;
+      resized = tt;
+      here = tt;
+      shrunk = tt;
+      written = λ settled. tt;
+      others = tt;
+      refused = s.returned;
+      heap = record {
+        identity = o.identity;
+        place = o.place;
+        settled = s.settled;
+        bounds = λ count most wide sized short fits. s.bounds count most wide sized;
+        chunks = s.chunks;
+        grow = o.grow;
+      };
+      count = s.count;
+      touches = omega (arith, o.touches);
+      copied = record { copied = refused_copied g c; grow_copied = refused_grow g c; stays = refused_in_place g c };
+    }
 
 -- ---- the payload has another size, and is handed over
 
@@ -273,15 +301,35 @@ moved_in_place g c room =
     ∙ c.reallocate_block-moved.ensures.stays (state b) (block b) f.read f.used q there
     ∙ c.used_block-block.ensures.counts.copied ∙ c.take_back.ensures.back.copied ∙ ap (λ (o : HeapView). o.memory.copied) c.self.view_is
 
+moved_grow : (g : given.Over) (c : After-hand_over-payload-2 g) → c.args.self.now.memory.copied ≤ c.hand_over-payload-2.new.memory.copied
+moved_grow g c =
+    omega (arith, ap (λ (o : HeapView). o.memory.copied) c.self.view_is, c.take_back.ensures.back.copied, c.used_block-block.ensures.counts.copied,
+    c.reallocate_block-moved.ensures.grow_copied, ap (λ (o : Space). o.copied) c.load_usable_bytes-range.ensures.memory, c.hand_over-payload-2.ensures.over.copied)
+
+-- the memory before its bytes leave
+moved_left : (g : given.Over) (c : After-hand_over-payload-2 g) → Leaves c.self.inside.memory c.load_usable_bytes-range.new.memory 69
+moved_left g c =
+    let e = c.in-Some.ensures in
+    left_then (left_taken c.take_back.ensures.back) (left_then (left_counts c.used_block-block.ensures.counts)
+    (left_then (record { start = e.place.0; length = e.place.1; view = e.place.2; touches = e.touches; grow = e.grow })
+    (left_touched c.load_usable_bytes-range.ensures.memory)))
+
 pub returns : goal.returns
 returns g c =
+    let e = c.hand_over-payload-2.ensures in
+    let ledger = c.self.inside.ledger.name in
+    let name = c.take_back.ensures.name in
+    let left = moved_left g c in
+    let o = sees_left c.self.inside.memory c.hand_over-payload-2.new.memory c.self.inside.table c.reallocate_block-moved.new.table c.self.inside.state.state
+    c.reallocate.new.self.state ledger c.hand_over-payload-2.new.ledger.name 69 (left_then left (left_over e.over)) (e.name ∙ name) c.args.self.now c.self.view_is in
     let s = resized g c in
     let v = s.changed in record {
       step = moved_step g c;
       layout = λ ok. subst (IsLayout c.args.size) c.align-align.ensures (c.in-Ok.ensures.succeeds.0 refl);
       room = λ count most wide sized few short fits whole. refl;
-      payload = search rules;
-      align = c.hand_over-payload-2.ensures.over.align ∙ c.align-align.ensures;
+      payload = is_of_heap c.self.inside.memory c.load_usable_bytes-range.new.memory c.self.inside.table c.self.inside.state.state ledger c.take_back.new.ledger.name
+          69 left name c.args.self.now c.self.view_is (home_of c.load_usable_bytes-range.new.memory) refl c.hand_over-payload-2.result.identity e.over.identity;
+      align = e.over.align ∙ c.align-align.ensures;
       resized = s.resized;
       here = s.here.here;
       shrunk = s.here.shrunk;
@@ -294,18 +342,35 @@ returns g c =
         aligns = v.seen.aligns;
       };
       refused = tt;
-      heap = record { identity = search rules; place = search rules; settled = s.settled; bounds = v.bounds; chunks = v.chunks; grow = search rules };
+      heap = record { identity = o.identity; place = o.place; settled = s.settled; bounds = v.bounds; chunks = v.chunks; grow = o.grow };
       count = v.count;
-      touches = search rules;
-      copied = record { copied = moved_copied g c; grow_copied = search rules; stays = moved_in_place g c };
+      touches = o.touches;
+      copied = record { copied = moved_copied g c; grow_copied = moved_grow g c; stays = moved_in_place g c };
     }
 
 -- ---- no layout has the size
 
-pub returns-in_default-clause-step : goal.returns-in_default-clause-step
-returns-in_default-clause-step g c =
-    subst (λ (o : HeapView). Steps g.row.FLLEN g.row.SLLEN o (λ t. IsLayout c.args.size c.args.payload.align
-    → Reallocates g.row.SLLEN (owned_by c.args.self.now.state c.args.payload) c.args.payload.start c.args.size None t)) c.self.view_is
-    (Steps-arrived c.self.invariant.stands c.self.inside.state.state (sym (bare-kept c.self.invariant)) c.self.inside.ledger.name
-    (λ t. IsLayout c.args.size c.args.payload.align → Reallocates g.row.SLLEN (owned_by c.args.self.now.state c.args.payload) c.args.payload.start c.args.size None t)
-    (λ fits. absurd (false≢true (c.in_default.ensures.succeeds.1 (subst (IsLayout c.args.size) (sym c.align-align.ensures) fits)))))
+pub returns-in_default : goal.returns-in_default
+returns-in_default g c =
+    let none : IsLayout c.args.size c.args.payload.align → ⊥ =
+    λ fits. false≢true (c.in_default.ensures.succeeds.1 (subst (IsLayout c.args.size) (sym c.align-align.ensures) fits)) in record {
+      step = subst (λ (o : HeapView). Steps g.row.FLLEN g.row.SLLEN o (λ t. IsLayout c.args.size c.args.payload.align
+          → Reallocates g.row.SLLEN (owned_by c.args.self.now.state c.args.payload) c.args.payload.start c.args.size None t)) c.self.view_is
+          (Steps-arrived c.self.invariant.stands c.self.inside.state.state (sym (bare-kept c.self.invariant)) c.self.inside.ledger.name
+          (λ t. IsLayout c.args.size c.args.payload.align → Reallocates g.row.SLLEN (owned_by c.args.self.now.state c.args.payload) c.args.payload.start c.args.size None t)
+          (λ fits. absurd (none fits)));
+      layout = λ ok. absurd (false≢true ok);
+      room = λ count most wide sized few short fits whole. absurd (none whole);
+      payload = c.requires.identity;
+      align = refl;
+      resized = tt;
+      here = tt;
+      shrunk = tt;
+      written = λ settled. tt;
+      others = tt;
+      refused = returned_same c.args.self.now c.args.payload c.requires.written;
+      heap = kept_same g.row.SLLEN c.args.size c.args.payload.align c.args.self.now;
+      count = refl;
+      touches = omega arith;
+      copied = record { copied = omega arith; grow_copied = omega arith; stays = λ room. refl };
+    }

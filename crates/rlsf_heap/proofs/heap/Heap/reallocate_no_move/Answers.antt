@@ -2,7 +2,9 @@ use Rattle.std.proofs.Common.{◌≡◌, ◌+◌, true, false, length, None, Som
 use Rattle.std.proofs.lemmas.Bool.{false≢true}
 use Rattle.rlsf_base.specs.declared.memory.range.Range.{Range}
 use Rattle.rlsf_base.specs.Layout.{IsLayout}
+use Rattle.rlsf_base.specs.OpenSpace.{home_of}
 use Rattle.rlsf_base.specs.Range.{LiesIn, range_at}
+use Rattle.rlsf_base.specs.Space.{Space}
 use Rattle.rlsf_base.proofs.Lending.Present.{own-here}
 use Rattle.rlsf_model.specs.NoMove.{ReallocatesWithoutMove}
 use Rattle.rlsf_model.specs.State.{State, usable}
@@ -16,6 +18,7 @@ use Rattle.rlsf_heap.specs.Heap.{HeapView, Identity, Steps, heap_view}
 use Rattle.rlsf_heap.specs.Raw.{bytes_of}
 use Rattle.rlsf_heap.specs.Reallocation.{owned_by}
 use Rattle.rlsf_heap.proofs.Arrivals.{Steps-arrived, bare-kept}
+use Rattle.rlsf_heap.proofs.Costs.{Leaves, is_of_heap, kept_same, left_costs, left_counts, left_over, left_taken, left_then, left_touched, returned_same, sees_left}
 use Rattle.rlsf_heap.proofs.HandedOver.{IsHeap-resized, IsHeap-unchanged, SeesNewSize, SeesUnchanged, Steps-resized, Steps-unchanged, back_in, found, is_view, key}
 use Rattle.rlsf_heap.proofs.HandedOver.{resized_lies, resized_live, resized_own, sees_new_size, sees_unchanged, stayed_resized}
 use Rattle.rlsf_heap.proofs.Leaving.{lies-usable}
@@ -106,8 +109,16 @@ unchanged g c =
     sees_unchanged c.self.invariant c.args.payload c.take_back.ensures.back c.args.self.now c.self.view_is (same_stands g d c.if-not-resize_block.true) (across g d)
     c.addr-addr.ensures c.len-len.ensures c.align-align.ensures c.hand_over-payload.ensures.over
 
-pub returns-then-not-resize_block-clause-step : goal.returns-then-not-resize_block-clause-step
-returns-then-not-resize_block-clause-step g c =
+-- no byte is copied
+copied_before : (g : given.Over) (c : After-resize_block g) → c.resize_block.new.memory.copied ≡ c.args.self.now.memory.copied
+copied_before g c =
+    omega (arith, ap (λ (o : HeapView). o.memory.copied) c.self.view_is, c.take_back.ensures.back.copied, c.used_block-block.ensures.counts.copied,
+    c.resize_block.ensures.costs.copied)
+
+refused_step : (g : given.Over) (c : After-hand_over-payload g) → Steps g.row.FLLEN g.row.SLLEN
+    (heap_view c.hand_over-payload.new.memory c.resize_block.new.table c.self.inside.state.state c.hand_over-payload.new.ledger.name)
+    (λ t. IsLayout c.args.size c.args.payload.align → ReallocatesWithoutMove (owned_by c.args.self.now.state c.args.payload) c.args.payload.start c.args.size None t)
+refused_step g c =
     let d = refused g c in
     Steps-unchanged c.self.invariant c.args.payload c.take_back.ensures.back c.args.self.now c.self.view_is (same_stands g d c.if-not-resize_block.true) (across g d)
     c.addr-addr.ensures c.len-len.ensures c.align-align.ensures c.hand_over-payload.ensures.over c.hand_over-payload.new.ledger.name
@@ -115,28 +126,45 @@ returns-then-not-resize_block-clause-step g c =
     (λ fits. stayed_view c.self.inside.state.state (back g d) c.args.self.now c.self.view_is c.args.payload
     (is_view c.args.payload) (refusing g d c.if-not-resize_block.true))
 
-pub returns-then-not-resize_block-clause-there : goal.returns-then-not-resize_block-clause-there
-returns-then-not-resize_block-clause-there g c = (unchanged g c).returned.start
+-- the memory before its bytes leave
+left_resized : (g : given.Over) (c : After-resize_block g) → Leaves c.self.inside.memory c.resize_block.new.memory 25
+left_resized g c =
+    left_then (left_taken c.take_back.ensures.back) (left_then (left_counts c.used_block-block.ensures.counts) (left_costs c.resize_block.ensures.costs))
 
-pub returns-then-not-resize_block-clause-refused : goal.returns-then-not-resize_block-clause-refused
-returns-then-not-resize_block-clause-refused g c = (unchanged g c).returned
-
-pub returns-then-not-resize_block-clause-count : goal.returns-then-not-resize_block-clause-count
-returns-then-not-resize_block-clause-count g c = (unchanged g c).count
-
-pub returns-then-not-resize_block-clause-heap : goal.returns-then-not-resize_block-clause-heap
-returns-then-not-resize_block-clause-heap g c =
+pub returns-then-not-resize_block : goal.returns-then-not-resize_block
+returns-then-not-resize_block g c =
+    let k = c.self.inside.state.state in
+    let e = c.hand_over-payload.ensures in
+    let ledger = c.self.inside.ledger.name in
+    let name = c.take_back.ensures.name in
+    let left = left_resized g (refused g c) in
+    let o = sees_left c.self.inside.memory c.hand_over-payload.new.memory c.self.inside.table c.resize_block.new.table k k ledger
+    c.hand_over-payload.new.ledger.name 25 (left_then left (left_over e.over)) (e.name ∙ name) c.args.self.now c.self.view_is in
     let s = unchanged g c in record {
-      identity = search rules;
-      place = search rules;
-      settled = s.settled;
-      bounds = λ count most wide sized short fits. s.bounds count most wide sized;
-      chunks = s.chunks;
-      grow = search rules;
+      step = refused_step g c;
+      layout = λ ok. absurd (false≢true ok);
+      payload = is_of_heap c.self.inside.memory c.resize_block.new.memory c.self.inside.table k ledger c.take_back.new.ledger.name 25 left name
+          c.args.self.now c.self.view_is (home_of c.resize_block.new.memory) refl c.hand_over-payload.result.identity e.over.identity;
+      align = e.over.align ∙ c.align-align.ensures;
+      there = s.returned.start;
+      resized = tt;
+      here = tt;
+      shrunk = tt;
+      written = λ settled. tt;
+      aligns = s.returned.aligns;
+      refused = s.returned;
+      heap = record {
+        identity = o.identity;
+        place = o.place;
+        settled = s.settled;
+        bounds = λ count most wide sized short fits. s.bounds count most wide sized;
+        chunks = s.chunks;
+        grow = o.grow;
+      };
+      count = s.count;
+      touches = omega (arith, o.touches);
+      copied = e.over.copied ∙ copied_before g (refused g c);
     }
-
-pub returns-then-not-resize_block-clause-aligns : goal.returns-then-not-resize_block-clause-aligns
-returns-then-not-resize_block-clause-aligns g c = (unchanged g c).returned.aligns
 
 -- ---- the payload has another size, and is handed over
 
@@ -226,12 +254,19 @@ stayed_step g c =
 
 pub returns : goal.returns
 returns g c =
+    let e = c.hand_over-payload-2.ensures in
+    let ledger = c.self.inside.ledger.name in
+    let name = c.take_back.ensures.name in
+    let left = left_then (left_resized g (done g c)) (left_touched c.load_usable_bytes-range.ensures.memory) in
+    let o = sees_left c.self.inside.memory c.hand_over-payload-2.new.memory c.self.inside.table c.resize_block.new.table c.self.inside.state.state
+    c.reallocate.new.self.state ledger c.hand_over-payload-2.new.ledger.name 28 (left_then left (left_over e.over)) (e.name ∙ name) c.args.self.now c.self.view_is in
     let s = resized g c in
     let v = s.changed in record {
       step = stayed_step g c;
       layout = λ ok. subst (IsLayout c.args.size) c.align-align.ensures (c.in-Ok.ensures.succeeds.0 refl);
-      payload = search rules;
-      align = c.hand_over-payload-2.ensures.over.align ∙ c.align-align.ensures;
+      payload = is_of_heap c.self.inside.memory c.load_usable_bytes-range.new.memory c.self.inside.table c.self.inside.state.state ledger c.take_back.new.ledger.name
+          28 left name c.args.self.now c.self.view_is (home_of c.load_usable_bytes-range.new.memory) refl c.hand_over-payload-2.result.identity e.over.identity;
+      align = e.over.align ∙ c.align-align.ensures;
       there = there g c;
       resized = s.resized;
       here = s.here.here;
@@ -241,18 +276,35 @@ returns g c =
           aligns_stay v.seen (there g c)
           (live_view c.self.inside.state.state (back g (done g c)) c.args.self.now c.self.view_is c.args.payload (is_view c.args.payload));
       refused = tt;
-      heap = record { identity = search rules; place = search rules; settled = s.settled; bounds = v.bounds; chunks = v.chunks; grow = search rules };
+      heap = record { identity = o.identity; place = o.place; settled = s.settled; bounds = v.bounds; chunks = v.chunks; grow = o.grow };
       count = v.count;
-      touches = search rules;
-      copied = search rules;
+      touches = o.touches;
+      copied = e.over.copied ∙ ap (λ (o : Space). o.copied) c.load_usable_bytes-range.ensures.memory ∙ copied_before g (done g c);
     }
 
 -- ---- no layout has the size
 
-pub returns-in_default-clause-step : goal.returns-in_default-clause-step
-returns-in_default-clause-step g c =
-    subst (λ (o : HeapView). Steps g.row.FLLEN g.row.SLLEN o (λ t. IsLayout c.args.size c.args.payload.align
-    → ReallocatesWithoutMove (owned_by c.args.self.now.state c.args.payload) c.args.payload.start c.args.size None t)) c.self.view_is
-    (Steps-arrived c.self.invariant.stands c.self.inside.state.state (sym (bare-kept c.self.invariant)) c.self.inside.ledger.name
-    (λ t. IsLayout c.args.size c.args.payload.align → ReallocatesWithoutMove (owned_by c.args.self.now.state c.args.payload) c.args.payload.start c.args.size None t)
-    (λ fits. absurd (false≢true (c.in_default.ensures.succeeds.1 (subst (IsLayout c.args.size) (sym c.align-align.ensures) fits)))))
+pub returns-in_default : goal.returns-in_default
+returns-in_default g c =
+    let none : IsLayout c.args.size c.args.payload.align → ⊥ =
+    λ fits. false≢true (c.in_default.ensures.succeeds.1 (subst (IsLayout c.args.size) (sym c.align-align.ensures) fits)) in record {
+      step = subst (λ (o : HeapView). Steps g.row.FLLEN g.row.SLLEN o (λ t. IsLayout c.args.size c.args.payload.align
+          → ReallocatesWithoutMove (owned_by c.args.self.now.state c.args.payload) c.args.payload.start c.args.size None t)) c.self.view_is
+          (Steps-arrived c.self.invariant.stands c.self.inside.state.state (sym (bare-kept c.self.invariant)) c.self.inside.ledger.name
+          (λ t. IsLayout c.args.size c.args.payload.align → ReallocatesWithoutMove (owned_by c.args.self.now.state c.args.payload) c.args.payload.start c.args.size None t)
+          (λ fits. absurd (none fits)));
+      layout = λ ok. absurd (false≢true ok);
+      payload = c.requires.identity;
+      align = refl;
+      there = refl;
+      resized = tt;
+      here = tt;
+      shrunk = tt;
+      written = λ settled. tt;
+      aligns = refl;
+      refused = returned_same c.args.self.now c.args.payload c.requires.written;
+      heap = kept_same g.row.SLLEN c.args.size c.args.payload.align c.args.self.now;
+      count = refl;
+      touches = omega arith;
+      copied = refl;
+    }
