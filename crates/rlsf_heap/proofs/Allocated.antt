@@ -1,6 +1,6 @@
 -- Allocation: a payload is placed, and its bytes leave the memory.
 use Rattle.std.proofs.Common.{◌≡◌, ℕ, ◌+◌, ◌-◌, ◌%◌, ◌^◌, ◌<◌, ◌≤◌, true, List, [], ◌∷◌, ◌++◌, length, None, Some, arith, inl, inr, refl, sym, ap, subst}
-use Rattle.std.proofs.Common.{◌∙◌}
+use Rattle.std.proofs.Common.{IfNone, IfSome, Option, ◌∙◌}
 use Rattle.rlsf_base.specs.Ledger.{Entry, Extent, entry_of}
 use Rattle.rlsf_base.specs.OpenSpace.{IsOwned, SameOwn, out_without}
 use Rattle.rlsf_base.specs.PowerOfTwo.{IsPowerOfTwo}
@@ -172,3 +172,11 @@ module _ {fl_bits sl_bits fllen sllen : ℕ} {m n o : Space} {table changed : Ta
         chunks = ap (λ (s : State). s.chunks) did.after;
         bounds = λ most longest widest sized short fits. sized_new well now most longest widest sized size align (Some at) p.power short fits did;
       }
+
+-- ---- what a call says of a payload that it didn't return
+
+pub if_some : {A : Type 0} {r : Option A} (Is : A → Type 0) → r ≡ None → IfSome r Is
+if_some Is none = subst (λ o. IfSome o Is) (sym none) tt
+
+pub if_none : {A : Type 0} {r : Option A} (Is : Type 0) → r ≡ None → Is → IfNone r Is
+if_none Is none is = subst (λ o. IfNone o Is) (sym none) is

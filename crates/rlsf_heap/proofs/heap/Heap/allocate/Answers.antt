@@ -12,8 +12,8 @@ use Rattle.rlsf_tlsf.specs.Steps.Moves.{allocated, bare}
 use Rattle.rlsf_tlsf.proofs.Moved.{allocated-bare}
 use Rattle.rlsf_heap.specs.Heap.{AreIssued, HeapView, Steps, addr_of, heap_view}
 use Rattle.rlsf_heap.proofs.Allocated.{IsHeap-refused, SeesPlaced, Steps-refused, long_placed, none_refused, refused, seen_placed, sized_refused}
-use Rattle.rlsf_heap.proofs.Allocated.{Placing, at_new, is_new, issued-new, new, one_more, new-here, new-lies, placing-counted, stands-left}
-use Rattle.rlsf_heap.proofs.Costs.{Leaves, is_of_heap, sees_left}
+use Rattle.rlsf_heap.proofs.Allocated.{Placing, at_new, if_none, if_some, is_new, issued-new, new, one_more, new-here, new-lies, placing-counted, stands-left}
+use Rattle.rlsf_heap.proofs.Costs.{Leaves, is_of_heap, left_costs, sees_left}
 use Rattle.rlsf_heap.proofs.Arrivals.{IsHeap-arrived, bare-kept}
 use Rattle.rlsf_blocks.proofs.Words.Stays.{Stays, Stays-same, Stays-then}
 use Rattle.rlsf_heap.specs.Settled.{IsSettled}
@@ -29,34 +29,37 @@ invariant_of-self g c =
     let (t, step, stands, spare) = c.in_err-addr.ensures.step (read_from c.self.inside.memory c.self.inside.state.state) c.self.invariant.stands in
     IsHeap-refused c.self.invariant c.args.layout.size c.args.layout.align step stands
 
-pub returns-in_err-addr-clause-step : goal.returns-in_err-addr-clause-step
-returns-in_err-addr-clause-step g c =
-    let (t, step, stands, spare) = c.in_err-addr.ensures.step (read_from c.self.inside.memory c.self.inside.state.state) c.self.invariant.stands in
-    subst (λ o. Steps g.row.FLLEN g.row.SLLEN (heap_view c.allocate_block.new.memory c.allocate_block.new.table c.self.inside.state.state c.self.inside.ledger.name)
-    (Allocates g.row.SLLEN c.args.self.now.state c.args.layout.size c.args.layout.align (addr_of o))) (sym c.from_residual.ensures)
-    (Steps-refused c.self.invariant c.args.layout.size c.args.layout.align step stands c.args.self.now c.self.view_is)
-
-pub returns-in_err-addr-clause-room : goal.returns-in_err-addr-clause-room
-returns-in_err-addr-clause-room g c = λ count size align sized few short fits.
-    let (t, step, stands, spare) = c.in_err-addr.ensures.step (read_from c.self.inside.memory c.self.inside.state.state) c.self.invariant.stands in
-    absurd (none_refused c.self.invariant c.args.layout.size c.args.layout.align step stands c.args.self.now c.self.view_is count size align sized few short fits)
-
-pub returns-in_err-addr-clause-heap : goal.returns-in_err-addr-clause-heap
-returns-in_err-addr-clause-heap g c =
-    let (t, step, stands, spare) = c.in_err-addr.ensures.step (read_from c.self.inside.memory c.self.inside.state.state) c.self.invariant.stands in
-    let a = c.in_err-addr.ensures.costs in
-    let left : Leaves c.self.inside.memory c.allocate_block.new.memory 27 = record { start = a.start; length = a.length; view = a.view; touches = a.touches; grow = a.grow } in
-    let o = sees_left c.self.inside.memory c.allocate_block.new.memory c.self.inside.table c.allocate_block.new.table c.self.inside.state.state c.self.inside.state.state
-    c.self.inside.ledger.name c.self.inside.ledger.name 27 left refl c.args.self.now c.self.view_is in
-    let stays : Stays c.self.inside.memory c.allocate_block.new.memory = record { start = a.start; own = c.in_err-addr.ensures.own; here = c.in_err-addr.ensures.here } in
-    let same = refused c.self.invariant c.args.layout.size c.args.layout.align step stands c.args.self.now c.self.view_is in record {
-      identity = o.identity;
-      place = o.place;
-      settled = λ settled. settled-stays stays (settled-inside c.self.inside.state.state c.args.self.now c.self.view_is settled);
-      bounds = λ count most wide sized short fits.
-          sized_refused c.self.invariant c.args.layout.size c.args.layout.align step stands c.args.self.now c.self.view_is count most wide sized;
-      chunks = ap (λ (s : State). s.chunks) same.1;
-      grow = o.grow;
+pub returns-in_err-addr : goal.returns-in_err-addr
+returns-in_err-addr g c =
+    let k = c.self.inside.state.state in
+    let e = c.in_err-addr.ensures in
+    let (t, step, stands, spare) = e.step (read_from c.self.inside.memory k) c.self.invariant.stands in
+    let none = c.from_residual.ensures in
+    let now = heap_view c.allocate_block.new.memory c.allocate_block.new.table k c.self.inside.ledger.name in
+    let o = sees_left c.self.inside.memory c.allocate_block.new.memory c.self.inside.table c.allocate_block.new.table k k c.self.inside.ledger.name
+    c.self.inside.ledger.name 27 (left_costs e.costs) refl c.args.self.now c.self.view_is in
+    let stays : Stays c.self.inside.memory c.allocate_block.new.memory = record { start = e.costs.start; own = e.own; here = e.here } in
+    let same = (refused c.self.invariant c.args.layout.size c.args.layout.align step stands c.args.self.now c.self.view_is).1 in record {
+      step = subst (λ o. Steps g.row.FLLEN g.row.SLLEN now (Allocates g.row.SLLEN c.args.self.now.state c.args.layout.size c.args.layout.align (addr_of o))) (sym none)
+          (Steps-refused c.self.invariant c.args.layout.size c.args.layout.align step stands c.args.self.now c.self.view_is);
+      payload = if_some _ none;
+      heap = record {
+        identity = o.identity;
+        place = o.place;
+        settled = λ settled. settled-stays stays (settled-inside k c.args.self.now c.self.view_is settled);
+        bounds = λ count most wide sized short fits.
+            sized_refused c.self.invariant c.args.layout.size c.args.layout.align step stands c.args.self.now c.self.view_is count most wide sized;
+        chunks = ap (λ (s : State). s.chunks) same;
+        grow = o.grow;
+      };
+      written = λ settled. if_some _ none;
+      aligns = if_some _ none;
+      room = λ count most wide sized few short fits. absurd
+          (none_refused c.self.invariant c.args.layout.size c.args.layout.align step stands c.args.self.now c.self.view_is count most wide sized few short fits);
+      same = if_none _ none same;
+      refused = if_none _ none (e.unchanged.0.bytes ∙ ap (λ (v : HeapView). v.memory.bytes) c.self.view_is);
+      touches = omega (arith, o.touches);
+      copied = omega (arith, e.costs.copied, ap (λ (v : HeapView). v.memory.copied) c.self.view_is);
     }
 
 -- ---- a payload is placed

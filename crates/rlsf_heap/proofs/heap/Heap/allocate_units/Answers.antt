@@ -1,7 +1,9 @@
-use Rattle.std.proofs.Common.{◌≡◌, ℕ, ◌%◌, Some, length, ap, subst, ◌∙◌}
+use Rattle.std.proofs.Common.{◌≡◌, ℕ, ◌%◌, None, Some, length, true≢false, arith, refl, sym, ap, subst, ◌∙◌}
 use Rattle.rlsf_model.specs.Allocate.{Allocates}
+use Rattle.rlsf_model.specs.Callers.{align_at}
 use Rattle.rlsf_heap.specs.Heap.{Identity, Steps}
-use Rattle.rlsf_heap.specs.Units.{payload_len}
+use Rattle.rlsf_heap.specs.Units.{payload_len, unit_addr_of}
+use Rattle.rlsf_heap.proofs.Allocated.{if_none, if_some}
 use Rattle.rlsf_heap.proofs.UnitPayloads.{units-long, payload_len-whole}
 use Rattle.rlsf_heap.proofs.heap.Heap.allocate_units.Given as given
 use Rattle.rlsf_heap.proofs.heap.Heap.allocate_units.Goals as goal
@@ -30,5 +32,53 @@ into_unit_payload-requires g c =
       );
     }
 
-pub returns-clause-long : goal.returns-clause-long
-returns-clause-long g c = c.into_unit_payload.ensures.2 ∙ long g (goal.at.returns-clause-long g c).In_ok-payload
+pub returns : goal.returns
+returns g c =
+    let d = (goal.at.returns g c).In_ok-payload in
+    let asks = c.from_size_align_unchecked-layout.ensures in
+    let e = c.in_ok-payload.ensures in
+    let u = c.into_unit_payload.ensures in
+    let new = c.allocate.new.self in record {
+      step = subst (λ a. Steps g.row.FLLEN g.row.SLLEN new (Allocates g.row.SLLEN c.args.self.now.state c.args.size 16 (Some a))) (sym u.1) (asked g d);
+      identity = e.heap.identity;
+      payload = u.0 ∙ e.payload.identity;
+      long = u.2 ∙ long g d;
+      live = ap (align_at new.state) u.1 ∙ e.payload.live ∙ ap (λ n. Some n) asks.1;
+      new = ap (align_at c.args.self.now.state) u.1 ∙ e.payload.new;
+      aligns = λ a apart. e.aligns a (λ same. apart (same ∙ sym u.1));
+      room = λ count most align sized few short fits. refl;
+      count = e.payload.count;
+      bounds = λ count most align sized short fits. e.heap.bounds count most align sized (omega (arith, asks.0, short)) (omega (arith, asks.1, fits));
+      chunks = e.heap.chunks;
+      same = tt;
+      refused = tt;
+      touches = e.touches;
+      grow = e.heap.grow;
+      copied = e.copied;
+    }
+
+pub returns-in_err-payload : goal.returns-in_err-payload
+returns-in_err-payload g c =
+    let asks = c.from_size_align_unchecked-layout.ensures in
+    let e = c.in_err-payload.ensures in
+    let none = c.from_residual.ensures in
+    let new = c.allocate.new.self in record {
+      step = subst (λ o. Steps g.row.FLLEN g.row.SLLEN new (Allocates g.row.SLLEN c.args.self.now.state c.args.size 16 (unit_addr_of o))) (sym none)
+          (subst (λ (u : ℕ × ℕ). Steps g.row.FLLEN g.row.SLLEN new (Allocates g.row.SLLEN c.args.self.now.state u.0 u.1 None)) (λ i. (asks.0 i, asks.1 i)) e.step);
+      identity = e.heap.identity;
+      payload = if_some _ none;
+      long = if_some _ none;
+      live = if_some _ none;
+      new = if_some _ none;
+      aligns = if_some _ none;
+      room = λ count most align sized few short fits.
+          absurd (true≢false (sym (e.room count most align sized few (omega (arith, asks.0, short)) (omega (arith, asks.1, fits)))));
+      count = if_some _ none;
+      bounds = λ count most align sized short fits. e.heap.bounds count most align sized (omega (arith, asks.0, short)) (omega (arith, asks.1, fits));
+      chunks = e.heap.chunks;
+      same = if_none _ none e.same;
+      refused = if_none _ none e.refused;
+      touches = e.touches;
+      grow = e.heap.grow;
+      copied = e.copied;
+    }

@@ -1,8 +1,9 @@
-use Rattle.std.proofs.Common.{replicate, ◌≡◌, ℕ, ◌%◌, Some, length, arith, refl, sym, ap, subst, ◌∙◌}
+use Rattle.std.proofs.Common.{replicate, ◌≡◌, ℕ, ◌%◌, Some, length, true≢false, arith, refl, sym, ap, subst, ◌∙◌}
 use Rattle.std.proofs.lemmas.List.{length-replicate}
 use Rattle.rlsf_model.specs.Allocate.{Allocates}
 use Rattle.rlsf_model.specs.Callers.{align_at, bytes_at}
-use Rattle.rlsf_heap.specs.Heap.{Steps}
+use Rattle.rlsf_heap.specs.Heap.{Steps, addr_of}
+use Rattle.rlsf_heap.proofs.Allocated.{if_none, if_some}
 use Rattle.rlsf_heap.proofs.heap.Heap.allocate_zeroed.Goals as goal
 
 -- the payload that was allocated, with other bytes
@@ -34,5 +35,24 @@ returns g c =
       refused = tt;
       few_touches = tt;
       touches = omega (arith, e.touches);
+      copied = e.copied;
+    }
+
+pub returns-in_err-payload : goal.returns-in_err-payload
+returns-in_err-payload g c =
+    let e = c.in_err-payload.ensures in
+    let none = c.from_residual.ensures in record {
+      step = subst (λ o. Steps g.row.FLLEN g.row.SLLEN c.allocate.new.self
+          (Allocates g.row.SLLEN c.args.self.now.state c.args.layout.size c.args.layout.align (addr_of o))) (sym none) e.step;
+      payload = if_some _ none;
+      heap = e.heap;
+      written = if_some _ none;
+      zeros = if_some _ none;
+      aligns = if_some _ none;
+      room = λ count most wide sized few short fits. absurd (true≢false (sym (e.room count most wide sized few short fits)));
+      same = if_none _ none e.same;
+      refused = if_none _ none e.refused;
+      few_touches = if_none _ none e.touches;
+      touches = if_some _ none;
       copied = e.copied;
     }
