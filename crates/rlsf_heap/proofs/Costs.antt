@@ -1,5 +1,5 @@
 -- What a call leaves of a heap: which one it is, where its memory is, and how many touches were counted.
-use Rattle.std.proofs.Common.{◌≡◌, ℕ, ◌+◌, ◌≤◌, List, length, arith, refl, sym, ap, subst, ◌∙◌}
+use Rattle.std.proofs.Common.{◌≡◌, ℕ, ◌+◌, ◌≤◌, List, length, arith, refl, ap, subst, ◌∙◌}
 use Rattle.rlsf_base.specs.declared.memory.range.Range.{Range}
 use Rattle.rlsf_base.specs.Ledger.{Entry}
 use Rattle.rlsf_base.specs.OpenSpace.{Home, home_of}
@@ -35,9 +35,12 @@ left_counts is = record { start = is.start; length = ap length is.bytes; view = 
 pub left_costs : {m n : Space} {most moved : ℕ} → Costs m n most moved → Leaves m n most
 left_costs is = record { start = is.start; length = is.length; view = is.view; touches = is.touches; grow = is.grow }
 
--- three words were read
-pub left_touched : {m n : Space} → n ≡ record m { touches = m.touches + 3 } → Leaves m n 3
-left_touched {m = m} is = record {
+pub left_same : {m n : Space} → n.start ≡ m.start → length n.bytes ≡ length m.bytes → n.view ≡ m.view → n.touches ≡ m.touches → Leaves m n 0
+left_same start long view touches = record { start = start; length = long; view = view; touches = omega (arith, touches); grow = omega (arith, touches) }
+
+-- words were read
+pub left_touched : {m n : Space} (most : ℕ) → n ≡ record m { touches = m.touches + most } → Leaves m n most
+left_touched {m = m} most is = record {
   start = ap (λ (o : Space). o.start) is;
   length = ap (λ (o : Space). length o.bytes) is;
   view = ap (λ (o : Space). o.view) is;
@@ -47,10 +50,10 @@ left_touched {m = m} is = record {
 
 -- a payload left the memory, or came back
 pub left_over : {m n : Space} {r : Range} {wide ledger : ℕ} {es fs : List Entry} {p : PayloadView} → IsHandedOver m n r wide ledger es fs p → Leaves m n 0
-left_over is = record { start = is.start; length = ap length is.bytes; view = is.view; touches = omega (arith, is.touches); grow = omega (arith, is.touches) }
+left_over is = left_same is.start (ap length is.bytes) is.view is.touches
 
 pub left_taken : {m n : Space} {es fs : List Entry} {p : PayloadView} → IsTakenBack m n es fs p → Leaves m n 0
-left_taken is = record { start = is.start; length = is.long; view = is.view; touches = omega (arith, is.touches); grow = omega (arith, is.touches) }
+left_taken is = left_same is.start is.long is.view is.touches
 
 -- as contracts see it
 pub record SeesLeft (old new : HeapView) (most : ℕ) : Type 0 where

@@ -10,6 +10,7 @@ use Rattle.rlsf_model.specs.Sized.{live_count}
 use Rattle.rlsf_model.specs.State.{State, Used, Holds, usable}
 use Rattle.rlsf_model.specs.WellFormed.{IsWellFormed}
 use Rattle.rlsf_model.proofs.CallerWords.{gone_seen}
+use Rattle.rlsf_model.proofs.Chunks.{chunks-deallocated}
 use Rattle.rlsf_model.proofs.SizedWords.{count_gone, sized_gone}
 use Rattle.rlsf_table.proofs.Parameters.{IsValid-widest}
 use Rattle.rlsf_table.specs.Table.{Table}
@@ -20,6 +21,7 @@ use Rattle.rlsf_blocks.proofs.Machine.Counted.{StandsFor-touched}
 use Rattle.rlsf_tlsf.specs.Steps.Moves.{bare}
 use Rattle.rlsf_heap.specs.Heap.{AreIssued, HeapView, IsOwners, PayloadView, heap_view, payload_range}
 use Rattle.rlsf_heap.proofs.Arrivals.{IsHeap-arrived, Steps-arrived, kept_without, stepped, view_well_formed}
+use Rattle.rlsf_heap.proofs.Costs.{Leaves, left_costs, left_same, left_then, left_touched, sees_left}
 use Rattle.rlsf_heap.proofs.Released.{back-here, holds, issued-released, stands-back, u}
 use Rattle.rlsf_heap.proofs.heap.Heap.deallocate.Given as given
 use Rattle.rlsf_heap.proofs.heap.Heap.deallocate.Goals as goal
@@ -149,22 +151,29 @@ well g c = view_well_formed c.self.invariant c.args.self.now c.self.view_is
 live : (g : given.Over) (c : After-deallocate g) → IsSomeLive c.args.self.now.state c.args.payload.start
 live g c = ((did g c).block, (did g c).holds)
 
-pub returns-clause-step : goal.returns-clause-step
-returns-clause-step g c = Steps-arrived (standing g c) c.deallocate.new.self.state (kept g c) c.redeem.new.self.name (Deallocates c.args.self.now.state c.args.payload.start)
-    (did g c)
+left : (g : given.Over) (c : After-deallocate g) → Leaves c.self.inside.memory c.deallocate_block.new.memory 33
+left g c =
+    let e = c.put_room.ensures in
+    left_then (left_same e.start (ap length e.bytes) e.view e.touches)
+    (left_then (left_touched 2 c.load_block_of-block.ensures.memory) (left_costs c.deallocate_block.ensures.costs))
 
-pub returns-clause-owner : goal.returns-clause-owner
-returns-clause-owner g c = owners c.self.inside.memory c.self.inside.table c.self.inside.state.state c.self.inside.ledger.name c.args.self.now _ c.args.payload c.self.view_is
-    (ap (λ (p : PayloadView). payload_range p) c.into_parts-part.ensures.parts) c.put_room.ensures.away
-
-pub returns-clause-count : goal.returns-clause-count
-returns-clause-count g c = count_gone (well g c) (now g c) c.args.payload.start (live g c) (did g c)
-
-pub returns-clause-bounds : goal.returns-clause-bounds
-returns-clause-bounds g c = λ count size align sized. sized_gone (well g c) (now g c) count size align sized c.args.payload.start (live g c) (did g c)
-
-pub returns-clause-gone : goal.returns-clause-gone
-returns-clause-gone g c = (gone_seen (well g c) (now g c) c.args.payload.start (live g c) (did g c)).gone
-
-pub returns-clause-aligns : goal.returns-clause-aligns
-returns-clause-aligns g c = (gone_seen (well g c) (now g c) c.args.payload.start (live g c) (did g c)).aligns
+pub returns : goal.returns
+returns g c =
+    let o = sees_left c.self.inside.memory c.deallocate_block.new.memory c.self.inside.table c.deallocate_block.new.table c.self.inside.state.state
+    c.deallocate.new.self.state c.self.inside.ledger.name c.redeem.new.self.name 33 (left g c) c.redeem.ensures.name c.args.self.now c.self.view_is in
+    let gone = gone_seen (well g c) (now g c) c.args.payload.start (live g c) (did g c) in record {
+      step = Steps-arrived (standing g c) c.deallocate.new.self.state (kept g c) c.redeem.new.self.name (Deallocates c.args.self.now.state c.args.payload.start) (did g c);
+      identity = o.identity;
+      place = o.place;
+      owner = owners c.self.inside.memory c.self.inside.table c.self.inside.state.state c.self.inside.ledger.name c.args.self.now _ c.args.payload c.self.view_is
+          (ap (λ (p : PayloadView). payload_range p) c.into_parts-part.ensures.parts) c.put_room.ensures.away;
+      count = count_gone (well g c) (now g c) c.args.payload.start (live g c) (did g c);
+      bounds = λ count size align sized. sized_gone (well g c) (now g c) count size align sized c.args.payload.start (live g c) (did g c);
+      chunks = chunks-deallocated c.args.self.now.state (now g c) c.args.payload.start (did g c);
+      gone = gone.gone;
+      aligns = gone.aligns;
+      touches = o.touches;
+      grow = o.grow;
+      copied = omega (arith, ap (λ (v : HeapView). v.memory.copied) c.self.view_is, c.put_room.ensures.copied, ap (λ (m : Space). m.copied) c.load_block_of-block.ensures.memory,
+          c.deallocate_block.ensures.costs.copied);
+    }

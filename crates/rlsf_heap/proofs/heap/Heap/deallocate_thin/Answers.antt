@@ -1,4 +1,4 @@
-use Rattle.std.proofs.Common.{◌≡◌, ℕ, ◌+◌, ◌-◌, Some, rules, arith, refl, sym, ap, subst, ◌∙◌}
+use Rattle.std.proofs.Common.{◌≡◌, ℕ, ◌+◌, ◌-◌, Some, length, rules, arith, refl, sym, ap, subst, ◌∙◌}
 use Rattle.rlsf_model.specs.Callers.{align_at}
 use Rattle.rlsf_base.specs.Ledger.{IsIssued}
 use Rattle.rlsf_base.specs.declared.memory.ledger.Ticket.{Ticket}
@@ -12,6 +12,7 @@ use Rattle.rlsf_model.specs.Sized.{live_count}
 use Rattle.rlsf_model.specs.State.{State, Used, Holds, usable}
 use Rattle.rlsf_model.specs.WellFormed.{IsWellFormed}
 use Rattle.rlsf_model.proofs.CallerWords.{align_at-held, gone_seen}
+use Rattle.rlsf_model.proofs.Chunks.{chunks-deallocated}
 use Rattle.rlsf_model.proofs.SizedWords.{count_gone, sized_gone}
 use Rattle.rlsf_table.proofs.Parameters.{IsValid-widest}
 use Rattle.rlsf_blocks.specs.Laws.{read_from}
@@ -21,6 +22,7 @@ use Rattle.rlsf_blocks.proofs.Machine.Counted.{StandsFor-touched}
 use Rattle.rlsf_tlsf.specs.Steps.Moves.{bare}
 use Rattle.rlsf_heap.specs.Heap.{HeapView, Identity}
 use Rattle.rlsf_heap.proofs.Arrivals.{IsHeap-arrived, Steps-arrived, kept_without, stepped, view_well_formed}
+use Rattle.rlsf_heap.proofs.Costs.{Leaves, left_costs, left_same, left_then, left_touched, sees_left}
 use Rattle.rlsf_heap.proofs.ThinPayloads as P
 use Rattle.rlsf_heap.proofs.ThinPayloads.{IsTicketFor, known_by, shown}
 use Rattle.rlsf_heap.proofs.heap.Heap.deallocate_thin.Given as given
@@ -172,24 +174,32 @@ well g c = view_well_formed c.self.invariant c.args.self.now c.self.view_is
 live : (g : given.Over) (c : After-deallocate g) → IsSomeLive c.args.self.now.state c.args.addr
 live g c = ((did g c).block, (did g c).holds)
 
-pub returns-clause-step : goal.returns-clause-step
-returns-clause-step g c = Steps-arrived (standing g c) c.deallocate.new.self.state (kept g c) c.redeem.new.self.name (Deallocates c.args.self.now.state c.args.addr) (did g c)
+left : (g : given.Over) (c : After-deallocate g) → Leaves c.self.inside.memory c.deallocate_block.new.memory 36
+left g c =
+    let e = c.put_room.ensures in
+    left_then (left_touched 3 c.load_usable_bytes-range.ensures.memory) (left_then (left_same e.start (ap length e.bytes) e.view e.touches)
+    (left_then (left_touched 2 c.load_block_of-block.ensures.memory) (left_costs c.deallocate_block.ensures.costs)))
 
-pub returns-clause-live : goal.returns-clause-live
-returns-clause-live g c =
+pub returns : goal.returns
+returns g c =
     let d = sought g (first g c) in
-    subst (λ (v : HeapView). align_at v.state c.args.addr ≡ Some c.args.payload.of.align) c.self.view_is
-    (align_at-held c.self.invariant.stands.well_formed c.args.addr (block g d) (held g d) ∙ ap (λ n. Some n)
-    (P.wide c.self.invariant.stands c.self.invariant.tickets c.args.payload.of c.args.addr (ticket g d).key c.requires.some.0 (known g d)))
-
-pub returns-clause-count : goal.returns-clause-count
-returns-clause-count g c = count_gone (well g c) (now g c) c.args.addr (live g c) (did g c)
-
-pub returns-clause-bounds : goal.returns-clause-bounds
-returns-clause-bounds g c = λ count size align sized. sized_gone (well g c) (now g c) count size align sized c.args.addr (live g c) (did g c)
-
-pub returns-clause-gone : goal.returns-clause-gone
-returns-clause-gone g c = (gone_seen (well g c) (now g c) c.args.addr (live g c) (did g c)).gone
-
-pub returns-clause-aligns : goal.returns-clause-aligns
-returns-clause-aligns g c = (gone_seen (well g c) (now g c) c.args.addr (live g c) (did g c)).aligns
+    let o = sees_left c.self.inside.memory c.deallocate_block.new.memory c.self.inside.table c.deallocate_block.new.table c.self.inside.state.state
+    c.deallocate.new.self.state c.self.inside.ledger.name c.redeem.new.self.name 36 (left g c) c.redeem.ensures.name c.args.self.now c.self.view_is in
+    let gone = gone_seen (well g c) (now g c) c.args.addr (live g c) (did g c) in record {
+      step = Steps-arrived (standing g c) c.deallocate.new.self.state (kept g c) c.redeem.new.self.name (Deallocates c.args.self.now.state c.args.addr) (did g c);
+      identity = o.identity;
+      place = o.place;
+      live = subst (λ (v : HeapView). align_at v.state c.args.addr ≡ Some c.args.payload.of.align) c.self.view_is
+          (align_at-held c.self.invariant.stands.well_formed c.args.addr (block g d) (held g d) ∙ ap (λ n. Some n)
+          (P.wide c.self.invariant.stands c.self.invariant.tickets c.args.payload.of c.args.addr (ticket g d).key c.requires.some.0 (known g d)));
+      gone = gone.gone;
+      aligns = gone.aligns;
+      count = count_gone (well g c) (now g c) c.args.addr (live g c) (did g c);
+      bounds = λ count size align sized. sized_gone (well g c) (now g c) count size align sized c.args.addr (live g c) (did g c);
+      chunks = chunks-deallocated c.args.self.now.state (now g c) c.args.addr (did g c);
+      touches = o.touches;
+      grow = o.grow;
+      copied = omega (arith, ap (λ (v : HeapView). v.memory.copied) c.self.view_is, ap (λ (m : Space). m.copied) c.load_usable_bytes-range.ensures.memory, c.put_room.ensures.copied,
+          ap (λ (m : Space). m.copied) c.load_block_of-block.ensures.memory,
+          c.deallocate_block.ensures.costs.copied);
+    }

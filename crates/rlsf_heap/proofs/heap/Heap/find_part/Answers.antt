@@ -1,12 +1,15 @@
-use Rattle.std.proofs.Common.{◌≡◌, ◌+◌, List, Some, refl, sym, ap, subst}
+use Rattle.std.proofs.Common.{◌≡◌, ◌+◌, List, Some, refl, sym, ap, subst, ◌∙◌}
 use Rattle.rlsf_base.specs.Ledger.{Entry}
 use Rattle.rlsf_base.specs.Space.{Space}
 use Rattle.rlsf_base.specs.declared.memory.ledger.Ledger.{Ledger}
 use Rattle.rlsf_model.specs.Callers.{align_at}
 use Rattle.rlsf_blocks.specs.Laws.{read_from}
 use Rattle.rlsf_blocks.proofs.Machine.Counted.{StandsFor-touched}
-use Rattle.rlsf_heap.specs.Heap.{HeapView, IsHeap}
+use Rattle.rlsf_heap.specs.Heap.{HeapView, IsHeap, PayloadView, heap_view, payload_view}
+use Rattle.rlsf_heap.specs.Raw.{bytes_of}
+use Rattle.rlsf_heap.proofs.Found.{found}
 use Rattle.rlsf_heap.proofs.PayloadsApart.{shown_live}
+use Rattle.rlsf_heap.proofs.ResizedThin.{payload_of_bytes, ticket_of_bytes}
 use Rattle.rlsf_heap.proofs.ThinPayloads as P
 use Rattle.rlsf_heap.proofs.heap.Heap.find_part.Goals as goal
 
@@ -40,9 +43,18 @@ invariant_of-self g c =
     subst (Held c.load_usable_bytes-range.new.memory) (ap (λ (l : Ledger). l.entries) (sym c.checked-payload.ensures.ledger))
     (subst (λ n. Held n entries) (sym c.load_usable_bytes-range.ensures.memory) counted)
 
-pub returns-clause-live : goal.returns-clause-live
-returns-clause-live g c =
+pub returns : goal.returns
+returns g c =
     let (k, known) = c.checked-payload.ensures.issued in
-    let at = shown_live c.self.invariant.stands.well_formed (P.shown c.args.payload.of) (c.self.invariant.tickets.issued k (P.shown c.args.payload.of) known) in
-    subst (λ (v : HeapView). align_at v.state c.args.addr ≡ Some c.args.payload.of.align) c.self.view_is
-    (subst (λ a. align_at (read_from c.self.inside.memory c.self.inside.state.state) a ≡ Some c.args.payload.of.align) c.requires.some.0 at)
+    let of = c.args.payload.of in
+    let same = c.checked-payload.ensures.payload.1 in
+    let one = c.into_part-part.ensures ∙ c.into_parts.ensures.bytes.0 ∙ ap bytes_of same in
+    let ticket = subst (λ (p : PayloadView). P.IsTicketFor p c.into_parts.result.1) same c.into_parts.ensures.ticket in
+    let at = shown_live c.self.invariant.stands.well_formed (P.shown of) (c.self.invariant.tickets.issued k (P.shown of) known) in record {
+      parts = ap (λ n. payload_view c.into_part-part.result of.align n) ticket.0 ∙ payload_of_bytes of c.into_part-part.result one;
+      ticket = ticket_of_bytes of c.into_part-part.result one c.into_parts.result.1 ticket;
+      live = subst (λ (v : HeapView). align_at v.state c.args.addr ≡ Some of.align) c.self.view_is
+          (subst (λ a. align_at (read_from c.self.inside.memory c.self.inside.state.state) a ≡ Some of.align) c.requires.some.0 at);
+      heap = (λ i. heap_view (c.load_usable_bytes-range.ensures.memory i) c.self.inside.table c.self.inside.state.state (c.checked-payload.ensures.ledger i).name)
+          ∙ ap found c.self.view_is;
+    }

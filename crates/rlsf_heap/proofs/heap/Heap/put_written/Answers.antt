@@ -20,7 +20,9 @@ use Rattle.rlsf_blocks.specs.StandsFor.{contents, StandsFor}
 use Rattle.rlsf_blocks.proofs.Machine.Counted.{StandsFor-touched}
 use Rattle.rlsf_tlsf.specs.Steps.Moves.{bare}
 use Rattle.rlsf_heap.specs.Heap.{AreIssued, HeapView}
+use Rattle.rlsf_heap.specs.Settled.{IsSettled}
 use Rattle.rlsf_heap.proofs.Arrivals.{IsHeap-arrived, Steps-arrived, kept_without, stepped, view_well_formed}
+use Rattle.rlsf_heap.proofs.Costs.{Leaves, left_costs, left_same, left_then, left_touched, sees_left}
 use Rattle.rlsf_blocks.proofs.Words.Stays.{Stays, Stays-same, Stays-then}
 use Rattle.rlsf_heap.proofs.Leaving.{lies-usable}
 use Rattle.rlsf_heap.proofs.PayloadsApart.{shown_live}
@@ -154,34 +156,14 @@ well g c = view_well_formed c.self.invariant c.args.self.now c.self.view_is
 live : (g : given.Over) (c : After-deallocate g) → IsSomeLive c.args.self.now.state c.args.part.start
 live g c = ((did g c).block, (did g c).holds)
 
-pub returns-clause-step : goal.returns-clause-step
-returns-clause-step g c = Steps-arrived (standing g c) c.deallocate.new.self.state (kept g c) c.redeem.new.self.name (Deallocates c.args.self.now.state c.args.part.start)
-    (did g c)
+left : (g : given.Over) (c : After-deallocate g) → Leaves c.self.inside.memory c.deallocate_block.new.memory 33
+left g c =
+    let e = c.put_back.ensures in
+    left_then (left_same e.start e.len e.view e.touches)
+    (left_then (left_touched 2 c.load_block_of-block.ensures.memory) (left_costs c.deallocate_block.ensures.costs))
 
-pub returns-clause-owner : goal.returns-clause-owner
-returns-clause-owner g c = subst (λ (o : HeapView). IsAway o.memory (piece_range c.args.part)) c.self.view_is c.put_back.ensures.away
-
-pub returns-clause-live : goal.returns-clause-live
-returns-clause-live g c =
-    let d = first g c in
-    subst (λ (v : HeapView). align_at v.state c.args.part.start ≡ Some c.args.ticket.align) c.self.view_is
-    (shown_live c.self.invariant.stands.well_formed (extent c.args.part.start (length c.args.part.bytes) c.args.ticket.align)
-    (c.self.invariant.tickets.issued c.args.ticket.key (extent c.args.part.start (length c.args.part.bytes) c.args.ticket.align) (back_in g d).known))
-
-pub returns-clause-count : goal.returns-clause-count
-returns-clause-count g c = count_gone (well g c) (now g c) c.args.part.start (live g c) (did g c)
-
-pub returns-clause-bounds : goal.returns-clause-bounds
-returns-clause-bounds g c = λ count size align sized. sized_gone (well g c) (now g c) count size align sized c.args.part.start (live g c) (did g c)
-
-pub returns-clause-gone : goal.returns-clause-gone
-returns-clause-gone g c = (gone_seen (well g c) (now g c) c.args.part.start (live g c) (did g c)).gone
-
-pub returns-clause-aligns : goal.returns-clause-aligns
-returns-clause-aligns g c = (gone_seen (well g c) (now g c) c.args.part.start (live g c) (did g c)).aligns
-
-pub returns-clause-settled : goal.returns-clause-settled
-returns-clause-settled g c = λ settled.
+stays_settled : (g : given.Over) (c : After-deallocate g) → IsSettled c.args.self.now.memory → IsSettled c.deallocate_block.new.memory
+stays_settled g c settled =
     let d = first g c in
     let b = back_in g d in
     let touched = c.load_block_of-block.ensures.memory in
@@ -193,5 +175,27 @@ returns-clause-settled g c = λ settled.
     (settled-back c.self.inside.memory c.put_back.new.self (piece_range c.args.part) c.put_back.ensures.start (omega (arith, low, c.put_back.ensures.start))
     c.put_back.ensures.out (settled-inside c.self.inside.state.state c.args.self.now c.self.view_is settled))
 
-pub returns-clause-chunks : goal.returns-clause-chunks
-returns-clause-chunks g c = chunks-deallocated c.args.self.now.state (now g c) c.args.part.start (did g c)
+pub returns : goal.returns
+returns g c =
+    let d = first g c in
+    let o = sees_left c.self.inside.memory c.deallocate_block.new.memory c.self.inside.table c.deallocate_block.new.table c.self.inside.state.state
+    c.deallocate.new.self.state c.self.inside.ledger.name c.redeem.new.self.name 33 (left g c) c.redeem.ensures.name c.args.self.now c.self.view_is in
+    let gone = gone_seen (well g c) (now g c) c.args.part.start (live g c) (did g c) in record {
+      step = Steps-arrived (standing g c) c.deallocate.new.self.state (kept g c) c.redeem.new.self.name (Deallocates c.args.self.now.state c.args.part.start) (did g c);
+      identity = o.identity;
+      place = o.place;
+      owner = subst (λ (v : HeapView). IsAway v.memory (piece_range c.args.part)) c.self.view_is c.put_back.ensures.away;
+      live = subst (λ (v : HeapView). align_at v.state c.args.part.start ≡ Some c.args.ticket.align) c.self.view_is
+          (shown_live c.self.invariant.stands.well_formed (extent c.args.part.start (length c.args.part.bytes) c.args.ticket.align)
+          (c.self.invariant.tickets.issued c.args.ticket.key (extent c.args.part.start (length c.args.part.bytes) c.args.ticket.align) (back_in g d).known));
+      count = count_gone (well g c) (now g c) c.args.part.start (live g c) (did g c);
+      bounds = λ count size align sized. sized_gone (well g c) (now g c) count size align sized c.args.part.start (live g c) (did g c);
+      chunks = chunks-deallocated c.args.self.now.state (now g c) c.args.part.start (did g c);
+      gone = gone.gone;
+      aligns = gone.aligns;
+      settled = stays_settled g c;
+      touches = o.touches;
+      grow = o.grow;
+      copied = omega (arith, ap (λ (v : HeapView). v.memory.copied) c.self.view_is, c.put_back.ensures.copied, ap (λ (m : Space). m.copied) c.load_block_of-block.ensures.memory,
+          c.deallocate_block.ensures.costs.copied);
+    }

@@ -8,7 +8,6 @@ use Rattle.rlsf_base.specs.Space.{Space}
 use Rattle.rlsf_base.proofs.Lending.Present.{own-here}
 use Rattle.rlsf_model.specs.NoMove.{unmoved_plan}
 use Rattle.rlsf_model.specs.Reallocate.{HasRoomToStay, Reallocates}
-use Rattle.rlsf_model.specs.Sized.{live_count}
 use Rattle.rlsf_model.specs.State.{State}
 use Rattle.rlsf_table.proofs.Parameters.{IsValid-widest}
 use Rattle.rlsf_blocks.specs.Laws.{read_from}
@@ -312,7 +311,7 @@ moved_left g c =
     let e = c.in-Some.ensures in
     left_then (left_taken c.take_back.ensures.back) (left_then (left_counts c.used_block-block.ensures.counts)
     (left_then (record { start = e.place.0; length = e.place.1; view = e.place.2; touches = e.touches; grow = e.grow })
-    (left_touched c.load_usable_bytes-range.ensures.memory)))
+    (left_touched 3 c.load_usable_bytes-range.ensures.memory)))
 
 pub returns : goal.returns
 returns g c =

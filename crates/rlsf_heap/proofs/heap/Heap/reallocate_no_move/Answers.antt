@@ -257,7 +257,7 @@ returns g c =
     let e = c.hand_over-payload-2.ensures in
     let ledger = c.self.inside.ledger.name in
     let name = c.take_back.ensures.name in
-    let left = left_then (left_resized g (done g c)) (left_touched c.load_usable_bytes-range.ensures.memory) in
+    let left = left_then (left_resized g (done g c)) (left_touched 3 c.load_usable_bytes-range.ensures.memory) in
     let o = sees_left c.self.inside.memory c.hand_over-payload-2.new.memory c.self.inside.table c.resize_block.new.table c.self.inside.state.state
     c.reallocate.new.self.state ledger c.hand_over-payload-2.new.ledger.name 28 (left_then left (left_over e.over)) (e.name ∙ name) c.args.self.now c.self.view_is in
     let s = resized g c in

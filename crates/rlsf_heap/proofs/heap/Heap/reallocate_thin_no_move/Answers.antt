@@ -8,6 +8,14 @@ use Rattle.rlsf_heap.specs.Replies.{IsReallocated, IsReturned}
 use Rattle.rlsf_heap.proofs.Found.{IsFound, as_found, heap_found, here_found, step_found, thin_found}
 use Rattle.rlsf_heap.proofs.heap.Heap.reallocate_thin_no_move.Goals as goal
 
+pub into_thin-requires : goal.into_thin-requires
+into_thin-requires g c = λ none.
+    c.requires.some.1 (sym c.requires.some.0 ∙ ap (λ (o : PayloadView). o.start) (sym c.find_payload-payload.ensures.payload) ∙ sym c.in-Ok.ensures.there ∙ none)
+
+pub into_thin-requires-in-Err : goal.into_thin-requires-in-Err
+into_thin-requires-in-Err g c = λ none.
+    c.requires.some.1 (sym c.requires.some.0 ∙ ap (λ (o : PayloadView). o.start) (sym c.find_payload-payload.ensures.payload) ∙ sym c.in-Err.ensures.there ∙ none)
+
 pub returns-in-Ok : goal.returns-in-Ok
 returns-in-Ok g c =
     let e = c.in-Ok.ensures in
