@@ -199,7 +199,12 @@ returns g c =
       chunks = chunks-deallocated c.args.self.now.state (now g c) c.args.addr (did g c);
       touches = o.touches;
       grow = o.grow;
-      copied = omega (arith, ap (λ (v : HeapView). v.memory.copied) c.self.view_is, ap (λ (m : Space). m.copied) c.load_usable_bytes-range.ensures.memory, c.put_room.ensures.copied,
-          ap (λ (m : Space). m.copied) c.load_block_of-block.ensures.memory,
-          c.deallocate_block.ensures.costs.copied);
+      copied = omega (
+        arith,
+        ap (λ (v : HeapView). v.memory.copied) c.self.view_is,
+        ap (λ (m : Space). m.copied) c.load_usable_bytes-range.ensures.memory,
+        c.put_room.ensures.copied,
+        ap (λ (m : Space). m.copied) c.load_block_of-block.ensures.memory,
+        c.deallocate_block.ensures.costs.copied,
+      );
     }

@@ -196,6 +196,11 @@ returns g c =
       settled = stays_settled g c;
       touches = o.touches;
       grow = o.grow;
-      copied = omega (arith, ap (λ (v : HeapView). v.memory.copied) c.self.view_is, c.put_back.ensures.copied, ap (λ (m : Space). m.copied) c.load_block_of-block.ensures.memory,
-          c.deallocate_block.ensures.costs.copied);
+      copied = omega (
+        arith,
+        ap (λ (v : HeapView). v.memory.copied) c.self.view_is,
+        c.put_back.ensures.copied,
+        ap (λ (m : Space). m.copied) c.load_block_of-block.ensures.memory,
+        c.deallocate_block.ensures.costs.copied,
+      );
     }

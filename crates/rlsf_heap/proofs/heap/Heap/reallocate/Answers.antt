@@ -142,8 +142,14 @@ refused_in_place g c room =
 
 refused_grow : (g : given.Over) (c : After-hand_over-payload g) → c.args.self.now.memory.copied ≤ c.hand_over-payload.new.memory.copied
 refused_grow g c =
-    omega (arith, ap (λ (o : HeapView). o.memory.copied) c.self.view_is, c.take_back.ensures.back.copied, c.used_block-block.ensures.counts.copied,
-    c.reallocate_block-moved.ensures.grow_copied, c.hand_over-payload.ensures.over.copied)
+    omega (
+      arith,
+      ap (λ (o : HeapView). o.memory.copied) c.self.view_is,
+      c.take_back.ensures.back.copied,
+      c.used_block-block.ensures.counts.copied,
+      c.reallocate_block-moved.ensures.grow_copied,
+      c.hand_over-payload.ensures.over.copied,
+    )
 
 -- the memory before its bytes leave again
 refused_left : (g : given.Over) (c : In_default-moved g) → Leaves c.self.inside.memory c.reallocate_block-moved.new.memory 66
@@ -302,8 +308,15 @@ moved_in_place g c room =
 
 moved_grow : (g : given.Over) (c : After-hand_over-payload-2 g) → c.args.self.now.memory.copied ≤ c.hand_over-payload-2.new.memory.copied
 moved_grow g c =
-    omega (arith, ap (λ (o : HeapView). o.memory.copied) c.self.view_is, c.take_back.ensures.back.copied, c.used_block-block.ensures.counts.copied,
-    c.reallocate_block-moved.ensures.grow_copied, ap (λ (o : Space). o.copied) c.load_usable_bytes-range.ensures.memory, c.hand_over-payload-2.ensures.over.copied)
+    omega (
+      arith,
+      ap (λ (o : HeapView). o.memory.copied) c.self.view_is,
+      c.take_back.ensures.back.copied,
+      c.used_block-block.ensures.counts.copied,
+      c.reallocate_block-moved.ensures.grow_copied,
+      ap (λ (o : Space). o.copied) c.load_usable_bytes-range.ensures.memory,
+      c.hand_over-payload-2.ensures.over.copied,
+    )
 
 -- the memory before its bytes leave
 moved_left : (g : given.Over) (c : After-hand_over-payload-2 g) → Leaves c.self.inside.memory c.load_usable_bytes-range.new.memory 69

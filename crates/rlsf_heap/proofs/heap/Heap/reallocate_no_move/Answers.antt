@@ -112,8 +112,13 @@ unchanged g c =
 -- no byte is copied
 copied_before : (g : given.Over) (c : After-resize_block g) → c.resize_block.new.memory.copied ≡ c.args.self.now.memory.copied
 copied_before g c =
-    omega (arith, ap (λ (o : HeapView). o.memory.copied) c.self.view_is, c.take_back.ensures.back.copied, c.used_block-block.ensures.counts.copied,
-    c.resize_block.ensures.costs.copied)
+    omega (
+      arith,
+      ap (λ (o : HeapView). o.memory.copied) c.self.view_is,
+      c.take_back.ensures.back.copied,
+      c.used_block-block.ensures.counts.copied,
+      c.resize_block.ensures.costs.copied,
+    )
 
 refused_step : (g : given.Over) (c : After-hand_over-payload g) → Steps g.row.FLLEN g.row.SLLEN
     (heap_view c.hand_over-payload.new.memory c.resize_block.new.table c.self.inside.state.state c.hand_over-payload.new.ledger.name)
