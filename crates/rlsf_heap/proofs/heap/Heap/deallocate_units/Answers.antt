@@ -1,4 +1,4 @@
-use Rattle.std.proofs.Common.{◌≡◌, ◌+◌, ◌-◌, rules, arith, refl, sym, ap, subst, ◌∙◌}
+use Rattle.std.proofs.Common.{◌≡◌, ◌+◌, ◌-◌, length, rules, arith, refl, sym, ap, subst, ◌∙◌}
 use Rattle.rlsf_base.specs.OpenSpace.{IsOwned}
 use Rattle.rlsf_base.specs.Space.{range_of}
 use Rattle.rlsf_model.specs.Release.{Deallocates, released}
@@ -7,13 +7,15 @@ use Rattle.rlsf_model.specs.Sized.{live_count}
 use Rattle.rlsf_model.specs.State.{State, Used, Holds, usable}
 use Rattle.rlsf_model.specs.WellFormed.{IsWellFormed}
 use Rattle.rlsf_model.proofs.CallerWords.{gone_seen}
+use Rattle.rlsf_model.proofs.Chunks.{chunks-deallocated}
 use Rattle.rlsf_model.proofs.SizedWords.{count_gone, sized_gone}
 use Rattle.rlsf_table.proofs.Parameters.{IsValid-widest}
 use Rattle.rlsf_blocks.specs.Laws.{read_from}
 use Rattle.rlsf_blocks.specs.StandsFor.{contents, StandsFor}
 use Rattle.rlsf_tlsf.specs.Steps.Moves.{bare}
-use Rattle.rlsf_heap.specs.Heap.{AreIssued}
+use Rattle.rlsf_heap.specs.Heap.{AreIssued, HeapView}
 use Rattle.rlsf_heap.proofs.Arrivals.{IsHeap-arrived, Steps-arrived, kept_without, stepped, view_well_formed}
+use Rattle.rlsf_heap.proofs.Costs.{Leaves, left_costs, left_then, sees_left}
 use Rattle.rlsf_heap.proofs.UnitPayloads as units
 use Rattle.rlsf_heap.proofs.heap.Heap.deallocate_units.Given as given
 use Rattle.rlsf_heap.proofs.heap.Heap.deallocate_units.Goals as goal
@@ -116,18 +118,33 @@ well g c = view_well_formed c.self.invariant c.args.self.now c.self.view_is
 live : (g : given.Over) (c : After-deallocate g) → IsSomeLive c.args.self.now.state c.args.payload.start
 live g c = ((did g c).block, (did g c).holds)
 
-pub returns-clause-step : goal.returns-clause-step
-returns-clause-step g c = Steps-arrived (standing g c) c.deallocate.new.self.state (kept g c) c.put_unit_payload-block.new.ledger.name
-    (Deallocates c.args.self.now.state c.args.payload.start) (did g c)
+left : (g : given.Over) (c : After-deallocate g) → Leaves c.self.inside.memory c.deallocate_block.new.memory 32
+left g c =
+    let e = c.put_unit_payload-block.ensures in
+    let back : Leaves c.self.inside.memory c.put_unit_payload-block.new.self 1 =
+    record { start = e.start; length = ap length e.bytes; view = e.view; touches = omega (arith, e.touches); grow = omega (arith, e.touches) } in
+    left_then back (left_costs c.deallocate_block.ensures.costs)
 
-pub returns-clause-count : goal.returns-clause-count
-returns-clause-count g c = count_gone (well g c) (now g c) c.args.payload.start (live g c) (did g c)
-
-pub returns-clause-bounds : goal.returns-clause-bounds
-returns-clause-bounds g c = λ count size align sized. sized_gone (well g c) (now g c) count size align sized c.args.payload.start (live g c) (did g c)
-
-pub returns-clause-gone : goal.returns-clause-gone
-returns-clause-gone g c = (gone_seen (well g c) (now g c) c.args.payload.start (live g c) (did g c)).gone
-
-pub returns-clause-aligns : goal.returns-clause-aligns
-returns-clause-aligns g c = (gone_seen (well g c) (now g c) c.args.payload.start (live g c) (did g c)).aligns
+pub returns : goal.returns
+returns g c =
+    let o = sees_left c.self.inside.memory c.deallocate_block.new.memory c.self.inside.table c.deallocate_block.new.table c.self.inside.state.state
+    c.deallocate.new.self.state c.self.inside.ledger.name c.put_unit_payload-block.new.ledger.name 32 (left g c) c.put_unit_payload-block.ensures.ledger.0
+    c.args.self.now c.self.view_is in
+    let gone = gone_seen (well g c) (now g c) c.args.payload.start (live g c) (did g c) in record {
+      step = Steps-arrived (standing g c) c.deallocate.new.self.state (kept g c) c.put_unit_payload-block.new.ledger.name (Deallocates c.args.self.now.state c.args.payload.start)
+          (did g c);
+      identity = o.identity;
+      count = count_gone (well g c) (now g c) c.args.payload.start (live g c) (did g c);
+      bounds = λ count size align sized. sized_gone (well g c) (now g c) count size align sized c.args.payload.start (live g c) (did g c);
+      chunks = chunks-deallocated c.args.self.now.state (now g c) c.args.payload.start (did g c);
+      gone = gone.gone;
+      aligns = gone.aligns;
+      touches = o.touches;
+      grow = o.grow;
+      copied = omega (
+        arith,
+        ap (λ (v : HeapView). v.memory.copied) c.self.view_is,
+        c.put_unit_payload-block.ensures.copied,
+        c.deallocate_block.ensures.costs.copied,
+      );
+    }
