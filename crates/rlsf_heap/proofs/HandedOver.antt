@@ -54,7 +54,8 @@ pub record SeesUnchanged (sllen : ℕ) (old now : HeapView) (pay p : PayloadView
   pub returned : IsReturned old.state now.state pay.start pay p
   pub settled : IsSettled old.memory → IsSettled now.memory
   pub count : live_count now.state ≡ live_count old.state
-  pub bounds : (most longest widest : ℕ) → IsSizedFor sllen most longest widest old.state → IsSizedFor sllen most longest widest now.state
+  pub bounds : (size align most longest widest : ℕ) → IsSizedFor sllen most longest widest old.state → size ≤ longest → align ≤ widest
+      → IsSizedFor sllen most longest widest now.state
   pub chunks : now.state.chunks ≡ old.state.chunks
 
 -- a payload has another size
@@ -142,7 +143,8 @@ module _ {fl_bits sl_bits fllen sllen : ℕ} {m n : Space} {x : Table} {k : Stat
         };
         settled = λ settled. settled-left o q (range_at addr len) over.start (omega (arith, low, at, stays.start)) over.out (settled-stays stays (settled_taken settled));
         count = count_view k back_in old view pay (is_view pay) (read_from q k) unchanged_state;
-        bounds = sized_view k back_in old view pay (is_view pay) (read_from q k) unchanged_state;
+        bounds = λ size align most longest widest sized short fits.
+            sized_view k back_in old view pay (is_view pay) (read_from q k) unchanged_state most longest widest sized;
         chunks = chunks_view k back_in old view pay (is_view pay) (read_from q k) unchanged_state;
       }
 

@@ -141,10 +141,5 @@ returns g c =
       aligns = gone.aligns;
       touches = o.touches;
       grow = o.grow;
-      copied = omega (
-        arith,
-        ap (λ (v : HeapView). v.memory.copied) c.self.view_is,
-        c.put_unit_payload-block.ensures.copied,
-        c.deallocate_block.ensures.costs.copied,
-      );
+      copied = omega (arith, ap (λ (v : HeapView). v.memory.copied) c.self.view_is, c.put_unit_payload-block.ensures.copied, c.deallocate_block.ensures.costs.copied);
     }

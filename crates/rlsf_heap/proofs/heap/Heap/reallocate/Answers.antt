@@ -185,14 +185,7 @@ returns-in_default-moved g c =
       written = λ settled. tt;
       others = tt;
       refused = s.returned;
-      heap = record {
-        identity = o.identity;
-        place = o.place;
-        settled = s.settled;
-        bounds = λ count most wide sized short fits. s.bounds count most wide sized;
-        chunks = s.chunks;
-        grow = o.grow;
-      };
+      heap = record { identity = o.identity; place = o.place; settled = s.settled; bounds = s.bounds c.args.size c.args.payload.align; chunks = s.chunks; grow = o.grow };
       count = s.count;
       touches = omega (arith, o.touches);
       copied = record { copied = refused_copied g c; grow_copied = refused_grow g c; stays = refused_in_place g c };

@@ -158,14 +158,7 @@ returns-then-not-resize_block g c =
       written = λ settled. tt;
       aligns = s.returned.aligns;
       refused = s.returned;
-      heap = record {
-        identity = o.identity;
-        place = o.place;
-        settled = s.settled;
-        bounds = λ count most wide sized short fits. s.bounds count most wide sized;
-        chunks = s.chunks;
-        grow = o.grow;
-      };
+      heap = record { identity = o.identity; place = o.place; settled = s.settled; bounds = s.bounds c.args.size c.args.payload.align; chunks = s.chunks; grow = o.grow };
       count = s.count;
       touches = omega (arith, o.touches);
       copied = e.over.copied ∙ copied_before g (refused g c);
