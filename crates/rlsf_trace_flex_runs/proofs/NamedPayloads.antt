@@ -1,6 +1,6 @@
 -- The named payloads of a run over a source, and what an op that asks nothing leaves of them.
-use Rattle.std.proofs.Common.{◌≡◌, ℕ, nat_eq, Some, None, Option, IsSome, List, [], ◌∷◌, length, refl, sym, ◌∙◌, ap, subst, inl, inr}
-use Rattle.std.specs.Prelude.{◌⊎◌}
+use Rattle.std.proofs.Common.{◌≡◌, ℕ, nat_eq, Some, None, Option, List, [], ◌∷◌, length, refl, sym, ◌∙◌, ap, subst, inl, inr}
+use Rattle.std.specs.Prelude.{◌⊎◌, IfSome}
 use Rattle.std.specs.declared.num.NonZeroUsize.{NonZeroUsize}
 use Rattle.std.specs.HashMap.{get}
 use Rattle.rlsf_base.specs.Addr.{reply}
@@ -28,7 +28,7 @@ use Rattle.rlsf_trace_runs.specs.declared.names.Payload.{Payload}
 use Rattle.rlsf_trace_runs.specs.Events.{IsDoneBy}
 use Rattle.rlsf_trace_runs.specs.Names.{address, AreNamed, NameTable}
 use Rattle.rlsf_trace_runs.specs.Runs.{Frees, Owns, RunState, with_machine as with_state, without_name}
-use Rattle.rlsf_trace_runs.proofs.Named.{AreNamed-filled, AreNamed-freed, AreNamed-kept, AreNamed-untaken, IsSetAt, owned_live}
+use Rattle.rlsf_trace_runs.proofs.Named.{AreNamed-filled, AreNamed-freed, AreNamed-kept, IsSetAt, owned_live}
 use Rattle.rlsf_trace_text.specs.declared.op.Answer.{Answer}
 use Rattle.rlsf_trace_text.specs.declared.op.Answer.TheVariants.{Done, Placed, Refused}
 use Rattle.rlsf_trace_text.specs.declared.op.Op.{Op}
@@ -87,9 +87,11 @@ module _ {S : Type 0} {fllen sllen : ℕ} {terms : S → Terms} {owes : S → Li
   pub live : (name : ℕ) (p : Payload) → get nat_eq table name ≡ Some p → align_at v.state.machine (address p) ≡ Some p.align
   live name p is = live_in (address p) p.align (at.are_named.live name p is)
 
-  -- and so with some
-  pub some_live : (name : ℕ) (p : Payload) → get nat_eq table name ≡ Some p → IsSome (align_at v.state.machine (address p))
-  some_live name p is = let (u, _, holds, _, _) = owned name p is in subst IsSome (sym (align_at-held at.stands.machine.well_formed (address p) u holds)) refl
+  -- and so is each payload that a name is found to have
+  pub found_live : (name : ℕ) (found : Option Payload) → found ≡ get nat_eq table name
+      → IfSome found (λ p. align_at v.state.machine (address p) ≡ Some p.align)
+  found_live name None is = tt
+  found_live name (Some p) is = live name p (sym is)
 
   module _ {leads : S → Note → S → Type 0} where
     -- an op that changes nothing
@@ -108,13 +110,6 @@ module _ {S : Type 0} {fllen sllen : ℕ} {terms : S → Terms} {owes : S → Li
     not_on_ranges op (inr (inr (r, index, is))) =
         subst (λ o. LeadsOn fllen sllen terms owes leads v table o (Refused NotForFlex) v table) (sym is)
         (LeadsOn-nothing (OpBlock r index) (Refused NotForFlex) refl (refl, refl, refl))
-
-    -- an op that changes nothing, where a name that was free was made free
-    pub not_freed : {new : NameTable} (op : Op) (answer : Answer) (name : ℕ) → get nat_eq table name ≡ None → IsSetAt name None table new → IsDoneBy op answer []
-        → DoesFlex fllen sllen (terms v.source) (run_of v table) op answer [] (run_of v table) → LeadsOn fllen sllen terms owes leads v table op answer v new
-    not_freed op answer name none taken is_done does =
-        LeadsOn-named op answer [] (named_in table) does (no_call is_done refl refl) refl (KeepsOutside-refl v.memory v.state.pools) at.stands
-        (AreNamed-untaken at.are_named name none taken)
 
     module _ {w : FlexContents S} (source : w.source ≡ v.source) (place : SamePlace v.memory w.memory) where
       -- an op that leads by a step that asks the source nothing to names whose payloads the new table has

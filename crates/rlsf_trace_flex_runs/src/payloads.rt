@@ -1,7 +1,9 @@
 //! The ops on named payloads.
 
-ghost use Rattle.std.specs.Prelude.{ℕ, ◌≡◌, ◌+◌, ◌≤◌, true, false, nat_eq};
+ghost use Rattle.std.specs.Prelude.{ℕ, ◌≡◌, ◌+◌, ◌≤◌, true, false, nat_eq, Some, IfSome};
 ghost use Rattle.std.specs.HashMap.{get, spare};
+ghost use Rattle.rlsf_model.specs.Callers.{align_at};
+ghost use Rattle.rlsf_trace_runs.specs.Names.{address};
 ghost use Rattle.rlsf_trace_flex_runs.specs.Steps.Names.{IsFlexAt, LeadsOn};
 ghost use Rattle.rlsf_trace_text.specs.declared.op.Op.TheVariants.{Alloc, Free, FreeUnknown, Realloc, ReallocNoMove, Fill, Put, Get, Usable};
 
@@ -12,9 +14,21 @@ use rlsf_trace_runs::Payload;
 use rlsf_trace_text::{Answer, TraceError};
 use std::collections::HashMap;
 
-/// The live payload of a name.
-fn payload_of(names: &HashMap<usize, Payload>, name: usize) -> Option<Payload>
-    ensures { result ≡ get nat_eq names.now name }
+/// The payload of a name, which is live in the allocator.
+fn payload_of<
+    S: FlexSource,
+    FLBitmap: BitPattern,
+    SLBitmap: BitPattern,
+    const FLLEN: usize,
+    const SLLEN: usize,
+>(
+    _flex: &FlexTlsf<S, FLBitmap, SLBitmap, FLLEN, SLLEN>,
+    names: &HashMap<usize, Payload>,
+    name: usize,
+) -> Option<Payload>
+    requires { IsFlexAt FLLEN SLLEN S.terms S.owes _flex.now names.now }
+    ensures value { result ≡ get nat_eq names.now name }
+    ensures live { IfSome result (λ p. align_at _flex.now.state.machine (address p) ≡ Some p.align) }
 {
     names.get(&name).copied()
 }
@@ -67,9 +81,10 @@ pub(crate) fn free<
     ensures untold { tells_align ≡ false → LeadsOn FLLEN SLLEN S.terms S.owes S.leads flex.old names.old (FreeUnknown name) result flex.new names.new }
     ensures room { (ops : ℕ) → ops + 1 ≤ spare names.old → ops ≤ spare names.new }
 {
-    let Some(payload) = names.remove(&name) else {
+    let Some(payload) = payload_of(flex, names, name) else {
         return Answer::Refused(TraceError::UnknownName);
     };
+    let _ = names.remove(&name);
     if tells_align {
         flex.deallocate(payload.addr, payload.align);
         return Answer::Done;
@@ -97,7 +112,7 @@ pub(crate) fn realloc<
     ensures does { LeadsOn FLLEN SLLEN S.terms S.owes S.leads flex.old names.old (Realloc name size) result flex.new names.new }
     ensures room { (ops : ℕ) → ops + 1 ≤ spare names.old → ops ≤ spare names.new }
 {
-    let Some(old) = payload_of(names, name) else {
+    let Some(old) = payload_of(flex, names, name) else {
         return Answer::Refused(TraceError::UnknownName);
     };
     let Ok(layout) = Layout::from_size_align(size, old.align) else {
@@ -128,7 +143,7 @@ pub(crate) fn realloc_no_move<
     requires { IsFlexAt FLLEN SLLEN S.terms S.owes flex.old names.now }
     ensures { LeadsOn FLLEN SLLEN S.terms S.owes S.leads flex.old names.now (ReallocNoMove name size) result flex.new names.now }
 {
-    let Some(payload) = payload_of(names, name) else {
+    let Some(payload) = payload_of(flex, names, name) else {
         return Answer::Refused(TraceError::UnknownName);
     };
     let Ok(layout) = Layout::from_size_align(size, payload.align) else {
@@ -153,7 +168,7 @@ pub(crate) fn fill<
     requires { IsFlexAt FLLEN SLLEN S.terms S.owes flex.old names.now }
     ensures { LeadsOn FLLEN SLLEN S.terms S.owes S.leads flex.old names.now (Fill name byte) result flex.new names.now }
 {
-    let Some(payload) = payload_of(names, name) else {
+    let Some(payload) = payload_of(flex, names, name) else {
         return Answer::Refused(TraceError::UnknownName);
     };
     flex.payload_mut(payload.addr).fill(byte);
@@ -178,7 +193,7 @@ pub(crate) fn put<
     requires { IsFlexAt FLLEN SLLEN S.terms S.owes flex.old names.now }
     ensures { LeadsOn FLLEN SLLEN S.terms S.owes S.leads flex.old names.now (Put name offset byte) result flex.new names.now }
 {
-    let Some(payload) = payload_of(names, name) else {
+    let Some(payload) = payload_of(flex, names, name) else {
         return Answer::Refused(TraceError::UnknownName);
     };
     if offset >= flex.allocation_usable_size(payload.addr) {
@@ -205,7 +220,7 @@ pub(crate) fn get<
     requires { IsFlexAt FLLEN SLLEN S.terms S.owes flex.now names.now }
     ensures { LeadsOn FLLEN SLLEN S.terms S.owes S.leads flex.now names.now (Get name offset) result flex.now names.now }
 {
-    let Some(payload) = payload_of(names, name) else {
+    let Some(payload) = payload_of(flex, names, name) else {
         return Answer::Refused(TraceError::UnknownName);
     };
     match flex.payload(payload.addr).get(offset) {
@@ -229,7 +244,7 @@ pub(crate) fn usable<
     requires { IsFlexAt FLLEN SLLEN S.terms S.owes flex.now names.now }
     ensures { LeadsOn FLLEN SLLEN S.terms S.owes S.leads flex.now names.now (Usable name) result flex.now names.now }
 {
-    match payload_of(names, name) {
+    match payload_of(flex, names, name) {
         Some(payload) => Answer::Usable(flex.allocation_usable_size(payload.addr)),
         None => Answer::Refused(TraceError::UnknownName),
     }

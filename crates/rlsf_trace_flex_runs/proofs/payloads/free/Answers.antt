@@ -7,32 +7,26 @@ use Rattle.rlsf_trace_runs.proofs.Named.{unnamed}
 use Rattle.rlsf_trace_text.specs.declared.op.Answer.TheVariants.{Refused}
 use Rattle.rlsf_trace_text.specs.declared.op.Op.TheVariants.{Free, FreeUnknown}
 use Rattle.rlsf_trace_text.specs.declared.op.TraceError.TheVariants.{UnknownName}
-use Rattle.rlsf_trace_flex_runs.proofs.NamedPayloads.{freed, live, some_live, not_freed}
+use Rattle.rlsf_trace_flex_runs.proofs.NamedPayloads.{freed, LeadsOn-nothing}
 use Rattle.rlsf_trace_flex_runs.proofs.payloads.free.Goals as goal
-
-pub deallocate-requires : goal.deallocate-requires
-deallocate-requires g c = (omega arith, live c.requires c.args.name c.in-Some.payload (sym c.remove.ensures.value ∙ c.in-Some.is))
-
-pub deallocate_unknown_align-requires : goal.deallocate_unknown_align-requires
-deallocate_unknown_align-requires g c = (omega arith, some_live c.requires c.args.name c.in-Some.payload (sym c.remove.ensures.value ∙ c.in-Some.is))
 
 pub returns-in_default : goal.returns-in_default
 returns-in_default g c = record {
   told = λ _.
-      let none = sym c.remove.ensures.value ∙ c.in_default.is in
-      not_freed c.requires (Free c.args.name) (Refused UnknownName) c.args.name none c.remove.ensures.updates.0 refl
+      let none = sym c.payload_of.ensures.value ∙ c.in_default.is in
+      LeadsOn-nothing c.requires (Free c.args.name) (Refused UnknownName) refl
       (refl, without_source (run_of c.args.flex.now c.args.names.now), (unnamed c.requires.are_named c.args.name none, refl), refl, refl);
   untold = λ _.
-      let none = sym c.remove.ensures.value ∙ c.in_default.is in
-      not_freed c.requires (FreeUnknown c.args.name) (Refused UnknownName) c.args.name none c.remove.ensures.updates.0 refl
+      let none = sym c.payload_of.ensures.value ∙ c.in_default.is in
+      LeadsOn-nothing c.requires (FreeUnknown c.args.name) (Refused UnknownName) refl
       (refl, without_source (run_of c.args.flex.now c.args.names.now), (unnamed c.requires.are_named c.args.name none, refl), refl, refl);
-  room = λ ops more. omega (arith, more, c.remove.ensures.spare);
+  room = λ ops more. omega (arith, more);
 }
 
 pub returns-then-tells_align : goal.returns-then-tells_align
 returns-then-tells_align g c = record {
   told = λ _.
-      freed c.requires c.deallocate.ensures.source c.deallocate.ensures.place (Free c.args.name) c.args.name c.in-Some.payload (sym c.remove.ensures.value ∙ c.in-Some.is)
+      freed c.requires c.deallocate.ensures.source c.deallocate.ensures.place (Free c.args.name) c.args.name c.in-Some.payload (sym c.payload_of.ensures.value ∙ c.in-Some.is)
       (address c.in-Some.payload, refl) (λ r frees. (refl, r, frees, refl, refl)) c.deallocate.ensures.step c.remove.ensures.updates.0;
   untold = λ no. absurd (false≢true (sym no ∙ c.if-tells_align.true));
   room = λ ops more. omega (arith, more, c.remove.ensures.spare);
@@ -43,7 +37,7 @@ returns g c = record {
   told = λ yes. absurd (false≢true (sym c.if-tells_align.false ∙ yes));
   untold = λ _.
       freed c.requires c.deallocate_unknown_align.ensures.source c.deallocate_unknown_align.ensures.place (FreeUnknown c.args.name) c.args.name c.in-Some.payload
-      (sym c.remove.ensures.value ∙ c.in-Some.is)
+      (sym c.payload_of.ensures.value ∙ c.in-Some.is)
       (address c.in-Some.payload, refl) (λ r frees. (refl, r, frees, refl, refl)) c.deallocate_unknown_align.ensures.step c.remove.ensures.updates.0;
   room = λ ops more. omega (arith, more, c.remove.ensures.spare);
 }

@@ -5,20 +5,17 @@ use Rattle.rlsf_trace_runs.proofs.Named.{unnamed}
 use Rattle.rlsf_trace_text.specs.declared.op.Answer.TheVariants.{Byte, Refused}
 use Rattle.rlsf_trace_text.specs.declared.op.Op.TheVariants.{Get}
 use Rattle.rlsf_trace_text.specs.declared.op.TraceError.TheVariants.{BadOffset, UnknownName}
-use Rattle.rlsf_trace_flex_runs.proofs.NamedPayloads.{LeadsOn-nothing, owned, some_live}
+use Rattle.rlsf_trace_flex_runs.proofs.NamedPayloads.{LeadsOn-nothing, owned}
 use Rattle.rlsf_trace_flex_runs.proofs.payloads.get.Goals as goal
 
 pub returns-in_default : goal.returns-in_default
 returns-in_default g c =
     LeadsOn-nothing c.requires (Get c.args.name c.args.offset) (Refused UnknownName) refl
-    (refl, without_source (run_of c.args.flex.now c.args.names.now), (unnamed c.requires.are_named c.args.name (sym c.payload_of.ensures ∙ c.in_default.is), refl), refl, refl)
-
-pub payload-requires : goal.payload-requires
-payload-requires g c = (omega arith, some_live c.requires c.args.name c.in-Some.payload (sym c.payload_of.ensures ∙ c.in-Some.is))
+    (refl, without_source (run_of c.args.flex.now c.args.names.now), (unnamed c.requires.are_named c.args.name (sym c.payload_of.ensures.value ∙ c.in_default.is), refl), refl, refl)
 
 pub returns-in-Some-get : goal.returns-in-Some-get
 returns-in-Some-get g c =
-    let (u, owns, holds, its, long) = owned c.requires c.args.name c.in-Some.payload (sym c.payload_of.ensures ∙ c.in-Some.is) in
+    let (u, owns, holds, its, long) = owned c.requires c.args.name c.in-Some.payload (sym c.payload_of.ensures.value ∙ c.in-Some.is) in
     let bytes = c.payload.ensures ∙ its in
     let (below, value) = c.in-Some-get.ensures.lookup.3 in
     LeadsOn-nothing c.requires (Get c.args.name c.args.offset) (Byte c.in-Some-get.byte.now) refl (
@@ -31,7 +28,7 @@ returns-in-Some-get g c =
 
 pub returns-in-None : goal.returns-in-None
 returns-in-None g c =
-    let (u, owns, holds, its, long) = owned c.requires c.args.name c.in-Some.payload (sym c.payload_of.ensures ∙ c.in-Some.is) in
+    let (u, owns, holds, its, long) = owned c.requires c.args.name c.in-Some.payload (sym c.payload_of.ensures.value ∙ c.in-Some.is) in
     LeadsOn-nothing c.requires (Get c.args.name c.args.offset) (Refused BadOffset) refl (
       refl,
       without_source (run_of c.args.flex.now c.args.names.now),

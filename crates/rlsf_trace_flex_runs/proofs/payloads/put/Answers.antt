@@ -9,20 +9,17 @@ use Rattle.rlsf_trace_runs.proofs.Named.{unnamed}
 use Rattle.rlsf_trace_text.specs.declared.op.Answer.TheVariants.{Refused}
 use Rattle.rlsf_trace_text.specs.declared.op.Op.TheVariants.{Put}
 use Rattle.rlsf_trace_text.specs.declared.op.TraceError.TheVariants.{BadOffset, UnknownName}
-use Rattle.rlsf_trace_flex_runs.proofs.NamedPayloads.{filled, LeadsOn-nothing, owned, some_live}
+use Rattle.rlsf_trace_flex_runs.proofs.NamedPayloads.{filled, LeadsOn-nothing, owned}
 use Rattle.rlsf_trace_flex_runs.proofs.payloads.put.Goals as goal
 
 pub returns-in_default : goal.returns-in_default
 returns-in_default g c =
     LeadsOn-nothing c.requires (Put c.args.name c.args.offset c.args.byte) (Refused UnknownName) refl
-    (refl, without_source (run_of c.args.flex.now c.args.names.now), (unnamed c.requires.are_named c.args.name (sym c.payload_of.ensures ∙ c.in_default.is), refl), refl, refl)
-
-pub allocation_usable_size-requires : goal.allocation_usable_size-requires
-allocation_usable_size-requires g c = (omega arith, some_live c.requires c.args.name c.in-Some.payload (sym c.payload_of.ensures ∙ c.in-Some.is))
+    (refl, without_source (run_of c.args.flex.now c.args.names.now), (unnamed c.requires.are_named c.args.name (sym c.payload_of.ensures.value ∙ c.in_default.is), refl), refl, refl)
 
 pub returns-then-offset-allocation_usable_size : goal.returns-then-offset-allocation_usable_size
 returns-then-offset-allocation_usable_size g c =
-    let (u, owns, holds, its, long) = owned c.requires c.args.name c.in-Some.payload (sym c.payload_of.ensures ∙ c.in-Some.is) in
+    let (u, owns, holds, its, long) = owned c.requires c.args.name c.in-Some.payload (sym c.payload_of.ensures.value ∙ c.in-Some.is) in
     LeadsOn-nothing c.requires (Put c.args.name c.args.offset c.args.byte) (Refused BadOffset) refl (
       refl,
       without_source (run_of c.args.flex.now c.args.names.now),
@@ -31,15 +28,16 @@ returns-then-offset-allocation_usable_size g c =
       refl,
     )
 
-pub payload_mut-requires : goal.payload_mut-requires
-payload_mut-requires g c = (omega arith, some_live c.requires c.args.name c.in-Some.payload (sym c.payload_of.ensures ∙ c.in-Some.is))
+pub bounds-payload_mut-offset : goal.bounds-payload_mut-offset
+bounds-payload_mut-offset g c =
+    omega (arith, c.if-offset-allocation_usable_size.false, c.allocation_usable_size.ensures, ap length c.payload_mut.ensures.value)
 
 pub returns : goal.returns
 returns g c =
     let p = c.in-Some.payload in
     let w = slice_set c.payload_mut.result.now c.args.offset c.args.byte in
     let s = run_of c.args.flex.now c.args.names.now in
-    let (u, owns, holds, its, long) = owned c.requires c.args.name p (sym c.payload_of.ensures ∙ c.in-Some.is) in
+    let (u, owns, holds, its, long) = owned c.requires c.args.name p (sym c.payload_of.ensures.value ∙ c.in-Some.is) in
     let lent = c.payload_mut.ensures.value ∙ its in
     let rest = c.payload_mut.ensures.rest w in
     filled c.requires rest.2 rest.3 (Put c.args.name c.args.offset c.args.byte) (address p) w (address p, w, refl) (λ m step.

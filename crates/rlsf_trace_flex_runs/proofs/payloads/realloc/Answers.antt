@@ -1,4 +1,4 @@
-use Rattle.std.proofs.Common.{Some, arith, true≢false, refl, sym, ◌∙◌, ap, subst}
+use Rattle.std.proofs.Common.{arith, true≢false, refl, sym, ◌∙◌, subst}
 use Rattle.rlsf_base.specs.Layout.{IsLayout}
 use Rattle.rlsf_trace_flex_runs.specs.FlexRuns.{without_source}
 use Rattle.rlsf_trace_flex_runs.specs.Steps.Names.{run_of}
@@ -6,21 +6,16 @@ use Rattle.rlsf_trace_runs.proofs.Named.{owned_live, unnamed}
 use Rattle.rlsf_trace_text.specs.declared.op.Answer.TheVariants.{Refused}
 use Rattle.rlsf_trace_text.specs.declared.op.Op.TheVariants.{Realloc}
 use Rattle.rlsf_trace_text.specs.declared.op.TraceError.TheVariants.{BadLayout, UnknownName}
-use Rattle.rlsf_trace_flex_runs.proofs.NamedPayloads.{LeadsOn-nothing, live}
+use Rattle.rlsf_trace_flex_runs.proofs.NamedPayloads.{LeadsOn-nothing}
 use Rattle.rlsf_trace_flex_runs.proofs.PlacedPayloads.{not_reallocated, of_ok, reallocated}
 use Rattle.rlsf_trace_flex_runs.proofs.payloads.realloc.Goals as goal
-
-pub reallocate-placed-requires : goal.reallocate-placed-requires
-reallocate-placed-requires g c =
-    let (size, align) = c.in-Ok.ensures.layout in
-    (omega arith, live c.requires.state c.args.name c.in-Some.old (sym c.payload_of.ensures ∙ c.in-Some.is) ∙ ap Some (sym align))
 
 pub returns-in_default : goal.returns-in_default
 returns-in_default g c = record {
   does =
       let at = c.requires.state in
       LeadsOn-nothing at (Realloc c.args.name c.args.size) (Refused UnknownName) refl
-      (refl, without_source (run_of c.args.flex.now c.args.names.now), (unnamed at.are_named c.args.name (sym c.payload_of.ensures ∙ c.in_default.is), refl), refl, refl);
+      (refl, without_source (run_of c.args.flex.now c.args.names.now), (unnamed at.are_named c.args.name (sym c.payload_of.ensures.value ∙ c.in_default.is), refl), refl, refl);
   room = λ ops more. omega (arith, more);
 }
 
@@ -28,7 +23,7 @@ pub returns-in_default-from_size_align : goal.returns-in_default-from_size_align
 returns-in_default-from_size_align g c = record {
   does =
       let at = c.requires.state in
-      let (u, owns, _, aligned) = owned_live at.are_named c.args.name c.in-Some.old (sym c.payload_of.ensures ∙ c.in-Some.is) in
+      let (u, owns, _, aligned) = owned_live at.are_named c.args.name c.in-Some.old (sym c.payload_of.ensures.value ∙ c.in-Some.is) in
       LeadsOn-nothing at (Realloc c.args.name c.args.size) (Refused BadLayout) refl (
         refl,
         without_source (run_of c.args.flex.now c.args.names.now),
@@ -44,7 +39,7 @@ returns-in-Some-placed g c = record {
   does =
       let (size, align) = c.in-Ok.ensures.layout in
       let added = of_ok c.insert.result (c.insert.ensures.succeeds c.requires.room) c.insert.ensures.updates in
-      reallocated c.requires.state c.args.name c.args.size c.in-Some.old _ c.in-Some-placed.addr size (sym c.payload_of.ensures ∙ c.in-Some.is) (c.in-Ok.ensures.succeeds.0 refl)
+      reallocated c.requires.state c.args.name c.args.size c.in-Some.old _ c.in-Some-placed.addr size (sym c.payload_of.ensures.value ∙ c.in-Some.is) (c.in-Ok.ensures.succeeds.0 refl)
       refl refl c.in-Some-placed.ensures.step added.0;
   room = λ ops more. omega (arith, more, c.insert.ensures.spare);
 }
@@ -53,7 +48,7 @@ pub returns-in_default-placed : goal.returns-in_default-placed
 returns-in_default-placed g c = record {
   does =
       let (size, align) = c.in-Ok.ensures.layout in
-      not_reallocated c.requires.state c.args.name c.args.size c.in-Some.old c.reallocate-placed.result size (sym c.payload_of.ensures ∙ c.in-Some.is)
+      not_reallocated c.requires.state c.args.name c.args.size c.in-Some.old c.reallocate-placed.result size (sym c.payload_of.ensures.value ∙ c.in-Some.is)
       (c.in-Ok.ensures.succeeds.0 refl) c.in_default-placed.is c.reallocate-placed.ensures.step;
   room = λ ops more. omega (arith, more);
 }

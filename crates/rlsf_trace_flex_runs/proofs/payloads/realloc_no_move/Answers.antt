@@ -1,4 +1,4 @@
-use Rattle.std.proofs.Common.{Some, arith, true≢false, refl, sym, ◌∙◌, ap, subst}
+use Rattle.std.proofs.Common.{true≢false, refl, sym, ◌∙◌, ap, subst}
 use Rattle.rlsf_base.specs.Addr.{reply}
 use Rattle.rlsf_base.specs.Layout.{IsLayout}
 use Rattle.rlsf_flex.specs.StandsFor.{StepsAlone}
@@ -10,17 +10,17 @@ use Rattle.rlsf_trace_runs.proofs.Named.{owned_live, unnamed}
 use Rattle.rlsf_trace_text.specs.declared.op.Answer.TheVariants.{Refused}
 use Rattle.rlsf_trace_text.specs.declared.op.Op.TheVariants.{ReallocNoMove}
 use Rattle.rlsf_trace_text.specs.declared.op.TraceError.TheVariants.{BadLayout, UnknownName}
-use Rattle.rlsf_trace_flex_runs.proofs.NamedPayloads.{LeadsOn-nothing, live, unmoved}
+use Rattle.rlsf_trace_flex_runs.proofs.NamedPayloads.{LeadsOn-nothing, unmoved}
 use Rattle.rlsf_trace_flex_runs.proofs.payloads.realloc_no_move.Goals as goal
 
 pub returns-in_default : goal.returns-in_default
 returns-in_default g c =
     LeadsOn-nothing c.requires (ReallocNoMove c.args.name c.args.size) (Refused UnknownName) refl
-    (refl, without_source (run_of c.args.flex.now c.args.names.now), (unnamed c.requires.are_named c.args.name (sym c.payload_of.ensures ∙ c.in_default.is), refl), refl, refl)
+    (refl, without_source (run_of c.args.flex.now c.args.names.now), (unnamed c.requires.are_named c.args.name (sym c.payload_of.ensures.value ∙ c.in_default.is), refl), refl, refl)
 
 pub returns-in_default-from_size_align : goal.returns-in_default-from_size_align
 returns-in_default-from_size_align g c =
-    let (u, owns, _, aligned) = owned_live c.requires.are_named c.args.name c.in-Some.payload (sym c.payload_of.ensures ∙ c.in-Some.is) in
+    let (u, owns, _, aligned) = owned_live c.requires.are_named c.args.name c.in-Some.payload (sym c.payload_of.ensures.value ∙ c.in-Some.is) in
     LeadsOn-nothing c.requires (ReallocNoMove c.args.name c.args.size) (Refused BadLayout) refl (
       refl,
       without_source (run_of c.args.flex.now c.args.names.now),
@@ -28,11 +28,6 @@ returns-in_default-from_size_align g c =
       refl,
       refl,
     )
-
-pub reallocate_no_move-requires : goal.reallocate_no_move-requires
-reallocate_no_move-requires g c =
-    let (size, align) = c.in-Ok.ensures.layout in
-    (omega arith, live c.requires c.args.name c.in-Some.payload (sym c.payload_of.ensures ∙ c.in-Some.is) ∙ ap Some (sym align))
 
 pub returns : goal.returns
 returns g c =
@@ -44,4 +39,4 @@ returns g c =
     (ReallocatesWithoutMove c.args.flex.now.state.machine (address p) n (reply c.reallocate_no_move.result)))
     size c.reallocate_no_move.ensures.step in
     unmoved c.requires c.reallocate_no_move.ensures.source c.reallocate_no_move.ensures.place c.args.name c.args.size p c.reallocate_no_move.result
-    (sym c.payload_of.ensures ∙ c.in-Some.is) (c.in-Ok.ensures.succeeds.0 refl) alone c.reallocate_no_move.ensures.aligns
+    (sym c.payload_of.ensures.value ∙ c.in-Some.is) (c.in-Ok.ensures.succeeds.0 refl) alone c.reallocate_no_move.ensures.aligns
