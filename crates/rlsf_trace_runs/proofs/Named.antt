@@ -82,13 +82,6 @@ module _ {s : State} {table : NameTable} {named : ℕ → Option ℕ} (are : Are
     one_name = are.one_name;
   }
 
-  -- and so is the table once a name that was free is made free
-  pub AreNamed-untaken : (name : ℕ) {new : NameTable} → get nat_eq table name ≡ None → IsSetAt name None table new → AreNamed s new named
-  AreNamed-untaken name free taken = AreNamed-same (λ other. taken other ∙ elim (by_name name other None (get nat_eq table other)) [
-    | inl (same, is) ↦ is ∙ sym free ∙ ap (get nat_eq table) same
-    | inr (differ, is) ↦ is
-  ])
-
   -- after a step that leaves live what is live
   pub AreNamed-kept : (t : State) → ((addr align : ℕ) → IsLive s addr align → IsLive t addr align) → AreNamed t table named
   AreNamed-kept t keeps = record { names = are.names; live = λ name p is. keeps (address p) p.align (are.live name p is); one_name = are.one_name }

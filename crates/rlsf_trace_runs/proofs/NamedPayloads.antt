@@ -2,7 +2,7 @@
 use Rattle.std.proofs.Common.{◌≡◌, ℕ, ◌+◌, ◌≤◌, nat_eq, true, false, true≢false, Option, Some, None, IsSome, List, length, refl, sym, ◌∙◌, ap, subst}
 use Rattle.std.proofs.Common.{arith}
 use Rattle.std.specs.HashMap.{get}
-use Rattle.std.specs.Prelude.{IsPermutation}
+use Rattle.std.specs.Prelude.{IsPermutation, IfSome}
 use Rattle.std.specs.Option.{is_some, option_map}
 use Rattle.rlsf_base.specs.declared.memory.range.Range.{Range}
 use Rattle.rlsf_base.specs.Range.{LiesIn}
@@ -28,7 +28,7 @@ use Rattle.rlsf_trace_runs.specs.declared.tables.Tables.{Tables}
 use Rattle.rlsf_trace_runs.specs.Names.{address, AreNamed}
 use Rattle.rlsf_trace_runs.specs.Runs.{Does, Frees, Owns, RunState, with_machine}
 use Rattle.rlsf_trace_runs.specs.Steps.Tables.{HasRoom, IsAt, IsInOrder, LeadsOn}
-use Rattle.rlsf_trace_runs.proofs.Named.{AreNamed-filled, AreNamed-freed, AreNamed-kept, AreNamed-untaken, IsSetAt, owned_live, unnamed}
+use Rattle.rlsf_trace_runs.proofs.Named.{AreNamed-filled, AreNamed-freed, AreNamed-kept, IsSetAt, owned_live}
 
 -- what a test for a payload didn't find
 pub none_is : {A : Type 0} (o : Option A) → is_some o ≡ false → o ≡ None
@@ -51,6 +51,12 @@ module _ {fllen sllen : ℕ} {v : Allocator} {tables : Tables} {s : RunState} (a
   owned name p is =
       let (u, owns, holds, _) = owned_live at.named name p is in
       (u, owns, holds, (at.stands.stands.well_formed.used u owns.0).bytes)
+
+  -- each payload that a name is found to have is live with its alignment
+  pub found_live : (name : ℕ) (found : Option Payload) → found ≡ get nat_eq tables.names name
+      → IfSome found (λ p. align_at v.state (address p) ≡ Some p.align)
+  found_live name None is = tt
+  found_live name (Some p) is = live_in at.stands (address p) p.align (at.named.live name p (sym is))
 
   -- an op that changes nothing
   pub LeadsOn-nothing : (op : Op) (answer : Answer) → Does fllen sllen (range_of v.memory) s op answer s → LeadsOn fllen sllen v s op answer v tables
@@ -92,16 +98,6 @@ module _ {fllen sllen : ℕ} {v : Allocator} {tables : Tables} {s : RunState} (a
   pub IsAt-unmoved : {w : Allocator} → SamePlace v.memory w.memory → (t : State) → IsInState fllen sllen w t → t ≡ s.machine
       → IsAt fllen sllen w tables (record { machine = t; named = s.named; pools = s.pools })
   IsAt-unmoved place t stands is = IsAt-named place t stands (ap (λ u. u.chunks) is) refl (subst (λ u. AreNamed u tables.names s.named) (sym is) at.named)
-
-  -- a name that no payload has isn't freed
-  pub not_freed : {new : Tables} (name : ℕ) → get nat_eq tables.names name ≡ None → new.pools ≡ tables.pools → IsSetAt name None tables.names new.names
-      → (r : RunState) × ((s.named name ≡ None) × (r ≡ s)) × IsAt fllen sllen v new r × KeepsSpare v.memory s.machine v.memory r.machine
-  not_freed name none same taken = (
-    s,
-    (unnamed at.named name none, refl),
-    IsAt-named (refl, refl, refl, λ none. none) s.machine at.stands refl same (AreNamed-untaken at.named name none taken),
-    λ a from to was is. refl,
-  )
 
   -- the payload of a name was deallocated
   pub freed : {w : Allocator} {new : Tables} → SamePlace v.memory w.memory → (t : State) → IsInState fllen sllen w t → KeepsSpare v.memory s.machine w.memory t

@@ -1,8 +1,11 @@
 //! The ops on named payloads.
 
-ghost use Rattle.std.specs.Prelude.{ℕ, ◌+◌};
+ghost use Rattle.std.specs.Prelude.{◌≡◌, ℕ, ◌+◌, nat_eq, Some, IfSome};
+ghost use Rattle.std.specs.HashMap.{get};
 ghost use Rattle.rlsf_base.specs.Space.{SamePlace};
+ghost use Rattle.rlsf_model.specs.Callers.{align_at};
 ghost use Rattle.rlsf_trace_text.specs.declared.op.Op.TheVariants.{Free, FreeUnknown, Realloc, ReallocNoMove, Fill, Put, Get, Usable};
+ghost use Rattle.rlsf_trace_runs.specs.Names.{address};
 ghost use Rattle.rlsf_trace_runs.specs.Runs.{RunState};
 ghost use Rattle.rlsf_trace_runs.specs.Steps.Tables.{HasRoom, IsAt, LeadsOn};
 
@@ -12,6 +15,24 @@ use rlsf_base::memory::Layout;
 use rlsf_int::BitPattern;
 use rlsf_tlsf::Tlsf;
 use rlsf_trace_text::{Answer, TraceError};
+
+/// The payload of a name, which is live in the allocator.
+fn payload_of<
+    FLBitmap: BitPattern,
+    SLBitmap: BitPattern,
+    const FLLEN: usize,
+    const SLLEN: usize,
+>(
+    _tlsf: &Tlsf<FLBitmap, SLBitmap, FLLEN, SLLEN>,
+    tables: &Tables,
+    name: usize,
+) -> Option<Payload>
+    requires { (s : RunState) × IsAt FLLEN SLLEN _tlsf.now tables.now s }
+    ensures value { result ≡ get nat_eq tables.now.names name }
+    ensures live { IfSome result (λ p. align_at _tlsf.now.state (address p) ≡ Some p.align) }
+{
+    tables.payload(name)
+}
 
 /// Gives the payload of a name back, unless no live one has it. The name is free again.
 pub(crate) fn free<
@@ -25,9 +46,10 @@ pub(crate) fn free<
     ensures room { (ops : ℕ) → HasRoom tables.old (ops + 1) → HasRoom tables.new ops }
     ensures place { SamePlace tlsf.old.memory tlsf.new.memory }
 {
-    let Some(payload) = tables.take_name(name) else {
+    let Some(payload) = payload_of(tlsf, tables, name) else {
         return Answer::Refused(TraceError::UnknownName);
     };
+    let _ = tables.take_name(name);
     tlsf.deallocate(payload.addr, payload.align);
     Answer::Done
 }
@@ -44,9 +66,10 @@ pub(crate) fn free_unknown<
     ensures room { (ops : ℕ) → HasRoom tables.old (ops + 1) → HasRoom tables.new ops }
     ensures place { SamePlace tlsf.old.memory tlsf.new.memory }
 {
-    let Some(payload) = tables.take_name(name) else {
+    let Some(payload) = payload_of(tlsf, tables, name) else {
         return Answer::Refused(TraceError::UnknownName);
     };
+    let _ = tables.take_name(name);
     tlsf.deallocate_unknown_align(payload.addr);
     Answer::Done
 }
@@ -70,7 +93,7 @@ pub(crate) fn realloc<
     ensures room { (ops : ℕ) → HasRoom tables.old (ops + 1) → HasRoom tables.new ops }
     ensures place { SamePlace tlsf.old.memory tlsf.new.memory }
 {
-    let Some(old) = tables.payload(name) else {
+    let Some(old) = payload_of(tlsf, tables, name) else {
         return Answer::Refused(TraceError::UnknownName);
     };
     let Ok(layout) = Layout::from_size_align(size, old.align) else {
@@ -101,7 +124,7 @@ pub(crate) fn realloc_no_move<
     ensures does { (s : RunState) → IsAt FLLEN SLLEN tlsf.old tables.now s → LeadsOn FLLEN SLLEN tlsf.old s (ReallocNoMove name size) result tlsf.new tables.now }
     ensures place { SamePlace tlsf.old.memory tlsf.new.memory }
 {
-    let Some(payload) = tables.payload(name) else {
+    let Some(payload) = payload_of(tlsf, tables, name) else {
         return Answer::Refused(TraceError::UnknownName);
     };
     let Ok(layout) = Layout::from_size_align(size, payload.align) else {
@@ -126,7 +149,7 @@ pub(crate) fn fill<
     ensures does { (s : RunState) → IsAt FLLEN SLLEN tlsf.old tables.now s → LeadsOn FLLEN SLLEN tlsf.old s (Fill name byte) result tlsf.new tables.now }
     ensures place { SamePlace tlsf.old.memory tlsf.new.memory }
 {
-    let Some(payload) = tables.payload(name) else {
+    let Some(payload) = payload_of(tlsf, tables, name) else {
         return Answer::Refused(TraceError::UnknownName);
     };
     tlsf.payload_mut(payload.addr).fill(byte);
@@ -151,7 +174,7 @@ pub(crate) fn put<
     ensures does { (s : RunState) → IsAt FLLEN SLLEN tlsf.old tables.now s → LeadsOn FLLEN SLLEN tlsf.old s (Put name offset byte) result tlsf.new tables.now }
     ensures place { SamePlace tlsf.old.memory tlsf.new.memory }
 {
-    let Some(payload) = tables.payload(name) else {
+    let Some(payload) = payload_of(tlsf, tables, name) else {
         return Answer::Refused(TraceError::UnknownName);
     };
     if offset >= tlsf.payload(payload.addr).len() {
@@ -177,7 +200,7 @@ pub(crate) fn get<
     requires { (s : RunState) × IsAt FLLEN SLLEN tlsf.now tables.now s }
     ensures { (s : RunState) → IsAt FLLEN SLLEN tlsf.now tables.now s → LeadsOn FLLEN SLLEN tlsf.now s (Get name offset) result tlsf.now tables.now }
 {
-    let Some(payload) = tables.payload(name) else {
+    let Some(payload) = payload_of(tlsf, tables, name) else {
         return Answer::Refused(TraceError::UnknownName);
     };
     match tlsf.payload(payload.addr).get(offset) {
@@ -196,7 +219,7 @@ pub(crate) fn usable<
     requires { (s : RunState) × IsAt FLLEN SLLEN tlsf.now tables.now s }
     ensures { (s : RunState) → IsAt FLLEN SLLEN tlsf.now tables.now s → LeadsOn FLLEN SLLEN tlsf.now s (Usable name) result tlsf.now tables.now }
 {
-    match tables.payload(name) {
+    match payload_of(tlsf, tables, name) {
         Some(payload) => Answer::Usable(tlsf.allocation_usable_size(payload.addr)),
         None => Answer::Refused(TraceError::UnknownName),
     }

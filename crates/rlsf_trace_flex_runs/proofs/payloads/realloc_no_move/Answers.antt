@@ -1,4 +1,4 @@
-use Rattle.std.proofs.Common.{true≢false, refl, sym, ◌∙◌, ap, subst}
+use Rattle.std.proofs.Common.{true≢false, refl, sym, ◌∙◌, subst}
 use Rattle.rlsf_base.specs.Addr.{reply}
 use Rattle.rlsf_base.specs.Layout.{IsLayout}
 use Rattle.rlsf_flex.specs.StandsFor.{StepsAlone}

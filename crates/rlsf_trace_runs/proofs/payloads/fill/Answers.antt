@@ -1,6 +1,6 @@
-use Rattle.std.proofs.Common.{arith, length, replicate, refl, sym, ◌∙◌, ap, subst, rules}
+use Rattle.std.proofs.Common.{length, replicate, refl, sym, ◌∙◌, ap, subst, rules}
 use Rattle.rlsf_model.specs.Run.{Fills}
-use Rattle.rlsf_tlsf.proofs.Standing.{bytes_in, some_live_in, stepped}
+use Rattle.rlsf_tlsf.proofs.Standing.{bytes_in, stepped}
 use Rattle.rlsf_trace_runs.specs.Names.{address}
 use Rattle.rlsf_trace_runs.specs.Runs.{with_machine}
 use Rattle.rlsf_trace_runs.proofs.NamedPayloads.{IsAt-filled, owned, LeadsOn-nothing}
@@ -13,22 +13,16 @@ use Rattle.rlsf_trace_runs.proofs.payloads.fill.Goals as goal
 pub returns-in_default : goal.returns-in_default
 returns-in_default g c = record {
   does = λ s at.
-      LeadsOn-nothing at (Fill c.args.name c.args.byte) (Refused UnknownName) (unnamed at.named c.args.name (sym c.payload.ensures ∙ c.in_default.is), refl);
+      LeadsOn-nothing at (Fill c.args.name c.args.byte) (Refused UnknownName) (unnamed at.named c.args.name (sym c.payload_of.ensures.value ∙ c.in_default.is), refl);
   place = search rules;
 }
-
-pub payload_mut-requires : goal.payload_mut-requires
-payload_mut-requires g c =
-    let (s, at) = c.requires in
-    let (u, owns, holds, _) = owned at c.args.name c.in-Some.payload (sym c.payload.ensures ∙ c.in-Some.is) in
-    (omega arith, some_live_in at.stands (address c.in-Some.payload) (u, holds))
 
 pub returns : goal.returns
 returns g c = record {
   does = λ s at.
       let p = c.in-Some.payload in
       let w = c.fill.new.self in
-      let (u, owns, holds, long) = owned at c.args.name p (sym c.payload.ensures ∙ c.in-Some.is) in
+      let (u, owns, holds, long) = owned at c.args.name p (sym c.payload_of.ensures.value ∙ c.in-Some.is) in
       let (t, step, stands, keeps) = stepped at.stands _ (λ x. Fills x (address p) w) (c.payload_mut.ensures.meaning w c.fill.ensures.len) in
       let whole = ap length (c.payload_mut.ensures.value ∙ bytes_in at.stands (address p) u holds) ∙ long in
       let bytes = c.fill.ensures.after (λ y e. e) ∙ ap (λ n. replicate n c.args.byte) whole in

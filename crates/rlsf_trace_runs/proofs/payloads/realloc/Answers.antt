@@ -1,11 +1,11 @@
-use Rattle.std.proofs.Common.{arith, ◌≡◌, Some, None, refl, ap, sym, ◌∙◌, subst, rules, true≢false}
+use Rattle.std.proofs.Common.{◌≡◌, Some, None, refl, ap, sym, ◌∙◌, subst, rules, true≢false}
 use Rattle.std.specs.Int.NonZero.{non_zero_usize_get}
 use Rattle.rlsf_base.specs.Addr.{reply}
 use Rattle.rlsf_base.specs.Layout.{IsLayout}
 use Rattle.rlsf_model.specs.Reallocate.{Reallocates}
-use Rattle.rlsf_model.specs.State.{State, Used, IsLive}
+use Rattle.rlsf_model.specs.State.{State, Used}
 use Rattle.rlsf_blocks.specs.Spare.{KeepsSpare}
-use Rattle.rlsf_tlsf.proofs.Standing.{live_in, stepped}
+use Rattle.rlsf_tlsf.proofs.Standing.{stepped}
 use Rattle.rlsf_trace_runs.specs.Names.{address}
 use Rattle.rlsf_trace_runs.specs.Runs.{Owns, RunState, with_name}
 use Rattle.rlsf_trace_runs.specs.Steps.Tables.{IsAt}
@@ -20,7 +20,7 @@ pub returns-in-Some-placed : goal.returns-in-Some-placed
 returns-in-Some-placed g c = record {
   does = λ s at.
       let p = c.in-Some.old in
-      let there = sym c.payload.ensures ∙ c.in-Some.is in
+      let there = sym c.payload_of.ensures.value ∙ c.in-Some.is in
       let live = at.named.live c.args.name p there in
       let to = non_zero_usize_get c.in-Some-placed.addr in
       let (size, _) = c.in-Ok.ensures.layout in
@@ -45,18 +45,10 @@ returns-in-Some-placed g c = record {
 pub returns-in_default : goal.returns-in_default
 returns-in_default g c = record {
   does = λ s at.
-      LeadsOn-nothing at (Realloc c.args.name c.args.size) (Refused UnknownName) (unnamed at.named c.args.name (sym c.payload.ensures ∙ c.in_default.is), refl);
+      LeadsOn-nothing at (Realloc c.args.name c.args.size) (Refused UnknownName) (unnamed at.named c.args.name (sym c.payload_of.ensures.value ∙ c.in_default.is), refl);
   room = room_left c.args.tables.now;
   place = search rules;
 }
-
-pub reallocate-placed-requires : goal.reallocate-placed-requires
-reallocate-placed-requires g c =
-    let (s, at) = c.requires.state in
-    let p = c.in-Some.old in
-    let live = at.named.live c.args.name p (sym c.payload.ensures ∙ c.in-Some.is) in
-    let (size, align) = c.in-Ok.ensures.layout in
-    (omega arith, live_in at.stands (address p) c.in-Ok.layout.align (subst (IsLive s.machine (address p)) (sym align) live))
 
 pub add_name-requires : goal.add_name-requires
 add_name-requires g c = c.requires.room
@@ -65,7 +57,7 @@ pub returns-in_default-placed : goal.returns-in_default-placed
 returns-in_default-placed g c = record {
   does = λ s at.
       let p = c.in-Some.old in
-      let there = sym c.payload.ensures ∙ c.in-Some.is in
+      let there = sym c.payload_of.ensures.value ∙ c.in-Some.is in
       let (size, _) = c.in-Ok.ensures.layout in
       let (t, moved, stands, keeps) =
       stepped at.stands c.reallocate-placed.new.self (λ x. Reallocates g.row.SLLEN x (address p) c.in-Ok.layout.size (reply c.reallocate-placed.result))
@@ -94,7 +86,7 @@ pub returns-in_default-from_size_align : goal.returns-in_default-from_size_align
 returns-in_default-from_size_align g c = record {
   does = λ s at.
       let p = c.in-Some.old in
-      let (u, owns, holds, its) = owned_live at.named c.args.name p (sym c.payload.ensures ∙ c.in-Some.is) in
+      let (u, owns, holds, its) = owned_live at.named c.args.name p (sym c.payload_of.ensures.value ∙ c.in-Some.is) in
       LeadsOn-nothing at (Realloc c.args.name c.args.size) (Refused BadLayout)
       ((u, owns, λ valid. true≢false (sym (c.in_default-from_size_align.ensures.succeeds.1 (subst (IsLayout c.args.size) its valid)))), refl);
   room = room_left c.args.tables.now;

@@ -1,9 +1,8 @@
-use Rattle.std.proofs.Common.{arith, refl, sym, ◌∙◌, subst, rules, true≢false}
+use Rattle.std.proofs.Common.{refl, sym, ◌∙◌, subst, rules, true≢false}
 use Rattle.rlsf_base.specs.Addr.{reply}
 use Rattle.rlsf_base.specs.Layout.{IsLayout}
 use Rattle.rlsf_model.specs.NoMove.{ReallocatesWithoutMove}
-use Rattle.rlsf_model.specs.State.{IsLive}
-use Rattle.rlsf_tlsf.proofs.Standing.{live_in, stepped}
+use Rattle.rlsf_tlsf.proofs.Standing.{stepped}
 use Rattle.rlsf_trace_runs.specs.Names.{address}
 use Rattle.rlsf_trace_runs.proofs.Named.{owned_live, unnamed}
 use Rattle.rlsf_trace_runs.proofs.NamedPayloads.{IsAt-aligned, LeadsOn-nothing}
@@ -15,23 +14,15 @@ use Rattle.rlsf_trace_runs.proofs.payloads.realloc_no_move.Goals as goal
 pub returns-in_default : goal.returns-in_default
 returns-in_default g c = record {
   does = λ s at.
-      LeadsOn-nothing at (ReallocNoMove c.args.name c.args.size) (Refused UnknownName) (unnamed at.named c.args.name (sym c.payload.ensures ∙ c.in_default.is), refl);
+      LeadsOn-nothing at (ReallocNoMove c.args.name c.args.size) (Refused UnknownName) (unnamed at.named c.args.name (sym c.payload_of.ensures.value ∙ c.in_default.is), refl);
   place = search rules;
 }
-
-pub reallocate_no_move-requires : goal.reallocate_no_move-requires
-reallocate_no_move-requires g c =
-    let (s, at) = c.requires in
-    let p = c.in-Some.payload in
-    let live = at.named.live c.args.name p (sym c.payload.ensures ∙ c.in-Some.is) in
-    let (size, align) = c.in-Ok.ensures.layout in
-    (omega arith, live_in at.stands (address p) c.in-Ok.layout.align (subst (IsLive s.machine (address p)) (sym align) live))
 
 pub returns : goal.returns
 returns g c = record {
   does = λ s at.
       let p = c.in-Some.payload in
-      let there = sym c.payload.ensures ∙ c.in-Some.is in
+      let there = sym c.payload_of.ensures.value ∙ c.in-Some.is in
       let said = reply c.reallocate_no_move.result in
       let (size, _) = c.in-Ok.ensures.layout in
       let (t, did, stands, keeps) =
@@ -51,7 +42,7 @@ pub returns-in_default-from_size_align : goal.returns-in_default-from_size_align
 returns-in_default-from_size_align g c = record {
   does = λ s at.
       let p = c.in-Some.payload in
-      let (u, owns, holds, its) = owned_live at.named c.args.name p (sym c.payload.ensures ∙ c.in-Some.is) in
+      let (u, owns, holds, its) = owned_live at.named c.args.name p (sym c.payload_of.ensures.value ∙ c.in-Some.is) in
       LeadsOn-nothing at (ReallocNoMove c.args.name c.args.size) (Refused BadLayout)
       ((u, owns, λ valid. true≢false (sym (c.in_default-from_size_align.ensures.succeeds.1 (subst (IsLayout c.args.size) its valid)))), refl);
   place = search rules;
