@@ -23,7 +23,7 @@ pub enum SourceAnswer {
 }
 
 /// A question that a source was asked, and its answer.
-#[derive(Clone, Copy, Debug, PartialEq, Eq)]
+#[derive(Clone, Copy, PartialEq, Eq)]
 pub enum Question {
     /// A new range of so many bytes.
     Alloc(usize, Option<Range>),

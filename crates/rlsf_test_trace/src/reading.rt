@@ -12,7 +12,7 @@ type Head = (Configuration, usize, usize);
 fn reads(rt: &(impl Abort + AllocGlobal), text: &[u8], head: Head, ops: &[Op]) {
     let trace = Trace::parse(rt.alloc(), text).expect(rt, "a trace");
     assert_eq!(rt; (trace.configuration, trace.start, trace.len), head);
-    assert!(rt; trace.ops.as_slice() == ops);
+    assert_eq!(rt; trace.ops.as_slice(), ops);
 }
 
 const FIRST_RUN: &[u8] = b"8x8 4096 4096\ninsert 4096 96\nalloc 1 0 1\nalloc 2 0 1\nalloc 3 0 1\n";

@@ -5,7 +5,7 @@ use std::fmt;
 use std::num::NonZeroUsize;
 
 /// One op of a trace. The names of payloads are numbers of 64 bits.
-#[derive(Clone, Copy, PartialEq, Eq)]
+#[derive(Clone, Copy, Debug, PartialEq, Eq)]
 pub enum Op {
     /// Gives the allocator the range as a pool.
     Insert(Range),
@@ -36,7 +36,7 @@ pub enum Op {
 }
 
 /// What an op of a trace answers.
-#[derive(Clone, Copy, PartialEq, Eq)]
+#[derive(Clone, Copy, Debug, PartialEq, Eq)]
 pub enum Answer {
     /// The number of bytes from the range's start to the end of its pool, with those that were skipped in front. None if the range
     /// is too short for a pool.

@@ -10,7 +10,7 @@ use crate::reading::{read_header, read_ops};
 use std::alloc::Global;
 
 /// A trace, read from its text.
-#[derive(Drop)]
+#[derive(Debug, Drop, PartialEq, Eq)]
 pub struct Trace {
     /// The parameters of the allocator.
     pub configuration: Configuration,
