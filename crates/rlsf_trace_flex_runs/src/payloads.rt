@@ -14,7 +14,7 @@ use rlsf_trace_runs::Payload;
 use rlsf_trace_text::{Answer, TraceError};
 use std::collections::HashMap;
 
-/// The payload of a name, which is live in the allocator.
+/// The live payload of a name. Only the contract speaks of the allocator, in which the payload is live.
 fn payload_of<
     S: FlexSource,
     FLBitmap: BitPattern,

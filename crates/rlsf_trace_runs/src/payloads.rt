@@ -16,13 +16,8 @@ use rlsf_int::BitPattern;
 use rlsf_tlsf::Tlsf;
 use rlsf_trace_text::{Answer, TraceError};
 
-/// The payload of a name, which is live in the allocator.
-fn payload_of<
-    FLBitmap: BitPattern,
-    SLBitmap: BitPattern,
-    const FLLEN: usize,
-    const SLLEN: usize,
->(
+/// The live payload of a name. Only the contract speaks of the allocator, in which the payload is live.
+fn payload_of<FLBitmap: BitPattern, SLBitmap: BitPattern, const FLLEN: usize, const SLLEN: usize>(
     _tlsf: &Tlsf<FLBitmap, SLBitmap, FLLEN, SLLEN>,
     tables: &Tables,
     name: usize,
