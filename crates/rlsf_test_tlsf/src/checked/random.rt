@@ -131,6 +131,20 @@ fn after(pool: &mut Small, rt: &impl Abort, entry: Option<Entry>, word: u64) -> 
     None
 }
 
+/// Makes 2,000 random calls, each with its answer by the table.
+fn agrees_with_a_table(pool: &mut Small, rt: &impl Abort) {
+    let mut table = [None; PLACES];
+    let mut word = 35;
+    for _ in 0..2000 {
+        word = next(word);
+        asked(pool, rt, &table, word);
+        let [.., place] = next(word).to_le_bytes();
+        if let Some(entry) = table.get_mut(usize::from(place) % PLACES) {
+            *entry = after(pool, rt, *entry, word);
+        }
+    }
+}
+
 #[test]
 fn calls_agree_with_a_table(rt: HostRuntime) {
     let mut pool = small(&rt, LEN);
@@ -143,14 +157,5 @@ fn calls_agree_with_a_table(rt: HostRuntime) {
         pool.insert(all) == Ok(LEN),
         "the memory isn't handed in",
     );
-    let mut table = [None; PLACES];
-    let mut word = 35;
-    for _ in 0..2000 {
-        word = next(word);
-        asked(&mut pool, &rt, &table, word);
-        let [.., place] = next(word).to_le_bytes();
-        if let Some(entry) = table.get_mut(usize::from(place) % PLACES) {
-            *entry = after(&mut pool, &rt, *entry, word);
-        }
-    }
+    agrees_with_a_table(&mut pool, &rt);
 }

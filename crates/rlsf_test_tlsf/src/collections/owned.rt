@@ -43,12 +43,17 @@ fn pool_of(alloc: Global, capacity: usize) -> Option<OwnedObjects> {
 }
 
 /// Whether a pool for three objects is empty at first, and all goes as it should two times.
+fn is_exchanged_twice(pool: &mut OwnedObjects) -> Option<bool> {
+    let is_new = pool.capacity() == 3 && pool.len() == 0;
+    let first = exchanged(pool)?;
+    let second = exchanged(pool)?;
+    Some(is_new && first && second)
+}
+
+/// As above, for a new pool. `None` also if the system is out of memory.
 fn exchanged_twice(alloc: Global) -> Option<bool> {
     let mut pool = pool_of(alloc, 3)?;
-    let is_new = pool.capacity() == 3 && pool.len() == 0;
-    let first = exchanged(&mut pool)?;
-    let second = exchanged(&mut pool)?;
-    Some(is_new && first && second)
+    is_exchanged_twice(&mut pool)
 }
 
 /// Whether a pool for no objects refuses one.

@@ -37,11 +37,10 @@ fn is_right(strings: &mut Strings, step: Step) -> bool {
     }
 }
 
-/// The index of the first step on strings in so many bytes with a wrong result.
-fn first_wrong(rt: &(impl Abort + AllocGlobal), len: usize, steps: &[Step]) -> Option<usize> {
-    let mut strings = Strings::new(rt.alloc(), zeros(rt, 4096, len));
+/// The index of the first step on strings with a wrong result.
+fn first_wrong(strings: &mut Strings, steps: &[Step]) -> Option<usize> {
     for (index, step) in steps.iter().enumerate() {
-        if !is_right(&mut strings, *step) {
+        if !is_right(strings, *step) {
             return Some(index);
         }
     }
@@ -123,10 +122,16 @@ static SCRIPTS: [(usize, &[Step]); 5] = [
     (1024, WITH_UNKNOWN_HANDLES),
 ];
 
+/// The index of the first step on strings in so many bytes with a wrong result.
+fn wrong_in(rt: &(impl Abort + AllocGlobal), len: usize, steps: &[Step]) -> Option<usize> {
+    let mut strings = Strings::new(rt.alloc(), zeros(rt, 4096, len));
+    first_wrong(&mut strings, steps)
+}
+
 #[test]
 fn strings(rt: HostRuntime) {
     for (len, steps) in &SCRIPTS {
-        none_is_wrong(&rt, first_wrong(&rt, *len, steps));
+        none_is_wrong(&rt, wrong_in(&rt, *len, steps));
     }
 }
 
