@@ -75,73 +75,72 @@ returns-in_default-from_size_align g c =
     rw (← c.self.view_is) (search (rules, refused))
 
 pub returns-in_default-reallocate : goal.returns-in_default-reallocate
-returns-in_default-reallocate g c = record {
-  answer =
-      let (size, align) = c.in-Ok.ensures.layout in
-      subst (λ o. IsRefusedBy {A = NonZeroUsize} (size_refusal o c.args.size) (Err NoRoom)) c.in-Some.ensures.value
-      (subst (λ o. IsRefusedBy {A = NonZeroUsize} o (Err NoRoom)) (sym (size_fits c.in-Ok.layout c.args.size c.in-Some.align size align)) refl);
-  step =
-      λ fits. subst (λ n. Steps g.row.FLLEN g.row.SLLEN c.args.self.now.heap c.reallocate.new.self (Reallocates g.row.SLLEN c.args.self.now.heap.state (at c.args.addr) n None))
-      c.in-Ok.ensures.layout.0
-      (rw (← c.self.view_is) c.in_default-reallocate.ensures.step);
-  live = search rules;
-  sized = search rules;
-  few = search rules;
-  kept = search rules;
-  new = search rules;
-  left = search rules;
-  aligns = search rules;
-  bytes = search rules;
-  room =
-      let live : align_at c.self.inside.heap.state (at c.args.addr) ≡ Some c.in-Some.align = sym (rw (← c.self.view_is) at c.in-Some.ensures.value) in
-      rw (← c.self.view_is) (λ count most_size align sized few short fits fine.
-      let low : c.in-Some.align ≤ align = subst (λ o. IfSome o (λ a. a ≤ align)) live fits in
-      c.in_default-reallocate.ensures.room count most_size align sized few (omega (arith, short, c.in-Ok.ensures.layout.0)) (omega (arith, low, c.in-Ok.ensures.layout.1)));
-  count = rw (← c.self.view_is) c.in_default-reallocate.ensures.count;
-  bounds = rw (← c.self.view_is) (bounds_kept g (goal.at.returns-in_default-reallocate g c).After-reallocate);
-  same = rw (← c.self.view_is) c.in_default-reallocate.ensures.same;
-  refused = rw (← c.self.view_is) c.in_default-reallocate.ensures.refused;
-  pool = search rules;
-  place = rw (← c.self.view_is) c.in_default-reallocate.ensures.place;
-  touches = rw (← c.self.view_is) c.in_default-reallocate.ensures.touches;
-  grow = search rules;
-  copied = rw (← c.self.view_is) c.in_default-reallocate.ensures.copied;
-  grow_copied = search rules;
-}
+returns-in_default-reallocate g c =
+    let (size, align) = c.in-Ok.ensures.layout in
+    let live = rw (← c.self.view_is) at c.in-Some.ensures.value in
+    let did = c.in_default-reallocate.ensures in
+    rw (← c.self.view_is) (record {
+      answer =
+          subst (λ o. IsRefusedBy {A = NonZeroUsize} (size_refusal o c.args.size) (Err NoRoom)) live
+          (subst (λ o. IsRefusedBy {A = NonZeroUsize} o (Err NoRoom)) (sym (size_fits c.in-Ok.layout c.args.size c.in-Some.align size align)) refl);
+      step =
+          λ fits. subst (λ n. Steps g.row.FLLEN g.row.SLLEN c.self.inside.heap c.reallocate.new.self (Reallocates g.row.SLLEN c.self.inside.heap.state (at c.args.addr) n None))
+          size did.step;
+      live = tt;
+      sized = tt;
+      few = tt;
+      kept = tt;
+      new = tt;
+      left = tt;
+      aligns = tt;
+      bytes = tt;
+      room = λ count most_size most sized few short fits fine.
+          let low : c.in-Some.align ≤ most = subst (λ o. IfSome o (λ a. a ≤ most)) (sym live) fits in
+          did.room count most_size most sized few (omega (arith, short, size)) (omega (arith, low, align));
+      count = did.count;
+      bounds = bounds_kept g (goal.at.returns-in_default-reallocate g c).After-reallocate;
+      same = did.same;
+      refused = did.refused;
+      pool = refl;
+      place = did.place;
+      touches = did.touches;
+      grow = did.grow;
+      copied = did.copied;
+      grow_copied = did.grow_copied;
+    })
 
 pub returns : goal.returns
-returns g c = record {
-  answer =
-      let (size, align) = c.in-Ok.ensures.layout in
-      subst (λ o. IsRefusedBy (size_refusal o c.args.size) (Ok c.in-Some-reallocate.moved)) c.in-Some.ensures.value
-      (subst (λ o. IsRefusedBy o (Ok c.in-Some-reallocate.moved)) (sym (size_fits c.in-Ok.layout c.args.size c.in-Some.align size align)) tt);
-  step =
-      λ fits. subst (λ n. Steps g.row.FLLEN g.row.SLLEN c.args.self.now.heap c.reallocate.new.self
-      (Reallocates g.row.SLLEN c.args.self.now.heap.state (at c.args.addr) n (Some (at c.in-Some-reallocate.moved)))) c.in-Ok.ensures.layout.0
-      (rw (← c.self.view_is) c.in-Some-reallocate.ensures.step);
-  live = c.in-Some-reallocate.ensures.live ∙ ap Some c.in-Ok.ensures.layout.1 ∙ c.in-Some.ensures.value;
-  sized = subst (λ n. n ≤ length (bytes_at c.reallocate.new.self.state (at c.in-Some-reallocate.moved))) c.in-Ok.ensures.layout.0 c.in-Some-reallocate.ensures.sized;
-  few = subst (λ n. length (bytes_at c.reallocate.new.self.state (at c.in-Some-reallocate.moved)) < n + 32) c.in-Ok.ensures.layout.0 c.in-Some-reallocate.ensures.few;
-  kept = rw (← c.self.view_is) c.in-Some-reallocate.ensures.kept;
-  new = rw (← c.self.view_is) c.in-Some-reallocate.ensures.new;
-  left =
-      let did = c.in-Some-reallocate.ensures in
-      let addr = at c.args.addr in
-      let to = at c.in-Some-reallocate.moved in
-      let live : align_at c.self.inside.heap.state addr ≡ Some c.in-Some.align = sym (rw (← c.self.view_is) at c.in-Some.ensures.value) in
-      let step : Reallocates g.row.SLLEN c.self.inside.heap.state addr c.in-Ok.layout.size (Some to) c.reallocate.new.self.state = step_of _ _ _ _ _ did.step in
-      left_behind g.row.FLLEN g.row.SLLEN c.self.inside.heap c.self.invariant.stands c.reallocate.new.self.state addr c.in-Some.align c.in-Ok.layout.size to live step;
-  aligns = rw (← c.self.view_is) c.in-Some-reallocate.ensures.aligns;
-  bytes = rw (← c.self.view_is) c.in-Some-reallocate.ensures.bytes;
-  room = λ count most_size align sized few short fits fine. refl;
-  count = rw (← c.self.view_is) c.in-Some-reallocate.ensures.count;
-  bounds = rw (← c.self.view_is) (bounds_kept g (goal.at.returns g c).After-reallocate);
-  same = search rules;
-  refused = search rules;
-  pool = search rules;
-  place = rw (← c.self.view_is) c.in-Some-reallocate.ensures.place;
-  touches = rw (← c.self.view_is) c.in-Some-reallocate.ensures.touches;
-  grow = search rules;
-  copied = rw (← c.self.view_is) c.in-Some-reallocate.ensures.copied;
-  grow_copied = search rules;
-}
+returns g c =
+    let (size, align) = c.in-Ok.ensures.layout in
+    let live = rw (← c.self.view_is) at c.in-Some.ensures.value in
+    let did = c.in-Some-reallocate.ensures in
+    let addr = at c.args.addr in
+    let to = at c.in-Some-reallocate.moved in
+    let heap = c.self.inside.heap in
+    let new = c.reallocate.new.self in
+    rw (← c.self.view_is) (record {
+      answer =
+          subst (λ o. IsRefusedBy (size_refusal o c.args.size) (Ok c.in-Some-reallocate.moved)) live
+          (subst (λ o. IsRefusedBy o (Ok c.in-Some-reallocate.moved)) (sym (size_fits c.in-Ok.layout c.args.size c.in-Some.align size align)) tt);
+      step = λ fits. subst (λ n. Steps g.row.FLLEN g.row.SLLEN heap new (Reallocates g.row.SLLEN heap.state addr n (Some to))) size did.step;
+      live = did.live ∙ ap Some align ∙ live;
+      sized = subst (λ n. n ≤ length (bytes_at new.state to)) size did.sized;
+      few = subst (λ n. length (bytes_at new.state to) < n + 32) size did.few;
+      kept = did.kept;
+      new = did.new;
+      left =
+          left_behind g.row.FLLEN g.row.SLLEN heap c.self.invariant.stands new.state addr c.in-Some.align c.in-Ok.layout.size to (sym live) (step_of _ _ _ _ _ did.step);
+      aligns = did.aligns;
+      bytes = did.bytes;
+      room = λ count most_size most sized few short fits fine. refl;
+      count = did.count;
+      bounds = bounds_kept g (goal.at.returns g c).After-reallocate;
+      same = tt;
+      refused = tt;
+      pool = refl;
+      place = did.place;
+      touches = did.touches;
+      grow = did.grow;
+      copied = did.copied;
+      grow_copied = did.grow_copied;
+    })

@@ -52,23 +52,51 @@ invariant_of-self-2 g c =
     removed_last c.self.invariant heap step stands did.place did.aligns c.flip-2.new.self
     (removed_edges c.self.invariant heap stands step (omega (arith, c.if-pool-eq0.false)) c.flip.new.self c.flip-2.new.self first second)
 
-pub returns-then-any_used-clause-idle : goal.returns-then-any_used-clause-idle
-returns-then-any_used-clause-idle g c = rw (← c.self.view_is) (
-  (λ e. absurd (true≢false (sym e))),
-  (λ idle. absurd (used_last c.self.invariant c.iter_blocks.result c.iter_blocks.ensures.blocks (sym c.any_used.ensures ∙ c.if-any_used.true) idle)),
-)
+pub returns-then-any_used : goal.returns-then-any_used
+returns-then-any_used g c = rw (← c.self.view_is) (record {
+  idle = (
+    (λ e. absurd (true≢false (sym e))),
+    (λ idle. absurd (used_last c.self.invariant c.iter_blocks.result c.iter_blocks.ensures.blocks (sym c.any_used.ensures ∙ c.if-any_used.true) idle)),
+  );
+  step = λ e. absurd (true≢false (sym e));
+  pool = λ e. absurd (true≢false (sym e));
+  same = λ e. refl;
+  aligns = refl;
+  bytes = refl;
+  count = refl;
+  place = (refl, refl, refl, λ none. none);
+  grow = omega arith;
+  copied = refl;
+})
 
-pub returns-clause-idle : goal.returns-clause-idle
-returns-clause-idle g c = rw (← c.self.view_is) (
-  (λ e. idle_last c.self.invariant c.iter_blocks.result c.iter_blocks.ensures.blocks (sym c.any_used.ensures ∙ c.if-any_used.false)),
-  (λ idle. refl),
-)
+pub returns-then-pool-eq0 : goal.returns-then-pool-eq0
+returns-then-pool-eq0 g c =
+    let did = c.remove_pool.ensures in
+    rw (← c.self.view_is) (record {
+      idle = ((λ e. idle_last c.self.invariant c.iter_blocks.result c.iter_blocks.ensures.blocks (sym c.any_used.ensures ∙ c.if-any_used.false)), (λ idle. refl));
+      step = λ e. did.step;
+      pool = λ e. refl;
+      same = λ e. absurd (true≢false e);
+      aligns = did.aligns;
+      bytes = did.bytes;
+      count = did.count;
+      place = did.place;
+      grow = did.grow;
+      copied = did.copied;
+    })
 
-pub returns-then-pool-eq0-clause-idle : goal.returns-then-pool-eq0-clause-idle
-returns-then-pool-eq0-clause-idle g c = rw (← c.self.view_is) (
-  (λ e. idle_last c.self.invariant c.iter_blocks.result c.iter_blocks.ensures.blocks (sym c.any_used.ensures ∙ c.if-any_used.false)),
-  (λ idle. refl),
-)
-
-pub returns-clause-place : goal.returns-clause-place
-returns-clause-place g c = rw (← c.self.view_is) c.remove_pool.ensures.place
+pub returns : goal.returns
+returns g c =
+    let did = c.remove_pool.ensures in
+    rw (← c.self.view_is) (record {
+      idle = ((λ e. idle_last c.self.invariant c.iter_blocks.result c.iter_blocks.ensures.blocks (sym c.any_used.ensures ∙ c.if-any_used.false)), (λ idle. refl));
+      step = λ e. did.step;
+      pool = λ e. refl;
+      same = λ e. absurd (true≢false e);
+      aligns = did.aligns;
+      bytes = did.bytes;
+      count = did.count;
+      place = did.place;
+      grow = did.grow;
+      copied = did.copied;
+    })

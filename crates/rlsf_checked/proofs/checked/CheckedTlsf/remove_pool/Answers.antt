@@ -70,32 +70,56 @@ invariant_of-self g c =
     (removed_range c.self.invariant c.args.range are heap step (stands_after _ _ _ _ _ did.step) did.place did.aligns c.flip-2.new.self
     (removed_range_edges c.self.invariant c.args.range are heap step c.flip.new.self c.flip-2.new.self first second))
 
-pub returns-then-not-are_chunks-clause-answer : goal.returns-then-not-are_chunks-clause-answer
-returns-then-not-are_chunks-clause-answer g c = inl (refl, λ are. true≢false (sym (c.are_chunks.ensures.1 are) ∙ c.if-not-are_chunks.true))
+pub returns-then-not-are_chunks : goal.returns-then-not-are_chunks
+returns-then-not-are_chunks g c = rw (← c.self.view_is) (record {
+  answer = inl (refl, λ are. true≢false (sym (c.are_chunks.ensures.1 (rw (← c.self.view_is) are)) ∙ c.if-not-are_chunks.true));
+  step = tt;
+  pool = tt;
+  same = refl;
+  aligns = refl;
+  bytes = refl;
+  count = refl;
+  place = (refl, refl, refl, λ none. none);
+  touches = omega arith;
+  grow = omega arith;
+  copied = refl;
+})
 
-pub returns-then-any_used-clause-answer : goal.returns-then-any_used-clause-answer
-returns-then-any_used-clause-answer g c =
+pub returns-then-any_used : goal.returns-then-any_used
+returns-then-any_used g c =
     let are : AreChunks (range_of c.self.inside.heap.memory) c.self.inside.heap.state c.args.range = rw (← c.self.view_is) at c.are_chunks.ensures.0 c.if-not-are_chunks.false in
     let used : IsIdle c.self.inside.heap.state (walked c.args.range) → ⊥ =
     used_if (well_formed c.self.invariant) (walked c.args.range) are.row c.iter_blocks.result c.iter_blocks.ensures.blocks (sym c.any_used.ensures ∙ c.if-any_used.true) in
-    rw (← c.self.view_is) (inr (refl, are, used))
+    rw (← c.self.view_is) (record {
+      answer = inr (refl, are, used);
+      step = tt;
+      pool = tt;
+      same = refl;
+      aligns = refl;
+      bytes = refl;
+      count = refl;
+      place = (refl, refl, refl, λ none. none);
+      touches = omega arith;
+      grow = omega arith;
+      copied = refl;
+    })
 
-pub returns-clause-answer : goal.returns-clause-answer
-returns-clause-answer g c =
+pub returns : goal.returns
+returns g c =
     let are : AreChunks (range_of c.self.inside.heap.memory) c.self.inside.heap.state c.args.range = rw (← c.self.view_is) at c.are_chunks.ensures.0 c.if-not-are_chunks.false in
     let idle =
     idle_if (well_formed c.self.invariant) (walked c.args.range) are.row c.iter_blocks.result c.iter_blocks.ensures.blocks (sym c.any_used.ensures ∙ c.if-any_used.false) in
-    rw (← c.self.view_is) (are, idle)
-
-pub returns-clause-step : goal.returns-clause-step
-returns-clause-step g c = rw (← c.self.view_is) c.remove_pool.ensures.step
-
-pub returns-clause-pool : goal.returns-clause-pool
-returns-clause-pool g c =
-    rw (← c.self.view_is) (c.pool_left-self-inside.ensures ∙ ap (λ a. pool_without c.self.inside.pool (between a (end_of c.args.range))) c.next_multiple_of_32-start.ensures.value)
-
-pub returns-clause-place : goal.returns-clause-place
-returns-clause-place g c = rw (← c.self.view_is) c.remove_pool.ensures.place
-
-pub returns-clause-touches : goal.returns-clause-touches
-returns-clause-touches g c = rw (← c.self.view_is) c.remove_pool.ensures.touches
+    let did = c.remove_pool.ensures in
+    rw (← c.self.view_is) (record {
+      answer = (are, idle);
+      step = did.step;
+      pool = c.pool_left-self-inside.ensures ∙ ap (λ a. pool_without c.self.inside.pool (between a (end_of c.args.range))) c.next_multiple_of_32-start.ensures.value;
+      same = tt;
+      aligns = did.aligns;
+      bytes = did.bytes;
+      count = did.count;
+      place = did.place;
+      touches = did.touches;
+      grow = did.grow;
+      copied = did.copied;
+    })
