@@ -1,4 +1,4 @@
-use Rattle.std.proofs.Common.{rules, ◌≡◌, suc, sym, ◌∙◌, ap, subst}
+use Rattle.std.proofs.Common.{◌≡◌, suc, refl, sym, ◌∙◌, ap, subst}
 use Rattle.rlsf_base.specs.Addr.{at}
 use Rattle.rlsf_base.specs.PowerOfTwo.{floor_log2}
 use Rattle.rlsf_model.specs.Callers.{align_at}
@@ -31,45 +31,49 @@ invariant_of-self-2 g c =
     (λ a apart. c.set.ensures.others a (λ same. apart (same ∙ c.get.ensures.value))) did.aligns
 
 pub returns-in_default : goal.returns-in_default
-returns-in_default g c = record {
-  refused = search rules;
-  step = rw (← c.self.view_is) c.in_default.ensures.step;
-  live = search rules;
-  sized = search rules;
-  few = search rules;
-  new = search rules;
-  aligns = search rules;
-  bytes = search rules;
-  room = rw (← c.self.view_is) c.in_default.ensures.room;
-  count = tt;
-  bounds = rw (← c.self.view_is) c.in_default.ensures.bounds;
-  same = rw (← c.self.view_is) c.in_default.ensures.same;
-  same_bytes = rw (← c.self.view_is) c.in_default.ensures.refused;
-  pool = search rules;
-  place = rw (← c.self.view_is) c.in_default.ensures.place;
-  touches = rw (← c.self.view_is) c.in_default.ensures.touches;
-  grow = search rules;
-  copied = rw (← c.self.view_is) c.in_default.ensures.copied;
-}
+returns-in_default g c =
+    let did = c.in_default.ensures in
+    rw (← c.self.view_is) (record {
+      refused = refl;
+      step = did.step;
+      live = tt;
+      sized = tt;
+      few = tt;
+      new = tt;
+      aligns = tt;
+      bytes = tt;
+      room = did.room;
+      count = tt;
+      bounds = did.bounds;
+      same = did.same;
+      same_bytes = did.refused;
+      pool = refl;
+      place = did.place;
+      touches = did.touches;
+      grow = did.grow;
+      copied = did.copied;
+    })
 
 pub returns : goal.returns
-returns g c = record {
-  refused = search rules;
-  step = rw (← c.self.view_is) c.in-Some.ensures.step;
-  live = c.in-Some.ensures.live;
-  sized = c.in-Some.ensures.sized;
-  few = c.in-Some.ensures.few;
-  new = rw (← c.self.view_is) c.in-Some.ensures.new;
-  aligns = rw (← c.self.view_is) c.in-Some.ensures.aligns;
-  bytes = rw (← c.self.view_is) c.in-Some.ensures.bytes;
-  room = rw (← c.self.view_is) c.in-Some.ensures.room;
-  count = rw (← c.self.view_is) c.in-Some.ensures.count;
-  bounds = rw (← c.self.view_is) c.in-Some.ensures.bounds;
-  same = search rules;
-  same_bytes = search rules;
-  pool = search rules;
-  place = rw (← c.self.view_is) c.in-Some.ensures.place;
-  touches = rw (← c.self.view_is) c.in-Some.ensures.touches;
-  grow = search rules;
-  copied = rw (← c.self.view_is) c.in-Some.ensures.copied;
-}
+returns g c =
+    let did = c.in-Some.ensures in
+    rw (← c.self.view_is) (record {
+      refused = tt;
+      step = did.step;
+      live = did.live;
+      sized = did.sized;
+      few = did.few;
+      new = did.new;
+      aligns = did.aligns;
+      bytes = did.bytes;
+      room = did.room;
+      count = did.count;
+      bounds = did.bounds;
+      same = tt;
+      same_bytes = tt;
+      pool = refl;
+      place = did.place;
+      touches = did.touches;
+      grow = did.grow;
+      copied = did.copied;
+    })

@@ -1,4 +1,4 @@
-use Rattle.std.proofs.Common.{rules, ◌≡◌, ◌<◌, length, true, arith, refl, sym, ◌∙◌, ap, subst, false}
+use Rattle.std.proofs.Common.{◌≡◌, ◌<◌, length, true, arith, refl, sym, ◌∙◌, ap, subst, false}
 use Rattle.rlsf_base.specs.Range.{LiesIn, end_of}
 use Rattle.rlsf_base.specs.Space.{range_of}
 use Rattle.rlsf_model.specs.Insert.{Appends}
@@ -97,54 +97,84 @@ pub returns-then-not-lies_in : goal.returns-then-not-lies_in
 returns-then-not-lies_in g c =
     let outside : false ≡ is_within (range_of c.self.inside.heap.memory) c.args.range =
     sym c.if-not-lies_in.true ∙ c.lies_in.ensures ∙ ap (λ m. is_within (range_of m) c.args.range) c.memory_ref.ensures.memory in
-    let refused = sym (none_outside g.row.FLLEN (checked c.self.inside.heap c.self.inside.pool) c.args.range outside) in
-    rw (← c.self.view_is) (search (rules, refused))
+    rw (← c.self.view_is) (record {
+      answer = sym (none_outside g.row.FLLEN (checked c.self.inside.heap c.self.inside.pool) c.args.range outside);
+      step = tt;
+      pool = tt;
+      same = (refl, refl);
+      refused = refl;
+      aligns = refl;
+      bytes = refl;
+      count = refl;
+      bounds = λ count size align sized. sized;
+      place = (refl, refl, refl, λ none. none);
+      touches = omega arith;
+      grow = omega arith;
+      copied = refl;
+    })
 
 pub returns-then-not-is_next : goal.returns-then-not-is_next
 returns-then-not-is_next g c =
     let within : true ≡ is_within (range_of c.self.inside.heap.memory) c.args.range =
     sym c.if-not-lies_in.false ∙ c.lies_in.ensures ∙ ap (λ m. is_within (range_of m) c.args.range) c.memory_ref.ensures.memory in
     let apart : false ≡ is_next c.self.inside.pool c.args.range.start = sym c.if-not-is_next.true ∙ c.is_next.ensures in
-    let refused = sym (none_apart g.row.FLLEN (checked c.self.inside.heap c.self.inside.pool) c.args.range within apart) in
-    rw (← c.self.view_is) (search (rules, refused))
+    rw (← c.self.view_is) (record {
+      answer = sym (none_apart g.row.FLLEN (checked c.self.inside.heap c.self.inside.pool) c.args.range within apart);
+      step = tt;
+      pool = tt;
+      same = (refl, refl);
+      refused = refl;
+      aligns = refl;
+      bytes = refl;
+      count = refl;
+      bounds = λ count size align sized. sized;
+      place = (refl, refl, refl, λ none. none);
+      touches = omega arith;
+      grow = omega arith;
+      copied = refl;
+    })
 
 pub returns-then-taken-eq0 : goal.returns-then-taken-eq0
-returns-then-taken-eq0 g c = record {
-  answer = rw (← c.self.view_is) (
-      let is = is_next_range g (goal.at.returns-then-taken-eq0 g c).Else-not-is_next in
-      let (stands, step) = appended g (goal.at.returns-then-taken-eq0 g c).After-append_free_block_ptr-taken in
-      sym (next_answer g.row.FLLEN (checked c.self.inside.heap c.self.inside.pool) c.args.range is.within is.next ∙ ap if_appended (sym step.answer ∙ c.if-taken-eq0.true)));
-  step = search rules;
-  pool = search rules;
-  same = rw (← c.self.view_is) (same_state g (goal.at.returns-then-taken-eq0 g c).Then-taken-eq0, refl);
-  refused = rw (← c.self.view_is) (c.append_free_block_ptr-taken.ensures.unchanged c.if-taken-eq0.true);
-  aligns = rw (← c.self.view_is) c.append_free_block_ptr-taken.ensures.aligns;
-  bytes = rw (← c.self.view_is) c.append_free_block_ptr-taken.ensures.bytes;
-  count = rw (← c.self.view_is) c.append_free_block_ptr-taken.ensures.count;
-  bounds = rw (← c.self.view_is) c.append_free_block_ptr-taken.ensures.bounds;
-  place = rw (← c.self.view_is) c.append_free_block_ptr-taken.ensures.place;
-  touches = rw (← c.self.view_is) c.append_free_block_ptr-taken.ensures.touches;
-  grow = search rules;
-  copied = rw (← c.self.view_is) c.append_free_block_ptr-taken.ensures.copied;
-}
+returns-then-taken-eq0 g c =
+    let is = is_next_range g (goal.at.returns-then-taken-eq0 g c).Else-not-is_next in
+    let (stands, step) = appended g (goal.at.returns-then-taken-eq0 g c).After-append_free_block_ptr-taken in
+    let did = c.append_free_block_ptr-taken.ensures in
+    rw (← c.self.view_is) (record {
+      answer =
+          sym (next_answer g.row.FLLEN (checked c.self.inside.heap c.self.inside.pool) c.args.range is.within is.next ∙ ap if_appended (sym step.answer ∙ c.if-taken-eq0.true));
+      step = tt;
+      pool = tt;
+      same = (same_state g (goal.at.returns-then-taken-eq0 g c).Then-taken-eq0, refl);
+      refused = did.unchanged c.if-taken-eq0.true;
+      aligns = did.aligns;
+      bytes = did.bytes;
+      count = did.count;
+      bounds = did.bounds;
+      place = did.place;
+      touches = did.touches;
+      grow = did.grow;
+      copied = did.copied;
+    })
 
 pub returns : goal.returns
-returns g c = record {
-  answer = rw (← c.self.view_is) (
-      let is = is_next_range g (goal.at.returns g c).Else-not-is_next in
-      let (stands, step) = appended g (goal.at.returns g c).After-append_free_block_ptr-taken in
-      sym (next_answer g.row.FLLEN (checked c.self.inside.heap c.self.inside.pool) c.args.range is.within is.next ∙ ap if_appended (sym step.answer)
-      ∙ some_appended _ c.if-taken-eq0.false));
-  step = rw (← c.self.view_is) c.append_free_block_ptr-taken.ensures.step;
-  pool = rw (← c.self.view_is) refl;
-  same = search rules;
-  refused = search rules;
-  aligns = rw (← c.self.view_is) c.append_free_block_ptr-taken.ensures.aligns;
-  bytes = rw (← c.self.view_is) c.append_free_block_ptr-taken.ensures.bytes;
-  count = rw (← c.self.view_is) c.append_free_block_ptr-taken.ensures.count;
-  bounds = rw (← c.self.view_is) c.append_free_block_ptr-taken.ensures.bounds;
-  place = rw (← c.self.view_is) c.append_free_block_ptr-taken.ensures.place;
-  touches = rw (← c.self.view_is) c.append_free_block_ptr-taken.ensures.touches;
-  grow = search rules;
-  copied = rw (← c.self.view_is) c.append_free_block_ptr-taken.ensures.copied;
-}
+returns g c =
+    let is = is_next_range g (goal.at.returns g c).Else-not-is_next in
+    let (stands, step) = appended g (goal.at.returns g c).After-append_free_block_ptr-taken in
+    let did = c.append_free_block_ptr-taken.ensures in
+    rw (← c.self.view_is) (record {
+      answer =
+          sym (next_answer g.row.FLLEN (checked c.self.inside.heap c.self.inside.pool) c.args.range is.within is.next ∙ ap if_appended (sym step.answer)
+          ∙ some_appended _ c.if-taken-eq0.false);
+      step = did.step;
+      pool = refl;
+      same = tt;
+      refused = tt;
+      aligns = did.aligns;
+      bytes = did.bytes;
+      count = did.count;
+      bounds = did.bounds;
+      place = did.place;
+      touches = did.touches;
+      grow = did.grow;
+      copied = did.copied;
+    })

@@ -1,4 +1,4 @@
-use Rattle.std.proofs.Common.{rules, ◌≡◌, Some, arith, refl, sym, ◌∙◌, ap, subst}
+use Rattle.std.proofs.Common.{◌≡◌, Some, arith, refl, sym, ◌∙◌, ap, subst}
 use Rattle.rlsf_base.specs.Addr.{at}
 use Rattle.rlsf_model.specs.Callers.{align_at}
 use Rattle.rlsf_checked.specs.Answers.{if_live}
@@ -25,35 +25,40 @@ invariant_of-self g c =
     (λ a apart. c.set.ensures.others a (λ same. apart (same ∙ c.get.ensures.value))) did.aligns
 
 pub returns-in-Some : goal.returns-in-Some
-returns-in-Some g c = record {
-  answer = search rules;
-  step = rw (← c.self.view_is) c.deallocate.ensures.step;
-  gone = c.deallocate.ensures.gone;
-  aligns = rw (← c.self.view_is) c.deallocate.ensures.aligns;
-  bytes = rw (← c.self.view_is) c.deallocate.ensures.bytes;
-  count = rw (← c.self.view_is) c.deallocate.ensures.count;
-  bounds = rw (← c.self.view_is) c.deallocate.ensures.bounds;
-  same = search rules;
-  pool = search rules;
-  place = rw (← c.self.view_is) c.deallocate.ensures.place;
-  touches = rw (← c.self.view_is) c.deallocate.ensures.touches;
-  grow = search rules;
-  copied = rw (← c.self.view_is) c.deallocate.ensures.copied;
-}
+returns-in-Some g c =
+    let live = rw (← c.self.view_is) at c.in-Some.ensures.value in
+    let did = c.deallocate.ensures in
+    rw (← c.self.view_is) (record {
+      answer = ap (λ o. if_live o tt) live;
+      step = did.step;
+      gone = did.gone;
+      aligns = did.aligns;
+      bytes = did.bytes;
+      count = did.count;
+      bounds = did.bounds;
+      same = tt;
+      pool = refl;
+      place = did.place;
+      touches = did.touches;
+      grow = did.grow;
+      copied = did.copied;
+    })
 
 pub returns-in-None : goal.returns-in-None
-returns-in-None g c = record {
-  answer = ap (λ o. if_live o tt) c.in-None.ensures.value;
-  step = tt;
-  gone = search rules;
-  aligns = search rules;
-  bytes = search rules;
-  count = tt;
-  bounds = rw (← c.self.view_is) (λ count size align sized. sized);
-  same = search rules;
-  pool = search rules;
-  place = search rules;
-  touches = search rules;
-  grow = search rules;
-  copied = search rules;
-}
+returns-in-None g c =
+    let none = rw (← c.self.view_is) at c.in-None.ensures.value in
+    rw (← c.self.view_is) (record {
+      answer = ap (λ o. if_live o tt) none;
+      step = tt;
+      gone = sym none;
+      aligns = λ a apart. refl;
+      bytes = λ a apart. refl;
+      count = tt;
+      bounds = λ count size align sized. sized;
+      same = refl;
+      pool = refl;
+      place = (refl, refl, refl, λ none. none);
+      touches = omega arith;
+      grow = omega arith;
+      copied = refl;
+    })

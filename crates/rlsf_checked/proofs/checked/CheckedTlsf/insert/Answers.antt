@@ -1,4 +1,4 @@
-use Rattle.std.proofs.Common.{rules, ◌≡◌, ◌+◌, ◌^◌, ◌<◌, ◌≤◌, length, true, Ok, Some, None, arith, refl, sym, ◌∙◌, ap, subst, false}
+use Rattle.std.proofs.Common.{◌≡◌, ◌+◌, ◌^◌, ◌<◌, ◌≤◌, length, true, Ok, Some, None, arith, refl, sym, ◌∙◌, ap, subst, false}
 use Rattle.rlsf_base.specs.Addr.{at}
 use Rattle.rlsf_base.specs.Range.{LiesIn, end_of, range_at}
 use Rattle.rlsf_base.specs.Space.{range_of}
@@ -94,76 +94,90 @@ pub returns-then-not-lies_in : goal.returns-then-not-lies_in
 returns-then-not-lies_in g c =
     let outside : false ≡ is_within (range_of c.self.inside.heap.memory) c.args.range =
     sym c.if-not-lies_in.true ∙ c.lies_in.ensures ∙ ap (λ m. is_within (range_of m) c.args.range) c.memory_ref.ensures.memory in
-    let refused = sym (outside_answer g.row.FLLEN (checked c.self.inside.heap c.self.inside.pool) c.args.range outside) in
-    rw (← c.self.view_is) (search (rules, refused))
+    rw (← c.self.view_is) (record {
+      answer = sym (outside_answer g.row.FLLEN (checked c.self.inside.heap c.self.inside.pool) c.args.range outside);
+      step = tt;
+      pool = tt;
+      same = (refl, refl);
+      refused = refl;
+      aligns = refl;
+      bytes = refl;
+      count = refl;
+      bounds = λ count size align sized. sized;
+      sized_pool = λ count size align len told at32 long idle. tt;
+      place = (refl, refl, refl, λ none. none);
+      touches = omega arith;
+      grow = omega arith;
+      copied = refl;
+    })
 
 pub returns-then-range-self : goal.returns-then-range-self
-returns-then-range-self g c = record {
-  answer = rw (← c.self.view_is) (
-      let within : true ≡ is_within (range_of c.self.inside.heap.memory) c.args.range =
-      sym c.if-not-lies_in.false ∙ c.lies_in.ensures ∙ ap (λ m. is_within (range_of m) c.args.range) c.memory_ref.ensures.memory in
-      sym (before_answer g.row.FLLEN (checked c.self.inside.heap c.self.inside.pool) c.args.range within c.if-range-self.true));
-  step = search rules;
-  pool = search rules;
-  same = search rules;
-  refused = search rules;
-  aligns = search rules;
-  bytes = search rules;
-  count = rw (← c.self.view_is) refl;
-  bounds = rw (← c.self.view_is) (λ count size align sized. sized);
-  sized_pool = λ count size align len told at32 long idle. tt;
-  place = search rules;
-  touches = search rules;
-  grow = search rules;
-  copied = search rules;
-}
+returns-then-range-self g c =
+    let within : true ≡ is_within (range_of c.self.inside.heap.memory) c.args.range =
+    sym c.if-not-lies_in.false ∙ c.lies_in.ensures ∙ ap (λ m. is_within (range_of m) c.args.range) c.memory_ref.ensures.memory in
+    rw (← c.self.view_is) (record {
+      answer = sym (before_answer g.row.FLLEN (checked c.self.inside.heap c.self.inside.pool) c.args.range within c.if-range-self.true);
+      step = tt;
+      pool = tt;
+      same = (refl, refl);
+      refused = refl;
+      aligns = refl;
+      bytes = refl;
+      count = refl;
+      bounds = λ count size align sized. sized;
+      sized_pool = λ count size align len told at32 long idle. tt;
+      place = (refl, refl, refl, λ none. none);
+      touches = omega arith;
+      grow = omega arith;
+      copied = refl;
+    })
 
 pub returns-in_default : goal.returns-in_default
-returns-in_default g c = record {
-  answer = rw (← c.self.view_is) (
-      let is = is_behind g (goal.at.returns-in_default g c).Else-range-self in
-      let step : Inserts g.row.FLLEN c.self.inside.heap.state c.args.range None c.insert_free_block_ptr.new.self.state = step_of _ _ _ _ _ c.in_default.ensures.step in
-      sym (behind_answer g.row.FLLEN (checked c.self.inside.heap c.self.inside.pool) c.args.range is.within is.behind ∙ ap if_taken (sym step.answer)));
-  step = search rules;
-  pool = search rules;
-  same =
-      rw (← c.self.view_is) (
-        none_taken g.row.FLLEN c.self.inside.heap.state c.insert_free_block_ptr.new.self.state c.args.range (step_of _ _ _ _ _ c.in_default.ensures.step),
-        refl,
-      );
-  refused = rw (← c.self.view_is) c.in_default.ensures.refused;
-  aligns = rw (← c.self.view_is) c.in_default.ensures.aligns;
-  bytes = rw (← c.self.view_is) c.in_default.ensures.bytes;
-  count = rw (← c.self.view_is) c.in_default.ensures.count;
-  bounds = rw (← c.self.view_is) c.in_default.ensures.bounds;
-  sized_pool = λ count size align len told at32 long idle. tt;
-  place = rw (← c.self.view_is) c.in_default.ensures.place;
-  touches = rw (← c.self.view_is) c.in_default.ensures.touches;
-  grow = search rules;
-  copied = rw (← c.self.view_is) c.in_default.ensures.copied;
-}
+returns-in_default g c =
+    let is = is_behind g (goal.at.returns-in_default g c).Else-range-self in
+    let did = c.in_default.ensures in
+    let step : Inserts g.row.FLLEN c.self.inside.heap.state c.args.range None c.insert_free_block_ptr.new.self.state = step_of _ _ _ _ _ did.step in
+    rw (← c.self.view_is) (record {
+      answer = sym (behind_answer g.row.FLLEN (checked c.self.inside.heap c.self.inside.pool) c.args.range is.within is.behind ∙ ap if_taken (sym step.answer));
+      step = tt;
+      pool = tt;
+      same = (none_taken g.row.FLLEN c.self.inside.heap.state c.insert_free_block_ptr.new.self.state c.args.range step, refl);
+      refused = did.refused;
+      aligns = did.aligns;
+      bytes = did.bytes;
+      count = did.count;
+      bounds = did.bounds;
+      sized_pool = λ count size align len told at32 long idle. tt;
+      place = did.place;
+      touches = did.touches;
+      grow = did.grow;
+      copied = did.copied;
+    })
 
 pub returns : goal.returns
-returns g c = record {
-  answer = rw (← c.self.view_is) (
-      let is = is_behind g (goal.at.returns g c).Else-range-self in
-      let (stands, step) = inserted g (goal.at.returns g c).In-Some in
-      ap Ok c.get-3.ensures.value
-      ∙ sym (behind_answer g.row.FLLEN (checked c.self.inside.heap c.self.inside.pool) c.args.range is.within is.behind ∙ ap if_taken (sym step.answer)));
-  step =
-      subst (λ n. Steps g.row.FLLEN g.row.SLLEN c.args.self.now.heap c.insert_free_block_ptr.new.self (Inserts g.row.FLLEN c.args.self.now.heap.state c.args.range (Some n)))
-      (sym c.get-3.ensures.value)
-      (rw (← c.self.view_is) c.in-Some.ensures.step);
-  pool = search rules;
-  same = search rules;
-  refused = search rules;
-  aligns = rw (← c.self.view_is) c.in-Some.ensures.aligns;
-  bytes = rw (← c.self.view_is) c.in-Some.ensures.bytes;
-  count = rw (← c.self.view_is) c.in-Some.ensures.count;
-  bounds = rw (← c.self.view_is) c.in-Some.ensures.bounds;
-  sized_pool = rw (← c.self.view_is) c.in-Some.ensures.pool;
-  place = rw (← c.self.view_is) c.in-Some.ensures.place;
-  touches = rw (← c.self.view_is) c.in-Some.ensures.touches;
-  grow = search rules;
-  copied = rw (← c.self.view_is) c.in-Some.ensures.copied;
-}
+returns g c =
+    let is = is_behind g (goal.at.returns g c).Else-range-self in
+    let (stands, step) = inserted g (goal.at.returns g c).In-Some in
+    let did = c.in-Some.ensures in
+    let heap = c.self.inside.heap in
+    rw (← c.self.view_is) (record {
+      answer =
+          ap Ok c.get-3.ensures.value
+          ∙ sym (behind_answer g.row.FLLEN (checked heap c.self.inside.pool) c.args.range is.within is.behind ∙ ap if_taken (sym step.answer));
+      step =
+          subst (λ n. Steps g.row.FLLEN g.row.SLLEN heap c.insert_free_block_ptr.new.self (Inserts g.row.FLLEN heap.state c.args.range (Some n)))
+          (sym c.get-3.ensures.value)
+          did.step;
+      pool = ap (range_at c.args.range.start) (c.get.ensures.value ∙ sym c.get-3.ensures.value);
+      same = tt;
+      refused = tt;
+      aligns = did.aligns;
+      bytes = did.bytes;
+      count = did.count;
+      bounds = did.bounds;
+      sized_pool = did.pool;
+      place = did.place;
+      touches = did.touches;
+      grow = did.grow;
+      copied = did.copied;
+    })

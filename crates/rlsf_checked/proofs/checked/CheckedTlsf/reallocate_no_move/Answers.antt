@@ -54,49 +54,56 @@ returns-in_default-from_size_align g c =
     rw (← c.self.view_is) (search (rules, refused))
 
 pub returns-in_default-reallocate_no_move : goal.returns-in_default-reallocate_no_move
-returns-in_default-reallocate_no_move g c = record {
-  answer =
-      let (size, align) = c.in-Ok.ensures.layout in
-      subst (λ o. IsRefusedBy {A = NonZeroUsize} (size_refusal o c.args.size) (Err NoRoom)) c.in-Some.ensures.value
-      (subst (λ o. IsRefusedBy {A = NonZeroUsize} o (Err NoRoom)) (sym (size_fits c.in-Ok.layout c.args.size c.in-Some.align size align)) refl);
-  step = λ fits. rw (← c.self.view_is) (did_step g (goal.at.returns-in_default-reallocate_no_move g c).After-reallocate_no_move None c.in_default-reallocate_no_move.is);
-  there = search rules;
-  sized = search rules;
-  few = search rules;
-  kept = search rules;
-  aligns = rw (← c.self.view_is) c.in_default-reallocate_no_move.ensures.aligns;
-  bytes = rw (← c.self.view_is) c.in_default-reallocate_no_move.ensures.bytes;
-  count = rw (← c.self.view_is) c.in_default-reallocate_no_move.ensures.count;
-  bounds = rw (← c.self.view_is) (bounds_kept g (goal.at.returns-in_default-reallocate_no_move g c).After-reallocate_no_move);
-  same = rw (← c.self.view_is) c.in_default-reallocate_no_move.ensures.same;
-  refused = rw (← c.self.view_is) c.in_default-reallocate_no_move.ensures.refused;
-  pool = search rules;
-  place = rw (← c.self.view_is) c.in_default-reallocate_no_move.ensures.place;
-  touches = rw (← c.self.view_is) c.in_default-reallocate_no_move.ensures.touches;
-  grow = search rules;
-  copied = rw (← c.self.view_is) c.in_default-reallocate_no_move.ensures.copied;
-}
+returns-in_default-reallocate_no_move g c =
+    let (size, align) = c.in-Ok.ensures.layout in
+    let live = rw (← c.self.view_is) at c.in-Some.ensures.value in
+    let did = c.in_default-reallocate_no_move.ensures in
+    rw (← c.self.view_is) (record {
+      answer =
+          subst (λ o. IsRefusedBy {A = NonZeroUsize} (size_refusal o c.args.size) (Err NoRoom)) live
+          (subst (λ o. IsRefusedBy {A = NonZeroUsize} o (Err NoRoom)) (sym (size_fits c.in-Ok.layout c.args.size c.in-Some.align size align)) refl);
+      step = λ fits. did_step g (goal.at.returns-in_default-reallocate_no_move g c).After-reallocate_no_move None c.in_default-reallocate_no_move.is;
+      there = tt;
+      sized = tt;
+      few = tt;
+      kept = tt;
+      aligns = did.aligns;
+      bytes = did.bytes;
+      count = did.count;
+      bounds = bounds_kept g (goal.at.returns-in_default-reallocate_no_move g c).After-reallocate_no_move;
+      same = did.same;
+      refused = did.refused;
+      pool = refl;
+      place = did.place;
+      touches = did.touches;
+      grow = did.grow;
+      copied = did.copied;
+    })
 
 pub returns : goal.returns
-returns g c = record {
-  answer =
-      let (size, align) = c.in-Ok.ensures.layout in
-      subst (λ o. IsRefusedBy (size_refusal o c.args.size) (Ok c.in-Some-reallocate_no_move.to)) c.in-Some.ensures.value
-      (subst (λ o. IsRefusedBy o (Ok c.in-Some-reallocate_no_move.to)) (sym (size_fits c.in-Ok.layout c.args.size c.in-Some.align size align)) tt);
-  step = λ fits. rw (← c.self.view_is) (did_step g (goal.at.returns g c).After-reallocate_no_move (Some c.in-Some-reallocate_no_move.to) c.in-Some-reallocate_no_move.is);
-  there = c.in-Some-reallocate_no_move.ensures.there;
-  sized = subst (λ n. n ≤ length (bytes_at c.reallocate_no_move.new.self.state (at c.args.addr))) c.in-Ok.ensures.layout.0 c.in-Some-reallocate_no_move.ensures.sized;
-  few = subst (λ n. length (bytes_at c.reallocate_no_move.new.self.state (at c.args.addr)) < n + 32) c.in-Ok.ensures.layout.0 c.in-Some-reallocate_no_move.ensures.few;
-  kept = rw (← c.self.view_is) c.in-Some-reallocate_no_move.ensures.kept;
-  aligns = rw (← c.self.view_is) c.in-Some-reallocate_no_move.ensures.aligns;
-  bytes = rw (← c.self.view_is) c.in-Some-reallocate_no_move.ensures.bytes;
-  count = rw (← c.self.view_is) c.in-Some-reallocate_no_move.ensures.count;
-  bounds = rw (← c.self.view_is) (bounds_kept g (goal.at.returns g c).After-reallocate_no_move);
-  same = search rules;
-  refused = search rules;
-  pool = search rules;
-  place = rw (← c.self.view_is) c.in-Some-reallocate_no_move.ensures.place;
-  touches = rw (← c.self.view_is) c.in-Some-reallocate_no_move.ensures.touches;
-  grow = search rules;
-  copied = rw (← c.self.view_is) c.in-Some-reallocate_no_move.ensures.copied;
-}
+returns g c =
+    let (size, align) = c.in-Ok.ensures.layout in
+    let live = rw (← c.self.view_is) at c.in-Some.ensures.value in
+    let did = c.in-Some-reallocate_no_move.ensures in
+    let to = c.in-Some-reallocate_no_move.to in
+    rw (← c.self.view_is) (record {
+      answer =
+          subst (λ o. IsRefusedBy (size_refusal o c.args.size) (Ok to)) live
+          (subst (λ o. IsRefusedBy o (Ok to)) (sym (size_fits c.in-Ok.layout c.args.size c.in-Some.align size align)) tt);
+      step = λ fits. did_step g (goal.at.returns g c).After-reallocate_no_move (Some to) c.in-Some-reallocate_no_move.is;
+      there = did.there;
+      sized = subst (λ n. n ≤ length (bytes_at c.reallocate_no_move.new.self.state (at c.args.addr))) size did.sized;
+      few = subst (λ n. length (bytes_at c.reallocate_no_move.new.self.state (at c.args.addr)) < n + 32) size did.few;
+      kept = did.kept;
+      aligns = did.aligns;
+      bytes = did.bytes;
+      count = did.count;
+      bounds = bounds_kept g (goal.at.returns g c).After-reallocate_no_move;
+      same = tt;
+      refused = tt;
+      pool = refl;
+      place = did.place;
+      touches = did.touches;
+      grow = did.grow;
+      copied = did.copied;
+    })
