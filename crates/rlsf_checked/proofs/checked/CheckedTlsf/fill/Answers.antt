@@ -1,4 +1,4 @@
-use Rattle.std.proofs.Common.{rules, ◌≡◌, ℕ, List, length, replicate, arith, ◌∙◌, ap, subst}
+use Rattle.std.proofs.Common.{◌≡◌, ℕ, List, length, replicate, arith, refl, ◌∙◌, ap, subst}
 use Rattle.std.proofs.lemmas.List.{length-replicate}
 use Rattle.rlsf_base.specs.Addr.{at}
 use Rattle.rlsf_model.specs.Callers.{bytes_at}
@@ -24,27 +24,52 @@ invariant_of-self g c =
     let (chunks, place, stands, touches, copied) = c.payload_mut.ensures.rest w in
     unchanged c.self.invariant (written c.self.inside.heap (at c.args.addr) (length c.payload_mut.result.now) w) stands place chunks (c.payload_mut.ensures.aligns w)
 
+pub returns-in_default : goal.returns-in_default
+returns-in_default g c =
+    let none = rw (← c.self.view_is) at c.in_default.ensures.value in
+    rw (← c.self.view_is) (record {
+      answer = ap (λ o. if_live o tt) none;
+      step = tt;
+      filled = tt;
+      only = record {
+        aligns = refl;
+        bytes = λ a apart. refl;
+        count = refl;
+        bounds = λ count size align sized. sized;
+        same = refl;
+        pool = refl;
+        place = (refl, refl, refl, λ none. none);
+      };
+      touches = omega arith;
+      grow = omega arith;
+      copied = refl;
+    })
+
 pub returns : goal.returns
-returns g c = record {
-  answer = ap (λ o. if_live o tt) c.in-Some.ensures.value;
-  step = rw (← c.self.view_is) (
-      let heap = c.self.inside.heap in
-      let addr = at c.args.addr in
-      let k = (goal.at.returns g c).After-fill_all in
-      subst (λ w. Steps g.row.FLLEN g.row.SLLEN heap (written heap addr (length c.payload_mut.result.now) c.fill_all.new.bytes) (Fills heap.state addr w)) (over g k)
-      (c.payload_mut.ensures.meaning c.fill_all.new.bytes (long g k)));
-  filled = rw (← c.self.view_is) (
-      let k = (goal.at.returns g c).After-fill_all in c.payload_mut.ensures.filled c.fill_all.new.bytes (long g k) ∙ over g k);
-  only = record {
-    aligns = rw (← c.self.view_is) (c.payload_mut.ensures.aligns c.fill_all.new.bytes);
-    bytes = rw (← c.self.view_is) (c.payload_mut.ensures.bytes c.fill_all.new.bytes);
-    count = rw (← c.self.view_is) (c.payload_mut.ensures.count c.fill_all.new.bytes);
-    bounds = rw (← c.self.view_is) (c.payload_mut.ensures.bounds c.fill_all.new.bytes);
-    same = search rules;
-    pool = search rules;
-    place = rw (← c.self.view_is) (c.payload_mut.ensures.rest c.fill_all.new.bytes).1;
-  };
-  touches = rw (← c.self.view_is) (omega (arith, (c.payload_mut.ensures.rest c.fill_all.new.bytes).3));
-  grow = search rules;
-  copied = rw (← c.self.view_is) (c.payload_mut.ensures.rest c.fill_all.new.bytes).4;
-}
+returns g c =
+    let live = rw (← c.self.view_is) at c.in-Some.ensures.value in
+    let did = c.payload_mut.ensures in
+    let heap = c.self.inside.heap in
+    let addr = at c.args.addr in
+    let k = (goal.at.returns g c).After-fill_all in
+    let w = c.fill_all.new.bytes in
+    let (chunks, place, stands, touches, copied) = did.rest w in
+    rw (← c.self.view_is) (record {
+      answer = ap (λ o. if_live o tt) live;
+      step =
+          subst (λ b. Steps g.row.FLLEN g.row.SLLEN heap (written heap addr (length c.payload_mut.result.now) w) (Fills heap.state addr b)) (over g k)
+          (did.meaning w (long g k));
+      filled = did.filled w (long g k) ∙ over g k;
+      only = record {
+        aligns = did.aligns w;
+        bytes = did.bytes w;
+        count = did.count w;
+        bounds = did.bounds w;
+        same = tt;
+        pool = refl;
+        place = place;
+      };
+      touches = omega (arith, touches);
+      grow = omega (arith, touches);
+      copied = copied;
+    })

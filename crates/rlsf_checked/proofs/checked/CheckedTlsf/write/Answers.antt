@@ -1,4 +1,4 @@
-use Rattle.std.proofs.Common.{rules, refl, ◌≡◌, ◌+◌, true, false, cond, nat_le, Ok, Err, sym, subst, length, arith, ◌∙◌, ap}
+use Rattle.std.proofs.Common.{refl, ◌≡◌, ◌+◌, cond, nat_le, Ok, Err, sym, subst, length, arith, ◌∙◌, ap}
 use Rattle.std.specs.List.{splice}
 use Rattle.rlsf_base.specs.Addr.{at}
 use Rattle.rlsf_model.specs.Callers.{bytes_at, written_over}
@@ -6,12 +6,11 @@ use Rattle.rlsf_model.specs.Run.{Fills}
 use Rattle.rlsf_tlsf.specs.Allocator.{Steps}
 use Rattle.rlsf_tlsf.specs.Lending.{written}
 use Rattle.rlsf_checked.specs.Answers.{fits, if_in_range}
-use Rattle.rlsf_checked.specs.Checked.{Checked}
 use Rattle.rlsf_checked.specs.declared.error.CheckedError.TheVariants.{OutOfRange}
 use Rattle.rlsf_checked.proofs.Standing.{unchanged}
 use Rattle.rlsf_checked.proofs.checked.CheckedTlsf.write.Given as given
 use Rattle.rlsf_checked.proofs.checked.CheckedTlsf.write.Goals as goal
-use Rattle.rlsf_checked.proofs.checked.CheckedTlsf.write.Goals.{After-write_at}
+use Rattle.rlsf_checked.proofs.checked.CheckedTlsf.write.Goals.{After-reaches, After-write_at}
 
 -- the bytes are written over those that the payload had
 over : (g : given.Over) (c : After-write_at g) → c.write_at.new.payload ≡ written_over c.self.inside.heap.state (at c.args.addr) c.args.offset c.args.bytes.now
@@ -23,55 +22,84 @@ invariant_of-self g c =
     let (chunks, place, stands, touches, copied) = c.payload_mut.ensures.rest w in
     unchanged c.self.invariant (written c.self.inside.heap (at c.args.addr) (length c.payload_mut.result.now) w) stands place chunks (c.payload_mut.ensures.aligns w)
 
+-- whether they fit
+reach : (g : given.Over) (c : After-reaches g)
+    → c.reaches.result ≡ fits c.args.offset (length c.args.bytes.now) (bytes_at c.self.inside.heap.state (at c.args.addr))
+reach g c = c.reaches.ensures ∙ ap (λ n. nat_le (c.args.offset + length c.args.bytes.now) n) c.allocation_usable_size.ensures
+
+pub returns-in_default : goal.returns-in_default
+returns-in_default g c =
+    let none = rw (← c.self.view_is) at c.in_default.ensures.value in
+    rw (← c.self.view_is) (record {
+      answer = ap (λ o. if_in_range o (fits c.args.offset (length c.args.bytes.now) (bytes_at c.self.inside.heap.state (at c.args.addr)))) none;
+      step = tt;
+      written = tt;
+      only = record {
+        aligns = refl;
+        bytes = λ a apart. refl;
+        count = refl;
+        bounds = λ count size align sized. sized;
+        same = refl;
+        pool = refl;
+        place = (refl, refl, refl, λ none. none);
+      };
+      touches = omega arith;
+      grow = omega arith;
+      copied = refl;
+    })
+
 pub returns-then-not-reaches : goal.returns-then-not-reaches
-returns-then-not-reaches g c = record {
-  answer =
-      let told : false ≡ nat_le (c.args.offset + length c.args.bytes.now) (length (bytes_at c.args.self.now.heap.state (at c.args.addr))) =
-      sym c.if-not-reaches.true ∙ c.reaches.ensures ∙ ap (λ n. nat_le (c.args.offset + length c.args.bytes.now) n) c.allocation_usable_size.ensures
-      ∙ ap (λ (v : Checked). nat_le (c.args.offset + length c.args.bytes.now) (length (bytes_at v.heap.state (at c.args.addr)))) c.self.view_is in
-      subst (λ o. Err OutOfRange ≡ if_in_range o (fits c.args.offset (length c.args.bytes.now) (bytes_at c.args.self.now.heap.state (at c.args.addr)))) c.in-Some.ensures.value
-      (ap (λ b. cond b (Ok tt) (Err OutOfRange)) told);
-  step = search rules;
-  written = search rules;
-  only = record {
-    aligns = search rules;
-    bytes = search rules;
-    count = rw (← c.self.view_is) refl;
-    bounds = rw (← c.self.view_is) (λ count size align sized. sized);
-    same = search rules;
-    pool = search rules;
-    place = search rules;
-  };
-  touches = search rules;
-  grow = search rules;
-  copied = search rules;
-}
+returns-then-not-reaches g c =
+    let live = rw (← c.self.view_is) at c.in-Some.ensures.value in
+    let told = sym c.if-not-reaches.true ∙ reach g (goal.at.returns-then-not-reaches g c).After-reaches in
+    rw (← c.self.view_is) (record {
+      answer =
+          subst (λ o. Err OutOfRange ≡ if_in_range o (fits c.args.offset (length c.args.bytes.now) (bytes_at c.self.inside.heap.state (at c.args.addr)))) live
+          (ap (λ b. cond b (Ok tt) (Err OutOfRange)) told);
+      step = tt;
+      written = tt;
+      only = record {
+        aligns = refl;
+        bytes = λ a apart. refl;
+        count = refl;
+        bounds = λ count size align sized. sized;
+        same = refl;
+        pool = refl;
+        place = (refl, refl, refl, λ none. none);
+      };
+      touches = omega arith;
+      grow = omega arith;
+      copied = refl;
+    })
 
 pub returns : goal.returns
-returns g c = record {
-  answer =
-      let told : true ≡ nat_le (c.args.offset + length c.args.bytes.now) (length (bytes_at c.args.self.now.heap.state (at c.args.addr))) =
-      sym c.if-not-reaches.false ∙ c.reaches.ensures ∙ ap (λ n. nat_le (c.args.offset + length c.args.bytes.now) n) c.allocation_usable_size.ensures
-      ∙ ap (λ (v : Checked). nat_le (c.args.offset + length c.args.bytes.now) (length (bytes_at v.heap.state (at c.args.addr)))) c.self.view_is in
-      subst (λ o. Ok tt ≡ if_in_range o (fits c.args.offset (length c.args.bytes.now) (bytes_at c.args.self.now.heap.state (at c.args.addr)))) c.in-Some.ensures.value
-      (ap (λ b. cond b (Ok tt) (Err OutOfRange)) told);
-  step = rw (← c.self.view_is) (
-      let heap = c.self.inside.heap in
-      let addr = at c.args.addr in
-      subst (λ w. Steps g.row.FLLEN g.row.SLLEN heap (written heap addr (length c.payload_mut.result.now) c.write_at.new.payload) (Fills heap.state addr w))
-      (over g (goal.at.returns g c).After-write_at)
-      (c.payload_mut.ensures.meaning c.write_at.new.payload c.write_at.ensures.len));
-  written = rw (← c.self.view_is) (c.payload_mut.ensures.filled c.write_at.new.payload c.write_at.ensures.len ∙ over g (goal.at.returns g c).After-write_at);
-  only = record {
-    aligns = rw (← c.self.view_is) (c.payload_mut.ensures.aligns c.write_at.new.payload);
-    bytes = rw (← c.self.view_is) (c.payload_mut.ensures.bytes c.write_at.new.payload);
-    count = rw (← c.self.view_is) (c.payload_mut.ensures.count c.write_at.new.payload);
-    bounds = rw (← c.self.view_is) (c.payload_mut.ensures.bounds c.write_at.new.payload);
-    same = search rules;
-    pool = search rules;
-    place = rw (← c.self.view_is) (c.payload_mut.ensures.rest c.write_at.new.payload).1;
-  };
-  touches = rw (← c.self.view_is) (omega (arith, (c.payload_mut.ensures.rest c.write_at.new.payload).3));
-  grow = search rules;
-  copied = rw (← c.self.view_is) (c.payload_mut.ensures.rest c.write_at.new.payload).4;
-}
+returns g c =
+    let live = rw (← c.self.view_is) at c.in-Some.ensures.value in
+    let told = sym c.if-not-reaches.false ∙ reach g (goal.at.returns g c).After-reaches in
+    let did = c.payload_mut.ensures in
+    let heap = c.self.inside.heap in
+    let addr = at c.args.addr in
+    let w = c.write_at.new.payload in
+    let (chunks, place, stands, touches, copied) = did.rest w in
+    let is = over g (goal.at.returns g c).After-write_at in
+    rw (← c.self.view_is) (record {
+      answer =
+          subst (λ o. Ok tt ≡ if_in_range o (fits c.args.offset (length c.args.bytes.now) (bytes_at heap.state addr))) live
+          (ap (λ b. cond b (Ok tt) (Err OutOfRange)) told);
+      step =
+          subst (λ b. Steps g.row.FLLEN g.row.SLLEN heap (written heap addr (length c.payload_mut.result.now) w) (Fills heap.state addr b)) is
+          (did.meaning w c.write_at.ensures.len);
+      written = did.filled w c.write_at.ensures.len ∙ is;
+      only = record {
+        aligns = did.aligns w;
+        bytes = did.bytes w;
+        count = did.count w;
+        bounds = did.bounds w;
+        same = tt;
+        pool = refl;
+        place = place;
+      };
+      touches = omega (arith, touches);
+      grow = omega (arith, touches);
+      copied = copied;
+    })
