@@ -1,8 +1,23 @@
-use Rattle.std.proofs.Common.{◌*◌, ◌/◌, refl, ◌∙◌, ap}
+use Rattle.std.proofs.Common.{◌≡◌, ◌*◌, ◌/◌, arith, refl, ◌∙◌, ap}
 use Rattle.rlsf_base.specs.Space.{Space}
+use Rattle.rlsf_checked.proofs.Pools.{pool_fits}
 use Rattle.rlsf_checked.proofs.RunsByEdges.{first_start}
 use Rattle.rlsf_checked.proofs.checked.CheckedTlsf.bounds_of_runs.Goals as goal
 
-pub returns-clause-start : goal.returns-clause-start
-returns-clause-start g c = rw (← c.self.view_is) (
-    first_start c.self.invariant _ _ (ap (λ n. n / 32 * 32) (c.start.ensures.value ∙ ap (λ (m : Space). m.start) c.memory_ref.ensures.memory)) refl)
+pub overflow_mul-start : goal.overflow_mul-start
+overflow_mul-start g c = record { fits = omega arith }
+
+pub overflow_add-end : goal.overflow_add-end
+overflow_add-end g c = record { fits = pool_fits c.self.invariant }
+
+pub overflow_mul-end : goal.overflow_mul-end
+overflow_mul-end g c = record { fits = omega (arith, pool_fits c.self.invariant) }
+
+pub returns : goal.returns
+returns g c =
+    let begins : c.start.result ≡ c.self.inside.heap.memory.start = c.start.ensures.value ∙ ap (λ (m : Space). m.start) c.memory_ref.ensures.memory in
+    rw (← c.self.view_is) (record {
+      start = first_start c.self.invariant _ _ (ap (λ n. n / 32 * 32) begins) refl;
+      low = omega (arith, begins);
+      high = omega (arith, pool_fits c.self.invariant);
+    })
