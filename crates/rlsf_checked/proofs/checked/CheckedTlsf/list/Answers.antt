@@ -36,3 +36,9 @@ returns g c =
     let w : IsWellFormed g.row.FLLEN g.row.SLLEN (range_of c.args.self.now.heap.memory) c.args.self.now.heap.state = rw (← c.self.view_is) (well_formed c.self.invariant) in
     let ((bs, upto, listed), fits) = c.loop-place.invariant in
     (bs, all_of_them w upto (omega (arith, c.loop-place-test.false)), listed)
+
+pub next_run-run-requires : goal.next_run-run-requires
+next_run-run-requires g c = let ((bs, upto, listed), fits) = c.loop-place.invariant in (omega arith, (upto.start, omega (arith, c.loop-place-test.true)))
+
+pub loop-place-smaller : goal.loop-place-smaller
+loop-place-smaller g c = omega (arith, c.next_run-run.ensures.progress, c.next_run-run.ensures.left.order)

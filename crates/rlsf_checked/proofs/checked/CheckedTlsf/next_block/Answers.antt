@@ -42,3 +42,9 @@ returns g c =
     let w : IsWellFormed g.row.FLLEN g.row.SLLEN (range_of c.args.self.now.heap.memory) c.args.self.now.heap.state = rw (← c.self.view_is) (well_formed c.self.invariant) in
     let (bs, upto, none) = c.loop-place.invariant in
     λ b has. none b (each_block w upto (omega (arith, c.loop-place-test.false)) b has)
+
+pub next_run-run-requires : goal.next_run-run-requires
+next_run-run-requires g c = let (bs, upto, none) = c.loop-place.invariant in (omega arith, (upto.start, omega (arith, c.loop-place-test.true)))
+
+pub loop-place-smaller : goal.loop-place-smaller
+loop-place-smaller g c = omega (arith, c.next_run-run.ensures.progress, c.next_run-run.ensures.left.order)

@@ -28,3 +28,9 @@ pub returns-clause-run : goal.returns-clause-run
 returns-clause-run g c =
     let w : IsWellFormed g.row.FLLEN g.row.SLLEN (range_of c.args.self.now.heap.memory) c.args.self.now.heap.state = rw (← c.self.view_is) (well_formed c.self.invariant) in
     searched_all w c.args.addr _ _ c.loop-from.invariant (omega (arith, c.loop-from-test.false))
+
+pub next_run-run-requires : goal.next_run-run-requires
+next_run-run-requires g c = (omega arith, (c.loop-from.invariant.start, omega (arith, c.loop-from-test.true)))
+
+pub loop-from-smaller : goal.loop-from-smaller
+loop-from-smaller g c = omega (arith, c.next_run-run.ensures.progress, c.next_run-run.ensures.left.order)

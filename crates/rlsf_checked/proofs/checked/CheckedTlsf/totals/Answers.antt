@@ -56,3 +56,9 @@ returns g c =
     let w : IsWellFormed g.row.FLLEN g.row.SLLEN (range_of c.args.self.now.heap.memory) c.args.self.now.heap.state = rw (← c.self.view_is) (well_formed c.self.invariant) in
     let (bs, upto, sums, few) = c.loop-from.invariant in
     (bs, all_of_them w upto (omega (arith, c.loop-from-test.false)), sums)
+
+pub next_run-run-requires : goal.next_run-run-requires
+next_run-run-requires g c = let (bs, upto, sums, few) = c.loop-from.invariant in (omega arith, (upto.start, omega (arith, c.loop-from-test.true)))
+
+pub loop-from-smaller : goal.loop-from-smaller
+loop-from-smaller g c = omega (arith, c.next_run-run.ensures.progress, c.next_run-run.ensures.left.order)
