@@ -1,35 +1,49 @@
-use Rattle.std.proofs.Common.{rules, arith, ◌≡◌, ◌+◌, true, false, cond, nat_le, Ok, Err, length, sym, ◌∙◌, ap, subst}
+use Rattle.std.proofs.Common.{rules, arith, ◌≡◌, ◌+◌, refl, cond, nat_le, Ok, Err, length, sym, ◌∙◌, ap, subst}
 use Rattle.std.proofs.lemmas.Bool.{leb-true}
 use Rattle.rlsf_base.specs.Addr.{at}
 use Rattle.rlsf_model.specs.Callers.{bytes_at}
 use Rattle.rlsf_checked.specs.Answers.{fits, if_in_range}
-use Rattle.rlsf_checked.specs.Checked.{Checked}
 use Rattle.rlsf_checked.specs.declared.error.CheckedError.TheVariants.{OutOfRange}
+use Rattle.rlsf_checked.proofs.checked.CheckedTlsf.read.Given as given
 use Rattle.rlsf_checked.proofs.checked.CheckedTlsf.read.Goals as goal
+use Rattle.rlsf_checked.proofs.checked.CheckedTlsf.read.Goals.{After-reaches}
+
+-- whether they fit
+reach : (g : given.Over) (c : After-reaches g)
+    → c.reaches.result ≡ fits c.args.offset (length c.args.bytes.now) (bytes_at c.self.inside.heap.state (at c.args.addr))
+reach g c = c.reaches.ensures ∙ ap (λ l. nat_le (c.args.offset + length c.args.bytes.now) (length l)) c.payload-payload.ensures
+
+pub returns-in_default : goal.returns-in_default
+returns-in_default g c = record {
+  answer =
+      ap (λ o. if_in_range o (fits c.args.offset (length c.args.bytes.now) (bytes_at c.args.self.now.heap.state (at c.args.addr)))) c.in_default.ensures.value;
+  read = tt;
+  refused = refl;
+}
 
 pub returns-then-not-reaches : goal.returns-then-not-reaches
-returns-then-not-reaches g c = record {
-  answer =
-      let told : false ≡ nat_le (c.args.offset + length c.args.bytes.now) (length (bytes_at c.args.self.now.heap.state (at c.args.addr))) =
-      sym c.if-not-reaches.true ∙ c.reaches.ensures ∙ ap (λ l. nat_le (c.args.offset + length c.args.bytes.now) (length l)) c.payload-payload.ensures
-      ∙ ap (λ (v : Checked). nat_le (c.args.offset + length c.args.bytes.now) (length (bytes_at v.heap.state (at c.args.addr)))) c.self.view_is in
-      subst (λ o. Err OutOfRange ≡ if_in_range o (fits c.args.offset (length c.args.bytes.now) (bytes_at c.args.self.now.heap.state (at c.args.addr)))) c.in-Some.ensures.value
-      (ap (λ b. cond b (Ok tt) (Err OutOfRange)) told);
-  read = search rules;
-  refused = search rules;
-}
+returns-then-not-reaches g c =
+    let live = rw (← c.self.view_is) at c.in-Some.ensures.value in
+    let told = sym c.if-not-reaches.true ∙ reach g (goal.at.returns-then-not-reaches g c).After-reaches in
+    rw (← c.self.view_is) (record {
+      answer =
+          subst (λ o. Err OutOfRange ≡ if_in_range o (fits c.args.offset (length c.args.bytes.now) (bytes_at c.self.inside.heap.state (at c.args.addr)))) live
+          (ap (λ b. cond b (Ok tt) (Err OutOfRange)) told);
+      read = tt;
+      refused = refl;
+    })
 
 pub returns : goal.returns
-returns g c = record {
-  answer =
-      let told : true ≡ nat_le (c.args.offset + length c.args.bytes.now) (length (bytes_at c.args.self.now.heap.state (at c.args.addr))) =
-      sym c.if-not-reaches.false ∙ c.reaches.ensures ∙ ap (λ l. nat_le (c.args.offset + length c.args.bytes.now) (length l)) c.payload-payload.ensures
-      ∙ ap (λ (v : Checked). nat_le (c.args.offset + length c.args.bytes.now) (length (bytes_at v.heap.state (at c.args.addr)))) c.self.view_is in
-      subst (λ o. Ok tt ≡ if_in_range o (fits c.args.offset (length c.args.bytes.now) (bytes_at c.args.self.now.heap.state (at c.args.addr)))) c.in-Some.ensures.value
-      (ap (λ b. cond b (Ok tt) (Err OutOfRange)) told);
-  read = search rules;
-  refused = search rules;
-}
+returns g c =
+    let live = rw (← c.self.view_is) at c.in-Some.ensures.value in
+    let told = sym c.if-not-reaches.false ∙ reach g (goal.at.returns g c).After-reaches in
+    rw (← c.self.view_is) (record {
+      answer =
+          subst (λ o. Ok tt ≡ if_in_range o (fits c.args.offset (length c.args.bytes.now) (bytes_at c.self.inside.heap.state (at c.args.addr)))) live
+          (ap (λ b. cond b (Ok tt) (Err OutOfRange)) told);
+      read = search rules;
+      refused = tt;
+    })
 
 pub overflow_add-offset : goal.overflow_add-offset
 overflow_add-offset g c =
