@@ -8,13 +8,14 @@ use Rattle.rlsf_global.proofs.Lives.{known, unknown}
 use Rattle.rlsf_global.proofs.Placements.{live_here, live_row, no_row}
 use Rattle.rlsf_model_global.proofs.Rows.{without_row-sorted}
 use Rattle.rlsf_model_global.specs.declared.error.GlobalError.TheVariants.{NoRoom}
-use Rattle.rlsf_model_global.specs.Moves.{MovesAway, ReallocatesAt}
+use Rattle.rlsf_model_global.specs.Moves.{HeapReallocates, MovesAway, ReallocatesAt}
 use Rattle.rlsf_model_global.specs.Rows.{IsSorted, put, row_at, without_row}
 use Rattle.rlsf_global.proofs.locked.Locked.reallocate.Given as given
 use Rattle.rlsf_global.proofs.locked.Locked.reallocate.Goals as goal
+use Rattle.rlsf_global.proofs.locked.Locked.reallocate.Goals.{After-place}
 
 -- the entry of the address is now that of the payload with the new layout
-replaced : (g : given.Over) (c : goal.After-place g) → c.place.new.rows.items ≡ put (c.in-Some.to, c.args.layout) (without_row (at c.args.addr) c.self.inside.rows.items)
+replaced : (g : given.Over) (c : After-place g) → c.place.new.rows.items ≡ put (c.in-Some.to, c.args.layout) (without_row (at c.args.addr) c.self.inside.rows.items)
 replaced g c =
     let found = rw c.deref.ensures.value at c.in-Ok.ensures.found in
     rw (c.remove.ensures.items, found.taken_out) at c.place.ensures
@@ -46,101 +47,83 @@ invariant_of-self-2 g c =
     let rows = replaced g c in
     moved_locked c.self.inside.flex c.self.inside.rows.items c.self.invariant c.move_away.new.flex (at c.args.addr) c.args.layout c.in-Some.to c.in-Some.ensures.moved _ rows
 
-pub returns-clause-step : goal.returns-clause-step
-returns-clause-step g c = rw (← c.self.view_is) (
+-- the reference model made the step
+did_step : (g : given.Over) (c : After-place g)
+    → HeapReallocates (heap_of c.self.inside.flex c.self.inside.rows.items) (at c.args.addr) c.args.layout (Ok c.in-Some.to) (heap_of c.move_away.new.flex c.place.new.rows.items)
+did_step g c =
     let h = heap_of c.self.inside.flex c.self.inside.rows.items in
     let after = heap_of c.move_away.new.flex c.place.new.rows.items in
     let found = rw c.deref.ensures.value at c.in-Ok.ensures.found in
     let row = found.row c.index.result.now ∙ ap Some (sym c.index.ensures) in
-    let rows = replaced g c in
     let keep = c.min-keep.ensures ∙ ap (λ n. min n c.allocation_usable_size.result) c.size.ensures.value ∙ ap (min c.args.layout.size) c.allocation_usable_size.ensures in
     let step =
-    subst (λ l. MovesAway h (at c.args.addr) c.min-keep.result c.args.layout (Ok c.in-Some.to) (heap_of c.move_away.new.flex l)) (sym rows)
+    subst (λ l. MovesAway h (at c.args.addr) c.min-keep.result c.args.layout (Ok c.in-Some.to) (heap_of c.move_away.new.flex l)) (sym (replaced g c))
     (c.in-Some.ensures.step c.self.inside.rows.items) in
     subst (λ o. ReallocatesAt h (at c.args.addr) c.args.layout o (Ok c.in-Some.to) after) (sym row)
-    (subst (λ n. MovesAway h (at c.args.addr) n c.args.layout (Ok c.in-Some.to) after) keep step))
+    (subst (λ n. MovesAway h (at c.args.addr) n c.args.layout (Ok c.in-Some.to) after) keep step)
 
-pub returns-clause-live : goal.returns-clause-live
-returns-clause-live g c =
-    let rows = replaced g c in
+pub returns : goal.returns
+returns g c =
+    let k = (goal.at.returns g c).After-place in
+    let rows = replaced g k in
+    let step = did_step g k in
+    let moved = c.in-Some.ensures.moved in
     let before = heap_of c.self.inside.flex c.self.inside.rows.items in
     let after = heap_of c.move_away.new.flex c.place.new.rows.items in
-    layout_at-put_here before after (c.in-Some.to, c.args.layout) _ rows
-
-pub returns-clause-new : goal.returns-clause-new
-returns-clause-new g c = rw (← c.self.view_is) (
-    let before = heap_of c.self.inside.flex c.self.inside.rows.items in
-    λ off. layout_at-none before (at c.in-Some.to) (no_row c.self.inside.flex c.self.inside.rows.items c.self.invariant (at c.in-Some.to) (c.in-Some.ensures.moved.new off)))
-
-pub returns-clause-left : goal.returns-clause-left
-returns-clause-left g c =
-    let rows = replaced g c in
-    let before = heap_of c.self.inside.flex c.self.inside.rows.items in
-    let after = heap_of c.move_away.new.flex c.place.new.rows.items in
-    λ off. layout_at-moved_left before after (at c.args.addr) (c.in-Some.to, c.args.layout) rows off
-
-pub returns-clause-layouts : goal.returns-clause-layouts
-returns-clause-layouts g c = rw (← c.self.view_is) (
-    let rows = replaced g c in
-    let before = heap_of c.self.inside.flex c.self.inside.rows.items in
-    let after = heap_of c.move_away.new.flex c.place.new.rows.items in
-    layout_at-moved_other before after (at c.args.addr) (c.in-Some.to, c.args.layout) rows)
-
-pub returns-clause-contents : goal.returns-clause-contents
-returns-clause-contents g c = rw (← c.self.view_is) (
-    let before = heap_of c.self.inside.flex c.self.inside.rows.items in
-    let after = heap_of c.move_away.new.flex c.place.new.rows.items in
-    λ a off off_to. content_at-bytes before after a a (c.in-Some.ensures.moved.bytes a off off_to))
-
-pub returns-clause-touches : goal.returns-clause-touches
-returns-clause-touches g c = rw (← c.self.view_is) c.move_away.ensures.touches
+    rw (← c.self.view_is) (record {
+      step = step;
+      refused = tt;
+      unknown = known c.self.inside.flex c.self.inside.rows.items (at c.args.addr) _ (rw c.deref.ensures.value at c.in-Ok.ensures.found) (Ok c.in-Some.to) refl;
+      live = layout_at-put_here before after (c.in-Some.to, c.args.layout) _ rows;
+      new = λ off. layout_at-none before (at c.in-Some.to) (no_row c.self.inside.flex c.self.inside.rows.items c.self.invariant (at c.in-Some.to) (moved.new off));
+      left = λ off. layout_at-moved_left before after (at c.args.addr) (c.in-Some.to, c.args.layout) rows off;
+      kept = kept_elsewhere (locked_contents c.self.inside.flex c.self.inside.rows.items) c.self.invariant _ c.in-Some.to (at c.args.addr) c.args.layout step;
+      layouts = layout_at-moved_other before after (at c.args.addr) (c.in-Some.to, c.args.layout) rows;
+      contents = λ a off off_to. content_at-bytes before after a a (moved.bytes a off off_to);
+      same = tt;
+      touches = c.move_away.ensures.touches;
+      grow = c.move_away.ensures.grow;
+    })
 
 pub returns-in_default : goal.returns-in_default
-returns-in_default g c = record {
-  step = search rules;
-  refused = refl;
-  unknown = rw (← c.self.view_is) (unknown c.self.inside.flex c.self.inside.rows.items (at c.args.addr) _ (rw c.deref.ensures.value at c.in_default.ensures.absent));
-  live = tt;
-  new = tt;
-  left = tt;
-  kept = tt;
-  layouts = tt;
-  contents = tt;
-  same = refl;
-  touches = λ _. omega arith;
-  grow = omega arith;
-}
+returns-in_default g c =
+    let absent = rw c.deref.ensures.value at c.in_default.ensures.absent in
+    rw (← c.self.view_is) (record {
+      step = search rules;
+      refused = refl;
+      unknown = unknown c.self.inside.flex c.self.inside.rows.items (at c.args.addr) _ absent;
+      live = tt;
+      new = tt;
+      left = tt;
+      kept = tt;
+      layouts = tt;
+      contents = tt;
+      same = refl;
+      touches = λ _. omega arith;
+      grow = omega arith;
+    })
 
 pub returns-in_default-move_away : goal.returns-in_default-move_away
-returns-in_default-move_away g c = record {
-  step = rw (← c.self.view_is) (
-      let h = heap_of c.self.inside.flex c.self.inside.rows.items in
-      let after = heap_of c.move_away.new.flex c.self.inside.rows.items in
-      let found = rw c.deref.ensures.value at c.in-Ok.ensures.found in
-      let row = found.row c.index.result.now ∙ ap Some (sym c.index.ensures) in
-      let keep = c.min-keep.ensures ∙ ap (λ n. min n c.allocation_usable_size.result) c.size.ensures.value ∙ ap (min c.args.layout.size) c.allocation_usable_size.ensures in
-      subst (λ o. ReallocatesAt h (at c.args.addr) c.args.layout o (Err NoRoom) after) (sym row)
-      (subst (λ n. MovesAway h (at c.args.addr) n c.args.layout (Err NoRoom) after) keep (c.in_default-move_away.ensures.none c.self.inside.rows.items)));
-  refused = search rules;
-  unknown = rw (← c.self.view_is) (known c.self.inside.flex c.self.inside.rows.items (at c.args.addr) _ (rw c.deref.ensures.value at c.in-Ok.ensures.found) (Err NoRoom) refl);
-  live = tt;
-  new = tt;
-  left = tt;
-  kept = tt;
-  layouts = tt;
-  contents = tt;
-  same = rw (← c.self.view_is) (
-      let stays = c.in_default-move_away.ensures.refused in
-      same_heap c.self.inside.flex c.move_away.new.flex c.self.inside.rows.items stays.state stays.source);
-  touches = rw (← c.self.view_is) c.move_away.ensures.touches;
-  grow = rw (← c.self.view_is) c.move_away.ensures.grow;
-}
-
-pub returns-clause-unknown : goal.returns-clause-unknown
-returns-clause-unknown g c =
-    rw (← c.self.view_is) (known c.self.inside.flex c.self.inside.rows.items (at c.args.addr) _ (rw c.deref.ensures.value at c.in-Ok.ensures.found) (Ok c.in-Some.to) refl)
-
-pub returns-clause-kept : goal.returns-clause-kept
-returns-clause-kept g c = rw (← c.self.view_is) (
-    kept_elsewhere (locked_contents c.self.inside.flex c.self.inside.rows.items) c.self.invariant _ c.in-Some.to (at c.args.addr) c.args.layout
-    (rw (← c.self.view_is) at (returns-clause-step g c)))
+returns-in_default-move_away g c =
+    let h = heap_of c.self.inside.flex c.self.inside.rows.items in
+    let after = heap_of c.move_away.new.flex c.self.inside.rows.items in
+    let found = rw c.deref.ensures.value at c.in-Ok.ensures.found in
+    let row = found.row c.index.result.now ∙ ap Some (sym c.index.ensures) in
+    let keep = c.min-keep.ensures ∙ ap (λ n. min n c.allocation_usable_size.result) c.size.ensures.value ∙ ap (min c.args.layout.size) c.allocation_usable_size.ensures in
+    let stays = c.in_default-move_away.ensures.refused in
+    rw (← c.self.view_is) (record {
+      step =
+          subst (λ o. ReallocatesAt h (at c.args.addr) c.args.layout o (Err NoRoom) after) (sym row)
+          (subst (λ n. MovesAway h (at c.args.addr) n c.args.layout (Err NoRoom) after) keep (c.in_default-move_away.ensures.none c.self.inside.rows.items));
+      refused = search rules;
+      unknown = known c.self.inside.flex c.self.inside.rows.items (at c.args.addr) _ found (Err NoRoom) refl;
+      live = tt;
+      new = tt;
+      left = tt;
+      kept = tt;
+      layouts = tt;
+      contents = tt;
+      same = same_heap c.self.inside.flex c.move_away.new.flex c.self.inside.rows.items stays.state stays.source;
+      touches = c.move_away.ensures.touches;
+      grow = c.move_away.ensures.grow;
+    })

@@ -11,14 +11,15 @@ use Rattle.rlsf_global.proofs.Placements.{live_row}
 use Rattle.rlsf_global.proofs.Resizes.{not_resized, not_resized_locked, resized, resized_locked, resizes_in, resizes_out, row_there}
 use Rattle.rlsf_global.proofs.Results.{not-false, not-true}
 use Rattle.rlsf_model_global.specs.declared.error.GlobalError.TheVariants.{NoRoom, WrongLayout}
-use Rattle.rlsf_model_global.specs.Moves.{ReallocatesThereAt}
+use Rattle.rlsf_model_global.specs.Moves.{HeapReallocatesThere, ReallocatesThereAt}
 use Rattle.rlsf_global.specs.Steps.Table.{IsFound}
 use Rattle.rlsf_model_global.specs.Rows.{put, without_row}
 use Rattle.rlsf_global.proofs.locked.Locked.reallocate_no_move.Given as given
 use Rattle.rlsf_global.proofs.locked.Locked.reallocate_no_move.Goals as goal
+use Rattle.rlsf_global.proofs.locked.Locked.reallocate_no_move.Goals.{After-replace}
 
 -- the entry of the address now has the wanted layout
-replaced : (g : given.Over) (c : goal.After-replace g)
+replaced : (g : given.Over) (c : After-replace g)
     → c.replace.new.rows.items ≡ put (c.in-Some.to, c.from_size_align_unchecked-wanted.result) (without_row (at c.args.addr) c.self.inside.rows.items)
 replaced g c =
     row_there c.self.inside.rows.items c.replace.new.rows.items (at c.args.addr) c.in-Some.to c.from_size_align_unchecked-wanted.result c.in-Some.ensures.there c.replace.ensures
@@ -47,115 +48,108 @@ invariant_of-self-2 g c =
     c.in-Some.to did.there did.step _ rows
     (record { live = did.live; sized = did.sized; few = did.few }) did.aligns did.bytes
 
-pub returns-clause-step : goal.returns-clause-step
-returns-clause-step g c = rw (← c.self.view_is) (
+-- the reference model made the step
+did_step : (g : given.Over) (c : After-replace g)
+    → HeapReallocatesThere (heap_of c.self.inside.flex c.self.inside.rows.items) (at c.args.addr) c.args.layout c.args.new_size (Ok c.in-Some.to)
+    (heap_of c.reallocate_no_move.new.self c.replace.new.rows.items)
+did_step g c =
     let h = heap_of c.self.inside.flex c.self.inside.rows.items in
     let after = heap_of c.reallocate_no_move.new.self c.replace.new.rows.items in
     let did = c.in-Some.ensures in
     let found = rw c.deref.ensures.value at c.in-Ok.ensures.found in
     let row = found.row c.index.result.now ∙ ap Some (sym c.index.ensures) in
-    let rows = replaced g c in
     let wanted = c.from_size_align_unchecked-wanted in
     let step =
     resized c.self.inside.flex c.self.inside.rows.items c.self.invariant c.reallocate_no_move.new.self (at c.args.addr) wanted.result did.source c.in-Some.to did.there did.step
-    _ rows in
+    _ (replaced g c) in
     subst (λ o. ReallocatesThereAt h (at c.args.addr) c.args.layout c.args.new_size o (Ok c.in-Some.to) after) (sym row)
     (resizes_in h (at c.args.addr) c.args.layout c.args.new_size c.index.result.now wanted.result (Ok c.in-Some.to) after (not-false _ c.if-ne.ensures) wanted.ensures.0
-    (wanted.ensures.1 ∙ c.align.ensures.value) step))
+    (wanted.ensures.1 ∙ c.align.ensures.value) step)
 
-pub returns-clause-live : goal.returns-clause-live
-returns-clause-live g c =
-    let rows = replaced g c in
+pub returns : goal.returns
+returns g c =
+    let k = (goal.at.returns g c).After-replace in
+    let rows = replaced g k in
+    let step = did_step g k in
+    let did = c.in-Some.ensures in
     let wanted = c.from_size_align_unchecked-wanted in
     let before = heap_of c.self.inside.flex c.self.inside.rows.items in
     let after = heap_of c.reallocate_no_move.new.self c.replace.new.rows.items in
     let here = layout_at-put_here before after (c.in-Some.to, wanted.result) _ rows in
-    (wanted.result, subst (λ a. layout_at after a ≡ Some wanted.result) c.in-Some.ensures.there here, wanted.ensures.0, wanted.ensures.1 ∙ c.align.ensures.value)
-
-pub returns-clause-layouts : goal.returns-clause-layouts
-returns-clause-layouts g c = rw (← c.self.view_is) (
-    let rows = replaced g c in
-    let before = heap_of c.self.inside.flex c.self.inside.rows.items in
-    let after = heap_of c.reallocate_no_move.new.self c.replace.new.rows.items in
-    λ a off. layout_at-moved_other before after (at c.args.addr) (c.in-Some.to, c.from_size_align_unchecked-wanted.result) rows a off
-    (λ same. off (same ∙ c.in-Some.ensures.there)))
-
-pub returns-clause-contents : goal.returns-clause-contents
-returns-clause-contents g c = rw (← c.self.view_is) (
-    let before = heap_of c.self.inside.flex c.self.inside.rows.items in
-    let after = heap_of c.reallocate_no_move.new.self c.replace.new.rows.items in
-    λ a off. content_at-bytes before after a a (c.in-Some.ensures.bytes a off))
-
-pub returns-clause-touches : goal.returns-clause-touches
-returns-clause-touches g c = rw (← c.self.view_is) c.reallocate_no_move.ensures.touches
+    rw (← c.self.view_is) (record {
+      step = step;
+      refused = tt;
+      unknown = known c.self.inside.flex c.self.inside.rows.items (at c.args.addr) _ (rw c.deref.ensures.value at c.in-Ok.ensures.found) (Ok c.in-Some.to) refl;
+      there = did.there;
+      live = (wanted.result, subst (λ a. layout_at after a ≡ Some wanted.result) did.there here, wanted.ensures.0, wanted.ensures.1 ∙ c.align.ensures.value);
+      kept =
+          kept_there (locked_contents c.self.inside.flex c.self.inside.rows.items) c.self.invariant _ c.in-Some.to (at c.args.addr) c.args.layout c.args.new_size step;
+      layouts = λ a off. layout_at-moved_other before after (at c.args.addr) (c.in-Some.to, wanted.result) rows a off (λ same. off (same ∙ did.there));
+      contents = λ a off. content_at-bytes before after a a (did.bytes a off);
+      same = tt;
+      touches = did.touches;
+      grow = did.grow;
+    })
 
 pub returns-in_default : goal.returns-in_default
-returns-in_default g c = record {
-  step = search rules;
-  refused = refl;
-  unknown = rw (← c.self.view_is) (unknown c.self.inside.flex c.self.inside.rows.items (at c.args.addr) _ (rw c.deref.ensures.value at c.in_default.ensures.absent));
-  there = tt;
-  live = tt;
-  kept = tt;
-  layouts = tt;
-  contents = tt;
-  same = refl;
-  touches = omega arith;
-  grow = omega arith;
-}
+returns-in_default g c =
+    let absent = rw c.deref.ensures.value at c.in_default.ensures.absent in
+    rw (← c.self.view_is) (record {
+      step = search rules;
+      refused = refl;
+      unknown = unknown c.self.inside.flex c.self.inside.rows.items (at c.args.addr) _ absent;
+      there = tt;
+      live = tt;
+      kept = tt;
+      layouts = tt;
+      contents = tt;
+      same = refl;
+      touches = omega arith;
+      grow = omega arith;
+    })
 
 pub returns-then-ne : goal.returns-then-ne
-returns-then-ne g c = record {
-  step = rw (← c.self.view_is) (
-      let found = rw c.deref.ensures.value at c.in-Ok.ensures.found in
-      resizes_out (heap_of c.self.inside.flex c.self.inside.rows.items) (at c.args.addr) c.args.layout c.args.new_size
-      c.index.result.now (not-true _ c.if-ne.ensures) (found.row c.index.result.now ∙ ap Some (sym c.index.ensures)));
-  refused = refl;
-  unknown =
-      rw (← c.self.view_is) (known c.self.inside.flex c.self.inside.rows.items (at c.args.addr) _ (rw c.deref.ensures.value at c.in-Ok.ensures.found) (Err WrongLayout) refl);
-  there = tt;
-  live = tt;
-  kept = tt;
-  layouts = tt;
-  contents = tt;
-  same = refl;
-  touches = omega arith;
-  grow = omega arith;
-}
+returns-then-ne g c =
+    let found = rw c.deref.ensures.value at c.in-Ok.ensures.found in
+    rw (← c.self.view_is) (record {
+      step =
+          resizes_out (heap_of c.self.inside.flex c.self.inside.rows.items) (at c.args.addr) c.args.layout c.args.new_size
+          c.index.result.now (not-true _ c.if-ne.ensures) (found.row c.index.result.now ∙ ap Some (sym c.index.ensures));
+      refused = refl;
+      unknown = known c.self.inside.flex c.self.inside.rows.items (at c.args.addr) _ found (Err WrongLayout) refl;
+      there = tt;
+      live = tt;
+      kept = tt;
+      layouts = tt;
+      contents = tt;
+      same = refl;
+      touches = omega arith;
+      grow = omega arith;
+    })
 
 pub returns-in_default-reallocate_no_move : goal.returns-in_default-reallocate_no_move
-returns-in_default-reallocate_no_move g c = record {
-  step = rw (← c.self.view_is) (
-      let h = heap_of c.self.inside.flex c.self.inside.rows.items in
-      let after = heap_of c.reallocate_no_move.new.self c.self.inside.rows.items in
-      let did = c.in_default-reallocate_no_move.ensures in
-      let found = rw c.deref.ensures.value at c.in-Ok.ensures.found in
-      let row = found.row c.index.result.now ∙ ap Some (sym c.index.ensures) in
-      let wanted = c.from_size_align_unchecked-wanted in
-      let step =
-      not_resized c.self.inside.flex c.self.inside.rows.items c.self.invariant c.reallocate_no_move.new.self (at c.args.addr) wanted.result did.source did.step did.same in
-      subst (λ o. ReallocatesThereAt h (at c.args.addr) c.args.layout c.args.new_size o (Err NoRoom) after) (sym row)
-      (resizes_in h (at c.args.addr) c.args.layout c.args.new_size c.index.result.now wanted.result (Err NoRoom) after (not-false _ c.if-ne.ensures) wanted.ensures.0
-      (wanted.ensures.1 ∙ c.align.ensures.value) step));
-  refused = search rules;
-  unknown = rw (← c.self.view_is) (known c.self.inside.flex c.self.inside.rows.items (at c.args.addr) _ (rw c.deref.ensures.value at c.in-Ok.ensures.found) (Err NoRoom) refl);
-  there = tt;
-  live = tt;
-  kept = tt;
-  layouts = tt;
-  contents = tt;
-  same = rw (← c.self.view_is) (
-      let did = c.in_default-reallocate_no_move.ensures in
-      same_heap c.self.inside.flex c.reallocate_no_move.new.self c.self.inside.rows.items did.same did.source);
-  touches = rw (← c.self.view_is) c.reallocate_no_move.ensures.touches;
-  grow = rw (← c.self.view_is) c.reallocate_no_move.ensures.grow;
-}
-
-pub returns-clause-unknown : goal.returns-clause-unknown
-returns-clause-unknown g c =
-    rw (← c.self.view_is) (known c.self.inside.flex c.self.inside.rows.items (at c.args.addr) _ (rw c.deref.ensures.value at c.in-Ok.ensures.found) (Ok c.in-Some.to) refl)
-
-pub returns-clause-kept : goal.returns-clause-kept
-returns-clause-kept g c = rw (← c.self.view_is) (
-    kept_there (locked_contents c.self.inside.flex c.self.inside.rows.items) c.self.invariant _ c.in-Some.to (at c.args.addr) c.args.layout c.args.new_size
-    (rw (← c.self.view_is) at (returns-clause-step g c)))
+returns-in_default-reallocate_no_move g c =
+    let h = heap_of c.self.inside.flex c.self.inside.rows.items in
+    let after = heap_of c.reallocate_no_move.new.self c.self.inside.rows.items in
+    let did = c.in_default-reallocate_no_move.ensures in
+    let found = rw c.deref.ensures.value at c.in-Ok.ensures.found in
+    let row = found.row c.index.result.now ∙ ap Some (sym c.index.ensures) in
+    let wanted = c.from_size_align_unchecked-wanted in
+    let step =
+    not_resized c.self.inside.flex c.self.inside.rows.items c.self.invariant c.reallocate_no_move.new.self (at c.args.addr) wanted.result did.source did.step did.same in
+    rw (← c.self.view_is) (record {
+      step =
+          subst (λ o. ReallocatesThereAt h (at c.args.addr) c.args.layout c.args.new_size o (Err NoRoom) after) (sym row)
+          (resizes_in h (at c.args.addr) c.args.layout c.args.new_size c.index.result.now wanted.result (Err NoRoom) after (not-false _ c.if-ne.ensures) wanted.ensures.0
+          (wanted.ensures.1 ∙ c.align.ensures.value) step);
+      refused = did.refused;
+      unknown = known c.self.inside.flex c.self.inside.rows.items (at c.args.addr) _ found (Err NoRoom) refl;
+      there = tt;
+      live = tt;
+      kept = tt;
+      layouts = tt;
+      contents = tt;
+      same = same_heap c.self.inside.flex c.reallocate_no_move.new.self c.self.inside.rows.items did.same did.source;
+      touches = did.touches;
+      grow = did.grow;
+    })
