@@ -6,8 +6,8 @@ use Rattle.rlsf_global.proofs.Placements.{allocated, allocated_locked, heap_stay
 use Rattle.rlsf_global.proofs.locked.Locked.allocate.Goals as goal
 
 pub returns-then-is_err : goal.returns-then-is_err
-returns-then-is_err g c = record {
-  step = rw (← c.self.view_is, c.try_reserve.ensures.items) refl;
+returns-then-is_err g c = rw (← c.self.view_is) (record {
+  step = rw c.try_reserve.ensures.items refl;
   refused = search rules;
   allocation = record {
     live = tt;
@@ -19,7 +19,7 @@ returns-then-is_err g c = record {
   };
   touches = search rules;
   grow = search rules;
-}
+})
 
 pub invariant_of-self-in_default : goal.invariant_of-self-in_default
 invariant_of-self-in_default g c =
@@ -36,9 +36,9 @@ invariant_of-self-2 g c =
     c.in-Some.ensures.new (record { live = c.in-Some.ensures.live; sized = c.in-Some.ensures.sized; few = c.in-Some.ensures.few }) c.in-Some.ensures.aligns c.in-Some.ensures.bytes
 
 pub returns-in_default : goal.returns-in_default
-returns-in_default g c = record {
+returns-in_default g c = rw (← c.self.view_is) (record {
   step =
-      rw (← c.self.view_is, c.try_reserve.ensures.items)
+      rw c.try_reserve.ensures.items
       (not_allocated c.self.inside.flex c.self.inside.rows.items c.self.invariant c.allocate.new.self c.args.layout c.in_default.ensures.step c.in_default.ensures.same);
   refused = search rules;
   allocation = record {
@@ -48,18 +48,18 @@ returns-in_default g c = record {
     layouts = tt;
     contents = tt;
     same =
-        rw (← c.self.view_is, c.try_reserve.ensures.items)
+        rw c.try_reserve.ensures.items
         (heap_stays c.self.inside.flex c.self.inside.rows.items c.self.invariant c.allocate.new.self c.args.layout c.in_default.ensures.step c.in_default.ensures.same);
   };
-  touches = rw (← c.self.view_is) c.in_default.ensures.touches;
-  grow = rw (← c.self.view_is) c.in_default.ensures.grow;
-}
+  touches = c.in_default.ensures.touches;
+  grow = c.in_default.ensures.grow;
+})
 
 pub returns : goal.returns
-returns g c = record {
+returns g c = rw (← c.self.view_is) (record {
   step =
       let rows = rw c.try_reserve.ensures.items at c.place.ensures in
-      rw (← c.self.view_is) (allocated c.self.inside.flex c.self.inside.rows.items c.self.invariant c.allocate.new.self c.args.layout c.in-Some.addr c.in-Some.ensures.step _
+      (allocated c.self.inside.flex c.self.inside.rows.items c.self.invariant c.allocate.new.self c.args.layout c.in-Some.addr c.in-Some.ensures.step _
       rows);
   refused = tt;
   allocation = record {
@@ -69,20 +69,19 @@ returns g c = record {
         let after = heap_of c.allocate.new.self c.place.new.rows.items in
         layout_at-put_here before after (c.in-Some.addr, c.args.layout) c.self.inside.rows.items rows;
     sized = subst (λ l. c.args.layout.size ≤ length l) (sym (content_at-is (heap_of c.allocate.new.self c.place.new.rows.items) (at c.in-Some.addr))) c.in-Some.ensures.sized;
-    new = rw (← c.self.view_is)
-        (layout_at-none (heap_of c.self.inside.flex c.self.inside.rows.items) (at c.in-Some.addr)
+    new = (layout_at-none (heap_of c.self.inside.flex c.self.inside.rows.items) (at c.in-Some.addr)
         (no_row c.self.inside.flex c.self.inside.rows.items c.self.invariant (at c.in-Some.addr) c.in-Some.ensures.new));
-    layouts = rw (← c.self.view_is) (
+    layouts = (
         let rows = rw c.try_reserve.ensures.items at c.place.ensures in
         let before = heap_of c.self.inside.flex c.self.inside.rows.items in
         let after = heap_of c.allocate.new.self c.place.new.rows.items in
         layout_at-put_other before after (c.in-Some.addr, c.args.layout) rows);
-    contents = rw (← c.self.view_is) (
+    contents = (
         let before = heap_of c.self.inside.flex c.self.inside.rows.items in
         let after = heap_of c.allocate.new.self c.place.new.rows.items in
         λ a off. content_at-bytes before after a a (c.in-Some.ensures.bytes a off));
     same = tt;
   };
-  touches = rw (← c.self.view_is) c.in-Some.ensures.touches;
-  grow = rw (← c.self.view_is) c.in-Some.ensures.grow;
-}
+  touches = c.in-Some.ensures.touches;
+  grow = c.in-Some.ensures.grow;
+})

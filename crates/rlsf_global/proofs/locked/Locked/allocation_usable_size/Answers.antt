@@ -12,19 +12,19 @@ allocation_usable_size-requires g c =
     (lit< tt, live_here c.self.inside.flex c.self.inside.rows.items c.self.invariant (at c.args.addr) _ (rw c.deref.ensures.value at c.in-Ok.ensures.found))
 
 pub returns-in_default : goal.returns-in_default
-returns-in_default g c = record {
+returns-in_default g c = rw (← c.self.view_is) (record {
   step = search rules;
-  unknown = rw (← c.self.view_is) (unknown c.self.inside.flex c.self.inside.rows.items (at c.args.addr) _ (rw c.deref.ensures.value at c.in_default.ensures.absent));
+  unknown = (unknown c.self.inside.flex c.self.inside.rows.items (at c.args.addr) _ (rw c.deref.ensures.value at c.in_default.ensures.absent));
   len = tt;
-}
+})
 
 pub returns : goal.returns
-returns g c = record {
+returns g c = rw (← c.self.view_is) (record {
   step =
-      rw (← c.self.view_is) (usable_in (heap_of c.self.inside.flex c.self.inside.rows.items) (at c.args.addr) _ c.allocation_usable_size.result
+      (usable_in (heap_of c.self.inside.flex c.self.inside.rows.items) (at c.args.addr) _ c.allocation_usable_size.result
       (rw c.deref.ensures.value at c.in-Ok.ensures.found) c.allocation_usable_size.ensures);
   unknown =
-      rw (← c.self.view_is) (known c.self.inside.flex c.self.inside.rows.items (at c.args.addr) _ (rw c.deref.ensures.value at c.in-Ok.ensures.found)
+      (known c.self.inside.flex c.self.inside.rows.items (at c.args.addr) _ (rw c.deref.ensures.value at c.in-Ok.ensures.found)
       (Ok c.allocation_usable_size.result) refl);
-  len = rw (← c.self.view_is) (c.allocation_usable_size.ensures ∙ ap length (sym (content_at-is (heap_of c.self.inside.flex c.self.inside.rows.items) (at c.args.addr))));
-}
+  len = (c.allocation_usable_size.ensures ∙ ap length (sym (content_at-is (heap_of c.self.inside.flex c.self.inside.rows.items) (at c.args.addr))));
+})

@@ -30,38 +30,38 @@ invariant_of-self g c =
     (taken_out g c) c.deallocate.ensures.deallocation.gone c.deallocate.ensures.deallocation.aligns c.deallocate.ensures.deallocation.bytes
 
 pub returns-in_default : goal.returns-in_default
-returns-in_default g c = record {
-  step = rw (← c.self.view_is) (
+returns-in_default g c = rw (← c.self.view_is) (record {
+  step = (
       let h = heap_of c.self.inside.flex c.self.inside.rows.items in
       let absent = rw c.deref.ensures.value at c.in_default.ensures.absent in
       subst (λ o. DeallocatesAsAt h (at c.args.addr) c.args.layout o (Err UnknownAddress) h) (sym absent.none) (refl, refl));
   refused = refl;
-  deallocation = rw (← c.self.view_is) (
+  deallocation = (
       let absent = rw c.deref.ensures.value at c.in_default.ensures.absent in
       let none = unknown c.self.inside.flex c.self.inside.rows.items (at c.args.addr) _ absent in
       IsDeallocation-refused (heap_of c.self.inside.flex c.self.inside.rows.items) (at c.args.addr) UnknownAddress none);
   touches = omega arith;
   grow = omega arith;
-}
+})
 
 pub returns-then-ne : goal.returns-then-ne
-returns-then-ne g c = record {
-  step = rw (← c.self.view_is) (
+returns-then-ne g c = rw (← c.self.view_is) (record {
+  step = (
       let found = rw c.deref.ensures.value at c.in-Ok.ensures.found in
       deallocates_out (heap_of c.self.inside.flex c.self.inside.rows.items) (at c.args.addr) c.args.layout
       c.index.result.now (not-true _ c.if-ne.ensures) (found.row c.index.result.now ∙ ap Some (sym c.index.ensures)));
   refused = refl;
-  deallocation = rw (← c.self.view_is) (
+  deallocation = (
       let found = rw c.deref.ensures.value at c.in-Ok.ensures.found in
       let unknown = known c.self.inside.flex c.self.inside.rows.items (at c.args.addr) _ found (Err WrongLayout) refl in
       IsDeallocation-refused (heap_of c.self.inside.flex c.self.inside.rows.items) (at c.args.addr) WrongLayout unknown);
   touches = omega arith;
   grow = omega arith;
-}
+})
 
 pub returns : goal.returns
-returns g c = record {
-  step = rw (← c.self.view_is) (
+returns g c = rw (← c.self.view_is) (record {
+  step = (
       let h = heap_of c.self.inside.flex c.self.inside.rows.items in
       let after = heap_of c.deallocate.new.self c.remove-row.new.self.items in
       let found = rw c.deref.ensures.value at c.in-Ok.ensures.found in
@@ -72,12 +72,12 @@ returns g c = record {
       subst (λ o. DeallocatesAsAt h (at c.args.addr) c.args.layout o (Ok tt) after) (sym row)
       (deallocates_in h (at c.args.addr) c.args.layout c.index.result.now after (not-false _ c.if-ne.ensures) gone));
   refused = tt;
-  deallocation = rw (← c.self.view_is) (
+  deallocation = (
       let before = heap_of c.self.inside.flex c.self.inside.rows.items in
       let after = heap_of c.deallocate.new.self c.remove-row.new.self.items in
       let found = rw c.deref.ensures.value at c.in-Ok.ensures.found in
       let unknown = known c.self.inside.flex c.self.inside.rows.items (at c.args.addr) _ found (Ok tt) refl in
       IsDeallocation-done before after (at c.args.addr) unknown (taken_out g c) c.deallocate.ensures.deallocation.bytes);
-  touches = rw (← c.self.view_is) c.deallocate.ensures.touches;
-  grow = rw (← c.self.view_is) c.deallocate.ensures.grow;
-}
+  touches = c.deallocate.ensures.touches;
+  grow = c.deallocate.ensures.grow;
+})

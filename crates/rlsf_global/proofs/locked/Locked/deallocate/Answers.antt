@@ -28,23 +28,23 @@ invariant_of-self g c =
     (taken_out g c) c.deallocate.ensures.deallocation.gone c.deallocate.ensures.deallocation.aligns c.deallocate.ensures.deallocation.bytes
 
 pub returns-in_default : goal.returns-in_default
-returns-in_default g c = record {
-  step = rw (← c.self.view_is) (
+returns-in_default g c = rw (← c.self.view_is) (record {
+  step = (
       let h = heap_of c.self.inside.flex c.self.inside.rows.items in
       let absent = rw c.deref.ensures.value at c.in_default.ensures.absent in
       subst (λ o. DeallocatesAt h (at c.args.addr) o (Err UnknownAddress) h) (sym absent.none) (refl, refl));
   refused = refl;
-  deallocation = rw (← c.self.view_is) (
+  deallocation = (
       let absent = rw c.deref.ensures.value at c.in_default.ensures.absent in
       let none = unknown c.self.inside.flex c.self.inside.rows.items (at c.args.addr) _ absent in
       IsDeallocation-refused (heap_of c.self.inside.flex c.self.inside.rows.items) (at c.args.addr) UnknownAddress none);
   touches = omega arith;
   grow = omega arith;
-}
+})
 
 pub returns : goal.returns
-returns g c = record {
-  step = rw (← c.self.view_is) (
+returns g c = rw (← c.self.view_is) (record {
+  step = (
       let found = rw c.deref.ensures.value at c.in-Ok.ensures.found in
       let (row, there) = some_row c.self.inside.rows.items (at c.args.addr) _ found in
       let gone =
@@ -53,12 +53,12 @@ returns g c = record {
       subst (λ o. DeallocatesAt (heap_of c.self.inside.flex c.self.inside.rows.items) (at c.args.addr) o (Ok tt) (heap_of c.deallocate.new.self c.remove-gone.new.self.items))
       (sym there) (refl, gone));
   refused = tt;
-  deallocation = rw (← c.self.view_is) (
+  deallocation = (
       let before = heap_of c.self.inside.flex c.self.inside.rows.items in
       let after = heap_of c.deallocate.new.self c.remove-gone.new.self.items in
       let found = rw c.deref.ensures.value at c.in-Ok.ensures.found in
       let unknown = known c.self.inside.flex c.self.inside.rows.items (at c.args.addr) _ found (Ok tt) refl in
       IsDeallocation-done before after (at c.args.addr) unknown (taken_out g c) c.deallocate.ensures.deallocation.bytes);
-  touches = rw (← c.self.view_is) c.deallocate.ensures.touches;
-  grow = rw (← c.self.view_is) c.deallocate.ensures.grow;
-}
+  touches = c.deallocate.ensures.touches;
+  grow = c.deallocate.ensures.grow;
+})

@@ -13,29 +13,29 @@ payload-payload-requires g c =
     (lit< tt, live_here c.self.inside.flex c.self.inside.rows.items c.self.invariant (at c.args.addr) _ (rw c.deref.ensures.value at c.in-Ok.ensures.found))
 
 pub returns-in_default : goal.returns-in_default
-returns-in_default g c = record {
+returns-in_default g c = rw (← c.self.view_is) (record {
   step = search rules;
-  unknown = rw (← c.self.view_is) (unknown c.self.inside.flex c.self.inside.rows.items (at c.args.addr) _ (rw c.deref.ensures.value at c.in_default.ensures.absent));
+  unknown = (unknown c.self.inside.flex c.self.inside.rows.items (at c.args.addr) _ (rw c.deref.ensures.value at c.in_default.ensures.absent));
   told = tt;
   refused = refl;
-}
+})
 
 pub returns-then-not-fits : goal.returns-then-not-fits
-returns-then-not-fits g c = record {
-  step = rw (← c.self.view_is) (
+returns-then-not-fits g c = rw (← c.self.view_is) (record {
+  step = (
       let h = heap_of c.self.inside.flex c.self.inside.rows.items in
       let lent = c.args.bytes.now in
       reads_out h (at c.args.addr) c.args.offset _ (rw c.deref.ensures.value at c.in-Ok.ensures.found) lent
       (c.if-not-fits.ensures ∙ ap (λ l. nat_le (c.args.offset + length lent) (length l)) c.payload-payload.ensures));
   unknown =
-      rw (← c.self.view_is) (known c.self.inside.flex c.self.inside.rows.items (at c.args.addr) _ (rw c.deref.ensures.value at c.in-Ok.ensures.found) (Err OutOfRange) refl);
+      (known c.self.inside.flex c.self.inside.rows.items (at c.args.addr) _ (rw c.deref.ensures.value at c.in-Ok.ensures.found) (Err OutOfRange) refl);
   told = tt;
   refused = refl;
-}
+})
 
 pub returns : goal.returns
-returns g c = record {
-  step = rw (← c.self.view_is) (
+returns g c = rw (← c.self.view_is) (record {
+  step = (
       let h = heap_of c.self.inside.flex c.self.inside.rows.items in
       let lent = c.args.bytes.now in
       let offset = c.args.offset in
@@ -44,12 +44,12 @@ returns g c = record {
       reads_in h (at c.args.addr) offset _ (rw c.deref.ensures.value at c.in-Ok.ensures.found) lent c.copy_from_slice.new.self
       (c.if-not-fits.ensures ∙ ap (λ l. nat_le (offset + length lent) (length l)) same)
       (c.copy_from_slice.ensures.after ∙ ap (λ k. take k (drop offset c.payload-payload.result.now)) n ∙ ap (λ l. take (length lent) (drop offset l)) same));
-  unknown = rw (← c.self.view_is) (known c.self.inside.flex c.self.inside.rows.items (at c.args.addr) _ (rw c.deref.ensures.value at c.in-Ok.ensures.found) (Ok tt) refl);
-  told = rw (← c.self.view_is) (
+  unknown = (known c.self.inside.flex c.self.inside.rows.items (at c.args.addr) _ (rw c.deref.ensures.value at c.in-Ok.ensures.found) (Ok tt) refl);
+  told = (
       let lent = c.args.bytes.now in
       let offset = c.args.offset in
       let n : offset + length lent - offset ≡ length lent = omega arith in
       c.copy_from_slice.ensures.after ∙ ap (λ k. take k (drop offset c.payload-payload.result.now)) n
       ∙ ap (λ l. take (length lent) (drop offset l)) (c.payload-payload.ensures ∙ sym (content_at-is (heap_of c.self.inside.flex c.self.inside.rows.items) (at c.args.addr))));
   refused = tt;
-}
+})

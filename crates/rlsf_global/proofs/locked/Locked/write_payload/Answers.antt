@@ -27,39 +27,39 @@ invariant_of-self g c =
     (did.aligns w) (did.lengths w ∙ ap length did.value) (did.bytes w)
 
 pub returns-in_default : goal.returns-in_default
-returns-in_default g c = record {
+returns-in_default g c = rw (← c.self.view_is) (record {
   step = search rules;
   refused = refl;
-  unknown = rw (← c.self.view_is) (unknown c.self.inside.flex c.self.inside.rows.items (at c.args.addr) _ (rw c.deref.ensures.value at c.in_default.ensures.absent));
+  unknown = (unknown c.self.inside.flex c.self.inside.rows.items (at c.args.addr) _ (rw c.deref.ensures.value at c.in_default.ensures.absent));
   written = tt;
   layouts = refl;
   contents = tt;
   same = refl;
   touches = omega arith;
   grow = omega arith;
-}
+})
 
 pub returns-then-not-fits : goal.returns-then-not-fits
-returns-then-not-fits g c = record {
-  step = rw (← c.self.view_is) (
+returns-then-not-fits g c = rw (← c.self.view_is) (record {
+  step = (
       let h = heap_of c.self.inside.flex c.self.inside.rows.items in
       let bytes = c.args.bytes.now in
       writes_out h (at c.args.addr) c.args.offset _ (rw c.deref.ensures.value at c.in-Ok.ensures.found) bytes
       (c.if-not-fits.ensures ∙ ap (nat_le (c.args.offset + length bytes)) c.allocation_usable_size.ensures));
   refused = refl;
   unknown =
-      rw (← c.self.view_is) (known c.self.inside.flex c.self.inside.rows.items (at c.args.addr) _ (rw c.deref.ensures.value at c.in-Ok.ensures.found) (Err OutOfRange) refl);
+      (known c.self.inside.flex c.self.inside.rows.items (at c.args.addr) _ (rw c.deref.ensures.value at c.in-Ok.ensures.found) (Err OutOfRange) refl);
   written = tt;
   layouts = refl;
   contents = tt;
   same = refl;
   touches = omega arith;
   grow = omega arith;
-}
+})
 
 pub returns : goal.returns
-returns g c = record {
-  step = rw (← c.self.view_is) (
+returns g c = rw (← c.self.view_is) (record {
+  step = (
       let h = heap_of c.self.inside.flex c.self.inside.rows.items in
       let addr = at c.args.addr in
       let offset = c.args.offset in
@@ -73,8 +73,8 @@ returns g c = record {
       writes_in h addr offset _ (rw c.deref.ensures.value at c.in-Ok.ensures.found) bytes (heap_of after c.self.inside.rows.items)
       (c.if-not-fits.ensures ∙ ap (nat_le (offset + length bytes)) c.allocation_usable_size.ensures) (after.state.machine, spliced, leads));
   refused = tt;
-  unknown = rw (← c.self.view_is) (known c.self.inside.flex c.self.inside.rows.items (at c.args.addr) _ (rw c.deref.ensures.value at c.in-Ok.ensures.found) (Ok tt) refl);
-  written = rw (← c.self.view_is) (
+  unknown = (known c.self.inside.flex c.self.inside.rows.items (at c.args.addr) _ (rw c.deref.ensures.value at c.in-Ok.ensures.found) (Ok tt) refl);
+  written = (
       let addr = at c.args.addr in
       let bytes = c.args.bytes.now in
       let w = c.write_at.new.payload in
@@ -83,18 +83,18 @@ returns g c = record {
       let after = heap_of (written c.self.inside.flex addr (length c.payload_mut.result.now) w) c.self.inside.rows.items in
       content_at-is after addr ∙ did.filled w c.write_at.ensures.len ∙ c.write_at.ensures.bytes
       ∙ ap (λ l. splice l c.args.offset (c.args.offset + length bytes) bytes) (did.value ∙ sym (content_at-is before addr)));
-  layouts = rw (← c.self.view_is) (
+  layouts = (
       let before = heap_of c.self.inside.flex c.self.inside.rows.items in
       let after = heap_of (written c.self.inside.flex (at c.args.addr) (length c.payload_mut.result.now) c.write_at.new.payload) c.self.inside.rows.items in
       λ i a. layout_at-row before after a a refl i);
-  contents = rw (← c.self.view_is) (
+  contents = (
       let w = c.write_at.new.payload in
       let before = heap_of c.self.inside.flex c.self.inside.rows.items in
       let after = heap_of (written c.self.inside.flex (at c.args.addr) (length c.payload_mut.result.now) w) c.self.inside.rows.items in
       λ a off. content_at-bytes before after a a (c.payload_mut.ensures.bytes w a off));
   same = tt;
-  touches = rw (← c.self.view_is) (
+  touches = (
       let (chunks, after, source, place, stands, touches, copied) = c.payload_mut.ensures.rest c.write_at.new.payload in
       omega (arith, touches));
   grow = search rules;
-}
+})
