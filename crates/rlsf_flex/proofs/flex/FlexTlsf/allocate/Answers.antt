@@ -1,4 +1,4 @@
-use Rattle.std.proofs.Common.{rules, ◌≡◌, ◌≢◌, ◌≤◌, ◌+◌, ℕ, List, true≢false, Option, None, Some, IsSome, IfNone, IfSome, arith, refl, sym, ◌∙◌, ap}
+use Rattle.std.proofs.Common.{◌≡◌, ◌≢◌, ◌≤◌, ◌+◌, ℕ, List, true≢false, Option, None, Some, IsSome, IfNone, IfSome, arith, refl, sym, ◌∙◌, ap}
 use Rattle.std.proofs.Common.{subst}
 use Rattle.rlsf_base.specs.Addr.{at, reply}
 use Rattle.rlsf_flex.specs.StandsFor.{flex_contents, FlexSteps}
@@ -55,7 +55,7 @@ returns-in-Some g c =
 tried : (g : given.Over) (c : In_default g) → Tried g.row.FLLEN g.row.SLLEN g.S.FlexSource.terms g.S.FlexSource.owes c.args.layout.size c.args.layout.align
     (flex_over c.self.inside.parts) (flex_contents c.allocate.new.self c.self.inside.parts.kept c.self.inside.parts.source c.self.inside.parts.owed.ranges)
 tried g c =
-    let none : c.allocate.result ≡ None = search rules in
+    let none : c.allocate.result ≡ None = c.in_default.is in
     no_room c.args.layout.size c.args.layout.align c.allocate.new.self c.allocate.ensures.place c.self.invariant.stands c.self.invariant.whole
     (subst (λ o. Steps g.row.FLLEN g.row.SLLEN c.self.inside.parts.tlsf c.allocate.new.self
     (Allocates g.row.SLLEN c.self.inside.parts.tlsf.state c.args.layout.size c.args.layout.align (reply o))) none c.allocate.ensures.step)
@@ -65,13 +65,13 @@ sure : (g : given.Over) (c : In_default g) (count size align : ℕ) → IsSizedF
     → live_count c.self.inside.parts.tlsf.state ≤ count → c.args.layout.size ≤ size
     → c.args.layout.align ≤ align → ⊥
 sure g c count size align sized few short fits =
-    let none : c.allocate.result ≡ None = search rules in
+    let none : c.allocate.result ≡ None = c.in_default.is in
     true≢false (sym (subst IsSome none (c.allocate.ensures.room count size align sized few short fits)))
 
 -- and left each byte
 bytes_stay : (g : given.Over) (c : In_default g) → c.allocate.new.self.memory.bytes ≡ c.self.inside.parts.tlsf.memory.bytes
 bytes_stay g c =
-    let none : c.allocate.result ≡ None = search rules in
+    let none : c.allocate.result ≡ None = c.in_default.is in
     subst (λ o. IfNone o (c.allocate.new.self.memory.bytes ≡ c.self.inside.parts.tlsf.memory.bytes)) none c.allocate.ensures.refused
 
 pub invariant_of-self-in_err-wanted : goal.invariant_of-self-in_err-wanted

@@ -1,12 +1,16 @@
-use Rattle.std.proofs.Common.{◌≡◌, None, refl, sym, subst}
+use Rattle.std.proofs.Common.{◌≡◌, arith, None, refl, sym, subst}
 use Rattle.rlsf_flex.specs.StandsFor.{FlexStandsFor, flex_contents}
 use Rattle.rlsf_model.specs.FlexState.{FlexState, empty}
+use Rattle.rlsf_table.proofs.Parameters.{IsValid-widest}
 use Rattle.rlsf_tlsf.proofs.Standing.{in_state}
 use Rattle.rlsf_flex.proofs.EmptyFlex.{FlexStandsFor-empty}
 use Rattle.rlsf_flex.proofs.Standing.{contents_at, flex_stood_at}
 use Rattle.rlsf_flex.proofs.flex.FlexTlsf.new.Given as given
 use Rattle.rlsf_flex.proofs.flex.FlexTlsf.new.Goals as goal
 use Rattle.rlsf_flex.proofs.flex.FlexTlsf.new.Goals.{After-new-2}
+
+pub new-requires : goal.new-requires
+new-requires g c = (omega arith, IsValid-widest g.FLBitmap.BitPattern.width_limit c.requires.valid)
 
 -- the allocator represents its state, which is the empty one
 stands : (g : given.Over) (c : After-new-2 g)

@@ -1,5 +1,5 @@
 use Rattle.std.specs.declared.num.NonZeroUsize.{NonZeroUsize}
-use Rattle.std.proofs.Common.{rules, ◌≡◌, ◌≢◌, ◌≤◌, ℕ, List, true≢false, Option, Some, None, IfNone, IfSome, IsSome, length, arith, refl, sym, ◌∙◌, ap}
+use Rattle.std.proofs.Common.{◌≡◌, ◌≢◌, ◌≤◌, ℕ, List, true≢false, Option, Some, None, IfNone, IfSome, IsSome, length, arith, refl, sym, ◌∙◌, ap}
 use Rattle.std.proofs.Common.{subst}
 use Rattle.rlsf_base.specs.Addr.{at, reply}
 use Rattle.rlsf_flex.specs.StandsFor.{FlexContents, flex_contents, FlexSteps}
@@ -65,7 +65,7 @@ tried : (g : given.Over) (c : In_default g) → (u : Used) × IsStuck c.self.ins
     (flex_over c.self.inside.parts) (flex_contents c.reallocate.new.self c.self.inside.parts.kept c.self.inside.parts.source c.self.inside.parts.owed.ranges)
 tried g c =
     let addr = at c.args.addr in
-    let none : c.reallocate.result ≡ None = search rules in
+    let none : c.reallocate.result ≡ None = c.in_default.is in
     let live = subst (λ (old : FlexContents g.row.S.Denot). align_at old.state.machine addr ≡ Some c.args.layout.align) (sym c.self.view_is) c.requires in
     no_room_to_move addr c.args.layout.size c.args.layout.align c.reallocate.new.self c.reallocate.ensures.place c.self.invariant.stands c.self.invariant.whole
     (align_at-live c.self.inside.parts.tlsf.state addr c.args.layout.align live)
@@ -77,13 +77,13 @@ sure : (g : given.Over) (c : In_default g) (count size align : ℕ) → IsSizedF
     → live_count c.self.inside.parts.tlsf.state ≤ count → c.args.layout.size ≤ size
     → c.args.layout.align ≤ align → ⊥
 sure g c count size align sized few short fits =
-    let none : c.reallocate.result ≡ None = search rules in
+    let none : c.reallocate.result ≡ None = c.in_default.is in
     true≢false (sym (subst IsSome none (c.reallocate.ensures.room count size align sized few short fits)))
 
 -- and left each byte
 bytes_stay : (g : given.Over) (c : In_default g) → c.reallocate.new.self.memory.bytes ≡ c.self.inside.parts.tlsf.memory.bytes
 bytes_stay g c =
-    let none : c.reallocate.result ≡ None = search rules in
+    let none : c.reallocate.result ≡ None = c.in_default.is in
     subst (λ o. IfNone o (c.reallocate.new.self.memory.bytes ≡ c.self.inside.parts.tlsf.memory.bytes)) none c.reallocate.ensures.refused
 
 -- so the reference model's reallocation is refused in the room that there was

@@ -4,6 +4,9 @@ use Rattle.rlsf_flex.proofs.Places.{SamePlace-refl}
 use Rattle.rlsf_flex.proofs.TrimmedRanges.{not_trimmed, trimmed}
 use Rattle.rlsf_flex.proofs.flex.FlexTlsf.trim.Goals as goal
 
+pub give_idle_back-requires : goal.give_idle_back-requires
+give_idle_back-requires g c = (omega arith, (sym c.supports_dealloc.ensures ∙ c.if-supports_dealloc.true, (c.self.invariant.stands, c.self.invariant.whole)))
+
 pub invariant_of-self : goal.invariant_of-self
 invariant_of-self g c =
     record { valid = c.self.invariant.valid; stands = c.give_idle_back.ensures.gone.stands; whole = c.give_idle_back.ensures.gone.place.3 c.self.invariant.whole }
