@@ -88,7 +88,7 @@ length-remove_entry_found test (e ∷ es) found = elim (cases_Bool (test e.0)) [
   | inr other ↦ rw other (omega (arith, length-remove_entry_found test es (λ none. found (rw other none))))
 ]
 
--- once one is given back, fewer are out than the capacity
+-- once one is returned, fewer are out than the capacity
 pub room_given_back : {T E : Type 0} (r : Result T E) (o n : Handled) (size align capacity handle : ℕ) (P : Type 0) → IsObjectPool o size align capacity
     → OnOk r ((n ≡ record o { lists = remove_entry (nat_eq handle) o.lists; state = n.state }) × P) → IsErr r ↔ (lookup (nat_eq handle) o.lists ≡ None)
     → OnOk r (length n.lists < capacity)
@@ -104,7 +104,7 @@ length-set_value test (e ∷ es) x = elim (cases_Bool (test e.0)) [
   | inr other ↦ rw other (omega (arith, length-set_value test es x))
 ]
 
--- one is given back, or its handle is unknown
+-- one is returned, or its handle is unknown
 pub IsObjectPool-given_back : {T E : Type 0} (r : Result T E) (o n : Handled) (size align capacity handle : ℕ) (P : Type 0) → IsObjectPool o size align capacity
     → OnOk r ((n ≡ record o { lists = remove_entry (nat_eq handle) o.lists; state = n.state }) × P) → OnErr r (n ≡ o)
     → ((len : ℕ) → KeepsUniform o.state n.state len) → IsObjectPool n size align capacity
@@ -131,7 +131,7 @@ at_most : (size : ℕ) (es : List (ℕ × List ℕ)) → HaveSize size es → Al
 at_most size [] sized = tt
 at_most size (e ∷ es) (first, rest) = (omega (arith, first), at_most size es rest)
 
--- a pool of which fewer are out than its capacity refuses nothing for want of room
+-- a pool of which fewer are out than its capacity has room for all that it is asked for
 pub pool_has_room : (h : Handled) (size align capacity : ℕ) (Refused : Type 0) → IsObjectPool h size align capacity → length h.lists < capacity
     → (h.lists ≡ [] → FitsPool h.memory size align → Refused → ⊥)
     → ((live n : ℕ) → HasBudgetOf h live n → size ≤ n → Refused → ⊥) → ((d : Range) → HasTileFor h.state d size align (length h.lists) → Refused → ⊥)

@@ -113,7 +113,7 @@ module _ {v : StoreContents} {align : ℕ} (h : HandleRows) (kept : IsHandled v 
       → g.next ≡ h.next → Shows v align (lists_in v align h.rows) h.next w g
   same_items w g place same rows next = shows v {g = g} place rows next same.0 (lists_in-same v w align h.rows same.1)
 
-  -- the same, once a list was added and given back
+  -- the same, once a list was added and removed
   pub same_given_back : (u w : StoreContents) (g : HandleRows) {p : Place} {bytes : List ℕ} → SamePlace v.heap.memory u.heap.memory → SamePlace u.heap.memory w.heap.memory
       → HasAmong v u (places_in align h.rows) [] p bytes → HasSame u w (places_in align h.rows ++ []) → g.rows ≡ h.rows → g.next ≡ h.next
       → Shows v align (lists_in v align h.rows) h.next w g

@@ -120,7 +120,7 @@ HasSame-removed {v} {w} before after p has addr align stores =
     let are = map-append bytes_of a.front a.back ∙ ap₂ (λ f b. f ++ b) (front_bytes a) (back_bytes a) ∙ sym (map-append (bytes_at_place v.heap.memory) before after) in
     ((a.front ++ a.back, is, at), ap (lists_at w) (sym at) ∙ bytes_at_place-stored w (a.front ++ a.back) is ∙ are)
 
--- what is left once a list was added and given back
+-- what is left once a list was added and removed
 pub HasSame-given_back : {u v w : StoreContents} {p : Place} {bytes : List ℕ} (places : List Place) → HasAmong u v places [] p bytes → HasSame v w (places ++ [])
     → HasSame u w places
 HasSame-given_back {v = v} {w = w} places added left = let now = subst (HasSame v w) (append-nil places) left in (now.0, now.1 ∙ added.front)

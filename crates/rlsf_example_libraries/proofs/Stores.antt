@@ -144,7 +144,7 @@ module _ {v : StoreContents} {addr : ℕ} (before after : List Stored) (k : Stor
       (KeepsOnly-changed before after k j keeps (λ apart. moved.new (off to apart)) (λ apart. ap (align_at w.state) at ∙ align_at-none w.state addr (left (off to apart)))
       (λ a apart other. moved.aligns a (off a apart) other) (λ a apart other. moved.bytes a (off a apart) other) store.payloads)
 
-  -- its payload is given back
+  -- its payload is deallocated
   pub IsStore-removed : (w : Allocator) → Steps 59 8 v.heap w (Deallocates v.heap.state addr) → SamePlace v.heap.memory w.memory
       → IsStore (store_contents w v.pool) (before ++ after)
   IsStore-removed w steps place =

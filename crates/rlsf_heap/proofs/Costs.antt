@@ -1,4 +1,4 @@
--- What a call leaves of a heap: which one it is, where its memory is, and how many touches were counted.
+-- What a call leaves of a heap: which one it is, where its memory is, and how many word accesses were counted.
 use Rattle.std.proofs.Common.{◌≡◌, ℕ, ◌+◌, ◌≤◌, List, length, arith, refl, ap, subst, ◌∙◌}
 use Rattle.rlsf_base.specs.declared.memory.range.Range.{Range}
 use Rattle.rlsf_base.specs.Ledger.{Entry}
@@ -11,7 +11,7 @@ use Rattle.rlsf_heap.specs.Handover.{IsHandedOver, IsTakenBack}
 use Rattle.rlsf_heap.specs.Heap.{HeapView, Identity, IsWritten, PayloadView, heap_view}
 use Rattle.rlsf_heap.specs.Replies.{IsReturned, KeepsHeap}
 
--- the memory stays where it is, and no more than so many touches were counted, which are never taken back
+-- the memory stays where it is, and no more than so many word accesses were counted, and the count never falls
 pub record Leaves (m n : Space) (most : ℕ) : Type 0 where
   pub start : n.start ≡ m.start
   pub length : length n.bytes ≡ length m.bytes

@@ -1,4 +1,4 @@
--- A heap in which the length of a payload was found: only touches were counted.
+-- A heap in which the length of a payload was found: only word accesses were counted.
 use Rattle.std.proofs.Common.{◌≡◌, ◌≢◌, ℕ, ◌+◌, Option, Some, arith, refl, sym, ap, subst, ◌∙◌}
 use Rattle.rlsf_base.specs.Layout.{IsLayout}
 use Rattle.rlsf_base.specs.OpenSpace.{IsAway}

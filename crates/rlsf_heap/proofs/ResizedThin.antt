@@ -42,7 +42,7 @@ use Rattle.rlsf_heap.proofs.ThinPayloads.{IsTicketFor, shown}
 abbrev pub identity_of : Home → ℕ → Identity
 identity_of h ledger = record { home = h; ledger = ledger }
 
--- a memory stays in its place, no more than so many touches are counted, which are never taken back, and no byte of it is copied
+-- a memory stays in its place, no more than so many word accesses are counted, the count never falls, and no byte of it is copied
 pub record StaysInPlace (m n : Space) (most : ℕ) : Type 0 where
   pub start : n.start ≡ m.start
   pub length : length n.bytes ≡ length m.bytes

@@ -99,7 +99,7 @@ module _ {fllen sllen : ℕ} {m : Space} {table : Table} {s : State} {entries : 
     gone : o.out ≡ out_raw m (payload_range of)
     gone = out ∙ ap (λ (x : Piece). out_raw n (piece_range x)) one ∙ ap (λ (x : Space). out_raw x (payload_range of)) touched
 
-    -- with its bytes back, the memory stands for the same state
+    -- with its bytes back, the memory represents the same state
     pub back : StandsFor fllen sllen (contents o table) s
     back = R.stands-back v tickets key (bytes_of of) of.align known o start_is bytes_are gone
 

@@ -1,4 +1,4 @@
--- The machine values of a block for some values: what is owned tells them, and is made of nothing. Assumes `Logic`.
+-- The machine values of a block for some values: what is owned determines them, and is made of nothing. Assumes `Logic`.
 use Rattle.std.proofs.Common.{◌≡◌, List, [], ◌∷◌, ◌++◌, refl, ◌∙◌}
 use seplogic.Ra.Ura.{Ura}
 use mir.Val.{Val, vstruct, vcons, vnil, of_list}

@@ -1,4 +1,4 @@
--- What the calls of a heap come to, as the exports say it.
+-- What the calls of a heap return, as the exports say it.
 use Rattle.std.proofs.Common.{◌≡◌, ◌≢◌, ℕ, zero, suc, ◌+◌, ◌-◌, length, List, [], Option, Some, None, arith, refl, sym, subst, ◌∙◌, ap, true}
 use denote.RawPtr.{Ptr}
 use Rattle.rlsf_base.specs.OpenSpace.{home_of, place_in}

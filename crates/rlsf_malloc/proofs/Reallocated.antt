@@ -1,4 +1,4 @@
--- What the reallocations of a heap come to, as the exports say it.
+-- What the reallocations of a heap return, as the exports say it.
 use Rattle.std.proofs.Common.{◌≡◌, ◌≢◌, ℕ, ◌≤◌, length, Some, None, refl, sym, subst, ◌∙◌, ap}
 use Rattle.rlsf_base.specs.Layout.{IsLayout}
 use Rattle.rlsf_model.specs.Callers.{align_at}

@@ -1,4 +1,4 @@
--- What the walks of the exports cite.
+-- What the manual proofs of the exports cite.
 pub use Rattle.std.proofs.Common.{◌≡◌, ℕ, List, [], ◌∷◌, ◌++◌, refl, sym, ap, ◌∙◌, w64, MutBor, subst}
 pub use Rattle.std.proofs.raw_atomic.Walks.{proved}
 pub use base.Fraction.{full_share}

@@ -41,7 +41,7 @@ module _ (s : State) (one : s.chunks ≡ chunk ∷ []) where
     ends = refl;
   }
 
-  -- it is a row of chunks
+  -- each of its addresses is in a chunk
   pub row_of_chunk : IsRow s chunk
   row_of_chunk a from to = (chunk, is_chunk, omega arith, from, to, omega arith)
 

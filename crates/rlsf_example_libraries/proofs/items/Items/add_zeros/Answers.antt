@@ -31,7 +31,7 @@ invariant_of-self c = (c.in_default.ensures.refused _ c.self.invariant).0
 pub keep-requires : goal.keep-requires
 keep-requires c = (_, _, (c.in-Some.ensures.stored _ c.self.invariant).places, refl, refl)
 
--- the store after the payload was given back
+-- the store after the payload was deallocated
 kept : (c : goal.After-from_residual) → Shows c.self.inside.store c.self.inside.align (lists_in c.self.inside.store c.self.inside.align c.self.inside.handles.rows)
     c.self.inside.handles.next c.keep.new.store c.keep.new.handles
 kept c =

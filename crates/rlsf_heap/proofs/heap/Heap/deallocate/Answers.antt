@@ -57,7 +57,7 @@ load_block_of-block-requires g c =
     let d = (goal.at.load_block_of-block-requires g c).After-put_room in
     (g.row.FLLEN, g.row.SLLEN, contents c.put_room.new.self c.self.inside.table, before g d, refl, back g d, (block g d, held g d))
 
--- its bytes are the memory's own again, once more touches were counted
+-- its bytes are the memory's own again, once more word accesses were counted
 own : (g : given.Over) (d : After-put_room g) (n : Space) → n ≡ record d.put_room.new.self { touches = d.put_room.new.self.touches + 2 } → IsOwned n (usable (block g d))
 own g d n touched =
     let e = d.put_room.ensures in

@@ -80,7 +80,7 @@ put_room-requires g c =
 abbrev sought : (g : given.Over) → After-load_block_of-arg-1 g → After-load_usable_bytes-arg-1 g
 sought g c = (goal.at.load_block_of-block-requires g c).After-load_usable_bytes-arg-1
 
--- with its bytes back, the memory stands for the same state
+-- with its bytes back, the memory represents the same state
 back : (g : given.Over) (c : After-load_block_of-arg-1 g) → StandsFor g.row.FLLEN g.row.SLLEN (contents c.put_room.new.self c.self.inside.table) (before g (sought g c))
 back g c =
     let d = sought g c in let e = c.put_room.ensures in
@@ -93,7 +93,7 @@ load_block_of-block-requires g c =
     let d = sought g c in
     (g.row.FLLEN, g.row.SLLEN, contents c.put_room.new.self c.self.inside.table, before g d, refl, back g c, (block g d, held g d))
 
--- its bytes are the memory's own again, once more touches were counted
+-- its bytes are the memory's own again, once more word accesses were counted
 own : (g : given.Over) (c : After-load_block_of-arg-1 g) (n : Space) → n ≡ record c.put_room.new.self { touches = c.put_room.new.self.touches + 2 }
     → IsOwned n (usable (block g (sought g c)))
 own g c n touched =

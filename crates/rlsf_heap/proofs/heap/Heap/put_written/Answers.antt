@@ -57,7 +57,7 @@ load_block_of-block-requires g c =
     let d = (goal.at.load_block_of-block-requires g c).After-put_back in
     (g.row.FLLEN, g.row.SLLEN, contents c.put_back.new.self c.self.inside.table, state (back_in g d), refl, stands (back_in g d), (filled_block (back_in g d), held_back g d))
 
--- its bytes are the memory's own again, once more touches were counted
+-- its bytes are the memory's own again, once more word accesses were counted
 own : (g : given.Over) (d : After-put_back g) (n : Space) → n ≡ record d.put_back.new.self { touches = d.put_back.new.self.touches + 2 }
     → IsOwned n (usable (filled_block (back_in g d)))
 own g d n touched =
