@@ -1,3 +1,4 @@
+-- Lemmas on leases, slots and blocks that get another size. `Values` and `Walks` are for the manual proofs.
 pub mod Grains
 pub mod LeasedRooms
 pub mod Resized

@@ -1,3 +1,4 @@
+-- Lemmas of the exports. `Templates` has a manual proof for each shape of an export, and `Payloads` says what each does.
 mod Alignments
 pub mod Laws
 mod Moved

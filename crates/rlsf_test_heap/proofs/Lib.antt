@@ -1,1 +1,2 @@
+-- A heap over one chunk, for the tests' contracts.
 pub mod OneChunk

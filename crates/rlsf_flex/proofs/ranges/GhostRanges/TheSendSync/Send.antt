@@ -1,4 +1,4 @@
--- the ranges may move to another thread.
+-- The ranges may move to another thread.
 use denote.Param.Send.{IsSend}
 use Rattle.rlsf_flex.proofs.Crossing.{GhostRanges-send}
 use Rattle.rlsf_flex.specs.contracts.ranges.GhostRanges.{the_row}

@@ -1,3 +1,4 @@
+-- A lock may move to another thread where its value may.
 use denote.RattleType.{RattleType}
 use denote.Param.Send.{IsSend}
 use Rattle.rlsf_shared_heap.proofs.Crossing.{lock_send}

@@ -1,3 +1,4 @@
+-- A lock may be used in several threads where its value may move to another.
 use denote.RattleType.{RattleType}
 use denote.Param.Send.{IsSend, IsSync}
 use Rattle.rlsf_shared_heap.proofs.Crossing.{lock_sync}

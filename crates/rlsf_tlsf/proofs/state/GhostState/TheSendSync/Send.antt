@@ -1,4 +1,4 @@
--- the state may move to another thread.
+-- The state may move to another thread.
 use denote.Param.Send.{IsSend}
 use Rattle.rlsf_tlsf.proofs.Crossing.{GhostState-send}
 use Rattle.rlsf_tlsf.specs.contracts.state.GhostState.{the_row}
