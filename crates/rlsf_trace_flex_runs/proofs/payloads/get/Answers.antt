@@ -10,8 +10,13 @@ use Rattle.rlsf_trace_flex_runs.proofs.payloads.get.Goals as goal
 
 pub returns-in_default : goal.returns-in_default
 returns-in_default g c =
-    LeadsOn-nothing c.requires (Get c.args.name c.args.offset) (Refused UnknownName) refl
-    (refl, without_source (run_of c.args.flex.now c.args.names.now), (unnamed c.requires.are_named c.args.name (sym c.payload_of.ensures.value ∙ c.in_default.is), refl), refl, refl)
+    LeadsOn-nothing c.requires (Get c.args.name c.args.offset) (Refused UnknownName) refl (
+      refl,
+      without_source (run_of c.args.flex.now c.args.names.now),
+      (unnamed c.requires.are_named c.args.name (sym c.payload_of.ensures.value ∙ c.in_default.is), refl),
+      refl,
+      refl,
+    )
 
 pub returns-in-Some-get : goal.returns-in-Some-get
 returns-in-Some-get g c =

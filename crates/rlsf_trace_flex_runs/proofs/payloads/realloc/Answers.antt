@@ -39,8 +39,8 @@ returns-in-Some-placed g c = record {
   does =
       let (size, align) = c.in-Ok.ensures.layout in
       let added = of_ok c.insert.result (c.insert.ensures.succeeds c.requires.room) c.insert.ensures.updates in
-      reallocated c.requires.state c.args.name c.args.size c.in-Some.old _ c.in-Some-placed.addr size (sym c.payload_of.ensures.value ∙ c.in-Some.is) (c.in-Ok.ensures.succeeds.0 refl)
-      refl refl c.in-Some-placed.ensures.step added.0;
+      reallocated c.requires.state c.args.name c.args.size c.in-Some.old _ c.in-Some-placed.addr size
+      (sym c.payload_of.ensures.value ∙ c.in-Some.is) (c.in-Ok.ensures.succeeds.0 refl) refl refl c.in-Some-placed.ensures.step added.0;
   room = λ ops more. omega (arith, more, c.insert.ensures.spare);
 }
 
