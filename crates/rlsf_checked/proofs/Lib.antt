@@ -4,6 +4,7 @@ mod Gathered
 mod Joined
 mod Parts
 mod Pools
+mod RefusedWrites
 mod Removed
 mod RemovedRanges
 mod RunsByEdges

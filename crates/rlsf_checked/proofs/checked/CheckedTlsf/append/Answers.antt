@@ -119,12 +119,12 @@ returns-then-not-is_next g c =
     sym c.if-not-lies_in.false ∙ c.lies_in.ensures ∙ ap (λ m. is_within (range_of m) c.args.range) c.memory_ref.ensures.memory in
     let apart : false ≡ is_next c.self.inside.pool c.args.range.start = sym c.if-not-is_next.true ∙ c.is_next.ensures in
     rw (← c.self.view_is) (record {
-      answer = sym (none_apart g.row.FLLEN (checked c.self.inside.heap c.self.inside.pool) c.args.range within apart);
       step = tt;
       pool = tt;
       same = (refl, refl);
       refused = refl;
       aligns = refl;
+      answer = sym (none_apart g.row.FLLEN (checked c.self.inside.heap c.self.inside.pool) c.args.range within apart);
       bytes = refl;
       count = refl;
       bounds = λ count size align sized. sized;

@@ -3,7 +3,8 @@ use Rattle.rlsf_base.specs.Addr.{at}
 use Rattle.rlsf_model.specs.Callers.{bytes_at}
 use Rattle.rlsf_checked.specs.Answers.{both_have, if_both_in_range, if_in_range}
 use Rattle.rlsf_checked.specs.declared.error.CheckedError.TheVariants.{OutOfRange, UnknownAddress}
-use Rattle.rlsf_checked.proofs.Standing.{stands_after, unchanged}
+use Rattle.rlsf_checked.proofs.FieldsOverSteps.{stands_after, unchanged}
+use Rattle.rlsf_checked.proofs.RefusedWrites.{nothing_written}
 use Rattle.rlsf_checked.proofs.checked.CheckedTlsf.copy.Given as given
 use Rattle.rlsf_checked.proofs.checked.CheckedTlsf.copy.Goals as goal
 use Rattle.rlsf_checked.proofs.checked.CheckedTlsf.copy.Goals.{After-both_reach}
@@ -64,15 +65,7 @@ returns-in_default g c =
       answer = not_from _ _ _ from;
       step = tt;
       filled = tt;
-      only = record {
-        aligns = refl;
-        bytes = λ a apart. refl;
-        count = refl;
-        bounds = λ count size align sized. sized;
-        same = refl;
-        pool = refl;
-        place = (refl, refl, refl, λ none. none);
-      };
+      only = nothing_written _ _ _ _;
       touches = refl;
       copied = tt;
     })
@@ -85,15 +78,7 @@ returns-in_default-alignment g c =
       answer = not_to _ _ _ _ from to;
       step = tt;
       filled = tt;
-      only = record {
-        aligns = refl;
-        bytes = λ a apart. refl;
-        count = refl;
-        bounds = λ count size align sized. sized;
-        same = refl;
-        pool = refl;
-        place = (refl, refl, refl, λ none. none);
-      };
+      only = nothing_written _ _ _ _;
       touches = refl;
       copied = tt;
     })
@@ -107,15 +92,7 @@ returns-then-not-both_reach g c =
       answer = ap (λ b. cond b (Ok tt) (Err OutOfRange)) fits ∙ in_range _ _ _ _ _ from to;
       step = tt;
       filled = tt;
-      only = record {
-        aligns = refl;
-        bytes = λ a apart. refl;
-        count = refl;
-        bounds = λ count size align sized. sized;
-        same = refl;
-        pool = refl;
-        place = (refl, refl, refl, λ none. none);
-      };
+      only = nothing_written _ _ _ _;
       touches = refl;
       copied = tt;
     })

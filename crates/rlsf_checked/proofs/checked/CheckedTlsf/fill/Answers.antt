@@ -6,7 +6,8 @@ use Rattle.rlsf_model.specs.Run.{Fills}
 use Rattle.rlsf_tlsf.specs.Allocator.{Steps}
 use Rattle.rlsf_tlsf.specs.Lending.{written}
 use Rattle.rlsf_checked.specs.Answers.{if_live}
-use Rattle.rlsf_checked.proofs.Standing.{unchanged}
+use Rattle.rlsf_checked.proofs.FieldsOverSteps.{unchanged}
+use Rattle.rlsf_checked.proofs.RefusedWrites.{nothing_written}
 use Rattle.rlsf_checked.proofs.checked.CheckedTlsf.fill.Given as given
 use Rattle.rlsf_checked.proofs.checked.CheckedTlsf.fill.Goals as goal
 use Rattle.rlsf_checked.proofs.checked.CheckedTlsf.fill.Goals.{After-fill_all}
@@ -31,15 +32,7 @@ returns-in_default g c =
       answer = ap (λ o. if_live o tt) none;
       step = tt;
       filled = tt;
-      only = record {
-        aligns = refl;
-        bytes = λ a apart. refl;
-        count = refl;
-        bounds = λ count size align sized. sized;
-        same = refl;
-        pool = refl;
-        place = (refl, refl, refl, λ none. none);
-      };
+      only = nothing_written _ _ _ _;
       touches = omega arith;
       grow = omega arith;
       copied = refl;

@@ -116,12 +116,12 @@ returns-then-range-self g c =
     let within : true ≡ is_within (range_of c.self.inside.heap.memory) c.args.range =
     sym c.if-not-lies_in.false ∙ c.lies_in.ensures ∙ ap (λ m. is_within (range_of m) c.args.range) c.memory_ref.ensures.memory in
     rw (← c.self.view_is) (record {
-      answer = sym (before_answer g.row.FLLEN (checked c.self.inside.heap c.self.inside.pool) c.args.range within c.if-range-self.true);
       step = tt;
       pool = tt;
       same = (refl, refl);
       refused = refl;
       aligns = refl;
+      answer = sym (before_answer g.row.FLLEN (checked c.self.inside.heap c.self.inside.pool) c.args.range within c.if-range-self.true);
       bytes = refl;
       count = refl;
       bounds = λ count size align sized. sized;

@@ -89,11 +89,11 @@ pub returns : goal.returns
 returns g c =
     let did = c.remove_pool.ensures in
     rw (← c.self.view_is) (record {
-      idle = ((λ e. idle_last c.self.invariant c.iter_blocks.result c.iter_blocks.ensures.blocks (sym c.any_used.ensures ∙ c.if-any_used.false)), (λ idle. refl));
       step = λ e. did.step;
       pool = λ e. refl;
       same = λ e. absurd (true≢false e);
       aligns = did.aligns;
+      idle = ((λ e. idle_last c.self.invariant c.iter_blocks.result c.iter_blocks.ensures.blocks (sym c.any_used.ensures ∙ c.if-any_used.false)), (λ idle. refl));
       bytes = did.bytes;
       count = did.count;
       place = did.place;

@@ -7,7 +7,8 @@ use Rattle.rlsf_tlsf.specs.Allocator.{Steps}
 use Rattle.rlsf_tlsf.specs.Lending.{written}
 use Rattle.rlsf_checked.specs.Answers.{fits, if_in_range}
 use Rattle.rlsf_checked.specs.declared.error.CheckedError.TheVariants.{OutOfRange}
-use Rattle.rlsf_checked.proofs.Standing.{unchanged}
+use Rattle.rlsf_checked.proofs.FieldsOverSteps.{unchanged}
+use Rattle.rlsf_checked.proofs.RefusedWrites.{nothing_written}
 use Rattle.rlsf_checked.proofs.checked.CheckedTlsf.write.Given as given
 use Rattle.rlsf_checked.proofs.checked.CheckedTlsf.write.Goals as goal
 use Rattle.rlsf_checked.proofs.checked.CheckedTlsf.write.Goals.{After-reaches, After-write_at}
@@ -34,15 +35,7 @@ returns-in_default g c =
       answer = ap (λ o. if_in_range o (fits c.args.offset (length c.args.bytes.now) (bytes_at c.self.inside.heap.state (at c.args.addr)))) none;
       step = tt;
       written = tt;
-      only = record {
-        aligns = refl;
-        bytes = λ a apart. refl;
-        count = refl;
-        bounds = λ count size align sized. sized;
-        same = refl;
-        pool = refl;
-        place = (refl, refl, refl, λ none. none);
-      };
+      only = nothing_written _ _ _ _;
       touches = omega arith;
       grow = omega arith;
       copied = refl;
@@ -58,15 +51,7 @@ returns-then-not-reaches g c =
           (ap (λ b. cond b (Ok tt) (Err OutOfRange)) told);
       step = tt;
       written = tt;
-      only = record {
-        aligns = refl;
-        bytes = λ a apart. refl;
-        count = refl;
-        bounds = λ count size align sized. sized;
-        same = refl;
-        pool = refl;
-        place = (refl, refl, refl, λ none. none);
-      };
+      only = nothing_written _ _ _ _;
       touches = omega arith;
       grow = omega arith;
       copied = refl;

@@ -91,13 +91,13 @@ returns-in_default g c =
     rw (← c.self.view_is) (record {
       step = search rules;
       refused = refl;
-      unknown = unknown c.self.inside.flex c.self.inside.rows.items (at c.args.addr) _ absent;
       live = tt;
       new = tt;
       left = tt;
       kept = tt;
       layouts = tt;
       contents = tt;
+      unknown = unknown c.self.inside.flex c.self.inside.rows.items (at c.args.addr) _ absent;
       same = refl;
       touches = λ _. omega arith;
       grow = omega arith;
