@@ -4,14 +4,14 @@ pub mod Crosses
 pub mod Dropped
 pub mod Fills
 pub mod Grid
-pub mod Marks
+pub mod OpenedUnits
+pub mod OwnerValues
 pub mod Parts
+pub mod PointerValues
 pub mod Rooms
 pub mod Rows
 pub mod Sharing
-pub mod Spots
 pub mod Tickets
 pub mod Units
 pub mod Values
 pub mod Walks
-pub mod Ways

@@ -2,4 +2,4 @@
 pub mod Alignments
 pub mod FirstPool
 pub mod SlotChanges
-pub mod Underway
+pub mod StepsDone

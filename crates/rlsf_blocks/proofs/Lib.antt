@@ -4,8 +4,8 @@ pub mod Chunks
 pub mod Counting
 pub mod Deallocate
 pub mod LongerChunks
-pub mod Machine
 pub mod Payloads
 pub mod Refused
+pub mod RepresentedStates
 pub mod Walking
 pub mod Words

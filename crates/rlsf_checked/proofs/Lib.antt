@@ -1,5 +1,6 @@
 -- Lemmas on the checked allocator: inserted pools, refused sizes, its invariant and its parameters.
 mod Edges
+mod FieldsOverSteps
 mod Gathered
 mod Joined
 mod Parts
@@ -9,6 +10,5 @@ mod Removed
 mod RemovedRanges
 mod RunsByEdges
 mod SizeRefusals
-mod Standing
-mod Toggled
+mod ToggledEdges
 mod Validity

@@ -24,7 +24,7 @@ use Rattle.rlsf_checked.specs.Steps.Standing.{IsChecked, in_chunks}
 use Rattle.rlsf_checked.proofs.Edges.{AreToggled, Flips}
 use Rattle.rlsf_checked.proofs.Parts.{cut_at_end, cut_at_start, in_row, part_of_row, row_end}
 use Rattle.rlsf_checked.proofs.Pools.{AreRenewed}
-use Rattle.rlsf_checked.proofs.Toggled.{HasPlaces, renewed}
+use Rattle.rlsf_checked.proofs.ToggledEdges.{HasPlaces, renewed}
 
 -- what is true of the last pool in each of four cases is true of it
 pool_cases : (P : Range → Type 0) (pool r : Range) → (end_of r ≡ end_of pool → r.start - pool.start < 32 → P (range_at (min pool.start r.start) 0))

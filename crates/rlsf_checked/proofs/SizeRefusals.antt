@@ -5,7 +5,7 @@ use Rattle.rlsf_base.specs.Layout.{IsLayout}
 use Rattle.rlsf_base.specs.PowerOfTwo.{IsPowerOfTwo}
 use Rattle.rlsf_checked.specs.Answers.{size_refusal}
 use Rattle.rlsf_checked.specs.declared.error.CheckedError.TheVariants.{NoLayout, UnknownAddress}
-use Rattle.rlsf_checked.proofs.Standing.{size_past}
+use Rattle.rlsf_checked.proofs.FieldsOverSteps.{size_past}
 
 pub unknown_is_refused : (size : ℕ) (align : Option ℕ) → None ≡ align → size_refusal align size ≡ Some UnknownAddress
 unknown_is_refused size align none = subst (λ o. size_refusal o size ≡ Some UnknownAddress) none refl

@@ -27,7 +27,7 @@ use Rattle.rlsf_flex.proofs.Calls.{stands_alone}
 use Rattle.rlsf_flex.proofs.Outside.{KeepsOutside-alone, KeepsOutside-asked}
 use Rattle.rlsf_flex.proofs.OutsideNow.{KeepsOutsideNow-stands, KeepsOutsideNow-then}
 use Rattle.rlsf_flex.proofs.SpareBytes.{KeepsSpareButFooter-all, KeepsSpareButFooter-before, KeepsSpareButFooter-behind}
-use Rattle.rlsf_flex.proofs.Standing.{opened}
+use Rattle.rlsf_flex.proofs.InnerAllocator.{opened}
 
 -- what holds of the value wherever there is one
 pub for_some : {A : Type 0} {P : A → Type 0} (o : Option A) → ((x : A) → o ≡ Some x → P x) → IfSome o P

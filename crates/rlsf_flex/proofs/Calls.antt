@@ -8,7 +8,7 @@ use Rattle.rlsf_flex.specs.StandsFor.{FlexContents, FlexStandsFor, StepsAlone, a
 use Rattle.rlsf_model.specs.State.{State}
 use Rattle.rlsf_model.specs.Terms.{Terms}
 use Rattle.rlsf_flex.proofs.Frames.{stands_stepped}
-use Rattle.rlsf_flex.proofs.Standing.{opened}
+use Rattle.rlsf_flex.proofs.InnerAllocator.{opened}
 
 -- what leaves the state represents it
 pub stays_in : {fllen sllen : ℕ} {v : Allocator} {s : State} → IsInState fllen sllen v s → (new : Allocator) → new.state ≡ v.state → Stands fllen sllen new

@@ -7,7 +7,7 @@ use Rattle.rlsf_blocks.specs.StandsFor.{contents, StandsFor}
 use Rattle.rlsf_tlsf.specs.Allocator.{Allocator, Stands}
 use Rattle.rlsf_tlsf.proofs.Standing.{in_state}
 use Rattle.rlsf_flex.specs.StandsFor.{FlexStandsFor}
-use Rattle.rlsf_flex.proofs.Standing.{contents_at}
+use Rattle.rlsf_flex.proofs.InnerAllocator.{contents_at}
 use Rattle.rlsf_model.specs.FlexState.{empty}
 use Rattle.rlsf_model.specs.State as state
 use Rattle.rlsf_model.specs.Terms.{Terms}

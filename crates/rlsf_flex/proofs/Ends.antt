@@ -20,7 +20,7 @@ use Rattle.rlsf_model.proofs.Notes.{LeadsBy-append}
 use Rattle.rlsf_flex.proofs.DisjointRanges.{length-disjoint}
 use Rattle.rlsf_flex.proofs.FooterWords.{before, before-first}
 use Rattle.rlsf_flex.proofs.Frames.{outstanding_in}
-use Rattle.rlsf_model.proofs.Housing.{AreOutstanding-rest}
+use Rattle.rlsf_model.proofs.RangesInChunks.{AreOutstanding-rest}
 
 -- ---- the ranges that are left
 

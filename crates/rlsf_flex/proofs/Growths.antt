@@ -25,14 +25,14 @@ use Rattle.rlsf_model.specs.State.{State}
 use Rattle.rlsf_model.specs.Terms.{IsGrown, Terms, with_len}
 use Rattle.rlsf_model.specs.WellFormed.{coverage, itself, IsWellFormed}
 use Rattle.rlsf_model.proofs.FlexGrowths.{behind_next, grown_keeps, housed_before, is_longer, old_pools}
-use Rattle.rlsf_model.proofs.Housing.{AreOutstanding-more, AreOutstanding-rest, coverage-in, coverage-none}
+use Rattle.rlsf_model.proofs.RangesInChunks.{AreOutstanding-more, AreOutstanding-rest, coverage-in, coverage-none}
 use Rattle.rlsf_model.proofs.TakenPools.{appended_pool, IsTaken, pool_size_is}
 use Rattle.rlsf_flex.proofs.Frames.{Footers-kept, HasSpareFooter, footer_ends, outstanding_in, range_of-same, spare_footer, spare_here}
 use Rattle.rlsf_flex.proofs.Outcomes.{FlexStandsFor-answered}
 use Rattle.rlsf_flex.proofs.OutsideNow.{KeepsOutsideNow-footed, KeepsOutsideNow-spare, KeepsOutsideNow-then}
 use Rattle.rlsf_flex.proofs.Places.{SamePlace-refl, SamePlace-then, out_at-place}
 use Rattle.rlsf_flex.proofs.Rewritten.{Footers-written}
-use Rattle.rlsf_flex.proofs.Standing.{contents_at}
+use Rattle.rlsf_flex.proofs.InnerAllocator.{contents_at}
 
 -- a growth came that a source was asked for, in a state of an allocator over it
 pub record Grew {S : Type 0} (fllen sllen e : ℕ) (terms : S → Terms) (owes : S → List Range → Type 0) (v : FlexContents S) (y : S) (k : KeptPool)

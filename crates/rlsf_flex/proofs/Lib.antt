@@ -2,7 +2,6 @@
 pub mod Allocations
 pub mod Asks
 pub mod Calls
-mod Crossing
 pub mod DisjointRanges
 pub mod EmptyFlex
 pub mod Ends
@@ -10,6 +9,7 @@ pub mod FooterWords
 pub mod Frames
 pub mod Growths
 pub mod Heaps
+pub mod InnerAllocator
 pub mod Kept
 pub mod KeptPayloads
 pub mod Loans
@@ -25,7 +25,7 @@ pub mod RangeRows
 pub mod Reallocations
 pub mod Reserves
 pub mod Rewritten
+mod SendAndSync
 pub mod SpareBytes
-pub mod Standing
 pub mod TrimmedRanges
 pub mod Unlent

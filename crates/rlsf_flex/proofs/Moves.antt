@@ -15,7 +15,7 @@ use Rattle.rlsf_model.specs.WellFormed.{IsWellFormed}
 use Rattle.rlsf_model.proofs.CallerWords.{bytes_at-held}
 use Rattle.rlsf_model.proofs.Changes.{Holds-unique}
 use Rattle.rlsf_model.proofs.Live.{allocated_filled, allocation_has_size, other_payloads_stay}
-use Rattle.rlsf_blocks.proofs.Machine.SpareBytes.{KeepsSpare-trans}
+use Rattle.rlsf_blocks.proofs.RepresentedStates.SpareBytes.{KeepsSpare-trans}
 use Rattle.rlsf_tlsf.proofs.UnknownAlign.{Keeps-front}
 use Rattle.rlsf_flex.proofs.Places.{SamePlace-then}
 

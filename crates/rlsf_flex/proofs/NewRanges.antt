@@ -31,7 +31,7 @@ use Rattle.rlsf_flex.proofs.Outcomes.{FlexStandsFor-answered}
 use Rattle.rlsf_flex.proofs.OutsideNow.{KeepsOutsideNow-footed, KeepsOutsideNow-spare, KeepsOutsideNow-then}
 use Rattle.rlsf_flex.proofs.Places.{SamePlace-then, out_at-place}
 use Rattle.rlsf_flex.proofs.Rewritten.{Footers-written}
-use Rattle.rlsf_flex.proofs.Standing.{contents_at}
+use Rattle.rlsf_flex.proofs.InnerAllocator.{contents_at}
 
 -- a range came that a source was asked for, in a state of an allocator over it
 pub record Came {S : Type 0} (fllen sllen e : ℕ) (terms : S → Terms) (owes : S → List Range → Type 0) (v : FlexContents S) (y : S) (len : ℕ) (r : Range) : Type 0 where

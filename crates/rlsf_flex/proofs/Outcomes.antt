@@ -14,7 +14,7 @@ use Rattle.rlsf_model.specs.Growth.{Outcome, refused}
 use Rattle.rlsf_model.specs.State.{State}
 use Rattle.rlsf_model.specs.Terms.{Terms}
 use Rattle.rlsf_flex.proofs.OutsideNow.{KeepsOutsideNow-refl}
-use Rattle.rlsf_flex.proofs.Standing.{contents_at}
+use Rattle.rlsf_flex.proofs.InnerAllocator.{contents_at}
 
 module _ {S : Type 0} {fllen sllen : ℕ} {terms : S → Terms} {owes : S → List Range → Type 0} where
   -- the source at another value, with the same terms

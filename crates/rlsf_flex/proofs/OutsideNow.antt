@@ -12,7 +12,7 @@ use Rattle.rlsf_model.specs.FlexWellFormed.{AreHoused}
 use Rattle.rlsf_model.specs.Lists.{IsIn}
 use Rattle.rlsf_model.specs.State.{State}
 use Rattle.rlsf_model.specs.Terms.{Terms}
-use Rattle.rlsf_model.proofs.Housing.{coverage-in}
+use Rattle.rlsf_model.proofs.RangesInChunks.{coverage-in}
 use Rattle.rlsf_flex.proofs.Places.{SamePlace-refl, SamePlace-then}
 
 -- a byte outside of the ranges that house all chunks is spare

@@ -15,7 +15,7 @@ use Rattle.rlsf_model.specs.Remove.{IsIdle, lies_within, outside_of, removed}
 use Rattle.rlsf_model.specs.State.{State}
 use Rattle.rlsf_model.specs.WellFormed.{coverage, itself, IsWellFormed}
 use Rattle.rlsf_model.proofs.Coverage.{by_test, coverage-IsIn, coverage-some, coverage-unique, covers-inside}
-use Rattle.rlsf_model.proofs.Housing.{coverage-in, coverage-none}
+use Rattle.rlsf_model.proofs.RangesInChunks.{coverage-in, coverage-none}
 use Rattle.rlsf_model.proofs.Payloads.{payload_of-after}
 use Rattle.rlsf_model.proofs.Removals.{lies_within-le, lies_within-true}
 use Rattle.rlsf_model.proofs.Tiling.{block_of, lies_in_chunk, tiling_of, IsPart-free, IsPart-used}

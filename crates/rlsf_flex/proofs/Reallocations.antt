@@ -31,7 +31,7 @@ use Rattle.rlsf_flex.proofs.Frames.{stands_stepped}
 use Rattle.rlsf_flex.proofs.Outside.{KeepsOutside-alone}
 use Rattle.rlsf_flex.proofs.OutsideNow.{KeepsOutsideNow-stands, KeepsOutsideNow-then}
 use Rattle.rlsf_flex.proofs.SpareBytes.{KeepsSpareButFooter-all, KeepsSpareButFooter-before}
-use Rattle.rlsf_flex.proofs.Standing.{opened, stood}
+use Rattle.rlsf_flex.proofs.InnerAllocator.{opened, stood}
 
 -- where a plan is none, the first of its cases can't be
 in_place-none : (o q : Option Plan) → or_else o q ≡ None → o ≡ None

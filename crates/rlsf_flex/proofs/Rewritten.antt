@@ -10,7 +10,7 @@ use Rattle.rlsf_model.specs.Insert.{IsClear}
 use Rattle.rlsf_model.specs.Lists.{IsIn}
 use Rattle.rlsf_flex.proofs.Frames.{word_at-bytes}
 use Rattle.rlsf_flex.proofs.Places.{SamePlace-refl, out_at-place}
-use Rattle.rlsf_model.proofs.Housing.{coverage-in}
+use Rattle.rlsf_model.proofs.RangesInChunks.{coverage-in}
 
 -- a range's footer reads as it did
 abbrev ReadsSame : Space → Space → Range → Type 0

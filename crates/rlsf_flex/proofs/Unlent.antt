@@ -10,7 +10,7 @@ use Rattle.rlsf_blocks.proofs.Payloads.Unlent.{words_read_no_payload}
 use Rattle.rlsf_blocks.proofs.Words.Apart.{home_of_used}
 use Rattle.rlsf_flex.specs.Laws.{FlexStatesAreWellFormed, FlexWordsReadNoPayload}
 use Rattle.rlsf_flex.proofs.Frames.{stands_kept}
-use Rattle.rlsf_flex.proofs.Standing.{flex_stood}
+use Rattle.rlsf_flex.proofs.InnerAllocator.{flex_stood}
 use Rattle.rlsf_model.specs.State.{State}
 use Rattle.rlsf_model.specs.Terms.{Terms}
 use Rattle.rlsf_model.specs.WellFormed.{IsWellFormed}

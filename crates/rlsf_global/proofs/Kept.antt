@@ -12,7 +12,7 @@ use Rattle.rlsf_global.specs.Kept.{KeepsFirst}
 use Rattle.rlsf_global.specs.Locked.{IsLocked, LockedContents}
 use Rattle.rlsf_model.specs.Callers.{bytes_at}
 use Rattle.rlsf_model_global.proofs.Histories.{steps_keep_heap}
-use Rattle.rlsf_model_global.proofs.Left.{payloads_serve}
+use Rattle.rlsf_model_global.proofs.AddressesLeft.{payloads_serve}
 use Rattle.rlsf_model_global.proofs.Moved.{reallocation_as_leaves, reallocation_leaves, reallocation_there_leaves}
 use Rattle.rlsf_model_global.specs.Heap.{Heap, content_at}
 use Rattle.rlsf_model_global.specs.History.{reallocate_as}

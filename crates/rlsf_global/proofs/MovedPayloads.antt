@@ -7,7 +7,7 @@ use Rattle.rlsf_base.specs.Addr.{at}
 use Rattle.rlsf_base.specs.Space.{range_of}
 use Rattle.rlsf_base.specs.declared.memory.layout.Layout.{Layout}
 use Rattle.rlsf_flex.specs.StandsFor.{FlexContents, FlexStandsFor, FlexSteps, StepsAlone}
-use Rattle.rlsf_flex.proofs.Standing.{alone_opened, flex_opened}
+use Rattle.rlsf_flex.proofs.InnerAllocator.{alone_opened, flex_opened}
 use Rattle.rlsf_global.specs.Locked.{IsLocked, heap_of, locked_contents}
 use Rattle.rlsf_model_global.specs.Pages.{MayOwe}
 use Rattle.rlsf_global.specs.Steps.Moves.{IsGivenLayout, StaysRefused}

@@ -4,7 +4,7 @@ use Rattle.std.specs.declared.num.NonZeroUsize.{NonZeroUsize}
 use Rattle.rlsf_base.specs.Addr.{at}
 use Rattle.rlsf_base.specs.declared.memory.layout.Layout.{Layout}
 use Rattle.rlsf_flex.specs.StandsFor.{FlexContents, StepsAlone}
-use Rattle.rlsf_flex.proofs.Standing.{alone_opened}
+use Rattle.rlsf_flex.proofs.InnerAllocator.{alone_opened}
 use Rattle.rlsf_global.specs.Locked.{IsLocked, heap_of, locked_contents}
 use Rattle.rlsf_model_global.specs.Pages.{MayOwe}
 use Rattle.rlsf_global.proofs.Checks.{when_false, when_true}

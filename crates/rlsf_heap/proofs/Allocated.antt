@@ -20,7 +20,7 @@ use Rattle.rlsf_table.specs.Counts.{Counts}
 use Rattle.rlsf_table.specs.Table.{Table}
 use Rattle.rlsf_blocks.specs.StandsFor.{contents, StandsFor}
 use Rattle.rlsf_blocks.proofs.Allocate.Placements.{IsFitting, fitting, is_free}
-use Rattle.rlsf_blocks.proofs.Machine.Counted.{StandsFor-counted}
+use Rattle.rlsf_blocks.proofs.RepresentedStates.Counted.{StandsFor-counted}
 use Rattle.rlsf_blocks.proofs.Words.Apart.{used_free, free_in_memory, used_in_memory}
 use Rattle.rlsf_blocks.proofs.Words.NeverOut.{here_free}
 use Rattle.rlsf_blocks.specs.Laws.{read_from}

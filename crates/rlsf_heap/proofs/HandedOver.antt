@@ -18,7 +18,7 @@ use Rattle.rlsf_table.specs.Table.{Table}
 use Rattle.rlsf_blocks.specs.Laws.{read_from}
 use Rattle.rlsf_blocks.specs.StandsFor.{contents, StandsFor}
 use Rattle.rlsf_blocks.specs.Steps.LiveBlock.{AtEachBlock, IsBlockOf, IsLiveIn}
-use Rattle.rlsf_blocks.proofs.Machine.Counted.{StandsFor-touched}
+use Rattle.rlsf_blocks.proofs.RepresentedStates.Counted.{StandsFor-touched}
 use Rattle.rlsf_blocks.proofs.Words.Stays.{Stays, Stays-same, Stays-then}
 use Rattle.rlsf_reallocate.specs.Steps.Resize.{IsUsedAt}
 use Rattle.rlsf_tlsf.specs.Steps.Moves.{bare, reallocated}
@@ -37,7 +37,7 @@ use Rattle.rlsf_heap.proofs.Reallocating.{IsBackIn, asked, bare_state, block, by
 use Rattle.rlsf_heap.proofs.Reallocating.{held, issued_again, issued_anew, kept_moved, stands, state, usable_is, used_at}
 use Rattle.rlsf_heap.proofs.Resized.{holds_new, new, own_new}
 use Rattle.rlsf_heap.proofs.Settled.{settled-back, settled-here, settled-inside, settled-left, settled-stays}
-use Rattle.rlsf_heap.proofs.Viewed.{SeesChanged, aligns_view, alike_view, chunks_view, count_view, seen_changed, sized_view, stayed_changed}
+use Rattle.rlsf_heap.proofs.ReallocationViews.{SeesChanged, aligns_view, alike_view, chunks_view, count_view, seen_changed, sized_view, stayed_changed}
 
 -- a payload is that of its bytes
 pub is_view : (pay : PayloadView) → payload_view (bytes_of pay) pay.align pay.identity.ledger ≡ pay

@@ -21,7 +21,7 @@ use Rattle.rlsf_table.specs.Table.{Table}
 use Rattle.rlsf_blocks.specs.Laws.{read_from, with_bytes_of}
 use Rattle.rlsf_blocks.specs.StandsFor.{contents, StandsFor}
 use Rattle.rlsf_blocks.specs.Steps.LiveBlock.{IsBlockOf}
-use Rattle.rlsf_blocks.proofs.Machine.Counted.{StandsFor-counted}
+use Rattle.rlsf_blocks.proofs.RepresentedStates.Counted.{StandsFor-counted}
 use Rattle.rlsf_blocks.proofs.Words.Stays.{Stays}
 use Rattle.rlsf_reallocate.specs.Steps.Resize.{IsUsedAt}
 use Rattle.rlsf_tlsf.specs.Steps.Moves.{bare, reallocated}

@@ -12,7 +12,7 @@ use Rattle.rlsf_journal.specs.Entries.{IsReplyTo}
 use Rattle.rlsf_journal.specs.Laws.{CallsDetermineReplies, ReplayDetermines, RunsDetermineReplies, calls_of, replies_of}
 use Rattle.rlsf_journal.specs.Passes.{done_by, placed_by}
 use Rattle.rlsf_journal.specs.Replay.{beginning_of, step_by, step_of}
-use Rattle.rlsf_model_global.proofs.Isolated.{beginning_is_heap}
+use Rattle.rlsf_model_global.proofs.LastStepsDecide.{beginning_is_heap}
 use Rattle.rlsf_model_global.proofs.Journals.{journal_determines}
 use Rattle.rlsf_model_global.proofs.Similars.{same_placement-refl}
 use Rattle.rlsf_model_global.specs.declared.error.GlobalError.TheVariants as error

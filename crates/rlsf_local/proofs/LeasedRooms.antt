@@ -9,7 +9,7 @@ use denote.RawPtr.{block_ptr}
 use Rattle.rlsf_base.specs.Steps.Ownership.{bytes_ty, units_ty, ways_of, begins_in, units_from, room_at}
 use Rattle.rlsf_base.proofs.Changes.{in_run-yes}
 use Rattle.rlsf_base.proofs.RawBlock.Units.{units_in-aligned, ways_all}
-use Rattle.rlsf_base.proofs.RawBlock.Ways.{ways, opened, closed}
+use Rattle.rlsf_base.proofs.RawBlock.OpenedUnits.{ways, opened, closed}
 
 module _ {M : Type 1} {𝓤 : Ura M} (𝓛 : Logic 𝓤) (b o start len : ℕ) (grid : start % 16 ≡ 0) (whole : len % 16 ≡ 0) where
   abbrev count : ℕ

@@ -17,7 +17,7 @@ use Rattle.core.proofs.ptr.Rows.{El, room_split, glued, add_times}
 use Rattle.rlsf_base.specs.Steps.Ownership.{units_ty}
 use Rattle.rlsf_heap.specs.Units.{payload_len}
 use Rattle.rlsf_local.specs.Ownership.{beside_value, grains, ways_back}
-use Rattle.rlsf_local.proofs.Grains.{Bytes, closes, cuts, differs, glues, opens, sixteens, typed, untyped, ways-join, ways-part}
+use Rattle.rlsf_local.proofs.SmallerUnits.{Bytes, closes, cuts, differs, glues, opens, sixteens, typed, untyped, ways-join, ways-part}
 use Rattle.rlsf_local.proofs.Taken.{holds, whole}
 
 longer : (n k : ℕ) → n ≤ k → payload_len n ≤ payload_len k

@@ -22,11 +22,11 @@ use Rattle.rlsf_base.specs.OpenSpace.{Home}
 use Rattle.rlsf_base.specs.Steps.Ownership.{units_ty}
 use Rattle.rlsf_base.specs.UnitPayload.{IsPlaced}
 use Rattle.rlsf_base.specs.contracts.memory.unit_payload.UnitPayload as payload
-use Rattle.rlsf_base.proofs.RawBlock.Spots.{spot_val, spot_own, spot_told}
+use Rattle.rlsf_base.proofs.RawBlock.PointerValues.{spot_val, spot_own, spot_told}
 use Rattle.rlsf_heap.specs.Heap.{Identity}
 use Rattle.rlsf_heap.specs.Units.{heap_of, payload_len}
 use Rattle.rlsf_local.specs.Ownership.{beside_value, block_token}
-use Rattle.rlsf_local.proofs.Grains.{handed}
+use Rattle.rlsf_local.proofs.SmallerUnits.{handed}
 
 abbrev pub Taken : RattleType
 Taken = option.the_row payload.the_row

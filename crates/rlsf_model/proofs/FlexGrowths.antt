@@ -28,7 +28,7 @@ use Rattle.rlsf_model.proofs.Appends.{Appends-keeps}
 use Rattle.rlsf_model.proofs.ChunkRows.{IsRow-appended, IsRow-kept_apart}
 use Rattle.rlsf_model.proofs.Coverage.{before, behind as past, covers-inside, inside, where_is}
 use Rattle.rlsf_model.proofs.GivenAnswers.{given_answer, grown_answer, more_wanted}
-use Rattle.rlsf_model.proofs.Housing.{AreHoused-inserted, AreHoused-longer, AreOutstanding-more, AreOutstanding-rest, IsClear-housed, coverage-in, coverage-none}
+use Rattle.rlsf_model.proofs.RangesInChunks.{AreHoused-inserted, AreHoused-longer, AreOutstanding-more, AreOutstanding-rest, IsClear-housed, coverage-in, coverage-none}
 use Rattle.rlsf_model.proofs.Insertions.{Inserts-keeps}
 use Rattle.rlsf_model.proofs.RangePools.{IsPool-inserted, IsPool-inserted_other, IsPool-kept}
 use Rattle.rlsf_model.proofs.RangeLengths.{HasAlignedPart-given, range_asked}

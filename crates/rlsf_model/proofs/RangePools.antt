@@ -14,7 +14,7 @@ use Rattle.rlsf_model.specs.Terms.{Terms}
 use Rattle.rlsf_model.specs.WellFormed.{IsWellFormed}
 use Rattle.rlsf_model.proofs.ChunkRows.{IsRow-inserted, IsRow-kept, IsRow-same}
 use Rattle.rlsf_model.proofs.Chunks.{inserted_chunks_lie_in_range}
-use Rattle.rlsf_model.proofs.Housing.{coverage-in, coverage-none}
+use Rattle.rlsf_model.proofs.RangesInChunks.{coverage-in, coverage-none}
 use Rattle.rlsf_model.proofs.TakenPools.{IsTaken, longer as wider, new, old}
 
 -- with the same chunks, the pool is the same

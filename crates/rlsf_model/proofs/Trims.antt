@@ -16,7 +16,7 @@ use Rattle.rlsf_model.specs.Terms.{Terms}
 use Rattle.rlsf_model.specs.Trim.{all_removed, EndsLast, GivesBack, IsKeptToLast, IsNewestHeld, Trims}
 use Rattle.rlsf_model.specs.WellFormed.{covers, coverage, itself, IsWellFormed}
 use Rattle.rlsf_model.proofs.Coverage.{before, behind, inside, where_is, covers-inside, covers-le}
-use Rattle.rlsf_model.proofs.Housing.{AreOutstanding-rest, coverage-in}
+use Rattle.rlsf_model.proofs.RangesInChunks.{AreOutstanding-rest, coverage-in}
 use Rattle.rlsf_model.proofs.RangePools.{IsPool-last, IsPool-no_later}
 use Rattle.rlsf_model.proofs.Removals.{coverage-outside, IsIn-outside, IsIn-outside_from, lies_within-le, Removes-keeps}
 use Rattle.rlsf_model.proofs.Tiling.{block_of}

@@ -12,7 +12,7 @@ use Rattle.rlsf_model_global.specs.Rows.{Row, row_at}
 use Rattle.rlsf_model_global.specs.Standing.{IsHeap}
 use Rattle.rlsf_model_global.specs.Steps.{Done, WritesAt, WritesIn, fits}
 use Rattle.rlsf_model_global.proofs.Histories.{either, steps_keep_heap}
-use Rattle.rlsf_model_global.proofs.Isolated.{beginning_is_heap}
+use Rattle.rlsf_model_global.proofs.LastStepsDecide.{beginning_is_heap}
 use Rattle.rlsf_model_global.proofs.Replayed.{placement_determines}
 use Rattle.rlsf_model_global.proofs.Similars.{same_placement-at, same_placement-refl, same_placement-sym, same_placement-trans}
 

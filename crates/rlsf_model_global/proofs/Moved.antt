@@ -27,7 +27,7 @@ use Rattle.rlsf_model_global.specs.declared.error.GlobalError.TheVariants.{Wrong
 use Rattle.rlsf_model_global.proofs.StepLeavesFlex.{FlexGoes, flex_goes}
 use Rattle.rlsf_model_global.proofs.StepLeavesHeap.{live_row, replacement}
 use Rattle.rlsf_model_global.proofs.Histories.{either}
-use Rattle.rlsf_model_global.proofs.Left.{no_layout, put_layout, refused_not}
+use Rattle.rlsf_model_global.proofs.AddressesLeft.{no_layout, put_layout, refused_not}
 use Rattle.rlsf_model_global.proofs.Maps.{row_at-put_other, row_at-without_here}
 
 -- the first bytes of what was filled are those of the old payload

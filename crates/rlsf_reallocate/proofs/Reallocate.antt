@@ -1,6 +1,5 @@
 -- A used block gets another size.
 pub mod Computations
-pub mod Computed
 pub mod Copies
 pub mod Elsewhere
 pub mod FirstPlan
@@ -10,5 +9,6 @@ pub mod Neighbours
 pub mod NextPlans
 pub mod Occupied
 pub mod Previous
+pub mod PreviousPlans
 pub mod Resized
 pub mod Spans

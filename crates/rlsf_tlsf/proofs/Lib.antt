@@ -1,12 +1,12 @@
 -- Lemmas on the allocator over pools: its steps, and lent bytes.
 mod AfterReading
-mod Crossing
-mod Found
 pub mod Arrivals
+mod Found
 pub mod IdleRows
 pub mod Lent
 pub mod Moved
 mod Opened
 pub mod Removed
+mod SendAndSync
 pub mod Standing
 pub mod UnknownAlign

@@ -19,7 +19,7 @@ use Rattle.rlsf_model.proofs.NoMove.{unmoved_is_reallocated}
 use Rattle.rlsf_model.proofs.Payloads.{usable-short}
 use Rattle.rlsf_blocks.specs.Spare.{KeepsSpare}
 use Rattle.rlsf_blocks.specs.StandsFor.{contents, StandsFor}
-use Rattle.rlsf_blocks.proofs.Machine.SpareBytes.{KeepsSpare-trans}
+use Rattle.rlsf_blocks.proofs.RepresentedStates.SpareBytes.{KeepsSpare-trans}
 use Rattle.rlsf_reallocate.proofs.Reallocate.FirstPlan.{in_place-none}
 use Rattle.rlsf_reallocate.proofs.Reallocate.NextPlans.{no_plan}
 use Rattle.rlsf_reallocate.proofs.Reallocate.Spans.{reach, reach-le, span_in_memory}

@@ -1,5 +1,5 @@
 -- Lemmas about runs over a source. `Underway` has the run so far.
 pub mod FlexEvents
 pub mod NamedPayloads
+pub mod OpsDone
 pub mod PlacedPayloads
-pub mod Underway

@@ -5,11 +5,11 @@ pub mod Lengthened
 pub mod Named
 pub mod NamedPayloads
 pub mod NewPools
+pub mod OpsDone
 pub mod Outcomes
 pub mod Overlapping
 pub mod PoolOrder
 pub mod RunStates
 pub mod SamePools
 pub mod SpareBytes
-pub mod Underway
 pub mod Walked

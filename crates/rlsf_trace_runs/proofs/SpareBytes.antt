@@ -4,7 +4,7 @@ use Rattle.rlsf_base.specs.declared.memory.range.Range.{Range}
 use Rattle.rlsf_base.specs.Space.{Space, SamePlace}
 use Rattle.rlsf_model.specs.State.{State}
 use Rattle.rlsf_blocks.specs.Spare.{IsSpare, KeepsSpare}
-use Rattle.rlsf_blocks.proofs.Machine.SpareBytes.{IsSpare-before}
+use Rattle.rlsf_blocks.proofs.RepresentedStates.SpareBytes.{IsSpare-before}
 use Rattle.rlsf_trace_text.specs.declared.op.Answer.{Answer}
 use Rattle.rlsf_trace_text.specs.declared.op.Op.{Op}
 use Rattle.rlsf_trace_runs.proofs.Events.{Makes, no_call, one_call}

@@ -15,7 +15,7 @@ use Rattle.rlsf_base.specs.Steps.Ownership.{bytes_ty, units_ty, held, ways_of, o
 use Rattle.rlsf_base.proofs.RawBlock.Rows.{Around, room_out, goes, comes_raw, clash}
 use Rattle.rlsf_base.proofs.Changes.{in_run-yes, in_run-before, in_run-behind, raw-own}
 use Rattle.rlsf_base.proofs.RawBlock.Units.{parted, left-out, around-left, around-raw, none-own, unit-all, ways_all, ways_none, ways_part, ways_join}
-use Rattle.rlsf_base.proofs.RawBlock.Ways.{ways, opened, closed}
+use Rattle.rlsf_base.proofs.RawBlock.OpenedUnits.{ways, opened, closed}
 
 module _ {M : Type 1} {𝓤 : Ura M} (𝓛 : Logic 𝓤) (b : ℕ) where
   ways_cut : (own : ℕ → Bool) (u w m n t o : ℕ) → w ≡ u + m → t ≡ m + n

@@ -10,7 +10,7 @@ use types.Kit.{‵, raw, ◌⊛◌, ◌$◌, ◌∵◌, !, qed, by, move, use1, 
 use denote.RawPtr.Room.{room_cut, room_glue, past, past_bytes}
 use Rattle.rlsf_base.specs.Steps.Ownership.{bytes_ty, units_ty, ways_of, begins_in}
 use Rattle.rlsf_base.proofs.RawBlock.Units.{others, ways_all, ways_part, ways_join}
-use Rattle.rlsf_base.proofs.RawBlock.Ways.{ways, opened, closed}
+use Rattle.rlsf_base.proofs.RawBlock.OpenedUnits.{ways, opened, closed}
 
 module _ {M : Type 1} {𝓤 : Ura M} (𝓛 : Logic 𝓤) (b : ℕ) where
   open 𝓛 use {H}

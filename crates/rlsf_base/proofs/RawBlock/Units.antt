@@ -18,7 +18,7 @@ use Rattle.std.proofs.lemmas.Bool.{cases_lt, eq-eqb}
 use Rattle.rlsf_base.specs.Out.{Change, raw, out, is_own, kept_at}
 use Rattle.rlsf_base.specs.Changes.{IsOut, IsOwn, left, came_back, came_raw}
 use Rattle.rlsf_base.specs.Steps.Ownership.{units_for, units_in, units_from, way_if, ways_of, begins_in, own_unit}
-use Rattle.rlsf_base.proofs.RawBlock.Ways.{ways}
+use Rattle.rlsf_base.proofs.RawBlock.OpenedUnits.{ways}
 use Rattle.rlsf_base.proofs.Changes.{and-false, in_run-yes, in_run-before, in_run-behind, changed-there, changed-before, changed-behind, back-there, back-before, back-behind}
 use Rattle.rlsf_base.proofs.Changes.{none-out}
 

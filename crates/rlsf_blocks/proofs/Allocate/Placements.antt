@@ -33,7 +33,7 @@ use Rattle.rlsf_blocks.specs.StandsFor.{contents, StandsFor}
 use Rattle.rlsf_blocks.proofs.Words.Apart.{Has, free_in_memory, home_of_free}
 use Rattle.rlsf_blocks.proofs.Allocate.UsedBlocks.{IsCarved, StandsFor-carved}
 use Rattle.rlsf_blocks.proofs.Words.Frames.{wide_whole}
-use Rattle.rlsf_blocks.proofs.Machine.FreeBlocks.{CanBeBlock-free}
+use Rattle.rlsf_blocks.proofs.RepresentedStates.FreeBlocks.{CanBeBlock-free}
 use Rattle.rlsf_model.proofs.Allocations.{IsWellFormed-given, placed-fits}
 use Rattle.rlsf_model.proofs.Changes.{IsIn-rest_behind}
 use Rattle.rlsf_model.proofs.Choices.{choice-some}

@@ -24,7 +24,7 @@ use Rattle.rlsf_model.specs.WellFormed.{covers, itself}
 use Rattle.rlsf_blocks.specs.Steps.Rest.{IsInnerRoom, IsFreeBlockBehind, IsOpened, IsTaken}
 use Rattle.rlsf_blocks.specs.StandsFor.{contents, StandsFor}
 use Rattle.rlsf_blocks.proofs.Words.Apart.{free_in_memory}
-use Rattle.rlsf_blocks.proofs.Machine.FreeBlocks.{IsFreeTable-free}
+use Rattle.rlsf_blocks.proofs.RepresentedStates.FreeBlocks.{IsFreeTable-free}
 use Rattle.rlsf_model.proofs.Changes.{IsIn-rest_behind}
 use Rattle.rlsf_model.proofs.Tiling.{IsValidClass-le}
 use Rattle.rlsf_model.proofs.Coverage.{inside, before, behind, where_is, covers-inside, coverage-append, coverage-IsIn, find-some, IsIn-append, IsIn-append_left}

@@ -27,8 +27,8 @@ use Rattle.rlsf_model.specs.Lists.{IsIn, without}
 use Rattle.rlsf_model.specs.State.{State, Used}
 use Rattle.rlsf_model.proofs.Coverage.{IsIn-without, IsIn-without_other, without-none}
 use Rattle.rlsf_model.proofs.Payloads.{IsUsed-some}
-use Rattle.rlsf_blocks.proofs.Machine.FreeBlocks.{IsFreeTable-free}
-use Rattle.rlsf_blocks.proofs.Machine.Neighbours.{Before, free_before, used_before, none_before, Behind, free_behind, used_behind, last_behind, before_used, behind_used}
+use Rattle.rlsf_blocks.proofs.RepresentedStates.FreeBlocks.{IsFreeTable-free}
+use Rattle.rlsf_blocks.proofs.RepresentedStates.Neighbours.{Before, free_before, used_before, none_before, Behind, free_behind, used_behind, last_behind, before_used, behind_used}
 use Rattle.rlsf_blocks.proofs.Words.Apart.{used_free, free_free, free_last, chunk_chunk, home_of_free, used_in_memory, free_in_memory}
 
 -- what the word names that shows the block before an address: a free block, a used one, or none

@@ -29,7 +29,7 @@ use Rattle.rlsf_table.specs.Table.{Table}
 use Rattle.rlsf_blocks.proofs.Allocate.Placements.{length-bytes_in}
 use Rattle.rlsf_blocks.proofs.LongerChunks.Lengthened.{is_chunk, IsWellFormed-lengthened, released-lengthened}
 use Rattle.rlsf_table.proofs.Tables.FreeTables.{HasTable-Rewrites}
-use Rattle.rlsf_blocks.proofs.Machine.FreeBlocks.{CanBeBlock-free}
+use Rattle.rlsf_blocks.proofs.RepresentedStates.FreeBlocks.{CanBeBlock-free}
 use Rattle.rlsf_table.proofs.Words.Writes.{Rewrites-trans, Rewrites-weaken, Rewrites-word}
 use Rattle.rlsf_blocks.proofs.Chunks.Pools.{KeepsSpare-Touched}
 use Rattle.rlsf_blocks.proofs.Words.Apart.{Has, chunk_chunk, home_of_free, home_of_used, free_last, used_last}

@@ -16,7 +16,7 @@ use Rattle.rlsf_model.proofs.Payloads.{IsUsed-after_start}
 use Rattle.rlsf_blocks.specs.Laws.{WordsGiveBlock}
 use Rattle.rlsf_blocks.specs.StandsFor.{Contents, StandsFor}
 use Rattle.rlsf_blocks.proofs.Deallocate.Addresses.{IsReadable-before, narrow_start, wide_start}
-use Rattle.rlsf_blocks.proofs.Machine.Neighbours.{before_used, free_before, none_before, used_before}
+use Rattle.rlsf_blocks.proofs.RepresentedStates.Neighbours.{before_used, free_before, none_before, used_before}
 use Rattle.rlsf_blocks.proofs.Words.Apart.{free_in_memory, used_in_memory}
 
 -- The word before the payload of u. It is 0, or the start of the block before u's block, which ends where u's block begins: then the

@@ -5,7 +5,7 @@ use Rattle.rlsf_model.specs.Lists.{IsIn}
 use Rattle.rlsf_model.specs.State.{State, Used}
 use Rattle.rlsf_model.specs.WellFormed.{IsWellFormed, last_bytes}
 use Rattle.rlsf_blocks.specs.Blocks.{Block, HasBlock, used, free}
-use Rattle.rlsf_blocks.proofs.Machine.Neighbours.{Place, in_free, in_used, in_last, place_of}
+use Rattle.rlsf_blocks.proofs.RepresentedStates.Neighbours.{Place, in_free, in_used, in_last, place_of}
 use Rattle.rlsf_blocks.proofs.Words.Apart.{Has}
 
 -- an address of a block, or of a chunk's last bytes

@@ -1,6 +1,6 @@
 use Rattle.rlsf_model_global.proofs.Histories.{histories_keep_heap, steps_keep_heap, unnamed_stays, unnamed_stays_throughout}
-use Rattle.rlsf_model_global.proofs.Isolated.{beginning_is_heap, histories_list_payloads, payloads_are_isolated}
-use Rattle.rlsf_model_global.proofs.Left.{allocation_leaves, deallocation_leaves, payloads_are_apart, payloads_serve, read_tells, write_leaves}
+use Rattle.rlsf_model_global.proofs.LastStepsDecide.{beginning_is_heap, histories_list_payloads, payloads_are_isolated}
+use Rattle.rlsf_model_global.proofs.AddressesLeft.{allocation_leaves, deallocation_leaves, payloads_are_apart, payloads_serve, read_tells, write_leaves}
 use Rattle.rlsf_model_global.proofs.Moved.{reallocation_as_leaves, reallocation_leaves, reallocation_there_leaves}
 use Rattle.rlsf_model_global.proofs.isolation.Goals as goal
 

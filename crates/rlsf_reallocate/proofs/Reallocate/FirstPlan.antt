@@ -9,7 +9,7 @@ use Rattle.rlsf_blocks.specs.StandsFor.{contents, StandsFor}
 use Rattle.rlsf_table.specs.Counts.{Counts}
 use Rattle.rlsf_reallocate.specs.Steps.Resize.{IsCarriedOut, IsReallocated}
 use Rattle.rlsf_table.specs.Table.{Table}
-use Rattle.rlsf_blocks.proofs.Machine.Counted.{KeepsSpare-counted, KeepsSpare-counted_first, StandsFor-counted}
+use Rattle.rlsf_blocks.proofs.RepresentedStates.Counted.{KeepsSpare-counted, KeepsSpare-counted_first, StandsFor-counted}
 
 -- ---- choices of plans
 

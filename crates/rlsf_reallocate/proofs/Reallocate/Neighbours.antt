@@ -17,8 +17,8 @@ use Rattle.rlsf_model.specs.WellFormed.{IsWellFormed}
 use Rattle.rlsf_model.proofs.Coverage.{by_test, find-some}
 use Rattle.rlsf_blocks.proofs.Deallocate.Marks.{Named, named, names_free, names_used, names_none, used_odd, used_begins, last_begins, free_even}
 use Rattle.rlsf_table.proofs.FreeLists.Found.{find-start, find-no_start}
-use Rattle.rlsf_blocks.proofs.Machine.FreeBlocks.{IsFreeTable-free}
-use Rattle.rlsf_blocks.proofs.Machine.Neighbours.{Behind, free_behind, used_behind, last_behind, behind_used}
+use Rattle.rlsf_blocks.proofs.RepresentedStates.FreeBlocks.{IsFreeTable-free}
+use Rattle.rlsf_blocks.proofs.RepresentedStates.Neighbours.{Behind, free_behind, used_behind, last_behind, behind_used}
 use Rattle.rlsf_blocks.proofs.Words.Apart.{used_in_memory, free_in_memory}
 use Rattle.rlsf_blocks.proofs.Words.NeverOut.{here_behind_used}
 

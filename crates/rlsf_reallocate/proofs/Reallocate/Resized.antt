@@ -25,7 +25,7 @@ use Rattle.rlsf_blocks.specs.Steps.Join.{IsNextOut}
 use Rattle.rlsf_reallocate.specs.Steps.Resize.{IsCarriedOut, IsOccupied, IsOwnedBehind}
 use Rattle.rlsf_table.specs.Table.{Table, HasTable}
 use Rattle.rlsf_blocks.proofs.Allocate.Placements.{length-bytes_in}
-use Rattle.rlsf_blocks.proofs.Machine.Counted.{KeepsSpare-counted, StandsFor-counted}
+use Rattle.rlsf_blocks.proofs.RepresentedStates.Counted.{KeepsSpare-counted, StandsFor-counted}
 use Rattle.rlsf_table.proofs.Words.Writes.{Rewrites-trans, Rewrites-weaken}
 use Rattle.rlsf_reallocate.proofs.Reallocate.NextPlans.{stretched, kept_whole, tail_joined-same, IsSound-kept, IsSound-stretched}
 use Rattle.rlsf_reallocate.proofs.Reallocate.Spans.{own_but_front, reach, span_of, staying, end_of-span, home, IsWhole-span}

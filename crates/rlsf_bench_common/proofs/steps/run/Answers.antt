@@ -9,7 +9,7 @@ use Rattle.rlsf_tlsf.proofs.Standing.{in_state}
 use Rattle.rlsf_bench_common.proofs.FirstPool.{pool_is_fresh}
 use Rattle.rlsf_bench_common.specs.Runs.{IsBench, BenchState}
 use Rattle.rlsf_bench_common.specs.Slots.{AreSlotsAt, LeadsSlotsOn}
-use Rattle.rlsf_bench_common.proofs.Underway.{IsUnderway, IsUnderway-beginning, IsUnderway-next, IsBench-end, take_all}
+use Rattle.rlsf_bench_common.proofs.StepsDone.{IsUnderway, IsUnderway-beginning, IsUnderway-next, IsBench-end, take_all}
 use Rattle.rlsf_bench_common.proofs.steps.run.Goals as goal
 
 pub insert_free_block_ptr-requires : goal.insert_free_block_ptr-requires

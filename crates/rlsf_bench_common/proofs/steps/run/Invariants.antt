@@ -1,5 +1,5 @@
 use Rattle.std.specs.Int.NonZero.{non_zero_usize_get}
-use Rattle.rlsf_bench_common.proofs.Underway.{IsUnderway}
+use Rattle.rlsf_bench_common.proofs.StepsDone.{IsUnderway}
 use Rattle.rlsf_bench_common.proofs.steps.run.Given as goal
 
 abbrev pub invariant-loop-number : goal.invariant-loop-number

@@ -13,7 +13,7 @@ use Rattle.rlsf_model.specs.Release.{released}
 use Rattle.rlsf_blocks.proofs.Deallocate.Marks.{IsMarked-behind}
 use Rattle.rlsf_blocks.proofs.Deallocate.Releases.{before_at, behind_at, end_computed, gone, IsInnerRoom-union, released_stands, start_before, union_end, union_len, union_start}
 use Rattle.rlsf_blocks.proofs.Deallocate.Releases.{word_computed}
-use Rattle.rlsf_blocks.proofs.Machine.Counted.{KeepsSpare-counted_first, StandsFor-counted}
+use Rattle.rlsf_blocks.proofs.RepresentedStates.Counted.{KeepsSpare-counted_first, StandsFor-counted}
 use Rattle.rlsf_blocks.proofs.Words.Apart.{used_in_memory}
 use Rattle.rlsf_table.proofs.Costs.{Costs-loaded, Costs-then}
 use Rattle.rlsf_blocks.proofs.Words.Stays.{Stays, Stays-rewrites, Stays-same, Stays-then}

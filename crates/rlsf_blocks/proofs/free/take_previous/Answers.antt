@@ -10,7 +10,7 @@ use Rattle.rlsf_blocks.proofs.Words.NeverOut.{here_front}
 use Rattle.rlsf_table.proofs.FreeLists.Counted.{IsFreeTable-counted}
 use Rattle.rlsf_blocks.proofs.Deallocate.Loaded.{IsMarked-loaded, IsNextOut-loaded}
 use Rattle.rlsf_blocks.proofs.Deallocate.Marks.{IsMarked-previous, IsPreviousOut-none, previous_begins, previous_out}
-use Rattle.rlsf_blocks.proofs.Machine.FreeBlocks.{IsFreeTable-free}
+use Rattle.rlsf_blocks.proofs.RepresentedStates.FreeBlocks.{IsFreeTable-free}
 use Rattle.rlsf_blocks.proofs.Words.Apart.{used_in_memory}
 use Rattle.rlsf_table.proofs.Costs.{Costs-loaded, Costs-then, Costs-within}
 use Rattle.rlsf_blocks.proofs.free.take_previous.Goals as goal

@@ -17,7 +17,7 @@ use Rattle.rlsf_blocks.specs.StandsFor.{contents, StandsFor}
 use Rattle.rlsf_table.specs.Counts.{Costs}
 use Rattle.rlsf_table.specs.Table.{IsClassAt}
 use Rattle.rlsf_blocks.proofs.Words.Apart.{free_in_memory}
-use Rattle.rlsf_blocks.proofs.Machine.Counted.{KeepsSpare-counted_first, StandsFor-counted}
+use Rattle.rlsf_blocks.proofs.RepresentedStates.Counted.{KeepsSpare-counted_first, StandsFor-counted}
 use Rattle.rlsf_blocks.proofs.Allocate.Placements.{AreComputed, AreComputed-from, fitting, is_free, IsSized, IsSized-from, IsTaken-computed, IsWritable-block, IsWritable-pad}
 use Rattle.rlsf_blocks.proofs.Allocate.Placements.{Places-sized}
 use Rattle.rlsf_model.proofs.Allocations.{placed-fits}

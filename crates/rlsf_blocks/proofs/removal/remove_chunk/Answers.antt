@@ -1,6 +1,6 @@
 use Rattle.std.proofs.Common.{arith, rules}
 use Rattle.rlsf_blocks.proofs.Chunks.Removed.{IsMarked-idle, end_is, KeepsSpare-removed, StandsFor-removed}
-use Rattle.rlsf_blocks.proofs.Machine.FreeBlocks.{IsFreeTable-free}
+use Rattle.rlsf_blocks.proofs.RepresentedStates.FreeBlocks.{IsFreeTable-free}
 use Rattle.rlsf_table.proofs.Costs.{}
 use Rattle.rlsf_blocks.proofs.removal.remove_chunk.Goals as goal
 

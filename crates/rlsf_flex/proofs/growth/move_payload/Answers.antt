@@ -13,7 +13,7 @@ use Rattle.rlsf_flex.specs.Steps.Growth.{MovesTo}
 use Rattle.rlsf_tlsf.proofs.UnknownAlign.{Keeps-front, length-front}
 use Rattle.rlsf_flex.proofs.Moves.{new, Fills-copied, Holds-new, Holds-old, KeepsSpare-copied, MovesAway-copied}
 use Rattle.rlsf_flex.proofs.Places.{SamePlace-then}
-use Rattle.rlsf_flex.proofs.Standing.{opened, opened_whole, stood_at}
+use Rattle.rlsf_flex.proofs.InnerAllocator.{opened, opened_whole, stood_at}
 use Rattle.rlsf_flex.proofs.growth.move_payload.Given as given
 use Rattle.rlsf_flex.proofs.growth.move_payload.Goals as goal
 use Rattle.rlsf_flex.proofs.growth.move_payload.Goals.{After-deallocate, In_ok-to}

@@ -3,7 +3,7 @@ use Rattle.std.proofs.lemmas.Bool.{false≢true}
 use Rattle.rlsf_blocks.specs.Blocks.{Block, walked}
 use Rattle.rlsf_model.specs.Lists.{IsIn}
 use Rattle.rlsf_flex.proofs.RangeRows.{none_occupied, occupied_held}
-use Rattle.rlsf_flex.proofs.Standing.{stood}
+use Rattle.rlsf_flex.proofs.InnerAllocator.{stood}
 use Rattle.rlsf_flex.proofs.trim.is_idle.Goals as goal
 
 pub returns-then-is_occupied : goal.returns-then-is_occupied

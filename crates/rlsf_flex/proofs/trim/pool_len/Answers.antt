@@ -1,7 +1,7 @@
 use Rattle.std.proofs.Common.{◌+◌, ◌≤◌, arith, sym, subst}
 use Rattle.rlsf_base.specs.Range.{end_of}
 use Rattle.rlsf_flex.proofs.RangeRows.{IsEdge, IsEdge-end, IsEdge-next, chunk_at}
-use Rattle.rlsf_flex.proofs.Standing.{stood}
+use Rattle.rlsf_flex.proofs.InnerAllocator.{stood}
 use Rattle.rlsf_flex.proofs.trim.pool_len.Goals as goal
 
 pub overflow_sub-range : goal.overflow_sub-range

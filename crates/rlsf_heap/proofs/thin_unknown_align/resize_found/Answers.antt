@@ -7,7 +7,7 @@ use Rattle.rlsf_table.specs.Counts.{Counts}
 use Rattle.rlsf_table.proofs.Costs.{Costs-counted, Costs-then, Costs-within}
 use Rattle.rlsf_blocks.specs.StandsFor.{contents, StandsFor}
 use Rattle.rlsf_blocks.proofs.Counting.{Counts-counted_first, Counts-touched}
-use Rattle.rlsf_blocks.proofs.Machine.Counted.{KeepsSpare-counted_first, StandsFor-touched}
+use Rattle.rlsf_blocks.proofs.RepresentedStates.Counted.{KeepsSpare-counted_first, StandsFor-touched}
 use Rattle.rlsf_blocks.proofs.Words.Apart.{used_in_memory}
 use Rattle.rlsf_blocks.proofs.Words.Stays.{Stays, Stays-same, Stays-then}
 use Rattle.rlsf_reallocate.specs.Steps.Resize.{IsUsedAt}

@@ -16,7 +16,7 @@ use Rattle.rlsf_blocks.specs.Spare.{KeepsSpare}
 use Rattle.rlsf_blocks.specs.StandsFor.{contents, StandsFor}
 use Rattle.rlsf_reallocate.specs.Steps.Resize.{IsUsedAt}
 use Rattle.rlsf_blocks.proofs.Deallocate.Releases.{end_computed, word_computed}
-use Rattle.rlsf_blocks.proofs.Machine.Counted.{KeepsSpare-counted_first, StandsFor-counted}
+use Rattle.rlsf_blocks.proofs.RepresentedStates.Counted.{KeepsSpare-counted_first, StandsFor-counted}
 use Rattle.rlsf_reallocate.proofs.Reallocate.Computations.{IsReadable-size}
 use Rattle.rlsf_reallocate.proofs.Reallocate.Elsewhere.{both, copied_stands, IsOwned-new, KeepsSpare-copied, LiesIn-new, LiesIn-old, MovesAway-copied}
 use Rattle.rlsf_blocks.proofs.Words.Apart.{used_in_memory}

@@ -11,11 +11,11 @@ use Rattle.rlsf_blocks.specs.Steps.Join.{union, untouched}
 use Rattle.rlsf_reallocate.specs.Steps.Resize.{IsUsedAt}
 use Rattle.rlsf_blocks.proofs.Deallocate.Marks.{IsMarked-behind}
 use Rattle.rlsf_blocks.proofs.Deallocate.Releases.{end_computed, word_computed}
-use Rattle.rlsf_blocks.proofs.Machine.Counted.{KeepsSpare-counted_first, StandsFor-counted}
+use Rattle.rlsf_blocks.proofs.RepresentedStates.Counted.{KeepsSpare-counted_first, StandsFor-counted}
 use Rattle.rlsf_table.proofs.Words.Writes.{Writes-none, Writes-some}
 use Rattle.rlsf_reallocate.proofs.Reallocate.Computations.{IsReadable-size}
-use Rattle.rlsf_reallocate.proofs.Reallocate.Computed.{AreOut, here-occupied, IsHere-payload, IsOwned-moved, IsUsedBlock-from, IsWritable-pad, LiesIn-moved, LiesIn-payload}
-use Rattle.rlsf_reallocate.proofs.Reallocate.Computed.{moved_to, part, payload_within, room, sixteen-le, start-fits, stays-occupied, total_is, total-fits, union_begins}
+use Rattle.rlsf_reallocate.proofs.Reallocate.PreviousPlans.{AreOut, here-occupied, IsHere-payload, IsOwned-moved, IsUsedBlock-from, IsWritable-pad, LiesIn-moved, LiesIn-payload}
+use Rattle.rlsf_reallocate.proofs.Reallocate.PreviousPlans.{moved_to, part, payload_within, room, sixteen-le, start-fits, stays-occupied, total_is, total-fits, union_begins}
 use Rattle.rlsf_blocks.proofs.Words.Apart.{used_in_memory}
 use Rattle.rlsf_blocks.proofs.Words.Stays.{Stays, Stays-same, Stays-then, Stays-written}
 use Rattle.rlsf_table.proofs.Words.Writing.{wrote, wrote_there}

@@ -1,6 +1,6 @@
 use Rattle.std.proofs.Common.{rules, arith, refl}
-use Rattle.rlsf_blocks.proofs.Machine.Counted.{StandsFor-counted}
-use Rattle.rlsf_blocks.proofs.Machine.FreeBlocks.{IsFreeTable-free}
+use Rattle.rlsf_blocks.proofs.RepresentedStates.Counted.{StandsFor-counted}
+use Rattle.rlsf_blocks.proofs.RepresentedStates.FreeBlocks.{IsFreeTable-free}
 use Rattle.rlsf_reallocate.proofs.Reallocate.Neighbours.{IsMarked-end}
 use Rattle.rlsf_reallocate.proofs.Reallocate.Previous.{FitsBefore-computed, block-le, end-in_memory, into_previous-refused, none_before, payload-le, previous-le, room_behind}
 use Rattle.rlsf_reallocate.proofs.previous.place_before.Goals as goal

@@ -6,7 +6,7 @@ use Rattle.rlsf_model.proofs.Payloads.{IsUsed-after_start}
 use Rattle.rlsf_blocks.proofs.Deallocate.Loaded.{IsMarked-loaded}
 use Rattle.rlsf_blocks.proofs.Deallocate.Marks.{IsMarked-previous, IsPreviousOut-none, previous-fits}
 use Rattle.rlsf_table.proofs.FreeLists.Counted.{IsFreeTable-counted}
-use Rattle.rlsf_blocks.proofs.Machine.FreeBlocks.{IsFreeTable-free}
+use Rattle.rlsf_blocks.proofs.RepresentedStates.FreeBlocks.{IsFreeTable-free}
 use Rattle.rlsf_reallocate.proofs.Reallocate.Neighbours.{start_or-length}
 use Rattle.rlsf_blocks.proofs.Words.Apart.{used_in_memory}
 use Rattle.rlsf_blocks.proofs.Words.NeverOut.{here_front}

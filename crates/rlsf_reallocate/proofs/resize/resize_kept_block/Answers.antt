@@ -9,7 +9,7 @@ use Rattle.rlsf_reallocate.specs.Steps.Resize.{IsOccupied, IsOwnedBehind, IsSpan
 use Rattle.rlsf_base.proofs.Numbers.Roundings.{next_multiple_of-lt}
 use Rattle.rlsf_table.proofs.FreeLists.Counted.{IsFreeTable-counted}
 use Rattle.rlsf_blocks.proofs.Words.Apart.{used_in_memory}
-use Rattle.rlsf_blocks.proofs.Machine.FreeBlocks.{IsFreeTable-free}
+use Rattle.rlsf_blocks.proofs.RepresentedStates.FreeBlocks.{IsFreeTable-free}
 use Rattle.rlsf_reallocate.proofs.Reallocate.Computations.{end_is, IsMarked-loaded_end, IsNextOut-end, IsTaken-len, IsReadable-size, reach_is, taken_computed}
 use Rattle.rlsf_reallocate.proofs.Reallocate.NextPlans.{kept_whole, no_plan, or_else-kept, or_else-stretched, stretched}
 use Rattle.rlsf_reallocate.proofs.Reallocate.Resized.{IsCarriedOut-kept, IsCarriedOut-stretched}

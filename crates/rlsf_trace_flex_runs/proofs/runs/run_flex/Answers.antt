@@ -2,7 +2,7 @@ use Rattle.std.proofs.Common.{rules, ◌++◌, [], ◌∷◌, arith, refl, sym, 
 use Rattle.std.proofs.lemmas.List.{append_assoc, append-nil, get_or_default}
 use Rattle.rlsf_trace_runs.proofs.Outcomes.{when_ok}
 use Rattle.rlsf_trace_flex_runs.specs.Steps.Names.{run_of}
-use Rattle.rlsf_trace_flex_runs.proofs.Underway.{IsUnderway-beginning, IsUnderway-next, RunsFlex-end, RunsFlexByEvents-end}
+use Rattle.rlsf_trace_flex_runs.proofs.OpsDone.{IsUnderway-beginning, IsUnderway-next, RunsFlex-end, RunsFlexByEvents-end}
 use Rattle.rlsf_trace_flex_runs.proofs.runs.run_flex.Goals as goal
 
 pub loop-op-init : goal.loop-op-init

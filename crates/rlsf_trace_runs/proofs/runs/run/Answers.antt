@@ -6,7 +6,7 @@ use Rattle.rlsf_trace_runs.specs.Events.{RunsByEvents}
 use Rattle.rlsf_tlsf.specs.Allocator.{IsInState}
 use Rattle.rlsf_tlsf.proofs.Standing.{in_state}
 use Rattle.rlsf_trace_runs.proofs.RunStates.{IsAt-beginning}
-use Rattle.rlsf_trace_runs.proofs.Underway.{IsUnderway-beginning, IsUnderway-next, RunsOps-end, RunsByEvents-end}
+use Rattle.rlsf_trace_runs.proofs.OpsDone.{IsUnderway-beginning, IsUnderway-next, RunsOps-end, RunsByEvents-end}
 use Rattle.rlsf_trace_runs.proofs.Outcomes.{when_ok}
 use Rattle.rlsf_trace_runs.proofs.runs.run.Goals as goal
 

@@ -1,7 +1,7 @@
 use Rattle.std.proofs.Common.{◌≡◌, ◌+◌, ◌-◌, ◌≤◌, ◌++◌, length, List}
 use Rattle.std.specs.Vec.{vec_len, vec_capacity}
 use Rattle.rlsf_trace_text.specs.declared.op.Answer.{Answer}
-use Rattle.rlsf_trace_runs.proofs.Underway.{IsUnderway}
+use Rattle.rlsf_trace_runs.proofs.OpsDone.{IsUnderway}
 use Rattle.rlsf_trace_runs.proofs.runs.run.Given as goal
 
 abbrev pub invariant-loop-op : goal.invariant-loop-op

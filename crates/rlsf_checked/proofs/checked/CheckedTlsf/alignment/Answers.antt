@@ -1,7 +1,7 @@
 use Rattle.std.proofs.Common.{◌^◌, ◌-◌, Some, arith, sym, ◌∙◌, ap, subst}
 use Rattle.rlsf_base.specs.PowerOfTwo.{IsPowerOfTwo}
 use Rattle.rlsf_model.specs.Callers.{align_at}
-use Rattle.rlsf_checked.proofs.Standing.{marked_as}
+use Rattle.rlsf_checked.proofs.FieldsOverSteps.{marked_as}
 use Rattle.rlsf_checked.proofs.checked.CheckedTlsf.alignment.Goals as goal
 
 pub align_of-requires : goal.align_of-requires

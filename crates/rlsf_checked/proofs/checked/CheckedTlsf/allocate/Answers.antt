@@ -3,7 +3,7 @@ use Rattle.rlsf_base.specs.Addr.{at}
 use Rattle.rlsf_base.specs.PowerOfTwo.{floor_log2}
 use Rattle.rlsf_model.specs.Callers.{align_at}
 use Rattle.rlsf_checked.specs.Steps.Marks.{HasMark, mark_at, mark_of}
-use Rattle.rlsf_checked.proofs.Standing.{has_mark, marked_at, stands_after, unchanged}
+use Rattle.rlsf_checked.proofs.FieldsOverSteps.{has_mark, marked_at, stands_after, unchanged}
 use Rattle.rlsf_checked.proofs.checked.CheckedTlsf.allocate.Goals as goal
 
 pub invariant_of-self : goal.invariant_of-self

@@ -8,8 +8,8 @@ use Rattle.rlsf_checked.specs.Answers.{if_appended, is_next, is_within}
 use Rattle.rlsf_checked.specs.Checked.{checked}
 use Rattle.rlsf_checked.proofs.Edges.{flips}
 use Rattle.rlsf_checked.proofs.Pools.{appended_fits, handed_on, next_answer, next_is, next_range, none_apart, none_appended, none_outside, pool_fits, some_appended, within_is}
-use Rattle.rlsf_checked.proofs.Standing.{stands_after, step_of, unchanged}
-use Rattle.rlsf_checked.proofs.Toggled.{appended_edges, appended_place}
+use Rattle.rlsf_checked.proofs.FieldsOverSteps.{stands_after, step_of, unchanged}
+use Rattle.rlsf_checked.proofs.ToggledEdges.{appended_edges, appended_place}
 use Rattle.rlsf_checked.proofs.checked.CheckedTlsf.append.Given as given
 use Rattle.rlsf_checked.proofs.checked.CheckedTlsf.append.Goals as goal
 use Rattle.rlsf_checked.proofs.checked.CheckedTlsf.append.Goals.{After-append_free_block_ptr-taken, Else-not-is_next, Then-taken-eq0}

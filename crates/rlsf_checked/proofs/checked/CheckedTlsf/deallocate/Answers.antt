@@ -3,7 +3,7 @@ use Rattle.rlsf_base.specs.Addr.{at}
 use Rattle.rlsf_model.specs.Callers.{align_at}
 use Rattle.rlsf_checked.specs.Answers.{if_live}
 use Rattle.rlsf_checked.specs.Steps.Marks.{HasMark, mark_at, mark_of}
-use Rattle.rlsf_checked.proofs.Standing.{has_mark, marked_at, stands_after}
+use Rattle.rlsf_checked.proofs.FieldsOverSteps.{has_mark, marked_at, stands_after}
 use Rattle.rlsf_checked.proofs.checked.CheckedTlsf.deallocate.Goals as goal
 
 pub set-requires : goal.set-requires

@@ -10,9 +10,9 @@ use Rattle.rlsf_checked.specs.Checked.{checked}
 use Rattle.rlsf_checked.specs.Steps.Marks.{HasMark}
 use Rattle.rlsf_checked.specs.Steps.Standing.{IsChecked}
 use Rattle.rlsf_checked.proofs.Edges.{Flips, flips}
-use Rattle.rlsf_checked.proofs.Toggled.{inserted_edges, inserted_place}
+use Rattle.rlsf_checked.proofs.ToggledEdges.{inserted_edges, inserted_place}
 use Rattle.rlsf_checked.proofs.Pools.{before_answer, behind_answer, handed_in, none_taken, outside_answer, pool_fits, untouched, within_is}
-use Rattle.rlsf_checked.proofs.Standing.{stands_after, step_of, unchanged}
+use Rattle.rlsf_checked.proofs.FieldsOverSteps.{stands_after, step_of, unchanged}
 use Rattle.rlsf_checked.proofs.checked.CheckedTlsf.insert.Given as given
 use Rattle.rlsf_checked.proofs.checked.CheckedTlsf.insert.Goals as goal
 use Rattle.rlsf_checked.proofs.checked.CheckedTlsf.insert.Goals.{Else-range-self, In-Some}

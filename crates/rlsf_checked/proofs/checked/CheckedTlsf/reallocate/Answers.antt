@@ -10,7 +10,7 @@ use Rattle.rlsf_checked.specs.Answers.{IsRefusedBy, size_refusal}
 use Rattle.rlsf_checked.specs.declared.error.CheckedError.TheVariants.{NoRoom}
 use Rattle.rlsf_checked.specs.Steps.Marks.{HasMark, mark_at}
 use Rattle.rlsf_checked.proofs.SizeRefusals.{past_is_refused, unknown_is_refused}
-use Rattle.rlsf_checked.proofs.Standing.{has_mark, left_behind, marked_moved, size_fits, stands_after, step_of, unchanged}
+use Rattle.rlsf_checked.proofs.FieldsOverSteps.{has_mark, left_behind, marked_moved, size_fits, stands_after, step_of, unchanged}
 use Rattle.rlsf_checked.proofs.checked.CheckedTlsf.reallocate.Given as given
 use Rattle.rlsf_checked.proofs.checked.CheckedTlsf.reallocate.Goals as goal
 use Rattle.rlsf_checked.proofs.checked.CheckedTlsf.reallocate.Goals.{After-reallocate}

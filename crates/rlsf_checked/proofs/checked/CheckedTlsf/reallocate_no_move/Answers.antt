@@ -8,7 +8,7 @@ use Rattle.rlsf_tlsf.specs.Allocator.{Steps}
 use Rattle.rlsf_checked.specs.Answers.{IsRefusedBy, size_refusal}
 use Rattle.rlsf_checked.specs.declared.error.CheckedError.TheVariants.{NoRoom}
 use Rattle.rlsf_checked.proofs.SizeRefusals.{past_is_refused, unknown_is_refused}
-use Rattle.rlsf_checked.proofs.Standing.{size_fits, stands_after, unchanged}
+use Rattle.rlsf_checked.proofs.FieldsOverSteps.{size_fits, stands_after, unchanged}
 use Rattle.rlsf_checked.proofs.checked.CheckedTlsf.reallocate_no_move.Given as given
 use Rattle.rlsf_checked.proofs.checked.CheckedTlsf.reallocate_no_move.Goals as goal
 use Rattle.rlsf_checked.proofs.checked.CheckedTlsf.reallocate_no_move.Goals.{After-reallocate_no_move}

@@ -3,8 +3,8 @@ use Rattle.rlsf_checked.specs.Steps.Marks.{HasMark}
 use Rattle.rlsf_checked.proofs.Edges.{Flips, flips}
 use Rattle.rlsf_checked.proofs.Pools.{pool_fits}
 use Rattle.rlsf_checked.proofs.Removed.{idle_last, removed_last, used_last}
-use Rattle.rlsf_checked.proofs.Standing.{stands_after, step_of}
-use Rattle.rlsf_checked.proofs.Toggled.{removed_edges, removed_none, removed_place}
+use Rattle.rlsf_checked.proofs.FieldsOverSteps.{stands_after, step_of}
+use Rattle.rlsf_checked.proofs.ToggledEdges.{removed_edges, removed_none, removed_place}
 use Rattle.rlsf_checked.proofs.checked.CheckedTlsf.remove_last.Goals as goal
 
 pub remove_pool-requires : goal.remove_pool-requires

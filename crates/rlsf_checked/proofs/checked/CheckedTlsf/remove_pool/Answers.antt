@@ -12,7 +12,7 @@ use Rattle.rlsf_tlsf.proofs.IdleRows.{idle_if, used_if}
 use Rattle.rlsf_checked.proofs.Pools.{pool_fits}
 use Rattle.rlsf_checked.proofs.RemovedRanges.{high_below, removed_range, removed_range_edges, removed_range_place}
 use Rattle.rlsf_checked.proofs.RunsByEdges.{well_formed}
-use Rattle.rlsf_checked.proofs.Standing.{stands_after, step_of}
+use Rattle.rlsf_checked.proofs.FieldsOverSteps.{stands_after, step_of}
 use Rattle.rlsf_checked.proofs.checked.CheckedTlsf.remove_pool.Goals as goal
 
 pub iter_blocks-requires : goal.iter_blocks-requires

@@ -12,7 +12,7 @@ use Rattle.rlsf_tlsf.specs.Allocator.{Allocator, Steps}
 use Rattle.rlsf_flex.proofs.Allocations.{Tried, allocated_in_more, allocated_in_room, allocated_stands, extended_none, more_is_found, no_room, not_none, nothing_asked}
 use Rattle.rlsf_flex.proofs.Allocations.{nothing_more}
 use Rattle.rlsf_flex.proofs.Places.{SamePlace-then}
-use Rattle.rlsf_flex.proofs.Standing.{flex_opened, opened}
+use Rattle.rlsf_flex.proofs.InnerAllocator.{flex_opened, opened}
 use Rattle.rlsf_flex.proofs.flex.FlexTlsf.allocate.Given as given
 use Rattle.rlsf_flex.proofs.flex.FlexTlsf.allocate.Goals as goal
 use Rattle.rlsf_flex.proofs.flex.FlexTlsf.allocate.Goals.{In_default, After-allocate-then-extend}

@@ -3,7 +3,7 @@ use Rattle.rlsf_base.specs.Addr.{at}
 use Rattle.rlsf_base.specs.Space.{range_of}
 use Rattle.rlsf_flex.proofs.Calls.{stands_alone, steps_alone}
 use Rattle.rlsf_flex.proofs.Reserves.{IsFlexDeallocation-step}
-use Rattle.rlsf_flex.proofs.Standing.{opened}
+use Rattle.rlsf_flex.proofs.InnerAllocator.{opened}
 use Rattle.rlsf_flex.proofs.flex.FlexTlsf.deallocate.Goals as goal
 
 pub invariant_of-self : goal.invariant_of-self

@@ -1,5 +1,5 @@
 use Rattle.std.proofs.Common.{arith}
-use Rattle.rlsf_flex.proofs.Standing.{flex_stood_at}
+use Rattle.rlsf_flex.proofs.InnerAllocator.{flex_stood_at}
 use Rattle.rlsf_flex.proofs.flex.FlexTlsf.memory_ref.Goals as goal
 
 pub memory_ref-requires : goal.memory_ref-requires

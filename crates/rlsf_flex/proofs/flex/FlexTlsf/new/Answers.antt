@@ -4,7 +4,7 @@ use Rattle.rlsf_model.specs.FlexState.{FlexState, empty}
 use Rattle.rlsf_table.proofs.Parameters.{IsValid-widest}
 use Rattle.rlsf_tlsf.proofs.Standing.{in_state}
 use Rattle.rlsf_flex.proofs.EmptyFlex.{FlexStandsFor-empty}
-use Rattle.rlsf_flex.proofs.Standing.{contents_at, flex_stood_at}
+use Rattle.rlsf_flex.proofs.InnerAllocator.{contents_at, flex_stood_at}
 use Rattle.rlsf_flex.proofs.flex.FlexTlsf.new.Given as given
 use Rattle.rlsf_flex.proofs.flex.FlexTlsf.new.Goals as goal
 use Rattle.rlsf_flex.proofs.flex.FlexTlsf.new.Goals.{After-new-2}

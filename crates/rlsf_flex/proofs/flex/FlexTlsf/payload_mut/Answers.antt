@@ -6,7 +6,7 @@ use Rattle.rlsf_flex.specs.StandsFor.{FlexContents}
 use Rattle.rlsf_tlsf.specs.Lending.{written}
 use Rattle.rlsf_flex.proofs.Calls.{steps_alone}
 use Rattle.rlsf_flex.proofs.Loans.{left}
-use Rattle.rlsf_flex.proofs.Standing.{flex_stood_at}
+use Rattle.rlsf_flex.proofs.InnerAllocator.{flex_stood_at}
 use Rattle.rlsf_flex.proofs.flex.FlexTlsf.payload_mut.Goals as goal
 
 pub invariant_of-self-lent : goal.invariant_of-self-lent

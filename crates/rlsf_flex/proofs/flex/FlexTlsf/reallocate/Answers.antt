@@ -17,7 +17,7 @@ use Rattle.rlsf_tlsf.specs.Allocator.{Allocator, Steps}
 use Rattle.rlsf_flex.proofs.Allocations.{Tried, extended_none, for_some, more_is_found, not_none, nothing_asked, nothing_more}
 use Rattle.rlsf_flex.proofs.Reallocations.{no_room_to_move, reallocated_in_more, reallocated_in_room, reallocated_stands, refused_move_alone, refused_too, stuck_moves, stuck_short}
 use Rattle.rlsf_flex.proofs.Places.{SamePlace-then}
-use Rattle.rlsf_flex.proofs.Standing.{flex_opened, stood_at}
+use Rattle.rlsf_flex.proofs.InnerAllocator.{flex_opened, stood_at}
 use Rattle.rlsf_flex.proofs.flex.FlexTlsf.reallocate.Given as given
 use Rattle.rlsf_flex.proofs.flex.FlexTlsf.reallocate.Goals as goal
 use Rattle.rlsf_flex.proofs.flex.FlexTlsf.reallocate.Goals.{In_default, After-extend, After-move_payload}

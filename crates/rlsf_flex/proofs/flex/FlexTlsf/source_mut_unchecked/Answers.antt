@@ -1,7 +1,7 @@
 use Rattle.std.proofs.Common.{refl}
 use Rattle.rlsf_flex.specs.Steps.Parts.{flex_over}
 use Rattle.rlsf_flex.proofs.Outcomes.{FlexStandsFor-refused}
-use Rattle.rlsf_flex.proofs.Standing.{flex_stood_at}
+use Rattle.rlsf_flex.proofs.InnerAllocator.{flex_stood_at}
 use Rattle.rlsf_flex.proofs.flex.FlexTlsf.source_mut_unchecked.Goals as goal
 
 pub invariant_of-self : goal.invariant_of-self

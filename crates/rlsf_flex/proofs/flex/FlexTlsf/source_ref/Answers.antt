@@ -1,6 +1,6 @@
 use Rattle.std.proofs.Common.{subst}
 use Rattle.rlsf_flex.specs.StandsFor.{FlexStands}
-use Rattle.rlsf_flex.proofs.Standing.{flex_stood_at}
+use Rattle.rlsf_flex.proofs.InnerAllocator.{flex_stood_at}
 use Rattle.rlsf_flex.proofs.flex.FlexTlsf.source_ref.Goals as goal
 
 pub returns-clause-stands : goal.returns-clause-stands

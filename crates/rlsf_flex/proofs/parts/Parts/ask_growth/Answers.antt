@@ -22,7 +22,7 @@ use Rattle.rlsf_flex.proofs.Kept.{IsKeptPool-known}
 use Rattle.rlsf_flex.proofs.KeptPayloads.{KeepsPayloads-refl, KeepsPayloads-same, KeepsPayloads-trans}
 use Rattle.rlsf_flex.proofs.Places.{SamePlace-refl}
 use Rattle.rlsf_flex.proofs.Rewritten.{IsFooted-none, IsFooted-written}
-use Rattle.rlsf_flex.proofs.Standing.{inner_in}
+use Rattle.rlsf_flex.proofs.InnerAllocator.{inner_in}
 use Rattle.rlsf_flex.proofs.parts.Parts.ask_growth.Given as given
 use Rattle.rlsf_flex.proofs.parts.Parts.ask_growth.Goals as goal
 use Rattle.rlsf_flex.proofs.parts.Parts.ask_growth.Goals.{In_ok-grown, Joined-supports_dealloc, then-supports_dealloc, else-supports_dealloc}

@@ -25,7 +25,7 @@ use Rattle.rlsf_flex.proofs.Kept.{kept_of-then_some}
 use Rattle.rlsf_flex.proofs.KeptPayloads.{KeepsPayloads-refl, KeepsPayloads-same, KeepsPayloads-trans}
 use Rattle.rlsf_flex.proofs.RangeLengths.{range_length-whole}
 use Rattle.rlsf_flex.proofs.Rewritten.{IsFooted-named}
-use Rattle.rlsf_flex.proofs.Standing.{opened, opened_whole, stood_at}
+use Rattle.rlsf_flex.proofs.InnerAllocator.{opened, opened_whole, stood_at}
 use Rattle.rlsf_flex.proofs.parts.Parts.ask_range.Given as given
 use Rattle.rlsf_flex.proofs.parts.Parts.ask_range.Goals as goal
 use Rattle.rlsf_flex.proofs.parts.Parts.ask_range.Goals.{In_ok-range, After-insert_free_block_ptr}

@@ -7,7 +7,7 @@ use Rattle.rlsf_model.specs.FlexWellFormed.{IsNewest, IsPool}
 use Rattle.rlsf_model.specs.Trim.{IsNewestHeld}
 use Rattle.rlsf_flex.specs.StandsFor.{kept_of}
 use Rattle.rlsf_flex.proofs.NewestRange.{gave_newest, newest_ends, newest_first, newest_footers, newest_held, newest_pool, newest_words, next_pool, others, others_start}
-use Rattle.rlsf_flex.proofs.Standing.{opened, opened_whole, stood_at}
+use Rattle.rlsf_flex.proofs.InnerAllocator.{opened, opened_whole, stood_at}
 use Rattle.rlsf_flex.proofs.parts.Parts.give_newest_back.Given as given
 use Rattle.rlsf_flex.proofs.parts.Parts.give_newest_back.Goals as goal
 use Rattle.rlsf_flex.proofs.parts.Parts.give_newest_back.Goals.{After-drop_newest}

@@ -1,5 +1,5 @@
 use Rattle.std.proofs.Common.{rules, subst, sym}
-use Rattle.rlsf_flex.proofs.Standing.{flex_stood}
+use Rattle.rlsf_flex.proofs.InnerAllocator.{flex_stood}
 use Rattle.rlsf_global.specs.Locked.{IsLocked, locked_contents}
 use Rattle.rlsf_model_global.proofs.Maps.{Lists-none}
 use Rattle.rlsf_global.proofs.Placements.{locked_stands}

@@ -4,7 +4,7 @@ use Rattle.rlsf_base.specs.Space.{Space}
 use Rattle.rlsf_base.specs.declared.memory.ledger.Ledger.{Ledger}
 use Rattle.rlsf_model.specs.Callers.{align_at}
 use Rattle.rlsf_blocks.specs.Laws.{read_from}
-use Rattle.rlsf_blocks.proofs.Machine.Counted.{StandsFor-touched}
+use Rattle.rlsf_blocks.proofs.RepresentedStates.Counted.{StandsFor-touched}
 use Rattle.rlsf_heap.specs.Heap.{HeapView, IsHeap, PayloadView, heap_view, payload_view}
 use Rattle.rlsf_heap.specs.Raw.{bytes_of}
 use Rattle.rlsf_heap.proofs.Found.{found}

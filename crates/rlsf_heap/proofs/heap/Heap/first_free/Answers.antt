@@ -2,7 +2,7 @@
 use Rattle.std.proofs.Common.{◌≡◌, subst}
 use Rattle.rlsf_base.specs.Addr.{reply}
 use Rattle.rlsf_table.specs.Table.{newest_of, of_class}
-use Rattle.rlsf_blocks.proofs.Machine.Readers.{newest_of-head}
+use Rattle.rlsf_blocks.proofs.RepresentedStates.Readers.{newest_of-head}
 use Rattle.rlsf_heap.specs.Heap.{HeapView}
 use Rattle.rlsf_heap.proofs.heap.Heap.first_free.Goals as goal
 

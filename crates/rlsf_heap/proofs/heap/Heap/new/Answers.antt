@@ -6,7 +6,7 @@ use Rattle.rlsf_model.proofs.SizedWords.{live_count-empty}
 use Rattle.rlsf_model.proofs.Untouched.{untouched_empty}
 use Rattle.rlsf_blocks.specs.Laws.{read_from}
 use Rattle.rlsf_blocks.specs.StandsFor.{contents, StandsFor}
-use Rattle.rlsf_blocks.proofs.Machine.EmptyState.{StandsFor-empty}
+use Rattle.rlsf_blocks.proofs.RepresentedStates.EmptyState.{StandsFor-empty}
 use Rattle.rlsf_heap.specs.Heap.{AreIssued}
 use Rattle.rlsf_heap.proofs.Arrivals.{IsHeap-arrived, Stands-arrived}
 use Rattle.rlsf_heap.proofs.Settled.{settled-none}

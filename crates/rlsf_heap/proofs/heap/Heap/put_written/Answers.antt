@@ -17,7 +17,7 @@ use Rattle.rlsf_table.proofs.Parameters.{IsValid-widest}
 use Rattle.rlsf_blocks.specs.Steps.LiveBlock.{AtEachBlock}
 use Rattle.rlsf_blocks.specs.Laws.{read_from}
 use Rattle.rlsf_blocks.specs.StandsFor.{contents, StandsFor}
-use Rattle.rlsf_blocks.proofs.Machine.Counted.{StandsFor-touched}
+use Rattle.rlsf_blocks.proofs.RepresentedStates.Counted.{StandsFor-touched}
 use Rattle.rlsf_tlsf.specs.Steps.Moves.{bare}
 use Rattle.rlsf_heap.specs.Heap.{AreIssued, HeapView}
 use Rattle.rlsf_heap.specs.Settled.{IsSettled}

@@ -24,7 +24,7 @@ use Rattle.rlsf_heap.proofs.HandedOver.{resized_lies, resized_live, resized_own,
 use Rattle.rlsf_heap.proofs.Leaving.{lies-usable}
 use Rattle.rlsf_heap.proofs.Reallocated.{never_refused_reallocation}
 use Rattle.rlsf_heap.proofs.Reallocating.{IsBackIn, asked, block, held, here_still, long, reallocates, refused_same, stands, state, usable_is}
-use Rattle.rlsf_heap.proofs.Viewed.{did_view, fills_view, live_view, room_view, well}
+use Rattle.rlsf_heap.proofs.ReallocationViews.{did_view, fills_view, live_view, room_view, well}
 use Rattle.rlsf_heap.proofs.heap.Heap.reallocate.Given as given
 use Rattle.rlsf_heap.proofs.heap.Heap.reallocate.Goals as goal
 use Rattle.rlsf_heap.proofs.heap.Heap.reallocate.Goals.{After-hand_over-payload, After-hand_over-payload-2, In-Some, In_default-moved}

@@ -24,7 +24,7 @@ use Rattle.rlsf_heap.proofs.HandedOver.{resized_lies, resized_live, resized_own,
 use Rattle.rlsf_heap.proofs.Leaving.{lies-usable}
 use Rattle.rlsf_heap.proofs.Reallocated.{aligns_stay}
 use Rattle.rlsf_heap.proofs.Reallocating.{IsBackIn, asked, block, held, here_still, stands, state, unmoved, unmoved_moves, unmoved_refused, usable_is}
-use Rattle.rlsf_heap.proofs.Viewed.{live_view, stayed_view}
+use Rattle.rlsf_heap.proofs.ReallocationViews.{live_view, stayed_view}
 use Rattle.rlsf_heap.proofs.heap.Heap.reallocate_no_move.Given as given
 use Rattle.rlsf_heap.proofs.heap.Heap.reallocate_no_move.Goals as goal
 use Rattle.rlsf_heap.proofs.heap.Heap.reallocate_no_move.Goals.{After-hand_over-payload, After-hand_over-payload-2, After-resize_block}

@@ -42,7 +42,7 @@ use Rattle.rlsf_heap.proofs.ResizedThin.{fresh_settled, stayed, stayed_step, tic
 use Rattle.rlsf_heap.proofs.Settled.{settled-back, settled-left, settled-stays}
 use Rattle.rlsf_heap.proofs.ThinPayloads as P
 use Rattle.rlsf_heap.proofs.ThinPayloads.{IsTicketFor, shown}
-use Rattle.rlsf_heap.proofs.Viewed.{SeesChanged, aligns_view, alike_view, count_view, live_view, room_view, seen_changed, sized_view, stayed_changed, stayed_view}
+use Rattle.rlsf_heap.proofs.ReallocationViews.{SeesChanged, aligns_view, alike_view, count_view, live_view, room_view, seen_changed, sized_view, stayed_changed, stayed_view}
 use Rattle.rlsf_heap.proofs.heap.Heap.resize_thin_unknown_align.Given as given
 use Rattle.rlsf_heap.proofs.heap.Heap.resize_thin_unknown_align.Goals as goal
 use Rattle.rlsf_heap.proofs.heap.Heap.resize_thin_unknown_align.Goals.{After-put_back, After-from_parts, After-from_parts-2}

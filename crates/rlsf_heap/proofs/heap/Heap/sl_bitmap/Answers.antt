@@ -4,7 +4,7 @@ use Rattle.std.specs.List.{list_any}
 use Rattle.rlsf_int.specs.Bits.{bit}
 use Rattle.rlsf_model.specs.Allocate.{has_class}
 use Rattle.rlsf_table.specs.Table.{class_at}
-use Rattle.rlsf_blocks.proofs.Machine.Readers.{places_of-row}
+use Rattle.rlsf_blocks.proofs.RepresentedStates.Readers.{places_of-row}
 use Rattle.rlsf_heap.specs.Heap.{HeapView}
 use Rattle.rlsf_heap.proofs.heap.Heap.sl_bitmap.Goals as goal
 

@@ -30,7 +30,7 @@ use Rattle.rlsf_base.specs.Steps.Ownership.{units_ty}
 use Rattle.rlsf_base.specs.UnitPayload.{IsPlaced}
 use Rattle.rlsf_base.specs.UnitTail.{IsKept}
 use Rattle.rlsf_base.specs.contracts.memory.unit_tail.UnitTail as tail_type
-use Rattle.rlsf_base.proofs.RawBlock.Spots.{spot_val, spot_own, spot_made}
+use Rattle.rlsf_base.proofs.RawBlock.PointerValues.{spot_val, spot_own, spot_made}
 use Rattle.rlsf_base.proofs.RawBlock.Values.{two_val, two_of}
 use Rattle.rlsf_heap.specs.Heap.{Identity}
 use Rattle.rlsf_heap.specs.Units.{payload_len}

@@ -37,13 +37,13 @@ use Rattle.rlsf_base.specs.Ledger.{extent, ticket_owns}
 use Rattle.rlsf_base.specs.Steps.Ownership.{units_ty}
 use Rattle.rlsf_base.specs.UnitPayload.{IsPlaced}
 use Rattle.rlsf_base.specs.contracts.memory.unit_payload.UnitPayload as payload_type
-use Rattle.rlsf_base.proofs.RawBlock.Spots.{spot_val, spot_own, spot_told, spot_made}
+use Rattle.rlsf_base.proofs.RawBlock.PointerValues.{spot_val, spot_own, spot_told, spot_made}
 use Rattle.rlsf_base.proofs.RawBlock.Values.{two_val, two_of}
 use Rattle.rlsf_base.proofs.RawBlock.Walks.{then_runs, out_of_block}
 use Rattle.rlsf_heap.specs.Heap.{Identity}
 use Rattle.rlsf_heap.specs.Units.{heap_of, payload_len}
 use Rattle.rlsf_local.specs.Ownership.{block_beside, block_token}
-use Rattle.rlsf_local.proofs.Grains.{handed, returned}
+use Rattle.rlsf_local.proofs.SmallerUnits.{handed, returned}
 use Rattle.rlsf_local.proofs.Stretched.{array_len, block_size, block_type, emptied, parted}
 use Rattle.rlsf_local.proofs.Taken.{holds, whole as in_units}
 use Rattle.rlsf_local.proofs.Values.{list_val, list_own, list_told, list_made}

@@ -27,7 +27,7 @@ use Rattle.std.proofs.raw_atomic.Walks.{proved_at, leaves}
 use Rattle.rlsf_base.specs.Ledger.{extent, ticket_owns}
 use Rattle.rlsf_base.specs.Steps.Ownership.{units_ty}
 use Rattle.rlsf_base.specs.UnitPayload.{IsPlaced}
-use Rattle.rlsf_base.proofs.RawBlock.Spots.{spot_val, spot_told}
+use Rattle.rlsf_base.proofs.RawBlock.PointerValues.{spot_val, spot_told}
 use Rattle.rlsf_heap.specs.Heap.{Identity}
 use Rattle.rlsf_heap.specs.Units.{heap_of_tail, payload_len}
 use Rattle.rlsf_local.specs.Ownership.{block_beside}

@@ -36,7 +36,7 @@ use Rattle.rlsf_base.specs.Changes.{IsAllOwn}
 use Rattle.rlsf_base.specs.RawParts.{CanStart}
 use Rattle.rlsf_base.specs.OpenSpace.{home_of, place_in}
 use Rattle.rlsf_base.specs.Steps.Ownership.{room_at, units_ty}
-use Rattle.rlsf_base.proofs.RawBlock.Spots.{spot_val, spot_own, spot_told, spot_made, spot_typed, ptr_typed}
+use Rattle.rlsf_base.proofs.RawBlock.PointerValues.{spot_val, spot_own, spot_told, spot_made, spot_typed, ptr_typed}
 use Rattle.rlsf_base.proofs.RawBlock.Values.{two_val, two_of}
 use Rattle.rlsf_base.specs.contracts.memory.open_memory.OpenMemory as memory
 use Rattle.rlsf_base.proofs.memory.open_memory.OpenMemory.TheLaws as memory_laws

@@ -27,7 +27,7 @@ use Rattle.rlsf_base.specs.RawParts.{LiesAtBlock}
 use Rattle.rlsf_base.specs.OpenSpace.{place_in}
 use Rattle.rlsf_base.specs.UnitPayload.{IsPlaced}
 use Rattle.rlsf_base.specs.Steps.Ownership.{room_at, units_ty}
-use Rattle.rlsf_base.proofs.RawBlock.Spots.{spot_val, spot_own, spot_told, spot_made, spot_typed, ptr_typed}
+use Rattle.rlsf_base.proofs.RawBlock.PointerValues.{spot_val, spot_own, spot_told, spot_made, spot_typed, ptr_typed}
 use Rattle.rlsf_base.specs.contracts.memory.unit_payload.UnitPayload as payload_type
 use Rattle.rlsf_base.specs.contracts.memory.block.RawParts as parts_type
 use Rattle.rlsf_base.proofs.memory.block.RawParts.TheLaws as parts_laws

@@ -32,13 +32,13 @@ use Rattle.std.proofs.raw_atomic.Walks.{proved_at, leaves}
 use Rattle.rlsf_base.specs.Steps.Ownership.{units_ty}
 use Rattle.rlsf_base.specs.UnitPayload.{IsPlaced}
 use Rattle.rlsf_base.specs.contracts.memory.unit_payload.UnitPayload as payload
-use Rattle.rlsf_base.proofs.RawBlock.Spots.{spot_val, spot_own, spot_made}
+use Rattle.rlsf_base.proofs.RawBlock.PointerValues.{spot_val, spot_own, spot_made}
 use Rattle.rlsf_heap.specs.Heap.{Identity}
 use Rattle.rlsf_heap.specs.Units.{heap_of, payload_len}
 use Rattle.rlsf_local.specs.contracts.local.payload_len as sizer
 use Rattle.rlsf_local.proofs.local.payload_len.Met.{met as sizes}
 use Rattle.rlsf_local.specs.Ownership.{block_beside, block_token}
-use Rattle.rlsf_local.proofs.Grains.{returned}
+use Rattle.rlsf_local.proofs.SmallerUnits.{returned}
 use Rattle.rlsf_local.proofs.Taken.{holds, whole}
 use Rattle.rlsf_local.specs.contracts.local.LocalHeap.give as callee
 use Rattle.rlsf_local.proofs.local.LocalHeap.give.Met.{met as gives}

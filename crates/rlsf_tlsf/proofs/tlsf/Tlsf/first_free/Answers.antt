@@ -2,7 +2,7 @@
 use Rattle.std.proofs.Common.{◌≡◌, subst}
 use Rattle.rlsf_base.specs.Addr.{reply}
 use Rattle.rlsf_table.specs.Table.{newest_of, of_class}
-use Rattle.rlsf_blocks.proofs.Machine.Readers.{newest_of-head}
+use Rattle.rlsf_blocks.proofs.RepresentedStates.Readers.{newest_of-head}
 use Rattle.rlsf_tlsf.specs.Allocator.{Allocator}
 use Rattle.rlsf_tlsf.proofs.tlsf.Tlsf.first_free.Goals as goal
 

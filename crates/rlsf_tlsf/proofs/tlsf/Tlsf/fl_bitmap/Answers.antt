@@ -3,7 +3,7 @@ use Rattle.std.proofs.Common.{◌≡◌, ℕ, subst}
 use Rattle.std.specs.List.{list_any}
 use Rattle.rlsf_int.specs.Bits.{bit}
 use Rattle.rlsf_table.specs.Table.{is_in_row}
-use Rattle.rlsf_blocks.proofs.Machine.Readers.{rows_of-first_level}
+use Rattle.rlsf_blocks.proofs.RepresentedStates.Readers.{rows_of-first_level}
 use Rattle.rlsf_tlsf.specs.Allocator.{Allocator}
 use Rattle.rlsf_tlsf.proofs.tlsf.Tlsf.fl_bitmap.Goals as goal
 

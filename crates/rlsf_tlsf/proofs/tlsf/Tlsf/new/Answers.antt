@@ -9,7 +9,7 @@ use Rattle.rlsf_model.proofs.SizedWords.{live_count-empty}
 use Rattle.rlsf_model.proofs.Untouched.{untouched_empty}
 use Rattle.rlsf_blocks.specs.Laws.{read_from}
 use Rattle.rlsf_blocks.specs.StandsFor.{contents, StandsFor}
-use Rattle.rlsf_blocks.proofs.Machine.EmptyState.{StandsFor-empty}
+use Rattle.rlsf_blocks.proofs.RepresentedStates.EmptyState.{StandsFor-empty}
 use Rattle.rlsf_tlsf.proofs.Arrivals.{IsAllocator-arrived, Stands-arrived}
 use Rattle.rlsf_tlsf.proofs.tlsf.Tlsf.new.Given as given
 use Rattle.rlsf_tlsf.proofs.tlsf.Tlsf.new.Goals as goal

@@ -11,7 +11,7 @@ use Rattle.rlsf_table.specs.Counts.{Counts}
 use Rattle.rlsf_blocks.specs.Laws.{read_from}
 use Rattle.rlsf_blocks.specs.Spare.{KeepsSpare}
 use Rattle.rlsf_blocks.specs.StandsFor.{contents, StandsFor}
-use Rattle.rlsf_blocks.proofs.Machine.Counted.{KeepsSpare-counted, KeepsSpare-counted_first, StandsFor-touched}
+use Rattle.rlsf_blocks.proofs.RepresentedStates.Counted.{KeepsSpare-counted, KeepsSpare-counted_first, StandsFor-touched}
 use Rattle.rlsf_reallocate.specs.Steps.Resize.{IsUsedAt}
 use Rattle.rlsf_reallocate.proofs.Reallocate.FirstPlan.{StandsFor-unchanged}
 use Rattle.rlsf_tlsf.specs.Allocator.{Allocator, allocator, Steps}

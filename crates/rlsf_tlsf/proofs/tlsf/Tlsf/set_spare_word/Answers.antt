@@ -5,7 +5,7 @@ use Rattle.rlsf_base.proofs.Lending.Whole.{none-with}
 use Rattle.rlsf_blocks.specs.Laws.{read_from}
 use Rattle.rlsf_blocks.specs.Spare.{IsSpareWord}
 use Rattle.rlsf_blocks.specs.StandsFor.{contents, StandsFor}
-use Rattle.rlsf_blocks.proofs.Machine.SpareWords.{StandsFor-spare_word}
+use Rattle.rlsf_blocks.proofs.RepresentedStates.SpareWords.{StandsFor-spare_word}
 use Rattle.rlsf_tlsf.specs.Allocator.{Allocator}
 use Rattle.rlsf_tlsf.proofs.Arrivals.{IsAllocator-arrived, Stands-arrived, arrived, bare-kept}
 use Rattle.rlsf_tlsf.proofs.Opened.{IsAllocator-opened, view-opened}

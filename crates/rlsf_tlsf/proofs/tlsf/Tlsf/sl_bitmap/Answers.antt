@@ -4,7 +4,7 @@ use Rattle.std.specs.List.{list_any}
 use Rattle.rlsf_int.specs.Bits.{bit}
 use Rattle.rlsf_model.specs.Allocate.{has_class}
 use Rattle.rlsf_table.specs.Table.{class_at}
-use Rattle.rlsf_blocks.proofs.Machine.Readers.{places_of-row}
+use Rattle.rlsf_blocks.proofs.RepresentedStates.Readers.{places_of-row}
 use Rattle.rlsf_tlsf.specs.Allocator.{Allocator}
 use Rattle.rlsf_tlsf.proofs.tlsf.Tlsf.sl_bitmap.Goals as goal
 

@@ -25,7 +25,7 @@ use Rattle.rlsf_base.specs.Steps.Ownership.{held, bytes_own, ways_of, own_unit}
 use Rattle.rlsf_base.proofs.RawBlock.Rows.{Row, comes, clash_row, held-in}
 use Rattle.rlsf_base.proofs.Changes.{own-in}
 use Rattle.rlsf_base.proofs.RawBlock.Units.{Shares, parted, around-back, ways_join, back-own}
-use Rattle.rlsf_base.proofs.RawBlock.Marks.{bytes_vals, bytes_Tells}
+use Rattle.rlsf_base.proofs.RawBlock.OwnerValues.{bytes_vals, bytes_Tells}
 use Rattle.rlsf_base.proofs.RawBlock.Parts.{in_its_block}
 use Rattle.rlsf_base.proofs.RawBlock.Values.{mark_val}
 use Rattle.rlsf_base.proofs.RawBlock.Walks.{learns}

@@ -24,7 +24,7 @@ use Rattle.rlsf_base.specs.Steps.Ownership.{bytes_ty, held, bytes_own, ways_of, 
 use Rattle.rlsf_base.proofs.RawBlock.Rows.{comes_raw, clash, held-room}
 use Rattle.rlsf_base.proofs.Changes.{raw-own}
 use Rattle.rlsf_base.proofs.RawBlock.Units.{Shares, parted, around-raw, ways_join}
-use Rattle.rlsf_base.proofs.RawBlock.Marks.{bytes_vals, bytes_Tells}
+use Rattle.rlsf_base.proofs.RawBlock.OwnerValues.{bytes_vals, bytes_Tells}
 use Rattle.rlsf_base.proofs.RawBlock.Parts.{in_its_block}
 use Rattle.rlsf_base.proofs.RawBlock.Values.{mark_val}
 use Rattle.rlsf_base.proofs.RawBlock.Walks.{learns}

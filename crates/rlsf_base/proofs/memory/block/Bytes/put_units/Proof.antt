@@ -22,7 +22,7 @@ use Rattle.rlsf_base.specs.Changes.{IsOut, came_raw}
 use Rattle.rlsf_base.specs.Steps.Owners.{Has}
 use Rattle.rlsf_base.specs.Steps.Ownership.{held, ways_of, own_unit, bytes_own, units_own}
 use Rattle.rlsf_base.proofs.RawBlock.Grid.{puts_units, clash_units}
-use Rattle.rlsf_base.proofs.RawBlock.Marks.{units_vals, units_Tells}
+use Rattle.rlsf_base.proofs.RawBlock.OwnerValues.{units_vals, units_Tells}
 use Rattle.rlsf_base.proofs.RawBlock.Values.{mark_val}
 use Rattle.rlsf_base.proofs.RawBlock.Walks.{learns}
 use Rattle.rlsf_base.specs.contracts.memory.block.Bytes as owner

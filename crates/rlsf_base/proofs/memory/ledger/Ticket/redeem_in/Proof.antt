@@ -18,7 +18,7 @@ use Rattle.core.proofs.mem.Facts.{says_three}
 use Rattle.std.proofs.raw_atomic.Walks.{proved}
 use Rattle.rlsf_base.specs.Ledger.{Extent, entry_of, extent, ledger_owns, ticket_owns, IsIssued}
 use Rattle.rlsf_base.proofs.RawBlock.Tickets.{redeems}
-use Rattle.rlsf_base.proofs.RawBlock.Marks.{ticket_vals, ticket_Tells}
+use Rattle.rlsf_base.proofs.RawBlock.OwnerValues.{ticket_vals, ticket_Tells}
 use Rattle.rlsf_base.proofs.RawBlock.Values.{mark_val}
 use Rattle.rlsf_base.specs.contracts.memory.ledger.Ledger as ledger
 use Rattle.rlsf_base.specs.contracts.memory.ledger.Ticket as ticket

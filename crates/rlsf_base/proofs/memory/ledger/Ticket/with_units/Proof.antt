@@ -27,9 +27,9 @@ use Rattle.rlsf_base.specs.Ledger.{extent, ticket_owns}
 use Rattle.rlsf_base.specs.Piece.{home_from}
 use Rattle.rlsf_base.specs.Steps.Ownership.{units_ty, units_own}
 use Rattle.rlsf_base.specs.UnitPayload.{IsPlaced, pointer_to}
-use Rattle.rlsf_base.proofs.RawBlock.Marks.{bytes_vals, bytes_Tells, ticket_vals, ticket_Tells, units_vals, units_Tells, view_vals, view_Tells}
+use Rattle.rlsf_base.proofs.RawBlock.OwnerValues.{bytes_vals, bytes_Tells, ticket_vals, ticket_Tells, units_vals, units_Tells, view_vals, view_Tells}
 use Rattle.rlsf_base.proofs.RawBlock.Parts.{placed_in_block}
-use Rattle.rlsf_base.proofs.RawBlock.Spots.{spot_val, spot_own, spot_made, view_val, view_fits}
+use Rattle.rlsf_base.proofs.RawBlock.PointerValues.{spot_val, spot_own, spot_made, view_val, view_fits}
 use Rattle.rlsf_base.proofs.RawBlock.Values.{mark_val}
 use Rattle.rlsf_base.specs.contracts.memory.view.View as view_type
 use Rattle.rlsf_base.specs.contracts.memory.block.Bytes as bytes_type

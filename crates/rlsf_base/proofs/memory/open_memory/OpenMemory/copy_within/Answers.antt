@@ -5,7 +5,7 @@ use Rattle.rlsf_base.specs.Range.{range_at}
 use Rattle.rlsf_base.specs.Space.{Space, bytes_in, with_bytes}
 use Rattle.rlsf_base.specs.Steps.Block.{start_of}
 use Rattle.rlsf_base.specs.OpenSpace.{out_with}
-use Rattle.rlsf_base.proofs.Lending.Beside.{with-here, with-same_own, with-stays}
+use Rattle.rlsf_base.proofs.Lending.BytesBeside.{with-here, with-same_own, with-stays}
 use Rattle.rlsf_base.proofs.Lending.Memories.{with_contents}
 use Rattle.rlsf_base.proofs.Lending.Placed.{can_lend, can_write, placed}
 use Rattle.rlsf_base.proofs.Words.Splices.{length-part, length-splice}

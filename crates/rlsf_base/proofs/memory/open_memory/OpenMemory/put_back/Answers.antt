@@ -4,7 +4,7 @@ use Rattle.rlsf_base.specs.Out.{Change, is_own, kept_at}
 use Rattle.rlsf_base.specs.Piece.{piece_range}
 use Rattle.rlsf_base.specs.Range.{LiesIn}
 use Rattle.rlsf_base.specs.Space.{Space, with_bytes}
-use Rattle.rlsf_base.proofs.Lending.Beside.{with-here, with-own, with-stays}
+use Rattle.rlsf_base.proofs.Lending.BytesBeside.{with-here, with-own, with-stays}
 use Rattle.rlsf_base.proofs.Lending.Replaced.{bytes_in-there, bytes_in-with}
 use Rattle.rlsf_base.specs.OpenSpace.{Home, out_with}
 use Rattle.rlsf_base.specs.Steps.Block.{start_of, view_of}

@@ -5,7 +5,7 @@ use Rattle.rlsf_base.specs.Piece.{piece_range}
 use Rattle.rlsf_base.specs.Range.{LiesIn}
 use Rattle.rlsf_base.specs.Space.{Space}
 use Rattle.rlsf_base.specs.Steps.Block.{start_of}
-use Rattle.rlsf_base.proofs.Lending.Beside.{changed-own, changed-own_stays, changed-stays}
+use Rattle.rlsf_base.proofs.Lending.BytesBeside.{changed-own, changed-own_stays, changed-stays}
 use Rattle.rlsf_base.proofs.Lending.Memories.{with_contents}
 use Rattle.rlsf_base.proofs.memory.open_memory.OpenMemory.put_room.Goals as goal
 

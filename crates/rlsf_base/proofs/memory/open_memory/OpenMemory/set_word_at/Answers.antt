@@ -3,7 +3,7 @@ use Rattle.std.specs.List.{splice}
 use Rattle.rlsf_base.specs.Changes.{came_back}
 use Rattle.rlsf_base.specs.OpenSpace.{out_with}
 use Rattle.rlsf_base.specs.Space.{Space, with_word, word_range}
-use Rattle.rlsf_base.proofs.Lending.Beside.{with-here, with-stays}
+use Rattle.rlsf_base.proofs.Lending.BytesBeside.{with-here, with-stays}
 use Rattle.rlsf_base.proofs.Lending.Placed.{can_write, placed}
 use Rattle.rlsf_base.proofs.Words.Written.{is_own-written, length-with_word}
 use Rattle.rlsf_base.proofs.memory.open_memory.OpenMemory.set_word_at.Goals as goal

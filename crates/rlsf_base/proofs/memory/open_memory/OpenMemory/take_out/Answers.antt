@@ -7,7 +7,7 @@ use Rattle.rlsf_base.specs.Steps.Ownership.{units_in}
 use Rattle.rlsf_base.specs.OpenSpace.{out_without}
 use Rattle.rlsf_base.specs.Out.{is_own, kept_at, out as gone}
 use Rattle.rlsf_base.proofs.Changes.{shifted-at, shifted-own}
-use Rattle.rlsf_base.proofs.Lending.Beside.{changed-own_stays, changed-stays}
+use Rattle.rlsf_base.proofs.Lending.BytesBeside.{changed-own_stays, changed-stays}
 use Rattle.rlsf_base.proofs.Lending.Present.{own-in}
 use Rattle.rlsf_base.proofs.Lending.Memories.{with_contents}
 use Rattle.rlsf_base.proofs.Lending.Placed.{can_write}

@@ -17,7 +17,7 @@ use Rattle.core.proofs.alloc.Calls.{Goes-blank}
 use Rattle.std.proofs.raw_atomic.Walks.{proved}
 use Rattle.rlsf_base.specs.OpenSpace.{place_in}
 use Rattle.rlsf_base.specs.Steps.Ownership.{units_ty, units_own}
-use Rattle.rlsf_base.proofs.RawBlock.Spots.{spot_val, spot_own, spot_told, spot_made, spot_typed, ptr_typed, three_typed, units_at}
+use Rattle.rlsf_base.proofs.RawBlock.PointerValues.{spot_val, spot_own, spot_told, spot_made, spot_typed, ptr_typed, three_typed, units_at}
 use Rattle.rlsf_base.proofs.RawBlock.Values.{mark_val, mark_own, mark_made, three_val, three_of}
 use Rattle.rlsf_base.proofs.memory.unit_payload.UnitPayload.TheLaws.{lowers}
 use Rattle.rlsf_base.specs.contracts.memory.block.Units as units_type

@@ -25,7 +25,7 @@ use Rattle.core.proofs.alloc.Shapes.{after}
 use Rattle.std.proofs.raw_atomic.Walks.{proved}
 use Rattle.rlsf_base.specs.OpenSpace.{place_in}
 use Rattle.rlsf_base.specs.Steps.Ownership.{units_ty, units_own}
-use Rattle.rlsf_base.proofs.RawBlock.Spots.{spot_val, spot_own, spot_told, spot_made, spot_typed}
+use Rattle.rlsf_base.proofs.RawBlock.PointerValues.{spot_val, spot_own, spot_told, spot_made, spot_typed}
 use Rattle.rlsf_base.proofs.RawBlock.Values.{mark_val, mark_own, mark_made, three_val, three_of}
 use Rattle.rlsf_base.proofs.memory.unit_tail.UnitTail.TheLaws.{lowers}
 use Rattle.rlsf_base.specs.contracts.memory.block.Units as units_type

@@ -18,7 +18,7 @@ use Rattle.rlsf_blocks.specs.Spare.{IsSpareWord}
 use Rattle.rlsf_blocks.specs.StandsFor.{contents, StandsFor}
 use Rattle.rlsf_table.specs.Table.{Table}
 use Rattle.rlsf_blocks.proofs.Deallocate.Addresses.{IsReadable-before}
-use Rattle.rlsf_blocks.proofs.Machine.FreeBlocks.{CanBeBlock-free}
+use Rattle.rlsf_blocks.proofs.RepresentedStates.FreeBlocks.{CanBeBlock-free}
 use Rattle.rlsf_blocks.proofs.Words.Apart.{home_of_free, home_of_used, used_in_memory}
 
 module _ {fllen sllen : ℕ} {m : Space} {t : Table} {s : State} (old : StandsFor fllen sllen (contents m t) s) (addr word : ℕ) (is : IsSpareWord m s addr)

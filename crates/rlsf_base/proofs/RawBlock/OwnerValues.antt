@@ -2,7 +2,7 @@
 use Rattle.std.proofs.Common.{List, [], ◌∷◌}
 use mir.Val.{Val}
 use denote.Laws.{Tells, Is}
-use Rattle.rlsf_base.proofs.RawBlock.Spots.{view_val}
+use Rattle.rlsf_base.proofs.RawBlock.PointerValues.{view_val}
 use Rattle.rlsf_base.proofs.RawBlock.Values.{mark_val}
 use Rattle.rlsf_base.proofs.memory.block.Bytes.TheLaws.{lowers as bytes_lowers}
 use Rattle.rlsf_base.proofs.memory.block.Units.TheLaws.{lowers as units_lowers}
