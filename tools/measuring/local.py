@@ -1,7 +1,7 @@
 """Compares `LocalHeap`, the allocator of collections, with `linked_list_allocator` and `bumpalo` of the kit, and with the system's allocator.
 
 It needs the Rattle toolchain (`rt`), whose kit has both crates, and valgrind. A folder outside the repository gets copies of the crates below
-`rlsf_local` and the program `tools/measuring/local.txt`, which `rt run` proves and builds there. A second run takes the program that is
+`rlsf_local_heap` and the program `tools/measuring/local.txt`, which `rt run` proves and builds there. A second run takes the program that is
 there. Twice as many slots as there are live blocks are filled with blocks of 1 to 512 bytes, and every other block is freed, from the last to
 the first. Then a step chooses a slot at random, and fills it or frees its block. The steps are counted, or timed."""
 import pathlib
@@ -16,7 +16,7 @@ from measuring.options import ROOT
 ALLOCATORS = {"rlsf": "**`LocalHeap`**", "first_fit": "`linked_list_allocator`", "bump": "`bumpalo`", "global": "`Global`"}
 LIVE = [10, 100, 1_000, 10_000, 100_000]
 COPIED = ["int", "base", "model", "table", "blocks", "consistency_check", "reallocate", "tlsf", "heap", "local"]
-LIBRARIES = "bumpalo linked_list_allocator rlsf_base rlsf_blocks rlsf_consistency_check rlsf_heap rlsf_int rlsf_local rlsf_model rlsf_reallocate rlsf_table rlsf_tlsf"
+LIBRARIES = "bumpalo linked_list_allocator rlsf_base rlsf_blocks rlsf_consistency_check rlsf_heap rlsf_int rlsf_local_heap rlsf_model rlsf_reallocate rlsf_table rlsf_tlsf"
 NAME = "measured_local"
 # The functions of the program that call the allocator.
 CALLS = ["*counted_allocate*", "*counted_free*"]

@@ -3,11 +3,11 @@
 #![tactic(auto)]
 
 ghost use Rattle.std.specs.Prelude.{◌≡◌};
-ghost use Rattle.rlsf_local.specs.Tenants.{lessor};
+ghost use Rattle.rlsf_local_heap.specs.Tenants.{lessor};
 
 use rlsf_base::memory::{OpenMemory, Range};
 use rlsf_heap::Heap;
-use rlsf_local::Tenant;
+use rlsf_local_heap::Tenant;
 use std::alloc::{AllocError, Allocator, Global};
 use std::collections::BTreeMap;
 use std::io;

@@ -2,9 +2,9 @@
 //! other payloads are.
 //!
 //! Read `payload.rt`, `handover.rt` and `heap.rt` first, then `deallocation.rt`, `reallocation.rt`, `pools.rt` and `reading.rt`. `apart.rt`
-//! states the laws of payloads that are out together, and `raw.rt` takes payloads apart. `thin.rt` has those of which a caller knows
-//! only the address, with their calls in `thin_calls.rt`, `thin_reallocation.rt` and `thin_unknown_align.rt`, and `units.rt` has
-//! those of `rlsf_local`. `consistency.rt` reads the words of a pool again. `usable.rt` is a helper.
+//! states the laws of payloads that are out together, and `raw.rt` takes payloads apart. `thin.rt` has `ThinPayload`, a
+//! payload known by its address, with its calls in `thin_calls.rt`, `thin_reallocation.rt` and `thin_unknown_align.rt`. `units.rt` has
+//! the payloads that `rlsf_local_heap` uses. `consistency.rt` reads the words of a pool again. `usable.rt` is a helper.
 //! `specs/Heap.antt` defines what contracts see.
 #![tactic(auto)]
 

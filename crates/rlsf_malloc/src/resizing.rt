@@ -20,6 +20,7 @@ fn is_narrow<F: BitPattern, S: BitPattern, const FLLEN: usize, const SLLEN: usiz
     requires { IsLiveAligned heap.now addr }
     ensures { IsTrue result ↔ (align_at heap.now.state addr ≡ Some 16) }
 {
+    // By this call the state is known to be well-formed.
     heap.memory_ref();
     addr % 32 != 0
 }

@@ -8,7 +8,7 @@ use crate::in_place::{
 };
 use rlsf_base::memory::{OpenMemory, Range};
 use rlsf_heap::Heap;
-use rlsf_local::{LocalHeap, Tenant};
+use rlsf_local_heap::{LocalHeap, Tenant};
 use std::alloc::{AllocError, Allocator};
 use std::collections::{BTreeMap, HashMap, VecDeque};
 use std::mem::ManuallyDrop;

@@ -1,7 +1,7 @@
 //! What is printed of an allocator of collections.
 use crate::answers::all;
 use rlsf_heap::Heap;
-use rlsf_local::LocalHeap;
+use rlsf_local_heap::LocalHeap;
 use std::alloc::{AllocError, Allocator, Global};
 use std::process::Abort;
 use std::test::Fail;

@@ -1,0 +1,324 @@
+//! The allocator: a heap behind a `&`, whose blocks grow and shrink in place where they can.
+ghost use Rattle.std.specs.Prelude.{◌≡◌, ◌*◌, ◌^◌, ◌<◌, ◌≤◌, min, IfSome, MatchResult};
+ghost use Rattle.std.specs.Mem.{type_size};
+ghost use Rattle.rlsf_base.specs.SizeClass.{IsValid};
+ghost use Rattle.rlsf_heap.specs.Units.{heap_of, heap_of_tail, payload_len};
+ghost use Rattle.rlsf_local_heap.specs.Ownership.{block_token};
+ghost use Rattle.rlsf_local_heap.specs.Resized.{IsAtSamePlace};
+
+use crate::buffer::Buffer;
+use crate::slot::Slot;
+use crate::unit_heap::{UNIT, UnitHeap};
+use rlsf_base::memory::{MemoryError, OpenMemory, Range, UnitPayload, UnitTail};
+use rlsf_heap::Heap;
+use rlsf_int::BitPattern;
+use std::alloc::{AllocError, Allocator, Global};
+use std::cell::Cell;
+use std::fmt;
+use std::marker::PhantomData;
+use std::mem::{ManuallyDrop, size_of};
+
+/// The address at which the memory of a heap begins that `LocalHeap::new` makes. Any multiple of 32 but 0 would do.
+const START: usize = 4096;
+
+/// The bytes of a block that are not its payload's: two words before it.
+const HEADER: usize = 16;
+
+// Returns the length of the payload for `size` bytes: the least number that is at least `size` and 16 less than a multiple of 32.
+fn payload_len(size: usize) -> usize
+    requires { size < 2 ^ 63 }
+    ensures { result ≡ payload_len size }
+{
+    (size + 47) / 32 * 32 - 16
+}
+
+// Returns the length of the payload of an array of `cap` values.
+fn array_len<T>(cap: usize) -> usize
+    requires { cap * type_size T.row < 2 ^ 63 }
+    ensures { result ≡ payload_len (cap * type_size T.row) }
+{
+    payload_len(cap * size_of::<T>())
+}
+
+/// A heap as the allocator of one thread's collections, which hold a `&` to it.
+///
+/// `allocate` and `deallocate` take a bounded number of word accesses, however many blocks are out. So do `grow` and `shrink`, but
+/// for the values that move. A block that grows stays at its address if the block behind it is free and long enough, as
+/// `Heap::resize_units` says. Otherwise its values move to a new block. A block that shrinks always stays, and the heap has the
+/// bytes behind it again.
+///
+/// Alignments up to 16 are served; a greater one is refused. The heap's memory must have units of 16 bytes (`Heap::has_units`),
+/// as a memory has that the system allocated; otherwise each allocation is refused.
+///
+/// Dropping it drops the heap, which deallocates its memory if no block is out.
+pub struct LocalHeap<H: UnitHeap> {
+    slot: Slot<H>,
+    // The bytes of the blocks that were allocated here and are out. They lie in one memory, so that the count never saturates.
+    used: Cell<usize>,
+}
+
+impl<FLBitmap: BitPattern, SLBitmap: BitPattern, const FLLEN: usize, const SLLEN: usize> LocalHeap<
+    Box<Heap<FLBitmap, SLBitmap, FLLEN, SLLEN>>,
+> {
+    /// Creates an allocator over a new memory of `len` bytes, which are one pool. No pool is made, and each allocation is
+    /// refused, if `len` is less than 64.
+    ///
+    /// Returns an error if the system has no such memory, or none for the heap's own fields. The parameters of the heap must be valid (`Heap::new`).
+    pub fn new(alloc: Global, len: usize) -> Result<Self, MemoryError>
+        requires { IsValid FLBitmap.width SLBitmap.width FLLEN SLLEN }
+    {
+        let memory = OpenMemory::reserve(alloc, START, len)?;
+        let mut heap = Heap::new(memory);
+        heap.insert_free_block_ptr(Range { start: START, len });
+        match Box::new(alloc, heap) {
+            Ok(heap) => Ok(LocalHeap::from(heap)),
+            Err(_) => Err(MemoryError::OutOfMemory),
+        }
+    }
+}
+
+impl<H: UnitHeap> LocalHeap<H> {
+    /// Returns the number of bytes of the heap's memory. No clause states this number: nothing is known of a heap through a `&`.
+    pub fn size(&self) -> usize {
+        self.counts().0
+    }
+
+    /// Returns the number of bytes of the blocks that were allocated here and are out. A block has 16 bytes more than its
+    /// payload, which has as many bytes as were requested or up to 31 more. It takes constant time. No clause states this number.
+    pub fn used(&self) -> usize {
+        self.used.get()
+    }
+
+    /// Returns the number of the other bytes of the heap's memory, so that `used` and `free` together are `size`. A request
+    /// for as many can be refused: a free block is needed that is long enough, and the heap keeps some bytes for itself. It
+    /// takes constant time. No clause states this number.
+    pub fn free(&self) -> usize {
+        self.size().saturating_sub(self.used())
+    }
+
+    /// Returns the number of payloads of the heap that are out. No clause states this number.
+    pub fn live(&self) -> usize {
+        self.counts().1
+    }
+
+    /// Consumes the allocator and returns its heap, in which the blocks that are out stay live. It is never `None`.
+    pub fn into_heap(self) -> Option<H>
+        ensures { IfSome result (λ h. H.identity h ≡ self.slot) }
+    {
+        let LocalHeap { slot, used: _ } = self;
+        slot.into_inner()
+    }
+
+    // Counts a block with a payload of `len` bytes as out.
+    fn count(&self, len: usize) {
+        self.used
+            .set(self.used.get().saturating_add(len).saturating_add(HEADER));
+    }
+
+    // Counts a block with a payload of `len` bytes as out no longer.
+    fn discount(&self, len: usize) {
+        self.used
+            .set(self.used.get().saturating_sub(len).saturating_sub(HEADER));
+    }
+
+    // The slot is empty only while one of the functions below runs, and they call nothing that could come back here.
+    fn counts(&self) -> (usize, usize) {
+        let Some(heap) = self.slot.replace(None) else {
+            return (0, 0);
+        };
+        let counts = (heap.size(), heap.live());
+        self.slot.replace(Some(heap));
+        counts
+    }
+
+    pub(crate) fn take(&self, size: usize, align: usize) -> Option<UnitPayload>
+        ensures { IfSome result (λ p. (heap_of p ≡ self.now.slot) × (p.len ≡ payload_len size) × (size < 2 ^ 63) × (align ≤ 16)) }
+    {
+        if align > UNIT {
+            return None;
+        }
+        let mut heap = self.slot.replace(None)?;
+        let payload = heap.take(size);
+        self.slot.replace(Some(heap));
+        if payload.is_some() {
+            self.count(payload_len(size));
+        }
+        payload
+    }
+
+    // `len` is the payload's.
+    pub(crate) fn give(&self, payload: UnitPayload, len: usize)
+        requires { heap_of payload ≡ self.now.slot }
+    {
+        match self.slot.replace(None) {
+            Some(mut heap) => {
+                heap.give(payload);
+                self.slot.replace(Some(heap));
+                self.discount(len);
+            }
+            None => {
+                let _lost = unsafe { ManuallyDrop::new_unchecked(payload) };
+            }
+        }
+    }
+
+    // Gives a payload the length for `size` bytes without moving it, as `UnitHeap::resize` does. Refuses sizes that no payload has.
+    fn resize(&self, tail: UnitTail, len: usize, size: usize) -> Result<UnitTail, UnitTail>
+        requires heap { heap_of_tail tail ≡ self.now.slot }
+        requires len { len ≡ tail.len }
+        requires small { size < 2 ^ 63 }
+        requires kept { tail.kept ≡ min tail.len (payload_len size) }
+        ensures { MatchResult result (λ p. IsAtSamePlace tail p (payload_len size)) (λ p. IsAtSamePlace tail p tail.len) }
+    {
+        if size > isize::MAX as usize - UNIT {
+            return Err(tail);
+        }
+        let Some(mut heap) = self.slot.replace(None) else {
+            return Err(tail);
+        };
+        let resized = heap.resize(tail, len, size);
+        self.slot.replace(Some(heap));
+        if resized.is_ok() {
+            self.discount(len);
+            self.count(payload_len(size));
+        }
+        resized
+    }
+
+    // Gives a block with `len` values another number of places. It stays where it is, or moves if it can't get more there. Returns it as
+    // it was if the heap refuses both.
+    pub(crate) fn resized<T>(
+        &self,
+        buffer: Buffer<T>,
+        len: usize,
+        old_cap: usize,
+        new_cap: usize,
+    ) -> Result<Buffer<T>, Buffer<T>>
+        requires buffer { (buffer.heap ≡ self.now.slot) × (buffer.len ≡ len) × (buffer.cap ≡ old_cap) }
+        requires sizes { (len ≤ old_cap) × (len ≤ new_cap) × (old_cap * type_size T.row < 2 ^ 63) × (new_cap * type_size T.row < 2 ^ 63) }
+        ensures { MatchResult result (λ b. (b.heap ≡ buffer.heap) × (b.len ≡ len) × (b.cap ≡ new_cap) × (b.items ≡ buffer.items))
+            (λ b. (b.ptr ≡ buffer.ptr) × (b.heap ≡ buffer.heap) × (b.len ≡ len) × (b.cap ≡ old_cap) × (b.items ≡ buffer.items)) }
+    {
+        let whole = array_len::<T>(old_cap);
+        let (seats, tail) = buffer.lend(whole, old_cap.min(new_cap));
+        match self.resize(tail, whole, new_cap * size_of::<T>()) {
+            Ok(tail) => Ok(seats.with(tail, new_cap)),
+            Err(tail) => {
+                let buffer = seats.with(tail, old_cap);
+                if old_cap < new_cap {
+                    self.moved(buffer, len, whole, new_cap)
+                } else {
+                    Err(buffer)
+                }
+            }
+        }
+    }
+
+    // Moves the `len` values of a block to a new one, and deallocates the old one. `whole` is the length of the old one's payload.
+    fn moved<T>(
+        &self,
+        buffer: Buffer<T>,
+        len: usize,
+        whole: usize,
+        new_cap: usize,
+    ) -> Result<Buffer<T>, Buffer<T>>
+        requires buffer { (buffer.heap ≡ self.now.slot) × (buffer.len ≡ len) × (whole ≡ payload_len (buffer.cap * type_size T.row)) }
+        requires sizes { (len ≤ buffer.cap) × (len ≤ new_cap) × (new_cap * type_size T.row < 2 ^ 63) }
+        ensures { MatchResult result (λ b. (b.heap ≡ buffer.heap) × (b.len ≡ len) × (b.cap ≡ new_cap) × (b.items ≡ buffer.items))
+            (λ b. (b.ptr ≡ buffer.ptr) × (b.heap ≡ buffer.heap) × (b.len ≡ len) × (b.cap ≡ buffer.cap) × (b.items ≡ buffer.items)) }
+    {
+        // A payload has the greatest alignment of a type.
+        let Some(payload) = self.take(new_cap * size_of::<T>(), UNIT) else {
+            return Err(buffer);
+        };
+        let (buffer, old) = buffer.move_to(payload, len, whole, new_cap);
+        self.give(old, whole);
+        Ok(buffer)
+    }
+}
+
+impl<H: UnitHeap> From<H> for LocalHeap<H> {
+    fn from(heap: H) -> LocalHeap<H>
+        ensures { result.slot ≡ H.identity heap }
+    {
+        LocalHeap {
+            slot: Slot::new(heap),
+            used: Cell::new(0),
+        }
+    }
+}
+
+unsafe impl<H: UnitHeap> Allocator for LocalHeap<H> {
+    ghost dealloc_token = { λ heap. block_token heap.slot };
+
+    fn allocate(&self, size: usize, align: usize) -> Result<*mut u8, AllocError> {
+        match self.take(size, align) {
+            Some(UnitPayload { ptr, len: _ }) => Ok(ptr),
+            None => Err(AllocError),
+        }
+    }
+
+    unsafe fn deallocate(&self, ptr: *mut u8, size: usize, _align: usize) {
+        let len = payload_len(size);
+        self.give(UnitPayload { ptr, len }, len);
+    }
+
+    unsafe fn grow<T>(
+        &self,
+        ptr: *mut T,
+        len: usize,
+        old_cap: usize,
+        new_cap: usize,
+    ) -> Result<*mut T, AllocError> {
+        match self.resized(
+            Buffer {
+                ptr,
+                marker: PhantomData,
+            },
+            len,
+            old_cap,
+            new_cap,
+        ) {
+            Ok(Buffer { ptr, marker: _ }) => Ok(ptr),
+            Err(Buffer { ptr: _, marker: _ }) => Err(AllocError),
+        }
+    }
+
+    unsafe fn shrink<T>(
+        &self,
+        ptr: *mut T,
+        len: usize,
+        cap: usize,
+        fewer: usize,
+    ) -> Result<*mut T, AllocError> {
+        match self.resized(
+            Buffer {
+                ptr,
+                marker: PhantomData,
+            },
+            len,
+            cap,
+            fewer,
+        ) {
+            Ok(Buffer { ptr, marker: _ }) => Ok(ptr),
+            Err(Buffer { ptr: _, marker: _ }) => Err(AllocError),
+        }
+    }
+}
+
+impl<H: UnitHeap> fmt::Debug for LocalHeap<H> {
+    fn fmt<W: fmt::Write>(&self, f: &mut fmt::Formatter<W>) -> fmt::Result {
+        f.debug_struct("LocalHeap")
+            .field("size", &self.size())
+            .field("used", &self.used())
+            .field("live", &self.live())
+            .finish()
+    }
+}
+
+impl<H: UnitHeap> Drop for LocalHeap<H> {
+    fn drop(self) {
+        let LocalHeap { slot, used: _ } = self;
+        drop(slot.into_inner());
+    }
+}

@@ -1,0 +1,128 @@
+//! Heaps over ranges of one memory.
+ghost use Rattle.std.specs.Prelude.{◌≡◌, ◌≢◌, ◌+◌, ◌^◌, ◌<◌, ℕ, None, IfSome, IfNone, IsSome, IsNone, true, false};
+ghost use Rattle.rlsf_model.specs.Callers.{align_at};
+ghost use Rattle.rlsf_base.specs.SizeClass.{IsValid};
+ghost use Rattle.rlsf_model.specs.Sized.{live_count};
+
+use crate::lease::{Lease, START};
+use crate::local::LocalHeap;
+use rlsf_base::memory::{OpenMemory, Range, UnitPayload};
+use rlsf_heap::Heap;
+use rlsf_int::BitPattern;
+use std::alloc::Global;
+
+/// The length from which on a range is refused.
+const TOO_LONG: usize = 1 << 58;
+
+/// A heap over a range of another heap's memory, as the allocator of one thread's collections. The range is a payload of
+/// that heap, the pool, which has the same parameters. So several tenants share one memory, and none can use the range of another.
+///
+/// `end` deallocates the range. Dropping a tenant leaks it: the range stays live in the pool.
+#[derive(Drop)]
+pub struct Tenant<
+    FLBitmap: BitPattern,
+    SLBitmap: BitPattern,
+    const FLLEN: usize,
+    const SLLEN: usize,
+> {
+    local: LocalHeap<Box<Heap<FLBitmap, SLBitmap, FLLEN, SLLEN>>>,
+    pub(crate) lease: Lease,
+    pub ghost tied: { local.slot.home ≡ lease.memory },
+}
+
+impl<FLBitmap: BitPattern, SLBitmap: BitPattern, const FLLEN: usize, const SLLEN: usize> Tenant<
+    FLBitmap,
+    SLBitmap,
+    FLLEN,
+    SLLEN,
+> {
+    ghost use Rattle.rlsf_heap.specs.Units.{heap_of};
+    ghost use Rattle.rlsf_local_heap.specs.Tenants.{lessor};
+
+    /// Creates a heap over a range of `pool`: a payload of it for `len` bytes, which has up to 31 bytes more. The range is the
+    /// only pool of the new heap. A range of less than 64 bytes, for a `len` up to 48, holds no pool: each allocation is then
+    /// refused. It takes constant time.
+    ///
+    /// Returns `None` if `pool` refuses such a payload, if its memory has no units of 16 bytes, if `len` is 2^58 or more, or if
+    /// the system has no memory for the new heap's own fields. Then nothing changes. The parameters must be valid
+    /// (`Heap::new`).
+    pub fn new(
+        pool: &mut Heap<FLBitmap, SLBitmap, FLLEN, SLLEN>,
+        alloc: Global,
+        len: usize,
+    ) -> Option<Self>
+        requires { IsValid FLBitmap.width SLBitmap.width FLLEN SLLEN }
+        ensures identity { pool.new.identity ≡ pool.old.identity }
+        ensures tenant { IfSome result (λ t. lessor t.lease ≡ pool.old.identity) }
+        ensures count { IfSome result (λ t. live_count pool.new.state ≡ live_count pool.old.state + 1) }
+        ensures aligns { (a : ℕ) → align_at pool.old.state a ≢ None → align_at pool.new.state a ≡ align_at pool.old.state a }
+        ensures chunks { pool.new.state.chunks ≡ pool.old.state.chunks }
+        ensures same { IfNone result (pool.new.state ≡ pool.old.state) }
+    {
+        if len >= TOO_LONG || !pool.has_units() {
+            return None;
+        }
+        let fields = Self::fields(alloc)?;
+        let payload = pool.allocate_units(len);
+        Self::over(alloc, fields, payload)
+    }
+
+    /// Returns the allocator, which collections hold a `&` to.
+    pub fn heap(&self) -> &LocalHeap<Box<Heap<FLBitmap, SLBitmap, FLLEN, SLLEN>>> {
+        &self.local
+    }
+
+    /// Ends the heap, and deallocates its range in `pool`. Returns whether it did so. If a block is out, which a collection
+    /// leaked, it doesn't: the range stays live, and nothing changes.
+    ///
+    /// The tenant must be one of `pool`.
+    pub fn end(self, pool: &mut Heap<FLBitmap, SLBitmap, FLLEN, SLLEN>) -> bool
+        requires { lessor self.lease ≡ pool.old.identity }
+        ensures identity { pool.new.identity ≡ pool.old.identity }
+        ensures count { result ≡ true → live_count pool.old.state ≡ live_count pool.new.state + 1 }
+        ensures chunks { pool.new.state.chunks ≡ pool.old.state.chunks }
+        ensures same { result ≡ false → pool.new.state ≡ pool.old.state }
+    {
+        let Tenant { local, lease } = self;
+        let Some(heap) = local.into_heap() else {
+            return false;
+        };
+        let heap = Box::into_inner(heap);
+        if heap.live() != 0 {
+            return false;
+        }
+        pool.deallocate_units(lease.end(heap.into_memory()));
+        true
+    }
+
+    // Creates a heap over a payload, if there is one, in place of the heap of no bytes in `fields`.
+    fn over(
+        alloc: Global,
+        mut fields: Box<Heap<FLBitmap, SLBitmap, FLLEN, SLLEN>>,
+        payload: Option<UnitPayload>,
+    ) -> Option<Self>
+        requires valid { IsValid FLBitmap.width SLBitmap.width FLLEN SLLEN }
+        requires small { IfSome payload (λ p. p.len < 2 ^ 59) }
+        ensures some { IfSome payload (λ p. IsSome result) }
+        ensures none { IfNone payload (IsNone result) }
+        ensures lease { IfSome payload (λ p. IfSome result (λ t. lessor t.lease ≡ heap_of p)) }
+    {
+        let (memory, lease) = Lease::begin(alloc, payload?);
+        let len = memory.len();
+        let mut heap = Heap::new(memory);
+        heap.insert_free_block_ptr(Range { start: START, len });
+        *fields = heap;
+        Some(Tenant {
+            local: LocalHeap::from(fields),
+            lease,
+        })
+    }
+
+    // Returns a heap of no bytes.
+    fn fields(alloc: Global) -> Option<Box<Heap<FLBitmap, SLBitmap, FLLEN, SLLEN>>>
+        requires { IsValid FLBitmap.width SLBitmap.width FLLEN SLLEN }
+    {
+        let empty = OpenMemory::reserve(alloc, START, 0).ok()?;
+        Box::new(alloc, Heap::new(empty)).ok()
+    }
+}

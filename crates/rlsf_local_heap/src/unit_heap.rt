@@ -1,0 +1,98 @@
+//! The heaps that an allocator of collections can be over.
+ghost use Rattle.std.specs.Prelude.{◌≡◌, ◌-◌, ◌^◌, ◌<◌, ◌≤◌, min, IfSome, MatchResult};
+ghost use Rattle.rlsf_heap.specs.Units.{heap_of, heap_of_tail, payload_len};
+ghost use Rattle.rlsf_local_heap.specs.Resized.{IsAtSamePlace};
+
+use crate::slot::Identified;
+use rlsf_base::memory::{UnitPayload, UnitTail};
+use rlsf_heap::Heap;
+use rlsf_int::BitPattern;
+
+/// The greatest alignment of a block: no type of the language has a greater one.
+pub(crate) const UNIT: usize = 16;
+
+/// A heap that a `LocalHeap` can be over: each `Heap` is one, and each `Box` of one. A call moves it, so the `Box` is faster.
+pub trait UnitHeap: Identified + Drop {
+    /// Allocates a payload of units for `size` bytes. Returns `None` if the heap refuses it.
+    fn take(&mut self, size: usize) -> Option<UnitPayload>
+        ensures identity { Self.identity self.new ≡ Self.identity self.old }
+        ensures payload { IfSome result (λ p. (heap_of p ≡ Self.identity self.old) × (p.len ≡ payload_len size) × (size < 2 ^ 63)) };
+
+    /// Deallocates a payload of this heap.
+    fn give(&mut self, payload: UnitPayload)
+        requires { heap_of payload ≡ Self.identity self.old }
+        ensures { Self.identity self.new ≡ Self.identity self.old };
+
+    /// Gives a payload of this heap the length for `size` bytes without moving it, while its first bytes, as many as both lengths
+    /// have, are out. Returns it as it was, as the error, if the heap refuses it. `len` is the payload's length.
+    fn resize(&mut self, tail: UnitTail, len: usize, size: usize) -> Result<UnitTail, UnitTail>
+        requires heap { heap_of_tail tail ≡ Self.identity self.old }
+        requires len { len ≡ tail.len }
+        requires size { size ≤ 2 ^ 63 - 16 }
+        requires kept { tail.kept ≡ min tail.len (payload_len size) }
+        ensures identity { Self.identity self.new ≡ Self.identity self.old }
+        ensures tail { MatchResult result (λ p. IsAtSamePlace tail p (payload_len size)) (λ p. IsAtSamePlace tail p tail.len) };
+
+    /// Returns the number of bytes of the heap's memory.
+    fn size(&self) -> usize;
+
+    /// Returns the number of payloads that are out.
+    fn live(&self) -> usize;
+}
+
+impl<FLBitmap: BitPattern, SLBitmap: BitPattern, const FLLEN: usize, const SLLEN: usize> Identified
+    for Heap<FLBitmap, SLBitmap, FLLEN, SLLEN> {
+    ghost identity = { λ h. h.identity };
+}
+
+impl<FLBitmap: BitPattern, SLBitmap: BitPattern, const FLLEN: usize, const SLLEN: usize> UnitHeap
+    for Heap<FLBitmap, SLBitmap, FLLEN, SLLEN> {
+    fn take(&mut self, size: usize) -> Option<UnitPayload> {
+        if size > isize::MAX as usize - UNIT || !self.has_units() {
+            return None;
+        }
+        self.allocate_units(size)
+    }
+
+    fn give(&mut self, payload: UnitPayload) {
+        self.deallocate_units(payload);
+    }
+
+    fn resize(&mut self, tail: UnitTail, len: usize, size: usize) -> Result<UnitTail, UnitTail> {
+        self.resize_units(tail, len, size)
+    }
+
+    fn size(&self) -> usize {
+        self.memory_ref().len()
+    }
+
+    fn live(&self) -> usize {
+        Heap::live(self)
+    }
+}
+
+impl<H: UnitHeap> Identified for Box<H> {
+    ghost identity = { λ b. H.identity b.value };
+}
+
+impl<H: UnitHeap> UnitHeap for Box<H> {
+    fn take(&mut self, size: usize) -> Option<UnitPayload> {
+        (**self).take(size)
+    }
+
+    fn give(&mut self, payload: UnitPayload) {
+        (**self).give(payload);
+    }
+
+    fn resize(&mut self, tail: UnitTail, len: usize, size: usize) -> Result<UnitTail, UnitTail> {
+        (**self).resize(tail, len, size)
+    }
+
+    fn size(&self) -> usize {
+        (**self).size()
+    }
+
+    fn live(&self) -> usize {
+        (**self).live()
+    }
+}

@@ -1,0 +1,44 @@
+//! Counts what a trace of allocator calls does: reads it from standard input, and writes a table to standard output. With `--csv` it
+//! writes a line for each call instead.
+//!
+//! Read `report.rt` first. `kinds.rt` and `counts.rt` count the calls, `summary.rt` and `sizes.rt` payloads and bytes, and `advice.rt`
+//! computes lengths of pools. `table.rt` and `csv.rt` print.
+#![tactic(auto)]
+
+mod advice;
+mod counts;
+mod csv;
+mod kinds;
+mod report;
+mod sizes;
+mod summary;
+mod table;
+
+use report::{Form, report};
+use rlsf_trace_replay::status;
+use std::env;
+use std::process::ExitCode;
+use std::rt::Env;
+
+fn main(rt: HostRuntime) -> ExitCode {
+    let Some(form) = asked_form(&rt) else {
+        let _ = eprintln!(rt; "usage: rlsf_trace_report [--csv] < TRACE");
+        return ExitCode::from(2);
+    };
+    let outcome = report(rt.alloc(), &mut rt.stdin(), &mut rt.stdout(), form);
+    if let Err(fault) = &outcome {
+        // If standard error fails too, only the status shows the fault.
+        let _ = eprintln!(rt; "{fault}");
+    }
+    ExitCode::from(status(&outcome))
+}
+
+/// What the command line asks for, if it is one that the program knows.
+fn asked_form(rt: &(impl Env + AllocGlobal)) -> Option<Form> {
+    let words: Vec<String> = env::args(rt).ok()?.collect(rt.alloc()).ok()?;
+    match words.as_slice() {
+        [] | [_] => Some(Form::Table),
+        [_, word] if word.as_str() == "--csv" => Some(Form::Csv),
+        _ => None,
+    }
+}
