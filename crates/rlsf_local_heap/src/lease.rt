@@ -50,7 +50,7 @@ impl Lease {
     pub(crate) fn begin(alloc: Global, payload: UnitPayload) -> (OpenMemory, Lease)
         requires { payload.len < 2 ^ 59 }
         ensures memory { (home_of result.0 ≡ result.1.memory) × (result.0.start ≡ 64) × IsAllOwn result.0.out }
-        ensures payload { lessor result.1 ≡ heap_of payload }
+        ensures payload { (lessor result.1 ≡ heap_of payload) × (result.1.start ≡ payload.start) }
     {
         let UnitPayload { ptr, len } = payload;
         let memory = unsafe { OpenMemory::from_raw_parts(alloc, ptr, START, len) };
@@ -63,7 +63,7 @@ impl Lease {
     pub(crate) fn end(self, memory: OpenMemory) -> UnitPayload
         requires memory { home_of memory ≡ self.memory }
         requires own { IsOwned memory (range_of memory) }
-        ensures { heap_of result ≡ lessor self }
+        ensures { (heap_of result ≡ lessor self) × (result.start ≡ self.start) }
     {
         self.into_payload(memory.into_raw_parts())
     }
@@ -74,7 +74,7 @@ impl Lease {
         requires base { parts.base.ptr ≡ self.memory.view.base.ptr +ₚ place_in self.memory.view self.memory.start }
         requires place { (parts.start ≡ self.memory.start) × (parts.len ≡ self.memory.len) }
         requires own { IsOwn parts.bytes.out 0 parts.len }
-        ensures { heap_of result ≡ lessor self }
+        ensures { (heap_of result ≡ lessor self) × (result.start ≡ self.start) }
     {
         let Lease { ptr: _, len } = self;
         let ptr = parts.release_room();

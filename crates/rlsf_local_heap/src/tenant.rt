@@ -1,6 +1,8 @@
 //! Heaps over ranges of one memory.
-ghost use Rattle.std.specs.Prelude.{◌≡◌, ◌≢◌, ◌+◌, ◌^◌, ◌<◌, ℕ, None, IfSome, IfNone, IsSome, IsNone, true, false};
+ghost use Rattle.std.specs.Prelude.{◌≡◌, ◌≢◌, ◌+◌, ◌^◌, ◌<◌, ℕ, Some, None, IfSome, IfNone, IsSome, IsNone, true, false};
+ghost use Rattle.rlsf_model.specs.Allocate.{Allocates};
 ghost use Rattle.rlsf_model.specs.Callers.{align_at};
+ghost use Rattle.rlsf_model.specs.Release.{Deallocates};
 ghost use Rattle.rlsf_base.specs.SizeClass.{IsValid};
 ghost use Rattle.rlsf_model.specs.Sized.{live_count};
 
@@ -36,6 +38,7 @@ impl<FLBitmap: BitPattern, SLBitmap: BitPattern, const FLLEN: usize, const SLLEN
     FLLEN,
     SLLEN,
 > {
+    ghost use Rattle.rlsf_heap.specs.Heap.{Steps};
     ghost use Rattle.rlsf_heap.specs.Units.{heap_of};
     ghost use Rattle.rlsf_local_heap.specs.Tenants.{lessor};
 
@@ -54,6 +57,9 @@ impl<FLBitmap: BitPattern, SLBitmap: BitPattern, const FLLEN: usize, const SLLEN
         requires { IsValid FLBitmap.width SLBitmap.width FLLEN SLLEN }
         ensures identity { pool.new.identity ≡ pool.old.identity }
         ensures tenant { IfSome result (λ t. lessor t.lease ≡ pool.old.identity) }
+        ensures step { IfSome result (λ t. Steps FLLEN SLLEN pool.new (Allocates SLLEN pool.old.state len 16 (Some t.lease.start))) }
+        ensures new { IfSome result (λ t. align_at pool.old.state t.lease.start ≡ None) }
+        ensures live { IfSome result (λ t. align_at pool.new.state t.lease.start ≡ Some 16) }
         ensures count { IfSome result (λ t. live_count pool.new.state ≡ live_count pool.old.state + 1) }
         ensures aligns { (a : ℕ) → align_at pool.old.state a ≢ None → align_at pool.new.state a ≡ align_at pool.old.state a }
         ensures chunks { pool.new.state.chunks ≡ pool.old.state.chunks }
@@ -78,7 +84,10 @@ impl<FLBitmap: BitPattern, SLBitmap: BitPattern, const FLLEN: usize, const SLLEN
     /// The tenant must be one of `pool`.
     pub fn end(self, pool: &mut Heap<FLBitmap, SLBitmap, FLLEN, SLLEN>) -> bool
         requires { lessor self.lease ≡ pool.old.identity }
+        ensures step { result ≡ true → Steps FLLEN SLLEN pool.new (Deallocates pool.old.state self.lease.start) }
         ensures identity { pool.new.identity ≡ pool.old.identity }
+        ensures gone { result ≡ true → align_at pool.new.state self.lease.start ≡ None }
+        ensures aligns { (a : ℕ) → a ≢ self.lease.start → align_at pool.new.state a ≡ align_at pool.old.state a }
         ensures count { result ≡ true → live_count pool.old.state ≡ live_count pool.new.state + 1 }
         ensures chunks { pool.new.state.chunks ≡ pool.old.state.chunks }
         ensures same { result ≡ false → pool.new.state ≡ pool.old.state }
@@ -105,7 +114,7 @@ impl<FLBitmap: BitPattern, SLBitmap: BitPattern, const FLLEN: usize, const SLLEN
         requires small { IfSome payload (λ p. p.len < 2 ^ 59) }
         ensures some { IfSome payload (λ p. IsSome result) }
         ensures none { IfNone payload (IsNone result) }
-        ensures lease { IfSome payload (λ p. IfSome result (λ t. lessor t.lease ≡ heap_of p)) }
+        ensures lease { IfSome payload (λ p. IfSome result (λ t. (lessor t.lease ≡ heap_of p) × (t.lease.start ≡ p.start))) }
     {
         let (memory, lease) = Lease::begin(alloc, payload?);
         let len = memory.len();
