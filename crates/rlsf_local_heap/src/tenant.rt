@@ -42,9 +42,9 @@ impl<FLBitmap: BitPattern, SLBitmap: BitPattern, const FLLEN: usize, const SLLEN
     ghost use Rattle.rlsf_heap.specs.Units.{heap_of};
     ghost use Rattle.rlsf_local_heap.specs.Tenants.{lessor};
 
-    /// Creates a heap over a range of `pool`: a payload of it for `len` bytes, which has up to 31 bytes more. The range is the
-    /// only pool of the new heap. A range of less than 64 bytes, for a `len` up to 48, holds no pool: each allocation is then
-    /// refused. It takes constant time.
+    /// Creates a heap over a range of `pool`: a payload of it for `len` bytes, aligned to 16, which has up to 31 bytes more. The
+    /// other payloads of `pool` stay as they are. The range is the only pool of the new heap. A range of less than 64 bytes, for a
+    /// `len` up to 48, holds no pool: each allocation is then refused. It takes constant time.
     ///
     /// Returns `None` if `pool` refuses such a payload, if its memory has no units of 16 bytes, if `len` is 2^58 or more, or if
     /// the system has no memory for the new heap's own fields. Then nothing changes. The parameters must be valid
@@ -78,8 +78,8 @@ impl<FLBitmap: BitPattern, SLBitmap: BitPattern, const FLLEN: usize, const SLLEN
         &self.local
     }
 
-    /// Ends the heap, and deallocates its range in `pool`. Returns whether it did so. If a block is out, which a collection
-    /// leaked, it doesn't: the range stays live, and nothing changes.
+    /// Ends the heap, and deallocates its range in `pool`, whose other payloads stay as they are. Returns whether it did so. If
+    /// a block is out, which a collection leaked, it doesn't: the range stays live, and nothing changes.
     ///
     /// The tenant must be one of `pool`.
     pub fn end(self, pool: &mut Heap<FLBitmap, SLBitmap, FLLEN, SLLEN>) -> bool
