@@ -1,8 +1,8 @@
 //! The allocator: a heap behind a `&`, whose blocks grow and shrink in place where they can.
-ghost use Rattle.std.specs.Prelude.{◌≡◌, ◌*◌, ◌^◌, ◌<◌, ◌≤◌, min, IfSome, MatchResult};
+ghost use Rattle.std.specs.Prelude.{◌≡◌, ◌↔◌, ◌+◌, ◌*◌, ◌^◌, ◌<◌, ◌≤◌, min, IfOk, IfSome, IsErrOf, MatchResult};
 ghost use Rattle.std.specs.Mem.{type_size};
 ghost use Rattle.rlsf_base.specs.SizeClass.{IsValid};
-ghost use Rattle.rlsf_heap.specs.Units.{heap_of, heap_of_tail, payload_len};
+ghost use Rattle.rlsf_heap.specs.Units.{GivesUnits, heap_of, heap_of_tail, payload_len};
 ghost use Rattle.rlsf_local_heap.specs.Ownership.{block_token};
 ghost use Rattle.rlsf_local_heap.specs.Resized.{IsAtSamePlace};
 
@@ -60,12 +60,16 @@ pub struct LocalHeap<H: UnitHeap> {
 impl<FLBitmap: BitPattern, SLBitmap: BitPattern, const FLLEN: usize, const SLLEN: usize> LocalHeap<
     Box<Heap<FLBitmap, SLBitmap, FLLEN, SLLEN>>,
 > {
-    /// Creates an allocator over a new memory of `len` bytes, which are one pool. No pool is made, and each allocation is
-    /// refused, if `len` is less than 64.
+    /// Creates an allocator over a new memory of `len` bytes at the addresses from 4096 on, which are one pool. No pool is made, and
+    /// each allocation is refused, if `len` is less than 64.
     ///
-    /// Returns an error if the system has no such memory, or none for the heap's own fields. The parameters of the heap must be valid (`Heap::new`).
+    /// Returns `TooLong` if and only if the memory would end past `2^64 - 1`. Returns `OutOfMemory` if the system has no such memory, or
+    /// none for the heap's own fields. The parameters of the heap must be valid (`Heap::new`).
     pub fn new(alloc: Global, len: usize) -> Result<Self, MemoryError>
         requires { IsValid FLBitmap.width SLBitmap.width FLLEN SLLEN }
+        ensures memory { IfOk result (λ l. (l.slot.home.start ≡ 4096) × (l.slot.home.len ≡ len) × GivesUnits l.slot) }
+        ensures too_long { IsErrOf result MemoryError.TooLong ↔ (2 ^ 64 ≤ 4096 + len) }
+        ensures starts { IsErrOf result MemoryError.ZeroStart → ⊥ }
     {
         let memory = OpenMemory::reserve(alloc, START, len)?;
         let mut heap = Heap::new(memory);

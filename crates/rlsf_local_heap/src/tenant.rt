@@ -1,5 +1,5 @@
 //! Heaps over ranges of one memory.
-ghost use Rattle.std.specs.Prelude.{◌≡◌, ◌≢◌, ◌+◌, ◌^◌, ◌<◌, ℕ, Some, None, IfSome, IfNone, IsSome, IsNone, true, false};
+ghost use Rattle.std.specs.Prelude.{◌≡◌, ◌≢◌, ◌+◌, ◌^◌, ◌<◌, ◌≤◌, ℕ, Some, None, IfSome, IfNone, IsSome, IsNone, true, false};
 ghost use Rattle.rlsf_model.specs.Allocate.{Allocates};
 ghost use Rattle.rlsf_model.specs.Callers.{align_at};
 ghost use Rattle.rlsf_model.specs.Release.{Deallocates};
@@ -64,6 +64,10 @@ impl<FLBitmap: BitPattern, SLBitmap: BitPattern, const FLLEN: usize, const SLLEN
         ensures aligns { (a : ℕ) → align_at pool.old.state a ≢ None → align_at pool.new.state a ≡ align_at pool.old.state a }
         ensures chunks { pool.new.state.chunks ≡ pool.old.state.chunks }
         ensures same { IfNone result (pool.new.state ≡ pool.old.state) }
+        ensures refused { IfNone result (pool.new.memory.bytes ≡ pool.old.memory.bytes) }
+        ensures touches { pool.new.memory.touches ≤ pool.old.memory.touches + 30 }
+        ensures grow { pool.old.memory.touches ≤ pool.new.memory.touches }
+        ensures copied { pool.new.memory.copied ≡ pool.old.memory.copied }
     {
         if len >= TOO_LONG || !pool.has_units() {
             return None;
@@ -74,7 +78,9 @@ impl<FLBitmap: BitPattern, SLBitmap: BitPattern, const FLLEN: usize, const SLLEN
     }
 
     /// Returns the allocator, which collections hold a `&` to.
-    pub fn heap(&self) -> &LocalHeap<Box<Heap<FLBitmap, SLBitmap, FLLEN, SLLEN>>> {
+    pub fn heap(&self) -> &LocalHeap<Box<Heap<FLBitmap, SLBitmap, FLLEN, SLLEN>>>
+        ensures { result.now.slot ≡ self.now.local.slot }
+    {
         &self.local
     }
 
@@ -90,7 +96,10 @@ impl<FLBitmap: BitPattern, SLBitmap: BitPattern, const FLLEN: usize, const SLLEN
         ensures aligns { (a : ℕ) → a ≢ self.lease.start → align_at pool.new.state a ≡ align_at pool.old.state a }
         ensures count { result ≡ true → live_count pool.old.state ≡ live_count pool.new.state + 1 }
         ensures chunks { pool.new.state.chunks ≡ pool.old.state.chunks }
-        ensures same { result ≡ false → pool.new.state ≡ pool.old.state }
+        ensures same { result ≡ false → pool.new ≡ pool.old }
+        ensures touches { pool.new.memory.touches ≤ pool.old.memory.touches + 32 }
+        ensures grow { pool.old.memory.touches ≤ pool.new.memory.touches }
+        ensures copied { pool.new.memory.copied ≡ pool.old.memory.copied }
     {
         let Tenant { local, lease } = self;
         let Some(heap) = local.into_heap() else {
