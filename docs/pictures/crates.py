@@ -28,7 +28,7 @@ LAYERS = [
     ("Examples", "programs to copy from", "#fff3d0", [
         [(1, "rlsf_example_first", "a first program"), (1, "rlsf_example_readme", "the program of README.md"),
          (1, "rlsf_example_functions", "buffer, cache, pools, source"), (1, "rlsf_example_libraries_tour", "tour of these libraries")],
-        [(1, "rlsf_example_buffers", "payloads that own their bytes"), (1, "rlsf_example_tenants", "std's collections in heaps"),
+        [(1, "rlsf_example_owned_payloads", "payloads that own their bytes"), (1, "rlsf_example_tenants", "std's collections in heaps"),
          (1, "rlsf_example_global", "two threads, one allocator"), (1, "", "")],
     ]),
     ("Libraries, a tool", "for other code", "#fff3d0", [
@@ -37,8 +37,8 @@ LAYERS = [
         [(1, "rlsf_example_libraries", "queues, objects and strings in a pool"), (3, "", "")],
     ]),
     ("Traces", "a text of calls, run and compared with the model", "#fbe3d6", [
-        [(1, "rlsf_replay", "program: prints the answers"), (1, "rlsf_trace_report", "program: counts"), (1, "rlsf_trace_picture", "program: draws")],
-        [(1, "rlsf_trace_replay", "reads, runs and prints"), (1, "rlsf_trace_measured_runs", "what is held after each op"), (1, "rlsf_trace_flex_runs", "runs with a FlexTlsf")],
+        [(1, "rlsf_replay", "program: prints the answers"), (1, "rlsf_report_trace", "program: counts"), (1, "rlsf_draw_trace", "program: draws")],
+        [(1, "rlsf_trace_common", "reads, runs and prints"), (1, "rlsf_trace_measured_runs", "what is held after each op"), (1, "rlsf_trace_flex_runs", "runs with a FlexTlsf")],
         [(1, "rlsf_trace_text", "the text: ops and answers"), (2, "rlsf_trace_runs", "runs of ops with a Tlsf: the headline contract")],
     ]),
     ("Allocators", "each column adds to what is below it", "#d9efd9", [

@@ -1,9 +1,9 @@
 //! Replays a trace of allocator calls: reads it from standard input, and writes the answers to standard output.
 //!
-//! The work is done by `replay` of `rlsf_trace_replay`.
+//! The work is done by `replay` of `rlsf_trace_common`.
 #![tactic(auto)]
 
-use rlsf_trace_replay::{replay, status};
+use rlsf_trace_common::{replay, status};
 use std::process::ExitCode;
 
 fn main(rt: HostRuntime) -> ExitCode {

@@ -4,7 +4,7 @@ mod examples;
 mod faults;
 mod streams;
 
-use rlsf_trace_replay::replay;
+use rlsf_trace_common::replay;
 use rlsf_trace_text::status;
 use std::process::Abort;
 

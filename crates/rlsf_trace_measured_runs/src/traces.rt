@@ -5,7 +5,7 @@ ghost use Rattle.rlsf_base.specs.Range.{range_at};
 ghost use Rattle.rlsf_base.specs.Space.{range_of};
 ghost use Rattle.rlsf_model.specs.State.{empty};
 ghost use Rattle.rlsf_trace_text.specs.Faults.{out_of_memory};
-ghost use Rattle.rlsf_trace_replay.specs.Replays.{rows_of, classes_of, no_memory};
+ghost use Rattle.rlsf_trace_common.specs.Replays.{rows_of, classes_of, no_memory};
 ghost use Rattle.rlsf_trace_measured_runs.specs.Moments.{IsWatched};
 
 use crate::runs::{Watched, watch};

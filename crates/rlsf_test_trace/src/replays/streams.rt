@@ -1,7 +1,7 @@
 //! Readers and writers that fail, that a signal interrupts, and that take little.
 
 use super::FIRST_RUN;
-use rlsf_trace_replay::replay;
+use rlsf_trace_common::replay;
 use rlsf_trace_text::{Fault, ReplayFault};
 use std::alloc::Global;
 use std::io;

@@ -6,8 +6,8 @@ ghost use Rattle.rlsf_base.specs.Range.{range_at};
 ghost use Rattle.rlsf_model.specs.State.{empty};
 ghost use Rattle.rlsf_base.specs.Space.{range_of};
 ghost use Rattle.rlsf_trace_text.specs.Faults.{out_of_memory};
-ghost use Rattle.rlsf_trace_replay.specs.Replays.{rows_of, classes_of, IsRun, IsOutput};
-ghost use Rattle.rlsf_trace_replay.specs.Replays.{AppendsReplay, AppendsCutReplay, no_memory, not_read, IsOutputFault, IsReplayFault};
+ghost use Rattle.rlsf_trace_common.specs.Replays.{rows_of, classes_of, IsRun, IsOutput};
+ghost use Rattle.rlsf_trace_common.specs.Replays.{AppendsReplay, AppendsCutReplay, no_memory, not_read, IsOutputFault, IsReplayFault};
 
 use crate::input::read_input;
 use crate::output::write_text;

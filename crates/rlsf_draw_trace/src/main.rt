@@ -1,5 +1,5 @@
 //! Draws a trace of allocator calls: reads it from standard input, and writes one SVG to standard output. Calls go from left to
-//! right, addresses upwards. `rlsf_trace_picture FIRST LAST` draws the calls of these lines of the trace.
+//! right, addresses upwards. `rlsf_draw_trace FIRST LAST` draws the calls of these lines of the trace.
 //!
 //! Read `map.rt` first: it reads and runs the trace. `window.rt` selects calls, `pools.rt` and `boxes.rt` find what is drawn, and
 //! `draw.rt` draws it. `scale.rt` and `colour.rt` have places and colours, and `legend.rt` the text.
@@ -15,7 +15,7 @@ mod scale;
 mod window;
 
 use map::map;
-use rlsf_trace_replay::status;
+use rlsf_trace_common::status;
 use std::env;
 use std::process::ExitCode;
 use std::rt::Env;
@@ -23,7 +23,7 @@ use window::Lines;
 
 fn main(rt: HostRuntime) -> ExitCode {
     let Some(lines) = asked_lines(&rt) else {
-        let _ = eprintln!(rt; "usage: rlsf_trace_picture [FIRST LAST] < TRACE");
+        let _ = eprintln!(rt; "usage: rlsf_draw_trace [FIRST LAST] < TRACE");
         return ExitCode::from(2);
     };
     let outcome = map(rt.alloc(), &mut rt.stdin(), &mut rt.stdout(), lines);

@@ -1,5 +1,5 @@
 use Rattle.std.proofs.Common.{rules}
-use Rattle.rlsf_trace_replay.proofs.input.read_input.Goals as goal
+use Rattle.rlsf_trace_common.proofs.input.read_input.Goals as goal
 
 pub returns-then-ne : goal.returns-then-ne
 returns-then-ne g c = record {

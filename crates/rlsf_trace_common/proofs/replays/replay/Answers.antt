@@ -1,5 +1,5 @@
 use Rattle.std.proofs.Common.{rules}
-use Rattle.rlsf_trace_replay.proofs.replays.replay.Goals as goal
+use Rattle.rlsf_trace_common.proofs.replays.replay.Goals as goal
 
 pub returns-in_err-text : goal.returns-in_err-text
 returns-in_err-text g c = record {

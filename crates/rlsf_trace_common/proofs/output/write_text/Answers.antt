@@ -1,6 +1,6 @@
 use Rattle.std.proofs.Common.{[], refl}
-use Rattle.rlsf_trace_replay.proofs.Writing.{Appends-more, Appends-none}
-use Rattle.rlsf_trace_replay.proofs.output.write_text.Goals as goal
+use Rattle.rlsf_trace_common.proofs.Writing.{Appends-more, Appends-none}
+use Rattle.rlsf_trace_common.proofs.output.write_text.Goals as goal
 
 pub loop-init : goal.loop-init
 loop-init g c = ([], refl, Appends-none _)

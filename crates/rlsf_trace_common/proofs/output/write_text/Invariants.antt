@@ -1,6 +1,6 @@
 use Rattle.std.proofs.Common.{◌≡◌, ℕ, List, ◌++◌}
 use Rattle.std.specs.Io.KnownBytes.{Appends}
-use Rattle.rlsf_trace_replay.proofs.output.write_text.Given as goal
+use Rattle.rlsf_trace_common.proofs.output.write_text.Given as goal
 
 -- what is gone from the text was written
 abbrev pub invariant-loop : goal.invariant-loop

@@ -1,6 +1,6 @@
 use Rattle.std.proofs.Common.{◌≡◌, length}
 use Rattle.std.specs.Io.KnownBytes.{Consumes}
-use Rattle.rlsf_trace_replay.proofs.input.read_input.Given as goal
+use Rattle.rlsf_trace_common.proofs.input.read_input.Given as goal
 
 -- what was taken from the input is at hand
 abbrev pub invariant-loop : goal.invariant-loop

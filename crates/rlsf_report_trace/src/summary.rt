@@ -1,7 +1,7 @@
 //! What an allocator held, at most and at the end.
 
 ghost use Rattle.std.specs.Prelude.{◌≡◌};
-ghost use Rattle.rlsf_trace_report.specs.Summaries as spec;
+ghost use Rattle.rlsf_report_trace.specs.Summaries as spec;
 
 use rlsf_trace_measured_runs::{BlockInfo, Moment, Watched};
 

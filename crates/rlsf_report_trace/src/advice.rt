@@ -2,7 +2,7 @@
 
 ghost use Rattle.std.specs.Prelude.{◌≡◌, ◌⊎◌, IfErr};
 ghost use Rattle.rlsf_trace_text.specs.Faults.{out_of_memory};
-ghost use Rattle.rlsf_trace_replay.specs.Replays.{no_memory};
+ghost use Rattle.rlsf_trace_common.specs.Replays.{no_memory};
 
 use crate::summary::most_live;
 use rlsf_base::classes::pool_size_for_payloads;

@@ -15,14 +15,14 @@ mod summary;
 mod table;
 
 use report::{Form, report};
-use rlsf_trace_replay::status;
+use rlsf_trace_common::status;
 use std::env;
 use std::process::ExitCode;
 use std::rt::Env;
 
 fn main(rt: HostRuntime) -> ExitCode {
     let Some(form) = asked_form(&rt) else {
-        let _ = eprintln!(rt; "usage: rlsf_trace_report [--csv] < TRACE");
+        let _ = eprintln!(rt; "usage: rlsf_report_trace [--csv] < TRACE");
         return ExitCode::from(2);
     };
     let outcome = report(rt.alloc(), &mut rt.stdin(), &mut rt.stdout(), form);

@@ -2,7 +2,7 @@
 
 ghost use Rattle.std.specs.Prelude.{◌≡◌, OnOk, IfErr};
 ghost use Rattle.std.specs.Io.KnownBytes.{Appends};
-ghost use Rattle.rlsf_trace_replay.specs.Output.{AppendsBeginning};
+ghost use Rattle.rlsf_trace_common.specs.Output.{AppendsBeginning};
 
 use rlsf_trace_text::Fault;
 use std::io::{ErrorKind, Write};

@@ -11,7 +11,7 @@ use Rattle.rlsf_trace_text.specs.declared.op.Answer.{Answer}
 use Rattle.rlsf_trace_text.specs.declared.op.Op.{Op}
 use Rattle.rlsf_trace_text.specs.Commands.{command_of}
 use Rattle.rlsf_trace_text.specs.Faults.{out_of_memory}
-use Rattle.rlsf_trace_replay.specs.Output.{AppendsBeginning}
+use Rattle.rlsf_trace_common.specs.Output.{AppendsBeginning}
 use Rattle.rlsf_trace_text.specs.Printing.{text_of}
 use Rattle.rlsf_trace_text.specs.Reading.{TraceText, trace_in}
 use Rattle.rlsf_trace_runs.specs.Runs.{RunState, beginning, RunsOps}
