@@ -19,7 +19,7 @@ LAYERS = [
         [(1, "rlsf_test_tlsf", "calls of Tlsf and of libraries"), (1, "rlsf_test_heap", "heaps, with threads"),
          (1, "rlsf_test_flex", "sources and FlexTlsf"), (1, "rlsf_test_global", "lock and journal, with threads")],
         [(1, "rlsf_test_base", "integers and memories"), (1, "rlsf_test_trace", "traces"),
-         (1, "rlsf_listed_source", "a source for tests"), (1, "rlsf_compare_model_flex rlsf_compare_model_global", "comparison with Python")],
+         (1, "rlsf_source_for_tests", "a source for tests"), (1, "rlsf_compare_model_flex rlsf_compare_model_global", "comparison with Python")],
     ]),
     ("Benchmarks", "one set of steps, seven programs", "#eeeeee", [
         [(1, "rlsf_bench_common", "the steps"), (2.2, "rlsf_bench rlsf_bench_aligned rlsf_bench_not_inlined rlsf_bench_not_inlined_aligned", "Tlsf: in place or by calls, one alignment or seven"),
@@ -38,7 +38,7 @@ LAYERS = [
     ]),
     ("Traces", "a text of calls, run and compared with the model", "#fbe3d6", [
         [(1, "rlsf_replay", "program: prints the answers"), (1, "rlsf_report_trace", "program: counts"), (1, "rlsf_draw_trace", "program: draws")],
-        [(1, "rlsf_trace_common", "reads, runs and prints"), (1, "rlsf_trace_measured_runs", "what is held after each op"), (1, "rlsf_trace_flex_runs", "runs with a FlexTlsf")],
+        [(1, "rlsf_trace_common", "reads, runs and prints"), (1, "rlsf_trace_recorded_runs", "what is held after each op"), (1, "rlsf_trace_flex_runs", "runs with a FlexTlsf")],
         [(1, "rlsf_trace_text", "the text: ops and answers"), (2, "rlsf_trace_runs", "runs of ops with a Tlsf: the headline contract")],
     ]),
     ("Allocators", "each column adds to what is below it", "#d9efd9", [

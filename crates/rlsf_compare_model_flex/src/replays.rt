@@ -9,7 +9,7 @@ use crate::reading::{Run, read_run};
 use rlsf_base::memory::{Memory, Range};
 use rlsf_flex::FlexTlsf;
 use rlsf_int::BitPattern;
-use rlsf_listed_source::ListedSource;
+use rlsf_source_for_tests::ListedSource;
 use rlsf_trace_flex_runs::run_flex;
 use rlsf_trace_text::{Configuration, Op, text_of};
 use std::alloc::Global;

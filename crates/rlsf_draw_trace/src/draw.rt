@@ -6,7 +6,7 @@ use crate::legend::{DeniedLines, LeftOut, Legend, PoolList, drawn, is_denied};
 use crate::pools::Pool;
 use crate::scale::{HEIGHT, Scale, TOP, Tenths};
 use crate::window::Window;
-use rlsf_trace_measured_runs::{BlockInfo, Watched};
+use rlsf_trace_recorded_runs::{BlockInfo, Watched};
 use std::alloc::{AllocError, Global};
 
 /// What is drawn, and how.

@@ -11,7 +11,7 @@ use crate::legend::legend_of;
 use crate::pools::pools_of;
 use crate::window::{Lines, Window};
 use rlsf_trace_common::{read_input, write_text};
-use rlsf_trace_measured_runs::{Watched, watch_trace};
+use rlsf_trace_recorded_runs::{Watched, watch_trace};
 use rlsf_trace_text::{Fault, ReplayFault, Trace};
 use std::alloc::{AllocError, Global};
 use std::io::{Read, Write};

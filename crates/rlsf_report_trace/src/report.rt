@@ -12,7 +12,7 @@ use crate::sizes::asked_bytes;
 use crate::summary::summary_of;
 use crate::table::table_of;
 use rlsf_trace_common::{read_input, write_text};
-use rlsf_trace_measured_runs::{Watched, watch_trace};
+use rlsf_trace_recorded_runs::{Watched, watch_trace};
 use rlsf_trace_text::{Fault, ReplayFault, Trace};
 use std::alloc::Global;
 use std::io::{Read, Write};

@@ -23,7 +23,7 @@ use crate::calls::Call;
 use crate::sources::parts_of;
 use rlsf_flex::FlexTlsf;
 use rlsf_int::BitPattern;
-use rlsf_listed_source::{ListedSource, Question, SourceAnswer};
+use rlsf_source_for_tests::{ListedSource, Question, SourceAnswer};
 use rlsf_trace_flex_runs::run_flex;
 use rlsf_trace_text::{Answer, Op};
 use std::alloc::Global;

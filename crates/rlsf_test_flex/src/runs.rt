@@ -5,7 +5,7 @@ use crate::heaps::all;
 use crate::sources::parts;
 use rlsf_base::memory::{Layout, Range};
 use rlsf_flex::FlexTlsf;
-use rlsf_listed_source::{Capabilities, Question, SourceAnswer};
+use rlsf_source_for_tests::{Capabilities, Question, SourceAnswer};
 use rlsf_trace_flex_runs::run_flex;
 use rlsf_trace_text::{Answer, Op, TraceError};
 use std::alloc::Global;

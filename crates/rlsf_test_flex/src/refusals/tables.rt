@@ -2,7 +2,7 @@
 
 use super::List;
 use rlsf_base::memory::Range;
-use rlsf_listed_source::SourceAnswer;
+use rlsf_source_for_tests::SourceAnswer;
 
 pub static GROWS_AND_TAKES_BACK: List = List {
     answers: &[

@@ -1,0 +1,7 @@
+use Rattle.std.proofs.Common.{◌++◌}
+use Rattle.rlsf_source_for_tests.proofs.HandedOut.{gone_range, remembering}
+use Rattle.rlsf_source_for_tests.proofs.listed.ListedSourceFlexSource.dealloc.Goals as goal
+
+pub returns-clause-owes : goal.returns-clause-owes
+returns-clause-owes c before after may =
+    remembering c.args.self.now c.remember.new.self _ c.remember.ensures (before ++ after) (gone_range c.args.self.now c.args.range before after may)
