@@ -60,6 +60,20 @@ fn is_vacant(memory: &Memory, pools: &VecDeque<Range>, range: Range) -> bool
     lies_in(memory, range) && !overlaps_any(pools, range)
 }
 
+// Whether the range lies in the allocator's memory, and overlaps no pool of the tables. The last two clauses hold in each case.
+fn may_insert<FLBitmap: BitPattern, SLBitmap: BitPattern, const FLLEN: usize, const SLLEN: usize>(
+    tlsf: &Tlsf<FLBitmap, SLBitmap, FLLEN, SLLEN>,
+    tables: &Tables,
+    range: Range,
+) -> bool
+    requires { (s : RunState) × IsAt FLLEN SLLEN tlsf.now tables.now s }
+    ensures vacant { IsTrue result ↔ IsVacant (range_of tlsf.now.memory) tables.now.pools.items range }
+    ensures in_order { IsInOrder tables.now.pools.items }
+    ensures addressable { (p : Range) → IsIn p tables.now.pools.items → end_of p < 2 ^ 64 }
+{
+    is_vacant(tlsf.memory_ref(), &tables.pools, range)
+}
+
 /// Does one op and returns its answer. The tables have room for it.
 pub fn step<FLBitmap: BitPattern, SLBitmap: BitPattern, const FLLEN: usize, const SLLEN: usize>(
     tlsf: &mut Tlsf<FLBitmap, SLBitmap, FLLEN, SLLEN>,
@@ -101,7 +115,7 @@ fn insert<FLBitmap: BitPattern, SLBitmap: BitPattern, const FLLEN: usize, const 
     ensures room { (ops : ℕ) → HasRoom tables.old (ops + 1) → HasRoom tables.new ops }
     ensures place { SamePlace tlsf.old.memory tlsf.new.memory }
 {
-    if !is_vacant(tlsf.memory_ref(), &tables.pools, range) {
+    if !may_insert(tlsf, tables, range) {
         return Answer::Refused(TraceError::BadRange);
     }
     let taken = tlsf.insert_free_block_ptr(range);
@@ -134,7 +148,7 @@ fn append<FLBitmap: BitPattern, SLBitmap: BitPattern, const FLLEN: usize, const 
     ensures room { (ops : ℕ) → HasRoom tables.old (ops + 1) → HasRoom tables.new ops }
     ensures place { SamePlace tlsf.old.memory tlsf.new.memory }
 {
-    if !is_vacant(tlsf.memory_ref(), &tables.pools, range) {
+    if !may_insert(tlsf, tables, range) {
         return Answer::Refused(TraceError::BadRange);
     }
     let Some(place) = ending_at(&tables.pools, range.start) else {

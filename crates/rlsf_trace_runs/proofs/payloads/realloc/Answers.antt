@@ -50,9 +50,6 @@ returns-in_default g c = record {
   place = search rules;
 }
 
-pub add_name-requires : goal.add_name-requires
-add_name-requires g c = c.requires.room
-
 pub returns-in_default-placed : goal.returns-in_default-placed
 returns-in_default-placed g c = record {
   does = λ s at.

@@ -34,9 +34,6 @@ returns-in-Some g c = record {
   place = search rules;
 }
 
-pub add_name-requires : goal.add_name-requires
-add_name-requires g c = c.requires.room
-
 pub returns-in_default : goal.returns-in_default
 returns-in_default g c = record {
   does = λ s at.

@@ -1,7 +1,6 @@
-use Rattle.std.proofs.Common.{rules, ◌≡◌, ◌+◌, length, Some, None, true≢false, arith, refl, sym, ◌∙◌, ap, subst, ◌<◌, ◌^◌}
+use Rattle.std.proofs.Common.{rules, ◌≡◌, ◌+◌, Some, None, true≢false, arith, refl, sym, ◌∙◌, ap, subst}
 use Rattle.std.specs.Int.NonZero.{non_zero_usize_get}
 use Rattle.rlsf_base.specs.Addr.{reply}
-use Rattle.rlsf_base.specs.Range.{LiesIn, end_of}
 use Rattle.rlsf_base.specs.Rounding.{round32}
 use Rattle.rlsf_base.specs.Space.{range_of}
 use Rattle.rlsf_model.specs.Insert.{Inserts, IsFresh}
@@ -19,22 +18,17 @@ use Rattle.rlsf_trace_runs.proofs.NamedPayloads.{LeadsOn-nothing, room_left}
 use Rattle.rlsf_trace_runs.proofs.RunStates.{IsAt-inserted, IsAt-not_inserted, IsFresh-MayInsert, IsVacant-tables, MayInsert-tested, new_pool}
 use Rattle.rlsf_trace_runs.proofs.runs.insert.Goals as goal
 
-pub is_vacant-requires-clause-inside : goal.is_vacant-requires-clause-inside
-is_vacant-requires-clause-inside g c =
-    let (s, at) = c.requires.state in
-    λ p i. subst (λ m. LiesIn p m.start (length m.bytes)) (sym c.memory_ref.ensures.memory) (at.inside p i)
-
 pub insert_free_block_ptr-taken-requires : goal.insert_free_block_ptr-taken-requires
 insert_free_block_ptr-taken-requires g c =
     let (s, at) = c.requires.state in
-    let may = MayInsert-tested at c.args.range c.memory_ref.ensures.memory (c.is_vacant.ensures.0 c.if-not-is_vacant.false) in
+    let may = MayInsert-tested at c.args.range refl (c.may_insert.ensures.vacant.0 c.if-not-may_insert.false) in
     let fresh = of_state at.stands (λ x. IsFresh (range_of c.args.tlsf.now.memory) x c.args.range) (IsFresh-MayInsert at c.args.range may) in
     (omega arith, parts_of-IsFresh (range_of c.args.tlsf.now.memory) c.args.tlsf.now.state c.args.range fresh)
 
 pub pool_of-requires : goal.pool_of-requires
 pool_of-requires g c =
     let (s, at) = c.requires.state in
-    let may = MayInsert-tested at c.args.range c.memory_ref.ensures.memory (c.is_vacant.ensures.0 c.if-not-is_vacant.false) in
+    let may = MayInsert-tested at c.args.range refl (c.may_insert.ensures.vacant.0 c.if-not-may_insert.false) in
     let (t, step, stands, _) =
     stepped at.stands c.insert_free_block_ptr-taken.new.self (λ x. Inserts g.row.FLLEN x c.args.range (Some (non_zero_usize_get c.in-Some.len))) c.in-Some.ensures.step in
     let bounds = pool_bounds g.row.FLLEN s.machine c.args.range (non_zero_usize_get c.in-Some.len) t step stands.stands.well_formed in
@@ -43,7 +37,7 @@ pool_of-requires g c =
 pub add_pool-requires : goal.add_pool-requires
 add_pool-requires g c =
     let (s, at) = c.requires.state in
-    let may = MayInsert-tested at c.args.range c.memory_ref.ensures.memory (c.is_vacant.ensures.0 c.if-not-is_vacant.false) in
+    let may = MayInsert-tested at c.args.range refl (c.may_insert.ensures.vacant.0 c.if-not-may_insert.false) in
     let (t, step, stands, _) =
     stepped at.stands c.insert_free_block_ptr-taken.new.self (λ x. Inserts g.row.FLLEN x c.args.range (Some (non_zero_usize_get c.in-Some.len))) c.in-Some.ensures.step in
     let pool = subst (λ n. c.pool_of.result ≡ between (round32 c.args.range.start) (c.args.range.start + n)) c.get.ensures.value c.pool_of.ensures in
@@ -53,7 +47,7 @@ add_pool-requires g c =
 pub returns-in-Some : goal.returns-in-Some
 returns-in-Some g c = record {
   does = λ s at.
-      let may = MayInsert-tested at c.args.range c.memory_ref.ensures.memory (c.is_vacant.ensures.0 c.if-not-is_vacant.false) in
+      let may = MayInsert-tested at c.args.range refl (c.may_insert.ensures.vacant.0 c.if-not-may_insert.false) in
       let (t, step, stands, keeps) =
       stepped at.stands c.insert_free_block_ptr-taken.new.self (λ x. Inserts g.row.FLLEN x c.args.range (Some (non_zero_usize_get c.in-Some.len))) c.in-Some.ensures.step in
       let pool = subst (λ n. c.pool_of.result ≡ between (round32 c.args.range.start) (c.args.range.start + n)) c.get.ensures.value c.pool_of.ensures in (
@@ -67,21 +61,11 @@ returns-in-Some g c = record {
   place = search rules;
 }
 
-pub is_vacant-requires-clause-in_order : goal.is_vacant-requires-clause-in_order
-is_vacant-requires-clause-in_order g c =
-    let (s, at) = c.requires.state in
-    at.in_order
-
-pub is_vacant-requires-clause-addressable : goal.is_vacant-requires-clause-addressable
-is_vacant-requires-clause-addressable g c =
-    let (s, at) = c.requires.state in
-    subst (λ m. end_of (range_of m) < 2 ^ 64) (sym c.memory_ref.ensures.memory) at.stands.stands.well_formed.addressable
-
-pub returns-then-not-is_vacant : goal.returns-then-not-is_vacant
-returns-then-not-is_vacant g c = record {
+pub returns-then-not-may_insert : goal.returns-then-not-may_insert
+returns-then-not-may_insert g c = record {
   does = λ s at.
       LeadsOn-nothing at (Insert c.args.range) (Refused BadRange)
-      (λ may. true≢false (sym (c.is_vacant.ensures.1 (IsVacant-tables at c.args.range c.memory_ref.ensures.memory may)) ∙ c.if-not-is_vacant.true), refl);
+      (λ may. true≢false (sym (c.may_insert.ensures.vacant.1 (IsVacant-tables at c.args.range refl may)) ∙ c.if-not-may_insert.true), refl);
   room = room_left c.args.tables.now;
   place = search rules;
 }
@@ -89,7 +73,7 @@ returns-then-not-is_vacant g c = record {
 pub returns-in_default : goal.returns-in_default
 returns-in_default g c = record {
   does = λ s at.
-      let may = MayInsert-tested at c.args.range c.memory_ref.ensures.memory (c.is_vacant.ensures.0 c.if-not-is_vacant.false) in
+      let may = MayInsert-tested at c.args.range refl (c.may_insert.ensures.vacant.0 c.if-not-may_insert.false) in
       let (t, step, stands, keeps) =
       stepped at.stands c.insert_free_block_ptr-taken.new.self (λ x. Inserts g.row.FLLEN x c.args.range (reply c.insert_free_block_ptr-taken.result))
       c.insert_free_block_ptr-taken.ensures.step in
