@@ -3,3 +3,4 @@ pub mod Block
 pub mod LentParts
 pub mod Owners
 pub mod Ownership
+pub mod UnitParts

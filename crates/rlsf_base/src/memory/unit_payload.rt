@@ -1,12 +1,13 @@
 //! Payloads of complete units that are known by a pointer alone.
-ghost use Rattle.std.specs.Prelude.{◌≡◌, ℕ, ◌+◌, ◌-◌, ◌*◌, ◌/◌, ◌%◌, ◌^◌, ◌≤◌, ◌↔◌, IsTrue, false, length, set};
+ghost use Rattle.std.specs.Prelude.{◌≡◌, ℕ, ◌+◌, ◌%◌, ◌↔◌, IsTrue, false, length, set};
 ghost use Rattle.std.specs.Int.{w64, from_le_bytes};
 ghost use Rattle.rlsf_base.specs.Ledger.{IsIssued, entry_of, extent};
-ghost use Rattle.rlsf_base.specs.OpenSpace.{HasUnits, Home, home_of, IsAway, IsOwned, IsReadable, out_raw, out_without, place_in};
+ghost use Rattle.rlsf_base.specs.OpenSpace.{HasUnits, Home, home_of, IsAway, IsOwned, IsReadable, out_raw, out_without};
 ghost use Rattle.rlsf_base.specs.Piece.{piece_range, IsUnits};
 ghost use Rattle.rlsf_base.specs.Range.{LiesIn, range_at};
 ghost use Rattle.rlsf_base.specs.Space.{word_at};
-ghost use Rattle.rlsf_base.specs.UnitPayload.{IsPlaced, pointer_to};
+ghost use Rattle.rlsf_base.specs.Steps.UnitParts.{AreUnitsAt, IsSpotAt, IsTicketFor};
+ghost use Rattle.rlsf_base.specs.UnitPayload.{IsPlaced};
 
 use super::block::{Base, Units};
 use super::ledger::{Ledger, Ticket};
@@ -44,9 +45,7 @@ struct Spot {
 impl UnitPayload {
     /// Returns where the units are, the units, and the ticket.
     fn into_parts(self) -> (Spot, Units, Ticket)
-        ensures { (result.0.ptr ≡ pointer_to self.home.view self.start) × (result.0.len ≡ self.len) × IsPlaced self.home result.0.ptr self.start self.len
-            × (result.1.at ≡ self.home.view.base.ptr) × (result.1.first * 16 ≡ place_in self.home.view self.start) × (result.1.count * 16 ≡ self.len)
-            × (result.2.name ≡ self.name) × (result.2.key ≡ self.key) × (result.2.addr ≡ self.start) × (result.2.len ≡ self.len) × (result.2.align ≡ 16) }
+        ensures { IsSpotAt self.home self.start self.len result.0 × AreUnitsAt self.home self.start self.len result.1 × IsTicketFor self.name self.key self.start self.len result.2 }
     {
         let UnitPayload { ptr, len } = self;
         (

@@ -1,11 +1,11 @@
 //! Payloads of complete units of which only the bytes behind the first ones are here: what a payload needs to grow or shrink in
 //! place while its owner has values in it.
-ghost use Rattle.std.specs.Prelude.{◌≡◌, ℕ, ◌+◌, ◌-◌, ◌*◌, ◌%◌, false, length, set};
-ghost use denote.RawPtr.{◌+ₚ◌};
+ghost use Rattle.std.specs.Prelude.{◌≡◌, ℕ, ◌+◌, ◌-◌, ◌%◌, false, length, set};
 ghost use Rattle.rlsf_base.specs.Ledger.{IsIssued, entry_of, extent};
-ghost use Rattle.rlsf_base.specs.OpenSpace.{HasUnits, Home, home_of, IsAway, IsOwned, IsReadable, out_raw, out_without, place_in};
+ghost use Rattle.rlsf_base.specs.OpenSpace.{HasUnits, Home, home_of, IsAway, IsOwned, IsReadable, out_raw, out_without};
 ghost use Rattle.rlsf_base.specs.Range.{LiesIn, range_at};
 ghost use Rattle.rlsf_base.specs.Space.{word_at};
+ghost use Rattle.rlsf_base.specs.Steps.UnitParts.{AreTailUnits, IsTailSpot, IsTicketFor};
 ghost use Rattle.rlsf_base.specs.UnitPayload.{IsPlaced};
 ghost use Rattle.rlsf_base.specs.UnitTail.{IsKept};
 
@@ -48,9 +48,7 @@ impl UnitTail {
     /// Returns where the units behind the first `kept` bytes are, these units, and the ticket.
     fn into_parts(self, kept: usize) -> (TailSpot, Units, Ticket)
         requires { kept ≡ self.kept }
-        ensures { (result.0.ptr ≡ result.1.at +ₚ result.1.first * 16) × (result.0.len ≡ self.len)
-            × (result.1.at ≡ self.home.view.base.ptr) × (result.1.first * 16 ≡ place_in self.home.view self.start + self.kept) × (result.1.count * 16 + self.kept ≡ self.len)
-            × (result.2.name ≡ self.name) × (result.2.key ≡ self.key) × (result.2.addr ≡ self.start) × (result.2.len ≡ self.len) × (result.2.align ≡ 16) }
+        ensures { IsTailSpot result.1 self.len result.0 × AreTailUnits self.home self.start self.len self.kept result.1 × IsTicketFor self.name self.key self.start self.len result.2 }
     {
         let UnitTail { ptr, len } = self;
         let ptr = unsafe { ptr.add(kept) };

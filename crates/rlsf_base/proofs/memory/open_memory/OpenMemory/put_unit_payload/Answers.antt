@@ -22,7 +22,7 @@ addr c = c.args.payload.start + (c.args.payload.len + c.args.behind)
 readable : (c : After-self) → IsReadable c.args.self.now (addr c)
 readable c =
     let e = c.into_parts-units.ensures in
-    c.requires.readable (subst (λ (u : ℕ × (ℕ × ℕ × ℕ)). IsIssued c.args.ledger.now.entries u.0 (extent u.1.0 u.1.1 u.1.2)) (λ i. (e.7 i, (e.8 i, e.9 i, e.10 i)))
+    c.requires.readable (subst (λ (u : ℕ × (ℕ × ℕ × ℕ)). IsIssued c.args.ledger.now.entries u.0 (extent u.1.0 u.1.1 u.1.2)) (λ i. (e.2.1 i, (e.2.2 i, e.2.3 i, e.2.4 i)))
     c.redeem.ensures.issued)
 
 -- where the units begin in the block, and the word behind them in the memory
@@ -30,7 +30,7 @@ starts : (c : After-self) → c.into_parts-units.result.1.first * 16 ≡ (c.self
 starts c =
     let shift : c.args.payload.home.view.shift ≡ c.self.inside.shift =
     ap (λ (h : Home). h.view.shift) c.requires.home ∙ sym (ap (λ (s : Space). s.view.shift) c.self.view_is) in
-    c.into_parts-units.ensures.4 ∙ ap (λ k. (k + c.args.payload.start) % 2 ^ 64) shift
+    c.into_parts-units.ensures.1.1 ∙ ap (λ k. (k + c.args.payload.start) % 2 ^ 64) shift
 
 record Lies (c : After-self) : Type 0 where
   from : c.self.inside.bytes.skip ≤ c.into_parts-units.result.1.first * 16 + (c.into_parts-units.result.0.len + c.args.behind)
@@ -44,7 +44,7 @@ word_lies c =
     let long : length m.bytes.bytes ≡ length now.bytes = ap (λ (s : Space). length s.bytes) c.self.view_is in
     let home : c.args.payload.home.start ≡ now.start = ap (λ (h : Home). h.start) c.requires.home in
     let whole : c.args.payload.home.len ≡ length now.bytes = ap (λ (h : Home). h.len) c.requires.home in
-    let len : c.into_parts-units.result.0.len ≡ c.args.payload.len = c.into_parts-units.ensures.1 in
+    let len : c.into_parts-units.result.0.len ≡ c.args.payload.len = c.into_parts-units.ensures.0.1 in
     let first = starts c in let lies = c.args.payload.placed.lies in let word = (readable c).1 in let skip = c.self.invariant.lies.1 in let bounds = c.self.invariant.bounds in
     record { from = omega arith; to = omega arith; at = omega arith }
 
@@ -54,7 +54,7 @@ slice_ahead-requires c =
     let m = c.self.inside in let e = c.into_parts-units.ensures in let l = word_lies d in
     let base : c.args.payload.home.view.base.ptr ≡ m.bytes.at =
     ap (λ (h : Home). h.view.base.ptr) c.requires.home ∙ ap (λ (s : Space). s.view.base.ptr) (sym c.self.view_is) ∙ c.self.invariant.lies.0 in (
-      c.at-from.ensures ∙ e.0 ∙ (λ i. base i +ₚ sym e.4 i),
+      c.at-from.ensures ∙ e.0.0 ∙ (λ i. base i +ₚ sym e.1.1 i),
       ((l.from, l.to), here-in m.bytes.out c.args.self.now (word_range (addr d)) _ (ap (λ (s : Space). s.out) c.self.view_is) (readable d).1.0 l.at (readable d).2),
     )
 
@@ -74,12 +74,13 @@ returns c =
     let whole : p.home.len ≡ length now.bytes = ap (λ (h : Home). h.len) c.requires.home in
     let long : length m.bytes.bytes ≡ length now.bytes = ap (λ (s : Space). length s.bytes) is ∙ ap length t.bytes in
     let all = c.self-2.invariant.whole in omega arith in
-    let many : run.count * 16 ≡ p.len = e.5 in
+    let many : run.count * 16 ≡ p.len = e.1.2 in
     record {
-      issued = subst (λ (u : ℕ × (ℕ × ℕ × ℕ)). IsIssued c.args.ledger.now.entries u.0 (extent u.1.0 u.1.1 u.1.2)) (λ i. (e.7 i, (e.8 i, e.9 i, e.10 i))) c.redeem.ensures.issued;
+      issued = subst (λ (u : ℕ × (ℕ × ℕ × ℕ)). IsIssued c.args.ledger.now.entries u.0 (extent u.1.0 u.1.1 u.1.2)) (λ i. (e.2.1 i, (e.2.2 i, e.2.3 i, e.2.4 i)))
+          c.redeem.ensures.issued;
       ledger = (
         c.redeem.ensures.name,
-        c.redeem.ensures.entries ∙ (λ i. set c.args.ledger.now.entries (e.7 i) (entry_of (extent (e.8 i) (e.9 i) (e.10 i)) false)),
+        c.redeem.ensures.entries ∙ (λ i. set c.args.ledger.now.entries (e.2.1 i) (entry_of (extent (e.2.2 i) (e.2.3 i) (e.2.4 i)) false)),
       );
       word = c.word_of-word.ensures ∙ ap (λ bs. from_le_bytes w64 bs) read ∙ sym (word_at-is now (addr d) (readable d).1.0 (readable d).2);
       away = λ a lo hi. ap (λ cs. kept_at cs (a - now.start)) (sym out) ∙ back.0 (a - now.start) (omega (arith, place, lo)) (omega (arith, place, many, lo, hi, p.placed.lies));

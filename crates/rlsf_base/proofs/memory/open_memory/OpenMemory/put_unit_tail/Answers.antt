@@ -22,7 +22,7 @@ addr c = c.args.tail.start + (c.args.tail.len + c.args.behind)
 readable : (c : After-self) → IsReadable c.args.self.now (addr c)
 readable c =
     let e = c.into_parts-units.ensures in
-    c.requires.readable (subst (λ (u : ℕ × (ℕ × ℕ × ℕ)). IsIssued c.args.ledger.now.entries u.0 (extent u.1.0 u.1.1 u.1.2)) (λ i. (e.6 i, (e.7 i, e.8 i, e.9 i)))
+    c.requires.readable (subst (λ (u : ℕ × (ℕ × ℕ × ℕ)). IsIssued c.args.ledger.now.entries u.0 (extent u.1.0 u.1.1 u.1.2)) (λ i. (e.2.1 i, (e.2.2 i, e.2.3 i, e.2.4 i)))
     c.redeem.ensures.issued)
 
 -- where the units begin in the block, and the word behind them in the memory
@@ -30,7 +30,7 @@ starts : (c : After-self) → c.into_parts-units.result.1.first * 16 ≡ (c.self
 starts c =
     let shift : c.args.tail.home.view.shift ≡ c.self.inside.shift =
     ap (λ (h : Home). h.view.shift) c.requires.home ∙ sym (ap (λ (s : Space). s.view.shift) c.self.view_is) in
-    c.into_parts-units.ensures.3 ∙ ap (λ k. (k + c.args.tail.start) % 2 ^ 64 + c.args.tail.kept) shift
+    c.into_parts-units.ensures.1.1 ∙ ap (λ k. (k + c.args.tail.start) % 2 ^ 64 + c.args.tail.kept) shift
 
 record Lies (c : After-self) : Type 0 where
   from : c.self.inside.bytes.skip ≤ c.into_parts-units.result.1.first * 16 + (c.into_parts-units.result.0.len - c.args.kept + c.args.behind)
@@ -44,7 +44,7 @@ word_lies c =
     let long : length m.bytes.bytes ≡ length now.bytes = ap (λ (s : Space). length s.bytes) c.self.view_is in
     let home : c.args.tail.home.start ≡ now.start = ap (λ (h : Home). h.start) c.requires.home in
     let whole : c.args.tail.home.len ≡ length now.bytes = ap (λ (h : Home). h.len) c.requires.home in
-    let len : c.into_parts-units.result.0.len ≡ c.args.tail.len = c.into_parts-units.ensures.1 in
+    let len : c.into_parts-units.result.0.len ≡ c.args.tail.len = c.into_parts-units.ensures.0.1 in
     let kept : c.args.kept ≡ c.args.tail.kept = c.requires.kept in let within = c.args.tail.within in
     let first = starts c in let lies = c.args.tail.placed.lies in let word = (readable c).1 in let skip = c.self.invariant.lies.1 in let bounds = c.self.invariant.bounds in
     record { from = omega arith; to = omega arith; at = omega arith }
@@ -55,7 +55,7 @@ slice_ahead-requires c =
     let m = c.self.inside in let e = c.into_parts-units.ensures in let l = word_lies d in
     let base : c.args.tail.home.view.base.ptr ≡ m.bytes.at =
     ap (λ (h : Home). h.view.base.ptr) c.requires.home ∙ ap (λ (s : Space). s.view.base.ptr) (sym c.self.view_is) ∙ c.self.invariant.lies.0 in (
-      c.at-from.ensures ∙ e.0 ∙ (λ i. (e.2 ∙ base) i +ₚ c.into_parts-units.result.1.first * 16),
+      c.at-from.ensures ∙ e.0.0 ∙ (λ i. (e.1.0 ∙ base) i +ₚ c.into_parts-units.result.1.first * 16),
       ((l.from, l.to), here-in m.bytes.out c.args.self.now (word_range (addr d)) _ (ap (λ (s : Space). s.out) c.self.view_is) (readable d).1.0 l.at (readable d).2),
     )
 
@@ -75,12 +75,13 @@ returns c =
     let whole : p.home.len ≡ length now.bytes = ap (λ (h : Home). h.len) c.requires.home in
     let long : length m.bytes.bytes ≡ length now.bytes = ap (λ (s : Space). length s.bytes) is ∙ ap length t.bytes in
     let all = c.self-2.invariant.whole in omega arith in
-    let many : run.count * 16 ≡ p.len - p.kept = omega (arith, e.4) in
+    let many : run.count * 16 ≡ p.len - p.kept = omega (arith, e.1.2) in
     record {
-      issued = subst (λ (u : ℕ × (ℕ × ℕ × ℕ)). IsIssued c.args.ledger.now.entries u.0 (extent u.1.0 u.1.1 u.1.2)) (λ i. (e.6 i, (e.7 i, e.8 i, e.9 i))) c.redeem.ensures.issued;
+      issued = subst (λ (u : ℕ × (ℕ × ℕ × ℕ)). IsIssued c.args.ledger.now.entries u.0 (extent u.1.0 u.1.1 u.1.2)) (λ i. (e.2.1 i, (e.2.2 i, e.2.3 i, e.2.4 i)))
+          c.redeem.ensures.issued;
       ledger = (
         c.redeem.ensures.name,
-        c.redeem.ensures.entries ∙ (λ i. set c.args.ledger.now.entries (e.6 i) (entry_of (extent (e.7 i) (e.8 i) (e.9 i)) false)),
+        c.redeem.ensures.entries ∙ (λ i. set c.args.ledger.now.entries (e.2.1 i) (entry_of (extent (e.2.2 i) (e.2.3 i) (e.2.4 i)) false)),
       );
       word = c.word_of-word.ensures ∙ ap (λ bs. from_le_bytes w64 bs) read ∙ sym (word_at-is now (addr d) (readable d).1.0 (readable d).2);
       away = λ a lo hi. ap (λ cs. kept_at cs (a - now.start)) (sym out) ∙ back.0 (a - now.start) (omega (arith, place, lo)) (omega (arith, place, many, lo, hi, p.placed.lies));

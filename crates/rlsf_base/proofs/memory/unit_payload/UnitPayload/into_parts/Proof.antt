@@ -73,5 +73,5 @@ into_parts_spec 𝓤 𝓛 𝓜 𝓡 wired =
     use3 𝓛 (‵ (Three.own_val (spot, run, ticket) (v ∷ [])))
     (three_of 𝓛 spot_type.the_row units_type.the_row ticket_type.the_row spot run ticket (spot_val d.ptr len) mark_val mark_val) $
     suffices ! _ (ends_at 𝓛 f.ended stayed c y v (spot, run, ticket) (tt, tt) (tt, tt)) $ says !
-    (d.placed.at, refl, d.placed, refl, whole_place, whole_len, refl, refl, refl, refl, refl) $
+    ((d.placed.at, refl, d.placed), (refl, whole_place, whole_len), (refl, refl, refl, refl, refl)) $
     nothing ! $ nothing ! $ join ! $ nothing ! $ done !))

@@ -95,5 +95,5 @@ into_parts_spec 𝓤 𝓛 𝓜 𝓡 wired =
     use3 𝓛 (‵ (Three.own_val (spot, run, ticket) (v ∷ [])))
     (three_of 𝓛 spot_type.the_row units_type.the_row ticket_type.the_row spot run ticket (spot_val p len) mark_val mark_val) $
     suffices ! _ (ends_at 𝓛 f.ended stayed c y v (spot, run, ticket) (tt, (tt, tt)) (tt, (tt, tt))) $ says !
-    (pointed, refl, refl, whole_place, whole_len, refl, refl, refl, refl, refl) $
+    ((pointed, refl), (refl, whole_place, whole_len), (refl, refl, refl, refl, refl)) $
     nothing ! $ nothing ! $ join ! $ nothing ! $ join ! $ nothing ! $ done !))))
