@@ -11,9 +11,9 @@ ghost use Rattle.rlsf_table.specs.Counts.{Costs, Counts};
 ghost use Rattle.rlsf_table.specs.FreeTable.{IsFreeTable};
 ghost use Rattle.rlsf_table.specs.Table.{Table};
 ghost use Rattle.rlsf_blocks.specs.StandsFor.{contents, StandsFor};
-ghost use Rattle.rlsf_blocks.specs.Steps.Join.{IsMarked, IsNextOut, IsPreviousOut, IsNewFreeBlock};
+ghost use Rattle.rlsf_blocks.specs.Steps.Join.{AtEachMarked, IsMarked, IsNextOut, IsPreviousOut, IsNewFreeBlock};
 ghost use Rattle.rlsf_blocks.specs.Steps.LiveBlock.{IsBlockOf};
-ghost use Rattle.rlsf_blocks.specs.Steps.Rest.{IsInnerRoom};
+ghost use Rattle.rlsf_blocks.specs.Steps.Rest.{AtEachInnerRoom, IsInnerRoom};
 ghost use Rattle.rlsf_blocks.specs.Steps.Standing.{AtEachUsed, StandsAfter};
 
 use crate::{GRANULARITY, HEADER};
@@ -48,8 +48,7 @@ fn take_free<const FLLEN: usize, const SLLEN: usize>(
     requires parameters { IsValid 128 128 FLLEN SLLEN }
     requires marked { (free : List Range) × IsFreeTable FLLEN SLLEN memory.old table.old free × IsMarked memory.old free block }
     requires view { view ≡ memory.old.view }
-    ensures step { (free : List Range) → IsFreeTable FLLEN SLLEN memory.old table.old free → IsMarked memory.old free block
-        → IsNextOut FLLEN SLLEN memory.old memory.new table.new free block (unwrap_or result 0) }
+    ensures step { AtEachMarked FLLEN SLLEN memory.old table.old block (λ free. IsNextOut FLLEN SLLEN memory.old memory.new table.new free block (unwrap_or result 0)) }
     ensures some { IfSome result (λ len. 0 < len) }
     ensures costs { Costs memory.old memory.new 9 0 }
 {
@@ -73,7 +72,7 @@ pub fn take_if_free<const FLLEN: usize, const SLLEN: usize>(
     requires parameters { IsValid 128 128 FLLEN SLLEN }
     requires marked { (free : List Range) × IsFreeTable FLLEN SLLEN memory.old table.old free × IsMarked memory.old free block }
     requires view { view ≡ memory.old.view }
-    ensures step { (free : List Range) → IsFreeTable FLLEN SLLEN memory.old table.old free → IsMarked memory.old free block → IsNextOut FLLEN SLLEN memory.old memory.new table.new free block result }
+    ensures step { AtEachMarked FLLEN SLLEN memory.old table.old block (λ free. IsNextOut FLLEN SLLEN memory.old memory.new table.new free block result) }
     ensures costs { Costs memory.old memory.new 9 0 }
 {
     match take_free(memory, view, table, block) {
@@ -119,8 +118,7 @@ fn put<const FLLEN: usize, const SLLEN: usize>(
     requires parameters { IsValid 128 128 FLLEN SLLEN }
     requires room { (free : List Range) × (r : Range) × (r.start ≡ block) × (r.len ≡ len) × IsInnerRoom FLLEN SLLEN memory.old table.old free r }
     requires view { view ≡ memory.old.view }
-    ensures step { (free : List Range) (r : Range) → r.start ≡ block → r.len ≡ len → IsInnerRoom FLLEN SLLEN memory.old table.old free r
-        → IsNewFreeBlock FLLEN SLLEN memory.old memory.new table.new free r }
+    ensures step { AtEachInnerRoom FLLEN SLLEN memory.old table.old block len (λ free r. IsNewFreeBlock FLLEN SLLEN memory.old memory.new table.new free r) }
     ensures costs { Costs memory.old memory.new 11 0 }
 {
     memory.set_word_at(view, block, len as u64);

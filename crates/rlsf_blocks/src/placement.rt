@@ -1,18 +1,17 @@
 //! A free block, or its front, becomes a used block.
 
-ghost use Rattle.std.specs.Prelude.{◌≡◌, ◌+◌, ◌-◌, ◌%◌, ◌^◌, ◌<◌, List, Some, IfNone};
+ghost use Rattle.std.specs.Prelude.{◌≡◌, ◌+◌, ◌-◌, ◌%◌, ◌^◌, ◌<◌, List, IfNone};
 ghost use Rattle.rlsf_base.specs.declared.memory.range.Range.{Range};
 ghost use Rattle.rlsf_base.specs.Range.{range_at};
 ghost use Rattle.rlsf_base.specs.SizeClass.{IsValid};
-ghost use Rattle.rlsf_base.specs.Sizes.{request_size};
 ghost use Rattle.rlsf_base.specs.Space.{word_at};
 ghost use Rattle.rlsf_base.specs.OpenSpace.{SameOwn, StaysHere};
-ghost use Rattle.rlsf_model.specs.Allocate.{Allocates, choice, Places};
+ghost use Rattle.rlsf_model.specs.Allocate.{Allocates, Places};
 ghost use Rattle.rlsf_model.specs.Payload.{block_length, payload_of};
 ghost use Rattle.rlsf_model.specs.State.{State};
 ghost use Rattle.rlsf_table.specs.Counts.{Costs, Counts};
 ghost use Rattle.rlsf_table.specs.Table.{IsClassAt};
-ghost use Rattle.rlsf_blocks.specs.Steps.Rest.{AtEachChosen, AtEachRest, AtEachTaken, IsInnerRoom, IsFreeBlockBehind, IsOpened, IsTaken};
+ghost use Rattle.rlsf_blocks.specs.Steps.Rest.{AtEachChosen, AtEachRest, AtEachTaken, IsChosenIn, IsInnerRoom, IsFreeBlockBehind, IsOpened, IsTaken};
 ghost use Rattle.rlsf_blocks.specs.Steps.Standing.{InEach, StepsTo};
 ghost use Rattle.rlsf_blocks.specs.StandsFor.{contents, StandsFor};
 
@@ -107,8 +106,7 @@ fn place<const FLLEN: usize, const SLLEN: usize>(
 ) -> usize
     requires parameters { IsValid 128 128 FLLEN SLLEN }
     requires class { IsClassAt FLLEN SLLEN (word_at memory.old found.start) found.class.fl found.class.sl }
-    requires chosen { (s : State) × (f : Range) × StandsFor FLLEN SLLEN (contents memory.old table.old) s
-        × (choice SLLEN (request_size layout.size layout.align) s.free ≡ Some f) × (f.start ≡ found.start) }
+    requires chosen { IsChosenIn FLLEN SLLEN memory.old table.old layout found.start }
     requires view { view ≡ memory.old.view }
     ensures step { AtEachChosen FLLEN SLLEN memory.old table.old layout found.start (λ s f. StepsTo FLLEN SLLEN memory.old memory.new table.new s (Places SLLEN s layout.size layout.align result)) }
     ensures costs { Costs memory.old memory.new 23 0 }

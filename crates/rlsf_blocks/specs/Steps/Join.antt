@@ -21,6 +21,10 @@ pub record IsMarked (m : Space) (free : List Range) (a : ℕ) : Type 0 where
   pub word : IsReadable m a
   pub mark : (word_at m a % 2 ≡ 0) ↔ FreeBlockBegins free a
 
+-- this is true of each list of free blocks that memory and table have, if the word at the address is marked by it
+abbrev pub AtEachMarked : ℕ → ℕ → Space → Table → ℕ → (List Range → Type 0) → Type 0
+AtEachMarked fllen sllen m t a P = (free : List Range) → IsFreeTable fllen sllen m t free → IsMarked m free a → P free
+
 -- the table without the block that begins at an address, if there is one, and its length, or 0
 pub record IsNextOut (fllen sllen : ℕ) (m n : Space) (t : Table) (free : List Range) (a len : ℕ) : Type 0 where
   pub rewrites : Rewrites m n (IsLink free)

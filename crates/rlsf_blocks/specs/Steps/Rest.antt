@@ -53,6 +53,11 @@ pub record IsTaken (sllen : ℕ) (s : State) (f : Range) (block len taken : ℕ)
 abbrev pub AtEachTaken : ℕ → ℕ → Space → Table → ℕ → ℕ → ℕ → (State → Range → Type 0) → Type 0
 AtEachTaken fllen sllen m t block len taken P = (s : State) (f : Range) → StandsFor fllen sllen (contents m t) s → IsTaken sllen s f block len taken → P s f
 
+-- in some state that memory and table represent, the free range at the address is chosen for the layout
+abbrev pub IsChosenIn : ℕ → ℕ → Space → Table → Layout → ℕ → Type 0
+IsChosenIn fllen sllen m t layout block = (s : State) × (f : Range) × StandsFor fllen sllen (contents m t) s
+    × (choice sllen (request_size layout.size layout.align) s.free ≡ Some f) × (f.start ≡ block)
+
 -- this is true of the free range at the address, if it is chosen for the layout, in each state that memory and table represent
 abbrev pub AtEachChosen : ℕ → ℕ → Space → Table → Layout → ℕ → (State → Range → Type 0) → Type 0
 AtEachChosen fllen sllen m t layout block P = (s : State) (f : Range) → StandsFor fllen sllen (contents m t) s
