@@ -2,6 +2,7 @@
 
 ghost use Rattle.std.specs.Prelude.{◌≡◌, ◌+◌, ◌*◌, is_some, length, if◌then◌else◌};
 ghost use Rattle.rlsf_base.specs.declared.memory.range.Range.{Range};
+ghost use Rattle.rlsf_base.specs.OpenSpace.{SameOwn, StaysHere};
 ghost use Rattle.rlsf_base.specs.Range.{end_of};
 ghost use Rattle.rlsf_base.specs.SizeClass.{IsValid};
 ghost use Rattle.rlsf_base.specs.Sizes.{max_pool_size};
@@ -33,6 +34,8 @@ fn extend_chunk<const FLLEN: usize, const SLLEN: usize>(
         × IsExtensible FLLEN (range_of memory.old) s c len × (end_of c ≡ end) }
     ensures step { AtEachExtensible FLLEN SLLEN memory.old table.old end len (λ s c. StandsAfter FLLEN SLLEN memory.old memory.new table.new s (grown c len s)) }
     ensures costs { Costs memory.old memory.new 34 0 }
+    ensures own { SameOwn memory.old memory.new }
+    ensures here { StaysHere memory.old memory.new }
 {
     // The word that names the block before the old sentinel stays: it names the one before the new block.
     let block = end - GRANULARITY;
@@ -56,6 +59,8 @@ pub fn append_chunks<const FLLEN: usize, const SLLEN: usize>(
     ensures step { InEach FLLEN SLLEN memory.old table.old (λ s. IsNext (range_of memory.old) s range → StepsTo FLLEN SLLEN memory.old memory.new table.new s (Appends FLLEN s range result)) }
     ensures unchanged { result ≡ 0 → memory.new.bytes ≡ memory.old.bytes }
     ensures costs { Costs memory.old memory.new (if is_some (max_pool_size FLLEN) then 13 * length (cut (max_pool_size FLLEN) (aligned_part range)) else 34) 0 }
+    ensures own { SameOwn memory.old memory.new }
+    ensures here { StaysHere memory.old memory.new }
 {
     if classes::max_pool_size::<u128, u128, FLLEN, SLLEN>().is_some() {
         return match insert_chunks(memory, table, range) {

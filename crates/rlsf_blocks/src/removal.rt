@@ -2,6 +2,7 @@
 
 ghost use Rattle.std.specs.Prelude.{◌≡◌, ◌+◌, ◌≤◌};
 ghost use Rattle.rlsf_base.specs.declared.memory.range.Range.{Range};
+ghost use Rattle.rlsf_base.specs.OpenSpace.{SameOwn, StaysHere};
 ghost use Rattle.rlsf_base.specs.SizeClass.{IsValid};
 ghost use Rattle.rlsf_base.specs.Space.{SamePlace};
 ghost use Rattle.rlsf_model.specs.ChunkRows.{IsRow};
@@ -29,6 +30,8 @@ fn remove_chunk<const FLLEN: usize, const SLLEN: usize>(
     requires idle { (s : State) × (c : Range) × StandsFor FLLEN SLLEN (contents memory.old table.old) s × IsIdleChunk s c start }
     ensures step { (s : State) (c : Range) → StandsFor FLLEN SLLEN (contents memory.old table.old) s → IsIdleChunk s c start → IsRemoved FLLEN SLLEN memory.old memory.new table.new s c result }
     ensures costs { Costs memory.old memory.new 9 0 }
+    ensures own { SameOwn memory.old memory.new }
+    ensures here { StaysHere memory.old memory.new }
 {
     let view = memory.view();
     let free = take_if_free(memory, view, table, start);
@@ -53,6 +56,8 @@ pub fn remove_chunks<const FLLEN: usize, const SLLEN: usize>(
     ensures touches { InEach FLLEN SLLEN memory.old table.old (λ s. IsRow s (walked range) → IsIdle s (walked range) → CountsRemoved memory.old memory.new s (walked range)) }
     ensures grow { memory.old.touches ≤ memory.new.touches }
     ensures copied { memory.new.copied ≡ memory.old.copied }
+    ensures own { SameOwn memory.old memory.new }
+    ensures here { StaysHere memory.old memory.new }
 {
     let (mut start, end) = span(range);
     while start < end {

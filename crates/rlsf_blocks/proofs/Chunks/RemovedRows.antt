@@ -18,6 +18,7 @@ use Rattle.rlsf_model.specs.State.{State, between}
 use Rattle.rlsf_model.proofs.Removals.{lies_within-le, lies_within-true, IsIn-outside, IsIn-outside_from}
 use Rattle.rlsf_blocks.proofs.Chunks.Filtered.{lies_within-split, length-outside_of_one, outside_of-none, outside_of-twice}
 use Rattle.rlsf_blocks.proofs.Words.Apart.{chunk_chunk, home_of_free}
+use Rattle.rlsf_blocks.proofs.Words.Stays.{Stays, Stays-same, Stays-then}
 
 -- the chunks of the range q up to `start` are taken out of the state s
 pub record IsRemovedTo (fllen sllen : ℕ) (m0 : Space) (s : State) (q : Range) (m : Space) (table : Table) (start : ℕ) : Type 0 where
@@ -30,6 +31,7 @@ pub record IsRemovedTo (fllen sllen : ℕ) (m0 : Space) (s : State) (q : Range) 
   pub touches : m.touches + 9 * length (outside_of (between q.start start) s.chunks) ≤ m0.touches + 9 * length s.chunks
   pub grow : m0.touches ≤ m.touches
   pub copied : m.copied ≡ m0.copied
+  pub stays : Stays m0 m
 
 module _ {fllen sllen : ℕ} {m0 : Space} {t0 : Table} {s : State} (v : StandsFor fllen sllen (contents m0 t0) s) where
   -- nothing lies in an empty range
@@ -87,6 +89,7 @@ module _ {fllen sllen : ℕ} {m0 : Space} {t0 : Table} {s : State} (v : StandsFo
           touches = omega (arith, ap (λ (x : State). length x.chunks) same);
           grow = omega arith;
           copied = refl;
+          stays = Stays-same m0 m0 refl refl;
         }
 
     module _ {m : Space} {table : Table} {start : ℕ} (is : IsRemovedTo fllen sllen m0 s q m table start) (more : start < end_of q) where
@@ -149,8 +152,8 @@ module _ {fllen sllen : ℕ} {m0 : Space} {t0 : Table} {s : State} (v : StandsFo
       pub IsRemovedTo-next : {n : Space} {other : Table} {end : ℕ}
           → StandsFor fllen sllen (contents n other) (removed chunk (removed (between q.start start) s))
           × KeepsSpare m (removed (between q.start start) s) n (removed (between q.start start) s) × (end_of chunk ≡ end)
-          → Costs m n 9 0 → IsRemovedTo fllen sllen m0 s q n other end
-      IsRemovedTo-next {n} {other} {end} (stands, spare, at) costs =
+          → Costs m n 9 0 → Stays m n → IsRemovedTo fllen sllen m0 s q n other end
+      IsRemovedTo-next {n} {other} {end} (stands, spare, at) costs stays =
           let next = removed-next end at in
           record {
             from = omega (arith, is.from, at, past);
@@ -180,6 +183,7 @@ module _ {fllen sllen : ℕ} {m0 : Space} {t0 : Table} {s : State} (v : StandsFo
             );
             grow = omega (arith, is.grow, costs.grow);
             copied = omega (arith, is.copied, costs.copied);
+            stays = Stays-then is.stays stays;
           }
 
     -- at the end all are taken out

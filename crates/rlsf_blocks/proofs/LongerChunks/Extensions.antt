@@ -32,6 +32,7 @@ use Rattle.rlsf_table.proofs.Tables.FreeTables.{HasTable-Rewrites}
 use Rattle.rlsf_blocks.proofs.RepresentedStates.FreeBlocks.{CanBeBlock-free}
 use Rattle.rlsf_table.proofs.Words.Writes.{Rewrites-trans, Rewrites-weaken, Rewrites-word}
 use Rattle.rlsf_blocks.proofs.Chunks.Pools.{KeepsSpare-Touched}
+use Rattle.rlsf_blocks.proofs.Words.Stays.{Stays, Stays-rewrites}
 use Rattle.rlsf_blocks.proofs.Words.Apart.{Has, chunk_chunk, home_of_free, home_of_used, free_last, used_last}
 use Rattle.rlsf_blocks.proofs.Words.Frames.{used_size, used_previous, used_bytes, used_pad, free_size, free_previous, chunk_first, chunk_sentinel}
 use Rattle.rlsf_table.proofs.Words.Writing.{IsWrite, write, rewrites_of, reads_of}
@@ -115,6 +116,9 @@ module _ {fllen sllen : ℕ} {m : Space} {table : Table} {s : State} (v : Stands
   module _ {m1 m2 n : Space} (writes : AreExtended m m1 m2 n c len) where
     written : Rewrites m n (λ a. ((a ≡ sentinel_of c) ⊎ (a ≡ sentinel_of c + len)) ⊎ (a ≡ sentinel_of c + len + 8))
     written = Rewrites-trans (Rewrites-trans (rewrites_of writes.one) (rewrites_of writes.two)) (rewrites_of writes.three)
+
+    pub Stays-extended : Stays m n
+    Stays-extended = Stays-rewrites written
 
     -- the new block's payload is here
     pub here_more : IsOwned n (usable (more_block c len (more_bytes n c len)))

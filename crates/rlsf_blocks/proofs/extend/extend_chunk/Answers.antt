@@ -7,7 +7,7 @@ use Rattle.rlsf_base.specs.Space.{range_of, word_range, with_word}
 use Rattle.rlsf_model.specs.State.{State}
 use Rattle.rlsf_blocks.specs.StandsFor.{contents, StandsFor}
 use Rattle.rlsf_blocks.specs.Steps.Extension.{IsExtensible, lengthened, more_block}
-use Rattle.rlsf_blocks.proofs.LongerChunks.Extensions.{extension, here_more, here_extension, AreExtended, AreExtended-from, StandsFor-lengthened, grown_stands, more_bytes, placed}
+use Rattle.rlsf_blocks.proofs.LongerChunks.Extensions.{extension, here_more, here_extension, AreExtended, AreExtended-from, StandsFor-lengthened, Stays-extended, grown_stands, more_bytes, placed}
 use Rattle.rlsf_table.proofs.Costs.{Costs-then, Costs-written}
 use Rattle.rlsf_blocks.proofs.extend.extend_chunk.Given as given
 use Rattle.rlsf_blocks.proofs.extend.extend_chunk.Goals as goal
@@ -116,3 +116,15 @@ returns-clause-costs g c =
     Costs-written two.new.self three.new.self (c.args.end - 32 + c.args.len + 8) three.ensures.start three.ensures.len three.ensures.touches three.ensures.copied
     three.ensures.view three.ensures.out in
     Costs-then (Costs-then (Costs-then first second) third) c.deallocate_block.ensures.costs
+
+pub returns-clause-own : goal.returns-clause-own
+returns-clause-own g c =
+    let (s, d, v, is, at) = c.requires.extensible in
+    let stays = Stays-extended v d c.args.len is (written g (goal.at.returns-clause-own g c).After-set_word-3 d v is at) in
+    λ a inside. c.deallocate_block.ensures.own a (omega (arith, stays.start)) ∙ stays.own a inside
+
+pub returns-clause-here : goal.returns-clause-here
+returns-clause-here g c =
+    let (s, d, v, is, at) = c.requires.extensible in
+    let stays = Stays-extended v d c.args.len is (written g (goal.at.returns-clause-here g c).After-set_word-3 d v is at) in
+    λ a inside was. c.deallocate_block.ensures.here a (omega (arith, stays.start)) (stays.here a inside was)

@@ -32,3 +32,13 @@ returns-clause-step g c =
 pub returns-clause-costs : goal.returns-clause-costs
 returns-clause-costs g c =
     c.take_if_free-free.ensures.costs
+
+pub returns-clause-own : goal.returns-clause-own
+returns-clause-own g c =
+    let (s, k, v, is) = c.requires.idle in
+    (c.take_if_free-free.ensures.step s.free (IsFreeTable-free v) (IsMarked-idle v k is.is_chunk is.idle c.args.start is.begins)).rewrites.own
+
+pub returns-clause-here : goal.returns-clause-here
+returns-clause-here g c =
+    let (s, k, v, is) = c.requires.idle in
+    (c.take_if_free-free.ensures.step s.free (IsFreeTable-free v) (IsMarked-idle v k is.is_chunk is.idle c.args.start is.begins)).rewrites.here

@@ -47,7 +47,8 @@ loop-start-preserved g c = λ s v row idle.
     let more : c.loop-start.start < end_of q = omega (arith, c.loop-start-test.true, span.within) in
     let step =
     c.remove_chunk-start.ensures.step (removed (between q.start c.loop-start.start) s) (chunk v q rowed idles is more) is.stands (IsIdleChunk-next v q rowed idles is more) in
-    (span, IsRemovedTo-next v q rowed idles is more step c.remove_chunk-start.ensures.costs)
+    let e = c.remove_chunk-start.ensures in
+    (span, IsRemovedTo-next v q rowed idles is more step e.costs (record { start = e.costs.start; own = e.own; here = e.here }))
 
 pub returns : goal.returns
 returns g c = record {
@@ -71,4 +72,10 @@ returns g c = record {
   copied =
       let (s, v, row, idle) = c.requires.idle in
       (c.loop-start.invariant s v row idle).1.copied;
+  own =
+      let (s, v, row, idle) = c.requires.idle in
+      (c.loop-start.invariant s v row idle).1.stays.own;
+  here =
+      let (s, v, row, idle) = c.requires.idle in
+      (c.loop-start.invariant s v row idle).1.stays.here;
 }
