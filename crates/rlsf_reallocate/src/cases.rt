@@ -8,7 +8,7 @@ ghost use Rattle.rlsf_model.specs.NoMove.{unmoved_plan};
 ghost use Rattle.rlsf_model.specs.Reallocate.{Plan};
 ghost use Rattle.rlsf_model.specs.State.{State, Used, usable};
 ghost use Rattle.rlsf_blocks.specs.StandsFor.{contents, StandsFor};
-ghost use Rattle.rlsf_reallocate.specs.Steps.Resize.{AtEachPayload, IsHereStill, IsReallocated, IsUsedAt};
+ghost use Rattle.rlsf_reallocate.specs.Steps.Resize.{AtEachHere, AtEachPayload, IsHereStill, IsReallocated, IsUsedAt};
 
 use crate::elsewhere::move_elsewhere;
 use crate::previous::move_into_previous;
@@ -40,8 +40,7 @@ pub fn reallocate_block<const FLLEN: usize, const SLLEN: usize, const WHOLE: usi
     requires used { (s : State) × (u : Used) × StandsFor FLLEN SLLEN (contents memory.old table.old) s × IsUsedAt s u block payload layout.align × IsHere memory.old (usable u) }
     requires view { view ≡ memory.old.view }
     requires whole { WHOLE ≡ 1 → memory.old.out ≡ [] }
-    ensures step { AtEachPayload FLLEN SLLEN memory.old table.old block payload layout
-        (λ s u. IsHere memory.old (usable u) → IsReallocated FLLEN SLLEN memory.old memory.new table.new s u layout.size result) }
+    ensures step { AtEachHere FLLEN SLLEN memory.old table.old block payload layout (λ s u. IsReallocated FLLEN SLLEN memory.old memory.new table.new s u layout.size result) }
     ensures refused { IfNone result (memory.new.bytes ≡ memory.old.bytes) }
     ensures place { SamePlace memory.old memory.new }
     ensures touches { memory.new.touches ≤ memory.old.touches + 65 }

@@ -1,14 +1,12 @@
 //! A payload moves into a block that is allocated for it.
 
-ghost use Rattle.std.specs.Prelude.{◌≡◌, ◌+◌, ◌≤◌, None, IfNone, []};
+ghost use Rattle.std.specs.Prelude.{◌≡◌, ◌+◌, ◌≤◌, IfNone, []};
 ghost use Rattle.rlsf_base.specs.SizeClass.{IsValid};
 ghost use Rattle.rlsf_base.specs.Space.{SamePlace};
-ghost use Rattle.rlsf_base.specs.OpenSpace.{IsHere, SameOwn, StaysHere};
-ghost use Rattle.rlsf_model.specs.Reallocate.{in_place};
-ghost use Rattle.rlsf_model.specs.State.{State, Used, usable};
-ghost use Rattle.rlsf_blocks.specs.StandsFor.{contents, StandsFor};
+ghost use Rattle.rlsf_base.specs.OpenSpace.{SameOwn, StaysHere};
+ghost use Rattle.rlsf_model.specs.State.{usable};
 ghost use Rattle.rlsf_table.specs.Counts.{Counts};
-ghost use Rattle.rlsf_reallocate.specs.Steps.Resize.{AtEachPayload, AtEachShort, IsElsewhere, IsHereStill, IsUsedAt};
+ghost use Rattle.rlsf_reallocate.specs.Steps.Resize.{AtEachPayload, AtEachShort, AtEachShortHere, HasShortHere, IsElsewhere, IsHereStill};
 
 use crate::copying::copy_payload;
 use rlsf_base::memory::{Layout, OpenMemory, Range, View};
@@ -32,11 +30,9 @@ pub fn move_elsewhere<const FLLEN: usize, const SLLEN: usize, const WHOLE: usize
 ) -> Option<usize>
     requires parameters { IsValid 128 128 FLLEN SLLEN }
     requires view { view ≡ memory.old.view }
-    requires used { (s : State) × (u : Used) × StandsFor FLLEN SLLEN (contents memory.old table.old) s × IsUsedAt s u block payload layout.align
-        × (in_place s u layout.size ≡ None) × IsHere memory.old (usable u) }
+    requires used { HasShortHere FLLEN SLLEN memory.old table.old block payload layout }
     requires whole { WHOLE ≡ 1 → memory.old.out ≡ [] }
-    ensures step { AtEachShort FLLEN SLLEN memory.old table.old block payload layout
-        (λ s u. IsHere memory.old (usable u) → IsElsewhere FLLEN SLLEN memory.old memory.new table.new s u layout.size result) }
+    ensures step { AtEachShortHere FLLEN SLLEN memory.old table.old block payload layout (λ s u. IsElsewhere FLLEN SLLEN memory.old memory.new table.new s u layout.size result) }
     ensures unchanged { IfNone result (Counts memory.old memory.new 5 × (table.new ≡ table.old)) }
     ensures place { SamePlace memory.old memory.new }
     ensures touches { memory.new.touches ≤ memory.old.touches + 59 }

@@ -1,18 +1,18 @@
 //! A payload moves into the free block before its own.
 
-ghost use Rattle.std.specs.Prelude.{◌≡◌, ◌+◌, ◌≤◌, ℕ, None, find, IfNone, IfSome, []};
+ghost use Rattle.std.specs.Prelude.{◌≡◌, ◌+◌, ◌≤◌, ℕ, None, find, IfNone, []};
 ghost use Rattle.rlsf_base.specs.SizeClass.{IsValid};
 ghost use Rattle.rlsf_base.specs.Space.{SamePlace};
-ghost use Rattle.rlsf_base.specs.OpenSpace.{IsHere, SameOwn, StaysHere};
+ghost use Rattle.rlsf_base.specs.OpenSpace.{SameOwn, StaysHere};
 ghost use Rattle.rlsf_model.specs.Join.{ends_at, start_or};
 ghost use Rattle.rlsf_model.specs.Lists.{IsIn};
-ghost use Rattle.rlsf_model.specs.Reallocate.{in_place, into_previous};
+ghost use Rattle.rlsf_model.specs.Reallocate.{into_previous};
 ghost use Rattle.rlsf_model.specs.State.{State, Used, usable};
 ghost use Rattle.rlsf_blocks.specs.StandsFor.{contents, StandsFor};
 ghost use Rattle.rlsf_blocks.specs.Steps.Standing.{AtEachUsed};
 ghost use Rattle.rlsf_table.specs.Counts.{Counts};
 ghost use Rattle.rlsf_reallocate.specs.Steps.Previous.{IsUsedBlock, IsPlaceBefore};
-ghost use Rattle.rlsf_reallocate.specs.Steps.Resize.{AtEachPayload, AtEachShort, IsHereStill, IsPlanned, IsUsedAt};
+ghost use Rattle.rlsf_reallocate.specs.Steps.Resize.{AtEachPayload, AtEachShort, AtEachShortHere, HasShortHere, IsHereStill, IsMovedBefore};
 ghost use Rattle.rlsf_table.specs.Table.{Table};
 
 use crate::copying::copy_payload;
@@ -83,12 +83,10 @@ pub(crate) fn move_into_previous<const FLLEN: usize, const SLLEN: usize, const W
     layout: Layout,
 ) -> Option<usize>
     requires parameters { IsValid 128 128 FLLEN SLLEN }
-    requires used { (s : State) × (u : Used) × StandsFor FLLEN SLLEN (contents memory.old table.old) s × IsUsedAt s u block payload layout.align
-        × (in_place s u layout.size ≡ None) × IsHere memory.old (usable u) }
+    requires used { HasShortHere FLLEN SLLEN memory.old table.old block payload layout }
     requires view { view ≡ memory.old.view }
     requires whole { WHOLE ≡ 1 → memory.old.out ≡ [] }
-    ensures moved { AtEachShort FLLEN SLLEN memory.old table.old block payload layout
-        (λ s u. IsHere memory.old (usable u) → IfSome result (IsPlanned FLLEN SLLEN memory.old memory.new table.new s u (into_previous s u layout.size))) }
+    ensures moved { AtEachShortHere FLLEN SLLEN memory.old table.old block payload layout (λ s u. IsMovedBefore FLLEN SLLEN memory.old memory.new table.new s u layout.size result) }
     ensures refused { AtEachShort FLLEN SLLEN memory.old table.old block payload layout (λ s u. IfNone result (into_previous s u layout.size ≡ None)) }
     ensures unchanged { IfNone result (Counts memory.old memory.new 4 × (table.new ≡ table.old)) }
     ensures place { SamePlace memory.old memory.new }

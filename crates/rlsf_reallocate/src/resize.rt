@@ -1,6 +1,6 @@
 //! A used block gets another size in place.
 
-ghost use Rattle.std.specs.Prelude.{◌≡◌, ◌+◌, ◌-◌, ◌^◌, ◌%◌, ◌≤◌, ◌<◌, ℕ, List, None, true, false};
+ghost use Rattle.std.specs.Prelude.{◌≡◌, ◌+◌, ◌-◌, ◌^◌, ◌%◌, ◌≤◌, ◌<◌, ℕ, List, None, false};
 ghost use Rattle.rlsf_base.specs.declared.memory.range.Range.{Range};
 ghost use Rattle.rlsf_base.specs.Range.{range_at};
 ghost use Rattle.rlsf_base.specs.SizeClass.{IsValid};
@@ -11,7 +11,7 @@ ghost use Rattle.rlsf_blocks.specs.StandsFor.{contents, StandsFor};
 ghost use Rattle.rlsf_table.specs.Counts.{Costs, Counts};
 ghost use Rattle.rlsf_table.specs.FreeTable.{IsFreeTable};
 ghost use Rattle.rlsf_blocks.specs.Steps.Join.{IsMarked};
-ghost use Rattle.rlsf_reallocate.specs.Steps.Resize.{AtEachAligned, AtEachPayload, AtEachSpanRoom, IsFreeLength, IsOccupied, IsOwnedBehind, IsResized, IsSpanRoom, IsUsedAt};
+ghost use Rattle.rlsf_reallocate.specs.Steps.Resize.{AtEachAligned, AtEachPayload, AtEachSpanRoom, IsFreeLength, IsOccupied, IsOwnedBehind, IsSpanRoom, IsUsedAt, ResizesKept, ResizesOwned};
 ghost use Rattle.rlsf_table.specs.Table.{Table};
 
 use rlsf_base::memory::{Layout, OpenMemory, View};
@@ -74,8 +74,7 @@ pub fn resize_kept_block<const FLLEN: usize, const SLLEN: usize>(
     requires used { (s : State) × (u : Used) × StandsFor FLLEN SLLEN (contents memory.old table.old) s × IsUsedAt s u block payload u.align × IsOwnedBehind memory.old u layout.size }
     requires view { view ≡ memory.old.view }
     requires fits { payload - block + layout.size + 31 < 2 ^ 64 }
-    ensures done { AtEachAligned FLLEN SLLEN memory.old table.old block payload
-        (λ s u. IsOwnedBehind memory.old u layout.size → result ≡ true → IsResized FLLEN SLLEN memory.old memory.new table.new s u layout.size payload) }
+    ensures done { AtEachAligned FLLEN SLLEN memory.old table.old block payload (λ s u. ResizesKept FLLEN SLLEN memory.old memory.new table.new s u layout.size payload result) }
     ensures refused { AtEachAligned FLLEN SLLEN memory.old table.old block payload (λ s u. result ≡ false → unmoved_plan s u layout.size ≡ None) }
     ensures unchanged { result ≡ false → Counts memory.old memory.new 2 × (table.new ≡ table.old) }
     ensures costs { Costs memory.old memory.new 24 0 }
@@ -115,8 +114,7 @@ pub fn resize_any_block<const FLLEN: usize, const SLLEN: usize>(
     requires used { (s : State) × (u : Used) × StandsFor FLLEN SLLEN (contents memory.old table.old) s × IsUsedAt s u block payload u.align × IsOwned memory.old (usable u) }
     requires view { view ≡ memory.old.view }
     requires fits { payload - block + layout.size + 31 < 2 ^ 64 }
-    ensures done { AtEachAligned FLLEN SLLEN memory.old table.old block payload
-        (λ s u. IsOwned memory.old (usable u) → result ≡ true → IsResized FLLEN SLLEN memory.old memory.new table.new s u layout.size payload) }
+    ensures done { AtEachAligned FLLEN SLLEN memory.old table.old block payload (λ s u. ResizesOwned FLLEN SLLEN memory.old memory.new table.new s u layout.size payload result) }
     ensures refused { AtEachAligned FLLEN SLLEN memory.old table.old block payload (λ s u. result ≡ false → unmoved_plan s u layout.size ≡ None) }
     ensures unchanged { result ≡ false → Counts memory.old memory.new 2 × (table.new ≡ table.old) }
     ensures costs { Costs memory.old memory.new 24 0 }
@@ -144,8 +142,7 @@ pub fn resize_block<const FLLEN: usize, const SLLEN: usize>(
     requires parameters { IsValid 128 128 FLLEN SLLEN }
     requires used { (s : State) × (u : Used) × StandsFor FLLEN SLLEN (contents memory.old table.old) s × IsUsedAt s u block payload layout.align × IsOwned memory.old (usable u) }
     requires view { view ≡ memory.old.view }
-    ensures done { AtEachPayload FLLEN SLLEN memory.old table.old block payload layout
-        (λ s u. IsOwned memory.old (usable u) → result ≡ true → IsResized FLLEN SLLEN memory.old memory.new table.new s u layout.size payload) }
+    ensures done { AtEachPayload FLLEN SLLEN memory.old table.old block payload layout (λ s u. ResizesOwned FLLEN SLLEN memory.old memory.new table.new s u layout.size payload result) }
     ensures refused { AtEachPayload FLLEN SLLEN memory.old table.old block payload layout (λ s u. result ≡ false → unmoved_plan s u layout.size ≡ None) }
     ensures unchanged { result ≡ false → Counts memory.old memory.new 2 × (table.new ≡ table.old) }
     ensures costs { Costs memory.old memory.new 24 0 }

@@ -1,5 +1,5 @@
 -- A used block gets another size, in place or at another place.
-use Rattle.std.specs.Prelude.{◌≡◌, ℕ, ◌+◌, ◌<◌, ◌≤◌, List, ◌∷◌, ◌++◌, length, Option, None, Some, IfSome, MatchOption, find}
+use Rattle.std.specs.Prelude.{◌≡◌, ℕ, ◌+◌, ◌<◌, ◌≤◌, Bool, true, List, ◌∷◌, ◌++◌, length, Option, None, Some, IfSome, MatchOption, find}
 use Rattle.rlsf_base.specs.declared.memory.layout.Layout.{Layout}
 use Rattle.rlsf_base.specs.declared.memory.range.Range.{Range}
 use Rattle.rlsf_base.specs.Range.{end_of, range_at, LiesIn}
@@ -9,7 +9,7 @@ use Rattle.rlsf_model.specs.Allocate.{Allocates, rest_behind}
 use Rattle.rlsf_model.specs.Join.{end_or, starts_at}
 use Rattle.rlsf_model.specs.Lists.{IsIn}
 use Rattle.rlsf_model.specs.NoMove.{unmoved_plan}
-use Rattle.rlsf_model.specs.Reallocate.{MovesAway, Plan, ReallocatesBy, Replans, in_place, plan, resized}
+use Rattle.rlsf_model.specs.Reallocate.{MovesAway, Plan, ReallocatesBy, Replans, in_place, into_previous, plan, resized}
 use Rattle.rlsf_model.specs.State.{State, Used, between, usable}
 use Rattle.rlsf_model.specs.WellFormed.{coverage, itself, IsFree}
 use Rattle.rlsf_blocks.specs.Spare.{KeepsSpare}
@@ -31,14 +31,27 @@ pub record IsUsedAt (s : State) (u : Used) (block payload align : ℕ) : Type 0 
 abbrev pub AtEachPayload : ℕ → ℕ → Space → Table → ℕ → ℕ → Layout → (State → Used → Type 0) → Type 0
 AtEachPayload fllen sllen m t block payload layout P = (s : State) (u : Used) → StandsFor fllen sllen (contents m t) s → IsUsedAt s u block payload layout.align → P s u
 
--- the same whatever the payload's alignment
+-- the same where its usable bytes are here
+abbrev pub AtEachHere : ℕ → ℕ → Space → Table → ℕ → ℕ → Layout → (State → Used → Type 0) → Type 0
+AtEachHere fllen sllen m t block payload layout P = AtEachPayload fllen sllen m t block payload layout (λ s u. IsHere m (usable u) → P s u)
+
+-- this is true of that block whatever the payload's alignment
 abbrev pub AtEachAligned : ℕ → ℕ → Space → Table → ℕ → ℕ → (State → Used → Type 0) → Type 0
 AtEachAligned fllen sllen m t block payload P = (s : State) (u : Used) → StandsFor fllen sllen (contents m t) s → IsUsedAt s u block payload u.align → P s u
 
--- the same where that block is too short for the layout
+-- this is true of that block, by the layout's alignment, where it is too short for the layout
 abbrev pub AtEachShort : ℕ → ℕ → Space → Table → ℕ → ℕ → Layout → (State → Used → Type 0) → Type 0
 AtEachShort fllen sllen m t block payload layout P = (s : State) (u : Used) → StandsFor fllen sllen (contents m t) s
     → IsUsedAt s u block payload layout.align → in_place s u layout.size ≡ None → P s u
+
+-- the same where its usable bytes are here
+abbrev pub AtEachShortHere : ℕ → ℕ → Space → Table → ℕ → ℕ → Layout → (State → Used → Type 0) → Type 0
+AtEachShortHere fllen sllen m t block payload layout P = AtEachShort fllen sllen m t block payload layout (λ s u. IsHere m (usable u) → P s u)
+
+-- some state that memory and table represent has such a block, too short for the layout, and its usable bytes are here
+abbrev pub HasShortHere : ℕ → ℕ → Space → Table → ℕ → ℕ → Layout → Type 0
+HasShortHere fllen sllen m t block payload layout = (s : State) × (u : Used) × StandsFor fllen sllen (contents m t) s
+    × IsUsedAt s u block payload layout.align × (in_place s u layout.size ≡ None) × IsHere m (usable u)
 
 -- the bytes of the free range at the address, or 0 if none begins there
 abbrev pub IsFreeLength : List Range → ℕ → ℕ → Type 0
@@ -89,6 +102,18 @@ IsPlanned fllen sllen m n t s u first addr = (p : Plan) × (first ≡ Some p) ×
 -- the payload at the address has the size in place
 abbrev pub IsResized : ℕ → ℕ → Space → Space → Table → State → Used → ℕ → ℕ → Type 0
 IsResized fllen sllen m n t s u size addr = IsPlanned fllen sllen m n t s u (unmoved_plan s u size) addr
+
+-- if the bytes behind the used block's end of that size are the memory's own and a call succeeded, the payload has the size in place
+abbrev pub ResizesKept : ℕ → ℕ → Space → Space → Table → State → Used → ℕ → ℕ → Bool → Type 0
+ResizesKept fllen sllen m n t s u size addr done = IsOwnedBehind m u size → done ≡ true → IsResized fllen sllen m n t s u size addr
+
+-- the same if its usable bytes are the memory's own
+abbrev pub ResizesOwned : ℕ → ℕ → Space → Space → Table → State → Used → ℕ → ℕ → Bool → Type 0
+ResizesOwned fllen sllen m n t s u size addr done = IsOwned m (usable u) → done ≡ true → IsResized fllen sllen m n t s u size addr
+
+-- if an address is returned, the payload lies there, in the free block before its own
+abbrev pub IsMovedBefore : ℕ → ℕ → Space → Space → Table → State → Used → ℕ → Option ℕ → Type 0
+IsMovedBefore fllen sllen m n t s u size reply = IfSome reply (IsPlanned fllen sllen m n t s u (into_previous s u size))
 
 -- a reallocation of the used block, with its reply, leads to a represented state
 abbrev pub IsReallocated : ℕ → ℕ → Space → Space → Table → State → Used → ℕ → Option ℕ → Type 0
