@@ -107,6 +107,7 @@ impl<FLBitmap: BitPattern, SLBitmap: BitPattern, const FLLEN: usize, const SLLEN
         ensures count { live_count self.new.state ≡ live_count self.old.state }
         ensures bounds { (count size align : ℕ) → IsSizedFor SLLEN count size align self.old.state → IsSizedFor SLLEN count size align self.new.state }
         ensures unchanged { result ≡ 0 → self.new.memory.bytes ≡ self.old.memory.bytes }
+        ensures settled { IsSettled self.old.memory → IsSettled self.new.memory }
         ensures touches { self.new.memory.touches
             ≤ self.old.memory.touches + (if is_some (max_pool_size FLLEN) then 13 * length (cut (max_pool_size FLLEN) (aligned_part range)) else 34) }
         ensures grow { self.old.memory.touches ≤ self.new.memory.touches }
@@ -133,6 +134,7 @@ impl<FLBitmap: BitPattern, SLBitmap: BitPattern, const FLLEN: usize, const SLLEN
         ensures gone { IsUntouched self.new.state.chunks (walked range) }
         ensures aligns { align_at self.new.state ≡ align_at self.old.state }
         ensures count { live_count self.new.state ≡ live_count self.old.state }
+        ensures settled { IsSettled self.old.memory → IsSettled self.new.memory }
         ensures touches { self.new.memory.touches + 9 * length self.new.state.chunks ≤ self.old.memory.touches + 9 * length self.old.state.chunks }
         ensures grow { self.old.memory.touches ≤ self.new.memory.touches }
         ensures copied { self.new.memory.copied ≡ self.old.memory.copied }
@@ -155,6 +157,7 @@ impl<FLBitmap: BitPattern, SLBitmap: BitPattern, const FLLEN: usize, const SLLEN
         ensures same { result ≡ false → self.new ≡ self.old }
         ensures aligns { align_at self.new.state ≡ align_at self.old.state }
         ensures count { live_count self.new.state ≡ live_count self.old.state }
+        ensures settled { IsSettled self.old.memory → IsSettled self.new.memory }
         ensures touches { self.new.memory.touches + 9 * length self.new.state.chunks ≤ self.old.memory.touches + 9 * length self.old.state.chunks }
         ensures grow { self.old.memory.touches ≤ self.new.memory.touches }
         ensures copied { self.new.memory.copied ≡ self.old.memory.copied }

@@ -10,6 +10,7 @@ use Rattle.rlsf_model.proofs.Callers.{callers_see_map}
 use Rattle.rlsf_model.proofs.Chunks.{used-appended}
 use Rattle.rlsf_model.proofs.SizedWords.{count_appended, sized_appended}
 use Rattle.rlsf_table.proofs.Parameters.{IsValid-widest}
+use Rattle.rlsf_blocks.proofs.Words.Stays.{Stays}
 use Rattle.rlsf_blocks.specs.Laws.{read_from}
 use Rattle.rlsf_blocks.specs.StandsFor.{contents, StandsFor}
 use Rattle.rlsf_tlsf.specs.Steps.Moves.{appended_to, bare}
@@ -18,6 +19,7 @@ use Rattle.rlsf_heap.specs.Heap.{HeapView}
 use Rattle.rlsf_heap.proofs.Arrivals.{IsHeap-arrived, Steps-arrived, bare-kept, stepped, view_well_formed}
 use Rattle.rlsf_heap.proofs.LiveCounts.{live_count-same}
 use Rattle.rlsf_heap.proofs.Read.{issued-same}
+use Rattle.rlsf_heap.proofs.Settled.{settled-inside, settled-stays}
 use Rattle.rlsf_heap.proofs.heap.Heap.append_free_block_ptr.Given as given
 use Rattle.rlsf_heap.proofs.heap.Heap.append_free_block_ptr.Goals as goal
 use Rattle.rlsf_heap.proofs.heap.Heap.append_free_block_ptr.Goals.{After-append}
@@ -76,6 +78,12 @@ well g c = view_well_formed c.self.invariant c.args.self.now c.self.view_is
 pub returns-clause-step : goal.returns-clause-step
 returns-clause-step g c = Steps-arrived (standing g c) c.append.new.self.state (kept g c) c.self.inside.ledger.name
     (Appends g.row.FLLEN c.args.self.now.state c.args.range c.append_chunks-taken.result) (did g c)
+
+pub returns-clause-settled : goal.returns-clause-settled
+returns-clause-settled g c = λ settled.
+    let e = c.append_chunks-taken.ensures in
+    let stays : Stays c.self.inside.memory c.append_chunks-taken.new.memory = record { start = e.costs.start; own = e.own; here = e.here } in
+    settled-stays stays (settled-inside c.self.inside.state.state c.args.self.now c.self.view_is settled)
 
 pub returns-clause-untouched : goal.returns-clause-untouched
 returns-clause-untouched g c = untouched_appended g.row.FLLEN c.args.self.now.state (now g c) c.args.range c.append_chunks-taken.result (did g c)

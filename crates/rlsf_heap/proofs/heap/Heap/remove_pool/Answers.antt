@@ -9,6 +9,7 @@ use Rattle.rlsf_model.proofs.CallerWords.{same_seen}
 use Rattle.rlsf_model.proofs.Callers.{callers_see_map}
 use Rattle.rlsf_model.proofs.SizedWords.{count_removed}
 use Rattle.rlsf_table.proofs.Parameters.{IsValid-widest}
+use Rattle.rlsf_blocks.proofs.Words.Stays.{Stays}
 use Rattle.rlsf_blocks.specs.Blocks.{walked}
 use Rattle.rlsf_blocks.specs.Laws.{read_from}
 use Rattle.rlsf_blocks.specs.StandsFor.{contents, StandsFor}
@@ -18,6 +19,7 @@ use Rattle.rlsf_heap.specs.Heap.{HeapView}
 use Rattle.rlsf_heap.proofs.Arrivals.{IsHeap-arrived, Steps-arrived, bare-kept, stepped, view_well_formed}
 use Rattle.rlsf_heap.proofs.LiveCounts.{live_count-same}
 use Rattle.rlsf_heap.proofs.Read.{issued-same}
+use Rattle.rlsf_heap.proofs.Settled.{settled-inside, settled-stays}
 use Rattle.rlsf_heap.proofs.heap.Heap.remove_pool.Given as given
 use Rattle.rlsf_heap.proofs.heap.Heap.remove_pool.Goals as goal
 use Rattle.rlsf_heap.proofs.heap.Heap.remove_pool.Goals.{After-remove}
@@ -63,6 +65,12 @@ well g c = view_well_formed c.self.invariant c.args.self.now c.self.view_is
 
 pub returns-clause-step : goal.returns-clause-step
 returns-clause-step g c = Steps-arrived (standing g c) c.remove.new.self.state (kept g c) c.self.inside.ledger.name (Removes c.args.self.now.state (walked c.args.range)) (did g c)
+
+pub returns-clause-settled : goal.returns-clause-settled
+returns-clause-settled g c = λ settled.
+    let e = c.remove_chunks.ensures in
+    let stays : Stays c.self.inside.memory c.remove_chunks.new.memory = record { start = e.place.0; own = e.own; here = e.here } in
+    settled-stays stays (settled-inside c.self.inside.state.state c.args.self.now c.self.view_is settled)
 
 pub returns-clause-untouched : goal.returns-clause-untouched
 returns-clause-untouched g c = untouched_removed (well g c) (walked c.args.range) c.requires.row c.requires.idle (now g c) (did g c)
