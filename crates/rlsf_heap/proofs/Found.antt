@@ -1,5 +1,6 @@
 -- A heap in which the length of a payload was found: only word accesses were counted.
 use Rattle.std.proofs.Common.{◌≡◌, ◌≢◌, ℕ, ◌+◌, Option, Some, arith, refl, sym, ap, subst, ◌∙◌}
+use Rattle.rlsf_base.specs.declared.memory.range.Range.{Range}
 use Rattle.rlsf_base.specs.Layout.{IsLayout}
 use Rattle.rlsf_base.specs.OpenSpace.{IsAway}
 use Rattle.rlsf_base.specs.Piece.{Piece, piece_range}
@@ -9,6 +10,7 @@ use Rattle.rlsf_model.proofs.CallerWords.{align_at-live}
 use Rattle.rlsf_model.proofs.Payloads.{IsUsed-after_start}
 use Rattle.rlsf_heap.specs.declared.thin.ThinPayload.{ThinPayload}
 use Rattle.rlsf_heap.specs.Heap.{HeapView, IsOwners, PayloadView, Stands, Steps, payload_range, payload_view}
+use Rattle.rlsf_heap.specs.Kept.{KeepsBytesBeside, KeepsSpareBytes}
 use Rattle.rlsf_heap.specs.Reallocation.{owned_by}
 use Rattle.rlsf_heap.specs.Replies.{IsReallocatedHere, KeepsHeap}
 use Rattle.rlsf_heap.specs.Settled.{IsSettled}
@@ -34,6 +36,15 @@ kept_found sllen size align v w new is kept =
       chunks = k.chunks;
       grow = omega (arith, k.grow);
     }
+
+-- so are bytes that no block is made of, and those beside a range
+pub spare_found : (v w new : HeapView) → w ≡ found v → KeepsSpareBytes w new → KeepsSpareBytes v new
+unfolding KeepsSpareBytes
+spare_found v w new is keeps = subst (λ (x : HeapView). KeepsSpareBytes x new) is keeps
+
+pub beside_found : (v w new : HeapView) → w ≡ found v → (r : Range) → KeepsBytesBeside w new r → KeepsBytesBeside v new r
+unfolding KeepsBytesBeside
+beside_found v w new is r keeps = subst (λ (x : HeapView). KeepsBytesBeside x new r) is keeps
 
 -- the bytes of a payload that were away were its owner's
 pub owners : (v : HeapView) (q : Piece) (align ledger : ℕ) (p : PayloadView) → payload_view q align ledger ≡ p → IsAway v.memory (piece_range q) → IsOwners v p

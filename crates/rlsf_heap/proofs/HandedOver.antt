@@ -16,6 +16,7 @@ use Rattle.rlsf_model.proofs.CallerWords.{bytes_at-held}
 use Rattle.rlsf_table.specs.Counts.{Counts}
 use Rattle.rlsf_table.specs.Table.{Table}
 use Rattle.rlsf_blocks.specs.Laws.{read_from}
+use Rattle.rlsf_blocks.specs.Spare.{KeepsSpare}
 use Rattle.rlsf_blocks.specs.StandsFor.{contents, StandsFor}
 use Rattle.rlsf_blocks.specs.Steps.LiveBlock.{AtEachBlock, IsBlockOf, IsLiveIn}
 use Rattle.rlsf_blocks.proofs.RepresentedStates.Counted.{StandsFor-touched}
@@ -25,16 +26,18 @@ use Rattle.rlsf_tlsf.specs.Steps.Moves.{bare, reallocated}
 use Rattle.rlsf_tlsf.proofs.Arrivals.{arrived}
 use Rattle.rlsf_heap.specs.Handover.{IsHandedOver, IsTakenBack}
 use Rattle.rlsf_heap.specs.Heap.{HeapView, IsHeap, IsTicketOf, PayloadView, Steps, heap_view, payload_range, payload_view}
+use Rattle.rlsf_heap.specs.Kept.{KeepsBytesBeside, KeepsSpareBytes}
 use Rattle.rlsf_heap.specs.Raw.{bytes_of}
 use Rattle.rlsf_heap.specs.Reallocation.{owned_by}
 use Rattle.rlsf_heap.specs.Replies.{IsReallocated, IsReallocatedHere, IsReturned}
 use Rattle.rlsf_heap.specs.Settled.{IsSettled}
 use Rattle.rlsf_heap.proofs.Arrivals.{IsHeap-arrived, Steps-arrived, bare-kept}
+use Rattle.rlsf_heap.proofs.Kept.{beside-seen, same-byte, spare-last, spare-seen, spare-then}
 use Rattle.rlsf_heap.proofs.Leaving.{lies-usable, stands-without}
 use Rattle.rlsf_heap.proofs.PayloadsApart.{redeemed_ticket}
 use Rattle.rlsf_heap.proofs.Reallocated.{Keeps-each}
-use Rattle.rlsf_heap.proofs.Reallocating.{IsBackIn, asked, bare_state, block, bytes_are, counted, counted_here, counted_moved, counted_stayed, here as here_back, here_still}
-use Rattle.rlsf_heap.proofs.Reallocating.{held, issued_again, issued_anew, kept_moved, stands, state, usable_is, used_at}
+use Rattle.rlsf_heap.proofs.Reallocating.{IsBackIn, asked, bare_state, beside_in, block, bytes_are, counted, counted_here, counted_moved, counted_stayed, here as here_back}
+use Rattle.rlsf_heap.proofs.Reallocating.{held, here_still, issued_again, issued_anew, kept_moved, long_in, spare_in, stands, state, usable_is, used_at}
 use Rattle.rlsf_heap.proofs.Resized.{holds_new, new, own_new}
 use Rattle.rlsf_heap.proofs.Settled.{settled-back, settled-here, settled-inside, settled-left, settled-stays}
 use Rattle.rlsf_heap.proofs.ReallocationViews.{SeesChanged, aligns_view, alike_view, chunks_view, count_view, seen_changed, sized_view, stayed_changed}
@@ -132,6 +135,18 @@ module _ {fl_bits sl_bits fllen sllen : ℕ} {m n : Space} {x : Table} {k : Stat
       pub Steps-unchanged : (label : ℕ) (step : State → Type 0) → step (state back_in) → Steps fllen sllen (heap_view q y k label) step
       Steps-unchanged label step did = Steps-arrived standing k kept label step (subst step (sym unchanged_state) did)
 
+      -- no byte that no block is made of has changed, and none beside the payload
+      module _ (same_bytes : o.bytes ≡ n.bytes) (label : ℕ) where
+        pub spare_unchanged : KeepsSpareBytes old (heap_view q y k label)
+        spare_unchanged =
+            spare-seen m q (read_from m k) (state back_in)
+            (spare-last m n q (read_from m k) (state back_in) (over.start ∙ stays.start) (over.bytes ∙ same_bytes) (spare_in back_in)) k k refl refl old view y label
+
+        pub beside_unchanged : KeepsBytesBeside old (heap_view q y k label) (payload_range pay)
+        beside_unchanged =
+            beside-seen m q k k old view y label (payload_range pay)
+            (λ a from to side. same-byte n q (over.start ∙ stays.start) (over.bytes ∙ same_bytes) a ∙ beside_in back_in a from side)
+
       pub sees_unchanged : SeesUnchanged sllen old (heap_view q y k ledger) pay p
       sees_unchanged = record {
         returned = record {
@@ -210,6 +225,14 @@ module _ {fl_bits sl_bits fllen sllen : ℕ} {m n : Space} {x : Table} {k : Stat
 
           pub Steps-resized : (label : ℕ) (did : State → Type 0) → did (read_from q after) → Steps fllen sllen (heap_view q y after label) did
           Steps-resized label did has = Steps-arrived resized_standing after resized_kept label did has
+
+          -- no byte that no block is made of has changed
+          pub spare_resized : KeepsSpare n (state back_in) l t → (label : ℕ) → KeepsSpareBytes old (heap_view q y after label)
+          spare_resized keeps label =
+              let s = read_from m k in
+              spare-seen m q s t (spare-last m l q s t (over.start ∙ ap (λ (z : Space). z.start) touched) (over.bytes ∙ ap (λ (z : Space). z.bytes) touched)
+              (spare-then m n l s t taken.start (long_in back_in) (state back_in) refl (spare_in back_in) keeps))
+              k after refl (sym (ap (λ (z : State). z.chunks) resized_kept)) old view y label
 
           -- a reallocation without a move is one as contracts see it
           pub stayed_resized : ReallocatesWithoutMove (state back_in) u.payload size (Some to) t

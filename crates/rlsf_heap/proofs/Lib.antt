@@ -4,6 +4,7 @@ pub mod Arrivals
 pub mod Costs
 pub mod Found
 pub mod HandedOver
+pub mod Kept
 pub mod Leaving
 pub mod LiveCounts
 pub mod MovedThin

@@ -1,20 +1,21 @@
 -- A payload is back with its values: the memory represents the state in which it has these bytes.
-use Rattle.std.proofs.Common.{eqb, cond, ◌≡◌, ℕ, ◌-◌, map, List, [], ◌∷◌, length, arith, inl, inr, refl, sym, ap, ◌∙◌}
+use Rattle.std.proofs.Common.{eqb, cond, ◌≡◌, ◌≤◌, ℕ, ◌-◌, map, List, [], ◌∷◌, length, arith, inl, inr, refl, sym, ap, ◌∙◌}
 use Rattle.std.specs.Prelude.{not}
 use Rattle.rlsf_base.specs.Ledger.{Entry}
-use Rattle.rlsf_base.specs.OpenSpace.{IsHere, out_with}
+use Rattle.rlsf_base.specs.OpenSpace.{IsBeside, IsHere, out_with}
 use Rattle.rlsf_base.specs.Out.{kept_at}
 use Rattle.rlsf_base.specs.Piece.{Piece, piece_range}
 use Rattle.rlsf_base.specs.Range.{LiesIn, range_at}
-use Rattle.rlsf_base.specs.Space.{Space, bytes_in, with_bytes}
+use Rattle.rlsf_base.specs.Space.{Space, byte_at, byte_range, bytes_in, with_bytes}
 use Rattle.rlsf_base.proofs.Changes.{back-before, back-behind, back-there}
-use Rattle.rlsf_base.proofs.Lending.Replaced.{bytes_in-there, bytes_in-with, length-with}
+use Rattle.rlsf_base.proofs.Lending.Replaced.{byte_at-same, bytes_in-there, bytes_in-with, length-with}
 use Rattle.rlsf_model.specs.Run.{Fills}
 use Rattle.rlsf_model.specs.State.{State, Used, Holds, filled, filled_at, others, usable, with_bytes as with_these}
 use Rattle.rlsf_model.proofs.Coverage.{IsIn-map, by_test}
 use Rattle.rlsf_model.proofs.Payloads.{IsUsed-after_start}
 use Rattle.rlsf_table.specs.Table.{Table}
 use Rattle.rlsf_blocks.specs.Laws.{read_from, with_bytes_of}
+use Rattle.rlsf_blocks.specs.Spare.{KeepsSpare}
 use Rattle.rlsf_blocks.specs.StandsFor.{contents, StandsFor}
 use Rattle.rlsf_blocks.proofs.Payloads.Filled.{IsSameOutside, filled_in}
 use Rattle.rlsf_blocks.proofs.Words.Apart.{used_in_memory}
@@ -69,6 +70,9 @@ module _ {fllen sllen : ℕ} {m : Space} {table : Table} {s : State} (v : Stands
     ];
   }
 
+  pub long_back : length n.bytes ≡ length m.bytes
+  long_back = same.length
+
   -- its bytes are there, and here
   pub bytes_back : bytes_in n (usable u) ≡ p.bytes
   bytes_back = ap (bytes_in n) usable_is ∙ bytes_in-there m n (piece_range p) p.bytes place refl start bytes
@@ -91,6 +95,16 @@ module _ {fllen sllen : ℕ} {m : Space} {table : Table} {s : State} (v : Stands
     length = ap length (sym bytes_back) ∙ fills.length;
     after = refl;
   }
+
+  -- bytes that no block is made of, and those beside the payload, are as they were
+  pub spare_back : KeepsSpare m s n (read_from n s)
+  spare_back = (filled_in v p.start u holds n same).2
+
+  pub beside_back : (a : ℕ) → m.start ≤ a → IsBeside (piece_range p) a → byte_at n a ≡ byte_at m a
+  beside_back a from side = byte_at-same m n a (same.bytes (byte_range a) from (elim side [
+    | inl before ↦ inl (omega (arith, before, holds.1))
+    | inr behind ↦ inr (omega (arith, behind, holds.1, long))
+  ]))
 
   -- the payload is one of that state
   pub holds_back : Holds (read_from n s) p.start (with_bytes_of n u)

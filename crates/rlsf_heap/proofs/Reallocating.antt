@@ -1,10 +1,10 @@
 -- Reallocation: a payload is back in the memory, and has another size or is unchanged. The state that memory and table represent, and the tickets.
-use Rattle.std.proofs.Common.{◌≡◌, ◌≢◌, ℕ, List, [], ◌∷◌, ◌++◌, true, false, set, length, Option, Some, None, arith, refl, sym, ap, subst, ◌∙◌}
+use Rattle.std.proofs.Common.{◌≡◌, ◌≢◌, ◌≤◌, ℕ, List, [], ◌∷◌, ◌++◌, true, false, set, length, Option, Some, None, arith, refl, sym, ap, subst, ◌∙◌}
 use Rattle.rlsf_base.specs.Ledger.{Entry, Extent, IsIssued, entry_of, extent}
-use Rattle.rlsf_base.specs.OpenSpace.{IsHere, out_with}
+use Rattle.rlsf_base.specs.OpenSpace.{IsBeside, IsHere, out_with}
 use Rattle.rlsf_base.specs.Piece.{Piece, piece_range}
 use Rattle.rlsf_base.specs.Range.{range_at}
-use Rattle.rlsf_base.specs.Space.{Space, bytes_in, with_bytes}
+use Rattle.rlsf_base.specs.Space.{Space, byte_at, bytes_in, with_bytes}
 use Rattle.rlsf_base.proofs.Lending.Present.{here-same}
 use Rattle.rlsf_model.specs.NoMove.{ReallocatesUnmovedBy, ReallocatesWithoutMove, unmoved_plan}
 use Rattle.rlsf_model.specs.Reallocate.{Plan, Reallocates, ReallocatesBy, Replans, plan}
@@ -19,6 +19,7 @@ use Rattle.rlsf_model.proofs.SizedWords.{count_filled, count_resized}
 use Rattle.rlsf_model.specs.Sized.{live_count}
 use Rattle.rlsf_table.specs.Table.{Table}
 use Rattle.rlsf_blocks.specs.Laws.{read_from, with_bytes_of}
+use Rattle.rlsf_blocks.specs.Spare.{KeepsSpare}
 use Rattle.rlsf_blocks.specs.StandsFor.{contents, StandsFor}
 use Rattle.rlsf_blocks.specs.Steps.LiveBlock.{IsBlockOf}
 use Rattle.rlsf_blocks.proofs.RepresentedStates.Counted.{StandsFor-counted}
@@ -28,7 +29,8 @@ use Rattle.rlsf_tlsf.specs.Steps.Moves.{bare, reallocated}
 use Rattle.rlsf_tlsf.proofs.Moved.{reallocated-bare}
 use Rattle.rlsf_heap.specs.Heap.{AreIssued, IsHeap, IsPayload, IsTicketOf}
 use Rattle.rlsf_heap.proofs.Leaving.{lies-usable}
-use Rattle.rlsf_heap.proofs.PutBack.{bare-reread, others-filled, bytes_back, fills_back, here_back, holds_back, issued-reread, read_back, stands_back}
+use Rattle.rlsf_heap.proofs.PutBack.{bare-reread, others-filled, beside_back, bytes_back, fills_back, here_back, holds_back, issued-reread, long_back, read_back}
+use Rattle.rlsf_heap.proofs.PutBack.{spare_back, stands_back}
 use Rattle.rlsf_heap.proofs.Resized.{align_new, holds_new, new, others_there}
 use Rattle.rlsf_heap.proofs.Tickets.{issued-less, issued-more, redeemed_other}
 
@@ -100,6 +102,16 @@ module _ {fllen sllen : ℕ} {m n : Space} {x : Table} {s : State} {es : List En
 
   pub stands : StandsFor fllen sllen (contents n x) state
   stands = stands_back b.old p old_block held_old long_old n b.start b.bytes b.out
+
+  pub spare_in : KeepsSpare m s n state
+  spare_in = spare_back b.old p old_block held_old long_old n b.start b.bytes b.out
+
+  pub beside_in : (a : ℕ) → m.start ≤ a → IsBeside (piece_range p) a → byte_at n a ≡ byte_at m a
+  beside_in = beside_back b.old p old_block held_old long_old n b.start b.bytes b.out
+
+  -- the memory is as long as it was
+  pub long_in : length n.bytes ≡ length m.bytes
+  long_in = long_back b.old p old_block held_old long_old n b.start b.bytes b.out
 
   pub here : IsHere n (usable block)
   here = here_back b.old p old_block held_old long_old n b.start b.bytes b.out

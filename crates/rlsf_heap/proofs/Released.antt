@@ -31,7 +31,7 @@ module _ {fllen sllen : ℕ} {m : Space} {table : Table} {s : State} {entries : 
   pub holds : Holds s p.start u
   holds = (found.1, found.2)
 
-  lies : LiesIn (piece_range p) m.start (length m.bytes)
+  pub lies : LiesIn (piece_range p) m.start (length m.bytes)
   lies =
       let of = v.well_formed.used u found.1 in let place = used_in_memory v.well_formed u found.1 in
       (omega (arith, place.0, IsUsed-after_start u of, found.2), omega (arith, place.1, of.within, found.2, found.3))

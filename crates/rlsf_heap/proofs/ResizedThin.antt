@@ -4,10 +4,10 @@ use Rattle.rlsf_base.specs.Ledger.{Entry, IsIssued, entry_of, extent}
 use Rattle.rlsf_base.specs.declared.memory.ledger.Ticket.{Ticket}
 use Rattle.rlsf_base.specs.declared.memory.range.Range.{Range}
 use Rattle.rlsf_base.specs.Out.{here as is_here, kept_at}
-use Rattle.rlsf_base.specs.OpenSpace.{Home, IsHere, IsOwned, home_of, out_with, out_without}
+use Rattle.rlsf_base.specs.OpenSpace.{Home, IsBeside, IsHere, IsOwned, home_of, out_with, out_without}
 use Rattle.rlsf_base.specs.Piece.{HasStatesOf, Piece, piece_range}
 use Rattle.rlsf_base.specs.Range.{LiesIn}
-use Rattle.rlsf_base.specs.Space.{Space, bytes_in, with_bytes}
+use Rattle.rlsf_base.specs.Space.{Space, byte_at, bytes_in, with_bytes}
 use Rattle.rlsf_base.proofs.Lending.Present.{own-here}
 use Rattle.rlsf_model.specs.Callers.{bytes_at}
 use Rattle.rlsf_model.specs.NoMove.{ReallocatesWithoutMove, unmoved_plan}
@@ -19,6 +19,7 @@ use Rattle.rlsf_table.specs.Counts.{Costs, Counts}
 use Rattle.rlsf_table.proofs.Costs.{Costs-counted, copied_none}
 use Rattle.rlsf_table.specs.Table.{Table}
 use Rattle.rlsf_blocks.specs.Laws.{read_from}
+use Rattle.rlsf_blocks.specs.Spare.{KeepsSpare}
 use Rattle.rlsf_blocks.specs.StandsFor.{contents, StandsFor}
 use Rattle.rlsf_blocks.specs.Steps.LiveBlock.{AtEachBlock}
 use Rattle.rlsf_blocks.proofs.Counting.{Counts-touched}
@@ -32,8 +33,10 @@ use Rattle.rlsf_heap.specs.Heap.{HeapView, Identity, IsHeap, IsTicketOf, Payload
 use Rattle.rlsf_heap.specs.Raw.{bytes_of}
 use Rattle.rlsf_heap.specs.Settled.{IsSettled}
 use Rattle.rlsf_heap.specs.ThinUnknownAlign.{renewed_entries}
+use Rattle.rlsf_heap.proofs.Kept.{same-byte, spare-last, spare-then}
 use Rattle.rlsf_heap.proofs.Leaving.{lies-usable, stands-without}
-use Rattle.rlsf_heap.proofs.Reallocating.{IsBackIn, block, bytes_are, held, here, here_still, long, stands, state, unmoved, unmoved_moves, usable_is}
+use Rattle.rlsf_heap.proofs.Reallocating.{IsBackIn, beside_in, block, bytes_are, held, here, here_still, long, long_in, spare_in, stands, state, unmoved, unmoved_moves}
+use Rattle.rlsf_heap.proofs.Reallocating.{usable_is}
 use Rattle.rlsf_heap.proofs.Resized.{holds_new, new, own_new}
 use Rattle.rlsf_heap.proofs.Settled.{settled-here, settled-left, settled-stays}
 use Rattle.rlsf_heap.proofs.ThinPayloads.{IsTicketFor, shown}
@@ -156,6 +159,15 @@ module _ {fllen sllen most : ℕ} {m n o : Space} {x y : Table} {s : State} {es 
   pub same_without : (l : Space) → l.start ≡ o.start → l.bytes ≡ o.bytes → l.out ≡ out_without o range → StandsFor fllen sllen (contents l y) (state b)
   same_without l start bytes out = stands-without same_stands (block b) (held b).0 l start bytes (out ∙ ap (out_without o) same_range)
 
+  -- bytes that no block is made of are as they were, and those beside the payload
+  module _ (l : Space) (start : l.start ≡ o.start) (bytes : l.bytes ≡ o.bytes) where
+    pub same_spare : KeepsSpare m s l (state b)
+    same_spare = spare-last m n l s (state b) (start ∙ unchanged.0.start) (bytes ∙ unchanged.0.bytes) (spare_in b)
+
+    pub same_beside : (q : Range) → piece_range p ≡ q → (a : ℕ) → m.start ≤ a → a < m.start + length m.bytes → IsBeside q a → byte_at l a ≡ byte_at m a
+    same_beside q is a from to side =
+        same-byte n l (start ∙ unchanged.0.start) (bytes ∙ unchanged.0.bytes) a ∙ beside_in b a from (subst (λ (r : Range). IsBeside r a) (sym is) side)
+
 -- its block has another size
 module _ {fllen sllen : ℕ} {m n o : Space} {x y : Table} {s : State} {es : List Entry} {key align addr : ℕ} {p : Piece}
     (b : IsBackIn fllen sllen m n x s es key p align) (at : addr ≡ p.start) (size : ℕ) (resized : IsResized fllen sllen n o y (state b) (block b) size addr) where
@@ -176,6 +188,10 @@ module _ {fllen sllen : ℕ} {m n o : Space} {x y : Table} {s : State} {es : Lis
   pub reached : StandsFor fllen sllen (contents o y) after
   unfolding after
   reached = moving.2
+
+  stayed_spare : KeepsSpare n (state b) o after
+  unfolding after moving
+  stayed_spare = resized.3.3
 
   -- the payload of that state
   abbrev pub fresh : Used
@@ -223,6 +239,12 @@ module _ {fllen sllen : ℕ} {m n o r : Space} {x y : Table} {s : State} {es : L
   module _ (l : Space) (start : l.start ≡ r.start) (bytes : l.bytes ≡ r.bytes) (out : l.out ≡ out_without r range) where
     pub fresh_without : StandsFor fllen sllen (contents l y) now_has
     fresh_without = stands-without read fresh_block block_in.0 l start bytes (out ∙ ap (out_without r) fresh_range)
+
+    -- bytes that no block is made of are as they were
+    pub fresh_spare : KeepsSpare m s l now_has
+    fresh_spare =
+        spare-last m o l s now_has (start ∙ ap (λ (q : Space). q.start) w.touched) (bytes ∙ ap (λ (q : Space). q.bytes) w.touched)
+        (spare-then m n o s now_has b.start (long_in b) (state b) refl (spare_in b) (stayed_spare b w.at size w.resized))
 
     module _ (k : State) (kept : k ≡ bare now_has) (q : Piece) (at_range : q.start ≡ range.start) (has : q.bytes ≡ bytes_in r range) where
       pub fresh_start : (block b).payload ≡ q.start

@@ -58,6 +58,10 @@ module _ {fllen sllen : ℕ} {m : Space} {table : Table} {s : State} {entries : 
   pub held : Holds s addr block
   held = let h = R.holds v tickets key (bytes_of of) of.align known in (h.0, h.1 ∙ same)
 
+  -- it lies in the memory
+  pub inside : m.start ≤ of.start
+  inside = (R.lies v tickets key (bytes_of of) of.align known).0
+
   -- it was allocated with this alignment
   pub wide : block.align ≡ of.align
   wide = (R.found v tickets key (bytes_of of) of.align known).4
@@ -90,13 +94,13 @@ module _ {fllen sllen : ℕ} {m : Space} {table : Table} {s : State} {entries : 
   module _ (n : Space) (touched : n ≡ record m { touches = m.touches + 3 }) (q : Piece) (one : q ≡ bytes_of of) (o : Space) (start : o.start ≡ n.start)
       (bytes : o.bytes ≡ n.bytes)
       (out : o.out ≡ out_raw n (piece_range q)) where
-    start_is : o.start ≡ m.start
+    pub start_is : o.start ≡ m.start
     start_is = start ∙ ap (λ (x : Space). x.start) touched
 
-    bytes_are : o.bytes ≡ m.bytes
+    pub bytes_are : o.bytes ≡ m.bytes
     bytes_are = bytes ∙ ap (λ (x : Space). x.bytes) touched
 
-    gone : o.out ≡ out_raw m (payload_range of)
+    pub gone : o.out ≡ out_raw m (payload_range of)
     gone = out ∙ ap (λ (x : Piece). out_raw n (piece_range x)) one ∙ ap (λ (x : Space). out_raw x (payload_range of)) touched
 
     -- with its bytes back, the memory represents the same state

@@ -68,6 +68,10 @@ module _ {fllen sllen : ℕ} {m : Space} {table : Table} {s : State} {entries : 
   pub held : Holds s start block
   held = R.holds v tickets k piece 16 known
 
+  -- it lies in the memory
+  pub inside : m.start ≤ start
+  inside = (R.lies v tickets k piece 16 known).0
+
   -- its block begins 16 bytes before it
   pub block-start : block.block.start + 16 ≡ start
   block-start =

@@ -1,6 +1,7 @@
 -- Definitions for the heap and its payloads. Read `Heap` first.
 pub mod Heap
 pub mod Handover
+pub mod Kept
 pub mod Lends
 pub mod Reallocation
 pub mod Pools

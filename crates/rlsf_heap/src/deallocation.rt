@@ -7,6 +7,7 @@ ghost use Rattle.rlsf_model.specs.Callers.{align_at};
 ghost use Rattle.rlsf_model.specs.Release.{Deallocates};
 ghost use Rattle.rlsf_model.specs.Sized.{IsSizedFor, live_count};
 ghost use Rattle.rlsf_heap.specs.Heap.{IsOwners, IsTicketOf, IsWritten};
+ghost use Rattle.rlsf_heap.specs.Kept.{KeepsSpareBytes};
 ghost use Rattle.rlsf_heap.specs.Settled.{IsSettled};
 
 use crate::heap::Heap;
@@ -46,6 +47,7 @@ impl<FLBitmap: BitPattern, SLBitmap: BitPattern, const FLLEN: usize, const SLLEN
         ensures settled { IsSettled self.old.memory → IsSettled self.new.memory }
         ensures touches { self.new.memory.touches ≤ self.old.memory.touches + 33 }
         ensures grow { self.old.memory.touches ≤ self.new.memory.touches }
+        ensures spare { KeepsSpareBytes self.old self.new }
         ensures copied { self.new.memory.copied ≡ self.old.memory.copied }
     {
         let (part, ticket) = payload.into_parts();
@@ -71,6 +73,7 @@ impl<FLBitmap: BitPattern, SLBitmap: BitPattern, const FLLEN: usize, const SLLEN
         ensures settled { IsSettled self.old.memory → IsSettled self.new.memory }
         ensures touches { self.new.memory.touches ≤ self.old.memory.touches + 33 }
         ensures grow { self.old.memory.touches ≤ self.new.memory.touches }
+        ensures spare { KeepsSpareBytes self.old self.new }
         ensures copied { self.new.memory.copied ≡ self.old.memory.copied }
     {
         let addr = part.start();

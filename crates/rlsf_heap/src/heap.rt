@@ -11,7 +11,8 @@ ghost use Rattle.rlsf_model.specs.Insert.{IsUntouched};
 ghost use Rattle.rlsf_model.specs.Release.{Deallocates};
 ghost use Rattle.rlsf_model.specs.Sized.{IsSizedFor, live_count};
 ghost use Rattle.rlsf_model.specs.State.{empty};
-ghost use Rattle.rlsf_heap.specs.Heap.{addr_of, IsOwners, IsWritten};
+ghost use Rattle.rlsf_heap.specs.Heap.{addr_of, IsOwners, IsWritten, payload_range};
+ghost use Rattle.rlsf_heap.specs.Kept.{KeepsSpareBytes, NoneBecomesRawBeside};
 ghost use Rattle.rlsf_heap.specs.Replies.{IsAllocated, KeepsHeap};
 ghost use Rattle.rlsf_heap.specs.Settled.{IsSettled};
 
@@ -151,6 +152,7 @@ impl<FLBitmap: BitPattern, SLBitmap: BitPattern, const FLLEN: usize, const SLLEN
         ensures same { IfNone result (self.new.state ≡ self.old.state) }
         ensures refused { IfNone result (self.new.memory.bytes ≡ self.old.memory.bytes) }
         ensures touches { self.new.memory.touches ≤ self.old.memory.touches + 30 }
+        ensures spare { KeepsSpareBytes self.old self.new }
         ensures copied { self.new.memory.copied ≡ self.old.memory.copied }
     {
         let view = self.memory.view();
@@ -180,6 +182,7 @@ impl<FLBitmap: BitPattern, SLBitmap: BitPattern, const FLLEN: usize, const SLLEN
         ensures refused { IfNone result (self.new.memory.bytes ≡ self.old.memory.bytes) }
         ensures few_touches { IfNone result (self.new.memory.touches ≤ self.old.memory.touches + 30) }
         ensures touches { IfSome result (λ p. self.new.memory.touches ≤ self.old.memory.touches + 30 + length p.bytes / 8) }
+        ensures spare { KeepsSpareBytes self.old self.new }
         ensures copied { self.new.memory.copied ≡ self.old.memory.copied }
     {
         let mut payload = self.allocate(layout)?;
@@ -206,8 +209,10 @@ impl<FLBitmap: BitPattern, SLBitmap: BitPattern, const FLLEN: usize, const SLLEN
         ensures chunks { self.new.state.chunks ≡ self.old.state.chunks }
         ensures gone { align_at self.new.state payload.start ≡ None }
         ensures aligns { (a : ℕ) → a ≢ payload.start → align_at self.new.state a ≡ align_at self.old.state a }
+        ensures raw { NoneBecomesRawBeside self.old self.new (payload_range payload) }
         ensures touches { self.new.memory.touches ≤ self.old.memory.touches + 33 }
         ensures grow { self.old.memory.touches ≤ self.new.memory.touches }
+        ensures spare { KeepsSpareBytes self.old self.new }
         ensures copied { self.new.memory.copied ≡ self.old.memory.copied }
     {
         let (part, ticket) = payload.into_parts();

@@ -12,6 +12,7 @@ ghost use Rattle.rlsf_model.specs.Remove.{IsIdle, Removes};
 ghost use Rattle.rlsf_model.specs.Sized.{IsSizedFor, live_count};
 ghost use Rattle.rlsf_blocks.specs.Blocks.{walked};
 ghost use Rattle.rlsf_tlsf.specs.Steps.UsedBlocks.{has_used};
+ghost use Rattle.rlsf_heap.specs.Kept.{KeepsSpareBytes};
 ghost use Rattle.rlsf_heap.specs.Settled.{IsSettled};
 
 use crate::heap::Heap;
@@ -55,6 +56,7 @@ impl<FLBitmap: BitPattern, SLBitmap: BitPattern, const FLLEN: usize, const SLLEN
         ensures settled { IsSettled self.old.memory → IsSettled self.new.memory }
         ensures touches { self.new.memory.touches ≤ self.old.memory.touches + 13 * length (cut (max_pool_size FLLEN) (aligned_part range)) }
         ensures grow { self.old.memory.touches ≤ self.new.memory.touches }
+        ensures spare { KeepsSpareBytes self.old self.new }
         ensures copied { self.new.memory.copied ≡ self.old.memory.copied }
     {
         let taken = insert_chunks(&mut self.memory, &mut self.table, range);
@@ -82,6 +84,7 @@ impl<FLBitmap: BitPattern, SLBitmap: BitPattern, const FLLEN: usize, const SLLEN
         ensures settled { IsSettled self.old.memory → IsSettled self.new.memory }
         ensures touches { self.new.memory.touches ≤ self.old.memory.touches + 13 * length (cut (max_pool_size FLLEN) (aligned_part range)) }
         ensures grow { self.old.memory.touches ≤ self.new.memory.touches }
+        ensures spare { KeepsSpareBytes self.old self.new }
         ensures copied { self.new.memory.copied ≡ self.old.memory.copied }
     {
         let _ = self.insert_free_block_ptr(range);
@@ -111,6 +114,7 @@ impl<FLBitmap: BitPattern, SLBitmap: BitPattern, const FLLEN: usize, const SLLEN
         ensures touches { self.new.memory.touches
             ≤ self.old.memory.touches + (if is_some (max_pool_size FLLEN) then 13 * length (cut (max_pool_size FLLEN) (aligned_part range)) else 34) }
         ensures grow { self.old.memory.touches ≤ self.new.memory.touches }
+        ensures spare { KeepsSpareBytes self.old self.new }
         ensures copied { self.new.memory.copied ≡ self.old.memory.copied }
     {
         let taken = append_chunks(&mut self.memory, &mut self.table, range);
@@ -137,6 +141,7 @@ impl<FLBitmap: BitPattern, SLBitmap: BitPattern, const FLLEN: usize, const SLLEN
         ensures settled { IsSettled self.old.memory → IsSettled self.new.memory }
         ensures touches { self.new.memory.touches + 9 * length self.new.state.chunks ≤ self.old.memory.touches + 9 * length self.old.state.chunks }
         ensures grow { self.old.memory.touches ≤ self.new.memory.touches }
+        ensures spare { KeepsSpareBytes self.old self.new }
         ensures copied { self.new.memory.copied ≡ self.old.memory.copied }
     {
         remove_chunks(&mut self.memory, &mut self.table, range);
@@ -160,6 +165,7 @@ impl<FLBitmap: BitPattern, SLBitmap: BitPattern, const FLLEN: usize, const SLLEN
         ensures settled { IsSettled self.old.memory → IsSettled self.new.memory }
         ensures touches { self.new.memory.touches + 9 * length self.new.state.chunks ≤ self.old.memory.touches + 9 * length self.old.state.chunks }
         ensures grow { self.old.memory.touches ≤ self.new.memory.touches }
+        ensures spare { KeepsSpareBytes self.old self.new }
         ensures copied { self.new.memory.copied ≡ self.old.memory.copied }
     {
         // What `memory_ref` says of every heap: its state is well-formed.

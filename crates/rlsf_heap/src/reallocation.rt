@@ -5,7 +5,8 @@ ghost use Rattle.rlsf_model.specs.Callers.{align_at};
 ghost use Rattle.rlsf_model.specs.NoMove.{ReallocatesWithoutMove};
 ghost use Rattle.rlsf_model.specs.Reallocate.{Reallocates};
 ghost use Rattle.rlsf_model.specs.Sized.{IsSizedFor, live_count};
-ghost use Rattle.rlsf_heap.specs.Heap.{IsWritten};
+ghost use Rattle.rlsf_heap.specs.Heap.{IsWritten, payload_range};
+ghost use Rattle.rlsf_heap.specs.Kept.{KeepsBytesBeside, KeepsSpareBytes};
 ghost use Rattle.rlsf_heap.specs.Reallocation.{IsKeptHere, moved_to, owned_by};
 ghost use Rattle.rlsf_heap.specs.Replies.{CopiesToMove, IsReallocated, IsReturned, KeepsHeap, LeavesOthers};
 ghost use Rattle.rlsf_heap.specs.Settled.{IsSettled};
@@ -53,6 +54,8 @@ impl<FLBitmap: BitPattern, SLBitmap: BitPattern, const FLLEN: usize, const SLLEN
         ensures written { IsSettled self.old.memory → IfOk result (λ p. IsWritten p) }
         ensures others { IfOk result (λ p. LeavesOthers self.old.state self.new.state payload.start p.start) }
         ensures refused { IfErr result (λ p. IsReturned self.old.state self.new.state payload.start payload p) }
+        ensures unchanged { IfErr result (λ p. KeepsBytesBeside self.old self.new (payload_range payload)) }
+        ensures spare { KeepsSpareBytes self.old self.new }
         ensures heap { KeepsHeap SLLEN size payload.align self.old self.new }
         ensures count { live_count self.new.state ≡ live_count self.old.state }
         ensures touches { self.new.memory.touches ≤ self.old.memory.touches + 69 }
@@ -111,6 +114,8 @@ impl<FLBitmap: BitPattern, SLBitmap: BitPattern, const FLLEN: usize, const SLLEN
         ensures written { IsSettled self.old.memory → IfOk result (λ p. IsWritten p) }
         ensures aligns { align_at self.new.state ≡ align_at self.old.state }
         ensures refused { IfErr result (λ p. IsReturned self.old.state self.new.state payload.start payload p) }
+        ensures unchanged { IfErr result (λ p. KeepsBytesBeside self.old self.new (payload_range payload)) }
+        ensures spare { KeepsSpareBytes self.old self.new }
         ensures heap { KeepsHeap SLLEN size payload.align self.old self.new }
         ensures count { live_count self.new.state ≡ live_count self.old.state }
         ensures touches { self.new.memory.touches ≤ self.old.memory.touches + 28 }

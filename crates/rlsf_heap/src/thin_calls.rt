@@ -5,7 +5,8 @@ ghost use Rattle.rlsf_model.specs.Allocate.{Allocates};
 ghost use Rattle.rlsf_model.specs.Callers.{align_at, bytes_at};
 ghost use Rattle.rlsf_model.specs.Release.{Deallocates};
 ghost use Rattle.rlsf_model.specs.Sized.{IsSizedFor, live_count};
-ghost use Rattle.rlsf_heap.specs.Heap.{IsOwners, IsTicketOf, IsWritten, payload_view};
+ghost use Rattle.rlsf_heap.specs.Heap.{IsOwners, IsTicketOf, IsWritten, payload_range, payload_view};
+ghost use Rattle.rlsf_heap.specs.Kept.{KeepsSpareBytes, NoneBecomesRawBeside};
 ghost use Rattle.rlsf_heap.specs.Replies.{IsAllocated, KeepsHeap};
 ghost use Rattle.rlsf_heap.specs.Settled.{IsSettled};
 ghost use Rattle.rlsf_heap.specs.Thin.{reply_of};
@@ -36,6 +37,7 @@ impl<FLBitmap: BitPattern, SLBitmap: BitPattern, const FLLEN: usize, const SLLEN
         ensures payload { result.of.start ≢ 0 → IsAllocated self.old self.new layout.size layout.align result.of }
         ensures heap { KeepsHeap SLLEN layout.size layout.align self.old self.new }
         ensures leaves { AllocationLeaves SLLEN layout.size layout.align self.old self.new result.of.start }
+        ensures spare { KeepsSpareBytes self.old self.new }
         ensures written { IsSettled self.old.memory → result.of.start ≢ 0 → IsWritten result.of }
         ensures touches { self.new.memory.touches ≤ self.old.memory.touches + 30 }
     {
@@ -55,6 +57,7 @@ impl<FLBitmap: BitPattern, SLBitmap: BitPattern, const FLLEN: usize, const SLLEN
         ensures payload { result.of.start ≢ 0 → IsAllocated self.old self.new layout.size layout.align result.of }
         ensures heap { KeepsHeap SLLEN layout.size layout.align self.old self.new }
         ensures leaves { AllocationLeaves SLLEN layout.size layout.align self.old self.new result.of.start }
+        ensures spare { KeepsSpareBytes self.old self.new }
         ensures written { result.of.start ≢ 0 → IsWritten result.of }
         ensures zeros { result.of.start ≢ 0 → result.of.bytes ≡ replicate (length result.of.bytes) 0 }
         ensures few_touches { result.of.start ≡ 0 → self.new.memory.touches ≤ self.old.memory.touches + 30 }
@@ -117,8 +120,10 @@ impl<FLBitmap: BitPattern, SLBitmap: BitPattern, const FLLEN: usize, const SLLEN
         ensures count { live_count self.old.state ≡ live_count self.new.state + 1 }
         ensures bounds { (count size align : ℕ) → IsSizedFor SLLEN count size align self.old.state → IsSizedFor SLLEN count size align self.new.state }
         ensures chunks { self.new.state.chunks ≡ self.old.state.chunks }
+        ensures raw { NoneBecomesRawBeside self.old self.new (payload_range payload.of) }
         ensures touches { self.new.memory.touches ≤ self.old.memory.touches + 36 }
         ensures grow { self.old.memory.touches ≤ self.new.memory.touches }
+        ensures spare { KeepsSpareBytes self.old self.new }
         ensures copied { self.new.memory.copied ≡ self.old.memory.copied }
     {
         let (bytes, ticket) = unsafe { payload.into_parts() };
@@ -155,6 +160,7 @@ impl<FLBitmap: BitPattern, SLBitmap: BitPattern, const FLLEN: usize, const SLLEN
         ensures settled { IsSettled self.old.memory → IsSettled self.new.memory }
         ensures touches { self.new.memory.touches ≤ self.old.memory.touches + 36 }
         ensures grow { self.old.memory.touches ≤ self.new.memory.touches }
+        ensures spare { KeepsSpareBytes self.old self.new }
         ensures copied { self.new.memory.copied ≡ self.old.memory.copied }
     {
         let (part, ticket) = self.find_part(addr, payload);

@@ -5,7 +5,8 @@ ghost use Rattle.rlsf_model.specs.Callers.{align_at};
 ghost use Rattle.rlsf_model.specs.NoMove.{ReallocatesWithoutMove};
 ghost use Rattle.rlsf_model.specs.Reallocate.{Keeps, Reallocates};
 ghost use Rattle.rlsf_model.specs.Sized.{IsSizedFor, live_count};
-ghost use Rattle.rlsf_heap.specs.Heap.{IsWritten};
+ghost use Rattle.rlsf_heap.specs.Heap.{IsWritten, payload_range};
+ghost use Rattle.rlsf_heap.specs.Kept.{KeepsBytesBeside, KeepsSpareBytes};
 ghost use Rattle.rlsf_heap.specs.Reallocation.{owned_by};
 ghost use Rattle.rlsf_heap.specs.Replies.{CopiesToMove, IsReallocated, IsReallocatedHere, IsReturned, KeepsHeap, LeavesOthers};
 ghost use Rattle.rlsf_heap.specs.Settled.{IsSettled};
@@ -68,6 +69,8 @@ impl<FLBitmap: BitPattern, SLBitmap: BitPattern, const FLLEN: usize, const SLLEN
         ensures here { IfOk result (λ p. IsReallocatedHere self.old payload.of p.of) }
         ensures others { IfOk result (λ p. LeavesOthers self.old.state self.new.state addr p.of.start) }
         ensures refused { IfErr result (λ p. IsReturned self.old.state self.new.state addr payload.of p.of) }
+        ensures unchanged { IfErr result (λ p. KeepsBytesBeside self.old self.new (payload_range payload.of)) }
+        ensures spare { KeepsSpareBytes self.old self.new }
         ensures heap { KeepsHeap SLLEN size align self.old self.new }
         ensures count { live_count self.new.state ≡ live_count self.old.state }
         ensures touches { self.new.memory.touches ≤ self.old.memory.touches + 72 }
@@ -106,6 +109,8 @@ impl<FLBitmap: BitPattern, SLBitmap: BitPattern, const FLLEN: usize, const SLLEN
         ensures here { IfOk result (λ p. IsReallocatedHere self.old payload.of p.of) }
         ensures aligns { align_at self.new.state ≡ align_at self.old.state }
         ensures refused { IfErr result (λ p. IsReturned self.old.state self.new.state addr payload.of p.of) }
+        ensures unchanged { IfErr result (λ p. KeepsBytesBeside self.old self.new (payload_range payload.of)) }
+        ensures spare { KeepsSpareBytes self.old self.new }
         ensures heap { KeepsHeap SLLEN size align self.old self.new }
         ensures count { live_count self.new.state ≡ live_count self.old.state }
         ensures touches { self.new.memory.touches ≤ self.old.memory.touches + 31 }
@@ -145,6 +150,7 @@ impl<FLBitmap: BitPattern, SLBitmap: BitPattern, const FLLEN: usize, const SLLEN
         ensures gone { IfOk result (λ p. (p.of.start ≢ addr) × (align_at self.new.state addr ≡ None)) }
         ensures others { IfOk result (λ p. LeavesOthers self.old.state self.new.state addr p.of.start) }
         ensures refused { IfErr result (λ p. (p.of ≡ payload.of) × (self.new.state ≡ self.old.state) × (self.new.memory.bytes ≡ self.old.memory.bytes)) }
+        ensures spare { KeepsSpareBytes self.old self.new }
         ensures heap { KeepsHeap SLLEN layout.size layout.align self.old self.new }
         ensures count { live_count self.new.state ≡ live_count self.old.state }
         ensures touches { self.new.memory.touches ≤ self.old.memory.touches + 66 }

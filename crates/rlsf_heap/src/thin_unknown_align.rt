@@ -11,7 +11,8 @@ ghost use Rattle.rlsf_model.specs.State.{AreAlike, Holds, State, Used, usable};
 ghost use Rattle.rlsf_table.specs.Counts.{Costs, Counts};
 ghost use Rattle.rlsf_blocks.specs.StandsFor.{contents, StandsFor};
 ghost use Rattle.rlsf_reallocate.specs.Steps.Resize.{IsResized};
-ghost use Rattle.rlsf_heap.specs.Heap.{IsWritten};
+ghost use Rattle.rlsf_heap.specs.Heap.{IsWritten, payload_range};
+ghost use Rattle.rlsf_heap.specs.Kept.{KeepsBytesBeside, KeepsSpareBytes};
 ghost use Rattle.rlsf_heap.specs.Reallocation.{IsKeptHere, owned_by};
 ghost use Rattle.rlsf_heap.specs.Replies.{IsReallocated};
 ghost use Rattle.rlsf_heap.specs.Settled.{IsSettled};
@@ -114,11 +115,13 @@ impl<FLBitmap: BitPattern, SLBitmap: BitPattern, const FLLEN: usize, const SLLEN
         ensures same_bounds { IfErr result (λ p. (count most wide : ℕ) → IsSizedFor SLLEN count most wide self.old.state → IsSizedFor SLLEN count most wide self.new.state) }
         ensures chunks { self.new.state.chunks ≡ self.old.state.chunks }
         ensures same { IfErr result (λ p. AreAlike self.old.state self.new.state) }
+        ensures unchanged { IfErr result (λ p. KeepsBytesBeside self.old self.new (payload_range payload.of)) }
         ensures enough { layout.size ≤ length payload.of.bytes → IsOk result }
         ensures stays { HasRoomToStay self.old.state addr layout.size → IsOk result }
         ensures touches { self.new.memory.touches ≤ self.old.memory.touches + 32 }
         ensures few_touches { IfErr result (λ p. self.new.memory.touches ≤ self.old.memory.touches + 7) }
         ensures grow { self.old.memory.touches ≤ self.new.memory.touches }
+        ensures spare { KeepsSpareBytes self.old self.new }
         ensures copied { self.new.memory.copied ≡ self.old.memory.copied }
     {
         let payload = payload.checked(&mut self.ledger);
@@ -184,11 +187,13 @@ impl<FLBitmap: BitPattern, SLBitmap: BitPattern, const FLLEN: usize, const SLLEN
             → layout.size ≤ most → layout.align ≤ wide → IsSizedFor SLLEN count most wide self.new.state }
         ensures chunks { self.new.state.chunks ≡ self.old.state.chunks }
         ensures same { IfErr result (λ p. AreAlike self.old.state self.new.state) }
+        ensures unchanged { IfErr result (λ p. KeepsBytesBeside self.old self.new (payload_range payload.of)) }
         ensures same_aligns { IfErr result (λ p. align_at self.new.state ≡ align_at self.old.state) }
         ensures enough { layout.size ≤ length payload.of.bytes → MatchResult result (λ p. p.of.start ≡ addr) (λ p. ⊥) }
         ensures stays { HasRoomToStay self.old.state addr layout.size → MatchResult result (λ p. p.of.start ≡ addr) (λ p. ⊥) }
         ensures touches { self.new.memory.touches ≤ self.old.memory.touches + 73 }
         ensures grow { self.old.memory.touches ≤ self.new.memory.touches }
+        ensures spare { KeepsSpareBytes self.old self.new }
         ensures copied { self.new.memory.copied ≡ self.old.memory.copied }
     {
         match self.resize_thin_unknown_align(addr, payload, layout) {

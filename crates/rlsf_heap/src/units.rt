@@ -1,10 +1,13 @@
 //! Payloads of complete units, which a pointer alone shows: what an allocator of collections needs of a heap.
 ghost use Rattle.std.specs.Prelude.{◌≡◌, ◌≢◌, ◌≤◌, ◌<◌, ◌+◌, ◌-◌, ◌*◌, ◌/◌, ◌%◌, ◌^◌, ◌↔◌, IsTrue, ℕ, Some, None, length, min, IfErr, IfNone, IfSome, IsOk, IsSome, MatchResult};
+ghost use Rattle.rlsf_base.specs.Range.{range_at};
 ghost use Rattle.rlsf_model.specs.Allocate.{Allocates};
 ghost use Rattle.rlsf_model.specs.Callers.{align_at};
 ghost use Rattle.rlsf_model.specs.NoMove.{ReallocatesWithoutMove};
 ghost use Rattle.rlsf_model.specs.Release.{Deallocates};
 ghost use Rattle.rlsf_model.specs.Sized.{IsSizedFor, live_count};
+ghost use Rattle.rlsf_heap.specs.Kept.{KeepsBytesBeside, KeepsSpareBytes, NoneBecomesRawBeside};
+ghost use Rattle.rlsf_heap.specs.Settled.{IsSettled};
 ghost use Rattle.rlsf_heap.specs.Units.{GivesUnits, heap_of, heap_of_tail, payload_len, stayed_at, unit_addr_of};
 
 use crate::heap::Heap;
@@ -79,10 +82,12 @@ impl<FLBitmap: BitPattern, SLBitmap: BitPattern, const FLLEN: usize, const SLLEN
         ensures count { IfSome result (λ p. live_count self.new.state ≡ live_count self.old.state + 1) }
         ensures bounds { (count most align : ℕ) → IsSizedFor SLLEN count most align self.old.state → size ≤ most → 16 ≤ align → IsSizedFor SLLEN count most align self.new.state }
         ensures chunks { self.new.state.chunks ≡ self.old.state.chunks }
+        ensures settled { IsSettled self.old.memory → IsSettled self.new.memory }
         ensures same { IfNone result (self.new.state ≡ self.old.state) }
         ensures refused { IfNone result (self.new.memory.bytes ≡ self.old.memory.bytes) }
         ensures touches { self.new.memory.touches ≤ self.old.memory.touches + 30 }
         ensures grow { self.old.memory.touches ≤ self.new.memory.touches }
+        ensures spare { KeepsSpareBytes self.old self.new }
         ensures copied { self.new.memory.copied ≡ self.old.memory.copied }
     {
         let layout = Layout::from_size_align_unchecked(size, 16);
@@ -103,8 +108,10 @@ impl<FLBitmap: BitPattern, SLBitmap: BitPattern, const FLLEN: usize, const SLLEN
         ensures chunks { self.new.state.chunks ≡ self.old.state.chunks }
         ensures gone { align_at self.new.state payload.start ≡ None }
         ensures aligns { (a : ℕ) → a ≢ payload.start → align_at self.new.state a ≡ align_at self.old.state a }
+        ensures raw { NoneBecomesRawBeside self.old self.new (range_at payload.start payload.len) }
         ensures touches { self.new.memory.touches ≤ self.old.memory.touches + 32 }
         ensures grow { self.old.memory.touches ≤ self.new.memory.touches }
+        ensures spare { KeepsSpareBytes self.old self.new }
         ensures copied { self.new.memory.copied ≡ self.old.memory.copied }
     {
         // The word at 8 bytes past the payload's end names its block.
@@ -144,8 +151,11 @@ impl<FLBitmap: BitPattern, SLBitmap: BitPattern, const FLLEN: usize, const SLLEN
         ensures bounds { (count most align : ℕ) → IsSizedFor SLLEN count most align self.old.state → size ≤ most → 16 ≤ align → IsSizedFor SLLEN count most align self.new.state }
         ensures chunks { self.new.state.chunks ≡ self.old.state.chunks }
         ensures same { IfErr result (λ p. self.new.state ≡ self.old.state) }
+        ensures raw { NoneBecomesRawBeside self.old self.new (range_at tail.start tail.len) }
+        ensures unchanged { IfErr result (λ p. KeepsBytesBeside self.old self.new (range_at tail.start tail.len)) }
         ensures touches { self.new.memory.touches ≤ self.old.memory.touches + 25 }
         ensures grow { self.old.memory.touches ≤ self.new.memory.touches }
+        ensures spare { KeepsSpareBytes self.old self.new }
         ensures copied { self.new.memory.copied ≡ self.old.memory.copied }
     {
         let wanted = payload_len(size);

@@ -15,7 +15,9 @@ use Rattle.rlsf_heap.proofs.Allocated.{IsHeap-refused, SeesPlaced, Steps-refused
 use Rattle.rlsf_heap.proofs.Allocated.{Placing, at_new, if_none, if_some, is_new, issued-new, new, one_more, new-here, new-lies, placing-counted, stands-left}
 use Rattle.rlsf_heap.proofs.Costs.{Leaves, is_of_heap, left_costs, sees_left}
 use Rattle.rlsf_heap.proofs.Arrivals.{IsHeap-arrived, bare-kept}
+use Rattle.rlsf_heap.proofs.Kept.{spare-last, spare-seen}
 use Rattle.rlsf_blocks.proofs.Words.Stays.{Stays, Stays-same, Stays-then}
+use Rattle.rlsf_heap.specs.Kept.{KeepsSpareBytes}
 use Rattle.rlsf_heap.specs.Settled.{IsSettled}
 use Rattle.rlsf_heap.proofs.Settled.{settled-here, settled-inside, settled-left, settled-stays}
 use Rattle.rlsf_heap.proofs.heap.Heap.allocate.Given as given
@@ -59,6 +61,9 @@ returns-in_err-addr g c =
       same = if_none _ none same;
       refused = if_none _ none (e.unchanged.0.bytes ∙ ap (λ (v : HeapView). v.memory.bytes) c.self.view_is);
       touches = omega (arith, o.touches);
+      spare =
+          spare-seen c.self.inside.memory c.allocate_block.new.memory (read_from c.self.inside.memory k) t spare k k refl (ap (λ (s : State). s.chunks) step.1)
+          c.args.self.now c.self.view_is c.allocate_block.new.table c.self.inside.ledger.name;
       copied = omega (arith, e.costs.copied, ap (λ (v : HeapView). v.memory.copied) c.self.view_is);
     }
 
@@ -212,6 +217,21 @@ left g c =
       grow = omega (arith, b.grow, e.touches);
     }
 
+-- bytes that no block is made of are as they were
+spare : (g : given.Over) (c : After-hand_over-payload g) → KeepsSpareBytes c.args.self.now
+    (heap_view c.hand_over-payload.new.memory c.allocate_block.new.table c.allocate.new.self.state c.hand_over-payload.new.ledger.name)
+unfolding after
+spare g c =
+    let m = c.self.inside.memory in
+    let is = c.in_ok-addr.ensures.step (before g (read g c)) c.self.invariant.stands in
+    let counts = c.load_usable_of-range.ensures.counts in
+    let e = c.hand_over-payload.ensures.over in
+    let n = c.hand_over-payload.new.memory in
+    let s = before g (read g c) in
+    spare-seen m n s is.0 (spare-last m c.allocate_block.new.memory n s is.0 (e.start ∙ counts.start) (e.bytes ∙ counts.bytes) is.3)
+    c.self.inside.state.state c.allocate.new.self.state refl (sym (ap (λ (s : State). s.chunks) (kept g c))) c.args.self.now c.self.view_is
+    c.allocate_block.new.table c.hand_over-payload.new.ledger.name
+
 pub returns : goal.returns
 returns g c =
     let a = c.in_ok-addr.ensures.costs in
@@ -251,5 +271,6 @@ returns g c =
       same = tt;
       refused = tt;
       touches = o.touches;
+      spare = spare g c;
       copied = omega (arith, a.copied, c.load_usable_of-range.ensures.counts.copied, e.copied, ap (λ (o : HeapView). o.memory.copied) c.self.view_is);
     }

@@ -50,10 +50,12 @@ returns g c =
       count = e.payload.count;
       bounds = λ count most align sized short fits. e.heap.bounds count most align sized (omega (arith, asks.0, short)) (omega (arith, asks.1, fits));
       chunks = e.heap.chunks;
+      settled = e.heap.settled;
       same = tt;
       refused = tt;
       touches = e.touches;
       grow = e.heap.grow;
+      spare = e.spare;
       copied = e.copied;
     }
 
@@ -76,9 +78,11 @@ returns-in_err-payload g c =
       count = if_some _ none;
       bounds = λ count most align sized short fits. e.heap.bounds count most align sized (omega (arith, asks.0, short)) (omega (arith, asks.1, fits));
       chunks = e.heap.chunks;
+      settled = e.heap.settled;
       same = if_none _ none e.same;
       refused = if_none _ none e.refused;
       touches = e.touches;
       grow = e.heap.grow;
+      spare = e.spare;
       copied = e.copied;
     }

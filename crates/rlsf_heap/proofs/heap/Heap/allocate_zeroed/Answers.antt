@@ -35,6 +35,7 @@ returns g c =
       refused = tt;
       few_touches = tt;
       touches = omega (arith, e.touches);
+      spare = e.spare;
       copied = e.copied;
     }
 
@@ -54,5 +55,6 @@ returns-in_err-payload g c =
       refused = if_none _ none e.refused;
       few_touches = if_none _ none e.touches;
       touches = if_some _ none;
+      spare = e.spare;
       copied = e.copied;
     }

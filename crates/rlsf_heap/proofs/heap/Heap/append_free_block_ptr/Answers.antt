@@ -1,4 +1,4 @@
-use Rattle.std.proofs.Common.{◌≡◌, arith, sym, ◌∙◌, ap, subst}
+use Rattle.std.proofs.Common.{◌≡◌, arith, refl, sym, ◌∙◌, ap, subst}
 use Rattle.rlsf_base.specs.Space.{range_of}
 use Rattle.rlsf_model.specs.Insert.{Appends, IsNext}
 use Rattle.rlsf_model.specs.Run.{append}
@@ -17,6 +17,7 @@ use Rattle.rlsf_tlsf.specs.Steps.Moves.{appended_to, bare}
 use Rattle.rlsf_tlsf.proofs.Moved.{appended_to-bare}
 use Rattle.rlsf_heap.specs.Heap.{HeapView}
 use Rattle.rlsf_heap.proofs.Arrivals.{IsHeap-arrived, Steps-arrived, bare-kept, stepped, view_well_formed}
+use Rattle.rlsf_heap.proofs.Kept.{spare-seen}
 use Rattle.rlsf_heap.proofs.LiveCounts.{live_count-same}
 use Rattle.rlsf_heap.proofs.Read.{issued-same}
 use Rattle.rlsf_heap.proofs.Settled.{settled-inside, settled-stays}
@@ -98,3 +99,10 @@ returns-clause-count g c = count_appended (well g c) (now g c) c.args.range c.ap
 
 pub returns-clause-bounds : goal.returns-clause-bounds
 returns-clause-bounds g c = λ count size align sized. sized_appended (well g c) (now g c) count size align sized c.args.range c.append_chunks-taken.result c.requires (did g c)
+
+pub returns-clause-spare : goal.returns-clause-spare
+unfolding after
+returns-clause-spare g c =
+    let is = c.append_chunks-taken.ensures.step (before g c) c.self.invariant.stands (next g c) in
+    spare-seen c.self.inside.memory c.append_chunks-taken.new.memory (before g c) is.0 is.3 c.self.inside.state.state c.append.new.self.state refl
+    (sym (ap (λ (s : State). s.chunks) (kept g c))) c.args.self.now c.self.view_is c.append_chunks-taken.new.table c.self.inside.ledger.name

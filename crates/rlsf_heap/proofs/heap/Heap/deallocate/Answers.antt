@@ -2,6 +2,7 @@ use Rattle.std.proofs.Common.{◌≡◌, ℕ, ◌+◌, ◌-◌, set, false, leng
 use Rattle.rlsf_base.specs.Ledger.{IsIssued, entry_of, extent}
 use Rattle.rlsf_base.specs.declared.memory.range.Range.{Range}
 use Rattle.rlsf_base.specs.OpenSpace.{IsAway, IsOwned}
+use Rattle.rlsf_base.specs.Piece.{piece_range}
 use Rattle.rlsf_base.specs.Space.{Space, range_of}
 use Rattle.rlsf_base.proofs.Lending.Present.{owned-same}
 use Rattle.rlsf_model.specs.Release.{Deallocates, released}
@@ -15,14 +16,18 @@ use Rattle.rlsf_model.proofs.SizedWords.{count_gone, sized_gone}
 use Rattle.rlsf_table.proofs.Parameters.{IsValid-widest}
 use Rattle.rlsf_table.specs.Table.{Table}
 use Rattle.rlsf_blocks.specs.Steps.LiveBlock.{AtEachBlock}
+use Rattle.rlsf_blocks.specs.Steps.Standing.{StandsAfter}
 use Rattle.rlsf_blocks.specs.Laws.{read_from}
 use Rattle.rlsf_blocks.specs.StandsFor.{contents, StandsFor}
 use Rattle.rlsf_blocks.proofs.RepresentedStates.Counted.{StandsFor-touched}
+use Rattle.rlsf_blocks.proofs.Words.Stays.{Stays, Stays-same, Stays-then}
 use Rattle.rlsf_tlsf.specs.Steps.Moves.{bare}
 use Rattle.rlsf_heap.specs.Heap.{AreIssued, HeapView, IsOwners, PayloadView, heap_view, payload_range}
 use Rattle.rlsf_heap.proofs.Arrivals.{IsHeap-arrived, Steps-arrived, kept_without, stepped, view_well_formed}
 use Rattle.rlsf_heap.proofs.Costs.{Leaves, left_costs, left_same, left_then, left_touched, sees_left}
-use Rattle.rlsf_heap.proofs.Released.{back-here, holds, issued-released, stands-back, u}
+use Rattle.rlsf_heap.specs.Kept.{KeepsSpareBytes, NoneBecomesRawBeside}
+use Rattle.rlsf_heap.proofs.Kept.{raw-back, raw-seen, spare-first, spare-seen}
+use Rattle.rlsf_heap.proofs.Released.{back-here, holds, issued-released, lies, stands-back, u}
 use Rattle.rlsf_heap.proofs.heap.Heap.deallocate.Given as given
 use Rattle.rlsf_heap.proofs.heap.Heap.deallocate.Goals as goal
 use Rattle.rlsf_heap.proofs.heap.Heap.deallocate.Goals.{After-put_room, After-deallocate}
@@ -99,13 +104,17 @@ first g c = (goal.at.invariant_of-self g c).After-put_room
 abbrev after : (g : given.Over) → After-deallocate g → State
 after g c = released (before g (first g c)) (block g (first g c))
 
-standing : (g : given.Over) (c : After-deallocate g) → StandsFor g.row.FLLEN g.row.SLLEN (contents c.deallocate_block.new.memory c.deallocate_block.new.table) (after g c)
-standing g c =
+releasing : (g : given.Over) (c : After-deallocate g)
+    → StandsAfter g.row.FLLEN g.row.SLLEN c.load_block_of-block.new.memory c.deallocate_block.new.memory c.deallocate_block.new.table (before g (first g c)) (after g c)
+releasing g c =
     let d = first g c in
     let n = c.load_block_of-block.new.memory in
     let touched = c.load_block_of-block.ensures.memory in
-    (c.deallocate_block.ensures.step (before g d) (block g d) (StandsFor-touched c.put_room.new.self n 2 touched (back g d)) (held g d).0
-    (starts g d c.load_block_of-block.result c.load_block_of-block.ensures.block) (own g d n touched)).0
+    c.deallocate_block.ensures.step (before g d) (block g d) (StandsFor-touched c.put_room.new.self n 2 touched (back g d)) (held g d).0
+    (starts g d c.load_block_of-block.result c.load_block_of-block.ensures.block) (own g d n touched)
+
+standing : (g : given.Over) (c : After-deallocate g) → StandsFor g.row.FLLEN g.row.SLLEN (contents c.deallocate_block.new.memory c.deallocate_block.new.table) (after g c)
+standing g c = (releasing g c).0
 
 -- the ghost state is the one without the payload
 kept : (g : given.Over) (c : After-deallocate g) → c.deallocate.new.self.state ≡ bare (after g c)
@@ -157,6 +166,38 @@ left g c =
     left_then (left_same e.start (ap length e.bytes) e.view e.touches)
     (left_then (left_touched 2 c.load_block_of-block.ensures.memory) (left_costs c.deallocate_block.ensures.costs))
 
+-- bytes that no block is made of are as they were
+spare : (g : given.Over) (c : After-deallocate g) → KeepsSpareBytes c.args.self.now
+    (heap_view c.deallocate_block.new.memory c.deallocate_block.new.table c.deallocate.new.self.state c.redeem.new.self.name)
+spare g c =
+    let touched = c.load_block_of-block.ensures.memory in
+    let e = c.put_room.ensures in
+    let m = c.self.inside.memory in
+    let n = c.deallocate_block.new.memory in
+    let s = before g (first g c) in
+    spare-seen m n s (after g c) (spare-first m c.load_block_of-block.new.memory n s (after g c) (ap (λ (o : Space). o.start) touched ∙ e.start)
+    (ap (λ (o : Space). o.bytes) touched ∙ e.bytes) (releasing g c).1)
+    c.self.inside.state.state c.deallocate.new.self.state refl (sym (ap (λ (s : State). s.chunks) (kept g c))) c.args.self.now c.self.view_is
+    c.deallocate_block.new.table c.redeem.new.self.name
+
+-- and no other byte becomes raw
+none_raw : (g : given.Over) (c : After-deallocate g) → NoneBecomesRawBeside c.args.self.now
+    (heap_view c.deallocate_block.new.memory c.deallocate_block.new.table c.deallocate.new.self.state c.redeem.new.self.name) (payload_range c.args.payload)
+none_raw g c =
+    let d = first g c in
+    let m = c.self.inside.memory in
+    let touched = c.load_block_of-block.ensures.memory in
+    let read = Stays-same c.put_room.new.self c.load_block_of-block.new.memory (ap (λ (o : Space). o.start) touched) (ap (λ (o : Space). o.out) touched) in
+    let last : Stays c.load_block_of-block.new.memory c.deallocate_block.new.memory =
+    record { start = c.deallocate_block.ensures.costs.start; own = c.deallocate_block.ensures.own; here = c.deallocate_block.ensures.here } in
+    let r = piece_range c.into_parts-part.result.0 in
+    let inside = lies c.self.invariant.stands c.self.invariant.tickets c.into_parts-part.result.1.key c.into_parts-part.result.0 c.args.payload.align (known g d) in
+    let new = heap_view c.deallocate_block.new.memory c.deallocate_block.new.table c.deallocate.new.self.state c.redeem.new.self.name in
+    subst (NoneBecomesRawBeside c.args.self.now new) (ap (λ (p : PayloadView). payload_range p) c.into_parts-part.ensures.parts)
+    (raw-seen m c.deallocate_block.new.memory c.self.inside.state.state c.deallocate.new.self.state c.args.self.now c.self.view_is c.deallocate_block.new.table
+    c.redeem.new.self.name r
+    (raw-back m c.put_room.new.self c.deallocate_block.new.memory r c.put_room.ensures.start inside.0 c.put_room.ensures.out (Stays-then read last)))
+
 pub returns : goal.returns
 returns g c =
     let o = sees_left c.self.inside.memory c.deallocate_block.new.memory c.self.inside.table c.deallocate_block.new.table c.self.inside.state.state
@@ -172,8 +213,10 @@ returns g c =
       chunks = chunks-deallocated c.args.self.now.state (now g c) c.args.payload.start (did g c);
       gone = gone.gone;
       aligns = gone.aligns;
+      raw = none_raw g c;
       touches = o.touches;
       grow = o.grow;
+      spare = spare g c;
       copied = omega (
         arith,
         ap (λ (v : HeapView). v.memory.copied) c.self.view_is,

@@ -17,12 +17,16 @@ use Rattle.rlsf_model.proofs.SizedWords.{count_gone, sized_gone}
 use Rattle.rlsf_table.proofs.Parameters.{IsValid-widest}
 use Rattle.rlsf_blocks.specs.Laws.{read_from}
 use Rattle.rlsf_blocks.specs.Steps.LiveBlock.{AtEachBlock}
+use Rattle.rlsf_blocks.specs.Steps.Standing.{StandsAfter}
 use Rattle.rlsf_blocks.specs.StandsFor.{contents, StandsFor}
 use Rattle.rlsf_blocks.proofs.RepresentedStates.Counted.{StandsFor-touched}
+use Rattle.rlsf_blocks.proofs.Words.Stays.{Stays, Stays-same, Stays-then}
 use Rattle.rlsf_tlsf.specs.Steps.Moves.{bare}
-use Rattle.rlsf_heap.specs.Heap.{HeapView, Identity}
+use Rattle.rlsf_heap.specs.Heap.{HeapView, Identity, heap_view, payload_range}
+use Rattle.rlsf_heap.specs.Kept.{KeepsSpareBytes, NoneBecomesRawBeside}
 use Rattle.rlsf_heap.proofs.Arrivals.{IsHeap-arrived, Steps-arrived, kept_without, stepped, view_well_formed}
 use Rattle.rlsf_heap.proofs.Costs.{Leaves, left_costs, left_same, left_then, left_touched, sees_left}
+use Rattle.rlsf_heap.proofs.Kept.{raw-back, raw-seen, spare-first, spare-seen}
 use Rattle.rlsf_heap.proofs.ThinPayloads as P
 use Rattle.rlsf_heap.proofs.ThinPayloads.{IsTicketFor, known_by, shown}
 use Rattle.rlsf_heap.proofs.heap.Heap.deallocate_thin.Given as given
@@ -138,13 +142,17 @@ first g c = (goal.at.invariant_of-self g c).After-load_block_of-arg-1
 abbrev after : (g : given.Over) → After-deallocate g → State
 after g c = let d = sought g (first g c) in released (before g d) (block g d)
 
-standing : (g : given.Over) (c : After-deallocate g) → StandsFor g.row.FLLEN g.row.SLLEN (contents c.deallocate_block.new.memory c.deallocate_block.new.table) (after g c)
-standing g c =
+releasing : (g : given.Over) (c : After-deallocate g)
+    → StandsAfter g.row.FLLEN g.row.SLLEN c.load_block_of-block.new.memory c.deallocate_block.new.memory c.deallocate_block.new.table (before g (sought g (first g c))) (after g c)
+releasing g c =
     let b = first g c in let d = sought g b in
     let n = c.load_block_of-block.new.memory in
     let touched = c.load_block_of-block.ensures.memory in
-    (c.deallocate_block.ensures.step (before g d) (block g d) (StandsFor-touched c.put_room.new.self n 2 touched (back g b)) (held g d).0
-    (starts g b c.load_block_of-block.result c.load_block_of-block.ensures.block) (own g b n touched)).0
+    c.deallocate_block.ensures.step (before g d) (block g d) (StandsFor-touched c.put_room.new.self n 2 touched (back g b)) (held g d).0
+    (starts g b c.load_block_of-block.result c.load_block_of-block.ensures.block) (own g b n touched)
+
+standing : (g : given.Over) (c : After-deallocate g) → StandsFor g.row.FLLEN g.row.SLLEN (contents c.deallocate_block.new.memory c.deallocate_block.new.table) (after g c)
+standing g c = (releasing g c).0
 
 -- what is kept of the state is the one without the payload
 kept : (g : given.Over) (c : After-deallocate g) → c.deallocate.new.self.state ≡ bare (after g c)
@@ -180,6 +188,41 @@ left g c =
     left_then (left_touched 3 c.load_usable_bytes-range.ensures.memory) (left_then (left_same e.start (ap length e.bytes) e.view e.touches)
     (left_then (left_touched 2 c.load_block_of-block.ensures.memory) (left_costs c.deallocate_block.ensures.costs)))
 
+-- bytes that no block is made of are as they were
+spare : (g : given.Over) (c : After-deallocate g) → KeepsSpareBytes c.args.self.now
+    (heap_view c.deallocate_block.new.memory c.deallocate_block.new.table c.deallocate.new.self.state c.redeem.new.self.name)
+spare g c =
+    let m = c.self.inside.memory in
+    let n = c.deallocate_block.new.memory in
+    let found = ap (λ (o : Space). o.start) c.load_usable_bytes-range.ensures.memory in
+    let touched = c.load_block_of-block.ensures.memory in
+    let e = c.put_room.ensures in
+    let s = before g (sought g (first g c)) in
+    spare-seen m n s (after g c) (spare-first m c.load_block_of-block.new.memory n s (after g c) (ap (λ (o : Space). o.start) touched ∙ e.start ∙ found)
+    (ap (λ (o : Space). o.bytes) touched ∙ e.bytes ∙ ap (λ (o : Space). o.bytes) c.load_usable_bytes-range.ensures.memory) (releasing g c).1)
+    c.self.inside.state.state c.deallocate.new.self.state refl (sym (ap (λ (s : State). s.chunks) (kept g c))) c.args.self.now c.self.view_is
+    c.deallocate_block.new.table c.redeem.new.self.name
+
+-- and no other byte becomes raw
+none_raw : (g : given.Over) (c : After-deallocate g) → NoneBecomesRawBeside c.args.self.now
+    (heap_view c.deallocate_block.new.memory c.deallocate_block.new.table c.deallocate.new.self.state c.redeem.new.self.name) (payload_range c.args.payload.of)
+none_raw g c =
+    let d = sought g (first g c) in
+    let m = c.self.inside.memory in
+    let touched = c.load_block_of-block.ensures.memory in
+    let read = Stays-same c.put_room.new.self c.load_block_of-block.new.memory (ap (λ (o : Space). o.start) touched) (ap (λ (o : Space). o.out) touched) in
+    let last : Stays c.load_block_of-block.new.memory c.deallocate_block.new.memory =
+    record { start = c.deallocate_block.ensures.costs.start; own = c.deallocate_block.ensures.own; here = c.deallocate_block.ensures.here } in
+    let e = c.put_room.ensures in
+    let one = c.into_part-part.ensures ∙ c.into_parts.ensures.bytes.0 in
+    raw-seen m c.deallocate_block.new.memory c.self.inside.state.state c.deallocate.new.self.state c.args.self.now c.self.view_is c.deallocate_block.new.table
+    c.redeem.new.self.name (payload_range c.args.payload.of)
+    (raw-back m c.put_room.new.self c.deallocate_block.new.memory (payload_range c.args.payload.of)
+    (e.start ∙ ap (λ (o : Space). o.start) c.load_usable_bytes-range.ensures.memory)
+    (P.inside c.self.invariant.stands c.self.invariant.tickets c.args.payload.of c.args.addr (ticket g d).key c.requires.some.0 (known g d))
+    (P.gone c.self.invariant.stands c.self.invariant.tickets c.args.payload.of c.args.addr (ticket g d).key c.requires.some.0 (known g d)
+    c.load_usable_bytes-range.new.memory c.load_usable_bytes-range.ensures.memory c.into_part-part.result one c.put_room.new.self e.start e.bytes e.out) (Stays-then read last))
+
 pub returns : goal.returns
 returns g c =
     let d = sought g (first g c) in
@@ -197,8 +240,10 @@ returns g c =
       count = count_gone (well g c) (now g c) c.args.addr (live g c) (did g c);
       bounds = λ count size align sized. sized_gone (well g c) (now g c) count size align sized c.args.addr (live g c) (did g c);
       chunks = chunks-deallocated c.args.self.now.state (now g c) c.args.addr (did g c);
+      raw = none_raw g c;
       touches = o.touches;
       grow = o.grow;
+      spare = spare g c;
       copied = omega (
         arith,
         ap (λ (v : HeapView). v.memory.copied) c.self.view_is,

@@ -1,5 +1,6 @@
 use Rattle.std.proofs.Common.{◌≡◌, ◌+◌, ◌-◌, length, rules, arith, refl, sym, ap, subst, ◌∙◌}
 use Rattle.rlsf_base.specs.OpenSpace.{IsOwned}
+use Rattle.rlsf_base.specs.Range.{range_at}
 use Rattle.rlsf_base.specs.Space.{range_of}
 use Rattle.rlsf_model.specs.Release.{Deallocates, released}
 use Rattle.rlsf_model.specs.Run.{IsSomeLive}
@@ -12,10 +13,14 @@ use Rattle.rlsf_model.proofs.SizedWords.{count_gone, sized_gone}
 use Rattle.rlsf_table.proofs.Parameters.{IsValid-widest}
 use Rattle.rlsf_blocks.specs.Laws.{read_from}
 use Rattle.rlsf_blocks.specs.StandsFor.{contents, StandsFor}
+use Rattle.rlsf_blocks.specs.Steps.Standing.{StandsAfter}
+use Rattle.rlsf_blocks.proofs.Words.Stays.{Stays}
 use Rattle.rlsf_tlsf.specs.Steps.Moves.{bare}
-use Rattle.rlsf_heap.specs.Heap.{AreIssued, HeapView}
+use Rattle.rlsf_heap.specs.Heap.{AreIssued, HeapView, heap_view}
+use Rattle.rlsf_heap.specs.Kept.{KeepsSpareBytes, NoneBecomesRawBeside}
 use Rattle.rlsf_heap.proofs.Arrivals.{IsHeap-arrived, Steps-arrived, kept_without, stepped, view_well_formed}
 use Rattle.rlsf_heap.proofs.Costs.{Leaves, left_costs, left_then, sees_left}
+use Rattle.rlsf_heap.proofs.Kept.{raw-back, raw-seen, spare-first, spare-seen}
 use Rattle.rlsf_heap.proofs.UnitPayloads as units
 use Rattle.rlsf_heap.proofs.heap.Heap.deallocate_units.Given as given
 use Rattle.rlsf_heap.proofs.heap.Heap.deallocate_units.Goals as goal
@@ -77,8 +82,12 @@ first g c = (goal.at.invariant_of-self g c).After-put_unit_payload-block
 abbrev after : (g : given.Over) → After-deallocate g → State
 after g c = released (before g (first g c)) (block g (first g c))
 
+releasing : (g : given.Over) (c : After-deallocate g)
+    → StandsAfter g.row.FLLEN g.row.SLLEN c.put_unit_payload-block.new.self c.deallocate_block.new.memory c.deallocate_block.new.table (before g (first g c)) (after g c)
+releasing g c = let d = first g c in c.deallocate_block.ensures.step (before g d) (block g d) (back g d) (held g d).0 (starts g d) (own g d)
+
 standing : (g : given.Over) (c : After-deallocate g) → StandsFor g.row.FLLEN g.row.SLLEN (contents c.deallocate_block.new.memory c.deallocate_block.new.table) (after g c)
-standing g c = let d = first g c in (c.deallocate_block.ensures.step (before g d) (block g d) (back g d) (held g d).0 (starts g d) (own g d)).0
+standing g c = (releasing g c).0
 
 -- the ghost state is the one without the payload
 kept : (g : given.Over) (c : After-deallocate g) → c.deallocate.new.self.state ≡ bare (after g c)
@@ -125,6 +134,33 @@ left g c =
     record { start = e.start; length = ap length e.bytes; view = e.view; touches = omega (arith, e.touches); grow = omega (arith, e.touches) } in
     left_then back (left_costs c.deallocate_block.ensures.costs)
 
+-- bytes that no block is made of are as they were
+spare : (g : given.Over) (c : After-deallocate g) → KeepsSpareBytes c.args.self.now
+    (heap_view c.deallocate_block.new.memory c.deallocate_block.new.table c.deallocate.new.self.state c.put_unit_payload-block.new.ledger.name)
+spare g c =
+    let m = c.self.inside.memory in
+    let n = c.deallocate_block.new.memory in
+    let e = c.put_unit_payload-block.ensures in
+    let s = before g (first g c) in
+    spare-seen m n s (after g c) (spare-first m c.put_unit_payload-block.new.self n s (after g c) e.start e.bytes (releasing g c).1)
+    c.self.inside.state.state c.deallocate.new.self.state refl (sym (ap (λ (s : State). s.chunks) (kept g c))) c.args.self.now c.self.view_is
+    c.deallocate_block.new.table c.put_unit_payload-block.new.ledger.name
+
+-- and no other byte becomes raw
+none_raw : (g : given.Over) (c : After-deallocate g) → NoneBecomesRawBeside c.args.self.now
+    (heap_view c.deallocate_block.new.memory c.deallocate_block.new.table c.deallocate.new.self.state c.put_unit_payload-block.new.ledger.name)
+    (range_at c.args.payload.start c.args.payload.len)
+none_raw g c =
+    let m = c.self.inside.memory in
+    let e = c.put_unit_payload-block.ensures in
+    let last : Stays c.put_unit_payload-block.new.self c.deallocate_block.new.memory =
+    record { start = c.deallocate_block.ensures.costs.start; own = c.deallocate_block.ensures.own; here = c.deallocate_block.ensures.here } in
+    let r = range_at c.args.payload.start c.args.payload.len in
+    raw-seen m c.deallocate_block.new.memory c.self.inside.state.state c.deallocate.new.self.state c.args.self.now c.self.view_is c.deallocate_block.new.table
+    c.put_unit_payload-block.new.ledger.name r
+    (raw-back m c.put_unit_payload-block.new.self c.deallocate_block.new.memory r e.start
+    (units.inside c.self.invariant.stands c.self.invariant.tickets c.args.payload.key c.args.payload.start c.args.payload.len e.issued) e.out last)
+
 pub returns : goal.returns
 returns g c =
     let o = sees_left c.self.inside.memory c.deallocate_block.new.memory c.self.inside.table c.deallocate_block.new.table c.self.inside.state.state
@@ -139,7 +175,9 @@ returns g c =
       chunks = chunks-deallocated c.args.self.now.state (now g c) c.args.payload.start (did g c);
       gone = gone.gone;
       aligns = gone.aligns;
+      raw = none_raw g c;
       touches = o.touches;
       grow = o.grow;
+      spare = spare g c;
       copied = omega (arith, ap (λ (v : HeapView). v.memory.copied) c.self.view_is, c.put_unit_payload-block.ensures.copied, c.deallocate_block.ensures.costs.copied);
     }

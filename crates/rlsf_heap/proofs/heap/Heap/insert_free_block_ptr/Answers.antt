@@ -1,4 +1,4 @@
-use Rattle.std.proofs.Common.{◌≡◌, arith, sym, ◌∙◌, ap, subst}
+use Rattle.std.proofs.Common.{◌≡◌, arith, refl, sym, ◌∙◌, ap, subst}
 use Rattle.rlsf_base.specs.Addr.{reply}
 use Rattle.rlsf_base.specs.Space.{range_of}
 use Rattle.rlsf_model.specs.Insert.{Inserts, IsFresh}
@@ -17,6 +17,7 @@ use Rattle.rlsf_tlsf.specs.Steps.Moves.{bare, inserted}
 use Rattle.rlsf_tlsf.proofs.Moved.{inserted-bare}
 use Rattle.rlsf_heap.specs.Heap.{HeapView}
 use Rattle.rlsf_heap.proofs.Arrivals.{IsHeap-arrived, Steps-arrived, bare-kept, stepped, view_well_formed}
+use Rattle.rlsf_heap.proofs.Kept.{spare-seen}
 use Rattle.rlsf_heap.proofs.LiveCounts.{live_count-same}
 use Rattle.rlsf_heap.proofs.Read.{issued-same}
 use Rattle.rlsf_blocks.proofs.Words.Stays.{Stays}
@@ -109,3 +110,11 @@ returns-clause-settled g c = λ settled.
     let e = c.insert_chunks-taken.ensures in
     let stays : Stays c.self.inside.memory c.insert_chunks-taken.new.memory = record { start = e.costs.start; own = e.own; here = e.here } in
     settled-stays stays (settled-inside c.self.inside.state.state c.args.self.now c.self.view_is settled)
+
+pub returns-clause-spare : goal.returns-clause-spare
+unfolding after
+returns-clause-spare g c =
+    let is = c.insert_chunks-taken.ensures.step (before g c) c.self.invariant.stands
+    (subst (λ (o : HeapView). IsFresh (range_of o.memory) o.state c.args.range) (sym c.self.view_is) (fresh g c)) in
+    spare-seen c.self.inside.memory c.insert_chunks-taken.new.memory (before g c) is.0 is.3 c.self.inside.state.state c.insert.new.self.state refl
+    (sym (ap (λ (s : State). s.chunks) (kept g c))) c.args.self.now c.self.view_is c.insert_chunks-taken.new.table c.self.inside.ledger.name

@@ -15,18 +15,22 @@ use Rattle.rlsf_model.proofs.Chunks.{chunks-deallocated}
 use Rattle.rlsf_model.proofs.SizedWords.{count_gone, sized_gone}
 use Rattle.rlsf_table.proofs.Parameters.{IsValid-widest}
 use Rattle.rlsf_blocks.specs.Steps.LiveBlock.{AtEachBlock}
+use Rattle.rlsf_blocks.specs.Steps.Standing.{StandsAfter}
 use Rattle.rlsf_blocks.specs.Laws.{read_from}
 use Rattle.rlsf_blocks.specs.StandsFor.{contents, StandsFor}
 use Rattle.rlsf_blocks.proofs.RepresentedStates.Counted.{StandsFor-touched}
 use Rattle.rlsf_tlsf.specs.Steps.Moves.{bare}
-use Rattle.rlsf_heap.specs.Heap.{AreIssued, HeapView}
+use Rattle.rlsf_heap.specs.Heap.{AreIssued, HeapView, heap_view}
+use Rattle.rlsf_heap.specs.Kept.{KeepsSpareBytes}
 use Rattle.rlsf_heap.specs.Settled.{IsSettled}
 use Rattle.rlsf_heap.proofs.Arrivals.{IsHeap-arrived, Steps-arrived, kept_without, stepped, view_well_formed}
 use Rattle.rlsf_heap.proofs.Costs.{Leaves, left_costs, left_same, left_then, left_touched, sees_left}
 use Rattle.rlsf_blocks.proofs.Words.Stays.{Stays, Stays-same, Stays-then}
+use Rattle.rlsf_heap.proofs.Kept.{spare-first, spare-seen, spare-then}
 use Rattle.rlsf_heap.proofs.Leaving.{lies-usable}
 use Rattle.rlsf_heap.proofs.PayloadsApart.{shown_live}
-use Rattle.rlsf_heap.proofs.Reallocating.{IsBackIn, block as filled_block, came, held as held_of, held_before, here, issued_gone, old_block, released_back, stands, state}
+use Rattle.rlsf_heap.proofs.Reallocating.{IsBackIn, block as filled_block, came, held as held_of, held_before, here, issued_gone, long_in, old_block, released_back}
+use Rattle.rlsf_heap.proofs.Reallocating.{spare_in, stands, state}
 use Rattle.rlsf_heap.proofs.Settled.{settled-back, settled-inside, settled-stays}
 use Rattle.rlsf_heap.proofs.heap.Heap.put_written.Given as given
 use Rattle.rlsf_heap.proofs.heap.Heap.put_written.Goals as goal
@@ -109,14 +113,18 @@ first g c = (goal.at.invariant_of-self g c).After-put_back
 abbrev after : (g : given.Over) → After-deallocate g → State
 after g c = released (before g (first g c)) (block g (first g c))
 
-standing : (g : given.Over) (c : After-deallocate g) → StandsFor g.row.FLLEN g.row.SLLEN (contents c.deallocate_block.new.memory c.deallocate_block.new.table) (after g c)
-standing g c =
+releasing : (g : given.Over) (c : After-deallocate g)
+    → StandsAfter g.row.FLLEN g.row.SLLEN c.load_block_of-block.new.memory c.deallocate_block.new.memory c.deallocate_block.new.table (state (back_in g (first g c))) (after g c)
+releasing g c =
     let d = first g c in
     let n = c.load_block_of-block.new.memory in
     let touched = c.load_block_of-block.ensures.memory in
-    subst (StandsFor g.row.FLLEN g.row.SLLEN (contents c.deallocate_block.new.memory c.deallocate_block.new.table)) (released_back (back_in g d))
+    subst (StandsAfter g.row.FLLEN g.row.SLLEN n c.deallocate_block.new.memory c.deallocate_block.new.table (state (back_in g d))) (released_back (back_in g d))
     (c.deallocate_block.ensures.step (state (back_in g d)) (filled_block (back_in g d)) (StandsFor-touched c.put_back.new.self n 2 touched (stands (back_in g d))) (held_back g d).0
-    (starts g d c.load_block_of-block.result c.load_block_of-block.ensures.block) (own g d n touched)).0
+    (starts g d c.load_block_of-block.result c.load_block_of-block.ensures.block) (own g d n touched))
+
+standing : (g : given.Over) (c : After-deallocate g) → StandsFor g.row.FLLEN g.row.SLLEN (contents c.deallocate_block.new.memory c.deallocate_block.new.table) (after g c)
+standing g c = (releasing g c).0
 
 -- the ghost state is the one without the payload
 kept : (g : given.Over) (c : After-deallocate g) → c.deallocate.new.self.state ≡ bare (after g c)
@@ -175,6 +183,21 @@ stays_settled g c settled =
     (settled-back c.self.inside.memory c.put_back.new.self (piece_range c.args.part) c.put_back.ensures.start (omega (arith, low, c.put_back.ensures.start))
     c.put_back.ensures.out (settled-inside c.self.inside.state.state c.args.self.now c.self.view_is settled))
 
+-- bytes that no block is made of are as they were
+spare : (g : given.Over) (c : After-deallocate g) → KeepsSpareBytes c.args.self.now
+    (heap_view c.deallocate_block.new.memory c.deallocate_block.new.table c.deallocate.new.self.state c.redeem.new.self.name)
+spare g c =
+    let m = c.self.inside.memory in
+    let n = c.deallocate_block.new.memory in
+    let touched = c.load_block_of-block.ensures.memory in
+    let s = before g (first g c) in
+    let b = back_in g (first g c) in
+    spare-seen m n s (after g c) (spare-then m c.put_back.new.self n s (after g c) c.put_back.ensures.start (long_in b) (state b) refl (spare_in b)
+    (spare-first c.put_back.new.self c.load_block_of-block.new.memory n (state b) (after g c) (ap (λ (o : Space). o.start) touched) (ap (λ (o : Space). o.bytes) touched)
+    (releasing g c).1))
+    c.self.inside.state.state c.deallocate.new.self.state refl (sym (ap (λ (s : State). s.chunks) (kept g c))) c.args.self.now c.self.view_is
+    c.deallocate_block.new.table c.redeem.new.self.name
+
 pub returns : goal.returns
 returns g c =
     let d = first g c in
@@ -196,6 +219,7 @@ returns g c =
       settled = stays_settled g c;
       touches = o.touches;
       grow = o.grow;
+      spare = spare g c;
       copied = omega (
         arith,
         ap (λ (v : HeapView). v.memory.copied) c.self.view_is,

@@ -11,16 +11,19 @@ use Rattle.rlsf_model.specs.Reallocate.{HasRoomToStay, Reallocates}
 use Rattle.rlsf_model.specs.State.{State}
 use Rattle.rlsf_table.proofs.Parameters.{IsValid-widest}
 use Rattle.rlsf_blocks.specs.Laws.{read_from}
+use Rattle.rlsf_blocks.specs.Spare.{KeepsSpare}
 use Rattle.rlsf_blocks.specs.StandsFor.{contents, StandsFor}
 use Rattle.rlsf_blocks.proofs.Words.Stays.{Stays, Stays-same, Stays-then}
-use Rattle.rlsf_heap.specs.Heap.{HeapView, Identity, Steps, heap_view}
+use Rattle.rlsf_heap.specs.Heap.{HeapView, Identity, Steps, heap_view, payload_range}
+use Rattle.rlsf_heap.specs.Kept.{KeepsSpareBytes}
 use Rattle.rlsf_heap.specs.Raw.{bytes_of}
 use Rattle.rlsf_heap.specs.Reallocation.{owned_by}
 use Rattle.rlsf_heap.proofs.Arrivals.{Steps-arrived, bare-kept}
 use Rattle.rlsf_heap.proofs.Costs.{Leaves, is_of_heap, kept_same, left_counts, left_over, left_taken, left_then, left_touched, returned_same, sees_left}
 use Rattle.rlsf_heap.proofs.Found.{live_somewhere}
 use Rattle.rlsf_heap.proofs.HandedOver.{IsHeap-resized, IsHeap-unchanged, SeesNewSize, SeesUnchanged, Steps-resized, Steps-unchanged, back_in, found, is_view, key}
-use Rattle.rlsf_heap.proofs.HandedOver.{resized_lies, resized_live, resized_own, sees_new_size, sees_unchanged}
+use Rattle.rlsf_heap.proofs.HandedOver.{beside_unchanged, resized_lies, resized_live, resized_own, sees_new_size, sees_unchanged, spare_resized, spare_unchanged}
+use Rattle.rlsf_heap.proofs.Kept.{beside-none, spare-first, spare-none}
 use Rattle.rlsf_heap.proofs.Leaving.{lies-usable}
 use Rattle.rlsf_heap.proofs.Reallocated.{never_refused_reallocation}
 use Rattle.rlsf_heap.proofs.Reallocating.{IsBackIn, asked, block, held, here_still, long, reallocates, refused_same, stands, state, usable_is}
@@ -74,6 +77,10 @@ refused_stays g c =
     let across : Stays c.used_block-block.new.memory c.reallocate_block-moved.new.memory =
     record { start = c.in_default-moved.ensures.place.0; own = c.in_default-moved.ensures.own; here = c.in_default-moved.ensures.here } in
     Stays-then (Stays-same c.take_back.new.memory c.used_block-block.new.memory counts.start counts.out) across
+
+-- no byte has changed since the payload came back
+refused_bytes : (g : given.Over) (c : In_default-moved g) → c.reallocate_block-moved.new.memory.bytes ≡ c.take_back.new.memory.bytes
+refused_bytes g c = c.in_default-moved.ensures.refused ∙ c.used_block-block.ensures.counts.bytes
 
 pub hand_over-payload-requires-clause-place : goal.hand_over-payload-requires-clause-place
 hand_over-payload-requires-clause-place g c =
@@ -185,6 +192,12 @@ returns-in_default-moved g c =
       written = λ settled. tt;
       others = tt;
       refused = s.returned;
+      unchanged =
+          beside_unchanged c.self.invariant c.args.payload c.take_back.ensures.back c.args.self.now c.self.view_is (refusing g d).1 (refused_stays g d) c.addr-addr.ensures
+          c.len-len.ensures c.align-align.ensures e.over (refused_bytes g d) c.hand_over-payload.new.ledger.name;
+      spare =
+          spare_unchanged c.self.invariant c.args.payload c.take_back.ensures.back c.args.self.now c.self.view_is (refusing g d).1 (refused_stays g d) c.addr-addr.ensures
+          c.len-len.ensures c.align-align.ensures e.over (refused_bytes g d) c.hand_over-payload.new.ledger.name;
       heap = record { identity = o.identity; place = o.place; settled = s.settled; bounds = s.bounds c.args.size c.args.payload.align; chunks = s.chunks; grow = o.grow };
       count = s.count;
       touches = omega (arith, o.touches);
@@ -207,6 +220,17 @@ moving g c =
     c.used_block-block.ensures.block c.in-Ok.ensures.layout.1 in
     let (t, step, now, spare) = c.in-Some.ensures.step (state b) (block b) f.read f.used f.here in
     (t, reallocates b c.in-Ok.ensures.layout.0 step, now)
+
+moving_spare : (g : given.Over) (c : In-Some g)
+    → KeepsSpare c.take_back.new.memory (state (back_in-Some g c)) c.reallocate_block-moved.new.memory (moving g c).0
+unfolding moving
+moving_spare g c =
+    let b = back_in-Some g c in
+    let counts = c.used_block-block.ensures.counts in
+    let f = found c.self.invariant c.args.payload c.take_back.ensures.back counts c.addr-addr.ensures c.align-align.ensures
+    c.used_block-block.ensures.block c.in-Ok.ensures.layout.1 in
+    let w = c.in-Some.ensures.step (state b) (block b) f.read f.used f.here in
+    spare-first c.take_back.new.memory c.used_block-block.new.memory c.reallocate_block-moved.new.memory (state b) w.0 counts.start counts.bytes w.3
 
 moved_stays : (g : given.Over) (c : In-Some g) → Stays c.take_back.new.memory c.reallocate_block-moved.new.memory
 moved_stays g c =
@@ -311,6 +335,16 @@ moved_grow g c =
       c.hand_over-payload-2.ensures.over.copied,
     )
 
+-- bytes that no block is made of are as they were
+moved_spare : (g : given.Over) (c : After-hand_over-payload-2 g) → KeepsSpareBytes c.args.self.now
+    (heap_view c.hand_over-payload-2.new.memory c.reallocate_block-moved.new.table c.reallocate.new.self.state c.hand_over-payload-2.new.ledger.name)
+moved_spare g c =
+    let d = moved g c in
+    let w = moving g d in
+    spare_resized c.self.invariant c.args.payload c.take_back.ensures.back c.args.self.now c.self.view_is w.2 w.1 refl (moved_stays g d)
+    c.load_usable_bytes-range.ensures.range c.load_usable_bytes-range.ensures.memory c.align-align.ensures c.hand_over-payload-2.ensures.over c.addr-addr.ensures
+    c.reallocate.ensures (moving_spare g d) c.hand_over-payload-2.new.ledger.name
+
 -- the memory before its bytes leave
 moved_left : (g : given.Over) (c : After-hand_over-payload-2 g) → Leaves c.self.inside.memory c.load_usable_bytes-range.new.memory 69
 moved_left g c =
@@ -347,6 +381,8 @@ returns g c =
         aligns = v.seen.aligns;
       };
       refused = tt;
+      unchanged = tt;
+      spare = moved_spare g c;
       heap = record { identity = o.identity; place = o.place; settled = s.settled; bounds = v.bounds; chunks = v.chunks; grow = o.grow };
       count = v.count;
       touches = o.touches;
@@ -374,6 +410,8 @@ returns-in_default g c =
       written = λ settled. tt;
       others = tt;
       refused = returned_same c.args.self.now c.args.payload c.requires.written;
+      unchanged = beside-none c.args.self.now (payload_range c.args.payload);
+      spare = spare-none c.args.self.now;
       heap = kept_same g.row.SLLEN c.args.size c.args.payload.align c.args.self.now;
       count = refl;
       touches = omega arith;

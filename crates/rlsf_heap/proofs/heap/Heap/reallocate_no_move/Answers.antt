@@ -11,16 +11,20 @@ use Rattle.rlsf_model.specs.State.{State, usable}
 use Rattle.rlsf_model.proofs.NoMove.{unmoved_is_reallocated}
 use Rattle.rlsf_table.proofs.Parameters.{IsValid-widest}
 use Rattle.rlsf_blocks.specs.Laws.{read_from}
+use Rattle.rlsf_blocks.specs.Spare.{KeepsSpare}
 use Rattle.rlsf_blocks.specs.StandsFor.{contents, StandsFor}
 use Rattle.rlsf_blocks.proofs.Words.Stays.{Stays, Stays-same, Stays-then}
 use Rattle.rlsf_reallocate.proofs.Reallocate.FirstPlan.{StandsFor-unchanged}
-use Rattle.rlsf_heap.specs.Heap.{HeapView, Identity, Steps, heap_view}
+use Rattle.rlsf_heap.specs.Heap.{HeapView, Identity, Steps, heap_view, payload_range}
+use Rattle.rlsf_heap.specs.Kept.{KeepsSpareBytes}
 use Rattle.rlsf_heap.specs.Raw.{bytes_of}
 use Rattle.rlsf_heap.specs.Reallocation.{owned_by}
 use Rattle.rlsf_heap.proofs.Arrivals.{Steps-arrived, bare-kept}
 use Rattle.rlsf_heap.proofs.Costs.{Leaves, is_of_heap, kept_same, left_costs, left_counts, left_over, left_taken, left_then, left_touched, returned_same, sees_left}
 use Rattle.rlsf_heap.proofs.HandedOver.{IsHeap-resized, IsHeap-unchanged, SeesNewSize, SeesUnchanged, Steps-resized, Steps-unchanged, back_in, found, is_view, key}
-use Rattle.rlsf_heap.proofs.HandedOver.{resized_lies, resized_live, resized_own, sees_new_size, sees_unchanged, stayed_resized}
+use Rattle.rlsf_heap.proofs.HandedOver.{beside_unchanged, resized_lies, resized_live, resized_own, sees_new_size, sees_unchanged, spare_resized, spare_unchanged}
+use Rattle.rlsf_heap.proofs.HandedOver.{stayed_resized}
+use Rattle.rlsf_heap.proofs.Kept.{beside-none, spare-first, spare-none}
 use Rattle.rlsf_heap.proofs.Leaving.{lies-usable}
 use Rattle.rlsf_heap.proofs.Reallocated.{aligns_stay}
 use Rattle.rlsf_heap.proofs.Reallocating.{IsBackIn, asked, block, held, here_still, stands, state, unmoved, unmoved_moves, unmoved_refused, usable_is}
@@ -71,6 +75,10 @@ same_stands g c short =
     c.used_block-block.ensures.block c.in-Ok.ensures.layout.1 in
     StandsFor-unchanged c.used_block-block.new.memory c.resize_block.new.memory c.self.inside.table c.resize_block.new.table (state (back g c)) 2
     (c.resize_block.ensures.unchanged short) f.read
+
+-- no byte has changed since the payload came back
+same_bytes : (g : given.Over) (c : After-resize_block g) → c.resize_block.result ≡ false → c.resize_block.new.memory.bytes ≡ c.take_back.new.memory.bytes
+same_bytes g c short = (c.resize_block.ensures.unchanged short).0.bytes ∙ c.used_block-block.ensures.counts.bytes
 
 refusing : (g : given.Over) (c : After-resize_block g) → c.resize_block.result ≡ false
     → ReallocatesWithoutMove (state (back g c)) (block (back g c)).payload c.args.size None (state (back g c))
@@ -142,7 +150,8 @@ returns-then-not-resize_block g c =
     let e = c.hand_over-payload.ensures in
     let ledger = c.self.inside.ledger.name in
     let name = c.take_back.ensures.name in
-    let left = left_resized g (refused g c) in
+    let d = refused g c in
+    let left = left_resized g d in
     let o = sees_left c.self.inside.memory c.hand_over-payload.new.memory c.self.inside.table c.resize_block.new.table k k ledger
     c.hand_over-payload.new.ledger.name 25 (left_then left (left_over e.over)) (e.name ∙ name) c.args.self.now c.self.view_is in
     let s = unchanged g c in record {
@@ -158,6 +167,12 @@ returns-then-not-resize_block g c =
       written = λ settled. tt;
       aligns = s.returned.aligns;
       refused = s.returned;
+      unchanged =
+          beside_unchanged c.self.invariant c.args.payload c.take_back.ensures.back c.args.self.now c.self.view_is (same_stands g d c.if-not-resize_block.true)
+          (across g d) c.addr-addr.ensures c.len-len.ensures c.align-align.ensures e.over (same_bytes g d c.if-not-resize_block.true) c.hand_over-payload.new.ledger.name;
+      spare =
+          spare_unchanged c.self.invariant c.args.payload c.take_back.ensures.back c.args.self.now c.self.view_is (same_stands g d c.if-not-resize_block.true)
+          (across g d) c.addr-addr.ensures c.len-len.ensures c.align-align.ensures e.over (same_bytes g d c.if-not-resize_block.true) c.hand_over-payload.new.ledger.name;
       heap = record { identity = o.identity; place = o.place; settled = s.settled; bounds = s.bounds c.args.size c.args.payload.align; chunks = s.chunks; grow = o.grow };
       count = s.count;
       touches = omega (arith, o.touches);
@@ -176,6 +191,17 @@ moving g c enough =
     let (q, first, place, (t, replans, now, spare)) = c.resize_block.ensures.done (state b) (block b) f.read f.used
     (own-here c.used_block-block.new.memory (usable (block b)) f.here) enough in
     (t, unmoved b c.in-Ok.ensures.layout.0 first place c.addr-addr.ensures replans, now)
+
+moving_spare : (g : given.Over) (c : After-resize_block g) (enough : c.resize_block.result ≡ true)
+    → KeepsSpare c.take_back.new.memory (state (back g c)) c.resize_block.new.memory (moving g c enough).0
+unfolding moving
+moving_spare g c enough =
+    let b = back g c in
+    let counts = c.used_block-block.ensures.counts in
+    let f = found c.self.invariant c.args.payload c.take_back.ensures.back counts c.addr-addr.ensures c.align-align.ensures
+    c.used_block-block.ensures.block c.in-Ok.ensures.layout.1 in
+    let w = c.resize_block.ensures.done (state b) (block b) f.read f.used (own-here c.used_block-block.new.memory (usable (block b)) f.here) enough in
+    spare-first c.take_back.new.memory c.used_block-block.new.memory c.resize_block.new.memory (state b) w.3.0 counts.start counts.bytes w.3.3
 
 -- its length is read at its address
 loads : (g : given.Over) (c : After-resize_block g) → (block (back g c)).payload ≡ c.addr-addr.result
@@ -250,6 +276,16 @@ stayed_step g c =
     (Some c.hand_over-payload-2.result.start) t)
     (λ fits. stayed g c)
 
+-- bytes that no block is made of are as they were
+stayed_spare : (g : given.Over) (c : After-hand_over-payload-2 g) → KeepsSpareBytes c.args.self.now
+    (heap_view c.hand_over-payload-2.new.memory c.resize_block.new.table c.reallocate.new.self.state c.hand_over-payload-2.new.ledger.name)
+stayed_spare g c =
+    let d = done g c in
+    let w = moving g d c.if-not-resize_block.false in
+    spare_resized c.self.invariant c.args.payload c.take_back.ensures.back c.args.self.now c.self.view_is w.2 (unmoved_moves (back g d) w.1) (loads g d) (across g d)
+    c.load_usable_bytes-range.ensures.range c.load_usable_bytes-range.ensures.memory c.align-align.ensures c.hand_over-payload-2.ensures.over c.addr-addr.ensures
+    c.reallocate.ensures (moving_spare g d c.if-not-resize_block.false) c.hand_over-payload-2.new.ledger.name
+
 pub returns : goal.returns
 returns g c =
     let e = c.hand_over-payload-2.ensures in
@@ -274,6 +310,8 @@ returns g c =
           aligns_stay v.seen (there g c)
           (live_view c.self.inside.state.state (back g (done g c)) c.args.self.now c.self.view_is c.args.payload (is_view c.args.payload));
       refused = tt;
+      unchanged = tt;
+      spare = stayed_spare g c;
       heap = record { identity = o.identity; place = o.place; settled = s.settled; bounds = v.bounds; chunks = v.chunks; grow = o.grow };
       count = v.count;
       touches = o.touches;
@@ -301,6 +339,8 @@ returns-in_default g c =
       written = λ settled. tt;
       aligns = refl;
       refused = returned_same c.args.self.now c.args.payload c.requires.written;
+      unchanged = beside-none c.args.self.now (payload_range c.args.payload);
+      spare = spare-none c.args.self.now;
       heap = kept_same g.row.SLLEN c.args.size c.args.payload.align c.args.self.now;
       count = refl;
       touches = omega arith;

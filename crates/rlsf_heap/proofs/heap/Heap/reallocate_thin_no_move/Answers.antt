@@ -3,9 +3,10 @@ use Rattle.rlsf_base.specs.Layout.{IsLayout}
 use Rattle.rlsf_model.specs.Callers.{align_at}
 use Rattle.rlsf_model.specs.NoMove.{ReallocatesWithoutMove}
 use Rattle.rlsf_model.specs.Sized.{live_count}
-use Rattle.rlsf_heap.specs.Heap.{HeapView, PayloadView}
+use Rattle.rlsf_heap.specs.Heap.{HeapView, PayloadView, payload_range}
+use Rattle.rlsf_heap.specs.Kept.{KeepsBytesBeside}
 use Rattle.rlsf_heap.specs.Replies.{IsReallocated, IsReturned}
-use Rattle.rlsf_heap.proofs.Found.{IsFound, as_found, heap_found, here_found, step_found, thin_found}
+use Rattle.rlsf_heap.proofs.Found.{IsFound, as_found, beside_found, found, heap_found, here_found, spare_found, step_found, thin_found}
 use Rattle.rlsf_heap.proofs.heap.Heap.reallocate_thin_no_move.Goals as goal
 
 pub into_thin-requires : goal.into_thin-requires
@@ -34,6 +35,8 @@ returns-in-Ok g c =
       here = here_found f c.in-Ok.payload c.into_thin.result.of thin (record { here = e.here; shrunk = e.shrunk; written = e.written });
       aligns = e.aligns ∙ ap (λ (v : HeapView). align_at v.state) f.heap;
       refused = tt;
+      unchanged = tt;
+      spare = spare_found c.args.self.now c.find_payload-payload.new.self new f.heap e.spare;
       heap = heap_found f g.row.SLLEN c.args.size new e.heap;
       count = e.count ∙ ap (λ (v : HeapView). live_count v.state) f.heap;
       touches = omega (arith, e.touches, ap (λ (v : HeapView). v.memory.touches) f.heap);
@@ -57,6 +60,10 @@ returns-in-Err g c =
       here = tt;
       aligns = e.aligns ∙ ap (λ (v : HeapView). align_at v.state) f.heap;
       refused = as_now (λ v from addr align to. IsReturned v.state new.state addr from to) e.refused;
+      unchanged =
+          beside_found c.args.self.now (found c.args.self.now) new refl (payload_range c.args.payload.of)
+          (as_now (λ v from addr align to. KeepsBytesBeside v new (payload_range from)) e.unchanged);
+      spare = spare_found c.args.self.now c.find_payload-payload.new.self new f.heap e.spare;
       heap = heap_found f g.row.SLLEN c.args.size new e.heap;
       count = e.count ∙ ap (λ (v : HeapView). live_count v.state) f.heap;
       touches = omega (arith, e.touches, ap (λ (v : HeapView). v.memory.touches) f.heap);

@@ -1,10 +1,11 @@
 use Rattle.std.proofs.Common.{◌≤◌, arith, true≢false, refl, sym, ap, subst, ◌∙◌}
 use Rattle.rlsf_model.specs.Callers.{align_at}
 use Rattle.rlsf_model.specs.State.{AreAlike}
-use Rattle.rlsf_heap.specs.Heap.{IsWritten, PayloadView}
+use Rattle.rlsf_heap.specs.Heap.{IsWritten, PayloadView, payload_range}
 use Rattle.rlsf_heap.specs.Reallocation.{owned_by}
 use Rattle.rlsf_heap.specs.Replies.{IsReallocated}
 use Rattle.rlsf_heap.specs.ThinReplies.{IsThinOf, thin_moved_to}
+use Rattle.rlsf_heap.proofs.Kept.{beside-last, spare-both}
 use Rattle.rlsf_heap.proofs.UnknownAlign.{if_err, if_ok, match_of, ok_of, reallocated_ok, step_moves, step_stays}
 use Rattle.rlsf_heap.proofs.heap.Heap.reallocate_thin_unknown_align.Goals as goal
 
@@ -39,6 +40,8 @@ returns-in-Ok g c =
       chunks = e.chunks;
       same = tt;
       same_aligns = tt;
+      unchanged = tt;
+      spare = e.spare;
       enough = λ long. e.there;
       stays = λ room. e.there;
       touches = omega (arith, e.touches);
@@ -94,6 +97,8 @@ returns-in-Err g c =
       chunks = f.heap.chunks ∙ e.chunks;
       same = if_err r (λ q is. subst (AreAlike old.state) (sym is.1) e.same) f.refused;
       same_aligns = if_err r (λ q is. ap align_at is.1 ∙ e.aligns) f.refused;
+      unchanged = if_err r (λ q is. beside-last old mid new (payload_range pay) f.heap.place.0 is.2 e.unchanged) f.refused;
+      spare = spare-both old mid new e.place e.chunks e.spare f.spare;
       enough = λ long. absurd (true≢false (sym (e.enough long)));
       stays = λ room. absurd (true≢false (sym (e.stays room)));
       touches = omega (arith, e.few_touches, f.touches);

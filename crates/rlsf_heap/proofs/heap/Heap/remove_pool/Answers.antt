@@ -13,10 +13,12 @@ use Rattle.rlsf_blocks.proofs.Words.Stays.{Stays}
 use Rattle.rlsf_blocks.specs.Blocks.{walked}
 use Rattle.rlsf_blocks.specs.Laws.{read_from}
 use Rattle.rlsf_blocks.specs.StandsFor.{contents, StandsFor}
+use Rattle.rlsf_blocks.specs.Steps.Removal.{AreRemoved}
 use Rattle.rlsf_tlsf.specs.Steps.Moves.{bare}
 use Rattle.rlsf_tlsf.proofs.Removed.{IsRemovable-row, untouched_gone, untouched_removed}
 use Rattle.rlsf_heap.specs.Heap.{HeapView}
 use Rattle.rlsf_heap.proofs.Arrivals.{IsHeap-arrived, Steps-arrived, bare-kept, stepped, view_well_formed}
+use Rattle.rlsf_heap.proofs.Kept.{spare-seen}
 use Rattle.rlsf_heap.proofs.LiveCounts.{live_count-same}
 use Rattle.rlsf_heap.proofs.Read.{issued-same}
 use Rattle.rlsf_heap.proofs.Settled.{settled-inside, settled-stays}
@@ -38,11 +40,15 @@ before g c = read_from c.self.inside.memory c.self.inside.state.state
 abbrev after : (g : given.Over) (c : After-remove g) → State
 after g c = removed (walked c.args.range) (before g c)
 
-standing : (g : given.Over) (c : After-remove g) → StandsFor g.row.FLLEN g.row.SLLEN (contents c.remove_chunks.new.memory c.remove_chunks.new.table) (after g c)
-standing g c =
+removing : (g : given.Over) (c : After-remove g)
+    → AreRemoved g.row.FLLEN g.row.SLLEN c.self.inside.memory c.remove_chunks.new.memory c.remove_chunks.new.table (before g c) (walked c.args.range)
+removing g c =
     let row = subst (λ (o : HeapView). IsRow o.state (walked c.args.range)) (sym c.self.view_is) c.requires.row in
     let idle = subst (λ (o : HeapView). IsIdle o.state (walked c.args.range)) (sym c.self.view_is) c.requires.idle in
-    (c.remove_chunks.ensures.step (before g c) c.self.invariant.stands row idle).0
+    c.remove_chunks.ensures.step (before g c) c.self.invariant.stands row idle
+
+standing : (g : given.Over) (c : After-remove g) → StandsFor g.row.FLLEN g.row.SLLEN (contents c.remove_chunks.new.memory c.remove_chunks.new.table) (after g c)
+standing g c = (removing g c).0
 
 -- the ghost state is the one without them
 kept : (g : given.Over) (c : After-remove g) → c.remove.new.self.state ≡ bare (after g c)
@@ -85,3 +91,9 @@ returns-clause-aligns g c = (same_seen c.args.self.now.state (now g c)
 
 pub returns-clause-count : goal.returns-clause-count
 returns-clause-count g c = count_removed (well g c) (now g c) (walked c.args.range) (IsRemovable-row (well g c) (walked c.args.range) c.requires.row c.requires.idle) (did g c)
+
+pub returns-clause-spare : goal.returns-clause-spare
+returns-clause-spare g c =
+    spare-seen c.self.inside.memory c.remove_chunks.new.memory (before g c) (after g c) (λ a from to here there. (removing g c).1 a from to here here)
+    c.self.inside.state.state c.remove.new.self.state refl (sym (ap (λ (s : State). s.chunks) (kept g c))) c.args.self.now c.self.view_is c.remove_chunks.new.table
+    c.self.inside.ledger.name

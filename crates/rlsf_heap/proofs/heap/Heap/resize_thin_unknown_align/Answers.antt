@@ -23,22 +23,23 @@ use Rattle.rlsf_blocks.proofs.Words.Stays.{Stays, Stays-same}
 use Rattle.rlsf_reallocate.specs.Steps.Resize.{IsResized}
 use Rattle.rlsf_tlsf.specs.Steps.Moves.{bare, reallocated}
 use Rattle.rlsf_tlsf.proofs.Arrivals.{arrived}
-use Rattle.rlsf_heap.specs.Heap.{AreIssued, HeapView, Identity, IsWritten, PayloadView, Steps, heap_view, payload_view}
+use Rattle.rlsf_heap.specs.Heap.{AreIssued, HeapView, Identity, IsWritten, PayloadView, Steps, heap_view, payload_range, payload_view}
 use Rattle.rlsf_heap.specs.Raw.{bytes_of}
 use Rattle.rlsf_heap.specs.Reallocation.{IsKeptHere, owned_by}
 use Rattle.rlsf_heap.specs.Replies.{IsReallocated}
 use Rattle.rlsf_heap.specs.Settled.{IsSettled}
 use Rattle.rlsf_heap.specs.ThinUnknownAlign.{AtEachHeld}
 use Rattle.rlsf_heap.proofs.Arrivals.{IsHeap-arrived, Steps-arrived, bare-kept}
+use Rattle.rlsf_heap.proofs.Kept.{beside-seen, spare-seen}
 use Rattle.rlsf_heap.proofs.Leaving.{lies-usable}
 use Rattle.rlsf_heap.proofs.PutBack.{issued-reread}
 use Rattle.rlsf_heap.proofs.Reallocated.{Keeps-each, aligns_stay}
-use Rattle.rlsf_heap.proofs.Reallocating.{IsBackIn, bare_state, block, counted_moved, counted_stayed, here as here_of, here_still, held, issued_anew, kept_moved}
-use Rattle.rlsf_heap.proofs.Reallocating.{stands, state, unmoved_refused}
+use Rattle.rlsf_heap.proofs.Reallocating.{IsBackIn, bare_state, block, counted_moved, counted_stayed, here as here_of, here_still, held, issued_anew}
+use Rattle.rlsf_heap.proofs.Reallocating.{kept_moved, stands, state, unmoved_refused}
 use Rattle.rlsf_heap.proofs.ResizedThin.{HasSize, StaysInPlace, after, begins, came_found, fresh, fresh_at, fresh_bytes, fresh_here, fresh_lies, fresh_own, fresh_range}
 use Rattle.rlsf_heap.proofs.ResizedThin.{copied_seen, fresh_start, fresh_without, grow_seen, home-in_place, identity_seen, in_place-costs, in_place-same, in_place-then}
 use Rattle.rlsf_heap.proofs.ResizedThin.{in_place-touched, now_has, payload_of_bytes, place_seen, reached, renewed_at, same_bytes, same_lies, same_without, settled_without}
-use Rattle.rlsf_heap.proofs.ResizedThin.{fresh_settled, stayed, stayed_step, ticket_of_bytes, touches_seen, unplanned-short}
+use Rattle.rlsf_heap.proofs.ResizedThin.{fresh_settled, fresh_spare, same_beside, same_spare, stayed, stayed_step, ticket_of_bytes, touches_seen, unplanned-short}
 use Rattle.rlsf_heap.proofs.Settled.{settled-back, settled-left, settled-stays}
 use Rattle.rlsf_heap.proofs.ThinPayloads as P
 use Rattle.rlsf_heap.proofs.ThinPayloads.{IsTicketFor, shown}
@@ -271,6 +272,12 @@ returns-then-not-resize_found g c =
       same_bounds = λ count most wide sized. sized_view k b old view pay (is g d) (same_now g c) (same_state g c) count most wide sized;
       chunks = ap (λ (v : HeapView). v.state.chunks) view;
       same = alike_view k b old view pay (is g d) (same_now g c) (same_state g c);
+      unchanged =
+          beside-seen c.self.inside.memory c.take_out-same.new.self k k old view c.resize_found.new.table c.checked-payload.new.ledger.name (payload_range pay)
+          (same_beside b (unchanged g c) c.load_usable_bytes-was.result (ranged g d) c.take_out-same.new.self e.start e.bytes (payload_range pay) (ap piece_range (one g d)));
+      spare =
+          spare-seen c.self.inside.memory c.take_out-same.new.self (read_from c.self.inside.memory k) (state b)
+          (same_spare b (unchanged g c) c.load_usable_bytes-was.result (ranged g d) c.take_out-same.new.self e.start e.bytes) k k refl refl old view _ _;
       enough = λ long.
           absurd (omega (arith, long, unplanned-short b c.args.layout.size (no_plan g c), ap (λ (q : Piece). length q.bytes) (one g d)));
       stays = λ room.
@@ -479,6 +486,11 @@ returns g c =
       same_bounds = tt;
       chunks = (sees g c).chunks;
       same = tt;
+      unchanged = tt;
+      spare =
+          spare-seen c.self.inside.memory c.take_out-resized.new.self (read_from c.self.inside.memory k) (now_has (w g c))
+          (fresh_spare (w g c) c.take_out-resized.new.self e.start e.bytes e.out) k c.reallocate.new.self.state refl (sym (ap (λ (z : State). z.chunks) (kept g c))) old view
+          c.resize_found.new.table c.renewed-ticket.new.ledger.name;
       enough = λ long. refl;
       stays = λ room. refl;
       touches = touches_seen (placed_now g c) k old view;

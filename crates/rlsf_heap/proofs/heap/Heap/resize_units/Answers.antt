@@ -19,6 +19,7 @@ use Rattle.rlsf_model.proofs.SizedWords.{count_resized, sized_resized}
 use Rattle.rlsf_table.proofs.Parameters.{IsValid-widest}
 use Rattle.rlsf_blocks.specs.Laws.{read_from}
 use Rattle.rlsf_blocks.specs.StandsFor.{contents, StandsFor}
+use Rattle.rlsf_blocks.proofs.Words.Stays.{Stays}
 use Rattle.rlsf_reallocate.specs.Steps.Resize.{IsOwnedBehind, IsResized, IsUsedAt}
 use Rattle.rlsf_reallocate.proofs.Reallocate.FirstPlan.{StandsFor-unchanged}
 use Rattle.rlsf_tlsf.specs.Steps.Moves.{bare}
@@ -26,6 +27,7 @@ use Rattle.rlsf_tlsf.proofs.Arrivals.{arrived}
 use Rattle.rlsf_heap.specs.Heap.{AreIssued, HeapView, Identity}
 use Rattle.rlsf_heap.specs.Units.{payload_len}
 use Rattle.rlsf_heap.proofs.Arrivals.{IsHeap-arrived, Steps-arrived, bare-kept, stepped, view_well_formed}
+use Rattle.rlsf_heap.proofs.Kept.{beside-seen, raw-seen, raw-tail, same-byte, spare-first, spare-last, spare-same, spare-seen}
 use Rattle.rlsf_heap.proofs.UnitPayloads.{payload_len-whole}
 use Rattle.rlsf_heap.proofs.UnitTails as tails
 use Rattle.rlsf_heap.proofs.heap.Heap.resize_units.Given as given
@@ -221,6 +223,36 @@ returns-then-not-resize_kept_block-clause-bounds g c = λ count most align sized
 pub returns-then-not-resize_kept_block-clause-same : goal.returns-then-not-resize_kept_block-clause-same
 returns-then-not-resize_kept_block-clause-same g c = same g c
 
+left_as : (g : given.Over) (c : After-take_unit_tail g) → (c.take_unit_tail.new.self.start ≡ c.self.inside.memory.start)
+    × (c.take_unit_tail.new.self.bytes ≡ c.self.inside.memory.bytes)
+left_as g c =
+    let put = c.put_unit_tail-block.ensures in let e = c.take_unit_tail.ensures in
+    let counts = (c.resize_kept_block.ensures.unchanged c.if-not-resize_kept_block.true).0 in
+    (e.start ∙ counts.start ∙ put.start, e.bytes ∙ counts.bytes ∙ put.bytes)
+
+pub returns-then-not-resize_kept_block-clause-raw : goal.returns-then-not-resize_kept_block-clause-raw
+returns-then-not-resize_kept_block-clause-raw g c =
+    let d = put-of g c in let put = c.put_unit_tail-block.ensures in let e = c.take_unit_tail.ensures in
+    let across : Stays c.put_unit_tail-block.new.self c.resize_kept_block.new.memory =
+    record { start = c.resize_kept_block.ensures.costs.start; own = c.resize_kept_block.ensures.own; here = c.resize_kept_block.ensures.here } in
+    let inside = tails.lies d.self.invariant.stands d.self.invariant.tickets d.args.tail.key d.args.tail.start d.args.tail.len put.issued in
+    raw-seen c.self.inside.memory c.take_unit_tail.new.self c.self.inside.state.state c.self.inside.state.state c.args.self.now c.self.view_is
+    c.resize_kept_block.new.table c.issue-ticket.new.self.name (range_at c.args.tail.start c.args.tail.len)
+    (raw-tail c.self.inside.memory c.put_unit_tail-block.new.self c.resize_kept_block.new.memory c.take_unit_tail.new.self c.args.tail.start c.args.tail.kept c.args.tail.len
+    c.args.tail.within.0 inside.0 put.start put.out across _ e.start (omega (arith, inside, at g d, put.start, across.start)) e.out)
+
+pub returns-then-not-resize_kept_block-clause-unchanged : goal.returns-then-not-resize_kept_block-clause-unchanged
+returns-then-not-resize_kept_block-clause-unchanged g c =
+    let m = c.self.inside.memory in let n = c.take_unit_tail.new.self in
+    beside-seen m n c.self.inside.state.state c.self.inside.state.state c.args.self.now c.self.view_is c.resize_kept_block.new.table c.issue-ticket.new.self.name
+    (range_at c.args.tail.start c.args.tail.len) (λ a from to side. same-byte m n (left_as g c).0 (left_as g c).1 a)
+
+pub returns-then-not-resize_kept_block-clause-spare : goal.returns-then-not-resize_kept_block-clause-spare
+returns-then-not-resize_kept_block-clause-spare g c =
+    let m = c.self.inside.memory in let n = c.take_unit_tail.new.self in let k = c.self.inside.state.state in
+    spare-seen m n k k (spare-same m n k k (left_as g c).0 (left_as g c).1) k k refl refl c.args.self.now c.self.view_is c.resize_kept_block.new.table
+    c.issue-ticket.new.self.name
+
 -- ---- the payload has the other size
 
 pub take_unit_tail-requires-2-clause-place : goal.take_unit_tail-requires-2-clause-place
@@ -415,3 +447,25 @@ returns-clause-bounds g c = λ count most align sized short wide.
 
 pub returns-clause-chunks : goal.returns-clause-chunks
 returns-clause-chunks g c = chunks-reallocated g.row.SLLEN c.args.self.now.state (now-2 g c) c.args.tail.start c.args.size (Some c.take_unit_tail-2.result.start) (moves g c)
+
+pub returns-clause-raw : goal.returns-clause-raw
+returns-clause-raw g c =
+    let d = first-of g c in let put = c.put_unit_tail-block.ensures in let e = c.take_unit_tail-2.ensures in
+    let across : Stays c.put_unit_tail-block.new.self c.resize_kept_block.new.memory =
+    record { start = c.resize_kept_block.ensures.costs.start; own = c.resize_kept_block.ensures.own; here = c.resize_kept_block.ensures.here } in
+    let inside = tails.lies d.self.invariant.stands d.self.invariant.tickets d.args.tail.key d.args.tail.start d.args.tail.len put.issued in
+    raw-seen c.self.inside.memory c.take_unit_tail-2.new.self c.self.inside.state.state c.reallocate.new.self.state c.args.self.now c.self.view_is
+    c.resize_kept_block.new.table c.issue-ticket-2.new.self.name (range_at c.args.tail.start c.args.tail.len)
+    (raw-tail c.self.inside.memory c.put_unit_tail-block.new.self c.resize_kept_block.new.memory c.take_unit_tail-2.new.self c.args.tail.start c.args.tail.kept c.args.tail.len
+    c.args.tail.within.0 inside.0 put.start put.out across _ e.start (omega (arith, inside, at g d, put.start, across.start)) e.out)
+
+pub returns-clause-spare : goal.returns-clause-spare
+unfolding after
+returns-clause-spare g c =
+    let d = first-of g c in let put = c.put_unit_tail-block.ensures in let e = c.take_unit_tail-2.ensures in
+    let m = c.self.inside.memory in let n = c.put_unit_tail-block.new.self in
+    let o = c.resize_kept_block.new.memory in let q = c.take_unit_tail-2.new.self in
+    spare-seen m q (before g d) (after g c)
+    (spare-last m o q (before g d) (after g c) e.start e.bytes (spare-first m n o (before g d) (after g c) put.start put.bytes (made g c).3.3))
+    c.self.inside.state.state c.reallocate.new.self.state refl (sym (ap (λ (s : State). s.chunks) (bared-2 g c))) c.args.self.now c.self.view_is
+    c.resize_kept_block.new.table c.issue-ticket-2.new.self.name

@@ -1,0 +1,130 @@
+-- Bytes that a call leaves as they are: those that no block is made of, and those beside a payload.
+use Rattle.std.proofs.Common.{◌≡◌, ℕ, ◌+◌, ◌-◌, ◌<◌, ◌≤◌, List, length, slice_index, true, arith, inl, inr, refl, sym, ap, subst, ◌∙◌}
+use Rattle.std.proofs.lemmas.Bool.{cases_lt, false≢true}
+use Rattle.rlsf_base.specs.declared.memory.range.Range.{Range}
+use Rattle.rlsf_base.specs.OpenSpace.{IsBeside, out_raw, out_without}
+use Rattle.rlsf_base.specs.Out.{Kept, here, is_here, is_own, kept_at, out, raw}
+use Rattle.rlsf_base.specs.Range.{end_of, range_at}
+use Rattle.rlsf_base.specs.Space.{Space, byte_at, out_at}
+use Rattle.rlsf_base.proofs.Changes.{changed-there}
+use Rattle.rlsf_model.specs.Lists.{IsIn}
+use Rattle.rlsf_model.specs.State.{State}
+use Rattle.rlsf_table.specs.Table.{Table}
+use Rattle.rlsf_blocks.specs.InBand.{sentinel_of}
+use Rattle.rlsf_blocks.specs.Laws.{read_from}
+use Rattle.rlsf_blocks.specs.Spare.{IsSpare, KeepsSpare}
+use Rattle.rlsf_blocks.proofs.Words.Stays.{Stays}
+use Rattle.rlsf_heap.specs.Heap.{HeapView, heap_view}
+use Rattle.rlsf_heap.specs.Kept.{KeepsBytesBeside, KeepsSpareBytes, NoneBecomesRawBeside}
+use Rattle.rlsf_heap.proofs.Read.{out-back, out-left}
+
+-- memories with the same start and the same bytes have the same byte at each address
+pub same-byte : (m n : Space) → n.start ≡ m.start → n.bytes ≡ m.bytes → (a : ℕ) → byte_at n a ≡ byte_at m a
+same-byte m n start bytes a = λ i. slice_index (bytes i) (a - start i)
+
+-- ---- bytes that no block is made of
+
+-- which ones these are depends on the chunks alone
+same-chunks : (s t : State) (a : ℕ) → t.chunks ≡ s.chunks → IsSpare s a → IsSpare t a
+same-chunks s t a same = subst (λ (cs : List Range). (c : Range) → IsIn c cs → c.start ≤ a → a < end_of c → sentinel_of c + 16 ≤ a) (sym same)
+
+pub spare-same : (m n : Space) (s t : State) → n.start ≡ m.start → n.bytes ≡ m.bytes → KeepsSpare m s n t
+spare-same m n s t start bytes a from to before after = same-byte m n start bytes a
+
+module _ (m n o : Space) (s t : State) where
+  -- a memory with the same bytes, before or after
+  pub spare-first : n.start ≡ m.start → n.bytes ≡ m.bytes → KeepsSpare n s o t → KeepsSpare m s o t
+  spare-first start bytes keeps a from to before after =
+      keeps a (omega (arith, from, start)) (omega (arith, to, start, ap length bytes)) before after ∙ same-byte m n start bytes a
+
+  pub spare-last : o.start ≡ n.start → o.bytes ≡ n.bytes → KeepsSpare m s n t → KeepsSpare m s o t
+  spare-last start bytes keeps a from to before after = same-byte n o start bytes a ∙ keeps a from to before after
+
+  -- after one change another, which leaves the chunks
+  pub spare-then : n.start ≡ m.start → length n.bytes ≡ length m.bytes → (u : State) → u.chunks ≡ s.chunks → KeepsSpare m s n u → KeepsSpare n u o t → KeepsSpare m s o t
+  spare-then start long u same first second a from to before after =
+      let between = same-chunks s u a same before in
+      second a (omega (arith, from, start)) (omega (arith, to, start, long)) between after ∙ first a from to before between
+
+-- as contracts see it
+pub spare-seen : (m n : Space) (s t : State) → KeepsSpare m s n t → (j k : State) → s.chunks ≡ j.chunks → t.chunks ≡ k.chunks → {x : Table} {ledger : ℕ}
+    → (old : HeapView) → heap_view m x j ledger ≡ old → (y : Table) (name : ℕ) → KeepsSpareBytes old (heap_view n y k name)
+unfolding KeepsSpareBytes
+spare-seen m n s t keeps j k first last old view y name =
+    subst (λ (o : HeapView). KeepsSpare o.memory o.state n (read_from n k)) view
+    (λ a from to before after. keeps a from to (same-chunks (read_from m j) s a first before) (same-chunks (read_from n k) t a last after))
+
+-- of a heap that doesn't change
+pub spare-none : (v : HeapView) → KeepsSpareBytes v v
+unfolding KeepsSpareBytes
+spare-none v a from to before after = refl
+
+-- by two calls
+pub spare-both : (u v w : HeapView) → (v.memory.start ≡ u.memory.start) × (length v.memory.bytes ≡ length u.memory.bytes) → v.state.chunks ≡ u.state.chunks
+    → KeepsSpareBytes u v → KeepsSpareBytes v w → KeepsSpareBytes u w
+unfolding KeepsSpareBytes
+spare-both u v w place same first second = spare-then u.memory v.memory w.memory u.state w.state place.0 place.1 v.state same first second
+
+-- ---- bytes that are raw
+
+only-raw : (x y : Kept) → (x ≡ here → y ≡ here) → is_own y ≡ is_own x → y ≡ raw → x ≡ raw
+only-raw here y stays own is = absurd (false≢true (sym (ap is_here is) ∙ ap is_here (stays refl)))
+only-raw raw y stays own is = refl
+only-raw out y stays own is = absurd (false≢true (sym own ∙ ap is_own is))
+
+-- where bytes that are here stay here, and the same bytes are the memory's own, each byte that is raw was raw
+pub raw-stays : {m n : Space} → Stays m n → (a : ℕ) → m.start ≤ a → out_at n a ≡ raw → out_at m a ≡ raw
+raw-stays {m} {n} stays a from = only-raw (out_at m a) (out_at n a) (stays.here a from) (stays.own a from)
+
+-- a range came back raw, and bytes that were here stayed here
+pub raw-back : (m n o : Space) (r : Range) → n.start ≡ m.start → m.start ≤ r.start → n.out ≡ out_raw m r → Stays n o → (a : ℕ) → m.start ≤ a → IsBeside r a
+    → out_at o a ≡ raw → out_at m a ≡ raw
+raw-back m n o r start inside back stays a from side is =
+    sym (out-back m n r a start back inside from side) ∙ raw-stays stays a (omega (arith, from, start)) is
+
+-- bytes that are raw once a range has left were raw before
+pub raw-left : (m n : Space) (r : Range) → n.start ≡ m.start → m.start ≤ r.start → n.out ≡ out_without m r → (a : ℕ) → m.start ≤ a → out_at n a ≡ raw → out_at m a ≡ raw
+raw-left m n r start inside left a from is = elim (cases_lt a r.start) [
+  | inl before ↦ sym (out-left m n r a start left inside from (inl before)) ∙ is
+  | inr behind ↦ elim (cases_lt a (end_of r)) [
+    | inl within ↦
+        let gone : out_at n a ≡ out = (λ i. kept_at (left i) (a - start i)) ∙ changed-there out m.out (r.start - m.start) r.len (a - m.start) (omega (arith, behind))
+        (omega (arith, within, inside)) in
+        absurd (false≢true (sym (ap is_own gone) ∙ ap is_own is))
+    | inr past ↦ sym (out-left m n r a start left inside from (inr past)) ∙ is
+  ]
+]
+
+-- the bytes of a payload behind its first ones came back raw, and other bytes left
+pub raw-tail : (m n o q : Space) (start kept len : ℕ) → kept ≤ len → m.start ≤ start → n.start ≡ m.start → n.out ≡ out_raw m (range_at (start + kept) (len - kept)) → Stays n o
+    → (r : Range) → q.start ≡ o.start → o.start ≤ r.start → q.out ≡ out_without o r → (a : ℕ) → m.start ≤ a → IsBeside (range_at start len) a → out_at q a ≡ raw
+    → out_at m a ≡ raw
+raw-tail m n o q start kept len within low same back stays r same_q inside gone a from side is =
+    raw-back m n o (range_at (start + kept) (len - kept)) same (omega (arith, low)) back stays a from (elim side [
+      | inl before ↦ inl (omega (arith, before))
+      | inr past ↦ inr (omega (arith, past, within))
+    ]) (raw-left o q r same_q inside gone a (omega (arith, from, same, stays.start)) is)
+
+pub raw-seen : (m n : Space) {x : Table} {ledger : ℕ} (j k : State) (old : HeapView) → heap_view m x j ledger ≡ old → (y : Table) (name : ℕ) (r : Range)
+    → ((a : ℕ) → m.start ≤ a → IsBeside r a → out_at n a ≡ raw → out_at m a ≡ raw) → NoneBecomesRawBeside old (heap_view n y k name) r
+unfolding NoneBecomesRawBeside
+raw-seen m n j k old view y name r none =
+    subst (λ (o : HeapView). (a : ℕ) → o.memory.start ≤ a → IsBeside r a → out_at n a ≡ raw → out_at o.memory a ≡ raw) view none
+
+-- ---- bytes beside a payload
+
+pub beside-seen : (m n : Space) {x : Table} {ledger : ℕ} (j k : State) (old : HeapView) → heap_view m x j ledger ≡ old → (y : Table) (name : ℕ) (r : Range)
+    → ((a : ℕ) → m.start ≤ a → a < m.start + length m.bytes → IsBeside r a → byte_at n a ≡ byte_at m a) → KeepsBytesBeside old (heap_view n y k name) r
+unfolding KeepsBytesBeside
+beside-seen m n j k old view y name r same =
+    subst (λ (o : HeapView). (a : ℕ) → o.memory.start ≤ a → a < o.memory.start + length o.memory.bytes → IsBeside r a → byte_at n a ≡ byte_at o.memory a) view same
+
+-- by another call that changes no byte
+pub beside-last : (u v w : HeapView) (r : Range) → w.memory.start ≡ v.memory.start → w.memory.bytes ≡ v.memory.bytes → KeepsBytesBeside u v r → KeepsBytesBeside u w r
+unfolding KeepsBytesBeside
+beside-last u v w r start bytes keeps a from to side = same-byte v.memory w.memory start bytes a ∙ keeps a from to side
+
+-- of a heap that doesn't change
+pub beside-none : (v : HeapView) (r : Range) → KeepsBytesBeside v v r
+unfolding KeepsBytesBeside
+beside-none v r a from to side = refl
