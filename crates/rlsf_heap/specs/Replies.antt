@@ -18,6 +18,10 @@ pub record KeepsHeap (sllen size align : ℕ) (before after : HeapView) : Type 0
   pub chunks : after.state.chunks ≡ before.state.chunks
   pub grow : before.memory.touches ≤ after.memory.touches
 
+-- this is so within all bounds that the state is sized for, if they include one more payload of this size and alignment
+abbrev pub WithinBounds : ℕ → State → ℕ → ℕ → Type 0 → Type 0
+WithinBounds sllen s size align is = (count most wide : ℕ) → IsSizedFor sllen count most wide s → live_count s ≤ count → size ≤ most → align ≤ wide → is
+
 -- what an allocated payload is: of this heap, where none was live, with the requested alignment, long enough and no longer than necessary.
 -- One more payload is live
 pub record IsAllocated (before after : HeapView) (size align : ℕ) (p : PayloadView) : Type 0 where

@@ -29,6 +29,9 @@ use std::mem::ManuallyDrop;
 
 /// An allocator over the pools of one memory, which it owns. Its payloads leave the memory: each owns its bytes.
 ///
+/// No call changes a byte of the memory that no block is made of, before and after it (`spare`): one outside of all chunks, or
+/// among the last 16 of a sentinel.
+///
 /// Dropping a heap deallocates its memory if no payload is live. Otherwise the memory leaks, so that no byte that a payload
 /// owns is deallocated.
 pub struct Heap<
@@ -193,7 +196,8 @@ impl<FLBitmap: BitPattern, SLBitmap: BitPattern, const FLLEN: usize, const SLLEN
     /// Deallocates a payload. Its block becomes free, and is joined with the free block before it and the free block
     /// behind it, if they exist. The joined block is the newest free block.
     ///
-    /// Until the call, each byte of the payload was its owner's, and none was the memory's (`owner`).
+    /// Until the call, each byte of the payload was its owner's, and none was the memory's (`owner`). Then those that the
+    /// allocator doesn't overwrite are raw. No other byte becomes raw (`raw`).
     ///
     /// The payload must be one of this heap.
     // In line, so that no payload is passed in memory.

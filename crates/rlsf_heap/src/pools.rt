@@ -1,9 +1,9 @@
 //! Pools of a heap: ranges of its memory that are inserted, appended and removed.
-ghost use Rattle.std.specs.Prelude.{◌≡◌, ◌≤◌, ◌+◌, ◌*◌, ◌%◌, ℕ, [], Option, Some, true, false, length, is_some, IfNone, if◌then◌else◌};
+ghost use Rattle.std.specs.Prelude.{◌≡◌, ◌≤◌, ◌+◌, ◌*◌, ℕ, [], Option, true, false, length, is_some, IfNone, if◌then◌else◌};
 ghost use Rattle.rlsf_base.specs.Addr.{reply};
 ghost use Rattle.rlsf_base.specs.declared.memory.range.Range.{Range};
 ghost use Rattle.rlsf_base.specs.Range.{AreApart, LiesIn};
-ghost use Rattle.rlsf_base.specs.Sizes.{max_pool_size, pool_size_for_payloads};
+ghost use Rattle.rlsf_base.specs.Sizes.{max_pool_size};
 ghost use Rattle.rlsf_base.specs.Space.{range_of};
 ghost use Rattle.rlsf_model.specs.Callers.{align_at};
 ghost use Rattle.rlsf_model.specs.ChunkRows.{IsRow};
@@ -28,7 +28,7 @@ impl<FLBitmap: BitPattern, SLBitmap: BitPattern, const FLLEN: usize, const SLLEN
     SLLEN,
 > {
     ghost use Rattle.rlsf_heap.specs.Heap.{Steps};
-    ghost use Rattle.rlsf_heap.specs.Pools.{RemovesIfIdle};
+    ghost use Rattle.rlsf_heap.specs.Pools.{MakesSized, RemovesIfIdle};
 
     /// Inserts a range of the memory as a pool, and makes free chunks of its aligned part. No chunk has fewer than 64
     /// bytes.
@@ -50,8 +50,7 @@ impl<FLBitmap: BitPattern, SLBitmap: BitPattern, const FLLEN: usize, const SLLEN
         ensures aligns { align_at self.new.state ≡ align_at self.old.state }
         ensures count { live_count self.new.state ≡ live_count self.old.state }
         ensures bounds { (count size align : ℕ) → IsSizedFor SLLEN count size align self.old.state → IsSizedFor SLLEN count size align self.new.state }
-        ensures pool { (count size align len : ℕ) → pool_size_for_payloads FLLEN SLLEN count size align ≡ Some len → range.start % 32 ≡ 0 → len ≤ range.len
-            → live_count self.old.state ≡ 0 → IsSizedFor SLLEN count size align self.new.state }
+        ensures pool { MakesSized FLLEN SLLEN range self.old.state self.new.state }
         ensures refused { IfNone result (self.new.memory.bytes ≡ self.old.memory.bytes) }
         ensures settled { IsSettled self.old.memory → IsSettled self.new.memory }
         ensures touches { self.new.memory.touches ≤ self.old.memory.touches + 13 * length (cut (max_pool_size FLLEN) (aligned_part range)) }
@@ -78,8 +77,7 @@ impl<FLBitmap: BitPattern, SLBitmap: BitPattern, const FLLEN: usize, const SLLEN
         ensures aligns { align_at self.new.state ≡ align_at self.old.state }
         ensures count { live_count self.new.state ≡ live_count self.old.state }
         ensures bounds { (count size align : ℕ) → IsSizedFor SLLEN count size align self.old.state → IsSizedFor SLLEN count size align self.new.state }
-        ensures pool { (count size align len : ℕ) → pool_size_for_payloads FLLEN SLLEN count size align ≡ Some len → range.start % 32 ≡ 0 → len ≤ range.len
-            → live_count self.old.state ≡ 0 → IsSizedFor SLLEN count size align self.new.state }
+        ensures pool { MakesSized FLLEN SLLEN range self.old.state self.new.state }
         ensures unchanged { cut (max_pool_size FLLEN) (aligned_part range) ≡ [] → self.new.memory.bytes ≡ self.old.memory.bytes }
         ensures settled { IsSettled self.old.memory → IsSettled self.new.memory }
         ensures touches { self.new.memory.touches ≤ self.old.memory.touches + 13 * length (cut (max_pool_size FLLEN) (aligned_part range)) }

@@ -1,14 +1,14 @@
 //! Reallocations: a payload gets another size.
-ghost use Rattle.std.specs.Prelude.{◌≡◌, ◌≤◌, ◌+◌, ℕ, length, IfErr, IfOk, IsOk, MatchResult};
+ghost use Rattle.std.specs.Prelude.{◌≡◌, ◌≤◌, ◌+◌, length, IfErr, IfOk, IsOk, MatchResult};
 ghost use Rattle.rlsf_base.specs.Layout.{IsLayout};
 ghost use Rattle.rlsf_model.specs.Callers.{align_at};
 ghost use Rattle.rlsf_model.specs.NoMove.{ReallocatesWithoutMove};
 ghost use Rattle.rlsf_model.specs.Reallocate.{Reallocates};
-ghost use Rattle.rlsf_model.specs.Sized.{IsSizedFor, live_count};
+ghost use Rattle.rlsf_model.specs.Sized.{live_count};
 ghost use Rattle.rlsf_heap.specs.Heap.{IsWritten, payload_range};
 ghost use Rattle.rlsf_heap.specs.Kept.{KeepsBytesBeside, KeepsSpareBytes};
 ghost use Rattle.rlsf_heap.specs.Reallocation.{IsKeptHere, moved_to, owned_by};
-ghost use Rattle.rlsf_heap.specs.Replies.{CopiesToMove, IsReallocated, IsReturned, KeepsHeap, LeavesOthers};
+ghost use Rattle.rlsf_heap.specs.Replies.{CopiesToMove, IsReallocated, IsReturned, KeepsHeap, LeavesOthers, WithinBounds};
 ghost use Rattle.rlsf_heap.specs.Settled.{IsSettled};
 
 use crate::heap::Heap;
@@ -35,7 +35,7 @@ impl<FLBitmap: BitPattern, SLBitmap: BitPattern, const FLLEN: usize, const SLLEN
     /// The bytes behind the kept ones are as the memory has them, here or raw. If no byte of the memory is raw, all are here.
     ///
     /// Returns the payload as it was, as the error, if and only if no layout has this size and alignment, or this allocation
-    /// is refused; then nothing changes. Within bounds that the heap is sized for (`IsSizedFor`), a reallocation is never
+    /// is refused; then no byte of the memory beside the payload changes (`unchanged`). Within bounds that the heap is sized for (`IsSizedFor`), a reallocation is never
     /// refused.
     ///
     /// The payload must be one of this heap, and its bytes must be here.
@@ -44,8 +44,7 @@ impl<FLBitmap: BitPattern, SLBitmap: BitPattern, const FLLEN: usize, const SLLEN
         requires written { IsWritten payload }
         ensures step { Steps FLLEN SLLEN self.new (λ t. IsLayout size payload.align → Reallocates SLLEN (owned_by self.old.state payload) payload.start size (moved_to result) t) }
         ensures layout { IsOk result → IsLayout size payload.align }
-        ensures room { (count most wide : ℕ) → IsSizedFor SLLEN count most wide self.old.state → live_count self.old.state ≤ count
-            → size ≤ most → payload.align ≤ wide → IsLayout size payload.align → IsOk result }
+        ensures room { WithinBounds SLLEN self.old.state size payload.align (IsLayout size payload.align → IsOk result) }
         ensures payload { MatchResult result (λ p. p.identity ≡ self.old.identity) (λ p. p.identity ≡ self.old.identity) }
         ensures align { MatchResult result (λ p. p.align ≡ payload.align) (λ p. p.align ≡ payload.align) }
         ensures resized { IfOk result (λ p. IsReallocated self.new.state payload size payload.align p) }
@@ -96,7 +95,7 @@ impl<FLBitmap: BitPattern, SLBitmap: BitPattern, const FLLEN: usize, const SLLEN
     /// The bytes behind the kept ones are as the memory has them, here or raw. If no byte of the memory is raw, all are here.
     ///
     /// Returns the payload as it was, as the error, if and only if no layout has this size and alignment, or these bytes
-    /// don't suffice; then nothing changes.
+    /// don't suffice; then no byte of the memory beside the payload changes (`unchanged`).
     ///
     /// The payload must be one of this heap, and its bytes must be here.
     pub fn reallocate_no_move(&mut self, payload: Payload, size: usize) -> Result<Payload, Payload>

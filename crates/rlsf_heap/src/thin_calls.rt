@@ -105,7 +105,8 @@ impl<FLBitmap: BitPattern, SLBitmap: BitPattern, const FLLEN: usize, const SLLEN
         (part, ticket)
     }
 
-    /// Deallocates a payload that is known by its address, as `deallocate` does. Its length is found in the memory.
+    /// Deallocates a payload that is known by its address, as `deallocate` does. Its length is found in the memory. No byte but
+    /// the payload's becomes raw (`raw`).
     ///
     /// The payload must be the one at `addr`, which isn't 0, and one of this heap.
     pub fn deallocate_thin(&mut self, addr: usize, payload: ThinPayload)

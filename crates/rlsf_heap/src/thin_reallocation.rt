@@ -1,14 +1,14 @@
 //! Reallocation of payloads that are known by their address alone.
-ghost use Rattle.std.specs.Prelude.{◌≡◌, ◌≢◌, ◌≤◌, ◌+◌, ℕ, None, length, IfErr, IfOk, IsOk, MatchResult};
+ghost use Rattle.std.specs.Prelude.{◌≡◌, ◌≢◌, ◌≤◌, ◌+◌, None, length, IfErr, IfOk, IsOk, MatchResult};
 ghost use Rattle.rlsf_base.specs.Layout.{IsLayout};
 ghost use Rattle.rlsf_model.specs.Callers.{align_at};
 ghost use Rattle.rlsf_model.specs.NoMove.{ReallocatesWithoutMove};
 ghost use Rattle.rlsf_model.specs.Reallocate.{Keeps, Reallocates};
-ghost use Rattle.rlsf_model.specs.Sized.{IsSizedFor, live_count};
+ghost use Rattle.rlsf_model.specs.Sized.{live_count};
 ghost use Rattle.rlsf_heap.specs.Heap.{IsWritten, payload_range};
 ghost use Rattle.rlsf_heap.specs.Kept.{KeepsBytesBeside, KeepsSpareBytes};
 ghost use Rattle.rlsf_heap.specs.Reallocation.{owned_by};
-ghost use Rattle.rlsf_heap.specs.Replies.{CopiesToMove, IsReallocated, IsReallocatedHere, IsReturned, KeepsHeap, LeavesOthers};
+ghost use Rattle.rlsf_heap.specs.Replies.{CopiesToMove, IsReallocated, IsReallocatedHere, IsReturned, KeepsHeap, LeavesOthers, WithinBounds};
 ghost use Rattle.rlsf_heap.specs.Settled.{IsSettled};
 ghost use Rattle.rlsf_heap.specs.ThinReplies.{IsThinOf, MovesElsewhere, thin_moved_to};
 
@@ -62,8 +62,7 @@ impl<FLBitmap: BitPattern, SLBitmap: BitPattern, const FLLEN: usize, const SLLEN
         requires written { IsWritten payload.of }
         ensures step { Steps FLLEN SLLEN self.new (λ t. IsLayout size align → Reallocates SLLEN (owned_by self.old.state payload.of) addr size (thin_moved_to result) t) }
         ensures layout { IsOk result → IsLayout size align }
-        ensures room { (count most wide : ℕ) → IsSizedFor SLLEN count most wide self.old.state → live_count self.old.state ≤ count
-            → size ≤ most → align ≤ wide → IsLayout size align → IsOk result }
+        ensures room { WithinBounds SLLEN self.old.state size align (IsLayout size align → IsOk result) }
         ensures thin { MatchResult result (λ p. IsThinOf self.old.identity align p) (λ p. IsThinOf self.old.identity align p) }
         ensures payload { IfOk result (λ p. IsReallocated self.new.state payload.of size align p.of) }
         ensures here { IfOk result (λ p. IsReallocatedHere self.old payload.of p.of) }
@@ -142,8 +141,7 @@ impl<FLBitmap: BitPattern, SLBitmap: BitPattern, const FLLEN: usize, const SLLEN
         requires written { IsWritten payload.of }
         requires settled { IsSettled self.old.memory }
         ensures step { Steps FLLEN SLLEN self.new (MovesElsewhere SLLEN self.old.state addr layout.size layout.align (thin_moved_to result)) }
-        ensures room { (count most wide : ℕ) → IsSizedFor SLLEN count most wide self.old.state → live_count self.old.state ≤ count
-            → layout.size ≤ most → layout.align ≤ wide → IsOk result }
+        ensures room { WithinBounds SLLEN self.old.state layout.size layout.align (IsOk result) }
         ensures thin { MatchResult result (λ p. IsThinOf self.old.identity layout.align p) (λ p. IsThinOf self.old.identity payload.of.align p) }
         ensures payload { IfOk result (λ p. IsReallocated self.new.state payload.of layout.size layout.align p.of) }
         ensures written { IfOk result (λ p. IsWritten p.of) }

@@ -14,10 +14,10 @@ ghost use Rattle.rlsf_reallocate.specs.Steps.Resize.{IsResized};
 ghost use Rattle.rlsf_heap.specs.Heap.{IsWritten, payload_range};
 ghost use Rattle.rlsf_heap.specs.Kept.{KeepsBytesBeside, KeepsSpareBytes};
 ghost use Rattle.rlsf_heap.specs.Reallocation.{IsKeptHere, owned_by};
-ghost use Rattle.rlsf_heap.specs.Replies.{IsReallocated};
+ghost use Rattle.rlsf_heap.specs.Replies.{IsReallocated, WithinBounds};
 ghost use Rattle.rlsf_heap.specs.Settled.{IsSettled};
 ghost use Rattle.rlsf_heap.specs.ThinReplies.{thin_moved_to};
-ghost use Rattle.rlsf_heap.specs.ThinUnknownAlign.{AtEachHeld, renewed_entries, StaysOrMoves};
+ghost use Rattle.rlsf_heap.specs.ThinUnknownAlign.{AtEachHeld, AtEachOwned, renewed_entries, StaysOrMoves, StaysSized};
 
 use crate::heap::Heap;
 use crate::thin::ThinPayload;
@@ -42,8 +42,8 @@ fn resize_found<const FLLEN: usize, const SLLEN: usize>(
     requires parameters { IsValid 128 128 FLLEN SLLEN }
     requires used { (s : State) × (u : Used) × StandsFor FLLEN SLLEN (contents memory.old table.old) s × Holds s payload u × IsOwned memory.old (usable u) }
     requires view { view ≡ memory.old.view }
-    ensures done { AtEachHeld FLLEN SLLEN memory.old table.old payload
-        (λ s u. IsOwned memory.old (usable u) → result ≡ true → IsResized FLLEN SLLEN memory.old memory.new table.new s u layout.size payload) }
+    ensures done { AtEachOwned FLLEN SLLEN memory.old table.old payload
+        (λ s u. result ≡ true → IsResized FLLEN SLLEN memory.old memory.new table.new s u layout.size payload) }
     ensures refused { AtEachHeld FLLEN SLLEN memory.old table.old payload (λ s u. result ≡ false → unmoved_plan s u layout.size ≡ None) }
     ensures unchanged { result ≡ false → Counts memory.old memory.new 4 × (table.new ≡ table.old) }
     ensures costs { Costs memory.old memory.new 26 0 }
@@ -180,11 +180,9 @@ impl<FLBitmap: BitPattern, SLBitmap: BitPattern, const FLLEN: usize, const SLLEN
         ensures settled { IsSettled self.new.memory }
         ensures new { IfOk result (λ p. p.of.start ≢ addr → align_at self.old.state p.of.start ≡ None) }
         ensures aligns { IfOk result (λ p. (a : ℕ) → a ≢ addr → a ≢ p.of.start → align_at self.new.state a ≡ align_at self.old.state a) }
-        ensures room { (count most wide : ℕ) → IsSizedFor SLLEN count most wide self.old.state → live_count self.old.state ≤ count
-            → layout.size ≤ most → layout.align ≤ wide → IsOk result }
+        ensures room { WithinBounds SLLEN self.old.state layout.size layout.align (IsOk result) }
         ensures count { live_count self.new.state ≡ live_count self.old.state }
-        ensures bounds { (count most wide : ℕ) → IsSizedFor SLLEN count most wide self.old.state → payload.of.align ≤ wide
-            → layout.size ≤ most → layout.align ≤ wide → IsSizedFor SLLEN count most wide self.new.state }
+        ensures bounds { StaysSized SLLEN layout.size payload.of.align layout.align self.old.state self.new.state }
         ensures chunks { self.new.state.chunks ≡ self.old.state.chunks }
         ensures same { IfErr result (λ p. AreAlike self.old.state self.new.state) }
         ensures unchanged { IfErr result (λ p. KeepsBytesBeside self.old self.new (payload_range payload.of)) }
