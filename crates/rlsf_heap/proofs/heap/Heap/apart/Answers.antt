@@ -3,7 +3,7 @@ use Rattle.rlsf_base.specs.Ledger.{Entry, Extent, entry_of, extent, IsIssued}
 use Rattle.rlsf_model.specs.Callers.{align_at, bytes_at}
 use Rattle.rlsf_model.specs.State.{State}
 use Rattle.rlsf_blocks.specs.Laws.{read_from}
-use Rattle.rlsf_heap.specs.Heap.{AreIssued, HeapView, IsPayload, LiesInChunk, PayloadView, payload_range}
+use Rattle.rlsf_heap.specs.Heap.{AreIssued, HeapView, Identity, IsPayload, LiesInChunk, PayloadView, heap_view, payload_range, payload_view}
 use Rattle.rlsf_heap.proofs.PayloadsApart.{redeemed_ticket, shown_aligned, shown_apart, shown_inside, shown_live, shown_long}
 use Rattle.rlsf_heap.proofs.Tickets.{both_apart, both_issued, issued-again}
 use Rattle.rlsf_heap.proofs.heap.Heap.apart.Given as given
@@ -61,33 +61,30 @@ invariant_of-self g c =
       counted = c.self.invariant.counted;
     }
 
-pub returns-clause-differ : goal.returns-clause-differ
-returns-clause-differ g c = differ g c
-
-pub returns-clause-apart : goal.returns-clause-apart
-returns-clause-apart g c = shown_apart c.self.invariant.stands.well_formed (shown c.args.first) (shown c.args.second) (one g c) (other g c) (differ g c)
-
-pub returns-clause-live : goal.returns-clause-live
-returns-clause-live g c =
+pub returns : goal.returns
+returns g c =
     let w = c.self.invariant.stands.well_formed in
-    subst (λ (o : HeapView). (align_at o.state c.args.first.start ≡ Some c.args.first.align) × (align_at o.state c.args.second.start ≡ Some c.args.second.align))
-    c.self.view_is
-    (shown_live w (shown c.args.first) (one g c), shown_live w (shown c.args.second) (other g c))
-
-pub returns-clause-long : goal.returns-clause-long
-returns-clause-long g c =
-    let w = c.self.invariant.stands.well_formed in
-    subst (λ (o : HeapView). (length c.args.first.bytes ≡ length (bytes_at o.state c.args.first.start))
-    × (length c.args.second.bytes ≡ length (bytes_at o.state c.args.second.start))) c.self.view_is
-    (shown_long w (shown c.args.first) (one g c), shown_long w (shown c.args.second) (other g c))
-
-pub returns-clause-aligned : goal.returns-clause-aligned
-returns-clause-aligned g c =
-    let w = c.self.invariant.stands.well_formed in
-    (shown_aligned w (shown c.args.first) (one g c), shown_aligned w (shown c.args.second) (other g c))
-
-pub returns-clause-inside : goal.returns-clause-inside
-returns-clause-inside g c =
-    let w = c.self.invariant.stands.well_formed in
-    subst (λ (o : HeapView). LiesInChunk o.state (payload_range c.args.first) × LiesInChunk o.state (payload_range c.args.second)) c.self.view_is
-    (shown_inside w (shown c.args.first) (one g c), shown_inside w (shown c.args.second) (other g c))
+    let a = c.redeemed-part.ensures in
+    let b = c.redeemed-other.ensures in
+    let names = b.name ∙ a.name in
+    let kept = c.issued-first.ensures.name ∙ names in
+    let ledger = sym (ap (λ (o : HeapView). o.identity.ledger) c.self.view_is) in
+    record {
+      heap = (λ i. heap_view c.self.inside.memory c.self.inside.table c.self.inside.state.state ((c.issued-second.ensures.name ∙ kept) i)) ∙ c.self.view_is;
+      payloads = (
+        c.issued-first.ensures.payload
+            ∙ ap (λ n. payload_view c.redeemed-part.result.0 c.redeemed-part.result.1 n) (names ∙ sym (ap (λ (o : Identity). o.ledger) c.requires.first ∙ ledger)) ∙ a.parts,
+        c.issued-second.ensures.payload
+            ∙ ap (λ n. payload_view c.redeemed-other.result.0 c.redeemed-other.result.1 n) (kept ∙ sym (ap (λ (o : Identity). o.ledger) c.requires.second ∙ ledger)) ∙ b.parts,
+      );
+      differ = differ g c;
+      apart = shown_apart w (shown c.args.first) (shown c.args.second) (one g c) (other g c) (differ g c);
+      live = subst (λ (o : HeapView). (align_at o.state c.args.first.start ≡ Some c.args.first.align) × (align_at o.state c.args.second.start ≡ Some c.args.second.align))
+          c.self.view_is (shown_live w (shown c.args.first) (one g c), shown_live w (shown c.args.second) (other g c));
+      long = subst (λ (o : HeapView). (length c.args.first.bytes ≡ length (bytes_at o.state c.args.first.start))
+          × (length c.args.second.bytes ≡ length (bytes_at o.state c.args.second.start))) c.self.view_is
+          (shown_long w (shown c.args.first) (one g c), shown_long w (shown c.args.second) (other g c));
+      aligned = (shown_aligned w (shown c.args.first) (one g c), shown_aligned w (shown c.args.second) (other g c));
+      inside = subst (λ (o : HeapView). LiesInChunk o.state (payload_range c.args.first) × LiesInChunk o.state (payload_range c.args.second)) c.self.view_is
+          (shown_inside w (shown c.args.first) (one g c), shown_inside w (shown c.args.second) (other g c));
+    }

@@ -1,4 +1,4 @@
-use Rattle.std.proofs.Common.{◌≡◌, arith, refl, sym, ◌∙◌, ap, subst}
+use Rattle.std.proofs.Common.{◌≡◌, IfNone, arith, refl, sym, ◌∙◌, ap, subst}
 use Rattle.rlsf_base.specs.Addr.{reply}
 use Rattle.rlsf_base.specs.Space.{range_of}
 use Rattle.rlsf_model.specs.Insert.{Inserts, IsFresh}
@@ -15,8 +15,10 @@ use Rattle.rlsf_blocks.specs.Laws.{read_from}
 use Rattle.rlsf_blocks.specs.StandsFor.{contents, StandsFor}
 use Rattle.rlsf_tlsf.specs.Steps.Moves.{bare, inserted}
 use Rattle.rlsf_tlsf.proofs.Moved.{inserted-bare}
-use Rattle.rlsf_heap.specs.Heap.{HeapView}
+use Rattle.rlsf_heap.specs.Heap.{HeapView, heap_view}
+use Rattle.rlsf_heap.specs.Kept.{KeepsSpareBytes}
 use Rattle.rlsf_heap.proofs.Arrivals.{IsHeap-arrived, Steps-arrived, bare-kept, stepped, view_well_formed}
+use Rattle.rlsf_heap.proofs.Costs.{left_costs, sees_left}
 use Rattle.rlsf_heap.proofs.Kept.{spare-seen}
 use Rattle.rlsf_heap.proofs.LiveCounts.{live_count-same}
 use Rattle.rlsf_heap.proofs.Read.{issued-same}
@@ -81,40 +83,39 @@ well g c = view_well_formed c.self.invariant c.args.self.now c.self.view_is
 abbrev now : (g : given.Over) (c : After-insert g) → State
 now g c = read_from c.insert_chunks-taken.new.memory c.insert.new.self.state
 
-pub returns-clause-step : goal.returns-clause-step
-returns-clause-step g c = Steps-arrived (standing g c) c.insert.new.self.state (kept g c) c.self.inside.ledger.name
-    (Inserts g.row.FLLEN c.args.self.now.state c.args.range (reply c.insert_chunks-taken.result)) (did g c)
-
-pub returns-clause-untouched : goal.returns-clause-untouched
-returns-clause-untouched g c = untouched_inserted g.row.FLLEN c.args.self.now.state (now g c) c.args.range (reply c.insert_chunks-taken.result) (did g c)
-
-pub returns-clause-aligns : goal.returns-clause-aligns
-returns-clause-aligns g c = (same_seen c.args.self.now.state (now g c)
-    (callers_see_map g.row.FLLEN g.row.SLLEN (range_of c.args.self.now.memory) c.args.self.now.state (now g c) (insert c.args.range (reply c.insert_chunks-taken.result)) (well g c)
-    (fresh g c) (did g c))).aligns
-
-pub returns-clause-count : goal.returns-clause-count
-returns-clause-count g c = count_inserted (well g c) (now g c) c.args.range (reply c.insert_chunks-taken.result) (fresh g c) (did g c)
-
-pub returns-clause-bounds : goal.returns-clause-bounds
-returns-clause-bounds g c = λ count size align sized. sized_inserted (well g c) (now g c) count size align sized c.args.range (reply c.insert_chunks-taken.result) (fresh g c)
-    (did g c)
-
-pub returns-clause-pool : goal.returns-clause-pool
-returns-clause-pool g c = λ count size align len told at32 long idle.
-    sized_pool g.FLBitmap.BitPattern.width g.SLBitmap.BitPattern.width g.row.FLLEN g.row.SLLEN count size align len c.args.self.now.state (now g c) c.args.range
-    (reply c.insert_chunks-taken.result) c.self.invariant.valid told at32 long idle (did g c)
-
-pub returns-clause-settled : goal.returns-clause-settled
-returns-clause-settled g c = λ settled.
-    let e = c.insert_chunks-taken.ensures in
-    let stays : Stays c.self.inside.memory c.insert_chunks-taken.new.memory = record { start = e.costs.start; own = e.own; here = e.here } in
-    settled-stays stays (settled-inside c.self.inside.state.state c.args.self.now c.self.view_is settled)
-
-pub returns-clause-spare : goal.returns-clause-spare
+-- bytes that no block is made of are as they were
+spare : (g : given.Over) (c : After-insert g) → KeepsSpareBytes c.args.self.now
+    (heap_view c.insert_chunks-taken.new.memory c.insert_chunks-taken.new.table c.insert.new.self.state c.self.inside.ledger.name)
 unfolding after
-returns-clause-spare g c =
+spare g c =
     let is = c.insert_chunks-taken.ensures.step (before g c) c.self.invariant.stands
     (subst (λ (o : HeapView). IsFresh (range_of o.memory) o.state c.args.range) (sym c.self.view_is) (fresh g c)) in
     spare-seen c.self.inside.memory c.insert_chunks-taken.new.memory (before g c) is.0 is.3 c.self.inside.state.state c.insert.new.self.state refl
     (sym (ap (λ (s : State). s.chunks) (kept g c))) c.args.self.now c.self.view_is c.insert_chunks-taken.new.table c.self.inside.ledger.name
+
+pub returns : goal.returns
+returns g c =
+    let taken = reply c.insert_chunks-taken.result in
+    let e = c.insert_chunks-taken.ensures in
+    let stays : Stays c.self.inside.memory c.insert_chunks-taken.new.memory = record { start = e.costs.start; own = e.own; here = e.here } in
+    let o = sees_left c.self.inside.memory c.insert_chunks-taken.new.memory c.self.inside.table c.insert_chunks-taken.new.table c.self.inside.state.state
+    c.insert.new.self.state c.self.inside.ledger.name c.self.inside.ledger.name _ (left_costs e.costs) refl c.args.self.now c.self.view_is in record {
+      step = Steps-arrived (standing g c) c.insert.new.self.state (kept g c) c.self.inside.ledger.name (Inserts g.row.FLLEN c.args.self.now.state c.args.range taken) (did g c);
+      identity = o.identity;
+      place = o.place;
+      untouched = untouched_inserted g.row.FLLEN c.args.self.now.state (now g c) c.args.range taken (did g c);
+      aligns = (same_seen c.args.self.now.state (now g c)
+          (callers_see_map g.row.FLLEN g.row.SLLEN (range_of c.args.self.now.memory) c.args.self.now.state (now g c) (insert c.args.range taken) (well g c)
+          (fresh g c) (did g c))).aligns;
+      count = count_inserted (well g c) (now g c) c.args.range taken (fresh g c) (did g c);
+      bounds = λ count size align sized. sized_inserted (well g c) (now g c) count size align sized c.args.range taken (fresh g c) (did g c);
+      pool = λ count size align len told at32 long idle.
+          sized_pool g.FLBitmap.BitPattern.width g.SLBitmap.BitPattern.width g.row.FLLEN g.row.SLLEN count size align len c.args.self.now.state (now g c) c.args.range
+          taken c.self.invariant.valid told at32 long idle (did g c);
+      refused = subst (λ (v : HeapView). IfNone c.insert_chunks-taken.result (c.insert_chunks-taken.new.memory.bytes ≡ v.memory.bytes)) c.self.view_is e.refused;
+      settled = λ settled. settled-stays stays (settled-inside c.self.inside.state.state c.args.self.now c.self.view_is settled);
+      touches = o.touches;
+      grow = o.grow;
+      spare = spare g c;
+      copied = omega (arith, e.costs.copied, ap (λ (v : HeapView). v.memory.copied) c.self.view_is);
+    }

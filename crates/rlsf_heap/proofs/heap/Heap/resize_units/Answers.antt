@@ -25,8 +25,9 @@ use Rattle.rlsf_reallocate.proofs.Reallocate.FirstPlan.{StandsFor-unchanged}
 use Rattle.rlsf_tlsf.specs.Steps.Moves.{bare}
 use Rattle.rlsf_tlsf.proofs.Arrivals.{arrived}
 use Rattle.rlsf_heap.specs.Heap.{AreIssued, HeapView, Identity}
-use Rattle.rlsf_heap.specs.Units.{payload_len}
+use Rattle.rlsf_heap.specs.Units.{heap_of_tail, payload_len}
 use Rattle.rlsf_heap.proofs.Arrivals.{IsHeap-arrived, Steps-arrived, bare-kept, stepped, view_well_formed}
+use Rattle.rlsf_heap.proofs.Costs.{Leaves, is_of_heap, left_costs, left_same, left_then, sees_left}
 use Rattle.rlsf_heap.proofs.Kept.{beside-seen, raw-seen, raw-tail, same-byte, spare-first, spare-last, spare-same, spare-seen}
 use Rattle.rlsf_heap.proofs.UnitPayloads.{payload_len-whole}
 use Rattle.rlsf_heap.proofs.UnitTails as tails
@@ -178,50 +179,8 @@ invariant_of-self g c =
     (subst (AreIssued (before g d)) (entries g c) (tails.issued-again d.self.invariant.stands d.self.invariant.tickets d.args.tail.key d.args.tail.start d.args.tail.len
     d.put_unit_tail-block.ensures.issued)) c.self.inside.live c.self.invariant.counted
 
-pub returns-then-not-resize_kept_block-clause-step : goal.returns-then-not-resize_kept_block-clause-step
-returns-then-not-resize_kept_block-clause-step g c =
-    let d = put-of g c in
-    let step : ReallocatesWithoutMove (before g d) c.args.tail.start c.args.size None (before g d) = record {
-      block = block g d;
-      holds = (
-        tails.listed d.self.invariant.stands d.self.invariant.tickets d.args.tail.key d.args.tail.start d.args.tail.len
-            d.put_unit_tail-block.ensures.issued,
-        tails.there d.self.invariant.stands d.self.invariant.tickets d.args.tail.key d.args.tail.start d.args.tail.len
-            d.put_unit_tail-block.ensures.issued,
-      );
-      step = subst (λ o. ReallocatesUnmovedBy (before g d) (block g d) o None (before g d)) (sym (refused g c)) refl;
-    } in
-    Steps-arrived (stood g c) c.self.inside.state.state (bared g c) c.issue-ticket.new.self.name
-    (ReallocatesWithoutMove c.args.self.now.state c.args.tail.start c.args.size None)
-    (stepped (stood g c) c.self.inside.state.state (bared g c) c.self.inside.memory c.self.inside.state.state c.args.self.now c.self.view_is
-    (λ o t. ReallocatesWithoutMove o c.args.tail.start c.args.size None t) step)
-
-pub returns-then-not-resize_kept_block-clause-there : goal.returns-then-not-resize_kept_block-clause-there
-returns-then-not-resize_kept_block-clause-there g c =
-    let d = put-of g c in let e = c.take_unit_tail.ensures.place in
-    let start : c.take_unit_tail.result.start ≡ c.args.tail.start = e.1 ∙ at g d in
-    let view : c.take_unit_tail.result.home.view ≡ c.args.tail.home.view = ap (λ (h : Home). h.view) e.0 ∙ c.resize_kept_block.ensures.costs.view ∙ viewed g d in
-    (start, c.take_unit_tail.result.placed.at ∙ (λ i. pointer_to (view i) (start i)) ∙ sym c.args.tail.placed.at)
-
-pub returns-then-not-resize_kept_block-clause-shrinks : goal.returns-then-not-resize_kept_block-clause-shrinks
-returns-then-not-resize_kept_block-clause-shrinks g c = let d = put-of g c in λ shorter. absurd
-    (tails.shrinks d.self.invariant.stands d.self.invariant.tickets d.args.tail.key d.args.tail.start d.args.tail.len
-    d.put_unit_tail-block.ensures.issued c.args.size shorter (refused g c))
-
 same : (g : given.Over) (c : After-take_unit_tail g) → read_from c.take_unit_tail.new.self c.self.inside.state.state ≡ c.args.self.now.state
 same g c = arrived (stood g c) c.self.inside.state.state (bared g c) ∙ ap (λ (o : HeapView). o.state) c.self.view_is
-
-pub returns-then-not-resize_kept_block-clause-aligns : goal.returns-then-not-resize_kept_block-clause-aligns
-returns-then-not-resize_kept_block-clause-aligns g c = ap align_at (same g c)
-
-pub returns-then-not-resize_kept_block-clause-count : goal.returns-then-not-resize_kept_block-clause-count
-returns-then-not-resize_kept_block-clause-count g c = ap live_count (same g c)
-
-pub returns-then-not-resize_kept_block-clause-bounds : goal.returns-then-not-resize_kept_block-clause-bounds
-returns-then-not-resize_kept_block-clause-bounds g c = λ count most align sized short wide. subst (IsSizedFor g.row.SLLEN count most align) (sym (same g c)) sized
-
-pub returns-then-not-resize_kept_block-clause-same : goal.returns-then-not-resize_kept_block-clause-same
-returns-then-not-resize_kept_block-clause-same g c = same g c
 
 left_as : (g : given.Over) (c : After-take_unit_tail g) → (c.take_unit_tail.new.self.start ≡ c.self.inside.memory.start)
     × (c.take_unit_tail.new.self.bytes ≡ c.self.inside.memory.bytes)
@@ -230,28 +189,73 @@ left_as g c =
     let counts = (c.resize_kept_block.ensures.unchanged c.if-not-resize_kept_block.true).0 in
     (e.start ∙ counts.start ∙ put.start, e.bytes ∙ counts.bytes ∙ put.bytes)
 
-pub returns-then-not-resize_kept_block-clause-raw : goal.returns-then-not-resize_kept_block-clause-raw
-returns-then-not-resize_kept_block-clause-raw g c =
-    let d = put-of g c in let put = c.put_unit_tail-block.ensures in let e = c.take_unit_tail.ensures in
-    let across : Stays c.put_unit_tail-block.new.self c.resize_kept_block.new.memory =
-    record { start = c.resize_kept_block.ensures.costs.start; own = c.resize_kept_block.ensures.own; here = c.resize_kept_block.ensures.here } in
-    let inside = tails.lies d.self.invariant.stands d.self.invariant.tickets d.args.tail.key d.args.tail.start d.args.tail.len put.issued in
-    raw-seen c.self.inside.memory c.take_unit_tail.new.self c.self.inside.state.state c.self.inside.state.state c.args.self.now c.self.view_is
-    c.resize_kept_block.new.table c.issue-ticket.new.self.name (range_at c.args.tail.start c.args.tail.len)
-    (raw-tail c.self.inside.memory c.put_unit_tail-block.new.self c.resize_kept_block.new.memory c.take_unit_tail.new.self c.args.tail.start c.args.tail.kept c.args.tail.len
-    c.args.tail.within.0 inside.0 put.start put.out across _ e.start (omega (arith, inside, at g d, put.start, across.start)) e.out)
+-- the memory before these units leave
+left : (g : given.Over) (d : After-put_unit_tail-block g) → Leaves d.self.inside.memory d.put_unit_tail-block.new.self 1
+left g d =
+    let e = d.put_unit_tail-block.ensures in
+    record { start = e.start; length = ap length e.bytes; view = e.view; touches = omega (arith, e.touches); grow = omega (arith, e.touches) }
 
-pub returns-then-not-resize_kept_block-clause-unchanged : goal.returns-then-not-resize_kept_block-clause-unchanged
-returns-then-not-resize_kept_block-clause-unchanged g c =
-    let m = c.self.inside.memory in let n = c.take_unit_tail.new.self in
-    beside-seen m n c.self.inside.state.state c.self.inside.state.state c.args.self.now c.self.view_is c.resize_kept_block.new.table c.issue-ticket.new.self.name
-    (range_at c.args.tail.start c.args.tail.len) (λ a from to side. same-byte m n (left_as g c).0 (left_as g c).1 a)
-
-pub returns-then-not-resize_kept_block-clause-spare : goal.returns-then-not-resize_kept_block-clause-spare
-returns-then-not-resize_kept_block-clause-spare g c =
-    let m = c.self.inside.memory in let n = c.take_unit_tail.new.self in let k = c.self.inside.state.state in
-    spare-seen m n k k (spare-same m n k k (left_as g c).0 (left_as g c).1) k k refl refl c.args.self.now c.self.view_is c.resize_kept_block.new.table
-    c.issue-ticket.new.self.name
+pub returns-then-not-resize_kept_block : goal.returns-then-not-resize_kept_block
+returns-then-not-resize_kept_block g c =
+    let k = c.self.inside.state.state in
+    let e = c.take_unit_tail.ensures in
+    let put = c.put_unit_tail-block.ensures in
+    let costs = c.resize_kept_block.ensures.costs in
+    let first = left_then (left g (put-of g c)) (left_costs costs) in
+    let o = sees_left c.self.inside.memory c.take_unit_tail.new.self c.self.inside.table c.resize_kept_block.new.table k k c.self.inside.ledger.name
+    c.issue-ticket.new.self.name 25 (left_then first (left_same e.start (ap length e.bytes) e.view e.touches)) (c.issue-ticket.ensures.name.1 ∙ put.ledger.0)
+    c.args.self.now c.self.view_is in record {
+      step = let d = put-of g c in
+          let step : ReallocatesWithoutMove (before g d) c.args.tail.start c.args.size None (before g d) = record {
+            block = block g d;
+            holds = (
+              tails.listed d.self.invariant.stands d.self.invariant.tickets d.args.tail.key d.args.tail.start d.args.tail.len
+                  d.put_unit_tail-block.ensures.issued,
+              tails.there d.self.invariant.stands d.self.invariant.tickets d.args.tail.key d.args.tail.start d.args.tail.len
+                  d.put_unit_tail-block.ensures.issued,
+            );
+            step = subst (λ o. ReallocatesUnmovedBy (before g d) (block g d) o None (before g d)) (sym (refused g c)) refl;
+          } in
+          Steps-arrived (stood g c) c.self.inside.state.state (bared g c) c.issue-ticket.new.self.name
+          (ReallocatesWithoutMove c.args.self.now.state c.args.tail.start c.args.size None)
+          (stepped (stood g c) c.self.inside.state.state (bared g c) c.self.inside.memory c.self.inside.state.state c.args.self.now c.self.view_is
+          (λ o t. ReallocatesWithoutMove o c.args.tail.start c.args.size None t) step);
+      identity = o.identity;
+      heap = is_of_heap c.self.inside.memory c.resize_kept_block.new.memory c.self.inside.table k c.self.inside.ledger.name c.issue-ticket.result.name 25 first
+          (c.issue-ticket.ensures.name.0 ∙ put.ledger.0) c.args.self.now c.self.view_is c.take_unit_tail.result.home e.place.0 (heap_of_tail c.take_unit_tail.result)
+          (λ i. record { home = c.take_unit_tail.result.home; ledger = e.ticket.0 i });
+      there = let d = put-of g c in let e = c.take_unit_tail.ensures.place in
+          let start : c.take_unit_tail.result.start ≡ c.args.tail.start = e.1 ∙ at g d in
+          let view : c.take_unit_tail.result.home.view ≡ c.args.tail.home.view = ap (λ (h : Home). h.view) e.0 ∙ c.resize_kept_block.ensures.costs.view ∙ viewed g d in
+          (start, c.take_unit_tail.result.placed.at ∙ (λ i. pointer_to (view i) (start i)) ∙ sym c.args.tail.placed.at);
+      kept = omega (arith, e.place.3, c.lesser-kept.ensures, c.payload_len-wanted.ensures, c.requires.len, c.requires.kept);
+      long = e.place.2 ∙ c.requires.len;
+      shrinks = let d = put-of g c in λ shorter. absurd
+          (tails.shrinks d.self.invariant.stands d.self.invariant.tickets d.args.tail.key d.args.tail.start d.args.tail.len
+          d.put_unit_tail-block.ensures.issued c.args.size shorter (refused g c));
+      aligns = ap align_at (same g c);
+      count = ap live_count (same g c);
+      bounds = λ count most align sized short wide. subst (IsSizedFor g.row.SLLEN count most align) (sym (same g c)) sized;
+      chunks = ap (λ (s : State). s.chunks) (same g c);
+      same = same g c;
+      raw = let d = put-of g c in let put = c.put_unit_tail-block.ensures in let e = c.take_unit_tail.ensures in
+          let across : Stays c.put_unit_tail-block.new.self c.resize_kept_block.new.memory =
+          record { start = c.resize_kept_block.ensures.costs.start; own = c.resize_kept_block.ensures.own; here = c.resize_kept_block.ensures.here } in
+          let inside = tails.lies d.self.invariant.stands d.self.invariant.tickets d.args.tail.key d.args.tail.start d.args.tail.len put.issued in
+          raw-seen c.self.inside.memory c.take_unit_tail.new.self c.self.inside.state.state c.self.inside.state.state c.args.self.now c.self.view_is
+          c.resize_kept_block.new.table c.issue-ticket.new.self.name (range_at c.args.tail.start c.args.tail.len)
+          (raw-tail c.self.inside.memory c.put_unit_tail-block.new.self c.resize_kept_block.new.memory c.take_unit_tail.new.self c.args.tail.start c.args.tail.kept
+          c.args.tail.len c.args.tail.within.0 inside.0 put.start put.out across _ e.start (omega (arith, inside, at g d, put.start, across.start)) e.out);
+      unchanged = let m = c.self.inside.memory in let n = c.take_unit_tail.new.self in
+          beside-seen m n c.self.inside.state.state c.self.inside.state.state c.args.self.now c.self.view_is c.resize_kept_block.new.table c.issue-ticket.new.self.name
+          (range_at c.args.tail.start c.args.tail.len) (λ a from to side. same-byte m n (left_as g c).0 (left_as g c).1 a);
+      spare = let m = c.self.inside.memory in let n = c.take_unit_tail.new.self in let k = c.self.inside.state.state in
+          spare-seen m n k k (spare-same m n k k (left_as g c).0 (left_as g c).1) k k refl refl c.args.self.now c.self.view_is c.resize_kept_block.new.table
+          c.issue-ticket.new.self.name;
+      touches = o.touches;
+      grow = o.grow;
+      copied = omega (arith, e.copied, costs.copied, put.copied, ap (λ (v : HeapView). v.memory.copied) c.self.view_is);
+    }
 
 -- ---- the payload has the other size
 
@@ -416,56 +420,59 @@ seen : (g : given.Over) (c : After-take_unit_tail-2 g) → SeesResized c.args.se
 seen g c = resized_seen (well g c) (now-2 g c) c.args.tail.start c.args.size 16 c.take_unit_tail-2.result.start
     (align_at-live c.args.self.now.state c.args.tail.start 16 (live g c)) (moves g c)
 
-pub returns-clause-step : goal.returns-clause-step
-returns-clause-step g c =
-    Steps-arrived (stood-2 g c) c.reallocate.new.self.state (bared-2 g c) c.issue-ticket-2.new.self.name
-    (ReallocatesWithoutMove c.args.self.now.state c.args.tail.start c.args.size (Some c.take_unit_tail-2.result.start)) (did g c)
-
-pub returns-clause-there : goal.returns-clause-there
-returns-clause-there g c =
-    let d = first-of g c in let e = c.take_unit_tail-2.ensures.place in
-    let view : c.take_unit_tail-2.result.home.view ≡ c.args.tail.home.view = ap (λ (h : Home). h.view) e.0 ∙ c.resize_kept_block.ensures.costs.view ∙ viewed g d in
-    (start-2 g c, c.take_unit_tail-2.result.placed.at ∙ (λ i. pointer_to (view i) (start-2 g c i)) ∙ sym c.args.tail.placed.at)
-
 aligned_at : (g : given.Over) (c : After-take_unit_tail-2 g) (a : ℕ) → align_at (now-2 g c) a ≡ align_at c.args.self.now.state a
 aligned_at g c a = elim (cases_eq a c.args.tail.start) [
   | inl is ↦ ap (align_at (now-2 g c)) (is ∙ sym (start-2 g c)) ∙ (seen g c).live ∙ sym (ap (align_at c.args.self.now.state) is ∙ live g c)
   | inr apart ↦ (seen g c).aligns a apart (λ is. apart (is ∙ start-2 g c))
 ]
 
-pub returns-clause-aligns : goal.returns-clause-aligns
-returns-clause-aligns g c = λ i a. aligned_at g c a i
-
-pub returns-clause-count : goal.returns-clause-count
-returns-clause-count g c =
-    let (u, holds, is) = align_at-live c.args.self.now.state c.args.tail.start 16 (live g c) in
-    count_resized (well g c) (now-2 g c) c.args.tail.start c.args.size (Some c.take_unit_tail-2.result.start) (u, holds) (moves g c)
-
-pub returns-clause-bounds : goal.returns-clause-bounds
-returns-clause-bounds g c = λ count most align sized short wide.
-    sized_resized (well g c) (now-2 g c) count most align sized c.args.tail.start c.args.size 16 (Some c.take_unit_tail-2.result.start) (live g c) short wide (moves g c)
-
-pub returns-clause-chunks : goal.returns-clause-chunks
-returns-clause-chunks g c = chunks-reallocated g.row.SLLEN c.args.self.now.state (now-2 g c) c.args.tail.start c.args.size (Some c.take_unit_tail-2.result.start) (moves g c)
-
-pub returns-clause-raw : goal.returns-clause-raw
-returns-clause-raw g c =
-    let d = first-of g c in let put = c.put_unit_tail-block.ensures in let e = c.take_unit_tail-2.ensures in
-    let across : Stays c.put_unit_tail-block.new.self c.resize_kept_block.new.memory =
-    record { start = c.resize_kept_block.ensures.costs.start; own = c.resize_kept_block.ensures.own; here = c.resize_kept_block.ensures.here } in
-    let inside = tails.lies d.self.invariant.stands d.self.invariant.tickets d.args.tail.key d.args.tail.start d.args.tail.len put.issued in
-    raw-seen c.self.inside.memory c.take_unit_tail-2.new.self c.self.inside.state.state c.reallocate.new.self.state c.args.self.now c.self.view_is
-    c.resize_kept_block.new.table c.issue-ticket-2.new.self.name (range_at c.args.tail.start c.args.tail.len)
-    (raw-tail c.self.inside.memory c.put_unit_tail-block.new.self c.resize_kept_block.new.memory c.take_unit_tail-2.new.self c.args.tail.start c.args.tail.kept c.args.tail.len
-    c.args.tail.within.0 inside.0 put.start put.out across _ e.start (omega (arith, inside, at g d, put.start, across.start)) e.out)
-
-pub returns-clause-spare : goal.returns-clause-spare
+pub returns : goal.returns
 unfolding after
-returns-clause-spare g c =
-    let d = first-of g c in let put = c.put_unit_tail-block.ensures in let e = c.take_unit_tail-2.ensures in
-    let m = c.self.inside.memory in let n = c.put_unit_tail-block.new.self in
-    let o = c.resize_kept_block.new.memory in let q = c.take_unit_tail-2.new.self in
-    spare-seen m q (before g d) (after g c)
-    (spare-last m o q (before g d) (after g c) e.start e.bytes (spare-first m n o (before g d) (after g c) put.start put.bytes (made g c).3.3))
-    c.self.inside.state.state c.reallocate.new.self.state refl (sym (ap (λ (s : State). s.chunks) (bared-2 g c))) c.args.self.now c.self.view_is
-    c.resize_kept_block.new.table c.issue-ticket-2.new.self.name
+returns g c =
+    let k = c.self.inside.state.state in
+    let e = c.take_unit_tail-2.ensures in
+    let put = c.put_unit_tail-block.ensures in
+    let costs = c.resize_kept_block.ensures.costs in
+    let first = left_then (left g (first-of g c)) (left_costs costs) in
+    let o = sees_left c.self.inside.memory c.take_unit_tail-2.new.self c.self.inside.table c.resize_kept_block.new.table k c.reallocate.new.self.state c.self.inside.ledger.name
+    c.issue-ticket-2.new.self.name 25 (left_then first (left_same e.start (ap length e.bytes) e.view e.touches)) (c.issue-ticket-2.ensures.name.1 ∙ put.ledger.0)
+    c.args.self.now c.self.view_is in record {
+      step = Steps-arrived (stood-2 g c) c.reallocate.new.self.state (bared-2 g c) c.issue-ticket-2.new.self.name
+          (ReallocatesWithoutMove c.args.self.now.state c.args.tail.start c.args.size (Some c.take_unit_tail-2.result.start)) (did g c);
+      identity = o.identity;
+      heap = is_of_heap c.self.inside.memory c.resize_kept_block.new.memory c.self.inside.table k c.self.inside.ledger.name c.issue-ticket-2.result.name 25 first
+          (c.issue-ticket-2.ensures.name.0 ∙ put.ledger.0) c.args.self.now c.self.view_is c.take_unit_tail-2.result.home e.place.0 (heap_of_tail c.take_unit_tail-2.result)
+          (λ i. record { home = c.take_unit_tail-2.result.home; ledger = e.ticket.0 i });
+      there = let d = first-of g c in let e = c.take_unit_tail-2.ensures.place in
+          let view : c.take_unit_tail-2.result.home.view ≡ c.args.tail.home.view = ap (λ (h : Home). h.view) e.0 ∙ c.resize_kept_block.ensures.costs.view ∙ viewed g d in
+          (start-2 g c, c.take_unit_tail-2.result.placed.at ∙ (λ i. pointer_to (view i) (start-2 g c i)) ∙ sym c.args.tail.placed.at);
+      kept = omega (arith, e.place.3, c.lesser-kept.ensures, c.payload_len-wanted.ensures, c.requires.len, c.requires.kept);
+      long = e.place.2 ∙ c.payload_len-wanted.ensures;
+      shrinks = λ shorter. refl;
+      aligns = λ i a. aligned_at g c a i;
+      count = let (u, holds, is) = align_at-live c.args.self.now.state c.args.tail.start 16 (live g c) in
+          count_resized (well g c) (now-2 g c) c.args.tail.start c.args.size (Some c.take_unit_tail-2.result.start) (u, holds) (moves g c);
+      bounds = λ count most align sized short wide.
+          sized_resized (well g c) (now-2 g c) count most align sized c.args.tail.start c.args.size 16 (Some c.take_unit_tail-2.result.start) (live g c) short wide (moves g c);
+      chunks = chunks-reallocated g.row.SLLEN c.args.self.now.state (now-2 g c) c.args.tail.start c.args.size (Some c.take_unit_tail-2.result.start) (moves g c);
+      same = tt;
+      raw = let d = first-of g c in let put = c.put_unit_tail-block.ensures in let e = c.take_unit_tail-2.ensures in
+          let across : Stays c.put_unit_tail-block.new.self c.resize_kept_block.new.memory =
+          record { start = c.resize_kept_block.ensures.costs.start; own = c.resize_kept_block.ensures.own; here = c.resize_kept_block.ensures.here } in
+          let inside = tails.lies d.self.invariant.stands d.self.invariant.tickets d.args.tail.key d.args.tail.start d.args.tail.len put.issued in
+          raw-seen c.self.inside.memory c.take_unit_tail-2.new.self c.self.inside.state.state c.reallocate.new.self.state c.args.self.now c.self.view_is
+          c.resize_kept_block.new.table c.issue-ticket-2.new.self.name (range_at c.args.tail.start c.args.tail.len)
+          (raw-tail c.self.inside.memory c.put_unit_tail-block.new.self c.resize_kept_block.new.memory c.take_unit_tail-2.new.self c.args.tail.start c.args.tail.kept
+          c.args.tail.len c.args.tail.within.0 inside.0 put.start put.out across _ e.start (omega (arith, inside, at g d, put.start, across.start)) e.out);
+      unchanged = tt;
+      spare = let d = first-of g c in let put = c.put_unit_tail-block.ensures in let e = c.take_unit_tail-2.ensures in
+          let m = c.self.inside.memory in let n = c.put_unit_tail-block.new.self in
+          let o = c.resize_kept_block.new.memory in let q = c.take_unit_tail-2.new.self in
+          spare-seen m q (before g d) (after g c)
+          (spare-last m o q (before g d) (after g c) e.start e.bytes (spare-first m n o (before g d) (after g c) put.start put.bytes (made g c).3.3))
+          c.self.inside.state.state c.reallocate.new.self.state refl (sym (ap (λ (s : State). s.chunks) (bared-2 g c))) c.args.self.now c.self.view_is
+          c.resize_kept_block.new.table c.issue-ticket-2.new.self.name;
+      touches = o.touches;
+      grow = o.grow;
+      copied = omega (arith, e.copied, costs.copied, put.copied, ap (λ (v : HeapView). v.memory.copied) c.self.view_is);
+    }
