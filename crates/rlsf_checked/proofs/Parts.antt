@@ -45,6 +45,14 @@ pub record IsUpTo (s : State) (run : Range) (addr at : ℕ) : Type 0 where
   pub high : at ≤ end_of run
   pub past : addr < at → IsCut s addr → ⊥
 
+-- it goes on at the end of the chunk that begins where it is
+pub record GoesOn (s : State) (run : Range) (addr at : ℕ) : Type 0 where
+  pub chunk : Range
+  pub is_chunk : IsIn chunk s.chunks
+  pub begins : chunk.start ≡ at
+  pub upto : IsUpTo s run addr (end_of chunk)
+  pub more : at < end_of chunk
+
 -- a search for the run of an address goes on at `from`, and no chunk before that has the address
 pub record IsSearched (s : State) (addr from end : ℕ) : Type 0 where
   pub start : IsStart s from end
@@ -134,6 +142,11 @@ module _ {fllen sllen : ℕ} {memory : Range} {s : State} (w : IsWellFormed flle
           high = omega (arith, up_to, ap (λ (x : Range). end_of x) is_d);
           past = λ less cut. elim (cut c i) [ inl before ↦ absurd (omega (arith, before, less)) | inr behind ↦ absurd (omega (arith, behind, same, more)) ];
         }
+
+    pub goes_on : (at : ℕ) → IsUpTo s run addr at → at < addr → GoesOn s run addr at
+    goes_on at upto more =
+        let (c, i, same) = chunk_here at upto more in
+        record { chunk = c; is_chunk = i; begins = same; upto = next at upto more c i same; more = omega (arith, (w.chunks c i).has_room, same) }
 
   -- ---- the run that has the start of a range, and the range
 

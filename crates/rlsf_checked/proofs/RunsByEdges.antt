@@ -8,14 +8,24 @@ use Rattle.rlsf_base.proofs.Numbers.Roundings.{round32-le}
 use Rattle.rlsf_blocks.specs.Blocks.{walked}
 use Rattle.rlsf_model.specs.ChunkRows.{IsRow}
 use Rattle.rlsf_model.specs.Lists.{IsIn}
+use Rattle.rlsf_model.specs.State.{State}
 use Rattle.rlsf_model.specs.WellFormed.{IsWellFormed, IsWhole, coverage, covers, itself}
 use Rattle.rlsf_model.proofs.Coverage.{before, behind, coverage-IsIn, coverage-some, covers-before, covers-behind, covers-inside, inside, where_is}
 use Rattle.rlsf_tlsf.specs.Allocator.{Allocator, Stands}
 use Rattle.rlsf_checked.specs.declared.marks.Marks.{Marks}
 use Rattle.rlsf_checked.specs.Steps.Marks.{IsNextEdge, edge_at}
-use Rattle.rlsf_checked.specs.Steps.Runs.{IsNextRun, IsStart}
+use Rattle.rlsf_checked.specs.Steps.Runs.{IsNextRun, IsStart, Starts}
 use Rattle.rlsf_checked.specs.Steps.Standing.{IsChecked, in_chunks}
 use Rattle.rlsf_checked.proofs.Edges.{in_chunks-behind}
+
+-- where a search may begin, by both names
+pub starts : {s : State} {from end : ℕ} → IsStart s from end → Starts s from end
+unfolding Starts
+starts is = is
+
+pub started : {s : State} {from end : ℕ} → Starts s from end → IsStart s from end
+unfolding Starts
+started is = is
 
 -- ranges of complete units of 32 bytes have all of a unit or none of it
 covers-unit : (c : Range) → IsWhole c → (a b : ℕ) → b % 32 ≡ 0 → b ≤ a → a < b + 32 → covers c a ≡ covers c b

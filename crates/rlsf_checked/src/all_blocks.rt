@@ -25,9 +25,9 @@ impl<
         let mut from = start;
         let mut sum = NO_TOTALS;
         while from < end {
-            let run = self.next_run(from, end);
-            sum = joined(sum, totals_of(self.heap.iter_blocks(run.range)));
-            from = run.next;
+            let (blocks, next) = self.next_blocks(from, end);
+            sum = joined(sum, totals_of(blocks));
+            from = next;
         }
         sum
     }
@@ -44,9 +44,9 @@ impl<
         let mut place = start;
         let mut count = 0;
         while place < end {
-            let run = self.next_run(place, end);
-            count = list_more(self.heap.iter_blocks(run.range), from, into, count);
-            place = run.next;
+            let (blocks, next) = self.next_blocks(place, end);
+            count = list_more(blocks, from, into, count);
+            place = next;
         }
         count
     }
@@ -59,11 +59,11 @@ impl<
         let (start, end) = self.bounds_of_runs();
         let mut place = start;
         while place < end {
-            let run = self.next_run(place, end);
-            if let Some(block) = first_of(self.heap.iter_blocks(run.range), from) {
+            let (blocks, next) = self.next_blocks(place, end);
+            if let Some(block) = first_of(blocks, from) {
                 return Some(block);
             }
-            place = run.next;
+            place = next;
         }
         None
     }

@@ -123,6 +123,7 @@ impl<
     /// Returns the alignment of the payload at an address, or `None` if none is live there.
     pub(crate) fn alignment(&self, addr: Addr) -> Option<usize>
         ensures value { result ≡ align_at self.now.heap.state (at addr) }
+        ensures live { IfSome result (λ align. IsSome (align_at self.now.heap.state (at addr))) }
         ensures power { IfSome result (λ align. IsPowerOfTwo align) }
     {
         let mark = self.marks.get(addr.get());

@@ -4,13 +4,15 @@ ghost use Rattle.std.specs.Prelude.{◌≡◌, ◌↔◌, ◌^◌, ◌<◌, ◌�
 ghost use Rattle.rlsf_base.specs.Range.{end_of};
 ghost use Rattle.rlsf_base.specs.Space.{range_of};
 ghost use Rattle.rlsf_model.specs.ChunkRows.{IsRow};
+ghost use Rattle.rlsf_tlsf.specs.Allocator.{Stands};
 ghost use Rattle.rlsf_checked.specs.Removal.{AreChunks};
-ghost use Rattle.rlsf_checked.specs.Steps.Runs.{IsCut, IsNextRun, IsRunOf, IsStart};
+ghost use Rattle.rlsf_checked.specs.Steps.Runs.{AreNext, IsCut, IsNextRun, IsRunOf, Starts};
 ghost use Rattle.rlsf_checked.specs.Steps.Standing.{in_chunks};
 
 use crate::checked::{CheckedTlsf, lies_in};
 use rlsf_base::memory::Range;
 use rlsf_base::rounding::next_multiple_of_32;
+use rlsf_blocks::Blocks;
 use rlsf_int::BitPattern;
 
 /// A run of contiguous chunks, and where the search for the next one begins.
@@ -28,7 +30,8 @@ impl<
 > CheckedTlsf<FLBitmap, SLBitmap, FLLEN, SLLEN> {
     /// Returns where the search for runs begins, and where it ends.
     pub(crate) fn bounds_of_runs(&self) -> (usize, usize)
-        ensures start { IsStart self.now.heap.state result.0 result.1 }
+        ensures stands { Stands FLLEN SLLEN self.now.heap }
+        ensures start { Starts self.now.heap.state result.0 result.1 }
         ensures low { result.0 ≤ self.now.heap.memory.start }
         ensures high { result.1 < 2 ^ 64 }
     {
@@ -39,7 +42,7 @@ impl<
 
     /// Returns the first run from an address on, where no run is underway. The run is empty if there is none.
     pub(crate) fn next_run(&self, from: usize, end: usize) -> Run
-        requires start { IsStart self.now.heap.state from end }
+        requires start { Starts self.now.heap.state from end }
         requires order { from < end }
         ensures { IsNextRun self.now.heap.state from end result.range result.next }
     {
@@ -60,13 +63,21 @@ impl<
         }
     }
 
+    /// Returns the blocks of the first run from an address on, where no run is underway, and where the search for the next one begins.
+    pub(crate) fn next_blocks(&self, from: usize, end: usize) -> (Blocks<'_>, usize)
+        requires start { Starts self.now.heap.state from end }
+        requires order { from < end }
+        ensures { AreNext self.now.heap.state from end result.0 result.1 }
+    {
+        let run = self.next_run(from, end);
+        (self.heap.iter_blocks(run.range), run.next)
+    }
+
     /// Returns the run that has an address, or an empty range if no chunk has it.
     fn run_of(&self, addr: usize) -> Range
         ensures run { IsRunOf self.now.heap.state addr result }
         ensures fits { end_of result < 2 ^ 64 }
     {
-        // What the type keeps of each allocator.
-        let _ = &self.heap;
         let (start, end) = self.bounds_of_runs();
         let mut from = start;
         while from < end {
@@ -90,8 +101,8 @@ impl<
         requires high { addr ≤ end_of run }
         ensures { (result ≡ true) ↔ IsCut self.now.heap.state addr }
     {
-        // What the type keeps of each allocator.
-        let _ = &self.heap;
+        // What it says of each allocator: that it represents its state.
+        let _ = self.memory_ref();
         let mut end = run.start;
         while end < addr {
             end = self.heap.chunk_end(end);
@@ -103,7 +114,8 @@ impl<
     pub(crate) fn are_chunks(&self, range: Range) -> bool
         ensures { (result ≡ true) ↔ AreChunks (range_of self.now.heap.memory) self.now.heap.state range }
     {
-        if range.len < 64 || !lies_in(self.heap.memory_ref(), range) {
+        let memory = self.memory_ref();
+        if range.len < 64 || !lies_in(memory, range) {
             return false;
         }
         let start = next_multiple_of_32(range.start);

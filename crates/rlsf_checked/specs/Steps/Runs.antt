@@ -16,6 +16,10 @@ pub record IsStart (s : State) (from end : ℕ) : Type 0 where
   pub outside : from < end → in_chunks s (from - 1) ≡ 0
   pub below : (c : Range) → IsIn c s.chunks → end_of c ≤ end
 
+-- the same by a name that no search takes apart
+unfoldable pub Starts : State → ℕ → ℕ → Type 0
+Starts s from end = IsStart s from end
+
 -- The range r is complete contiguous chunks, or empty. From `from` up to `next`, no other address is in a chunk. The search goes on at `next`
 pub record IsNextRun (s : State) (from end : ℕ) (r : Range) (next : ℕ) : Type 0 where
   pub row : IsRow s (walked r)
@@ -26,6 +30,12 @@ pub record IsNextRun (s : State) (from end : ℕ) (r : Range) (next : ℕ) : Typ
   pub behind : (a : ℕ) → end_of r ≤ a → a < next → in_chunks s a ≡ 0
   pub progress : from < next
   pub left : IsStart s next end
+
+-- the blocks of that range
+pub record AreNext (s : State) (from end : ℕ) (bs : List Block) (next : ℕ) : Type 0 where
+  pub range : Range
+  pub run : IsNextRun s from end range next
+  pub blocks : AreBlocks s (walked range) bs
 
 -- the blocks before an address from which the search goes on
 pub record AreUpTo (s : State) (from end : ℕ) (bs : List Block) : Type 0 where

@@ -1,4 +1,4 @@
-use Rattle.std.proofs.Common.{◌^◌, ◌-◌, Some, arith, sym, ◌∙◌, ap, subst}
+use Rattle.std.proofs.Common.{◌^◌, ◌-◌, Some, IsSome, arith, refl, sym, ◌∙◌, ap, subst}
 use Rattle.rlsf_base.specs.PowerOfTwo.{IsPowerOfTwo}
 use Rattle.rlsf_model.specs.Callers.{align_at}
 use Rattle.rlsf_checked.proofs.FieldsOverSteps.{marked_as}
@@ -14,6 +14,9 @@ returns g c = record {
   value = rw (← c.self.view_is) (
       let (is, some, few, power) = marked_as c.self.invariant c.get.result (λ e. c.if-mark-eq0.false (c.get-mark.ensures ∙ e)) in
       ap Some (c.align_of.ensures ∙ ap (λ n. 2 ^ (n - 1)) c.get-mark.ensures) ∙ sym is ∙ ap (align_at c.self.inside.heap.state) c.get.ensures.value);
+  live = rw (← c.self.view_is) (
+      let (is, some, few, power) = marked_as c.self.invariant c.get.result (λ e. c.if-mark-eq0.false (c.get-mark.ensures ∙ e)) in
+      subst IsSome (sym is ∙ ap (align_at c.self.inside.heap.state) c.get.ensures.value) refl);
   power =
       let (is, some, few, power) = marked_as c.self.invariant c.get.result (λ e. c.if-mark-eq0.false (c.get-mark.ensures ∙ e)) in
       subst IsPowerOfTwo (sym (c.align_of.ensures ∙ ap (λ n. 2 ^ (n - 1)) c.get-mark.ensures)) power;

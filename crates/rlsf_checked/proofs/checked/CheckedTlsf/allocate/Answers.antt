@@ -1,6 +1,6 @@
 use Rattle.std.proofs.Common.{◌≡◌, suc, refl, sym, ◌∙◌, ap, subst}
 use Rattle.rlsf_base.specs.Addr.{at}
-use Rattle.rlsf_base.specs.PowerOfTwo.{floor_log2}
+use Rattle.rlsf_base.specs.PowerOfTwo.{IsPowerOfTwo, floor_log2}
 use Rattle.rlsf_model.specs.Callers.{align_at}
 use Rattle.rlsf_checked.specs.Steps.Marks.{HasMark, mark_at, mark_of}
 use Rattle.rlsf_checked.proofs.FieldsOverSteps.{has_mark, marked_at, stands_after, unchanged}
@@ -10,6 +10,9 @@ pub invariant_of-self : goal.invariant_of-self
 invariant_of-self g c =
     let did = c.in_default.ensures in
     unchanged c.self.invariant c.allocate.new.self (stands_after _ _ _ _ _ did.step) did.place did.chunks (ap align_at did.same)
+
+pub mark_of-requires : goal.mark_of-requires
+mark_of-requires g c = subst IsPowerOfTwo (sym c.align.ensures.value) c.args.layout.valid.aligned
 
 pub set-requires : goal.set-requires
 set-requires g c =

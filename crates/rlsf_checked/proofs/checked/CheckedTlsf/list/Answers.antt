@@ -1,31 +1,24 @@
 use Rattle.std.proofs.Common.{[], ◌++◌, arith}
-use Rattle.rlsf_base.specs.Space.{range_of}
-use Rattle.rlsf_blocks.specs.Blocks.{AreBlocks, walked}
-use Rattle.rlsf_model.specs.ChunkRows.{IsRow}
-use Rattle.rlsf_model.specs.WellFormed.{IsWellFormed}
 use Rattle.rlsf_checked.proofs.Gathered.{all_of_them, none_yet, one_more_run}
 use Rattle.rlsf_blocks.proofs.Walking.Listing.{no_listing}
-use Rattle.rlsf_checked.proofs.RunsByEdges.{well_formed}
+use Rattle.rlsf_tlsf.proofs.Arrivals.{well_formed}
+use Rattle.rlsf_checked.proofs.RunsByEdges.{started, starts}
 use Rattle.rlsf_checked.proofs.checked.CheckedTlsf.list.Goals as goal
 
 pub loop-place-init : goal.loop-place-init
 loop-place-init g c =
-    let w : IsWellFormed g.row.FLLEN g.row.SLLEN (range_of c.args.self.now.heap.memory) c.args.self.now.heap.state = rw (← c.self.view_is) (well_formed c.self.invariant) in
-    (([], none_yet w c.bounds_of_runs-start.ensures.start c.bounds_of_runs-start.ensures.low, no_listing c.args.from c.args.into.now), omega arith)
-
-pub iter_blocks-requires : goal.iter_blocks-requires
-iter_blocks-requires g c =
-    let row : IsRow c.self.inside.heap.state (walked c.next_run-run.result.range) = rw (← c.self.view_is) at c.next_run-run.ensures.row in
-    (omega arith, row)
+    let w = well_formed c.args.self.now.heap c.bounds_of_runs-start.ensures.stands in
+    let start = c.bounds_of_runs-start.ensures.start in
+    (start, ([], none_yet w (started start) c.bounds_of_runs-start.ensures.low, no_listing c.args.from c.args.into.now), omega arith)
 
 pub loop-place-preserved : goal.loop-place-preserved
 loop-place-preserved g c =
-    let w : IsWellFormed g.row.FLLEN g.row.SLLEN (range_of c.args.self.now.heap.memory) c.args.self.now.heap.state = rw (← c.self.view_is) (well_formed c.self.invariant) in
-    let are : AreBlocks c.args.self.now.heap.state (walked c.next_run-run.result.range) c.iter_blocks.result = rw (← c.self.view_is) c.iter_blocks.ensures.blocks in
-    let ((bs, upto, listed), fits) = c.loop-place.invariant in (
+    let w = well_formed c.args.self.now.heap c.bounds_of_runs-start.ensures.stands in
+    let (start, (bs, upto, listed), fits) = c.loop-place.invariant in (
+      starts c.next_blocks-blocks.ensures.run.left,
       (
-        bs ++ c.iter_blocks.result,
-        one_more_run w upto (omega (arith, c.loop-place-test.true)) c.next_run-run.ensures c.iter_blocks.result are,
+        bs ++ c.next_blocks-blocks.result.0,
+        one_more_run w upto (omega (arith, c.loop-place-test.true)) c.next_blocks-blocks.ensures.run c.next_blocks-blocks.result.0 c.next_blocks-blocks.ensures.blocks,
         c.list_more-count.ensures.listing bs c.args.into.now listed,
       ),
       c.list_more-count.ensures.fits,
@@ -33,12 +26,9 @@ loop-place-preserved g c =
 
 pub returns : goal.returns
 returns g c =
-    let w : IsWellFormed g.row.FLLEN g.row.SLLEN (range_of c.args.self.now.heap.memory) c.args.self.now.heap.state = rw (← c.self.view_is) (well_formed c.self.invariant) in
-    let ((bs, upto, listed), fits) = c.loop-place.invariant in
+    let w = well_formed c.args.self.now.heap c.bounds_of_runs-start.ensures.stands in
+    let (start, (bs, upto, listed), fits) = c.loop-place.invariant in
     (bs, all_of_them w upto (omega (arith, c.loop-place-test.false)), listed)
 
-pub next_run-run-requires : goal.next_run-run-requires
-next_run-run-requires g c = let ((bs, upto, listed), fits) = c.loop-place.invariant in (omega arith, (upto.start, omega (arith, c.loop-place-test.true)))
-
 pub loop-place-smaller : goal.loop-place-smaller
-loop-place-smaller g c = omega (arith, c.next_run-run.ensures.progress, c.next_run-run.ensures.left.order)
+loop-place-smaller g c = omega (arith, c.next_blocks-blocks.ensures.run.progress, c.next_blocks-blocks.ensures.run.left.order)

@@ -1,4 +1,4 @@
-use Rattle.std.proofs.Common.{arith, ◌≡◌, ◌<◌, ◌≤◌, ◌%◌, Ok, Err, ℕ, refl, sym, ◌∙◌, ap, subst}
+use Rattle.std.proofs.Common.{◌≡◌, ◌<◌, ◌≤◌, ◌%◌, Ok, Err, ℕ, refl, sym, ◌∙◌, ap, subst}
 use Rattle.std.proofs.lemmas.Bool.{false≢true}
 use Rattle.rlsf_base.specs.Range.{end_of, range_at}
 use Rattle.rlsf_base.specs.Space.{Space, range_of}
@@ -23,9 +23,6 @@ returns-clause-invalid g c = ((λ bad. absurd (no_error bad)), (λ none. absurd 
   where
     no_error : {A E : Type 0} {x : A} {e : E} → Ok x ≡ Err e → ⊥
     no_error bad = cc
-
-pub new-requires-2 : goal.new-requires-2
-new-requires-2 g c = (omega arith, c.are_valid.ensures.0 c.if-not-are_valid.false)
 
 pub returns-then-not-are_valid-clause-invalid : goal.returns-then-not-are_valid-clause-invalid
 returns-then-not-are_valid-clause-invalid g c = ((λ same valid. false≢true (sym c.if-not-are_valid.true ∙ c.are_valid.ensures.1 valid)), (λ none. refl))
