@@ -12,7 +12,7 @@ use Rattle.rlsf_model.specs.State.{State, between}
 use Rattle.rlsf_model.specs.WellFormed.{IsWellFormed, itself}
 use Rattle.rlsf_model.proofs.Coverage.{coverage-IsIn, coverage-some, coverage-unique, covers-inside}
 use Rattle.rlsf_checked.specs.Removal.{AreChunks}
-use Rattle.rlsf_checked.specs.Steps.Runs.{IsCut, IsNextRun, IsRunOf, IsStart}
+use Rattle.rlsf_checked.specs.Steps.Runs.{IsCut, IsNextRun, IsRun, IsRunOf, IsStart}
 use Rattle.rlsf_checked.specs.Steps.Standing.{in_chunks}
 use Rattle.rlsf_checked.proofs.Edges.{in_chunks-behind}
 
@@ -57,6 +57,15 @@ pub record GoesOn (s : State) (run : Range) (addr at : ℕ) : Type 0 where
 pub record IsSearched (s : State) (addr from end : ℕ) : Type 0 where
   pub start : IsStart s from end
   pub none : addr < from → in_chunks s addr ≡ 0
+
+-- a run, by its facts and by its name
+pub is_run : {s : State} {addr : ℕ} {r : Range} → IsRunOf s addr r → IsRun s r
+unfolding IsRun
+is_run is = (is.row, is.outside)
+
+pub run_facts : (s : State) (r : Range) → IsRun s r → IsRow s r × (in_chunks s (end_of r) ≡ 0)
+unfolding IsRun
+run_facts s r is = is
 
 module _ {fllen sllen : ℕ} {memory : Range} {s : State} (w : IsWellFormed fllen sllen memory s) where
   -- two chunks that have an address are the same

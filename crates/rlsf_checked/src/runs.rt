@@ -3,11 +3,9 @@
 ghost use Rattle.std.specs.Prelude.{◌≡◌, ◌↔◌, ◌^◌, ◌<◌, ◌≤◌, true};
 ghost use Rattle.rlsf_base.specs.Range.{end_of};
 ghost use Rattle.rlsf_base.specs.Space.{range_of};
-ghost use Rattle.rlsf_model.specs.ChunkRows.{IsRow};
 ghost use Rattle.rlsf_tlsf.specs.Allocator.{Stands};
 ghost use Rattle.rlsf_checked.specs.Removal.{AreChunks};
-ghost use Rattle.rlsf_checked.specs.Steps.Runs.{AreNext, IsCut, IsNextRun, IsRunOf, Starts};
-ghost use Rattle.rlsf_checked.specs.Steps.Standing.{in_chunks};
+ghost use Rattle.rlsf_checked.specs.Steps.Runs.{AreNext, IsCutIn, IsNextRun, IsRun, IsRunOf, Starts};
 
 use crate::checked::{CheckedTlsf, lies_in};
 use rlsf_base::memory::Range;
@@ -76,6 +74,7 @@ impl<
     /// Returns the run that has an address, or an empty range if no chunk has it.
     fn run_of(&self, addr: usize) -> Range
         ensures run { IsRunOf self.now.heap.state addr result }
+        ensures is_run { IsRun self.now.heap.state result }
         ensures fits { end_of result < 2 ^ 64 }
     {
         let (start, end) = self.bounds_of_runs();
@@ -93,16 +92,18 @@ impl<
         }
     }
 
-    /// Returns whether no chunk begins before an address of a run and ends behind it. It iterates over the chunks before the address.
+    /// Returns whether an address is in a run or at its end, and no chunk begins before it and ends behind it. It iterates over the chunks
+    /// before the address.
     fn is_cut(&self, run: Range, addr: usize) -> bool
-        requires row { IsRow self.now.heap.state run }
-        requires outside { in_chunks self.now.heap.state (end_of run) ≡ 0 }
-        requires low { run.start ≤ addr }
-        requires high { addr ≤ end_of run }
-        ensures { (result ≡ true) ↔ IsCut self.now.heap.state addr }
+        requires run { IsRun self.now.heap.state run }
+        requires fits { end_of run < 2 ^ 64 }
+        ensures { (result ≡ true) ↔ IsCutIn self.now.heap.state run addr }
     {
         // What it says of each allocator: that it represents its state.
         let _ = self.memory_ref();
+        if addr < run.start || run.start + run.len < addr {
+            return false;
+        }
         let mut end = run.start;
         while end < addr {
             end = self.heap.chunk_end(end);
@@ -121,9 +122,6 @@ impl<
         let start = next_multiple_of_32(range.start);
         let end = range.start + range.len;
         let run = self.run_of(start);
-        if start < run.start || run.start + run.len < end {
-            return false;
-        }
         self.is_cut(run, start) && self.is_cut(run, end)
     }
 }

@@ -46,6 +46,16 @@ pub record AreUpTo (s : State) (from end : ℕ) (bs : List Block) : Type 0 where
 abbrev pub IsCut : State → ℕ → Type 0
 IsCut s a = (c : Range) → IsIn c s.chunks → (end_of c ≤ a) ⊎ (a ≤ c.start)
 
+-- no chunk crosses the address, which is in the range or at its end
+pub record IsCutIn (s : State) (r : Range) (a : ℕ) : Type 0 where
+  pub low : r.start ≤ a
+  pub high : a ≤ end_of r
+  pub cut : IsCut s a
+
+-- the range is complete contiguous chunks, or empty, and no chunk has the address behind it
+unfoldable pub IsRun : State → Range → Type 0
+IsRun s r = IsRow s r × (in_chunks s (end_of r) ≡ 0)
+
 -- The range is complete contiguous chunks, or empty. It has the address if a chunk does, and no chunk has the address behind it
 pub record IsRunOf (s : State) (addr : ℕ) (r : Range) : Type 0 where
   pub row : IsRow s r

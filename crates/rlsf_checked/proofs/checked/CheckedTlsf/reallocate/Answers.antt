@@ -1,4 +1,5 @@
-use Rattle.std.proofs.Common.{rules, arith, ◌≡◌, ℕ, IfSome, ◌≤◌, ◌<◌, ◌+◌, length, suc, Some, None, Ok, Err, refl, sym, ◌∙◌, ap, subst}
+use Rattle.std.proofs.Common.{arith, ◌≡◌, ℕ, IfSome, ◌≤◌, ◌<◌, ◌+◌, length, suc, Some, None, Ok, Err, refl, sym, ◌∙◌, ap, subst}
+use Rattle.std.proofs.lemmas.Option.{none-some}
 use Rattle.std.specs.declared.num.NonZeroUsize.{NonZeroUsize}
 use Rattle.rlsf_base.specs.Addr.{at}
 use Rattle.rlsf_base.specs.PowerOfTwo.{floor_log2}
@@ -7,7 +8,7 @@ use Rattle.rlsf_model.specs.Reallocate.{Reallocates}
 use Rattle.rlsf_model.specs.Sized.{IsSizedFor}
 use Rattle.rlsf_tlsf.specs.Allocator.{Steps}
 use Rattle.rlsf_checked.specs.Answers.{IsRefusedBy, size_refusal}
-use Rattle.rlsf_checked.specs.declared.error.CheckedError.TheVariants.{NoRoom}
+use Rattle.rlsf_checked.specs.declared.error.CheckedError.TheVariants.{NoLayout, NoRoom, UnknownAddress}
 use Rattle.rlsf_checked.specs.Steps.Marks.{HasMark, mark_at}
 use Rattle.rlsf_checked.proofs.SizeRefusals.{past_is_refused, unknown_is_refused}
 use Rattle.rlsf_checked.proofs.FieldsOverSteps.{has_mark, left_behind, marked_moved, size_fits, stands_after, step_of, unchanged}
@@ -66,13 +67,57 @@ invariant_of-self-2 g c =
 pub returns-in_default : goal.returns-in_default
 returns-in_default g c =
     let refused = unknown_is_refused c.args.size _ (rw (← c.self.view_is) at c.in_default.ensures.value) in
-    rw (← c.self.view_is) (search (rules, refused))
+    rw (← c.self.view_is) (record {
+      answer = subst (λ o. IsRefusedBy {A = NonZeroUsize} o (Err UnknownAddress)) (sym refused) refl;
+      step = λ fits. absurd (none-some _ (sym fits ∙ refused));
+      live = tt;
+      sized = tt;
+      few = tt;
+      kept = tt;
+      new = tt;
+      left = tt;
+      aligns = tt;
+      bytes = tt;
+      room = λ count most_size align sized few short fits fine. absurd (none-some _ (sym fine ∙ refused));
+      count = refl;
+      bounds = λ count most_size align sized short fits. sized;
+      same = refl;
+      refused = refl;
+      pool = refl;
+      place = (refl, refl, refl, λ none. none);
+      touches = omega arith;
+      grow = omega arith;
+      copied = omega arith;
+      grow_copied = omega arith;
+    })
 
 pub returns-in_default-from_size_align : goal.returns-in_default-from_size_align
 returns-in_default-from_size_align g c =
     let live = rw (← c.self.view_is) at c.in-Some.ensures.value in
     let refused = past_is_refused c.args.size c.in-Some.align _ live c.in-Some.ensures.power c.in_default-from_size_align.ensures.succeeds.1 in
-    rw (← c.self.view_is) (search (rules, refused))
+    rw (← c.self.view_is) (record {
+      answer = subst (λ o. IsRefusedBy {A = NonZeroUsize} o (Err NoLayout)) (sym refused) refl;
+      step = λ fits. absurd (none-some _ (sym fits ∙ refused));
+      live = tt;
+      sized = tt;
+      few = tt;
+      kept = tt;
+      new = tt;
+      left = tt;
+      aligns = tt;
+      bytes = tt;
+      room = λ count most_size align sized few short fits fine. absurd (none-some _ (sym fine ∙ refused));
+      count = refl;
+      bounds = λ count most_size align sized short fits. sized;
+      same = refl;
+      refused = refl;
+      pool = refl;
+      place = (refl, refl, refl, λ none. none);
+      touches = omega arith;
+      grow = omega arith;
+      copied = omega arith;
+      grow_copied = omega arith;
+    })
 
 pub returns-in_default-reallocate : goal.returns-in_default-reallocate
 returns-in_default-reallocate g c =

@@ -37,6 +37,9 @@ overflow_add-end g c =
     let are : AreChunks (range_of c.self.inside.heap.memory) c.self.inside.heap.state c.args.range = rw (← c.self.view_is) at c.are_chunks.ensures.0 c.if-not-are_chunks.false in
     record { fits = (removed_range_place c.self.invariant c.args.range are).last_fits }
 
+pub pool_left-self-inside-requires-clause-order : goal.pool_left-self-inside-requires-clause-order
+pool_left-self-inside-requires-clause-order g c = omega (arith, (c.are_chunks.ensures.0 c.if-not-are_chunks.false).some, c.next_multiple_of_32-start.ensures.value)
+
 pub pool_left-self-inside-requires-clause-last : goal.pool_left-self-inside-requires-clause-last
 pool_left-self-inside-requires-clause-last g c =
     let are : AreChunks (range_of c.self.inside.heap.memory) c.self.inside.heap.state c.args.range = rw (← c.self.view_is) at c.are_chunks.ensures.0 c.if-not-are_chunks.false in

@@ -16,3 +16,12 @@ invariant_of-result g c =
     (λ a even low high. c.clear.ensures.places a (c.self.invariant.covers a even low high)) in
     subst (λ n. IsChecked g.row.FLLEN g.row.SLLEN heap marks (range_at n 0)) (ap (λ (x : Space). x.start) c.new.ensures.memory ∙ sym c.start.ensures.value)
     (made heap marks c.new.ensures.stands c.new.ensures.state (subst (λ (x : Space). 0 < x.start) (sym memory) c.self.invariant.some_address) c.clear.ensures.none covers)
+
+pub returns : goal.returns
+returns g c = rw (← c.self.view_is) (record {
+  state = c.new.ensures.state;
+  count = c.new.ensures.count;
+  memory = c.new.ensures.memory ∙ c.into_memory-memory.ensures;
+  pool = ap (λ n. range_at n 0) (c.start.ensures.value ∙ ap (λ (x : Space). x.start) c.into_memory-memory.ensures);
+  stands = c.new.ensures.stands;
+})

@@ -1,4 +1,5 @@
-use Rattle.std.proofs.Common.{refl, ◌≡◌, ◌+◌, cond, nat_le, Ok, Err, sym, subst, length, arith, ◌∙◌, ap}
+use Rattle.std.proofs.Common.{refl, ◌≡◌, ◌+◌, ◌≤◌, ℕ, List, cond, nat_le, Ok, Err, sym, subst, length, arith, ◌∙◌, ap}
+use Rattle.std.proofs.lemmas.Bool.{leb-true}
 use Rattle.std.specs.List.{splice}
 use Rattle.rlsf_base.specs.Addr.{at}
 use Rattle.rlsf_model.specs.Callers.{bytes_at, written_over}
@@ -27,6 +28,11 @@ invariant_of-self g c =
 reach : (g : given.Over) (c : After-reaches g)
     → c.reaches.result ≡ fits c.args.offset (length c.args.bytes.now) (bytes_at c.self.inside.heap.state (at c.args.addr))
 reach g c = c.reaches.ensures ∙ ap (λ n. nat_le (c.args.offset + length c.args.bytes.now) n) c.allocation_usable_size.ensures
+
+pub write_at-requires : goal.write_at-requires
+write_at-requires g c =
+    let told = sym (reach g (goal.at.write_at-requires g c).After-reaches) ∙ c.if-not-reaches.false in
+    subst (λ (l : List ℕ). c.args.offset + length c.args.bytes.now ≤ length l) (sym c.payload_mut.ensures.value) (leb-true _ _ told)
 
 pub returns-in_default : goal.returns-in_default
 returns-in_default g c =
