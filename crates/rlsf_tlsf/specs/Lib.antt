@@ -2,5 +2,6 @@
 pub mod Allocator
 pub mod InPlace
 pub mod Lending
+pub mod Sizing
 pub mod Steps
 pub mod UnknownAlign

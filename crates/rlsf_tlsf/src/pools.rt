@@ -1,11 +1,11 @@
 //! The pools of an allocator: they are inserted, appended to and removed, and their blocks are listed.
 
-ghost use Rattle.std.specs.Prelude.{◌≡◌, ◌≤◌, ◌+◌, ◌*◌, ◌%◌, ℕ, [], Option, Some, length, is_some, IfNone, if◌then◌else◌};
+ghost use Rattle.std.specs.Prelude.{◌≡◌, ◌≤◌, ◌+◌, ◌*◌, ℕ, [], Option, length, is_some, IfNone, if◌then◌else◌};
 ghost use Rattle.std.specs.Map.Iter.{GivesInOrder};
 ghost use Rattle.rlsf_base.specs.Addr.{reply};
 ghost use Rattle.rlsf_base.specs.declared.memory.range.Range.{Range};
 ghost use Rattle.rlsf_base.specs.Range.{AreApart, LiesIn, end_of};
-ghost use Rattle.rlsf_base.specs.Sizes.{max_pool_size, pool_size_for_payloads};
+ghost use Rattle.rlsf_base.specs.Sizes.{max_pool_size};
 ghost use Rattle.rlsf_base.specs.Space.{range_of, SamePlace};
 ghost use Rattle.rlsf_model.specs.Callers.{align_at, bytes_at};
 ghost use Rattle.rlsf_model.specs.ChunkRows.{IsRow};
@@ -30,6 +30,7 @@ impl<FLBitmap: BitPattern, SLBitmap: BitPattern, const FLLEN: usize, const SLLEN
     SLLEN,
 > {
     ghost use Rattle.rlsf_tlsf.specs.Allocator.{Steps};
+    ghost use Rattle.rlsf_tlsf.specs.Sizing.{SizesPool};
 
     /// Inserts a range of the memory as a pool, and makes free chunks of its aligned part. No chunk has fewer than 64
     /// bytes.
@@ -50,8 +51,7 @@ impl<FLBitmap: BitPattern, SLBitmap: BitPattern, const FLLEN: usize, const SLLEN
         ensures bytes { bytes_at self.new.state ≡ bytes_at self.old.state }
         ensures count { live_count self.new.state ≡ live_count self.old.state }
         ensures bounds { (count size align : ℕ) → IsSizedFor SLLEN count size align self.old.state → IsSizedFor SLLEN count size align self.new.state }
-        ensures pool { (count size align len : ℕ) → pool_size_for_payloads FLLEN SLLEN count size align ≡ Some len → range.start % 32 ≡ 0 → len ≤ range.len
-            → live_count self.old.state ≡ 0 → IsSizedFor SLLEN count size align self.new.state }
+        ensures pool { SizesPool FLLEN SLLEN range self.old.state self.new.state }
         ensures refused { IfNone result (self.new.memory.bytes ≡ self.old.memory.bytes) }
         ensures place { SamePlace self.old.memory self.new.memory }
         ensures touches { self.new.memory.touches ≤ self.old.memory.touches + 13 * length (cut (max_pool_size FLLEN) (aligned_part range)) }
@@ -76,8 +76,7 @@ impl<FLBitmap: BitPattern, SLBitmap: BitPattern, const FLLEN: usize, const SLLEN
         ensures bytes { bytes_at self.new.state ≡ bytes_at self.old.state }
         ensures count { live_count self.new.state ≡ live_count self.old.state }
         ensures bounds { (count size align : ℕ) → IsSizedFor SLLEN count size align self.old.state → IsSizedFor SLLEN count size align self.new.state }
-        ensures pool { (count size align len : ℕ) → pool_size_for_payloads FLLEN SLLEN count size align ≡ Some len → range.start % 32 ≡ 0 → len ≤ range.len
-            → live_count self.old.state ≡ 0 → IsSizedFor SLLEN count size align self.new.state }
+        ensures pool { SizesPool FLLEN SLLEN range self.old.state self.new.state }
         ensures unchanged { cut (max_pool_size FLLEN) (aligned_part range) ≡ [] → self.new.memory.bytes ≡ self.old.memory.bytes }
         ensures place { SamePlace self.old.memory self.new.memory }
         ensures touches { self.new.memory.touches ≤ self.old.memory.touches + 13 * length (cut (max_pool_size FLLEN) (aligned_part range)) }

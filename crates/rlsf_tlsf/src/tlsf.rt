@@ -145,10 +145,11 @@ impl<FLBitmap: BitPattern, SLBitmap: BitPattern, const FLLEN: usize, const SLLEN
         ensures grow { self.old.memory.touches ≤ self.new.memory.touches }
         ensures copied { self.new.memory.copied ≡ self.old.memory.copied }
     {
+        let payload = addr.get();
         let view = self.memory.inner.view();
-        let block = used_block(&mut self.memory.inner, view, addr.get(), align);
+        let block = used_block(&mut self.memory.inner, view, payload, align);
         deallocate_block(&mut self.memory.inner, view, &mut self.table, block);
-        self.state.deallocate(addr.get());
+        self.state.deallocate(payload);
     }
 
     /// Deallocates the payload at `addr`, as `deallocate` does, if the caller does not know its alignment. The resulting
@@ -169,10 +170,11 @@ impl<FLBitmap: BitPattern, SLBitmap: BitPattern, const FLLEN: usize, const SLLEN
         ensures grow { self.old.memory.touches ≤ self.new.memory.touches }
         ensures copied { self.new.memory.copied ≡ self.old.memory.copied }
     {
-        let block = load_block_of(&mut self.memory.inner, addr.get());
+        let payload = addr.get();
+        let block = load_block_of(&mut self.memory.inner, payload);
         let view = self.memory.inner.view();
         deallocate_block(&mut self.memory.inner, view, &mut self.table, block);
-        self.state.deallocate(addr.get());
+        self.state.deallocate(payload);
     }
 
     /// Changes the size of the payload at `addr` to that of `layout`, and returns its address, a multiple of the

@@ -18,7 +18,7 @@ impl<FLBitmap: BitPattern, SLBitmap: BitPattern, const FLLEN: usize, const SLLEN
     SLLEN,
 > {
     ghost use Rattle.rlsf_tlsf.specs.Allocator.{Steps};
-    ghost use Rattle.rlsf_tlsf.specs.UnknownAlign.{ReallocatesAnyAlign};
+    ghost use Rattle.rlsf_tlsf.specs.UnknownAlign.{KeepsBounds, ReallocatesAnyAlign};
 
     /// Changes the size of the payload at `addr` to that of `layout`, as `reallocate` does, if the caller does not know the
     /// payload's alignment. Returns its address. The first bytes are kept, as many as both sizes have. The payload takes the
@@ -47,8 +47,7 @@ impl<FLBitmap: BitPattern, SLBitmap: BitPattern, const FLLEN: usize, const SLLEN
         ensures bytes { IfSome result (λ to. (a : ℕ) → a ≢ at addr → a ≢ at to → bytes_at self.new.state a ≡ bytes_at self.old.state a) }
         ensures room { (count size align : ℕ) → IsSizedFor SLLEN count size align self.old.state → live_count self.old.state ≤ count → layout.size ≤ size → layout.align ≤ align → IsSome result }
         ensures count { live_count self.new.state ≡ live_count self.old.state }
-        ensures bounds { (count size align was : ℕ) → IsSizedFor SLLEN count size align self.old.state → align_at self.old.state (at addr) ≡ Some was → was ≤ align
-            → layout.size ≤ size → layout.align ≤ align → IsSizedFor SLLEN count size align self.new.state }
+        ensures bounds { KeepsBounds SLLEN self.old.state (at addr) layout.size layout.align self.new.state }
         ensures chunks { self.new.state.chunks ≡ self.old.state.chunks }
         ensures same { IfNone result (self.new.state ≡ self.old.state) }
         ensures refused { IfNone result (self.new.memory.bytes ≡ self.old.memory.bytes) }

@@ -85,6 +85,7 @@ copying g c =
     (none g c ∙ sym is.whole) in
     subst (λ (front : List ℕ). (t : State) × Fills (state g c) (at c.args.to) front t × StandsFor g.row.FLLEN g.row.SLLEN (contents n c.self-inside.inside.0.1.0) t
     × KeepsSpare c.self-inside.inside.0.0.inner (state g c) n t)
+    {x = with_front len u.bytes w.bytes}
     (λ i. with_front len (sym (bytes_inside is v (view-opened c.self-inside.view_is c.self.view_is) (at c.args.from) u source) i)
     (sym (bytes_inside is v (view-opened c.self-inside.view_is c.self.view_is) (at c.args.to) w target) i)) step
 

@@ -37,7 +37,7 @@ used_block-block-requires-clause-live g c =
       c.self-inside.inside.0.1.0,
       s,
       (IsAllocator-opened c.self-inside.view_is c.self.invariant).stands,
-      subst (λ p. IsLive s p c.args.align) (sym c.get.ensures.value) live,
+      subst (λ p. IsLive s p c.args.align) (sym c.get-payload.ensures.value) live,
     )
 
 -- the block that was found is that of the payload
@@ -47,8 +47,8 @@ found g c =
     let live = live_inside is c.args.self.now (view-opened c.self-inside.view_is c.self.view_is) (at c.args.addr) c.args.align c.requires in
     let (u, (i, here), _, start) =
     c.used_block-block.ensures.block g.row.FLLEN g.row.SLLEN c.self-inside.inside.0.1.0 (state g c) is.stands
-    (subst (λ p. IsLive (state g c) p c.args.align) (sym c.get.ensures.value) live) in
-    (u, (i, here ∙ c.get.ensures.value), start)
+    (subst (λ p. IsLive (state g c) p c.args.align) (sym c.get-payload.ensures.value) live) in
+    (u, (i, here ∙ c.get-payload.ensures.value), start)
 
 -- the memory in which it was sought represents the same state
 read : (g : given.Over) (c : After-used_block-block g) → StandsFor g.row.FLLEN g.row.SLLEN (contents c.used_block-block.new.memory c.self-inside.inside.0.1.0) (state g c)
@@ -78,7 +78,7 @@ deallocate_block-requires g c =
 -- what is kept of the state is the one without the payload
 kept : (g : given.Over) (c : After-deallocate g) (u : Used) → Holds (read_from c.self-inside.inside.0.0.inner c.self-inside.inside.0.1.1.0.state) (at c.args.addr) u
     → c.deallocate.new.self.state ≡ bare (released (read_from c.self-inside.inside.0.0.inner c.self-inside.inside.0.1.1.0.state) u)
-kept g c u holds = c.deallocate.ensures ∙ kept_without (IsAllocator-opened c.self-inside.view_is c.self.invariant) (at c.args.addr) u holds c.get-2.ensures.value
+kept g c u holds = c.deallocate.ensures ∙ kept_without (IsAllocator-opened c.self-inside.view_is c.self.invariant) (at c.args.addr) u holds c.get-payload.ensures.value
 
 -- nothing is out after it
 none : (g : given.Over) (c : After-deallocate g) → c.deallocate_block.new.memory.out ≡ []

@@ -26,7 +26,7 @@ use Rattle.rlsf_tlsf.proofs.tlsf.Tlsf.deallocate_unknown_align.Goals.{After-load
 pub load_block_of-block-requires : goal.load_block_of-block-requires
 load_block_of-block-requires g c =
     IsLiveIn-inside (IsAllocator-opened c.self-inside.view_is c.self.invariant) c.args.self.now (view-opened c.self-inside.view_is c.self.view_is) (at c.args.addr)
-    c.get.ensures.value c.requires
+    c.get-payload.ensures.value c.requires
 
 -- the allocator's state as the call begins
 abbrev state : (g : given.Over) (c : After-load_block_of-block g) → State
@@ -39,7 +39,7 @@ found g c =
     let (u, holds) = some_inside is c.args.self.now (view-opened c.self-inside.view_is c.self.view_is) (at c.args.addr) c.requires in
     let start =
     c.load_block_of-block.ensures.block g.row.FLLEN g.row.SLLEN (contents c.self-inside.inside.0.0.inner c.self-inside.inside.0.1.0) (state g c) u refl is.stands
-    (holds.0, holds.1 ∙ sym c.get.ensures.value) in
+    (holds.0, holds.1 ∙ sym c.get-payload.ensures.value) in
     (u, holds, sym start)
 
 -- the memory in which it was sought represents the same state
@@ -69,7 +69,7 @@ deallocate_block-requires g c =
 -- what is kept of the state is the one without the payload
 kept : (g : given.Over) (c : After-deallocate g) (u : Used) → Holds (read_from c.self-inside.inside.0.0.inner c.self-inside.inside.0.1.1.0.state) (at c.args.addr) u
     → c.deallocate.new.self.state ≡ bare (released (read_from c.self-inside.inside.0.0.inner c.self-inside.inside.0.1.1.0.state) u)
-kept g c u holds = c.deallocate.ensures ∙ kept_without (IsAllocator-opened c.self-inside.view_is c.self.invariant) (at c.args.addr) u holds c.get-2.ensures.value
+kept g c u holds = c.deallocate.ensures ∙ kept_without (IsAllocator-opened c.self-inside.view_is c.self.invariant) (at c.args.addr) u holds c.get-payload.ensures.value
 
 -- nothing is out after it
 none : (g : given.Over) (c : After-deallocate g) → c.deallocate_block.new.memory.out ≡ []

@@ -1,9 +1,10 @@
-use Rattle.std.proofs.Common.{◌≡◌, Option, Some, None, IfNone, sym, ◌∙◌, ap}
+use Rattle.std.proofs.Common.{◌≡◌, ℕ, Option, Some, None, IfNone, sym, ◌∙◌, ap}
 use Rattle.std.proofs.lemmas.Option.{none-some}
 use Rattle.std.specs.declared.num.NonZeroUsize.{NonZeroUsize}
 use Rattle.rlsf_base.specs.Addr.{at, reply}
+use Rattle.rlsf_base.specs.declared.memory.range.Range.{Range}
 use Rattle.rlsf_model.specs.Insert.{Inserts, bytes_taken}
-use Rattle.rlsf_tlsf.specs.Allocator.{Steps}
+use Rattle.rlsf_tlsf.specs.Allocator.{Allocator, Steps}
 use Rattle.rlsf_tlsf.proofs.Arrivals.{opened}
 use Rattle.rlsf_tlsf.proofs.tlsf.Tlsf.insert_free_block.Goals as goal
 
@@ -12,15 +13,31 @@ where_none : (P : Type 0) (o : Option NonZeroUsize) → reply o ≡ None → IfN
 where_none P None e holds = holds
 where_none P (Some x) e holds = absurd (none-some (at x) (sym e))
 
-pub returns-clause-step : goal.returns-clause-step
+-- whatever is returned
+somehow : (fllen sllen : ℕ) (before after : Allocator) (r : Range) (taken : Option ℕ) → Steps fllen sllen before after (Inserts fllen before.state r taken)
+    → Steps fllen sllen before after (λ t. (n : Option ℕ) × Inserts fllen before.state r n t)
 unfolding Steps
-returns-clause-step g c =
-    let (step, stands, spare) = c.insert_free_block_ptr.ensures.step in
-    ((reply c.insert_free_block_ptr.result, step), stands, spare)
+somehow fllen sllen before after r taken (step, stands, spare) = ((taken, step), stands, spare)
 
-pub returns-clause-unchanged : goal.returns-clause-unchanged
-returns-clause-unchanged g c = λ none.
-    let step =
-    (opened g.row.FLLEN g.row.SLLEN c.args.self.now c.insert_free_block_ptr.new.self
-    (Inserts g.row.FLLEN c.args.self.now.state c.args.range (reply c.insert_free_block_ptr.result)) c.insert_free_block_ptr.ensures.step).0 in
-    where_none _ c.insert_free_block_ptr.result (step.answer ∙ ap (bytes_taken c.args.range.start) none) c.insert_free_block_ptr.ensures.refused
+pub returns : goal.returns
+returns g c =
+    let did = c.insert_free_block_ptr.ensures in
+    let old = c.args.self.now in
+    let new = c.insert_free_block_ptr.new.self in
+    record {
+      step = somehow g.row.FLLEN g.row.SLLEN old new c.args.range (reply c.insert_free_block_ptr.result) did.step;
+      untouched = did.untouched;
+      aligns = did.aligns;
+      bytes = did.bytes;
+      count = did.count;
+      bounds = did.bounds;
+      pool = did.pool;
+      unchanged = λ none.
+          let step =
+          (opened g.row.FLLEN g.row.SLLEN old new (Inserts g.row.FLLEN old.state c.args.range (reply c.insert_free_block_ptr.result)) did.step).0 in
+          where_none _ c.insert_free_block_ptr.result (step.answer ∙ ap (bytes_taken c.args.range.start) none) did.refused;
+      place = did.place;
+      touches = did.touches;
+      grow = did.grow;
+      copied = did.copied;
+    }
