@@ -40,10 +40,8 @@ impl<
         let Some(_) = self.alignment(to) else {
             return Err(CheckedError::UnknownAddress);
         };
-        let (first, second) = (
-            self.heap.allocation_usable_size(from),
-            self.heap.allocation_usable_size(to),
-        );
+        let first = self.heap.allocation_usable_size(from);
+        let second = self.heap.allocation_usable_size(to);
         if !both_reach(len, first, second) {
             return Err(CheckedError::OutOfRange);
         }

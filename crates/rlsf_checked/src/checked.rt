@@ -1,12 +1,12 @@
 //! The allocator with a mark for each address at which a payload may be live.
 
-ghost use Rattle.std.specs.Prelude.{◌≡◌, ◌≢◌, ◌≤◌, ◌<◌, ◌+◌, ◌*◌, ◌%◌, ◌^◌, ℕ, length, drop, take, nat_le, is_some, if◌then◌else◌, IfErr, IfOk, IfSome, IsErrOf, IsOk, IsSome, None, OnErr, OnOk, Some, ◌↔◌};
+ghost use Rattle.std.specs.Prelude.{◌≡◌, ◌≢◌, ◌≤◌, ◌<◌, ◌+◌, ◌*◌, ◌^◌, ℕ, length, drop, take, nat_le, is_some, if◌then◌else◌, IfErr, IfOk, IfSome, IsErrOf, IsOk, IsSome, None, OnErr, OnOk, Some, ◌↔◌};
 ghost use Rattle.std.specs.Map.Iter.{GivesInOrder};
 ghost use Rattle.rlsf_base.specs.Addr.{at};
 ghost use Rattle.rlsf_base.specs.PowerOfTwo.{IsPowerOfTwo};
 ghost use Rattle.rlsf_base.specs.Range.{range_at};
 ghost use Rattle.rlsf_base.specs.SizeClass.{IsValid};
-ghost use Rattle.rlsf_base.specs.Sizes.{max_pool_size, pool_size_for_payloads};
+ghost use Rattle.rlsf_base.specs.Sizes.{max_pool_size};
 ghost use Rattle.rlsf_base.specs.Space.{range_of, SamePlace};
 ghost use Rattle.rlsf_model.specs.Allocate.{Allocates};
 ghost use Rattle.rlsf_model.specs.Callers.{align_at, bytes_at, written_over};
@@ -21,6 +21,7 @@ ghost use Rattle.rlsf_blocks.specs.Blocks.{AreBlocks, walked};
 ghost use Rattle.rlsf_tlsf.specs.Allocator.{Steps, Stands};
 ghost use Rattle.rlsf_checked.specs.Answers.{IsRefusedBy, append_answer, fits, if_in_range, if_live, insert_answer, is_next, is_within, addr_in, refusal_at, taken};
 ghost use Rattle.rlsf_checked.specs.declared.error.CheckedError.TheVariants.{InvalidClasses, NoRoom, OutOfMemory, UnknownAddress};
+ghost use Rattle.rlsf_checked.specs.Sizing.{KeepsBounds, SizesPool, SucceedsWithinBounds};
 ghost use Rattle.rlsf_checked.specs.Writes.{WritesOnlyAt};
 
 use crate::bytes::write_at;
@@ -156,8 +157,7 @@ impl<
         ensures bytes { bytes_at self.new.heap.state ≡ bytes_at self.old.heap.state }
         ensures count { live_count self.new.heap.state ≡ live_count self.old.heap.state }
         ensures bounds { (count size align : ℕ) → IsSizedFor SLLEN count size align self.old.heap.state → IsSizedFor SLLEN count size align self.new.heap.state }
-        ensures sized_pool { (count size align len : ℕ) → pool_size_for_payloads FLLEN SLLEN count size align ≡ Some len → range.start % 32 ≡ 0
-            → len ≤ range.len → live_count self.old.heap.state ≡ 0 → OnOk result (IsSizedFor SLLEN count size align self.new.heap.state) }
+        ensures sized_pool { SizesPool FLLEN SLLEN range self.old.heap.state self.new.heap.state result }
         ensures place { SamePlace self.old.heap.memory self.new.heap.memory }
         ensures touches { self.new.heap.memory.touches ≤ self.old.heap.memory.touches + 13 * length (cut (max_pool_size FLLEN) (aligned_part range)) }
         ensures grow { self.old.heap.memory.touches ≤ self.new.heap.memory.touches }
@@ -172,13 +172,14 @@ impl<
         let Some(taken) = self.heap.insert_free_block_ptr(range) else {
             return Err(CheckedError::TooShort);
         };
+        let len = taken.get();
         self.pool = Range {
             start: range.start,
-            len: taken.get(),
+            len,
         };
         self.marks.flip(next_multiple_of_32(range.start));
-        self.marks.flip(range.start + taken.get());
-        Ok(taken.get())
+        self.marks.flip(range.start + len);
+        Ok(len)
     }
 
     /// Appends a range of the memory, which begins at the end of the last pool, to that pool. Returns the number of bytes taken. All
@@ -315,11 +316,9 @@ impl<
         ensures left { IfOk result (λ to. at to ≢ at addr → align_at self.new.heap.state (at addr) ≡ None) }
         ensures aligns { IfOk result (λ to. (a : ℕ) → a ≢ at addr → a ≢ at to → align_at self.new.heap.state a ≡ align_at self.old.heap.state a) }
         ensures bytes { IfOk result (λ to. (a : ℕ) → a ≢ at addr → a ≢ at to → bytes_at self.new.heap.state a ≡ bytes_at self.old.heap.state a) }
-        ensures room { (count most_size align : ℕ) → IsSizedFor SLLEN count most_size align self.old.heap.state → live_count self.old.heap.state ≤ count → size ≤ most_size
-            → IfSome (align_at self.old.heap.state (at addr)) (λ a. a ≤ align) → refusal_at self.old.heap.state (at addr) size ≡ None → IsOk result }
+        ensures room { SucceedsWithinBounds SLLEN self.old.heap.state (at addr) size result }
         ensures count { live_count self.new.heap.state ≡ live_count self.old.heap.state }
-        ensures bounds { (count most_size align : ℕ) → IsSizedFor SLLEN count most_size align self.old.heap.state → size ≤ most_size
-            → IfSome (align_at self.old.heap.state (at addr)) (λ a. a ≤ align) → IsSizedFor SLLEN count most_size align self.new.heap.state }
+        ensures bounds { KeepsBounds SLLEN self.old.heap.state (at addr) size self.new.heap.state }
         ensures same { OnErr result (self.new.heap.state ≡ self.old.heap.state) }
         ensures refused { OnErr result (self.new.heap.memory.bytes ≡ self.old.heap.memory.bytes) }
         ensures pool { self.new.pool ≡ self.old.pool }
@@ -363,8 +362,7 @@ impl<
         ensures aligns { align_at self.new.heap.state ≡ align_at self.old.heap.state }
         ensures bytes { (a : ℕ) → a ≢ at addr → bytes_at self.new.heap.state a ≡ bytes_at self.old.heap.state a }
         ensures count { live_count self.new.heap.state ≡ live_count self.old.heap.state }
-        ensures bounds { (count most_size align : ℕ) → IsSizedFor SLLEN count most_size align self.old.heap.state → size ≤ most_size
-            → IfSome (align_at self.old.heap.state (at addr)) (λ a. a ≤ align) → IsSizedFor SLLEN count most_size align self.new.heap.state }
+        ensures bounds { KeepsBounds SLLEN self.old.heap.state (at addr) size self.new.heap.state }
         ensures same { OnErr result (self.new.heap.state ≡ self.old.heap.state) }
         ensures refused { OnErr result (self.new.heap.memory.bytes ≡ self.old.heap.memory.bytes) }
         ensures pool { self.new.pool ≡ self.old.pool }

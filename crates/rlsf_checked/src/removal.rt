@@ -43,8 +43,6 @@ impl<
         ensures grow { self.old.heap.memory.touches ≤ self.new.heap.memory.touches }
         ensures copied { self.new.heap.memory.copied ≡ self.old.heap.memory.copied }
     {
-        // What `memory_ref` says of every allocator: its state is well-formed.
-        let _ = self.heap.memory_ref();
         let pool = self.pool;
         if any_used(self.heap.iter_blocks(pool)) {
             return false;
@@ -90,8 +88,6 @@ impl<
         ensures grow { self.old.heap.memory.touches ≤ self.new.heap.memory.touches }
         ensures copied { self.new.heap.memory.copied ≡ self.old.heap.memory.copied }
     {
-        // What `memory_ref` says of every allocator: its state is well-formed.
-        let _ = self.heap.memory_ref();
         if !self.are_chunks(range) {
             return Err(CheckedError::NotChunks);
         }

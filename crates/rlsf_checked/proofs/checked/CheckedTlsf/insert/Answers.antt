@@ -61,7 +61,7 @@ overflow_add-range g c =
     let is = is_behind g (goal.at.overflow_add-range g c).Else-range-self in
     let (stands, step) = inserted g (goal.at.overflow_add-range g c).In-Some in
     let place = inserted_place c.self.invariant _ stands c.args.range _ is.behind is.lies step in
-    record { fits = subst (λ a. c.args.range.start + a < 2 ^ 64) (sym c.get-2.ensures.value) place.last_fits }
+    record { fits = subst (λ a. c.args.range.start + a < 2 ^ 64) (sym c.get-len.ensures.value) place.last_fits }
 
 pub flip-requires : goal.flip-requires
 flip-requires g c =
@@ -73,7 +73,7 @@ pub flip-requires-2 : goal.flip-requires-2
 flip-requires-2 g c =
     let is = is_behind g (goal.at.flip-requires-2 g c).Else-range-self in
     let (stands, step) = inserted g (goal.at.flip-requires-2 g c).In-Some in
-    subst (λ a. HasMark c.flip.new.self (c.args.range.start + a)) (sym c.get-2.ensures.value)
+    subst (λ a. HasMark c.flip.new.self (c.args.range.start + a)) (sym c.get-len.ensures.value)
     (c.flip.ensures.places _ (inserted_place c.self.invariant _ stands c.args.range _ is.behind is.lies step).high)
 
 pub invariant_of-self-2 : goal.invariant_of-self-2
@@ -84,9 +84,9 @@ invariant_of-self-2 g c =
     let did = c.in-Some.ensures in
     let first = subst (Flips c.self.inside.marks c.flip.new.self) c.next_multiple_of_32.ensures.value
     (flips c.flip.ensures.here c.flip.ensures.others c.flip.ensures.marks c.flip.ensures.places) in
-    let second = subst (λ a. Flips c.flip.new.self c.flip-2.new.self (c.args.range.start + a)) c.get-2.ensures.value
+    let second = subst (λ a. Flips c.flip.new.self c.flip-2.new.self (c.args.range.start + a)) c.get-len.ensures.value
     (flips c.flip-2.ensures.here c.flip-2.ensures.others c.flip-2.ensures.marks c.flip-2.ensures.places) in
-    subst (λ k. IsChecked g.row.FLLEN g.row.SLLEN heap c.flip-2.new.self (range_at c.args.range.start k)) (sym c.get.ensures.value)
+    subst (λ k. IsChecked g.row.FLLEN g.row.SLLEN heap c.flip-2.new.self (range_at c.args.range.start k)) (sym c.get-len.ensures.value)
     (handed_in c.self.invariant c.args.range is.behind is.lies heap stands did.place did.aligns _ step c.flip-2.new.self
     (inserted_edges c.self.invariant heap stands c.args.range _ is.behind is.lies step c.flip.new.self c.flip-2.new.self first second))
 
@@ -162,13 +162,13 @@ returns g c =
     let heap = c.self.inside.heap in
     rw (← c.self.view_is) (record {
       answer =
-          ap Ok c.get-3.ensures.value
+          ap Ok c.get-len.ensures.value
           ∙ sym (behind_answer g.row.FLLEN (checked heap c.self.inside.pool) c.args.range is.within is.behind ∙ ap if_taken (sym step.answer));
       step =
           subst (λ n. Steps g.row.FLLEN g.row.SLLEN heap c.insert_free_block_ptr.new.self (Inserts g.row.FLLEN heap.state c.args.range (Some n)))
-          (sym c.get-3.ensures.value)
+          (sym c.get-len.ensures.value)
           did.step;
-      pool = ap (range_at c.args.range.start) (c.get.ensures.value ∙ sym c.get-3.ensures.value);
+      pool = refl;
       same = tt;
       refused = tt;
       aligns = did.aligns;

@@ -74,8 +74,8 @@ invariant_of-self g c =
     (removed_range_edges c.self.invariant c.args.range are heap step c.flip.new.self c.flip-2.new.self first second))
 
 pub returns-then-not-are_chunks : goal.returns-then-not-are_chunks
-returns-then-not-are_chunks g c = rw (← c.self.view_is) (record {
-  answer = inl (refl, λ are. true≢false (sym (c.are_chunks.ensures.1 (rw (← c.self.view_is) are)) ∙ c.if-not-are_chunks.true));
+returns-then-not-are_chunks g c = record {
+  answer = inl (refl, λ are. true≢false (sym (c.are_chunks.ensures.1 are) ∙ c.if-not-are_chunks.true));
   step = tt;
   pool = tt;
   same = refl;
@@ -86,7 +86,7 @@ returns-then-not-are_chunks g c = rw (← c.self.view_is) (record {
   touches = omega arith;
   grow = omega arith;
   copied = refl;
-})
+}
 
 pub returns-then-any_used : goal.returns-then-any_used
 returns-then-any_used g c =
