@@ -1,6 +1,7 @@
 //! Growth: asks a source for more memory, and inserts the memory that comes.
 
-ghost use Rattle.std.specs.Prelude.{◌≡◌, ◌≢◌, ◌≤◌, ◌<◌, ◌+◌, ℕ, [], false, None, Some, IfNone, IfSome, length};
+ghost use Rattle.std.specs.Prelude.{◌≡◌, ◌≢◌, ◌≤◌, ◌<◌, ◌+◌, ℕ, [], false, None, Some, IfNone, IfSome, MatchOption, length};
+ghost use Rattle.std.specs.Int.NonZero.{non_zero_usize_get};
 ghost use Rattle.rlsf_base.specs.Addr.{at};
 ghost use Rattle.rlsf_base.specs.SizeClass.{IsValid};
 ghost use Rattle.rlsf_base.specs.Space.{SamePlace};
@@ -40,6 +41,16 @@ fn keeps_pool<S: FlexSource>(source: &S) -> bool
     source.supports_dealloc() || source.supports_realloc_inplace_grow()
 }
 
+/// Returns the number of bytes that an insertion took: 0 if it took none.
+fn len_of(taken: Option<NonZeroUsize>) -> usize
+    ensures { MatchOption taken (result ≡ 0) (λ len. result ≡ non_zero_usize_get len) }
+{
+    match taken {
+        Some(len) => len.get(),
+        None => 0,
+    }
+}
+
 /// Returns the length of a new range that is sure to contain `wanted` bytes from a multiple of 32 on.
 fn range_len<S: FlexSource>(source: &S, wanted: usize) -> Option<usize>
     ensures { result ≡ range_length (S.terms source.now) wanted }
@@ -64,10 +75,7 @@ impl<S: FlexSource, const FLLEN: usize, const SLLEN: usize> Parts<S, FLLEN, SLLE
     {
         let len = range_len(&self.source, wanted)?;
         let range = self.source.alloc(len)?;
-        let taken = self
-            .tlsf
-            .insert_free_block_ptr(range)
-            .map_or(0, NonZeroUsize::get);
+        let taken = len_of(self.tlsf.insert_free_block_ptr(range));
         let takes_back = self.source.supports_dealloc();
         let (start, len) = words_of(self.kept);
         write_footer_if(takes_back, &mut self.tlsf, range, start, len);
@@ -85,6 +93,7 @@ impl<S: FlexSource, const FLLEN: usize, const SLLEN: usize> Parts<S, FLLEN, SLLE
         requires stands { FlexStandsFor FLLEN SLLEN S.terms S.owes (flex_over self.old) }
         requires whole { self.old.tlsf.memory.out ≡ [] }
         ensures step { AskedGrowth FLLEN SLLEN S.terms S.owes S.leads (flex_over self.old) (flex_over self.new) (kept_pool pool) len wanted result }
+        ensures whole { self.new.tlsf.memory.out ≡ [] }
         ensures payloads { KeepsPayloads SLLEN self.old.tlsf self.new.tlsf }
         ensures refused { IfNone result (IsAsBefore self.old.tlsf self.new.tlsf) }
     {

@@ -1,4 +1,4 @@
-use Rattle.std.proofs.Common.{◌∙◌, sym, subst}
+use Rattle.std.proofs.Common.{◌∙◌, arith, sym, subst}
 use Rattle.rlsf_model.specs.End.{notes_at_end, owed_at_end}
 use Rattle.rlsf_model.specs.Note.{LeadsBy}
 use Rattle.rlsf_flex.specs.Footers.{AreSpelled}
@@ -6,6 +6,9 @@ use Rattle.rlsf_flex.proofs.Ends.{spelled, ends_with, ends_without}
 use Rattle.rlsf_flex.proofs.flex.FlexTlsf.into_parts.Given as given
 use Rattle.rlsf_flex.proofs.flex.FlexTlsf.into_parts.Goals as goal
 use Rattle.rlsf_flex.proofs.flex.FlexTlsf.into_parts.Goals.{Joined-supports_dealloc, then-supports_dealloc, else-supports_dealloc}
+
+pub into_memory-memory-requires : goal.into_memory-memory-requires
+into_memory-memory-requires g c = omega arith
 
 pub give_back-requires-clause-outstanding : goal.give_back-requires-clause-outstanding
 give_back-requires-clause-outstanding g c =

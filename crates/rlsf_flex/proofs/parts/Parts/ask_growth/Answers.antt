@@ -150,6 +150,7 @@ returns-then-not-grows g c = record {
       AskedGrowth-none (kept_pool c.args.pool) c.args.len fixed refl
       (Took-refused before c.args.self.now.source c.requires.stands refl c.requires.stands.owed c.args.wanted);
   payloads = KeepsPayloads-refl c.args.self.now.tlsf;
+  whole = c.requires.whole;
   refused = record { same = refl };
 }
 
@@ -169,6 +170,7 @@ returns-in_err-grown g c =
           subst (g.S.FlexSource.owes y) (sym kept.split) (c.in_err-grown.ensures.owes [] kept.rest (subst (g.S.FlexSource.owes c.args.self.now.source) kept.split v.owed)) in
           AskedGrowth-asked (kept_pool c.args.pool) c.args.len grows c.in_err-grown.ensures.leads (Took-refused before y v same owed c.args.wanted);
       payloads = KeepsPayloads-refl c.args.self.now.tlsf;
+      whole = c.requires.whole;
       refused = record { same = refl };
     })
 
@@ -200,5 +202,8 @@ returns g c = record {
             KeepsPayloads-trans _ _ _ (subst (KeepsPayloads g.row.SLLEN c.args.self.now.tlsf) (sym w.tlsf-is) footed) taken
         | else-supports_dealloc w ↦ subst (λ (d : Allocator). KeepsPayloads g.row.SLLEN d c.append_free_block_ptr-taken.new.self) w.tlsf-is taken
       ];
+  whole =
+      let (stands, footed) = moved g (goal.at.returns g c).Joined-supports_dealloc (grew g (goal.at.returns g c).In_ok-grown) in
+      c.append_free_block_ptr-taken.ensures.place.3 (footed.place.3 c.requires.whole);
   refused = tt;
 }

@@ -1,4 +1,4 @@
-use Rattle.std.proofs.Common.{◌≡◌, ◌≤◌, ℕ, arith, Option, Some, None, sym, ap, ◌∙◌, refl}
+use Rattle.std.proofs.Common.{◌≡◌, ℕ, arith, Option, Some, None, sym, ap, ◌∙◌, refl}
 use Rattle.std.specs.Bool.{then_some}
 use Rattle.std.specs.Int.NonZero.{non_zero_usize_get}
 use Rattle.std.specs.Option.{MatchOption, option_map}
@@ -68,7 +68,7 @@ write_footer_if-requires g c =
     (omega arith, (ends, (footer, (place.3 c.requires.whole, stood_at stands.stands stands.whole))))
 
 -- how many bytes were taken
-taken_is : (o : Option NonZeroUsize) (taken n : ℕ) → MatchOption o (taken ≡ 0) (λ x. (taken ≡ non_zero_usize_get x) × (1 ≤ taken))
+taken_is : (o : Option NonZeroUsize) (taken n : ℕ) → MatchOption o (taken ≡ 0) (λ x. taken ≡ non_zero_usize_get x)
     → option_map non_zero_usize_get o ≡ Some n → taken ≡ n
 taken_is None taken n counted is = absurd (cc)
 taken_is (Some x) taken n counted is = cc
@@ -111,9 +111,9 @@ returns g c = record {
       AskedRange-asked (sym c.in_ok-len.ensures) c.in_ok-range.ensures.leads (Took-named wrote.state c.give.ensures
       (Came-took c.requires.valid is_came b d b.state _ c.args.self.now.kept (kept_of c.then_some-self.result) same refl step stands spare c.insert_free_block_ptr.ensures.place
       (stays_in stands d wrote.state wrote.stands) footed
-      (λ n is. ap kept_of c.then_some-self.ensures ∙ kept_of-then_some c.keeps_pool.result (record { range = r; len = c.map_or-taken.result })
-      ∙ ap (λ k. then_some k (kept_pool (record { range = r; len = c.map_or-taken.result }))) (c.keeps_pool.ensures ∙ ap keeps same)
-      ∙ ap (λ m. then_some (keeps t) (record { range = r; len = m })) (taken_is c.insert_free_block_ptr.result c.map_or-taken.result n c.map_or-taken.ensures is))));
+      (λ n is. ap kept_of c.then_some-self.ensures ∙ kept_of-then_some c.keeps_pool.result (record { range = r; len = c.len_of-taken.result })
+      ∙ ap (λ k. then_some k (kept_pool (record { range = r; len = c.len_of-taken.result }))) (c.keeps_pool.ensures ∙ ap keeps same)
+      ∙ ap (λ m. then_some (keeps t) (record { range = r; len = m })) (taken_is c.insert_free_block_ptr.result c.len_of-taken.result n c.len_of-taken.ensures is))));
   payloads =
       let did = c.insert_free_block_ptr.ensures in
       let wrote = c.write_footer_if.ensures in

@@ -1,4 +1,4 @@
-use Rattle.std.proofs.Common.{◌+◌, arith, refl, sym, ◌∙◌, ap, subst}
+use Rattle.std.proofs.Common.{◌+◌, length, arith, refl, sym, ◌∙◌, ap, subst}
 use Rattle.rlsf_model.specs.Note.{dealloc}
 use Rattle.rlsf_model.specs.Terms.{Terms}
 use Rattle.rlsf_model.specs.Trim.{IsNewestHeld}
@@ -29,6 +29,11 @@ overflow_add-count g c =
     let now = flex_over c.give_newest_back.new.self in
     let more = GaveBack-next g.S.FlexSource.leads begin meanwhile now c.loop-count.count c.loop-count.invariant.gone (c.loop-count-test.ensures.gone refl) in
     record { fits = omega (arith, GaveBack-few g.S.FlexSource.leads begin now (c.loop-count.count + 1) more c.requires.stands) }
+
+pub loop-count-smaller : goal.loop-count-smaller
+loop-count-smaller g c =
+    let one = c.loop-count-test.ensures.gone refl in
+    omega (arith, ap length one.split, ap length one.pools)
 
 pub loop-count-preserved : goal.loop-count-preserved
 loop-count-preserved g c =
