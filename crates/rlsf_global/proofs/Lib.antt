@@ -3,6 +3,7 @@ pub mod Checks
 pub mod Deallocations
 pub mod Heaps
 pub mod Kept
+pub mod KeptMemories
 pub mod Layouts
 pub mod Lives
 pub mod MovedPayloads

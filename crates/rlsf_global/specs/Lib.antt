@@ -2,6 +2,7 @@
 pub mod Calls
 pub mod Kept
 pub mod Locked
+pub mod Memory
 pub mod Refusals
 pub mod Steps
 pub mod Words

@@ -9,5 +9,6 @@ pub use Rattle.rlsf_model_global.specs.Standing.{IsHeap}
 pub use Rattle.rlsf_model_global.specs.Steps.{HeapAllocates, HeapDeallocates, HeapDeallocatesAs, HeapReads, HeapUsable, HeapWrites}
 pub use Rattle.rlsf_global.specs.Calls.{IsAllocation, IsDeallocation}
 pub use Rattle.rlsf_global.specs.Kept.{KeepsFirst}
-pub use Rattle.rlsf_global.specs.Locked.{LockedContents, LockedStands}
+pub use Rattle.rlsf_global.specs.Locked.{LockedContents, LockedStands, flex_of}
+pub use Rattle.rlsf_global.specs.Memory.{CopiesOnResize, IfUnasked, KeepsMemory}
 pub use Rattle.rlsf_global.specs.Refusals.{RefusesOnlyBy}

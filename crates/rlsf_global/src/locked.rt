@@ -7,6 +7,8 @@ ghost use Rattle.rlsf_base.specs.Layout.{IsLayout};
 ghost use Rattle.rlsf_base.specs.Space.{range_of};
 ghost use Rattle.rlsf_global.specs.Calls.{IsAllocation, IsDeallocation};
 ghost use Rattle.rlsf_global.specs.Kept.{KeepsFirst};
+ghost use Rattle.rlsf_global.specs.Locked.{flex_of};
+ghost use Rattle.rlsf_global.specs.Memory.{CopiesOnResize, IfUnasked, KeepsMemory};
 ghost use Rattle.rlsf_model.specs.Allocate.{HasRoomFor};
 ghost use Rattle.rlsf_model.specs.Reallocate.{HasRoomToResize};
 ghost use Rattle.rlsf_model_global.specs.declared.error.GlobalError.TheVariants.{UnknownAddress};
@@ -27,6 +29,9 @@ use std::marker::Model;
 
 /// The value behind the lock: an allocator over the page source, and the table of its live addresses. An entry of the table is a live
 /// address and its last layout. By an invariant of the type, the table lists exactly the live payloads, in the order of their addresses.
+///
+/// Every call leaves the memory at its place. It leaves each byte as it is that belongs to no block, or that the source hasn't provided
+/// (`KeepsMemory`). An error other than `NoRoom` leaves the memory unchanged, with both counts: nothing was tried.
 #[derive(Drop)]
 pub struct Locked<Options: GlobalTlsfOptions> {
     flex: PagedTlsf<Options>,
@@ -82,6 +87,9 @@ impl<Options: GlobalTlsfOptions> Locked<Options> {
         ensures allocation { IsAllocation self.old.heap self.new.heap layout result }
         ensures touches { HasRoomFor 64 self.old.heap.flex.machine layout.size layout.align → self.new.memory.touches ≤ self.old.memory.touches + 27 }
         ensures grow { self.old.memory.touches ≤ self.new.memory.touches }
+        ensures unasked { IfUnasked result (self.new.memory ≡ self.old.memory) }
+        ensures memory { KeepsMemory (flex_of self.old) (flex_of self.new) }
+        ensures copied { self.new.memory.copied ≡ self.old.memory.copied }
     {
         if self.rows.try_reserve(1).is_err() {
             return Err(GlobalError::TableMemory);
@@ -105,6 +113,9 @@ impl<Options: GlobalTlsfOptions> Locked<Options> {
         ensures allocation { IsAllocation self.old.heap self.new.heap layout result }
         ensures touches { HasRoomFor 64 self.old.heap.flex.machine layout.size layout.align → self.new.memory.touches ≤ self.old.memory.touches + 27 }
         ensures grow { self.old.memory.touches ≤ self.new.memory.touches }
+        ensures unasked { IfUnasked result (self.new.memory ≡ self.old.memory) }
+        ensures memory { KeepsMemory (flex_of self.old) (flex_of self.new) }
+        ensures copied { self.new.memory.copied ≡ self.old.memory.copied }
     {
         self.allocate(layout)
     }
@@ -118,6 +129,8 @@ impl<Options: GlobalTlsfOptions> Locked<Options> {
         ensures deallocation { IsDeallocation self.old.heap self.new.heap (at addr) result }
         ensures touches { self.new.memory.touches ≤ self.old.memory.touches + 32 }
         ensures grow { self.old.memory.touches ≤ self.new.memory.touches }
+        ensures memory { KeepsMemory (flex_of self.old) (flex_of self.new) }
+        ensures copied { self.new.memory.copied ≡ self.old.memory.copied }
     {
         let Ok(index) = search(&self.rows, addr) else {
             // Only a live address has an entry, so nothing is deallocated twice.
@@ -142,6 +155,8 @@ impl<Options: GlobalTlsfOptions> Locked<Options> {
         ensures deallocation { IsDeallocation self.old.heap self.new.heap (at addr) result }
         ensures touches { self.new.memory.touches ≤ self.old.memory.touches + 32 }
         ensures grow { self.old.memory.touches ≤ self.new.memory.touches }
+        ensures memory { KeepsMemory (flex_of self.old) (flex_of self.new) }
+        ensures copied { self.new.memory.copied ≡ self.old.memory.copied }
     {
         let Ok(index) = search(&self.rows, addr) else {
             // Refused before the layout is compared: an address without an entry has none.
@@ -194,6 +209,9 @@ impl<Options: GlobalTlsfOptions> Locked<Options> {
         ensures touches_elsewhere { Options.ENABLE_REALLOCATION ≡ false → HasRoomFor 64 self.old.heap.flex.machine new_size layout.align
             → self.new.memory.touches ≤ self.old.memory.touches + 59 }
         ensures grow { self.old.memory.touches ≤ self.new.memory.touches }
+        ensures unasked { IfUnasked result (self.new.memory ≡ self.old.memory) }
+        ensures memory { KeepsMemory (flex_of self.old) (flex_of self.new) }
+        ensures copied { CopiesOnResize Options.ENABLE_REALLOCATION self.old.heap.flex.machine (at addr) layout.size new_size self.old.memory self.new.memory }
     {
         let Ok(index) = search(&self.rows, addr) else {
             return Err(GlobalError::UnknownAddress);
@@ -231,6 +249,10 @@ impl<Options: GlobalTlsfOptions> Locked<Options> {
         ensures same { OnErr result (self.new.heap ≡ self.old.heap) }
         ensures touches { HasRoomFor 64 self.old.heap.flex.machine layout.size layout.align → self.new.memory.touches ≤ self.old.memory.touches + 59 }
         ensures grow { self.old.memory.touches ≤ self.new.memory.touches }
+        ensures unasked { IfUnasked result (self.new.memory ≡ self.old.memory) }
+        ensures memory { KeepsMemory (flex_of self.old) (flex_of self.new) }
+        ensures copied { OnOk result (self.new.memory.copied ≡ self.old.memory.copied + min layout.size (length (content_at self.old.heap (at addr)))) }
+        ensures copied_none { OnErr result (self.new.memory.copied ≡ self.old.memory.copied) }
     {
         let Ok(index) = search(&self.rows, addr) else {
             return Err(GlobalError::UnknownAddress);
@@ -273,6 +295,9 @@ impl<Options: GlobalTlsfOptions> Locked<Options> {
         ensures same { OnErr result (self.new.heap ≡ self.old.heap) }
         ensures touches { self.new.memory.touches ≤ self.old.memory.touches + 25 }
         ensures grow { self.old.memory.touches ≤ self.new.memory.touches }
+        ensures unasked { IfUnasked result (self.new.memory ≡ self.old.memory) }
+        ensures memory { KeepsMemory (flex_of self.old) (flex_of self.new) }
+        ensures copied { self.new.memory.copied ≡ self.old.memory.copied }
     {
         let Ok(index) = search(&self.rows, addr) else {
             return Err(GlobalError::UnknownAddress);
@@ -348,6 +373,8 @@ impl<Options: GlobalTlsfOptions> Locked<Options> {
         ensures same { OnErr result (self.new.heap ≡ self.old.heap) }
         ensures touches { self.new.memory.touches ≤ self.old.memory.touches + 3 }
         ensures grow { self.old.memory.touches ≤ self.new.memory.touches }
+        ensures memory { KeepsMemory (flex_of self.old) (flex_of self.new) }
+        ensures copied { self.new.memory.copied ≡ self.old.memory.copied }
     {
         let Ok(_) = search(&self.rows, addr) else {
             return Err(GlobalError::UnknownAddress);

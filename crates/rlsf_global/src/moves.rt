@@ -5,6 +5,7 @@ ghost use Rattle.rlsf_base.specs.Addr.{at};
 ghost use Rattle.rlsf_flex.specs.StandsFor.{FlexStandsFor};
 ghost use Rattle.rlsf_global.specs.Locked.{heap_of};
 ghost use Rattle.rlsf_model_global.specs.Pages.{MayOwe};
+ghost use Rattle.rlsf_global.specs.Memory.{CopiesOnResize, KeepsMemory};
 ghost use Rattle.rlsf_global.specs.Steps.Moves.{IsGivenLayout, ResizesTo, StaysRefused};
 ghost use Rattle.rlsf_model.specs.Allocate.{HasRoomFor};
 ghost use Rattle.rlsf_model.specs.Callers.{align_at, bytes_at};
@@ -40,6 +41,9 @@ pub(crate) fn move_away<Options: GlobalTlsfOptions>(
     ensures refused { IfNone result (StaysRefused flex.old flex.new) }
     ensures touches { HasRoomFor 64 flex.old.state.machine wanted.size wanted.align → flex.new.memory.touches ≤ flex.old.memory.touches + 59 }
     ensures grow { flex.old.memory.touches ≤ flex.new.memory.touches }
+    ensures memory { KeepsMemory flex.old flex.new }
+    ensures copied { IfSome result (λ to. flex.new.memory.copied ≡ flex.old.memory.copied + keep) }
+    ensures copied_none { IfNone result (flex.new.memory.copied ≡ flex.old.memory.copied) }
 {
     let to = flex.allocate(wanted)?;
     flex.copy_payload(addr, to, keep);
@@ -68,6 +72,8 @@ pub(crate) fn resize<Options: GlobalTlsfOptions>(
     ensures touches_elsewhere { Options.ENABLE_REALLOCATION ≡ false → HasRoomFor 64 flex.old.state.machine wanted.size wanted.align
         → flex.new.memory.touches ≤ flex.old.memory.touches + 59 }
     ensures grow { flex.old.memory.touches ≤ flex.new.memory.touches }
+    ensures memory { KeepsMemory flex.old flex.new }
+    ensures copied { CopiesOnResize Options.ENABLE_REALLOCATION flex.old.state.machine (at addr) layout.size wanted.size flex.old.memory flex.new.memory }
 {
     if Options::ENABLE_REALLOCATION {
         flex.reallocate(addr, wanted)

@@ -1,5 +1,6 @@
-use Rattle.std.proofs.Common.{arith}
+use Rattle.std.proofs.Common.{◌+◌, None, arith, ap, ◌∙◌}
 use Rattle.rlsf_base.specs.Addr.{at}
+use Rattle.rlsf_global.proofs.KeptMemories.{kept_allocated, kept_moved}
 use Rattle.rlsf_global.proofs.MovedPayloads.{moved_away, moved_away_seen, not_allocated_stays, not_moved}
 use Rattle.rlsf_global.proofs.moves.move_away.Goals as goal
 
@@ -15,6 +16,9 @@ returns-in_err-to g c =
           let first = did.touches some in
           omega (arith, first);
       grow = did.grow;
+      memory = kept_allocated c.args.flex.now c.allocate.new.self c.args.wanted.size c.args.wanted.align None did.step;
+      copied = tt;
+      copied_none = did.copied;
     })
 
 pub returns : goal.returns
@@ -37,4 +41,11 @@ returns g c = record {
       let first = c.in_ok-to.ensures.touches some in
       omega (arith, first, c.copy_payload.ensures.touches, c.deallocate.ensures.touches);
   grow = omega (arith, c.in_ok-to.ensures.grow, c.copy_payload.ensures.touches, c.deallocate.ensures.grow);
+  memory =
+      let copy = c.copy_payload.ensures in
+      let free = c.deallocate.ensures in
+      kept_moved c.args.flex.now c.allocate.new.self c.copy_payload.new.self c.deallocate.new.self c.args.wanted.size c.args.wanted.align (at c.in_ok-to.to) _ _
+      c.in_ok-to.ensures.step copy.step copy.place copy.chunks free.step free.place free.deallocation.chunks;
+  copied = c.deallocate.ensures.copied ∙ c.copy_payload.ensures.copied ∙ ap (λ n. n + c.args.keep) c.in_ok-to.ensures.copied;
+  copied_none = tt;
 }

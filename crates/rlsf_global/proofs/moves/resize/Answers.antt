@@ -1,9 +1,10 @@
-use Rattle.std.proofs.Common.{rules, true≢false, ◌∙◌, ◌≡◌, ◌≢◌, ◌≤◌, ◌<◌, ◌+◌, ℕ, length, Ok, Err, Some, None, IsSome, Option, refl, subst, sym}
+use Rattle.std.proofs.Common.{rules, min, ap, true≢false, ◌∙◌, ◌≡◌, ◌≢◌, ◌≤◌, ◌<◌, ◌+◌, ℕ, length, Ok, Err, Some, None, IsSome, Option, refl, subst, sym}
 use Rattle.std.specs.declared.num.NonZeroUsize.{NonZeroUsize}
 use Rattle.rlsf_base.specs.Addr.{at, reply}
 use Rattle.rlsf_flex.specs.StandsFor.{FlexSteps}
 use Rattle.rlsf_global.specs.Locked.{heap_of}
 use Rattle.rlsf_model_global.specs.Pages.{MayOwe}
+use Rattle.rlsf_global.proofs.KeptMemories.{copied_at_most, kept_reallocated}
 use Rattle.rlsf_global.proofs.MovedPayloads.{not_reallocated, not_reallocated_stays, reallocated, reallocated_left, reallocated_stands}
 use Rattle.rlsf_global.proofs.Results.{for_none, for_some, none_of, some_of}
 use Rattle.rlsf_model.specs.Callers.{align_at, bytes_at}
@@ -15,6 +16,7 @@ use Rattle.rlsf_model_global.specs.Moves.{ReallocatesTo}
 use Rattle.rlsf_model_global.specs.Rows.{put, without_row}
 use Rattle.rlsf_global.proofs.moves.resize.Given as given
 use Rattle.rlsf_global.proofs.moves.resize.Goals as goal
+use Rattle.rlsf_global.proofs.moves.resize.Goals.{After-move_away}
 
 -- the allocator's reallocation with its result
 steps_with : (g : given.Over) (c : goal.After-reallocate g) (o : Option NonZeroUsize) → c.reallocate.result ≡ o
@@ -59,7 +61,23 @@ returns-then-ENABLE_REALLOCATION g c = record {
   touches = λ on room. c.reallocate.ensures.touches room;
   touches_elsewhere = λ off some. absurd (true≢false (c.if-ENABLE_REALLOCATION.ensures ∙ off));
   grow = search rules;
+  memory =
+      kept_reallocated c.args.flex.now c.reallocate.new.self (at c.args.addr) c.args.wanted.size (reply c.reallocate.result) c.reallocate.ensures.step;
+  copied = record {
+    grow = c.reallocate.ensures.grow_copied;
+    room = λ on room. c.reallocate.ensures.copied room;
+    stays = λ on room. c.reallocate.ensures.stays room;
+    elsewhere = λ off. absurd (true≢false (c.if-ENABLE_REALLOCATION.ensures ∙ off));
+  };
 }
+
+-- the move copies at most the bytes of the smaller size
+few_copied : (g : given.Over) (c : After-move_away g)
+    → (c.args.flex.now.memory.copied ≤ c.move_away.new.flex.memory.copied)
+    × (c.move_away.new.flex.memory.copied ≤ c.args.flex.now.memory.copied + c.min-keep.result)
+few_copied g c =
+    copied_at_most c.move_away.result c.args.flex.now.memory.copied c.move_away.new.flex.memory.copied c.min-keep.result c.move_away.ensures.copied
+    c.move_away.ensures.copied_none
 
 pub returns-else-ENABLE_REALLOCATION : goal.returns-else-ENABLE_REALLOCATION
 returns-else-ENABLE_REALLOCATION g c = record {
@@ -72,4 +90,14 @@ returns-else-ENABLE_REALLOCATION g c = record {
   touches = λ on room. absurd (true≢false (sym on ∙ sym c.if-ENABLE_REALLOCATION.ensures));
   touches_elsewhere = λ off some. c.move_away.ensures.touches some;
   grow = search rules;
+  memory = c.move_away.ensures.memory;
+  copied =
+      let (more, few) = few_copied g (goal.at.returns-else-ENABLE_REALLOCATION g c).After-move_away in
+      record {
+        grow = more;
+        room = λ on room. absurd (true≢false (sym on ∙ sym c.if-ENABLE_REALLOCATION.ensures));
+        stays = λ on room. absurd (true≢false (sym on ∙ sym c.if-ENABLE_REALLOCATION.ensures));
+        elsewhere = λ off. subst (λ n. c.move_away.new.flex.memory.copied ≤ c.args.flex.now.memory.copied + n)
+            (c.min-keep.ensures ∙ ap (λ n. min n c.size-else-ENABLE_REALLOCATION.result) c.size.ensures.value ∙ ap (min c.args.layout.size) c.size-else-ENABLE_REALLOCATION.ensures.value) few;
+      };
 }

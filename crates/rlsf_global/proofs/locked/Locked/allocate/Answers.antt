@@ -1,6 +1,7 @@
-use Rattle.std.proofs.Common.{rules, ◌≤◌, length, refl, subst, sym}
+use Rattle.std.proofs.Common.{rules, ◌≤◌, None, Some, length, refl, subst, sym}
 use Rattle.rlsf_base.specs.Addr.{at}
 use Rattle.rlsf_global.specs.Locked.{heap_of}
+use Rattle.rlsf_global.proofs.KeptMemories.{KeepsMemory-refl, kept_allocated}
 use Rattle.rlsf_global.proofs.Layouts.{content_at-bytes, content_at-is, layout_at-none, layout_at-put_here, layout_at-put_other}
 use Rattle.rlsf_global.proofs.Placements.{allocated, allocated_locked, heap_stays, no_row, not_allocated, stays_locked}
 use Rattle.rlsf_global.proofs.locked.Locked.allocate.Goals as goal
@@ -19,6 +20,9 @@ returns-then-is_err g c = rw (← c.self.view_is) (record {
   };
   touches = search rules;
   grow = search rules;
+  unasked = refl;
+  memory = KeepsMemory-refl c.self.inside.flex;
+  copied = refl;
 })
 
 pub invariant_of-self-in_default : goal.invariant_of-self-in_default
@@ -53,6 +57,9 @@ returns-in_default g c = rw (← c.self.view_is) (record {
   };
   touches = c.in_default.ensures.touches;
   grow = c.in_default.ensures.grow;
+  unasked = tt;
+  memory = kept_allocated c.self.inside.flex c.allocate.new.self c.args.layout.size c.args.layout.align None c.in_default.ensures.step;
+  copied = c.in_default.ensures.copied;
 })
 
 pub returns : goal.returns
@@ -84,4 +91,7 @@ returns g c = rw (← c.self.view_is) (record {
   };
   touches = c.in-Some.ensures.touches;
   grow = c.in-Some.ensures.grow;
+  unasked = tt;
+  memory = kept_allocated c.self.inside.flex c.allocate.new.self c.args.layout.size c.args.layout.align (Some (at c.in-Some.addr)) c.in-Some.ensures.step;
+  copied = c.in-Some.ensures.copied;
 })

@@ -1,3 +1,4 @@
+use Rattle.rlsf_global.proofs.KeptMemories.{KeepsMemory-refl, kept_alone}
 use Rattle.rlsf_global.proofs.Deallocations.{IsDeallocation-done, IsDeallocation-refused}
 use Rattle.std.proofs.Common.{◌≡◌, Some, Ok, Err, lit<, ap, refl, ◌∙◌, subst, sym, arith}
 use Rattle.rlsf_base.specs.Addr.{at}
@@ -40,6 +41,8 @@ returns-in_default g c = rw (← c.self.view_is) (record {
       IsDeallocation-refused (heap_of c.self.inside.flex c.self.inside.rows.items) (at c.args.addr) UnknownAddress none);
   touches = omega arith;
   grow = omega arith;
+  memory = KeepsMemory-refl c.self.inside.flex;
+  copied = refl;
 })
 
 pub returns : goal.returns
@@ -61,4 +64,6 @@ returns g c = rw (← c.self.view_is) (record {
       IsDeallocation-done before after (at c.args.addr) unknown (taken_out g c) c.deallocate.ensures.deallocation.bytes);
   touches = c.deallocate.ensures.touches;
   grow = c.deallocate.ensures.grow;
+  memory = kept_alone c.self.inside.flex c.deallocate.new.self _ c.self.invariant.flex c.deallocate.ensures.step c.deallocate.ensures.place;
+  copied = c.deallocate.ensures.copied;
 })

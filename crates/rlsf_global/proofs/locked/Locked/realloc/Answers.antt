@@ -2,9 +2,11 @@ use Rattle.rlsf_base.specs.Sizes.{request_size}
 use Rattle.rlsf_model.specs.Allocate.{HasRoomFor, choice}
 use Rattle.rlsf_model.specs.Reallocate.{HasRoomToResize}
 use Rattle.std.proofs.Common.{rules, IsSome, ◌≡◌, ◌≤◌, ◌+◌, true, false, length, Some, Ok, Err, lit<, ap, ◌∙◌, subst, sym, refl, arith}
+use Rattle.rlsf_global.proofs.KeptMemories.{KeepsMemory-refl}
 use Rattle.rlsf_global.proofs.Layouts.{content_at-bytes, layout_at-moved_left, layout_at-moved_other, layout_at-none, layout_at-put_here}
 use Rattle.rlsf_base.specs.Addr.{at}
 use Rattle.rlsf_global.specs.Locked.{heap_of, locked_contents}
+use Rattle.rlsf_global.specs.Memory.{CopiesOnResize}
 use Rattle.rlsf_global.proofs.Checks.{same_align, same_size}
 use Rattle.rlsf_global.proofs.MovedPayloads.{moved_locked, moved_row, same_heap, reallocates_in, reallocates_out}
 use Rattle.rlsf_global.proofs.Kept.{kept_asked, kept_usable}
@@ -88,6 +90,15 @@ touches_elsewhere g c off some =
     let same = ap (λ n. request_size n c.args.layout.align) (sym wanted.ensures.0) ∙ ap (request_size wanted.result.size) (sym (wanted.ensures.1 ∙ c.align.ensures.value)) in
     c.resize.ensures.touches_elsewhere off (subst (λ n. IsSome (choice 64 n free)) same some)
 
+-- and the bytes that were copied
+copied : (g : given.Over) (c : After-resize g)
+    → CopiesOnResize g.Options.GlobalTlsfOptions.ENABLE_REALLOCATION c.self.inside.flex.state.machine (at c.args.addr) c.args.layout.size c.args.new_size
+    c.self.inside.flex.memory c.resize.new.flex.memory
+copied g c =
+    subst (λ n. CopiesOnResize g.Options.GlobalTlsfOptions.ENABLE_REALLOCATION c.self.inside.flex.state.machine (at c.args.addr) c.args.layout.size n
+    c.self.inside.flex.memory c.resize.new.flex.memory)
+    c.from_size_align_unchecked-wanted.ensures.0 c.resize.ensures.copied
+
 pub returns : goal.returns
 returns g c =
     let k = (goal.at.returns g c).After-move_row in
@@ -125,6 +136,9 @@ returns g c =
       touches = touches_there g call;
       touches_elsewhere = touches_elsewhere g call;
       grow = c.resize.ensures.grow;
+      unasked = tt;
+      memory = c.resize.ensures.memory;
+      copied = copied g call;
     })
 
 pub returns-in_default : goal.returns-in_default
@@ -145,6 +159,9 @@ returns-in_default g c =
       touches = λ _. omega arith;
       touches_elsewhere = λ _. omega arith;
       grow = omega arith;
+      unasked = refl;
+      memory = KeepsMemory-refl c.self.inside.flex;
+      copied = record { grow = omega arith; room = λ on room. omega arith; stays = λ on room. refl; elsewhere = λ off. omega arith };
     })
 
 pub returns-then-ne : goal.returns-then-ne
@@ -167,6 +184,9 @@ returns-then-ne g c =
       touches = λ _. omega arith;
       touches_elsewhere = λ _. omega arith;
       grow = omega arith;
+      unasked = refl;
+      memory = KeepsMemory-refl c.self.inside.flex;
+      copied = record { grow = omega arith; room = λ on room. omega arith; stays = λ on room. refl; elsewhere = λ off. omega arith };
     })
 
 pub returns-in_default-resize : goal.returns-in_default-resize
@@ -199,4 +219,7 @@ returns-in_default-resize g c =
       touches = touches_there g call;
       touches_elsewhere = touches_elsewhere g call;
       grow = c.resize.ensures.grow;
+      unasked = tt;
+      memory = c.resize.ensures.memory;
+      copied = copied g call;
     })

@@ -1,5 +1,6 @@
-use Rattle.rlsf_global.proofs.Layouts.{content_at-bytes, layout_at-moved_left, layout_at-moved_other, layout_at-none, layout_at-put_here}
-use Rattle.std.proofs.Common.{rules, ◌≡◌, arith, min, Some, None, Ok, Err, lit<, ap, ◌∙◌, subst, sym, refl}
+use Rattle.rlsf_global.proofs.KeptMemories.{KeepsMemory-refl}
+use Rattle.rlsf_global.proofs.Layouts.{content_at-bytes, content_at-is, layout_at-moved_left, layout_at-moved_other, layout_at-none, layout_at-put_here}
+use Rattle.std.proofs.Common.{rules, ◌≡◌, ◌+◌, length, arith, min, Some, None, Ok, Err, lit<, ap, ◌∙◌, subst, sym, refl}
 use Rattle.rlsf_base.specs.Addr.{at}
 use Rattle.rlsf_global.specs.Locked.{heap_of, locked_contents}
 use Rattle.rlsf_global.proofs.MovedPayloads.{moved_locked, moved_row, same_heap}
@@ -83,6 +84,12 @@ returns g c =
       same = tt;
       touches = c.move_away.ensures.touches;
       grow = c.move_away.ensures.grow;
+      unasked = tt;
+      memory = c.move_away.ensures.memory;
+      copied = c.in-Some.ensures.copied ∙ ap (λ n. c.self.inside.flex.memory.copied + n)
+          (c.min-keep.ensures ∙ ap (λ n. min n c.allocation_usable_size.result) c.size.ensures.value
+          ∙ ap (min c.args.layout.size) (c.allocation_usable_size.ensures ∙ ap length (sym (content_at-is before (at c.args.addr)))));
+      copied_none = tt;
     })
 
 pub returns-in_default : goal.returns-in_default
@@ -101,6 +108,10 @@ returns-in_default g c =
       same = refl;
       touches = λ _. omega arith;
       grow = omega arith;
+      unasked = refl;
+      memory = KeepsMemory-refl c.self.inside.flex;
+      copied = tt;
+      copied_none = refl;
     })
 
 pub returns-in_default-move_away : goal.returns-in_default-move_away
@@ -126,4 +137,8 @@ returns-in_default-move_away g c =
       same = same_heap c.self.inside.flex c.move_away.new.flex c.self.inside.rows.items stays.state stays.source;
       touches = c.move_away.ensures.touches;
       grow = c.move_away.ensures.grow;
+      unasked = tt;
+      memory = c.move_away.ensures.memory;
+      copied = tt;
+      copied_none = c.in_default-move_away.ensures.copied_none;
     })

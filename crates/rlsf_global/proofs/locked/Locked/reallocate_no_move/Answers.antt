@@ -1,5 +1,6 @@
 use Rattle.std.proofs.Common.{rules, ◌≡◌, Some, Ok, Err, lit<, ap, ◌∙◌, subst, sym, refl, arith}
 use Rattle.rlsf_model_global.specs.Heap.{layout_at}
+use Rattle.rlsf_global.proofs.KeptMemories.{KeepsMemory-refl, kept_alone}
 use Rattle.rlsf_global.proofs.MovedPayloads.{same_heap}
 use Rattle.rlsf_global.proofs.Layouts.{content_at-bytes, layout_at-moved_other, layout_at-put_here}
 use Rattle.rlsf_base.specs.Addr.{at}
@@ -89,6 +90,9 @@ returns g c =
       same = tt;
       touches = did.touches;
       grow = did.grow;
+      unasked = tt;
+      memory = kept_alone c.self.inside.flex c.reallocate_no_move.new.self _ c.self.invariant.flex did.step did.place;
+      copied = did.copied;
     })
 
 pub returns-in_default : goal.returns-in_default
@@ -106,6 +110,9 @@ returns-in_default g c =
       same = refl;
       touches = omega arith;
       grow = omega arith;
+      unasked = refl;
+      memory = KeepsMemory-refl c.self.inside.flex;
+      copied = refl;
     })
 
 pub returns-then-ne : goal.returns-then-ne
@@ -125,6 +132,9 @@ returns-then-ne g c =
       same = refl;
       touches = omega arith;
       grow = omega arith;
+      unasked = refl;
+      memory = KeepsMemory-refl c.self.inside.flex;
+      copied = refl;
     })
 
 pub returns-in_default-reallocate_no_move : goal.returns-in_default-reallocate_no_move
@@ -152,4 +162,7 @@ returns-in_default-reallocate_no_move g c =
       same = same_heap c.self.inside.flex c.reallocate_no_move.new.self c.self.inside.rows.items did.same did.source;
       touches = did.touches;
       grow = did.grow;
+      unasked = tt;
+      memory = kept_alone c.self.inside.flex c.reallocate_no_move.new.self _ c.self.invariant.flex did.step did.place;
+      copied = did.copied;
     })

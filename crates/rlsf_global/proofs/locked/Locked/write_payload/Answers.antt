@@ -1,3 +1,4 @@
+use Rattle.rlsf_global.proofs.KeptMemories.{KeepsMemory-refl, kept_alone}
 use Rattle.rlsf_global.proofs.Layouts.{content_at-bytes, content_at-is, layout_at-row}
 use Rattle.std.proofs.Common.{rules, arith, ◌+◌, nat_le, length, Ok, Err, lit<, refl, ap, ◌∙◌, subst, sym}
 use Rattle.std.specs.List.{splice}
@@ -37,6 +38,8 @@ returns-in_default g c = rw (← c.self.view_is) (record {
   same = refl;
   touches = omega arith;
   grow = omega arith;
+  memory = KeepsMemory-refl c.self.inside.flex;
+  copied = refl;
 })
 
 pub returns-then-not-fits : goal.returns-then-not-fits
@@ -55,6 +58,8 @@ returns-then-not-fits g c = rw (← c.self.view_is) (record {
   same = refl;
   touches = omega arith;
   grow = omega arith;
+  memory = KeepsMemory-refl c.self.inside.flex;
+  copied = refl;
 })
 
 pub returns : goal.returns
@@ -97,4 +102,13 @@ returns g c = rw (← c.self.view_is) (record {
       let (chunks, after, source, place, stands, touches, copied) = c.payload_mut.ensures.rest c.write_at.new.payload in
       omega (arith, touches));
   grow = search rules;
+  memory = (
+      let w = c.write_at.new.payload in
+      let did = c.payload_mut.ensures in
+      let (chunks, after, source, place, stands, touches, copied) = did.rest w in
+      kept_alone c.self.inside.flex (written c.self.inside.flex (at c.args.addr) (length c.payload_mut.result.now) w) _ c.self.invariant.flex
+      (did.meaning w c.write_at.ensures.len) place);
+  copied = (
+      let (chunks, after, source, place, stands, touches, copied) = c.payload_mut.ensures.rest c.write_at.new.payload in
+      copied);
 })
