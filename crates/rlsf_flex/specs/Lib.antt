@@ -1,4 +1,5 @@
 -- Definitions for the allocator over a source. Read `StandsFor` and `Footers` first.
+pub mod Bounds
 pub mod Deallocations
 pub mod Footers
 pub mod Heap

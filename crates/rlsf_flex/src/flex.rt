@@ -17,7 +17,7 @@ ghost use Rattle.rlsf_model.specs.Note.{LeadsBy};
 ghost use Rattle.rlsf_model.specs.NoMove.{ReallocatesWithoutMove};
 ghost use Rattle.rlsf_model.specs.Reallocate.{HasRoomToResize, HasRoomToStay, Keeps};
 ghost use Rattle.rlsf_model.specs.Release.{Deallocates};
-ghost use Rattle.rlsf_model.specs.Sized.{IsSizedFor, live_count};
+ghost use Rattle.rlsf_model.specs.Sized.{live_count};
 ghost use Rattle.rlsf_model.specs.Trim.{Trims};
 
 use crate::end::{give_back, newest_range};
@@ -67,6 +67,7 @@ impl<
     const FLLEN: usize,
     const SLLEN: usize,
 > FlexTlsf<S, FLBitmap, SLBitmap, FLLEN, SLLEN> {
+    ghost use Rattle.rlsf_flex.specs.Bounds.{IfWithinBounds, KeepsAllBounds, KeepsBounds};
     ghost use Rattle.rlsf_flex.specs.Deallocations.{IsFlexDeallocation};
     ghost use Rattle.rlsf_flex.specs.Lending.{LeavesRest, lends_payload, written};
     ghost use Rattle.rlsf_flex.specs.StandsFor.{FillsAlone, FlexStands, FlexSteps, StepsAlone};
@@ -147,13 +148,10 @@ impl<
         ensures new { IfSome result (λ addr. align_at self.old.state.machine (at addr) ≡ None) }
         ensures aligns { IfSome result (λ addr. (a : ℕ) → a ≢ at addr → align_at self.new.state.machine a ≡ align_at self.old.state.machine a) }
         ensures bytes { IfSome result (λ addr. (a : ℕ) → a ≢ at addr → bytes_at self.new.state.machine a ≡ bytes_at self.old.state.machine a) }
-        ensures room { (count size align : ℕ) → IsSizedFor SLLEN count size align self.old.state.machine → live_count self.old.state.machine ≤ count
-            → layout.size ≤ size → layout.align ≤ align → IsSome result }
-        ensures unasked { (count size align : ℕ) → IsSizedFor SLLEN count size align self.old.state.machine → live_count self.old.state.machine ≤ count
-            → layout.size ≤ size → layout.align ≤ align → self.new.source ≡ self.old.source }
+        ensures room { IfWithinBounds SLLEN self.old.state.machine layout.size layout.align (IsSome result) }
+        ensures unasked { IfWithinBounds SLLEN self.old.state.machine layout.size layout.align (self.new.source ≡ self.old.source) }
         ensures count { IfSome result (λ addr. live_count self.new.state.machine ≡ live_count self.old.state.machine + 1) }
-        ensures bounds { (count size align : ℕ) → IsSizedFor SLLEN count size align self.old.state.machine → layout.size ≤ size → layout.align ≤ align
-            → IsSizedFor SLLEN count size align self.new.state.machine }
+        ensures bounds { KeepsBounds SLLEN self.old.state.machine self.new.state.machine layout.size layout.align }
         ensures same { IfNone result (self.new.state ≡ self.old.state) }
         ensures refused { IfNone result (self.new.memory.bytes ≡ self.old.memory.bytes) }
         ensures place { SamePlace self.old.memory self.new.memory }
@@ -231,13 +229,10 @@ impl<
         ensures new { IfSome result (λ to. at to ≢ at addr → align_at self.old.state.machine (at to) ≡ None) }
         ensures aligns { IfSome result (λ to. (a : ℕ) → a ≢ at addr → a ≢ at to → align_at self.new.state.machine a ≡ align_at self.old.state.machine a) }
         ensures bytes { IfSome result (λ to. (a : ℕ) → a ≢ at addr → a ≢ at to → bytes_at self.new.state.machine a ≡ bytes_at self.old.state.machine a) }
-        ensures room { (count size align : ℕ) → IsSizedFor SLLEN count size align self.old.state.machine → live_count self.old.state.machine ≤ count
-            → layout.size ≤ size → layout.align ≤ align → IsSome result }
-        ensures unasked { (count size align : ℕ) → IsSizedFor SLLEN count size align self.old.state.machine → live_count self.old.state.machine ≤ count
-            → layout.size ≤ size → layout.align ≤ align → self.new.source ≡ self.old.source }
+        ensures room { IfWithinBounds SLLEN self.old.state.machine layout.size layout.align (IsSome result) }
+        ensures unasked { IfWithinBounds SLLEN self.old.state.machine layout.size layout.align (self.new.source ≡ self.old.source) }
         ensures count { live_count self.new.state.machine ≡ live_count self.old.state.machine }
-        ensures bounds { (count size align : ℕ) → IsSizedFor SLLEN count size align self.old.state.machine → layout.size ≤ size → layout.align ≤ align
-            → IsSizedFor SLLEN count size align self.new.state.machine }
+        ensures bounds { KeepsBounds SLLEN self.old.state.machine self.new.state.machine layout.size layout.align }
         ensures same { IfNone result (self.new.state ≡ self.old.state) }
         ensures refused { IfNone result (self.new.memory.bytes ≡ self.old.memory.bytes) }
         ensures place { SamePlace self.old.memory self.new.memory }
@@ -276,8 +271,7 @@ impl<
         ensures aligns { align_at self.new.state.machine ≡ align_at self.old.state.machine }
         ensures bytes { (a : ℕ) → a ≢ at addr → bytes_at self.new.state.machine a ≡ bytes_at self.old.state.machine a }
         ensures count { live_count self.new.state.machine ≡ live_count self.old.state.machine }
-        ensures bounds { (count size align : ℕ) → IsSizedFor SLLEN count size align self.old.state.machine → layout.size ≤ size → layout.align ≤ align
-            → IsSizedFor SLLEN count size align self.new.state.machine }
+        ensures bounds { KeepsBounds SLLEN self.old.state.machine self.new.state.machine layout.size layout.align }
         ensures chunks { self.new.state.machine.chunks ≡ self.old.state.machine.chunks }
         ensures same { IfNone result (self.new.state ≡ self.old.state) }
         ensures refused { IfNone result (self.new.memory.bytes ≡ self.old.memory.bytes) }
@@ -325,8 +319,7 @@ impl<
         ensures bytes { (w : List ℕ) (a : ℕ) → a ≢ at addr → bytes_at (written self.old (at addr) (length result.now) w).state.machine a ≡ bytes_at self.old.state.machine a }
         ensures aligns { (w : List ℕ) → align_at (written self.old (at addr) (length result.now) w).state.machine ≡ align_at self.old.state.machine }
         ensures count { (w : List ℕ) → live_count (written self.old (at addr) (length result.now) w).state.machine ≡ live_count self.old.state.machine }
-        ensures bounds { (w : List ℕ) (count size align : ℕ) → IsSizedFor SLLEN count size align self.old.state.machine
-            → IsSizedFor SLLEN count size align (written self.old (at addr) (length result.now) w).state.machine }
+        ensures bounds { (w : List ℕ) → KeepsAllBounds SLLEN self.old.state.machine (written self.old (at addr) (length result.now) w).state.machine }
         ensures lengths { (w : List ℕ) → length (bytes_at (written self.old (at addr) (length result.now) w).state.machine (at addr)) ≡ length result.now }
         ensures rest { (w : List ℕ) → LeavesRest FLLEN SLLEN S.terms S.owes self.old (written self.old (at addr) (length result.now) w) }
     {
@@ -345,7 +338,7 @@ impl<
         ensures bytes { (a : ℕ) → a ≢ at to → bytes_at self.new.state.machine a ≡ bytes_at self.old.state.machine a }
         ensures aligns { align_at self.new.state.machine ≡ align_at self.old.state.machine }
         ensures count { live_count self.new.state.machine ≡ live_count self.old.state.machine }
-        ensures bounds { (count size align : ℕ) → IsSizedFor SLLEN count size align self.old.state.machine → IsSizedFor SLLEN count size align self.new.state.machine }
+        ensures bounds { KeepsAllBounds SLLEN self.old.state.machine self.new.state.machine }
         ensures chunks { self.new.state.machine.chunks ≡ self.old.state.machine.chunks }
         ensures source { self.new.source ≡ self.old.source }
         ensures place { SamePlace self.old.memory self.new.memory }

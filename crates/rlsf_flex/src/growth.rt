@@ -6,6 +6,7 @@ ghost use Rattle.rlsf_base.specs.Addr.{at};
 ghost use Rattle.rlsf_base.specs.SizeClass.{IsValid};
 ghost use Rattle.rlsf_base.specs.Space.{SamePlace};
 ghost use Rattle.rlsf_tlsf.specs.Allocator.{Stands};
+ghost use Rattle.rlsf_flex.specs.Bounds.{KeepsBounds};
 ghost use Rattle.rlsf_flex.specs.StandsFor.{FlexStandsFor, kept_pool};
 ghost use Rattle.rlsf_flex.specs.Steps.Growth.{AskedGrowth, AskedRange, Extended, IsAsBefore, KeepsPayloads, MovesTo, kept_len, kept_start};
 ghost use Rattle.rlsf_flex.specs.Steps.Parts.{flex_over};
@@ -14,7 +15,7 @@ ghost use Rattle.rlsf_model.specs.Callers.{align_at, bytes_at};
 ghost use Rattle.rlsf_model.specs.Growth.{keeps, range_length};
 ghost use Rattle.rlsf_model.specs.PoolLength.{IsPoolSize};
 ghost use Rattle.rlsf_model.specs.Reallocate.{Keeps};
-ghost use Rattle.rlsf_model.specs.Sized.{IsSizedFor, live_count};
+ghost use Rattle.rlsf_model.specs.Sized.{live_count};
 
 use crate::footers::{read_footer, write_footer, write_footer_if};
 use crate::parts::Parts;
@@ -175,8 +176,7 @@ pub(crate) fn move_payload<const FLLEN: usize, const SLLEN: usize>(
     ensures aligns { IfSome result (λ to. (a : ℕ) → a ≢ at addr → a ≢ at to → align_at tlsf.new.state a ≡ align_at tlsf.old.state a) }
     ensures bytes { IfSome result (λ to. (a : ℕ) → a ≢ at addr → a ≢ at to → bytes_at tlsf.new.state a ≡ bytes_at tlsf.old.state a) }
     ensures count { live_count tlsf.new.state ≡ live_count tlsf.old.state }
-    ensures bounds { (count size align : ℕ) → IsSizedFor SLLEN count size align tlsf.old.state → layout.size ≤ size → layout.align ≤ align
-        → IsSizedFor SLLEN count size align tlsf.new.state }
+    ensures bounds { KeepsBounds SLLEN tlsf.old.state tlsf.new.state layout.size layout.align }
     ensures place { SamePlace tlsf.old.memory tlsf.new.memory }
     ensures grow { tlsf.old.memory.touches ≤ tlsf.new.memory.touches }
     ensures grow_copied { tlsf.old.memory.copied ≤ tlsf.new.memory.copied }

@@ -18,6 +18,7 @@ use crate::parts::Parts;
 use crate::pool::Pool;
 use crate::source::FlexSource;
 use rlsf_base::memory::Range;
+use rlsf_base::rounding::next_multiple_of_32;
 use rlsf_tlsf::Tlsf;
 
 /// Returns whether no block of some contiguous chunks is used.
@@ -49,7 +50,7 @@ fn pool_len<const FLLEN: usize, const SLLEN: usize>(
     requires pool { (len : ℕ) × IsPool tlsf.now.state range len }
     ensures { (len : ℕ) → IsPool tlsf.now.state range len → result ≡ len }
 {
-    let mut end = (range.start + 31) / 32 * 32;
+    let mut end = next_multiple_of_32(range.start);
     while range.start + range.len - end >= 64 {
         end = tlsf.chunk_end(end);
     }

@@ -98,6 +98,8 @@ returns-else-ENABLE_REALLOCATION g c = record {
         room = λ on room. absurd (true≢false (sym on ∙ sym c.if-ENABLE_REALLOCATION.ensures));
         stays = λ on room. absurd (true≢false (sym on ∙ sym c.if-ENABLE_REALLOCATION.ensures));
         elsewhere = λ off. subst (λ n. c.move_away.new.flex.memory.copied ≤ c.args.flex.now.memory.copied + n)
-            (c.min-keep.ensures ∙ ap (λ n. min n c.size-else-ENABLE_REALLOCATION.result) c.size.ensures.value ∙ ap (min c.args.layout.size) c.size-else-ENABLE_REALLOCATION.ensures.value) few;
+            (c.min-keep.ensures ∙ ap (λ n. min n c.size-else-ENABLE_REALLOCATION.result) c.size.ensures.value
+            ∙ ap (min c.args.layout.size) c.size-else-ENABLE_REALLOCATION.ensures.value)
+            few;
       };
 }
