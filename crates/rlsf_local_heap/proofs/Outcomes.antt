@@ -1,0 +1,52 @@
+-- What follows from a call that may return nothing, or an error.
+use Rattle.std.proofs.Common.{◌≡◌, ◌≢◌, ℕ, Option, Some, None, Result, Ok, Err, IfSome, IfNone, IsSome, IsNone, MatchResult, is_ok, true≢false, sym, ap, subst, ◌∙◌}
+use Rattle.rlsf_base.specs.declared.memory.unit_payload.UnitPayload.{UnitPayload}
+use Rattle.rlsf_model.specs.Callers.{align_at}
+use Rattle.rlsf_model.specs.State.{State}
+use Rattle.rlsf_heap.specs.Units.{unit_addr_of}
+
+-- what holds of each value holds of none
+pub of_none : {A : Type 0} {r : Option A} (Is : A → Type 0) → r ≡ None → IfSome r Is
+of_none Is none = subst (λ o. IfSome o Is) (sym none) tt
+
+-- what holds if there is no value holds of none
+pub at_none : {A : Type 0} {r : Option A} (Is : Type 0) → r ≡ None → Is → IfNone r Is
+at_none Is none is = subst (λ o. IfNone o Is) (sym none) is
+
+pub each_value : {A : Type 0} {Is Has : A → Type 0} (r : Option A) → ((x : A) → Is x → Has x) → IfSome r Is → IfSome r Has
+each_value None f is = tt
+each_value (Some x) f is = f x is
+
+pub each_result : {A B : Type 0} {Is Has : A → Type 0} {Was Had : B → Type 0} (r : Result A B) → ((x : A) → Is x → Has x) → ((y : B) → Was y → Had y)
+    → MatchResult r Is Was → MatchResult r Has Had
+each_result (Ok x) f g is = f x is
+each_result (Err y) f g is = g y is
+
+pub ok_is_no_error : {A B : Type 0} {x : A} {y : B} → Ok x ≡ Err y → ⊥
+ok_is_no_error e = true≢false (ap is_ok e)
+
+-- of a result that is made of a value, and is there only if the value is
+pub made_of : {A B : Type 0} {Is : A → Type 0} {Ties : A → B → Type 0} {Has : B → Type 0} (o : Option A) (r : Option B) → IfNone o (IsNone r)
+    → IfSome o (λ x. IfSome r (Ties x)) → ((x : A) (y : B) → Ties x y → Is x → Has y) → IfSome o Is → IfSome r Has
+made_of None None none ties f is = tt
+made_of None (Some y) none ties f is = absurd (true≢false none)
+made_of (Some x) None none ties f is = tt
+made_of (Some x) (Some y) none ties f is = f x y ties is
+
+-- of a result that is there whenever the value is
+pub not_made : {A B : Type 0} (Is : Type 0) (o : Option A) (r : Option B) → IfSome o (λ x. IsSome r) → IfNone o Is → IfNone r Is
+not_made Is None None some is = is
+not_made Is None (Some y) some is = tt
+not_made Is (Some x) None some is = absurd (true≢false (sym some))
+not_made Is (Some x) (Some y) some is = tt
+
+-- what holds of the address of a payload, if there is one
+pub at_address : (Is : Option ℕ → Type 0) (o : Option UnitPayload) → Is (unit_addr_of o) → IfSome o (λ p. Is (Some p.start))
+at_address Is None is = tt
+at_address Is (Some p) is = is
+
+-- other payloads keep their alignments, whether one was allocated or not
+pub others_stay : (s t : State) (o : Option UnitPayload) → IfSome o (λ p. align_at s p.start ≡ None)
+    → IfSome o (λ p. (a : ℕ) → a ≢ p.start → align_at t a ≡ align_at s a) → IfNone o (t ≡ s) → (a : ℕ) → align_at s a ≢ None → align_at t a ≡ align_at s a
+others_stay s t None new aligns same a live = ap (λ (u : State). align_at u a) same
+others_stay s t (Some p) new aligns same a live = aligns a (λ e. live (ap (align_at s) e ∙ new))

@@ -1,0 +1,54 @@
+use Rattle.std.proofs.Common.{arith, rules, true≢false, refl, sym, ap, subst, ◌∙◌}
+use Rattle.rlsf_model.specs.Callers.{align_at}
+use Rattle.rlsf_model.specs.Release.{Deallocates}
+use Rattle.rlsf_heap.specs.Heap.{Steps}
+use Rattle.rlsf_local_heap.proofs.tenant.Tenant.end.Goals as goal
+
+pub into_memory-requires : goal.into_memory-requires
+into_memory-requires g c = (search rules, omega (arith, c.live.ensures))
+
+pub returns-in_default : goal.returns-in_default
+returns-in_default g c =
+    record {
+      step = λ e. absurd (true≢false (sym e));
+      identity = refl;
+      gone = λ e. absurd (true≢false (sym e));
+      aligns = λ a apart. refl;
+      count = λ e. absurd (true≢false (sym e));
+      chunks = refl;
+      same = λ e. refl;
+      touches = omega arith;
+      grow = omega arith;
+      copied = refl;
+    }
+
+pub returns-then-live-ne0 : goal.returns-then-live-ne0
+returns-then-live-ne0 g c =
+    record {
+      step = λ e. absurd (true≢false (sym e));
+      identity = refl;
+      gone = λ e. absurd (true≢false (sym e));
+      aligns = λ a apart. refl;
+      count = λ e. absurd (true≢false (sym e));
+      chunks = refl;
+      same = λ e. refl;
+      touches = omega arith;
+      grow = omega arith;
+      copied = refl;
+    }
+
+pub returns : goal.returns
+returns g c =
+    let old = c.args.pool.now in let new = c.deallocate_units.new.self in let did = c.deallocate_units.ensures in let at = c.end.ensures.1 in
+    record {
+      step = λ e. subst (λ a. Steps g.row.FLLEN g.row.SLLEN new (Deallocates old.state a)) at did.step;
+      identity = did.identity;
+      gone = λ e. ap (align_at new.state) (sym at) ∙ did.gone;
+      aligns = λ a apart. did.aligns a (λ e. apart (e ∙ at));
+      count = λ e. did.count;
+      chunks = did.chunks;
+      same = λ e. absurd (true≢false e);
+      touches = did.touches;
+      grow = did.grow;
+      copied = did.copied;
+    }

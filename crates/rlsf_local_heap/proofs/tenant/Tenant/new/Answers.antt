@@ -1,0 +1,70 @@
+use Rattle.std.proofs.Common.{Some, arith, rules, refl, sym, ap, subst, ◌∙◌}
+use Rattle.rlsf_model.specs.Allocate.{Allocates}
+use Rattle.rlsf_model.specs.Callers.{align_at}
+use Rattle.rlsf_heap.specs.Heap.{Steps}
+use Rattle.rlsf_local_heap.proofs.Outcomes.{at_address, at_none, each_value, made_of, not_made, of_none, others_stay}
+use Rattle.rlsf_local_heap.proofs.tenant.Tenant.new.Goals as goal
+
+pub returns-then-len-ge-TOO_LONG : goal.returns-then-len-ge-TOO_LONG
+returns-then-len-ge-TOO_LONG g c =
+    record {
+      identity = refl;
+      tenant = tt;
+      step = tt;
+      new = tt;
+      live = tt;
+      count = tt;
+      aligns = λ a live. refl;
+      chunks = refl;
+      same = refl;
+      refused = refl;
+      touches = omega arith;
+      grow = omega arith;
+      copied = refl;
+    }
+
+pub returns-in_err-fields : goal.returns-in_err-fields
+returns-in_err-fields g c =
+    let none = c.from_residual.ensures in record {
+      identity = refl;
+      tenant = of_none _ none;
+      step = of_none _ none;
+      new = of_none _ none;
+      live = of_none _ none;
+      count = of_none _ none;
+      aligns = λ a live. refl;
+      chunks = refl;
+      same = at_none _ none refl;
+      refused = at_none _ none refl;
+      touches = omega arith;
+      grow = omega arith;
+      copied = refl;
+    }
+
+pub over-requires : goal.over-requires
+over-requires g c = (
+  search rules,
+  (omega arith, (c.requires, each_value c.allocate_units-payload.result (λ p long. omega (arith, long)) c.allocate_units-payload.ensures.long)),
+)
+
+pub returns : goal.returns
+returns g c =
+    let old = c.args.pool.now in let new = c.allocate_units-payload.new.self in let payload = c.allocate_units-payload.result in let tenant = c.over.result in
+    let did = c.allocate_units-payload.ensures in let over = c.over.ensures in
+    record {
+      identity = did.identity;
+      tenant = made_of payload tenant over.none over.lease (λ p t ties is. ties.0 ∙ is) did.payload;
+      step = made_of payload tenant over.none over.lease
+          (λ p t ties is. subst (λ a. Steps g.row.FLLEN g.row.SLLEN new (Allocates g.row.SLLEN old.state c.args.len 16 (Some a))) (sym ties.1) is)
+          (at_address (λ a. Steps g.row.FLLEN g.row.SLLEN new (Allocates g.row.SLLEN old.state c.args.len 16 a)) payload did.step);
+      new = made_of payload tenant over.none over.lease (λ p t ties is. ap (align_at old.state) ties.1 ∙ is) did.new;
+      live = made_of payload tenant over.none over.lease (λ p t ties is. ap (align_at new.state) ties.1 ∙ is) did.live;
+      count = made_of payload tenant over.none over.lease (λ p t ties is. is) did.count;
+      aligns = others_stay old.state new.state payload did.new did.aligns did.same;
+      chunks = did.chunks;
+      same = not_made _ payload tenant over.some did.same;
+      refused = not_made _ payload tenant over.some did.refused;
+      touches = did.touches;
+      grow = did.grow;
+      copied = did.copied;
+    }
