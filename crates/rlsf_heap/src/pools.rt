@@ -28,7 +28,8 @@ impl<FLBitmap: BitPattern, SLBitmap: BitPattern, const FLLEN: usize, const SLLEN
     SLLEN,
 > {
     ghost use Rattle.rlsf_heap.specs.Heap.{Steps};
-    ghost use Rattle.rlsf_heap.specs.Pools.{MakesSized, RemovesIfIdle};
+    ghost use Rattle.rlsf_heap.specs.Pools.{RemovesIfIdle};
+    ghost use Rattle.rlsf_tlsf.specs.Sizing.{SizesPool};
 
     /// Inserts a range of the memory as a pool, and makes free chunks of its aligned part. No chunk has fewer than 64
     /// bytes.
@@ -50,7 +51,7 @@ impl<FLBitmap: BitPattern, SLBitmap: BitPattern, const FLLEN: usize, const SLLEN
         ensures aligns { align_at self.new.state ≡ align_at self.old.state }
         ensures count { live_count self.new.state ≡ live_count self.old.state }
         ensures bounds { (count size align : ℕ) → IsSizedFor SLLEN count size align self.old.state → IsSizedFor SLLEN count size align self.new.state }
-        ensures pool { MakesSized FLLEN SLLEN range self.old.state self.new.state }
+        ensures pool { SizesPool FLLEN SLLEN range self.old.state self.new.state }
         ensures refused { IfNone result (self.new.memory.bytes ≡ self.old.memory.bytes) }
         ensures settled { IsSettled self.old.memory → IsSettled self.new.memory }
         ensures touches { self.new.memory.touches ≤ self.old.memory.touches + 13 * length (cut (max_pool_size FLLEN) (aligned_part range)) }
@@ -77,7 +78,7 @@ impl<FLBitmap: BitPattern, SLBitmap: BitPattern, const FLLEN: usize, const SLLEN
         ensures aligns { align_at self.new.state ≡ align_at self.old.state }
         ensures count { live_count self.new.state ≡ live_count self.old.state }
         ensures bounds { (count size align : ℕ) → IsSizedFor SLLEN count size align self.old.state → IsSizedFor SLLEN count size align self.new.state }
-        ensures pool { MakesSized FLLEN SLLEN range self.old.state self.new.state }
+        ensures pool { SizesPool FLLEN SLLEN range self.old.state self.new.state }
         ensures unchanged { cut (max_pool_size FLLEN) (aligned_part range) ≡ [] → self.new.memory.bytes ≡ self.old.memory.bytes }
         ensures settled { IsSettled self.old.memory → IsSettled self.new.memory }
         ensures touches { self.new.memory.touches ≤ self.old.memory.touches + 13 * length (cut (max_pool_size FLLEN) (aligned_part range)) }
