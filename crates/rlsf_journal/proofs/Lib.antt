@@ -2,6 +2,7 @@
 pub mod Closings
 mod Determined
 mod Equal
+mod KeptMemories
 mod ReceiptsOf
 mod Replays
 mod Replies

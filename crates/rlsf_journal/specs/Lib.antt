@@ -1,7 +1,8 @@
--- The definitions of journals, in reading order: `Entries`, `Passes`, `Replay`, `Close`, `Laws`.
+-- The definitions of journals, in reading order: `Entries`, `Passes`, `Replay`, `Memory`, `Close`, `Laws`.
 pub mod Close
 pub mod Entries
 pub mod Laws
+pub mod Memory
 pub mod Passes
 pub mod Replay
 pub mod Words

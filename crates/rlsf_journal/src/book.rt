@@ -1,12 +1,15 @@
 //! An allocator with a journal of its placement calls.
 
-ghost use Rattle.std.specs.Prelude.{◌≡◌, ◌≢◌, ◌↔◌, ◌++◌, [], length, IfOk, IsErrOf, OnErr, true};
+ghost use Rattle.std.specs.Prelude.{◌≡◌, ◌≢◌, ◌≤◌, ◌↔◌, ◌+◌, ◌++◌, [], length, IfOk, IsErrOf, OnErr, true};
 ghost use Rattle.rlsf_base.specs.Addr.{at};
 ghost use Rattle.rlsf_base.specs.Space.{range_of};
+ghost use Rattle.rlsf_global.specs.Locked.{flex_of};
+ghost use Rattle.rlsf_global.specs.Memory.{KeepsMemory};
 ghost use Rattle.rlsf_journal.specs.Close.{is_strange, AreComplete, LacksOne, Agree};
 ghost use Rattle.rlsf_journal.specs.declared.close.CloseError.TheVariants.{MissingPass, StrangePass, Mismatch};
 ghost use Rattle.rlsf_journal.specs.declared.entry.Reply.TheVariants.{JournalMemory};
 ghost use Rattle.rlsf_journal.specs.Entries.{IfRefused, IsReplyTo, entries_of};
+ghost use Rattle.rlsf_journal.specs.Memory.{LeavesMemory};
 ghost use Rattle.rlsf_journal.specs.Replay.{BookStands, IsRun, LeadsOrRefused};
 ghost use Rattle.rlsf_model_global.specs.Heap.{beginning};
 ghost use Rattle.rlsf_model_global.specs.Rows.{IsSorted};
@@ -25,6 +28,8 @@ use std::marker::Model;
 ///
 /// By an invariant of the type, the journal replays to the placement. The replay starts with nothing placed, over a source whose newest
 /// range grows.
+///
+/// Every call leaves the memory at its place, with each byte that belongs to no block or that the source hasn't provided (`KeepsMemory`).
 #[derive(Drop)]
 pub struct Book {
     locked: Locked<()>,
@@ -78,6 +83,7 @@ impl Book {
         ensures entry { self.new.journal ≡ self.old.journal ++ entries_of caller call result }
         ensures fits { IsReplyTo call result }
         ensures refused { IfRefused result (self.new.locked.memory.bytes ≡ self.old.locked.memory.bytes) }
+        ensures memory { LeavesMemory call result self.old.locked self.new.locked }
     {
         if self.journal.try_reserve(1).is_err() {
             return Reply::JournalMemory;
@@ -123,6 +129,10 @@ impl Book {
         ensures step { HeapWrites self.old.locked.heap (at addr) offset bytes.now result self.new.locked.heap }
         ensures journal { self.new.journal ≡ self.old.journal }
         ensures refused { OnErr result (self.new.locked.memory ≡ self.old.locked.memory) }
+        ensures memory { KeepsMemory (flex_of self.old.locked) (flex_of self.new.locked) }
+        ensures touches { self.new.locked.memory.touches ≤ self.old.locked.memory.touches + 3 }
+        ensures grow { self.old.locked.memory.touches ≤ self.new.locked.memory.touches }
+        ensures copied { self.new.locked.memory.copied ≡ self.old.locked.memory.copied }
         ensures stood { BookStands self.old }
         ensures stands { BookStands self.new }
     {
@@ -173,12 +183,15 @@ fn answer(locked: &mut Locked<()>, call: Call) -> Reply
     ensures not_journal { result ≢ JournalMemory }
     ensures fits { IsReplyTo call result }
     ensures refused { IfRefused result (locked.new.memory.bytes ≡ locked.old.memory.bytes) }
+    ensures memory { LeavesMemory call result locked.old locked.new }
 {
     match call {
         Call::Allocate(layout) => match locked.allocate(layout) {
             Ok(addr) => Reply::Placed(addr),
-            Err(GlobalError::NoRoom) => Reply::NoRoom,
-            Err(_) => Reply::TableMemory,
+            Err(error) => match error {
+                GlobalError::NoRoom => Reply::NoRoom,
+                _ => Reply::TableMemory,
+            },
         },
         Call::Deallocate(addr) => match locked.deallocate(addr) {
             Ok(()) => Reply::Freed,
@@ -186,8 +199,10 @@ fn answer(locked: &mut Locked<()>, call: Call) -> Reply
         },
         Call::Reallocate(addr, layout) => match locked.reallocate(addr, layout) {
             Ok(to) => Reply::Placed(to),
-            Err(GlobalError::NoRoom) => Reply::NoRoom,
-            Err(_) => Reply::UnknownAddress,
+            Err(error) => match error {
+                GlobalError::NoRoom => Reply::NoRoom,
+                _ => Reply::UnknownAddress,
+            },
         },
     }
 }

@@ -29,4 +29,5 @@ returns-then-not-matches c = record {
   entry = rw (← c.self.view_is) (pushed c);
   fits = c.answer-reply.ensures.fits;
   refused = rw (← c.self.view_is) c.answer-reply.ensures.refused;
+  memory = rw (← c.self.view_is) c.answer-reply.ensures.memory;
 }
