@@ -26,6 +26,9 @@ pub step_of : (fllen sllen : ℕ) (new : HeapView) (P : State → Type 0) → St
 unfolding Steps
 step_of fllen sllen new P step = step.0
 
+pub some-same : {m n : ℕ} → Some m ≡ Some n → m ≡ n
+some-same e = cc
+
 -- a number that isn't 0 is an address
 pub reply_some : (n : ℕ) → n ≢ 0 → Some n ≡ reply_of n
 reply_some zero some = absurd (some refl)

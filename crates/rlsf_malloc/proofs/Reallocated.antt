@@ -5,7 +5,6 @@ use Rattle.rlsf_model.specs.Callers.{align_at}
 use Rattle.rlsf_model.specs.NoMove.{ReallocatesWithoutMove}
 use Rattle.rlsf_model.specs.Reallocate.{Reallocates}
 use Rattle.rlsf_model.specs.Sized.{live_count}
-use Rattle.rlsf_model.specs.State.{AreAlike}
 use Rattle.rlsf_heap.specs.Heap.{HeapView, IsWritten, PayloadView}
 use Rattle.rlsf_heap.specs.Reallocation.{owned_by}
 use Rattle.rlsf_heap.specs.Replies.{IsReallocated, IsReturned, LeavesOthers}
@@ -16,6 +15,14 @@ use Rattle.rlsf_heap.specs.ThinUnknownAlign.{StaysOrMoves}
 use Rattle.rlsf_malloc.specs.Calls.{IsSameHeap}
 use Rattle.rlsf_malloc.specs.Resizing.{IsRefused, IsResized, Resizes, ResizesThere, ResizesWide}
 use Rattle.rlsf_malloc.proofs.Outcomes.{reply_some}
+
+-- where nothing is done, nothing changes
+pub unchanged : (v : HeapView) (p : PayloadView) → IsWritten p → IsRefused v p p v
+unchanged v p written = record {
+  kept = record { heap = refl; start = refl; align = refl; bytes = refl; written = written };
+  alike = record { chunks = refl; used = refl; free = refl };
+  aligns = refl;
+}
 
 module _ (old new : HeapView) (same : IsSameHeap old new) (p : PayloadView) (addr : ℕ) (at : p.start ≡ addr) (some : addr ≢ 0) (size : ℕ) where
   -- the payload has its new size

@@ -1,10 +1,8 @@
-use Rattle.std.proofs.Common.{◌≡◌, ℕ, ◌%◌, Some, not, arith, ap, sym, ◌∙◌, inl, inr, true≢false}
+use Rattle.std.proofs.Common.{◌%◌, Some, not, arith, ap, sym, ◌∙◌, inl, inr, true≢false}
 use Rattle.std.proofs.lemmas.Bool.{eq-eqb, ne_eqb}
 use Rattle.rlsf_malloc.proofs.Alignments.{narrow_or_wide}
+use Rattle.rlsf_malloc.proofs.Outcomes.{some-same}
 use Rattle.rlsf_malloc.proofs.resizing.is_narrow.Goals as goal
-
-some-same : {m n : ℕ} → Some m ≡ Some n → m ≡ n
-some-same e = cc
 
 pub returns : goal.returns
 returns g c =

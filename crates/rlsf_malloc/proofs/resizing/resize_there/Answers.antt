@@ -1,10 +1,10 @@
-use Rattle.std.proofs.Common.{◌≡◌, arith, Some, None, true≢false, refl, sym, subst, ◌∙◌}
+use Rattle.std.proofs.Common.{arith, Some, None, true≢false, refl, sym, subst, ◌∙◌}
 use Rattle.rlsf_model.specs.NoMove.{ReallocatesWithoutMove}
 use Rattle.rlsf_heap.specs.Reallocation.{owned_by}
 use Rattle.rlsf_heap.specs.Replies.{IsReallocated, LeavesOthers}
 use Rattle.rlsf_heap.specs.ThinReplies.{IsThinOf}
 use Rattle.rlsf_malloc.proofs.Outcomes.{same_heap, step_of}
-use Rattle.rlsf_malloc.proofs.Reallocated.{is_refused, is_resized, not_resized_there, resized_there}
+use Rattle.rlsf_malloc.proofs.Reallocated.{is_refused, is_resized, not_resized_there, resized_there, unchanged}
 use Rattle.rlsf_malloc.proofs.resizing.resize_there.Goals as goal
 
 pub returns-in-Ok-resize_thin_unknown_align : goal.returns-in-Ok-resize_thin_unknown_align
@@ -38,3 +38,18 @@ returns-in-Err g c =
     not_resized_there old new same p addr is.start some size r.of did.there step (λ long. absurd (true≢false (sym (did.enough (omega (arith, long, shape.0))))))
     (is_refused old new same p addr is.start some size p.align r (is.heap some) refl thin
     (record { start = did.there; bytes = did.back.0; written = did.back.1; alike = did.same; aligns = did.aligns })) did.count
+
+pub returns-in_default : goal.returns-in_default
+returns-in_default g c =
+    let (ready, is, some, known) = c.requires in let old = c.args.heap.now in let p = c.args.payload.of in
+    record {
+      stays = λ layout long. absurd (true≢false (sym (c.in_default.ensures.succeeds.1 layout)));
+      there = refl;
+      at = λ moved. absurd (moved refl);
+      no_layout = λ never. refl;
+      step = λ layout. absurd (true≢false (sym (c.in_default.ensures.succeeds.1 layout)));
+      heap = same_heap old old refl (refl, refl) ready;
+      resized = λ moved. absurd (moved refl);
+      refused = λ e. unchanged old p (is.written some);
+      count = refl;
+    }

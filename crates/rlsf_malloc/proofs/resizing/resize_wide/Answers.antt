@@ -1,10 +1,10 @@
-use Rattle.std.proofs.Common.{◌≡◌, arith, Some, None, refl, sym, subst, ◌∙◌}
+use Rattle.std.proofs.Common.{arith, Some, None, true≢false, refl, sym, subst, ◌∙◌}
 use Rattle.rlsf_heap.specs.Reallocation.{owned_by}
 use Rattle.rlsf_heap.specs.Replies.{IsReallocated, LeavesOthers}
 use Rattle.rlsf_heap.specs.ThinReplies.{IsThinOf}
 use Rattle.rlsf_heap.specs.ThinUnknownAlign.{StaysOrMoves}
 use Rattle.rlsf_malloc.proofs.Outcomes.{same_heap, step_of}
-use Rattle.rlsf_malloc.proofs.Reallocated.{is_refused, is_resized, not_resized_wide, resized_wide}
+use Rattle.rlsf_malloc.proofs.Reallocated.{is_refused, is_resized, not_resized_wide, resized_wide, unchanged}
 use Rattle.rlsf_malloc.proofs.resizing.resize_wide.Goals as goal
 
 pub returns-in-Ok-reallocate_thin_unknown_align : goal.returns-in-Ok-reallocate_thin_unknown_align
@@ -41,3 +41,19 @@ returns-in-Err g c =
     not_resized_wide old new same p addr is.start some size sllen r.of step (λ long. did.enough (omega (arith, long, shape.0)))
     (is_refused old new same p addr is.start some size p.align r (is.heap some) refl thin
     (record { start = did.back.0; bytes = did.back.2; written = did.back.3; alike = did.same; aligns = did.same_aligns })) did.count
+
+pub returns-in_default : goal.returns-in_default
+returns-in_default g c =
+    let (ready, is, some, known) = c.requires in let old = c.args.heap.now in let p = c.args.payload.of in
+    record {
+      stays = λ layout long. absurd (true≢false (sym (c.in_default.ensures.succeeds.1 layout)));
+      no_layout = λ never. refl;
+      step = λ layout. absurd (true≢false (sym (c.in_default.ensures.succeeds.1 layout)));
+      heap = same_heap old old refl (refl, refl) ready;
+      at = λ moved. absurd (moved refl);
+      there = λ e. refl;
+      moved = λ moved. absurd (moved refl);
+      resized = λ moved. absurd (moved refl);
+      refused = λ e. unchanged old p (is.written some);
+      count = refl;
+    }

@@ -1,8 +1,8 @@
 -- `into_raw` of a measured payload passes to the caller what its payload owns.
-use Rattle.rlsf_malloc.proofs.Walking.{◌≡◌, ℕ, List, [], ◌∷◌, refl, w64, proved, id⊢, ftrue, Val, vint, fact, tables, ‵, raw, ◌⊛◌, some, later, ◌$◌, ◌∵◌, ! }
-use Rattle.rlsf_malloc.proofs.Walking.{qed, done, move, keep, drop, use1, use2, split, join, pick, await, rewrite, suffices, group, enter, of_opd, stop, no_more}
+use Rattle.rlsf_malloc.proofs.Walking.{List, [], ◌∷◌, refl, w64, proved, id⊢, ftrue, Val, vint, tables, ‵, ◌⊛◌, some, ◌$◌, ◌∵◌, !}
+use Rattle.rlsf_malloc.proofs.Walking.{qed, done, keep, drop, use1, split, join, pick, rewrite, suffices, group, enter, of_opd, stop, no_more}
 use Rattle.rlsf_malloc.proofs.Walking.{and_then, returns, alloc_all, pass_all, free_all, look_at, get, sets, lands_as, usize, Is, shows, plain, nothing, owned, peeks}
-use Rattle.rlsf_malloc.proofs.Walking.{calls_at, lasts, triple_of, Stays, walk_of, stay_dropped, ends_at, framed, uint_Makes, uint_Lawful, Lasts}
+use Rattle.rlsf_malloc.proofs.Walking.{Stays, walk_of, stay_dropped, ends_at, framed, uint_Makes, uint_Lawful}
 use base.Fml.{feq}
 use denote.RattleType.{Valss}
 use denote.Triple.Walked.{says}
@@ -14,7 +14,6 @@ use Rattle.core.proofs.alloc.Calls.{Goes-blank}
 use Rattle.rlsf_heap.specs.Thin.{owns_reply}
 use Rattle.rlsf_heap.specs.contracts.thin.ThinPayload as thin
 use Rattle.rlsf_heap.proofs.thin.ThinPayload.TheLaws as thin_laws
-use Rattle.rlsf_heap.specs.contracts.thin.ThinPayload.into_raw as k
 use Rattle.rlsf_heap.proofs.thin.ThinPayload.into_raw.Met.{met}
 use Rattle.rlsf_malloc.proofs.Steps.{passes_number}
 use Rattle.rlsf_malloc.specs.contracts.replies.Measured as reply

@@ -1,0 +1,24 @@
+use Rattle.std.proofs.Common.{sym, subst}
+use Rattle.rlsf_malloc.specs.Calls.{Allocates}
+use Rattle.rlsf_malloc.specs.Replies.{number_of}
+use Rattle.rlsf_malloc.specs.Resizing.{Resizes}
+use Rattle.rlsf_malloc.proofs.resizing.resize_aligned.Goals as goal
+
+pub returns-then-addr-eq0 : goal.returns-then-addr-eq0
+returns-then-addr-eq0 g c =
+    let p = c.allocate.result.of in record {
+      fresh = λ e. (
+        sym c.allocate.ensures.0,
+        subst (λ a. Allocates g.row.SLLEN c.args.heap.now c.args.size a p c.allocate.new.heap) c.at_least_16-align.ensures c.allocate.ensures.1,
+      );
+      known = λ some. absurd (some c.if-addr-eq0.true);
+    }
+
+pub returns : goal.returns
+returns g c =
+    let r = c.resize.result in record {
+      fresh = λ e. absurd (c.if-addr-eq0.false e);
+      known = λ some.
+          subst (λ a. Resizes g.row.SLLEN c.args.heap.now c.args.payload.of c.args.size a (number_of r) r.payload.of c.resize.new.heap) c.at_least_16-align.ensures
+          c.resize.ensures;
+    }
