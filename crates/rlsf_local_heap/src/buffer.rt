@@ -38,11 +38,12 @@ impl<T> Model for Seats<T> {
 }
 
 impl<T> Buffer<T> {
+    ghost use Rattle.rlsf_local_heap.specs.Resized.{IsLentOf};
+
     /// Returns the first `cap` places, and the payload of `whole` bytes with the units behind them.
     pub(crate) fn lend(self, whole: usize, cap: usize) -> (Seats<T>, UnitTail)
         requires { (whole ≡ payload_len (self.cap * type_size T.row)) × (self.len ≤ cap) × (cap ≤ self.cap) }
-        ensures { (result.0.ptr ≡ self.ptr) × (result.0.len ≡ self.len) × (result.0.cap ≡ cap) × (result.0.items ≡ self.items)
-            × (heap_of_tail result.1 ≡ self.heap) × (result.1.ptr ≡ self.ptr) × (result.1.len ≡ whole) × (result.1.kept ≡ payload_len (cap * type_size T.row)) }
+        ensures { IsLentOf self cap whole (payload_len (cap * type_size T.row)) result.0 result.1 }
     {
         let Buffer { ptr, marker } = self;
         let tail = UnitTail {

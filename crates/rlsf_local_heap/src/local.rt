@@ -4,12 +4,12 @@ ghost use Rattle.std.specs.Mem.{type_size};
 ghost use Rattle.rlsf_base.specs.SizeClass.{IsValid};
 ghost use Rattle.rlsf_heap.specs.Units.{GivesUnits, heap_of, heap_of_tail, payload_len};
 ghost use Rattle.rlsf_local_heap.specs.Ownership.{block_token};
-ghost use Rattle.rlsf_local_heap.specs.Resized.{IsAtSamePlace};
+ghost use Rattle.rlsf_local_heap.specs.Resized.{HasPlaces, IsAtSamePlace, StaysWith};
 
 use crate::buffer::Buffer;
 use crate::slot::Slot;
-use crate::unit_heap::{UNIT, UnitHeap};
-use rlsf_base::memory::{MemoryError, OpenMemory, Range, UnitPayload, UnitTail};
+use crate::unit_heap::{UNIT, UnitHeap, over_all};
+use rlsf_base::memory::{MemoryError, OpenMemory, UnitPayload, UnitTail};
 use rlsf_heap::Heap;
 use rlsf_int::BitPattern;
 use std::alloc::{AllocError, Allocator, Global};
@@ -72,12 +72,17 @@ impl<FLBitmap: BitPattern, SLBitmap: BitPattern, const FLLEN: usize, const SLLEN
         ensures starts { IsErrOf result MemoryError.ZeroStart → ⊥ }
     {
         let memory = OpenMemory::reserve(alloc, START, len)?;
-        let mut heap = Heap::new(memory);
-        heap.insert_free_block_ptr(Range { start: START, len });
-        match Box::new(alloc, heap) {
-            Ok(heap) => Ok(LocalHeap::from(heap)),
+        match Box::new(alloc, over_all(memory)) {
+            Ok(heap) => Ok(Self::in_a_box(heap)),
             Err(_) => Err(MemoryError::OutOfMemory),
         }
+    }
+
+    /// Creates an allocator over a heap in a box, as `from` does.
+    pub(crate) fn in_a_box(heap: Box<Heap<FLBitmap, SLBitmap, FLLEN, SLLEN>>) -> Self
+        ensures { result.slot ≡ heap.value.identity }
+    {
+        LocalHeap::from(heap)
     }
 }
 
@@ -105,7 +110,7 @@ impl<H: UnitHeap> LocalHeap<H> {
         self.counts().1
     }
 
-    /// Consumes the allocator and returns its heap, in which the blocks that are out stay live. It is never `None`.
+    /// Consumes the allocator and returns its heap, in which the blocks that are out stay live.
     pub fn into_heap(self) -> Option<H>
         ensures { IfSome result (λ h. H.identity h ≡ self.slot) }
     {
@@ -200,8 +205,7 @@ impl<H: UnitHeap> LocalHeap<H> {
     ) -> Result<Buffer<T>, Buffer<T>>
         requires buffer { (buffer.heap ≡ self.now.slot) × (buffer.len ≡ len) × (buffer.cap ≡ old_cap) }
         requires sizes { (len ≤ old_cap) × (len ≤ new_cap) × (old_cap * type_size T.row < 2 ^ 63) × (new_cap * type_size T.row < 2 ^ 63) }
-        ensures { MatchResult result (λ b. (b.heap ≡ buffer.heap) × (b.len ≡ len) × (b.cap ≡ new_cap) × (b.items ≡ buffer.items))
-            (λ b. (b.ptr ≡ buffer.ptr) × (b.heap ≡ buffer.heap) × (b.len ≡ len) × (b.cap ≡ old_cap) × (b.items ≡ buffer.items)) }
+        ensures { MatchResult result (λ b. HasPlaces buffer len new_cap b) (λ b. StaysWith buffer len old_cap b) }
     {
         let whole = array_len::<T>(old_cap);
         let (seats, tail) = buffer.lend(whole, old_cap.min(new_cap));
@@ -228,8 +232,7 @@ impl<H: UnitHeap> LocalHeap<H> {
     ) -> Result<Buffer<T>, Buffer<T>>
         requires buffer { (buffer.heap ≡ self.now.slot) × (buffer.len ≡ len) × (whole ≡ payload_len (buffer.cap * type_size T.row)) }
         requires sizes { (len ≤ buffer.cap) × (len ≤ new_cap) × (new_cap * type_size T.row < 2 ^ 63) }
-        ensures { MatchResult result (λ b. (b.heap ≡ buffer.heap) × (b.len ≡ len) × (b.cap ≡ new_cap) × (b.items ≡ buffer.items))
-            (λ b. (b.ptr ≡ buffer.ptr) × (b.heap ≡ buffer.heap) × (b.len ≡ len) × (b.cap ≡ buffer.cap) × (b.items ≡ buffer.items)) }
+        ensures { MatchResult result (λ b. HasPlaces buffer len new_cap b) (λ b. StaysWith buffer len buffer.cap b) }
     {
         // A payload has the greatest alignment of a type.
         let Some(payload) = self.take(new_cap * size_of::<T>(), UNIT) else {

@@ -1,5 +1,5 @@
 //! Heaps over ranges of one memory.
-ghost use Rattle.std.specs.Prelude.{◌≡◌, ◌≢◌, ◌+◌, ◌^◌, ◌<◌, ◌≤◌, ℕ, Some, None, IfSome, IfNone, IsSome, IsNone, true, false};
+ghost use Rattle.std.specs.Prelude.{◌≡◌, ◌≢◌, ◌↔◌, ◌+◌, ◌^◌, ◌<◌, ◌≤◌, ℕ, Some, None, IfSome, IfNone, IsSome, IsNone, IsTrue, true, false};
 ghost use Rattle.rlsf_model.specs.Allocate.{Allocates};
 ghost use Rattle.rlsf_model.specs.Callers.{align_at};
 ghost use Rattle.rlsf_model.specs.Release.{Deallocates};
@@ -8,13 +8,21 @@ ghost use Rattle.rlsf_model.specs.Sized.{live_count};
 
 use crate::lease::{Lease, START};
 use crate::local::LocalHeap;
-use rlsf_base::memory::{OpenMemory, Range, UnitPayload};
+use crate::unit_heap::over_all;
+use rlsf_base::memory::{OpenMemory, UnitPayload};
 use rlsf_heap::Heap;
 use rlsf_int::BitPattern;
 use std::alloc::Global;
 
 /// The length from which on a range is refused.
 const TOO_LONG: usize = 1 << 58;
+
+// Returns whether a range of `len` bytes is refused for its length.
+fn is_too_long(len: usize) -> bool
+    ensures { IsTrue result ↔ (2 ^ 58 ≤ len) }
+{
+    len >= TOO_LONG
+}
 
 /// A heap over a range of another heap's memory, as the allocator of one thread's collections. The range is a payload of
 /// that heap, the pool, which has the same parameters. So several tenants share one memory, and none can use the range of another.
@@ -47,8 +55,8 @@ impl<FLBitmap: BitPattern, SLBitmap: BitPattern, const FLLEN: usize, const SLLEN
     /// `len` up to 48, holds no pool: each allocation is then refused. It takes constant time.
     ///
     /// Returns `None` if `pool` refuses such a payload, if its memory has no units of 16 bytes, if `len` is 2^58 or more, or if
-    /// the system has no memory for the new heap's own fields. Then nothing changes. The parameters must be valid
-    /// (`Heap::new`).
+    /// the system has no memory for the new heap's own fields. Then `pool` is as it was, but for the word accesses that are
+    /// counted. The parameters must be valid (`Heap::new`).
     pub fn new(
         pool: &mut Heap<FLBitmap, SLBitmap, FLLEN, SLLEN>,
         alloc: Global,
@@ -69,7 +77,7 @@ impl<FLBitmap: BitPattern, SLBitmap: BitPattern, const FLLEN: usize, const SLLEN
         ensures grow { pool.old.memory.touches ≤ pool.new.memory.touches }
         ensures copied { pool.new.memory.copied ≡ pool.old.memory.copied }
     {
-        if len >= TOO_LONG || !pool.has_units() {
+        if is_too_long(len) || !pool.has_units() {
             return None;
         }
         let fields = Self::fields(alloc)?;
@@ -126,12 +134,9 @@ impl<FLBitmap: BitPattern, SLBitmap: BitPattern, const FLLEN: usize, const SLLEN
         ensures lease { IfSome payload (λ p. IfSome result (λ t. (lessor t.lease ≡ heap_of p) × (t.lease.start ≡ p.start))) }
     {
         let (memory, lease) = Lease::begin(alloc, payload?);
-        let len = memory.len();
-        let mut heap = Heap::new(memory);
-        heap.insert_free_block_ptr(Range { start: START, len });
-        *fields = heap;
+        *fields = over_all(memory);
         Some(Tenant {
-            local: LocalHeap::from(fields),
+            local: LocalHeap::in_a_box(fields),
             lease,
         })
     }

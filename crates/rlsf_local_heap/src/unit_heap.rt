@@ -1,10 +1,13 @@
 //! The heaps that an allocator of collections can be over.
 ghost use Rattle.std.specs.Prelude.{◌≡◌, ◌-◌, ◌^◌, ◌<◌, ◌≤◌, min, IfSome, MatchResult};
+ghost use Rattle.rlsf_base.specs.Changes.{IsAllOwn};
+ghost use Rattle.rlsf_base.specs.OpenSpace.{home_of};
+ghost use Rattle.rlsf_base.specs.SizeClass.{IsValid};
 ghost use Rattle.rlsf_heap.specs.Units.{heap_of, heap_of_tail, payload_len};
 ghost use Rattle.rlsf_local_heap.specs.Resized.{IsAtSamePlace};
 
 use crate::slot::Identified;
-use rlsf_base::memory::{UnitPayload, UnitTail};
+use rlsf_base::memory::{OpenMemory, Range, UnitPayload, UnitTail};
 use rlsf_heap::Heap;
 use rlsf_int::BitPattern;
 
@@ -95,4 +98,24 @@ impl<H: UnitHeap> UnitHeap for Box<H> {
     fn live(&self) -> usize {
         (**self).live()
     }
+}
+
+/// Creates a heap over a memory, all of which is one pool. No pool is made of less than 64 bytes.
+pub(crate) fn over_all<
+    FLBitmap: BitPattern,
+    SLBitmap: BitPattern,
+    const FLLEN: usize,
+    const SLLEN: usize,
+>(memory: OpenMemory) -> Heap<FLBitmap, SLBitmap, FLLEN, SLLEN>
+    requires valid { IsValid FLBitmap.width SLBitmap.width FLLEN SLLEN }
+    requires own { IsAllOwn memory.out }
+    ensures { result.identity.home ≡ home_of memory }
+{
+    let range = Range {
+        start: memory.start(),
+        len: memory.len(),
+    };
+    let mut heap = Heap::new(memory);
+    heap.insert_free_block_ptr(range);
+    heap
 }

@@ -1,17 +1,19 @@
-use Rattle.std.proofs.Common.{◌%◌, arith, ap, ◌∙◌}
+use Rattle.std.proofs.Common.{◌%◌, ◌≤◌, arith, ap, ◌∙◌}
 use Rattle.rlsf_base.specs.OpenSpace.{Home}
 use Rattle.rlsf_heap.specs.Heap.{HeapView, Identity}
 use Rattle.rlsf_local_heap.proofs.Outcomes.{ok_is_no_error}
 use Rattle.rlsf_local_heap.proofs.local.«LocalHeap+Box+Heap+FLBitmap+SLBitmap+FLLEN+SLLEN».new.Goals as goal
 
+some_address : 1 ≤ 4096
+some_address = omega arith
+
 pub returns-in-Ok : goal.returns-in-Ok
 returns-in-Ok g c =
     let m = c.in_ok-memory.ensures in
-    let home = ap (λ (i : Identity). i.home) (c.from.ensures ∙ ap (λ (h : HeapView). h.identity) c.in-Ok.ensures.ok ∙ c.insert_free_block_ptr.ensures.identity)
-    ∙ c.new-heap.ensures.home in
+    let home = ap (λ (i : Identity). i.home) (c.in_a_box.ensures ∙ ap (λ (h : HeapView). h.identity) c.in-Ok.ensures.ok) ∙ c.over_all.ensures in
     record {
       memory = (ap (λ (h : Home). h.start) home ∙ m.start, ap (λ (h : Home). h.len) home ∙ m.len, ap (λ (h : Home). h.view.shift % 16) home ∙ m.units);
-      too_long = (λ e. absurd (ok_is_no_error e), λ long. absurd (ok_is_no_error (m.too_long.1 (omega arith, long))));
+      too_long = (λ e. absurd (ok_is_no_error e), λ long. absurd (ok_is_no_error (m.too_long.1 (some_address, long))));
       starts = λ e. ok_is_no_error e;
     }
 
@@ -20,6 +22,6 @@ returns g c =
     let m = c.in_ok-memory.ensures in
     record {
       memory = tt;
-      too_long = (λ e. absurd cc, λ long. absurd (ok_is_no_error (m.too_long.1 (omega arith, long))));
+      too_long = (λ e. absurd cc, λ long. absurd (ok_is_no_error (m.too_long.1 (some_address, long))));
       starts = λ e. cc;
     }

@@ -1,12 +1,12 @@
-use Rattle.std.proofs.Common.{Some, arith, rules, refl, sym, ap, subst, ◌∙◌}
+use Rattle.std.proofs.Common.{Some, arith, refl, sym, ap, subst, ◌∙◌}
 use Rattle.rlsf_model.specs.Allocate.{Allocates}
 use Rattle.rlsf_model.specs.Callers.{align_at}
 use Rattle.rlsf_heap.specs.Heap.{Steps}
-use Rattle.rlsf_local_heap.proofs.Outcomes.{at_address, at_none, each_value, made_of, not_made, of_none, others_stay}
+use Rattle.rlsf_local_heap.proofs.Outcomes.{at_address, at_none, made_of, not_made, of_none, others_stay}
 use Rattle.rlsf_local_heap.proofs.tenant.Tenant.new.Goals as goal
 
-pub returns-then-len-ge-TOO_LONG : goal.returns-then-len-ge-TOO_LONG
-returns-then-len-ge-TOO_LONG g c =
+pub returns-then-is_too_long : goal.returns-then-is_too_long
+returns-then-is_too_long g c =
     record {
       identity = refl;
       tenant = tt;
@@ -40,12 +40,6 @@ returns-in_err-fields g c =
       grow = omega arith;
       copied = refl;
     }
-
-pub over-requires : goal.over-requires
-over-requires g c = (
-  search rules,
-  (omega arith, (c.requires, each_value c.allocate_units-payload.result (λ p long. omega (arith, long)) c.allocate_units-payload.ensures.long)),
-)
 
 pub returns : goal.returns
 returns g c =
