@@ -4,6 +4,7 @@ ghost use denote.RawPtr.{◌+ₚ◌};
 ghost use Rattle.rlsf_base.specs.Changes.{IsAllOwn, IsOwn};
 ghost use Rattle.rlsf_base.specs.OpenSpace.{place_in};
 ghost use Rattle.rlsf_base.specs.RawParts.{LiesAtBlock};
+ghost use Rattle.rlsf_heap.specs.Heap.{IsWritten};
 ghost use Rattle.rlsf_model.specs.Sized.{live_count};
 
 use crate::answers::{all, are};
@@ -28,6 +29,20 @@ fn mark(first: &mut [u8], second: &mut [u8])
     second.fill(9);
 }
 
+/// Writes both payloads, and returns them with what is read of them.
+fn marked(first: Payload, second: Payload) -> (Pair, [u8; 2])
+    requires some { (0 < length first.bytes) × (0 < length second.bytes) }
+    requires written { IsWritten first × IsWritten second }
+    ensures first { result.0.first.identity ≡ first.identity }
+    ensures second { result.0.second.identity ≡ second.identity }
+    ensures read { result.1 ≡ 7 ∷ 9 ∷ [] }
+{
+    let mut pair = Pair { first, second };
+    mark(pair.first.as_mut_slice(), pair.second.as_mut_slice());
+    let reads = [pair.first.as_slice()[0], pair.second.as_slice()[0]];
+    (pair, reads)
+}
+
 fn with_pair(heap: &mut Small, layout: Layout) -> Option<[u8; 2]>
     requires { 0 < layout.size }
     ensures count { live_count heap.new.state ≡ live_count heap.old.state }
@@ -38,9 +53,7 @@ fn with_pair(heap: &mut Small, layout: Layout) -> Option<[u8; 2]>
         heap.deallocate(first);
         return None;
     };
-    let mut pair = Pair { first, second };
-    mark(pair.first.as_mut_slice(), pair.second.as_mut_slice());
-    let reads = [pair.first.as_slice()[0], pair.second.as_slice()[0]];
+    let (pair, reads) = marked(first, second);
     let Pair { first, second } = pair;
     heap.deallocate(second);
     heap.deallocate(first);
