@@ -1,5 +1,7 @@
 //! The assertions of the tests. An assertion is proved in each function that has one, so these functions have nearly all of them.
 
+ghost use Rattle.std.specs.Prelude.{◌≢◌};
+
 use std::process::Abort;
 
 /// Passes if the numbers are the expected ones.
@@ -24,4 +26,11 @@ pub(crate) fn none_is_wrong(rt: &impl Abort, wrong: Option<usize>) {
     if let Some(step) = wrong {
         passes(rt, false, step);
     }
+}
+
+/// Passes if an address isn't 0.
+pub(crate) fn is_some(rt: &impl Abort, addr: usize)
+    ensures { addr ≢ 0 }
+{
+    assert!(rt; addr != 0);
 }

@@ -11,7 +11,7 @@ use rlsf_heap::Payload;
 use std::process::Abort;
 
 /// A heap whose pool is the first `len` bytes from the address 4096 on. No byte of its memory is raw.
-fn small(rt: &(impl Abort + AllocGlobal), len: usize) -> Small
+pub(crate) fn small(rt: &(impl Abort + AllocGlobal), len: usize) -> Small
     requires { len ≤ 8192 }
     ensures { IsSettled result.memory }
 {

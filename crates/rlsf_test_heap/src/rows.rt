@@ -28,7 +28,10 @@ fn memory(rt: &(impl Abort + AllocGlobal), start: usize, len: usize) -> OpenMemo
     OpenMemory::reserve(rt.alloc(), start, len).expect(rt, "memory")
 }
 
-fn layout(rt: &impl Abort, size: usize, align: usize) -> Layout {
+/// The layout of so many bytes at a multiple of a power of two.
+pub(crate) fn layout(rt: &impl Abort, size: usize, align: usize) -> Layout
+    ensures { (result.size ≡ size) × (result.align ≡ align) }
+{
     Layout::from_size_align(size, align).expect(rt, "a layout")
 }
 
