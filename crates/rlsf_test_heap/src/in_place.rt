@@ -1,11 +1,9 @@
 //! Vectors that grow and shrink in place. Where a second block of the size has no room, one that moved would be refused.
 //!
-//! They are cases of `local.rt`, over any allocator. `counts` returns how many payloads are out, the bytes of their blocks, and the
-//! other bytes.
-use crate::answers::{all, are};
-use crate::local::{Case, passes_in_a_heap};
+//! They are cases of `local.rt`, over any allocator, and return what they find. `counts` returns how many payloads are out, the bytes of
+//! their blocks, and the other bytes.
+use crate::local::{Case, Found, NOTHING, passes_in_a_heap};
 use std::alloc::{AllocError, Allocator};
-use std::process::Abort;
 use std::test::Fail;
 
 /// A vector of so many bytes, with no room for more. They are 0, 1, .. up to 250, and then 0 again.
@@ -27,23 +25,24 @@ fn has_bytes(bytes: &[u8], expected: &[(usize, u8)]) -> bool {
     true
 }
 
+static OF_3000: [(usize, u8); 4] = [(0, 0), (250, 250), (251, 0), (2999, 238)];
+
+static OF_2000: [(usize, u8); 2] = [(0, 0), (1999, 242)];
+
 /// A vector of 3,000 bytes gets room for 4,000.
 pub(crate) fn grow_by_the_block_behind<A: Allocator + Copy, F: Fn() -> [usize; 3]>(
-    rt: &impl Abort,
     alloc: A,
     counts: F,
-) -> Result<(), Fail>
+) -> Result<Found, AllocError>
     requires { F.IsAlwaysCallable counts }
 {
     let mut bytes = bytes_of(alloc, 3000)?;
-    // A block of 3,016 bytes with its header is rounded up to 3,040.
-    are(rt, &counts(), &[1, 3040, 1056]);
+    let before = counts();
     bytes.reserve_exact(1000)?;
-    are(rt, &counts(), &[1, 4032, 64]);
-    are(rt, &[bytes.len(), bytes.capacity()], &[3000, 4000]);
-    let expected = [(0, 0), (250, 250), (251, 0), (2999, 238)];
-    all(rt, &[has_bytes(bytes.as_slice(), &expected)]);
-    Ok(())
+    let after = counts();
+    let kept = has_bytes(bytes.as_slice(), &OF_3000) as usize;
+    let sizes = [bytes.len(), bytes.capacity(), kept];
+    Ok([before, after, sizes, NOTHING, NOTHING])
 }
 
 /// A vector of the first 125 squares, with room for 375 words.
@@ -60,45 +59,46 @@ fn are_squares(words: &[u64]) -> bool {
     words.len() == 125 && words.first().copied() == Some(0) && words.last().copied() == Some(15376)
 }
 
-/// A vector of 125 words gets room for 500, shrinks, and gets that room once more.
+/// A vector of 125 words gets room for 500, shrinks, and gets that room once more: the bytes behind it are a free block meanwhile.
 pub(crate) fn shrink_and_grow_again<A: Allocator + Copy, F: Fn() -> [usize; 3]>(
-    rt: &impl Abort,
     alloc: A,
     counts: F,
-) -> Result<(), Fail>
+) -> Result<Found, AllocError>
     requires { F.IsAlwaysCallable counts }
 {
     let mut words = squares_of(alloc)?;
     words.reserve_exact(375)?;
-    // What is left is no block for 1,000 bytes.
-    are(rt, &counts(), &[1, 4032, 64]);
+    let grown = counts();
     words.shrink_to_fit();
-    are(rt, &counts(), &[1, 1024, 3072]);
-    let shrunk = words.capacity() == 125 && are_squares(words.as_slice());
-    // The bytes behind it are a free block again, and the vector has them once more.
+    let shrunk = counts();
+    let kept = [words.capacity(), are_squares(words.as_slice()) as usize, 0];
     words.reserve_exact(375)?;
-    are(rt, &counts(), &[1, 4032, 64]);
-    all(rt, &[shrunk, are_squares(words.as_slice())]);
-    Ok(())
+    let again = counts();
+    let kept_again = are_squares(words.as_slice()) as usize;
+    Ok([grown, shrunk, kept, again, [kept_again, 0, 0]])
 }
 
 /// A vector of 2,000 bytes is refused 1,000 more.
 pub(crate) fn refuse_to_grow<A: Allocator + Copy, F: Fn() -> [usize; 3]>(
-    rt: &impl Abort,
     alloc: A,
     counts: F,
-) -> Result<(), Fail>
+) -> Result<Found, AllocError>
     requires { F.IsAlwaysCallable counts }
 {
     let mut bytes = bytes_of(alloc, 2000)?;
     let behind = Box::new(alloc, 7u64)?;
-    are(rt, &counts(), &[2, 2048, 2048]);
-    let refused = bytes.reserve_exact(1000).is_err();
-    are(rt, &counts(), &[2, 2048, 2048]);
-    are(rt, &[bytes.len(), bytes.capacity()], &[2000, 2000]);
-    let same = has_bytes(bytes.as_slice(), &[(0, 0), (1999, 242)]);
-    all(rt, &[refused, *behind == 7, same]);
-    Ok(())
+    let before = counts();
+    let refused = bytes.reserve_exact(1000).is_err() as usize;
+    let after = counts();
+    let same = has_bytes(bytes.as_slice(), &OF_2000) as usize;
+    let sizes = [bytes.len(), bytes.capacity(), same];
+    Ok([
+        before,
+        after,
+        sizes,
+        [refused, *behind as usize, 0],
+        NOTHING,
+    ])
 }
 
 /// A vector of the numbers below 25, with no room for more.
@@ -119,21 +119,19 @@ fn are_numbers(words: &[u32]) -> bool {
 
 /// A vector of 25 words of 4 bytes has a used block behind it, and gets room for 50.
 pub(crate) fn move_to_grow<A: Allocator + Copy, F: Fn() -> [usize; 3]>(
-    rt: &impl Abort,
     alloc: A,
     counts: F,
-) -> Result<(), Fail>
+) -> Result<Found, AllocError>
     requires { F.IsAlwaysCallable counts }
 {
     let mut words = numbers_of(alloc)?;
     let behind = Box::new(alloc, 7u64)?;
-    // Blocks of 116 and 24 bytes are rounded up to 128 and 32, and one of 216 to 224.
-    are(rt, &counts(), &[2, 160, 3936]);
+    let before = counts();
     words.reserve_exact(25)?;
-    are(rt, &counts(), &[2, 256, 3840]);
-    are(rt, &[words.len(), words.capacity()], &[25, 50]);
-    all(rt, &[*behind == 7, are_numbers(words.as_slice())]);
-    Ok(())
+    let after = counts();
+    let kept = are_numbers(words.as_slice()) as usize;
+    let sizes = [words.len(), words.capacity(), kept];
+    Ok([before, after, sizes, [*behind as usize, 0, 0], NOTHING])
 }
 
 /// A text of so many letters.
@@ -145,23 +143,27 @@ fn text_of<A: Allocator + Copy>(alloc: A, len: usize) -> Result<String<A>, Alloc
     Ok(text)
 }
 
+/// How many texts there are, whether the one at 9 is right, and the length of the one at 3.
+fn read_texts<A: Allocator>(texts: &[String<A>]) -> [usize; 3] {
+    match (texts.get(9), texts.get(3)) {
+        (Some(one), Some(other)) => {
+            let is_right = one.as_str() == "xxxxxxxxx";
+            [texts.len(), is_right as usize, other.len()]
+        }
+        _ => NOTHING,
+    }
+}
+
 /// Texts of 0 to 19 letters in a vector that grows, and is cut to ten of them.
-pub(crate) fn keep_texts<A: Allocator + Copy>(rt: &impl Abort, alloc: A) -> Result<(), Fail> {
+pub(crate) fn keep_texts<A: Allocator + Copy>(alloc: A) -> Result<Found, AllocError> {
     let mut texts = Vec::with_capacity(alloc, 1)?;
     for n in 0..20usize {
         texts.push(text_of(alloc, n)?)?;
     }
     texts.truncate(10);
     texts.shrink_to_fit();
-    let read = [
-        texts.len() == 10,
-        texts
-            .get(9)
-            .is_some_and(|text| text.as_str() == "xxxxxxxxx"),
-        texts.get(3).is_some_and(|text| text.len() == 3),
-    ];
-    all(rt, &read);
-    Ok(())
+    let read = read_texts(texts.as_slice());
+    Ok([read, NOTHING, NOTHING, NOTHING, NOTHING])
 }
 
 #[test]

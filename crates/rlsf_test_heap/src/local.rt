@@ -63,7 +63,89 @@ pub(crate) enum Case {
     KeepTexts,
 }
 
+/// What a case finds: what `counts` returns at a time, or other numbers, as a length, a value, or 1 for true.
+pub(crate) type Found = [[usize; 3]; 5];
+
+/// Numbers that a case doesn't use.
+pub(crate) const NOTHING: [usize; 3] = [0; 3];
+
 /// Does a case. `counts` returns how many payloads are out, the bytes of their blocks, and the other bytes.
+fn found<A: Allocator + Copy, F: Fn() -> [usize; 3]>(
+    alloc: A,
+    counts: F,
+    case: Case,
+) -> Result<Found, AllocError>
+    requires { F.IsAlwaysCallable counts }
+{
+    match case {
+        Case::GrowAndShrink => grow_and_shrink(alloc, counts),
+        Case::KeepValues => keep_values(alloc),
+        Case::RefuseUntilRoomComes => refuse_until_room_comes(alloc, counts),
+        Case::FillAndClear => fill_and_clear(alloc),
+        Case::GrowByTheBlockBehind => grow_by_the_block_behind(alloc, counts),
+        Case::ShrinkAndGrowAgain => shrink_and_grow_again(alloc, counts),
+        Case::RefuseToGrow => refuse_to_grow(alloc, counts),
+        Case::MoveToGrow => move_to_grow(alloc, counts),
+        Case::KeepTexts => keep_texts(alloc),
+    }
+}
+
+/// What a case has to find. A payload's block has 16 bytes before it, and is rounded up to a multiple of 32.
+fn expected(case: Case) -> Found {
+    match case {
+        Case::GrowAndShrink => [[1000, 1000, 2], [1, 1, 0], [1, 1, 0], NOTHING, NOTHING],
+        Case::KeepValues => [[49, 40, 0], NOTHING, NOTHING, NOTHING, NOTHING],
+        // 3,016 bytes are rounded up to 3,040, and 1,616 to 1,632.
+        Case::RefuseUntilRoomComes => [
+            [1, 3040, 1056],
+            [1, 3040, 1056],
+            [1, 1632, 2464],
+            [1, 5, 5],
+            NOTHING,
+        ],
+        Case::FillAndClear => [NOTHING; 5],
+        Case::GrowByTheBlockBehind => [
+            [1, 3040, 1056],
+            [1, 4032, 64],
+            [3000, 4000, 1],
+            NOTHING,
+            NOTHING,
+        ],
+        // What is left of 4,096 bytes is no block for 1,000.
+        Case::ShrinkAndGrowAgain => [
+            [1, 4032, 64],
+            [1, 1024, 3072],
+            [125, 1, 0],
+            [1, 4032, 64],
+            [1, 0, 0],
+        ],
+        Case::RefuseToGrow => [
+            [2, 2048, 2048],
+            [2, 2048, 2048],
+            [2000, 2000, 1],
+            [1, 7, 0],
+            NOTHING,
+        ],
+        // 116 and 24 bytes are rounded up to 128 and 32, and 216 to 224.
+        Case::MoveToGrow => [
+            [2, 160, 3936],
+            [2, 256, 3840],
+            [25, 50, 1],
+            [7, 0, 0],
+            NOTHING,
+        ],
+        Case::KeepTexts => [[10, 1, 3], NOTHING, NOTHING, NOTHING, NOTHING],
+    }
+}
+
+/// Passes if this is what a case has to find.
+fn is_found(rt: &impl Abort, case: Case, found: Found) {
+    for (numbers, wanted) in found.iter().zip(expected(case).iter()) {
+        are(rt, numbers, wanted);
+    }
+}
+
+/// Passes if a case finds what it has to.
 fn goes<A: Allocator + Copy, F: Fn() -> [usize; 3]>(
     rt: &impl Abort,
     alloc: A,
@@ -72,17 +154,8 @@ fn goes<A: Allocator + Copy, F: Fn() -> [usize; 3]>(
 ) -> Result<(), Fail>
     requires { F.IsAlwaysCallable counts }
 {
-    match case {
-        Case::GrowAndShrink => grow_and_shrink(rt, alloc, counts),
-        Case::KeepValues => keep_values(rt, alloc),
-        Case::RefuseUntilRoomComes => refuse_until_room_comes(rt, alloc, counts),
-        Case::FillAndClear => fill_and_clear(alloc),
-        Case::GrowByTheBlockBehind => grow_by_the_block_behind(rt, alloc, counts),
-        Case::ShrinkAndGrowAgain => shrink_and_grow_again(rt, alloc, counts),
-        Case::RefuseToGrow => refuse_to_grow(rt, alloc, counts),
-        Case::MoveToGrow => move_to_grow(rt, alloc, counts),
-        Case::KeepTexts => keep_texts(rt, alloc),
-    }
+    is_found(rt, case, found(alloc, counts, case)?);
+    Ok(())
 }
 
 /// Does a case in a heap of `len` bytes, which are 4,096 or 16,384. Passes if it has its expected results, and leaves the heap with
@@ -102,12 +175,25 @@ pub(crate) fn passes_in_a_heap(
     Ok(())
 }
 
+/// Whether the first number and the last of a thousand are right.
+fn are_a_thousand(numbers: &[u32]) -> [usize; 3] {
+    let first = numbers.get(0).copied() == Some(0);
+    let last = numbers.get(999).copied() == Some(999);
+    [first as usize, last as usize, 0]
+}
+
+/// Whether the numbers are 0, 1 and 2, and each letter is an `a`.
+fn are_cut(numbers: &[u32], text: &str) -> [usize; 3] {
+    let numbers = numbers == [0, 1, 2].as_slice();
+    let letters = text.bytes().all(|byte| byte == b'a');
+    [numbers as usize, letters as usize, 0]
+}
+
 /// A vector and a text grow to a thousand each, and the vector shrinks.
 fn grow_and_shrink<A: Allocator + Copy, F: Fn() -> [usize; 3]>(
-    rt: &impl Abort,
     alloc: A,
     counts: F,
-) -> Result<(), Fail>
+) -> Result<Found, AllocError>
     requires { F.IsAlwaysCallable counts }
 {
     let mut numbers = Vec::new(alloc);
@@ -117,20 +203,12 @@ fn grow_and_shrink<A: Allocator + Copy, F: Fn() -> [usize; 3]>(
         text.push('a')?;
     }
     let [live, _, _] = counts();
-    are(rt, &[numbers.len(), text.len(), live], &[1000, 1000, 2]);
-    let full = [
-        numbers.get(0).copied() == Some(0),
-        numbers.get(999).copied() == Some(999),
-    ];
+    let lengths = [numbers.len(), text.len(), live];
+    let full = are_a_thousand(numbers.as_slice());
     numbers.truncate(3);
     numbers.shrink_to_fit();
-    let cut = [
-        numbers.as_slice() == [0, 1, 2].as_slice(),
-        text.as_str().bytes().all(|byte| byte == b'a'),
-    ];
-    all(rt, &full);
-    all(rt, &cut);
-    Ok(())
+    let cut = are_cut(numbers.as_slice(), text.as_str());
+    Ok([lengths, full, cut, NOTHING, NOTHING])
 }
 
 #[test]
@@ -138,8 +216,8 @@ fn vectors_and_texts_grow_and_shrink(rt: HostRuntime) -> Result<(), Fail> {
     passes_in_a_heap(&rt, 16384, Case::GrowAndShrink)
 }
 
-/// A tree of boxes, a table and a queue keep forty values each.
-fn keep_values<A: Allocator + Copy>(rt: &impl Abort, alloc: A) -> Result<(), Fail> {
+/// A tree of boxes, a table and a queue keep forty values each. Returns one of each.
+fn keep_values<A: Allocator + Copy>(alloc: A) -> Result<Found, AllocError> {
     let mut tree = BTreeMap::new(alloc);
     let mut table = HashMap::new(alloc);
     let mut queue = VecDeque::new(alloc);
@@ -148,13 +226,13 @@ fn keep_values<A: Allocator + Copy>(rt: &impl Abort, alloc: A) -> Result<(), Fai
         table.insert(n, n + 1)?;
         queue.push_back(n)?;
     }
-    let kept = [
-        tree.get(&7).map(|square| **square) == Some(49),
-        table.get(&39).copied() == Some(40),
-        queue.pop_front() == Some(0),
-    ];
-    all(rt, &kept);
-    Ok(())
+    let square = match tree.get(&7) {
+        Some(square) => **square as usize,
+        None => 0,
+    };
+    let next = table.get(&39).copied().unwrap_or(0) as usize;
+    let first = queue.pop_front().unwrap_or(1) as usize;
+    Ok([[square, next, first], NOTHING, NOTHING, NOTHING, NOTHING])
 }
 
 #[test]
@@ -164,22 +242,20 @@ fn maps_queues_and_boxes_keep_their_values(rt: HostRuntime) -> Result<(), Fail> 
 
 /// A vector takes most of a heap of 4,096 bytes, and a box gets room once it is dropped.
 fn refuse_until_room_comes<A: Allocator + Copy, F: Fn() -> [usize; 3]>(
-    rt: &impl Abort,
     alloc: A,
     counts: F,
-) -> Result<(), Fail>
+) -> Result<Found, AllocError>
     requires { F.IsAlwaysCallable counts }
 {
-    // A block of 3,016 bytes with its header is rounded up to 3,040, and one of 1,616 to 1,632.
     let first: Vec<u8, A> = Vec::with_capacity(alloc, 3000)?;
-    are(rt, &counts(), &[1, 3040, 1056]);
-    let refused = Box::new(alloc, [0u64; 200]).is_err();
-    are(rt, &counts(), &[1, 3040, 1056]);
+    let before = counts();
+    let refused = Box::new(alloc, [0u64; 200]).is_err() as usize;
+    let after = counts();
     drop(first);
     let second = Box::new(alloc, [5u64; 200])?;
-    are(rt, &counts(), &[1, 1632, 2464]);
-    all(rt, &[refused, second[0] == 5, second[199] == 5]);
-    Ok(())
+    let then = counts();
+    let values = [refused, second[0] as usize, second[199] as usize];
+    Ok([before, after, then, values, NOTHING])
 }
 
 #[test]
@@ -188,7 +264,7 @@ fn a_full_heap_refuses_until_room_comes(rt: HostRuntime) -> Result<(), Fail> {
 }
 
 /// A million boxes, a hundred at a time.
-fn fill_and_clear<A: Allocator + Copy>(alloc: A) -> Result<(), Fail> {
+fn fill_and_clear<A: Allocator + Copy>(alloc: A) -> Result<Found, AllocError> {
     let mut boxes = Vec::new(alloc);
     for n in 0..1_000_000u64 {
         boxes.push(Box::new(alloc, n)?)?;
@@ -196,7 +272,7 @@ fn fill_and_clear<A: Allocator + Copy>(alloc: A) -> Result<(), Fail> {
             boxes.clear();
         }
     }
-    Ok(())
+    Ok([NOTHING; 5])
 }
 
 #[test]
