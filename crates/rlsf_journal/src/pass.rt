@@ -5,7 +5,7 @@ ghost use Rattle.std.specs.Prelude.{◌≡◌};
 use crate::entry::Receipt;
 use std::marker::Model;
 
-/// A caller's number, and a receipt of each of its calls. It can't be copied, so no two callers have the same number.
+/// A caller's number, and a receipt of each of its calls. It can't be copied, so no two callers of a `Journaled` have the same number.
 #[derive(Drop)]
 pub struct Pass {
     pub(crate) caller: usize,
