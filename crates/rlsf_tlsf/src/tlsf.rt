@@ -122,9 +122,13 @@ impl<FLBitmap: BitPattern, SLBitmap: BitPattern, const FLLEN: usize, const SLLEN
         ensures copied { self.new.memory.copied ≡ self.old.memory.copied }
     {
         let view = self.memory.inner.view();
-        let payload = allocate_block(&mut self.memory.inner, view, &mut self.table, layout)?;
-        self.state.allocate(SLLEN, layout.size(), layout.align());
-        NonZeroUsize::new(payload)
+        match allocate_block(&mut self.memory.inner, view, &mut self.table, layout) {
+            None => None,
+            Some(payload) => {
+                self.state.allocate(SLLEN, layout.size(), layout.align());
+                NonZeroUsize::new(payload)
+            }
+        }
     }
 
     /// Deallocates the payload at `addr`. Its block becomes free, and is joined with the free block before it and the
@@ -214,16 +218,20 @@ impl<FLBitmap: BitPattern, SLBitmap: BitPattern, const FLLEN: usize, const SLLEN
         let payload = addr.get();
         let view = self.memory.inner.view();
         let block = used_block(&mut self.memory.inner, view, payload, layout.align());
-        let moved = reallocate_block::<FLLEN, SLLEN, 1>(
+        match reallocate_block::<FLLEN, SLLEN, 1>(
             &mut self.memory.inner,
             view,
             &mut self.table,
             block,
             payload,
             layout,
-        )?;
-        self.state.reallocate(SLLEN, payload, layout.size());
-        NonZeroUsize::new(moved)
+        ) {
+            None => None,
+            Some(moved) => {
+                self.state.reallocate(SLLEN, payload, layout.size());
+                NonZeroUsize::new(moved)
+            }
+        }
     }
 
     /// Changes the size of the payload at `addr` to that of `layout` without moving it, and returns its address. It uses
@@ -278,6 +286,7 @@ impl<FLBitmap: BitPattern, SLBitmap: BitPattern, const FLLEN: usize, const SLLEN
     /// The payload at `addr` must be live, with any alignment.
     pub(crate) fn resize_unknown_align(&mut self, addr: Addr, layout: Layout) -> (bool, usize)
         requires { IsSome (align_at self.old.state (at addr)) }
+        ensures stands { Stands FLLEN SLLEN self.old }
         ensures resized { result.0 ≡ true → Steps FLLEN SLLEN self.old self.new (ReallocatesWithoutMove self.old.state (at addr) layout.size (Some (at addr))) }
         ensures refused { result.0 ≡ false → Steps FLLEN SLLEN self.old self.new (ReallocatesWithoutMove self.old.state (at addr) layout.size None) }
         ensures unchanged { result.0 ≡ false → (self.new.memory.bytes ≡ self.old.memory.bytes) × (self.new.memory.touches ≤ self.old.memory.touches + 7) }
@@ -292,7 +301,8 @@ impl<FLBitmap: BitPattern, SLBitmap: BitPattern, const FLLEN: usize, const SLLEN
         let block = load_block_of(&mut self.memory.inner, payload);
         let front = payload - block;
         // A block whose length doesn't fit in a word is longer than the memory.
-        if layout.size() > usize::MAX - 31 - front {
+        let size = layout.size();
+        if size > usize::MAX - 31 - front {
             return (false, usable.len);
         }
         let view = self.memory.inner.view();
@@ -306,7 +316,7 @@ impl<FLBitmap: BitPattern, SLBitmap: BitPattern, const FLLEN: usize, const SLLEN
         ) {
             return (false, usable.len);
         }
-        self.state.reallocate(SLLEN, payload, layout.size());
+        self.state.reallocate(SLLEN, payload, size);
         (true, usable.len)
     }
 

@@ -58,8 +58,6 @@ impl<FLBitmap: BitPattern, SLBitmap: BitPattern, const FLLEN: usize, const SLLEN
         ensures grow_copied { self.old.memory.copied ≤ self.new.memory.copied }
         ensures stays { HasRoomToStay self.old.state (at addr) layout.size → self.new.memory.copied ≡ self.old.memory.copied }
     {
-        // What it says of every allocator: that it represents its state.
-        let _ = self.memory_ref();
         let (stays, len) = self.resize_unknown_align(addr, layout);
         if stays {
             return Some(addr);

@@ -23,7 +23,7 @@ returns-then-stays g c =
     let new = c.resize_unknown_align-stays.new.self in
     let addr = at c.args.addr in
     let size = c.args.layout.size in
-    let stands = c.memory_ref.ensures.stands in
+    let stands = c.resize_unknown_align-stays.ensures.stands in
     let did = c.resize_unknown_align-stays.ensures in
     let yes = did.resized c.if-stays.true in
     let seen = stay_seen fllen sllen old new addr size stands yes in
@@ -86,10 +86,10 @@ module _ (g : given.Over) (c : In-Some g) where
   no = c.resize_unknown_align-stays.ensures.refused c.if-stays.false
 
   same : mid.state ≡ old.state
-  same = denied_same fllen sllen old mid addr c.args.layout.size c.memory_ref.ensures.stands no
+  same = denied_same fllen sllen old mid addr c.args.layout.size c.resize_unknown_align-stays.ensures.stands no
 
   short : length (bytes_at old.state addr) < c.args.layout.size
-  short = denied_short fllen sllen old mid addr c.args.layout.size c.memory_ref.ensures.stands no
+  short = denied_short fllen sllen old mid addr c.args.layout.size c.resize_unknown_align-stays.ensures.stands no
 
   long : len ≡ length (bytes_at old.state addr)
   long = c.resize_unknown_align-stays.ensures.len
@@ -132,7 +132,7 @@ returns-in-Some g c =
     let to = at c.in-Some.to in
     let size = c.args.layout.size in
     let len = c.resize_unknown_align-stays.result.1 in
-    let stands = c.memory_ref.ensures.stands in
+    let stands = c.resize_unknown_align-stays.ensures.stands in
     let first = c.resize_unknown_align-stays.ensures in
     let did = c.in-Some.ensures in
     let copy = c.copy_payload.ensures in
@@ -181,7 +181,7 @@ returns-in-None g c =
     let made = c.allocate.new.self in
     let addr = at c.args.addr in
     let size = c.args.layout.size in
-    let stands = c.memory_ref.ensures.stands in
+    let stands = c.resize_unknown_align-stays.ensures.stands in
     let first = c.resize_unknown_align-stays.ensures in
     let did = c.in-None.ensures in
     let no = first.refused c.if-stays.false in

@@ -16,7 +16,7 @@ use Rattle.rlsf_reallocate.specs.Steps.Resize.{IsUsedAt}
 use Rattle.rlsf_reallocate.proofs.Reallocate.FirstPlan.{StandsFor-unchanged}
 use Rattle.rlsf_tlsf.specs.Allocator.{Allocator, allocator, Steps}
 use Rattle.rlsf_tlsf.specs.Steps.Moves.{bare, reallocated}
-use Rattle.rlsf_tlsf.proofs.Arrivals.{IsAllocator-arrived, IsLiveIn-inside, Steps-arrived, bare-kept, bytes_inside, some_inside}
+use Rattle.rlsf_tlsf.proofs.Arrivals.{IsAllocator-arrived, IsLiveIn-inside, Stands-view, Steps-arrived, bare-kept, bytes_inside, some_inside}
 use Rattle.rlsf_tlsf.proofs.Moved.{reallocated-bare}
 use Rattle.rlsf_base.specs.Space.{Space, SamePlace}
 use Rattle.rlsf_base.specs.OpenSpace.{IsOwned}
@@ -134,7 +134,7 @@ resize_any_block-requires g c =
         IsValid-widest g.FLBitmap.BitPattern.width_limit (IsAllocator-opened c.self-inside.view_is c.self.invariant).valid,
         (
           (state g before, used g before, read g before, used_at g before, own g before),
-          (search rules, omega (arith, front_fits g before, c.if-size-front.false, c.size.ensures.value)),
+          (search rules, omega (arith, front_fits g before, c.if-size-front.false, c.size-size.ensures.value)),
         ),
       ),
     )
@@ -146,7 +146,7 @@ module _ (g : given.Over) (c : Then-size-front g) where
   first_read = (goal.at.returns-then-size-front g c).After-load_block_of-block
 
   past : 2 ^ 64 ≤ (used g first_read).payload - (used g first_read).block.start + c.args.layout.size + 31
-  past = let is = used_at g first_read in omega (arith, is.caller, is.start, c.if-size-front.true, c.size.ensures.value)
+  past = let is = used_at g first_read in omega (arith, is.caller, is.start, c.if-size-front.true, c.size-size.ensures.value)
 
   -- nothing has changed
   denied : ReallocatesWithoutMove (state g first_read) (at c.args.addr) c.args.layout.size None (state g first_read)
@@ -174,6 +174,7 @@ returns-then-size-front g c =
     let early = first_read g c in
     let counts = counts g early in
     record {
+      stands = Stands-view c.self-inside.inside.0.0.inner c.self-inside.inside.0.1.0 c.self-inside.inside.0.1.1.0.state c.args.self.now view is.stands is.whole;
       resized = λ no. absurd (true≢false (sym no));
       refused = λ no.
           Steps-arrived (read g early) c.self-inside.inside.0.1.1.0.state (sym (bare-kept is)) (whole g early) c.args.self.now c.self-inside.inside.0.0.inner
@@ -262,7 +263,7 @@ module _ (g : given.Over) (c : After-reallocate g) where
   kept : (t : State) → ReallocatesWithoutMove (state g early) (at c.args.addr) c.args.layout.size (Some (at c.args.addr)) t → c.reallocate.new.self.state ≡ bare t
   kept t step =
       let is = IsAllocator-opened c.self-inside.view_is c.self.invariant in
-      c.reallocate.ensures ∙ (λ i. reallocated g.row.SLLEN (c.get-payload.ensures.value i) (c.size-2.ensures.value i) (sym (bare-kept is) i))
+      c.reallocate.ensures ∙ (λ i. reallocated g.row.SLLEN (c.get-payload.ensures.value i) (c.size-size.ensures.value i) (sym (bare-kept is) i))
       ∙ reallocated-bare is.stands.well_formed t (at c.args.addr) c.args.layout.size (at c.args.addr)
       (unmoved_is_reallocated g.row.SLLEN (state g early) t (at c.args.addr) c.args.layout.size (Some (at c.args.addr)) step).0.1
 
@@ -298,6 +299,7 @@ returns-then-not-resize_any_block g c =
     let more = (c.resize_any_block.ensures.unchanged c.if-not-resize_any_block.true).0 in
     let costs = Costs-read_first (ap (λ (o : Allocator). o.memory) view) counts c.resize_any_block.ensures.costs in
     record {
+      stands = Stands-view c.self-inside.inside.0.0.inner c.self-inside.inside.0.1.0 c.self-inside.inside.0.1.1.0.state c.args.self.now view is.stands is.whole;
       resized = λ no. absurd (true≢false (sym no));
       refused = λ no.
           Steps-arrived (stands g c) c.self-inside.inside.0.1.1.0.state (sym (bare-kept is)) (none_refused g c) c.args.self.now c.self-inside.inside.0.0.inner
@@ -316,10 +318,12 @@ returns-then-not-resize_any_block g c =
 
 pub returns : goal.returns
 returns g c =
+    let is = IsAllocator-opened c.self-inside.view_is c.self.invariant in
     let view = view-opened c.self-inside.view_is c.self.view_is in
     let counts = counts g (early g c) in
     let costs = Costs-read_first (ap (λ (o : Allocator). o.memory) view) counts c.resize_any_block.ensures.costs in
     record {
+      stands = Stands-view c.self-inside.inside.0.0.inner c.self-inside.inside.0.1.0 c.self-inside.inside.0.1.1.0.state c.args.self.now view is.stands is.whole;
       resized = λ yes. done g c;
       refused = λ yes. absurd (true≢false yes);
       unchanged = λ yes. absurd (true≢false yes);
