@@ -24,7 +24,8 @@ use Rattle.rlsf_reallocate.specs.Steps.Resize.{IsOwnedBehind, IsResized, IsUsedA
 use Rattle.rlsf_reallocate.proofs.Reallocate.FirstPlan.{StandsFor-unchanged}
 use Rattle.rlsf_tlsf.specs.Steps.Moves.{bare}
 use Rattle.rlsf_tlsf.proofs.Arrivals.{arrived}
-use Rattle.rlsf_heap.specs.Heap.{AreIssued, HeapView, Identity}
+use Rattle.rlsf_heap.specs.Heap.{AreIssued, HeapView, Identity, heap_view}
+use Rattle.rlsf_heap.specs.Kept.{KeepsSpareBytes}
 use Rattle.rlsf_heap.specs.Units.{heap_of_tail, payload_len}
 use Rattle.rlsf_heap.proofs.Arrivals.{IsHeap-arrived, Steps-arrived, bare-kept, stepped, view_well_formed}
 use Rattle.rlsf_heap.proofs.Costs.{Leaves, is_of_heap, left_costs, left_same, left_then, sees_left}
@@ -426,8 +427,20 @@ aligned_at g c a = elim (cases_eq a c.args.tail.start) [
   | inr apart ↦ (seen g c).aligns a apart (λ is. apart (is ∙ start-2 g c))
 ]
 
-pub returns : goal.returns
+-- bytes that no block is made of are as they were
+resized_spare : (g : given.Over) (c : After-take_unit_tail-2 g) → KeepsSpareBytes c.args.self.now
+    (heap_view c.take_unit_tail-2.new.self c.resize_kept_block.new.table c.reallocate.new.self.state c.issue-ticket-2.new.self.name)
 unfolding after
+resized_spare g c =
+    let d = first-of g c in let put = c.put_unit_tail-block.ensures in let e = c.take_unit_tail-2.ensures in
+    let m = c.self.inside.memory in let n = c.put_unit_tail-block.new.self in
+    let o = c.resize_kept_block.new.memory in let q = c.take_unit_tail-2.new.self in
+    spare-seen m q (before g d) (after g c)
+    (spare-last m o q (before g d) (after g c) e.start e.bytes (spare-first m n o (before g d) (after g c) put.start put.bytes (made g c).3.3))
+    c.self.inside.state.state c.reallocate.new.self.state refl (sym (ap (λ (s : State). s.chunks) (bared-2 g c))) c.args.self.now c.self.view_is
+    c.resize_kept_block.new.table c.issue-ticket-2.new.self.name
+
+pub returns : goal.returns
 returns g c =
     let k = c.self.inside.state.state in
     let e = c.take_unit_tail-2.ensures in
@@ -465,13 +478,7 @@ returns g c =
           (raw-tail c.self.inside.memory c.put_unit_tail-block.new.self c.resize_kept_block.new.memory c.take_unit_tail-2.new.self c.args.tail.start c.args.tail.kept
           c.args.tail.len c.args.tail.within.0 inside.0 put.start put.out across _ e.start (omega (arith, inside, at g d, put.start, across.start)) e.out);
       unchanged = tt;
-      spare = let d = first-of g c in let put = c.put_unit_tail-block.ensures in let e = c.take_unit_tail-2.ensures in
-          let m = c.self.inside.memory in let n = c.put_unit_tail-block.new.self in
-          let o = c.resize_kept_block.new.memory in let q = c.take_unit_tail-2.new.self in
-          spare-seen m q (before g d) (after g c)
-          (spare-last m o q (before g d) (after g c) e.start e.bytes (spare-first m n o (before g d) (after g c) put.start put.bytes (made g c).3.3))
-          c.self.inside.state.state c.reallocate.new.self.state refl (sym (ap (λ (s : State). s.chunks) (bared-2 g c))) c.args.self.now c.self.view_is
-          c.resize_kept_block.new.table c.issue-ticket-2.new.self.name;
+      spare = resized_spare g c;
       touches = o.touches;
       grow = o.grow;
       copied = omega (arith, e.copied, costs.copied, put.copied, ap (λ (v : HeapView). v.memory.copied) c.self.view_is);
