@@ -1,5 +1,6 @@
 -- Lemmas of the exports. `Templates` has a manual proof for each shape of an export, and `Payloads` says what each does.
 mod Alignments
+pub mod AtAddresses
 pub mod Laws
 mod Moved
 mod Outcomes

@@ -104,6 +104,7 @@ pub(crate) fn allocate_zeroed<F: BitPattern, S: BitPattern, const FLLEN: usize, 
 }
 
 /// Deallocates the payload at an address. Does nothing if that is 0.
+#[tactic(auto, using(crate::proofs::AtAddresses::heap_of_payload, crate::proofs::AtAddresses::payload_is_written))]
 pub(crate) fn free<F: BitPattern, S: BitPattern, const FLLEN: usize, const SLLEN: usize>(
     heap: &mut Heap<F, S, FLLEN, SLLEN>,
     addr: usize,
@@ -118,6 +119,7 @@ pub(crate) fn free<F: BitPattern, S: BitPattern, const FLLEN: usize, const SLLEN
 }
 
 /// Returns the number of usable bytes of the payload at an address, or 0 if that is 0, and the payload.
+#[tactic(auto, using(crate::proofs::AtAddresses::heap_of_payload))]
 pub(crate) fn usable<F: BitPattern, S: BitPattern, const FLLEN: usize, const SLLEN: usize>(
     heap: &mut Heap<F, S, FLLEN, SLLEN>,
     addr: usize,

@@ -1,23 +1,6 @@
-use Rattle.std.proofs.Common.{arith, rules}
+use Rattle.std.proofs.Common.{arith}
 use Rattle.rlsf_malloc.proofs.Outcomes.{freed, same_heap}
 use Rattle.rlsf_malloc.proofs.calls.free.Goals as goal
-
-pub deallocate_thin_written-requires : goal.deallocate_thin_written-requires
-deallocate_thin_written-requires g c =
-    let is = c.requires.1 in (
-      search rules,
-      (
-        (is.start, λ e. omega (arith, c.if-addr-ne0.true, e)),
-        (
-          is.heap (λ e. omega (arith, c.if-addr-ne0.true, e)),
-          is.written (λ e. omega (
-            arith,
-            c.if-addr-ne0.true,
-            e,
-          )),
-        ),
-      ),
-    )
 
 pub returns-then-addr-ne0 : goal.returns-then-addr-ne0
 returns-then-addr-ne0 g c =

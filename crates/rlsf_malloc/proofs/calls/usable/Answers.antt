@@ -1,9 +1,5 @@
-use Rattle.std.proofs.Common.{arith, rules, refl}
+use Rattle.std.proofs.Common.{refl}
 use Rattle.rlsf_malloc.proofs.calls.usable.Goals as goal
-
-pub usable_thin-len-requires : goal.usable_thin-len-requires
-usable_thin-len-requires g c =
-    let is = c.requires.1 in (search rules, ((is.start, λ e. omega (arith, c.if-addr-eq0.false, e)), is.heap (λ e. omega (arith, c.if-addr-eq0.false, e))))
 
 pub returns-then-addr-eq0 : goal.returns-then-addr-eq0
 returns-then-addr-eq0 g c = record { usable = λ some. absurd (some c.if-addr-eq0.true); none = λ e. refl; payload = refl; same = refl }

@@ -1,5 +1,5 @@
 -- `into_raw` of a payload whose size was to change passes to the caller what its payload owns.
-use Rattle.rlsf_malloc.proofs.Walking.{◌≡◌, ℕ, List, [], ◌∷◌, refl, w64, proved, id⊢, ftrue, Val, vint, tables, ‵, ◌⊛◌, some, ◌$◌, ◌∵◌, !}
+use Rattle.rlsf_malloc.proofs.Walking.{◌≡◌, ℕ, List, [], ◌∷◌, refl, w64, proved, id⊢, ftrue, Val, vint, tables, ‵, ◌⊛◌, some, ◌$◌, ◌∵◌, ! }
 use Rattle.rlsf_malloc.proofs.Walking.{qed, done, keep, drop, use1, split, join, pick, rewrite, suffices, group, enter, of_opd, stop, no_more}
 use Rattle.rlsf_malloc.proofs.Walking.{and_then, returns, alloc_all, pass_all, free_all, look_at, get, sets, lands_as, usize, Is, shows, plain, nothing, owned, peeks}
 use Rattle.rlsf_malloc.proofs.Walking.{Stays, walk_of, stay_dropped, ends_at, framed, uint_Makes}
