@@ -32,34 +32,41 @@ fn many_payloads_are_read_back(rt: HostRuntime) {
     all(&rt, &[are_read == Some(true)]);
 }
 
-/// Pushes the bytes from 0 to 99. Returns whether each was pushed and the buffer has them.
-fn are_pushed(alloc: Global, layout: Layout) -> Option<bool> {
-    let mut buffer = Buffer::new(with_pool(alloc, 1, layout)?)?;
-    for byte in 0..100 {
-        if !buffer.push(byte) {
-            return Some(false);
+/// Places of the buffer, at the ends of payloads and beside them, and the bytes there.
+static PUSHED: [(usize, Option<u8>); 7] = [
+    (0, Some(0)),
+    (15, Some(15)),
+    (16, Some(16)),
+    (79, Some(79)),
+    (80, Some(80)),
+    (99, Some(99)),
+    (100, None),
+];
+
+/// Whether a buffer's bytes are those.
+fn has_pushed(bytes: &[u8]) -> bool {
+    for (place, byte) in &PUSHED {
+        if bytes.get(*place).copied() != *byte {
+            return false;
         }
     }
-    let bytes = buffer.bytes();
-    let found = [
-        bytes.first().copied(),
-        bytes.get(15).copied(),
-        bytes.get(16).copied(),
-        bytes.get(79).copied(),
-        bytes.get(80).copied(),
-        bytes.get(99).copied(),
-        bytes.get(100).copied(),
-    ];
-    let expected = [
-        Some(0),
-        Some(15),
-        Some(16),
-        Some(79),
-        Some(80),
-        Some(99),
-        None,
-    ];
-    Some(found == expected)
+    true
+}
+
+/// Pushes the bytes from 0 to 99. Returns whether each was pushed.
+fn push_all(buffer: &mut Buffer) -> bool {
+    for byte in 0..100 {
+        if !buffer.push(byte) {
+            return false;
+        }
+    }
+    true
+}
+
+/// Whether a hundred bytes are pushed and the buffer has them.
+fn are_pushed(alloc: Global, layout: Layout) -> Option<bool> {
+    let mut buffer = Buffer::new(with_pool(alloc, 1, layout)?)?;
+    Some(push_all(&mut buffer) && has_pushed(buffer.bytes()))
 }
 
 #[test]

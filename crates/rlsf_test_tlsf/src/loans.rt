@@ -58,27 +58,34 @@ fn neighbours(
     ])
 }
 
-/// The word in the first bytes.
-fn front_word(bytes: &[u8]) -> Option<u64> {
-    bytes
-        .first_chunk::<8>()
-        .map(|front| u64::from_le_bytes(*front))
+/// The word in the first bytes, or 0 if there are fewer than eight.
+fn front_word(bytes: &[u8]) -> usize {
+    match bytes.first_chunk::<8>() {
+        Some(front) => u64::from_le_bytes(*front) as usize,
+        None => 0,
+    }
+}
+
+/// Allocates a payload and writes its first word. What was live stays live.
+fn put_word(tlsf: &mut Wide, layout: Layout, word: u64) -> Option<Addr>
+    ensures live { IfSome result (λ addr. IsSome (align_at tlsf.new.state (at addr))) }
+    ensures stays { (a : ℕ) → IsSome (align_at tlsf.old.state a) → IsSome (align_at tlsf.new.state a) }
+{
+    let addr = tlsf.allocate(layout)?;
+    copy_front(&word.to_le_bytes(), tlsf.payload_mut(addr));
+    Some(addr)
 }
 
 /// The addresses of two payloads, whose first words were written one after the other, and the words that are there then.
-fn words(
-    tlsf: &mut Wide,
-    layout: Layout,
-    first: u64,
-    second: u64,
-) -> Option<([usize; 2], [u64; 2])> {
-    let one = tlsf.allocate(layout)?;
-    copy_front(&first.to_le_bytes(), tlsf.payload_mut(one));
-    let two = tlsf.allocate(layout)?;
-    copy_front(&second.to_le_bytes(), tlsf.payload_mut(two));
-    let read = front_word(tlsf.payload(one))?;
-    let last = front_word(tlsf.payload(two))?;
-    Some(([one.get(), two.get()], [read, last]))
+fn words(tlsf: &mut Wide, layout: Layout, first: u64, second: u64) -> Option<[usize; 4]> {
+    let one = put_word(tlsf, layout, first)?;
+    let two = put_word(tlsf, layout, second)?;
+    Some([
+        one.get(),
+        two.get(),
+        front_word(tlsf.payload(one)),
+        front_word(tlsf.payload(two)),
+    ])
 }
 
 /// The address of a payload, or 0, and how many of its bytes are lent, to read and to write.
@@ -133,7 +140,6 @@ fn filled_reads_back(rt: HostRuntime) {
 fn words_read_back(rt: HostRuntime) {
     let layout = layout_of(&rt, 8, 8);
     let mut tlsf = wide(&rt, 65536);
-    let (places, [one, two]) = words(&mut tlsf, layout, 42, 56).unwrap_or(([0; 2], [0; 2]));
-    are(&rt, &places, &[4112, 4144]);
-    are(&rt, &[one as usize, two as usize], &[42, 56]);
+    let answers = words(&mut tlsf, layout, 42, 56).unwrap_or([0; 4]);
+    are(&rt, &answers, &[4112, 4144, 42, 56]);
 }

@@ -8,13 +8,14 @@
 
 ghost use Rattle.rlsf_base.specs.SizeClass.{IsValid};
 
-use super::pools::{all, layout_of, zeros};
+use super::pools::{all, layout_of};
 use super::words::next;
 use rlsf::classes::{pool_size_for_objects, pool_size_for_payloads};
 use rlsf::int::BitPattern;
-use rlsf::{Layout, Range, Tlsf};
+use rlsf::{Layout, Memory, Range, Tlsf};
 use rlsf_trace_runs::run;
 use rlsf_trace_text::{Answer, Op};
+use std::alloc::Global;
 use std::process::Abort;
 
 /// Ops in a memory of so many bytes, and whether each has to be granted.
@@ -121,23 +122,50 @@ type Shape<'a, Bits, const FLLEN: usize, const SLLEN: usize> = Option<
     &'a Tlsf<Bits, Bits, FLLEN, SLLEN>,
 >;
 
+/// Whether each op of a script has its expected result. `None` if the system is out of memory.
+fn goes_so<Bits: BitPattern, const FLLEN: usize, const SLLEN: usize>(
+    alloc: Global,
+    script: &Script,
+    _shape: Shape<'_, Bits, FLLEN, SLLEN>,
+) -> Option<bool>
+    requires { IsValid Bits.width Bits.width FLLEN SLLEN }
+{
+    let memory = Memory::new(alloc, 4096, script.len).ok()?;
+    let mut tlsf = Tlsf::<Bits, Bits, FLLEN, SLLEN>::new(memory);
+    let mut answers = Vec::new(alloc);
+    run(alloc, &mut tlsf, script.ops.as_slice(), &mut answers).ok()?;
+    Some(script.first_wrong(answers.as_slice()).is_none())
+}
+
 /// Whether each op of each script has its expected result.
 fn go_so<Bits: BitPattern, const FLLEN: usize, const SLLEN: usize>(
-    rt: &(impl Abort + AllocGlobal),
+    alloc: Global,
     scripts: &[Script],
-    _shape: Shape<'_, Bits, FLLEN, SLLEN>,
+    shape: Shape<'_, Bits, FLLEN, SLLEN>,
 ) -> bool
     requires { IsValid Bits.width Bits.width FLLEN SLLEN }
 {
     for script in scripts {
-        let mut tlsf = Tlsf::<Bits, Bits, FLLEN, SLLEN>::new(zeros(rt, 4096, script.len));
-        let mut answers = Vec::new(rt.alloc());
-        run(rt.alloc(), &mut tlsf, script.ops.as_slice(), &mut answers).expect(rt, "memory");
-        if script.first_wrong(answers.as_slice()).is_some() {
+        if goes_so(alloc, script, shape) != Some(true) {
             return false;
         }
     }
     true
+}
+
+/// Whether each op of each script has its expected result, in allocators of three types.
+fn go_so_in_each(alloc: Global, scripts: &[Script]) -> bool {
+    go_so::<u16, 12, 16>(alloc, scripts, None)
+        && go_so::<u64, 59, 8>(alloc, scripts, None)
+        && go_so::<u64, 64, 64>(alloc, scripts, None)
+}
+
+/// Whether a pool for so many payloads is so long, in allocators of these types.
+fn is_length_in_each(count: usize, layout: Layout, len: usize) -> bool {
+    let wanted = Some(len);
+    pool_size_for_payloads::<u16, u16, 12, 16>(count, layout) == wanted
+        && pool_size_for_payloads::<u64, u64, 59, 8>(count, layout) == wanted
+        && pool_size_for_payloads::<u64, u64, 64, 64>(count, layout) == wanted
 }
 
 /// A pool of so many bytes holds `count` payloads. They are allocated and deallocated in an order, all of them and each half of
@@ -205,9 +233,9 @@ fn pools_of_100_objects(rt: HostRuntime) {
         are_found::<u16, 12, 16>(&POOLS_12_BY_16),
         are_found::<u64, 59, 8>(&POOLS_59_BY_8),
         are_found::<u64, 64, 64>(&POOLS_64_BY_64),
-        go_so::<u16, 12, 16>(&rt, &scripts_of_100(&rt, &POOLS_12_BY_16), None),
-        go_so::<u64, 59, 8>(&rt, &scripts_of_100(&rt, &POOLS_59_BY_8), None),
-        go_so::<u64, 64, 64>(&rt, &scripts_of_100(&rt, &POOLS_64_BY_64), None),
+        go_so::<u16, 12, 16>(rt.alloc(), &scripts_of_100(&rt, &POOLS_12_BY_16), None),
+        go_so::<u64, 59, 8>(rt.alloc(), &scripts_of_100(&rt, &POOLS_59_BY_8), None),
+        go_so::<u64, 64, 64>(rt.alloc(), &scripts_of_100(&rt, &POOLS_64_BY_64), None),
     ];
     all(&rt, &answers);
 }
@@ -257,12 +285,8 @@ fn random_run_without_a_refusal(rt: HostRuntime) {
     let greatest = layout_of(&rt, 700, 64);
     let scripts = [random_script(&rt, 76000)];
     let answers = [
-        pool_size_for_payloads::<u16, u16, 12, 16>(NAMES, greatest) == Some(76000),
-        pool_size_for_payloads::<u64, u64, 59, 8>(NAMES, greatest) == Some(76000),
-        pool_size_for_payloads::<u64, u64, 64, 64>(NAMES, greatest) == Some(76000),
-        go_so::<u16, 12, 16>(&rt, &scripts, None),
-        go_so::<u64, 59, 8>(&rt, &scripts, None),
-        go_so::<u64, 64, 64>(&rt, &scripts, None),
+        is_length_in_each(NAMES, greatest, 76000),
+        go_so_in_each(rt.alloc(), &scripts),
     ];
     all(&rt, &answers);
 }
@@ -294,12 +318,8 @@ fn greatest_beside_fragments(rt: HostRuntime) {
     let greatest = layout_of(&rt, 1008, 1);
     let scripts = [fragments(&rt, 31296, true), fragments(&rt, 31264, false)];
     let answers = [
-        pool_size_for_payloads::<u16, u16, 12, 16>(FRAGMENTS, greatest) == Some(31296),
-        pool_size_for_payloads::<u64, u64, 59, 8>(FRAGMENTS, greatest) == Some(31296),
-        pool_size_for_payloads::<u64, u64, 64, 64>(FRAGMENTS, greatest) == Some(31296),
-        go_so::<u16, 12, 16>(&rt, &scripts, None),
-        go_so::<u64, 59, 8>(&rt, &scripts, None),
-        go_so::<u64, 64, 64>(&rt, &scripts, None),
+        is_length_in_each(FRAGMENTS, greatest, 31296),
+        go_so_in_each(rt.alloc(), &scripts),
     ];
     all(&rt, &answers);
 }
