@@ -122,13 +122,9 @@ impl<FLBitmap: BitPattern, SLBitmap: BitPattern, const FLLEN: usize, const SLLEN
         ensures copied { self.new.memory.copied ≡ self.old.memory.copied }
     {
         let view = self.memory.inner.view();
-        match allocate_block(&mut self.memory.inner, view, &mut self.table, layout) {
-            None => None,
-            Some(payload) => {
-                self.state.allocate(SLLEN, layout.size(), layout.align());
-                NonZeroUsize::new(payload)
-            }
-        }
+        let payload = allocate_block(&mut self.memory.inner, view, &mut self.table, layout)?;
+        self.state.allocate(SLLEN, layout.size(), layout.align());
+        NonZeroUsize::new(payload)
     }
 
     /// Deallocates the payload at `addr`. Its block becomes free, and is joined with the free block before it and the
@@ -218,20 +214,16 @@ impl<FLBitmap: BitPattern, SLBitmap: BitPattern, const FLLEN: usize, const SLLEN
         let payload = addr.get();
         let view = self.memory.inner.view();
         let block = used_block(&mut self.memory.inner, view, payload, layout.align());
-        match reallocate_block::<FLLEN, SLLEN, 1>(
+        let moved = reallocate_block::<FLLEN, SLLEN, 1>(
             &mut self.memory.inner,
             view,
             &mut self.table,
             block,
             payload,
             layout,
-        ) {
-            None => None,
-            Some(moved) => {
-                self.state.reallocate(SLLEN, payload, layout.size());
-                NonZeroUsize::new(moved)
-            }
-        }
+        )?;
+        self.state.reallocate(SLLEN, payload, layout.size());
+        NonZeroUsize::new(moved)
     }
 
     /// Changes the size of the payload at `addr` to that of `layout` without moving it, and returns its address. It uses

@@ -27,11 +27,12 @@ use Rattle.rlsf_tlsf.proofs.Moved.{reallocated-bare}
 use Rattle.rlsf_base.specs.Space.{Space, SamePlace}
 use Rattle.rlsf_base.specs.OpenSpace.{IsHere}
 use Rattle.rlsf_base.proofs.Lending.Present.{here-none}
+use Rattle.rlsf_blocks.proofs.Refused.{none_none, none_some}
 use Rattle.rlsf_tlsf.proofs.Opened.{IsAllocator-opened, view-opened}
 use Rattle.rlsf_tlsf.proofs.AfterReading.{SamePlace-read_first, copied-read_first, grow-read_first, grow_copied-read_first, most_copied-read_first, touches-read_first}
 use Rattle.rlsf_tlsf.proofs.tlsf.Tlsf.reallocate.Given as given
 use Rattle.rlsf_tlsf.proofs.tlsf.Tlsf.reallocate.Goals as goal
-use Rattle.rlsf_tlsf.proofs.tlsf.Tlsf.reallocate.Goals.{After-new, After-reallocate, After-used_block-block, In-None}
+use Rattle.rlsf_tlsf.proofs.tlsf.Tlsf.reallocate.Goals.{After-from_residual, After-new, After-reallocate, After-used_block-block, In_err-moved}
 
 -- the allocator's state as the call begins
 abbrev state : (g : given.Over) (c : After-used_block-block g) → State
@@ -68,7 +69,7 @@ reallocate_block-requires g c =
 -- ---- the refusal
 
 -- where it is refused, the state stays
-module _ (g : given.Over) (c : In-None g) where
+module _ (g : given.Over) (c : In_err-moved g) where
   abbrev before : After-used_block-block g
   before = (goal.at.invariant_of-self g c).After-used_block-block
 
@@ -79,7 +80,7 @@ module _ (g : given.Over) (c : In-None g) where
       let f = found g before in
       let s = state g before in
       let counts = c.used_block-block.ensures.counts in
-      let (t, step, stands, spare) = c.in-None.ensures.step s f.used f.stands f.used_at (here g before f.used) in
+      let (t, step, stands, spare) = c.in_err-moved.ensures.step s f.used f.stands f.used_at (here g before f.used) in
       let told : Reallocates g.row.SLLEN s (at c.args.addr) c.args.layout.size None t = record { block = f.used; holds = f.holds; step = step } in
       let same : t ≡ s = refusal_changes_nothing g.row.FLLEN g.row.SLLEN s t (reallocate (at c.args.addr) c.args.layout.size None) told refl in
       subst (λ (x : State). Reallocates g.row.SLLEN s (at c.args.addr) c.args.layout.size None x
@@ -95,7 +96,7 @@ module _ (g : given.Over) (c : In-None g) where
 none : (g : given.Over) (c : After-used_block-block g) (n : Space) → SamePlace c.used_block-block.new.memory n → n.out ≡ []
 none g c n place = place.3 (found g c).whole
 
-none_refused : (g : given.Over) (c : In-None g) → c.reallocate_block.new.memory.out ≡ []
+none_refused : (g : given.Over) (c : In_err-moved g) → c.reallocate_block.new.memory.out ≡ []
 none_refused g c = none g (before g c) c.reallocate_block.new.memory c.reallocate_block.ensures.place
 
 pub invariant_of-self-inside : goal.invariant_of-self-inside
@@ -132,16 +133,16 @@ stays g c u p held first =
 
 module _ (g : given.Over) (c : After-reallocate g) where
   abbrev early : After-used_block-block g
-  early = (goal.at.invariant_of-self-in-Some g c).After-used_block-block
+  early = (goal.at.invariant_of-self-2 g c).After-used_block-block
 
-  moving : (t : State) × Reallocates g.row.SLLEN (state g early) (at c.args.addr) c.args.layout.size (Some c.in-Some.moved) t
+  moving : (t : State) × Reallocates g.row.SLLEN (state g early) (at c.args.addr) c.args.layout.size (Some c.in_ok-moved.moved) t
       × StandsFor g.row.FLLEN g.row.SLLEN (contents c.reallocate_block.new.memory c.reallocate_block.new.table) t
       × KeepsSpare c.self-inside.inside.0.0.inner (state g early) c.reallocate_block.new.memory t
   moving =
       let f = found g early in
       let s = state g early in
       let counts = c.used_block-block.ensures.counts in
-      let (t, step, stands, spare) = c.in-Some.ensures.step s f.used f.stands f.used_at (here g early f.used) in (
+      let (t, step, stands, spare) = c.in_ok-moved.ensures.step s f.used f.stands f.used_at (here g early f.used) in (
         t,
         record { block = f.used; holds = f.holds; step = step },
         stands,
@@ -149,11 +150,11 @@ module _ (g : given.Over) (c : After-reallocate g) where
       )
 
   -- what is kept of the state is the one after
-  kept : (t : State) → Reallocates g.row.SLLEN (state g early) (at c.args.addr) c.args.layout.size (Some c.in-Some.moved) t → c.reallocate.new.self.state ≡ bare t
+  kept : (t : State) → Reallocates g.row.SLLEN (state g early) (at c.args.addr) c.args.layout.size (Some c.in_ok-moved.moved) t → c.reallocate.new.self.state ≡ bare t
   kept t step =
       let is = IsAllocator-opened c.self-inside.view_is c.self.invariant in
       c.reallocate.ensures ∙ (λ i. reallocated g.row.SLLEN (c.get-payload.ensures.value i) (c.size.ensures.value i) (sym (bare-kept is) i))
-      ∙ reallocated-bare is.stands.well_formed t (at c.args.addr) c.args.layout.size c.in-Some.moved step
+      ∙ reallocated-bare is.stands.well_formed t (at c.args.addr) c.args.layout.size c.in_ok-moved.moved step
 
   -- nothing is out after it
   none_moved : c.reallocate_block.new.memory.out ≡ []
@@ -161,47 +162,47 @@ module _ (g : given.Over) (c : After-reallocate g) where
 
 module _ (g : given.Over) (c : After-new g) where
   abbrev before_new : After-reallocate g
-  before_new = (goal.at.returns-in-Some g c).After-reallocate
+  before_new = (goal.at.returns g c).After-reallocate
 
   abbrev after : Allocator
   after = allocator c.reallocate_block.new.memory c.reallocate_block.new.table c.reallocate.new.self.state
 
-  done : Steps g.row.FLLEN g.row.SLLEN c.args.self.now after (Reallocates g.row.SLLEN c.args.self.now.state (at c.args.addr) c.args.layout.size (Some c.in-Some.moved))
+  done : Steps g.row.FLLEN g.row.SLLEN c.args.self.now after (Reallocates g.row.SLLEN c.args.self.now.state (at c.args.addr) c.args.layout.size (Some c.in_ok-moved.moved))
   done =
       let (t, step, stands, spare) = moving g before_new in
       Steps-arrived stands c.reallocate.new.self.state (kept g before_new t step) (none_moved g before_new) c.args.self.now c.self-inside.inside.0.0.inner
       c.self-inside.inside.0.1.0 c.self-inside.inside.0.1.1.0.state (view-opened c.self-inside.view_is c.self.view_is)
-      (λ old. Reallocates g.row.SLLEN old (at c.args.addr) c.args.layout.size (Some c.in-Some.moved)) step spare
+      (λ old. Reallocates g.row.SLLEN old (at c.args.addr) c.args.layout.size (Some c.in_ok-moved.moved)) step spare
 
-  seen : SeesResized c.args.self.now.state after.state (at c.args.addr) c.args.layout.size c.args.layout.align c.in-Some.moved
+  seen : SeesResized c.args.self.now.state after.state (at c.args.addr) c.args.layout.size c.args.layout.align c.in_ok-moved.moved
   seen =
-      resized_seen (view_well_formed c.self.invariant c.args.self.now c.self.view_is) after.state (at c.args.addr) c.args.layout.size c.args.layout.align c.in-Some.moved
+      resized_seen (view_well_formed c.self.invariant c.args.self.now c.self.view_is) after.state (at c.args.addr) c.args.layout.size c.args.layout.align c.in_ok-moved.moved
       (align_at-live c.args.self.now.state (at c.args.addr) c.args.layout.align c.requires)
-      (opened g.row.FLLEN g.row.SLLEN c.args.self.now after (Reallocates g.row.SLLEN c.args.self.now.state (at c.args.addr) c.args.layout.size (Some c.in-Some.moved)) done).0
+      (opened g.row.FLLEN g.row.SLLEN c.args.self.now after (Reallocates g.row.SLLEN c.args.self.now.state (at c.args.addr) c.args.layout.size (Some c.in_ok-moved.moved)) done).0
 
   -- no payload is at the address 0
-  positive : 0 < c.in-Some.moved
+  positive : 0 < c.in_ok-moved.moved
   positive =
       let (_, stood, _) =
-      opened g.row.FLLEN g.row.SLLEN c.args.self.now after (Reallocates g.row.SLLEN c.args.self.now.state (at c.args.addr) c.args.layout.size (Some c.in-Some.moved))
+      opened g.row.FLLEN g.row.SLLEN c.args.self.now after (Reallocates g.row.SLLEN c.args.self.now.state (at c.args.addr) c.args.layout.size (Some c.in_ok-moved.moved))
       done in
-      let (u, (i, here), is) = align_at-live after.state c.in-Some.moved c.args.layout.align seen.live in
+      let (u, (i, here), is) = align_at-live after.state c.in_ok-moved.moved c.args.layout.align seen.live in
       omega (arith, here, IsUsed-after_start u ((well_formed after stood).used u i))
 
-pub invariant_of-self-inside-in-Some : goal.invariant_of-self-inside-in-Some
-invariant_of-self-inside-in-Some = none_moved
+pub invariant_of-self-inside-2 : goal.invariant_of-self-inside-2
+invariant_of-self-inside-2 = none_moved
 
-pub invariant_of-self-in-Some : goal.invariant_of-self-in-Some
-invariant_of-self-in-Some g c = let (t, step, stands, spare) = moving g c in
+pub invariant_of-self-2 : goal.invariant_of-self-2
+invariant_of-self-2 g c = let (t, step, stands, spare) = moving g c in
     IsAllocator-arrived stands c.reallocate.new.self.state (kept g c t step) (none_moved g c) c.self.invariant.valid
 
 -- ---- what stays where it is refused
 
-abbrev refused : (g : given.Over) (c : In-None g) → In-None g
-refused g c = (goal.at.returns-in-None g c).In-None
+abbrev refused : (g : given.Over) (c : After-from_residual g) → In_err-moved g
+refused g c = (goal.at.returns-in_err-moved g c).In_err-moved
 
-pub returns-in-None : goal.returns-in-None
-returns-in-None g c =
+pub returns-in_err-moved : goal.returns-in_err-moved
+returns-in_err-moved g c =
     let is = IsAllocator-opened c.self-inside.view_is c.self.invariant in
     let view = view-opened c.self-inside.view_is c.self.view_is in
     let viewed = ap (λ (o : Allocator). o.memory) view in
@@ -209,15 +210,17 @@ returns-in-None g c =
       step =
           Steps-arrived (staying g (refused g c)).1 c.self-inside.inside.0.1.1.0.state (sym (bare-kept is)) (none_refused g (refused g c)) c.args.self.now
           c.self-inside.inside.0.0.inner c.self-inside.inside.0.1.0 c.self-inside.inside.0.1.1.0.state view
-          (λ old. Reallocates g.row.SLLEN old (at c.args.addr) c.args.layout.size None) (staying g (refused g c)).0
+          (λ old. Reallocates g.row.SLLEN old (at c.args.addr) c.args.layout.size (reply c.from_residual.result))
+          (subst (λ o. Reallocates g.row.SLLEN (read_from c.self-inside.inside.0.0.inner c.self-inside.inside.0.1.1.0.state) (at c.args.addr) c.args.layout.size (reply o)
+          (read_from c.self-inside.inside.0.0.inner c.self-inside.inside.0.1.1.0.state)) (sym c.from_residual.ensures) (staying g (refused g c)).0)
           (staying g (refused g c)).2;
-      live = tt;
-      sized = tt;
-      few = tt;
-      kept = tt;
-      new = tt;
-      aligns = tt;
-      bytes = tt;
+      live = none_some _ c.from_residual.result c.from_residual.ensures;
+      sized = none_some _ c.from_residual.result c.from_residual.ensures;
+      few = none_some _ c.from_residual.result c.from_residual.ensures;
+      kept = none_some _ c.from_residual.result c.from_residual.ensures;
+      new = none_some _ c.from_residual.result c.from_residual.ensures;
+      aligns = none_some _ c.from_residual.result c.from_residual.ensures;
+      bytes = none_some _ c.from_residual.result c.from_residual.ensures;
       room = λ count size align sized few short fits.
           absurd (never_refused_again (view_well_formed c.self.invariant c.args.self.now c.self.view_is) c.args.self.now.state count size align sized (at c.args.addr)
           c.args.layout.size c.args.layout.align c.requires few short fits
@@ -228,20 +231,20 @@ returns-in-None g c =
           (sym (arrived (staying g (refused g c)).1 c.self-inside.inside.0.1.1.0.state (sym (bare-kept is)) ∙ ap (λ (o : Allocator). o.state) view)) sized;
       chunks = ap (λ (o : Allocator). o.state.chunks) view;
       same =
-          arrived (staying g (refused g c)).1 c.self-inside.inside.0.1.1.0.state (sym (bare-kept is)) ∙ ap (λ (o : Allocator). o.state) view;
-      refused = c.in-None.ensures.refused ∙ c.used_block-block.ensures.counts.bytes ∙ ap (λ (o : Allocator). o.memory.bytes) view;
+          none_none c.from_residual.result (arrived (staying g (refused g c)).1 c.self-inside.inside.0.1.1.0.state (sym (bare-kept is)) ∙ ap (λ (o : Allocator). o.state) view);
+      refused = none_none c.from_residual.result (c.in_err-moved.ensures.refused ∙ c.used_block-block.ensures.counts.bytes ∙ ap (λ (o : Allocator). o.memory.bytes) view);
       place = SamePlace-read_first viewed c.used_block-block.ensures.counts c.reallocate_block.new.memory c.reallocate_block.ensures.place;
       touches = touches-read_first viewed c.used_block-block.ensures.counts c.reallocate_block.new.memory 65 c.reallocate_block.ensures.touches;
       grow = grow-read_first viewed c.used_block-block.ensures.counts c.reallocate_block.new.memory c.reallocate_block.ensures.grow;
       copied =
-          let before = (goal.at.returns-in-None g c).After-used_block-block in
+          let before = (goal.at.returns-in_err-moved g c).After-used_block-block in
           let f = found g before in
           most_copied-read_first viewed c.used_block-block.ensures.counts c.reallocate_block.new.memory (usable f.used).len
           (length (bytes_at c.args.self.now.state (at c.args.addr))) (c.reallocate_block.ensures.copied (state g before) f.used f.stands f.used_at) (long g before);
       grow_copied = grow_copied-read_first viewed c.used_block-block.ensures.counts c.reallocate_block.new.memory c.reallocate_block.ensures.grow_copied;
       stays = λ room.
           let (u, p, held, first) = room in
-          let before = (goal.at.returns-in-None g c).After-used_block-block in
+          let before = (goal.at.returns-in_err-moved g c).After-used_block-block in
           let f = found g before in
           copied-read_first viewed c.used_block-block.ensures.counts c.reallocate_block.new.memory
           (c.reallocate_block.ensures.stays (state g before) f.used f.stands f.used_at p (stays g before u p held first));
@@ -256,56 +259,56 @@ some_answer : (o : Option NonZeroUsize) (n : ℕ) → reply o ≡ Some n → IsS
 some_answer None n e = absurd (none-some n e)
 some_answer (Some x) n e = refl
 
-pub returns-in-Some : goal.returns-in-Some
-returns-in-Some g c =
+pub returns : goal.returns
+returns g c =
     let is = IsAllocator-opened c.self-inside.view_is c.self.invariant in
     let view = view-opened c.self-inside.view_is c.self.view_is in
     let viewed = ap (λ (o : Allocator). o.memory) view in
     record {
       step =
           subst (λ o. Steps g.row.FLLEN g.row.SLLEN c.args.self.now (after g c) (Reallocates g.row.SLLEN c.args.self.now.state (at c.args.addr) c.args.layout.size o))
-          (sym ((number c.new.result c.in-Some.moved c.new.ensures).1 (positive g c))) (done g c);
-      live = on_some (λ to. align_at (after g c).state to ≡ Some c.args.layout.align) c.new.result c.in-Some.moved c.new.ensures (seen g c).live;
-      sized = on_some (λ to. c.args.layout.size ≤ length (bytes_at (after g c).state to)) c.new.result c.in-Some.moved c.new.ensures (seen g c).sized;
-      few = on_some (λ to. length (bytes_at (after g c).state to) < c.args.layout.size + 32) c.new.result c.in-Some.moved c.new.ensures (seen g c).few;
+          (sym ((number c.new.result c.in_ok-moved.moved c.new.ensures).1 (positive g c))) (done g c);
+      live = on_some (λ to. align_at (after g c).state to ≡ Some c.args.layout.align) c.new.result c.in_ok-moved.moved c.new.ensures (seen g c).live;
+      sized = on_some (λ to. c.args.layout.size ≤ length (bytes_at (after g c).state to)) c.new.result c.in_ok-moved.moved c.new.ensures (seen g c).sized;
+      few = on_some (λ to. length (bytes_at (after g c).state to) < c.args.layout.size + 32) c.new.result c.in_ok-moved.moved c.new.ensures (seen g c).few;
       kept =
-          on_some (λ to. Keeps (bytes_at c.args.self.now.state (at c.args.addr)) (bytes_at (after g c).state to)) c.new.result c.in-Some.moved c.new.ensures (seen g c).kept;
-      new = on_some (λ to. to ≢ at c.args.addr → align_at c.args.self.now.state to ≡ None) c.new.result c.in-Some.moved c.new.ensures (seen g c).new;
+          on_some (λ to. Keeps (bytes_at c.args.self.now.state (at c.args.addr)) (bytes_at (after g c).state to)) c.new.result c.in_ok-moved.moved c.new.ensures (seen g c).kept;
+      new = on_some (λ to. to ≢ at c.args.addr → align_at c.args.self.now.state to ≡ None) c.new.result c.in_ok-moved.moved c.new.ensures (seen g c).new;
       aligns =
-          on_some (λ to. (a : ℕ) → a ≢ at c.args.addr → a ≢ to → align_at (after g c).state a ≡ align_at c.args.self.now.state a) c.new.result c.in-Some.moved
+          on_some (λ to. (a : ℕ) → a ≢ at c.args.addr → a ≢ to → align_at (after g c).state a ≡ align_at c.args.self.now.state a) c.new.result c.in_ok-moved.moved
           c.new.ensures (seen g c).aligns;
       bytes =
-          on_some (λ to. (a : ℕ) → a ≢ at c.args.addr → a ≢ to → bytes_at (after g c).state a ≡ bytes_at c.args.self.now.state a) c.new.result c.in-Some.moved
+          on_some (λ to. (a : ℕ) → a ≢ at c.args.addr → a ≢ to → bytes_at (after g c).state a ≡ bytes_at c.args.self.now.state a) c.new.result c.in_ok-moved.moved
           c.new.ensures (seen g c).bytes;
-      room = λ count size align sized few short fits. some_answer c.new.result c.in-Some.moved ((number c.new.result c.in-Some.moved c.new.ensures).1 (positive g c));
+      room = λ count size align sized few short fits. some_answer c.new.result c.in_ok-moved.moved ((number c.new.result c.in_ok-moved.moved c.new.ensures).1 (positive g c));
       count =
-          count_resized (view_well_formed c.self.invariant c.args.self.now c.self.view_is) (after g c).state (at c.args.addr) c.args.layout.size (Some c.in-Some.moved)
+          count_resized (view_well_formed c.self.invariant c.args.self.now c.self.view_is) (after g c).state (at c.args.addr) c.args.layout.size (Some c.in_ok-moved.moved)
           (some_live g c)
-          (opened g.row.FLLEN g.row.SLLEN c.args.self.now (after g c) (Reallocates g.row.SLLEN c.args.self.now.state (at c.args.addr) c.args.layout.size (Some c.in-Some.moved))
+          (opened g.row.FLLEN g.row.SLLEN c.args.self.now (after g c) (Reallocates g.row.SLLEN c.args.self.now.state (at c.args.addr) c.args.layout.size (Some c.in_ok-moved.moved))
           (done g c)).0;
       bounds = λ count size align sized short fits.
           sized_resized (view_well_formed c.self.invariant c.args.self.now c.self.view_is) (after g c).state count size align sized (at c.args.addr) c.args.layout.size
-          c.args.layout.align (Some c.in-Some.moved) c.requires short fits
-          (opened g.row.FLLEN g.row.SLLEN c.args.self.now (after g c) (Reallocates g.row.SLLEN c.args.self.now.state (at c.args.addr) c.args.layout.size (Some c.in-Some.moved))
+          c.args.layout.align (Some c.in_ok-moved.moved) c.requires short fits
+          (opened g.row.FLLEN g.row.SLLEN c.args.self.now (after g c) (Reallocates g.row.SLLEN c.args.self.now.state (at c.args.addr) c.args.layout.size (Some c.in_ok-moved.moved))
           (done g c)).0;
       chunks =
-          chunks-reallocated g.row.SLLEN c.args.self.now.state (after g c).state (at c.args.addr) c.args.layout.size (Some c.in-Some.moved)
-          (opened g.row.FLLEN g.row.SLLEN c.args.self.now (after g c) (Reallocates g.row.SLLEN c.args.self.now.state (at c.args.addr) c.args.layout.size (Some c.in-Some.moved))
+          chunks-reallocated g.row.SLLEN c.args.self.now.state (after g c).state (at c.args.addr) c.args.layout.size (Some c.in_ok-moved.moved)
+          (opened g.row.FLLEN g.row.SLLEN c.args.self.now (after g c) (Reallocates g.row.SLLEN c.args.self.now.state (at c.args.addr) c.args.layout.size (Some c.in_ok-moved.moved))
           (done g c)).0;
-      same = let some = positive g c in on_none c.new.result c.in-Some.moved c.new.ensures (λ zero. absurd (omega arith));
-      refused = let some = positive g c in on_none c.new.result c.in-Some.moved c.new.ensures (λ zero. absurd (omega arith));
+      same = let some = positive g c in on_none c.new.result c.in_ok-moved.moved c.new.ensures (λ zero. absurd (omega arith));
+      refused = let some = positive g c in on_none c.new.result c.in_ok-moved.moved c.new.ensures (λ zero. absurd (omega arith));
       place = SamePlace-read_first viewed c.used_block-block.ensures.counts c.reallocate_block.new.memory c.reallocate_block.ensures.place;
       touches = touches-read_first viewed c.used_block-block.ensures.counts c.reallocate_block.new.memory 65 c.reallocate_block.ensures.touches;
       grow = grow-read_first viewed c.used_block-block.ensures.counts c.reallocate_block.new.memory c.reallocate_block.ensures.grow;
       copied =
-          let before = (goal.at.returns-in-Some g c).After-used_block-block in
+          let before = (goal.at.returns g c).After-used_block-block in
           let f = found g before in
           most_copied-read_first viewed c.used_block-block.ensures.counts c.reallocate_block.new.memory (usable f.used).len
           (length (bytes_at c.args.self.now.state (at c.args.addr))) (c.reallocate_block.ensures.copied (state g before) f.used f.stands f.used_at) (long g before);
       grow_copied = grow_copied-read_first viewed c.used_block-block.ensures.counts c.reallocate_block.new.memory c.reallocate_block.ensures.grow_copied;
       stays = λ room.
           let (u, p, held, first) = room in
-          let before = (goal.at.returns-in-Some g c).After-used_block-block in
+          let before = (goal.at.returns g c).After-used_block-block in
           let f = found g before in
           copied-read_first viewed c.used_block-block.ensures.counts c.reallocate_block.new.memory
           (c.reallocate_block.ensures.stays (state g before) f.used f.stands f.used_at p (stays g before u p held first));
