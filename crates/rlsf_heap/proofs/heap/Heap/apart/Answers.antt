@@ -45,6 +45,13 @@ other g c =
 differ : (g : given.Over) (c : After-issued-second g) → c.args.first.start ≢ c.args.second.start
 differ g c = both_apart (entries g c) (state g c) c.self.invariant.tickets (first g c).0 (second g c).0 (shown c.args.first) (shown c.args.second) (first g c).1 (second g c).1
 
+pub redeemed-part-requires : goal.redeemed-part-requires
+redeemed-part-requires g c = ap (λ (o : Identity). o.ledger) c.requires.first ∙ sym (ap (λ (o : HeapView). o.identity.ledger) c.self.view_is)
+
+pub redeemed-other-requires : goal.redeemed-other-requires
+redeemed-other-requires g c = ap (λ (o : Identity). o.ledger) c.requires.second ∙ sym (ap (λ (o : HeapView). o.identity.ledger) c.self.view_is)
+    ∙ sym c.redeemed-part.ensures.name
+
 pub invariant_of-self : goal.invariant_of-self
 invariant_of-self g c =
     let v = ap shown c.redeemed-part.ensures.parts in

@@ -22,7 +22,7 @@ use Rattle.rlsf_blocks.specs.StandsFor.{contents, StandsFor}
 use Rattle.rlsf_blocks.proofs.RepresentedStates.Counted.{StandsFor-touched}
 use Rattle.rlsf_blocks.proofs.Words.Stays.{Stays, Stays-same, Stays-then}
 use Rattle.rlsf_tlsf.specs.Steps.Moves.{bare}
-use Rattle.rlsf_heap.specs.Heap.{AreIssued, HeapView, IsOwners, PayloadView, heap_view, payload_range}
+use Rattle.rlsf_heap.specs.Heap.{AreIssued, HeapView, Identity, IsOwners, PayloadView, heap_view, payload_range}
 use Rattle.rlsf_heap.proofs.Arrivals.{IsHeap-arrived, Steps-arrived, kept_without, stepped, view_well_formed}
 use Rattle.rlsf_heap.proofs.Costs.{Leaves, left_costs, left_same, left_then, left_touched, sees_left}
 use Rattle.rlsf_heap.specs.Kept.{KeepsSpareBytes, NoneBecomesRawBeside}
@@ -56,6 +56,16 @@ back g c =
     let e = c.put_room.ensures in
     stands-back c.self.invariant.stands c.self.invariant.tickets c.into_parts-part.result.1.key c.into_parts-part.result.0 c.args.payload.align (known g c) c.put_room.new.self
     e.start e.bytes e.out
+
+pub redeem-requires : goal.redeem-requires
+redeem-requires g c =
+    ap (λ (p : PayloadView). p.identity.ledger) c.into_parts-part.ensures.parts ∙ ap (λ (h : Identity). h.ledger) c.requires
+    ∙ sym (ap (λ (v : HeapView). v.identity.ledger) c.self.view_is)
+
+pub put_room-requires : goal.put_room-requires
+put_room-requires g c =
+    ap (λ (p : PayloadView). p.identity.home) c.into_parts-part.ensures.parts ∙ ap (λ (h : Identity). h.home) c.requires
+    ∙ sym (ap (λ (v : HeapView). v.identity.home) c.self.view_is)
 
 pub load_block_of-block-requires : goal.load_block_of-block-requires
 load_block_of-block-requires g c =

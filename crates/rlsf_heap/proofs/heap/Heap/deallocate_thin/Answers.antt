@@ -61,6 +61,12 @@ held : (g : given.Over) (c : After-load_usable_bytes-arg-1 g) → Holds (before 
 held g c =
     P.held c.self.invariant.stands c.self.invariant.tickets c.args.payload.of c.args.addr (ticket g c).key c.requires.some.0 (known g c)
 
+pub into_parts-requires : goal.into_parts-requires
+into_parts-requires g c = λ none. c.requires.some.1 (sym c.requires.some.0 ∙ none)
+
+pub redeem-requires : goal.redeem-requires
+redeem-requires g c = c.into_parts.ensures.ticket.0 ∙ ap (λ (h : Identity). h.ledger) c.requires.heap ∙ sym (ap (λ (v : HeapView). v.identity.ledger) c.self.view_is)
+
 pub load_usable_bytes-range-requires : goal.load_usable_bytes-range-requires
 load_usable_bytes-range-requires g c =
     P.live_in c.self.invariant.stands c.self.invariant.tickets c.args.payload.of c.args.addr (ticket g c).key c.requires.some.0 (known g c)

@@ -16,7 +16,7 @@ use Rattle.rlsf_blocks.specs.StandsFor.{contents, StandsFor}
 use Rattle.rlsf_blocks.specs.Steps.Standing.{StandsAfter}
 use Rattle.rlsf_blocks.proofs.Words.Stays.{Stays}
 use Rattle.rlsf_tlsf.specs.Steps.Moves.{bare}
-use Rattle.rlsf_heap.specs.Heap.{AreIssued, HeapView, heap_view}
+use Rattle.rlsf_heap.specs.Heap.{AreIssued, HeapView, Identity, heap_view}
 use Rattle.rlsf_heap.specs.Kept.{KeepsSpareBytes, NoneBecomesRawBeside}
 use Rattle.rlsf_heap.proofs.Arrivals.{IsHeap-arrived, Steps-arrived, kept_without, stepped, view_well_formed}
 use Rattle.rlsf_heap.proofs.Costs.{Leaves, left_costs, left_then, sees_left}
@@ -25,6 +25,12 @@ use Rattle.rlsf_heap.proofs.UnitPayloads as units
 use Rattle.rlsf_heap.proofs.heap.Heap.deallocate_units.Given as given
 use Rattle.rlsf_heap.proofs.heap.Heap.deallocate_units.Goals as goal
 use Rattle.rlsf_heap.proofs.heap.Heap.deallocate_units.Goals.{After-put_unit_payload-block, After-deallocate}
+
+pub put_unit_payload-block-requires-clause-home : goal.put_unit_payload-block-requires-clause-home
+put_unit_payload-block-requires-clause-home g c = ap (λ (h : Identity). h.home) c.requires ∙ sym (ap (λ (v : HeapView). v.identity.home) c.self.view_is)
+
+pub put_unit_payload-block-requires-clause-name : goal.put_unit_payload-block-requires-clause-name
+put_unit_payload-block-requires-clause-name g c = ap (λ (h : Identity). h.ledger) c.requires ∙ sym (ap (λ (v : HeapView). v.identity.ledger) c.self.view_is)
 
 pub put_unit_payload-block-requires-clause-readable : goal.put_unit_payload-block-requires-clause-readable
 put_unit_payload-block-requires-clause-readable g c = λ is. units.readable c.self.invariant.stands c.self.invariant.tickets c.args.payload.key c.args.payload.start

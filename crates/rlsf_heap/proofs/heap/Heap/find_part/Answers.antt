@@ -5,13 +5,17 @@ use Rattle.rlsf_base.specs.declared.memory.ledger.Ledger.{Ledger}
 use Rattle.rlsf_model.specs.Callers.{align_at}
 use Rattle.rlsf_blocks.specs.Laws.{read_from}
 use Rattle.rlsf_blocks.proofs.RepresentedStates.Counted.{StandsFor-touched}
-use Rattle.rlsf_heap.specs.Heap.{HeapView, IsHeap, PayloadView, heap_view, payload_view}
+use Rattle.rlsf_heap.specs.Heap.{HeapView, Identity, IsHeap, PayloadView, heap_view, payload_view}
 use Rattle.rlsf_heap.specs.Raw.{bytes_of}
 use Rattle.rlsf_heap.proofs.Found.{found}
 use Rattle.rlsf_heap.proofs.PayloadsApart.{shown_live}
 use Rattle.rlsf_heap.proofs.ResizedThin.{payload_of_bytes, ticket_of_bytes}
 use Rattle.rlsf_heap.proofs.ThinPayloads as P
 use Rattle.rlsf_heap.proofs.heap.Heap.find_part.Goals as goal
+
+pub checked-payload-requires : goal.checked-payload-requires
+checked-payload-requires g c =
+    (λ none. c.requires.some.1 (sym c.requires.some.0 ∙ none), ap (λ (h : Identity). h.ledger) c.requires.heap ∙ sym (ap (λ (v : HeapView). v.identity.ledger) c.self.view_is))
 
 pub load_usable_bytes-range-requires : goal.load_usable_bytes-range-requires
 load_usable_bytes-range-requires g c =

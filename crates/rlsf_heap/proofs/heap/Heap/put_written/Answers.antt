@@ -20,7 +20,7 @@ use Rattle.rlsf_blocks.specs.Laws.{read_from}
 use Rattle.rlsf_blocks.specs.StandsFor.{contents, StandsFor}
 use Rattle.rlsf_blocks.proofs.RepresentedStates.Counted.{StandsFor-touched}
 use Rattle.rlsf_tlsf.specs.Steps.Moves.{bare}
-use Rattle.rlsf_heap.specs.Heap.{AreIssued, HeapView, heap_view}
+use Rattle.rlsf_heap.specs.Heap.{AreIssued, HeapView, Identity, heap_view}
 use Rattle.rlsf_heap.specs.Kept.{KeepsSpareBytes}
 use Rattle.rlsf_heap.specs.Settled.{IsSettled}
 use Rattle.rlsf_heap.proofs.Arrivals.{IsHeap-arrived, Steps-arrived, kept_without, stepped, view_well_formed}
@@ -55,6 +55,12 @@ held g c = let h = held_before (back_in g c) in (h.0, h.1 ∙ sym c.start-addr.e
 
 held_back : (g : given.Over) (c : After-put_back g) → Holds (state (back_in g c)) c.start-addr.result (filled_block (back_in g c))
 held_back g c = let h = held_of (back_in g c) in (h.0, h.1 ∙ sym c.start-addr.ensures)
+
+pub redeem-requires : goal.redeem-requires
+redeem-requires g c = ap (λ (h : Identity). h.ledger) c.requires.identity ∙ sym (ap (λ (v : HeapView). v.identity.ledger) c.self.view_is)
+
+pub put_back-requires-clause-home : goal.put_back-requires-clause-home
+put_back-requires-clause-home g c = ap (λ (h : Identity). h.home) c.requires.identity ∙ sym (ap (λ (v : HeapView). v.identity.home) c.self.view_is)
 
 pub load_block_of-block-requires : goal.load_block_of-block-requires
 load_block_of-block-requires g c =

@@ -36,6 +36,12 @@ use Rattle.rlsf_heap.proofs.heap.Heap.resize_units.Given as given
 use Rattle.rlsf_heap.proofs.heap.Heap.resize_units.Goals as goal
 use Rattle.rlsf_heap.proofs.heap.Heap.resize_units.Goals.{After-put_unit_tail-block, After-take_unit_tail, After-take_unit_tail-2}
 
+pub put_unit_tail-block-requires-clause-home : goal.put_unit_tail-block-requires-clause-home
+put_unit_tail-block-requires-clause-home g c = ap (λ (h : Identity). h.home) c.requires.heap ∙ sym (ap (λ (v : HeapView). v.identity.home) c.self.view_is)
+
+pub put_unit_tail-block-requires-clause-name : goal.put_unit_tail-block-requires-clause-name
+put_unit_tail-block-requires-clause-name g c = ap (λ (h : Identity). h.ledger) c.requires.heap ∙ sym (ap (λ (v : HeapView). v.identity.ledger) c.self.view_is)
+
 pub put_unit_tail-block-requires-clause-readable : goal.put_unit_tail-block-requires-clause-readable
 put_unit_tail-block-requires-clause-readable g c = λ is. tails.readable c.self.invariant.stands c.self.invariant.tickets c.args.tail.key c.args.tail.start c.args.tail.len is
 

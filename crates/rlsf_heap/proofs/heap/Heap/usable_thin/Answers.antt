@@ -1,11 +1,15 @@
-use Rattle.std.proofs.Common.{◌≡◌, Some, length, ap, subst, ◌∙◌}
+use Rattle.std.proofs.Common.{◌≡◌, Some, length, sym, ap, subst, ◌∙◌}
 use Rattle.rlsf_base.specs.declared.memory.range.Range.{Range}
 use Rattle.rlsf_model.specs.Callers.{align_at, bytes_at}
 use Rattle.rlsf_blocks.specs.Laws.{read_from}
-use Rattle.rlsf_heap.specs.Heap.{HeapView, heap_view}
+use Rattle.rlsf_heap.specs.Heap.{HeapView, Identity, heap_view}
 use Rattle.rlsf_heap.proofs.PayloadsApart.{shown_live, shown_long}
 use Rattle.rlsf_heap.proofs.ThinPayloads as P
 use Rattle.rlsf_heap.proofs.heap.Heap.usable_thin.Goals as goal
+
+pub checked-payload-requires : goal.checked-payload-requires
+checked-payload-requires g c =
+    (λ none. c.requires.some.1 (sym c.requires.some.0 ∙ none), ap (λ (h : Identity). h.ledger) c.requires.heap ∙ sym (ap (λ (v : HeapView). v.identity.ledger) c.self.view_is))
 
 pub usable_bytes-range-requires : goal.usable_bytes-range-requires
 usable_bytes-range-requires g c =
