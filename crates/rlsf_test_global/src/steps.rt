@@ -49,14 +49,6 @@ pub struct Resized {
     pub ghost valid: { IsLayout new_size layout.align },
 }
 
-fn layout(size: usize, align: usize) -> Option<Layout> {
-    Layout::from_size_align(size, align).ok()
-}
-
-fn placed_as(addr: usize, size: usize, align: usize) -> Option<(Addr, Layout)> {
-    Some((NonZeroUsize::new(addr)?, layout(size, align)?))
-}
-
 fn with_new_size(size: usize, align: usize, new_size: usize) -> Option<Resized> {
     match (
         Layout::from_size_align(size, align),
@@ -67,34 +59,46 @@ fn with_new_size(size: usize, align: usize, new_size: usize) -> Option<Resized> 
     }
 }
 
+/// The address in a step, or 1 if it has none.
+fn addr_of(step: Step) -> usize {
+    match step {
+        Step::Alloc(_, _) | Step::Allocate(_, _) => 1,
+        Step::Dealloc(addr, _, _) | Step::Reallocate(addr, _, _) => addr,
+        Step::Realloc(addr, _, _, _) | Step::NoMove(addr, _, _, _) => addr,
+        Step::Write(addr, _, _) | Step::Read(addr, _, _) => addr,
+        Step::Deallocate(addr) | Step::Usable(addr) => addr,
+    }
+}
+
+/// The size, the alignment and the new size in a step, or those of no bytes.
+fn sizes_of(step: Step) -> (usize, usize, usize) {
+    match step {
+        Step::Alloc(size, align) | Step::Allocate(size, align) => (size, align, size),
+        Step::Dealloc(_, size, align) | Step::Reallocate(_, size, align) => (size, align, size),
+        Step::Realloc(_, size, align, new_size) | Step::NoMove(_, size, align, new_size) => {
+            (size, align, new_size)
+        }
+        _ => (0, 1, 0),
+    }
+}
+
 /// The call of a step; nothing where it names no address or no layout.
 pub fn call_of(step: Step) -> Option<Call> {
-    match step {
-        Step::Alloc(size, align) => Some(Call::Alloc(layout(size, align)?)),
-        Step::Allocate(size, align) => Some(Call::Allocate(layout(size, align)?)),
-        Step::Dealloc(addr, size, align) => {
-            let (addr, layout) = placed_as(addr, size, align)?;
-            Some(Call::Dealloc(addr, layout))
-        }
-        Step::Deallocate(addr) => Some(Call::Deallocate(NonZeroUsize::new(addr)?)),
-        Step::Realloc(addr, size, align, new_size) => {
-            let addr = NonZeroUsize::new(addr)?;
-            Some(Call::Realloc(addr, with_new_size(size, align, new_size)?))
-        }
-        Step::Reallocate(addr, size, align) => {
-            let (addr, layout) = placed_as(addr, size, align)?;
-            Some(Call::Reallocate(addr, layout))
-        }
-        Step::NoMove(addr, size, align, new_size) => {
-            let addr = NonZeroUsize::new(addr)?;
-            Some(Call::NoMove(addr, with_new_size(size, align, new_size)?))
-        }
-        Step::Usable(addr) => Some(Call::Usable(NonZeroUsize::new(addr)?)),
-        Step::Write(addr, offset, len) => {
-            Some(Call::Write(NonZeroUsize::new(addr)?, offset, len))
-        }
-        Step::Read(addr, offset, len) => Some(Call::Read(NonZeroUsize::new(addr)?, offset, len)),
-    }
+    let addr = NonZeroUsize::new(addr_of(step))?;
+    let (size, align, new_size) = sizes_of(step);
+    let to = with_new_size(size, align, new_size)?;
+    Some(match step {
+        Step::Alloc(_, _) => Call::Alloc(to.layout),
+        Step::Allocate(_, _) => Call::Allocate(to.layout),
+        Step::Dealloc(_, _, _) => Call::Dealloc(addr, to.layout),
+        Step::Deallocate(_) => Call::Deallocate(addr),
+        Step::Realloc(_, _, _, _) => Call::Realloc(addr, to),
+        Step::Reallocate(_, _, _) => Call::Reallocate(addr, to.layout),
+        Step::NoMove(_, _, _, _) => Call::NoMove(addr, to),
+        Step::Usable(_) => Call::Usable(addr),
+        Step::Write(_, offset, len) => Call::Write(addr, offset, len),
+        Step::Read(_, offset, len) => Call::Read(addr, offset, len),
+    })
 }
 
 /// What is written and read.
