@@ -47,6 +47,8 @@ impl<FLBitmap: BitPattern, SLBitmap: BitPattern, const FLLEN: usize, const SLLEN
     SLLEN,
 > {
     ghost use Rattle.rlsf_heap.specs.Heap.{Steps};
+    ghost use Rattle.rlsf_heap.specs.Kept.{KeepsSpareBytes};
+    ghost use Rattle.rlsf_heap.specs.Settled.{IsSettled};
     ghost use Rattle.rlsf_heap.specs.Units.{heap_of};
     ghost use Rattle.rlsf_local_heap.specs.Tenants.{lessor};
 
@@ -73,8 +75,10 @@ impl<FLBitmap: BitPattern, SLBitmap: BitPattern, const FLLEN: usize, const SLLEN
         ensures chunks { pool.new.state.chunks ≡ pool.old.state.chunks }
         ensures same { IfNone result (pool.new.state ≡ pool.old.state) }
         ensures refused { IfNone result (pool.new.memory.bytes ≡ pool.old.memory.bytes) }
+        ensures settled { IsSettled pool.old.memory → IsSettled pool.new.memory }
         ensures touches { pool.new.memory.touches ≤ pool.old.memory.touches + 30 }
         ensures grow { pool.old.memory.touches ≤ pool.new.memory.touches }
+        ensures spare { KeepsSpareBytes pool.old pool.new }
         ensures copied { pool.new.memory.copied ≡ pool.old.memory.copied }
     {
         if is_too_long(len) || !pool.has_units() {
@@ -107,6 +111,7 @@ impl<FLBitmap: BitPattern, SLBitmap: BitPattern, const FLLEN: usize, const SLLEN
         ensures same { result ≡ false → pool.new ≡ pool.old }
         ensures touches { pool.new.memory.touches ≤ pool.old.memory.touches + 32 }
         ensures grow { pool.old.memory.touches ≤ pool.new.memory.touches }
+        ensures spare { KeepsSpareBytes pool.old pool.new }
         ensures copied { pool.new.memory.copied ≡ pool.old.memory.copied }
     {
         let Tenant { local, lease } = self;

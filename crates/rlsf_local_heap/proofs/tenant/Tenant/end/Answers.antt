@@ -2,6 +2,7 @@ use Rattle.std.proofs.Common.{arith, rules, true≢false, refl, sym, ap, subst, 
 use Rattle.rlsf_model.specs.Callers.{align_at}
 use Rattle.rlsf_model.specs.Release.{Deallocates}
 use Rattle.rlsf_heap.specs.Heap.{Steps}
+use Rattle.rlsf_heap.proofs.Kept.{spare-none}
 use Rattle.rlsf_local_heap.proofs.tenant.Tenant.end.Goals as goal
 
 pub into_memory-requires : goal.into_memory-requires
@@ -19,6 +20,7 @@ returns-in_default g c =
       same = λ e. refl;
       touches = omega arith;
       grow = omega arith;
+      spare = spare-none c.args.pool.now;
       copied = refl;
     }
 
@@ -34,6 +36,7 @@ returns-then-live-ne0 g c =
       same = λ e. refl;
       touches = omega arith;
       grow = omega arith;
+      spare = spare-none c.args.pool.now;
       copied = refl;
     }
 
@@ -50,5 +53,6 @@ returns g c =
       same = λ e. absurd (true≢false e);
       touches = did.touches;
       grow = did.grow;
+      spare = did.spare;
       copied = did.copied;
     }

@@ -2,6 +2,7 @@ use Rattle.std.proofs.Common.{Some, arith, refl, sym, ap, subst, ◌∙◌}
 use Rattle.rlsf_model.specs.Allocate.{Allocates}
 use Rattle.rlsf_model.specs.Callers.{align_at}
 use Rattle.rlsf_heap.specs.Heap.{Steps}
+use Rattle.rlsf_heap.proofs.Kept.{spare-none}
 use Rattle.rlsf_local_heap.proofs.Outcomes.{at_address, at_none, made_of, not_made, of_none, others_stay}
 use Rattle.rlsf_local_heap.proofs.tenant.Tenant.new.Goals as goal
 
@@ -18,8 +19,10 @@ returns-then-is_too_long g c =
       chunks = refl;
       same = refl;
       refused = refl;
+      settled = λ settled. settled;
       touches = omega arith;
       grow = omega arith;
+      spare = spare-none c.args.pool.now;
       copied = refl;
     }
 
@@ -36,8 +39,10 @@ returns-in_err-fields g c =
       chunks = refl;
       same = at_none _ none refl;
       refused = at_none _ none refl;
+      settled = λ settled. settled;
       touches = omega arith;
       grow = omega arith;
+      spare = spare-none c.args.pool.now;
       copied = refl;
     }
 
@@ -58,7 +63,9 @@ returns g c =
       chunks = did.chunks;
       same = not_made _ payload tenant over.some did.same;
       refused = not_made _ payload tenant over.some did.refused;
+      settled = did.settled;
       touches = did.touches;
       grow = did.grow;
+      spare = did.spare;
       copied = did.copied;
     }
