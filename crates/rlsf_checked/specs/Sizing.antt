@@ -8,13 +8,15 @@ use Rattle.rlsf_model.specs.State.{State}
 use Rattle.rlsf_checked.specs.Answers.{refusal_at}
 use Rattle.rlsf_checked.specs.declared.error.CheckedError.{CheckedError}
 
--- if nothing was live, a range from a multiple of 32 on that is long enough for a pool of some bounds sizes the allocator for them
+-- If nothing was live and the call succeeds, a range from a multiple of 32 on that is long enough for a pool of some bounds sizes the
+-- allocator for them.
 abbrev pub SizesPool : ℕ → ℕ → Range → State → State → Result ℕ CheckedError → Type 0
 SizesPool fllen sllen r before after result =
     (count size align len : ℕ) → pool_size_for_payloads fllen sllen count size align ≡ Some len → r.start % 32 ≡ 0 → len ≤ r.len → live_count before ≡ 0
     → OnOk result (IsSizedFor sllen count size align after)
 
--- a live payload gets another size, if neither the size nor its alignment exceeds bounds that the allocator is sized for
+-- A live payload gets another size, if neither the size nor its alignment exceeds bounds that the allocator is sized for, no more payloads
+-- are live than these allow, and a layout has that size.
 abbrev pub SucceedsWithinBounds : {A : Type 0} → ℕ → State → ℕ → ℕ → Result A CheckedError → Type 0
 SucceedsWithinBounds sllen before addr size result =
     (count most align : ℕ) → IsSizedFor sllen count most align before → live_count before ≤ count → size ≤ most → IfSome (align_at before addr) (λ a. a ≤ align)

@@ -12,7 +12,7 @@ use Rattle.rlsf_model_global.specs.declared.error.GlobalError.TheVariants.{NoRoo
 use Rattle.rlsf_model_global.specs.Cursor.{PageCursor}
 
 -- The memory is where it was. Each byte that no block is made of, before and after, is as it was, and so is each byte in no range that
--- the source provided.
+-- the source has provided afterwards.
 pub record KeepsMemory (before after : FlexContents PageCursor) : Type 0 where
   pub place : SamePlace before.memory after.memory
   pub spare : KeepsSpare before.memory before.state.machine after.memory after.state.machine
@@ -26,7 +26,7 @@ IfUnasked (Err NoRoom) holds = Unit {0}
 IfUnasked (Err e) holds = holds
 
 -- How many bytes are copied if a payload gets another size. With reallocation enabled: none if the payload has room to stay, and at most
--- its bytes if there is room. Else at most the bytes that both sizes have.
+-- its bytes if there is room. With reallocation disabled: at most the bytes that both sizes have.
 pub record CopiesOnResize (enabled : Bool) (s : State) (addr size wanted : ℕ) (before after : Space) : Type 0 where
   pub grow : before.copied ≤ after.copied
   pub room : enabled ≡ true → HasRoomToResize 64 s addr wanted → after.copied ≤ before.copied + length (bytes_at s addr)

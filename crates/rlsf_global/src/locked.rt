@@ -30,8 +30,8 @@ use std::marker::Model;
 /// The value behind the lock: an allocator over the page source, and the table of its live addresses. An entry of the table is a live
 /// address and its last layout. By an invariant of the type, the table lists exactly the live payloads, in the order of their addresses.
 ///
-/// Every call leaves the memory at its place. It leaves each byte as it is that belongs to no block, or that the source hasn't provided
-/// (`KeepsMemory`). An error other than `NoRoom` leaves the memory unchanged, with both counts: nothing was tried.
+/// Every call leaves the memory at its place. It leaves each byte as it is that belongs to no block before and after it, or that the
+/// source hasn't provided after it (`KeepsMemory`). An error other than `NoRoom` leaves the memory unchanged, with both counts: nothing was tried.
 #[derive(Drop)]
 pub struct Locked<Options: GlobalTlsfOptions> {
     flex: PagedTlsf<Options>,

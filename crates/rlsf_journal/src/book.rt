@@ -29,7 +29,8 @@ use std::marker::Model;
 /// By an invariant of the type, the journal replays to the placement. The replay starts with nothing placed, over a source whose newest
 /// range grows.
 ///
-/// Every call leaves the memory at its place, with each byte that belongs to no block or that the source hasn't provided (`KeepsMemory`).
+/// Every call leaves the memory at its place, with each byte that belongs to no block before and after it, or that the source hasn't
+/// provided after it (`KeepsMemory`).
 #[derive(Drop)]
 pub struct Book {
     locked: Locked<()>,
