@@ -74,6 +74,7 @@ impl<FLBitmap: BitPattern, SLBitmap: BitPattern, const FLLEN: usize, const SLLEN
         requires units { GivesUnits self.old.identity }
         ensures step { Steps FLLEN SLLEN self.new (Allocates SLLEN self.old.state size 16 (unit_addr_of result)) }
         ensures identity { self.new.identity ≡ self.old.identity }
+        ensures place { (self.new.memory.start ≡ self.old.memory.start) × (length self.new.memory.bytes ≡ length self.old.memory.bytes) }
         ensures payload { IfSome result (λ p. heap_of p ≡ self.old.identity) }
         ensures long { IfSome result (λ p. p.len ≡ payload_len size) }
         ensures live { IfSome result (λ p. align_at self.new.state p.start ≡ Some 16) }
@@ -104,6 +105,7 @@ impl<FLBitmap: BitPattern, SLBitmap: BitPattern, const FLLEN: usize, const SLLEN
         requires { heap_of payload ≡ self.old.identity }
         ensures step { Steps FLLEN SLLEN self.new (Deallocates self.old.state payload.start) }
         ensures identity { self.new.identity ≡ self.old.identity }
+        ensures place { (self.new.memory.start ≡ self.old.memory.start) × (length self.new.memory.bytes ≡ length self.old.memory.bytes) }
         ensures count { live_count self.old.state ≡ live_count self.new.state + 1 }
         ensures bounds { (count size align : ℕ) → IsSizedFor SLLEN count size align self.old.state → IsSizedFor SLLEN count size align self.new.state }
         ensures chunks { self.new.state.chunks ≡ self.old.state.chunks }
@@ -143,6 +145,7 @@ impl<FLBitmap: BitPattern, SLBitmap: BitPattern, const FLLEN: usize, const SLLEN
         requires kept { tail.kept ≡ min tail.len (payload_len size) }
         ensures step { Steps FLLEN SLLEN self.new (ReallocatesWithoutMove self.old.state tail.start size (stayed_at result)) }
         ensures identity { self.new.identity ≡ self.old.identity }
+        ensures place { (self.new.memory.start ≡ self.old.memory.start) × (length self.new.memory.bytes ≡ length self.old.memory.bytes) }
         ensures heap { MatchResult result (λ p. heap_of_tail p ≡ self.old.identity) (λ p. heap_of_tail p ≡ self.old.identity) }
         ensures there { MatchResult result (λ p. (p.start ≡ tail.start) × (p.ptr ≡ tail.ptr)) (λ p. (p.start ≡ tail.start) × (p.ptr ≡ tail.ptr)) }
         ensures kept { MatchResult result (λ p. p.kept ≡ tail.kept) (λ p. p.kept ≡ tail.kept) }

@@ -41,6 +41,7 @@ returns g c =
     let new = c.allocate.new.self in record {
       step = subst (λ a. Steps g.row.FLLEN g.row.SLLEN new (Allocates g.row.SLLEN c.args.self.now.state c.args.size 16 (Some a))) (sym u.1) (asked g d);
       identity = e.heap.identity;
+      place = e.heap.place;
       payload = u.0 ∙ e.payload.identity;
       long = u.2 ∙ long g d;
       live = ap (align_at new.state) u.1 ∙ e.payload.live ∙ ap (λ n. Some n) asks.1;
@@ -68,6 +69,7 @@ returns-in_err-payload g c =
       step = subst (λ o. Steps g.row.FLLEN g.row.SLLEN new (Allocates g.row.SLLEN c.args.self.now.state c.args.size 16 (unit_addr_of o))) (sym none)
           (subst (λ (u : ℕ × ℕ). Steps g.row.FLLEN g.row.SLLEN new (Allocates g.row.SLLEN c.args.self.now.state u.0 u.1 None)) (λ i. (asks.0 i, asks.1 i)) e.step);
       identity = e.heap.identity;
+      place = e.heap.place;
       payload = if_some _ none;
       long = if_some _ none;
       live = if_some _ none;

@@ -176,6 +176,7 @@ returns g c =
       step = Steps-arrived (standing g c) c.deallocate.new.self.state (kept g c) c.put_unit_payload-block.new.ledger.name (Deallocates c.args.self.now.state c.args.payload.start)
           (did g c);
       identity = o.identity;
+      place = o.place;
       count = count_gone (well g c) (now g c) c.args.payload.start (live g c) (did g c);
       bounds = λ count size align sized. sized_gone (well g c) (now g c) count size align sized c.args.payload.start (live g c) (did g c);
       chunks = chunks-deallocated c.args.self.now.state (now g c) c.args.payload.start (did g c);

@@ -228,6 +228,7 @@ returns-then-not-resize_kept_block g c =
           (stepped (stood g c) c.self.inside.state.state (bared g c) c.self.inside.memory c.self.inside.state.state c.args.self.now c.self.view_is
           (λ o t. ReallocatesWithoutMove o c.args.tail.start c.args.size None t) step);
       identity = o.identity;
+      place = o.place;
       heap = is_of_heap c.self.inside.memory c.resize_kept_block.new.memory c.self.inside.table k c.self.inside.ledger.name c.issue-ticket.result.name 25 first
           (c.issue-ticket.ensures.name.0 ∙ put.ledger.0) c.args.self.now c.self.view_is c.take_unit_tail.result.home e.place.0 (heap_of_tail c.take_unit_tail.result)
           (λ i. record { home = c.take_unit_tail.result.home; ledger = e.ticket.0 i });
@@ -459,6 +460,7 @@ returns g c =
       step = Steps-arrived (stood-2 g c) c.reallocate.new.self.state (bared-2 g c) c.issue-ticket-2.new.self.name
           (ReallocatesWithoutMove c.args.self.now.state c.args.tail.start c.args.size (Some c.take_unit_tail-2.result.start)) (did g c);
       identity = o.identity;
+      place = o.place;
       heap = is_of_heap c.self.inside.memory c.resize_kept_block.new.memory c.self.inside.table k c.self.inside.ledger.name c.issue-ticket-2.result.name 25 first
           (c.issue-ticket-2.ensures.name.0 ∙ put.ledger.0) c.args.self.now c.self.view_is c.take_unit_tail-2.result.home e.place.0 (heap_of_tail c.take_unit_tail-2.result)
           (λ i. record { home = c.take_unit_tail-2.result.home; ledger = e.ticket.0 i });
