@@ -1,5 +1,5 @@
 //! Heaps over ranges of one memory.
-ghost use Rattle.std.specs.Prelude.{◌≡◌, ◌≢◌, ◌↔◌, ◌+◌, ◌^◌, ◌<◌, ◌≤◌, ℕ, Some, None, IfSome, IfNone, IsSome, IsNone, IsTrue, true, false};
+ghost use Rattle.std.specs.Prelude.{◌≡◌, ◌≢◌, ◌↔◌, ◌+◌, ◌^◌, ◌<◌, ◌≤◌, ℕ, Some, None, IfSome, IfNone, IsSome, IsNone, IsTrue, length, true, false};
 ghost use Rattle.rlsf_model.specs.Allocate.{Allocates};
 ghost use Rattle.rlsf_model.specs.Callers.{align_at};
 ghost use Rattle.rlsf_model.specs.Release.{Deallocates};
@@ -66,6 +66,7 @@ impl<FLBitmap: BitPattern, SLBitmap: BitPattern, const FLLEN: usize, const SLLEN
     ) -> Option<Self>
         requires { IsValid FLBitmap.width SLBitmap.width FLLEN SLLEN }
         ensures identity { pool.new.identity ≡ pool.old.identity }
+        ensures place { (pool.new.memory.start ≡ pool.old.memory.start) × (length pool.new.memory.bytes ≡ length pool.old.memory.bytes) }
         ensures tenant { IfSome result (λ t. lessor t.lease ≡ pool.old.identity) }
         ensures step { IfSome result (λ t. Steps FLLEN SLLEN pool.new (Allocates SLLEN pool.old.state len 16 (Some t.lease.start))) }
         ensures new { IfSome result (λ t. align_at pool.old.state t.lease.start ≡ None) }
@@ -104,6 +105,7 @@ impl<FLBitmap: BitPattern, SLBitmap: BitPattern, const FLLEN: usize, const SLLEN
         requires { lessor self.lease ≡ pool.old.identity }
         ensures step { result ≡ true → Steps FLLEN SLLEN pool.new (Deallocates pool.old.state self.lease.start) }
         ensures identity { pool.new.identity ≡ pool.old.identity }
+        ensures place { (pool.new.memory.start ≡ pool.old.memory.start) × (length pool.new.memory.bytes ≡ length pool.old.memory.bytes) }
         ensures gone { result ≡ true → align_at pool.new.state self.lease.start ≡ None }
         ensures aligns { (a : ℕ) → a ≢ self.lease.start → align_at pool.new.state a ≡ align_at pool.old.state a }
         ensures count { result ≡ true → live_count pool.old.state ≡ live_count pool.new.state + 1 }

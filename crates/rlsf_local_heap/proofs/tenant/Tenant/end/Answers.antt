@@ -13,6 +13,7 @@ returns-in_default g c =
     record {
       step = λ e. absurd (true≢false (sym e));
       identity = refl;
+      place = (refl, refl);
       gone = λ e. absurd (true≢false (sym e));
       aligns = λ a apart. refl;
       count = λ e. absurd (true≢false (sym e));
@@ -29,6 +30,7 @@ returns-then-live-ne0 g c =
     record {
       step = λ e. absurd (true≢false (sym e));
       identity = refl;
+      place = (refl, refl);
       gone = λ e. absurd (true≢false (sym e));
       aligns = λ a apart. refl;
       count = λ e. absurd (true≢false (sym e));
@@ -46,6 +48,7 @@ returns g c =
     record {
       step = λ e. subst (λ a. Steps g.row.FLLEN g.row.SLLEN new (Deallocates old.state a)) at did.step;
       identity = did.identity;
+      place = did.place;
       gone = λ e. ap (align_at new.state) (sym at) ∙ did.gone;
       aligns = λ a apart. did.aligns a (λ e. apart (e ∙ at));
       count = λ e. did.count;

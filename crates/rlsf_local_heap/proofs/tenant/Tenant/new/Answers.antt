@@ -10,6 +10,7 @@ pub returns-then-is_too_long : goal.returns-then-is_too_long
 returns-then-is_too_long g c =
     record {
       identity = refl;
+      place = (refl, refl);
       tenant = tt;
       step = tt;
       new = tt;
@@ -30,6 +31,7 @@ pub returns-in_err-fields : goal.returns-in_err-fields
 returns-in_err-fields g c =
     let none = c.from_residual.ensures in record {
       identity = refl;
+      place = (refl, refl);
       tenant = of_none _ none;
       step = of_none _ none;
       new = of_none _ none;
@@ -52,6 +54,7 @@ returns g c =
     let did = c.allocate_units-payload.ensures in let over = c.over.ensures in
     record {
       identity = did.identity;
+      place = did.place;
       tenant = made_of payload tenant over.none over.lease (λ p t ties is. ties.0 ∙ is) did.payload;
       step = made_of payload tenant over.none over.lease
           (λ p t ties is. subst (λ a. Steps g.row.FLLEN g.row.SLLEN new (Allocates g.row.SLLEN old.state c.args.len 16 (Some a))) (sym ties.1) is)
