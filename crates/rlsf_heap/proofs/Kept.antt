@@ -2,11 +2,11 @@
 use Rattle.std.proofs.Common.{◌≡◌, ℕ, ◌+◌, ◌-◌, ◌<◌, ◌≤◌, List, length, slice_index, true, arith, inl, inr, refl, sym, ap, subst, ◌∙◌}
 use Rattle.std.proofs.lemmas.Bool.{cases_lt, false≢true}
 use Rattle.rlsf_base.specs.declared.memory.range.Range.{Range}
-use Rattle.rlsf_base.specs.OpenSpace.{IsBeside, out_raw, out_without}
+use Rattle.rlsf_base.specs.OpenSpace.{IsBeside, out_raw, out_with, out_without}
 use Rattle.rlsf_base.specs.Out.{Kept, here, is_here, is_own, kept_at, out, raw}
 use Rattle.rlsf_base.specs.Range.{end_of, range_at}
 use Rattle.rlsf_base.specs.Space.{Space, byte_at, out_at}
-use Rattle.rlsf_base.proofs.Changes.{changed-there}
+use Rattle.rlsf_base.proofs.Changes.{back-there, changed-there}
 use Rattle.rlsf_model.specs.Lists.{IsIn}
 use Rattle.rlsf_model.specs.State.{State}
 use Rattle.rlsf_table.specs.Table.{Table}
@@ -15,8 +15,9 @@ use Rattle.rlsf_blocks.specs.Laws.{read_from}
 use Rattle.rlsf_blocks.specs.Spare.{IsSpare, KeepsSpare}
 use Rattle.rlsf_blocks.proofs.Words.Stays.{Stays}
 use Rattle.rlsf_heap.specs.Heap.{HeapView, heap_view}
-use Rattle.rlsf_heap.specs.Kept.{KeepsBytesBeside, KeepsSpareBytes, NoneBecomesRawBeside}
+use Rattle.rlsf_heap.specs.Kept.{KeepsBytesBeside, KeepsSpareBytes, NoneBecomesRaw, NoneBecomesRawBeside}
 use Rattle.rlsf_heap.proofs.Read.{out-back, out-left}
+use Rattle.rlsf_heap.proofs.Settled.{back_at, beside_back}
 
 -- memories with the same start and the same bytes have the same byte at each address
 pub same-byte : (m n : Space) → n.start ≡ m.start → n.bytes ≡ m.bytes → (a : ℕ) → byte_at n a ≡ byte_at m a
@@ -95,6 +96,19 @@ raw-left m n r start inside left a from is = elim (cases_lt a r.start) [
   ]
 ]
 
+-- and so were those that are raw once a range has come back with its values
+pub raw-with : (m n : Space) (r : Range) → n.start ≡ m.start → m.start ≤ r.start → n.out ≡ out_with m r → (a : ℕ) → m.start ≤ a → out_at n a ≡ raw → out_at m a ≡ raw
+raw-with m n r start inside back a from is = elim (cases_lt a r.start) [
+  | inl before ↦ sym (beside_back m n r start inside back a from (inl before)) ∙ is
+  | inr behind ↦ elim (cases_lt a (end_of r)) [
+    | inl within ↦
+        let came : out_at n a ≡ here = back_at m n r start inside back a ∙ back-there m.out (r.start - m.start) r.len (a - m.start) (omega (arith, behind))
+        (omega (arith, within, inside)) in
+        absurd (false≢true (sym (ap is_here is) ∙ ap is_here came))
+    | inr past ↦ sym (beside_back m n r start inside back a from (inr past)) ∙ is
+  ]
+]
+
 -- the bytes of a payload behind its first ones came back raw, and other bytes left
 pub raw-tail : (m n o q : Space) (start kept len : ℕ) → kept ≤ len → m.start ≤ start → n.start ≡ m.start → n.out ≡ out_raw m (range_at (start + kept) (len - kept)) → Stays n o
     → (r : Range) → q.start ≡ o.start → o.start ≤ r.start → q.out ≡ out_without o r → (a : ℕ) → m.start ≤ a → IsBeside (range_at start len) a → out_at q a ≡ raw
@@ -104,6 +118,18 @@ raw-tail m n o q start kept len within low same back stays r same_q inside gone 
       | inl before ↦ inl (omega (arith, before))
       | inr past ↦ inr (omega (arith, past, within))
     ]) (raw-left o q r same_q inside gone a (omega (arith, from, same, stays.start)) is)
+
+-- as contracts see it
+pub none_raw-seen : (m n : Space) {x : Table} {ledger : ℕ} (j k : State) (old : HeapView) → heap_view m x j ledger ≡ old → (y : Table) (name : ℕ)
+    → ((a : ℕ) → m.start ≤ a → out_at n a ≡ raw → out_at m a ≡ raw) → NoneBecomesRaw old (heap_view n y k name)
+unfolding NoneBecomesRaw
+none_raw-seen m n j k old view y name none =
+    subst (λ (o : HeapView). (a : ℕ) → o.memory.start ≤ a → out_at n a ≡ raw → out_at o.memory a ≡ raw) view none
+
+-- of a heap that doesn't change
+pub none_raw-none : (v : HeapView) → NoneBecomesRaw v v
+unfolding NoneBecomesRaw
+none_raw-none v a from is = is
 
 pub raw-seen : (m n : Space) {x : Table} {ledger : ℕ} (j k : State) (old : HeapView) → heap_view m x j ledger ≡ old → (y : Table) (name : ℕ) (r : Range)
     → ((a : ℕ) → m.start ≤ a → IsBeside r a → out_at n a ≡ raw → out_at m a ≡ raw) → NoneBecomesRawBeside old (heap_view n y k name) r

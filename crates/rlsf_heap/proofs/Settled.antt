@@ -45,10 +45,10 @@ module _ (m n : Space) (r : Range) (start : n.start ≡ m.start) (inside : m.sta
         ]
 
   module _ (back : n.out ≡ out_with m r) where
-    back_at : (a : ℕ) → out_at n a ≡ kept_at (out_with m r) (a - m.start)
+    pub back_at : (a : ℕ) → out_at n a ≡ kept_at (out_with m r) (a - m.start)
     back_at a i = kept_at (back i) (a - start i)
 
-    beside_back : (a : ℕ) → m.start ≤ a → (a < r.start) ⊎ (end_of r ≤ a) → out_at n a ≡ out_at m a
+    pub beside_back : (a : ℕ) → m.start ≤ a → (a < r.start) ⊎ (end_of r ≤ a) → out_at n a ≡ out_at m a
     beside_back a low side = back_at a ∙ elim side [
       | inl before ↦ back-before m.out (r.start - m.start) r.len (a - m.start) (omega (arith, before, low, inside))
       | inr past ↦ back-behind m.out (r.start - m.start) r.len (a - m.start) (omega (arith, past, inside))

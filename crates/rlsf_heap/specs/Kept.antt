@@ -16,6 +16,10 @@ unfoldable pub KeepsBytesBeside : HeapView → HeapView → Range → Type 0
 KeepsBytesBeside before after r = (a : ℕ) → before.memory.start ≤ a → a < before.memory.start + length before.memory.bytes → IsBeside r a
     → byte_at after.memory a ≡ byte_at before.memory a
 
--- no byte beside a range becomes raw: each that is raw was raw
+-- no byte becomes raw: each that is raw was raw
+unfoldable pub NoneBecomesRaw : HeapView → HeapView → Type 0
+NoneBecomesRaw before after = (a : ℕ) → before.memory.start ≤ a → out_at after.memory a ≡ raw → out_at before.memory a ≡ raw
+
+-- no byte beside a range becomes raw
 unfoldable pub NoneBecomesRawBeside : HeapView → HeapView → Range → Type 0
 NoneBecomesRawBeside before after r = (a : ℕ) → before.memory.start ≤ a → IsBeside r a → out_at after.memory a ≡ raw → out_at before.memory a ≡ raw

@@ -12,7 +12,7 @@ ghost use Rattle.rlsf_model.specs.Remove.{IsIdle, Removes};
 ghost use Rattle.rlsf_model.specs.Sized.{IsSizedFor, live_count};
 ghost use Rattle.rlsf_blocks.specs.Blocks.{walked};
 ghost use Rattle.rlsf_tlsf.specs.Steps.UsedBlocks.{has_used};
-ghost use Rattle.rlsf_heap.specs.Kept.{KeepsSpareBytes};
+ghost use Rattle.rlsf_heap.specs.Kept.{KeepsSpareBytes, NoneBecomesRaw};
 ghost use Rattle.rlsf_heap.specs.Settled.{IsSettled};
 
 use crate::heap::Heap;
@@ -54,6 +54,7 @@ impl<FLBitmap: BitPattern, SLBitmap: BitPattern, const FLLEN: usize, const SLLEN
         ensures pool { SizesPool FLLEN SLLEN range self.old.state self.new.state }
         ensures refused { IfNone result (self.new.memory.bytes ≡ self.old.memory.bytes) }
         ensures settled { IsSettled self.old.memory → IsSettled self.new.memory }
+        ensures raw { NoneBecomesRaw self.old self.new }
         ensures touches { self.new.memory.touches ≤ self.old.memory.touches + 13 * length (cut (max_pool_size FLLEN) (aligned_part range)) }
         ensures grow { self.old.memory.touches ≤ self.new.memory.touches }
         ensures spare { KeepsSpareBytes self.old self.new }
@@ -81,6 +82,7 @@ impl<FLBitmap: BitPattern, SLBitmap: BitPattern, const FLLEN: usize, const SLLEN
         ensures pool { SizesPool FLLEN SLLEN range self.old.state self.new.state }
         ensures unchanged { cut (max_pool_size FLLEN) (aligned_part range) ≡ [] → self.new.memory.bytes ≡ self.old.memory.bytes }
         ensures settled { IsSettled self.old.memory → IsSettled self.new.memory }
+        ensures raw { NoneBecomesRaw self.old self.new }
         ensures touches { self.new.memory.touches ≤ self.old.memory.touches + 13 * length (cut (max_pool_size FLLEN) (aligned_part range)) }
         ensures grow { self.old.memory.touches ≤ self.new.memory.touches }
         ensures spare { KeepsSpareBytes self.old self.new }
@@ -110,6 +112,7 @@ impl<FLBitmap: BitPattern, SLBitmap: BitPattern, const FLLEN: usize, const SLLEN
         ensures bounds { (count size align : ℕ) → IsSizedFor SLLEN count size align self.old.state → IsSizedFor SLLEN count size align self.new.state }
         ensures unchanged { result ≡ 0 → self.new.memory.bytes ≡ self.old.memory.bytes }
         ensures settled { IsSettled self.old.memory → IsSettled self.new.memory }
+        ensures raw { NoneBecomesRaw self.old self.new }
         ensures touches { self.new.memory.touches
             ≤ self.old.memory.touches + (if is_some (max_pool_size FLLEN) then 13 * length (cut (max_pool_size FLLEN) (aligned_part range)) else 34) }
         ensures grow { self.old.memory.touches ≤ self.new.memory.touches }
@@ -138,6 +141,7 @@ impl<FLBitmap: BitPattern, SLBitmap: BitPattern, const FLLEN: usize, const SLLEN
         ensures aligns { align_at self.new.state ≡ align_at self.old.state }
         ensures count { live_count self.new.state ≡ live_count self.old.state }
         ensures settled { IsSettled self.old.memory → IsSettled self.new.memory }
+        ensures raw { NoneBecomesRaw self.old self.new }
         ensures touches { self.new.memory.touches + 9 * length self.new.state.chunks ≤ self.old.memory.touches + 9 * length self.old.state.chunks }
         ensures grow { self.old.memory.touches ≤ self.new.memory.touches }
         ensures spare { KeepsSpareBytes self.old self.new }
@@ -162,6 +166,7 @@ impl<FLBitmap: BitPattern, SLBitmap: BitPattern, const FLLEN: usize, const SLLEN
         ensures aligns { align_at self.new.state ≡ align_at self.old.state }
         ensures count { live_count self.new.state ≡ live_count self.old.state }
         ensures settled { IsSettled self.old.memory → IsSettled self.new.memory }
+        ensures raw { NoneBecomesRaw self.old self.new }
         ensures touches { self.new.memory.touches + 9 * length self.new.state.chunks ≤ self.old.memory.touches + 9 * length self.old.state.chunks }
         ensures grow { self.old.memory.touches ≤ self.new.memory.touches }
         ensures spare { KeepsSpareBytes self.old self.new }

@@ -17,7 +17,7 @@ use Rattle.rlsf_tlsf.specs.Steps.Moves.{appended_to, bare}
 use Rattle.rlsf_tlsf.proofs.Moved.{appended_to-bare}
 use Rattle.rlsf_heap.specs.Heap.{HeapView}
 use Rattle.rlsf_heap.proofs.Arrivals.{IsHeap-arrived, Steps-arrived, bare-kept, stepped, view_well_formed}
-use Rattle.rlsf_heap.proofs.Kept.{spare-seen}
+use Rattle.rlsf_heap.proofs.Kept.{none_raw-seen, raw-stays, spare-seen}
 use Rattle.rlsf_heap.proofs.LiveCounts.{live_count-same}
 use Rattle.rlsf_heap.proofs.Read.{issued-same}
 use Rattle.rlsf_heap.proofs.Settled.{settled-inside, settled-stays}
@@ -85,6 +85,13 @@ returns-clause-settled g c = λ settled.
     let e = c.append_chunks-taken.ensures in
     let stays : Stays c.self.inside.memory c.append_chunks-taken.new.memory = record { start = e.costs.start; own = e.own; here = e.here } in
     settled-stays stays (settled-inside c.self.inside.state.state c.args.self.now c.self.view_is settled)
+
+pub returns-clause-raw : goal.returns-clause-raw
+returns-clause-raw g c =
+    let e = c.append_chunks-taken.ensures in
+    let stays : Stays c.self.inside.memory c.append_chunks-taken.new.memory = record { start = e.costs.start; own = e.own; here = e.here } in
+    none_raw-seen c.self.inside.memory c.append_chunks-taken.new.memory c.self.inside.state.state c.append.new.self.state c.args.self.now c.self.view_is
+    c.append_chunks-taken.new.table c.self.inside.ledger.name (raw-stays stays)
 
 pub returns-clause-untouched : goal.returns-clause-untouched
 returns-clause-untouched g c = untouched_appended g.row.FLLEN c.args.self.now.state (now g c) c.args.range c.append_chunks-taken.result (did g c)

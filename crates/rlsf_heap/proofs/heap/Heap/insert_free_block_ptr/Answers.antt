@@ -19,7 +19,7 @@ use Rattle.rlsf_heap.specs.Heap.{HeapView, heap_view}
 use Rattle.rlsf_heap.specs.Kept.{KeepsSpareBytes}
 use Rattle.rlsf_heap.proofs.Arrivals.{IsHeap-arrived, Steps-arrived, bare-kept, stepped, view_well_formed}
 use Rattle.rlsf_heap.proofs.Costs.{left_costs, sees_left}
-use Rattle.rlsf_heap.proofs.Kept.{spare-seen}
+use Rattle.rlsf_heap.proofs.Kept.{none_raw-seen, raw-stays, spare-seen}
 use Rattle.rlsf_heap.proofs.LiveCounts.{live_count-same}
 use Rattle.rlsf_heap.proofs.Read.{issued-same}
 use Rattle.rlsf_blocks.proofs.Words.Stays.{Stays}
@@ -114,6 +114,8 @@ returns g c =
           taken c.self.invariant.valid told at32 long idle (did g c);
       refused = subst (λ (v : HeapView). IfNone c.insert_chunks-taken.result (c.insert_chunks-taken.new.memory.bytes ≡ v.memory.bytes)) c.self.view_is e.refused;
       settled = λ settled. settled-stays stays (settled-inside c.self.inside.state.state c.args.self.now c.self.view_is settled);
+      raw = none_raw-seen c.self.inside.memory c.insert_chunks-taken.new.memory c.self.inside.state.state c.insert.new.self.state c.args.self.now c.self.view_is
+          c.insert_chunks-taken.new.table c.self.inside.ledger.name (raw-stays stays);
       touches = o.touches;
       grow = o.grow;
       spare = spare g c;

@@ -18,7 +18,7 @@ use Rattle.rlsf_tlsf.specs.Steps.Moves.{bare}
 use Rattle.rlsf_tlsf.proofs.Removed.{IsRemovable-row, untouched_gone, untouched_removed}
 use Rattle.rlsf_heap.specs.Heap.{HeapView}
 use Rattle.rlsf_heap.proofs.Arrivals.{IsHeap-arrived, Steps-arrived, bare-kept, stepped, view_well_formed}
-use Rattle.rlsf_heap.proofs.Kept.{spare-seen}
+use Rattle.rlsf_heap.proofs.Kept.{none_raw-seen, raw-stays, spare-seen}
 use Rattle.rlsf_heap.proofs.LiveCounts.{live_count-same}
 use Rattle.rlsf_heap.proofs.Read.{issued-same}
 use Rattle.rlsf_heap.proofs.Settled.{settled-inside, settled-stays}
@@ -77,6 +77,13 @@ returns-clause-settled g c = λ settled.
     let e = c.remove_chunks.ensures in
     let stays : Stays c.self.inside.memory c.remove_chunks.new.memory = record { start = e.place.0; own = e.own; here = e.here } in
     settled-stays stays (settled-inside c.self.inside.state.state c.args.self.now c.self.view_is settled)
+
+pub returns-clause-raw : goal.returns-clause-raw
+returns-clause-raw g c =
+    let e = c.remove_chunks.ensures in
+    let stays : Stays c.self.inside.memory c.remove_chunks.new.memory = record { start = e.place.0; own = e.own; here = e.here } in
+    none_raw-seen c.self.inside.memory c.remove_chunks.new.memory c.self.inside.state.state c.remove.new.self.state c.args.self.now c.self.view_is
+    c.remove_chunks.new.table c.self.inside.ledger.name (raw-stays stays)
 
 pub returns-clause-untouched : goal.returns-clause-untouched
 returns-clause-untouched g c = untouched_removed (well g c) (walked c.args.range) c.requires.row c.requires.idle (now g c) (did g c)

@@ -6,7 +6,7 @@ use Rattle.rlsf_model.specs.WellFormed.{IsWellFormed}
 use Rattle.rlsf_blocks.specs.Blocks.{walked}
 use Rattle.rlsf_heap.specs.Heap.{HeapView, Stands, Steps}
 use Rattle.rlsf_tlsf.proofs.IdleRows.{idle_if, used_if}
-use Rattle.rlsf_heap.proofs.Kept.{spare-none}
+use Rattle.rlsf_heap.proofs.Kept.{none_raw-none, spare-none}
 use Rattle.rlsf_heap.proofs.heap.Heap.try_remove_pool.Goals as goal
 
 -- the state that memory and table represent is well-formed
@@ -44,3 +44,6 @@ returns-clause-step g c =
 
 pub returns-then-any_used-clause-spare : goal.returns-then-any_used-clause-spare
 returns-then-any_used-clause-spare g c = spare-none c.args.self.now
+
+pub returns-then-any_used-clause-raw : goal.returns-then-any_used-clause-raw
+returns-then-any_used-clause-raw g c = none_raw-none c.args.self.now
