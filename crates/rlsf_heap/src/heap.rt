@@ -12,7 +12,7 @@ ghost use Rattle.rlsf_model.specs.Release.{Deallocates};
 ghost use Rattle.rlsf_model.specs.Sized.{IsSizedFor, live_count};
 ghost use Rattle.rlsf_model.specs.State.{empty};
 ghost use Rattle.rlsf_heap.specs.Heap.{addr_of, IsOwners, IsWritten, payload_range};
-ghost use Rattle.rlsf_heap.specs.Kept.{KeepsSpareBytes, NoneBecomesRawBeside};
+ghost use Rattle.rlsf_heap.specs.Kept.{KeepsSpareBytes, NoneBecomesRaw, NoneBecomesRawBeside};
 ghost use Rattle.rlsf_heap.specs.Replies.{IsAllocated, KeepsHeap};
 ghost use Rattle.rlsf_heap.specs.Settled.{IsSettled};
 
@@ -155,6 +155,7 @@ impl<FLBitmap: BitPattern, SLBitmap: BitPattern, const FLLEN: usize, const SLLEN
         ensures same { IfNone result (self.new.state ≡ self.old.state) }
         ensures refused { IfNone result (self.new.memory.bytes ≡ self.old.memory.bytes) }
         ensures touches { self.new.memory.touches ≤ self.old.memory.touches + 30 }
+        ensures raw { NoneBecomesRaw self.old self.new }
         ensures spare { KeepsSpareBytes self.old self.new }
         ensures copied { self.new.memory.copied ≡ self.old.memory.copied }
     {
@@ -185,6 +186,7 @@ impl<FLBitmap: BitPattern, SLBitmap: BitPattern, const FLLEN: usize, const SLLEN
         ensures refused { IfNone result (self.new.memory.bytes ≡ self.old.memory.bytes) }
         ensures few_touches { IfNone result (self.new.memory.touches ≤ self.old.memory.touches + 30) }
         ensures touches { IfSome result (λ p. self.new.memory.touches ≤ self.old.memory.touches + 30 + length p.bytes / 8) }
+        ensures raw { NoneBecomesRaw self.old self.new }
         ensures spare { KeepsSpareBytes self.old self.new }
         ensures copied { self.new.memory.copied ≡ self.old.memory.copied }
     {

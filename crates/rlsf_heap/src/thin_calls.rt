@@ -6,7 +6,7 @@ ghost use Rattle.rlsf_model.specs.Callers.{align_at, bytes_at};
 ghost use Rattle.rlsf_model.specs.Release.{Deallocates};
 ghost use Rattle.rlsf_model.specs.Sized.{IsSizedFor, live_count};
 ghost use Rattle.rlsf_heap.specs.Heap.{IsOwners, IsTicketOf, IsWritten, payload_range, payload_view};
-ghost use Rattle.rlsf_heap.specs.Kept.{KeepsSpareBytes, NoneBecomesRawBeside};
+ghost use Rattle.rlsf_heap.specs.Kept.{KeepsSpareBytes, NoneBecomesRaw, NoneBecomesRawBeside};
 ghost use Rattle.rlsf_heap.specs.Replies.{IsAllocated, KeepsHeap};
 ghost use Rattle.rlsf_heap.specs.Settled.{IsSettled};
 ghost use Rattle.rlsf_heap.specs.Thin.{reply_of};
@@ -37,6 +37,7 @@ impl<FLBitmap: BitPattern, SLBitmap: BitPattern, const FLLEN: usize, const SLLEN
         ensures payload { result.of.start ≢ 0 → IsAllocated self.old self.new layout.size layout.align result.of }
         ensures heap { KeepsHeap SLLEN layout.size layout.align self.old self.new }
         ensures leaves { AllocationLeaves SLLEN layout.size layout.align self.old self.new result.of.start }
+        ensures raw { NoneBecomesRaw self.old self.new }
         ensures spare { KeepsSpareBytes self.old self.new }
         ensures written { IsSettled self.old.memory → result.of.start ≢ 0 → IsWritten result.of }
         ensures touches { self.new.memory.touches ≤ self.old.memory.touches + 30 }
@@ -57,6 +58,7 @@ impl<FLBitmap: BitPattern, SLBitmap: BitPattern, const FLLEN: usize, const SLLEN
         ensures payload { result.of.start ≢ 0 → IsAllocated self.old self.new layout.size layout.align result.of }
         ensures heap { KeepsHeap SLLEN layout.size layout.align self.old self.new }
         ensures leaves { AllocationLeaves SLLEN layout.size layout.align self.old self.new result.of.start }
+        ensures raw { NoneBecomesRaw self.old self.new }
         ensures spare { KeepsSpareBytes self.old self.new }
         ensures written { result.of.start ≢ 0 → IsWritten result.of }
         ensures zeros { result.of.start ≢ 0 → result.of.bytes ≡ replicate (length result.of.bytes) 0 }

@@ -15,9 +15,9 @@ use Rattle.rlsf_heap.proofs.Allocated.{IsHeap-refused, SeesPlaced, Steps-refused
 use Rattle.rlsf_heap.proofs.Allocated.{Placing, at_new, if_none, if_some, is_new, issued-new, new, one_more, new-here, new-lies, placing-counted, stands-left}
 use Rattle.rlsf_heap.proofs.Costs.{Leaves, is_of_heap, left_costs, sees_left}
 use Rattle.rlsf_heap.proofs.Arrivals.{IsHeap-arrived, bare-kept}
-use Rattle.rlsf_heap.proofs.Kept.{spare-last, spare-seen}
+use Rattle.rlsf_heap.proofs.Kept.{none_raw-seen, raw-left, raw-stays, spare-last, spare-seen}
 use Rattle.rlsf_blocks.proofs.Words.Stays.{Stays, Stays-same, Stays-then}
-use Rattle.rlsf_heap.specs.Kept.{KeepsSpareBytes}
+use Rattle.rlsf_heap.specs.Kept.{KeepsSpareBytes, NoneBecomesRaw}
 use Rattle.rlsf_heap.specs.Settled.{IsSettled}
 use Rattle.rlsf_heap.proofs.Settled.{settled-here, settled-inside, settled-left, settled-stays}
 use Rattle.rlsf_heap.proofs.heap.Heap.allocate.Given as given
@@ -61,6 +61,8 @@ returns-in_err-addr g c =
       same = if_none _ none same;
       refused = if_none _ none (e.unchanged.0.bytes ∙ ap (λ (v : HeapView). v.memory.bytes) c.self.view_is);
       touches = omega (arith, o.touches);
+      raw = none_raw-seen c.self.inside.memory c.allocate_block.new.memory k k c.args.self.now c.self.view_is c.allocate_block.new.table c.self.inside.ledger.name
+          (raw-stays stays);
       spare =
           spare-seen c.self.inside.memory c.allocate_block.new.memory (read_from c.self.inside.memory k) t spare k k refl (ap (λ (s : State). s.chunks) step.1)
           c.args.self.now c.self.view_is c.allocate_block.new.table c.self.inside.ledger.name;
@@ -183,16 +185,30 @@ long g c =
 -- ---- no byte is raw, if none was
 
 -- before its bytes leave
-settled_read : (g : given.Over) (c : After-hand_over-payload g) → IsSettled c.args.self.now.memory → IsSettled c.load_usable_of-range.new.memory
-settled_read g c settled =
+stays_read : (g : given.Over) (c : After-hand_over-payload g) → Stays c.self.inside.memory c.load_usable_of-range.new.memory
+stays_read g c =
     let e = c.in_ok-addr.ensures in
     let counts = c.load_usable_of-range.ensures.counts in
     let stays : Stays c.self.inside.memory c.allocate_block.new.memory = record { start = e.costs.start; own = e.own; here = e.here } in
-    let counted = Stays-same c.allocate_block.new.memory c.load_usable_of-range.new.memory counts.start counts.out in
-    settled-stays (Stays-then stays counted) (settled-inside c.self.inside.state.state c.args.self.now c.self.view_is settled)
+    Stays-then stays (Stays-same c.allocate_block.new.memory c.load_usable_of-range.new.memory counts.start counts.out)
+
+settled_read : (g : given.Over) (c : After-hand_over-payload g) → IsSettled c.args.self.now.memory → IsSettled c.load_usable_of-range.new.memory
+settled_read g c settled = settled-stays (stays_read g c) (settled-inside c.self.inside.state.state c.args.self.now c.self.view_is settled)
 
 low_range : (g : given.Over) (c : After-hand_over-payload g) → c.load_usable_of-range.new.memory.start ≤ c.load_usable_of-range.result.start
 low_range g c = subst (λ (r : Range). c.load_usable_of-range.new.memory.start ≤ r.start) (sym (range g (read g c))) (new-lies (reading g (read g c))).0
+
+-- and no byte becomes raw
+none_raw : (g : given.Over) (c : After-hand_over-payload g) → NoneBecomesRaw c.args.self.now
+    (heap_view c.hand_over-payload.new.memory c.allocate_block.new.table c.allocate.new.self.state c.hand_over-payload.new.ledger.name)
+none_raw g c =
+    let n = c.load_usable_of-range.new.memory in
+    let o = c.hand_over-payload.new.memory in
+    let stays = stays_read g c in
+    let e = c.hand_over-payload.ensures.over in
+    none_raw-seen c.self.inside.memory o c.self.inside.state.state c.allocate.new.self.state c.args.self.now c.self.view_is c.allocate_block.new.table
+    c.hand_over-payload.new.ledger.name
+    (λ a from is. raw-stays stays a from (raw-left n o c.load_usable_of-range.result e.start (low_range g c) e.out a (omega (arith, from, stays.start)) is))
 
 -- the memory that is left, before its bytes leave
 left_first : (g : given.Over) (c : After-hand_over-payload g) → Leaves c.self.inside.memory c.load_usable_of-range.new.memory 30
@@ -271,6 +287,7 @@ returns g c =
       same = tt;
       refused = tt;
       touches = o.touches;
+      raw = none_raw g c;
       spare = spare g c;
       copied = omega (arith, a.copied, c.load_usable_of-range.ensures.counts.copied, e.copied, ap (λ (o : HeapView). o.memory.copied) c.self.view_is);
     }

@@ -18,6 +18,7 @@ returns-in-Some g c =
       at = c.into_thin.ensures.0 ∙ ap (λ (p : PayloadView). p.start) (sym is);
       payload = λ it. subst (IsAllocated c.args.self.now c.allocate.new.self c.args.layout.size c.args.layout.align) (sym is) e.payload;
       heap = e.heap;
+      raw = e.raw;
       spare = e.spare;
       leaves = thin_leaves g.row.FLLEN g.row.SLLEN c.args.self.now c.allocate.new.self c.args.layout.size c.args.layout.align c.in-Some.payload c.into_thin.result.of is e.step
           e.aligns e.copied;
@@ -35,6 +36,7 @@ returns-in-None g c =
       at = c.none.ensures.0 ∙ sym none;
       payload = λ some. absurd (some none);
       heap = e.heap;
+      raw = e.raw;
       spare = e.spare;
       leaves = none_leaves g.row.SLLEN c.args.layout.size c.args.layout.align c.args.self.now c.allocate.new.self c.none.result.of.start none
           (λ count most wide sized few short fits. true≢false (sym (e.room count most wide sized few short fits))) e.same e.refused e.copied;

@@ -56,6 +56,7 @@ returns g c =
       refused = tt;
       touches = e.touches;
       grow = e.heap.grow;
+      raw = e.raw;
       spare = e.spare;
       copied = e.copied;
     }
@@ -85,6 +86,7 @@ returns-in_err-payload g c =
       refused = if_none _ none e.refused;
       touches = e.touches;
       grow = e.heap.grow;
+      raw = e.raw;
       spare = e.spare;
       copied = e.copied;
     }

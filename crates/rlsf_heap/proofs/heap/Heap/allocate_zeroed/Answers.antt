@@ -35,6 +35,7 @@ returns g c =
       refused = tt;
       few_touches = tt;
       touches = omega (arith, e.touches);
+      raw = e.raw;
       spare = e.spare;
       copied = e.copied;
     }
@@ -55,6 +56,7 @@ returns-in_err-payload g c =
       refused = if_none _ none e.refused;
       few_touches = if_none _ none e.touches;
       touches = if_some _ none;
+      raw = e.raw;
       spare = e.spare;
       copied = e.copied;
     }
