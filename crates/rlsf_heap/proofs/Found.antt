@@ -10,7 +10,7 @@ use Rattle.rlsf_model.proofs.CallerWords.{align_at-live}
 use Rattle.rlsf_model.proofs.Payloads.{IsUsed-after_start}
 use Rattle.rlsf_heap.specs.declared.thin.ThinPayload.{ThinPayload}
 use Rattle.rlsf_heap.specs.Heap.{HeapView, IsOwners, PayloadView, Stands, Steps, payload_range, payload_view}
-use Rattle.rlsf_heap.specs.Kept.{KeepsBytesBeside, KeepsSpareBytes}
+use Rattle.rlsf_heap.specs.Kept.{KeepsBytesBeside, KeepsSpareBytes, NoneBecomesRaw}
 use Rattle.rlsf_heap.specs.Reallocation.{owned_by}
 use Rattle.rlsf_heap.specs.Replies.{IsReallocatedHere, KeepsHeap}
 use Rattle.rlsf_heap.specs.Settled.{IsSettled}
@@ -37,10 +37,14 @@ kept_found sllen size align v w new is kept =
       grow = omega (arith, k.grow);
     }
 
--- so are bytes that no block is made of, and those beside a range
+-- so are bytes that no block is made of, those that were not raw, and those beside a range
 pub spare_found : (v w new : HeapView) → w ≡ found v → KeepsSpareBytes w new → KeepsSpareBytes v new
 unfolding KeepsSpareBytes
 spare_found v w new is keeps = subst (λ (x : HeapView). KeepsSpareBytes x new) is keeps
+
+pub raw_found : (v w new : HeapView) → w ≡ found v → NoneBecomesRaw w new → NoneBecomesRaw v new
+unfolding NoneBecomesRaw
+raw_found v w new is none = subst (λ (x : HeapView). NoneBecomesRaw x new) is none
 
 pub beside_found : (v w new : HeapView) → w ≡ found v → (r : Range) → KeepsBytesBeside w new r → KeepsBytesBeside v new r
 unfolding KeepsBytesBeside

@@ -7,7 +7,7 @@ ghost use Rattle.rlsf_model.specs.Callers.{align_at};
 ghost use Rattle.rlsf_model.specs.Release.{Deallocates};
 ghost use Rattle.rlsf_model.specs.Sized.{IsSizedFor, live_count};
 ghost use Rattle.rlsf_heap.specs.Heap.{IsOwners, IsTicketOf, IsWritten};
-ghost use Rattle.rlsf_heap.specs.Kept.{KeepsSpareBytes};
+ghost use Rattle.rlsf_heap.specs.Kept.{KeepsSpareBytes, NoneBecomesRaw};
 ghost use Rattle.rlsf_heap.specs.Settled.{IsSettled};
 
 use crate::heap::Heap;
@@ -28,8 +28,8 @@ impl<FLBitmap: BitPattern, SLBitmap: BitPattern, const FLLEN: usize, const SLLEN
     /// Deallocates a payload, as `deallocate` does. Its block becomes free, and is joined with the free block before it and the free block
     /// behind it, if they exist. The joined block is the newest free block.
     ///
-    /// No byte becomes raw: if no byte of the memory was raw, none is (`settled`). The allocator's words overwrite some of
-    /// the payload's bytes. After `deallocate`, the others are raw.
+    /// No byte becomes raw (`raw`): if no byte of the memory was raw, none is (`settled`). The allocator's words overwrite some
+    /// of the payload's bytes. After `deallocate`, the others are raw.
     ///
     /// The payload must be one of this heap, and its bytes must be here.
     pub fn deallocate_written(&mut self, payload: Payload)
@@ -47,6 +47,7 @@ impl<FLBitmap: BitPattern, SLBitmap: BitPattern, const FLLEN: usize, const SLLEN
         ensures settled { IsSettled self.old.memory → IsSettled self.new.memory }
         ensures touches { self.new.memory.touches ≤ self.old.memory.touches + 33 }
         ensures grow { self.old.memory.touches ≤ self.new.memory.touches }
+        ensures raw { NoneBecomesRaw self.old self.new }
         ensures spare { KeepsSpareBytes self.old self.new }
         ensures copied { self.new.memory.copied ≡ self.old.memory.copied }
     {
@@ -73,6 +74,7 @@ impl<FLBitmap: BitPattern, SLBitmap: BitPattern, const FLLEN: usize, const SLLEN
         ensures settled { IsSettled self.old.memory → IsSettled self.new.memory }
         ensures touches { self.new.memory.touches ≤ self.old.memory.touches + 33 }
         ensures grow { self.old.memory.touches ≤ self.new.memory.touches }
+        ensures raw { NoneBecomesRaw self.old self.new }
         ensures spare { KeepsSpareBytes self.old self.new }
         ensures copied { self.new.memory.copied ≡ self.old.memory.copied }
     {

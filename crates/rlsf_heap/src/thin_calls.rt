@@ -143,7 +143,7 @@ impl<FLBitmap: BitPattern, SLBitmap: BitPattern, const FLLEN: usize, const SLLEN
 
     /// Deallocates a payload that is known by its address, as `deallocate_written` does. Its length is found in the memory.
     ///
-    /// No byte becomes raw: if no byte of the memory was raw, none is (`settled`).
+    /// No byte becomes raw (`raw`): if no byte of the memory was raw, none is (`settled`).
     ///
     /// The payload must be the one at `addr`, which isn't 0, and one of this heap, and its bytes must be here.
     pub fn deallocate_thin_written(&mut self, addr: usize, payload: ThinPayload)
@@ -163,6 +163,7 @@ impl<FLBitmap: BitPattern, SLBitmap: BitPattern, const FLLEN: usize, const SLLEN
         ensures settled { IsSettled self.old.memory → IsSettled self.new.memory }
         ensures touches { self.new.memory.touches ≤ self.old.memory.touches + 36 }
         ensures grow { self.old.memory.touches ≤ self.new.memory.touches }
+        ensures raw { NoneBecomesRaw self.old self.new }
         ensures spare { KeepsSpareBytes self.old self.new }
         ensures copied { self.new.memory.copied ≡ self.old.memory.copied }
     {

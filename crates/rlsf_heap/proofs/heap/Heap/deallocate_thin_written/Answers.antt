@@ -4,7 +4,7 @@ use Rattle.rlsf_model.specs.Release.{Deallocates}
 use Rattle.rlsf_model.specs.Sized.{IsSizedFor, live_count}
 use Rattle.rlsf_model.specs.State.{State}
 use Rattle.rlsf_heap.specs.Heap.{HeapView, PayloadView, Steps}
-use Rattle.rlsf_heap.proofs.Found.{owners_found, settled_found, spare_found}
+use Rattle.rlsf_heap.proofs.Found.{owners_found, raw_found, settled_found, spare_found}
 use Rattle.rlsf_heap.proofs.heap.Heap.deallocate_thin_written.Goals as goal
 
 pub returns : goal.returns
@@ -28,6 +28,7 @@ returns g c =
       settled = λ settled. e.settled (settled_found c.args.self.now c.find_part-part.new.self heap settled);
       touches = omega (arith, e.touches, ap (λ (v : HeapView). v.memory.touches) heap);
       grow = omega (arith, e.grow, ap (λ (v : HeapView). v.memory.touches) heap);
+      raw = raw_found c.args.self.now c.find_part-part.new.self c.put_written.new.self heap e.raw;
       spare = spare_found c.args.self.now c.find_part-part.new.self c.put_written.new.self heap e.spare;
       copied = e.copied ∙ ap (λ (v : HeapView). v.memory.copied) heap;
     }

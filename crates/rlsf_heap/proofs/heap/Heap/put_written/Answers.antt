@@ -21,12 +21,12 @@ use Rattle.rlsf_blocks.specs.StandsFor.{contents, StandsFor}
 use Rattle.rlsf_blocks.proofs.RepresentedStates.Counted.{StandsFor-touched}
 use Rattle.rlsf_tlsf.specs.Steps.Moves.{bare}
 use Rattle.rlsf_heap.specs.Heap.{AreIssued, HeapView, Identity, heap_view}
-use Rattle.rlsf_heap.specs.Kept.{KeepsSpareBytes}
+use Rattle.rlsf_heap.specs.Kept.{KeepsSpareBytes, NoneBecomesRaw}
 use Rattle.rlsf_heap.specs.Settled.{IsSettled}
 use Rattle.rlsf_heap.proofs.Arrivals.{IsHeap-arrived, Steps-arrived, kept_without, stepped, view_well_formed}
 use Rattle.rlsf_heap.proofs.Costs.{Leaves, left_costs, left_same, left_then, left_touched, sees_left}
 use Rattle.rlsf_blocks.proofs.Words.Stays.{Stays, Stays-same, Stays-then}
-use Rattle.rlsf_heap.proofs.Kept.{spare-first, spare-seen, spare-then}
+use Rattle.rlsf_heap.proofs.Kept.{none_raw-seen, raw-stays, raw-with, spare-first, spare-seen, spare-then}
 use Rattle.rlsf_heap.proofs.Leaving.{lies-usable}
 use Rattle.rlsf_heap.proofs.PayloadsApart.{shown_live}
 use Rattle.rlsf_heap.proofs.Reallocating.{IsBackIn, block as filled_block, came, held as held_of, held_before, here, issued_gone, long_in, old_block, released_back}
@@ -176,18 +176,34 @@ left g c =
     left_then (left_same e.start e.len e.view e.touches)
     (left_then (left_touched 2 c.load_block_of-block.ensures.memory) (left_costs c.deallocate_block.ensures.costs))
 
-stays_settled : (g : given.Over) (c : After-deallocate g) → IsSettled c.args.self.now.memory → IsSettled c.deallocate_block.new.memory
-stays_settled g c settled =
-    let d = first g c in
-    let b = back_in g d in
+-- what is here once the payload is back stays here
+stays : (g : given.Over) (c : After-deallocate g) → Stays c.put_back.new.self c.deallocate_block.new.memory
+stays g c =
     let touched = c.load_block_of-block.ensures.memory in
-    let first_stays = Stays-same c.put_back.new.self c.load_block_of-block.new.memory (ap (λ (o : Space). o.start) touched) (ap (λ (o : Space). o.out) touched) in
     let last : Stays c.load_block_of-block.new.memory c.deallocate_block.new.memory =
     record { start = c.deallocate_block.ensures.costs.start; own = c.deallocate_block.ensures.own; here = c.deallocate_block.ensures.here } in
-    let low : c.put_back.new.self.start ≤ c.args.part.start = omega (arith, (lies-usable (stands b) (filled_block b) (held_of b).0).0, (held_of b).1) in
-    settled-stays (Stays-then first_stays last)
-    (settled-back c.self.inside.memory c.put_back.new.self (piece_range c.args.part) c.put_back.ensures.start (omega (arith, low, c.put_back.ensures.start))
-    c.put_back.ensures.out (settled-inside c.self.inside.state.state c.args.self.now c.self.view_is settled))
+    Stays-then (Stays-same c.put_back.new.self c.load_block_of-block.new.memory (ap (λ (o : Space). o.start) touched) (ap (λ (o : Space). o.out) touched)) last
+
+low : (g : given.Over) (c : After-deallocate g) → c.self.inside.memory.start ≤ c.args.part.start
+low g c =
+    let b = back_in g (first g c) in
+    omega (arith, (lies-usable (stands b) (filled_block b) (held_of b).0).0, (held_of b).1, c.put_back.ensures.start)
+
+stays_settled : (g : given.Over) (c : After-deallocate g) → IsSettled c.args.self.now.memory → IsSettled c.deallocate_block.new.memory
+stays_settled g c settled =
+    settled-stays (stays g c)
+    (settled-back c.self.inside.memory c.put_back.new.self (piece_range c.args.part) c.put_back.ensures.start (low g c) c.put_back.ensures.out
+    (settled-inside c.self.inside.state.state c.args.self.now c.self.view_is settled))
+
+-- so no byte becomes raw
+none_raw : (g : given.Over) (c : After-deallocate g) → NoneBecomesRaw c.args.self.now
+    (heap_view c.deallocate_block.new.memory c.deallocate_block.new.table c.deallocate.new.self.state c.redeem.new.self.name)
+none_raw g c =
+    let m = c.self.inside.memory in
+    let e = c.put_back.ensures in
+    none_raw-seen m c.deallocate_block.new.memory c.self.inside.state.state c.deallocate.new.self.state c.args.self.now c.self.view_is c.deallocate_block.new.table
+    c.redeem.new.self.name
+    (λ a from is. raw-with m c.put_back.new.self (piece_range c.args.part) e.start (low g c) e.out a from (raw-stays (stays g c) a (omega (arith, from, e.start)) is))
 
 -- bytes that no block is made of are as they were
 spare : (g : given.Over) (c : After-deallocate g) → KeepsSpareBytes c.args.self.now
@@ -225,6 +241,7 @@ returns g c =
       settled = stays_settled g c;
       touches = o.touches;
       grow = o.grow;
+      raw = none_raw g c;
       spare = spare g c;
       copied = omega (
         arith,
