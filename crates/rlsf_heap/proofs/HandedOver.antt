@@ -26,13 +26,13 @@ use Rattle.rlsf_tlsf.specs.Steps.Moves.{bare, reallocated}
 use Rattle.rlsf_tlsf.proofs.Arrivals.{arrived}
 use Rattle.rlsf_heap.specs.Handover.{IsHandedOver, IsTakenBack}
 use Rattle.rlsf_heap.specs.Heap.{HeapView, IsHeap, IsTicketOf, PayloadView, Steps, heap_view, payload_range, payload_view}
-use Rattle.rlsf_heap.specs.Kept.{KeepsBytesBeside, KeepsSpareBytes}
+use Rattle.rlsf_heap.specs.Kept.{KeepsBytesBeside, KeepsSpareBytes, NoneBecomesRaw}
 use Rattle.rlsf_heap.specs.Raw.{bytes_of}
 use Rattle.rlsf_heap.specs.Reallocation.{owned_by}
 use Rattle.rlsf_heap.specs.Replies.{IsReallocated, IsReallocatedHere, IsReturned}
 use Rattle.rlsf_heap.specs.Settled.{IsSettled}
 use Rattle.rlsf_heap.proofs.Arrivals.{IsHeap-arrived, Steps-arrived, bare-kept}
-use Rattle.rlsf_heap.proofs.Kept.{beside-seen, same-byte, spare-last, spare-seen, spare-then}
+use Rattle.rlsf_heap.proofs.Kept.{beside-seen, none_raw-seen, raw-left, raw-stays, raw-with, same-byte, spare-last, spare-seen, spare-then}
 use Rattle.rlsf_heap.proofs.Leaving.{lies-usable, stands-without}
 use Rattle.rlsf_heap.proofs.PayloadsApart.{redeemed_ticket}
 use Rattle.rlsf_heap.proofs.Reallocated.{Keeps-each}
@@ -135,6 +135,14 @@ module _ {fl_bits sl_bits fllen sllen : ℕ} {m n : Space} {x : Table} {k : Stat
       pub Steps-unchanged : (label : ℕ) (step : State → Type 0) → step (state back_in) → Steps fllen sllen (heap_view q y k label) step
       Steps-unchanged label step did = Steps-arrived standing k kept label step (subst step (sym unchanged_state) did)
 
+      -- no byte becomes raw
+      pub raw_unchanged : (label : ℕ) → NoneBecomesRaw old (heap_view q y k label)
+      raw_unchanged label =
+          none_raw-seen m q k k old view y label
+          (λ a from is. raw-with m n (payload_range pay) taken.start (omega (arith, low, taken.start)) taken.out a from
+          (raw-stays stays a (omega (arith, from, taken.start))
+          (raw-left o q (range_at addr len) over.start (omega (arith, low, at, stays.start)) over.out a (omega (arith, from, taken.start, stays.start)) is)))
+
       -- no byte that no block is made of has changed, and none beside the payload
       module _ (same_bytes : o.bytes ≡ n.bytes) (label : ℕ) where
         pub spare_unchanged : KeepsSpareBytes old (heap_view q y k label)
@@ -233,6 +241,14 @@ module _ {fl_bits sl_bits fllen sllen : ℕ} {m n : Space} {x : Table} {k : Stat
               spare-seen m q s t (spare-last m l q s t (over.start ∙ ap (λ (z : Space). z.start) touched) (over.bytes ∙ ap (λ (z : Space). z.bytes) touched)
               (spare-then m n l s t taken.start (long_in back_in) (state back_in) refl (spare_in back_in) keeps))
               k after refl (sym (ap (λ (z : State). z.chunks) resized_kept)) old view y label
+
+          -- no byte becomes raw
+          pub raw_resized : (label : ℕ) → NoneBecomesRaw old (heap_view q y after label)
+          raw_resized label =
+              none_raw-seen m q k after old view y label
+              (λ a from is. raw-with m n (payload_range pay) taken.start (omega (arith, low, taken.start)) taken.out a from
+              (raw-stays stays_read a (omega (arith, from, taken.start))
+              (raw-left o q r over.start resized_lies.0 over.out a (omega (arith, from, taken.start, stays_read.start)) is)))
 
           -- a reallocation without a move is one as contracts see it
           pub stayed_resized : ReallocatesWithoutMove (state back_in) u.payload size (Some to) t

@@ -131,6 +131,11 @@ pub none_raw-none : (v : HeapView) → NoneBecomesRaw v v
 unfolding NoneBecomesRaw
 none_raw-none v a from is = is
 
+-- by two calls
+pub none_raw-both : (u v w : HeapView) → v.memory.start ≡ u.memory.start → NoneBecomesRaw u v → NoneBecomesRaw v w → NoneBecomesRaw u w
+unfolding NoneBecomesRaw
+none_raw-both u v w start first second a from is = first a from (second a (omega (arith, from, start)) is)
+
 pub raw-seen : (m n : Space) {x : Table} {ledger : ℕ} (j k : State) (old : HeapView) → heap_view m x j ledger ≡ old → (y : Table) (name : ℕ) (r : Range)
     → ((a : ℕ) → m.start ≤ a → IsBeside r a → out_at n a ≡ raw → out_at m a ≡ raw) → NoneBecomesRawBeside old (heap_view n y k name) r
 unfolding NoneBecomesRawBeside

@@ -6,7 +6,7 @@ ghost use Rattle.rlsf_model.specs.NoMove.{ReallocatesWithoutMove};
 ghost use Rattle.rlsf_model.specs.Reallocate.{Reallocates};
 ghost use Rattle.rlsf_model.specs.Sized.{live_count};
 ghost use Rattle.rlsf_heap.specs.Heap.{IsWritten, payload_range};
-ghost use Rattle.rlsf_heap.specs.Kept.{KeepsBytesBeside, KeepsSpareBytes};
+ghost use Rattle.rlsf_heap.specs.Kept.{KeepsBytesBeside, KeepsSpareBytes, NoneBecomesRaw};
 ghost use Rattle.rlsf_heap.specs.Reallocation.{IsKeptHere, moved_to, owned_by};
 ghost use Rattle.rlsf_heap.specs.Replies.{CopiesToMove, IsReallocated, IsReturned, KeepsHeap, LeavesOthers, WithinBounds};
 ghost use Rattle.rlsf_heap.specs.Settled.{IsSettled};
@@ -54,6 +54,7 @@ impl<FLBitmap: BitPattern, SLBitmap: BitPattern, const FLLEN: usize, const SLLEN
         ensures others { IfOk result (λ p. LeavesOthers self.old.state self.new.state payload.start p.start) }
         ensures refused { IfErr result (λ p. IsReturned self.old.state self.new.state payload.start payload p) }
         ensures unchanged { IfErr result (λ p. KeepsBytesBeside self.old self.new (payload_range payload)) }
+        ensures raw { NoneBecomesRaw self.old self.new }
         ensures spare { KeepsSpareBytes self.old self.new }
         ensures heap { KeepsHeap SLLEN size payload.align self.old self.new }
         ensures count { live_count self.new.state ≡ live_count self.old.state }
@@ -114,6 +115,7 @@ impl<FLBitmap: BitPattern, SLBitmap: BitPattern, const FLLEN: usize, const SLLEN
         ensures aligns { align_at self.new.state ≡ align_at self.old.state }
         ensures refused { IfErr result (λ p. IsReturned self.old.state self.new.state payload.start payload p) }
         ensures unchanged { IfErr result (λ p. KeepsBytesBeside self.old self.new (payload_range payload)) }
+        ensures raw { NoneBecomesRaw self.old self.new }
         ensures spare { KeepsSpareBytes self.old self.new }
         ensures heap { KeepsHeap SLLEN size payload.align self.old self.new }
         ensures count { live_count self.new.state ≡ live_count self.old.state }

@@ -6,7 +6,7 @@ ghost use Rattle.rlsf_model.specs.NoMove.{ReallocatesWithoutMove};
 ghost use Rattle.rlsf_model.specs.Reallocate.{Keeps, Reallocates};
 ghost use Rattle.rlsf_model.specs.Sized.{live_count};
 ghost use Rattle.rlsf_heap.specs.Heap.{IsWritten, payload_range};
-ghost use Rattle.rlsf_heap.specs.Kept.{KeepsBytesBeside, KeepsSpareBytes};
+ghost use Rattle.rlsf_heap.specs.Kept.{KeepsBytesBeside, KeepsSpareBytes, NoneBecomesRaw};
 ghost use Rattle.rlsf_heap.specs.Reallocation.{owned_by};
 ghost use Rattle.rlsf_heap.specs.Replies.{CopiesToMove, IsReallocated, IsReallocatedHere, IsReturned, KeepsHeap, LeavesOthers, WithinBounds};
 ghost use Rattle.rlsf_heap.specs.Settled.{IsSettled};
@@ -69,6 +69,7 @@ impl<FLBitmap: BitPattern, SLBitmap: BitPattern, const FLLEN: usize, const SLLEN
         ensures others { IfOk result (λ p. LeavesOthers self.old.state self.new.state addr p.of.start) }
         ensures refused { IfErr result (λ p. IsReturned self.old.state self.new.state addr payload.of p.of) }
         ensures unchanged { IfErr result (λ p. KeepsBytesBeside self.old self.new (payload_range payload.of)) }
+        ensures raw { NoneBecomesRaw self.old self.new }
         ensures spare { KeepsSpareBytes self.old self.new }
         ensures heap { KeepsHeap SLLEN size align self.old self.new }
         ensures count { live_count self.new.state ≡ live_count self.old.state }
@@ -109,6 +110,7 @@ impl<FLBitmap: BitPattern, SLBitmap: BitPattern, const FLLEN: usize, const SLLEN
         ensures aligns { align_at self.new.state ≡ align_at self.old.state }
         ensures refused { IfErr result (λ p. IsReturned self.old.state self.new.state addr payload.of p.of) }
         ensures unchanged { IfErr result (λ p. KeepsBytesBeside self.old self.new (payload_range payload.of)) }
+        ensures raw { NoneBecomesRaw self.old self.new }
         ensures spare { KeepsSpareBytes self.old self.new }
         ensures heap { KeepsHeap SLLEN size align self.old self.new }
         ensures count { live_count self.new.state ≡ live_count self.old.state }
@@ -148,6 +150,7 @@ impl<FLBitmap: BitPattern, SLBitmap: BitPattern, const FLLEN: usize, const SLLEN
         ensures gone { IfOk result (λ p. (p.of.start ≢ addr) × (align_at self.new.state addr ≡ None)) }
         ensures others { IfOk result (λ p. LeavesOthers self.old.state self.new.state addr p.of.start) }
         ensures refused { IfErr result (λ p. (p.of ≡ payload.of) × (self.new.state ≡ self.old.state) × (self.new.memory.bytes ≡ self.old.memory.bytes)) }
+        ensures raw { NoneBecomesRaw self.old self.new }
         ensures spare { KeepsSpareBytes self.old self.new }
         ensures heap { KeepsHeap SLLEN layout.size layout.align self.old self.new }
         ensures count { live_count self.new.state ≡ live_count self.old.state }

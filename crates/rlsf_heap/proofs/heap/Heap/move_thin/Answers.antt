@@ -4,8 +4,8 @@ use Rattle.rlsf_model.specs.Callers.{align_at, bytes_at}
 use Rattle.rlsf_model.specs.Reallocate.{Keeps}
 use Rattle.rlsf_model.specs.Sized.{IsSizedFor, live_count}
 use Rattle.rlsf_heap.specs.Heap.{HeapView, IsWritten, PayloadView, Steps, payload_view}
-use Rattle.rlsf_heap.proofs.Found.{kept_found, settled_found, spare_found}
-use Rattle.rlsf_heap.proofs.Kept.{spare-both}
+use Rattle.rlsf_heap.proofs.Found.{kept_found, raw_found, settled_found, spare_found}
+use Rattle.rlsf_heap.proofs.Kept.{none_raw-both, spare-both}
 use Rattle.rlsf_heap.proofs.MovedThin.{move_step, new_is_other, others_stay}
 use Rattle.rlsf_heap.proofs.Reallocated.{Keeps-each}
 use Rattle.rlsf_heap.proofs.ThinPayloads.{some_address}
@@ -73,6 +73,7 @@ returns-in_default g c =
       written = tt;
       gone = tt;
       others = tt;
+      raw = raw_found c.args.self.now c.find_part-part.new.self c.allocate.new.self heap e.raw;
       spare = spare_found c.args.self.now c.find_part-part.new.self c.allocate.new.self heap e.spare;
       refused = (of_is, e.same ∙ state, e.refused ∙ ap (λ (v : HeapView). v.memory.bytes) heap);
       heap = kept_found g.row.SLLEN c.args.layout.size c.args.layout.align c.args.self.now c.find_part-part.new.self c.allocate.new.self heap e.heap;
@@ -130,6 +131,8 @@ returns g c =
         aligns = λ n apart new. p.aligns n (λ e. apart (e ∙ from g c)) ∙ a.aligns n (λ e. new (e ∙ sym is)) ∙ ap (λ (v : HeapView). align_at v.state n) heap;
       };
       refused = tt;
+      raw = raw_found c.args.self.now c.find_part-part.new.self c.put_written.new.self heap
+          (none_raw-both c.find_part-part.new.self c.allocate.new.self c.put_written.new.self a.heap.place.0 a.raw p.raw);
       spare = spare_found c.args.self.now c.find_part-part.new.self c.put_written.new.self heap
           (spare-both c.find_part-part.new.self c.allocate.new.self c.put_written.new.self a.heap.place a.heap.chunks a.spare p.spare);
       heap = kept_found g.row.SLLEN c.args.layout.size c.args.layout.align c.args.self.now c.find_part-part.new.self c.put_written.new.self heap (record {

@@ -15,15 +15,15 @@ use Rattle.rlsf_blocks.specs.Spare.{KeepsSpare}
 use Rattle.rlsf_blocks.specs.StandsFor.{contents, StandsFor}
 use Rattle.rlsf_blocks.proofs.Words.Stays.{Stays, Stays-same, Stays-then}
 use Rattle.rlsf_heap.specs.Heap.{HeapView, Identity, Steps, heap_view, payload_range}
-use Rattle.rlsf_heap.specs.Kept.{KeepsSpareBytes}
+use Rattle.rlsf_heap.specs.Kept.{KeepsSpareBytes, NoneBecomesRaw}
 use Rattle.rlsf_heap.specs.Raw.{bytes_of}
 use Rattle.rlsf_heap.specs.Reallocation.{owned_by}
 use Rattle.rlsf_heap.proofs.Arrivals.{Steps-arrived, bare-kept}
 use Rattle.rlsf_heap.proofs.Costs.{Leaves, is_of_heap, kept_same, left_counts, left_over, left_taken, left_then, left_touched, returned_same, sees_left}
 use Rattle.rlsf_heap.proofs.Found.{live_somewhere}
 use Rattle.rlsf_heap.proofs.HandedOver.{IsHeap-resized, IsHeap-unchanged, SeesNewSize, SeesUnchanged, Steps-resized, Steps-unchanged, back_in, found, is_view, key}
-use Rattle.rlsf_heap.proofs.HandedOver.{beside_unchanged, resized_lies, resized_live, resized_own, sees_new_size, sees_unchanged, spare_resized, spare_unchanged}
-use Rattle.rlsf_heap.proofs.Kept.{beside-none, spare-first, spare-none}
+use Rattle.rlsf_heap.proofs.HandedOver.{beside_unchanged, raw_resized, raw_unchanged, resized_lies, resized_live, resized_own, sees_new_size, sees_unchanged, spare_resized, spare_unchanged}
+use Rattle.rlsf_heap.proofs.Kept.{beside-none, none_raw-none, spare-first, spare-none}
 use Rattle.rlsf_heap.proofs.Leaving.{lies-usable}
 use Rattle.rlsf_heap.proofs.Reallocated.{never_refused_reallocation}
 use Rattle.rlsf_heap.proofs.Reallocating.{IsBackIn, asked, block, held, here_still, long, reallocates, refused_same, stands, state, usable_is}
@@ -195,6 +195,9 @@ returns-in_default-moved g c =
       unchanged =
           beside_unchanged c.self.invariant c.args.payload c.take_back.ensures.back c.args.self.now c.self.view_is (refusing g d).1 (refused_stays g d) c.addr-addr.ensures
           c.len-len.ensures c.align-align.ensures e.over (refused_bytes g d) c.hand_over-payload.new.ledger.name;
+      raw =
+          raw_unchanged c.self.invariant c.args.payload c.take_back.ensures.back c.args.self.now c.self.view_is (refusing g d).1 (refused_stays g d) c.addr-addr.ensures
+          c.len-len.ensures c.align-align.ensures e.over c.hand_over-payload.new.ledger.name;
       spare =
           spare_unchanged c.self.invariant c.args.payload c.take_back.ensures.back c.args.self.now c.self.view_is (refusing g d).1 (refused_stays g d) c.addr-addr.ensures
           c.len-len.ensures c.align-align.ensures e.over (refused_bytes g d) c.hand_over-payload.new.ledger.name;
@@ -345,6 +348,16 @@ moved_spare g c =
     c.load_usable_bytes-range.ensures.range c.load_usable_bytes-range.ensures.memory c.align-align.ensures c.hand_over-payload-2.ensures.over c.addr-addr.ensures
     c.reallocate.ensures (moving_spare g d) c.hand_over-payload-2.new.ledger.name
 
+-- and no byte becomes raw
+moved_raw : (g : given.Over) (c : After-hand_over-payload-2 g) → NoneBecomesRaw c.args.self.now
+    (heap_view c.hand_over-payload-2.new.memory c.reallocate_block-moved.new.table c.reallocate.new.self.state c.hand_over-payload-2.new.ledger.name)
+moved_raw g c =
+    let d = moved g c in
+    let w = moving g d in
+    raw_resized c.self.invariant c.args.payload c.take_back.ensures.back c.args.self.now c.self.view_is w.2 w.1 refl (moved_stays g d)
+    c.load_usable_bytes-range.ensures.range c.load_usable_bytes-range.ensures.memory c.align-align.ensures c.hand_over-payload-2.ensures.over c.addr-addr.ensures
+    c.reallocate.ensures c.hand_over-payload-2.new.ledger.name
+
 -- the memory before its bytes leave
 moved_left : (g : given.Over) (c : After-hand_over-payload-2 g) → Leaves c.self.inside.memory c.load_usable_bytes-range.new.memory 69
 moved_left g c =
@@ -382,6 +395,7 @@ returns g c =
       };
       refused = tt;
       unchanged = tt;
+      raw = moved_raw g c;
       spare = moved_spare g c;
       heap = record { identity = o.identity; place = o.place; settled = s.settled; bounds = v.bounds; chunks = v.chunks; grow = o.grow };
       count = v.count;
@@ -411,6 +425,7 @@ returns-in_default g c =
       others = tt;
       refused = returned_same c.args.self.now c.args.payload c.requires.written;
       unchanged = beside-none c.args.self.now (payload_range c.args.payload);
+      raw = none_raw-none c.args.self.now;
       spare = spare-none c.args.self.now;
       heap = kept_same g.row.SLLEN c.args.size c.args.payload.align c.args.self.now;
       count = refl;

@@ -16,15 +16,15 @@ use Rattle.rlsf_blocks.specs.StandsFor.{contents, StandsFor}
 use Rattle.rlsf_blocks.proofs.Words.Stays.{Stays, Stays-same, Stays-then}
 use Rattle.rlsf_reallocate.proofs.Reallocate.FirstPlan.{StandsFor-unchanged}
 use Rattle.rlsf_heap.specs.Heap.{HeapView, Identity, Steps, heap_view, payload_range}
-use Rattle.rlsf_heap.specs.Kept.{KeepsSpareBytes}
+use Rattle.rlsf_heap.specs.Kept.{KeepsSpareBytes, NoneBecomesRaw}
 use Rattle.rlsf_heap.specs.Raw.{bytes_of}
 use Rattle.rlsf_heap.specs.Reallocation.{owned_by}
 use Rattle.rlsf_heap.proofs.Arrivals.{Steps-arrived, bare-kept}
 use Rattle.rlsf_heap.proofs.Costs.{Leaves, is_of_heap, kept_same, left_costs, left_counts, left_over, left_taken, left_then, left_touched, returned_same, sees_left}
 use Rattle.rlsf_heap.proofs.HandedOver.{IsHeap-resized, IsHeap-unchanged, SeesNewSize, SeesUnchanged, Steps-resized, Steps-unchanged, back_in, found, is_view, key}
-use Rattle.rlsf_heap.proofs.HandedOver.{beside_unchanged, resized_lies, resized_live, resized_own, sees_new_size, sees_unchanged, spare_resized, spare_unchanged}
+use Rattle.rlsf_heap.proofs.HandedOver.{beside_unchanged, raw_resized, raw_unchanged, resized_lies, resized_live, resized_own, sees_new_size, sees_unchanged, spare_resized, spare_unchanged}
 use Rattle.rlsf_heap.proofs.HandedOver.{stayed_resized}
-use Rattle.rlsf_heap.proofs.Kept.{beside-none, spare-first, spare-none}
+use Rattle.rlsf_heap.proofs.Kept.{beside-none, none_raw-none, spare-first, spare-none}
 use Rattle.rlsf_heap.proofs.Leaving.{lies-usable}
 use Rattle.rlsf_heap.proofs.Reallocated.{aligns_stay}
 use Rattle.rlsf_heap.proofs.Reallocating.{IsBackIn, asked, block, held, here_still, stands, state, unmoved, unmoved_moves, unmoved_refused, usable_is}
@@ -170,6 +170,9 @@ returns-then-not-resize_block g c =
       unchanged =
           beside_unchanged c.self.invariant c.args.payload c.take_back.ensures.back c.args.self.now c.self.view_is (same_stands g d c.if-not-resize_block.true)
           (across g d) c.addr-addr.ensures c.len-len.ensures c.align-align.ensures e.over (same_bytes g d c.if-not-resize_block.true) c.hand_over-payload.new.ledger.name;
+      raw =
+          raw_unchanged c.self.invariant c.args.payload c.take_back.ensures.back c.args.self.now c.self.view_is (same_stands g d c.if-not-resize_block.true)
+          (across g d) c.addr-addr.ensures c.len-len.ensures c.align-align.ensures e.over c.hand_over-payload.new.ledger.name;
       spare =
           spare_unchanged c.self.invariant c.args.payload c.take_back.ensures.back c.args.self.now c.self.view_is (same_stands g d c.if-not-resize_block.true)
           (across g d) c.addr-addr.ensures c.len-len.ensures c.align-align.ensures e.over (same_bytes g d c.if-not-resize_block.true) c.hand_over-payload.new.ledger.name;
@@ -286,6 +289,16 @@ stayed_spare g c =
     c.load_usable_bytes-range.ensures.range c.load_usable_bytes-range.ensures.memory c.align-align.ensures c.hand_over-payload-2.ensures.over c.addr-addr.ensures
     c.reallocate.ensures (moving_spare g d c.if-not-resize_block.false) c.hand_over-payload-2.new.ledger.name
 
+-- and no byte becomes raw
+stayed_raw : (g : given.Over) (c : After-hand_over-payload-2 g) → NoneBecomesRaw c.args.self.now
+    (heap_view c.hand_over-payload-2.new.memory c.resize_block.new.table c.reallocate.new.self.state c.hand_over-payload-2.new.ledger.name)
+stayed_raw g c =
+    let d = done g c in
+    let w = moving g d c.if-not-resize_block.false in
+    raw_resized c.self.invariant c.args.payload c.take_back.ensures.back c.args.self.now c.self.view_is w.2 (unmoved_moves (back g d) w.1) (loads g d) (across g d)
+    c.load_usable_bytes-range.ensures.range c.load_usable_bytes-range.ensures.memory c.align-align.ensures c.hand_over-payload-2.ensures.over c.addr-addr.ensures
+    c.reallocate.ensures c.hand_over-payload-2.new.ledger.name
+
 pub returns : goal.returns
 returns g c =
     let e = c.hand_over-payload-2.ensures in
@@ -311,6 +324,7 @@ returns g c =
           (live_view c.self.inside.state.state (back g (done g c)) c.args.self.now c.self.view_is c.args.payload (is_view c.args.payload));
       refused = tt;
       unchanged = tt;
+      raw = stayed_raw g c;
       spare = stayed_spare g c;
       heap = record { identity = o.identity; place = o.place; settled = s.settled; bounds = v.bounds; chunks = v.chunks; grow = o.grow };
       count = v.count;
@@ -340,6 +354,7 @@ returns-in_default g c =
       aligns = refl;
       refused = returned_same c.args.self.now c.args.payload c.requires.written;
       unchanged = beside-none c.args.self.now (payload_range c.args.payload);
+      raw = none_raw-none c.args.self.now;
       spare = spare-none c.args.self.now;
       heap = kept_same g.row.SLLEN c.args.size c.args.payload.align c.args.self.now;
       count = refl;

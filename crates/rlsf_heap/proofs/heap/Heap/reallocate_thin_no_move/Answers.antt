@@ -6,7 +6,7 @@ use Rattle.rlsf_model.specs.Sized.{live_count}
 use Rattle.rlsf_heap.specs.Heap.{HeapView, PayloadView, payload_range}
 use Rattle.rlsf_heap.specs.Kept.{KeepsBytesBeside}
 use Rattle.rlsf_heap.specs.Replies.{IsReallocated, IsReturned}
-use Rattle.rlsf_heap.proofs.Found.{IsFound, as_found, beside_found, found, heap_found, here_found, spare_found, step_found, thin_found}
+use Rattle.rlsf_heap.proofs.Found.{IsFound, as_found, beside_found, found, heap_found, here_found, raw_found, spare_found, step_found, thin_found}
 use Rattle.rlsf_heap.proofs.heap.Heap.reallocate_thin_no_move.Goals as goal
 
 pub into_thin-requires : goal.into_thin-requires
@@ -36,6 +36,7 @@ returns-in-Ok g c =
       aligns = e.aligns ∙ ap (λ (v : HeapView). align_at v.state) f.heap;
       refused = tt;
       unchanged = tt;
+      raw = raw_found c.args.self.now c.find_payload-payload.new.self new f.heap e.raw;
       spare = spare_found c.args.self.now c.find_payload-payload.new.self new f.heap e.spare;
       heap = heap_found f g.row.SLLEN c.args.size new e.heap;
       count = e.count ∙ ap (λ (v : HeapView). live_count v.state) f.heap;
@@ -63,6 +64,7 @@ returns-in-Err g c =
       unchanged =
           beside_found c.args.self.now (found c.args.self.now) new refl (payload_range c.args.payload.of)
           (as_now (λ v from addr align to. KeepsBytesBeside v new (payload_range from)) e.unchanged);
+      raw = raw_found c.args.self.now c.find_payload-payload.new.self new f.heap e.raw;
       spare = spare_found c.args.self.now c.find_payload-payload.new.self new f.heap e.spare;
       heap = heap_found f g.row.SLLEN c.args.size new e.heap;
       count = e.count ∙ ap (λ (v : HeapView). live_count v.state) f.heap;
