@@ -3,11 +3,11 @@ use Rattle.std.proofs.Common.{◌≡◌, ℕ, ◌+◌, ◌++◌, ◌∷◌, [], 
 use Rattle.rlsf_base.specs.Ledger.{Entry, IsIssued, entry_of, extent}
 use Rattle.rlsf_base.specs.declared.memory.ledger.Ticket.{Ticket}
 use Rattle.rlsf_base.specs.declared.memory.range.Range.{Range}
-use Rattle.rlsf_base.specs.Out.{here as is_here, kept_at}
+use Rattle.rlsf_base.specs.Out.{here as is_here, kept_at, raw}
 use Rattle.rlsf_base.specs.OpenSpace.{Home, IsBeside, IsHere, IsOwned, home_of, out_with, out_without}
 use Rattle.rlsf_base.specs.Piece.{HasStatesOf, Piece, piece_range}
 use Rattle.rlsf_base.specs.Range.{LiesIn}
-use Rattle.rlsf_base.specs.Space.{Space, byte_at, bytes_in, with_bytes}
+use Rattle.rlsf_base.specs.Space.{Space, byte_at, bytes_in, out_at, with_bytes}
 use Rattle.rlsf_base.proofs.Lending.Present.{own-here}
 use Rattle.rlsf_model.specs.Callers.{bytes_at}
 use Rattle.rlsf_model.specs.NoMove.{ReallocatesWithoutMove, unmoved_plan}
@@ -33,7 +33,7 @@ use Rattle.rlsf_heap.specs.Heap.{HeapView, Identity, IsHeap, IsTicketOf, Payload
 use Rattle.rlsf_heap.specs.Raw.{bytes_of}
 use Rattle.rlsf_heap.specs.Settled.{IsSettled}
 use Rattle.rlsf_heap.specs.ThinUnknownAlign.{renewed_entries}
-use Rattle.rlsf_heap.proofs.Kept.{same-byte, spare-last, spare-then}
+use Rattle.rlsf_heap.proofs.Kept.{raw-left, raw-stays, raw-with, same-byte, spare-last, spare-then}
 use Rattle.rlsf_heap.proofs.Leaving.{lies-usable, stands-without}
 use Rattle.rlsf_heap.proofs.Reallocating.{IsBackIn, beside_in, block, bytes_are, held, here, here_still, long, long_in, spare_in, stands, state, unmoved, unmoved_moves}
 use Rattle.rlsf_heap.proofs.Reallocating.{usable_is}
@@ -138,6 +138,15 @@ pub unplanned-short : {fllen sllen : ℕ} {m n : Space} {x : Table} {s : State} 
     (size : ℕ) → unmoved_plan (state b) (block b) size ≡ None → length p.bytes < size
 unplanned-short b size none =
     let short = usable-short (stands b).well_formed (block b) (held b).0 size (in_place-none (state b) (block b) size none) in omega (arith, short, long b)
+
+-- what came back stays here, and bytes leave again: no byte becomes raw
+pub back_raw : {fllen sllen : ℕ} {m n o : Space} {x : Table} {s : State} {es : List Entry} {key align : ℕ} {p : Piece} (b : IsBackIn fllen sllen m n x s es key p align)
+    → Stays n o → (l : Space) (range : Range) → l.start ≡ o.start → o.start ≤ range.start → l.out ≡ out_without o range
+    → (a : ℕ) → m.start ≤ a → out_at l a ≡ raw → out_at m a ≡ raw
+back_raw {m = m} {n = n} {o = o} {p = p} b across l range start inside gone a from is =
+    let low : m.start ≤ p.start = omega (arith, (lies-usable (stands b) (block b) (held b).0).0, (held b).1, b.start) in
+    raw-with m n (piece_range p) b.start low b.out a from
+    (raw-stays across a (omega (arith, from, b.start)) (raw-left o l range start inside gone a (omega (arith, from, b.start, across.start)) is))
 
 -- its block is as it was
 module _ {fllen sllen most : ℕ} {m n o : Space} {x y : Table} {s : State} {es : List Entry} {key align : ℕ} {p : Piece}
@@ -273,6 +282,10 @@ module _ {fllen sllen : ℕ} {m n o r : Space} {x y : Table} {s : State} {es : L
         let begins : range.start ≡ (block b).payload = ap (λ (t : Range). t.start) fresh_range ∙ block_in.1 in
         states i (omega (arith, high, long))
         ∙ here_still b refl refl stays_read (range.start + i) (omega (arith, begins, (held b).1)) (omega (arith, begins, (held b).1, low))
+
+    -- no byte becomes raw once it leaves
+    pub fresh_raw : (l : Space) → l.start ≡ r.start → l.out ≡ out_without r range → (a : ℕ) → m.start ≤ a → out_at l a ≡ raw → out_at m a ≡ raw
+    fresh_raw l start out = back_raw b stays_read l range start fresh_lies.0 out
 
     -- where no byte of the memory was raw, all are
     pub fresh_settled : IsSettled n → IsHere r range

@@ -12,7 +12,7 @@ ghost use Rattle.rlsf_table.specs.Counts.{Costs, Counts};
 ghost use Rattle.rlsf_blocks.specs.StandsFor.{contents, StandsFor};
 ghost use Rattle.rlsf_reallocate.specs.Steps.Resize.{IsResized};
 ghost use Rattle.rlsf_heap.specs.Heap.{IsWritten, payload_range};
-ghost use Rattle.rlsf_heap.specs.Kept.{KeepsBytesBeside, KeepsSpareBytes};
+ghost use Rattle.rlsf_heap.specs.Kept.{KeepsBytesBeside, KeepsSpareBytes, NoneBecomesRaw};
 ghost use Rattle.rlsf_heap.specs.Reallocation.{IsKeptHere, owned_by};
 ghost use Rattle.rlsf_heap.specs.Replies.{IsReallocated, WithinBounds};
 ghost use Rattle.rlsf_heap.specs.Settled.{IsSettled};
@@ -121,6 +121,7 @@ impl<FLBitmap: BitPattern, SLBitmap: BitPattern, const FLLEN: usize, const SLLEN
         ensures touches { self.new.memory.touches ≤ self.old.memory.touches + 32 }
         ensures few_touches { IfErr result (λ p. self.new.memory.touches ≤ self.old.memory.touches + 7) }
         ensures grow { self.old.memory.touches ≤ self.new.memory.touches }
+        ensures raw { NoneBecomesRaw self.old self.new }
         ensures spare { KeepsSpareBytes self.old self.new }
         ensures copied { self.new.memory.copied ≡ self.old.memory.copied }
     {
@@ -191,6 +192,7 @@ impl<FLBitmap: BitPattern, SLBitmap: BitPattern, const FLLEN: usize, const SLLEN
         ensures stays { HasRoomToStay self.old.state addr layout.size → MatchResult result (λ p. p.of.start ≡ addr) (λ p. ⊥) }
         ensures touches { self.new.memory.touches ≤ self.old.memory.touches + 73 }
         ensures grow { self.old.memory.touches ≤ self.new.memory.touches }
+        ensures raw { NoneBecomesRaw self.old self.new }
         ensures spare { KeepsSpareBytes self.old self.new }
         ensures copied { self.new.memory.copied ≡ self.old.memory.copied }
     {

@@ -5,7 +5,7 @@ use Rattle.rlsf_heap.specs.Heap.{IsWritten, PayloadView, payload_range}
 use Rattle.rlsf_heap.specs.Reallocation.{owned_by}
 use Rattle.rlsf_heap.specs.Replies.{IsReallocated}
 use Rattle.rlsf_heap.specs.ThinReplies.{IsThinOf, thin_moved_to}
-use Rattle.rlsf_heap.proofs.Kept.{beside-last, spare-both}
+use Rattle.rlsf_heap.proofs.Kept.{beside-last, none_raw-both, spare-both}
 use Rattle.rlsf_heap.proofs.UnknownAlign.{if_err, if_ok, match_of, ok_of, reallocated_ok, step_moves, step_stays}
 use Rattle.rlsf_heap.proofs.heap.Heap.reallocate_thin_unknown_align.Goals as goal
 
@@ -41,6 +41,7 @@ returns-in-Ok g c =
       same = tt;
       same_aligns = tt;
       unchanged = tt;
+      raw = e.raw;
       spare = e.spare;
       enough = λ long. e.there;
       stays = λ room. e.there;
@@ -98,6 +99,7 @@ returns-in-Err g c =
       same = if_err r (λ q is. subst (AreAlike old.state) (sym is.1) e.same) f.refused;
       same_aligns = if_err r (λ q is. ap align_at is.1 ∙ e.aligns) f.refused;
       unchanged = if_err r (λ q is. beside-last old mid new (payload_range pay) f.heap.place.0 is.2 e.unchanged) f.refused;
+      raw = none_raw-both old mid new e.place.0 e.raw f.raw;
       spare = spare-both old mid new e.place e.chunks e.spare f.spare;
       enough = λ long. absurd (true≢false (sym (e.enough long)));
       stays = λ room. absurd (true≢false (sym (e.stays room)));

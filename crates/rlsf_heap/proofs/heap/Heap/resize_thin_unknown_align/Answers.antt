@@ -30,7 +30,7 @@ use Rattle.rlsf_heap.specs.Replies.{IsReallocated}
 use Rattle.rlsf_heap.specs.Settled.{IsSettled}
 use Rattle.rlsf_heap.specs.ThinUnknownAlign.{AtEachHeld}
 use Rattle.rlsf_heap.proofs.Arrivals.{IsHeap-arrived, Steps-arrived, bare-kept}
-use Rattle.rlsf_heap.proofs.Kept.{beside-seen, spare-seen}
+use Rattle.rlsf_heap.proofs.Kept.{beside-seen, none_raw-seen, spare-seen}
 use Rattle.rlsf_heap.proofs.Leaving.{lies-usable}
 use Rattle.rlsf_heap.proofs.PutBack.{issued-reread}
 use Rattle.rlsf_heap.proofs.Reallocated.{Keeps-each, aligns_stay}
@@ -39,7 +39,7 @@ use Rattle.rlsf_heap.proofs.Reallocating.{kept_moved, stands, state, unmoved_ref
 use Rattle.rlsf_heap.proofs.ResizedThin.{HasSize, StaysInPlace, after, begins, came_found, fresh, fresh_at, fresh_bytes, fresh_here, fresh_lies, fresh_own, fresh_range}
 use Rattle.rlsf_heap.proofs.ResizedThin.{copied_seen, fresh_start, fresh_without, grow_seen, home-in_place, identity_seen, in_place-costs, in_place-same, in_place-then}
 use Rattle.rlsf_heap.proofs.ResizedThin.{in_place-touched, now_has, payload_of_bytes, place_seen, reached, renewed_at, same_bytes, same_lies, same_without, settled_without}
-use Rattle.rlsf_heap.proofs.ResizedThin.{fresh_settled, fresh_spare, same_beside, same_spare, stayed, stayed_step, ticket_of_bytes, touches_seen, unplanned-short}
+use Rattle.rlsf_heap.proofs.ResizedThin.{back_raw, fresh_raw, fresh_settled, fresh_spare, same_beside, same_spare, stayed, stayed_step, ticket_of_bytes, touches_seen, unplanned-short}
 use Rattle.rlsf_heap.proofs.Settled.{settled-back, settled-left, settled-stays}
 use Rattle.rlsf_heap.proofs.ThinPayloads as P
 use Rattle.rlsf_heap.proofs.ThinPayloads.{IsTicketFor, shown}
@@ -146,16 +146,9 @@ module _ (g : given.Over) (c : After-put_back g) where
 pub resize_found-requires : goal.resize_found-requires
 resize_found-requires g c =
     let d = (goal.at.resize_found-requires g c).After-put_back in
-    let b = back_in g d in (
-      omega arith,
-      (
-        IsValid-widest g.FLBitmap.BitPattern.width_limit c.self.invariant.valid,
-        (
-          (state b, block b, stands b, held_at g d, own_back g d),
-          c.view-view.ensures ∙ sym c.put_back.ensures.view,
-        ),
-      ),
-    )
+    let b = back_in g d in
+    let valid = IsValid-widest g.FLBitmap.BitPattern.width_limit c.self.invariant.valid in
+    (omega arith, (valid, ((state b, block b, stands b, held_at g d, own_back g d), c.view-view.ensures ∙ sym c.put_back.ensures.view)))
 
 -- ---- the reallocation is refused: the bytes leave again
 
@@ -275,6 +268,10 @@ returns-then-not-resize_found g c =
       unchanged =
           beside-seen c.self.inside.memory c.take_out-same.new.self k k old view c.resize_found.new.table c.checked-payload.new.ledger.name (payload_range pay)
           (same_beside b (unchanged g c) c.load_usable_bytes-was.result (ranged g d) c.take_out-same.new.self e.start e.bytes (payload_range pay) (ap piece_range (one g d)));
+      raw =
+          none_raw-seen c.self.inside.memory c.take_out-same.new.self k k old view c.resize_found.new.table c.checked-payload.new.ledger.name
+          (back_raw b (refused_stays g c) c.take_out-same.new.self c.load_usable_bytes-was.result e.start
+          (same_lies b (unchanged g c) c.load_usable_bytes-was.result (ranged g d)).0 e.out);
       spare =
           spare-seen c.self.inside.memory c.take_out-same.new.self (read_from c.self.inside.memory k) (state b)
           (same_spare b (unchanged g c) c.load_usable_bytes-was.result (ranged g d) c.take_out-same.new.self e.start e.bytes) k k refl refl old view _ _;
@@ -487,6 +484,8 @@ returns g c =
       chunks = (sees g c).chunks;
       same = tt;
       unchanged = tt;
+      raw = none_raw-seen c.self.inside.memory c.take_out-resized.new.self k c.reallocate.new.self.state old view c.resize_found.new.table c.renewed-ticket.new.ledger.name
+          (fresh_raw (w g c) (across g c) c.take_out-resized.new.self e.start e.out);
       spare =
           spare-seen c.self.inside.memory c.take_out-resized.new.self (read_from c.self.inside.memory k) (now_has (w g c))
           (fresh_spare (w g c) c.take_out-resized.new.self e.start e.bytes e.out) k c.reallocate.new.self.state refl (sym (ap (λ (z : State). z.chunks) (kept g c))) old view
