@@ -18,7 +18,7 @@ pub record KeepsHeap (sllen size align : ℕ) (before after : HeapView) : Type 0
   pub chunks : after.state.chunks ≡ before.state.chunks
   pub grow : before.memory.touches ≤ after.memory.touches
 
--- this is so within all bounds that the state is sized for, if they include one more payload of this size and alignment
+-- this is so within all bounds that the state is sized for, if they include this size and alignment, and at most `count` payloads are live before
 abbrev pub WithinBounds : ℕ → State → ℕ → ℕ → Type 0 → Type 0
 WithinBounds sllen s size align is = (count most wide : ℕ) → IsSizedFor sllen count most wide s → live_count s ≤ count → size ≤ most → align ≤ wide → is
 

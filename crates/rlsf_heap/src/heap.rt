@@ -137,8 +137,8 @@ impl<FLBitmap: BitPattern, SLBitmap: BitPattern, const FLLEN: usize, const SLLEN
     }
 
     /// Allocates a payload for `layout`. It leaves the memory. Its bytes may be raw; if no byte of the memory is raw, none of
-    /// them is. Its address is a multiple of the alignment. Its block is the front of the newest free block of the first
-    /// class that has a free block and reaches the sought size.
+    /// them is. No byte of the memory becomes raw (`raw`). The payload's address is a multiple of the alignment. Its block is
+    /// the front of the newest free block of the first class that has a free block and reaches the sought size.
     ///
     /// Returns `None` if and only if no free block has a class that reaches the sought size; then nothing changes. Within
     /// bounds that the heap is sized for (`IsSizedFor`), an allocation is never refused.

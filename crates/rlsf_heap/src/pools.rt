@@ -35,7 +35,7 @@ impl<FLBitmap: BitPattern, SLBitmap: BitPattern, const FLLEN: usize, const SLLEN
     /// bytes.
     ///
     /// Returns the number of bytes from the range's start to the end of its last chunk. Returns `None` if the range makes
-    /// no chunk; then nothing changes.
+    /// no chunk; then nothing changes. No byte of the memory becomes raw (`raw`).
     ///
     /// Suppose that no payload is live and that the range starts at a multiple of 32. If its length is at least what
     /// `pool_size_for_payloads` returns for some bounds, the heap is then sized for them (`IsSizedFor`).
@@ -92,7 +92,7 @@ impl<FLBitmap: BitPattern, SLBitmap: BitPattern, const FLLEN: usize, const SLLEN
     }
 
     /// Appends a range of the memory that begins at the end of a chunk, and returns the number of bytes taken. If it
-    /// returns 0, nothing changes.
+    /// returns 0, nothing changes. No byte of the memory becomes raw (`raw`).
     ///
     /// - If there is a longest chunk (`FLLEN` is below 59), the range becomes chunks of its own, as
     ///   `insert_free_block_ptr` makes them.
@@ -126,7 +126,7 @@ impl<FLBitmap: BitPattern, SLBitmap: BitPattern, const FLLEN: usize, const SLLEN
 
     /// Removes an inserted range: its chunks, and the free blocks in them. The removed part is the range from its start,
     /// rounded up to a multiple of 32, to its end. The other free blocks keep their order, and every used block is
-    /// unchanged. Afterwards no chunk overlaps the removed part.
+    /// unchanged. Afterwards no chunk overlaps the removed part. No byte of the memory becomes raw (`raw`).
     ///
     /// The removed part must be complete contiguous chunks, or empty. No block in it may be used, so none of its payloads is
     /// live.

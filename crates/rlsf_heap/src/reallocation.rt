@@ -32,11 +32,12 @@ impl<FLBitmap: BitPattern, SLBitmap: BitPattern, const FLLEN: usize, const SLLEN
     /// - It moves into the free block before it, joined with those bytes.
     /// - It moves into a newly allocated block, and the old block is deallocated.
     ///
-    /// The bytes behind the kept ones are as the memory has them, here or raw. If no byte of the memory is raw, all are here.
+    /// The bytes behind the kept ones are as the memory has them, here or raw. If no byte of the memory is raw, all are here. No byte
+    /// of the memory becomes raw (`raw`).
     ///
     /// Returns the payload as it was, as the error, if and only if no layout has this size and alignment, or this allocation
-    /// is refused; then no byte of the memory beside the payload changes (`unchanged`). Within bounds that the heap is sized for (`IsSizedFor`), a reallocation is never
-    /// refused.
+    /// is refused; then no byte of the memory beside the payload changes (`unchanged`). Within bounds that the heap is sized for
+    /// (`IsSizedFor`), a reallocation is never refused.
     ///
     /// The payload must be one of this heap, and its bytes must be here.
     pub fn reallocate(&mut self, payload: Payload, size: usize) -> Result<Payload, Payload>
@@ -93,7 +94,8 @@ impl<FLBitmap: BitPattern, SLBitmap: BitPattern, const FLLEN: usize, const SLLEN
     /// of the payload's block and of a free block behind it. The first bytes are kept, as many as both sizes have, and are
     /// here. No byte is copied.
     ///
-    /// The bytes behind the kept ones are as the memory has them, here or raw. If no byte of the memory is raw, all are here.
+    /// The bytes behind the kept ones are as the memory has them, here or raw. If no byte of the memory is raw, all are here. No byte
+    /// of the memory becomes raw (`raw`).
     ///
     /// Returns the payload as it was, as the error, if and only if no layout has this size and alignment, or these bytes
     /// don't suffice; then no byte of the memory beside the payload changes (`unchanged`).

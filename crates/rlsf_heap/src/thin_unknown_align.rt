@@ -82,7 +82,7 @@ impl<FLBitmap: BitPattern, SLBitmap: BitPattern, const FLLEN: usize, const SLLEN
     /// as both sizes have, and are here.
     ///
     /// Returns the payload as it was, as the error, if and only if the bytes of its block and of a free block behind it don't suffice;
-    /// then nothing changes.
+    /// then no byte of the memory beside the payload changes (`unchanged`). No byte of the memory becomes raw (`raw`).
     ///
     /// The payload must be the one at `addr`, which isn't 0, and one of this heap, and its bytes must be here.
     pub fn resize_thin_unknown_align(
@@ -150,8 +150,8 @@ impl<FLBitmap: BitPattern, SLBitmap: BitPattern, const FLLEN: usize, const SLLEN
     ///
     /// It doesn't move into the free block before it, since its place there would depend on its alignment.
     ///
-    /// Returns the payload as it was, as the error, if and only if this allocation is refused; then nothing changes. Within bounds that
-    /// the heap is sized for (`IsSizedFor`), a reallocation is never refused.
+    /// Returns the payload as it was, as the error, if and only if this allocation is refused; then no byte of the memory beside the payload
+    /// changes (`unchanged`). Within bounds that the heap is sized for (`IsSizedFor`), a reallocation is never refused.
     ///
     /// The payload must be the one at `addr`, which isn't 0, and one of this heap, and its bytes must be here. No byte of the memory
     /// may be raw.

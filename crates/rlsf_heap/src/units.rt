@@ -66,8 +66,8 @@ impl<FLBitmap: BitPattern, SLBitmap: BitPattern, const FLLEN: usize, const SLLEN
     /// Allocates a payload of complete units for `size` bytes, as `allocate` does for the alignment 16. A pointer and the length
     /// alone show it.
     ///
-    /// Returns `None` if and only if `allocate` does; then nothing changes. If no byte of the memory is raw, this stays so. The memory
-    /// must have units.
+    /// Returns `None` if and only if `allocate` does; then nothing changes. No byte of the memory becomes raw (`raw`). The memory must
+    /// have units.
     #[inline(always)]
     pub fn allocate_units(&mut self, size: usize) -> Option<UnitPayload>
         requires size { size ≤ 2 ^ 63 - 16 }
@@ -130,7 +130,7 @@ impl<FLBitmap: BitPattern, SLBitmap: BitPattern, const FLLEN: usize, const SLLEN
     /// block behind it. Its first bytes, as many as both lengths have, stay with their owner: no byte of them is read, written or copied.
     ///
     /// Returns the payload with the length for `size` bytes, and the units behind the kept ones. Returns it as it was, as the error,
-    /// if and only if these bytes don't suffice; then nothing changes, and no byte beside the payload does (`unchanged`). A payload
+    /// if and only if these bytes don't suffice; then no byte of the memory beside the payload changes (`unchanged`). A payload
     /// can always become shorter. No byte but the payload's becomes raw (`raw`).
     ///
     /// The payload must be one of this heap, `len` its length, and all of its bytes but those that stay must be in it.

@@ -22,8 +22,8 @@ use Rattle.rlsf_heap.specs.Reallocation.{owned_by}
 use Rattle.rlsf_heap.proofs.Arrivals.{Steps-arrived, bare-kept}
 use Rattle.rlsf_heap.proofs.Costs.{Leaves, is_of_heap, kept_same, left_costs, left_counts, left_over, left_taken, left_then, left_touched, returned_same, sees_left}
 use Rattle.rlsf_heap.proofs.HandedOver.{IsHeap-resized, IsHeap-unchanged, SeesNewSize, SeesUnchanged, Steps-resized, Steps-unchanged, back_in, found, is_view, key}
-use Rattle.rlsf_heap.proofs.HandedOver.{beside_unchanged, raw_resized, raw_unchanged, resized_lies, resized_live, resized_own, sees_new_size, sees_unchanged, spare_resized, spare_unchanged}
-use Rattle.rlsf_heap.proofs.HandedOver.{stayed_resized}
+use Rattle.rlsf_heap.proofs.HandedOver.{beside_unchanged, raw_resized, raw_unchanged, resized_lies, resized_live, resized_own, sees_new_size, sees_unchanged}
+use Rattle.rlsf_heap.proofs.HandedOver.{spare_resized, spare_unchanged, stayed_resized}
 use Rattle.rlsf_heap.proofs.Kept.{beside-none, none_raw-none, spare-first, spare-none}
 use Rattle.rlsf_heap.proofs.Leaving.{lies-usable}
 use Rattle.rlsf_heap.proofs.Reallocated.{aligns_stay}

@@ -36,10 +36,10 @@ use Rattle.rlsf_heap.proofs.PutBack.{issued-reread}
 use Rattle.rlsf_heap.proofs.Reallocated.{Keeps-each, aligns_stay}
 use Rattle.rlsf_heap.proofs.Reallocating.{IsBackIn, bare_state, block, counted_moved, counted_stayed, here as here_of, here_still, held, issued_anew}
 use Rattle.rlsf_heap.proofs.Reallocating.{kept_moved, stands, state, unmoved_refused}
-use Rattle.rlsf_heap.proofs.ResizedThin.{HasSize, StaysInPlace, after, begins, came_found, fresh, fresh_at, fresh_bytes, fresh_here, fresh_lies, fresh_own, fresh_range}
+use Rattle.rlsf_heap.proofs.ResizedThin.{HasSize, StaysInPlace, after, back_raw, begins, came_found, fresh, fresh_at, fresh_bytes, fresh_here, fresh_lies, fresh_own, fresh_range}
 use Rattle.rlsf_heap.proofs.ResizedThin.{copied_seen, fresh_start, fresh_without, grow_seen, home-in_place, identity_seen, in_place-costs, in_place-same, in_place-then}
 use Rattle.rlsf_heap.proofs.ResizedThin.{in_place-touched, now_has, payload_of_bytes, place_seen, reached, renewed_at, same_bytes, same_lies, same_without, settled_without}
-use Rattle.rlsf_heap.proofs.ResizedThin.{back_raw, fresh_raw, fresh_settled, fresh_spare, same_beside, same_spare, stayed, stayed_step, ticket_of_bytes, touches_seen, unplanned-short}
+use Rattle.rlsf_heap.proofs.ResizedThin.{fresh_raw, fresh_settled, fresh_spare, same_beside, same_spare, stayed, stayed_step, ticket_of_bytes, touches_seen, unplanned-short}
 use Rattle.rlsf_heap.proofs.Settled.{settled-back, settled-left, settled-stays}
 use Rattle.rlsf_heap.proofs.ThinPayloads as P
 use Rattle.rlsf_heap.proofs.ThinPayloads.{IsTicketFor, shown}
