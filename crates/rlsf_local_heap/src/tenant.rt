@@ -47,7 +47,7 @@ impl<FLBitmap: BitPattern, SLBitmap: BitPattern, const FLLEN: usize, const SLLEN
     SLLEN,
 > {
     ghost use Rattle.rlsf_heap.specs.Heap.{Steps};
-    ghost use Rattle.rlsf_heap.specs.Kept.{KeepsSpareBytes};
+    ghost use Rattle.rlsf_heap.specs.Kept.{KeepsSpareBytes, NoneBecomesRaw};
     ghost use Rattle.rlsf_heap.specs.Settled.{IsSettled};
     ghost use Rattle.rlsf_heap.specs.Units.{heap_of};
     ghost use Rattle.rlsf_local_heap.specs.Tenants.{lessor};
@@ -79,6 +79,7 @@ impl<FLBitmap: BitPattern, SLBitmap: BitPattern, const FLLEN: usize, const SLLEN
         ensures settled { IsSettled pool.old.memory → IsSettled pool.new.memory }
         ensures touches { pool.new.memory.touches ≤ pool.old.memory.touches + 30 }
         ensures grow { pool.old.memory.touches ≤ pool.new.memory.touches }
+        ensures raw { NoneBecomesRaw pool.old pool.new }
         ensures spare { KeepsSpareBytes pool.old pool.new }
         ensures copied { pool.new.memory.copied ≡ pool.old.memory.copied }
     {

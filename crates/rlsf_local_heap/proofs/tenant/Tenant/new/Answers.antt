@@ -2,7 +2,7 @@ use Rattle.std.proofs.Common.{Some, arith, refl, sym, ap, subst, ◌∙◌}
 use Rattle.rlsf_model.specs.Allocate.{Allocates}
 use Rattle.rlsf_model.specs.Callers.{align_at}
 use Rattle.rlsf_heap.specs.Heap.{Steps}
-use Rattle.rlsf_heap.proofs.Kept.{spare-none}
+use Rattle.rlsf_heap.proofs.Kept.{none_raw-none, spare-none}
 use Rattle.rlsf_local_heap.proofs.Outcomes.{at_address, at_none, made_of, not_made, of_none, others_stay}
 use Rattle.rlsf_local_heap.proofs.tenant.Tenant.new.Goals as goal
 
@@ -23,6 +23,7 @@ returns-then-is_too_long g c =
       settled = λ settled. settled;
       touches = omega arith;
       grow = omega arith;
+      raw = none_raw-none c.args.pool.now;
       spare = spare-none c.args.pool.now;
       copied = refl;
     }
@@ -44,6 +45,7 @@ returns-in_err-fields g c =
       settled = λ settled. settled;
       touches = omega arith;
       grow = omega arith;
+      raw = none_raw-none c.args.pool.now;
       spare = spare-none c.args.pool.now;
       copied = refl;
     }
@@ -69,6 +71,7 @@ returns g c =
       settled = did.settled;
       touches = did.touches;
       grow = did.grow;
+      raw = did.raw;
       spare = did.spare;
       copied = did.copied;
     }
