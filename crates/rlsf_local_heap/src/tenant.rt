@@ -57,8 +57,8 @@ impl<FLBitmap: BitPattern, SLBitmap: BitPattern, const FLLEN: usize, const SLLEN
     /// `len` up to 48, holds no pool: each allocation is then refused. It takes constant time.
     ///
     /// Returns `None` if `pool` refuses such a payload, if its memory has no units of 16 bytes, if `len` is 2^58 or more, or if
-    /// the system has no memory for the new heap's own fields. Then `pool` is as it was, but for the word accesses that are
-    /// counted. The parameters must be valid (`Heap::new`).
+    /// the system has no memory for the new heap's own fields. Then the state of `pool` and the values of its bytes are as they
+    /// were. The parameters must be valid (`Heap::new`).
     pub fn new(
         pool: &mut Heap<FLBitmap, SLBitmap, FLLEN, SLLEN>,
         alloc: Global,
