@@ -2,14 +2,14 @@
 -- outstanding, and there are no footers.
 use Rattle.std.proofs.Common.{◌≡◌, ◌≤◌, ◌+◌, ℕ, IfNone, IfSome, Bool, true, false, true≢false, List, [], ◌∷◌, ◌++◌, Option, Some, None, arith, refl, sym, ◌∙◌, ap, subst, inl, inr}
 use Rattle.rlsf_base.specs.declared.memory.range.Range.{Range}
-use Rattle.rlsf_base.specs.Space.{SamePlace}
+use Rattle.rlsf_base.specs.Space.{SamePlace, Space}
 use Rattle.rlsf_blocks.specs.Spare.{IsSpare}
 use Rattle.rlsf_flex.specs.Outside.{IsOutside, NothingGoesBack}
 use Rattle.rlsf_flex.specs.StandsFor.{FlexContents, FlexStandsFor, FlexSteps, StepsAlone}
 use Rattle.rlsf_flex.proofs.InnerAllocator.{alone_opened, flex_opened, flex_spare}
 use Rattle.rlsf_flex.proofs.OutsideNow.{KeepsOutsideNow-spare}
 use Rattle.rlsf_flex.proofs.Places.{SamePlace-refl, SamePlace-then}
-use Rattle.rlsf_global.specs.Memory.{KeepsMemory}
+use Rattle.rlsf_global.specs.Memory.{CopiesOnResize, KeepsMemory}
 use Rattle.rlsf_model.specs.FlexAllocate.{FlexAllocates}
 use Rattle.rlsf_model.specs.FlexReallocate.{FlexReallocates}
 use Rattle.rlsf_model.specs.FlexState.{FlexState}
@@ -140,6 +140,11 @@ kept_moved f m k e size align addr copies frees takes copied place chunks freed 
     then_alone f k e frees first stands2 freed place2 chunks2
 
 -- ---- what was copied
+
+-- nothing was done
+pub copies_nothing : (enabled : Bool) (s : State) (addr size wanted : ℕ) (m : Space) → CopiesOnResize enabled s addr size wanted m m
+copies_nothing enabled s addr size wanted m =
+    record { grow = omega arith; room = λ on room. omega arith; stays = λ on room. refl; elsewhere = λ off. omega arith }
 
 -- a move copies so many bytes at most, whether there is room for it or not
 pub copied_at_most : {A : Type 0} (o : Option A) (before after keep : ℕ) → IfSome o (λ to. after ≡ before + keep) → IfNone o (after ≡ before)

@@ -29,8 +29,8 @@ IfUntried Freed holds = Unit {0}
 IfUntried NoRoom holds = Unit {0}
 IfUntried reply holds = holds
 
--- The memory is where it was, with its bytes in no block and those that its source never provided. Work and copies are bounded, and a call
--- that asks the allocator nothing leaves the memory as it was.
+-- The memory is where it was. Each byte that no block is made of, before and after, is as it was, and so is each byte that the source
+-- hasn't provided. Work and copies are bounded, and a call that asks the allocator nothing leaves the memory as it was.
 pub record LeavesMemory (call : Call) (reply : Reply) (before after : LockedContents) : Type 0 where
   pub memory : KeepsMemory (flex_of before) (flex_of after)
   pub touches : IsBounded before.heap call before.memory after.memory

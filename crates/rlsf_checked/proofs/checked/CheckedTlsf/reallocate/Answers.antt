@@ -1,4 +1,4 @@
-use Rattle.std.proofs.Common.{arith, ◌≡◌, ℕ, IfSome, ◌≤◌, ◌<◌, ◌+◌, length, suc, Some, None, Ok, Err, refl, sym, ◌∙◌, ap, subst}
+use Rattle.std.proofs.Common.{rules, arith, ◌≡◌, ℕ, IfSome, ◌≤◌, ◌<◌, ◌+◌, length, suc, Some, None, Ok, Err, refl, sym, ◌∙◌, ap, subst}
 use Rattle.std.proofs.lemmas.Option.{none-some}
 use Rattle.std.specs.declared.num.NonZeroUsize.{NonZeroUsize}
 use Rattle.rlsf_base.specs.Addr.{at}
@@ -95,29 +95,7 @@ pub returns-in_default-from_size_align : goal.returns-in_default-from_size_align
 returns-in_default-from_size_align g c =
     let live = rw (← c.self.view_is) at c.in-Some.ensures.value in
     let refused = past_is_refused c.args.size c.in-Some.align _ live c.in-Some.ensures.power c.in_default-from_size_align.ensures.succeeds.1 in
-    rw (← c.self.view_is) (record {
-      answer = subst (λ o. IsRefusedBy {A = NonZeroUsize} o (Err NoLayout)) (sym refused) refl;
-      step = λ fits. absurd (none-some _ (sym fits ∙ refused));
-      live = tt;
-      sized = tt;
-      few = tt;
-      kept = tt;
-      new = tt;
-      left = tt;
-      aligns = tt;
-      bytes = tt;
-      room = λ count most_size align sized few short fits fine. absurd (none-some _ (sym fine ∙ refused));
-      count = refl;
-      bounds = λ count most_size align sized short fits. sized;
-      same = refl;
-      refused = refl;
-      pool = refl;
-      place = (refl, refl, refl, λ none. none);
-      touches = omega arith;
-      grow = omega arith;
-      copied = omega arith;
-      grow_copied = omega arith;
-    })
+    rw (← c.self.view_is) (search (rules, refused))
 
 pub returns-in_default-reallocate : goal.returns-in_default-reallocate
 returns-in_default-reallocate g c =

@@ -1,4 +1,4 @@
-use Rattle.std.proofs.Common.{arith, ◌≡◌, ℕ, IfSome, Option, ◌≤◌, ◌<◌, ◌+◌, length, Some, None, Ok, Err, refl, sym, ◌∙◌, subst}
+use Rattle.std.proofs.Common.{rules, arith, ◌≡◌, ℕ, IfSome, Option, ◌≤◌, ◌<◌, ◌+◌, length, Some, None, Ok, Err, refl, sym, ◌∙◌, subst}
 use Rattle.std.proofs.lemmas.Option.{none-some}
 use Rattle.std.specs.declared.num.NonZeroUsize.{NonZeroUsize}
 use Rattle.rlsf_base.specs.Addr.{at, reply}
@@ -70,25 +70,7 @@ pub returns-in_default-from_size_align : goal.returns-in_default-from_size_align
 returns-in_default-from_size_align g c =
     let live = rw (← c.self.view_is) at c.in-Some.ensures.value in
     let refused = past_is_refused c.args.size c.in-Some.align _ live c.in-Some.ensures.power c.in_default-from_size_align.ensures.succeeds.1 in
-    rw (← c.self.view_is) (record {
-      answer = subst (λ o. IsRefusedBy {A = NonZeroUsize} o (Err NoLayout)) (sym refused) refl;
-      step = λ fits. absurd (none-some _ (sym fits ∙ refused));
-      there = tt;
-      sized = tt;
-      few = tt;
-      kept = tt;
-      aligns = refl;
-      bytes = λ a apart. refl;
-      count = refl;
-      bounds = λ count most_size align sized short fits. sized;
-      same = refl;
-      refused = refl;
-      pool = refl;
-      place = (refl, refl, refl, λ none. none);
-      touches = omega arith;
-      grow = omega arith;
-      copied = refl;
-    })
+    rw (← c.self.view_is) (search (rules, refused))
 
 pub returns-in_default-reallocate_no_move : goal.returns-in_default-reallocate_no_move
 returns-in_default-reallocate_no_move g c =

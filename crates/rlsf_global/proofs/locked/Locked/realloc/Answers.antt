@@ -1,8 +1,9 @@
 use Rattle.rlsf_base.specs.Sizes.{request_size}
 use Rattle.rlsf_model.specs.Allocate.{HasRoomFor, choice}
 use Rattle.rlsf_model.specs.Reallocate.{HasRoomToResize}
+use Rattle.std.specs.declared.num.NonZeroUsize.{NonZeroUsize}
 use Rattle.std.proofs.Common.{rules, IsSome, ◌≡◌, ◌≤◌, ◌+◌, true, false, length, Some, Ok, Err, lit<, ap, ◌∙◌, subst, sym, refl, arith}
-use Rattle.rlsf_global.proofs.KeptMemories.{KeepsMemory-refl}
+use Rattle.rlsf_global.proofs.KeptMemories.{KeepsMemory-refl, copies_nothing}
 use Rattle.rlsf_global.proofs.Layouts.{content_at-bytes, layout_at-moved_left, layout_at-moved_other, layout_at-none, layout_at-put_here}
 use Rattle.rlsf_base.specs.Addr.{at}
 use Rattle.rlsf_global.specs.Locked.{heap_of, locked_contents}
@@ -144,25 +145,8 @@ returns g c =
 pub returns-in_default : goal.returns-in_default
 returns-in_default g c =
     let absent = rw c.deref.ensures.value at c.in_default.ensures.absent in
-    rw (← c.self.view_is) (record {
-      step = search rules;
-      refused = refl;
-      unknown = unknown c.self.inside.flex c.self.inside.rows.items (at c.args.addr) _ absent;
-      live = tt;
-      new = tt;
-      left = tt;
-      kept = tt;
-      kept_usable = λ _. tt;
-      layouts = tt;
-      contents = tt;
-      same = refl;
-      touches = λ _. omega arith;
-      touches_elsewhere = λ _. omega arith;
-      grow = omega arith;
-      unasked = refl;
-      memory = KeepsMemory-refl c.self.inside.flex;
-      copied = record { grow = omega arith; room = λ on room. omega arith; stays = λ on room. refl; elsewhere = λ off. omega arith };
-    })
+    let unasked = unknown c.self.inside.flex c.self.inside.rows.items (at c.args.addr) _ {A = NonZeroUsize} absent in
+    rw (← c.self.view_is) (search (rules, unasked, KeepsMemory-refl, copies_nothing))
 
 pub returns-then-ne : goal.returns-then-ne
 returns-then-ne g c =
@@ -186,7 +170,7 @@ returns-then-ne g c =
       grow = omega arith;
       unasked = refl;
       memory = KeepsMemory-refl c.self.inside.flex;
-      copied = record { grow = omega arith; room = λ on room. omega arith; stays = λ on room. refl; elsewhere = λ off. omega arith };
+      copied = copies_nothing _ _ _ _ _ _;
     })
 
 pub returns-in_default-resize : goal.returns-in_default-resize

@@ -26,21 +26,7 @@ returns-in_default g c =
     }
 
 pub returns-then-live-ne0 : goal.returns-then-live-ne0
-returns-then-live-ne0 g c =
-    record {
-      step = λ e. absurd (true≢false (sym e));
-      identity = refl;
-      place = (refl, refl);
-      gone = λ e. absurd (true≢false (sym e));
-      aligns = λ a apart. refl;
-      count = λ e. absurd (true≢false (sym e));
-      chunks = refl;
-      same = λ e. refl;
-      touches = omega arith;
-      grow = omega arith;
-      spare = spare-none c.args.pool.now;
-      copied = refl;
-    }
+returns-then-live-ne0 g c = search (rules, spare-none c.args.pool.now)
 
 pub returns : goal.returns
 returns g c =

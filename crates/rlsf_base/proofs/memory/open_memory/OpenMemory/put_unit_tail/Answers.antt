@@ -62,20 +62,20 @@ slice_ahead-requires c =
 pub returns : goal.returns
 returns c =
     let d = (goal.at.returns c).After-self in
-    let now = c.args.self.now in let p = c.args.tail in let e = c.into_parts-units.ensures in let t = c.touch.ensures in let back = c.put_units.ensures in
+    let now = c.args.self.now in let tail = c.args.tail in let e = c.into_parts-units.ensures in let t = c.touch.ensures in let back = c.put_units.ensures in
     let was = c.self.view_is in let is = c.self-2.view_is in let m = c.self-2.inside in let run = c.into_parts-units.result.1 in
     let read = c.slice_ahead.ensures ∙ bytes_there was (word_range (addr d)) (word_lies d).at in
     let start : start_of m.shift m.len_and_skip ≡ now.start = ap (λ (s : Space). s.start) is ∙ t.start in
     let view : view_of m.base m.shift ≡ now.view = ap (λ (s : Space). s.view) is ∙ t.view in
     let out : m.bytes.out ≡ now.out = ap (λ (s : Space). s.out) is ∙ t.out in
     let shift : m.shift ≡ c.self.inside.shift = ap (λ (v : View). v.shift) (view ∙ sym (ap (λ (s : Space). s.view) was)) in
-    let place : run.first * 16 - m.bytes.skip ≡ p.start + p.kept - now.start =
-    let first = starts d in let lies = p.placed.lies in let skip = c.self-2.invariant.lies.1 in let bounds = c.self-2.invariant.bounds in let within = p.within in
-    let home : p.home.start ≡ now.start = ap (λ (h : Home). h.start) c.requires.home in
-    let whole : p.home.len ≡ length now.bytes = ap (λ (h : Home). h.len) c.requires.home in
+    let place : run.first * 16 - m.bytes.skip ≡ tail.start + tail.kept - now.start =
+    let first = starts d in let lies = tail.placed.lies in let skip = c.self-2.invariant.lies.1 in let bounds = c.self-2.invariant.bounds in let within = tail.within in
+    let home : tail.home.start ≡ now.start = ap (λ (h : Home). h.start) c.requires.home in
+    let whole : tail.home.len ≡ length now.bytes = ap (λ (h : Home). h.len) c.requires.home in
     let long : length m.bytes.bytes ≡ length now.bytes = ap (λ (s : Space). length s.bytes) is ∙ ap length t.bytes in
     let all = c.self-2.invariant.whole in omega arith in
-    let many : run.count * 16 ≡ p.len - p.kept = omega (arith, e.1.2) in
+    let many : run.count * 16 ≡ tail.len - tail.kept = omega (arith, e.1.2) in
     record {
       issued = subst (λ (u : ℕ × (ℕ × ℕ × ℕ)). IsIssued c.args.ledger.now.entries u.0 (extent u.1.0 u.1.1 u.1.2)) (λ i. (e.2.1 i, (e.2.2 i, e.2.3 i, e.2.4 i)))
           c.redeem.ensures.issued;
@@ -84,7 +84,7 @@ returns c =
         c.redeem.ensures.entries ∙ (λ i. set c.args.ledger.now.entries (e.2.1 i) (entry_of (extent (e.2.2 i) (e.2.3 i) (e.2.4 i)) false)),
       );
       word = c.word_of-word.ensures ∙ ap (λ bs. from_le_bytes w64 bs) read ∙ sym (word_at-is now (addr d) (readable d).1.0 (readable d).2);
-      away = λ a lo hi. ap (λ cs. kept_at cs (a - now.start)) (sym out) ∙ back.0 (a - now.start) (omega (arith, place, lo)) (omega (arith, place, many, lo, hi, p.placed.lies));
+      away = λ a lo hi. ap (λ cs. kept_at cs (a - now.start)) (sym out) ∙ back.0 (a - now.start) (omega (arith, place, lo)) (omega (arith, place, many, lo, hi, tail.placed.lies));
       start = start;
       bytes = back.1.0.2 ∙ ap (λ (s : Space). s.bytes) is ∙ t.bytes;
       touches = ap (λ (s : Space). s.touches) is ∙ t.touches;
