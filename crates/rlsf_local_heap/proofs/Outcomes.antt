@@ -3,6 +3,9 @@ use Rattle.std.proofs.Common.{◌≡◌, ◌≢◌, ℕ, Option, Some, None, Res
 use Rattle.rlsf_base.specs.declared.memory.unit_payload.UnitPayload.{UnitPayload}
 use Rattle.rlsf_model.specs.Callers.{align_at}
 use Rattle.rlsf_model.specs.State.{State}
+use Rattle.rlsf_base.specs.declared.memory.range.Range.{Range}
+use Rattle.rlsf_heap.specs.Heap.{HeapView}
+use Rattle.rlsf_heap.specs.Kept.{NoneBecomesRawBeside}
 use Rattle.rlsf_heap.specs.Units.{unit_addr_of}
 
 -- what holds of each value holds of none
@@ -50,3 +53,8 @@ pub others_stay : (s t : State) (o : Option UnitPayload) → IfSome o (λ p. ali
     → IfSome o (λ p. (a : ℕ) → a ≢ p.start → align_at t a ≡ align_at s a) → IfNone o (t ≡ s) → (a : ℕ) → align_at s a ≢ None → align_at t a ≡ align_at s a
 others_stay s t None new aligns same a live = ap (λ (u : State). align_at u a) same
 others_stay s t (Some p) new aligns same a live = aligns a (λ e. live (ap (align_at s) e ∙ new))
+
+-- of a heap that doesn't change, no byte becomes raw
+pub none_raw_beside-none : (v : HeapView) (r : Range) → NoneBecomesRawBeside v v r
+unfolding NoneBecomesRawBeside
+none_raw_beside-none v r a from side is = is

@@ -63,7 +63,7 @@ impl Lease {
     pub(crate) fn end(self, memory: OpenMemory) -> UnitPayload
         requires memory { home_of memory ≡ self.memory }
         requires own { IsOwned memory (range_of memory) }
-        ensures { (heap_of result ≡ lessor self) × (result.start ≡ self.start) }
+        ensures { (heap_of result ≡ lessor self) × (result.start ≡ self.start) × (result.len ≡ self.memory.len) }
     {
         self.into_payload(memory.into_raw_parts())
     }
@@ -74,7 +74,7 @@ impl Lease {
         requires base { parts.base.ptr ≡ self.memory.view.base.ptr +ₚ place_in self.memory.view self.memory.start }
         requires place { (parts.start ≡ self.memory.start) × (parts.len ≡ self.memory.len) }
         requires own { IsOwn parts.bytes.out 0 parts.len }
-        ensures { (heap_of result ≡ lessor self) × (result.start ≡ self.start) }
+        ensures { (heap_of result ≡ lessor self) × (result.start ≡ self.start) × (result.len ≡ self.memory.len) }
     {
         let Lease { ptr: _, len } = self;
         let ptr = parts.release_room();

@@ -3,6 +3,7 @@ ghost use Rattle.std.specs.Prelude.{◌≡◌, ◌≢◌, ◌↔◌, ◌+◌, �
 ghost use Rattle.rlsf_model.specs.Allocate.{Allocates};
 ghost use Rattle.rlsf_model.specs.Callers.{align_at};
 ghost use Rattle.rlsf_model.specs.Release.{Deallocates};
+ghost use Rattle.rlsf_base.specs.Range.{range_at};
 ghost use Rattle.rlsf_base.specs.SizeClass.{IsValid};
 ghost use Rattle.rlsf_model.specs.Sized.{live_count};
 
@@ -47,7 +48,7 @@ impl<FLBitmap: BitPattern, SLBitmap: BitPattern, const FLLEN: usize, const SLLEN
     SLLEN,
 > {
     ghost use Rattle.rlsf_heap.specs.Heap.{Steps};
-    ghost use Rattle.rlsf_heap.specs.Kept.{KeepsSpareBytes, NoneBecomesRaw};
+    ghost use Rattle.rlsf_heap.specs.Kept.{KeepsSpareBytes, NoneBecomesRaw, NoneBecomesRawBeside};
     ghost use Rattle.rlsf_heap.specs.Settled.{IsSettled};
     ghost use Rattle.rlsf_heap.specs.Units.{heap_of};
     ghost use Rattle.rlsf_local_heap.specs.Tenants.{lessor};
@@ -99,7 +100,8 @@ impl<FLBitmap: BitPattern, SLBitmap: BitPattern, const FLLEN: usize, const SLLEN
     }
 
     /// Ends the heap, and deallocates its range in `pool`, whose other payloads stay as they are. Returns whether it did so. If
-    /// a block is out, which a collection leaked, it doesn't: the range stays live, and nothing changes.
+    /// a block is out, which a collection leaked, it doesn't: the range stays live, and nothing changes. No byte of the pool beside
+    /// the range becomes raw (`raw`).
     ///
     /// The tenant must be one of `pool`.
     pub fn end(self, pool: &mut Heap<FLBitmap, SLBitmap, FLLEN, SLLEN>) -> bool
@@ -114,6 +116,7 @@ impl<FLBitmap: BitPattern, SLBitmap: BitPattern, const FLLEN: usize, const SLLEN
         ensures same { result ≡ false → pool.new ≡ pool.old }
         ensures touches { pool.new.memory.touches ≤ pool.old.memory.touches + 32 }
         ensures grow { pool.old.memory.touches ≤ pool.new.memory.touches }
+        ensures raw { NoneBecomesRawBeside pool.old pool.new (range_at self.lease.start self.lease.memory.len) }
         ensures spare { KeepsSpareBytes pool.old pool.new }
         ensures copied { pool.new.memory.copied ≡ pool.old.memory.copied }
     {

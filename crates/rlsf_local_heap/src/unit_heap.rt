@@ -1,8 +1,12 @@
 //! The heaps that an allocator of collections can be over.
-ghost use Rattle.std.specs.Prelude.{◌≡◌, ◌-◌, ◌^◌, ◌<◌, ◌≤◌, min, IfSome, MatchResult};
+ghost use Rattle.std.specs.Prelude.{◌≡◌, ◌-◌, ◌^◌, ◌<◌, ◌≤◌, ℕ, Option, min, IfSome, MatchResult};
 ghost use Rattle.rlsf_base.specs.Changes.{IsAllOwn};
 ghost use Rattle.rlsf_base.specs.OpenSpace.{home_of};
 ghost use Rattle.rlsf_base.specs.SizeClass.{IsValid};
+ghost use Rattle.rlsf_base.specs.Space.{range_of};
+ghost use Rattle.rlsf_model.specs.Insert.{Inserts};
+ghost use Rattle.rlsf_model.specs.State.{empty};
+ghost use Rattle.rlsf_heap.specs.Heap.{Steps};
 ghost use Rattle.rlsf_heap.specs.Units.{heap_of, heap_of_tail, payload_len};
 ghost use Rattle.rlsf_local_heap.specs.Resized.{IsAtSamePlace};
 
@@ -109,7 +113,8 @@ pub(crate) fn over_all<
 >(memory: OpenMemory) -> Heap<FLBitmap, SLBitmap, FLLEN, SLLEN>
     requires valid { IsValid FLBitmap.width SLBitmap.width FLLEN SLLEN }
     requires own { IsAllOwn memory.out }
-    ensures { result.identity.home ≡ home_of memory }
+    ensures home { result.identity.home ≡ home_of memory }
+    ensures pool { Steps FLLEN SLLEN result (λ t. (taken : Option ℕ) × Inserts FLLEN empty (range_of memory) taken t) }
 {
     let range = Range {
         start: memory.start(),

@@ -101,5 +101,5 @@ into_payload_spec 𝓤 𝓛 𝓜 𝓡 wired =
     use1 𝓛 (‵ (froom (units_ty (len / 16)) b o)) (units-returned 𝓛 b o d.memory.start len d.leased.aligned d.placed.aligned.1) $
     rewrite ! 0 (λ (u : Ptr). ‵ (room_for (units_ty (len / 16)) u)) (sym at) refl $ move ! (1 ∷ 0 ∷ []) $ fjoin ! $
     use0 𝓛 (‵ (spot_own q len (spot_val q len ∷ []))) (spot_made 𝓛 q len fits) $ fjoin ! $
-    suffices ! _ (ends_at 𝓛 f.ended stayed c y (spot_val q len) x (tt, ((tt, (tt, (tt, (tt, tt)))), tt)) (tt, (tt, tt))) $ says ! (refl, refl) $
+    suffices ! _ (ends_at 𝓛 f.ended stayed c y (spot_val q len) x (tt, ((tt, (tt, (tt, (tt, tt)))), tt)) (tt, (tt, tt))) $ says ! (refl, refl, sym d.leased.long) $
     nothing ! $ nothing ! $ join ! $ nothing ! $ join ! $ nothing ! $ done !)))))))))))))

@@ -10,7 +10,7 @@ some_address = omega arith
 pub returns-in-Ok : goal.returns-in-Ok
 returns-in-Ok g c =
     let m = c.in_ok-memory.ensures in
-    let home = ap (λ (i : Identity). i.home) (c.in_a_box.ensures ∙ ap (λ (h : HeapView). h.identity) c.in-Ok.ensures.ok) ∙ c.over_all.ensures in
+    let home = ap (λ (i : Identity). i.home) (c.in_a_box.ensures ∙ ap (λ (h : HeapView). h.identity) c.in-Ok.ensures.ok) ∙ c.over_all.ensures.home in
     record {
       memory = (ap (λ (h : Home). h.start) home ∙ m.start, ap (λ (h : Home). h.len) home ∙ m.len, ap (λ (h : Home). h.view.shift % 16) home ∙ m.units);
       too_long = (λ e. absurd (ok_is_no_error e), λ long. absurd (ok_is_no_error (m.too_long.1 (some_address, long))));

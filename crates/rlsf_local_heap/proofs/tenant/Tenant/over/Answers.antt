@@ -4,7 +4,7 @@ use Rattle.rlsf_local_heap.proofs.tenant.Tenant.over.Goals as goal
 
 pub invariant_of-result : goal.invariant_of-result
 invariant_of-result g c =
-    record { tied = ap (λ (i : Identity). i.home) c.in_a_box.ensures ∙ c.over_all.ensures ∙ c.begin-memory.ensures.memory.0 }
+    record { tied = ap (λ (i : Identity). i.home) c.in_a_box.ensures ∙ c.over_all.ensures.home ∙ c.begin-memory.ensures.memory.0 }
 
 pub returns-in_err-payload : goal.returns-in_err-payload
 returns-in_err-payload g c = rw c.in_err-payload.was (record { some = tt; none = ap is_some c.from_residual.ensures; lease = tt })
