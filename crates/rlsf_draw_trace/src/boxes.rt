@@ -33,6 +33,8 @@ pub(crate) struct Boxes {
     pub(crate) left_out: u128,
     // The live payloads by their names, without an end.
     live: BTreeMap<usize, PayloadBox>,
+    // Their usable bytes, after the last call.
+    usable: u128,
 }
 
 /// The boxes of a window.
@@ -46,35 +48,49 @@ pub(crate) fn boxes_of(
         boxes: Vec::new(alloc),
         left_out: 0,
         live: BTreeMap::new(alloc),
+        usable: 0,
     };
-    let mut before = 0;
-    let told = watched.answers.iter().zip(&watched.moments);
-    for (index, (op, (answer, moment))) in ops.iter().zip(told).enumerate().take(window.end) {
-        let call = Call {
-            index,
-            op: *op,
-            answer: *answer,
-            before,
-            after: moment.usable,
-        };
-        before = call.after;
-        boxes.pass(call, window)?;
-    }
+    boxes.pass_all(ops, watched, window)?;
     boxes.end_all(window)?;
     Ok(boxes)
 }
 
-// A call, with the usable bytes of the live payloads before and after it.
+// A call, with the usable bytes of the live payloads after it.
 #[derive(Clone, Copy)]
 struct Call {
     index: usize,
     op: Op,
     answer: Answer,
-    before: u128,
-    after: u128,
+    usable: u128,
+}
+
+// The call of an index, where the trace has one.
+fn call_at(ops: &[Op], watched: &Watched, index: usize) -> Option<Call> {
+    Some(Call {
+        index,
+        op: *ops.get(index)?,
+        answer: *watched.answers.get(index)?,
+        usable: watched.moments.get(index)?.usable,
+    })
 }
 
 impl Boxes {
+    // Takes the calls before the end of the window into account.
+    fn pass_all(
+        &mut self,
+        ops: &[Op],
+        watched: &Watched,
+        window: Window,
+    ) -> Result<(), AllocError> {
+        for index in 0..window.end {
+            if let Some(call) = call_at(ops, watched, index) {
+                self.pass(call, window)?;
+                self.usable = call.usable;
+            }
+        }
+        Ok(())
+    }
+
     // Takes a call into account.
     fn pass(&mut self, call: Call, window: Window) -> Result<(), AllocError> {
         let Some(name) = changed_name(call.op, call.answer) else {
@@ -88,7 +104,7 @@ impl Boxes {
             None => 0,
         };
         if let Answer::Placed(Some(addr)) = call.answer {
-            let len = (call.after.saturating_add(old_len)).saturating_sub(call.before);
+            let len = (call.usable.saturating_add(old_len)).saturating_sub(self.usable);
             let payload = PayloadBox {
                 name,
                 addr: addr.get(),

@@ -2,11 +2,11 @@
 
 use crate::boxes::PayloadBox;
 use crate::colour::{Class, Colour};
-use crate::legend::{DeniedLines, LeftOut, Legend, PoolList, drawn, is_denied};
+use crate::legend::{LeftOut, Legend, print_denied_list, print_pool_list};
 use crate::pools::Pool;
 use crate::scale::{HEIGHT, Scale, TOP, Tenths};
 use crate::window::Window;
-use rlsf_trace_recorded_runs::{BlockInfo, Watched};
+use rlsf_trace_recorded_runs::BlockInfo;
 use std::alloc::{AllocError, Global};
 
 /// What is drawn, and how.
@@ -35,22 +35,27 @@ pub(crate) struct Scene<'a> {
     pub(crate) pools: &'a [Pool],
     /// The payloads of the window.
     pub(crate) boxes: &'a [PayloadBox],
-    /// What the allocator held after each call.
-    pub(crate) watched: &'a Watched,
+    /// The blocks after the last call.
+    pub(crate) blocks: &'a [BlockInfo],
+    /// The indices of the calls of the drawing that found no room.
+    pub(crate) denied: &'a [usize],
     /// The numbers beside the drawing.
-    pub(crate) legend: &'a Legend,
+    pub(crate) legend: Legend,
 }
 
 /// The complete drawing, as SVG.
 pub(crate) fn drawing(alloc: Global, scene: &Scene) -> Result<String, AllocError> {
     let mut text = String::new(alloc);
-    print_head(&mut text, scene.window)?;
-    print_shapes(&mut text, scene)?;
-    text.push_str(KINDS)?;
-    print_legend(&mut text, scene)?;
-    print_colours(&mut text, scene.boxes)?;
-    text.push_str(FOOT)?;
+    print_drawing(&mut text, scene)?;
     Ok(text)
+}
+
+fn print_drawing(text: &mut String, scene: &Scene) -> Result<(), AllocError> {
+    print_head(text, scene.window)?;
+    print_shapes(text, scene)?;
+    print_legend(text, scene)?;
+    print_colours(text, scene.boxes)?;
+    text.push_str(FOOT)
 }
 
 fn print_head(text: &mut String, window: Window) -> Result<(), AllocError> {
@@ -68,8 +73,8 @@ fn print_shapes(text: &mut String, scene: &Scene) -> Result<(), AllocError> {
     let scale = Scale::new(scene.window, scene.pools);
     print_pools(text, scale, scene.pools, scene.window)?;
     print_boxes(text, scale, scene.boxes, scene.legend.classes)?;
-    print_sentinels(text, scale, &scene.watched.blocks)?;
-    print_denied(text, scale, scene.watched, scene.window)?;
+    print_sentinels(text, scale, scene.blocks)?;
+    print_denied(text, scale, scene.denied)?;
     print_axes(text, scale, scene.window)
 }
 
@@ -97,24 +102,33 @@ fn print_boxes(
     classes: u128,
 ) -> Result<(), AllocError> {
     for payload in boxes {
-        let PayloadBox {
-            name,
-            addr,
-            len,
-            since,
-            until,
-        } = *payload;
-        let low = addr as u128;
-        let addrs = (low, low + len as u128);
-        let fill = Colour::Class(Class::of(len, classes));
-        let rect = scale.rect((since, until), addrs, fill);
-        let line = since as u128 + 2;
-        writeln!(
-            text,
-            "{rect} stroke='white' stroke-width='0.3'><title>{name}: {len} bytes at {addr}, from line {line}</title></rect>"
-        )?;
+        print_box(text, scale, *payload, classes)?;
     }
     Ok(())
+}
+
+fn print_box(
+    text: &mut String,
+    scale: Scale,
+    payload: PayloadBox,
+    classes: u128,
+) -> Result<(), AllocError> {
+    let PayloadBox {
+        name,
+        addr,
+        len,
+        since,
+        until,
+    } = payload;
+    let low = addr as u128;
+    let addrs = (low, low + len as u128);
+    let fill = Colour::Class(Class::of(len, classes));
+    let rect = scale.rect((since, until), addrs, fill);
+    let line = since as u128 + 2;
+    writeln!(
+        text,
+        "{rect} stroke='white' stroke-width='0.3'><title>{name}: {len} bytes at {addr}, from line {line}</title></rect>"
+    )
 }
 
 // A line behind each block that isn't followed by another one: at the end, a chunk's sentinel is there.
@@ -138,21 +152,14 @@ fn print_sentinels(
 }
 
 // A red line below the addresses for each call that found no room.
-fn print_denied(
-    text: &mut String,
-    scale: Scale,
-    watched: &Watched,
-    window: Window,
-) -> Result<(), AllocError> {
+fn print_denied(text: &mut String, scale: Scale, denied: &[usize]) -> Result<(), AllocError> {
     let y = Tenths(TOP + HEIGHT + 20);
-    for (index, answer) in drawn(&watched.answers, window).iter().enumerate() {
-        if is_denied(*answer) {
-            let x = Tenths(scale.x(window.first.saturating_add(index)));
-            writeln!(
-                text,
-                "<rect x='{x}' y='{y}' width='1.5' height='12' fill='red'/>"
-            )?;
-        }
+    for index in denied {
+        let x = Tenths(scale.x(*index));
+        writeln!(
+            text,
+            "<rect x='{x}' y='{y}' width='1.5' height='12' fill='red'/>"
+        )?;
     }
     Ok(())
 }
@@ -175,29 +182,27 @@ fn print_axes(text: &mut String, scale: Scale, window: Window) -> Result<(), All
 }
 
 fn print_legend(text: &mut String, scene: &Scene) -> Result<(), AllocError> {
-    let window = scene.window;
-    let Legend {
-        configuration,
-        most_usable,
-        denied,
-        left_out,
-        ..
-    } = *scene.legend;
-    let left_out = LeftOut(left_out);
-    let pools = PoolList(scene.pools);
-    let lines = DeniedLines {
-        answers: &scene.watched.answers,
-        window,
-    };
-    writeln!(
+    print_title(text, scene.window, scene.legend)?;
+    let (pools, denied) = (scene.pools.len(), scene.denied.len());
+    let most_usable = scene.legend.most_usable;
+    write!(text, "<text x='40' y='650'>pools: {pools}")?;
+    print_pool_list(text, scene.pools)?;
+    write!(
         text,
-        "<text x='40' y='25'>{configuration}, {window}{left_out}</text>
-<text x='40' y='650'>pools: {pools}</text>"
+        "</text>
+<text x='40' y='672'>at most {most_usable} bytes live, in the whole trace</text>
+<text x='40' y='694'>no room: {denied} times"
     )?;
+    print_denied_list(text, scene.denied)?;
+    text.push_str("</text>\n")
+}
+
+// What is drawn and how, and what it is a drawing of.
+fn print_title(text: &mut String, window: Window, legend: Legend) -> Result<(), AllocError> {
+    let (configuration, left_out) = (legend.configuration, LeftOut(legend.left_out));
     writeln!(
         text,
-        "<text x='40' y='672'>at most {most_usable} bytes live, in the whole trace</text>
-<text x='40' y='694'>no room: {denied} times{lines}</text>"
+        "{KINDS}<text x='40' y='25'>{configuration}, {window}{left_out}</text>"
     )
 }
 

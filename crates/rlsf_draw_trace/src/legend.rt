@@ -4,6 +4,7 @@ use crate::pools::Pool;
 use crate::window::Window;
 use rlsf_trace_recorded_runs::Watched;
 use rlsf_trace_text::{Answer, Configuration};
+use std::alloc::{AllocError, Global};
 use std::fmt;
 
 /// How many pools, and how many lines without room, are listed at most.
@@ -18,19 +19,12 @@ pub(crate) struct Legend {
     pub(crate) classes: u128,
     /// The most usable bytes that the live payloads had, in the complete trace.
     pub(crate) most_usable: u128,
-    /// How many allocations and reallocations of the window found no room.
-    pub(crate) denied: usize,
     /// How many boxes aren't drawn.
     pub(crate) left_out: u128,
 }
 
-/// The legend of a window.
-pub(crate) fn legend_of(
-    configuration: Configuration,
-    watched: &Watched,
-    window: Window,
-    left_out: u128,
-) -> Legend {
+/// The legend of a trace, of whose boxes so many aren't drawn.
+pub(crate) fn legend_of(configuration: Configuration, watched: &Watched, left_out: u128) -> Legend {
     let (name, classes) = match configuration {
         Configuration::EightByEight => ("8x8", 8),
         Configuration::TwelveBySixteen => ("12x16", 16),
@@ -45,22 +39,23 @@ pub(crate) fn legend_of(
             .moments
             .iter()
             .fold(0, |most: u128, moment| most.max(moment.usable)),
-        denied: drawn(&watched.answers, window)
-            .iter()
-            .filter(|answer| is_denied(**answer))
-            .count(),
         left_out,
     }
 }
 
-/// The answers of a window.
-pub(crate) fn drawn(answers: &[Answer], window: Window) -> &[Answer] {
-    answers.get(window.first..window.end).unwrap_or(&[])
-}
-
-/// Whether an allocation or a reallocation found no room.
-pub(crate) fn is_denied(answer: Answer) -> bool {
-    matches!(answer, Answer::Placed(None))
+/// The indices of the allocations and reallocations of a window that found no room.
+pub(crate) fn denied_of(
+    alloc: Global,
+    answers: &[Answer],
+    window: Window,
+) -> Result<Vec<usize>, AllocError> {
+    let mut denied = Vec::new(alloc);
+    for index in window.first..window.end {
+        if let Some(Answer::Placed(None)) = answers.get(index) {
+            denied.push(index)?;
+        }
+    }
+    Ok(denied)
 }
 
 /// How many boxes are left out, where any are.
@@ -76,39 +71,20 @@ impl fmt::Display for LeftOut {
     }
 }
 
-/// How many pools there are, and where the first ones are.
-#[derive(Clone, Copy)]
-pub(crate) struct PoolList<'a>(pub(crate) &'a [Pool]);
-
-impl fmt::Display for PoolList<'_> {
-    fn fmt<W: fmt::Write>(&self, f: &mut fmt::Formatter<W>) -> fmt::Result {
-        write!(f, "{}", self.0.len())?;
-        for pool in self.0.iter().take(MOST_LISTED) {
-            write!(f, ", {} to {}", pool.start, pool.end())?;
-        }
-        Ok(())
+/// Lists where the first pools are.
+pub(crate) fn print_pool_list(text: &mut String, pools: &[Pool]) -> Result<(), AllocError> {
+    for pool in pools.get(..MOST_LISTED).unwrap_or(pools) {
+        let (start, end) = (pool.start, pool.end());
+        write!(text, ", {start} to {end}")?;
     }
+    Ok(())
 }
 
-/// The numbers of the first lines that found no room.
-#[derive(Clone, Copy)]
-pub(crate) struct DeniedLines<'a> {
-    /// The answers of the complete trace.
-    pub(crate) answers: &'a [Answer],
-    /// The calls that are drawn.
-    pub(crate) window: Window,
-}
-
-impl fmt::Display for DeniedLines<'_> {
-    fn fmt<W: fmt::Write>(&self, f: &mut fmt::Formatter<W>) -> fmt::Result {
-        let denied = drawn(self.answers, self.window)
-            .iter()
-            .enumerate()
-            .filter(|(_, answer)| is_denied(**answer));
-        for (index, _) in denied.take(MOST_LISTED) {
-            let line = self.window.first as u128 + index as u128 + 2;
-            write!(f, ", line {line}")?;
-        }
-        Ok(())
+/// Lists the lines of the first calls that found no room.
+pub(crate) fn print_denied_list(text: &mut String, denied: &[usize]) -> Result<(), AllocError> {
+    for index in denied.get(..MOST_LISTED).unwrap_or(denied) {
+        let line = *index as u128 + 2;
+        write!(text, ", line {line}")?;
     }
+    Ok(())
 }

@@ -7,7 +7,7 @@ ghost use Rattle.rlsf_trace_common.specs.Replays.{not_read, IsOutputFault, IsRep
 
 use crate::boxes::boxes_of;
 use crate::draw::{Scene, drawing};
-use crate::legend::legend_of;
+use crate::legend::{denied_of, legend_of};
 use crate::pools::pools_of;
 use crate::window::{Lines, Window};
 use rlsf_trace_common::{read_input, write_text};
@@ -57,13 +57,14 @@ fn drawing_for(
     let window = Window::new(lines, trace.ops.len());
     let pools = pools_of(alloc, &trace.ops, &watched.answers)?;
     let boxes = boxes_of(alloc, &trace.ops, watched, window)?;
-    let legend = legend_of(trace.configuration, watched, window, boxes.left_out);
+    let denied = denied_of(alloc, &watched.answers, window)?;
     let scene = Scene {
         window,
         pools: &pools,
         boxes: &boxes.boxes,
-        watched,
-        legend: &legend,
+        blocks: &watched.blocks,
+        denied: &denied,
+        legend: legend_of(trace.configuration, watched, boxes.left_out),
     };
     drawing(alloc, &scene)
 }

@@ -27,21 +27,28 @@ pub(crate) fn pools_of(
     ops: &[Op],
     answers: &[Answer],
 ) -> Result<Vec<Pool>, AllocError> {
-    ops.iter()
-        .zip(answers)
-        .enumerate()
-        .filter_map(|(since, (op, answer))| match (*op, *answer) {
-            (Op::Insert(range), Answer::Inserted(Some(len))) => Some(Pool {
-                start: range.start,
-                len: len.get(),
-                since,
-            }),
-            (Op::Append(range), Answer::Appended(len)) if len > 0 => Some(Pool {
-                start: range.start,
-                len,
-                since,
-            }),
-            _ => None,
-        })
-        .collect(alloc)
+    let mut pools = Vec::new(alloc);
+    for index in 0..ops.len() {
+        if let Some(pool) = pool_of(ops, answers, index) {
+            pools.push(pool)?;
+        }
+    }
+    Ok(pools)
+}
+
+// The range that the call of an index inserted or appended.
+fn pool_of(ops: &[Op], answers: &[Answer], since: usize) -> Option<Pool> {
+    match (*ops.get(since)?, *answers.get(since)?) {
+        (Op::Insert(range), Answer::Inserted(Some(len))) => Some(Pool {
+            start: range.start,
+            len: len.get(),
+            since,
+        }),
+        (Op::Append(range), Answer::Appended(len)) if len > 0 => Some(Pool {
+            start: range.start,
+            len,
+            since,
+        }),
+        _ => None,
+    }
 }
