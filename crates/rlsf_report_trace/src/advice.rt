@@ -57,14 +57,15 @@ pub(crate) fn advice_of(
 
 // The range of the one insert, where there is no other and no append.
 fn only_range(ops: &[Op]) -> Option<Range> {
-    let mut ranges = ops.iter().filter_map(|op| match op {
-        Op::Insert(range) | Op::Append(range) => Some((*range, matches!(op, Op::Insert(_)))),
-        _ => None,
-    });
-    match (ranges.next(), ranges.next()) {
-        (Some((range, true)), None) => Some(range),
-        _ => None,
+    let mut only = None;
+    for op in ops {
+        match *op {
+            Op::Insert(range) if only.is_none() => only = Some(range),
+            Op::Insert(_) | Op::Append(_) => return None,
+            _ => (),
+        }
     }
+    only
 }
 
 // The greatest size and the greatest alignment that are asked for, but by calls that are refused as they are written.

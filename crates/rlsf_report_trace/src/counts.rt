@@ -23,33 +23,54 @@ pub(crate) fn counts_of(
     ops: &[Op],
     answers: &[Answer],
 ) -> Result<Vec<Count>, AllocError> {
-    KINDS
-        .iter()
-        .map(|kind| count_of(*kind, ops, answers))
-        .filter(|count| count.calls > 0)
-        .collect(alloc)
+    let mut counts = Vec::new(alloc);
+    for kind in KINDS {
+        let count = count_of(kind, ops, answers);
+        if count.calls > 0 {
+            counts.push(count)?;
+        }
+    }
+    Ok(counts)
 }
 
 // The count of a kind.
 fn count_of(kind: Kind, ops: &[Op], answers: &[Answer]) -> Count {
-    Count {
+    let mut count = Count {
         kind,
-        calls: ops.iter().filter(|op| Kind::of(**op) == kind).count(),
-        none: count_where(kind, ops, answers, Outcome::None),
-        refused: count_where(kind, ops, answers, Outcome::Refused),
+        calls: 0,
+        none: 0,
+        refused: 0,
+    };
+    for (op, answer) in ops.iter().zip(answers) {
+        if Kind::of(*op) == kind {
+            count = count.and(Outcome::of(*answer));
+        }
+    }
+    count
+}
+
+impl Count {
+    // The count with one call more, which ended so.
+    fn and(self, outcome: Outcome) -> Count {
+        let calls = self.calls.saturating_add(1);
+        match outcome {
+            Outcome::Done => Count { calls, ..self },
+            Outcome::None => Count {
+                calls,
+                none: self.none.saturating_add(1),
+                ..self
+            },
+            Outcome::Refused => Count {
+                calls,
+                refused: self.refused.saturating_add(1),
+                ..self
+            },
+        }
     }
 }
 
-// How many calls of a kind ended so.
-fn count_where(kind: Kind, ops: &[Op], answers: &[Answer], outcome: Outcome) -> usize {
-    ops.iter()
-        .zip(answers)
-        .filter(|(op, answer)| Kind::of(**op) == kind && Outcome::of(**answer) == outcome)
-        .count()
-}
-
 /// How a call ended.
-#[derive(Clone, Copy, PartialEq, Eq)]
+#[derive(Clone, Copy)]
 pub(crate) enum Outcome {
     /// It was done.
     Done,

@@ -11,28 +11,48 @@ use std::alloc::{AllocError, Global};
 pub(crate) fn csv_of(alloc: Global, ops: &[Op], watched: &Watched) -> Result<String, AllocError> {
     let mut text = String::new(alloc);
     text.push_str("line,call,outcome,live,usable\n")?;
-    let answers = watched.answers.iter().zip(&watched.moments);
-    for (index, (op, (answer, moment))) in ops.iter().zip(answers).enumerate() {
-        print_call(&mut text, index, *op, *answer, *moment)?;
-    }
+    print_calls(&mut text, ops, watched)?;
     Ok(text)
 }
 
-fn print_call(
-    text: &mut String,
+fn print_calls(text: &mut String, ops: &[Op], watched: &Watched) -> Result<(), AllocError> {
+    for index in 0..ops.len() {
+        if let Some(call) = call_at(ops, watched, index) {
+            print_call(text, call)?;
+        }
+    }
+    Ok(())
+}
+
+// A call of the trace.
+#[derive(Clone, Copy)]
+struct Call {
     index: usize,
     op: Op,
     answer: Answer,
+    // What the allocator held after it.
     moment: Moment,
-) -> Result<(), AllocError> {
+}
+
+// The call of an index, where the trace has one.
+fn call_at(ops: &[Op], watched: &Watched, index: usize) -> Option<Call> {
+    Some(Call {
+        index,
+        op: *ops.get(index)?,
+        answer: *watched.answers.get(index)?,
+        moment: *watched.moments.get(index)?,
+    })
+}
+
+fn print_call(text: &mut String, call: Call) -> Result<(), AllocError> {
     // Line 1 names the configuration and the memory.
-    let line = index as u128 + 2;
-    let kind = Kind::of(op);
-    let outcome = match Outcome::of(answer) {
+    let line = call.index as u128 + 2;
+    let kind = Kind::of(call.op);
+    let outcome = match Outcome::of(call.answer) {
         Outcome::Done => "done",
         Outcome::None => "none",
         Outcome::Refused => "refused",
     };
-    let Moment { live, usable } = moment;
+    let Moment { live, usable } = call.moment;
     writeln!(text, "{line},{kind},{outcome},{live},{usable}")
 }

@@ -3,6 +3,7 @@
 use crate::advice::Advice;
 use crate::counts::Count;
 use crate::summary::Summary;
+use rlsf_trace_recorded_runs::Moment;
 use std::alloc::{AllocError, Global};
 
 /// The table of a report.
@@ -38,7 +39,7 @@ fn print_counts(text: &mut String, counts: &[Count]) -> Result<(), AllocError> {
 
 fn print_summary(text: &mut String, summary: Summary, asked: u128) -> Result<(), AllocError> {
     let Summary {
-        last,
+        last: Moment { live, usable },
         most_live,
         most_usable,
         used_bytes,
@@ -47,30 +48,18 @@ fn print_summary(text: &mut String, summary: Summary, asked: u128) -> Result<(),
         longest,
     } = summary;
     let lost = used_bytes.saturating_sub(asked);
-    text.push_str("\n                                     at the end    at most\n")?;
-    print_both(text, "live payloads", last.live as u128, most_live as u128)?;
-    print_both(text, "their usable bytes", last.usable, most_usable)?;
-    let rows = [
-        ("bytes that they asked for", asked),
-        ("bytes of headers and rounding", lost),
-        ("free bytes", free_bytes),
-        ("free blocks", free_blocks as u128),
-        ("longest free block", longest as u128),
-    ];
-    for (label, number) in rows {
-        print_row(text, label, number)?;
-    }
-    Ok(())
-}
-
-// What a number is of, and the number.
-fn print_row(text: &mut String, label: &str, number: u128) -> Result<(), AllocError> {
-    writeln!(text, "{label:<32}{number:>15}")
-}
-
-// What two numbers are of: the number at the end, and the greatest.
-fn print_both(text: &mut String, label: &str, last: u128, most: u128) -> Result<(), AllocError> {
-    writeln!(text, "{label:<32}{last:>15}{most:>11}")
+    writeln!(
+        text,
+        "
+                                     at the end    at most
+live payloads                   {live:>15}{most_live:>11}
+their usable bytes              {usable:>15}{most_usable:>11}
+bytes that they asked for       {asked:>15}
+bytes of headers and rounding   {lost:>15}
+free bytes                      {free_bytes:>15}
+free blocks                     {free_blocks:>15}
+longest free block              {longest:>15}"
+    )
 }
 
 fn print_advice(text: &mut String, advice: Advice) -> Result<(), AllocError> {
@@ -87,7 +76,15 @@ fn print_advice(text: &mut String, advice: Advice) -> Result<(), AllocError> {
         "\n{live} payloads of up to {size} bytes at multiples of up to {align}"
     )?;
     print_enough(text, enough)?;
-    let half = inserted / 2;
+    print_half(text, inserted / 2, first_denied)
+}
+
+// Whether a pool of half the length has room for the trace.
+fn print_half(
+    text: &mut String,
+    half: usize,
+    first_denied: Option<u128>,
+) -> Result<(), AllocError> {
     match first_denied {
         None => writeln!(
             text,
@@ -102,7 +99,7 @@ fn print_advice(text: &mut String, advice: Advice) -> Result<(), AllocError> {
 
 fn print_enough(text: &mut String, enough: Option<usize>) -> Result<(), AllocError> {
     match enough {
-        Some(len) => print_row(text, "never refused in a pool of", len as u128),
+        Some(len) => writeln!(text, "never refused in a pool of      {len:>15}"),
         None => text.push_str("no pool is so long that it never refuses them\n"),
     }
 }
