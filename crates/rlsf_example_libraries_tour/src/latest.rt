@@ -79,13 +79,17 @@ impl Latest {
 pub(crate) fn show(rt: &(impl Print + AllocGlobal)) -> Result<(), TourError> {
     let memory = Memory::new(rt.alloc(), 32768, 288)?;
     let mut latest = Latest::new(rt.alloc(), memory, 2)?;
+    put_four(rt, &mut latest)
+}
+
+fn put_four(rt: &(impl Print + AllocGlobal), latest: &mut Latest) -> Result<(), TourError> {
     rt.println("The latest 2 messages of up to 64 bytes, in 288 bytes")?;
-    put(rt, &mut latest, "one")?;
-    put(rt, &mut latest, "the second one, which is a bit longer")?;
-    put(rt, &mut latest, "three")?;
+    put(rt, latest, "one")?;
+    put(rt, latest, "the second one, which is a bit longer")?;
+    put(rt, latest, "three")?;
     put(
         rt,
-        &mut latest,
+        latest,
         "the fourth one, which is longer than the second one",
     )
 }

@@ -27,17 +27,17 @@ const SCRIPT: [Step; 7] = [
 pub(crate) fn show(rt: &(impl Print + AllocGlobal)) -> Result<(), TourError> {
     let memory = Memory::new(rt.alloc(), 4096, 320)?;
     let mut queue = Messages::new(rt.alloc(), memory, 3)?;
+    run_script(rt, &mut queue)
+}
+
+fn run_script(rt: &(impl Print + AllocGlobal), queue: &mut Messages) -> Result<(), TourError> {
     draw(
         rt,
         "A queue of up to 3 messages, in 320 bytes",
         queue.blocks(),
     )?;
-    run_script(rt, &mut queue)
-}
-
-fn run_script(rt: &(impl Print + AllocGlobal), queue: &mut Messages) -> Result<(), TourError> {
-    for step in SCRIPT {
-        run_step(rt, queue, step)?;
+    for step in &SCRIPT {
+        run_step(rt, queue, *step)?;
     }
     Ok(())
 }

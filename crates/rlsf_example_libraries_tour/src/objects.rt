@@ -34,15 +34,16 @@ const SCRIPT: [Step; 9] = [
 
 /// Takes objects, writes into one, returns one, and exchanges one for another.
 pub(crate) fn show(rt: &(impl Print + AllocGlobal)) -> Result<(), TourError> {
+    let object = Layout::from_size_align(40, 32)?;
     let memory = Memory::new(rt.alloc(), 8192, 288)?;
-    let mut pool = Objects::new(rt.alloc(), memory, Layout::from_size_align(40, 32)?);
-    rt.println("Objects of 40 bytes at multiples of 32, in 288 bytes")?;
+    let mut pool = Objects::new(rt.alloc(), memory, object);
     run_script(rt, &mut pool)
 }
 
 fn run_script(rt: &(impl Print + AllocGlobal), pool: &mut Objects) -> Result<(), TourError> {
-    for step in SCRIPT {
-        run_step(rt, pool, step)?;
+    rt.println("Objects of 40 bytes at multiples of 32, in 288 bytes")?;
+    for step in &SCRIPT {
+        run_step(rt, pool, *step)?;
     }
     Ok(())
 }

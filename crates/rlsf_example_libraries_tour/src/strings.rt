@@ -31,13 +31,13 @@ const SCRIPT: [Step; 8] = [
 pub(crate) fn show(rt: &(impl Print + AllocGlobal)) -> Result<(), TourError> {
     let memory = Memory::new(rt.alloc(), 16384, 320)?;
     let mut strings = Strings::new(rt.alloc(), memory);
-    rt.println("Strings, in 320 bytes")?;
     run_script(rt, &mut strings)
 }
 
 fn run_script(rt: &(impl Print + AllocGlobal), strings: &mut Strings) -> Result<(), TourError> {
-    for step in SCRIPT {
-        run_step(rt, strings, step)?;
+    rt.println("Strings, in 320 bytes")?;
+    for step in &SCRIPT {
+        run_step(rt, strings, *step)?;
     }
     Ok(())
 }
