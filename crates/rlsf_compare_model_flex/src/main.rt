@@ -57,10 +57,14 @@ fn replay(rt: &(impl Input + Print + AllocGlobal)) -> Result<(), ReplayError> {
     let mut number: usize = 0;
     for text in runs.split("\nrun ") {
         number = number.saturating_add(1);
-        let output = output_of(rt.alloc(), text).map_err(|failure| in_run(number, failure))?;
-        print!(rt; "run {number}\n{output}").map_err(|error| in_run(number, error.into()))?;
+        replay_run(rt, number, text).map_err(|failure| in_run(number, failure))?;
     }
     Ok(())
+}
+
+fn replay_run(rt: &(impl Print + AllocGlobal), number: usize, text: &str) -> Result<(), Failure> {
+    let output = output_of(rt.alloc(), text)?;
+    Ok(print!(rt; "run {number}\n{output}")?)
 }
 
 fn in_run(run: usize, failure: Failure) -> ReplayError {

@@ -1,7 +1,10 @@
 //! Replays of runs.
 
-ghost use Rattle.std.specs.Prelude.{◌≡◌};
+ghost use Rattle.std.specs.Prelude.{◌≡◌, [], IfOk, length};
+ghost use Rattle.rlsf_base.specs.PowerOfTwo.{IsPowerOfTwo};
+ghost use Rattle.rlsf_base.specs.Range.{LiesIn};
 ghost use Rattle.rlsf_model.specs.FlexState.{empty};
+ghost use Rattle.rlsf_source_for_tests.specs.Listed.{MayOwe};
 
 use crate::error::Failure;
 use crate::output::print_questions;
@@ -9,9 +12,9 @@ use crate::reading::{Run, read_run};
 use rlsf_base::memory::{Memory, Range};
 use rlsf_flex::FlexTlsf;
 use rlsf_int::BitPattern;
-use rlsf_source_for_tests::ListedSource;
+use rlsf_source_for_tests::{Capabilities, ListedSource, SourceAnswer};
 use rlsf_trace_flex_runs::run_flex;
-use rlsf_trace_text::{Configuration, Op, text_of};
+use rlsf_trace_text::{Answer, Configuration, Op, text_of};
 use std::alloc::Global;
 
 /// The lines of the run with this text: those of its ops, and then those of its source's questions.
@@ -28,10 +31,36 @@ pub(crate) fn output_of(alloc: Global, text: &str) -> Result<String, Failure> {
     };
     // An op asks two questions at most, and each range returns once, by a trim or at the end.
     let questions = ops.len().saturating_mul(3);
+    let parts = parts_in(alloc, space, capabilities, answers, questions)?;
+    output_by(alloc, trace.configuration, parts, &ops)
+}
+
+/// The memory of a space, and the source that provides ranges of it.
+fn parts_in(
+    alloc: Global,
+    space: Range,
+    capabilities: Capabilities,
+    answers: Vec<SourceAnswer>,
+    questions: usize,
+) -> Result<(Memory, ListedSource), Failure>
+    requires { IsPowerOfTwo capabilities.min_align }
+    ensures { IfOk result (λ parts. LiesIn parts.1.terms.space parts.0.start (length parts.0.bytes) × MayOwe parts.1 []) }
+{
     let source = ListedSource::new(alloc, space, capabilities, answers, questions)?;
-    let memory = Memory::new(alloc, trace.start, trace.len)?;
-    let configuration = trace.configuration;
-    let ops = &ops;
+    let memory = Memory::new(alloc, space.start, space.len)?;
+    Ok((memory, source))
+}
+
+/// The lines of ops on an allocator of a configuration, over a memory and a source.
+fn output_by(
+    alloc: Global,
+    configuration: Configuration,
+    parts: (Memory, ListedSource),
+    ops: &[Op],
+) -> Result<String, Failure>
+    requires { LiesIn parts.1.terms.space parts.0.start (length parts.0.bytes) × MayOwe parts.1 [] }
+{
+    let (memory, source) = parts;
     match configuration {
         Configuration::EightByEight => {
             output_with(alloc, FlexTlsf::<_, u8, u8, 8, 8>::new(memory, source), ops)
@@ -64,9 +93,20 @@ fn output_with<FLBitmap: BitPattern, SLBitmap: BitPattern, const FLLEN: usize, c
     requires { flex.state ≡ empty }
 {
     let mut answers = Vec::new(alloc);
-    run_flex(alloc, &mut flex, ops, &mut answers)?;
+    let run = run_flex(alloc, &mut flex, ops, &mut answers);
     let (_, source) = flex.into_parts();
-    let mut text = text_of(alloc, ops, &answers)?;
+    run?;
+    text_with_questions(alloc, ops, &answers, &source)
+}
+
+/// The lines of ops and their answers, and then those of the questions that a source was asked.
+fn text_with_questions(
+    alloc: Global,
+    ops: &[Op],
+    answers: &[Answer],
+    source: &ListedSource,
+) -> Result<String, Failure> {
+    let mut text = text_of(alloc, ops, answers)?;
     print_questions(&mut text, source.asked())?;
     Ok(text)
 }
