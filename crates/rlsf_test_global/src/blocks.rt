@@ -1,12 +1,11 @@
 //! The blocks that calls leave, by their words in the memory.
 
 use crate::answers::all;
-use crate::locked::{first_wrong, over};
+use crate::locked::first_wrong;
 use crate::steps::{PAGES, Step};
 use rlsf_base::memory::Memory;
-use std::alloc::Global;
+use rlsf_global::Locked;
 use std::process::Abort;
-use std::test::Fail;
 
 /// The word at an address, if the memory has it.
 fn word_at(memory: &Memory, addr: usize) -> Option<u64> {
@@ -44,23 +43,22 @@ static GROWN: [(usize, u64); 10] = [
 
 /// Passes if calls on an allocator over so many bytes have the results beside them, and leave these words.
 fn leave(
-    rt: &impl Abort,
-    alloc: Global,
+    rt: &(impl Abort + AllocGlobal),
     len: usize,
     steps: &[(Step, usize)],
     words: &[(usize, u64)],
-) -> Result<(), Fail> {
-    let mut locked = over::<()>(alloc, len)?;
+) {
+    let memory = Memory::new(rt.alloc(), 65536, len).expect(rt, "a memory");
+    let mut locked = Locked::<()>::new(rt.alloc(), memory);
     let step = first_wrong(&mut locked, steps);
     let word = first_wrong_word(locked.memory_ref(), words);
     all(rt, &[step.is_none(), word.is_none()]);
-    Ok(())
 }
 
 #[test]
-fn a_chunk_that_grew(rt: HostRuntime) -> Result<(), Fail> {
+fn a_chunk_that_grew(rt: HostRuntime) {
     let (len, steps) = PAGES[0];
-    leave(&rt, rt.alloc(), len, steps, &GROWN)
+    leave(&rt, len, steps, &GROWN);
 }
 
 /// A free block of 64 bytes, a used one of 96 with the word before its payload, a free one of 65344, and the end.
@@ -81,10 +79,10 @@ static MOVED: [(usize, u64); 13] = [
 ];
 
 #[test]
-fn a_payload_that_moved(rt: HostRuntime) -> Result<(), Fail> {
+fn a_payload_that_moved(rt: HostRuntime) {
     let steps = [
         (Step::Allocate(40, 8), 65552),
         (Step::Reallocate(65552, 10, 64), 65664),
     ];
-    leave(&rt, rt.alloc(), 131072, &steps, &MOVED)
+    leave(&rt, 131072, &steps, &MOVED);
 }

@@ -12,6 +12,7 @@ use rlsf_base::memory::{Addr, Layout, Memory};
 use rlsf_global::{CAlloc, GlobalTlsf, GlobalTlsfOptions, SmallGlobalTlsfOptions};
 use std::alloc::Global;
 use std::process::Abort;
+use std::slice::Iter;
 use std::sync::Wait;
 
 /// Where the memory starts.
@@ -25,13 +26,13 @@ struct Live {
     mark: u8,
 }
 
-/// A list that is run: the payloads that are live, and the bytes and the addresses that are left, the next ones last.
+/// A list that is run: the payloads that are live, and the bytes and the addresses that are left.
 #[derive(Drop)]
 struct Run<Options: GlobalTlsfOptions> {
     shared: GlobalTlsf<Options>,
     live: Vec<Live>,
-    bytes: Vec<u8>,
-    placed: Vec<u32>,
+    bytes: Iter<'static, u8>,
+    placed: Iter<'static, u32>,
     mark: u8,
 }
 
@@ -46,46 +47,46 @@ enum Call {
 
 /// The call that the next bytes mean, if they don't end before. The first chooses which one. With more than 64 payloads live none
 /// is allocated.
-fn next_call(bytes: &mut Vec<u8>, live: usize) -> Option<Call> {
-    match bytes.pop()? % 8 {
-        0..=2 if live > 64 => Some(Call::Nothing),
-        0..=2 => Some(Call::Allocate(next_layout(bytes)?)),
-        3..=5 => Some(match next_place(bytes, live)? {
-            Some(place) => Call::Free(place),
-            None => Call::Nothing,
-        }),
-        _ => match next_place(bytes, live)? {
-            Some(place) => Some(Call::Move(place, next_layout(bytes)?)),
-            None => Some(Call::Nothing),
-        },
+fn next_call(bytes: &mut Iter<'_, u8>, live: usize) -> Option<Call> {
+    let kind = *bytes.next()? % 8;
+    if kind <= 2 && live > 64 {
+        return Some(Call::Nothing);
     }
+    if kind <= 2 {
+        return Some(Call::Allocate(next_layout(bytes)?));
+    }
+    let Some(place) = next_place(bytes, live)? else {
+        return Some(Call::Nothing);
+    };
+    Some(if kind <= 5 {
+        Call::Free(place)
+    } else {
+        Call::Move(place, next_layout(bytes)?)
+    })
 }
 
 /// A layout: a byte is the size, and another the alignment.
-fn next_layout(bytes: &mut Vec<u8>) -> Option<Layout> {
-    let size = usize::from(bytes.pop()?);
-    let align = 1 << (bytes.pop()? % 6);
+fn next_layout(bytes: &mut Iter<'_, u8>) -> Option<Layout> {
+    let size = usize::from(*bytes.next()?);
+    let align = 1 << (*bytes.next()? % 6);
     Layout::from_size_align(size, align).ok()
 }
 
 /// The payload that a byte chooses. The outer is none at the end of the bytes, and the inner where none is live.
-fn next_place(bytes: &mut Vec<u8>, live: usize) -> Option<Option<usize>> {
-    let index = usize::from(bytes.pop()?);
+fn next_place(bytes: &mut Iter<'_, u8>, live: usize) -> Option<Option<usize>> {
+    let index = usize::from(*bytes.next()?);
     Some(index.checked_rem(live))
 }
 
 impl<Options: GlobalTlsfOptions> Run<Options> {
     /// Nothing is live yet. `None` if the system is out of memory.
-    fn new(alloc: Global, bytes: &[u8], placed: &[u32]) -> Option<Self> {
-        let mut bytes = bytes.to_vec(alloc).ok()?;
-        bytes.reverse();
-        let mut placed = placed.to_vec(alloc).ok()?;
-        placed.reverse();
+    fn new(alloc: Global, bytes: &'static [u8], placed: &'static [u32]) -> Option<Self> {
+        let memory = Memory::new(alloc, START, 262144).ok()?;
         Some(Run {
-            shared: GlobalTlsf::new(alloc, Memory::new(alloc, START, 262144).ok()?),
+            shared: GlobalTlsf::new(alloc, memory),
             live: Vec::new(alloc),
-            bytes,
-            placed,
+            bytes: bytes.iter(),
+            placed: placed.iter(),
             mark: 0,
         })
     }
@@ -101,7 +102,7 @@ impl<Options: GlobalTlsfOptions> Run<Options> {
                 return false;
             }
         }
-        self.all_are_freed(rt) && self.placed.is_empty()
+        self.all_are_freed(rt) && self.placed.len() == 0
     }
 
     fn all_are_freed<R: Wait>(&mut self, rt: &R) -> bool {
@@ -147,21 +148,21 @@ impl<Options: GlobalTlsfOptions> Run<Options> {
         let Ok(addr) = self.shared.reallocate(rt, old.addr, layout) else {
             return false;
         };
-        let kept = Live {
-            addr,
-            size: old.size.min(layout.size()),
-            mark: old.mark,
-        };
         let moved = self.payload(addr, layout.size());
         if let Some(payload) = self.live.get_mut(place) {
             *payload = moved;
         }
+        let kept = Live {
+            addr,
+            size: old.size.min(moved.size),
+            mark: old.mark,
+        };
         self.is_next(addr) && self.has_its_bytes(rt, kept) && self.is_filled(rt, moved)
     }
 
     /// Whether the next address is this one.
     fn is_next(&mut self, addr: Addr) -> bool {
-        self.placed.pop().map(|offset| offset as usize) == addr.get().checked_sub(START)
+        self.placed.next().map(|offset| *offset as usize) == addr.get().checked_sub(START)
     }
 
     /// A payload that gets a mark, so that it is filled in another way than those before it.
@@ -190,13 +191,11 @@ impl<Options: GlobalTlsfOptions> Run<Options> {
     fn has_its_bytes<R: Wait>(&self, rt: &R, payload: Live) -> bool {
         let wanted = filling(payload.mark);
         let mut found = [0; 256];
-        let (Some(bytes), Some(wanted)) = (
-            found.get_mut(..payload.size),
-            wanted.get(..payload.size),
-        ) else {
+        let Some(bytes) = found.get_mut(..payload.size) else {
             return false;
         };
-        self.shared.read_payload(rt, payload.addr, 0, bytes).is_ok() && *bytes == *wanted
+        let is_read = self.shared.read_payload(rt, payload.addr, 0, bytes).is_ok();
+        is_read && found.get(..payload.size) == wanted.get(..payload.size)
     }
 }
 
@@ -215,8 +214,8 @@ fn filling(mark: u8) -> [u8; 256] {
 fn goes_so<R: Wait, Options: GlobalTlsfOptions>(
     rt: &R,
     alloc: Global,
-    bytes: &[u8],
-    placed: &[u32],
+    bytes: &'static [u8],
+    placed: &'static [u32],
 ) -> bool {
     match Run::<Options>::new(alloc, bytes, placed) {
         Some(mut run) => run.is_right(rt),

@@ -166,8 +166,7 @@ fn are_right_of<Options: GlobalTlsfOptions>(
     alloc: Global,
 ) -> Result<(), Fail> {
     let shared = GlobalTlsf::<Options>::new(alloc, Memory::new(alloc, 65536, 65536)?);
-    let addr = shared.alloc(rt, layout())?;
-    all(rt, &[addr.get() == 65552]);
+    all(rt, &[placed(shared.alloc(rt, layout())) == 65552]);
     are_right(rt, &shared);
     Ok(())
 }

@@ -1,9 +1,11 @@
 //! Two threads over one allocator.
 
 use crate::answers::all;
+use crate::steps::placed;
 use rlsf_base::memory::{Addr, Layout, Memory};
 use rlsf_global::{CAlloc, GlobalTlsf, GlobalTlsfOptions, SmallGlobalTlsfOptions};
 use std::alloc::Global;
+use std::process::Abort;
 use std::sync::Wait;
 use std::test::Fail;
 use std::thread;
@@ -29,12 +31,15 @@ fn filled<R: Wait, Options: GlobalTlsfOptions>(
     round: usize,
     mark: u8,
 ) -> Option<Addr> {
-    let layout = Layout::from_size_align(size_of(round), 8).ok()?;
-    let addr = shared.alloc(rt, layout).ok()?;
+    let size = size_of(round);
     let bytes = [byte_of(round, mark); 100];
-    let bytes = bytes.get(..size_of(round))?;
-    shared.write_payload(rt, addr, 0, bytes).ok()?;
-    Some(addr)
+    let bytes = bytes.get(..size)?;
+    let layout = Layout::from_size_align(size, 8).ok()?;
+    let addr = shared.alloc(rt, layout).ok()?;
+    match shared.write_payload(rt, addr, 0, bytes) {
+        Ok(()) => Some(addr),
+        Err(_) => None,
+    }
 }
 
 /// Reads a payload back, and frees it; whether its bytes were those that it was filled with.
@@ -45,13 +50,14 @@ fn emptied<R: Wait, Options: GlobalTlsfOptions>(
     round: usize,
     mark: u8,
 ) -> bool {
-    let mut bytes = [mark ^ 1; 100];
-    let Some(bytes) = bytes.get_mut(..size_of(round)) else {
+    let size = size_of(round);
+    let wanted = [byte_of(round, mark); 100];
+    let mut found = [mark ^ 1; 100];
+    let Some(bytes) = found.get_mut(..size) else {
         return false;
     };
-    shared.read_payload(rt, addr, 0, bytes).is_ok()
-        && bytes.iter().all(|byte| *byte == byte_of(round, mark))
-        && shared.deallocate(rt, addr).is_ok()
+    let is_read = shared.read_payload(rt, addr, 0, bytes).is_ok();
+    is_read && found.get(..size) == wanted.get(..size) && shared.deallocate(rt, addr).is_ok()
 }
 
 /// How many rounds go as they should, one after another. A payload is read back when the next one has been filled.
@@ -78,23 +84,21 @@ fn rounds<R: Wait, Options: GlobalTlsfOptions>(
     }
 }
 
-/// How many rounds of two threads go as they should, and where a payload lies behind them.
-fn of_two<R: Threads + Wait + Sync, Options: GlobalTlsfOptions + Send>(
+/// Passes if all rounds of two threads go as they should.
+fn of_two<R: Abort + Threads + Wait + Sync, Options: GlobalTlsfOptions + Send>(
     rt: &R,
     alloc: Global,
-) -> Result<(usize, usize, Option<usize>), Fail> {
+) -> Result<(), Fail> {
     let shared = GlobalTlsf::<Options>::new(alloc, Memory::new(alloc, 65536, 65536)?);
     let (first, second) = thread::join(rt, || rounds(rt, &shared, 0), || rounds(rt, &shared, 128));
-    let after = shared.alloc(rt, Layout::from_size_align_unchecked(65000, 8));
-    Ok((first, second, after.ok().map(|addr| addr.get())))
+    // Nothing is live behind them, so one free block has nearly the complete page.
+    let after = placed(shared.alloc(rt, Layout::from_size_align_unchecked(65000, 8)));
+    all(rt, &[(first, second, after) == (ROUNDS, ROUNDS, 65552)]);
+    Ok(())
 }
 
 #[test]
 fn fill_and_read_back(rt: HostRuntime) -> Result<(), Fail> {
-    let coalescing = of_two::<_, ()>(&rt, rt.alloc())?;
-    let small = of_two::<_, SmallGlobalTlsfOptions>(&rt, rt.alloc())?;
-    // Nothing is live behind them, so one free block has nearly the complete page.
-    let expected = (ROUNDS, ROUNDS, Some(65552));
-    all(&rt, &[coalescing == expected, small == expected]);
-    Ok(())
+    of_two::<_, ()>(&rt, rt.alloc())?;
+    of_two::<_, SmallGlobalTlsfOptions>(&rt, rt.alloc())
 }

@@ -1,22 +1,14 @@
 //! Calls under the passes of several callers on one thread, and what closing finds.
 
 use crate::answers::all;
-use rlsf_base::memory::{Addr, Layout, Memory};
+use crate::steps::{Call, NO_STEP, Step, call_of, done, placed};
+use rlsf_base::memory::Memory;
 use rlsf_global::GlobalError;
-use rlsf_journal::{Call, CloseError, Closed, Journaled, Pass};
+use rlsf_journal::{CloseError, Closed, Journaled, Pass};
 use std::alloc::Global;
-use std::num::NonZeroUsize;
 use std::process::Abort;
 use std::sync::Wait;
 use std::test::Fail;
-
-/// A call. Addresses, sizes and alignments are in the order of its arguments.
-#[derive(Clone, Copy)]
-enum Step {
-    Allocate(usize, usize),
-    Deallocate(usize),
-    Reallocate(usize, usize, usize),
-}
 
 /// Calls with the number of the caller before each, and the result behind it: an address, 0 for a deallocation, or the number of
 /// the error.
@@ -39,42 +31,16 @@ struct Case {
     text: &'static str,
 }
 
-fn layout(size: usize, align: usize) -> Option<Layout> {
-    Layout::from_size_align(size, align).ok()
-}
-
-/// The call of a step; nothing where it names no address or no layout.
-fn call_of(step: Step) -> Option<Call> {
-    match step {
-        Step::Allocate(size, align) => Some(Call::Allocate(layout(size, align)?)),
-        Step::Deallocate(addr) => Some(Call::Deallocate(NonZeroUsize::new(addr)?)),
-        Step::Reallocate(addr, size, align) => {
-            let addr = NonZeroUsize::new(addr)?;
-            Some(Call::Reallocate(addr, layout(size, align)?))
-        }
-    }
-}
-
-/// The number of an address, or that of the error.
-fn number(answer: Result<Addr, GlobalError>) -> usize {
-    match answer {
-        Ok(addr) => addr.get(),
-        Err(error) => error as usize,
-    }
-}
-
-/// Makes a call: the address, or 0 for a deallocation, or the number of the error.
+/// Makes a call, which has to be one with an entry: the address, or 0 for a deallocation, or the number of the error.
 fn answer(rt: &impl Wait, journaled: &Journaled, pass: &mut Pass, call: Call) -> usize {
     if pass.caller() >= journaled.callers() {
-        return usize::MAX;
+        return NO_STEP;
     }
     match call {
-        Call::Allocate(layout) => number(journaled.allocate(rt, pass, layout)),
-        Call::Deallocate(addr) => match journaled.deallocate(rt, pass, addr) {
-            Ok(()) => 0,
-            Err(error) => error as usize,
-        },
-        Call::Reallocate(addr, layout) => number(journaled.reallocate(rt, pass, addr, layout)),
+        Call::Allocate(layout) => placed(journaled.allocate(rt, pass, layout)),
+        Call::Deallocate(addr) => done(journaled.deallocate(rt, pass, addr)),
+        Call::Reallocate(addr, layout) => placed(journaled.reallocate(rt, pass, addr, layout)),
+        _ => NO_STEP,
     }
 }
 
@@ -123,7 +89,7 @@ pub fn over(alloc: Global, len: usize, callers: usize) -> Result<(Journaled, Vec
     Ok(Journaled::new(alloc, memory, callers)?)
 }
 
-/// The state after a case whose steps all have their expected results.
+/// The state after a case. Passes if all steps have their expected results, and the passes their receipts.
 fn after_steps(
     rt: &(impl Wait + Abort),
     alloc: Global,
@@ -131,7 +97,10 @@ fn after_steps(
 ) -> Result<(Journaled, Vec<Pass>), Fail> {
     let (journaled, mut passes) = over(alloc, case.len, case.callers)?;
     let wrong = first_wrong(rt, &journaled, &mut passes, case.steps);
-    all(rt, &[wrong.is_none()]);
+    all(
+        rt,
+        &[wrong.is_none(), have_receipts(&passes, case.receipts)],
+    );
     Ok((journaled, passes))
 }
 
@@ -154,13 +123,12 @@ pub fn agreed(
 /// Passes if a case has its expected result.
 fn is_right(rt: &(impl Wait + Abort), alloc: Global, case: Case) -> Result<(), Fail> {
     let (journaled, mut passes) = after_steps(rt, alloc, case)?;
-    let received = have_receipts(&passes, case.receipts);
     if case.last_first {
         passes.reverse();
     }
     let closed = agreed(rt, journaled, passes, case.counts);
     let text = closed.to_string(alloc)?;
-    all(rt, &[received, text.as_str() == case.text]);
+    all(rt, &[text.as_str() == case.text]);
     Ok(())
 }
 
@@ -255,35 +223,10 @@ fn a_second_page(rt: HostRuntime) -> Result<(), Fail> {
     is_right(&rt, rt.alloc(), SECOND_PAGE)
 }
 
-/// A pass that is handed back.
-#[derive(Clone, Copy)]
-enum Handed {
-    /// The next of the allocator's own passes.
-    Own,
-    /// The last pass, an unused one, of another allocator with so many callers.
-    Stray(usize),
-}
-
-/// The pass that is handed back, which is taken off the end of the allocator's own ones if it is one of them.
-fn pass_of(alloc: Global, own: &mut Vec<Pass>, handed: Handed) -> Result<Pass, Fail> {
-    let pass = match handed {
-        Handed::Own => own.pop(),
-        Handed::Stray(callers) => {
-            let (_, mut others) = over(alloc, 65536, callers)?;
-            others.pop()
-        }
-    };
-    Ok(pass.ok_or(GlobalError::JournalMemory)?)
-}
-
-/// The passes that are handed back.
-fn passes_of(alloc: Global, mut own: Vec<Pass>, handed: &[Handed]) -> Result<Vec<Pass>, Fail> {
-    own.reverse();
-    let mut passes = Vec::new(alloc);
-    for one in handed {
-        passes.push(pass_of(alloc, &mut own, *one)?)?;
-    }
-    Ok(passes)
+/// The last pass, an unused one, of another allocator with so many callers.
+fn stray(alloc: Global, callers: usize) -> Result<Pass, Fail> {
+    let (_, mut passes) = over(alloc, 65536, callers)?;
+    Ok(passes.pop().ok_or(GlobalError::JournalMemory)?)
 }
 
 /// The number of the error, or 0 where it was closed.
@@ -294,27 +237,36 @@ fn code(closed: Result<Closed, CloseError>) -> usize {
     }
 }
 
-/// What closing answers to these passes, when a payload was freed twice.
-fn closing(rt: &(impl Wait + Abort), alloc: Global, handed: &[Handed]) -> Result<usize, Fail> {
-    let (journaled, own) = after_steps(rt, alloc, FREED_TWICE)?;
-    let passes = passes_of(alloc, own, handed)?;
+/// What closing answers when a payload was freed twice, and so many of the own passes are handed back, and then strays.
+/// Each stray is of an allocator with so many callers.
+fn closing(
+    rt: &(impl Wait + Abort),
+    alloc: Global,
+    own: usize,
+    strays: &[usize],
+) -> Result<usize, Fail> {
+    let (journaled, mut passes) = after_steps(rt, alloc, FREED_TWICE)?;
+    passes.truncate(own);
+    for callers in strays {
+        passes.push(stray(alloc, *callers)?)?;
+    }
     Ok(code(journaled.close(passes)))
 }
 
-/// Passes that are handed back, and the number of the error that closing answers to them.
-static FAULTS: [(&[Handed], usize); 5] = [
-    (&[Handed::Own], 1),
-    (&[Handed::Own, Handed::Own, Handed::Stray(3)], 2),
-    (&[Handed::Own, Handed::Stray(2)], 3),
+/// How many own passes are handed back, the strays behind them, and the number of the error that closing answers.
+static FAULTS: [(usize, &[usize], usize); 5] = [
+    (1, &[], 1),
+    (2, &[3], 2),
+    (1, &[2], 3),
     // Strange, missing and a mismatch; and the last two.
-    (&[Handed::Stray(2), Handed::Stray(2)], 2),
-    (&[Handed::Stray(2)], 1),
+    (0, &[2, 2], 2),
+    (0, &[2], 1),
 ];
 
 #[test]
 fn faults_come_in_their_order(rt: HostRuntime) -> Result<(), Fail> {
-    for (handed, error) in &FAULTS {
-        all(&rt, &[closing(&rt, rt.alloc(), handed)? == *error]);
+    for (own, strays, error) in &FAULTS {
+        all(&rt, &[closing(&rt, rt.alloc(), *own, strays)? == *error]);
     }
     Ok(())
 }
