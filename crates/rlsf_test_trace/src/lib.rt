@@ -1,9 +1,11 @@
 //! Tests of `rlsf_trace_text`, `rlsf_trace_runs` and `rlsf_trace_common`. This crate has no other code, so that these three are proved
 //! once.
 //!
-//! `reading.rt` and `printing.rt` test the text of a trace, `runs.rt` runs of ops, and `replays.rt` replays.
+//! `answers.rt` has the assertions. `reading.rt` and `printing.rt` test the text of a trace, `runs.rt` runs of ops, and `replays.rt` replays.
 #![tactic(auto)]
 
+#[cfg(test)]
+mod answers;
 #[cfg(test)]
 mod printing;
 #[cfg(test)]

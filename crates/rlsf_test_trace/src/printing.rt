@@ -1,5 +1,6 @@
 //! Tests that print answers.
 
+use crate::answers::{all, passes};
 use rlsf_base::memory::{Layout, Range};
 use rlsf_trace_text::{Answer, Op, TraceError, text_of};
 use std::num::NonZeroUsize;
@@ -8,7 +9,7 @@ use std::process::Abort;
 /// Passes if the answers to the ops are printed as the text.
 fn prints(rt: &(impl Abort + AllocGlobal), ops: &[Op], answers: &[Answer], text: &str) {
     let printed = text_of(rt.alloc(), ops, answers).expect(rt, "memory");
-    assert_eq!(rt; printed.as_str(), text);
+    all(rt, &[printed.as_str() == text]);
 }
 
 #[test]
@@ -75,7 +76,7 @@ static NUMBERS: [(TraceError, u8); 7] = [
 #[test]
 fn numbers_of_refusals(rt: HostRuntime) {
     for (error, number) in &NUMBERS {
-        assert_eq!(rt; error.number(), *number);
+        passes(&rt, error.number() == *number, usize::from(*number));
     }
 }
 

@@ -1,5 +1,6 @@
 //! Tests that read traces.
 
+use crate::answers::{all, passes};
 use rlsf_base::memory::{Layout, Range};
 use rlsf_trace_text::{Configuration, Fault, Op, ReplayFault, Trace};
 use std::alloc::AllocError;
@@ -11,8 +12,8 @@ type Head = (Configuration, usize, usize);
 /// Passes if a trace with the head and the ops is read from the text.
 fn reads(rt: &(impl Abort + AllocGlobal), text: &[u8], head: Head, ops: &[Op]) {
     let trace = Trace::parse(rt.alloc(), text).expect(rt, "a trace");
-    assert_eq!(rt; (trace.configuration, trace.start, trace.len), head);
-    assert_eq!(rt; trace.ops.as_slice(), ops);
+    let is_head = (trace.configuration, trace.start, trace.len) == head;
+    all(rt, &[is_head, trace.ops.as_slice() == ops]);
 }
 
 const FIRST_RUN: &[u8] = b"8x8 4096 4096\ninsert 4096 96\nalloc 1 0 1\nalloc 2 0 1\nalloc 3 0 1\n";
@@ -116,8 +117,9 @@ fn blocks_and_their_bytes(rt: HostRuntime) {
 /// Passes if line 2 of each text has this fault, which is the first one.
 fn are_refused(rt: &(impl Abort + AllocGlobal), texts: &[&[u8]], fault: Fault) {
     let wanted = ReplayFault { line: 2, fault };
-    for text in texts {
-        assert_eq!(rt; Trace::parse(rt.alloc(), text).err(), Some(wanted));
+    for (index, text) in texts.iter().enumerate() {
+        let found = Trace::parse(rt.alloc(), text).err();
+        passes(rt, found == Some(wanted), index);
     }
 }
 
@@ -183,9 +185,12 @@ fn words_that_are_no_ops(rt: HostRuntime) {
     are_refused(&rt, &[b"1x1 1 0\nFree 1"], Fault::UnknownOp);
 }
 
-/// Passes if the report of a fault has these words.
-fn is_told(rt: &impl Abort, text: Result<String, AllocError>, words: &str) {
-    assert_eq!(rt; text.expect(rt, "memory").as_str(), words);
+/// Whether the report of a fault has these words.
+fn is_told(text: Result<String, AllocError>, words: &str) -> bool {
+    match text {
+        Ok(text) => text.as_str() == words,
+        Err(_) => false,
+    }
 }
 
 #[test]
@@ -194,7 +199,10 @@ fn words_of_faults(rt: HostRuntime) {
         line: 0,
         fault: Fault::OutOfMemory,
     };
-    is_told(&rt, refused.to_string(rt.alloc()), "line 0: OutOfMemory");
-    is_told(&rt, Fault::Read.to_string(rt.alloc()), "Read");
-    is_told(&rt, Fault::Write.to_string(rt.alloc()), "Write");
+    let answers = [
+        is_told(refused.to_string(rt.alloc()), "line 0: OutOfMemory"),
+        is_told(Fault::Read.to_string(rt.alloc()), "Read"),
+        is_told(Fault::Write.to_string(rt.alloc()), "Write"),
+    ];
+    all(&rt, &answers);
 }

@@ -2,6 +2,7 @@
 
 mod random;
 
+use crate::answers::all;
 use crate::replays::replays;
 use rlsf_base::memory::{Layout, Memory, Range};
 use rlsf_tlsf::Tlsf;
@@ -360,7 +361,7 @@ fn leaves(rt: &(impl Abort + AllocGlobal), there: &[Answer], ops: &[Op], wanted:
     let mut answers = Vec::new(rt.alloc());
     answers.extend_from_slice(there).expect(rt, "memory");
     run(rt.alloc(), &mut tlsf, ops, &mut answers).expect(rt, "memory");
-    assert!(rt; answers.as_slice() == wanted);
+    all(rt, &[answers.as_slice() == wanted]);
 }
 
 #[test]
@@ -394,5 +395,5 @@ fn trims_are_refused(rt: HostRuntime) {
 
 #[test]
 fn errors_have_numbers(rt: HostRuntime) {
-    assert_eq!(rt; RunError::OutOfMemory as u8, 1);
+    all(&rt, &[RunError::OutOfMemory as u8 == 1]);
 }

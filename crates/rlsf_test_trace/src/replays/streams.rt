@@ -1,6 +1,7 @@
 //! Readers and writers that fail, that a signal interrupts, and that take little.
 
 use super::FIRST_RUN;
+use crate::answers::all;
 use rlsf_trace_common::replay;
 use rlsf_trace_text::{Fault, ReplayFault};
 use std::alloc::Global;
@@ -105,9 +106,12 @@ fn leaves(
         was_interrupted: false,
     };
     let found = fault_of(alloc, &mut reader, &mut writer);
-    assert!(rt; found == fault);
-    assert!(rt; writer.taken.as_slice() == written);
-    assert!(rt; reader.text.is_empty());
+    let answers = [
+        found == fault,
+        writer.taken.as_slice() == written,
+        reader.text.is_empty(),
+    ];
+    all(rt, &answers);
 }
 
 const NOT_READ: Option<ReplayFault> = Some(ReplayFault {
