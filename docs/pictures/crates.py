@@ -51,8 +51,7 @@ LAYERS = [
         [(1, "rlsf_tlsf", "Tlsf: the allocator over one memory; the work of each call has a bound")],
     ]),
     ("Parts", "of an allocator's calls", "#d9efd9", [
-        [(1, "rlsf_table", "free blocks by size class"), (1, "rlsf_blocks", "chunks and blocks in the memory"),
-         (1, "rlsf_consistency_check", "reads a pool's words again"), (1, "rlsf_reallocate", "payloads that are resized")],
+        [(1, "rlsf_table", "free blocks by size class"), (1, "rlsf_blocks", "chunks and blocks in the memory, and how payloads are resized")],
     ]),
     ("Model", "definitions and laws", "#e4dcf2", [
         [(1, "rlsf_model", "the reference model: lists of ranges"), (1, "rlsf_model_global", "the model behind the lock")],

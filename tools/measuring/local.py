@@ -16,7 +16,7 @@ from measuring.options import ROOT
 ALLOCATORS = {"rlsf": "**`LocalHeap`**", "first_fit": "`linked_list_allocator`", "bump": "`bumpalo`", "global": "`Global`"}
 LIVE = [10, 100, 1_000, 10_000, 100_000]
 COPIED = ["int", "base", "model", "table", "blocks", "consistency_check", "reallocate", "tlsf", "heap", "local"]
-LIBRARIES = "bumpalo linked_list_allocator rlsf_base rlsf_blocks rlsf_consistency_check rlsf_heap rlsf_int rlsf_local_heap rlsf_model rlsf_reallocate rlsf_table rlsf_tlsf"
+LIBRARIES = "bumpalo linked_list_allocator rlsf_base rlsf_blocks rlsf_heap rlsf_int rlsf_local_heap rlsf_model rlsf_table rlsf_tlsf"
 NAME = "measured_local"
 # The functions of the program that call the allocator.
 CALLS = ["*counted_allocate*", "*counted_free*"]

@@ -1,5 +1,6 @@
 -- Definitions for the in-band layout of blocks. Read `InBand` and `StandsFor` first.
 pub mod Blocks
+pub mod Consistency
 pub mod InBand
 pub mod Laws
 pub mod Listing

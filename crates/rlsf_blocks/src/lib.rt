@@ -2,16 +2,19 @@
 //!
 //! A call takes a memory and its class table. Its contract says what it does to the state of the reference model. Read `specs/InBand` (the
 //! words of a block), `specs/StandsFor` (the represented state) and `specs/Spare` first. Then `src/pool` and `src/extend` (chunks),
-//! `src/placement` and `src/free` (blocks), `src/payload`, `src/walks` (iteration), `src/listing`, `src/totals` and `src/removal`.
+//! `src/placement` and `src/free` (blocks), `src/payload`, `src/walks` (iteration), `src/listing`, `src/totals` and `src/removal`. A payload
+//! gets another size in `src/reallocation`, and `src/consistency_check` reads all words again.
 //! `specs/Laws` is proved in `rlsf_tlsf`.
 #![tactic(auto)]
 
+pub mod consistency_check;
 mod extend;
 mod free;
 mod listing;
 mod payload;
 mod placement;
 mod pool;
+pub mod reallocation;
 mod removal;
 mod totals;
 mod walks;

@@ -24,7 +24,7 @@ use Rattle.rlsf_blocks.specs.StandsFor.{contents, StandsFor}
 use Rattle.rlsf_blocks.specs.Steps.LiveBlock.{IsBlockOf}
 use Rattle.rlsf_blocks.proofs.RepresentedStates.Counted.{StandsFor-counted}
 use Rattle.rlsf_blocks.proofs.Words.Stays.{Stays}
-use Rattle.rlsf_reallocate.specs.Steps.Resize.{IsUsedAt}
+use Rattle.rlsf_blocks.specs.Steps.Resize.{IsUsedAt}
 use Rattle.rlsf_tlsf.specs.Steps.Moves.{bare, reallocated}
 use Rattle.rlsf_tlsf.proofs.Moved.{reallocated-bare}
 use Rattle.rlsf_heap.specs.Heap.{AreIssued, IsHeap, IsPayload, IsTicketOf}

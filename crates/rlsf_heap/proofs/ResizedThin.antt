@@ -25,8 +25,8 @@ use Rattle.rlsf_blocks.specs.Steps.LiveBlock.{AtEachBlock}
 use Rattle.rlsf_blocks.proofs.Counting.{Counts-touched}
 use Rattle.rlsf_blocks.proofs.RepresentedStates.Counted.{StandsFor-touched}
 use Rattle.rlsf_blocks.proofs.Words.Stays.{Stays, Stays-same, Stays-then}
-use Rattle.rlsf_reallocate.specs.Steps.Resize.{IsResized}
-use Rattle.rlsf_reallocate.proofs.Reallocate.FirstPlan.{StandsFor-unchanged, in_place-none}
+use Rattle.rlsf_blocks.specs.Steps.Resize.{IsResized}
+use Rattle.rlsf_blocks.proofs.Reallocate.FirstPlan.{StandsFor-unchanged, in_place-none}
 use Rattle.rlsf_tlsf.specs.Steps.Moves.{bare}
 use Rattle.rlsf_tlsf.proofs.Arrivals.{arrived}
 use Rattle.rlsf_heap.specs.Heap.{HeapView, Identity, IsHeap, IsTicketOf, PayloadView, heap_view, payload_view}

@@ -23,8 +23,8 @@ use Rattle.rlsf_table.specs.Table.{Table}
 use Rattle.rlsf_blocks.specs.StandsFor.{contents, IsUnlent, StandsFor}
 use Rattle.rlsf_blocks.proofs.Words.Apart.{used_in_memory, used_used}
 use Rattle.rlsf_blocks.proofs.Words.NeverOut.{here_behind_used}
-use Rattle.rlsf_reallocate.specs.Steps.Resize.{IsOwnedBehind}
-use Rattle.rlsf_reallocate.proofs.Reallocate.NextPlans.{in_place-fits, kept_whole}
+use Rattle.rlsf_blocks.specs.Steps.Resize.{IsOwnedBehind}
+use Rattle.rlsf_blocks.proofs.Reallocate.NextPlans.{in_place-fits, kept_whole}
 use Rattle.rlsf_tlsf.specs.Steps.Moves.{bare, reallocated}
 use Rattle.rlsf_tlsf.proofs.Moved.{reallocated-bare}
 use Rattle.rlsf_heap.specs.Heap.{AreIssued, IsPayload}

@@ -3,11 +3,11 @@
 ghost use Rattle.std.specs.Prelude.{◌≡◌, true};
 ghost use Rattle.rlsf_model.specs.ChunkRows.{IsRow};
 ghost use Rattle.rlsf_blocks.specs.Blocks.{walked};
-ghost use Rattle.rlsf_consistency_check.specs.Consistent.{IsConsistent};
+ghost use Rattle.rlsf_blocks.specs.Consistency.Consistent.{IsConsistent};
 
 use crate::heap::Heap;
 use rlsf_base::memory::Range;
-use rlsf_consistency_check::is_consistent;
+use rlsf_blocks::consistency_check::is_consistent;
 use rlsf_int::BitPattern;
 
 impl<FLBitmap: BitPattern, SLBitmap: BitPattern, const FLLEN: usize, const SLLEN: usize> Heap<

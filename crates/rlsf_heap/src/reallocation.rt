@@ -14,9 +14,9 @@ ghost use Rattle.rlsf_heap.specs.Settled.{IsSettled};
 use crate::heap::Heap;
 use crate::payload::Payload;
 use rlsf_base::memory::{Layout, Range};
+use rlsf_blocks::reallocation::{reallocate_block, resize_block};
 use rlsf_blocks::{load_usable_bytes, used_block};
 use rlsf_int::BitPattern;
-use rlsf_reallocate::{reallocate_block, resize_block};
 
 impl<FLBitmap: BitPattern, SLBitmap: BitPattern, const FLLEN: usize, const SLLEN: usize> Heap<
     FLBitmap,

@@ -10,7 +10,7 @@ ghost use Rattle.rlsf_model.specs.Sized.{IsSizedFor, live_count};
 ghost use Rattle.rlsf_model.specs.State.{AreAlike, Holds, State, Used, usable};
 ghost use Rattle.rlsf_table.specs.Counts.{Costs, Counts};
 ghost use Rattle.rlsf_blocks.specs.StandsFor.{contents, StandsFor};
-ghost use Rattle.rlsf_reallocate.specs.Steps.Resize.{IsResized};
+ghost use Rattle.rlsf_blocks.specs.Steps.Resize.{IsResized};
 ghost use Rattle.rlsf_heap.specs.Heap.{IsWritten, payload_range};
 ghost use Rattle.rlsf_heap.specs.Kept.{KeepsBytesBeside, KeepsSpareBytes, NoneBecomesRaw};
 ghost use Rattle.rlsf_heap.specs.Reallocation.{IsKeptHere, owned_by};
@@ -23,9 +23,9 @@ use crate::heap::Heap;
 use crate::thin::ThinPayload;
 use rlsf_base::memory::ledger::{Ledger, Ticket};
 use rlsf_base::memory::{Layout, OpenMemory, View};
+use rlsf_blocks::reallocation::resize_any_block;
 use rlsf_blocks::{load_block_of, load_usable_bytes};
 use rlsf_int::BitPattern;
-use rlsf_reallocate::resize_any_block;
 use rlsf_table::ClassTable;
 
 // Gives the payload at `payload` the size of `layout` without moving it, as `resize_any_block` does. Its block is found in the memory.

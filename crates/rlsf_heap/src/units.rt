@@ -15,8 +15,8 @@ use crate::payload::Payload;
 use rlsf_base::memory::{Layout, UnitPayload, UnitTail};
 use rlsf_base::rounding::next_multiple_of_32;
 use rlsf_blocks::deallocate_block;
+use rlsf_blocks::reallocation::resize_kept_block;
 use rlsf_int::BitPattern;
-use rlsf_reallocate::resize_kept_block;
 
 /// The length of a unit, and its alignment.
 const UNIT: usize = 16;

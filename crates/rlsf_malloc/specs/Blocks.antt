@@ -5,7 +5,7 @@ use Rattle.rlsf_blocks.specs.Blocks.{AreBlocks, Block, walked}
 use Rattle.rlsf_blocks.specs.Listing.{IsListingOf, all_from}
 use Rattle.rlsf_blocks.specs.Totals.{AreTotalsOf}
 use Rattle.rlsf_blocks.specs.declared.totals.Totals.{Totals}
-use Rattle.rlsf_consistency_check.specs.Consistent.{IsConsistent}
+use Rattle.rlsf_blocks.specs.Consistency.Consistent.{IsConsistent}
 use Rattle.rlsf_heap.specs.Heap.{HeapView}
 
 -- the blocks in a range, from an address on, are listed

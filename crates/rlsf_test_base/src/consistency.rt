@@ -1,11 +1,11 @@
-//! Tests of `rlsf_consistency_check`, on a pool whose words docs/TLSF.md describes: 256 bytes at 4096, in 8 rows of 8 classes. Blocks 4096 and
+//! Tests of the check of a pool, on one whose words docs/TLSF.md describes: 256 bytes at 4096, in 8 rows of 8 classes. Blocks 4096 and
 //! 4160 of 32 bytes are free, and so is block 4224 of 96. Blocks 4128 and 4192 of 32 are used.
 
 ghost use Rattle.std.specs.Prelude.{◌≡◌, ◌<◌, length};
 
 use crate::answers::{all, passes};
 use rlsf_base::memory::{Layout, Memory, Range};
-use rlsf_consistency_check::is_consistent;
+use rlsf_blocks::consistency_check::is_consistent;
 use rlsf_table::ClassTable;
 use rlsf_tlsf::Tlsf;
 use std::process::Abort;

@@ -1,4 +1,4 @@
-//! Tests of `rlsf_int`, `rlsf_base` and `rlsf_consistency_check`. This crate has no other code, so that these are proved once.
+//! Tests of `rlsf_int`, `rlsf_base` and the check of a pool. This crate has no other code, so that these are proved once.
 //!
 //! `integers.rt` tests bitmaps, `classes.rt` size classes, and `pools.rt` computed lengths of pools. `layouts.rt` tests layouts,
 //! and `memory.rt` and `open_memory.rt` memories. `consistency.rt` tests the check of a pool.

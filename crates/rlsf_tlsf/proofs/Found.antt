@@ -10,7 +10,7 @@ use Rattle.rlsf_blocks.specs.Laws.{read_from}
 use Rattle.rlsf_blocks.specs.StandsFor.{Contents, contents, StandsFor}
 use Rattle.rlsf_blocks.specs.Steps.LiveBlock.{IsBlockOf}
 use Rattle.rlsf_blocks.proofs.RepresentedStates.Counted.{StandsFor-counted}
-use Rattle.rlsf_reallocate.specs.Steps.Resize.{IsUsedAt}
+use Rattle.rlsf_blocks.specs.Steps.Resize.{IsUsedAt}
 use Rattle.rlsf_tlsf.specs.Allocator.{Allocator, allocator, IsAllocator}
 use Rattle.rlsf_tlsf.proofs.Arrivals.{live_inside}
 

@@ -20,9 +20,9 @@ use Rattle.rlsf_model.proofs.Payloads.{usable-short}
 use Rattle.rlsf_blocks.specs.Spare.{KeepsSpare}
 use Rattle.rlsf_blocks.specs.StandsFor.{contents, StandsFor}
 use Rattle.rlsf_blocks.proofs.RepresentedStates.SpareBytes.{KeepsSpare-trans}
-use Rattle.rlsf_reallocate.proofs.Reallocate.FirstPlan.{in_place-none}
-use Rattle.rlsf_reallocate.proofs.Reallocate.NextPlans.{no_plan}
-use Rattle.rlsf_reallocate.proofs.Reallocate.Spans.{reach, reach-le, span_in_memory}
+use Rattle.rlsf_blocks.proofs.Reallocate.FirstPlan.{in_place-none}
+use Rattle.rlsf_blocks.proofs.Reallocate.NextPlans.{no_plan}
+use Rattle.rlsf_blocks.proofs.Reallocate.Spans.{reach, reach-le, span_in_memory}
 use Rattle.rlsf_table.specs.Table.{Table}
 use Rattle.rlsf_tlsf.specs.Allocator.{Allocator, Stands, Steps}
 use Rattle.rlsf_tlsf.specs.UnknownAlign.{MovesTo, ReallocatesAnyAlign, ResizesBy}

@@ -20,11 +20,11 @@ ghost use Rattle.rlsf_blocks.specs.Spare.{IsSpareWord};
 
 use crate::state::GhostState;
 use rlsf_base::memory::{Addr, Layout, Memory, Range};
+use rlsf_blocks::reallocation::{reallocate_block, resize_any_block, resize_block};
 use rlsf_blocks::{
     allocate_block, deallocate_block, load_block_of, load_usable_bytes, usable_bytes, used_block,
 };
 use rlsf_int::BitPattern;
-use rlsf_reallocate::{reallocate_block, resize_any_block, resize_block};
 use rlsf_table::ClassTable;
 use std::marker::{Model, PhantomData};
 use std::num::NonZeroUsize;

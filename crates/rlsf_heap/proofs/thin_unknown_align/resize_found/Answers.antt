@@ -10,7 +10,7 @@ use Rattle.rlsf_blocks.proofs.Counting.{Counts-counted_first, Counts-touched}
 use Rattle.rlsf_blocks.proofs.RepresentedStates.Counted.{KeepsSpare-counted_first, StandsFor-touched}
 use Rattle.rlsf_blocks.proofs.Words.Apart.{used_in_memory}
 use Rattle.rlsf_blocks.proofs.Words.Stays.{Stays, Stays-same, Stays-then}
-use Rattle.rlsf_reallocate.specs.Steps.Resize.{IsUsedAt}
+use Rattle.rlsf_blocks.specs.Steps.Resize.{IsUsedAt}
 use Rattle.rlsf_tlsf.proofs.UnknownAlign.{too_long}
 use Rattle.rlsf_heap.proofs.thin_unknown_align.resize_found.Given as given
 use Rattle.rlsf_heap.proofs.thin_unknown_align.resize_found.Goals as goal

@@ -20,7 +20,7 @@ use Rattle.rlsf_blocks.specs.Laws.{read_from}
 use Rattle.rlsf_blocks.specs.StandsFor.{contents, StandsFor}
 use Rattle.rlsf_blocks.specs.Steps.LiveBlock.{AtEachBlock}
 use Rattle.rlsf_blocks.proofs.Words.Stays.{Stays, Stays-same}
-use Rattle.rlsf_reallocate.specs.Steps.Resize.{IsResized}
+use Rattle.rlsf_blocks.specs.Steps.Resize.{IsResized}
 use Rattle.rlsf_tlsf.specs.Steps.Moves.{bare, reallocated}
 use Rattle.rlsf_tlsf.proofs.Arrivals.{arrived}
 use Rattle.rlsf_heap.specs.Heap.{AreIssued, HeapView, Identity, IsWritten, PayloadView, Steps, heap_view, payload_range, payload_view}

@@ -5,8 +5,8 @@ use Rattle.rlsf_model.specs.ChunkRows.{IsRow}
 use Rattle.rlsf_table.proofs.Parameters.{IsValid-widest}
 use Rattle.rlsf_blocks.specs.Blocks.{walked}
 use Rattle.rlsf_blocks.specs.Laws.{read_from}
-use Rattle.rlsf_consistency_check.specs.Consistent.{IsConsistent}
-use Rattle.rlsf_consistency_check.proofs.Represented.{represented_is_consistent}
+use Rattle.rlsf_blocks.specs.Consistency.Consistent.{IsConsistent}
+use Rattle.rlsf_blocks.proofs.Consistency.Represented.{represented_is_consistent}
 use Rattle.rlsf_tlsf.specs.Allocator.{Allocator}
 use Rattle.rlsf_tlsf.proofs.tlsf.Tlsf.is_consistent.Goals as goal
 

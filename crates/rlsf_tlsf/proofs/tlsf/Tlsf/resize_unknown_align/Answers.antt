@@ -12,8 +12,8 @@ use Rattle.rlsf_blocks.specs.Laws.{read_from}
 use Rattle.rlsf_blocks.specs.Spare.{KeepsSpare}
 use Rattle.rlsf_blocks.specs.StandsFor.{contents, StandsFor}
 use Rattle.rlsf_blocks.proofs.RepresentedStates.Counted.{KeepsSpare-counted, KeepsSpare-counted_first, StandsFor-touched}
-use Rattle.rlsf_reallocate.specs.Steps.Resize.{IsUsedAt}
-use Rattle.rlsf_reallocate.proofs.Reallocate.FirstPlan.{StandsFor-unchanged}
+use Rattle.rlsf_blocks.specs.Steps.Resize.{IsUsedAt}
+use Rattle.rlsf_blocks.proofs.Reallocate.FirstPlan.{StandsFor-unchanged}
 use Rattle.rlsf_tlsf.specs.Allocator.{Allocator, allocator, Steps}
 use Rattle.rlsf_tlsf.specs.Steps.Moves.{bare, reallocated}
 use Rattle.rlsf_tlsf.proofs.Arrivals.{IsAllocator-arrived, IsLiveIn-inside, Stands-view, Steps-arrived, bare-kept, bytes_inside, some_inside}

@@ -1,0 +1,73 @@
+use Rattle.std.proofs.Common.{◌+◌, rules, arith, refl}
+use Rattle.rlsf_base.proofs.Lending.WordIsHere.{is_word}
+use Rattle.rlsf_base.proofs.Lending.Present.{own-word}
+use Rattle.rlsf_model.specs.State.{between}
+use Rattle.rlsf_model.proofs.Payloads.{IsUsed-after_start}
+use Rattle.rlsf_blocks.proofs.Deallocate.Loaded.{IsMarked-loaded}
+use Rattle.rlsf_blocks.proofs.Deallocate.Marks.{IsMarked-previous, IsPreviousOut-none, previous-fits}
+use Rattle.rlsf_table.proofs.FreeLists.Counted.{IsFreeTable-counted}
+use Rattle.rlsf_blocks.proofs.RepresentedStates.FreeBlocks.{IsFreeTable-free}
+use Rattle.rlsf_blocks.proofs.Reallocate.Neighbours.{start_or-length}
+use Rattle.rlsf_blocks.proofs.Words.Apart.{used_in_memory}
+use Rattle.rlsf_blocks.proofs.Words.NeverOut.{here_front}
+use Rattle.rlsf_blocks.proofs.reallocation.previous.start_before.Goals as goal
+
+pub overflow_add-block : goal.overflow_add-block
+overflow_add-block c =
+    let (fllen, sllen, t, s, u, v, i, at) = c.requires.used in
+    record { fits = omega (arith, at, used_in_memory v.well_formed u i, v.well_formed.addressable) }
+
+pub load_at-previous-requires-clause-place : goal.load_at-previous-requires-clause-place
+load_at-previous-requires-clause-place c =
+    let (fllen, sllen, t, s, u, v, i, at) = c.requires.used in
+    let place = used_in_memory v.well_formed u i in
+    let own =
+    own-word c.args.memory.now (between u.block.start u.payload) (c.args.block + 8) (here_front v u i) (omega (arith, at))
+    (omega (arith, at, IsUsed-after_start u (v.well_formed.used u i))) in
+    is_word c.args.memory.now (c.args.block + 8) (omega (arith, at, (v.well_formed.used u i).whole.start), (omega (arith, at, place.0), omega (arith, at, place.1)), own)
+    (previous-fits v u i at refl)
+
+pub free_length-requires-clause-marked : goal.free_length-requires-clause-marked
+free_length-requires-clause-marked c =
+    let (fllen, sllen, t, s, u, v, i, at) = c.requires.used in
+    let m = c.args.memory.now in
+    let n = c.load_at-previous.new.self in
+    let start = c.load_at-previous.ensures.start in
+    let bytes = c.load_at-previous.ensures.bytes in
+    let out = c.load_at-previous.ensures.out in
+    let marked = IsMarked-loaded m n start bytes out (IsMarked-previous v u i at c.load_at-previous.ensures.word c.if-previous-eq0.false) in
+    (fllen, sllen, t, s.free, IsFreeTable-counted m n start bytes out (IsFreeTable-free v), marked)
+
+pub overflow_sub-result : goal.overflow_sub-result
+overflow_sub-result c =
+    let (fllen, sllen, t, s, u, v, i, at) = c.requires.used in
+    let m = c.args.memory.now in
+    let n = c.load_at-previous.new.self in
+    let start = c.load_at-previous.ensures.start in
+    let bytes = c.load_at-previous.ensures.bytes in
+    let out = c.load_at-previous.ensures.out in
+    let marked = IsMarked-loaded m n start bytes out (IsMarked-previous v u i at c.load_at-previous.ensures.word c.if-previous-eq0.false) in
+    let long = c.free_length.ensures.length fllen sllen t s.free (IsFreeTable-counted m n start bytes out (IsFreeTable-free v)) marked in
+    (start_or-length v u i at c.load_at-previous.ensures.word c.if-previous-eq0.false long).0
+
+pub returns-then-previous-eq0 : goal.returns-then-previous-eq0
+returns-then-previous-eq0 c = record {
+  start = λ fllen sllen t s u v i at.
+      (IsPreviousOut-none v u i at c.load_at-previous.ensures.word c.load_at-previous.new.self c.load_at-previous.ensures.start c.load_at-previous.ensures.bytes
+      c.load_at-previous.ensures.out c.if-previous-eq0.true).begins;
+  counts = search rules;
+}
+
+pub returns-else-previous-eq0 : goal.returns-else-previous-eq0
+returns-else-previous-eq0 c = record {
+  start = λ fllen sllen t s u v i at.
+      let m = c.args.memory.now in
+      let n = c.load_at-previous.new.self in
+      let start = c.load_at-previous.ensures.start in
+      let bytes = c.load_at-previous.ensures.bytes in
+      let out = c.load_at-previous.ensures.out in
+      let marked = IsMarked-loaded m n start bytes out (IsMarked-previous v u i at c.load_at-previous.ensures.word c.if-previous-eq0.false) in
+      let long = c.free_length.ensures.length fllen sllen t s.free (IsFreeTable-counted m n start bytes out (IsFreeTable-free v)) marked in
+      (start_or-length v u i at c.load_at-previous.ensures.word c.if-previous-eq0.false long).1;
+  counts = search rules;
+}

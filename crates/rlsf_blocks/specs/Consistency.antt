@@ -1,0 +1,5 @@
+-- Definitions for the check of a memory and a class table. Read `Linked`, `Layout` and `Heads` first, then `Consistent`.
+pub mod Consistent
+pub mod Heads
+pub mod Layout
+pub mod Linked

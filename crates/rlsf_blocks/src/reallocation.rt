@@ -1,0 +1,13 @@
+//! Reallocations: a payload gets another size, over a memory and its class table.
+//!
+//! Start with `cases`, which tries three cases in turn. `resize` stays in place, `previous` moves into the free block before the payload's
+//! own, and `elsewhere` moves into a newly allocated block. `copying` copies the bytes. All definitions are in `specs/Steps`: the contracts
+//! of the allocator cite the reference model instead.
+mod cases;
+mod copying;
+mod elsewhere;
+mod previous;
+mod resize;
+
+pub use cases::reallocate_block;
+pub use resize::{resize_any_block, resize_block, resize_kept_block};

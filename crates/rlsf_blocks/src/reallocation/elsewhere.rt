@@ -1,0 +1,58 @@
+//! A payload moves into a block that is allocated for it.
+
+ghost use Rattle.std.specs.Prelude.{◌≡◌, ◌+◌, ◌≤◌, IfNone, []};
+ghost use Rattle.rlsf_base.specs.SizeClass.{IsValid};
+ghost use Rattle.rlsf_base.specs.Space.{SamePlace};
+ghost use Rattle.rlsf_base.specs.OpenSpace.{SameOwn, StaysHere};
+ghost use Rattle.rlsf_model.specs.State.{usable};
+ghost use Rattle.rlsf_table.specs.Counts.{Counts};
+ghost use Rattle.rlsf_blocks.specs.Steps.Resize.{AtEachPayload, AtEachShort, AtEachShortHere, HasShortHere, IsElsewhere, IsHereStill};
+
+use crate::reallocation::copying::copy_payload;
+use crate::{allocate_block, deallocate_block};
+use rlsf_base::memory::{Layout, OpenMemory, Range, View};
+use rlsf_table::{ClassTable, used_end};
+
+/// Allocates a payload for `layout`, copies the bytes of the payload at `payload` there, and deallocates its used block
+/// at `block`.
+///
+/// The old block must be too short for the size of `layout`, and `layout` must have the alignment of the payload. All
+/// usable bytes of the payload must be here: none is raw or out.
+///
+/// Returns the new address. If the allocation is refused, returns `None`, and no byte and no block changes.
+pub fn move_elsewhere<const FLLEN: usize, const SLLEN: usize, const WHOLE: usize>(
+    memory: &mut OpenMemory,
+    view: View,
+    table: &mut ClassTable<FLLEN, SLLEN>,
+    block: usize,
+    payload: usize,
+    layout: Layout,
+) -> Option<usize>
+    requires parameters { IsValid 128 128 FLLEN SLLEN }
+    requires view { view ≡ memory.old.view }
+    requires used { HasShortHere FLLEN SLLEN memory.old table.old block payload layout }
+    requires whole { WHOLE ≡ 1 → memory.old.out ≡ [] }
+    ensures step { AtEachShortHere FLLEN SLLEN memory.old table.old block payload layout (λ s u. IsElsewhere FLLEN SLLEN memory.old memory.new table.new s u layout.size result) }
+    ensures unchanged { IfNone result (Counts memory.old memory.new 5 × (table.new ≡ table.old)) }
+    ensures place { SamePlace memory.old memory.new }
+    ensures touches { memory.new.touches ≤ memory.old.touches + 59 }
+    ensures grow { memory.old.touches ≤ memory.new.touches }
+    ensures copied { AtEachPayload FLLEN SLLEN memory.old table.old block payload layout (λ s u. memory.new.copied ≤ memory.old.copied + (usable u).len) }
+    ensures grow_copied { memory.old.copied ≤ memory.new.copied }
+    ensures own { SameOwn memory.old memory.new }
+    ensures here { StaysHere memory.old memory.new }
+    ensures kept_here { AtEachShort FLLEN SLLEN memory.old table.old block payload layout (λ s u. IsHereStill memory.old memory.new u result) }
+{
+    let end = used_end(block, memory.load_at(view, block));
+    let moved = allocate_block(memory, view, table, layout)?;
+    copy_payload::<WHOLE>(
+        memory,
+        Range {
+            start: payload,
+            len: end - payload,
+        },
+        moved,
+    );
+    deallocate_block(memory, view, table, block);
+    Some(moved)
+}

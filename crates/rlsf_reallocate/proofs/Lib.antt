@@ -1,2 +1,0 @@
--- Lemmas on a used block that gets another size.
-pub mod Reallocate
