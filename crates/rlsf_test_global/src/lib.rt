@@ -1,14 +1,19 @@
 //! Tests of `rlsf_global` and of `rlsf_journal`. This crate has no other code.
 //!
-//! `answers.rt` has the assertions. `steps.rt` has calls as tables, which `locked.rt` and `shared.rt` make. `blocks.rt`, `pages.rt`
-//! and `payloads.rt` test the layout, the source and the bytes. `originals.rt` has the original's random tests, with their tables
-//! below. `threads.rt` has threads, and `journal.rt` the tests of journals.
+//! `answers.rt` has the assertions. `steps.rt` has calls as tables, which `locked.rt` and `shared.rt` make. `growth.rt` and
+//! `alignments.rt` have more of them through the lock. `blocks.rt`, `pages.rt` and `payloads.rt` test the layout, the source and the
+//! bytes. `originals.rt` has the original's random tests, with their tables below. `threads.rt` has threads, and `journal.rt` the
+//! tests of journals.
 #![tactic(auto)]
 
+#[cfg(test)]
+mod alignments;
 #[cfg(test)]
 mod answers;
 #[cfg(test)]
 mod blocks;
+#[cfg(test)]
+mod growth;
 #[cfg(test)]
 mod journal;
 #[cfg(test)]

@@ -83,7 +83,7 @@ fn wrong_step<R: Wait, Options: GlobalTlsfOptions>(
 }
 
 /// Passes if each step of each run has its expected result.
-fn all_go_so<R: Abort + Wait, Options: GlobalTlsfOptions>(rt: &R, alloc: Global, runs: &[Run]) {
+pub fn all_go_so<R: Abort + Wait, Options: GlobalTlsfOptions>(rt: &R, alloc: Global, runs: &[Run]) {
     for run in runs {
         none_is_wrong(rt, wrong_step::<R, Options>(rt, alloc, *run));
     }

@@ -156,7 +156,7 @@ pub const NO_STEP: usize = 98;
 
 pub const NO_ROOM: usize = GlobalError::NoRoom as usize;
 
-const UNKNOWN_ADDRESS: usize = GlobalError::UnknownAddress as usize;
+pub const UNKNOWN_ADDRESS: usize = GlobalError::UnknownAddress as usize;
 
 pub const WRONG_LAYOUT: usize = GlobalError::WrongLayout as usize;
 
