@@ -4,8 +4,9 @@
 usage: random_scripts.py                          writes stdin and stdout beside this file: a sample of each kind
        random_scripts.py SCRIPTS CALLS SEED       compares the program with the model on so many scripts of each kind
 
-The model is tools/model/global_machine.py. A byte that no call gave is open: the model prints `?` for it, which any
-byte matches. In the sample there are no reads of such bytes.
+The model is tools/model/global_machine.py. The program runs its scripts twice, without the lock and through it, so each
+reply is wanted twice. A byte that no call gave is open: the model prints `?` for it, which any byte matches. In the
+sample there are no reads of such bytes.
 """
 import pathlib
 import re
@@ -41,7 +42,7 @@ def sample():
         read += [head] + [line.split(" = ", 1)[0] for line in lines]
         said += replies(lines)
     (HERE / "stdin").write_text("".join(line + "\n" for line in read))
-    (HERE / "stdout").write_text("".join(line + "\n" for line in said))
+    (HERE / "stdout").write_text("".join(line + "\n" for line in 2 * said))
 
 
 def matches(wanted, got):
@@ -56,7 +57,7 @@ def compare(scripts, calls, seed):
         made = pool.map(lambda script: generate(seed + script[1], calls, script[0], MEMORIES[script[1] % len(MEMORIES)]), asked)
         for (kind, n), lines in zip(asked, made):
             name = f"{kind}{n + 1:03}"
-            wanted[name] = replies(lines)
+            wanted[name] = 2 * replies(lines)
             pathlib.Path(folder, name).write_text("".join(line + "\n" for line in lines))
         out = subprocess.run(["rt", "try", "--cases", folder], cwd=HERE, capture_output=True, text=True)
     got, name = {}, None

@@ -7,6 +7,8 @@ use std::alloc::Global;
 /// A call.
 #[derive(Clone, Copy)]
 pub(crate) enum Call {
+    /// `alloc`
+    Alloc(Layout),
     /// `allocate`
     Allocate(Layout),
     /// `dealloc`
@@ -55,7 +57,8 @@ fn with_one(word: &str, addr: usize) -> Option<Call> {
 fn with_two(word: &str, size: usize, align: usize) -> Option<Call> {
     let layout = Layout::from_size_align(size, align).ok()?;
     match word {
-        "alloc" | "callocate" => Some(Call::Allocate(layout)),
+        "alloc" => Some(Call::Alloc(layout)),
+        "callocate" => Some(Call::Allocate(layout)),
         _ => None,
     }
 }
@@ -98,4 +101,15 @@ pub(crate) fn read_numbers(alloc: Global, text: &str) -> Result<Vec<usize>, Fail
         numbers.push(number)?;
     }
     Ok(numbers)
+}
+
+/// So many bytes from a first one on, each one more than the one before it, modulo 256.
+pub(crate) fn rising(alloc: Global, len: usize, first: u8) -> Result<Vec<u8>, Failure> {
+    let mut bytes = Vec::new(alloc);
+    let mut byte = first;
+    for _ in 0..len {
+        bytes.push(byte)?;
+        byte = byte.wrapping_add(1);
+    }
+    Ok(bytes)
 }

@@ -3,36 +3,58 @@
 use crate::call::{Call, read_call, read_numbers};
 use crate::error::{Failure, ReplayError};
 use crate::reply::Reply;
-use rlsf_base::memory::{Addr, Layout, Memory};
-use rlsf_global::{GlobalTlsfOptions, Locked, SmallGlobalTlsfOptions};
+use crate::{locked, shared};
+use rlsf_base::memory::Memory;
+use rlsf_global::{GlobalTlsf, Locked, SmallGlobalTlsf, SmallGlobalTlsfOptions};
 use std::alloc::Global;
+use std::sync::Wait;
 
 /// The allocator of a script.
 #[derive(Drop)]
 enum Allocator {
     Coalescing(Locked<()>),
     Small(Locked<SmallGlobalTlsfOptions>),
+    SharedCoalescing(GlobalTlsf),
+    SharedSmall(SmallGlobalTlsf),
 }
 
 impl Allocator {
-    /// The allocator that a line asks for which begins a script; none for another line.
-    fn asked_by(alloc: Global, line: &str) -> Result<Option<Allocator>, Failure> {
+    /// Creates the allocator that a line asks for which begins a script, with its lock or without. Returns `None` for another line.
+    fn asked_by(alloc: Global, line: &str, is_shared: bool) -> Result<Option<Allocator>, Failure> {
         if let Some(numbers) = line.strip_prefix("coalescing ") {
             let memory = memory_of(alloc, numbers)?;
-            return Ok(Some(Allocator::Coalescing(Locked::new(alloc, memory))));
+            return Ok(Some(Allocator::coalescing(alloc, memory, is_shared)));
         }
         if let Some(numbers) = line.strip_prefix("small ") {
             let memory = memory_of(alloc, numbers)?;
-            return Ok(Some(Allocator::Small(Locked::new(alloc, memory))));
+            return Ok(Some(Allocator::small(alloc, memory, is_shared)));
         }
         Ok(None)
     }
 
+    fn coalescing(alloc: Global, memory: Memory, is_shared: bool) -> Allocator {
+        if is_shared {
+            Allocator::SharedCoalescing(GlobalTlsf::new(alloc, memory))
+        } else {
+            Allocator::Coalescing(Locked::new(alloc, memory))
+        }
+    }
+
+    fn small(alloc: Global, memory: Memory, is_shared: bool) -> Allocator {
+        if is_shared {
+            Allocator::SharedSmall(GlobalTlsf::new(alloc, memory))
+        } else {
+            Allocator::Small(Locked::new(alloc, memory))
+        }
+    }
+
     /// Makes a call.
-    fn call(&mut self, alloc: Global, call: Call) -> Result<Reply, Failure> {
+    fn call<R: Wait>(&mut self, rt: &R, alloc: Global, call: Call) -> Result<Reply, Failure> {
         match self {
-            Allocator::Coalescing(locked) => make(alloc, locked, call),
-            Allocator::Small(locked) => make(alloc, locked, call),
+            Allocator::Coalescing(allocator) => locked::make(alloc, allocator, call),
+            Allocator::Small(allocator) => locked::make(alloc, allocator, call),
+            Allocator::SharedCoalescing(allocator) => shared::make(rt, alloc, allocator, call),
+            Allocator::SharedSmall(allocator) => shared::make(rt, alloc, allocator, call),
         }
     }
 }
@@ -46,14 +68,20 @@ fn memory_of(alloc: Global, words: &str) -> Result<Memory, Failure> {
     }
 }
 
-/// Runs scripts, and returns what they print.
-pub(crate) fn output_of(alloc: Global, text: &str) -> Result<String, ReplayError> {
+/// Runs scripts, with locks or without, and returns what they print.
+pub(crate) fn output_of<R: Wait>(
+    rt: &R,
+    alloc: Global,
+    text: &str,
+    is_shared: bool,
+) -> Result<String, ReplayError> {
     let mut output = String::new(alloc);
     let mut allocator = None;
     let mut number: usize = 0;
     for line in text.lines() {
         number = number.saturating_add(1);
-        if let Err(failure) = run_line(alloc, &mut allocator, line, &mut output) {
+        let done = run_line(rt, alloc, &mut allocator, line, is_shared, &mut output);
+        if let Err(failure) = done {
             return Err(ReplayError {
                 line: number,
                 failure,
@@ -64,85 +92,34 @@ pub(crate) fn output_of(alloc: Global, text: &str) -> Result<String, ReplayError
 }
 
 /// Begins a script, or makes a call and prints its reply.
-fn run_line(
+fn run_line<R: Wait>(
+    rt: &R,
     alloc: Global,
     allocator: &mut Option<Allocator>,
     line: &str,
+    is_shared: bool,
     output: &mut String,
 ) -> Result<(), Failure> {
-    if let Some(new) = Allocator::asked_by(alloc, line)? {
+    if let Some(new) = Allocator::asked_by(alloc, line, is_shared)? {
         *allocator = Some(new);
         return Ok(());
     }
     let Some(allocator) = allocator else {
         return Err(Failure::Line);
     };
-    run_call(alloc, allocator, line, output)
+    run_call(rt, alloc, allocator, line, output)
 }
 
 /// Makes the call of a line, and prints its reply.
-fn run_call(
+fn run_call<R: Wait>(
+    rt: &R,
     alloc: Global,
     allocator: &mut Allocator,
     line: &str,
     output: &mut String,
 ) -> Result<(), Failure> {
     let call = line.split_once(" = ").map_or(line, |parts| parts.0);
-    let reply = allocator.call(alloc, read_call(alloc, call)?)?;
+    let reply = allocator.call(rt, alloc, read_call(alloc, call)?)?;
     reply.print(output)?;
     Ok(())
-}
-
-/// Makes a call of an allocator.
-fn make<Options: GlobalTlsfOptions>(
-    alloc: Global,
-    locked: &mut Locked<Options>,
-    call: Call,
-) -> Result<Reply, Failure> {
-    match call {
-        Call::Allocate(layout) => Ok(Reply::at(locked.allocate(layout))),
-        Call::Dealloc(addr, layout) => Ok(Reply::done(locked.dealloc(addr, layout))),
-        Call::Deallocate(addr) => Ok(Reply::done(locked.deallocate(addr))),
-        Call::Realloc(addr, layout, size) => {
-            let _ = Layout::from_size_align(size, layout.align())?;
-            Ok(Reply::at(locked.realloc(addr, layout, size)))
-        }
-        Call::Reallocate(addr, layout) => Ok(Reply::at(locked.reallocate(addr, layout))),
-        Call::ReallocateNoMove(addr, layout, size) => {
-            let _ = Layout::from_size_align(size, layout.align())?;
-            Ok(Reply::at(locked.reallocate_no_move(addr, layout, size)))
-        }
-        Call::Usable(addr) => Ok(Reply::size(locked.allocation_usable_size(addr))),
-        Call::Write(addr, offset, len, first) => {
-            let bytes = rising(alloc, len, first)?;
-            Ok(Reply::done(locked.write_payload(addr, offset, &bytes)))
-        }
-        Call::Read(addr, offset, len) => read(alloc, locked, addr, offset, len),
-    }
-}
-
-/// Reads so many bytes of a payload, from an offset on.
-fn read<Options: GlobalTlsfOptions>(
-    alloc: Global,
-    locked: &mut Locked<Options>,
-    addr: Addr,
-    offset: usize,
-    len: usize,
-) -> Result<Reply, Failure> {
-    let mut bytes = vec![in alloc; 0; len]?;
-    match locked.read_payload(addr, offset, &mut bytes) {
-        Ok(()) => Ok(Reply::Bytes(bytes)),
-        Err(error) => Ok(Reply::Refused(error)),
-    }
-}
-
-/// So many bytes from a first one on, each one more than the one before it, modulo 256.
-fn rising(alloc: Global, len: usize, first: u8) -> Result<Vec<u8>, Failure> {
-    let mut bytes = Vec::new(alloc);
-    let mut byte = first;
-    for _ in 0..len {
-        bytes.push(byte)?;
-        byte = byte.wrapping_add(1);
-    }
-    Ok(bytes)
 }
