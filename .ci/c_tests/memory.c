@@ -1,0 +1,104 @@
+/* Memory of the malloc that the program runs with: what it takes of the system, and what it gives back. The argument `figures` prints the
+ * resident memory, in MB, after calloc of 512 MB, after its free, and after growing to 512 MB by realloc. */
+#define _GNU_SOURCE
+#include "want.h"
+#include <malloc.h>
+#include <stdint.h>
+#include <string.h>
+
+#define MB ((size_t)1 << 20)
+
+/* The resident memory of this process in MB. */
+static size_t resident(void) {
+    char line[100] = {0};
+    unsigned long all, here;
+    FILE *file = fopen("/proc/self/statm", "r");
+    if (!file || !fgets(line, sizeof line, file) || sscanf(line, "%lu %lu", &all, &here) != 2) abort();
+    fclose(file);
+    return here * (size_t)sysconf(_SC_PAGESIZE) / MB;
+}
+
+static void large_payloads_go_back(int figures) {
+    size_t before = resident(), zeroed, freed;
+    char *payload = calloc(512, MB);
+    WANT(payload[0] | payload[512 * MB - 1], 0);
+    zeroed = resident() - before;
+    free(payload);
+    freed = resident() - before;
+    payload = malloc(MB);
+    payload[0] = 5;
+    for (size_t len = 2; len <= 512; len += 2) {
+        payload = realloc(payload, len * MB);
+        payload[len * MB - 1] = 7;
+    }
+    if (figures) {
+        printf("calloc of 512 MB: %zu MB, freed: %zu MB, grown to 512 MB: %zu MB\n", zeroed, freed, resident() - before);
+        exit(0);
+    }
+    WANT(payload[0], 5);
+    WANT(payload[4 * MB - 1], 7);
+    WANT(zeroed <= 1, 1);
+    WANT(freed <= 1, 1);
+    WANT(resident() - before <= 3, 1);
+    free(payload);
+    WANT(resident() - before <= 1, 1);
+}
+
+/* A payload keeps its bytes while it changes between the heap and a mapping. */
+static void bytes_are_kept(void) {
+    static const size_t sizes[] = {1000, 3 * MB, 5 * MB, 2 * MB, 500, 900000, 2000000, 100, 1 << 20, (1 << 20) - 1};
+    unsigned char *payload = malloc(100);
+    for (size_t i = 0; i < 100; i++) payload[i] = (unsigned char)(i * 3);
+    for (size_t n = 0; n < sizeof sizes / sizeof *sizes; n++) {
+        payload = realloc(payload, sizes[n]);
+        WANT((size_t)payload % 16, 0);
+        WANT(malloc_usable_size(payload) >= sizes[n], 1);
+        for (size_t i = 0; i < 100; i++) WANT(payload[i], (unsigned char)(i * 3));
+        memset(payload + 100, 0xee, sizes[n] - 100);
+    }
+    free(payload);
+}
+
+/* Every payload has its alignment and its bytes, and doesn't overlap the others. */
+static void payloads_fit(void) {
+    static const size_t sizes[] = {0, 1, 5000, MB - 1, MB, MB + 1, 3 * MB + 5};
+    unsigned char *payloads[7][24];
+    for (size_t n = 0; n < 7; n++)
+        for (size_t k = 4; k < 24; k++) {
+            unsigned char *payload = payloads[n][k] = aligned_alloc((size_t)1 << k, sizes[n]);
+            WANT(payload != NULL, 1);
+            WANT((size_t)payload % ((size_t)1 << k), 0);
+            WANT(malloc_usable_size(payload) >= sizes[n], 1);
+            memset(payload, (int)(n * 24 + k), sizes[n]);
+        }
+    for (size_t n = 0; n < 7; n++)
+        for (size_t k = 4; k < 24; k++) {
+            unsigned char *payload = payloads[n][k];
+            for (size_t i = 0; i < sizes[n]; i += 997) WANT(payload[i], (unsigned char)(n * 24 + k));
+            payload = payloads[n][k] = realloc(payload, 2 * sizes[n] + 1);
+            if (sizes[n]) WANT(payload[sizes[n] - 1], (unsigned char)(n * 24 + k));
+            free(payload);
+        }
+}
+
+/* More small payloads than one step has room for; and those of calloc are zeros where others were freed. */
+static void heap_grows(void) {
+    static unsigned char *payloads[3000];
+    for (size_t round = 0; round < 2; round++)
+        for (size_t n = 0; n < 3000; n++) {
+            payloads[n] = round ? calloc(3, 30000) : malloc(90000);
+            WANT(payloads[n] != NULL, 1);
+            WANT(payloads[n][0] & round, 0);
+            WANT(payloads[n][89999] & round, 0);
+            memset(payloads[n], 0xff, 90000);
+            if (n % 3 == 0 || round) free(payloads[n]);
+        }
+}
+
+int main(int count, char **words) {
+    large_payloads_go_back(count > 1 && !strcmp(words[1], "figures"));
+    bytes_are_kept();
+    payloads_fit();
+    heap_grows();
+    return 0;
+}

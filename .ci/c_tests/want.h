@@ -1,0 +1,14 @@
+/* What the tests of this folder share: a comparison that ends the program with a message. */
+#include <stdio.h>
+#include <stdlib.h>
+#include <unistd.h>
+
+static void want(const char *what, size_t got, size_t wanted) {
+    if (got == wanted) return;
+    /* Without stdio: the heap may be what is broken. */
+    char line[200];
+    int len = snprintf(line, sizeof line, "%s: %zu, wanted %zu\n", what, got, wanted);
+    if (write(2, line, (size_t)len) < 0) abort();
+    _exit(1);
+}
+#define WANT(call, wanted) want(#call, (size_t)(call), (size_t)(wanted))
