@@ -7,11 +7,14 @@
  * Each larger payload is a mapping of its own: calloc touches none of its pages, realloc moves pages and copies no byte, and free returns
  * it to the system. If one of the two ways fails, a payload is placed in the other.
  *
- * One mutex orders the calls on the heap. */
+ * One mutex orders the calls on the heap. From the beginning of a fork to its end no call changes the heap, so that the child finds it as it
+ * was between two calls; but no lock is held, since the fork waits for locks of the C library then, whose holders may allocate. As with
+ * glibc, a signal handler may fork unless several threads run. */
 #define _GNU_SOURCE
 #include "rlsf_malloc.h"
 #include <errno.h>
 #include <pthread.h>
+#include <signal.h>
 #include <stdint.h>
 #include <string.h>
 #include <stdlib.h>
@@ -31,7 +34,15 @@ struct mapping {
     size_t len;
 };
 
+/* A payload of the heap that is freed during a fork. */
+struct freed {
+    struct freed *next;
+};
+
 static pthread_mutex_t lock = PTHREAD_MUTEX_INITIALIZER;
+static __thread volatile sig_atomic_t inside __attribute__((tls_model("initial-exec"))); /* whether this thread holds the lock, or waits */
+static int forks;            /* how many forks run; the heap doesn't change meanwhile */
+static struct freed *waiting; /* what was freed meanwhile */
 static rlsf_large_handle handle;
 static rlsf_heap *heap;
 static int asked; /* whether the system was asked for a region */
@@ -73,18 +84,23 @@ static int grow(size_t align, size_t size) {
     return rlsf_heap_add(heap, region + added - len, len) != 0;
 }
 
-static void enter(void) {
+/* Returns whether the heap may be changed. */
+static int enter(void) {
+    inside = 1;
     pthread_mutex_lock(&lock);
     if (!asked) reserve();
+    return heap && !forks;
 }
 
-static void leave(void) { pthread_mutex_unlock(&lock); }
+static void leave(void) {
+    pthread_mutex_unlock(&lock);
+    inside = 0;
+}
 
 /* Places a payload in the heap. */
 static void *place(size_t align, size_t size) {
     void *payload = NULL;
-    enter();
-    if (heap) {
+    if (enter()) {
         payload = align > 16 ? rlsf_aligned_alloc(heap, align, size) : rlsf_malloc(heap, size);
         if (!payload && grow(align, size)) payload = rlsf_aligned_alloc(heap, align, size);
     }
@@ -131,7 +147,7 @@ static void *allocate(size_t align, size_t size) {
         payload = place(align, size);
         if (!payload) payload = map(align, size);
     } else {
-        enter(); /* reserves the region */
+        (void)enter(); /* reserves the region */
         leave();
         payload = map(align, size);
         if (!payload) payload = place(align, size);
@@ -160,8 +176,12 @@ void free(void *payload) {
         errno = error;
         return;
     }
-    enter();
-    rlsf_free(heap, payload);
+    if (enter()) {
+        rlsf_free(heap, payload);
+    } else {
+        ((struct freed *)payload)->next = waiting;
+        waiting = payload;
+    }
     leave();
 }
 
@@ -172,7 +192,7 @@ size_t malloc_usable_size(void *payload) {
         struct mapping of = mapping_of(payload);
         return of.len - (size_t)((char *)payload - of.start);
     }
-    enter();
+    (void)enter();
     size = rlsf_usable_size(heap, payload);
     leave();
     return size;
@@ -181,8 +201,7 @@ size_t malloc_usable_size(void *payload) {
 /* Changes the size of a payload, which stays in the heap or a mapping. */
 static void *resize(void *payload, size_t size) {
     if (is_mapped(payload)) return map_again(payload, size);
-    enter();
-    payload = rlsf_realloc(heap, payload, size);
+    payload = enter() ? rlsf_realloc(heap, payload, size) : NULL;
     leave();
     return payload;
 }
@@ -250,7 +269,32 @@ int posix_memalign(void **to, size_t align, size_t size) {
     return 0;
 }
 
-/* A child finds the heap as it was between two calls. */
-static void before_fork(void) { pthread_mutex_lock(&lock); }
-static void after_fork(void) { pthread_mutex_unlock(&lock); }
-__attribute__((constructor)) static void watch_forks(void) { pthread_atfork(before_fork, after_fork, after_fork); }
+/* Below, a thread that is inside forks in a signal handler, in the middle of a call: in the child it ends this call, too. */
+static void before_fork(void) {
+    if (inside) return;
+    (void)enter();
+    forks++;
+    leave();
+}
+
+static void in_parent(void) {
+    if (inside) return;
+    (void)enter();
+    if (forks) forks--; /* 0 in the child of a signal handler that forked during this fork */
+    while (!forks && waiting) {
+        struct freed *payload = waiting;
+        waiting = payload->next;
+        rlsf_free(heap, payload);
+    }
+    leave();
+}
+
+/* A thread that isn't here may hold the lock. What waits is lost: threads wrote to this list while the system copied it page by page. */
+static void in_child(void) {
+    if (inside) return;
+    pthread_mutex_init(&lock, NULL);
+    forks = 0;
+    waiting = NULL;
+}
+
+__attribute__((constructor)) static void watch_forks(void) { pthread_atfork(before_fork, in_parent, in_child); }
