@@ -10,6 +10,7 @@ _Static_assert(sizeof(rlsf_small_handle) == RLSF_SMALL_HEAP_SIZE && sizeof(rlsf_
 
 static _Alignas(64) unsigned char memory[POOLS * LEN];
 static rlsf_large_handle handle;
+static rlsf_part parts[POOLS];
 static size_t taken[POOLS];
 static int failures;
 
@@ -26,7 +27,10 @@ static unsigned char *pool(size_t i) { return memory + i * LEN; }
 /* A heap with pools that don't touch each other. */
 static rlsf_heap *with_pools(size_t kind) {
     rlsf_heap *heap = rlsf_heap_begin(&handle, kind, memory, sizeof memory);
-    for (size_t i = 0; i < POOLS; i++) taken[i] = rlsf_heap_add(heap, pool(i), LEN - 64);
+    for (size_t i = 0; i < POOLS; i++) {
+        WANT(rlsf_heap_try_add(heap, &parts[i], pool(i), LEN - 64), RLSF_ADD_OK);
+        taken[i] = parts[i].len;
+    }
     return heap;
 }
 

@@ -19,7 +19,7 @@
  * The inline functions below aren't proved. They do this and no more:
  *   - They pass a pointer to an exported function as the number (size_t)pointer, and cast the returned number back.
  *   - They store the kind at the start of the handle, and choose the exported function by it. Behind it they store the last pool, for
- *     rlsf_heap_stats.
+ *     rlsf_heap_stats, and the memory and the pools, with which rlsf_heap_try_add compares a new one.
  *   - rlsf_heap_begin leaves out the bytes before the first multiple of 16, and rlsf_heap_init also adds all bytes as a pool. */
 #ifndef RLSF_MALLOC_H
 #define RLSF_MALLOC_H
@@ -46,8 +46,8 @@ extern "C" {
 #define RLSF_LARGE ((size_t)2)
 
 /* The size of a handle of each kind in bytes. A handle is aligned to 8. */
-#define RLSF_SMALL_HEAP_SIZE 1800
-#define RLSF_LARGE_HEAP_SIZE 33864
+#define RLSF_SMALL_HEAP_SIZE 1840
+#define RLSF_LARGE_HEAP_SIZE 33904
 
 /* The totals of some blocks. */
 typedef struct {
@@ -85,11 +85,23 @@ RLSF_KIND_DECLARES(small)
 RLSF_KIND_DECLARES(large)
 #undef RLSF_KIND_DECLARES
 
+/* The place and the length of a pool that rlsf_heap_try_add added. The program provides it, and doesn't write to it until rlsf_heap_end. */
+typedef struct rlsf_part {
+    struct rlsf_part *next;
+    size_t start;
+    size_t len;
+} rlsf_part;
+
 /* A heap at its handle, and behind it what the exported functions use. */
 typedef struct rlsf_heap {
     size_t kind;
     size_t start; /* the last pool */
     size_t len;
+    size_t memory; /* the heap's memory */
+    size_t size;
+    size_t low; /* all pools that rlsf_heap_add made lie from here to `high` */
+    size_t high;
+    rlsf_part *parts; /* the other pools */
 } rlsf_heap;
 
 /* Handles of each kind, for a handle that is static or on the stack. */
@@ -107,17 +119,52 @@ static inline size_t rlsf_heap_size(size_t kind) {
     return kind == RLSF_SMALL ? RLSF_SMALL_HEAP_SIZE : kind == RLSF_LARGE ? RLSF_LARGE_HEAP_SIZE : 0;
 }
 
-/* Adds the `len` bytes at `memory` as a pool, in a time that doesn't depend on them. In a small heap, the time grows by a few word
- * accesses for each 128 KiB. Returns the number of bytes from `memory` to the end of the pool, or 0 if there are too few bytes.
- *
- * The bytes must lie in the heap's memory, and no byte may be one that was added before. */
-static inline size_t rlsf_heap_add(rlsf_heap *heap, void *memory, size_t len) {
+/* Adds the `len` bytes at `memory` as the last pool, and returns what rlsf_heap_add does. */
+static inline size_t rlsf_heap_add_last(rlsf_heap *heap, void *memory, size_t len) {
     size_t taken = heap->kind == RLSF_SMALL ? rlsf_small_add(heap + 1, (size_t)memory, len) : rlsf_large_add(heap + 1, (size_t)memory, len);
     if (taken) {
         heap->start = (size_t)memory;
         heap->len = taken;
     }
     return taken;
+}
+
+/* Adds the `len` bytes at `memory` as a pool, in a time that doesn't depend on them. In a small heap, the time grows by a few word
+ * accesses for each 128 KiB. Returns the number of bytes from `memory` to the end of the pool, or 0 if there are too few bytes.
+ *
+ * The bytes must lie in the heap's memory, and no byte may be one that was added before: rlsf_heap_try_add tests this. */
+static inline size_t rlsf_heap_add(rlsf_heap *heap, void *memory, size_t len) {
+    size_t taken = rlsf_heap_add_last(heap, memory, len), end = (size_t)memory + taken;
+    if (!taken) return 0;
+    if (heap->low == heap->high || (size_t)memory < heap->low) heap->low = (size_t)memory;
+    if (end > heap->high) heap->high = end;
+    return taken;
+}
+
+/* What rlsf_heap_try_add returns. */
+typedef enum rlsf_add_error {
+    RLSF_ADD_OK = 0,
+    RLSF_ADD_OUTSIDE = 1,  /* the bytes don't all lie in the heap's memory */
+    RLSF_ADD_OVERLAPS = 2, /* a byte lies in a pool, or between two that rlsf_heap_add made */
+    RLSF_ADD_TOO_SHORT = 3 /* there are too few bytes */
+} rlsf_add_error;
+
+/* Adds the `len` bytes at `memory` as a pool, of which `part` has the place and the length afterwards. After an error nothing has changed;
+ * if more than one applies, the call returns the first. The time grows with the number of pools. */
+static inline rlsf_add_error rlsf_heap_try_add(rlsf_heap *heap, rlsf_part *part, void *memory, size_t len) {
+    size_t start = (size_t)memory, end = start + len, taken;
+    const rlsf_part *other;
+    if (start < heap->memory || len > heap->size || start - heap->memory > heap->size - len) return RLSF_ADD_OUTSIDE;
+    if (start < heap->high && end > heap->low) return RLSF_ADD_OVERLAPS;
+    for (other = heap->parts; other; other = other->next)
+        if (start < other->start + other->len && end > other->start) return RLSF_ADD_OVERLAPS;
+    taken = rlsf_heap_add_last(heap, memory, len);
+    if (!taken) return RLSF_ADD_TOO_SHORT;
+    part->next = heap->parts;
+    part->start = start;
+    part->len = taken;
+    heap->parts = part;
+    return RLSF_ADD_OK;
 }
 
 /* Creates a heap at a handle, over the `len` bytes at `memory`. No pool is added yet: rlsf_heap_add adds parts of these bytes. They belong
@@ -136,8 +183,11 @@ static inline rlsf_heap *rlsf_heap_begin(void *handle, size_t kind, void *memory
     else
         return NULL;
     heap->kind = kind;
-    heap->start = (size_t)memory + skipped;
+    heap->start = heap->memory = (size_t)memory + skipped;
     heap->len = 0;
+    heap->size = len - skipped;
+    heap->low = heap->high = 0;
+    heap->parts = NULL;
     return heap;
 }
 
