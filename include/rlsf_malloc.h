@@ -19,7 +19,7 @@
  * The inline functions below aren't proved. They do this and no more:
  *   - They pass a pointer to an exported function as the number (size_t)pointer, and cast the returned number back.
  *   - They store the kind at the start of the handle, and choose the exported function by it. Behind it they store the last pool, for
- *     rlsf_heap_stats, and the memory and the pools, with which rlsf_heap_try_add compares a new one.
+ *     rlsf_heap_stats, the memory and the pools, with which rlsf_heap_try_add compares a new one, and a sum of these, for rlsf_heap_check.
  *   - rlsf_heap_begin leaves out the bytes before the first multiple of 16, and rlsf_heap_init also adds all bytes as a pool. */
 #ifndef RLSF_MALLOC_H
 #define RLSF_MALLOC_H
@@ -46,8 +46,8 @@ extern "C" {
 #define RLSF_LARGE ((size_t)2)
 
 /* The size of a handle of each kind in bytes. A handle is aligned to 8. */
-#define RLSF_SMALL_HEAP_SIZE 1840
-#define RLSF_LARGE_HEAP_SIZE 33904
+#define RLSF_SMALL_HEAP_SIZE 1848
+#define RLSF_LARGE_HEAP_SIZE 33912
 
 /* The totals of some blocks. */
 typedef struct {
@@ -102,6 +102,7 @@ typedef struct rlsf_heap {
     size_t low; /* all pools that rlsf_heap_add made lie from here to `high` */
     size_t high;
     rlsf_part *parts; /* the other pools */
+    size_t sum;       /* the rlsf_heap_sum of what may not change between two calls */
 } rlsf_heap;
 
 /* Handles of each kind, for a handle that is static or on the stack. */
@@ -117,6 +118,23 @@ typedef union {
 /* Returns the size of a handle of a kind in bytes, or 0 if there is no such kind. */
 static inline size_t rlsf_heap_size(size_t kind) {
     return kind == RLSF_SMALL ? RLSF_SMALL_HEAP_SIZE : kind == RLSF_LARGE ? RLSF_LARGE_HEAP_SIZE : 0;
+}
+
+/* Returns a number of the words above and of the three behind them, which say where the exported functions find the memory: it is another
+ * one if a bit of one word is another. */
+static inline size_t rlsf_heap_sum(const rlsf_heap *heap) {
+    const size_t *behind = (const size_t *)(heap + 1);
+    size_t sum = heap->kind;
+    sum = 31 * sum + heap->start;
+    sum = 31 * sum + heap->len;
+    sum = 31 * sum + heap->memory;
+    sum = 31 * sum + heap->size;
+    sum = 31 * sum + heap->low;
+    sum = 31 * sum + heap->high;
+    sum = 31 * sum + (size_t)heap->parts;
+    sum = 31 * sum + behind[0];
+    sum = 31 * sum + behind[1];
+    return 31 * sum + behind[2];
 }
 
 /* Adds the `len` bytes at `memory` as the last pool, and returns what rlsf_heap_add does. */
@@ -138,6 +156,7 @@ static inline size_t rlsf_heap_add(rlsf_heap *heap, void *memory, size_t len) {
     if (!taken) return 0;
     if (heap->low == heap->high || (size_t)memory < heap->low) heap->low = (size_t)memory;
     if (end > heap->high) heap->high = end;
+    heap->sum = rlsf_heap_sum(heap);
     return taken;
 }
 
@@ -164,6 +183,7 @@ static inline rlsf_add_error rlsf_heap_try_add(rlsf_heap *heap, rlsf_part *part,
     part->start = start;
     part->len = taken;
     heap->parts = part;
+    heap->sum = rlsf_heap_sum(heap);
     return RLSF_ADD_OK;
 }
 
@@ -188,6 +208,7 @@ static inline rlsf_heap *rlsf_heap_begin(void *handle, size_t kind, void *memory
     heap->size = len - skipped;
     heap->low = heap->high = 0;
     heap->parts = NULL;
+    heap->sum = rlsf_heap_sum(heap);
     return heap;
 }
 
@@ -305,15 +326,17 @@ static inline size_t rlsf_heap_walk(const rlsf_heap *heap, const void *memory, s
 
 /* For debugging: reads the words of each block of a pool again, the links of its free blocks, and the lists' beginnings in the handle.
  * Returns 1 if they agree. Returns 0 if they don't: then the program wrote to bytes that it may not write to, and no other call on the heap
- * is defined. Whatever the words are, the call reads only the heap's memory and its handle. The time grows with the number of blocks.
+ * is defined. Whatever these words and the handle's are, the call reads only the heap's memory and its handle. The time grows with the number
+ * of blocks.
  *
  * It finds each wrong header of a block, each missing sentinel, two free blocks side by side, and a free block whose neighbours in its list
- * don't name it. It doesn't read payloads, nor the words before payloads with an alignment above 16. A call in another thread must not run
- * at the same time.
+ * don't name it. Of the handle it finds each flipped bit, but for those of the number of live payloads and those that no call reads. It
+ * doesn't read payloads, nor the words before payloads with an alignment above 16. A call in another thread must not run at the same time.
  *
  * The pool is one that rlsf_heap_add made of `memory`, and `len` is what it returned; or the last pool, if `memory` is NULL. */
 static inline int rlsf_heap_check(const rlsf_heap *heap, const void *memory, size_t len) {
     size_t start = memory ? (size_t)memory : heap->start, taken = memory ? len : heap->len;
+    if (heap->sum != rlsf_heap_sum(heap)) return 0;
     return (int)(heap->kind == RLSF_SMALL ? rlsf_small_check((void *)(heap + 1), start, taken) : rlsf_large_check((void *)(heap + 1), start, taken));
 }
 
