@@ -7,8 +7,10 @@
 #![tactic(auto)]
 
 pub use rlsf_base::memory::{Addr, Layout, LayoutError, Memory, MemoryError, Range};
-pub use rlsf_flex::{FlexSource, FlexTlsf, GlobalAlloc, GlobalAllocAsFlexSource, SourceChange};
-pub use rlsf_flex_sources::{BumpSource, GlobalTlsfOptions, SmallGlobalTlsfOptions, Source};
+pub use rlsf_flex::{
+    BumpSource, FlexSource, FlexTlsf, GlobalAlloc, GlobalAllocAsFlexSource, GlobalTlsfOptions,
+    SmallGlobalTlsfOptions, Source, SourceChange,
+};
 pub use rlsf_tlsf::{BlockInfo, Blocks, GRANULARITY, Tlsf, laws};
 
 /// The size classes, and the pool lengths that are computed from them.

@@ -1,6 +1,7 @@
--- Lemmas on the allocator over a source: growth, footers, the end, trims and lent bytes.
+-- Lemmas on the allocator over a source, as growth, footers, the end, trims and lent bytes, and on sources.
 pub mod Allocations
 pub mod Asks
+pub mod BumpRanges
 pub mod Calls
 pub mod DisjointRanges
 pub mod EmptyFlex
@@ -23,6 +24,7 @@ pub mod Places
 pub mod RangeLengths
 pub mod RangeRows
 pub mod Reallocations
+pub mod Refused
 pub mod Reserves
 pub mod Rewritten
 mod SendAndSync

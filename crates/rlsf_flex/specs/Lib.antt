@@ -1,5 +1,7 @@
--- Definitions for the allocator over a source. Read `StandsFor` and `Footers` first.
+-- Definitions for the allocator over a source, and for sources. Read `StandsFor` and `Footers` first.
 pub mod Bounds
+pub mod Bump
+pub mod BumpConstant
 pub mod Deallocations
 pub mod Footers
 pub mod Heap

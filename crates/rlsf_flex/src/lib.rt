@@ -1,26 +1,37 @@
-//! The allocator that asks a source for memory when it has no room, and an allocator of single allocations as such a source.
+//! The allocator that asks a source for memory when it has no room, and three such sources.
 //!
 //! Read `specs/StandsFor` (the represented state) and `specs/Footers` first, then `src/source` (the trait of sources) and `src/flex` (all
-//! calls). `src/growth` asks for memory, `src/trim` and `src/end` return it, and `src/footers` writes and reads the footers. `src/heap` with
-//! `specs/Heap` is the source of single allocations. `src/parts`, `src/pool` and `src/ranges` hold the fields. `specs/Outside` and
-//! `specs/SpareBytes` say which bytes stay. `specs/Steps` is for private functions.
+//! calls). `src/growth` asks for memory, `src/trim` and `src/end` return it, and `src/footers` writes and reads the footers. `src/parts`,
+//! `src/pool` and `src/ranges` hold the fields. `specs/Outside` and `specs/SpareBytes` say which bytes stay. `specs/Steps` is for private
+//! functions.
+//!
+//! `Source` (`src/pages`) provides complete pages of its space, and `BumpSource` (`src/bump`) exactly the requested bytes. A caller of
+//! either has nothing to prove. `GlobalAllocAsFlexSource` (`src/heap`, `specs/Heap`) asks an allocator of single allocations.
+//! `src/options` has the options of an allocator behind the lock. `specs/Bump` and `proofs/BumpRanges` have definitions and lemmas for
+//! other sources that provide their space from a cursor on.
 #![tactic(auto)]
 
 ghost use Rattle.rlsf_flex.specs.Laws.{FlexStatesAreWellFormed, FlexWordsReadNoPayload};
 
+mod bump;
 mod end;
 mod flex;
 mod footers;
 mod growth;
 mod heap;
+mod options;
+mod pages;
 mod parts;
 mod pool;
 mod ranges;
 mod source;
 mod trim;
 
+pub use bump::BumpSource;
 pub use flex::FlexTlsf;
 pub use heap::{GlobalAlloc, GlobalAllocAsFlexSource};
+pub use options::{GlobalTlsfOptions, SmallGlobalTlsfOptions};
+pub use pages::Source;
 pub use source::{FlexSource, SourceChange};
 
 /// Does nothing. Its contract states the laws of the states that an allocator over a source represents, so that a check proves them.

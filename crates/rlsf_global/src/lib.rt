@@ -11,6 +11,6 @@ mod shared;
 mod table;
 
 pub use locked::Locked;
-pub use rlsf_flex_sources::{GlobalTlsfOptions, SmallGlobalTlsfOptions, Source};
+pub use rlsf_flex::{GlobalTlsfOptions, SmallGlobalTlsfOptions, Source};
 pub use rlsf_model_global::{GlobalError, isolation, replays};
 pub use shared::{CAlloc, GlobalTlsf, SmallGlobalTlsf};

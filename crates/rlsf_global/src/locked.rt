@@ -21,8 +21,7 @@ ghost use Rattle.rlsf_model_global.specs.Steps.{HeapAllocates, HeapDeallocates, 
 use crate::moves::{PagedTlsf, move_away, resize};
 use crate::table::{move_row, place, replace, search};
 use rlsf_base::memory::{Addr, Layout, Memory, Range};
-use rlsf_flex::FlexTlsf;
-use rlsf_flex_sources::{GlobalTlsfOptions, Source};
+use rlsf_flex::{FlexTlsf, GlobalTlsfOptions, Source};
 use rlsf_model_global::GlobalError;
 use std::alloc::Global;
 use std::marker::Model;

@@ -16,8 +16,7 @@ ghost use Rattle.rlsf_model_global.specs.Moves.{MovesAway, ReallocatesTo};
 ghost use Rattle.rlsf_model_global.specs.Rows.{Row, put, without_row};
 
 use rlsf_base::memory::{Addr, Layout};
-use rlsf_flex::FlexTlsf;
-use rlsf_flex_sources::{GlobalTlsfOptions, Source};
+use rlsf_flex::{FlexTlsf, GlobalTlsfOptions, Source};
 
 /// The allocator over the page source.
 pub(crate) type PagedTlsf<Options> = FlexTlsf<Source<Options>, usize, usize, 64, 64>;

@@ -7,7 +7,7 @@ ghost use Rattle.rlsf_model_global.specs.declared.error.GlobalError.TheVariants.
 
 use crate::locked::Locked;
 use rlsf_base::memory::{Addr, Layout, Memory};
-use rlsf_flex_sources::{GlobalTlsfOptions, SmallGlobalTlsfOptions};
+use rlsf_flex::{GlobalTlsfOptions, SmallGlobalTlsfOptions};
 use rlsf_model_global::GlobalError;
 use std::alloc::Global;
 use std::sync::{Mutex, Wait};

@@ -2,8 +2,7 @@
 
 use crate::heaps::{all, number};
 use rlsf_base::memory::{Layout, Memory, Range};
-use rlsf_flex::FlexTlsf;
-use rlsf_flex_sources::BumpSource;
+use rlsf_flex::{BumpSource, FlexTlsf};
 use std::alloc::Global;
 
 /// The addresses of four payloads of one byte over 223 bytes from the address 4097 on, 0 for none.

@@ -1,4 +1,4 @@
-//! Tests of `rlsf_flex`, `rlsf_trace_flex_runs` and `rlsf_flex_sources`. This crate has no other code.
+//! Tests of `rlsf_flex` and `rlsf_trace_flex_runs`. This crate has no other code.
 //!
 //! `originals.rt` has the original's tests, with their tables below. `growths.rt`, `trims.rt` and `ends.rt` test the life of
 //! ranges. `refusals.rt`, `questions.rt` and `capabilities.rt` test what sources are asked. `loans.rt`, `calls.rt` and `runs.rt`

@@ -4,11 +4,11 @@ ghost use Rattle.std.specs.Prelude.{◌≡◌, ◌<◌, ◌≤◌, ◌+◌, ◌^
 ghost use Rattle.rlsf_base.specs.declared.memory.range.Range.{Range};
 ghost use Rattle.rlsf_base.specs.Range.{end_of};
 ghost use Rattle.rlsf_model.specs.Note.{dealloc};
-ghost use Rattle.rlsf_flex_sources.specs.Bump.{BumpLeads, BumpOwes, bump_in, bump_terms};
-ghost use Rattle.rlsf_flex_sources.specs.BumpConstant.{constant_bump};
+ghost use Rattle.rlsf_flex.specs.Bump.{BumpLeads, BumpOwes, bump_in, bump_terms};
+ghost use Rattle.rlsf_flex.specs.BumpConstant.{constant_bump};
 
+use crate::source::FlexSource;
 use rlsf_base::memory::Range;
-use rlsf_flex::FlexSource;
 use std::marker::Model;
 
 /// A source of one range of its space, which begins at a multiple of 32 and grows by exactly the requested bytes. It takes no range back.
@@ -19,7 +19,7 @@ pub struct BumpSource {
 }
 
 impl Model for BumpSource {
-    ghost use Rattle.rlsf_flex_sources.specs.Bump.{Bump, IsBump, bump_in};
+    ghost use Rattle.rlsf_flex.specs.Bump.{Bump, IsBump, bump_in};
 
     ghost Value = { Bump };
 

@@ -4,9 +4,9 @@ use Rattle.rlsf_base.specs.Rounding.{round32}
 use Rattle.rlsf_model_global.proofs.Cursors.{first_cursor}
 use Rattle.rlsf_model_global.specs.Cursor.{first_page, page_cursor}
 use Rattle.rlsf_model_global.specs.Pages.{IsPageCursor}
-use Rattle.rlsf_flex_sources.proofs.pages.Source.new.Given as given
-use Rattle.rlsf_flex_sources.proofs.pages.Source.new.Goals as goal
-use Rattle.rlsf_flex_sources.proofs.pages.Source.new.Goals.{in-Some, in-None}
+use Rattle.rlsf_flex.proofs.pages.Source.new.Given as given
+use Rattle.rlsf_flex.proofs.pages.Source.new.Goals as goal
+use Rattle.rlsf_flex.proofs.pages.Source.new.Goals.{in-Some, in-None}
 
 -- the cursor begins at the first page
 at_first : (g : given.Over) (c : goal.Joined-checked_next_multiple_of g) → c.match-checked_next_multiple_of.at ≡ first_page c.args.space

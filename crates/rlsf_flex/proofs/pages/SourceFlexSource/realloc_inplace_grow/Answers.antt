@@ -6,7 +6,7 @@ use Rattle.rlsf_model_global.specs.Cursor.{PageCursor, PageLeads, moved_to, page
 use Rattle.rlsf_model_global.proofs.Cursors.{IsPageCursor-grown, grown_range, owed_ends}
 use Rattle.rlsf_model.specs.Note.{grow}
 use Rattle.rlsf_model.specs.Terms.{IsGrown, with_len}
-use Rattle.rlsf_flex_sources.proofs.pages.SourceFlexSource.realloc_inplace_grow.Goals as goal
+use Rattle.rlsf_flex.proofs.pages.SourceFlexSource.realloc_inplace_grow.Goals as goal
 
 -- some ranges are outstanding, among them r
 abbrev Owed : PageCursor → Range → Type 0

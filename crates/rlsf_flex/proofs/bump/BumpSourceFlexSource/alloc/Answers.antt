@@ -1,7 +1,7 @@
 use Rattle.std.proofs.Common.{arith, refl}
-use Rattle.rlsf_flex_sources.specs.Bump.{bump_terms}
-use Rattle.rlsf_flex_sources.proofs.BumpRanges.{bump_gives}
-use Rattle.rlsf_flex_sources.proofs.bump.BumpSourceFlexSource.alloc.Goals as goal
+use Rattle.rlsf_flex.specs.Bump.{bump_terms}
+use Rattle.rlsf_flex.proofs.BumpRanges.{bump_gives}
+use Rattle.rlsf_flex.proofs.bump.BumpSourceFlexSource.alloc.Goals as goal
 
 pub returns-clause-owes : goal.returns-clause-owes
 returns-clause-owes c =

@@ -9,8 +9,8 @@ ghost use Rattle.rlsf_model.specs.Note.{dealloc};
 ghost use Rattle.rlsf_model_global.specs.Cursor.{PageLeads, first_page, page_cursor, pages, terms_of};
 
 use crate::options::GlobalTlsfOptions;
+use crate::source::FlexSource;
 use rlsf_base::memory::Range;
-use rlsf_flex::FlexSource;
 use std::marker::{Model, PhantomData};
 
 /// The length of a page in bytes.

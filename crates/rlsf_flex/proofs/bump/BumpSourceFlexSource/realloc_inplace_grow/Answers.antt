@@ -1,7 +1,7 @@
 use Rattle.std.proofs.Common.{arith, refl}
-use Rattle.rlsf_flex_sources.specs.Bump.{bump_terms}
-use Rattle.rlsf_flex_sources.proofs.BumpRanges.{bump_end, bump_grows}
-use Rattle.rlsf_flex_sources.proofs.bump.BumpSourceFlexSource.realloc_inplace_grow.Goals as goal
+use Rattle.rlsf_flex.specs.Bump.{bump_terms}
+use Rattle.rlsf_flex.proofs.BumpRanges.{bump_end, bump_grows}
+use Rattle.rlsf_flex.proofs.bump.BumpSourceFlexSource.realloc_inplace_grow.Goals as goal
 
 pub overflow_add-range : goal.overflow_add-range
 overflow_add-range c = omega (arith, bump_end c.args.self.now c.self.inside.space c.self.inside.at c.args.range c.self.view_is c.self.invariant c.requires.outstanding)

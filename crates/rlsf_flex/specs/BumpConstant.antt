@@ -2,7 +2,7 @@
 use Rattle.std.specs.Prelude.{◌≡◌, Some, None}
 use Rattle.std.proofs.Common.{ap}
 use Rattle.rlsf_model.specs.Note.{Note, alloc, dealloc, grow}
-use Rattle.rlsf_flex_sources.specs.Bump.{Bump, BumpLeads, bump_terms}
+use Rattle.rlsf_flex.specs.Bump.{Bump, BumpLeads, bump_terms}
 
 -- no question changes the source's terms
 pub constant_bump : (x y : Bump) (n : Note) → BumpLeads x n y → bump_terms y ≡ bump_terms x

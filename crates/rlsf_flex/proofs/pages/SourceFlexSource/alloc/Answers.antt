@@ -6,7 +6,7 @@ use Rattle.rlsf_model_global.specs.Cursor.{PageCursor, PageLeads, moved_to, page
 use Rattle.rlsf_model_global.proofs.Cursors.{IsPageCursor-given, given_range}
 use Rattle.rlsf_model.specs.Note.{alloc}
 use Rattle.rlsf_model.specs.Terms.{IsGiven}
-use Rattle.rlsf_flex_sources.proofs.pages.SourceFlexSource.alloc.Goals as goal
+use Rattle.rlsf_flex.proofs.pages.SourceFlexSource.alloc.Goals as goal
 
 pub invariant_of-self : goal.invariant_of-self
 invariant_of-self g c =

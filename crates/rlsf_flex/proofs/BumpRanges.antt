@@ -9,7 +9,7 @@ use Rattle.rlsf_base.proofs.Numbers.Roundings.{next_multiple_of-le, next_multipl
 use Rattle.rlsf_model.specs.Terms.{IsGiven, IsGrown, Terms, with_len}
 use Rattle.rlsf_model.proofs.Coverage.{IsIn-append_right}
 use Rattle.rlsf_model_global.proofs.Apart.{IsClear-grown, LieApart, LieApart-above, LieApart-grown, LieApart-less, LieApart-more}
-use Rattle.rlsf_flex_sources.specs.Bump.{Bump, BumpOwes, IsBump, bump_in}
+use Rattle.rlsf_flex.specs.Bump.{Bump, BumpOwes, IsBump, bump_in}
 
 -- what may be outstanding lies in the space before the cursor, and doesn't overlap
 lie_apart : (b : Bump) {owed : List Range} → BumpOwes b owed → LieApart b.space.start b.at owed

@@ -1,7 +1,7 @@
 use Rattle.std.proofs.Common.{◌≡◌, ◌<◌, ◌+◌, arith, lit<, ap, ◌∙◌}
-use Rattle.rlsf_flex_sources.proofs.Refused.{match_none}
+use Rattle.rlsf_flex.proofs.Refused.{match_none}
 use Rattle.rlsf_model_global.specs.Cursor.{pages}
-use Rattle.rlsf_flex_sources.proofs.pages.Source.end_of_pages.Goals as goal
+use Rattle.rlsf_flex.proofs.pages.Source.end_of_pages.Goals as goal
 
 pub returns-in_err-len : goal.returns-in_err-len
 returns-in_err-len g c = rw (← c.self.view_is) (match_none _ c.from_residual.result c.from_residual.ensures

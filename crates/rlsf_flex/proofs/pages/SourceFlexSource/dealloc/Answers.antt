@@ -1,6 +1,6 @@
 use Rattle.std.proofs.Common.{rules}
 use Rattle.rlsf_model_global.proofs.Cursors.{gone_range}
-use Rattle.rlsf_flex_sources.proofs.pages.SourceFlexSource.dealloc.Goals as goal
+use Rattle.rlsf_flex.proofs.pages.SourceFlexSource.dealloc.Goals as goal
 
 pub returns : goal.returns
 returns g c = record {
