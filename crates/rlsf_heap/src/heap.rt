@@ -1,5 +1,5 @@
 //! The heap: an allocator whose payloads leave its memory.
-ghost use Rattle.std.specs.Prelude.{[], ◌≡◌, ◌≢◌, ◌≤◌, ◌+◌, ◌/◌, ◌↔◌, ℕ, None, length, replicate, IfErr, IfNone, IfOk, IfSome, IsOk, IsSome};
+ghost use Rattle.std.specs.Prelude.{[], ◌≡◌, ◌≢◌, ◌≤◌, ◌+◌, ◌↔◌, ℕ, None, length, replicate, IfErr, IfNone, IfOk, IfSome, IsOk, IsSome};
 ghost use Rattle.rlsf_base.specs.Changes.{IsAllOwn};
 ghost use Rattle.rlsf_base.specs.OpenSpace.{home_of, IsOwned};
 ghost use Rattle.rlsf_base.specs.declared.memory.range.Range.{Range};
@@ -184,8 +184,7 @@ impl<FLBitmap: BitPattern, SLBitmap: BitPattern, const FLLEN: usize, const SLLEN
             → layout.size ≤ most → layout.align ≤ wide → IsSome result }
         ensures same { IfNone result (self.new.state ≡ self.old.state) }
         ensures refused { IfNone result (self.new.memory.bytes ≡ self.old.memory.bytes) }
-        ensures few_touches { IfNone result (self.new.memory.touches ≤ self.old.memory.touches + 30) }
-        ensures touches { IfSome result (λ p. self.new.memory.touches ≤ self.old.memory.touches + 30 + length p.bytes / 8) }
+        ensures touches { self.new.memory.touches ≤ self.old.memory.touches + 30 }
         ensures raw { NoneBecomesRaw self.old self.new }
         ensures spare { KeepsSpareBytes self.old self.new }
         ensures copied { self.new.memory.copied ≡ self.old.memory.copied }

@@ -1,5 +1,5 @@
 //! Allocation and deallocation of payloads that are known by their address alone.
-ghost use Rattle.std.specs.Prelude.{◌≡◌, ◌≢◌, ◌≤◌, ◌+◌, ◌/◌, ℕ, None, Some, length, replicate};
+ghost use Rattle.std.specs.Prelude.{◌≡◌, ◌≢◌, ◌≤◌, ◌+◌, ℕ, None, Some, length, replicate};
 ghost use Rattle.rlsf_base.specs.Ledger.{extent};
 ghost use Rattle.rlsf_model.specs.Allocate.{Allocates};
 ghost use Rattle.rlsf_model.specs.Callers.{align_at, bytes_at};
@@ -62,8 +62,7 @@ impl<FLBitmap: BitPattern, SLBitmap: BitPattern, const FLLEN: usize, const SLLEN
         ensures spare { KeepsSpareBytes self.old self.new }
         ensures written { result.of.start ≢ 0 → IsWritten result.of }
         ensures zeros { result.of.start ≢ 0 → result.of.bytes ≡ replicate (length result.of.bytes) 0 }
-        ensures few_touches { result.of.start ≡ 0 → self.new.memory.touches ≤ self.old.memory.touches + 30 }
-        ensures touches { result.of.start ≢ 0 → self.new.memory.touches ≤ self.old.memory.touches + 30 + length result.of.bytes / 8 }
+        ensures touches { self.new.memory.touches ≤ self.old.memory.touches + 30 }
     {
         match self.allocate_zeroed(layout) {
             Some(payload) => payload.into_thin(),

@@ -1,9 +1,9 @@
-use Rattle.std.proofs.Common.{◌≡◌, ◌+◌, ◌/◌, ◌≤◌, length, replicate, true≢false, sym, ap, subst, ◌∙◌}
+use Rattle.std.proofs.Common.{◌≡◌, length, replicate, true≢false, sym, ap, subst, ◌∙◌}
 use Rattle.rlsf_model.specs.Allocate.{Allocates}
 use Rattle.rlsf_heap.specs.Heap.{IsWritten, PayloadView, Steps}
 use Rattle.rlsf_heap.specs.Replies.{IsAllocated}
 use Rattle.rlsf_heap.specs.Thin.{reply_of}
-use Rattle.rlsf_heap.proofs.ThinPayloads.{is_some, none_leaves, some_address, thin_leaves, thin_step}
+use Rattle.rlsf_heap.proofs.ThinPayloads.{none_leaves, some_address, thin_leaves, thin_step}
 use Rattle.rlsf_heap.proofs.heap.Heap.allocate_thin_zeroed.Goals as goal
 
 pub into_thin-requires : goal.into_thin-requires
@@ -24,9 +24,7 @@ returns-in-Some g c =
           c.into_thin.result.of is e.step e.aligns e.copied;
       written = λ it. subst (λ (p : PayloadView). IsWritten p) (sym is) e.written;
       zeros = λ it. subst (λ (p : PayloadView). p.bytes ≡ replicate (length p.bytes) 0) (sym is) e.zeros;
-      few_touches = λ none. absurd (is_some g.row.FLLEN g.row.SLLEN c.args.self.now c.allocate_zeroed.new.self c.args.layout.size c.args.layout.align c.in-Some.payload
-          c.into_thin.result.of is e.step none);
-      touches = λ it. subst (λ (p : PayloadView). c.allocate_zeroed.new.self.memory.touches ≤ c.args.self.now.memory.touches + 30 + length p.bytes / 8) (sym is) e.touches;
+      touches = e.touches;
     }
 
 pub returns-in-None : goal.returns-in-None
@@ -45,6 +43,5 @@ returns-in-None g c =
           (λ count most wide sized few short fits. true≢false (sym (e.room count most wide sized few short fits))) e.same e.refused e.copied;
       written = λ some. absurd (some none);
       zeros = λ some. absurd (some none);
-      few_touches = λ _. e.few_touches;
-      touches = λ some. absurd (some none);
+      touches = e.touches;
     }
