@@ -100,7 +100,7 @@ module _ (T X : RattleType) (gU : UnitHeap.Ghosts T.Denot) (dU : Dict) (gI : Ide
     resizing κs a = record {
       ghost = (those κs a).ghost;
       requires = λ xs. sep 𝓤 (fact 𝓤 (κs.1.0 ⊑ T.lives)) (sep 𝓤 (fact 𝓤 (κs.1.1.0 ⊑ X.lives)) (sep 𝓤 (fact 𝓤 (Asked a.1.1.0 a.1.1.1.0 a.1.1.1.1.0))
-          (sem 𝓛 (block_with_items (block_token a.0.now.slot) R a.1.0 a.1.1.0 a.1.1.1.0 xs))));
+          (sem 𝓛 (block_with_items (block_token a.0.now.slot.heap) R a.1.0 a.1.1.0 a.1.1.1.0 xs))));
       ensures = (those κs a).ensures;
     }
 
@@ -116,7 +116,7 @@ module _ (T X : RattleType) (gU : UnitHeap.Ghosts T.Denot) (dU : Dict) (gI : Ide
         let Post : Val → SProp 𝓤 = (walk_of 𝓛 En₀ stays c).post z in
         let a = z.0.3 in
         let vss = z.0.4 in
-        let r₀ : Identity = a.0.now.slot in
+        let r₀ : Identity = a.0.now.slot.heap in
         let from = a.1.0 in
         let len = a.1.1.0 in
         let old = a.1.1.1.0 in

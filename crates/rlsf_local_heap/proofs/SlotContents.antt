@@ -23,7 +23,7 @@ use denote.Struct.Members.{Member}
 use Rattle.core.specs.contracts.option.Option as option
 use Rattle.core.proofs.option.Option.TheLaws.{the_row_laws as option_laws}
 use Rattle.core.proofs.cell.Inside.{Good, round, wraps, unwraps}
-use Rattle.rlsf_heap.specs.Heap.{Identity}
+use Rattle.rlsf_local_heap.specs.Constants.{Constants}
 use Rattle.rlsf_local_heap.specs.declared.slot.Identified.{Ghosts}
 use Rattle.rlsf_local_heap.specs.Ownership.{fields_with}
 use Rattle.rlsf_local_heap.specs.contracts.slot.Slot as slot
@@ -58,22 +58,22 @@ module _ (T : RattleType) (g : Ghosts T.Denot) where
   abbrev pub slot_type : Ty
   slot_type = lone Fields.mir
 
-  abbrev pub Over : Identity → (Held T).Denot → Type 0
-  Over r x = IfSome x (λ h. g.identity h ≡ r)
+  abbrev pub Over : Constants → (Held T).Denot → Type 0
+  Over r x = IfSome x (λ h. g.constants h ≡ r)
 
-  abbrev over : Identity → Fields.Denot → Fml
+  abbrev over : Constants → Fields.Denot → Fml
   over r i = fex (Over r i.value) (λ _. ftrue)
 
-  abbrev pub contents : Identity → List Val → Fml
+  abbrev pub contents : Constants → List Val → Fml
   contents r vs = fex Fields.Denot (λ i. fsep (Fields.own_val i vs) (over r i))
 
-  abbrev pub Shut : {M : Type 1} {𝓤 : Ura M} (𝓛 : Logic 𝓤) → Identity → ℕ → ℕ → Lft → Share → Item 𝓤
+  abbrev pub Shut : {M : Type 1} {𝓤 : Ura M} (𝓛 : Logic 𝓤) → Constants → ℕ → ℕ → Lft → Share → Item 𝓤
   Shut {𝓤 = 𝓤} 𝓛 r b o κ q =
       ‵ (ftok (less every (b, o))) ⊛ raw
       (wand 𝓤 (sep 𝓤 (sem 𝓛 (fields_with Fields (over r) b o)) (𝓛.A.tok (less every (b, o)))) (𝓛.H.⇛ (sep 𝓤 (𝓛.A.lft κ q) (𝓛.A.tok every))))
 
 module _ (T : RattleType) (L : Laws T) (g : Ghosts T.Denot) {M : Type 1} {𝓤 : Ura M} {𝓛 : Logic 𝓤} {K : Type 0} {Γ : List (Item 𝓤)} {G : Goal 𝓤 𝓛.H}
-    (r : Identity) where
+    (r : Constants) where
   open 𝓛 use {H, A}
 
   pub contents_out : K → (vs : List Val)
@@ -91,7 +91,7 @@ module _ (T : RattleType) (L : Laws T) (g : Ghosts T.Denot) {M : Type 1} {𝓤 :
       fpack t (Fields T g).Denot (λ j. fsep ((Fields T g).own_val j (round v ∷ [])) (over T g r j)) i $ s)
 
 module _ (T : RattleType) (L : Laws T) (g : Ghosts T.Denot) {M : Type 1} {𝓤 : Ura M} {𝓛 : Logic 𝓤} {K : Type 0} {Γ : List (Item 𝓤)} {G : Goal 𝓤 𝓛.H}
-    (r : Identity) (b o : ℕ) where
+    (r : Constants) (b o : ℕ) where
   open 𝓛 use {H, A}
 
   pub opens_slot : K → Soaks G → {κ : Lft} {q : Share}

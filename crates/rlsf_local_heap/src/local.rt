@@ -1,8 +1,10 @@
 //! The allocator: a heap behind a `&`, whose blocks grow and shrink in place where they can.
 ghost use Rattle.std.specs.Prelude.{◌≡◌, ◌↔◌, ◌+◌, ◌*◌, ◌^◌, ◌<◌, ◌≤◌, min, IfOk, IfSome, IsErrOf, MatchResult};
 ghost use Rattle.std.specs.Mem.{type_size};
+ghost use Rattle.rlsf_base.specs.Range.{range_at};
 ghost use Rattle.rlsf_base.specs.SizeClass.{IsValid};
 ghost use Rattle.rlsf_heap.specs.Units.{GivesUnits, heap_of, heap_of_tail, payload_len};
+ghost use Rattle.rlsf_local_heap.specs.Constants.{chunks_of_range, constants_of};
 ghost use Rattle.rlsf_local_heap.specs.Ownership.{block_token};
 ghost use Rattle.rlsf_local_heap.specs.Resized.{HasPlaces, IsAtSamePlace, StaysWith};
 
@@ -67,7 +69,8 @@ impl<FLBitmap: BitPattern, SLBitmap: BitPattern, const FLLEN: usize, const SLLEN
     /// none for the heap's own fields. The parameters of the heap must be valid (`Heap::new`).
     pub fn new(alloc: Global, len: usize) -> Result<Self, MemoryError>
         requires { IsValid FLBitmap.width SLBitmap.width FLLEN SLLEN }
-        ensures memory { IfOk result (λ l. (l.slot.home.start ≡ 4096) × (l.slot.home.len ≡ len) × GivesUnits l.slot) }
+        ensures memory { IfOk result (λ l. (l.slot.heap.home.start ≡ 4096) × (l.slot.heap.home.len ≡ len) × GivesUnits l.slot.heap) }
+        ensures pool { IfOk result (λ l. l.slot.chunks ≡ chunks_of_range FLLEN (range_at 4096 len)) }
         ensures too_long { IsErrOf result MemoryError.TooLong ↔ (2 ^ 64 ≤ 4096 + len) }
         ensures starts { IsErrOf result MemoryError.ZeroStart → ⊥ }
     {
@@ -80,7 +83,7 @@ impl<FLBitmap: BitPattern, SLBitmap: BitPattern, const FLLEN: usize, const SLLEN
 
     /// Creates an allocator over a heap in a box, as `from` does.
     pub(crate) fn in_a_box(heap: Box<Heap<FLBitmap, SLBitmap, FLLEN, SLLEN>>) -> Self
-        ensures { result.slot ≡ heap.value.identity }
+        ensures { result.slot ≡ constants_of heap.value }
     {
         LocalHeap::from(heap)
     }
@@ -112,7 +115,7 @@ impl<H: UnitHeap> LocalHeap<H> {
 
     /// Consumes the allocator and returns its heap, in which the blocks that are out stay live.
     pub fn into_heap(self) -> Option<H>
-        ensures { IfSome result (λ h. H.identity h ≡ self.slot) }
+        ensures { IfSome result (λ h. H.constants h ≡ self.slot) }
     {
         let LocalHeap { slot, used: _ } = self;
         slot.into_inner()
@@ -141,7 +144,7 @@ impl<H: UnitHeap> LocalHeap<H> {
     }
 
     pub(crate) fn take(&self, size: usize, align: usize) -> Option<UnitPayload>
-        ensures { IfSome result (λ p. (heap_of p ≡ self.now.slot) × (p.len ≡ payload_len size) × (size < 2 ^ 63) × (align ≤ 16)) }
+        ensures { IfSome result (λ p. (heap_of p ≡ self.now.slot.heap) × (p.len ≡ payload_len size) × (size < 2 ^ 63) × (align ≤ 16)) }
     {
         if align > UNIT {
             return None;
@@ -157,7 +160,7 @@ impl<H: UnitHeap> LocalHeap<H> {
 
     // `len` is the payload's.
     pub(crate) fn give(&self, payload: UnitPayload, len: usize)
-        requires { heap_of payload ≡ self.now.slot }
+        requires { heap_of payload ≡ self.now.slot.heap }
     {
         match self.slot.replace(None) {
             Some(mut heap) => {
@@ -173,7 +176,7 @@ impl<H: UnitHeap> LocalHeap<H> {
 
     // Gives a payload the length for `size` bytes without moving it, as `UnitHeap::resize` does. Refuses sizes that no payload has.
     fn resize(&self, tail: UnitTail, len: usize, size: usize) -> Result<UnitTail, UnitTail>
-        requires heap { heap_of_tail tail ≡ self.now.slot }
+        requires heap { heap_of_tail tail ≡ self.now.slot.heap }
         requires len { len ≡ tail.len }
         requires small { size < 2 ^ 63 }
         requires kept { tail.kept ≡ min tail.len (payload_len size) }
@@ -203,7 +206,7 @@ impl<H: UnitHeap> LocalHeap<H> {
         old_cap: usize,
         new_cap: usize,
     ) -> Result<Buffer<T>, Buffer<T>>
-        requires buffer { (buffer.heap ≡ self.now.slot) × (buffer.len ≡ len) × (buffer.cap ≡ old_cap) }
+        requires buffer { (buffer.heap ≡ self.now.slot.heap) × (buffer.len ≡ len) × (buffer.cap ≡ old_cap) }
         requires sizes { (len ≤ old_cap) × (len ≤ new_cap) × (old_cap * type_size T.row < 2 ^ 63) × (new_cap * type_size T.row < 2 ^ 63) }
         ensures { MatchResult result (λ b. HasPlaces buffer len new_cap b) (λ b. StaysWith buffer len old_cap b) }
     {
@@ -230,7 +233,7 @@ impl<H: UnitHeap> LocalHeap<H> {
         whole: usize,
         new_cap: usize,
     ) -> Result<Buffer<T>, Buffer<T>>
-        requires buffer { (buffer.heap ≡ self.now.slot) × (buffer.len ≡ len) × (whole ≡ payload_len (buffer.cap * type_size T.row)) }
+        requires buffer { (buffer.heap ≡ self.now.slot.heap) × (buffer.len ≡ len) × (whole ≡ payload_len (buffer.cap * type_size T.row)) }
         requires sizes { (len ≤ buffer.cap) × (len ≤ new_cap) × (new_cap * type_size T.row < 2 ^ 63) }
         ensures { MatchResult result (λ b. HasPlaces buffer len new_cap b) (λ b. StaysWith buffer len buffer.cap b) }
     {
@@ -246,7 +249,7 @@ impl<H: UnitHeap> LocalHeap<H> {
 
 impl<H: UnitHeap> From<H> for LocalHeap<H> {
     fn from(heap: H) -> LocalHeap<H>
-        ensures { result.slot ≡ H.identity heap }
+        ensures { result.slot ≡ H.constants heap }
     {
         LocalHeap {
             slot: Slot::new(heap),
@@ -256,7 +259,7 @@ impl<H: UnitHeap> From<H> for LocalHeap<H> {
 }
 
 unsafe impl<H: UnitHeap> Allocator for LocalHeap<H> {
-    ghost dealloc_token = { λ heap. block_token heap.slot };
+    ghost dealloc_token = { λ heap. block_token heap.slot.heap };
 
     fn allocate(&self, size: usize, align: usize) -> Result<*mut u8, AllocError> {
         match self.take(size, align) {

@@ -38,7 +38,7 @@ pub struct Tenant<
 > {
     local: LocalHeap<Box<Heap<FLBitmap, SLBitmap, FLLEN, SLLEN>>>,
     pub(crate) lease: Lease,
-    pub ghost tied: { local.slot.home ≡ lease.memory },
+    pub ghost tied: { local.slot.heap.home ≡ lease.memory },
 }
 
 impl<FLBitmap: BitPattern, SLBitmap: BitPattern, const FLLEN: usize, const SLLEN: usize> Tenant<
@@ -51,6 +51,7 @@ impl<FLBitmap: BitPattern, SLBitmap: BitPattern, const FLLEN: usize, const SLLEN
     ghost use Rattle.rlsf_heap.specs.Kept.{KeepsSpareBytes, NoneBecomesRaw, NoneBecomesRawBeside};
     ghost use Rattle.rlsf_heap.specs.Settled.{IsSettled};
     ghost use Rattle.rlsf_heap.specs.Units.{heap_of};
+    ghost use Rattle.rlsf_local_heap.specs.Constants.{chunks_of_range};
     ghost use Rattle.rlsf_local_heap.specs.Tenants.{lessor};
 
     /// Creates a heap over a range of `pool`: a payload of it for `len` bytes, aligned to 16, which has up to 31 bytes more. The
@@ -69,6 +70,7 @@ impl<FLBitmap: BitPattern, SLBitmap: BitPattern, const FLLEN: usize, const SLLEN
         ensures identity { pool.new.identity ≡ pool.old.identity }
         ensures place { (pool.new.memory.start ≡ pool.old.memory.start) × (length pool.new.memory.bytes ≡ length pool.old.memory.bytes) }
         ensures tenant { IfSome result (λ t. lessor t.lease ≡ pool.old.identity) }
+        ensures pool { IfSome result (λ t. t.local.slot.chunks ≡ chunks_of_range FLLEN (range_at 64 t.lease.memory.len)) }
         ensures step { IfSome result (λ t. Steps FLLEN SLLEN pool.new (Allocates SLLEN pool.old.state len 16 (Some t.lease.start))) }
         ensures new { IfSome result (λ t. align_at pool.old.state t.lease.start ≡ None) }
         ensures live { IfSome result (λ t. align_at pool.new.state t.lease.start ≡ Some 16) }
@@ -143,6 +145,7 @@ impl<FLBitmap: BitPattern, SLBitmap: BitPattern, const FLLEN: usize, const SLLEN
         ensures some { IfSome payload (λ p. IsSome result) }
         ensures none { IfNone payload (IsNone result) }
         ensures lease { IfSome payload (λ p. IfSome result (λ t. (lessor t.lease ≡ heap_of p) × (t.lease.start ≡ p.start))) }
+        ensures pool { IfSome result (λ t. t.local.slot.chunks ≡ chunks_of_range FLLEN (range_at 64 t.lease.memory.len)) }
     {
         let (memory, lease) = Lease::begin(alloc, payload?);
         *fields = over_all(memory);

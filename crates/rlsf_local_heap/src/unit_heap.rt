@@ -8,6 +8,7 @@ ghost use Rattle.rlsf_model.specs.Insert.{Inserts};
 ghost use Rattle.rlsf_model.specs.State.{empty};
 ghost use Rattle.rlsf_heap.specs.Heap.{Steps};
 ghost use Rattle.rlsf_heap.specs.Units.{heap_of, heap_of_tail, payload_len};
+ghost use Rattle.rlsf_local_heap.specs.Constants.{chunks_of_range, constants_of};
 ghost use Rattle.rlsf_local_heap.specs.Resized.{IsAtSamePlace};
 
 use crate::slot::Identified;
@@ -22,22 +23,22 @@ pub(crate) const UNIT: usize = 16;
 pub trait UnitHeap: Identified + Drop {
     /// Allocates a payload of units for `size` bytes. Returns `None` if the heap refuses it.
     fn take(&mut self, size: usize) -> Option<UnitPayload>
-        ensures identity { Self.identity self.new ≡ Self.identity self.old }
-        ensures payload { IfSome result (λ p. (heap_of p ≡ Self.identity self.old) × (p.len ≡ payload_len size) × (size < 2 ^ 63)) };
+        ensures constants { Self.constants self.new ≡ Self.constants self.old }
+        ensures payload { IfSome result (λ p. (heap_of p ≡ (Self.constants self.old).heap) × (p.len ≡ payload_len size) × (size < 2 ^ 63)) };
 
     /// Deallocates a payload of this heap.
     fn give(&mut self, payload: UnitPayload)
-        requires { heap_of payload ≡ Self.identity self.old }
-        ensures { Self.identity self.new ≡ Self.identity self.old };
+        requires { heap_of payload ≡ (Self.constants self.old).heap }
+        ensures { Self.constants self.new ≡ Self.constants self.old };
 
     /// Gives a payload of this heap the length for `size` bytes without moving it, while its first bytes, as many as both lengths
     /// have, are out. Returns it as it was, as the error, if the heap refuses it. `len` is the payload's length.
     fn resize(&mut self, tail: UnitTail, len: usize, size: usize) -> Result<UnitTail, UnitTail>
-        requires heap { heap_of_tail tail ≡ Self.identity self.old }
+        requires heap { heap_of_tail tail ≡ (Self.constants self.old).heap }
         requires len { len ≡ tail.len }
         requires size { size ≤ 2 ^ 63 - 16 }
         requires kept { tail.kept ≡ min tail.len (payload_len size) }
-        ensures identity { Self.identity self.new ≡ Self.identity self.old }
+        ensures constants { Self.constants self.new ≡ Self.constants self.old }
         ensures tail { MatchResult result (λ p. IsAtSamePlace tail p (payload_len size)) (λ p. IsAtSamePlace tail p tail.len) };
 
     /// Returns the number of bytes of the heap's memory.
@@ -49,7 +50,7 @@ pub trait UnitHeap: Identified + Drop {
 
 impl<FLBitmap: BitPattern, SLBitmap: BitPattern, const FLLEN: usize, const SLLEN: usize> Identified
     for Heap<FLBitmap, SLBitmap, FLLEN, SLLEN> {
-    ghost identity = { λ h. h.identity };
+    ghost constants = { λ h. constants_of h };
 }
 
 impl<FLBitmap: BitPattern, SLBitmap: BitPattern, const FLLEN: usize, const SLLEN: usize> UnitHeap
@@ -79,7 +80,7 @@ impl<FLBitmap: BitPattern, SLBitmap: BitPattern, const FLLEN: usize, const SLLEN
 }
 
 impl<H: UnitHeap> Identified for Box<H> {
-    ghost identity = { λ b. H.identity b.value };
+    ghost constants = { λ b. H.constants b.value };
 }
 
 impl<H: UnitHeap> UnitHeap for Box<H> {
@@ -115,6 +116,7 @@ pub(crate) fn over_all<
     requires own { IsAllOwn memory.out }
     ensures home { result.identity.home ≡ home_of memory }
     ensures pool { Steps FLLEN SLLEN result (λ t. (taken : Option ℕ) × Inserts FLLEN empty (range_of memory) taken t) }
+    ensures chunks { result.state.chunks ≡ chunks_of_range FLLEN (range_of memory) }
 {
     let range = Range {
         start: memory.start(),

@@ -1,9 +1,10 @@
-use Rattle.std.proofs.Common.{subst}
+use Rattle.std.proofs.Common.{◌≡◌, ap, subst}
 use Rattle.rlsf_base.specs.Addr.{reply}
 use Rattle.rlsf_base.specs.declared.memory.range.Range.{Range}
 use Rattle.rlsf_base.specs.Range.{range_at}
+use Rattle.rlsf_base.specs.Sizes.{max_pool_size}
 use Rattle.rlsf_heap.specs.Heap.{Steps}
-use Rattle.rlsf_model.specs.Insert.{Inserts}
+use Rattle.rlsf_model.specs.Insert.{Inserts, aligned_part, cut, with_chunks}
 use Rattle.rlsf_model.specs.State.{State}
 use Rattle.rlsf_local_heap.proofs.unit_heap.over_all.Goals as goal
 
@@ -19,3 +20,10 @@ returns-clause-pool g c =
       ),
       stands,
     )
+
+pub returns-clause-chunks : goal.returns-clause-chunks
+unfolding Steps
+returns-clause-chunks g c =
+    let (step, stands) = c.insert_free_block_ptr.ensures.step in
+    subst (λ (from : State × Range). c.insert_free_block_ptr.new.self.state.chunks ≡ (with_chunks (cut (max_pool_size g.row.FLLEN) (aligned_part from.1)) from.0).chunks)
+    (λ i. (c.new-heap.ensures.state i, range_at (c.start.ensures.value i) (c.len.ensures.value i))) (ap (λ (s : State). s.chunks) step.after)

@@ -26,7 +26,7 @@ use Rattle.core.proofs.cell.Inside.{one, round}
 use Rattle.core.proofs.option.Made.{Some-of}
 use Rattle.std_alloc.proofs.ResultValues.{and_tt}
 use Rattle.std.proofs.raw_atomic.Walks.{proved_at, leaves}
-use Rattle.rlsf_heap.specs.Heap.{Identity}
+use Rattle.rlsf_local_heap.specs.Constants.{Constants}
 use Rattle.rlsf_local_heap.proofs.SlotContents.{Value, Held, Fields, contents_in}
 use Rattle.rlsf_local_heap.proofs.Walks.{dropped, all_go}
 use Rattle.rlsf_local_heap.specs.contracts.slot.Slot.new.{ended, clauses}
@@ -43,7 +43,7 @@ new_spec 𝓤 𝓛 𝓜 𝓡 wired T L g d met =
     (compiled.unfolded 𝓤 H 𝓜 𝓡 wired (T, tt) d) (λ z are.
     let Post : Val → SProp 𝓤 = (walk_of 𝓛 En₀ stays c).post z in let a = z.0.3 in let vss = z.0.4 in
     let x = a.0 in
-    let r : Identity = g.identity x in
+    let r : Constants = g.constants x in
     let got = one (layout (Value T)) vss.0 (((param_laws 0 T L).lawful 𝓛).typed x vss.0 are.0) in
     let w : Val = got.0 in
     let good = got.2 in

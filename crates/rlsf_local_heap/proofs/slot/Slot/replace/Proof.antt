@@ -21,7 +21,7 @@ use denote.Triple.Walked.{walk_of}
 use Rattle.core.proofs.alloc.Shapes.{after}
 use Rattle.core.proofs.cell.Inside.{one}
 use Rattle.std.proofs.raw_atomic.Walks.{leaves}
-use Rattle.rlsf_heap.specs.Heap.{Identity}
+use Rattle.rlsf_local_heap.specs.Constants.{Constants}
 use Rattle.rlsf_local_heap.proofs.Walks.{dropped, all_go, with_token, proved_with_token}
 use Rattle.rlsf_local_heap.proofs.SlotContents.{Held, Over, ends, held_Lawful, quiet, opens_slot, shuts_slot}
 use Rattle.rlsf_local_heap.specs.contracts.slot.Slot.replace.{ended, clauses}
@@ -49,7 +49,7 @@ replace_spec 𝓤 𝓛 𝓜 𝓡 wired T L g d met =
     let q : Share = z.0.1.0 in
     let b = a.0.ref_ptr.0 in
     let o = a.0.ref_ptr.1 in
-    let r : Identity = a.0.now in
+    let r : Constants = a.0.now in
     let new = a.1.0 in
     let got = one (layout (Held T)) vss.1.0 ((held_Lawful T 𝓛 L).typed new vss.1.0 are.1.0) in
     let w : Val = got.0 in

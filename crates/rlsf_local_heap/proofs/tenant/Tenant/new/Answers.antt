@@ -12,6 +12,7 @@ returns-then-is_too_long g c =
       identity = refl;
       place = (refl, refl);
       tenant = tt;
+      pool = tt;
       step = tt;
       new = tt;
       live = tt;
@@ -34,6 +35,7 @@ returns-in_err-fields g c =
       identity = refl;
       place = (refl, refl);
       tenant = of_none _ none;
+      pool = of_none _ none;
       step = of_none _ none;
       new = of_none _ none;
       live = of_none _ none;
@@ -58,6 +60,7 @@ returns g c =
       identity = did.identity;
       place = did.place;
       tenant = made_of payload tenant over.none over.lease (λ p t ties is. ties.0 ∙ is) did.payload;
+      pool = over.pool;
       step = made_of payload tenant over.none over.lease
           (λ p t ties is. subst (λ a. Steps g.row.FLLEN g.row.SLLEN new (Allocates g.row.SLLEN old.state c.args.len 16 (Some a))) (sym ties.1) is)
           (at_address (λ a. Steps g.row.FLLEN g.row.SLLEN new (Allocates g.row.SLLEN old.state c.args.len 16 a)) payload did.step);

@@ -12,6 +12,6 @@ taken (Some p) h size of long small = (of, long, small)
 pub returns : goal.returns
 returns g c =
     let did = c.allocate_units.ensures in record {
-      identity = did.identity;
+      constants = λ i. record { heap = did.identity i; chunks = did.chunks i };
       payload = taken c.allocate_units.result c.args.self.now.identity c.args.size did.payload did.long (omega arith);
     }
