@@ -5,10 +5,8 @@ use Rattle.rlsf_base.specs.declared.memory.layout.Layout.{Layout}
 use Rattle.rlsf_model.specs.Callers.{bytes_at}
 use Rattle.rlsf_model_global.specs.declared.error.GlobalError.TheVariants.{OutOfRange, WrongLayout}
 use Rattle.rlsf_model_global.specs.Heap.{Heap}
-use Rattle.rlsf_model_global.specs.Rows.{Row}
+use Rattle.rlsf_model_global.specs.Rows.{Row, row_at}
 use Rattle.rlsf_model_global.specs.Steps.{DeallocatesAsAt, Done, HeapReads, HeapUsable, HeapWrites, ReadsAt, Releases, UsableAt, WritesAt, WritesIn, fits, is_same}
-use Rattle.rlsf_global.proofs.Placements.{some_row}
-use Rattle.rlsf_global.specs.Steps.Table.{IsFound}
 
 -- two answers are equal
 abbrev Is : Done → Done → Type 0
@@ -39,19 +37,17 @@ module _ (h : Heap) (addr : ℕ) (layout : Layout) (row : Row) where
       subst (λ o. DeallocatesAsAt h addr layout o (Err WrongLayout) h) (sym found)
       (when_false (Is (Err WrongLayout) (Ok tt) × Releases h addr h) (Is (Err WrongLayout) (Err WrongLayout) × (h ≡ h)) (is_same row.1 layout) e (refl, refl))
 
-module _ (h : Heap) (addr offset i : ℕ) (found : IsFound h.asked addr i) where
+module _ (h : Heap) (addr offset : ℕ) (row : Row) (there : row_at addr h.asked ≡ Some row) where
   module _ (lent : List ℕ) where
     pub reads_in : (left : List ℕ) → true ≡ fits h addr offset (length lent) → left ≡ take (length lent) (drop offset (bytes_at h.flex.machine addr))
         → HeapReads h addr offset lent (Ok tt) left
     reads_in left e same =
-        let (row, there) = some_row h.asked addr i found in
         subst (λ o. ReadsAt h addr offset lent o (Ok tt) left) (sym there)
         (when_true (Is (Ok tt) (Ok tt) × (left ≡ take (length lent) (drop offset (bytes_at h.flex.machine addr)))) (Is (Ok tt) (Err OutOfRange) × (left ≡ lent))
         (fits h addr offset (length lent)) e (refl, same))
 
     pub reads_out : false ≡ fits h addr offset (length lent) → HeapReads h addr offset lent (Err OutOfRange) lent
     reads_out e =
-        let (row, there) = some_row h.asked addr i found in
         subst (λ o. ReadsAt h addr offset lent o (Err OutOfRange) lent) (sym there)
         (when_false (Is (Err OutOfRange) (Ok tt) × (lent ≡ take (length lent) (drop offset (bytes_at h.flex.machine addr))))
         (Is (Err OutOfRange) (Err OutOfRange) × (lent ≡ lent)) (fits h addr offset (length lent)) e (refl, refl))
@@ -59,19 +55,16 @@ module _ (h : Heap) (addr offset i : ℕ) (found : IsFound h.asked addr i) where
   module _ (bytes : List ℕ) where
     pub writes_in : (g : Heap) → true ≡ fits h addr offset (length bytes) → WritesIn h addr offset bytes g → HeapWrites h addr offset bytes (Ok tt) g
     writes_in g e step =
-        let (row, there) = some_row h.asked addr i found in
         subst (λ o. WritesAt h addr offset bytes o (Ok tt) g) (sym there)
         (when_true (Is (Ok tt) (Ok tt) × WritesIn h addr offset bytes g) (Is (Ok tt) (Err OutOfRange) × (g ≡ h)) (fits h addr offset (length bytes)) e (refl, step))
 
     pub writes_out : false ≡ fits h addr offset (length bytes) → HeapWrites h addr offset bytes (Err OutOfRange) h
     writes_out e =
-        let (row, there) = some_row h.asked addr i found in
         subst (λ o. WritesAt h addr offset bytes o (Err OutOfRange) h) (sym there)
         (when_false (Is (Err OutOfRange) (Ok tt) × WritesIn h addr offset bytes h) (Is (Err OutOfRange) (Err OutOfRange) × (h ≡ h)) (fits h addr offset (length bytes)) e
         (refl, refl))
 
 -- the usable length of a payload with an entry
-pub usable_in : (h : Heap) (addr i n : ℕ) → IsFound h.asked addr i → n ≡ length (bytes_at h.flex.machine addr) → HeapUsable h addr (Ok n)
-usable_in h addr i n found same =
-    let (row, there) = some_row h.asked addr i found in
+pub usable_in : (h : Heap) (addr : ℕ) (row : Row) (n : ℕ) → row_at addr h.asked ≡ Some row → n ≡ length (bytes_at h.flex.machine addr) → HeapUsable h addr (Ok n)
+usable_in h addr row n there same =
     subst (λ o. UsableAt h addr o (Ok n)) (sym there) (ap Ok same)

@@ -2,13 +2,18 @@
 pub mod Checks
 pub mod Deallocations
 pub mod Heaps
+mod HintLeaves
+mod HintedRows
 pub mod Kept
 pub mod KeptMemories
 pub mod Layouts
+mod ListElements
 pub mod Lives
 pub mod MovedPayloads
 pub mod Placements
 pub mod Refusals
 pub mod Resizes
 pub mod Results
-pub mod Rows
+mod RowsInOrder
+mod SortedRows
+mod TableAnswers

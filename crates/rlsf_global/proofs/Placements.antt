@@ -8,7 +8,6 @@ use Rattle.rlsf_flex.specs.StandsFor.{FlexContents, FlexSteps, StepsAlone}
 use Rattle.rlsf_flex.proofs.InnerAllocator.{alone_opened, flex_opened}
 use Rattle.rlsf_global.specs.Locked.{IsLocked, LockedContents, LockedStands, heap_of, locked_contents}
 use Rattle.rlsf_model_global.specs.Pages.{MayOwe}
-use Rattle.rlsf_global.specs.Steps.Table.{IsFound}
 use Rattle.rlsf_model_global.proofs.PageAnswers.{refused_notes}
 use Rattle.rlsf_model_global.proofs.Maps.{IsServed, Lists-filled, Lists-put, Lists-without_row, agrees-none}
 use Rattle.rlsf_model_global.proofs.Rows.{absent-row_at, put-sorted, without_row-sorted}
@@ -24,11 +23,6 @@ use Rattle.rlsf_model_global.specs.Heap.{Agrees, Lists, with_state}
 use Rattle.rlsf_model_global.specs.Rows.{Row, put, row_at, without_row}
 use Rattle.rlsf_model_global.specs.Steps.{HeapAllocates, Releases}
 
--- an entry that was found
-pub some_row : (rows : List Row) (addr i : ℕ) → IsFound rows addr i → (r : Row) × (row_at addr rows ≡ Some r)
-some_row [] addr i found = absurd (omega (arith, found.in_range))
-some_row (x ∷ rows) addr i found = (slice_index_or (x ∷ rows) i x, found.row x)
-
 -- what is true of the value stays true
 pub locked_stands : (v : LockedContents) → IsLocked v → LockedStands v
 unfolding LockedStands
@@ -42,8 +36,8 @@ module _ (f : FlexContents PageCursor) (rows : List Row) (v : IsLocked (locked_c
   pub row_sized : (addr : ℕ) (r : Row) → row_at addr rows ≡ Some r → r.1.size ≤ length (bytes_at f.state.machine addr)
   row_sized addr r there = (subst (λ o. Agrees o (align_at f.state.machine addr) (bytes_at f.state.machine addr)) there (v.lists addr)).1
 
-  pub live_here : (addr i : ℕ) → IsFound rows addr i → IsSome (align_at f.state.machine addr)
-  live_here addr i found = let (r, there) = some_row rows addr i found in subst IsSome (sym (live_row addr r there)) refl
+  pub live_here : (addr : ℕ) (r : Row) → row_at addr rows ≡ Some r → IsSome (align_at f.state.machine addr)
+  live_here addr r there = subst IsSome (sym (live_row addr r there)) refl
 
   -- an address where no payload is has no entry
   pub no_row : (addr : ℕ) → align_at f.state.machine addr ≡ None → row_at addr rows ≡ None

@@ -1,6 +1,8 @@
 -- The definitions of the calls behind the lock. Read `Locked` first.
 pub mod Calls
+pub mod Hints
 pub mod Kept
+pub mod LiveRows
 pub mod Locked
 pub mod Memory
 pub mod Refusals

@@ -1,3 +1,2 @@
 -- The definitions of private functions: no public contract cites these.
-pub mod Table
 pub mod Moves

@@ -18,8 +18,8 @@ ghost use Rattle.rlsf_model_global.specs.Moves.{HeapReallocates, HeapReallocates
 ghost use Rattle.rlsf_model_global.specs.Rows.{IsSorted};
 ghost use Rattle.rlsf_model_global.specs.Steps.{HeapAllocates, HeapDeallocates, HeapDeallocatesAs, HeapReads, HeapUsable, HeapWrites};
 
+use crate::live_table::LiveTable;
 use crate::moves::{PagedTlsf, move_away, resize};
-use crate::table::{move_row, place, replace, search};
 use rlsf_base::memory::{Addr, Layout, Memory, Range};
 use rlsf_flex::{FlexTlsf, GlobalTlsfOptions, Source};
 use rlsf_model_global::GlobalError;
@@ -34,7 +34,7 @@ use std::marker::Model;
 #[derive(Drop)]
 pub struct Locked<Options: GlobalTlsfOptions> {
     flex: PagedTlsf<Options>,
-    rows: Vec<(Addr, Layout)>,
+    rows: LiveTable,
 }
 
 impl<Options: GlobalTlsfOptions> Model for Locked<Options> {
@@ -42,9 +42,9 @@ impl<Options: GlobalTlsfOptions> Model for Locked<Options> {
 
     ghost Value = { LockedContents };
 
-    ghost view = { λ l. locked_contents l.flex l.rows.items };
+    ghost view = { λ l. locked_contents l.flex l.rows.rows };
 
-    ghost invariant = { λ l. IsLocked (locked_contents l.flex l.rows.items) };
+    ghost invariant = { λ l. IsLocked (locked_contents l.flex l.rows.rows) };
 }
 
 impl<Options: GlobalTlsfOptions> Locked<Options> {
@@ -62,7 +62,7 @@ impl<Options: GlobalTlsfOptions> Locked<Options> {
         };
         Locked {
             flex: FlexTlsf::new(memory, Source::new(space)),
-            rows: Vec::new(alloc),
+            rows: LiveTable::new(alloc, space.start),
         }
     }
 
@@ -90,13 +90,13 @@ impl<Options: GlobalTlsfOptions> Locked<Options> {
         ensures memory { KeepsMemory (flex_of self.old) (flex_of self.new) }
         ensures copied { self.new.memory.copied ≡ self.old.memory.copied }
     {
-        if self.rows.try_reserve(1).is_err() {
+        if self.rows.reserve().is_err() {
             return Err(GlobalError::TableMemory);
         }
         let Some(addr) = self.flex.allocate(layout) else {
             return Err(GlobalError::NoRoom);
         };
-        place(&mut self.rows, (addr, layout));
+        self.rows.put((addr, layout));
         Ok(addr)
     }
 
@@ -131,11 +131,10 @@ impl<Options: GlobalTlsfOptions> Locked<Options> {
         ensures memory { KeepsMemory (flex_of self.old) (flex_of self.new) }
         ensures copied { self.new.memory.copied ≡ self.old.memory.copied }
     {
-        let Ok(index) = search(&self.rows, addr) else {
+        let Some(gone) = self.rows.remove(addr) else {
             // Only a live address has an entry, so nothing is deallocated twice.
             return Err(GlobalError::UnknownAddress);
         };
-        let gone = self.rows.remove(index);
         self.flex.deallocate(addr, gone.1.align());
         Ok(())
     }
@@ -157,14 +156,14 @@ impl<Options: GlobalTlsfOptions> Locked<Options> {
         ensures memory { KeepsMemory (flex_of self.old) (flex_of self.new) }
         ensures copied { self.new.memory.copied ≡ self.old.memory.copied }
     {
-        let Ok(index) = search(&self.rows, addr) else {
+        let Some(row) = self.rows.get(addr) else {
             // Refused before the layout is compared: an address without an entry has none.
             return Err(GlobalError::UnknownAddress);
         };
-        if self.rows[index].1 != layout {
+        if row.1 != layout {
             return Err(GlobalError::WrongLayout);
         }
-        let row = self.rows.remove(index);
+        let _gone = self.rows.remove(addr);
         self.flex.deallocate(addr, row.1.align());
         Ok(())
     }
@@ -212,17 +211,17 @@ impl<Options: GlobalTlsfOptions> Locked<Options> {
         ensures memory { KeepsMemory (flex_of self.old) (flex_of self.new) }
         ensures copied { CopiesOnResize Options.ENABLE_REALLOCATION self.old.heap.flex.machine (at addr) layout.size new_size self.old.memory self.new.memory }
     {
-        let Ok(index) = search(&self.rows, addr) else {
+        let Some(row) = self.rows.get(addr) else {
             return Err(GlobalError::UnknownAddress);
         };
-        if self.rows[index].1 != layout {
+        if row.1 != layout {
             return Err(GlobalError::WrongLayout);
         }
         let wanted = Layout::from_size_align_unchecked(new_size, layout.align());
         let Some(moved) = resize(&mut self.flex, addr, layout, wanted) else {
             return Err(GlobalError::NoRoom);
         };
-        move_row(&mut self.rows, addr, index, (moved, wanted));
+        self.rows.move_row(addr, (moved, wanted));
         Ok(moved)
     }
 
@@ -253,16 +252,15 @@ impl<Options: GlobalTlsfOptions> Locked<Options> {
         ensures copied { OnOk result (self.new.memory.copied ≡ self.old.memory.copied + min layout.size (length (content_at self.old.heap (at addr)))) }
         ensures copied_none { OnErr result (self.new.memory.copied ≡ self.old.memory.copied) }
     {
-        let Ok(index) = search(&self.rows, addr) else {
+        let Some(row) = self.rows.get(addr) else {
             return Err(GlobalError::UnknownAddress);
         };
-        let align = self.rows[index].1.align();
+        let align = row.1.align();
         let keep = layout.size().min(self.flex.allocation_usable_size(addr));
         let Some(to) = move_away(&mut self.flex, addr, align, keep, layout) else {
             return Err(GlobalError::NoRoom);
         };
-        let _ = self.rows.remove(index);
-        place(&mut self.rows, (to, layout));
+        self.rows.move_row(addr, (to, layout));
         Ok(to)
     }
 
@@ -298,17 +296,17 @@ impl<Options: GlobalTlsfOptions> Locked<Options> {
         ensures memory { KeepsMemory (flex_of self.old) (flex_of self.new) }
         ensures copied { self.new.memory.copied ≡ self.old.memory.copied }
     {
-        let Ok(index) = search(&self.rows, addr) else {
+        let Some(row) = self.rows.get(addr) else {
             return Err(GlobalError::UnknownAddress);
         };
-        if self.rows[index].1 != layout {
+        if row.1 != layout {
             return Err(GlobalError::WrongLayout);
         }
         let wanted = Layout::from_size_align_unchecked(new_size, layout.align());
         let Some(to) = self.flex.reallocate_no_move(addr, wanted) else {
             return Err(GlobalError::NoRoom);
         };
-        replace(&mut self.rows, index, (to, wanted));
+        self.rows.replace((to, wanted));
         Ok(to)
     }
 
@@ -320,7 +318,7 @@ impl<Options: GlobalTlsfOptions> Locked<Options> {
         ensures unknown { IsErrOf result UnknownAddress ↔ (layout_at self.now.heap (at addr) ≡ None) }
         ensures len { IfOk result (λ n. n ≡ length (content_at self.now.heap (at addr))) }
     {
-        let Ok(_) = search(&self.rows, addr) else {
+        let Some(_row) = self.rows.get(addr) else {
             return Err(GlobalError::UnknownAddress);
         };
         Ok(self.flex.allocation_usable_size(addr))
@@ -341,7 +339,7 @@ impl<Options: GlobalTlsfOptions> Locked<Options> {
         ensures told { OnOk result (bytes.new ≡ take (length bytes.old) (drop offset (content_at self.now.heap (at addr)))) }
         ensures refused { OnErr result (bytes.new ≡ bytes.old) }
     {
-        let Ok(_) = search(&self.rows, addr) else {
+        let Some(_row) = self.rows.get(addr) else {
             return Err(GlobalError::UnknownAddress);
         };
         let payload = self.flex.payload(addr);
@@ -375,7 +373,7 @@ impl<Options: GlobalTlsfOptions> Locked<Options> {
         ensures memory { KeepsMemory (flex_of self.old) (flex_of self.new) }
         ensures copied { self.new.memory.copied ≡ self.old.memory.copied }
     {
-        let Ok(_) = search(&self.rows, addr) else {
+        let Some(_row) = self.rows.get(addr) else {
             return Err(GlobalError::UnknownAddress);
         };
         if !fits(offset, bytes.len(), self.flex.allocation_usable_size(addr)) {
@@ -393,7 +391,7 @@ impl<Options: GlobalTlsfOptions> Locked<Options> {
         ensures sorted { IsSorted result.items }
     {
         let Locked { flex: _, rows } = self;
-        rows
+        rows.into_rows()
     }
 }
 

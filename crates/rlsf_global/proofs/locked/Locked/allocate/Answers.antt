@@ -8,7 +8,7 @@ use Rattle.rlsf_global.proofs.locked.Locked.allocate.Goals as goal
 
 pub returns-then-is_err : goal.returns-then-is_err
 returns-then-is_err g c = rw (← c.self.view_is) (record {
-  step = rw c.try_reserve.ensures.items refl;
+  step = rw c.reserve.ensures.rows refl;
   refused = search rules;
   allocation = record {
     live = tt;
@@ -27,23 +27,23 @@ returns-then-is_err g c = rw (← c.self.view_is) (record {
 
 pub invariant_of-self-in_default : goal.invariant_of-self-in_default
 invariant_of-self-in_default g c =
-    rw c.try_reserve.ensures.items
-    (stays_locked c.self.inside.flex c.self.inside.rows.items c.self.invariant c.allocate.new.self c.args.layout c.in_default.ensures.step c.in_default.ensures.same)
+    rw c.reserve.ensures.rows
+    (stays_locked c.self.inside.flex c.self.inside.rows.rows c.self.invariant c.allocate.new.self c.args.layout c.in_default.ensures.step c.in_default.ensures.same)
 
-pub place-requires-clause-fresh : goal.place-requires-clause-fresh
-place-requires-clause-fresh g c = rw c.try_reserve.ensures.items (no_row c.self.inside.flex c.self.inside.rows.items c.self.invariant _ c.in-Some.ensures.new)
+pub put-requires-clause-fresh : goal.put-requires-clause-fresh
+put-requires-clause-fresh g c = rw c.reserve.ensures.rows (no_row c.self.inside.flex c.self.inside.rows.rows c.self.invariant _ c.in-Some.ensures.new)
 
 pub invariant_of-self-2 : goal.invariant_of-self-2
 invariant_of-self-2 g c =
-    let rows = rw c.try_reserve.ensures.items at c.place.ensures in
-    allocated_locked c.self.inside.flex c.self.inside.rows.items c.self.invariant c.allocate.new.self c.args.layout c.in-Some.addr c.in-Some.ensures.step _ rows
+    let rows = rw c.reserve.ensures.rows at c.put.ensures.rows in
+    allocated_locked c.self.inside.flex c.self.inside.rows.rows c.self.invariant c.allocate.new.self c.args.layout c.in-Some.addr c.in-Some.ensures.step _ rows
     c.in-Some.ensures.new (record { live = c.in-Some.ensures.live; sized = c.in-Some.ensures.sized; few = c.in-Some.ensures.few }) c.in-Some.ensures.aligns c.in-Some.ensures.bytes
 
 pub returns-in_default : goal.returns-in_default
 returns-in_default g c = rw (← c.self.view_is) (record {
   step =
-      rw c.try_reserve.ensures.items
-      (not_allocated c.self.inside.flex c.self.inside.rows.items c.self.invariant c.allocate.new.self c.args.layout c.in_default.ensures.step c.in_default.ensures.same);
+      rw c.reserve.ensures.rows
+      (not_allocated c.self.inside.flex c.self.inside.rows.rows c.self.invariant c.allocate.new.self c.args.layout c.in_default.ensures.step c.in_default.ensures.same);
   refused = search rules;
   allocation = record {
     live = tt;
@@ -52,8 +52,8 @@ returns-in_default g c = rw (← c.self.view_is) (record {
     layouts = tt;
     contents = tt;
     same =
-        rw c.try_reserve.ensures.items
-        (heap_stays c.self.inside.flex c.self.inside.rows.items c.self.invariant c.allocate.new.self c.args.layout c.in_default.ensures.step c.in_default.ensures.same);
+        rw c.reserve.ensures.rows
+        (heap_stays c.self.inside.flex c.self.inside.rows.rows c.self.invariant c.allocate.new.self c.args.layout c.in_default.ensures.step c.in_default.ensures.same);
   };
   touches = c.in_default.ensures.touches;
   grow = c.in_default.ensures.grow;
@@ -65,27 +65,27 @@ returns-in_default g c = rw (← c.self.view_is) (record {
 pub returns : goal.returns
 returns g c = rw (← c.self.view_is) (record {
   step =
-      let rows = rw c.try_reserve.ensures.items at c.place.ensures in
-      (allocated c.self.inside.flex c.self.inside.rows.items c.self.invariant c.allocate.new.self c.args.layout c.in-Some.addr c.in-Some.ensures.step _
+      let rows = rw c.reserve.ensures.rows at c.put.ensures.rows in
+      (allocated c.self.inside.flex c.self.inside.rows.rows c.self.invariant c.allocate.new.self c.args.layout c.in-Some.addr c.in-Some.ensures.step _
       rows);
   refused = tt;
   allocation = record {
     live =
-        let rows = rw c.try_reserve.ensures.items at c.place.ensures in
-        let before = heap_of c.self.inside.flex c.self.inside.rows.items in
-        let after = heap_of c.allocate.new.self c.place.new.rows.items in
-        layout_at-put_here before after (c.in-Some.addr, c.args.layout) c.self.inside.rows.items rows;
-    sized = subst (λ l. c.args.layout.size ≤ length l) (sym (content_at-is (heap_of c.allocate.new.self c.place.new.rows.items) (at c.in-Some.addr))) c.in-Some.ensures.sized;
-    new = (layout_at-none (heap_of c.self.inside.flex c.self.inside.rows.items) (at c.in-Some.addr)
-        (no_row c.self.inside.flex c.self.inside.rows.items c.self.invariant (at c.in-Some.addr) c.in-Some.ensures.new));
+        let rows = rw c.reserve.ensures.rows at c.put.ensures.rows in
+        let before = heap_of c.self.inside.flex c.self.inside.rows.rows in
+        let after = heap_of c.allocate.new.self c.put.new.self.rows in
+        layout_at-put_here before after (c.in-Some.addr, c.args.layout) c.self.inside.rows.rows rows;
+    sized = subst (λ l. c.args.layout.size ≤ length l) (sym (content_at-is (heap_of c.allocate.new.self c.put.new.self.rows) (at c.in-Some.addr))) c.in-Some.ensures.sized;
+    new = (layout_at-none (heap_of c.self.inside.flex c.self.inside.rows.rows) (at c.in-Some.addr)
+        (no_row c.self.inside.flex c.self.inside.rows.rows c.self.invariant (at c.in-Some.addr) c.in-Some.ensures.new));
     layouts = (
-        let rows = rw c.try_reserve.ensures.items at c.place.ensures in
-        let before = heap_of c.self.inside.flex c.self.inside.rows.items in
-        let after = heap_of c.allocate.new.self c.place.new.rows.items in
+        let rows = rw c.reserve.ensures.rows at c.put.ensures.rows in
+        let before = heap_of c.self.inside.flex c.self.inside.rows.rows in
+        let after = heap_of c.allocate.new.self c.put.new.self.rows in
         layout_at-put_other before after (c.in-Some.addr, c.args.layout) rows);
     contents = (
-        let before = heap_of c.self.inside.flex c.self.inside.rows.items in
-        let after = heap_of c.allocate.new.self c.place.new.rows.items in
+        let before = heap_of c.self.inside.flex c.self.inside.rows.rows in
+        let after = heap_of c.allocate.new.self c.put.new.self.rows in
         λ a off. content_at-bytes before after a a (c.in-Some.ensures.bytes a off));
     same = tt;
   };

@@ -14,33 +14,29 @@ use Rattle.rlsf_global.proofs.locked.Locked.dealloc.Given as given
 use Rattle.rlsf_global.proofs.locked.Locked.dealloc.Goals as goal
 
 -- the entry of the address is gone
-taken_out : (g : given.Over) (c : goal.After-deallocate g) → c.remove-row.new.self.items ≡ without_row (at c.args.addr) c.self.inside.rows.items
-taken_out g c =
-    let found = rw c.deref.ensures.value at c.in-Ok.ensures.found in
-    c.remove-row.ensures.items ∙ found.taken_out
+taken_out : (g : given.Over) (c : goal.After-deallocate g) → c.remove-gone.new.self.rows ≡ without_row (at c.args.addr) c.self.inside.rows.rows
+taken_out g c = c.remove-gone.ensures.rows
 
 pub deallocate-requires : goal.deallocate-requires
 deallocate-requires g c =
-    let found = rw c.deref.ensures.value at c.in-Ok.ensures.found in
-    let row = found.row c.remove-row.result ∙ ap Some (sym c.remove-row.ensures.value) in
-    (lit< tt, live_row c.self.inside.flex c.self.inside.rows.items c.self.invariant (at c.args.addr) c.remove-row.result row ∙ ap Some (sym c.align.ensures.value))
+    (lit< tt, live_row c.self.inside.flex c.self.inside.rows.rows c.self.invariant (at c.args.addr) c.in-Some.row (sym c.in-Some.ensures) ∙ ap Some (sym c.align.ensures.value))
 
 pub invariant_of-self : goal.invariant_of-self
 invariant_of-self g c =
-    released_locked c.self.inside.flex c.self.inside.rows.items c.self.invariant c.deallocate.new.self (at c.args.addr) c.deallocate.ensures.step c.deallocate.ensures.source _
+    released_locked c.self.inside.flex c.self.inside.rows.rows c.self.invariant c.deallocate.new.self (at c.args.addr) c.deallocate.ensures.step c.deallocate.ensures.source _
     (taken_out g c) c.deallocate.ensures.deallocation.gone c.deallocate.ensures.deallocation.aligns c.deallocate.ensures.deallocation.bytes
 
 pub returns-in_default : goal.returns-in_default
 returns-in_default g c = rw (← c.self.view_is) (record {
   step = (
-      let h = heap_of c.self.inside.flex c.self.inside.rows.items in
-      let absent = rw c.deref.ensures.value at c.in_default.ensures.absent in
-      subst (λ o. DeallocatesAsAt h (at c.args.addr) c.args.layout o (Err UnknownAddress) h) (sym absent.none) (refl, refl));
+      let h = heap_of c.self.inside.flex c.self.inside.rows.rows in
+      let absent = sym c.in_default.ensures in
+      subst (λ o. DeallocatesAsAt h (at c.args.addr) c.args.layout o (Err UnknownAddress) h) (sym absent) (refl, refl));
   refused = refl;
   deallocation = (
-      let absent = rw c.deref.ensures.value at c.in_default.ensures.absent in
-      let none = unknown c.self.inside.flex c.self.inside.rows.items (at c.args.addr) _ absent in
-      IsDeallocation-refused (heap_of c.self.inside.flex c.self.inside.rows.items) (at c.args.addr) UnknownAddress none);
+      let absent = sym c.in_default.ensures in
+      let none = unknown c.self.inside.flex c.self.inside.rows.rows (at c.args.addr) absent in
+      IsDeallocation-refused (heap_of c.self.inside.flex c.self.inside.rows.rows) (at c.args.addr) UnknownAddress none);
   touches = omega arith;
   grow = omega arith;
   memory = KeepsMemory-refl c.self.inside.flex;
@@ -50,14 +46,14 @@ returns-in_default g c = rw (← c.self.view_is) (record {
 pub returns-then-ne : goal.returns-then-ne
 returns-then-ne g c = rw (← c.self.view_is) (record {
   step = (
-      let found = rw c.deref.ensures.value at c.in-Ok.ensures.found in
-      deallocates_out (heap_of c.self.inside.flex c.self.inside.rows.items) (at c.args.addr) c.args.layout
-      c.index.result.now (not-true _ c.if-ne.ensures) (found.row c.index.result.now ∙ ap Some (sym c.index.ensures)));
+      let found = sym c.in-Some.ensures in
+      deallocates_out (heap_of c.self.inside.flex c.self.inside.rows.rows) (at c.args.addr) c.args.layout
+      c.in-Some.row (not-true _ c.if-ne.ensures) found);
   refused = refl;
   deallocation = (
-      let found = rw c.deref.ensures.value at c.in-Ok.ensures.found in
-      let unknown = known c.self.inside.flex c.self.inside.rows.items (at c.args.addr) _ found (Err WrongLayout) refl in
-      IsDeallocation-refused (heap_of c.self.inside.flex c.self.inside.rows.items) (at c.args.addr) WrongLayout unknown);
+      let found = sym c.in-Some.ensures in
+      let unknown = known c.self.inside.flex c.self.inside.rows.rows (at c.args.addr) _ found (Err WrongLayout) refl in
+      IsDeallocation-refused (heap_of c.self.inside.flex c.self.inside.rows.rows) (at c.args.addr) WrongLayout unknown);
   touches = omega arith;
   grow = omega arith;
   memory = KeepsMemory-refl c.self.inside.flex;
@@ -67,21 +63,21 @@ returns-then-ne g c = rw (← c.self.view_is) (record {
 pub returns : goal.returns
 returns g c = rw (← c.self.view_is) (record {
   step = (
-      let h = heap_of c.self.inside.flex c.self.inside.rows.items in
-      let after = heap_of c.deallocate.new.self c.remove-row.new.self.items in
-      let found = rw c.deref.ensures.value at c.in-Ok.ensures.found in
-      let row = found.row c.index.result.now ∙ ap Some (sym c.index.ensures) in
+      let h = heap_of c.self.inside.flex c.self.inside.rows.rows in
+      let after = heap_of c.deallocate.new.self c.remove-gone.new.self.rows in
+      let found = sym c.in-Some.ensures in
+      let row = found in
       let gone =
-      released c.self.inside.flex c.self.inside.rows.items c.self.invariant c.deallocate.new.self (at c.args.addr) c.deallocate.ensures.step c.deallocate.ensures.source _
+      released c.self.inside.flex c.self.inside.rows.rows c.self.invariant c.deallocate.new.self (at c.args.addr) c.deallocate.ensures.step c.deallocate.ensures.source _
       (taken_out g c) in
       subst (λ o. DeallocatesAsAt h (at c.args.addr) c.args.layout o (Ok tt) after) (sym row)
-      (deallocates_in h (at c.args.addr) c.args.layout c.index.result.now after (not-false _ c.if-ne.ensures) gone));
+      (deallocates_in h (at c.args.addr) c.args.layout c.in-Some.row after (not-false _ c.if-ne.ensures) gone));
   refused = tt;
   deallocation = (
-      let before = heap_of c.self.inside.flex c.self.inside.rows.items in
-      let after = heap_of c.deallocate.new.self c.remove-row.new.self.items in
-      let found = rw c.deref.ensures.value at c.in-Ok.ensures.found in
-      let unknown = known c.self.inside.flex c.self.inside.rows.items (at c.args.addr) _ found (Ok tt) refl in
+      let before = heap_of c.self.inside.flex c.self.inside.rows.rows in
+      let after = heap_of c.deallocate.new.self c.remove-gone.new.self.rows in
+      let found = sym c.in-Some.ensures in
+      let unknown = known c.self.inside.flex c.self.inside.rows.rows (at c.args.addr) _ found (Ok tt) refl in
       IsDeallocation-done before after (at c.args.addr) unknown (taken_out g c) c.deallocate.ensures.deallocation.bytes);
   touches = c.deallocate.ensures.touches;
   grow = c.deallocate.ensures.grow;

@@ -11,7 +11,7 @@ use Rattle.rlsf_global.specs.Memory.{CopiesOnResize}
 use Rattle.rlsf_global.proofs.Checks.{same_align, same_size}
 use Rattle.rlsf_global.proofs.MovedPayloads.{moved_locked, moved_row, same_heap, reallocates_in, reallocates_out}
 use Rattle.rlsf_global.proofs.Kept.{kept_asked, kept_usable}
-use Rattle.rlsf_global.proofs.Lives.{known, unknown}
+use Rattle.rlsf_global.proofs.Lives.{has_row, known, unknown}
 use Rattle.rlsf_global.proofs.Placements.{live_row, no_row, row_sized}
 use Rattle.rlsf_global.proofs.Results.{not-false, not-true}
 use Rattle.rlsf_model.specs.Callers.{bytes_at}
@@ -24,55 +24,52 @@ use Rattle.rlsf_global.proofs.locked.Locked.realloc.Goals.{After-move_row, After
 
 -- the entry of the address is now that of the payload with the wanted layout
 replaced : (g : given.Over) (c : After-move_row g)
-    → c.move_row.new.rows.items ≡ put (c.in-Some.moved, c.from_size_align_unchecked-wanted.result) (without_row (at c.args.addr) c.self.inside.rows.items)
-replaced g c = c.move_row.ensures
+    → c.move_row.new.self.rows ≡ put (c.in-Some-resize.moved, c.from_size_align_unchecked-wanted.result) (without_row (at c.args.addr) c.self.inside.rows.rows)
+replaced g c = c.move_row.ensures.rows
 
 pub resize-requires : goal.resize-requires
 resize-requires g c =
-    let found = rw c.deref.ensures.value at c.in-Ok.ensures.found in
-    let row = found.row c.index.result.now ∙ ap Some (sym c.index.ensures) in
+    let found = sym c.in-Some.ensures in
+    let row = found in
     let same = not-false _ c.if-ne.ensures in
     let live =
-    live_row c.self.inside.flex c.self.inside.rows.items c.self.invariant (at c.args.addr) c.index.result.now row
-    ∙ ap Some (same_align c.index.result.now.1 c.args.layout same) in
+    live_row c.self.inside.flex c.self.inside.rows.rows c.self.invariant (at c.args.addr) c.in-Some.row row
+    ∙ ap Some (same_align c.in-Some.row.1 c.args.layout same) in
     let sized =
-    subst (λ n. n ≤ length (bytes_at c.self.inside.flex.state.machine (at c.args.addr))) (same_size c.index.result.now.1 c.args.layout same)
-    (row_sized c.self.inside.flex c.self.inside.rows.items c.self.invariant (at c.args.addr) c.index.result.now row) in
+    subst (λ n. n ≤ length (bytes_at c.self.inside.flex.state.machine (at c.args.addr))) (same_size c.in-Some.row.1 c.args.layout same)
+    (row_sized c.self.inside.flex c.self.inside.rows.rows c.self.invariant (at c.args.addr) c.in-Some.row row) in
     (lit< tt, (live, (sized, (c.from_size_align_unchecked-wanted.ensures.1 ∙ c.align.ensures.value, c.self.invariant.flex))))
 
-pub move_row-requires-clause-sorted : goal.move_row-requires-clause-sorted
-move_row-requires-clause-sorted g c = c.self.invariant.sorted
-
-pub move_row-requires-clause-found : goal.move_row-requires-clause-found
-move_row-requires-clause-found g c = rw c.deref.ensures.value at c.in-Ok.ensures.found
+pub move_row-requires-clause-live : goal.move_row-requires-clause-live
+move_row-requires-clause-live g c = has_row c.self.inside.rows.rows (at c.args.addr) c.in-Some.row (sym c.in-Some.ensures)
 
 pub move_row-requires-clause-fresh : goal.move_row-requires-clause-fresh
 move_row-requires-clause-fresh g c =
-    moved_row c.self.inside.flex c.self.inside.rows.items c.self.invariant c.resize.new.flex (at c.args.addr) c.from_size_align_unchecked-wanted.result c.in-Some.moved
-    c.in-Some.ensures.moved
+    moved_row c.self.inside.flex c.self.inside.rows.rows c.self.invariant c.resize.new.flex (at c.args.addr) c.from_size_align_unchecked-wanted.result c.in-Some-resize.moved
+    c.in-Some-resize.ensures.moved
 
 pub invariant_of-self-2 : goal.invariant_of-self-2
 invariant_of-self-2 g c =
     let rows = replaced g c in
-    moved_locked c.self.inside.flex c.self.inside.rows.items c.self.invariant c.resize.new.flex (at c.args.addr) c.from_size_align_unchecked-wanted.result c.in-Some.moved
-    c.in-Some.ensures.moved _ rows
+    moved_locked c.self.inside.flex c.self.inside.rows.rows c.self.invariant c.resize.new.flex (at c.args.addr) c.from_size_align_unchecked-wanted.result c.in-Some-resize.moved
+    c.in-Some-resize.ensures.moved _ rows
 
 -- the reference model made the step
 did_step : (g : given.Over) (c : After-move_row g)
-    → HeapReallocatesAs g.Options.GlobalTlsfOptions.ENABLE_REALLOCATION (heap_of c.self.inside.flex c.self.inside.rows.items) (at c.args.addr) c.args.layout c.args.new_size
-    (Ok c.in-Some.moved) (heap_of c.resize.new.flex c.move_row.new.rows.items)
+    → HeapReallocatesAs g.Options.GlobalTlsfOptions.ENABLE_REALLOCATION (heap_of c.self.inside.flex c.self.inside.rows.rows) (at c.args.addr) c.args.layout c.args.new_size
+    (Ok c.in-Some-resize.moved) (heap_of c.resize.new.flex c.move_row.new.self.rows)
 did_step g c =
-    let h = heap_of c.self.inside.flex c.self.inside.rows.items in
-    let after = heap_of c.resize.new.flex c.move_row.new.rows.items in
-    let found = rw c.deref.ensures.value at c.in-Ok.ensures.found in
-    let row = found.row c.index.result.now ∙ ap Some (sym c.index.ensures) in
+    let h = heap_of c.self.inside.flex c.self.inside.rows.rows in
+    let after = heap_of c.resize.new.flex c.move_row.new.self.rows in
+    let found = sym c.in-Some.ensures in
+    let row = found in
     let wanted = c.from_size_align_unchecked-wanted in
     let enabled = g.Options.GlobalTlsfOptions.ENABLE_REALLOCATION in
     let step =
-    subst (λ l. ReallocatesTo enabled h (at c.args.addr) c.args.layout wanted.result (Ok c.in-Some.moved) (heap_of c.resize.new.flex l)) (sym (replaced g c))
-    (c.in-Some.ensures.step c.self.inside.rows.items) in
-    subst (λ o. ReallocatesAsAt enabled h (at c.args.addr) c.args.layout c.args.new_size o (Ok c.in-Some.moved) after) (sym row)
-    (reallocates_in enabled h (at c.args.addr) c.args.layout c.args.new_size c.index.result.now wanted.result (Ok c.in-Some.moved) after (not-false _ c.if-ne.ensures)
+    subst (λ l. ReallocatesTo enabled h (at c.args.addr) c.args.layout wanted.result (Ok c.in-Some-resize.moved) (heap_of c.resize.new.flex l)) (sym (replaced g c))
+    (c.in-Some-resize.ensures.step c.self.inside.rows.rows) in
+    subst (λ o. ReallocatesAsAt enabled h (at c.args.addr) c.args.layout c.args.new_size o (Ok c.in-Some-resize.moved) after) (sym row)
+    (reallocates_in enabled h (at c.args.addr) c.args.layout c.args.new_size c.in-Some.row wanted.result (Ok c.in-Some-resize.moved) after (not-false _ c.if-ne.ensures)
     wanted.ensures.0 (wanted.ensures.1 ∙ c.align.ensures.value) step)
 
 -- the word accesses, as the size and the alignment are those of the wanted layout
@@ -106,32 +103,33 @@ returns g c =
     let call = (goal.at.returns g c).After-resize in
     let rows = replaced g k in
     let step = did_step g k in
-    let moved = c.in-Some.ensures.moved in
+    let moved = c.in-Some-resize.ensures.moved in
     let wanted = c.from_size_align_unchecked-wanted in
     let enabled = g.Options.GlobalTlsfOptions.ENABLE_REALLOCATION in
-    let before = heap_of c.self.inside.flex c.self.inside.rows.items in
-    let after = heap_of c.resize.new.flex c.move_row.new.rows.items in
-    let contents = locked_contents c.self.inside.flex c.self.inside.rows.items in
-    let found = rw c.deref.ensures.value at c.in-Ok.ensures.found in
-    let row = found.row c.index.result.now ∙ ap Some (sym c.index.ensures) in
+    let before = heap_of c.self.inside.flex c.self.inside.rows.rows in
+    let after = heap_of c.resize.new.flex c.move_row.new.self.rows in
+    let contents = locked_contents c.self.inside.flex c.self.inside.rows.rows in
+    let found = sym c.in-Some.ensures in
+    let row = found in
     let sized =
-    subst (λ n. n ≤ length (bytes_at c.self.inside.flex.state.machine (at c.args.addr))) (same_size c.index.result.now.1 c.args.layout (not-false _ c.if-ne.ensures))
-    (row_sized c.self.inside.flex c.self.inside.rows.items c.self.invariant (at c.args.addr) c.index.result.now row) in
+    subst (λ n. n ≤ length (bytes_at c.self.inside.flex.state.machine (at c.args.addr))) (same_size c.in-Some.row.1 c.args.layout (not-false _ c.if-ne.ensures))
+    (row_sized c.self.inside.flex c.self.inside.rows.rows c.self.invariant (at c.args.addr) c.in-Some.row row) in
     rw (← c.self.view_is) (record {
       step = step;
       refused = tt;
-      unknown = known c.self.inside.flex c.self.inside.rows.items (at c.args.addr) _ found (Ok c.in-Some.moved) refl;
+      unknown = known c.self.inside.flex c.self.inside.rows.rows (at c.args.addr) _ found (Ok c.in-Some-resize.moved) refl;
       live = (
         wanted.result,
-        layout_at-put_here before after (c.in-Some.moved, wanted.result) _ rows,
+        layout_at-put_here before after (c.in-Some-resize.moved, wanted.result) _ rows,
         wanted.ensures.0,
         wanted.ensures.1 ∙ c.align.ensures.value,
       );
-      new = λ off. layout_at-none before (at c.in-Some.moved) (no_row c.self.inside.flex c.self.inside.rows.items c.self.invariant (at c.in-Some.moved) (moved.new off));
-      left = λ off. layout_at-moved_left before after (at c.args.addr) (c.in-Some.moved, wanted.result) rows off;
-      kept = kept_asked contents c.self.invariant _ c.in-Some.moved (at c.args.addr) c.args.layout c.args.new_size enabled step sized;
-      kept_usable = λ on. kept_usable contents c.self.invariant _ c.in-Some.moved (at c.args.addr) c.args.layout c.args.new_size enabled step on;
-      layouts = layout_at-moved_other before after (at c.args.addr) (c.in-Some.moved, wanted.result) rows;
+      new = λ off. layout_at-none before (at c.in-Some-resize.moved) (no_row c.self.inside.flex c.self.inside.rows.rows c.self.invariant (at c.in-Some-resize.moved)
+          (moved.new off));
+      left = λ off. layout_at-moved_left before after (at c.args.addr) (c.in-Some-resize.moved, wanted.result) rows off;
+      kept = kept_asked contents c.self.invariant _ c.in-Some-resize.moved (at c.args.addr) c.args.layout c.args.new_size enabled step sized;
+      kept_usable = λ on. kept_usable contents c.self.invariant _ c.in-Some-resize.moved (at c.args.addr) c.args.layout c.args.new_size enabled step on;
+      layouts = layout_at-moved_other before after (at c.args.addr) (c.in-Some-resize.moved, wanted.result) rows;
       contents = λ a off off_to. content_at-bytes before after a a (moved.bytes a off off_to);
       same = tt;
       touches = touches_there g call;
@@ -144,19 +142,19 @@ returns g c =
 
 pub returns-in_default : goal.returns-in_default
 returns-in_default g c =
-    let absent = rw c.deref.ensures.value at c.in_default.ensures.absent in
-    let unasked = unknown c.self.inside.flex c.self.inside.rows.items (at c.args.addr) _ {A = NonZeroUsize} absent in
+    let absent = sym c.in_default.ensures in
+    let unasked = unknown c.self.inside.flex c.self.inside.rows.rows (at c.args.addr) {A = NonZeroUsize} absent in
     rw (← c.self.view_is) (search (rules, unasked, KeepsMemory-refl, copies_nothing))
 
 pub returns-then-ne : goal.returns-then-ne
 returns-then-ne g c =
-    let found = rw c.deref.ensures.value at c.in-Ok.ensures.found in
+    let found = sym c.in-Some.ensures in
     rw (← c.self.view_is) (record {
       step =
-          reallocates_out g.Options.GlobalTlsfOptions.ENABLE_REALLOCATION (heap_of c.self.inside.flex c.self.inside.rows.items) (at c.args.addr) c.args.layout c.args.new_size
-          c.index.result.now (not-true _ c.if-ne.ensures) (found.row c.index.result.now ∙ ap Some (sym c.index.ensures));
+          reallocates_out g.Options.GlobalTlsfOptions.ENABLE_REALLOCATION (heap_of c.self.inside.flex c.self.inside.rows.rows) (at c.args.addr) c.args.layout c.args.new_size
+          c.in-Some.row (not-true _ c.if-ne.ensures) found;
       refused = refl;
-      unknown = known c.self.inside.flex c.self.inside.rows.items (at c.args.addr) _ found (Err WrongLayout) refl;
+      unknown = known c.self.inside.flex c.self.inside.rows.rows (at c.args.addr) _ found (Err WrongLayout) refl;
       live = tt;
       new = tt;
       left = tt;
@@ -176,22 +174,22 @@ returns-then-ne g c =
 pub returns-in_default-resize : goal.returns-in_default-resize
 returns-in_default-resize g c =
     let call = (goal.at.returns-in_default-resize g c).After-resize in
-    let h = heap_of c.self.inside.flex c.self.inside.rows.items in
-    let after = heap_of c.resize.new.flex c.self.inside.rows.items in
-    let found = rw c.deref.ensures.value at c.in-Ok.ensures.found in
-    let row = found.row c.index.result.now ∙ ap Some (sym c.index.ensures) in
+    let h = heap_of c.self.inside.flex c.self.inside.rows.rows in
+    let after = heap_of c.resize.new.flex c.self.inside.rows.rows in
+    let found = sym c.in-Some.ensures in
+    let row = found in
     let wanted = c.from_size_align_unchecked-wanted in
     let enabled = g.Options.GlobalTlsfOptions.ENABLE_REALLOCATION in
     let stays = c.in_default-resize.ensures.refused in
     rw (← c.self.view_is) (record {
       step =
           subst (λ o. ReallocatesAsAt enabled h (at c.args.addr) c.args.layout c.args.new_size o (Err NoRoom) after) (sym row)
-          (reallocates_in enabled h (at c.args.addr) c.args.layout c.args.new_size c.index.result.now wanted.result (Err NoRoom) after (not-false _ c.if-ne.ensures)
+          (reallocates_in enabled h (at c.args.addr) c.args.layout c.args.new_size c.in-Some.row wanted.result (Err NoRoom) after (not-false _ c.if-ne.ensures)
           wanted.ensures.0
           (wanted.ensures.1 ∙ c.align.ensures.value)
-          (c.in_default-resize.ensures.none c.self.inside.rows.items));
+          (c.in_default-resize.ensures.none c.self.inside.rows.rows));
       refused = search rules;
-      unknown = known c.self.inside.flex c.self.inside.rows.items (at c.args.addr) _ found (Err NoRoom) refl;
+      unknown = known c.self.inside.flex c.self.inside.rows.rows (at c.args.addr) _ found (Err NoRoom) refl;
       live = tt;
       new = tt;
       left = tt;
@@ -199,7 +197,7 @@ returns-in_default-resize g c =
       kept_usable = λ _. tt;
       layouts = tt;
       contents = tt;
-      same = same_heap c.self.inside.flex c.resize.new.flex c.self.inside.rows.items stays.state stays.source;
+      same = same_heap c.self.inside.flex c.resize.new.flex c.self.inside.rows.rows stays.state stays.source;
       touches = touches_there g call;
       touches_elsewhere = touches_elsewhere g call;
       grow = c.resize.ensures.grow;

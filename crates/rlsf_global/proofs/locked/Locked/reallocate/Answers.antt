@@ -5,7 +5,7 @@ use Rattle.rlsf_base.specs.Addr.{at}
 use Rattle.rlsf_global.specs.Locked.{heap_of, locked_contents}
 use Rattle.rlsf_global.proofs.MovedPayloads.{moved_locked, moved_row, same_heap}
 use Rattle.rlsf_global.proofs.Kept.{kept_elsewhere}
-use Rattle.rlsf_global.proofs.Lives.{known, unknown}
+use Rattle.rlsf_global.proofs.Lives.{has_row, known, unknown}
 use Rattle.rlsf_global.proofs.Placements.{live_here, live_row, no_row}
 use Rattle.rlsf_model_global.proofs.Rows.{without_row-sorted}
 use Rattle.rlsf_model_global.specs.declared.error.GlobalError.TheVariants.{NoRoom}
@@ -13,80 +13,78 @@ use Rattle.rlsf_model_global.specs.Moves.{HeapReallocates, MovesAway, Reallocate
 use Rattle.rlsf_model_global.specs.Rows.{IsSorted, put, row_at, without_row}
 use Rattle.rlsf_global.proofs.locked.Locked.reallocate.Given as given
 use Rattle.rlsf_global.proofs.locked.Locked.reallocate.Goals as goal
-use Rattle.rlsf_global.proofs.locked.Locked.reallocate.Goals.{After-place}
+use Rattle.rlsf_global.proofs.locked.Locked.reallocate.Goals.{After-move_row}
 
 -- the entry of the address is now that of the payload with the new layout
-replaced : (g : given.Over) (c : After-place g) → c.place.new.rows.items ≡ put (c.in-Some.to, c.args.layout) (without_row (at c.args.addr) c.self.inside.rows.items)
-replaced g c =
-    let found = rw c.deref.ensures.value at c.in-Ok.ensures.found in
-    rw (c.remove.ensures.items, found.taken_out) at c.place.ensures
+replaced : (g : given.Over) (c : After-move_row g) → c.move_row.new.self.rows ≡ put (c.in-Some-move_away.to, c.args.layout) (without_row (at c.args.addr) c.self.inside.rows.rows)
+replaced g c = c.move_row.ensures.rows
 
 pub allocation_usable_size-requires : goal.allocation_usable_size-requires
 allocation_usable_size-requires g c =
-    (lit< tt, live_here c.self.inside.flex c.self.inside.rows.items c.self.invariant (at c.args.addr) _ (rw c.deref.ensures.value at c.in-Ok.ensures.found))
+    (lit< tt, live_here c.self.inside.flex c.self.inside.rows.rows c.self.invariant (at c.args.addr) _ (sym c.in-Some.ensures))
 
 pub move_away-requires : goal.move_away-requires
 move_away-requires g c =
-    let found = rw c.deref.ensures.value at c.in-Ok.ensures.found in
-    let row = found.row c.index.result.now ∙ ap Some (sym c.index.ensures) in
-    let live = live_row c.self.inside.flex c.self.inside.rows.items c.self.invariant (at c.args.addr) c.index.result.now row ∙ ap Some (sym c.align-align.ensures.value) in
+    let found = sym c.in-Some.ensures in
+    let row = found in
+    let live = live_row c.self.inside.flex c.self.inside.rows.rows c.self.invariant (at c.args.addr) c.in-Some.row row ∙ ap Some (sym c.align-align.ensures.value) in
     (lit< tt, (live, (omega (arith, c.min-keep.ensures, c.allocation_usable_size.ensures), omega (arith, c.min-keep.ensures, c.size.ensures.value))))
 
-pub place-requires-clause-sorted : goal.place-requires-clause-sorted
-place-requires-clause-sorted g c =
-    let found = rw c.deref.ensures.value at c.in-Ok.ensures.found in
-    subst IsSorted (sym (c.remove.ensures.items ∙ found.taken_out)) (without_row-sorted (at c.args.addr) c.self.inside.rows.items c.self.invariant.sorted)
+pub move_row-requires-clause-live : goal.move_row-requires-clause-live
+move_row-requires-clause-live g c = has_row c.self.inside.rows.rows (at c.args.addr) c.in-Some.row (sym c.in-Some.ensures)
 
-pub place-requires-clause-fresh : goal.place-requires-clause-fresh
-place-requires-clause-fresh g c =
-    let found = rw c.deref.ensures.value at c.in-Ok.ensures.found in
-    subst (λ l. row_at (at c.in-Some.to) l ≡ None) (sym (c.remove.ensures.items ∙ found.taken_out))
-    (moved_row c.self.inside.flex c.self.inside.rows.items c.self.invariant c.move_away.new.flex (at c.args.addr) c.args.layout c.in-Some.to c.in-Some.ensures.moved)
+pub move_row-requires-clause-fresh : goal.move_row-requires-clause-fresh
+move_row-requires-clause-fresh g c =
+    moved_row c.self.inside.flex c.self.inside.rows.rows c.self.invariant c.move_away.new.flex (at c.args.addr) c.args.layout c.in-Some-move_away.to
+    c.in-Some-move_away.ensures.moved
 
 pub invariant_of-self-2 : goal.invariant_of-self-2
 invariant_of-self-2 g c =
     let rows = replaced g c in
-    moved_locked c.self.inside.flex c.self.inside.rows.items c.self.invariant c.move_away.new.flex (at c.args.addr) c.args.layout c.in-Some.to c.in-Some.ensures.moved _ rows
+    moved_locked c.self.inside.flex c.self.inside.rows.rows c.self.invariant c.move_away.new.flex (at c.args.addr) c.args.layout c.in-Some-move_away.to
+    c.in-Some-move_away.ensures.moved _ rows
 
 -- the reference model made the step
-did_step : (g : given.Over) (c : After-place g)
-    → HeapReallocates (heap_of c.self.inside.flex c.self.inside.rows.items) (at c.args.addr) c.args.layout (Ok c.in-Some.to) (heap_of c.move_away.new.flex c.place.new.rows.items)
+did_step : (g : given.Over) (c : After-move_row g)
+    → HeapReallocates (heap_of c.self.inside.flex c.self.inside.rows.rows) (at c.args.addr) c.args.layout (Ok c.in-Some-move_away.to)
+    (heap_of c.move_away.new.flex c.move_row.new.self.rows)
 did_step g c =
-    let h = heap_of c.self.inside.flex c.self.inside.rows.items in
-    let after = heap_of c.move_away.new.flex c.place.new.rows.items in
-    let found = rw c.deref.ensures.value at c.in-Ok.ensures.found in
-    let row = found.row c.index.result.now ∙ ap Some (sym c.index.ensures) in
+    let h = heap_of c.self.inside.flex c.self.inside.rows.rows in
+    let after = heap_of c.move_away.new.flex c.move_row.new.self.rows in
+    let found = sym c.in-Some.ensures in
+    let row = found in
     let keep = c.min-keep.ensures ∙ ap (λ n. min n c.allocation_usable_size.result) c.size.ensures.value ∙ ap (min c.args.layout.size) c.allocation_usable_size.ensures in
     let step =
-    subst (λ l. MovesAway h (at c.args.addr) c.min-keep.result c.args.layout (Ok c.in-Some.to) (heap_of c.move_away.new.flex l)) (sym (replaced g c))
-    (c.in-Some.ensures.step c.self.inside.rows.items) in
-    subst (λ o. ReallocatesAt h (at c.args.addr) c.args.layout o (Ok c.in-Some.to) after) (sym row)
-    (subst (λ n. MovesAway h (at c.args.addr) n c.args.layout (Ok c.in-Some.to) after) keep step)
+    subst (λ l. MovesAway h (at c.args.addr) c.min-keep.result c.args.layout (Ok c.in-Some-move_away.to) (heap_of c.move_away.new.flex l)) (sym (replaced g c))
+    (c.in-Some-move_away.ensures.step c.self.inside.rows.rows) in
+    subst (λ o. ReallocatesAt h (at c.args.addr) c.args.layout o (Ok c.in-Some-move_away.to) after) (sym row)
+    (subst (λ n. MovesAway h (at c.args.addr) n c.args.layout (Ok c.in-Some-move_away.to) after) keep step)
 
 pub returns : goal.returns
 returns g c =
-    let k = (goal.at.returns g c).After-place in
+    let k = (goal.at.returns g c).After-move_row in
     let rows = replaced g k in
     let step = did_step g k in
-    let moved = c.in-Some.ensures.moved in
-    let before = heap_of c.self.inside.flex c.self.inside.rows.items in
-    let after = heap_of c.move_away.new.flex c.place.new.rows.items in
+    let moved = c.in-Some-move_away.ensures.moved in
+    let before = heap_of c.self.inside.flex c.self.inside.rows.rows in
+    let after = heap_of c.move_away.new.flex c.move_row.new.self.rows in
     rw (← c.self.view_is) (record {
       step = step;
       refused = tt;
-      unknown = known c.self.inside.flex c.self.inside.rows.items (at c.args.addr) _ (rw c.deref.ensures.value at c.in-Ok.ensures.found) (Ok c.in-Some.to) refl;
-      live = layout_at-put_here before after (c.in-Some.to, c.args.layout) _ rows;
-      new = λ off. layout_at-none before (at c.in-Some.to) (no_row c.self.inside.flex c.self.inside.rows.items c.self.invariant (at c.in-Some.to) (moved.new off));
-      left = λ off. layout_at-moved_left before after (at c.args.addr) (c.in-Some.to, c.args.layout) rows off;
-      kept = kept_elsewhere (locked_contents c.self.inside.flex c.self.inside.rows.items) c.self.invariant _ c.in-Some.to (at c.args.addr) c.args.layout step;
-      layouts = layout_at-moved_other before after (at c.args.addr) (c.in-Some.to, c.args.layout) rows;
+      unknown = known c.self.inside.flex c.self.inside.rows.rows (at c.args.addr) _ (sym c.in-Some.ensures) (Ok c.in-Some-move_away.to) refl;
+      live = layout_at-put_here before after (c.in-Some-move_away.to, c.args.layout) _ rows;
+      new = λ off. layout_at-none before (at c.in-Some-move_away.to) (no_row c.self.inside.flex c.self.inside.rows.rows c.self.invariant (at c.in-Some-move_away.to)
+          (moved.new off));
+      left = λ off. layout_at-moved_left before after (at c.args.addr) (c.in-Some-move_away.to, c.args.layout) rows off;
+      kept = kept_elsewhere (locked_contents c.self.inside.flex c.self.inside.rows.rows) c.self.invariant _ c.in-Some-move_away.to (at c.args.addr) c.args.layout step;
+      layouts = layout_at-moved_other before after (at c.args.addr) (c.in-Some-move_away.to, c.args.layout) rows;
       contents = λ a off off_to. content_at-bytes before after a a (moved.bytes a off off_to);
       same = tt;
       touches = c.move_away.ensures.touches;
       grow = c.move_away.ensures.grow;
       unasked = tt;
       memory = c.move_away.ensures.memory;
-      copied = c.in-Some.ensures.copied ∙ ap (λ n. c.self.inside.flex.memory.copied + n)
+      copied = c.in-Some-move_away.ensures.copied ∙ ap (λ n. c.self.inside.flex.memory.copied + n)
           (c.min-keep.ensures ∙ ap (λ n. min n c.allocation_usable_size.result) c.size.ensures.value
           ∙ ap (min c.args.layout.size) (c.allocation_usable_size.ensures ∙ ap length (sym (content_at-is before (at c.args.addr)))));
       copied_none = tt;
@@ -94,7 +92,7 @@ returns g c =
 
 pub returns-in_default : goal.returns-in_default
 returns-in_default g c =
-    let absent = rw c.deref.ensures.value at c.in_default.ensures.absent in
+    let absent = sym c.in_default.ensures in
     rw (← c.self.view_is) (record {
       step = search rules;
       refused = refl;
@@ -104,7 +102,7 @@ returns-in_default g c =
       kept = tt;
       layouts = tt;
       contents = tt;
-      unknown = unknown c.self.inside.flex c.self.inside.rows.items (at c.args.addr) _ absent;
+      unknown = unknown c.self.inside.flex c.self.inside.rows.rows (at c.args.addr) absent;
       same = refl;
       touches = λ _. omega arith;
       grow = omega arith;
@@ -116,25 +114,25 @@ returns-in_default g c =
 
 pub returns-in_default-move_away : goal.returns-in_default-move_away
 returns-in_default-move_away g c =
-    let h = heap_of c.self.inside.flex c.self.inside.rows.items in
-    let after = heap_of c.move_away.new.flex c.self.inside.rows.items in
-    let found = rw c.deref.ensures.value at c.in-Ok.ensures.found in
-    let row = found.row c.index.result.now ∙ ap Some (sym c.index.ensures) in
+    let h = heap_of c.self.inside.flex c.self.inside.rows.rows in
+    let after = heap_of c.move_away.new.flex c.self.inside.rows.rows in
+    let found = sym c.in-Some.ensures in
+    let row = found in
     let keep = c.min-keep.ensures ∙ ap (λ n. min n c.allocation_usable_size.result) c.size.ensures.value ∙ ap (min c.args.layout.size) c.allocation_usable_size.ensures in
     let stays = c.in_default-move_away.ensures.refused in
     rw (← c.self.view_is) (record {
       step =
           subst (λ o. ReallocatesAt h (at c.args.addr) c.args.layout o (Err NoRoom) after) (sym row)
-          (subst (λ n. MovesAway h (at c.args.addr) n c.args.layout (Err NoRoom) after) keep (c.in_default-move_away.ensures.none c.self.inside.rows.items));
+          (subst (λ n. MovesAway h (at c.args.addr) n c.args.layout (Err NoRoom) after) keep (c.in_default-move_away.ensures.none c.self.inside.rows.rows));
       refused = search rules;
-      unknown = known c.self.inside.flex c.self.inside.rows.items (at c.args.addr) _ found (Err NoRoom) refl;
+      unknown = known c.self.inside.flex c.self.inside.rows.rows (at c.args.addr) _ found (Err NoRoom) refl;
       live = tt;
       new = tt;
       left = tt;
       kept = tt;
       layouts = tt;
       contents = tt;
-      same = same_heap c.self.inside.flex c.move_away.new.flex c.self.inside.rows.items stays.state stays.source;
+      same = same_heap c.self.inside.flex c.move_away.new.flex c.self.inside.rows.rows stays.state stays.source;
       touches = c.move_away.ensures.touches;
       grow = c.move_away.ensures.grow;
       unasked = tt;

@@ -1,4 +1,4 @@
-use Rattle.std.proofs.Common.{rules, ◌≡◌, Some, Ok, Err, lit<, ap, ◌∙◌, subst, sym, refl, arith}
+use Rattle.std.proofs.Common.{rules, ◌≡◌, IsSome, Some, Ok, Err, lit<, ap, ◌∙◌, subst, sym, refl, arith}
 use Rattle.rlsf_model_global.specs.Heap.{layout_at}
 use Rattle.rlsf_global.proofs.KeptMemories.{KeepsMemory-refl, kept_alone}
 use Rattle.rlsf_global.proofs.MovedPayloads.{same_heap}
@@ -7,64 +7,70 @@ use Rattle.rlsf_base.specs.Addr.{at}
 use Rattle.rlsf_global.specs.Locked.{heap_of, locked_contents}
 use Rattle.rlsf_global.proofs.Checks.{same_align}
 use Rattle.rlsf_global.proofs.Kept.{kept_there}
-use Rattle.rlsf_global.proofs.Lives.{known, unknown}
+use Rattle.rlsf_global.proofs.Lives.{has_row, known, unknown}
 use Rattle.rlsf_global.proofs.Placements.{live_row}
 use Rattle.rlsf_global.proofs.Resizes.{not_resized, not_resized_locked, resized, resized_locked, resizes_in, resizes_out, row_there}
 use Rattle.rlsf_global.proofs.Results.{not-false, not-true}
 use Rattle.rlsf_model_global.specs.declared.error.GlobalError.TheVariants.{NoRoom, WrongLayout}
 use Rattle.rlsf_model_global.specs.Moves.{HeapReallocatesThere, ReallocatesThereAt}
-use Rattle.rlsf_global.specs.Steps.Table.{IsFound}
-use Rattle.rlsf_model_global.specs.Rows.{put, without_row}
+use Rattle.rlsf_model_global.specs.Rows.{put, row_at, without_row}
 use Rattle.rlsf_global.proofs.locked.Locked.reallocate_no_move.Given as given
 use Rattle.rlsf_global.proofs.locked.Locked.reallocate_no_move.Goals as goal
 use Rattle.rlsf_global.proofs.locked.Locked.reallocate_no_move.Goals.{After-replace}
 
 -- the entry of the address now has the wanted layout
 replaced : (g : given.Over) (c : After-replace g)
-    → c.replace.new.rows.items ≡ put (c.in-Some.to, c.from_size_align_unchecked-wanted.result) (without_row (at c.args.addr) c.self.inside.rows.items)
+    → c.replace.new.self.rows ≡ put (c.in-Some-reallocate_no_move.to, c.from_size_align_unchecked-wanted.result) (without_row (at c.args.addr) c.self.inside.rows.rows)
 replaced g c =
-    row_there c.self.inside.rows.items c.replace.new.rows.items (at c.args.addr) c.in-Some.to c.from_size_align_unchecked-wanted.result c.in-Some.ensures.there c.replace.ensures
+    row_there c.self.inside.rows.rows c.replace.new.self.rows (at c.args.addr) c.in-Some-reallocate_no_move.to c.from_size_align_unchecked-wanted.result
+    c.in-Some-reallocate_no_move.ensures.there c.replace.ensures.rows
 
 pub reallocate_no_move-requires : goal.reallocate_no_move-requires
 reallocate_no_move-requires g c =
-    let found = rw c.deref.ensures.value at c.in-Ok.ensures.found in
-    let row = found.row c.index.result.now ∙ ap Some (sym c.index.ensures) in
-    let aligned = same_align c.index.result.now.1 c.args.layout (not-false _ c.if-ne.ensures) ∙ sym (c.from_size_align_unchecked-wanted.ensures.1 ∙ c.align.ensures.value) in
-    (lit< tt, live_row c.self.inside.flex c.self.inside.rows.items c.self.invariant (at c.args.addr) c.index.result.now row ∙ ap Some aligned)
+    let found = sym c.in-Some.ensures in
+    let row = found in
+    let aligned = same_align c.in-Some.row.1 c.args.layout (not-false _ c.if-ne.ensures) ∙ sym (c.from_size_align_unchecked-wanted.ensures.1 ∙ c.align.ensures.value) in
+    (lit< tt, live_row c.self.inside.flex c.self.inside.rows.rows c.self.invariant (at c.args.addr) c.in-Some.row row ∙ ap Some aligned)
 
 pub invariant_of-self : goal.invariant_of-self
 invariant_of-self g c =
     let did = c.in_default-reallocate_no_move.ensures in
-    not_resized_locked c.self.inside.flex c.self.inside.rows.items c.self.invariant c.reallocate_no_move.new.self (at c.args.addr) c.from_size_align_unchecked-wanted.result
+    not_resized_locked c.self.inside.flex c.self.inside.rows.rows c.self.invariant c.reallocate_no_move.new.self (at c.args.addr) c.from_size_align_unchecked-wanted.result
     did.source did.step did.same
 
 pub replace-requires : goal.replace-requires
-replace-requires g c = subst (λ a. IsFound c.self.inside.rows.items a c.in-Ok.index) (sym c.in-Some.ensures.there) (rw c.deref.ensures.value at c.in-Ok.ensures.found)
+replace-requires g c = record {
+  live =
+      subst (λ a. IsSome (row_at a c.self.inside.rows.rows)) (sym c.in-Some-reallocate_no_move.ensures.there)
+      (has_row c.self.inside.rows.rows (at c.args.addr) c.in-Some.row (sym c.in-Some.ensures));
+}
 
 pub invariant_of-self-2 : goal.invariant_of-self-2
 invariant_of-self-2 g c =
-    let did = c.in-Some.ensures in
+    let did = c.in-Some-reallocate_no_move.ensures in
     let rows = replaced g c in
-    resized_locked c.self.inside.flex c.self.inside.rows.items c.self.invariant c.reallocate_no_move.new.self (at c.args.addr) c.from_size_align_unchecked-wanted.result did.source
-    c.in-Some.to did.there did.step _ rows
+    resized_locked c.self.inside.flex c.self.inside.rows.rows c.self.invariant c.reallocate_no_move.new.self (at c.args.addr) c.from_size_align_unchecked-wanted.result did.source
+    c.in-Some-reallocate_no_move.to did.there did.step _ rows
     (record { live = did.live; sized = did.sized; few = did.few }) did.aligns did.bytes
 
 -- the reference model made the step
 did_step : (g : given.Over) (c : After-replace g)
-    → HeapReallocatesThere (heap_of c.self.inside.flex c.self.inside.rows.items) (at c.args.addr) c.args.layout c.args.new_size (Ok c.in-Some.to)
-    (heap_of c.reallocate_no_move.new.self c.replace.new.rows.items)
+    → HeapReallocatesThere (heap_of c.self.inside.flex c.self.inside.rows.rows) (at c.args.addr) c.args.layout c.args.new_size (Ok c.in-Some-reallocate_no_move.to)
+    (heap_of c.reallocate_no_move.new.self c.replace.new.self.rows)
 did_step g c =
-    let h = heap_of c.self.inside.flex c.self.inside.rows.items in
-    let after = heap_of c.reallocate_no_move.new.self c.replace.new.rows.items in
-    let did = c.in-Some.ensures in
-    let found = rw c.deref.ensures.value at c.in-Ok.ensures.found in
-    let row = found.row c.index.result.now ∙ ap Some (sym c.index.ensures) in
+    let h = heap_of c.self.inside.flex c.self.inside.rows.rows in
+    let after = heap_of c.reallocate_no_move.new.self c.replace.new.self.rows in
+    let did = c.in-Some-reallocate_no_move.ensures in
+    let found = sym c.in-Some.ensures in
+    let row = found in
     let wanted = c.from_size_align_unchecked-wanted in
     let step =
-    resized c.self.inside.flex c.self.inside.rows.items c.self.invariant c.reallocate_no_move.new.self (at c.args.addr) wanted.result did.source c.in-Some.to did.there did.step
+    resized c.self.inside.flex c.self.inside.rows.rows c.self.invariant c.reallocate_no_move.new.self (at c.args.addr) wanted.result did.source c.in-Some-reallocate_no_move.to
+    did.there did.step
     _ (replaced g c) in
-    subst (λ o. ReallocatesThereAt h (at c.args.addr) c.args.layout c.args.new_size o (Ok c.in-Some.to) after) (sym row)
-    (resizes_in h (at c.args.addr) c.args.layout c.args.new_size c.index.result.now wanted.result (Ok c.in-Some.to) after (not-false _ c.if-ne.ensures) wanted.ensures.0
+    subst (λ o. ReallocatesThereAt h (at c.args.addr) c.args.layout c.args.new_size o (Ok c.in-Some-reallocate_no_move.to) after) (sym row)
+    (resizes_in h (at c.args.addr) c.args.layout c.args.new_size c.in-Some.row wanted.result (Ok c.in-Some-reallocate_no_move.to) after (not-false _ c.if-ne.ensures)
+    wanted.ensures.0
     (wanted.ensures.1 ∙ c.align.ensures.value) step)
 
 pub returns : goal.returns
@@ -72,20 +78,21 @@ returns g c =
     let k = (goal.at.returns g c).After-replace in
     let rows = replaced g k in
     let step = did_step g k in
-    let did = c.in-Some.ensures in
+    let did = c.in-Some-reallocate_no_move.ensures in
     let wanted = c.from_size_align_unchecked-wanted in
-    let before = heap_of c.self.inside.flex c.self.inside.rows.items in
-    let after = heap_of c.reallocate_no_move.new.self c.replace.new.rows.items in
-    let here = layout_at-put_here before after (c.in-Some.to, wanted.result) _ rows in
+    let before = heap_of c.self.inside.flex c.self.inside.rows.rows in
+    let after = heap_of c.reallocate_no_move.new.self c.replace.new.self.rows in
+    let here = layout_at-put_here before after (c.in-Some-reallocate_no_move.to, wanted.result) _ rows in
     rw (← c.self.view_is) (record {
       step = step;
       refused = tt;
-      unknown = known c.self.inside.flex c.self.inside.rows.items (at c.args.addr) _ (rw c.deref.ensures.value at c.in-Ok.ensures.found) (Ok c.in-Some.to) refl;
+      unknown = known c.self.inside.flex c.self.inside.rows.rows (at c.args.addr) _ (sym c.in-Some.ensures) (Ok c.in-Some-reallocate_no_move.to) refl;
       there = did.there;
       live = (wanted.result, subst (λ a. layout_at after a ≡ Some wanted.result) did.there here, wanted.ensures.0, wanted.ensures.1 ∙ c.align.ensures.value);
       kept =
-          kept_there (locked_contents c.self.inside.flex c.self.inside.rows.items) c.self.invariant _ c.in-Some.to (at c.args.addr) c.args.layout c.args.new_size step;
-      layouts = λ a off. layout_at-moved_other before after (at c.args.addr) (c.in-Some.to, wanted.result) rows a off (λ same. off (same ∙ did.there));
+          kept_there (locked_contents c.self.inside.flex c.self.inside.rows.rows) c.self.invariant _ c.in-Some-reallocate_no_move.to (at c.args.addr) c.args.layout
+          c.args.new_size step;
+      layouts = λ a off. layout_at-moved_other before after (at c.args.addr) (c.in-Some-reallocate_no_move.to, wanted.result) rows a off (λ same. off (same ∙ did.there));
       contents = λ a off. content_at-bytes before after a a (did.bytes a off);
       same = tt;
       touches = did.touches;
@@ -97,11 +104,11 @@ returns g c =
 
 pub returns-in_default : goal.returns-in_default
 returns-in_default g c =
-    let absent = rw c.deref.ensures.value at c.in_default.ensures.absent in
+    let absent = sym c.in_default.ensures in
     rw (← c.self.view_is) (record {
       step = search rules;
       refused = refl;
-      unknown = unknown c.self.inside.flex c.self.inside.rows.items (at c.args.addr) _ absent;
+      unknown = unknown c.self.inside.flex c.self.inside.rows.rows (at c.args.addr) absent;
       there = tt;
       live = tt;
       kept = tt;
@@ -117,13 +124,13 @@ returns-in_default g c =
 
 pub returns-then-ne : goal.returns-then-ne
 returns-then-ne g c =
-    let found = rw c.deref.ensures.value at c.in-Ok.ensures.found in
+    let found = sym c.in-Some.ensures in
     rw (← c.self.view_is) (record {
       step =
-          resizes_out (heap_of c.self.inside.flex c.self.inside.rows.items) (at c.args.addr) c.args.layout c.args.new_size
-          c.index.result.now (not-true _ c.if-ne.ensures) (found.row c.index.result.now ∙ ap Some (sym c.index.ensures));
+          resizes_out (heap_of c.self.inside.flex c.self.inside.rows.rows) (at c.args.addr) c.args.layout c.args.new_size
+          c.in-Some.row (not-true _ c.if-ne.ensures) found;
       refused = refl;
-      unknown = known c.self.inside.flex c.self.inside.rows.items (at c.args.addr) _ found (Err WrongLayout) refl;
+      unknown = known c.self.inside.flex c.self.inside.rows.rows (at c.args.addr) _ found (Err WrongLayout) refl;
       there = tt;
       live = tt;
       kept = tt;
@@ -139,27 +146,27 @@ returns-then-ne g c =
 
 pub returns-in_default-reallocate_no_move : goal.returns-in_default-reallocate_no_move
 returns-in_default-reallocate_no_move g c =
-    let h = heap_of c.self.inside.flex c.self.inside.rows.items in
-    let after = heap_of c.reallocate_no_move.new.self c.self.inside.rows.items in
+    let h = heap_of c.self.inside.flex c.self.inside.rows.rows in
+    let after = heap_of c.reallocate_no_move.new.self c.self.inside.rows.rows in
     let did = c.in_default-reallocate_no_move.ensures in
-    let found = rw c.deref.ensures.value at c.in-Ok.ensures.found in
-    let row = found.row c.index.result.now ∙ ap Some (sym c.index.ensures) in
+    let found = sym c.in-Some.ensures in
+    let row = found in
     let wanted = c.from_size_align_unchecked-wanted in
     let step =
-    not_resized c.self.inside.flex c.self.inside.rows.items c.self.invariant c.reallocate_no_move.new.self (at c.args.addr) wanted.result did.source did.step did.same in
+    not_resized c.self.inside.flex c.self.inside.rows.rows c.self.invariant c.reallocate_no_move.new.self (at c.args.addr) wanted.result did.source did.step did.same in
     rw (← c.self.view_is) (record {
       step =
           subst (λ o. ReallocatesThereAt h (at c.args.addr) c.args.layout c.args.new_size o (Err NoRoom) after) (sym row)
-          (resizes_in h (at c.args.addr) c.args.layout c.args.new_size c.index.result.now wanted.result (Err NoRoom) after (not-false _ c.if-ne.ensures) wanted.ensures.0
+          (resizes_in h (at c.args.addr) c.args.layout c.args.new_size c.in-Some.row wanted.result (Err NoRoom) after (not-false _ c.if-ne.ensures) wanted.ensures.0
           (wanted.ensures.1 ∙ c.align.ensures.value) step);
       refused = did.refused;
-      unknown = known c.self.inside.flex c.self.inside.rows.items (at c.args.addr) _ found (Err NoRoom) refl;
+      unknown = known c.self.inside.flex c.self.inside.rows.rows (at c.args.addr) _ found (Err NoRoom) refl;
       there = tt;
       live = tt;
       kept = tt;
       layouts = tt;
       contents = tt;
-      same = same_heap c.self.inside.flex c.reallocate_no_move.new.self c.self.inside.rows.items did.same did.source;
+      same = same_heap c.self.inside.flex c.reallocate_no_move.new.self c.self.inside.rows.rows did.same did.source;
       touches = did.touches;
       grow = did.grow;
       unasked = tt;

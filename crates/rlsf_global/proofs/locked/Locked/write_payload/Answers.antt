@@ -14,16 +14,16 @@ use Rattle.rlsf_global.proofs.locked.Locked.write_payload.Goals as goal
 
 pub allocation_usable_size-requires : goal.allocation_usable_size-requires
 allocation_usable_size-requires g c =
-    (lit< tt, live_here c.self.inside.flex c.self.inside.rows.items c.self.invariant (at c.args.addr) _ (rw c.deref.ensures.value at c.in-Ok.ensures.found))
+    (lit< tt, live_here c.self.inside.flex c.self.inside.rows.rows c.self.invariant (at c.args.addr) _ (sym c.in-Some.ensures))
 
 pub payload_mut-requires : goal.payload_mut-requires
-payload_mut-requires g c = (lit< tt, live_here c.self.inside.flex c.self.inside.rows.items c.self.invariant (at c.args.addr) _ (rw c.deref.ensures.value at c.in-Ok.ensures.found))
+payload_mut-requires g c = (lit< tt, live_here c.self.inside.flex c.self.inside.rows.rows c.self.invariant (at c.args.addr) _ (sym c.in-Some.ensures))
 
 pub invariant_of-self : goal.invariant_of-self
 invariant_of-self g c =
     let w = c.write_at.new.payload in
     let did = c.payload_mut.ensures in
-    filled_locked c.self.inside.flex c.self.inside.rows.items c.self.invariant (written c.self.inside.flex (at c.args.addr) (length c.payload_mut.result.now) w) (at c.args.addr) w
+    filled_locked c.self.inside.flex c.self.inside.rows.rows c.self.invariant (written c.self.inside.flex (at c.args.addr) (length c.payload_mut.result.now) w) (at c.args.addr) w
     (did.meaning w c.write_at.ensures.len) refl
     (did.aligns w) (did.lengths w ∙ ap length did.value) (did.bytes w)
 
@@ -31,7 +31,7 @@ pub returns-in_default : goal.returns-in_default
 returns-in_default g c = rw (← c.self.view_is) (record {
   step = search rules;
   refused = refl;
-  unknown = (unknown c.self.inside.flex c.self.inside.rows.items (at c.args.addr) _ (rw c.deref.ensures.value at c.in_default.ensures.absent));
+  unknown = (unknown c.self.inside.flex c.self.inside.rows.rows (at c.args.addr) (sym c.in_default.ensures));
   written = tt;
   layouts = refl;
   contents = tt;
@@ -45,13 +45,13 @@ returns-in_default g c = rw (← c.self.view_is) (record {
 pub returns-then-not-fits : goal.returns-then-not-fits
 returns-then-not-fits g c = rw (← c.self.view_is) (record {
   step = (
-      let h = heap_of c.self.inside.flex c.self.inside.rows.items in
+      let h = heap_of c.self.inside.flex c.self.inside.rows.rows in
       let bytes = c.args.bytes.now in
-      writes_out h (at c.args.addr) c.args.offset _ (rw c.deref.ensures.value at c.in-Ok.ensures.found) bytes
+      writes_out h (at c.args.addr) c.args.offset _ (sym c.in-Some.ensures) bytes
       (c.if-not-fits.ensures ∙ ap (nat_le (c.args.offset + length bytes)) c.allocation_usable_size.ensures));
   refused = refl;
   unknown =
-      (known c.self.inside.flex c.self.inside.rows.items (at c.args.addr) _ (rw c.deref.ensures.value at c.in-Ok.ensures.found) (Err OutOfRange) refl);
+      (known c.self.inside.flex c.self.inside.rows.rows (at c.args.addr) _ (sym c.in-Some.ensures) (Err OutOfRange) refl);
   written = tt;
   layouts = refl;
   contents = tt;
@@ -65,37 +65,37 @@ returns-then-not-fits g c = rw (← c.self.view_is) (record {
 pub returns : goal.returns
 returns g c = rw (← c.self.view_is) (record {
   step = (
-      let h = heap_of c.self.inside.flex c.self.inside.rows.items in
+      let h = heap_of c.self.inside.flex c.self.inside.rows.rows in
       let addr = at c.args.addr in
       let offset = c.args.offset in
       let bytes = c.args.bytes.now in
       let w = c.write_at.new.payload in
       let did = c.payload_mut.ensures in
       let after = written c.self.inside.flex addr (length c.payload_mut.result.now) w in
-      let (fills, leads) = filled c.self.inside.flex c.self.inside.rows.items c.self.invariant after addr w (did.meaning w c.write_at.ensures.len) refl in
+      let (fills, leads) = filled c.self.inside.flex c.self.inside.rows.rows c.self.invariant after addr w (did.meaning w c.write_at.ensures.len) refl in
       let spliced =
       subst (λ l. Fills h.flex.machine addr l after.state.machine) (c.write_at.ensures.bytes ∙ ap (λ l. splice l offset (offset + length bytes) bytes) did.value) fills in
-      writes_in h addr offset _ (rw c.deref.ensures.value at c.in-Ok.ensures.found) bytes (heap_of after c.self.inside.rows.items)
+      writes_in h addr offset _ (sym c.in-Some.ensures) bytes (heap_of after c.self.inside.rows.rows)
       (c.if-not-fits.ensures ∙ ap (nat_le (offset + length bytes)) c.allocation_usable_size.ensures) (after.state.machine, spliced, leads));
   refused = tt;
-  unknown = (known c.self.inside.flex c.self.inside.rows.items (at c.args.addr) _ (rw c.deref.ensures.value at c.in-Ok.ensures.found) (Ok tt) refl);
+  unknown = (known c.self.inside.flex c.self.inside.rows.rows (at c.args.addr) _ (sym c.in-Some.ensures) (Ok tt) refl);
   written = (
       let addr = at c.args.addr in
       let bytes = c.args.bytes.now in
       let w = c.write_at.new.payload in
       let did = c.payload_mut.ensures in
-      let before = heap_of c.self.inside.flex c.self.inside.rows.items in
-      let after = heap_of (written c.self.inside.flex addr (length c.payload_mut.result.now) w) c.self.inside.rows.items in
+      let before = heap_of c.self.inside.flex c.self.inside.rows.rows in
+      let after = heap_of (written c.self.inside.flex addr (length c.payload_mut.result.now) w) c.self.inside.rows.rows in
       content_at-is after addr ∙ did.filled w c.write_at.ensures.len ∙ c.write_at.ensures.bytes
       ∙ ap (λ l. splice l c.args.offset (c.args.offset + length bytes) bytes) (did.value ∙ sym (content_at-is before addr)));
   layouts = (
-      let before = heap_of c.self.inside.flex c.self.inside.rows.items in
-      let after = heap_of (written c.self.inside.flex (at c.args.addr) (length c.payload_mut.result.now) c.write_at.new.payload) c.self.inside.rows.items in
+      let before = heap_of c.self.inside.flex c.self.inside.rows.rows in
+      let after = heap_of (written c.self.inside.flex (at c.args.addr) (length c.payload_mut.result.now) c.write_at.new.payload) c.self.inside.rows.rows in
       λ i a. layout_at-row before after a a refl i);
   contents = (
       let w = c.write_at.new.payload in
-      let before = heap_of c.self.inside.flex c.self.inside.rows.items in
-      let after = heap_of (written c.self.inside.flex (at c.args.addr) (length c.payload_mut.result.now) w) c.self.inside.rows.items in
+      let before = heap_of c.self.inside.flex c.self.inside.rows.rows in
+      let after = heap_of (written c.self.inside.flex (at c.args.addr) (length c.payload_mut.result.now) w) c.self.inside.rows.rows in
       λ a off. content_at-bytes before after a a (c.payload_mut.ensures.bytes w a off));
   same = tt;
   touches = (

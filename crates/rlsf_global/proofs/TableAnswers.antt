@@ -1,0 +1,56 @@
+-- Answers of a table, and what its changes are in the order of addresses.
+use Rattle.std.proofs.Common.{◌≡◌, ℕ, List, [], true, Some, None, IsSome, sym, ap, ◌∙◌, get_or, set, slice_get, subst, inl, inr, swap_remove}
+use Rattle.std.proofs.lemmas.Bool.{cases_eq, false≢true}
+use Rattle.rlsf_model_global.specs.Rows.{Row, key, row_at, put, without_row}
+use Rattle.rlsf_model_global.proofs.Rows.{without_row-sorted}
+use Rattle.rlsf_model_global.proofs.Maps.{row_at-without_here, row_at-without_other}
+use Rattle.rlsf_global.proofs.ListElements.{get-some}
+use Rattle.rlsf_global.proofs.HintedRows.{hinted-set}
+use Rattle.rlsf_global.proofs.RowsInOrder.{row_at-some, row_at-in_order, in_order-sorted, same_rows, in_order-swap_remove, apart-swap_remove, in_order-set, apart-set}
+use Rattle.rlsf_global.specs.LiveRows.{AreApart, AreHinted, IsIndexed, IsRowAt, in_order}
+
+pub none_indexed : (base : ℕ) (hints : List (List ℕ)) → IsIndexed base [] hints true
+unfolding AreApart AreHinted
+none_indexed base hints = record { apart = λ i j r s h g same. absurd (cc); hinted = λ _ i r h. absurd (cc) }
+
+module _ (rows : List Row) (addr : ℕ) where
+  pub row_none : row_at addr rows ≡ None → None ≡ row_at addr (in_order rows)
+  row_none none = sym (row_at-in_order addr rows ∙ none)
+
+  pub not_live : {X : Type 0} → row_at addr rows ≡ None → IsSome (row_at addr (in_order rows)) → X
+  not_live none live = absurd (false≢true (rw (row_at-in_order addr rows ∙ none) at live))
+
+  pub without_none : AreApart rows → row_at addr rows ≡ None → in_order rows ≡ without_row addr (in_order rows)
+  without_none apart none =
+      let sorted = in_order-sorted rows apart in
+      same_rows _ _ sorted (without_row-sorted addr (in_order rows) sorted) (λ a. elim (cases_eq a addr) [
+        | inl same ↦
+            ap (λ b. row_at b (in_order rows)) same ∙ row_at-in_order addr rows ∙ none
+            ∙ sym (ap (λ b. row_at b (without_row addr (in_order rows))) same ∙ row_at-without_here addr (in_order rows))
+        | inr off ↦ sym (row_at-without_other addr (in_order rows) a off)
+      ])
+
+  module _ (apart : AreApart rows) (i : ℕ) (row : Row) (found : IsRowAt rows addr i) (read : row ≡ get_or rows i row) where
+    pub stands : slice_get rows i ≡ Some row
+    stands = get-some rows i row found.in_range ∙ ap Some (sym read)
+
+    pub has_key : key row ≡ addr
+    has_key = ap key read ∙ found.here row
+
+    pub row_found : Some row ≡ row_at addr (in_order rows)
+    row_found = sym (row_at-in_order addr rows ∙ row_at-some addr rows i row apart stands has_key)
+
+    pub taken_out : (d : Row) → in_order (swap_remove rows i d) ≡ without_row addr (in_order rows)
+    taken_out d = subst (λ a. in_order (swap_remove rows i d) ≡ without_row a (in_order rows)) has_key (in_order-swap_remove rows apart i row d stands)
+
+    pub taken_apart : (d : Row) → AreApart (swap_remove rows i d)
+    taken_apart d = apart-swap_remove rows apart i row d stands
+
+    pub replaced : (new : Row) → key new ≡ addr → in_order (set rows i new) ≡ put new (without_row (key new) (in_order rows))
+    replaced new same = in_order-set rows apart i row new stands (same ∙ sym has_key)
+
+    pub replaced_apart : (new : Row) → key new ≡ addr → AreApart (set rows i new)
+    replaced_apart new same = apart-set rows apart i row new stands (same ∙ sym has_key)
+
+    pub replaced_hinted : (base : ℕ) (hints : List (List ℕ)) (new : Row) → key new ≡ addr → AreHinted base rows hints → AreHinted base (set rows i new) hints
+    replaced_hinted base hints new same hinted = hinted-set base rows i row new hints stands (same ∙ sym has_key) hinted

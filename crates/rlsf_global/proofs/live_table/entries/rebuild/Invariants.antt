@@ -1,0 +1,6 @@
+use Rattle.std.proofs.Common.{take}
+use Rattle.rlsf_global.specs.LiveRows.{AreHinted}
+use Rattle.rlsf_global.proofs.live_table.entries.rebuild.Given as goal
+
+abbrev pub invariant-loop-i : goal.invariant-loop-i
+invariant-loop-i l = AreHinted l.base (take l.i l.rows) l.hints
