@@ -2,8 +2,8 @@
 //!
 //! `answers.rt` has the assertions. `steps.rt` has calls as tables, which `locked.rt` and `shared.rt` make. `growth.rt` and
 //! `alignments.rt` have more of them through the lock. `blocks.rt`, `pages.rt` and `payloads.rt` test the layout, the source and the
-//! bytes. `originals.rt` has the original's random tests, with their tables below. `threads.rt` has threads, and `journal.rt` the
-//! tests of journals.
+//! bytes, and `live_table.rt` the table. `originals.rt` has the original's random tests, with their tables below. `threads.rt` has
+//! threads, and `journal.rt` the tests of journals.
 #![tactic(auto)]
 
 #[cfg(test)]
@@ -16,6 +16,8 @@ mod blocks;
 mod growth;
 #[cfg(test)]
 mod journal;
+#[cfg(test)]
+mod live_table;
 #[cfg(test)]
 mod locked;
 #[cfg(test)]

@@ -70,7 +70,7 @@ fn wrong_step<Options: GlobalTlsfOptions>(alloc: Global, run: Run) -> Option<usi
 }
 
 /// Passes if each step of each run has its expected result.
-fn all_go_so<Options: GlobalTlsfOptions>(rt: &impl Abort, alloc: Global, runs: &[Run]) {
+pub fn all_go_so<Options: GlobalTlsfOptions>(rt: &impl Abort, alloc: Global, runs: &[Run]) {
     for run in runs {
         none_is_wrong(rt, wrong_step::<Options>(alloc, *run));
     }
