@@ -119,3 +119,6 @@ Ticket-send =
     let O = Ticket.the_type in let all : AllSend (fields O) = (search sendable, tt) in
     owning_send O all (λ d. entry_keyless entry_shares d.name d.key (three_quarters, extent d.addr d.len d.align))
     (λ k. quiet (to O) (exits_of k (fields O)) ((struct_send (shape O) all).leaving k))
+
+pub Ticket-sync : IsSync Ticket.the_row
+Ticket-sync = record { shared = λ d b o κ q. part_keyless Ticket.the_row Ticket-send q d b o }

@@ -1,6 +1,8 @@
 -- A run of bytes that grows by one, and what each byte is then.
-use Rattle.std.proofs.Common.{◌≡◌, ℕ, ◌+◌, ◌<◌, inl, inr, List, [], ◌∷◌, ◌++◌, length, take, drop, slice_index, replicate, arith, ap, ◌∙◌}
+use Rattle.std.proofs.Common.{◌≡◌, ℕ, ◌+◌, ◌-◌, ◌<◌, ◌≤◌, inl, inr, List, [], ◌∷◌, ◌++◌, length, take, drop, slice_index, replicate, arith, ap, sym, ◌∙◌}
 use Rattle.std.proofs.lemmas.Bool.{cases_lt}
+use Rattle.std.proofs.lemmas.List.{append_assoc, take_at}
+use Rattle.std.proofs.lemmas.Slice.{drop-append-drop}
 use Rattle.std.proofs.lemmas.Grind.{common_steps}
 use Rattle.std.specs.List.{splice}
 use Rattle.rlsf_base.specs.Out.{Change, raw, is_own}
@@ -22,6 +24,23 @@ none_own k = ap is_own (none-out k)
 pub filled : (old : List ℕ) (i value : ℕ) → i < length old
     → splice (replicate i value ++ drop i old) i (i + 1) (value ∷ []) ≡ replicate (i + 1) value ++ drop (i + 1) old
 filled old i value in_row = grind (arith, common_steps)
+
+pub long_filled : (old : List ℕ) (from i value : ℕ) → from ≤ i → i ≤ length old → length (take from old ++ replicate (i - from) value) ≡ i
+long_filled old from i value behind in_row = grind (arith, common_steps)
+
+once_more : (n value : ℕ) → replicate n value ++ (value ∷ []) ≡ replicate (n + 1) value
+once_more n value = grind (arith, common_steps)
+
+pub filled-from : (old : List ℕ) (from i value : ℕ) → from ≤ i → i < length old
+    → splice (take from old ++ (replicate (i - from) value ++ drop i old)) i (i + 1) (value ∷ []) ≡ take from old ++ (replicate (i + 1 - from) value ++ drop (i + 1) old)
+filled-from old from i value behind in_row =
+    let front : List ℕ = take from old in let now : List ℕ = replicate (i - from) value in let rest : List ℕ = drop (i + 1) old in
+    let long : length (front ++ now) ≡ i = long_filled old from i value behind (omega (arith, in_row)) in
+    let more : i - from + 1 ≡ i + 1 - from = omega (arith, behind) in
+    let next : now ++ (value ∷ []) ≡ replicate (i + 1 - from) value = once_more (i - from) value ∙ ap (λ n. replicate n value) more in
+    (λ k. splice (sym (append_assoc front now (drop i old)) k) i (i + 1) (value ∷ []))
+    ∙ (λ k. take_at (front ++ now) (drop i old) i long k ++ (value ∷ drop-append-drop i old (front ++ now) (i + 1) (omega arith) long k))
+    ∙ append_assoc front now (value ∷ rest) ∙ (λ k. front ++ sym (append_assoc now (value ∷ []) rest) k) ∙ (λ k. front ++ (next k ++ rest))
 
 pub grows : (cs : List Change) (i : ℕ) → IsIn cs 0 i → IsIn (came_back i 1 cs) 0 (i + 1)
 grows cs i was k lo hi = elim (cases_lt k i) [

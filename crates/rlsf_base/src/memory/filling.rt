@@ -1,6 +1,6 @@
 //! Fills a block's bytes with one value.
-ghost use Rattle.std.specs.Prelude.{◌≡◌, ◌+◌, ◌^◌, ◌<◌, [], length, replicate};
-ghost use Rattle.rlsf_base.specs.Changes.{IsOwn};
+ghost use Rattle.std.specs.Prelude.{◌≡◌, ◌+◌, ◌-◌, ◌^◌, ◌<◌, ◌≤◌, ◌++◌, [], length, replicate, take};
+ghost use Rattle.rlsf_base.specs.Changes.{IsIn, IsOwn};
 ghost use Rattle.rlsf_base.specs.Steps.Owners.{Becomes};
 
 use super::block::{Base, Bytes};
@@ -12,6 +12,26 @@ pub(crate) fn fill_bytes(bytes: &mut Bytes, base: Base, place: usize, len: usize
     ensures { Becomes bytes.old bytes.new (replicate len value) [] }
 {
     for index in 0..len {
+        bytes.write(base, place + index, value);
+    }
+    bytes.settle();
+}
+
+/// Writes `value` to each of the `len` bytes from index `from` on. The bytes begin at the place `place` of the block. None may be out, and
+/// those before `from` must be here. All are then here.
+pub(crate) fn fill_bytes_from(
+    bytes: &mut Bytes,
+    base: Base,
+    place: usize,
+    len: usize,
+    from: usize,
+    value: u8,
+)
+    requires own { (base.ptr ≡ bytes.old.at) × (bytes.old.skip ≡ place) × (length bytes.old.bytes ≡ len) × IsOwn bytes.old.out 0 len × (place + len < 2 ^ 63) }
+    requires kept { (from ≤ len) × IsIn bytes.old.out 0 from }
+    ensures { Becomes bytes.old bytes.new (take from bytes.old.bytes ++ replicate (len - from) value) [] }
+{
+    for index in from..len {
         bytes.write(base, place + index, value);
     }
     bytes.settle();

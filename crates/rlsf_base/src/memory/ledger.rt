@@ -7,7 +7,7 @@ use super::block::{Bytes, Units};
 use super::unit_payload::UnitPayload;
 use super::unit_tail::UnitTail;
 use super::view::View;
-use std::marker::{Model, PhantomData, Send};
+use std::marker::{Model, PhantomData, Send, Sync};
 
 /// The list of all tickets that were issued, and which of them are live: not yet redeemed. It takes no space.
 ///
@@ -23,7 +23,7 @@ impl Model for Ledger {
 }
 
 /// The proof that a payload is out, at the address, and of the length and alignment, that the ticket was issued for. It
-/// can't be copied, and it is `Send`. It takes no space.
+/// can't be copied, and it is `Send` and `Sync`. It takes no space.
 ///
 /// Dropping a ticket leaks it: its entry in the ledger stays live.
 pub struct Ticket {
@@ -54,6 +54,8 @@ impl Drop for Ticket {
 unsafe impl Send for Ledger {}
 
 unsafe impl Send for Ticket {}
+
+unsafe impl Sync for Ticket {}
 
 impl Ledger {
     /// Creates a ledger that has issued no tickets.

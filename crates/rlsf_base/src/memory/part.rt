@@ -1,6 +1,7 @@
 //! Bytes of a memory that left it: how they leave, and come back.
-ghost use Rattle.std.specs.Prelude.{◌≡◌, ◌≤◌, ℕ, List, length, replicate};
+ghost use Rattle.std.specs.Prelude.{◌≡◌, ◌≤◌, ◌-◌, ◌++◌, ℕ, List, length, replicate, take};
 ghost use Rattle.std.specs.Borrow.{sem};
+ghost use Rattle.rlsf_base.specs.Changes.{IsIn};
 ghost use Rattle.rlsf_base.specs.OpenSpace.{HasUnits, home_of, IsAway, IsHere, IsOwned, StaysHere, StaysHereBeside, StaysOwnBeside, out_raw, out_with, out_without};
 ghost use Rattle.rlsf_base.specs.Piece.{piece_range, unit_range, HasStatesOf, IsFull, IsUnits};
 ghost use Rattle.rlsf_base.specs.declared.memory.range.Range.{Range};
@@ -8,7 +9,7 @@ ghost use Rattle.rlsf_base.specs.Range.{AreApart, LiesIn};
 ghost use Rattle.rlsf_base.specs.Space.{bytes_in, with_bytes};
 
 use super::block::{Bytes, Units};
-use super::filling::fill_bytes;
+use super::filling::{fill_bytes, fill_bytes_from};
 use super::open_memory::OpenMemory;
 use super::range::Range;
 use super::view::View;
@@ -142,6 +143,22 @@ impl Part {
         let view = self.view;
         let place = view.place(self.range.start);
         fill_bytes(&mut self.bytes, view.base, place, self.range.len, value);
+    }
+
+    /// Writes `value` to each byte from index `from` on. The bytes before must be here, and keep their values. All are then here.
+    /// The address and the length don't change.
+    pub fn fill_from(&mut self, from: usize, value: u8)
+        requires place { from ≤ length self.old.bytes }
+        requires kept { IsIn self.old.out 0 from }
+        ensures bytes { self.new.bytes ≡ take from self.old.bytes ++ replicate (length self.old.bytes - from) value }
+        ensures full { IsFull self.new }
+        ensures home { self.new.home ≡ self.old.home }
+        ensures start { self.new.start ≡ self.old.start }
+    {
+        let view = self.view;
+        let place = view.place(self.range.start);
+        let len = self.range.len;
+        fill_bytes_from(&mut self.bytes, view.base, place, len, from, value);
     }
 }
 
