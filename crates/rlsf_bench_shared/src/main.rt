@@ -8,8 +8,7 @@ mod steps;
 
 use rlsf_base::memory::{OpenMemory, Range};
 use rlsf_bench_common::{BenchError, Load, exit_of, load_of};
-use rlsf_heap::Heap;
-use rlsf_shared_heap::SharedHeap;
+use rlsf_heap::{Heap, SharedHeap};
 use std::alloc::{AllocError, Global};
 use std::process::ExitCode;
 use std::rt::Env;

@@ -7,6 +7,9 @@ pub mod HandedOver
 pub mod Kept
 pub mod Leaving
 pub mod LiveCounts
+mod LockCrosses
+mod LockLives
+mod LockRows
 pub mod MovedThin
 pub mod OwnedBytes
 pub mod PayloadsApart

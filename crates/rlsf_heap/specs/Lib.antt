@@ -3,12 +3,16 @@ pub mod Heap
 pub mod Handover
 pub mod Kept
 pub mod Lends
+pub mod Locks
+pub mod Nameless
 pub mod Reallocation
 pub mod Pools
 pub mod Raw
 pub mod Renewed
 pub mod Replies
 pub mod Settled
+pub mod Shared
+pub mod SharedReallocation
 pub mod Thin
 pub mod ThinReplies
 pub mod ThinInPlace

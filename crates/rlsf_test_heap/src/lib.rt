@@ -1,4 +1,4 @@
-//! Tests of `rlsf_heap`, `rlsf_local_heap` and `rlsf_shared_heap`. This crate has no other code, so that these three are proved once.
+//! Tests of `rlsf_heap` and `rlsf_local_heap`. This crate has no other code, so that these two are proved once.
 //!
 //! In reading order: `answers` has the assertions; `pair` and `growing` are programs without a proof file; `rows` and `resized_rows`
 //! compare the addresses of payloads with worked examples, as tables of steps; `ends` shows that a dropped heap deallocates its
