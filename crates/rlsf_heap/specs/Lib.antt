@@ -12,6 +12,7 @@ pub mod Renewed
 pub mod Replies
 pub mod Settled
 pub mod Shared
+pub mod SharedLends
 pub mod SharedReallocation
 pub mod Thin
 pub mod ThinReplies

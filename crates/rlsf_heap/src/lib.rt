@@ -30,5 +30,5 @@ mod usable;
 pub use heap::Heap;
 pub use payload::Payload;
 pub use raw::RawPayload;
-pub use shared::SharedHeap;
+pub use shared::{FreedOnDrop, SharedHeap, SharedPayload, ThreadHeap};
 pub use thin::ThinPayload;

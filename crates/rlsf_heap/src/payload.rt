@@ -1,6 +1,7 @@
 //! Payloads that left the memory of a heap.
-ghost use Rattle.std.specs.Prelude.{◌≡◌, ℕ, List, length, replicate};
+ghost use Rattle.std.specs.Prelude.{◌≡◌, ◌-◌, ◌≤◌, ◌++◌, ℕ, List, length, replicate, take};
 ghost use Rattle.std.specs.Borrow.{sem};
+ghost use Rattle.rlsf_base.specs.Changes.{IsIn};
 ghost use Rattle.rlsf_heap.specs.Heap.{IsWritten};
 
 use rlsf_base::memory::Part;
@@ -9,8 +10,8 @@ use std::marker::Model;
 
 /// A payload that left the memory of its heap. It owns its bytes, and the right to deallocate them.
 ///
-/// Each byte is here, with a value, or raw, without one. `deallocate` of its heap takes it back. It is `Send`, so it can
-/// cross to another thread. Dropping a payload leaks it: it stays live, and its bytes are never deallocated.
+/// Each byte is here, with a value, or raw, without one. `deallocate` of its heap takes it back. It is `Send` and `Sync`,
+/// so it can cross to another thread. Dropping a payload leaks it: it stays live, and its bytes are never deallocated.
 pub struct Payload {
     pub(crate) part: Part,
     pub(crate) align: usize,
@@ -107,6 +108,19 @@ impl Payload {
         ensures align { self.new.align ≡ self.old.align }
     {
         self.part.fill(value);
+    }
+
+    // Writes `value` to each byte from index `from` on. The bytes before must be here, and keep their values. All are then here.
+    pub(crate) fn fill_from(&mut self, from: usize, value: u8)
+        requires place { from ≤ length self.old.bytes }
+        requires kept { IsIn self.old.out 0 from }
+        ensures bytes { self.new.bytes ≡ take from self.old.bytes ++ replicate (length self.old.bytes - from) value }
+        ensures written { IsWritten self.new }
+        ensures identity { self.new.identity ≡ self.old.identity }
+        ensures start { self.new.start ≡ self.old.start }
+        ensures align { self.new.align ≡ self.old.align }
+    {
+        self.part.fill_from(from, value);
     }
 }
 

@@ -10,10 +10,12 @@ ghost use Rattle.rlsf_heap.specs.SharedReallocation.{IsReallocation};
 mod calls;
 mod held;
 mod lock;
+mod payload;
 
 use crate::heap::Heap;
 use crate::payload::Payload;
 use lock::Lock;
+pub use payload::{FreedOnDrop, SharedPayload, ThreadHeap};
 use rlsf_base::memory::Layout;
 use rlsf_int::BitPattern;
 use std::marker::{Brand, Model};
@@ -90,6 +92,38 @@ impl<FLBitmap: BitPattern, SLBitmap: BitPattern, const FLLEN: usize, const SLLEN
         calls::allocate_zeroed::<Heap<FLBitmap, SLBitmap, FLLEN, SLLEN>, Brand, R>(
             &self.lock, rt, layout,
         )
+    }
+
+    /// Allocates a payload for `layout`, as `allocate_zeroed` does, and returns it with a reference to this heap. Returns `None` if the
+    /// heap does. No clause says when.
+    pub fn allocate_shared<R: Wait>(
+        &self,
+        rt: &R,
+        layout: Layout,
+    ) -> Option<SharedPayload<'_, SharedHeap<FLBitmap, SLBitmap, FLLEN, SLLEN>>>
+        ensures payload { IfSome result (λ p. p.identity ≡ self.now.identity) }
+        ensures zeros { IfSome result (λ p. p.bytes ≡ replicate (length p.bytes) 0) }
+        ensures align { IfSome result (λ p. p.align ≡ layout.align) }
+        ensures aligned { IfSome result (λ p. p.start % layout.align ≡ 0) }
+        ensures sized { IfSome result (λ p. layout.size ≤ length p.bytes) }
+        ensures few { IfSome result (λ p. length p.bytes < layout.size + 32) }
+    {
+        let payload = self.allocate_zeroed(rt, layout)?;
+        Some(SharedPayload::new(self, payload))
+    }
+
+    /// Returns a payload with a reference to this heap.
+    ///
+    /// The payload must be one of this heap, and its bytes must be here.
+    pub fn adopt(
+        &self,
+        payload: Payload,
+    ) -> SharedPayload<'_, SharedHeap<FLBitmap, SLBitmap, FLLEN, SLLEN>>
+        requires heap { payload.identity ≡ self.now.identity }
+        requires written { IsWritten payload }
+        ensures { result ≡ payload }
+    {
+        SharedPayload::new(self, payload)
     }
 
     /// Deallocates a payload, as `Heap::deallocate` does.
