@@ -1,11 +1,15 @@
 //! What a run over a source answers follows what was there already. What each op answers, each refusal, ranges that grow and trims
 //! are stored runs of `rlsf_compare_model_flex` (`listed_runs.py`).
 
+ghost use Rattle.std.specs.Prelude.{◌≡◌};
+ghost use Rattle.rlsf_model.specs.FlexState.{empty};
+
 use crate::heaps::all;
 use crate::sources::parts;
 use rlsf_base::memory::{Layout, Range};
 use rlsf_flex::FlexTlsf;
-use rlsf_source_for_tests::{Capabilities, Question, SourceAnswer};
+use rlsf_int::BitPattern;
+use rlsf_source_for_tests::{Capabilities, ListedSource, Question, SourceAnswer};
 use rlsf_trace_flex_runs::run_flex;
 use rlsf_trace_text::{Answer, Op, TraceError};
 use std::alloc::Global;
@@ -25,6 +29,9 @@ const RANGE: Range = Range {
     len: 96,
 };
 
+/// What it answers.
+static GIVEN: [SourceAnswer; 2] = [SourceAnswer::Range(RANGE), SourceAnswer::Len(159)];
+
 /// What it is asked by the ops below.
 static ASKED: [Question; 2] = [
     Question::Alloc(96, Some(RANGE)),
@@ -35,23 +42,49 @@ fn placed(addr: usize) -> Answer {
     Answer::Placed(NonZeroUsize::new(addr))
 }
 
-/// Whether a run adds its answers behind one that was there, and the source is asked what it should be. `None` if the system is
-/// out of memory.
-fn answers_follow(alloc: Global) -> Option<bool> {
-    let given = [SourceAnswer::Range(RANGE), SourceAnswer::Len(159)];
-    let (memory, source) = parts(alloc, GROWING, &given)?;
-    let mut flex = FlexTlsf::<_, u64, u64, 59, 8>::new(memory, source);
+/// Whether a run of two allocations of one byte adds these addresses behind an answer that was there, and the source is asked what it
+/// should be. `None` if the system is out of memory.
+fn answers_follow<
+    FLBitmap: BitPattern,
+    SLBitmap: BitPattern,
+    const FLLEN: usize,
+    const SLLEN: usize,
+>(
+    alloc: Global,
+    flex: &mut FlexTlsf<ListedSource, FLBitmap, SLBitmap, FLLEN, SLLEN>,
+    addresses: (usize, usize),
+) -> Option<bool>
+    requires { flex.old.state ≡ empty }
+{
     let layout = Layout::from_size_align_unchecked(1, 1);
     let ops = [Op::Alloc(1, layout), Op::Alloc(2, layout)];
     let there = Answer::Refused(TraceError::UnknownName);
+    let wanted = [there, placed(addresses.0), placed(addresses.1)];
     let mut answers = Vec::new(alloc);
     answers.push(there).ok()?;
-    run_flex(alloc, &mut flex, &ops, &mut answers).ok()?;
-    let are_right = answers.as_slice() == [there, placed(4144), placed(4176)].as_slice();
-    Some(are_right && flex.source_ref().asked() == ASKED.as_slice())
+    run_flex(alloc, flex, &ops, &mut answers).ok()?;
+    Some(answers.as_slice() == wanted.as_slice() && flex.source_ref().asked() == ASKED.as_slice())
+}
+
+/// Whether that is so if chunks have a greatest length: what the range grows by is a chunk, which has the second payload.
+fn with_a_greatest_length(alloc: Global) -> Option<bool> {
+    let (memory, source) = parts(alloc, GROWING, &GIVEN)?;
+    let mut flex = FlexTlsf::<_, u16, u16, 12, 16>::new(memory, source);
+    answers_follow(alloc, &mut flex, (4144, 4208))
+}
+
+/// Whether that is so if chunks have any length: the chunk grows, and the second payload is behind the first.
+fn with_any_length(alloc: Global) -> Option<bool> {
+    let (memory, source) = parts(alloc, GROWING, &GIVEN)?;
+    let mut flex = FlexTlsf::<_, u64, u64, 59, 8>::new(memory, source);
+    answers_follow(alloc, &mut flex, (4144, 4176))
 }
 
 #[test]
 fn answers_follow_those_already_there(rt: HostRuntime) {
-    all(&rt, &[answers_follow(rt.alloc()) == Some(true)]);
+    let answers = [
+        with_a_greatest_length(rt.alloc()) == Some(true),
+        with_any_length(rt.alloc()) == Some(true),
+    ];
+    all(&rt, &answers);
 }
