@@ -40,6 +40,11 @@ extern "C" {
 #define RLSF_VERSION "0.1.0"
 #define RLSF_MALLOC_VERSION RLSF_VERSION
 
+/* How the functions of this header are defined. The shared library has them as functions of its own. */
+#ifndef RLSF_INLINE
+#define RLSF_INLINE static inline
+#endif
+
 /* Kinds of heaps. A small heap has 12 first-level rows of 16 size classes, for payloads of at most 126,960 bytes. A large heap has 64 rows of 64
  * classes, for payloads of all sizes; its choice of blocks is finer. */
 #define RLSF_SMALL ((size_t)1)
@@ -116,13 +121,13 @@ typedef union {
 } rlsf_large_handle;
 
 /* Returns the size of a handle of a kind in bytes, or 0 if there is no such kind. */
-static inline size_t rlsf_heap_size(size_t kind) {
+RLSF_INLINE size_t rlsf_heap_size(size_t kind) {
     return kind == RLSF_SMALL ? RLSF_SMALL_HEAP_SIZE : kind == RLSF_LARGE ? RLSF_LARGE_HEAP_SIZE : 0;
 }
 
 /* Returns a number of the words above and of the three behind them, which say where the exported functions find the memory: it is another
  * one if a bit of one word is another. */
-static inline size_t rlsf_heap_sum(const rlsf_heap *heap) {
+RLSF_INLINE size_t rlsf_heap_sum(const rlsf_heap *heap) {
     const size_t *behind = (const size_t *)(heap + 1);
     size_t sum = heap->kind;
     sum = 31 * sum + heap->start;
@@ -138,7 +143,7 @@ static inline size_t rlsf_heap_sum(const rlsf_heap *heap) {
 }
 
 /* Adds the `len` bytes at `memory` as the last pool, and returns what rlsf_heap_add does. */
-static inline size_t rlsf_heap_add_last(rlsf_heap *heap, void *memory, size_t len) {
+RLSF_INLINE size_t rlsf_heap_add_last(rlsf_heap *heap, void *memory, size_t len) {
     size_t taken = heap->kind == RLSF_SMALL ? rlsf_small_add(heap + 1, (size_t)memory, len) : rlsf_large_add(heap + 1, (size_t)memory, len);
     if (taken) {
         heap->start = (size_t)memory;
@@ -151,7 +156,7 @@ static inline size_t rlsf_heap_add_last(rlsf_heap *heap, void *memory, size_t le
  * accesses for each 128 KiB. Returns the number of bytes from `memory` to the end of the pool, or 0 if there are too few bytes.
  *
  * The bytes must lie in the heap's memory, and no byte may be one that was added before: rlsf_heap_try_add tests this. */
-static inline size_t rlsf_heap_add(rlsf_heap *heap, void *memory, size_t len) {
+RLSF_INLINE size_t rlsf_heap_add(rlsf_heap *heap, void *memory, size_t len) {
     size_t taken = rlsf_heap_add_last(heap, memory, len), end = (size_t)memory + taken;
     if (!taken) return 0;
     if (heap->low == heap->high || (size_t)memory < heap->low) heap->low = (size_t)memory;
@@ -170,7 +175,7 @@ typedef enum rlsf_add_error {
 
 /* Adds the `len` bytes at `memory` as a pool, of which `part` has the place and the length afterwards. After an error nothing has changed;
  * if more than one applies, the call returns the first. The time grows with the number of pools. */
-static inline rlsf_add_error rlsf_heap_try_add(rlsf_heap *heap, rlsf_part *part, void *memory, size_t len) {
+RLSF_INLINE rlsf_add_error rlsf_heap_try_add(rlsf_heap *heap, rlsf_part *part, void *memory, size_t len) {
     size_t start = (size_t)memory, end = start + len, taken;
     const rlsf_part *other;
     if (start < heap->memory || len > heap->size || start - heap->memory > heap->size - len) return RLSF_ADD_OUTSIDE;
@@ -192,7 +197,7 @@ static inline rlsf_add_error rlsf_heap_try_add(rlsf_heap *heap, rlsf_part *part,
  *
  * Returns NULL exactly if there is no such kind or `len` is below 16; then nothing changes. The handle has rlsf_heap_size(kind) bytes and
  * is aligned to 8. `memory` isn't NULL, and `len` is below 2^59. */
-static inline rlsf_heap *rlsf_heap_begin(void *handle, size_t kind, void *memory, size_t len) {
+RLSF_INLINE rlsf_heap *rlsf_heap_begin(void *handle, size_t kind, void *memory, size_t len) {
     rlsf_heap *heap = (rlsf_heap *)handle;
     size_t skipped = (0 - (size_t)memory) % 16;
     if (len < 16) return NULL;
@@ -214,7 +219,7 @@ static inline rlsf_heap *rlsf_heap_begin(void *handle, size_t kind, void *memory
 
 /* Creates a heap at a handle, over the `len` bytes at `memory`, which become a pool, but for some bytes at both ends. It is rlsf_heap_begin and rlsf_heap_add.
  * Returns NULL exactly if rlsf_heap_begin does. */
-static inline rlsf_heap *rlsf_heap_init(void *handle, size_t kind, void *memory, size_t len) {
+RLSF_INLINE rlsf_heap *rlsf_heap_init(void *handle, size_t kind, void *memory, size_t len) {
     rlsf_heap *heap = rlsf_heap_begin(handle, kind, memory, len);
     size_t skipped = (0 - (size_t)memory) % 16;
     if (heap) rlsf_heap_add(heap, (char *)memory + skipped, len - skipped);
@@ -223,7 +228,7 @@ static inline rlsf_heap *rlsf_heap_init(void *handle, size_t kind, void *memory,
 
 /* Ends a heap. Its memory and its handle are the caller's again. The bytes of payloads keep their values. The proof is about heaps of which no
  * payload is live: the others' bytes were their callers' all the time. */
-static inline void rlsf_heap_end(rlsf_heap *heap) {
+RLSF_INLINE void rlsf_heap_end(rlsf_heap *heap) {
     if (heap->kind == RLSF_SMALL)
         rlsf_small_end(heap + 1);
     else
@@ -236,25 +241,25 @@ static inline void rlsf_heap_end(rlsf_heap *heap) {
  * Returns NULL exactly in these cases, and then nothing changes:
  *   - `align` is above 16 and no power of two, or `size` is above 2^63 - align.
  *   - No free block has a class that reaches the sought size (docs/SIZING.md). */
-static inline void *rlsf_aligned_alloc(rlsf_heap *heap, size_t align, size_t size) {
+RLSF_INLINE void *rlsf_aligned_alloc(rlsf_heap *heap, size_t align, size_t size) {
     return (void *)(heap->kind == RLSF_SMALL ? rlsf_small_allocate(heap + 1, size, align) : rlsf_large_allocate(heap + 1, size, align));
 }
 
 /* Allocates a payload, as rlsf_aligned_alloc does with an alignment of 16. */
-static inline void *rlsf_malloc(rlsf_heap *heap, size_t size) {
+RLSF_INLINE void *rlsf_malloc(rlsf_heap *heap, size_t size) {
     return (void *)(heap->kind == RLSF_SMALL ? rlsf_small_malloc(heap + 1, size) : rlsf_large_malloc(heap + 1, size));
 }
 
 /* Allocates a payload of `count * size` bytes and less than 32 more, at a multiple of 16. All of them are zeros.
  *
  * Returns NULL exactly if rlsf_malloc of `count * size` bytes does, and if that product is no size_t. */
-static inline void *rlsf_calloc(rlsf_heap *heap, size_t count, size_t size) {
+RLSF_INLINE void *rlsf_calloc(rlsf_heap *heap, size_t count, size_t size) {
     return (void *)(heap->kind == RLSF_SMALL ? rlsf_small_allocate_zeroed(heap + 1, count, size)
                                              : rlsf_large_allocate_zeroed(heap + 1, count, size));
 }
 
 /* Deallocates a payload. All other payloads and their bytes are unchanged. Does nothing if `payload` is NULL. */
-static inline void rlsf_free(rlsf_heap *heap, void *payload) {
+RLSF_INLINE void rlsf_free(rlsf_heap *heap, void *payload) {
     if (heap->kind == RLSF_SMALL)
         rlsf_small_free(heap + 1, (size_t)payload);
     else
@@ -270,7 +275,7 @@ static inline void rlsf_free(rlsf_heap *heap, void *payload) {
  * rlsf_aligned_realloc keeps the alignment.
  *
  * Returns NULL exactly if `size` is above 2^63 - 16 or there is no room. Then nothing changes, and `payload` is still live. */
-static inline void *rlsf_realloc(rlsf_heap *heap, void *payload, size_t size) {
+RLSF_INLINE void *rlsf_realloc(rlsf_heap *heap, void *payload, size_t size) {
     return (void *)(heap->kind == RLSF_SMALL ? rlsf_small_reallocate(heap + 1, (size_t)payload, size)
                                              : rlsf_large_reallocate(heap + 1, (size_t)payload, size));
 }
@@ -280,7 +285,7 @@ static inline void *rlsf_realloc(rlsf_heap *heap, void *payload, size_t size) {
  * below 16 counts as 16.
  *
  * Returns NULL exactly if `size` is above 2^63 - align or there is no room. Then nothing changes, and `payload` is still live. */
-static inline void *rlsf_aligned_realloc(rlsf_heap *heap, void *payload, size_t align, size_t size) {
+RLSF_INLINE void *rlsf_aligned_realloc(rlsf_heap *heap, void *payload, size_t align, size_t size) {
     return (void *)(heap->kind == RLSF_SMALL ? rlsf_small_reallocate_aligned(heap + 1, (size_t)payload, size, align)
                                              : rlsf_large_reallocate_aligned(heap + 1, (size_t)payload, size, align));
 }
@@ -288,19 +293,19 @@ static inline void *rlsf_aligned_realloc(rlsf_heap *heap, void *payload, size_t 
 /* Changes the size of a payload as rlsf_realloc does, without moving it. Returns `payload`.
  *
  * Returns NULL exactly if rlsf_realloc would move it or return NULL, or if `payload` is NULL. Then nothing changes. */
-static inline void *rlsf_realloc_in_place(rlsf_heap *heap, void *payload, size_t size) {
+RLSF_INLINE void *rlsf_realloc_in_place(rlsf_heap *heap, void *payload, size_t size) {
     return (void *)(heap->kind == RLSF_SMALL ? rlsf_small_reallocate_in_place(heap + 1, (size_t)payload, size)
                                              : rlsf_large_reallocate_in_place(heap + 1, (size_t)payload, size));
 }
 
 /* Returns the number of bytes of a payload, from its pointer on, that may be read and written; or 0 if `payload` is NULL. */
-static inline size_t rlsf_usable_size(const rlsf_heap *heap, const void *payload) {
+RLSF_INLINE size_t rlsf_usable_size(const rlsf_heap *heap, const void *payload) {
     return heap->kind == RLSF_SMALL ? rlsf_small_usable((void *)(heap + 1), (size_t)payload) : rlsf_large_usable((void *)(heap + 1), (size_t)payload);
 }
 
 /* Returns the totals of the blocks of the last pool: the one that rlsf_heap_init or the last successful rlsf_heap_add made. The time grows
  * with the number of these blocks. */
-static inline rlsf_totals rlsf_heap_stats(const rlsf_heap *heap) {
+RLSF_INLINE rlsf_totals rlsf_heap_stats(const rlsf_heap *heap) {
     return heap->kind == RLSF_SMALL ? rlsf_small_stats((void *)(heap + 1), heap->start, heap->len)
                                     : rlsf_large_stats((void *)(heap + 1), heap->start, heap->len);
 }
@@ -308,7 +313,7 @@ static inline rlsf_totals rlsf_heap_stats(const rlsf_heap *heap) {
 /* Returns the totals of the blocks of any pool. The time grows with the number of these blocks.
  *
  * The pool is one that rlsf_heap_add made of `memory`, and `len` is what it returned. */
-static inline rlsf_totals rlsf_heap_pool_stats(const rlsf_heap *heap, const void *memory, size_t len) {
+RLSF_INLINE rlsf_totals rlsf_heap_pool_stats(const rlsf_heap *heap, const void *memory, size_t len) {
     return heap->kind == RLSF_SMALL ? rlsf_small_stats((void *)(heap + 1), (size_t)memory, len)
                                     : rlsf_large_stats((void *)(heap + 1), (size_t)memory, len);
 }
@@ -318,7 +323,7 @@ static inline rlsf_totals rlsf_heap_pool_stats(const rlsf_heap *heap, const void
  * `from`. The time grows with the number of blocks up to the last listed one.
  *
  * The pool is one that rlsf_heap_add made of `memory`, and `len` is what it returned; or the last pool, if `memory` is NULL. */
-static inline size_t rlsf_heap_walk(const rlsf_heap *heap, const void *memory, size_t len, const void *from, rlsf_span *blocks, size_t count) {
+RLSF_INLINE size_t rlsf_heap_walk(const rlsf_heap *heap, const void *memory, size_t len, const void *from, rlsf_span *blocks, size_t count) {
     size_t start = memory ? (size_t)memory : heap->start, taken = memory ? len : heap->len;
     return heap->kind == RLSF_SMALL ? rlsf_small_list((void *)(heap + 1), start, taken, (size_t)from, &blocks->start, 3 * count)
                                     : rlsf_large_list((void *)(heap + 1), start, taken, (size_t)from, &blocks->start, 3 * count);
@@ -334,7 +339,7 @@ static inline size_t rlsf_heap_walk(const rlsf_heap *heap, const void *memory, s
  * doesn't read payloads, nor the words before payloads with an alignment above 16. A call in another thread must not run at the same time.
  *
  * The pool is one that rlsf_heap_add made of `memory`, and `len` is what it returned; or the last pool, if `memory` is NULL. */
-static inline int rlsf_heap_check(const rlsf_heap *heap, const void *memory, size_t len) {
+RLSF_INLINE int rlsf_heap_check(const rlsf_heap *heap, const void *memory, size_t len) {
     size_t start = memory ? (size_t)memory : heap->start, taken = memory ? len : heap->len;
     if (heap->sum != rlsf_heap_sum(heap)) return 0;
     return (int)(heap->kind == RLSF_SMALL ? rlsf_small_check((void *)(heap + 1), start, taken) : rlsf_large_check((void *)(heap + 1), start, taken));
