@@ -17,6 +17,10 @@
 #ifndef RLSF_H
 #define RLSF_H
 
+#ifdef RLSF_MALLOC_H
+#error "rlsf.h and rlsf_malloc.h declare calls of the same names: include them in different files"
+#endif
+
 #include <stddef.h>
 
 #ifdef __cplusplus
@@ -45,7 +49,7 @@ typedef enum rlsf_error {
     RLSF_OUT_OF_RANGE = 4,    /* the bytes go past those of the payload */
     RLSF_OUTSIDE_MEMORY = 5,  /* the range doesn't lie in the memory */
     RLSF_NOT_BEHIND = 6,      /* the range begins before the end of the last range */
-    RLSF_NOT_NEXT = 7,        /* the range doesn't begin at the end of the last range, or no range was inserted */
+    RLSF_NOT_NEXT = 7,        /* the range doesn't begin at the end of the last range, or this is empty: none was inserted, or it was removed */
     RLSF_TOO_SHORT = 8,       /* no part of the range can be used */
     RLSF_NO_LAYOUT = 9,       /* the alignment is no power of two, or size and alignment together are above 2^63 */
     RLSF_NO_ROOM = 10,        /* there is no room */

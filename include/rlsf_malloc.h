@@ -125,6 +125,9 @@ RLSF_INLINE size_t rlsf_heap_size(size_t kind) {
     return kind == RLSF_SMALL ? RLSF_SMALL_HEAP_SIZE : kind == RLSF_LARGE ? RLSF_LARGE_HEAP_SIZE : 0;
 }
 
+/* What the exported functions use of a heap, also in a call that leaves it as it is. */
+RLSF_INLINE void *rlsf_heap_state(const rlsf_heap *heap) { return (void *)(size_t)(heap + 1); }
+
 /* Returns a number of the words above and of the three behind them, which say where the exported functions find the memory: it is another
  * one if a bit of one word is another. */
 RLSF_INLINE size_t rlsf_heap_sum(const rlsf_heap *heap) {
@@ -300,22 +303,22 @@ RLSF_INLINE void *rlsf_realloc_in_place(rlsf_heap *heap, void *payload, size_t s
 
 /* Returns the number of bytes of a payload, from its pointer on, that may be read and written; or 0 if `payload` is NULL. */
 RLSF_INLINE size_t rlsf_usable_size(const rlsf_heap *heap, const void *payload) {
-    return heap->kind == RLSF_SMALL ? rlsf_small_usable((void *)(heap + 1), (size_t)payload) : rlsf_large_usable((void *)(heap + 1), (size_t)payload);
+    return heap->kind == RLSF_SMALL ? rlsf_small_usable(rlsf_heap_state(heap), (size_t)payload) : rlsf_large_usable(rlsf_heap_state(heap), (size_t)payload);
 }
 
 /* Returns the totals of the blocks of the last pool: the one that rlsf_heap_init or the last successful rlsf_heap_add made. The time grows
  * with the number of these blocks. */
 RLSF_INLINE rlsf_totals rlsf_heap_stats(const rlsf_heap *heap) {
-    return heap->kind == RLSF_SMALL ? rlsf_small_stats((void *)(heap + 1), heap->start, heap->len)
-                                    : rlsf_large_stats((void *)(heap + 1), heap->start, heap->len);
+    return heap->kind == RLSF_SMALL ? rlsf_small_stats(rlsf_heap_state(heap), heap->start, heap->len)
+                                    : rlsf_large_stats(rlsf_heap_state(heap), heap->start, heap->len);
 }
 
 /* Returns the totals of the blocks of any pool. The time grows with the number of these blocks.
  *
  * The pool is one that rlsf_heap_add made of `memory`, and `len` is what it returned. */
 RLSF_INLINE rlsf_totals rlsf_heap_pool_stats(const rlsf_heap *heap, const void *memory, size_t len) {
-    return heap->kind == RLSF_SMALL ? rlsf_small_stats((void *)(heap + 1), (size_t)memory, len)
-                                    : rlsf_large_stats((void *)(heap + 1), (size_t)memory, len);
+    return heap->kind == RLSF_SMALL ? rlsf_small_stats(rlsf_heap_state(heap), (size_t)memory, len)
+                                    : rlsf_large_stats(rlsf_heap_state(heap), (size_t)memory, len);
 }
 
 /* Fills an array with the blocks of a pool that begin at `from` or behind it, in address order, and returns the number of filled ones: all
@@ -325,8 +328,8 @@ RLSF_INLINE rlsf_totals rlsf_heap_pool_stats(const rlsf_heap *heap, const void *
  * The pool is one that rlsf_heap_add made of `memory`, and `len` is what it returned; or the last pool, if `memory` is NULL. */
 RLSF_INLINE size_t rlsf_heap_walk(const rlsf_heap *heap, const void *memory, size_t len, const void *from, rlsf_span *blocks, size_t count) {
     size_t start = memory ? (size_t)memory : heap->start, taken = memory ? len : heap->len;
-    return heap->kind == RLSF_SMALL ? rlsf_small_list((void *)(heap + 1), start, taken, (size_t)from, &blocks->start, 3 * count)
-                                    : rlsf_large_list((void *)(heap + 1), start, taken, (size_t)from, &blocks->start, 3 * count);
+    return heap->kind == RLSF_SMALL ? rlsf_small_list(rlsf_heap_state(heap), start, taken, (size_t)from, &blocks->start, 3 * count)
+                                    : rlsf_large_list(rlsf_heap_state(heap), start, taken, (size_t)from, &blocks->start, 3 * count);
 }
 
 /* For debugging: reads the words of each block of a pool again, the links of its free blocks, and the lists' beginnings in the handle.
@@ -342,7 +345,7 @@ RLSF_INLINE size_t rlsf_heap_walk(const rlsf_heap *heap, const void *memory, siz
 RLSF_INLINE int rlsf_heap_check(const rlsf_heap *heap, const void *memory, size_t len) {
     size_t start = memory ? (size_t)memory : heap->start, taken = memory ? len : heap->len;
     if (heap->sum != rlsf_heap_sum(heap)) return 0;
-    return (int)(heap->kind == RLSF_SMALL ? rlsf_small_check((void *)(heap + 1), start, taken) : rlsf_large_check((void *)(heap + 1), start, taken));
+    return (int)(heap->kind == RLSF_SMALL ? rlsf_small_check(rlsf_heap_state(heap), start, taken) : rlsf_large_check(rlsf_heap_state(heap), start, taken));
 }
 
 #ifdef __cplusplus
