@@ -61,7 +61,8 @@ struct Entry {
 
 /// A queue of messages over an allocator's pool: first in, first out.
 ///
-/// It has at most `capacity` messages. Each is a list of bytes of any length, while the pool has room.
+/// It has at most `capacity` messages. Each is a list of bytes of any length, while the pool has room. Its contracts say which messages it
+/// has, and bytes are copied in and out. To pass payloads between threads without a copy, take a `MessageQueue`.
 #[derive(Drop)]
 pub struct Messages {
     store: Store,

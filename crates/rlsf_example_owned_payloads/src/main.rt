@@ -1,21 +1,28 @@
 //! A program of payloads that own their bytes. It has no proof file.
 //!
-//! In reading order: this file makes a heap with one pool, and prints what both users return; `pair` writes two payloads of one
-//! struct in one expression; `buffers` lets two threads fill a buffer each, by value.
+//! In reading order: this file makes a heap with one pool, and prints what all users return; `pair` writes two payloads of one
+//! struct in one expression; `buffers` lets two threads fill a buffer each, by value. `messages` makes and reads messages; `queue` passes
+//! them from four threads to one through a queue, and `channel` through a channel.
 #![tactic(auto)]
 
 ghost use Rattle.std.specs.Prelude.{◌≡◌, IfSome};
 ghost use Rattle.rlsf_model.specs.Sized.{live_count};
 
 mod buffers;
+mod channel;
+mod messages;
 mod pair;
+mod queue;
 
 use buffers::filled_by_threads;
+use channel::received_first;
 use pair::pair_of_bytes;
+use queue::four_to_one;
 use rlsf_base::memory::{Layout, OpenMemory, Range};
 use rlsf_heap::Heap;
 use std::alloc::Global;
 use std::io;
+use std::sync::Wait;
 use std::thread::Threads;
 
 /// Chunks of up to 131,072 bytes, in 12 rows of 16 classes.
@@ -51,10 +58,34 @@ fn run<R: Threads>(rt: &R, alloc: Global) -> Option<Seen> {
     Some(Seen { pair, buffers })
 }
 
+/// Prints what threads leave that send messages through a queue.
+fn print_four_to_one<R: Print + AllocGlobal + Threads + Wait + Sync>(rt: &R) -> io::Result<()> {
+    let Some(seen) = four_to_one(rt, rt.alloc()) else {
+        return println!(rt; "out of memory");
+    };
+    println!(rt;
+        "through a queue: {} refused, {} received, their sum {}, {} live",
+        seen.refused, seen.received.messages, seen.received.sum, seen.live
+    )
+}
+
+/// Prints what threads leave that send messages through a channel.
+fn print_received<R: Print + AllocGlobal + Threads + Wait + Sync>(rt: &R) -> io::Result<()> {
+    let Some((received, live)) = received_first(rt, rt.alloc()) else {
+        return println!(rt; "out of memory");
+    };
+    println!(rt;
+        "through a channel: {} received, their sum {}, {live} live",
+        received.messages, received.sum
+    )
+}
+
 fn main(rt: HostRuntime) -> io::Result<()> {
     let Some(seen) = run(&rt, rt.alloc()) else {
         return println!(rt; "out of memory");
     };
     println!(rt; "a pair: {:?}", seen.pair)?;
-    println!(rt; "from two threads: {:?}", seen.buffers)
+    println!(rt; "from two threads: {:?}", seen.buffers)?;
+    print_four_to_one(&rt)?;
+    print_received(&rt)
 }
