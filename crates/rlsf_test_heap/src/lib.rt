@@ -4,7 +4,7 @@
 //! compare the addresses of payloads with worked examples, as tables of steps; `ends` shows that a dropped heap deallocates its
 //! memory; `local` has collections in a heap, `in_place` vectors that grow and shrink there, and `printed` what is printed of one;
 //! `raw` takes a payload apart; `thin` has payloads by their address, in `unknown_align` also of any alignment; `shared` and `returned`
-//! share a heap between threads, and take it apart again.
+//! share a heap between threads, and take it apart again; `sent` sends payloads between them.
 #![tactic(auto)]
 
 #[cfg(test)]
@@ -29,6 +29,8 @@ mod resized_rows;
 mod returned;
 #[cfg(test)]
 mod rows;
+#[cfg(test)]
+mod sent;
 #[cfg(test)]
 mod shared;
 #[cfg(test)]

@@ -1,0 +1,316 @@
+//! Payloads that threads send to one another through a queue, and what a `SharedPayload` does.
+
+use crate::answers::all;
+use rlsf_base::memory::{Layout, OpenMemory, Range};
+use rlsf_example_libraries::MessageQueue;
+use rlsf_heap::{FreedOnDrop, Heap, SharedHeap, SharedPayload};
+use std::alloc::{AllocError, Global};
+use std::sync::Wait;
+use std::test::Fail;
+use std::thread;
+use std::thread::Threads;
+
+type Plain = Heap<u16, u16, 12, 16>;
+
+type Shared = SharedHeap<u16, u16, 12, 16>;
+
+/// A queue of payloads.
+type Queue<'h> = MessageQueue<SharedPayload<'h, Shared>>;
+
+/// How many threads there are.
+const THREADS: usize = 8;
+
+/// How many messages each of them sends.
+const MESSAGES: u64 = 12500;
+
+/// The addresses of the pool.
+const POOL: Range = Range {
+    start: 65536,
+    len: 65536,
+};
+
+/// Returns a shared heap of one pool.
+fn shared_heap(alloc: Global) -> Result<Shared, Fail> {
+    let memory = OpenMemory::reserve(alloc, POOL.start, POOL.len)?;
+    let mut heap = Plain::new(memory);
+    heap.insert_free_block_ptr(POOL);
+    Ok(Shared::new(heap))
+}
+
+/// Returns a payload of so many zeros, or more.
+fn zeros<'h, R: Wait>(
+    rt: &R,
+    shared: &'h Shared,
+    size: usize,
+) -> Option<SharedPayload<'h, Shared>> {
+    shared.allocate_shared(rt, Layout::from_size_align_unchecked(size, 16))
+}
+
+/// Writes a number to the first eight bytes and, backwards, to the last eight.
+fn write_ends(message: &mut [u8], number: u64) {
+    let bytes = number.to_le_bytes();
+    for (byte, value) in message.iter_mut().zip(bytes) {
+        *byte = value;
+    }
+    for (byte, value) in message.iter_mut().rev().zip(bytes) {
+        *byte = value;
+    }
+}
+
+/// Returns the number at both ends. Returns `u64::MAX` if there are two.
+fn number_of(message: &[u8]) -> u64 {
+    let mut first = [0; 8];
+    let mut last = [0; 8];
+    for (byte, value) in first.iter_mut().zip(message) {
+        *byte = *value;
+    }
+    for (byte, value) in last.iter_mut().zip(message.iter().rev()) {
+        *byte = *value;
+    }
+    if first == last {
+        u64::from_le_bytes(first)
+    } else {
+        u64::MAX
+    }
+}
+
+/// Sends a message. While the queue is full, receives others.
+fn send<'h, R: Wait>(
+    rt: &R,
+    queue: &Queue<'h>,
+    message: SharedPayload<'h, Shared>,
+    numbers: &mut Vec<u64>,
+) -> Result<(), AllocError> {
+    let mut left = message;
+    for _ in rt.forever() {
+        match queue.send(rt, left) {
+            Ok(()) => return Ok(()),
+            Err(back) => left = back,
+        }
+        receive(rt, queue, numbers)?;
+    }
+    unreachable!()
+}
+
+/// Receives a message, if there is one, keeps its number, and frees it. Returns whether there was one.
+fn receive<'h, R: Wait>(
+    rt: &R,
+    queue: &Queue<'h>,
+    numbers: &mut Vec<u64>,
+) -> Result<bool, AllocError> {
+    let Some(message) = queue.receive(rt) else {
+        return Ok(false);
+    };
+    let number = number_of(message.as_slice());
+    message.free(rt);
+    numbers.push(number)?;
+    Ok(true)
+}
+
+/// What a thread does: it sends messages of several lengths, each with its number, and then receives until the queue is empty. Returns the
+/// numbers that it received.
+fn exchange<'h, R: Wait>(
+    rt: &R,
+    alloc: Global,
+    shared: &'h Shared,
+    queue: &Queue<'h>,
+    thread: usize,
+) -> Result<Vec<u64>, AllocError> {
+    let mut numbers = Vec::with_capacity(alloc, THREADS * MESSAGES as usize)?;
+    let first = (thread as u64).wrapping_mul(MESSAGES);
+    for number in 0..MESSAGES {
+        if let Some(mut message) = zeros(rt, shared, 16 + (number % 100) as usize) {
+            write_ends(message.as_mut_slice(), first.wrapping_add(number));
+            send(rt, queue, message, &mut numbers)?;
+        }
+    }
+    for _ in rt.forever() {
+        if !receive(rt, queue, &mut numbers)? {
+            return Ok(numbers);
+        }
+    }
+    unreachable!()
+}
+
+/// Returns the numbers that each of eight threads received.
+fn of_eight<R: Threads + Wait + Sync>(
+    rt: &R,
+    alloc: Global,
+    shared: &Shared,
+) -> Result<Vec<Result<Vec<u64>, AllocError>>, AllocError> {
+    let queue = MessageQueue::new(alloc, 16)?;
+    thread::map_indices(
+        rt,
+        alloc,
+        THREADS,
+        &|index| exchange(rt, alloc, shared, &queue, index),
+    )
+}
+
+/// Returns whether each number below `count` is there once, and no other.
+fn are_all_once(
+    alloc: Global,
+    numbers: &[Result<Vec<u64>, AllocError>],
+    count: usize,
+) -> Result<bool, AllocError> {
+    let mut seen = vec![in alloc; false; count]?;
+    let mut left = count;
+    for received in numbers {
+        let Ok(received) = received else {
+            return Err(AllocError);
+        };
+        for number in received {
+            match seen.get_mut(*number as usize) {
+                Some(seen) if !*seen => *seen = true,
+                _ => return Ok(false),
+            }
+            left = left.wrapping_sub(1);
+        }
+    }
+    Ok(left == 0)
+}
+
+#[test]
+fn each_message_is_received_once(rt: HostRuntime) -> Result<(), Fail> {
+    let shared = shared_heap(rt.alloc())?;
+    let numbers = of_eight(&rt, rt.alloc(), &shared)?;
+    let once = are_all_once(rt.alloc(), &numbers, 100_000)?;
+    drop(numbers);
+    all(&rt, &[once, shared.into_inner().live() == 0]);
+    Ok(())
+}
+
+/// Sends a payload to a queue, and frees it where it is received. Returns its address, and whether another one was refused there.
+fn sent_and_freed<'h, R: Wait>(
+    rt: &R,
+    queue: &Queue<'h>,
+    shared: &'h Shared,
+) -> Option<(usize, bool)> {
+    let one = zeros(rt, shared, 100)?;
+    let other = zeros(rt, shared, 100)?;
+    let sent = queue.send(rt, one).is_ok();
+    let refused = match queue.send(rt, other) {
+        Ok(()) => false,
+        Err(back) => {
+            back.free(rt);
+            true
+        }
+    };
+    let received = queue.receive(rt)?;
+    let addr = received.addr();
+    received.free(rt);
+    Some((addr, sent && refused && queue.receive(rt).is_none()))
+}
+
+// The queue is one of the second heap's payloads, of which one is in it first. Each payload comes back to its own heap.
+#[test]
+fn a_payload_comes_back_to_its_own_heap(rt: HostRuntime) -> Result<(), Fail> {
+    let first = shared_heap(rt.alloc())?;
+    let second = shared_heap(rt.alloc())?;
+    let queue = MessageQueue::new(rt.alloc(), 1)?;
+    let kept = zeros(&rt, &second, 100);
+    let of_second = sent_and_freed(&rt, &queue, &second);
+    let of_first = sent_and_freed(&rt, &queue, &first);
+    drop(queue);
+    let was_kept = kept.is_some();
+    drop(kept);
+    // A block of 100 bytes and its header has 128.
+    let answers = [
+        was_kept,
+        of_second == Some((65536 + 16 + 128, true)),
+        of_first == Some((65536 + 16, true)),
+        first.into_inner().live() == 0,
+        second.into_inner().live() == 1,
+    ];
+    all(&rt, &answers);
+    Ok(())
+}
+
+/// Fills a payload with sevens, and changes its size. Returns the length, how many sevens are in front, and whether zeros follow.
+fn resized<R: Wait>(rt: &R, shared: &Shared, size: usize) -> Option<(usize, usize, bool)> {
+    let mut payload = zeros(rt, shared, 100)?;
+    payload.fill(7);
+    let (payload, is_changed) = match payload.reallocate(rt, size) {
+        Ok(changed) => (changed, true),
+        Err(same) => (same, false),
+    };
+    let bytes = payload.as_slice();
+    let sevens = bytes.iter().take_while(|byte| **byte == 7).count();
+    let zeros = bytes.iter().skip(sevens).all(|byte| *byte == 0);
+    let len = payload.len();
+    payload.free(rt);
+    Some((len, sevens, zeros && is_changed))
+}
+
+// A payload of 100 bytes has 112, one of 1000 has 1008, and one of 10 has 16.
+#[test]
+fn payloads_get_another_size(rt: HostRuntime) -> Result<(), Fail> {
+    let shared = shared_heap(rt.alloc())?;
+    let answers = [
+        resized(&rt, &shared, 1000) == Some((1008, 112, true)),
+        resized(&rt, &shared, 10) == Some((16, 16, true)),
+        resized(&rt, &shared, 65536) == Some((112, 112, false)),
+        shared.into_inner().live() == 0,
+    ];
+    all(&rt, &answers);
+    Ok(())
+}
+
+/// Leaves two payloads in a queue, which is dropped. Takes a third one out of the value that would free it. Returns its address.
+fn left_in_a_queue<'h, 'r, R: Wait>(
+    rt: &'r R,
+    queue: MessageQueue<FreedOnDrop<'h, 'r, Shared, R>>,
+    shared: &'h Shared,
+) -> Option<usize> {
+    let first = zeros(rt, shared, 100)?.freed_on_drop(rt);
+    let second = zeros(rt, shared, 100)?.freed_on_drop(rt);
+    let third = zeros(rt, shared, 100)?.freed_on_drop(rt);
+    if queue.send(rt, first).is_err() || queue.send(rt, second).is_err() {
+        return None;
+    }
+    let kept = third.into_inner();
+    Some(kept.addr())
+}
+
+// The third payload leaks. Before it in the pool are two blocks of 128 bytes, which are free again.
+#[test]
+fn a_dropped_queue_frees_what_is_in_it(rt: HostRuntime) -> Result<(), Fail> {
+    let shared = shared_heap(rt.alloc())?;
+    let queue = MessageQueue::new(rt.alloc(), 2)?;
+    let kept = left_in_a_queue(&rt, queue, &shared);
+    let next = zeros(&rt, &shared, 200).map(|payload| payload.addr());
+    let answers = [
+        kept == Some(65536 + 16 + 256),
+        next == Some(65536 + 16),
+        shared.into_inner().live() == 2,
+    ];
+    all(&rt, &answers);
+    Ok(())
+}
+
+/// Makes a payload of the heap's own calls, ties it to its heap, reads and writes it, and unties it again. Returns what is seen of it.
+fn adopted<R: Wait>(rt: &R, shared: &Shared) -> Option<[usize; 4]> {
+    let mut payload = shared.allocate(rt, Layout::from_size_align_unchecked(100, 64))?;
+    payload.fill(3);
+    let mut tied = shared.adopt(payload);
+    let len = tied.len();
+    let align = tied.align();
+    let aligned = tied.addr() % 64;
+    tied.as_mut_slice().fill(5);
+    let fives = tied.as_slice().iter().filter(|byte| **byte == 5).count();
+    shared.deallocate(rt, tied.into_payload());
+    Some([len, align, aligned, fives])
+}
+
+// Of 100 bytes, with 16 for the header and 48 for the alignment, it takes a block of 192 at 65536. The first multiple of 64 behind the header
+// is 65600, with 128 bytes behind it.
+#[test]
+fn a_payload_is_tied_to_its_heap_and_untied(rt: HostRuntime) -> Result<(), Fail> {
+    let shared = shared_heap(rt.alloc())?;
+    let answers = [
+        adopted(&rt, &shared) == Some([128, 64, 0, 128]),
+        shared.into_inner().live() == 0,
+    ];
+    all(&rt, &answers);
+    Ok(())
+}
