@@ -202,7 +202,7 @@ fn sent_and_freed<'h, R: Wait>(
     Some((addr, sent && refused && queue.receive(rt).is_none()))
 }
 
-// The queue is one of the second heap's payloads, of which one is in it first. Each payload comes back to its own heap.
+// The queue is one of the second heap's payloads, of which one is in it first. Each payload returns to its own heap.
 #[test]
 fn a_payload_comes_back_to_its_own_heap(rt: HostRuntime) -> Result<(), Fail> {
     let first = shared_heap(rt.alloc())?;
