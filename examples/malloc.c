@@ -49,6 +49,8 @@ static int asked; /* whether the system was asked for a region */
 static char *region;
 static size_t reserved; /* the length of the region */
 static size_t added;    /* how many bytes at its start are memory of the heap */
+static rlsf_part steps[REGION / STEP + 1];
+static size_t step_count;
 
 static size_t page(void) { return (size_t)sysconf(_SC_PAGESIZE); }
 
@@ -81,7 +83,7 @@ static int grow(size_t align, size_t size) {
     if (len < size || getrlimit(RLIMIT_AS, &limit) || added + len > limit.rlim_cur) return 0;
     if (mprotect(region + added, len, PROT_READ | PROT_WRITE)) return 0;
     added += len;
-    return rlsf_heap_add(heap, region + added - len, len) != 0;
+    return rlsf_heap_try_add(heap, &steps[step_count++], region + added - len, len) == RLSF_ADD_OK;
 }
 
 /* Returns whether the heap may be changed. */
@@ -267,6 +269,22 @@ int posix_memalign(void **to, size_t align, size_t size) {
     if (!payload) return ENOMEM;
     *to = payload;
     return 0;
+}
+
+/* As glibc's: returns the memory of each step without a payload to the system. Returns whether there is one. */
+int malloc_trim(size_t unused) {
+    int trimmed = 0;
+    (void)unused;
+    if (enter())
+        for (size_t n = 0; n < step_count; n++) {
+            void *start = (void *)steps[n].start;
+            size_t len = steps[n].len;
+            if (!rlsf_heap_remove(heap, start, len)) continue;
+            trimmed |= !madvise(start, len, MADV_DONTNEED);
+            rlsf_heap_try_add(heap, &steps[n], start, len);
+        }
+    leave();
+    return trimmed;
 }
 
 /* Below, a thread that is inside forks in a signal handler, in the middle of a call: in the child it ends this call, too. */

@@ -75,6 +75,7 @@ typedef struct {
     void rlsf_##KIND##_init(void *heap, void *block, size_t start, size_t len);                       \
     void rlsf_##KIND##_end(void *heap);                                                               \
     size_t rlsf_##KIND##_add(void *heap, size_t start, size_t len);                                   \
+    size_t rlsf_##KIND##_remove(void *heap, size_t start, size_t len);                                \
     size_t rlsf_##KIND##_malloc(void *heap, size_t size);                                             \
     size_t rlsf_##KIND##_allocate(void *heap, size_t size, size_t align);                             \
     size_t rlsf_##KIND##_allocate_zeroed(void *heap, size_t count, size_t size);                      \
@@ -90,7 +91,7 @@ RLSF_KIND_DECLARES(small)
 RLSF_KIND_DECLARES(large)
 #undef RLSF_KIND_DECLARES
 
-/* The place and the length of a pool that rlsf_heap_try_add added. The program provides it, and doesn't write to it until rlsf_heap_end. */
+/* The place and the length of a pool that rlsf_heap_try_add added. The program provides it, and doesn't write to it until the pool is removed or the heap ends. */
 typedef struct rlsf_part {
     struct rlsf_part *next;
     size_t start;
@@ -193,6 +194,28 @@ RLSF_INLINE rlsf_add_error rlsf_heap_try_add(rlsf_heap *heap, rlsf_part *part, v
     heap->parts = part;
     heap->sum = rlsf_heap_sum(heap);
     return RLSF_ADD_OK;
+}
+
+/* Removes a pool if no payload is live in it, and returns 1. Otherwise returns 0, and nothing changes. No later call accesses these bytes,
+ * until they are added again or the heap ends. The time grows with the number of blocks.
+ *
+ * The pool is one that rlsf_heap_add made of `memory`, and `len` is what it returned; or the place and the length of an rlsf_part, which is
+ * the program's again. */
+RLSF_INLINE int rlsf_heap_remove(rlsf_heap *heap, void *memory, size_t len) {
+    size_t start = (size_t)memory;
+    rlsf_part **link = &heap->parts;
+    if (!(heap->kind == RLSF_SMALL ? rlsf_small_remove(heap + 1, start, len) : rlsf_large_remove(heap + 1, start, len))) return 0;
+    while (*link && (*link)->start != start) link = &(*link)->next;
+    if (*link)
+        *link = (*link)->next;
+    else if (heap->low == start)
+        heap->low += len;
+    else if (heap->high == start + len)
+        heap->high = start;
+    if (heap->low >= heap->high) heap->low = heap->high = 0;
+    if (heap->start == start) heap->len = 0;
+    heap->sum = rlsf_heap_sum(heap);
+    return 1;
 }
 
 /* Creates a heap at a handle, over the `len` bytes at `memory`. No pool is added yet: rlsf_heap_add adds parts of these bytes. They belong

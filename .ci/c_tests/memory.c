@@ -95,10 +95,27 @@ static void heap_grows(void) {
         }
 }
 
+/* What small payloads took goes back by malloc_trim, unless one of them lives. */
+static void heap_shrinks(void) {
+    static char *payloads[3000];
+    size_t before = resident();
+    for (size_t n = 0; n < 3000; n++) payloads[n] = memset(malloc(90000), 1, 90000);
+    WANT(resident() - before >= 200, 1);
+    for (size_t n = 0; n < 3000; n++)
+        if (n != 1500) free(payloads[n]);
+    malloc_trim(0);
+    WANT(resident() - before <= 70, 1);
+    for (size_t n = 0; n < 90000; n += 1000) WANT(payloads[1500][n], 1);
+    free(payloads[1500]);
+    malloc_trim(0);
+    free(calloc(1, 90000));
+}
+
 int main(int count, char **words) {
     large_payloads_go_back(count > 1 && !strcmp(words[1], "figures"));
     bytes_are_kept();
     payloads_fit();
+    heap_shrinks();
     heap_grows();
     return 0;
 }

@@ -1,5 +1,5 @@
 -- What the calls of a heap return, as the exports say it.
-use Rattle.std.proofs.Common.{◌≡◌, ◌≢◌, ℕ, zero, suc, ◌+◌, ◌-◌, length, List, [], Option, Some, None, arith, refl, sym, subst, ◌∙◌, ap, true}
+use Rattle.std.proofs.Common.{◌≡◌, ◌≢◌, ℕ, zero, suc, ◌+◌, ◌-◌, length, List, [], Bool, Option, Some, None, arith, refl, sym, subst, ◌∙◌, ap, false, true}
 use denote.RawPtr.{Ptr}
 use Rattle.rlsf_base.specs.OpenSpace.{home_of, place_in}
 use Rattle.rlsf_base.specs.Changes.{IsAllOwn, IsIn}
@@ -15,11 +15,12 @@ use Rattle.rlsf_model.specs.Release.{Deallocates}
 use Rattle.rlsf_model.specs.Sized.{live_count}
 use Rattle.rlsf_model.specs.State.{State}
 use Rattle.rlsf_heap.specs.Heap.{HeapView, IsWritten, PayloadView, Steps}
+use Rattle.rlsf_heap.specs.Pools.{RemovesIfIdle}
 use Rattle.rlsf_heap.specs.Replies.{IsAllocated, KeepsHeap}
 use Rattle.rlsf_heap.specs.Settled.{IsSettled}
 use Rattle.rlsf_heap.specs.Thin.{reply_of}
 use Rattle.rlsf_heap.specs.ThinReplies.{AllocationLeaves}
-use Rattle.rlsf_malloc.specs.Calls.{Adds, Allocates, Frees, IsFresh, IsOver, IsReady, IsSameHeap}
+use Rattle.rlsf_malloc.specs.Calls.{Adds, Allocates, Frees, IsFresh, IsOver, IsReady, IsSameHeap, RemovesPool}
 
 -- a step leads to the state after
 pub step_of : (fllen sllen : ℕ) (new : HeapView) (P : State → Type 0) → Steps fllen sllen new P → P new.state
@@ -113,3 +114,38 @@ module _ (fllen sllen : ℕ) (old new : HeapView) (same : IsSameHeap old new) wh
     count = count;
     untouched = untouched;
   }
+
+-- a pool is removed, or it isn't
+pub removed_pool : (fllen sllen : ℕ) (old new : HeapView) (r : Range) (b : Bool) → b ≡ true → IsSameHeap old new
+    → Steps fllen sllen new (RemovesIfIdle old.state r b) → (b ≡ true → IsUntouched new.state.chunks r) → align_at new.state ≡ align_at old.state
+    → live_count new.state ≡ live_count old.state → ((q : Range) → IsUntouched old.state.chunks q → IsUntouched new.state.chunks q) → RemovesPool old r 1 new
+removed_pool fllen sllen old new r b is heap step gone aligns count untouched =
+    let did = subst (λ (d : Bool). RemovesIfIdle old.state r d new.state) is (step_of fllen sllen new (RemovesIfIdle old.state r b) step) in
+    record {
+      step = λ some. did;
+      one = λ some. refl;
+      gone = λ some. gone is;
+      used = λ none idle. omega (arith, none);
+      same = λ none. absurd (omega (arith, none));
+      heap = heap;
+      aligns = aligns;
+      count = count;
+      untouched = untouched;
+    }
+
+pub kept_pool : (fllen sllen : ℕ) (old new : HeapView) (r : Range) (b : Bool) → b ≡ false → IsSameHeap old new
+    → Steps fllen sllen new (RemovesIfIdle old.state r b) → (b ≡ false → new ≡ old) → align_at new.state ≡ align_at old.state
+    → live_count new.state ≡ live_count old.state → ((q : Range) → IsUntouched old.state.chunks q → IsUntouched new.state.chunks q) → RemovesPool old r 0 new
+kept_pool fllen sllen old new r b is heap step same aligns count untouched =
+    let did = subst (λ (d : Bool). RemovesIfIdle old.state r d new.state) is (step_of fllen sllen new (RemovesIfIdle old.state r b) step) in
+    record {
+      step = λ some. absurd (some refl);
+      one = λ some. absurd (some refl);
+      gone = λ some. absurd (some refl);
+      used = λ none. did.0;
+      same = λ none. same is;
+      heap = heap;
+      aligns = aligns;
+      count = count;
+      untouched = untouched;
+    }

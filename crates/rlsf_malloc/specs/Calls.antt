@@ -10,6 +10,7 @@ use Rattle.rlsf_model.specs.Allocate as machine
 use Rattle.rlsf_model.specs.Callers.{align_at, bytes_at}
 use Rattle.rlsf_model.specs.Insert.{Inserts, IsUntouched}
 use Rattle.rlsf_model.specs.Release.{Deallocates}
+use Rattle.rlsf_model.specs.Remove.{IsIdle, Removes}
 use Rattle.rlsf_model.specs.Sized.{live_count}
 use Rattle.rlsf_model.specs.State.{empty}
 use Rattle.rlsf_heap.specs.Heap.{HeapView, IsWritten, PayloadView}
@@ -98,6 +99,18 @@ pub record Adds (fllen : ℕ) (before : HeapView) (start len taken : ℕ) (after
   pub aligns : align_at after.state ≡ align_at before.state
   pub count : live_count after.state ≡ live_count before.state
   pub untouched : (r : Range) → IsUntouched before.state.chunks r → AreApart (range_at start len) r → IsUntouched after.state.chunks r
+
+-- a range is removed, and 1 is returned; or a block of it is used, 0 is returned, and nothing changes
+pub record RemovesPool (before : HeapView) (r : Range) (removed : ℕ) (after : HeapView) : Type 0 where
+  pub step : removed ≢ 0 → IsIdle before.state r × Removes before.state r after.state
+  pub one : removed ≢ 0 → removed ≡ 1
+  pub gone : removed ≢ 0 → IsUntouched after.state.chunks r
+  pub used : removed ≡ 0 → IsIdle before.state r → ⊥
+  pub same : removed ≡ 0 → after ≡ before
+  pub heap : IsSameHeap before after
+  pub aligns : align_at after.state ≡ align_at before.state
+  pub count : live_count after.state ≡ live_count before.state
+  pub untouched : (q : Range) → IsUntouched before.state.chunks q → IsUntouched after.state.chunks q
 
 -- the range may be added: it lies in the memory and overlaps no range that was added before
 abbrev pub CanAdd : HeapView → ℕ → ℕ → Type 0

@@ -11,7 +11,7 @@ ghost use Rattle.rlsf_model.specs.Sized.{live_count};
 ghost use Rattle.rlsf_heap.specs.Heap.{HeapView, PayloadView};
 ghost use Rattle.rlsf_heap.specs.Thin.{owns_reply};
 ghost use Rattle.rlsf_malloc.specs.Blocks.{AreTotals, IsCheckOf, IsListing};
-ghost use Rattle.rlsf_malloc.specs.Calls.{Adds, Allocates, AllocatesZeroed, CanAdd, Frees, IsAt, IsFresh, IsUsable, aligned_for};
+ghost use Rattle.rlsf_malloc.specs.Calls.{Adds, Allocates, AllocatesZeroed, CanAdd, Frees, IsAt, IsFresh, IsUsable, RemovesPool, aligned_for};
 ghost use Rattle.rlsf_malloc.specs.Handle.{HasRoomForLarge, HoldsLarge, HoldsSomeLarge, LargeGives, bytes_of, large_size};
 ghost use Rattle.rlsf_malloc.specs.Resizing.{ResizesAligned, ResizesAny, ResizesInPlace};
 
@@ -216,4 +216,15 @@ pub unsafe extern "C" fn rlsf_large_check(heap: *mut u8, start: usize, len: usiz
     ensures* { sem 𝓛 (HoldsSomeLarge heap (λ after. IsCheckOf 64 64 before (range_at start len) result × (after ≡ before))) }
 {
     large::check(&mut *(heap as *mut Large), start, len)
+}
+
+/// Removes a range, which is one added range or several that follow each other, if no block in it is used. Returns 1 if it did, else 0; then
+/// nothing changes. No later call accesses the removed bytes, until they are added again.
+#[unsafe(no_mangle)]
+pub unsafe extern "C" fn rlsf_large_remove(heap: *mut u8, start: usize, len: usize) -> usize
+    ghost before: { HeapView }
+    requires* { sem 𝓛 (HoldsLarge heap before) ∗ ⌜ IsRow before.state (walked (range_at start len)) ⌝ }
+    ensures* { sem 𝓛 (HoldsSomeLarge heap (λ after. RemovesPool before (walked (range_at start len)) result after)) }
+{
+    large::remove(&mut *(heap as *mut Large), start, len)
 }

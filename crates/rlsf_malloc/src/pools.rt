@@ -1,9 +1,10 @@
-//! The totals and the lists of the blocks of a pool.
+//! The totals and the lists of the blocks of a pool, its check and its removal.
 
 ghost use Rattle.rlsf_base.specs.Range.{range_at};
 ghost use Rattle.rlsf_blocks.specs.Blocks.{walked};
 ghost use Rattle.rlsf_model.specs.ChunkRows.{IsRow};
 ghost use Rattle.rlsf_malloc.specs.Blocks.{AreTotals, IsCheckOf, IsListing};
+ghost use Rattle.rlsf_malloc.specs.Calls.{IsReady, RemovesPool};
 
 use rlsf_base::memory::Range;
 use rlsf_blocks::{Totals, list, totals_of};
@@ -46,4 +47,20 @@ pub(crate) fn check_in<F: BitPattern, S: BitPattern, const FLLEN: usize, const S
     ensures { IsCheckOf FLLEN SLLEN heap.now (range_at start len) result }
 {
     heap.is_consistent(Range { start, len }) as usize
+}
+
+/// Removes a range, which is complete contiguous chunks, and returns 1; or returns 0 if a block in it is used.
+pub(crate) fn remove_in<F: BitPattern, S: BitPattern, const FLLEN: usize, const SLLEN: usize>(
+    heap: &mut Heap<F, S, FLLEN, SLLEN>,
+    start: usize,
+    len: usize,
+) -> usize
+    requires { IsReady heap.old × IsRow heap.old.state (walked (range_at start len)) }
+    ensures { RemovesPool heap.old (walked (range_at start len)) result heap.new }
+{
+    if heap.try_remove_pool(Range { start, len }) {
+        1
+    } else {
+        0
+    }
 }

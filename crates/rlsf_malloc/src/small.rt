@@ -6,7 +6,7 @@ ghost use Rattle.rlsf_blocks.specs.Blocks.{walked};
 ghost use Rattle.rlsf_model.specs.ChunkRows.{IsRow};
 ghost use Rattle.rlsf_model.specs.Sized.{live_count};
 ghost use Rattle.rlsf_malloc.specs.Blocks.{AreTotals, IsCheckOf, IsListing};
-ghost use Rattle.rlsf_malloc.specs.Calls.{Adds, Allocates, AllocatesZeroed, CanAdd, Frees, IsAt, IsOver, IsReady, IsUsable, aligned_for};
+ghost use Rattle.rlsf_malloc.specs.Calls.{Adds, Allocates, AllocatesZeroed, CanAdd, Frees, IsAt, IsOver, IsReady, IsUsable, RemovesPool, aligned_for};
 ghost use Rattle.rlsf_malloc.specs.Handle.{ArePartsOf};
 ghost use Rattle.rlsf_malloc.specs.Replies.{number_of};
 ghost use Rattle.rlsf_malloc.specs.Resizing.{ResizesAligned, ResizesAny, ResizesInPlace};
@@ -151,4 +151,12 @@ pub(crate) fn check(heap: &mut Small, start: usize, len: usize) -> usize
     ensures { IsCheckOf 12 16 heap.old (range_at start len) result × (heap.new ≡ heap.old) }
 {
     pools::check_in(heap, start, len)
+}
+
+/// Removes a range, which is complete contiguous chunks, and returns 1; or returns 0 if a block in it is used.
+pub(crate) fn remove(heap: &mut Small, start: usize, len: usize) -> usize
+    requires { IsReady heap.old × IsRow heap.old.state (walked (range_at start len)) }
+    ensures { RemovesPool heap.old (walked (range_at start len)) result heap.new }
+{
+    pools::remove_in(heap, start, len)
 }
