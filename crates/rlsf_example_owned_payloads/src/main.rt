@@ -2,20 +2,20 @@
 //!
 //! In reading order: this file makes a heap with one pool, and prints what all users return; `pair` writes two payloads of one
 //! struct in one expression; `buffers` lets two threads fill a buffer each, by value. `messages` makes and reads messages; `queue` passes
-//! them from four threads to one through a queue, and `channel` through a channel.
+//! them from four threads to one, and in `leaving` the receiver leaves early.
 #![tactic(auto)]
 
 ghost use Rattle.std.specs.Prelude.{◌≡◌, IfSome};
 ghost use Rattle.rlsf_model.specs.Sized.{live_count};
 
 mod buffers;
-mod channel;
+mod leaving;
 mod messages;
 mod pair;
 mod queue;
 
 use buffers::filled_by_threads;
-use channel::received_first;
+use leaving::received_first;
 use pair::pair_of_bytes;
 use queue::four_to_one;
 use rlsf_base::memory::{Layout, OpenMemory, Range};
@@ -69,13 +69,13 @@ fn print_four_to_one<R: Print + AllocGlobal + Threads + Wait + Sync>(rt: &R) -> 
     )
 }
 
-/// Prints what threads leave that send messages through a channel.
+/// Prints what a receiver leaves that leaves early.
 fn print_received<R: Print + AllocGlobal + Threads + Wait + Sync>(rt: &R) -> io::Result<()> {
     let Some((received, live)) = received_first(rt, rt.alloc()) else {
         return println!(rt; "out of memory");
     };
     println!(rt;
-        "through a channel: {} received, their sum {}, {live} live",
+        "by one that leaves early: {} received, their sum {}, {live} live",
         received.messages, received.sum
     )
 }
