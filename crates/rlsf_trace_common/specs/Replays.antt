@@ -36,6 +36,10 @@ classes_of EightByOne = 1
 abbrev pub IsRun : ℕ → ℕ → Range → List Op → List Answer → Type 0
 IsRun fllen sllen memory ops answers = (last : RunState) × RunsOps fllen sllen memory beginning ops answers last
 
+-- the text is what is printed for such a run
+abbrev pub IsPrintedRun : ℕ → ℕ → Range → List Op → List ℕ → Type 0
+IsPrintedRun fllen sllen memory ops text = (answers : List Answer) × IsRun fllen sllen memory ops answers × (text ≡ text_of ops answers)
+
 -- the output is what is printed for a run of the input's ops, with the configuration and the memory that it names
 pub record IsOutput (input output : List ℕ) : Type 0 where
   pub trace : TraceText

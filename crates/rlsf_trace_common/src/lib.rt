@@ -7,6 +7,8 @@
 
 mod input;
 mod output;
+mod parts;
+mod prints;
 mod replays;
 
 pub use input::read_input;

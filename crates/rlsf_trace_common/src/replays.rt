@@ -1,82 +1,100 @@
 //! Replays: a trace is read, run and printed.
 
-ghost use Rattle.std.specs.Prelude.{◌≡◌, ◌≢◌, ◌⊎◌, IfOk, IfErr, IfSome, OnOk, string_bytes};
+ghost use Rattle.std.specs.Prelude.{◌≡◌, ◌≢◌, ◌<◌, ◌⊎◌, IfOk, IfErr, IfSome, OnOk, string_bytes};
 ghost use Rattle.std.specs.Io.KnownBytes.{IsAtEnd};
 ghost use Rattle.rlsf_base.specs.Range.{range_at};
 ghost use Rattle.rlsf_model.specs.State.{empty};
 ghost use Rattle.rlsf_base.specs.Space.{range_of};
 ghost use Rattle.rlsf_trace_text.specs.Faults.{out_of_memory};
-ghost use Rattle.rlsf_trace_common.specs.Replays.{rows_of, classes_of, IsRun, IsOutput};
+ghost use Rattle.rlsf_trace_common.specs.Parts.{IsPartFor};
+ghost use Rattle.rlsf_trace_common.specs.Replays.{rows_of, classes_of, IsPrintedRun, IsOutput};
 ghost use Rattle.rlsf_trace_common.specs.Replays.{AppendsReplay, AppendsCutReplay, no_memory, not_read, IsOutputFault, IsReplayFault};
 
 use crate::input::read_input;
 use crate::output::write_text;
-use rlsf_base::memory::Memory;
+use crate::parts::part_for;
+use crate::prints::print_run;
+use rlsf_base::memory::{Memory, OpenMemory, Range};
 use rlsf_int::BitPattern;
 use rlsf_tlsf::Tlsf;
-use rlsf_trace_runs::run;
-use rlsf_trace_text::{Answer, Configuration, Fault, Op, ReplayFault, Trace, text_of};
+use rlsf_trace_text::{Configuration, Fault, ReplayFault, Trace};
 use std::alloc::Global;
 use std::io::{Read, Write};
 
-// The memory of a trace, whose start and length are no fault. If the system is out of memory, the fault is that of line 1.
+// The part of a trace's memory that its ops name, zeroed. The system is asked for the complete memory first, which isn't written: if
+// the system is out of memory, the fault is that of line 1.
 fn memory_of(alloc: Global, trace: &Trace) -> Result<Memory, ReplayFault>
-    ensures ok { IfOk result (λ memory. range_of memory ≡ range_at trace.now.start trace.now.len) }
+    ensures ok { IfOk result (λ m. IsPartFor (range_at trace.now.start trace.now.len) trace.now.ops.items (range_of m)) }
     ensures err { IfErr result (λ f. f ≡ no_memory) }
 {
-    Memory::new(alloc, trace.start, trace.len).or(Err(Fault::OutOfMemory.at_line(1)))
+    let Ok(complete) = OpenMemory::reserve(alloc, trace.start, trace.len) else {
+        return Err(Fault::OutOfMemory.at_line(1));
+    };
+    complete.free();
+    let space = Range {
+        start: trace.start,
+        len: trace.len,
+    };
+    Ok(zeroed(alloc, part_for(space, &trace.ops))?)
 }
 
-// What ops answer, on an allocator that has no chunk.
-fn answers_with<FLBitmap: BitPattern, SLBitmap: BitPattern, const FLLEN: usize, const SLLEN: usize>(
+// A memory of zero bytes.
+fn zeroed(alloc: Global, range: Range) -> Result<Memory, ReplayFault>
+    requires { 0 < range.start }
+    ensures ok { IfOk result (λ memory. range_of memory ≡ range) }
+    ensures err { IfErr result (λ f. f ≡ no_memory) }
+{
+    Memory::new(alloc, range.start, range.len).or(Err(Fault::OutOfMemory.at_line(1)))
+}
+
+// What is printed for ops, on an allocator that has no chunk. Its memory is the part of `memory` that the ops name.
+fn text_with<FLBitmap: BitPattern, SLBitmap: BitPattern, const FLLEN: usize, const SLLEN: usize>(
     alloc: Global,
     mut tlsf: Tlsf<FLBitmap, SLBitmap, FLLEN, SLLEN>,
-    ops: &[Op],
-) -> Result<Vec<Answer>, ReplayFault>
-    requires { tlsf.state ≡ empty }
-    ensures ok { IfOk result (λ answers. IsRun FLLEN SLLEN (range_of tlsf.memory) ops.now answers.items) }
+    trace: &Trace,
+) -> Result<String, ReplayFault>
+    requires empty { tlsf.state ≡ empty }
+    requires part { IsPartFor (range_at trace.now.start trace.now.len) trace.now.ops.items (range_of tlsf.memory) }
+    ensures ok { IfOk result (λ text. IsPrintedRun FLLEN SLLEN (range_at trace.now.start trace.now.len) trace.now.ops.items (string_bytes text)) }
     ensures err { IfErr result (λ f. f ≡ out_of_memory) }
 {
-    let mut answers = Vec::new(alloc);
-    run(alloc, &mut tlsf, ops, &mut answers).or(Err(Fault::OutOfMemory.at_line(0)))?;
-    Ok(answers)
+    Ok(print_run(alloc, &mut tlsf, &trace.ops)?)
 }
 
-// What the ops of a trace answer, with its configuration and its memory.
-fn answers_of(alloc: Global, trace: &Trace) -> Result<Vec<Answer>, ReplayFault>
-    ensures ok { IfOk result (λ answers. IsRun
+// What is printed for the ops of a trace, with its configuration and its memory.
+fn text_for(alloc: Global, trace: &Trace) -> Result<String, ReplayFault>
+    ensures ok { IfOk result (λ text. IsPrintedRun
         (rows_of trace.now.configuration) (classes_of trace.now.configuration)
-        (range_at trace.now.start trace.now.len) trace.now.ops.items answers.items) }
+        (range_at trace.now.start trace.now.len) trace.now.ops.items (string_bytes text)) }
     ensures err { IfErr result (λ f. (f ≡ out_of_memory) ⊎ (f ≡ no_memory)) }
 {
     let memory = memory_of(alloc, trace)?;
-    let ops = &trace.ops;
     match trace.configuration {
-        Configuration::EightByEight => answers_with(alloc, Tlsf::<u8, u8, 8, 8>::new(memory), ops),
-        Configuration::TwelveBySixteen => answers_with(
+        Configuration::EightByEight => text_with(alloc, Tlsf::<u8, u8, 8, 8>::new(memory), trace),
+        Configuration::TwelveBySixteen => text_with(
             alloc,
             Tlsf::<u16, u16, 12, 16>::new(memory),
-            ops,
+            trace,
         ),
-        Configuration::FiftyNineByEight => answers_with(
+        Configuration::FiftyNineByEight => text_with(
             alloc,
             Tlsf::<u64, u64, 59, 8>::new(memory),
-            ops,
+            trace,
         ),
-        Configuration::OneByOne => answers_with(alloc, Tlsf::<u8, u8, 1, 1>::new(memory), ops),
-        Configuration::EightByOne => answers_with(alloc, Tlsf::<u8, u8, 8, 1>::new(memory), ops),
+        Configuration::OneByOne => text_with(alloc, Tlsf::<u8, u8, 1, 1>::new(memory), trace),
+        Configuration::EightByOne => text_with(alloc, Tlsf::<u8, u8, 8, 1>::new(memory), trace),
     }
 }
 
-// The complete output for an input.
-fn output_of(alloc: Global, input: &[u8]) -> Result<String, ReplayFault>
-    ensures ok { IfOk result (λ text. IsOutput input.now (string_bytes text)) }
-    ensures err { IfErr result (λ f. IsOutputFault input.now f) }
+// The complete output for an input. The input is dropped before the ops are run.
+fn output_of(alloc: Global, input: Vec<u8>) -> Result<String, ReplayFault>
+    ensures ok { IfOk result (λ text. IsOutput input.items (string_bytes text)) }
+    ensures err { IfErr result (λ f. IsOutputFault input.items f) }
     ensures not_write { IfErr result (λ f. f.fault ≢ Fault.Write) }
 {
-    let trace = Trace::parse(alloc, input)?;
-    let answers = answers_of(alloc, &trace)?;
-    Ok(text_of(alloc, &trace.ops, &answers)?)
+    let trace = Trace::parse(alloc, &input)?;
+    drop(input);
+    Ok(text_for(alloc, &trace)?)
 }
 
 /// Replays a trace. Reads the rest of the reader as its text, runs the ops on a new allocator, and writes each op with its answer.
@@ -109,6 +127,6 @@ pub fn replay<R: Read, W: Write>(
         AppendsCutReplay input (W.contents writer.old) (W.contents writer.new))) }
 {
     let input = read_input(alloc, reader).map_err(|fault| fault.at_line(0))?;
-    let text = output_of(alloc, &input)?;
+    let text = output_of(alloc, input)?;
     write_text(writer, text.as_bytes()).map_err(|fault| fault.at_line(0))
 }

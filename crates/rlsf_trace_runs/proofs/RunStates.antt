@@ -4,6 +4,7 @@ use Rattle.std.proofs.Common.{◌∙◌, ap, subst}
 use Rattle.std.proofs.lemmas.List.Sorted.{IsPermutation-cons, IsPermutation-map, IsPermutation-refl, IsPermutation-sym, IsPermutation-trans}
 use Rattle.std.specs.Prelude.{IsPermutation}
 use Rattle.std.specs.HashMap.{get}
+use Rattle.std.specs.Option.{option_map}
 use Rattle.rlsf_base.specs.declared.memory.range.Range.{Range}
 use Rattle.rlsf_base.specs.Range.{end_of, LiesIn}
 use Rattle.rlsf_base.specs.Rounding.{round32}
@@ -20,6 +21,7 @@ use Rattle.rlsf_model.proofs.ChunkRows.{IsRow-appended, IsRow-inserted, IsRow-ke
 use Rattle.rlsf_model.proofs.Live.{live_stays}
 use Rattle.rlsf_trace_runs.specs.declared.tables.Tables.{Tables}
 use Rattle.rlsf_trace_runs.specs.Runs.{RunState, beginning, longer_pool, longer_pool_at, MayAppend, MayInsert, with_pool}
+use Rattle.rlsf_trace_runs.specs.Names.{address}
 use Rattle.rlsf_trace_runs.specs.Steps.Tables.{EndsAt, IsAt, IsInOrder}
 use Rattle.rlsf_trace_runs.proofs.Named.{AreNamed-empty, AreNamed-kept, AreNamed-same}
 use Rattle.rlsf_trace_runs.proofs.NewPools.{coverage-with_pool, pool_bounds}
@@ -197,4 +199,21 @@ IsAt-beginning {v = v} stands no_names no_pools = record {
   inside = λ p i. absurd (subst (IsIn p) no_pools i);
   covered = λ a. omega arith;
   rows = λ p i. absurd i;
+}
+
+-- tables that hold the same names and pools, and may have more room
+pub IsAt-roomy : {fllen sllen : ℕ} {v : Allocator} {tables new : Tables} {s : RunState} → IsAt fllen sllen v tables s
+    → ((name : ℕ) → get nat_eq new.names name ≡ get nat_eq tables.names name) → new.pools.items ≡ tables.pools.items → IsAt fllen sllen v new s
+IsAt-roomy {v = v} {new = new} {s = s} at names pools = record {
+  stands = at.stands;
+  named = record {
+    names = λ name. ap (option_map address) (names name) ∙ at.named.names name;
+    live = λ name p is. at.named.live name p (sym (names name) ∙ is);
+    one_name = at.named.one_name;
+  };
+  pools = subst (IsPermutation s.pools) (sym pools) at.pools;
+  in_order = subst IsInOrder (sym pools) at.in_order;
+  inside = subst (λ l. (p : Range) → IsIn p l → LiesIn p v.memory.start (length v.memory.bytes)) (sym pools) at.inside;
+  covered = at.covered;
+  rows = at.rows;
 }

@@ -1,6 +1,6 @@
 //! What a run remembers: the live payloads by name, and the pools.
 
-ghost use Rattle.std.specs.Prelude.{◌≡◌, ◌≢◌, ℕ, ◌+◌, ◌<◌, ◌≤◌, ◌^◌, [], ◌∷◌, length, slice_index_or, slice_set, nat_eq, if◌then◌else◌, IsPermutation, IsTrue, IfOk, IfSome, IfNone, ◌↔◌, Some, None};
+ghost use Rattle.std.specs.Prelude.{◌≡◌, ◌≢◌, ℕ, ◌+◌, ◌<◌, ◌≤◌, ◌^◌, [], ◌∷◌, length, slice_index_or, slice_set, nat_eq, if◌then◌else◌, IsPermutation, IsTrue, IfOk, IfSome, OnOk, IfNone, ◌↔◌, Some, None};
 ghost use Rattle.std.specs.HashMap.{get, IsEmpty};
 ghost use Rattle.std.specs.List.Sorted.{IsPartitionPoint};
 ghost use Rattle.rlsf_base.specs.declared.memory.range.Range.{Range};
@@ -37,6 +37,16 @@ impl Tables {
         let names = HashMap::with_capacity(alloc, ops)?;
         let pools = VecDeque::with_capacity(alloc, ops)?;
         Ok(Tables { names, pools })
+    }
+
+    /// Makes room for one op more, or returns an error if the system is out of memory. Names and pools are unchanged.
+    pub fn make_room(&mut self) -> Result<(), AllocError>
+        ensures names { (name : ℕ) → get nat_eq self.new.names name ≡ get nat_eq self.old.names name }
+        ensures pools { self.new.pools.items ≡ self.old.pools.items }
+        ensures room { OnOk result (HasRoom self.new 1) }
+    {
+        self.names.try_reserve(1)?;
+        self.pools.try_reserve(1)
     }
 
     /// Adds a pool. There is room for it, it isn't empty, and it overlaps no other.

@@ -19,4 +19,4 @@ pub use configuration::Configuration;
 pub use fault::{Fault, ReplayFault, status};
 pub use op::{Answer, Op, TraceError};
 pub use parse::Trace;
-pub use printing::text_of;
+pub use printing::{print_line, text_of};

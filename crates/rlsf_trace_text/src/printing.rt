@@ -23,9 +23,11 @@ pub fn text_of(alloc: Global, ops: &[Op], answers: &[Answer]) -> Result<String, 
     Ok(text)
 }
 
-/// A line without its end.
+/// Appends the line that is printed for an op and its answer, without the LF that ends it.
+///
+/// Returns an error if the system is out of memory. No clause says that it has no other cause.
 #[tactic(auto, unfolding(crate::specs::Printing::line_text))]
-fn print_line(text: &mut String, op: Op, answer: Answer) -> Result<(), AllocError>
+pub fn print_line(text: &mut String, op: Op, answer: Answer) -> Result<(), AllocError>
     ensures { OnOk result (string_bytes text.new ≡ string_bytes text.old ++ line_text op answer) }
 {
     match answer {
