@@ -38,7 +38,7 @@ LAYERS = [
     ]),
     ("Traces", "a text of calls, run and compared with the model", "#fbe3d6", [
         [(1, "rlsf_replay", "program: prints the answers"), (1, "rlsf_report_trace", "program: counts"), (1, "rlsf_draw_trace", "program: draws")],
-        [(1, "rlsf_trace_common", "reads, runs and prints"), (1, "rlsf_trace_recorded_runs", "what is held after each op"), (1, "rlsf_trace_flex_runs", "runs with a FlexTlsf")],
+        [(2, "rlsf_trace_common", "reads, runs and prints, or records what is held"), (1, "rlsf_trace_flex_runs", "runs with a FlexTlsf")],
         [(1, "rlsf_trace_text", "the text: ops and answers"), (2, "rlsf_trace_runs", "runs of ops with a Tlsf: the headline contract")],
     ]),
     ("Allocators", "each column adds to what is below it", "#d9efd9", [

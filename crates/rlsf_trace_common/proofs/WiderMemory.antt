@@ -124,7 +124,8 @@ module _ (memory part : Range) (inside : LiesIn part memory.start memory.len) wh
   refused s (OpUsable name) NotForTlsf has why = why
   refused s (OpBlock r index) UnknownName has why = why
   refused s (OpBlock r index) NameTaken has why = why
-  refused s (OpBlock r index) BadRange has never = λ may. never (record { lies_in = has r refl may.lies_in; pool = may.pool; is_pool = may.is_pool; begins = may.begins; ends = may.ends })
+  refused s (OpBlock r index) BadRange has never = λ may.
+      never (record { lies_in = has r refl may.lies_in; pool = may.pool; is_pool = may.is_pool; begins = may.begins; ends = may.ends })
   refused s (OpBlock r index) BadOffset has why = why
   refused s (OpBlock r index) BadLayout has why = why
   refused s (OpBlock r index) NotForFlex has why = why

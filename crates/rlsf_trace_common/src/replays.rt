@@ -63,9 +63,9 @@ fn text_with<FLBitmap: BitPattern, SLBitmap: BitPattern, const FLLEN: usize, con
 
 // What is printed for the ops of a trace, with its configuration and its memory.
 fn text_for(alloc: Global, trace: &Trace) -> Result<String, ReplayFault>
-    ensures ok { IfOk result (λ text. IsPrintedRun
+    ensures ok { IfOk result (λ t. IsPrintedRun
         (rows_of trace.now.configuration) (classes_of trace.now.configuration)
-        (range_at trace.now.start trace.now.len) trace.now.ops.items (string_bytes text)) }
+        (range_at trace.now.start trace.now.len) trace.now.ops.items (string_bytes t)) }
     ensures err { IfErr result (λ f. (f ≡ out_of_memory) ⊎ (f ≡ no_memory)) }
 {
     let memory = memory_of(alloc, trace)?;

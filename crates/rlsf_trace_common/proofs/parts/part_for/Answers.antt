@@ -12,8 +12,8 @@ widened-part-requires-clause-inside c = c.loop-op.invariant.0
 pub loop-op-preserved : goal.loop-op-preserved
 loop-op-preserved c = (
   c.widened-part.ensures.inside,
-  covers-more c.args.memory c.args.ops.now c.loop-op.invariant.1 c.widened-part.ensures.wider c.op-item.result (λ d. c.op-item.is ∙ get_or_default c.args.ops.now c.loop-op.op-index _ d c.loop-op-test.true)
-      c.widened-part.ensures.covers,
+  covers-more c.args.memory c.args.ops.now c.loop-op.invariant.1 c.widened-part.ensures.wider c.op-item.result
+      (λ d. c.op-item.is ∙ get_or_default c.args.ops.now c.loop-op.op-index _ d c.loop-op-test.true) c.widened-part.ensures.covers,
 )
 
 pub returns : goal.returns
