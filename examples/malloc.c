@@ -41,7 +41,7 @@ struct freed {
 
 static pthread_mutex_t lock = PTHREAD_MUTEX_INITIALIZER;
 static __thread volatile sig_atomic_t inside __attribute__((tls_model("initial-exec"))); /* whether this thread holds the lock, or waits */
-static int forks;            /* how many forks run; the heap doesn't change meanwhile */
+static int forks;             /* how many forks run; the heap doesn't change meanwhile */
 static struct freed *waiting; /* what was freed meanwhile */
 static rlsf_large_handle handle;
 static rlsf_heap *heap;
