@@ -75,37 +75,37 @@ leaf_read [] q v h e = absurd (omega (arith, h))
 leaf_read (w ∷ vs) zero v h e = ap (λ x. x.items) e
 leaf_read (w ∷ vs) (suc q) v h e = leaf_read vs q v (omega (arith, h)) e
 
-hint_set : (ls : List (List ℕ)) (l : List ℕ) (place n : ℕ) → place / 2048 < length ls → slice_get l (place % 2048) ≡ Some n → hint_at (set ls (place / 2048) l) place ≡ Some n
-hint_set ls l place n lt h = ap (λ x. slice_get x (place % 2048)) (get_or-set_same ls (place / 2048) l [] lt) ∙ h
+hint_set : (ls : List (List ℕ)) (l : List ℕ) (place n : ℕ) → place / 512 < length ls → slice_get l (place % 512) ≡ Some n → hint_at (set ls (place / 512) l) place ≡ Some n
+hint_set ls l place n lt h = ap (λ x. slice_get x (place % 512)) (get_or-set_same ls (place / 512) l [] lt) ∙ h
 
-hint_kept : (before ls : List (List ℕ)) (l : List ℕ) (place : ℕ) → place / 2048 < length ls → HaveSameLeaves before ls
-    → KeepsOthers (get_or ls (place / 2048) []) (place % 2048) l → KeepsOtherHints before place (set ls (place / 2048) l)
+hint_kept : (before ls : List (List ℕ)) (l : List ℕ) (place : ℕ) → place / 512 < length ls → HaveSameLeaves before ls
+    → KeepsOthers (get_or ls (place / 512) []) (place % 512) l → KeepsOtherHints before place (set ls (place / 512) l)
 unfolding KeepsOtherHints KeepsOthers HaveSameLeaves
 hint_kept before ls l place lt same kept p n off here =
-    let there : slice_get (get_or ls (p / 2048) []) (p % 2048) ≡ Some n = ap (λ x. slice_get x (p % 2048)) (same (p / 2048)) ∙ here in
-    elim (cases_eq (p / 2048) (place / 2048)) [
+    let there : slice_get (get_or ls (p / 512) []) (p % 512) ≡ Some n = ap (λ x. slice_get x (p % 512)) (same (p / 512)) ∙ here in
+    elim (cases_eq (p / 512) (place / 512)) [
       | inl page ↦
-          let apart : p % 2048 ≢ place % 2048 = λ e. off (omega (arith, page, e)) in
-          let old : slice_get (get_or ls (place / 2048) []) (p % 2048) ≡ Some n = subst (λ q. slice_get (get_or ls q []) (p % 2048) ≡ Some n) page there in
-          ap (λ q. slice_get (get_or (set ls (place / 2048) l) q []) (p % 2048)) page ∙ ap (λ x. slice_get x (p % 2048)) (get_or-set_same ls (place / 2048) l [] lt) ∙ kept
-          (p % 2048) n apart old
-      | inr other ↦ ap (λ x. slice_get x (p % 2048)) (get_or-set_other ls (place / 2048) (p / 2048) l [] other) ∙ there
+          let apart : p % 512 ≢ place % 512 = λ e. off (omega (arith, page, e)) in
+          let old : slice_get (get_or ls (place / 512) []) (p % 512) ≡ Some n = subst (λ q. slice_get (get_or ls q []) (p % 512) ≡ Some n) page there in
+          ap (λ q. slice_get (get_or (set ls (place / 512) l) q []) (p % 512)) page ∙ ap (λ x. slice_get x (p % 512)) (get_or-set_same ls (place / 512) l [] lt) ∙ kept
+          (p % 512) n apart old
+      | inr other ↦ ap (λ x. slice_get x (p % 512)) (get_or-set_other ls (place / 512) (p / 512) l [] other) ∙ there
     ]
 
 pub hints_same : (before after : List (List ℕ)) (place : ℕ) → HaveSameLeaves before after → KeepsOtherHints before place after
 unfolding KeepsOtherHints HaveSameLeaves
-hints_same before after place same p n off here = ap (λ x. slice_get x (p % 2048)) (same (p / 2048)) ∙ here
+hints_same before after place same p n off here = ap (λ x. slice_get x (p % 512)) (same (p / 512)) ∙ here
 
 -- a leaf of hints is written
-module _ {Z : Type 0} (vs : List (Vec ℕ Z)) (old new : Vec ℕ Z) (place : ℕ) (within : place / 2048 < length vs) where
-  in_numbers : place / 2048 < length (leaf_numbers vs)
-  in_numbers = subst (λ n. place / 2048 < n) (sym (length-leaf_numbers vs)) within
+module _ {Z : Type 0} (vs : List (Vec ℕ Z)) (old new : Vec ℕ Z) (place : ℕ) (within : place / 512 < length vs) where
+  in_numbers : place / 512 < length (leaf_numbers vs)
+  in_numbers = subst (λ n. place / 512 < n) (sym (length-leaf_numbers vs)) within
 
-  pub leaf_set : (n : ℕ) → slice_get new.items (place % 2048) ≡ Some n → hint_at (leaf_numbers (set vs (place / 2048) new)) place ≡ Some n
-  leaf_set n h = ap (λ ls. hint_at ls place) (leaf_numbers-set vs (place / 2048) new) ∙ hint_set (leaf_numbers vs) new.items place n in_numbers h
+  pub leaf_set : (n : ℕ) → slice_get new.items (place % 512) ≡ Some n → hint_at (leaf_numbers (set vs (place / 512) new)) place ≡ Some n
+  leaf_set n h = ap (λ ls. hint_at ls place) (leaf_numbers-set vs (place / 512) new) ∙ hint_set (leaf_numbers vs) new.items place n in_numbers h
 
-  pub leaf_kept : (before : List (List ℕ)) → old ≡ get_or vs (place / 2048) old → HaveSameLeaves before (leaf_numbers vs) → KeepsOthers old.items (place % 2048) new.items
-      → KeepsOtherHints before place (leaf_numbers (set vs (place / 2048) new))
+  pub leaf_kept : (before : List (List ℕ)) → old ≡ get_or vs (place / 512) old → HaveSameLeaves before (leaf_numbers vs) → KeepsOthers old.items (place % 512) new.items
+      → KeepsOtherHints before place (leaf_numbers (set vs (place / 512) new))
   leaf_kept before read same kept =
-      subst (λ ls. KeepsOtherHints before place ls) (sym (leaf_numbers-set vs (place / 2048) new))
-      (hint_kept before (leaf_numbers vs) new.items place in_numbers same (subst (λ l. KeepsOthers l (place % 2048) new.items) (leaf_read vs (place / 2048) old within read) kept))
+      subst (λ ls. KeepsOtherHints before place ls) (sym (leaf_numbers-set vs (place / 512) new))
+      (hint_kept before (leaf_numbers vs) new.items place in_numbers same (subst (λ l. KeepsOthers l (place % 512) new.items) (leaf_read vs (place / 512) old within read) kept))

@@ -16,4 +16,5 @@ pub mod Resizes
 pub mod Results
 mod RowsInOrder
 mod SortedRows
+mod Spots
 mod TableAnswers

@@ -7,7 +7,7 @@ use Rattle.rlsf_model_global.specs.Rows.{Row, key, IsSorted, row_at, put, withou
 use Rattle.rlsf_model_global.proofs.Rows.{put-sorted, without_row-sorted, absent-row_at}
 use Rattle.rlsf_model_global.proofs.Maps.{row_at-put_here, row_at-put_other, row_at-without_here, row_at-without_other}
 use Rattle.rlsf_global.proofs.ListElements.{some_same, get-length, get-some, get-append, get-append_last, get-set, get-set_same, get-take, get-take_in, get-swapped, get-swapped_in}
-use Rattle.rlsf_global.specs.LiveRows.{AreApart, in_order}
+use Rattle.rlsf_global.specs.LiveRows.{AreApart, AreSpread, HasNoneAt, in_order, spot}
 
 -- ---- lookups
 
@@ -25,7 +25,7 @@ tail_apart x rows apart i j r s h g same = let e = apart (suc i) (suc j) r s h g
 
 head_apart : (x : Row) (rows : List Row) → AreApart (x ∷ rows) → (i : ℕ) (r : Row) → slice_get rows i ≡ Some r → key r ≢ key x
 unfolding AreApart
-head_apart x rows apart i r h same = let e = apart (suc i) 0 r x h refl same in omega (arith, e)
+head_apart x rows apart i r h same = let e = apart (suc i) 0 r x h refl (ap spot same) in omega (arith, e)
 
 pub row_at-some : (a : ℕ) (rows : List Row) (i : ℕ) (r : Row) → AreApart rows → slice_get rows i ≡ Some r → key r ≡ a → row_at a rows ≡ Some r
 row_at-some a [] i r apart h same = absurd (cc)
@@ -136,24 +136,38 @@ row_at-more a rows i r lt read other none = row_at-none a (take (i + 1) rows) (�
 
 -- ---- an entry more
 
+-- an entry whose spot no other has, as callers say it
+pub none_near : (rows : List Row) (row : Row) → AreApart rows → row_at (key row) (in_order rows) ≡ None → AreSpread (put row (in_order rows))
+    → HasNoneAt rows (spot (key row))
+unfolding AreSpread HasNoneAt
+none_near rows row apart fresh spread i r here same =
+    let other : key r ≢ key row = row_at-absent (key row) rows (sym (row_at-in_order (key row) rows) ∙ fresh) i r here in
+    let first : row_at (key r) (put row (in_order rows)) ≡ Some r =
+    row_at-put_other row (in_order rows) (key r) other ∙ row_at-in_order (key r) rows ∙ row_at-some (key r) rows i r apart here refl in
+    other (spread (key r) (key row) r row first (row_at-put_here row (in_order rows)) same)
+
 row_at-append_other : (a : ℕ) (rows : List Row) (row : Row) → key row ≢ a → row_at a (rows ++ row ∷ []) ≡ row_at a rows
 row_at-append_other a [] row off = grind (arith, nat_tests)
 row_at-append_other a (x ∷ rows) row off = let rest = row_at-append_other a rows row off in grind (arith, nat_tests)
 
 module _ (rows : List Row) (apart : AreApart rows) where
-  module _ (row : Row) (none : row_at (key row) rows ≡ None) where
+  module _ (row : Row) (far : HasNoneAt rows (spot (key row))) where
     pub apart-append : AreApart (rows ++ row ∷ [])
-    unfolding AreApart
+    unfolding AreApart HasNoneAt
     apart-append i j r s h g same = elim (get-append rows row i r h) [
       | inl old ↦ elim (get-append rows row j s g) [
         | inl other ↦ apart i j r s old other same
-        | inr (at, is) ↦ absurd (row_at-absent (key row) rows none i r old (same ∙ ap key (sym is)))
+        | inr (at, is) ↦ absurd (far i r old (same ∙ ap (λ (t : Row). spot (key t)) (sym is)))
       ]
       | inr (here, now) ↦ elim (get-append rows row j s g) [
-        | inl other ↦ absurd (row_at-absent (key row) rows none j s other (sym same ∙ ap key (sym now)))
+        | inl other ↦ absurd (far j s other (sym same ∙ ap (λ (t : Row). spot (key t)) (sym now)))
         | inr (at, is) ↦ here ∙ sym at
       ]
     ]
+
+    none : row_at (key row) rows ≡ None
+    unfolding HasNoneAt
+    none = row_at-none (key row) rows (λ i r h same. far i r h (ap spot same))
 
     pub in_order-append : in_order (rows ++ row ∷ []) ≡ put row (in_order rows)
     in_order-append =
@@ -194,8 +208,8 @@ module _ (rows : List Row) (apart : AreApart rows) where
     none_left i r h same =
         let one = get-swapped rows k d i r in_range h in
         elim one.1 [
-          | inl (here, last) ↦ let e = apart (length rows - 1) k r g last there same in omega (arith, e, here, one.0)
-          | inr (away, stays) ↦ away (apart i k r g stays there same)
+          | inl (here, last) ↦ let e = apart (length rows - 1) k r g last there (ap spot same) in omega (arith, e, here, one.0)
+          | inr (away, stays) ↦ away (apart i k r g stays there (ap spot same))
         ]
 
     row_at-swap_remove : (a : ℕ) → a ≢ key g → row_at a (swap_remove rows k d) ≡ row_at a rows
@@ -239,10 +253,10 @@ module _ (rows : List Row) (apart : AreApart rows) (k : ℕ) (g row : Row) (ther
   apart-set i j r s h f same = elim (get-set rows k row i r h) [
     | inl (here, now) ↦ elim (get-set rows k row j s f) [
       | inl (at, is) ↦ here ∙ sym at
-      | inr (off, old) ↦ here ∙ apart k j g s there old (sym same_key ∙ ap key now ∙ same)
+      | inr (off, old) ↦ here ∙ apart k j g s there old (ap spot (sym same_key ∙ ap key now) ∙ same)
     ]
     | inr (away, stays) ↦ elim (get-set rows k row j s f) [
-      | inl (at, is) ↦ apart i k r g stays there (same ∙ ap key (sym is) ∙ same_key) ∙ sym at
+      | inl (at, is) ↦ apart i k r g stays there (same ∙ ap spot (ap key (sym is) ∙ same_key)) ∙ sym at
       | inr (off, old) ↦ apart i j r s stays old same
     ]
   ]

@@ -9,7 +9,7 @@ use Rattle.std.specs.Ordering.{nat_cmp, is_lt}
 use Rattle.rlsf_model_global.specs.Rows.{Row, key, IsSorted, row_at}
 use Rattle.rlsf_global.proofs.ListElements.{some_same, get-length, get-some}
 use Rattle.rlsf_global.proofs.RowsInOrder.{row_at-none, row_at-some, row_at-get, row_at-absent, row_at-in_order, in_order-sorted, same_rows}
-use Rattle.rlsf_global.specs.LiveRows.{AreApart, in_order}
+use Rattle.rlsf_global.specs.LiveRows.{AreApart, in_order, spot}
 
 -- where an element is after an exchange
 other : ℕ → ℕ → ℕ → ℕ
@@ -121,7 +121,7 @@ sorted_rows rows ys apart moved sorted =
     let high : get_or ys (k + 1) r ≡ s = ap (λ n. get_or ys n r) (add-one k) ∙ get_or-get ys (suc k) s r g in
     let le : key r ≤ key s = not_below (key s) (key r) (sym (ap (λ t. is_lt (nat_cmp (key t) (key (get_or ys k r)))) high ∙ ap (λ t. is_lt (nat_cmp (key s) (key t))) low) ∙
     step) in
-    let differ : key r ≢ key s = λ same. let e = is.apart k (suc k) r s h g same in omega (arith, e) in
+    let differ : key r ≢ key s = λ same. let e = is.apart k (suc k) r s h g (ap spot same) in omega (arith, e) in
     omega (arith, le, differ)))
     (in_order-sorted rows apart)
     (λ addr. is.same addr ∙ sym (row_at-in_order addr rows))

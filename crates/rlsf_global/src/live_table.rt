@@ -2,6 +2,7 @@
 
 ghost use Rattle.std.specs.Prelude.{◌≡◌, ◌≤◌, ◌<◌, ◌+◌, [], None, IfNone, IsSome, OnOk, OnSome};
 ghost use Rattle.rlsf_base.specs.Addr.{at};
+ghost use Rattle.rlsf_global.specs.LiveRows.{AreSpread};
 ghost use Rattle.rlsf_model_global.specs.Rows.{key, put, row_at, without_row};
 
 mod entries;
@@ -16,7 +17,7 @@ use std::marker::Model;
 /// A table of live payloads: addresses, each with its last layout. Contracts see the entries in the order of their addresses.
 ///
 /// The entries are kept in any order. For each 32 bytes of the addresses in use, a hint has the index of the entry. So a call looks at one
-/// entry, however many there are. Where the system was out of memory for a hint, calls look at every entry.
+/// entry, however many there are. Where the system was out of memory for a hint, calls look at every entry until the next allocation.
 #[derive(Drop)]
 pub(crate) struct LiveTable {
     rows: Vec<(Addr, Layout)>,
@@ -40,27 +41,31 @@ impl Model for LiveTable {
 }
 
 impl LiveTable {
-    /// Creates a table without entries, for addresses from `start` on.
-    pub(crate) fn new(alloc: Global, start: usize) -> LiveTable
+    /// Creates a table without entries, for the addresses of a range of `len` bytes from `start` on.
+    pub(crate) fn new(alloc: Global, start: usize, len: usize) -> LiveTable
         ensures { result.rows ≡ [] }
     {
         LiveTable {
             rows: Vec::new(alloc),
-            hints: Hints::new(alloc),
+            hints: Hints::new(alloc, len / 32 + 1),
             base: start / 32,
             exact: true,
         }
     }
 
-    /// Reserves room for an entry. If hints aren't exact, it sets them anew.
+    /// Reserves room for an entry and its hint. If hints aren't exact, it sets them anew.
+    #[tactic(auto, using(crate::proofs::HintedRows::hinted_same))]
     pub(crate) fn reserve(&mut self) -> Result<(), AllocError>
         ensures rows { self.new.rows ≡ self.old.rows }
         ensures room { OnOk result (0 < self.new.room) }
     {
         if !self.exact {
-            self.exact = rebuild(&self.rows, &mut self.hints, self.base);
+            self.exact = rebuild(&self.rows, &mut self.hints, self.base, self.exact);
         }
-        self.rows.try_reserve(1)
+        if self.rows.try_reserve(1).is_err() || !self.hints.prepare() || !self.exact {
+            return Err(AllocError);
+        }
+        Ok(())
     }
 
     /// Returns the entry of an address, if it has one.
@@ -77,6 +82,7 @@ impl LiveTable {
     pub(crate) fn put(&mut self, row: (Addr, Layout))
         requires room { 0 < self.old.room }
         requires fresh { row_at (key row) self.old.rows ≡ None }
+        requires spread { AreSpread (put row self.old.rows) }
         ensures rows { self.new.rows ≡ put row self.old.rows }
         ensures room { self.old.room ≤ self.new.room + 1 }
     {
@@ -122,6 +128,7 @@ impl LiveTable {
     pub(crate) fn move_row(&mut self, addr: Addr, row: (Addr, Layout))
         requires live { IsSome (row_at (at addr) self.old.rows) }
         requires fresh { row_at (key row) (without_row (at addr) self.old.rows) ≡ None }
+        requires spread { AreSpread (put row (without_row (at addr) self.old.rows)) }
         ensures rows { self.new.rows ≡ put row (without_row (at addr) self.old.rows) }
     {
         if row.0.get() == addr.get() {

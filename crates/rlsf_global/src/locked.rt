@@ -62,7 +62,7 @@ impl<Options: GlobalTlsfOptions> Locked<Options> {
         };
         Locked {
             flex: FlexTlsf::new(memory, Source::new(space)),
-            rows: LiveTable::new(alloc, space.start),
+            rows: LiveTable::new(alloc, space.start, space.len),
         }
     }
 

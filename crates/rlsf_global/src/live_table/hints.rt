@@ -5,16 +5,21 @@ ghost use Rattle.rlsf_global.specs.Hints.{HasAll, HaveSameLeaves, KeepsOtherHint
 
 use std::alloc::Global;
 use std::marker::Model;
+use std::mem::swap;
 
-/// The places of a leaf.
-const PLACES: usize = 2048;
+/// The places of a leaf, which has 2 KiB.
+const PLACES: usize = 512;
 
 /// Numbers by places. A place has none until one is set.
 #[derive(Drop)]
 pub(crate) struct Hints {
     alloc: Global,
-    // For each page of places its leaf, or none yet.
+    // For each page of places its leaf, or an empty one.
     leaves: Vec<Vec<u32>>,
+    // How many pages there are.
+    pages: usize,
+    // The next leaf, so that a hint can be set without memory from the system. Empty if there is none.
+    spare: Vec<u32>,
 }
 
 impl Model for Hints {
@@ -27,14 +32,30 @@ impl Model for Hints {
 }
 
 impl Hints {
-    /// Creates hints of no place.
-    pub(crate) fn new(alloc: Global) -> Hints
-        ensures { result ≡ [] }
+    /// Creates hints for places up to `last`, none of which has one. Makes room for all leaves, unless the system is out of memory.
+    pub(crate) fn new(alloc: Global, last: usize) -> Hints
+        ensures { HaveSameLeaves [] result }
     {
+        let pages = last / PLACES + 1;
+        let mut leaves = Vec::new(alloc);
+        let _reached = reach(&mut leaves, pages, alloc);
         Hints {
             alloc,
-            leaves: Vec::new(alloc),
+            leaves,
+            pages,
+            spare: Vec::new(alloc),
         }
+    }
+
+    /// Makes what the next hint may need: room for all leaves, and a spare leaf. Returns whether both are there.
+    pub(crate) fn prepare(&mut self) -> bool
+        ensures { HaveSameLeaves self.old self.new }
+    {
+        if !reach(&mut self.leaves, self.pages, self.alloc) {
+            return false;
+        }
+        fill(&mut self.spare, self.alloc);
+        !self.spare.is_empty()
     }
 
     /// Returns the hint of a place, if it has one.
@@ -49,30 +70,41 @@ impl Hints {
         }
     }
 
-    /// Sets the hint of a place. Returns whether it is set: the system may be out of memory for a leaf.
+    /// Sets the hint of a place. Returns whether it is set: there may be no leaf for it, and no memory for one.
     pub(crate) fn set(&mut self, place: usize, number: u32) -> bool
         ensures set { result ≡ true → hint_at self.new place ≡ Some number }
         ensures kept { KeepsOtherHints self.old place self.new }
     {
         let page = place / PLACES;
-        reach(&mut self.leaves, page, self.alloc);
-        if page < self.leaves.len() {
-            set_in(&mut self.leaves[page], place % PLACES, number, self.alloc)
-        } else {
-            false
+        if page >= self.leaves.len() {
+            return false;
         }
+        set_in(
+            &mut self.leaves[page],
+            &mut self.spare,
+            place % PLACES,
+            number,
+            self.alloc,
+        )
     }
 }
 
-/// Adds empty leaves until a page has one, or the system is out of memory.
-fn reach(leaves: &mut Vec<Vec<u32>>, page: usize, alloc: Global)
+/// Adds empty leaves until there are so many. Returns whether there are: the system may be out of memory for them.
+fn reach(leaves: &mut Vec<Vec<u32>>, pages: usize, alloc: Global) -> bool
     ensures { HaveSameLeaves (leaf_numbers leaves.old.items) (leaf_numbers leaves.new.items) }
 {
-    while leaves.len() <= page {
+    if leaves
+        .try_reserve_exact(pages.saturating_sub(leaves.len()))
+        .is_err()
+    {
+        return false;
+    }
+    while leaves.len() < pages {
         if leaves.push(Vec::new(alloc)).is_err() {
-            return;
+            return false;
         }
     }
+    true
 }
 
 /// Makes a leaf if it is empty, unless the system is out of memory.
@@ -87,12 +119,23 @@ fn fill(leaf: &mut Vec<u32>, alloc: Global)
     }
 }
 
-/// Sets a number of a leaf, which is made if it is empty. Returns whether it is set.
-fn set_in(leaf: &mut Vec<u32>, at: usize, number: u32, alloc: Global) -> bool
+/// Gives a page without a leaf the spare one, or else a new one.
+fn give(leaf: &mut Vec<u32>, spare: &mut Vec<u32>, alloc: Global)
+    ensures { HasAll leaf.old.items leaf.new.items }
+{
+    if !leaf.is_empty() {
+        return;
+    }
+    swap(leaf, spare);
+    fill(leaf, alloc);
+}
+
+/// Sets a number of a leaf, which is the spare one or a new one if the page has none. Returns whether it is set.
+fn set_in(leaf: &mut Vec<u32>, spare: &mut Vec<u32>, at: usize, number: u32, alloc: Global) -> bool
     ensures set { result ≡ true → slice_get leaf.new.items at ≡ Some number }
     ensures kept { KeepsOthers leaf.old.items at leaf.new.items }
 {
-    fill(leaf, alloc);
+    give(leaf, spare, alloc);
     if at >= leaf.len() {
         return false;
     }

@@ -1,7 +1,5 @@
-use Rattle.std.proofs.Common.{arith, ◌≡◌, ◌<◌, sym, ap, ◌∙◌, Some, subst, length, get_or, ◌-◌}
-use Rattle.rlsf_global.specs.Hints.{hint_at, KeepsOtherHints}
-use Rattle.rlsf_global.specs.LiveRows.{AreHinted, place}
-use Rattle.rlsf_model_global.specs.Rows.{key}
+use Rattle.std.proofs.Common.{arith, ◌≡◌, ◌<◌, sym, ap, ◌∙◌, subst, length, get_or, ◌-◌}
+use Rattle.rlsf_global.specs.LiveRows.{AreHinted}
 use Rattle.rlsf_global.proofs.HintedRows.{hinted-swap_remove}
 use Rattle.rlsf_global.proofs.live_table.entries.take_out.Goals as goal
 
@@ -12,10 +10,7 @@ returns-then-exact-clause-hinted c = λ set.
     let m = c.index.result.now in
     let len = c.args.rows.now.ok.0 in
     let within : c.args.index < length rows = omega (arith, c.requires.in_range, len) in
-    let spot = c.place_of.ensures in
     let hinted = c.requires.hinted c.if-exact.true in
-    let kept : KeepsOtherHints c.args.hints.now (place c.args.base (key m)) after = subst (λ p. KeepsOtherHints c.args.hints.now p after) spot c.point-set.ensures.kept in
-    let new : hint_at after (place c.args.base (key m)) ≡ Some c.args.index = ap (hint_at after) (sym spot) ∙ c.point-set.ensures.set set in
     let read : m ≡ get_or rows (length rows - 1) m = c.index.ensures ∙ ap (λ n. get_or rows (n - 1) m) (c.len.ensures ∙ len) in
     subst (λ l. AreHinted c.args.base l after) (sym c.swap_remove-gone.ensures.items)
-    (hinted-swap_remove c.args.base rows c.args.index m c.swap_remove-gone.result c.args.hints.now after hinted within read kept new)
+    (hinted-swap_remove c.args.base rows c.args.index m c.swap_remove-gone.result c.args.hints.now after hinted within read c.point-set.ensures.kept (c.point-set.ensures.set set))

@@ -2,11 +2,14 @@ use Rattle.std.proofs.Common.{◌≡◌, is_ok, not, true, ap, ◌∙◌, ◌++�
 use Rattle.rlsf_global.proofs.HintLeaves.{same_leaves, pushed_leaves}
 use Rattle.rlsf_global.proofs.live_table.hints.reach.Goals as goal
 
+pub returns-then-is_err : goal.returns-then-is_err
+returns-then-is_err c = rw c.try_reserve_exact.ensures.items (same_leaves _)
+
 pub loop-alloc-init : goal.loop-alloc-init
-loop-alloc-init c = same_leaves _
+loop-alloc-init c = rw c.try_reserve_exact.ensures.items (same_leaves _)
 
 pub loop-alloc-preserved : goal.loop-alloc-preserved
 loop-alloc-preserved c =
-    let ok : is_ok c.push.result ≡ true = c.is_err.ensures.negation ∙ ap not c.if-is_err.false in
+    let ok : is_ok c.push.result ≡ true = c.is_err-in-loop-alloc.ensures.negation ∙ ap not c.if-is_err-2.false in
     let pushed = c.push.ensures.items ∙ ap (λ b. if b then c.loop-alloc.leaves.items ++ c.new.result ∷ [] else c.loop-alloc.leaves.items) ok in
     pushed_leaves _ c.loop-alloc.leaves.items c.push.new.self.items c.new.result c.loop-alloc.invariant pushed c.new.ensures.items

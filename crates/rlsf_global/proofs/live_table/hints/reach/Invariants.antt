@@ -1,4 +1,4 @@
-use Rattle.std.proofs.Common.{suc, ◌-◌}
+use Rattle.std.proofs.Common.{◌-◌}
 use Rattle.std.proofs.Common.{vec_len}
 use Rattle.rlsf_global.specs.Hints.{HaveSameLeaves, leaf_numbers}
 use Rattle.rlsf_global.proofs.live_table.hints.reach.Given as goal
@@ -7,4 +7,4 @@ abbrev pub invariant-loop-alloc : goal.invariant-loop-alloc
 invariant-loop-alloc l = HaveSameLeaves (leaf_numbers l.initial.leaves.items) (leaf_numbers l.leaves.items)
 
 abbrev pub decreases-loop-alloc : goal.decreases-loop-alloc
-decreases-loop-alloc l = suc l.page - vec_len l.leaves
+decreases-loop-alloc l = l.pages - vec_len l.leaves

@@ -4,6 +4,7 @@ use Rattle.rlsf_global.specs.Locked.{heap_of}
 use Rattle.rlsf_global.proofs.KeptMemories.{KeepsMemory-refl, kept_allocated}
 use Rattle.rlsf_global.proofs.Layouts.{content_at-bytes, content_at-is, layout_at-none, layout_at-put_here, layout_at-put_other}
 use Rattle.rlsf_global.proofs.Placements.{allocated, allocated_locked, heap_stays, no_row, not_allocated, stays_locked}
+use Rattle.rlsf_global.proofs.Spots.{spread}
 use Rattle.rlsf_global.proofs.locked.Locked.allocate.Goals as goal
 
 pub returns-then-is_err : goal.returns-then-is_err
@@ -32,6 +33,14 @@ invariant_of-self-in_default g c =
 
 pub put-requires-clause-fresh : goal.put-requires-clause-fresh
 put-requires-clause-fresh g c = rw c.reserve.ensures.rows (no_row c.self.inside.flex c.self.inside.rows.rows c.self.invariant _ c.in-Some.ensures.new)
+
+pub put-requires-clause-spread : goal.put-requires-clause-spread
+put-requires-clause-spread g c =
+    rw c.reserve.ensures.rows
+    (spread c.allocate.new.self _
+    (allocated_locked c.self.inside.flex c.self.inside.rows.rows c.self.invariant c.allocate.new.self c.args.layout c.in-Some.addr c.in-Some.ensures.step _ refl
+    c.in-Some.ensures.new (record { live = c.in-Some.ensures.live; sized = c.in-Some.ensures.sized; few = c.in-Some.ensures.few }) c.in-Some.ensures.aligns
+    c.in-Some.ensures.bytes))
 
 pub invariant_of-self-2 : goal.invariant_of-self-2
 invariant_of-self-2 g c =

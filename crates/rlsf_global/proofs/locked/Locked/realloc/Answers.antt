@@ -19,6 +19,7 @@ use Rattle.rlsf_model_global.specs.declared.error.GlobalError.TheVariants.{NoRoo
 use Rattle.rlsf_model_global.specs.Moves.{HeapReallocatesAs, ReallocatesAsAt, ReallocatesTo}
 use Rattle.rlsf_model_global.specs.Rows.{put, without_row}
 use Rattle.rlsf_global.proofs.locked.Locked.realloc.Given as given
+use Rattle.rlsf_global.proofs.Spots.{spread}
 use Rattle.rlsf_global.proofs.locked.Locked.realloc.Goals as goal
 use Rattle.rlsf_global.proofs.locked.Locked.realloc.Goals.{After-move_row, After-resize}
 
@@ -47,6 +48,12 @@ pub move_row-requires-clause-fresh : goal.move_row-requires-clause-fresh
 move_row-requires-clause-fresh g c =
     moved_row c.self.inside.flex c.self.inside.rows.rows c.self.invariant c.resize.new.flex (at c.args.addr) c.from_size_align_unchecked-wanted.result c.in-Some-resize.moved
     c.in-Some-resize.ensures.moved
+
+pub move_row-requires-clause-spread : goal.move_row-requires-clause-spread
+move_row-requires-clause-spread g c =
+    spread c.resize.new.flex _
+    (moved_locked c.self.inside.flex c.self.inside.rows.rows c.self.invariant c.resize.new.flex (at c.args.addr) c.from_size_align_unchecked-wanted.result c.in-Some-resize.moved
+    c.in-Some-resize.ensures.moved _ refl)
 
 pub invariant_of-self-2 : goal.invariant_of-self-2
 invariant_of-self-2 g c =

@@ -12,6 +12,7 @@ use Rattle.rlsf_model_global.specs.declared.error.GlobalError.TheVariants.{NoRoo
 use Rattle.rlsf_model_global.specs.Moves.{HeapReallocates, MovesAway, ReallocatesAt}
 use Rattle.rlsf_model_global.specs.Rows.{IsSorted, put, row_at, without_row}
 use Rattle.rlsf_global.proofs.locked.Locked.reallocate.Given as given
+use Rattle.rlsf_global.proofs.Spots.{spread}
 use Rattle.rlsf_global.proofs.locked.Locked.reallocate.Goals as goal
 use Rattle.rlsf_global.proofs.locked.Locked.reallocate.Goals.{After-move_row}
 
@@ -37,6 +38,12 @@ pub move_row-requires-clause-fresh : goal.move_row-requires-clause-fresh
 move_row-requires-clause-fresh g c =
     moved_row c.self.inside.flex c.self.inside.rows.rows c.self.invariant c.move_away.new.flex (at c.args.addr) c.args.layout c.in-Some-move_away.to
     c.in-Some-move_away.ensures.moved
+
+pub move_row-requires-clause-spread : goal.move_row-requires-clause-spread
+move_row-requires-clause-spread g c =
+    spread c.move_away.new.flex _
+    (moved_locked c.self.inside.flex c.self.inside.rows.rows c.self.invariant c.move_away.new.flex (at c.args.addr) c.args.layout c.in-Some-move_away.to
+    c.in-Some-move_away.ensures.moved _ refl)
 
 pub invariant_of-self-2 : goal.invariant_of-self-2
 invariant_of-self-2 g c =
