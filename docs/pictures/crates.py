@@ -21,20 +21,19 @@ LAYERS = [
         [(1, "rlsf_test_base", "integers and memories"), (1, "rlsf_test_trace", "traces"),
          (1, "rlsf_source_for_tests", "a source for tests"), (1, "rlsf_compare_model_flex rlsf_compare_model_global", "comparison with Python")],
     ]),
-    ("Benchmarks", "one set of steps, seven programs", "#eeeeee", [
-        [(1, "rlsf_bench_common", "the steps"), (2.2, "rlsf_bench rlsf_bench_aligned rlsf_bench_not_inlined rlsf_bench_not_inlined_aligned", "Tlsf: in place or by calls, one alignment or seven"),
-         (1.4, "rlsf_bench_heap rlsf_bench_shared rlsf_bench_global", "heaps; threads")],
+    ("Benchmarks", "one set of steps, three programs", "#eeeeee", [
+        [(1, "rlsf_bench_common", "the steps"), (1, "rlsf_bench", "Tlsf"), (1, "rlsf_bench_heap", "Heap"),
+         (1, "rlsf_bench_threads", "GlobalTlsf and SharedHeap, with threads")],
     ]),
     ("Examples", "programs to copy from", "#fff3d0", [
-        [(1, "rlsf_example_first", "a first program"), (1, "rlsf_example_readme", "the program of README.md"),
-         (1, "rlsf_example_functions", "buffer, cache, pools, source"), (1, "rlsf_example_libraries_tour", "tour of these libraries")],
+        [(1, "rlsf_example_readme", "the program of README.md"), (1, "rlsf_example_functions", "buffer, cache, pools, source"),
+         (2, "rlsf_example_libraries_tour", "first calls, a tour of these libraries, lengths of pools")],
         [(1, "rlsf_example_owned_payloads", "payloads that own their bytes"), (1, "rlsf_example_tenants", "std's collections in heaps"),
          (1, "rlsf_example_global", "two threads, one allocator"), (1, "", "")],
     ]),
-    ("Libraries, a tool", "for other code", "#fff3d0", [
+    ("Libraries", "for other code", "#fff3d0", [
         [(1, "rlsf_c_lemmas", "proofs of C's exports: their template"), (1, "rlsf_c", "static library for C: pools of numbers"),
-         (1, "rlsf_malloc", "static library for C: payloads are pointers"), (1, "rlsf_example_pool_lengths", "program: prints lengths of pools")],
-        [(1, "rlsf_example_libraries", "queues, objects and strings in a pool"), (3, "", "")],
+         (1, "rlsf_malloc", "static library for C: payloads are pointers"), (1, "rlsf_example_libraries", "queues, objects and strings in a pool")],
     ]),
     ("Traces", "a text of calls, run and compared with the model", "#fbe3d6", [
         [(1, "rlsf_replay", "program: prints the answers"), (1, "rlsf_report_trace", "program: counts"), (1, "rlsf_draw_trace", "program: draws")],

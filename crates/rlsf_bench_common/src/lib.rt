@@ -4,8 +4,7 @@
 //! program with more calls, LLVM doesn't inline the same ones.
 //!
 //! Read `steps.rt` first: the run and its step. `calls.rt` calls the allocator, `random.rt` draws the numbers, `tally.rt` has the
-//! checksum, and `arguments.rt` reads the command line. `exit_of` ends a benchmark, `error.rt` has what ends it early, and `load.rt` reads
-//! the command line of one with threads.
+//! checksum, and `arguments.rt` reads the command line. `exit_of` ends a benchmark, and `error.rt` has what ends it early.
 #![tactic(auto)]
 
 ghost use Rattle.std.specs.Prelude.{◌≡◌, ◌<◌, IfOk, IfErr};
@@ -14,14 +13,12 @@ ghost use Rattle.rlsf_bench_common.specs.Runs.{IsAsked};
 mod arguments;
 mod calls;
 mod error;
-mod load;
 mod random;
 mod steps;
 mod tally;
 
 use arguments::{Arguments, Configuration};
 pub use error::BenchError;
-pub use load::{Load, load_of};
 pub use random::Xorshift;
 use rlsf_base::memory::Range;
 use rlsf_tlsf::Tlsf;

@@ -15,6 +15,8 @@ pub(crate) enum TourError {
     Layout,
     /// Out of memory.
     OutOfMemory,
+    /// The pool has no room.
+    NoRoom,
     /// The memory isn't sure to have room for so many messages of that length.
     MemoryTooShort,
     /// The output could not be written.
@@ -27,6 +29,7 @@ impl fmt::Display for TourError {
             TourError::Memory(error) => write!(f, "no memory: {error:?}"),
             TourError::Layout => f.write_str("no such layout"),
             TourError::OutOfMemory => f.write_str("the system refused memory"),
+            TourError::NoRoom => f.write_str("the pool has no room"),
             TourError::MemoryTooShort => f.write_str("the memory of a queue is too short"),
             TourError::Io(error) => fmt::Display::fmt(error, f),
         }

@@ -1,14 +1,18 @@
-//! A tour of `rlsf_example_libraries`, the small libraries over the allocator: a fixed script, and a picture of the pool after each step.
+//! A tour: first calls of an allocator, then the small libraries of `rlsf_example_libraries`, and last lengths of pools. Of the libraries
+//! it prints a fixed script, and a picture of the pool after each step.
 //!
-//! `messages.rt`, `latest.rt`, `objects.rt` and `strings.rt` have the parts of the script, in this order. `answer.rt` and `error.rt`
-//! print answers and errors.
+//! `first.rt` has the first calls. `messages.rt`, `latest.rt`, `objects.rt` and `strings.rt` have the parts of the script, in this order.
+//! `lengths.rt` has the tables of lengths, and `rows.rt` their lines. `answer.rt` and `error.rt` print answers and errors.
 #![tactic(auto)]
 
 mod answer;
 mod error;
+mod first;
 mod latest;
+mod lengths;
 mod messages;
 mod objects;
+mod rows;
 mod strings;
 
 use error::TourError;
@@ -32,10 +36,12 @@ fn main(rt: HostRuntime) -> ExitCode {
 }
 
 fn tour(rt: &(impl Print + AllocGlobal)) -> Result<(), TourError> {
+    first::show(rt)?;
     messages::show(rt)?;
     latest::show(rt)?;
     objects::show(rt)?;
-    strings::show(rt)
+    strings::show(rt)?;
+    lengths::show(rt)
 }
 
 /// Prints what was done, and the blocks of the pool behind it.

@@ -1,6 +1,0 @@
--- Each slot's payload is one of the shared heap.
-use Rattle.rlsf_bench_shared.specs.Slots.{AreOf}
-use Rattle.rlsf_bench_shared.proofs.steps.run.Given as goal
-
-abbrev pub invariant-loop : goal.invariant-loop
-invariant-loop g l = AreOf l.shared.identity l.live.items

@@ -1,0 +1,65 @@
+//! What the command line asks for.
+
+use rlsf_bench_common::BenchError;
+use std::env;
+use std::num::NonZeroUsize;
+use std::rt::Env;
+
+/// The arguments that the program takes.
+const USAGE: &str =
+    "usage: rlsf_bench_threads global|shared|both SLOTS STEPS THREADS, with SLOTS and THREADS from 1 on";
+
+/// The allocators that are timed.
+#[derive(Clone, Copy)]
+pub(crate) enum Allocators {
+    /// `global`: a `GlobalTlsf`.
+    Global,
+    /// `shared`: a `SharedHeap`.
+    Shared,
+    /// `both`: the first, and then the second.
+    Both,
+}
+
+impl Allocators {
+    /// The allocators that the word names, if it names any.
+    fn named(word: &str) -> Option<Allocators> {
+        match word {
+            "global" => Some(Allocators::Global),
+            "shared" => Some(Allocators::Shared),
+            "both" => Some(Allocators::Both),
+            _ => None,
+        }
+    }
+}
+
+/// What the command line asks for.
+#[derive(Clone, Copy)]
+pub(crate) struct Load {
+    /// The allocators that are timed.
+    pub(crate) allocators: Allocators,
+    /// How many payloads can be live at once.
+    pub(crate) slots: NonZeroUsize,
+    /// How many steps each thread makes.
+    pub(crate) steps: u64,
+    /// How many threads there are.
+    pub(crate) threads: NonZeroUsize,
+}
+
+/// What the command line asks for: `ALLOCATOR SLOTS STEPS THREADS`.
+pub(crate) fn load_of<R: Env + AllocGlobal>(rt: &R) -> Result<Load, BenchError> {
+    let words: Vec<String> = env::args(rt)?.collect(rt.alloc())?;
+    load_in(&words).ok_or(BenchError::Usage(USAGE))
+}
+
+/// What the words of a command line ask for. `None` if a word is missing, wrong or too many.
+fn load_in(words: &[String]) -> Option<Load> {
+    let [_, allocators, slots, steps, threads] = words else {
+        return None;
+    };
+    Some(Load {
+        allocators: Allocators::named(allocators)?,
+        slots: slots.parse().ok()?,
+        steps: steps.parse().ok()?,
+        threads: threads.parse().ok()?,
+    })
+}

@@ -1,0 +1,37 @@
+//! Times threads over one allocator: `rlsf_bench_threads ALLOCATOR SLOTS STEPS THREADS`. `global` is a `GlobalTlsf`, `shared` a
+//! `SharedHeap`, and `both` is one after the other. Each thread has its part of the slots, and makes so many steps. A step draws a slot.
+//! If the slot has a payload, the step frees it, and else it allocates one of up to 511 bytes.
+//!
+//! `load.rt` reads the command line. `global.rt` and `shared.rt` create the allocators and start the threads. `global_steps.rt` and
+//! `shared_steps.rt` have the steps of a thread.
+#![tactic(auto)]
+
+mod global;
+mod global_steps;
+mod load;
+mod shared;
+mod shared_steps;
+
+use load::{Allocators, load_of};
+use rlsf_bench_common::{BenchError, exit_of};
+use std::process::ExitCode;
+use std::rt::Env;
+use std::sync::Wait;
+use std::thread::Threads;
+
+fn main(rt: HostRuntime) -> ExitCode {
+    exit_of(&rt, bench(&rt))
+}
+
+/// Reads the command line, and does what it asks for.
+fn bench<R: Env + Print + AllocGlobal + Threads + Wait + Sync>(rt: &R) -> Result<(), BenchError> {
+    let load = load_of(rt)?;
+    match load.allocators {
+        Allocators::Global => global::time(rt, load),
+        Allocators::Shared => shared::time(rt, load),
+        Allocators::Both => {
+            global::time(rt, load)?;
+            shared::time(rt, load)
+        }
+    }
+}

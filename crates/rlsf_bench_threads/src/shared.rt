@@ -1,0 +1,60 @@
+//! Threads over a `SharedHeap`.
+
+use crate::load::Load;
+use crate::shared_steps::run;
+use rlsf_base::memory::{OpenMemory, Range};
+use rlsf_bench_common::BenchError;
+use rlsf_heap::{Heap, SharedHeap};
+use std::alloc::{AllocError, Global};
+use std::sync::Wait;
+use std::thread;
+use std::thread::Threads;
+
+/// A shared heap of 64 first-level rows of 64 classes, as `GlobalTlsf` has.
+pub(crate) type Shared = SharedHeap<usize, usize, 64, 64>;
+
+/// The addresses of the pool: as long as the memory of the `GlobalTlsf`.
+const POOL: Range = Range {
+    start: 65536,
+    len: 1 << 25,
+};
+
+/// Does the steps that are asked for, and prints how many allocations were refused.
+pub(crate) fn time<R: Print + AllocGlobal + Threads + Wait + Sync>(
+    rt: &R,
+    load: Load,
+) -> Result<(), BenchError> {
+    let shared = new_shared(rt.alloc())?;
+    let refused = refused_of(rt, rt.alloc(), &shared, load)?;
+    println!(rt; "SharedHeap: {refused} refused")?;
+    Ok(())
+}
+
+/// Creates a shared heap of one pool.
+fn new_shared(alloc: Global) -> Result<Shared, BenchError> {
+    let memory = OpenMemory::reserve(alloc, POOL.start, POOL.len)?;
+    let mut heap = Heap::<usize, usize, 64, 64>::new(memory);
+    let _ = heap.insert_free_block_ptr(POOL);
+    Ok(Shared::new(heap))
+}
+
+/// Lets the threads make their steps. Returns how many allocations were refused.
+fn refused_of<R: Threads + Wait + Sync>(
+    rt: &R,
+    alloc: Global,
+    shared: &Shared,
+    load: Load,
+) -> Result<u64, AllocError> {
+    let slots = load.slots.get() / load.threads.get();
+    let refused = thread::map_indices(
+        rt,
+        alloc,
+        load.threads.get(),
+        &|_| { run(rt, alloc, shared, slots, load.steps) },
+    )?;
+    let mut sum: u64 = 0;
+    for thread in &refused {
+        sum = sum.wrapping_add(thread.ok_or(AllocError)?);
+    }
+    Ok(sum)
+}

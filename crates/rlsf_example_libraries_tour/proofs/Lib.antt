@@ -1,0 +1,2 @@
+-- Lemmas about the lengths that the program prints.
+mod ObjectPools

@@ -1,2 +1,0 @@
--- Lemmas about the lengths that the program prints.
-mod Lengths
