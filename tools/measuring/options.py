@@ -44,7 +44,8 @@ def processor():
 
 
 def commit():
-    words = ["git", "-C", str(ROOT), "rev-parse", "--short", "HEAD"]
+    """The commit that is measured, with a mark if files differ from it."""
+    words = ["git", "-C", str(ROOT), "describe", "--always", "--dirty=, with changes", "--exclude=*"]
     found = subprocess.run(words, capture_output=True, text=True) if shutil.which("git") else None
     return found.stdout.strip() if found and found.returncode == 0 else "unknown"
 
