@@ -50,7 +50,7 @@ impl Lease {
     pub(crate) fn begin(alloc: Global, payload: UnitPayload) -> (OpenMemory, Lease)
         requires { payload.len < 2 ^ 59 }
         ensures memory { (home_of result.0 ≡ result.1.memory) × (result.0.start ≡ 64) × IsAllOwn result.0.out }
-        ensures payload { (lessor result.1 ≡ heap_of payload) × (result.1.start ≡ payload.start) }
+        ensures payload { (lessor result.1 ≡ heap_of payload) × (result.1.start ≡ payload.start) × (result.1.memory.len ≡ payload.len) }
     {
         let UnitPayload { ptr, len } = payload;
         let memory = unsafe { OpenMemory::from_raw_parts(alloc, ptr, START, len) };

@@ -62,8 +62,8 @@ pub struct LocalHeap<H: UnitHeap> {
 impl<FLBitmap: BitPattern, SLBitmap: BitPattern, const FLLEN: usize, const SLLEN: usize> LocalHeap<
     Box<Heap<FLBitmap, SLBitmap, FLLEN, SLLEN>>,
 > {
-    /// Creates an allocator over a new memory of `len` bytes at the addresses from 4096 on, which are one pool. No pool is made, and
-    /// each allocation is refused, if `len` is less than 64.
+    /// Creates an allocator over a new memory of `len` bytes at the addresses from 4096 on, which are one pool (`pool`). No pool is
+    /// made, and each allocation is refused, if `len` is less than 64.
     ///
     /// Returns `TooLong` if and only if the memory would end past `2^64 - 1`. Returns `OutOfMemory` if the system has no such memory, or
     /// none for the heap's own fields. The parameters of the heap must be valid (`Heap::new`).

@@ -50,13 +50,13 @@ impl<FLBitmap: BitPattern, SLBitmap: BitPattern, const FLLEN: usize, const SLLEN
     ghost use Rattle.rlsf_heap.specs.Heap.{Steps};
     ghost use Rattle.rlsf_heap.specs.Kept.{KeepsSpareBytes, NoneBecomesRaw, NoneBecomesRawBeside};
     ghost use Rattle.rlsf_heap.specs.Settled.{IsSettled};
-    ghost use Rattle.rlsf_heap.specs.Units.{heap_of};
+    ghost use Rattle.rlsf_heap.specs.Units.{heap_of, payload_len};
     ghost use Rattle.rlsf_local_heap.specs.Constants.{chunks_of_range};
     ghost use Rattle.rlsf_local_heap.specs.Tenants.{lessor};
 
     /// Creates a heap over a range of `pool`: a payload of it for `len` bytes, aligned to 16, which has up to 31 bytes more. The
-    /// other payloads of `pool` stay as they are. The range is the only pool of the new heap. A range of less than 64 bytes, for a
-    /// `len` up to 48, holds no pool: each allocation is then refused. It takes constant time.
+    /// other payloads of `pool` stay as they are. The range is the only pool of the new heap (`pool`). A range of less than 64 bytes,
+    /// for a `len` up to 48, holds no pool: each allocation is then refused. It takes constant time.
     ///
     /// Returns `None` if `pool` refuses such a payload, if its memory has no units of 16 bytes, if `len` is 2^58 or more, or if
     /// the system has no memory for the new heap's own fields. Then the state of `pool` and the values of its bytes are as they
@@ -70,7 +70,8 @@ impl<FLBitmap: BitPattern, SLBitmap: BitPattern, const FLLEN: usize, const SLLEN
         ensures identity { pool.new.identity ≡ pool.old.identity }
         ensures place { (pool.new.memory.start ≡ pool.old.memory.start) × (length pool.new.memory.bytes ≡ length pool.old.memory.bytes) }
         ensures tenant { IfSome result (λ t. lessor t.lease ≡ pool.old.identity) }
-        ensures pool { IfSome result (λ t. t.local.slot.chunks ≡ chunks_of_range FLLEN (range_at 64 t.lease.memory.len)) }
+        ensures long { IfSome result (λ t. t.lease.memory.len ≡ payload_len len) }
+        ensures pool { IfSome result (λ t. t.local.slot.chunks ≡ chunks_of_range FLLEN (range_at 64 (payload_len len))) }
         ensures step { IfSome result (λ t. Steps FLLEN SLLEN pool.new (Allocates SLLEN pool.old.state len 16 (Some t.lease.start))) }
         ensures new { IfSome result (λ t. align_at pool.old.state t.lease.start ≡ None) }
         ensures live { IfSome result (λ t. align_at pool.new.state t.lease.start ≡ Some 16) }
@@ -144,8 +145,8 @@ impl<FLBitmap: BitPattern, SLBitmap: BitPattern, const FLLEN: usize, const SLLEN
         requires small { IfSome payload (λ p. p.len < 2 ^ 59) }
         ensures some { IfSome payload (λ p. IsSome result) }
         ensures none { IfNone payload (IsNone result) }
-        ensures lease { IfSome payload (λ p. IfSome result (λ t. (lessor t.lease ≡ heap_of p) × (t.lease.start ≡ p.start))) }
-        ensures pool { IfSome result (λ t. t.local.slot.chunks ≡ chunks_of_range FLLEN (range_at 64 t.lease.memory.len)) }
+        ensures lease { IfSome payload (λ p. IfSome result (λ t. (lessor t.lease ≡ heap_of p) × (t.lease.start ≡ p.start) × (t.lease.memory.len ≡ p.len))) }
+        ensures pool { IfSome payload (λ p. IfSome result (λ t. t.local.slot.chunks ≡ chunks_of_range FLLEN (range_at 64 p.len))) }
     {
         let (memory, lease) = Lease::begin(alloc, payload?);
         *fields = over_all(memory);

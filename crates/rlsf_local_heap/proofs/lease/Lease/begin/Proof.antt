@@ -120,5 +120,5 @@ begin_spec 𝓤 𝓛 𝓜 𝓡 wired =
     move ! (1 ∷ []) $ use0 𝓛 (‵ (spot_own p len (spot_val p len ∷ []))) (spot_made 𝓛 p len fits) $ fjoin ! $ move ! (1 ∷ 0 ∷ []) $
     use2 𝓛 (‵ ((Tuple (memory.the_row ∷ lease_type.the_row ∷ [])).own_val (r, x) (two_val v (spot_val p len) ∷ [])))
     (two_of 𝓛 memory.the_row lease_type.the_row r x v (spot_val p len)) $
-    suffices ! _ (ends_at 𝓛 f.ended stayed c y (two_val v (spot_val p len)) (r, x) (tt, (tt, tt)) (tt, (tt, tt))) $ says_two ! ((refl, its_start, its_out), (refl, refl)) $
+    suffices ! _ (ends_at 𝓛 f.ended stayed c y (two_val v (spot_val p len)) (r, x) (tt, (tt, tt)) (tt, (tt, tt))) $ says_two ! ((refl, its_start, its_out), (refl, refl, its_len)) $
     nothing ! $ nothing ! $ join ! $ nothing ! $ join ! $ nothing ! $ done !)))))))))))))

@@ -1,8 +1,10 @@
 use Rattle.std.proofs.Common.{Some, arith, refl, sym, ap, subst, ◌∙◌}
 use Rattle.rlsf_model.specs.Allocate.{Allocates}
 use Rattle.rlsf_model.specs.Callers.{align_at}
+use Rattle.rlsf_base.specs.Range.{range_at}
 use Rattle.rlsf_heap.specs.Heap.{Steps}
 use Rattle.rlsf_heap.proofs.Kept.{none_raw-none, spare-none}
+use Rattle.rlsf_local_heap.specs.Constants.{chunks_of_range}
 use Rattle.rlsf_local_heap.proofs.Outcomes.{at_address, at_none, made_of, not_made, of_none, others_stay}
 use Rattle.rlsf_local_heap.proofs.tenant.Tenant.new.Goals as goal
 
@@ -12,6 +14,7 @@ returns-then-is_too_long g c =
       identity = refl;
       place = (refl, refl);
       tenant = tt;
+      long = tt;
       pool = tt;
       step = tt;
       new = tt;
@@ -35,6 +38,7 @@ returns-in_err-fields g c =
       identity = refl;
       place = (refl, refl);
       tenant = of_none _ none;
+      long = of_none _ none;
       pool = of_none _ none;
       step = of_none _ none;
       new = of_none _ none;
@@ -60,7 +64,8 @@ returns g c =
       identity = did.identity;
       place = did.place;
       tenant = made_of payload tenant over.none over.lease (λ p t ties is. ties.0 ∙ is) did.payload;
-      pool = over.pool;
+      long = made_of payload tenant over.none over.lease (λ p t ties is. ties.2 ∙ is) did.long;
+      pool = made_of payload tenant over.none over.pool (λ p t ties is. ties ∙ ap (λ n. chunks_of_range g.row.FLLEN (range_at 64 n)) is) did.long;
       step = made_of payload tenant over.none over.lease
           (λ p t ties is. subst (λ a. Steps g.row.FLLEN g.row.SLLEN new (Allocates g.row.SLLEN old.state c.args.len 16 (Some a))) (sym ties.1) is)
           (at_address (λ a. Steps g.row.FLLEN g.row.SLLEN new (Allocates g.row.SLLEN old.state c.args.len 16 a)) payload did.step);

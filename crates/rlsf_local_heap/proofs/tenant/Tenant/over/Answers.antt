@@ -1,7 +1,6 @@
 use Rattle.std.proofs.Common.{refl, ap, is_some, ◌∙◌}
 use Rattle.rlsf_base.specs.Range.{range_at}
 use Rattle.rlsf_local_heap.specs.Constants.{Constants, chunks_of_range}
-use Rattle.rlsf_local_heap.proofs.Outcomes.{of_none}
 use Rattle.rlsf_local_heap.proofs.tenant.Tenant.over.Goals as goal
 
 pub invariant_of-result : goal.invariant_of-result
@@ -9,7 +8,7 @@ invariant_of-result g c =
     record { tied = ap (λ (k : Constants). k.heap.home) c.in_a_box.ensures ∙ c.over_all.ensures.home ∙ c.begin-memory.ensures.memory.0 }
 
 pub returns-in_err-payload : goal.returns-in_err-payload
-returns-in_err-payload g c = rw c.in_err-payload.was (record { some = tt; none = ap is_some c.from_residual.ensures; lease = tt; pool = of_none _ c.from_residual.ensures })
+returns-in_err-payload g c = rw c.in_err-payload.was (record { some = tt; none = ap is_some c.from_residual.ensures; lease = tt; pool = tt })
 
 pub returns : goal.returns
 returns g c =
@@ -18,5 +17,6 @@ returns g c =
       none = tt;
       lease = c.begin-memory.ensures.payload;
       pool = ap (λ (k : Constants). k.chunks) c.in_a_box.ensures ∙ c.over_all.ensures.chunks
-          ∙ (λ i. chunks_of_range g.row.FLLEN (range_at (m.1 i) (m.0 i).len));
+          ∙ (λ i. chunks_of_range g.row.FLLEN (range_at (m.1 i) (m.0 i).len))
+          ∙ ap (λ n. chunks_of_range g.row.FLLEN (range_at 64 n)) c.begin-memory.ensures.payload.2;
     })
