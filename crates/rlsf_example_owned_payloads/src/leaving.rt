@@ -1,8 +1,9 @@
-//! Two threads with a queue between them, of which the receiver leaves early. Each message is freed when it is dropped, whoever has it then.
+//! Two threads with a queue between them, of which the receiver leaves early.
 
 use crate::messages::{Received, Shared, heap_for, layout, write_number};
+use crate::queue::Queue;
 use rlsf_example_libraries::MessageQueue;
-use rlsf_heap::FreedOnDrop;
+use rlsf_heap::SharedPayload;
 use std::alloc::Global;
 use std::sync::Wait;
 use std::thread::{Threads, join};
@@ -14,24 +15,21 @@ const ROOM: usize = 4;
 const READ: u64 = 900;
 
 /// How many messages are sent: those that are read, and as many as the queue has room for.
-const MESSAGES: u64 = READ + ROOM as u64;
-
-/// A queue of messages. `None` says that the heap refused one, and that no more are sent.
-type Queue<'h, 'r, R> = MessageQueue<Option<FreedOnDrop<'h, 'r, Shared, R>>>;
+const MESSAGES: u64 = 904;
 
 /// Allocates a message with a number. Returns `None` if the heap refuses it.
-fn message_of<'h, 'r, R: Wait>(
-    rt: &'r R,
+fn message_of<'h, R: Wait>(
+    rt: &R,
     heap: &'h Shared,
     number: u64,
-) -> Option<FreedOnDrop<'h, 'r, Shared, R>> {
+) -> Option<SharedPayload<'h, Shared>> {
     let mut message = heap.allocate_shared(rt, layout())?;
     write_number(message.as_mut_slice(), number);
-    Some(message.freed_on_drop(rt))
+    Some(message)
 }
 
 /// Sends messages until all are sent, or one is refused.
-fn send_all<'h, 'r, R: Wait>(rt: &'r R, heap: &'h Shared, queue: &Queue<'h, 'r, R>) {
+fn send_all<'h, R: Wait>(rt: &R, heap: &'h Shared, queue: &Queue<'h>) {
     for number in 0..MESSAGES {
         let message = message_of(rt, heap, number);
         let is_refused = message.is_none();
@@ -42,20 +40,30 @@ fn send_all<'h, 'r, R: Wait>(rt: &'r R, heap: &'h Shared, queue: &Queue<'h, 'r, 
     }
 }
 
-/// Receives the first messages, and leaves. Those that it read are freed by their drops.
-fn receive_first<R: Wait>(rt: &R, queue: &Queue<'_, '_, R>) -> Received {
+/// Receives the first messages, and leaves. The drop at the end of each turn frees its message, however the turn ends.
+fn receive_first<R: Wait>(rt: &R, queue: &Queue<'_>) -> Received {
     let mut received = Received::nothing();
     for _ in 0..READ {
         let Some(message) = queue.wait_and_receive(rt) else {
             return received;
         };
+        let message = message.freed_on_drop(rt);
         received = received.and(message.payload.as_slice());
     }
     received
 }
 
-/// Lets one thread send, and another receive. Dropping the queue frees the messages that are still in it. Returns what was received, and
-/// how many messages are live at the end. Returns `None` if the system is out of memory.
+/// Frees the messages that nobody received.
+fn free_rest<R: Wait>(rt: &R, queue: &Queue<'_>) {
+    for _ in 0..ROOM {
+        if let Some(Some(message)) = queue.receive(rt) {
+            message.free(rt);
+        }
+    }
+}
+
+/// Lets one thread send, and another receive. Returns what was received, and how many messages are live at the end. Returns `None` if the
+/// system is out of memory.
 pub(crate) fn received_first<R: Threads + Wait + Sync>(
     rt: &R,
     alloc: Global,
@@ -67,6 +75,7 @@ pub(crate) fn received_first<R: Threads + Wait + Sync>(
         || send_all(rt, &heap, &queue),
         || receive_first(rt, &queue),
     );
+    free_rest(rt, &queue);
     drop(queue);
     let live = heap.into_inner().live();
     Some((received, live))

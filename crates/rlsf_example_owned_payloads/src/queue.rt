@@ -20,7 +20,7 @@ const ROOM: usize = 8;
 const LIVE: usize = ROOM + 5;
 
 /// A queue of messages. `None` says that a producer sends no more.
-type Queue<'h> = MessageQueue<Option<SharedPayload<'h, Shared>>>;
+pub(crate) type Queue<'h> = MessageQueue<Option<SharedPayload<'h, Shared>>>;
 
 /// Sends the numbers from `first` on, each in a message. Returns how many messages the heap refused.
 fn produce<'h, R: Wait>(rt: &R, heap: &'h Shared, queue: &Queue<'h>, first: u64) -> u64 {
