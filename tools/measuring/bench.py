@@ -125,7 +125,7 @@ def measure(options, folder):
         return None
     heads = [f"{name.removeprefix('rlsf_')} {mode}" for name in pairs for mode in MODES]
     print("\n| Configuration | Slots | " + " | ".join(heads) + " |\n|---|---|" + "---|" * len(heads), flush=True)
-    for config in options.configs:
+    for config in options.configs[:1] if options.quick else options.configs:
         for slots in SLOTS[:1] if options.quick else options.slots:
             row = [entry(a_step(pair, config, slots, mode, options), options.both) for pair in pairs.values() for mode in MODES]
             print(f"| `{config}` | {slots:,} | " + " | ".join(row) + " |", flush=True)
