@@ -34,7 +34,7 @@ pub fn replays(rt: &(impl Abort + AllocGlobal), cases: &[(&[u8], &str)]) {
     }
 }
 
-static TEXTS: [(&[u8], &str); 17] = [
+static TEXTS: [(&[u8], &str); 18] = [
     // A first run.
     (
         FIRST_RUN,
@@ -107,6 +107,11 @@ static TEXTS: [(&[u8], &str); 17] = [
     (
         b"59x8 4096 128\ninsert 4096 128\nalloc 1 66 1\n",
         "insert some 128\nalloc 1 at 4112\nstatus 0",
+    ),
+    // The run has no more of the memory than the lines name. Up to 31 bytes before a pool are of its range, if they are in the memory.
+    (
+        b"8x8 4110 1000000\ninsert 4128 96\nblock 4110 114 0\nblock 4109 115 0\nblock 4110 114 1\nappend 4224 32\ninsert 1004110 0\ninsert 1004111 0\n",
+        "insert some 96\nblock 4128 64 free\nrefused 3 BadRange\nblock none\nappend 0\ninsert none\nrefused 3 BadRange\nstatus 0",
     ),
 ];
 
