@@ -29,7 +29,7 @@ fn first_number(text: &str) -> Option<usize> {
 }
 
 /// How many bytes of addresses the process has, by the pages that the system reports.
-fn mapped(rt: &(impl Files + AllocGlobal)) -> Option<usize> {
+pub(crate) fn mapped(rt: &(impl Files + AllocGlobal)) -> Option<usize> {
     let sizes = fs::read_to_string(rt, "/proc/self/statm").ok()?;
     let pages = first_number(&sizes)?;
     Some(pages.saturating_mul(4096))

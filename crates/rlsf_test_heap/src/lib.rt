@@ -1,14 +1,17 @@
 //! Tests of `rlsf_heap` and `rlsf_local_heap`. This crate has no other code, so that these two are proved once.
 //!
 //! In reading order: `answers` has the assertions; `pair` and `growing` are programs without a proof file; `rows` and `resized_rows`
-//! compare the addresses of payloads with worked examples, as tables of steps; `ends` shows that a dropped heap deallocates its
-//! memory; `local` has collections in a heap, `in_place` vectors that grow and shrink there, and `printed` what is printed of one;
-//! `raw` takes a payload apart; `thin` has payloads by their address, in `unknown_align` also of any alignment; `shared` and `returned`
-//! share a heap between threads, and take it apart again; `sent` sends payloads between them.
+//! compare the addresses of payloads with worked examples, as tables of steps; `ends` and `drops` show that dropped heaps deallocate
+//! their memory; `local` has collections in a heap, `in_place` vectors that grow and shrink there, `sizes` blocks of each size, and
+//! `printed` what is printed of one; `pools` fills new heaps and tenants; `raw` takes a payload apart; `thin` has payloads by their
+//! address, in `unknown_align` also of any alignment; `shared` and `returned` share a heap between threads, and take it apart again;
+//! `shared_rows` has the addresses of its payloads, and `sent` sends payloads between threads.
 #![tactic(auto)]
 
 #[cfg(test)]
 mod answers;
+#[cfg(test)]
+mod drops;
 #[cfg(test)]
 mod ends;
 #[cfg(test)]
@@ -19,6 +22,8 @@ mod in_place;
 mod local;
 #[cfg(test)]
 mod pair;
+#[cfg(test)]
+mod pools;
 #[cfg(test)]
 mod printed;
 #[cfg(test)]
@@ -33,6 +38,10 @@ mod rows;
 mod sent;
 #[cfg(test)]
 mod shared;
+#[cfg(test)]
+mod shared_rows;
+#[cfg(test)]
+mod sizes;
 #[cfg(test)]
 mod thin;
 #[cfg(test)]

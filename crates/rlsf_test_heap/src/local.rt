@@ -6,6 +6,7 @@ use crate::answers::{all, are};
 use crate::in_place::{
     grow_by_the_block_behind, keep_texts, move_to_grow, refuse_to_grow, shrink_and_grow_again,
 };
+use crate::sizes::serve_each_size;
 use rlsf_base::memory::{OpenMemory, Range};
 use rlsf_heap::Heap;
 use rlsf_local_heap::{LocalHeap, Tenant};
@@ -61,6 +62,7 @@ pub(crate) enum Case {
     RefuseToGrow,
     MoveToGrow,
     KeepTexts,
+    ServeEachSize,
 }
 
 /// What a case finds: what `counts` returns at a time, or other numbers, as a length, a value, or 1 for true.
@@ -87,6 +89,7 @@ fn found<A: Allocator + Copy, F: Fn() -> [usize; 3]>(
         Case::RefuseToGrow => refuse_to_grow(alloc, counts),
         Case::MoveToGrow => move_to_grow(alloc, counts),
         Case::KeepTexts => keep_texts(alloc),
+        Case::ServeEachSize => serve_each_size(alloc, counts),
     }
 }
 
@@ -135,6 +138,14 @@ fn expected(case: Case) -> Found {
             NOTHING,
         ],
         Case::KeepTexts => [[10, 1, 3], NOTHING, NOTHING, NOTHING, NOTHING],
+        // Of 32, 32, 64 and 32 bytes, and of 8,224 and 65,568.
+        Case::ServeEachSize => [
+            [4, 160, 130912],
+            [1, 3, 5],
+            [6, 73952, 57120],
+            [0, 160, 4096],
+            NOTHING,
+        ],
     }
 }
 
@@ -158,7 +169,7 @@ fn goes<A: Allocator + Copy, F: Fn() -> [usize; 3]>(
     Ok(())
 }
 
-/// Does a case in a heap of `len` bytes, which are 4,096 or 16,384. Passes if it has its expected results, and leaves the heap with
+/// Does a case in a heap of `len` bytes, which are 4,096, 16,384 or 131,072. Passes if it has its expected results, and leaves the heap with
 /// one free block.
 pub(crate) fn passes_in_a_heap(
     rt: &(impl Abort + AllocGlobal),
@@ -169,8 +180,12 @@ pub(crate) fn passes_in_a_heap(
     goes(rt, &heap, || counts_of(&heap), case)?;
     are(rt, &[heap.size()], &[len]);
     are(rt, &counts_of(&heap), &[0, 0, len]);
-    // Of 4,064 bytes, or of 16,352.
-    let row = if len == 4096 { 6 } else { 8 };
+    // Of 4,064 bytes, of 16,352 or of 131,040.
+    let row = match len {
+        4096 => 6,
+        16384 => 8,
+        _ => 11,
+    };
     all(rt, &[is_whole(heap, row)]);
     Ok(())
 }
