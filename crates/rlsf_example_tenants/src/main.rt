@@ -55,14 +55,15 @@ fn count<A: Allocator + Copy>(alloc: A, text: &str) -> Result<Counts<A>, AllocEr
     Ok(counts)
 }
 
-/// Pushes numbers until the allocator refuses one.
-fn fill<A: Allocator + Copy>(alloc: A) {
+/// Pushes numbers until the allocator refuses one. Returns how many it took.
+fn fill<A: Allocator + Copy>(alloc: A) -> usize {
     let mut numbers = Vec::new(alloc);
     for n in 0..100_000u64 {
         if numbers.push(n).is_err() {
-            return;
+            break;
         }
     }
+    numbers.len()
 }
 
 /// Whether the pool has room for another shop.
@@ -80,9 +81,10 @@ fn end(rt: &(impl Print + AllocGlobal), pool: &mut Small, shop: Room) -> Result<
     requires { lessor shop.lease ≡ pool.old.identity }
     ensures { pool.new.identity ≡ pool.old.identity }
 {
-    fill(shop.heap());
+    // Room for numbers is doubled, and that for 256 of them is more than the range has.
+    let taken = fill(shop.heap());
     println!(rt;
-        "blocks of the shop, once it filled its range: {}",
+        "numbers that filled the shop, and its blocks afterwards: {taken}, {}",
         shop.heap().live()
     )?;
     let before = has_room(pool, rt.alloc());
