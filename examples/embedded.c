@@ -5,7 +5,7 @@
  *
  * It prints nothing, and its status is 0 if each message came back as it was sent. The archive needs memset and memmove of the system;
  * here they are below. The start is that of Linux on x86-64. */
-#include "rlsf_malloc.h"
+#include "rlsf.h"
 
 void *memset(void *to, int value, size_t len) {
     unsigned char *bytes = to;

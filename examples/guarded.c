@@ -4,7 +4,7 @@
  *
  * A bit for each 16 bytes of the memory says whether a live payload begins there. The bits lie outside of the memory, where a write past a
  * payload doesn't reach them. A stale pointer isn't found if a new payload has its address. */
-#include "rlsf_malloc.h"
+#include "rlsf.h"
 #include <stdio.h>
 #include <string.h>
 

@@ -11,7 +11,7 @@
  * was between two calls; but no lock is held, since the fork waits for locks of the C library then, whose holders may allocate. As with
  * glibc, a signal handler may fork unless several threads run. */
 #define _GNU_SOURCE
-#include "rlsf_malloc.h"
+#include "rlsf.h"
 #include <errno.h>
 #include <pthread.h>
 #include <signal.h>

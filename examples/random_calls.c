@@ -1,5 +1,5 @@
 /* A million random calls, many of them wrong, against a table: what lives where, and which bytes it has. */
-#include "rlsf.h"
+#include "rlsf_pool.h"
 #include <stdint.h>
 #include <stdio.h>
 #include <stdlib.h>
@@ -74,7 +74,7 @@ static void set_size(payload *p, size_t usable) {
 /* A payload has its bytes, lies in what was handed in, and shares none with any other. */
 static void is_well(rlsf_pool *pool, size_t place, size_t size) {
     payload *p = &live[place];
-    rlsf_answer usable = rlsf_usable(pool, p->addr);
+    rlsf_pool_answer usable = rlsf_pool_usable(pool, p->addr);
     want(usable.error == RLSF_OK && usable.value >= size && usable.value < size + 32, "usable size", usable.value);
     set_size(p, usable.value);
     want(p->addr % p->align == 0, "alignment", p->addr);
@@ -85,7 +85,7 @@ static void is_well(rlsf_pool *pool, size_t place, size_t size) {
 static void has_bytes(rlsf_pool *pool, payload *p) {
     unsigned char *got = malloc(p->usable + 1);
     if (!got) abort();
-    want(rlsf_read(pool, p->addr, 0, got, p->usable) == RLSF_OK, "read of a payload", p->addr);
+    want(rlsf_pool_read(pool, p->addr, 0, got, p->usable) == RLSF_OK, "read of a payload", p->addr);
     for (size_t i = 0; i < p->usable; i++) want(!p->known[i] || got[i] == p->bytes[i], "another byte", p->addr + i);
     free(got);
 }
@@ -94,7 +94,7 @@ static void hand_in(rlsf_pool *pool, size_t kind) {
     size_t start = below(3) ? pool_end : START - 50 + below(LEN + 100), len = below(20) ? below(3000) : (size_t)draw();
     int within = start >= START && start <= START + LEN && len <= START + LEN - start;
     int appends = (int)below(2);
-    rlsf_answer a = appends ? rlsf_append(pool, start, len) : rlsf_insert(pool, start, len);
+    rlsf_pool_answer a = appends ? rlsf_pool_append(pool, start, len) : rlsf_pool_insert(pool, start, len);
     tally[a.error]++;
     if (!within) return want(a.error == RLSF_OUTSIDE_MEMORY, "a range outside", start);
     if (appends && (!inserted || start != pool_end)) return want(a.error == RLSF_NOT_NEXT, "a range that isn't next", start);
@@ -106,12 +106,12 @@ static void hand_in(rlsf_pool *pool, size_t kind) {
 }
 static void allocate(rlsf_pool *pool) {
     size_t size = some_size(), align = some_align();
-    rlsf_answer a = rlsf_allocate(pool, size, align);
+    rlsf_pool_answer a = rlsf_pool_allocate(pool, size, align);
     tally[a.error]++;
     if (!is_layout(size, align)) return want(a.error == RLSF_NO_LAYOUT && !a.value, "no layout", size);
     if (a.error) return want(a.error == RLSF_NO_ROOM && !a.value, "an error of allocate", a.error);
     want(place_of(a.value) == MOST, "an address that is live", a.value);
-    if (count == MOST) return want(rlsf_free(pool, a.value) == RLSF_OK, "a payload too many", a.value);
+    if (count == MOST) return want(rlsf_pool_free(pool, a.value) == RLSF_OK, "a payload too many", a.value);
     live[count] = (payload){a.value, align, 0, 0, 0};
     count++;
     is_well(pool, count - 1, size);
@@ -124,14 +124,14 @@ static void forget(size_t place) {
 static void give_back(rlsf_pool *pool) {
     size_t addr = some_address(), place = place_of(addr);
     if (place != MOST) has_bytes(pool, &live[place]);
-    size_t error = rlsf_free(pool, addr);
+    size_t error = rlsf_pool_free(pool, addr);
     tally[error]++;
     want(error == (place == MOST ? RLSF_UNKNOWN_ADDRESS : RLSF_OK), "free", addr);
     if (place != MOST) forget(place);
 }
 static void resize(rlsf_pool *pool, int may_move) {
     size_t addr = some_address(), size = some_size(), place = place_of(addr);
-    rlsf_answer a = may_move ? rlsf_realloc(pool, addr, size) : rlsf_realloc_no_move(pool, addr, size);
+    rlsf_pool_answer a = may_move ? rlsf_pool_realloc(pool, addr, size) : rlsf_pool_realloc_no_move(pool, addr, size);
     tally[a.error]++;
     if (place == MOST) return want(a.error == RLSF_UNKNOWN_ADDRESS, "a payload that isn't live", addr);
     if (!is_layout(size, live[place].align)) return want(a.error == RLSF_NO_LAYOUT, "no layout for a payload", size);
@@ -148,7 +148,7 @@ static void copy(rlsf_pool *pool, int writes) {
     size_t addr = some_address(), place = place_of(addr), len = below(sizeof bytes), offset = below(4) ? below(300) : (size_t)draw();
     for (size_t i = 0; i < len; i++) bytes[i] = (unsigned char)draw();
     unsigned char before = bytes[0];
-    size_t error = writes ? rlsf_write(pool, addr, offset, bytes, len) : rlsf_read(pool, addr, offset, bytes, len);
+    size_t error = writes ? rlsf_pool_write(pool, addr, offset, bytes, len) : rlsf_pool_read(pool, addr, offset, bytes, len);
     tally[error]++;
     if (place == MOST) return want(error == RLSF_UNKNOWN_ADDRESS && bytes[0] == before, "bytes of no payload", addr);
     payload *p = &live[place];
@@ -162,9 +162,9 @@ static void copy(rlsf_pool *pool, int writes) {
 }
 /* The blocks of all ranges, and their totals; each payload has one of them. */
 static void look(rlsf_pool *pool) {
-    rlsf_statistics s = rlsf_stats(pool), sum = {0, 0, 0, 0};
+    rlsf_pool_statistics s = rlsf_pool_stats(pool), sum = {0, 0, 0, 0};
     size_t end = 0, alive = 0;
-    for (rlsf_block b = rlsf_walk(pool, 0); !b.error; b = rlsf_walk(pool, end)) {
+    for (rlsf_pool_block b = rlsf_pool_walk(pool, 0); !b.error; b = rlsf_pool_walk(pool, end)) {
         want(b.start >= end && b.start >= START && b.start + b.len <= pool_end, "a block's place", b.start);
         end = b.start + b.len;
         sum.payloads += b.used;
@@ -182,11 +182,11 @@ static void look(rlsf_pool *pool) {
 }
 
 static void run(size_t kind) {
-    rlsf_pool *pool = malloc(rlsf_size());
+    rlsf_pool *pool = malloc(rlsf_pool_size());
     if (!pool) abort();
     pool_end = START;
     inserted = count = 0;
-    want(rlsf_init(pool, kind, START, LEN) == RLSF_OK, "init", kind);
+    want(rlsf_pool_init(pool, kind, START, LEN) == RLSF_OK, "init", kind);
     for (size_t i = 0; i < CALLS; i++) {
         size_t k = below(100);
         if (k < 2) hand_in(pool, kind);
@@ -199,11 +199,11 @@ static void run(size_t kind) {
     }
     while (count) {
         has_bytes(pool, &live[0]);
-        want(rlsf_free(pool, live[0].addr) == RLSF_OK, "free at the end", live[0].addr);
+        want(rlsf_pool_free(pool, live[0].addr) == RLSF_OK, "free at the end", live[0].addr);
         forget(0);
     }
-    want(rlsf_stats(pool).payloads == 0, "payloads at the end", 0);
-    rlsf_destroy(pool);
+    want(rlsf_pool_stats(pool).payloads == 0, "payloads at the end", 0);
+    rlsf_pool_destroy(pool);
     free(pool);
 }
 

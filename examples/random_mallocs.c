@@ -5,7 +5,7 @@
  *     ./random_mallocs 1000000 4
  *
  * The arguments are the number of calls and of threads. It tries both kinds of heaps. */
-#include "rlsf_malloc.h"
+#include "rlsf.h"
 #include <pthread.h>
 #include <stdint.h>
 #include <stdio.h>

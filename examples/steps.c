@@ -3,7 +3,7 @@
  *     valgrind --tool=callgrind --callgrind-out-file=/dev/null ./steps small 100000
  *
  * A step draws one of 1,000 slots. Where it holds a payload, that is freed; else one of up to 511 bytes is allocated. */
-#include "rlsf.h"
+#include "rlsf_pool.h"
 #include <stdint.h>
 #include <stdio.h>
 #include <stdlib.h>
@@ -22,20 +22,20 @@ static uint64_t draw(void) {
 
 static size_t over_pool(rlsf_pool *pool, size_t kind, size_t steps) {
     size_t live[SLOTS] = {0}, refused = 0;
-    if (rlsf_init(pool, kind, 4096, LEN) || rlsf_insert(pool, 4096, LEN).error) abort();
+    if (rlsf_pool_init(pool, kind, 4096, LEN) || rlsf_pool_insert(pool, 4096, LEN).error) abort();
     for (size_t i = 0; i < steps; i++) {
         uint64_t d = draw();
         size_t slot = (size_t)(d >> 32) % SLOTS;
         if (live[slot]) {
-            if (rlsf_free(pool, live[slot])) abort();
+            if (rlsf_pool_free(pool, live[slot])) abort();
             live[slot] = 0;
         } else {
-            rlsf_answer a = rlsf_allocate(pool, d % 512, 1);
+            rlsf_pool_answer a = rlsf_pool_allocate(pool, d % 512, 1);
             live[slot] = a.value;
             refused += a.error != 0;
         }
     }
-    rlsf_destroy(pool);
+    rlsf_pool_destroy(pool);
     return refused;
 }
 
@@ -70,7 +70,7 @@ static size_t over_nothing(size_t steps) {
 int main(int argc, char **argv) {
     const char *over = argc > 1 ? argv[1] : "small";
     size_t steps = argc > 2 ? strtoul(argv[2], 0, 10) : 100000, refused;
-    rlsf_pool *pool = malloc(rlsf_size());
+    rlsf_pool *pool = malloc(rlsf_pool_size());
     if (!pool) abort();
     if (!strcmp(over, "malloc")) refused = over_malloc(steps);
     else if (!strcmp(over, "nothing")) refused = over_nothing(steps);

@@ -4,7 +4,7 @@
  *
  * A step draws one of 1,000 slots. Where it holds a payload, that is freed; else one of a length below the second argument is allocated. */
 #define _POSIX_C_SOURCE 199309L
-#include "rlsf_malloc.h"
+#include "rlsf.h"
 #include <stdint.h>
 #include <stdio.h>
 #include <stdlib.h>

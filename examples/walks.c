@@ -1,6 +1,6 @@
 /* Lists and checks of the blocks of a heap: they agree with the payloads that the program holds, in each of several pools. A check finds
  * words that were overwritten. */
-#include "rlsf_malloc.h"
+#include "rlsf.h"
 #include <stdio.h>
 #include <stdlib.h>
 #include <string.h>

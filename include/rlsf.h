@@ -1,25 +1,28 @@
-/* An allocator (version 0.1.0) whose calls take a bounded number of steps, and whose contracts a prover has checked.
- * It returns addresses, which are numbers of a memory of its own. rlsf_write copies bytes there, and rlsf_read copies them back.
- * docs/C.md shows how to link it.
+/* An allocator (version 0.2.0) over memory that the caller provides. A payload is used in place: its address is a pointer.
+ * docs/C.md shows how to link it. The archive is librlsf_malloc.a. It needs only memmove and memset.
  *
- * Conditions on the caller, in each call. No call tests them:
- *   - The handle has RLSF_POOL_SIZE bytes, aligned as a pointer. rlsf_init was called with it, or its bytes are all 0 (tested). Since then
- *     nothing but the library wrote to it.
- *   - One call on a handle runs at a time. Another thread may use the handle next, if a lock, or the thread's start or end, orders the two.
- *   - `bytes` and `into` aren't null, even if `len` is 0. They point to `len` bytes, less than 2^63, that may be read,
- *     and for `into` also written. These bytes are no part of a pool or of its handle, and no other call writes to them during the call.
- *   - malloc, realloc and free belong to one allocator, and align as C requires. No call comes from a signal handler, or from a forked
- *     child of a process with threads.
- * All other conditions are tested: every number may be passed as an address, a size, an alignment, an offset or a range.
+ * Conditions on the caller. No call tests them:
+ *   - `heap` is a heap that rlsf_heap_init or rlsf_heap_begin returned. rlsf_heap_end wasn't called on it since, and only the library
+ *     writes to its handle.
+ *   - `payload` is NULL, or a pointer that a call on this heap returned. It is live: it wasn't freed since, and no rlsf_realloc or
+ *     rlsf_aligned_realloc of it succeeded since.
+ *   - Only the library writes to the heap's memory, except to the bytes of live payloads: rlsf_usable_size of them from the pointer on.
+ *   - Each byte of the memory has a value when the heap is made, as in static, mapped and allocated memory.
+ *   - One call on a heap runs at a time. A lock orders the calls of several threads.
  *
- * In a comment, no contract can state the sentences after the mark (tested); tests check them. Everything else about results and effects is
- * proved. */
+ * Who owns the bytes. From rlsf_heap_begin to rlsf_heap_end the memory's bytes belong to the heap. A call that returns a payload passes the
+ * payload's bytes to its caller, and rlsf_free takes them back. A call on the heap accesses no byte of a payload that is out, but for the one
+ * that it is passed. So each thread may read and write its payloads while another thread's call runs under the lock.
+ *
+ * The crate crates/rlsf_malloc proves what each call does, with this ownership, under these conditions.
+ *
+ * The inline functions below aren't proved. They do this and no more:
+ *   - They pass a pointer to an exported function as the number (size_t)pointer, and cast the returned number back.
+ *   - They store the kind at the start of the handle, and choose the exported function by it. Behind it they store the last pool, for
+ *     rlsf_heap_stats, the memory and the pools, with which rlsf_heap_try_add compares a new one, and a sum of these, for rlsf_heap_check.
+ *   - rlsf_heap_begin leaves out the bytes before the first multiple of 16, and rlsf_heap_init also adds all bytes as a pool. */
 #ifndef RLSF_H
 #define RLSF_H
-
-#ifdef RLSF_MALLOC_H
-#error "rlsf.h and rlsf_malloc.h declare calls of the same names: include them in different files"
-#endif
 
 #include <stddef.h>
 
@@ -28,76 +31,24 @@ extern "C" {
 #endif
 
 #define RLSF_VERSION_MAJOR 0
-#define RLSF_VERSION_MINOR 1
+#define RLSF_VERSION_MINOR 2
 #define RLSF_VERSION_PATCH 0
-#define RLSF_VERSION "0.1.0"
+#define RLSF_VERSION "0.2.0"
+#define RLSF_MALLOC_VERSION RLSF_VERSION
 
-/* A pool at its handle. */
-typedef struct rlsf_pool rlsf_pool;
+/* How the functions of this header are defined. The shared library has them as functions of its own. */
+#ifndef RLSF_INLINE
+#define RLSF_INLINE static inline
+#endif
 
-/* Kinds of pools. A small pool has 12 first-level rows of 16 size classes, for payloads below 128 KiB. A large pool has 64 rows of 64
+/* Kinds of heaps. A small heap has 12 first-level rows of 16 size classes, for payloads of at most 126,960 bytes. A large heap has 64 rows of 64
  * classes, for payloads of all sizes; its choice of blocks is finer. */
 #define RLSF_SMALL ((size_t)1)
 #define RLSF_LARGE ((size_t)2)
 
-/* Errors. If more than one applies, a call returns the first that its comment lists. After an error nothing has changed.
- * The last range is the last inserted range with everything appended to it. */
-typedef enum rlsf_error {
-    RLSF_OK = 0,
-    RLSF_OUT_OF_MEMORY = 2,   /* the system is out of memory */
-    RLSF_UNKNOWN_ADDRESS = 3, /* no payload is live at the address */
-    RLSF_OUT_OF_RANGE = 4,    /* the bytes go past those of the payload */
-    RLSF_OUTSIDE_MEMORY = 5,  /* the range doesn't lie in the memory */
-    RLSF_NOT_BEHIND = 6,      /* the range begins before the end of the last range */
-    RLSF_NOT_NEXT = 7,        /* the range doesn't begin at the end of the last range, or this is empty: none was inserted, or it was removed */
-    RLSF_TOO_SHORT = 8,       /* no part of the range can be used */
-    RLSF_NO_LAYOUT = 9,       /* the alignment is no power of two, or size and alignment together are above 2^63 */
-    RLSF_NO_ROOM = 10,        /* there is no room */
-    RLSF_NO_KIND = 11,        /* there is no such kind of pool */
-    RLSF_ZERO_START = 12,     /* the start is 0, which is no address */
-    RLSF_TOO_LONG = 13,       /* the end lies past the greatest address */
-    RLSF_NO_BLOCK = 14,       /* no block begins at the address or behind it */
-    RLSF_IN_USE = 15,         /* a payload is live in the range */
-    RLSF_NOT_CHUNKS = 16      /* the range isn't complete contiguous chunks of the memory */
-} rlsf_error;
-
-/* Returns the text of an error, in lower case and without a full stop. Returns "unknown error" if no error has the number. The text is
- * static. The function isn't proved. */
-static inline const char *rlsf_error_text(size_t error) {
-    switch (error) {
-    case RLSF_OK: return "success";
-    case RLSF_OUT_OF_MEMORY: return "the system is out of memory";
-    case RLSF_UNKNOWN_ADDRESS: return "no payload is live at the address";
-    case RLSF_OUT_OF_RANGE: return "the bytes go past those of the payload";
-    case RLSF_OUTSIDE_MEMORY: return "the range doesn't lie in the memory";
-    case RLSF_NOT_BEHIND: return "the range begins before the end of the last range";
-    case RLSF_NOT_NEXT: return "the range doesn't begin at the end of the last range";
-    case RLSF_TOO_SHORT: return "no part of the range can be used";
-    case RLSF_NO_LAYOUT: return "no layout has the size and the alignment";
-    case RLSF_NO_ROOM: return "there is no room";
-    case RLSF_NO_KIND: return "there is no such kind of pool";
-    case RLSF_ZERO_START: return "the start is 0, which is no address";
-    case RLSF_TOO_LONG: return "the end lies past the greatest address";
-    case RLSF_NO_BLOCK: return "no block begins at the address or behind it";
-    case RLSF_IN_USE: return "a payload is live in the range";
-    case RLSF_NOT_CHUNKS: return "the range isn't complete contiguous chunks";
-    default: return "unknown error";
-    }
-}
-
-/* A number, or an error. On an error, `value` is 0. */
-typedef struct {
-    size_t error;
-    size_t value;
-} rlsf_answer;
-
-/* A block, or an error. On an error, the other fields are 0. */
-typedef struct {
-    size_t error;
-    size_t start; /* the address at which it begins */
-    size_t len;   /* its length in bytes, with the header that the allocator uses */
-    size_t used;  /* 1 if it holds a live payload, else 0 */
-} rlsf_block;
+/* The size of a handle of each kind in bytes. A handle is aligned to 8. */
+#define RLSF_SMALL_HEAP_SIZE 1848
+#define RLSF_LARGE_HEAP_SIZE 33912
 
 /* The totals of some blocks. */
 typedef struct {
@@ -105,167 +56,315 @@ typedef struct {
     size_t used;     /* the bytes of all used blocks, with their headers */
     size_t free;     /* the bytes of all free blocks */
     size_t longest;  /* the bytes of the longest free block, or 0 if there is none */
-} rlsf_statistics;
+} rlsf_totals;
 
 /* A block of a list. */
 typedef struct {
-    size_t start; /* the address at which it begins */
-    size_t len;   /* its length in bytes, with the header that the allocator uses */
+    size_t start; /* the address at which it begins, 16 bytes before its payload's if the payload's alignment is 16 */
+    size_t len;   /* its length in bytes, with its header */
     size_t used;  /* 1 if it holds a live payload, else 0 */
 } rlsf_span;
 
-/* The size of a handle of either kind in bytes. */
-#define RLSF_POOL_SIZE 33888
+/* The exported functions. Each takes the handle's bytes behind an rlsf_heap. */
+#define RLSF_KIND_DECLARES(KIND)                                                                      \
+    size_t rlsf_##KIND##_size(void);                                                                  \
+    void rlsf_##KIND##_init(void *heap, void *block, size_t start, size_t len);                       \
+    void rlsf_##KIND##_end(void *heap);                                                               \
+    size_t rlsf_##KIND##_add(void *heap, size_t start, size_t len);                                   \
+    size_t rlsf_##KIND##_remove(void *heap, size_t start, size_t len);                                \
+    size_t rlsf_##KIND##_malloc(void *heap, size_t size);                                             \
+    size_t rlsf_##KIND##_allocate(void *heap, size_t size, size_t align);                             \
+    size_t rlsf_##KIND##_allocate_zeroed(void *heap, size_t count, size_t size);                      \
+    size_t rlsf_##KIND##_reallocate(void *heap, size_t payload, size_t size);                         \
+    size_t rlsf_##KIND##_reallocate_aligned(void *heap, size_t payload, size_t size, size_t align);   \
+    size_t rlsf_##KIND##_reallocate_in_place(void *heap, size_t payload, size_t size);                \
+    void rlsf_##KIND##_free(void *heap, size_t payload);                                              \
+    size_t rlsf_##KIND##_usable(void *heap, size_t payload);                                          \
+    rlsf_totals rlsf_##KIND##_stats(void *heap, size_t start, size_t len);                            \
+    size_t rlsf_##KIND##_list(void *heap, size_t start, size_t len, size_t from, size_t *numbers, size_t room); \
+    size_t rlsf_##KIND##_check(void *heap, size_t start, size_t len);
+RLSF_KIND_DECLARES(small)
+RLSF_KIND_DECLARES(large)
+#undef RLSF_KIND_DECLARES
 
-/* Room for a handle that is static or on the stack: pass (rlsf_pool *)&handle to each call. (tested) A handle whose bytes are all 0, as a
- * static one begins, is that of an ended pool: rlsf_destroy does nothing there. */
+/* The place and the length of a pool that rlsf_heap_try_add added. The program provides it, and doesn't write to it until the pool is removed or the heap ends. */
+typedef struct rlsf_part {
+    struct rlsf_part *next;
+    size_t start;
+    size_t len;
+} rlsf_part;
+
+/* A heap at its handle, and behind it what the exported functions use. */
+typedef struct rlsf_heap {
+    size_t kind;
+    size_t start; /* the last pool */
+    size_t len;
+    size_t memory; /* the heap's memory */
+    size_t size;
+    size_t low; /* all pools that rlsf_heap_add made lie from here to `high` */
+    size_t high;
+    rlsf_part *parts; /* the other pools */
+    size_t sum;       /* the rlsf_heap_sum of what may not change between two calls */
+} rlsf_heap;
+
+/* Handles of each kind, for a handle that is static or on the stack. */
 typedef union {
-    rlsf_pool *aligned; /* never used */
-    unsigned char pool[RLSF_POOL_SIZE];
-} rlsf_handle;
+    rlsf_heap heap;
+    unsigned char bytes[RLSF_SMALL_HEAP_SIZE];
+} rlsf_small_handle;
+typedef union {
+    rlsf_heap heap;
+    unsigned char bytes[RLSF_LARGE_HEAP_SIZE];
+} rlsf_large_handle;
 
-/* Returns the size of a handle in bytes, which is RLSF_POOL_SIZE. */
-size_t rlsf_size(void);
+/* Returns the size of a handle of a kind in bytes, or 0 if there is no such kind. */
+RLSF_INLINE size_t rlsf_heap_size(size_t kind) {
+    return kind == RLSF_SMALL ? RLSF_SMALL_HEAP_SIZE : kind == RLSF_LARGE ? RLSF_LARGE_HEAP_SIZE : 0;
+}
 
-/* Returns the length in bytes of a range in which a pool of the kind refuses no payload within some bounds. Each payload has up to `size`
- * bytes and an alignment of up to `align`. At most `count` are live before each rlsf_allocate and each rlsf_realloc. The order of the calls
- * doesn't matter.
+/* What the exported functions use of a heap, also in a call that leaves it as it is. */
+RLSF_INLINE void *rlsf_heap_state(const rlsf_heap *heap) { return (void *)(size_t)(heap + 1); }
+
+/* Returns a number of the words above and of the three behind them, which say where the exported functions find the memory: it is another
+ * one if a bit of one word is another. */
+RLSF_INLINE size_t rlsf_heap_sum(const rlsf_heap *heap) {
+    const size_t *behind = (const size_t *)(heap + 1);
+    size_t sum = heap->kind;
+    sum = 31 * sum + heap->start;
+    sum = 31 * sum + heap->len;
+    sum = 31 * sum + heap->memory;
+    sum = 31 * sum + heap->size;
+    sum = 31 * sum + heap->low;
+    sum = 31 * sum + heap->high;
+    sum = 31 * sum + (size_t)heap->parts;
+    sum = 31 * sum + behind[0];
+    sum = 31 * sum + behind[1];
+    return 31 * sum + behind[2];
+}
+
+/* Adds the `len` bytes at `memory` as the last pool, and returns what rlsf_heap_add does. */
+RLSF_INLINE size_t rlsf_heap_add_last(rlsf_heap *heap, void *memory, size_t len) {
+    size_t taken = heap->kind == RLSF_SMALL ? rlsf_small_add(heap + 1, (size_t)memory, len) : rlsf_large_add(heap + 1, (size_t)memory, len);
+    if (taken) {
+        heap->start = (size_t)memory;
+        heap->len = taken;
+    }
+    return taken;
+}
+
+/* Adds the `len` bytes at `memory` as a pool, in a time that doesn't depend on them. In a small heap, the time grows by a few word
+ * accesses for each 128 KiB. Returns the number of bytes from `memory` to the end of the pool, or 0 if there are too few bytes.
  *
- * Insert the range at a multiple of 32, before the first payload. If `align` is at most 16, it is the least such length. docs/SIZING.md has
- * the formula.
+ * The bytes must lie in the heap's memory, and no byte may be one that was added before: rlsf_heap_try_add tests this. */
+RLSF_INLINE size_t rlsf_heap_add(rlsf_heap *heap, void *memory, size_t len) {
+    size_t taken = rlsf_heap_add_last(heap, memory, len), end = (size_t)memory + taken;
+    if (!taken) return 0;
+    if (heap->low == heap->high || (size_t)memory < heap->low) heap->low = (size_t)memory;
+    if (end > heap->high) heap->high = end;
+    heap->sum = rlsf_heap_sum(heap);
+    return taken;
+}
+
+/* What rlsf_heap_try_add returns. */
+typedef enum rlsf_add_error {
+    RLSF_ADD_OK = 0,
+    RLSF_ADD_OUTSIDE = 1,  /* the bytes don't all lie in the heap's memory */
+    RLSF_ADD_OVERLAPS = 2, /* a byte lies in a pool, or between two that rlsf_heap_add made */
+    RLSF_ADD_TOO_SHORT = 3 /* there are too few bytes */
+} rlsf_add_error;
+
+/* Adds the `len` bytes at `memory` as a pool, of which `part` has the place and the length afterwards. After an error nothing has changed;
+ * if more than one applies, the call returns the first. The time grows with the number of pools. */
+RLSF_INLINE rlsf_add_error rlsf_heap_try_add(rlsf_heap *heap, rlsf_part *part, void *memory, size_t len) {
+    size_t start = (size_t)memory, end = start + len, taken;
+    const rlsf_part *other;
+    if (start < heap->memory || len > heap->size || start - heap->memory > heap->size - len) return RLSF_ADD_OUTSIDE;
+    if (start < heap->high && end > heap->low) return RLSF_ADD_OVERLAPS;
+    for (other = heap->parts; other; other = other->next)
+        if (start < other->start + other->len && end > other->start) return RLSF_ADD_OVERLAPS;
+    taken = rlsf_heap_add_last(heap, memory, len);
+    if (!taken) return RLSF_ADD_TOO_SHORT;
+    part->next = heap->parts;
+    part->start = start;
+    part->len = taken;
+    heap->parts = part;
+    heap->sum = rlsf_heap_sum(heap);
+    return RLSF_ADD_OK;
+}
+
+/* Removes a pool if no payload is live in it, and returns 1. Otherwise returns 0, and nothing changes. No later call accesses these bytes,
+ * until they are added again or the heap ends. The time grows with the number of blocks.
  *
- * Returns 0 exactly in these cases:
- *   - There is no such kind.
- *   - RLSF_NO_LAYOUT applies to `size` and `align`.
- *   - No block is sure to be long enough.
- *   - The length is above the greatest size_t or, in a small pool, above 131072. */
-size_t rlsf_pool_length_for_payloads(size_t kind, size_t count, size_t size, size_t align);
+ * The pool is one that rlsf_heap_add made of `memory`, and `len` is what it returned; or the place and the length of an rlsf_part, which is
+ * the program's again. */
+RLSF_INLINE int rlsf_heap_remove(rlsf_heap *heap, void *memory, size_t len) {
+    size_t start = (size_t)memory;
+    rlsf_part **link = &heap->parts;
+    if (!(heap->kind == RLSF_SMALL ? rlsf_small_remove(heap + 1, start, len) : rlsf_large_remove(heap + 1, start, len))) return 0;
+    while (*link && (*link)->start != start) link = &(*link)->next;
+    if (*link)
+        *link = (*link)->next;
+    else if (heap->low == start)
+        heap->low += len;
+    else if (heap->high == start + len)
+        heap->high = start;
+    if (heap->low >= heap->high) heap->low = heap->high = 0;
+    if (heap->start == start) heap->len = 0;
+    heap->sum = rlsf_heap_sum(heap);
+    return 1;
+}
 
-/* Returns the least length in bytes of a range in which such a payload can be allocated while no other is live there. Insert it in the
- * same way.
+/* Creates a heap at a handle, over the `len` bytes at `memory`. No pool is added yet: rlsf_heap_add adds parts of these bytes. They belong
+ * to the heap until rlsf_heap_end. The call takes constant time, and doesn't access them.
  *
- * Returns 0 exactly if there is no such kind, RLSF_NO_LAYOUT applies to `size` and `align`, or there is no such length. */
-size_t rlsf_pool_length_for_allocation(size_t kind, size_t size, size_t align);
+ * Returns NULL exactly if there is no such kind or `len` is below 16; then nothing changes. The handle has rlsf_heap_size(kind) bytes and
+ * is aligned to 8. `memory` isn't NULL, and `len` is below 2^59. */
+RLSF_INLINE rlsf_heap *rlsf_heap_begin(void *handle, size_t kind, void *memory, size_t len) {
+    rlsf_heap *heap = (rlsf_heap *)handle;
+    size_t skipped = (0 - (size_t)memory) % 16;
+    if (len < 16) return NULL;
+    if (kind == RLSF_SMALL)
+        rlsf_small_init(heap + 1, (char *)memory + skipped, (size_t)memory + skipped, len - skipped);
+    else if (kind == RLSF_LARGE)
+        rlsf_large_init(heap + 1, (char *)memory + skipped, (size_t)memory + skipped, len - skipped);
+    else
+        return NULL;
+    heap->kind = kind;
+    heap->start = heap->memory = (size_t)memory + skipped;
+    heap->len = 0;
+    heap->size = len - skipped;
+    heap->low = heap->high = 0;
+    heap->parts = NULL;
+    heap->sum = rlsf_heap_sum(heap);
+    return heap;
+}
 
-/* Makes a pool at a handle, over a memory with the addresses from `start` up to `start + len`. No range of it is inserted yet.
+/* Creates a heap at a handle, over the `len` bytes at `memory`, which become a pool, but for some bytes at both ends. It is rlsf_heap_begin and rlsf_heap_add.
+ * Returns NULL exactly if rlsf_heap_begin does. */
+RLSF_INLINE rlsf_heap *rlsf_heap_init(void *handle, size_t kind, void *memory, size_t len) {
+    rlsf_heap *heap = rlsf_heap_begin(handle, kind, memory, len);
+    size_t skipped = (0 - (size_t)memory) % 16;
+    if (heap) rlsf_heap_add(heap, (char *)memory + skipped, len - skipped);
+    return heap;
+}
+
+/* Ends a heap. Its memory and its handle are the caller's again. The bytes of payloads keep their values. The proof is about heaps of which no
+ * payload is live: the others' bytes were their callers' all the time. */
+RLSF_INLINE void rlsf_heap_end(rlsf_heap *heap) {
+    if (heap->kind == RLSF_SMALL)
+        rlsf_small_end(heap + 1);
+    else
+        rlsf_large_end(heap + 1);
+}
+
+/* Allocates a payload of `size` bytes and less than 32 more, at a multiple of `align`. An alignment below 16 counts as 16. Its bytes may
+ * have any values. All other payloads and their bytes are unchanged.
  *
- * Returns RLSF_NO_KIND, RLSF_ZERO_START or RLSF_TOO_LONG, each exactly if it applies, or RLSF_OUT_OF_MEMORY. After an error, all calls find
- * a pool without an address, and rlsf_destroy must still be called.
+ * Returns NULL exactly in these cases, and then nothing changes:
+ *   - `align` is above 16 and no power of two, or `size` is above 2^63 - align.
+ *   - No free block has a class that reaches the sought size (docs/SIZING.md). */
+RLSF_INLINE void *rlsf_aligned_alloc(rlsf_heap *heap, size_t align, size_t size) {
+    return (void *)(heap->kind == RLSF_SMALL ? rlsf_small_allocate(heap + 1, size, align) : rlsf_large_allocate(heap + 1, size, align));
+}
+
+/* Allocates a payload, as rlsf_aligned_alloc does with an alignment of 16. */
+RLSF_INLINE void *rlsf_malloc(rlsf_heap *heap, size_t size) {
+    return (void *)(heap->kind == RLSF_SMALL ? rlsf_small_malloc(heap + 1, size) : rlsf_large_malloc(heap + 1, size));
+}
+
+/* Allocates a payload of `count * size` bytes and less than 32 more, at a multiple of 16. All of them are zeros.
  *
- * (tested) The call requests len + len / 16 bytes and a few more from malloc. No other call requests any. The memory begins as zeros. */
-size_t rlsf_init(rlsf_pool *pool, size_t kind, size_t start, size_t len);
+ * Returns NULL exactly if rlsf_malloc of `count * size` bytes does, and if that product is no size_t. */
+RLSF_INLINE void *rlsf_calloc(rlsf_heap *heap, size_t count, size_t size) {
+    return (void *)(heap->kind == RLSF_SMALL ? rlsf_small_allocate_zeroed(heap + 1, count, size)
+                                             : rlsf_large_allocate_zeroed(heap + 1, count, size));
+}
 
-/* Ends a pool. The handle can be used for a new pool. Until then all calls find a pool without an address, and another rlsf_destroy does
- * nothing. (tested) The memory is freed. */
-void rlsf_destroy(rlsf_pool *pool);
+/* Deallocates a payload. All other payloads and their bytes are unchanged. Does nothing if `payload` is NULL. */
+RLSF_INLINE void rlsf_free(rlsf_heap *heap, void *payload) {
+    if (heap->kind == RLSF_SMALL)
+        rlsf_small_free(heap + 1, (size_t)payload);
+    else
+        rlsf_large_free(heap + 1, (size_t)payload);
+}
 
-/* Does nothing. Call it only after rlsf_destroy, or not at all; no call tests that. It is for proofs: its contract says that the handle of an
- * ended pool can be used for a new one. */
-void rlsf_room(rlsf_pool *pool);
-
-/* Frees all payloads and removes all ranges. The pool is as after rlsf_init, but (tested) the bytes of its memory stay. If rlsf_init made no
- * pool or rlsf_destroy ended it, nothing changes. The time grows with the memory: one byte is written for each 16 addresses. */
-void rlsf_reset(rlsf_pool *pool);
-
-/* Returns the number of addresses of the memory: `len`, or 0 if rlsf_init made no memory. */
-size_t rlsf_len(const rlsf_pool *pool);
-
-/* Inserts a range of the memory. Its aligned part becomes free, in chunks of at least 64 bytes. Returns the number of bytes from its start
- * to the end of its last chunk. Payloads and their bytes are unchanged.
+/* Changes the size of a payload to `size` bytes and less than 32 more, and returns its address, at which it may be new. As many of its
+ * first bytes as both sizes have are kept. All other payloads and their bytes are unchanged. Allocates a payload if `payload` is NULL, as
+ * rlsf_malloc does.
  *
- * Returns RLSF_OUTSIDE_MEMORY, RLSF_NOT_BEHIND or RLSF_TOO_SHORT, each exactly if it applies. */
-rlsf_answer rlsf_insert(rlsf_pool *pool, size_t start, size_t len);
-
-/* Removes a range, from its start, rounded up to a multiple of 32, to its end. It may be an inserted range of the length that rlsf_insert
- * returned, a part of one that begins and ends where chunks do, or several contiguous ranges. Payloads and their bytes are unchanged.
+ * The library doesn't store alignments. So a payload that was requested with an alignment above 16 stays at its address, and keeps its
+ * alignment, if its usable bytes and those of a free block behind it suffice. Otherwise it moves, and its new alignment is 16.
+ * rlsf_aligned_realloc keeps the alignment.
  *
- * If the removed part ended where the last range ends, the last range then ends where that part began, so the part can be inserted again. If
- * it was another part of the last range, the last range becomes what is behind it. Otherwise the last range is unchanged. Then rlsf_insert
- * refuses the removed part, because it isn't behind the last range. The time grows with the number of blocks of the contiguous ranges, and
- * with the length of the memory before them.
+ * Returns NULL exactly if `size` is above 2^63 - 16 or there is no room. Then nothing changes, and `payload` is still live. */
+RLSF_INLINE void *rlsf_realloc(rlsf_heap *heap, void *payload, size_t size) {
+    return (void *)(heap->kind == RLSF_SMALL ? rlsf_small_reallocate(heap + 1, (size_t)payload, size)
+                                             : rlsf_large_reallocate(heap + 1, (size_t)payload, size));
+}
+
+/* Changes the size of a payload as rlsf_realloc does, and keeps its alignment. Allocates a payload if `payload` is NULL, as
+ * rlsf_aligned_alloc does. `payload` must have the alignment `align`: the requested one, or 16 if it moved by rlsf_realloc. An alignment
+ * below 16 counts as 16.
  *
- * Returns RLSF_NOT_CHUNKS exactly if it applies or the range is outside of the memory, else RLSF_IN_USE exactly if it applies. */
-size_t rlsf_remove(rlsf_pool *pool, size_t start, size_t len);
+ * Returns NULL exactly if `size` is above 2^63 - align or there is no room. Then nothing changes, and `payload` is still live. */
+RLSF_INLINE void *rlsf_aligned_realloc(rlsf_heap *heap, void *payload, size_t align, size_t size) {
+    return (void *)(heap->kind == RLSF_SMALL ? rlsf_small_reallocate_aligned(heap + 1, (size_t)payload, size, align)
+                                             : rlsf_large_reallocate_aligned(heap + 1, (size_t)payload, size, align));
+}
 
-/* Removes the last range. Then the last range is empty and has the same start, so the range can be inserted again. Payloads and their bytes
- * are unchanged. If no range was inserted, nothing changes. The time grows with the number of blocks of the last range.
+/* Changes the size of a payload as rlsf_realloc does, without moving it. Returns `payload`.
  *
- * Returns RLSF_IN_USE exactly if it applies. */
-size_t rlsf_remove_last(rlsf_pool *pool);
+ * Returns NULL exactly if rlsf_realloc would move it or return NULL, or if `payload` is NULL. Then nothing changes. */
+RLSF_INLINE void *rlsf_realloc_in_place(rlsf_heap *heap, void *payload, size_t size) {
+    return (void *)(heap->kind == RLSF_SMALL ? rlsf_small_reallocate_in_place(heap + 1, (size_t)payload, size)
+                                             : rlsf_large_reallocate_in_place(heap + 1, (size_t)payload, size));
+}
 
-/* Appends a range, which begins at the end of the last range, to that range. Returns the number of bytes taken. In a large pool these are
- * all but those past a multiple of 32; in a small pool it takes them as rlsf_insert does. Payloads and their bytes are unchanged.
+/* Returns the number of bytes of a payload, from its pointer on, that may be read and written; or 0 if `payload` is NULL. */
+RLSF_INLINE size_t rlsf_usable_size(const rlsf_heap *heap, const void *payload) {
+    return heap->kind == RLSF_SMALL ? rlsf_small_usable(rlsf_heap_state(heap), (size_t)payload) : rlsf_large_usable(rlsf_heap_state(heap), (size_t)payload);
+}
+
+/* Returns the totals of the blocks of the last pool: the one that rlsf_heap_init or the last successful rlsf_heap_add made. The time grows
+ * with the number of these blocks. */
+RLSF_INLINE rlsf_totals rlsf_heap_stats(const rlsf_heap *heap) {
+    return heap->kind == RLSF_SMALL ? rlsf_small_stats(rlsf_heap_state(heap), heap->start, heap->len)
+                                    : rlsf_large_stats(rlsf_heap_state(heap), heap->start, heap->len);
+}
+
+/* Returns the totals of the blocks of any pool. The time grows with the number of these blocks.
  *
- * Returns RLSF_OUTSIDE_MEMORY, RLSF_NOT_NEXT or RLSF_TOO_SHORT, each exactly if it applies. */
-rlsf_answer rlsf_append(rlsf_pool *pool, size_t start, size_t len);
+ * The pool is one that rlsf_heap_add made of `memory`, and `len` is what it returned. */
+RLSF_INLINE rlsf_totals rlsf_heap_pool_stats(const rlsf_heap *heap, const void *memory, size_t len) {
+    return heap->kind == RLSF_SMALL ? rlsf_small_stats(rlsf_heap_state(heap), (size_t)memory, len)
+                                    : rlsf_large_stats(rlsf_heap_state(heap), (size_t)memory, len);
+}
 
-/* Allocates a payload of `size` bytes and less than 32 more, at a multiple of `align`. Returns its address, at which no payload was live.
- * Its bytes may have any values. All other payloads and their bytes are unchanged.
+/* Fills an array with the blocks of a pool that begin at `from` or behind it, in address order, and returns the number of filled ones: all
+ * of them, or `count` if there are more. The others stay as they are. To go on behind a full array, pass the last block's start + len as
+ * `from`. The time grows with the number of blocks up to the last listed one.
  *
- * Returns RLSF_NO_LAYOUT exactly if it applies, else RLSF_NO_ROOM exactly if no free block has a class that reaches the sought size
- * (docs/SIZING.md). */
-rlsf_answer rlsf_allocate(rlsf_pool *pool, size_t size, size_t align);
+ * The pool is one that rlsf_heap_add made of `memory`, and `len` is what it returned; or the last pool, if `memory` is NULL. */
+RLSF_INLINE size_t rlsf_heap_walk(const rlsf_heap *heap, const void *memory, size_t len, const void *from, rlsf_span *blocks, size_t count) {
+    size_t start = memory ? (size_t)memory : heap->start, taken = memory ? len : heap->len;
+    return heap->kind == RLSF_SMALL ? rlsf_small_list(rlsf_heap_state(heap), start, taken, (size_t)from, &blocks->start, 3 * count)
+                                    : rlsf_large_list(rlsf_heap_state(heap), start, taken, (size_t)from, &blocks->start, 3 * count);
+}
 
-/* Allocates a payload as rlsf_allocate does. All of its bytes are zeros. */
-rlsf_answer rlsf_allocate_zeroed(rlsf_pool *pool, size_t size, size_t align);
-
-/* Deallocates a payload. All other payloads and their bytes are unchanged.
+/* For debugging: reads the words of each block of a pool again, the links of its free blocks, and the lists' beginnings in the handle.
+ * Returns 1 if they agree. Returns 0 if they don't: then the program wrote to bytes that it may not write to, and no other call on the heap
+ * is defined. Whatever these words and the handle's are, the call reads only the heap's memory and its handle. The time grows with the number
+ * of blocks.
  *
- * Returns RLSF_UNKNOWN_ADDRESS exactly if it applies. An address that was freed and allocated again is live, so it isn't refused. */
-size_t rlsf_free(rlsf_pool *pool, size_t addr);
-
-/* Changes the size of a payload to `size` bytes and less than 32 more, and keeps its alignment. The payload may move. Returns its address.
- * As many of its first bytes as both sizes have are kept. All other payloads and their bytes are unchanged.
+ * It finds each wrong header of a block, each missing sentinel, two free blocks side by side, and a free block whose neighbours in its list
+ * don't name it. Of the handle it finds each flipped bit, but for those of the number of live payloads and those that no call reads. It
+ * doesn't read payloads, nor the words before payloads with an alignment above 16. A call in another thread must not run at the same time.
  *
- * Returns RLSF_UNKNOWN_ADDRESS or RLSF_NO_LAYOUT, each exactly if it applies, else RLSF_NO_ROOM exactly if there is no room. */
-rlsf_answer rlsf_realloc(rlsf_pool *pool, size_t addr, size_t size);
-
-/* Changes the size of a payload as rlsf_realloc does, without moving it. Returns RLSF_NO_ROOM exactly if its block and a free one behind
- * it don't suffice. */
-rlsf_answer rlsf_realloc_no_move(rlsf_pool *pool, size_t addr, size_t size);
-
-/* Returns the number of bytes of a payload that may be read and written.
- *
- * Returns RLSF_UNKNOWN_ADDRESS exactly if it applies. */
-rlsf_answer rlsf_usable(const rlsf_pool *pool, size_t addr);
-
-/* Reads `len` bytes of a payload into `into`, from an offset on.
- *
- * Returns RLSF_UNKNOWN_ADDRESS or RLSF_OUT_OF_RANGE, each exactly if it applies. Then `into` is unchanged. */
-size_t rlsf_read(const rlsf_pool *pool, size_t addr, size_t offset, void *into, size_t len);
-
-/* Overwrites `len` bytes of a payload, from an offset on. All other bytes of payloads are unchanged.
- *
- * Returns RLSF_UNKNOWN_ADDRESS or RLSF_OUT_OF_RANGE, each exactly if it applies. */
-size_t rlsf_write(rlsf_pool *pool, size_t addr, size_t offset, const void *bytes, size_t len);
-
-/* Copies the first `len` bytes of the payload at `from` over the first `len` bytes of the payload at `to`. All other bytes of payloads are
- * unchanged. Both may be the same payload.
- *
- * Returns RLSF_UNKNOWN_ADDRESS exactly if it applies to one of the addresses, else RLSF_OUT_OF_RANGE exactly if one of the payloads has
- * fewer bytes. */
-size_t rlsf_copy(rlsf_pool *pool, size_t from, size_t to, size_t len);
-
-/* Returns the totals of the used and free blocks of all ranges. The time grows with the number of blocks and the length of the memory. */
-rlsf_statistics rlsf_stats(const rlsf_pool *pool);
-
-/* Returns the first block, of any range, that begins at `from` or behind it. To iterate, begin at 0 and continue at each block's
- * start + len. The time grows with the number of blocks up to that one and the length of the memory before it.
- *
- * Returns RLSF_NO_BLOCK exactly if it applies. */
-rlsf_block rlsf_walk(const rlsf_pool *pool, size_t from);
-
-/* Lists the blocks of all ranges that begin at `from` or behind it, in address order, as three numbers each: start, length, and 1 if
- * used, else 0. Returns the number of listed blocks: all of them, or `len / 3` if there are more. The numbers behind those of the listed
- * blocks are unchanged. The time grows with the number of blocks and the length of the memory.
- *
- * The condition for `into` applies to `numbers`, which has room for `len` numbers, less than 2^60. */
-size_t rlsf_list(const rlsf_pool *pool, size_t from, size_t *numbers, size_t len);
-
-/* Fills an array of `count` blocks as rlsf_list does, and returns the number of filled ones. To go on behind a full array, pass the last
- * block's start + len as `from`. 3 * count is less than 2^60. The function only calls rlsf_list. */
-static inline size_t rlsf_blocks(const rlsf_pool *pool, size_t from, rlsf_span *blocks, size_t count) {
-    return rlsf_list(pool, from, &blocks->start, 3 * count);
+ * The pool is one that rlsf_heap_add made of `memory`, and `len` is what it returned; or the last pool, if `memory` is NULL. */
+RLSF_INLINE int rlsf_heap_check(const rlsf_heap *heap, const void *memory, size_t len) {
+    size_t start = memory ? (size_t)memory : heap->start, taken = memory ? len : heap->len;
+    if (heap->sum != rlsf_heap_sum(heap)) return 0;
+    return (int)(heap->kind == RLSF_SMALL ? rlsf_small_check(rlsf_heap_state(heap), start, taken) : rlsf_large_check(rlsf_heap_state(heap), start, taken));
 }
 
 #ifdef __cplusplus

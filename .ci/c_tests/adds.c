@@ -1,5 +1,5 @@
 /* rlsf_heap_try_add refuses a range outside of the heap's memory and one that overlaps a pool, by name, and nothing else. */
-#include "rlsf_malloc.h"
+#include "rlsf.h"
 #include "want.h"
 
 enum { LEN = 1 << 16 };

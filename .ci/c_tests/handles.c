@@ -1,6 +1,6 @@
 /* rlsf_heap_check of a handle that was overwritten: it never reads elsewhere, and finds each flipped bit but those that no call reads and
  * those of the number of payloads. */
-#include "rlsf_malloc.h"
+#include "rlsf.h"
 #include "want.h"
 
 static _Alignas(64) unsigned char memory[1 << 16];

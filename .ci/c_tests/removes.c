@@ -1,5 +1,5 @@
 /* rlsf_heap_remove removes a pool exactly if no payload is live in it, and the bytes can be added again. */
-#include "rlsf_malloc.h"
+#include "rlsf.h"
 #include "want.h"
 #include <string.h>
 

@@ -32,7 +32,7 @@ LAYERS = [
          (1, "rlsf_example_global", "two threads, one allocator"), (1, "", "")],
     ]),
     ("Libraries", "for other code", "#fff3d0", [
-        [(1, "rlsf_c_lemmas", "proofs of C's exports: their template"), (1, "rlsf_c", "static library for C: pools of numbers"),
+        [(1, "rlsf_c_lemmas", "proofs of C's exports: their template"), (1, "rlsf_pool", "static library for C: pools of numbers"),
          (1, "rlsf_malloc", "static library for C: payloads are pointers"), (1, "rlsf_example_libraries", "queues, objects and strings in a pool")],
     ]),
     ("Traces", "a text of calls, run and compared with the model", "#fbe3d6", [

@@ -2,7 +2,7 @@
 //!
 //!     rustc --edition 2024 -O examples/rust/global.rs -C link-arg=crates/rlsf_malloc/out/librlsf_malloc.a && ./global
 //!
-//! The allocator is the part up to `HEAP`. `include/rlsf_malloc.h` says what the exported functions do, and what their caller owes.
+//! The allocator is the part up to `HEAP`. `include/rlsf.h` says what the exported functions do, and what their caller owes.
 
 use std::alloc::{GlobalAlloc, Layout};
 use std::cell::UnsafeCell;

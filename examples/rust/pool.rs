@@ -18,32 +18,32 @@ pub struct Span { pub start: usize, pub len: usize, pub used: usize }
 pub struct Statistics { pub payloads: usize, pub used: usize, pub free: usize, pub longest: usize }
 
 unsafe extern "C" {
-    fn rlsf_size() -> usize;
+    fn rlsf_pool_size() -> usize;
     fn rlsf_pool_length_for_payloads(kind: usize, count: usize, size: usize, align: usize) -> usize;
     fn rlsf_pool_length_for_allocation(kind: usize, size: usize, align: usize) -> usize;
-    fn rlsf_init(pool: *mut u8, kind: usize, start: usize, len: usize) -> usize;
-    fn rlsf_destroy(pool: *mut u8);
-    fn rlsf_reset(pool: *mut u8);
-    fn rlsf_len(pool: *const u8) -> usize;
-    fn rlsf_insert(pool: *mut u8, start: usize, len: usize) -> Answer;
-    fn rlsf_append(pool: *mut u8, start: usize, len: usize) -> Answer;
-    fn rlsf_remove(pool: *mut u8, start: usize, len: usize) -> usize;
-    fn rlsf_remove_last(pool: *mut u8) -> usize;
-    fn rlsf_allocate(pool: *mut u8, size: usize, align: usize) -> Answer;
-    fn rlsf_allocate_zeroed(pool: *mut u8, size: usize, align: usize) -> Answer;
-    fn rlsf_free(pool: *mut u8, addr: usize) -> usize;
-    fn rlsf_realloc(pool: *mut u8, addr: usize, size: usize) -> Answer;
-    fn rlsf_realloc_no_move(pool: *mut u8, addr: usize, size: usize) -> Answer;
-    fn rlsf_usable(pool: *const u8, addr: usize) -> Answer;
-    fn rlsf_read(pool: *const u8, addr: usize, offset: usize, into: *mut u8, len: usize) -> usize;
-    fn rlsf_write(pool: *mut u8, addr: usize, offset: usize, bytes: *const u8, len: usize) -> usize;
-    fn rlsf_copy(pool: *mut u8, from: usize, to: usize, len: usize) -> usize;
-    fn rlsf_stats(pool: *const u8) -> Statistics;
-    fn rlsf_walk(pool: *const u8, from: usize) -> Block;
-    fn rlsf_list(pool: *const u8, from: usize, numbers: *mut usize, len: usize) -> usize;
+    fn rlsf_pool_init(pool: *mut u8, kind: usize, start: usize, len: usize) -> usize;
+    fn rlsf_pool_destroy(pool: *mut u8);
+    fn rlsf_pool_reset(pool: *mut u8);
+    fn rlsf_pool_len(pool: *const u8) -> usize;
+    fn rlsf_pool_insert(pool: *mut u8, start: usize, len: usize) -> Answer;
+    fn rlsf_pool_append(pool: *mut u8, start: usize, len: usize) -> Answer;
+    fn rlsf_pool_remove(pool: *mut u8, start: usize, len: usize) -> usize;
+    fn rlsf_pool_remove_last(pool: *mut u8) -> usize;
+    fn rlsf_pool_allocate(pool: *mut u8, size: usize, align: usize) -> Answer;
+    fn rlsf_pool_allocate_zeroed(pool: *mut u8, size: usize, align: usize) -> Answer;
+    fn rlsf_pool_free(pool: *mut u8, addr: usize) -> usize;
+    fn rlsf_pool_realloc(pool: *mut u8, addr: usize, size: usize) -> Answer;
+    fn rlsf_pool_realloc_no_move(pool: *mut u8, addr: usize, size: usize) -> Answer;
+    fn rlsf_pool_usable(pool: *const u8, addr: usize) -> Answer;
+    fn rlsf_pool_read(pool: *const u8, addr: usize, offset: usize, into: *mut u8, len: usize) -> usize;
+    fn rlsf_pool_write(pool: *mut u8, addr: usize, offset: usize, bytes: *const u8, len: usize) -> usize;
+    fn rlsf_pool_copy(pool: *mut u8, from: usize, to: usize, len: usize) -> usize;
+    fn rlsf_pool_stats(pool: *const u8) -> Statistics;
+    fn rlsf_pool_walk(pool: *const u8, from: usize) -> Block;
+    fn rlsf_pool_list(pool: *const u8, from: usize, numbers: *mut usize, len: usize) -> usize;
 }
 
-/// The number of an error, as include/rlsf.h names it.
+/// The number of an error, as include/rlsf_pool.h names it.
 #[derive(Debug, PartialEq)]
 pub struct Error(pub usize);
 type Result<T> = std::result::Result<T, Error>;
@@ -67,47 +67,47 @@ impl Kind {
 
 /// A pool. It may move to another thread. Each call borrows it exclusively, so one call at a time runs.
 pub struct Pool { at: NonNull<u8>, layout: Layout }
-// SAFETY: crates/rlsf_c proves it of what lies at the handle.
+// SAFETY: crates/rlsf_pool proves it of what lies at the handle.
 unsafe impl Send for Pool {}
 
 impl Pool {
     pub fn new(kind: Kind, start: usize, len: usize) -> Result<Pool> {
-        let layout = Layout::from_size_align(unsafe { rlsf_size() }, 16).unwrap();
+        let layout = Layout::from_size_align(unsafe { rlsf_pool_size() }, 16).unwrap();
         let at = NonNull::new(unsafe { alloc(layout) }).unwrap_or_else(|| handle_alloc_error(layout));
-        let error = unsafe { rlsf_init(at.as_ptr(), kind as usize, start, len) };
+        let error = unsafe { rlsf_pool_init(at.as_ptr(), kind as usize, start, len) };
         // If no pool was made, the drop of this value ends the handle.
         let pool = Pool { at, layout };
         done(error).map(|()| pool)
     }
-    pub fn insert(&mut self, start: usize, len: usize) -> Result<usize> { value(unsafe { rlsf_insert(self.at.as_ptr(), start, len) }) }
-    pub fn append(&mut self, start: usize, len: usize) -> Result<usize> { value(unsafe { rlsf_append(self.at.as_ptr(), start, len) }) }
-    pub fn remove(&mut self, start: usize, len: usize) -> Result<()> { done(unsafe { rlsf_remove(self.at.as_ptr(), start, len) }) }
-    pub fn remove_last(&mut self) -> Result<()> { done(unsafe { rlsf_remove_last(self.at.as_ptr()) }) }
-    pub fn reset(&mut self) { unsafe { rlsf_reset(self.at.as_ptr()) } }
-    pub fn len(&mut self) -> usize { unsafe { rlsf_len(self.at.as_ptr()) } }
-    pub fn allocate(&mut self, size: usize, align: usize) -> Result<usize> { value(unsafe { rlsf_allocate(self.at.as_ptr(), size, align) }) }
-    pub fn allocate_zeroed(&mut self, size: usize, align: usize) -> Result<usize> { value(unsafe { rlsf_allocate_zeroed(self.at.as_ptr(), size, align) }) }
-    pub fn free(&mut self, addr: usize) -> Result<()> { done(unsafe { rlsf_free(self.at.as_ptr(), addr) }) }
-    pub fn realloc(&mut self, addr: usize, size: usize) -> Result<usize> { value(unsafe { rlsf_realloc(self.at.as_ptr(), addr, size) }) }
-    pub fn realloc_no_move(&mut self, addr: usize, size: usize) -> Result<usize> { value(unsafe { rlsf_realloc_no_move(self.at.as_ptr(), addr, size) }) }
-    pub fn usable(&mut self, addr: usize) -> Result<usize> { value(unsafe { rlsf_usable(self.at.as_ptr(), addr) }) }
+    pub fn insert(&mut self, start: usize, len: usize) -> Result<usize> { value(unsafe { rlsf_pool_insert(self.at.as_ptr(), start, len) }) }
+    pub fn append(&mut self, start: usize, len: usize) -> Result<usize> { value(unsafe { rlsf_pool_append(self.at.as_ptr(), start, len) }) }
+    pub fn remove(&mut self, start: usize, len: usize) -> Result<()> { done(unsafe { rlsf_pool_remove(self.at.as_ptr(), start, len) }) }
+    pub fn remove_last(&mut self) -> Result<()> { done(unsafe { rlsf_pool_remove_last(self.at.as_ptr()) }) }
+    pub fn reset(&mut self) { unsafe { rlsf_pool_reset(self.at.as_ptr()) } }
+    pub fn len(&mut self) -> usize { unsafe { rlsf_pool_len(self.at.as_ptr()) } }
+    pub fn allocate(&mut self, size: usize, align: usize) -> Result<usize> { value(unsafe { rlsf_pool_allocate(self.at.as_ptr(), size, align) }) }
+    pub fn allocate_zeroed(&mut self, size: usize, align: usize) -> Result<usize> { value(unsafe { rlsf_pool_allocate_zeroed(self.at.as_ptr(), size, align) }) }
+    pub fn free(&mut self, addr: usize) -> Result<()> { done(unsafe { rlsf_pool_free(self.at.as_ptr(), addr) }) }
+    pub fn realloc(&mut self, addr: usize, size: usize) -> Result<usize> { value(unsafe { rlsf_pool_realloc(self.at.as_ptr(), addr, size) }) }
+    pub fn realloc_no_move(&mut self, addr: usize, size: usize) -> Result<usize> { value(unsafe { rlsf_pool_realloc_no_move(self.at.as_ptr(), addr, size) }) }
+    pub fn usable(&mut self, addr: usize) -> Result<usize> { value(unsafe { rlsf_pool_usable(self.at.as_ptr(), addr) }) }
     pub fn read(&mut self, addr: usize, offset: usize, into: &mut [u8]) -> Result<()> {
-        done(unsafe { rlsf_read(self.at.as_ptr(), addr, offset, into.as_mut_ptr(), into.len()) })
+        done(unsafe { rlsf_pool_read(self.at.as_ptr(), addr, offset, into.as_mut_ptr(), into.len()) })
     }
     pub fn write(&mut self, addr: usize, offset: usize, bytes: &[u8]) -> Result<()> {
-        done(unsafe { rlsf_write(self.at.as_ptr(), addr, offset, bytes.as_ptr(), bytes.len()) })
+        done(unsafe { rlsf_pool_write(self.at.as_ptr(), addr, offset, bytes.as_ptr(), bytes.len()) })
     }
-    pub fn copy(&mut self, from: usize, to: usize, len: usize) -> Result<()> { done(unsafe { rlsf_copy(self.at.as_ptr(), from, to, len) }) }
-    pub fn statistics(&mut self) -> Statistics { unsafe { rlsf_stats(self.at.as_ptr()) } }
-    pub fn block(&mut self, from: usize) -> Option<Block> { Some(unsafe { rlsf_walk(self.at.as_ptr(), from) }).filter(|block| block.error == 0) }
+    pub fn copy(&mut self, from: usize, to: usize, len: usize) -> Result<()> { done(unsafe { rlsf_pool_copy(self.at.as_ptr(), from, to, len) }) }
+    pub fn statistics(&mut self) -> Statistics { unsafe { rlsf_pool_stats(self.at.as_ptr()) } }
+    pub fn block(&mut self, from: usize) -> Option<Block> { Some(unsafe { rlsf_pool_walk(self.at.as_ptr(), from) }).filter(|block| block.error == 0) }
     /// Fills the front of `into` with the blocks from an address on, and returns that front.
     pub fn blocks<'a>(&mut self, from: usize, into: &'a mut [Span]) -> &'a [Span] {
-        let count = unsafe { rlsf_list(self.at.as_ptr(), from, into.as_mut_ptr().cast(), 3 * into.len()) };
+        let count = unsafe { rlsf_pool_list(self.at.as_ptr(), from, into.as_mut_ptr().cast(), 3 * into.len()) };
         &into[..count]
     }
 }
 impl Drop for Pool {
-    fn drop(&mut self) { unsafe { rlsf_destroy(self.at.as_ptr()); dealloc(self.at.as_ptr(), self.layout) } }
+    fn drop(&mut self) { unsafe { rlsf_pool_destroy(self.at.as_ptr()); dealloc(self.at.as_ptr(), self.layout) } }
 }
 
 fn main() -> Result<()> {

@@ -5,7 +5,7 @@
  *     -DLOCKED     a mutex is held in each call
  *     -DEACH       each thread has a heap of its own, of which other threads free nothing: such frees do nothing */
 #define _GNU_SOURCE
-#include "rlsf_malloc.h"
+#include "rlsf.h"
 #include <errno.h>
 #include <pthread.h>
 #include <stdint.h>

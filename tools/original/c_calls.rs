@@ -1,4 +1,4 @@
-//! The original behind those calls of `include/rlsf.h` that `examples/steps.c` makes, so that this program links with either library.
+//! The original behind those calls of `include/rlsf_pool.h` that `examples/steps.c` makes, so that this program links with either library.
 //! As there, addresses are numbers of the pool's own memory. Nothing is tested of them, since the original tests nothing.
 
 extern crate self as const_default1;
@@ -54,13 +54,13 @@ macro_rules! on {
 }
 
 #[no_mangle]
-pub extern "C" fn rlsf_size() -> usize {
+pub extern "C" fn rlsf_pool_size() -> usize {
     size_of::<Pool>()
 }
 
 /// The start is a multiple of the granularity, so that alignments up to it are the same for addresses and pointers.
 #[no_mangle]
-pub unsafe extern "C" fn rlsf_init(pool: *mut Pool, kind: usize, start: usize, len: usize) -> usize {
+pub unsafe extern "C" fn rlsf_pool_init(pool: *mut Pool, kind: usize, start: usize, len: usize) -> usize {
     let kind = match kind {
         SMALL => Kind::Small(Tlsf::new()),
         LARGE => Kind::Large(Tlsf::new()),
@@ -76,13 +76,13 @@ pub unsafe extern "C" fn rlsf_init(pool: *mut Pool, kind: usize, start: usize, l
 }
 
 #[no_mangle]
-pub unsafe extern "C" fn rlsf_destroy(pool: *mut Pool) {
+pub unsafe extern "C" fn rlsf_pool_destroy(pool: *mut Pool) {
     let pool = ptr::read(pool);
     dealloc(pool.memory, pool.layout);
 }
 
 #[no_mangle]
-pub unsafe extern "C" fn rlsf_insert(pool: *mut Pool, start: usize, len: usize) -> Answer {
+pub unsafe extern "C" fn rlsf_pool_insert(pool: *mut Pool, start: usize, len: usize) -> Answer {
     let pool = &mut *pool;
     let begin = start.wrapping_add(pool.displacement) as *mut u8;
     let range = NonNull::new(ptr::slice_from_raw_parts_mut(begin, len)).unwrap();
@@ -91,7 +91,7 @@ pub unsafe extern "C" fn rlsf_insert(pool: *mut Pool, start: usize, len: usize) 
 }
 
 #[no_mangle]
-pub unsafe extern "C" fn rlsf_allocate(pool: *mut Pool, size: usize, align: usize) -> Answer {
+pub unsafe extern "C" fn rlsf_pool_allocate(pool: *mut Pool, size: usize, align: usize) -> Answer {
     let pool = &mut *pool;
     let Ok(layout) = Layout::from_size_align(size, align) else {
         return Answer { error: NO_LAYOUT, value: 0 };
@@ -104,7 +104,7 @@ pub unsafe extern "C" fn rlsf_allocate(pool: *mut Pool, size: usize, align: usiz
 
 /// The call isn't told an alignment, so the original looks for the block without it.
 #[no_mangle]
-pub unsafe extern "C" fn rlsf_free(pool: *mut Pool, addr: usize) -> usize {
+pub unsafe extern "C" fn rlsf_pool_free(pool: *mut Pool, addr: usize) -> usize {
     let pool = &mut *pool;
     let payload = NonNull::new_unchecked(addr.wrapping_add(pool.displacement) as *mut u8);
     on!(pool, tlsf => tlsf.deallocate_unknown_align(payload));

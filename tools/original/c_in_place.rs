@@ -1,4 +1,4 @@
-//! The original behind those exported functions of `include/rlsf_malloc.h` that `examples/steps_in_place.c` uses, so that this program links
+//! The original behind those exported functions of `include/rlsf.h` that `examples/steps_in_place.c` uses, so that this program links
 //! with either library. Nothing is tested of the numbers, since the original tests nothing.
 
 extern crate self as const_default1;

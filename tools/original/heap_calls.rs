@@ -1,4 +1,4 @@
-//! The original behind those calls of `include/rlsf_malloc.h` that `tools/measuring/preload.c` makes, so that it links with either library.
+//! The original behind those calls of `include/rlsf.h` that `tools/measuring/preload.c` makes, so that it links with either library.
 //! Payloads are pointers, which these calls pass as numbers.
 
 extern crate self as const_default1;

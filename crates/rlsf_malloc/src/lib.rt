@@ -1,5 +1,5 @@
 //! The allocator for C, in place: calls over a handle that holds a heap, whose addresses are pointers. A payload is its caller's: a call owns
-//! no byte of the payloads that are out. `include/rlsf_malloc.h` declares the calls.
+//! no byte of the payloads that are out. `include/rlsf.h` declares the calls.
 //!
 //! There are large and small heaps. Read `large_exports.rt` first, then `large.rt`. `small_exports.rt` and `small.rt` are the same for
 //! small heaps. Both use `calls.rt`, `resizing.rt`, `pools.rt` and `replies.rt`.

@@ -1,6 +1,0 @@
-use Rattle.std.proofs.Common.{sym, ap}
-use Rattle.rlsf_c.specs.Answers.{number_of}
-use Rattle.rlsf_c.proofs.answers.number.Goals as goal
-
-pub returns-in-NotBehind : goal.returns-in-NotBehind
-returns-in-NotBehind c = ap number_of (sym c.in-NotBehind.is)

@@ -1,0 +1,384 @@
+-- The outcomes of the calls of a checked allocator, as numbers.
+use Rattle.std.proofs.Common.{◌≡◌, ◌≢◌, ℕ, ◌+◌, ◌<◌, ◌≤◌, List, length, take, drop, Option, Some, None, Result, Ok, Err, arith, refl, sym, ◌∙◌}
+use Rattle.std.proofs.Common.{ap, subst, inl, inr}
+use mathlib.Core.Path.{ap₂}
+use Rattle.std.proofs.lemmas.Option.{none-some}
+use Rattle.std.specs.Prelude.{IfErr, IfOk, OnErr, OnOk}
+use Rattle.std.specs.List.{splice}
+use Rattle.std.specs.declared.num.NonZeroUsize.{NonZeroUsize}
+use Rattle.rlsf_base.specs.Addr.{at}
+use Rattle.rlsf_base.specs.declared.memory.range.Range.{Range}
+use Rattle.rlsf_base.specs.Layout.{IsLayout}
+use Rattle.rlsf_base.specs.Range.{range_at}
+use Rattle.rlsf_base.specs.Space.{SamePlace, Space, range_of}
+use Rattle.rlsf_model.specs.Allocate as machine
+use Rattle.rlsf_model.specs.Callers.{align_at, bytes_at}
+use Rattle.rlsf_model.specs.NoMove.{ReallocatesWithoutMove}
+use Rattle.rlsf_model.specs.Reallocate.{Keeps, Reallocates}
+use Rattle.rlsf_model.specs.State.{State, empty}
+use Rattle.rlsf_tlsf.specs.Allocator.{Allocator, Steps}
+use Rattle.rlsf_checked.specs.Answers.{IsRefusedBy, append_answer, fits, if_in_range, if_live, insert_answer, addr_in as addr_in_result, size_refusal}
+use Rattle.rlsf_checked.specs.Checked.{Checked}
+use Rattle.rlsf_checked.specs.Writes.{WritesOnlyAt}
+use Rattle.rlsf_checked.specs.declared.error.CheckedError.{CheckedError}
+use Rattle.rlsf_checked.specs.declared.error.CheckedError.TheVariants.{InvalidClasses, OutOfMemory, UnknownAddress, OutOfRange, OutsideMemory, NotBehind, NotNext, TooShort}
+use Rattle.rlsf_checked.specs.declared.error.CheckedError.TheVariants.{NoLayout, NoRoom, InUse, NotChunks}
+use Rattle.rlsf_pool.specs.Answers.{answer_of, code_of, number_of, place_of, addr_in, refused_by}
+use Rattle.rlsf_pool.specs.Calls.{Allocates, Appends, Frees, Inserts, IsKeptBut, IsResized, IsToldBy, Reads, Resizes, ResizesThere, Tells, Writes, reach}
+use Rattle.rlsf_pool.specs.Seen.{Seen, nothing, seen_in}
+
+-- ---- errors
+
+-- no error has the number 0
+pub number_of-some : (e : CheckedError) → number_of e ≡ 0 → ⊥
+number_of-some InvalidClasses e = omega (arith, e)
+number_of-some OutOfMemory e = omega (arith, e)
+number_of-some UnknownAddress e = omega (arith, e)
+number_of-some OutOfRange e = omega (arith, e)
+number_of-some OutsideMemory e = omega (arith, e)
+number_of-some NotBehind e = omega (arith, e)
+number_of-some NotNext e = omega (arith, e)
+number_of-some TooShort e = omega (arith, e)
+number_of-some NoLayout e = omega (arith, e)
+number_of-some NoRoom e = omega (arith, e)
+number_of-some InUse e = omega (arith, e)
+number_of-some NotChunks e = omega (arith, e)
+
+-- an error places nothing
+pub addr_in-refused : (e : CheckedError) → addr_in (refused_by e) ≡ None
+addr_in-refused InvalidClasses = refl
+addr_in-refused OutOfMemory = refl
+addr_in-refused UnknownAddress = refl
+addr_in-refused OutOfRange = refl
+addr_in-refused OutsideMemory = refl
+addr_in-refused NotBehind = refl
+addr_in-refused NotNext = refl
+addr_in-refused TooShort = refl
+addr_in-refused NoLayout = refl
+addr_in-refused NoRoom = refl
+addr_in-refused InUse = refl
+addr_in-refused NotChunks = refl
+
+-- what is placed is what the answer says
+pub addr_in-same : (r : Result NonZeroUsize CheckedError) → addr_in_result r ≡ addr_in (place_of r)
+addr_in-same (Ok addr) = refl
+addr_in-same (Err e) = sym (addr_in-refused e)
+
+-- ---- what is seen
+
+pub same_range : (m n : Space) → SamePlace m n → range_of n ≡ range_of m
+same_range m n place = ap₂ range_at place.0 place.1
+
+abbrev seen_at : ℕ → State → Range → Range → Seen
+seen_at classes state memory pool = record { classes = classes; state = state; memory = memory; pool = pool }
+
+pub same_seen : (sllen : ℕ) (old new : Checked) → new.heap.state ≡ old.heap.state → new.pool ≡ old.pool → SamePlace old.heap.memory new.heap.memory
+    → seen_in sllen new ≡ seen_in sllen old
+same_seen sllen old new state pool place =
+    ap (λ s. seen_at sllen s (range_of new.heap.memory) new.pool) state
+    ∙ ap (λ r. seen_at sllen old.heap.state r new.pool) (same_range old.heap.memory new.heap.memory place)
+    ∙ ap (λ p. seen_at sllen old.heap.state (range_of old.heap.memory) p) pool
+
+pub kept_but : (sllen : ℕ) (old new : Checked) (addr : ℕ) → SamePlace old.heap.memory new.heap.memory → new.pool ≡ old.pool
+    → ((a : ℕ) → a ≢ addr → align_at new.heap.state a ≡ align_at old.heap.state a)
+    → ((a : ℕ) → a ≢ addr → bytes_at new.heap.state a ≡ bytes_at old.heap.state a)
+    → IsKeptBut addr (seen_in sllen old) (seen_in sllen new)
+kept_but sllen old new addr place pool aligns bytes =
+    record { classes = refl; memory = same_range old.heap.memory new.heap.memory place; pool = pool; aligns = aligns; bytes = bytes }
+
+pub kept_same : (addr : ℕ) (v : Seen) → IsKeptBut addr v v
+kept_same addr v = record { classes = refl; memory = refl; pool = refl; aligns = λ a apart. refl; bytes = λ a apart. refl }
+
+-- where there is no allocator, nothing is live
+pub none_in_empty : (addr : ℕ) → align_at empty addr ≡ None
+unfolding align_at
+none_in_empty addr = refl
+
+-- the reference model made the step
+pub step_of : (fllen sllen : ℕ) (v w : Allocator) (step : State → Type 0) → Steps fllen sllen v w step → step w.state
+unfolding Steps
+step_of fllen sllen v w step did = did.0
+
+-- ---- ranges
+
+-- the last range, of which an answer has the length
+pool_if : (old new pool : Range) (make : ℕ → Range) (r : Result ℕ CheckedError) → IfOk r (λ n. new ≡ make n) → (answer_of r).error ≡ 0
+    → new ≡ make (answer_of r).value
+pool_if old new pool make (Ok n) made none = made
+pool_if old new pool make (Err e) made none = absurd (number_of-some e none)
+
+-- and where it is an error
+same_if : (sllen : ℕ) (old new : Checked) (r : Result ℕ CheckedError) → OnErr r ((new.heap.state ≡ old.heap.state) × (new.pool ≡ old.pool))
+    → SamePlace old.heap.memory new.heap.memory
+    → (answer_of r).error ≢ 0 → seen_in sllen new ≡ seen_in sllen old
+same_if sllen old new (Ok n) same place some = absurd (some refl)
+same_if sllen old new (Err e) (state, pool) place some = same_seen sllen old new state pool place
+
+pub inserted : (fllen sllen : ℕ) (old new : Checked) (range : Range) (r : Result ℕ CheckedError) → r ≡ insert_answer fllen old range
+    → IfOk r (λ n. new.pool ≡ range_at range.start n)
+    → OnErr r ((new.heap.state ≡ old.heap.state) × (new.pool ≡ old.pool)) → align_at new.heap.state ≡ align_at old.heap.state
+    → bytes_at new.heap.state ≡ bytes_at old.heap.state
+    → SamePlace old.heap.memory new.heap.memory → Inserts (insert_answer fllen old range) (seen_in sllen old) range.start (answer_of r) (seen_in sllen new)
+inserted fllen sllen old new range r told pool same aligns bytes place = record {
+  told = ap answer_of told;
+  kept = record { classes = refl; memory = same_range old.heap.memory new.heap.memory place; aligns = aligns; bytes = bytes };
+  pool = pool_if old.pool new.pool old.pool (λ n. range_at range.start n) r pool;
+  same = same_if sllen old new r same place;
+}
+
+pub appended : (fllen sllen : ℕ) (old new : Checked) (range : Range) (r : Result ℕ CheckedError) → r ≡ append_answer fllen old range
+    → IfOk r (λ n. new.pool ≡ range_at old.pool.start (old.pool.len + n))
+    → OnErr r ((new.heap.state ≡ old.heap.state) × (new.pool ≡ old.pool)) → align_at new.heap.state ≡ align_at old.heap.state
+    → bytes_at new.heap.state ≡ bytes_at old.heap.state
+    → SamePlace old.heap.memory new.heap.memory → Appends (append_answer fllen old range) (seen_in sllen old) (answer_of r) (seen_in sllen new)
+appended fllen sllen old new range r told pool same aligns bytes place = record {
+  told = ap answer_of told;
+  kept = record { classes = refl; memory = same_range old.heap.memory new.heap.memory place; aligns = aligns; bytes = bytes };
+  pool = pool_if old.pool new.pool old.pool (λ n. range_at old.pool.start (old.pool.len + n)) r pool;
+  same = same_if sllen old new r same place;
+}
+
+-- where there is no allocator, no range is taken
+pub none_inserted : (start : ℕ) → Inserts (Err OutsideMemory) nothing start (refused_by OutsideMemory) nothing
+none_inserted start = record {
+  told = refl;
+  kept = record { classes = refl; memory = refl; aligns = refl; bytes = refl };
+  pool = λ e. absurd (number_of-some OutsideMemory e);
+  same = λ some. refl;
+}
+
+pub none_appended : Appends (Err OutsideMemory) nothing (refused_by OutsideMemory) nothing
+none_appended = record {
+  told = refl;
+  kept = record { classes = refl; memory = refl; aligns = refl; bytes = refl };
+  pool = λ e. absurd (number_of-some OutsideMemory e);
+  same = λ some. refl;
+}
+
+-- ---- payloads that are new
+
+module _ (sllen : ℕ) (old new : Checked) (size align : ℕ) (layout : IsLayout size align) (pool : new.pool ≡ old.pool)
+    (place : SamePlace old.heap.memory new.heap.memory) where
+  pub allocated : (r : Result NonZeroUsize CheckedError) → IfErr r (λ e. e ≡ NoRoom) → machine.Allocates sllen old.heap.state size align (addr_in_result r) new.heap.state
+      → IfOk r (λ addr. align_at new.heap.state (at addr) ≡ Some align) → IfOk r (λ addr. size ≤ length (bytes_at new.heap.state (at addr)))
+      → IfOk r (λ addr. length (bytes_at new.heap.state (at addr)) < size + 32) → IfOk r (λ addr. align_at old.heap.state (at addr) ≡ None)
+      → IfOk r (λ addr. (a : ℕ) → a ≢ at addr → align_at new.heap.state a ≡ align_at old.heap.state a)
+      → IfOk r (λ addr. (a : ℕ) → a ≢ at addr → bytes_at new.heap.state a ≡ bytes_at old.heap.state a)
+      → OnErr r (new.heap.state ≡ old.heap.state) → Allocates (seen_in sllen old) size align (place_of r) (seen_in sllen new)
+  allocated (Ok addr) refused step live sized few fresh aligns bytes same = record {
+    no_layout = (λ e. absurd (omega (arith, e)), λ never. absurd (never layout));
+    errors = inl refl;
+    step = λ l. step;
+    new = λ e. record { new = fresh; live = live; sized = sized; few = few; kept = kept_but sllen old new (at addr) place pool aligns bytes };
+    same = λ some. absurd (some refl);
+  }
+  allocated (Err e) refused step live sized few fresh aligns bytes same =
+      let is_full : Allocates (seen_in sllen old) size align (refused_by NoRoom) (seen_in sllen new) = record {
+        no_layout = (λ e. absurd (omega (arith, e)), λ never. absurd (never layout));
+        errors = inr (inr refl);
+        step = λ l. step;
+        new = λ e. absurd (number_of-some NoRoom e);
+        same = λ some. same_seen sllen old new same pool place;
+      } in subst (λ d. Allocates (seen_in sllen old) size align (refused_by d) (seen_in sllen new)) (sym refused) is_full
+
+-- no layout has the size and the alignment
+pub no_layout : (v : Seen) (size align : ℕ) → (IsLayout size align → ⊥) → Allocates v size align (refused_by NoLayout) v
+no_layout v size align never = record {
+  no_layout = (λ e. never, λ n. refl);
+  errors = inr (inl refl);
+  step = λ l. absurd (never l);
+  new = λ e. absurd (number_of-some NoLayout e);
+  same = λ some. refl;
+}
+
+-- ---- payloads that go
+
+-- after an error all is as it was
+pub same_unless : (sllen : ℕ) (old new : Checked) (r : Result (Unit {0}) CheckedError) → OnErr r (new ≡ old) → code_of r ≢ 0 → seen_in sllen new ≡ seen_in sllen old
+same_unless sllen old new (Ok x) same some = absurd (some refl)
+same_unless sllen old new (Err e) same some = ap (seen_in sllen) same
+
+pub freed : (sllen : ℕ) (old new : Checked) (addr : ℕ) (r : Result (Unit {0}) CheckedError) → r ≡ if_live (align_at old.heap.state addr) tt
+    → align_at new.heap.state addr ≡ None
+    → ((a : ℕ) → a ≢ addr → align_at new.heap.state a ≡ align_at old.heap.state a)
+    → ((a : ℕ) → a ≢ addr → bytes_at new.heap.state a ≡ bytes_at old.heap.state a)
+    → OnErr r (new ≡ old) → new.pool ≡ old.pool → SamePlace old.heap.memory new.heap.memory → Frees (seen_in sllen old) addr (code_of r) (seen_in sllen new)
+freed sllen old new addr r told gone aligns bytes same pool place = record {
+  told = ap code_of told;
+  gone = gone;
+  kept = kept_but sllen old new addr place pool aligns bytes;
+  same = same_unless sllen old new r same;
+}
+
+pub none_freed : (v : Seen) (addr : ℕ) → align_at v.state addr ≡ None → Frees v addr (number_of UnknownAddress) v
+none_freed v addr none = record {
+  told = sym (ap (λ o. code_of (if_live o tt)) none);
+  gone = none;
+  kept = kept_same addr v;
+  same = λ some. refl;
+}
+
+-- ---- payloads that get another size
+
+told_by : (o : Option CheckedError) (r : Result NonZeroUsize CheckedError) → IsRefusedBy o r → IsToldBy o (place_of r).error
+told_by (Some e) r is = ap (λ x. (place_of x).error) is
+told_by None (Ok addr) is = inl refl
+told_by None (Err e) is = inr (ap number_of is)
+
+module _ (sllen : ℕ) (old new : Checked) (addr size : ℕ) (pool : new.pool ≡ old.pool) (place : SamePlace old.heap.memory new.heap.memory) where
+  -- after an error all is as it was
+  same_placed : (r : Result NonZeroUsize CheckedError) → OnErr r (new.heap.state ≡ old.heap.state) → (place_of r).error ≢ 0 → seen_in sllen new ≡ seen_in sllen old
+  same_placed (Ok to) same some = absurd (some refl)
+  same_placed (Err e) same some = same_seen sllen old new same pool place
+
+  pub resized : (r : Result NonZeroUsize CheckedError) → IsRefusedBy (size_refusal (align_at old.heap.state addr) size) r
+      → (size_refusal (align_at old.heap.state addr) size ≡ None → Reallocates sllen old.heap.state addr size (addr_in_result r) new.heap.state)
+      → IfOk r (λ to. align_at new.heap.state (at to) ≡ align_at old.heap.state addr) → IfOk r (λ to. size ≤ length (bytes_at new.heap.state (at to)))
+      → IfOk r (λ to. length (bytes_at new.heap.state (at to)) < size + 32) → IfOk r (λ to. Keeps (bytes_at old.heap.state addr) (bytes_at new.heap.state (at to)))
+      → IfOk r (λ to. at to ≢ addr → align_at old.heap.state (at to) ≡ None) → IfOk r (λ to. at to ≢ addr → align_at new.heap.state addr ≡ None)
+      → IfOk r (λ to. (a : ℕ) → a ≢ addr → a ≢ at to → align_at new.heap.state a ≡ align_at old.heap.state a)
+      → IfOk r (λ to. (a : ℕ) → a ≢ addr → a ≢ at to → bytes_at new.heap.state a ≡ bytes_at old.heap.state a)
+      → OnErr r (new.heap.state ≡ old.heap.state) → Resizes (seen_in sllen old) addr size (place_of r) (seen_in sllen new)
+  resized r refused step live sized few kept fresh left aligns bytes same = record {
+    told = told_by (size_refusal (align_at old.heap.state addr) size) r refused;
+    step = λ none. subst (λ o. Reallocates sllen old.heap.state addr size o new.heap.state) (addr_in-same r) (step none);
+    resized = moved r live sized few kept fresh left aligns bytes;
+    same = same_placed r same;
+  }
+    where
+      moved : (r : Result NonZeroUsize CheckedError) → IfOk r (λ to. align_at new.heap.state (at to) ≡ align_at old.heap.state addr)
+          → IfOk r (λ to. size ≤ length (bytes_at new.heap.state (at to)))
+          → IfOk r (λ to. length (bytes_at new.heap.state (at to)) < size + 32) → IfOk r (λ to. Keeps (bytes_at old.heap.state addr) (bytes_at new.heap.state (at to)))
+          → IfOk r (λ to. at to ≢ addr → align_at old.heap.state (at to) ≡ None) → IfOk r (λ to. at to ≢ addr → align_at new.heap.state addr ≡ None)
+          → IfOk r (λ to. (a : ℕ) → a ≢ addr → a ≢ at to → align_at new.heap.state a ≡ align_at old.heap.state a)
+          → IfOk r (λ to. (a : ℕ) → a ≢ addr → a ≢ at to → bytes_at new.heap.state a ≡ bytes_at old.heap.state a)
+          → (place_of r).error ≡ 0 → IsResized addr size (place_of r).value (seen_in sllen old) (seen_in sllen new)
+      moved (Ok to) live sized few kept fresh left aligns bytes e = record {
+        live = live;
+        sized = sized;
+        few = few;
+        kept = kept;
+        new = fresh;
+        left = left;
+        aligns = aligns;
+        bytes = bytes;
+        classes = refl;
+        memory = same_range old.heap.memory new.heap.memory place;
+        pool = pool;
+      }
+      moved (Err d) live sized few kept fresh left aligns bytes e = absurd (number_of-some d e)
+
+  pub resized_there : (r : Result NonZeroUsize CheckedError) → IsRefusedBy (size_refusal (align_at old.heap.state addr) size) r
+      → (size_refusal (align_at old.heap.state addr) size ≡ None → ReallocatesWithoutMove old.heap.state addr size (addr_in_result r) new.heap.state)
+      → IfOk r (λ to. at to ≡ addr) → IfOk r (λ to. size ≤ length (bytes_at new.heap.state addr)) → IfOk r (λ to. length (bytes_at new.heap.state addr) < size + 32)
+      → IfOk r (λ to. Keeps (bytes_at old.heap.state addr) (bytes_at new.heap.state addr)) → align_at new.heap.state ≡ align_at old.heap.state
+      → ((a : ℕ) → a ≢ addr → bytes_at new.heap.state a ≡ bytes_at old.heap.state a)
+      → OnErr r (new.heap.state ≡ old.heap.state) → ResizesThere (seen_in sllen old) addr size (place_of r) (seen_in sllen new)
+  resized_there r refused step there sized few kept aligns bytes same = record {
+    told = told_by (size_refusal (align_at old.heap.state addr) size) r refused;
+    step = λ none. subst (λ o. ReallocatesWithoutMove old.heap.state addr size o new.heap.state) (addr_in-same r) (step none);
+    there = stays r there;
+    resized = stayed r sized few kept;
+    same = same_placed r same;
+  }
+    where
+      stays : (r : Result NonZeroUsize CheckedError) → IfOk r (λ to. at to ≡ addr) → (place_of r).error ≡ 0 → (place_of r).value ≡ addr
+      stays (Ok to) there e = there
+      stays (Err d) there e = absurd (number_of-some d e)
+
+      stayed : (r : Result NonZeroUsize CheckedError) → IfOk r (λ to. size ≤ length (bytes_at new.heap.state addr))
+          → IfOk r (λ to. length (bytes_at new.heap.state addr) < size + 32)
+          → IfOk r (λ to. Keeps (bytes_at old.heap.state addr) (bytes_at new.heap.state addr)) → (place_of r).error ≡ 0
+          → IsResized addr size addr (seen_in sllen old) (seen_in sllen new)
+      stayed (Ok to) sized few kept e = record {
+        live = ap (λ f. f addr) aligns;
+        sized = sized;
+        few = few;
+        kept = kept;
+        new = λ apart. absurd (apart refl);
+        left = λ apart. absurd (apart refl);
+        aligns = λ a apart apart'. ap (λ f. f a) aligns;
+        bytes = λ a apart apart'. bytes a apart;
+        classes = refl;
+        memory = same_range old.heap.memory new.heap.memory place;
+        pool = pool;
+      }
+      stayed (Err d) sized few kept e = absurd (number_of-some d e)
+
+-- where none is live, none gets another size
+refuses : (o : Option ℕ) (size : ℕ) → o ≡ None → size_refusal o size ≡ Some UnknownAddress
+refuses o size none = ap (λ p. size_refusal p size) none
+
+pub none_resized : (v : Seen) (addr size : ℕ) → align_at v.state addr ≡ None → Resizes v addr size (refused_by UnknownAddress) v
+none_resized v addr size none =
+    let refused = refuses (align_at v.state addr) size none in record {
+      told = subst (λ o. IsToldBy o 3) (sym refused) refl;
+      step = λ e. absurd (none-some UnknownAddress (sym e ∙ refused));
+      resized = λ e. absurd (number_of-some UnknownAddress e);
+      same = λ some. refl;
+    }
+
+pub none_resized_there : (v : Seen) (addr size : ℕ) → align_at v.state addr ≡ None → ResizesThere v addr size (refused_by UnknownAddress) v
+none_resized_there v addr size none =
+    let refused = refuses (align_at v.state addr) size none in record {
+      told = subst (λ o. IsToldBy o 3) (sym refused) refl;
+      step = λ e. absurd (none-some UnknownAddress (sym e ∙ refused));
+      there = λ e. absurd (number_of-some UnknownAddress e);
+      resized = λ e. absurd (number_of-some UnknownAddress e);
+      same = λ some. refl;
+    }
+
+-- ---- bytes
+
+pub none_told : (v : Seen) (addr : ℕ) → align_at v.state addr ≡ None → Tells v addr (refused_by UnknownAddress)
+none_told v addr none = sym (ap (λ o. answer_of (if_live o (length (bytes_at v.state addr)))) none)
+
+unreached : (v : Seen) (addr offset len : ℕ) → align_at v.state addr ≡ None → 3 ≡ reach v addr offset len
+unreached v addr offset len none = sym (ap (λ o. code_of (if_in_range o (fits offset len (bytes_at v.state addr)))) none)
+
+pub none_read : (v : Seen) (addr offset : ℕ) (was : List ℕ) → align_at v.state addr ≡ None → Reads v addr offset was 3 was
+none_read v addr offset was none = record { told = unreached v addr offset (length was) none; read = λ e. absurd (number_of-some UnknownAddress e); same = λ some. refl }
+
+pub none_written : (v : Seen) (addr offset : ℕ) (bytes : List ℕ) → align_at v.state addr ≡ None → Writes v addr offset bytes 3 v
+none_written v addr offset bytes none = record {
+  told = unreached v addr offset (length bytes) none;
+  written = λ e. absurd (number_of-some UnknownAddress e);
+  aligns = refl;
+  kept = kept_same addr v;
+  same = λ some. refl;
+}
+
+-- what an error or its absence says of a fact
+pub on_done : (A : Type 0) (r : Result (Unit {0}) CheckedError) → OnOk r A → code_of r ≡ 0 → A
+on_done A (Ok x) did e = did
+on_done A (Err d) did e = absurd (number_of-some d e)
+
+pub on_refused : (A : Type 0) (r : Result (Unit {0}) CheckedError) → OnErr r A → code_of r ≢ 0 → A
+on_refused A (Ok x) did some = absurd (some refl)
+on_refused A (Err d) did some = did
+
+-- a call that writes bytes of one payload keeps the others
+pub kept_only : (sllen : ℕ) (old new : Checked) (addr : ℕ) (r : Result (Unit {0}) CheckedError) → WritesOnlyAt sllen old new addr r
+    → IsKeptBut addr (seen_in sllen old) (seen_in sllen new)
+kept_only sllen old new addr r only = kept_but sllen old new addr only.place only.pool (λ a apart. ap (λ f. f a) only.aligns) only.bytes
+
+pub written : (sllen : ℕ) (old new : Checked) (addr offset : ℕ) (bytes : List ℕ) (r : Result (Unit {0}) CheckedError)
+    → r ≡ if_in_range (align_at old.heap.state addr) (fits offset (length bytes) (bytes_at old.heap.state addr))
+    → OnOk r (bytes_at new.heap.state addr ≡ splice (bytes_at old.heap.state addr) offset (offset + length bytes) bytes)
+    → WritesOnlyAt sllen old new addr r → Writes (seen_in sllen old) addr offset bytes (code_of r) (seen_in sllen new)
+written sllen old new addr offset bytes r told did only = record {
+  told = ap code_of told;
+  written = on_done (bytes_at new.heap.state addr ≡ splice (bytes_at old.heap.state addr) offset (offset + length bytes) bytes) r did;
+  aligns = only.aligns;
+  kept = kept_only sllen old new addr r only;
+  same = same_unless sllen old new r only.same;
+}
+
+pub read_as : (v : Seen) (addr offset : ℕ) (was now : List ℕ) (r : Result (Unit {0}) CheckedError)
+    → r ≡ if_in_range (align_at v.state addr) (fits offset (length was) (bytes_at v.state addr)) → OnOk r (now ≡ take (length was) (drop offset (bytes_at v.state addr)))
+    → OnErr r (now ≡ was) → Reads v addr offset was (code_of r) now
+read_as v addr offset was now r told did same = record {
+  told = ap code_of told;
+  read = on_done (now ≡ take (length was) (drop offset (bytes_at v.state addr))) r did;
+  same = on_refused (now ≡ was) r same;
+}

@@ -1,0 +1,205 @@
+-- The outcomes of the calls that overwrite payloads and remove ranges, as numbers.
+use Rattle.std.proofs.Common.{◌≡◌, ◌≢◌, ◌⊎◌, ◌↔◌, ℕ, Bool, true, false, cond, List, length, replicate, Option, Some, None, Result, Ok, Err, arith, refl}
+use Rattle.std.proofs.Common.{sym, ◌∙◌, ap, subst, inl, inr}
+use Rattle.std.proofs.lemmas.Bool.{false≢true}
+use Rattle.std.proofs.lemmas.List.{length-replicate}
+use Rattle.std.proofs.lemmas.Option.{none-some}
+use Rattle.std.specs.Prelude.{IsSome, OnErr, OnOk}
+use Rattle.rlsf_base.specs.declared.memory.range.Range.{Range}
+use Rattle.rlsf_base.specs.Range.{range_at}
+use Rattle.rlsf_base.specs.Space.{SamePlace, range_of}
+use Rattle.rlsf_blocks.specs.Blocks.{walked}
+use Rattle.rlsf_model.specs.Callers.{align_at, bytes_at, copied_over}
+use Rattle.rlsf_model.specs.Remove.{IsIdle, Removes}
+use Rattle.rlsf_model.specs.Run.{Fills}
+use Rattle.rlsf_model.specs.State.{State, empty}
+use Rattle.rlsf_tlsf.specs.Allocator.{Steps}
+use Rattle.rlsf_checked.specs.Answers.{both_have, copy_answer, if_both_in_range, if_live}
+use Rattle.rlsf_checked.specs.Checked.{Checked}
+use Rattle.rlsf_checked.specs.Removal.{AreChunks, IsRemovalOf, pool_without}
+use Rattle.rlsf_checked.specs.Writes.{WritesOnlyAt}
+use Rattle.rlsf_checked.specs.declared.error.CheckedError.{CheckedError}
+use Rattle.rlsf_checked.specs.declared.error.CheckedError.TheVariants.{NotChunks, UnknownAddress}
+use Rattle.rlsf_pool.specs.Answers.{code_of, number_of}
+use Rattle.rlsf_pool.specs.declared.answers.Answer.{Answer}
+use Rattle.rlsf_pool.specs.Calls.{Allocates, AllocatesZeroed, Copies, IsNew, RemovesLast, RemovesRange, Zeroes}
+use Rattle.rlsf_pool.specs.Seen.{Seen, nothing, seen_in, without_payloads}
+use Rattle.rlsf_pool.proofs.Outcomes.{kept_only, kept_same, number_of-some, on_done, same_range, same_unless, step_of}
+
+-- ---- copies
+
+pub copied : (sllen : ℕ) (old new : Checked) (from to len : ℕ) (r : Result (Unit {0}) CheckedError) → r ≡ copy_answer old.heap.state from to len
+    → OnOk r (bytes_at new.heap.state to ≡ copied_over old.heap.state from to len) → WritesOnlyAt sllen old new to r
+    → Copies (seen_in sllen old) from to len (code_of r) (seen_in sllen new)
+copied sllen old new from to len r told did only = record {
+  told = ap code_of told;
+  copied = on_done (bytes_at new.heap.state to ≡ copied_over old.heap.state from to len) r did;
+  aligns = only.aligns;
+  kept = kept_only sllen old new to r only;
+  same = same_unless sllen old new r only.same;
+}
+
+-- where none lives at one of the addresses, the copy is refused
+refused_both : (o p : Option ℕ) (fits : Bool) → (o ≡ None) ⊎ (p ≡ None) → if_both_in_range o p fits ≡ Err UnknownAddress
+refused_both None p fits none = refl
+refused_both (Some a) None fits none = refl
+refused_both (Some a) (Some b) fits (inl none) = absurd (none-some a (sym none))
+refused_both (Some a) (Some b) fits (inr none) = absurd (none-some b (sym none))
+
+pub none_copied : (v : Seen) (from to len : ℕ) → (align_at v.state from ≡ None) ⊎ (align_at v.state to ≡ None) → Copies v from to len 3 v
+none_copied v from to len none = record {
+  told = sym (ap code_of (refused_both (align_at v.state from) (align_at v.state to) (both_have len (bytes_at v.state from) (bytes_at v.state to)) none));
+  copied = λ e. absurd (number_of-some UnknownAddress e);
+  aligns = refl;
+  kept = kept_same to v;
+  same = λ some. refl;
+}
+
+-- ---- zeros
+
+-- at a live address nothing is refused
+is_done : (o : Option ℕ) (r : Result (Unit {0}) CheckedError) → r ≡ if_live o tt → IsSome o → r ≡ Ok tt
+is_done None r told live = absurd (false≢true live)
+is_done (Some align) r told live = told
+
+pub zeroed : (fllen sllen : ℕ) (old new : Checked) (addr : ℕ) (r : Result (Unit {0}) CheckedError) → r ≡ if_live (align_at old.heap.state addr) tt
+    → IsSome (align_at old.heap.state addr)
+    → OnOk r (Steps fllen sllen old.heap new.heap (Fills old.heap.state addr (replicate (length (bytes_at old.heap.state addr)) 0)))
+    → OnOk r (bytes_at new.heap.state addr ≡ replicate (length (bytes_at old.heap.state addr)) 0) → WritesOnlyAt sllen old new addr r
+    → Zeroes (seen_in sllen old) addr (seen_in sllen new)
+zeroed fllen sllen old new addr r told live step filled only =
+    let zeros = replicate (length (bytes_at old.heap.state addr)) 0 in
+    let done = is_done (align_at old.heap.state addr) r told live in record {
+      step =
+          step_of fllen sllen old.heap new.heap (Fills old.heap.state addr zeros)
+          (subst (λ x. OnOk x (Steps fllen sllen old.heap new.heap (Fills old.heap.state addr zeros))) done step);
+      zeros = subst (λ x. OnOk x (bytes_at new.heap.state addr ≡ zeros)) done filled;
+      aligns = only.aligns;
+      kept = kept_only sllen old new addr r only;
+    }
+
+-- a payload that is new and then zeroed
+pub made_zeroed : (before middle after : Seen) (size align : ℕ) (answer : Answer) → Allocates before size align answer middle → answer.error ≡ 0
+    → Zeroes middle answer.value after
+    → AllocatesZeroed before size align answer after
+made_zeroed before middle after size align answer did none zero = record {
+  middle = middle;
+  allocated = did;
+  zeroed = λ e. zero;
+  new = λ e. record {
+    new = new.new;
+    live = ap (λ f. f answer.value) zero.aligns ∙ new.live;
+    sized = omega (arith, new.sized, long);
+    few = omega (arith, new.few, long);
+    kept = record {
+      classes = zero.kept.classes ∙ new.kept.classes;
+      memory = zero.kept.memory ∙ new.kept.memory;
+      pool = zero.kept.pool ∙ new.kept.pool;
+      aligns = λ a apart. ap (λ f. f a) zero.aligns ∙ new.kept.aligns a apart;
+      bytes = λ a apart. zero.kept.bytes a apart ∙ new.kept.bytes a apart;
+    };
+  };
+  zeros = λ e. zero.zeros ∙ ap (λ n. replicate n 0) (sym long);
+  same = λ some. absurd (some none);
+}
+  where
+    new : IsNew size align answer.value before middle
+    new = did.new none
+
+    long : length (bytes_at after.state answer.value) ≡ length (bytes_at middle.state answer.value)
+    long = ap (λ (l : List ℕ). length l) zero.zeros ∙ length-replicate (length (bytes_at middle.state answer.value)) 0
+
+-- one that is refused
+pub none_zeroed : (before after : Seen) (size align : ℕ) (answer : Answer) → Allocates before size align answer after → answer.error ≢ 0
+    → AllocatesZeroed before size align answer after
+none_zeroed before after size align answer did some = record {
+  middle = after;
+  allocated = did;
+  zeroed = λ e. absurd (some e);
+  new = λ e. absurd (some e);
+  zeros = λ e. absurd (some e);
+  same = did.same;
+}
+
+-- where there is no allocator, every allocation is refused
+pub nothing_zeroed : (size align : ℕ) (answer : Answer) → Allocates nothing size align answer nothing → AllocatesZeroed nothing size align answer nothing
+unfolding align_at
+nothing_zeroed size align answer did = none_zeroed nothing nothing size align answer did (λ none. none-some align (did.new none).live)
+
+-- ---- removals
+
+pub removed : (sllen : ℕ) (old new : Checked) (b : Bool) → ((b ≡ true) ↔ IsIdle old.heap.state (walked old.pool))
+    → (b ≡ true → Removes old.heap.state (walked old.pool) new.heap.state)
+    → (b ≡ true → new.pool ≡ range_at old.pool.start 0) → (b ≡ false → new ≡ old) → align_at new.heap.state ≡ align_at old.heap.state
+    → bytes_at new.heap.state ≡ bytes_at old.heap.state
+    → SamePlace old.heap.memory new.heap.memory → RemovesLast (seen_in sllen old) (cond b 0 15) (seen_in sllen new)
+removed sllen old new true idle step pool same aligns bytes place = record {
+  errors = inl refl;
+  idle = (λ e. idle.0 refl, λ i. refl);
+  step = λ e. step refl;
+  kept = record { classes = refl; memory = same_range old.heap.memory new.heap.memory place; aligns = aligns; bytes = bytes };
+  pool = λ e. pool refl;
+  same = λ some. absurd (some refl);
+}
+removed sllen old new false idle step pool same aligns bytes place = record {
+  errors = inr refl;
+  idle = (λ e. absurd (omega (arith, e)), λ i. absurd (false≢true (idle.1 i)));
+  step = λ e. absurd (omega (arith, e));
+  kept = record { classes = refl; memory = same_range old.heap.memory new.heap.memory place; aligns = aligns; bytes = bytes };
+  pool = λ e. absurd (omega (arith, e));
+  same = λ some. ap (seen_in sllen) (same refl);
+}
+
+pub none_removed : RemovesLast nothing 0 nothing
+none_removed = record {
+  errors = inl refl;
+  idle = (λ e a low high. refl, λ i. refl);
+  step = λ e. refl;
+  kept = record { classes = refl; memory = refl; aligns = refl; bytes = refl };
+  pool = λ e. refl;
+  same = λ some. refl;
+}
+
+-- the reference model made the step, if one was made
+step_if : (fllen sllen : ℕ) (old new : Checked) (range : Range) (r : Result (Unit {0}) CheckedError)
+    → OnOk r (Steps fllen sllen old.heap new.heap (Removes old.heap.state (walked range))) → OnOk r (Removes old.heap.state (walked range) new.heap.state)
+step_if fllen sllen old new range (Ok x) step = step_of fllen sllen old.heap new.heap (Removes old.heap.state (walked range)) step
+step_if fllen sllen old new range (Err e) step = tt
+
+pub range_removed : (fllen sllen : ℕ) (old new : Checked) (range : Range) (r : Result (Unit {0}) CheckedError)
+    → IsRemovalOf (range_of old.heap.memory) old.heap.state range r → OnOk r (Steps fllen sllen old.heap new.heap (Removes old.heap.state (walked range)))
+    → OnOk r (new.pool ≡ pool_without old.pool (walked range)) → OnErr r (new ≡ old) → align_at new.heap.state ≡ align_at old.heap.state
+    → bytes_at new.heap.state ≡ bytes_at old.heap.state
+    → SamePlace old.heap.memory new.heap.memory → RemovesRange (seen_in sllen old) range (code_of r) (seen_in sllen new)
+range_removed fllen sllen old new range r told step pool same aligns bytes place = record {
+  told = (r, refl, told);
+  step = on_done (Removes old.heap.state (walked range) new.heap.state) r (step_if fllen sllen old new range r step);
+  kept = record { classes = refl; memory = same_range old.heap.memory new.heap.memory place; aligns = aligns; bytes = bytes };
+  pool = on_done (new.pool ≡ pool_without old.pool (walked range)) r pool;
+  same = same_unless sllen old new r same;
+}
+
+-- where there is no allocator, no range is chunks
+no_chunks : (r : Range) → AreChunks (nothing).memory (nothing).state r → ⊥
+no_chunks r are = let (c, i, from, begins, ends, up_to) = are.row (walked r).start (omega arith) (omega (arith, are.some)) in absurd i
+
+pub no_range_removed : (r : Range) → RemovesRange nothing r (number_of NotChunks) nothing
+no_range_removed r = record {
+  told = (Err NotChunks, refl, inl (refl, no_chunks r));
+  step = λ e. absurd (number_of-some NotChunks e);
+  kept = record { classes = refl; memory = refl; aligns = refl; bytes = refl };
+  pool = λ e. absurd (number_of-some NotChunks e);
+  same = λ some. refl;
+}
+
+-- ---- a reset
+
+abbrev seen_at : ℕ → State → Range → Range → Seen
+seen_at classes state memory pool = record { classes = classes; state = state; memory = memory; pool = pool }
+
+pub reset_seen : (sllen : ℕ) (v w : Checked) → w.heap.state ≡ empty → w.heap.memory ≡ v.heap.memory → w.pool ≡ range_at v.heap.memory.start 0
+    → seen_in sllen w ≡ without_payloads (seen_in sllen v)
+reset_seen sllen v w state memory pool =
+    ap (λ s. seen_at sllen s (range_of w.heap.memory) w.pool) state
+    ∙ ap (λ m. seen_at sllen empty (range_of m) w.pool) memory
+    ∙ ap (λ p. seen_at sllen empty (range_of v.heap.memory) p) pool

@@ -1,0 +1,23 @@
+use Rattle.std.proofs.Common.{sym, subst}
+use Rattle.rlsf_model.specs.Allocate as machine
+use Rattle.rlsf_checked.specs.Answers.{addr_in}
+use Rattle.rlsf_pool.specs.Answers.{place_of}
+use Rattle.rlsf_pool.specs.Calls.{Allocates}
+use Rattle.rlsf_pool.specs.Seen.{seen_in}
+use Rattle.rlsf_pool.proofs.Outcomes.{step_of, allocated}
+use Rattle.rlsf_pool.proofs.calls.allocate.Goals as goal
+
+pub returns-in-Ok : goal.returns-in-Ok
+returns-in-Ok g c =
+    let sllen = g.row.SLLEN in
+    let old = c.args.heap.now in
+    let new = c.allocate.new.self in
+    let did = c.allocate.ensures in
+    let layout = c.in-Ok.layout in
+    let step = step_of g.row.FLLEN sllen old.heap new.heap (λ t. machine.Allocates sllen old.heap.state layout.size layout.align (addr_in c.allocate.result) t) did.step in
+    let done : Allocates (seen_in sllen old) layout.size layout.align (place_of c.allocate.result) (seen_in sllen new) =
+    allocated sllen old new layout.size layout.align layout.valid did.pool did.place c.allocate.result did.refused step did.live did.sized did.few did.new did.aligns did.bytes
+    did.same in
+    subst (λ a. Allocates (seen_in sllen old) c.args.size c.args.align a (seen_in sllen new)) (sym c.to_place.ensures)
+    (subst (λ n. Allocates (seen_in sllen old) n c.args.align (place_of c.allocate.result) (seen_in sllen new)) c.in-Ok.ensures.layout.0
+    (subst (λ n. Allocates (seen_in sllen old) layout.size n (place_of c.allocate.result) (seen_in sllen new)) c.in-Ok.ensures.layout.1 done))

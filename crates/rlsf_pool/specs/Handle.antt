@@ -1,0 +1,29 @@
+-- The pool behind a handle.
+use Rattle.std.specs.Borrow.{Fml, full_share}
+use Rattle.std.specs.Ptr.{Ptr, lies_at, room_at}
+use Rattle.std.specs.Prelude.{ℕ}
+use base.Fml.{fex}
+use prog.Memory.{size}
+use denote.Param.{layout}
+use Rattle.rlsf_pool.specs.Seen.{PoolValue}
+use Rattle.rlsf_pool.specs.contracts.pool.Pool.{the_row}
+
+-- a pool lies at the handle
+abbrev pub Holds : Ptr → PoolValue → Fml
+Holds p v = lies_at the_row full_share p v
+
+-- a pool of which P is true
+abbrev pub SomePool : (PoolValue → Type 0) → Type 0
+SomePool P = (v : PoolValue) × P v
+
+-- a pool of which P is true lies at the handle
+abbrev pub HoldsSome : Ptr → (PoolValue → Type 0) → Fml
+HoldsSome p P = fex (SomePool P) (λ x. lies_at the_row full_share p x.0)
+
+-- there is room for a pool at the handle
+abbrev pub HasRoomForPool : Ptr → Fml
+HasRoomForPool p = room_at the_row p
+
+-- how many bytes that room has
+abbrev pub room_size : ℕ
+room_size = size (layout the_row)
