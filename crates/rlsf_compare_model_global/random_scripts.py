@@ -17,7 +17,9 @@ from concurrent.futures import ThreadPoolExecutor
 
 HERE = pathlib.Path(__file__).resolve().parent
 MODEL = HERE.parents[1] / "tools/model"
-KINDS = ("coalescing", "small")
+# The seed of each kind's sample. These samples show a `realloc` of the kind that, where a payload grows, always moves it,
+# never moves it or copies nothing.
+KINDS = {"coalescing": 2, "small": 200}
 SAMPLE = 200
 # Where the memories begin, and how long they are: some are refused soon, some never.
 MEMORIES = ((65536, 1 << 20), (65536, 1 << 18), (4097, 300000), (1, 1 << 22), (65536 * 3 + 16, 196608), (2**63, 1 << 21))
@@ -36,7 +38,7 @@ def replies(lines):
 
 def sample():
     read, said = [], []
-    for seed, kind in enumerate(KINDS, 1):
+    for kind, seed in KINDS.items():
         head, *lines = generate(seed, 2 * SAMPLE, kind, MEMORIES[0])
         lines = [line for line in lines if "?" not in line][:SAMPLE]
         read += [head] + [line.split(" = ", 1)[0] for line in lines]
