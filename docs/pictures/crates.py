@@ -43,10 +43,10 @@ LAYERS = [
     ("Allocators", "each column adds to what is below it", "#d9efd9", [
         [(1, "", ""), (1, "rlsf_journal", "a journal that explains all replies"),
          (3, "", "A Tlsf lends its payloads. A Heap returns them as values that own their bytes. A FlexTlsf grows: it asks a source for memory.")],
-        [(1, "rlsf", "re-exports Tlsf and FlexTlsf", True), (1, "rlsf_global", "behind one lock, for threads", True), (2, "", ""),
-         (1, "rlsf_local_heap", "Heap for std's collections")],
+        [(1, "rlsf", "re-exports Tlsf and FlexTlsf", True), (1, "rlsf_global", "behind one lock, for threads", True), (1, "", ""),
+         (1, "rlsf_shared_heap", "Heap for threads"), (1, "rlsf_local_heap", "Heap for std's collections")],
         [(2, "rlsf_flex", "FlexTlsf: memory from a source; two sources"), (1, "rlsf_checked", "errors in place of conditions"),
-         (2, "rlsf_heap", "Heap: payloads own their bytes; SharedHeap: for threads", True)],
+         (2, "rlsf_heap", "Heap: payloads own their bytes", True)],
         [(1, "rlsf_tlsf", "Tlsf: the allocator over one memory; the work of each call has a bound")],
     ]),
     ("Parts", "of an allocator's calls", "#d9efd9", [

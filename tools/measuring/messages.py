@@ -14,7 +14,7 @@ import time
 from measuring.options import ROOT
 
 NAME = "measured_messages"
-USED = {"rlsf_base", "rlsf_example_libraries", "rlsf_global", "rlsf_heap"}
+USED = {"rlsf_base", "rlsf_example_libraries", "rlsf_global", "rlsf_heap", "rlsf_shared_heap"}
 SIZES = [64, 1024, 65536]
 LIVE = [10, 100_000]
 

@@ -2,7 +2,8 @@
 
 use rlsf_base::classes;
 use rlsf_base::memory::{Layout, OpenMemory, Range};
-use rlsf_heap::{Heap, SharedHeap};
+use rlsf_heap::Heap;
+use rlsf_shared_heap::SharedHeap;
 use std::alloc::Global;
 
 /// Chunks of any length, in 59 rows of 8 classes.

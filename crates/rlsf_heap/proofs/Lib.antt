@@ -7,9 +7,6 @@ pub mod HandedOver
 pub mod Kept
 pub mod Leaving
 pub mod LiveCounts
-mod LockCrosses
-mod LockLives
-mod LockRows
 pub mod MovedThin
 pub mod OwnedBytes
 pub mod PayloadsApart

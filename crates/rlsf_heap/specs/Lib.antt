@@ -3,17 +3,12 @@ pub mod Heap
 pub mod Handover
 pub mod Kept
 pub mod Lends
-pub mod Locks
-pub mod Nameless
 pub mod Reallocation
 pub mod Pools
 pub mod Raw
 pub mod Renewed
 pub mod Replies
 pub mod Settled
-pub mod Shared
-pub mod SharedLends
-pub mod SharedReallocation
 pub mod Thin
 pub mod ThinReplies
 pub mod ThinInPlace

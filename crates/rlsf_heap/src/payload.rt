@@ -110,8 +110,10 @@ impl Payload {
         self.part.fill(value);
     }
 
-    // Writes `value` to each byte from index `from` on. The bytes before must be here, and keep their values. All are then here.
-    pub(crate) fn fill_from(&mut self, from: usize, value: u8)
+    /// Writes `value` to each byte from index `from` on. All bytes are then here. Nothing else changes.
+    ///
+    /// The bytes before `from` must be here, and `from` may be at most the length.
+    pub fn fill_from(&mut self, from: usize, value: u8)
         requires place { from ≤ length self.old.bytes }
         requires kept { IsIn self.old.out 0 from }
         ensures bytes { self.new.bytes ≡ take from self.old.bytes ++ replicate (length self.old.bytes - from) value }

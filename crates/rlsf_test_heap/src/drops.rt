@@ -1,8 +1,9 @@
 //! What becomes of the memory of a shared heap, and of an allocator of collections, when it is dropped.
 use crate::ends::mapped;
 use rlsf_base::memory::{MemoryError, OpenMemory, Range};
-use rlsf_heap::{Heap, SharedHeap};
+use rlsf_heap::Heap;
 use rlsf_local_heap::LocalHeap;
+use rlsf_shared_heap::SharedHeap;
 use std::alloc::Global;
 use std::process::Abort;
 use std::rt::Files;

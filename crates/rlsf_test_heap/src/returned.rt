@@ -1,7 +1,8 @@
 //! A shared heap in one thread: when it refuses, and the heap that it returns.
 use crate::answers::{all, are};
 use rlsf_base::memory::{Layout, OpenMemory, Range};
-use rlsf_heap::{Heap, SharedHeap};
+use rlsf_heap::Heap;
+use rlsf_shared_heap::SharedHeap;
 use std::alloc::Global;
 use std::process::Abort;
 use std::sync::Wait;

@@ -3,7 +3,8 @@
 use crate::answers::all;
 use rlsf_base::memory::{Layout, OpenMemory, Range};
 use rlsf_example_libraries::MessageQueue;
-use rlsf_heap::{FreedOnDrop, Heap, SharedHeap, SharedPayload};
+use rlsf_heap::Heap;
+use rlsf_shared_heap::{FreedOnDrop, SharedHeap, SharedPayload};
 use std::alloc::{AllocError, Global};
 use std::sync::Wait;
 use std::test::Fail;

@@ -4,7 +4,8 @@ ghost use Rattle.rlsf_heap.specs.Heap.{IsWritten};
 
 use crate::answers::{all, none_is_wrong};
 use rlsf_base::memory::{Layout, OpenMemory, Range};
-use rlsf_heap::{Heap, Payload, SharedHeap};
+use rlsf_heap::{Heap, Payload};
+use rlsf_shared_heap::SharedHeap;
 use std::alloc::Global;
 use std::sync::Wait;
 use std::test::Fail;

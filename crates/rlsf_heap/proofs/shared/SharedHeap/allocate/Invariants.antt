@@ -1,4 +1,0 @@
-use Rattle.rlsf_heap.proofs.shared.SharedHeap.allocate.Given as goal
-
-abbrev pub ghosts-allocate : goal.ghosts-allocate
-ghosts-allocate g a = record { name = a.lock.now }

@@ -1,4 +1,0 @@
-use Rattle.rlsf_heap.proofs.shared.SharedHeap.deallocate.Given as goal
-
-abbrev pub ghosts-deallocate : goal.ghosts-deallocate
-ghosts-deallocate g a = record { name = a.lock.now }

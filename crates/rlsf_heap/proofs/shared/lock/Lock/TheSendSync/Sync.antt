@@ -1,9 +1,0 @@
--- A lock may be used in several threads where its value may move to another.
-use denote.RattleType.{RattleType}
-use denote.Param.Send.{IsSend, IsSync}
-use Rattle.rlsf_heap.proofs.LockCrosses.{lock_sync}
-use Rattle.rlsf_heap.specs.declared.shared.held.Identified as identified
-use Rattle.rlsf_heap.specs.contracts.shared.lock.Lock.{the_row}
-
-pub sync : (T : RattleType) (g : identified.Ghosts T.Denot) → IsSend T → IsSync (the_row T g)
-sync = lock_sync

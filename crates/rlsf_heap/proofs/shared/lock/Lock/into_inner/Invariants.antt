@@ -1,4 +1,0 @@
-use Rattle.rlsf_heap.proofs.shared.lock.Lock.into_inner.Given as goal
-
-abbrev pub ghosts-unlock_named : goal.ghosts-unlock_named
-ghosts-unlock_named g a = record { name = a.lock }

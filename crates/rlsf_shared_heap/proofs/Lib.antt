@@ -1,0 +1,4 @@
+-- Lemmas on the lock and on what a call under it leaves.
+mod LockCrosses
+mod LockLives
+mod LockRows

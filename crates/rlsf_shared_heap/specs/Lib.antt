@@ -1,0 +1,6 @@
+-- Definitions for the shared heap. Read `Shared` first.
+pub mod Locks
+pub mod Nameless
+pub mod Shared
+pub mod SharedLends
+pub mod SharedReallocation
