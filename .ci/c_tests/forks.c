@@ -6,6 +6,8 @@
 #include <signal.h>
 #include <stdint.h>
 #include <string.h>
+#include <sys/mman.h>
+#include <sys/syscall.h>
 #include <sys/wait.h>
 #include <time.h>
 
@@ -50,6 +52,12 @@ static void raise_one(void) {
 static void watch_forks(void) { pthread_atfork(raise_one, NULL, NULL); }
 __attribute__((section(".preinit_array"), used)) static void (*before_constructors)(void) = watch_forks;
 
+/* A signal while malloc makes memory of its heap, under its lock: this function takes the place of the C library's there. */
+int mprotect(void *at, size_t len, int how) {
+    if (raises) raise(SIGUSR1);
+    return (int)syscall(SYS_mprotect, at, len, how);
+}
+
 /* Signals come at any time: in malloc, in free, and in a fork. */
 static void in_handlers(void) {
     struct sigaction action = {.sa_handler = fork_in_handler, .sa_flags = SA_RESTART};
@@ -61,6 +69,7 @@ static void in_handlers(void) {
         _exit(0);
     }
     raises = 1;
+    for (size_t n = 0; n < 1000; n++) WANT(malloc(90000) != NULL, 1);
     for (size_t round = 0; round < 200; round++) {
         allocate_some(round);
         if (round % 10) continue;

@@ -23,6 +23,7 @@ static void large_payloads_go_back(int figures) {
     char *payload = calloc(512, MB);
     WANT(payload[0] | payload[512 * MB - 1], 0);
     zeroed = resident() - before;
+    if (!figures) memset(payload, 1, 100 * MB);
     free(payload);
     freed = resident() - before;
     payload = malloc(MB);
@@ -44,7 +45,7 @@ static void large_payloads_go_back(int figures) {
     WANT(resident() - before <= 1, 1);
 }
 
-/* A payload keeps its bytes while it changes between the heap and a mapping. */
+/* A payload keeps its bytes, which are others each time, while it changes between the heap and a mapping. */
 static void bytes_are_kept(void) {
     static const size_t sizes[] = {1000, 3 * MB, 5 * MB, 2 * MB, 500, 900000, 2000000, 100, 1 << 20, (1 << 20) - 1};
     unsigned char *payload = malloc(100);
@@ -53,7 +54,8 @@ static void bytes_are_kept(void) {
         payload = realloc(payload, sizes[n]);
         WANT((size_t)payload % 16, 0);
         WANT(malloc_usable_size(payload) >= sizes[n], 1);
-        for (size_t i = 0; i < 100; i++) WANT(payload[i], (unsigned char)(i * 3));
+        for (size_t i = 0; i < 100; i++) WANT(payload[i], (unsigned char)(i * 3 + n));
+        for (size_t i = 0; i < 100; i++) payload[i] = (unsigned char)(i * 3 + n + 1);
         memset(payload + 100, 0xee, sizes[n] - 100);
     }
     free(payload);
