@@ -44,7 +44,8 @@ fn zeros<'h, R: Wait>(
     shared: &'h Shared,
     size: usize,
 ) -> Option<SharedPayload<'h, Shared>> {
-    shared.allocate_shared(rt, Layout::from_size_align_unchecked(size, 16))
+    let layout = Layout::from_size_align(size, 16).ok()?;
+    shared.allocate_shared(rt, layout)
 }
 
 /// Writes a number to the first eight bytes and, backwards, to the last eight.
