@@ -4,7 +4,7 @@ use crate::answers::all;
 use rlsf_base::memory::{Layout, OpenMemory, Range};
 use rlsf_example_libraries::MessageQueue;
 use rlsf_heap::Heap;
-use rlsf_shared_heap::{FreedOnDrop, SharedHeap, SharedPayload};
+use rlsf_shared_heap::{SharedHeap, SharedPayload};
 use std::alloc::{AllocError, Global};
 use std::sync::Wait;
 use std::test::Fail;
@@ -258,28 +258,20 @@ fn payloads_get_another_size(rt: HostRuntime) -> Result<(), Fail> {
     Ok(())
 }
 
-/// Leaves two payloads in a queue, which is dropped. Takes a third one out of the value that would free it. Returns its address.
-fn left_in_a_queue<'h, 'r, R: Wait>(
-    rt: &'r R,
-    queue: MessageQueue<FreedOnDrop<'h, 'r, Shared, R>>,
-    shared: &'h Shared,
-) -> Option<usize> {
-    let first = zeros(rt, shared, 100)?.freed_on_drop(rt);
-    let second = zeros(rt, shared, 100)?.freed_on_drop(rt);
+/// Drops two values that free their payloads. Takes a third payload out of such a value. Returns its address.
+fn dropped_but_the_third<R: Wait>(rt: &R, shared: &Shared) -> Option<usize> {
+    let _first = zeros(rt, shared, 100)?.freed_on_drop(rt);
+    let _second = zeros(rt, shared, 100)?.freed_on_drop(rt);
     let third = zeros(rt, shared, 100)?.freed_on_drop(rt);
-    if queue.send(rt, first).is_err() || queue.send(rt, second).is_err() {
-        return None;
-    }
     let kept = third.into_inner();
     Some(kept.addr())
 }
 
 // The third payload leaks. Before it in the pool are two blocks of 128 bytes, which are free again.
 #[test]
-fn a_dropped_queue_frees_what_is_in_it(rt: HostRuntime) -> Result<(), Fail> {
+fn dropped_payloads_are_freed(rt: HostRuntime) -> Result<(), Fail> {
     let shared = shared_heap(rt.alloc())?;
-    let queue = MessageQueue::new(rt.alloc(), 2)?;
-    let kept = left_in_a_queue(&rt, queue, &shared);
+    let kept = dropped_but_the_third(&rt, &shared);
     let next = zeros(&rt, &shared, 200).map(|payload| payload.addr());
     let answers = [
         kept == Some(65536 + 16 + 256),

@@ -172,8 +172,8 @@ impl<'h, H: ThreadHeap> SharedPayload<'h, H> {
     }
 }
 
-/// A payload of a shared heap that is deallocated when this value is dropped. Take it where a function may leave early, or where a queue
-/// may be dropped with payloads in it. It is one word longer than a `SharedPayload`.
+/// A payload of a shared heap that is deallocated when this value is dropped. Take it where a function may leave early. It is one word
+/// longer than a `SharedPayload`.
 pub struct FreedOnDrop<'h, 'r, H: ThreadHeap, R: Wait> {
     /// The payload, for reading and writing.
     pub payload: SharedPayload<'h, H>,
