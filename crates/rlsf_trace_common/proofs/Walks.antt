@@ -18,7 +18,8 @@ use Rattle.rlsf_blocks.specs.Blocks.{Block, HasBlock, used, free, AreBlocks, IsI
 use Rattle.rlsf_tlsf.specs.Allocator.{Allocator}
 use Rattle.rlsf_trace_runs.specs.declared.tables.Tables.{Tables}
 use Rattle.rlsf_trace_runs.specs.Runs.{RunState}
-use Rattle.rlsf_trace_runs.specs.Steps.Tables.{IsAt, IsInOrder as ArePoolsInOrder}
+use Rattle.rlsf_trace_runs.specs.Steps.Pools.{IsInOrder as ArePoolsInOrder}
+use Rattle.rlsf_trace_runs.specs.Steps.Tables.{IsAt}
 use Rattle.rlsf_trace_runs.proofs.RunStates.{some_pool}
 use Rattle.rlsf_trace_runs.proofs.SamePools.{IsIn-permutation}
 
@@ -91,11 +92,11 @@ module _ {fllen sllen : ℕ} {v : Allocator} {tables : Tables} {s : RunState} (a
   whole = at.stands.stands.well_formed
 
   -- a pool of the table is one of the run's
-  in_run : (p : Range) → IsIn p tables.pools.items → IsIn p s.pools
-  in_run p i = IsIn-permutation p tables.pools.items s.pools (IsPermutation-sym s.pools tables.pools.items at.pools) i
+  in_run : (p : Range) → IsIn p tables.pools.ranges.items → IsIn p s.pools
+  in_run p i = IsIn-permutation p tables.pools.ranges.items s.pools (IsPermutation-sym s.pools tables.pools.ranges.items at.pools) i
 
   -- a pool begins at a multiple of 32
-  pub pool_start : (p : Range) → IsIn p tables.pools.items → p.start % 32 ≡ 0
+  pub pool_start : (p : Range) → IsIn p tables.pools.ranges.items → p.start % 32 ≡ 0
   pool_start p i =
       let mine = in_run p i in
       let some = some_pool at p mine in
@@ -104,21 +105,21 @@ module _ {fllen sllen : ℕ} {v : Allocator} {tables : Tables} {s : RunState} (a
       subst (λ a. a % 32 ≡ 0) same (whole.chunks c is_chunk).whole.start
 
   -- so its blocks are those that an iteration over it yields
-  pub pool_walked : (p : Range) → IsIn p tables.pools.items → IsRow s.machine (walked p)
+  pub pool_walked : (p : Range) → IsIn p tables.pools.ranges.items → IsRow s.machine (walked p)
   pool_walked p i =
       let start = pool_start p i in
       let same : round32 p.start ≡ p.start = omega (arith, start) in
       let some = some_pool at p (in_run p i) in
       λ a low high. (let (c, is_chunk, from, from_a, to_a, to) = at.rows p (in_run p i) a (omega arith) (omega arith) in (c, is_chunk, omega arith, from_a, to_a, omega arith))
 
-  pub walked_bounds : (p : Range) → IsIn p tables.pools.items → ((walked p).start ≡ p.start) × (end_of (walked p) ≡ end_of p)
+  pub walked_bounds : (p : Range) → IsIn p tables.pools.ranges.items → ((walked p).start ≡ p.start) × (end_of (walked p) ≡ end_of p)
   walked_bounds p i =
       let start = pool_start p i in
       let same : round32 p.start ≡ p.start = omega (arith, start) in
       (same, omega (arith, same))
 
   -- a range in a chunk lies in a pool
-  pool_of : (r : Range) → LiesInChunk s.machine r → (p : Range) × IsIn p tables.pools.items × (p.start ≤ r.start) × (end_of r ≤ end_of p)
+  pool_of : (r : Range) → LiesInChunk s.machine r → (p : Range) × IsIn p tables.pools.ranges.items × (p.start ≤ r.start) × (end_of r ≤ end_of p)
   pool_of r home =
       let c = home.chunk in
       let a = c.start in
@@ -128,13 +129,13 @@ module _ {fllen sllen : ℕ} {v : Allocator} {tables : Tables} {s : RunState} (a
       let (d, is_chunk, from, below, above, to) = at.rows p is_pool a low high in
       let same : d ≡ c = coverage-unique itself d c s.machine.chunks a (whole.disjoint a) is_chunk home.is_chunk (covers-inside d a below above) mine in (
         p,
-        IsIn-permutation p s.pools tables.pools.items at.pools is_pool,
+        IsIn-permutation p s.pools tables.pools.ranges.items at.pools is_pool,
         omega (arith, home.from, from, ap (λ (x : Range). x.start) same),
         omega (arith, home.to, to, ap end_of same),
       )
 
   -- and so does each block
-  block_in_pool : (b : Block) → HasBlock s.machine b → (p : Range) × IsIn p tables.pools.items × LiesBetween p b
+  block_in_pool : (b : Block) → HasBlock s.machine b → (p : Range) × IsIn p tables.pools.ranges.items × LiesBetween p b
   block_in_pool b (used u i same occupied) =
       let (p, is_pool, low, high) =
       pool_of u.block (lies_in_chunk s.machine (tiling_of whole) u.block (IsUsed-some u (whole.used u i)) (IsPart-used s.machine (tiling_of whole) u i)) in
@@ -145,7 +146,7 @@ module _ {fllen sllen : ℕ} {v : Allocator} {tables : Tables} {s : RunState} (a
       (p, is_pool, (low, high))
 
   -- all blocks of all pools are all blocks
-  pub AreBlocks-all : (bs : List Block) → AreGathered s.machine tables.pools.items bs → AreBlocks s.machine (range_of v.memory) bs
+  pub AreBlocks-all : (bs : List Block) → AreGathered s.machine tables.pools.ranges.items bs → AreBlocks s.machine (range_of v.memory) bs
   AreBlocks-all bs have = record {
     exactly = λ b. (
       λ i. (let (p, is_pool, has, (low, high)) = (have.exactly b).0 i in let (from, to) = at.inside p is_pool in (has, omega (arith, low, from), omega (arith, high, to))),

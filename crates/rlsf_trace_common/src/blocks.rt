@@ -4,6 +4,7 @@ ghost use Rattle.std.specs.Prelude.{IfOk};
 ghost use Rattle.rlsf_base.specs.Space.{range_of};
 ghost use Rattle.rlsf_blocks.specs.Blocks.{AreBlocks};
 ghost use Rattle.rlsf_trace_runs.specs.Runs.{RunState};
+ghost use Rattle.rlsf_trace_runs.specs.Steps.Pools.{IsInOrder};
 ghost use Rattle.rlsf_trace_runs.specs.Steps.Tables.{IsAt};
 
 use rlsf_blocks::BlockInfo;
@@ -12,7 +13,7 @@ use rlsf_tlsf::Tlsf;
 use rlsf_trace_runs::{RunError, Tables};
 use std::alloc::Global;
 
-/// The blocks of all pools, used and free, in the order of their addresses.
+/// The blocks of all pools, used and free, in the order of their addresses. The pools are in that order.
 pub(crate) fn all_blocks<
     FLBitmap: BitPattern,
     SLBitmap: BitPattern,
@@ -23,12 +24,14 @@ pub(crate) fn all_blocks<
     tlsf: &Tlsf<FLBitmap, SLBitmap, FLLEN, SLLEN>,
     tables: &Tables,
 ) -> Result<Vec<BlockInfo>, RunError>
-    requires { (s : RunState) × IsAt FLLEN SLLEN tlsf.now tables.now s }
+    requires state { (s : RunState) × IsAt FLLEN SLLEN tlsf.now tables.now s }
+    requires in_order { IsInOrder tables.now.pools.ranges.items }
     ensures { IfOk result (λ bs. AreBlocks tlsf.now.state (range_of tlsf.now.memory) bs.items) }
 {
     let mut all = Vec::new(alloc);
-    for place in 0..tables.pools.len() {
-        let blocks: Vec<BlockInfo> = tlsf.iter_blocks(tables.pools[place]).collect(alloc)?;
+    let pools = &tables.pools.ranges;
+    for place in 0..pools.len() {
+        let blocks: Vec<BlockInfo> = tlsf.iter_blocks(pools[place]).collect(alloc)?;
         all.extend_from_slice(&blocks)?;
     }
     Ok(all)

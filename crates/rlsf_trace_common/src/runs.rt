@@ -54,6 +54,7 @@ pub fn watch<FLBitmap: BitPattern, SLBitmap: BitPattern, const FLLEN: usize, con
         };
         moment = after;
     }
+    tables.sort_pools();
     let blocks = all_blocks(alloc, tlsf, &tables)?;
     Ok(Watched {
         answers,

@@ -1,20 +1,20 @@
--- Pools of which one gets longer: where they are, and their order.
-use Rattle.std.proofs.Common.{◌≡◌, ℕ, ◌+◌, ◌-◌, ◌<◌, ◌≤◌, ◌≢◌, ◌⊎◌, List, [], ◌∷◌, length, map, slice_index_or, slice_set, cond, arith}
+-- Pools of which one gets longer: where they are, and that they stay apart.
+use Rattle.std.proofs.Common.{◌≡◌, ℕ, ◌+◌, ◌<◌, ◌≤◌, ◌≢◌, ◌⊎◌, List, [], ◌∷◌, length, map, slice_index_or, slice_set, cond, arith}
 use Rattle.std.proofs.Common.{refl, inl, inr, sym, ◌∙◌, ap, subst}
 use Rattle.std.proofs.lemmas.Bool.{cases_eq, cases_lt}
 use Rattle.std.proofs.lemmas.Bool.Decides.{eqb_tells}
 use Rattle.std.proofs.lemmas.List.{ext_get_or, get_or-map, get_or-set_same, get_or-set_other, get_or_default, length-map, length-set}
-use Rattle.std.specs.List.Sorted.{IsPartitionPoint}
 use Rattle.rlsf_base.specs.declared.memory.range.Range.{Range}
 use Rattle.rlsf_base.specs.Range.{end_of, range_at}
 use Rattle.rlsf_model.specs.Insert.{IsClear}
 use Rattle.rlsf_model.specs.Lists.{IsIn}
 use Rattle.rlsf_model.specs.WellFormed.{covers, coverage, itself}
-use Rattle.rlsf_model.proofs.Coverage.{covers-inside, covers-split, coverage-IsIn}
+use Rattle.rlsf_model.proofs.Coverage.{inside, before, behind, where_is, covers-split}
 use Rattle.rlsf_trace_runs.specs.Runs.{longer_pool, longer_pool_at}
-use Rattle.rlsf_trace_runs.specs.Steps.Tables.{EndsAt, IsInOrder}
+use Rattle.rlsf_trace_runs.specs.Steps.Pools.{AreApart, EndsAt}
+use Rattle.rlsf_trace_runs.proofs.ApartPools.{coverage-set, ends_first, some_at}
 use Rattle.rlsf_trace_runs.proofs.SamePools.{IsIn-each}
-use Rattle.rlsf_trace_runs.proofs.Overlapping.{IsIn-at, no_range, nth_range}
+use Rattle.rlsf_trace_runs.proofs.Overlapping.{no_range, nth_range}
 
 -- a pool that ends at the address is longer, and any other is as it was
 pub is_lengthened : (addr more : ℕ) (p : Range)
@@ -56,15 +56,12 @@ coverage-longer_pool addr more p (x ∷ xs) a (inl is) ends = elim (is_lengthene
 ]
 coverage-longer_pool addr more p (x ∷ xs) a (inr there) ends = omega (arith, covers-longer_pool_at addr more x a, coverage-longer_pool addr more p xs a there ends)
 
-module _ {xs : List Range} (o : IsInOrder xs) where
+module _ {xs : List Range} (o : AreApart xs) where
   -- one pool alone ends where it does
   one_end : (i k addr : ℕ) → EndsAt xs i addr → k < length xs → k ≢ i → end_of (nth_range xs k) ≢ addr
-  one_end i k addr (below, ends) within differ same = elim (cases_lt k i) [
-    | inl lower ↦ absurd (omega (arith, o.apart k i no_range lower below, o.some i no_range below, ends no_range))
-    | inr from ↦ elim (cases_lt i k) [
-      | inl upper ↦ absurd (omega (arith, o.apart i k no_range upper within, o.some k no_range within, ends no_range))
-      | inr to ↦ absurd (differ (omega arith))
-    ]
+  one_end i k addr (below, ends) within differ same = elim (cases_lt (nth_range xs i).start (nth_range xs k).start) [
+    | inl lower ↦ absurd (omega (arith, ends_first o i k no_range (λ is. differ (sym is)) below within (omega arith), some_at o k no_range within, ends no_range))
+    | inr from ↦ absurd (omega (arith, ends_first o k i no_range differ within below from, some_at o i no_range below, ends no_range))
   ]
 
   -- so a pool that ends where the one at a place does is that one
@@ -106,58 +103,32 @@ module _ {xs : List Range} (o : IsInOrder xs) where
             | inr other ↦ get_or-set_other xs i k new no_range other ∙ sym (get_or-map f xs k no_range no_range there ∙ left k there other)
           ]
 
-  -- no pool ends at an address if the last one that begins before it doesn't
-  pub none_ends : (addr i : ℕ) → i ≤ length xs → IsPartitionPoint (λ p. p.start < addr) (λ p. addr ≤ p.start) xs i
-      → ((j : ℕ) → i ≡ j + 1 → end_of (nth_range xs j) ≢ addr)
-      → (p : Range) → IsIn p xs → end_of p ≢ addr
-  none_ends addr i fits point last p there = IsIn-each (λ q. end_of q ≢ addr) p xs (λ k d below same. elim (cases_lt k i) [
-    | inr upper ↦ absurd (omega (arith, point.1 k d upper below, o.some k d below, same))
-    | inl lower ↦ elim (cases_lt (k + 1) i) [
-      | inl more ↦ absurd (omega (arith, o.apart k (i - 1) d (omega arith) (omega arith), point.0 (i - 1) d (omega arith) (omega arith), same))
-      | inr end ↦ absurd (last k (omega arith) (ap end_of (get_or_default xs k no_range d below) ∙ same))
-    ]
-  ]) there
+  module _ (r : Range) (clear : IsClear r xs) (i more : ℕ) (ends : EndsAt xs i r.start) (fits : more ≤ r.len) where
+    -- one that takes bytes which no other has stays apart from them
+    pub AreApart-longer_pool : AreApart (map (longer_pool_at r.start more) xs)
+    AreApart-longer_pool = record {
+      some = λ p there.
+          let (q, old, is) = IsIn-longer_pool r.start more p xs there in
+          elim (is_lengthened r.start more q) [
+            | inl (_, longer) ↦ subst (λ x. x.start < end_of x) (sym (is ∙ longer)) (omega (arith, o.some q old))
+            | inr (_, same) ↦ subst (λ x. x.start < end_of x) (sym (is ∙ same)) (o.some q old)
+          ];
+      once = λ a.
+          let p = nth_range xs i in
+          let set = ap (λ l. coverage itself l a) (longer_pool-each i r.start more ends) in
+          let replaced = coverage-set xs i (longer_pool more p) no_range a ends.0 in
+          let longer = covers-longer_pool r.start more p a (ends.1 no_range) in
+          elim (where_is (range_at r.start more) a) [
+            | inside one from to ↦ omega (arith, set, replaced, longer, one, clear a from (omega arith))
+            | before none _ ↦ omega (arith, set, replaced, longer, none, o.once a)
+            | behind none _ ↦ omega (arith, set, replaced, longer, none, o.once a)
+          ];
+    }
 
-  module _ (r : Range) (clear : IsClear r xs) (addr more : ℕ) (begins : r.start ≡ addr) (fits : more ≤ r.len) where
-    some_each : (k : ℕ) → k < length xs → (longer_pool_at addr more (nth_range xs k)).start < end_of (longer_pool_at addr more (nth_range xs k))
-    some_each k below = elim (is_lengthened addr more (nth_range xs k)) [
-      | inl (_, is) ↦ subst (λ p. p.start < end_of p) (sym is) (omega (arith, o.some k no_range below))
-      | inr (_, is) ↦ subst (λ p. p.start < end_of p) (sym is) (o.some k no_range below)
-    ]
-
-    -- a pool behind the address begins behind the range, or at least behind its part that is taken
-    begins_behind : (k : ℕ) → k < length xs → addr ≤ (nth_range xs k).start → addr + more ≤ (nth_range xs k).start
-    begins_behind k below from =
-        let p = nth_range xs k in
-        elim (cases_lt p.start (addr + more)) [
-          | inr past ↦ past
-          | inl under ↦ absurd (omega (
-            arith,
-            clear p.start (omega (arith, begins)) (omega (arith, begins)),
-            covers-inside p p.start (omega arith) (o.some k no_range below),
-            coverage-IsIn itself p xs p.start (IsIn-at xs k no_range below),
-          ))
-        ]
-
-    start_stays : (p : Range) → (longer_pool_at addr more p).start ≡ p.start
-    start_stays p = elim (is_lengthened addr more p) [ inl (_, is) ↦ ap (λ q. q.start) is | inr (_, is) ↦ ap (λ q. q.start) is ]
-
-    apart_two : (j k : ℕ) → j < k → k < length xs → end_of (longer_pool_at addr more (nth_range xs j)) ≤ (longer_pool_at addr more (nth_range xs k)).start
-    apart_two j k lower below =
-        let order = o.apart j k no_range lower below in
-        elim (is_lengthened addr more (nth_range xs j)) [
-          | inl (ends, is) ↦ omega (arith, ap end_of is, ends, start_stays (nth_range xs k), begins_behind k below (omega (arith, ends, order)))
-          | inr (_, is) ↦ omega (arith, ap end_of is, start_stays (nth_range xs k), order)
-        ]
-
-    -- one that takes bytes which no other has stays among them in order
-    pub IsInOrder-longer_pool : IsInOrder (map (longer_pool_at addr more) xs)
-    IsInOrder-longer_pool =
-        let f = longer_pool_at addr more in
-        record {
-          some = λ k d below. let there : k < length xs = omega (arith, length-map xs f) in
-              subst (λ p. p.start < end_of p) (sym (get_or-map f xs k no_range d there)) (some_each k there);
-          apart = λ j k d lower below.
-              let there : k < length xs = omega (arith, length-map xs f) in
-              omega (arith, ap end_of (get_or-map f xs j no_range d (omega arith)), ap (λ p. p.start) (get_or-map f xs k no_range d there), apart_two j k lower there);
-        }
+-- each begins where it did
+pub longer_pools-start : (addr more : ℕ) (xs : List Range) (k : ℕ) (d : Range) → k < length xs
+    → (slice_index_or (map (longer_pool_at addr more) xs) k d).start ≡ (slice_index_or xs k d).start
+longer_pools-start addr more xs k d below = ap (λ p. p.start) (get_or-map (longer_pool_at addr more) xs k d d below) ∙ elim (is_lengthened addr more (slice_index_or xs k d)) [
+  | inl (_, is) ↦ ap (λ q. q.start) is
+  | inr (_, is) ↦ ap (λ q. q.start) is
+]

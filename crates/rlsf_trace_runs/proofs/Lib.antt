@@ -1,4 +1,5 @@
 -- Lemmas about runs: payloads by their names, pools, and calls of the reference model. `Underway` has the run so far.
+pub mod ApartPools
 pub mod AppendedChunks
 pub mod Events
 pub mod Lengthened
@@ -8,7 +9,7 @@ pub mod NewPools
 pub mod OpsDone
 pub mod Outcomes
 pub mod Overlapping
-pub mod PoolOrder
+pub mod PoolRuns
 pub mod RunStates
 pub mod SamePools
 pub mod SpareBytes

@@ -27,7 +27,8 @@ use Rattle.rlsf_trace_runs.specs.declared.names.Payload.{Payload}
 use Rattle.rlsf_trace_runs.specs.declared.tables.Tables.{Tables}
 use Rattle.rlsf_trace_runs.specs.Names.{address, AreNamed}
 use Rattle.rlsf_trace_runs.specs.Runs.{Does, Frees, Owns, RunState, with_machine}
-use Rattle.rlsf_trace_runs.specs.Steps.Tables.{HasRoom, IsAt, IsInOrder, LeadsOn}
+use Rattle.rlsf_trace_runs.specs.Steps.Pools.{AreApart, AreInRuns}
+use Rattle.rlsf_trace_runs.specs.Steps.Tables.{HasRoom, IsAt, LeadsOn}
 use Rattle.rlsf_trace_runs.proofs.Named.{AreNamed-filled, AreNamed-freed, AreNamed-kept, IsSetAt, owned_live}
 
 -- what a test for a payload didn't find
@@ -69,9 +70,10 @@ module _ {fllen sllen : ℕ} {v : Allocator} {tables : Tables} {s : RunState} (a
   IsAt-named {w} {new} place t stands chunks same are = record {
     stands = stands;
     named = are;
-    pools = subst (λ p. IsPermutation s.pools p.items) (sym same) at.pools;
-    in_order = subst (λ p. IsInOrder p.items) (sym same) at.in_order;
-    inside = λ p i. moved p (at.inside p (subst (λ table. IsIn p table.items) same i));
+    pools = subst (λ p. IsPermutation s.pools p.ranges.items) (sym same) at.pools;
+    apart = subst (λ p. AreApart p.ranges.items) (sym same) at.apart;
+    in_runs = subst (λ p. AreInRuns p.ranges.items p.firsts.items) (sym same) at.in_runs;
+    inside = λ p i. moved p (at.inside p (subst (λ table. IsIn p table.ranges.items) same i));
     covered = λ a. subst (λ cs. coverage itself cs a ≤ coverage itself s.pools a) (sym chunks) (at.covered a);
     rows = λ p i. IsRow-same s.machine t p chunks (at.rows p i);
   }

@@ -1,6 +1,7 @@
 -- The state of a run, from its tables, and how an op changes it.
-use Rattle.std.proofs.Common.{◌≡◌, ◌≢◌, ℕ, ◌+◌, ◌-◌, ◌<◌, nat_eq, length, [], ◌∷◌, map, slice_set, Some, None, arith, refl, inl, inr, sym}
+use Rattle.std.proofs.Common.{◌≡◌, ◌≢◌, ℕ, ◌+◌, ◌-◌, ◌<◌, nat_eq, length, [], ◌∷◌, map, slice_set, Some, None, arith, inl, inr, sym}
 use Rattle.std.proofs.Common.{◌∙◌, ap, subst}
+use Rattle.std.proofs.lemmas.List.{length-map}
 use Rattle.std.proofs.lemmas.List.Sorted.{IsPermutation-cons, IsPermutation-map, IsPermutation-refl, IsPermutation-sym, IsPermutation-trans}
 use Rattle.std.specs.Prelude.{IsPermutation}
 use Rattle.std.specs.HashMap.{get}
@@ -22,13 +23,16 @@ use Rattle.rlsf_model.proofs.Live.{live_stays}
 use Rattle.rlsf_trace_runs.specs.declared.tables.Tables.{Tables}
 use Rattle.rlsf_trace_runs.specs.Runs.{RunState, beginning, longer_pool, longer_pool_at, MayAppend, MayInsert, with_pool}
 use Rattle.rlsf_trace_runs.specs.Names.{address}
-use Rattle.rlsf_trace_runs.specs.Steps.Tables.{EndsAt, IsAt, IsInOrder}
+use Rattle.rlsf_trace_runs.specs.Steps.Pools.{AreApart, AreInRuns, EndsAt}
+use Rattle.rlsf_trace_runs.specs.Steps.Tables.{IsAt}
 use Rattle.rlsf_trace_runs.proofs.Named.{AreNamed-empty, AreNamed-kept, AreNamed-same}
 use Rattle.rlsf_trace_runs.proofs.NewPools.{coverage-with_pool, pool_bounds}
+use Rattle.rlsf_trace_runs.proofs.ApartPools.{AreApart-more, AreApart-permutation}
 use Rattle.rlsf_trace_runs.proofs.AppendedChunks.{IsLonger, IsLonger-appended}
-use Rattle.rlsf_trace_runs.proofs.Lengthened.{coverage-longer_pool, is_lengthened, IsIn-longer_pool, IsInOrder-longer_pool, longer_pool-each}
+use Rattle.rlsf_trace_runs.proofs.Lengthened.{AreApart-longer_pool, coverage-longer_pool, is_lengthened, IsIn-longer_pool, longer_pool-each, longer_pools-start}
 use Rattle.rlsf_trace_runs.proofs.Overlapping.{IsIn-at, no_range, nth_range}
-use Rattle.rlsf_trace_runs.proofs.SamePools.{coverage-permutation, IsIn-each, IsIn-permutation}
+use Rattle.rlsf_trace_runs.proofs.PoolRuns.{AreInRuns-none, AreInRuns-starts}
+use Rattle.rlsf_trace_runs.proofs.SamePools.{coverage-permutation, IsIn-permutation}
 
 -- a chunk ends at the end of contiguous chunks that have a byte
 row_end : (s : State) (p : Range) → 0 < p.len → IsRow s p → (c : Range) × IsIn c s.chunks × (end_of c ≡ end_of p)
@@ -36,47 +40,47 @@ row_end s p some row = let (c, i, _, _, high, to) = row (end_of p - 1) (omega ar
 
 module _ {fllen sllen : ℕ} {v : Allocator} {tables : Tables} {s : RunState} (at : IsAt fllen sllen v tables s) where
   -- the table's pools have as many ranges at an address as the run's
-  coverage-tables : (a : ℕ) → coverage itself tables.pools.items a ≡ coverage itself s.pools a
-  coverage-tables a = coverage-permutation s.pools tables.pools.items a at.pools
+  coverage-tables : (a : ℕ) → coverage itself tables.pools.ranges.items a ≡ coverage itself s.pools a
+  coverage-tables a = coverage-permutation s.pools tables.pools.ranges.items a at.pools
 
   -- a range that passes the test may be inserted
-  pub MayInsert-tested : (r : Range) {m : Space} → m ≡ v.memory → IsVacant (range_of m) tables.pools.items r → MayInsert (range_of v.memory) s.pools r
+  pub MayInsert-tested : (r : Range) {m : Space} → m ≡ v.memory → IsVacant (range_of m) tables.pools.ranges.items r → MayInsert (range_of v.memory) s.pools r
   MayInsert-tested r same vacant = record {
     lies_in = subst (λ m. LiesIn r m.start (length m.bytes)) same vacant.lies_in;
     apart = λ a low high. sym (coverage-tables a) ∙ vacant.apart a low high;
   }
 
   -- and one that may be inserted passes it
-  pub IsVacant-tables : (r : Range) {m : Space} → m ≡ v.memory → MayInsert (range_of v.memory) s.pools r → IsVacant (range_of m) tables.pools.items r
+  pub IsVacant-tables : (r : Range) {m : Space} → m ≡ v.memory → MayInsert (range_of v.memory) s.pools r → IsVacant (range_of m) tables.pools.ranges.items r
   IsVacant-tables r same may = record {
     lies_in = subst (λ m. LiesIn r m.start (length m.bytes)) (sym same) may.lies_in;
     apart = λ a low high. coverage-tables a ∙ may.apart a low high;
   }
 
   -- a range may be appended if a pool of the table ends where it begins
-  pub MayAppend-tested : (r : Range) (place : ℕ) → MayInsert (range_of v.memory) s.pools r → EndsAt tables.pools.items place r.start
+  pub MayAppend-tested : (r : Range) (place : ℕ) → MayInsert (range_of v.memory) s.pools r → EndsAt tables.pools.ranges.items place r.start
       → MayAppend (range_of v.memory) s.pools r
   MayAppend-tested r place may (below, ends) = record {
     vacant = may;
-    pool = nth_range tables.pools.items place;
+    pool = nth_range tables.pools.ranges.items place;
     is_pool =
-        IsIn-permutation (nth_range tables.pools.items place) tables.pools.items s.pools (IsPermutation-sym s.pools tables.pools.items at.pools)
-        (IsIn-at tables.pools.items place no_range below);
+        IsIn-permutation (nth_range tables.pools.ranges.items place) tables.pools.ranges.items s.pools (IsPermutation-sym s.pools tables.pools.ranges.items at.pools)
+        (IsIn-at tables.pools.ranges.items place no_range below);
     ends = ends no_range;
   }
 
   -- and not if none does
-  pub MayAppend-none : (r : Range) → ((p : Range) → IsIn p tables.pools.items → end_of p ≢ r.start) → MayAppend (range_of v.memory) s.pools r → ⊥
-  MayAppend-none r none may = none may.pool (IsIn-permutation may.pool s.pools tables.pools.items at.pools may.is_pool) may.ends
+  pub MayAppend-none : (r : Range) → ((p : Range) → IsIn p tables.pools.ranges.items → end_of p ≢ r.start) → MayAppend (range_of v.memory) s.pools r → ⊥
+  MayAppend-none r none may = none may.pool (IsIn-permutation may.pool s.pools tables.pools.ranges.items at.pools may.is_pool) may.ends
 
   -- a range that may be inserted overlaps no pool of the table
-  pub IsClear-tables : (r : Range) → MayInsert (range_of v.memory) s.pools r → IsClear r tables.pools.items
+  pub IsClear-tables : (r : Range) → MayInsert (range_of v.memory) s.pools r → IsClear r tables.pools.ranges.items
   IsClear-tables r may a low high = coverage-tables a ∙ may.apart a low high
 
   -- nor does the pool that is made of it, which has a byte
-  pub new_pool : (r pool : Range) (len : ℕ) (t : State) {memory : Range} → MayInsert (range_of v.memory) s.pools r → Inserts fllen s.machine r (Some len) t
+  new_pool : (r pool : Range) (len : ℕ) (t : State) {memory : Range} → MayInsert (range_of v.memory) s.pools r → Inserts fllen s.machine r (Some len) t
       → IsWellFormed fllen sllen memory t
-      → pool ≡ between (round32 r.start) (r.start + len) → (pool.start < end_of pool) × IsClear pool tables.pools.items
+      → pool ≡ between (round32 r.start) (r.start + len) → (pool.start < end_of pool) × IsClear pool tables.pools.ranges.items
   new_pool r pool len t may step whole is =
       let bounds = pool_bounds fllen s.machine r len t step whole in
       let low = round32-le r.start in
@@ -90,7 +94,7 @@ module _ {fllen sllen : ℕ} {v : Allocator} {tables : Tables} {s : RunState} (a
 
   -- no pool is empty
   pub some_pool : (p : Range) → IsIn p s.pools → 0 < p.len
-  some_pool p there = omega (arith, IsIn-each (λ q. q.start < end_of q) p tables.pools.items at.in_order.some (IsIn-permutation p s.pools tables.pools.items at.pools there))
+  some_pool p there = omega (arith, at.apart.some p (IsIn-permutation p s.pools tables.pools.ranges.items at.pools there))
 
   -- what may be appended follows a chunk
   pub IsNext-MayAppend : (r : Range) → MayAppend (range_of v.memory) s.pools r → IsNext (range_of v.memory) s.machine r
@@ -100,11 +104,13 @@ module _ {fllen sllen : ℕ} {v : Allocator} {tables : Tables} {s : RunState} (a
 
   module _ {w : Allocator} (place : SamePlace v.memory w.memory) (t : State) (stands : IsInState fllen sllen w t) where
     -- after an insert that made a pool
-    pub IsAt-inserted : {new : Tables} (r pool : Range) (len : ℕ) → Inserts fllen s.machine r (Some len) t → LiesIn r v.memory.start (length v.memory.bytes)
-        → pool ≡ between (round32 r.start) (r.start + len) → new.names ≡ tables.names → IsPermutation (pool ∷ tables.pools.items) new.pools.items
-        → IsInOrder new.pools.items
+    pub IsAt-inserted : {new : Tables} (r pool : Range) (len : ℕ) → Inserts fllen s.machine r (Some len) t → MayInsert (range_of v.memory) s.pools r
+        → pool ≡ between (round32 r.start) (r.start + len) → new.names ≡ tables.names → IsPermutation (pool ∷ tables.pools.ranges.items) new.pools.ranges.items
+        → AreInRuns new.pools.ranges.items new.pools.firsts.items
         → IsAt fllen sllen w new (record { machine = t; named = s.named; pools = with_pool r (Some len) s.pools })
-    IsAt-inserted {new} r pool len step (from, to) is names added in_order =
+    IsAt-inserted {new} r pool len step may is names added in_runs =
+        let (from, to) = may.lies_in in
+        let (some, clear) = new_pool r pool len t may step stands.stands.well_formed is in
         let made = between (round32 r.start) (r.start + len) in
         let bounds = pool_bounds fllen s.machine r len t step stands.stands.well_formed in
         let low = round32-le r.start in
@@ -115,13 +121,15 @@ module _ {fllen sllen : ℕ} {v : Allocator} {tables : Tables} {s : RunState} (a
               AreNamed-kept (AreNamed-same at.named (λ name. ap (λ table. get nat_eq table name) names)) t
               (λ addr align live. live_stays fllen sllen s.machine t (insert r (Some len)) addr align step live (λ never. never));
           pools =
-              IsPermutation-trans _ _ _ (IsPermutation-cons made s.pools tables.pools.items at.pools)
-              (subst (λ p. IsPermutation (p ∷ tables.pools.items) new.pools.items) is added);
-          in_order = in_order;
-          inside = λ p i. elim (IsIn-permutation p new.pools.items (pool ∷ tables.pools.items) (IsPermutation-sym (pool ∷ tables.pools.items) new.pools.items added) i) [
-            | inl new ↦ subst (λ q. LiesIn q w.memory.start (length w.memory.bytes)) (sym (new ∙ is)) home
-            | inr old ↦ let (p_from, p_to) = at.inside p old in (omega (arith, p_from, place), omega (arith, p_to, place))
-          ];
+              IsPermutation-trans _ _ _ (IsPermutation-cons made s.pools tables.pools.ranges.items at.pools)
+              (subst (λ p. IsPermutation (p ∷ tables.pools.ranges.items) new.pools.ranges.items) is added);
+          apart = AreApart-permutation (AreApart-more at.apart pool some clear) added;
+          in_runs = in_runs;
+          inside = λ p i. elim (IsIn-permutation p new.pools.ranges.items (pool ∷ tables.pools.ranges.items)
+              (IsPermutation-sym (pool ∷ tables.pools.ranges.items) new.pools.ranges.items added) i) [
+                | inl new ↦ subst (λ q. LiesIn q w.memory.start (length w.memory.bytes)) (sym (new ∙ is)) home
+                | inr old ↦ let (p_from, p_to) = at.inside p old in (omega (arith, p_from, place), omega (arith, p_to, place))
+              ];
           covered = λ a. coverage-with_pool fllen s.machine r (Some len) t step s.pools a (at.covered a);
           rows = λ p. elim [
             | inl new ↦ subst (IsRow t) (sym new) (IsRow-inserted fllen s.machine t r len step)
@@ -135,7 +143,8 @@ module _ {fllen sllen : ℕ} {v : Allocator} {tables : Tables} {s : RunState} (a
       stands = stands;
       named = AreNamed-kept at.named t (λ addr align live. live_stays fllen sllen s.machine t (insert r None) addr align step live (λ never. never));
       pools = at.pools;
-      in_order = at.in_order;
+      apart = at.apart;
+      in_runs = at.in_runs;
       inside = λ p i. (let (p_from, p_to) = at.inside p i in (omega (arith, p_from, place), omega (arith, p_to, place)));
       covered = λ a. coverage-with_pool fllen s.machine r None t step s.pools a (at.covered a);
       rows = λ p i. IsRow-kept fllen s.machine t r p None step (at.rows p i);
@@ -143,16 +152,20 @@ module _ {fllen sllen : ℕ} {v : Allocator} {tables : Tables} {s : RunState} (a
 
     -- after an append
     pub IsAt-appended : {new : Tables} (r : Range) (more i : ℕ) → Appends fllen s.machine r more t → MayAppend (range_of v.memory) s.pools r
-        → EndsAt tables.pools.items i r.start
-        → new.names ≡ tables.names → new.pools.items ≡ slice_set tables.pools.items i (longer_pool more (nth_range tables.pools.items i))
+        → EndsAt tables.pools.ranges.items i r.start
+        → new.names ≡ tables.names → new.pools.ranges.items ≡ slice_set tables.pools.ranges.items i (longer_pool more (nth_range tables.pools.ranges.items i))
+        → new.pools.firsts.items ≡ tables.pools.firsts.items
         → IsAt fllen sllen w new (record { machine = t; named = s.named; pools = map (longer_pool_at r.start more) s.pools })
-    IsAt-appended {new} r more i step may ends names set = record {
+    IsAt-appended {new} r more i step may ends names set firsts = record {
       stands = stands;
       named =
           AreNamed-kept (AreNamed-same at.named (λ name. ap (λ table. get nat_eq table name) names)) t
           (λ addr align live. live_stays fllen sllen s.machine t (append r more) addr align step live (λ never. never));
-      pools = subst (IsPermutation (map f s.pools)) (sym is) (IsPermutation-map f s.pools tables.pools.items at.pools);
-      in_order = subst IsInOrder (sym is) (IsInOrder-longer_pool at.in_order r (IsClear-tables r may.vacant) r.start more refl longer.within);
+      pools = subst (IsPermutation (map f s.pools)) (sym is) (IsPermutation-map f s.pools tables.pools.ranges.items at.pools);
+      apart = subst AreApart (sym is) (AreApart-longer_pool at.apart r (IsClear-tables r may.vacant) i more ends longer.within);
+      in_runs =
+          subst (λ l. AreInRuns l new.pools.firsts.items) (sym is) (subst (AreInRuns (map f tables.pools.ranges.items)) (sym firsts)
+          (AreInRuns-starts at.in_runs (length-map tables.pools.ranges.items f) (longer_pools-start r.start more tables.pools.ranges.items)));
       inside = λ p there. inside p (subst (IsIn p) is there);
       covered = λ a. omega (arith, longer.coverage a, at.covered a, coverage-longer_pool r.start more may.pool s.pools a may.is_pool may.ends);
       rows = rows;
@@ -161,15 +174,15 @@ module _ {fllen sllen : ℕ} {v : Allocator} {tables : Tables} {s : RunState} (a
         f : Range → Range
         f = longer_pool_at r.start more
 
-        is : new.pools.items ≡ map f tables.pools.items
-        is = set ∙ longer_pool-each at.in_order i r.start more ends
+        is : new.pools.ranges.items ≡ map f tables.pools.ranges.items
+        is = set ∙ longer_pool-each at.apart i r.start more ends
 
         longer : IsLonger s.machine r more t
         longer = IsLonger-appended at.stands.stands.well_formed r (IsNext-MayAppend r may) more t step stands.stands.well_formed
 
-        inside : (p : Range) → IsIn p (map f tables.pools.items) → LiesIn p w.memory.start (length w.memory.bytes)
+        inside : (p : Range) → IsIn p (map f tables.pools.ranges.items) → LiesIn p w.memory.start (length w.memory.bytes)
         inside p there =
-            let (q, old, is_q) = IsIn-longer_pool r.start more p tables.pools.items there in
+            let (q, old, is_q) = IsIn-longer_pool r.start more p tables.pools.ranges.items there in
             let (from, to) = at.inside q old in
             let (_, end) = may.vacant.lies_in in
             let within = longer.within in
@@ -189,13 +202,14 @@ module _ {fllen sllen : ℕ} {v : Allocator} {tables : Tables} {s : RunState} (a
             ]
 
 -- with no chunk and empty tables, a run is at its beginning
-pub IsAt-beginning : {fllen sllen : ℕ} {v : Allocator} {tables : Tables} → IsInState fllen sllen v empty → tables.names.entries ≡ [] → tables.pools.items ≡ []
-    → IsAt fllen sllen v tables beginning
-IsAt-beginning {v = v} stands no_names no_pools = record {
+pub IsAt-beginning : {fllen sllen : ℕ} {v : Allocator} {tables : Tables} → IsInState fllen sllen v empty → tables.names.entries ≡ [] → tables.pools.ranges.items ≡ []
+    → tables.pools.firsts.items ≡ [] → IsAt fllen sllen v tables beginning
+IsAt-beginning {v = v} {tables = tables} stands no_names no_pools no_runs = record {
   stands = stands;
   named = AreNamed-empty empty no_names;
   pools = subst (IsPermutation []) (sym no_pools) (IsPermutation-refl []);
-  in_order = record { some = λ i d below. absurd (omega (arith, ap length no_pools)); apart = λ i j d before below. absurd (omega (arith, ap length no_pools)) };
+  apart = record { some = λ p i. absurd (subst (IsIn p) no_pools i); once = λ a. omega (arith, ap (λ l. coverage itself l a) no_pools) };
+  in_runs = subst (λ l. AreInRuns l tables.pools.firsts.items) (sym no_pools) (AreInRuns-none no_runs);
   inside = λ p i. absurd (subst (IsIn p) no_pools i);
   covered = λ a. omega arith;
   rows = λ p i. absurd i;
@@ -203,8 +217,9 @@ IsAt-beginning {v = v} stands no_names no_pools = record {
 
 -- tables that hold the same names and pools, and may have more room
 pub IsAt-roomy : {fllen sllen : ℕ} {v : Allocator} {tables new : Tables} {s : RunState} → IsAt fllen sllen v tables s
-    → ((name : ℕ) → get nat_eq new.names name ≡ get nat_eq tables.names name) → new.pools.items ≡ tables.pools.items → IsAt fllen sllen v new s
-IsAt-roomy {v = v} {new = new} {s = s} at names pools = record {
+    → ((name : ℕ) → get nat_eq new.names name ≡ get nat_eq tables.names name)
+    → (new.pools.ranges.items ≡ tables.pools.ranges.items) × (new.pools.firsts.items ≡ tables.pools.firsts.items) → IsAt fllen sllen v new s
+IsAt-roomy {v = v} {tables = tables} {new = new} {s = s} at names (pools, firsts) = record {
   stands = at.stands;
   named = record {
     names = λ name. ap (option_map address) (names name) ∙ at.named.names name;
@@ -212,8 +227,24 @@ IsAt-roomy {v = v} {new = new} {s = s} at names pools = record {
     one_name = at.named.one_name;
   };
   pools = subst (IsPermutation s.pools) (sym pools) at.pools;
-  in_order = subst IsInOrder (sym pools) at.in_order;
+  apart = subst AreApart (sym pools) at.apart;
+  in_runs = subst (λ l. AreInRuns l new.pools.firsts.items) (sym pools) (subst (AreInRuns tables.pools.ranges.items) (sym firsts) at.in_runs);
   inside = subst (λ l. (p : Range) → IsIn p l → LiesIn p v.memory.start (length v.memory.bytes)) (sym pools) at.inside;
+  covered = at.covered;
+  rows = at.rows;
+}
+
+-- tables whose pools are sorted
+pub IsAt-sorted : {fllen sllen : ℕ} {v : Allocator} {tables new : Tables} {s : RunState} → IsAt fllen sllen v tables s → new.names ≡ tables.names
+    → IsPermutation tables.pools.ranges.items new.pools.ranges.items → AreInRuns new.pools.ranges.items new.pools.firsts.items → IsAt fllen sllen v new s
+IsAt-sorted {tables = tables} {new = new} {s = s} at names same in_runs = record {
+  stands = at.stands;
+  named = AreNamed-same at.named (λ name. ap (λ table. get nat_eq table name) names);
+  pools = IsPermutation-trans s.pools tables.pools.ranges.items new.pools.ranges.items at.pools same;
+  apart = AreApart-permutation at.apart same;
+  in_runs = in_runs;
+  inside = λ p there. at.inside p (IsIn-permutation p new.pools.ranges.items tables.pools.ranges.items
+      (IsPermutation-sym tables.pools.ranges.items new.pools.ranges.items same) there);
   covered = at.covered;
   rows = at.rows;
 }

@@ -27,21 +27,21 @@ IsRow-between s p r begins ends some row a low high =
 
 module _ {fllen sllen : ℕ} {v : Allocator} {tables : Tables} {s : RunState} (at : IsAt fllen sllen v tables s) where
   -- an iteration is allowed over a range that passes the test
-  pub MayWalk-tested : (r : Range) {m : Space} → m ≡ v.memory → MayWalk (range_of m) tables.pools.items r → MayWalk (range_of v.memory) s.pools r
+  pub MayWalk-tested : (r : Range) {m : Space} → m ≡ v.memory → MayWalk (range_of m) tables.pools.ranges.items r → MayWalk (range_of v.memory) s.pools r
   MayWalk-tested r same may = record {
     lies_in = subst (λ m. LiesIn r m.start (length m.bytes)) same may.lies_in;
     pool = may.pool;
-    is_pool = IsIn-permutation may.pool tables.pools.items s.pools (IsPermutation-sym s.pools tables.pools.items at.pools) may.is_pool;
+    is_pool = IsIn-permutation may.pool tables.pools.ranges.items s.pools (IsPermutation-sym s.pools tables.pools.ranges.items at.pools) may.is_pool;
     begins = may.begins;
     ends = may.ends;
   }
 
   -- a range over which an iteration is allowed passes the test
-  pub MayWalk-tables : (r : Range) {m : Space} → m ≡ v.memory → MayWalk (range_of v.memory) s.pools r → MayWalk (range_of m) tables.pools.items r
+  pub MayWalk-tables : (r : Range) {m : Space} → m ≡ v.memory → MayWalk (range_of v.memory) s.pools r → MayWalk (range_of m) tables.pools.ranges.items r
   MayWalk-tables r same may = record {
     lies_in = subst (λ m. LiesIn r m.start (length m.bytes)) (sym same) may.lies_in;
     pool = may.pool;
-    is_pool = IsIn-permutation may.pool s.pools tables.pools.items at.pools may.is_pool;
+    is_pool = IsIn-permutation may.pool s.pools tables.pools.ranges.items at.pools may.is_pool;
     begins = may.begins;
     ends = may.ends;
   }

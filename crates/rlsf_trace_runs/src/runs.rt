@@ -13,18 +13,19 @@ ghost use Rattle.rlsf_trace_text.specs.declared.op.Op.TheVariants.{Insert, Appen
 ghost use Rattle.rlsf_trace_runs.specs.Events.{RunsByEvents};
 ghost use Rattle.rlsf_trace_runs.specs.Runs.{RunState};
 ghost use Rattle.rlsf_trace_runs.specs.Whole.{RunsTo};
-ghost use Rattle.rlsf_trace_runs.specs.Steps.Tables.{HasRoom, IsAt, IsInOrder, LeadsOn};
+ghost use Rattle.rlsf_trace_runs.specs.Steps.Pools.{AreApart, AreInRuns};
+ghost use Rattle.rlsf_trace_runs.specs.Steps.Tables.{HasRoom, IsAt, LeadsOn};
 
 use crate::names::Payload;
 use crate::payloads::{fill, free, free_unknown, get, put, realloc, realloc_no_move, usable};
-use crate::tables::{Tables, ending_at, overlaps_any};
+use crate::pools::{Pools, ending_at, overlaps_any};
+use crate::tables::Tables;
 use crate::walks::block;
 use rlsf_base::memory::{Layout, Memory, Range};
 use rlsf_int::BitPattern;
 use rlsf_tlsf::{GRANULARITY, Tlsf};
 use rlsf_trace_text::{Answer, Op, TraceError};
 use std::alloc::{AllocError, Global};
-use std::collections::VecDeque;
 
 /// Why a run did nothing.
 #[derive(Clone, Copy, Debug, PartialEq, Eq)]
@@ -51,25 +52,27 @@ pub(crate) fn lies_in(memory: &Memory, range: Range) -> bool
 }
 
 // Whether the range lies in the memory, and overlaps no pool.
-fn is_vacant(memory: &Memory, pools: &VecDeque<Range>, range: Range) -> bool
-    requires in_order { IsInOrder pools.now.items }
-    requires inside { (p : Range) → IsIn p pools.now.items → LiesIn p memory.now.start (length memory.now.bytes) }
+fn is_vacant(memory: &Memory, pools: &Pools, range: Range) -> bool
+    requires in_runs { AreInRuns pools.now.ranges.items pools.now.firsts.items }
+    requires apart { AreApart pools.now.ranges.items }
+    requires inside { (p : Range) → IsIn p pools.now.ranges.items → LiesIn p memory.now.start (length memory.now.bytes) }
     requires addressable { end_of (range_of memory.now) < 2 ^ 64 }
-    ensures { IsTrue result ↔ IsVacant (range_of memory.now) pools.now.items range }
+    ensures { IsTrue result ↔ IsVacant (range_of memory.now) pools.now.ranges.items range }
 {
     lies_in(memory, range) && !overlaps_any(pools, range)
 }
 
-// Whether the range lies in the allocator's memory, and overlaps no pool of the tables. The last two clauses hold in each case.
+// Whether the range lies in the allocator's memory, and overlaps no pool of the tables. The last three clauses hold in each case.
 fn may_insert<FLBitmap: BitPattern, SLBitmap: BitPattern, const FLLEN: usize, const SLLEN: usize>(
     tlsf: &Tlsf<FLBitmap, SLBitmap, FLLEN, SLLEN>,
     tables: &Tables,
     range: Range,
 ) -> bool
     requires { (s : RunState) × IsAt FLLEN SLLEN tlsf.now tables.now s }
-    ensures vacant { IsTrue result ↔ IsVacant (range_of tlsf.now.memory) tables.now.pools.items range }
-    ensures in_order { IsInOrder tables.now.pools.items }
-    ensures addressable { (p : Range) → IsIn p tables.now.pools.items → end_of p < 2 ^ 64 }
+    ensures vacant { IsTrue result ↔ IsVacant (range_of tlsf.now.memory) tables.now.pools.ranges.items range }
+    ensures in_runs { AreInRuns tables.now.pools.ranges.items tables.now.pools.firsts.items }
+    ensures apart { AreApart tables.now.pools.ranges.items }
+    ensures addressable { (p : Range) → IsIn p tables.now.pools.ranges.items → end_of p < 2 ^ 64 }
 {
     is_vacant(tlsf.memory_ref(), &tables.pools, range)
 }

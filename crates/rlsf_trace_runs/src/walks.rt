@@ -6,22 +6,24 @@ ghost use Rattle.rlsf_base.specs.Space.{range_of};
 ghost use Rattle.rlsf_model.specs.Lists.{IsIn};
 ghost use Rattle.rlsf_trace_text.specs.declared.op.Op.TheVariants.{Block};
 ghost use Rattle.rlsf_trace_runs.specs.Runs.{MayWalk, RunState};
-ghost use Rattle.rlsf_trace_runs.specs.Steps.Tables.{IsAt, IsInOrder, LeadsOn};
+ghost use Rattle.rlsf_trace_runs.specs.Steps.Pools.{AreApart, AreInRuns};
+ghost use Rattle.rlsf_trace_runs.specs.Steps.Tables.{IsAt, LeadsOn};
 
+use crate::pools::{Pools, is_pool};
 use crate::runs::lies_in;
-use crate::tables::{Tables, is_pool};
+use crate::tables::Tables;
 use rlsf_base::memory::{Memory, Range};
 use rlsf_int::BitPattern;
 use rlsf_tlsf::Tlsf;
 use rlsf_trace_text::{Answer, TraceError};
-use std::collections::VecDeque;
 
 // Whether the range lies in the memory and is a pool's, but for what its start is rounded up by.
-fn may_walk(memory: &Memory, pools: &VecDeque<Range>, range: Range) -> bool
-    requires in_order { IsInOrder pools.now.items }
-    requires inside { (p : Range) → IsIn p pools.now.items → LiesIn p memory.now.start (length memory.now.bytes) }
+fn may_walk(memory: &Memory, pools: &Pools, range: Range) -> bool
+    requires in_runs { AreInRuns pools.now.ranges.items pools.now.firsts.items }
+    requires apart { AreApart pools.now.ranges.items }
+    requires inside { (p : Range) → IsIn p pools.now.ranges.items → LiesIn p memory.now.start (length memory.now.bytes) }
     requires addressable { end_of (range_of memory.now) < 2 ^ 64 }
-    ensures { IsTrue result ↔ MayWalk (range_of memory.now) pools.now.items range }
+    ensures { IsTrue result ↔ MayWalk (range_of memory.now) pools.now.ranges.items range }
 {
     lies_in(memory, range) && is_pool(pools, range)
 }

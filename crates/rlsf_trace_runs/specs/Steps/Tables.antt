@@ -1,9 +1,9 @@
 -- What the tables of a run hold.
-use Rattle.std.specs.Prelude.{◌≡◌, ℕ, ◌+◌, ◌<◌, ◌≤◌, IsPermutation, List, length, slice_index_or}
+use Rattle.std.specs.Prelude.{ℕ, ◌+◌, ◌≤◌, IsPermutation, length}
 use Rattle.std.specs.HashMap.{spare}
-use Rattle.std.specs.VecDeque.{deque_len, deque_capacity}
+use Rattle.std.specs.Vec.{vec_capacity, vec_len}
 use Rattle.rlsf_base.specs.declared.memory.range.Range.{Range}
-use Rattle.rlsf_base.specs.Range.{end_of, LiesIn}
+use Rattle.rlsf_base.specs.Range.{LiesIn}
 use Rattle.rlsf_base.specs.Space.{range_of}
 use Rattle.rlsf_model.specs.ChunkRows.{IsRow}
 use Rattle.rlsf_model.specs.Lists.{IsIn}
@@ -15,28 +15,21 @@ use Rattle.rlsf_tlsf.specs.Allocator.{Allocator, IsInState}
 use Rattle.rlsf_trace_runs.specs.declared.tables.Tables.{Tables}
 use Rattle.rlsf_trace_runs.specs.Names.{AreNamed}
 use Rattle.rlsf_trace_runs.specs.Runs.{Does, RunState}
+use Rattle.rlsf_trace_runs.specs.Steps.Pools.{AreApart, AreInRuns}
 
 -- the tables have room for so many ops
 pub record HasRoom (tables : Tables) (ops : ℕ) : Type 0 where
   pub names : ops ≤ spare tables.names
-  pub pools : deque_len tables.pools + ops ≤ deque_capacity tables.pools
-
--- pools in the order of their addresses: none is empty, and each ends where the later ones begin or before
-pub record IsInOrder (pools : List Range) : Type 0 where
-  pub some : (i : ℕ) (d : Range) → i < length pools → (slice_index_or pools i d).start < end_of (slice_index_or pools i d)
-  pub apart : (i j : ℕ) (d : Range) → i < j → j < length pools → end_of (slice_index_or pools i d) ≤ (slice_index_or pools j d).start
-
--- the pool at a place ends at an address
-abbrev pub EndsAt : List Range → ℕ → ℕ → Type 0
-EndsAt pools i addr = (i < length pools) × ((d : Range) → end_of (slice_index_or pools i d) ≡ addr)
+  pub pools : vec_len tables.pools.ranges + ops ≤ vec_capacity tables.pools.ranges
 
 -- the allocator and the tables have the state of the run
 pub record IsAt (fllen sllen : ℕ) (v : Allocator) (tables : Tables) (s : RunState) : Type 0 where
   pub stands : IsInState fllen sllen v s.machine
   pub named : AreNamed s.machine tables.names s.named
-  pub pools : IsPermutation s.pools tables.pools.items
-  pub in_order : IsInOrder tables.pools.items
-  pub inside : (p : Range) → IsIn p tables.pools.items → LiesIn p v.memory.start (length v.memory.bytes)
+  pub pools : IsPermutation s.pools tables.pools.ranges.items
+  pub apart : AreApart tables.pools.ranges.items
+  pub in_runs : AreInRuns tables.pools.ranges.items tables.pools.firsts.items
+  pub inside : (p : Range) → IsIn p tables.pools.ranges.items → LiesIn p v.memory.start (length v.memory.bytes)
   pub covered : (a : ℕ) → coverage itself s.machine.chunks a ≤ coverage itself s.pools a
   pub rows : (p : Range) → IsIn p s.pools → IsRow s.machine p
 

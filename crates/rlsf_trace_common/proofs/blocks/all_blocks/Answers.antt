@@ -14,8 +14,8 @@ use Rattle.rlsf_trace_common.proofs.blocks.all_blocks.Goals as goal
 
 pub iter_blocks-requires : goal.iter_blocks-requires
 iter_blocks-requires g c =
-    let (s, at) = c.requires in
-    let pools = c.args.tables.now.pools.items in
+    let (s, at) = c.requires.state in
+    let pools = c.args.tables.now.pools.ranges.items in
     let p = c.index.result.now in
     let below : c.loop-place.place < length pools = omega (arith, c.loop-place-test.true, c.len-place-end.ensures) in
     let there = subst (λ q. IsIn q pools) (sym c.index.ensures) (IsIn-at pools c.loop-place.place p below) in
@@ -23,14 +23,14 @@ iter_blocks-requires g c =
 
 pub loop-place-preserved : goal.loop-place-preserved
 loop-place-preserved g c =
-    let (s, at) = c.requires in
-    let pools = c.args.tables.now.pools.items in
+    let (s, at) = c.requires.state in
+    let pools = c.args.tables.now.pools.ranges.items in
     let p = c.index.result.now in
     let i = c.loop-place.place in
     let below : i < length pools = omega (arith, c.loop-place-test.true, c.len-place-end.ensures) in
     let there = subst (λ q. IsIn q pools) (sym c.index.ensures) (IsIn-at pools i p below) in
     let (begins, ends) = walked_bounds at p there in
-    let behind = pools_before at.in_order i below p (λ d. get_or_default pools i d p below ∙ sym c.index.ensures) in
+    let behind = pools_before c.requires.in_order i below p (λ d. get_or_default pools i d p below ∙ sym c.index.ensures) in
     let more = AreGathered-more c.loop-place.invariant p c.iter_blocks.result behind (walked p) begins ends c.iter_blocks.ensures.blocks in
     let given = YieldsList-from_shown (TakesFirst (λ (b : Block). b)) (λ b. b) (λ bs. bs) (λ x t h. ap length h.0) (λ x b t h. h) c.iter_blocks.result in
     let collected : c.in_ok-blocks.blocks.items ≡ c.iter_blocks.result = items_from_collect {E = Unit {0}} (Ok c.in_ok-blocks.blocks) c.in_ok-blocks.ensures.ran given in
@@ -41,8 +41,8 @@ loop-place-preserved g c =
 
 pub returns : goal.returns
 returns g c =
-    let (s, at) = c.requires in
-    let pools = c.args.tables.now.pools.items in
+    let (s, at) = c.requires.state in
+    let pools = c.args.tables.now.pools.ranges.items in
     let bs = c.loop-place.all.items in
     let all : take c.loop-place.place pools ≡ pools = take_all c.loop-place.place pools (omega (arith, c.loop-place-test.false, c.len-place-end.ensures)) in
     let gathered = subst (λ l. AreGathered c.args.tlsf.now.state l bs) all c.loop-place.invariant in

@@ -8,9 +8,9 @@ use Rattle.rlsf_trace_common.proofs.prints.print_run.Goals as goal
 
 pub loop-op-init : goal.loop-op-init
 loop-op-init g c =
-    let (no_names, no_pools) = c.in_ok-tables.ensures.empty in
+    let (no_names, no_pools, no_runs) = c.in_ok-tables.ensures.empty in
     let stands = subst (IsInState g.row.FLLEN g.row.SLLEN c.args.tlsf.now) c.requires (in_state g.row.FLLEN g.row.SLLEN c.args.tlsf.now c.memory_ref.ensures.stands) in
-    IsPrinting-beginning (IsAt-beginning stands no_names no_pools) refl _ c.new-text.ensures.bytes
+    IsPrinting-beginning (IsAt-beginning stands no_names no_pools no_runs) refl _ c.new-text.ensures.bytes
 
 pub step-answer-requires : goal.step-answer-requires
 step-answer-requires g c = (

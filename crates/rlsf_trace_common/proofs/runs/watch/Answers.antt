@@ -2,15 +2,15 @@ use Rattle.std.proofs.Common.{arith, refl, sym, ◌∙◌, subst}
 use Rattle.std.proofs.lemmas.List.{get_or_default}
 use Rattle.rlsf_tlsf.specs.Allocator.{IsInState}
 use Rattle.rlsf_tlsf.proofs.Standing.{in_state}
-use Rattle.rlsf_trace_runs.proofs.RunStates.{IsAt-beginning}
+use Rattle.rlsf_trace_runs.proofs.RunStates.{IsAt-beginning, IsAt-sorted}
 use Rattle.rlsf_trace_common.proofs.Passing.{all_blocks_of, IsPassing-beginning, IsPassing-next, IsPassing-told, Passes-end}
 use Rattle.rlsf_trace_common.proofs.runs.watch.Goals as goal
 
 pub loop-op-init : goal.loop-op-init
 loop-op-init g c =
-    let (no_names, no_pools) = c.in_ok-tables.ensures.empty in
+    let (no_names, no_pools, no_runs) = c.in_ok-tables.ensures.empty in
     let stands = subst (IsInState g.row.FLLEN g.row.SLLEN c.args.tlsf.now) c.requires (in_state g.row.FLLEN g.row.SLLEN c.args.tlsf.now c.memory_ref.ensures.stands) in
-    let begun = IsPassing-beginning {ops = c.args.ops.now} (IsAt-beginning stands no_names no_pools) refl refl c.in_ok-tables.ensures.room in
+    let begun = IsPassing-beginning {ops = c.args.ops.now} (IsAt-beginning stands no_names no_pools no_runs) refl refl c.in_ok-tables.ensures.room in
     (IsPassing-told begun (sym c.new-answers.ensures.items) (sym c.new-moments.ensures.items), omega arith, omega arith)
 
 pub loop-op-preserved : goal.loop-op-preserved
@@ -22,6 +22,16 @@ loop-op-preserved g c =
       IsPassing-told next (sym c.in-Ok.ensures.items) (sym c.in-Ok-push.ensures.items),
       omega (arith, live, c.watched_step-answer.ensures.few),
       omega (arith, usable, c.watched_step-answer.ensures.few),
+    )
+
+pub all_blocks-requires : goal.all_blocks-requires
+all_blocks-requires g c =
+    let (w, _, _) = c.loop-op.invariant in (
+      omega arith,
+      (
+        (w.state, IsAt-sorted w.at c.sort_pools.ensures.names c.sort_pools.ensures.pools c.sort_pools.ensures.in_runs),
+        c.sort_pools.ensures.in_order,
+      ),
     )
 
 pub returns : goal.returns

@@ -15,7 +15,7 @@ use Rattle.rlsf_trace_runs.specs.Runs.{MayInsert, RunState, with_pool}
 use Rattle.rlsf_trace_runs.specs.Steps.Tables.{IsAt}
 use Rattle.rlsf_trace_runs.proofs.NewPools.{pool_bounds}
 use Rattle.rlsf_trace_runs.proofs.NamedPayloads.{LeadsOn-nothing, room_left}
-use Rattle.rlsf_trace_runs.proofs.RunStates.{IsAt-inserted, IsAt-not_inserted, IsFresh-MayInsert, IsVacant-tables, MayInsert-tested, new_pool}
+use Rattle.rlsf_trace_runs.proofs.RunStates.{IsAt-inserted, IsAt-not_inserted, IsFresh-MayInsert, IsVacant-tables, MayInsert-tested}
 use Rattle.rlsf_trace_runs.proofs.runs.insert.Goals as goal
 
 pub insert_free_block_ptr-taken-requires : goal.insert_free_block_ptr-taken-requires
@@ -37,12 +37,7 @@ pool_of-requires g c =
 pub add_pool-requires : goal.add_pool-requires
 add_pool-requires g c =
     let (s, at) = c.requires.state in
-    let may = MayInsert-tested at c.args.range refl (c.may_insert.ensures.vacant.0 c.if-not-may_insert.false) in
-    let (t, step, stands, _) =
-    stepped at.stands c.insert_free_block_ptr-taken.new.self (λ x. Inserts g.row.FLLEN x c.args.range (Some (non_zero_usize_get c.in-Some.len))) c.in-Some.ensures.step in
-    let pool = subst (λ n. c.pool_of.result ≡ between (round32 c.args.range.start) (c.args.range.start + n)) c.get.ensures.value c.pool_of.ensures in
-    let (some, apart) = new_pool at c.args.range c.pool_of.result (non_zero_usize_get c.in-Some.len) t may step stands.stands.well_formed pool in
-    record { room = c.requires.room; in_order = at.in_order; some = some; apart = apart }
+    record { room = c.requires.room; in_runs = at.in_runs }
 
 pub returns-in-Some : goal.returns-in-Some
 returns-in-Some g c = record {
@@ -53,8 +48,8 @@ returns-in-Some g c = record {
       let pool = subst (λ n. c.pool_of.result ≡ between (round32 c.args.range.start) (c.args.range.start + n)) c.get.ensures.value c.pool_of.ensures in (
         _,
         (may, t, step, refl),
-        IsAt-inserted at c.in-Some.ensures.place t stands c.args.range c.pool_of.result (non_zero_usize_get c.in-Some.len) step may.lies_in pool c.add_pool.ensures.names
-            c.add_pool.ensures.pools c.add_pool.ensures.in_order,
+        IsAt-inserted at c.in-Some.ensures.place t stands c.args.range c.pool_of.result (non_zero_usize_get c.in-Some.len) step may pool c.add_pool.ensures.names
+            c.add_pool.ensures.pools c.add_pool.ensures.in_runs,
         keeps,
       );
   room = search rules;

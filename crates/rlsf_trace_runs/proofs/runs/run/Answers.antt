@@ -12,9 +12,9 @@ use Rattle.rlsf_trace_runs.proofs.runs.run.Goals as goal
 
 pub loop-op-init : goal.loop-op-init
 loop-op-init g c =
-    let (no_names, no_pools) = c.in_ok-tables.ensures.empty in
+    let (no_names, no_pools, no_runs) = c.in_ok-tables.ensures.empty in
     let stands = subst (IsInState g.row.FLLEN g.row.SLLEN c.args.tlsf.now) c.requires (in_state g.row.FLLEN g.row.SLLEN c.args.tlsf.now c.memory_ref.ensures.stands) in
-    let begun = IsUnderway-beginning {ops = c.args.ops.now} (IsAt-beginning stands no_names no_pools) refl c.in_ok-tables.ensures.room in
+    let begun = IsUnderway-beginning {ops = c.args.ops.now} (IsAt-beginning stands no_names no_pools no_runs) refl c.in_ok-tables.ensures.room in
     (([], c.try_reserve.ensures.items ∙ sym (append-nil c.args.answers.now.items), begun), omega (arith, c.in_ok-try_reserve.ensures.ok))
 
 pub loop-op-preserved : goal.loop-op-preserved

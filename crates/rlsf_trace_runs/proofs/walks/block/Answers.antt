@@ -50,10 +50,15 @@ returns-in-None g c = λ s at.
     let is = nth-list c.args.index bs c.nth.new.self c.nth.result c.nth.ensures.ran in
     LeadsOn-nothing at (Block r c.args.index) (Told None) (may, bs, are, ap (option_map told_of) (sym c.in-None.is ∙ is), refl)
 
-pub may_walk-requires-clause-in_order : goal.may_walk-requires-clause-in_order
-may_walk-requires-clause-in_order g c =
+pub may_walk-requires-clause-in_runs : goal.may_walk-requires-clause-in_runs
+may_walk-requires-clause-in_runs g c =
     let (s, at) = c.requires in
-    at.in_order
+    at.in_runs
+
+pub may_walk-requires-clause-apart : goal.may_walk-requires-clause-apart
+may_walk-requires-clause-apart g c =
+    let (s, at) = c.requires in
+    at.apart
 
 pub may_walk-requires-clause-addressable : goal.may_walk-requires-clause-addressable
 may_walk-requires-clause-addressable g c =
