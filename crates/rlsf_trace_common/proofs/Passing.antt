@@ -1,6 +1,6 @@
 -- A run that is watched and has done the first of its ops.
 use mathlib.Core.Path.{ap₂}
-use Rattle.std.proofs.Common.{◌≡◌, ℕ, ◌+◌, ◌-◌, ◌<◌, ◌≤◌, ◌++◌, length, map, List, [], ◌∷◌, slice_index_or, arith, refl, sym, ◌∙◌, ap}
+use Rattle.std.proofs.Common.{◌≡◌, ℕ, ◌+◌, ◌<◌, ◌≤◌, ◌++◌, length, map, List, [], ◌∷◌, slice_index_or, refl, sym, ◌∙◌, ap}
 use Rattle.std.proofs.Common.{subst}
 use Rattle.std.proofs.Math.ListN.{drop, drop_of_length-le}
 use Rattle.std.proofs.lemmas.List.{append_assoc, append-nil, at_drop_more}
@@ -12,7 +12,7 @@ use Rattle.rlsf_trace_text.specs.declared.op.Answer.{Answer}
 use Rattle.rlsf_trace_text.specs.declared.op.Op.{Op}
 use Rattle.rlsf_trace_runs.specs.declared.tables.Tables.{Tables}
 use Rattle.rlsf_trace_runs.specs.Runs.{beginning, Does, RunState}
-use Rattle.rlsf_trace_runs.specs.Steps.Tables.{HasRoom, IsAt}
+use Rattle.rlsf_trace_runs.specs.Steps.Tables.{IsAt}
 use Rattle.rlsf_trace_common.specs.declared.moments.Moment.{Moment}
 use Rattle.rlsf_trace_common.specs.Moments.{last_of, moment_of, Passes}
 use Rattle.rlsf_trace_common.specs.Steps.Changes.{LeadsWatched}
@@ -25,7 +25,7 @@ map-push : (us : List RunState) (u : RunState) → map moment_of (us ++ u ∷ []
 map-push [] u = refl
 map-push (x ∷ xs) u = ap (λ l. moment_of x ∷ l) (map-push xs u)
 
--- the first ops were done, with one answer and one moment each, and there is room for the others
+-- the first ops were done, with one answer and one moment each
 pub record IsPassing (fllen sllen : ℕ) (m : Space) (ops : List Op) (v : Allocator) (tables : Tables) (moment : Moment) (done : ℕ) (given : List Answer)
     (told : List Moment) : Type 0 where
   pub states : List RunState
@@ -37,13 +37,12 @@ pub record IsPassing (fllen sllen : ℕ) (m : Space) (ops : List Op) (v : Alloca
       → Passes fllen sllen (range_of m) beginning ops (given ++ more) (states ++ us)
   pub moments : told ≡ map moment_of states
   pub place : SamePlace m v.memory
-  pub room : HasRoom tables (length ops - done)
 
 module _ {fllen sllen : ℕ} {m : Space} {ops : List Op} {v : Allocator} {tables : Tables} {moment : Moment} where
   -- at the beginning
-  pub IsPassing-beginning : IsAt fllen sllen v tables beginning → m ≡ v.memory → moment ≡ moment_of beginning → HasRoom tables (length ops)
+  pub IsPassing-beginning : IsAt fllen sllen v tables beginning → m ≡ v.memory → moment ≡ moment_of beginning
       → IsPassing fllen sllen m ops v tables moment 0 [] []
-  IsPassing-beginning at same now room = record {
+  IsPassing-beginning at same now = record {
     states = [];
     state = beginning;
     last = refl;
@@ -52,21 +51,17 @@ module _ {fllen sllen : ℕ} {m : Space} {ops : List Op} {v : Allocator} {tables
     leads = λ more us passes. passes;
     moments = refl;
     place = (sym (ap (λ x. x.start) same), sym (ap (λ x. length x.bytes) same), sym (ap (λ x. x.view) same), λ none. sym (ap (λ x. x.out) same) ∙ none);
-    room = subst (HasRoom tables) whole room;
   }
-    where
-      whole : length ops ≡ length ops - 0
-      whole = omega arith
 
-  -- one op more
+  -- one op more, after more room was made
   pub IsPassing-next : {done : ℕ} {given : List Answer} {told : List Moment} (w : IsPassing fllen sllen m ops v tables moment done given told) (op : Op)
       → ((d : Op) → op ≡ slice_index_or ops done d) → done < length ops
-      → (answer : Answer) (after : Moment) (w2 : Allocator) (new : Tables)
-      → ((s : RunState) → IsAt fllen sllen v tables s → LeadsWatched fllen sllen v s op moment answer after w2 new)
-      → ((n : ℕ) → HasRoom tables (n + 1) → HasRoom new n) → SamePlace v.memory w2.memory
+      → (answer : Answer) (after : Moment) (w2 : Allocator) (roomy new : Tables) → ((s : RunState) → IsAt fllen sllen v tables s → IsAt fllen sllen v roomy s)
+      → ((s : RunState) → IsAt fllen sllen v roomy s → LeadsWatched fllen sllen v s op moment answer after w2 new)
+      → SamePlace v.memory w2.memory
       → IsPassing fllen sllen m ops w2 new after (done + 1) (given ++ answer ∷ []) (told ++ after ∷ [])
-  IsPassing-next {done} {given} {told} w op is below answer after w2 new does room place =
-      let (t, step, at, tells) = does w.state w.at in
+  IsPassing-next {done} {given} {told} w op is below answer after w2 roomy new makes_room does place =
+      let (t, step, at, tells) = does w.state (makes_room w.state w.at) in
       let here = subst (λ r. Does fllen sllen r w.state op answer t) same step in
       let now = tells w.now in
       record {
@@ -81,7 +76,6 @@ module _ {fllen sllen : ℕ} {m : Space} {ops : List Op} {v : Allocator} {tables
             (w.leads (answer ∷ more) (t ∷ us) (subst (λ l. Passes fllen sllen (range_of m) w.state l (answer ∷ more) (t ∷ us)) (sym left_ops) (here, passes))));
         moments = ap₂ (λ l x. l ++ x ∷ []) w.moments now ∙ sym (map-push w.states t);
         place = (place.0 ∙ w.place.0, place.1 ∙ w.place.1, place.2 ∙ w.place.2, λ none. place.3 (w.place.3 none));
-        room = room (length ops - (done + 1)) (subst (HasRoom tables) left w.room);
       }
     where
       same : range_of v.memory ≡ range_of m
@@ -89,9 +83,6 @@ module _ {fllen sllen : ℕ} {m : Space} {ops : List Op} {v : Allocator} {tables
 
       left_ops : drop done ops ≡ op ∷ drop (done + 1) ops
       left_ops = at_drop_more (λ l. l) ops done op below ∙ ap (λ o. o ∷ drop (done + 1) ops) (sym (is op))
-
-      left : length ops - done ≡ length ops - (done + 1) + 1
-      left = omega arith
 
   -- at the end
   pub Passes-end : {done : ℕ} {given : List Answer} {told : List Moment} (w : IsPassing fllen sllen m ops v tables moment done given told) → length ops ≤ done

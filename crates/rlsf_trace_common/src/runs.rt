@@ -26,7 +26,7 @@ pub struct Watched {
 }
 
 /// Does the ops one after another, as `run` does, with an allocator without chunks. Returns what it held after each op, and its
-/// blocks at the end.
+/// blocks at the end. The tables have room for the names and the pools that there are.
 ///
 /// The error is `OutOfMemory` if there is no memory for the result or the run's own tables. No clause says that it has no other
 /// cause.
@@ -40,11 +40,12 @@ pub fn watch<FLBitmap: BitPattern, SLBitmap: BitPattern, const FLLEN: usize, con
 {
     // What `memory_ref` says of every allocator: its memory and its class table represent its state.
     let _ = tlsf.memory_ref();
-    let mut tables = Tables::with_room(alloc, ops.len())?;
+    let mut tables = Tables::with_room(alloc, 0)?;
     let mut answers = Vec::new(alloc);
     let mut moments = Vec::new(alloc);
     let mut moment = Moment { live: 0, usable: 0 };
     for op in ops {
+        tables.make_room()?;
         let (answer, after) = watched_step(tlsf, &mut tables, *op, moment);
         let Ok(()) = answers.push(answer) else {
             return Err(RunError::OutOfMemory);
