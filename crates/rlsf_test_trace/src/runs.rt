@@ -1,5 +1,6 @@
 //! Runs: what their ops answer. Most are traces, whose texts have one op a line; the others are calls of `run`.
 
+mod pools;
 mod random;
 
 use crate::answers::all;
