@@ -1,8 +1,9 @@
 /* Makes calls of malloc, realloc and free in a fixed order, to measure whichever allocator the program runs with. tools/measure builds it
- * in three ways and runs it:
+ * in four ways and runs it:
  *
  *     loads LOAD CALLS THREADS               makes the calls, in each of some threads; prints how many there were, and what failed
  *     loads LOAD CALLS touched|fresh FILE    (-DTIMED) writes to a file how long each call took, in ticks of the processor's counter
+ *     loads LOAD CALLS touched|fresh FILE    (-DSTEPPED) makes many calls, then writes how many instructions each of CALLS more executed
  *     loads LOAD CALLS touched|fresh N..     (-DCOUNTED, under callgrind) dumps what each of the calls number N.. executed, from 0
  *     loads live:N CALLS count               (-DCOUNTED, under callgrind) makes many calls, then turns the counting on and makes CALLS more
  *
@@ -60,7 +61,7 @@ static double now(void) {
     return (double)time.tv_sec + (double)time.tv_nsec * 1e-9;
 }
 
-#ifdef COUNTED
+#if defined COUNTED || defined STEPPED
 /* Makes so many calls that what was there at the start no longer matters. */
 static void settle(struct run *run) {
     make_calls(run, 10000 + 4 * run->slot_count);
@@ -100,6 +101,26 @@ static void touch(const char *load, size_t calls) {
     end_run(&before);
 }
 
+#if defined TIMED || defined STEPPED
+static void write_ticks(const struct run *run, size_t calls, const char *path) {
+    FILE *file = fopen(path, "wb");
+    if (!file || fwrite(run->ticks, sizeof *run->ticks, calls, file) != calls || fclose(file)) abort();
+}
+#endif
+
+#ifdef STEPPED
+static void run_stepped(const char *load, size_t calls, const char *path) {
+    struct run run = {0};
+    begin_run(&run, load, 0);
+    settle(&run);
+    run.ticks = own_memory(calls * sizeof *run.ticks);
+    begin_steps();
+    make_calls(&run, calls);
+    report(&run, 0);
+    write_ticks(&run, calls, path);
+}
+#endif
+
 #ifdef TIMED
 /* The least ticks between two looks at the counter. */
 static uint64_t empty_ticks(void) {
@@ -112,16 +133,16 @@ static uint64_t empty_ticks(void) {
 }
 
 static void run_timed(const char *load, size_t calls, const char *path) {
-    struct run run = {.ticks = own_memory(calls * sizeof *run.ticks)};
+    struct run run = {0};
     begin_run(&run, load, 0);
+    run.ticks = own_memory(calls * sizeof *run.ticks);
     double begun = now();
     uint64_t from = ticks();
     make_calls(&run, calls);
     uint64_t taken = ticks() - from;
     fprintf(stderr, "%.0f ticks a second, %lu ticks to look\n", (double)taken / (now() - begun), (unsigned long)empty_ticks());
     report(&run, 0);
-    FILE *file = fopen(path, "wb");
-    if (!file || fwrite(run.ticks, sizeof *run.ticks, calls, file) != calls || fclose(file)) abort();
+    write_ticks(&run, calls, path);
 }
 #endif
 
@@ -151,7 +172,9 @@ int main(int count, char **words) {
     void *volatile first = malloc(1);
     free(first);
     if (!strcmp(words[3], "touched")) touch(load, calls);
-#ifdef TIMED
+#ifdef STEPPED
+    run_stepped(load, calls, words[4]);
+#elif defined TIMED
     run_timed(load, calls, words[4]);
 #elif defined COUNTED
     if (strcmp(words[3], "count")) run_dumped(load, calls, words + 4);

@@ -5,13 +5,18 @@
 #include <stdint.h>
 #include <stdlib.h>
 #include <string.h>
-#ifdef TIMED
+#ifdef STEPPED
+#include "stepped.h"
+#elif defined TIMED
 #if defined __x86_64__
 #include <x86intrin.h>
 #else
 #include <time.h>
 #endif
 #endif
+
+/* More bytes than all caches of a core hold. */
+enum { OTHERS = 48 << 20 };
 
 /* A place for a payload, which is empty if `at` is null. */
 struct slot {
@@ -30,6 +35,7 @@ struct run {
     size_t refused;
     size_t wrong;
     uint32_t *ticks; /* how long each call took, if that is measured */
+    unsigned char *others; /* memory that is written before each call, so that nothing else is in the caches; null in most loads */
 };
 
 void *own_memory(size_t len);
@@ -39,9 +45,12 @@ static inline uint32_t draw(struct run *run) {
     return (uint32_t)(run->state >> 33);
 }
 
-/* The time, in the unit that is finest here. On an x86-64 these are the ticks of a counter of constant speed. */
+/* The time, in the unit that is finest here. On an x86-64 these are the ticks of a counter of constant speed. With -DSTEPPED it is the number
+ * of instructions that were counted. */
 static inline uint64_t ticks(void) {
-#ifndef TIMED
+#ifdef STEPPED
+    return steps;
+#elif !defined TIMED
     return 0;
 #elif defined __x86_64__
     _mm_lfence();
@@ -66,9 +75,18 @@ static inline void note(struct run *run, uint64_t begun) {
 #else
 #define CALL static inline
 #endif
+#ifdef STEPPED
+CALL void *counted_malloc(size_t size) { return stepping ? in_steps((size_t)malloc, size, 0) : malloc(size); }
+CALL void *counted_realloc(void *at, size_t size) { return stepping ? in_steps((size_t)realloc, (size_t)at, size) : realloc(at, size); }
+CALL void counted_free(void *at) {
+    if (stepping) in_steps((size_t)free, (size_t)at, 0);
+    else free(at);
+}
+#else
 CALL void *counted_malloc(size_t size) { return malloc(size); }
 CALL void *counted_realloc(void *at, size_t size) { return realloc(at, size); }
 CALL void counted_free(void *at) { free(at); }
+#endif
 
 static inline void mark(struct slot *slot) {
     slot->at[0] = (unsigned char)slot->size;
@@ -143,6 +161,38 @@ static void step_vectors(struct run *run) {
     else resize(run, slot, 2 * slot->size);
 }
 
+/* Grows the payload of a random slot by `realloc`, from 16 bytes on, and frees it when it has more than 200. Only the calls of `realloc` are
+ * measured. */
+static void grow(struct run *run, size_t times, size_t more) {
+    struct slot *slot = &run->slots[draw(run) % run->slot_count];
+    if (slot->at && slot->size <= 200) {
+        resize(run, slot, times * slot->size + more);
+        return;
+    }
+    if (slot->at) empty(run, slot);
+    else fill(run, slot, 16);
+    if (run->ticks) run->ticks[run->call] = 0;
+}
+static void step_byte(struct run *run) { grow(run, 1, 1); }
+static void step_word(struct run *run) { grow(run, 1, 8); }
+static void step_double(struct run *run) { grow(run, 2, 0); }
+
+/* A step of `small` that finds empty caches. The payload isn't read before it is freed, since its header lies beside it. */
+static void step_cold(struct run *run) {
+    struct slot *slot = &run->slots[draw(run) % run->slot_count];
+    size_t size = draw(run) % 512 + 1;
+    if (run->ticks)
+        for (size_t at = 0; at < OTHERS; at += 64) run->others[at]++;
+    if (!slot->at) {
+        fill(run, slot, size);
+        return;
+    }
+    uint64_t begun = ticks();
+    counted_free(slot->at);
+    note(run, begun);
+    slot->at = NULL;
+}
+
 /* Fills all slots, and frees each second one: what is freed lies between payloads that stay. */
 static void fill_apart(struct run *run) {
     for (size_t n = 0; n < 2 * run->slot_count; n++) {
@@ -162,11 +212,15 @@ static const struct load {
     {"all", step_all, 20000, 0},
     {"freed", step_freed, 20001, 0},
     {"vectors", step_vectors, 3000, 0},
+    {"byte", step_byte, 1000, 0},
+    {"word", step_word, 1000, 0},
+    {"double", step_double, 1000, 0},
     {"fragmented", step_small, 200000, 1},
     {"live:", step_small, 0, 1},
+    {"cold:", step_cold, 0, 1},
 };
 
-/* Begins a load, in a thread with a number. The load live:N has N live payloads, or some more or less. */
+/* Begins a load, in a thread with a number. The loads live:N and cold:N have N live payloads, or some more or less. */
 static void begin_run(struct run *run, const char *name, size_t thread) {
     const struct load *load = loads;
     while (load < loads + sizeof loads / sizeof *loads && strncmp(name, load->name, strlen(load->name))) load++;
@@ -174,8 +228,10 @@ static void begin_run(struct run *run, const char *name, size_t thread) {
     run->step = load->step;
     run->slot_count = load->slots ? load->slots : 2 * strtoul(name + 5, NULL, 10);
     run->slots = own_memory(run->slot_count * sizeof *run->slots);
+    run->others = load->step == step_cold ? own_memory(OTHERS) : NULL;
     run->state = 12345 + thread;
     if (load->apart) fill_apart(run);
+    for (size_t n = 0; run->others && n < 4 * run->slot_count; n++) run->step(run);
     run->calls = 0;
 }
 

@@ -1,0 +1,58 @@
+/* Counts the instructions of single calls, by the processor's trap flag: while it is set, each instruction ends in a trap, and a signal
+ * handler counts it. The count has all instructions of the called function and of those that it calls, up to its return. It has none of the
+ * kernel's, and each round of a repeated instruction (`rep stos`). Only for x86-64. */
+#ifndef STEPPED_H
+#define STEPPED_H
+
+#include <signal.h>
+#include <stddef.h>
+#include <stdlib.h>
+
+void *own_memory(size_t len);
+
+enum { HANDLER_STACK = 1 << 16 };
+
+static volatile size_t steps;
+static size_t steps_beside; /* what is counted of a call beside the called function */
+static int stepping;
+
+/* Calls a function with two numbers, and sets the trap flag meanwhile. */
+size_t call_in_steps(size_t first, size_t second, size_t function);
+void return_at_once(void);
+__asm__(".text\n"
+        "call_in_steps:\n"
+        "    sub $8, %rsp\n"
+        "    pushfq\n"
+        "    orq $0x100, (%rsp)\n"
+        "    popfq\n"
+        "    call *%rdx\n"
+        "    pushfq\n"
+        "    andq $~0x100, (%rsp)\n"
+        "    popfq\n"
+        "    add $8, %rsp\n"
+        "    ret\n"
+        "return_at_once:\n"
+        "    ret\n");
+
+static void on_step(int number) {
+    (void)number;
+    steps++;
+}
+
+/* The calls that are made from now on are counted. */
+static void begin_steps(void) {
+    stack_t stack = {.ss_sp = own_memory(HANDLER_STACK), .ss_size = HANDLER_STACK};
+    struct sigaction action = {.sa_handler = on_step, .sa_flags = SA_ONSTACK};
+    if (sigaltstack(&stack, NULL) || sigaction(SIGTRAP, &action, NULL)) abort();
+    call_in_steps(0, 0, (size_t)return_at_once);
+    steps_beside = steps - 1;
+    stepping = 1;
+}
+
+static inline void *in_steps(size_t function, size_t first, size_t second) {
+    size_t result = call_in_steps(first, second, function);
+    steps -= steps_beside;
+    return (void *)result;
+}
+
+#endif
