@@ -7,10 +7,9 @@ import pathlib
 from measuring.allocators import chosen, example, others, pools
 from measuring.latency import Times, print_table, shown, summary
 
-LIVE = 10_000
-
 
 def add_words(parser):
+    parser.add_argument("--live", type=int, default=10_000, help="how many payloads are live")
     parser.add_argument("--calls", type=int, default=1_000, help="how many calls are measured")
     parser.add_argument("--runs", type=int, default=3, help="how often each is run")
 
@@ -20,7 +19,7 @@ def measure(options, folder: pathlib.Path):
         options.calls, options.runs = 20, 1
     program, rows, found = example(folder, "loads.c", "loads_timed", "-DTIMED", "-lpthread"), {}, None
     for allocator in chosen(options, pools(options, folder, "-DTOUCHED") + others()):
-        found = Times(program, allocator, f"cold:{LIVE}", "touched", options, folder)
+        found = Times(program, allocator, f"cold:{options.live}", "touched", options, folder)
         rows[allocator.name] = summary(found.nanoseconds())
-    print_table(f"cold caches, {LIVE:,} live payloads, 1 to 512 bytes", rows, {})
+    print_table(f"cold caches, {options.live:,} live payloads, 1 to 512 bytes", rows, {})
     print(f"\neach time includes {shown(found.empty * 1e9 / found.rate)} in which the counter is read")
