@@ -111,9 +111,9 @@ class Code:
         behind = self.behind.get(instruction.address)
         if instruction.name in RETURNS | STOPS:
             return []
-        if instruction.is_jump() or instruction.is_call():
-            if instruction.target() is None and not self.outside(instruction):
-                raise Refused(f"an indirect {'call' if instruction.is_call() else 'jump'} at {instruction.address:x} in {self.function(instruction.address)}")
+        if (instruction.is_jump() or instruction.is_call()) and instruction.target() is None and not self.outside(instruction):
+            kind = "call" if instruction.is_call() else "jump"
+            raise Refused(f"an indirect {kind} at {instruction.address:x} in {self.function(instruction.address)}")
         if instruction.is_jump():
             on = [behind] if instruction.name not in ("jmp", "jmpq") else []
             return on if self.outside(instruction) else [instruction.target(), *on]
