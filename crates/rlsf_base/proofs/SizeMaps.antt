@@ -1,5 +1,6 @@
 -- What the functions of sizes compute.
 pub mod ChunkLengths
+pub mod Doubled
 pub mod Laws
 pub mod Masks
 pub mod PoolSizes

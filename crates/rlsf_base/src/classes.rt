@@ -10,7 +10,7 @@
 //! in the row. If its condition holds, no function panics or refuses its arguments. No function asks the system for
 //! memory, and each does constant work.
 
-ghost use Rattle.std.specs.Prelude.{◌≡◌, ◌%◌, ◌^◌, ◌<◌, ◌≤◌, ◌+◌, ◌*◌, ◌-◌, IsTrue, IfSome, IfNone, MatchOption};
+ghost use Rattle.std.specs.Prelude.{◌≡◌, ◌/◌, ℕ, ◌%◌, ◌^◌, ◌<◌, ◌≤◌, ◌+◌, ◌*◌, ◌-◌, IsTrue, IfSome, IfNone, MatchOption};
 ghost use Rattle.rlsf_base.specs.ClassLaws.{MappedIsFirstReaching, UnmappedIsEnough, UnmappedBeginsItsClass, UnreachedIsNotUnmapped, LongestBlockHasAClass, PoolIsOneChunk, PoolContainsItsAllocation};
 ghost use Rattle.rlsf_base.specs.SearchStart.{IsSearchStart, NoneReaches};
 ghost use Rattle.rlsf_base.specs.SizeClass.{SizeClass, IsValid, is_row_length, class_of, class_start, reaching_class};
@@ -251,6 +251,32 @@ pub fn class_of<const SLLEN: usize>(size: usize) -> (usize, usize)
     let leading = size.leading_zeros();
     let parts = (size << leading) >> (63 - SLLEN.trailing_zeros());
     (58 - leading as usize, parts - SLLEN)
+}
+
+/// Returns the class of a block of `size` bytes, as `class_of` does, in fewer instructions.
+///
+/// `size` must be at least 32, and below `2^59`, as each block of a memory is. `SLLEN` must be a power of two, at most 128.
+// An odd number isn't 0, so the compiler leaves out a test for 0 before it looks for the highest one.
+pub fn class_of_block<const SLLEN: usize>(size: usize) -> (usize, usize)
+    requires parameters { IsTrue (is_row_length SLLEN) }
+    requires size { (32 ≤ size) × (size < 2 ^ 59) }
+    ensures { result ≡ sizes.indices (class_of SLLEN size) }
+{
+    let row = (2 * size + 1).ilog2() as usize - 6;
+    (row, (scaled::<SLLEN>(size) >> row) - SLLEN)
+}
+
+// A size of the first row as a number of that row's classes. Halved for each row behind the first, that of any size is SLLEN + place.
+fn scaled<const SLLEN: usize>(size: usize) -> usize
+    requires parameters { IsTrue (is_row_length SLLEN) }
+    requires size { size < 2 ^ 59 }
+    ensures { (k : ℕ) → 5 ≤ k → result / 2 ^ (k - 5) ≡ size * SLLEN / 2 ^ k }
+{
+    if SLLEN >= 32 {
+        size * (SLLEN / 32)
+    } else {
+        size / (32 / SLLEN)
+    }
 }
 
 // The first class that reaches a size. At 2 * SLLEN parts the next row begins, at its first place. There is no branch here, since

@@ -154,6 +154,13 @@ impl OpenMemory {
         self.len_and_skip / 32
     }
 
+    /// Does nothing. Its contract states that a memory has fewer than `2^59` bytes.
+    pub fn is_below_limit(&self)
+        ensures { length self.now.bytes < 2 ^ 59 }
+    {
+        let _ = &self.len_and_skip;
+    }
+
     /// Returns a view of the memory. It stays a view of this memory, whatever is written there.
     pub fn view(&self) -> View
         ensures { result ≡ self.now.view }
