@@ -12,7 +12,7 @@ ghost use Rattle.rlsf_table.specs.FreeTable.{AtEachListed, AtEachNewest, AtEachR
 
 use crate::block_words::{NEXT_FREE, PREVIOUS_FREE};
 use crate::table::{ClassIndex, ClassTable};
-use rlsf_base::classes::class_of;
+use rlsf_base::classes::class_of_block;
 use rlsf_base::memory::{OpenMemory, View};
 
 /// Returns the address of the link to the block before, which is written when the list from `first` on gets another front. It is in
@@ -96,7 +96,8 @@ pub fn link_free_block<const FLLEN: usize, const SLLEN: usize>(
     ensures step { AtEachRoom FLLEN SLLEN memory.old table.old block len (IsLinked FLLEN SLLEN memory.old memory.new table.new) }
     ensures costs { Costs memory.old memory.new 9 0 }
 {
-    let (fl, sl) = class_of::<SLLEN>(len);
+    memory.is_below_limit();
+    let (fl, sl) = class_of_block::<SLLEN>(len);
     let newest = table.head(memory, fl, sl);
     link_front(memory, view, newest, block);
     table.put(memory, fl, sl, block);
@@ -123,7 +124,8 @@ pub fn unlink_free_block<const FLLEN: usize, const SLLEN: usize>(
 {
     let newest = unlink_between(memory, view, block);
     if let Some(next) = newest {
-        let (fl, sl) = class_of::<SLLEN>(len);
+        memory.is_below_limit();
+        let (fl, sl) = class_of_block::<SLLEN>(len);
         table.take(memory, fl, sl, next);
     }
 }

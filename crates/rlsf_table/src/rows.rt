@@ -108,11 +108,16 @@ impl<const ROWS: usize, const PLACES: usize> Rows<ROWS, PLACES> {
         requires { (fl < ROWS) × (place < PLACES) × (PLACES ≤ 128) }
         ensures { IsFirstOne (scanned_places PLACES) (row_word PLACES self.now.low self.now.high fl) (place + 1) result }
     {
-        let start = place as u32 + 1;
         if PLACES <= 64 {
-            self.low[fl].bit_scan_forward(start) as usize
+            // All ones but the lowest, moved up: no place has to be tested.
+            let places = self.low[fl] & ((u64::MAX - 1) << place);
+            if places != 0 {
+                places.trailing_zeros() as usize
+            } else {
+                64
+            }
         } else {
-            self.both(fl).bit_scan_forward(start) as usize
+            self.both(fl).bit_scan_forward(place as u32 + 1) as usize
         }
     }
 

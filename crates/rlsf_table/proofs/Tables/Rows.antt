@@ -1,13 +1,14 @@
 -- The words of a table's rows: those of rows of 64 places or fewer, and those of longer rows.
 use Rattle.std.proofs.Common.{◌≡◌, ◌≢◌, ℕ, ◌-◌, ◌*◌, ◌%◌, ◌^◌, ◌<◌, ◌≤◌, bit_and, bit_or, ◌==◌, false, ◌||◌, List, Some, None}
-use Rattle.std.proofs.Common.{slice_index, slice_set, length, get_or-set_same, nat_le, arith, inl, inr, ◌∙◌, ap, sym, subst}
+use Rattle.std.proofs.Common.{slice_index, slice_set, length, get_or-set_same, nat_le, arith, inl, inr, ◌∙◌, ap, sym, subst, ◌+◌, suc}
 use Rattle.std.specs.Int.{Width, w64, w128, trailing_zeros}
 use mir.Val.{bits}
 use Rattle.std.specs.Int.Count.{trailing_of_zero}
-use Rattle.std.proofs.lemmas.Bool.{cond-true, cond-false, le-leb, lt-leb}
+use Rattle.std.proofs.lemmas.Bool.{cases_lt, cond-true, cond-false, le-leb, lt-leb}
 use Rattle.std.proofs.lemmas.List.FromFn.{get_or-map-range_with_len, length-map-range_with_len}
 use Rattle.std.proofs.lemmas.Nat.Bits.{bit_at-trailing_zeros}
-use Rattle.std.proofs.lemmas.Nat.{and_le_l}
+use Rattle.std.proofs.lemmas.Nat.{and_le_l, and_le_r}
+use Rattle.std.proofs.Math.Nat.{add-mul-mod_self_right, pow-suc}
 use Rattle.rlsf_base.specs.SearchStart.{CanBegin}
 use Rattle.rlsf_int.specs.Bits.{bit, IsFirstOne}
 use Rattle.rlsf_int.proofs.Unsigned as unsigned
@@ -115,6 +116,38 @@ module _ (sllen : ℕ) (low high : List ℕ) (fl : ℕ) (few : sllen ≤ 64) whe
       pub first_from-few_none : bit_and (slice_index low fl) ((2 ^ 64 - 1) * 2 ^ start % 2 ^ 64) ≡ 0 → IsFirstFrom sllen (row_word sllen low high fl) start None
       first_from-few_none none =
           subst (λ place. IsFirstOne (scanned_places sllen) (row_word sllen low high fl) start place) (trailing-none w64 _ none ∙ sym (scanned_places-few sllen few)) scan
+
+    -- behind a place, the ones are masked by all ones but the lowest, moved up to it
+    module _ (place : ℕ) (below : place < 64) where
+      mask : (2 ^ 64 - 2) * 2 ^ place % 2 ^ 64 ≡ (2 ^ 64 - 1) * 2 ^ (place + 1) % 2 ^ 64
+      mask =
+          let next : place + 1 ≡ suc place = omega arith in
+          let double : 2 ^ (place + 1) ≡ 2 * 2 ^ place = ap (λ n. 2 ^ n) next ∙ omega (arith, pow-suc 2 place) in
+          sym (add-mul-mod_self_right ((2 ^ 64 - 2) * 2 ^ place) (2 ^ place) (2 ^ 64)) ∙ ap (λ n. n % 2 ^ 64) (omega (arith, double))
+
+      last : place ≡ 63 → bit_and (slice_index low fl) ((2 ^ 64 - 2) * 2 ^ place % 2 ^ 64) ≡ 0
+      last is = ap (λ p. bit_and (slice_index low fl) ((2 ^ 64 - 2) * 2 ^ p % 2 ^ 64)) is ∙ omega (arith, and_le_r (slice_index low fl) 0)
+
+      scan_behind : IsFirstOne (scanned_places sllen) (row_word sllen low high fl) (place + 1)
+          (trailing_zeros w64 (bit_and (slice_index low fl) ((2 ^ 64 - 2) * 2 ^ place % 2 ^ 64)))
+      scan_behind = elim (cases_lt place 63) [
+        | inl less ↦
+            subst (λ m. IsFirstOne (scanned_places sllen) (row_word sllen low high fl) (place + 1) (trailing_zeros w64 (bit_and (slice_index low fl) m))) (sym mask)
+            (scanned-few (place + 1) _ (unsigned.first_one w64 (slice_index low fl) (place + 1) fits (omega arith)))
+        | inr most ↦
+            let is : place ≡ 63 = omega arith in
+            let all = scanned_places-few sllen few in
+            subst (λ a. IsFirstOne (scanned_places sllen) (row_word sllen low high fl) (place + 1) a) (sym (trailing-none w64 _ (last is)))
+            (record { none_before = λ i lo hi. absurd (omega (arith, lo, hi)); within = omega (arith, all); found = λ less. absurd (omega (arith, less, all)) })
+      ]
+
+      pub behind-few : IsFirstOne (scanned_places sllen) (row_word sllen low high fl) (place + 1)
+          (trailing_zeros w64 (bit_and (slice_index low fl) ((2 ^ 64 - 2) * 2 ^ place % 2 ^ 64)))
+      behind-few = scan_behind
+
+      pub behind-few_none : bit_and (slice_index low fl) ((2 ^ 64 - 2) * 2 ^ place % 2 ^ 64) ≡ 0
+          → IsFirstOne (scanned_places sllen) (row_word sllen low high fl) (place + 1) 64
+      behind-few_none none = subst (λ a. IsFirstOne (scanned_places sllen) (row_word sllen low high fl) (place + 1) a) (trailing-none w64 _ none) scan_behind
 
 -- ---- rows of two words, which are `word` as one
 

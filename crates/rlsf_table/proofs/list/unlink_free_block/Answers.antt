@@ -24,15 +24,15 @@ unlink_between-newest-requires-clause-listed g c =
       IsFreeList-of_class list fl sl at.row at.place,
     )
 
-pub class_of-fl-requires-clause-size : goal.class_of-fl-requires-clause-size
-class_of-fl-requires-clause-size g c =
+pub class_of_block-fl-requires-clause-size : goal.class_of_block-fl-requires-clause-size
+class_of_block-fl-requires-clause-size g c =
     let (r, free, place, len, i, list) = c.requires.listed in
-    omega (arith, len, room c.requires.parameters (list.blocks r i))
+    (omega (arith, len, room c.requires.parameters (list.blocks r i)), omega (arith, len, (list.placed r i).lies_in, c.in-Some.ensures.costs.length, c.is_below_limit.ensures))
 
 pub take-requires : goal.take-requires
 take-requires g c =
     let (r, free, place, len, i, list) = c.requires.listed in
-    let at = IsClassAt-told c.requires.parameters (list.blocks r i) c.args.len c.class_of-fl.result len c.class_of-fl.ensures in
+    let at = IsClassAt-told c.requires.parameters (list.blocks r i) c.args.len c.class_of_block-fl.result len c.class_of_block-fl.ensures in
     (omega arith, (c.requires.parameters, (at.row, at.place)))
 
 pub returns-in_default-clause-step : goal.returns-in_default-clause-step
@@ -53,11 +53,11 @@ returns-in-Some-clause-step g c =
     let sllen = g.row.SLLEN in
     let n = c.unlink_between-newest.new.memory in
     let o = c.take.new.memory in
-    let fl = c.class_of-fl.result.0 in
-    let sl = c.class_of-fl.result.1 in
+    let fl = c.class_of_block-fl.result.0 in
+    let sl = c.class_of_block-fl.result.1 in
     let next = c.in-Some.next in
     let block = list.blocks r (IsIn-append_right r before (r ∷ after) (inl refl)) in
-    let at = IsClassAt-told c.requires.parameters block c.args.len c.class_of-fl.result len c.class_of-fl.ensures in
+    let at = IsClassAt-told c.requires.parameters block c.args.len c.class_of_block-fl.result len c.class_of_block-fl.ensures in
     let (linked, rewrites) =
     c.in-Some.ensures.step (head_at c.args.table.now fl sl) r (of_class sllen fl sl before) (of_class sllen fl sl after) place (IsFreeList-amid before r after fl sl list at) in
     let is_head = IsHeadOf-removal before r after fl sl list at next linked rewrites in
