@@ -1,5 +1,6 @@
 -- A used block gets another size, in place or at another place.
-use Rattle.std.specs.Prelude.{◌≡◌, ℕ, ◌+◌, ◌<◌, ◌≤◌, Bool, true, List, ◌∷◌, ◌++◌, length, Option, None, Some, IfSome, MatchOption, find}
+use Rattle.std.specs.Prelude.{◌≡◌, ◌≢◌, ℕ, ◌+◌, ◌-◌, ◌<◌, ◌≤◌, Bool, true, List, ◌∷◌, ◌++◌, length, Option, None, Some, IfSome, MatchOption, find}
+use Rattle.std.specs.Int.{next_multiple_of}
 use Rattle.rlsf_base.specs.declared.memory.layout.Layout.{Layout}
 use Rattle.rlsf_base.specs.declared.memory.range.Range.{Range}
 use Rattle.rlsf_base.specs.Range.{end_of, range_at, LiesIn}
@@ -79,6 +80,16 @@ AtEachSpanRoom fllen sllen m t block len taken P =
 -- the bytes of a used block that are behind its end once its payload has so many bytes are the memory's own
 abbrev pub IsOwnedBehind : Space → Used → ℕ → Type 0
 IsOwnedBehind m u size = IsOwned m (between (end_of (resized u size)) (end_of u.block))
+
+-- the block of a used payload of that size reaches no farther than its own block and a free block behind it
+abbrev pub HasRoomBehind : State → Used → ℕ → Type 0
+HasRoomBehind s u size = end_of (resized u size) ≤ end_or (end_of u.block) (find (starts_at (end_of u.block)) s.free)
+
+-- the numbers are the length of the used block at `block`, and another one, which it gets with the size of its payload
+pub record IsStretched (m : Space) (block payload size len taken : ℕ) : Type 0 where
+  pub own : len + 1 ≡ word_at m block
+  pub wanted : taken ≡ next_multiple_of (payload - block + size) 32
+  pub other : taken ≢ len
 
 -- The words after a used block took the front of a span that was no block's. A rest of the span became the newest free block.
 -- Behind the first 16 bytes of the front no byte has changed, and the word that names the block before it stays

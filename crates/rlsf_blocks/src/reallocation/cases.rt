@@ -1,6 +1,6 @@
 //! A used block gets another size, without moving if possible.
 
-ghost use Rattle.std.specs.Prelude.{◌≡◌, ◌+◌, ◌≤◌, Some, IfNone, []};
+ghost use Rattle.std.specs.Prelude.{◌≡◌, ◌+◌, ◌≤◌, None, Some, IfNone, []};
 ghost use Rattle.rlsf_base.specs.SizeClass.{IsValid};
 ghost use Rattle.rlsf_base.specs.Space.{SamePlace};
 ghost use Rattle.rlsf_base.specs.OpenSpace.{IsHere, SameOwn, StaysHere};
@@ -16,6 +16,48 @@ use crate::reallocation::resize::resize_block;
 use rlsf_base::memory::{Layout, OpenMemory, View};
 use rlsf_table::ClassTable;
 
+/// Moves the payload at `payload`, in the used block at `block`, to a place of the size of `layout` in bytes: the free block before its
+/// own, else a newly allocated block.
+///
+/// The bytes of the block and of a free block behind it must not suffice, and `layout` must have the alignment of the payload. All
+/// usable bytes of the payload must be here: none is raw or out.
+///
+/// Returns the new address. If the allocation is refused, returns `None`, and no byte and no block changes.
+// Out of line, since it is long, and without a view: so a call that doesn't get here saves no register for it, and all of its
+// arguments are in registers.
+#[inline(never)]
+fn move_block<const FLLEN: usize, const SLLEN: usize, const WHOLE: usize>(
+    memory: &mut OpenMemory,
+    table: &mut ClassTable<FLLEN, SLLEN>,
+    block: usize,
+    payload: usize,
+    layout: Layout,
+) -> Option<usize>
+    requires parameters { IsValid 128 128 FLLEN SLLEN }
+    requires used { (s : State) × (u : Used) × StandsFor FLLEN SLLEN (contents memory.old table.old) s × IsUsedAt s u block payload layout.align
+        × (unmoved_plan s u layout.size ≡ None) × IsHere memory.old (usable u) }
+    requires whole { WHOLE ≡ 1 → memory.old.out ≡ [] }
+    ensures step { AtEachHere FLLEN SLLEN memory.old table.old block payload layout (λ s u. unmoved_plan s u layout.size ≡ None
+        → IsReallocated FLLEN SLLEN memory.old memory.new table.new s u layout.size result) }
+    ensures refused { IfNone result (memory.new.bytes ≡ memory.old.bytes) }
+    ensures place { SamePlace memory.old memory.new }
+    ensures touches { memory.new.touches ≤ memory.old.touches + 63 }
+    ensures grow { memory.old.touches ≤ memory.new.touches }
+    ensures copied { AtEachPayload FLLEN SLLEN memory.old table.old block payload layout (λ s u. memory.new.copied ≤ memory.old.copied + (usable u).len) }
+    ensures grow_copied { memory.old.copied ≤ memory.new.copied }
+    ensures own { SameOwn memory.old memory.new }
+    ensures here { StaysHere memory.old memory.new }
+    ensures kept_here { AtEachPayload FLLEN SLLEN memory.old table.old block payload layout (λ s u. unmoved_plan s u layout.size ≡ None → IsHereStill memory.old memory.new u result) }
+{
+    let view = memory.view();
+    if let Some(moved) = move_into_previous::<FLLEN, SLLEN, WHOLE>(
+        memory, view, table, block, payload, layout,
+    ) {
+        return Some(moved);
+    }
+    move_elsewhere::<FLLEN, SLLEN, WHOLE>(memory, view, table, block, payload, layout)
+}
+
 /// Gives the payload at `payload`, in the used block at `block`, the size of `layout` in bytes: in place, else in the
 /// free block before its own, else in a newly allocated block.
 ///
@@ -26,8 +68,8 @@ use rlsf_table::ClassTable;
 /// refused, returns `None`, and no byte and no block changes.
 ///
 /// No byte leaves or comes back, and each byte that was here is here.
-// Out of line, since it is long. So the compiler keeps the memory's base in a register in the short calls.
-#[inline(never)]
+// In line, so that a call that leaves the block as it is has no frame.
+#[inline(always)]
 pub fn reallocate_block<const FLLEN: usize, const SLLEN: usize, const WHOLE: usize>(
     memory: &mut OpenMemory,
     view: View,
@@ -55,10 +97,5 @@ pub fn reallocate_block<const FLLEN: usize, const SLLEN: usize, const WHOLE: usi
     if resize_block(memory, view, table, block, payload, layout) {
         return Some(payload);
     }
-    if let Some(moved) = move_into_previous::<FLLEN, SLLEN, WHOLE>(
-        memory, view, table, block, payload, layout,
-    ) {
-        return Some(moved);
-    }
-    move_elsewhere::<FLLEN, SLLEN, WHOLE>(memory, view, table, block, payload, layout)
+    move_block::<FLLEN, SLLEN, WHOLE>(memory, table, block, payload, layout)
 }

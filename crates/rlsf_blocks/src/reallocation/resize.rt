@@ -11,7 +11,7 @@ ghost use Rattle.rlsf_blocks.specs.StandsFor.{contents, StandsFor};
 ghost use Rattle.rlsf_table.specs.Counts.{Costs, Counts};
 ghost use Rattle.rlsf_table.specs.FreeTable.{IsFreeTable};
 ghost use Rattle.rlsf_blocks.specs.Steps.Join.{IsMarked};
-ghost use Rattle.rlsf_blocks.specs.Steps.Resize.{AtEachAligned, AtEachPayload, AtEachSpanRoom, IsFreeLength, IsOccupied, IsOwnedBehind, IsSpanRoom, IsUsedAt, ResizesKept, ResizesOwned};
+ghost use Rattle.rlsf_blocks.specs.Steps.Resize.{AtEachAligned, AtEachPayload, AtEachSpanRoom, HasRoomBehind, IsFreeLength, IsOccupied, IsOwnedBehind, IsResized, IsSpanRoom, IsStretched, IsUsedAt, ResizesKept, ResizesOwned};
 ghost use Rattle.rlsf_table.specs.Table.{Table};
 
 use crate::{leave_rest, take_if_free};
@@ -55,6 +55,36 @@ pub(crate) fn occupy<const FLLEN: usize, const SLLEN: usize>(
     }
 }
 
+/// Gives the used block at `block` of `len` bytes the length `taken`, which is another one: that of a block for the size of `layout`.
+/// Its bytes and those of a free block behind it suffice. The rest of them becomes a free block.
+// Out of line: so a call that leaves the block as it is saves no register.
+#[inline(never)]
+fn stretch<const FLLEN: usize, const SLLEN: usize>(
+    memory: &mut OpenMemory,
+    view: View,
+    table: &mut ClassTable<FLLEN, SLLEN>,
+    block: usize,
+    payload: usize,
+    layout: Layout,
+    len: usize,
+    taken: usize,
+)
+    requires parameters { IsValid 128 128 FLLEN SLLEN }
+    requires used { (s : State) × (u : Used) × StandsFor FLLEN SLLEN (contents memory.old table.old) s × IsUsedAt s u block payload u.align
+        × IsOwnedBehind memory.old u layout.size × HasRoomBehind s u layout.size }
+    requires view { view ≡ memory.old.view }
+    requires numbers { IsStretched memory.old block payload layout.size len taken }
+    ensures done { AtEachAligned FLLEN SLLEN memory.old table.old block payload (λ s u. IsOwnedBehind memory.old u layout.size → HasRoomBehind s u layout.size
+        → IsResized FLLEN SLLEN memory.old memory.new table.new s u layout.size payload) }
+    ensures costs { Costs memory.old memory.new 22 0 }
+    ensures own { SameOwn memory.old memory.new }
+    ensures here { StaysHere memory.old memory.new }
+{
+    let _ = (payload, layout);
+    let next = take_if_free(memory, view, table, block + len);
+    occupy(memory, view, table, block, len + next, taken);
+}
+
 /// Gives the payload at `payload`, in the used block at `block`, the size of `layout` in bytes without moving it. It does so if the
 /// bytes of the block and of a free block behind it suffice. The rest of them becomes a free block.
 ///
@@ -62,6 +92,7 @@ pub(crate) fn occupy<const FLLEN: usize, const SLLEN: usize>(
 /// of the payload may be out if they are in its block of the new size, too. They stay out, and no byte is read or written there.
 ///
 /// Returns whether the bytes suffice. If not, no byte and no block changes.
+#[inline(always)]
 pub fn resize_kept_block<const FLLEN: usize, const SLLEN: usize>(
     memory: &mut OpenMemory,
     view: View,
@@ -90,8 +121,7 @@ pub fn resize_kept_block<const FLLEN: usize, const SLLEN: usize>(
     if taken > len + free_length(memory, view, end) {
         return false;
     }
-    let next = take_if_free(memory, view, table, end);
-    occupy(memory, view, table, block, len + next, taken);
+    stretch(memory, view, table, block, payload, layout, len, taken);
     true
 }
 

@@ -1,62 +1,31 @@
-use Rattle.std.proofs.Common.{Some, arith, ◌∙◌, sym, rules}
+use Rattle.std.proofs.Common.{arith, ◌∙◌, sym, rules}
 use Rattle.rlsf_base.proofs.Lending.Present.{here-same, own-here}
 use Rattle.rlsf_model.specs.State.{usable}
-use Rattle.rlsf_blocks.proofs.Reallocate.FirstPlan.{in_place-none, IsReallocated-counted_first, IsReallocated-elsewhere, IsReallocated-planned, plan-moves, plan-stays}
+use Rattle.rlsf_blocks.proofs.Reallocate.FirstPlan.{IsReallocated-counted_first, IsReallocated-planned, plan-stays}
 use Rattle.rlsf_blocks.proofs.Reallocate.FirstPlan.{StandsFor-unchanged}
 use Rattle.std.proofs.lemmas.Option.{none-some}
 use Rattle.rlsf_blocks.proofs.Counting.{SamePlace-counted_first, copied-more, grow-counted_first, grow_copied-counted_first, grow_copied-same, touches-counted_first, touches-more}
 use Rattle.rlsf_blocks.proofs.Refused.{none_more}
 use Rattle.rlsf_blocks.proofs.Words.Apart.{used_in_memory}
-use Rattle.rlsf_blocks.proofs.Words.Stays.{Stays, Stays-same, Stays-then}
+use Rattle.rlsf_blocks.proofs.Words.Stays.{Stays, Stays-then}
 use Rattle.rlsf_table.proofs.Costs.{SamePlace-costs, copied_none}
 use Rattle.rlsf_model.proofs.Payloads.{IsUsed-after_start}
 use Rattle.rlsf_blocks.proofs.reallocation.cases.reallocate_block.Given as given
 use Rattle.rlsf_blocks.proofs.reallocation.cases.reallocate_block.Goals as goal
-use Rattle.rlsf_blocks.proofs.reallocation.cases.reallocate_block.Goals.{After-resize_block}
+use Rattle.rlsf_blocks.proofs.reallocation.cases.reallocate_block.Goals.{After-move_block, After-resize_block}
 
-pub move_into_previous-requires : goal.move_into_previous-requires
-move_into_previous-requires g c =
+pub move_block-requires : goal.move_block-requires
+move_block-requires g c =
     let (s, u, v, is, here) = c.requires.used in
     let same = c.resize_block.ensures.unchanged c.if-resize_block.false in
     let v1 = StandsFor-unchanged c.args.memory.now c.resize_block.new.memory c.args.table.now c.resize_block.new.table s 2 same v in
-    let first = c.resize_block.ensures.refused s u v is c.if-resize_block.false in
-    let none = in_place-none s u c.args.layout.size first in (
+    let first = c.resize_block.ensures.refused s u v is c.if-resize_block.false in (
       omega arith,
       (
         c.requires.parameters,
         (
-          (s, u, v1, is, none, here-same c.args.memory.now c.resize_block.new.memory (usable u) same.0.start same.0.out here),
-          (search rules, λ whole. same.0.out ∙ c.requires.whole whole),
-        ),
-      ),
-    )
-
-pub move_elsewhere-requires : goal.move_elsewhere-requires
-move_elsewhere-requires g c =
-    let (s, u, v, is, here) = c.requires.used in
-    let same = c.resize_block.ensures.unchanged c.if-resize_block.false in
-    let v1 = StandsFor-unchanged c.args.memory.now c.resize_block.new.memory c.args.table.now c.resize_block.new.table s 2 same v in
-    let first = c.resize_block.ensures.refused s u v is c.if-resize_block.false in
-    let none = in_place-none s u c.args.layout.size first in
-    let same_still = c.in_default.ensures.unchanged in
-    let v2 = StandsFor-unchanged c.resize_block.new.memory c.move_into_previous.new.memory c.resize_block.new.table c.move_into_previous.new.table s 4 same_still v1 in (
-      omega arith,
-      (
-        c.requires.parameters,
-        (
-          search rules,
-          (
-            (
-              s,
-              u,
-              v2,
-              is,
-              none,
-              here-same c.resize_block.new.memory c.move_into_previous.new.memory (usable u) same_still.0.start same_still.0.out
-                  (here-same c.args.memory.now c.resize_block.new.memory (usable u) same.0.start same.0.out here),
-            ),
-            λ whole. same_still.0.out ∙ same.0.out ∙ c.requires.whole whole,
-          ),
+          (s, u, v1, is, first, here-same c.args.memory.now c.resize_block.new.memory (usable u) same.0.start same.0.out here),
+          λ whole. same.0.out ∙ c.requires.whole whole,
         ),
       ),
     )
@@ -91,57 +60,7 @@ returns-then-resize_block-clause-grow_copied g c = grow_copied-same c.args.memor
 pub returns-then-resize_block-clause-stays : goal.returns-then-resize_block-clause-stays
 returns-then-resize_block-clause-stays g c = λ s u v is p first. copied_none c.resize_block.ensures.costs
 
--- ---- in the free block before it
-
-pub returns-in-Some-clause-step : goal.returns-in-Some-clause-step
-returns-in-Some-clause-step g c =
-    λ s u v is here.
-    let same = c.resize_block.ensures.unchanged c.if-resize_block.false in
-    let v1 = StandsFor-unchanged c.args.memory.now c.resize_block.new.memory c.args.table.now c.resize_block.new.table s 2 same v in
-    let first = c.resize_block.ensures.refused s u v is c.if-resize_block.false in
-    let none = in_place-none s u c.args.layout.size first in
-    let (p, third, at, carried) = c.in-Some.ensures.moved s u v1 is none (here-same c.args.memory.now c.resize_block.new.memory (usable u) same.0.start same.0.out here) in
-    IsReallocated-counted_first c.resize_block.new.memory c.move_into_previous.new.memory c.resize_block.new.table c.move_into_previous.new.table s u c.args.layout.size
-    c.args.memory.now 2 (Some c.in-Some.moved) same.0
-    (IsReallocated-planned c.resize_block.new.memory c.move_into_previous.new.memory c.resize_block.new.table c.move_into_previous.new.table s u c.args.layout.size p
-    c.in-Some.moved (plan-moves s u c.args.layout.size first ∙ third) at carried)
-
-pub returns-in-Some-clause-refused : goal.returns-in-Some-clause-refused
-returns-in-Some-clause-refused g c = tt
-
-pub returns-in-Some-clause-place : goal.returns-in-Some-clause-place
-returns-in-Some-clause-place g c =
-    SamePlace-counted_first c.args.memory.now c.resize_block.new.memory 2 (c.resize_block.ensures.unchanged c.if-resize_block.false).0 c.move_into_previous.new.memory
-    c.move_into_previous.ensures.place
-
-pub returns-in-Some-clause-touches : goal.returns-in-Some-clause-touches
-returns-in-Some-clause-touches g c =
-    touches-counted_first c.args.memory.now c.resize_block.new.memory 2 (c.resize_block.ensures.unchanged c.if-resize_block.false).0 c.move_into_previous.new.memory 63
-    (touches-more c.resize_block.new.memory c.move_into_previous.new.memory 37 26 c.move_into_previous.ensures.touches)
-
-pub returns-in-Some-clause-grow : goal.returns-in-Some-clause-grow
-returns-in-Some-clause-grow g c =
-    grow-counted_first c.args.memory.now c.resize_block.new.memory 2 (c.resize_block.ensures.unchanged c.if-resize_block.false).0 c.move_into_previous.new.memory
-    c.move_into_previous.ensures.grow
-
-pub returns-in-Some-clause-copied : goal.returns-in-Some-clause-copied
-returns-in-Some-clause-copied g c =
-    λ s u v is.
-    let same = c.resize_block.ensures.unchanged c.if-resize_block.false in
-    let v1 = StandsFor-unchanged c.args.memory.now c.resize_block.new.memory c.args.table.now c.resize_block.new.table s 2 same v in
-    let first = c.resize_block.ensures.refused s u v is c.if-resize_block.false in
-    let none = in_place-none s u c.args.layout.size first in
-    omega (arith, same.0.copied, c.move_into_previous.ensures.copied s u v1 is)
-
-pub returns-in-Some-clause-grow_copied : goal.returns-in-Some-clause-grow_copied
-returns-in-Some-clause-grow_copied g c =
-    grow_copied-counted_first c.args.memory.now c.resize_block.new.memory 2 (c.resize_block.ensures.unchanged c.if-resize_block.false).0 c.move_into_previous.new.memory
-    c.move_into_previous.ensures.grow_copied
-
-pub returns-in-Some-clause-stays : goal.returns-in-Some-clause-stays
-returns-in-Some-clause-stays g c = λ s u v is p first. absurd (none-some p (sym (c.resize_block.ensures.refused s u v is c.if-resize_block.false) ∙ first))
-
--- ---- elsewhere
+-- ---- at another place
 
 pub returns-clause-step : goal.returns-clause-step
 returns-clause-step g c =
@@ -149,58 +68,39 @@ returns-clause-step g c =
     let same = c.resize_block.ensures.unchanged c.if-resize_block.false in
     let v1 = StandsFor-unchanged c.args.memory.now c.resize_block.new.memory c.args.table.now c.resize_block.new.table s 2 same v in
     let first = c.resize_block.ensures.refused s u v is c.if-resize_block.false in
-    let none = in_place-none s u c.args.layout.size first in
-    let same_still = c.in_default.ensures.unchanged in
-    let v2 = StandsFor-unchanged c.resize_block.new.memory c.move_into_previous.new.memory c.resize_block.new.table c.move_into_previous.new.table s 4 same_still v1 in
-    let nowhere = plan-moves s u c.args.layout.size first ∙ c.in_default.ensures.refused s u v1 is none in
-    IsReallocated-counted_first c.resize_block.new.memory c.move_elsewhere.new.memory c.resize_block.new.table c.move_elsewhere.new.table s u c.args.layout.size c.args.memory.now 2
-    c.move_elsewhere.result same.0
-    (IsReallocated-counted_first c.move_into_previous.new.memory c.move_elsewhere.new.memory c.move_into_previous.new.table c.move_elsewhere.new.table s u c.args.layout.size
-    c.resize_block.new.memory 4 c.move_elsewhere.result same_still.0
-    (IsReallocated-elsewhere c.move_into_previous.new.memory c.move_elsewhere.new.memory c.move_into_previous.new.table c.move_elsewhere.new.table s u c.args.layout.size
-    c.move_elsewhere.result 5 nowhere v2 c.move_elsewhere.ensures.unchanged
-    (c.move_elsewhere.ensures.step s u v2 is none
-    (here-same c.resize_block.new.memory c.move_into_previous.new.memory (usable u) same_still.0.start same_still.0.out
-    (here-same c.args.memory.now c.resize_block.new.memory (usable u) same.0.start same.0.out here)))))
+    IsReallocated-counted_first c.resize_block.new.memory c.move_block.new.memory c.resize_block.new.table c.move_block.new.table s u c.args.layout.size c.args.memory.now 2
+    c.move_block.result same.0
+    (c.move_block.ensures.step s u v1 is (here-same c.args.memory.now c.resize_block.new.memory (usable u) same.0.start same.0.out here) first)
 
 pub returns-clause-refused : goal.returns-clause-refused
 returns-clause-refused g c =
-    none_more c.move_elsewhere.result (λ same. same.0.bytes ∙ c.in_default.ensures.unchanged.0.bytes ∙ (c.resize_block.ensures.unchanged c.if-resize_block.false).0.bytes)
-    c.move_elsewhere.ensures.unchanged
+    none_more c.move_block.result (λ same. same ∙ (c.resize_block.ensures.unchanged c.if-resize_block.false).0.bytes) c.move_block.ensures.refused
 
 pub returns-clause-place : goal.returns-clause-place
 returns-clause-place g c =
-    SamePlace-counted_first c.args.memory.now c.resize_block.new.memory 2 (c.resize_block.ensures.unchanged c.if-resize_block.false).0 c.move_elsewhere.new.memory
-    (SamePlace-counted_first c.resize_block.new.memory c.move_into_previous.new.memory 4 c.in_default.ensures.unchanged.0 c.move_elsewhere.new.memory
-    c.move_elsewhere.ensures.place)
+    SamePlace-counted_first c.args.memory.now c.resize_block.new.memory 2 (c.resize_block.ensures.unchanged c.if-resize_block.false).0 c.move_block.new.memory
+    c.move_block.ensures.place
 
 pub returns-clause-touches : goal.returns-clause-touches
 returns-clause-touches g c =
-    touches-counted_first c.args.memory.now c.resize_block.new.memory 2 (c.resize_block.ensures.unchanged c.if-resize_block.false).0 c.move_elsewhere.new.memory 63
-    (touches-counted_first c.resize_block.new.memory c.move_into_previous.new.memory 4 c.in_default.ensures.unchanged.0 c.move_elsewhere.new.memory 59
-    c.move_elsewhere.ensures.touches)
+    touches-counted_first c.args.memory.now c.resize_block.new.memory 2 (c.resize_block.ensures.unchanged c.if-resize_block.false).0 c.move_block.new.memory 63
+    c.move_block.ensures.touches
 
 pub returns-clause-grow : goal.returns-clause-grow
 returns-clause-grow g c =
-    grow-counted_first c.args.memory.now c.resize_block.new.memory 2 (c.resize_block.ensures.unchanged c.if-resize_block.false).0 c.move_elsewhere.new.memory
-    (grow-counted_first c.resize_block.new.memory c.move_into_previous.new.memory 4 c.in_default.ensures.unchanged.0 c.move_elsewhere.new.memory c.move_elsewhere.ensures.grow)
+    grow-counted_first c.args.memory.now c.resize_block.new.memory 2 (c.resize_block.ensures.unchanged c.if-resize_block.false).0 c.move_block.new.memory c.move_block.ensures.grow
 
 pub returns-clause-copied : goal.returns-clause-copied
 returns-clause-copied g c =
     λ s u v is.
     let same = c.resize_block.ensures.unchanged c.if-resize_block.false in
     let v1 = StandsFor-unchanged c.args.memory.now c.resize_block.new.memory c.args.table.now c.resize_block.new.table s 2 same v in
-    let first = c.resize_block.ensures.refused s u v is c.if-resize_block.false in
-    let none = in_place-none s u c.args.layout.size first in
-    let same_still = c.in_default.ensures.unchanged in
-    let v2 = StandsFor-unchanged c.resize_block.new.memory c.move_into_previous.new.memory c.resize_block.new.table c.move_into_previous.new.table s 4 same_still v1 in
-    omega (arith, same.0.copied, same_still.0.copied, c.move_elsewhere.ensures.copied s u v2 is)
+    omega (arith, same.0.copied, c.move_block.ensures.copied s u v1 is)
 
 pub returns-clause-grow_copied : goal.returns-clause-grow_copied
 returns-clause-grow_copied g c =
-    grow_copied-counted_first c.args.memory.now c.resize_block.new.memory 2 (c.resize_block.ensures.unchanged c.if-resize_block.false).0 c.move_elsewhere.new.memory
-    (grow_copied-counted_first c.resize_block.new.memory c.move_into_previous.new.memory 4 c.in_default.ensures.unchanged.0 c.move_elsewhere.new.memory
-    c.move_elsewhere.ensures.grow_copied)
+    grow_copied-counted_first c.args.memory.now c.resize_block.new.memory 2 (c.resize_block.ensures.unchanged c.if-resize_block.false).0 c.move_block.new.memory
+    c.move_block.ensures.grow_copied
 
 pub returns-clause-stays : goal.returns-clause-stays
 returns-clause-stays g c = λ s u v is p first. absurd (none-some p (sym (c.resize_block.ensures.refused s u v is c.if-resize_block.false) ∙ first))
@@ -223,35 +123,18 @@ returns-then-resize_block-clause-here g c = c.resize_block.ensures.here
 first_stays : (g : given.Over) (c : After-resize_block g) → Stays c.args.memory.now c.resize_block.new.memory
 first_stays g c = record { start = c.resize_block.ensures.costs.start; own = c.resize_block.ensures.own; here = c.resize_block.ensures.here }
 
-pub returns-in-Some-clause-own : goal.returns-in-Some-clause-own
-returns-in-Some-clause-own g c =
-    let first = first_stays g (goal.at.returns-in-Some-clause-own g c).After-resize_block in
-    let moves = c.move_into_previous.ensures in
-    let second : Stays c.resize_block.new.memory c.move_into_previous.new.memory = record { start = moves.place.0; own = moves.own; here = moves.here } in
-    (Stays-then first second).own
+moved_stays : (g : given.Over) (c : After-move_block g) → Stays c.resize_block.new.memory c.move_block.new.memory
+moved_stays g c = record { start = c.move_block.ensures.place.0; own = c.move_block.ensures.own; here = c.move_block.ensures.here }
 
 pub returns-clause-own : goal.returns-clause-own
 returns-clause-own g c =
-    let first = first_stays g (goal.at.returns-clause-own g c).After-resize_block in
-    let same = c.in_default.ensures.unchanged in
-    let moves = c.move_elsewhere.ensures in
-    let third : Stays c.move_into_previous.new.memory c.move_elsewhere.new.memory = record { start = moves.place.0; own = moves.own; here = moves.here } in
-    (Stays-then first (Stays-then (Stays-same c.resize_block.new.memory c.move_into_previous.new.memory same.0.start same.0.out) third)).own
-
-pub returns-in-Some-clause-here : goal.returns-in-Some-clause-here
-returns-in-Some-clause-here g c =
-    let first = first_stays g (goal.at.returns-in-Some-clause-here g c).After-resize_block in
-    let moves = c.move_into_previous.ensures in
-    let second : Stays c.resize_block.new.memory c.move_into_previous.new.memory = record { start = moves.place.0; own = moves.own; here = moves.here } in
-    (Stays-then first second).here
+    let here = goal.at.returns-clause-own g c in
+    (Stays-then (first_stays g here.After-resize_block) (moved_stays g here.After-move_block)).own
 
 pub returns-clause-here : goal.returns-clause-here
 returns-clause-here g c =
-    let first = first_stays g (goal.at.returns-clause-here g c).After-resize_block in
-    let same = c.in_default.ensures.unchanged in
-    let moves = c.move_elsewhere.ensures in
-    let third : Stays c.move_into_previous.new.memory c.move_elsewhere.new.memory = record { start = moves.place.0; own = moves.own; here = moves.here } in
-    (Stays-then first (Stays-then (Stays-same c.resize_block.new.memory c.move_into_previous.new.memory same.0.start same.0.out) third)).here
+    let here = goal.at.returns-clause-here g c in
+    (Stays-then (first_stays g here.After-resize_block) (moved_stays g here.After-move_block)).here
 
 -- ---- as many bytes as the payload has are here at its new place
 
@@ -262,22 +145,10 @@ returns-then-resize_block-clause-kept_here g c =
     c.resize_block.ensures.here a (omega (arith, is.caller, place.0, IsUsed-after_start u (v.well_formed.used u is.is_used)))
     (here a (omega (arith, is.caller)) (omega (arith, is.caller)))
 
-pub returns-in-Some-clause-kept_here : goal.returns-in-Some-clause-kept_here
-returns-in-Some-clause-kept_here g c =
-    λ s u v is here.
-    let same = c.resize_block.ensures.unchanged c.if-resize_block.false in
-    let v1 = StandsFor-unchanged c.args.memory.now c.resize_block.new.memory c.args.table.now c.resize_block.new.table s 2 same v in
-    let none = in_place-none s u c.args.layout.size (c.resize_block.ensures.refused s u v is c.if-resize_block.false) in
-    c.in-Some.ensures.kept_here s u v1 is none (here-same c.args.memory.now c.resize_block.new.memory (usable u) same.0.start same.0.out here)
-
 pub returns-clause-kept_here : goal.returns-clause-kept_here
 returns-clause-kept_here g c =
     λ s u v is here.
     let same = c.resize_block.ensures.unchanged c.if-resize_block.false in
     let v1 = StandsFor-unchanged c.args.memory.now c.resize_block.new.memory c.args.table.now c.resize_block.new.table s 2 same v in
-    let none = in_place-none s u c.args.layout.size (c.resize_block.ensures.refused s u v is c.if-resize_block.false) in
-    let same_still = c.in_default.ensures.unchanged in
-    let v2 = StandsFor-unchanged c.resize_block.new.memory c.move_into_previous.new.memory c.resize_block.new.table c.move_into_previous.new.table s 4 same_still v1 in
-    c.move_elsewhere.ensures.kept_here s u v2 is none
-    (here-same c.resize_block.new.memory c.move_into_previous.new.memory (usable u) same_still.0.start same_still.0.out
-    (here-same c.args.memory.now c.resize_block.new.memory (usable u) same.0.start same.0.out here))
+    let first = c.resize_block.ensures.refused s u v is c.if-resize_block.false in
+    c.move_block.ensures.kept_here s u v1 is first (here-same c.args.memory.now c.resize_block.new.memory (usable u) same.0.start same.0.out here)

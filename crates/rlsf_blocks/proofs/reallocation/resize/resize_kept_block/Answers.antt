@@ -1,26 +1,29 @@
-use Rattle.std.proofs.Common.{◌≡◌, ◌≢◌, ◌+◌, ◌-◌, ◌%◌, ◌<◌, ◌≤◌, arith, rules, sym, ◌∙◌, subst, refl, true≢false}
-use mathlib.Core.Path.{ap₂}
-use Rattle.rlsf_base.specs.Range.{end_of, range_at}
+use Rattle.std.proofs.Common.{◌≡◌, ◌+◌, ◌-◌, arith, rules, sym, ◌∙◌, ap, subst, refl, true≢false}
+use Rattle.std.specs.Int.{next_multiple_of}
+use Rattle.rlsf_base.specs.Out.{is_own}
+use Rattle.rlsf_base.specs.Range.{end_of}
+use Rattle.rlsf_base.specs.Space.{word_at}
+use Rattle.rlsf_base.proofs.Lending.Present.{out-same}
 use Rattle.rlsf_model.specs.Reallocate.{resized}
 use Rattle.rlsf_model.specs.State.{State, Used}
 use Rattle.rlsf_blocks.specs.StandsFor.{contents, StandsFor}
-use Rattle.rlsf_blocks.specs.Steps.Join.{IsMarked, IsNextOut}
-use Rattle.rlsf_blocks.specs.Steps.Resize.{IsOccupied, IsOwnedBehind, IsSpanRoom, IsUsedAt}
+use Rattle.rlsf_blocks.specs.Steps.Resize.{HasRoomBehind, IsOwnedBehind, IsUsedAt}
 use Rattle.rlsf_base.proofs.Numbers.Roundings.{next_multiple_of-lt}
-use Rattle.rlsf_table.proofs.FreeLists.Counted.{IsFreeTable-counted}
+use Rattle.rlsf_table.proofs.FreeLists.Counted.{IsFreeTable-counted, word_at-counted}
 use Rattle.rlsf_blocks.proofs.Words.Apart.{used_in_memory}
+use Rattle.rlsf_blocks.proofs.RepresentedStates.Counted.{KeepsSpare-counted_first, StandsFor-counted}
 use Rattle.rlsf_blocks.proofs.RepresentedStates.FreeBlocks.{IsFreeTable-free}
-use Rattle.rlsf_blocks.proofs.Reallocate.Computations.{end_is, IsMarked-loaded_end, IsNextOut-end, IsTaken-len, IsReadable-size, reach_is, taken_computed}
-use Rattle.rlsf_blocks.proofs.Reallocate.NextPlans.{kept_whole, no_plan, or_else-kept, or_else-stretched, stretched}
-use Rattle.rlsf_blocks.proofs.Reallocate.Resized.{IsCarriedOut-kept, IsCarriedOut-stretched}
-use Rattle.rlsf_blocks.proofs.Reallocate.Spans.{IsSpanRoom-span, reach, reach-le, span_in_memory, span_len, span_of, staying}
+use Rattle.rlsf_blocks.proofs.Reallocate.Computations.{end_is, IsMarked-loaded_end, IsReadable-size, reach_is, taken_computed}
+use Rattle.rlsf_blocks.proofs.Reallocate.NextPlans.{kept_whole, no_plan, or_else-kept}
+use Rattle.rlsf_blocks.proofs.Reallocate.Resized.{IsCarriedOut-kept}
+use Rattle.rlsf_blocks.proofs.Reallocate.Spans.{reach, span_in_memory}
 use Rattle.rlsf_table.specs.Counts.{Counts}
 use Rattle.rlsf_table.proofs.Costs.{Costs-counted, Costs-loaded, Costs-then, Costs-within}
 use Rattle.rlsf_blocks.proofs.Counting.{Counts-counted_first, Counts-loaded}
-use Rattle.rlsf_blocks.proofs.Words.Stays.{Stays, Stays-rewrites, Stays-same, Stays-then}
+use Rattle.rlsf_blocks.proofs.Words.Stays.{Stays, Stays-same, Stays-then}
 use Rattle.rlsf_blocks.proofs.reallocation.resize.resize_kept_block.Given as given
 use Rattle.rlsf_blocks.proofs.reallocation.resize.resize_kept_block.Goals as goal
-use Rattle.rlsf_blocks.proofs.reallocation.resize.resize_kept_block.Goals.{After-next_multiple_of_32-taken, After-free_length, After-take_if_free-next}
+use Rattle.rlsf_blocks.proofs.reallocation.resize.resize_kept_block.Goals.{After-next_multiple_of_32-taken, After-free_length, After-stretch}
 
 pub load_at-requires-clause-place : goal.load_at-requires-clause-place
 load_at-requires-clause-place g c = let (s, u, v, at, own) = c.requires.used in IsReadable-size v u at
@@ -75,71 +78,50 @@ overflow_add-len g c =
     let ends = reached g (goal.at.overflow_add-len g c).After-free_length v u at in
     record { fits = omega (arith, ends, end_is v u at c.load_at.ensures.word c.len_of_used-len.ensures, span_in_memory v u at.is_used, v.well_formed.addressable) }
 
--- the free block behind it, once two words were read
-marked : (g : given.Over) (c : After-free_length g) {s : State} (v : StandsFor g.row.FLLEN g.row.SLLEN (contents c.args.memory.now c.args.table.now) s) (u : Used)
-    → IsUsedAt s u c.args.block c.args.payload u.align → IsMarked c.free_length.new.memory s.free (c.args.block + c.len_of_used-len.result)
-marked g c v u at =
-    let counts = c.free_length.ensures.counts in
-    IsMarked-loaded_end v u at c.load_at.ensures.word c.len_of_used-len.ensures (counts.start ∙ c.load_at.ensures.start) (counts.bytes ∙ c.load_at.ensures.bytes)
-    (counts.out ∙ c.load_at.ensures.out)
+-- two words were read
+read : (g : given.Over) (c : After-free_length g) → Counts c.args.memory.now c.free_length.new.memory 2
+read g c =
+    Counts-counted_first c.args.memory.now c.load_at.new.self c.free_length.new.memory 1 1
+    (Counts-loaded c.args.memory.now c.load_at.new.self c.load_at.ensures.start c.load_at.ensures.bytes c.load_at.ensures.touches c.load_at.ensures.copied
+    c.load_at.ensures.view c.load_at.ensures.out) c.free_length.ensures.counts
 
-pub take_if_free-next-requires : goal.take_if_free-next-requires
-take_if_free-next-requires g c =
+-- the state and the bytes behind the block are those from before
+standing : (g : given.Over) (c : After-free_length g) {s : State} → StandsFor g.row.FLLEN g.row.SLLEN (contents c.args.memory.now c.args.table.now) s
+    → StandsFor g.row.FLLEN g.row.SLLEN (contents c.free_length.new.memory c.args.table.now) s
+standing g c v = let counts = read g c in StandsFor-counted c.args.memory.now c.free_length.new.memory counts.start counts.bytes counts.out v
+
+owned : (g : given.Over) (c : After-free_length g) (u : Used) → IsOwnedBehind c.args.memory.now u c.args.layout.size → IsOwnedBehind c.free_length.new.memory u c.args.layout.size
+owned g c u own a lo hi = let counts = read g c in ap is_own (out-same c.args.memory.now c.free_length.new.memory a counts.start counts.out) ∙ own a lo hi
+
+-- the numbers that the next call gets
+sized : (g : given.Over) (c : After-free_length g) {s : State} (v : StandsFor g.row.FLLEN g.row.SLLEN (contents c.args.memory.now c.args.table.now) s) (u : Used)
+    → IsUsedAt s u c.args.block c.args.payload u.align → c.len_of_used-len.result + 1 ≡ word_at c.free_length.new.memory c.args.block
+sized g c v u at =
+    let counts = read g c in
+    let same = word_at-counted c.args.memory.now c.free_length.new.memory counts.start counts.bytes counts.out c.args.block in
+    let size = subst (λ a. word_at c.args.memory.now a ≡ u.block.len + 1) at.start (v.sizes.used u at.is_used) in
+    omega (arith, same, size, c.load_at.ensures.word, c.len_of_used-len.ensures)
+
+pub stretch-requires : goal.stretch-requires
+stretch-requires g c =
     let (s, u, v, at, own) = c.requires.used in
-    let counts = c.free_length.ensures.counts in
-    let list =
-    IsFreeTable-counted c.args.memory.now c.free_length.new.memory (counts.start ∙ c.load_at.ensures.start) (counts.bytes ∙ c.load_at.ensures.bytes)
-    (counts.out ∙ c.load_at.ensures.out) (IsFreeTable-free v) in
-    (omega arith, (c.requires.parameters, ((s.free, list, marked g (goal.at.take_if_free-next-requires g c).After-free_length v u at), search rules)))
-
--- and once it was taken out
-out : (g : given.Over) (c : After-take_if_free-next g) {s : State} (v : StandsFor g.row.FLLEN g.row.SLLEN (contents c.args.memory.now c.args.table.now) s) (u : Used)
-    → IsUsedAt s u c.args.block c.args.payload u.align
-    → IsNextOut g.row.FLLEN g.row.SLLEN c.args.memory.now c.take_if_free-next.new.memory c.take_if_free-next.new.table s.free (end_of u.block) c.take_if_free-next.result
-out g c {s} v u at =
-    let counts = c.free_length.ensures.counts in
-    let start = counts.start ∙ c.load_at.ensures.start in
-    let bytes = counts.bytes ∙ c.load_at.ensures.bytes in
-    let unchanged = counts.out ∙ c.load_at.ensures.out in
-    let list = IsFreeTable-counted c.args.memory.now c.free_length.new.memory start bytes unchanged (IsFreeTable-free v) in
-    IsNextOut-end v u at c.load_at.ensures.word c.len_of_used-len.ensures start bytes unchanged
-    (c.take_if_free-next.ensures.step s.free list (IsMarked-loaded_end v u at c.load_at.ensures.word c.len_of_used-len.ensures start bytes unchanged))
-
--- the room of the block and of the free one behind it
-spanned : (g : given.Over) (c : After-take_if_free-next g) {s : State} (v : StandsFor g.row.FLLEN g.row.SLLEN (contents c.args.memory.now c.args.table.now) s) (u : Used)
-    → IsUsedAt s u c.args.block c.args.payload u.align → IsOwnedBehind c.args.memory.now u c.args.layout.size
-    → c.next_multiple_of_32-taken.result ≡ (resized u c.args.layout.size).len
-    → c.next_multiple_of_32-taken.result ≤ c.len_of_used-len.result + c.take_if_free-next.result
-    → IsSpanRoom g.row.FLLEN g.row.SLLEN c.take_if_free-next.new.memory c.take_if_free-next.new.table (staying s u) (span_of s u) c.next_multiple_of_32-taken.result
-spanned g c {s} v u at own taken fits =
-    let gone = out g c v u at in
-    let end = end_is v u at c.load_at.ensures.word c.len_of_used-len.ensures in
-    let start = at.start in
-    IsSpanRoom-span v u at.is_used gone c.next_multiple_of_32-taken.result (λ a lo hi. own a (omega (arith, taken, lo)) (omega (arith, taken, lo, hi)))
-    (omega (arith, fits, end, start, span_len v u at.is_used gone))
-
-pub overflow_add-len-2 : goal.overflow_add-len-2
-overflow_add-len-2 g c =
-    let (s, u, v, at, own) = c.requires.used in
-    let gone = out g (goal.at.overflow_add-len-2 g c).After-take_if_free-next v u at in
-    record { fits = omega (arith, gone.end, end_is v u at c.load_at.ensures.word c.len_of_used-len.ensures, span_in_memory v u at.is_used, v.well_formed.addressable) }
-
-pub occupy-requires : goal.occupy-requires
-occupy-requires g c =
-    let (s, u, v, at, own) = c.requires.used in
-    let here = goal.at.occupy-requires g c in
+    let here = goal.at.stretch-requires g c in
     let size = c.args.layout.size in
-    let gone = out g here.After-take_if_free-next v u at in
     let taken = taken_is g here.After-next_multiple_of_32-taken v u at in
     let ends = reached g here.After-free_length v u at in
     let end = end_is v u at c.load_at.ensures.word c.len_of_used-len.ensures in
-    let parts = IsTaken-len v u at size in
     let start = at.start in
-    let long : (span_of s u).len ≡ c.len_of_used-len.result + c.take_if_free-next.result = omega (arith, span_len v u at.is_used gone) in
-    let inner = spanned g here.After-take_if_free-next v u at own taken (omega (arith, gone.end, ends, end, c.if-taken-len-2.false)) in
-    let whole : c.next_multiple_of_32-taken.result % 32 ≡ 0 = omega (arith, parts.0) in
-    let some : 0 < c.next_multiple_of_32-taken.result = omega (arith, parts.1) in
-    (omega arith, (c.requires.parameters, ((staying s u, span_of s u, at.start, long, inner), ((whole, some, omega (arith, gone.end, c.if-taken-len-2.false)), search rules))))
+    let room : HasRoomBehind s u size = omega (arith, ends, end, taken, start, c.if-taken-len-2.false) in
+    let wanted = c.next_multiple_of_32-taken.ensures.value ∙ ap (λ w. next_multiple_of (c.args.payload - c.args.block + w) 32) c.size.ensures.value in (
+      omega arith,
+      (
+        c.requires.parameters,
+        (
+          (s, u, standing g here.After-free_length v, at, owned g here.After-free_length u own, room),
+          (search rules, record { own = sized g here.After-free_length v u at; wanted = wanted; other = c.if-taken-len.false }),
+        ),
+      ),
+    )
 
 -- ---- what is counted
 
@@ -160,13 +142,6 @@ returns-then-taken-len-clause-refused g c = λ s u v at no. absurd (true≢false
 
 pub returns-then-taken-len-clause-unchanged : goal.returns-then-taken-len-clause-unchanged
 returns-then-taken-len-clause-unchanged g c = λ no. absurd (true≢false no)
-
--- two words were read
-read : (g : given.Over) (c : After-free_length g) → Counts c.args.memory.now c.free_length.new.memory 2
-read g c =
-    Counts-counted_first c.args.memory.now c.load_at.new.self c.free_length.new.memory 1 1
-    (Counts-loaded c.args.memory.now c.load_at.new.self c.load_at.ensures.start c.load_at.ensures.bytes c.load_at.ensures.touches c.load_at.ensures.copied
-    c.load_at.ensures.view c.load_at.ensures.out) c.free_length.ensures.counts
 
 pub returns-then-taken-len-2-clause-done : goal.returns-then-taken-len-2-clause-done
 returns-then-taken-len-2-clause-done g c = λ s u v at own yes. absurd (true≢false (sym yes))
@@ -191,24 +166,19 @@ pub returns-clause-done : goal.returns-clause-done
 returns-clause-done g c =
     λ s u v at own yes.
     let here = goal.at.returns-clause-done g c in
-    let size = c.args.layout.size in
-    let gone = out g here.After-take_if_free-next v u at in
+    let counts = read g here.After-free_length in
     let taken = taken_is g here.After-next_multiple_of_32-taken v u at in
     let ends = reached g here.After-free_length v u at in
     let end = end_is v u at c.load_at.ensures.word c.len_of_used-len.ensures in
     let start = at.start in
-    let words =
-    c.occupy.ensures.step (staying s u) (span_of s u) at.start (omega (arith, span_len v u at.is_used gone))
-    (spanned g here.After-take_if_free-next v u at own taken (omega (arith, gone.end, ends, end, c.if-taken-len-2.false))) in
-    let front : range_at c.args.block c.next_multiple_of_32-taken.result ≡ resized u size = ap₂ (λ b l. range_at b l) (sym at.start) taken in
-    let occupied =
-    subst (λ q. IsOccupied g.row.FLLEN g.row.SLLEN c.take_if_free-next.new.memory c.occupy.new.memory c.occupy.new.table (staying s u) (span_of s u) q) front words in
-    let fits : end_of (resized u size) ≤ reach s u = omega (arith, c.if-taken-len-2.false) in
-    let other : end_of (resized u size) ≢ end_of u.block = omega (arith, c.if-taken-len.false) in (
-      stretched s u size,
-      or_else-stretched s u size v.well_formed at.is_used other (reach-le v u at.is_used) fits,
-      at.caller,
-      IsCarriedOut-stretched v u at.is_used size own fits gone occupied,
+    let room : HasRoomBehind s u c.args.layout.size = omega (arith, ends, end, taken, start, c.if-taken-len-2.false) in
+    let (p, first, there, carried) =
+    c.stretch.ensures.done s u (standing g here.After-free_length v) at (owned g here.After-free_length u own) room in
+    let (t, replans, stands, spare) = carried in (
+      p,
+      first,
+      there,
+      (t, replans, stands, KeepsSpare-counted_first c.args.memory.now c.free_length.new.memory counts.start counts.bytes counts.out s t c.stretch.new.memory spare),
     )
 
 pub returns-clause-refused : goal.returns-clause-refused
@@ -227,8 +197,7 @@ pub returns-then-taken-len-2-clause-costs : goal.returns-then-taken-len-2-clause
 returns-then-taken-len-2-clause-costs g c = Costs-within (omega arith) (Costs-counted (read g (goal.at.returns-then-taken-len-2-clause-costs g c).After-free_length))
 
 pub returns-clause-costs : goal.returns-clause-costs
-returns-clause-costs g c =
-    Costs-then (Costs-then (Costs-counted (read g (goal.at.returns-clause-costs g c).After-free_length)) c.take_if_free-next.ensures.costs) c.occupy.ensures.costs
+returns-clause-costs g c = Costs-then (Costs-counted (read g (goal.at.returns-clause-costs g c).After-free_length)) c.stretch.ensures.costs
 
 -- ---- no byte leaves, and none that is here becomes raw
 
@@ -247,30 +216,15 @@ returns-then-taken-len-2-clause-own g c = (loaded g (goal.at.returns-then-taken-
 pub returns-then-taken-len-2-clause-here : goal.returns-then-taken-len-2-clause-here
 returns-then-taken-len-2-clause-here g c = (loaded g (goal.at.returns-then-taken-len-2-clause-here g c).After-free_length).here
 
+stretched_stays : (g : given.Over) (c : After-stretch g) → Stays c.free_length.new.memory c.stretch.new.memory
+stretched_stays g c = record { start = c.stretch.ensures.costs.start; own = c.stretch.ensures.own; here = c.stretch.ensures.here }
+
 pub returns-clause-own : goal.returns-clause-own
 returns-clause-own g c =
-    let (s, u, v, at, own) = c.requires.used in
     let here = goal.at.returns-clause-own g c in
-    let gone = out g here.After-take_if_free-next v u at in
-    let taken = taken_is g here.After-next_multiple_of_32-taken v u at in
-    let ends = reached g here.After-free_length v u at in
-    let end = end_is v u at c.load_at.ensures.word c.len_of_used-len.ensures in
-    let start = at.start in
-    let words =
-    c.occupy.ensures.step (staying s u) (span_of s u) at.start (omega (arith, span_len v u at.is_used gone))
-    (spanned g here.After-take_if_free-next v u at own taken (omega (arith, gone.end, ends, end, c.if-taken-len-2.false))) in
-    (Stays-then (Stays-rewrites gone.rewrites) (Stays-rewrites words.rewrites)).own
+    (Stays-then (loaded g here.After-free_length) (stretched_stays g here.After-stretch)).own
 
 pub returns-clause-here : goal.returns-clause-here
 returns-clause-here g c =
-    let (s, u, v, at, own) = c.requires.used in
     let here = goal.at.returns-clause-here g c in
-    let gone = out g here.After-take_if_free-next v u at in
-    let taken = taken_is g here.After-next_multiple_of_32-taken v u at in
-    let ends = reached g here.After-free_length v u at in
-    let end = end_is v u at c.load_at.ensures.word c.len_of_used-len.ensures in
-    let start = at.start in
-    let words =
-    c.occupy.ensures.step (staying s u) (span_of s u) at.start (omega (arith, span_len v u at.is_used gone))
-    (spanned g here.After-take_if_free-next v u at own taken (omega (arith, gone.end, ends, end, c.if-taken-len-2.false))) in
-    (Stays-then (Stays-rewrites gone.rewrites) (Stays-rewrites words.rewrites)).here
+    (Stays-then (loaded g here.After-free_length) (stretched_stays g here.After-stretch)).here
