@@ -63,7 +63,8 @@ impl<const ROWS: usize, const PLACES: usize> Rows<ROWS, PLACES> {
         ensures others { (i : ℕ) → i ≢ fl → row_word PLACES self.new.low self.new.high i ≡ row_word PLACES self.old.low self.old.high i }
     {
         if PLACES <= 64 {
-            self.low[fl] &= !(1 << place);
+            // The remainder is the place. With it the compiler leaves out a subtraction: it moves by the lowest digits alone.
+            self.low[fl] &= !(1 << (place % 64));
         } else {
             self.set_both(fl, self.both(fl) & !(1 << place));
         }
@@ -103,21 +104,26 @@ impl<const ROWS: usize, const PLACES: usize> Rows<ROWS, PLACES> {
         }
     }
 
-    /// Returns the least set place of a row behind `place`, or the number of scanned places if there is none.
-    pub(crate) fn first_behind(&self, fl: usize, place: usize) -> usize
+    /// Returns the least set place of a row behind `place`, if there is one.
+    pub(crate) fn first_behind(&self, fl: usize, place: usize) -> Option<usize>
         requires { (fl < ROWS) × (place < PLACES) × (PLACES ≤ 128) }
-        ensures { IsFirstOne (scanned_places PLACES) (row_word PLACES self.now.low self.now.high fl) (place + 1) result }
+        ensures { IsFirstFrom PLACES (row_word PLACES self.now.low self.now.high fl) (place + 1) result }
     {
         if PLACES <= 64 {
             // All ones but the lowest, moved up: no place has to be tested.
             let places = self.low[fl] & ((u64::MAX - 1) << place);
             if places != 0 {
-                places.trailing_zeros() as usize
+                Some(places.trailing_zeros() as usize)
             } else {
-                64
+                None
             }
         } else {
-            self.both(fl).bit_scan_forward(place as u32 + 1) as usize
+            let behind = self.both(fl).bit_scan_forward(place as u32 + 1);
+            if behind < 128 {
+                Some(behind as usize)
+            } else {
+                None
+            }
         }
     }
 

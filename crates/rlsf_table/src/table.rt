@@ -173,7 +173,9 @@ impl<const FLLEN: usize, const SLLEN: usize> ClassTable<FLLEN, SLLEN> {
             return Some(ClassIndex { fl, sl: place });
         }
         memory.touch();
-        let row = self.first_level.first_behind(0, fl);
+        let Some(row) = self.first_level.first_behind(0, fl) else {
+            return None;
+        };
         if row >= FLLEN {
             return None;
         }

@@ -141,13 +141,16 @@ module _ (sllen : ℕ) (low high : List ℕ) (fl : ℕ) (few : sllen ≤ 64) whe
             (record { none_before = λ i lo hi. absurd (omega (arith, lo, hi)); within = omega (arith, all); found = λ less. absurd (omega (arith, less, all)) })
       ]
 
-      pub behind-few : IsFirstOne (scanned_places sllen) (row_word sllen low high fl) (place + 1)
-          (trailing_zeros w64 (bit_and (slice_index low fl) ((2 ^ 64 - 2) * 2 ^ place % 2 ^ 64)))
-      behind-few = scan_behind
+      pub behind-few : bit_and (slice_index low fl) ((2 ^ 64 - 2) * 2 ^ place % 2 ^ 64) ≢ 0
+          → IsFirstFrom sllen (row_word sllen low high fl) (place + 1) (Some (trailing_zeros w64 (bit_and (slice_index low fl) ((2 ^ 64 - 2) * 2 ^ place % 2 ^ 64))))
+      behind-few some =
+          let word = bit_and (slice_index low fl) ((2 ^ 64 - 2) * 2 ^ place % 2 ^ 64) in
+          let less = trailing-some w64 word some (omega (arith, and_le_l (slice_index low fl) ((2 ^ 64 - 2) * 2 ^ place % 2 ^ 64))) in
+          (omega (arith, less, scanned_places-few sllen few), scan_behind)
 
-      pub behind-few_none : bit_and (slice_index low fl) ((2 ^ 64 - 2) * 2 ^ place % 2 ^ 64) ≡ 0
-          → IsFirstOne (scanned_places sllen) (row_word sllen low high fl) (place + 1) 64
-      behind-few_none none = subst (λ a. IsFirstOne (scanned_places sllen) (row_word sllen low high fl) (place + 1) a) (trailing-none w64 _ none) scan_behind
+      pub behind-few_none : bit_and (slice_index low fl) ((2 ^ 64 - 2) * 2 ^ place % 2 ^ 64) ≡ 0 → IsFirstFrom sllen (row_word sllen low high fl) (place + 1) None
+      behind-few_none none =
+          subst (λ a. IsFirstOne (scanned_places sllen) (row_word sllen low high fl) (place + 1) a) (trailing-none w64 _ none ∙ sym (scanned_places-few sllen few)) scan_behind
 
 -- ---- rows of two words, which are `word` as one
 

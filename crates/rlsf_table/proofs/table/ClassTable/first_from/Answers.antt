@@ -16,13 +16,24 @@ returns-in-Some g c = record {
   counts = search rules;
 }
 
+pub returns-in_default-first_behind : goal.returns-in_default-first_behind
+returns-in_default-first_behind g c = record {
+  first = λ free bits blocks.
+      let some = row_length-bounds g.row.SLLEN c.requires.parameters.power_of_two in
+      let inside = subst (λ t. HasBits g.row.FLLEN g.row.SLLEN t free) (sym c.self.view_is) bits in
+      let scan = IsFirstOne-row g.row.FLLEN g.row.SLLEN _ _ c.args.fl c.requires.class.0 c.in_default.ensures in
+      IsLeastFrom-none some.0 inside blocks c.requires.class.0 scan (scanned_places-whole_row g.row.SLLEN some.1) (omega arith) c.in_default-first_behind.ensures
+      (scanned_places-whole_row g.row.FLLEN c.requires.parameters.rows_fit);
+  counts = search rules;
+}
+
 pub returns-then-row : goal.returns-then-row
 returns-then-row g c = record {
   first = λ free bits blocks.
       let some = row_length-bounds g.row.SLLEN c.requires.parameters.power_of_two in
       let inside = subst (λ t. HasBits g.row.FLLEN g.row.SLLEN t free) (sym c.self.view_is) bits in
       let scan = IsFirstOne-row g.row.FLLEN g.row.SLLEN _ _ c.args.fl c.requires.class.0 c.in_default.ensures in
-      IsLeastFrom-none some.0 inside blocks c.requires.class.0 scan (scanned_places-whole_row g.row.SLLEN some.1) (omega arith) c.first_behind-row.ensures c.if-row.true;
+      IsLeastFrom-none some.0 inside blocks c.requires.class.0 scan (scanned_places-whole_row g.row.SLLEN some.1) (omega arith) c.in-Some-first_behind.ensures.1 c.if-row.true;
   counts = search rules;
 }
 
@@ -32,8 +43,8 @@ returns g c = record {
       let some = row_length-bounds g.row.SLLEN c.requires.parameters.power_of_two in
       let inside = subst (λ t. HasBits g.row.FLLEN g.row.SLLEN t free) (sym c.self.view_is) bits in
       let scan = IsFirstOne-row g.row.FLLEN g.row.SLLEN _ _ c.args.fl c.requires.class.0 c.in_default.ensures in
-      let behind = IsFirstOne-row g.row.FLLEN g.row.SLLEN _ _ c.first_behind-row.result c.if-row.false c.first.ensures in
-      IsLeastFrom-row_behind some.0 inside blocks c.requires.class.0 scan (scanned_places-whole_row g.row.SLLEN some.1) (omega arith) c.first_behind-row.ensures c.if-row.false
+      let behind = IsFirstOne-row g.row.FLLEN g.row.SLLEN _ _ c.in-Some-first_behind.row c.if-row.false c.first.ensures in
+      IsLeastFrom-row_behind some.0 inside blocks c.requires.class.0 scan (scanned_places-whole_row g.row.SLLEN some.1) (omega arith) c.in-Some-first_behind.ensures.1 c.if-row.false
       (scanned_places-whole_row g.row.FLLEN c.requires.parameters.rows_fit) behind;
   counts = search rules;
 }
