@@ -44,7 +44,8 @@ returns g c = record {
       let inside = subst (λ t. HasBits g.row.FLLEN g.row.SLLEN t free) (sym c.self.view_is) bits in
       let scan = IsFirstOne-row g.row.FLLEN g.row.SLLEN _ _ c.args.fl c.requires.class.0 c.in_default.ensures in
       let behind = IsFirstOne-row g.row.FLLEN g.row.SLLEN _ _ c.in-Some-first_behind.row c.if-row.false c.first.ensures in
-      IsLeastFrom-row_behind some.0 inside blocks c.requires.class.0 scan (scanned_places-whole_row g.row.SLLEN some.1) (omega arith) c.in-Some-first_behind.ensures.1 c.if-row.false
+      IsLeastFrom-row_behind some.0 inside blocks c.requires.class.0 scan (scanned_places-whole_row g.row.SLLEN some.1) (omega arith) c.in-Some-first_behind.ensures.1
+      c.if-row.false
       (scanned_places-whole_row g.row.FLLEN c.requires.parameters.rows_fit) behind;
   counts = search rules;
 }
