@@ -54,6 +54,19 @@ abbrev pub HasShortHere : ℕ → ℕ → Space → Table → ℕ → ℕ → La
 HasShortHere fllen sllen m t block payload layout = (s : State) × (u : Used) × StandsFor fllen sllen (contents m t) s
     × IsUsedAt s u block payload layout.align × (in_place s u layout.size ≡ None) × IsHere m (usable u)
 
+-- this is true of that block, by the layout's alignment, where it can't have the layout's size without moving
+abbrev pub AtEachMoving : ℕ → ℕ → Space → Table → ℕ → ℕ → Layout → (State → Used → Type 0) → Type 0
+AtEachMoving fllen sllen m t block payload layout P = AtEachPayload fllen sllen m t block payload layout (λ s u. unmoved_plan s u layout.size ≡ None → P s u)
+
+-- the same where its usable bytes are here
+abbrev pub AtEachMovingHere : ℕ → ℕ → Space → Table → ℕ → ℕ → Layout → (State → Used → Type 0) → Type 0
+AtEachMovingHere fllen sllen m t block payload layout P = AtEachMoving fllen sllen m t block payload layout (λ s u. IsHere m (usable u) → P s u)
+
+-- some state that memory and table represent has such a block, and its usable bytes are here
+abbrev pub HasMovingHere : ℕ → ℕ → Space → Table → ℕ → ℕ → Layout → Type 0
+HasMovingHere fllen sllen m t block payload layout = (s : State) × (u : Used) × StandsFor fllen sllen (contents m t) s
+    × IsUsedAt s u block payload layout.align × (unmoved_plan s u layout.size ≡ None) × IsHere m (usable u)
+
 -- the bytes of the free range at the address, or 0 if none begins there
 abbrev pub IsFreeLength : List Range → ℕ → ℕ → Type 0
 IsFreeLength free block len = block + len ≡ end_or block (find (starts_at block) free)
@@ -84,6 +97,16 @@ IsOwnedBehind m u size = IsOwned m (between (end_of (resized u size)) (end_of u.
 -- the block of a used payload of that size reaches no farther than its own block and a free block behind it
 abbrev pub HasRoomBehind : State → Used → ℕ → Type 0
 HasRoomBehind s u size = end_of (resized u size) ≤ end_or (end_of u.block) (find (starts_at (end_of u.block)) s.free)
+
+-- this is true of the used block at `block` in each state that memory and table represent, where it has that room, and what is behind its end of that size
+-- is the memory's own
+abbrev pub AtEachStretched : ℕ → ℕ → Space → Table → ℕ → ℕ → ℕ → (State → Used → Type 0) → Type 0
+AtEachStretched fllen sllen m t block payload size P = AtEachAligned fllen sllen m t block payload (λ s u. IsOwnedBehind m u size → HasRoomBehind s u size → P s u)
+
+-- some state that memory and table represent has such a block
+abbrev pub HasStretched : ℕ → ℕ → Space → Table → ℕ → ℕ → ℕ → Type 0
+HasStretched fllen sllen m t block payload size = (s : State) × (u : Used) × StandsFor fllen sllen (contents m t) s
+    × IsUsedAt s u block payload u.align × IsOwnedBehind m u size × HasRoomBehind s u size
 
 -- the numbers are the length of the used block at `block`, and another one, which it gets with the size of its payload
 pub record IsStretched (m : Space) (block payload size len taken : ℕ) : Type 0 where

@@ -8,7 +8,7 @@ ghost use Rattle.rlsf_model.specs.NoMove.{unmoved_plan};
 ghost use Rattle.rlsf_model.specs.Reallocate.{Plan};
 ghost use Rattle.rlsf_model.specs.State.{State, Used, usable};
 ghost use Rattle.rlsf_blocks.specs.StandsFor.{contents, StandsFor};
-ghost use Rattle.rlsf_blocks.specs.Steps.Resize.{AtEachHere, AtEachPayload, IsHereStill, IsReallocated, IsUsedAt};
+ghost use Rattle.rlsf_blocks.specs.Steps.Resize.{AtEachHere, AtEachMoving, AtEachMovingHere, AtEachPayload, HasMovingHere, IsHereStill, IsReallocated, IsUsedAt};
 
 use crate::reallocation::elsewhere::move_elsewhere;
 use crate::reallocation::previous::move_into_previous;
@@ -34,11 +34,9 @@ fn move_block<const FLLEN: usize, const SLLEN: usize, const WHOLE: usize>(
     layout: Layout,
 ) -> Option<usize>
     requires parameters { IsValid 128 128 FLLEN SLLEN }
-    requires used { (s : State) × (u : Used) × StandsFor FLLEN SLLEN (contents memory.old table.old) s × IsUsedAt s u block payload layout.align
-        × (unmoved_plan s u layout.size ≡ None) × IsHere memory.old (usable u) }
+    requires used { HasMovingHere FLLEN SLLEN memory.old table.old block payload layout }
     requires whole { WHOLE ≡ 1 → memory.old.out ≡ [] }
-    ensures step { AtEachHere FLLEN SLLEN memory.old table.old block payload layout (λ s u. unmoved_plan s u layout.size ≡ None
-        → IsReallocated FLLEN SLLEN memory.old memory.new table.new s u layout.size result) }
+    ensures step { AtEachMovingHere FLLEN SLLEN memory.old table.old block payload layout (λ s u. IsReallocated FLLEN SLLEN memory.old memory.new table.new s u layout.size result) }
     ensures refused { IfNone result (memory.new.bytes ≡ memory.old.bytes) }
     ensures place { SamePlace memory.old memory.new }
     ensures touches { memory.new.touches ≤ memory.old.touches + 63 }
@@ -47,7 +45,7 @@ fn move_block<const FLLEN: usize, const SLLEN: usize, const WHOLE: usize>(
     ensures grow_copied { memory.old.copied ≤ memory.new.copied }
     ensures own { SameOwn memory.old memory.new }
     ensures here { StaysHere memory.old memory.new }
-    ensures kept_here { AtEachPayload FLLEN SLLEN memory.old table.old block payload layout (λ s u. unmoved_plan s u layout.size ≡ None → IsHereStill memory.old memory.new u result) }
+    ensures kept_here { AtEachMoving FLLEN SLLEN memory.old table.old block payload layout (λ s u. IsHereStill memory.old memory.new u result) }
 {
     let view = memory.view();
     if let Some(moved) = move_into_previous::<FLLEN, SLLEN, WHOLE>(

@@ -11,7 +11,7 @@ ghost use Rattle.rlsf_blocks.specs.StandsFor.{contents, StandsFor};
 ghost use Rattle.rlsf_table.specs.Counts.{Costs, Counts};
 ghost use Rattle.rlsf_table.specs.FreeTable.{IsFreeTable};
 ghost use Rattle.rlsf_blocks.specs.Steps.Join.{IsMarked};
-ghost use Rattle.rlsf_blocks.specs.Steps.Resize.{AtEachAligned, AtEachPayload, AtEachSpanRoom, HasRoomBehind, IsFreeLength, IsOccupied, IsOwnedBehind, IsResized, IsSpanRoom, IsStretched, IsUsedAt, ResizesKept, ResizesOwned};
+ghost use Rattle.rlsf_blocks.specs.Steps.Resize.{AtEachAligned, AtEachPayload, AtEachSpanRoom, AtEachStretched, HasStretched, IsFreeLength, IsOccupied, IsOwnedBehind, IsResized, IsSpanRoom, IsStretched, IsUsedAt, ResizesKept, ResizesOwned};
 ghost use Rattle.rlsf_table.specs.Table.{Table};
 
 use crate::{leave_rest, take_if_free};
@@ -70,12 +70,11 @@ fn stretch<const FLLEN: usize, const SLLEN: usize>(
     taken: usize,
 )
     requires parameters { IsValid 128 128 FLLEN SLLEN }
-    requires used { (s : State) × (u : Used) × StandsFor FLLEN SLLEN (contents memory.old table.old) s × IsUsedAt s u block payload u.align
-        × IsOwnedBehind memory.old u layout.size × HasRoomBehind s u layout.size }
+    requires used { HasStretched FLLEN SLLEN memory.old table.old block payload layout.size }
     requires view { view ≡ memory.old.view }
     requires numbers { IsStretched memory.old block payload layout.size len taken }
-    ensures done { AtEachAligned FLLEN SLLEN memory.old table.old block payload (λ s u. IsOwnedBehind memory.old u layout.size → HasRoomBehind s u layout.size
-        → IsResized FLLEN SLLEN memory.old memory.new table.new s u layout.size payload) }
+    ensures done { AtEachStretched FLLEN SLLEN memory.old table.old block payload layout.size
+        (λ s u. IsResized FLLEN SLLEN memory.old memory.new table.new s u layout.size payload) }
     ensures costs { Costs memory.old memory.new 22 0 }
     ensures own { SameOwn memory.old memory.new }
     ensures here { StaysHere memory.old memory.new }

@@ -39,7 +39,7 @@ move_elsewhere-requires g c =
 
 pub returns-in-Some-clause-step : goal.returns-in-Some-clause-step
 returns-in-Some-clause-step g c =
-    λ s u v is here first.
+    λ s u v is first here.
     let none = in_place-none s u c.args.layout.size first in
     let (p, third, at, carried) = c.in-Some.ensures.moved s u v is none here in
     IsReallocated-planned c.args.memory.now c.move_into_previous.new.memory c.args.table.now c.move_into_previous.new.table s u c.args.layout.size p
@@ -58,7 +58,7 @@ returns-in-Some-clause-kept_here g c = λ s u v is first here. c.in-Some.ensures
 
 pub returns-clause-step : goal.returns-clause-step
 returns-clause-step g c =
-    λ s u v is here first.
+    λ s u v is first here.
     let none = in_place-none s u c.args.layout.size first in
     let same = c.in_default.ensures.unchanged in
     let v1 = StandsFor-unchanged c.args.memory.now c.move_into_previous.new.memory c.args.table.now c.move_into_previous.new.table s 4 same v in

@@ -70,7 +70,7 @@ returns-clause-step g c =
     let first = c.resize_block.ensures.refused s u v is c.if-resize_block.false in
     IsReallocated-counted_first c.resize_block.new.memory c.move_block.new.memory c.resize_block.new.table c.move_block.new.table s u c.args.layout.size c.args.memory.now 2
     c.move_block.result same.0
-    (c.move_block.ensures.step s u v1 is (here-same c.args.memory.now c.resize_block.new.memory (usable u) same.0.start same.0.out here) first)
+    (c.move_block.ensures.step s u v1 is first (here-same c.args.memory.now c.resize_block.new.memory (usable u) same.0.start same.0.out here))
 
 pub returns-clause-refused : goal.returns-clause-refused
 returns-clause-refused g c =
