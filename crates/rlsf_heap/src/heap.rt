@@ -41,10 +41,11 @@ pub struct Heap<
     const SLLEN: usize,
 > {
     pub(crate) memory: OpenMemory,
+    // Before the table, which is long: here it is beside the words that each call reads.
+    pub(crate) live: usize,
     pub(crate) table: ClassTable<FLLEN, SLLEN>,
     pub(crate) state: GhostState,
     pub(crate) ledger: Ledger,
-    pub(crate) live: usize,
     // Of no element. A type that has an array beside a type parameter is known to be below 2^63 bytes, whatever else it holds.
     bitmaps: [PhantomData<(FLBitmap, SLBitmap)>; 0],
 }
