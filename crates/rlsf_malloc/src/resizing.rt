@@ -71,6 +71,8 @@ pub(crate) fn resize_aligned<F: BitPattern, S: BitPattern, const FLLEN: usize, c
 
 /// Changes the size of a payload of a wide alignment, which isn't known. It stays at its address, with its alignment, if the bytes of its
 /// block and of a free block behind it suffice. Else it moves into a payload of the alignment 16.
+// Out of line, since wide alignments are rare. So the compiler needs no frame of it where a payload of the alignment 16 stays.
+#[inline(never)]
 fn resize_wide<F: BitPattern, S: BitPattern, const FLLEN: usize, const SLLEN: usize>(
     heap: &mut Heap<F, S, FLLEN, SLLEN>,
     addr: usize,
