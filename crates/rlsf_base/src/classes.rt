@@ -262,8 +262,7 @@ pub fn class_of_block<const SLLEN: usize>(size: usize) -> (usize, usize)
     requires size { (32 ≤ size) × (size < 2 ^ 59) }
     ensures { result ≡ sizes.indices (class_of SLLEN size) }
 {
-    // Subtracted from the narrow number: else the compiler keeps both, and has a register less.
-    let row = ((2 * size + 1).ilog2() - 6) as usize;
+    let row = (2 * size + 1).ilog2() as usize - 6;
     (row, (scaled::<SLLEN>(size) >> row) - SLLEN)
 }
 

@@ -12,7 +12,7 @@ ghost use Rattle.rlsf_table.specs.FreeTable.{AtEachListed, AtEachNewest, AtEachR
 
 use crate::block_words::{NEXT_FREE, PREVIOUS_FREE};
 use crate::table::{ClassIndex, ClassTable};
-use rlsf_base::classes::class_of_block;
+use rlsf_base::classes::{class_of, class_of_block};
 use rlsf_base::memory::{OpenMemory, View};
 
 /// Returns the address of the link to the block before, which is written when the list from `first` on gets another front. It is in
@@ -96,8 +96,8 @@ pub fn link_free_block<const FLLEN: usize, const SLLEN: usize>(
     ensures step { AtEachRoom FLLEN SLLEN memory.old table.old block len (IsLinked FLLEN SLLEN memory.old memory.new table.new) }
     ensures costs { Costs memory.old memory.new 9 0 }
 {
-    memory.is_below_limit();
-    let (fl, sl) = class_of_block::<SLLEN>(len);
+    // Here `class_of_block` would take a register more, which an allocation would have to save.
+    let (fl, sl) = class_of::<SLLEN>(len);
     let newest = table.head(memory, fl, sl);
     link_front(memory, view, newest, block);
     table.put(memory, fl, sl, block);

@@ -7,23 +7,23 @@ use Rattle.rlsf_table.proofs.FreeLists.Counted.{HasTable-counted, IsRoom-counted
 use Rattle.rlsf_table.proofs.FreeLists.Indices.{IsClassAt-told, room}
 use Rattle.rlsf_table.proofs.list.link_free_block.Goals as goal
 
-pub class_of_block-fl-requires-clause-size : goal.class_of_block-fl-requires-clause-size
-class_of_block-fl-requires-clause-size g c =
+pub class_of-fl-requires-clause-size : goal.class_of-fl-requires-clause-size
+class_of-fl-requires-clause-size g c =
     let (r, free, place, len, beside) = c.requires.room in
-    (omega (arith, len, room c.requires.parameters beside.block), omega (arith, len, beside.placed.lies_in, c.is_below_limit.ensures))
+    omega (arith, len, room c.requires.parameters beside.block)
 
 pub head-newest-requires : goal.head-newest-requires
 head-newest-requires g c =
     let (r, free, place, len, beside) = c.requires.room in
-    let at = IsClassAt-told c.requires.parameters beside.block c.args.len c.class_of_block-fl.result len c.class_of_block-fl.ensures in
+    let at = IsClassAt-told c.requires.parameters beside.block c.args.len c.class_of-fl.result len c.class_of-fl.ensures in
     (omega arith, (at.row, at.place))
 
 pub link_front-requires-clause-place : goal.link_front-requires-clause-place
 link_front-requires-clause-place g c =
-    let fl = c.class_of_block-fl.result.0 in
-    let sl = c.class_of_block-fl.result.1 in
+    let fl = c.class_of-fl.result.0 in
+    let sl = c.class_of-fl.result.1 in
     let (r, free, place, len, beside) = c.requires.room in
-    let at = IsClassAt-told c.requires.parameters beside.block c.args.len c.class_of_block-fl.result len c.class_of_block-fl.ensures in
+    let at = IsClassAt-told c.requires.parameters beside.block c.args.len c.class_of-fl.result len c.class_of-fl.ensures in
     let counts = c.head-newest.ensures.counts in
     let kept = IsRoom-counted c.args.memory.now c.head-newest.new.memory counts.start counts.bytes counts.out beside in
     let list = IsFreeList-of_class_from kept.list fl sl at.row at.place c.head-newest.result c.head-newest.ensures.value in
@@ -32,7 +32,7 @@ link_front-requires-clause-place g c =
 pub put-requires : goal.put-requires
 put-requires g c =
     let (r, free, place, len, beside) = c.requires.room in
-    let at = IsClassAt-told c.requires.parameters beside.block c.args.len c.class_of_block-fl.result len c.class_of_block-fl.ensures in
+    let at = IsClassAt-told c.requires.parameters beside.block c.args.len c.class_of-fl.result len c.class_of-fl.ensures in
     (omega arith, (c.requires.parameters, (at.row, at.place)))
 
 pub returns-clause-step : goal.returns-clause-step
@@ -41,9 +41,9 @@ returns-clause-step g c =
     let m = c.args.memory.now in
     let n = c.head-newest.new.memory in
     let o = c.link_front.new.memory in
-    let fl = c.class_of_block-fl.result.0 in
-    let sl = c.class_of_block-fl.result.1 in
-    let at = IsClassAt-told c.requires.parameters beside.block c.args.len c.class_of_block-fl.result len c.class_of_block-fl.ensures in
+    let fl = c.class_of-fl.result.0 in
+    let sl = c.class_of-fl.result.1 in
+    let at = IsClassAt-told c.requires.parameters beside.block c.args.len c.class_of-fl.result len c.class_of-fl.ensures in
     let read = c.head-newest.ensures.counts in
     let kept = IsRoom-counted m n read.start read.bytes read.out beside in
     let list = IsFreeList-of_class_from kept.list fl sl at.row at.place c.head-newest.result c.head-newest.ensures.value in
