@@ -1,7 +1,9 @@
 -- What a write does to hints.
-use Rattle.std.proofs.Common.{◌≡◌, ◌≢◌, ℕ, zero, suc, ◌<◌, ◌/◌, ◌%◌, List, [], ◌∷◌, ◌++◌, length, Some, refl, sym, ap, arith, ◌∙◌, get_or, set, slice_get, Vec, subst, inl, inr, get_or-set_same, get_or-set_other}
-use Rattle.std.proofs.lemmas.Bool.{cases_eq}
-use Rattle.rlsf_global.specs.Hints.{leaf_numbers, hint_at, KeepsOtherHints, HaveSameLeaves, KeepsOthers, HasAll}
+use Rattle.std.proofs.Common.{◌≡◌, ◌≢◌, ℕ, zero, length-set, suc, ◌<◌, ◌/◌, ◌%◌, List, [], ◌∷◌, ◌++◌, length, Some, refl, sym, ap, arith, ◌∙◌, get_or, set, slice_get, Vec, subst, inl, inr, get_or-set_same, get_or-set_other}
+use Rattle.std.proofs.lemmas.Bool.{cases_eq, cases_order}
+use Rattle.std.proofs.lemmas.List.{set_past}
+use Rattle.rlsf_global.proofs.ListElements.{get-length}
+use Rattle.rlsf_global.specs.Hints.{leaf_numbers, hint_at, AreLeaves, HasAll, HasSamePages, HaveSameLeaves, HintPages, IsLeaf, KeepsOtherHints, KeepsOthers}
 
 slice_get-set : {X : Type 0} → (xs : List X) (i : ℕ) (x : X) → i < length xs → slice_get (set xs i x) i ≡ Some x
 slice_get-set [] i x h = absurd (omega (arith, h))
@@ -109,3 +111,71 @@ module _ {Z : Type 0} (vs : List (Vec ℕ Z)) (old new : Vec ℕ Z) (place : ℕ
   leaf_kept before read same kept =
       subst (λ ls. KeepsOtherHints before place ls) (sym (leaf_numbers-set vs (place / 512) new))
       (hint_kept before (leaf_numbers vs) new.items place in_numbers same (subst (λ l. KeepsOthers l (place % 512) new.items) (leaf_read vs (place / 512) old within read) kept))
+
+-- ---- leaves are whole
+
+pub none_leaf : (xs : List ℕ) → length xs ≡ 0 → IsLeaf xs
+unfolding IsLeaf
+none_leaf xs e some = absurd (omega (arith, e, some))
+
+pub whole_leaf : (xs : List ℕ) → length xs ≡ 512 → IsLeaf xs
+unfolding IsLeaf
+whole_leaf xs e some = e
+
+pub set_leaf : (xs : List ℕ) (i n : ℕ) → IsLeaf xs → IsLeaf (set xs i n)
+unfolding IsLeaf
+set_leaf xs i n is some = length-set xs i n ∙ is (subst (λ m. 0 < m) (length-set xs i n) some)
+
+-- a leaf that isn't empty has each place
+pub in_leaf : (xs : List ℕ) (i : ℕ) → IsLeaf xs → 0 < length xs → i < 512 → i < length xs
+unfolding IsLeaf
+in_leaf xs i is some lt = omega (arith, is some, lt)
+
+pub no_leaves : AreLeaves []
+unfolding AreLeaves
+no_leaves q = none_leaf [] refl
+
+pub leaves_same : (before after : List (List ℕ)) → HaveSameLeaves before after → AreLeaves before → AreLeaves after
+unfolding AreLeaves HaveSameLeaves
+leaves_same before after same are q = subst IsLeaf (sym (same q)) (are q)
+
+leaves_set : (ls : List (List ℕ)) (k : ℕ) (l : List ℕ) → AreLeaves ls → IsLeaf l → AreLeaves (set ls k l)
+unfolding AreLeaves
+leaves_set ls k l are is q = elim (cases_eq q k) [
+  | inl here ↦ elim (cases_order k (length ls)) [
+    | inl end ↦ subst (λ m. IsLeaf (get_or m q [])) (sym (set_past ls k l (omega (arith, end)))) (are q)
+    | inr (inl within) ↦ subst (λ n. IsLeaf (get_or (set ls k l) n [])) (sym here) (subst IsLeaf (sym (get_or-set_same ls k l [] within)) is)
+    | inr (inr beyond) ↦ subst (λ m. IsLeaf (get_or m q [])) (sym (set_past ls k l (omega (arith, beyond)))) (are q)
+  ]
+  | inr off ↦ subst IsLeaf (sym (get_or-set_other ls k q l [] off)) (are q)
+]
+
+pub same_pages : (h : HintPages) → HasSamePages h h
+same_pages h = record { count = refl; wanted = refl }
+
+pub more_pages : (h i j : HintPages) → HasSamePages h i → HasSamePages i j → HasSamePages h j
+more_pages h i j one two = record { count = two.count ∙ one.count; wanted = two.wanted ∙ one.wanted }
+
+-- the leaf that a page is given has each place
+pub given_whole : (l s n : List ℕ) (i : ℕ) → IsLeaf l → IsLeaf s → 0 < length s → i < 512 → (0 < length l → n ≡ l) → (length l ≡ 0 → 0 < length s → n ≡ s) → i < length n
+given_whole l s n i leaf spare some lt same given = elim (cases_eq (length l) 0) [
+  | inl none ↦ subst (λ m. i < length m) (sym (given none some)) (in_leaf s i spare some lt)
+  | inr is ↦
+      let there : 0 < length l = omega (arith, is) in
+      subst (λ m. i < length m) (sym (same there)) (in_leaf l i leaf there lt)
+]
+
+-- a leaf of whole ones is written
+module _ {Z : Type 0} (vs : List (Vec ℕ Z)) (old : Vec ℕ Z) (place : ℕ) (within : place / 512 < length vs) (read : old ≡ get_or vs (place / 512) old) where
+  pub old_leaf : AreLeaves (leaf_numbers vs) → IsLeaf old.items
+  unfolding AreLeaves
+  old_leaf are = subst IsLeaf (sym (leaf_read vs (place / 512) old within read)) (are (place / 512))
+
+  pub has_place : (n : ℕ) → hint_at (leaf_numbers vs) place ≡ Some n → place % 512 < length old.items
+  has_place n here = get-length old.items (place % 512) n (ap (λ l. slice_get l (place % 512)) (leaf_read vs (place / 512) old within read) ∙ here)
+
+pub new_leaves : {Z : Type 0} (vs : List (Vec ℕ Z)) (k : ℕ) (new : Vec ℕ Z) → AreLeaves (leaf_numbers vs) → IsLeaf new.items → AreLeaves (leaf_numbers (set vs k new))
+new_leaves vs k new are is = subst AreLeaves (sym (leaf_numbers-set vs k new)) (leaves_set (leaf_numbers vs) k new.items are is)
+
+pub same_count : {Z : Type 0} (vs : List (Vec ℕ Z)) (k : ℕ) (new : Vec ℕ Z) → length (leaf_numbers (set vs k new)) ≡ length (leaf_numbers vs)
+same_count vs k new = ap length (leaf_numbers-set vs k new) ∙ length-set (leaf_numbers vs) k new.items

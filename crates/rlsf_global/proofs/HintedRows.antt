@@ -69,6 +69,11 @@ hinted-swap_remove base rows k m d hints after hinted lt read kept new i r here 
           record { above = first.above; hint = kept (place base (key r)) i apart first.hint }
     ]
 
+pub hinted-last : (base : ℕ) (rows : List Row) (m : Row) (hints : List (List ℕ)) → AreHinted base rows hints → 0 < length rows → m ≡ get_or rows (length rows - 1) m
+    → IsHinted base (key m) hints (length rows - 1)
+unfolding AreHinted
+hinted-last base rows m hints hinted some read = hinted (length rows - 1) m (get-some rows (length rows - 1) m (omega (arith, some)) ∙ ap Some (sym read))
+
 -- an entry replaced by one of its address
 pub hinted-set : (base : ℕ) (rows : List Row) (k : ℕ) (g new : Row) (hints : List (List ℕ)) → slice_get rows k ≡ Some g → key new ≡ key g → AreHinted base rows hints
     → AreHinted base (set rows k new) hints

@@ -1,5 +1,5 @@
 -- Entries in any order, and in that of their addresses.
-use Rattle.std.proofs.Common.{◌≡◌, ◌≢◌, ◌⊎◌, ℕ, zero, suc, ◌+◌, ◌-◌, ◌<◌, List, [], ◌∷◌, ◌++◌, length, Option, Some, None, refl, sym, ap, arith, ◌∙◌, get_or, set, take, slice_get, subst, inl, inr, swap_remove, Bool, true, false, ◌==◌, if◌then◌else◌}
+use Rattle.std.proofs.Common.{◌≡◌, ◌≢◌, ◌⊎◌, ℕ, zero, suc, ◌+◌, ◌-◌, ◌<◌, List, [], ◌∷◌, ◌++◌, length, Option, Some, None, refl, sym, ap, arith, ◌∙◌, get_or, set, take, slice_get, subst, inl, inr, swap_remove, Bool, true, false, ◌==◌, nat_lt, if◌then◌else◌}
 use Rattle.std.proofs.lemmas.Bool.{cases_eq, cases_order}
 use Rattle.std.proofs.lemmas.Bool.Decides.{eqb_tells, nat_tests}
 use Rattle.rlsf_model.specs.Lists.{IsIn}
@@ -80,6 +80,22 @@ in_order-sorted [] apart = tt
 in_order-sorted (x ∷ rows) apart =
     let none : row_at (key x) (in_order rows) ≡ None = row_at-in_order (key x) rows ∙ row_at-none (key x) rows (head_apart x rows apart) in
     put-sorted x (in_order rows) (in_order-sorted rows (tail_apart x rows apart)) (absent-row_at (key x) (in_order rows) none)
+
+length-put : (row : Row) (rows : List Row) → row_at (key row) rows ≡ None → length (put row rows) ≡ suc (length rows)
+length-put row [] none = refl
+length-put row (r ∷ rows) none = by (key r == key row) (nat_lt (key r) (key row)) none (length-put row rows)
+  where
+    by : (eq lt : Bool) → (if eq then Some r else row_at (key row) rows) ≡ None → (row_at (key row) rows ≡ None → length (put row rows) ≡ suc (length rows))
+        → length (if lt then r ∷ put row rows else if eq then row ∷ rows else row ∷ r ∷ rows) ≡ suc (suc (length rows))
+    by true lt e rest = absurd (cc)
+    by false true e rest = ap suc (rest e)
+    by false false e rest = refl
+
+pub length-in_order : (rows : List Row) → AreApart rows → length (in_order rows) ≡ length rows
+length-in_order [] apart = refl
+length-in_order (x ∷ rows) apart =
+    let none : row_at (key x) (in_order rows) ≡ None = row_at-in_order (key x) rows ∙ row_at-none (key x) rows (head_apart x rows apart) in
+    length-put x (in_order rows) none ∙ ap suc (length-in_order rows (tail_apart x rows apart))
 
 -- below the first entry there is none
 row_at-below : (a : ℕ) (rows : List Row) → ((r : Row) → IsIn r rows → a < key r) → row_at a rows ≡ None

@@ -1,5 +1,5 @@
 -- Two payloads never share a spot: the 16 bytes before a payload are of its own block, which is whole.
-use Rattle.std.proofs.Common.{◌≡◌, ℕ, ◌*◌, List, Some, arith, ap, subst, sym, ◌∙◌}
+use Rattle.std.proofs.Common.{◌≡◌, ℕ, ◌*◌, List, arith, ap, subst, sym, ◌∙◌}
 use Rattle.rlsf_base.specs.declared.memory.range.Range.{Range}
 use Rattle.rlsf_flex.specs.StandsFor.{FlexContents}
 use Rattle.rlsf_global.proofs.Placements.{live_row}
@@ -13,7 +13,7 @@ use Rattle.rlsf_model.specs.Lists.{IsIn}
 use Rattle.rlsf_model.specs.State.{State, Used}
 use Rattle.rlsf_model.specs.WellFormed.{IsUsed, IsWellFormed, covers}
 use Rattle.rlsf_model_global.specs.Cursor.{PageCursor}
-use Rattle.rlsf_model_global.specs.Rows.{Row, row_at}
+use Rattle.rlsf_model_global.specs.Rows.{Row}
 
 -- a payload's block has the spot's first byte
 spot_inside : (u : Used) → IsUsed u → covers u.block (spot u.payload * 32) ≡ 1

@@ -1,17 +1,35 @@
 -- Answers of a table, and what its changes are in the order of addresses.
-use Rattle.std.proofs.Common.{◌≡◌, ℕ, List, [], true, Some, None, IsSome, sym, ap, ◌∙◌, get_or, set, slice_get, subst, inl, inr, swap_remove}
+use Rattle.std.proofs.Common.{◌≡◌, ℕ, List, [], true, Some, None, IsSome, sym, ap, arith, Bool, ◌<◌, ◌≤◌, length, length-set, ◌∙◌, get_or, set, slice_get, subst, inl, inr, swap_remove}
 use Rattle.std.proofs.lemmas.Bool.{cases_eq, false≢true}
 use Rattle.rlsf_model_global.specs.Rows.{Row, key, row_at, put, without_row}
 use Rattle.rlsf_model_global.proofs.Rows.{without_row-sorted}
 use Rattle.rlsf_model_global.proofs.Maps.{row_at-without_here, row_at-without_other}
-use Rattle.rlsf_global.proofs.ListElements.{get-some}
-use Rattle.rlsf_global.proofs.HintedRows.{hinted-set}
+use Rattle.rlsf_global.proofs.ListElements.{get-some, some_same}
+use Rattle.rlsf_global.proofs.HintedRows.{hinted-set, hinted_same}
 use Rattle.rlsf_global.proofs.RowsInOrder.{row_at-some, row_at-in_order, in_order-sorted, same_rows, in_order-swap_remove, apart-swap_remove, in_order-set, apart-set}
+use Rattle.rlsf_global.specs.Hints.{HaveSameLeaves}
 use Rattle.rlsf_global.specs.LiveRows.{AreApart, AreHinted, IsIndexed, IsRowAt, in_order}
+
+-- the entry at an index, if there is one
+pub row_read : List Row → ℕ → Row → Row
+row_read rows i d = get_or rows i d
+
+pub has_read : (rows : List Row) (i : ℕ) (d : Row) → i < length rows → row_read rows i d ≡ get_or rows i (row_read rows i d)
+unfolding row_read
+has_read rows i d lt = some_same (sym (get-some rows i d lt) ∙ get-some rows i (get_or rows i d) lt)
+
+pub replaced_few : (rows : List Row) (i : ℕ) (new : Row) → length (set rows i new) ≡ length rows
+replaced_few rows i new = length-set rows i new
 
 pub none_indexed : (base : ℕ) (hints : List (List ℕ)) → IsIndexed base [] hints true
 unfolding AreApart AreHinted
-none_indexed base hints = record { apart = λ i j r s h g same. absurd (cc); hinted = λ _ i r h. absurd (cc) }
+none_indexed base hints = record { apart = λ i j r s h g same. absurd (cc); hinted = λ _ i r h. absurd (cc); few = λ _. omega arith }
+
+-- hints with the same leaves, and more of them empty
+pub same_indexed : (base : ℕ) (rows : List Row) (before after : List (List ℕ)) (exact : Bool) → AreApart rows → (exact ≡ true → AreHinted base rows before)
+    → (exact ≡ true → length rows ≤ 4294967296) → HaveSameLeaves before after → IsIndexed base rows after exact
+same_indexed base rows before after exact apart hinted few same =
+    record { apart = apart; hinted = λ is. hinted_same base rows before after same (hinted is); few = few }
 
 module _ (rows : List Row) (addr : ℕ) where
   pub row_none : row_at addr rows ≡ None → None ≡ row_at addr (in_order rows)

@@ -1,21 +1,7 @@
 -- The table of live payloads as contracts see it, and how it is kept.
-use Rattle.std.specs.Prelude.{◌≡◌, ◌≢◌, ℕ, ◌-◌, ◌<◌, ◌≤◌, ◌/◌, Bool, true, List, [], ◌∷◌, Option, Some, None, length, slice_get, slice_index_or, MatchOption}
+use Rattle.std.specs.Prelude.{◌≡◌, ◌≢◌, ℕ, ◌*◌, ◌-◌, ◌<◌, ◌≤◌, ◌/◌, Bool, true, List, [], ◌∷◌, Option, Some, None, length, slice_get, slice_index_or, MatchOption}
 use Rattle.rlsf_model_global.specs.Rows.{Row, key, put, row_at}
-use Rattle.rlsf_global.specs.Hints.{hint_at}
-
--- the entries in the order of their addresses, and how many more have room
-pub record LiveRows : Type 0 where
-  pub rows : List Row
-  pub room : ℕ
-
--- entries in the order of their addresses. Of two with one address the first counts
-abbrev pub in_order : List Row → List Row
-in_order [] = []
-in_order (r ∷ rows) = put r (in_order rows)
-
--- the value of a table with these entries, in any order
-abbrev pub live_rows : List Row → ℕ → LiveRows
-live_rows rows room = record { rows = in_order rows; room = room }
+use Rattle.rlsf_global.specs.Hints.{HintPages, hint_at}
 
 -- which 32 bytes of addresses a payload takes for itself: the 16 bytes before it are of its own block
 abbrev pub spot : ℕ → ℕ
@@ -24,6 +10,70 @@ spot addr = (addr - 16) / 32
 -- the place of an address among the hints of a space that begins at this spot
 abbrev pub place : ℕ → ℕ → ℕ
 place base addr = spot addr - base
+
+-- entries in any order, and how many more have room
+pub record RowList : Type 0 where
+  pub items : List Row
+  pub room : ℕ
+
+-- entries by their parts
+abbrev pub row_list : List Row → ℕ → RowList
+row_list items room = record { items = items; room = room }
+
+-- The addresses that have hints: the first spot, how many pages of 512 places are wanted, and how many are there.
+pub record HintSpace : Type 0 where
+  pub first : ℕ
+  pub pages : ℕ
+  pub there : ℕ
+
+-- A table as contracts see it: the entries in the order of their addresses, and how many more have room. Whether each entry has its hint,
+-- the addresses that have hints, and how many numbers the spare leaf has. And how many entries were read or changed so far.
+pub record LiveRows : Type 0 where
+  pub rows : List Row
+  pub room : ℕ
+  pub hinted : Bool
+  pub space : HintSpace
+  pub spare : ℕ
+  pub looks : ℕ
+
+-- an entry can be put without memory from the system, and keep its hint
+pub record IsReady (t : LiveRows) : Type 0 where
+  pub spare : 0 < t.spare
+  pub all : t.space.pages ≤ t.space.there
+
+-- an address has a place among the hints
+pub record HasPlace (s : HintSpace) (addr : ℕ) : Type 0 where
+  pub above : s.first ≤ spot addr
+  pub below : place s.first addr < s.pages * 512
+
+-- the addresses that have hints are the same, and none is gone
+pub record HasSameSpace (before after : HintSpace) : Type 0 where
+  pub first : after.first ≡ before.first
+  pub pages : after.pages ≡ before.pages
+
+-- where entries had their hints, they have them
+abbrev pub KeepsHints : LiveRows → LiveRows → Type 0
+KeepsHints before after = before.hinted ≡ true → after.hinted ≡ true
+
+-- A table that is ready keeps its hints as an entry comes, if the entry's address has a place, and there are few entries.
+abbrev pub KeepsHintsWith : LiveRows → ℕ → LiveRows → Type 0
+KeepsHintsWith before addr after = IsReady before → HasPlace before.space addr → length before.rows < 4294967296 → KeepsHints before after
+
+-- entries in the order of their addresses. Of two with one address the first counts
+abbrev pub in_order : List Row → List Row
+in_order [] = []
+in_order (r ∷ rows) = put r (in_order rows)
+
+-- the value of a table with these entries, in any order
+abbrev pub live_rows : RowList → HintPages → ℕ → Bool → ℕ → LiveRows
+live_rows rows hints base exact looks = record {
+  rows = in_order rows.items;
+  room = rows.room;
+  hinted = exact;
+  space = record { first = base; pages = hints.pages; there = length hints.leaves };
+  spare = hints.spare;
+  looks = looks;
+}
 
 -- no two entries have one spot, as callers say it
 unfoldable pub AreSpread : List Row → Type 0
@@ -46,10 +96,11 @@ AreHinted base rows hints = (i : ℕ) (r : Row) → slice_get rows i ≡ Some r 
 unfoldable pub HasNoneAt : List Row → ℕ → Type 0
 HasNoneAt rows p = (i : ℕ) (r : Row) → slice_get rows i ≡ Some r → spot (key r) ≢ p
 
--- what is true of each table: where it is exact, hints have each entry
+-- what is true of each table: where it is exact, hints have each entry, and an index has 32 bits
 pub record IsIndexed (base : ℕ) (rows : List Row) (hints : List (List ℕ)) (exact : Bool) : Type 0 where
   pub apart : AreApart rows
   pub hinted : exact ≡ true → AreHinted base rows hints
+  pub few : exact ≡ true → length rows ≤ 4294967296
 
 -- the entry of an address is at i
 pub record IsRowAt (rows : List Row) (addr i : ℕ) : Type 0 where

@@ -1,15 +1,19 @@
 //! The table of live payloads.
 
-ghost use Rattle.std.specs.Prelude.{◌≡◌, ◌≤◌, ◌<◌, ◌+◌, [], None, IfNone, IsSome, OnOk, OnSome};
+ghost use Rattle.std.specs.Prelude.{◌≡◌, ◌≤◌, ◌<◌, ◌+◌, ◌/◌, [], None, IfNone, IsSome, OnOk, OnSome, true};
 ghost use Rattle.rlsf_base.specs.Addr.{at};
-ghost use Rattle.rlsf_global.specs.LiveRows.{AreSpread};
+ghost use Rattle.rlsf_global.specs.LiveRows.{AreSpread, HasSameSpace, IsReady, KeepsHints, KeepsHintsWith};
 ghost use Rattle.rlsf_model_global.specs.Rows.{key, put, row_at, without_row};
 
+mod counted_rows;
 mod entries;
 mod hints;
+pub(crate) mod looks;
 
-use crate::live_table::entries::{append, find, rebuild, take_out};
+use crate::live_table::counted_rows::CountedRows;
+use crate::live_table::entries::{append, find, mend, take_out};
 use crate::live_table::hints::Hints;
+use crate::live_table::looks::Looks;
 use rlsf_base::memory::{Addr, Layout};
 use std::alloc::{AllocError, Global};
 use std::marker::Model;
@@ -18,62 +22,78 @@ use std::marker::Model;
 ///
 /// The entries are kept in any order. For each 32 bytes of the addresses in use, a hint has the index of the entry. So a call looks at one
 /// entry, however many there are. Where the system was out of memory for a hint, calls look at every entry until the next allocation.
+///
+/// The table counts the entries that its calls read or change (`looks`). While each entry has its hint (`hinted`), no call counts more than
+/// five. Hints stay: only an entry that moves to addresses without a leaf may lose its hint, if there is no spare leaf and no memory.
 #[derive(Drop)]
 pub(crate) struct LiveTable {
-    rows: Vec<(Addr, Layout)>,
+    rows: CountedRows,
     hints: Hints,
     // How many places are before the space.
     base: usize,
     // Whether hints tell each entry.
     exact: bool,
+    looks: Looks,
 }
 
 impl Model for LiveTable {
-    ghost use Rattle.std.specs.Prelude.{◌-◌};
-    ghost use Rattle.std.specs.Vec.{vec_capacity, vec_len};
     ghost use Rattle.rlsf_global.specs.LiveRows.{IsIndexed, LiveRows, live_rows};
 
     ghost Value = { LiveRows };
 
-    ghost view = { λ t. live_rows t.rows.items (vec_capacity t.rows - vec_len t.rows) };
+    ghost view = { λ t. live_rows t.rows t.hints t.base t.exact t.looks.count };
 
-    ghost invariant = { λ t. IsIndexed t.base t.rows.items t.hints t.exact };
+    ghost invariant = { λ t. IsIndexed t.base t.rows.items t.hints.leaves t.exact };
 }
 
 impl LiveTable {
     /// Creates a table without entries, for the addresses of a range of `len` bytes from `start` on.
     pub(crate) fn new(alloc: Global, start: usize, len: usize) -> LiveTable
-        ensures { result.rows ≡ [] }
+        ensures rows { result.rows ≡ [] }
+        ensures hinted { result.hinted ≡ true }
+        ensures first { result.space.first ≡ start / 32 }
+        ensures pages { result.space.pages ≡ (len / 32 + 1) / 512 + 1 }
+        ensures looks { result.looks ≡ 0 }
     {
         LiveTable {
-            rows: Vec::new(alloc),
+            rows: CountedRows::new(alloc),
             hints: Hints::new(alloc, len / 32 + 1),
             base: start / 32,
             exact: true,
+            looks: Looks::new(),
         }
     }
 
     /// Reserves room for an entry and its hint. If hints aren't exact, it sets them anew.
-    #[tactic(auto, using(crate::proofs::HintedRows::hinted_same))]
     pub(crate) fn reserve(&mut self) -> Result<(), AllocError>
         ensures rows { self.new.rows ≡ self.old.rows }
         ensures room { OnOk result (0 < self.new.room) }
+        ensures hinted { OnOk result (self.new.hinted ≡ true) }
+        ensures kept { KeepsHints self.old self.new }
+        ensures ready { OnOk result (IsReady self.new) }
+        ensures space { HasSameSpace self.old.space self.new.space }
+        ensures looks { self.old.hinted ≡ true → self.new.looks ≡ self.old.looks }
     {
-        if !self.exact {
-            self.exact = rebuild(&self.rows, &mut self.hints, self.base, self.exact);
-        }
-        if self.rows.try_reserve(1).is_err() || !self.hints.prepare() || !self.exact {
+        self.exact = mend(
+            &self.rows,
+            &mut self.hints,
+            self.base,
+            self.exact,
+            &mut self.looks,
+        );
+        if !self.rows.reserve() || !self.hints.prepare() || !self.exact {
             return Err(AllocError);
         }
         Ok(())
     }
 
     /// Returns the entry of an address, if it has one.
-    pub(crate) fn get(&self, addr: Addr) -> Option<(Addr, Layout)>
-        ensures { result ≡ row_at (at addr) self.now.rows }
+    pub(crate) fn get(&self, addr: Addr, looks: &mut Looks) -> Option<(Addr, Layout)>
+        ensures row { result ≡ row_at (at addr) self.now.rows }
+        ensures looks { self.now.hinted ≡ true → looks.new.count ≤ looks.old.count + 2 }
     {
-        match find(&self.rows, &self.hints, self.base, self.exact, addr) {
-            Some(index) => Some(self.rows[index]),
+        match find(&self.rows, &self.hints, self.base, self.exact, addr, looks) {
+            Some(index) => Some(self.rows.row(index, looks)),
             None => None,
         }
     }
@@ -85,8 +105,18 @@ impl LiveTable {
         requires spread { AreSpread (put row self.old.rows) }
         ensures rows { self.new.rows ≡ put row self.old.rows }
         ensures room { self.old.room ≤ self.new.room + 1 }
+        ensures hinted { KeepsHintsWith self.old (key row) self.new }
+        ensures space { HasSameSpace self.old.space self.new.space }
+        ensures looks { self.new.looks ≡ self.old.looks + 1 }
     {
-        self.exact = append(&mut self.rows, &mut self.hints, self.base, self.exact, row);
+        self.exact = append(
+            &mut self.rows,
+            &mut self.hints,
+            self.base,
+            self.exact,
+            row,
+            &mut self.looks,
+        );
     }
 
     /// Removes the entry of an address, if it has one. Returns it.
@@ -96,16 +126,28 @@ impl LiveTable {
         ensures room { self.old.room ≤ self.new.room }
         ensures unchanged { IfNone result (self.new.rows ≡ self.old.rows) }
         ensures more_room { OnSome result (0 < self.new.room) }
+        ensures hinted { KeepsHints self.old self.new }
+        ensures ready { self.old.hinted ≡ true → IsReady self.old → IsReady self.new }
+        ensures space { HasSameSpace self.old.space self.new.space }
+        ensures looks { self.old.hinted ≡ true → self.new.looks ≤ self.old.looks + 5 }
     {
-        match find(&self.rows, &self.hints, self.base, self.exact, addr) {
+        match find(
+            &self.rows,
+            &self.hints,
+            self.base,
+            self.exact,
+            addr,
+            &mut self.looks,
+        ) {
             Some(index) => {
-                let row = self.rows[index];
+                let row = self.rows.row(index, &mut self.looks);
                 self.exact = take_out(
                     &mut self.rows,
                     &mut self.hints,
                     self.base,
                     self.exact,
                     index,
+                    &mut self.looks,
                 );
                 Some(row)
             }
@@ -118,9 +160,20 @@ impl LiveTable {
         requires live { IsSome (row_at (key row) self.old.rows) }
         ensures rows { self.new.rows ≡ put row (without_row (key row) self.old.rows) }
         ensures room { self.new.room ≡ self.old.room }
+        ensures hinted { self.new.hinted ≡ self.old.hinted }
+        ensures ready { IsReady self.old → IsReady self.new }
+        ensures space { self.new.space ≡ self.old.space }
+        ensures looks { self.old.hinted ≡ true → self.new.looks ≤ self.old.looks + 2 }
     {
-        if let Some(index) = find(&self.rows, &self.hints, self.base, self.exact, row.0) {
-            self.rows[index] = row;
+        if let Some(index) = find(
+            &self.rows,
+            &self.hints,
+            self.base,
+            self.exact,
+            row.0,
+            &mut self.looks,
+        ) {
+            self.rows.set_row(index, row, &mut self.looks);
         }
     }
 
@@ -130,6 +183,9 @@ impl LiveTable {
         requires fresh { row_at (key row) (without_row (at addr) self.old.rows) ≡ None }
         requires spread { AreSpread (put row (without_row (at addr) self.old.rows)) }
         ensures rows { self.new.rows ≡ put row (without_row (at addr) self.old.rows) }
+        ensures hinted { KeepsHintsWith self.old (key row) self.new }
+        ensures space { HasSameSpace self.old.space self.new.space }
+        ensures looks { self.old.hinted ≡ true → self.new.looks ≤ self.old.looks + 6 }
     {
         if row.0.get() == addr.get() {
             self.replace(row);
@@ -144,11 +200,13 @@ impl LiveTable {
         ensures { result.items ≡ self.rows }
     {
         let LiveTable {
-            mut rows,
+            rows,
             hints: _,
             base: _,
             exact: _,
+            looks: _,
         } = self;
+        let mut rows = rows.into_vec();
         rows.sort_unstable_by_key(|row| row.0.get());
         rows
     }

@@ -19,6 +19,7 @@ ghost use Rattle.rlsf_model_global.specs.Rows.{IsSorted};
 ghost use Rattle.rlsf_model_global.specs.Steps.{HeapAllocates, HeapDeallocates, HeapDeallocatesAs, HeapReads, HeapUsable, HeapWrites};
 
 use crate::live_table::LiveTable;
+use crate::live_table::looks::Looks;
 use crate::moves::{PagedTlsf, move_away, resize};
 use rlsf_base::memory::{Addr, Layout, Memory, Range};
 use rlsf_flex::{FlexTlsf, GlobalTlsfOptions, Source};
@@ -156,7 +157,7 @@ impl<Options: GlobalTlsfOptions> Locked<Options> {
         ensures memory { KeepsMemory (flex_of self.old) (flex_of self.new) }
         ensures copied { self.new.memory.copied ≡ self.old.memory.copied }
     {
-        let Some(row) = self.rows.get(addr) else {
+        let Some(row) = self.rows.get(addr, &mut Looks::new()) else {
             // Refused before the layout is compared: an address without an entry has none.
             return Err(GlobalError::UnknownAddress);
         };
@@ -211,7 +212,7 @@ impl<Options: GlobalTlsfOptions> Locked<Options> {
         ensures memory { KeepsMemory (flex_of self.old) (flex_of self.new) }
         ensures copied { CopiesOnResize Options.ENABLE_REALLOCATION self.old.heap.flex.machine (at addr) layout.size new_size self.old.memory self.new.memory }
     {
-        let Some(row) = self.rows.get(addr) else {
+        let Some(row) = self.rows.get(addr, &mut Looks::new()) else {
             return Err(GlobalError::UnknownAddress);
         };
         if row.1 != layout {
@@ -252,7 +253,7 @@ impl<Options: GlobalTlsfOptions> Locked<Options> {
         ensures copied { OnOk result (self.new.memory.copied ≡ self.old.memory.copied + min layout.size (length (content_at self.old.heap (at addr)))) }
         ensures copied_none { OnErr result (self.new.memory.copied ≡ self.old.memory.copied) }
     {
-        let Some(row) = self.rows.get(addr) else {
+        let Some(row) = self.rows.get(addr, &mut Looks::new()) else {
             return Err(GlobalError::UnknownAddress);
         };
         let align = row.1.align();
@@ -296,7 +297,7 @@ impl<Options: GlobalTlsfOptions> Locked<Options> {
         ensures memory { KeepsMemory (flex_of self.old) (flex_of self.new) }
         ensures copied { self.new.memory.copied ≡ self.old.memory.copied }
     {
-        let Some(row) = self.rows.get(addr) else {
+        let Some(row) = self.rows.get(addr, &mut Looks::new()) else {
             return Err(GlobalError::UnknownAddress);
         };
         if row.1 != layout {
@@ -318,7 +319,7 @@ impl<Options: GlobalTlsfOptions> Locked<Options> {
         ensures unknown { IsErrOf result UnknownAddress ↔ (layout_at self.now.heap (at addr) ≡ None) }
         ensures len { IfOk result (λ n. n ≡ length (content_at self.now.heap (at addr))) }
     {
-        let Some(_row) = self.rows.get(addr) else {
+        let Some(_row) = self.rows.get(addr, &mut Looks::new()) else {
             return Err(GlobalError::UnknownAddress);
         };
         Ok(self.flex.allocation_usable_size(addr))
@@ -339,7 +340,7 @@ impl<Options: GlobalTlsfOptions> Locked<Options> {
         ensures told { OnOk result (bytes.new ≡ take (length bytes.old) (drop offset (content_at self.now.heap (at addr)))) }
         ensures refused { OnErr result (bytes.new ≡ bytes.old) }
     {
-        let Some(_row) = self.rows.get(addr) else {
+        let Some(_row) = self.rows.get(addr, &mut Looks::new()) else {
             return Err(GlobalError::UnknownAddress);
         };
         let payload = self.flex.payload(addr);
@@ -373,7 +374,7 @@ impl<Options: GlobalTlsfOptions> Locked<Options> {
         ensures memory { KeepsMemory (flex_of self.old) (flex_of self.new) }
         ensures copied { self.new.memory.copied ≡ self.old.memory.copied }
     {
-        let Some(_row) = self.rows.get(addr) else {
+        let Some(_row) = self.rows.get(addr, &mut Looks::new()) else {
             return Err(GlobalError::UnknownAddress);
         };
         if !fits(offset, bytes.len(), self.flex.allocation_usable_size(addr)) {

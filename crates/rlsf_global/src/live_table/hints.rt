@@ -1,7 +1,8 @@
 //! Hints: a number for each place of an address, in leaves that are made as places are used.
 
-ghost use Rattle.std.specs.Prelude.{◌≡◌, [], Some, true, slice_get};
-ghost use Rattle.rlsf_global.specs.Hints.{HasAll, HaveSameLeaves, KeepsOtherHints, KeepsOthers, hint_at, leaf_numbers};
+ghost use Rattle.std.specs.Prelude.{◌≡◌, ◌<◌, ◌≤◌, ◌+◌, ◌/◌, ℕ, [], Some, length, slice_get, true};
+ghost use Rattle.std.specs.Vec.{vec_len};
+ghost use Rattle.rlsf_global.specs.Hints.{HasAll, HasLeafFor, HasSamePages, HaveSameLeaves, IsLeaf, KeepsOtherHints, KeepsOthers, hint_at, leaf_numbers};
 
 use std::alloc::Global;
 use std::marker::Model;
@@ -23,18 +24,20 @@ pub(crate) struct Hints {
 }
 
 impl Model for Hints {
-    ghost use Rattle.std.specs.Prelude.{List, ℕ};
-    ghost use Rattle.rlsf_global.specs.Hints.{leaf_numbers};
+    ghost use Rattle.rlsf_global.specs.Hints.{AreLeaves, HintPages, IsLeaf, hint_pages, leaf_numbers};
 
-    ghost Value = { List (List ℕ) };
+    ghost Value = { HintPages };
 
-    ghost view = { λ h. leaf_numbers h.leaves.items };
+    ghost view = { λ h. hint_pages (leaf_numbers h.leaves.items) h.pages h.spare.items };
+
+    ghost invariant = { λ h. AreLeaves (leaf_numbers h.leaves.items) × IsLeaf h.spare.items };
 }
 
 impl Hints {
     /// Creates hints for places up to `last`, none of which has one. Makes room for all leaves, unless the system is out of memory.
     pub(crate) fn new(alloc: Global, last: usize) -> Hints
-        ensures { HaveSameLeaves [] result }
+        ensures leaves { HaveSameLeaves [] result.leaves }
+        ensures pages { result.pages ≡ last / 512 + 1 }
     {
         let pages = last / PLACES + 1;
         let mut leaves = Vec::new(alloc);
@@ -49,7 +52,10 @@ impl Hints {
 
     /// Makes what the next hint may need: room for all leaves, and a spare leaf. Returns whether both are there.
     pub(crate) fn prepare(&mut self) -> bool
-        ensures { HaveSameLeaves self.old self.new }
+        ensures leaves { HaveSameLeaves self.old.leaves self.new.leaves }
+        ensures pages { self.new.pages ≡ self.old.pages }
+        ensures all { result ≡ true → self.new.pages ≤ length self.new.leaves }
+        ensures spare { result ≡ true → 0 < self.new.spare }
     {
         if !reach(&mut self.leaves, self.pages, self.alloc) {
             return false;
@@ -60,7 +66,7 @@ impl Hints {
 
     /// Returns the hint of a place, if it has one.
     pub(crate) fn get(&self, place: usize) -> Option<u32>
-        ensures { result ≡ hint_at self.now place }
+        ensures { result ≡ hint_at self.now.leaves place }
     {
         let page = place / PLACES;
         if page < self.leaves.len() {
@@ -72,8 +78,12 @@ impl Hints {
 
     /// Sets the hint of a place. Returns whether it is set: there may be no leaf for it, and no memory for one.
     pub(crate) fn set(&mut self, place: usize, number: u32) -> bool
-        ensures set { result ≡ true → hint_at self.new place ≡ Some number }
-        ensures kept { KeepsOtherHints self.old place self.new }
+        ensures set { result ≡ true → hint_at self.new.leaves place ≡ Some number }
+        ensures kept { KeepsOtherHints self.old.leaves place self.new.leaves }
+        ensures again { (n : ℕ) → hint_at self.old.leaves place ≡ Some n → result ≡ true }
+        ensures spare { (n : ℕ) → hint_at self.old.leaves place ≡ Some n → self.new.spare ≡ self.old.spare }
+        ensures ready { HasLeafFor self.old place → result ≡ true }
+        ensures pages { HasSamePages self.old self.new }
     {
         let page = place / PLACES;
         if page >= self.leaves.len() {
@@ -91,7 +101,8 @@ impl Hints {
 
 /// Adds empty leaves until there are so many. Returns whether there are: the system may be out of memory for them.
 fn reach(leaves: &mut Vec<Vec<u32>>, pages: usize, alloc: Global) -> bool
-    ensures { HaveSameLeaves (leaf_numbers leaves.old.items) (leaf_numbers leaves.new.items) }
+    ensures leaves { HaveSameLeaves (leaf_numbers leaves.old.items) (leaf_numbers leaves.new.items) }
+    ensures all { result ≡ true → pages ≤ vec_len leaves.new }
 {
     if leaves
         .try_reserve_exact(pages.saturating_sub(leaves.len()))
@@ -109,7 +120,9 @@ fn reach(leaves: &mut Vec<Vec<u32>>, pages: usize, alloc: Global) -> bool
 
 /// Makes a leaf if it is empty, unless the system is out of memory.
 fn fill(leaf: &mut Vec<u32>, alloc: Global)
-    ensures { HasAll leaf.old.items leaf.new.items }
+    ensures all { HasAll leaf.old.items leaf.new.items }
+    ensures leaf { IsLeaf leaf.old.items → IsLeaf leaf.new.items }
+    ensures same { 0 < length leaf.old.items → leaf.new.items ≡ leaf.old.items }
 {
     if !leaf.is_empty() {
         return;
@@ -121,7 +134,12 @@ fn fill(leaf: &mut Vec<u32>, alloc: Global)
 
 /// Gives a page without a leaf the spare one, or else a new one.
 fn give(leaf: &mut Vec<u32>, spare: &mut Vec<u32>, alloc: Global)
-    ensures { HasAll leaf.old.items leaf.new.items }
+    ensures all { HasAll leaf.old.items leaf.new.items }
+    ensures leaf { IsLeaf leaf.old.items → IsLeaf spare.old.items → IsLeaf leaf.new.items }
+    ensures spare { IsLeaf leaf.old.items → IsLeaf spare.old.items → IsLeaf spare.new.items }
+    ensures same { 0 < length leaf.old.items → leaf.new.items ≡ leaf.old.items }
+    ensures same_spare { 0 < length leaf.old.items → spare.new.items ≡ spare.old.items }
+    ensures given { length leaf.old.items ≡ 0 → 0 < length spare.old.items → leaf.new.items ≡ spare.old.items }
 {
     if !leaf.is_empty() {
         return;
@@ -134,6 +152,11 @@ fn give(leaf: &mut Vec<u32>, spare: &mut Vec<u32>, alloc: Global)
 fn set_in(leaf: &mut Vec<u32>, spare: &mut Vec<u32>, at: usize, number: u32, alloc: Global) -> bool
     ensures set { result ≡ true → slice_get leaf.new.items at ≡ Some number }
     ensures kept { KeepsOthers leaf.old.items at leaf.new.items }
+    ensures leaf { IsLeaf leaf.old.items → IsLeaf spare.old.items → IsLeaf leaf.new.items }
+    ensures spare { IsLeaf leaf.old.items → IsLeaf spare.old.items → IsLeaf spare.new.items }
+    ensures again { at < length leaf.old.items → result ≡ true }
+    ensures same_spare { at < length leaf.old.items → spare.new.items ≡ spare.old.items }
+    ensures ready { IsLeaf leaf.old.items → IsLeaf spare.old.items → 0 < length spare.old.items → at < 512 → result ≡ true }
 {
     give(leaf, spare, alloc);
     if at >= leaf.len() {

@@ -8,4 +8,5 @@ pub returns : goal.returns
 returns c =
     let sort = c.sort_unstable_by_key.ensures in
     let sorted = sort.sorted key (answers_always _ _ _ (λ f a r g called. search rules)) in
-    rw (← c.self.view_is) (sorted_rows c.self.inside.rows.items c.sort_unstable_by_key.new.self.items c.self.invariant.apart sort.permutation sorted)
+    rw (← c.self.view_is) (sorted_rows c.self.inside.rows.items c.sort_unstable_by_key.new.self.items c.self.invariant.apart
+    (rw c.into_vec-rows.ensures at sort.permutation) sorted)

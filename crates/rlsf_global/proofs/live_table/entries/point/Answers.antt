@@ -13,8 +13,8 @@ returns-clause-set c = λ set.
     let same : c.spot_of-spot.result ≡ spot (at c.args.addr) = c.spot_of-spot.ensures in
     record {
       above = omega (arith, same);
-      hint = ap (λ s. hint_at c.set.new.self (s - c.args.base)) (sym same) ∙ c.set.ensures.set set;
+      hint = ap (λ s. hint_at c.set.new.self.leaves (s - c.args.base)) (sym same) ∙ c.set.ensures.set set;
     }
 
 pub returns-clause-kept : goal.returns-clause-kept
-returns-clause-kept c = subst (λ s. KeepsOtherHints c.args.hints.now (s - c.args.base) c.set.new.self) c.spot_of-spot.ensures c.set.ensures.kept
+returns-clause-kept c = subst (λ s. KeepsOtherHints c.args.hints.now.leaves (s - c.args.base) c.set.new.self.leaves) c.spot_of-spot.ensures c.set.ensures.kept

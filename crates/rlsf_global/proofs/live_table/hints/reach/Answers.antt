@@ -2,8 +2,8 @@ use Rattle.std.proofs.Common.{◌≡◌, is_ok, not, true, ap, ◌∙◌, ◌++�
 use Rattle.rlsf_global.proofs.HintLeaves.{same_leaves, pushed_leaves}
 use Rattle.rlsf_global.proofs.live_table.hints.reach.Goals as goal
 
-pub returns-then-is_err : goal.returns-then-is_err
-returns-then-is_err c = rw c.try_reserve_exact.ensures.items (same_leaves _)
+pub returns-then-is_err-clause-leaves : goal.returns-then-is_err-clause-leaves
+returns-then-is_err-clause-leaves c = rw c.try_reserve_exact.ensures.items (same_leaves _)
 
 pub loop-alloc-init : goal.loop-alloc-init
 loop-alloc-init c = rw c.try_reserve_exact.ensures.items (same_leaves _)

@@ -9,12 +9,12 @@ use Rattle.rlsf_global.proofs.locked.Locked.allocation_usable_size.Goals as goal
 
 pub allocation_usable_size-requires : goal.allocation_usable_size-requires
 allocation_usable_size-requires g c =
-    (lit< tt, live_here c.self.inside.flex c.self.inside.rows.rows c.self.invariant (at c.args.addr) _ (sym c.in-Some.ensures))
+    (lit< tt, live_here c.self.inside.flex c.self.inside.rows.rows c.self.invariant (at c.args.addr) _ (sym c.in-Some.ensures.row))
 
 pub returns-in_default : goal.returns-in_default
 returns-in_default g c = rw (← c.self.view_is) (record {
   step = search rules;
-  unknown = (unknown c.self.inside.flex c.self.inside.rows.rows (at c.args.addr) (sym c.in_default.ensures));
+  unknown = (unknown c.self.inside.flex c.self.inside.rows.rows (at c.args.addr) (sym c.in_default.ensures.row));
   len = tt;
 })
 
@@ -22,9 +22,9 @@ pub returns : goal.returns
 returns g c = rw (← c.self.view_is) (record {
   step =
       (usable_in (heap_of c.self.inside.flex c.self.inside.rows.rows) (at c.args.addr) _ c.allocation_usable_size.result
-      (sym c.in-Some.ensures) c.allocation_usable_size.ensures);
+      (sym c.in-Some.ensures.row) c.allocation_usable_size.ensures);
   unknown =
-      (known c.self.inside.flex c.self.inside.rows.rows (at c.args.addr) _ (sym c.in-Some.ensures)
+      (known c.self.inside.flex c.self.inside.rows.rows (at c.args.addr) _ (sym c.in-Some.ensures.row)
       (Ok c.allocation_usable_size.result) refl);
   len = (c.allocation_usable_size.ensures ∙ ap length (sym (content_at-is (heap_of c.self.inside.flex c.self.inside.rows.rows) (at c.args.addr))));
 })

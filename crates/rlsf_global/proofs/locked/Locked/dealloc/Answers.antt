@@ -19,7 +19,7 @@ taken_out g c = c.remove-gone.ensures.rows
 
 pub deallocate-requires : goal.deallocate-requires
 deallocate-requires g c =
-    (lit< tt, live_row c.self.inside.flex c.self.inside.rows.rows c.self.invariant (at c.args.addr) c.in-Some.row (sym c.in-Some.ensures) ∙ ap Some (sym c.align.ensures.value))
+    (lit< tt, live_row c.self.inside.flex c.self.inside.rows.rows c.self.invariant (at c.args.addr) c.in-Some.row (sym c.in-Some.ensures.row) ∙ ap Some (sym c.align.ensures.value))
 
 pub invariant_of-self : goal.invariant_of-self
 invariant_of-self g c =
@@ -30,11 +30,11 @@ pub returns-in_default : goal.returns-in_default
 returns-in_default g c = rw (← c.self.view_is) (record {
   step = (
       let h = heap_of c.self.inside.flex c.self.inside.rows.rows in
-      let absent = sym c.in_default.ensures in
+      let absent = sym c.in_default.ensures.row in
       subst (λ o. DeallocatesAsAt h (at c.args.addr) c.args.layout o (Err UnknownAddress) h) (sym absent) (refl, refl));
   refused = refl;
   deallocation = (
-      let absent = sym c.in_default.ensures in
+      let absent = sym c.in_default.ensures.row in
       let none = unknown c.self.inside.flex c.self.inside.rows.rows (at c.args.addr) absent in
       IsDeallocation-refused (heap_of c.self.inside.flex c.self.inside.rows.rows) (at c.args.addr) UnknownAddress none);
   touches = omega arith;
@@ -46,12 +46,12 @@ returns-in_default g c = rw (← c.self.view_is) (record {
 pub returns-then-ne : goal.returns-then-ne
 returns-then-ne g c = rw (← c.self.view_is) (record {
   step = (
-      let found = sym c.in-Some.ensures in
+      let found = sym c.in-Some.ensures.row in
       deallocates_out (heap_of c.self.inside.flex c.self.inside.rows.rows) (at c.args.addr) c.args.layout
       c.in-Some.row (not-true _ c.if-ne.ensures) found);
   refused = refl;
   deallocation = (
-      let found = sym c.in-Some.ensures in
+      let found = sym c.in-Some.ensures.row in
       let unknown = known c.self.inside.flex c.self.inside.rows.rows (at c.args.addr) _ found (Err WrongLayout) refl in
       IsDeallocation-refused (heap_of c.self.inside.flex c.self.inside.rows.rows) (at c.args.addr) WrongLayout unknown);
   touches = omega arith;
@@ -65,7 +65,7 @@ returns g c = rw (← c.self.view_is) (record {
   step = (
       let h = heap_of c.self.inside.flex c.self.inside.rows.rows in
       let after = heap_of c.deallocate.new.self c.remove-gone.new.self.rows in
-      let found = sym c.in-Some.ensures in
+      let found = sym c.in-Some.ensures.row in
       let row = found in
       let gone =
       released c.self.inside.flex c.self.inside.rows.rows c.self.invariant c.deallocate.new.self (at c.args.addr) c.deallocate.ensures.step c.deallocate.ensures.source _
@@ -76,7 +76,7 @@ returns g c = rw (← c.self.view_is) (record {
   deallocation = (
       let before = heap_of c.self.inside.flex c.self.inside.rows.rows in
       let after = heap_of c.deallocate.new.self c.remove-gone.new.self.rows in
-      let found = sym c.in-Some.ensures in
+      let found = sym c.in-Some.ensures.row in
       let unknown = known c.self.inside.flex c.self.inside.rows.rows (at c.args.addr) _ found (Ok tt) refl in
       IsDeallocation-done before after (at c.args.addr) unknown (taken_out g c) c.deallocate.ensures.deallocation.bytes);
   touches = c.deallocate.ensures.touches;

@@ -10,12 +10,12 @@ use Rattle.rlsf_global.proofs.locked.Locked.read_payload.Goals as goal
 
 pub payload-payload-requires : goal.payload-payload-requires
 payload-payload-requires g c =
-    (lit< tt, live_here c.self.inside.flex c.self.inside.rows.rows c.self.invariant (at c.args.addr) _ (sym c.in-Some.ensures))
+    (lit< tt, live_here c.self.inside.flex c.self.inside.rows.rows c.self.invariant (at c.args.addr) _ (sym c.in-Some.ensures.row))
 
 pub returns-in_default : goal.returns-in_default
 returns-in_default g c = rw (← c.self.view_is) (record {
   step = search rules;
-  unknown = (unknown c.self.inside.flex c.self.inside.rows.rows (at c.args.addr) (sym c.in_default.ensures));
+  unknown = (unknown c.self.inside.flex c.self.inside.rows.rows (at c.args.addr) (sym c.in_default.ensures.row));
   told = tt;
   refused = refl;
 })
@@ -25,10 +25,10 @@ returns-then-not-fits g c = rw (← c.self.view_is) (record {
   step = (
       let h = heap_of c.self.inside.flex c.self.inside.rows.rows in
       let lent = c.args.bytes.now in
-      reads_out h (at c.args.addr) c.args.offset _ (sym c.in-Some.ensures) lent
+      reads_out h (at c.args.addr) c.args.offset _ (sym c.in-Some.ensures.row) lent
       (c.if-not-fits.ensures ∙ ap (λ l. nat_le (c.args.offset + length lent) (length l)) c.payload-payload.ensures));
   unknown =
-      (known c.self.inside.flex c.self.inside.rows.rows (at c.args.addr) _ (sym c.in-Some.ensures) (Err OutOfRange) refl);
+      (known c.self.inside.flex c.self.inside.rows.rows (at c.args.addr) _ (sym c.in-Some.ensures.row) (Err OutOfRange) refl);
   told = tt;
   refused = refl;
 })
@@ -41,10 +41,10 @@ returns g c = rw (← c.self.view_is) (record {
       let offset = c.args.offset in
       let same = c.payload-payload.ensures in
       let n : offset + length lent - offset ≡ length lent = omega arith in
-      reads_in h (at c.args.addr) offset _ (sym c.in-Some.ensures) lent c.copy_from_slice.new.self
+      reads_in h (at c.args.addr) offset _ (sym c.in-Some.ensures.row) lent c.copy_from_slice.new.self
       (c.if-not-fits.ensures ∙ ap (λ l. nat_le (offset + length lent) (length l)) same)
       (c.copy_from_slice.ensures.after ∙ ap (λ k. take k (drop offset c.payload-payload.result.now)) n ∙ ap (λ l. take (length lent) (drop offset l)) same));
-  unknown = (known c.self.inside.flex c.self.inside.rows.rows (at c.args.addr) _ (sym c.in-Some.ensures) (Ok tt) refl);
+  unknown = (known c.self.inside.flex c.self.inside.rows.rows (at c.args.addr) _ (sym c.in-Some.ensures.row) (Ok tt) refl);
   told = (
       let lent = c.args.bytes.now in
       let offset = c.args.offset in

@@ -30,7 +30,7 @@ replaced g c = c.move_row.ensures.rows
 
 pub resize-requires : goal.resize-requires
 resize-requires g c =
-    let found = sym c.in-Some.ensures in
+    let found = sym c.in-Some.ensures.row in
     let row = found in
     let same = not-false _ c.if-ne.ensures in
     let live =
@@ -42,7 +42,7 @@ resize-requires g c =
     (lit< tt, (live, (sized, (c.from_size_align_unchecked-wanted.ensures.1 ∙ c.align.ensures.value, c.self.invariant.flex))))
 
 pub move_row-requires-clause-live : goal.move_row-requires-clause-live
-move_row-requires-clause-live g c = has_row c.self.inside.rows.rows (at c.args.addr) c.in-Some.row (sym c.in-Some.ensures)
+move_row-requires-clause-live g c = has_row c.self.inside.rows.rows (at c.args.addr) c.in-Some.row (sym c.in-Some.ensures.row)
 
 pub move_row-requires-clause-fresh : goal.move_row-requires-clause-fresh
 move_row-requires-clause-fresh g c =
@@ -68,7 +68,7 @@ did_step : (g : given.Over) (c : After-move_row g)
 did_step g c =
     let h = heap_of c.self.inside.flex c.self.inside.rows.rows in
     let after = heap_of c.resize.new.flex c.move_row.new.self.rows in
-    let found = sym c.in-Some.ensures in
+    let found = sym c.in-Some.ensures.row in
     let row = found in
     let wanted = c.from_size_align_unchecked-wanted in
     let enabled = g.Options.GlobalTlsfOptions.ENABLE_REALLOCATION in
@@ -116,7 +116,7 @@ returns g c =
     let before = heap_of c.self.inside.flex c.self.inside.rows.rows in
     let after = heap_of c.resize.new.flex c.move_row.new.self.rows in
     let contents = locked_contents c.self.inside.flex c.self.inside.rows.rows in
-    let found = sym c.in-Some.ensures in
+    let found = sym c.in-Some.ensures.row in
     let row = found in
     let sized =
     subst (λ n. n ≤ length (bytes_at c.self.inside.flex.state.machine (at c.args.addr))) (same_size c.in-Some.row.1 c.args.layout (not-false _ c.if-ne.ensures))
@@ -149,13 +149,13 @@ returns g c =
 
 pub returns-in_default : goal.returns-in_default
 returns-in_default g c =
-    let absent = sym c.in_default.ensures in
+    let absent = sym c.in_default.ensures.row in
     let unasked = unknown c.self.inside.flex c.self.inside.rows.rows (at c.args.addr) {A = NonZeroUsize} absent in
     rw (← c.self.view_is) (search (rules, unasked, KeepsMemory-refl, copies_nothing))
 
 pub returns-then-ne : goal.returns-then-ne
 returns-then-ne g c =
-    let found = sym c.in-Some.ensures in
+    let found = sym c.in-Some.ensures.row in
     rw (← c.self.view_is) (record {
       step =
           reallocates_out g.Options.GlobalTlsfOptions.ENABLE_REALLOCATION (heap_of c.self.inside.flex c.self.inside.rows.rows) (at c.args.addr) c.args.layout c.args.new_size
@@ -183,7 +183,7 @@ returns-in_default-resize g c =
     let call = (goal.at.returns-in_default-resize g c).After-resize in
     let h = heap_of c.self.inside.flex c.self.inside.rows.rows in
     let after = heap_of c.resize.new.flex c.self.inside.rows.rows in
-    let found = sym c.in-Some.ensures in
+    let found = sym c.in-Some.ensures.row in
     let row = found in
     let wanted = c.from_size_align_unchecked-wanted in
     let enabled = g.Options.GlobalTlsfOptions.ENABLE_REALLOCATION in

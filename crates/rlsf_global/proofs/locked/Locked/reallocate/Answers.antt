@@ -1,16 +1,15 @@
 use Rattle.rlsf_global.proofs.KeptMemories.{KeepsMemory-refl}
 use Rattle.rlsf_global.proofs.Layouts.{content_at-bytes, content_at-is, layout_at-moved_left, layout_at-moved_other, layout_at-none, layout_at-put_here}
-use Rattle.std.proofs.Common.{rules, ◌≡◌, ◌+◌, length, arith, min, Some, None, Ok, Err, lit<, ap, ◌∙◌, subst, sym, refl}
+use Rattle.std.proofs.Common.{rules, ◌≡◌, ◌+◌, length, arith, min, Some, Ok, Err, lit<, ap, ◌∙◌, subst, sym, refl}
 use Rattle.rlsf_base.specs.Addr.{at}
 use Rattle.rlsf_global.specs.Locked.{heap_of, locked_contents}
 use Rattle.rlsf_global.proofs.MovedPayloads.{moved_locked, moved_row, same_heap}
 use Rattle.rlsf_global.proofs.Kept.{kept_elsewhere}
 use Rattle.rlsf_global.proofs.Lives.{has_row, known, unknown}
 use Rattle.rlsf_global.proofs.Placements.{live_here, live_row, no_row}
-use Rattle.rlsf_model_global.proofs.Rows.{without_row-sorted}
 use Rattle.rlsf_model_global.specs.declared.error.GlobalError.TheVariants.{NoRoom}
 use Rattle.rlsf_model_global.specs.Moves.{HeapReallocates, MovesAway, ReallocatesAt}
-use Rattle.rlsf_model_global.specs.Rows.{IsSorted, put, row_at, without_row}
+use Rattle.rlsf_model_global.specs.Rows.{put, without_row}
 use Rattle.rlsf_global.proofs.locked.Locked.reallocate.Given as given
 use Rattle.rlsf_global.proofs.Spots.{spread}
 use Rattle.rlsf_global.proofs.locked.Locked.reallocate.Goals as goal
@@ -22,17 +21,17 @@ replaced g c = c.move_row.ensures.rows
 
 pub allocation_usable_size-requires : goal.allocation_usable_size-requires
 allocation_usable_size-requires g c =
-    (lit< tt, live_here c.self.inside.flex c.self.inside.rows.rows c.self.invariant (at c.args.addr) _ (sym c.in-Some.ensures))
+    (lit< tt, live_here c.self.inside.flex c.self.inside.rows.rows c.self.invariant (at c.args.addr) _ (sym c.in-Some.ensures.row))
 
 pub move_away-requires : goal.move_away-requires
 move_away-requires g c =
-    let found = sym c.in-Some.ensures in
+    let found = sym c.in-Some.ensures.row in
     let row = found in
     let live = live_row c.self.inside.flex c.self.inside.rows.rows c.self.invariant (at c.args.addr) c.in-Some.row row ∙ ap Some (sym c.align-align.ensures.value) in
     (lit< tt, (live, (omega (arith, c.min-keep.ensures, c.allocation_usable_size.ensures), omega (arith, c.min-keep.ensures, c.size.ensures.value))))
 
 pub move_row-requires-clause-live : goal.move_row-requires-clause-live
-move_row-requires-clause-live g c = has_row c.self.inside.rows.rows (at c.args.addr) c.in-Some.row (sym c.in-Some.ensures)
+move_row-requires-clause-live g c = has_row c.self.inside.rows.rows (at c.args.addr) c.in-Some.row (sym c.in-Some.ensures.row)
 
 pub move_row-requires-clause-fresh : goal.move_row-requires-clause-fresh
 move_row-requires-clause-fresh g c =
@@ -58,7 +57,7 @@ did_step : (g : given.Over) (c : After-move_row g)
 did_step g c =
     let h = heap_of c.self.inside.flex c.self.inside.rows.rows in
     let after = heap_of c.move_away.new.flex c.move_row.new.self.rows in
-    let found = sym c.in-Some.ensures in
+    let found = sym c.in-Some.ensures.row in
     let row = found in
     let keep = c.min-keep.ensures ∙ ap (λ n. min n c.allocation_usable_size.result) c.size.ensures.value ∙ ap (min c.args.layout.size) c.allocation_usable_size.ensures in
     let step =
@@ -78,7 +77,7 @@ returns g c =
     rw (← c.self.view_is) (record {
       step = step;
       refused = tt;
-      unknown = known c.self.inside.flex c.self.inside.rows.rows (at c.args.addr) _ (sym c.in-Some.ensures) (Ok c.in-Some-move_away.to) refl;
+      unknown = known c.self.inside.flex c.self.inside.rows.rows (at c.args.addr) _ (sym c.in-Some.ensures.row) (Ok c.in-Some-move_away.to) refl;
       live = layout_at-put_here before after (c.in-Some-move_away.to, c.args.layout) _ rows;
       new = λ off. layout_at-none before (at c.in-Some-move_away.to) (no_row c.self.inside.flex c.self.inside.rows.rows c.self.invariant (at c.in-Some-move_away.to)
           (moved.new off));
@@ -99,7 +98,7 @@ returns g c =
 
 pub returns-in_default : goal.returns-in_default
 returns-in_default g c =
-    let absent = sym c.in_default.ensures in
+    let absent = sym c.in_default.ensures.row in
     rw (← c.self.view_is) (record {
       step = search rules;
       refused = refl;
@@ -123,7 +122,7 @@ pub returns-in_default-move_away : goal.returns-in_default-move_away
 returns-in_default-move_away g c =
     let h = heap_of c.self.inside.flex c.self.inside.rows.rows in
     let after = heap_of c.move_away.new.flex c.self.inside.rows.rows in
-    let found = sym c.in-Some.ensures in
+    let found = sym c.in-Some.ensures.row in
     let row = found in
     let keep = c.min-keep.ensures ∙ ap (λ n. min n c.allocation_usable_size.result) c.size.ensures.value ∙ ap (min c.args.layout.size) c.allocation_usable_size.ensures in
     let stays = c.in_default-move_away.ensures.refused in

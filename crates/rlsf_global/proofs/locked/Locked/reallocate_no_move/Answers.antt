@@ -27,7 +27,7 @@ replaced g c =
 
 pub reallocate_no_move-requires : goal.reallocate_no_move-requires
 reallocate_no_move-requires g c =
-    let found = sym c.in-Some.ensures in
+    let found = sym c.in-Some.ensures.row in
     let row = found in
     let aligned = same_align c.in-Some.row.1 c.args.layout (not-false _ c.if-ne.ensures) ∙ sym (c.from_size_align_unchecked-wanted.ensures.1 ∙ c.align.ensures.value) in
     (lit< tt, live_row c.self.inside.flex c.self.inside.rows.rows c.self.invariant (at c.args.addr) c.in-Some.row row ∙ ap Some aligned)
@@ -42,7 +42,7 @@ pub replace-requires : goal.replace-requires
 replace-requires g c = record {
   live =
       subst (λ a. IsSome (row_at a c.self.inside.rows.rows)) (sym c.in-Some-reallocate_no_move.ensures.there)
-      (has_row c.self.inside.rows.rows (at c.args.addr) c.in-Some.row (sym c.in-Some.ensures));
+      (has_row c.self.inside.rows.rows (at c.args.addr) c.in-Some.row (sym c.in-Some.ensures.row));
 }
 
 pub invariant_of-self-2 : goal.invariant_of-self-2
@@ -61,7 +61,7 @@ did_step g c =
     let h = heap_of c.self.inside.flex c.self.inside.rows.rows in
     let after = heap_of c.reallocate_no_move.new.self c.replace.new.self.rows in
     let did = c.in-Some-reallocate_no_move.ensures in
-    let found = sym c.in-Some.ensures in
+    let found = sym c.in-Some.ensures.row in
     let row = found in
     let wanted = c.from_size_align_unchecked-wanted in
     let step =
@@ -86,7 +86,7 @@ returns g c =
     rw (← c.self.view_is) (record {
       step = step;
       refused = tt;
-      unknown = known c.self.inside.flex c.self.inside.rows.rows (at c.args.addr) _ (sym c.in-Some.ensures) (Ok c.in-Some-reallocate_no_move.to) refl;
+      unknown = known c.self.inside.flex c.self.inside.rows.rows (at c.args.addr) _ (sym c.in-Some.ensures.row) (Ok c.in-Some-reallocate_no_move.to) refl;
       there = did.there;
       live = (wanted.result, subst (λ a. layout_at after a ≡ Some wanted.result) did.there here, wanted.ensures.0, wanted.ensures.1 ∙ c.align.ensures.value);
       kept =
@@ -104,7 +104,7 @@ returns g c =
 
 pub returns-in_default : goal.returns-in_default
 returns-in_default g c =
-    let absent = sym c.in_default.ensures in
+    let absent = sym c.in_default.ensures.row in
     rw (← c.self.view_is) (record {
       step = search rules;
       refused = refl;
@@ -124,7 +124,7 @@ returns-in_default g c =
 
 pub returns-then-ne : goal.returns-then-ne
 returns-then-ne g c =
-    let found = sym c.in-Some.ensures in
+    let found = sym c.in-Some.ensures.row in
     rw (← c.self.view_is) (record {
       step =
           resizes_out (heap_of c.self.inside.flex c.self.inside.rows.rows) (at c.args.addr) c.args.layout c.args.new_size
@@ -149,7 +149,7 @@ returns-in_default-reallocate_no_move g c =
     let h = heap_of c.self.inside.flex c.self.inside.rows.rows in
     let after = heap_of c.reallocate_no_move.new.self c.self.inside.rows.rows in
     let did = c.in_default-reallocate_no_move.ensures in
-    let found = sym c.in-Some.ensures in
+    let found = sym c.in-Some.ensures.row in
     let row = found in
     let wanted = c.from_size_align_unchecked-wanted in
     let step =

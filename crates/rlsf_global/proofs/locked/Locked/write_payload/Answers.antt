@@ -14,10 +14,10 @@ use Rattle.rlsf_global.proofs.locked.Locked.write_payload.Goals as goal
 
 pub allocation_usable_size-requires : goal.allocation_usable_size-requires
 allocation_usable_size-requires g c =
-    (lit< tt, live_here c.self.inside.flex c.self.inside.rows.rows c.self.invariant (at c.args.addr) _ (sym c.in-Some.ensures))
+    (lit< tt, live_here c.self.inside.flex c.self.inside.rows.rows c.self.invariant (at c.args.addr) _ (sym c.in-Some.ensures.row))
 
 pub payload_mut-requires : goal.payload_mut-requires
-payload_mut-requires g c = (lit< tt, live_here c.self.inside.flex c.self.inside.rows.rows c.self.invariant (at c.args.addr) _ (sym c.in-Some.ensures))
+payload_mut-requires g c = (lit< tt, live_here c.self.inside.flex c.self.inside.rows.rows c.self.invariant (at c.args.addr) _ (sym c.in-Some.ensures.row))
 
 pub invariant_of-self : goal.invariant_of-self
 invariant_of-self g c =
@@ -31,7 +31,7 @@ pub returns-in_default : goal.returns-in_default
 returns-in_default g c = rw (← c.self.view_is) (record {
   step = search rules;
   refused = refl;
-  unknown = (unknown c.self.inside.flex c.self.inside.rows.rows (at c.args.addr) (sym c.in_default.ensures));
+  unknown = (unknown c.self.inside.flex c.self.inside.rows.rows (at c.args.addr) (sym c.in_default.ensures.row));
   written = tt;
   layouts = refl;
   contents = tt;
@@ -47,11 +47,11 @@ returns-then-not-fits g c = rw (← c.self.view_is) (record {
   step = (
       let h = heap_of c.self.inside.flex c.self.inside.rows.rows in
       let bytes = c.args.bytes.now in
-      writes_out h (at c.args.addr) c.args.offset _ (sym c.in-Some.ensures) bytes
+      writes_out h (at c.args.addr) c.args.offset _ (sym c.in-Some.ensures.row) bytes
       (c.if-not-fits.ensures ∙ ap (nat_le (c.args.offset + length bytes)) c.allocation_usable_size.ensures));
   refused = refl;
   unknown =
-      (known c.self.inside.flex c.self.inside.rows.rows (at c.args.addr) _ (sym c.in-Some.ensures) (Err OutOfRange) refl);
+      (known c.self.inside.flex c.self.inside.rows.rows (at c.args.addr) _ (sym c.in-Some.ensures.row) (Err OutOfRange) refl);
   written = tt;
   layouts = refl;
   contents = tt;
@@ -75,10 +75,10 @@ returns g c = rw (← c.self.view_is) (record {
       let (fills, leads) = filled c.self.inside.flex c.self.inside.rows.rows c.self.invariant after addr w (did.meaning w c.write_at.ensures.len) refl in
       let spliced =
       subst (λ l. Fills h.flex.machine addr l after.state.machine) (c.write_at.ensures.bytes ∙ ap (λ l. splice l offset (offset + length bytes) bytes) did.value) fills in
-      writes_in h addr offset _ (sym c.in-Some.ensures) bytes (heap_of after c.self.inside.rows.rows)
+      writes_in h addr offset _ (sym c.in-Some.ensures.row) bytes (heap_of after c.self.inside.rows.rows)
       (c.if-not-fits.ensures ∙ ap (nat_le (offset + length bytes)) c.allocation_usable_size.ensures) (after.state.machine, spliced, leads));
   refused = tt;
-  unknown = (known c.self.inside.flex c.self.inside.rows.rows (at c.args.addr) _ (sym c.in-Some.ensures) (Ok tt) refl);
+  unknown = (known c.self.inside.flex c.self.inside.rows.rows (at c.args.addr) _ (sym c.in-Some.ensures.row) (Ok tt) refl);
   written = (
       let addr = at c.args.addr in
       let bytes = c.args.bytes.now in

@@ -1,0 +1,34 @@
+//! A count of the entries that calls look at. It is ghost data: it takes no bytes and no time.
+
+ghost use Rattle.std.specs.Prelude.{◌≡◌, ℕ, ◌+◌};
+ghost use Rattle.std.specs.Borrow.{ftrue};
+
+use std::marker::{Model, Send, Sync};
+
+/// How many entries were read or changed.
+#[derive(Drop)]
+pub(crate) struct Looks {
+    ghost count: { ℕ },
+}
+
+impl Model for Looks {
+    ghost also_owns = { λ _. ftrue };
+}
+
+unsafe impl Send for Looks {}
+
+unsafe impl Sync for Looks {}
+
+impl Looks {
+    /// Creates a count of no entries.
+    pub(crate) fn new() -> Looks
+        ensures { result.count ≡ 0 }
+    {
+        Looks {}
+    }
+
+    /// Counts so many entries.
+    pub(crate) fn add(&mut self, entries: usize)
+        ensures { self.new.count ≡ self.old.count + entries }
+    {}
+}
