@@ -11,15 +11,12 @@ use std::sync::Wait;
 use std::thread;
 use std::thread::Threads;
 
-/// How long the memory is: as the pool of `rlsf_bench`.
-const LEN: usize = 1 << 25;
-
 /// Does the steps that are asked for, and prints their tally.
 pub(crate) fn time<R: Print + AllocGlobal + Threads + Wait + Sync>(
     rt: &R,
     load: Load,
 ) -> Result<(), BenchError> {
-    let shared = GlobalTlsf::new(rt.alloc(), Memory::new(rt.alloc(), 65536, LEN)?);
+    let shared = GlobalTlsf::new(rt.alloc(), Memory::new(rt.alloc(), 65536, load.len)?);
     let tally = tally_of(rt, rt.alloc(), &shared, load)?;
     println!(rt;
         "GlobalTlsf: {} placed, {} refused, {} live",

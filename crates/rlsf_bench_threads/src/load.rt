@@ -7,7 +7,10 @@ use std::rt::Env;
 
 /// The arguments that the program takes.
 const USAGE: &str =
-    "usage: rlsf_bench_threads global|shared|both SLOTS STEPS THREADS, with SLOTS and THREADS from 1 on";
+    "usage: rlsf_bench_threads global|shared|both SLOTS STEPS THREADS [LEN], with SLOTS and THREADS from 1 on";
+
+/// How many bytes of memory there are if none are asked for: as many as the pool of `rlsf_bench` has.
+const LEN: usize = 1 << 25;
 
 /// The allocators that are timed.
 #[derive(Clone, Copy)]
@@ -43,9 +46,11 @@ pub(crate) struct Load {
     pub(crate) steps: u64,
     /// How many threads there are.
     pub(crate) threads: NonZeroUsize,
+    /// How many bytes of memory an allocator has.
+    pub(crate) len: usize,
 }
 
-/// What the command line asks for: `ALLOCATOR SLOTS STEPS THREADS`.
+/// What the command line asks for: `ALLOCATOR SLOTS STEPS THREADS [LEN]`.
 pub(crate) fn load_of<R: Env + AllocGlobal>(rt: &R) -> Result<Load, BenchError> {
     let words: Vec<String> = env::args(rt)?.collect(rt.alloc())?;
     load_in(&words).ok_or(BenchError::Usage(USAGE))
@@ -53,7 +58,7 @@ pub(crate) fn load_of<R: Env + AllocGlobal>(rt: &R) -> Result<Load, BenchError> 
 
 /// What the words of a command line ask for. `None` if a word is missing, wrong or too many.
 fn load_in(words: &[String]) -> Option<Load> {
-    let [_, allocators, slots, steps, threads] = words else {
+    let [_, allocators, slots, steps, threads, rest @ ..] = words else {
         return None;
     };
     Some(Load {
@@ -61,5 +66,15 @@ fn load_in(words: &[String]) -> Option<Load> {
         slots: slots.parse().ok()?,
         steps: steps.parse().ok()?,
         threads: threads.parse().ok()?,
+        len: len_in(rest)?,
     })
+}
+
+/// The length of the memory that the last words ask for. `None` if it is wrong, or there are more words.
+fn len_in(words: &[String]) -> Option<usize> {
+    match words {
+        [] => Some(LEN),
+        [len] => len.parse().ok(),
+        _ => None,
+    }
 }

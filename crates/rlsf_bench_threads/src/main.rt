@@ -1,6 +1,6 @@
-//! Times threads over one allocator: `rlsf_bench_threads ALLOCATOR SLOTS STEPS THREADS`. `global` is a `GlobalTlsf`, `shared` a
-//! `SharedHeap`, and `both` is one after the other. Each thread has its part of the slots, and makes so many steps. A step draws a slot.
-//! If the slot has a payload, the step frees it, and else it allocates one of up to 511 bytes.
+//! Times threads over one allocator: `rlsf_bench_threads ALLOCATOR SLOTS STEPS THREADS [LEN]`. `global` is a `GlobalTlsf`, `shared` a
+//! `SharedHeap`, and `both` is one after the other. Each has `LEN` bytes of memory, or 32 MiB. Each thread has its part of the slots, and
+//! makes so many steps. A step draws a slot. If the slot has a payload, the step frees it, and else it allocates one of up to 511 bytes.
 //!
 //! `load.rt` reads the command line. `global.rt` and `shared.rt` create the allocators and start the threads. `global_steps.rt` and
 //! `shared_steps.rt` have the steps of a thread.

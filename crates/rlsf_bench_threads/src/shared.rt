@@ -14,28 +14,25 @@ use std::thread::Threads;
 /// A shared heap of 64 first-level rows of 64 classes, as `GlobalTlsf` has.
 pub(crate) type Shared = SharedHeap<usize, usize, 64, 64>;
 
-/// The addresses of the pool: as long as the memory of the `GlobalTlsf`.
-const POOL: Range = Range {
-    start: 65536,
-    len: 1 << 25,
-};
+/// The first address of the pool, as of the memory of the `GlobalTlsf`.
+const START: usize = 65536;
 
 /// Does the steps that are asked for, and prints how many allocations were refused.
 pub(crate) fn time<R: Print + AllocGlobal + Threads + Wait + Sync>(
     rt: &R,
     load: Load,
 ) -> Result<(), BenchError> {
-    let shared = new_shared(rt.alloc())?;
+    let shared = new_shared(rt.alloc(), load.len)?;
     let refused = refused_of(rt, rt.alloc(), &shared, load)?;
     println!(rt; "SharedHeap: {refused} refused")?;
     Ok(())
 }
 
-/// Creates a shared heap of one pool.
-fn new_shared(alloc: Global) -> Result<Shared, BenchError> {
-    let memory = OpenMemory::reserve(alloc, POOL.start, POOL.len)?;
+/// Creates a shared heap of one pool, which has so many bytes.
+fn new_shared(alloc: Global, len: usize) -> Result<Shared, BenchError> {
+    let memory = OpenMemory::reserve(alloc, START, len)?;
     let mut heap = Heap::<usize, usize, 64, 64>::new(memory);
-    let _ = heap.insert_free_block_ptr(POOL);
+    let _ = heap.insert_free_block_ptr(Range { start: START, len });
     Ok(Shared::new(heap))
 }
 
