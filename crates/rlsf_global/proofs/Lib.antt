@@ -2,6 +2,7 @@
 pub mod Checks
 pub mod Deallocations
 pub mod Heaps
+mod Growth
 mod HintLeaves
 mod HintedRows
 pub mod Kept

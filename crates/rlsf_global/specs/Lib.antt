@@ -1,5 +1,6 @@
 -- The definitions of the calls behind the lock. Read `Locked` first.
 pub mod Calls
+pub mod Growth
 pub mod Hints
 pub mod Kept
 pub mod LiveRows

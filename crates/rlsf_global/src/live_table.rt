@@ -107,7 +107,7 @@ impl LiveTable {
         ensures room { self.old.room ≤ self.new.room + 1 }
         ensures hinted { KeepsHintsWith self.old (key row) self.new }
         ensures space { HasSameSpace self.old.space self.new.space }
-        ensures looks { self.new.looks ≡ self.old.looks + 1 }
+        ensures looks { self.new.looks ≤ self.old.looks + 9 }
     {
         self.exact = append(
             &mut self.rows,
@@ -129,7 +129,7 @@ impl LiveTable {
         ensures hinted { KeepsHints self.old self.new }
         ensures ready { self.old.hinted ≡ true → IsReady self.old → IsReady self.new }
         ensures space { HasSameSpace self.old.space self.new.space }
-        ensures looks { self.old.hinted ≡ true → self.new.looks ≤ self.old.looks + 5 }
+        ensures looks { self.old.hinted ≡ true → self.new.looks ≤ self.old.looks + 7 }
     {
         match find(
             &self.rows,
@@ -163,7 +163,7 @@ impl LiveTable {
         ensures hinted { self.new.hinted ≡ self.old.hinted }
         ensures ready { IsReady self.old → IsReady self.new }
         ensures space { self.new.space ≡ self.old.space }
-        ensures looks { self.old.hinted ≡ true → self.new.looks ≤ self.old.looks + 2 }
+        ensures looks { self.old.hinted ≡ true → self.new.looks ≤ self.old.looks + 3 }
     {
         if let Some(index) = find(
             &self.rows,
@@ -185,7 +185,7 @@ impl LiveTable {
         ensures rows { self.new.rows ≡ put row (without_row (at addr) self.old.rows) }
         ensures hinted { KeepsHintsWith self.old (key row) self.new }
         ensures space { HasSameSpace self.old.space self.new.space }
-        ensures looks { self.old.hinted ≡ true → self.new.looks ≤ self.old.looks + 6 }
+        ensures looks { self.old.hinted ≡ true → self.new.looks ≤ self.old.looks + 16 }
     {
         if row.0.get() == addr.get() {
             self.replace(row);

