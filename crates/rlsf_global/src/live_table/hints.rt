@@ -57,7 +57,7 @@ impl Hints {
         ensures all { result ≡ true → self.new.pages ≤ length self.new.leaves }
         ensures spare { result ≡ true → 0 < self.new.spare }
     {
-        if !reach(&mut self.leaves, self.pages, self.alloc) {
+        if !are_all_there(&mut self.leaves, self.pages, self.alloc) {
             return false;
         }
         fill(&mut self.spare, self.alloc);
@@ -97,6 +97,17 @@ impl Hints {
             self.alloc,
         )
     }
+}
+
+/// Adds empty leaves if there are fewer than so many. Returns whether all are there: the system may be out of memory for them.
+fn are_all_there(leaves: &mut Vec<Vec<u32>>, pages: usize, alloc: Global) -> bool
+    ensures leaves { HaveSameLeaves (leaf_numbers leaves.old.items) (leaf_numbers leaves.new.items) }
+    ensures all { result ≡ true → pages ≤ vec_len leaves.new }
+{
+    if leaves.len() >= pages {
+        return true;
+    }
+    reach(leaves, pages, alloc)
 }
 
 /// Adds empty leaves until there are so many. Returns whether there are: the system may be out of memory for them.
