@@ -85,7 +85,8 @@ changed rows next after copy limit cap held wide held' wide' is prefix short few
 
 any_default : (rows : List Row) (i : ℕ) (d e : Row) → i < length rows → swap_remove rows i d ≡ swap_remove rows i e
 any_default rows i d e lt =
-    ap (λ x. take (length rows - 1) (set rows i x)) (some_same (sym (get-some rows (length rows - 1) d (omega (arith, lt))) ∙ get-some rows (length rows - 1) e (omega (arith, lt))))
+    let last : length rows - 1 < length rows = omega (arith, lt) in
+    ap (λ x. take (length rows - 1) (set rows i x)) (some_same (sym (get-some rows (length rows - 1) d last) ∙ get-some rows (length rows - 1) e last))
 
 -- each entry has a copy, and one is taken out of both
 pub both_taken : (rows next after copy : List Row) (i : ℕ) (d e : Row) → IsPrefix next rows → length next ≡ length rows → i < length rows → after ≡ swap_remove rows i d

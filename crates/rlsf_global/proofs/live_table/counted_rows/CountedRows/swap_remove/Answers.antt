@@ -23,7 +23,8 @@ invariant_of-self-then-index-len c =
     let next = c.self.inside.next.items in
     let after = c.swap_remove-gone-2.new.self.items in
     let row = c.index.result.now in
-    let short : length next < length rows = grind (arith, c.self.invariant.short, c.if-len.false, c.len.ensures, c.len-2.ensures, c.self.inside.rows.ok.0, c.self.inside.next.ok.0) in
+    let short : length next < length rows =
+    grind (arith, c.self.invariant.short, c.if-len.false, c.len.ensures, c.len-2.ensures, c.self.inside.rows.ok.0, c.self.inside.next.ok.0) in
     let one : length after + 1 ≡ length rows = omega (arith, c.swap_remove-gone-2.ensures.len, c.self.inside.rows.ok.0, c.swap_remove-gone-2.new.self.ok.0) in
     let index : c.args.index < length after = omega (arith, c.if-index-len.true, c.len-3.ensures, c.self.inside.next.ok.0, one, short) in
     let gone = c.swap_remove-gone-2.ensures.items in
@@ -42,7 +43,8 @@ invariant_of-self-else-index-len c =
     let rows = c.self.inside.rows.items in
     let next = c.self.inside.next.items in
     let after = c.swap_remove-gone-2.new.self.items in
-    let short : length next < length rows = grind (arith, c.self.invariant.short, c.if-len.false, c.len.ensures, c.len-2.ensures, c.self.inside.rows.ok.0, c.self.inside.next.ok.0) in
+    let short : length next < length rows =
+    grind (arith, c.self.invariant.short, c.if-len.false, c.len.ensures, c.len-2.ensures, c.self.inside.rows.ok.0, c.self.inside.next.ok.0) in
     let one : length after + 1 ≡ length rows = omega (arith, c.swap_remove-gone-2.ensures.len, c.self.inside.rows.ok.0, c.swap_remove-gone-2.new.self.ok.0) in
     let beyond : length next ≤ c.args.index = omega (arith, c.if-index-len.false, c.len-3.ensures, c.self.inside.next.ok.0) in
     let prefix = subst (IsPrefix next) (sym c.swap_remove-gone-2.ensures.items) (prefix_out next rows c.args.index _ c.self.invariant.prefix short beyond) in
