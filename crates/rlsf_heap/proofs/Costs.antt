@@ -9,7 +9,7 @@ use Rattle.rlsf_table.specs.Counts.{Costs, Counts}
 use Rattle.rlsf_table.specs.Table.{Table}
 use Rattle.rlsf_heap.specs.Handover.{IsHandedOver, IsTakenBack}
 use Rattle.rlsf_heap.specs.Heap.{HeapView, Identity, IsWritten, PayloadView, heap_view}
-use Rattle.rlsf_heap.specs.Replies.{IsReturned, KeepsHeap}
+use Rattle.rlsf_heap.specs.Replies.{IsReturned}
 
 -- the memory stays where it is, and no more than so many word accesses were counted, and the count never falls
 pub record Leaves (m n : Space) (most : ℕ) : Type 0 where
@@ -75,18 +75,7 @@ module _ (m n : Space) (x y : Table) (j k : State) (ledger name most : ℕ) (is 
       grow = is.grow;
     })
 
--- a heap that is unchanged is kept
-pub kept_same : (sllen size align : ℕ) (v : HeapView) → KeepsHeap sllen size align v v
-kept_same sllen size align v = record {
-  identity = refl;
-  place = (refl, refl);
-  settled = λ settled. settled;
-  bounds = λ count most wide sized short fits. sized;
-  chunks = refl;
-  grow = omega arith;
-}
-
--- and a payload that goes back to its caller at once is as it was
+-- a payload that goes back to its caller at once is as it was
 pub returned_same : (v : HeapView) (p : PayloadView) → IsWritten p → IsReturned v.state v.state p.start p p
 returned_same v p written = record { start = refl; bytes = refl; written = written; alike = record { chunks = refl; used = refl; free = refl }; aligns = refl }
 

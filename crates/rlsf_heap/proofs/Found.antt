@@ -8,13 +8,12 @@ use Rattle.rlsf_model.specs.Callers.{align_at}
 use Rattle.rlsf_model.specs.State.{State}
 use Rattle.rlsf_model.proofs.CallerWords.{align_at-live}
 use Rattle.rlsf_model.proofs.Payloads.{IsUsed-after_start}
-use Rattle.rlsf_heap.specs.declared.thin.ThinPayload.{ThinPayload}
+use Rattle.rlsf_heap.specs.Frame.{KeepsBytes, KeepsFrame, KeepsHeap, KeepsSized}
 use Rattle.rlsf_heap.specs.Heap.{HeapView, IsOwners, PayloadView, Stands, Steps, payload_range, payload_view}
-use Rattle.rlsf_heap.specs.Kept.{KeepsBytesBeside, KeepsSpareBytes, NoneBecomesRaw}
+use Rattle.rlsf_heap.specs.Kept.{KeepsBytesBeside, KeepsSpareBytes, NoneBecomesRaw, NoneBecomesRawBeside}
 use Rattle.rlsf_heap.specs.Reallocation.{owned_by}
-use Rattle.rlsf_heap.specs.Replies.{IsReallocatedHere, KeepsHeap}
+use Rattle.rlsf_heap.specs.Replies.{IsReallocated, IsReallocatedHere, IsRefused, IsResized, IsReturned}
 use Rattle.rlsf_heap.specs.Settled.{IsSettled}
-use Rattle.rlsf_heap.specs.ThinReplies.{IsThinOf}
 
 -- the heap once three words were read
 abbrev pub found : HeapView → HeapView
@@ -25,19 +24,7 @@ pub settled_found : (v w : HeapView) → w ≡ found v → IsSettled v.memory �
 unfolding IsSettled
 settled_found v w is settled = subst (λ (o : HeapView). IsSettled o.memory) (sym is) settled
 
--- a heap that is kept since then is kept since before
-pub kept_found : (sllen size align : ℕ) (v w new : HeapView) → w ≡ found v → KeepsHeap sllen size align w new → KeepsHeap sllen size align v new
-kept_found sllen size align v w new is kept =
-    let k = subst (λ (x : HeapView). KeepsHeap sllen size align x new) is kept in record {
-      identity = k.identity;
-      place = k.place;
-      settled = λ settled. kept.settled (settled_found v w is settled);
-      bounds = k.bounds;
-      chunks = k.chunks;
-      grow = omega (arith, k.grow);
-    }
-
--- so are bytes that no block is made of, those that were not raw, and those beside a range
+-- bytes that are kept since then are kept since before: those that no block is made of, those that were not raw, and those beside a range
 pub spare_found : (v w new : HeapView) → w ≡ found v → KeepsSpareBytes w new → KeepsSpareBytes v new
 unfolding KeepsSpareBytes
 spare_found v w new is keeps = subst (λ (x : HeapView). KeepsSpareBytes x new) is keeps
@@ -46,9 +33,30 @@ pub raw_found : (v w new : HeapView) → w ≡ found v → NoneBecomesRaw w new 
 unfolding NoneBecomesRaw
 raw_found v w new is none = subst (λ (x : HeapView). NoneBecomesRaw x new) is none
 
+pub raw_beside_found : (v w new : HeapView) → w ≡ found v → (r : Range) → NoneBecomesRawBeside w new r → NoneBecomesRawBeside v new r
+unfolding NoneBecomesRawBeside
+raw_beside_found v w new is r none = subst (λ (x : HeapView). NoneBecomesRawBeside x new r) is none
+
 pub beside_found : (v w new : HeapView) → w ≡ found v → (r : Range) → KeepsBytesBeside w new r → KeepsBytesBeside v new r
 unfolding KeepsBytesBeside
 beside_found v w new is r keeps = subst (λ (x : HeapView). KeepsBytesBeside x new r) is keeps
+
+-- so is the heap
+pub heap_found : (v w new : HeapView) → w ≡ found v → KeepsHeap w new → KeepsHeap v new
+heap_found v w new is kept =
+    let k = subst (λ (x : HeapView). KeepsHeap x new) is kept in
+    record { identity = k.identity; place = k.place; spare = spare_found v w new is kept.spare; grow = omega (arith, k.grow) }
+
+pub bytes_found : (v w new : HeapView) → w ≡ found v → KeepsBytes w new → KeepsBytes v new
+bytes_found v w new is kept = record { raw = raw_found v w new is kept.raw; settled = λ settled. kept.settled (settled_found v w is settled) }
+
+pub frame_found : (v w new : HeapView) → w ≡ found v → KeepsFrame w new → KeepsFrame v new
+frame_found v w new is kept = record {
+  heap = heap_found v w new is kept.heap;
+  bytes = bytes_found v w new is kept.bytes;
+  chunks = kept.chunks ∙ ap (λ (x : HeapView). x.state.chunks) is;
+  copied = kept.copied ∙ ap (λ (x : HeapView). x.memory.copied) is;
+}
 
 -- the bytes of a payload that were away were its owner's
 pub owners : (v : HeapView) (q : Piece) (align ledger : ℕ) (p : PayloadView) → payload_view q align ledger ≡ p → IsAway v.memory (piece_range q) → IsOwners v p
@@ -87,22 +95,32 @@ module _ {v w : HeapView} {p q : PayloadView} {addr align : ℕ} (f : IsFound v 
       subst (λ (x : State × PayloadView × ℕ × ℕ × Option ℕ). Steps fllen sllen new (λ t. IsLayout size x.3 → Step (owned_by x.0 x.1) x.2 x.4 t))
       (λ i. ((f.heap i).state, f.same i, start_is i, align_is i, reply i)) did
 
-  pub heap_found : (sllen size : ℕ) (new : HeapView) → KeepsHeap sllen size q.align w new → KeepsHeap sllen size align v new
-  heap_found sllen size new kept = kept_found sllen size align v w new f.heap (subst (λ n. KeepsHeap sllen size n w new) align_is kept)
-
-  -- the payload by its address is of the same heap, with the same alignment
-  pub thin_found : (to : PayloadView) (r : ThinPayload) → (r.addr ≡ to.start) × (r.of ≡ to) → to.identity ≡ w.identity → to.align ≡ q.align → IsThinOf v.identity align r
-  thin_found to r made identity requested = record {
-    at = made.0 ∙ ap (λ (o : PayloadView). o.start) (sym made.1);
-    identity = ap (λ (o : PayloadView). o.identity) made.1 ∙ identity ∙ ap (λ (x : HeapView). x.identity) f.heap;
-    requested = ap (λ (o : PayloadView). o.align) made.1 ∙ requested ∙ align_is;
-  }
+  pub sized_found : (sllen size : ℕ) (new : HeapView) → KeepsSized sllen w.state new.state size q.align → KeepsSized sllen v.state new.state size align
+  sized_found sllen size new kept = subst (λ (x : HeapView × ℕ). KeepsSized sllen x.0.state new.state size x.1) (λ i. (f.heap i, align_is i)) kept
 
   -- the same of its bytes are here
   pub here_found : (to now : PayloadView) → now ≡ to → IsReallocatedHere w q to → IsReallocatedHere v p now
   here_found to now thin here =
       let h = as_found to now thin (λ x from addr align made. IsReallocatedHere x from made) here in
       record { here = h.here; shrunk = h.shrunk; written = λ settled. h.written (settled_found v (found v) refl settled) }
+
+  -- it has the size, of the same heap and with the same alignment
+  pub resized_found : (size : ℕ) (new : HeapView) (to now : PayloadView) → now ≡ to → IsResized w new size q.align q to → IsResized v new size align p now
+  resized_found size new to now thin is = record {
+    identity = ap (λ (o : PayloadView). o.identity) thin ∙ is.identity ∙ ap (λ (x : HeapView). x.identity) f.heap;
+    requested = ap (λ (o : PayloadView). o.align) thin ∙ is.requested ∙ align_is;
+    made = as_found to now thin (λ x from addr wide made. IsReallocated new.state from size wide made) is.made;
+    here = here_found to now thin is.here;
+  }
+
+  -- or it was refused
+  pub refused_found : (new : HeapView) (to now : PayloadView) → now ≡ to → IsRefused w new q.start q.align q to → IsRefused v new addr align p now
+  refused_found new to now thin is = record {
+    identity = ap (λ (o : PayloadView). o.identity) thin ∙ is.identity ∙ ap (λ (x : HeapView). x.identity) f.heap;
+    requested = ap (λ (o : PayloadView). o.align) thin ∙ is.requested ∙ align_is;
+    returned = as_found to now thin (λ x from at wide made. IsReturned x.state new.state at from made) is.returned;
+    unchanged = beside_found v (found v) new refl (payload_range p) (as_found to now thin (λ x from at wide made. KeepsBytesBeside x new (payload_range from)) is.unchanged);
+  }
 
 -- no payload is live at the address 0
 pub live_somewhere : (fllen sllen : ℕ) (v : HeapView) (step : State → Type 0) (a align : ℕ) → Steps fllen sllen v step → align_at v.state a ≡ Some align → a ≢ 0

@@ -3,6 +3,7 @@ pub mod Allocated
 pub mod Arrivals
 pub mod Costs
 pub mod Found
+pub mod Frames
 pub mod HandedOver
 pub mod Kept
 pub mod Leaving

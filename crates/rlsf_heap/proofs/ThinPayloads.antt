@@ -9,10 +9,8 @@ use Rattle.rlsf_base.specs.Piece.{CanCome, Piece, piece_range}
 use Rattle.rlsf_base.specs.Range.{range_at}
 use Rattle.rlsf_base.specs.Space.{Space}
 use Rattle.rlsf_model.specs.Allocate.{Allocates, placed}
-use Rattle.rlsf_model.specs.Callers.{align_at}
 use Rattle.rlsf_model.specs.Lists.{IsIn}
 use Rattle.rlsf_model.specs.Release.{released}
-use Rattle.rlsf_model.specs.Sized.{IsSizedFor, live_count}
 use Rattle.rlsf_model.specs.State.{State, Used, Holds, usable}
 use Rattle.rlsf_model.proofs.Payloads.{IsUsed-after_start}
 use Rattle.rlsf_table.specs.Table.{Table}
@@ -21,7 +19,6 @@ use Rattle.rlsf_blocks.specs.StandsFor.{contents, StandsFor}
 use Rattle.rlsf_heap.specs.Heap.{AreIssued, HeapView, Identity, PayloadView, Stands, Steps, payload_range}
 use Rattle.rlsf_heap.specs.Raw.{IsWhole, bytes_of}
 use Rattle.rlsf_heap.specs.Thin.{reply_of}
-use Rattle.rlsf_heap.specs.ThinReplies.{AllocationLeaves}
 use Rattle.rlsf_heap.proofs.ThinValues.{one_more_than}
 use Rattle.rlsf_heap.proofs.Released as R
 
@@ -121,19 +118,6 @@ module _ {fllen sllen : ℕ} {m : Space} {table : Table} {s : State} {entries : 
 pub reply_some : (n : ℕ) → n ≢ 0 → Some n ≡ reply_of n
 reply_some n some = let (k, e) = one_more_than n some in ap (λ m. Some m) e ∙ ap reply_of (sym e)
 
--- a refused allocation leaves all as it was
-pub none_leaves : (sllen size align : ℕ) (before after : HeapView) (addr : ℕ) → addr ≡ 0
-    → ((count most wide : ℕ) → IsSizedFor sllen count most wide before.state → live_count before.state ≤ count → size ≤ most → align ≤ wide → ⊥)
-    → after.state ≡ before.state → after.memory.bytes ≡ before.memory.bytes → after.memory.copied ≡ before.memory.copied
-    → AllocationLeaves sllen size align before after addr
-none_leaves sllen size align before after addr none room same refused copied = record {
-  aligns = λ a apart. ap (λ (s : State). align_at s a) same;
-  room = λ count most wide sized few short fits. absurd (room count most wide sized few short fits);
-  same = λ _. same;
-  refused = λ _. refused;
-  copied = copied;
-}
-
 -- an allocated payload, known by its address
 module _ (fllen sllen : ℕ) (before after : HeapView) (size align : ℕ) (p q : PayloadView) (is : q ≡ p)
     (did : Steps fllen sllen after (Allocates sllen before.state size align (Some p.start))) where
@@ -143,13 +127,3 @@ module _ (fllen sllen : ℕ) (before after : HeapView) (size align : ℕ) (p q :
   pub thin_step : Steps fllen sllen after (Allocates sllen before.state size align (reply_of q.start))
   thin_step =
       subst (λ o. Steps fllen sllen after (Allocates sllen before.state size align o)) ((λ i. Some (sym is i).start) ∙ reply_some q.start is_some) did
-
-  pub thin_leaves : ((a : ℕ) → a ≢ p.start → align_at after.state a ≡ align_at before.state a) → after.memory.copied ≡ before.memory.copied
-      → AllocationLeaves sllen size align before after q.start
-  thin_leaves aligns copied = record {
-    aligns = subst (λ (o : PayloadView). (a : ℕ) → a ≢ o.start → align_at after.state a ≡ align_at before.state a) (sym is) aligns;
-    room = λ count most wide sized few short fits. is_some;
-    same = λ none. absurd (is_some none);
-    refused = λ none. absurd (is_some none);
-    copied = copied;
-  }

@@ -1,12 +1,12 @@
 -- A payload whose alignment isn't known stays, or moves into a new one.
 use Rattle.std.proofs.Common.{◌≡◌, ℕ, List, Option, Some, None, Result, Ok, Err, refl, sym, subst}
-use Rattle.std.specs.Prelude.{IfErr, IfOk, MatchResult}
+use Rattle.std.specs.Prelude.{IfErr, IfOk}
 use Rattle.rlsf_model.specs.NoMove.{ReallocatesUnmovedBy, ReallocatesWithoutMove, unmoved_plan}
 use Rattle.rlsf_model.specs.Reallocate.{Keeps, Plan}
 use Rattle.rlsf_model.specs.State.{State}
-use Rattle.rlsf_heap.specs.Heap.{HeapView, Identity, PayloadView, Steps}
+use Rattle.rlsf_heap.specs.Heap.{HeapView, PayloadView, Steps}
 use Rattle.rlsf_heap.specs.Replies.{IsReallocated}
-use Rattle.rlsf_heap.specs.ThinReplies.{IsThinOf, MovesElsewhere}
+use Rattle.rlsf_heap.specs.ThinReplies.{MovesElsewhere}
 use Rattle.rlsf_heap.specs.ThinUnknownAlign.{StaysOrMoves, StaysOrMovesBy}
 use Rattle.rlsf_heap.specs.declared.thin.ThinPayload.{ThinPayload}
 use Rattle.rlsf_heap.proofs.Reallocated.{Keeps-each}
@@ -52,21 +52,10 @@ module _ {P Q : ThinPayload → Type 0} where
   if_err (Ok p) f is = tt
   if_err (Err p) f is = f p is
 
-  pub match_of : (r : Result ThinPayload ThinPayload) {S T : ThinPayload → Type 0} → ((p : ThinPayload) → P p → S p) → ((p : ThinPayload) → Q p → T p)
-      → MatchResult r P Q → MatchResult r S T
-  match_of (Ok p) f h is = f p is
-  match_of (Err p) f h is = h p is
-
--- what is so if a payload is returned, as the result or as the error, is so if it is the result
-pub ok_of : (r : Result ThinPayload ThinPayload) (P Q : ThinPayload → Type 0) → MatchResult r P Q → IfOk r P
-ok_of (Ok p) P Q is = is
-ok_of (Err p) P Q is = tt
-
 -- a payload that moved is a reallocated one, also of the payload with the same bytes that was there before
-pub reallocated_ok : (r : Result ThinPayload ThinPayload) (state : State) (mid was : PayloadView) (size align : ℕ) (heap : Identity) → mid.bytes ≡ was.bytes
-    → IfOk r (IsThinOf heap align) → IfOk r (λ p. IsReallocated state mid size align p.of) → IfOk r (λ p. IsReallocated state was size p.of.align p.of)
-reallocated_ok (Ok p) state mid was size align heap same thin made =
-    let kept : Keeps was.bytes p.of.bytes = subst (λ (l : List ℕ). Keeps l p.of.bytes) same made.kept in
-    subst (λ a. IsReallocated state was size a p.of) (sym thin.requested)
-    (record { live = made.live; long = made.long; aligned = made.aligned; sized = made.sized; few = made.few; kept = kept; each = Keeps-each was.bytes p.of.bytes kept })
-reallocated_ok (Err p) state mid was size align heap same thin made = tt
+pub reallocated_as : (state : State) (mid was p : PayloadView) (size align : ℕ) → mid.bytes ≡ was.bytes → p.align ≡ align → IsReallocated state mid size align p
+    → IsReallocated state was size p.align p
+reallocated_as state mid was p size align same requested made =
+    let kept : Keeps was.bytes p.bytes = subst (λ (l : List ℕ). Keeps l p.bytes) same made.kept in
+    subst (λ a. IsReallocated state was size a p) (sym requested)
+    (record { live = made.live; long = made.long; aligned = made.aligned; sized = made.sized; few = made.few; kept = kept; each = Keeps-each was.bytes p.bytes kept })

@@ -1,5 +1,6 @@
 -- Definitions for the heap and its payloads. Read `Heap` first.
 pub mod Heap
+pub mod Frame
 pub mod Handover
 pub mod Kept
 pub mod Lends

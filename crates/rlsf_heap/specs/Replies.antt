@@ -1,73 +1,175 @@
--- What the allocations and reallocations of a heap return, and what they leave of it.
-use Rattle.std.specs.Prelude.{◌≡◌, ◌≢◌, ℕ, ◌+◌, ◌%◌, ◌<◌, ◌≤◌, length, slice_index, Some, None}
+-- What the allocations and reallocations of a heap return.
+use Rattle.std.specs.Prelude.{◌≡◌, ◌≢◌, ℕ, ◌+◌, ◌%◌, ◌<◌, ◌≤◌, length, replicate, slice_index, Some, None}
+use Rattle.rlsf_base.specs.Layout.{IsLayout}
 use Rattle.rlsf_model.specs.Callers.{align_at, bytes_at}
-use Rattle.rlsf_model.specs.Reallocate.{HasRoomToStay, Keeps}
+use Rattle.rlsf_model.specs.Reallocate.{Keeps}
 use Rattle.rlsf_model.specs.Sized.{IsSizedFor, live_count}
 use Rattle.rlsf_model.specs.State.{AreAlike, State}
-use Rattle.rlsf_heap.specs.Heap.{HeapView, IsWritten, PayloadView}
+use Rattle.rlsf_heap.specs.Heap.{HeapView, IsOwners, IsWritten, LiesInChunk, PayloadView, payload_range}
+use Rattle.rlsf_heap.specs.Kept.{KeepsBytesBeside}
 use Rattle.rlsf_heap.specs.Reallocation.{IsKeptHere}
 use Rattle.rlsf_heap.specs.Settled.{IsSettled}
-
--- the heap after a call for a payload of this size and alignment: the same one, over the same memory and chunks. If no byte of the memory
--- was raw, none is. Within bounds that include the payload, it is sized for what it was sized for
-pub record KeepsHeap (sllen size align : ℕ) (before after : HeapView) : Type 0 where
-  pub identity : after.identity ≡ before.identity
-  pub place : (after.memory.start ≡ before.memory.start) × (length after.memory.bytes ≡ length before.memory.bytes)
-  pub settled : IsSettled before.memory → IsSettled after.memory
-  pub bounds : (count most wide : ℕ) → IsSizedFor sllen count most wide before.state → size ≤ most → align ≤ wide → IsSizedFor sllen count most wide after.state
-  pub chunks : after.state.chunks ≡ before.state.chunks
-  pub grow : before.memory.touches ≤ after.memory.touches
 
 -- this is so within all bounds that the state is sized for, if they include this size and alignment, and at most `count` payloads are live before
 abbrev pub WithinBounds : ℕ → State → ℕ → ℕ → Type 0 → Type 0
 WithinBounds sllen s size align is = (count most wide : ℕ) → IsSizedFor sllen count most wide s → live_count s ≤ count → size ≤ most → align ≤ wide → is
 
--- what an allocated payload is: of this heap, where none was live, with the requested alignment, long enough and no longer than necessary.
--- One more payload is live
+-- a refused call: nothing that callers see is another
+pub record IsUnchanged (before after : HeapView) : Type 0 where
+  -- the state of the reference model
+  pub same : after.state ≡ before.state
+  -- the bytes of the memory
+  pub bytes : after.memory.bytes ≡ before.memory.bytes
+
+-- what an allocated payload is
 pub record IsAllocated (before after : HeapView) (size align : ℕ) (p : PayloadView) : Type 0 where
+  -- it is of this heap
   pub identity : p.identity ≡ before.identity
+  -- it is live
   pub live : align_at after.state p.start ≡ Some align
+  -- it has the requested alignment
   pub requested : p.align ≡ align
+  -- it is as long as the state says
   pub long : length p.bytes ≡ length (bytes_at after.state p.start)
+  -- its address is a multiple of the alignment
   pub aligned : p.start % align ≡ 0
+  -- it is long enough
   pub sized : size ≤ length p.bytes
+  -- and no longer than necessary
   pub few : length p.bytes < size + 32
+  -- none was live there
   pub new : align_at before.state p.start ≡ None
+  -- one more payload is live
   pub count : live_count after.state ≡ live_count before.state + 1
-
--- what a payload is after a reallocation to a size, with an alignment: it is live, long enough and no longer than necessary, and begins
--- with the bytes that were kept
-pub record IsReallocated (state : State) (was : PayloadView) (size align : ℕ) (p : PayloadView) : Type 0 where
-  pub live : align_at state p.start ≡ Some align
-  pub long : length p.bytes ≡ length (bytes_at state p.start)
-  pub aligned : p.start % align ≡ 0
-  pub sized : size ≤ length p.bytes
-  pub few : length p.bytes < size + 32
-  pub kept : Keeps was.bytes p.bytes
-  pub each : (k : ℕ) → k < length was.bytes → k < length p.bytes → slice_index p.bytes k ≡ slice_index was.bytes k
-
--- which bytes of a reallocated payload are here: those that were kept. If it got no longer, or no byte of the memory was raw, all are
-pub record IsReallocatedHere (before : HeapView) (was p : PayloadView) : Type 0 where
-  pub here : IsKeptHere was p
-  pub shrunk : length p.bytes ≤ length was.bytes → IsWritten p
+  -- the others are live as before
+  pub aligns : (a : ℕ) → a ≢ p.start → align_at after.state a ≡ align_at before.state a
+  -- if no byte of the memory was raw, all its bytes are here
   pub written : IsSettled before.memory → IsWritten p
 
--- what a payload that may move from an address leaves: none was live where it is now, and the others are live as before
+-- what an allocated payload is that was filled with zeros
+pub record IsAllocatedZeroed (before after : HeapView) (size align : ℕ) (p : PayloadView) : Type 0 where
+  -- it is an allocated one
+  pub made : IsAllocated before after size align p
+  -- all its bytes are here
+  pub written : IsWritten p
+  -- and 0
+  pub zeros : p.bytes ≡ replicate (length p.bytes) 0
+
+-- no payload is live at an address any more
+pub record IsGone (before after : State) (addr : ℕ) : Type 0 where
+  -- none is live there
+  pub gone : align_at after addr ≡ None
+  -- the others are live as before
+  pub aligns : (a : ℕ) → a ≢ addr → align_at after a ≡ align_at before a
+  -- one payload less is live
+  pub count : live_count before ≡ live_count after + 1
+
+-- a payload at an address was deallocated
+pub record IsDeallocated (before after : HeapView) (addr : ℕ) (p : PayloadView) : Type 0 where
+  -- until then each byte was its owner's
+  pub owner : IsOwners before p
+  -- it was live
+  pub live : align_at before.state addr ≡ Some p.align
+  -- it is not live any more
+  pub gone : IsGone before.state after.state addr
+
+-- what a payload is after a reallocation to a size, with an alignment
+pub record IsReallocated (state : State) (was : PayloadView) (size align : ℕ) (p : PayloadView) : Type 0 where
+  -- it is live
+  pub live : align_at state p.start ≡ Some align
+  -- it is as long as the state says
+  pub long : length p.bytes ≡ length (bytes_at state p.start)
+  -- its address is a multiple of the alignment
+  pub aligned : p.start % align ≡ 0
+  -- it is long enough
+  pub sized : size ≤ length p.bytes
+  -- and no longer than necessary
+  pub few : length p.bytes < size + 32
+  -- it begins with the bytes that were kept
+  pub kept : Keeps was.bytes p.bytes
+  -- each of them is as it was
+  pub each : (k : ℕ) → k < length was.bytes → k < length p.bytes → slice_index p.bytes k ≡ slice_index was.bytes k
+
+-- which bytes of a reallocated payload are here
+pub record IsReallocatedHere (before : HeapView) (was p : PayloadView) : Type 0 where
+  -- those that were kept
+  pub here : IsKeptHere was p
+  -- all, if it got no longer
+  pub shrunk : length p.bytes ≤ length was.bytes → IsWritten p
+  -- all, if no byte of the memory was raw
+  pub written : IsSettled before.memory → IsWritten p
+
+-- what a payload that may move from an address leaves
 pub record LeavesOthers (before after : State) (addr to : ℕ) : Type 0 where
+  -- it isn't at the address 0
   pub some : to ≢ 0
+  -- none was live where it is now
   pub new : to ≢ addr → align_at before to ≡ None
+  -- the others are live as before
   pub aligns : (a : ℕ) → a ≢ addr → a ≢ to → align_at after a ≡ align_at before a
 
--- a refused reallocation: the payload is as it was, at its address, and so are all others
-pub record IsReturned (before after : State) (addr : ℕ) (was p : PayloadView) : Type 0 where
+-- what every payload is that has another size
+pub record IsResized (before after : HeapView) (size align : ℕ) (was p : PayloadView) : Type 0 where
+  -- it is of this heap
+  pub identity : p.identity ≡ before.identity
+  -- it has the alignment that it had
+  pub requested : p.align ≡ align
+  -- it is live, long enough, and has the kept bytes
+  pub made : IsReallocated after.state was size align p
+  -- which of its bytes are here
+  pub here : IsReallocatedHere before was p
+
+-- what a payload is that has another size, and may have moved
+pub record IsResizedOrMoved (before after : HeapView) (addr size align : ℕ) (was p : PayloadView) : Type 0 where
+  -- a layout has this size and alignment
+  pub layout : IsLayout size align
+  -- it has the size
+  pub resized : IsResized before after size align was p
+  -- the other payloads are left
+  pub others : LeavesOthers before.state after.state addr p.start
+
+-- what a payload is that has another size, at its address
+pub record IsResizedInPlace (before after : HeapView) (addr size align : ℕ) (was p : PayloadView) : Type 0 where
+  -- a layout has this size and alignment
+  pub layout : IsLayout size align
+  -- it has the size
+  pub resized : IsResized before after size align was p
+  -- it is where it was
   pub start : p.start ≡ addr
+  -- the same payloads are live, with their alignments
+  pub aligns : align_at after.state ≡ align_at before.state
+
+-- the payload of a refused reallocation is as it was, and so are all others
+pub record IsReturned (before after : State) (addr : ℕ) (was p : PayloadView) : Type 0 where
+  -- it is where it was
+  pub start : p.start ≡ addr
+  -- it has the bytes that it had
   pub bytes : p.bytes ≡ was.bytes
+  -- all are here
   pub written : IsWritten p
+  -- chunks and used blocks are the same, and the free blocks
   pub alike : AreAlike before after
+  -- the same payloads are live, with their alignments
   pub aligns : align_at after ≡ align_at before
 
--- how many bytes a reallocation copies, by the counts before and after it: at most those of the payload, and none if it has room to stay
-pub record CopiesToMove (state : State) (was : PayloadView) (addr size before after : ℕ) : Type 0 where
-  pub copied : after ≤ before + length was.bytes
-  pub grow_copied : before ≤ after
-  pub stays : HasRoomToStay state addr size → after ≡ before
+-- a refused reallocation
+pub record IsRefused (before after : HeapView) (addr align : ℕ) (was p : PayloadView) : Type 0 where
+  -- the payload is of this heap
+  pub identity : p.identity ≡ before.identity
+  -- it has the alignment that it had
+  pub requested : p.align ≡ align
+  -- it is as it was
+  pub returned : IsReturned before.state after.state addr was p
+  -- no byte of the memory beside it is another
+  pub unchanged : KeepsBytesBeside before after (payload_range was)
+
+-- what is so of each payload that is out
+pub record IsOut (s : State) (p : PayloadView) : Type 0 where
+  -- it is live
+  pub live : align_at s p.start ≡ Some p.align
+  -- it is as long as the state says
+  pub long : length p.bytes ≡ length (bytes_at s p.start)
+  -- its address is a multiple of its alignment
+  pub aligned : p.start % p.align ≡ 0
+  -- its bytes lie in one chunk, behind 16 bytes or more and before the sentinel
+  pub inside : LiesInChunk s (payload_range p)

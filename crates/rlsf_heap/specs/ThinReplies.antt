@@ -1,12 +1,12 @@
--- What the calls on payloads that are known by their address return, and what an allocation at an address leaves.
-use Rattle.std.specs.Prelude.{◌≡◌, ◌≢◌, ℕ, ◌≤◌, Option, Some, None, Result, Ok, Err}
+-- What the calls on payloads that are known by their address return.
+use Rattle.std.specs.Prelude.{◌≡◌, ◌≢◌, ℕ, Option, Some, None, Result, Ok, Err}
 use Rattle.rlsf_model.specs.Allocate.{Allocates}
 use Rattle.rlsf_model.specs.Callers.{align_at}
 use Rattle.rlsf_model.specs.Release.{Deallocates}
-use Rattle.rlsf_model.specs.Sized.{IsSizedFor, live_count}
 use Rattle.rlsf_model.specs.State.{State}
 use Rattle.rlsf_heap.specs.declared.thin.ThinPayload.{ThinPayload}
-use Rattle.rlsf_heap.specs.Heap.{HeapView, Identity}
+use Rattle.rlsf_heap.specs.Heap.{HeapView, IsWritten, PayloadView}
+use Rattle.rlsf_heap.specs.Replies.{IsReallocated, IsUnchanged, LeavesOthers}
 
 -- the address of a reallocated payload, or none if the reallocation was refused
 abbrev pub thin_moved_to : Result ThinPayload ThinPayload → Option ℕ
@@ -19,17 +19,44 @@ abbrev pub MovesElsewhere : ℕ → State → ℕ → ℕ → ℕ → Option ℕ
 MovesElsewhere sllen s addr size align None t = Allocates sllen s size align None t
 MovesElsewhere sllen s addr size align (Some to) t = (made : State) × Allocates sllen s size align (Some to) made × Deallocates made addr t
 
--- what an allocation at an address leaves: the other payloads, live as before. The address is 0 if it was refused: then nothing changes.
--- Within bounds that the heap is sized for, it isn't
-pub record AllocationLeaves (sllen size align : ℕ) (before after : HeapView) (addr : ℕ) : Type 0 where
-  pub aligns : (a : ℕ) → a ≢ addr → align_at after.state a ≡ align_at before.state a
-  pub room : (count most wide : ℕ) → IsSizedFor sllen count most wide before.state → live_count before.state ≤ count → size ≤ most → align ≤ wide → addr ≢ 0
-  pub same : addr ≡ 0 → after.state ≡ before.state
-  pub refused : addr ≡ 0 → after.memory.bytes ≡ before.memory.bytes
-  pub copied : after.memory.copied ≡ before.memory.copied
-
--- a payload by its address, of this heap and with this alignment
-pub record IsThinOf (heap : Identity) (align : ℕ) (p : ThinPayload) : Type 0 where
+-- a payload by its address, of which this is so
+pub record IsThin (P : PayloadView → Type 0) (p : ThinPayload) : Type 0 where
+  -- its address
   pub at : p.addr ≡ p.of.start
-  pub identity : p.of.identity ≡ heap
-  pub requested : p.of.align ≡ align
+  -- what is so of it
+  pub of : P p.of
+
+-- a payload by its address, of which this is so if there is one. The address 0 says that there is none
+pub record IsThinReply (P : PayloadView → Type 0) (p : ThinPayload) : Type 0 where
+  -- its address
+  pub at : p.addr ≡ p.of.start
+  -- what is so of it, if there is one
+  pub made : p.of.start ≢ 0 → P p.of
+
+-- what a payload is that moved into a new one
+pub record IsMoved (before after : HeapView) (addr size align : ℕ) (was p : PayloadView) : Type 0 where
+  -- it is of this heap
+  pub identity : p.identity ≡ before.identity
+  -- it has the requested alignment
+  pub requested : p.align ≡ align
+  -- it is live, long enough, and has the kept bytes
+  pub made : IsReallocated after.state was size align p
+  -- all its bytes are here
+  pub written : IsWritten p
+  -- it is another one
+  pub apart : p.start ≢ addr
+  -- none is live where it was
+  pub gone : align_at after.state addr ≡ None
+  -- the other payloads are left
+  pub others : LeavesOthers before.state after.state addr p.start
+
+-- a payload that couldn't move
+pub record IsLeft (before after : HeapView) (was p : PayloadView) : Type 0 where
+  -- it is as it was
+  pub same : p ≡ was
+  -- it is of this heap
+  pub identity : p.identity ≡ before.identity
+  -- it has the alignment that it had
+  pub requested : p.align ≡ was.align
+  -- nothing is another
+  pub unchanged : IsUnchanged before after

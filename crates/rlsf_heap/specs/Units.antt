@@ -1,9 +1,13 @@
 -- Payloads of complete units, as contracts see them.
-use Rattle.std.specs.Prelude.{◌≡◌, ℕ, ◌+◌, ◌-◌, ◌%◌, Option, Some, None, Result, Ok, Err}
+use Rattle.std.specs.Prelude.{◌≡◌, ◌≢◌, ℕ, ◌+◌, ◌-◌, ◌%◌, Option, Some, None, Result, Ok, Err}
 use Rattle.rlsf_base.specs.declared.memory.unit_payload.UnitPayload.{UnitPayload}
 use Rattle.rlsf_base.specs.declared.memory.unit_tail.UnitTail.{UnitTail}
+use Rattle.rlsf_base.specs.Range.{range_at}
 use Rattle.rlsf_base.specs.Rounding.{round32}
-use Rattle.rlsf_heap.specs.Heap.{Identity}
+use Rattle.rlsf_model.specs.Callers.{align_at}
+use Rattle.rlsf_model.specs.Sized.{live_count}
+use Rattle.rlsf_heap.specs.Heap.{HeapView, Identity}
+use Rattle.rlsf_heap.specs.Kept.{KeepsBytesBeside}
 
 -- which heap a payload is of
 abbrev pub heap_of : UnitPayload → Identity
@@ -30,3 +34,49 @@ payload_len size = round32 (size + 16) - 16
 -- the memory of a heap has units of 16 bytes
 abbrev pub GivesUnits : Identity → Type 0
 GivesUnits h = h.home.view.shift % 16 ≡ 0
+
+-- what an allocated payload of units is
+pub record IsUnitAllocated (before after : HeapView) (size : ℕ) (p : UnitPayload) : Type 0 where
+  -- it is of this heap
+  pub identity : heap_of p ≡ before.identity
+  -- it has the length for the size
+  pub long : p.len ≡ payload_len size
+  -- it is live
+  pub live : align_at after.state p.start ≡ Some 16
+  -- none was live there
+  pub new : align_at before.state p.start ≡ None
+  -- the others are live as before
+  pub aligns : (a : ℕ) → a ≢ p.start → align_at after.state a ≡ align_at before.state a
+  -- one more payload is live
+  pub count : live_count after.state ≡ live_count before.state + 1
+
+-- what the end of a payload of units is, whose first bytes are out, once the payload has a length
+pub record IsTail (heap : Identity) (was : UnitTail) (len : ℕ) (p : UnitTail) : Type 0 where
+  -- it is of this heap
+  pub identity : heap_of_tail p ≡ heap
+  -- the payload is where it was
+  pub start : p.start ≡ was.start
+  -- and so is its pointer
+  pub ptr : p.ptr ≡ was.ptr
+  -- as many first bytes are out
+  pub kept : p.kept ≡ was.kept
+  -- it has the length
+  pub long : p.len ≡ len
+
+-- a payload of units has another size
+pub record IsTailResized (before after : HeapView) (was : UnitTail) (size : ℕ) (p : UnitTail) : Type 0 where
+  -- it has the length for the size
+  pub tail : IsTail before.identity was (payload_len size) p
+  -- the same payloads are live, with their alignments
+  pub aligns : align_at after.state ≡ align_at before.state
+
+-- a payload of units kept its size
+pub record IsTailRefused (before after : HeapView) (was p : UnitTail) : Type 0 where
+  -- it has the length that it had
+  pub tail : IsTail before.identity was was.len p
+  -- the state is the same
+  pub same : after.state ≡ before.state
+  -- the same payloads are live, with their alignments
+  pub aligns : align_at after.state ≡ align_at before.state
+  -- no byte of the memory beside it is another
+  pub unchanged : KeepsBytesBeside before after (range_at was.start was.len)

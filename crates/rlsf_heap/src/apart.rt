@@ -1,8 +1,8 @@
 //! What is true of any two payloads that are out at the same time.
-ghost use Rattle.std.specs.Prelude.{◌≡◌, ◌≢◌, ◌%◌, Some, length};
+ghost use Rattle.std.specs.Prelude.{◌≡◌, ◌≢◌};
 ghost use Rattle.rlsf_base.specs.Range.{AreApart};
-ghost use Rattle.rlsf_model.specs.Callers.{align_at, bytes_at};
-ghost use Rattle.rlsf_heap.specs.Heap.{LiesInChunk, payload_range};
+ghost use Rattle.rlsf_heap.specs.Heap.{payload_range};
+ghost use Rattle.rlsf_heap.specs.Replies.{IsOut};
 
 use crate::heap::Heap;
 use crate::payload::Payload;
@@ -30,10 +30,8 @@ impl<FLBitmap: BitPattern, SLBitmap: BitPattern, const FLLEN: usize, const SLLEN
         ensures payloads { (result.0 ≡ first) × (result.1 ≡ second) }
         ensures differ { first.start ≢ second.start }
         ensures apart { AreApart (payload_range first) (payload_range second) }
-        ensures live { (align_at self.old.state first.start ≡ Some first.align) × (align_at self.old.state second.start ≡ Some second.align) }
-        ensures long { (length first.bytes ≡ length (bytes_at self.old.state first.start)) × (length second.bytes ≡ length (bytes_at self.old.state second.start)) }
-        ensures aligned { (first.start % first.align ≡ 0) × (second.start % second.align ≡ 0) }
-        ensures inside { LiesInChunk self.old.state (payload_range first) × LiesInChunk self.old.state (payload_range second) }
+        ensures first { IsOut self.old.state first }
+        ensures second { IsOut self.old.state second }
     {
         let (part, align) = first.redeemed(&mut self.ledger);
         let (other, wide) = second.redeemed(&mut self.ledger);

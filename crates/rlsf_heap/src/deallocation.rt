@@ -1,14 +1,13 @@
 //! Deallocation of payloads whose bytes are here.
-ghost use Rattle.std.specs.Prelude.{◌≡◌, ◌≢◌, ◌≤◌, ◌+◌, ℕ, None, Some, length};
+ghost use Rattle.std.specs.Prelude.{◌≡◌, ◌≤◌, ◌+◌, Some};
 ghost use Rattle.rlsf_base.specs.Ledger.{extent};
 ghost use Rattle.rlsf_base.specs.OpenSpace.{IsAway};
 ghost use Rattle.rlsf_base.specs.Piece.{IsFull, piece_range};
 ghost use Rattle.rlsf_model.specs.Callers.{align_at};
 ghost use Rattle.rlsf_model.specs.Release.{Deallocates};
-ghost use Rattle.rlsf_model.specs.Sized.{IsSizedFor, live_count};
-ghost use Rattle.rlsf_heap.specs.Heap.{IsOwners, IsTicketOf, IsWritten};
-ghost use Rattle.rlsf_heap.specs.Kept.{KeepsSpareBytes, NoneBecomesRaw};
-ghost use Rattle.rlsf_heap.specs.Settled.{IsSettled};
+ghost use Rattle.rlsf_heap.specs.Heap.{IsTicketOf, IsWritten};
+ghost use Rattle.rlsf_heap.specs.Frame.{KeepsAllBounds, KeepsFrame};
+ghost use Rattle.rlsf_heap.specs.Replies.{IsDeallocated, IsGone};
 
 use crate::heap::Heap;
 use crate::payload::Payload;
@@ -32,24 +31,16 @@ impl<FLBitmap: BitPattern, SLBitmap: BitPattern, const FLLEN: usize, const SLLEN
     /// of the payload's bytes. After `deallocate`, the others are raw.
     ///
     /// The payload must be one of this heap, and its bytes must be here.
+    ///
+    /// Completes in constant time: at most 33 word accesses, whatever the pools contain.
     pub fn deallocate_written(&mut self, payload: Payload)
         requires identity { payload.identity ≡ self.old.identity }
         requires written { IsWritten payload }
         ensures step { Steps FLLEN SLLEN self.new (Deallocates self.old.state payload.start) }
-        ensures identity { self.new.identity ≡ self.old.identity }
-        ensures place { (self.new.memory.start ≡ self.old.memory.start) × (length self.new.memory.bytes ≡ length self.old.memory.bytes) }
-        ensures owner { IsOwners self.old payload }
-        ensures count { live_count self.old.state ≡ live_count self.new.state + 1 }
-        ensures bounds { (count size align : ℕ) → IsSizedFor SLLEN count size align self.old.state → IsSizedFor SLLEN count size align self.new.state }
-        ensures chunks { self.new.state.chunks ≡ self.old.state.chunks }
-        ensures gone { align_at self.new.state payload.start ≡ None }
-        ensures aligns { (a : ℕ) → a ≢ payload.start → align_at self.new.state a ≡ align_at self.old.state a }
-        ensures settled { IsSettled self.old.memory → IsSettled self.new.memory }
+        ensures result { IsDeallocated self.old self.new payload.start payload }
+        ensures bounds { KeepsAllBounds SLLEN self.old.state self.new.state }
+        ensures frame { KeepsFrame self.old self.new }
         ensures touches { self.new.memory.touches ≤ self.old.memory.touches + 33 }
-        ensures grow { self.old.memory.touches ≤ self.new.memory.touches }
-        ensures raw { NoneBecomesRaw self.old self.new }
-        ensures spare { KeepsSpareBytes self.old self.new }
-        ensures copied { self.new.memory.copied ≡ self.old.memory.copied }
     {
         let (part, ticket) = payload.into_parts();
         self.put_written(part, ticket);
@@ -62,21 +53,12 @@ impl<FLBitmap: BitPattern, SLBitmap: BitPattern, const FLLEN: usize, const SLLEN
         requires identity { record { home = part.home; ledger = ticket.name } ≡ self.old.identity }
         requires full { IsFull part }
         ensures step { Steps FLLEN SLLEN self.new (Deallocates self.old.state part.start) }
-        ensures identity { self.new.identity ≡ self.old.identity }
-        ensures place { (self.new.memory.start ≡ self.old.memory.start) × (length self.new.memory.bytes ≡ length self.old.memory.bytes) }
         ensures owner { IsAway self.old.memory (piece_range part) }
         ensures live { align_at self.old.state part.start ≡ Some ticket.align }
-        ensures count { live_count self.old.state ≡ live_count self.new.state + 1 }
-        ensures bounds { (count size align : ℕ) → IsSizedFor SLLEN count size align self.old.state → IsSizedFor SLLEN count size align self.new.state }
-        ensures chunks { self.new.state.chunks ≡ self.old.state.chunks }
-        ensures gone { align_at self.new.state part.start ≡ None }
-        ensures aligns { (a : ℕ) → a ≢ part.start → align_at self.new.state a ≡ align_at self.old.state a }
-        ensures settled { IsSettled self.old.memory → IsSettled self.new.memory }
+        ensures result { IsGone self.old.state self.new.state part.start }
+        ensures bounds { KeepsAllBounds SLLEN self.old.state self.new.state }
+        ensures frame { KeepsFrame self.old self.new }
         ensures touches { self.new.memory.touches ≤ self.old.memory.touches + 33 }
-        ensures grow { self.old.memory.touches ≤ self.new.memory.touches }
-        ensures raw { NoneBecomesRaw self.old self.new }
-        ensures spare { KeepsSpareBytes self.old self.new }
-        ensures copied { self.new.memory.copied ≡ self.old.memory.copied }
     {
         let addr = part.start();
         self.ledger.redeem(ticket);

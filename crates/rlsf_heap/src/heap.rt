@@ -1,7 +1,9 @@
 //! The heap: an allocator whose payloads leave its memory.
-ghost use Rattle.std.specs.Prelude.{[], ◌≡◌, ◌≢◌, ◌≤◌, ◌+◌, ◌↔◌, ℕ, None, length, replicate, IfErr, IfNone, IfOk, IfSome, IsOk, IsSome};
+ghost use Rattle.std.specs.Prelude.{[], Some, ◌≡◌, ◌≤◌, ◌+◌, ◌↔◌, None, length, IfErr, IfNone, IfOk, IfSome, IsOk, IsSome};
 ghost use Rattle.rlsf_base.specs.Changes.{IsAllOwn};
-ghost use Rattle.rlsf_base.specs.OpenSpace.{home_of, IsOwned};
+ghost use Rattle.rlsf_base.specs.Ledger.{extent};
+ghost use Rattle.rlsf_base.specs.OpenSpace.{home_of, IsAway, IsOwned};
+ghost use Rattle.rlsf_base.specs.Piece.{piece_range};
 ghost use Rattle.rlsf_base.specs.declared.memory.range.Range.{Range};
 ghost use Rattle.rlsf_base.specs.SizeClass.{IsValid};
 ghost use Rattle.rlsf_base.specs.Space.{range_of};
@@ -9,17 +11,17 @@ ghost use Rattle.rlsf_model.specs.Allocate.{Allocates};
 ghost use Rattle.rlsf_model.specs.Callers.{align_at};
 ghost use Rattle.rlsf_model.specs.Insert.{IsUntouched};
 ghost use Rattle.rlsf_model.specs.Release.{Deallocates};
-ghost use Rattle.rlsf_model.specs.Sized.{IsSizedFor, live_count};
+ghost use Rattle.rlsf_model.specs.Sized.{live_count};
 ghost use Rattle.rlsf_model.specs.State.{empty};
-ghost use Rattle.rlsf_heap.specs.Heap.{addr_of, IsOwners, IsWritten, payload_range};
-ghost use Rattle.rlsf_heap.specs.Kept.{KeepsSpareBytes, NoneBecomesRaw, NoneBecomesRawBeside};
-ghost use Rattle.rlsf_heap.specs.Replies.{IsAllocated, KeepsHeap};
+ghost use Rattle.rlsf_heap.specs.Heap.{addr_of, IsTicketOf, payload_range};
+ghost use Rattle.rlsf_heap.specs.Replies.{IsAllocated, IsAllocatedZeroed, IsDeallocated, IsGone, IsUnchanged, WithinBounds};
 ghost use Rattle.rlsf_heap.specs.Settled.{IsSettled};
+ghost use Rattle.rlsf_heap.specs.Frame.{KeepsAllBounds, KeepsBounds, KeepsFrame, KeepsFrameBeside};
 
 use crate::payload::Payload;
 use crate::usable::load_usable_of;
-use rlsf_base::memory::ledger::Ledger;
-use rlsf_base::memory::{Layout, OpenMemory};
+use rlsf_base::memory::ledger::{Ledger, Ticket};
+use rlsf_base::memory::{Layout, OpenMemory, Part};
 use rlsf_blocks::{allocate_block, deallocate_block, load_block_of};
 use rlsf_int::BitPattern;
 use rlsf_table::ClassTable;
@@ -31,6 +33,10 @@ use std::mem::ManuallyDrop;
 ///
 /// No call changes a byte of the memory that no block is made of, before and after it (`spare`): one outside of all chunks, or
 /// among the last 16 of a sentinel.
+///
+/// A word access reads or writes one word (8 bytes) of the memory, of a list head or of a bitmap. A bitmap of more than 64
+/// positions is two words, and counts as one. The documentation of each call says how many it takes at most (`touches`). Copied bytes
+/// are counted apart (`copied`), and what a payload's owner reads and writes isn't counted.
 ///
 /// Dropping a heap deallocates its memory if no payload is live. Otherwise the memory leaks, so that no byte that a payload
 /// owns is deallocated.
@@ -143,22 +149,18 @@ impl<FLBitmap: BitPattern, SLBitmap: BitPattern, const FLLEN: usize, const SLLEN
     ///
     /// Returns `None` if and only if no free block has a class that reaches the sought size; then nothing changes. Within
     /// bounds that the heap is sized for (`IsSizedFor`), an allocation is never refused.
+    ///
+    /// Completes in constant time: at most 30 word accesses, whatever the pools contain.
     // In line, so that the tests of an alignment that is constant at the call go away, and no payload is passed in memory.
     #[inline(always)]
     pub fn allocate(&mut self, layout: Layout) -> Option<Payload>
         ensures step { Steps FLLEN SLLEN self.new (Allocates SLLEN self.old.state layout.size layout.align (addr_of result)) }
-        ensures payload { IfSome result (λ p. IsAllocated self.old self.new layout.size layout.align p) }
-        ensures heap { KeepsHeap SLLEN layout.size layout.align self.old self.new }
-        ensures written { IsSettled self.old.memory → IfSome result (λ p. IsWritten p) }
-        ensures aligns { IfSome result (λ p. (a : ℕ) → a ≢ p.start → align_at self.new.state a ≡ align_at self.old.state a) }
-        ensures room { (count most wide : ℕ) → IsSizedFor SLLEN count most wide self.old.state → live_count self.old.state ≤ count
-            → layout.size ≤ most → layout.align ≤ wide → IsSome result }
-        ensures same { IfNone result (self.new.state ≡ self.old.state) }
-        ensures refused { IfNone result (self.new.memory.bytes ≡ self.old.memory.bytes) }
+        ensures result { IfSome result (λ p. IsAllocated self.old self.new layout.size layout.align p) }
+        ensures room { WithinBounds SLLEN self.old.state layout.size layout.align (IsSome result) }
+        ensures bounds { KeepsBounds SLLEN self.old.state self.new.state layout.size layout.align }
+        ensures refused { IfNone result (IsUnchanged self.old self.new) }
+        ensures frame { KeepsFrame self.old self.new }
         ensures touches { self.new.memory.touches ≤ self.old.memory.touches + 30 }
-        ensures raw { NoneBecomesRaw self.old self.new }
-        ensures spare { KeepsSpareBytes self.old self.new }
-        ensures copied { self.new.memory.copied ≡ self.old.memory.copied }
     {
         let view = self.memory.view();
         let addr = allocate_block(&mut self.memory, view, &mut self.table, layout)?;
@@ -174,21 +176,16 @@ impl<FLBitmap: BitPattern, SLBitmap: BitPattern, const FLLEN: usize, const SLLEN
     /// left the memory. So filling it counts no word access, but takes time proportional to its length.
     ///
     /// Returns `None` if and only if `allocate` does.
+    ///
+    /// Takes at most 30 word accesses, whatever the pools contain, and fills each byte of the payload.
     pub fn allocate_zeroed(&mut self, layout: Layout) -> Option<Payload>
         ensures step { Steps FLLEN SLLEN self.new (Allocates SLLEN self.old.state layout.size layout.align (addr_of result)) }
-        ensures payload { IfSome result (λ p. IsAllocated self.old self.new layout.size layout.align p) }
-        ensures heap { KeepsHeap SLLEN layout.size layout.align self.old self.new }
-        ensures written { IfSome result (λ p. IsWritten p) }
-        ensures zeros { IfSome result (λ p. p.bytes ≡ replicate (length p.bytes) 0) }
-        ensures aligns { IfSome result (λ p. (a : ℕ) → a ≢ p.start → align_at self.new.state a ≡ align_at self.old.state a) }
-        ensures room { (count most wide : ℕ) → IsSizedFor SLLEN count most wide self.old.state → live_count self.old.state ≤ count
-            → layout.size ≤ most → layout.align ≤ wide → IsSome result }
-        ensures same { IfNone result (self.new.state ≡ self.old.state) }
-        ensures refused { IfNone result (self.new.memory.bytes ≡ self.old.memory.bytes) }
+        ensures result { IfSome result (λ p. IsAllocatedZeroed self.old self.new layout.size layout.align p) }
+        ensures room { WithinBounds SLLEN self.old.state layout.size layout.align (IsSome result) }
+        ensures bounds { KeepsBounds SLLEN self.old.state self.new.state layout.size layout.align }
+        ensures refused { IfNone result (IsUnchanged self.old self.new) }
+        ensures frame { KeepsFrame self.old self.new }
         ensures touches { self.new.memory.touches ≤ self.old.memory.touches + 30 }
-        ensures raw { NoneBecomesRaw self.old self.new }
-        ensures spare { KeepsSpareBytes self.old self.new }
-        ensures copied { self.new.memory.copied ≡ self.old.memory.copied }
     {
         let mut payload = self.allocate(layout)?;
         payload.fill(0);
@@ -202,26 +199,35 @@ impl<FLBitmap: BitPattern, SLBitmap: BitPattern, const FLLEN: usize, const SLLEN
     /// allocator doesn't overwrite are raw. No other byte becomes raw (`raw`).
     ///
     /// The payload must be one of this heap.
+    ///
+    /// Completes in constant time: at most 33 word accesses, whatever the pools contain.
     // In line, so that no payload is passed in memory.
     #[inline(always)]
     pub fn deallocate(&mut self, payload: Payload)
         requires { payload.identity ≡ self.old.identity }
         ensures step { Steps FLLEN SLLEN self.new (Deallocates self.old.state payload.start) }
-        ensures identity { self.new.identity ≡ self.old.identity }
-        ensures place { (self.new.memory.start ≡ self.old.memory.start) × (length self.new.memory.bytes ≡ length self.old.memory.bytes) }
-        ensures owner { IsOwners self.old payload }
-        ensures count { live_count self.old.state ≡ live_count self.new.state + 1 }
-        ensures bounds { (count size align : ℕ) → IsSizedFor SLLEN count size align self.old.state → IsSizedFor SLLEN count size align self.new.state }
-        ensures chunks { self.new.state.chunks ≡ self.old.state.chunks }
-        ensures gone { align_at self.new.state payload.start ≡ None }
-        ensures aligns { (a : ℕ) → a ≢ payload.start → align_at self.new.state a ≡ align_at self.old.state a }
-        ensures raw { NoneBecomesRawBeside self.old self.new (payload_range payload) }
+        ensures result { IsDeallocated self.old self.new payload.start payload }
+        ensures bounds { KeepsAllBounds SLLEN self.old.state self.new.state }
+        ensures frame { KeepsFrameBeside self.old self.new (payload_range payload) }
         ensures touches { self.new.memory.touches ≤ self.old.memory.touches + 33 }
-        ensures grow { self.old.memory.touches ≤ self.new.memory.touches }
-        ensures spare { KeepsSpareBytes self.old self.new }
-        ensures copied { self.new.memory.copied ≡ self.old.memory.copied }
     {
         let (part, ticket) = payload.into_parts();
+        self.put_raw(part, ticket);
+    }
+
+    // Deallocates a payload by its bytes, which become raw, and its ticket.
+    #[inline(always)]
+    pub(crate) fn put_raw(&mut self, part: Part, ticket: Ticket)
+        requires ticket { IsTicketOf part ticket.align (extent ticket.addr ticket.len ticket.align) }
+        requires identity { record { home = part.home; ledger = ticket.name } ≡ self.old.identity }
+        ensures step { Steps FLLEN SLLEN self.new (Deallocates self.old.state part.start) }
+        ensures owner { IsAway self.old.memory (piece_range part) }
+        ensures live { align_at self.old.state part.start ≡ Some ticket.align }
+        ensures result { IsGone self.old.state self.new.state part.start }
+        ensures bounds { KeepsAllBounds SLLEN self.old.state self.new.state }
+        ensures frame { KeepsFrameBeside self.old self.new (piece_range part) }
+        ensures touches { self.new.memory.touches ≤ self.old.memory.touches + 33 }
+    {
         let addr = part.start();
         self.ledger.redeem(ticket);
         self.memory.put_room(part);

@@ -3,6 +3,7 @@ ghost use Rattle.std.specs.Prelude.{◌≡◌, ◌-◌, ◌≤◌, ◌++◌, ℕ
 ghost use Rattle.std.specs.Borrow.{sem};
 ghost use Rattle.rlsf_base.specs.Changes.{IsIn};
 ghost use Rattle.rlsf_heap.specs.Heap.{IsWritten};
+ghost use Rattle.rlsf_heap.specs.Lends.{IsRewritten};
 
 use rlsf_base::memory::Part;
 use rlsf_base::memory::ledger::Ticket;
@@ -90,11 +91,7 @@ impl Payload {
         ensures* writes_back { sem 𝓛 (LendsPayload self.entry result) }
         ensures value { result.now ≡ self.old.bytes }
         ensures filled { (w : List ℕ) → length w ≡ length result.now → (rewritten self.old w).bytes ≡ w }
-        ensures lengths { (w : List ℕ) → length (rewritten self.old w).bytes ≡ length self.old.bytes }
-        ensures written { (w : List ℕ) → IsWritten (rewritten self.old w) }
-        ensures identity { (w : List ℕ) → (rewritten self.old w).identity ≡ self.old.identity }
-        ensures start { (w : List ℕ) → (rewritten self.old w).start ≡ self.old.start }
-        ensures align { (w : List ℕ) → (rewritten self.old w).align ≡ self.old.align }
+        ensures left { (w : List ℕ) → IsRewritten self.old (rewritten self.old w) }
     {
         self.part.as_mut_slice()
     }

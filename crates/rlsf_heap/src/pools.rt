@@ -5,15 +5,12 @@ ghost use Rattle.rlsf_base.specs.declared.memory.range.Range.{Range};
 ghost use Rattle.rlsf_base.specs.Range.{AreApart, LiesIn};
 ghost use Rattle.rlsf_base.specs.Sizes.{max_pool_size};
 ghost use Rattle.rlsf_base.specs.Space.{range_of};
-ghost use Rattle.rlsf_model.specs.Callers.{align_at};
 ghost use Rattle.rlsf_model.specs.ChunkRows.{IsRow};
 ghost use Rattle.rlsf_model.specs.Insert.{Appends, Inserts, IsNext, IsUntouched, aligned_part, cut};
 ghost use Rattle.rlsf_model.specs.Remove.{IsIdle, Removes};
-ghost use Rattle.rlsf_model.specs.Sized.{IsSizedFor, live_count};
 ghost use Rattle.rlsf_blocks.specs.Blocks.{walked};
 ghost use Rattle.rlsf_tlsf.specs.Steps.UsedBlocks.{has_used};
-ghost use Rattle.rlsf_heap.specs.Kept.{KeepsSpareBytes, NoneBecomesRaw};
-ghost use Rattle.rlsf_heap.specs.Settled.{IsSettled};
+ghost use Rattle.rlsf_heap.specs.Frame.{KeepsAllBounds, KeepsPayloads};
 
 use crate::heap::Heap;
 use rlsf_base::memory::Range;
@@ -41,24 +38,18 @@ impl<FLBitmap: BitPattern, SLBitmap: BitPattern, const FLLEN: usize, const SLLEN
     /// `pool_size_for_payloads` returns for some bounds, the heap is then sized for them (`IsSizedFor`).
     ///
     /// The range must lie in the memory and overlap no chunk.
+    ///
+    /// Takes at most 13 word accesses for each chunk that it makes, whatever the pools contain.
     pub fn insert_free_block_ptr(&mut self, range: Range) -> Option<NonZeroUsize>
         requires lies_in { LiesIn range self.old.memory.start (length self.old.memory.bytes) }
         requires untouched { IsUntouched self.old.state.chunks range }
         ensures step { Steps FLLEN SLLEN self.new (Inserts FLLEN self.old.state range (reply result)) }
-        ensures identity { self.new.identity ≡ self.old.identity }
-        ensures place { (self.new.memory.start ≡ self.old.memory.start) × (length self.new.memory.bytes ≡ length self.old.memory.bytes) }
         ensures untouched { (r : Range) → IsUntouched self.old.state.chunks r → AreApart range r → IsUntouched self.new.state.chunks r }
-        ensures aligns { align_at self.new.state ≡ align_at self.old.state }
-        ensures count { live_count self.new.state ≡ live_count self.old.state }
-        ensures bounds { (count size align : ℕ) → IsSizedFor SLLEN count size align self.old.state → IsSizedFor SLLEN count size align self.new.state }
-        ensures pool { SizesPool FLLEN SLLEN range self.old.state self.new.state }
+        ensures room { SizesPool FLLEN SLLEN range self.old.state self.new.state }
+        ensures bounds { KeepsAllBounds SLLEN self.old.state self.new.state }
         ensures refused { IfNone result (self.new.memory.bytes ≡ self.old.memory.bytes) }
-        ensures settled { IsSettled self.old.memory → IsSettled self.new.memory }
-        ensures raw { NoneBecomesRaw self.old self.new }
+        ensures frame { KeepsPayloads self.old self.new }
         ensures touches { self.new.memory.touches ≤ self.old.memory.touches + 13 * length (cut (max_pool_size FLLEN) (aligned_part range)) }
-        ensures grow { self.old.memory.touches ≤ self.new.memory.touches }
-        ensures spare { KeepsSpareBytes self.old self.new }
-        ensures copied { self.new.memory.copied ≡ self.old.memory.copied }
     {
         let taken = insert_chunks(&mut self.memory, &mut self.table, range);
         self.state.insert(FLLEN, range.start, range.len);
@@ -69,24 +60,18 @@ impl<FLBitmap: BitPattern, SLBitmap: BitPattern, const FLLEN: usize, const SLLEN
     /// taken.
     ///
     /// The range must lie in the memory and overlap no chunk.
+    ///
+    /// Takes at most 13 word accesses for each chunk that it makes, whatever the pools contain.
     pub fn insert_free_block(&mut self, range: Range)
         requires lies_in { LiesIn range self.old.memory.start (length self.old.memory.bytes) }
         requires untouched { IsUntouched self.old.state.chunks range }
         ensures step { Steps FLLEN SLLEN self.new (λ t. (taken : Option ℕ) × Inserts FLLEN self.old.state range taken t) }
-        ensures identity { self.new.identity ≡ self.old.identity }
-        ensures place { (self.new.memory.start ≡ self.old.memory.start) × (length self.new.memory.bytes ≡ length self.old.memory.bytes) }
         ensures untouched { (r : Range) → IsUntouched self.old.state.chunks r → AreApart range r → IsUntouched self.new.state.chunks r }
-        ensures aligns { align_at self.new.state ≡ align_at self.old.state }
-        ensures count { live_count self.new.state ≡ live_count self.old.state }
-        ensures bounds { (count size align : ℕ) → IsSizedFor SLLEN count size align self.old.state → IsSizedFor SLLEN count size align self.new.state }
-        ensures pool { SizesPool FLLEN SLLEN range self.old.state self.new.state }
-        ensures unchanged { cut (max_pool_size FLLEN) (aligned_part range) ≡ [] → self.new.memory.bytes ≡ self.old.memory.bytes }
-        ensures settled { IsSettled self.old.memory → IsSettled self.new.memory }
-        ensures raw { NoneBecomesRaw self.old self.new }
+        ensures room { SizesPool FLLEN SLLEN range self.old.state self.new.state }
+        ensures bounds { KeepsAllBounds SLLEN self.old.state self.new.state }
+        ensures refused { cut (max_pool_size FLLEN) (aligned_part range) ≡ [] → self.new.memory.bytes ≡ self.old.memory.bytes }
+        ensures frame { KeepsPayloads self.old self.new }
         ensures touches { self.new.memory.touches ≤ self.old.memory.touches + 13 * length (cut (max_pool_size FLLEN) (aligned_part range)) }
-        ensures grow { self.old.memory.touches ≤ self.new.memory.touches }
-        ensures spare { KeepsSpareBytes self.old self.new }
-        ensures copied { self.new.memory.copied ≡ self.old.memory.copied }
     {
         let _ = self.insert_free_block_ptr(range);
     }
@@ -101,23 +86,18 @@ impl<FLBitmap: BitPattern, SLBitmap: BitPattern, const FLLEN: usize, const SLLEN
     ///   all free blocks.
     ///
     /// The range must lie in the memory, overlap no chunk, and begin where a chunk ends.
+    ///
+    /// If there is a longest chunk, takes at most 13 word accesses for each chunk that it makes. Otherwise completes in constant time: at
+    /// most 34 word accesses, whatever the pools contain.
     pub fn append_free_block_ptr(&mut self, range: Range) -> usize
         requires { IsNext (range_of self.old.memory) self.old.state range }
         ensures step { Steps FLLEN SLLEN self.new (Appends FLLEN self.old.state range result) }
-        ensures identity { self.new.identity ≡ self.old.identity }
-        ensures place { (self.new.memory.start ≡ self.old.memory.start) × (length self.new.memory.bytes ≡ length self.old.memory.bytes) }
         ensures untouched { (r : Range) → IsUntouched self.old.state.chunks r → AreApart range r → IsUntouched self.new.state.chunks r }
-        ensures aligns { align_at self.new.state ≡ align_at self.old.state }
-        ensures count { live_count self.new.state ≡ live_count self.old.state }
-        ensures bounds { (count size align : ℕ) → IsSizedFor SLLEN count size align self.old.state → IsSizedFor SLLEN count size align self.new.state }
-        ensures unchanged { result ≡ 0 → self.new.memory.bytes ≡ self.old.memory.bytes }
-        ensures settled { IsSettled self.old.memory → IsSettled self.new.memory }
-        ensures raw { NoneBecomesRaw self.old self.new }
+        ensures bounds { KeepsAllBounds SLLEN self.old.state self.new.state }
+        ensures refused { result ≡ 0 → self.new.memory.bytes ≡ self.old.memory.bytes }
+        ensures frame { KeepsPayloads self.old self.new }
         ensures touches { self.new.memory.touches
             ≤ self.old.memory.touches + (if is_some (max_pool_size FLLEN) then 13 * length (cut (max_pool_size FLLEN) (aligned_part range)) else 34) }
-        ensures grow { self.old.memory.touches ≤ self.new.memory.touches }
-        ensures spare { KeepsSpareBytes self.old self.new }
-        ensures copied { self.new.memory.copied ≡ self.old.memory.copied }
     {
         let taken = append_chunks(&mut self.memory, &mut self.table, range);
         self.state.append(FLLEN, range.start, range.len);
@@ -130,22 +110,16 @@ impl<FLBitmap: BitPattern, SLBitmap: BitPattern, const FLLEN: usize, const SLLEN
     ///
     /// The removed part must be complete contiguous chunks, or empty. No block in it may be used, so none of its payloads is
     /// live.
+    ///
+    /// Takes at most 9 word accesses for each chunk that it removes, whatever the pools contain.
     pub fn remove_pool(&mut self, range: Range)
         requires row { IsRow self.old.state (walked range) }
         requires idle { IsIdle self.old.state (walked range) }
         ensures step { Steps FLLEN SLLEN self.new (Removes self.old.state (walked range)) }
-        ensures identity { self.new.identity ≡ self.old.identity }
-        ensures place { (self.new.memory.start ≡ self.old.memory.start) × (length self.new.memory.bytes ≡ length self.old.memory.bytes) }
         ensures untouched { (r : Range) → IsUntouched self.old.state.chunks r → IsUntouched self.new.state.chunks r }
-        ensures gone { IsUntouched self.new.state.chunks (walked range) }
-        ensures aligns { align_at self.new.state ≡ align_at self.old.state }
-        ensures count { live_count self.new.state ≡ live_count self.old.state }
-        ensures settled { IsSettled self.old.memory → IsSettled self.new.memory }
-        ensures raw { NoneBecomesRaw self.old self.new }
+        ensures result { IsUntouched self.new.state.chunks (walked range) }
+        ensures frame { KeepsPayloads self.old self.new }
         ensures touches { self.new.memory.touches + 9 * length self.new.state.chunks ≤ self.old.memory.touches + 9 * length self.old.state.chunks }
-        ensures grow { self.old.memory.touches ≤ self.new.memory.touches }
-        ensures spare { KeepsSpareBytes self.old self.new }
-        ensures copied { self.new.memory.copied ≡ self.old.memory.copied }
     {
         remove_chunks(&mut self.memory, &mut self.table, range);
         self.state.remove(range.start, range.len);
@@ -155,22 +129,16 @@ impl<FLBitmap: BitPattern, SLBitmap: BitPattern, const FLLEN: usize, const SLLEN
     /// nothing changes. The iteration over the blocks is not counted as word accesses.
     ///
     /// The range from its start, rounded up to a multiple of 32, to its end must be complete contiguous chunks, or empty.
+    ///
+    /// Takes at most 9 word accesses for each chunk that it removes, and looks at each block of the range up to the first used one.
     pub fn try_remove_pool(&mut self, range: Range) -> bool
         requires { IsRow self.old.state (walked range) }
         ensures step { Steps FLLEN SLLEN self.new (RemovesIfIdle self.old.state (walked range) result) }
-        ensures identity { self.new.identity ≡ self.old.identity }
-        ensures place { (self.new.memory.start ≡ self.old.memory.start) × (length self.new.memory.bytes ≡ length self.old.memory.bytes) }
         ensures untouched { (r : Range) → IsUntouched self.old.state.chunks r → IsUntouched self.new.state.chunks r }
-        ensures gone { result ≡ true → IsUntouched self.new.state.chunks (walked range) }
-        ensures same { result ≡ false → self.new ≡ self.old }
-        ensures aligns { align_at self.new.state ≡ align_at self.old.state }
-        ensures count { live_count self.new.state ≡ live_count self.old.state }
-        ensures settled { IsSettled self.old.memory → IsSettled self.new.memory }
-        ensures raw { NoneBecomesRaw self.old self.new }
+        ensures result { result ≡ true → IsUntouched self.new.state.chunks (walked range) }
+        ensures refused { result ≡ false → self.new ≡ self.old }
+        ensures frame { KeepsPayloads self.old self.new }
         ensures touches { self.new.memory.touches + 9 * length self.new.state.chunks ≤ self.old.memory.touches + 9 * length self.old.state.chunks }
-        ensures grow { self.old.memory.touches ≤ self.new.memory.touches }
-        ensures spare { KeepsSpareBytes self.old self.new }
-        ensures copied { self.new.memory.copied ≡ self.old.memory.copied }
     {
         // What `memory_ref` says of every heap: its state is well-formed.
         let _ = self.memory_ref();

@@ -1,5 +1,5 @@
 //! Payloads that pass through a foreign structure: taken apart into numbers, and put together again.
-ghost use Rattle.std.specs.Prelude.{◌≡◌, length};
+ghost use Rattle.std.specs.Prelude.{◌≡◌};
 ghost use Rattle.std.specs.Borrow.{sem};
 ghost use Rattle.rlsf_base.specs.Ledger.{extent};
 ghost use Rattle.rlsf_heap.specs.Heap.{payload_range, payload_view, IsTicketOf};

@@ -1,15 +1,12 @@
 //! Reallocations: a payload gets another size.
-ghost use Rattle.std.specs.Prelude.{◌≡◌, ◌≤◌, ◌+◌, length, IfErr, IfOk, IsOk, MatchResult};
+ghost use Rattle.std.specs.Prelude.{◌≡◌, ◌≤◌, ◌+◌, IfErr, IfOk, IsOk};
 ghost use Rattle.rlsf_base.specs.Layout.{IsLayout};
-ghost use Rattle.rlsf_model.specs.Callers.{align_at};
 ghost use Rattle.rlsf_model.specs.NoMove.{ReallocatesWithoutMove};
 ghost use Rattle.rlsf_model.specs.Reallocate.{Reallocates};
-ghost use Rattle.rlsf_model.specs.Sized.{live_count};
-ghost use Rattle.rlsf_heap.specs.Heap.{IsWritten, payload_range};
-ghost use Rattle.rlsf_heap.specs.Kept.{KeepsBytesBeside, KeepsSpareBytes, NoneBecomesRaw};
-ghost use Rattle.rlsf_heap.specs.Reallocation.{IsKeptHere, moved_to, owned_by};
-ghost use Rattle.rlsf_heap.specs.Replies.{CopiesToMove, IsReallocated, IsReturned, KeepsHeap, LeavesOthers, WithinBounds};
-ghost use Rattle.rlsf_heap.specs.Settled.{IsSettled};
+ghost use Rattle.rlsf_heap.specs.Heap.{IsWritten};
+ghost use Rattle.rlsf_heap.specs.Reallocation.{moved_to, owned_by};
+ghost use Rattle.rlsf_heap.specs.Replies.{IsRefused, IsResizedInPlace, IsResizedOrMoved, WithinBounds};
+ghost use Rattle.rlsf_heap.specs.Frame.{KeepsFrame, KeepsFrameMoving, KeepsSized};
 
 use crate::heap::Heap;
 use crate::payload::Payload;
@@ -40,27 +37,18 @@ impl<FLBitmap: BitPattern, SLBitmap: BitPattern, const FLLEN: usize, const SLLEN
     /// (`IsSizedFor`), a reallocation is never refused.
     ///
     /// The payload must be one of this heap, and its bytes must be here.
+    ///
+    /// Takes at most 69 word accesses, whatever the pools contain. If the payload moves, each of its bytes is copied at most once.
     pub fn reallocate(&mut self, payload: Payload, size: usize) -> Result<Payload, Payload>
         requires identity { payload.identity ≡ self.old.identity }
         requires written { IsWritten payload }
         ensures step { Steps FLLEN SLLEN self.new (λ t. IsLayout size payload.align → Reallocates SLLEN (owned_by self.old.state payload) payload.start size (moved_to result) t) }
-        ensures layout { IsOk result → IsLayout size payload.align }
+        ensures result { IfOk result (λ p. IsResizedOrMoved self.old self.new payload.start size payload.align payload p) }
         ensures room { WithinBounds SLLEN self.old.state size payload.align (IsLayout size payload.align → IsOk result) }
-        ensures payload { MatchResult result (λ p. p.identity ≡ self.old.identity) (λ p. p.identity ≡ self.old.identity) }
-        ensures align { MatchResult result (λ p. p.align ≡ payload.align) (λ p. p.align ≡ payload.align) }
-        ensures resized { IfOk result (λ p. IsReallocated self.new.state payload size payload.align p) }
-        ensures here { IfOk result (λ p. IsKeptHere payload p) }
-        ensures shrunk { IfOk result (λ p. length p.bytes ≤ length payload.bytes → IsWritten p) }
-        ensures written { IsSettled self.old.memory → IfOk result (λ p. IsWritten p) }
-        ensures others { IfOk result (λ p. LeavesOthers self.old.state self.new.state payload.start p.start) }
-        ensures refused { IfErr result (λ p. IsReturned self.old.state self.new.state payload.start payload p) }
-        ensures unchanged { IfErr result (λ p. KeepsBytesBeside self.old self.new (payload_range payload)) }
-        ensures raw { NoneBecomesRaw self.old self.new }
-        ensures spare { KeepsSpareBytes self.old self.new }
-        ensures heap { KeepsHeap SLLEN size payload.align self.old self.new }
-        ensures count { live_count self.new.state ≡ live_count self.old.state }
+        ensures bounds { KeepsSized SLLEN self.old.state self.new.state size payload.align }
+        ensures refused { IfErr result (λ p. IsRefused self.old self.new payload.start payload.align payload p) }
+        ensures frame { KeepsFrameMoving self.old self.new payload.start size payload }
         ensures touches { self.new.memory.touches ≤ self.old.memory.touches + 69 }
-        ensures copied { CopiesToMove self.old.state payload payload.start size self.old.memory.copied self.new.memory.copied }
     {
         let view = self.memory.view();
         let align = payload.align();
@@ -101,28 +89,18 @@ impl<FLBitmap: BitPattern, SLBitmap: BitPattern, const FLLEN: usize, const SLLEN
     /// don't suffice; then no byte of the memory beside the payload changes (`unchanged`).
     ///
     /// The payload must be one of this heap, and its bytes must be here.
+    ///
+    /// Completes in constant time: at most 28 word accesses, whatever the pools contain.
     pub fn reallocate_no_move(&mut self, payload: Payload, size: usize) -> Result<Payload, Payload>
         requires identity { payload.identity ≡ self.old.identity }
         requires written { IsWritten payload }
         ensures step { Steps FLLEN SLLEN self.new (λ t. IsLayout size payload.align
             → ReallocatesWithoutMove (owned_by self.old.state payload) payload.start size (moved_to result) t) }
-        ensures layout { IsOk result → IsLayout size payload.align }
-        ensures payload { MatchResult result (λ p. p.identity ≡ self.old.identity) (λ p. p.identity ≡ self.old.identity) }
-        ensures align { MatchResult result (λ p. p.align ≡ payload.align) (λ p. p.align ≡ payload.align) }
-        ensures there { MatchResult result (λ p. p.start ≡ payload.start) (λ p. p.start ≡ payload.start) }
-        ensures resized { IfOk result (λ p. IsReallocated self.new.state payload size payload.align p) }
-        ensures here { IfOk result (λ p. IsKeptHere payload p) }
-        ensures shrunk { IfOk result (λ p. length p.bytes ≤ length payload.bytes → IsWritten p) }
-        ensures written { IsSettled self.old.memory → IfOk result (λ p. IsWritten p) }
-        ensures aligns { align_at self.new.state ≡ align_at self.old.state }
-        ensures refused { IfErr result (λ p. IsReturned self.old.state self.new.state payload.start payload p) }
-        ensures unchanged { IfErr result (λ p. KeepsBytesBeside self.old self.new (payload_range payload)) }
-        ensures raw { NoneBecomesRaw self.old self.new }
-        ensures spare { KeepsSpareBytes self.old self.new }
-        ensures heap { KeepsHeap SLLEN size payload.align self.old self.new }
-        ensures count { live_count self.new.state ≡ live_count self.old.state }
+        ensures result { IfOk result (λ p. IsResizedInPlace self.old self.new payload.start size payload.align payload p) }
+        ensures bounds { KeepsSized SLLEN self.old.state self.new.state size payload.align }
+        ensures refused { IfErr result (λ p. IsRefused self.old self.new payload.start payload.align payload p) }
+        ensures frame { KeepsFrame self.old self.new }
         ensures touches { self.new.memory.touches ≤ self.old.memory.touches + 28 }
-        ensures copied { self.new.memory.copied ≡ self.old.memory.copied }
     {
         let view = self.memory.view();
         let align = payload.align();

@@ -1,22 +1,20 @@
 //! Allocation and deallocation of payloads that are known by their address alone.
-ghost use Rattle.std.specs.Prelude.{◌≡◌, ◌≢◌, ◌≤◌, ◌+◌, ℕ, None, Some, length, replicate};
+ghost use Rattle.std.specs.Prelude.{◌≡◌, ◌≢◌, ◌≤◌, ◌+◌, None, Some, length};
 ghost use Rattle.rlsf_base.specs.Ledger.{extent};
 ghost use Rattle.rlsf_model.specs.Allocate.{Allocates};
 ghost use Rattle.rlsf_model.specs.Callers.{align_at, bytes_at};
 ghost use Rattle.rlsf_model.specs.Release.{Deallocates};
-ghost use Rattle.rlsf_model.specs.Sized.{IsSizedFor, live_count};
-ghost use Rattle.rlsf_heap.specs.Heap.{IsOwners, IsTicketOf, IsWritten, payload_range, payload_view};
-ghost use Rattle.rlsf_heap.specs.Kept.{KeepsSpareBytes, NoneBecomesRaw, NoneBecomesRawBeside};
-ghost use Rattle.rlsf_heap.specs.Replies.{IsAllocated, KeepsHeap};
-ghost use Rattle.rlsf_heap.specs.Settled.{IsSettled};
+ghost use Rattle.rlsf_heap.specs.Heap.{IsTicketOf, IsWritten, payload_range, payload_view};
+ghost use Rattle.rlsf_heap.specs.Replies.{IsAllocated, IsAllocatedZeroed, IsDeallocated, IsUnchanged, WithinBounds};
 ghost use Rattle.rlsf_heap.specs.Thin.{reply_of};
-ghost use Rattle.rlsf_heap.specs.ThinReplies.{AllocationLeaves};
+ghost use Rattle.rlsf_heap.specs.Frame.{KeepsAllBounds, KeepsBounds, KeepsFrame, KeepsFrameBeside};
+ghost use Rattle.rlsf_heap.specs.ThinReplies.{IsThinReply};
 
 use crate::heap::Heap;
 use crate::thin::ThinPayload;
 use rlsf_base::memory::ledger::Ticket;
 use rlsf_base::memory::{Layout, Part};
-use rlsf_blocks::{deallocate_block, load_block_of, load_usable_bytes, usable_bytes};
+use rlsf_blocks::{load_usable_bytes, usable_bytes};
 use rlsf_int::BitPattern;
 
 impl<FLBitmap: BitPattern, SLBitmap: BitPattern, const FLLEN: usize, const SLLEN: usize> Heap<
@@ -30,16 +28,16 @@ impl<FLBitmap: BitPattern, SLBitmap: BitPattern, const FLLEN: usize, const SLLEN
     /// Allocates a payload for `layout`, as `allocate` does, and returns it by its address.
     ///
     /// Returns none, the address 0, if and only if `allocate` returns `None`; then nothing changes.
+    ///
+    /// Completes in constant time: at most 30 word accesses, whatever the pools contain.
     #[inline(always)]
     pub fn allocate_thin(&mut self, layout: Layout) -> ThinPayload
         ensures step { Steps FLLEN SLLEN self.new (Allocates SLLEN self.old.state layout.size layout.align (reply_of result.of.start)) }
-        ensures at { result.addr ≡ result.of.start }
-        ensures payload { result.of.start ≢ 0 → IsAllocated self.old self.new layout.size layout.align result.of }
-        ensures heap { KeepsHeap SLLEN layout.size layout.align self.old self.new }
-        ensures leaves { AllocationLeaves SLLEN layout.size layout.align self.old self.new result.of.start }
-        ensures raw { NoneBecomesRaw self.old self.new }
-        ensures spare { KeepsSpareBytes self.old self.new }
-        ensures written { IsSettled self.old.memory → result.of.start ≢ 0 → IsWritten result.of }
+        ensures result { IsThinReply (λ p. IsAllocated self.old self.new layout.size layout.align p) result }
+        ensures room { WithinBounds SLLEN self.old.state layout.size layout.align (result.of.start ≢ 0) }
+        ensures bounds { KeepsBounds SLLEN self.old.state self.new.state layout.size layout.align }
+        ensures refused { result.of.start ≡ 0 → IsUnchanged self.old self.new }
+        ensures frame { KeepsFrame self.old self.new }
         ensures touches { self.new.memory.touches ≤ self.old.memory.touches + 30 }
     {
         match self.allocate(layout) {
@@ -51,17 +49,16 @@ impl<FLBitmap: BitPattern, SLBitmap: BitPattern, const FLLEN: usize, const SLLEN
     /// Allocates a payload for `layout`, as `allocate_zeroed` does, and returns it by its address. All its bytes are here, and 0.
     ///
     /// Returns none, the address 0, if and only if `allocate` returns `None`; then nothing changes.
+    ///
+    /// Takes at most 30 word accesses, whatever the pools contain, and fills each byte of the payload.
     #[inline(always)]
     pub fn allocate_thin_zeroed(&mut self, layout: Layout) -> ThinPayload
         ensures step { Steps FLLEN SLLEN self.new (Allocates SLLEN self.old.state layout.size layout.align (reply_of result.of.start)) }
-        ensures at { result.addr ≡ result.of.start }
-        ensures payload { result.of.start ≢ 0 → IsAllocated self.old self.new layout.size layout.align result.of }
-        ensures heap { KeepsHeap SLLEN layout.size layout.align self.old self.new }
-        ensures leaves { AllocationLeaves SLLEN layout.size layout.align self.old self.new result.of.start }
-        ensures raw { NoneBecomesRaw self.old self.new }
-        ensures spare { KeepsSpareBytes self.old self.new }
-        ensures written { result.of.start ≢ 0 → IsWritten result.of }
-        ensures zeros { result.of.start ≢ 0 → result.of.bytes ≡ replicate (length result.of.bytes) 0 }
+        ensures result { IsThinReply (λ p. IsAllocatedZeroed self.old self.new layout.size layout.align p) result }
+        ensures room { WithinBounds SLLEN self.old.state layout.size layout.align (result.of.start ≢ 0) }
+        ensures bounds { KeepsBounds SLLEN self.old.state self.new.state layout.size layout.align }
+        ensures refused { result.of.start ≡ 0 → IsUnchanged self.old self.new }
+        ensures frame { KeepsFrame self.old self.new }
         ensures touches { self.new.memory.touches ≤ self.old.memory.touches + 30 }
     {
         match self.allocate_zeroed(layout) {
@@ -74,6 +71,8 @@ impl<FLBitmap: BitPattern, SLBitmap: BitPattern, const FLLEN: usize, const SLLEN
     /// in the memory. Nothing changes.
     ///
     /// The payload must be the one at `addr`, which isn't 0, and one of this heap.
+    ///
+    /// Completes in constant time. Its word accesses are not counted.
     pub fn usable_thin(&mut self, addr: usize, payload: ThinPayload) -> (usize, ThinPayload)
         requires some { (payload.of.start ≡ addr) × (addr ≢ 0) }
         requires heap { payload.of.identity ≡ self.old.identity }
@@ -110,34 +109,19 @@ impl<FLBitmap: BitPattern, SLBitmap: BitPattern, const FLLEN: usize, const SLLEN
     /// the payload's becomes raw (`raw`).
     ///
     /// The payload must be the one at `addr`, which isn't 0, and one of this heap.
+    ///
+    /// Completes in constant time: at most 36 word accesses, whatever the pools contain.
     pub fn deallocate_thin(&mut self, addr: usize, payload: ThinPayload)
         requires some { (payload.of.start ≡ addr) × (addr ≢ 0) }
         requires heap { payload.of.identity ≡ self.old.identity }
         ensures step { Steps FLLEN SLLEN self.new (Deallocates self.old.state addr) }
-        ensures identity { self.new.identity ≡ self.old.identity }
-        ensures place { (self.new.memory.start ≡ self.old.memory.start) × (length self.new.memory.bytes ≡ length self.old.memory.bytes) }
-        ensures live { align_at self.old.state addr ≡ Some payload.of.align }
-        ensures gone { align_at self.new.state addr ≡ None }
-        ensures aligns { (a : ℕ) → a ≢ addr → align_at self.new.state a ≡ align_at self.old.state a }
-        ensures count { live_count self.old.state ≡ live_count self.new.state + 1 }
-        ensures bounds { (count size align : ℕ) → IsSizedFor SLLEN count size align self.old.state → IsSizedFor SLLEN count size align self.new.state }
-        ensures chunks { self.new.state.chunks ≡ self.old.state.chunks }
-        ensures raw { NoneBecomesRawBeside self.old self.new (payload_range payload.of) }
+        ensures result { IsDeallocated self.old self.new addr payload.of }
+        ensures bounds { KeepsAllBounds SLLEN self.old.state self.new.state }
+        ensures frame { KeepsFrameBeside self.old self.new (payload_range payload.of) }
         ensures touches { self.new.memory.touches ≤ self.old.memory.touches + 36 }
-        ensures grow { self.old.memory.touches ≤ self.new.memory.touches }
-        ensures spare { KeepsSpareBytes self.old self.new }
-        ensures copied { self.new.memory.copied ≡ self.old.memory.copied }
     {
-        let (bytes, ticket) = unsafe { payload.into_parts() };
-        self.ledger.redeem(ticket);
-        let range = load_usable_bytes(&mut self.memory, addr);
-        let view = self.memory.view();
-        let part = unsafe { bytes.into_part(view, range) };
-        self.memory.put_room(part);
-        let block = load_block_of(&mut self.memory, addr);
-        deallocate_block(&mut self.memory, view, &mut self.table, block);
-        self.live -= 1;
-        self.state.deallocate(addr);
+        let (part, ticket) = self.find_part(addr, payload);
+        self.put_raw(part, ticket);
     }
 
     /// Deallocates a payload that is known by its address, as `deallocate_written` does. Its length is found in the memory.
@@ -145,26 +129,17 @@ impl<FLBitmap: BitPattern, SLBitmap: BitPattern, const FLLEN: usize, const SLLEN
     /// No byte becomes raw (`raw`): if no byte of the memory was raw, none is (`settled`).
     ///
     /// The payload must be the one at `addr`, which isn't 0, and one of this heap, and its bytes must be here.
+    ///
+    /// Completes in constant time: at most 36 word accesses, whatever the pools contain.
     pub fn deallocate_thin_written(&mut self, addr: usize, payload: ThinPayload)
         requires some { (payload.of.start ≡ addr) × (addr ≢ 0) }
         requires heap { payload.of.identity ≡ self.old.identity }
         requires written { IsWritten payload.of }
         ensures step { Steps FLLEN SLLEN self.new (Deallocates self.old.state addr) }
-        ensures identity { self.new.identity ≡ self.old.identity }
-        ensures place { (self.new.memory.start ≡ self.old.memory.start) × (length self.new.memory.bytes ≡ length self.old.memory.bytes) }
-        ensures owner { IsOwners self.old payload.of }
-        ensures live { align_at self.old.state addr ≡ Some payload.of.align }
-        ensures gone { align_at self.new.state addr ≡ None }
-        ensures aligns { (a : ℕ) → a ≢ addr → align_at self.new.state a ≡ align_at self.old.state a }
-        ensures count { live_count self.old.state ≡ live_count self.new.state + 1 }
-        ensures bounds { (count size align : ℕ) → IsSizedFor SLLEN count size align self.old.state → IsSizedFor SLLEN count size align self.new.state }
-        ensures chunks { self.new.state.chunks ≡ self.old.state.chunks }
-        ensures settled { IsSettled self.old.memory → IsSettled self.new.memory }
+        ensures result { IsDeallocated self.old self.new addr payload.of }
+        ensures bounds { KeepsAllBounds SLLEN self.old.state self.new.state }
+        ensures frame { KeepsFrame self.old self.new }
         ensures touches { self.new.memory.touches ≤ self.old.memory.touches + 36 }
-        ensures grow { self.old.memory.touches ≤ self.new.memory.touches }
-        ensures raw { NoneBecomesRaw self.old self.new }
-        ensures spare { KeepsSpareBytes self.old self.new }
-        ensures copied { self.new.memory.copied ≡ self.old.memory.copied }
     {
         let (part, ticket) = self.find_part(addr, payload);
         self.put_written(part, ticket);

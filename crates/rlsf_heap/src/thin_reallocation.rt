@@ -1,16 +1,14 @@
 //! Reallocation of payloads that are known by their address alone.
-ghost use Rattle.std.specs.Prelude.{◌≡◌, ◌≢◌, ◌≤◌, ◌+◌, None, length, IfErr, IfOk, IsOk, MatchResult};
+ghost use Rattle.std.specs.Prelude.{◌≡◌, ◌≢◌, ◌≤◌, ◌+◌, None, length, IfErr, IfOk, IsOk};
 ghost use Rattle.rlsf_base.specs.Layout.{IsLayout};
-ghost use Rattle.rlsf_model.specs.Callers.{align_at};
 ghost use Rattle.rlsf_model.specs.NoMove.{ReallocatesWithoutMove};
 ghost use Rattle.rlsf_model.specs.Reallocate.{Keeps, Reallocates};
-ghost use Rattle.rlsf_model.specs.Sized.{live_count};
-ghost use Rattle.rlsf_heap.specs.Heap.{IsWritten, payload_range};
-ghost use Rattle.rlsf_heap.specs.Kept.{KeepsBytesBeside, KeepsSpareBytes, NoneBecomesRaw};
+ghost use Rattle.rlsf_heap.specs.Heap.{IsWritten};
 ghost use Rattle.rlsf_heap.specs.Reallocation.{owned_by};
-ghost use Rattle.rlsf_heap.specs.Replies.{CopiesToMove, IsReallocated, IsReallocatedHere, IsReturned, KeepsHeap, LeavesOthers, WithinBounds};
+ghost use Rattle.rlsf_heap.specs.Replies.{IsRefused, IsResizedInPlace, IsResizedOrMoved, WithinBounds};
 ghost use Rattle.rlsf_heap.specs.Settled.{IsSettled};
-ghost use Rattle.rlsf_heap.specs.ThinReplies.{IsThinOf, MovesElsewhere, thin_moved_to};
+ghost use Rattle.rlsf_heap.specs.ThinReplies.{IsLeft, IsMoved, IsThin, MovesElsewhere, thin_moved_to};
+ghost use Rattle.rlsf_heap.specs.Frame.{KeepsFrame, KeepsFrameMoving, KeepsSized};
 
 use crate::heap::Heap;
 use crate::payload::Payload;
@@ -50,6 +48,8 @@ impl<FLBitmap: BitPattern, SLBitmap: BitPattern, const FLLEN: usize, const SLLEN
     ///
     /// The payload must be the one at `addr`, which isn't 0, with the alignment `align`, and one of this heap, and its bytes must be
     /// here.
+    ///
+    /// Takes at most 72 word accesses, whatever the pools contain. If the payload moves, each of its bytes is copied at most once.
     pub fn reallocate_thin(
         &mut self,
         addr: usize,
@@ -61,20 +61,12 @@ impl<FLBitmap: BitPattern, SLBitmap: BitPattern, const FLLEN: usize, const SLLEN
         requires heap { payload.of.identity ≡ self.old.identity }
         requires written { IsWritten payload.of }
         ensures step { Steps FLLEN SLLEN self.new (λ t. IsLayout size align → Reallocates SLLEN (owned_by self.old.state payload.of) addr size (thin_moved_to result) t) }
-        ensures layout { IsOk result → IsLayout size align }
+        ensures result { IfOk result (λ p. IsThin (λ of. IsResizedOrMoved self.old self.new addr size align payload.of of) p) }
         ensures room { WithinBounds SLLEN self.old.state size align (IsLayout size align → IsOk result) }
-        ensures thin { MatchResult result (λ p. IsThinOf self.old.identity align p) (λ p. IsThinOf self.old.identity align p) }
-        ensures payload { IfOk result (λ p. IsReallocated self.new.state payload.of size align p.of) }
-        ensures here { IfOk result (λ p. IsReallocatedHere self.old payload.of p.of) }
-        ensures others { IfOk result (λ p. LeavesOthers self.old.state self.new.state addr p.of.start) }
-        ensures refused { IfErr result (λ p. IsReturned self.old.state self.new.state addr payload.of p.of) }
-        ensures unchanged { IfErr result (λ p. KeepsBytesBeside self.old self.new (payload_range payload.of)) }
-        ensures raw { NoneBecomesRaw self.old self.new }
-        ensures spare { KeepsSpareBytes self.old self.new }
-        ensures heap { KeepsHeap SLLEN size align self.old self.new }
-        ensures count { live_count self.new.state ≡ live_count self.old.state }
+        ensures bounds { KeepsSized SLLEN self.old.state self.new.state size align }
+        ensures refused { IfErr result (λ p. IsThin (λ of. IsRefused self.old self.new addr align payload.of of) p) }
+        ensures frame { KeepsFrameMoving self.old self.new addr size payload.of }
         ensures touches { self.new.memory.touches ≤ self.old.memory.touches + 72 }
-        ensures copied { CopiesToMove self.old.state payload.of addr size self.old.memory.copied self.new.memory.copied }
     {
         let payload = self.find_payload(addr, payload, align);
         match self.reallocate(payload, size) {
@@ -91,6 +83,8 @@ impl<FLBitmap: BitPattern, SLBitmap: BitPattern, const FLLEN: usize, const SLLEN
     ///
     /// The payload must be the one at `addr`, which isn't 0, with the alignment `align`, and one of this heap, and its bytes must be
     /// here.
+    ///
+    /// Completes in constant time: at most 31 word accesses, whatever the pools contain.
     pub fn reallocate_thin_no_move(
         &mut self,
         addr: usize,
@@ -102,20 +96,11 @@ impl<FLBitmap: BitPattern, SLBitmap: BitPattern, const FLLEN: usize, const SLLEN
         requires heap { payload.of.identity ≡ self.old.identity }
         requires written { IsWritten payload.of }
         ensures step { Steps FLLEN SLLEN self.new (λ t. IsLayout size align → ReallocatesWithoutMove (owned_by self.old.state payload.of) addr size (thin_moved_to result) t) }
-        ensures layout { IsOk result → IsLayout size align }
-        ensures thin { MatchResult result (λ p. IsThinOf self.old.identity align p) (λ p. IsThinOf self.old.identity align p) }
-        ensures there { MatchResult result (λ p. p.of.start ≡ addr) (λ p. p.of.start ≡ addr) }
-        ensures payload { IfOk result (λ p. IsReallocated self.new.state payload.of size align p.of) }
-        ensures here { IfOk result (λ p. IsReallocatedHere self.old payload.of p.of) }
-        ensures aligns { align_at self.new.state ≡ align_at self.old.state }
-        ensures refused { IfErr result (λ p. IsReturned self.old.state self.new.state addr payload.of p.of) }
-        ensures unchanged { IfErr result (λ p. KeepsBytesBeside self.old self.new (payload_range payload.of)) }
-        ensures raw { NoneBecomesRaw self.old self.new }
-        ensures spare { KeepsSpareBytes self.old self.new }
-        ensures heap { KeepsHeap SLLEN size align self.old self.new }
-        ensures count { live_count self.new.state ≡ live_count self.old.state }
+        ensures result { IfOk result (λ p. IsThin (λ of. IsResizedInPlace self.old self.new addr size align payload.of of) p) }
+        ensures bounds { KeepsSized SLLEN self.old.state self.new.state size align }
+        ensures refused { IfErr result (λ p. IsThin (λ of. IsRefused self.old self.new addr align payload.of of) p) }
+        ensures frame { KeepsFrame self.old self.new }
         ensures touches { self.new.memory.touches ≤ self.old.memory.touches + 31 }
-        ensures copied { self.new.memory.copied ≡ self.old.memory.copied }
     {
         let payload = self.find_payload(addr, payload, align);
         match self.reallocate_no_move(payload, size) {
@@ -132,6 +117,8 @@ impl<FLBitmap: BitPattern, SLBitmap: BitPattern, const FLLEN: usize, const SLLEN
     ///
     /// The payload must be the one at `addr`, which isn't 0, and one of this heap, and its bytes must be here. No byte of the memory
     /// may be raw.
+    ///
+    /// Takes at most 66 word accesses, whatever the pools contain, and copies each kept byte once.
     pub fn move_thin(
         &mut self,
         addr: usize,
@@ -143,19 +130,12 @@ impl<FLBitmap: BitPattern, SLBitmap: BitPattern, const FLLEN: usize, const SLLEN
         requires written { IsWritten payload.of }
         requires settled { IsSettled self.old.memory }
         ensures step { Steps FLLEN SLLEN self.new (MovesElsewhere SLLEN self.old.state addr layout.size layout.align (thin_moved_to result)) }
+        ensures result { IfOk result (λ p. IsThin (λ of. IsMoved self.old self.new addr layout.size layout.align payload.of of) p) }
         ensures room { WithinBounds SLLEN self.old.state layout.size layout.align (IsOk result) }
-        ensures thin { MatchResult result (λ p. IsThinOf self.old.identity layout.align p) (λ p. IsThinOf self.old.identity payload.of.align p) }
-        ensures payload { IfOk result (λ p. IsReallocated self.new.state payload.of layout.size layout.align p.of) }
-        ensures written { IfOk result (λ p. IsWritten p.of) }
-        ensures gone { IfOk result (λ p. (p.of.start ≢ addr) × (align_at self.new.state addr ≡ None)) }
-        ensures others { IfOk result (λ p. LeavesOthers self.old.state self.new.state addr p.of.start) }
-        ensures refused { IfErr result (λ p. (p.of ≡ payload.of) × (self.new.state ≡ self.old.state) × (self.new.memory.bytes ≡ self.old.memory.bytes)) }
-        ensures raw { NoneBecomesRaw self.old self.new }
-        ensures spare { KeepsSpareBytes self.old self.new }
-        ensures heap { KeepsHeap SLLEN layout.size layout.align self.old self.new }
-        ensures count { live_count self.new.state ≡ live_count self.old.state }
+        ensures bounds { KeepsSized SLLEN self.old.state self.new.state layout.size layout.align }
+        ensures refused { IfErr result (λ p. IsThin (λ of. IsLeft self.old self.new payload.of of) p) }
+        ensures frame { KeepsFrame self.old self.new }
         ensures touches { self.new.memory.touches ≤ self.old.memory.touches + 66 }
-        ensures copied { self.new.memory.copied ≡ self.old.memory.copied }
     {
         let (part, ticket) = self.find_part(addr, payload);
         let Some(mut to) = self.allocate(layout) else {

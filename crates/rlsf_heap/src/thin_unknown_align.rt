@@ -1,23 +1,19 @@
 //! Reallocation of payloads that are known by their address alone, whatever their alignment is.
-ghost use Rattle.std.specs.Prelude.{◌≡◌, ◌≢◌, ◌≤◌, ◌<◌, ◌+◌, ℕ, Some, None, true, false, length, IfErr, IfOk, IsOk, MatchResult};
+ghost use Rattle.std.specs.Prelude.{◌≡◌, ◌≢◌, ◌≤◌, ◌<◌, ◌+◌, None, true, false, length, IfErr, IfOk, IsOk};
 ghost use Rattle.rlsf_base.specs.Ledger.{extent, IsIssued};
 ghost use Rattle.rlsf_base.specs.OpenSpace.{IsOwned, SameOwn, StaysHere};
 ghost use Rattle.rlsf_base.specs.SizeClass.{IsValid};
-ghost use Rattle.rlsf_model.specs.Callers.{align_at};
 ghost use Rattle.rlsf_model.specs.NoMove.{ReallocatesWithoutMove, unmoved_plan};
-ghost use Rattle.rlsf_model.specs.Reallocate.{HasRoomToStay};
-ghost use Rattle.rlsf_model.specs.Sized.{IsSizedFor, live_count};
-ghost use Rattle.rlsf_model.specs.State.{AreAlike, Holds, State, Used, usable};
+ghost use Rattle.rlsf_model.specs.State.{Holds, State, Used, usable};
 ghost use Rattle.rlsf_table.specs.Counts.{Costs, Counts};
 ghost use Rattle.rlsf_blocks.specs.StandsFor.{contents, StandsFor};
 ghost use Rattle.rlsf_blocks.specs.Steps.Resize.{IsResized};
-ghost use Rattle.rlsf_heap.specs.Heap.{IsWritten, payload_range};
-ghost use Rattle.rlsf_heap.specs.Kept.{KeepsBytesBeside, KeepsSpareBytes, NoneBecomesRaw};
-ghost use Rattle.rlsf_heap.specs.Reallocation.{IsKeptHere, owned_by};
-ghost use Rattle.rlsf_heap.specs.Replies.{IsReallocated, WithinBounds};
+ghost use Rattle.rlsf_heap.specs.Heap.{IsWritten};
+ghost use Rattle.rlsf_heap.specs.Reallocation.{owned_by};
 ghost use Rattle.rlsf_heap.specs.Settled.{IsSettled};
-ghost use Rattle.rlsf_heap.specs.ThinReplies.{thin_moved_to};
-ghost use Rattle.rlsf_heap.specs.ThinUnknownAlign.{AtEachHeld, AtEachOwned, renewed_entries, StaysOrMoves, StaysSized};
+ghost use Rattle.rlsf_heap.specs.ThinReplies.{IsThin, thin_moved_to};
+ghost use Rattle.rlsf_heap.specs.ThinUnknownAlign.{AtEachHeld, AtEachOwned, HasRoom, HasRoomAny, IsRefusedAny, IsRefusedThere, IsResizedAny, IsResizedThere, KeepsSizedAny, StaysOrMoves, renewed_entries};
+ghost use Rattle.rlsf_heap.specs.Frame.{KeepsFrame, KeepsSized};
 
 use crate::heap::Heap;
 use crate::thin::ThinPayload;
@@ -85,6 +81,8 @@ impl<FLBitmap: BitPattern, SLBitmap: BitPattern, const FLLEN: usize, const SLLEN
     /// then no byte of the memory beside the payload changes (`unchanged`). No byte of the memory becomes raw (`raw`).
     ///
     /// The payload must be the one at `addr`, which isn't 0, and one of this heap, and its bytes must be here.
+    ///
+    /// Completes in constant time: at most 32 word accesses, whatever the pools contain.
     pub fn resize_thin_unknown_align(
         &mut self,
         addr: usize,
@@ -95,35 +93,12 @@ impl<FLBitmap: BitPattern, SLBitmap: BitPattern, const FLLEN: usize, const SLLEN
         requires heap { payload.of.identity ≡ self.old.identity }
         requires written { IsWritten payload.of }
         ensures step { Steps FLLEN SLLEN self.new (ReallocatesWithoutMove (owned_by self.old.state payload.of) addr layout.size (thin_moved_to result)) }
-        ensures identity { self.new.identity ≡ self.old.identity }
-        ensures place { (self.new.memory.start ≡ self.old.memory.start) × (length self.new.memory.bytes ≡ length self.old.memory.bytes) }
-        ensures at { MatchResult result (λ p. p.addr ≡ p.of.start) (λ p. p.addr ≡ p.of.start) }
-        ensures payload { MatchResult result (λ p. p.of.identity ≡ self.old.identity) (λ p. p.of.identity ≡ self.old.identity) }
-        ensures align { MatchResult result (λ p. p.of.align ≡ payload.of.align) (λ p. p.of.align ≡ payload.of.align) }
-        ensures there { MatchResult result (λ p. p.of.start ≡ addr) (λ p. p.of.start ≡ addr) }
-        ensures back { IfErr result (λ p. (p.of.bytes ≡ payload.of.bytes) × IsWritten p.of) }
-        ensures live { align_at self.old.state addr ≡ Some payload.of.align }
-        ensures resized { IfOk result (λ p. IsReallocated self.new.state payload.of layout.size payload.of.align p.of) }
-        ensures here { IfOk result (λ p. IsKeptHere payload.of p.of) }
-        ensures shrunk { IfOk result (λ p. length p.of.bytes ≤ length payload.of.bytes → IsWritten p.of) }
-        ensures written { IsSettled self.old.memory → IfOk result (λ p. IsWritten p.of) }
-        ensures settled { IsSettled self.old.memory → IsSettled self.new.memory }
-        ensures aligns { align_at self.new.state ≡ align_at self.old.state }
-        ensures count { live_count self.new.state ≡ live_count self.old.state }
-        ensures bounds { (count most wide : ℕ) → IsSizedFor SLLEN count most wide self.old.state
-            → layout.size ≤ most → payload.of.align ≤ wide → IsSizedFor SLLEN count most wide self.new.state }
-        ensures same_bounds { IfErr result (λ p. (count most wide : ℕ) → IsSizedFor SLLEN count most wide self.old.state → IsSizedFor SLLEN count most wide self.new.state) }
-        ensures chunks { self.new.state.chunks ≡ self.old.state.chunks }
-        ensures same { IfErr result (λ p. AreAlike self.old.state self.new.state) }
-        ensures unchanged { IfErr result (λ p. KeepsBytesBeside self.old self.new (payload_range payload.of)) }
-        ensures enough { layout.size ≤ length payload.of.bytes → IsOk result }
-        ensures stays { HasRoomToStay self.old.state addr layout.size → IsOk result }
+        ensures result { IfOk result (λ p. IsThin (λ of. IsResizedThere self.old self.new addr layout.size payload.of of) p) }
+        ensures room { HasRoom self.old.state addr layout.size (length payload.of.bytes) (IsOk result) }
+        ensures bounds { KeepsSized SLLEN self.old.state self.new.state layout.size payload.of.align }
+        ensures refused { IfErr result (λ p. IsThin (λ of. IsRefusedThere self.old self.new SLLEN addr payload.of of) p) }
+        ensures frame { KeepsFrame self.old self.new }
         ensures touches { self.new.memory.touches ≤ self.old.memory.touches + 32 }
-        ensures few_touches { IfErr result (λ p. self.new.memory.touches ≤ self.old.memory.touches + 7) }
-        ensures grow { self.old.memory.touches ≤ self.new.memory.touches }
-        ensures raw { NoneBecomesRaw self.old self.new }
-        ensures spare { KeepsSpareBytes self.old self.new }
-        ensures copied { self.new.memory.copied ≡ self.old.memory.copied }
     {
         let payload = payload.checked(&mut self.ledger);
         let was = load_usable_bytes(&mut self.memory, addr);
@@ -155,6 +130,8 @@ impl<FLBitmap: BitPattern, SLBitmap: BitPattern, const FLLEN: usize, const SLLEN
     ///
     /// The payload must be the one at `addr`, which isn't 0, and one of this heap, and its bytes must be here. No byte of the memory
     /// may be raw.
+    ///
+    /// Takes at most 73 word accesses, whatever the pools contain. If the payload moves, each kept byte is copied once.
     pub fn reallocate_thin_unknown_align(
         &mut self,
         addr: usize,
@@ -166,35 +143,12 @@ impl<FLBitmap: BitPattern, SLBitmap: BitPattern, const FLLEN: usize, const SLLEN
         requires written { IsWritten payload.of }
         requires settled { IsSettled self.old.memory }
         ensures step { Steps FLLEN SLLEN self.new (StaysOrMoves SLLEN (owned_by self.old.state payload.of) addr layout.size layout.align (thin_moved_to result)) }
-        ensures identity { self.new.identity ≡ self.old.identity }
-        ensures place { (self.new.memory.start ≡ self.old.memory.start) × (length self.new.memory.bytes ≡ length self.old.memory.bytes) }
-        ensures at { MatchResult result (λ p. p.addr ≡ p.of.start) (λ p. p.addr ≡ p.of.start) }
-        ensures some { IfOk result (λ p. p.of.start ≢ 0) }
-        ensures payload { MatchResult result (λ p. p.of.identity ≡ self.old.identity) (λ p. p.of.identity ≡ self.old.identity) }
-        ensures there { IfOk result (λ p. p.of.start ≡ addr → p.of.align ≡ payload.of.align) }
-        ensures moved { IfOk result (λ p. p.of.start ≢ addr → p.of.align ≡ layout.align) }
-        ensures back { IfErr result (λ p. (p.of.start ≡ addr) × (p.of.align ≡ payload.of.align) × (p.of.bytes ≡ payload.of.bytes) × IsWritten p.of) }
-        ensures live { align_at self.old.state addr ≡ Some payload.of.align }
-        ensures resized { IfOk result (λ p. IsReallocated self.new.state payload.of layout.size p.of.align p.of) }
-        ensures gone { IfOk result (λ p. p.of.start ≢ addr → align_at self.new.state addr ≡ None) }
-        ensures written { IfOk result (λ p. IsWritten p.of) }
-        ensures settled { IsSettled self.new.memory }
-        ensures new { IfOk result (λ p. p.of.start ≢ addr → align_at self.old.state p.of.start ≡ None) }
-        ensures aligns { IfOk result (λ p. (a : ℕ) → a ≢ addr → a ≢ p.of.start → align_at self.new.state a ≡ align_at self.old.state a) }
-        ensures room { WithinBounds SLLEN self.old.state layout.size layout.align (IsOk result) }
-        ensures count { live_count self.new.state ≡ live_count self.old.state }
-        ensures bounds { StaysSized SLLEN layout.size payload.of.align layout.align self.old.state self.new.state }
-        ensures chunks { self.new.state.chunks ≡ self.old.state.chunks }
-        ensures same { IfErr result (λ p. AreAlike self.old.state self.new.state) }
-        ensures unchanged { IfErr result (λ p. KeepsBytesBeside self.old self.new (payload_range payload.of)) }
-        ensures same_aligns { IfErr result (λ p. align_at self.new.state ≡ align_at self.old.state) }
-        ensures enough { layout.size ≤ length payload.of.bytes → MatchResult result (λ p. p.of.start ≡ addr) (λ p. ⊥) }
-        ensures stays { HasRoomToStay self.old.state addr layout.size → MatchResult result (λ p. p.of.start ≡ addr) (λ p. ⊥) }
+        ensures result { IfOk result (λ p. IsThin (λ of. IsResizedAny self.old self.new addr layout.size layout.align payload.of of) p) }
+        ensures room { HasRoomAny SLLEN self.old.state addr layout.size layout.align (length payload.of.bytes) result }
+        ensures bounds { KeepsSizedAny SLLEN self.old.state self.new.state layout.size payload.of.align layout.align }
+        ensures refused { IfErr result (λ p. IsThin (λ of. IsRefusedAny self.old self.new addr payload.of of) p) }
+        ensures frame { KeepsFrame self.old self.new }
         ensures touches { self.new.memory.touches ≤ self.old.memory.touches + 73 }
-        ensures grow { self.old.memory.touches ≤ self.new.memory.touches }
-        ensures raw { NoneBecomesRaw self.old self.new }
-        ensures spare { KeepsSpareBytes self.old self.new }
-        ensures copied { self.new.memory.copied ≡ self.old.memory.copied }
     {
         match self.resize_thin_unknown_align(addr, payload, layout) {
             Ok(payload) => Ok(payload),

@@ -1,14 +1,12 @@
 //! Payloads of complete units, which a pointer alone shows: what an allocator of collections needs of a heap.
-ghost use Rattle.std.specs.Prelude.{◌≡◌, ◌≢◌, ◌≤◌, ◌<◌, ◌+◌, ◌-◌, ◌*◌, ◌/◌, ◌%◌, ◌^◌, ◌↔◌, IsTrue, ℕ, Some, None, length, min, IfErr, IfNone, IfSome, IsOk, IsSome, MatchResult};
+ghost use Rattle.std.specs.Prelude.{◌≡◌, ◌≤◌, ◌<◌, ◌+◌, ◌-◌, ◌/◌, ◌%◌, ◌^◌, ◌↔◌, IsTrue, Some, None, length, min, IfErr, IfNone, IfSome, IsOk, IsSome, IfOk};
 ghost use Rattle.rlsf_base.specs.Range.{range_at};
 ghost use Rattle.rlsf_model.specs.Allocate.{Allocates};
-ghost use Rattle.rlsf_model.specs.Callers.{align_at};
 ghost use Rattle.rlsf_model.specs.NoMove.{ReallocatesWithoutMove};
 ghost use Rattle.rlsf_model.specs.Release.{Deallocates};
-ghost use Rattle.rlsf_model.specs.Sized.{IsSizedFor, live_count};
-ghost use Rattle.rlsf_heap.specs.Kept.{KeepsBytesBeside, KeepsSpareBytes, NoneBecomesRaw, NoneBecomesRawBeside};
-ghost use Rattle.rlsf_heap.specs.Settled.{IsSettled};
-ghost use Rattle.rlsf_heap.specs.Units.{GivesUnits, heap_of, heap_of_tail, payload_len, stayed_at, unit_addr_of};
+ghost use Rattle.rlsf_heap.specs.Units.{GivesUnits, IsTailRefused, IsTailResized, IsUnitAllocated, heap_of, heap_of_tail, payload_len, stayed_at, unit_addr_of};
+ghost use Rattle.rlsf_heap.specs.Frame.{KeepsAllBounds, KeepsBounds, KeepsFrame, KeepsFrameBeside, KeepsSized};
+ghost use Rattle.rlsf_heap.specs.Replies.{IsGone, IsUnchanged, WithinBounds};
 
 use crate::heap::Heap;
 use crate::payload::Payload;
@@ -54,7 +52,7 @@ impl<FLBitmap: BitPattern, SLBitmap: BitPattern, const FLLEN: usize, const SLLEN
     FLLEN,
     SLLEN,
 > {
-    ghost use Rattle.rlsf_heap.specs.Heap.{Stands, Steps};
+    ghost use Rattle.rlsf_heap.specs.Heap.{Steps};
 
     /// Returns whether the memory has units of 16 bytes: whether its block is the system's, or begins at a multiple of 16.
     pub fn has_units(&self) -> bool
@@ -68,30 +66,19 @@ impl<FLBitmap: BitPattern, SLBitmap: BitPattern, const FLLEN: usize, const SLLEN
     ///
     /// Returns `None` if and only if `allocate` does; then nothing changes. No byte of the memory becomes raw (`raw`). The memory must
     /// have units.
+    ///
+    /// Completes in constant time: at most 30 word accesses, whatever the pools contain.
     #[inline(always)]
     pub fn allocate_units(&mut self, size: usize) -> Option<UnitPayload>
         requires size { size ≤ 2 ^ 63 - 16 }
         requires units { GivesUnits self.old.identity }
         ensures step { Steps FLLEN SLLEN self.new (Allocates SLLEN self.old.state size 16 (unit_addr_of result)) }
-        ensures identity { self.new.identity ≡ self.old.identity }
-        ensures place { (self.new.memory.start ≡ self.old.memory.start) × (length self.new.memory.bytes ≡ length self.old.memory.bytes) }
-        ensures payload { IfSome result (λ p. heap_of p ≡ self.old.identity) }
-        ensures long { IfSome result (λ p. p.len ≡ payload_len size) }
-        ensures live { IfSome result (λ p. align_at self.new.state p.start ≡ Some 16) }
-        ensures new { IfSome result (λ p. align_at self.old.state p.start ≡ None) }
-        ensures aligns { IfSome result (λ p. (a : ℕ) → a ≢ p.start → align_at self.new.state a ≡ align_at self.old.state a) }
-        ensures room { (count most align : ℕ) → IsSizedFor SLLEN count most align self.old.state → live_count self.old.state ≤ count → size ≤ most → 16 ≤ align → IsSome result }
-        ensures count { IfSome result (λ p. live_count self.new.state ≡ live_count self.old.state + 1) }
-        ensures bounds { (count most align : ℕ) → IsSizedFor SLLEN count most align self.old.state → size ≤ most → 16 ≤ align → IsSizedFor SLLEN count most align self.new.state }
-        ensures chunks { self.new.state.chunks ≡ self.old.state.chunks }
-        ensures settled { IsSettled self.old.memory → IsSettled self.new.memory }
-        ensures same { IfNone result (self.new.state ≡ self.old.state) }
-        ensures refused { IfNone result (self.new.memory.bytes ≡ self.old.memory.bytes) }
+        ensures result { IfSome result (λ p. IsUnitAllocated self.old self.new size p) }
+        ensures room { WithinBounds SLLEN self.old.state size 16 (IsSome result) }
+        ensures bounds { KeepsBounds SLLEN self.old.state self.new.state size 16 }
+        ensures refused { IfNone result (IsUnchanged self.old self.new) }
+        ensures frame { KeepsFrame self.old self.new }
         ensures touches { self.new.memory.touches ≤ self.old.memory.touches + 30 }
-        ensures grow { self.old.memory.touches ≤ self.new.memory.touches }
-        ensures raw { NoneBecomesRaw self.old self.new }
-        ensures spare { KeepsSpareBytes self.old self.new }
-        ensures copied { self.new.memory.copied ≡ self.old.memory.copied }
     {
         let layout = Layout::from_size_align_unchecked(size, 16);
         let payload = self.allocate(layout)?;
@@ -101,22 +88,16 @@ impl<FLBitmap: BitPattern, SLBitmap: BitPattern, const FLLEN: usize, const SLLEN
     /// Deallocates a payload of units, as `deallocate` does. No byte but the payload's becomes raw (`raw`).
     ///
     /// The payload must be one of this heap.
+    ///
+    /// Completes in constant time: at most 32 word accesses, whatever the pools contain.
     #[inline(always)]
     pub fn deallocate_units(&mut self, payload: UnitPayload)
         requires { heap_of payload ≡ self.old.identity }
         ensures step { Steps FLLEN SLLEN self.new (Deallocates self.old.state payload.start) }
-        ensures identity { self.new.identity ≡ self.old.identity }
-        ensures place { (self.new.memory.start ≡ self.old.memory.start) × (length self.new.memory.bytes ≡ length self.old.memory.bytes) }
-        ensures count { live_count self.old.state ≡ live_count self.new.state + 1 }
-        ensures bounds { (count size align : ℕ) → IsSizedFor SLLEN count size align self.old.state → IsSizedFor SLLEN count size align self.new.state }
-        ensures chunks { self.new.state.chunks ≡ self.old.state.chunks }
-        ensures gone { align_at self.new.state payload.start ≡ None }
-        ensures aligns { (a : ℕ) → a ≢ payload.start → align_at self.new.state a ≡ align_at self.old.state a }
-        ensures raw { NoneBecomesRawBeside self.old self.new (range_at payload.start payload.len) }
+        ensures result { IsGone self.old.state self.new.state payload.start }
+        ensures bounds { KeepsAllBounds SLLEN self.old.state self.new.state }
+        ensures frame { KeepsFrameBeside self.old self.new (range_at payload.start payload.len) }
         ensures touches { self.new.memory.touches ≤ self.old.memory.touches + 32 }
-        ensures grow { self.old.memory.touches ≤ self.new.memory.touches }
-        ensures spare { KeepsSpareBytes self.old self.new }
-        ensures copied { self.new.memory.copied ≡ self.old.memory.copied }
     {
         // The word at 8 bytes past the payload's end names its block.
         let block = self.memory.put_unit_payload(&mut self.ledger, payload, 8) as usize;
@@ -134,6 +115,8 @@ impl<FLBitmap: BitPattern, SLBitmap: BitPattern, const FLLEN: usize, const SLLEN
     /// can always become shorter. No byte but the payload's becomes raw (`raw`).
     ///
     /// The payload must be one of this heap, `len` its length, and all of its bytes but those that stay must be in it.
+    ///
+    /// Completes in constant time: at most 25 word accesses, whatever the pools contain.
     pub fn resize_units(
         &mut self,
         tail: UnitTail,
@@ -145,24 +128,12 @@ impl<FLBitmap: BitPattern, SLBitmap: BitPattern, const FLLEN: usize, const SLLEN
         requires size { size ≤ 2 ^ 63 - 16 }
         requires kept { tail.kept ≡ min tail.len (payload_len size) }
         ensures step { Steps FLLEN SLLEN self.new (ReallocatesWithoutMove self.old.state tail.start size (stayed_at result)) }
-        ensures identity { self.new.identity ≡ self.old.identity }
-        ensures place { (self.new.memory.start ≡ self.old.memory.start) × (length self.new.memory.bytes ≡ length self.old.memory.bytes) }
-        ensures heap { MatchResult result (λ p. heap_of_tail p ≡ self.old.identity) (λ p. heap_of_tail p ≡ self.old.identity) }
-        ensures there { MatchResult result (λ p. (p.start ≡ tail.start) × (p.ptr ≡ tail.ptr)) (λ p. (p.start ≡ tail.start) × (p.ptr ≡ tail.ptr)) }
-        ensures kept { MatchResult result (λ p. p.kept ≡ tail.kept) (λ p. p.kept ≡ tail.kept) }
-        ensures long { MatchResult result (λ p. p.len ≡ payload_len size) (λ p. p.len ≡ tail.len) }
-        ensures shrinks { payload_len size ≤ tail.len → IsOk result }
-        ensures aligns { align_at self.new.state ≡ align_at self.old.state }
-        ensures count { live_count self.new.state ≡ live_count self.old.state }
-        ensures bounds { (count most align : ℕ) → IsSizedFor SLLEN count most align self.old.state → size ≤ most → 16 ≤ align → IsSizedFor SLLEN count most align self.new.state }
-        ensures chunks { self.new.state.chunks ≡ self.old.state.chunks }
-        ensures same { IfErr result (λ p. self.new.state ≡ self.old.state) }
-        ensures raw { NoneBecomesRawBeside self.old self.new (range_at tail.start tail.len) }
-        ensures unchanged { IfErr result (λ p. KeepsBytesBeside self.old self.new (range_at tail.start tail.len)) }
+        ensures result { IfOk result (λ p. IsTailResized self.old self.new tail size p) }
+        ensures room { payload_len size ≤ tail.len → IsOk result }
+        ensures bounds { KeepsSized SLLEN self.old.state self.new.state size 16 }
+        ensures refused { IfErr result (λ p. IsTailRefused self.old self.new tail p) }
+        ensures frame { KeepsFrameBeside self.old self.new (range_at tail.start tail.len) }
         ensures touches { self.new.memory.touches ≤ self.old.memory.touches + 25 }
-        ensures grow { self.old.memory.touches ≤ self.new.memory.touches }
-        ensures spare { KeepsSpareBytes self.old self.new }
-        ensures copied { self.new.memory.copied ≡ self.old.memory.copied }
     {
         let wanted = payload_len(size);
         let kept = lesser(len, wanted);

@@ -1,12 +1,16 @@
 -- What follows from a call that may return nothing, or an error.
-use Rattle.std.proofs.Common.{◌≡◌, ◌≢◌, ℕ, Option, Some, None, Result, Ok, Err, IfSome, IfNone, IsSome, IsNone, MatchResult, is_ok, true≢false, sym, ap, subst, ◌∙◌}
+use Rattle.std.proofs.Common.{◌≡◌, ◌≢◌, ℕ, Option, Some, None, Result, Ok, Err, IfSome, IfNone, IfOk, IfErr, IsSome, IsNone, MatchResult, is_ok, refl, true≢false, sym, ap, subst, ◌∙◌}
 use Rattle.rlsf_base.specs.declared.memory.unit_payload.UnitPayload.{UnitPayload}
+use Rattle.rlsf_base.specs.declared.memory.unit_tail.UnitTail.{UnitTail}
 use Rattle.rlsf_model.specs.Callers.{align_at}
 use Rattle.rlsf_model.specs.State.{State}
 use Rattle.rlsf_base.specs.declared.memory.range.Range.{Range}
 use Rattle.rlsf_heap.specs.Heap.{HeapView}
 use Rattle.rlsf_heap.specs.Kept.{NoneBecomesRawBeside}
-use Rattle.rlsf_heap.specs.Units.{unit_addr_of}
+use Rattle.rlsf_heap.specs.Frame.{KeepsFrameBeside}
+use Rattle.rlsf_heap.specs.Units.{IsTailRefused, IsTailResized, heap_of_tail, payload_len, unit_addr_of}
+use Rattle.rlsf_heap.proofs.Frames.{heap_same}
+use Rattle.rlsf_local_heap.specs.Resized.{IsAtSamePlace}
 
 -- what holds of each value holds of none
 pub of_none : {A : Type 0} {r : Option A} (Is : A → Type 0) → r ≡ None → IfSome r Is
@@ -54,7 +58,29 @@ pub others_stay : (s t : State) (o : Option UnitPayload) → IfSome o (λ p. ali
 others_stay s t None new aligns same a live = ap (λ (u : State). align_at u a) same
 others_stay s t (Some p) new aligns same a live = aligns a (λ e. live (ap (align_at s) e ∙ new))
 
+-- what is so of two values by two facts
+pub both : {A B : Type 0} (P Q : A → B → Type 0) (o : Option A) (r : Option B) → IfSome o (λ x. IfSome r (P x)) → IfSome o (λ x. IfSome r (Q x))
+    → IfSome o (λ x. IfSome r (λ y. P x y × Q x y))
+both P Q None r is has = tt
+both P Q (Some x) None is has = tt
+both P Q (Some x) (Some y) is has = (is, has)
+
+pub if_none : {A : Type 0} {Is Has : Type 0} (o : Option A) → (Is → Has) → IfNone o Is → IfNone o Has
+if_none None f is = f is
+if_none (Some x) f is = tt
+
 -- of a heap that doesn't change, no byte becomes raw
-pub none_raw_beside-none : (v : HeapView) (r : Range) → NoneBecomesRawBeside v v r
+none_raw_beside-none : (v : HeapView) (r : Range) → NoneBecomesRawBeside v v r
 unfolding NoneBecomesRawBeside
 none_raw_beside-none v r a from side is = is
+
+-- it is kept
+pub frame_beside-same : (v : HeapView) (r : Range) → KeepsFrameBeside v v r
+frame_beside-same v r = record { heap = heap_same v; raw = none_raw_beside-none v r; chunks = refl; copied = refl }
+
+-- a payload of units that has another size, or not, is at the same place
+pub tail_of : (old new : HeapView) (r : Result UnitTail UnitTail) (tail : UnitTail) (size : ℕ) → heap_of_tail tail ≡ old.identity
+    → IfOk r (IsTailResized old new tail size) → IfErr r (IsTailRefused old new tail)
+    → MatchResult r (λ p. IsAtSamePlace tail p (payload_len size)) (λ p. IsAtSamePlace tail p tail.len)
+tail_of old new (Ok p) tail size heap is none = let t = is.tail in (t.identity ∙ sym heap, t.start, t.ptr, t.kept, t.long)
+tail_of old new (Err p) tail size heap none is = let t = is.tail in (t.identity ∙ sym heap, t.start, t.ptr, t.kept, t.long)

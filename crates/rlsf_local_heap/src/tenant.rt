@@ -1,11 +1,10 @@
 //! Heaps over ranges of one memory.
-ghost use Rattle.std.specs.Prelude.{◌≡◌, ◌≢◌, ◌↔◌, ◌+◌, ◌^◌, ◌<◌, ◌≤◌, ℕ, Some, None, IfSome, IfNone, IsSome, IsNone, IsTrue, length, true, false};
+ghost use Rattle.std.specs.Prelude.{◌≡◌, ◌≢◌, ◌↔◌, ◌+◌, ◌^◌, ◌<◌, ◌≤◌, ℕ, Some, None, IfSome, IfNone, IsSome, IsNone, IsTrue, true, false};
 ghost use Rattle.rlsf_model.specs.Allocate.{Allocates};
 ghost use Rattle.rlsf_model.specs.Callers.{align_at};
 ghost use Rattle.rlsf_model.specs.Release.{Deallocates};
 ghost use Rattle.rlsf_base.specs.Range.{range_at};
 ghost use Rattle.rlsf_base.specs.SizeClass.{IsValid};
-ghost use Rattle.rlsf_model.specs.Sized.{live_count};
 
 use crate::lease::{Lease, START};
 use crate::local::LocalHeap;
@@ -48,15 +47,17 @@ impl<FLBitmap: BitPattern, SLBitmap: BitPattern, const FLLEN: usize, const SLLEN
     SLLEN,
 > {
     ghost use Rattle.rlsf_heap.specs.Heap.{Steps};
-    ghost use Rattle.rlsf_heap.specs.Kept.{KeepsSpareBytes, NoneBecomesRaw, NoneBecomesRawBeside};
-    ghost use Rattle.rlsf_heap.specs.Settled.{IsSettled};
-    ghost use Rattle.rlsf_heap.specs.Units.{heap_of, payload_len};
+    ghost use Rattle.rlsf_heap.specs.Frame.{KeepsFrame, KeepsFrameBeside};
+    ghost use Rattle.rlsf_heap.specs.Replies.{IsGone, IsUnchanged};
+    ghost use Rattle.rlsf_heap.specs.Units.{heap_of};
     ghost use Rattle.rlsf_local_heap.specs.Constants.{chunks_of_range};
-    ghost use Rattle.rlsf_local_heap.specs.Tenants.{lessor};
+    ghost use Rattle.rlsf_local_heap.specs.Tenants.{IsLet, lessor};
 
     /// Creates a heap over a range of `pool`: a payload of it for `len` bytes, aligned to 16, which has up to 31 bytes more. The
     /// other payloads of `pool` stay as they are. The range is the only pool of the new heap (`pool`). A range of less than 64 bytes,
-    /// for a `len` up to 48, holds no pool: each allocation is then refused. It takes constant time.
+    /// for a `len` up to 48, holds no pool: each allocation is then refused.
+    ///
+    /// Completes in constant time: at most 30 word accesses of `pool`'s memory, whatever the pools contain.
     ///
     /// Returns `None` if `pool` refuses such a payload, if its memory has no units of 16 bytes, if `len` is 2^58 or more, or if
     /// the system has no memory for the new heap's own fields. Then the state of `pool` and the values of its bytes are as they
@@ -67,25 +68,12 @@ impl<FLBitmap: BitPattern, SLBitmap: BitPattern, const FLLEN: usize, const SLLEN
         len: usize,
     ) -> Option<Self>
         requires { IsValid FLBitmap.width SLBitmap.width FLLEN SLLEN }
-        ensures identity { pool.new.identity ≡ pool.old.identity }
-        ensures place { (pool.new.memory.start ≡ pool.old.memory.start) × (length pool.new.memory.bytes ≡ length pool.old.memory.bytes) }
-        ensures tenant { IfSome result (λ t. lessor t.lease ≡ pool.old.identity) }
-        ensures long { IfSome result (λ t. t.lease.memory.len ≡ payload_len len) }
-        ensures pool { IfSome result (λ t. t.local.slot.chunks ≡ chunks_of_range FLLEN (range_at 64 (payload_len len))) }
         ensures step { IfSome result (λ t. Steps FLLEN SLLEN pool.new (Allocates SLLEN pool.old.state len 16 (Some t.lease.start))) }
-        ensures new { IfSome result (λ t. align_at pool.old.state t.lease.start ≡ None) }
-        ensures live { IfSome result (λ t. align_at pool.new.state t.lease.start ≡ Some 16) }
-        ensures count { IfSome result (λ t. live_count pool.new.state ≡ live_count pool.old.state + 1) }
+        ensures result { IfSome result (λ t. IsLet FLLEN pool.old pool.new len t.lease t.local.slot.chunks) }
         ensures aligns { (a : ℕ) → align_at pool.old.state a ≢ None → align_at pool.new.state a ≡ align_at pool.old.state a }
-        ensures chunks { pool.new.state.chunks ≡ pool.old.state.chunks }
-        ensures same { IfNone result (pool.new.state ≡ pool.old.state) }
-        ensures refused { IfNone result (pool.new.memory.bytes ≡ pool.old.memory.bytes) }
-        ensures settled { IsSettled pool.old.memory → IsSettled pool.new.memory }
+        ensures refused { IfNone result (IsUnchanged pool.old pool.new) }
+        ensures frame { KeepsFrame pool.old pool.new }
         ensures touches { pool.new.memory.touches ≤ pool.old.memory.touches + 30 }
-        ensures grow { pool.old.memory.touches ≤ pool.new.memory.touches }
-        ensures raw { NoneBecomesRaw pool.old pool.new }
-        ensures spare { KeepsSpareBytes pool.old pool.new }
-        ensures copied { pool.new.memory.copied ≡ pool.old.memory.copied }
     {
         if is_too_long(len) || !pool.has_units() {
             return None;
@@ -107,21 +95,16 @@ impl<FLBitmap: BitPattern, SLBitmap: BitPattern, const FLLEN: usize, const SLLEN
     /// the range becomes raw (`raw`).
     ///
     /// The tenant must be one of `pool`.
+    ///
+    /// Completes in constant time: at most 32 word accesses of `pool`'s memory, whatever the pools contain.
     pub fn end(self, pool: &mut Heap<FLBitmap, SLBitmap, FLLEN, SLLEN>) -> bool
         requires { lessor self.lease ≡ pool.old.identity }
         ensures step { result ≡ true → Steps FLLEN SLLEN pool.new (Deallocates pool.old.state self.lease.start) }
-        ensures identity { pool.new.identity ≡ pool.old.identity }
-        ensures place { (pool.new.memory.start ≡ pool.old.memory.start) × (length pool.new.memory.bytes ≡ length pool.old.memory.bytes) }
-        ensures gone { result ≡ true → align_at pool.new.state self.lease.start ≡ None }
+        ensures result { result ≡ true → IsGone pool.old.state pool.new.state self.lease.start }
         ensures aligns { (a : ℕ) → a ≢ self.lease.start → align_at pool.new.state a ≡ align_at pool.old.state a }
-        ensures count { result ≡ true → live_count pool.old.state ≡ live_count pool.new.state + 1 }
-        ensures chunks { pool.new.state.chunks ≡ pool.old.state.chunks }
-        ensures same { result ≡ false → pool.new ≡ pool.old }
+        ensures refused { result ≡ false → pool.new ≡ pool.old }
+        ensures frame { KeepsFrameBeside pool.old pool.new (range_at self.lease.start self.lease.memory.len) }
         ensures touches { pool.new.memory.touches ≤ pool.old.memory.touches + 32 }
-        ensures grow { pool.old.memory.touches ≤ pool.new.memory.touches }
-        ensures raw { NoneBecomesRawBeside pool.old pool.new (range_at self.lease.start self.lease.memory.len) }
-        ensures spare { KeepsSpareBytes pool.old pool.new }
-        ensures copied { pool.new.memory.copied ≡ pool.old.memory.copied }
     {
         let Tenant { local, lease } = self;
         let Some(heap) = local.into_heap() else {

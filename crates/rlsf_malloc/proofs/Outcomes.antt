@@ -1,5 +1,6 @@
 -- What the calls of a heap return, as the exports say it.
-use Rattle.std.proofs.Common.{◌≡◌, ◌≢◌, ℕ, zero, suc, ◌+◌, ◌-◌, length, List, [], Bool, Option, Some, None, arith, refl, sym, subst, ◌∙◌, ap, false, true}
+use Rattle.std.proofs.Common.{◌≡◌, ◌≢◌, ℕ, zero, suc, ◌+◌, ◌-◌, length, List, [], Bool, Option, Some, None, arith, refl, sym, subst, ◌∙◌, ap, false, true, inl, inr}
+use Rattle.std.proofs.lemmas.Bool.{cases_eq}
 use denote.RawPtr.{Ptr}
 use Rattle.rlsf_base.specs.OpenSpace.{home_of, place_in}
 use Rattle.rlsf_base.specs.Changes.{IsAllOwn, IsIn}
@@ -16,10 +17,10 @@ use Rattle.rlsf_model.specs.Sized.{live_count}
 use Rattle.rlsf_model.specs.State.{State}
 use Rattle.rlsf_heap.specs.Heap.{HeapView, IsWritten, PayloadView, Steps}
 use Rattle.rlsf_heap.specs.Pools.{RemovesIfIdle}
-use Rattle.rlsf_heap.specs.Replies.{IsAllocated, KeepsHeap}
+use Rattle.rlsf_heap.specs.Frame.{KeepsBytes, KeepsFrame, KeepsHeap}
+use Rattle.rlsf_heap.specs.Replies.{IsAllocated, IsUnchanged}
 use Rattle.rlsf_heap.specs.Settled.{IsSettled}
 use Rattle.rlsf_heap.specs.Thin.{reply_of}
-use Rattle.rlsf_heap.specs.ThinReplies.{AllocationLeaves}
 use Rattle.rlsf_malloc.specs.Calls.{Adds, Allocates, Frees, IsFresh, IsOver, IsReady, IsSameHeap, RemovesPool}
 
 -- a step leads to the state after
@@ -65,25 +66,28 @@ fresh p start bytes m v is its_start its_bytes lies = record {
 }
 
 -- a heap that is kept is the same one
-pub kept_heap : {sllen size align : ℕ} {old new : HeapView} → KeepsHeap sllen size align old new → IsReady old → IsSameHeap old new
-kept_heap {old = old} {new = new} kept ready = same_heap old new kept.identity kept.place (kept.settled ready)
+pub kept_heap : {old new : HeapView} → KeepsHeap old new → KeepsBytes old new → IsReady old → IsSameHeap old new
+kept_heap {old = old} {new = new} kept bytes ready = same_heap old new kept.identity kept.place (bytes.settled ready)
 
 pub allocated : (fllen sllen : ℕ) (old new : HeapView) (size align : ℕ) (p : PayloadView) → IsReady old → IsLayout size align
     → Steps fllen sllen new (machine.Allocates sllen old.state size align (reply_of p.start)) → (p.start ≢ 0 → IsWritten p)
-    → (p.start ≢ 0 → IsAllocated old new size align p) → KeepsHeap sllen size align old new → AllocationLeaves sllen size align old new p.start
+    → (p.start ≢ 0 → IsAllocated old new size align p) → KeepsFrame old new → (p.start ≡ 0 → IsUnchanged old new)
     → Allocates sllen old size align p new
-allocated fllen sllen old new size align p ready layout step written made heap leaves = record {
+allocated fllen sllen old new size align p ready layout step written made frame refused = record {
   no_layout = λ never. absurd (never layout);
   step = λ l. step_of fllen sllen new (machine.Allocates sllen old.state size align (reply_of p.start)) step;
-  heap = kept_heap heap ready;
-  at = record { start = refl; heap = λ some. (made some).identity ∙ sym heap.identity; written = written };
+  heap = kept_heap frame.heap frame.bytes ready;
+  at = record { start = refl; heap = λ some. (made some).identity ∙ sym frame.heap.identity; written = written };
   new = λ some. (made some).new;
   sized = λ some. let m = made some in
       record { live = m.live; requested = m.requested; aligned = m.aligned; sized = m.sized; few = m.few; long = m.long };
-  aligns = leaves.aligns;
+  aligns = λ a apart. elim (cases_eq p.start 0) [
+    | inl none ↦ ap (λ (s : State). align_at s a) (refused none).same
+    | inr some ↦ (made some).aligns a apart
+  ];
   count = λ some. (made some).count;
-  chunks = heap.chunks;
-  same = leaves.same;
+  chunks = frame.chunks;
+  same = λ none. (refused none).same;
 }
 
 module _ (fllen sllen : ℕ) (old new : HeapView) (same : IsSameHeap old new) where

@@ -7,10 +7,8 @@ use Rattle.rlsf_model.specs.Reallocate.{Reallocates}
 use Rattle.rlsf_model.specs.Sized.{live_count}
 use Rattle.rlsf_heap.specs.Heap.{HeapView, IsWritten, PayloadView}
 use Rattle.rlsf_heap.specs.Reallocation.{owned_by}
-use Rattle.rlsf_heap.specs.Replies.{IsReallocated, IsReturned, LeavesOthers}
+use Rattle.rlsf_heap.specs.Replies.{IsReallocated, IsRefused as IsHeapRefused, LeavesOthers}
 use Rattle.rlsf_heap.specs.Thin.{reply_of}
-use Rattle.rlsf_heap.specs.ThinReplies.{IsThinOf}
-use Rattle.rlsf_heap.specs.declared.thin.ThinPayload.{ThinPayload}
 use Rattle.rlsf_heap.specs.ThinUnknownAlign.{StaysOrMoves}
 use Rattle.rlsf_malloc.specs.Calls.{IsSameHeap}
 use Rattle.rlsf_malloc.specs.Resizing.{IsRefused, IsResized, Resizes, ResizesThere, ResizesWide}
@@ -26,11 +24,11 @@ unchanged v p written = record {
 
 module _ (old new : HeapView) (same : IsSameHeap old new) (p : PayloadView) (addr : ℕ) (at : p.start ≡ addr) (some : addr ≢ 0) (size : ℕ) where
   -- the payload has its new size
-  pub is_resized : (align : ℕ) (r : ThinPayload) → IsThinOf old.identity align r → IsReallocated new.state p size align r.of → IsWritten r.of
-      → LeavesOthers old.state new.state addr r.of.start → (r.of.start ≢ addr → align_at new.state addr ≡ None) → IsResized old p size align r.of new
-  is_resized align r thin made written others gone = record {
-    at = record { start = refl; heap = λ _. thin.identity ∙ sym same.identity; written = λ _. written };
-    sized = record { live = made.live; requested = thin.requested; aligned = made.aligned; sized = made.sized; few = made.few; long = made.long };
+  pub is_resized : (align : ℕ) (q : PayloadView) → q.identity ≡ old.identity → q.align ≡ align → IsReallocated new.state p size align q → IsWritten q
+      → LeavesOthers old.state new.state addr q.start → (q.start ≢ addr → align_at new.state addr ≡ None) → IsResized old p size align q new
+  is_resized align q identity requested made written others gone = record {
+    at = record { start = refl; heap = λ _. identity ∙ sym same.identity; written = λ _. written };
+    sized = record { live = made.live; requested = requested; aligned = made.aligned; sized = made.sized; few = made.few; long = made.long };
     held = made.kept;
     new = λ apart. others.new (λ e. apart (e ∙ sym at));
     gone = λ apart. subst (λ (n : ℕ). align_at new.state n ≡ None) (sym at) (gone (λ e. apart (e ∙ sym at)));
@@ -38,18 +36,17 @@ module _ (old new : HeapView) (same : IsSameHeap old new) (p : PayloadView) (add
   }
 
   -- it is as it was
-  pub is_refused : (align : ℕ) (r : ThinPayload) → p.identity ≡ old.identity → p.align ≡ align → IsThinOf old.identity align r
-      → IsReturned old.state new.state addr p r.of → IsRefused old p r.of new
-  is_refused align r heap wide thin refused = record {
+  pub is_refused : (align : ℕ) (q : PayloadView) → p.identity ≡ old.identity → p.align ≡ align → IsHeapRefused old new addr align p q → IsRefused old p q new
+  is_refused align q heap wide is = record {
     kept = record {
-      heap = thin.identity ∙ sym heap;
-      start = refused.start ∙ sym at;
-      align = thin.requested ∙ sym wide;
-      bytes = refused.bytes;
-      written = refused.written;
+      heap = is.identity ∙ sym heap;
+      start = is.returned.start ∙ sym at;
+      align = is.requested ∙ sym wide;
+      bytes = is.returned.bytes;
+      written = is.returned.written;
     };
-    alike = refused.alike;
-    aligns = refused.aligns;
+    alike = is.returned.alike;
+    aligns = is.returned.aligns;
   }
 
   module _ (sllen align : ℕ) where

@@ -2,3 +2,4 @@
 mod LockCrosses
 mod LockLives
 mod LockRows
+mod Replies

@@ -9,8 +9,12 @@ returns-in-Ok g c =
     let sllen = g.row.SLLEN in let old = c.args.heap.now in let new = c.allocate_thin.new.self in let p = c.allocate_thin.result.of in
     let did = c.allocate_thin.ensures in let layout = c.in-Ok.layout in
     let done : Allocates sllen old layout.size layout.align p new =
-    allocated g.row.FLLEN sllen old new layout.size layout.align p c.requires layout.valid did.step (did.written c.requires) did.payload did.heap did.leaves in
-    (did.at, subst (λ s. Allocates sllen old s c.args.align p new) c.in-Ok.ensures.layout.0 (subst (λ a. Allocates sllen old layout.size a p new) c.in-Ok.ensures.layout.1 done))
+    allocated g.row.FLLEN sllen old new layout.size layout.align p c.requires layout.valid did.step (λ some. (did.result.made some).written c.requires) did.result.made
+    did.frame did.refused in (
+      did.result.at,
+      subst (λ s. Allocates sllen old s c.args.align p new) c.in-Ok.ensures.layout.0
+          (subst (λ a. Allocates sllen old layout.size a p new) c.in-Ok.ensures.layout.1 done),
+    )
 
 pub returns-then-not-may_fit : goal.returns-then-not-may_fit
 returns-then-not-may_fit g c =

@@ -2,8 +2,7 @@ use Rattle.std.proofs.Common.{arith, Some, None, true≢false, refl, sym, subst,
 use Rattle.rlsf_model.specs.NoMove.{ReallocatesWithoutMove}
 use Rattle.rlsf_heap.specs.Reallocation.{owned_by}
 use Rattle.rlsf_heap.specs.Replies.{IsReallocated, LeavesOthers}
-use Rattle.rlsf_heap.specs.ThinReplies.{IsThinOf}
-use Rattle.rlsf_malloc.proofs.Outcomes.{same_heap, step_of}
+use Rattle.rlsf_malloc.proofs.Outcomes.{kept_heap, same_heap, step_of}
 use Rattle.rlsf_malloc.proofs.Reallocated.{is_refused, is_resized, not_resized_there, resized_there, unchanged}
 use Rattle.rlsf_malloc.proofs.resizing.resize_there.Goals as goal
 
@@ -13,31 +12,29 @@ returns-in-Ok-resize_thin_unknown_align g c =
     let old = c.args.heap.now in let new = c.resize_thin_unknown_align.new.self in let p = c.args.payload.of in
     let did = c.in-Ok-resize_thin_unknown_align.ensures in
     let r = c.in-Ok-resize_thin_unknown_align.payload in let addr = c.args.addr in let size = c.args.size in
-    let same = same_heap old new did.identity did.place (did.settled ready) in
-    let layout = c.in-Ok.layout in let shape = c.in-Ok.ensures.layout in
+    let same = kept_heap did.frame.heap did.frame.bytes ready in
+    let has = did.result.of in let layout = c.in-Ok.layout in let shape = c.in-Ok.ensures.layout in
     let step : ReallocatesWithoutMove (owned_by old.state p) addr size (Some r.of.start) new.state =
     subst (λ s. ReallocatesWithoutMove (owned_by old.state p) addr s (Some r.of.start) new.state) shape.0
     (step_of g.row.FLLEN g.row.SLLEN new (λ t. ReallocatesWithoutMove (owned_by old.state p) addr layout.size (Some r.of.start) t) did.step) in
-    let thin : IsThinOf old.identity p.align r = record { at = did.at; identity = did.payload; requested = did.align } in
-    let made : IsReallocated new.state p size p.align r.of = subst (λ s. IsReallocated new.state p s p.align r.of) shape.0 did.resized in
+    let made : IsReallocated new.state p size p.align r.of = subst (λ s. IsReallocated new.state p s p.align r.of) shape.0 has.resized.made in
     let others : LeavesOthers old.state new.state addr r.of.start =
-    record { some = λ e. some (sym did.there ∙ e); new = λ off. absurd (off did.there); aligns = λ a off off_new i. did.aligns i a } in
-    resized_there old new same p addr is.start some size r.of r.addr did.at did.there (c.in-Ok.ensures.succeeds.0 refl) step
-    (is_resized old new same p addr is.start some size p.align r thin made (did.written ready) others (λ off. absurd (off did.there))) did.count
+    record { some = λ e. some (sym has.start ∙ e); new = λ off. absurd (off has.start); aligns = λ a off off_new i. has.aligns i a } in
+    resized_there old new same p addr is.start some size r.of r.addr did.result.at has.start (c.in-Ok.ensures.succeeds.0 refl) step
+    (is_resized old new same p addr is.start some size p.align r.of has.resized.identity has.resized.requested made (has.resized.here.written ready) others
+    (λ off. absurd (off has.start))) did.bounds.count
 
 pub returns-in-Err : goal.returns-in-Err
 returns-in-Err g c =
     let (ready, is, some, known) = c.requires in
     let old = c.args.heap.now in let new = c.resize_thin_unknown_align.new.self in let p = c.args.payload.of in let did = c.in-Err.ensures in
-    let r = c.in-Err.payload in let addr = c.args.addr in let size = c.args.size in let same = same_heap old new did.identity did.place (did.settled ready) in
-    let layout = c.in-Ok.layout in let shape = c.in-Ok.ensures.layout in
+    let r = c.in-Err.payload in let addr = c.args.addr in let size = c.args.size in let same = kept_heap did.frame.heap did.frame.bytes ready in
+    let has = did.refused.of.refused in let layout = c.in-Ok.layout in let shape = c.in-Ok.ensures.layout in
     let step : ReallocatesWithoutMove (owned_by old.state p) addr size None new.state =
     subst (λ s. ReallocatesWithoutMove (owned_by old.state p) addr s None new.state) shape.0
     (step_of g.row.FLLEN g.row.SLLEN new (λ t. ReallocatesWithoutMove (owned_by old.state p) addr layout.size None t) did.step) in
-    let thin : IsThinOf old.identity p.align r = record { at = did.at; identity = did.payload; requested = did.align } in
-    not_resized_there old new same p addr is.start some size r.of did.there step (λ long. absurd (true≢false (sym (did.enough (omega (arith, long, shape.0))))))
-    (is_refused old new same p addr is.start some size p.align r (is.heap some) refl thin
-    (record { start = did.there; bytes = did.back.0; written = did.back.1; alike = did.same; aligns = did.aligns })) did.count
+    not_resized_there old new same p addr is.start some size r.of has.returned.start step (λ long. absurd (true≢false (sym (did.room.enough (omega (arith, long, shape.0))))))
+    (is_refused old new same p addr is.start some size p.align r.of (is.heap some) refl has) did.bounds.count
 
 pub returns-in_default : goal.returns-in_default
 returns-in_default g c =

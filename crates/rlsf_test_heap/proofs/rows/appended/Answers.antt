@@ -5,8 +5,8 @@ use Rattle.rlsf_test_heap.proofs.rows.appended.Goals as goal
 pub append_free_block_ptr-taken-requires : goal.append_free_block_ptr-taken-requires
 append_free_block_ptr-taken-requires c =
     let h = c.allocate-first.new.self in
-    let place = c.allocate-first.ensures.heap.place in (
+    let place = c.allocate-first.ensures.frame.heap.place in (
       omega arith,
-      next_of_chunk h.state (c.allocate-first.ensures.heap.chunks ∙ c.requires.chunk) h.memory c.args.len (place.0 ∙ c.requires.place.0)
+      next_of_chunk h.state (c.allocate-first.ensures.frame.chunks ∙ c.requires.chunk) h.memory c.args.len (place.0 ∙ c.requires.place.0)
           (place.1 ∙ c.requires.place.1) c.requires.len,
     )

@@ -44,29 +44,29 @@ returns-in_err-addr g c =
     let same = (refused c.self.invariant c.args.layout.size c.args.layout.align step stands c.args.self.now c.self.view_is).1 in record {
       step = subst (λ o. Steps g.row.FLLEN g.row.SLLEN now (Allocates g.row.SLLEN c.args.self.now.state c.args.layout.size c.args.layout.align (addr_of o))) (sym none)
           (Steps-refused c.self.invariant c.args.layout.size c.args.layout.align step stands c.args.self.now c.self.view_is);
-      payload = if_some _ none;
-      heap = record {
-        identity = o.identity;
-        place = o.place;
-        settled = λ settled. settled-stays stays (settled-inside k c.args.self.now c.self.view_is settled);
-        bounds = λ count most wide sized short fits.
-            sized_refused c.self.invariant c.args.layout.size c.args.layout.align step stands c.args.self.now c.self.view_is count most wide sized;
-        chunks = ap (λ (s : State). s.chunks) same;
-        grow = o.grow;
-      };
-      written = λ settled. if_some _ none;
-      aligns = if_some _ none;
+      result = if_some _ none;
       room = λ count most wide sized few short fits. absurd
           (none_refused c.self.invariant c.args.layout.size c.args.layout.align step stands c.args.self.now c.self.view_is count most wide sized few short fits);
-      same = if_none _ none same;
-      refused = if_none _ none (e.unchanged.0.bytes ∙ ap (λ (v : HeapView). v.memory.bytes) c.self.view_is);
+      bounds = λ count most wide sized short fits.
+          sized_refused c.self.invariant c.args.layout.size c.args.layout.align step stands c.args.self.now c.self.view_is count most wide sized;
+      refused = if_none _ none (record { same = same; bytes = e.unchanged.0.bytes ∙ ap (λ (v : HeapView). v.memory.bytes) c.self.view_is });
+      frame = record {
+        heap = record {
+          identity = o.identity;
+          place = o.place;
+          spare = spare-seen c.self.inside.memory c.allocate_block.new.memory (read_from c.self.inside.memory k) t spare k k refl (ap (λ (s : State). s.chunks) step.1)
+              c.args.self.now c.self.view_is c.allocate_block.new.table c.self.inside.ledger.name;
+          grow = o.grow;
+        };
+        bytes = record {
+          raw = none_raw-seen c.self.inside.memory c.allocate_block.new.memory k k c.args.self.now c.self.view_is c.allocate_block.new.table c.self.inside.ledger.name
+              (raw-stays stays);
+          settled = λ settled. settled-stays stays (settled-inside k c.args.self.now c.self.view_is settled);
+        };
+        chunks = ap (λ (s : State). s.chunks) same;
+        copied = omega (arith, e.costs.copied, ap (λ (v : HeapView). v.memory.copied) c.self.view_is);
+      };
       touches = omega (arith, o.touches);
-      raw = none_raw-seen c.self.inside.memory c.allocate_block.new.memory k k c.args.self.now c.self.view_is c.allocate_block.new.table c.self.inside.ledger.name
-          (raw-stays stays);
-      spare =
-          spare-seen c.self.inside.memory c.allocate_block.new.memory (read_from c.self.inside.memory k) t spare k k refl (ap (λ (s : State). s.chunks) step.1)
-          c.args.self.now c.self.view_is c.allocate_block.new.table c.self.inside.ledger.name;
-      copied = omega (arith, e.costs.copied, ap (λ (v : HeapView). v.memory.copied) c.self.view_is);
     }
 
 -- ---- a payload is placed
@@ -256,9 +256,8 @@ returns g c =
     let o = sees_left c.self.inside.memory c.hand_over-payload.new.memory c.self.inside.table c.allocate_block.new.table c.self.inside.state.state c.allocate.new.self.state
     c.self.inside.ledger.name c.hand_over-payload.new.ledger.name 30 (left g c) c.hand_over-payload.ensures.name c.args.self.now c.self.view_is in record {
       step = p.step;
-      payload = record {
-        identity =
-            is_of_heap c.self.inside.memory c.load_usable_of-range.new.memory c.self.inside.table c.self.inside.state.state c.self.inside.ledger.name
+      result = record {
+        identity = is_of_heap c.self.inside.memory c.load_usable_of-range.new.memory c.self.inside.table c.self.inside.state.state c.self.inside.ledger.name
             c.self.inside.ledger.name 30 (left_first g c) refl c.args.self.now c.self.view_is (home_of c.load_usable_of-range.new.memory) refl
             c.hand_over-payload.result.identity e.identity;
         live = p.seen.live;
@@ -269,25 +268,23 @@ returns g c =
         few = subst (λ n. n < c.args.layout.size + 32) (sym (long g c)) p.seen.few;
         new = p.seen.new;
         count = p.count;
+        aligns = p.seen.aligns;
+        written = λ settled.
+            let own = subst (IsOwned c.load_usable_of-range.new.memory) (sym (range g (read g c))) (new-here (reading g (read g c))) in
+            e.full (settled-here c.load_usable_of-range.new.memory c.load_usable_of-range.result (low_range g c) own (settled_read g c settled));
       };
-      heap = record {
-        identity = o.identity;
-        place = o.place;
-        settled = λ settled. settled-left c.load_usable_of-range.new.memory c.hand_over-payload.new.memory c.load_usable_of-range.result e.start (low_range g c) e.out
-            (settled_read g c settled);
-        bounds = p.bounds;
-        chunks = p.chunks;
-        grow = o.grow;
-      };
-      written = λ settled.
-          let own = subst (IsOwned c.load_usable_of-range.new.memory) (sym (range g (read g c))) (new-here (reading g (read g c))) in
-          e.full (settled-here c.load_usable_of-range.new.memory c.load_usable_of-range.result (low_range g c) own (settled_read g c settled));
-      aligns = p.seen.aligns;
       room = λ count most wide sized few short fits. refl;
-      same = tt;
+      bounds = p.bounds;
       refused = tt;
+      frame = record {
+        heap = record { identity = o.identity; place = o.place; spare = spare g c; grow = o.grow };
+        bytes = record {
+          raw = none_raw g c;
+          settled = λ settled. settled-left c.load_usable_of-range.new.memory c.hand_over-payload.new.memory c.load_usable_of-range.result e.start (low_range g c) e.out
+              (settled_read g c settled);
+        };
+        chunks = p.chunks;
+        copied = omega (arith, a.copied, c.load_usable_of-range.ensures.counts.copied, e.copied, ap (λ (o : HeapView). o.memory.copied) c.self.view_is);
+      };
       touches = o.touches;
-      raw = none_raw g c;
-      spare = spare g c;
-      copied = omega (arith, a.copied, c.load_usable_of-range.ensures.counts.copied, e.copied, ap (λ (o : HeapView). o.memory.copied) c.self.view_is);
     }

@@ -1,9 +1,9 @@
 use Rattle.std.proofs.Common.{true≢false, sym, ap, subst, ◌∙◌}
 use Rattle.rlsf_model.specs.Allocate.{Allocates}
-use Rattle.rlsf_heap.specs.Heap.{IsWritten, PayloadView, Steps}
+use Rattle.rlsf_heap.specs.Heap.{PayloadView, Steps}
 use Rattle.rlsf_heap.specs.Replies.{IsAllocated}
 use Rattle.rlsf_heap.specs.Thin.{reply_of}
-use Rattle.rlsf_heap.proofs.ThinPayloads.{none_leaves, some_address, thin_leaves, thin_step}
+use Rattle.rlsf_heap.proofs.ThinPayloads.{is_some, some_address, thin_step}
 use Rattle.rlsf_heap.proofs.heap.Heap.allocate_thin.Goals as goal
 
 pub into_thin-requires : goal.into_thin-requires
@@ -15,14 +15,16 @@ returns-in-Some g c =
     let e = c.in-Some.ensures in
     let is = c.into_thin.ensures.1 in record {
       step = thin_step g.row.FLLEN g.row.SLLEN c.args.self.now c.allocate.new.self c.args.layout.size c.args.layout.align c.in-Some.payload c.into_thin.result.of is e.step;
-      at = c.into_thin.ensures.0 ∙ ap (λ (p : PayloadView). p.start) (sym is);
-      payload = λ it. subst (IsAllocated c.args.self.now c.allocate.new.self c.args.layout.size c.args.layout.align) (sym is) e.payload;
-      heap = e.heap;
-      raw = e.raw;
-      spare = e.spare;
-      leaves = thin_leaves g.row.FLLEN g.row.SLLEN c.args.self.now c.allocate.new.self c.args.layout.size c.args.layout.align c.in-Some.payload c.into_thin.result.of is e.step
-          e.aligns e.copied;
-      written = λ settled it. subst (λ (p : PayloadView). IsWritten p) (sym is) (e.written settled);
+      result = record {
+        at = c.into_thin.ensures.0 ∙ ap (λ (p : PayloadView). p.start) (sym is);
+        made = λ it. subst (IsAllocated c.args.self.now c.allocate.new.self c.args.layout.size c.args.layout.align) (sym is) e.result;
+      };
+      room = λ count most wide sized few short fits. is_some g.row.FLLEN g.row.SLLEN c.args.self.now c.allocate.new.self c.args.layout.size c.args.layout.align
+          c.in-Some.payload c.into_thin.result.of is e.step;
+      bounds = e.bounds;
+      refused = λ none. absurd (is_some g.row.FLLEN g.row.SLLEN c.args.self.now c.allocate.new.self c.args.layout.size c.args.layout.align c.in-Some.payload
+          c.into_thin.result.of is e.step none);
+      frame = e.frame;
       touches = e.touches;
     }
 
@@ -30,16 +32,12 @@ pub returns-in-None : goal.returns-in-None
 returns-in-None g c =
     let e = c.in-None.ensures in
     let none = c.none.ensures.1 in record {
-      step =
-          subst (λ n. Steps g.row.FLLEN g.row.SLLEN c.allocate.new.self (Allocates g.row.SLLEN c.args.self.now.state c.args.layout.size c.args.layout.align (reply_of n)))
+      step = subst (λ n. Steps g.row.FLLEN g.row.SLLEN c.allocate.new.self (Allocates g.row.SLLEN c.args.self.now.state c.args.layout.size c.args.layout.align (reply_of n)))
           (sym none) e.step;
-      at = c.none.ensures.0 ∙ sym none;
-      payload = λ some. absurd (some none);
-      heap = e.heap;
-      raw = e.raw;
-      spare = e.spare;
-      leaves = none_leaves g.row.SLLEN c.args.layout.size c.args.layout.align c.args.self.now c.allocate.new.self c.none.result.of.start none
-          (λ count most wide sized few short fits. true≢false (sym (e.room count most wide sized few short fits))) e.same e.refused e.copied;
-      written = λ settled some. absurd (some none);
+      result = record { at = c.none.ensures.0 ∙ sym none; made = λ some. absurd (some none) };
+      room = λ count most wide sized few short fits. absurd (true≢false (sym (e.room count most wide sized few short fits)));
+      bounds = e.bounds;
+      refused = λ _. e.refused;
+      frame = e.frame;
       touches = e.touches;
     }

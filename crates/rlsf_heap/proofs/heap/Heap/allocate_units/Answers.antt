@@ -17,7 +17,7 @@ asked g c =
     (λ i. (e.0 i, e.1 i)) c.in_ok-payload.ensures.step
 
 long : (g : given.Over) (c : In_ok-payload g) → length c.in_ok-payload.payload.bytes ≡ payload_len c.args.size
-long g c = c.in_ok-payload.ensures.payload.long ∙ units-long g.row.FLLEN g.row.SLLEN c.allocate.new.self c.args.self.now.state c.args.size c.in_ok-payload.payload.start (asked g c)
+long g c = c.in_ok-payload.ensures.result.long ∙ units-long g.row.FLLEN g.row.SLLEN c.allocate.new.self c.args.self.now.state c.args.size c.in_ok-payload.payload.start (asked g c)
 
 pub into_unit_payload-requires : goal.into_unit_payload-requires
 into_unit_payload-requires g c =
@@ -25,10 +25,10 @@ into_unit_payload-requires g c =
     let e = c.from_size_align_unchecked-layout.ensures in let p = c.in_ok-payload.payload in
     record {
       units = (
-        subst (λ a. p.start % a ≡ 0) e.1 c.in_ok-payload.ensures.payload.aligned,
+        subst (λ a. p.start % a ≡ 0) e.1 c.in_ok-payload.ensures.result.aligned,
         ap (λ n. n % 16) (long g d) ∙ payload_len-whole c.args.size,
-        ap (λ (h : Identity). h.home.view.shift % 16) c.in_ok-payload.ensures.payload.identity ∙ c.requires.units,
-        c.in_ok-payload.ensures.payload.requested ∙ e.1,
+        ap (λ (h : Identity). h.home.view.shift % 16) c.in_ok-payload.ensures.result.identity ∙ c.requires.units,
+        c.in_ok-payload.ensures.result.requested ∙ e.1,
       );
     }
 
@@ -40,25 +40,19 @@ returns g c =
     let u = c.into_unit_payload.ensures in
     let new = c.allocate.new.self in record {
       step = subst (λ a. Steps g.row.FLLEN g.row.SLLEN new (Allocates g.row.SLLEN c.args.self.now.state c.args.size 16 (Some a))) (sym u.1) (asked g d);
-      identity = e.heap.identity;
-      place = e.heap.place;
-      payload = u.0 ∙ e.payload.identity;
-      long = u.2 ∙ long g d;
-      live = ap (align_at new.state) u.1 ∙ e.payload.live ∙ ap (λ n. Some n) asks.1;
-      new = ap (align_at c.args.self.now.state) u.1 ∙ e.payload.new;
-      aligns = λ a apart. e.aligns a (λ same. apart (same ∙ sym u.1));
+      result = record {
+        identity = u.0 ∙ e.result.identity;
+        long = u.2 ∙ long g d;
+        live = ap (align_at new.state) u.1 ∙ e.result.live ∙ ap (λ n. Some n) asks.1;
+        new = ap (align_at c.args.self.now.state) u.1 ∙ e.result.new;
+        aligns = λ a apart. e.result.aligns a (λ same. apart (same ∙ sym u.1));
+        count = e.result.count;
+      };
       room = λ count most align sized few short fits. refl;
-      count = e.payload.count;
-      bounds = λ count most align sized short fits. e.heap.bounds count most align sized (omega (arith, asks.0, short)) (omega (arith, asks.1, fits));
-      chunks = e.heap.chunks;
-      settled = e.heap.settled;
-      same = tt;
+      bounds = λ count most align sized short fits. e.bounds count most align sized (omega (arith, asks.0, short)) (omega (arith, asks.1, fits));
       refused = tt;
+      frame = e.frame;
       touches = e.touches;
-      grow = e.heap.grow;
-      raw = e.raw;
-      spare = e.spare;
-      copied = e.copied;
     }
 
 pub returns-in_err-payload : goal.returns-in_err-payload
@@ -69,24 +63,11 @@ returns-in_err-payload g c =
     let new = c.allocate.new.self in record {
       step = subst (λ o. Steps g.row.FLLEN g.row.SLLEN new (Allocates g.row.SLLEN c.args.self.now.state c.args.size 16 (unit_addr_of o))) (sym none)
           (subst (λ (u : ℕ × ℕ). Steps g.row.FLLEN g.row.SLLEN new (Allocates g.row.SLLEN c.args.self.now.state u.0 u.1 None)) (λ i. (asks.0 i, asks.1 i)) e.step);
-      identity = e.heap.identity;
-      place = e.heap.place;
-      payload = if_some _ none;
-      long = if_some _ none;
-      live = if_some _ none;
-      new = if_some _ none;
-      aligns = if_some _ none;
+      result = if_some _ none;
       room = λ count most align sized few short fits.
           absurd (true≢false (sym (e.room count most align sized few (omega (arith, asks.0, short)) (omega (arith, asks.1, fits)))));
-      count = if_some _ none;
-      bounds = λ count most align sized short fits. e.heap.bounds count most align sized (omega (arith, asks.0, short)) (omega (arith, asks.1, fits));
-      chunks = e.heap.chunks;
-      settled = e.heap.settled;
-      same = if_none _ none e.same;
+      bounds = λ count most align sized short fits. e.bounds count most align sized (omega (arith, asks.0, short)) (omega (arith, asks.1, fits));
       refused = if_none _ none e.refused;
+      frame = e.frame;
       touches = e.touches;
-      grow = e.heap.grow;
-      raw = e.raw;
-      spare = e.spare;
-      copied = e.copied;
     }

@@ -13,30 +13,30 @@ returns g c =
     let f = c.fill.ensures in
     let new = c.allocate.new.self in
     let long : length c.fill.new.self.bytes ≡ length c.in_ok-payload.payload.bytes = ap length f.bytes ∙ length-replicate (length c.in_ok-payload.payload.bytes) 0 in record {
-      step =
-          subst (λ (a : ℕ). Steps g.row.FLLEN g.row.SLLEN new (Allocates g.row.SLLEN c.args.self.now.state c.args.layout.size c.args.layout.align (Some a))) (sym f.start) e.step;
-      payload = record {
-        identity = f.identity ∙ e.payload.identity;
-        live = ap (align_at new.state) f.start ∙ e.payload.live;
-        requested = f.align ∙ e.payload.requested;
-        long = long ∙ e.payload.long ∙ ap (λ (a : ℕ). length (bytes_at new.state a)) (sym f.start);
-        aligned = ap (λ (a : ℕ). a % c.args.layout.align) f.start ∙ e.payload.aligned;
-        sized = omega (arith, long, e.payload.sized);
-        few = omega (arith, long, e.payload.few);
-        new = ap (align_at c.args.self.now.state) f.start ∙ e.payload.new;
-        count = e.payload.count;
+      step = subst (λ (a : ℕ). Steps g.row.FLLEN g.row.SLLEN new (Allocates g.row.SLLEN c.args.self.now.state c.args.layout.size c.args.layout.align (Some a))) (sym f.start)
+          e.step;
+      result = record {
+        made = record {
+          identity = f.identity ∙ e.result.identity;
+          live = ap (align_at new.state) f.start ∙ e.result.live;
+          requested = f.align ∙ e.result.requested;
+          long = long ∙ e.result.long ∙ ap (λ (a : ℕ). length (bytes_at new.state a)) (sym f.start);
+          aligned = ap (λ (a : ℕ). a % c.args.layout.align) f.start ∙ e.result.aligned;
+          sized = omega (arith, long, e.result.sized);
+          few = omega (arith, long, e.result.few);
+          new = ap (align_at c.args.self.now.state) f.start ∙ e.result.new;
+          count = e.result.count;
+          aligns = λ a apart. e.result.aligns a (λ same. apart (same ∙ sym f.start));
+          written = λ _. f.written;
+        };
+        written = f.written;
+        zeros = f.bytes ∙ ap (λ (n : ℕ). replicate n 0) (sym long);
       };
-      heap = e.heap;
-      written = f.written;
-      zeros = f.bytes ∙ ap (λ (n : ℕ). replicate n 0) (sym long);
-      aligns = λ a apart. e.aligns a (λ same. apart (same ∙ sym f.start));
       room = λ count most wide sized few short fits. refl;
-      same = tt;
+      bounds = e.bounds;
       refused = tt;
+      frame = e.frame;
       touches = e.touches;
-      raw = e.raw;
-      spare = e.spare;
-      copied = e.copied;
     }
 
 pub returns-in_err-payload : goal.returns-in_err-payload
@@ -45,16 +45,10 @@ returns-in_err-payload g c =
     let none = c.from_residual.ensures in record {
       step = subst (λ o. Steps g.row.FLLEN g.row.SLLEN c.allocate.new.self
           (Allocates g.row.SLLEN c.args.self.now.state c.args.layout.size c.args.layout.align (addr_of o))) (sym none) e.step;
-      payload = if_some _ none;
-      heap = e.heap;
-      written = if_some _ none;
-      zeros = if_some _ none;
-      aligns = if_some _ none;
+      result = if_some _ none;
       room = λ count most wide sized few short fits. absurd (true≢false (sym (e.room count most wide sized few short fits)));
-      same = if_none _ none e.same;
+      bounds = e.bounds;
       refused = if_none _ none e.refused;
+      frame = e.frame;
       touches = e.touches;
-      raw = e.raw;
-      spare = e.spare;
-      copied = e.copied;
     }

@@ -1,14 +1,14 @@
-use Rattle.std.proofs.Common.{◌≡◌, ◌≢◌, ℕ, ◌++◌, ◌∷◌, [], List, length, set, Some, true, false, sym, ap, subst, ◌∙◌}
+use Rattle.std.proofs.Common.{◌≡◌, ◌≢◌, ℕ, ◌++◌, ◌∷◌, [], List, length, set, true, false, sym, ap, subst, ◌∙◌}
 use Rattle.rlsf_base.specs.Ledger.{Entry, Extent, entry_of, extent, IsIssued}
-use Rattle.rlsf_model.specs.Callers.{align_at, bytes_at}
 use Rattle.rlsf_model.specs.State.{State}
 use Rattle.rlsf_blocks.specs.Laws.{read_from}
-use Rattle.rlsf_heap.specs.Heap.{AreIssued, HeapView, Identity, IsPayload, LiesInChunk, PayloadView, heap_view, payload_range, payload_view}
+use Rattle.rlsf_heap.specs.Heap.{AreIssued, HeapView, Identity, IsPayload, PayloadView, heap_view, payload_view}
 use Rattle.rlsf_heap.proofs.PayloadsApart.{redeemed_ticket, shown_aligned, shown_apart, shown_inside, shown_live, shown_long}
 use Rattle.rlsf_heap.proofs.Tickets.{both_apart, both_issued, issued-again}
 use Rattle.rlsf_heap.proofs.heap.Heap.apart.Given as given
 use Rattle.rlsf_heap.proofs.heap.Heap.apart.Goals as goal
 use Rattle.rlsf_heap.proofs.heap.Heap.apart.Goals.{After-issued-second}
+use Rattle.rlsf_heap.specs.Replies.{IsOut}
 
 -- what the tickets of the two payloads show
 abbrev shown : PayloadView → Extent
@@ -86,12 +86,16 @@ returns g c =
       );
       differ = differ g c;
       apart = shown_apart w (shown c.args.first) (shown c.args.second) (one g c) (other g c) (differ g c);
-      live = subst (λ (o : HeapView). (align_at o.state c.args.first.start ≡ Some c.args.first.align) × (align_at o.state c.args.second.start ≡ Some c.args.second.align))
-          c.self.view_is (shown_live w (shown c.args.first) (one g c), shown_live w (shown c.args.second) (other g c));
-      long = subst (λ (o : HeapView). (length c.args.first.bytes ≡ length (bytes_at o.state c.args.first.start))
-          × (length c.args.second.bytes ≡ length (bytes_at o.state c.args.second.start))) c.self.view_is
-          (shown_long w (shown c.args.first) (one g c), shown_long w (shown c.args.second) (other g c));
-      aligned = (shown_aligned w (shown c.args.first) (one g c), shown_aligned w (shown c.args.second) (other g c));
-      inside = subst (λ (o : HeapView). LiesInChunk o.state (payload_range c.args.first) × LiesInChunk o.state (payload_range c.args.second)) c.self.view_is
-          (shown_inside w (shown c.args.first) (one g c), shown_inside w (shown c.args.second) (other g c));
+      first = subst (λ (o : HeapView). IsOut o.state c.args.first) c.self.view_is (record {
+        live = shown_live w (shown c.args.first) (one g c);
+        long = shown_long w (shown c.args.first) (one g c);
+        aligned = shown_aligned w (shown c.args.first) (one g c);
+        inside = shown_inside w (shown c.args.first) (one g c);
+      });
+      second = subst (λ (o : HeapView). IsOut o.state c.args.second) c.self.view_is (record {
+        live = shown_live w (shown c.args.second) (other g c);
+        long = shown_long w (shown c.args.second) (other g c);
+        aligned = shown_aligned w (shown c.args.second) (other g c);
+        inside = shown_inside w (shown c.args.second) (other g c);
+      });
     }

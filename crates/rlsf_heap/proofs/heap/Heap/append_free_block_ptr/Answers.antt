@@ -1,7 +1,9 @@
 use Rattle.std.proofs.Common.{◌≡◌, arith, refl, sym, ◌∙◌, ap, subst}
 use Rattle.rlsf_base.specs.Space.{range_of}
+use Rattle.rlsf_model.specs.Callers.{align_at}
 use Rattle.rlsf_model.specs.Insert.{Appends, IsNext}
 use Rattle.rlsf_model.specs.Run.{append}
+use Rattle.rlsf_model.specs.Sized.{live_count}
 use Rattle.rlsf_model.specs.State.{State}
 use Rattle.rlsf_model.specs.WellFormed.{IsWellFormed}
 use Rattle.rlsf_model.proofs.AppendedRanges.{untouched_appended}
@@ -15,7 +17,10 @@ use Rattle.rlsf_blocks.specs.Laws.{read_from}
 use Rattle.rlsf_blocks.specs.StandsFor.{contents, StandsFor}
 use Rattle.rlsf_tlsf.specs.Steps.Moves.{appended_to, bare}
 use Rattle.rlsf_tlsf.proofs.Moved.{appended_to-bare}
-use Rattle.rlsf_heap.specs.Heap.{HeapView}
+use Rattle.rlsf_heap.specs.Heap.{HeapView, heap_view}
+use Rattle.rlsf_heap.specs.Kept.{KeepsSpareBytes, NoneBecomesRaw}
+use Rattle.rlsf_heap.specs.Settled.{IsSettled}
+use Rattle.rlsf_heap.proofs.Costs.{left_costs, sees_left}
 use Rattle.rlsf_heap.proofs.Arrivals.{IsHeap-arrived, Steps-arrived, bare-kept, stepped, view_well_formed}
 use Rattle.rlsf_heap.proofs.Kept.{none_raw-seen, raw-stays, spare-seen}
 use Rattle.rlsf_heap.proofs.LiveCounts.{live_count-same}
@@ -80,14 +85,15 @@ pub returns-clause-step : goal.returns-clause-step
 returns-clause-step g c = Steps-arrived (standing g c) c.append.new.self.state (kept g c) c.self.inside.ledger.name
     (Appends g.row.FLLEN c.args.self.now.state c.args.range c.append_chunks-taken.result) (did g c)
 
-pub returns-clause-settled : goal.returns-clause-settled
-returns-clause-settled g c = λ settled.
+settled_stays : (g : given.Over) (c : After-append g) → IsSettled c.args.self.now.memory → IsSettled c.append_chunks-taken.new.memory
+settled_stays g c settled =
     let e = c.append_chunks-taken.ensures in
     let stays : Stays c.self.inside.memory c.append_chunks-taken.new.memory = record { start = e.costs.start; own = e.own; here = e.here } in
     settled-stays stays (settled-inside c.self.inside.state.state c.args.self.now c.self.view_is settled)
 
-pub returns-clause-raw : goal.returns-clause-raw
-returns-clause-raw g c =
+none_raw : (g : given.Over) (c : After-append g) → NoneBecomesRaw c.args.self.now
+    (heap_view c.append_chunks-taken.new.memory c.append_chunks-taken.new.table c.append.new.self.state c.self.inside.ledger.name)
+none_raw g c =
     let e = c.append_chunks-taken.ensures in
     let stays : Stays c.self.inside.memory c.append_chunks-taken.new.memory = record { start = e.costs.start; own = e.own; here = e.here } in
     none_raw-seen c.self.inside.memory c.append_chunks-taken.new.memory c.self.inside.state.state c.append.new.self.state c.args.self.now c.self.view_is
@@ -96,20 +102,33 @@ returns-clause-raw g c =
 pub returns-clause-untouched : goal.returns-clause-untouched
 returns-clause-untouched g c = untouched_appended g.row.FLLEN c.args.self.now.state (now g c) c.args.range c.append_chunks-taken.result (did g c)
 
-pub returns-clause-aligns : goal.returns-clause-aligns
-returns-clause-aligns g c = (same_seen c.args.self.now.state (now g c)
+same_aligns : (g : given.Over) (c : After-append g) → align_at (now g c) ≡ align_at c.args.self.now.state
+same_aligns g c = (same_seen c.args.self.now.state (now g c)
     (callers_see_map g.row.FLLEN g.row.SLLEN (range_of c.args.self.now.memory) c.args.self.now.state (now g c) (append c.args.range c.append_chunks-taken.result) (well g c)
     c.requires (did g c))).aligns
 
-pub returns-clause-count : goal.returns-clause-count
-returns-clause-count g c = count_appended (well g c) (now g c) c.args.range c.append_chunks-taken.result c.requires (did g c)
+same_count : (g : given.Over) (c : After-append g) → live_count (now g c) ≡ live_count c.args.self.now.state
+same_count g c = count_appended (well g c) (now g c) c.args.range c.append_chunks-taken.result c.requires (did g c)
 
 pub returns-clause-bounds : goal.returns-clause-bounds
 returns-clause-bounds g c = λ count size align sized. sized_appended (well g c) (now g c) count size align sized c.args.range c.append_chunks-taken.result c.requires (did g c)
 
-pub returns-clause-spare : goal.returns-clause-spare
+spare : (g : given.Over) (c : After-append g) → KeepsSpareBytes c.args.self.now
+    (heap_view c.append_chunks-taken.new.memory c.append_chunks-taken.new.table c.append.new.self.state c.self.inside.ledger.name)
 unfolding after
-returns-clause-spare g c =
+spare g c =
     let is = c.append_chunks-taken.ensures.step (before g c) c.self.invariant.stands (next g c) in
     spare-seen c.self.inside.memory c.append_chunks-taken.new.memory (before g c) is.0 is.3 c.self.inside.state.state c.append.new.self.state refl
     (sym (ap (λ (s : State). s.chunks) (kept g c))) c.args.self.now c.self.view_is c.append_chunks-taken.new.table c.self.inside.ledger.name
+
+pub returns-clause-frame : goal.returns-clause-frame
+returns-clause-frame g c =
+    let e = c.append_chunks-taken.ensures in
+    let o = sees_left c.self.inside.memory c.append_chunks-taken.new.memory c.self.inside.table c.append_chunks-taken.new.table c.self.inside.state.state
+    c.append.new.self.state c.self.inside.ledger.name c.self.inside.ledger.name _ (left_costs e.costs) refl c.args.self.now c.self.view_is in record {
+      heap = record { identity = o.identity; place = o.place; spare = spare g c; grow = o.grow };
+      bytes = record { raw = none_raw g c; settled = settled_stays g c };
+      aligns = same_aligns g c;
+      count = same_count g c;
+      copied = omega (arith, e.costs.copied, ap (λ (v : HeapView). v.memory.copied) c.self.view_is);
+    }

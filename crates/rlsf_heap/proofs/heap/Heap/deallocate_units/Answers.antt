@@ -175,16 +175,13 @@ returns g c =
     let gone = gone_seen (well g c) (now g c) c.args.payload.start (live g c) (did g c) in record {
       step = Steps-arrived (standing g c) c.deallocate.new.self.state (kept g c) c.put_unit_payload-block.new.ledger.name (Deallocates c.args.self.now.state c.args.payload.start)
           (did g c);
-      identity = o.identity;
-      place = o.place;
-      count = count_gone (well g c) (now g c) c.args.payload.start (live g c) (did g c);
+      result = record { gone = gone.gone; aligns = gone.aligns; count = count_gone (well g c) (now g c) c.args.payload.start (live g c) (did g c) };
       bounds = λ count size align sized. sized_gone (well g c) (now g c) count size align sized c.args.payload.start (live g c) (did g c);
-      chunks = chunks-deallocated c.args.self.now.state (now g c) c.args.payload.start (did g c);
-      gone = gone.gone;
-      aligns = gone.aligns;
-      raw = none_raw g c;
+      frame = record {
+        heap = record { identity = o.identity; place = o.place; spare = spare g c; grow = o.grow };
+        raw = none_raw g c;
+        chunks = chunks-deallocated c.args.self.now.state (now g c) c.args.payload.start (did g c);
+        copied = omega (arith, ap (λ (v : HeapView). v.memory.copied) c.self.view_is, c.put_unit_payload-block.ensures.copied, c.deallocate_block.ensures.costs.copied);
+      };
       touches = o.touches;
-      grow = o.grow;
-      spare = spare g c;
-      copied = omega (arith, ap (λ (v : HeapView). v.memory.copied) c.self.view_is, c.put_unit_payload-block.ensures.copied, c.deallocate_block.ensures.costs.copied);
     }

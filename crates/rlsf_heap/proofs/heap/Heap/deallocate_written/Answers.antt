@@ -1,5 +1,7 @@
-use Rattle.std.proofs.Common.{arith, refl, sym, ap, subst, ◌∙◌}
+use Rattle.std.proofs.Common.{◌≡◌, Some, arith, refl, sym, ap, subst, ◌∙◌}
+use Rattle.rlsf_model.specs.Callers.{align_at}
 use Rattle.rlsf_heap.specs.Heap.{IsWritten, PayloadView}
+use Rattle.rlsf_heap.specs.Replies.{IsGone}
 use Rattle.rlsf_heap.proofs.Found.{owners}
 use Rattle.rlsf_heap.proofs.heap.Heap.deallocate_written.Goals as goal
 
@@ -16,7 +18,13 @@ put_written-requires g c =
       ),
     )
 
-pub returns-clause-owner : goal.returns-clause-owner
-returns-clause-owner g c =
+pub returns-clause-result : goal.returns-clause-result
+returns-clause-result g c =
     let parts = c.into_parts-part.ensures.parts in
-    owners c.args.self.now c.into_parts-part.result.0 c.args.payload.align c.into_parts-part.result.1.name c.args.payload parts c.put_written.ensures.owner
+    let old = c.args.self.now in
+    let did = c.put_written.ensures in record {
+      owner = owners old c.into_parts-part.result.0 c.args.payload.align c.into_parts-part.result.1.name c.args.payload parts did.owner;
+      live = subst (λ (p : PayloadView). align_at old.state p.start ≡ Some c.args.payload.align) parts
+          (did.live ∙ ap (λ n. Some n) (sym c.into_parts-part.ensures.ticket.2));
+      gone = subst (λ (p : PayloadView). IsGone old.state c.put_written.new.self.state p.start) parts did.result;
+    }

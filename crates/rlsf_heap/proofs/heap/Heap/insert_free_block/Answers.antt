@@ -23,8 +23,8 @@ returns-clause-step g c =
     let (step, stands) = c.insert_free_block_ptr.ensures.step in
     ((reply c.insert_free_block_ptr.result, step), stands)
 
-pub returns-clause-unchanged : goal.returns-clause-unchanged
-returns-clause-unchanged g c = λ none.
+pub returns-clause-refused : goal.returns-clause-refused
+returns-clause-refused g c = λ none.
     let step = step_of g.row.FLLEN g.row.SLLEN c.insert_free_block_ptr.new.self (Inserts g.row.FLLEN c.args.self.now.state c.args.range (reply c.insert_free_block_ptr.result))
     c.insert_free_block_ptr.ensures.step in
     where_none _ c.insert_free_block_ptr.result (step.answer ∙ ap (bytes_taken c.args.range.start) none) c.insert_free_block_ptr.ensures.refused

@@ -101,23 +101,24 @@ returns g c =
     let o = sees_left c.self.inside.memory c.insert_chunks-taken.new.memory c.self.inside.table c.insert_chunks-taken.new.table c.self.inside.state.state
     c.insert.new.self.state c.self.inside.ledger.name c.self.inside.ledger.name _ (left_costs e.costs) refl c.args.self.now c.self.view_is in record {
       step = Steps-arrived (standing g c) c.insert.new.self.state (kept g c) c.self.inside.ledger.name (Inserts g.row.FLLEN c.args.self.now.state c.args.range taken) (did g c);
-      identity = o.identity;
-      place = o.place;
       untouched = untouched_inserted g.row.FLLEN c.args.self.now.state (now g c) c.args.range taken (did g c);
-      aligns = (same_seen c.args.self.now.state (now g c)
-          (callers_see_map g.row.FLLEN g.row.SLLEN (range_of c.args.self.now.memory) c.args.self.now.state (now g c) (insert c.args.range taken) (well g c)
-          (fresh g c) (did g c))).aligns;
-      count = count_inserted (well g c) (now g c) c.args.range taken (fresh g c) (did g c);
-      bounds = λ count size align sized. sized_inserted (well g c) (now g c) count size align sized c.args.range taken (fresh g c) (did g c);
-      pool = λ count size align len told at32 long idle.
+      room = λ count size align len told at32 long idle.
           sized_pool g.FLBitmap.BitPattern.width g.SLBitmap.BitPattern.width g.row.FLLEN g.row.SLLEN count size align len c.args.self.now.state (now g c) c.args.range
           taken c.self.invariant.valid told at32 long idle (did g c);
+      bounds = λ count size align sized. sized_inserted (well g c) (now g c) count size align sized c.args.range taken (fresh g c) (did g c);
       refused = subst (λ (v : HeapView). IfNone c.insert_chunks-taken.result (c.insert_chunks-taken.new.memory.bytes ≡ v.memory.bytes)) c.self.view_is e.refused;
-      settled = λ settled. settled-stays stays (settled-inside c.self.inside.state.state c.args.self.now c.self.view_is settled);
-      raw = none_raw-seen c.self.inside.memory c.insert_chunks-taken.new.memory c.self.inside.state.state c.insert.new.self.state c.args.self.now c.self.view_is
-          c.insert_chunks-taken.new.table c.self.inside.ledger.name (raw-stays stays);
+      frame = record {
+        heap = record { identity = o.identity; place = o.place; spare = spare g c; grow = o.grow };
+        bytes = record {
+          raw = none_raw-seen c.self.inside.memory c.insert_chunks-taken.new.memory c.self.inside.state.state c.insert.new.self.state c.args.self.now c.self.view_is
+              c.insert_chunks-taken.new.table c.self.inside.ledger.name (raw-stays stays);
+          settled = λ settled. settled-stays stays (settled-inside c.self.inside.state.state c.args.self.now c.self.view_is settled);
+        };
+        aligns = (same_seen c.args.self.now.state (now g c)
+            (callers_see_map g.row.FLLEN g.row.SLLEN (range_of c.args.self.now.memory) c.args.self.now.state (now g c) (insert c.args.range taken) (well g c)
+            (fresh g c) (did g c))).aligns;
+        count = count_inserted (well g c) (now g c) c.args.range taken (fresh g c) (did g c);
+        copied = omega (arith, e.costs.copied, ap (λ (v : HeapView). v.memory.copied) c.self.view_is);
+      };
       touches = o.touches;
-      grow = o.grow;
-      spare = spare g c;
-      copied = omega (arith, e.costs.copied, ap (λ (v : HeapView). v.memory.copied) c.self.view_is);
     }

@@ -4,8 +4,8 @@ use Rattle.rlsf_model.specs.Callers.{align_at, bytes_at}
 use Rattle.rlsf_model.specs.Reallocate.{Keeps}
 use Rattle.rlsf_model.specs.Sized.{IsSizedFor, live_count}
 use Rattle.rlsf_heap.specs.Heap.{HeapView, IsWritten, PayloadView, Steps, payload_view}
-use Rattle.rlsf_heap.proofs.Found.{kept_found, raw_found, settled_found, spare_found}
-use Rattle.rlsf_heap.proofs.Kept.{none_raw-both, spare-both}
+use Rattle.rlsf_heap.proofs.Found.{frame_found, settled_found}
+use Rattle.rlsf_heap.proofs.Frames.{frame_both}
 use Rattle.rlsf_heap.proofs.MovedThin.{move_step, new_is_other, others_stay}
 use Rattle.rlsf_heap.proofs.Reallocated.{Keeps-each}
 use Rattle.rlsf_heap.proofs.ThinPayloads.{some_address}
@@ -13,7 +13,7 @@ use Rattle.rlsf_heap.proofs.heap.Heap.move_thin.Given as given
 use Rattle.rlsf_heap.proofs.heap.Heap.move_thin.Goals as goal
 
 pub as_mut_slice-requires : goal.as_mut_slice-requires
-as_mut_slice-requires g c = c.in-Some.ensures.written (settled_found c.args.self.now c.find_part-part.new.self c.find_part-part.ensures.heap c.requires.settled)
+as_mut_slice-requires g c = c.in-Some.ensures.result.written (settled_found c.args.self.now c.find_part-part.new.self c.find_part-part.ensures.heap c.requires.settled)
 
 pub put_written-requires : goal.put_written-requires
 put_written-requires g c =
@@ -23,7 +23,7 @@ put_written-requires g c =
         (t.0, t.1, refl),
         (
           ap (λ (p : PayloadView). p.identity) parts ∙ c.requires.heap
-              ∙ sym (ap (λ (v : HeapView). v.identity) c.find_part-part.ensures.heap) ∙ sym c.in-Some.ensures.heap.identity,
+              ∙ sym (ap (λ (v : HeapView). v.identity) c.find_part-part.ensures.heap) ∙ sym c.in-Some.ensures.frame.heap.identity,
           subst (λ (p : PayloadView). IsWritten p) (sym parts) c.requires.written,
         ),
       ),
@@ -32,11 +32,11 @@ put_written-requires g c =
 pub into_thin-requires : goal.into_thin-requires
 into_thin-requires g c = λ e.
     some_address g.row.FLLEN g.row.SLLEN c.allocate.new.self c.find_part-part.new.self.state c.args.layout.size c.args.layout.align c.in-Some.to.start c.in-Some.ensures.step
-    (sym (c.as_mut_slice.ensures.start c.copy_front.new.to) ∙ e)
+    (sym ((c.as_mut_slice.ensures.left c.copy_front.new.to).start) ∙ e)
 
 -- the new payload is where the allocation put it
 there : (g : given.Over) (c : goal.After-into_thin g) → c.into_thin.result.of.start ≡ c.in-Some.to.start
-there g c = ap (λ (p : PayloadView). p.start) c.into_thin.ensures.1 ∙ c.as_mut_slice.ensures.start c.copy_front.new.to
+there g c = ap (λ (p : PayloadView). p.start) c.into_thin.ensures.1 ∙ (c.as_mut_slice.ensures.left c.copy_front.new.to).start
 
 -- and has the bytes that were copied
 bytes : (g : given.Over) (c : goal.After-into_thin g) → c.into_thin.result.of.bytes ≡ c.copy_front.new.to
@@ -49,7 +49,7 @@ from g c = ap (λ (p : PayloadView). p.start) c.find_part-part.ensures.parts ∙
 -- they are two
 other : (g : given.Over) (c : goal.After-into_thin g) → c.in-Some.to.start ≢ c.args.addr
 other g c = new_is_other c.args.self.now.state c.find_part-part.new.self.state (ap (λ (v : HeapView). v.state) c.find_part-part.ensures.heap) c.args.addr
-    c.in-Some.to.start c.args.payload.of.align c.find_part-part.ensures.live c.in-Some.ensures.payload.new
+    c.in-Some.to.start c.args.payload.of.align c.find_part-part.ensures.live c.in-Some.ensures.result.new
 
 pub returns-in_default : goal.returns-in_default
 returns-in_default g c =
@@ -61,25 +61,25 @@ returns-in_default g c =
     c.from_parts.ensures.1 ∙ (λ i. payload_view c.find_part-part.result.0 (sym t.2 i) c.find_part-part.result.1.name) ∙ c.find_part-part.ensures.parts in
     record {
       step = subst (λ s. Steps g.row.FLLEN g.row.SLLEN c.allocate.new.self (Allocates g.row.SLLEN s c.args.layout.size c.args.layout.align None)) state e.step;
+      result = tt;
       room = λ count most wide sized few short fits.
           absurd (true≢false (sym (e.room count most wide (subst (IsSizedFor g.row.SLLEN count most wide) (sym state) sized) (subst (λ s. live_count s ≤ count) (sym state) few)
           short fits)));
-      thin = record {
-        at = c.from_parts.ensures.0 ∙ sym c.requires.some.0 ∙ ap (λ (p : PayloadView). p.start) (sym of_is);
-        identity = ap (λ (p : PayloadView). p.identity) of_is ∙ c.requires.heap;
-        requested = ap (λ (p : PayloadView). p.align) of_is;
+      bounds = record {
+        sized = λ count most wide sized short fits. e.bounds count most wide (subst (IsSizedFor g.row.SLLEN count most wide) (sym state) sized) short fits;
+        count = ap live_count (e.refused.same ∙ state);
       };
-      payload = tt;
-      written = tt;
-      gone = tt;
-      others = tt;
-      raw = raw_found c.args.self.now c.find_part-part.new.self c.allocate.new.self heap e.raw;
-      spare = spare_found c.args.self.now c.find_part-part.new.self c.allocate.new.self heap e.spare;
-      refused = (of_is, e.same ∙ state, e.refused ∙ ap (λ (v : HeapView). v.memory.bytes) heap);
-      heap = kept_found g.row.SLLEN c.args.layout.size c.args.layout.align c.args.self.now c.find_part-part.new.self c.allocate.new.self heap e.heap;
-      count = ap live_count (e.same ∙ state);
+      refused = record {
+        at = c.from_parts.ensures.0 ∙ sym c.requires.some.0 ∙ ap (λ (p : PayloadView). p.start) (sym of_is);
+        of = record {
+          same = of_is;
+          identity = ap (λ (p : PayloadView). p.identity) of_is ∙ c.requires.heap;
+          requested = ap (λ (p : PayloadView). p.align) of_is;
+          unchanged = record { same = e.refused.same ∙ state; bytes = e.refused.bytes ∙ ap (λ (v : HeapView). v.memory.bytes) heap };
+        };
+      };
+      frame = frame_found c.args.self.now c.find_part-part.new.self c.allocate.new.self heap e.frame;
       touches = omega (arith, e.touches, ap (λ (v : HeapView). v.memory.touches) heap);
-      copied = e.copied ∙ ap (λ (v : HeapView). v.memory.copied) heap;
     }
 
 -- the bytes that both payloads have are copied
@@ -104,46 +104,42 @@ returns g c =
     record {
       step = move_step g.row.FLLEN g.row.SLLEN c.args.self.now c.find_part-part.new.self c.allocate.new.self c.put_written.new.self heap c.args.layout.size
           c.args.layout.align c.args.addr c.find_part-part.result.0.start c.in-Some.to.start (from g c) a.step p.step c.into_thin.result.of.start is;
-      room = λ count most wide sized few short fits. refl;
-      thin = record {
+      result = record {
         at = c.into_thin.ensures.0 ∙ ap (λ (o : PayloadView). o.start) (sym thin);
-        identity = ap (λ (o : PayloadView). o.identity) thin ∙ c.as_mut_slice.ensures.identity w ∙ a.payload.identity ∙ ap (λ (v : HeapView). v.identity) heap;
-        requested = ap (λ (o : PayloadView). o.align) thin ∙ c.as_mut_slice.ensures.align w ∙ a.payload.requested;
+        of = record {
+          identity = ap (λ (o : PayloadView). o.identity) thin ∙ (c.as_mut_slice.ensures.left w).identity ∙ a.result.identity ∙ ap (λ (v : HeapView). v.identity) heap;
+          requested = ap (λ (o : PayloadView). o.align) thin ∙ (c.as_mut_slice.ensures.left w).align ∙ a.result.requested;
+          made = record {
+            live = ap (align_at c.put_written.new.self.state) is ∙ p.result.aligns c.in-Some.to.start (λ e. other g c (e ∙ from g c)) ∙ a.result.live;
+            long = as_long g c ∙ a.result.long ∙ ap length (sym (others_stay g.row.FLLEN g.row.SLLEN c.args.self.now c.find_part-part.new.self c.allocate.new.self
+                c.put_written.new.self heap c.args.layout.size c.args.layout.align c.args.addr c.find_part-part.result.0.start c.in-Some.to.start (from g c) a.step
+                p.step c.in-Some.to.start (other g c)))
+                ∙ ap (λ n. length (bytes_at c.put_written.new.self.state n)) (sym is);
+            aligned = subst (λ n. n % c.args.layout.align ≡ 0) (sym is) a.result.aligned;
+            sized = subst (λ n. c.args.layout.size ≤ n) (sym (as_long g c)) a.result.sized;
+            few = subst (λ n. n < c.args.layout.size + 32) (sym (as_long g c)) a.result.few;
+            kept = kept g c;
+            each = Keeps-each c.args.payload.of.bytes c.into_thin.result.of.bytes (kept g c);
+          };
+          written = subst (λ (o : PayloadView). IsWritten o) (sym thin) ((c.as_mut_slice.ensures.left w).written);
+          apart = λ e. other g c (sym is ∙ e);
+          gone = subst (λ n. align_at c.put_written.new.self.state n ≡ None) (from g c) p.result.gone;
+          others = record {
+            some = λ e. some_address g.row.FLLEN g.row.SLLEN c.allocate.new.self c.find_part-part.new.self.state c.args.layout.size c.args.layout.align c.in-Some.to.start a.step
+                (sym is ∙ e);
+            new = λ _. (λ i. align_at (sym state i) (is i)) ∙ a.result.new;
+            aligns = λ n apart new. p.result.aligns n (λ e. apart (e ∙ from g c)) ∙ a.result.aligns n (λ e. new (e ∙ sym is)) ∙ ap (λ (v : HeapView). align_at v.state n) heap;
+          };
+        };
       };
-      payload = record {
-        live = ap (align_at c.put_written.new.self.state) is ∙ p.aligns c.in-Some.to.start (λ e. other g c (e ∙ from g c)) ∙ a.payload.live;
-        long = as_long g c ∙ a.payload.long ∙ ap length (sym (others_stay g.row.FLLEN g.row.SLLEN c.args.self.now c.find_part-part.new.self c.allocate.new.self
-            c.put_written.new.self heap c.args.layout.size c.args.layout.align c.args.addr c.find_part-part.result.0.start c.in-Some.to.start (from g c) a.step
-            p.step c.in-Some.to.start (other g c)))
-            ∙ ap (λ n. length (bytes_at c.put_written.new.self.state n)) (sym is);
-        aligned = subst (λ n. n % c.args.layout.align ≡ 0) (sym is) a.payload.aligned;
-        sized = subst (λ n. c.args.layout.size ≤ n) (sym (as_long g c)) a.payload.sized;
-        few = subst (λ n. n < c.args.layout.size + 32) (sym (as_long g c)) a.payload.few;
-        kept = kept g c;
-        each = Keeps-each c.args.payload.of.bytes c.into_thin.result.of.bytes (kept g c);
-      };
-      written = subst (λ (o : PayloadView). IsWritten o) (sym thin) (c.as_mut_slice.ensures.written w);
-      gone = (λ e. other g c (sym is ∙ e), subst (λ n. align_at c.put_written.new.self.state n ≡ None) (from g c) p.gone);
-      others = record {
-        some = λ e. some_address g.row.FLLEN g.row.SLLEN c.allocate.new.self c.find_part-part.new.self.state c.args.layout.size c.args.layout.align c.in-Some.to.start a.step
-            (sym is ∙ e);
-        new = λ _. (λ i. align_at (sym state i) (is i)) ∙ a.payload.new;
-        aligns = λ n apart new. p.aligns n (λ e. apart (e ∙ from g c)) ∙ a.aligns n (λ e. new (e ∙ sym is)) ∙ ap (λ (v : HeapView). align_at v.state n) heap;
+      room = λ count most wide sized few short fits. refl;
+      bounds = record {
+        sized = λ count most wide sized short fits. p.bounds count most wide (a.bounds count most wide (subst (IsSizedFor g.row.SLLEN count most wide) (sym state) sized)
+            short fits);
+        count = omega (arith, p.result.count, a.result.count, ap (λ (v : HeapView). live_count v.state) heap);
       };
       refused = tt;
-      raw = raw_found c.args.self.now c.find_part-part.new.self c.put_written.new.self heap
-          (none_raw-both c.find_part-part.new.self c.allocate.new.self c.put_written.new.self a.heap.place.0 a.raw p.raw);
-      spare = spare_found c.args.self.now c.find_part-part.new.self c.put_written.new.self heap
-          (spare-both c.find_part-part.new.self c.allocate.new.self c.put_written.new.self a.heap.place a.heap.chunks a.spare p.spare);
-      heap = kept_found g.row.SLLEN c.args.layout.size c.args.layout.align c.args.self.now c.find_part-part.new.self c.put_written.new.self heap (record {
-        identity = p.identity ∙ a.heap.identity;
-        place = (p.place.0 ∙ a.heap.place.0, p.place.1 ∙ a.heap.place.1);
-        settled = λ settled. p.settled (a.heap.settled settled);
-        bounds = λ count most wide sized short fits. p.bounds count most wide (a.heap.bounds count most wide sized short fits);
-        chunks = p.chunks ∙ a.heap.chunks;
-        grow = omega (arith, p.grow, a.heap.grow);
-      });
-      count = omega (arith, p.count, a.payload.count, ap (λ (v : HeapView). live_count v.state) heap);
+      frame = frame_found c.args.self.now c.find_part-part.new.self c.put_written.new.self heap
+          (frame_both c.find_part-part.new.self c.allocate.new.self c.put_written.new.self a.frame p.frame);
       touches = omega (arith, p.touches, a.touches, ap (λ (v : HeapView). v.memory.touches) heap);
-      copied = p.copied ∙ a.copied ∙ ap (λ (v : HeapView). v.memory.copied) heap;
     }

@@ -227,27 +227,23 @@ returns g c =
     c.deallocate.new.self.state c.self.inside.ledger.name c.redeem.new.self.name 33 (left g c) c.redeem.ensures.name c.args.self.now c.self.view_is in
     let gone = gone_seen (well g c) (now g c) c.args.part.start (live g c) (did g c) in record {
       step = Steps-arrived (standing g c) c.deallocate.new.self.state (kept g c) c.redeem.new.self.name (Deallocates c.args.self.now.state c.args.part.start) (did g c);
-      identity = o.identity;
-      place = o.place;
       owner = subst (λ (v : HeapView). IsAway v.memory (piece_range c.args.part)) c.self.view_is c.put_back.ensures.away;
       live = subst (λ (v : HeapView). align_at v.state c.args.part.start ≡ Some c.args.ticket.align) c.self.view_is
           (shown_live c.self.invariant.stands.well_formed (extent c.args.part.start (length c.args.part.bytes) c.args.ticket.align)
           (c.self.invariant.tickets.issued c.args.ticket.key (extent c.args.part.start (length c.args.part.bytes) c.args.ticket.align) (back_in g d).known));
-      count = count_gone (well g c) (now g c) c.args.part.start (live g c) (did g c);
+      result = record { gone = gone.gone; aligns = gone.aligns; count = count_gone (well g c) (now g c) c.args.part.start (live g c) (did g c) };
       bounds = λ count size align sized. sized_gone (well g c) (now g c) count size align sized c.args.part.start (live g c) (did g c);
-      chunks = chunks-deallocated c.args.self.now.state (now g c) c.args.part.start (did g c);
-      gone = gone.gone;
-      aligns = gone.aligns;
-      settled = stays_settled g c;
+      frame = record {
+        heap = record { identity = o.identity; place = o.place; spare = spare g c; grow = o.grow };
+        bytes = record { raw = none_raw g c; settled = stays_settled g c };
+        chunks = chunks-deallocated c.args.self.now.state (now g c) c.args.part.start (did g c);
+        copied = omega (
+          arith,
+          ap (λ (v : HeapView). v.memory.copied) c.self.view_is,
+          c.put_back.ensures.copied,
+          ap (λ (m : Space). m.copied) c.load_block_of-block.ensures.memory,
+          c.deallocate_block.ensures.costs.copied,
+        );
+      };
       touches = o.touches;
-      grow = o.grow;
-      raw = none_raw g c;
-      spare = spare g c;
-      copied = omega (
-        arith,
-        ap (λ (v : HeapView). v.memory.copied) c.self.view_is,
-        c.put_back.ensures.copied,
-        ap (λ (m : Space). m.copied) c.load_block_of-block.ensures.memory,
-        c.deallocate_block.ensures.costs.copied,
-      );
     }

@@ -19,12 +19,13 @@ use Rattle.rlsf_heap.specs.Kept.{KeepsSpareBytes, NoneBecomesRaw}
 use Rattle.rlsf_heap.specs.Raw.{bytes_of}
 use Rattle.rlsf_heap.specs.Reallocation.{owned_by}
 use Rattle.rlsf_heap.proofs.Arrivals.{Steps-arrived, bare-kept}
-use Rattle.rlsf_heap.proofs.Costs.{Leaves, is_of_heap, kept_same, left_counts, left_over, left_taken, left_then, left_touched, returned_same, sees_left}
+use Rattle.rlsf_heap.proofs.Costs.{Leaves, is_of_heap, left_counts, left_over, left_taken, left_then, left_touched, returned_same, sees_left}
 use Rattle.rlsf_heap.proofs.Found.{live_somewhere}
+use Rattle.rlsf_heap.proofs.Frames.{bytes_same, heap_same}
 use Rattle.rlsf_heap.proofs.HandedOver.{IsHeap-resized, IsHeap-unchanged, SeesNewSize, SeesUnchanged, Steps-resized, Steps-unchanged, back_in, found, is_view, key}
 use Rattle.rlsf_heap.proofs.HandedOver.{beside_unchanged, raw_resized, raw_unchanged, resized_lies, resized_live, resized_own, sees_new_size, sees_unchanged}
 use Rattle.rlsf_heap.proofs.HandedOver.{spare_resized, spare_unchanged}
-use Rattle.rlsf_heap.proofs.Kept.{beside-none, none_raw-none, spare-first, spare-none}
+use Rattle.rlsf_heap.proofs.Kept.{beside-none, spare-first}
 use Rattle.rlsf_heap.proofs.Leaving.{lies-usable}
 use Rattle.rlsf_heap.proofs.Reallocated.{never_refused_reallocation}
 use Rattle.rlsf_heap.proofs.Reallocating.{IsBackIn, asked, block, held, here_still, long, reallocates, refused_same, stands, state, usable_is}
@@ -179,33 +180,38 @@ returns-in_default-moved g c =
     c.hand_over-payload.new.ledger.name 66 (left_then left (left_over e.over)) (e.name ∙ name) c.args.self.now c.self.view_is in
     let s = unchanged g c in record {
       step = refused_step g c;
-      layout = λ ok. absurd (false≢true ok);
+      result = tt;
       room = λ count most wide sized few short fits whole.
           absurd (never_refused_reallocation (well k (back g d) c.args.self.now c.self.view_is c.args.payload v) c.args.payload.start c.args.payload.bytes
           (fills_view k (back g d) c.args.self.now c.self.view_is c.args.payload v) (state (back g d)) c.args.size c.args.payload.align
           (live_view k (back g d) c.args.self.now c.self.view_is c.args.payload v) count most wide sized short fits few (did_not g d));
-      payload = is_of_heap c.self.inside.memory c.reallocate_block-moved.new.memory c.self.inside.table k ledger c.take_back.new.ledger.name 66 left name
-          c.args.self.now c.self.view_is (home_of c.reallocate_block-moved.new.memory) refl c.hand_over-payload.result.identity e.over.identity;
-      align = e.over.align ∙ c.align-align.ensures;
-      resized = tt;
-      here = tt;
-      shrunk = tt;
-      written = λ settled. tt;
-      others = tt;
-      refused = s.returned;
-      unchanged =
-          beside_unchanged c.self.invariant c.args.payload c.take_back.ensures.back c.args.self.now c.self.view_is (refusing g d).1 (refused_stays g d) c.addr-addr.ensures
-          c.len-len.ensures c.align-align.ensures e.over (refused_bytes g d) c.hand_over-payload.new.ledger.name;
-      raw =
-          raw_unchanged c.self.invariant c.args.payload c.take_back.ensures.back c.args.self.now c.self.view_is (refusing g d).1 (refused_stays g d) c.addr-addr.ensures
-          c.len-len.ensures c.align-align.ensures e.over c.hand_over-payload.new.ledger.name;
-      spare =
-          spare_unchanged c.self.invariant c.args.payload c.take_back.ensures.back c.args.self.now c.self.view_is (refusing g d).1 (refused_stays g d) c.addr-addr.ensures
-          c.len-len.ensures c.align-align.ensures e.over (refused_bytes g d) c.hand_over-payload.new.ledger.name;
-      heap = record { identity = o.identity; place = o.place; settled = s.settled; bounds = s.bounds c.args.size c.args.payload.align; chunks = s.chunks; grow = o.grow };
-      count = s.count;
+      bounds = record { sized = s.bounds c.args.size c.args.payload.align; count = s.count };
+      refused = record {
+        identity = is_of_heap c.self.inside.memory c.reallocate_block-moved.new.memory c.self.inside.table k ledger c.take_back.new.ledger.name 66 left name
+            c.args.self.now c.self.view_is (home_of c.reallocate_block-moved.new.memory) refl c.hand_over-payload.result.identity e.over.identity;
+        requested = e.over.align ∙ c.align-align.ensures;
+        returned = s.returned;
+        unchanged = beside_unchanged c.self.invariant c.args.payload c.take_back.ensures.back c.args.self.now c.self.view_is (refusing g d).1 (refused_stays g d)
+            c.addr-addr.ensures
+            c.len-len.ensures c.align-align.ensures e.over (refused_bytes g d) c.hand_over-payload.new.ledger.name;
+      };
+      frame = record {
+        heap = record {
+          identity = o.identity;
+          place = o.place;
+          spare = spare_unchanged c.self.invariant c.args.payload c.take_back.ensures.back c.args.self.now c.self.view_is (refusing g d).1 (refused_stays g d) c.addr-addr.ensures
+              c.len-len.ensures c.align-align.ensures e.over (refused_bytes g d) c.hand_over-payload.new.ledger.name;
+          grow = o.grow;
+        };
+        bytes = record {
+          raw = raw_unchanged c.self.invariant c.args.payload c.take_back.ensures.back c.args.self.now c.self.view_is (refusing g d).1 (refused_stays g d) c.addr-addr.ensures
+              c.len-len.ensures c.align-align.ensures e.over c.hand_over-payload.new.ledger.name;
+          settled = s.settled;
+        };
+        chunks = s.chunks;
+        copied = record { copied = refused_copied g c; grow_copied = refused_grow g c; stays = refused_in_place g c };
+      };
       touches = omega (arith, o.touches);
-      copied = record { copied = refused_copied g c; grow_copied = refused_grow g c; stays = refused_in_place g c };
     }
 
 -- ---- the payload has another size, and is handed over
@@ -378,30 +384,33 @@ returns g c =
     let s = resized g c in
     let v = s.changed in record {
       step = moved_step g c;
-      layout = λ ok. subst (IsLayout c.args.size) c.align-align.ensures (c.in-Ok.ensures.succeeds.0 refl);
-      room = λ count most wide sized few short fits whole. refl;
-      payload = is_of_heap c.self.inside.memory c.load_usable_bytes-range.new.memory c.self.inside.table c.self.inside.state.state ledger c.take_back.new.ledger.name
-          69 left name c.args.self.now c.self.view_is (home_of c.load_usable_bytes-range.new.memory) refl c.hand_over-payload-2.result.identity e.over.identity;
-      align = e.over.align ∙ c.align-align.ensures;
-      resized = s.resized;
-      here = s.here.here;
-      shrunk = s.here.shrunk;
-      written = s.here.written;
-      others = record {
-        some = live_somewhere g.row.FLLEN g.row.SLLEN
-            (heap_view c.hand_over-payload-2.new.memory c.reallocate_block-moved.new.table c.reallocate.new.self.state c.hand_over-payload-2.new.ledger.name) _
-            c.hand_over-payload-2.result.start c.args.payload.align (moved_step g c) v.seen.live;
-        new = v.seen.new;
-        aligns = v.seen.aligns;
+      result = record {
+        layout = subst (IsLayout c.args.size) c.align-align.ensures (c.in-Ok.ensures.succeeds.0 refl);
+        resized = record {
+          identity = is_of_heap c.self.inside.memory c.load_usable_bytes-range.new.memory c.self.inside.table c.self.inside.state.state ledger c.take_back.new.ledger.name
+              69 left name c.args.self.now c.self.view_is (home_of c.load_usable_bytes-range.new.memory) refl c.hand_over-payload-2.result.identity e.over.identity;
+          requested = e.over.align ∙ c.align-align.ensures;
+          made = s.resized;
+          here = s.here;
+        };
+        others = record {
+          some = live_somewhere g.row.FLLEN g.row.SLLEN
+              (heap_view c.hand_over-payload-2.new.memory c.reallocate_block-moved.new.table c.reallocate.new.self.state c.hand_over-payload-2.new.ledger.name) _
+              c.hand_over-payload-2.result.start c.args.payload.align (moved_step g c) v.seen.live;
+          new = v.seen.new;
+          aligns = v.seen.aligns;
+        };
       };
+      room = λ count most wide sized few short fits whole. refl;
+      bounds = record { sized = v.bounds; count = v.count };
       refused = tt;
-      unchanged = tt;
-      raw = moved_raw g c;
-      spare = moved_spare g c;
-      heap = record { identity = o.identity; place = o.place; settled = s.settled; bounds = v.bounds; chunks = v.chunks; grow = o.grow };
-      count = v.count;
+      frame = record {
+        heap = record { identity = o.identity; place = o.place; spare = moved_spare g c; grow = o.grow };
+        bytes = record { raw = moved_raw g c; settled = s.settled };
+        chunks = v.chunks;
+        copied = record { copied = moved_copied g c; grow_copied = moved_grow g c; stays = moved_in_place g c };
+      };
       touches = o.touches;
-      copied = record { copied = moved_copied g c; grow_copied = moved_grow g c; stays = moved_in_place g c };
     }
 
 -- ---- no layout has the size
@@ -415,21 +424,20 @@ returns-in_default g c =
           (Steps-arrived c.self.invariant.stands c.self.inside.state.state (sym (bare-kept c.self.invariant)) c.self.inside.ledger.name
           (λ t. IsLayout c.args.size c.args.payload.align → Reallocates g.row.SLLEN (owned_by c.args.self.now.state c.args.payload) c.args.payload.start c.args.size None t)
           (λ fits. absurd (none fits)));
-      layout = λ ok. absurd (false≢true ok);
+      result = tt;
       room = λ count most wide sized few short fits whole. absurd (none whole);
-      payload = c.requires.identity;
-      align = refl;
-      resized = tt;
-      here = tt;
-      shrunk = tt;
-      written = λ settled. tt;
-      others = tt;
-      refused = returned_same c.args.self.now c.args.payload c.requires.written;
-      unchanged = beside-none c.args.self.now (payload_range c.args.payload);
-      raw = none_raw-none c.args.self.now;
-      spare = spare-none c.args.self.now;
-      heap = kept_same g.row.SLLEN c.args.size c.args.payload.align c.args.self.now;
-      count = refl;
+      bounds = record { sized = λ count most wide sized short fits. sized; count = refl };
+      refused = record {
+        identity = c.requires.identity;
+        requested = refl;
+        returned = returned_same c.args.self.now c.args.payload c.requires.written;
+        unchanged = beside-none c.args.self.now (payload_range c.args.payload);
+      };
+      frame = record {
+        heap = heap_same c.args.self.now;
+        bytes = bytes_same c.args.self.now;
+        chunks = refl;
+        copied = record { copied = omega arith; grow_copied = omega arith; stays = λ room. refl };
+      };
       touches = omega arith;
-      copied = record { copied = omega arith; grow_copied = omega arith; stays = λ room. refl };
     }

@@ -20,11 +20,12 @@ use Rattle.rlsf_heap.specs.Kept.{KeepsSpareBytes, NoneBecomesRaw}
 use Rattle.rlsf_heap.specs.Raw.{bytes_of}
 use Rattle.rlsf_heap.specs.Reallocation.{owned_by}
 use Rattle.rlsf_heap.proofs.Arrivals.{Steps-arrived, bare-kept}
-use Rattle.rlsf_heap.proofs.Costs.{Leaves, is_of_heap, kept_same, left_costs, left_counts, left_over, left_taken, left_then, left_touched, returned_same, sees_left}
+use Rattle.rlsf_heap.proofs.Costs.{Leaves, is_of_heap, left_costs, left_counts, left_over, left_taken, left_then, left_touched, returned_same, sees_left}
+use Rattle.rlsf_heap.proofs.Frames.{frame_same}
 use Rattle.rlsf_heap.proofs.HandedOver.{IsHeap-resized, IsHeap-unchanged, SeesNewSize, SeesUnchanged, Steps-resized, Steps-unchanged, back_in, found, is_view, key}
 use Rattle.rlsf_heap.proofs.HandedOver.{beside_unchanged, raw_resized, raw_unchanged, resized_lies, resized_live, resized_own, sees_new_size, sees_unchanged}
 use Rattle.rlsf_heap.proofs.HandedOver.{spare_resized, spare_unchanged, stayed_resized}
-use Rattle.rlsf_heap.proofs.Kept.{beside-none, none_raw-none, spare-first, spare-none}
+use Rattle.rlsf_heap.proofs.Kept.{beside-none, spare-first}
 use Rattle.rlsf_heap.proofs.Leaving.{lies-usable}
 use Rattle.rlsf_heap.proofs.Reallocated.{aligns_stay}
 use Rattle.rlsf_heap.proofs.Reallocating.{IsBackIn, asked, block, held, here_still, stands, state, unmoved, unmoved_moves, unmoved_refused, usable_is}
@@ -156,30 +157,33 @@ returns-then-not-resize_block g c =
     c.hand_over-payload.new.ledger.name 25 (left_then left (left_over e.over)) (e.name ∙ name) c.args.self.now c.self.view_is in
     let s = unchanged g c in record {
       step = refused_step g c;
-      layout = λ ok. absurd (false≢true ok);
-      payload = is_of_heap c.self.inside.memory c.resize_block.new.memory c.self.inside.table k ledger c.take_back.new.ledger.name 25 left name
-          c.args.self.now c.self.view_is (home_of c.resize_block.new.memory) refl c.hand_over-payload.result.identity e.over.identity;
-      align = e.over.align ∙ c.align-align.ensures;
-      there = s.returned.start;
-      resized = tt;
-      here = tt;
-      shrunk = tt;
-      written = λ settled. tt;
-      aligns = s.returned.aligns;
-      refused = s.returned;
-      unchanged =
-          beside_unchanged c.self.invariant c.args.payload c.take_back.ensures.back c.args.self.now c.self.view_is (same_stands g d c.if-not-resize_block.true)
-          (across g d) c.addr-addr.ensures c.len-len.ensures c.align-align.ensures e.over (same_bytes g d c.if-not-resize_block.true) c.hand_over-payload.new.ledger.name;
-      raw =
-          raw_unchanged c.self.invariant c.args.payload c.take_back.ensures.back c.args.self.now c.self.view_is (same_stands g d c.if-not-resize_block.true)
-          (across g d) c.addr-addr.ensures c.len-len.ensures c.align-align.ensures e.over c.hand_over-payload.new.ledger.name;
-      spare =
-          spare_unchanged c.self.invariant c.args.payload c.take_back.ensures.back c.args.self.now c.self.view_is (same_stands g d c.if-not-resize_block.true)
-          (across g d) c.addr-addr.ensures c.len-len.ensures c.align-align.ensures e.over (same_bytes g d c.if-not-resize_block.true) c.hand_over-payload.new.ledger.name;
-      heap = record { identity = o.identity; place = o.place; settled = s.settled; bounds = s.bounds c.args.size c.args.payload.align; chunks = s.chunks; grow = o.grow };
-      count = s.count;
+      result = tt;
+      bounds = record { sized = s.bounds c.args.size c.args.payload.align; count = s.count };
+      refused = record {
+        identity = is_of_heap c.self.inside.memory c.resize_block.new.memory c.self.inside.table k ledger c.take_back.new.ledger.name 25 left name
+            c.args.self.now c.self.view_is (home_of c.resize_block.new.memory) refl c.hand_over-payload.result.identity e.over.identity;
+        requested = e.over.align ∙ c.align-align.ensures;
+        returned = s.returned;
+        unchanged = beside_unchanged c.self.invariant c.args.payload c.take_back.ensures.back c.args.self.now c.self.view_is (same_stands g d c.if-not-resize_block.true)
+            (across g d) c.addr-addr.ensures c.len-len.ensures c.align-align.ensures e.over (same_bytes g d c.if-not-resize_block.true) c.hand_over-payload.new.ledger.name;
+      };
+      frame = record {
+        heap = record {
+          identity = o.identity;
+          place = o.place;
+          spare = spare_unchanged c.self.invariant c.args.payload c.take_back.ensures.back c.args.self.now c.self.view_is (same_stands g d c.if-not-resize_block.true)
+              (across g d) c.addr-addr.ensures c.len-len.ensures c.align-align.ensures e.over (same_bytes g d c.if-not-resize_block.true) c.hand_over-payload.new.ledger.name;
+          grow = o.grow;
+        };
+        bytes = record {
+          raw = raw_unchanged c.self.invariant c.args.payload c.take_back.ensures.back c.args.self.now c.self.view_is (same_stands g d c.if-not-resize_block.true)
+              (across g d) c.addr-addr.ensures c.len-len.ensures c.align-align.ensures e.over c.hand_over-payload.new.ledger.name;
+          settled = s.settled;
+        };
+        chunks = s.chunks;
+        copied = e.over.copied ∙ copied_before g (refused g c);
+      };
       touches = omega (arith, o.touches);
-      copied = e.over.copied ∙ copied_before g (refused g c);
     }
 
 -- ---- the payload has another size, and is handed over
@@ -310,26 +314,28 @@ returns g c =
     let s = resized g c in
     let v = s.changed in record {
       step = stayed_step g c;
-      layout = λ ok. subst (IsLayout c.args.size) c.align-align.ensures (c.in-Ok.ensures.succeeds.0 refl);
-      payload = is_of_heap c.self.inside.memory c.load_usable_bytes-range.new.memory c.self.inside.table c.self.inside.state.state ledger c.take_back.new.ledger.name
-          28 left name c.args.self.now c.self.view_is (home_of c.load_usable_bytes-range.new.memory) refl c.hand_over-payload-2.result.identity e.over.identity;
-      align = e.over.align ∙ c.align-align.ensures;
-      there = there g c;
-      resized = s.resized;
-      here = s.here.here;
-      shrunk = s.here.shrunk;
-      written = s.here.written;
-      aligns =
-          aligns_stay v.seen (there g c)
-          (live_view c.self.inside.state.state (back g (done g c)) c.args.self.now c.self.view_is c.args.payload (is_view c.args.payload));
+      result = record {
+        layout = subst (IsLayout c.args.size) c.align-align.ensures (c.in-Ok.ensures.succeeds.0 refl);
+        resized = record {
+          identity = is_of_heap c.self.inside.memory c.load_usable_bytes-range.new.memory c.self.inside.table c.self.inside.state.state ledger c.take_back.new.ledger.name
+              28 left name c.args.self.now c.self.view_is (home_of c.load_usable_bytes-range.new.memory) refl c.hand_over-payload-2.result.identity e.over.identity;
+          requested = e.over.align ∙ c.align-align.ensures;
+          made = s.resized;
+          here = s.here;
+        };
+        start = there g c;
+        aligns = aligns_stay v.seen (there g c)
+            (live_view c.self.inside.state.state (back g (done g c)) c.args.self.now c.self.view_is c.args.payload (is_view c.args.payload));
+      };
+      bounds = record { sized = v.bounds; count = v.count };
       refused = tt;
-      unchanged = tt;
-      raw = stayed_raw g c;
-      spare = stayed_spare g c;
-      heap = record { identity = o.identity; place = o.place; settled = s.settled; bounds = v.bounds; chunks = v.chunks; grow = o.grow };
-      count = v.count;
+      frame = record {
+        heap = record { identity = o.identity; place = o.place; spare = stayed_spare g c; grow = o.grow };
+        bytes = record { raw = stayed_raw g c; settled = s.settled };
+        chunks = v.chunks;
+        copied = e.over.copied ∙ ap (λ (o : Space). o.copied) c.load_usable_bytes-range.ensures.memory ∙ copied_before g (done g c);
+      };
       touches = o.touches;
-      copied = e.over.copied ∙ ap (λ (o : Space). o.copied) c.load_usable_bytes-range.ensures.memory ∙ copied_before g (done g c);
     }
 
 -- ---- no layout has the size
@@ -343,21 +349,14 @@ returns-in_default g c =
           (Steps-arrived c.self.invariant.stands c.self.inside.state.state (sym (bare-kept c.self.invariant)) c.self.inside.ledger.name
           (λ t. IsLayout c.args.size c.args.payload.align → ReallocatesWithoutMove (owned_by c.args.self.now.state c.args.payload) c.args.payload.start c.args.size None t)
           (λ fits. absurd (none fits)));
-      layout = λ ok. absurd (false≢true ok);
-      payload = c.requires.identity;
-      align = refl;
-      there = refl;
-      resized = tt;
-      here = tt;
-      shrunk = tt;
-      written = λ settled. tt;
-      aligns = refl;
-      refused = returned_same c.args.self.now c.args.payload c.requires.written;
-      unchanged = beside-none c.args.self.now (payload_range c.args.payload);
-      raw = none_raw-none c.args.self.now;
-      spare = spare-none c.args.self.now;
-      heap = kept_same g.row.SLLEN c.args.size c.args.payload.align c.args.self.now;
-      count = refl;
+      result = tt;
+      bounds = record { sized = λ count most wide sized short fits. sized; count = refl };
+      refused = record {
+        identity = c.requires.identity;
+        requested = refl;
+        returned = returned_same c.args.self.now c.args.payload c.requires.written;
+        unchanged = beside-none c.args.self.now (payload_range c.args.payload);
+      };
+      frame = frame_same c.args.self.now;
       touches = omega arith;
-      copied = refl;
     }

@@ -1,20 +1,20 @@
-use Rattle.std.proofs.Common.{◌≡◌, ◌≤◌, ℕ, false, true, Some, None, true≢false, arith, refl, sym, ap, ◌∙◌}
+use Rattle.std.proofs.Common.{◌≡◌, ◌≤◌, ℕ, false, true, Some, None, arith, refl, sym, ap, ◌∙◌}
 use Rattle.rlsf_base.specs.Layout.{IsLayout}
 use Rattle.rlsf_model.specs.Reallocate.{Reallocates}
 use Rattle.rlsf_model.specs.Sized.{IsSizedFor, live_count}
-use Rattle.rlsf_heap.specs.Heap.{HeapView, PayloadView, payload_range}
-use Rattle.rlsf_heap.specs.Kept.{KeepsBytesBeside}
-use Rattle.rlsf_heap.specs.Replies.{CopiesToMove, IsReallocated, IsReturned, LeavesOthers}
-use Rattle.rlsf_heap.proofs.Found.{IsFound, as_found, beside_found, found, heap_found, here_found, raw_found, spare_found, step_found, thin_found}
+use Rattle.rlsf_heap.specs.Heap.{HeapView, PayloadView}
+use Rattle.rlsf_heap.specs.Replies.{LeavesOthers}
+use Rattle.rlsf_heap.proofs.Found.{IsFound, as_found, bytes_found, heap_found, refused_found, resized_found, sized_found, step_found}
+use Rattle.rlsf_heap.specs.Frame.{CopiesToMove}
 use Rattle.rlsf_heap.proofs.heap.Heap.reallocate_thin.Goals as goal
 
 pub into_thin-requires : goal.into_thin-requires
-into_thin-requires g c = c.in-Ok.ensures.others.some
+into_thin-requires g c = c.in-Ok.ensures.result.others.some
 
 pub into_thin-requires-in-Err : goal.into_thin-requires-in-Err
 into_thin-requires-in-Err g c = λ none.
     c.requires.some.1 (sym c.requires.some.0 ∙ ap (λ (o : PayloadView). o.start) (sym c.find_payload-payload.ensures.payload)
-    ∙ sym c.in-Err.ensures.refused.start ∙ none)
+    ∙ sym c.in-Err.ensures.refused.returned.start ∙ none)
 
 pub returns-in-Ok : goal.returns-in-Ok
 returns-in-Ok g c =
@@ -27,20 +27,24 @@ returns-in-Ok g c =
     record {
       step = step_found f g.row.FLLEN g.row.SLLEN new c.args.size (λ s addr to t. Reallocates g.row.SLLEN s addr c.args.size to t) (Some c.in-Ok.payload.start)
           (Some c.into_thin.result.of.start) (ap (λ (o : PayloadView). Some o.start) (sym thin)) e.step;
-      layout = λ ok. as_now (λ v from addr align to. IsLayout c.args.size align) (e.layout refl);
+      result = record {
+        at = c.into_thin.ensures.0 ∙ ap (λ (o : PayloadView). o.start) (sym thin);
+        of = record {
+          layout = as_now (λ v from addr align to. IsLayout c.args.size align) e.result.layout;
+          resized = resized_found f c.args.size new c.in-Ok.payload c.into_thin.result.of thin e.result.resized;
+          others = as_now (λ v from addr align to. LeavesOthers v.state new.state addr to.start) e.result.others;
+        };
+      };
       room = λ count most wide sized few short fits is. refl;
-      thin = thin_found f c.in-Ok.payload c.into_thin.result c.into_thin.ensures e.payload e.align;
-      payload = as_now (λ v from addr align to. IsReallocated new.state from c.args.size align to) e.resized;
-      here = here_found f c.in-Ok.payload c.into_thin.result.of thin (record { here = e.here; shrunk = e.shrunk; written = e.written });
-      others = as_now (λ v from addr align to. LeavesOthers v.state new.state addr to.start) e.others;
+      bounds = sized_found f g.row.SLLEN c.args.size new e.bounds;
       refused = tt;
-      unchanged = tt;
-      raw = raw_found c.args.self.now c.find_payload-payload.new.self new f.heap e.raw;
-      spare = spare_found c.args.self.now c.find_payload-payload.new.self new f.heap e.spare;
-      heap = heap_found f g.row.SLLEN c.args.size new e.heap;
-      count = e.count ∙ ap (λ (v : HeapView). live_count v.state) f.heap;
+      frame = record {
+        heap = heap_found c.args.self.now c.find_payload-payload.new.self new f.heap e.frame.heap;
+        bytes = bytes_found c.args.self.now c.find_payload-payload.new.self new f.heap e.frame.bytes;
+        chunks = e.frame.chunks ∙ ap (λ (v : HeapView). v.state.chunks) f.heap;
+        copied = as_now (λ v from addr align to. CopiesToMove v.state from addr c.args.size v.memory.copied new.memory.copied) e.frame.copied;
+      };
       touches = omega (arith, e.touches, ap (λ (v : HeapView). v.memory.touches) f.heap);
-      copied = as_now (λ v from addr align to. CopiesToMove v.state from addr c.args.size v.memory.copied new.memory.copied) e.copied;
     }
 
 pub returns-in-Err : goal.returns-in-Err
@@ -53,21 +57,19 @@ returns-in-Err g c =
     let as_now = as_found f c.in-Err.payload c.into_thin-in-Err.result.of thin in
     record {
       step = step_found f g.row.FLLEN g.row.SLLEN new c.args.size (λ s addr to t. Reallocates g.row.SLLEN s addr c.args.size to t) None None refl e.step;
-      layout = λ ok. absurd (true≢false (sym ok));
+      result = tt;
       room = as_now (λ v from addr align to. (count most wide : ℕ) → IsSizedFor g.row.SLLEN count most wide v.state → live_count v.state ≤ count → c.args.size ≤ most
           → align ≤ wide → IsLayout c.args.size align → false ≡ true) e.room;
-      thin = thin_found f c.in-Err.payload c.into_thin-in-Err.result c.into_thin-in-Err.ensures e.payload e.align;
-      payload = tt;
-      here = tt;
-      others = tt;
-      refused = as_now (λ v from addr align to. IsReturned v.state new.state addr from to) e.refused;
-      unchanged =
-          beside_found c.args.self.now (found c.args.self.now) new refl (payload_range c.args.payload.of)
-          (as_now (λ v from addr align to. KeepsBytesBeside v new (payload_range from)) e.unchanged);
-      raw = raw_found c.args.self.now c.find_payload-payload.new.self new f.heap e.raw;
-      spare = spare_found c.args.self.now c.find_payload-payload.new.self new f.heap e.spare;
-      heap = heap_found f g.row.SLLEN c.args.size new e.heap;
-      count = e.count ∙ ap (λ (v : HeapView). live_count v.state) f.heap;
+      bounds = sized_found f g.row.SLLEN c.args.size new e.bounds;
+      refused = record {
+        at = c.into_thin-in-Err.ensures.0 ∙ ap (λ (o : PayloadView). o.start) (sym thin);
+        of = refused_found f new c.in-Err.payload c.into_thin-in-Err.result.of thin e.refused;
+      };
+      frame = record {
+        heap = heap_found c.args.self.now c.find_payload-payload.new.self new f.heap e.frame.heap;
+        bytes = bytes_found c.args.self.now c.find_payload-payload.new.self new f.heap e.frame.bytes;
+        chunks = e.frame.chunks ∙ ap (λ (v : HeapView). v.state.chunks) f.heap;
+        copied = as_now (λ v from addr align to. CopiesToMove v.state from addr c.args.size v.memory.copied new.memory.copied) e.frame.copied;
+      };
       touches = omega (arith, e.touches, ap (λ (v : HeapView). v.memory.touches) f.heap);
-      copied = as_now (λ v from addr align to. CopiesToMove v.state from addr c.args.size v.memory.copied new.memory.copied) e.copied;
     }

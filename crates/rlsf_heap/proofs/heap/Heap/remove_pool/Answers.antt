@@ -1,8 +1,10 @@
 use Rattle.std.proofs.Common.{◌≡◌, arith, refl, sym, ◌∙◌, ap, subst}
 use Rattle.rlsf_base.specs.Space.{range_of}
+use Rattle.rlsf_model.specs.Callers.{align_at}
 use Rattle.rlsf_model.specs.ChunkRows.{IsRow}
 use Rattle.rlsf_model.specs.Remove.{IsIdle, Removes, removed}
 use Rattle.rlsf_model.specs.Run.{remove}
+use Rattle.rlsf_model.specs.Sized.{live_count}
 use Rattle.rlsf_model.specs.State.{State}
 use Rattle.rlsf_model.specs.WellFormed.{IsWellFormed}
 use Rattle.rlsf_model.proofs.CallerWords.{same_seen}
@@ -16,7 +18,10 @@ use Rattle.rlsf_blocks.specs.StandsFor.{contents, StandsFor}
 use Rattle.rlsf_blocks.specs.Steps.Removal.{AreRemoved}
 use Rattle.rlsf_tlsf.specs.Steps.Moves.{bare}
 use Rattle.rlsf_tlsf.proofs.Removed.{IsRemovable-row, untouched_gone, untouched_removed}
-use Rattle.rlsf_heap.specs.Heap.{HeapView}
+use Rattle.rlsf_heap.specs.Heap.{HeapView, heap_view}
+use Rattle.rlsf_heap.specs.Kept.{KeepsSpareBytes, NoneBecomesRaw}
+use Rattle.rlsf_heap.specs.Settled.{IsSettled}
+use Rattle.rlsf_heap.proofs.Costs.{Leaves, sees_left}
 use Rattle.rlsf_heap.proofs.Arrivals.{IsHeap-arrived, Steps-arrived, bare-kept, stepped, view_well_formed}
 use Rattle.rlsf_heap.proofs.Kept.{none_raw-seen, raw-stays, spare-seen}
 use Rattle.rlsf_heap.proofs.LiveCounts.{live_count-same}
@@ -72,14 +77,15 @@ well g c = view_well_formed c.self.invariant c.args.self.now c.self.view_is
 pub returns-clause-step : goal.returns-clause-step
 returns-clause-step g c = Steps-arrived (standing g c) c.remove.new.self.state (kept g c) c.self.inside.ledger.name (Removes c.args.self.now.state (walked c.args.range)) (did g c)
 
-pub returns-clause-settled : goal.returns-clause-settled
-returns-clause-settled g c = λ settled.
+settled_stays : (g : given.Over) (c : After-remove g) → IsSettled c.args.self.now.memory → IsSettled c.remove_chunks.new.memory
+settled_stays g c settled =
     let e = c.remove_chunks.ensures in
     let stays : Stays c.self.inside.memory c.remove_chunks.new.memory = record { start = e.place.0; own = e.own; here = e.here } in
     settled-stays stays (settled-inside c.self.inside.state.state c.args.self.now c.self.view_is settled)
 
-pub returns-clause-raw : goal.returns-clause-raw
-returns-clause-raw g c =
+none_raw : (g : given.Over) (c : After-remove g) → NoneBecomesRaw c.args.self.now
+    (heap_view c.remove_chunks.new.memory c.remove_chunks.new.table c.remove.new.self.state c.self.inside.ledger.name)
+none_raw g c =
     let e = c.remove_chunks.ensures in
     let stays : Stays c.self.inside.memory c.remove_chunks.new.memory = record { start = e.place.0; own = e.own; here = e.here } in
     none_raw-seen c.self.inside.memory c.remove_chunks.new.memory c.self.inside.state.state c.remove.new.self.state c.args.self.now c.self.view_is
@@ -88,19 +94,34 @@ returns-clause-raw g c =
 pub returns-clause-untouched : goal.returns-clause-untouched
 returns-clause-untouched g c = untouched_removed (well g c) (walked c.args.range) c.requires.row c.requires.idle (now g c) (did g c)
 
-pub returns-clause-gone : goal.returns-clause-gone
-returns-clause-gone g c = untouched_gone (well g c) (walked c.args.range) c.requires.row c.requires.idle (now g c) (did g c)
+pub returns-clause-result : goal.returns-clause-result
+returns-clause-result g c = untouched_gone (well g c) (walked c.args.range) c.requires.row c.requires.idle (now g c) (did g c)
 
-pub returns-clause-aligns : goal.returns-clause-aligns
-returns-clause-aligns g c = (same_seen c.args.self.now.state (now g c)
+same_aligns : (g : given.Over) (c : After-remove g) → align_at (now g c) ≡ align_at c.args.self.now.state
+same_aligns g c = (same_seen c.args.self.now.state (now g c)
     (callers_see_map g.row.FLLEN g.row.SLLEN (range_of c.args.self.now.memory) c.args.self.now.state (now g c) (remove (walked c.args.range)) (well g c)
     (IsRemovable-row (well g c) (walked c.args.range) c.requires.row c.requires.idle) (did g c))).aligns
 
-pub returns-clause-count : goal.returns-clause-count
-returns-clause-count g c = count_removed (well g c) (now g c) (walked c.args.range) (IsRemovable-row (well g c) (walked c.args.range) c.requires.row c.requires.idle) (did g c)
+same_count : (g : given.Over) (c : After-remove g) → live_count (now g c) ≡ live_count c.args.self.now.state
+same_count g c = count_removed (well g c) (now g c) (walked c.args.range) (IsRemovable-row (well g c) (walked c.args.range) c.requires.row c.requires.idle) (did g c)
 
-pub returns-clause-spare : goal.returns-clause-spare
-returns-clause-spare g c =
+spare : (g : given.Over) (c : After-remove g) → KeepsSpareBytes c.args.self.now
+    (heap_view c.remove_chunks.new.memory c.remove_chunks.new.table c.remove.new.self.state c.self.inside.ledger.name)
+spare g c =
     spare-seen c.self.inside.memory c.remove_chunks.new.memory (before g c) (after g c) (λ a from to here there. (removing g c).1 a from to here here)
     c.self.inside.state.state c.remove.new.self.state refl (sym (ap (λ (s : State). s.chunks) (kept g c))) c.args.self.now c.self.view_is c.remove_chunks.new.table
     c.self.inside.ledger.name
+
+pub returns-clause-frame : goal.returns-clause-frame
+returns-clause-frame g c =
+    let e = c.remove_chunks.ensures in
+    let left : Leaves c.self.inside.memory c.remove_chunks.new.memory c.remove_chunks.new.memory.touches =
+    record { start = e.place.0; length = e.place.1; view = e.place.2; touches = omega arith; grow = e.grow } in
+    let o = sees_left c.self.inside.memory c.remove_chunks.new.memory c.self.inside.table c.remove_chunks.new.table c.self.inside.state.state
+    c.remove.new.self.state c.self.inside.ledger.name c.self.inside.ledger.name _ left refl c.args.self.now c.self.view_is in record {
+      heap = record { identity = o.identity; place = o.place; spare = spare g c; grow = o.grow };
+      bytes = record { raw = none_raw g c; settled = settled_stays g c };
+      aligns = same_aligns g c;
+      count = same_count g c;
+      copied = omega (arith, e.copied, ap (λ (v : HeapView). v.memory.copied) c.self.view_is);
+    }

@@ -219,73 +219,75 @@ invariant_of-self g c = IsHeap-arrived (still g c) c.self.inside.state.state (ke
 
 pub returns-then-not-resize_found : goal.returns-then-not-resize_found
 returns-then-not-resize_found g c =
-    let d = early g c in
-    let b = back_in g d in
-    let k = c.self.inside.state.state in
-    let view = c.self.view_is in
-    let old = c.args.self.now in
-    let pay = c.args.payload.of in
-    let e = c.take_out-same.ensures in
+    let d = early g c in let b = back_in g d in let k = c.self.inside.state.state in let view = c.self.view_is in let old = c.args.self.now in
+    let pay = c.args.payload.of in let e = c.take_out-same.ensures in
     let start : c.from_parts.result.of.start ≡ c.args.addr =
     ap (λ (o : PayloadView). o.start) c.from_parts.ensures.1 ∙ e.part.1 ∙ ap (λ (r : Range). r.start) (ranged g d) ∙ sym (at g d) in
     record {
-      step =
-          Steps-arrived (still g c) k (kept_still g c) c.checked-payload.new.ledger.name
+      step = Steps-arrived (still g c) k (kept_still g c) c.checked-payload.new.ledger.name
           (ReallocatesWithoutMove (owned_by old.state pay) c.args.addr c.args.layout.size None)
           (subst (λ (x : ℕ × State). ReallocatesWithoutMove (owned_by old.state pay) x.0 c.args.layout.size None x.1) (λ i. (c.requires.some.0 i, sym (same_state g c) i))
           (stayed_view k b old view pay (is g d) (unmoved_refused b refl (no_plan g c))));
-      identity =
-          identity_seen (placed g c) k old view (home_of c.take_out-same.new.self) c.checked-payload.new.ledger.name refl
-          (ap (λ (l : Ledger). l.name) c.checked-payload.ensures.ledger);
-      place = place_seen (placed g c) k old view;
-      at = c.from_parts.ensures.0 ∙ sym start;
-      payload =
-          ap (λ (o : PayloadView). o.identity) c.from_parts.ensures.1
-          ∙ identity_seen (placed g c) k old view c.take_out-same.result.home c.into_parts.result.1.name (e.part.0 ∙ sym (home-in_place (taken g c)))
-          (names g d ∙ ap (λ (l : Ledger). l.name) c.checked-payload.ensures.ledger);
-      align = ap (λ (o : PayloadView). o.align) c.from_parts.ensures.1 ∙ (ticket_for g d).3;
-      there = start;
-      back = (
-        ap (λ (o : PayloadView). o.bytes) c.from_parts.ensures.1 ∙ e.part.2 ∙ same_bytes b (unchanged g c) c.load_usable_bytes-was.result (ranged g d)
-            ∙ ap (λ (q : Piece). q.bytes) (one g d),
-        subst (λ (o : PayloadView). IsWritten o) (sym c.from_parts.ensures.1)
-            (e.full (subst (IsHere c.resize_found.new.memory) (sym (ranged g d)) (here_still b refl refl (refused_stays g c)))),
-      );
-      live = subst (λ a. align_at old.state a ≡ Some pay.align) c.requires.some.0 (live_view k b old view pay (is g d));
-      resized = tt;
-      here = tt;
-      shrunk = tt;
-      written = λ settled. tt;
-      settled = λ settled.
-          settled-left c.resize_found.new.memory c.take_out-same.new.self c.load_usable_bytes-was.result e.start
-          (omega (arith, low g d, ap (λ (r : Range). r.start) (ranged g d), (refused_stays g c).start)) e.out (settled-stays (refused_stays g c) (settled_in g d settled));
-      aligns = aligns_view k b old view pay (is g d) (same_now g c) (same_state g c);
-      count = count_view k b old view pay (is g d) (same_now g c) (same_state g c);
-      bounds = λ count most wide sized short fits. sized_view k b old view pay (is g d) (same_now g c) (same_state g c) count most wide sized;
-      same_bounds = λ count most wide sized. sized_view k b old view pay (is g d) (same_now g c) (same_state g c) count most wide sized;
-      chunks = ap (λ (v : HeapView). v.state.chunks) view;
-      same = alike_view k b old view pay (is g d) (same_now g c) (same_state g c);
-      unchanged =
-          beside-seen c.self.inside.memory c.take_out-same.new.self k k old view c.resize_found.new.table c.checked-payload.new.ledger.name (payload_range pay)
-          (same_beside b (unchanged g c) c.load_usable_bytes-was.result (ranged g d) c.take_out-same.new.self e.start e.bytes (payload_range pay) (ap piece_range (one g d)));
-      raw =
-          none_raw-seen c.self.inside.memory c.take_out-same.new.self k k old view c.resize_found.new.table c.checked-payload.new.ledger.name
-          (back_raw b (refused_stays g c) c.take_out-same.new.self c.load_usable_bytes-was.result e.start
-          (same_lies b (unchanged g c) c.load_usable_bytes-was.result (ranged g d)).0 e.out);
-      spare =
-          spare-seen c.self.inside.memory c.take_out-same.new.self (read_from c.self.inside.memory k) (state b)
-          (same_spare b (unchanged g c) c.load_usable_bytes-was.result (ranged g d) c.take_out-same.new.self e.start e.bytes) k k refl refl old view _ _;
-      enough = λ long.
-          absurd (omega (arith, long, unplanned-short b c.args.layout.size (no_plan g c), ap (λ (q : Piece). length q.bytes) (one g d)));
-      stays = λ room.
-          let (q, some) = room_view k b old view pay (is g d) c.args.layout.size
-          (subst (λ a. HasRoomToStay old.state a c.args.layout.size) (sym c.requires.some.0) room) in
-          let none = no_plan g c in
-          absurd (cc);
+      result = tt;
+      room = record {
+        enough = λ long.
+            absurd (omega (arith, long, unplanned-short b c.args.layout.size (no_plan g c), ap (λ (q : Piece). length q.bytes) (one g d)));
+        stays = λ room.
+            let (q, some) = room_view k b old view pay (is g d) c.args.layout.size
+            (subst (λ a. HasRoomToStay old.state a c.args.layout.size) (sym c.requires.some.0) room) in
+            let none = no_plan g c in
+            absurd (cc);
+      };
+      bounds = record {
+        sized = λ count most wide sized short fits. sized_view k b old view pay (is g d) (same_now g c) (same_state g c) count most wide sized;
+        count = count_view k b old view pay (is g d) (same_now g c) (same_state g c);
+      };
+      refused = record {
+        at = c.from_parts.ensures.0 ∙ sym start;
+        of = record {
+          refused = record {
+            identity = ap (λ (o : PayloadView). o.identity) c.from_parts.ensures.1
+                ∙ identity_seen (placed g c) k old view c.take_out-same.result.home c.into_parts.result.1.name (e.part.0 ∙ sym (home-in_place (taken g c)))
+                (names g d ∙ ap (λ (l : Ledger). l.name) c.checked-payload.ensures.ledger);
+            requested = ap (λ (o : PayloadView). o.align) c.from_parts.ensures.1 ∙ (ticket_for g d).3;
+            returned = record {
+              start = start;
+              bytes = ap (λ (o : PayloadView). o.bytes) c.from_parts.ensures.1 ∙ e.part.2 ∙ same_bytes b (unchanged g c) c.load_usable_bytes-was.result (ranged g d)
+                  ∙ ap (λ (q : Piece). q.bytes) (one g d);
+              written = subst (λ (o : PayloadView). IsWritten o) (sym c.from_parts.ensures.1)
+                  (e.full (subst (IsHere c.resize_found.new.memory) (sym (ranged g d)) (here_still b refl refl (refused_stays g c))));
+              alike = alike_view k b old view pay (is g d) (same_now g c) (same_state g c);
+              aligns = aligns_view k b old view pay (is g d) (same_now g c) (same_state g c);
+            };
+            unchanged = beside-seen c.self.inside.memory c.take_out-same.new.self k k old view c.resize_found.new.table c.checked-payload.new.ledger.name (payload_range pay)
+                (same_beside b (unchanged g c) c.load_usable_bytes-was.result (ranged g d) c.take_out-same.new.self e.start e.bytes (payload_range pay) (ap piece_range (one g d)));
+          };
+          live = subst (λ a. align_at old.state a ≡ Some pay.align) c.requires.some.0 (live_view k b old view pay (is g d));
+          sized = λ count most wide sized. sized_view k b old view pay (is g d) (same_now g c) (same_state g c) count most wide sized;
+          touches = touches_seen (placed g c) k old view;
+        };
+      };
+      frame = record {
+        heap = record {
+          identity = identity_seen (placed g c) k old view (home_of c.take_out-same.new.self) c.checked-payload.new.ledger.name refl
+              (ap (λ (l : Ledger). l.name) c.checked-payload.ensures.ledger);
+          place = place_seen (placed g c) k old view;
+          spare = spare-seen c.self.inside.memory c.take_out-same.new.self (read_from c.self.inside.memory k) (state b)
+              (same_spare b (unchanged g c) c.load_usable_bytes-was.result (ranged g d) c.take_out-same.new.self e.start e.bytes) k k refl refl old view _ _;
+          grow = grow_seen (placed g c) k old view;
+        };
+        bytes = record {
+          raw = none_raw-seen c.self.inside.memory c.take_out-same.new.self k k old view c.resize_found.new.table c.checked-payload.new.ledger.name
+              (back_raw b (refused_stays g c) c.take_out-same.new.self c.load_usable_bytes-was.result e.start
+              (same_lies b (unchanged g c) c.load_usable_bytes-was.result (ranged g d)).0 e.out);
+          settled = λ settled.
+              settled-left c.resize_found.new.memory c.take_out-same.new.self c.load_usable_bytes-was.result e.start
+              (omega (arith, low g d, ap (λ (r : Range). r.start) (ranged g d), (refused_stays g c).start)) e.out (settled-stays (refused_stays g c) (settled_in g d settled));
+        };
+        chunks = ap (λ (v : HeapView). v.state.chunks) view;
+        copied = copied_seen (placed g c) k old view;
+      };
       touches = omega (arith, touches_seen (placed g c) k old view);
-      few_touches = touches_seen (placed g c) k old view;
-      grow = grow_seen (placed g c) k old view;
-      copied = copied_seen (placed g c) k old view;
     }
 
 -- ---- the payload has the new size
@@ -424,13 +426,8 @@ invariant_of-self-2 g c = IsHeap-arrived (standing g c) c.reallocate.new.self.st
 
 pub returns : goal.returns
 returns g c =
-    let d = before g c in
-    let view = c.self.view_is in
-    let old = c.args.self.now in
-    let pay = c.args.payload.of in
-    let size = c.args.layout.size in
-    let e = c.take_out-resized.ensures in
-    let t = ticket_for g d in
+    let d = before g c in let view = c.self.view_is in let old = c.args.self.now in let pay = c.args.payload.of in let size = c.args.layout.size in
+    let e = c.take_out-resized.ensures in let t = ticket_for g d in
     let u = c.renewed-ticket.ensures.ticket in
     let q = c.take_out-resized.result in
     let of = sym c.from_parts-2.ensures.1 in
@@ -441,59 +438,61 @@ returns g c =
     let wide : c.renewed-ticket.result.align ≡ pay.align = u.3 ∙ t.3 in
     let start : q.start ≡ c.args.addr = there g c ∙ c.requires.some.0 in
     record {
-      step =
-          subst (λ (o : PayloadView). Steps g.row.FLLEN g.row.SLLEN (heap_view c.take_out-resized.new.self c.resize_found.new.table c.reallocate.new.self.state
+      step = subst (λ (o : PayloadView). Steps g.row.FLLEN g.row.SLLEN (heap_view c.take_out-resized.new.self c.resize_found.new.table c.reallocate.new.self.state
           c.renewed-ticket.new.ledger.name)
           (ReallocatesWithoutMove (owned_by old.state pay) c.args.addr size (Some o.start))) of
           (Steps-arrived (standing g c) c.reallocate.new.self.state (kept g c) c.renewed-ticket.new.ledger.name
           (ReallocatesWithoutMove (owned_by old.state pay) c.args.addr size (Some q.start))
           (subst (λ a. ReallocatesWithoutMove (owned_by old.state pay) a size (Some q.start) (now g c)) c.requires.some.0 (did g c)));
-      identity =
-          identity_seen (placed_now g c) k old view (home_of c.take_out-resized.new.self) c.renewed-ticket.new.ledger.name refl
-          (c.renewed-ticket.ensures.ledger.0 ∙ ap (λ (l : Ledger). l.name) c.checked-payload.ensures.ledger);
-      place = place_seen (placed_now g c) k old view;
-      at = c.from_parts-2.ensures.0 ∙ sym start ∙ ap (λ (o : PayloadView). o.start) of;
-      payload =
-          ap (λ (o : PayloadView). o.identity) c.from_parts-2.ensures.1
-          ∙ identity_seen (placed_now g c) k old view q.home c.renewed-ticket.result.name (e.part.0 ∙ sym (home-in_place (taken_out g c)))
-          (u.0 ∙ names g d ∙ ap (λ (l : Ledger). l.name) c.checked-payload.ensures.ledger);
-      align = ap (λ (o : PayloadView). o.align) c.from_parts-2.ensures.1 ∙ wide;
-      there = ap (λ (o : PayloadView). o.start) c.from_parts-2.ensures.1 ∙ start;
-      back = tt;
-      live = subst (λ a. align_at old.state a ≡ Some pay.align) c.requires.some.0 alive;
-      resized =
-          subst (IsReallocated (now g c) pay size pay.align) of (record {
-            live = seen.live;
-            long = ap length bytes;
-            aligned = (sees g c).aligned;
-            sized = subst (λ (l : List ℕ). size ≤ length l) (sym bytes) seen.sized;
-            few = subst (λ (l : List ℕ). length l < size + 32) (sym bytes) seen.few;
-            kept = subst (Keeps pay.bytes) (sym bytes) seen.kept;
-            each = Keeps-each pay.bytes q.bytes (subst (Keeps pay.bytes) (sym bytes) seen.kept);
-          });
-      here = subst (IsKeptHere pay) of (λ k low high. kept_here g c k (omega (arith, high)) (omega (arith, high)));
-      shrunk =
-          subst (λ (o : PayloadView). length o.bytes ≤ length pay.bytes → IsWritten o) of
-          (λ shorter k low high. kept_here g c k (omega (arith, high, shorter)) (omega (arith, high)));
-      written = λ settled. subst IsWritten of (e.full (fresh_settled (w g c) (across g c) (settled_in g d settled)));
-      settled = λ settled. settled_without (w g c) (across g c) c.take_out-resized.new.self e.start e.out (settled_in g d settled);
-      aligns = aligns_stay seen (there g c) alive;
-      count = (sees g c).count;
-      bounds = (sees g c).bounds;
-      same_bounds = tt;
-      chunks = (sees g c).chunks;
-      same = tt;
-      unchanged = tt;
-      raw = none_raw-seen c.self.inside.memory c.take_out-resized.new.self k c.reallocate.new.self.state old view c.resize_found.new.table c.renewed-ticket.new.ledger.name
-          (fresh_raw (w g c) (across g c) c.take_out-resized.new.self e.start e.out);
-      spare =
-          spare-seen c.self.inside.memory c.take_out-resized.new.self (read_from c.self.inside.memory k) (now_has (w g c))
-          (fresh_spare (w g c) c.take_out-resized.new.self e.start e.bytes e.out) k c.reallocate.new.self.state refl (sym (ap (λ (z : State). z.chunks) (kept g c))) old view
-          c.resize_found.new.table c.renewed-ticket.new.ledger.name;
-      enough = λ long. refl;
-      stays = λ room. refl;
+      result = record {
+        at = c.from_parts-2.ensures.0 ∙ sym start ∙ ap (λ (o : PayloadView). o.start) of;
+        of = record {
+          resized = record {
+            identity = ap (λ (o : PayloadView). o.identity) c.from_parts-2.ensures.1
+                ∙ identity_seen (placed_now g c) k old view q.home c.renewed-ticket.result.name (e.part.0 ∙ sym (home-in_place (taken_out g c)))
+                (u.0 ∙ names g d ∙ ap (λ (l : Ledger). l.name) c.checked-payload.ensures.ledger);
+            requested = ap (λ (o : PayloadView). o.align) c.from_parts-2.ensures.1 ∙ wide;
+            made = subst (IsReallocated (now g c) pay size pay.align) of (record {
+              live = seen.live;
+              long = ap length bytes;
+              aligned = (sees g c).aligned;
+              sized = subst (λ (l : List ℕ). size ≤ length l) (sym bytes) seen.sized;
+              few = subst (λ (l : List ℕ). length l < size + 32) (sym bytes) seen.few;
+              kept = subst (Keeps pay.bytes) (sym bytes) seen.kept;
+              each = Keeps-each pay.bytes q.bytes (subst (Keeps pay.bytes) (sym bytes) seen.kept);
+            });
+            here = record {
+              here = subst (IsKeptHere pay) of (λ k low high. kept_here g c k (omega (arith, high)) (omega (arith, high)));
+              shrunk = subst (λ (o : PayloadView). length o.bytes ≤ length pay.bytes → IsWritten o) of
+                  (λ shorter k low high. kept_here g c k (omega (arith, high, shorter)) (omega (arith, high)));
+              written = λ settled. subst IsWritten of (e.full (fresh_settled (w g c) (across g c) (settled_in g d settled)));
+            };
+          };
+          start = ap (λ (o : PayloadView). o.start) c.from_parts-2.ensures.1 ∙ start;
+          live = subst (λ a. align_at old.state a ≡ Some pay.align) c.requires.some.0 alive;
+          aligns = aligns_stay seen (there g c) alive;
+        };
+      };
+      room = record { enough = λ long. refl; stays = λ room. refl };
+      bounds = record { sized = (sees g c).bounds; count = (sees g c).count };
+      refused = tt;
+      frame = record {
+        heap = record {
+          identity = identity_seen (placed_now g c) k old view (home_of c.take_out-resized.new.self) c.renewed-ticket.new.ledger.name refl
+              (c.renewed-ticket.ensures.ledger.0 ∙ ap (λ (l : Ledger). l.name) c.checked-payload.ensures.ledger);
+          place = place_seen (placed_now g c) k old view;
+          spare = spare-seen c.self.inside.memory c.take_out-resized.new.self (read_from c.self.inside.memory k) (now_has (w g c))
+              (fresh_spare (w g c) c.take_out-resized.new.self e.start e.bytes e.out) k c.reallocate.new.self.state refl (sym (ap (λ (z : State). z.chunks) (kept g c))) old view
+              c.resize_found.new.table c.renewed-ticket.new.ledger.name;
+          grow = grow_seen (placed_now g c) k old view;
+        };
+        bytes = record {
+          raw = none_raw-seen c.self.inside.memory c.take_out-resized.new.self k c.reallocate.new.self.state old view c.resize_found.new.table c.renewed-ticket.new.ledger.name
+              (fresh_raw (w g c) (across g c) c.take_out-resized.new.self e.start e.out);
+          settled = λ settled. settled_without (w g c) (across g c) c.take_out-resized.new.self e.start e.out (settled_in g d settled);
+        };
+        chunks = (sees g c).chunks;
+        copied = copied_seen (placed_now g c) k old view;
+      };
       touches = touches_seen (placed_now g c) k old view;
-      few_touches = tt;
-      grow = grow_seen (placed_now g c) k old view;
-      copied = copied_seen (placed_now g c) k old view;
     }

@@ -94,15 +94,8 @@ viewed g d =
 
 pub overflow_add-start : goal.overflow_add-start
 overflow_add-start g c =
-    let d = (goal.at.overflow_add-start g c).After-put_unit_tail-block in
-    record {
-      fits = omega (
-        arith,
-        at g d,
-        tails.start-fits d.self.invariant.stands d.self.invariant.tickets d.args.tail.key d.args.tail.start d.args.tail.len
-            d.put_unit_tail-block.ensures.issued,
-      );
-    }
+    let d = (goal.at.overflow_add-start g c).After-put_unit_tail-block in let is = d.self.invariant in let t = d.args.tail in
+    record { fits = omega (arith, at g d, tails.start-fits is.stands is.tickets t.key t.start t.len d.put_unit_tail-block.ensures.issued) }
 
 pub resize_kept_block-requires : goal.resize_kept_block-requires
 resize_kept_block-requires g c =
@@ -204,9 +197,7 @@ left g d =
 
 pub returns-then-not-resize_kept_block : goal.returns-then-not-resize_kept_block
 returns-then-not-resize_kept_block g c =
-    let k = c.self.inside.state.state in
-    let e = c.take_unit_tail.ensures in
-    let put = c.put_unit_tail-block.ensures in
+    let k = c.self.inside.state.state in let e = c.take_unit_tail.ensures in let put = c.put_unit_tail-block.ensures in
     let costs = c.resize_kept_block.ensures.costs in
     let first = left_then (left g (put-of g c)) (left_costs costs) in
     let o = sees_left c.self.inside.memory c.take_unit_tail.new.self c.self.inside.table c.resize_kept_block.new.table k k c.self.inside.ledger.name
@@ -227,42 +218,51 @@ returns-then-not-resize_kept_block g c =
           (ReallocatesWithoutMove c.args.self.now.state c.args.tail.start c.args.size None)
           (stepped (stood g c) c.self.inside.state.state (bared g c) c.self.inside.memory c.self.inside.state.state c.args.self.now c.self.view_is
           (λ o t. ReallocatesWithoutMove o c.args.tail.start c.args.size None t) step);
-      identity = o.identity;
-      place = o.place;
-      heap = is_of_heap c.self.inside.memory c.resize_kept_block.new.memory c.self.inside.table k c.self.inside.ledger.name c.issue-ticket.result.name 25 first
-          (c.issue-ticket.ensures.name.0 ∙ put.ledger.0) c.args.self.now c.self.view_is c.take_unit_tail.result.home e.place.0 (heap_of_tail c.take_unit_tail.result)
-          (λ i. record { home = c.take_unit_tail.result.home; ledger = e.ticket.0 i });
-      there = let d = put-of g c in let e = c.take_unit_tail.ensures.place in
-          let start : c.take_unit_tail.result.start ≡ c.args.tail.start = e.1 ∙ at g d in
-          let view : c.take_unit_tail.result.home.view ≡ c.args.tail.home.view = ap (λ (h : Home). h.view) e.0 ∙ c.resize_kept_block.ensures.costs.view ∙ viewed g d in
-          (start, c.take_unit_tail.result.placed.at ∙ (λ i. pointer_to (view i) (start i)) ∙ sym c.args.tail.placed.at);
-      kept = omega (arith, e.place.3, c.lesser-kept.ensures, c.payload_len-wanted.ensures, c.requires.len, c.requires.kept);
-      long = e.place.2 ∙ c.requires.len;
-      shrinks = let d = put-of g c in λ shorter. absurd
+      result = tt;
+      room = let d = put-of g c in λ shorter. absurd
           (tails.shrinks d.self.invariant.stands d.self.invariant.tickets d.args.tail.key d.args.tail.start d.args.tail.len
           d.put_unit_tail-block.ensures.issued c.args.size shorter (refused g c));
-      aligns = ap align_at (same g c);
-      count = ap live_count (same g c);
-      bounds = λ count most align sized short wide. subst (IsSizedFor g.row.SLLEN count most align) (sym (same g c)) sized;
-      chunks = ap (λ (s : State). s.chunks) (same g c);
-      same = same g c;
-      raw = let d = put-of g c in let put = c.put_unit_tail-block.ensures in let e = c.take_unit_tail.ensures in
-          let across : Stays c.put_unit_tail-block.new.self c.resize_kept_block.new.memory =
-          record { start = c.resize_kept_block.ensures.costs.start; own = c.resize_kept_block.ensures.own; here = c.resize_kept_block.ensures.here } in
-          let inside = tails.lies d.self.invariant.stands d.self.invariant.tickets d.args.tail.key d.args.tail.start d.args.tail.len put.issued in
-          raw-seen c.self.inside.memory c.take_unit_tail.new.self c.self.inside.state.state c.self.inside.state.state c.args.self.now c.self.view_is
-          c.resize_kept_block.new.table c.issue-ticket.new.self.name (range_at c.args.tail.start c.args.tail.len)
-          (raw-tail c.self.inside.memory c.put_unit_tail-block.new.self c.resize_kept_block.new.memory c.take_unit_tail.new.self c.args.tail.start c.args.tail.kept
-          c.args.tail.len c.args.tail.within.0 inside.0 put.start put.out across _ e.start (omega (arith, inside, at g d, put.start, across.start)) e.out);
-      unchanged = let m = c.self.inside.memory in let n = c.take_unit_tail.new.self in
-          beside-seen m n c.self.inside.state.state c.self.inside.state.state c.args.self.now c.self.view_is c.resize_kept_block.new.table c.issue-ticket.new.self.name
-          (range_at c.args.tail.start c.args.tail.len) (λ a from to side. same-byte m n (left_as g c).0 (left_as g c).1 a);
-      spare = let m = c.self.inside.memory in let n = c.take_unit_tail.new.self in let k = c.self.inside.state.state in
-          spare-seen m n k k (spare-same m n k k (left_as g c).0 (left_as g c).1) k k refl refl c.args.self.now c.self.view_is c.resize_kept_block.new.table
-          c.issue-ticket.new.self.name;
+      bounds = record { sized = λ count most align sized short wide. subst (IsSizedFor g.row.SLLEN count most align) (sym (same g c)) sized; count = ap live_count (same g c) };
+      refused = record {
+        tail = record {
+          identity = is_of_heap c.self.inside.memory c.resize_kept_block.new.memory c.self.inside.table k c.self.inside.ledger.name c.issue-ticket.result.name 25 first
+              (c.issue-ticket.ensures.name.0 ∙ put.ledger.0) c.args.self.now c.self.view_is c.take_unit_tail.result.home e.place.0 (heap_of_tail c.take_unit_tail.result)
+              (λ i. record { home = c.take_unit_tail.result.home; ledger = e.ticket.0 i });
+          start = e.place.1 ∙ at g (put-of g c);
+          ptr = let d = put-of g c in let e = c.take_unit_tail.ensures.place in
+              let start : c.take_unit_tail.result.start ≡ c.args.tail.start = e.1 ∙ at g d in
+              let view : c.take_unit_tail.result.home.view ≡ c.args.tail.home.view = ap (λ (h : Home). h.view) e.0 ∙ c.resize_kept_block.ensures.costs.view ∙ viewed g d in
+              c.take_unit_tail.result.placed.at ∙ (λ i. pointer_to (view i) (start i)) ∙ sym c.args.tail.placed.at;
+          kept = omega (arith, e.place.3, c.lesser-kept.ensures, c.payload_len-wanted.ensures, c.requires.len, c.requires.kept);
+          long = e.place.2 ∙ c.requires.len;
+        };
+        same = same g c;
+        aligns = ap align_at (same g c);
+        unchanged = let m = c.self.inside.memory in let n = c.take_unit_tail.new.self in
+            beside-seen m n c.self.inside.state.state c.self.inside.state.state c.args.self.now c.self.view_is c.resize_kept_block.new.table c.issue-ticket.new.self.name
+            (range_at c.args.tail.start c.args.tail.len) (λ a from to side. same-byte m n (left_as g c).0 (left_as g c).1 a);
+      };
+      frame = record {
+        heap = record {
+          identity = o.identity;
+          place = o.place;
+          spare = let m = c.self.inside.memory in let n = c.take_unit_tail.new.self in let k = c.self.inside.state.state in
+              spare-seen m n k k (spare-same m n k k (left_as g c).0 (left_as g c).1) k k refl refl c.args.self.now c.self.view_is c.resize_kept_block.new.table
+              c.issue-ticket.new.self.name;
+          grow = o.grow;
+        };
+        raw = let d = put-of g c in let put = c.put_unit_tail-block.ensures in let e = c.take_unit_tail.ensures in
+            let across : Stays c.put_unit_tail-block.new.self c.resize_kept_block.new.memory =
+            record { start = c.resize_kept_block.ensures.costs.start; own = c.resize_kept_block.ensures.own; here = c.resize_kept_block.ensures.here } in
+            let inside = tails.lies d.self.invariant.stands d.self.invariant.tickets d.args.tail.key d.args.tail.start d.args.tail.len put.issued in
+            raw-seen c.self.inside.memory c.take_unit_tail.new.self c.self.inside.state.state c.self.inside.state.state c.args.self.now c.self.view_is
+            c.resize_kept_block.new.table c.issue-ticket.new.self.name (range_at c.args.tail.start c.args.tail.len)
+            (raw-tail c.self.inside.memory c.put_unit_tail-block.new.self c.resize_kept_block.new.memory c.take_unit_tail.new.self c.args.tail.start c.args.tail.kept
+            c.args.tail.len c.args.tail.within.0 inside.0 put.start put.out across _ e.start (omega (arith, inside, at g d, put.start, across.start)) e.out);
+        chunks = ap (λ (s : State). s.chunks) (same g c);
+        copied = omega (arith, e.copied, costs.copied, put.copied, ap (λ (v : HeapView). v.memory.copied) c.self.view_is);
+      };
       touches = o.touches;
-      grow = o.grow;
-      copied = omega (arith, e.copied, costs.copied, put.copied, ap (λ (v : HeapView). v.memory.copied) c.self.view_is);
     }
 
 -- ---- the payload has the other size
@@ -459,35 +459,40 @@ returns g c =
     c.args.self.now c.self.view_is in record {
       step = Steps-arrived (stood-2 g c) c.reallocate.new.self.state (bared-2 g c) c.issue-ticket-2.new.self.name
           (ReallocatesWithoutMove c.args.self.now.state c.args.tail.start c.args.size (Some c.take_unit_tail-2.result.start)) (did g c);
-      identity = o.identity;
-      place = o.place;
-      heap = is_of_heap c.self.inside.memory c.resize_kept_block.new.memory c.self.inside.table k c.self.inside.ledger.name c.issue-ticket-2.result.name 25 first
-          (c.issue-ticket-2.ensures.name.0 ∙ put.ledger.0) c.args.self.now c.self.view_is c.take_unit_tail-2.result.home e.place.0 (heap_of_tail c.take_unit_tail-2.result)
-          (λ i. record { home = c.take_unit_tail-2.result.home; ledger = e.ticket.0 i });
-      there = let d = first-of g c in let e = c.take_unit_tail-2.ensures.place in
-          let view : c.take_unit_tail-2.result.home.view ≡ c.args.tail.home.view = ap (λ (h : Home). h.view) e.0 ∙ c.resize_kept_block.ensures.costs.view ∙ viewed g d in
-          (start-2 g c, c.take_unit_tail-2.result.placed.at ∙ (λ i. pointer_to (view i) (start-2 g c i)) ∙ sym c.args.tail.placed.at);
-      kept = omega (arith, e.place.3, c.lesser-kept.ensures, c.payload_len-wanted.ensures, c.requires.len, c.requires.kept);
-      long = e.place.2 ∙ c.payload_len-wanted.ensures;
-      shrinks = λ shorter. refl;
-      aligns = λ i a. aligned_at g c a i;
-      count = let (u, holds, is) = align_at-live c.args.self.now.state c.args.tail.start 16 (live g c) in
-          count_resized (well g c) (now-2 g c) c.args.tail.start c.args.size (Some c.take_unit_tail-2.result.start) (u, holds) (moves g c);
-      bounds = λ count most align sized short wide.
-          sized_resized (well g c) (now-2 g c) count most align sized c.args.tail.start c.args.size 16 (Some c.take_unit_tail-2.result.start) (live g c) short wide (moves g c);
-      chunks = chunks-reallocated g.row.SLLEN c.args.self.now.state (now-2 g c) c.args.tail.start c.args.size (Some c.take_unit_tail-2.result.start) (moves g c);
-      same = tt;
-      raw = let d = first-of g c in let put = c.put_unit_tail-block.ensures in let e = c.take_unit_tail-2.ensures in
-          let across : Stays c.put_unit_tail-block.new.self c.resize_kept_block.new.memory =
-          record { start = c.resize_kept_block.ensures.costs.start; own = c.resize_kept_block.ensures.own; here = c.resize_kept_block.ensures.here } in
-          let inside = tails.lies d.self.invariant.stands d.self.invariant.tickets d.args.tail.key d.args.tail.start d.args.tail.len put.issued in
-          raw-seen c.self.inside.memory c.take_unit_tail-2.new.self c.self.inside.state.state c.reallocate.new.self.state c.args.self.now c.self.view_is
-          c.resize_kept_block.new.table c.issue-ticket-2.new.self.name (range_at c.args.tail.start c.args.tail.len)
-          (raw-tail c.self.inside.memory c.put_unit_tail-block.new.self c.resize_kept_block.new.memory c.take_unit_tail-2.new.self c.args.tail.start c.args.tail.kept
-          c.args.tail.len c.args.tail.within.0 inside.0 put.start put.out across _ e.start (omega (arith, inside, at g d, put.start, across.start)) e.out);
-      unchanged = tt;
-      spare = resized_spare g c;
+      result = record {
+        tail = record {
+          identity = is_of_heap c.self.inside.memory c.resize_kept_block.new.memory c.self.inside.table k c.self.inside.ledger.name c.issue-ticket-2.result.name 25 first
+              (c.issue-ticket-2.ensures.name.0 ∙ put.ledger.0) c.args.self.now c.self.view_is c.take_unit_tail-2.result.home e.place.0 (heap_of_tail c.take_unit_tail-2.result)
+              (λ i. record { home = c.take_unit_tail-2.result.home; ledger = e.ticket.0 i });
+          start = start-2 g c;
+          ptr = let d = first-of g c in let e = c.take_unit_tail-2.ensures.place in
+              let view : c.take_unit_tail-2.result.home.view ≡ c.args.tail.home.view = ap (λ (h : Home). h.view) e.0 ∙ c.resize_kept_block.ensures.costs.view ∙ viewed g d in
+              c.take_unit_tail-2.result.placed.at ∙ (λ i. pointer_to (view i) (start-2 g c i)) ∙ sym c.args.tail.placed.at;
+          kept = omega (arith, e.place.3, c.lesser-kept.ensures, c.payload_len-wanted.ensures, c.requires.len, c.requires.kept);
+          long = e.place.2 ∙ c.payload_len-wanted.ensures;
+        };
+        aligns = λ i a. aligned_at g c a i;
+      };
+      room = λ shorter. refl;
+      bounds = record {
+        sized = λ count most align sized short wide.
+            sized_resized (well g c) (now-2 g c) count most align sized c.args.tail.start c.args.size 16 (Some c.take_unit_tail-2.result.start) (live g c) short wide (moves g c);
+        count = let (u, holds, is) = align_at-live c.args.self.now.state c.args.tail.start 16 (live g c) in
+            count_resized (well g c) (now-2 g c) c.args.tail.start c.args.size (Some c.take_unit_tail-2.result.start) (u, holds) (moves g c);
+      };
+      refused = tt;
+      frame = record {
+        heap = record { identity = o.identity; place = o.place; spare = resized_spare g c; grow = o.grow };
+        raw = let d = first-of g c in let put = c.put_unit_tail-block.ensures in let e = c.take_unit_tail-2.ensures in
+            let across : Stays c.put_unit_tail-block.new.self c.resize_kept_block.new.memory =
+            record { start = c.resize_kept_block.ensures.costs.start; own = c.resize_kept_block.ensures.own; here = c.resize_kept_block.ensures.here } in
+            let inside = tails.lies d.self.invariant.stands d.self.invariant.tickets d.args.tail.key d.args.tail.start d.args.tail.len put.issued in
+            raw-seen c.self.inside.memory c.take_unit_tail-2.new.self c.self.inside.state.state c.reallocate.new.self.state c.args.self.now c.self.view_is
+            c.resize_kept_block.new.table c.issue-ticket-2.new.self.name (range_at c.args.tail.start c.args.tail.len)
+            (raw-tail c.self.inside.memory c.put_unit_tail-block.new.self c.resize_kept_block.new.memory c.take_unit_tail-2.new.self c.args.tail.start c.args.tail.kept
+            c.args.tail.len c.args.tail.within.0 inside.0 put.start put.out across _ e.start (omega (arith, inside, at g d, put.start, across.start)) e.out);
+        chunks = chunks-reallocated g.row.SLLEN c.args.self.now.state (now-2 g c) c.args.tail.start c.args.size (Some c.take_unit_tail-2.result.start) (moves g c);
+        copied = omega (arith, e.copied, costs.copied, put.copied, ap (λ (v : HeapView). v.memory.copied) c.self.view_is);
+      };
       touches = o.touches;
-      grow = o.grow;
-      copied = omega (arith, e.copied, costs.copied, put.copied, ap (λ (v : HeapView). v.memory.copied) c.self.view_is);
     }

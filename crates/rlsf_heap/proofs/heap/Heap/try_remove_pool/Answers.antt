@@ -6,7 +6,7 @@ use Rattle.rlsf_model.specs.WellFormed.{IsWellFormed}
 use Rattle.rlsf_blocks.specs.Blocks.{walked}
 use Rattle.rlsf_heap.specs.Heap.{HeapView, Stands, Steps}
 use Rattle.rlsf_tlsf.proofs.IdleRows.{idle_if, used_if}
-use Rattle.rlsf_heap.proofs.Kept.{none_raw-none, spare-none}
+use Rattle.rlsf_heap.proofs.Frames.{payloads_same}
 use Rattle.rlsf_heap.proofs.heap.Heap.try_remove_pool.Goals as goal
 
 -- the state that memory and table represent is well-formed
@@ -42,8 +42,5 @@ returns-clause-step g c =
     stepping g.row.FLLEN g.row.SLLEN c.remove_pool.new.self _
     (idle_if w (walked c.args.range) c.requires c.iter_blocks.result c.iter_blocks.ensures.blocks (sym c.any_used.ensures ∙ c.if-any_used.false), step) stands
 
-pub returns-then-any_used-clause-spare : goal.returns-then-any_used-clause-spare
-returns-then-any_used-clause-spare g c = spare-none c.args.self.now
-
-pub returns-then-any_used-clause-raw : goal.returns-then-any_used-clause-raw
-returns-then-any_used-clause-raw g c = none_raw-none c.args.self.now
+pub returns-then-any_used-clause-frame : goal.returns-then-any_used-clause-frame
+returns-then-any_used-clause-frame g c = payloads_same c.args.self.now

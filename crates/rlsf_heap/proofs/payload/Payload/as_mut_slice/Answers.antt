@@ -12,10 +12,12 @@ returns c =
         writes_back = tt;
         value = value;
         filled = λ w long. rewritten-left p w (long ∙ ap length value);
-        lengths = λ w. rewritten-long p w;
-        written = λ w. rewritten-written p w c.requires;
-        identity = λ w. rewritten-identity p w;
-        start = λ w. rewritten-start p w;
-        align = λ w. rewritten-align p w;
+        left = λ w. record {
+          long = rewritten-long p w;
+          written = rewritten-written p w c.requires;
+          identity = rewritten-identity p w;
+          start = rewritten-start p w;
+          align = rewritten-align p w;
+        };
       },
     )

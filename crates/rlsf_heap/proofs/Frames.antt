@@ -1,0 +1,32 @@
+-- What calls keep of a heap, of none and of two after each other.
+use Rattle.std.proofs.Common.{arith, refl, ◌∙◌}
+use Rattle.rlsf_heap.specs.Frame.{KeepsBytes, KeepsFrame, KeepsHeap, KeepsPayloads}
+use Rattle.rlsf_heap.specs.Heap.{HeapView}
+use Rattle.rlsf_heap.proofs.Kept.{none_raw-both, none_raw-none, spare-both, spare-none}
+
+-- a heap that is unchanged is kept
+pub heap_same : (v : HeapView) → KeepsHeap v v
+heap_same v = record { identity = refl; place = (refl, refl); spare = spare-none v; grow = omega arith }
+
+pub bytes_same : (v : HeapView) → KeepsBytes v v
+bytes_same v = record { raw = none_raw-none v; settled = λ settled. settled }
+
+pub frame_same : (v : HeapView) → KeepsFrame v v
+frame_same v = record { heap = heap_same v; bytes = bytes_same v; chunks = refl; copied = refl }
+
+pub payloads_same : (v : HeapView) → KeepsPayloads v v
+payloads_same v = record { heap = heap_same v; bytes = bytes_same v; aligns = refl; count = refl; copied = refl }
+
+-- what each of two calls keeps, both keep
+pub frame_both : (a b c : HeapView) → KeepsFrame a b → KeepsFrame b c → KeepsFrame a c
+frame_both a b c f h = record {
+  heap = record {
+    identity = h.heap.identity ∙ f.heap.identity;
+    place = (h.heap.place.0 ∙ f.heap.place.0, h.heap.place.1 ∙ f.heap.place.1);
+    spare = spare-both a b c f.heap.place f.chunks f.heap.spare h.heap.spare;
+    grow = omega (arith, f.heap.grow, h.heap.grow);
+  };
+  bytes = record { raw = none_raw-both a b c f.heap.place.0 f.bytes.raw h.bytes.raw; settled = λ settled. h.bytes.settled (f.bytes.settled settled) };
+  chunks = h.chunks ∙ f.chunks;
+  copied = h.copied ∙ f.copied;
+}

@@ -1,0 +1,99 @@
+-- What the calls of a heap keep, and which bounds it stays sized for.
+use Rattle.std.specs.Prelude.{◌≡◌, ℕ, ◌+◌, ◌≤◌, length}
+use Rattle.rlsf_base.specs.declared.memory.range.Range.{Range}
+use Rattle.rlsf_model.specs.Callers.{align_at}
+use Rattle.rlsf_model.specs.Reallocate.{HasRoomToStay}
+use Rattle.rlsf_model.specs.Sized.{IsSizedFor, live_count}
+use Rattle.rlsf_model.specs.State.{State}
+use Rattle.rlsf_heap.specs.Heap.{HeapView, PayloadView}
+use Rattle.rlsf_heap.specs.Kept.{KeepsSpareBytes, NoneBecomesRaw, NoneBecomesRawBeside}
+use Rattle.rlsf_heap.specs.Settled.{IsSettled}
+
+-- what every call keeps: it is the same heap, over the same memory
+pub record KeepsHeap (before after : HeapView) : Type 0 where
+  -- the block of its memory, and its ledger
+  pub identity : after.identity ≡ before.identity
+  -- the address and the length of its memory
+  pub place : (after.memory.start ≡ before.memory.start) × (length after.memory.bytes ≡ length before.memory.bytes)
+  -- each byte that no block is made of, before and after
+  pub spare : KeepsSpareBytes before after
+  -- word accesses are added to the count
+  pub grow : before.memory.touches ≤ after.memory.touches
+
+-- what a call keeps that leaves no byte without a value
+pub record KeepsBytes (before after : HeapView) : Type 0 where
+  -- no byte becomes raw
+  pub raw : NoneBecomesRaw before after
+  -- if no byte of the memory was raw, none is
+  pub settled : IsSettled before.memory → IsSettled after.memory
+
+-- what a call on payloads keeps that copies no byte of the memory
+pub record KeepsFrame (before after : HeapView) : Type 0 where
+  -- it is the same heap
+  pub heap : KeepsHeap before after
+  -- no byte becomes raw
+  pub bytes : KeepsBytes before after
+  -- it has the same chunks
+  pub chunks : after.state.chunks ≡ before.state.chunks
+  -- no byte is copied
+  pub copied : after.memory.copied ≡ before.memory.copied
+
+-- what a call keeps that takes a payload's bytes without their values
+pub record KeepsFrameBeside (before after : HeapView) (r : Range) : Type 0 where
+  -- it is the same heap
+  pub heap : KeepsHeap before after
+  -- no byte beside the payload's becomes raw
+  pub raw : NoneBecomesRawBeside before after r
+  -- it has the same chunks
+  pub chunks : after.state.chunks ≡ before.state.chunks
+  -- no byte is copied
+  pub copied : after.memory.copied ≡ before.memory.copied
+
+-- how many bytes a reallocation copies, by the counts before and after it
+pub record CopiesToMove (state : State) (was : PayloadView) (addr size before after : ℕ) : Type 0 where
+  -- at most those of the payload
+  pub copied : after ≤ before + length was.bytes
+  -- copied bytes are added to the count
+  pub grow_copied : before ≤ after
+  -- none, if it has room to stay
+  pub stays : HasRoomToStay state addr size → after ≡ before
+
+-- what a reallocation keeps that may copy the payload's bytes in the memory
+pub record KeepsFrameMoving (before after : HeapView) (addr size : ℕ) (was : PayloadView) : Type 0 where
+  -- it is the same heap
+  pub heap : KeepsHeap before after
+  -- no byte becomes raw
+  pub bytes : KeepsBytes before after
+  -- it has the same chunks
+  pub chunks : after.state.chunks ≡ before.state.chunks
+  -- no byte is copied but those of the payload
+  pub copied : CopiesToMove before.state was addr size before.memory.copied after.memory.copied
+
+-- what a call on pools keeps
+pub record KeepsPayloads (before after : HeapView) : Type 0 where
+  -- it is the same heap
+  pub heap : KeepsHeap before after
+  -- no byte becomes raw
+  pub bytes : KeepsBytes before after
+  -- the same payloads are live, with their alignments
+  pub aligns : align_at after.state ≡ align_at before.state
+  -- as many payloads are live
+  pub count : live_count after.state ≡ live_count before.state
+  -- no byte is copied
+  pub copied : after.memory.copied ≡ before.memory.copied
+
+-- within bounds that include this size and alignment, the state after is sized for what the state before was sized for
+abbrev pub KeepsBounds : ℕ → State → State → ℕ → ℕ → Type 0
+KeepsBounds sllen before after size align =
+    (count most wide : ℕ) → IsSizedFor sllen count most wide before → size ≤ most → align ≤ wide → IsSizedFor sllen count most wide after
+
+-- the state after is sized for all that the state before was sized for
+abbrev pub KeepsAllBounds : ℕ → State → State → Type 0
+KeepsAllBounds sllen before after = (count most wide : ℕ) → IsSizedFor sllen count most wide before → IsSizedFor sllen count most wide after
+
+-- a reallocation keeps bounds, and the number of payloads
+pub record KeepsSized (sllen : ℕ) (before after : State) (size align : ℕ) : Type 0 where
+  -- within bounds that include this size and alignment, it stays sized for them
+  pub sized : KeepsBounds sllen before after size align
+  -- as many payloads are live
+  pub count : live_count after ≡ live_count before
