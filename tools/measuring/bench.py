@@ -1,4 +1,4 @@
-"""Compares `rlsf_bench` with the original's program of the same steps, and prints the table of docs/TIME.md.
+"""Compares `rlsf_bench` with the original's program of the same steps, and prints the table of docs/MEASURED.md.
 
 Each number is ours over the original's: instructions a step as callgrind counts them, or with --time the best wall time of runs on one core,
 of the two in turn. A step's is the difference of two runs, one of which does more steps. The lines that the two print have to be equal.

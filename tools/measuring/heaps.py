@@ -1,4 +1,4 @@
-"""Compares a `Heap`, whose payloads own their bytes, with a `Tlsf`, which returns addresses, and prints the table of docs/TIME.md.
+"""Compares a `Heap`, whose payloads own their bytes, with a `Tlsf`, which returns addresses, and prints the table of docs/MEASURED.md.
 
 It counts the instructions of a step of `rlsf_bench_heap` and of `rlsf_bench_aligned`, as callgrind counts them: the difference of two runs, one
 of which does more steps. Both print the same line, so both return the same addresses. `rt run` proves and builds them."""

@@ -1,4 +1,4 @@
-"""Compares a `SharedHeap` with a `GlobalTlsf`, with one or more threads, and prints the table of docs/TIME.md.
+"""Compares a `SharedHeap` with a `GlobalTlsf`, with one or more threads, and prints the table of docs/MEASURED.md.
 
 It measures the processor time of a step of `rlsf_bench_threads`: that of all threads, without the time in which they sleep. A step's is the
 difference of two runs, one of which does more steps. `rt run` proves and builds the program; --quick takes the one that is there."""

@@ -1,4 +1,4 @@
-//! The first example of docs/CHECKED.md, and its result.
+//! The example of a `CheckedTlsf` in docs/C.md, and its result.
 
 use crate::pools::all;
 use rlsf_base::memory::{Layout, Memory, Range};
