@@ -24,7 +24,7 @@ range_of m = range_at m.start (length m.bytes)
 abbrev pub out_at : Space → ℕ → Kept
 out_at m a = kept_at m.out (a - m.start)
 
--- start, length and view of a memory stay, and where nothing is out, nothing is then
+-- the start, the length and the view of a memory stay the same; if no byte was out before, none is out afterwards
 abbrev pub SamePlace : Space → Space → Type 0
 SamePlace old new = (new.start ≡ old.start) × (length new.bytes ≡ length old.bytes) × (new.view ≡ old.view) × (old.out ≡ [] → new.out ≡ [])
 

@@ -91,7 +91,7 @@ impl<FLBitmap: BitPattern, SLBitmap: BitPattern, const FLLEN: usize, const SLLEN
         ensures home { result.identity.home ≡ home_of memory }
         ensures settled { memory.out ≡ [] → IsSettled result.memory }
     {
-        // What `start` says of every memory: no address is 0, and each fits in a word.
+        // Opens the memory's invariant for the prover: no address is 0, and each fits in a word.
         let _ = memory.start();
         Heap {
             memory,

@@ -77,7 +77,7 @@ impl<FLBitmap: BitPattern, SLBitmap: BitPattern, const FLLEN: usize, const SLLEN
         ensures count { live_count result.state ≡ 0 }
         ensures memory { result.memory ≡ memory }
     {
-        // What `start` says of every memory: no address is 0, and each fits in a word.
+        // Opens the memory's invariant for the prover: no address is 0, and each fits in a word.
         let _ = memory.inner.start();
         Tlsf {
             memory,

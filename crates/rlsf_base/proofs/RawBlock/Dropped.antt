@@ -1,4 +1,4 @@
--- Parameters that a call uses up: nothing is had of any when it ends. Assumes `Logic`.
+-- Parameters that a call consumes: when it ends, the caller owns nothing of them. Assumes `Logic`.
 use Rattle.std.proofs.Common.{ℕ, List, [], ◌∷◌, T}
 use seplogic.Ra.Ura.{Ura}
 use types.Logic.{Logic}

@@ -35,7 +35,7 @@ pub fn is_consistent<const FLLEN: usize, const SLLEN: usize>(
     requires legible { CanBeChecked FLLEN SLLEN memory.now table.now (walked range) }
     ensures { (result ≡ true) ↔ IsConsistent FLLEN SLLEN memory.now table.now (walked range) }
 {
-    // What `start` says of every memory: each address fits in a word.
+    // Opens the memory's invariant for the prover: each address fits in a word.
     let _ = memory.start();
     if !heads_agree(memory, table) {
         return false;

@@ -42,7 +42,7 @@ fn is_used_or_free<const FLLEN: usize, const SLLEN: usize>(
     if !is_free(size) {
         return true;
     }
-    // What `start` says of every memory: each address fits in a word.
+    // Opens the memory's invariant for the prover: each address fits in a word.
     let _ = memory.start();
     // No two free blocks adjoin.
     if is_free(memory.word(block + len)) {

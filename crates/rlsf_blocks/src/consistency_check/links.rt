@@ -92,7 +92,7 @@ pub(crate) fn is_linked<const FLLEN: usize, const SLLEN: usize>(
     requires legible { HasLegibleLinks memory.now block }
     ensures { (result ≡ true) ↔ IsLinked FLLEN SLLEN memory.now table.now (range_at block len) }
 {
-    // What `start` says of every memory: each address fits in a word.
+    // Opens the memory's invariant for the prover: each address fits in a word.
     let _ = memory.start();
     let next = memory.word(block + NEXT_FREE) as usize;
     let previous = memory.word(block + PREVIOUS_FREE) as usize;

@@ -29,7 +29,7 @@ pub(crate) fn has_word_behind(memory: &OpenMemory, addr: usize, offset: usize, w
     requires { IsLegible memory.now (addr + offset) }
     ensures { (result ≡ true) ↔ HasWord memory.now (addr + offset) word }
 {
-    // What `start` says of every memory: each address fits in a word.
+    // Opens the memory's invariant for the prover: each address fits in a word.
     let _ = memory.start();
     match addr.checked_add(offset) {
         Some(place) => has_word(memory, place, word),

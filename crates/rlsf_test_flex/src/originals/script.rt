@@ -69,7 +69,7 @@ impl Script {
         }
     }
 
-    /// The call that the next bytes mean: none where no payload is live, for which it would be.
+    /// The call that the next bytes mean. `Some(None)` if it needs a live payload and none is live; `None` if the bytes have ended.
     fn next_call(&mut self, bound: usize) -> Option<Option<Call>> {
         let kind = self.bytes.pop()? % 8;
         if kind <= 2 {
