@@ -21,6 +21,9 @@ pub use Rattle.rlsf_model.specs.State.{State, Used, empty, Holds}
 pub use Rattle.rlsf_blocks.specs.Blocks.{walked}
 pub use Rattle.rlsf_blocks.specs.Spare.{IsSpareWord, KeepsSpare}
 pub use Rattle.rlsf_tlsf.specs.Allocator.{Allocator, IsInState, Stands, Steps}
+pub use Rattle.rlsf_tlsf.specs.Bounds.{IfWithinBounds, KeepsAllBounds, KeepsBounds, KeepsBoundsAnyAlign}
+pub use Rattle.rlsf_tlsf.specs.Results.{IsAllocated, IsAppended, IsDeallocated, IsFilled, IsInserted, IsLeft, IsReallocated, IsReallocatedAnyAlign, IsRemoved, IsResized}
+pub use Rattle.rlsf_tlsf.specs.Results.{IsUnchanged, KeepsFrame, KeepsFrameCopying, KeepsFrameInPlace, KeepsFrameMoving, KeepsFrameOfPools}
 pub use Rattle.rlsf_tlsf.specs.Sizing.{SizesPool}
 -- those that contracts over an allocator with a source cite
 pub use Rattle.rlsf_model.specs.FlexAllocate.{FlexAllocates}
@@ -28,7 +31,6 @@ pub use Rattle.rlsf_model.specs.FlexReallocate.{FlexReallocates}
 pub use Rattle.rlsf_model.specs.FlexState.{FlexState, KeptPool}
 pub use Rattle.rlsf_model.specs.Note.{Note, LeadsBy}
 pub use Rattle.rlsf_model.specs.Terms.{IsGiven, IsGrown, Terms}
-pub use Rattle.rlsf_flex.specs.Bounds.{IfWithinBounds, KeepsAllBounds, KeepsBounds}
 pub use Rattle.rlsf_flex.specs.Deallocations.{IsFlexDeallocation}
 pub use Rattle.rlsf_flex.specs.Laws.{FlexStatesAreWellFormed, FlexWordsReadNoPayload}
 pub use Rattle.rlsf_flex.specs.Outside.{IsOutside, KeepsOutside, NothingGoesBack, ever_owed}

@@ -1,5 +1,4 @@
 -- Definitions for the allocator over a source, and for sources. Read `StandsFor` and `Footers` first.
-pub mod Bounds
 pub mod Bump
 pub mod BumpConstant
 pub mod Deallocations

@@ -67,9 +67,10 @@ impl<
     const FLLEN: usize,
     const SLLEN: usize,
 > FlexTlsf<S, FLBitmap, SLBitmap, FLLEN, SLLEN> {
-    ghost use Rattle.rlsf_flex.specs.Bounds.{IfWithinBounds, KeepsAllBounds, KeepsBounds};
+    ghost use Rattle.rlsf_tlsf.specs.Bounds.{IfWithinBounds, KeepsAllBounds, KeepsBounds};
     ghost use Rattle.rlsf_flex.specs.Deallocations.{IsFlexDeallocation};
     ghost use Rattle.rlsf_flex.specs.Lending.{LeavesRest, lends_payload, written};
+    ghost use Rattle.rlsf_tlsf.specs.Results.{IsAllocated};
     ghost use Rattle.rlsf_flex.specs.StandsFor.{FillsAlone, FlexStands, FlexSteps, StepsAlone};
 
     /// Creates an allocator over the memory and a source of ranges of it. It asks for nothing yet.
@@ -142,15 +143,9 @@ impl<
     pub fn allocate(&mut self, layout: Layout) -> Option<Addr>
         ensures step { FlexSteps FLLEN SLLEN S.terms S.owes S.leads self.old self.new
             (FlexAllocates FLLEN SLLEN (S.terms self.old.source) self.old.state layout.size layout.align (reply result)) }
-        ensures live { IfSome result (λ addr. align_at self.new.state.machine (at addr) ≡ Some layout.align) }
-        ensures sized { IfSome result (λ addr. layout.size ≤ length (bytes_at self.new.state.machine (at addr))) }
-        ensures few { IfSome result (λ addr. length (bytes_at self.new.state.machine (at addr)) < layout.size + 32) }
-        ensures new { IfSome result (λ addr. align_at self.old.state.machine (at addr) ≡ None) }
-        ensures aligns { IfSome result (λ addr. (a : ℕ) → a ≢ at addr → align_at self.new.state.machine a ≡ align_at self.old.state.machine a) }
-        ensures bytes { IfSome result (λ addr. (a : ℕ) → a ≢ at addr → bytes_at self.new.state.machine a ≡ bytes_at self.old.state.machine a) }
+        ensures result { IfSome result (λ addr. IsAllocated self.old.state.machine self.new.state.machine layout.size layout.align (at addr)) }
         ensures room { IfWithinBounds SLLEN self.old.state.machine layout.size layout.align (IsSome result) }
         ensures unasked { IfWithinBounds SLLEN self.old.state.machine layout.size layout.align (self.new.source ≡ self.old.source) }
-        ensures count { IfSome result (λ addr. live_count self.new.state.machine ≡ live_count self.old.state.machine + 1) }
         ensures bounds { KeepsBounds SLLEN self.old.state.machine self.new.state.machine layout.size layout.align }
         ensures same { IfNone result (self.new.state ≡ self.old.state) }
         ensures refused { IfNone result (self.new.memory.bytes ≡ self.old.memory.bytes) }

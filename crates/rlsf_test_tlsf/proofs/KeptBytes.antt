@@ -11,7 +11,7 @@ kept_byte old new n byte k filled keeps low high =
     let less : k < m = omega (arith, long, low, high) in
     sym (get_or-take m new k 0 less) ∙ ap (λ bs. get_or bs k 0) keeps ∙ get_or-take m old k 0 less ∙ ap (λ bs. get_or bs k 0) filled ∙ get_or-replicate n k byte 0 low
 
--- what holds if there is a value, where there is one
-pub where_some : {A : Type 0} (o : Option A) (P : Type 0) → is_some o ≡ true → IfSome o (λ a. P) → P
+-- the value, where there is one, and what holds of it
+pub where_some : {A : Type 0} (o : Option A) (P : A → Type 0) → is_some o ≡ true → IfSome o P → (a : A) × P a
 where_some None P some holds = absurd (true≢false (sym some))
-where_some (Some a) P some holds = holds
+where_some (Some a) P some holds = (a, holds)

@@ -7,6 +7,7 @@ pub mod Lent
 pub mod Moved
 mod Opened
 pub mod Removed
+pub mod Replied
 mod SendAndSync
 pub mod Standing
 pub mod UnknownAlign

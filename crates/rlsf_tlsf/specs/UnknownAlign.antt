@@ -1,12 +1,11 @@
 -- A reallocation by a caller that does not know the alignment of the payload.
-use Rattle.std.specs.Prelude.{◌≡◌, ◌≤◌, ℕ, length, Option, None, Some}
+use Rattle.std.specs.Prelude.{ℕ, length, Option, None, Some}
 use Rattle.rlsf_model.specs.Allocate.{Allocates}
-use Rattle.rlsf_model.specs.Callers.{align_at, copied_over}
+use Rattle.rlsf_model.specs.Callers.{copied_over}
 use Rattle.rlsf_model.specs.NoMove.{unmoved_plan}
 use Rattle.rlsf_model.specs.Reallocate.{Plan, ReallocatesBy}
 use Rattle.rlsf_model.specs.Release.{Deallocates}
 use Rattle.rlsf_model.specs.Run.{Fills}
-use Rattle.rlsf_model.specs.Sized.{IsSizedFor}
 use Rattle.rlsf_model.specs.State.{State, Used, Holds}
 
 -- the payload at an address moves to another: a payload of the alignment is allocated there, the bytes are copied, and the old one is deallocated
@@ -29,9 +28,3 @@ pub record ReallocatesAnyAlign (sllen : ℕ) (s : State) (addr size align : ℕ)
   pub block : Used
   pub holds : Holds s addr block
   pub step : ResizesBy sllen s block size align (unmoved_plan s block size) reply t
-
--- the allocator is still sized for some bounds, if neither the payload's alignment nor the size and the alignment that are passed exceed them
-abbrev pub KeepsBounds : ℕ → State → ℕ → ℕ → ℕ → State → Type 0
-KeepsBounds sllen before addr size align after =
-    (count most widest was : ℕ) → IsSizedFor sllen count most widest before → align_at before addr ≡ Some was → was ≤ widest → size ≤ most → align ≤ widest
-    → IsSizedFor sllen count most widest after

@@ -1,7 +1,8 @@
 //! The allocator over pools that its caller inserts: two-level segregated fit (Masmano and others, ECRTS 2004).
 //!
-//! Read `specs/Allocator` (the allocator as contracts see it, and its steps) first, then `src/tlsf`, which has `Tlsf` and its calls for payloads.
-//! `src/pools` has those for pools, and `src/unknown_align` one for a payload of unknown alignment. `specs/Lending` is for calls that lend bytes,
+//! Read `specs/Allocator` (the allocator as contracts see it, and its steps) and `specs/Results` (what calls return, refuse and keep) first, then
+//! `src/tlsf`, which has `Tlsf` and its calls for payloads. `specs/Bounds` says what holds within the bounds that an allocator is sized for.
+//! `src/pools` has the calls for pools, and `src/unknown_align` one for a payload of unknown alignment. `specs/Lending` is for calls that lend bytes,
 //! and `specs/InPlace` for a payload's owner who writes it where it lies, as `rlsf_heap` has. `src/bitmaps` gives read access to the class table,
 //! `src/consistency` reads the words of a pool again, and `src/state` holds the ghost state. `specs/Steps` is for private functions.
 #![tactic(auto)]

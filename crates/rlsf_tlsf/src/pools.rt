@@ -4,15 +4,13 @@ ghost use Rattle.std.specs.Prelude.{◌≡◌, ◌≤◌, ◌+◌, ◌*◌, ℕ,
 ghost use Rattle.std.specs.Map.Iter.{GivesInOrder};
 ghost use Rattle.rlsf_base.specs.Addr.{reply};
 ghost use Rattle.rlsf_base.specs.declared.memory.range.Range.{Range};
-ghost use Rattle.rlsf_base.specs.Range.{AreApart, LiesIn, end_of};
+ghost use Rattle.rlsf_base.specs.Range.{LiesIn, end_of};
 ghost use Rattle.rlsf_base.specs.Sizes.{max_pool_size};
-ghost use Rattle.rlsf_base.specs.Space.{range_of, SamePlace};
-ghost use Rattle.rlsf_model.specs.Callers.{align_at, bytes_at};
+ghost use Rattle.rlsf_base.specs.Space.{range_of};
 ghost use Rattle.rlsf_model.specs.ChunkRows.{IsRow};
 ghost use Rattle.rlsf_model.specs.Insert.{Appends, Inserts, IsNext, IsUntouched, aligned_part, cut};
 ghost use Rattle.rlsf_model.specs.Lists.{IsIn};
 ghost use Rattle.rlsf_model.specs.Remove.{IsIdle, Removes};
-ghost use Rattle.rlsf_model.specs.Sized.{IsSizedFor, live_count};
 ghost use Rattle.rlsf_blocks.specs.Blocks.{AreBlocks, walked};
 
 use crate::tlsf::Tlsf;
@@ -30,7 +28,8 @@ impl<FLBitmap: BitPattern, SLBitmap: BitPattern, const FLLEN: usize, const SLLEN
     SLLEN,
 > {
     ghost use Rattle.rlsf_tlsf.specs.Allocator.{Steps};
-    ghost use Rattle.rlsf_tlsf.specs.Sizing.{SizesPool};
+    ghost use Rattle.rlsf_tlsf.specs.Bounds.{KeepsAllBounds};
+    ghost use Rattle.rlsf_tlsf.specs.Results.{IsAppended, IsInserted, IsRemoved, KeepsFrameOfPools};
 
     /// Inserts a range of the memory as a pool, and makes free chunks of its aligned part. No chunk has fewer than 64
     /// bytes.
@@ -46,17 +45,11 @@ impl<FLBitmap: BitPattern, SLBitmap: BitPattern, const FLLEN: usize, const SLLEN
         requires lies_in { LiesIn range self.old.memory.start (length self.old.memory.bytes) }
         requires untouched { IsUntouched self.old.state.chunks range }
         ensures step { Steps FLLEN SLLEN self.old self.new (Inserts FLLEN self.old.state range (reply result)) }
-        ensures untouched { (r : Range) → IsUntouched self.old.state.chunks r → AreApart range r → IsUntouched self.new.state.chunks r }
-        ensures aligns { align_at self.new.state ≡ align_at self.old.state }
-        ensures bytes { bytes_at self.new.state ≡ bytes_at self.old.state }
-        ensures count { live_count self.new.state ≡ live_count self.old.state }
-        ensures bounds { (count size align : ℕ) → IsSizedFor SLLEN count size align self.old.state → IsSizedFor SLLEN count size align self.new.state }
-        ensures pool { SizesPool FLLEN SLLEN range self.old.state self.new.state }
+        ensures result { IsInserted FLLEN SLLEN range self.old.state self.new.state }
+        ensures bounds { KeepsAllBounds SLLEN self.old.state self.new.state }
         ensures refused { IfNone result (self.new.memory.bytes ≡ self.old.memory.bytes) }
-        ensures place { SamePlace self.old.memory self.new.memory }
+        ensures frame { KeepsFrameOfPools self.old self.new }
         ensures touches { self.new.memory.touches ≤ self.old.memory.touches + 13 * length (cut (max_pool_size FLLEN) (aligned_part range)) }
-        ensures grow { self.old.memory.touches ≤ self.new.memory.touches }
-        ensures copied { self.new.memory.copied ≡ self.old.memory.copied }
     {
         let taken = insert_chunks(&mut self.memory.inner, &mut self.table, range);
         self.state.insert(FLLEN, range.start, range.len);
@@ -71,17 +64,11 @@ impl<FLBitmap: BitPattern, SLBitmap: BitPattern, const FLLEN: usize, const SLLEN
         requires lies_in { LiesIn range self.old.memory.start (length self.old.memory.bytes) }
         requires untouched { IsUntouched self.old.state.chunks range }
         ensures step { Steps FLLEN SLLEN self.old self.new (λ t. (taken : Option ℕ) × Inserts FLLEN self.old.state range taken t) }
-        ensures untouched { (r : Range) → IsUntouched self.old.state.chunks r → AreApart range r → IsUntouched self.new.state.chunks r }
-        ensures aligns { align_at self.new.state ≡ align_at self.old.state }
-        ensures bytes { bytes_at self.new.state ≡ bytes_at self.old.state }
-        ensures count { live_count self.new.state ≡ live_count self.old.state }
-        ensures bounds { (count size align : ℕ) → IsSizedFor SLLEN count size align self.old.state → IsSizedFor SLLEN count size align self.new.state }
-        ensures pool { SizesPool FLLEN SLLEN range self.old.state self.new.state }
-        ensures unchanged { cut (max_pool_size FLLEN) (aligned_part range) ≡ [] → self.new.memory.bytes ≡ self.old.memory.bytes }
-        ensures place { SamePlace self.old.memory self.new.memory }
+        ensures result { IsInserted FLLEN SLLEN range self.old.state self.new.state }
+        ensures bounds { KeepsAllBounds SLLEN self.old.state self.new.state }
+        ensures refused { cut (max_pool_size FLLEN) (aligned_part range) ≡ [] → self.new.memory.bytes ≡ self.old.memory.bytes }
+        ensures frame { KeepsFrameOfPools self.old self.new }
         ensures touches { self.new.memory.touches ≤ self.old.memory.touches + 13 * length (cut (max_pool_size FLLEN) (aligned_part range)) }
-        ensures grow { self.old.memory.touches ≤ self.new.memory.touches }
-        ensures copied { self.new.memory.copied ≡ self.old.memory.copied }
     {
         let _ = self.insert_free_block_ptr(range);
     }
@@ -99,16 +86,11 @@ impl<FLBitmap: BitPattern, SLBitmap: BitPattern, const FLLEN: usize, const SLLEN
     pub fn append_free_block_ptr(&mut self, range: Range) -> usize
         requires { IsNext (range_of self.old.memory) self.old.state range }
         ensures step { Steps FLLEN SLLEN self.old self.new (Appends FLLEN self.old.state range result) }
-        ensures untouched { (r : Range) → IsUntouched self.old.state.chunks r → AreApart range r → IsUntouched self.new.state.chunks r }
-        ensures aligns { align_at self.new.state ≡ align_at self.old.state }
-        ensures bytes { bytes_at self.new.state ≡ bytes_at self.old.state }
-        ensures count { live_count self.new.state ≡ live_count self.old.state }
-        ensures bounds { (count size align : ℕ) → IsSizedFor SLLEN count size align self.old.state → IsSizedFor SLLEN count size align self.new.state }
-        ensures unchanged { result ≡ 0 → self.new.memory.bytes ≡ self.old.memory.bytes }
-        ensures place { SamePlace self.old.memory self.new.memory }
+        ensures result { IsAppended range self.old.state self.new.state }
+        ensures bounds { KeepsAllBounds SLLEN self.old.state self.new.state }
+        ensures refused { result ≡ 0 → self.new.memory.bytes ≡ self.old.memory.bytes }
+        ensures frame { KeepsFrameOfPools self.old self.new }
         ensures touches { self.new.memory.touches ≤ self.old.memory.touches + (if is_some (max_pool_size FLLEN) then 13 * length (cut (max_pool_size FLLEN) (aligned_part range)) else 34) }
-        ensures grow { self.old.memory.touches ≤ self.new.memory.touches }
-        ensures copied { self.new.memory.copied ≡ self.old.memory.copied }
     {
         let taken = append_chunks(&mut self.memory.inner, &mut self.table, range);
         self.state.append(FLLEN, range.start, range.len);
@@ -124,15 +106,9 @@ impl<FLBitmap: BitPattern, SLBitmap: BitPattern, const FLLEN: usize, const SLLEN
         requires row { IsRow self.old.state (walked range) }
         requires idle { IsIdle self.old.state (walked range) }
         ensures step { Steps FLLEN SLLEN self.old self.new (Removes self.old.state (walked range)) }
-        ensures untouched { (r : Range) → IsUntouched self.old.state.chunks r → IsUntouched self.new.state.chunks r }
-        ensures gone { IsUntouched self.new.state.chunks (walked range) }
-        ensures aligns { align_at self.new.state ≡ align_at self.old.state }
-        ensures bytes { bytes_at self.new.state ≡ bytes_at self.old.state }
-        ensures count { live_count self.new.state ≡ live_count self.old.state }
-        ensures place { SamePlace self.old.memory self.new.memory }
+        ensures result { IsRemoved (walked range) self.old.state self.new.state }
+        ensures frame { KeepsFrameOfPools self.old self.new }
         ensures touches { self.new.memory.touches + 9 * length self.new.state.chunks ≤ self.old.memory.touches + 9 * length self.old.state.chunks }
-        ensures grow { self.old.memory.touches ≤ self.new.memory.touches }
-        ensures copied { self.new.memory.copied ≡ self.old.memory.copied }
     {
         remove_chunks(&mut self.memory.inner, &mut self.table, range);
         self.state.remove(range.start, range.len);

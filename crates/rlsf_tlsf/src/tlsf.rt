@@ -10,10 +10,10 @@ ghost use Rattle.rlsf_model.specs.Allocate.{Allocates};
 ghost use Rattle.rlsf_model.specs.Callers.{align_at, bytes_at, copied_over};
 ghost use Rattle.rlsf_model.specs.Insert.{IsUntouched};
 ghost use Rattle.rlsf_model.specs.NoMove.{ReallocatesWithoutMove};
-ghost use Rattle.rlsf_model.specs.Reallocate.{HasRoomToStay, Keeps, Reallocates};
+ghost use Rattle.rlsf_model.specs.Reallocate.{Reallocates};
 ghost use Rattle.rlsf_model.specs.Release.{Deallocates};
 ghost use Rattle.rlsf_model.specs.Run.{Fills};
-ghost use Rattle.rlsf_model.specs.Sized.{IsSizedFor, live_count};
+ghost use Rattle.rlsf_model.specs.Sized.{live_count};
 ghost use Rattle.rlsf_model.specs.State.{empty};
 ghost use Rattle.rlsf_table.specs.Table.{newest_of, of_class};
 ghost use Rattle.rlsf_blocks.specs.Spare.{IsSpareWord};
@@ -63,6 +63,9 @@ impl<FLBitmap: BitPattern, SLBitmap: BitPattern, const FLLEN: usize, const SLLEN
 > {
     ghost use Rattle.rlsf_tlsf.specs.Allocator.{Stands, Steps};
     ghost use Rattle.rlsf_tlsf.specs.Lending.{LeavesRest, lends_payload, written};
+    ghost use Rattle.rlsf_tlsf.specs.Bounds.{IfWithinBounds, KeepsAllBounds, KeepsBounds};
+    ghost use Rattle.rlsf_tlsf.specs.Results.{IsAllocated, IsDeallocated, IsFilled, IsLeft, IsReallocated, IsResized, IsUnchanged};
+    ghost use Rattle.rlsf_tlsf.specs.Results.{KeepsFrame, KeepsFrameCopying, KeepsFrameInPlace, KeepsFrameMoving};
 
     /// Creates an allocator that owns `memory` and has no pool.
     ///
@@ -104,22 +107,12 @@ impl<FLBitmap: BitPattern, SLBitmap: BitPattern, const FLLEN: usize, const SLLEN
     #[inline(always)]
     pub fn allocate(&mut self, layout: Layout) -> Option<Addr>
         ensures step { Steps FLLEN SLLEN self.old self.new (Allocates SLLEN self.old.state layout.size layout.align (reply result)) }
-        ensures live { IfSome result (λ addr. align_at self.new.state (at addr) ≡ Some layout.align) }
-        ensures sized { IfSome result (λ addr. layout.size ≤ length (bytes_at self.new.state (at addr))) }
-        ensures few { IfSome result (λ addr. length (bytes_at self.new.state (at addr)) < layout.size + 32) }
-        ensures new { IfSome result (λ addr. align_at self.old.state (at addr) ≡ None) }
-        ensures aligns { IfSome result (λ addr. (a : ℕ) → a ≢ at addr → align_at self.new.state a ≡ align_at self.old.state a) }
-        ensures bytes { IfSome result (λ addr. (a : ℕ) → a ≢ at addr → bytes_at self.new.state a ≡ bytes_at self.old.state a) }
-        ensures room { (count size align : ℕ) → IsSizedFor SLLEN count size align self.old.state → live_count self.old.state ≤ count → layout.size ≤ size → layout.align ≤ align → IsSome result }
-        ensures count { IfSome result (λ addr. live_count self.new.state ≡ live_count self.old.state + 1) }
-        ensures bounds { (count size align : ℕ) → IsSizedFor SLLEN count size align self.old.state → layout.size ≤ size → layout.align ≤ align → IsSizedFor SLLEN count size align self.new.state }
-        ensures chunks { self.new.state.chunks ≡ self.old.state.chunks }
-        ensures same { IfNone result (self.new.state ≡ self.old.state) }
-        ensures refused { IfNone result (self.new.memory.bytes ≡ self.old.memory.bytes) }
-        ensures place { SamePlace self.old.memory self.new.memory }
+        ensures result { IfSome result (λ addr. IsAllocated self.old.state self.new.state layout.size layout.align (at addr)) }
+        ensures room { IfWithinBounds SLLEN self.old.state layout.size layout.align (IsSome result) }
+        ensures bounds { KeepsBounds SLLEN self.old.state self.new.state layout.size layout.align }
+        ensures refused { IfNone result (IsUnchanged self.old self.new) }
+        ensures frame { KeepsFrame self.old self.new }
         ensures touches { self.new.memory.touches ≤ self.old.memory.touches + 27 }
-        ensures grow { self.old.memory.touches ≤ self.new.memory.touches }
-        ensures copied { self.new.memory.copied ≡ self.old.memory.copied }
     {
         let view = self.memory.inner.view();
         let payload = allocate_block(&mut self.memory.inner, view, &mut self.table, layout)?;
@@ -134,16 +127,10 @@ impl<FLBitmap: BitPattern, SLBitmap: BitPattern, const FLLEN: usize, const SLLEN
     pub fn deallocate(&mut self, addr: Addr, align: usize)
         requires { align_at self.old.state (at addr) ≡ Some align }
         ensures step { Steps FLLEN SLLEN self.old self.new (Deallocates self.old.state (at addr)) }
-        ensures count { live_count self.old.state ≡ live_count self.new.state + 1 }
-        ensures bounds { (count size align : ℕ) → IsSizedFor SLLEN count size align self.old.state → IsSizedFor SLLEN count size align self.new.state }
-        ensures chunks { self.new.state.chunks ≡ self.old.state.chunks }
-        ensures gone { align_at self.new.state (at addr) ≡ None }
-        ensures aligns { (a : ℕ) → a ≢ at addr → align_at self.new.state a ≡ align_at self.old.state a }
-        ensures bytes { (a : ℕ) → a ≢ at addr → bytes_at self.new.state a ≡ bytes_at self.old.state a }
-        ensures place { SamePlace self.old.memory self.new.memory }
+        ensures result { IsDeallocated self.old.state self.new.state (at addr) }
+        ensures bounds { KeepsAllBounds SLLEN self.old.state self.new.state }
+        ensures frame { KeepsFrame self.old self.new }
         ensures touches { self.new.memory.touches ≤ self.old.memory.touches + 32 }
-        ensures grow { self.old.memory.touches ≤ self.new.memory.touches }
-        ensures copied { self.new.memory.copied ≡ self.old.memory.copied }
     {
         let payload = addr.get();
         let view = self.memory.inner.view();
@@ -159,16 +146,10 @@ impl<FLBitmap: BitPattern, SLBitmap: BitPattern, const FLLEN: usize, const SLLEN
     pub fn deallocate_unknown_align(&mut self, addr: Addr)
         requires { IsSome (align_at self.old.state (at addr)) }
         ensures step { Steps FLLEN SLLEN self.old self.new (Deallocates self.old.state (at addr)) }
-        ensures count { live_count self.old.state ≡ live_count self.new.state + 1 }
-        ensures bounds { (count size align : ℕ) → IsSizedFor SLLEN count size align self.old.state → IsSizedFor SLLEN count size align self.new.state }
-        ensures chunks { self.new.state.chunks ≡ self.old.state.chunks }
-        ensures gone { align_at self.new.state (at addr) ≡ None }
-        ensures aligns { (a : ℕ) → a ≢ at addr → align_at self.new.state a ≡ align_at self.old.state a }
-        ensures bytes { (a : ℕ) → a ≢ at addr → bytes_at self.new.state a ≡ bytes_at self.old.state a }
-        ensures place { SamePlace self.old.memory self.new.memory }
+        ensures result { IsDeallocated self.old.state self.new.state (at addr) }
+        ensures bounds { KeepsAllBounds SLLEN self.old.state self.new.state }
+        ensures frame { KeepsFrame self.old self.new }
         ensures touches { self.new.memory.touches ≤ self.old.memory.touches + 33 }
-        ensures grow { self.old.memory.touches ≤ self.new.memory.touches }
-        ensures copied { self.new.memory.copied ≡ self.old.memory.copied }
     {
         let payload = addr.get();
         let block = load_block_of(&mut self.memory.inner, payload);
@@ -191,25 +172,12 @@ impl<FLBitmap: BitPattern, SLBitmap: BitPattern, const FLLEN: usize, const SLLEN
     pub fn reallocate(&mut self, addr: Addr, layout: Layout) -> Option<Addr>
         requires { align_at self.old.state (at addr) ≡ Some layout.align }
         ensures step { Steps FLLEN SLLEN self.old self.new (Reallocates SLLEN self.old.state (at addr) layout.size (reply result)) }
-        ensures live { IfSome result (λ to. align_at self.new.state (at to) ≡ Some layout.align) }
-        ensures sized { IfSome result (λ to. layout.size ≤ length (bytes_at self.new.state (at to))) }
-        ensures few { IfSome result (λ to. length (bytes_at self.new.state (at to)) < layout.size + 32) }
-        ensures kept { IfSome result (λ to. Keeps (bytes_at self.old.state (at addr)) (bytes_at self.new.state (at to))) }
-        ensures new { IfSome result (λ to. at to ≢ at addr → align_at self.old.state (at to) ≡ None) }
-        ensures aligns { IfSome result (λ to. (a : ℕ) → a ≢ at addr → a ≢ at to → align_at self.new.state a ≡ align_at self.old.state a) }
-        ensures bytes { IfSome result (λ to. (a : ℕ) → a ≢ at addr → a ≢ at to → bytes_at self.new.state a ≡ bytes_at self.old.state a) }
-        ensures room { (count size align : ℕ) → IsSizedFor SLLEN count size align self.old.state → live_count self.old.state ≤ count → layout.size ≤ size → layout.align ≤ align → IsSome result }
-        ensures count { live_count self.new.state ≡ live_count self.old.state }
-        ensures bounds { (count size align : ℕ) → IsSizedFor SLLEN count size align self.old.state → layout.size ≤ size → layout.align ≤ align → IsSizedFor SLLEN count size align self.new.state }
-        ensures chunks { self.new.state.chunks ≡ self.old.state.chunks }
-        ensures same { IfNone result (self.new.state ≡ self.old.state) }
-        ensures refused { IfNone result (self.new.memory.bytes ≡ self.old.memory.bytes) }
-        ensures place { SamePlace self.old.memory self.new.memory }
+        ensures result { IfSome result (λ to. IsReallocated self.old.state self.new.state (at addr) layout.size layout.align (at to)) }
+        ensures room { IfWithinBounds SLLEN self.old.state layout.size layout.align (IsSome result) }
+        ensures bounds { KeepsBounds SLLEN self.old.state self.new.state layout.size layout.align }
+        ensures refused { IfNone result (IsUnchanged self.old self.new) }
+        ensures frame { KeepsFrameMoving (at addr) layout.size self.old self.new }
         ensures touches { self.new.memory.touches ≤ self.old.memory.touches + 66 }
-        ensures grow { self.old.memory.touches ≤ self.new.memory.touches }
-        ensures copied { self.new.memory.copied ≤ self.old.memory.copied + length (bytes_at self.old.state (at addr)) }
-        ensures grow_copied { self.old.memory.copied ≤ self.new.memory.copied }
-        ensures stays { HasRoomToStay self.old.state (at addr) layout.size → self.new.memory.copied ≡ self.old.memory.copied }
     {
         let payload = addr.get();
         let view = self.memory.inner.view();
@@ -236,22 +204,11 @@ impl<FLBitmap: BitPattern, SLBitmap: BitPattern, const FLLEN: usize, const SLLEN
     pub fn reallocate_no_move(&mut self, addr: Addr, layout: Layout) -> Option<Addr>
         requires { align_at self.old.state (at addr) ≡ Some layout.align }
         ensures step { Steps FLLEN SLLEN self.old self.new (ReallocatesWithoutMove self.old.state (at addr) layout.size (reply result)) }
-        ensures there { IfSome result (λ to. at to ≡ at addr) }
-        ensures live { align_at self.new.state (at addr) ≡ Some layout.align }
-        ensures sized { IfSome result (λ to. layout.size ≤ length (bytes_at self.new.state (at addr))) }
-        ensures few { IfSome result (λ to. length (bytes_at self.new.state (at addr)) < layout.size + 32) }
-        ensures kept { IfSome result (λ to. Keeps (bytes_at self.old.state (at addr)) (bytes_at self.new.state (at addr))) }
-        ensures aligns { align_at self.new.state ≡ align_at self.old.state }
-        ensures bytes { (a : ℕ) → a ≢ at addr → bytes_at self.new.state a ≡ bytes_at self.old.state a }
-        ensures count { live_count self.new.state ≡ live_count self.old.state }
-        ensures bounds { (count size align : ℕ) → IsSizedFor SLLEN count size align self.old.state → layout.size ≤ size → layout.align ≤ align → IsSizedFor SLLEN count size align self.new.state }
-        ensures chunks { self.new.state.chunks ≡ self.old.state.chunks }
-        ensures same { IfNone result (self.new.state ≡ self.old.state) }
-        ensures refused { IfNone result (self.new.memory.bytes ≡ self.old.memory.bytes) }
-        ensures place { SamePlace self.old.memory self.new.memory }
+        ensures result { IfSome result (λ to. IsResized self.old.state self.new.state (at addr) layout.size (at to)) }
+        ensures bounds { KeepsBounds SLLEN self.old.state self.new.state layout.size layout.align }
+        ensures refused { IfNone result (IsUnchanged self.old self.new) }
+        ensures frame { KeepsFrameInPlace (at addr) layout.align self.old self.new }
         ensures touches { self.new.memory.touches ≤ self.old.memory.touches + 25 }
-        ensures grow { self.old.memory.touches ≤ self.new.memory.touches }
-        ensures copied { self.new.memory.copied ≡ self.old.memory.copied }
     {
         let payload = addr.get();
         let view = self.memory.inner.view();
@@ -283,10 +240,8 @@ impl<FLBitmap: BitPattern, SLBitmap: BitPattern, const FLLEN: usize, const SLLEN
         ensures refused { result.0 ≡ false → Steps FLLEN SLLEN self.old self.new (ReallocatesWithoutMove self.old.state (at addr) layout.size None) }
         ensures unchanged { result.0 ≡ false → (self.new.memory.bytes ≡ self.old.memory.bytes) × (self.new.memory.touches ≤ self.old.memory.touches + 7) }
         ensures len { result.1 ≡ length (bytes_at self.old.state (at addr)) }
-        ensures place { SamePlace self.old.memory self.new.memory }
+        ensures frame { KeepsFrame self.old self.new }
         ensures touches { self.new.memory.touches ≤ self.old.memory.touches + 29 }
-        ensures grow { self.old.memory.touches ≤ self.new.memory.touches }
-        ensures copied { self.new.memory.copied ≡ self.old.memory.copied }
     {
         let payload = addr.get();
         let usable = load_usable_bytes(&mut self.memory.inner, payload);
@@ -343,16 +298,12 @@ impl<FLBitmap: BitPattern, SLBitmap: BitPattern, const FLLEN: usize, const SLLEN
         requires { IsSome (align_at self.old.state (at addr)) }
         ensures* writes_back { sem 𝓛 (lends_payload FLBitmap.row SLBitmap.row FLLEN.row SLLEN.row FLBitmap.BitPattern SLBitmap.BitPattern self.entry (at addr) result) }
         ensures value { result.now ≡ bytes_at self.old.state (at addr) }
-        ensures meaning { (w : List ℕ) → length w ≡ length result.now
+        ensures step { (w : List ℕ) → length w ≡ length result.now
             → Steps FLLEN SLLEN self.old (written self.old (at addr) (length result.now) w) (Fills self.old.state (at addr) w) }
-        ensures filled { (w : List ℕ) → length w ≡ length result.now → bytes_at (written self.old (at addr) (length result.now) w).state (at addr) ≡ w }
+        ensures result { (w : List ℕ) → IsLeft self.old.state (written self.old (at addr) (length result.now) w).state (at addr) (length result.now) w }
         ensures bytes { (w : List ℕ) (a : ℕ) → a ≢ at addr → bytes_at (written self.old (at addr) (length result.now) w).state a ≡ bytes_at self.old.state a }
-        ensures aligns { (w : List ℕ) → align_at (written self.old (at addr) (length result.now) w).state ≡ align_at self.old.state }
-        ensures count { (w : List ℕ) → live_count (written self.old (at addr) (length result.now) w).state ≡ live_count self.old.state }
-        ensures bounds { (w : List ℕ) (count size align : ℕ) → IsSizedFor SLLEN count size align self.old.state
-            → IsSizedFor SLLEN count size align (written self.old (at addr) (length result.now) w).state }
-        ensures lengths { (w : List ℕ) → length (bytes_at (written self.old (at addr) (length result.now) w).state (at addr)) ≡ length result.now }
-        ensures rest { (w : List ℕ) → LeavesRest FLLEN SLLEN self.old (written self.old (at addr) (length result.now) w) }
+        ensures bounds { (w : List ℕ) → KeepsAllBounds SLLEN self.old.state (written self.old (at addr) (length result.now) w).state }
+        ensures frame { (w : List ℕ) → LeavesRest FLLEN SLLEN self.old (written self.old (at addr) (length result.now) w) }
     {
         let range = load_usable_bytes(&mut self.memory.inner, addr.get());
         self.memory.slice_mut(range)
@@ -367,15 +318,10 @@ impl<FLBitmap: BitPattern, SLBitmap: BitPattern, const FLLEN: usize, const SLLEN
         requires live { IsSome (align_at self.old.state (at from)) × IsSome (align_at self.old.state (at to)) }
         requires long { (len ≤ length (bytes_at self.old.state (at from))) × (len ≤ length (bytes_at self.old.state (at to))) }
         ensures step { Steps FLLEN SLLEN self.old self.new (Fills self.old.state (at to) (copied_over self.old.state (at from) (at to) len)) }
-        ensures filled { bytes_at self.new.state (at to) ≡ copied_over self.old.state (at from) (at to) len }
-        ensures bytes { (a : ℕ) → a ≢ at to → bytes_at self.new.state a ≡ bytes_at self.old.state a }
-        ensures aligns { align_at self.new.state ≡ align_at self.old.state }
-        ensures count { live_count self.new.state ≡ live_count self.old.state }
-        ensures bounds { (count size align : ℕ) → IsSizedFor SLLEN count size align self.old.state → IsSizedFor SLLEN count size align self.new.state }
-        ensures chunks { self.new.state.chunks ≡ self.old.state.chunks }
-        ensures place { SamePlace self.old.memory self.new.memory }
+        ensures result { IsFilled self.old.state self.new.state (at to) (copied_over self.old.state (at from) (at to) len) }
+        ensures bounds { KeepsAllBounds SLLEN self.old.state self.new.state }
+        ensures frame { KeepsFrameCopying len self.old self.new }
         ensures touches { self.new.memory.touches ≡ self.old.memory.touches }
-        ensures copied { self.new.memory.copied ≡ self.old.memory.copied + len }
     {
         self.memory.inner.copy_within(
             Range {

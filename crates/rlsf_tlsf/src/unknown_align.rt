@@ -1,11 +1,8 @@
 //! Reallocation of a payload whose alignment the caller does not know.
 
-ghost use Rattle.std.specs.Prelude.{◌≡◌, ◌≢◌, ◌≤◌, ◌<◌, ◌+◌, ℕ, None, Some, length, IfNone, IfSome, IsSome};
+ghost use Rattle.std.specs.Prelude.{◌≤◌, ◌<◌, ◌+◌, None, Some, IfNone, IfSome, IsSome};
 ghost use Rattle.rlsf_base.specs.Addr.{at, reply};
-ghost use Rattle.rlsf_base.specs.Space.{SamePlace};
-ghost use Rattle.rlsf_model.specs.Callers.{align_at, bytes_at};
-ghost use Rattle.rlsf_model.specs.Reallocate.{HasRoomToStay, Keeps};
-ghost use Rattle.rlsf_model.specs.Sized.{IsSizedFor, live_count};
+ghost use Rattle.rlsf_model.specs.Callers.{align_at};
 
 use crate::tlsf::Tlsf;
 use rlsf_base::memory::{Addr, Layout};
@@ -18,7 +15,9 @@ impl<FLBitmap: BitPattern, SLBitmap: BitPattern, const FLLEN: usize, const SLLEN
     SLLEN,
 > {
     ghost use Rattle.rlsf_tlsf.specs.Allocator.{Steps};
-    ghost use Rattle.rlsf_tlsf.specs.UnknownAlign.{KeepsBounds, ReallocatesAnyAlign};
+    ghost use Rattle.rlsf_tlsf.specs.Bounds.{IfWithinBounds, KeepsBoundsAnyAlign};
+    ghost use Rattle.rlsf_tlsf.specs.Results.{IsReallocatedAnyAlign, IsUnchanged, KeepsFrameMoving};
+    ghost use Rattle.rlsf_tlsf.specs.UnknownAlign.{ReallocatesAnyAlign};
 
     /// Changes the size of the payload at `addr` to that of `layout`, as `reallocate` does, if the caller does not know the
     /// payload's alignment. Returns its address. The first bytes are kept, as many as both sizes have. The payload takes the
@@ -35,28 +34,12 @@ impl<FLBitmap: BitPattern, SLBitmap: BitPattern, const FLLEN: usize, const SLLEN
     pub fn reallocate_unknown_align(&mut self, addr: Addr, layout: Layout) -> Option<Addr>
         requires { IsSome (align_at self.old.state (at addr)) }
         ensures step { Steps FLLEN SLLEN self.old self.new (ReallocatesAnyAlign SLLEN self.old.state (at addr) layout.size layout.align (reply result)) }
-        ensures live { IfSome result (λ to. IsSome (align_at self.new.state (at to))) }
-        ensures there { IfSome result (λ to. at to ≡ at addr → align_at self.new.state (at to) ≡ align_at self.old.state (at addr)) }
-        ensures moved { IfSome result (λ to. at to ≢ at addr → align_at self.new.state (at to) ≡ Some layout.align) }
-        ensures gone { IfSome result (λ to. at to ≢ at addr → align_at self.new.state (at addr) ≡ None) }
-        ensures sized { IfSome result (λ to. layout.size ≤ length (bytes_at self.new.state (at to))) }
-        ensures few { IfSome result (λ to. length (bytes_at self.new.state (at to)) < layout.size + 32) }
-        ensures kept { IfSome result (λ to. Keeps (bytes_at self.old.state (at addr)) (bytes_at self.new.state (at to))) }
-        ensures new { IfSome result (λ to. at to ≢ at addr → align_at self.old.state (at to) ≡ None) }
-        ensures aligns { IfSome result (λ to. (a : ℕ) → a ≢ at addr → a ≢ at to → align_at self.new.state a ≡ align_at self.old.state a) }
-        ensures bytes { IfSome result (λ to. (a : ℕ) → a ≢ at addr → a ≢ at to → bytes_at self.new.state a ≡ bytes_at self.old.state a) }
-        ensures room { (count size align : ℕ) → IsSizedFor SLLEN count size align self.old.state → live_count self.old.state ≤ count → layout.size ≤ size → layout.align ≤ align → IsSome result }
-        ensures count { live_count self.new.state ≡ live_count self.old.state }
-        ensures bounds { KeepsBounds SLLEN self.old.state (at addr) layout.size layout.align self.new.state }
-        ensures chunks { self.new.state.chunks ≡ self.old.state.chunks }
-        ensures same { IfNone result (self.new.state ≡ self.old.state) }
-        ensures refused { IfNone result (self.new.memory.bytes ≡ self.old.memory.bytes) }
-        ensures place { SamePlace self.old.memory self.new.memory }
+        ensures result { IfSome result (λ to. IsReallocatedAnyAlign self.old.state self.new.state (at addr) layout.size layout.align (at to)) }
+        ensures room { IfWithinBounds SLLEN self.old.state layout.size layout.align (IsSome result) }
+        ensures bounds { KeepsBoundsAnyAlign SLLEN self.old.state (at addr) layout.size layout.align self.new.state }
+        ensures refused { IfNone result (IsUnchanged self.old self.new) }
+        ensures frame { KeepsFrameMoving (at addr) layout.size self.old self.new }
         ensures touches { self.new.memory.touches ≤ self.old.memory.touches + 67 }
-        ensures grow { self.old.memory.touches ≤ self.new.memory.touches }
-        ensures copied { self.new.memory.copied ≤ self.old.memory.copied + length (bytes_at self.old.state (at addr)) }
-        ensures grow_copied { self.old.memory.copied ≤ self.new.memory.copied }
-        ensures stays { HasRoomToStay self.old.state (at addr) layout.size → self.new.memory.copied ≡ self.old.memory.copied }
     {
         let (stays, len) = self.resize_unknown_align(addr, layout);
         if stays {

@@ -32,11 +32,11 @@ returns-in_err-to g c =
       new = tt;
       aligns = tt;
       bytes = tt;
-      count = ap live_count c.in_err-to.ensures.same;
+      count = ap live_count c.in_err-to.ensures.refused.same;
       bounds = is.bounds;
-      place = is.place;
-      grow = is.grow;
-      grow_copied = omega (arith, is.copied);
+      place = is.frame.place;
+      grow = is.frame.grow;
+      grow_copied = omega (arith, is.frame.copied);
     })
 
 -- an address where a payload is is none where there is none
@@ -44,17 +44,17 @@ apart : (s : State) (a b align : ℕ) → align_at s a ≡ Some align → align_
 apart s a b align live none same = none-some align (sym none ∙ ap (align_at s) (sym same) ∙ live)
 
 off : (g : given.Over) (c : In_ok-to g) → at c.args.addr ≢ at c.in_ok-to.to
-off g c = apart c.args.tlsf.now.state (at c.args.addr) (at c.in_ok-to.to) c.args.layout.align c.requires.live c.in_ok-to.ensures.new
+off g c = apart c.args.tlsf.now.state (at c.args.addr) (at c.in_ok-to.to) c.args.layout.align c.requires.live c.in_ok-to.ensures.result.new
 
 off_from : (g : given.Over) (c : In_ok-to g) → at c.in_ok-to.to ≢ at c.args.addr
 off_from g c same = off g c (sym same)
 
 -- the payload is live while the new one is allocated
 stays_live : (g : given.Over) (c : In_ok-to g) → align_at c.allocate.new.self.state (at c.args.addr) ≡ Some c.args.layout.align
-stays_live g c = c.in_ok-to.ensures.aligns (at c.args.addr) (off g c) ∙ c.requires.live
+stays_live g c = c.in_ok-to.ensures.result.aligns (at c.args.addr) (off g c) ∙ c.requires.live
 
 stays : (g : given.Over) (c : In_ok-to g) → bytes_at c.allocate.new.self.state (at c.args.addr) ≡ bytes_at c.args.tlsf.now.state (at c.args.addr)
-stays g c = c.in_ok-to.ensures.bytes (at c.args.addr) (off g c)
+stays g c = c.in_ok-to.ensures.result.bytes (at c.args.addr) (off g c)
 
 -- the new payload's bytes are the old one's, and then its own
 moved : (g : given.Over) (c : After-deallocate g)
@@ -66,10 +66,10 @@ moved g c =
     let here = (goal.at.returns g c).In_ok-to in
     let len = c.allocation_usable_size-len.ensures in
     let old = stays g here in (
-      c.deallocate.ensures.bytes _ (off_from g here) ∙ c.copy_payload.ensures.filled
+      c.deallocate.ensures.result.bytes _ (off_from g here) ∙ c.copy_payload.ensures.result.filled
           ∙ ap (λ l. with_front c.allocation_usable_size-len.result l (bytes_at c.allocate.new.self.state (at c.in_ok-to.to))) old,
       sym (ap length old) ∙ sym len,
-      omega (arith, len, ap length old, c.requires.short, c.in_ok-to.ensures.sized),
+      omega (arith, len, ap length old, c.requires.short, c.in_ok-to.ensures.result.sized),
     )
 
 -- and as many as were allocated
@@ -111,7 +111,7 @@ moves g c =
       stands = stood_at last (opened_whole _ _ _ _ _ c.deallocate.ensures.step);
       spare =
           KeepsSpare-copied v addr u holds size align to is short step now c.copy_payload.new.self c.deallocate.new.self r c.deallocate.new.self.state filled gone
-          c.in_ok-to.ensures.place c.copy_payload.ensures.place spare spare_copied spare_last;
+          c.in_ok-to.ensures.frame.place c.copy_payload.ensures.frame.place spare spare_copied spare_last;
     }
 
 pub returns : goal.returns
@@ -125,18 +125,18 @@ returns g c =
     record {
       refused = tt;
       step = moves g c;
-      live = three.aligns _ (off_from g here) ∙ ap (λ aligns. aligns (at c.in_ok-to.to)) two.aligns ∙ one.live;
-      sized = subst (λ n. c.args.layout.size ≤ n) (sym (moved_length g c)) one.sized;
-      few = subst (λ n. n < c.args.layout.size + 32) (sym (moved_length g c)) one.few;
+      live = three.result.aligns _ (off_from g here) ∙ ap (λ aligns. aligns (at c.in_ok-to.to)) two.result.aligns ∙ one.result.live;
+      sized = subst (λ n. c.args.layout.size ≤ n) (sym (moved_length g c)) one.result.sized;
+      few = subst (λ n. n < c.args.layout.size + 32) (sym (moved_length g c)) one.result.few;
       kept = subst (Keeps old) (sym is) (Keeps-front c.allocation_usable_size-len.result old (bytes_at c.allocate.new.self.state (at c.in_ok-to.to)) len short);
-      new = one.new;
-      aligns = λ a from to. three.aligns a from ∙ ap (λ aligns. aligns a) two.aligns ∙ one.aligns a to;
-      bytes = λ a from to. three.bytes a from ∙ two.bytes a to ∙ one.bytes a to;
-      count = omega (arith, one.count, two.count, three.count);
+      new = one.result.new;
+      aligns = λ a from to. three.result.aligns a from ∙ ap (λ aligns. aligns a) two.result.aligns ∙ one.result.aligns a to;
+      bytes = λ a from to. three.result.bytes a from ∙ two.result.bytes a to ∙ one.result.bytes a to;
+      count = omega (arith, one.result.count, two.result.count, three.result.count);
       bounds = λ count size align sized short fits. three.bounds count size align (two.bounds count size align (one.bounds count size align sized short fits));
       place =
           SamePlace-then c.args.tlsf.now.memory c.copy_payload.new.self.memory c.deallocate.new.self.memory
-          (SamePlace-then c.args.tlsf.now.memory c.allocate.new.self.memory c.copy_payload.new.self.memory one.place two.place) three.place;
-      grow = omega (arith, one.grow, two.touches, three.grow);
-      grow_copied = omega (arith, one.copied, two.copied, three.copied);
+          (SamePlace-then c.args.tlsf.now.memory c.allocate.new.self.memory c.copy_payload.new.self.memory one.frame.place two.frame.place) three.frame.place;
+      grow = omega (arith, one.frame.grow, two.touches, three.frame.grow);
+      grow_copied = omega (arith, one.frame.copied, two.frame.copied, three.frame.copied);
     }

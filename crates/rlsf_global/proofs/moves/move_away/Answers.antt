@@ -33,7 +33,8 @@ returns g c = record {
       let third = c.deallocate.ensures in
       moved_away_seen c.args.flex.now c.allocate.new.self c.copy_payload.new.self c.deallocate.new.self (at c.args.addr) c.args.keep c.args.wanted c.in_ok-to.to first.step
       second.step third.step
-      c.args.align c.requires.live first.new (record { live = first.live; sized = first.sized; few = first.few }) first.aligns first.bytes second.aligns second.bytes
+      c.args.align c.requires.live first.result.new (record { live = first.result.live; sized = first.result.sized; few = first.result.few }) first.result.aligns
+      first.result.bytes second.aligns second.bytes
       third.deallocation.gone third.deallocation.aligns third.deallocation.bytes;
   none = tt;
   refused = tt;

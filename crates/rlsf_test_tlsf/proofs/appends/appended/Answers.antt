@@ -27,9 +27,9 @@ append_free_block_ptr-less-requires g c =
     let one =
     chunks-first g.row.FLLEN 8 c.args.tlsf.now c.insert_free_block.new.self chunk c.requires.state refl (omega arith)
     (cut-one g.row.FLLEN pool c.requires.rows (omega arith) (omega arith)) c.insert_free_block.ensures.step in
-    let still = c.allocate.ensures.chunks ∙ one in
-    let put = c.insert_free_block.ensures.place in
-    let kept = c.allocate.ensures.place in
+    let still = c.allocate.ensures.frame.chunks ∙ one in
+    let put = c.insert_free_block.ensures.frame.place in
+    let kept = c.allocate.ensures.frame.place in
     let behind =
     LiesIn-behind c.allocate.new.self.memory.start (length c.allocate.new.self.memory.bytes) pool few (omega (arith, kept, put, place)) (omega (arith, kept, put, place))
     (omega arith) in
@@ -45,13 +45,13 @@ append_free_block_ptr-more-requires g c =
     let one =
     chunks-first g.row.FLLEN 8 c.args.tlsf.now c.insert_free_block.new.self chunk c.requires.state refl (omega arith)
     (cut-one g.row.FLLEN pool c.requires.rows (omega arith) (omega arith)) c.insert_free_block.ensures.step in
-    let still = c.allocate.ensures.chunks ∙ one in
-    let put = c.insert_free_block.ensures.place in
-    let kept = c.allocate.ensures.place in
+    let still = c.allocate.ensures.frame.chunks ∙ one in
+    let put = c.insert_free_block.ensures.frame.place in
+    let kept = c.allocate.ensures.frame.place in
     let s = c.allocate.new.self in
     let t = c.append_free_block_ptr-less.new.self in
     let less = (opened g.row.FLLEN 8 s t (Appends g.row.FLLEN s.state few c.append_free_block_ptr-less.result) c.append_free_block_ptr-less.ensures.step).0 in
-    let last = c.append_free_block_ptr-less.ensures.place in
+    let last = c.append_free_block_ptr-less.ensures.frame.place in
     let same =
     ap (λ q. q.chunks) (Appends-few g.row.FLLEN s.state few c.append_free_block_ptr-less.result t.state (omega (arith, c.requires.rows)) (omega arith) less) ∙ still in
     let further = LiesIn-behind t.memory.start (length t.memory.bytes) pool many (omega (arith, last, kept, put, place)) (omega (arith, last, kept, put, place)) (omega arith) in

@@ -13,7 +13,7 @@ set_spare_word-requires g c =
     let one = chunks-first 8 8 c.new-tlsf.result c.insert_free_block.new.self chunk c.new-tlsf.ensures.state refl refl refl c.insert_free_block.ensures.step in
     let start = ap (λ m. m.start) c.new-tlsf.ensures.memory ∙ made.start in
     let long = ap (λ m. length m.bytes) c.new-tlsf.ensures.memory ∙ ap length made.bytes ∙ length-replicate {A = ℕ} 288 0 in
-    let kept = c.insert_free_block.ensures.place in (
+    let kept = c.insert_free_block.ensures.frame.place in (
       lit< tt,
       (
         (room.0, (omega (arith, start, long, kept, room), omega (arith, start, long, kept, room))),

@@ -6,11 +6,11 @@ pub returns : goal.returns
 returns g c =
     let first = at c.in-Some.first in
     let second = at c.in-Some-allocate.second in
-    let live = c.in-Some.ensures.live in
-    let new = c.in-Some-allocate.ensures.new in
+    let live = c.in-Some.ensures.result.live in
+    let new = c.in-Some-allocate.ensures.result.new in
     let apart : first ≢ second = λ same. cc (live, new) in
     record {
-      first = c.third.ensures first c.args.layout.align (c.in-Some-allocate.ensures.aligns first apart ∙ live);
-      second = c.third.ensures second c.args.layout.align c.in-Some-allocate.ensures.live;
+      first = c.third.ensures first c.args.layout.align (c.in-Some-allocate.ensures.result.aligns first apart ∙ live);
+      second = c.third.ensures second c.args.layout.align c.in-Some-allocate.ensures.result.live;
       apart = apart;
     }

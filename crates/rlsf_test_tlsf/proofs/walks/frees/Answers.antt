@@ -7,5 +7,5 @@ pub iter_blocks-blocks-requires : goal.iter_blocks-blocks-requires
 iter_blocks-blocks-requires g c = (
   lit< tt,
   IsRow-same c.args.tlsf.now.state c.deallocate_unknown_align.new.self.state (range_at 4096 16384)
-      (c.deallocate_unknown_align.ensures.chunks ∙ c.in-Some.ensures.chunks) c.requires,
+      (c.deallocate_unknown_align.ensures.frame.chunks ∙ c.in-Some.ensures.frame.chunks) c.requires,
 )

@@ -17,7 +17,7 @@ returns-in_default g c = record {
 pub returns : goal.returns
 returns g c = record {
   does = λ s at.
-      freed_by at c.deallocate.new.self c.deallocate.ensures.place c.args.name c.in-Some.payload (sym c.payload_of.ensures.value ∙ c.in-Some.is)
+      freed_by at c.deallocate.new.self c.deallocate.ensures.frame.place c.args.name c.in-Some.payload (sym c.payload_of.ensures.value ∙ c.in-Some.is)
       c.deallocate.ensures.step c.take_name.ensures.pools c.take_name.ensures.names;
   room = c.take_name.ensures.room;
   place = search rules;

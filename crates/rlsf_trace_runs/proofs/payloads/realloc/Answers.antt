@@ -34,7 +34,8 @@ returns-in-Some-placed g c = record {
       refl c.add_name.ensures.names in (
         _,
         (u, owns, valid, t, subst (λ a. Reallocates g.row.SLLEN s.machine a c.args.size (Some to) t) (sym holds.1) step, refl),
-        IsAt-named at c.in-Some-placed.ensures.place t stands (reallocation_keeps_chunks g.row.SLLEN s.machine t (address p) c.args.size (Some to) step) c.add_name.ensures.pools
+        IsAt-named at c.in-Some-placed.ensures.frame.place t stands (reallocation_keeps_chunks g.row.SLLEN s.machine t (address p) c.args.size (Some to) step)
+            c.add_name.ensures.pools
             named,
         keeps,
       );
@@ -72,7 +73,7 @@ returns-in_default-placed g c = record {
       (sym none) (
         _,
         (u, owns, valid, t, subst (λ a. Reallocates g.row.SLLEN s.machine a c.args.size None t) (sym holds.1) step, refl),
-        IsAt-unmoved at c.reallocate-placed.ensures.place t stands (reallocation_refused g.row.SLLEN s.machine t (address p) c.args.size step),
+        IsAt-unmoved at c.reallocate-placed.ensures.frame.place t stands (reallocation_refused g.row.SLLEN s.machine t (address p) c.args.size step),
         keeps,
       );
   room = room_left c.args.tables.now;

@@ -32,7 +32,7 @@ returns g c = record {
       let valid = subst (IsLayout c.args.size) (sym its) (c.in-Ok.ensures.succeeds.0 refl) in (
         _,
         (u, owns, valid, t, subst (λ a. ReallocatesWithoutMove s.machine a c.args.size said t) (sym holds.1) step, refl),
-        IsAt-aligned at c.reallocate_no_move.ensures.place t stands c.reallocate_no_move.ensures.chunks c.reallocate_no_move.ensures.aligns,
+        IsAt-aligned at c.reallocate_no_move.ensures.frame.place t stands c.reallocate_no_move.ensures.frame.chunks c.reallocate_no_move.ensures.frame.aligns,
         keeps,
       );
   place = search rules;

@@ -27,7 +27,8 @@ returns-in-Some g c = record {
       c.add_name.ensures.names in (
         _,
         (free, t, step, refl),
-        IsAt-named at c.in-Some.ensures.place t stands (allocation_keeps_chunks g.row.SLLEN s.machine t layout.size layout.align (Some addr) step) c.add_name.ensures.pools named,
+        IsAt-named at c.in-Some.ensures.frame.place t stands (allocation_keeps_chunks g.row.SLLEN s.machine t layout.size layout.align (Some addr) step) c.add_name.ensures.pools
+            named,
         keeps,
       );
   room = search rules;
@@ -47,7 +48,7 @@ returns-in_default g c = record {
       × (x ≡ record { machine = machine; named = with_name c.args.name o s.named; pools = s.pools }))
       × IsAt g.row.FLLEN g.row.SLLEN c.allocate-placed.new.self c.args.tables.now x × KeepsSpare c.args.tlsf.now.memory s.machine c.allocate-placed.new.self.memory x.machine)
       (sym none)
-      (_, (free, t, refused, refl), IsAt-unmoved at c.allocate-placed.ensures.place t stands refused.1, keeps);
+      (_, (free, t, refused, refl), IsAt-unmoved at c.allocate-placed.ensures.frame.place t stands refused.1, keeps);
   room = room_left c.args.tables.now;
   place = search rules;
 }

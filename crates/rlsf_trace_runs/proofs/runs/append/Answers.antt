@@ -60,7 +60,7 @@ returns g c = record {
       c.append_free_block_ptr-taken.ensures.step in (
         _,
         (may, t, step, refl),
-        IsAt-appended at c.append_free_block_ptr-taken.ensures.place t stands r c.append_free_block_ptr-taken.result place step may ends c.lengthen_pool.ensures.names
+        IsAt-appended at c.append_free_block_ptr-taken.ensures.frame.place t stands r c.append_free_block_ptr-taken.result place step may ends c.lengthen_pool.ensures.names
             (c.lengthen_pool.ensures.pools no_range) c.lengthen_pool.ensures.firsts,
         keeps,
       );

@@ -48,7 +48,7 @@ returns-in-Some g c = record {
       let pool = subst (λ n. c.pool_of.result ≡ between (round32 c.args.range.start) (c.args.range.start + n)) c.get.ensures.value c.pool_of.ensures in (
         _,
         (may, t, step, refl),
-        IsAt-inserted at c.in-Some.ensures.place t stands c.args.range c.pool_of.result (non_zero_usize_get c.in-Some.len) step may pool c.add_pool.ensures.names
+        IsAt-inserted at c.in-Some.ensures.frame.place t stands c.args.range c.pool_of.result (non_zero_usize_get c.in-Some.len) step may pool c.add_pool.ensures.names
             c.add_pool.ensures.pools c.add_pool.ensures.in_runs,
         keeps,
       );
@@ -78,7 +78,7 @@ returns-in_default g c = record {
       × (x ≡ record { machine = machine; named = s.named; pools = with_pool c.args.range o s.pools }))
       × IsAt g.row.FLLEN g.row.SLLEN c.insert_free_block_ptr-taken.new.self c.args.tables.now x
       × KeepsSpare c.args.tlsf.now.memory s.machine c.insert_free_block_ptr-taken.new.self.memory x.machine) (sym none)
-      (_, (may, t, refused, refl), IsAt-not_inserted at c.insert_free_block_ptr-taken.ensures.place t stands c.args.range refused, keeps);
+      (_, (may, t, refused, refl), IsAt-not_inserted at c.insert_free_block_ptr-taken.ensures.frame.place t stands c.args.range refused, keeps);
   room = room_left c.args.tables.now;
   place = search rules;
 }

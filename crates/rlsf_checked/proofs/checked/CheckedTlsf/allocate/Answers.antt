@@ -9,7 +9,7 @@ use Rattle.rlsf_checked.proofs.checked.CheckedTlsf.allocate.Goals as goal
 pub invariant_of-self : goal.invariant_of-self
 invariant_of-self g c =
     let did = c.in_default.ensures in
-    unchanged c.self.invariant c.allocate.new.self (stands_after _ _ _ _ _ did.step) did.place did.chunks (ap align_at did.same)
+    unchanged c.self.invariant c.allocate.new.self (stands_after _ _ _ _ _ did.step) did.frame.place did.frame.chunks (ap align_at did.refused.same)
 
 pub mark_of-requires : goal.mark_of-requires
 mark_of-requires g c = subst IsPowerOfTwo (sym c.align.ensures.value) c.args.layout.valid.aligned
@@ -18,7 +18,7 @@ pub set-requires : goal.set-requires
 set-requires g c =
     let did = c.in-Some.ensures in
     let there = subst (HasMark c.self.inside.marks) (sym c.get.ensures.value)
-    (has_mark c.self.invariant c.allocate.new.self (stands_after _ _ _ _ _ did.step) did.place (at c.in-Some.addr) c.args.layout.align did.live) in
+    (has_mark c.self.invariant c.allocate.new.self (stands_after _ _ _ _ _ did.step) did.frame.place (at c.in-Some.addr) c.args.layout.align did.result.live) in
     record { place = there; small = c.mark_of.ensures.small }
 
 pub invariant_of-self-2 : goal.invariant_of-self-2
@@ -29,9 +29,9 @@ invariant_of-self-2 g c =
     let addr = at c.in-Some.addr in
     let here : mark_at marks addr ≡ mark_of (align_at heap.state addr) =
     subst (λ a. mark_at marks a ≡ suc (floor_log2 c.args.layout.align)) c.get.ensures.value
-    (c.set.ensures.here ∙ c.mark_of.ensures.value ∙ ap (λ n. suc (floor_log2 n)) c.align.ensures.value) ∙ sym (ap mark_of did.live) in
-    marked_at c.self.invariant heap marks addr (stands_after _ _ _ _ _ did.step) did.place did.chunks c.set.ensures.places c.set.ensures.edges here
-    (λ a apart. c.set.ensures.others a (λ same. apart (same ∙ c.get.ensures.value))) did.aligns
+    (c.set.ensures.here ∙ c.mark_of.ensures.value ∙ ap (λ n. suc (floor_log2 n)) c.align.ensures.value) ∙ sym (ap mark_of did.result.live) in
+    marked_at c.self.invariant heap marks addr (stands_after _ _ _ _ _ did.step) did.frame.place did.frame.chunks c.set.ensures.places c.set.ensures.edges here
+    (λ a apart. c.set.ensures.others a (λ same. apart (same ∙ c.get.ensures.value))) did.result.aligns
 
 pub returns-in_default : goal.returns-in_default
 returns-in_default g c =
@@ -48,13 +48,13 @@ returns-in_default g c =
       room = did.room;
       count = tt;
       bounds = did.bounds;
-      same = did.same;
-      same_bytes = did.refused;
+      same = did.refused.same;
+      same_bytes = did.refused.bytes;
       pool = refl;
-      place = did.place;
+      place = did.frame.place;
       touches = did.touches;
-      grow = did.grow;
-      copied = did.copied;
+      grow = did.frame.grow;
+      copied = did.frame.copied;
     })
 
 pub returns : goal.returns
@@ -63,20 +63,20 @@ returns g c =
     rw (← c.self.view_is) (record {
       refused = tt;
       step = did.step;
-      live = did.live;
-      sized = did.sized;
-      few = did.few;
-      new = did.new;
-      aligns = did.aligns;
-      bytes = did.bytes;
+      live = did.result.live;
+      sized = did.result.sized;
+      few = did.result.few;
+      new = did.result.new;
+      aligns = did.result.aligns;
+      bytes = did.result.bytes;
       room = did.room;
-      count = did.count;
+      count = did.result.count;
       bounds = did.bounds;
       same = tt;
       same_bytes = tt;
       pool = refl;
-      place = did.place;
+      place = did.frame.place;
       touches = did.touches;
-      grow = did.grow;
-      copied = did.copied;
+      grow = did.frame.grow;
+      copied = did.frame.copied;
     })

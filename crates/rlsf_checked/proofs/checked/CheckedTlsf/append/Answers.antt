@@ -55,7 +55,8 @@ same_state g c =
 pub invariant_of-self : goal.invariant_of-self
 invariant_of-self g c =
     let did = c.append_free_block_ptr-taken.ensures in
-    unchanged c.self.invariant c.append_free_block_ptr-taken.new.self (stands_after _ _ _ _ _ did.step) did.place (ap (λ (s : State). s.chunks) (same_state g c)) did.aligns
+    unchanged c.self.invariant c.append_free_block_ptr-taken.new.self (stands_after _ _ _ _ _ did.step) did.frame.place (ap (λ (s : State). s.chunks) (same_state g c))
+    did.frame.aligns
 
 pub overflow_add-self : goal.overflow_add-self
 overflow_add-self g c =
@@ -90,7 +91,7 @@ invariant_of-self-2 g c =
     let first = flips c.flip.ensures.here c.flip.ensures.others c.flip.ensures.marks c.flip.ensures.places in
     let second = flips c.flip-2.ensures.here c.flip-2.ensures.others c.flip-2.ensures.marks c.flip-2.ensures.places in
     let did = c.append_free_block_ptr-taken.ensures in
-    handed_on c.self.invariant c.args.range is.some is.ends is.lies _ stands did.place did.aligns _ step c.flip-2.new.self
+    handed_on c.self.invariant c.args.range is.some is.ends is.lies _ stands did.frame.place did.frame.aligns _ step c.flip-2.new.self
     (appended_edges c.self.invariant _ stands c.args.range _ is.some is.ends is.lies (omega (arith, c.if-taken-eq0.false)) step c.flip.new.self c.flip-2.new.self first second)
 
 pub returns-then-not-lies_in : goal.returns-then-not-lies_in
@@ -145,15 +146,15 @@ returns-then-taken-eq0 g c =
       step = tt;
       pool = tt;
       same = (same_state g (goal.at.returns-then-taken-eq0 g c).Then-taken-eq0, refl);
-      refused = did.unchanged c.if-taken-eq0.true;
-      aligns = did.aligns;
-      bytes = did.bytes;
-      count = did.count;
+      refused = did.refused c.if-taken-eq0.true;
+      aligns = did.frame.aligns;
+      bytes = did.frame.bytes;
+      count = did.frame.count;
       bounds = did.bounds;
-      place = did.place;
+      place = did.frame.place;
       touches = did.touches;
-      grow = did.grow;
-      copied = did.copied;
+      grow = did.frame.grow;
+      copied = did.frame.copied;
     })
 
 pub returns : goal.returns
@@ -169,12 +170,12 @@ returns g c =
       pool = refl;
       same = tt;
       refused = tt;
-      aligns = did.aligns;
-      bytes = did.bytes;
-      count = did.count;
+      aligns = did.frame.aligns;
+      bytes = did.frame.bytes;
+      count = did.frame.count;
       bounds = did.bounds;
-      place = did.place;
+      place = did.frame.place;
       touches = did.touches;
-      grow = did.grow;
-      copied = did.copied;
+      grow = did.frame.grow;
+      copied = did.frame.copied;
     })

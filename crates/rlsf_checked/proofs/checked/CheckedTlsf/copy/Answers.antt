@@ -33,7 +33,7 @@ reach g c =
 pub invariant_of-self : goal.invariant_of-self
 invariant_of-self g c =
     let did = c.copy_payload.ensures in
-    unchanged c.self.invariant c.copy_payload.new.self (stands_after _ _ _ _ _ did.step) did.place did.chunks did.aligns
+    unchanged c.self.invariant c.copy_payload.new.self (stands_after _ _ _ _ _ did.step) did.frame.place did.frame.chunks did.result.aligns
 
 pub returns : goal.returns
 returns g c =
@@ -44,18 +44,18 @@ returns g c =
     rw (← c.self.view_is) (record {
       answer = ap (λ b. cond b (Ok tt) (Err OutOfRange)) fits ∙ in_range _ _ _ _ _ from to;
       step = did.step;
-      filled = did.filled;
+      filled = did.result.filled;
       only = record {
-        aligns = did.aligns;
-        bytes = did.bytes;
-        count = did.count;
+        aligns = did.result.aligns;
+        bytes = did.result.bytes;
+        count = did.result.count;
         bounds = did.bounds;
         same = tt;
         pool = refl;
-        place = did.place;
+        place = did.frame.place;
       };
       touches = did.touches;
-      copied = did.copied;
+      copied = did.frame.copied;
     })
 
 pub returns-in_default : goal.returns-in_default

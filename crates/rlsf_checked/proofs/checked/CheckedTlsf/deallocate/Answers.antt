@@ -20,9 +20,9 @@ invariant_of-self g c =
     let marks = c.set.new.self in
     let addr = at c.args.addr in
     let here : mark_at marks addr ≡ mark_of (align_at heap.state addr) =
-    subst (λ a. mark_at marks a ≡ 0) c.get.ensures.value c.set.ensures.here ∙ sym (ap mark_of did.gone) in
-    marked_at c.self.invariant heap marks addr (stands_after _ _ _ _ _ did.step) did.place did.chunks c.set.ensures.places c.set.ensures.edges here
-    (λ a apart. c.set.ensures.others a (λ same. apart (same ∙ c.get.ensures.value))) did.aligns
+    subst (λ a. mark_at marks a ≡ 0) c.get.ensures.value c.set.ensures.here ∙ sym (ap mark_of did.result.gone) in
+    marked_at c.self.invariant heap marks addr (stands_after _ _ _ _ _ did.step) did.frame.place did.frame.chunks c.set.ensures.places c.set.ensures.edges here
+    (λ a apart. c.set.ensures.others a (λ same. apart (same ∙ c.get.ensures.value))) did.result.aligns
 
 pub returns-in-Some : goal.returns-in-Some
 returns-in-Some g c =
@@ -31,17 +31,17 @@ returns-in-Some g c =
     rw (← c.self.view_is) (record {
       answer = ap (λ o. if_live o tt) live;
       step = did.step;
-      gone = did.gone;
-      aligns = did.aligns;
-      bytes = did.bytes;
-      count = did.count;
+      gone = did.result.gone;
+      aligns = did.result.aligns;
+      bytes = did.result.bytes;
+      count = did.result.count;
       bounds = did.bounds;
       same = tt;
       pool = refl;
-      place = did.place;
+      place = did.frame.place;
       touches = did.touches;
-      grow = did.grow;
-      copied = did.copied;
+      grow = did.frame.grow;
+      copied = did.frame.copied;
     })
 
 pub returns-in-None : goal.returns-in-None

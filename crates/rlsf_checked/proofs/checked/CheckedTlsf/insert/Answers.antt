@@ -48,7 +48,7 @@ invariant_of-self g c =
     let did = c.in_default.ensures in
     let heap = c.insert_free_block_ptr.new.self in
     let same : heap.state ≡ c.self.inside.heap.state = none_taken g.row.FLLEN c.self.inside.heap.state heap.state c.args.range (step_of _ _ _ _ _ did.step) in
-    unchanged c.self.invariant heap (stands_after _ _ _ _ _ did.step) did.place (ap (λ (s : State). s.chunks) same) did.aligns
+    unchanged c.self.invariant heap (stands_after _ _ _ _ _ did.step) did.frame.place (ap (λ (s : State). s.chunks) same) did.frame.aligns
 
 pub next_multiple_of_32-requires : goal.next_multiple_of_32-requires
 next_multiple_of_32-requires g c =
@@ -87,7 +87,7 @@ invariant_of-self-2 g c =
     let second = subst (λ a. Flips c.flip.new.self c.flip-2.new.self (c.args.range.start + a)) c.get-len.ensures.value
     (flips c.flip-2.ensures.here c.flip-2.ensures.others c.flip-2.ensures.marks c.flip-2.ensures.places) in
     subst (λ k. IsChecked g.row.FLLEN g.row.SLLEN heap c.flip-2.new.self (range_at c.args.range.start k)) (sym c.get-len.ensures.value)
-    (handed_in c.self.invariant c.args.range is.behind is.lies heap stands did.place did.aligns _ step c.flip-2.new.self
+    (handed_in c.self.invariant c.args.range is.behind is.lies heap stands did.frame.place did.frame.aligns _ step c.flip-2.new.self
     (inserted_edges c.self.invariant heap stands c.args.range _ is.behind is.lies step c.flip.new.self c.flip-2.new.self first second))
 
 pub returns-then-not-lies_in : goal.returns-then-not-lies_in
@@ -143,15 +143,15 @@ returns-in_default g c =
       pool = tt;
       same = (none_taken g.row.FLLEN c.self.inside.heap.state c.insert_free_block_ptr.new.self.state c.args.range step, refl);
       refused = did.refused;
-      aligns = did.aligns;
-      bytes = did.bytes;
-      count = did.count;
+      aligns = did.frame.aligns;
+      bytes = did.frame.bytes;
+      count = did.frame.count;
       bounds = did.bounds;
       sized_pool = λ count size align len told at32 long idle. tt;
-      place = did.place;
+      place = did.frame.place;
       touches = did.touches;
-      grow = did.grow;
-      copied = did.copied;
+      grow = did.frame.grow;
+      copied = did.frame.copied;
     })
 
 pub returns : goal.returns
@@ -171,13 +171,13 @@ returns g c =
       pool = refl;
       same = tt;
       refused = tt;
-      aligns = did.aligns;
-      bytes = did.bytes;
-      count = did.count;
+      aligns = did.frame.aligns;
+      bytes = did.frame.bytes;
+      count = did.frame.count;
       bounds = did.bounds;
-      sized_pool = did.pool;
-      place = did.place;
+      sized_pool = did.result.pool;
+      place = did.frame.place;
       touches = did.touches;
-      grow = did.grow;
-      copied = did.copied;
+      grow = did.frame.grow;
+      copied = did.frame.copied;
     })

@@ -28,7 +28,7 @@ bounds_kept g c count most_size align sized short fits =
 pub invariant_of-self : goal.invariant_of-self
 invariant_of-self g c =
     let did = c.in_default-reallocate.ensures in
-    unchanged c.self.invariant c.reallocate.new.self (stands_after _ _ _ _ _ did.step) did.place did.chunks (ap align_at did.same)
+    unchanged c.self.invariant c.reallocate.new.self (stands_after _ _ _ _ _ did.step) did.frame.place did.frame.chunks (ap align_at did.refused.same)
 
 pub set-requires : goal.set-requires
 set-requires g c =
@@ -42,7 +42,7 @@ set-requires-2 g c =
     let did = c.in-Some-reallocate.ensures in
     let there = c.set.ensures.places c.get.result
     (subst (HasMark c.self.inside.marks) (sym c.get.ensures.value)
-    (has_mark c.self.invariant c.reallocate.new.self (stands_after _ _ _ _ _ did.step) did.place (at c.in-Some-reallocate.moved) c.in-Ok.layout.align did.live)) in
+    (has_mark c.self.invariant c.reallocate.new.self (stands_after _ _ _ _ _ did.step) did.frame.place (at c.in-Some-reallocate.moved) c.in-Ok.layout.align did.result.live)) in
     record { place = there; small = c.mark_of-mark.ensures.small }
 
 pub invariant_of-self-2 : goal.invariant_of-self-2
@@ -58,11 +58,11 @@ invariant_of-self-2 g c =
     let set : mark_at c.set-2.new.self to ≡ suc (floor_log2 layout.align) =
     subst (λ a. mark_at c.set-2.new.self a ≡ suc (floor_log2 layout.align)) c.get.ensures.value
     (c.set-2.ensures.here ∙ c.mark_of-mark.ensures.value ∙ ap (λ n. suc (floor_log2 n)) (sym c.in-Ok.ensures.layout.1)) in
-    marked_moved c.self.invariant heap c.set.new.self c.set-2.new.self addr to layout.align (stands_after _ _ _ _ _ did.step) did.place did.chunks
+    marked_moved c.self.invariant heap c.set.new.self c.set-2.new.self addr to layout.align (stands_after _ _ _ _ _ did.step) did.frame.place did.frame.chunks
     (λ a has. c.set-2.ensures.places a (c.set.ensures.places a has)) (λ a. c.set-2.ensures.edges a ∙ c.set.ensures.edges a)
     (λ a apart. c.set.ensures.others a (λ same. apart (same ∙ c.get-left.ensures.value))) cleared
-    (λ a apart. c.set-2.ensures.others a (λ same. apart (same ∙ c.get.ensures.value))) set did.live
-    (left_behind g.row.FLLEN g.row.SLLEN c.self.inside.heap c.self.invariant.stands heap.state addr c.in-Some.align layout.size to live step) did.aligns
+    (λ a apart. c.set-2.ensures.others a (λ same. apart (same ∙ c.get.ensures.value))) set did.result.live
+    (left_behind g.row.FLLEN g.row.SLLEN c.self.inside.heap c.self.invariant.stands heap.state addr c.in-Some.align layout.size to live step) did.result.aligns
 
 pub returns-in_default : goal.returns-in_default
 returns-in_default g c =
@@ -120,16 +120,16 @@ returns-in_default-reallocate g c =
       room = λ count most_size most sized few short fits fine.
           let low : c.in-Some.align ≤ most = subst (λ o. IfSome o (λ a. a ≤ most)) (sym live) fits in
           did.room count most_size most sized few (omega (arith, short, size)) (omega (arith, low, align));
-      count = did.count;
+      count = did.frame.count;
       bounds = bounds_kept g (goal.at.returns-in_default-reallocate g c).After-reallocate;
-      same = did.same;
-      refused = did.refused;
+      same = did.refused.same;
+      refused = did.refused.bytes;
       pool = refl;
-      place = did.place;
+      place = did.frame.place;
       touches = did.touches;
-      grow = did.grow;
-      copied = did.copied;
-      grow_copied = did.grow_copied;
+      grow = did.frame.grow;
+      copied = did.frame.copied;
+      grow_copied = did.frame.grow_copied;
     })
 
 pub returns : goal.returns
@@ -146,24 +146,24 @@ returns g c =
           subst (λ o. IsRefusedBy (size_refusal o c.args.size) (Ok c.in-Some-reallocate.moved)) live
           (subst (λ o. IsRefusedBy o (Ok c.in-Some-reallocate.moved)) (sym (size_fits c.in-Ok.layout c.args.size c.in-Some.align size align)) tt);
       step = λ fits. subst (λ n. Steps g.row.FLLEN g.row.SLLEN heap new (Reallocates g.row.SLLEN heap.state addr n (Some to))) size did.step;
-      live = did.live ∙ ap Some align ∙ live;
-      sized = subst (λ n. n ≤ length (bytes_at new.state to)) size did.sized;
-      few = subst (λ n. length (bytes_at new.state to) < n + 32) size did.few;
-      kept = did.kept;
-      new = did.new;
+      live = did.result.live ∙ ap Some align ∙ live;
+      sized = subst (λ n. n ≤ length (bytes_at new.state to)) size did.result.sized;
+      few = subst (λ n. length (bytes_at new.state to) < n + 32) size did.result.few;
+      kept = did.result.kept;
+      new = did.result.new;
       left =
           left_behind g.row.FLLEN g.row.SLLEN heap c.self.invariant.stands new.state addr c.in-Some.align c.in-Ok.layout.size to (sym live) (step_of _ _ _ _ _ did.step);
-      aligns = did.aligns;
-      bytes = did.bytes;
+      aligns = did.result.aligns;
+      bytes = did.result.bytes;
       room = λ count most_size most sized few short fits fine. refl;
-      count = did.count;
+      count = did.frame.count;
       bounds = bounds_kept g (goal.at.returns g c).After-reallocate;
       same = tt;
       refused = tt;
       pool = refl;
-      place = did.place;
+      place = did.frame.place;
       touches = did.touches;
-      grow = did.grow;
-      copied = did.copied;
-      grow_copied = did.grow_copied;
+      grow = did.frame.grow;
+      copied = did.frame.copied;
+      grow_copied = did.frame.grow_copied;
     })

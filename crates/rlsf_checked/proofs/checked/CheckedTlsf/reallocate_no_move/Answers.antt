@@ -36,12 +36,12 @@ bounds_kept g c count most_size align sized short fits =
 pub invariant_of-self : goal.invariant_of-self
 invariant_of-self g c =
     let did = c.in_default-reallocate_no_move.ensures in
-    unchanged c.self.invariant c.reallocate_no_move.new.self (stands_after _ _ _ _ _ did.step) did.place did.chunks did.aligns
+    unchanged c.self.invariant c.reallocate_no_move.new.self (stands_after _ _ _ _ _ did.step) did.frame.place did.frame.chunks did.frame.aligns
 
 pub invariant_of-self-2 : goal.invariant_of-self-2
 invariant_of-self-2 g c =
     let did = c.in-Some-reallocate_no_move.ensures in
-    unchanged c.self.invariant c.reallocate_no_move.new.self (stands_after _ _ _ _ _ did.step) did.place did.chunks did.aligns
+    unchanged c.self.invariant c.reallocate_no_move.new.self (stands_after _ _ _ _ _ did.step) did.frame.place did.frame.chunks did.frame.aligns
 
 pub returns-in_default : goal.returns-in_default
 returns-in_default g c =
@@ -86,17 +86,17 @@ returns-in_default-reallocate_no_move g c =
       sized = tt;
       few = tt;
       kept = tt;
-      aligns = did.aligns;
-      bytes = did.bytes;
-      count = did.count;
+      aligns = did.frame.aligns;
+      bytes = did.frame.bytes;
+      count = did.frame.count;
       bounds = bounds_kept g (goal.at.returns-in_default-reallocate_no_move g c).After-reallocate_no_move;
-      same = did.same;
-      refused = did.refused;
+      same = did.refused.same;
+      refused = did.refused.bytes;
       pool = refl;
-      place = did.place;
+      place = did.frame.place;
       touches = did.touches;
-      grow = did.grow;
-      copied = did.copied;
+      grow = did.frame.grow;
+      copied = did.frame.copied;
     })
 
 pub returns : goal.returns
@@ -110,19 +110,19 @@ returns g c =
           subst (λ o. IsRefusedBy (size_refusal o c.args.size) (Ok to)) live
           (subst (λ o. IsRefusedBy o (Ok to)) (sym (size_fits c.in-Ok.layout c.args.size c.in-Some.align size align)) tt);
       step = λ fits. did_step g (goal.at.returns g c).After-reallocate_no_move (Some to) c.in-Some-reallocate_no_move.is;
-      there = did.there;
-      sized = subst (λ n. n ≤ length (bytes_at c.reallocate_no_move.new.self.state (at c.args.addr))) size did.sized;
-      few = subst (λ n. length (bytes_at c.reallocate_no_move.new.self.state (at c.args.addr)) < n + 32) size did.few;
-      kept = did.kept;
-      aligns = did.aligns;
-      bytes = did.bytes;
-      count = did.count;
+      there = did.result.there;
+      sized = subst (λ n. n ≤ length (bytes_at c.reallocate_no_move.new.self.state (at c.args.addr))) size did.result.sized;
+      few = subst (λ n. length (bytes_at c.reallocate_no_move.new.self.state (at c.args.addr)) < n + 32) size did.result.few;
+      kept = did.result.kept;
+      aligns = did.frame.aligns;
+      bytes = did.frame.bytes;
+      count = did.frame.count;
       bounds = bounds_kept g (goal.at.returns g c).After-reallocate_no_move;
       same = tt;
       refused = tt;
       pool = refl;
-      place = did.place;
+      place = did.frame.place;
       touches = did.touches;
-      grow = did.grow;
-      copied = did.copied;
+      grow = did.frame.grow;
+      copied = did.frame.copied;
     })

@@ -17,7 +17,7 @@ invariant_of-self g c =
     let heap = c.remove_pool.new.self in
     let step = step_of _ _ _ _ _ did.step in
     let stands = stands_after _ _ _ _ _ did.step in
-    removed_last c.self.invariant heap step stands did.place did.aligns c.self.inside.marks (removed_none c.self.invariant heap stands step c.if-pool-eq0.true)
+    removed_last c.self.invariant heap step stands did.frame.place did.frame.aligns c.self.inside.marks (removed_none c.self.invariant heap stands step c.if-pool-eq0.true)
 
 pub next_multiple_of_32-requires : goal.next_multiple_of_32-requires
 next_multiple_of_32-requires g c =
@@ -49,7 +49,7 @@ invariant_of-self-2 g c =
     let first = subst (Flips c.self.inside.marks c.flip.new.self) c.next_multiple_of_32.ensures.value
     (flips c.flip.ensures.here c.flip.ensures.others c.flip.ensures.marks c.flip.ensures.places) in
     let second = flips c.flip-2.ensures.here c.flip-2.ensures.others c.flip-2.ensures.marks c.flip-2.ensures.places in
-    removed_last c.self.invariant heap step stands did.place did.aligns c.flip-2.new.self
+    removed_last c.self.invariant heap step stands did.frame.place did.frame.aligns c.flip-2.new.self
     (removed_edges c.self.invariant heap stands step (omega (arith, c.if-pool-eq0.false)) c.flip.new.self c.flip-2.new.self first second)
 
 pub returns-then-any_used : goal.returns-then-any_used
@@ -77,12 +77,12 @@ returns-then-pool-eq0 g c =
       step = λ e. did.step;
       pool = λ e. refl;
       same = λ e. absurd (true≢false e);
-      aligns = did.aligns;
-      bytes = did.bytes;
-      count = did.count;
-      place = did.place;
-      grow = did.grow;
-      copied = did.copied;
+      aligns = did.frame.aligns;
+      bytes = did.frame.bytes;
+      count = did.frame.count;
+      place = did.frame.place;
+      grow = did.frame.grow;
+      copied = did.frame.copied;
     })
 
 pub returns : goal.returns
@@ -92,11 +92,11 @@ returns g c =
       step = λ e. did.step;
       pool = λ e. refl;
       same = λ e. absurd (true≢false e);
-      aligns = did.aligns;
+      aligns = did.frame.aligns;
       idle = ((λ e. idle_last c.self.invariant c.iter_blocks.result c.iter_blocks.ensures.blocks (sym c.any_used.ensures ∙ c.if-any_used.false)), (λ idle. refl));
-      bytes = did.bytes;
-      count = did.count;
-      place = did.place;
-      grow = did.grow;
-      copied = did.copied;
+      bytes = did.frame.bytes;
+      count = did.frame.count;
+      place = did.frame.place;
+      grow = did.frame.grow;
+      copied = did.frame.copied;
     })

@@ -70,7 +70,7 @@ invariant_of-self g c =
     let pool : pool_without c.self.inside.pool (walked c.args.range) ≡ c.pool_left-self-inside.result =
     sym (c.pool_left-self-inside.ensures ∙ ap (λ a. pool_without c.self.inside.pool (between a (end_of c.args.range))) c.next_multiple_of_32-start.ensures.value) in
     subst (λ p. IsChecked g.row.FLLEN g.row.SLLEN heap c.flip-2.new.self p) pool
-    (removed_range c.self.invariant c.args.range are heap step (stands_after _ _ _ _ _ did.step) did.place did.aligns c.flip-2.new.self
+    (removed_range c.self.invariant c.args.range are heap step (stands_after _ _ _ _ _ did.step) did.frame.place did.frame.aligns c.flip-2.new.self
     (removed_range_edges c.self.invariant c.args.range are heap step c.flip.new.self c.flip-2.new.self first second))
 
 pub returns-then-not-are_chunks : goal.returns-then-not-are_chunks
@@ -118,11 +118,11 @@ returns g c =
       step = did.step;
       pool = c.pool_left-self-inside.ensures ∙ ap (λ a. pool_without c.self.inside.pool (between a (end_of c.args.range))) c.next_multiple_of_32-start.ensures.value;
       same = tt;
-      aligns = did.aligns;
-      bytes = did.bytes;
-      count = did.count;
-      place = did.place;
+      aligns = did.frame.aligns;
+      bytes = did.frame.bytes;
+      count = did.frame.count;
+      place = did.frame.place;
       touches = did.touches;
-      grow = did.grow;
-      copied = did.copied;
+      grow = did.frame.grow;
+      copied = did.frame.copied;
     })

@@ -16,7 +16,7 @@ pub returns-in_err-addr : goal.returns-in_err-addr
 returns-in_err-addr c = record {
   stored = search rules;
   refused =
-      KeepsAll-refused c.self.view_is c.allocate.new.self _ c.in_err-addr.ensures.step c.in_err-addr.ensures.same c.in_err-addr.ensures.place
+      KeepsAll-refused c.self.view_is c.allocate.new.self _ c.in_err-addr.ensures.step c.in_err-addr.ensures.refused.same c.in_err-addr.ensures.frame.place
       c.from_residual.result c.from_residual.ensures;
   room =
       let layout = c.in-Ok.layout in
@@ -54,26 +54,33 @@ returns c = record {
       subst (λ (old : StoreContents). (places : List Place) → KeepsAt old places → HasAmong old new places [] (place addr 1 (length front)) front) c.self.view_is
       (λ places has. subst (λ n. HasAmong (store_contents c.self.inside.heap c.self.inside.pool) new places [] (place addr n (length front)) front) c.in-Ok.ensures.layout.1
       (HasAmong-added places addr layout.align front (length front) refl has (λ before after store.
-      let allocated = IsStore-allocated c.allocate.new.self layout.size layout.align addr layout.valid.aligned before after c.in_ok-addr.ensures.step c.in_ok-addr.ensures.place
+      let allocated = IsStore-allocated c.allocate.new.self layout.size layout.align addr layout.valid.aligned before after c.in_ok-addr.ensures.step
+      c.in_ok-addr.ensures.frame.place
       store in
       let writes : take (length front) w ≡ front = ap (take (length front)) c.write_at.ensures.bytes ∙ front-append [] lent front 0 refl refl in
-      let few : length w < length front + 32 = omega (arith, c.write_at.ensures.len, ap length c.payload_mut.ensures.value, c.in_ok-addr.ensures.few, c.in-Ok.ensures.layout.0) in
+      let few : length w < length front + 32 = omega (
+        arith,
+        c.write_at.ensures.len,
+        ap length c.payload_mut.ensures.value,
+        c.in_ok-addr.ensures.result.few,
+        c.in-Ok.ensures.layout.0,
+      ) in
       IsStore-filled before after (stored addr layout.align (asked_at c.allocate.new.self addr layout.size)) refl allocated
-      (written c.allocate.new.self addr (length lent) w) w front writes few (c.payload_mut.ensures.meaning w c.write_at.ensures.len) (c.payload_mut.ensures.rest w).1)));
+      (written c.allocate.new.self addr (length lent) w) w front writes few (c.payload_mut.ensures.step w c.write_at.ensures.len) (c.payload_mut.ensures.frame w).1)));
   refused = search rules;
   room = search rules;
   enough = search rules;
   place =
-      let first = c.in_ok-addr.ensures.place in
-      let then = (c.payload_mut.ensures.rest c.write_at.new.payload).1 in
+      let first = c.in_ok-addr.ensures.frame.place in
+      let then = (c.payload_mut.ensures.frame c.write_at.new.payload).1 in
       subst (λ (old : StoreContents). SamePlace old.heap.memory
       (written c.allocate.new.self (non_zero_usize_get c.in_ok-addr.addr) (length c.payload_mut.result.now) c.write_at.new.payload).memory) c.self.view_is
       (then.0 ∙ first.0, then.1 ∙ first.1, then.2 ∙ first.2, λ none. then.3 (first.3 none));
   touches =
       subst (λ (old : StoreContents). (written c.allocate.new.self (non_zero_usize_get c.in_ok-addr.addr)
       (length c.payload_mut.result.now) c.write_at.new.payload).memory.touches ≤ old.heap.memory.touches + 30) c.self.view_is
-      (omega (arith, c.in_ok-addr.ensures.touches, (c.payload_mut.ensures.rest c.write_at.new.payload).3));
+      (omega (arith, c.in_ok-addr.ensures.touches, (c.payload_mut.ensures.frame c.write_at.new.payload).3));
 }
 
 pub write_at-requires : goal.write_at-requires
-write_at-requires c = omega (arith, ap length c.payload_mut.ensures.value, c.in_ok-addr.ensures.sized, c.in-Ok.ensures.layout.0)
+write_at-requires c = omega (arith, ap length c.payload_mut.ensures.value, c.in_ok-addr.ensures.result.sized, c.in-Ok.ensures.layout.0)

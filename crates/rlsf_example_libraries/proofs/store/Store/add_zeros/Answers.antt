@@ -21,7 +21,7 @@ pub returns-in_err-addr : goal.returns-in_err-addr
 returns-in_err-addr c = record {
   stored = search rules;
   refused =
-      KeepsAll-refused c.self.view_is c.allocate.new.self _ c.in_err-addr.ensures.step c.in_err-addr.ensures.same c.in_err-addr.ensures.place
+      KeepsAll-refused c.self.view_is c.allocate.new.self _ c.in_err-addr.ensures.step c.in_err-addr.ensures.refused.same c.in_err-addr.ensures.frame.place
       c.from_residual.result c.from_residual.ensures;
   room =
       let layout = c.args.layout in
@@ -52,7 +52,7 @@ returns c = record {
       let lent = c.payload_mut.result.now in
       let w = c.fill.new.self in
       let front : List ℕ = replicate layout.size 0 in
-      let room : layout.size ≤ length lent = omega (arith, ap length c.payload_mut.ensures.value, c.in_ok-addr.ensures.sized) in
+      let room : layout.size ≤ length lent = omega (arith, ap length c.payload_mut.ensures.value, c.in_ok-addr.ensures.result.sized) in
       let zeros : w ≡ replicate (length lent) 0 = c.fill.ensures.after (λ y same. same) in
       let begins : take (length front) w ≡ front = ap (λ n. take n w) (length-replicate layout.size 0) ∙ ap (take layout.size) zeros
       ∙ take-replicate layout.size (length lent) 0 room in
@@ -61,17 +61,18 @@ returns c = record {
       c.self.view_is
       (λ places has. HasAmong-added places addr layout.align front layout.size (length-replicate layout.size 0) has
       (λ before after store.
-      let allocated = IsStore-allocated c.allocate.new.self layout.size layout.align addr layout.valid.aligned before after c.in_ok-addr.ensures.step c.in_ok-addr.ensures.place
+      let allocated = IsStore-allocated c.allocate.new.self layout.size layout.align addr layout.valid.aligned before after c.in_ok-addr.ensures.step
+      c.in_ok-addr.ensures.frame.place
       store in
       let few : length w < length front + 32 = omega (
         arith,
         c.fill.ensures.len,
         ap length c.payload_mut.ensures.value,
-        c.in_ok-addr.ensures.few,
+        c.in_ok-addr.ensures.result.few,
         length-replicate {A = ℕ} layout.size 0,
       ) in
       IsStore-filled before after (stored addr layout.align (asked_at c.allocate.new.self addr layout.size)) refl allocated
-      (written c.allocate.new.self addr (length lent) w) w front begins few (c.payload_mut.ensures.meaning w c.fill.ensures.len) (c.payload_mut.ensures.rest w).1));
+      (written c.allocate.new.self addr (length lent) w) w front begins few (c.payload_mut.ensures.step w c.fill.ensures.len) (c.payload_mut.ensures.frame w).1));
   refused = search rules;
   room = search rules;
   enough = search rules;
@@ -87,15 +88,15 @@ returns c = record {
       (λ places (all, store, at) small d is.
       let stands = (opened 59 8 h c.allocate.new.self (Allocates 8 h.state layout.size layout.align (Some addr)) c.in_ok-addr.ensures.step).1 in
       let first = KeepsUniform-allocated h store.stands c.allocate.new.self layout.size layout.align (Some addr) layout.valid.aligned small c.in_ok-addr.ensures.step d is in
-      KeepsUniform-filled c.allocate.new.self stands last addr len w (c.payload_mut.ensures.meaning w c.fill.ensures.len) d first);
+      KeepsUniform-filled c.allocate.new.self stands last addr len w (c.payload_mut.ensures.step w c.fill.ensures.len) d first);
   place =
-      let first = c.in_ok-addr.ensures.place in
-      let then = (c.payload_mut.ensures.rest c.fill.new.self).1 in
+      let first = c.in_ok-addr.ensures.frame.place in
+      let then = (c.payload_mut.ensures.frame c.fill.new.self).1 in
       subst (λ (old : StoreContents). SamePlace old.heap.memory
       (written c.allocate.new.self (non_zero_usize_get c.in_ok-addr.addr) (length c.payload_mut.result.now) c.fill.new.self).memory) c.self.view_is
       (then.0 ∙ first.0, then.1 ∙ first.1, then.2 ∙ first.2, λ none. then.3 (first.3 none));
   touches =
       subst (λ (old : StoreContents). (written c.allocate.new.self (non_zero_usize_get c.in_ok-addr.addr)
       (length c.payload_mut.result.now) c.fill.new.self).memory.touches ≤ old.heap.memory.touches + 30) c.self.view_is
-      (omega (arith, c.in_ok-addr.ensures.touches, (c.payload_mut.ensures.rest c.fill.new.self).3));
+      (omega (arith, c.in_ok-addr.ensures.touches, (c.payload_mut.ensures.frame c.fill.new.self).3));
 }

@@ -22,7 +22,7 @@ pub returns-in_err-to : goal.returns-in_err-to
 returns-in_err-to c = record {
   stored = search rules;
   refused =
-      KeepsAll-refused c.self.view_is c.reallocate.new.self _ c.in_err-to.ensures.step c.in_err-to.ensures.same c.in_err-to.ensures.place
+      KeepsAll-refused c.self.view_is c.reallocate.new.self _ c.in_err-to.ensures.step c.in_err-to.ensures.refused.same c.in_err-to.ensures.frame.place
       c.from_residual-in_err-to.result c.from_residual-in_err-to.ensures;
   enough =
       let (before, after, p, has, at, aligned, long) = subst (λ (old : StoreContents). (before after : List Place) × (p : Place) × KeepsAt old (before ++ p ∷ after)
@@ -56,7 +56,7 @@ returns c = record {
       let long : length k.bytes ≡ c.args.len = ap (λ q. q.len) there ∙ p_len in
       let room : length k.bytes ≤ layout.size = omega (arith, long, c.in-Ok.ensures.layout.0, c.in_ok-size.ensures) in
       let k_at = ap (λ q. q.addr) there ∙ at in
-      let resized = IsStore-resized front back k k_at store c.reallocate.new.self layout.size to c.in_ok-to.ensures.step c.in_ok-to.ensures.place in
+      let resized = IsStore-resized front back k k_at store c.reallocate.new.self layout.size to c.in_ok-to.ensures.step c.in_ok-to.ensures.frame.place in
       let moved = stored to k.align (asked_at c.reallocate.new.self to layout.size) in
       let begins : take (length k.bytes) lent ≡ k.bytes =
       ap (take (length k.bytes)) c.payload_mut.ensures.value ∙ front-resized front back k k_at store c.reallocate.new.self layout.size to room c.in_ok-to.ensures.step in
@@ -64,23 +64,23 @@ returns c = record {
       ap (take (length (k.bytes ++ more))) c.write_at.ensures.bytes ∙ front-append k.bytes lent more c.args.len long (ap (λ n. take n lent) (sym long) ∙ begins) in
       let new_len : length (k.bytes ++ more) ≡ c.args.len + length more = length-append k.bytes more ∙ ap (λ n. n + length more) long in
       let few : length w < length (k.bytes ++ more) + 32 =
-      omega (arith, c.write_at.ensures.len, ap length c.payload_mut.ensures.value, c.in_ok-to.ensures.few, c.in-Ok.ensures.layout.0, c.in_ok-size.ensures, new_len) in
+      omega (arith, c.write_at.ensures.len, ap length c.payload_mut.ensures.value, c.in_ok-to.ensures.result.few, c.in-Ok.ensures.layout.0, c.in_ok-size.ensures, new_len) in
       let stores = IsStore-filled front back moved refl resized (written c.reallocate.new.self to (length lent) w) w (k.bytes ++ more) writes few
-      (c.payload_mut.ensures.meaning w c.write_at.ensures.len) (c.payload_mut.ensures.rest w).1 in
+      (c.payload_mut.ensures.step w c.write_at.ensures.len) (c.payload_mut.ensures.frame w).1 in
       (stored to k.align (k.bytes ++ more), stores, ap (λ n. place to n (length (k.bytes ++ more))) aligned ∙ ap (place to 1) new_len, ap (λ bs. bs ++ more) are)));
   refused = search rules;
   enough = search rules;
   place =
-      let first = c.in_ok-to.ensures.place in
-      let then = (c.payload_mut.ensures.rest c.write_at.new.payload).1 in
+      let first = c.in_ok-to.ensures.frame.place in
+      let then = (c.payload_mut.ensures.frame c.write_at.new.payload).1 in
       subst (λ (old : StoreContents). SamePlace old.heap.memory
       (written c.reallocate.new.self (non_zero_usize_get c.in_ok-to.to) (length c.payload_mut.result.now) c.write_at.new.payload).memory) c.self.view_is
       (then.0 ∙ first.0, then.1 ∙ first.1, then.2 ∙ first.2, λ none. then.3 (first.3 none));
   touches =
       subst (λ (old : StoreContents). (written c.reallocate.new.self (non_zero_usize_get c.in_ok-to.to)
       (length c.payload_mut.result.now) c.write_at.new.payload).memory.touches ≤ old.heap.memory.touches + 69) c.self.view_is
-      (omega (arith, c.in_ok-to.ensures.touches, (c.payload_mut.ensures.rest c.write_at.new.payload).3));
+      (omega (arith, c.in_ok-to.ensures.touches, (c.payload_mut.ensures.frame c.write_at.new.payload).3));
 }
 
 pub write_at-requires : goal.write_at-requires
-write_at-requires c = omega (arith, ap length c.payload_mut.ensures.value, c.in_ok-to.ensures.sized, c.in-Ok.ensures.layout.0, c.in_ok-size.ensures)
+write_at-requires c = omega (arith, ap length c.payload_mut.ensures.value, c.in_ok-to.ensures.result.sized, c.in-Ok.ensures.layout.0, c.in_ok-size.ensures)

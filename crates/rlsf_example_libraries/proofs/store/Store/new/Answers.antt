@@ -34,7 +34,7 @@ returns-clause-empty c =
     subst (λ n. KeepsAt (store_contents c.insert_free_block_ptr-taken.new.self (range_at start n)) []) (sym (on_each taken c.map_or-len.ensures)) (
       [],
       IsStore-new c.new-heap.result c.insert_free_block_ptr-taken.new.self r (reply taken) c.new-heap.ensures.state whole c.insert_free_block_ptr-taken.ensures.step
-          c.insert_free_block_ptr-taken.ensures.place,
+          c.insert_free_block_ptr-taken.ensures.frame.place,
       refl,
     )
   where

@@ -21,7 +21,7 @@ returns c = record {
       → p.align ≡ c.args.align
       → HasSame old (store_contents c.deallocate.new.self c.self.inside.pool) (before ++ after)) c.self.view_is
       (λ before after p has at aligned. HasSame-removed before after p has at aligned
-      (λ front back k store at _. IsStore-removed front back k at store c.deallocate.new.self c.deallocate.ensures.step c.deallocate.ensures.place));
+      (λ front back k store at _. IsStore-removed front back k at store c.deallocate.new.self c.deallocate.ensures.step c.deallocate.ensures.frame.place));
   uniform =
       subst (λ (old : StoreContents). (len : ℕ) → KeepsUniform old.heap.state c.deallocate.new.self.state len) c.self.view_is
       (λ len d is. KeepsUniform-released c.self.inside.heap c.deallocate.new.self (non_zero_usize_get c.args.addr) len c.deallocate.ensures.step d is);

@@ -1,4 +1,4 @@
-use Rattle.std.proofs.Common.{◌≡◌, ◌≢◌, ◌≤◌, ◌+◌, ℕ, List, true≢false, Option, None, Some, IsSome, IfNone, IfSome, arith, refl, sym, ◌∙◌, ap}
+use Rattle.std.proofs.Common.{◌≡◌, ◌≢◌, ◌≤◌, ℕ, true≢false, None, Some, IsSome, IfNone, arith, refl, sym, ◌∙◌, ap}
 use Rattle.std.proofs.Common.{subst}
 use Rattle.rlsf_base.specs.Addr.{at, reply}
 use Rattle.rlsf_flex.specs.StandsFor.{flex_contents, FlexSteps}
@@ -9,6 +9,8 @@ use Rattle.rlsf_model.specs.FlexAllocate.{FlexAllocates}
 use Rattle.rlsf_model.specs.Sized.{IsSizedFor, live_count}
 use Rattle.rlsf_table.proofs.Parameters.{IsValid-widest}
 use Rattle.rlsf_tlsf.specs.Allocator.{Allocator, Steps}
+use Rattle.rlsf_tlsf.specs.Results.{IsUnchanged}
+use Rattle.rlsf_tlsf.proofs.Replied.{IsAllocated-before, some_more}
 use Rattle.rlsf_flex.proofs.Allocations.{Tried, allocated_in_more, allocated_in_room, allocated_stands, extended_none, more_is_found, no_room, not_none, nothing_asked}
 use Rattle.rlsf_flex.proofs.Allocations.{nothing_more}
 use Rattle.rlsf_flex.proofs.Places.{SamePlace-then}
@@ -21,9 +23,10 @@ pub invariant_of-self : goal.invariant_of-self
 invariant_of-self g c = record {
   valid = c.self.invariant.valid;
   stands =
-      allocated_stands c.args.layout.size c.args.layout.align c.allocate.new.self c.in-Some.ensures.place c.self.invariant.stands c.self.invariant.whole (Some (at c.in-Some.addr))
+      allocated_stands c.args.layout.size c.args.layout.align c.allocate.new.self c.in-Some.ensures.frame.place c.self.invariant.stands c.self.invariant.whole
+      (Some (at c.in-Some.addr))
       c.in-Some.ensures.step;
-  whole = c.in-Some.ensures.place.3 c.self.invariant.whole;
+  whole = c.in-Some.ensures.frame.place.3 c.self.invariant.whole;
 }
 
 pub returns-in-Some : goal.returns-in-Some
@@ -31,24 +34,18 @@ returns-in-Some g c =
     let is = c.in-Some.ensures in
     rw (← c.self.view_is) (record {
       step =
-          allocated_in_room c.args.layout.size c.args.layout.align c.allocate.new.self is.place c.self.invariant.stands c.self.invariant.whole g.S.FlexSource.leads
+          allocated_in_room c.args.layout.size c.args.layout.align c.allocate.new.self is.frame.place c.self.invariant.stands c.self.invariant.whole g.S.FlexSource.leads
           (at c.in-Some.addr) is.step;
       unasked = λ count size align sized few short fits. refl;
       same = tt;
       refused = tt;
-      live = is.live;
-      sized = is.sized;
-      few = is.few;
-      new = is.new;
-      aligns = is.aligns;
-      bytes = is.bytes;
+      result = is.result;
       room = is.room;
-      count = is.count;
       bounds = is.bounds;
-      place = is.place;
+      place = is.frame.place;
       touches = λ room. is.touches;
-      grow = is.grow;
-      copied = is.copied;
+      grow = is.frame.grow;
+      copied = is.frame.copied;
     })
 
 -- the first try found no room
@@ -56,7 +53,7 @@ tried : (g : given.Over) (c : In_default g) → Tried g.row.FLLEN g.row.SLLEN g.
     (flex_over c.self.inside.parts) (flex_contents c.allocate.new.self c.self.inside.parts.kept c.self.inside.parts.source c.self.inside.parts.owed.ranges)
 tried g c =
     let none : c.allocate.result ≡ None = c.in_default.is in
-    no_room c.args.layout.size c.args.layout.align c.allocate.new.self c.allocate.ensures.place c.self.invariant.stands c.self.invariant.whole
+    no_room c.args.layout.size c.args.layout.align c.allocate.new.self c.allocate.ensures.frame.place c.self.invariant.stands c.self.invariant.whole
     (subst (λ o. Steps g.row.FLLEN g.row.SLLEN c.self.inside.parts.tlsf c.allocate.new.self
     (Allocates g.row.SLLEN c.self.inside.parts.tlsf.state c.args.layout.size c.args.layout.align (reply o))) none c.allocate.ensures.step)
 
@@ -72,14 +69,16 @@ sure g c count size align sized few short fits =
 bytes_stay : (g : given.Over) (c : In_default g) → c.allocate.new.self.memory.bytes ≡ c.self.inside.parts.tlsf.memory.bytes
 bytes_stay g c =
     let none : c.allocate.result ≡ None = c.in_default.is in
-    subst (λ o. IfNone o (c.allocate.new.self.memory.bytes ≡ c.self.inside.parts.tlsf.memory.bytes)) none c.allocate.ensures.refused
+    let is : IsUnchanged c.self.inside.parts.tlsf c.allocate.new.self =
+    subst (λ o. IfNone o (IsUnchanged c.self.inside.parts.tlsf c.allocate.new.self)) none c.allocate.ensures.refused in
+    is.bytes
 
 pub invariant_of-self-in_err-wanted : goal.invariant_of-self-in_err-wanted
 invariant_of-self-in_err-wanted g c =
     record {
       valid = c.self.invariant.valid;
       stands = (tried g (goal.at.invariant_of-self-in_err-wanted g c).In_default).stands;
-      whole = c.allocate.ensures.place.3 c.self.invariant.whole;
+      whole = c.allocate.ensures.frame.place.3 c.self.invariant.whole;
     }
 
 pub returns-in_err-wanted : goal.returns-in_err-wanted
@@ -89,22 +88,16 @@ returns-in_err-wanted g c =
     let did = c.allocate.ensures in
     rw (← c.self.view_is) (rw c.from_residual.ensures (record {
       step = nothing_asked c.args.layout.size c.args.layout.align first g.S.FlexSource.leads (sym c.in_err-wanted.ensures);
-      live = tt;
-      sized = tt;
-      few = tt;
-      new = tt;
-      aligns = tt;
-      bytes = tt;
+      result = tt;
       room = λ count size align sized few short fits. absurd (sure g here count size align sized few short fits);
       unasked = λ count size align sized few short fits. refl;
-      count = tt;
       bounds = did.bounds;
       same = first.same;
       refused = bytes_stay g here;
-      place = did.place;
+      place = did.frame.place;
       touches = λ room. did.touches;
-      grow = did.grow;
-      copied = did.copied;
+      grow = did.frame.grow;
+      copied = did.frame.copied;
     }))
 
 pub extend-requires : goal.extend-requires
@@ -113,7 +106,7 @@ extend-requires g c =
       omega arith,
       (
         (IsValid-widest g.FLBitmap.BitPattern.width_limit c.self.invariant.valid),
-        (record { size = c.args.layout.size; align = c.args.layout.align; is = sym c.in_ok-wanted.ensures }, (stands, c.allocate.ensures.place.3 c.self.invariant.whole)),
+        (record { size = c.args.layout.size; align = c.args.layout.align; is = sym c.in_ok-wanted.ensures }, (stands, c.allocate.ensures.frame.place.3 c.self.invariant.whole)),
       ),
     )
 
@@ -130,7 +123,7 @@ in_more : (g : given.Over) (c : After-allocate-then-extend g) → HasTried g c
     c.args.layout.size c.args.layout.align (reply c.allocate-then-extend.result))
 in_more g c tried =
     allocated_in_more c.args.layout.size c.args.layout.align tried (sym c.in_ok-wanted.ensures) c.if-extend.ensures.step c.self.invariant.valid refl
-    c.allocate-then-extend.new.self c.allocate-then-extend.ensures.place c.self.invariant.whole (reply c.allocate-then-extend.result) c.allocate-then-extend.ensures.step
+    c.allocate-then-extend.new.self c.allocate-then-extend.ensures.frame.place c.self.invariant.whole (reply c.allocate-then-extend.result) c.allocate-then-extend.ensures.step
 
 pub invariant_of-self-then-extend : goal.invariant_of-self-then-extend
 invariant_of-self-then-extend g c =
@@ -139,7 +132,7 @@ invariant_of-self-then-extend g c =
     record {
       valid = c.self.invariant.valid;
       stands = stands;
-      whole = c.allocate-then-extend.ensures.place.3 (c.extend.ensures.payloads.place.3 (c.allocate.ensures.place.3 c.self.invariant.whole));
+      whole = c.allocate-then-extend.ensures.frame.place.3 (c.extend.ensures.payloads.place.3 (c.allocate.ensures.frame.place.3 c.self.invariant.whole));
     }
 
 -- callers see in what came what they saw before
@@ -170,28 +163,19 @@ returns-then-extend g c =
     let n = c.allocate-then-extend.new.self.memory in
     rw (← c.self.view_is) (record {
       step = in_more g second first;
-      live = is.live;
-      sized = is.sized;
-      few = is.few;
-      new = subst (λ (before : ℕ → Option ℕ). IfSome c.allocate-then-extend.result (λ addr. before (at addr) ≡ None)) (aligns_before g second first) is.new;
-      aligns =
-          subst (λ (before : ℕ → Option ℕ). IfSome c.allocate-then-extend.result
-          (λ addr. (a : ℕ) → a ≢ at addr → align_at c.allocate-then-extend.new.self.state a ≡ before a)) (aligns_before g second first) is.aligns;
-      bytes =
-          subst (λ (before : ℕ → List ℕ). IfSome c.allocate-then-extend.result
-          (λ addr. (a : ℕ) → a ≢ at addr → bytes_at c.allocate-then-extend.new.self.state a ≡ before a)) (bytes_before g second first) is.bytes;
+      result =
+          some_more c.allocate-then-extend.result (λ addr. IsAllocated-before c.extend.new.self.tlsf.state c.self.inside.parts.tlsf.state c.allocate-then-extend.new.self.state
+          c.args.layout.size c.args.layout.align (at addr) (aligns_before g second first) (bytes_before g second first) (came.count ∙ ap (λ s. live_count s.machine) first.same))
+          is.result;
       room = λ count size align sized few short fits. absurd (sure g here.In_default count size align sized few short fits);
       unasked = λ count size align sized few short fits. absurd (sure g here.In_default count size align sized few short fits);
-      count =
-          subst (λ (before : ℕ). IfSome c.allocate-then-extend.result (λ addr. live_count c.allocate-then-extend.new.self.state ≡ before + 1))
-          (came.count ∙ ap (λ s. live_count s.machine) first.same) is.count;
       bounds = λ count size align sized short fits. is.bounds count size align (came.bounds count size align (did.bounds count size align sized short fits)) short fits;
       same = not_none _ c.allocate-then-extend.result (found g second first);
       refused = not_none _ c.allocate-then-extend.result (found g second first);
-      place = SamePlace-then m k n (SamePlace-then m l k did.place came.place) is.place;
+      place = SamePlace-then m k n (SamePlace-then m l k did.frame.place came.place) is.frame.place;
       touches = λ room. absurd (true≢false (sym (subst IsSome first.full.0 room)));
-      grow = omega (arith, did.grow, came.grow, is.grow);
-      copied = is.copied ∙ came.copied ∙ did.copied;
+      grow = omega (arith, did.frame.grow, came.grow, is.frame.grow);
+      copied = is.frame.copied ∙ came.copied ∙ did.frame.copied;
     })
 
 pub invariant_of-self-else-extend : goal.invariant_of-self-else-extend
@@ -199,7 +183,7 @@ invariant_of-self-else-extend g c =
     record {
       valid = c.self.invariant.valid;
       stands = c.if-extend.ensures.step.stands;
-      whole = c.extend.ensures.payloads.place.3 (c.allocate.ensures.place.3 c.self.invariant.whole);
+      whole = c.extend.ensures.payloads.place.3 (c.allocate.ensures.frame.place.3 c.self.invariant.whole);
     }
 
 pub returns-else-extend : goal.returns-else-extend
@@ -211,20 +195,14 @@ returns-else-extend g c =
     let h = c.if-extend.ensures.step in
     rw (← c.self.view_is) (record {
       step = nothing_more c.args.layout.size c.args.layout.align first (sym c.in_ok-wanted.ensures) h refl;
-      live = tt;
-      sized = tt;
-      few = tt;
-      new = tt;
-      aligns = tt;
-      bytes = tt;
+      result = tt;
       room = λ count size align sized few short fits. absurd (sure g here count size align sized few short fits);
       unasked = λ count size align sized few short fits. absurd (sure g here count size align sized few short fits);
-      count = tt;
       bounds = λ count size align sized short fits. came.bounds count size align (did.bounds count size align sized short fits);
       same = extended_none h refl ∙ first.same;
       refused = ap (λ (a : Allocator). a.memory.bytes) (c.if-extend.ensures.refused refl).same ∙ bytes_stay g here;
-      place = SamePlace-then c.self.inside.parts.tlsf.memory c.allocate.new.self.memory c.extend.new.self.tlsf.memory did.place came.place;
+      place = SamePlace-then c.self.inside.parts.tlsf.memory c.allocate.new.self.memory c.extend.new.self.tlsf.memory did.frame.place came.place;
       touches = λ room. absurd (true≢false (sym (subst IsSome first.full.0 room)));
-      grow = omega (arith, did.grow, came.grow);
-      copied = came.copied ∙ did.copied;
+      grow = omega (arith, did.frame.grow, came.grow);
+      copied = came.copied ∙ did.frame.copied;
     })

@@ -10,8 +10,8 @@ invariant_of-self g c =
     let is = c.copy_payload.ensures in
     record {
       valid = c.self.invariant.valid;
-      stands = stands_alone c.self.invariant.stands c.copy_payload.new.self _ is.place c.self.invariant.whole is.chunks is.step;
-      whole = is.place.3 c.self.invariant.whole;
+      stands = stands_alone c.self.invariant.stands c.copy_payload.new.self _ is.frame.place c.self.invariant.whole is.frame.chunks is.step;
+      whole = is.frame.place.3 c.self.invariant.whole;
     }
 
 pub copy_payload-requires : goal.copy_payload-requires
@@ -28,15 +28,15 @@ pub returns : goal.returns
 returns g c =
     let is = c.copy_payload.ensures in
     rw (← c.self.view_is) (record {
-      step = steps_alone c.self.invariant.stands c.copy_payload.new.self _ is.place c.self.invariant.whole is.chunks is.step;
-      filled = is.filled;
-      bytes = is.bytes;
-      count = is.count;
+      step = steps_alone c.self.invariant.stands c.copy_payload.new.self _ is.frame.place c.self.invariant.whole is.frame.chunks is.step;
+      filled = is.result.filled;
+      bytes = is.result.bytes;
+      count = is.result.count;
       bounds = is.bounds;
-      aligns = is.aligns;
-      chunks = is.chunks;
+      aligns = is.result.aligns;
+      chunks = is.frame.chunks;
       source = refl;
-      place = is.place;
+      place = is.frame.place;
       touches = is.touches;
-      copied = is.copied;
+      copied = is.frame.copied;
     })

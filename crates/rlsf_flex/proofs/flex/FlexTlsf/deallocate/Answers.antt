@@ -11,22 +11,22 @@ invariant_of-self g c =
     let is = c.deallocate.ensures in
     record {
       valid = c.self.invariant.valid;
-      stands = stands_alone c.self.invariant.stands c.deallocate.new.self _ is.place c.self.invariant.whole is.chunks is.step;
-      whole = is.place.3 c.self.invariant.whole;
+      stands = stands_alone c.self.invariant.stands c.deallocate.new.self _ is.frame.place c.self.invariant.whole is.frame.chunks is.step;
+      whole = is.frame.place.3 c.self.invariant.whole;
     }
 
 pub returns : goal.returns
 returns g c =
     let is = c.deallocate.ensures in
     rw (← c.self.view_is) (record {
-      step = steps_alone c.self.invariant.stands c.deallocate.new.self _ is.place c.self.invariant.whole is.chunks is.step;
+      step = steps_alone c.self.invariant.stands c.deallocate.new.self _ is.frame.place c.self.invariant.whole is.frame.chunks is.step;
       deallocation =
           let (step, stands, spare) = opened _ _ _ is.step in
           IsFlexDeallocation-step g.FLBitmap.BitPattern.width g.SLBitmap.BitPattern.width g.row.FLLEN g.row.SLLEN (range_of c.self.inside.parts.tlsf.memory)
           c.self.inside.parts.tlsf.state c.deallocate.new.self.state c.self.invariant.valid c.self.invariant.stands.machine.well_formed (at c.args.addr) step;
       source = refl;
-      place = is.place;
+      place = is.frame.place;
       touches = is.touches;
-      grow = is.grow;
-      copied = is.copied;
+      grow = is.frame.grow;
+      copied = is.frame.copied;
     })

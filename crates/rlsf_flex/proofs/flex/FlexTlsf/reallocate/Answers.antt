@@ -18,6 +18,7 @@ use Rattle.rlsf_flex.proofs.Allocations.{Tried, extended_none, for_some, more_is
 use Rattle.rlsf_flex.proofs.Reallocations.{no_room_to_move, reallocated_in_more, reallocated_in_room, reallocated_stands, refused_move_alone, refused_too, stuck_moves, stuck_short}
 use Rattle.rlsf_flex.proofs.Places.{SamePlace-then}
 use Rattle.rlsf_flex.proofs.InnerAllocator.{flex_opened, stood_at}
+use Rattle.rlsf_tlsf.specs.Results.{IsUnchanged}
 use Rattle.rlsf_flex.proofs.flex.FlexTlsf.reallocate.Given as given
 use Rattle.rlsf_flex.proofs.flex.FlexTlsf.reallocate.Goals as goal
 use Rattle.rlsf_flex.proofs.flex.FlexTlsf.reallocate.Goals.{In_default, After-extend, After-move_payload}
@@ -26,9 +27,9 @@ pub invariant_of-self : goal.invariant_of-self
 invariant_of-self g c = record {
   valid = c.self.invariant.valid;
   stands =
-      reallocated_stands (at c.args.addr) c.args.layout.size c.args.layout.align c.reallocate.new.self c.in-Some.ensures.place c.self.invariant.stands c.self.invariant.whole
+      reallocated_stands (at c.args.addr) c.args.layout.size c.args.layout.align c.reallocate.new.self c.in-Some.ensures.frame.place c.self.invariant.stands c.self.invariant.whole
       (Some (at c.in-Some.moved)) c.in-Some.ensures.step;
-  whole = c.in-Some.ensures.place.3 c.self.invariant.whole;
+  whole = c.in-Some.ensures.frame.place.3 c.self.invariant.whole;
 }
 
 pub returns-in-Some : goal.returns-in-Some
@@ -36,27 +37,27 @@ returns-in-Some g c =
     let is = c.in-Some.ensures in
     rw (← c.self.view_is) (record {
       step =
-          reallocated_in_room (at c.args.addr) c.args.layout.size c.args.layout.align c.reallocate.new.self is.place c.self.invariant.stands c.self.invariant.whole
+          reallocated_in_room (at c.args.addr) c.args.layout.size c.args.layout.align c.reallocate.new.self is.frame.place c.self.invariant.stands c.self.invariant.whole
           g.S.FlexSource.leads (at c.in-Some.moved) is.step;
       unasked = λ count size align sized few short fits. refl;
       same = tt;
       refused = tt;
-      live = is.live;
-      sized = is.sized;
-      few = is.few;
-      kept = is.kept;
-      new = is.new;
-      aligns = is.aligns;
-      bytes = is.bytes;
+      live = is.result.live;
+      sized = is.result.sized;
+      few = is.result.few;
+      kept = is.result.kept;
+      new = is.result.new;
+      aligns = is.result.aligns;
+      bytes = is.result.bytes;
       room = is.room;
-      count = is.count;
+      count = is.frame.count;
       bounds = is.bounds;
-      place = is.place;
+      place = is.frame.place;
       touches = λ room. is.touches;
-      grow = is.grow;
-      copied = λ room. is.copied;
-      grow_copied = is.grow_copied;
-      stays = is.stays;
+      grow = is.frame.grow;
+      copied = λ room. is.frame.copied;
+      grow_copied = is.frame.grow_copied;
+      stays = is.frame.stays;
     })
 
 -- the first try found no room
@@ -67,7 +68,7 @@ tried g c =
     let addr = at c.args.addr in
     let none : c.reallocate.result ≡ None = c.in_default.is in
     let live = subst (λ (old : FlexContents g.row.S.Denot). align_at old.state.machine addr ≡ Some c.args.layout.align) (sym c.self.view_is) c.requires in
-    no_room_to_move addr c.args.layout.size c.args.layout.align c.reallocate.new.self c.reallocate.ensures.place c.self.invariant.stands c.self.invariant.whole
+    no_room_to_move addr c.args.layout.size c.args.layout.align c.reallocate.new.self c.reallocate.ensures.frame.place c.self.invariant.stands c.self.invariant.whole
     (align_at-live c.self.inside.parts.tlsf.state addr c.args.layout.align live)
     (subst (λ o. Steps g.row.FLLEN g.row.SLLEN c.self.inside.parts.tlsf c.reallocate.new.self
     (Reallocates g.row.SLLEN c.self.inside.parts.tlsf.state addr c.args.layout.size (reply o))) none c.reallocate.ensures.step)
@@ -84,7 +85,9 @@ sure g c count size align sized few short fits =
 bytes_stay : (g : given.Over) (c : In_default g) → c.reallocate.new.self.memory.bytes ≡ c.self.inside.parts.tlsf.memory.bytes
 bytes_stay g c =
     let none : c.reallocate.result ≡ None = c.in_default.is in
-    subst (λ o. IfNone o (c.reallocate.new.self.memory.bytes ≡ c.self.inside.parts.tlsf.memory.bytes)) none c.reallocate.ensures.refused
+    let is : IsUnchanged c.self.inside.parts.tlsf c.reallocate.new.self =
+    subst (λ o. IfNone o (IsUnchanged c.self.inside.parts.tlsf c.reallocate.new.self)) none c.reallocate.ensures.refused in
+    is.bytes
 
 -- so the reference model's reallocation is refused in the room that there was
 refused_in : (g : given.Over) (c : In_default g) → HasRoomToResize g.row.SLLEN c.self.inside.parts.tlsf.state (at c.args.addr) c.args.layout.size → ⊥
@@ -101,7 +104,7 @@ moves_in g c (u, p, holds, some) =
 pub invariant_of-self-in_err-wanted : goal.invariant_of-self-in_err-wanted
 invariant_of-self-in_err-wanted g c =
     let (u, stuck, is, first) = tried g (goal.at.invariant_of-self-in_err-wanted g c).In_default in
-    record { valid = c.self.invariant.valid; stands = first.stands; whole = c.reallocate.ensures.place.3 c.self.invariant.whole }
+    record { valid = c.self.invariant.valid; stands = first.stands; whole = c.reallocate.ensures.frame.place.3 c.self.invariant.whole }
 
 pub returns-in_err-wanted : goal.returns-in_err-wanted
 returns-in_err-wanted g c =
@@ -123,15 +126,15 @@ returns-in_err-wanted g c =
       bytes = tt;
       room = λ count size align sized few short fits. absurd (sure g here count size align sized few short fits);
       unasked = λ count size align sized few short fits. refl;
-      count = did.count;
+      count = did.frame.count;
       bounds = did.bounds;
       same = first.same;
       refused = bytes_stay g here;
-      place = did.place;
+      place = did.frame.place;
       touches = λ room. did.touches;
-      grow = did.grow;
-      copied = λ room. did.copied;
-      grow_copied = did.grow_copied;
+      grow = did.frame.grow;
+      copied = λ room. did.frame.copied;
+      grow_copied = did.frame.grow_copied;
       stays = λ room. absurd (moves_in g here room);
     }))
 
@@ -141,7 +144,10 @@ extend-requires g c =
       omega arith,
       (
         (IsValid-widest g.FLBitmap.BitPattern.width_limit c.self.invariant.valid),
-        (record { size = c.args.layout.size; align = c.args.layout.align; is = sym c.in_ok-wanted.ensures }, (first.stands, c.reallocate.ensures.place.3 c.self.invariant.whole)),
+        (
+          record { size = c.args.layout.size; align = c.args.layout.align; is = sym c.in_ok-wanted.ensures },
+          (first.stands, c.reallocate.ensures.frame.place.3 c.self.invariant.whole),
+        ),
       ),
     )
 
@@ -171,7 +177,7 @@ move_payload-requires g c =
     (λ i. length (bytes i addr)) ∙ ap length (bytes_at-held well_formed addr u stuck.holds) ∙ (well_formed.used u stuck.holds.0).bytes in (
       omega arith,
       (
-        stood_at c.if-extend.ensures.step.stands.machine (c.extend.ensures.payloads.place.3 (c.reallocate.ensures.place.3 c.self.invariant.whole)),
+        stood_at c.if-extend.ensures.step.stands.machine (c.extend.ensures.payloads.place.3 (c.reallocate.ensures.frame.place.3 c.self.invariant.whole)),
         ((λ i. aligns i addr) ∙ live, omega (arith, len, stuck_short well_formed addr c.args.layout.size u stuck)),
       ),
     )
@@ -211,7 +217,7 @@ invariant_of-self-then-extend g c =
     record {
       valid = c.self.invariant.valid;
       stands = stands;
-      whole = c.move_payload.ensures.place.3 (c.extend.ensures.payloads.place.3 (c.reallocate.ensures.place.3 c.self.invariant.whole));
+      whole = c.move_payload.ensures.place.3 (c.extend.ensures.payloads.place.3 (c.reallocate.ensures.frame.place.3 c.self.invariant.whole));
     }
 
 pub returns-then-extend : goal.returns-then-extend
@@ -247,15 +253,15 @@ returns-then-extend g c =
           (λ to. (a : ℕ) → a ≢ at c.args.addr → a ≢ at to → bytes_at c.move_payload.new.tlsf.state a ≡ before a)) bytes is.bytes;
       room = λ count size align sized few short fits. absurd (sure g here.In_default count size align sized few short fits);
       unasked = λ count size align sized few short fits. absurd (sure g here.In_default count size align sized few short fits);
-      count = is.count ∙ came.count ∙ did.count;
+      count = is.count ∙ came.count ∙ did.frame.count;
       bounds = λ count size align sized short fits. is.bounds count size align (came.bounds count size align (did.bounds count size align sized short fits)) short fits;
       same = not_none _ c.move_payload.result (found g here.After-move_payload first);
       refused = not_none _ c.move_payload.result (found g here.After-move_payload first);
-      place = SamePlace-then m k n (SamePlace-then m l k did.place came.place) is.place;
+      place = SamePlace-then m k n (SamePlace-then m l k did.frame.place came.place) is.place;
       touches = λ room. absurd (refused_in g here.In_default room);
-      grow = omega (arith, did.grow, came.grow, is.grow);
+      grow = omega (arith, did.frame.grow, came.grow, is.grow);
       copied = λ room. absurd (refused_in g here.In_default room);
-      grow_copied = omega (arith, did.grow_copied, came.copied, is.grow_copied);
+      grow_copied = omega (arith, did.frame.grow_copied, came.copied, is.grow_copied);
       stays = λ room. absurd (moves_in g here.In_default room);
     })
 
@@ -264,7 +270,7 @@ invariant_of-self-else-extend g c =
     record {
       valid = c.self.invariant.valid;
       stands = c.if-extend.ensures.step.stands;
-      whole = c.extend.ensures.payloads.place.3 (c.reallocate.ensures.place.3 c.self.invariant.whole);
+      whole = c.extend.ensures.payloads.place.3 (c.reallocate.ensures.frame.place.3 c.self.invariant.whole);
     }
 
 pub returns-else-extend : goal.returns-else-extend
@@ -289,14 +295,14 @@ returns-else-extend g c =
       bytes = tt;
       room = λ count size align sized few short fits. absurd (sure g here count size align sized few short fits);
       unasked = λ count size align sized few short fits. absurd (sure g here count size align sized few short fits);
-      count = came.count ∙ did.count;
+      count = came.count ∙ did.frame.count;
       bounds = λ count size align sized short fits. came.bounds count size align (did.bounds count size align sized short fits);
       same = extended_none h refl ∙ first.same;
       refused = ap (λ (a : Allocator). a.memory.bytes) (c.if-extend.ensures.refused refl).same ∙ bytes_stay g here;
-      place = SamePlace-then c.self.inside.parts.tlsf.memory c.reallocate.new.self.memory c.extend.new.self.tlsf.memory did.place came.place;
+      place = SamePlace-then c.self.inside.parts.tlsf.memory c.reallocate.new.self.memory c.extend.new.self.tlsf.memory did.frame.place came.place;
       touches = λ room. absurd (refused_in g here room);
-      grow = omega (arith, did.grow, came.grow);
+      grow = omega (arith, did.frame.grow, came.grow);
       copied = λ room. absurd (refused_in g here room);
-      grow_copied = omega (arith, did.grow_copied, came.copied);
+      grow_copied = omega (arith, did.frame.grow_copied, came.copied);
       stays = λ room. absurd (moves_in g here room);
     })

@@ -190,11 +190,19 @@ returns g c = record {
       AskedGrowth-asked (kept_pool c.args.pool) c.args.len grows c.in_ok-grown.ensures.leads
       (Took-named after.state (c.grow.ensures ∙ ap (longer c.in_ok-grown.grown) h.kept.split)
       (Grew-took c.requires.valid h d c.append_free_block_ptr-taken.new.self t c.append_free_block_ptr-taken.result same stands footed step after spare
-      c.append_free_block_ptr-taken.ensures.place));
+      c.append_free_block_ptr-taken.ensures.frame.place));
   payloads =
       let did = c.append_free_block_ptr-taken.ensures in
       let taken : KeepsPayloads g.row.SLLEN c.if-supports_dealloc.tlsf c.append_free_block_ptr-taken.new.self =
-      record { aligns = did.aligns; bytes = did.bytes; count = did.count; bounds = did.bounds; place = did.place; grow = did.grow; copied = did.copied } in
+      record {
+        aligns = did.frame.aligns;
+        bytes = did.frame.bytes;
+        count = did.frame.count;
+        bounds = did.bounds;
+        place = did.frame.place;
+        grow = did.frame.grow;
+        copied = did.frame.copied;
+      } in
       elim c.if-supports_dealloc.branch [
         | then-supports_dealloc w ↦
             let wrote = w.write_footer.ensures in
@@ -204,6 +212,6 @@ returns g c = record {
       ];
   whole =
       let (stands, footed) = moved g (goal.at.returns g c).Joined-supports_dealloc (grew g (goal.at.returns g c).In_ok-grown) in
-      c.append_free_block_ptr-taken.ensures.place.3 (footed.place.3 c.requires.whole);
+      c.append_free_block_ptr-taken.ensures.frame.place.3 (footed.place.3 c.requires.whole);
   refused = tt;
 }

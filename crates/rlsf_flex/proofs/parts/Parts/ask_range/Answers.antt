@@ -63,7 +63,7 @@ pub write_footer_if-requires : goal.write_footer_if-requires
 write_footer_if-requires g c =
     let is_came = came g (goal.at.write_footer_if-requires g c).In_ok-range in
     let (step, stands, spare) = taken g (goal.at.write_footer_if-requires g c).After-insert_free_block_ptr in
-    let place = c.insert_free_block_ptr.ensures.place in
+    let place = c.insert_free_block_ptr.ensures.frame.place in
     let (ends, footer) = Came-footer c.requires.valid is_came c.insert_free_block_ptr.new.self.memory c.insert_free_block_ptr.new.self.state _ step place in
     (omega arith, (ends, (footer, (place.3 c.requires.whole, stood_at stands.stands stands.whole))))
 
@@ -109,7 +109,8 @@ returns g c = record {
       let (start, len) = c.words_of-start.ensures in
       let footed = IsFooted-named (c.supports_dealloc-takes_back.ensures ∙ ap (λ (e : Terms). e.dealloc) same) start len wrote.footer in
       AskedRange-asked (sym c.in_ok-len.ensures) c.in_ok-range.ensures.leads (Took-named wrote.state c.give.ensures
-      (Came-took c.requires.valid is_came b d b.state _ c.args.self.now.kept (kept_of c.then_some-self.result) same refl step stands spare c.insert_free_block_ptr.ensures.place
+      (Came-took c.requires.valid is_came b d b.state _ c.args.self.now.kept (kept_of c.then_some-self.result) same refl step stands spare
+      c.insert_free_block_ptr.ensures.frame.place
       (stays_in stands d wrote.state wrote.stands) footed
       (λ n is. ap kept_of c.then_some-self.ensures ∙ kept_of-then_some c.keeps_pool.result (record { range = r; len = c.len_of-taken.result })
       ∙ ap (λ k. then_some k (kept_pool (record { range = r; len = c.len_of-taken.result }))) (c.keeps_pool.ensures ∙ ap keeps same)
@@ -118,7 +119,15 @@ returns g c = record {
       let did = c.insert_free_block_ptr.ensures in
       let wrote = c.write_footer_if.ensures in
       let taken : KeepsPayloads g.row.SLLEN c.args.self.now.tlsf c.insert_free_block_ptr.new.self =
-      record { aligns = did.aligns; bytes = did.bytes; count = did.count; bounds = did.bounds; place = did.place; grow = did.grow; copied = did.copied } in
+      record {
+        aligns = did.frame.aligns;
+        bytes = did.frame.bytes;
+        count = did.frame.count;
+        bounds = did.bounds;
+        place = did.frame.place;
+        grow = did.frame.grow;
+        copied = did.frame.copied;
+      } in
       KeepsPayloads-trans _ _ _ taken (KeepsPayloads-same c.insert_free_block_ptr.new.self c.write_footer_if.new.tlsf wrote.state wrote.footer.place wrote.grow wrote.copied);
   refused = tt;
 }

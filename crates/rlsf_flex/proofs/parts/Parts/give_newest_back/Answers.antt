@@ -66,18 +66,19 @@ returns g c =
     c.pool_of-next.ensures in
     record {
       gone = λ went.
-          gave_newest v is (c.is_idle.ensures.0 c.if-not-is_idle.false) b step stands spare c.remove_pool.ensures.place c.requires.whole c.requires.supported c.pool_of-next.result
+          gave_newest v is (c.is_idle.ensures.0 c.if-not-is_idle.false) b step stands spare c.remove_pool.ensures.frame.place c.requires.whole c.requires.supported
+          c.pool_of-next.result
           told g.S.FlexSource.leads c.dealloc.new.self c.drop_newest.new.self.ranges
           c.dealloc.ensures.leads (g.met.S.FlexSource.constant _ _ _ c.dealloc.ensures.leads)
           (c.dealloc.ensures.owes [] (others v is) (subst (g.S.FlexSource.owes c.args.self.now.source) (newest_first v is) v.owed)) c.drop_newest.ensures;
       held = λ stayed. absurd (true≢false stayed);
       same = λ stayed. absurd (true≢false stayed);
-      live = removed.count;
-      aligns = removed.aligns;
-      bytes = removed.bytes;
+      live = removed.frame.count;
+      aligns = removed.frame.aligns;
+      bytes = removed.frame.bytes;
       touches = removed.touches;
-      grow = removed.grow;
-      copied = removed.copied;
+      grow = removed.frame.grow;
+      copied = removed.frame.copied;
     }
 
 pub returns-then-not-is_idle : goal.returns-then-not-is_idle

@@ -32,21 +32,23 @@ invariant_of-self-in_default g c =
     (stays_locked c.self.inside.flex c.self.inside.rows.rows c.self.invariant c.allocate.new.self c.args.layout c.in_default.ensures.step c.in_default.ensures.same)
 
 pub put-requires-clause-fresh : goal.put-requires-clause-fresh
-put-requires-clause-fresh g c = rw c.reserve.ensures.rows (no_row c.self.inside.flex c.self.inside.rows.rows c.self.invariant _ c.in-Some.ensures.new)
+put-requires-clause-fresh g c = rw c.reserve.ensures.rows (no_row c.self.inside.flex c.self.inside.rows.rows c.self.invariant _ c.in-Some.ensures.result.new)
 
 pub put-requires-clause-spread : goal.put-requires-clause-spread
 put-requires-clause-spread g c =
     rw c.reserve.ensures.rows
     (spread c.allocate.new.self _
     (allocated_locked c.self.inside.flex c.self.inside.rows.rows c.self.invariant c.allocate.new.self c.args.layout c.in-Some.addr c.in-Some.ensures.step _ refl
-    c.in-Some.ensures.new (record { live = c.in-Some.ensures.live; sized = c.in-Some.ensures.sized; few = c.in-Some.ensures.few }) c.in-Some.ensures.aligns
-    c.in-Some.ensures.bytes))
+    c.in-Some.ensures.result.new (record { live = c.in-Some.ensures.result.live; sized = c.in-Some.ensures.result.sized; few = c.in-Some.ensures.result.few })
+    c.in-Some.ensures.result.aligns
+    c.in-Some.ensures.result.bytes))
 
 pub invariant_of-self-2 : goal.invariant_of-self-2
 invariant_of-self-2 g c =
     let rows = rw c.reserve.ensures.rows at c.put.ensures.rows in
     allocated_locked c.self.inside.flex c.self.inside.rows.rows c.self.invariant c.allocate.new.self c.args.layout c.in-Some.addr c.in-Some.ensures.step _ rows
-    c.in-Some.ensures.new (record { live = c.in-Some.ensures.live; sized = c.in-Some.ensures.sized; few = c.in-Some.ensures.few }) c.in-Some.ensures.aligns c.in-Some.ensures.bytes
+    c.in-Some.ensures.result.new (record { live = c.in-Some.ensures.result.live; sized = c.in-Some.ensures.result.sized; few = c.in-Some.ensures.result.few })
+    c.in-Some.ensures.result.aligns c.in-Some.ensures.result.bytes
 
 pub returns-in_default : goal.returns-in_default
 returns-in_default g c = rw (← c.self.view_is) (record {
@@ -84,9 +86,9 @@ returns g c = rw (← c.self.view_is) (record {
         let before = heap_of c.self.inside.flex c.self.inside.rows.rows in
         let after = heap_of c.allocate.new.self c.put.new.self.rows in
         layout_at-put_here before after (c.in-Some.addr, c.args.layout) c.self.inside.rows.rows rows;
-    sized = subst (λ l. c.args.layout.size ≤ length l) (sym (content_at-is (heap_of c.allocate.new.self c.put.new.self.rows) (at c.in-Some.addr))) c.in-Some.ensures.sized;
+    sized = subst (λ l. c.args.layout.size ≤ length l) (sym (content_at-is (heap_of c.allocate.new.self c.put.new.self.rows) (at c.in-Some.addr))) c.in-Some.ensures.result.sized;
     new = (layout_at-none (heap_of c.self.inside.flex c.self.inside.rows.rows) (at c.in-Some.addr)
-        (no_row c.self.inside.flex c.self.inside.rows.rows c.self.invariant (at c.in-Some.addr) c.in-Some.ensures.new));
+        (no_row c.self.inside.flex c.self.inside.rows.rows c.self.invariant (at c.in-Some.addr) c.in-Some.ensures.result.new));
     layouts = (
         let rows = rw c.reserve.ensures.rows at c.put.ensures.rows in
         let before = heap_of c.self.inside.flex c.self.inside.rows.rows in
@@ -95,7 +97,7 @@ returns g c = rw (← c.self.view_is) (record {
     contents = (
         let before = heap_of c.self.inside.flex c.self.inside.rows.rows in
         let after = heap_of c.allocate.new.self c.put.new.self.rows in
-        λ a off. content_at-bytes before after a a (c.in-Some.ensures.bytes a off));
+        λ a off. content_at-bytes before after a a (c.in-Some.ensures.result.bytes a off));
     same = tt;
   };
   touches = c.in-Some.ensures.touches;

@@ -1,11 +1,10 @@
-use Rattle.std.proofs.Common.{[], ℕ, ◌≡◌, ◌≢◌, ◌≤◌, ◌+◌, ◌<◌, length, Option, Some, None, IsSome, arith, refl, sym, ◌∙◌, ap, subst}
+use Rattle.std.proofs.Common.{[], ℕ, ◌≡◌, ◌≤◌, ◌+◌, ◌<◌, Option, Some, None, IsSome, arith, refl, sym, ◌∙◌, ap, subst}
 use Rattle.std.proofs.lemmas.Option.{none-some}
 use Rattle.std.specs.declared.num.NonZeroUsize.{NonZeroUsize}
 use Rattle.rlsf_base.specs.Addr.{reply}
 use Rattle.rlsf_base.specs.Space.{SamePlace, range_of}
 use Rattle.rlsf_model.specs.Allocate.{Allocates, Places}
-use Rattle.rlsf_model.specs.Callers.{align_at, bytes_at}
-use Rattle.rlsf_model.specs.Sized.{IsSizedFor, live_count}
+use Rattle.rlsf_model.specs.Sized.{IsSizedFor}
 use Rattle.rlsf_model.specs.State.{State}
 use Rattle.rlsf_model.specs.WellFormed.{IsWellFormed}
 use Rattle.rlsf_model.proofs.CallerWords.{SeesNew, new_seen}
@@ -17,6 +16,7 @@ use Rattle.rlsf_blocks.specs.Spare.{KeepsSpare}
 use Rattle.rlsf_blocks.specs.StandsFor.{contents, StandsFor}
 use Rattle.rlsf_blocks.proofs.Words.NonZeroNumbers.{number, on_none, on_some}
 use Rattle.rlsf_tlsf.specs.Allocator.{Allocator, allocator, Steps}
+use Rattle.rlsf_tlsf.specs.Results.{IsAllocated}
 use Rattle.rlsf_tlsf.specs.Steps.Moves.{allocated, bare}
 use Rattle.rlsf_tlsf.proofs.Arrivals.{IsAllocator-arrived, Steps-arrived, arrived, bare-kept, opened, view_well_formed}
 use Rattle.rlsf_tlsf.proofs.Moved.{allocated-bare}
@@ -138,34 +138,32 @@ returns-in_err-payload g c =
           (subst (λ o. Allocates g.row.SLLEN (read_from c.self-inside.inside.0.0.inner c.self-inside.inside.0.1.1.0.state) c.args.layout.size c.args.layout.align (reply o)
           (read_from c.self-inside.inside.0.0.inner c.self-inside.inside.0.1.1.0.state)) (sym c.from_residual.ensures) step)
           spare;
-      live = none_some _ c.from_residual.result c.from_residual.ensures;
-      sized = none_some _ c.from_residual.result c.from_residual.ensures;
-      few = none_some _ c.from_residual.result c.from_residual.ensures;
-      new = none_some _ c.from_residual.result c.from_residual.ensures;
-      aligns = none_some _ c.from_residual.result c.from_residual.ensures;
-      bytes = none_some _ c.from_residual.result c.from_residual.ensures;
       room = λ count size align sized few short fits.
           let (step, stands, spare) = refusing g (goal.at.returns-in_err-payload g c).In_err-payload in
           absurd (never_refused (view_well_formed c.self.invariant c.args.self.now c.self.view_is) c.args.self.now.state count size align sized c.args.layout.size
           c.args.layout.align few short fits
           (subst (λ (o : Allocator). Allocates g.row.SLLEN o.state c.args.layout.size c.args.layout.align None o.state) view step));
-      count = none_some _ c.from_residual.result c.from_residual.ensures;
+      result = none_some _ c.from_residual.result c.from_residual.ensures;
       bounds = λ count size align sized short fits.
           let v = (refusing g (goal.at.returns-in_err-payload g c).In_err-payload).1 in
           subst (IsSizedFor g.row.SLLEN count size align) (sym (arrived v c.self-inside.inside.0.1.1.0.state (sym (bare-kept is)) ∙ ap (λ (o : Allocator). o.state) view)) sized;
-      chunks = ap (λ (o : Allocator). o.state.chunks) view;
-      same =
+      refused =
           let v = (refusing g (goal.at.returns-in_err-payload g c).In_err-payload).1 in
-          none_none c.from_residual.result (arrived v c.self-inside.inside.0.1.1.0.state (sym (bare-kept is)) ∙ ap (λ (o : Allocator). o.state) view);
-      refused = none_none c.from_residual.result (c.in_err-payload.ensures.unchanged.0.bytes ∙ ap (λ (o : Allocator). o.memory.bytes) view);
-      place =
-          subst (λ (o : Allocator). SamePlace o.memory c.allocate_block.new.memory) view
-          (SamePlace-counted c.self-inside.inside.0.0.inner c.allocate_block.new.memory 4 c.in_err-payload.ensures.unchanged.0);
+          none_none c.from_residual.result (record {
+            same = arrived v c.self-inside.inside.0.1.1.0.state (sym (bare-kept is)) ∙ ap (λ (o : Allocator). o.state) view;
+            bytes = c.in_err-payload.ensures.unchanged.0.bytes ∙ ap (λ (o : Allocator). o.memory.bytes) view;
+          });
+      frame = record {
+        chunks = ap (λ (o : Allocator). o.state.chunks) view;
+        place =
+            subst (λ (o : Allocator). SamePlace o.memory c.allocate_block.new.memory) view
+            (SamePlace-counted c.self-inside.inside.0.0.inner c.allocate_block.new.memory 4 c.in_err-payload.ensures.unchanged.0);
+        grow = subst (λ (o : Allocator). o.memory.touches ≤ c.allocate_block.new.memory.touches) view c.in_err-payload.ensures.unchanged.0.grow;
+        copied = c.in_err-payload.ensures.unchanged.0.copied ∙ ap (λ (o : Allocator). o.memory.copied) view;
+      };
       touches =
           subst (λ (o : Allocator). c.allocate_block.new.memory.touches ≤ o.memory.touches + 27) view
           (touches-counted c.self-inside.inside.0.0.inner c.allocate_block.new.memory 4 c.in_err-payload.ensures.unchanged.0 23);
-      grow = subst (λ (o : Allocator). o.memory.touches ≤ c.allocate_block.new.memory.touches) view c.in_err-payload.ensures.unchanged.0.grow;
-      copied = c.in_err-payload.ensures.unchanged.0.copied ∙ ap (λ (o : Allocator). o.memory.copied) view;
     }
 
 -- ---- the counts of a payload that was placed
@@ -177,31 +175,29 @@ returns g c =
       step =
           subst (λ o. Steps g.row.FLLEN g.row.SLLEN c.args.self.now (after g c) (Allocates g.row.SLLEN c.args.self.now.state c.args.layout.size c.args.layout.align o))
           (sym (answer g c)) (done g c);
-      live = on_some (λ addr. align_at (after g c).state addr ≡ Some c.args.layout.align) c.new.result c.in_ok-payload.payload c.new.ensures (seen g c).live;
-      sized = on_some (λ addr. c.args.layout.size ≤ length (bytes_at (after g c).state addr)) c.new.result c.in_ok-payload.payload c.new.ensures (seen g c).sized;
-      few = on_some (λ addr. length (bytes_at (after g c).state addr) < c.args.layout.size + 32) c.new.result c.in_ok-payload.payload c.new.ensures (seen g c).few;
-      new = on_some (λ addr. align_at c.args.self.now.state addr ≡ None) c.new.result c.in_ok-payload.payload c.new.ensures (seen g c).new;
-      aligns =
-          on_some (λ addr. (a : ℕ) → a ≢ addr → align_at (after g c).state a ≡ align_at c.args.self.now.state a) c.new.result c.in_ok-payload.payload c.new.ensures
-          (seen g c).aligns;
-      bytes =
-          on_some (λ addr. (a : ℕ) → a ≢ addr → bytes_at (after g c).state a ≡ bytes_at c.args.self.now.state a) c.new.result c.in_ok-payload.payload c.new.ensures
-          (seen g c).bytes;
+      result =
+          on_some (λ addr. IsAllocated c.args.self.now.state (after g c).state c.args.layout.size c.args.layout.align addr) c.new.result c.in_ok-payload.payload
+          c.new.ensures (record {
+            live = (seen g c).live;
+            sized = (seen g c).sized;
+            few = (seen g c).few;
+            new = (seen g c).new;
+            aligns = (seen g c).aligns;
+            bytes = (seen g c).bytes;
+            count = count_new (stood g c) (after g c).state c.args.layout.size c.args.layout.align c.in_ok-payload.payload c.args.layout.valid.aligned (places_of g c);
+          });
       room = λ count size align sized few short fits. some_answer c.new.result c.in_ok-payload.payload (answer g c);
-      count = on_some (λ addr. live_count (after g c).state ≡ live_count c.args.self.now.state + 1) c.new.result c.in_ok-payload.payload c.new.ensures
-          (count_new (stood g c) (after g c).state c.args.layout.size c.args.layout.align c.in_ok-payload.payload c.args.layout.valid.aligned (places_of g c));
       bounds = λ count size align sized short fits.
           sized_new (stood g c) (after g c).state count size align sized c.args.layout.size c.args.layout.align (Some c.in_ok-payload.payload) c.args.layout.valid.aligned short
           fits (places_of g c);
-      chunks = chunks-allocated g.row.SLLEN c.args.self.now.state (after g c).state c.args.layout.size c.args.layout.align (Some c.in_ok-payload.payload) (places_of g c);
-      same =
-          let some = positive (places_of g c) in
-          on_none c.new.result c.in_ok-payload.payload c.new.ensures (λ zero. absurd (omega arith));
       refused =
           let some = positive (places_of g c) in
           on_none c.new.result c.in_ok-payload.payload c.new.ensures (λ zero. absurd (omega arith));
-      place = subst (λ (o : Allocator). SamePlace o.memory c.allocate_block.new.memory) view (SamePlace-costs c.in_ok-payload.ensures.costs);
+      frame = record {
+        chunks = chunks-allocated g.row.SLLEN c.args.self.now.state (after g c).state c.args.layout.size c.args.layout.align (Some c.in_ok-payload.payload) (places_of g c);
+        place = subst (λ (o : Allocator). SamePlace o.memory c.allocate_block.new.memory) view (SamePlace-costs c.in_ok-payload.ensures.costs);
+        grow = subst (λ (o : Allocator). o.memory.touches ≤ c.allocate_block.new.memory.touches) view c.in_ok-payload.ensures.costs.grow;
+        copied = copied_none c.in_ok-payload.ensures.costs ∙ ap (λ (o : Allocator). o.memory.copied) view;
+      };
       touches = subst (λ (o : Allocator). c.allocate_block.new.memory.touches ≤ o.memory.touches + 27) view c.in_ok-payload.ensures.costs.touches;
-      grow = subst (λ (o : Allocator). o.memory.touches ≤ c.allocate_block.new.memory.touches) view c.in_ok-payload.ensures.costs.grow;
-      copied = copied_none c.in_ok-payload.ensures.costs ∙ ap (λ (o : Allocator). o.memory.copied) view;
     }

@@ -88,22 +88,26 @@ returns g c =
     let view = view-opened c.self-inside.view_is c.self.view_is in
     record {
       step = done g c;
-      untouched =
-          untouched_appended g.row.FLLEN c.args.self.now.state (after g c).state c.args.range c.append_chunks-taken.result
-          (opened g.row.FLLEN g.row.SLLEN c.args.self.now (after g c) (Appends g.row.FLLEN c.args.self.now.state c.args.range c.append_chunks-taken.result) (done g c)).0;
-      aligns = (seen g c).aligns;
-      bytes = (seen g c).bytes;
-      count =
-          count_appended (view_well_formed c.self.invariant c.args.self.now c.self.view_is) (after g c).state c.args.range c.append_chunks-taken.result c.requires (stepped g c);
+      result = record {
+        untouched =
+            untouched_appended g.row.FLLEN c.args.self.now.state (after g c).state c.args.range c.append_chunks-taken.result
+            (opened g.row.FLLEN g.row.SLLEN c.args.self.now (after g c) (Appends g.row.FLLEN c.args.self.now.state c.args.range c.append_chunks-taken.result) (done g c)).0;
+      };
       bounds =
           λ count size align sized. sized_appended (view_well_formed c.self.invariant c.args.self.now c.self.view_is) (after g c).state count size align sized c.args.range
           c.append_chunks-taken.result c.requires (stepped g c);
-      unchanged = λ zero. c.append_chunks-taken.ensures.unchanged zero ∙ ap (λ (o : Allocator). o.memory.bytes) view;
-      place = subst (λ (o : Allocator). SamePlace o.memory c.append_chunks-taken.new.memory) view (SamePlace-costs c.append_chunks-taken.ensures.costs);
+      refused = λ zero. c.append_chunks-taken.ensures.unchanged zero ∙ ap (λ (o : Allocator). o.memory.bytes) view;
+      frame = record {
+        aligns = (seen g c).aligns;
+        bytes = (seen g c).bytes;
+        count =
+            count_appended (view_well_formed c.self.invariant c.args.self.now c.self.view_is) (after g c).state c.args.range c.append_chunks-taken.result c.requires (stepped g c);
+        place = subst (λ (o : Allocator). SamePlace o.memory c.append_chunks-taken.new.memory) view (SamePlace-costs c.append_chunks-taken.ensures.costs);
+        grow = subst (λ (o : Allocator). o.memory.touches ≤ c.append_chunks-taken.new.memory.touches) view c.append_chunks-taken.ensures.costs.grow;
+        copied = copied_none c.append_chunks-taken.ensures.costs ∙ ap (λ (o : Allocator). o.memory.copied) view;
+      };
       touches =
           subst (λ (o : Allocator). c.append_chunks-taken.new.memory.touches
           ≤ o.memory.touches + (if is_some (max_pool_size g.row.FLLEN) then 13 * length (cut (max_pool_size g.row.FLLEN) (aligned_part c.args.range)) else 34)) view
           c.append_chunks-taken.ensures.costs.touches;
-      grow = subst (λ (o : Allocator). o.memory.touches ≤ c.append_chunks-taken.new.memory.touches) view c.append_chunks-taken.ensures.costs.grow;
-      copied = copied_none c.append_chunks-taken.ensures.costs ∙ ap (λ (o : Allocator). o.memory.copied) view;
     }

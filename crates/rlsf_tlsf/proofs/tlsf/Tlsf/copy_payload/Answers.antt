@@ -132,23 +132,28 @@ returns g c =
     let view = view-opened c.self-inside.view_is c.self.view_is in
     record {
       step = done g (goal.at.returns g c).After-copy_within;
-      filled = (seen g (goal.at.returns g c).After-copy_within).here;
-      bytes = (seen g (goal.at.returns g c).After-copy_within).bytes;
-      aligns = λ i a. (seen g (goal.at.returns g c).After-copy_within).aligns a i;
-      count =
-          let before = (goal.at.returns g c).After-copy_within in
-          count_filled (view_well_formed c.self.invariant c.args.self.now c.self.view_is) (after g before).state (at c.args.to) (front g before) (live g before) (stepped g before);
+      result = record {
+        filled = (seen g (goal.at.returns g c).After-copy_within).here;
+        bytes = (seen g (goal.at.returns g c).After-copy_within).bytes;
+        aligns = λ i a. (seen g (goal.at.returns g c).After-copy_within).aligns a i;
+        count =
+            let before = (goal.at.returns g c).After-copy_within in
+            count_filled (view_well_formed c.self.invariant c.args.self.now c.self.view_is) (after g before).state (at c.args.to) (front g before) (live g before)
+            (stepped g before);
+      };
       bounds = λ count size align sized.
           let before = (goal.at.returns g c).After-copy_within in
           sized_filled (view_well_formed c.self.invariant c.args.self.now c.self.view_is) (after g before).state count size align sized (at c.args.to) (front g before)
           (live g before) (stepped g before);
-      chunks =
-          let before = (goal.at.returns g c).After-copy_within in
-          chunks-filled c.args.self.now.state (after g before).state (at c.args.to) (front g before)
-          (opened g.row.FLLEN g.row.SLLEN c.args.self.now (after g before) (Fills c.args.self.now.state (at c.args.to) (front g before)) (done g before)).0;
-      place =
-          subst (λ (o : Allocator). SamePlace o.memory c.copy_within.new.self) view
-          (c.copy_within.ensures.start, c.copy_within.ensures.len, c.copy_within.ensures.view, λ _. none g (goal.at.returns g c).After-copy_within);
+      frame = record {
+        chunks =
+            let before = (goal.at.returns g c).After-copy_within in
+            chunks-filled c.args.self.now.state (after g before).state (at c.args.to) (front g before)
+            (opened g.row.FLLEN g.row.SLLEN c.args.self.now (after g before) (Fills c.args.self.now.state (at c.args.to) (front g before)) (done g before)).0;
+        place =
+            subst (λ (o : Allocator). SamePlace o.memory c.copy_within.new.self) view
+            (c.copy_within.ensures.start, c.copy_within.ensures.len, c.copy_within.ensures.view, λ _. none g (goal.at.returns g c).After-copy_within);
+        copied = c.copy_within.ensures.copied ∙ ap (λ (o : Allocator). o.memory.copied + c.args.len) view;
+      };
       touches = c.copy_within.ensures.touches ∙ ap (λ (o : Allocator). o.memory.touches) view;
-      copied = c.copy_within.ensures.copied ∙ ap (λ (o : Allocator). o.memory.copied + c.args.len) view;
     }

@@ -127,16 +127,20 @@ returns g c =
     let costs = Costs-read_first (ap (λ (o : Allocator). o.memory) view) c.used_block-block.ensures.counts c.deallocate_block.ensures.costs in
     record {
       step = done g c;
-      chunks = chunks-deallocated c.args.self.now.state (after g c).state (at c.args.addr) (stepped g c);
-      gone = (seen g c).gone;
-      aligns = (seen g c).aligns;
-      bytes = (seen g c).bytes;
-      count = count_gone (view_well_formed c.self.invariant c.args.self.now c.self.view_is) (after g c).state (at c.args.addr) (live g c) (stepped g c);
+      result = record {
+        gone = (seen g c).gone;
+        aligns = (seen g c).aligns;
+        bytes = (seen g c).bytes;
+        count = count_gone (view_well_formed c.self.invariant c.args.self.now c.self.view_is) (after g c).state (at c.args.addr) (live g c) (stepped g c);
+      };
       bounds =
           λ count size align sized. sized_gone (view_well_formed c.self.invariant c.args.self.now c.self.view_is) (after g c).state count size align sized (at c.args.addr)
           (live g c) (stepped g c);
-      place = SamePlace-costs costs;
+      frame = record {
+        chunks = chunks-deallocated c.args.self.now.state (after g c).state (at c.args.addr) (stepped g c);
+        place = SamePlace-costs costs;
+        grow = costs.grow;
+        copied = copied_none costs;
+      };
       touches = costs.touches;
-      grow = costs.grow;
-      copied = copied_none costs;
     }

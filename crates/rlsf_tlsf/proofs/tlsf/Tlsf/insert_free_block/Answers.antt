@@ -26,18 +26,12 @@ returns g c =
     let new = c.insert_free_block_ptr.new.self in
     record {
       step = somehow g.row.FLLEN g.row.SLLEN old new c.args.range (reply c.insert_free_block_ptr.result) did.step;
-      untouched = did.untouched;
-      aligns = did.aligns;
-      bytes = did.bytes;
-      count = did.count;
+      result = did.result;
       bounds = did.bounds;
-      pool = did.pool;
-      unchanged = λ none.
+      refused = λ none.
           let step =
           (opened g.row.FLLEN g.row.SLLEN old new (Inserts g.row.FLLEN old.state c.args.range (reply c.insert_free_block_ptr.result)) did.step).0 in
           where_none _ c.insert_free_block_ptr.result (step.answer ∙ ap (bytes_taken c.args.range.start) none) did.refused;
-      place = did.place;
+      frame = did.frame;
       touches = did.touches;
-      grow = did.grow;
-      copied = did.copied;
     }

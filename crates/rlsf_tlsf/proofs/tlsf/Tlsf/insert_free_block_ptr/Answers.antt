@@ -96,26 +96,30 @@ returns g c =
     let view = view-opened c.self-inside.view_is c.self.view_is in
     record {
       step = done g c;
-      untouched =
-          untouched_inserted g.row.FLLEN c.args.self.now.state (after g c).state c.args.range (reply c.insert_chunks-taken.result)
-          (opened g.row.FLLEN g.row.SLLEN c.args.self.now (after g c) (Inserts g.row.FLLEN c.args.self.now.state c.args.range (reply c.insert_chunks-taken.result)) (done g c)).0;
-      aligns = (seen g c).aligns;
-      bytes = (seen g c).bytes;
-      count =
-          count_inserted (view_well_formed c.self.invariant c.args.self.now c.self.view_is) (after g c).state c.args.range (reply c.insert_chunks-taken.result) (fresh g c)
-          (stepped g c);
+      result = record {
+        untouched =
+            untouched_inserted g.row.FLLEN c.args.self.now.state (after g c).state c.args.range (reply c.insert_chunks-taken.result)
+            (opened g.row.FLLEN g.row.SLLEN c.args.self.now (after g c) (Inserts g.row.FLLEN c.args.self.now.state c.args.range (reply c.insert_chunks-taken.result)) (done g c)).0;
+        pool = λ count size align len told at32 long idle.
+            sized_pool g.FLBitmap.BitPattern.width g.SLBitmap.BitPattern.width g.row.FLLEN g.row.SLLEN count size align len c.args.self.now.state (after g c).state c.args.range
+            (reply c.insert_chunks-taken.result) (IsAllocator-opened c.self-inside.view_is c.self.invariant).valid told at32 long idle (stepped g c);
+      };
       bounds =
           λ count size align sized. sized_inserted (view_well_formed c.self.invariant c.args.self.now c.self.view_is) (after g c).state count size align sized c.args.range
           (reply c.insert_chunks-taken.result) (fresh g c) (stepped g c);
-      pool = λ count size align len told at32 long idle.
-          sized_pool g.FLBitmap.BitPattern.width g.SLBitmap.BitPattern.width g.row.FLLEN g.row.SLLEN count size align len c.args.self.now.state (after g c).state c.args.range
-          (reply c.insert_chunks-taken.result) (IsAllocator-opened c.self-inside.view_is c.self.invariant).valid told at32 long idle (stepped g c);
       refused =
           subst (λ (o : Allocator). IfNone c.insert_chunks-taken.result (c.insert_chunks-taken.new.memory.bytes ≡ o.memory.bytes)) view c.insert_chunks-taken.ensures.refused;
-      place = subst (λ (o : Allocator). SamePlace o.memory c.insert_chunks-taken.new.memory) view (SamePlace-costs c.insert_chunks-taken.ensures.costs);
+      frame = record {
+        aligns = (seen g c).aligns;
+        bytes = (seen g c).bytes;
+        count =
+            count_inserted (view_well_formed c.self.invariant c.args.self.now c.self.view_is) (after g c).state c.args.range (reply c.insert_chunks-taken.result) (fresh g c)
+            (stepped g c);
+        place = subst (λ (o : Allocator). SamePlace o.memory c.insert_chunks-taken.new.memory) view (SamePlace-costs c.insert_chunks-taken.ensures.costs);
+        grow = subst (λ (o : Allocator). o.memory.touches ≤ c.insert_chunks-taken.new.memory.touches) view c.insert_chunks-taken.ensures.costs.grow;
+        copied = copied_none c.insert_chunks-taken.ensures.costs ∙ ap (λ (o : Allocator). o.memory.copied) view;
+      };
       touches =
           subst (λ (o : Allocator). c.insert_chunks-taken.new.memory.touches ≤ o.memory.touches + 13 * length (cut (max_pool_size g.row.FLLEN) (aligned_part c.args.range))) view
           c.insert_chunks-taken.ensures.costs.touches;
-      grow = subst (λ (o : Allocator). o.memory.touches ≤ c.insert_chunks-taken.new.memory.touches) view c.insert_chunks-taken.ensures.costs.grow;
-      copied = copied_none c.insert_chunks-taken.ensures.costs ∙ ap (λ (o : Allocator). o.memory.copied) view;
     }

@@ -53,15 +53,17 @@ returns g c =
       record {
         writes_back = tt;
         value = is.bytes ∙ sym (bytes_at-held (IsAllocator-opened c.self-inside.view_is c.self.invariant).stands.well_formed addr u holds);
-        meaning = λ w. (left w).meaning;
-        filled = λ w. (left w).filled;
+        step = λ w. (left w).meaning;
+        result = λ w. record {
+          filled = (left w).filled;
+          lengths =
+              (left w).lengths ∙ ap length (bytes_at-held (IsAllocator-opened c.self-inside.view_is c.self.invariant).stands.well_formed addr u holds)
+              ∙ ap length (sym is.bytes);
+          aligns = (left w).aligns;
+          count = (left w).count;
+        };
         bytes = λ w. (left w).bytes;
-        aligns = λ w. (left w).aligns;
-        count = λ w. (left w).count;
         bounds = λ w. (left w).bounds;
-        lengths =
-            λ w. (left w).lengths ∙ ap length (bytes_at-held (IsAllocator-opened c.self-inside.view_is c.self.invariant).stands.well_formed addr u holds)
-            ∙ ap length (sym is.bytes);
-        rest = λ w. (left w).rest;
+        frame = λ w. (left w).rest;
       },
     )

@@ -1,9 +1,9 @@
-use Rattle.std.proofs.Common.{[], ◌≡◌, ◌≢◌, ◌+◌, ◌<◌, ◌≤◌, ℕ, length, Option, Some, None, IsSome, arith, refl, sym, ◌∙◌, ap, subst, rules}
+use Rattle.std.proofs.Common.{[], ◌≡◌, ◌<◌, ℕ, length, Option, Some, None, IsSome, arith, refl, sym, ◌∙◌, ap, subst, rules}
 use Rattle.std.proofs.lemmas.Option.{none-some}
 use Rattle.std.specs.declared.num.NonZeroUsize.{NonZeroUsize}
 use Rattle.rlsf_base.specs.Addr.{at, reply}
-use Rattle.rlsf_model.specs.Callers.{align_at, bytes_at}
-use Rattle.rlsf_model.specs.Reallocate.{Keeps, Plan, Reallocates, in_place, into_next, or_else}
+use Rattle.rlsf_model.specs.Callers.{bytes_at}
+use Rattle.rlsf_model.specs.Reallocate.{Plan, Reallocates, in_place, into_next, or_else}
 use Rattle.rlsf_model.specs.Run.{reallocate, IsSomeLive}
 use Rattle.rlsf_model.specs.Sized.{IsSizedFor, live_count}
 use Rattle.rlsf_model.specs.State.{State, Used, usable, Holds}
@@ -20,6 +20,7 @@ use Rattle.rlsf_blocks.specs.StandsFor.{contents, StandsFor}
 use Rattle.rlsf_blocks.proofs.RepresentedStates.Counted.{KeepsSpare-counted_first}
 use Rattle.rlsf_blocks.proofs.Words.NonZeroNumbers.{number, on_none, on_some}
 use Rattle.rlsf_tlsf.specs.Allocator.{Allocator, allocator, Steps}
+use Rattle.rlsf_tlsf.specs.Results.{IsReallocated}
 use Rattle.rlsf_tlsf.specs.Steps.Moves.{bare, reallocated}
 use Rattle.rlsf_tlsf.proofs.Arrivals.{IsAllocator-arrived, Steps-arrived, bare-kept, bytes_inside, opened, view_well_formed, well_formed, arrived}
 use Rattle.rlsf_tlsf.proofs.Found.{Found, live_in, payload_found}
@@ -214,40 +215,37 @@ returns-in_err-moved g c =
           (subst (λ o. Reallocates g.row.SLLEN (read_from c.self-inside.inside.0.0.inner c.self-inside.inside.0.1.1.0.state) (at c.args.addr) c.args.layout.size (reply o)
           (read_from c.self-inside.inside.0.0.inner c.self-inside.inside.0.1.1.0.state)) (sym c.from_residual.ensures) (staying g (refused g c)).0)
           (staying g (refused g c)).2;
-      live = none_some _ c.from_residual.result c.from_residual.ensures;
-      sized = none_some _ c.from_residual.result c.from_residual.ensures;
-      few = none_some _ c.from_residual.result c.from_residual.ensures;
-      kept = none_some _ c.from_residual.result c.from_residual.ensures;
-      new = none_some _ c.from_residual.result c.from_residual.ensures;
-      aligns = none_some _ c.from_residual.result c.from_residual.ensures;
-      bytes = none_some _ c.from_residual.result c.from_residual.ensures;
+      result = none_some _ c.from_residual.result c.from_residual.ensures;
       room = λ count size align sized few short fits.
           absurd (never_refused_again (view_well_formed c.self.invariant c.args.self.now c.self.view_is) c.args.self.now.state count size align sized (at c.args.addr)
           c.args.layout.size c.args.layout.align c.requires few short fits
           (subst (λ (o : Allocator). Reallocates g.row.SLLEN o.state (at c.args.addr) c.args.layout.size None o.state) view (staying g (refused g c)).0));
-      count = ap live_count (arrived (staying g (refused g c)).1 c.self-inside.inside.0.1.1.0.state (sym (bare-kept is)) ∙ ap (λ (o : Allocator). o.state) view);
       bounds = λ count size align sized short fits.
           subst (IsSizedFor g.row.SLLEN count size align)
           (sym (arrived (staying g (refused g c)).1 c.self-inside.inside.0.1.1.0.state (sym (bare-kept is)) ∙ ap (λ (o : Allocator). o.state) view)) sized;
-      chunks = ap (λ (o : Allocator). o.state.chunks) view;
-      same =
-          none_none c.from_residual.result (arrived (staying g (refused g c)).1 c.self-inside.inside.0.1.1.0.state (sym (bare-kept is)) ∙ ap (λ (o : Allocator). o.state) view);
-      refused = none_none c.from_residual.result (c.in_err-moved.ensures.refused ∙ c.used_block-block.ensures.counts.bytes ∙ ap (λ (o : Allocator). o.memory.bytes) view);
-      place = SamePlace-read_first viewed c.used_block-block.ensures.counts c.reallocate_block.new.memory c.reallocate_block.ensures.place;
+      refused = none_none c.from_residual.result (record {
+        same = arrived (staying g (refused g c)).1 c.self-inside.inside.0.1.1.0.state (sym (bare-kept is)) ∙ ap (λ (o : Allocator). o.state) view;
+        bytes = c.in_err-moved.ensures.refused ∙ c.used_block-block.ensures.counts.bytes ∙ ap (λ (o : Allocator). o.memory.bytes) view;
+      });
+      frame = record {
+        count = ap live_count (arrived (staying g (refused g c)).1 c.self-inside.inside.0.1.1.0.state (sym (bare-kept is)) ∙ ap (λ (o : Allocator). o.state) view);
+        chunks = ap (λ (o : Allocator). o.state.chunks) view;
+        place = SamePlace-read_first viewed c.used_block-block.ensures.counts c.reallocate_block.new.memory c.reallocate_block.ensures.place;
+        grow = grow-read_first viewed c.used_block-block.ensures.counts c.reallocate_block.new.memory c.reallocate_block.ensures.grow;
+        copied =
+            let before = (goal.at.returns-in_err-moved g c).After-used_block-block in
+            let f = found g before in
+            most_copied-read_first viewed c.used_block-block.ensures.counts c.reallocate_block.new.memory (usable f.used).len
+            (length (bytes_at c.args.self.now.state (at c.args.addr))) (c.reallocate_block.ensures.copied (state g before) f.used f.stands f.used_at) (long g before);
+        grow_copied = grow_copied-read_first viewed c.used_block-block.ensures.counts c.reallocate_block.new.memory c.reallocate_block.ensures.grow_copied;
+        stays = λ room.
+            let (u, p, held, first) = room in
+            let before = (goal.at.returns-in_err-moved g c).After-used_block-block in
+            let f = found g before in
+            copied-read_first viewed c.used_block-block.ensures.counts c.reallocate_block.new.memory
+            (c.reallocate_block.ensures.stays (state g before) f.used f.stands f.used_at p (stays g before u p held first));
+      };
       touches = touches-read_first viewed c.used_block-block.ensures.counts c.reallocate_block.new.memory 65 c.reallocate_block.ensures.touches;
-      grow = grow-read_first viewed c.used_block-block.ensures.counts c.reallocate_block.new.memory c.reallocate_block.ensures.grow;
-      copied =
-          let before = (goal.at.returns-in_err-moved g c).After-used_block-block in
-          let f = found g before in
-          most_copied-read_first viewed c.used_block-block.ensures.counts c.reallocate_block.new.memory (usable f.used).len
-          (length (bytes_at c.args.self.now.state (at c.args.addr))) (c.reallocate_block.ensures.copied (state g before) f.used f.stands f.used_at) (long g before);
-      grow_copied = grow_copied-read_first viewed c.used_block-block.ensures.counts c.reallocate_block.new.memory c.reallocate_block.ensures.grow_copied;
-      stays = λ room.
-          let (u, p, held, first) = room in
-          let before = (goal.at.returns-in_err-moved g c).After-used_block-block in
-          let f = found g before in
-          copied-read_first viewed c.used_block-block.ensures.counts c.reallocate_block.new.memory
-          (c.reallocate_block.ensures.stays (state g before) f.used f.stands f.used_at p (stays g before u p held first));
     }
 
 -- ---- the counts of a payload with another size
@@ -268,48 +266,50 @@ returns g c =
       step =
           subst (λ o. Steps g.row.FLLEN g.row.SLLEN c.args.self.now (after g c) (Reallocates g.row.SLLEN c.args.self.now.state (at c.args.addr) c.args.layout.size o))
           (sym ((number c.new.result c.in_ok-moved.moved c.new.ensures).1 (positive g c))) (done g c);
-      live = on_some (λ to. align_at (after g c).state to ≡ Some c.args.layout.align) c.new.result c.in_ok-moved.moved c.new.ensures (seen g c).live;
-      sized = on_some (λ to. c.args.layout.size ≤ length (bytes_at (after g c).state to)) c.new.result c.in_ok-moved.moved c.new.ensures (seen g c).sized;
-      few = on_some (λ to. length (bytes_at (after g c).state to) < c.args.layout.size + 32) c.new.result c.in_ok-moved.moved c.new.ensures (seen g c).few;
-      kept =
-          on_some (λ to. Keeps (bytes_at c.args.self.now.state (at c.args.addr)) (bytes_at (after g c).state to)) c.new.result c.in_ok-moved.moved c.new.ensures (seen g c).kept;
-      new = on_some (λ to. to ≢ at c.args.addr → align_at c.args.self.now.state to ≡ None) c.new.result c.in_ok-moved.moved c.new.ensures (seen g c).new;
-      aligns =
-          on_some (λ to. (a : ℕ) → a ≢ at c.args.addr → a ≢ to → align_at (after g c).state a ≡ align_at c.args.self.now.state a) c.new.result c.in_ok-moved.moved
-          c.new.ensures (seen g c).aligns;
-      bytes =
-          on_some (λ to. (a : ℕ) → a ≢ at c.args.addr → a ≢ to → bytes_at (after g c).state a ≡ bytes_at c.args.self.now.state a) c.new.result c.in_ok-moved.moved
-          c.new.ensures (seen g c).bytes;
+      result =
+          on_some (λ to. IsReallocated c.args.self.now.state (after g c).state (at c.args.addr) c.args.layout.size c.args.layout.align to) c.new.result c.in_ok-moved.moved
+          c.new.ensures (record {
+            live = (seen g c).live;
+            sized = (seen g c).sized;
+            few = (seen g c).few;
+            kept = (seen g c).kept;
+            new = (seen g c).new;
+            aligns = (seen g c).aligns;
+            bytes = (seen g c).bytes;
+          });
       room = λ count size align sized few short fits. some_answer c.new.result c.in_ok-moved.moved ((number c.new.result c.in_ok-moved.moved c.new.ensures).1 (positive g c));
-      count =
-          count_resized (view_well_formed c.self.invariant c.args.self.now c.self.view_is) (after g c).state (at c.args.addr) c.args.layout.size (Some c.in_ok-moved.moved)
-          (some_live g c)
-          (opened g.row.FLLEN g.row.SLLEN c.args.self.now (after g c) (Reallocates g.row.SLLEN c.args.self.now.state (at c.args.addr) c.args.layout.size (Some c.in_ok-moved.moved))
-          (done g c)).0;
       bounds = λ count size align sized short fits.
           sized_resized (view_well_formed c.self.invariant c.args.self.now c.self.view_is) (after g c).state count size align sized (at c.args.addr) c.args.layout.size
           c.args.layout.align (Some c.in_ok-moved.moved) c.requires short fits
           (opened g.row.FLLEN g.row.SLLEN c.args.self.now (after g c) (Reallocates g.row.SLLEN c.args.self.now.state (at c.args.addr) c.args.layout.size (Some c.in_ok-moved.moved))
           (done g c)).0;
-      chunks =
-          chunks-reallocated g.row.SLLEN c.args.self.now.state (after g c).state (at c.args.addr) c.args.layout.size (Some c.in_ok-moved.moved)
-          (opened g.row.FLLEN g.row.SLLEN c.args.self.now (after g c) (Reallocates g.row.SLLEN c.args.self.now.state (at c.args.addr) c.args.layout.size (Some c.in_ok-moved.moved))
-          (done g c)).0;
-      same = let some = positive g c in on_none c.new.result c.in_ok-moved.moved c.new.ensures (λ zero. absurd (omega arith));
       refused = let some = positive g c in on_none c.new.result c.in_ok-moved.moved c.new.ensures (λ zero. absurd (omega arith));
-      place = SamePlace-read_first viewed c.used_block-block.ensures.counts c.reallocate_block.new.memory c.reallocate_block.ensures.place;
+      frame = record {
+        count =
+            count_resized (view_well_formed c.self.invariant c.args.self.now c.self.view_is) (after g c).state (at c.args.addr) c.args.layout.size (Some c.in_ok-moved.moved)
+            (some_live g c)
+            (opened g.row.FLLEN g.row.SLLEN c.args.self.now (after g c) (Reallocates g.row.SLLEN c.args.self.now.state (at c.args.addr) c.args.layout.size
+            (Some c.in_ok-moved.moved))
+            (done g c)).0;
+        chunks =
+            chunks-reallocated g.row.SLLEN c.args.self.now.state (after g c).state (at c.args.addr) c.args.layout.size (Some c.in_ok-moved.moved)
+            (opened g.row.FLLEN g.row.SLLEN c.args.self.now (after g c) (Reallocates g.row.SLLEN c.args.self.now.state (at c.args.addr) c.args.layout.size
+            (Some c.in_ok-moved.moved))
+            (done g c)).0;
+        place = SamePlace-read_first viewed c.used_block-block.ensures.counts c.reallocate_block.new.memory c.reallocate_block.ensures.place;
+        grow = grow-read_first viewed c.used_block-block.ensures.counts c.reallocate_block.new.memory c.reallocate_block.ensures.grow;
+        copied =
+            let before = (goal.at.returns g c).After-used_block-block in
+            let f = found g before in
+            most_copied-read_first viewed c.used_block-block.ensures.counts c.reallocate_block.new.memory (usable f.used).len
+            (length (bytes_at c.args.self.now.state (at c.args.addr))) (c.reallocate_block.ensures.copied (state g before) f.used f.stands f.used_at) (long g before);
+        grow_copied = grow_copied-read_first viewed c.used_block-block.ensures.counts c.reallocate_block.new.memory c.reallocate_block.ensures.grow_copied;
+        stays = λ room.
+            let (u, p, held, first) = room in
+            let before = (goal.at.returns g c).After-used_block-block in
+            let f = found g before in
+            copied-read_first viewed c.used_block-block.ensures.counts c.reallocate_block.new.memory
+            (c.reallocate_block.ensures.stays (state g before) f.used f.stands f.used_at p (stays g before u p held first));
+      };
       touches = touches-read_first viewed c.used_block-block.ensures.counts c.reallocate_block.new.memory 65 c.reallocate_block.ensures.touches;
-      grow = grow-read_first viewed c.used_block-block.ensures.counts c.reallocate_block.new.memory c.reallocate_block.ensures.grow;
-      copied =
-          let before = (goal.at.returns g c).After-used_block-block in
-          let f = found g before in
-          most_copied-read_first viewed c.used_block-block.ensures.counts c.reallocate_block.new.memory (usable f.used).len
-          (length (bytes_at c.args.self.now.state (at c.args.addr))) (c.reallocate_block.ensures.copied (state g before) f.used f.stands f.used_at) (long g before);
-      grow_copied = grow_copied-read_first viewed c.used_block-block.ensures.counts c.reallocate_block.new.memory c.reallocate_block.ensures.grow_copied;
-      stays = λ room.
-          let (u, p, held, first) = room in
-          let before = (goal.at.returns g c).After-used_block-block in
-          let f = found g before in
-          copied-read_first viewed c.used_block-block.ensures.counts c.reallocate_block.new.memory
-          (c.reallocate_block.ensures.stays (state g before) f.used f.stands f.used_at p (stays g before u p held first));
     }

@@ -193,22 +193,23 @@ returns-then-not-resize_block g c =
           Steps-arrived (stands g c) c.self-inside.inside.0.1.1.0.state (sym (bare-kept is)) (none_refused g c) c.args.self.now c.self-inside.inside.0.0.inner
           c.self-inside.inside.0.1.0 c.self-inside.inside.0.1.1.0.state view
           (λ old. ReallocatesWithoutMove old (at c.args.addr) c.args.layout.size None) (refused g c) (keeps g c);
-      there = tt;
-      live = ap (λ s. align_at s (at c.args.addr)) (same g c) ∙ c.requires;
-      sized = tt;
-      few = tt;
-      kept = tt;
-      aligns = ap align_at (arrived (stands g c) c.self-inside.inside.0.1.1.0.state (sym (bare-kept is)) ∙ ap (λ (o : Allocator). o.state) view);
-      bytes = λ a apart. ap (λ s. bytes_at s a) (same g c);
-      count = ap live_count (same g c);
+      result = tt;
       bounds = λ count size align sized short fits. subst (IsSizedFor g.row.SLLEN count size align) (sym (same g c)) sized;
-      chunks = ap (λ (o : Allocator). o.state.chunks) view;
-      same = same g c;
-      refused = (c.resize_block.ensures.unchanged c.if-not-resize_block.true).0.bytes ∙ c.used_block-block.ensures.counts.bytes ∙ ap (λ (o : Allocator). o.memory.bytes) view;
-      place = SamePlace-costs costs;
+      refused = record {
+        same = same g c;
+        bytes = (c.resize_block.ensures.unchanged c.if-not-resize_block.true).0.bytes ∙ c.used_block-block.ensures.counts.bytes ∙ ap (λ (o : Allocator). o.memory.bytes) view;
+      };
+      frame = record {
+        live = ap (λ s. align_at s (at c.args.addr)) (same g c) ∙ c.requires;
+        aligns = ap align_at (arrived (stands g c) c.self-inside.inside.0.1.1.0.state (sym (bare-kept is)) ∙ ap (λ (o : Allocator). o.state) view);
+        bytes = λ a apart. ap (λ s. bytes_at s a) (same g c);
+        count = ap live_count (same g c);
+        chunks = ap (λ (o : Allocator). o.state.chunks) view;
+        place = SamePlace-costs costs;
+        grow = costs.grow;
+        copied = copied_none costs;
+      };
       touches = costs.touches;
-      grow = costs.grow;
-      copied = copied_none costs;
     }
 
 -- ---- the counts of a payload with another size
@@ -219,24 +220,27 @@ returns g c =
     let costs = Costs-read_first (ap (λ (o : Allocator). o.memory) view) c.used_block-block.ensures.counts c.resize_block.ensures.costs in
     record {
       step = done g c;
-      there = refl;
-      live = (seen g c).live;
-      sized = (seen g c).sized;
-      few = (seen g c).few;
-      kept = (seen g c).kept;
-      aligns = λ i a. aligned g c a i;
-      bytes = λ a apart. (seen g c).bytes a apart apart;
-      count = let r = reached g c in
-          count_resized (view_well_formed c.self.invariant c.args.self.now c.self.view_is) (after g c).state (at c.args.addr) c.args.layout.size (Some (at c.args.addr))
-          (r.block, r.holds) r;
+      result = record {
+        there = refl;
+        sized = (seen g c).sized;
+        few = (seen g c).few;
+        kept = (seen g c).kept;
+      };
       bounds = λ count size align sized short fits.
           sized_resized (view_well_formed c.self.invariant c.args.self.now c.self.view_is) (after g c).state count size align sized (at c.args.addr) c.args.layout.size
           c.args.layout.align (Some (at c.args.addr)) c.requires short fits (reached g c);
-      chunks = chunks-reallocated g.row.SLLEN c.args.self.now.state (after g c).state (at c.args.addr) c.args.layout.size (Some (at c.args.addr)) (reached g c);
-      same = tt;
       refused = tt;
-      place = SamePlace-costs costs;
+      frame = record {
+        live = (seen g c).live;
+        aligns = λ i a. aligned g c a i;
+        bytes = λ a apart. (seen g c).bytes a apart apart;
+        count = let r = reached g c in
+            count_resized (view_well_formed c.self.invariant c.args.self.now c.self.view_is) (after g c).state (at c.args.addr) c.args.layout.size (Some (at c.args.addr))
+            (r.block, r.holds) r;
+        chunks = chunks-reallocated g.row.SLLEN c.args.self.now.state (after g c).state (at c.args.addr) c.args.layout.size (Some (at c.args.addr)) (reached g c);
+        place = SamePlace-costs costs;
+        grow = costs.grow;
+        copied = copied_none costs;
+      };
       touches = costs.touches;
-      grow = costs.grow;
-      copied = copied_none costs;
     }

@@ -31,28 +31,31 @@ returns-then-stays g c =
     let w = well_formed old stands in
     record {
       step = stayed fllen sllen old new addr size stands yes c.args.layout.align;
-      live = subst IsSome (sym seen.live) refl;
-      there = λ same. seen.live ∙ sym (stay_was fllen sllen old new addr size stands yes);
-      moved = λ apart. absurd (apart refl);
-      gone = λ apart. absurd (apart refl);
-      sized = seen.sized;
-      few = seen.few;
-      kept = seen.kept;
-      new = λ apart. absurd (apart refl);
-      aligns = seen.aligns;
-      bytes = seen.bytes;
+      result = record {
+        live = subst IsSome (sym seen.live) refl;
+        there = λ same. seen.live ∙ sym (stay_was fllen sllen old new addr size stands yes);
+        moved = λ apart. absurd (apart refl);
+        gone = λ apart. absurd (apart refl);
+        sized = seen.sized;
+        few = seen.few;
+        kept = seen.kept;
+        new = λ apart. absurd (apart refl);
+        aligns = seen.aligns;
+        bytes = seen.bytes;
+      };
       room = λ count most align sized few short fits. refl;
-      count = count_resized w new.state addr size (Some addr) (reached.block, reached.holds) reached;
       bounds = λ count most align was sized live within short fits. sized_resized w new.state count most align sized addr size was (Some addr) live short within reached;
-      chunks = chunks-reallocated sllen old.state new.state addr size (Some addr) reached;
-      same = tt;
       refused = tt;
-      place = did.place;
+      frame = record {
+        count = count_resized w new.state addr size (Some addr) (reached.block, reached.holds) reached;
+        chunks = chunks-reallocated sllen old.state new.state addr size (Some addr) reached;
+        place = did.frame.place;
+        grow = did.frame.grow;
+        copied = omega (arith, did.frame.copied);
+        grow_copied = omega (arith, did.frame.copied);
+        stays = λ room. did.frame.copied;
+      };
       touches = omega (arith, did.touches);
-      grow = did.grow;
-      copied = omega (arith, did.copied);
-      grow_copied = omega (arith, did.copied);
-      stays = λ room. did.copied;
     }
 
 -- ---- it moves
@@ -98,27 +101,27 @@ module _ (g : given.Over) (c : In-Some g) where
   live = subst (λ s. IsSome (align_at s addr)) (sym same) c.requires
 
   elsewhere : addr ≢ to
-  elsewhere = made_elsewhere mid.state addr to live c.in-Some.ensures.new
+  elsewhere = made_elsewhere mid.state addr to live c.in-Some.ensures.result.new
 
   -- the old payload is as it was
   still_live : IsSome (align_at made.state addr)
-  still_live = subst IsSome (sym (c.in-Some.ensures.aligns addr elsewhere)) live
+  still_live = subst IsSome (sym (c.in-Some.ensures.result.aligns addr elsewhere)) live
 
   still_has : bytes_at made.state addr ≡ bytes_at old.state addr
-  still_has = c.in-Some.ensures.bytes addr elsewhere ∙ ap (λ s. bytes_at s addr) same
+  still_has = c.in-Some.ensures.result.bytes addr elsewhere ∙ ap (λ s. bytes_at s addr) same
 
   enough : len ≤ length (bytes_at made.state to)
-  enough = omega (arith, long, short, c.in-Some.ensures.sized)
+  enough = omega (arith, long, short, c.in-Some.ensures.result.sized)
 
 pub copy_payload-requires : goal.copy_payload-requires
 copy_payload-requires g c =
     let here = (goal.at.copy_payload-requires g c).In-Some in
-    (omega arith, ((still_live g here, subst IsSome (sym c.in-Some.ensures.live) refl), (omega (arith, long g here, ap length (still_has g here)), enough g here)))
+    (omega arith, ((still_live g here, subst IsSome (sym c.in-Some.ensures.result.live) refl), (omega (arith, long g here, ap length (still_has g here)), enough g here)))
 
 pub deallocate_unknown_align-requires : goal.deallocate_unknown_align-requires
 deallocate_unknown_align-requires g c =
     let here = (goal.at.deallocate_unknown_align-requires g c).In-Some in
-    (omega arith, subst (λ f. IsSome (f (at c.args.addr))) (sym c.copy_payload.ensures.aligns) (still_live g here))
+    (omega arith, subst (λ f. IsSome (f (at c.args.addr))) (sym c.copy_payload.ensures.result.aligns) (still_live g here))
 
 pub returns-in-Some : goal.returns-in-Some
 returns-in-Some g c =
@@ -140,36 +143,39 @@ returns-in-Some g c =
     let same = same g here in
     let off : to ≢ addr = λ e. elsewhere g here (sym e) in
     let is = long g here in
-    let extent = moved_long old.state made.state copied.state new.state addr to len is (enough g here) (still_has g here) copy.filled (free.bytes to off) in
-    let to_made = place_after old.memory mid.memory made.memory first.place did.place in
-    let to_copied = place_after old.memory made.memory copied.memory to_made copy.place in
+    let extent = moved_long old.state made.state copied.state new.state addr to len is (enough g here) (still_has g here) copy.result.filled (free.result.bytes to off) in
+    let to_made = place_after old.memory mid.memory made.memory first.frame.place did.frame.place in
+    let to_copied = place_after old.memory made.memory copied.memory to_made copy.frame.place in
     record {
       step =
-          moved g.row.FLLEN g.row.SLLEN old mid addr size stands (no g here) made copied new c.args.layout.align to len is did.step copy.step free.step first.place to_made
+          moved g.row.FLLEN g.row.SLLEN old mid addr size stands (no g here) made copied new c.args.layout.align to len is did.step copy.step free.step first.frame.place to_made
           to_copied;
-      live = subst IsSome (sym (free.aligns to off ∙ (λ i. copy.aligns i to) ∙ did.live)) refl;
-      there = λ e. absurd (off e);
-      moved = λ apart. free.aligns to off ∙ (λ i. copy.aligns i to) ∙ did.live;
-      gone = λ apart. free.gone;
-      sized = omega (arith, extent, did.sized);
-      few = omega (arith, extent, did.few);
-      kept = moved_keeps old.state made.state copied.state new.state addr to len is (enough g here) (still_has g here) copy.filled (free.bytes to off);
-      new = λ apart. ap (λ s. align_at s to) (sym same) ∙ did.new;
-      aligns = λ a from from_to. free.aligns a from ∙ (λ i. copy.aligns i a) ∙ did.aligns a from_to ∙ ap (λ s. align_at s a) same;
-      bytes = λ a from from_to. free.bytes a from ∙ copy.bytes a from_to ∙ did.bytes a from_to ∙ ap (λ s. bytes_at s a) same;
+      result = record {
+        live = subst IsSome (sym (free.result.aligns to off ∙ (λ i. copy.result.aligns i to) ∙ did.result.live)) refl;
+        there = λ e. absurd (off e);
+        moved = λ apart. free.result.aligns to off ∙ (λ i. copy.result.aligns i to) ∙ did.result.live;
+        gone = λ apart. free.result.gone;
+        sized = omega (arith, extent, did.result.sized);
+        few = omega (arith, extent, did.result.few);
+        kept = moved_keeps old.state made.state copied.state new.state addr to len is (enough g here) (still_has g here) copy.result.filled (free.result.bytes to off);
+        new = λ apart. ap (λ s. align_at s to) (sym same) ∙ did.result.new;
+        aligns = λ a from from_to. free.result.aligns a from ∙ (λ i. copy.result.aligns i a) ∙ did.result.aligns a from_to ∙ ap (λ s. align_at s a) same;
+        bytes = λ a from from_to. free.result.bytes a from ∙ copy.result.bytes a from_to ∙ did.result.bytes a from_to ∙ ap (λ s. bytes_at s a) same;
+      };
       room = λ count most align sized few short fits. refl;
-      count = omega (arith, free.count, copy.count, did.count, ap live_count same);
       bounds = λ count most align was sized live within short fits.
           free.bounds count most align (copy.bounds count most align (did.bounds count most align (subst (IsSizedFor g.row.SLLEN count most align) (sym same) sized) short fits));
-      chunks = free.chunks ∙ copy.chunks ∙ did.chunks ∙ ap (λ s. s.chunks) same;
-      same = tt;
       refused = tt;
-      place = place_after old.memory copied.memory new.memory to_copied free.place;
+      frame = record {
+        count = omega (arith, free.result.count, copy.result.count, did.result.count, ap live_count same);
+        chunks = free.frame.chunks ∙ copy.frame.chunks ∙ did.frame.chunks ∙ ap (λ s. s.chunks) same;
+        place = place_after old.memory copied.memory new.memory to_copied free.frame.place;
+        grow = omega (arith, first.frame.grow, did.frame.grow, copy.touches, free.frame.grow);
+        copied = omega (arith, first.frame.copied, did.frame.copied, copy.frame.copied, free.frame.copied, is);
+        grow_copied = omega (arith, first.frame.copied, did.frame.copied, copy.frame.copied, free.frame.copied);
+        stays = λ room. absurd (no_room_to_stay g.row.FLLEN g.row.SLLEN old mid addr size stands (no g here) room);
+      };
       touches = omega (arith, (first.unchanged c.if-stays.false).1, did.touches, copy.touches, free.touches);
-      grow = omega (arith, first.grow, did.grow, copy.touches, free.grow);
-      copied = omega (arith, first.copied, did.copied, copy.copied, free.copied, is);
-      grow_copied = omega (arith, first.copied, did.copied, copy.copied, free.copied);
-      stays = λ room. absurd (no_room_to_stay g.row.FLLEN g.row.SLLEN old mid addr size stands (no g here) room);
     }
 
 -- ---- it is refused
@@ -185,32 +191,27 @@ returns-in-None g c =
     let first = c.resize_unknown_align-stays.ensures in
     let did = c.in-None.ensures in
     let no = first.refused c.if-stays.false in
-    let same : made.state ≡ old.state = did.same ∙ denied_same g.row.FLLEN g.row.SLLEN old mid addr size stands no in
+    let same : made.state ≡ old.state = did.refused.same ∙ denied_same g.row.FLLEN g.row.SLLEN old mid addr size stands no in
     let mid_same : mid.state ≡ old.state = denied_same g.row.FLLEN g.row.SLLEN old mid addr size stands no in
     record {
-      step = denied_everywhere g.row.FLLEN g.row.SLLEN old mid addr size stands no made c.args.layout.align first.place did.step;
-      live = tt;
-      there = tt;
-      moved = tt;
-      gone = tt;
-      sized = tt;
-      few = tt;
-      kept = tt;
-      new = tt;
-      aligns = tt;
-      bytes = tt;
+      step = denied_everywhere g.row.FLLEN g.row.SLLEN old mid addr size stands no made c.args.layout.align first.frame.place did.step;
+      result = tt;
       room =
           λ count most align sized few short fits. did.room count most align (subst (IsSizedFor g.row.SLLEN count most align) (sym mid_same) sized)
           (subst (λ s. live_count s ≤ count) (sym mid_same) few) short fits;
-      count = ap live_count same;
       bounds = λ count most align was sized live within short fits. subst (IsSizedFor g.row.SLLEN count most align) (sym same) sized;
-      chunks = ap (λ s. s.chunks) same;
-      same = same;
-      refused = did.refused ∙ (first.unchanged c.if-stays.false).0;
-      place = place_after old.memory mid.memory made.memory first.place did.place;
+      refused = record {
+        same = same;
+        bytes = did.refused.bytes ∙ (first.unchanged c.if-stays.false).0;
+      };
+      frame = record {
+        count = ap live_count same;
+        chunks = ap (λ s. s.chunks) same;
+        place = place_after old.memory mid.memory made.memory first.frame.place did.frame.place;
+        grow = omega (arith, first.frame.grow, did.frame.grow);
+        copied = omega (arith, first.frame.copied, did.frame.copied);
+        grow_copied = omega (arith, first.frame.copied, did.frame.copied);
+        stays = λ room. did.frame.copied ∙ first.frame.copied;
+      };
       touches = omega (arith, (first.unchanged c.if-stays.false).1, did.touches);
-      grow = omega (arith, first.grow, did.grow);
-      copied = omega (arith, first.copied, did.copied);
-      grow_copied = omega (arith, first.copied, did.copied);
-      stays = λ room. did.copied ∙ first.copied;
     }

@@ -83,19 +83,23 @@ returns g c =
     let view = view-opened c.self-inside.view_is c.self.view_is in
     record {
       step = done g c;
-      untouched =
-          let w = view_well_formed c.self.invariant c.args.self.now c.self.view_is in
-          untouched_removed w (walked c.args.range) c.requires.row c.requires.idle (after g c).state (stepped g c);
-      gone =
-          let w = view_well_formed c.self.invariant c.args.self.now c.self.view_is in
-          untouched_gone w (walked c.args.range) c.requires.row c.requires.idle (after g c).state (stepped g c);
-      aligns = (seen g c).aligns;
-      bytes = (seen g c).bytes;
-      count =
-          let w = view_well_formed c.self.invariant c.args.self.now c.self.view_is in
-          count_removed w (after g c).state (walked c.args.range) (IsRemovable-row w (walked c.args.range) c.requires.row c.requires.idle) (stepped g c);
-      place = subst (λ (o : Allocator). SamePlace o.memory c.remove_chunks.new.memory) view c.remove_chunks.ensures.place;
+      result = record {
+        untouched =
+            let w = view_well_formed c.self.invariant c.args.self.now c.self.view_is in
+            untouched_removed w (walked c.args.range) c.requires.row c.requires.idle (after g c).state (stepped g c);
+        gone =
+            let w = view_well_formed c.self.invariant c.args.self.now c.self.view_is in
+            untouched_gone w (walked c.args.range) c.requires.row c.requires.idle (after g c).state (stepped g c);
+      };
+      frame = record {
+        aligns = (seen g c).aligns;
+        bytes = (seen g c).bytes;
+        count =
+            let w = view_well_formed c.self.invariant c.args.self.now c.self.view_is in
+            count_removed w (after g c).state (walked c.args.range) (IsRemovable-row w (walked c.args.range) c.requires.row c.requires.idle) (stepped g c);
+        place = subst (λ (o : Allocator). SamePlace o.memory c.remove_chunks.new.memory) view c.remove_chunks.ensures.place;
+        grow = subst (λ (o : Allocator). o.memory.touches ≤ c.remove_chunks.new.memory.touches) view c.remove_chunks.ensures.grow;
+        copied = c.remove_chunks.ensures.copied ∙ ap (λ (o : Allocator). o.memory.copied) view;
+      };
       touches = search rules;
-      grow = subst (λ (o : Allocator). o.memory.touches ≤ c.remove_chunks.new.memory.touches) view c.remove_chunks.ensures.grow;
-      copied = c.remove_chunks.ensures.copied ∙ ap (λ (o : Allocator). o.memory.copied) view;
     }

@@ -2,8 +2,9 @@ use Rattle.std.proofs.Common.{[], arith, ◌≡◌, Some, None, refl, sym, ◌�
 use Rattle.rlsf_base.specs.Addr.{at}
 use Rattle.rlsf_model.specs.Callers.{bytes_at}
 use Rattle.rlsf_model.specs.NoMove.{ReallocatesUnmovedBy, ReallocatesWithoutMove}
-use Rattle.rlsf_model.specs.Reallocate.{Replans}
+use Rattle.rlsf_model.specs.Reallocate.{Reallocates, Replans}
 use Rattle.rlsf_model.specs.State.{State, Used, Holds, usable}
+use Rattle.rlsf_model.proofs.Chunks.{chunks-reallocated}
 use Rattle.rlsf_model.proofs.NoMove.{unmoved_is_reallocated}
 use Rattle.rlsf_model.proofs.Payloads.{IsUsed-after_start}
 use Rattle.rlsf_table.proofs.Parameters.{IsValid-widest}
@@ -16,7 +17,7 @@ use Rattle.rlsf_blocks.specs.Steps.Resize.{IsUsedAt}
 use Rattle.rlsf_blocks.proofs.Reallocate.FirstPlan.{StandsFor-unchanged}
 use Rattle.rlsf_tlsf.specs.Allocator.{Allocator, allocator, Steps}
 use Rattle.rlsf_tlsf.specs.Steps.Moves.{bare, reallocated}
-use Rattle.rlsf_tlsf.proofs.Arrivals.{IsAllocator-arrived, IsLiveIn-inside, Stands-view, Steps-arrived, bare-kept, bytes_inside, some_inside}
+use Rattle.rlsf_tlsf.proofs.Arrivals.{IsAllocator-arrived, IsLiveIn-inside, Stands-view, Steps-arrived, bare-kept, bytes_inside, opened, some_inside}
 use Rattle.rlsf_tlsf.proofs.Moved.{reallocated-bare}
 use Rattle.rlsf_base.specs.Space.{Space, SamePlace}
 use Rattle.rlsf_base.specs.OpenSpace.{IsOwned}
@@ -186,12 +187,15 @@ returns-then-size-front g c =
             subst (λ (o : Allocator). c.load_block_of-block.new.memory.touches ≤ o.memory.touches + 7) view (omega (arith, counts.touches)),
           );
       len = long g early;
-      place =
-          subst (λ (o : Allocator). SamePlace o.memory c.load_block_of-block.new.memory) view
-          (SamePlace-counted c.self-inside.inside.0.0.inner c.load_block_of-block.new.memory 5 counts);
+      frame = record {
+        chunks = ap (λ (o : Allocator). o.state.chunks) view;
+        place =
+            subst (λ (o : Allocator). SamePlace o.memory c.load_block_of-block.new.memory) view
+            (SamePlace-counted c.self-inside.inside.0.0.inner c.load_block_of-block.new.memory 5 counts);
+        grow = subst (λ (o : Allocator). o.memory.touches ≤ c.load_block_of-block.new.memory.touches) view counts.grow;
+        copied = counts.copied ∙ ap (λ (o : Allocator). o.memory.copied) view;
+      };
       touches = subst (λ (o : Allocator). c.load_block_of-block.new.memory.touches ≤ o.memory.touches + 29) view (omega (arith, counts.touches));
-      grow = subst (λ (o : Allocator). o.memory.touches ≤ c.load_block_of-block.new.memory.touches) view counts.grow;
-      copied = counts.copied ∙ ap (λ (o : Allocator). o.memory.copied) view;
     }
 
 -- ---- the refusal
@@ -281,6 +285,13 @@ module _ (g : given.Over) (c : After-reallocate g) where
       c.self-inside.inside.0.1.1.0.state (view-opened c.self-inside.view_is c.self.view_is)
       (λ old. ReallocatesWithoutMove old (at c.args.addr) c.args.layout.size (Some (at c.args.addr))) step spare
 
+  reached : Reallocates g.row.SLLEN c.args.self.now.state (at c.args.addr) c.args.layout.size (Some (at c.args.addr)) after.state
+  reached =
+      let step =
+      (opened g.row.FLLEN g.row.SLLEN c.args.self.now after (ReallocatesWithoutMove c.args.self.now.state (at c.args.addr) c.args.layout.size (Some (at c.args.addr)))
+      done).0 in
+      (unmoved_is_reallocated g.row.SLLEN c.args.self.now.state after.state (at c.args.addr) c.args.layout.size (Some (at c.args.addr)) step).0.1
+
 pub invariant_of-self-inside-2 : goal.invariant_of-self-inside-2
 invariant_of-self-inside-2 = none_resized
 
@@ -310,10 +321,13 @@ returns-then-not-resize_any_block g c =
         touches-read_first (ap (λ (o : Allocator). o.memory) view) counts c.resize_any_block.new.memory 2 more.touches,
       );
       len = long g early;
-      place = SamePlace-costs costs;
+      frame = record {
+        chunks = ap (λ (o : Allocator). o.state.chunks) view;
+        place = SamePlace-costs costs;
+        grow = costs.grow;
+        copied = copied_none costs;
+      };
       touches = costs.touches;
-      grow = costs.grow;
-      copied = copied_none costs;
     }
 
 pub returns : goal.returns
@@ -328,8 +342,11 @@ returns g c =
       refused = λ yes. absurd (true≢false yes);
       unchanged = λ yes. absurd (true≢false yes);
       len = long g (early g c);
-      place = SamePlace-costs costs;
+      frame = record {
+        chunks = chunks-reallocated g.row.SLLEN c.args.self.now.state (after g c).state (at c.args.addr) c.args.layout.size (Some (at c.args.addr)) (reached g c);
+        place = SamePlace-costs costs;
+        grow = costs.grow;
+        copied = copied_none costs;
+      };
       touches = costs.touches;
-      grow = costs.grow;
-      copied = copied_none costs;
     }

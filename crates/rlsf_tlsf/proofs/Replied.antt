@@ -1,0 +1,24 @@
+-- What was allocated, as seen from another state before.
+use Rattle.std.proofs.Common.{◌≡◌, ℕ, ◌+◌, Option, Some, None, IfSome, sym, ◌∙◌, ap}
+use Rattle.rlsf_model.specs.Callers.{align_at, bytes_at}
+use Rattle.rlsf_model.specs.Sized.{live_count}
+use Rattle.rlsf_model.specs.State.{State}
+use Rattle.rlsf_tlsf.specs.Results.{IsAllocated}
+
+-- what follows from what holds of an answer
+pub some_more : {A : Type 0} {P Q : A → Type 0} (o : Option A) → ((x : A) → P x → Q x) → IfSome o P → IfSome o Q
+some_more None f p = tt
+some_more (Some x) f p = f x p
+
+-- of a state before in which callers see the same
+pub IsAllocated-before : (s t after : State) (size align addr : ℕ) → align_at s ≡ align_at t → bytes_at s ≡ bytes_at t → live_count s ≡ live_count t
+    → IsAllocated s after size align addr → IsAllocated t after size align addr
+IsAllocated-before s t after size align addr aligns bytes count is = record {
+  live = is.live;
+  sized = is.sized;
+  few = is.few;
+  new = sym (ap (λ (f : ℕ → Option ℕ). f addr) aligns) ∙ is.new;
+  aligns = λ a apart. is.aligns a apart ∙ ap (λ (f : ℕ → Option ℕ). f a) aligns;
+  bytes = λ a apart. is.bytes a apart ∙ ap (λ f. f a) bytes;
+  count = is.count ∙ ap (λ (n : ℕ). n + 1) count;
+}
