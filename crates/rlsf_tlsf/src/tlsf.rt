@@ -30,6 +30,10 @@ use std::marker::{Model, PhantomData};
 use std::num::NonZeroUsize;
 
 /// An allocator over the pools of one memory, which it owns.
+///
+/// The documentation of a call bounds its cost in word accesses. A word access is one read or write of a word (8 bytes) of
+/// the memory, of the head of a free list, or of a bitmap. A bitmap of more than 64 positions is two words, and counts as
+/// one. Copied bytes are counted apart. The contracts prove both bounds (`touches` and `copied`).
 #[derive(Drop)]
 pub struct Tlsf<
     FLBitmap: BitPattern,
@@ -72,6 +76,8 @@ impl<FLBitmap: BitPattern, SLBitmap: BitPattern, const FLLEN: usize, const SLLEN
     /// The parameters must be valid:
     /// - `FLLEN`, the number of rows, is at least 1 and at most the number of bits of `FLBitmap`.
     /// - `SLLEN`, the number of classes of a row, is a power of two and at most the number of bits of `SLBitmap`.
+    ///
+    /// Takes time proportional to the number of classes, and accesses no word of the memory.
     pub fn new(memory: Memory) -> Self
         requires { IsValid FLBitmap.width SLBitmap.width FLLEN SLLEN }
         ensures state { result.state ≡ empty }
@@ -91,6 +97,8 @@ impl<FLBitmap: BitPattern, SLBitmap: BitPattern, const FLLEN: usize, const SLLEN
     }
 
     /// Consumes the allocator and returns its memory, as the allocator leaves it.
+    ///
+    /// Completes in constant time.
     pub fn into_memory(self) -> Memory
         ensures { result ≡ self.memory }
     {
@@ -103,6 +111,8 @@ impl<FLBitmap: BitPattern, SLBitmap: BitPattern, const FLLEN: usize, const SLLEN
     ///
     /// Returns `None` if and only if no free block has a class that reaches the sought size; then nothing changes. Within
     /// bounds that the allocator is sized for (`IsSizedFor`), an allocation is never refused.
+    ///
+    /// Completes in constant time: at most 27 word accesses, whatever the pools contain. No byte is copied.
     // In line, so that the tests of an alignment that is constant at the call go away.
     #[inline(always)]
     pub fn allocate(&mut self, layout: Layout) -> Option<Addr>
@@ -124,6 +134,8 @@ impl<FLBitmap: BitPattern, SLBitmap: BitPattern, const FLLEN: usize, const SLLEN
     /// free block behind it, if they exist. The joined block is the newest free block.
     ///
     /// The payload at `addr` must be live, with the alignment `align`.
+    ///
+    /// Completes in constant time: at most 32 word accesses, whatever the pools contain. No byte is copied.
     pub fn deallocate(&mut self, addr: Addr, align: usize)
         requires { align_at self.old.state (at addr) ≡ Some align }
         ensures step { Steps FLLEN SLLEN self.old self.new (Deallocates self.old.state (at addr)) }
@@ -143,6 +155,8 @@ impl<FLBitmap: BitPattern, SLBitmap: BitPattern, const FLLEN: usize, const SLLEN
     /// state is the same.
     ///
     /// The payload at `addr` must be live, with any alignment.
+    ///
+    /// Completes in constant time: at most 33 word accesses, whatever the pools contain. No byte is copied.
     pub fn deallocate_unknown_align(&mut self, addr: Addr)
         requires { IsSome (align_at self.old.state (at addr)) }
         ensures step { Steps FLLEN SLLEN self.old self.new (Deallocates self.old.state (at addr)) }
@@ -169,6 +183,9 @@ impl<FLBitmap: BitPattern, SLBitmap: BitPattern, const FLLEN: usize, const SLLEN
     /// is sized for (`IsSizedFor`), a reallocation is never refused.
     ///
     /// The payload at `addr` must be live, with the alignment of `layout`.
+    ///
+    /// At most 66 word accesses, whatever the pools contain. If the payload stays, no byte is copied. If it moves, at most the
+    /// bytes that it had are copied.
     pub fn reallocate(&mut self, addr: Addr, layout: Layout) -> Option<Addr>
         requires { align_at self.old.state (at addr) ≡ Some layout.align }
         ensures step { Steps FLLEN SLLEN self.old self.new (Reallocates SLLEN self.old.state (at addr) layout.size (reply result)) }
@@ -201,6 +218,8 @@ impl<FLBitmap: BitPattern, SLBitmap: BitPattern, const FLLEN: usize, const SLLEN
     /// Returns `None` if and only if these bytes don't suffice; then nothing changes.
     ///
     /// The payload at `addr` must be live, with the alignment of `layout`.
+    ///
+    /// Completes in constant time: at most 25 word accesses, whatever the pools contain. No byte is copied.
     pub fn reallocate_no_move(&mut self, addr: Addr, layout: Layout) -> Option<Addr>
         requires { align_at self.old.state (at addr) ≡ Some layout.align }
         ensures step { Steps FLLEN SLLEN self.old self.new (ReallocatesWithoutMove self.old.state (at addr) layout.size (reply result)) }
@@ -271,6 +290,8 @@ impl<FLBitmap: BitPattern, SLBitmap: BitPattern, const FLLEN: usize, const SLLEN
     /// the requested bytes and less than 32 more.
     ///
     /// The payload at `addr` must be live, with any alignment.
+    ///
+    /// Completes in constant time.
     pub fn allocation_usable_size(&self, addr: Addr) -> usize
         requires { IsSome (align_at self.now.state (at addr)) }
         ensures { result ≡ length (bytes_at self.now.state (at addr)) }
@@ -281,6 +302,8 @@ impl<FLBitmap: BitPattern, SLBitmap: BitPattern, const FLLEN: usize, const SLLEN
     /// Returns all usable bytes of the payload at `addr`: those from `addr` to the end of its block.
     ///
     /// The payload at `addr` must be live, with any alignment.
+    ///
+    /// Completes in constant time.
     pub fn payload(&self, addr: Addr) -> &[u8]
         requires { IsSome (align_at self.now.state (at addr)) }
         ensures { result.now ≡ bytes_at self.now.state (at addr) }
@@ -294,6 +317,8 @@ impl<FLBitmap: BitPattern, SLBitmap: BitPattern, const FLLEN: usize, const SLLEN
     /// block. When the borrow ends, the payload has the bytes that were written. Nothing else changes.
     ///
     /// The payload at `addr` must be live, with any alignment.
+    ///
+    /// Completes in constant time: 3 word accesses. No byte is copied.
     pub fn payload_mut(&mut self, addr: Addr) -> &mut [u8]
         requires { IsSome (align_at self.old.state (at addr)) }
         ensures* writes_back { sem 𝓛 (lends_payload FLBitmap.row SLBitmap.row FLLEN.row SLLEN.row FLBitmap.BitPattern SLBitmap.BitPattern self.entry (at addr) result) }
@@ -314,6 +339,8 @@ impl<FLBitmap: BitPattern, SLBitmap: BitPattern, const FLLEN: usize, const SLLEN
     /// then no byte changes.
     ///
     /// Both payloads must be live, with any alignment, and have at least `len` usable bytes.
+    ///
+    /// Takes time proportional to `len`: `len` bytes are copied, without a word access.
     pub fn copy_payload(&mut self, from: Addr, to: Addr, len: usize)
         requires live { IsSome (align_at self.old.state (at from)) × IsSome (align_at self.old.state (at to)) }
         requires long { (len ≤ length (bytes_at self.old.state (at from))) × (len ≤ length (bytes_at self.old.state (at to))) }
@@ -337,6 +364,8 @@ impl<FLBitmap: BitPattern, SLBitmap: BitPattern, const FLLEN: usize, const SLLEN
     ///
     /// `addr` must be a multiple of 8, and the 8 bytes there must lie in the memory. Each of them must be spare: it lies
     /// in no chunk, or in the last 16 bytes of a sentinel.
+    ///
+    /// Completes in constant time: 1 word access.
     pub fn set_spare_word(&mut self, addr: usize, word: u64)
         requires { IsSpareWord self.old.memory self.old.state addr }
         ensures state { self.new.state ≡ self.old.state }
@@ -354,6 +383,8 @@ impl<FLBitmap: BitPattern, SLBitmap: BitPattern, const FLLEN: usize, const SLLEN
     /// this one.
     ///
     /// `fl` must be below `FLLEN`, and `sl` below `SLLEN`.
+    ///
+    /// Completes in constant time.
     pub fn first_free(&self, fl: usize, sl: usize) -> Option<Addr>
         requires { (fl < FLLEN) × (sl < SLLEN) }
         ensures { reply result ≡ newest_of (of_class SLLEN fl sl self.now.state.free) }
@@ -362,6 +393,8 @@ impl<FLBitmap: BitPattern, SLBitmap: BitPattern, const FLLEN: usize, const SLLEN
     }
 
     /// Returns the memory, for reading. Its words and the class table represent the state, and the parameters are valid as for `new`.
+    ///
+    /// Completes in constant time.
     pub fn memory_ref(&self) -> &Memory
         ensures memory { result.now ≡ self.now.memory }
         ensures stands { Stands FLLEN SLLEN self.now }

@@ -31,6 +31,9 @@ impl<FLBitmap: BitPattern, SLBitmap: BitPattern, const FLLEN: usize, const SLLEN
     /// is sized for (`IsSizedFor`), a reallocation is never refused.
     ///
     /// The payload at `addr` must be live, with any alignment.
+    ///
+    /// At most 67 word accesses, whatever the pools contain. If the payload stays, no byte is copied. If it moves, at most the
+    /// bytes that it had are copied.
     pub fn reallocate_unknown_align(&mut self, addr: Addr, layout: Layout) -> Option<Addr>
         requires { IsSome (align_at self.old.state (at addr)) }
         ensures step { Steps FLLEN SLLEN self.old self.new (ReallocatesAnyAlign SLLEN self.old.state (at addr) layout.size layout.align (reply result)) }
