@@ -3,7 +3,7 @@ whatever the heap holds.
 
 The archive is linked and disassembled. The table has the longest path of all, and that of the calls that return 0, where these can be told apart.
 Below it are the called functions, with their own paths, and the loops: where each begins, and how many instructions a round has. An indirect
-jump, recursion, and a loop in a function that is to have none are errors. With --compare, so is a path that is longer than docs/LATENCY.md says.
+jump, recursion, and a loop in a function that is to have none are errors. With --compare, so is a path that is longer than docs/MEASURED.md says.
 With --tlsf the table has the calls of a `Tlsf`, of all configurations together, in a program in which they aren't inlined: rlsf_bench_not_inlined,
 which `rt` builds, or that of --program. Without it, --program prints the functions of any linked program whose names match --functions."""
 import argparse
@@ -18,7 +18,7 @@ from measuring.longest_path import Search
 from measuring.machine_code import ZERO, Code, Refused
 from measuring.options import ROOT, missing
 
-PAGE = ROOT / "docs/LATENCY.md"
+PAGE = ROOT / "docs/MEASURED.md"
 HEADING = "## The longest path"
 KINDS = ["small", "large"]
 # What bounds the rounds of an export's loops. The other exports are to have no loop.
@@ -41,7 +41,7 @@ HEADS = ["instructions", "returning 0", "memory operands"]
 
 def add_words(parser):
     parser.add_argument("--archive", type=pathlib.Path, dest="ours", default=argparse.SUPPRESS, help="the same as --ours")
-    parser.add_argument("--compare", action="store_true", help="compare with the table of docs/LATENCY.md; a longer path is an error")
+    parser.add_argument("--compare", action="store_true", help="compare with the table of docs/MEASURED.md; a longer path is an error")
     parser.add_argument("--tlsf", action="store_true", help="the calls of a Tlsf, in place of an archive")
     parser.add_argument("--program", type=pathlib.Path, help="a linked program, in place of an archive")
     parser.add_argument("--functions", default=".", help="which functions of the program, as a regular expression")
@@ -118,7 +118,7 @@ def lines_of(names, found):
 
 
 def rows_of_exports(paths):
-    """The rows of docs/LATENCY.md's first table."""
+    """The rows of docs/MEASURED.md's first table."""
     for call, has_result in exports().items():
         found = {kind: paths[kind, call] for kind in KINDS if (kind, call) in paths}
         row = [cell for kind in KINDS for cell in (cells(found[kind], has_result) if kind in found else [""] * 3)]
@@ -137,7 +137,7 @@ def paths_of_tlsf(program):
 
 
 def rows_of_tlsf(paths):
-    """The rows of docs/LATENCY.md's second table: the greatest numbers of all configurations."""
+    """The rows of docs/MEASURED.md's second table: the greatest numbers of all configurations."""
     for call, found in paths.items():
         columns = zip(*(cells(path, call == "allocate") for path in found))
         over = BOUNDS.get(call, "unknown") if any(path.loops or path.outside for path in found) else ""
@@ -145,21 +145,21 @@ def rows_of_tlsf(paths):
 
 
 def page_rows(tlsf):
-    """The rows of one of docs/LATENCY.md's tables, by the name of the call."""
+    """The rows of one of docs/MEASURED.md's tables, by the name of the call."""
     part = PAGE.read_text().split(f"\n{HEADING}\n")[-1].split("\n## ")[0]
     found = [[cell.strip() for cell in line.strip()[1:-1].split("|")] for line in part.splitlines() if line.startswith("| `")]
     return {row[0].strip("`"): row[1:] for row in found if ("::" in row[0]) == tlsf}
 
 
 def differences(page, here, names):
-    """What docs/LATENCY.md has otherwise than the machine code: what is an error, as a longer path is, and what isn't."""
-    wrong = [f"`{call}` is only in {'docs/LATENCY.md' if call in page else 'the code'}" for call in sorted(set(page) ^ set(here))]
+    """What docs/MEASURED.md has otherwise than the machine code: what is an error, as a longer path is, and what isn't."""
+    wrong = [f"`{call}` is only in {'docs/MEASURED.md' if call in page else 'the code'}" for call in sorted(set(page) ^ set(here))]
     other = []
     for call in sorted(set(page) & set(here)):
         for head, said, now in zip([*names, "loops over"], page[call], here[call]):
             longer = not (said.isdigit() and now.isdigit() and int(now) < int(said))
             if said != now:
-                (wrong if longer else other).append(f"`{call}`, {head}: {now or 'nothing'} in the code, {said or 'nothing'} in docs/LATENCY.md")
+                (wrong if longer else other).append(f"`{call}`, {head}: {now or 'nothing'} in the code, {said or 'nothing'} in docs/MEASURED.md")
     return wrong, other
 
 
