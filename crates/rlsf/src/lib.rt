@@ -3,7 +3,7 @@
 //! This crate has no code of its own. It re-exports what a user of `Tlsf` or `FlexTlsf` needs, so that a caller's crate depends on it
 //! alone. `specs/` and `proofs/` re-export the definitions and the lemmas that callers cite.
 //!
-//! The allocator behind a lock is in `rlsf_global`, and the journal of its calls in `rlsf_journal`.
+//! The allocator behind a lock and the journal of its calls are in `rlsf_global`.
 #![tactic(auto)]
 
 pub use rlsf_base::memory::{Addr, Layout, LayoutError, Memory, MemoryError, Range};

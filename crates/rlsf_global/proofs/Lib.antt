@@ -19,3 +19,4 @@ mod RowsInOrder
 mod SortedRows
 mod Spots
 mod TableAnswers
+pub mod Journal

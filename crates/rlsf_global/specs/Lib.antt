@@ -9,3 +9,4 @@ pub mod Memory
 pub mod Refusals
 pub mod Steps
 pub mod Words
+pub mod Journal

@@ -12,3 +12,10 @@ pub use Rattle.rlsf_global.specs.Kept.{KeepsFirst}
 pub use Rattle.rlsf_global.specs.Locked.{LockedContents, LockedStands, flex_of}
 pub use Rattle.rlsf_global.specs.Memory.{CopiesOnResize, IfUnasked, KeepsMemory}
 pub use Rattle.rlsf_global.specs.Refusals.{RefusesOnlyBy}
+-- of the journal
+pub use Rattle.rlsf_global.specs.Journal.Close.{Agree, AreComplete, LacksOne, is_strange}
+pub use Rattle.rlsf_global.specs.Journal.Entries.{IsReplyTo, entries_of, receipts_of}
+pub use Rattle.rlsf_global.specs.Journal.Memory.{Copies, IfUntried, IsBounded, LeavesMemory}
+pub use Rattle.rlsf_global.specs.Journal.Passes.{AreFirst, PassContents, Receipted}
+pub use Rattle.rlsf_global.specs.Journal.Replay.{BookContents, IsReplay, IsRun, LeadsOrRefused}
+unfoldable pub use Rattle.rlsf_global.specs.Journal.Replay.{BookStands}

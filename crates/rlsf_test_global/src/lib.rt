@@ -1,4 +1,4 @@
-//! Tests of `rlsf_global` and of `rlsf_journal`. This crate has no other code.
+//! Tests of `rlsf_global`. This crate has no other code.
 //!
 //! `answers.rt` has the assertions. `steps.rt` has calls as tables, which `locked.rt` and `shared.rt` make. `growth.rt` and
 //! `alignments.rt` have more of them through the lock. `blocks.rt`, `pages.rt` and `payloads.rt` test the layout, the source and the

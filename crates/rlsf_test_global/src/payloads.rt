@@ -4,8 +4,9 @@ use crate::answers::all;
 use crate::journal::{agreed, over};
 use crate::steps::{done, placed};
 use rlsf_base::memory::{Addr, Layout, Memory};
-use rlsf_global::{GlobalError, GlobalTlsf, GlobalTlsfOptions, SmallGlobalTlsfOptions};
-use rlsf_journal::{Journaled, Pass};
+use rlsf_global::{
+    GlobalError, GlobalTlsf, GlobalTlsfOptions, Journaled, Pass, SmallGlobalTlsfOptions,
+};
 use std::alloc::Global;
 use std::num::NonZeroUsize;
 use std::process::Abort;

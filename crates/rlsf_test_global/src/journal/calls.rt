@@ -3,8 +3,7 @@
 use crate::answers::all;
 use crate::steps::{Call, NO_STEP, Step, call_of, done, placed};
 use rlsf_base::memory::Memory;
-use rlsf_global::GlobalError;
-use rlsf_journal::{CloseError, Closed, Journaled, Pass};
+use rlsf_global::{CloseError, Closed, GlobalError, Journaled, Pass};
 use std::alloc::Global;
 use std::process::Abort;
 use std::sync::Wait;

@@ -3,8 +3,7 @@
 use super::calls::{agreed, over};
 use crate::answers::all;
 use rlsf_base::memory::Layout;
-use rlsf_global::GlobalError;
-use rlsf_journal::{Closed, Journaled, Pass};
+use rlsf_global::{Closed, GlobalError, Journaled, Pass};
 use std::sync::Wait;
 use std::sync::atomic::{AtomicBool, Ordering};
 use std::test::Fail;

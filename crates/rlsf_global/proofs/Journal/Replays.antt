@@ -1,0 +1,206 @@
+-- A journal with one more entry, and a placement that is written to.
+use Rattle.std.proofs.Common.{◌≡◌, ◌≢◌, ◌<◌, ◌^◌, ℕ, Bool, true, false, List, [], ◌∷◌, ◌++◌, map, length, Option, Some, None, Ok, Err, MatchBool}
+use Rattle.std.proofs.Common.{refl, ◌∙◌, ap, sym, subst, arith, append-nil}
+use Rattle.std.proofs.lemmas.List.{map_push}
+use Rattle.std.proofs.lemmas.List.Elements.{All-push}
+use Rattle.rlsf_base.specs.Addr.{at}
+use Rattle.rlsf_base.specs.Range.{end_of}
+use Rattle.rlsf_base.specs.declared.memory.layout.Layout.{Layout}
+use Rattle.rlsf_base.specs.declared.memory.range.Range.{Range}
+use Rattle.rlsf_global.specs.declared.entry.Call.{Call}
+use Rattle.rlsf_global.specs.declared.entry.Call.TheVariants.{Allocate, Deallocate, Reallocate}
+use Rattle.rlsf_global.specs.declared.entry.Entry.{Entry}
+use Rattle.rlsf_global.specs.declared.entry.Reply.{Reply}
+use Rattle.rlsf_global.specs.declared.entry.Reply.TheVariants.{Placed, Freed, NoRoom, UnknownAddress, TableMemory, JournalMemory}
+use Rattle.rlsf_global.specs.Journal.Entries.{IsReplyTo, entries_of}
+use Rattle.rlsf_global.specs.Journal.Replay.{BookContents, BookStands, LeadsOrRefused, IsReplay, IsRun, Leads, beginning_of, step_by, step_of}
+use Rattle.rlsf_model.specs.FlexState.{FlexState}
+use Rattle.rlsf_model.specs.Note.{LeadsBy, Note, alloc, dealloc, grow}
+use Rattle.rlsf_model_global.proofs.Journals.{replay_begins, replay_goes_on}
+use Rattle.rlsf_model_global.specs.declared.error.GlobalError.TheVariants as error
+use Rattle.rlsf_model_global.specs.Cursor.{PageCursor, PageLeads}
+use Rattle.rlsf_model_global.specs.Heap.{Heap, beginning}
+use Rattle.rlsf_model_global.specs.History.{IsHistory, LeadsTo, Step, write}
+use Rattle.rlsf_model_global.specs.Moves.{MovesAway, ReallocatesAt}
+use Rattle.rlsf_model_global.specs.Replays as placement
+use Rattle.rlsf_model_global.specs.Replays.{journal_of}
+use Rattle.rlsf_model_global.specs.Rows.{Row, row_at}
+use Rattle.rlsf_model_global.specs.Steps.{DeallocatesAt, Done, HeapWrites, Placed as Answer, Takes, WritesAt, fits}
+
+-- ---- a step leaves the space
+
+-- nothing was placed in the cursor's space
+abbrev start : PageCursor → Heap
+start c = beginning c.space c.grows
+
+lead-start : (x y : PageCursor) (n : Note) → PageLeads x n y → start y ≡ start x
+lead-start x y (alloc size None) led = ap start led.1
+lead-start x y (alloc size (Some r)) led = ap start led.2
+lead-start x y (grow r len None) led = ap start led.1
+lead-start x y (grow r len (Some given)) led = ap start led.3
+lead-start x y (dealloc r) led = ap start led
+
+leads-start : (ns : List Note) (x y : PageCursor) → LeadsBy PageLeads x ns y → start y ≡ start x
+leads-start [] x y led = ap start led
+leads-start (n ∷ ns) x y (z, one, rest) = leads-start ns z y rest ∙ lead-start x z n one
+
+takes-start : (h : Heap) (size align : ℕ) (reply : Option ℕ) (flex : FlexState) (source : PageCursor) → Takes h size align reply flex source
+    → start source ≡ start h.source
+takes-start h size align reply flex source (notes, step, led) = leads-start notes h.source source led
+
+deallocates-start : (h g : Heap) (addr : ℕ) (o : Option Row) (result : Done) → DeallocatesAt h addr o result g → beginning_of g ≡ beginning_of h
+deallocates-start h g addr None result (refused, same) = ap beginning_of same
+deallocates-start h g addr (Some row) result (done, (m, frees, after)) = ap beginning_of after
+
+moves-start : (h g : Heap) (addr keep : ℕ) (wanted : Layout) (result : Answer) → MovesAway h addr keep wanted result g → beginning_of g ≡ beginning_of h
+moves-start h g addr keep wanted (Ok to) (moved, rows) = takes-start h wanted.size wanted.align (Some (at to)) moved.meanwhile g.source moved.takes
+moves-start h g addr keep wanted (Err error.NoRoom) (takes, same) = ap beginning_of same
+moves-start h g addr keep wanted (Err error.UnknownAddress) moved = absurd moved
+moves-start h g addr keep wanted (Err error.WrongLayout) moved = absurd moved
+moves-start h g addr keep wanted (Err error.TableMemory) moved = absurd moved
+moves-start h g addr keep wanted (Err error.OutOfRange) moved = absurd moved
+moves-start h g addr keep wanted (Err error.JournalMemory) moved = absurd moved
+
+reallocates-start : (h g : Heap) (addr : ℕ) (wanted : Layout) (o : Option Row) (result : Answer) → ReallocatesAt h addr wanted o result g → beginning_of g ≡ beginning_of h
+reallocates-start h g addr wanted None result (refused, same) = ap beginning_of same
+reallocates-start h g addr wanted (Some row) result moved = moves-start h g addr _ wanted result moved
+
+-- with an answer to a test
+either : {A B X : Type 0} (b : Bool) → MatchBool b A B → (A → X) → (B → X) → X
+either true m f k = f m
+either false m f k = k m
+
+writes-start : (h g : Heap) (addr offset : ℕ) (bytes : List ℕ) (o : Option Row) (result : Done) → WritesAt h addr offset bytes o result g
+    → beginning_of g ≡ beginning_of h
+writes-start h g addr offset bytes None result step = ap beginning_of step.1
+writes-start h g addr offset bytes (Some row) result step = either (fits h addr offset (length bytes)) step
+    (λ did. ap beginning_of did.1.2)
+    (λ refused. ap beginning_of refused.1)
+
+-- an entry's step: the reply is one of the call's, a journal has it, and it leaves the space
+record IsEntered (h : Heap) (call : Call) (reply : Reply) (g : Heap) : Type 0 where
+  fits : IsReplyTo call reply
+  leads : LeadsTo h (step_by call reply) g
+  kept : journal_of (step_by call reply ∷ []) ≡ step_by call reply ∷ []
+  start : beginning_of g ≡ beginning_of h
+
+enters : (h g : Heap) (call : Call) (reply : Reply) → Leads h call reply g → IsEntered h call reply g
+enters h g (Allocate layout) (Placed addr) step =
+    record { fits = tt; leads = step; kept = refl; start = takes-start h layout.size layout.align (Some (at addr)) g.flex g.source step.0 }
+enters h g (Allocate layout) NoRoom step = record { fits = tt; leads = step; kept = refl; start = ap beginning_of step.1 }
+enters h g (Allocate layout) Freed step = absurd step
+enters h g (Allocate layout) UnknownAddress step = absurd step
+enters h g (Allocate layout) TableMemory step = absurd step
+enters h g (Allocate layout) JournalMemory step = absurd step
+enters h g (Deallocate addr) Freed step = record { fits = tt; leads = step; kept = refl; start = deallocates-start h g (at addr) (row_at (at addr) h.asked) _ step }
+enters h g (Deallocate addr) UnknownAddress step = record { fits = tt; leads = step; kept = refl; start = deallocates-start h g (at addr) (row_at (at addr) h.asked) _ step }
+enters h g (Deallocate addr) (Placed to) step = absurd step
+enters h g (Deallocate addr) NoRoom step = absurd step
+enters h g (Deallocate addr) TableMemory step = absurd step
+enters h g (Deallocate addr) JournalMemory step = absurd step
+enters h g (Reallocate addr layout) (Placed to) step =
+    record { fits = tt; leads = step; kept = refl; start = reallocates-start h g (at addr) layout (row_at (at addr) h.asked) _ step }
+enters h g (Reallocate addr layout) NoRoom step = record { fits = tt; leads = step; kept = refl; start = reallocates-start h g (at addr) layout (row_at (at addr) h.asked) _ step }
+enters h g (Reallocate addr layout) UnknownAddress step =
+    record { fits = tt; leads = step; kept = refl; start = reallocates-start h g (at addr) layout (row_at (at addr) h.asked) _ step }
+enters h g (Reallocate addr layout) Freed step = absurd step
+enters h g (Reallocate addr layout) TableMemory step = absurd step
+enters h g (Reallocate addr layout) JournalMemory step = absurd step
+
+-- ---- what a journal replays to
+
+-- nothing
+pub begun : (space : Range) (grows : Bool) → IsReplay [] (beginning space grows)
+begun space grows = record { fits = λ k d short. absurd (omega (arith, short)); replayed = replay_begins space grows }
+
+-- what steps lead to, with one step more
+goes_on : (h g : Heap) (journal : List Step) (s : Step) → beginning_of g ≡ beginning_of h → placement.IsReplay h.source.space h.source.grows journal h → LeadsTo h s g
+    → placement.IsReplay g.source.space g.source.grows (journal ++ journal_of (s ∷ [])) g
+goes_on h g journal s same run step =
+    subst (λ (b : Heap). (steps : List Step) × IsHistory b steps g × (journal_of steps ≡ journal ++ journal_of (s ∷ []))) (sym same)
+    (replay_goes_on h.source.space h.source.grows journal h g s run step)
+
+-- with an entry of a step
+entered : (es : List Entry) (e : Entry) (h g : Heap) → IsReplay es h → Leads h e.call e.reply g → IsReplay (es ++ e ∷ []) g
+entered es e h g run step =
+    let is = enters h g e.call e.reply step in
+    record {
+      fits = All-push (λ (e : Entry). IsReplyTo e.call e.reply) es e run.fits is.fits;
+      replayed =
+          subst (λ l. placement.IsReplay g.source.space g.source.grows l g) (ap (λ l. map step_of es ++ l) is.kept ∙ sym (map_push step_of es e))
+          (goes_on h g (map step_of es) (step_of e) is.start run.replayed is.leads);
+    }
+
+-- without one
+unentered : (es : List Entry) (h g : Heap) → IsReplay es h → g ≡ h → IsReplay (es ++ []) g
+unentered es h g run same = subst (λ l. IsReplay l g) (sym (append-nil es)) (subst (IsReplay es) (sym same) run)
+
+-- a call that isn't out of memory has one entry
+pub one_entry : (caller : ℕ) (call : Call) (reply : Reply) → reply ≢ TableMemory → reply ≢ JournalMemory
+    → entries_of caller call reply ≡ record { caller = caller; call = call; reply = reply } ∷ []
+one_entry caller call TableMemory not_table not_journal = absurd (not_table refl)
+one_entry caller call JournalMemory not_table not_journal = absurd (not_journal refl)
+one_entry caller call (Placed to) not_table not_journal = refl
+one_entry caller call Freed not_table not_journal = refl
+one_entry caller call NoRoom not_table not_journal = refl
+one_entry caller call UnknownAddress not_table not_journal = refl
+
+-- whatever a call returns, the journal with its entries replays to the heap after it
+pub recorded : (es : List Entry) (caller : ℕ) (call : Call) (reply : Reply) (h g : Heap) → IsReplay es h → LeadsOrRefused h call reply g
+    → IsReplay (es ++ entries_of caller call reply) g
+recorded es caller call (Placed to) h g run step = entered es (record { caller = caller; call = call; reply = Placed to }) h g run step
+recorded es caller call Freed h g run step = entered es (record { caller = caller; call = call; reply = Freed }) h g run step
+recorded es caller call NoRoom h g run step = entered es (record { caller = caller; call = call; reply = NoRoom }) h g run step
+recorded es caller call UnknownAddress h g run step = entered es (record { caller = caller; call = call; reply = UnknownAddress }) h g run step
+recorded es caller call TableMemory h g run step = unentered es h g run step
+recorded es caller call JournalMemory h g run step = unentered es h g run step
+
+-- a write has no entry
+pub written : (es : List Entry) (h g : Heap) (addr offset : ℕ) (bytes : List ℕ) (result : Done) → IsReplay es h → HeapWrites h addr offset bytes result g → IsReplay es g
+written es h g addr offset bytes result run step = record {
+  fits = run.fits;
+  replayed = subst (λ l. placement.IsReplay g.source.space g.source.grows l g) (append-nil (map step_of es))
+      (goes_on h g (map step_of es) (write addr offset bytes result) (writes-start h g addr offset bytes (row_at addr h.asked) result step) run.replayed step);
+}
+
+-- ---- runs
+
+-- the journal of a book is a run
+pub run_stands : (b : BookContents) → IsRun b.journal b.locked.heap → BookStands b
+unfolding BookStands
+run_stands b run = run
+
+-- nothing placed is one
+pub run_begins : (h : Heap) (space : Range) → h ≡ beginning space true → end_of h.source.space < 2 ^ 64 → IsRun [] h
+run_begins h space new small = record {
+  replay = subst (IsReplay []) (sym new) (begun space true);
+  grows = ap (λ (x : Heap). x.source.grows) new;
+  addressable = small;
+}
+
+-- over one space and one kind of source
+stays_run : (es fs : List Entry) (h g : Heap) → IsRun es h → beginning_of g ≡ beginning_of h → IsReplay fs g → IsRun fs g
+stays_run es fs h g run same replay = record {
+  replay = replay;
+  grows = ap (λ (x : Heap). x.source.grows) same ∙ run.grows;
+  addressable = subst (λ (x : Heap). end_of x.source.space < 2 ^ 64) (sym same) run.addressable;
+}
+
+answered-start : (h g : Heap) (call : Call) (reply : Reply) → LeadsOrRefused h call reply g → beginning_of g ≡ beginning_of h
+answered-start h g call (Placed to) step = (enters h g call (Placed to) step).start
+answered-start h g call Freed step = (enters h g call Freed step).start
+answered-start h g call NoRoom step = (enters h g call NoRoom step).start
+answered-start h g call UnknownAddress step = (enters h g call UnknownAddress step).start
+answered-start h g call TableMemory step = ap beginning_of step
+answered-start h g call JournalMemory step = ap beginning_of step
+
+-- a call goes on with a run
+pub run_goes_on : (es : List Entry) (caller : ℕ) (call : Call) (reply : Reply) (h g : Heap) → IsRun es h → LeadsOrRefused h call reply g
+    → IsRun (es ++ entries_of caller call reply) g
+run_goes_on es caller call reply h g run step =
+    stays_run es (es ++ entries_of caller call reply) h g run (answered-start h g call reply step) (recorded es caller call reply h g run.replay step)
+
+-- a write stays in it
+pub run_written : (es : List Entry) (h g : Heap) (addr offset : ℕ) (bytes : List ℕ) (result : Done) → IsRun es h → HeapWrites h addr offset bytes result g → IsRun es g
+run_written es h g addr offset bytes result run step =
+    stays_run es es h g run (writes-start h g addr offset bytes (row_at addr h.asked) result step) (written es h g addr offset bytes result run.replay step)

@@ -1,0 +1,12 @@
+use Rattle.std.proofs.Common.{rules}
+use Rattle.rlsf_global.proofs.Journal.Closings.{closed_history}
+use Rattle.rlsf_global.proofs.journaled.Journaled.close.Goals as goal
+
+pub returns : goal.returns
+returns c = record {
+  strange = c.close.ensures.strange;
+  missing = c.close.ensures.missing;
+  mismatch = λ e. (c.close.ensures.mismatch.0 e).0;
+  agreed = search rules;
+  history = closed_history c.into_inner.result c.close.result c.close.ensures.journal c.close.ensures.live;
+}

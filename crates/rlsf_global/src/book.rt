@@ -1,0 +1,210 @@
+//! An allocator with a journal of its placement calls.
+
+ghost use Rattle.std.specs.Prelude.{◌≡◌, ◌≢◌, ◌≤◌, ◌↔◌, ◌+◌, ◌++◌, [], length, IfOk, IsErrOf, OnErr, true};
+ghost use Rattle.rlsf_base.specs.Addr.{at};
+ghost use Rattle.rlsf_base.specs.Space.{range_of};
+ghost use Rattle.rlsf_global.specs.Locked.{flex_of};
+ghost use Rattle.rlsf_global.specs.Memory.{KeepsMemory};
+ghost use Rattle.rlsf_global.specs.Journal.Close.{is_strange, AreComplete, LacksOne, Agree};
+ghost use Rattle.rlsf_global.specs.declared.close.CloseError.TheVariants.{MissingPass, StrangePass, Mismatch};
+ghost use Rattle.rlsf_global.specs.declared.entry.Reply.TheVariants.{JournalMemory};
+ghost use Rattle.rlsf_global.specs.Journal.Entries.{IfRefused, IsReplyTo, entries_of};
+ghost use Rattle.rlsf_global.specs.Journal.Memory.{LeavesMemory};
+ghost use Rattle.rlsf_global.specs.Journal.Replay.{BookStands, IsRun, LeadsOrRefused};
+ghost use Rattle.rlsf_model_global.specs.Heap.{beginning};
+ghost use Rattle.rlsf_model_global.specs.Rows.{IsSorted};
+ghost use Rattle.rlsf_model_global.specs.Steps.{HeapReads, HeapWrites};
+
+use crate::agreement::{agree, is_missing, is_strange};
+use crate::close::{CloseError, Closed};
+use crate::entry::{Call, Entry, Reply};
+use crate::locked::Locked;
+use crate::pass::Pass;
+use rlsf_base::memory::{Addr, Memory};
+use rlsf_model_global::GlobalError;
+use std::alloc::Global;
+use std::marker::Model;
+
+/// An allocator with a journal of its placement calls.
+///
+/// By an invariant of the type, the journal replays to the placement. The replay starts with nothing placed, over a source whose newest
+/// range grows.
+///
+/// Every call leaves the memory at its place, with each byte that belongs to no block before and after it, or that the source hasn't
+/// provided after it (`KeepsMemory`).
+#[derive(Drop)]
+pub struct Book {
+    locked: Locked<()>,
+    journal: Vec<Entry>,
+}
+
+impl Model for Book {
+    ghost use Rattle.rlsf_global.specs.Journal.Replay.{BookContents, IsRun};
+
+    ghost Value = { BookContents };
+
+    ghost view = { λ b. record { locked = b.locked; journal = b.journal.items } };
+
+    ghost invariant = { λ b. IsRun b.journal.items b.locked.heap };
+}
+
+impl Book {
+    /// Creates an allocator whose source has the complete memory as its space, with an empty journal. Nothing is live.
+    pub fn new(alloc: Global, memory: Memory) -> Book
+        ensures heap { result.locked.heap ≡ beginning (range_of memory) true }
+        ensures memory { result.locked.memory ≡ memory }
+        ensures journal { result.journal ≡ [] }
+        ensures stands { BookStands result }
+    {
+        Book {
+            locked: Locked::new(alloc, memory),
+            journal: Vec::new(alloc),
+        }
+    }
+
+    /// Returns the number of entries of the journal.
+    pub fn len(&self) -> usize
+        ensures { result ≡ length self.now.journal }
+    {
+        self.journal.len()
+    }
+
+    /// Makes one placement call, and adds its entry to the journal.
+    ///
+    /// Refuses without an entry, and changes nothing:
+    ///
+    /// - `JournalMemory` if the system is out of memory for an entry. Then nothing was tried.
+    /// - else `TableMemory` if the system is out of memory for an entry of the table of live addresses, in an allocation.
+    ///
+    /// Refuses with an entry, and changes nothing else:
+    ///
+    /// - `UnknownAddress` exactly if the address isn't live.
+    /// - `NoRoom` exactly if there is no room and no memory came.
+    pub fn step(&mut self, caller: usize, call: Call) -> Reply
+        ensures step { LeadsOrRefused self.old.locked.heap call result self.new.locked.heap }
+        ensures entry { self.new.journal ≡ self.old.journal ++ entries_of caller call result }
+        ensures fits { IsReplyTo call result }
+        ensures refused { IfRefused result (self.new.locked.memory.bytes ≡ self.old.locked.memory.bytes) }
+        ensures memory { LeavesMemory call result self.old.locked self.new.locked }
+    {
+        if self.journal.try_reserve(1).is_err() {
+            return Reply::JournalMemory;
+        }
+        let reply = answer(&mut self.locked, call);
+        if !matches!(reply, Reply::TableMemory) {
+            self.journal.push_reserved(Entry {
+                caller,
+                call,
+                reply,
+            });
+        }
+        reply
+    }
+
+    /// Reads `bytes.len()` bytes of a payload into `bytes`, from an offset on.
+    ///
+    /// Returns `UnknownAddress` exactly if the address isn't live, else `OutOfRange` exactly if the bytes go past the usable ones. Then
+    /// `bytes` is unchanged. No entry is made.
+    pub fn read_payload(
+        &self,
+        addr: Addr,
+        offset: usize,
+        bytes: &mut [u8],
+    ) -> Result<(), GlobalError>
+        ensures step { HeapReads self.now.locked.heap (at addr) offset bytes.old result bytes.new }
+        ensures refused { OnErr result (bytes.new ≡ bytes.old) }
+        ensures stands { BookStands self.now }
+    {
+        self.locked.read_payload(addr, offset, bytes)
+    }
+
+    /// Overwrites bytes of a payload, from an offset on. Its other bytes are unchanged, and so is everything else.
+    ///
+    /// Returns `UnknownAddress` exactly if the address isn't live, else `OutOfRange` exactly if the bytes go past the usable ones. Then
+    /// nothing changes. No entry is made.
+    pub fn write_payload(
+        &mut self,
+        addr: Addr,
+        offset: usize,
+        bytes: &[u8],
+    ) -> Result<(), GlobalError>
+        ensures step { HeapWrites self.old.locked.heap (at addr) offset bytes.now result self.new.locked.heap }
+        ensures journal { self.new.journal ≡ self.old.journal }
+        ensures refused { OnErr result (self.new.locked.memory ≡ self.old.locked.memory) }
+        ensures memory { KeepsMemory (flex_of self.old.locked) (flex_of self.new.locked) }
+        ensures touches { self.new.locked.memory.touches ≤ self.old.locked.memory.touches + 3 }
+        ensures grow { self.old.locked.memory.touches ≤ self.new.locked.memory.touches }
+        ensures copied { self.new.locked.memory.copied ≡ self.old.locked.memory.copied }
+        ensures stood { BookStands self.old }
+        ensures stands { BookStands self.new }
+    {
+        self.locked.write_payload(addr, offset, bytes)
+    }
+
+    /// Ends the book. If the passes of the numbers below `callers` agree with the journal, returns the journal and the live addresses.
+    ///
+    /// The journal is then one run of the reference model, from nothing placed to the end. The entries of each caller are exactly the
+    /// receipts of its pass, in their order.
+    ///
+    /// Refuses:
+    ///
+    /// - `StrangePass` exactly if a pass has a number that isn't below `callers`, or the number of another pass.
+    /// - else `MissingPass` exactly if a number below `callers` has no pass.
+    /// - else `Mismatch` exactly if passes and journal don't agree.
+    ///
+    /// The memory is dropped. On an error, the journal and the passes are dropped, too. The call requests no memory.
+    pub fn close(self, callers: usize, passes: Vec<Pass>) -> Result<Closed, CloseError>
+        ensures strange { IsErrOf result StrangePass ↔ (is_strange callers passes.items ≡ true) }
+        ensures missing { IsErrOf result MissingPass ↔ LacksOne callers passes.items }
+        ensures mismatch { IsErrOf result Mismatch ↔ (AreComplete callers passes.items × (Agree callers passes.items self.journal → ⊥)) }
+        ensures agreed { IfOk result (λ c. AreComplete callers passes.items × Agree callers passes.items self.journal) }
+        ensures journal { IfOk result (λ c. (c.journal.items ≡ self.journal) × IsRun self.journal self.locked.heap) }
+        ensures live { IfOk result (λ c. (c.live.items ≡ self.locked.heap.asked) × IsSorted c.live.items) }
+    {
+        let _ = &self.journal;
+        if is_strange(callers, &passes) {
+            return Err(CloseError::StrangePass);
+        }
+        if is_missing(callers, &passes) {
+            return Err(CloseError::MissingPass);
+        }
+        if !agree(callers, &passes, &self.journal) {
+            return Err(CloseError::Mismatch);
+        }
+        let Book { locked, journal } = self;
+        Ok(Closed {
+            journal,
+            live: locked.into_rows(),
+        })
+    }
+}
+
+/// Makes a placement call, and returns its reply.
+fn answer(locked: &mut Locked<()>, call: Call) -> Reply
+    ensures step { LeadsOrRefused locked.old.heap call result locked.new.heap }
+    ensures not_journal { result ≢ JournalMemory }
+    ensures fits { IsReplyTo call result }
+    ensures refused { IfRefused result (locked.new.memory.bytes ≡ locked.old.memory.bytes) }
+    ensures memory { LeavesMemory call result locked.old locked.new }
+{
+    match call {
+        Call::Allocate(layout) => match locked.allocate(layout) {
+            Ok(addr) => Reply::Placed(addr),
+            Err(error) => match error {
+                GlobalError::NoRoom => Reply::NoRoom,
+                _ => Reply::TableMemory,
+            },
+        },
+        Call::Deallocate(addr) => match locked.deallocate(addr) {
+            Ok(()) => Reply::Freed,
+            Err(_) => Reply::UnknownAddress,
+        },
+        Call::Reallocate(addr, layout) => match locked.reallocate(addr, layout) {
+            Ok(to) => Reply::Placed(to),
+            Err(error) => match error {
+                GlobalError::NoRoom => Reply::NoRoom,
+                _ => Reply::UnknownAddress,
+            },
+        },
+    }
+}

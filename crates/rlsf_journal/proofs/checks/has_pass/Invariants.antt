@@ -1,6 +1,0 @@
-use Rattle.std.proofs.Common.{◌≡◌, drop}
-use Rattle.rlsf_journal.specs.Close.{has_pass}
-use Rattle.rlsf_journal.proofs.checks.has_pass.Given as goal
-
-abbrev pub invariant-loop-i : goal.invariant-loop-i
-invariant-loop-i l = has_pass l.caller l.passes ≡ has_pass l.caller (drop l.i l.passes)

@@ -1,5 +1,0 @@
-use Rattle.rlsf_journal.specs.Passes.{AreFirst}
-use Rattle.rlsf_journal.proofs.journaled.first_passes.Given as goal
-
-abbrev pub invariant-loop-caller : goal.invariant-loop-caller
-invariant-loop-caller l = AreFirst l.caller l.passes.items

@@ -1,6 +1,0 @@
-use Rattle.rlsf_journal.proofs.Determined.{calls_determine_replies, replay_determines, runs_determine_replies}
-use Rattle.rlsf_journal.proofs.ReceiptsOf.{receipts_are_entries}
-use Rattle.rlsf_journal.proofs.laws.Goals as goal
-
-pub returns : goal.returns
-returns c = record { receipts = receipts_are_entries; replies = calls_determine_replies; one_placement = replay_determines; runs = runs_determine_replies }
