@@ -1,5 +1,5 @@
 //! What a run over a source answers follows what was there already. What each op answers, each refusal, ranges that grow and trims
-//! are stored runs of `rlsf_compare_model_flex` (`listed_runs.py`).
+//! are stored runs of `rlsf_compare_model` (`listed_runs.py`).
 
 ghost use Rattle.std.specs.Prelude.{◌≡◌};
 ghost use Rattle.rlsf_model.specs.FlexState.{empty};

@@ -10,7 +10,7 @@ import sys
 
 sys.dont_write_bytecode = True
 ROOT = pathlib.Path(__file__).resolve().parents[4]
-sys.path[:0] = [str(ROOT / "tools/model"), str(ROOT / "crates/rlsf_compare_model_flex")]
+sys.path[:0] = [str(ROOT / "tools/model"), str(ROOT / "crates/rlsf_compare_model")]
 from machine_runs import Run, START
 from original_runs import AADAADARAAADR, MINIMAL, OFFSET, ContiguousSource, Original, SystemSource, fixed_run
 

@@ -1,7 +1,7 @@
 #!/usr/bin/env python3
 """Runs of the allocator over sources, and what the model of it says of them.
 
-usage: random_runs.py RUNS SEED          writes stdin and stdout beside this file
+usage: random_runs.py RUNS SEED          writes the runs of stdin and stdout beside this file
        random_runs.py RUNS SEED --try    compares the program with the model, and writes neither
 
 The model is tools/model/flex_machine.py. There are RUNS random runs of 60 calls, behind them those of the original's tests of this
@@ -22,6 +22,7 @@ sys.path.insert(0, str(HERE.parents[1] / "tools/model"))
 from machine_runs import CAPABILITIES, START, Run, Source, up  # noqa: E402
 from original_runs import original_runs  # noqa: E402
 from listed_runs import listed_runs  # noqa: E402
+from stored import write_part  # noqa: E402
 
 CALLS, PER_FILE = 60, 25
 MIN_ALIGNS = (1, 8, 32, 64, 1024)
@@ -135,17 +136,20 @@ def random_run(rng, index):
     return run
 
 
-def write(runs, stdin, stdout):
+def texts_of(runs):
+    """The input of the program, and the output that it has to give."""
     texts = [run.texts() for run in runs]
-    stdin.write_text("".join(line + "\n" for read, _ in texts for line in read))
-    stdout.write_text("".join(line + "\n" for i, (_, said) in enumerate(texts, 1) for line in [f"run {i}"] + said))
+    stdin = "".join(line + "\n" for read, _ in texts for line in read)
+    return stdin, "".join(line + "\n" for i, (_, said) in enumerate(texts, 1) for line in [f"run {i}"] + said)
 
 
 def compare(runs):
     with tempfile.TemporaryDirectory() as folder:
         for i in range(0, len(runs), PER_FILE):
             case = pathlib.Path(folder, f"runs{i + 1:05}")
-            write(runs[i:i + PER_FILE], case, case.with_suffix(".stdout"))
+            stdin, stdout = texts_of(runs[i:i + PER_FILE])
+            case.write_text(stdin)
+            case.with_suffix(".stdout").write_text(stdout)
         return subprocess.run(["rt", "try", "--cases", folder], cwd=HERE).returncode
 
 
@@ -154,7 +158,7 @@ def main(count, seed, *options):
     runs = [random_run(rng, index) for index in range(int(count))] + original_runs() + listed_runs()
     if "--try" in options:
         return compare(runs)
-    write(runs, HERE / "stdin", HERE / "stdout")
+    write_part(False, *texts_of(runs))
 
 
 if __name__ == "__main__":

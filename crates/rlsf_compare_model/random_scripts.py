@@ -1,7 +1,7 @@
 #!/usr/bin/env python3
 """Random scripts for the allocator behind the lock, and what the model of it says of them.
 
-usage: random_scripts.py                          writes stdin and stdout beside this file: a sample of each kind
+usage: random_scripts.py                          writes the scripts of stdin and stdout beside this file: a sample of each kind
        random_scripts.py SCRIPTS CALLS SEED       compares the program with the model on so many scripts of each kind
 
 The model is tools/model/global_machine.py. The program runs its scripts twice, without the lock and through it, so each
@@ -14,6 +14,9 @@ import subprocess
 import sys
 import tempfile
 from concurrent.futures import ThreadPoolExecutor
+
+sys.dont_write_bytecode = True
+from stored import write_part  # noqa: E402
 
 HERE = pathlib.Path(__file__).resolve().parent
 MODEL = HERE.parents[1] / "tools/model"
@@ -43,8 +46,7 @@ def sample():
         lines = [line for line in lines if "?" not in line][:SAMPLE]
         read += [head] + [line.split(" = ", 1)[0] for line in lines]
         said += replies(lines)
-    (HERE / "stdin").write_text("".join(line + "\n" for line in read))
-    (HERE / "stdout").write_text("".join(line + "\n" for line in 2 * said))
+    write_part(True, *("".join(line + "\n" for line in lines) for lines in (read, 2 * said)))
 
 
 def matches(wanted, got):
@@ -59,8 +61,8 @@ def compare(scripts, calls, seed):
         made = pool.map(lambda script: generate(seed + script[1], calls, script[0], MEMORIES[script[1] % len(MEMORIES)]), asked)
         for (kind, n), lines in zip(asked, made):
             name = f"{kind}{n + 1:03}"
-            wanted[name] = 2 * replies(lines)
-            pathlib.Path(folder, name).write_text("".join(line + "\n" for line in lines))
+            wanted[name] = ["scripts"] + 2 * replies(lines)
+            pathlib.Path(folder, name).write_text("".join(line + "\n" for line in ["scripts"] + lines))
         out = subprocess.run(["rt", "try", "--cases", folder], cwd=HERE, capture_output=True, text=True)
     got, name = {}, None
     for line in out.stdout.splitlines():
@@ -75,7 +77,7 @@ def compare(scripts, calls, seed):
         bad = [i for i, line in enumerate(lines) if i >= len(found) or not matches(line, found[i])]
         wrong += len(bad)
         for i in bad[:3]:
-            print(f"{name}, call {i + 1}: wanted {lines[i]}, got {found[i] if i < len(found) else 'nothing'}")
+            print(f"{name}, line {i + 1}: wanted {lines[i]}, got {found[i] if i < len(found) else 'nothing'}")
     open_bytes = sum("?" in line for lines in wanted.values() for line in lines)
     print(f"{len(wanted)} scripts, {sum(map(len, wanted.values()))} replies, {open_bytes} of them with open bytes: {wrong} differences")
     if out.returncode:

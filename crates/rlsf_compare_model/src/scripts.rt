@@ -1,7 +1,7 @@
 //! Scripts are run.
 
 use crate::call::{Call, read_call, read_numbers};
-use crate::error::{Failure, ReplayError};
+use crate::error::{CompareError, Failure, Place};
 use crate::reply::Reply;
 use crate::{locked, shared};
 use rlsf_base::memory::Memory;
@@ -74,7 +74,7 @@ pub(crate) fn output_of<R: Wait>(
     alloc: Global,
     text: &str,
     is_shared: bool,
-) -> Result<String, ReplayError> {
+) -> Result<String, CompareError> {
     let mut output = String::new(alloc);
     let mut allocator = None;
     let mut number: usize = 0;
@@ -82,8 +82,8 @@ pub(crate) fn output_of<R: Wait>(
         number = number.saturating_add(1);
         let done = run_line(rt, alloc, &mut allocator, line, is_shared, &mut output);
         if let Err(failure) = done {
-            return Err(ReplayError {
-                line: number,
+            return Err(CompareError {
+                place: Place::Line(number),
                 failure,
             });
         }
