@@ -1,7 +1,7 @@
 //! What is printed of a source.
 
 use rlsf_base::memory::Range;
-use rlsf_source_for_tests::Question;
+use rlsf_trace_flex_runs::Question;
 use std::alloc::AllocError;
 
 /// Prints a line for each question, in their order.

@@ -5,7 +5,7 @@ ghost use Rattle.rlsf_base.specs.PowerOfTwo.{IsPowerOfTwo};
 
 use crate::error::Failure;
 use rlsf_base::memory::{Layout, Range};
-use rlsf_source_for_tests::{Capabilities, SourceAnswer};
+use rlsf_trace_flex_runs::{Capabilities, SourceAnswer};
 use rlsf_trace_text::{Op, Trace};
 use std::alloc::{AllocError, Global};
 

@@ -4,7 +4,7 @@ ghost use Rattle.std.specs.Prelude.{◌≡◌, [], IfOk, length};
 ghost use Rattle.rlsf_base.specs.PowerOfTwo.{IsPowerOfTwo};
 ghost use Rattle.rlsf_base.specs.Range.{LiesIn};
 ghost use Rattle.rlsf_model.specs.FlexState.{empty};
-ghost use Rattle.rlsf_source_for_tests.specs.Listed.{MayOwe};
+ghost use Rattle.rlsf_trace_flex_runs.specs.Listed.{MayOwe};
 
 use crate::error::Failure;
 use crate::output::print_questions;
@@ -12,8 +12,7 @@ use crate::reading::{Run, read_run};
 use rlsf_base::memory::{Memory, Range};
 use rlsf_flex::FlexTlsf;
 use rlsf_int::BitPattern;
-use rlsf_source_for_tests::{Capabilities, ListedSource, SourceAnswer};
-use rlsf_trace_flex_runs::run_flex;
+use rlsf_trace_flex_runs::{Capabilities, ListedSource, SourceAnswer, run_flex};
 use rlsf_trace_text::{Answer, Configuration, Op, text_of};
 use std::alloc::Global;
 

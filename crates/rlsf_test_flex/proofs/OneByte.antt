@@ -20,11 +20,11 @@ use Rattle.rlsf_model.specs.State.{State}
 use Rattle.rlsf_model.specs.Terms.{IsGiven, Terms}
 use Rattle.rlsf_model.specs.WellFormed.{IsWellFormed}
 use Rattle.rlsf_model.proofs.Notes.{terms-led}
-use Rattle.rlsf_source_for_tests.specs.Listed.{Listed, Remembers, question_of}
-use Rattle.rlsf_source_for_tests.specs.declared.listed.Question.{Question}
+use Rattle.rlsf_trace_flex_runs.specs.Listed.{Listed, Remembers, question_of}
+use Rattle.rlsf_trace_flex_runs.specs.declared.listed.Question.{Question}
 use Rattle.rlsf_test_flex.specs.Questions.{IsAskedForTwo, plain}
 use Rattle.rlsf_test_flex.proofs.OneRange.{short_is_full, long_has_room}
-use Rattle.rlsf_source_for_tests.proofs.Remembered.{remembered-led}
+use Rattle.rlsf_trace_flex_runs.proofs.Remembered.{remembered-led}
 
 -- the notes with an outcome, where this pool is kept
 abbrev notes_for : Range → Outcome → Option KeptPool → List Note

@@ -1,8 +1,8 @@
 -- What a source is asked for two payloads of one byte.
 use Rattle.std.specs.Prelude.{◌≡◌, ◌<◌, ◌≤◌, ◌⊎◌, false, List, [], ◌∷◌, Option, Some, None}
 use Rattle.rlsf_base.specs.declared.memory.range.Range.{Range}
-use Rattle.rlsf_source_for_tests.specs.declared.listed.Question.{Question}
-use Rattle.rlsf_source_for_tests.specs.declared.listed.Question.TheVariants.{Alloc}
+use Rattle.rlsf_trace_flex_runs.specs.declared.listed.Question.{Question}
+use Rattle.rlsf_trace_flex_runs.specs.declared.listed.Question.TheVariants.{Alloc}
 use Rattle.rlsf_model.specs.Terms.{Terms}
 
 -- a source of a space that neither grows a range nor takes one back, and whose ranges start at multiples of 32

@@ -8,7 +8,7 @@ ghost use Rattle.rlsf_model.specs.FlexState.{empty};
 use crate::heaps::all;
 use rlsf_base::memory::{Addr, Layout, Memory, Range};
 use rlsf_flex::FlexTlsf;
-use rlsf_source_for_tests::{Capabilities, ListedSource, Question, SourceAnswer};
+use rlsf_trace_flex_runs::{Capabilities, ListedSource, Question, SourceAnswer};
 use std::alloc::Global;
 
 /// Two payloads of one byte, from an allocator that has asked for nothing, over a source that neither grows a range nor takes one

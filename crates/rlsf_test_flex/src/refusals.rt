@@ -10,8 +10,7 @@ use crate::heaps::all;
 use crate::sources::parts;
 use rlsf_base::memory::{Memory, Range};
 use rlsf_flex::FlexTlsf;
-use rlsf_source_for_tests::{Capabilities, ListedSource, Question, SourceAnswer};
-use rlsf_trace_flex_runs::run_flex;
+use rlsf_trace_flex_runs::{Capabilities, ListedSource, Question, SourceAnswer, run_flex};
 use rlsf_trace_text::{Answer, Op, Trace, text_of};
 use std::alloc::{AllocError, Global};
 

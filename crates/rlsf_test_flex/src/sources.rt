@@ -3,10 +3,10 @@
 ghost use Rattle.std.specs.Prelude.{◌≡◌, [], length, IfSome};
 ghost use Rattle.rlsf_base.specs.PowerOfTwo.{IsPowerOfTwo};
 ghost use Rattle.rlsf_base.specs.Range.{range_at};
-ghost use Rattle.rlsf_source_for_tests.specs.Listed.{MayOwe};
+ghost use Rattle.rlsf_trace_flex_runs.specs.Listed.{MayOwe};
 
 use rlsf_base::memory::{Memory, Range};
-use rlsf_source_for_tests::{Capabilities, ListedSource, SourceAnswer};
+use rlsf_trace_flex_runs::{Capabilities, ListedSource, SourceAnswer};
 use std::alloc::Global;
 
 /// How many questions a source remembers.

@@ -9,7 +9,7 @@ use crate::heaps::{
 use crate::sources::parts_of;
 use rlsf_base::memory::Range;
 use rlsf_flex::{FlexSource, FlexTlsf};
-use rlsf_source_for_tests::{Capabilities, ListedSource, Question as Asked, SourceAnswer};
+use rlsf_trace_flex_runs::{Capabilities, ListedSource, Question as Asked, SourceAnswer};
 use std::cell::Cell;
 use std::process::Abort;
 

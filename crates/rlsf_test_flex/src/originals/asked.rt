@@ -4,7 +4,7 @@ ghost use Rattle.rlsf_base.specs.PowerOfTwo.{IsPowerOfTwo};
 
 use super::START;
 use rlsf_base::memory::Range;
-use rlsf_source_for_tests::{Capabilities, Question, SourceAnswer};
+use rlsf_trace_flex_runs::{Capabilities, Question, SourceAnswer};
 use std::process::Abort;
 
 /// A source of the original's tests.

@@ -2,7 +2,7 @@
 
 use super::List;
 use rlsf_base::memory::Range;
-use rlsf_source_for_tests::SourceAnswer;
+use rlsf_trace_flex_runs::SourceAnswer;
 
 pub static GROWS_AND_TAKES_BACK: List = List {
     answers: &[

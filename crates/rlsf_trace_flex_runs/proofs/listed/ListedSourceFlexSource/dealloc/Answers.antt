@@ -1,6 +1,6 @@
 use Rattle.std.proofs.Common.{◌++◌}
-use Rattle.rlsf_source_for_tests.proofs.HandedOut.{gone_range, remembering}
-use Rattle.rlsf_source_for_tests.proofs.listed.ListedSourceFlexSource.dealloc.Goals as goal
+use Rattle.rlsf_trace_flex_runs.proofs.HandedOut.{gone_range, remembering}
+use Rattle.rlsf_trace_flex_runs.proofs.listed.ListedSourceFlexSource.dealloc.Goals as goal
 
 pub returns-clause-owes : goal.returns-clause-owes
 returns-clause-owes c before after may =

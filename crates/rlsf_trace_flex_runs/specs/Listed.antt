@@ -2,9 +2,9 @@
 use Rattle.std.specs.Prelude.{◌≡◌, ℕ, ◌≤◌, List, [], ◌∷◌, ◌++◌, length, nat_lt, if◌then◌else◌}
 use Rattle.rlsf_base.specs.declared.memory.range.Range.{Range}
 use Rattle.rlsf_base.specs.Range.{LiesIn}
-use Rattle.rlsf_source_for_tests.specs.declared.listed.Capabilities.{Capabilities}
-use Rattle.rlsf_source_for_tests.specs.declared.listed.Question.{Question}
-use Rattle.rlsf_source_for_tests.specs.declared.listed.Question.TheVariants.{Alloc, Grow, Dealloc}
+use Rattle.rlsf_trace_flex_runs.specs.declared.listed.Capabilities.{Capabilities}
+use Rattle.rlsf_trace_flex_runs.specs.declared.listed.Question.{Question}
+use Rattle.rlsf_trace_flex_runs.specs.declared.listed.Question.TheVariants.{Alloc, Grow, Dealloc}
 use Rattle.rlsf_model.specs.Insert.{IsVacant}
 use Rattle.rlsf_model.specs.Lists.{IsIn}
 use Rattle.rlsf_model.specs.Note.{Note, alloc, grow, dealloc}

@@ -13,8 +13,8 @@ use Rattle.rlsf_model.specs.WellFormed.{covers, coverage, itself}
 use Rattle.rlsf_model.proofs.Between.{IsIn-between, coverage-between}
 use Rattle.rlsf_model.proofs.Coverage.{IsIn-append, IsIn-append_left, IsIn-append_right, inside, before, behind, covers-before, covers-behind, covers-split, coverage-append}
 use Rattle.rlsf_model.proofs.Coverage.{where_is}
-use Rattle.rlsf_source_for_tests.specs.declared.listed.Question.{Question}
-use Rattle.rlsf_source_for_tests.specs.Listed.{HandsOut, Listed, MayOwe}
+use Rattle.rlsf_trace_flex_runs.specs.declared.listed.Question.{Question}
+use Rattle.rlsf_trace_flex_runs.specs.Listed.{HandsOut, Listed, MayOwe}
 
 -- one of two ranges ends where the other begins, or before
 abbrev pub AreApart : Range → Range → Type 0

@@ -1,6 +1,6 @@
-use Rattle.rlsf_source_for_tests.proofs.HandedOut.{answered_growth}
-use Rattle.rlsf_source_for_tests.proofs.Remembered.{remembers_growth}
-use Rattle.rlsf_source_for_tests.proofs.listed.ListedSourceFlexSource.realloc_inplace_grow.Goals as goal
+use Rattle.rlsf_trace_flex_runs.proofs.HandedOut.{answered_growth}
+use Rattle.rlsf_trace_flex_runs.proofs.Remembered.{remembers_growth}
+use Rattle.rlsf_trace_flex_runs.proofs.listed.ListedSourceFlexSource.realloc_inplace_grow.Goals as goal
 
 pub returns-clause-leads : goal.returns-clause-leads
 returns-clause-leads c =

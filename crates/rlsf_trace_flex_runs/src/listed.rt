@@ -3,7 +3,7 @@
 ghost use Rattle.std.specs.Prelude.{◌≡◌, ◌≤◌, ◌-◌, ◌%◌, [], IfOk, MatchOption};
 ghost use Rattle.rlsf_base.specs.PowerOfTwo.{IsPowerOfTwo};
 ghost use Rattle.rlsf_base.specs.Range.{end_of, range_at};
-ghost use Rattle.rlsf_source_for_tests.specs.Listed.{HandsOut, MayOwe, Remembers, remembered, terms_in};
+ghost use Rattle.rlsf_trace_flex_runs.specs.Listed.{HandsOut, MayOwe, Remembers, remembered, terms_in};
 
 use crate::ranges::hand_out;
 use rlsf_base::memory::Range;
@@ -71,7 +71,7 @@ impl Model for ListedSource {
     ghost use Rattle.std.specs.Prelude.{◌≤◌};
     ghost use Rattle.std.specs.Vec.{vec_capacity};
     ghost use Rattle.rlsf_base.specs.PowerOfTwo.{IsPowerOfTwo};
-    ghost use Rattle.rlsf_source_for_tests.specs.Listed.{Listed, terms_in};
+    ghost use Rattle.rlsf_trace_flex_runs.specs.Listed.{Listed, terms_in};
 
     ghost Value = { Listed };
 

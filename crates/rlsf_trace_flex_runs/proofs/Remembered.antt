@@ -6,8 +6,8 @@ use Rattle.std.proofs.lemmas.Bool.{lt-ltb}
 use Rattle.rlsf_base.specs.declared.memory.range.Range.{Range}
 use Rattle.rlsf_base.specs.PowerOfTwo.{IsPowerOfTwo}
 use Rattle.rlsf_model.specs.Note.{LeadsBy, Note, alloc, grow}
-use Rattle.rlsf_source_for_tests.specs.Listed.{HandsOut, Listed, Remembers, question_of, remembered}
-use Rattle.rlsf_source_for_tests.proofs.HandedOut.{behind_range}
+use Rattle.rlsf_trace_flex_runs.specs.Listed.{HandsOut, Listed, Remembers, question_of, remembered}
+use Rattle.rlsf_trace_flex_runs.proofs.HandedOut.{behind_range}
 
 -- two values of a source have equal terms, equal room and equal questions
 abbrev IsAlike : Listed → Listed → Type 0

@@ -1,7 +1,7 @@
 use Rattle.std.proofs.Common.{rules, tests}
 use Rattle.std.proofs.lemmas.Iterator.{cases_from_all, YieldsList-from_slice}
-use Rattle.rlsf_source_for_tests.proofs.HandedOut.{AreApart, clear_if_true}
-use Rattle.rlsf_source_for_tests.proofs.ranges.is_clear.Goals as goal
+use Rattle.rlsf_trace_flex_runs.proofs.HandedOut.{AreApart, clear_if_true}
+use Rattle.rlsf_trace_flex_runs.proofs.ranges.is_clear.Goals as goal
 
 pub returns : goal.returns
 returns c = clear_if_true c.args.range c.args.taken.now _ c.all.result

@@ -1,2 +1,0 @@
--- The definition of a source that answers from a list.
-pub mod Listed
