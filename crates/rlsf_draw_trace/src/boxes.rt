@@ -1,7 +1,7 @@
 //! Payloads as boxes: from the call that placed one to the call that ended, moved or resized it.
 
 use crate::window::Window;
-use rlsf_trace_common::Watched;
+use rlsf_trace_runs::Watched;
 use rlsf_trace_text::{Answer, Op};
 use std::alloc::{AllocError, Global};
 use std::collections::BTreeMap;

@@ -6,7 +6,7 @@ use crate::legend::{LeftOut, Legend, print_denied_list, print_pool_list};
 use crate::pools::Pool;
 use crate::scale::{HEIGHT, Scale, TOP, Tenths};
 use crate::window::Window;
-use rlsf_trace_common::BlockInfo;
+use rlsf_trace_runs::BlockInfo;
 use std::alloc::{AllocError, Global};
 
 /// What is drawn, and how.

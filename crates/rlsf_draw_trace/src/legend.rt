@@ -2,7 +2,7 @@
 
 use crate::pools::Pool;
 use crate::window::Window;
-use rlsf_trace_common::Watched;
+use rlsf_trace_runs::Watched;
 use rlsf_trace_text::{Answer, Configuration};
 use std::alloc::{AllocError, Global};
 use std::fmt;

@@ -15,7 +15,7 @@ mod scale;
 mod window;
 
 use map::map;
-use rlsf_trace_common::status;
+use rlsf_trace_runs::status;
 use std::env;
 use std::process::ExitCode;
 use std::rt::Env;

@@ -3,21 +3,21 @@
 ghost use Rattle.std.specs.Prelude.{◌≡◌, ◌≢◌, ◌⊎◌, IfErr, IfSome, OnOk};
 ghost use Rattle.std.specs.Io.KnownBytes.{IsAtEnd};
 ghost use Rattle.rlsf_trace_text.specs.Faults.{out_of_memory};
-ghost use Rattle.rlsf_trace_common.specs.Replays.{not_read, IsOutputFault, IsReplayFault, IsTrace};
+ghost use Rattle.rlsf_trace_runs.specs.Replays.{not_read, IsOutputFault, IsReplayFault, IsTrace};
 
 use crate::boxes::boxes_of;
 use crate::draw::{Scene, drawing};
 use crate::legend::{denied_of, legend_of};
 use crate::pools::pools_of;
 use crate::window::{Lines, Window};
-use rlsf_trace_common::{Watched, read_input, watch_trace, write_text};
+use rlsf_trace_runs::{Watched, read_input, watch_trace, write_text};
 use rlsf_trace_text::{Fault, ReplayFault, Trace};
 use std::alloc::{AllocError, Global};
 use std::io::{Read, Write};
 
 /// Reads a trace from the rest of the reader, runs it on a new allocator, and writes a drawing of the calls of some lines.
 ///
-/// The faults are those of `rlsf_trace_common::replay`, in its order. Nothing is written with any fault but `Write`, and with that one a
+/// The faults are those of `rlsf_trace_runs::replay`, in its order. Nothing is written with any fault but `Write`, and with that one a
 /// beginning of the drawing may be.
 pub(crate) fn map<R: Read, W: Write>(
     alloc: Global,

@@ -1,9 +1,9 @@
 //! Replays a trace of allocator calls: reads it from standard input, and writes the answers to standard output.
 //!
-//! The work is done by `replay` of `rlsf_trace_common`.
+//! The work is done by `replay` of `rlsf_trace_runs`.
 #![tactic(auto)]
 
-use rlsf_trace_common::{replay, status};
+use rlsf_trace_runs::{replay, status};
 use std::process::ExitCode;
 
 fn main(rt: HostRuntime) -> ExitCode {

@@ -2,7 +2,7 @@
 use Rattle.std.specs.Prelude.{ℕ, ◌-◌, List, length, slice_index_or, sum_by, max, if◌then◌else◌, not}
 use Rattle.std.specs.List.{fold, count_by}
 use Rattle.rlsf_blocks.specs.Blocks.{Block}
-use Rattle.rlsf_trace_common.specs.declared.moments.Moment.{Moment}
+use Rattle.rlsf_trace_runs.specs.declared.moments.Moment.{Moment}
 
 -- what the allocator held after the last op, or nothing without an op
 abbrev pub last_moment : List Moment → Moment

@@ -2,12 +2,12 @@
 
 ghost use Rattle.std.specs.Prelude.{◌≡◌, ◌⊎◌, IfErr};
 ghost use Rattle.rlsf_trace_text.specs.Faults.{out_of_memory};
-ghost use Rattle.rlsf_trace_common.specs.Replays.{no_memory};
+ghost use Rattle.rlsf_trace_runs.specs.Replays.{no_memory};
 
 use crate::summary::most_live;
 use rlsf_base::classes::pool_size_for_payloads;
 use rlsf_base::memory::{Layout, Range};
-use rlsf_trace_common::{Watched, watch_ops};
+use rlsf_trace_runs::{Watched, watch_ops};
 use rlsf_trace_text::{Answer, Configuration, Op, ReplayFault, Trace};
 use std::alloc::{AllocError, Global};
 

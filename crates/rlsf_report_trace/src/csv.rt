@@ -2,7 +2,7 @@
 
 use crate::counts::Outcome;
 use crate::kinds::Kind;
-use rlsf_trace_common::{Moment, Watched};
+use rlsf_trace_runs::{Moment, Watched};
 use rlsf_trace_text::{Answer, Op};
 use std::alloc::{AllocError, Global};
 

@@ -15,7 +15,7 @@ mod summary;
 mod table;
 
 use report::{Form, report};
-use rlsf_trace_common::status;
+use rlsf_trace_runs::status;
 use std::env;
 use std::process::ExitCode;
 use std::rt::Env;

@@ -3,7 +3,7 @@
 ghost use Rattle.std.specs.Prelude.{◌≡◌, ◌≢◌, ◌⊎◌, IfErr, IfSome, OnOk};
 ghost use Rattle.std.specs.Io.KnownBytes.{IsAtEnd};
 ghost use Rattle.rlsf_trace_text.specs.Faults.{out_of_memory};
-ghost use Rattle.rlsf_trace_common.specs.Replays.{no_memory, not_read, IsOutputFault, IsReplayFault, IsTrace};
+ghost use Rattle.rlsf_trace_runs.specs.Replays.{no_memory, not_read, IsOutputFault, IsReplayFault, IsTrace};
 
 use crate::advice::advice_of;
 use crate::counts::counts_of;
@@ -11,7 +11,7 @@ use crate::csv::csv_of;
 use crate::sizes::asked_bytes;
 use crate::summary::summary_of;
 use crate::table::table_of;
-use rlsf_trace_common::{Watched, read_input, watch_trace, write_text};
+use rlsf_trace_runs::{Watched, read_input, watch_trace, write_text};
 use rlsf_trace_text::{Fault, ReplayFault, Trace};
 use std::alloc::Global;
 use std::io::{Read, Write};
@@ -27,7 +27,7 @@ pub(crate) enum Form {
 
 /// Reads a trace from the rest of the reader, runs it on a new allocator, and writes its report.
 ///
-/// The faults are those of `rlsf_trace_common::replay`, in its order. Nothing is written with any fault but `Write`, and with that one a
+/// The faults are those of `rlsf_trace_runs::replay`, in its order. Nothing is written with any fault but `Write`, and with that one a
 /// beginning of the text may be.
 pub(crate) fn report<R: Read, W: Write>(
     alloc: Global,

@@ -3,7 +3,7 @@
 ghost use Rattle.std.specs.Prelude.{◌≡◌};
 ghost use Rattle.rlsf_report_trace.specs.Summaries as spec;
 
-use rlsf_trace_common::{BlockInfo, Moment, Watched};
+use rlsf_trace_runs::{BlockInfo, Moment, Watched};
 
 /// What the allocator held.
 #[derive(Clone, Copy)]

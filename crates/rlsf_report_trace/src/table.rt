@@ -3,7 +3,7 @@
 use crate::advice::Advice;
 use crate::counts::Count;
 use crate::summary::Summary;
-use rlsf_trace_common::Moment;
+use rlsf_trace_runs::Moment;
 use std::alloc::{AllocError, Global};
 
 /// The table of a report.

@@ -1,4 +1,4 @@
-//! Tests of `rlsf_trace_text`, `rlsf_trace_runs` and `rlsf_trace_common`. This crate has no other code, so that these three are proved
+//! Tests of `rlsf_trace_text`, `rlsf_trace_runs` and `rlsf_trace_runs`. This crate has no other code, so that these three are proved
 //! once.
 //!
 //! `answers.rt` has the assertions. `reading.rt` and `printing.rt` test the text of a trace, `runs.rt` runs of ops, and `replays.rt` replays.

@@ -5,7 +5,7 @@ mod faults;
 mod streams;
 
 use crate::answers::passes;
-use rlsf_trace_common::replay;
+use rlsf_trace_runs::replay;
 use rlsf_trace_text::status;
 use std::alloc::Global;
 use std::process::Abort;

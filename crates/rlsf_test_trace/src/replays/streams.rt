@@ -2,7 +2,7 @@
 
 use super::FIRST_RUN;
 use crate::answers::all;
-use rlsf_trace_common::replay;
+use rlsf_trace_runs::replay;
 use rlsf_trace_text::{Fault, ReplayFault};
 use std::alloc::Global;
 use std::io;

@@ -1,8 +1,0 @@
-use Rattle.std.proofs.Common.{rules}
-use Rattle.rlsf_trace_common.proofs.traces.watch_trace.Goals as goal
-
-pub returns : goal.returns
-returns c = record {
-  ok = search rules;
-  err = search rules;
-}

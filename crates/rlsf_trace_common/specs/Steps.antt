@@ -1,2 +1,0 @@
--- The definitions of private functions: no public contract cites these.
-pub mod Changes
