@@ -1,11 +1,9 @@
 //! Two buffers that two threads fill, and that come back.
 ghost use Rattle.std.specs.Prelude.{◌≡◌, ◌<◌, [], ◌∷◌, length, replicate, IfSome};
-ghost use Rattle.rlsf_heap.specs.Heap.{IsWritten};
-ghost use Rattle.rlsf_model.specs.Sized.{live_count};
+ghost use Rattle.rlsf_heaps.specs.Words.{IsWritten, live_count};
 
 use crate::Small;
-use rlsf_base::memory::Layout;
-use rlsf_heap::Payload;
+use rlsf_heaps::{Layout, Payload};
 use std::thread::{Threads, join};
 
 /// Returns a buffer, filled with a byte.

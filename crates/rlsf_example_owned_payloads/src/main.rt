@@ -6,7 +6,7 @@
 #![tactic(auto)]
 
 ghost use Rattle.std.specs.Prelude.{◌≡◌, IfSome};
-ghost use Rattle.rlsf_model.specs.Sized.{live_count};
+ghost use Rattle.rlsf_heaps.specs.Words.{live_count};
 
 mod buffers;
 mod leaving;
@@ -18,8 +18,7 @@ use buffers::filled_by_threads;
 use leaving::received_first;
 use pair::pair_of_bytes;
 use queue::four_to_one;
-use rlsf_base::memory::{Layout, OpenMemory, Range};
-use rlsf_heap::Heap;
+use rlsf_heaps::{Heap, Layout, OpenMemory, Range};
 use std::alloc::Global;
 use std::io;
 use std::sync::Wait;

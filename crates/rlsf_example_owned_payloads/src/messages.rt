@@ -1,9 +1,6 @@
 //! Messages between threads that share a heap: how a message is made and read, and a heap that has room for all that are live at once.
 
-use rlsf_base::classes;
-use rlsf_base::memory::{Layout, OpenMemory, Range};
-use rlsf_heap::Heap;
-use rlsf_shared_heap::SharedHeap;
+use rlsf_heaps::{Heap, Layout, OpenMemory, Range, SharedHeap, classes};
 use std::alloc::Global;
 
 /// Chunks of any length, in 59 rows of 8 classes.

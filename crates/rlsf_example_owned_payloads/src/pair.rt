@@ -1,10 +1,9 @@
 //! Two payloads in one struct, both of which are written in one expression.
 ghost use Rattle.std.specs.Prelude.{◌≡◌, ◌<◌, [], ◌∷◌, length, replicate, IfSome};
-ghost use Rattle.rlsf_model.specs.Sized.{live_count};
+ghost use Rattle.rlsf_heaps.specs.Words.{live_count};
 
 use crate::Small;
-use rlsf_base::memory::Layout;
-use rlsf_heap::Payload;
+use rlsf_heaps::{Layout, Payload};
 
 /// Two payloads of one heap.
 struct Pair {

@@ -2,7 +2,7 @@
 
 use crate::messages::{Received, Shared, heap_for, layout, write_number};
 use rlsf_example_libraries::MessageQueue;
-use rlsf_shared_heap::SharedPayload;
+use rlsf_heaps::SharedPayload;
 use std::alloc::Global;
 use std::sync::Wait;
 use std::thread::{Threads, join};

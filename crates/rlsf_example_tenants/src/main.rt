@@ -3,11 +3,9 @@
 #![tactic(auto)]
 
 ghost use Rattle.std.specs.Prelude.{◌≡◌};
-ghost use Rattle.rlsf_local_heap.specs.Tenants.{lessor};
+ghost use Rattle.rlsf_heaps.specs.Words.{lessor};
 
-use rlsf_base::memory::{OpenMemory, Range};
-use rlsf_heap::Heap;
-use rlsf_local_heap::Tenant;
+use rlsf_heaps::{Heap, OpenMemory, Range, Tenant};
 use std::alloc::{AllocError, Allocator, Global};
 use std::collections::BTreeMap;
 use std::io;

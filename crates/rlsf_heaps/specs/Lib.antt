@@ -1,0 +1,2 @@
+-- The definitions that callers cite, re-exported: `Words` has all of them.
+pub mod Words

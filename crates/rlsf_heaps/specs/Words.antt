@@ -1,0 +1,22 @@
+-- The definitions that contracts over heaps and their payloads cite.
+-- of memories, ranges and lengths
+pub use Rattle.rlsf_base.specs.declared.memory.layout.Layout.{Layout}
+pub use Rattle.rlsf_base.specs.declared.memory.range.Range.{Range}
+pub use Rattle.rlsf_base.specs.Changes.{IsAllOwn, IsOwn}
+pub use Rattle.rlsf_base.specs.Range.{AreApart, LiesIn, end_of, range_at}
+pub use Rattle.rlsf_base.specs.RawParts.{LiesAtBlock}
+pub use Rattle.rlsf_base.specs.SizeClass.{IsValid}
+pub use Rattle.rlsf_base.specs.Sizes.{pool_size_for_payloads}
+pub use Rattle.rlsf_base.specs.Space.{Space, range_of}
+-- of the state of a heap
+pub use Rattle.rlsf_model.specs.Callers.{align_at, bytes_at}
+pub use Rattle.rlsf_model.specs.Sized.{IsSizedFor, live_count}
+pub use Rattle.rlsf_model.specs.State.{State}
+-- of a heap and its payloads
+pub use Rattle.rlsf_heap.specs.Heap.{HeapView, Identity, IsWritten, PayloadView, payload_range}
+pub use Rattle.rlsf_heap.specs.Replies.{IsAllocated, IsReallocated, IsReturned, WithinBounds}
+pub use Rattle.rlsf_heap.specs.Settled.{IsSettled}
+-- of tenants
+pub use Rattle.rlsf_local_heap.specs.Tenants.{lessor}
+-- of shared heaps
+pub use Rattle.rlsf_shared_heap.specs.Shared.{SharedView}
