@@ -9,7 +9,7 @@ pub use Rattle.rlsf_model.specs.Note.{Note, LeadsBy, alloc, dealloc, grow}
 pub use Rattle.rlsf_model.specs.Terms.{IsGiven, IsGrown, OwesGrown, Terms, with_len}
 pub use Rattle.rlsf_model.specs.WellFormed.{coverage, covers, itself}
 -- of a source that hands its space out from a cursor on
-pub use Rattle.rlsf_flex.specs.Bump.{Bump, BumpLeads, BumpOwes, IsBump, bump_in, bump_terms}
+pub use Rattle.rlsf_flex.specs.Bump.{Bump, BumpLeads, BumpOwes, IsBump, Provides, bump_in, bump_terms}
 pub use Rattle.rlsf_flex.proofs.BumpRanges.{bump_end, bump_gives, bump_grows, bump_owes_none, bump_takes}
 -- of the source of whole pages
 pub use Rattle.rlsf_model_global.specs.Cursor.{PageCursor, PageLeads, first_page, page_cursor, pages, terms_of}

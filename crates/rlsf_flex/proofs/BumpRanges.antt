@@ -9,7 +9,7 @@ use Rattle.rlsf_base.proofs.Numbers.Roundings.{next_multiple_of-le, next_multipl
 use Rattle.rlsf_model.specs.Terms.{IsGiven, IsGrown, Terms, with_len}
 use Rattle.rlsf_model.proofs.Coverage.{IsIn-append_right}
 use Rattle.rlsf_model_global.proofs.Apart.{IsClear-grown, LieApart, LieApart-above, LieApart-grown, LieApart-less, LieApart-more}
-use Rattle.rlsf_flex.specs.Bump.{Bump, BumpOwes, IsBump, bump_in}
+use Rattle.rlsf_flex.specs.Bump.{Bump, BumpOwes, IsBump, Provides, bump_in}
 
 -- what may be outstanding lies in the space before the cursor, and doesn't overlap
 lie_apart : (b : Bump) {owed : List Range} → BumpOwes b owed → LieApart b.space.start b.at owed
@@ -24,29 +24,28 @@ pub bump_owes_none : (b : Bump) → BumpOwes b []
 bump_owes_none b = record { start = λ r i. absurd i; end = λ r i. absurd i; disjoint = λ a. omega arith }
 
 -- a range is given that begins at the first multiple of the least alignment behind the cursor, which moves to its end
-pub bump_gives : (t : Terms) (b : Bump) (space : Range) (at min_size start len end : ℕ) → bump_in space at ≡ b → IsBump (bump_in space at) → t.space ≡ b.space
-    → IsPowerOfTwo t.min_align
-    → start ≡ next_multiple_of at t.min_align → min_size ≤ len → end ≡ start + len → end ≤ end_of b.space → (owed : List Range) → BumpOwes b owed
-    → IsGiven t owed min_size (range_at start len) × BumpOwes (bump_in space end) (range_at start len ∷ owed)
-bump_gives t b space at min_size start len end here is in_space power rounded long ends within owed owes =
+pub bump_gives : (g : Provides) (owed : List Range) → BumpOwes g.before owed
+    → IsGiven g.terms owed g.min_size (range_at g.start g.len) × BumpOwes (bump_in g.space g.end) (range_at g.start g.len ∷ owed)
+bump_gives g owed owes =
+    let t = g.terms in let space = g.space in let at = g.at in let start = g.start in let len = g.len in let end = g.end in let is = g.invariant in
     let old = bump_in space at in
-    let some = IsPowerOfTwo-positive t.min_align power in
-    let behind_cursor : at ≤ start = omega (arith, rounded, next_multiple_of-le at t.min_align) in
-    let aligned : start % t.min_align ≡ 0 = subst (λ (n : ℕ). n % t.min_align ≡ 0) (sym rounded) (next_multiple_of-multiple at t.min_align some) in
-    let fits : end ≤ end_of space = subst (λ (x : Bump). end ≤ end_of x.space) (sym here) within in
-    let lie = lie_apart old (subst (λ (x : Bump). BumpOwes x owed) (sym here) owes) in
+    let some = IsPowerOfTwo-positive t.min_align g.power in
+    let behind_cursor : at ≤ start = omega (arith, g.rounded, next_multiple_of-le at t.min_align) in
+    let aligned : start % t.min_align ≡ 0 = subst (λ (n : ℕ). n % t.min_align ≡ 0) (sym g.rounded) (next_multiple_of-multiple at t.min_align some) in
+    let fits : end ≤ end_of space = subst (λ (x : Bump). end ≤ end_of x.space) (sym g.fields) g.fits in
+    let lie = lie_apart old (subst (λ (x : Bump). BumpOwes x owed) (sym g.fields) owes) in
     let more : LieApart space.start (start + len) (range_at start len ∷ owed) = LieApart-more (range_at start len) lie is.after_start behind_cursor in
     let low : space.start ≤ start = omega (arith, is.after_start, behind_cursor) in
-    let high : start + len ≤ space.start + space.len = omega (arith, ends, fits) in
-    let same : space ≡ t.space = ap (λ (x : Bump). x.space) here ∙ sym in_space in (
+    let high : start + len ≤ space.start + space.len = omega (arith, g.ends, fits) in
+    let same : space ≡ t.space = ap (λ (x : Bump). x.space) g.fields ∙ sym g.in_space in (
       record {
         lies_in = subst (λ (s : Range). (s.start ≤ start) × (start + len ≤ s.start + s.len)) same (low, high);
         apart = λ a first last. LieApart-above lie a (omega (arith, first, behind_cursor));
-        long = long;
-        power = power;
+        long = g.long;
+        power = g.power;
         aligned = aligned;
       },
-      subst (λ (to : ℕ). BumpOwes (bump_in space to) (range_at start len ∷ owed)) (sym ends) (may_owe space (start + len) more),
+      subst (λ (to : ℕ). BumpOwes (bump_in space to) (range_at start len ∷ owed)) (sym g.ends) (may_owe space (start + len) more),
     )
 
 -- the range that ends at the cursor grows, and the cursor moves to its end

@@ -1,7 +1,9 @@
 -- A source that provides its space from a cursor on.
+use Rattle.std.specs.Int.{next_multiple_of}
 use Rattle.std.specs.Prelude.{◌≡◌, ◌≢◌, ℕ, ◌+◌, ◌^◌, ◌≤◌, ◌<◌, ◌⊎◌, true, false, Some, None, List}
 use Rattle.rlsf_base.specs.declared.memory.range.Range.{Range}
 use Rattle.rlsf_base.specs.Range.{end_of, range_at}
+use Rattle.rlsf_base.specs.PowerOfTwo.{IsPowerOfTwo}
 use Rattle.rlsf_base.specs.Rounding.{round32}
 use Rattle.rlsf_model.specs.Lists.{IsIn}
 use Rattle.rlsf_model.specs.Note.{Note, alloc, dealloc, grow}
@@ -28,6 +30,28 @@ pub record BumpOwes (b : Bump) (owed : List Range) : Type 0 where
   pub start : (r : Range) → IsIn r owed → b.space.start ≤ r.start
   pub end : (r : Range) → IsIn r owed → end_of r ≤ b.at
   pub disjoint : (a : ℕ) → coverage itself owed a ≤ 1
+
+-- A range that such a source provides to a request: `bump_gives` proves from this that the range keeps the source's contract.
+pub record Provides : Type 0 where
+  -- what the source can do, and its value before
+  pub terms : Terms
+  pub before : Bump
+  -- the same value by the source's fields
+  pub space : Range
+  pub at : ℕ
+  pub fields : bump_in space at ≡ before
+  pub invariant : IsBump (bump_in space at)
+  pub in_space : terms.space ≡ before.space
+  pub power : IsPowerOfTwo terms.min_align
+  -- the request, and the range: it begins at the first multiple of the least alignment, is long enough, and ends in the space
+  pub min_size : ℕ
+  pub start : ℕ
+  pub len : ℕ
+  pub end : ℕ
+  pub rounded : start ≡ next_multiple_of at terms.min_align
+  pub long : min_size ≤ len
+  pub ends : end ≡ start + len
+  pub fits : end ≤ end_of before.space
 
 -- ---- the source of this crate
 
