@@ -19,7 +19,7 @@ LAYERS = [
         [(1, "rlsf_test_tlsf", "calls of Tlsf and of libraries"), (1, "rlsf_test_heap", "heaps, with threads"),
          (1, "rlsf_test_flex", "sources and FlexTlsf"), (1, "rlsf_test_global", "lock and journal, with threads")],
         [(1, "rlsf_test_base", "integers and memories"), (1, "rlsf_test_trace", "traces"),
-         (1, "rlsf_source_for_tests", "a source for tests"), (1, "rlsf_compare_model_flex rlsf_compare_model_global", "comparison with Python")],
+         (2, "rlsf_compare_model", "comparison with the model in Python")],
     ]),
     ("Benchmarks", "one set of steps, three programs", "#eeeeee", [
         [(1, "rlsf_bench_common", "the steps"), (1, "rlsf_bench", "Tlsf"), (1, "rlsf_bench_heap", "Heap"),
@@ -37,13 +37,13 @@ LAYERS = [
     ]),
     ("Traces", "a text of calls, run and compared with the model", "#fbe3d6", [
         [(1, "rlsf_replay", "program: prints the answers"), (1, "rlsf_report_trace", "program: counts"), (1, "rlsf_draw_trace", "program: draws")],
-        [(2, "rlsf_trace_common", "reads, runs and prints, or records what is held"), (1, "rlsf_trace_flex_runs", "runs with a FlexTlsf")],
-        [(1, "rlsf_trace_text", "the text: ops and answers"), (2, "rlsf_trace_runs", "runs of ops with a Tlsf: the headline contract")],
+        [(1, "rlsf_trace_text", "the text: ops and answers"), (2, "rlsf_trace_runs", "read, run with a Tlsf, printed or recorded: the headline contract"),
+         (1, "rlsf_trace_flex_runs", "runs with a FlexTlsf, and a source")],
     ]),
     ("Allocators", "each column adds to what is below it", "#d9efd9", [
-        [(1, "", ""), (1, "rlsf_journal", "a journal that explains all replies"),
-         (3, "", "A Tlsf lends its payloads. A Heap returns them as values that own their bytes. A FlexTlsf grows: it asks a source for memory.")],
-        [(1, "rlsf", "re-exports Tlsf and FlexTlsf", True), (1, "rlsf_global", "behind one lock, for threads", True), (1, "", ""),
+        [(1, "rlsf", "re-exports Tlsf and FlexTlsf", True), (1, "rlsf_heaps", "re-exports all heaps", True),
+         (2, "", "A Tlsf lends its payloads. A Heap returns them as values that own their bytes. A FlexTlsf grows: it asks a source for memory.")],
+        [(2, "rlsf_global", "behind one lock, for threads; a journal that explains all replies", True),
          (1, "rlsf_shared_heap", "Heap for threads"), (1, "rlsf_local_heap", "Heap for std's collections")],
         [(2, "rlsf_flex", "FlexTlsf: memory from a source; two sources"), (1, "rlsf_checked", "errors in place of conditions"),
          (2, "rlsf_heap", "Heap: payloads own their bytes", True)],
