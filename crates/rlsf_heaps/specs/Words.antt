@@ -14,7 +14,10 @@ pub use Rattle.rlsf_model.specs.Sized.{IsSizedFor, live_count}
 pub use Rattle.rlsf_model.specs.State.{State}
 -- of a heap and its payloads
 pub use Rattle.rlsf_heap.specs.Heap.{HeapView, Identity, IsWritten, PayloadView, payload_range}
-pub use Rattle.rlsf_heap.specs.Replies.{IsAllocated, IsReallocated, IsReturned, WithinBounds}
+pub use Rattle.rlsf_heap.specs.Replies.{IsAllocated, IsAllocatedZeroed, IsDeallocated, IsGone, IsOut, IsReallocated, IsRefused, IsResized}
+pub use Rattle.rlsf_heap.specs.Replies.{IsResizedInPlace, IsResizedOrMoved, IsReturned, IsUnchanged, LeavesOthers, WithinBounds}
+pub use Rattle.rlsf_heap.specs.Frame.{CopiesToMove, KeepsAllBounds, KeepsBounds, KeepsBytes, KeepsFrame, KeepsFrameBeside, KeepsFrameMoving}
+pub use Rattle.rlsf_heap.specs.Frame.{KeepsHeap, KeepsPayloads, KeepsSized}
 pub use Rattle.rlsf_heap.specs.Settled.{IsSettled}
 -- of tenants
 pub use Rattle.rlsf_local_heap.specs.Tenants.{lessor}
