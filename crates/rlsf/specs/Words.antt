@@ -22,7 +22,7 @@ pub use Rattle.rlsf_blocks.specs.Blocks.{walked}
 pub use Rattle.rlsf_blocks.specs.Spare.{IsSpareWord, KeepsSpare}
 pub use Rattle.rlsf_tlsf.specs.Allocator.{Allocator, IsInState, Stands, Steps}
 pub use Rattle.rlsf_tlsf.specs.Bounds.{IfWithinBounds, KeepsAllBounds, KeepsBounds, KeepsBoundsAnyAlign}
-pub use Rattle.rlsf_tlsf.specs.Results.{IsAllocated, IsAppended, IsDeallocated, IsFilled, IsInserted, IsLeft, IsReallocated, IsReallocatedAnyAlign, IsRemoved, IsResized}
+pub use Rattle.rlsf_tlsf.specs.Results.{IsAllocated, IsAppended, IsDeallocated, IsFilled, IsInserted, IsReallocated, IsReallocatedAnyAlign, IsRemoved, IsResized}
 pub use Rattle.rlsf_tlsf.specs.Results.{IsUnchanged, KeepsFrame, KeepsFrameCopying, KeepsFrameInPlace, KeepsFrameMoving, KeepsFrameOfPools}
 pub use Rattle.rlsf_tlsf.specs.Sizing.{SizesPool}
 -- those that contracts over an allocator with a source cite

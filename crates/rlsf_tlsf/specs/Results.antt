@@ -103,17 +103,6 @@ pub record IsFilled (before after : State) (addr : ℕ) (w : List ℕ) : Type 0 
   -- as many payloads are live as before
   pub count : live_count after ≡ live_count before
 
--- the payload at the address was lent for writing, with `len` bytes. These were left in it
-pub record IsLeft (before after : State) (addr len : ℕ) (w : List ℕ) : Type 0 where
-  -- the payload has them
-  pub filled : length w ≡ len → bytes_at after addr ≡ w
-  -- and the length that it had, whatever was left
-  pub lengths : length (bytes_at after addr) ≡ len
-  -- all payloads have their addresses and alignments
-  pub aligns : align_at after ≡ align_at before
-  -- as many payloads are live as before
-  pub count : live_count after ≡ live_count before
-
 -- the range was inserted as a pool
 pub record IsInserted (fllen sllen : ℕ) (r : Range) (before after : State) : Type 0 where
   -- a range that overlaps neither a chunk from before nor this range overlaps no chunk

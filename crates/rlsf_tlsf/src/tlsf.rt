@@ -13,7 +13,7 @@ ghost use Rattle.rlsf_model.specs.NoMove.{ReallocatesWithoutMove};
 ghost use Rattle.rlsf_model.specs.Reallocate.{Reallocates};
 ghost use Rattle.rlsf_model.specs.Release.{Deallocates};
 ghost use Rattle.rlsf_model.specs.Run.{Fills};
-ghost use Rattle.rlsf_model.specs.Sized.{live_count};
+ghost use Rattle.rlsf_model.specs.Sized.{IsSizedFor, live_count};
 ghost use Rattle.rlsf_model.specs.State.{empty};
 ghost use Rattle.rlsf_table.specs.Table.{newest_of, of_class};
 ghost use Rattle.rlsf_blocks.specs.Spare.{IsSpareWord};
@@ -68,7 +68,7 @@ impl<FLBitmap: BitPattern, SLBitmap: BitPattern, const FLLEN: usize, const SLLEN
     ghost use Rattle.rlsf_tlsf.specs.Allocator.{Stands, Steps};
     ghost use Rattle.rlsf_tlsf.specs.Lending.{LeavesRest, lends_payload, written};
     ghost use Rattle.rlsf_tlsf.specs.Bounds.{IfWithinBounds, KeepsAllBounds, KeepsBounds};
-    ghost use Rattle.rlsf_tlsf.specs.Results.{IsAllocated, IsDeallocated, IsFilled, IsLeft, IsReallocated, IsResized, IsUnchanged};
+    ghost use Rattle.rlsf_tlsf.specs.Results.{IsAllocated, IsDeallocated, IsFilled, IsReallocated, IsResized, IsUnchanged};
     ghost use Rattle.rlsf_tlsf.specs.Results.{KeepsFrame, KeepsFrameCopying, KeepsFrameInPlace, KeepsFrameMoving};
 
     /// Creates an allocator that owns `memory` and has no pool.
@@ -323,12 +323,16 @@ impl<FLBitmap: BitPattern, SLBitmap: BitPattern, const FLLEN: usize, const SLLEN
         requires { IsSome (align_at self.old.state (at addr)) }
         ensures* writes_back { sem 𝓛 (lends_payload FLBitmap.row SLBitmap.row FLLEN.row SLLEN.row FLBitmap.BitPattern SLBitmap.BitPattern self.entry (at addr) result) }
         ensures value { result.now ≡ bytes_at self.old.state (at addr) }
-        ensures step { (w : List ℕ) → length w ≡ length result.now
+        ensures meaning { (w : List ℕ) → length w ≡ length result.now
             → Steps FLLEN SLLEN self.old (written self.old (at addr) (length result.now) w) (Fills self.old.state (at addr) w) }
-        ensures result { (w : List ℕ) → IsLeft self.old.state (written self.old (at addr) (length result.now) w).state (at addr) (length result.now) w }
+        ensures filled { (w : List ℕ) → length w ≡ length result.now → bytes_at (written self.old (at addr) (length result.now) w).state (at addr) ≡ w }
         ensures bytes { (w : List ℕ) (a : ℕ) → a ≢ at addr → bytes_at (written self.old (at addr) (length result.now) w).state a ≡ bytes_at self.old.state a }
-        ensures bounds { (w : List ℕ) → KeepsAllBounds SLLEN self.old.state (written self.old (at addr) (length result.now) w).state }
-        ensures frame { (w : List ℕ) → LeavesRest FLLEN SLLEN self.old (written self.old (at addr) (length result.now) w) }
+        ensures aligns { (w : List ℕ) → align_at (written self.old (at addr) (length result.now) w).state ≡ align_at self.old.state }
+        ensures count { (w : List ℕ) → live_count (written self.old (at addr) (length result.now) w).state ≡ live_count self.old.state }
+        ensures bounds { (w : List ℕ) (count size align : ℕ) → IsSizedFor SLLEN count size align self.old.state
+            → IsSizedFor SLLEN count size align (written self.old (at addr) (length result.now) w).state }
+        ensures lengths { (w : List ℕ) → length (bytes_at (written self.old (at addr) (length result.now) w).state (at addr)) ≡ length result.now }
+        ensures rest { (w : List ℕ) → LeavesRest FLLEN SLLEN self.old (written self.old (at addr) (length result.now) w) }
     {
         let range = load_usable_bytes(&mut self.memory.inner, addr.get());
         self.memory.slice_mut(range)

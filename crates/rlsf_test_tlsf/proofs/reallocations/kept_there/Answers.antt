@@ -13,7 +13,7 @@ bounds-payload-offset c =
 pub returns : goal.returns
 returns c =
     let n = length c.payload_mut.result.now in
-    let filled = (c.payload_mut.ensures.result c.fill.new.self).filled c.fill.ensures.len ∙ c.fill.ensures.after (λ y e. e) in
+    let filled = c.payload_mut.ensures.filled c.fill.new.self c.fill.ensures.len ∙ c.fill.ensures.after (λ y e. e) in
     let (to, is) = where_some c.reallocate_no_move.result _ c.if-is_none.ensures c.reallocate_no_move.ensures.result in
     ap (λ bs. get_or bs c.args.offset 0) c.payload.ensures
     ∙ kept_byte _ _ n c.args.byte c.args.offset filled is.kept (omega (arith, ap length c.payload_mut.ensures.value, c.in_ok-addr.ensures.result.sized, c.requires))

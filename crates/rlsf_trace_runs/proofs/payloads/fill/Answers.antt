@@ -23,10 +23,10 @@ returns g c = record {
       let p = c.in-Some.payload in
       let w = c.fill.new.self in
       let (u, owns, holds, long) = owned at c.args.name p (sym c.payload_of.ensures.value ∙ c.in-Some.is) in
-      let (t, step, stands, keeps) = stepped at.stands _ (λ x. Fills x (address p) w) (c.payload_mut.ensures.step w c.fill.ensures.len) in
+      let (t, step, stands, keeps) = stepped at.stands _ (λ x. Fills x (address p) w) (c.payload_mut.ensures.meaning w c.fill.ensures.len) in
       let whole = ap length (c.payload_mut.ensures.value ∙ bytes_in at.stands (address p) u holds) ∙ long in
       let bytes = c.fill.ensures.after (λ y e. e) ∙ ap (λ n. replicate n c.args.byte) whole in
       let fills = subst (λ l. Fills s.machine u.payload l t) bytes (subst (λ a. Fills s.machine a w t) (sym holds.1) step) in
-      (with_machine s t, (u, owns, t, fills, refl), IsAt-filled at (c.payload_mut.ensures.frame w).1 t stands (address p) w step, keeps);
-  place = (c.payload_mut.ensures.frame c.fill.new.self).1;
+      (with_machine s t, (u, owns, t, fills, refl), IsAt-filled at (c.payload_mut.ensures.rest w).1 t stands (address p) w step, keeps);
+  place = (c.payload_mut.ensures.rest c.fill.new.self).1;
 }

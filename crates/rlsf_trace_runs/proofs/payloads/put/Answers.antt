@@ -43,14 +43,14 @@ returns g c = record {
       let bytes = c.payload.ensures ∙ bytes_in at.stands (address c.in-Some.payload) u holds in
       let lent = c.payload_mut.ensures.value ∙ bytes_in at.stands (address p) u holds in
       let (t, step, stands, keeps) =
-      stepped at.stands _ (λ x. Fills x (address p) w) (c.payload_mut.ensures.step w (length-set c.payload_mut.result.now c.args.offset c.args.byte)) in
+      stepped at.stands _ (λ x. Fills x (address p) w) (c.payload_mut.ensures.meaning w (length-set c.payload_mut.result.now c.args.offset c.args.byte)) in
       let fills =
       subst (λ a. Fills s.machine a (slice_set u.bytes c.args.offset c.args.byte) t) (sym holds.1)
       (subst (λ l. Fills s.machine (address p) (slice_set l c.args.offset c.args.byte) t) lent step) in (
         with_machine s t,
         (u, owns, omega (arith, c.if-offset-payload.false, ap length bytes, long), t, fills, refl),
-        IsAt-filled at (c.payload_mut.ensures.frame w).1 t stands (address p) w step,
+        IsAt-filled at (c.payload_mut.ensures.rest w).1 t stands (address p) w step,
         keeps,
       );
-  place = (c.payload_mut.ensures.frame (slice_set c.payload_mut.result.now c.args.offset c.args.byte)).1;
+  place = (c.payload_mut.ensures.rest (slice_set c.payload_mut.result.now c.args.offset c.args.byte)).1;
 }

@@ -22,8 +22,8 @@ long g c = ap (λ (l : List ℕ). length l) c.fill_all.ensures ∙ length-replic
 pub invariant_of-self : goal.invariant_of-self
 invariant_of-self g c =
     let w = c.fill_all.new.bytes in
-    let (chunks, place, stands, touches, copied) = c.payload_mut.ensures.frame w in
-    unchanged c.self.invariant (written c.self.inside.heap (at c.args.addr) (length c.payload_mut.result.now) w) stands place chunks ((c.payload_mut.ensures.result w).aligns)
+    let (chunks, place, stands, touches, copied) = c.payload_mut.ensures.rest w in
+    unchanged c.self.invariant (written c.self.inside.heap (at c.args.addr) (length c.payload_mut.result.now) w) stands place chunks (c.payload_mut.ensures.aligns w)
 
 pub returns-in_default : goal.returns-in_default
 returns-in_default g c =
@@ -46,17 +46,17 @@ returns g c =
     let addr = at c.args.addr in
     let k = (goal.at.returns g c).After-fill_all in
     let w = c.fill_all.new.bytes in
-    let (chunks, place, stands, touches, copied) = did.frame w in
+    let (chunks, place, stands, touches, copied) = did.rest w in
     rw (← c.self.view_is) (record {
       answer = ap (λ o. if_live o tt) live;
       step =
           subst (λ b. Steps g.row.FLLEN g.row.SLLEN heap (written heap addr (length c.payload_mut.result.now) w) (Fills heap.state addr b)) (over g k)
-          (did.step w (long g k));
-      filled = (did.result w).filled (long g k) ∙ over g k;
+          (did.meaning w (long g k));
+      filled = did.filled w (long g k) ∙ over g k;
       only = record {
-        aligns = (did.result w).aligns;
+        aligns = did.aligns w;
         bytes = did.bytes w;
-        count = (did.result w).count;
+        count = did.count w;
         bounds = did.bounds w;
         same = tt;
         pool = refl;

@@ -21,8 +21,8 @@ over g c = c.write_at.ensures.bytes ∙ ap (λ l. splice l c.args.offset (c.args
 pub invariant_of-self : goal.invariant_of-self
 invariant_of-self g c =
     let w = c.write_at.new.payload in
-    let (chunks, place, stands, touches, copied) = c.payload_mut.ensures.frame w in
-    unchanged c.self.invariant (written c.self.inside.heap (at c.args.addr) (length c.payload_mut.result.now) w) stands place chunks ((c.payload_mut.ensures.result w).aligns)
+    let (chunks, place, stands, touches, copied) = c.payload_mut.ensures.rest w in
+    unchanged c.self.invariant (written c.self.inside.heap (at c.args.addr) (length c.payload_mut.result.now) w) stands place chunks (c.payload_mut.ensures.aligns w)
 
 -- whether they fit
 reach : (g : given.Over) (c : After-reaches g)
@@ -71,7 +71,7 @@ returns g c =
     let heap = c.self.inside.heap in
     let addr = at c.args.addr in
     let w = c.write_at.new.payload in
-    let (chunks, place, stands, touches, copied) = did.frame w in
+    let (chunks, place, stands, touches, copied) = did.rest w in
     let is = over g (goal.at.returns g c).After-write_at in
     rw (← c.self.view_is) (record {
       answer =
@@ -79,12 +79,12 @@ returns g c =
           (ap (λ b. cond b (Ok tt) (Err OutOfRange)) told);
       step =
           subst (λ b. Steps g.row.FLLEN g.row.SLLEN heap (written heap addr (length c.payload_mut.result.now) w) (Fills heap.state addr b)) is
-          (did.step w c.write_at.ensures.len);
-      written = (did.result w).filled c.write_at.ensures.len ∙ is;
+          (did.meaning w c.write_at.ensures.len);
+      written = did.filled w c.write_at.ensures.len ∙ is;
       only = record {
-        aligns = (did.result w).aligns;
+        aligns = did.aligns w;
         bytes = did.bytes w;
-        count = (did.result w).count;
+        count = did.count w;
         bounds = did.bounds w;
         same = tt;
         pool = refl;

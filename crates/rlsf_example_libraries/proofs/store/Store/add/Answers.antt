@@ -66,20 +66,20 @@ returns c = record {
         c.in-Ok.ensures.layout.0,
       ) in
       IsStore-filled before after (stored addr layout.align (asked_at c.allocate.new.self addr layout.size)) refl allocated
-      (written c.allocate.new.self addr (length lent) w) w front writes few (c.payload_mut.ensures.step w c.write_at.ensures.len) (c.payload_mut.ensures.frame w).1)));
+      (written c.allocate.new.self addr (length lent) w) w front writes few (c.payload_mut.ensures.meaning w c.write_at.ensures.len) (c.payload_mut.ensures.rest w).1)));
   refused = search rules;
   room = search rules;
   enough = search rules;
   place =
       let first = c.in_ok-addr.ensures.frame.place in
-      let then = (c.payload_mut.ensures.frame c.write_at.new.payload).1 in
+      let then = (c.payload_mut.ensures.rest c.write_at.new.payload).1 in
       subst (λ (old : StoreContents). SamePlace old.heap.memory
       (written c.allocate.new.self (non_zero_usize_get c.in_ok-addr.addr) (length c.payload_mut.result.now) c.write_at.new.payload).memory) c.self.view_is
       (then.0 ∙ first.0, then.1 ∙ first.1, then.2 ∙ first.2, λ none. then.3 (first.3 none));
   touches =
       subst (λ (old : StoreContents). (written c.allocate.new.self (non_zero_usize_get c.in_ok-addr.addr)
       (length c.payload_mut.result.now) c.write_at.new.payload).memory.touches ≤ old.heap.memory.touches + 30) c.self.view_is
-      (omega (arith, c.in_ok-addr.ensures.touches, (c.payload_mut.ensures.frame c.write_at.new.payload).3));
+      (omega (arith, c.in_ok-addr.ensures.touches, (c.payload_mut.ensures.rest c.write_at.new.payload).3));
 }
 
 pub write_at-requires : goal.write_at-requires

@@ -72,7 +72,7 @@ returns c = record {
         length-replicate {A = ℕ} layout.size 0,
       ) in
       IsStore-filled before after (stored addr layout.align (asked_at c.allocate.new.self addr layout.size)) refl allocated
-      (written c.allocate.new.self addr (length lent) w) w front begins few (c.payload_mut.ensures.step w c.fill.ensures.len) (c.payload_mut.ensures.frame w).1));
+      (written c.allocate.new.self addr (length lent) w) w front begins few (c.payload_mut.ensures.meaning w c.fill.ensures.len) (c.payload_mut.ensures.rest w).1));
   refused = search rules;
   room = search rules;
   enough = search rules;
@@ -88,15 +88,15 @@ returns c = record {
       (λ places (all, store, at) small d is.
       let stands = (opened 59 8 h c.allocate.new.self (Allocates 8 h.state layout.size layout.align (Some addr)) c.in_ok-addr.ensures.step).1 in
       let first = KeepsUniform-allocated h store.stands c.allocate.new.self layout.size layout.align (Some addr) layout.valid.aligned small c.in_ok-addr.ensures.step d is in
-      KeepsUniform-filled c.allocate.new.self stands last addr len w (c.payload_mut.ensures.step w c.fill.ensures.len) d first);
+      KeepsUniform-filled c.allocate.new.self stands last addr len w (c.payload_mut.ensures.meaning w c.fill.ensures.len) d first);
   place =
       let first = c.in_ok-addr.ensures.frame.place in
-      let then = (c.payload_mut.ensures.frame c.fill.new.self).1 in
+      let then = (c.payload_mut.ensures.rest c.fill.new.self).1 in
       subst (λ (old : StoreContents). SamePlace old.heap.memory
       (written c.allocate.new.self (non_zero_usize_get c.in_ok-addr.addr) (length c.payload_mut.result.now) c.fill.new.self).memory) c.self.view_is
       (then.0 ∙ first.0, then.1 ∙ first.1, then.2 ∙ first.2, λ none. then.3 (first.3 none));
   touches =
       subst (λ (old : StoreContents). (written c.allocate.new.self (non_zero_usize_get c.in_ok-addr.addr)
       (length c.payload_mut.result.now) c.fill.new.self).memory.touches ≤ old.heap.memory.touches + 30) c.self.view_is
-      (omega (arith, c.in_ok-addr.ensures.touches, (c.payload_mut.ensures.frame c.fill.new.self).3));
+      (omega (arith, c.in_ok-addr.ensures.touches, (c.payload_mut.ensures.rest c.fill.new.self).3));
 }

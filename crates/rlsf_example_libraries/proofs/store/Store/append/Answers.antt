@@ -66,20 +66,20 @@ returns c = record {
       let few : length w < length (k.bytes ++ more) + 32 =
       omega (arith, c.write_at.ensures.len, ap length c.payload_mut.ensures.value, c.in_ok-to.ensures.result.few, c.in-Ok.ensures.layout.0, c.in_ok-size.ensures, new_len) in
       let stores = IsStore-filled front back moved refl resized (written c.reallocate.new.self to (length lent) w) w (k.bytes ++ more) writes few
-      (c.payload_mut.ensures.step w c.write_at.ensures.len) (c.payload_mut.ensures.frame w).1 in
+      (c.payload_mut.ensures.meaning w c.write_at.ensures.len) (c.payload_mut.ensures.rest w).1 in
       (stored to k.align (k.bytes ++ more), stores, ap (λ n. place to n (length (k.bytes ++ more))) aligned ∙ ap (place to 1) new_len, ap (λ bs. bs ++ more) are)));
   refused = search rules;
   enough = search rules;
   place =
       let first = c.in_ok-to.ensures.frame.place in
-      let then = (c.payload_mut.ensures.frame c.write_at.new.payload).1 in
+      let then = (c.payload_mut.ensures.rest c.write_at.new.payload).1 in
       subst (λ (old : StoreContents). SamePlace old.heap.memory
       (written c.reallocate.new.self (non_zero_usize_get c.in_ok-to.to) (length c.payload_mut.result.now) c.write_at.new.payload).memory) c.self.view_is
       (then.0 ∙ first.0, then.1 ∙ first.1, then.2 ∙ first.2, λ none. then.3 (first.3 none));
   touches =
       subst (λ (old : StoreContents). (written c.reallocate.new.self (non_zero_usize_get c.in_ok-to.to)
       (length c.payload_mut.result.now) c.write_at.new.payload).memory.touches ≤ old.heap.memory.touches + 69) c.self.view_is
-      (omega (arith, c.in_ok-to.ensures.touches, (c.payload_mut.ensures.frame c.write_at.new.payload).3));
+      (omega (arith, c.in_ok-to.ensures.touches, (c.payload_mut.ensures.rest c.write_at.new.payload).3));
 }
 
 pub write_at-requires : goal.write_at-requires

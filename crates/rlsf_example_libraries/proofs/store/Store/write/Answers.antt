@@ -58,7 +58,7 @@ returns c = record {
         length-splice k.bytes bytes offset (length bytes) within refl,
       ) in
       let stores = IsStore-filled front back k k_at store (written c.self.inside.heap addr (length lent) w) w now writes few
-      (c.payload_mut.ensures.step w c.write_at.ensures.len) (c.payload_mut.ensures.frame w).1 in
+      (c.payload_mut.ensures.meaning w c.write_at.ensures.len) (c.payload_mut.ensures.rest w).1 in
       (stored k.addr k.align now, stores, same, ap (λ bs. splice bs offset end bytes) are)));
   uniform =
       let h = c.self.inside.heap in
@@ -66,7 +66,7 @@ returns c = record {
       let w = c.write_at.new.payload in
       let last = written h addr (length c.payload_mut.result.now) w in
       subst (λ (old : StoreContents). (places : List Place) (len : ℕ) → KeepsAt old places → KeepsUniform old.heap.state last.state len) c.self.view_is
-      (λ places len (all, store, at) d is. KeepsUniform-filled h store.stands last addr len w (c.payload_mut.ensures.step w c.write_at.ensures.len) d is);
+      (λ places len (all, store, at) d is. KeepsUniform-filled h store.stands last addr len w (c.payload_mut.ensures.meaning w c.write_at.ensures.len) d is);
   place = search rules;
   touches = search rules;
 }

@@ -14,7 +14,7 @@ invariant_of-self-lent g c = λ w.
     let addr = at c.args.addr in
     let live = subst (λ (old : FlexContents g.row.S.Denot). IsSome (align_at old.state.machine addr)) (sym c.self.view_is) c.requires in
     let whole = c.self.invariant.whole in
-    let place = (c.payload_mut.ensures.frame w).1 in
+    let place = (c.payload_mut.ensures.rest w).1 in
     let stands = left c.self.invariant.stands addr w live (length c.payload_mut.result.now) (ap length c.payload_mut.ensures.value) place whole in
     record { valid = c.self.invariant.valid; stands = stands; whole = place.3 whole }
 
@@ -30,16 +30,16 @@ returns g c =
         writes_back = tt;
         value = is.value;
         meaning =
-            λ w long. steps_alone stands (written c.self.inside.parts.tlsf addr (length c.payload_mut.result.now) w) _ (is.frame w).1 c.self.invariant.whole (is.frame w).0
-            (is.step w long);
-        filled = λ w. (is.result w).filled;
+            λ w long. steps_alone stands (written c.self.inside.parts.tlsf addr (length c.payload_mut.result.now) w) _ (is.rest w).1 c.self.invariant.whole (is.rest w).0
+            (is.meaning w long);
+        filled = is.filled;
         bytes = is.bytes;
-        aligns = λ w. (is.result w).aligns;
-        count = λ w. (is.result w).count;
+        aligns = is.aligns;
+        count = is.count;
         bounds = is.bounds;
-        lengths = λ w. (is.result w).lengths;
+        lengths = is.lengths;
         rest = λ w.
-            let (chunks, place, stood, touches, copied) = is.frame w in (
+            let (chunks, place, stood, touches, copied) = is.rest w in (
               chunks,
               refl,
               refl,

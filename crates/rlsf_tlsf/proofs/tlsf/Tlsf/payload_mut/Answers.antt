@@ -53,17 +53,15 @@ returns g c =
       record {
         writes_back = tt;
         value = is.bytes ∙ sym (bytes_at-held (IsAllocator-opened c.self-inside.view_is c.self.invariant).stands.well_formed addr u holds);
-        step = λ w. (left w).meaning;
-        result = λ w. record {
-          filled = (left w).filled;
-          lengths =
-              (left w).lengths ∙ ap length (bytes_at-held (IsAllocator-opened c.self-inside.view_is c.self.invariant).stands.well_formed addr u holds)
-              ∙ ap length (sym is.bytes);
-          aligns = (left w).aligns;
-          count = (left w).count;
-        };
+        meaning = λ w. (left w).meaning;
+        filled = λ w. (left w).filled;
         bytes = λ w. (left w).bytes;
+        aligns = λ w. (left w).aligns;
+        count = λ w. (left w).count;
         bounds = λ w. (left w).bounds;
-        frame = λ w. (left w).rest;
+        lengths =
+            λ w. (left w).lengths ∙ ap length (bytes_at-held (IsAllocator-opened c.self-inside.view_is c.self.invariant).stands.well_formed addr u holds)
+            ∙ ap length (sym is.bytes);
+        rest = λ w. (left w).rest;
       },
     )
