@@ -10,7 +10,7 @@ import sys
 
 from measuring import traces
 from measuring.allocators import chosen, compiled, others, pools, title
-from measuring.options import ROOT
+from measuring.options import ROOT, missing
 from measuring.programs import PROGRAMS, kept
 
 
@@ -53,6 +53,8 @@ def row(name, body, allocators, program, options, folder):
 
 
 def measure(options, folder: pathlib.Path):
+    if not pathlib.Path("/proc/self/smaps_rollup").exists():
+        return missing("all of it", "only Linux counts the pages, in /proc/self/smaps_rollup")
     if options.quick:
         options.runs = 1
     program = compiled([ROOT / "tools/measuring/resident.c"], folder / "resident")
