@@ -5,6 +5,12 @@ use std::fmt;
 /// The bytes of a block before its payload, where no alignment asks for more.
 const HEADER: u128 = 16;
 
+/// The hues of sixteen first-level rows that follow one another, in degrees. To the eye they are about equally far apart, and those of
+/// neighbouring rows are far apart. Only payloads have a hue: all else that is drawn is black, white or grey.
+const HUES: [u128; 16] = [
+    0, 179, 311, 106, 263, 48, 219, 20, 193, 335, 154, 283, 74, 233, 34, 206,
+];
+
 /// The size class of the block of a payload.
 #[derive(Clone, Copy)]
 pub(crate) struct Class {
@@ -25,6 +31,22 @@ impl Class {
         let part = len.saturating_sub(least).saturating_mul(classes) / least;
         Class { row, part, classes }
     }
+
+    /// Whether it is the class of the block of a payload with so many usable bytes.
+    pub(crate) fn has(self, usable: usize) -> bool {
+        let class = Class::of(usable, self.classes);
+        class.row == self.row && class.part == self.part
+    }
+
+    // The hue of its first-level row, in degrees.
+    fn hue(self) -> u128 {
+        HUES[(self.row % 16) as usize]
+    }
+
+    // How light it is, in percent. Later classes of a first-level row are lighter.
+    fn light(self) -> u128 {
+        40u128.saturating_add(self.part.saturating_mul(30) / self.classes.max(1))
+    }
 }
 
 /// What is drawn.
@@ -44,11 +66,9 @@ impl fmt::Display for Colour {
         match *self {
             Colour::Free => f.write_str("#eeeeee"),
             Colour::Sentinel => f.write_str("#444444"),
-            Colour::Class(Class { row, part, classes }) => {
-                // First-level rows that follow one another are far apart on the circle of hues. Later classes of a row are lighter.
-                let hue = (row as u128).saturating_mul(67) % 360;
-                let light = 42u128.saturating_add(part.saturating_mul(30) / classes.max(1));
-                write!(f, "hsl({hue},65%,{light}%)")
+            Colour::Class(class) => {
+                let (hue, light) = (class.hue(), class.light());
+                write!(f, "hsl({hue},75%,{light}%)")
             }
         }
     }

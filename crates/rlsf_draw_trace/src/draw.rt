@@ -5,24 +5,23 @@ use crate::colour::{Class, Colour};
 use crate::legend::{LeftOut, Legend, print_denied_list, print_pool_list};
 use crate::pools::Pool;
 use crate::scale::{HEIGHT, Scale, TOP, Tenths};
+use crate::swatches::print_swatches;
 use crate::window::Window;
 use rlsf_trace_runs::BlockInfo;
 use std::alloc::{AllocError, Global};
 
-/// What is drawn, and how.
-const KINDS: &str = "<rect x='40' y='612' width='14' height='14' fill='hsl(42,65%,42%)'/>
-<text x='58' y='624'>payload of a used block</text>
-<rect x='250' y='612' width='14' height='14' fill='#eeeeee'/>
-<text x='268' y='624'>free block, or the header of a used block</text>
-<rect x='580' y='618' width='14' height='1.5' fill='#444444'/>
-<text x='598' y='624'>sentinel: the end of a chunk</text>
-<rect x='830' y='613' width='1.5' height='12' fill='red'/>
-<text x='838' y='624'>a call that finds no room</text>
+/// What is drawn beside payloads, and how.
+const KINDS: &str = "<rect x='40' y='612' width='14' height='14' fill='#eeeeee'/>
+<text x='58' y='624'>free block, or the header of a used block</text>
+<rect x='380' y='618' width='14' height='1.5' fill='#444444'/>
+<text x='398' y='624'>sentinel: the end of a chunk</text>
+<rect x='636' y='613' width='1.5' height='12' fill='black'/>
+<text x='644' y='624'>a call that finds no room</text>
 ";
 
 /// What the colours mean, and the end of the drawing.
 const FOOT: &str =
-    "<text x='40' y='752'>colour: the size class of the used block. 2^n: from 2^n bytes to less than twice as many; longer blocks are lighter</text>
+    "<text x='40' y='752'>coloured: the payload of a used block. 2^n: its block has from 2^n bytes to less than twice as many; longer blocks are lighter</text>
 </svg>
 ";
 
@@ -46,15 +45,15 @@ pub(crate) struct Scene<'a> {
 /// The complete drawing, as SVG.
 pub(crate) fn drawing(alloc: Global, scene: &Scene) -> Result<String, AllocError> {
     let mut text = String::new(alloc);
-    print_drawing(&mut text, scene)?;
+    print_drawing(alloc, &mut text, scene)?;
     Ok(text)
 }
 
-fn print_drawing(text: &mut String, scene: &Scene) -> Result<(), AllocError> {
+fn print_drawing(alloc: Global, text: &mut String, scene: &Scene) -> Result<(), AllocError> {
     print_head(text, scene.window)?;
     print_shapes(text, scene)?;
     print_legend(text, scene)?;
-    print_colours(text, scene.boxes)?;
+    print_swatches(alloc, text, scene.boxes, scene.legend.classes)?;
     text.push_str(FOOT)
 }
 
@@ -124,10 +123,11 @@ fn print_box(
     let addrs = (low, low + len as u128);
     let fill = Colour::Class(Class::of(len, classes));
     let rect = scale.rect((since, until), addrs, fill);
+    let outline = rect.outline();
     let line = since as u128 + 2;
     writeln!(
         text,
-        "{rect} stroke='white' stroke-width='0.3'><title>{name}: {len} bytes at {addr}, from line {line}</title></rect>"
+        "{rect}{outline}><title>{name}: {len} bytes at {addr}, from line {line}</title></rect>"
     )
 }
 
@@ -151,14 +151,14 @@ fn print_sentinels(
     Ok(())
 }
 
-// A red line below the addresses for each call that found no room.
+// A black line below the addresses for each call that found no room.
 fn print_denied(text: &mut String, scale: Scale, denied: &[usize]) -> Result<(), AllocError> {
     let y = Tenths(TOP + HEIGHT + 20);
     for index in denied {
         let x = Tenths(scale.x(*index));
         writeln!(
             text,
-            "<rect x='{x}' y='{y}' width='1.5' height='12' fill='red'/>"
+            "<rect x='{x}' y='{y}' width='1.5' height='12' fill='black'/>"
         )?;
     }
     Ok(())
@@ -203,36 +203,5 @@ fn print_title(text: &mut String, window: Window, legend: Legend) -> Result<(), 
     writeln!(
         text,
         "{KINDS}<text x='40' y='25'>{configuration}, {window}{left_out}</text>"
-    )
-}
-
-// The colours of the first-level rows that the drawing shows.
-fn print_colours(text: &mut String, boxes: &[PayloadBox]) -> Result<(), AllocError> {
-    let mut x = 400;
-    for row in 5..64 {
-        if boxes
-            .iter()
-            .any(|payload| Class::of(payload.len, 1).row == row)
-        {
-            print_colour(text, x, row)?;
-            x = x.saturating_add(700);
-        }
-    }
-    Ok(())
-}
-
-// The colour of a first-level row, and its name beside it.
-fn print_colour(text: &mut String, x: u128, row: u32) -> Result<(), AllocError> {
-    let class = Class {
-        row,
-        part: 0,
-        classes: 1,
-    };
-    let (left, fill) = (Tenths(x), Colour::Class(class));
-    let beside = Tenths(x.saturating_add(180));
-    writeln!(
-        text,
-        "<rect x='{left}' y='712' width='14' height='14' fill='{fill}'/>
-<text x='{beside}' y='724'>2^{row}</text>"
     )
 }

@@ -2,7 +2,7 @@
 //! right, addresses upwards. `rlsf_draw_trace FIRST LAST` draws the calls of these lines of the trace.
 //!
 //! Read `map.rt` first: it reads and runs the trace. `window.rt` selects calls, `pools.rt` and `boxes.rt` find what is drawn, and
-//! `draw.rt` draws it. `scale.rt` and `colour.rt` have places and colours, and `legend.rt` the text.
+//! `draw.rt` draws it. `scale.rt` and `colour.rt` have places and colours, `legend.rt` and `swatches.rt` what is beside the drawing.
 #![tactic(auto)]
 
 mod boxes;
@@ -12,6 +12,7 @@ mod legend;
 mod map;
 mod pools;
 mod scale;
+mod swatches;
 mod window;
 
 use map::map;

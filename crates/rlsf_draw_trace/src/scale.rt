@@ -25,6 +25,17 @@ pub(crate) struct Rect {
     fill: Colour,
 }
 
+impl Rect {
+    /// The outline of a box, as SVG has it. A low box has none, since its colour would be hidden.
+    pub(crate) fn outline(self) -> &'static str {
+        if self.height.0 < LEAST_OUTLINED {
+            ""
+        } else {
+            " stroke='white' stroke-width='0.3'"
+        }
+    }
+}
+
 impl fmt::Display for Rect {
     fn fmt<W: fmt::Write>(&self, f: &mut fmt::Formatter<W>) -> fmt::Result {
         let Rect {
@@ -53,6 +64,9 @@ pub(crate) const HEIGHT: u128 = 5200;
 
 // How thick a line is.
 const LINE: u128 = 15;
+
+// How high the lowest box with an outline is.
+const LEAST_OUTLINED: u128 = 20;
 
 /// The calls and the addresses that the drawing shows.
 #[derive(Clone, Copy)]
