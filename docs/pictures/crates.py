@@ -46,7 +46,7 @@ LAYERS = [
         [(2, "rlsf_global", "behind one lock, for threads; a journal that explains all replies", True),
          (1, "rlsf_shared_heap", "Heap for threads"), (1, "rlsf_local_heap", "Heap for std's collections")],
         [(2, "rlsf_flex", "FlexTlsf: memory from a source; two sources"), (1, "rlsf_checked", "errors in place of conditions"),
-         (2, "rlsf_heap", "Heap: payloads own their bytes", True)],
+         (2, "rlsf_heap", "Heap: payloads own their bytes")],
         [(1, "rlsf_tlsf", "Tlsf: the allocator over one memory; the work of each call has a bound")],
     ]),
     ("Parts", "of an allocator's calls", "#d9efd9", [
