@@ -31,7 +31,8 @@ pub use Rattle.rlsf_model.specs.FlexReallocate.{FlexReallocates}
 pub use Rattle.rlsf_model.specs.FlexState.{FlexState, KeptPool}
 pub use Rattle.rlsf_model.specs.Note.{Note, LeadsBy}
 pub use Rattle.rlsf_model.specs.Terms.{IsGiven, IsGrown, Terms}
-pub use Rattle.rlsf_flex.specs.Deallocations.{IsFlexDeallocation}
 pub use Rattle.rlsf_flex.specs.Laws.{FlexStatesAreWellFormed, FlexWordsReadNoPayload}
 pub use Rattle.rlsf_flex.specs.Outside.{IsOutside, KeepsOutside, NothingGoesBack, ever_owed}
+pub use Rattle.rlsf_flex.specs.Results.{IsUnchangedButSource, KeepsFlexFrame, KeepsFlexFrameAlone, KeepsFlexFrameCopying, KeepsFlexFrameInPlace}
+pub use Rattle.rlsf_flex.specs.Results.{KeepsFlexFrameMoving, KeepsFlexFrameOfTrim, SizesFreedRoom, SucceedsUnasked}
 pub use Rattle.rlsf_flex.specs.StandsFor.{FlexContents, FlexStands, FlexSteps, StepsAlone}

@@ -1,5 +1,5 @@
 -- An allocation of the allocator over a source.
-use Rattle.std.proofs.Common.{◌≡◌, ℕ, Bool, true, false, true≢false, List, [], Option, Some, None, IfNone, IfSome, refl, sym, ◌∙◌, ap, subst, inl, inr}
+use Rattle.std.proofs.Common.{◌≡◌, ℕ, Bool, true, false, true≢false, List, [], Option, Some, None, IfNone, refl, sym, ◌∙◌, ap, subst, inl, inr}
 use Rattle.std.proofs.lemmas.Option.{none-some}
 use Rattle.rlsf_base.specs.declared.memory.range.Range.{Range}
 use Rattle.rlsf_base.specs.SizeClass.{IsValid}
@@ -28,11 +28,6 @@ use Rattle.rlsf_flex.proofs.Outside.{KeepsOutside-alone, KeepsOutside-asked}
 use Rattle.rlsf_flex.proofs.OutsideNow.{KeepsOutsideNow-stands, KeepsOutsideNow-then}
 use Rattle.rlsf_flex.proofs.SpareBytes.{KeepsSpareButFooter-all, KeepsSpareButFooter-before, KeepsSpareButFooter-behind}
 use Rattle.rlsf_flex.proofs.InnerAllocator.{opened}
-
--- what holds of the value wherever there is one
-pub for_some : {A : Type 0} {P : A → Type 0} (o : Option A) → ((x : A) → o ≡ Some x → P x) → IfSome o P
-for_some None holds = tt
-for_some (Some x) holds = holds x refl
 
 -- what there is a value of isn't none
 pub not_none : {A : Type 0} (P : Type 0) (o : Option A) → (o ≡ None → ⊥) → IfNone o P

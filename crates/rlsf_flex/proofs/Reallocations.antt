@@ -5,18 +5,20 @@ use Rattle.rlsf_base.specs.declared.memory.range.Range.{Range}
 use Rattle.rlsf_base.specs.Sizes.{pool_size_to_contain_allocation}
 use Rattle.rlsf_base.specs.Space.{SamePlace}
 use Rattle.rlsf_tlsf.specs.Allocator.{Allocator, Steps}
+use Rattle.rlsf_tlsf.specs.Results.{IsReallocated}
 use Rattle.rlsf_blocks.specs.Spare.{KeepsSpare}
 use Rattle.rlsf_flex.specs.Steps.Outside.{KeepsOutsideNow}
 use Rattle.rlsf_flex.specs.StandsFor.{FlexContents, FlexStandsFor, FlexSteps, allocator_of, with_allocator}
 use Rattle.rlsf_flex.specs.Steps.Growth.{Extended, MovesTo}
 use Rattle.rlsf_model.specs.Allocate.{Allocates}
+use Rattle.rlsf_model.specs.Callers.{align_at, bytes_at}
 use Rattle.rlsf_model.specs.FlexAllocate.{Asks, FlexAllocates}
 use Rattle.rlsf_model.specs.FlexReallocate.{FlexReallocates, IsStuck}
 use Rattle.rlsf_model.specs.FlexState.{FlexState, with_machine}
 use Rattle.rlsf_model.specs.Growth.{refused}
 use Rattle.rlsf_model.specs.Lists.{IsIn}
 use Rattle.rlsf_model.specs.Note.{Note}
-use Rattle.rlsf_model.specs.Reallocate.{MovesAway, Plan, Reallocates, ReallocatesBy, in_place, into_next, into_previous, or_else, plan}
+use Rattle.rlsf_model.specs.Reallocate.{Keeps, MovesAway, Plan, Reallocates, ReallocatesBy, in_place, into_next, into_previous, or_else, plan}
 use Rattle.rlsf_model.specs.State.{State, Used, usable, Holds, IsLive}
 use Rattle.rlsf_model.specs.Terms.{Terms}
 use Rattle.rlsf_model.specs.WellFormed.{IsWellFormed}
@@ -75,6 +77,19 @@ moved_elsewhere : {fllen sllen : ℕ} {memory : Range} {s : State} → IsWellFor
     → MovesAway sllen s u size to t → to ≢ u.payload
 moved_elsewhere {fllen} {sllen} {memory} {s} w u i size to t moves same =
     (handed_out_is_new fllen sllen memory s moves.meanwhile size u.align to w (w.used u i).power moves.allocated).0 u.align (u, (i, sym same), refl)
+
+-- a reallocated payload, by another state before in which callers see the same
+pub IsReallocated-before : (s t after : State) (addr size align to : ℕ) → align_at s ≡ align_at t → bytes_at s ≡ bytes_at t
+    → IsReallocated s after addr size align to → IsReallocated t after addr size align to
+IsReallocated-before s t after addr size align to aligns bytes is = record {
+  live = is.live;
+  sized = is.sized;
+  few = is.few;
+  kept = subst (λ (before : ℕ → List ℕ). Keeps (before addr) (bytes_at after to)) bytes is.kept;
+  new = λ off. sym (ap (λ (f : ℕ → Option ℕ). f to) aligns) ∙ is.new off;
+  aligns = λ a from new. is.aligns a from new ∙ ap (λ (f : ℕ → Option ℕ). f a) aligns;
+  bytes = λ a from new. is.bytes a from new ∙ ap (λ f. f a) bytes;
+}
 
 -- where an allocation over a source is refused, the reallocation is
 pub refused_too : {S : Type 0} (fllen sllen : ℕ) (terms : S → Terms) (owes : S → List Range → Type 0) (leads : S → Note → S → Type 0) (v after : FlexContents S)

@@ -32,6 +32,9 @@ use rlsf_tlsf::Tlsf;
 use std::marker::{Model, PhantomData};
 
 /// An allocator over a source: it asks the source for memory when it has no room.
+///
+/// The documentation of a call bounds its cost in word accesses, as that of `Tlsf` defines them. A call that inserts memory from the source has
+/// no such bound.
 pub struct FlexTlsf<
     S: FlexSource,
     FLBitmap: BitPattern,
@@ -68,15 +71,18 @@ impl<
     const SLLEN: usize,
 > FlexTlsf<S, FLBitmap, SLBitmap, FLLEN, SLLEN> {
     ghost use Rattle.rlsf_tlsf.specs.Bounds.{IfWithinBounds, KeepsAllBounds, KeepsBounds};
-    ghost use Rattle.rlsf_flex.specs.Deallocations.{IsFlexDeallocation};
+    ghost use Rattle.rlsf_tlsf.specs.Results.{IsAllocated, IsDeallocated, IsFilled, IsReallocated, IsResized};
     ghost use Rattle.rlsf_flex.specs.Lending.{LeavesRest, lends_payload, written};
-    ghost use Rattle.rlsf_tlsf.specs.Results.{IsAllocated};
+    ghost use Rattle.rlsf_flex.specs.Results.{IsUnchangedButSource, KeepsFlexFrame, KeepsFlexFrameAlone, KeepsFlexFrameCopying};
+    ghost use Rattle.rlsf_flex.specs.Results.{KeepsFlexFrameInPlace, KeepsFlexFrameMoving, KeepsFlexFrameOfTrim, SizesFreedRoom, SucceedsUnasked};
     ghost use Rattle.rlsf_flex.specs.StandsFor.{FillsAlone, FlexStands, FlexSteps, StepsAlone};
 
     /// Creates an allocator over the memory and a source of ranges of it. It asks for nothing yet.
     ///
     /// The parameters are valid. `FLLEN` is between 1 and the number of bits of `FLBitmap`. `SLLEN` is a power of two and at most the
     /// number of bits of `SLBitmap`. Nothing is outstanding at the source, and the space of the source lies in the memory.
+    ///
+    /// Takes time proportional to the number of classes, and accesses no word of the memory.
     pub fn new(memory: Memory, source: S) -> Self
         requires valid { IsValid FLBitmap.width SLBitmap.width FLLEN SLLEN }
         requires nothing_owed { S.owes source [] }
@@ -115,6 +121,8 @@ impl<
     }
 
     /// Makes a change of the source once, and returns its result. Nothing else changes.
+    ///
+    /// Accesses no word of the memory.
     pub fn source_mut_unchecked<C: SourceChange<S>>(&mut self, change: C) -> C::Out
         ensures changes { C.changes change self.old.source result self.new.source }
         ensures terms { S.terms self.new.source ≡ S.terms self.old.source }
@@ -140,19 +148,17 @@ impl<
     /// newest range: it is written if memory came and the source takes ranges back.
     ///
     /// Never refuses a payload within bounds that the pools are sized for (`IsSizedFor`). Then the source is asked nothing.
+    ///
+    /// If there is room, completes in constant time: at most 27 word accesses, whatever the pools contain. No byte is copied.
     pub fn allocate(&mut self, layout: Layout) -> Option<Addr>
         ensures step { FlexSteps FLLEN SLLEN S.terms S.owes S.leads self.old self.new
             (FlexAllocates FLLEN SLLEN (S.terms self.old.source) self.old.state layout.size layout.align (reply result)) }
         ensures result { IfSome result (λ addr. IsAllocated self.old.state.machine self.new.state.machine layout.size layout.align (at addr)) }
-        ensures room { IfWithinBounds SLLEN self.old.state.machine layout.size layout.align (IsSome result) }
-        ensures unasked { IfWithinBounds SLLEN self.old.state.machine layout.size layout.align (self.new.source ≡ self.old.source) }
+        ensures room { SucceedsUnasked SLLEN self.old self.new layout.size layout.align (IsSome result) }
         ensures bounds { KeepsBounds SLLEN self.old.state.machine self.new.state.machine layout.size layout.align }
-        ensures same { IfNone result (self.new.state ≡ self.old.state) }
-        ensures refused { IfNone result (self.new.memory.bytes ≡ self.old.memory.bytes) }
-        ensures place { SamePlace self.old.memory self.new.memory }
+        ensures refused { IfNone result (IsUnchangedButSource self.old self.new) }
+        ensures frame { KeepsFlexFrame self.old self.new }
         ensures touches { HasRoomFor SLLEN self.old.state.machine layout.size layout.align → self.new.memory.touches ≤ self.old.memory.touches + 27 }
-        ensures grow { self.old.memory.touches ≤ self.new.memory.touches }
-        ensures copied { self.new.memory.copied ≡ self.old.memory.copied }
     {
         if let Some(addr) = self.parts.tlsf.allocate(layout) {
             return Some(addr);
@@ -172,15 +178,16 @@ impl<
     /// before it needs it: it allocates one long payload and deallocates it.
     ///
     /// The address is live, and `align` is its alignment.
+    ///
+    /// Completes in constant time: at most 32 word accesses, whatever the pools contain. No byte is copied.
     pub fn deallocate(&mut self, addr: Addr, align: usize)
         requires { align_at self.old.state.machine (at addr) ≡ Some align }
         ensures step { StepsAlone FLLEN SLLEN S.terms S.owes self.old self.new (Deallocates self.old.state.machine (at addr)) }
-        ensures deallocation { IsFlexDeallocation FLLEN SLLEN self.old.state.machine self.new.state.machine (at addr) }
-        ensures source { self.new.source ≡ self.old.source }
-        ensures place { SamePlace self.old.memory self.new.memory }
+        ensures result { IsDeallocated self.old.state.machine self.new.state.machine (at addr) }
+        ensures room { SizesFreedRoom FLLEN SLLEN self.old.state.machine self.new.state.machine (at addr) }
+        ensures bounds { KeepsAllBounds SLLEN self.old.state.machine self.new.state.machine }
+        ensures frame { KeepsFlexFrameAlone self.old self.new }
         ensures touches { self.new.memory.touches ≤ self.old.memory.touches + 32 }
-        ensures grow { self.old.memory.touches ≤ self.new.memory.touches }
-        ensures copied { self.new.memory.copied ≡ self.old.memory.copied }
     {
         self.parts.tlsf.deallocate(addr, align);
     }
@@ -188,15 +195,16 @@ impl<
     /// Deallocates a payload, as `deallocate` does, for a caller that doesn't know its alignment. The state afterwards is the same.
     ///
     /// The address is live, with any alignment.
+    ///
+    /// Completes in constant time: at most 33 word accesses, whatever the pools contain. No byte is copied.
     pub fn deallocate_unknown_align(&mut self, addr: Addr)
         requires { IsSome (align_at self.old.state.machine (at addr)) }
         ensures step { StepsAlone FLLEN SLLEN S.terms S.owes self.old self.new (Deallocates self.old.state.machine (at addr)) }
-        ensures deallocation { IsFlexDeallocation FLLEN SLLEN self.old.state.machine self.new.state.machine (at addr) }
-        ensures source { self.new.source ≡ self.old.source }
-        ensures place { SamePlace self.old.memory self.new.memory }
+        ensures result { IsDeallocated self.old.state.machine self.new.state.machine (at addr) }
+        ensures room { SizesFreedRoom FLLEN SLLEN self.old.state.machine self.new.state.machine (at addr) }
+        ensures bounds { KeepsAllBounds SLLEN self.old.state.machine self.new.state.machine }
+        ensures frame { KeepsFlexFrameAlone self.old self.new }
         ensures touches { self.new.memory.touches ≤ self.old.memory.touches + 33 }
-        ensures grow { self.old.memory.touches ≤ self.new.memory.touches }
-        ensures copied { self.new.memory.copied ≡ self.old.memory.copied }
     {
         self.parts.tlsf.deallocate_unknown_align(addr);
     }
@@ -213,31 +221,20 @@ impl<
     /// Never refuses a payload within bounds that the pools are sized for (`IsSizedFor`). Then the source is asked nothing.
     ///
     /// The address is live, with the alignment of the layout.
+    ///
+    /// If there is room, at most 66 word accesses, whatever the pools contain, and at most the bytes that the payload had are copied. None is
+    /// copied if there is room for it to stay.
     pub fn reallocate(&mut self, addr: Addr, layout: Layout) -> Option<Addr>
         requires { align_at self.old.state.machine (at addr) ≡ Some layout.align }
         ensures step { FlexSteps FLLEN SLLEN S.terms S.owes S.leads self.old self.new
             (FlexReallocates FLLEN SLLEN (S.terms self.old.source) self.old.state (at addr) layout.size (reply result)) }
-        ensures live { IfSome result (λ to. align_at self.new.state.machine (at to) ≡ Some layout.align) }
-        ensures sized { IfSome result (λ to. layout.size ≤ length (bytes_at self.new.state.machine (at to))) }
-        ensures few { IfSome result (λ to. length (bytes_at self.new.state.machine (at to)) < layout.size + 32) }
-        ensures kept { IfSome result (λ to. Keeps (bytes_at self.old.state.machine (at addr)) (bytes_at self.new.state.machine (at to))) }
-        ensures new { IfSome result (λ to. at to ≢ at addr → align_at self.old.state.machine (at to) ≡ None) }
-        ensures aligns { IfSome result (λ to. (a : ℕ) → a ≢ at addr → a ≢ at to → align_at self.new.state.machine a ≡ align_at self.old.state.machine a) }
-        ensures bytes { IfSome result (λ to. (a : ℕ) → a ≢ at addr → a ≢ at to → bytes_at self.new.state.machine a ≡ bytes_at self.old.state.machine a) }
-        ensures room { IfWithinBounds SLLEN self.old.state.machine layout.size layout.align (IsSome result) }
-        ensures unasked { IfWithinBounds SLLEN self.old.state.machine layout.size layout.align (self.new.source ≡ self.old.source) }
-        ensures count { live_count self.new.state.machine ≡ live_count self.old.state.machine }
+        ensures result { IfSome result (λ to. IsReallocated self.old.state.machine self.new.state.machine (at addr) layout.size layout.align (at to)) }
+        ensures room { SucceedsUnasked SLLEN self.old self.new layout.size layout.align (IsSome result) }
         ensures bounds { KeepsBounds SLLEN self.old.state.machine self.new.state.machine layout.size layout.align }
-        ensures same { IfNone result (self.new.state ≡ self.old.state) }
-        ensures refused { IfNone result (self.new.memory.bytes ≡ self.old.memory.bytes) }
-        ensures place { SamePlace self.old.memory self.new.memory }
+        ensures refused { IfNone result (IsUnchangedButSource self.old self.new) }
+        ensures frame { KeepsFlexFrameMoving SLLEN (at addr) layout.size self.old self.new }
         ensures touches { HasRoomToResize SLLEN self.old.state.machine (at addr) layout.size
             → self.new.memory.touches ≤ self.old.memory.touches + 66 }
-        ensures grow { self.old.memory.touches ≤ self.new.memory.touches }
-        ensures copied { HasRoomToResize SLLEN self.old.state.machine (at addr) layout.size
-            → self.new.memory.copied ≤ self.old.memory.copied + length (bytes_at self.old.state.machine (at addr)) }
-        ensures grow_copied { self.old.memory.copied ≤ self.new.memory.copied }
-        ensures stays { HasRoomToStay self.old.state.machine (at addr) layout.size → self.new.memory.copied ≡ self.old.memory.copied }
     {
         if let Some(moved) = self.parts.tlsf.reallocate(addr, layout) {
             return Some(moved);
@@ -255,26 +252,16 @@ impl<
     /// Returns `None` exactly if the bytes there don't suffice. Then nothing changes.
     ///
     /// The address is live, with the alignment of the layout.
+    ///
+    /// Completes in constant time: at most 25 word accesses, whatever the pools contain. No byte is copied.
     pub fn reallocate_no_move(&mut self, addr: Addr, layout: Layout) -> Option<Addr>
         requires { align_at self.old.state.machine (at addr) ≡ Some layout.align }
         ensures step { StepsAlone FLLEN SLLEN S.terms S.owes self.old self.new (ReallocatesWithoutMove self.old.state.machine (at addr) layout.size (reply result)) }
-        ensures there { IfSome result (λ to. at to ≡ at addr) }
-        ensures live { align_at self.new.state.machine (at addr) ≡ Some layout.align }
-        ensures sized { IfSome result (λ to. layout.size ≤ length (bytes_at self.new.state.machine (at addr))) }
-        ensures few { IfSome result (λ to. length (bytes_at self.new.state.machine (at addr)) < layout.size + 32) }
-        ensures kept { IfSome result (λ to. Keeps (bytes_at self.old.state.machine (at addr)) (bytes_at self.new.state.machine (at addr))) }
-        ensures aligns { align_at self.new.state.machine ≡ align_at self.old.state.machine }
-        ensures bytes { (a : ℕ) → a ≢ at addr → bytes_at self.new.state.machine a ≡ bytes_at self.old.state.machine a }
-        ensures count { live_count self.new.state.machine ≡ live_count self.old.state.machine }
+        ensures result { IfSome result (λ to. IsResized self.old.state.machine self.new.state.machine (at addr) layout.size (at to)) }
         ensures bounds { KeepsBounds SLLEN self.old.state.machine self.new.state.machine layout.size layout.align }
-        ensures chunks { self.new.state.machine.chunks ≡ self.old.state.machine.chunks }
-        ensures same { IfNone result (self.new.state ≡ self.old.state) }
-        ensures refused { IfNone result (self.new.memory.bytes ≡ self.old.memory.bytes) }
-        ensures source { self.new.source ≡ self.old.source }
-        ensures place { SamePlace self.old.memory self.new.memory }
+        ensures refused { IfNone result (IsUnchangedButSource self.old self.new) }
+        ensures frame { KeepsFlexFrameInPlace (at addr) layout.align self.old self.new }
         ensures touches { self.new.memory.touches ≤ self.old.memory.touches + 25 }
-        ensures grow { self.old.memory.touches ≤ self.new.memory.touches }
-        ensures copied { self.new.memory.copied ≡ self.old.memory.copied }
     {
         self.parts.tlsf.reallocate_no_move(addr, layout)
     }
@@ -304,6 +291,8 @@ impl<
     /// what was written. Nothing else changes.
     ///
     /// The address is live, with any alignment.
+    ///
+    /// Completes in constant time: 3 word accesses. No byte is copied.
     pub fn payload_mut(&mut self, addr: Addr) -> &mut [u8]
         requires { IsSome (align_at self.old.state.machine (at addr)) }
         ensures* writes_back { sem 𝓛 (lends_payload S.row FLBitmap.row SLBitmap.row FLLEN.row SLLEN.row S.FlexSource FLBitmap.BitPattern SLBitmap.BitPattern self.entry (at addr) result) }
@@ -325,20 +314,16 @@ impl<
     /// unchanged, and so is everything else. If both are one payload, no byte changes.
     ///
     /// Both addresses are live, with any alignment, and both payloads have at least `len` usable bytes.
+    ///
+    /// Takes time proportional to `len`: `len` bytes are copied, without a word access.
     pub fn copy_payload(&mut self, from: Addr, to: Addr, len: usize)
         requires live { IsSome (align_at self.old.state.machine (at from)) × IsSome (align_at self.old.state.machine (at to)) }
         requires long { (len ≤ length (bytes_at self.old.state.machine (at from))) × (len ≤ length (bytes_at self.old.state.machine (at to))) }
         ensures step { FillsAlone FLLEN SLLEN S.terms S.owes self.old self.new (at to) (copied_over self.old.state.machine (at from) (at to) len) }
-        ensures filled { bytes_at self.new.state.machine (at to) ≡ copied_over self.old.state.machine (at from) (at to) len }
-        ensures bytes { (a : ℕ) → a ≢ at to → bytes_at self.new.state.machine a ≡ bytes_at self.old.state.machine a }
-        ensures aligns { align_at self.new.state.machine ≡ align_at self.old.state.machine }
-        ensures count { live_count self.new.state.machine ≡ live_count self.old.state.machine }
+        ensures result { IsFilled self.old.state.machine self.new.state.machine (at to) (copied_over self.old.state.machine (at from) (at to) len) }
         ensures bounds { KeepsAllBounds SLLEN self.old.state.machine self.new.state.machine }
-        ensures chunks { self.new.state.machine.chunks ≡ self.old.state.machine.chunks }
-        ensures source { self.new.source ≡ self.old.source }
-        ensures place { SamePlace self.old.memory self.new.memory }
+        ensures frame { KeepsFlexFrameCopying len self.old self.new }
         ensures touches { self.new.memory.touches ≡ self.old.memory.touches }
-        ensures copied { self.new.memory.copied ≡ self.old.memory.copied + len }
     {
         self.parts.tlsf.copy_payload(from, to, len);
     }
@@ -351,19 +336,13 @@ impl<
     /// Returns 0 exactly if the source doesn't take ranges back, the newest range holds a used block, or none is outstanding. Then nothing
     /// changes.
     ///
-    /// The call makes at most 9 word accesses for each chunk that it removes. The time of the iteration over blocks isn't counted, and has
-    /// no bound.
+    /// At most 9 word accesses for each chunk that it removes. The time of the iteration over blocks isn't counted, and has no bound. No byte is
+    /// copied.
     pub fn trim(&mut self) -> usize
         ensures step { FlexSteps FLLEN SLLEN S.terms S.owes S.leads self.old self.new (Trims (S.terms self.old.source) self.old.state result) }
-        ensures spare { KeepsSpare self.old.memory self.old.state.machine self.new.memory self.new.state.machine }
-        ensures aligns { align_at self.new.state.machine ≡ align_at self.old.state.machine }
-        ensures bytes { bytes_at self.new.state.machine ≡ bytes_at self.old.state.machine }
-        ensures count { live_count self.new.state.machine ≡ live_count self.old.state.machine }
-        ensures same { result ≡ 0 → self.new ≡ self.old }
-        ensures place { SamePlace self.old.memory self.new.memory }
+        ensures refused { result ≡ 0 → self.new ≡ self.old }
+        ensures frame { KeepsFlexFrameOfTrim self.old self.new }
         ensures touches { self.new.memory.touches + 9 * length self.new.state.machine.chunks ≤ self.old.memory.touches + 9 * length self.old.state.machine.chunks }
-        ensures grow { self.old.memory.touches ≤ self.new.memory.touches }
-        ensures copied { self.new.memory.copied ≡ self.old.memory.copied }
     {
         if self.parts.source.supports_dealloc() {
             self.parts.give_idle_back()
@@ -374,6 +353,8 @@ impl<
 
     /// Ends the allocator, and returns its memory and its source. If the source takes ranges back, each outstanding range is returned to it
     /// exactly once, as it has grown, the newest first. Payloads may be live.
+    ///
+    /// Counts no word access, and calls the source at most once for each outstanding range.
     pub fn into_parts(self) -> (Memory, S)
         ensures memory { result.0 ≡ self.memory }
         ensures leads { LeadsBy S.leads self.source (notes_at_end (S.terms self.source) self.state.pools) result.1 }

@@ -7,6 +7,7 @@ ghost use Rattle.rlsf_base.specs.SizeClass.{IsValid};
 ghost use Rattle.rlsf_base.specs.Space.{SamePlace};
 ghost use Rattle.rlsf_tlsf.specs.Allocator.{Stands};
 ghost use Rattle.rlsf_tlsf.specs.Bounds.{KeepsBounds};
+ghost use Rattle.rlsf_tlsf.specs.Results.{IsReallocated};
 ghost use Rattle.rlsf_flex.specs.StandsFor.{FlexStandsFor, kept_pool};
 ghost use Rattle.rlsf_flex.specs.Steps.Growth.{AskedGrowth, AskedRange, Extended, IsAsBefore, KeepsPayloads, MovesTo, kept_len, kept_start};
 ghost use Rattle.rlsf_flex.specs.Steps.Parts.{flex_over};
@@ -14,7 +15,6 @@ ghost use Rattle.rlsf_model.specs.Allocate.{Allocates};
 ghost use Rattle.rlsf_model.specs.Callers.{align_at, bytes_at};
 ghost use Rattle.rlsf_model.specs.Growth.{keeps, range_length};
 ghost use Rattle.rlsf_model.specs.PoolLength.{IsPoolSize};
-ghost use Rattle.rlsf_model.specs.Reallocate.{Keeps};
 ghost use Rattle.rlsf_model.specs.Sized.{live_count};
 
 use crate::footers::{read_footer, write_footer, write_footer_if};
@@ -168,13 +168,7 @@ pub(crate) fn move_payload<const FLLEN: usize, const SLLEN: usize>(
     requires short { length (bytes_at tlsf.old.state (at addr)) ≤ layout.size }
     ensures refused { IfNone result (Allocates SLLEN tlsf.old.state layout.size layout.align None tlsf.old.state) }
     ensures step { IfSome result (λ to. MovesTo FLLEN SLLEN tlsf.old tlsf.new (at addr) layout.size (at to)) }
-    ensures live { IfSome result (λ to. align_at tlsf.new.state (at to) ≡ Some layout.align) }
-    ensures sized { IfSome result (λ to. layout.size ≤ length (bytes_at tlsf.new.state (at to))) }
-    ensures few { IfSome result (λ to. length (bytes_at tlsf.new.state (at to)) < layout.size + 32) }
-    ensures kept { IfSome result (λ to. Keeps (bytes_at tlsf.old.state (at addr)) (bytes_at tlsf.new.state (at to))) }
-    ensures new { IfSome result (λ to. align_at tlsf.old.state (at to) ≡ None) }
-    ensures aligns { IfSome result (λ to. (a : ℕ) → a ≢ at addr → a ≢ at to → align_at tlsf.new.state a ≡ align_at tlsf.old.state a) }
-    ensures bytes { IfSome result (λ to. (a : ℕ) → a ≢ at addr → a ≢ at to → bytes_at tlsf.new.state a ≡ bytes_at tlsf.old.state a) }
+    ensures result { IfSome result (λ to. IsReallocated tlsf.old.state tlsf.new.state (at addr) layout.size layout.align (at to)) }
     ensures count { live_count tlsf.new.state ≡ live_count tlsf.old.state }
     ensures bounds { KeepsBounds SLLEN tlsf.old.state tlsf.new.state layout.size layout.align }
     ensures place { SamePlace tlsf.old.memory tlsf.new.memory }

@@ -25,13 +25,7 @@ returns-in_err-to g c =
     rw c.from_residual.ensures (record {
       refused = (step.0, refl);
       step = tt;
-      live = tt;
-      sized = tt;
-      few = tt;
-      kept = tt;
-      new = tt;
-      aligns = tt;
-      bytes = tt;
+      result = tt;
       count = ap live_count c.in_err-to.ensures.refused.same;
       bounds = is.bounds;
       place = is.frame.place;
@@ -125,13 +119,15 @@ returns g c =
     record {
       refused = tt;
       step = moves g c;
-      live = three.result.aligns _ (off_from g here) ∙ ap (λ aligns. aligns (at c.in_ok-to.to)) two.result.aligns ∙ one.result.live;
-      sized = subst (λ n. c.args.layout.size ≤ n) (sym (moved_length g c)) one.result.sized;
-      few = subst (λ n. n < c.args.layout.size + 32) (sym (moved_length g c)) one.result.few;
-      kept = subst (Keeps old) (sym is) (Keeps-front c.allocation_usable_size-len.result old (bytes_at c.allocate.new.self.state (at c.in_ok-to.to)) len short);
-      new = one.result.new;
-      aligns = λ a from to. three.result.aligns a from ∙ ap (λ aligns. aligns a) two.result.aligns ∙ one.result.aligns a to;
-      bytes = λ a from to. three.result.bytes a from ∙ two.result.bytes a to ∙ one.result.bytes a to;
+      result = record {
+        live = three.result.aligns _ (off_from g here) ∙ ap (λ aligns. aligns (at c.in_ok-to.to)) two.result.aligns ∙ one.result.live;
+        sized = subst (λ n. c.args.layout.size ≤ n) (sym (moved_length g c)) one.result.sized;
+        few = subst (λ n. n < c.args.layout.size + 32) (sym (moved_length g c)) one.result.few;
+        kept = subst (Keeps old) (sym is) (Keeps-front c.allocation_usable_size-len.result old (bytes_at c.allocate.new.self.state (at c.in_ok-to.to)) len short);
+        new = λ off. one.result.new;
+        aligns = λ a from to. three.result.aligns a from ∙ ap (λ aligns. aligns a) two.result.aligns ∙ one.result.aligns a to;
+        bytes = λ a from to. three.result.bytes a from ∙ two.result.bytes a to ∙ one.result.bytes a to;
+      };
       count = omega (arith, one.result.count, two.result.count, three.result.count);
       bounds = λ count size align sized short fits. three.bounds count size align (two.bounds count size align (one.bounds count size align sized short fits));
       place =

@@ -26,7 +26,8 @@ returns-in_default g c = record {
 pub returns-then-tells_align : goal.returns-then-tells_align
 returns-then-tells_align g c = record {
   told = λ _.
-      freed c.requires c.deallocate.ensures.source c.deallocate.ensures.place (Free c.args.name) c.args.name c.in-Some.payload (sym c.payload_of.ensures.value ∙ c.in-Some.is)
+      freed c.requires c.deallocate.ensures.frame.source c.deallocate.ensures.frame.place (Free c.args.name) c.args.name c.in-Some.payload
+      (sym c.payload_of.ensures.value ∙ c.in-Some.is)
       (address c.in-Some.payload, refl) (λ r frees. (refl, r, frees, refl, refl)) c.deallocate.ensures.step c.remove.ensures.updates.0;
   untold = λ no. absurd (false≢true (sym no ∙ c.if-tells_align.true));
   room = λ ops more. omega (arith, more, c.remove.ensures.spare);
@@ -36,7 +37,7 @@ pub returns : goal.returns
 returns g c = record {
   told = λ yes. absurd (false≢true (sym c.if-tells_align.false ∙ yes));
   untold = λ _.
-      freed c.requires c.deallocate_unknown_align.ensures.source c.deallocate_unknown_align.ensures.place (FreeUnknown c.args.name) c.args.name c.in-Some.payload
+      freed c.requires c.deallocate_unknown_align.ensures.frame.source c.deallocate_unknown_align.ensures.frame.place (FreeUnknown c.args.name) c.args.name c.in-Some.payload
       (sym c.payload_of.ensures.value ∙ c.in-Some.is)
       (address c.in-Some.payload, refl) (λ r frees. (refl, r, frees, refl, refl)) c.deallocate_unknown_align.ensures.step c.remove.ensures.updates.0;
   room = λ ops more. omega (arith, more, c.remove.ensures.spare);

@@ -43,5 +43,5 @@ returns g c =
     subst (λ n. StepsAlone g.row.FLLEN g.row.SLLEN g.S.FlexSource.terms g.S.FlexSource.owes c.args.flex.now w
     (ReallocatesWithoutMove c.args.flex.now.state.machine (address p) n (reply c.reallocate_no_move.result)))
     size c.reallocate_no_move.ensures.step in
-    unmoved c.requires c.reallocate_no_move.ensures.source c.reallocate_no_move.ensures.place c.args.name c.args.size p c.reallocate_no_move.result
-    (sym c.payload_of.ensures.value ∙ c.in-Some.is) (c.in-Ok.ensures.succeeds.0 refl) alone c.reallocate_no_move.ensures.aligns
+    unmoved c.requires c.reallocate_no_move.ensures.frame.source c.reallocate_no_move.ensures.frame.place c.args.name c.args.size p c.reallocate_no_move.result
+    (sym c.payload_of.ensures.value ∙ c.in-Some.is) (c.in-Ok.ensures.succeeds.0 refl) alone c.reallocate_no_move.ensures.frame.aligns

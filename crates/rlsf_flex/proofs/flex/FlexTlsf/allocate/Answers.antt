@@ -1,4 +1,4 @@
-use Rattle.std.proofs.Common.{◌≡◌, ◌≢◌, ◌≤◌, ℕ, true≢false, None, Some, IsSome, IfNone, arith, refl, sym, ◌∙◌, ap}
+use Rattle.std.proofs.Common.{◌≡◌, ◌≤◌, ℕ, true≢false, None, Some, IsSome, IfNone, arith, refl, sym, ◌∙◌, ap}
 use Rattle.std.proofs.Common.{subst}
 use Rattle.rlsf_base.specs.Addr.{at, reply}
 use Rattle.rlsf_flex.specs.StandsFor.{flex_contents, FlexSteps}
@@ -36,16 +36,12 @@ returns-in-Some g c =
       step =
           allocated_in_room c.args.layout.size c.args.layout.align c.allocate.new.self is.frame.place c.self.invariant.stands c.self.invariant.whole g.S.FlexSource.leads
           (at c.in-Some.addr) is.step;
-      unasked = λ count size align sized few short fits. refl;
-      same = tt;
-      refused = tt;
       result = is.result;
-      room = is.room;
+      room = record { room = is.room; unasked = λ count size align sized few short fits. refl };
       bounds = is.bounds;
-      place = is.frame.place;
+      refused = tt;
+      frame = record { place = is.frame.place; grow = is.frame.grow; copied = is.frame.copied };
       touches = λ room. is.touches;
-      grow = is.frame.grow;
-      copied = is.frame.copied;
     })
 
 -- the first try found no room
@@ -89,15 +85,14 @@ returns-in_err-wanted g c =
     rw (← c.self.view_is) (rw c.from_residual.ensures (record {
       step = nothing_asked c.args.layout.size c.args.layout.align first g.S.FlexSource.leads (sym c.in_err-wanted.ensures);
       result = tt;
-      room = λ count size align sized few short fits. absurd (sure g here count size align sized few short fits);
-      unasked = λ count size align sized few short fits. refl;
+      room = record {
+        room = λ count size align sized few short fits. absurd (sure g here count size align sized few short fits);
+        unasked = λ count size align sized few short fits. refl;
+      };
       bounds = did.bounds;
-      same = first.same;
-      refused = bytes_stay g here;
-      place = did.frame.place;
+      refused = record { same = first.same; bytes = bytes_stay g here };
+      frame = record { place = did.frame.place; grow = did.frame.grow; copied = did.frame.copied };
       touches = λ room. did.touches;
-      grow = did.frame.grow;
-      copied = did.frame.copied;
     }))
 
 pub extend-requires : goal.extend-requires
@@ -167,15 +162,18 @@ returns-then-extend g c =
           some_more c.allocate-then-extend.result (λ addr. IsAllocated-before c.extend.new.self.tlsf.state c.self.inside.parts.tlsf.state c.allocate-then-extend.new.self.state
           c.args.layout.size c.args.layout.align (at addr) (aligns_before g second first) (bytes_before g second first) (came.count ∙ ap (λ s. live_count s.machine) first.same))
           is.result;
-      room = λ count size align sized few short fits. absurd (sure g here.In_default count size align sized few short fits);
-      unasked = λ count size align sized few short fits. absurd (sure g here.In_default count size align sized few short fits);
+      room = record {
+        room = λ count size align sized few short fits. absurd (sure g here.In_default count size align sized few short fits);
+        unasked = λ count size align sized few short fits. absurd (sure g here.In_default count size align sized few short fits);
+      };
       bounds = λ count size align sized short fits. is.bounds count size align (came.bounds count size align (did.bounds count size align sized short fits)) short fits;
-      same = not_none _ c.allocate-then-extend.result (found g second first);
       refused = not_none _ c.allocate-then-extend.result (found g second first);
-      place = SamePlace-then m k n (SamePlace-then m l k did.frame.place came.place) is.frame.place;
+      frame = record {
+        place = SamePlace-then m k n (SamePlace-then m l k did.frame.place came.place) is.frame.place;
+        grow = omega (arith, did.frame.grow, came.grow, is.frame.grow);
+        copied = is.frame.copied ∙ came.copied ∙ did.frame.copied;
+      };
       touches = λ room. absurd (true≢false (sym (subst IsSome first.full.0 room)));
-      grow = omega (arith, did.frame.grow, came.grow, is.frame.grow);
-      copied = is.frame.copied ∙ came.copied ∙ did.frame.copied;
     })
 
 pub invariant_of-self-else-extend : goal.invariant_of-self-else-extend
@@ -196,13 +194,19 @@ returns-else-extend g c =
     rw (← c.self.view_is) (record {
       step = nothing_more c.args.layout.size c.args.layout.align first (sym c.in_ok-wanted.ensures) h refl;
       result = tt;
-      room = λ count size align sized few short fits. absurd (sure g here count size align sized few short fits);
-      unasked = λ count size align sized few short fits. absurd (sure g here count size align sized few short fits);
+      room = record {
+        room = λ count size align sized few short fits. absurd (sure g here count size align sized few short fits);
+        unasked = λ count size align sized few short fits. absurd (sure g here count size align sized few short fits);
+      };
       bounds = λ count size align sized short fits. came.bounds count size align (did.bounds count size align sized short fits);
-      same = extended_none h refl ∙ first.same;
-      refused = ap (λ (a : Allocator). a.memory.bytes) (c.if-extend.ensures.refused refl).same ∙ bytes_stay g here;
-      place = SamePlace-then c.self.inside.parts.tlsf.memory c.allocate.new.self.memory c.extend.new.self.tlsf.memory did.frame.place came.place;
+      refused = record {
+        same = extended_none h refl ∙ first.same;
+        bytes = ap (λ (a : Allocator). a.memory.bytes) (c.if-extend.ensures.refused refl).same ∙ bytes_stay g here;
+      };
+      frame = record {
+        place = SamePlace-then c.self.inside.parts.tlsf.memory c.allocate.new.self.memory c.extend.new.self.tlsf.memory did.frame.place came.place;
+        grow = omega (arith, did.frame.grow, came.grow);
+        copied = came.copied ∙ did.frame.copied;
+      };
       touches = λ room. absurd (true≢false (sym (subst IsSome first.full.0 room)));
-      grow = omega (arith, did.frame.grow, came.grow);
-      copied = came.copied ∙ did.frame.copied;
     })

@@ -29,14 +29,8 @@ returns g c =
     let is = c.copy_payload.ensures in
     rw (← c.self.view_is) (record {
       step = steps_alone c.self.invariant.stands c.copy_payload.new.self _ is.frame.place c.self.invariant.whole is.frame.chunks is.step;
-      filled = is.result.filled;
-      bytes = is.result.bytes;
-      count = is.result.count;
+      result = is.result;
       bounds = is.bounds;
-      aligns = is.result.aligns;
-      chunks = is.frame.chunks;
-      source = refl;
-      place = is.frame.place;
+      frame = record { source = refl; chunks = is.frame.chunks; place = is.frame.place; copied = is.frame.copied };
       touches = is.touches;
-      copied = is.frame.copied;
     })

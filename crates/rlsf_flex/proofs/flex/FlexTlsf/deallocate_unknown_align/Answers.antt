@@ -2,7 +2,7 @@ use Rattle.std.proofs.Common.{refl}
 use Rattle.rlsf_base.specs.Addr.{at}
 use Rattle.rlsf_base.specs.Space.{range_of}
 use Rattle.rlsf_flex.proofs.Calls.{stands_alone, steps_alone}
-use Rattle.rlsf_flex.proofs.Reserves.{IsFlexDeallocation-step}
+use Rattle.rlsf_flex.proofs.Reserves.{sized_behind}
 use Rattle.rlsf_flex.proofs.InnerAllocator.{opened}
 use Rattle.rlsf_flex.proofs.flex.FlexTlsf.deallocate_unknown_align.Goals as goal
 
@@ -20,13 +20,12 @@ returns g c =
     let is = c.deallocate_unknown_align.ensures in
     rw (← c.self.view_is) (record {
       step = steps_alone c.self.invariant.stands c.deallocate_unknown_align.new.self _ is.frame.place c.self.invariant.whole is.frame.chunks is.step;
-      deallocation =
+      result = is.result;
+      room =
           let (step, stands, spare) = opened _ _ _ is.step in
-          IsFlexDeallocation-step g.FLBitmap.BitPattern.width g.SLBitmap.BitPattern.width g.row.FLLEN g.row.SLLEN (range_of c.self.inside.parts.tlsf.memory)
+          sized_behind g.FLBitmap.BitPattern.width g.SLBitmap.BitPattern.width g.row.FLLEN g.row.SLLEN (range_of c.self.inside.parts.tlsf.memory)
           c.self.inside.parts.tlsf.state c.deallocate_unknown_align.new.self.state c.self.invariant.valid c.self.invariant.stands.machine.well_formed (at c.args.addr) step;
-      source = refl;
-      place = is.frame.place;
+      bounds = is.bounds;
+      frame = record { source = refl; chunks = is.frame.chunks; place = is.frame.place; grow = is.frame.grow; copied = is.frame.copied };
       touches = is.touches;
-      grow = is.frame.grow;
-      copied = is.frame.copied;
     })

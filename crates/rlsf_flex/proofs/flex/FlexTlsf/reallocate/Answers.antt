@@ -1,5 +1,5 @@
 use Rattle.std.specs.declared.num.NonZeroUsize.{NonZeroUsize}
-use Rattle.std.proofs.Common.{◌≡◌, ◌≢◌, ◌≤◌, ℕ, List, true≢false, Option, Some, None, IfNone, IfSome, IsSome, length, arith, refl, sym, ◌∙◌, ap}
+use Rattle.std.proofs.Common.{◌≡◌, ◌≤◌, ℕ, true≢false, Option, Some, None, IfNone, IfSome, IsSome, length, arith, refl, sym, ◌∙◌, ap}
 use Rattle.std.proofs.Common.{subst}
 use Rattle.rlsf_base.specs.Addr.{at, reply}
 use Rattle.rlsf_flex.specs.StandsFor.{FlexContents, flex_contents, FlexSteps}
@@ -8,17 +8,19 @@ use Rattle.rlsf_flex.specs.Steps.Growth.{MovesTo}
 use Rattle.rlsf_model.specs.Allocate.{Allocates}
 use Rattle.rlsf_model.specs.Callers.{align_at, bytes_at}
 use Rattle.rlsf_model.specs.FlexReallocate.{FlexReallocates, IsStuck}
-use Rattle.rlsf_model.specs.Reallocate.{HasRoomToResize, HasRoomToStay, Keeps, Reallocates}
+use Rattle.rlsf_model.specs.Reallocate.{HasRoomToResize, HasRoomToStay, Reallocates}
 use Rattle.rlsf_model.specs.Sized.{IsSizedFor, live_count}
 use Rattle.rlsf_model.specs.State.{Used, usable}
 use Rattle.rlsf_model.proofs.CallerWords.{align_at-live, bytes_at-held}
 use Rattle.rlsf_table.proofs.Parameters.{IsValid-widest}
 use Rattle.rlsf_tlsf.specs.Allocator.{Allocator, Steps}
-use Rattle.rlsf_flex.proofs.Allocations.{Tried, extended_none, for_some, more_is_found, not_none, nothing_asked, nothing_more}
-use Rattle.rlsf_flex.proofs.Reallocations.{no_room_to_move, reallocated_in_more, reallocated_in_room, reallocated_stands, refused_move_alone, refused_too, stuck_moves, stuck_short}
+use Rattle.rlsf_flex.proofs.Allocations.{Tried, extended_none, more_is_found, not_none, nothing_asked, nothing_more}
+use Rattle.rlsf_flex.proofs.Reallocations.{IsReallocated-before, no_room_to_move, reallocated_in_more, reallocated_in_room, reallocated_stands}
+use Rattle.rlsf_flex.proofs.Reallocations.{refused_move_alone, refused_too, stuck_moves, stuck_short}
 use Rattle.rlsf_flex.proofs.Places.{SamePlace-then}
 use Rattle.rlsf_flex.proofs.InnerAllocator.{flex_opened, stood_at}
 use Rattle.rlsf_tlsf.specs.Results.{IsUnchanged}
+use Rattle.rlsf_tlsf.proofs.Replied.{some_more}
 use Rattle.rlsf_flex.proofs.flex.FlexTlsf.reallocate.Given as given
 use Rattle.rlsf_flex.proofs.flex.FlexTlsf.reallocate.Goals as goal
 use Rattle.rlsf_flex.proofs.flex.FlexTlsf.reallocate.Goals.{In_default, After-extend, After-move_payload}
@@ -39,25 +41,19 @@ returns-in-Some g c =
       step =
           reallocated_in_room (at c.args.addr) c.args.layout.size c.args.layout.align c.reallocate.new.self is.frame.place c.self.invariant.stands c.self.invariant.whole
           g.S.FlexSource.leads (at c.in-Some.moved) is.step;
-      unasked = λ count size align sized few short fits. refl;
-      same = tt;
-      refused = tt;
-      live = is.result.live;
-      sized = is.result.sized;
-      few = is.result.few;
-      kept = is.result.kept;
-      new = is.result.new;
-      aligns = is.result.aligns;
-      bytes = is.result.bytes;
-      room = is.room;
-      count = is.frame.count;
+      result = is.result;
+      room = record { room = is.room; unasked = λ count size align sized few short fits. refl };
       bounds = is.bounds;
-      place = is.frame.place;
+      refused = tt;
+      frame = record {
+        count = is.frame.count;
+        place = is.frame.place;
+        grow = is.frame.grow;
+        copied = λ room. is.frame.copied;
+        grow_copied = is.frame.grow_copied;
+        stays = is.frame.stays;
+      };
       touches = λ room. is.touches;
-      grow = is.frame.grow;
-      copied = λ room. is.frame.copied;
-      grow_copied = is.frame.grow_copied;
-      stays = is.frame.stays;
     })
 
 -- the first try found no room
@@ -117,25 +113,22 @@ returns-in_err-wanted g c =
       step =
           refused_too g.row.FLLEN g.row.SLLEN g.S.FlexSource.terms g.S.FlexSource.owes g.S.FlexSource.leads now new (at c.args.addr) c.args.layout.size c.args.layout.align stuck is
           (nothing_asked c.args.layout.size c.args.layout.align first g.S.FlexSource.leads (sym c.in_err-wanted.ensures));
-      live = tt;
-      sized = tt;
-      few = tt;
-      kept = tt;
-      new = tt;
-      aligns = tt;
-      bytes = tt;
-      room = λ count size align sized few short fits. absurd (sure g here count size align sized few short fits);
-      unasked = λ count size align sized few short fits. refl;
-      count = did.frame.count;
+      result = tt;
+      room = record {
+        room = λ count size align sized few short fits. absurd (sure g here count size align sized few short fits);
+        unasked = λ count size align sized few short fits. refl;
+      };
       bounds = did.bounds;
-      same = first.same;
-      refused = bytes_stay g here;
-      place = did.frame.place;
+      refused = record { same = first.same; bytes = bytes_stay g here };
+      frame = record {
+        count = did.frame.count;
+        place = did.frame.place;
+        grow = did.frame.grow;
+        copied = λ room. did.frame.copied;
+        grow_copied = did.frame.grow_copied;
+        stays = λ room. absurd (moves_in g here room);
+      };
       touches = λ room. did.touches;
-      grow = did.frame.grow;
-      copied = λ room. did.frame.copied;
-      grow_copied = did.frame.grow_copied;
-      stays = λ room. absurd (moves_in g here room);
     }))
 
 pub extend-requires : goal.extend-requires
@@ -236,33 +229,25 @@ returns-then-extend g c =
     let bytes = bytes_before g here.After-extend had in
     rw (← c.self.view_is) (record {
       step = in_more g here.After-move_payload u stuck is_align first c.move_payload.result refl;
-      live = is.live;
-      sized = is.sized;
-      few = is.few;
-      kept =
-          subst (λ (before : ℕ → List ℕ). IfSome c.move_payload.result (λ to. Keeps (before (at c.args.addr)) (bytes_at c.move_payload.new.tlsf.state (at to)))) bytes
-          is.kept;
-      new =
-          let new = subst (λ (before : ℕ → Option ℕ). IfSome c.move_payload.result (λ to. before (at to) ≡ None)) aligns is.new in
-          for_some c.move_payload.result (λ to some. λ off. subst (λ o. IfSome o (λ to. align_at c.self.inside.parts.tlsf.state (at to) ≡ None)) some new);
-      aligns =
-          subst (λ (before : ℕ → Option ℕ). IfSome c.move_payload.result
-          (λ to. (a : ℕ) → a ≢ at c.args.addr → a ≢ at to → align_at c.move_payload.new.tlsf.state a ≡ before a)) aligns is.aligns;
-      bytes =
-          subst (λ (before : ℕ → List ℕ). IfSome c.move_payload.result
-          (λ to. (a : ℕ) → a ≢ at c.args.addr → a ≢ at to → bytes_at c.move_payload.new.tlsf.state a ≡ before a)) bytes is.bytes;
-      room = λ count size align sized few short fits. absurd (sure g here.In_default count size align sized few short fits);
-      unasked = λ count size align sized few short fits. absurd (sure g here.In_default count size align sized few short fits);
-      count = is.count ∙ came.count ∙ did.frame.count;
+      result =
+          some_more c.move_payload.result (λ to. IsReallocated-before c.extend.new.self.tlsf.state c.self.inside.parts.tlsf.state c.move_payload.new.tlsf.state
+          (at c.args.addr) c.args.layout.size c.args.layout.align (at to) aligns bytes)
+          is.result;
+      room = record {
+        room = λ count size align sized few short fits. absurd (sure g here.In_default count size align sized few short fits);
+        unasked = λ count size align sized few short fits. absurd (sure g here.In_default count size align sized few short fits);
+      };
       bounds = λ count size align sized short fits. is.bounds count size align (came.bounds count size align (did.bounds count size align sized short fits)) short fits;
-      same = not_none _ c.move_payload.result (found g here.After-move_payload first);
       refused = not_none _ c.move_payload.result (found g here.After-move_payload first);
-      place = SamePlace-then m k n (SamePlace-then m l k did.frame.place came.place) is.place;
+      frame = record {
+        count = is.count ∙ came.count ∙ did.frame.count;
+        place = SamePlace-then m k n (SamePlace-then m l k did.frame.place came.place) is.place;
+        grow = omega (arith, did.frame.grow, came.grow, is.grow);
+        copied = λ room. absurd (refused_in g here.In_default room);
+        grow_copied = omega (arith, did.frame.grow_copied, came.copied, is.grow_copied);
+        stays = λ room. absurd (moves_in g here.In_default room);
+      };
       touches = λ room. absurd (refused_in g here.In_default room);
-      grow = omega (arith, did.frame.grow, came.grow, is.grow);
-      copied = λ room. absurd (refused_in g here.In_default room);
-      grow_copied = omega (arith, did.frame.grow_copied, came.copied, is.grow_copied);
-      stays = λ room. absurd (moves_in g here.In_default room);
     })
 
 pub invariant_of-self-else-extend : goal.invariant_of-self-else-extend
@@ -286,23 +271,23 @@ returns-else-extend g c =
       step =
           refused_too g.row.FLLEN g.row.SLLEN g.S.FlexSource.terms g.S.FlexSource.owes g.S.FlexSource.leads now new (at c.args.addr) c.args.layout.size c.args.layout.align stuck is
           (nothing_more c.args.layout.size c.args.layout.align first (sym c.in_ok-wanted.ensures) h refl);
-      live = tt;
-      sized = tt;
-      few = tt;
-      kept = tt;
-      new = tt;
-      aligns = tt;
-      bytes = tt;
-      room = λ count size align sized few short fits. absurd (sure g here count size align sized few short fits);
-      unasked = λ count size align sized few short fits. absurd (sure g here count size align sized few short fits);
-      count = came.count ∙ did.frame.count;
+      result = tt;
+      room = record {
+        room = λ count size align sized few short fits. absurd (sure g here count size align sized few short fits);
+        unasked = λ count size align sized few short fits. absurd (sure g here count size align sized few short fits);
+      };
       bounds = λ count size align sized short fits. came.bounds count size align (did.bounds count size align sized short fits);
-      same = extended_none h refl ∙ first.same;
-      refused = ap (λ (a : Allocator). a.memory.bytes) (c.if-extend.ensures.refused refl).same ∙ bytes_stay g here;
-      place = SamePlace-then c.self.inside.parts.tlsf.memory c.reallocate.new.self.memory c.extend.new.self.tlsf.memory did.frame.place came.place;
+      refused = record {
+        same = extended_none h refl ∙ first.same;
+        bytes = ap (λ (a : Allocator). a.memory.bytes) (c.if-extend.ensures.refused refl).same ∙ bytes_stay g here;
+      };
+      frame = record {
+        count = came.count ∙ did.frame.count;
+        place = SamePlace-then c.self.inside.parts.tlsf.memory c.reallocate.new.self.memory c.extend.new.self.tlsf.memory did.frame.place came.place;
+        grow = omega (arith, did.frame.grow, came.grow);
+        copied = λ room. absurd (refused_in g here room);
+        grow_copied = omega (arith, did.frame.grow_copied, came.copied);
+        stays = λ room. absurd (moves_in g here room);
+      };
       touches = λ room. absurd (refused_in g here room);
-      grow = omega (arith, did.frame.grow, came.grow);
-      copied = λ room. absurd (refused_in g here room);
-      grow_copied = omega (arith, did.frame.grow_copied, came.copied);
-      stays = λ room. absurd (moves_in g here room);
     })

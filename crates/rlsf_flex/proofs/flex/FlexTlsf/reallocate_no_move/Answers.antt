@@ -1,11 +1,8 @@
-use Rattle.std.proofs.Common.{None, Some, Option, IfNone, IfSome, refl, ap}
-use Rattle.std.specs.declared.num.NonZeroUsize.{NonZeroUsize}
-use Rattle.rlsf_base.specs.Addr.{at}
+use Rattle.std.proofs.Common.{None, Some, Option, IfNone, refl, ap}
 use Rattle.rlsf_model.specs.State.{State}
-use Rattle.rlsf_tlsf.specs.Results.{IsResized, IsUnchanged}
+use Rattle.rlsf_tlsf.specs.Results.{IsUnchanged}
 use Rattle.rlsf_flex.specs.StandsFor.{kept_of}
 use Rattle.rlsf_flex.proofs.Calls.{stands_alone, steps_alone}
-use Rattle.rlsf_flex.proofs.flex.FlexTlsf.reallocate_no_move.Given as given
 use Rattle.rlsf_flex.proofs.flex.FlexTlsf.reallocate_no_move.Goals as goal
 
 pub invariant_of-self : goal.invariant_of-self
@@ -22,39 +19,30 @@ if_none : {A P Q : Type 0} (o : Option A) → (P → Q) → IfNone o P → IfNon
 if_none None f p = f p
 if_none (Some x) f p = tt
 
--- the payload has its new size
-abbrev Is : (g : given.Over) (c : goal.After-reallocate_no_move g) → NonZeroUsize → Type 0
-Is g c to = IsResized c.self.inside.parts.tlsf.state c.reallocate_no_move.new.self.state (at c.args.addr) c.args.layout.size (at to)
-
--- what is true of an answer, by what is
-if_some : {A : Type 0} (o : Option A) (P Q : A → Type 0) → ((x : A) → P x → Q x) → IfSome o P → IfSome o Q
-if_some None P Q f p = tt
-if_some (Some x) P Q f p = f x p
-
 pub returns : goal.returns
 returns g c =
     let is = c.reallocate_no_move.ensures in
     rw (← c.self.view_is) (record {
       step = steps_alone c.self.invariant.stands c.reallocate_no_move.new.self _ is.frame.place c.self.invariant.whole is.frame.chunks is.step;
-      there = if_some c.reallocate_no_move.result (Is g c) _ (λ to did. did.there) is.result;
-      live = is.frame.live;
-      sized = if_some c.reallocate_no_move.result (Is g c) _ (λ to did. did.sized) is.result;
-      few = if_some c.reallocate_no_move.result (Is g c) _ (λ to did. did.few) is.result;
-      kept = if_some c.reallocate_no_move.result (Is g c) _ (λ to did. did.kept) is.result;
-      aligns = is.frame.aligns;
-      bytes = is.frame.bytes;
-      count = is.frame.count;
+      result = is.result;
       bounds = is.bounds;
-      chunks = is.frame.chunks;
-      same =
+      refused =
           if_none c.reallocate_no_move.result
-          (λ (no : IsUnchanged c.self.inside.parts.tlsf c.reallocate_no_move.new.self).
-          ap (λ (s : State). record { machine = s; pools = c.self.inside.parts.owed.ranges; kept = kept_of c.self.inside.parts.kept }) no.same)
+          (λ (no : IsUnchanged c.self.inside.parts.tlsf c.reallocate_no_move.new.self). record {
+            same = ap (λ (s : State). record { machine = s; pools = c.self.inside.parts.owed.ranges; kept = kept_of c.self.inside.parts.kept }) no.same;
+            bytes = no.bytes;
+          })
           is.refused;
-      refused = if_none c.reallocate_no_move.result (λ (no : IsUnchanged c.self.inside.parts.tlsf c.reallocate_no_move.new.self). no.bytes) is.refused;
-      source = refl;
-      place = is.frame.place;
+      frame = record {
+        source = refl;
+        live = is.frame.live;
+        aligns = is.frame.aligns;
+        bytes = is.frame.bytes;
+        count = is.frame.count;
+        chunks = is.frame.chunks;
+        place = is.frame.place;
+        grow = is.frame.grow;
+        copied = is.frame.copied;
+      };
       touches = is.touches;
-      grow = is.frame.grow;
-      copied = is.frame.copied;
     })

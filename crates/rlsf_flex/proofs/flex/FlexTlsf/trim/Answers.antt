@@ -19,15 +19,17 @@ returns-then-supports_dealloc g c =
     let is = c.give_idle_back.ensures in
     rw (← c.self.view_is) (record {
       step = trimmed g.S.FlexSource.leads now new c.give_idle_back.result is.gone g.met.S.FlexSource.constant c.self.invariant.stands takes is.held;
-      spare = is.gone.spare;
-      aligns = is.aligns;
-      count = is.live;
-      bytes = is.bytes;
-      same = λ none. ap flex_over (is.same none);
-      place = is.gone.place;
+      refused = λ none. ap flex_over (is.same none);
+      frame = record {
+        spare = is.gone.spare;
+        aligns = is.aligns;
+        bytes = is.bytes;
+        count = is.live;
+        place = is.gone.place;
+        grow = is.grow;
+        copied = is.copied;
+      };
       touches = is.touches;
-      grow = is.grow;
-      copied = is.copied;
     })
 
 pub returns-else-supports_dealloc : goal.returns-else-supports_dealloc
@@ -36,13 +38,15 @@ returns-else-supports_dealloc g c =
     let lacks = sym c.supports_dealloc.ensures ∙ c.if-supports_dealloc.false in
     rw (← c.self.view_is) (record {
       step = not_trimmed g.S.FlexSource.leads now c.self.invariant.stands lacks;
-      spare = λ a low high before after. refl;
-      aligns = refl;
-      count = refl;
-      bytes = refl;
-      same = λ none. refl;
-      place = SamePlace-refl c.self.inside.parts.tlsf.memory;
+      refused = λ none. refl;
+      frame = record {
+        spare = λ a low high before after. refl;
+        aligns = refl;
+        bytes = refl;
+        count = refl;
+        place = SamePlace-refl c.self.inside.parts.tlsf.memory;
+        grow = omega arith;
+        copied = refl;
+      };
       touches = omega arith;
-      grow = omega arith;
-      copied = refl;
     })
