@@ -4,10 +4,10 @@ ghost use Rattle.std.specs.Prelude.{◌≡◌, ◌<◌, ℕ, IfSome, IsSome};
 ghost use Rattle.rlsf_base.specs.Addr.{at};
 ghost use Rattle.rlsf_model.specs.Callers.{align_at};
 
-use super::bytes::copy_front;
-use super::pools::{Small, Wide, are, layout_of, wide, with_pool};
+use super::bytes::{copy_front, is_all};
+use super::pools::{Long, Small, Wide, are, layout_of, number, wide, with_inserted, with_pool};
 use rlsf::int::BitPattern;
-use rlsf::{Addr, Layout, Tlsf};
+use rlsf::{Addr, Layout, Range, Tlsf};
 
 /// Allocates a payload, fills it with a byte, reads it at an offset, and deallocates it. Returns what was read.
 fn filled(tlsf: &mut Small, layout: Layout, byte: u8, offset: usize) -> Option<u8>
@@ -98,6 +98,57 @@ fn lent<FLBitmap: BitPattern, SLBitmap: BitPattern, const FLLEN: usize, const SL
     };
     let read = tlsf.payload(addr).len();
     [addr.get(), read, tlsf.payload_mut(addr).len()]
+}
+
+/// Leaves other bytes than zeros in the pool: a payload that has nearly all of it is filled and deallocated.
+fn dirty(tlsf: &mut Long, layout: Layout) -> Option<()> {
+    let addr = tlsf.allocate(layout)?;
+    tlsf.payload_mut(addr).fill(255);
+    tlsf.deallocate(addr, layout.align());
+    Some(())
+}
+
+/// Where a payload lies that is allocated with zeros, and its number of usable bytes; or 1 if one of them isn't 0. It is deallocated.
+fn zeroed(tlsf: &mut Long, layout: Layout) -> Option<[usize; 2]> {
+    let addr = tlsf.allocate_zeroed(layout)?;
+    let bytes = tlsf.payload(addr);
+    let place = if is_all(bytes, 0) { addr.get() } else { 1 };
+    let answers = [place, bytes.len()];
+    tlsf.deallocate(addr, layout.align());
+    Some(answers)
+}
+
+/// Sizes and alignments, and address and number of usable bytes of the first payload of a pool that begins at 4096.
+const ZEROED: [[usize; 4]; 10] = [
+    [0, 1, 4112, 16],
+    [1, 1, 4112, 16],
+    [17, 16, 4112, 48],
+    [65536, 16, 4112, 65552],
+    [0, 64, 4160, 0],
+    [1, 64, 4160, 32],
+    [65536, 64, 4160, 65536],
+    [0, 4096, 8192, 0],
+    [17, 4096, 8192, 32],
+    [65536, 4096, 8192, 65536],
+];
+
+#[test]
+fn payloads_are_allocated_with_zeros(rt: HostRuntime) {
+    let pool = Range {
+        start: 4096,
+        len: 131072,
+    };
+    let (mut tlsf, taken) = with_inserted::<u64, u64, 59, 8>(&rt, pool, pool);
+    are(&rt, &[taken], &[131072]);
+    let most = layout_of(&rt, 100000, 1);
+    for [size, align, addr, usable] in ZEROED {
+        are(&rt, &[dirty(&mut tlsf, most).is_some() as usize], &[1]);
+        let layout = layout_of(&rt, size, align);
+        let answers = zeroed(&mut tlsf, layout).unwrap_or([0; 2]);
+        are(&rt, &answers, &[addr, usable]);
+    }
+    let refused = tlsf.allocate_zeroed(layout_of(&rt, 131072, 1));
+    are(&rt, &[number(refused)], &[0]);
 }
 
 #[test]

@@ -1,5 +1,5 @@
 -- What the calls of an allocator ensure: a record for each of the clauses `result`, `refused` and `frame`. The calls of other types share them.
-use Rattle.std.specs.Prelude.{◌≡◌, ◌≢◌, ℕ, ◌+◌, ◌<◌, ◌≤◌, length, List, None, Some, IsSome}
+use Rattle.std.specs.Prelude.{◌≡◌, ◌≢◌, ℕ, ◌+◌, ◌<◌, ◌≤◌, length, List, None, Some, IsSome, replicate}
 use Rattle.rlsf_base.specs.declared.memory.range.Range.{Range}
 use Rattle.rlsf_base.specs.Range.{AreApart}
 use Rattle.rlsf_base.specs.Space.{SamePlace}
@@ -29,6 +29,13 @@ pub record IsAllocated (before after : State) (size align addr : ℕ) : Type 0 w
   pub bytes : (a : ℕ) → a ≢ addr → bytes_at after a ≡ bytes_at before a
   -- one more payload is live
   pub count : live_count after ≡ live_count before + 1
+
+-- a payload was allocated at the address, for this size and alignment, and its bytes are zeros
+pub record IsAllocatedZeroed (before after : State) (size align addr : ℕ) : Type 0 where
+  -- it was allocated
+  pub made : IsAllocated before after size align addr
+  -- its bytes are 0
+  pub zeros : bytes_at after addr ≡ replicate (length (bytes_at after addr)) 0
 
 -- the payload at the address was deallocated
 pub record IsDeallocated (before after : State) (addr : ℕ) : Type 0 where

@@ -2,7 +2,7 @@
 //!
 //! Read `specs/Allocator` (the allocator as contracts see it, and its steps) and `specs/Results` (what calls return, refuse and keep) first, then
 //! `src/tlsf`, which has `Tlsf` and its calls for payloads. `specs/Bounds` says what holds within the bounds that an allocator is sized for.
-//! `src/pools` has the calls for pools, and `src/unknown_align` one for a payload of unknown alignment. `specs/Lending` is for calls that lend bytes,
+//! `src/pools` has the calls for pools, `src/unknown_align` one for a payload of unknown alignment, and `src/zeroed` one that fills a payload. `specs/Lending` is for calls that lend bytes,
 //! and `specs/InPlace` for a payload's owner who writes it where it lies, as `rlsf_heap` has. `src/bitmaps` gives read access to the class table,
 //! `src/consistency` reads the words of a pool again, and `src/state` holds the ghost state. `specs/Steps` is for private functions.
 #![tactic(auto)]
@@ -17,6 +17,7 @@ mod pools;
 mod state;
 mod tlsf;
 mod unknown_align;
+mod zeroed;
 
 pub use rlsf_blocks::{BlockInfo, Blocks, GRANULARITY};
 pub use state::GhostState;
