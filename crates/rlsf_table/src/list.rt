@@ -1,13 +1,14 @@
 //! The lists of free blocks of one class, newest first, through the words at +16 and +24 of each.
 
-ghost use Rattle.std.specs.Prelude.{◌≡◌, ℕ, ◌≤◌, List, ◌∷◌, ◌++◌, unwrap_or};
+ghost use Rattle.std.specs.Prelude.{◌≡◌, ℕ, ◌+◌, ◌≤◌, List, ◌∷◌, ◌++◌};
 ghost use Rattle.rlsf_base.specs.declared.memory.range.Range.{Range};
 ghost use Rattle.rlsf_base.specs.SizeClass.{IsValid};
+ghost use Rattle.rlsf_base.specs.Space.{word_at};
 ghost use Rattle.rlsf_model.specs.Lists.{IsIn};
 ghost use Rattle.rlsf_model.specs.WellFormed.{coverage, itself};
 ghost use Rattle.rlsf_table.specs.Counts.{Costs};
 ghost use Rattle.rlsf_table.specs.Rewrites.{CanBeBlock};
-ghost use Rattle.rlsf_table.specs.Steps.ClassList.{unlinking_touches, AtEachFront, AtEachPlace, IsFirstOrOwn, IsFreeList, IsRelinked};
+ghost use Rattle.rlsf_table.specs.Steps.ClassList.{first_then, unlinking_touches, AtEachFront, AtEachPlace, IsFirstOrOwn, IsFreeList, IsRelinked};
 ghost use Rattle.rlsf_table.specs.FreeTable.{AtEachListed, AtEachNewest, AtEachRoom, HasNewest, IsFreeTable, IsLinked, IsRoom, IsUnlinked};
 
 use crate::block_words::{NEXT_FREE, PREVIOUS_FREE};
@@ -41,39 +42,21 @@ fn link_front(memory: &mut OpenMemory, view: View, newest: usize, block: usize)
     memory.set_word_at(view, block + PREVIOUS_FREE, 0);
 }
 
-/// Takes the block at `block`, the first of its list, out of it. Returns the next one, which is the first then, or 0. The link to
-/// the block before isn't read, since there is none.
+/// Takes the block at `block` out from between the two that its links name, `next` and `previous`. Each is 0 where there is no block.
+/// If none is before it, the one behind it is the newest then.
 #[inline(always)]
-fn unlink_front(memory: &mut OpenMemory, view: View, block: usize) -> usize
-    requires front { (r : Range) × (after : List Range) × (newest : ℕ) × (r.start ≡ block) × IsFreeList memory.old newest (r ∷ after) }
-    requires view { view ≡ memory.old.view }
-    ensures step { (newest : ℕ) (r : Range) (after : List Range) → r.start ≡ block → IsFreeList memory.old newest (r ∷ after) → IsRelinked memory.old memory.new (r ∷ after) after result }
-    ensures costs { Costs memory.old memory.new 2 0 }
-{
-    let next = memory.load_at(view, block + NEXT_FREE) as usize;
-    memory.set_word_at(view, first_or_own(next, block) + PREVIOUS_FREE, 0);
-    next
-}
-
-/// Takes the block at `block` out from between the two that its links name. If none is before it, returns the one
-/// behind it, which is the newest then, or 0.
-#[inline(always)]
-fn unlink_between(memory: &mut OpenMemory, view: View, block: usize) -> Option<usize>
+fn unlink_between(memory: &mut OpenMemory, view: View, block: usize, next: usize, previous: usize)
     requires listed { (r : Range) × (free : List Range) × (newest : ℕ) × (r.start ≡ block) × IsIn r free × IsFreeList memory.old newest free }
+    requires links { (next ≡ word_at memory.old (block + 16)) × (previous ≡ word_at memory.old (block + 24)) }
     requires view { view ≡ memory.old.view }
-    ensures step { AtEachPlace memory.old block (λ newest r before after. IsRelinked memory.old memory.new (before ++ r ∷ after) (before ++ after) (unwrap_or result newest)) }
-    ensures costs { Costs memory.old memory.new (unlinking_touches result) 0 }
+    ensures step { AtEachPlace memory.old block (λ newest r before after. IsRelinked memory.old memory.new (before ++ r ∷ after) (before ++ after) (first_then next previous newest)) }
+    ensures costs { Costs memory.old memory.new (unlinking_touches next previous) 0 }
 {
-    let next = memory.load_at(view, block + NEXT_FREE) as usize;
-    let previous = memory.load_at(view, block + PREVIOUS_FREE) as usize;
     if next != 0 {
         memory.set_word_at(view, next + PREVIOUS_FREE, previous as u64);
     }
-    if previous == 0 {
-        Some(next)
-    } else {
+    if previous != 0 {
         memory.set_word_at(view, previous + NEXT_FREE, next as u64);
-        None
     }
 }
 
@@ -122,11 +105,16 @@ pub fn unlink_free_block<const FLLEN: usize, const SLLEN: usize>(
     ensures step { AtEachListed FLLEN SLLEN memory.old table.old block len (IsUnlinked FLLEN SLLEN memory.old memory.new table.new) }
     ensures costs { Costs memory.old memory.new 8 0 }
 {
-    let newest = unlink_between(memory, view, block);
-    if let Some(next) = newest {
+    let next = memory.load_at(view, block + NEXT_FREE) as usize;
+    let previous = memory.load_at(view, block + PREVIOUS_FREE) as usize;
+    // The table first: so the compiler tests once whether there is a next block, and takes the branches of the table for the link, too.
+    if previous == 0 {
         memory.is_below_limit();
         let (fl, sl) = class_of_block::<SLLEN>(len);
         table.take(memory, fl, sl, next);
+        unlink_between(memory, view, block, next, 0);
+    } else {
+        unlink_between(memory, view, block, next, previous);
     }
 }
 
@@ -149,6 +137,7 @@ pub fn unlink_newest_block<const FLLEN: usize, const SLLEN: usize>(
     ensures step { AtEachNewest FLLEN SLLEN memory.old table.old block class.fl class.sl (IsUnlinked FLLEN SLLEN memory.old memory.new table.new) }
     ensures costs { Costs memory.old memory.new 8 0 }
 {
-    let next = unlink_front(memory, view, block);
+    let next = memory.load_at(view, block + NEXT_FREE) as usize;
     table.take(memory, class.fl, class.sl, next);
+    unlink_between(memory, view, block, next, 0);
 }

@@ -1,4 +1,4 @@
--- A block put in front of the list, and the block in front taken out.
+-- A block put in front of the list.
 use Rattle.std.proofs.Common.{◌≡◌, ◌≢◌, ℕ, ◌+◌, ◌%◌, ◌≤◌, List, [], ◌∷◌, arith, inl, inr, refl, sym, ◌∙◌, ap, subst}
 use Rattle.std.proofs.lemmas.Bool.{cases_eq}
 use Rattle.rlsf_base.specs.declared.memory.range.Range.{Range}
@@ -125,51 +125,3 @@ module _ (m n : Space) (newest block at : ℕ) (r : Range) (free : List Range) (
         | inr e ↦ (r, inl refl, inr (e.1 ∙ ap (λ b. b + 24) (sym place)))
       ])
       (Rewrites-trans (Rewrites-trans fronts.next.rewrites fronts.back.rewrites) fronts.previous.rewrites)
-
--- ---- the first block taken out
-
--- the one write that does it: the link of the next block, or where there is none, the block's own
-module _ (m n : Space) (newest next at : ℕ) (r : Range) (after : List Range) (list : IsFreeList m newest (r ∷ after)) (is_next : next ≡ word_at m (r.start + 16))
-    (own : IsFirstOrOwn next r.start at) where
-  behind : Links m r.start after next
-  behind = subst (λ w. Links m r.start after w) (sym is_next) list.links.2
-
-  placed-behind : (f : Range) → IsIn f after → CanBeBlock m f
-  placed-behind f i = list.placed f (inr i)
-
-  -- where it is written
-  pub rest_placed : (f : Range) × (f.start ≡ at) × CanBeBlock m f
-  rest_placed = elim (cases_eq next 0) [
-    | inl none ↦ (r, sym (own.none none), list.placed r (inl refl))
-    | inr some ↦ let first = first_of m r.start after next behind some in (first.0, sym (own.some some ∙ first.2), placed-behind first.0 first.1)
-  ]
-
-  module _ (cut : Writes m n (Unit {0}) (at + 24) 0) where
-    cut-whole : at % 32 ≡ 0
-    cut-whole = omega (arith, rest_placed.1, rest_placed.2.whole)
-
-    -- what is left is the list
-    pub Links-rest : Links n 0 after next
-    Links-rest =
-        let differs : (f : Range) → IsIn f after → f.start ≢ r.start = λ f i same.
-        starts_differ (r ∷ []) after r f list.apart (inl refl) i (omega (arith, (list.placed r (inl refl)).room)) (omega (arith, (placed-behind f i).room)) (sym same) in
-        let nexts : (f : Range) → IsIn f after → word_at n (f.start + 16) ≡ word_at m (f.start + 16) = λ f i.
-        let here = placed-behind f i in
-        cut.rewrites.words (f.start + 16) (omega (arith, here.whole)) (omega (arith, here.lies_in)) (λ h. omega (arith, h.1, here.whole, cut-whole)) in
-        let others : (f : Range) → IsIn f after → f.start ≢ next → word_at n (f.start + 24) ≡ word_at m (f.start + 24) = λ f i other.
-        let here = placed-behind f i in
-        cut.rewrites.words (f.start + 24) (omega (arith, here.whole)) (omega (arith, here.lies_in)) (λ h. elim (cases_eq next 0) [
-          | inl none ↦ differs f i (omega (arith, h.1, own.none none))
-          | inr some ↦ other (omega (arith, h.1, own.some some))
-        ]) in
-        Links-hung m n r.start 0 after next placed-behind (λ a. omega (arith, list.apart a)) (λ some. ap (λ b. word_at n (b + 24)) (sym (own.some some)) ∙ cut.reads tt) nexts
-        others behind
-
-    -- and nothing but links was written
-    pub Rewrites-rest : Rewrites m n (IsLink (r ∷ after))
-    Rewrites-rest =
-        let link : IsLink (r ∷ after) (at + 24) = elim (cases_eq next 0) [
-          | inl none ↦ (r, inl refl, inr (ap (λ b. b + 24) (own.none none)))
-          | inr some ↦ let first = first_of m r.start after next behind some in (first.0, inr first.1, inr (ap (λ b. b + 24) (own.some some ∙ first.2)))
-        ] in
-        Rewrites-weaken (λ a h. subst (IsLink (r ∷ after)) (sym h.1) link) cut.rewrites

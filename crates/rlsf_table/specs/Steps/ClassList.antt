@@ -1,5 +1,5 @@
 -- The list of one class, as the functions that write its links have it.
-use Rattle.std.specs.Prelude.{◌≡◌, ◌≢◌, ℕ, ◌+◌, ◌^◌, ◌<◌, ◌≤◌, ◌==◌, List, ◌∷◌, ◌++◌, length, Option, None, Some, if◌then◌else◌}
+use Rattle.std.specs.Prelude.{◌≡◌, ◌≢◌, ℕ, ◌+◌, ◌^◌, ◌<◌, ◌≤◌, ◌==◌, List, ◌∷◌, ◌++◌, length, if◌then◌else◌}
 use Rattle.rlsf_base.specs.declared.memory.range.Range.{Range}
 use Rattle.rlsf_base.specs.Space.{Space, word_at}
 use Rattle.rlsf_model.specs.Lists.{IsIn}
@@ -28,10 +28,13 @@ AtEachPlace m block P = (head : ℕ) (r : Range) (before after : List Range) →
 abbrev pub IsRelinked : Space → Space → List Range → List Range → ℕ → Type 0
 IsRelinked m n written free head = Links n 0 free head × Rewrites m n (IsLink written)
 
--- how many touches take a block out from between two others; out from before one that is the newest then; or out of a list of one
-abbrev pub unlinking_touches : Option ℕ → ℕ
-unlinking_touches None = 4
-unlinking_touches (Some next) = if next == 0 then 2 else 3
+-- how many touches take a block out from between the two that its links name, or from before or behind one, where the other is 0
+abbrev pub unlinking_touches : ℕ → ℕ → ℕ
+unlinking_touches next previous = (if next == 0 then 0 else 1) + (if previous == 0 then 0 else 1)
+
+-- where a list begins from which a block was taken out: at the next one if none was before it, and else where it began
+abbrev pub first_then : ℕ → ℕ → ℕ → ℕ
+first_then next previous newest = if previous == 0 then next else newest
 
 -- the block at `first`, or where there is none, that at `block`
 pub record IsFirstOrOwn (first block at : ℕ) : Type 0 where
