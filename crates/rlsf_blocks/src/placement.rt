@@ -67,7 +67,8 @@ fn take_out<const FLLEN: usize, const SLLEN: usize>(
     ensures costs { Costs memory.old memory.new 20 0 }
 {
     unlink_newest_block(memory, view, table, block, class);
-    let longer = taken < len;
+    // Not `<`: from an inequality the compiler knows that the rest isn't 0, and leaves out a test before it looks for its class.
+    let longer = taken != len;
     if longer {
         leave_rest(memory, view, table, block, len, taken);
     }

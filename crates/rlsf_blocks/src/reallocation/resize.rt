@@ -48,7 +48,7 @@ pub(crate) fn occupy<const FLLEN: usize, const SLLEN: usize>(
     ensures costs { Costs memory.old memory.new 13 0 }
 {
     memory.set_word_at(view, block, used_size_word(taken));
-    if taken < total {
+    if taken != total {
         leave_rest(memory, view, table, block, total, taken);
     } else {
         memory.set_word_at(view, block + total + PREVIOUS_BLOCK, block as u64);
