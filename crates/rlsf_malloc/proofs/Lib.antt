@@ -1,7 +1,8 @@
 -- Lemmas of the exports. `Templates` has a manual proof for each shape of an export, and `Payloads` says what each does.
 mod Alignments
 pub mod AtAddresses
-pub mod Laws
+pub mod Exports
+pub mod HeapKinds
 mod Moved
 mod Outcomes
 pub mod Payloads

@@ -1,6 +1,5 @@
 -- The exports that take a payload from their caller, for both kinds of heaps: what each does to a heap and a payload.
 use Rattle.std.proofs.Common.{◌≡◌, ◌≢◌, ℕ, ◌≤◌, refl, sym, subst}
-use denote.RattleType.{RattleType}
 use Rattle.rlsf_heap.specs.Heap.{HeapView, PayloadView}
 use Rattle.rlsf_heap.specs.Thin.{owns_reply}
 use Rattle.rlsf_heap.specs.contracts.thin.ThinPayload as thin
@@ -9,6 +8,7 @@ use Rattle.rlsf_malloc.specs.Replies.{number_of}
 use Rattle.rlsf_malloc.specs.Resizing.{ResizesAligned, ResizesAny, ResizesInPlace}
 use Rattle.rlsf_malloc.specs.contracts.replies.Measured as measured
 use Rattle.rlsf_malloc.specs.contracts.replies.Resized as resized
+use Rattle.rlsf_malloc.proofs.HeapKinds.{Kind, row}
 use Rattle.rlsf_malloc.proofs.Steps.{Payloads}
 use Rattle.rlsf_malloc.proofs.Templates.Takes.{Export as Takes}
 use Rattle.rlsf_malloc.proofs.Templates.Trades0.{Export as Trades0}
@@ -30,65 +30,64 @@ pub can_resize : (P : ℕ → Type 0) (v : HeapView) (d : PayloadView) (x : ℕ)
 can_resize P v d x q ready known made =
     (ready, subst (λ (p : PayloadView). IsAt v x p) (sym made.1) known.0, made.0, λ some. subst (λ (p : PayloadView). P p.align) (sym made.1) (known.1 some))
 
--- R is the type of the heaps, and `view` what the contracts see of one
-module _ (R : RattleType) (view : R.Denot → HeapView) where
-  abbrev pub frees : Takes R payloads
+module _ (K : Kind) where
+  abbrev pub frees : Takes (row K) payloads
   frees = record {
-    S = λ v. IsReady (view v);
-    Fact = λ v d x. IsAt (view v) x d;
-    Asks = λ v x q. IsReady (view v) × IsAt (view v) x q.of;
-    Post = λ v x q w. Frees (view v) x q.of (view w);
-    Outer = λ v d x w. Frees (view v) x d (view w);
-    asks = λ v d x q ready known made. (ready, subst (λ (p : PayloadView). IsAt (view v) x p) (sym made.1) known);
-    packs = λ v d x q w ready known made did. subst (λ (p : PayloadView). Frees (view v) x p (view w)) made.1 did;
+    S = λ v. IsReady v;
+    Fact = λ v d x. IsAt v x d;
+    Asks = λ v x q. IsReady v × IsAt v x q.of;
+    Post = λ v x q w. Frees v x q.of w;
+    Outer = λ v d x w. Frees v x d w;
+    asks = λ v d x q ready known made. (ready, subst (λ (p : PayloadView). IsAt v x p) (sym made.1) known);
+    packs = λ v d x q w ready known made did. subst (λ (p : PayloadView). Frees v x p w) made.1 did;
   }
 
-  abbrev pub measures : Trades0 R payloads
+  abbrev pub measures : Trades0 (row K) payloads
   measures = record {
-    S = λ v. IsReady (view v);
+    S = λ v. IsReady v;
     Z = measured.the_row;
     num = λ z. z.len;
     gives = λ z. owns_reply z.payload.of;
-    Fact = λ v d x. IsAt (view v) x d;
-    Asks = λ v x q. IsReady (view v) × IsAt (view v) x q.of;
-    Post = λ v x q z w. IsUsable (view v) x q.of z.len z.payload.of (view w);
-    Outer = λ v d x r w p. IsUsable (view v) x d r p (view w);
-    asks = λ v d x q ready known made. (ready, subst (λ (p : PayloadView). IsAt (view v) x p) (sym made.1) known);
-    packs = λ v d x q z w ready known made did. (z.payload.of, subst (λ (p : PayloadView). IsUsable (view v) x p z.len z.payload.of (view w)) made.1 did, refl);
+    Fact = λ v d x. IsAt v x d;
+    Asks = λ v x q. IsReady v × IsAt v x q.of;
+    Post = λ v x q z w. IsUsable v x q.of z.len z.payload.of w;
+    Outer = λ v d x r w p. IsUsable v x d r p w;
+    asks = λ v d x q ready known made. (ready, subst (λ (p : PayloadView). IsAt v x p) (sym made.1) known);
+    packs = λ v d x q z w ready known made did. (z.payload.of, subst (λ (p : PayloadView). IsUsable v x p z.len z.payload.of w) made.1 did, refl);
   }
 
   -- a reallocation of a payload whose alignment isn't known: `Did` says what it does
-  abbrev resizes : (HeapView → ℕ → PayloadView → ℕ → ℕ → PayloadView → HeapView → Type 0) → Trades1 R payloads
+  abbrev resizes : (HeapView → ℕ → PayloadView → ℕ → ℕ → PayloadView → HeapView → Type 0) → Trades1 (row K) payloads
   resizes Did = record {
-    S = λ v. IsReady (view v);
+    S = λ v. IsReady v;
     Z = resized.the_row;
     num = λ z. number_of z;
     gives = λ z. owns_reply z.payload.of;
-    Fact = λ v d x n. IsAtSuch (λ align. 16 ≤ align) (view v) x d;
-    Asks = λ v x q n. CanResize (λ align. 16 ≤ align) (view v) x q;
-    Post = λ v x q n z w. Did (view v) x q.of n (number_of z) z.payload.of (view w);
-    Outer = λ v d x n r w p. Did (view v) x d n r p (view w);
-    asks = λ v d x n q ready known made. can_resize (λ align. 16 ≤ align) (view v) d x q ready known made;
-    packs = λ v d x n q z w ready known made did. (z.payload.of, subst (λ (p : PayloadView). Did (view v) x p n (number_of z) z.payload.of (view w)) made.1 did, refl);
+    Fact = λ v d x n. IsAtSuch (λ align. 16 ≤ align) v x d;
+    Asks = λ v x q n. CanResize (λ align. 16 ≤ align) v x q;
+    Post = λ v x q n z w. Did v x q.of n (number_of z) z.payload.of w;
+    Outer = λ v d x n r w p. Did v x d n r p w;
+    asks = λ v d x n q ready known made. can_resize (λ align. 16 ≤ align) v d x q ready known made;
+    packs = λ v d x n q z w ready known made did. (z.payload.of, subst (λ (p : PayloadView). Did v x p n (number_of z) z.payload.of w) made.1 did, refl);
   }
 
-  abbrev pub reallocates : ℕ → Trades1 R payloads
-  reallocates sllen = resizes (ResizesAny sllen)
+  abbrev pub reallocates : Trades1 (row K) payloads
+  reallocates = resizes (ResizesAny K.classes)
 
-  abbrev pub reallocates_in_place : Trades1 R payloads
+  abbrev pub reallocates_in_place : Trades1 (row K) payloads
   reallocates_in_place = resizes ResizesInPlace
 
-  abbrev pub reallocates_aligned : ℕ → Trades2 R payloads
-  reallocates_aligned sllen = record {
-    S = λ v. IsReady (view v);
+  abbrev pub reallocates_aligned : Trades2 (row K) payloads
+  reallocates_aligned = record {
+    S = λ v. IsReady v;
     Z = resized.the_row;
     num = λ z. number_of z;
     gives = λ z. owns_reply z.payload.of;
-    Fact = λ v d x n k. IsAtSuch (λ align. align ≡ aligned_for k) (view v) x d;
-    Asks = λ v x q n k. CanResize (λ align. align ≡ aligned_for k) (view v) x q;
-    Post = λ v x q n k z w. ResizesAligned sllen (view v) x q.of n k (number_of z) z.payload.of (view w);
-    Outer = λ v d x n k r w p. ResizesAligned sllen (view v) x d n k r p (view w);
-    asks = λ v d x n k q ready known made. can_resize (λ align. align ≡ aligned_for k) (view v) d x q ready known made;
+    Fact = λ v d x n k. IsAtSuch (λ align. align ≡ aligned_for k) v x d;
+    Asks = λ v x q n k. CanResize (λ align. align ≡ aligned_for k) v x q;
+    Post = λ v x q n k z w. ResizesAligned K.classes v x q.of n k (number_of z) z.payload.of w;
+    Outer = λ v d x n k r w p. ResizesAligned K.classes v x d n k r p w;
+    asks = λ v d x n k q ready known made. can_resize (λ align. align ≡ aligned_for k) v d x q ready known made;
     packs = λ v d x n k q z w ready known made did.
-        (z.payload.of, subst (λ (p : PayloadView). ResizesAligned sllen (view v) x p n k (number_of z) z.payload.of (view w)) made.1 did, refl);
+        (z.payload.of, subst (λ (p : PayloadView). ResizesAligned K.classes v x p n k (number_of z) z.payload.of w) made.1 did, refl);
   }

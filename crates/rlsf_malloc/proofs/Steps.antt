@@ -7,9 +7,15 @@ use Rattle.rlsf_malloc.proofs.Walking.{lft_end, Body, yes, ref_back, part_at, me
 use Rattle.rlsf_malloc.proofs.Walking.{lasts, triple_of, usize, Is, shows, fact_i, emp, sep, Val, Ura, Fml, Logic, sem, Callee, seq, call, RattleType, One, RefMutOf}
 use Rattle.rlsf_malloc.proofs.Walking.{Ended, Clauses, Lasts, closing}
 use Rattle.rlsf_c_lemmas.proofs.Lending.{lends}
+use Rattle.rlsf_malloc.proofs.HeapKinds.{Kind, row}
 use Rattle.rlsf_malloc.specs.Handle.{HoldsBeside}
-use base.Logic.{ent, via, mono_l}
-use contract.Lifetimes.{Lfts}
+use base.Logic.{SProp, ent, via, mono_l}
+use contract.BorrowLft.{◌⊑◌, ⊑_refl, ⊑_static}
+use contract.Lifetimes.{Lfts, Shares, toks}
+use denote.Param.{layout}
+use mir.Syntax.{named}
+use prog.Memory.{size}
+use types.Kit.{◌∵◌, !, qed, done}
 use denote.RattleType.{Denots, Valss, flat, owns}
 use denote.Signature.{Slot, types_at}
 use denote.Triple.Call.{calls_from}
@@ -36,9 +42,14 @@ taken Q = record { signature = record { lifetimes = 0; outlives = []; params = p
 abbrev pub finished : RattleType → Ended
 finished Z = record { signature = record { lifetimes = 0; outlives = []; params = plain (λ κs. Z) ∷ []; result = plain (λ κs. usize) }; kept = (yes, tt) }
 
-abbrev pub called : (R : RattleType) → One R.mir → (more : List (Slot 1)) → Kepts more → RattleType → Ended
-called R one more keeps Z = record {
-  signature = record { lifetimes = 1; outlives = []; params = RefMutOf (0 ∷ []) tt (plain (λ κs. R)) (λ κs. one) ∷ more; result = plain (λ κs. Z) };
+abbrev pub called : (K : Kind) (more : List (Slot 5)) → Kepts more → RattleType → Ended
+called K more keeps Z = record {
+  signature = record {
+    lifetimes = 5;
+    outlives = record { long = 1; long_ok = tt; short = named 0; short_ok = tt } ∷ record { long = 2; long_ok = tt; short = named 0; short_ok = tt } ∷ [];
+    params = RefMutOf (0 ∷ []) tt (plain (λ κs. row K)) (λ κs. tt) ∷ more;
+    result = plain (λ κs. Z);
+  };
   kept = (yes, keeps);
 }
 
@@ -50,14 +61,39 @@ module _ {M : Type 1} {𝓤 : Ura M} (𝓛 : Logic 𝓤) where
   abbrev pub passes : (Z : RattleType) → (Z.Denot → ℕ) → (Z.Denot → Fml) → Clauses 𝓤 (finished Z)
   passes Z num gives κs a = record { ghost = Unit {0}; requires = λ g. emp 𝓤; ensures = λ g r end. sep 𝓤 (sem 𝓛 (gives a.0)) (fact 𝓤 (r ≡ num a.0)) }
 
-  abbrev pub changes : (R : RattleType) (one : One R.mir) (more : List (Slot 1)) (keeps : Kepts more) (Z : RattleType)
-      → ((κs : Lfts 1) → R.Denot → Denots (types_at more κs) → Type 0) → ((κs : Lfts 1) → R.Denot → Denots (types_at more κs) → Z.Denot → R.Denot → Type 0)
-      → Clauses 𝓤 (called R one more keeps Z)
-  changes R one more keeps Z Asks Did κs a = record {
+  -- what a call requires of its type parameters, beside P, where these last for the lifetimes κs
+  abbrev pub at_kind : Kind → Lfts 4 → Type 0 → SProp 𝓤
+  at_kind K κs P = sep 𝓤 (fact 𝓤 (κs.0 ⊑ K.B.lives)) (sep 𝓤 (fact 𝓤 (κs.1.0 ⊑ K.B.lives)) (sep 𝓤 (fact 𝓤 (κs.1.1.0 ⊑ [])) (sep 𝓤 (fact 𝓤 (κs.1.1.1.0 ⊑ []))
+      (sep 𝓤 (fact 𝓤 (size (layout (row K)) < 2 ^ 63)) (fact 𝓤 P)))))
+
+  abbrev pub changes : (K : Kind) (more : List (Slot 5)) (keeps : Kepts more) (Z : RattleType)
+      → ((κs : Lfts 5) → (row K).Denot → Denots (types_at more κs) → Type 0)
+      → ((κs : Lfts 5) → (row K).Denot → Denots (types_at more κs) → Z.Denot → (row K).Denot → Type 0)
+      → Clauses 𝓤 (called K more keeps Z)
+  changes K more keeps Z Asks Did κs a = record {
     ghost = Unit {0};
-    requires = λ g. fact 𝓤 (Asks κs a.0.now a.1);
+    requires = λ g. at_kind K κs.1 (Asks κs a.0.now a.1);
     ensures = λ g r end. fact 𝓤 (Did κs a.0.now a.1 r end.0.now);
   }
+
+  -- type parameters last for ever, and so do the tokens of their lifetimes
+  abbrev pub lasting : Lfts 4
+  lasting = ([], ([], ([], ([], tt))))
+
+  abbrev pub all_shares : Shares 4
+  all_shares = (full_share, (full_share, (full_share, (full_share, tt))))
+
+  pub tokens : ent 𝓤 (emp 𝓤) (toks 𝓛 4 lasting all_shares)
+  tokens = qed 𝓛 [] ∵ nothing ! $ use0 𝓛 (‵ (flft [] full_share)) (𝓛.lfts.lft-nil full_share) $ join ! $
+      use0 𝓛 (‵ (flft [] full_share)) (𝓛.lfts.lft-nil full_share) $ join ! $ use0 𝓛 (‵ (flft [] full_share)) (𝓛.lfts.lft-nil full_share) $ join ! $
+      use0 𝓛 (‵ (flft [] full_share)) (𝓛.lfts.lft-nil full_share) $ join ! $ done !
+
+  pub kind_lasts : (K : Kind) (P : Type 0) → P → ent 𝓤 (emp 𝓤) (at_kind K lasting P)
+  kind_lasts K P p = qed 𝓛 [] ∵ use0 𝓛 (raw (fact 𝓤 P)) (fact_i 𝓤 P (emp 𝓤) p) $
+      use0 𝓛 (raw (fact 𝓤 (size (layout (row K)) < 2 ^ 63))) (fact_i 𝓤 _ (emp 𝓤) K.small) $ join ! $
+      use0 𝓛 (raw (fact 𝓤 ([] ⊑ []))) (fact_i 𝓤 _ (emp 𝓤) (⊑_refl [])) $ join ! $ use0 𝓛 (raw (fact 𝓤 ([] ⊑ []))) (fact_i 𝓤 _ (emp 𝓤) (⊑_refl [])) $ join ! $
+      use0 𝓛 (raw (fact 𝓤 ([] ⊑ K.B.lives))) (fact_i 𝓤 _ (emp 𝓤) K.lasting) $ join ! $ use0 𝓛 (raw (fact 𝓤 ([] ⊑ K.B.lives))) (fact_i 𝓤 _ (emp 𝓤) K.lasting) $ join ! $
+      done !
 
 -- An export meets its contract where its calls meet theirs: it makes a payload of an address, lends the heap, and makes a number of the result.
 abbrev pub Trades : (M : Type 1) (exported lent : Ended) → ((𝓤 : Ura M) (𝓛 : Logic 𝓤) → Clauses 𝓤 exported) → ((𝓤 : Ura M) (𝓛 : Logic 𝓤) → Clauses 𝓤 lent)
@@ -72,14 +108,14 @@ Trades M exported lent outer inner P Z num gives function =
     → Meets 𝓛 (finished Z).signature (𝓡.run (𝓡.env finish)) (closing 𝓛 (finished Z) (passes 𝓛 Z num gives))
     → Meets 𝓛 exported.signature (𝓡.run (𝓡.env key)) (closing 𝓛 exported (outer 𝓤 𝓛))
 
-module _ {M : Type 1} {𝓤 : Ura M} {𝓛 : Logic 𝓤} {K : Type 0} {Γ : List (Item 𝓤)} {E : Env 𝓤 𝓛.H} {C : Calls 𝓤 𝓛.H} {Λ : Loops 𝓤 𝓛.H} {f : Callee} {xs : List Opd}
+module _ {M : Type 1} {𝓤 : Ura M} {𝓛 : Logic 𝓤} {X : Type 0} {Γ : List (Item 𝓤)} {E : Env 𝓤 𝓛.H} {C : Calls 𝓤 𝓛.H} {Λ : Loops 𝓤 𝓛.H} {f : Callee} {xs : List Opd}
     {place : Place} {rest : Code} {end : Post 𝓤 𝓛.H} where
   -- a payload that owns d is made of its address
-  pub takes_payload : K → FmC 𝓤 𝓛.H 𝓛.laws C → (Q : RattleType) {D : Type 0} (owns : D → Fml) (Makes : ℕ → D → Q.Denot → Type 0)
+  pub takes_payload : X → FmC 𝓤 𝓛.H 𝓛.laws C → (Q : RattleType) {D : Type 0} (owns : D → Fml) (Makes : ℕ → D → Q.Denot → Type 0)
       → Triple 𝓤 (C f) (triple_of 𝓛 (taken Q).signature (closing 𝓛 (taken Q) (takes 𝓛 Q owns Makes)))
-      → (d : D) (x : ℕ) → x < 2 ^ 64 → ((i : Item 𝓤) → Opds K 𝓛 (i ∷ Γ) E xs (uint_vals w64 x))
-      → ((u : Val) (q : Q.Denot) → Is Q q (u ∷ []) → Makes x d q → Seq K 𝓛 (‵ (Q.own_val q (u ∷ [])) ∷ Γ) (lands C Λ E place u rest end))
-      → Seq K 𝓛 (‵ (owns d) ∷ Γ) (runs C Λ E (seq (call f xs place) rest) end)
+      → (d : D) (x : ℕ) → x < 2 ^ 64 → ((i : Item 𝓤) → Opds X 𝓛 (i ∷ Γ) E xs (uint_vals w64 x))
+      → ((u : Val) (q : Q.Denot) → Is Q q (u ∷ []) → Makes x d q → Seq X 𝓛 (‵ (Q.own_val q (u ∷ [])) ∷ Γ) (lands C Λ E place u rest end))
+      → Seq X 𝓛 (‵ (owns d) ∷ Γ) (runs C Λ E (seq (call f xs place) rest) end)
   takes_payload t fm Q {D} owns Makes met d x fits operands next =
       let T = triple_of 𝓛 (taken Q).signature (closing 𝓛 (taken Q) (takes 𝓛 Q owns Makes)) in let y : T.Ghost = ((tt, tt, tt, (x, tt), (uint_vals w64 x, tt)), d) in
       nothing t $ owned t usize _ (uint_Makes 𝓛 w64) x _ (refl, fits) $ join t $ nothing t $ join t $ use2 𝓛 (raw (T.pre y)) (id⊢ 𝓤 _) $
@@ -90,11 +126,11 @@ module _ {M : Type 1} {𝓤 : Ura M} {𝓛 : Logic 𝓤} {K : Type 0} {Γ : List
       move t (1 ∷ []) $ pick t (λ ws. split t $ drop t $ heard t (Makes x d q) (λ made. next u q is made)))))
 
   -- a number is made of a value, and the caller gets what it owns
-  pub passes_number : K → FmC 𝓤 𝓛.H 𝓛.laws C → (Z : RattleType) (num : Z.Denot → ℕ) (gives : Z.Denot → Fml)
+  pub passes_number : X → FmC 𝓤 𝓛.H 𝓛.laws C → (Z : RattleType) (num : Z.Denot → ℕ) (gives : Z.Denot → Fml)
       → Triple 𝓤 (C f) (triple_of 𝓛 (finished Z).signature (closing 𝓛 (finished Z) (passes 𝓛 Z num gives)))
-      → (z : Z.Denot) (v : Val) → ((i : Item 𝓤) → Opds K 𝓛 (i ∷ Γ) E xs (v ∷ []))
-      → ((h : Val) (m : ℕ) → Is usize m (h ∷ []) → m ≡ num z → Seq K 𝓛 (‵ (gives z) ∷ ‵ (usize.own_val m (h ∷ [])) ∷ Γ) (lands C Λ E place h rest end))
-      → Seq K 𝓛 (‵ (Z.own_val z (v ∷ [])) ∷ Γ) (runs C Λ E (seq (call f xs place) rest) end)
+      → (z : Z.Denot) (v : Val) → ((i : Item 𝓤) → Opds X 𝓛 (i ∷ Γ) E xs (v ∷ []))
+      → ((h : Val) (m : ℕ) → Is usize m (h ∷ []) → m ≡ num z → Seq X 𝓛 (‵ (gives z) ∷ ‵ (usize.own_val m (h ∷ [])) ∷ Γ) (lands C Λ E place h rest end))
+      → Seq X 𝓛 (‵ (Z.own_val z (v ∷ [])) ∷ Γ) (runs C Λ E (seq (call f xs place) rest) end)
   passes_number t fm Z num gives met z v operands next =
       let T = triple_of 𝓛 (finished Z).signature (closing 𝓛 (finished Z) (passes 𝓛 Z num gives)) in let y : T.Ghost = ((tt, tt, tt, (z, tt), (v ∷ [], tt)), tt) in
       nothing t $ move t (1 ∷ 0 ∷ []) $ join t $ nothing t $ join t $ nothing t $ move t (1 ∷ 0 ∷ []) $ use2 𝓛 (raw (T.pre y)) (id⊢ 𝓤 _) $
@@ -105,39 +141,42 @@ module _ {M : Type 1} {𝓤 : Ura M} {𝓛 : Logic 𝓤} {K : Type 0} {Γ : List
       move t (1 ∷ []) $ pick t (λ ws. split t $ drop t $ split t $ move t (1 ∷ []) $ heard t (m ≡ num z) (λ at. next h m is at)))))
 
   -- the heap at (b, o) is lent to a call, which is passed more, and comes back
-  pub lends_heap : K → FmC 𝓤 𝓛.H 𝓛.laws C → (R : RattleType) (one : One R.mir) (more : List (Slot 1)) (keeps : Kepts more) (Z : RattleType)
-      (Asks : (κs : Lfts 1) → R.Denot → Denots (types_at more κs) → Type 0) (Did : (κs : Lfts 1) → R.Denot → Denots (types_at more κs) → Z.Denot → R.Denot → Type 0)
-      → Triple 𝓤 (C f) (triple_of 𝓛 (called R one more keeps Z).signature (closing 𝓛 (called R one more keeps Z) (changes 𝓛 R one more keeps Z Asks Did)))
-      → (b o : ℕ) (before : R.Denot) {i : Item 𝓤} (args : (κs : Lfts 1) → Denots (types_at more κs)) (vss : (κs : Lfts 1) → Valss (types_at more κs)) (vs : List Val)
-      → ((κs : Lfts 1) → flat (types_at more κs) (vss κs) ≡ vs)
-      → ((κs : Lfts 1) → ent 𝓤 (mean 𝓛 i) (sem 𝓛 (owns (types_at more κs) (args κs) (vss κs))))
-      → ((κs : Lfts 1) → Asks κs before (args κs)) → ((j : Item 𝓤) → Opds K 𝓛 (j ∷ Γ) E xs (vptr b o ∷ vs))
-      → ((v : Val) (κs : Lfts 1) (r : Z.Denot) (w : R.Denot) → Is Z r (v ∷ []) → Did κs before (args κs) r w
-      → Seq K 𝓛 (‵ (part_at R full_share w b o) ∷ ‵ (Z.own_val r (v ∷ [])) ∷ Γ) (lands C Λ E place v rest end))
-      → Seq K 𝓛 (‵ (part_at R full_share before b o) ∷ i ∷ Γ) (runs C Λ E (seq (call f xs place) rest) end)
-  lends_heap t fm R one more keeps Z Asks Did met b o before {i} args vss vs is_flat has asks operands next =
+  pub lends_heap : X → FmC 𝓤 𝓛.H 𝓛.laws C → (K : Kind) (more : List (Slot 5)) (keeps : Kepts more) (Z : RattleType)
+      (Asks : (κs : Lfts 5) → (row K).Denot → Denots (types_at more κs) → Type 0)
+      (Did : (κs : Lfts 5) → (row K).Denot → Denots (types_at more κs) → Z.Denot → (row K).Denot → Type 0)
+      → Triple 𝓤 (C f) (triple_of 𝓛 (called K more keeps Z).signature (closing 𝓛 (called K more keeps Z) (changes 𝓛 K more keeps Z Asks Did)))
+      → (b o : ℕ) (before : (row K).Denot) {i : Item 𝓤} (args : (κs : Lfts 5) → Denots (types_at more κs)) (vss : (κs : Lfts 5) → Valss (types_at more κs)) (vs : List Val)
+      → ((κs : Lfts 5) → flat (types_at more κs) (vss κs) ≡ vs)
+      → ((κs : Lfts 5) → ent 𝓤 (mean 𝓛 i) (sem 𝓛 (owns (types_at more κs) (args κs) (vss κs))))
+      → ((κs : Lfts 5) → Asks κs before (args κs)) → ((j : Item 𝓤) → Opds X 𝓛 (j ∷ Γ) E xs (vptr b o ∷ vs))
+      → ((v : Val) (κs : Lfts 5) (r : Z.Denot) (w : (row K).Denot) → Is Z r (v ∷ []) → Did κs before (args κs) r w
+      → Seq X 𝓛 (‵ (part_at (row K) full_share w b o) ∷ ‵ (Z.own_val r (v ∷ [])) ∷ Γ) (lands C Λ E place v rest end))
+      → Seq X 𝓛 (‵ (part_at (row K) full_share before b o) ∷ i ∷ Γ) (runs C Λ E (seq (call f xs place) rest) end)
+  lends_heap t fm K more keeps Z Asks Did met b o before {i} args vss vs is_flat has asks operands next =
+      let R = row K in
       lends t tt R before b o (λ α γ.
       -- [the loan; what the lender keeps; the token; the other arguments]
-      let T = triple_of 𝓛 (called R one more keeps Z).signature (closing 𝓛 (called R one more keeps Z) (changes 𝓛 R one more keeps Z Asks Did)) in
-      let κs : Lfts 1 = (α ∷ [], tt) in let loan : MutBor R.Denot = record { ref_ptr = (b, o); ghost_name = γ; now = before } in
-      let y : T.Ghost = ((κs, (full_share, tt), tt, (loan, args κs), (vptr b o ∷ [], vss κs)), tt) in
+      let G = triple_of 𝓛 (called K more keeps Z).signature (closing 𝓛 (called K more keeps Z) (changes 𝓛 K more keeps Z Asks Did)) in
+      let κs : Lfts 5 = (α ∷ [], lasting 𝓛) in let loan : MutBor R.Denot = record { ref_ptr = (b, o); ghost_name = γ; now = before } in
+      let y : G.Ghost = ((κs, (full_share, all_shares 𝓛), (⊑_static (α ∷ []), (⊑_static (α ∷ []), tt)), (loan, args κs), (vptr b o ∷ [], vss κs)), tt) in
       let lender = sem 𝓛 (flent (α ∷ []) (Body (mem R) b o γ)) in
       move t (3 ∷ []) $ use1 𝓛 (‵ (owns (types_at more κs) (args κs) (vss κs))) (has κs) $ move t (1 ∷ 0 ∷ []) $ join t $
-      nothing t $ move t (3 ∷ 0 ∷ []) $ join t $ join t $ use0 𝓛 (raw (fact 𝓤 (Asks κs before (args κs)))) (fact_i 𝓤 (Asks κs before (args κs)) (emp 𝓤) (asks κs)) $
-      move t (1 ∷ 0 ∷ []) $ use2 𝓛 (raw (T.pre y)) (id⊢ 𝓤 _) $ join t $
-      calls_from t fm _ (vptr b o ∷ vs) (λ v. sep 𝓤 (T.post y v) lender)
-      (via 𝓤 (sep 𝓤 (C f (vptr b o ∷ vs) (T.post y)) lender)
-      (mono_l 𝓤 lender (subst (λ (us : List Val). ent 𝓤 (T.pre y) (C f (vptr b o ∷ us) (T.post y))) (is_flat κs) (met y)))
-      (fm f (vptr b o ∷ vs) (T.post y) (λ v. sep 𝓤 (T.post y v) lender) lender (λ v. id⊢ 𝓤 _))) (operands _) (λ v.
-      use1 𝓛 (later (some (λ (r : Z.Denot). ((‵ (flft (α ∷ []) full_share) ⊛ ‵ ftrue) ⊛ ‵ (Z.own_val r (v ∷ []))) ⊛
-      some (λ (ws : Lasts (called R one more keeps Z) κs (loan, args κs)). ‵ (lasts (called R one more keeps Z) κs (loan, args κs) ws) ⊛
+      use0 𝓛 (raw (toks 𝓛 4 (lasting 𝓛) (all_shares 𝓛))) (tokens 𝓛) $ move t (3 ∷ 0 ∷ []) $ join t $ join t $
+      use0 𝓛 (raw (at_kind 𝓛 K (lasting 𝓛) (Asks κs before (args κs)))) (kind_lasts 𝓛 K (Asks κs before (args κs)) (asks κs)) $
+      move t (1 ∷ 0 ∷ []) $ use2 𝓛 (raw (G.pre y)) (id⊢ 𝓤 _) $ join t $
+      calls_from t fm _ (vptr b o ∷ vs) (λ v. sep 𝓤 (G.post y v) lender)
+      (via 𝓤 (sep 𝓤 (C f (vptr b o ∷ vs) (G.post y)) lender)
+      (mono_l 𝓤 lender (subst (λ (us : List Val). ent 𝓤 (G.pre y) (C f (vptr b o ∷ us) (G.post y))) (is_flat κs) (met y)))
+      (fm f (vptr b o ∷ vs) (G.post y) (λ v. sep 𝓤 (G.post y v) lender) lender (λ v. id⊢ 𝓤 _))) (operands _) (λ v.
+      use1 𝓛 (later (some (λ (r : Z.Denot). ((‵ (flft (α ∷ []) full_share) ⊛ raw (toks 𝓛 4 (lasting 𝓛) (all_shares 𝓛))) ⊛ ‵ (Z.own_val r (v ∷ []))) ⊛
+      some (λ (ws : Lasts (called K more keeps Z) κs (loan, args κs)). ‵ (lasts (called K more keeps Z) κs (loan, args κs) ws) ⊛
       raw (fact 𝓤 (Did κs before (args κs) r ws.0))))) ⊛ ‵ (flent (α ∷ []) (Body (mem R) b o γ))) (id⊢ 𝓤 _) $ split t $
       await t tt $ pick t (λ r. split t $ split t $ split t $ lft_end t tt $ move t (2 ∷ []) $ peeks t Z (Is Z) (shows 𝓛 Z) r (v ∷ []) (λ is.
-      -- [what was returned; α is over; nothing; what the call left; what the lender keeps]
+      -- [what was returned; α is over; the other tokens; what the call left; what the lender keeps]
       move t (3 ∷ []) $ pick t (λ ws. split t $ move t (1 ∷ []) $ heard t (Did κs before (args κs) r ws.0) (λ did. fsplit t $ fsplit t $
-      -- [the last value; its borrow; the rest; what was returned; α is over; nothing; what the lender keeps]
+      -- [the last value; its borrow; the rest; what was returned; α is over; the other tokens; what the lender keeps]
       move t (4 ∷ 6 ∷ 0 ∷ []) $ use3 𝓛 (later (‵ (part_at R full_share ws.0 b o))) (ref_back 𝓛 R (α ∷ []) γ ws.0 b o) $ await t tt $
-      -- [the heap; its borrow; the rest; what was returned; nothing]
+      -- [the heap; its borrow; the rest; what was returned; the other tokens]
       move t (1 ∷ []) $ drop t $ move t (1 ∷ []) $ drop t $ move t (2 ∷ []) $ drop t $ next v κs r ws.0 is did))))))
 
 module _ {M : Type 1} {𝓤 : Ura M} {𝓛 : Logic 𝓤} {K : Type 0} {Γ : List (Item 𝓤)} {G : Goal 𝓤 𝓛.H} where

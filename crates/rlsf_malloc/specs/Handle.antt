@@ -39,45 +39,13 @@ HoldsSome R p P = fex ((v : R.Denot) × P v) (λ x. lies_at R full_share p x.0)
 abbrev pub HoldsBeside : (R : RattleType) → Ptr → (Y : Type 0) → (R.Denot → Y → Type 0) → (R.Denot → Y → Fml) → Fml
 HoldsBeside R p Y P F = fex ((v : R.Denot) × (y : Y) × P v y) (λ x. fsep (lies_at R full_share p x.0) (F x.0 x.1))
 
--- a large heap lies at the handle. It owns its memory except for the payloads that are out
-abbrev pub HoldsLarge : Ptr → HeapView → Fml
-HoldsLarge p v = Holds large IsReady p v
+-- a heap of the type R lies at the handle, and the caller owns a payload, such that P is true of both; or no payload, if its address is 0
+abbrev pub Gives : (R : RattleType) → Ptr → (R.Denot → PayloadView → Type 0) → Fml
+Gives R p P = HoldsBeside R p PayloadView P (λ v q. owns_reply q)
 
--- a large heap of which P is true lies at the handle
-abbrev pub HoldsSomeLarge : Ptr → (HeapView → Type 0) → Fml
-HoldsSomeLarge p P = HoldsSome large p P
-
--- a large heap lies at the handle, and the caller owns a payload, such that P is true of both; or no payload, if its address is 0
-abbrev pub LargeGives : Ptr → (HeapView → PayloadView → Type 0) → Fml
-LargeGives p P = HoldsBeside large p PayloadView P (λ v q. owns_reply q)
-
--- there is room for a large heap at the handle
-abbrev pub HasRoomForLarge : Ptr → Fml
-HasRoomForLarge p = room_at large p
-
--- the number of bytes of that room
-abbrev pub large_size : ℕ
-large_size = size (layout large)
-
--- a small heap lies at the handle. It owns its memory except for the payloads that are out
-abbrev pub HoldsSmall : Ptr → HeapView → Fml
-HoldsSmall p v = Holds small IsReady p v
-
--- a small heap of which P is true lies at the handle
-abbrev pub HoldsSomeSmall : Ptr → (HeapView → Type 0) → Fml
-HoldsSomeSmall p P = HoldsSome small p P
-
--- a small heap lies at the handle, and the caller owns a payload, such that P is true of both; or no payload, if its address is 0
-abbrev pub SmallGives : Ptr → (HeapView → PayloadView → Type 0) → Fml
-SmallGives p P = HoldsBeside small p PayloadView P (λ v q. owns_reply q)
-
--- there is room for a small heap at the handle
-abbrev pub HasRoomForSmall : Ptr → Fml
-HasRoomForSmall p = room_at small p
-
--- the number of bytes of that room
-abbrev pub small_size : ℕ
-small_size = size (layout small)
+-- the number of bytes of a handle of a heap of the type R
+abbrev pub handle_size : RattleType → ℕ
+handle_size R = size (layout R)
 
 -- where the first byte of a memory lies
 abbrev pub first_of : Home → Ptr

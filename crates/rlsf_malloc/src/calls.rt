@@ -1,12 +1,35 @@
 //! The calls of a heap, over numbers and payloads.
 
-ghost use Rattle.std.specs.Prelude.{false, ◌+◌, ◌<◌, ◌^◌, ◌≡◌, ◌≢◌};
-ghost use Rattle.rlsf_malloc.specs.Calls.{Adds, Allocates, AllocatesZeroed, CanAdd, Frees, IsAt, IsReady, IsUsable, aligned_for};
+ghost use Rattle.std.specs.Prelude.{false, ◌%◌, ◌+◌, ◌<◌, ◌^◌, ◌≡◌, ◌≢◌};
+ghost use Rattle.rlsf_base.specs.SizeClass.{IsValid};
+ghost use Rattle.rlsf_model.specs.Sized.{live_count};
+ghost use Rattle.rlsf_malloc.specs.Calls.{Adds, Allocates, AllocatesZeroed, CanAdd, Frees, IsAt, IsOver, IsReady, IsUsable, aligned_for};
+ghost use Rattle.rlsf_malloc.specs.Handle.{ArePartsOf};
 
 use crate::replies::Measured;
-use rlsf_base::memory::{Layout, Range};
+use rlsf_base::memory::{Layout, Memory, Range, RawParts};
 use rlsf_heap::{Heap, ThinPayload};
 use rlsf_int::BitPattern;
+
+/// Creates a heap over a memory, to which no range was added. The parameters must be valid, as for `Heap::new`.
+pub(crate) fn over<F: BitPattern, S: BitPattern, const FLLEN: usize, const SLLEN: usize>(
+    memory: Memory,
+) -> Heap<F, S, FLLEN, SLLEN>
+    requires { IsValid F.width S.width FLLEN SLLEN }
+    ensures { IsOver memory result }
+{
+    Heap::new(memory.into_open())
+}
+
+/// Consumes a heap of which no payload is live, and returns the parts of its memory.
+pub(crate) fn parts<F: BitPattern, S: BitPattern, const FLLEN: usize, const SLLEN: usize>(
+    heap: Heap<F, S, FLLEN, SLLEN>,
+) -> RawParts
+    requires { IsReady heap × (live_count heap.state ≡ 0) × (heap.identity.home.start % 8 ≡ 0) }
+    ensures { ArePartsOf heap.identity.home result }
+{
+    heap.into_memory().into_closed().into_raw_parts()
+}
 
 /// Returns the alignment of a payload for which `align` was requested: 16 at least.
 pub(crate) fn at_least_16(align: usize) -> usize
@@ -72,17 +95,30 @@ pub(crate) fn malloc<F: BitPattern, S: BitPattern, const FLLEN: usize, const SLL
     allocate_for(heap, size, 16)
 }
 
-/// Allocates a payload, or returns none.
+/// Allocates a payload of an alignment, which is 16 or a wide one, or returns none.
 #[inline(never)]
+pub(crate) fn allocate_aligned<
+    F: BitPattern,
+    S: BitPattern,
+    const FLLEN: usize,
+    const SLLEN: usize,
+>(heap: &mut Heap<F, S, FLLEN, SLLEN>, size: usize, align: usize) -> ThinPayload
+    requires { IsReady heap.old }
+    ensures { (result.addr ≡ result.of.start) × Allocates SLLEN heap.old size align result.of heap.new }
+{
+    allocate_for(heap, size, align)
+}
+
+/// Allocates a payload, or returns none.
 pub(crate) fn allocate<F: BitPattern, S: BitPattern, const FLLEN: usize, const SLLEN: usize>(
     heap: &mut Heap<F, S, FLLEN, SLLEN>,
     size: usize,
     align: usize,
 ) -> ThinPayload
     requires { IsReady heap.old }
-    ensures { (result.addr ≡ result.of.start) × Allocates SLLEN heap.old size align result.of heap.new }
+    ensures { (result.addr ≡ result.of.start) × Allocates SLLEN heap.old size (aligned_for align) result.of heap.new }
 {
-    allocate_for(heap, size, align)
+    allocate_aligned(heap, size, at_least_16(align))
 }
 
 /// Allocates a payload of `count * size` zero bytes, or returns none.

@@ -1,6 +1,7 @@
-//! The exports of the large kind.
+//! The exports of the large kind of heaps: 64 first-level rows of 64 size classes.
 
 ghost use Rattle.std.specs.Borrow.{sem};
+ghost use Rattle.std.specs.Ptr.{room_at};
 ghost use Rattle.std.specs.Prelude.{◌≡◌, ◌≢◌, ◌%◌, ◌≤◌, ℕ, List, length};
 ghost use Rattle.rlsf_base.specs.Range.{range_at};
 ghost use Rattle.rlsf_base.specs.RawParts.{CanStart};
@@ -11,22 +12,24 @@ ghost use Rattle.rlsf_model.specs.Sized.{live_count};
 ghost use Rattle.rlsf_heap.specs.Heap.{HeapView, PayloadView};
 ghost use Rattle.rlsf_heap.specs.Thin.{owns_reply};
 ghost use Rattle.rlsf_malloc.specs.Blocks.{AreTotals, IsCheckOf, IsListing};
-ghost use Rattle.rlsf_malloc.specs.Calls.{Adds, Allocates, AllocatesZeroed, CanAdd, Frees, IsAt, IsFresh, IsUsable, RemovesPool, aligned_for};
-ghost use Rattle.rlsf_malloc.specs.Handle.{HasRoomForLarge, HoldsLarge, HoldsSomeLarge, LargeGives, bytes_of, large_size};
+ghost use Rattle.rlsf_malloc.specs.Calls.{Adds, Allocates, AllocatesZeroed, CanAdd, Frees, IsAt, IsFresh, IsReady, IsUsable, RemovesPool, aligned_for};
+ghost use Rattle.rlsf_malloc.specs.Handle.{Gives, Holds, HoldsSome, bytes_of, handle_size, large};
 ghost use Rattle.rlsf_malloc.specs.Resizing.{ResizesAligned, ResizesAny, ResizesInPlace};
 
-use crate::large;
-use crate::large::Large;
+use crate::{calls, pools, resizing};
 use rlsf_base::memory::Memory;
 use rlsf_blocks::Totals;
-use rlsf_heap::ThinPayload;
+use rlsf_heap::{Heap, ThinPayload};
 use std::alloc::Global;
 use std::mem::size_of;
+
+/// A large heap.
+pub type Large = Heap<u64, u64, 64, 64>;
 
 /// Returns the size of a handle of the large kind in bytes.
 #[unsafe(no_mangle)]
 pub extern "C" fn rlsf_large_size() -> usize
-    ensures { result ≡ large_size }
+    ensures { result ≡ handle_size large }
 {
     size_of::<Large>()
 }
@@ -42,21 +45,21 @@ pub unsafe extern "C" fn rlsf_large_init(
     len: usize,
 )
     ghost bytes: { List ℕ }
-    requires* { sem 𝓛 (HasRoomForLarge heap) ∗ (sem 𝓛 (bytes_at block start bytes) ∗ ⌜ (length bytes ≡ len) × CanStart start len ⌝) }
-    ensures* { sem 𝓛 (HoldsSomeLarge heap (λ after. IsFresh block start bytes after)) }
+    requires* { sem 𝓛 (room_at large heap) ∗ (sem 𝓛 (bytes_at block start bytes) ∗ ⌜ (length bytes ≡ len) × CanStart start len ⌝) }
+    ensures* { sem 𝓛 (HoldsSome large heap (λ after. IsFresh block start bytes after)) }
 {
     let memory = Memory::from_raw_parts(alloc, block, start, len);
-    std::ptr::write(heap as *mut Large, large::over(memory));
+    std::ptr::write(heap as *mut Large, calls::over(memory));
 }
 
 /// Ends a heap of which no payload is live. Its handle is room for one again, and its block's bytes are the caller's.
 #[unsafe(no_mangle)]
 pub unsafe extern "C" fn rlsf_large_end(heap: *mut u8)
     ghost before: { HeapView }
-    requires* { sem 𝓛 (HoldsLarge heap before) ∗ ⌜ (live_count before.state ≡ 0) × (before.identity.home.start % 8 ≡ 0) ⌝ }
-    ensures* { sem 𝓛 (HasRoomForLarge heap) ∗ sem 𝓛 (bytes_of before.identity.home) }
+    requires* { sem 𝓛 (Holds large IsReady heap before) ∗ ⌜ (live_count before.state ≡ 0) × (before.identity.home.start % 8 ≡ 0) ⌝ }
+    ensures* { sem 𝓛 (room_at large heap) ∗ sem 𝓛 (bytes_of before.identity.home) }
 {
-    let parts = large::parts(std::ptr::read(heap as *const Large));
+    let parts = calls::parts(std::ptr::read(heap as *const Large));
     let _ = parts.release();
 }
 
@@ -64,10 +67,10 @@ pub unsafe extern "C" fn rlsf_large_end(heap: *mut u8)
 #[unsafe(no_mangle)]
 pub unsafe extern "C" fn rlsf_large_add(heap: *mut u8, start: usize, len: usize) -> usize
     ghost before: { HeapView }
-    requires* { sem 𝓛 (HoldsLarge heap before) ∗ ⌜ CanAdd before start len ⌝ }
-    ensures* { sem 𝓛 (HoldsSomeLarge heap (λ after. Adds 64 before start len result after)) }
+    requires* { sem 𝓛 (Holds large IsReady heap before) ∗ ⌜ CanAdd before start len ⌝ }
+    ensures* { sem 𝓛 (HoldsSome large heap (λ after. Adds 64 before start len result after)) }
 {
-    large::add(&mut *(heap as *mut Large), start, len)
+    calls::add(&mut *(heap as *mut Large), start, len)
 }
 
 /// Allocates a payload of the alignment 16. Returns its address, or 0. The caller owns its bytes from now on, and the right to free
@@ -75,10 +78,10 @@ pub unsafe extern "C" fn rlsf_large_add(heap: *mut u8, start: usize, len: usize)
 #[unsafe(no_mangle)]
 pub unsafe extern "C" fn rlsf_large_malloc(heap: *mut u8, size: usize) -> usize
     ghost before: { HeapView }
-    requires* { sem 𝓛 (HoldsLarge heap before) }
-    ensures* { sem 𝓛 (LargeGives heap (λ after payload. (payload.start ≡ result) × Allocates 64 before size 16 payload after)) }
+    requires* { sem 𝓛 (Holds large IsReady heap before) }
+    ensures* { sem 𝓛 (Gives large heap (λ after payload. (payload.start ≡ result) × Allocates 64 before size 16 payload after)) }
 {
-    let payload = large::malloc(&mut *(heap as *mut Large), size);
+    let payload = calls::malloc(&mut *(heap as *mut Large), size);
     payload.into_raw()
 }
 
@@ -86,10 +89,10 @@ pub unsafe extern "C" fn rlsf_large_malloc(heap: *mut u8, size: usize) -> usize
 #[unsafe(no_mangle)]
 pub unsafe extern "C" fn rlsf_large_allocate(heap: *mut u8, size: usize, align: usize) -> usize
     ghost before: { HeapView }
-    requires* { sem 𝓛 (HoldsLarge heap before) }
-    ensures* { sem 𝓛 (LargeGives heap (λ after payload. (payload.start ≡ result) × Allocates 64 before size (aligned_for align) payload after)) }
+    requires* { sem 𝓛 (Holds large IsReady heap before) }
+    ensures* { sem 𝓛 (Gives large heap (λ after payload. (payload.start ≡ result) × Allocates 64 before size (aligned_for align) payload after)) }
 {
-    let payload = large::allocate(&mut *(heap as *mut Large), size, align);
+    let payload = calls::allocate(&mut *(heap as *mut Large), size, align);
     payload.into_raw()
 }
 
@@ -101,10 +104,10 @@ pub unsafe extern "C" fn rlsf_large_allocate_zeroed(
     size: usize,
 ) -> usize
     ghost before: { HeapView }
-    requires* { sem 𝓛 (HoldsLarge heap before) }
-    ensures* { sem 𝓛 (LargeGives heap (λ after payload. (payload.start ≡ result) × AllocatesZeroed 64 before count size payload after)) }
+    requires* { sem 𝓛 (Holds large IsReady heap before) }
+    ensures* { sem 𝓛 (Gives large heap (λ after payload. (payload.start ≡ result) × AllocatesZeroed 64 before count size payload after)) }
 {
-    let payload = large::allocate_zeroed(&mut *(heap as *mut Large), count, size);
+    let payload = calls::allocate_zeroed(&mut *(heap as *mut Large), count, size);
     payload.into_raw()
 }
 
@@ -112,11 +115,11 @@ pub unsafe extern "C" fn rlsf_large_allocate_zeroed(
 #[unsafe(no_mangle)]
 pub unsafe extern "C" fn rlsf_large_free(heap: *mut u8, addr: usize)
     ghost before: { HeapView × PayloadView }
-    requires* { sem 𝓛 (HoldsLarge heap before.0) ∗ (sem 𝓛 (owns_reply before.1) ∗ ⌜ IsAt before.0 addr before.1 ⌝) }
-    ensures* { sem 𝓛 (HoldsSomeLarge heap (λ after. Frees before.0 addr before.1 after)) }
+    requires* { sem 𝓛 (Holds large IsReady heap before.0) ∗ (sem 𝓛 (owns_reply before.1) ∗ ⌜ IsAt before.0 addr before.1 ⌝) }
+    ensures* { sem 𝓛 (HoldsSome large heap (λ after. Frees before.0 addr before.1 after)) }
 {
     let payload = ThinPayload::from_raw(addr);
-    large::free(&mut *(heap as *mut Large), addr, payload);
+    calls::free(&mut *(heap as *mut Large), addr, payload);
 }
 
 /// Changes the size of a payload, which the caller owns, and moves it if necessary; allocates one if `addr` is 0. Returns its address, or
@@ -124,11 +127,11 @@ pub unsafe extern "C" fn rlsf_large_free(heap: *mut u8, addr: usize)
 #[unsafe(no_mangle)]
 pub unsafe extern "C" fn rlsf_large_reallocate(heap: *mut u8, addr: usize, size: usize) -> usize
     ghost before: { HeapView × PayloadView }
-    requires* { sem 𝓛 (HoldsLarge heap before.0) ∗ (sem 𝓛 (owns_reply before.1) ∗ ⌜ IsAt before.0 addr before.1 × (addr ≢ 0 → 16 ≤ before.1.align) ⌝) }
-    ensures* { sem 𝓛 (LargeGives heap (λ after payload. ResizesAny 64 before.0 addr before.1 size result payload after)) }
+    requires* { sem 𝓛 (Holds large IsReady heap before.0) ∗ (sem 𝓛 (owns_reply before.1) ∗ ⌜ IsAt before.0 addr before.1 × (addr ≢ 0 → 16 ≤ before.1.align) ⌝) }
+    ensures* { sem 𝓛 (Gives large heap (λ after payload. ResizesAny 64 before.0 addr before.1 size result payload after)) }
 {
     let payload = ThinPayload::from_raw(addr);
-    let resized = large::reallocate(&mut *(heap as *mut Large), addr, payload, size);
+    let resized = resizing::resize_any(&mut *(heap as *mut Large), addr, payload, size);
     resized.into_raw()
 }
 
@@ -142,11 +145,11 @@ pub unsafe extern "C" fn rlsf_large_reallocate_aligned(
     align: usize,
 ) -> usize
     ghost before: { HeapView × PayloadView }
-    requires* { sem 𝓛 (HoldsLarge heap before.0) ∗ (sem 𝓛 (owns_reply before.1) ∗ ⌜ IsAt before.0 addr before.1 × (addr ≢ 0 → before.1.align ≡ aligned_for align) ⌝) }
-    ensures* { sem 𝓛 (LargeGives heap (λ after payload. ResizesAligned 64 before.0 addr before.1 size align result payload after)) }
+    requires* { sem 𝓛 (Holds large IsReady heap before.0) ∗ (sem 𝓛 (owns_reply before.1) ∗ ⌜ IsAt before.0 addr before.1 × (addr ≢ 0 → before.1.align ≡ aligned_for align) ⌝) }
+    ensures* { sem 𝓛 (Gives large heap (λ after payload. ResizesAligned 64 before.0 addr before.1 size align result payload after)) }
 {
     let payload = ThinPayload::from_raw(addr);
-    let resized = large::reallocate_aligned(&mut *(heap as *mut Large), addr, payload, size, align);
+    let resized = resizing::resize_aligned(&mut *(heap as *mut Large), addr, payload, size, align);
     resized.into_raw()
 }
 
@@ -159,11 +162,11 @@ pub unsafe extern "C" fn rlsf_large_reallocate_in_place(
     size: usize,
 ) -> usize
     ghost before: { HeapView × PayloadView }
-    requires* { sem 𝓛 (HoldsLarge heap before.0) ∗ (sem 𝓛 (owns_reply before.1) ∗ ⌜ IsAt before.0 addr before.1 × (addr ≢ 0 → 16 ≤ before.1.align) ⌝) }
-    ensures* { sem 𝓛 (LargeGives heap (λ after payload. ResizesInPlace before.0 addr before.1 size result payload after)) }
+    requires* { sem 𝓛 (Holds large IsReady heap before.0) ∗ (sem 𝓛 (owns_reply before.1) ∗ ⌜ IsAt before.0 addr before.1 × (addr ≢ 0 → 16 ≤ before.1.align) ⌝) }
+    ensures* { sem 𝓛 (Gives large heap (λ after payload. ResizesInPlace before.0 addr before.1 size result payload after)) }
 {
     let payload = ThinPayload::from_raw(addr);
-    let resized = large::reallocate_in_place(&mut *(heap as *mut Large), addr, payload, size);
+    let resized = resizing::resize_in_place(&mut *(heap as *mut Large), addr, payload, size);
     resized.into_raw()
 }
 
@@ -171,11 +174,11 @@ pub unsafe extern "C" fn rlsf_large_reallocate_in_place(
 #[unsafe(no_mangle)]
 pub unsafe extern "C" fn rlsf_large_usable(heap: *mut u8, addr: usize) -> usize
     ghost before: { HeapView × PayloadView }
-    requires* { sem 𝓛 (HoldsLarge heap before.0) ∗ (sem 𝓛 (owns_reply before.1) ∗ ⌜ IsAt before.0 addr before.1 ⌝) }
-    ensures* { sem 𝓛 (LargeGives heap (λ after payload. IsUsable before.0 addr before.1 result payload after)) }
+    requires* { sem 𝓛 (Holds large IsReady heap before.0) ∗ (sem 𝓛 (owns_reply before.1) ∗ ⌜ IsAt before.0 addr before.1 ⌝) }
+    ensures* { sem 𝓛 (Gives large heap (λ after payload. IsUsable before.0 addr before.1 result payload after)) }
 {
     let payload = ThinPayload::from_raw(addr);
-    let measured = large::usable(&mut *(heap as *mut Large), addr, payload);
+    let measured = calls::usable(&mut *(heap as *mut Large), addr, payload);
     measured.into_raw()
 }
 
@@ -183,10 +186,10 @@ pub unsafe extern "C" fn rlsf_large_usable(heap: *mut u8, addr: usize) -> usize
 #[unsafe(no_mangle)]
 pub unsafe extern "C" fn rlsf_large_stats(heap: *mut u8, start: usize, len: usize) -> Totals
     ghost before: { HeapView }
-    requires* { sem 𝓛 (HoldsLarge heap before) ∗ ⌜ IsRow before.state (walked (range_at start len)) ⌝ }
-    ensures* { sem 𝓛 (HoldsSomeLarge heap (λ after. AreTotals before (range_at start len) result × (after ≡ before))) }
+    requires* { sem 𝓛 (Holds large IsReady heap before) ∗ ⌜ IsRow before.state (walked (range_at start len)) ⌝ }
+    ensures* { sem 𝓛 (HoldsSome large heap (λ after. AreTotals before (range_at start len) result × (after ≡ before))) }
 {
-    large::stats(&mut *(heap as *mut Large), start, len)
+    pools::totals_in(&mut *(heap as *mut Large), start, len)
 }
 
 /// Lists the blocks in a range that begin at an address or behind it, three numbers for each: where it begins, its length, and 1 if it is
@@ -201,10 +204,10 @@ pub unsafe extern "C" fn rlsf_large_list(
     into: &mut [usize],
 ) -> usize
     ghost before: { HeapView }
-    requires* { sem 𝓛 (HoldsLarge heap before) ∗ ⌜ IsRow before.state (walked (range_at start len)) ⌝ }
-    ensures* { sem 𝓛 (HoldsSomeLarge heap (λ after. IsListing before (range_at start len) from into.old result into.new × (after ≡ before))) }
+    requires* { sem 𝓛 (Holds large IsReady heap before) ∗ ⌜ IsRow before.state (walked (range_at start len)) ⌝ }
+    ensures* { sem 𝓛 (HoldsSome large heap (λ after. IsListing before (range_at start len) from into.old result into.new × (after ≡ before))) }
 {
-    large::list(&mut *(heap as *mut Large), start, len, from, into)
+    pools::list_in(&mut *(heap as *mut Large), start, len, from, into)
 }
 
 /// Returns 1 if the words of a range and the class table are consistent, else 0. The range is one added range or several that follow each
@@ -212,10 +215,10 @@ pub unsafe extern "C" fn rlsf_large_list(
 #[unsafe(no_mangle)]
 pub unsafe extern "C" fn rlsf_large_check(heap: *mut u8, start: usize, len: usize) -> usize
     ghost before: { HeapView }
-    requires* { sem 𝓛 (HoldsLarge heap before) ∗ ⌜ IsRow before.state (walked (range_at start len)) ⌝ }
-    ensures* { sem 𝓛 (HoldsSomeLarge heap (λ after. IsCheckOf 64 64 before (range_at start len) result × (after ≡ before))) }
+    requires* { sem 𝓛 (Holds large IsReady heap before) ∗ ⌜ IsRow before.state (walked (range_at start len)) ⌝ }
+    ensures* { sem 𝓛 (HoldsSome large heap (λ after. IsCheckOf 64 64 before (range_at start len) result × (after ≡ before))) }
 {
-    large::check(&mut *(heap as *mut Large), start, len)
+    pools::check_in(&mut *(heap as *mut Large), start, len)
 }
 
 /// Removes a range, which is one added range or several that follow each other, if no block in it is used. Returns 1 if it did, else 0; then
@@ -223,8 +226,8 @@ pub unsafe extern "C" fn rlsf_large_check(heap: *mut u8, start: usize, len: usiz
 #[unsafe(no_mangle)]
 pub unsafe extern "C" fn rlsf_large_remove(heap: *mut u8, start: usize, len: usize) -> usize
     ghost before: { HeapView }
-    requires* { sem 𝓛 (HoldsLarge heap before) ∗ ⌜ IsRow before.state (walked (range_at start len)) ⌝ }
-    ensures* { sem 𝓛 (HoldsSomeLarge heap (λ after. RemovesPool before (walked (range_at start len)) result after)) }
+    requires* { sem 𝓛 (Holds large IsReady heap before) ∗ ⌜ IsRow before.state (walked (range_at start len)) ⌝ }
+    ensures* { sem 𝓛 (HoldsSome large heap (λ after. RemovesPool before (walked (range_at start len)) result after)) }
 {
-    large::remove(&mut *(heap as *mut Large), start, len)
+    pools::remove_in(&mut *(heap as *mut Large), start, len)
 }

@@ -1,5 +1,6 @@
 //! The totals and the lists of the blocks of a pool, its check and its removal.
 
+ghost use Rattle.std.specs.Prelude.{◌≡◌};
 ghost use Rattle.rlsf_base.specs.Range.{range_at};
 ghost use Rattle.rlsf_blocks.specs.Blocks.{walked};
 ghost use Rattle.rlsf_model.specs.ChunkRows.{IsRow};
@@ -13,38 +14,38 @@ use rlsf_int::BitPattern;
 
 /// Returns the totals of the blocks in a range, which is complete contiguous chunks.
 pub(crate) fn totals_in<F: BitPattern, S: BitPattern, const FLLEN: usize, const SLLEN: usize>(
-    heap: &Heap<F, S, FLLEN, SLLEN>,
+    heap: &mut Heap<F, S, FLLEN, SLLEN>,
     start: usize,
     len: usize,
 ) -> Totals
-    requires { IsRow heap.now.state (walked (range_at start len)) }
-    ensures { AreTotals heap.now (range_at start len) result }
+    requires { IsReady heap.old × IsRow heap.old.state (walked (range_at start len)) }
+    ensures { AreTotals heap.old (range_at start len) result × (heap.new ≡ heap.old) }
 {
     totals_of(heap.iter_blocks(Range { start, len }))
 }
 
 /// Lists the blocks in a range, which is complete contiguous chunks, from an address on. Returns how many are listed.
 pub(crate) fn list_in<F: BitPattern, S: BitPattern, const FLLEN: usize, const SLLEN: usize>(
-    heap: &Heap<F, S, FLLEN, SLLEN>,
+    heap: &mut Heap<F, S, FLLEN, SLLEN>,
     start: usize,
     len: usize,
     from: usize,
     into: &mut [usize],
 ) -> usize
-    requires { IsRow heap.now.state (walked (range_at start len)) }
-    ensures { IsListing heap.now (range_at start len) from into.old result into.new }
+    requires { IsReady heap.old × IsRow heap.old.state (walked (range_at start len)) }
+    ensures { IsListing heap.old (range_at start len) from into.old result into.new × (heap.new ≡ heap.old) }
 {
     list(heap.iter_blocks(Range { start, len }), from, into)
 }
 
 /// Returns 1 if the words of a range, which is complete contiguous chunks, and the class table are consistent, else 0.
 pub(crate) fn check_in<F: BitPattern, S: BitPattern, const FLLEN: usize, const SLLEN: usize>(
-    heap: &Heap<F, S, FLLEN, SLLEN>,
+    heap: &mut Heap<F, S, FLLEN, SLLEN>,
     start: usize,
     len: usize,
 ) -> usize
-    requires { IsRow heap.now.state (walked (range_at start len)) }
-    ensures { IsCheckOf FLLEN SLLEN heap.now (range_at start len) result }
+    requires { IsReady heap.old × IsRow heap.old.state (walked (range_at start len)) }
+    ensures { IsCheckOf FLLEN SLLEN heap.old (range_at start len) result × (heap.new ≡ heap.old) }
 {
     heap.is_consistent(Range { start, len }) as usize
 }

@@ -6,7 +6,7 @@ ghost use Rattle.rlsf_malloc.specs.Calls.{IsAt, IsLiveAligned, IsReady, aligned_
 ghost use Rattle.rlsf_malloc.specs.Replies.{number_of};
 ghost use Rattle.rlsf_malloc.specs.Resizing.{Resizes, ResizesAligned, ResizesAny, ResizesInPlace, ResizesThere, ResizesWide};
 
-use crate::calls::{allocate, at_least_16};
+use crate::calls::{allocate_aligned, at_least_16};
 use crate::replies::Resized;
 use rlsf_base::memory::Layout;
 use rlsf_heap::{Heap, ThinPayload};
@@ -63,7 +63,7 @@ pub(crate) fn resize_aligned<F: BitPattern, S: BitPattern, const FLLEN: usize, c
     if addr == 0 {
         return Resized {
             done: true,
-            payload: allocate(heap, size, align),
+            payload: allocate_aligned(heap, size, align),
         };
     }
     resize(heap, addr, payload, size, align)
@@ -113,7 +113,7 @@ pub(crate) fn resize_any<F: BitPattern, S: BitPattern, const FLLEN: usize, const
     if addr == 0 {
         return Resized {
             done: true,
-            payload: allocate(heap, size, 16),
+            payload: allocate_aligned(heap, size, 16),
         };
     }
     // By this call it is known that the payload is live.

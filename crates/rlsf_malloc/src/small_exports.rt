@@ -1,6 +1,7 @@
-//! The exports of the small kind.
+//! The exports of the small kind of heaps: 12 first-level rows of 16 size classes.
 
 ghost use Rattle.std.specs.Borrow.{sem};
+ghost use Rattle.std.specs.Ptr.{room_at};
 ghost use Rattle.std.specs.Prelude.{◌≡◌, ◌≢◌, ◌%◌, ◌≤◌, ℕ, List, length};
 ghost use Rattle.rlsf_base.specs.Range.{range_at};
 ghost use Rattle.rlsf_base.specs.RawParts.{CanStart};
@@ -11,28 +12,29 @@ ghost use Rattle.rlsf_model.specs.Sized.{live_count};
 ghost use Rattle.rlsf_heap.specs.Heap.{HeapView, PayloadView};
 ghost use Rattle.rlsf_heap.specs.Thin.{owns_reply};
 ghost use Rattle.rlsf_malloc.specs.Blocks.{AreTotals, IsCheckOf, IsListing};
-ghost use Rattle.rlsf_malloc.specs.Calls.{Adds, Allocates, AllocatesZeroed, CanAdd, Frees, IsAt, IsFresh, IsUsable, RemovesPool, aligned_for};
-ghost use Rattle.rlsf_malloc.specs.Handle.{HasRoomForSmall, HoldsSmall, HoldsSomeSmall, SmallGives, bytes_of, small_size};
+ghost use Rattle.rlsf_malloc.specs.Calls.{Adds, Allocates, AllocatesZeroed, CanAdd, Frees, IsAt, IsFresh, IsReady, IsUsable, RemovesPool, aligned_for};
+ghost use Rattle.rlsf_malloc.specs.Handle.{Gives, Holds, HoldsSome, bytes_of, handle_size, small};
 ghost use Rattle.rlsf_malloc.specs.Resizing.{ResizesAligned, ResizesAny, ResizesInPlace};
 
-use crate::small;
-use crate::small::Small;
+use crate::{calls, pools, resizing};
 use rlsf_base::memory::Memory;
 use rlsf_blocks::Totals;
-use rlsf_heap::ThinPayload;
+use rlsf_heap::{Heap, ThinPayload};
 use std::alloc::Global;
 use std::mem::size_of;
 
-/// Returns the size of a handle of the small kind in bytes.
+/// A small heap.
+pub type Small = Heap<u16, u16, 12, 16>;
+
+/// As `rlsf_large_size`, for the small kind.
 #[unsafe(no_mangle)]
 pub extern "C" fn rlsf_small_size() -> usize
-    ensures { result ≡ small_size }
+    ensures { result ≡ handle_size small }
 {
     size_of::<Small>()
 }
 
-/// Creates a heap of the small kind at a handle, over the `len` bytes at `block`, whose addresses begin at `start`. No range of them is
-/// added yet. The bytes are the heap's from now on.
+/// As `rlsf_large_init`, for the small kind.
 #[unsafe(no_mangle)]
 pub unsafe extern "C" fn rlsf_small_init(
     heap: *mut u8,
@@ -42,58 +44,57 @@ pub unsafe extern "C" fn rlsf_small_init(
     len: usize,
 )
     ghost bytes: { List ℕ }
-    requires* { sem 𝓛 (HasRoomForSmall heap) ∗ (sem 𝓛 (bytes_at block start bytes) ∗ ⌜ (length bytes ≡ len) × CanStart start len ⌝) }
-    ensures* { sem 𝓛 (HoldsSomeSmall heap (λ after. IsFresh block start bytes after)) }
+    requires* { sem 𝓛 (room_at small heap) ∗ (sem 𝓛 (bytes_at block start bytes) ∗ ⌜ (length bytes ≡ len) × CanStart start len ⌝) }
+    ensures* { sem 𝓛 (HoldsSome small heap (λ after. IsFresh block start bytes after)) }
 {
     let memory = Memory::from_raw_parts(alloc, block, start, len);
-    std::ptr::write(heap as *mut Small, small::over(memory));
+    std::ptr::write(heap as *mut Small, calls::over(memory));
 }
 
-/// Ends a heap of which no payload is live. Its handle is room for one again, and its block's bytes are the caller's.
+/// As `rlsf_large_end`, for the small kind.
 #[unsafe(no_mangle)]
 pub unsafe extern "C" fn rlsf_small_end(heap: *mut u8)
     ghost before: { HeapView }
-    requires* { sem 𝓛 (HoldsSmall heap before) ∗ ⌜ (live_count before.state ≡ 0) × (before.identity.home.start % 8 ≡ 0) ⌝ }
-    ensures* { sem 𝓛 (HasRoomForSmall heap) ∗ sem 𝓛 (bytes_of before.identity.home) }
+    requires* { sem 𝓛 (Holds small IsReady heap before) ∗ ⌜ (live_count before.state ≡ 0) × (before.identity.home.start % 8 ≡ 0) ⌝ }
+    ensures* { sem 𝓛 (room_at small heap) ∗ sem 𝓛 (bytes_of before.identity.home) }
 {
-    let parts = small::parts(std::ptr::read(heap as *const Small));
+    let parts = calls::parts(std::ptr::read(heap as *const Small));
     let _ = parts.release();
 }
 
-/// Adds a range of the memory. Returns the number of bytes from its start to the end of its last chunk, or 0 if it makes no chunk.
+/// As `rlsf_large_add`, for the small kind.
 #[unsafe(no_mangle)]
 pub unsafe extern "C" fn rlsf_small_add(heap: *mut u8, start: usize, len: usize) -> usize
     ghost before: { HeapView }
-    requires* { sem 𝓛 (HoldsSmall heap before) ∗ ⌜ CanAdd before start len ⌝ }
-    ensures* { sem 𝓛 (HoldsSomeSmall heap (λ after. Adds 12 before start len result after)) }
+    requires* { sem 𝓛 (Holds small IsReady heap before) ∗ ⌜ CanAdd before start len ⌝ }
+    ensures* { sem 𝓛 (HoldsSome small heap (λ after. Adds 12 before start len result after)) }
 {
-    small::add(&mut *(heap as *mut Small), start, len)
+    calls::add(&mut *(heap as *mut Small), start, len)
 }
 
-/// Allocates a payload of the alignment 16. Returns its address, or 0. The caller owns its bytes from now on, and the right to free
-/// it.
+/// As `rlsf_large_malloc`, for the small kind.
 #[unsafe(no_mangle)]
 pub unsafe extern "C" fn rlsf_small_malloc(heap: *mut u8, size: usize) -> usize
     ghost before: { HeapView }
-    requires* { sem 𝓛 (HoldsSmall heap before) }
-    ensures* { sem 𝓛 (SmallGives heap (λ after payload. (payload.start ≡ result) × Allocates 16 before size 16 payload after)) }
+    requires* { sem 𝓛 (Holds small IsReady heap before) }
+    ensures* { sem 𝓛 (Gives small heap (λ after payload. (payload.start ≡ result) × Allocates 16 before size 16 payload after)) }
 {
-    let payload = small::malloc(&mut *(heap as *mut Small), size);
+    let payload = calls::malloc(&mut *(heap as *mut Small), size);
     payload.into_raw()
 }
 
-/// Allocates a payload. Returns its address, or 0. The caller owns it from now on.
+/// As `rlsf_large_allocate`, for the small kind.
 #[unsafe(no_mangle)]
 pub unsafe extern "C" fn rlsf_small_allocate(heap: *mut u8, size: usize, align: usize) -> usize
     ghost before: { HeapView }
-    requires* { sem 𝓛 (HoldsSmall heap before) }
-    ensures* { sem 𝓛 (SmallGives heap (λ after payload. (payload.start ≡ result) × Allocates 16 before size (aligned_for align) payload after)) }
+    requires* { sem 𝓛 (Holds small IsReady heap before) }
+    ensures* { sem 𝓛 (Gives small heap (λ after payload. (payload.start ≡ result) × Allocates 16 before size (aligned_for align) payload after)) }
 {
-    let payload = small::allocate(&mut *(heap as *mut Small), size, align);
+    let payload = calls::allocate(&mut *(heap as *mut Small), size, align);
     payload.into_raw()
 }
 
-/// Allocates a payload of `count * size` zero bytes. Returns its address, or 0. The caller owns it from now on.
+/// As `rlsf_large_allocate_zeroed`, for the small kind.
 #[unsafe(no_mangle)]
 pub unsafe extern "C" fn rlsf_small_allocate_zeroed(
     heap: *mut u8,
@@ -101,39 +102,37 @@ pub unsafe extern "C" fn rlsf_small_allocate_zeroed(
     size: usize,
 ) -> usize
     ghost before: { HeapView }
-    requires* { sem 𝓛 (HoldsSmall heap before) }
-    ensures* { sem 𝓛 (SmallGives heap (λ after payload. (payload.start ≡ result) × AllocatesZeroed 16 before count size payload after)) }
+    requires* { sem 𝓛 (Holds small IsReady heap before) }
+    ensures* { sem 𝓛 (Gives small heap (λ after payload. (payload.start ≡ result) × AllocatesZeroed 16 before count size payload after)) }
 {
-    let payload = small::allocate_zeroed(&mut *(heap as *mut Small), count, size);
+    let payload = calls::allocate_zeroed(&mut *(heap as *mut Small), count, size);
     payload.into_raw()
 }
 
-/// Frees a payload, which the caller owns and gives up. Does nothing if `addr` is 0.
+/// As `rlsf_large_free`, for the small kind.
 #[unsafe(no_mangle)]
 pub unsafe extern "C" fn rlsf_small_free(heap: *mut u8, addr: usize)
     ghost before: { HeapView × PayloadView }
-    requires* { sem 𝓛 (HoldsSmall heap before.0) ∗ (sem 𝓛 (owns_reply before.1) ∗ ⌜ IsAt before.0 addr before.1 ⌝) }
-    ensures* { sem 𝓛 (HoldsSomeSmall heap (λ after. Frees before.0 addr before.1 after)) }
+    requires* { sem 𝓛 (Holds small IsReady heap before.0) ∗ (sem 𝓛 (owns_reply before.1) ∗ ⌜ IsAt before.0 addr before.1 ⌝) }
+    ensures* { sem 𝓛 (HoldsSome small heap (λ after. Frees before.0 addr before.1 after)) }
 {
     let payload = ThinPayload::from_raw(addr);
-    small::free(&mut *(heap as *mut Small), addr, payload);
+    calls::free(&mut *(heap as *mut Small), addr, payload);
 }
 
-/// Changes the size of a payload, which the caller owns, and moves it if necessary; allocates one if `addr` is 0. Returns its address, or
-/// 0. The caller owns it from now on; or the old one, if 0 is returned.
+/// As `rlsf_large_reallocate`, for the small kind.
 #[unsafe(no_mangle)]
 pub unsafe extern "C" fn rlsf_small_reallocate(heap: *mut u8, addr: usize, size: usize) -> usize
     ghost before: { HeapView × PayloadView }
-    requires* { sem 𝓛 (HoldsSmall heap before.0) ∗ (sem 𝓛 (owns_reply before.1) ∗ ⌜ IsAt before.0 addr before.1 × (addr ≢ 0 → 16 ≤ before.1.align) ⌝) }
-    ensures* { sem 𝓛 (SmallGives heap (λ after payload. ResizesAny 16 before.0 addr before.1 size result payload after)) }
+    requires* { sem 𝓛 (Holds small IsReady heap before.0) ∗ (sem 𝓛 (owns_reply before.1) ∗ ⌜ IsAt before.0 addr before.1 × (addr ≢ 0 → 16 ≤ before.1.align) ⌝) }
+    ensures* { sem 𝓛 (Gives small heap (λ after payload. ResizesAny 16 before.0 addr before.1 size result payload after)) }
 {
     let payload = ThinPayload::from_raw(addr);
-    let resized = small::reallocate(&mut *(heap as *mut Small), addr, payload, size);
+    let resized = resizing::resize_any(&mut *(heap as *mut Small), addr, payload, size);
     resized.into_raw()
 }
 
-/// Changes the size of a payload of a known alignment, which the caller owns, and moves it if necessary; allocates one if `addr` is 0.
-/// Returns its address, or 0. The caller owns it from now on; or the old one, if 0 is returned.
+/// As `rlsf_large_reallocate_aligned`, for the small kind.
 #[unsafe(no_mangle)]
 pub unsafe extern "C" fn rlsf_small_reallocate_aligned(
     heap: *mut u8,
@@ -142,16 +141,15 @@ pub unsafe extern "C" fn rlsf_small_reallocate_aligned(
     align: usize,
 ) -> usize
     ghost before: { HeapView × PayloadView }
-    requires* { sem 𝓛 (HoldsSmall heap before.0) ∗ (sem 𝓛 (owns_reply before.1) ∗ ⌜ IsAt before.0 addr before.1 × (addr ≢ 0 → before.1.align ≡ aligned_for align) ⌝) }
-    ensures* { sem 𝓛 (SmallGives heap (λ after payload. ResizesAligned 16 before.0 addr before.1 size align result payload after)) }
+    requires* { sem 𝓛 (Holds small IsReady heap before.0) ∗ (sem 𝓛 (owns_reply before.1) ∗ ⌜ IsAt before.0 addr before.1 × (addr ≢ 0 → before.1.align ≡ aligned_for align) ⌝) }
+    ensures* { sem 𝓛 (Gives small heap (λ after payload. ResizesAligned 16 before.0 addr before.1 size align result payload after)) }
 {
     let payload = ThinPayload::from_raw(addr);
-    let resized = small::reallocate_aligned(&mut *(heap as *mut Small), addr, payload, size, align);
+    let resized = resizing::resize_aligned(&mut *(heap as *mut Small), addr, payload, size, align);
     resized.into_raw()
 }
 
-/// Changes the size of a payload, which the caller owns, without moving it. Returns its address, or 0. Does nothing if `addr` is 0. The
-/// caller still owns it.
+/// As `rlsf_large_reallocate_in_place`, for the small kind.
 #[unsafe(no_mangle)]
 pub unsafe extern "C" fn rlsf_small_reallocate_in_place(
     heap: *mut u8,
@@ -159,39 +157,37 @@ pub unsafe extern "C" fn rlsf_small_reallocate_in_place(
     size: usize,
 ) -> usize
     ghost before: { HeapView × PayloadView }
-    requires* { sem 𝓛 (HoldsSmall heap before.0) ∗ (sem 𝓛 (owns_reply before.1) ∗ ⌜ IsAt before.0 addr before.1 × (addr ≢ 0 → 16 ≤ before.1.align) ⌝) }
-    ensures* { sem 𝓛 (SmallGives heap (λ after payload. ResizesInPlace before.0 addr before.1 size result payload after)) }
+    requires* { sem 𝓛 (Holds small IsReady heap before.0) ∗ (sem 𝓛 (owns_reply before.1) ∗ ⌜ IsAt before.0 addr before.1 × (addr ≢ 0 → 16 ≤ before.1.align) ⌝) }
+    ensures* { sem 𝓛 (Gives small heap (λ after payload. ResizesInPlace before.0 addr before.1 size result payload after)) }
 {
     let payload = ThinPayload::from_raw(addr);
-    let resized = small::reallocate_in_place(&mut *(heap as *mut Small), addr, payload, size);
+    let resized = resizing::resize_in_place(&mut *(heap as *mut Small), addr, payload, size);
     resized.into_raw()
 }
 
-/// Returns the number of usable bytes of a payload, which the caller owns, or 0 if `addr` is 0. Nothing changes.
+/// As `rlsf_large_usable`, for the small kind.
 #[unsafe(no_mangle)]
 pub unsafe extern "C" fn rlsf_small_usable(heap: *mut u8, addr: usize) -> usize
     ghost before: { HeapView × PayloadView }
-    requires* { sem 𝓛 (HoldsSmall heap before.0) ∗ (sem 𝓛 (owns_reply before.1) ∗ ⌜ IsAt before.0 addr before.1 ⌝) }
-    ensures* { sem 𝓛 (SmallGives heap (λ after payload. IsUsable before.0 addr before.1 result payload after)) }
+    requires* { sem 𝓛 (Holds small IsReady heap before.0) ∗ (sem 𝓛 (owns_reply before.1) ∗ ⌜ IsAt before.0 addr before.1 ⌝) }
+    ensures* { sem 𝓛 (Gives small heap (λ after payload. IsUsable before.0 addr before.1 result payload after)) }
 {
     let payload = ThinPayload::from_raw(addr);
-    let measured = small::usable(&mut *(heap as *mut Small), addr, payload);
+    let measured = calls::usable(&mut *(heap as *mut Small), addr, payload);
     measured.into_raw()
 }
 
-/// Returns the totals of the blocks in a range, which is one added range or several that follow each other. Nothing changes.
+/// As `rlsf_large_stats`, for the small kind.
 #[unsafe(no_mangle)]
 pub unsafe extern "C" fn rlsf_small_stats(heap: *mut u8, start: usize, len: usize) -> Totals
     ghost before: { HeapView }
-    requires* { sem 𝓛 (HoldsSmall heap before) ∗ ⌜ IsRow before.state (walked (range_at start len)) ⌝ }
-    ensures* { sem 𝓛 (HoldsSomeSmall heap (λ after. AreTotals before (range_at start len) result × (after ≡ before))) }
+    requires* { sem 𝓛 (Holds small IsReady heap before) ∗ ⌜ IsRow before.state (walked (range_at start len)) ⌝ }
+    ensures* { sem 𝓛 (HoldsSome small heap (λ after. AreTotals before (range_at start len) result × (after ≡ before))) }
 {
-    small::stats(&mut *(heap as *mut Small), start, len)
+    pools::totals_in(&mut *(heap as *mut Small), start, len)
 }
 
-/// Lists the blocks in a range that begin at an address or behind it, three numbers for each: where it begins, its length, and 1 if it is
-/// used, else 0. The range is one added range or several that follow each other. Returns how many are listed: all, or as many as there is
-/// room for. Nothing else changes.
+/// As `rlsf_large_list`, for the small kind.
 #[unsafe(no_mangle)]
 pub unsafe extern "C" fn rlsf_small_list(
     heap: *mut u8,
@@ -201,30 +197,28 @@ pub unsafe extern "C" fn rlsf_small_list(
     into: &mut [usize],
 ) -> usize
     ghost before: { HeapView }
-    requires* { sem 𝓛 (HoldsSmall heap before) ∗ ⌜ IsRow before.state (walked (range_at start len)) ⌝ }
-    ensures* { sem 𝓛 (HoldsSomeSmall heap (λ after. IsListing before (range_at start len) from into.old result into.new × (after ≡ before))) }
+    requires* { sem 𝓛 (Holds small IsReady heap before) ∗ ⌜ IsRow before.state (walked (range_at start len)) ⌝ }
+    ensures* { sem 𝓛 (HoldsSome small heap (λ after. IsListing before (range_at start len) from into.old result into.new × (after ≡ before))) }
 {
-    small::list(&mut *(heap as *mut Small), start, len, from, into)
+    pools::list_in(&mut *(heap as *mut Small), start, len, from, into)
 }
 
-/// Returns 1 if the words of a range and the class table are consistent, else 0. The range is one added range or several that follow each
-/// other. The result is 1 unless the caller wrote to words that are the heap's. Nothing changes.
+/// As `rlsf_large_check`, for the small kind.
 #[unsafe(no_mangle)]
 pub unsafe extern "C" fn rlsf_small_check(heap: *mut u8, start: usize, len: usize) -> usize
     ghost before: { HeapView }
-    requires* { sem 𝓛 (HoldsSmall heap before) ∗ ⌜ IsRow before.state (walked (range_at start len)) ⌝ }
-    ensures* { sem 𝓛 (HoldsSomeSmall heap (λ after. IsCheckOf 12 16 before (range_at start len) result × (after ≡ before))) }
+    requires* { sem 𝓛 (Holds small IsReady heap before) ∗ ⌜ IsRow before.state (walked (range_at start len)) ⌝ }
+    ensures* { sem 𝓛 (HoldsSome small heap (λ after. IsCheckOf 12 16 before (range_at start len) result × (after ≡ before))) }
 {
-    small::check(&mut *(heap as *mut Small), start, len)
+    pools::check_in(&mut *(heap as *mut Small), start, len)
 }
 
-/// Removes a range, which is one added range or several that follow each other, if no block in it is used. Returns 1 if it did, else 0; then
-/// nothing changes. No later call accesses the removed bytes, until they are added again.
+/// As `rlsf_large_remove`, for the small kind.
 #[unsafe(no_mangle)]
 pub unsafe extern "C" fn rlsf_small_remove(heap: *mut u8, start: usize, len: usize) -> usize
     ghost before: { HeapView }
-    requires* { sem 𝓛 (HoldsSmall heap before) ∗ ⌜ IsRow before.state (walked (range_at start len)) ⌝ }
-    ensures* { sem 𝓛 (HoldsSomeSmall heap (λ after. RemovesPool before (walked (range_at start len)) result after)) }
+    requires* { sem 𝓛 (Holds small IsReady heap before) ∗ ⌜ IsRow before.state (walked (range_at start len)) ⌝ }
+    ensures* { sem 𝓛 (HoldsSome small heap (λ after. RemovesPool before (walked (range_at start len)) result after)) }
 {
-    small::remove(&mut *(heap as *mut Small), start, len)
+    pools::remove_in(&mut *(heap as *mut Small), start, len)
 }

@@ -23,7 +23,11 @@ use Rattle.rlsf_base.specs.Steps.Ownership.{bytes_at}
 use Rattle.rlsf_base.specs.contracts.memory.Memory.{the_row as M}
 use Rattle.rlsf_base.proofs.memory.Memory.TheLaws as memory_laws
 use Rattle.rlsf_base.specs.contracts.memory.Memory.from_raw_parts as g
+use Rattle.rlsf_base.specs.SizeClass.{IsValid}
+use Rattle.rlsf_malloc.proofs.HeapKinds.{Kind, row}
+use Rattle.rlsf_malloc.proofs.Steps.{at_kind, kind_lasts, lasting, tokens, all_shares}
 use Rattle.rlsf_malloc.specs.Handle.{HoldsSome}
+use contract.Lifetimes.{toks}
 
 -- the code
 abbrev pub function : Ty → Ty → Callee → Fn
@@ -59,13 +63,16 @@ exported = record {
   kept = (yes, (yes, (yes, (yes, (yes, tt)))));
 }
 
-abbrev pub called : RattleType → Ended
-called R = record { signature = record { lifetimes = 0; outlives = []; params = plain (λ κs. M) ∷ []; result = plain (λ κs. R) }; kept = (yes, tt) }
+abbrev pub called : Kind → Ended
+called K = record { signature = record { lifetimes = 4; outlives = []; params = plain (λ κs. M) ∷ []; result = plain (λ κs. row K) }; kept = (yes, tt) }
 
 abbrev stayed : Stays exported.signature.params exported.kept
 stayed = (stay_dropped _ yes, (stay_dropped _ yes, (stay_dropped _ yes, (stay_dropped _ yes, (stay_dropped _ yes, tt)))))
 
-module _ (R : RattleType) (single : R.mir ≡ lone R.mir ∷ []) (IsMade : Space → R.Denot → Type 0) (Fresh : Ptr → ℕ → List ℕ → R.Denot → Type 0) where
+module _ (K : Kind) (IsMade : Space → (row K).Denot → Type 0) (Fresh : Ptr → ℕ → List ℕ → (row K).Denot → Type 0) where
+  abbrev R : RattleType
+  R = row K
+
   module _ {M' : Type 1} {𝓤 : Ura M'} (𝓛 : Logic 𝓤) where
     abbrev pub outer : Clauses 𝓤 exported
     outer κs a = record {
@@ -75,8 +82,12 @@ module _ (R : RattleType) (single : R.mir ≡ lone R.mir ∷ []) (IsMade : Space
       ensures = λ bytes r end. sem 𝓛 (HoldsSome R a.0 (λ v. Fresh a.1.1.0 a.1.1.1.0 bytes v));
     }
 
-    abbrev pub inner : Clauses 𝓤 (called R)
-    inner κs a = record { ghost = Unit {0}; requires = λ _. emp 𝓤; ensures = λ _ r end. fact 𝓤 (IsMade a.0 r) }
+    abbrev pub inner : Clauses 𝓤 (called K)
+    inner κs a = record {
+      ghost = Unit {0};
+      requires = λ _. at_kind 𝓛 K κs (IsValid K.ghosts.width K.ghosts.width K.rows K.classes);
+      ensures = λ _ r end. fact 𝓤 (IsMade a.0 r);
+    }
 
   pub exports : ((p : Ptr) (start : ℕ) (bytes : List ℕ) (m : Space) (v : R.Denot) → IsMade m v → m.start ≡ start → m.bytes ≡ bytes
       → (m.view.base.ptr ≡ p) × (place_in m.view start ≡ 0) → Fresh p start bytes v)
@@ -84,7 +95,7 @@ module _ (R : RattleType) (single : R.mir ≡ lone R.mir ∷ []) (IsMade : Space
       → ((v : R.Denot) (w : Val) → Is R v (w ∷ []) → Good (lone R.mir) w)
       → Closed 𝓤 𝓛.H (tables 𝓤 𝓛.H 𝓜 𝓡 𝓡.env).C (tables 𝓤 𝓛.H 𝓜 𝓡 𝓡.env).Λ key (function (lone R.mir) (lone M.mir) callee)
       → Meets 𝓛 g.signature (𝓡.run (𝓡.env g.Key.name)) (g.spec 𝓛 𝓜.mem 𝓡.returns)
-      → Meets 𝓛 (called R).signature (𝓡.run (𝓡.env callee)) (closing 𝓛 (called R) (inner 𝓛))
+      → Meets 𝓛 (called K).signature (𝓡.run (𝓡.env callee)) (closing 𝓛 (called K) (inner 𝓛))
       → Meets 𝓛 exported.signature (𝓡.run (𝓡.env key)) (closing 𝓛 exported (outer 𝓛))
   exports fresh 𝓤 𝓛 𝓜 𝓡 key callee good closed source_met met =
       let c = outer 𝓛 in let W = walk_of 𝓛 exported stayed c in let 𝓣 = tables 𝓤 𝓛.H 𝓜 𝓡 𝓡.env in let code = function (lone R.mir) (lone M.mir) callee in
@@ -130,19 +141,21 @@ module _ (R : RattleType) (single : R.mir ≡ lone R.mir ∷ []) (IsMade : Space
       move ! (1 ∷ []) $ pick ! (λ ws. split ! $ drop ! $ split ! $ heard ! _ (λ its_start. split ! $ heard ! _ (λ its_bytes. split ! $ drop ! $ heard ! _ (λ its_block.
       sets ! (of_opd ! (get ! refl)) refl (tt, tt) $ sets ! (of_opd ! (get ! refl)) refl memory_typed $
       -- [the memory; the room; the locals]
-      let K = triple_of 𝓛 (called R).signature (closing 𝓛 (called R) (inner 𝓛)) in
-      let y : K.Ghost = ((tt, tt, tt, (m, tt), (v ∷ [], tt)), tt) in
-      nothing ! $ move ! (1 ∷ 0 ∷ []) $ join ! $ nothing ! $ join ! $ nothing ! $ move ! (1 ∷ 0 ∷ []) $ use2 𝓛 (raw (K.pre y)) (id⊢ 𝓤 _) $
-      calls_at ! (framed 𝓤 𝓛.H 𝓜 (tables 𝓤 𝓛.H 𝓜 𝓡 𝓡.env)) K met y
+      let T = triple_of 𝓛 (called K).signature (closing 𝓛 (called K) (inner 𝓛)) in
+      let y : T.Ghost = ((lasting 𝓛, all_shares 𝓛, tt, (m, tt), (v ∷ [], tt)), tt) in
+      nothing ! $ move ! (1 ∷ 0 ∷ []) $ join ! $ use0 𝓛 (raw (toks 𝓛 4 (lasting 𝓛) (all_shares 𝓛))) (tokens 𝓛) $ join ! $
+      use0 𝓛 (raw (at_kind 𝓛 K (lasting 𝓛) (IsValid K.ghosts.width K.ghosts.width K.rows K.classes))) (kind_lasts 𝓛 K _ K.valid) $ move ! (1 ∷ 0 ∷ []) $
+      use2 𝓛 (raw (T.pre y)) (id⊢ 𝓤 _) $
+      calls_at ! (framed 𝓤 𝓛.H 𝓜 (tables 𝓤 𝓛.H 𝓜 𝓡 𝓡.env)) T met y
       (and_then ! (get ! refl) (no_more !)) (λ w.
-      use1 𝓛 (later (some (λ (made : R.Denot). (‵ ftrue ⊛ ‵ (R.own_val made (w ∷ []))) ⊛
-      some (λ (ws' : Unit {0} × Unit {0}). ‵ (lasts (called R) y.0.0 y.0.3 ws') ⊛ raw (fact 𝓤 (IsMade m made)))))) (id⊢ 𝓤 _) $
+      use1 𝓛 (later (some (λ (made : R.Denot). (raw (toks 𝓛 4 (lasting 𝓛) (all_shares 𝓛)) ⊛ ‵ (R.own_val made (w ∷ []))) ⊛
+      some (λ (ws' : Unit {0} × Unit {0}). ‵ (lasts (called K) y.0.0 y.0.3 ws') ⊛ raw (fact 𝓤 (IsMade m made)))))) (id⊢ 𝓤 _) $
       await ! tt $ pick ! (λ made. split ! $ split ! $ drop ! $
       peeks ! R (Is R) (shows 𝓛 R) made (w ∷ []) (λ is_heap. let typed = good made w is_heap in lands_as ! refl refl typed $
       move ! (1 ∷ []) $ pick ! (λ ws'. split ! $ drop ! $ heard ! _ (λ is_made.
       -- [the heap; the room; the locals]
       assigns ! (of_opd ! (get ! refl)) (through ! refl (stop !)) (init ! 1 refl typed) $
-      move ! (1 ∷ 0 ∷ []) $ use2 𝓛 (‵ (part_at R full_share made b o)) (part_in 𝓛 R single full_share made b o w) $
+      move ! (1 ∷ 0 ∷ []) $ use2 𝓛 (‵ (part_at R full_share made b o)) (part_in 𝓛 R refl full_share made b o w) $
       sets ! (of_opd ! (unit_lit !)) refl (tt, tt) $
       returns ! (look_at ! 0 refl) $ free_all ! refl $ keep ! (0 ∷ []) $
       fpack ! ((v : R.Denot) × Fresh p start bytes v) (λ x. lies_at R full_share (block_ptr b o) x.0)

@@ -18,6 +18,9 @@ use Rattle.rlsf_base.specs.Steps.Ownership.{bytes_at, units_from}
 use Rattle.rlsf_base.specs.contracts.memory.block.RawParts as parts
 use Rattle.rlsf_base.proofs.memory.block.RawParts.TheLaws as parts_laws
 use Rattle.rlsf_base.specs.contracts.memory.block.RawParts.release as k
+use Rattle.rlsf_malloc.proofs.HeapKinds.{Kind, row}
+use Rattle.rlsf_malloc.proofs.Steps.{at_kind, kind_lasts, lasting, tokens, all_shares}
+use contract.Lifetimes.{toks}
 use Rattle.rlsf_malloc.specs.Handle.{ArePartsOf, Holds, bytes_of, first_of}
 
 abbrev P : RattleType
@@ -48,13 +51,16 @@ function τ π callee = record {
 abbrev pub exported : Ended
 exported = record { signature = record { lifetimes = 0; outlives = []; params = plain (λ κs. RawPtr) ∷ []; result = plain (λ κs. unit) }; kept = (yes, tt) }
 
-abbrev pub called : RattleType → Ended
-called R = record { signature = record { lifetimes = 0; outlives = []; params = plain (λ κs. R) ∷ []; result = plain (λ κs. parts.the_row) }; kept = (yes, tt) }
+abbrev pub called : Kind → Ended
+called K = record { signature = record { lifetimes = 4; outlives = []; params = plain (λ κs. row K) ∷ []; result = plain (λ κs. parts.the_row) }; kept = (yes, tt) }
 
 abbrev stayed : Stays exported.signature.params exported.kept
 stayed = (stay_dropped _ yes, tt)
 
-module _ (R : RattleType) (single : R.mir ≡ lone R.mir ∷ []) (S Fact Asked : R.Denot → Type 0) (home : R.Denot → Home) where
+module _ (K : Kind) (S Fact Asked : (row K).Denot → Type 0) (home : (row K).Denot → Home) where
+  abbrev R : RattleType
+  R = row K
+
   module _ {M : Type 1} {𝓤 : Ura M} (𝓛 : Logic 𝓤) where
     abbrev pub outer : Clauses 𝓤 exported
     outer κs a = record {
@@ -63,14 +69,14 @@ module _ (R : RattleType) (single : R.mir ≡ lone R.mir ∷ []) (S Fact Asked :
       ensures = λ v r end. sep 𝓤 (sem 𝓛 (room_at R a.0)) (sem 𝓛 (bytes_of (home v)));
     }
 
-    abbrev pub inner : Clauses 𝓤 (called R)
-    inner κs a = record { ghost = Unit {0}; requires = λ _. fact 𝓤 (Asked a.0); ensures = λ _ r end. fact 𝓤 (ArePartsOf (home a.0) r) }
+    abbrev pub inner : Clauses 𝓤 (called K)
+    inner κs a = record { ghost = Unit {0}; requires = λ _. at_kind 𝓛 K κs (Asked a.0); ensures = λ _ r end. fact 𝓤 (ArePartsOf (home a.0) r) }
 
   pub exports : ((v : R.Denot) → S v → Fact v → Asked v)
       → {M : Type 1} (𝓤 : Ura M) (𝓛 : Logic 𝓤) (𝓜 : Model 𝓤 𝓛.H) (𝓡 : Running 𝓤 𝓛.H 𝓜) (key callee : Callee)
       → ((v : R.Denot) (w : Val) → Is R v (w ∷ []) → Good (lone R.mir) w)
       → Closed 𝓤 𝓛.H (tables 𝓤 𝓛.H 𝓜 𝓡 𝓡.env).C (tables 𝓤 𝓛.H 𝓜 𝓡 𝓡.env).Λ key (function (lone R.mir) (lone P.mir) callee)
-      → Meets 𝓛 (called R).signature (𝓡.run (𝓡.env callee)) (closing 𝓛 (called R) (inner 𝓛))
+      → Meets 𝓛 (called K).signature (𝓡.run (𝓡.env callee)) (closing 𝓛 (called K) (inner 𝓛))
       → Meets 𝓛 k.signature (𝓡.run (𝓡.env k.Key.name)) (k.spec 𝓛 𝓜.mem 𝓡.returns)
       → Meets 𝓛 exported.signature (𝓡.run (𝓡.env key)) (closing 𝓛 exported (outer 𝓛))
   exports asks 𝓤 𝓛 𝓜 𝓡 key callee good closed met release_met =
@@ -83,34 +89,34 @@ module _ (R : RattleType) (single : R.mir ≡ lone R.mir ∷ []) (S Fact Asked :
       ∵ drop ! $ split ! $ pick ! (λ ready. move ! (1 ∷ []) $ heard ! (Fact before) (λ known.
       in_a_block ! a.0 (λ p. lies_at R full_share p before) (id⊢ 𝓤 _) (λ b o e.
       regoal ! (λ p. prop (WpFn 𝓤 𝓛.H 𝓣.C 𝓣.Λ code (rawptr_vals p ++ []) (W.post (s p)))) e refl $
-      use1 𝓛 (some (λ (v : Val). ‵ (fat full_share (lone R.mir) b o v) ⊛ ‵ (R.own_val before (v ∷ [])))) (part_out 𝓛 R single full_share before b o) $
+      use1 𝓛 (some (λ (v : Val). ‵ (fat full_share (lone R.mir) b o v) ⊛ ‵ (R.own_val before (v ∷ [])))) (part_out 𝓛 R refl full_share before b o) $
       pick ! (λ v. split ! $ move ! (1 ∷ []) $
       peeks ! R (Is R) (shows 𝓛 R) before (v ∷ []) (λ is. let typed = good before v is in
       -- [the heap; its cell]
       enter ! _ _ _ _ _ $ alloc_all ! (λ l. pass_all ! refl ((tt, tt), tt) $
       sets ! (of_opd ! (get ! refl)) refl (tt, tt) $
       sets ! (of_opd ! (load ! (through ! refl (stop !)) (look ! 1 refl))) refl typed $ forget ! 1 refl $
-      let G = triple_of 𝓛 (called R).signature (closing 𝓛 (called R) (inner 𝓛)) in
-      let y : G.Ghost = ((tt, tt, tt, (before, tt), (v ∷ [], tt)), tt) in
-      nothing ! $ move ! (1 ∷ 0 ∷ []) $ join ! $ nothing ! $ join ! $
-      use0 𝓛 (raw (fact 𝓤 (Asked before))) (fact_i 𝓤 (Asked before) (emp 𝓤) (asks before ready known)) $
+      let G = triple_of 𝓛 (called K).signature (closing 𝓛 (called K) (inner 𝓛)) in
+      let y : G.Ghost = ((lasting 𝓛, all_shares 𝓛, tt, (before, tt), (v ∷ [], tt)), tt) in
+      nothing ! $ move ! (1 ∷ 0 ∷ []) $ join ! $ use0 𝓛 (raw (toks 𝓛 4 (lasting 𝓛) (all_shares 𝓛))) (tokens 𝓛) $ join ! $
+      use0 𝓛 (raw (at_kind 𝓛 K (lasting 𝓛) (Asked before))) (kind_lasts 𝓛 K (Asked before) (asks before ready known)) $
       move ! (1 ∷ 0 ∷ []) $ use2 𝓛 (raw (G.pre y)) (id⊢ 𝓤 _) $
       calls_at ! (framed 𝓤 𝓛.H 𝓜 (tables 𝓤 𝓛.H 𝓜 𝓡 𝓡.env)) G met y
       (and_then ! (get ! refl) (no_more !)) (λ u.
-      use1 𝓛 (later (some (λ (r : P.Denot). (‵ ftrue ⊛ ‵ (P.own_val r (u ∷ []))) ⊛
-      some (λ (ws : Lasts (called R) tt (before, tt)). ‵ (lasts (called R) y.0.0 y.0.3 ws) ⊛ raw (fact 𝓤 (ArePartsOf m r)))))) (id⊢ 𝓤 _) $
+      use1 𝓛 (later (some (λ (r : P.Denot). (raw (toks 𝓛 4 (lasting 𝓛) (all_shares 𝓛)) ⊛ ‵ (P.own_val r (u ∷ []))) ⊛
+      some (λ (ws : Lasts (called K) (lasting 𝓛) (before, tt)). ‵ (lasts (called K) y.0.0 y.0.3 ws) ⊛ raw (fact 𝓤 (ArePartsOf m r)))))) (id⊢ 𝓤 _) $
       await ! tt $ pick ! (λ r. split ! $ split ! $ drop ! $
       peeks ! P (Is P) (shows 𝓛 P) r (u ∷ [])
       (λ is_parts. let parts_typed = ((parts_laws.the_row_laws.lawful 𝓛).typed r _ is_parts).0 in lands_as ! refl refl parts_typed $
       move ! (1 ∷ []) $ pick ! (λ ws. split ! $ drop ! $ heard ! (ArePartsOf m r) (λ ended.
       sets ! (of_opd ! (get ! refl)) refl parts_typed $
       -- [the parts; the room; the locals]
-      let K = triple_of 𝓛 k.signature (k.spec 𝓛 𝓜.mem 𝓡.returns) in
-      let z : K.Ghost = ((tt, tt, tt, (r, tt), (u ∷ [], tt)), tt) in
+      let T = triple_of 𝓛 k.signature (k.spec 𝓛 𝓜.mem 𝓡.returns) in
+      let z : T.Ghost = ((tt, tt, tt, (r, tt), (u ∷ [], tt)), tt) in
       let Owed : Type 0 = (r.bytes.at ≡ r.base.ptr) × (r.bytes.skip ≡ 0) × (r.bytes.out ≡ []) × (r.bytes.units ≡ units_from r.start (length r.bytes.bytes)) in
       nothing ! $ move ! (1 ∷ 0 ∷ []) $ join ! $ nothing ! $ join ! $ use0 𝓛 (raw (fact 𝓤 Owed)) (fact_i 𝓤 Owed (emp 𝓤) (ended.2.0, ended.2.1, ended.4, ended.2.3)) $
-      move ! (1 ∷ 0 ∷ []) $ use2 𝓛 (raw (K.pre z)) (id⊢ 𝓤 _) $
-      calls_at ! (framed 𝓤 𝓛.H 𝓜 (tables 𝓤 𝓛.H 𝓜 𝓡 𝓡.env)) K release_met z
+      move ! (1 ∷ 0 ∷ []) $ use2 𝓛 (raw (T.pre z)) (id⊢ 𝓤 _) $
+      calls_at ! (framed 𝓤 𝓛.H 𝓜 (tables 𝓤 𝓛.H 𝓜 𝓡 𝓡.env)) T release_met z
       (and_then ! (get ! refl) (no_more !)) (λ w.
       use1 𝓛 (later (some (λ (q : Ptr). (‵ ftrue ⊛ ‵ (RawPtr.own_val q (w ∷ []))) ⊛
       some (λ (ws' : Lasts k.ended tt (r, tt)). ‵ (lasts k.ended z.0.0 z.0.3 ws') ⊛ (‵ (bytes_at q r.start r.bytes.bytes) ⊛ raw (fact 𝓤 (q ≡ r.base.ptr)))))))

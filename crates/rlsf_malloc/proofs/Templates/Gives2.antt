@@ -1,17 +1,24 @@
 -- Exports that lend the heap behind the handle to a call with two numbers, and pass what it returns to the caller.
-use Rattle.rlsf_malloc.proofs.Walking.{◌≡◌, ℕ, List, [], ◌∷◌, ◌++◌, refl, w64, proved, full_share, ftrue, WpFn, tables, ‵, raw, some, prop, ◌$◌, ◌∵◌, !, qed}
+use Rattle.rlsf_malloc.proofs.Walking.{◌≡◌, ℕ, List, [], ◌∷◌, ◌++◌, refl, sym, w64, proved, full_share, ftrue, WpFn, tables, ‵, raw, some, prop, ◌$◌, ◌∵◌, !, qed}
 use Rattle.rlsf_malloc.proofs.Walking.{done, move, keep, drop, join, pick, suffices, group, enter, of_opd, addr, stop, no_more, and_then, returns, alloc_all}
 use Rattle.rlsf_malloc.proofs.Walking.{pass_all, free_all, look_at, get, through, sets, lands_as, yes, uint_vals, uint_Tells, uint_Lawful, Ptr, RawPtr}
 use Rattle.rlsf_malloc.proofs.Walking.{block_ptr, lies_at, rawptr_vals, rawptr_Tells, plain, nothing, owned, on_entry, Stays, walk_of, stay_dropped}
 use Rattle.rlsf_malloc.proofs.Walking.{Goes-dropped, ends_at, framed, usize, uint_Makes, Is, Val, Ura, Fml, Logic, sem, Model, Closed, Running, Fn, Callee}
 use Rattle.rlsf_malloc.proofs.Walking.{Ty, local, value_local, ty_ptr, ty_int, ty_ref, erased, mut, seq, assign, place, rv_opd, copy, addr_of, deref, call}
-use Rattle.rlsf_malloc.proofs.Walking.{return, RattleType, One, Ended, Clauses, closing, Meets, Good}
+use Rattle.rlsf_malloc.proofs.Walking.{return, RattleType, Ended, Clauses, closing, Meets}
 use Rattle.rlsf_malloc.proofs.Steps.{called, changes, finished, gives_out, lends_heap, passes, passes_number}
+use Rattle.rlsf_malloc.proofs.HeapKinds.{Kind, row}
 use Rattle.rlsf_c_lemmas.proofs.Lending.{in_its_block}
 use contract.Lifetimes.{Lfts}
+use denote.Memory.{lone}
 use denote.RattleType.{Denots}
 use denote.Signature.{Slot, types_at}
 use denote.Triple.End.{Kepts}
+use Rattle.rlsf_heap.specs.Heap.{HeapView, PayloadView}
+use Rattle.rlsf_heap.specs.Thin.{owns_reply}
+use Rattle.rlsf_heap.specs.contracts.thin.ThinPayload as payload
+use Rattle.rlsf_heap.proofs.thin.ThinPayload.TheLaws as payload_laws
+use Rattle.rlsf_malloc.specs.Calls.{IsReady}
 use Rattle.rlsf_malloc.specs.Handle.{Holds, HoldsBeside}
 
 -- the code
@@ -42,7 +49,7 @@ exported = record {
   kept = (yes, (yes, (yes, tt)));
 }
 
-abbrev pub more : List (Slot 1)
+abbrev pub more : List (Slot 5)
 more = plain (λ κs. usize) ∷ plain (λ κs. usize) ∷ []
 
 abbrev pub keeps : Kepts more
@@ -51,60 +58,68 @@ keeps = (yes, (yes, tt))
 abbrev stayed : Stays exported.signature.params exported.kept
 stayed = (stay_dropped _ yes, (stay_dropped _ yes, (stay_dropped _ yes, tt)))
 
-module _ (R : RattleType) (one : One R.mir) (S : R.Denot → Type 0)
-    (Q : RattleType) (num : Q.Denot → ℕ) (gives : Q.Denot → Fml) (Y : Type 0)
-    (Post : R.Denot → ℕ → ℕ → Q.Denot → R.Denot → Type 0)
-    (Outer : R.Denot → ℕ → ℕ → ℕ → R.Denot → Y → Type 0) (Own : R.Denot → ℕ → ℕ → ℕ → R.Denot → Y → Fml) where
-  -- what the call asks of the heap and its other arguments, and what it does
-  abbrev Asked : (κs : Lfts 1) → R.Denot → Denots (types_at more κs) → Type 0
-  Asked κs v a = S v
+-- `Allocated` says of the heap before, the numbers, the payload and the heap after what an allocation did
+module _ (K : Kind) (Allocated : HeapView → ℕ → ℕ → PayloadView → HeapView → Type 0) where
+  abbrev R : RattleType
+  R = row K
 
-  abbrev Did : (κs : Lfts 1) → R.Denot → Denots (types_at more κs) → Q.Denot → R.Denot → Type 0
+  abbrev Q : RattleType
+  Q = payload.the_row
+
+  abbrev Post : R.Denot → ℕ → ℕ → Q.Denot → R.Denot → Type 0
+  Post v n k q w = (q.addr ≡ q.of.start) × Allocated v n k q.of w
+
+  abbrev Outer : R.Denot → ℕ → ℕ → ℕ → R.Denot → PayloadView → Type 0
+  Outer v n k r w p = (p.start ≡ r) × Allocated v n k p w
+
+  -- what the call asks of the heap and its other arguments, and what it does
+  abbrev Asked : (κs : Lfts 5) → R.Denot → Denots (types_at more κs) → Type 0
+  Asked κs v a = IsReady v
+
+  abbrev Did : (κs : Lfts 5) → R.Denot → Denots (types_at more κs) → Q.Denot → R.Denot → Type 0
   Did κs v a r w = Post v a.0 a.1.0 r w
 
   abbrev lent : Ended
-  lent = called R one more keeps Q
+  lent = called K more keeps Q
 
   module _ {M : Type 1} {𝓤 : Ura M} (𝓛 : Logic 𝓤) where
     abbrev pub outer : Clauses 𝓤 exported
     outer κs a = record {
       ghost = R.Denot;
-      requires = λ g. sem 𝓛 (Holds R S a.0 g);
-      ensures = λ g r end. sem 𝓛 (HoldsBeside R a.0 Y (λ w y. Outer g a.1.0 a.1.1.0 r w y) (λ w y. Own g a.1.0 a.1.1.0 r w y));
+      requires = λ g. sem 𝓛 (Holds R IsReady a.0 g);
+      ensures = λ g r end. sem 𝓛 (HoldsBeside R a.0 PayloadView (λ w y. Outer g a.1.0 a.1.1.0 r w y) (λ w y. owns_reply y));
     }
 
     abbrev pub inner : Clauses 𝓤 lent
-    inner = changes 𝓛 R one more keeps Q Asked Did
+    inner = changes 𝓛 K more keeps Q Asked Did
 
-  pub exports : ((g : R.Denot) (n : ℕ) (k : ℕ) (z : Q.Denot) (w : R.Denot) → S g → Post g n k z w
-      → (y : Y) × Outer g n k (num z) w y × (gives z ≡ Own g n k (num z) w y))
-      → {M : Type 1} (𝓤 : Ura M) (𝓛 : Logic 𝓤) (𝓜 : Model 𝓤 𝓛.H) (𝓡 : Running 𝓤 𝓛.H 𝓜) (σ τ θ : Ty) (key callee finish : Callee)
-      → ((r : Q.Denot) (v : Val) → Is Q r (v ∷ []) → Good θ v)
-      → Closed 𝓤 𝓛.H (tables 𝓤 𝓛.H 𝓜 𝓡 𝓡.env).C (tables 𝓤 𝓛.H 𝓜 𝓡 𝓡.env).Λ key (function σ τ θ callee finish)
+  pub exports : {M : Type 1} (𝓤 : Ura M) (𝓛 : Logic 𝓤) (𝓜 : Model 𝓤 𝓛.H) (𝓡 : Running 𝓤 𝓛.H 𝓜) (σ τ : Ty) (key callee finish : Callee)
+      → Closed 𝓤 𝓛.H (tables 𝓤 𝓛.H 𝓜 𝓡 𝓡.env).C (tables 𝓤 𝓛.H 𝓜 𝓡 𝓡.env).Λ key (function σ τ (lone Q.mir) callee finish)
       → Meets 𝓛 lent.signature (𝓡.run (𝓡.env callee)) (closing 𝓛 lent (inner 𝓛))
-      → Meets 𝓛 (finished Q).signature (𝓡.run (𝓡.env finish)) (closing 𝓛 (finished Q) (passes 𝓛 Q num gives))
+      → Meets 𝓛 (finished Q).signature (𝓡.run (𝓡.env finish)) (closing 𝓛 (finished Q) (passes 𝓛 Q (λ q. q.addr) (λ q. owns_reply q.of)))
       → Meets 𝓛 exported.signature (𝓡.run (𝓡.env key)) (closing 𝓛 exported (outer 𝓛))
-  exports packs 𝓤 𝓛 𝓜 𝓡 σ τ θ key callee finish good closed met finish_met =
+  exports 𝓤 𝓛 𝓜 𝓡 σ τ key callee finish closed met finish_met =
       let c = outer 𝓛 in let W = walk_of 𝓛 exported stayed c in let 𝓣 = tables 𝓤 𝓛.H 𝓜 𝓡 𝓡.env in let goes = Goes-dropped 𝓛 0 (plain (λ _. usize)) yes (λ κs x w. refl) in
       let is_framed = framed 𝓤 𝓛.H 𝓜 𝓣 in
-      proved 𝓛 exported stayed c 𝓜 𝓡 (Goes-dropped 𝓛 0 (plain (λ _. RawPtr)) yes (λ κs x w. refl), (goes, (goes, tt))) key (function σ τ θ callee finish) closed
+      proved 𝓛 exported stayed c 𝓜 𝓡 (Goes-dropped 𝓛 0 (plain (λ _. RawPtr)) yes (λ κs x w. refl), (goes, (goes, tt))) key (function σ τ (lone Q.mir) callee finish) closed
       (λ κs. (rawptr_vals, (uint_vals w64, (uint_vals w64, tt)))) (λ κs. (rawptr_Tells, (uint_Tells w64, (uint_Tells w64, tt)))) (λ κs qs bounds a g are.
       let n = a.1.0 in let k = a.1.1.0 in let s : Ptr → W.Ghost = λ p. ((κs, qs, bounds, (p, (n, (k, tt))), (rawptr_vals p, (uint_vals w64 n, (uint_vals w64 k, tt)))), g) in
-      qed 𝓛 (raw (on_entry 𝓛 exported.signature κs qs a (s a.0).0.4) ∷ some (λ (_ : S g). ‵ (lies_at R full_share a.0 g)) ∷ []) ∵ drop ! $
+      qed 𝓛 (raw (on_entry 𝓛 exported.signature κs qs a (s a.0).0.4) ∷ some (λ (_ : IsReady g). ‵ (lies_at R full_share a.0 g)) ∷ []) ∵ drop ! $
       pick ! (λ ready.
-      in_its_block ! R g a.0 (λ p. prop (WpFn 𝓤 𝓛.H 𝓣.C 𝓣.Λ (function σ τ θ callee finish) (rawptr_vals p ++ uint_vals w64 n ++ uint_vals w64 k ++ []) (W.post (s p)))) (λ b o.
+      in_its_block ! R g a.0
+      (λ p. prop (WpFn 𝓤 𝓛.H 𝓣.C 𝓣.Λ (function σ τ (lone Q.mir) callee finish) (rawptr_vals p ++ uint_vals w64 n ++ uint_vals w64 k ++ []) (W.post (s p)))) (λ b o.
       enter ! _ _ _ _ _ $ alloc_all ! (λ l. pass_all ! refl ((tt, tt), ((tt, record { fits = are.1.0.1 }), ((tt, record { fits = are.1.1.0.1 }), tt))) $
       sets ! (of_opd ! (get ! refl)) refl (tt, tt) $ sets ! (addr ! (through ! refl (stop !))) refl (tt, tt) $ nothing ! $ move ! (1 ∷ 0 ∷ []) $
-      lends_heap ! is_framed R one more keeps Q Asked Did met b o g (λ κs. (n, (k, tt))) (λ κs. (uint_vals w64 n, (uint_vals w64 k, tt))) _ (λ κs. refl)
+      lends_heap ! is_framed K more keeps Q Asked Did met b o g (λ κs. (n, (k, tt))) (λ κs. (uint_vals w64 n, (uint_vals w64 k, tt))) _ (λ κs. refl)
       (λ κs. qed 𝓛 (‵ ftrue ∷ []) ∵ owned ! usize _ (uint_Makes 𝓛 w64) k _ (refl, are.1.1.0.1) $ join ! $ owned ! usize _ (uint_Makes 𝓛 w64) n _ (refl, are.1.0.1) $
       join ! $ done !) (λ κs. ready) (λ i. and_then ! (get ! refl) (and_then ! (get ! refl) (and_then ! (get ! refl) (no_more !))))
-      (λ v κs r w is did. let typed = good r v is in lands_as ! refl refl typed $
+      (λ v κs r w is did. let typed = ((payload_laws.the_row_laws.lawful 𝓛).typed r _ is).0 in lands_as ! refl refl typed $
       -- [the heap; what was returned; the locals]
       move ! (1 ∷ []) $ sets ! (of_opd ! (get ! refl)) refl typed $
-      passes_number ! is_framed Q num gives finish_met r v (λ i. and_then ! (get ! refl) (no_more !))
+      passes_number ! is_framed Q (λ q. q.addr) (λ q. owns_reply q.of) finish_met r v (λ i. and_then ! (get ! refl) (no_more !))
       (λ h m is_m at. lands_as ! refl refl ((uint_Lawful 𝓛 w64).typed m _ is_m).0 $
       -- [what the caller gets; the number; the heap; the locals]
       returns ! (look_at ! 0 refl) $ free_all ! refl $ keep ! (0 ∷ 2 ∷ 1 ∷ []) $
-      gives_out ! R w b o Y (λ i. Outer g n k i) (λ i. Own g n k i) m (num r) at (packs g n k r w ready did) $ move ! (1 ∷ []) $
+      gives_out ! R w b o PayloadView (λ i. Outer g n k i) (λ i w y. owns_reply y) m r.addr at (r.of, (sym did.0, did.1), refl) $ move ! (1 ∷ []) $
       suffices ! _ (ends_at 𝓛 exported stayed c (s (block_ptr b o)) h m (tt, (tt, (tt, tt))) (tt, (tt, (tt, tt)))) $
       nothing ! $ nothing ! $ join ! $ nothing ! $ join ! $ nothing ! $ join ! $ nothing ! $ group ! 3 $ done !))))))

@@ -5,8 +5,9 @@ use Rattle.rlsf_malloc.proofs.Walking.{returns, alloc_all, pass_all, free_all, l
 use Rattle.rlsf_malloc.proofs.Walking.{block_ptr, lies_at, rawptr_vals, rawptr_Tells, plain, nothing, owned, heard, on_entry, Stays, walk_of, stay_dropped}
 use Rattle.rlsf_malloc.proofs.Walking.{Goes-dropped, ends_at, framed, usize, uint_Makes, Is, Val, Ura, sep, Logic, sem, Model, Closed, Running, Fn, Callee}
 use Rattle.rlsf_malloc.proofs.Walking.{Ty, local, value_local, ty_ptr, ty_int, ty_ref, erased, mut, seq, assign, place, rv_opd, copy, addr_of, deref, call}
-use Rattle.rlsf_malloc.proofs.Walking.{return, RattleType, One, Ended, Clauses, closing, Meets, Good}
+use Rattle.rlsf_malloc.proofs.Walking.{return, RattleType, Ended, Clauses, closing, Meets, Good}
 use Rattle.rlsf_malloc.proofs.Steps.{called, changes, lends_heap}
+use Rattle.rlsf_malloc.proofs.HeapKinds.{Kind, row}
 use Rattle.rlsf_c_lemmas.proofs.Lending.{in_its_block}
 use contract.Lifetimes.{Lfts}
 use denote.RattleType.{Denots}
@@ -39,7 +40,7 @@ exported A = record {
   kept = (yes, (yes, (yes, tt)));
 }
 
-abbrev pub more : List (Slot 1)
+abbrev pub more : List (Slot 5)
 more = plain (λ κs. usize) ∷ plain (λ κs. usize) ∷ []
 
 abbrev pub keeps : Kepts more
@@ -48,19 +49,22 @@ keeps = (yes, (yes, tt))
 abbrev stayed : (A : RattleType) → Stays (exported A).signature.params (exported A).kept
 stayed A = (stay_dropped _ yes, (stay_dropped _ yes, (stay_dropped _ yes, tt)))
 
-module _ (R : RattleType) (one : One R.mir) (S : R.Denot → Type 0)
+module _ (K : Kind) (S : (row K).Denot → Type 0)
     (A : RattleType)
-    (Fact : R.Denot → ℕ → ℕ → Type 0)
-    (Post : R.Denot → ℕ → ℕ → A.Denot → R.Denot → Type 0) where
+    (Fact : (row K).Denot → ℕ → ℕ → Type 0)
+    (Post : (row K).Denot → ℕ → ℕ → A.Denot → (row K).Denot → Type 0) where
+  abbrev R : RattleType
+  R = row K
+
   -- what the call asks of the heap and its other arguments, and what it does
-  abbrev Asked : (κs : Lfts 1) → R.Denot → Denots (types_at more κs) → Type 0
+  abbrev Asked : (κs : Lfts 5) → R.Denot → Denots (types_at more κs) → Type 0
   Asked κs v a = S v × Fact v a.0 a.1.0
 
-  abbrev Did : (κs : Lfts 1) → R.Denot → Denots (types_at more κs) → A.Denot → R.Denot → Type 0
+  abbrev Did : (κs : Lfts 5) → R.Denot → Denots (types_at more κs) → A.Denot → R.Denot → Type 0
   Did κs v a r w = Post v a.0 a.1.0 r w
 
   abbrev lent : Ended
-  lent = called R one more keeps A
+  lent = called K more keeps A
 
   module _ {M : Type 1} {𝓤 : Ura M} (𝓛 : Logic 𝓤) where
     abbrev pub outer : Clauses 𝓤 (exported A)
@@ -71,7 +75,7 @@ module _ (R : RattleType) (one : One R.mir) (S : R.Denot → Type 0)
     }
 
     abbrev pub inner : Clauses 𝓤 lent
-    inner = changes 𝓛 R one more keeps A Asked Did
+    inner = changes 𝓛 K more keeps A Asked Did
 
   pub exports : {M : Type 1} (𝓤 : Ura M) (𝓛 : Logic 𝓤) (𝓜 : Model 𝓤 𝓛.H) (𝓡 : Running 𝓤 𝓛.H 𝓜) (σ τ θ : Ty) (key callee : Callee)
       → ((r : A.Denot) (v : Val) → Is A r (v ∷ []) → Good θ v)
@@ -90,7 +94,7 @@ module _ (R : RattleType) (one : One R.mir) (S : R.Denot → Type 0)
       in_its_block ! R g a.0 (λ p. prop (WpFn 𝓤 𝓛.H 𝓣.C 𝓣.Λ (function σ τ θ callee) (rawptr_vals p ++ uint_vals w64 n ++ uint_vals w64 k ++ []) (W.post (s p)))) (λ b o.
       enter ! _ _ _ _ _ $ alloc_all ! (λ l. pass_all ! refl ((tt, tt), ((tt, record { fits = are.1.0.1 }), ((tt, record { fits = are.1.1.0.1 }), tt))) $
       sets ! (of_opd ! (get ! refl)) refl (tt, tt) $ sets ! (addr ! (through ! refl (stop !))) refl (tt, tt) $ nothing ! $ move ! (1 ∷ 0 ∷ []) $
-      lends_heap ! is_framed R one more keeps A Asked Did met b o g (λ κs. (n, (k, tt))) (λ κs. (uint_vals w64 n, (uint_vals w64 k, tt))) _ (λ κs. refl)
+      lends_heap ! is_framed K more keeps A Asked Did met b o g (λ κs. (n, (k, tt))) (λ κs. (uint_vals w64 n, (uint_vals w64 k, tt))) _ (λ κs. refl)
       (λ κs. qed 𝓛 (‵ ftrue ∷ []) ∵ owned ! usize _ (uint_Makes 𝓛 w64) k _ (refl, are.1.1.0.1) $ join ! $ owned ! usize _ (uint_Makes 𝓛 w64) n _ (refl, are.1.0.1) $
       join ! $ done !) (λ κs. (ready, known)) (λ i. and_then ! (get ! refl) (and_then ! (get ! refl) (and_then ! (get ! refl) (no_more !))))
       (λ v κs r w is did. let typed = good r v is in lands_as ! refl refl typed $

@@ -6,7 +6,7 @@ use Rattle.rlsf_malloc.proofs.Walking.{look_at, get, through, sets, lands_as, ye
 use Rattle.rlsf_malloc.proofs.Walking.{rawptr_vals, rawptr_Tells, plain, nothing, owned, heard, calls_at, lasts, triple_of, Stays, walk_of, stay_dropped}
 use Rattle.rlsf_malloc.proofs.Walking.{Goes-dropped, ends_at, framed, usize, uint_Makes, Is, shows, peeks, uint_Lawful, fact_i, emp, Ura, sep, Logic, sem}
 use Rattle.rlsf_malloc.proofs.Walking.{Model, Closed, Running, Fn, Callee, Ty, local, value_local, ty_ptr, ty_int, ty_ref, erased, mut, seq, assign, place}
-use Rattle.rlsf_malloc.proofs.Walking.{rv_opd, copy, addr_of, deref, call, return, RattleType, One, RefMutOf, Ended, Clauses, closing, Meets}
+use Rattle.rlsf_malloc.proofs.Walking.{rv_opd, copy, addr_of, deref, call, return, RattleType, RefMutOf, Ended, Clauses, closing, Meets}
 use Rattle.std.proofs.Common.{List}
 use mir.Syntax.{aggregate, field, named}
 use denote.RattleType.{owns}
@@ -17,6 +17,10 @@ use denote.Builtin.{SliceRefMutOf}
 use denote.Slice.{MutSlice, mut_slice_vals, mut_slice_Tells}
 use denote.Triple.Walked.{gave_slice, Goes-gave_slice}
 use Rattle.rlsf_c_lemmas.proofs.Lending.{in_its_block, lends}
+use contract.BorrowLft.{⊑_static}
+use contract.Lifetimes.{toks}
+use Rattle.rlsf_malloc.proofs.HeapKinds.{Kind, row}
+use Rattle.rlsf_malloc.proofs.Steps.{at_kind, kind_lasts, lasting, tokens, all_shares}
 use Rattle.rlsf_malloc.specs.Handle.{Holds, HoldsSome}
 use denote.Memory.{lone}
 
@@ -54,12 +58,12 @@ exported = record {
   kept = (yes, (yes, (yes, (yes, (yes, tt)))));
 }
 
-abbrev pub called : (R : RattleType) → One R.mir → Ended
-called R one = record {
+abbrev pub called : Kind → Ended
+called K = record {
   signature = record {
-    lifetimes = 2;
-    outlives = [];
-    params = RefMutOf (0 ∷ []) tt (plain (λ κs. R)) (λ κs. one) ∷ plain (λ κs. usize) ∷ plain (λ κs. usize) ∷ plain (λ κs. usize)
+    lifetimes = 6;
+    outlives = record { long = 2; long_ok = tt; short = named 0; short_ok = tt } ∷ record { long = 3; long_ok = tt; short = named 0; short_ok = tt } ∷ [];
+    params = RefMutOf (0 ∷ []) tt (plain (λ κs. row K)) (λ κs. tt) ∷ plain (λ κs. usize) ∷ plain (λ κs. usize) ∷ plain (λ κs. usize)
         ∷ SliceRefMutOf (1 ∷ []) tt (plain (λ κs. usize)) (λ κs. tt) ∷ [];
     result = plain (λ κs. usize);
   };
@@ -69,8 +73,11 @@ called R one = record {
 abbrev stayed : Stays exported.signature.params exported.kept
 stayed = (stay_dropped _ yes, (stay_dropped _ yes, (stay_dropped _ yes, (stay_dropped _ yes, (gave_slice (0 ∷ []) tt (plain (λ _. usize)), tt)))))
 
-module _ (R : RattleType) (one : One R.mir) (S : R.Denot → Type 0) (Fact : R.Denot → ℕ → ℕ → Type 0)
-    (Post : R.Denot → ℕ → ℕ → ℕ → List ℕ → ℕ → List ℕ → R.Denot → Type 0) where
+module _ (K : Kind) (S : (row K).Denot → Type 0) (Fact : (row K).Denot → ℕ → ℕ → Type 0)
+    (Post : (row K).Denot → ℕ → ℕ → ℕ → List ℕ → ℕ → List ℕ → (row K).Denot → Type 0) where
+  abbrev R : RattleType
+  R = row K
+
   module _ {M : Type 1} {𝓤 : Ura M} (𝓛 : Logic 𝓤) where
     abbrev pub outer : Clauses 𝓤 exported
     outer κs a = record {
@@ -79,16 +86,16 @@ module _ (R : RattleType) (one : One R.mir) (S : R.Denot → Type 0) (Fact : R.D
       ensures = λ g r end. sem 𝓛 (HoldsSome R a.0 (λ w. Post g a.1.0 a.1.1.0 a.1.1.1.0 a.1.1.1.1.0.now r end.1.1.1.1.0.now w));
     }
 
-    abbrev pub inner : Clauses 𝓤 (called R one)
+    abbrev pub inner : Clauses 𝓤 (called K)
     inner κs a = record {
       ghost = Unit {0};
-      requires = λ _. fact 𝓤 (S a.0.now × Fact a.0.now a.1.0 a.1.1.0);
+      requires = λ _. at_kind 𝓛 K κs.1.1 (S a.0.now × Fact a.0.now a.1.0 a.1.1.0);
       ensures = λ _ r end. fact 𝓤 (Post a.0.now a.1.0 a.1.1.0 a.1.1.1.0 a.1.1.1.1.0.now r end.1.1.1.1.0.now end.0.now);
     }
 
   pub exports : {M : Type 1} (𝓤 : Ura M) (𝓛 : Logic 𝓤) (𝓜 : Model 𝓤 𝓛.H) (𝓡 : Running 𝓤 𝓛.H 𝓜) (σ τ : Ty) (key callee : Callee)
       → Closed 𝓤 𝓛.H (tables 𝓤 𝓛.H 𝓜 𝓡 𝓡.env).C (tables 𝓤 𝓛.H 𝓜 𝓡 𝓡.env).Λ key (function σ τ callee)
-      → Meets 𝓛 (called R one).signature (𝓡.run (𝓡.env callee)) (closing 𝓛 (called R one) (inner 𝓛))
+      → Meets 𝓛 (called K).signature (𝓡.run (𝓡.env callee)) (closing 𝓛 (called K) (inner 𝓛))
       → Meets 𝓛 exported.signature (𝓡.run (𝓡.env key)) (closing 𝓛 exported (outer 𝓛))
   exports 𝓤 𝓛 𝓜 𝓡 σ τ key callee closed met =
       let c = outer 𝓛 in let W = walk_of 𝓛 exported stayed c in let 𝓣 = tables 𝓤 𝓛.H 𝓜 𝓡 𝓡.env in
@@ -124,12 +131,12 @@ module _ (R : RattleType) (one : One R.mir) (S : R.Denot → Type 0) (Fact : R.D
       sets ! (addr ! (from ! (fld ! refl (hop ! (look_in_at ! 5 (sub ! 0 refl (whole !))) (stop !))))) refl (tt, tt) $
       sets ! (agg ! (and_then ! (get ! refl) (and_then ! (get_in ! (fld ! refl (stop !)) (sub ! 1 refl (whole !))) (no_more !)))) refl
       (tt, (tt, (record { fits = are.1.1.1.1.0.0.1.0 }, tt))) $
-      let G = triple_of 𝓛 (called R one).signature (closing 𝓛 (called R one) (inner 𝓛)) in
+      let G = triple_of 𝓛 (called K).signature (closing 𝓛 (called K) (inner 𝓛)) in
       let y : G.Ghost = (
         (
-          (α ∷ [], (κ, tt)),
-          (full_share, (q, tt)),
-          tt,
+          (α ∷ [], (κ, lasting 𝓛)),
+          (full_share, (q, all_shares 𝓛)),
+          (⊑_static (α ∷ []), (⊑_static (α ∷ []), tt)),
           (record { ref_ptr = (b, o); ghost_name = γ; now = before }, (x, (y', (u', (z', tt))))),
           (vptr b o ∷ [], (uint_vals w64 x, (uint_vals w64 y', (uint_vals w64 u', (mut_slice_vals z', tt))))),
         ),
@@ -139,14 +146,16 @@ module _ (R : RattleType) (one : One R.mir) (S : R.Denot → Type 0) (Fact : R.D
       owned ! usize _ (uint_Makes 𝓛 w64) y' _ (refl, are.1.1.0.1) $ join ! $ owned ! usize _ (uint_Makes 𝓛 w64) x _ (refl, are.1.0.1) $ join ! $ move ! (1 ∷ 0 ∷ []) $
       join ! $
       -- [the arguments; what the lender keeps; the token of α; the token of κ; the locals]
-      nothing ! $ move ! (4 ∷ 0 ∷ []) $ join ! $ move ! (3 ∷ 0 ∷ []) $ join ! $ join ! $ use0 𝓛 (raw (fact 𝓤 Owed)) (fact_i 𝓤 Owed (emp 𝓤) (ready, live)) $
+      use0 𝓛 (raw (toks 𝓛 4 (lasting 𝓛) (all_shares 𝓛))) (tokens 𝓛) $ move ! (4 ∷ 0 ∷ []) $ join ! $ move ! (3 ∷ 0 ∷ []) $ join ! $ join ! $
+      use0 𝓛 (raw (at_kind 𝓛 K (lasting 𝓛) Owed)) (kind_lasts 𝓛 K Owed (ready, live)) $
       move ! (1 ∷ 0 ∷ []) $ use2 𝓛 (raw (G.pre y)) (id⊢ 𝓤 _) $
       calls_at ! (framed 𝓤 𝓛.H 𝓜 (tables 𝓤 𝓛.H 𝓜 𝓡 𝓡.env)) G met y
       (and_then ! (get ! refl) (and_then ! (get ! refl) (and_then ! (get ! refl) (and_then ! (get ! refl) (and_then ! (get ! refl) (no_more !)))))) (λ v.
-      use1 𝓛 (later (some (λ (r : ℕ). ((‵ (flft (α ∷ []) full_share) ⊛ (‵ (flft κ q) ⊛ ‵ ftrue)) ⊛ ‵ (usize.own_val r (v ∷ []))) ⊛
-      some (λ (ws : R.Denot × (Unit {0} × (Unit {0} × (Unit {0} × (List ℕ × Unit {0}))))). ‵ (lasts (called R one) y.0.0 y.0.3 ws) ⊛ raw
+      use1 𝓛 (later (some (λ (r : ℕ). ((‵ (flft (α ∷ []) full_share) ⊛ (‵ (flft κ q) ⊛ raw (toks 𝓛 4 (lasting 𝓛) (all_shares 𝓛)))) ⊛ ‵ (usize.own_val r (v ∷ []))) ⊛
+      some (λ (ws : R.Denot × (Unit {0} × (Unit {0} × (Unit {0} × (List ℕ × Unit {0}))))). ‵ (lasts (called K) y.0.0 y.0.3 ws) ⊛ raw
       (fact 𝓤 (Post before x y' u' z'.now r ws.1.1.1.1.0 ws.0)))))) (id⊢ 𝓤 _) $
-      await ! tt $ pick ! (λ r. split ! $ split ! $ split ! $ lft_end ! tt $ move ! (2 ∷ []) $
+      await ! tt $ pick ! (λ r. split ! $ split ! $ split ! $ lft_end ! tt $
+      move ! (1 ∷ []) $ split ! $ move ! (1 ∷ []) $ drop ! $ nothing ! $ move ! (1 ∷ 0 ∷ []) $ join ! $ move ! (2 ∷ 1 ∷ []) $
       peeks ! usize (Is usize) (shows 𝓛 usize) r (v ∷ []) (λ is. lands_as ! refl refl ((uint_Lawful 𝓛 w64).typed r _ is).0 $
       -- [the result; α is over; the token of κ; what the call left; what the lender keeps; the locals]
       move ! (3 ∷ []) $ pick ! (λ ws. split ! $ move ! (1 ∷ []) $ heard ! (Post before x y' u' z'.now r ws.1.1.1.1.0 ws.0) (λ did. fsplit ! $ fsplit ! $

@@ -5,9 +5,10 @@ use Rattle.rlsf_malloc.proofs.Walking.{no_more, and_then, returns, alloc_all, pa
 use Rattle.rlsf_malloc.proofs.Walking.{uint_Tells, Ptr, RawPtr, block_ptr, lies_at, rawptr_vals, rawptr_Tells, plain, nothing, owned, heard, on_entry, Stays}
 use Rattle.rlsf_malloc.proofs.Walking.{walk_of, stay_dropped, Goes-dropped, ends_at, framed, usize, unit, only, unit_lit, uint_Makes, Is, Val, Ura, sep}
 use Rattle.rlsf_malloc.proofs.Walking.{Logic, sem, Model, Closed, Running, Fn, Callee, Ty, local, value_local, ty_ptr, ty_int, ty_ref, ty_unit, erased, mut}
-use Rattle.rlsf_malloc.proofs.Walking.{seq, assign, place, rv_opd, copy, opd_unit, addr_of, deref, call, return, RattleType, One, Ended, Clauses, closing}
+use Rattle.rlsf_malloc.proofs.Walking.{seq, assign, place, rv_opd, copy, opd_unit, addr_of, deref, call, return, RattleType, Ended, Clauses, closing}
 use Rattle.rlsf_malloc.proofs.Walking.{Meets, Good}
 use Rattle.rlsf_malloc.proofs.Steps.{Payloads, called, changes, lends_heap, taken, takes, takes_payload}
+use Rattle.rlsf_malloc.proofs.HeapKinds.{Kind, row}
 use Rattle.rlsf_c_lemmas.proofs.Lending.{in_its_block}
 use contract.Lifetimes.{Lfts}
 use denote.RattleType.{Denots}
@@ -44,7 +45,7 @@ exported = record {
   kept = (yes, (yes, tt));
 }
 
-abbrev pub more : RattleType → List (Slot 1)
+abbrev pub more : RattleType → List (Slot 5)
 more Q = plain (λ κs. usize) ∷ plain (λ κs. Q) ∷ []
 
 abbrev pub keeps : (Q : RattleType) → Kepts (more Q)
@@ -63,19 +64,22 @@ pub record Export (R : RattleType) (P : Payloads) : Type 2 where
   pub asks : (v : R.Denot) (d : P.D) (x : ℕ) (q : P.Q.Denot) → S v → Fact v d x → P.Makes x d q → Asks v x q
   pub packs : (v : R.Denot) (d : P.D) (x : ℕ) (q : P.Q.Denot) (w : R.Denot) → S v → Fact v d x → P.Makes x d q → Post v x q w → Outer v d x w
 
-module _ (R : RattleType) (one : One R.mir) (P : Payloads) (T : Export R P) where
+module _ (K : Kind) (P : Payloads) (T : Export (row K) P) where
+  abbrev R : RattleType
+  R = row K
+
   open P use {Q, D, owns, Makes}
   open T use {S, Fact, Asks, Post, Outer, asks, packs}
 
   -- what the call asks of the heap and its other arguments, and what it does
-  abbrev Asked : (κs : Lfts 1) → R.Denot → Denots (types_at (more Q) κs) → Type 0
+  abbrev Asked : (κs : Lfts 5) → R.Denot → Denots (types_at (more Q) κs) → Type 0
   Asked κs v a = Asks v a.0 a.1.0
 
-  abbrev Did : (κs : Lfts 1) → R.Denot → Denots (types_at (more Q) κs) → unit.Denot → R.Denot → Type 0
+  abbrev Did : (κs : Lfts 5) → R.Denot → Denots (types_at (more Q) κs) → unit.Denot → R.Denot → Type 0
   Did κs v a r w = Post v a.0 a.1.0 w
 
   abbrev lent : Ended
-  lent = called R one (more Q) (keeps Q) unit
+  lent = called K (more Q) (keeps Q) unit
 
   module _ {M : Type 1} {𝓤 : Ura M} (𝓛 : Logic 𝓤) where
     abbrev pub outer : Clauses 𝓤 exported
@@ -86,7 +90,7 @@ module _ (R : RattleType) (one : One R.mir) (P : Payloads) (T : Export R P) wher
     }
 
     abbrev pub inner : Clauses 𝓤 lent
-    inner = changes 𝓛 R one (more Q) (keeps Q) unit Asked Did
+    inner = changes 𝓛 K (more Q) (keeps Q) unit Asked Did
 
   pub exports : {M : Type 1} (𝓤 : Ura M) (𝓛 : Logic 𝓤) (𝓜 : Model 𝓤 𝓛.H) (𝓡 : Running 𝓤 𝓛.H 𝓜) (σ τ θ : Ty) (key source callee : Callee)
       → ((r : Q.Denot) (v : Val) → Is Q r (v ∷ []) → Good θ v)
@@ -111,7 +115,7 @@ module _ (R : RattleType) (one : One R.mir) (P : Payloads) (T : Export R P) wher
       -- [the payload; the heap; the locals]
       sets ! (of_opd ! (get ! refl)) refl (tt, tt) $ sets ! (addr ! (through ! refl (stop !))) refl (tt, tt) $ sets ! (of_opd ! (get ! refl)) refl typed_q $
       move ! (1 ∷ 0 ∷ []) $
-      lends_heap ! is_framed R one (more Q) (keeps Q) unit Asked Did met b o g.0 (λ κs. (x, (q, tt))) (λ κs. (uint_vals w64 x, (u ∷ [], tt))) _ (λ κs. refl)
+      lends_heap ! is_framed K (more Q) (keeps Q) unit Asked Did met b o g.0 (λ κs. (x, (q, tt))) (λ κs. (uint_vals w64 x, (u ∷ [], tt))) _ (λ κs. refl)
       (λ κs. qed 𝓛 (‵ (Q.own_val q (u ∷ [])) ∷ []) ∵ nothing ! $ move ! (1 ∷ 0 ∷ []) $ join ! $ owned ! usize _ (uint_Makes 𝓛 w64) x _ (refl, are.1.0.1) $ join ! $
       done !) (λ κs. asks g.0 g.1 x q ready known made) (λ i. and_then ! (get ! refl) (and_then ! (get ! refl) (and_then ! (get ! refl) (no_more !))))
       (λ v κs r w is did. lands_as ! (ap only is) refl (tt, tt) $

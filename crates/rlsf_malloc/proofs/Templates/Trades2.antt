@@ -5,8 +5,9 @@ use Rattle.rlsf_malloc.proofs.Walking.{alloc_all, pass_all, free_all, look_at, g
 use Rattle.rlsf_malloc.proofs.Walking.{RawPtr, block_ptr, lies_at, rawptr_vals, rawptr_Tells, plain, nothing, owned, heard, on_entry, Stays, walk_of}
 use Rattle.rlsf_malloc.proofs.Walking.{stay_dropped, Goes-dropped, ends_at, framed, usize, uint_Makes, Ura, Fml, sep, Logic, sem, Fn, Callee, Ty, local}
 use Rattle.rlsf_malloc.proofs.Walking.{value_local, ty_ptr, ty_int, ty_ref, erased, mut, seq, assign, place, rv_opd, copy, addr_of, deref, call, return}
-use Rattle.rlsf_malloc.proofs.Walking.{RattleType, One, Ended, Clauses}
+use Rattle.rlsf_malloc.proofs.Walking.{RattleType, Ended, Clauses}
 use Rattle.rlsf_malloc.proofs.Steps.{Payloads, Trades, called, changes, gives_out, lends_heap, passes_number, takes_payload}
+use Rattle.rlsf_malloc.proofs.HeapKinds.{Kind, row}
 use Rattle.rlsf_c_lemmas.proofs.Lending.{in_its_block}
 use contract.Lifetimes.{Lfts}
 use denote.RattleType.{Denots}
@@ -50,7 +51,7 @@ exported = record {
   kept = (yes, (yes, (yes, (yes, tt))));
 }
 
-abbrev pub more : RattleType → List (Slot 1)
+abbrev pub more : RattleType → List (Slot 5)
 more Q = plain (λ κs. usize) ∷ plain (λ κs. Q) ∷ plain (λ κs. usize) ∷ plain (λ κs. usize) ∷ []
 
 abbrev pub keeps : (Q : RattleType) → Kepts (more Q)
@@ -73,19 +74,22 @@ pub record Export (R : RattleType) (P : Payloads) : Type 2 where
   pub packs : (v : R.Denot) (d : P.D) (x n k : ℕ) (q : P.Q.Denot) (z : Z.Denot) (w : R.Denot) → S v → Fact v d x n k → P.Makes x d q → Post v x q n k z w
       → (y : P.D) × Outer v d x n k (num z) w y × (gives z ≡ P.owns y)
 
-module _ (R : RattleType) (one : One R.mir) (P : Payloads) (T : Export R P) where
+module _ (K : Kind) (P : Payloads) (T : Export (row K) P) where
+  abbrev R : RattleType
+  R = row K
+
   open P use {Q, D, owns, Makes}
   open T use {S, Z, num, gives, Fact, Asks, Post, Outer, asks, packs}
 
   -- what the call asks of the heap and its other arguments, and what it does
-  abbrev Asked : (κs : Lfts 1) → R.Denot → Denots (types_at (more Q) κs) → Type 0
+  abbrev Asked : (κs : Lfts 5) → R.Denot → Denots (types_at (more Q) κs) → Type 0
   Asked κs v a = Asks v a.0 a.1.0 a.1.1.0 a.1.1.1.0
 
-  abbrev Did : (κs : Lfts 1) → R.Denot → Denots (types_at (more Q) κs) → Z.Denot → R.Denot → Type 0
+  abbrev Did : (κs : Lfts 5) → R.Denot → Denots (types_at (more Q) κs) → Z.Denot → R.Denot → Type 0
   Did κs v a r w = Post v a.0 a.1.0 a.1.1.0 a.1.1.1.0 r w
 
   abbrev lent : Ended
-  lent = called R one (more Q) (keeps Q) Z
+  lent = called K (more Q) (keeps Q) Z
 
   module _ {M : Type 1} {𝓤 : Ura M} (𝓛 : Logic 𝓤) where
     abbrev pub outer : Clauses 𝓤 exported
@@ -96,7 +100,7 @@ module _ (R : RattleType) (one : One R.mir) (P : Payloads) (T : Export R P) wher
     }
 
     abbrev pub inner : Clauses 𝓤 lent
-    inner = changes 𝓛 R one (more Q) (keeps Q) Z Asked Did
+    inner = changes 𝓛 K (more Q) (keeps Q) Z Asked Did
 
   pub exports : {M : Type 1} → Trades M exported lent (λ 𝓤 𝓛. outer 𝓛) (λ 𝓤 𝓛. inner 𝓛) P Z num gives function
   exports 𝓤 𝓛 𝓜 𝓡 σ τ θ ζ key source callee finish good good_reply closed source_met met finish_met =
@@ -120,7 +124,7 @@ module _ (R : RattleType) (one : One R.mir) (P : Payloads) (T : Export R P) wher
       -- [the payload; the heap; the locals]
       sets ! (of_opd ! (get ! refl)) refl (tt, tt) $ sets ! (addr ! (through ! refl (stop !))) refl (tt, tt) $ sets ! (of_opd ! (get ! refl)) refl typed_q $
       move ! (1 ∷ 0 ∷ []) $
-      lends_heap ! is_framed R one (more Q) (keeps Q) Z Asked Did met b o g.0 (λ κs. (x, (q, (n, (k, tt)))))
+      lends_heap ! is_framed K (more Q) (keeps Q) Z Asked Did met b o g.0 (λ κs. (x, (q, (n, (k, tt)))))
       (λ κs. (uint_vals w64 x, (u ∷ [], (uint_vals w64 n, (uint_vals w64 k, tt))))) _ (λ κs. refl)
       (λ κs. qed 𝓛 (‵ (Q.own_val q (u ∷ [])) ∷ []) ∵ nothing ! $ owned ! usize _ (uint_Makes 𝓛 w64) k _ (refl, are.1.1.1.0.1) $ join ! $
       owned ! usize _ (uint_Makes 𝓛 w64) n _ (refl, are.1.1.0.1) $ join ! $ move ! (1 ∷ 0 ∷ []) $ join ! $ owned ! usize _ (uint_Makes 𝓛 w64) x _ (refl, are.1.0.1) $

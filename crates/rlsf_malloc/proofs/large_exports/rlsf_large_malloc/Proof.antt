@@ -1,28 +1,9 @@
 -- `rlsf_large_malloc`, by the template of its shape.
-use Rattle.std.proofs.Common.{◌≡◌, refl, sym}
-use Rattle.rlsf_malloc.specs.Calls.{Allocates}
-use Rattle.rlsf_malloc.proofs.Templates.Gives1.{exports}
-use Rattle.rlsf_malloc.specs.Calls.{IsReady}
-use Rattle.rlsf_malloc.specs.Handle.{large as R}
-use Rattle.rlsf_heap.specs.Heap.{PayloadView}
-use Rattle.rlsf_heap.specs.Thin.{owns_reply}
-use Rattle.rlsf_heap.specs.contracts.thin.ThinPayload as payload
-use Rattle.rlsf_heap.proofs.thin.ThinPayload.TheLaws as payload_laws
-use Rattle.rlsf_heap.specs.contracts.thin.ThinPayload.into_raw as passed
-use Rattle.rlsf_heap.proofs.thin.ThinPayload.into_raw.Met.{met as passed_met}
-use Rattle.rlsf_malloc.specs.contracts.large_exports.rlsf_large_malloc as f
+use Rattle.rlsf_malloc.proofs.Exports.{mallocs}
+use Rattle.rlsf_malloc.proofs.HeapKinds.{large}
 use Rattle.rlsf_malloc.proofs.large_exports.rlsf_large_malloc.Statement.{statement}
 use Rattle.rlsf_malloc.proofs.large_exports.rlsf_large_malloc.Code as code
-use Rattle.rlsf_malloc.specs.contracts.large.malloc as g
-use Rattle.rlsf_malloc.proofs.large.malloc.Met.{met}
 
 pub rlsf_large_malloc_spec : {M : Type 1} → statement M
-rlsf_large_malloc_spec 𝓤 𝓛 𝓜 𝓡 wired = exports R tt IsReady
-    payload.the_row (λ q. q.addr) (λ q. owns_reply q.of) PayloadView
-    (λ v n q w. (q.addr ≡ q.of.start) × Allocates 64 v n 16 q.of w) (λ v n r w p. (p.start ≡ r) × Allocates 64 v n 16 p w)
-    (λ v n r w p. owns_reply p) (λ v n q w ready did. (q.of, (sym did.0, did.1), refl))
-    𝓤 𝓛 𝓜 𝓡 _ _ _ f.Key.name g.Key.name passed.Key.name
-    (λ q v is. ((payload_laws.the_row_laws.lawful 𝓛).typed q _ is).0)
-    (code.unfolded 𝓤 𝓛.H 𝓜 𝓡 wired)
-    (met 𝓤 𝓛 𝓜 𝓡 (code.calls-rlsf_malloc::large::malloc 𝓡.env wired))
-    (passed_met 𝓤 𝓛 𝓜 𝓡 (code.calls-rlsf_heap::thin::ThinPayload::into_raw 𝓡.env wired))
+rlsf_large_malloc_spec 𝓤 𝓛 𝓜 𝓡 wired = mallocs large 𝓤 𝓛 𝓜 𝓡 (code.calls-rlsf_malloc::calls::malloc 𝓡.env wired)
+    (code.calls-rlsf_heap::thin::ThinPayload::into_raw 𝓡.env wired) _ _ _ (code.unfolded 𝓤 𝓛.H 𝓜 𝓡 wired)

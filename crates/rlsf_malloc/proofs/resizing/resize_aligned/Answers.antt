@@ -6,10 +6,10 @@ use Rattle.rlsf_malloc.proofs.resizing.resize_aligned.Goals as goal
 
 pub returns-then-addr-eq0 : goal.returns-then-addr-eq0
 returns-then-addr-eq0 g c =
-    let p = c.allocate.result.of in record {
+    let p = c.allocate_aligned.result.of in record {
       fresh = λ e. (
-        sym c.allocate.ensures.0,
-        subst (λ a. Allocates g.row.SLLEN c.args.heap.now c.args.size a p c.allocate.new.heap) c.at_least_16-align.ensures c.allocate.ensures.1,
+        sym c.allocate_aligned.ensures.0,
+        subst (λ a. Allocates g.row.SLLEN c.args.heap.now c.args.size a p c.allocate_aligned.new.heap) c.at_least_16-align.ensures c.allocate_aligned.ensures.1,
       );
       known = λ some. absurd (some c.if-addr-eq0.true);
     }

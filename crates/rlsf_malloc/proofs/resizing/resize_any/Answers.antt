@@ -17,7 +17,7 @@ is_narrow-requires g c =
 pub returns-then-addr-eq0 : goal.returns-then-addr-eq0
 returns-then-addr-eq0 g c =
     record {
-      fresh = λ e. (sym c.allocate.ensures.0, c.allocate.ensures.1);
+      fresh = λ e. (sym c.allocate_aligned.ensures.0, c.allocate_aligned.ensures.1);
       narrow = λ some e. absurd (some c.if-addr-eq0.true);
       wide = λ some e. absurd (some c.if-addr-eq0.true);
     }

@@ -1,21 +1,8 @@
 -- `rlsf_small_add`, by the template of its shape.
-use Rattle.std.proofs.Common.{w64}
-use denote.Builtin.{usize}
-use denote.Plain.{uint_Lawful}
-use Rattle.rlsf_malloc.specs.Calls.{Adds, CanAdd}
-use Rattle.rlsf_malloc.proofs.Templates.Lends2.{exports}
-use Rattle.rlsf_malloc.specs.Calls.{IsReady}
-use Rattle.rlsf_malloc.specs.Handle.{small as R}
-use Rattle.rlsf_malloc.specs.contracts.small_exports.rlsf_small_add as f
+use Rattle.rlsf_malloc.proofs.Exports.{adds}
+use Rattle.rlsf_malloc.proofs.HeapKinds.{small}
 use Rattle.rlsf_malloc.proofs.small_exports.rlsf_small_add.Statement.{statement}
 use Rattle.rlsf_malloc.proofs.small_exports.rlsf_small_add.Code as code
-use Rattle.rlsf_malloc.specs.contracts.small.add as g
-use Rattle.rlsf_malloc.proofs.small.add.Met.{met}
 
 pub rlsf_small_add_spec : {M : Type 1} → statement M
-rlsf_small_add_spec 𝓤 𝓛 𝓜 𝓡 wired = exports R tt IsReady
-    usize (λ v n k. CanAdd v n k) (λ v n k r w. Adds 12 v n k r w)
-    𝓤 𝓛 𝓜 𝓡 _ _ _ f.Key.name g.Key.name
-    (λ r v is. ((uint_Lawful 𝓛 w64).typed r _ is).0)
-    (code.unfolded 𝓤 𝓛.H 𝓜 𝓡 wired)
-    (met 𝓤 𝓛 𝓜 𝓡 (code.calls-rlsf_malloc::small::add 𝓡.env wired))
+rlsf_small_add_spec 𝓤 𝓛 𝓜 𝓡 wired = adds small 𝓤 𝓛 𝓜 𝓡 (code.calls-rlsf_malloc::calls::add 𝓡.env wired) _ _ _ (code.unfolded 𝓤 𝓛.H 𝓜 𝓡 wired)

@@ -1,19 +1,9 @@
 -- `rlsf_small_end`, by the template of its shape.
-use Rattle.std.proofs.Common.{◌≡◌, ◌%◌, refl}
-use Rattle.rlsf_base.proofs.memory.block.RawParts.release.Met.{met as release_met}
-use Rattle.rlsf_model.specs.Sized.{live_count}
-use Rattle.rlsf_malloc.proofs.Laws.{small_laws}
-use Rattle.rlsf_malloc.proofs.Templates.Ends.{exports}
-use Rattle.rlsf_malloc.specs.Calls.{IsReady}
-use Rattle.rlsf_malloc.specs.Handle.{small as R}
-use Rattle.rlsf_malloc.specs.contracts.small_exports.rlsf_small_end as f
+use Rattle.rlsf_malloc.proofs.Exports.{ends}
+use Rattle.rlsf_malloc.proofs.HeapKinds.{small}
 use Rattle.rlsf_malloc.proofs.small_exports.rlsf_small_end.Statement.{statement}
 use Rattle.rlsf_malloc.proofs.small_exports.rlsf_small_end.Code as code
-use Rattle.rlsf_malloc.specs.contracts.small.parts as g
-use Rattle.rlsf_malloc.proofs.small.parts.Met.{met}
 
 pub rlsf_small_end_spec : {M : Type 1} → statement M
-rlsf_small_end_spec 𝓤 𝓛 𝓜 𝓡 wired = exports R refl IsReady (λ v. (live_count v.state ≡ 0) × (v.identity.home.start % 8 ≡ 0))
-    (λ v. IsReady v × (live_count v.state ≡ 0) × (v.identity.home.start % 8 ≡ 0)) (λ v. v.identity.home) (λ v ready known. (ready, known.0, known.1))
-    𝓤 𝓛 𝓜 𝓡 f.Key.name g.Key.name (λ v w is. ((small_laws.lawful 𝓛).typed v _ is).0) (code.unfolded 𝓤 𝓛.H 𝓜 𝓡 wired)
-    (met 𝓤 𝓛 𝓜 𝓡 (code.calls-rlsf_malloc::small::parts 𝓡.env wired)) (release_met 𝓤 𝓛 𝓜 𝓡 (code.calls-rlsf_base::memory::block::RawParts::release 𝓡.env wired))
+rlsf_small_end_spec 𝓤 𝓛 𝓜 𝓡 wired = ends small 𝓤 𝓛 𝓜 𝓡 (code.calls-rlsf_malloc::calls::parts 𝓡.env wired)
+    (code.calls-rlsf_base::memory::block::RawParts::release 𝓡.env wired) _ (code.unfolded 𝓤 𝓛.H 𝓜 𝓡 wired)

@@ -1,23 +1,10 @@
 -- `rlsf_small_reallocate_in_place`, by the template of its shape.
-use Rattle.rlsf_malloc.proofs.Payloads.{payloads, reallocates_in_place}
-use Rattle.rlsf_malloc.proofs.Templates.Trades1.{exports}
-use Rattle.rlsf_malloc.specs.Handle.{small as R}
-use Rattle.rlsf_heap.proofs.thin.ThinPayload.TheLaws as payload_laws
-use Rattle.rlsf_heap.specs.contracts.thin.ThinPayload.from_raw as taken
-use Rattle.rlsf_heap.proofs.thin.ThinPayload.from_raw.Met.{met as taken_met}
-use Rattle.rlsf_malloc.proofs.replies.Resized.TheLaws as reply_laws
-use Rattle.rlsf_malloc.specs.contracts.replies.Resized.into_raw as passed
-use Rattle.rlsf_malloc.proofs.replies.Resized.into_raw.Met.{met as passed_met}
-use Rattle.rlsf_malloc.specs.contracts.small_exports.rlsf_small_reallocate_in_place as f
+use Rattle.rlsf_malloc.proofs.Exports.{reallocates_in_place}
+use Rattle.rlsf_malloc.proofs.HeapKinds.{small}
 use Rattle.rlsf_malloc.proofs.small_exports.rlsf_small_reallocate_in_place.Statement.{statement}
 use Rattle.rlsf_malloc.proofs.small_exports.rlsf_small_reallocate_in_place.Code as code
-use Rattle.rlsf_malloc.specs.contracts.small.reallocate_in_place as g
-use Rattle.rlsf_malloc.proofs.small.reallocate_in_place.Met.{met}
 
 pub rlsf_small_reallocate_in_place_spec : {M : Type 1} → statement M
-rlsf_small_reallocate_in_place_spec 𝓤 𝓛 𝓜 𝓡 wired = exports R tt payloads (reallocates_in_place R (λ v. v)) 𝓤 𝓛 𝓜 𝓡 _ _ _ _ f.Key.name taken.Key.name g.Key.name passed.Key.name
-    (λ q v is. ((payload_laws.the_row_laws.lawful 𝓛).typed q _ is).0) (λ q v is. ((reply_laws.the_row_laws.lawful 𝓛).typed q _ is).0)
+rlsf_small_reallocate_in_place_spec 𝓤 𝓛 𝓜 𝓡 wired = reallocates_in_place small 𝓤 𝓛 𝓜 𝓡 (code.calls-rlsf_heap::thin::ThinPayload::from_raw 𝓡.env wired)
+    (code.calls-rlsf_malloc::resizing::resize_in_place 𝓡.env wired) (code.calls-rlsf_malloc::replies::Resized::into_raw 𝓡.env wired) _ _ _
     (code.unfolded 𝓤 𝓛.H 𝓜 𝓡 wired)
-    (taken_met 𝓤 𝓛 𝓜 𝓡 (code.calls-rlsf_heap::thin::ThinPayload::from_raw 𝓡.env wired))
-    (met 𝓤 𝓛 𝓜 𝓡 (code.calls-rlsf_malloc::small::reallocate_in_place 𝓡.env wired))
-    (passed_met 𝓤 𝓛 𝓜 𝓡 (code.calls-rlsf_malloc::replies::Resized::into_raw 𝓡.env wired))
