@@ -1,9 +1,8 @@
 -- What a write does to hints.
-use Rattle.std.proofs.Common.{◌≡◌, ◌≢◌, ℕ, zero, length-set, suc, ◌<◌, ◌/◌, ◌%◌, List, [], ◌∷◌, ◌++◌, length, Some, refl, sym, ap, arith, ◌∙◌, get_or, set, slice_get, Vec, subst, inl, inr, get_or-set_same, get_or-set_other}
-use Rattle.std.proofs.lemmas.Bool.{cases_eq, cases_order}
-use Rattle.std.proofs.lemmas.List.{set_past}
+use Rattle.std.proofs.Common.{◌≡◌, ◌≢◌, ◌⊎◌, ℕ, zero, length-set, suc, ◌-◌, ◌<◌, ◌≤◌, ◌/◌, ◌%◌, List, [], ◌∷◌, ◌++◌, length, Some, refl, sym, ap, arith, ◌∙◌, get_or, set, slice_get, subst, inl, inr, get_or-set_same, get_or-set_other}
+use Rattle.std.proofs.lemmas.Bool.{cases_eq}
 use Rattle.rlsf_global.proofs.ListElements.{get-length}
-use Rattle.rlsf_global.specs.Hints.{leaf_numbers, hint_at, AreLeaves, HasAll, HasSamePages, HaveSameLeaves, HintPages, IsLeaf, KeepsOtherHints, KeepsOthers}
+use Rattle.rlsf_global.specs.Hints.{Counts, hint_at, HintLeaf, HasAll, HasSamePages, HaveNone, HaveSameCounts, HaveSameLeaves, HintPages, IsLeaf, KeepsOtherHints, KeepsOthers, KeepsUsedHints, leaf_at, no_leaf}
 
 slice_get-set : {X : Type 0} → (xs : List X) (i : ℕ) (x : X) → i < length xs → slice_get (set xs i x) i ≡ Some x
 slice_get-set [] i x h = absurd (omega (arith, h))
@@ -17,16 +16,22 @@ slice_get-set_other (y ∷ ys) zero (suc j) x h = refl
 slice_get-set_other (y ∷ ys) (suc i) zero x h = refl
 slice_get-set_other (y ∷ ys) (suc i) (suc j) x h = slice_get-set_other ys i j x (λ e. h (ap suc e))
 
+-- ---- the numbers of a leaf
+
 pub set_here : (xs : List ℕ) (i n : ℕ) → i < length xs → slice_get (set xs i n) i ≡ Some n
 set_here xs i n h = slice_get-set xs i n h
 
-pub set_others : (xs ys : List ℕ) (i n : ℕ) → HasAll xs ys → KeepsOthers xs i (set ys i n)
-unfolding KeepsOthers HasAll
-set_others xs ys i n all p m off here = slice_get-set_other ys i p n off ∙ all p m here
+pub set_others : (xs : List ℕ) (i n : ℕ) → KeepsOthers xs i (set xs i n)
+unfolding KeepsOthers
+set_others xs i n p m off here = slice_get-set_other xs i p n off ∙ here
 
 pub all_others : (xs ys : List ℕ) (i : ℕ) → HasAll xs ys → KeepsOthers xs i ys
 unfolding KeepsOthers HasAll
 all_others xs ys i all p m off here = all p m here
+
+pub others_after : (xs ys zs : List ℕ) (i : ℕ) → HasAll xs ys → KeepsOthers ys i zs → KeepsOthers xs i zs
+unfolding KeepsOthers HasAll
+others_after xs ys zs i all kept p m off here = kept p m off (all p m here)
 
 pub has_all : (xs : List ℕ) → HasAll xs xs
 unfolding HasAll
@@ -36,83 +41,6 @@ pub none_has_all : (xs ys : List ℕ) → length xs ≡ 0 → HasAll xs ys
 unfolding HasAll
 none_has_all [] ys e p n h = absurd (grind (arith, h))
 none_has_all (x ∷ xs) ys e p n h = absurd (omega (arith, e))
-
-pub same_leaves : (xs : List (List ℕ)) → HaveSameLeaves xs xs
-unfolding HaveSameLeaves
-same_leaves xs q = refl
-
-get_or-empty_more : (xs : List (List ℕ)) (q : ℕ) → get_or (xs ++ [] ∷ []) q [] ≡ get_or xs q []
-get_or-empty_more [] zero = refl
-get_or-empty_more [] (suc q) = refl
-get_or-empty_more (x ∷ xs) zero = refl
-get_or-empty_more (x ∷ xs) (suc q) = get_or-empty_more xs q
-
-pub more_leaves : (before after : List (List ℕ)) → HaveSameLeaves before after → HaveSameLeaves before (after ++ [] ∷ [])
-unfolding HaveSameLeaves
-more_leaves before after same q = get_or-empty_more after q ∙ same q
-
-get_or-numbers_more : {Z : Type 0} (vs : List (Vec ℕ Z)) (v : Vec ℕ Z) (q : ℕ) → v.items ≡ [] → get_or (leaf_numbers (vs ++ v ∷ [])) q [] ≡ get_or (leaf_numbers vs) q []
-get_or-numbers_more [] v zero e = e
-get_or-numbers_more [] v (suc q) e = refl
-get_or-numbers_more (w ∷ vs) v zero e = refl
-get_or-numbers_more (w ∷ vs) v (suc q) e = get_or-numbers_more vs v q e
-
-pub pushed_leaves : {Z : Type 0} (before : List (List ℕ)) (vs ws : List (Vec ℕ Z)) (v : Vec ℕ Z) → HaveSameLeaves before (leaf_numbers vs) → ws ≡ vs ++ v ∷ [] → v.items ≡ []
-    → HaveSameLeaves before (leaf_numbers ws)
-unfolding HaveSameLeaves
-pushed_leaves before vs ws v same is none q = ap (λ us. get_or (leaf_numbers us) q []) is ∙ get_or-numbers_more vs v q none ∙ same q
-
-pub leaf_numbers-set : {Z : Type 0} (vs : List (Vec ℕ Z)) (i : ℕ) (v : Vec ℕ Z) → leaf_numbers (set vs i v) ≡ set (leaf_numbers vs) i v.items
-leaf_numbers-set [] i v = refl
-leaf_numbers-set (w ∷ vs) zero v = refl
-leaf_numbers-set (w ∷ vs) (suc i) v = ap (λ x. w.items ∷ x) (leaf_numbers-set vs i v)
-
-pub length-leaf_numbers : {Z : Type 0} (vs : List (Vec ℕ Z)) → length (leaf_numbers vs) ≡ length vs
-length-leaf_numbers [] = refl
-length-leaf_numbers (w ∷ vs) = ap suc (length-leaf_numbers vs)
-
--- a leaf that is read
-pub leaf_read : {Z : Type 0} (vs : List (Vec ℕ Z)) (q : ℕ) (v : Vec ℕ Z) → q < length vs → v ≡ get_or vs q v → v.items ≡ get_or (leaf_numbers vs) q []
-leaf_read [] q v h e = absurd (omega (arith, h))
-leaf_read (w ∷ vs) zero v h e = ap (λ x. x.items) e
-leaf_read (w ∷ vs) (suc q) v h e = leaf_read vs q v (omega (arith, h)) e
-
-hint_set : (ls : List (List ℕ)) (l : List ℕ) (place n : ℕ) → place / 512 < length ls → slice_get l (place % 512) ≡ Some n → hint_at (set ls (place / 512) l) place ≡ Some n
-hint_set ls l place n lt h = ap (λ x. slice_get x (place % 512)) (get_or-set_same ls (place / 512) l [] lt) ∙ h
-
-hint_kept : (before ls : List (List ℕ)) (l : List ℕ) (place : ℕ) → place / 512 < length ls → HaveSameLeaves before ls
-    → KeepsOthers (get_or ls (place / 512) []) (place % 512) l → KeepsOtherHints before place (set ls (place / 512) l)
-unfolding KeepsOtherHints KeepsOthers HaveSameLeaves
-hint_kept before ls l place lt same kept p n off here =
-    let there : slice_get (get_or ls (p / 512) []) (p % 512) ≡ Some n = ap (λ x. slice_get x (p % 512)) (same (p / 512)) ∙ here in
-    elim (cases_eq (p / 512) (place / 512)) [
-      | inl page ↦
-          let apart : p % 512 ≢ place % 512 = λ e. off (omega (arith, page, e)) in
-          let old : slice_get (get_or ls (place / 512) []) (p % 512) ≡ Some n = subst (λ q. slice_get (get_or ls q []) (p % 512) ≡ Some n) page there in
-          ap (λ q. slice_get (get_or (set ls (place / 512) l) q []) (p % 512)) page ∙ ap (λ x. slice_get x (p % 512)) (get_or-set_same ls (place / 512) l [] lt) ∙ kept
-          (p % 512) n apart old
-      | inr other ↦ ap (λ x. slice_get x (p % 512)) (get_or-set_other ls (place / 512) (p / 512) l [] other) ∙ there
-    ]
-
-pub hints_same : (before after : List (List ℕ)) (place : ℕ) → HaveSameLeaves before after → KeepsOtherHints before place after
-unfolding KeepsOtherHints HaveSameLeaves
-hints_same before after place same p n off here = ap (λ x. slice_get x (p % 512)) (same (p / 512)) ∙ here
-
--- a leaf of hints is written
-module _ {Z : Type 0} (vs : List (Vec ℕ Z)) (old new : Vec ℕ Z) (place : ℕ) (within : place / 512 < length vs) where
-  in_numbers : place / 512 < length (leaf_numbers vs)
-  in_numbers = subst (λ n. place / 512 < n) (sym (length-leaf_numbers vs)) within
-
-  pub leaf_set : (n : ℕ) → slice_get new.items (place % 512) ≡ Some n → hint_at (leaf_numbers (set vs (place / 512) new)) place ≡ Some n
-  leaf_set n h = ap (λ ls. hint_at ls place) (leaf_numbers-set vs (place / 512) new) ∙ hint_set (leaf_numbers vs) new.items place n in_numbers h
-
-  pub leaf_kept : (before : List (List ℕ)) → old ≡ get_or vs (place / 512) old → HaveSameLeaves before (leaf_numbers vs) → KeepsOthers old.items (place % 512) new.items
-      → KeepsOtherHints before place (leaf_numbers (set vs (place / 512) new))
-  leaf_kept before read same kept =
-      subst (λ ls. KeepsOtherHints before place ls) (sym (leaf_numbers-set vs (place / 512) new))
-      (hint_kept before (leaf_numbers vs) new.items place in_numbers same (subst (λ l. KeepsOthers l (place % 512) new.items) (leaf_read vs (place / 512) old within read) kept))
-
--- ---- leaves are whole
 
 pub none_leaf : (xs : List ℕ) → length xs ≡ 0 → IsLeaf xs
 unfolding IsLeaf
@@ -131,51 +59,120 @@ pub in_leaf : (xs : List ℕ) (i : ℕ) → IsLeaf xs → 0 < length xs → i < 
 unfolding IsLeaf
 in_leaf xs i is some lt = omega (arith, is some, lt)
 
-pub no_leaves : AreLeaves []
-unfolding AreLeaves
-no_leaves q = none_leaf [] refl
+-- ---- leaves
 
-pub leaves_same : (before after : List (List ℕ)) → HaveSameLeaves before after → AreLeaves before → AreLeaves after
-unfolding AreLeaves HaveSameLeaves
-leaves_same before after same are q = subst IsLeaf (sym (same q)) (are q)
+pub same_leaves : (ls : List HintLeaf) → HaveSameLeaves ls ls
+unfolding HaveSameLeaves
+same_leaves ls q = refl
 
-leaves_set : (ls : List (List ℕ)) (k : ℕ) (l : List ℕ) → AreLeaves ls → IsLeaf l → AreLeaves (set ls k l)
-unfolding AreLeaves
-leaves_set ls k l are is q = elim (cases_eq q k) [
-  | inl here ↦ elim (cases_order k (length ls)) [
-    | inl end ↦ subst (λ m. IsLeaf (get_or m q [])) (sym (set_past ls k l (omega (arith, end)))) (are q)
-    | inr (inl within) ↦ subst (λ n. IsLeaf (get_or (set ls k l) n [])) (sym here) (subst IsLeaf (sym (get_or-set_same ls k l [] within)) is)
-    | inr (inr beyond) ↦ subst (λ m. IsLeaf (get_or m q [])) (sym (set_past ls k l (omega (arith, beyond)))) (are q)
+get_or-empty_more : (ls : List HintLeaf) (l : HintLeaf) (q : ℕ) → l ≡ no_leaf → get_or (ls ++ l ∷ []) q no_leaf ≡ get_or ls q no_leaf
+get_or-empty_more [] l zero e = e
+get_or-empty_more [] l (suc q) e = refl
+get_or-empty_more (x ∷ ls) l zero e = refl
+get_or-empty_more (x ∷ ls) l (suc q) e = get_or-empty_more ls l q e
+
+pub pushed_leaves : (before ls after : List HintLeaf) (l : HintLeaf) → HaveSameLeaves before ls → after ≡ ls ++ l ∷ [] → l ≡ no_leaf → HaveSameLeaves before after
+unfolding HaveSameLeaves
+pushed_leaves before ls after l same is none q = ap (λ us. get_or us q no_leaf) is ∙ get_or-empty_more ls l q none ∙ same q
+
+pub fresh_none : (ls : List HintLeaf) → HaveSameLeaves [] ls → HaveNone ls
+unfolding HaveSameLeaves HaveNone
+fresh_none ls same q = ap (λ (l : HintLeaf). l.used) (same q)
+
+pub hints_same : (ls : List HintLeaf) (place : ℕ) → KeepsOtherHints ls place ls
+unfolding KeepsOtherHints
+hints_same ls place p n off here = here
+
+pub counts_same : (ls : List HintLeaf) → HaveSameCounts ls ls
+unfolding HaveSameCounts
+counts_same ls q = refl
+
+pub used_hints_same : (ls : List HintLeaf) → KeepsUsedHints ls ls
+unfolding KeepsUsedHints
+used_hints_same ls p n some here = here
+
+none_past : (ls : List HintLeaf) (q : ℕ) → length ls ≤ q → get_or ls q no_leaf ≡ no_leaf
+none_past [] q h = refl
+none_past (l ∷ ls) zero h = absurd (omega (arith, h))
+none_past (l ∷ ls) (suc q) h = none_past ls q (omega (arith, h))
+
+-- a page that isn't there has no entry
+pub counts_past : (ls : List HintLeaf) (q : ℕ) → length ls ≤ q → Counts ls q ((leaf_at ls q).used - 1) ls
+counts_past ls q h =
+    let none : (leaf_at ls q).used ≡ 0 = ap (λ (l : HintLeaf). l.used) (none_past ls q h) in
+    record { here = omega (arith, none); others = λ p off. refl }
+
+pub none_counted : (ls : List HintLeaf) (n : ℕ) → length ls ≤ n → ((q : ℕ) → q < n → (leaf_at ls q).used ≡ 0) → HaveNone ls
+unfolding HaveNone
+none_counted ls n le none q = elim (below q n) [ inl lt ↦ none q lt | inr past ↦ ap (λ (l : HintLeaf). l.used) (none_past ls q (omega (arith, le, past))) ]
+  where
+    below : (q n : ℕ) → (q < n) ⊎ (n ≤ q)
+    below q zero = inr (omega arith)
+    below zero (suc n) = inl (omega arith)
+    below (suc q) (suc n) = elim (below q n) [ inl e ↦ inl (omega (arith, e)) | inr e ↦ inr (omega (arith, e)) ]
+
+leaf_read : (ls : List HintLeaf) (q : ℕ) (l d : HintLeaf) → q < length ls → l ≡ get_or ls q d → l ≡ leaf_at ls q
+leaf_read [] q l d h e = absurd (omega (arith, h))
+leaf_read (m ∷ ls) zero l d h e = e
+leaf_read (m ∷ ls) (suc q) l d h e = leaf_read ls q l d (omega (arith, h)) e
+
+-- the leaf of a place is changed
+module _ (ls : List HintLeaf) (old new : HintLeaf) (place : ℕ) (within : place / 512 < length ls) (read : old ≡ get_or ls (place / 512) old) where
+  before : leaf_at ls (place / 512) ≡ old
+  before = sym (leaf_read ls (place / 512) old old within read)
+
+  after : leaf_at (set ls (place / 512) new) (place / 512) ≡ new
+  after = get_or-set_same ls (place / 512) new no_leaf within
+
+  other : (q : ℕ) → q ≢ place / 512 → leaf_at (set ls (place / 512) new) q ≡ leaf_at ls q
+  other q off = get_or-set_other ls (place / 512) q new no_leaf off
+
+  pub used_before : (leaf_at ls (place / 512)).used ≡ old.used
+  used_before = ap (λ (l : HintLeaf). l.used) before
+
+  pub leaf_set : (n : ℕ) → slice_get new.numbers (place % 512) ≡ Some n → hint_at (set ls (place / 512) new) place ≡ Some n
+  leaf_set n h = ap (λ (l : HintLeaf). slice_get l.numbers (place % 512)) after ∙ h
+
+  pub has_place : (n : ℕ) → hint_at ls place ≡ Some n → place % 512 < length old.numbers
+  has_place n here = get-length old.numbers (place % 512) n (sym (ap (λ (l : HintLeaf). slice_get l.numbers (place % 512)) before) ∙ here)
+
+  pub leaf_kept : KeepsOthers old.numbers (place % 512) new.numbers → KeepsOtherHints ls place (set ls (place / 512) new)
+  unfolding KeepsOtherHints KeepsOthers
+  leaf_kept kept p n off here = elim (cases_eq (p / 512) (place / 512)) [
+    | inl page ↦
+        let apart : p % 512 ≢ place % 512 = λ e. off (omega (arith, page, e)) in
+        let was : slice_get old.numbers (p % 512) ≡ Some n =
+        sym (ap (λ q. slice_get (leaf_at ls q).numbers (p % 512)) page ∙ ap (λ (l : HintLeaf). slice_get l.numbers (p % 512)) before) ∙ here in
+        ap (λ q. slice_get (leaf_at (set ls (place / 512) new) q).numbers (p % 512)) page ∙ ap (λ (l : HintLeaf). slice_get l.numbers (p % 512)) after
+        ∙ kept (p % 512) n apart was
+    | inr away ↦ ap (λ (l : HintLeaf). slice_get l.numbers (p % 512)) (other (p / 512) away) ∙ here
   ]
-  | inr off ↦ subst IsLeaf (sym (get_or-set_other ls k q l [] off)) (are q)
-]
+
+  pub leaf_counts : (n : ℕ) → new.used ≡ n → Counts ls (place / 512) n (set ls (place / 512) new)
+  leaf_counts n is = record { here = ap (λ (l : HintLeaf). l.used) after ∙ is; others = λ q off. ap (λ (l : HintLeaf). l.used) (other q off) }
+
+  pub leaf_same_counts : new.used ≡ old.used → HaveSameCounts ls (set ls (place / 512) new)
+  unfolding HaveSameCounts
+  leaf_same_counts same q = elim (cases_eq q (place / 512)) [
+    | inl here ↦
+        ap (λ p. (leaf_at (set ls (place / 512) new) p).used) here ∙ ap (λ (l : HintLeaf). l.used) after ∙ same ∙ sym (ap (λ p. (leaf_at ls p).used) here ∙ used_before)
+    | inr off ↦ ap (λ (l : HintLeaf). l.used) (other q off)
+  ]
+
+  pub leaf_left : (0 < new.used → new.numbers ≡ old.numbers) → KeepsUsedHints ls (set ls (place / 512) new)
+  unfolding KeepsUsedHints
+  leaf_left same p n some here = elim (cases_eq (p / 512) (place / 512)) [
+    | inl page ↦
+        let used : 0 < new.used = subst (λ m. 0 < m) (ap (λ q. (leaf_at (set ls (place / 512) new) q).used) page ∙ ap (λ (l : HintLeaf). l.used) after) some in
+        ap (λ q. slice_get (leaf_at (set ls (place / 512) new) q).numbers (p % 512)) page ∙ ap (λ (l : HintLeaf). slice_get l.numbers (p % 512)) after
+        ∙ ap (λ l. slice_get l (p % 512)) (same used ∙ ap (λ (l : HintLeaf). l.numbers) (sym before)) ∙ sym (ap (λ q. slice_get (leaf_at ls q).numbers (p % 512)) page) ∙ here
+    | inr away ↦ ap (λ (l : HintLeaf). slice_get l.numbers (p % 512)) (other (p / 512) away) ∙ here
+  ]
+
+-- ---- pages
 
 pub same_pages : (h : HintPages) → HasSamePages h h
 same_pages h = record { count = refl; wanted = refl }
 
 pub more_pages : (h i j : HintPages) → HasSamePages h i → HasSamePages i j → HasSamePages h j
 more_pages h i j one two = record { count = two.count ∙ one.count; wanted = two.wanted ∙ one.wanted }
-
--- the leaf that a page is given has each place
-pub given_whole : (l s n : List ℕ) (i : ℕ) → IsLeaf l → IsLeaf s → 0 < length s → i < 512 → (0 < length l → n ≡ l) → (length l ≡ 0 → 0 < length s → n ≡ s) → i < length n
-given_whole l s n i leaf spare some lt same given = elim (cases_eq (length l) 0) [
-  | inl none ↦ subst (λ m. i < length m) (sym (given none some)) (in_leaf s i spare some lt)
-  | inr is ↦
-      let there : 0 < length l = omega (arith, is) in
-      subst (λ m. i < length m) (sym (same there)) (in_leaf l i leaf there lt)
-]
-
--- a leaf of whole ones is written
-module _ {Z : Type 0} (vs : List (Vec ℕ Z)) (old : Vec ℕ Z) (place : ℕ) (within : place / 512 < length vs) (read : old ≡ get_or vs (place / 512) old) where
-  pub old_leaf : AreLeaves (leaf_numbers vs) → IsLeaf old.items
-  unfolding AreLeaves
-  old_leaf are = subst IsLeaf (sym (leaf_read vs (place / 512) old within read)) (are (place / 512))
-
-  pub has_place : (n : ℕ) → hint_at (leaf_numbers vs) place ≡ Some n → place % 512 < length old.items
-  has_place n here = get-length old.items (place % 512) n (ap (λ l. slice_get l (place % 512)) (leaf_read vs (place / 512) old within read) ∙ here)
-
-pub new_leaves : {Z : Type 0} (vs : List (Vec ℕ Z)) (k : ℕ) (new : Vec ℕ Z) → AreLeaves (leaf_numbers vs) → IsLeaf new.items → AreLeaves (leaf_numbers (set vs k new))
-new_leaves vs k new are is = subst AreLeaves (sym (leaf_numbers-set vs k new)) (leaves_set (leaf_numbers vs) k new.items are is)
-
-pub same_count : {Z : Type 0} (vs : List (Vec ℕ Z)) (k : ℕ) (new : Vec ℕ Z) → length (leaf_numbers (set vs k new)) ≡ length (leaf_numbers vs)
-same_count vs k new = ap length (leaf_numbers-set vs k new) ∙ length-set (leaf_numbers vs) k new.items

@@ -3,16 +3,13 @@ use Rattle.std.proofs.Common.{◌≡◌, ◌≢◌, ℕ, ◌-◌, ◌/◌, ◌%�
 use Rattle.rlsf_model_global.specs.Rows.{Row, key, row_at}
 use Rattle.rlsf_global.proofs.RowsInOrder.{row_at-none}
 use Rattle.rlsf_global.proofs.ListElements.{some_same, get-length, get-some, get-append, get-set, get-swapped, get-take}
-use Rattle.rlsf_global.specs.Hints.{HaveSameLeaves, hint_at, KeepsOtherHints}
-use Rattle.rlsf_global.specs.LiveRows.{AreApart, AreHinted, HasNoneAt, IsHinted, place, spot}
-
-pub same_hints : (hints : List (List ℕ)) (p : ℕ) → KeepsOtherHints hints p hints
-unfolding KeepsOtherHints
-same_hints hints p q n off h = h
+use Rattle.rlsf_global.proofs.CountedPages.{has_count}
+use Rattle.rlsf_global.specs.Hints.{HaveSameLeaves, HintLeaf, hint_at, KeepsOtherHints, KeepsUsedHints}
+use Rattle.rlsf_global.specs.LiveRows.{AreApart, AreCounted, AreHinted, HasNoneAt, IsHinted, place, spot}
 
 -- ---- where no entry has the address
 
-module _ (base a : ℕ) (rows : List Row) (hints : List (List ℕ)) (hinted : AreHinted base rows hints) where
+module _ (base a : ℕ) (rows : List Row) (hints : List HintLeaf) (hinted : AreHinted base rows hints) where
   hint_of : (i : ℕ) (r : Row) → slice_get rows i ≡ Some r → key r ≡ a → hint_at hints (place base a) ≡ Some i
   unfolding AreHinted
   hint_of i r here same = ap (λ b. hint_at hints (place base b)) (sym same) ∙ (hinted i r here).hint
@@ -35,7 +32,7 @@ module _ (base a : ℕ) (rows : List Row) (hints : List (List ℕ)) (hinted : Ar
 -- ---- changes
 
 -- an entry more
-pub hinted-append : (base : ℕ) (rows : List Row) (row : Row) (hints after : List (List ℕ)) → AreHinted base rows hints → HasNoneAt rows (spot (key row))
+pub hinted-append : (base : ℕ) (rows : List Row) (row : Row) (hints after : List HintLeaf) → AreHinted base rows hints → HasNoneAt rows (spot (key row))
     → KeepsOtherHints hints (place base (key row)) after → IsHinted base (key row) after (length rows) → AreHinted base (rows ++ row ∷ []) after
 unfolding AreHinted HasNoneAt KeepsOtherHints
 hinted-append base rows row hints after hinted none kept new i r here = elim (get-append rows row i r here) [
@@ -49,7 +46,7 @@ hinted-append base rows row hints after hinted none kept new i r here = elim (ge
 ]
 
 -- an entry less
-pub hinted-swap_remove : (base : ℕ) (rows : List Row) (k : ℕ) (m d : Row) (hints after : List (List ℕ)) → AreHinted base rows hints → k < length rows
+pub hinted-swap_remove : (base : ℕ) (rows : List Row) (k : ℕ) (m d : Row) (hints after : List HintLeaf) → AreHinted base rows hints → k < length rows
     → m ≡ get_or rows (length rows - 1) m → KeepsOtherHints hints (place base (key m)) after → IsHinted base (key m) after k
     → AreHinted base (swap_remove rows k d) after
 unfolding AreHinted KeepsOtherHints
@@ -69,13 +66,13 @@ hinted-swap_remove base rows k m d hints after hinted lt read kept new i r here 
           record { above = first.above; hint = kept (place base (key r)) i apart first.hint }
     ]
 
-pub hinted-last : (base : ℕ) (rows : List Row) (m : Row) (hints : List (List ℕ)) → AreHinted base rows hints → 0 < length rows → m ≡ get_or rows (length rows - 1) m
+pub hinted-last : (base : ℕ) (rows : List Row) (m : Row) (hints : List HintLeaf) → AreHinted base rows hints → 0 < length rows → m ≡ get_or rows (length rows - 1) m
     → IsHinted base (key m) hints (length rows - 1)
 unfolding AreHinted
 hinted-last base rows m hints hinted some read = hinted (length rows - 1) m (get-some rows (length rows - 1) m (omega (arith, some)) ∙ ap Some (sym read))
 
 -- an entry replaced by one of its address
-pub hinted-set : (base : ℕ) (rows : List Row) (k : ℕ) (g new : Row) (hints : List (List ℕ)) → slice_get rows k ≡ Some g → key new ≡ key g → AreHinted base rows hints
+pub hinted-set : (base : ℕ) (rows : List Row) (k : ℕ) (g new : Row) (hints : List HintLeaf) → slice_get rows k ≡ Some g → key new ≡ key g → AreHinted base rows hints
     → AreHinted base (set rows k new) hints
 unfolding AreHinted
 hinted-set base rows k g new hints there same hinted i r h = elim (get-set rows k new i r h) [
@@ -83,17 +80,27 @@ hinted-set base rows k g new hints there same hinted i r h = elim (get-set rows 
   | inr (away, stays) ↦ hinted i r stays
 ]
 
-pub none_hinted : (base : ℕ) (hints : List (List ℕ)) → AreHinted base [] hints
+pub none_hinted : (base : ℕ) (hints : List HintLeaf) → AreHinted base [] hints
 unfolding AreHinted
 none_hinted base hints i r h = absurd (cc)
 
 -- the same leaves hint the same entries
-pub hinted_same : (base : ℕ) (rows : List Row) (before after : List (List ℕ)) → HaveSameLeaves before after → AreHinted base rows before → AreHinted base rows after
+pub hinted_same : (base : ℕ) (rows : List Row) (before after : List HintLeaf) → HaveSameLeaves before after → AreHinted base rows before → AreHinted base rows after
 unfolding AreHinted HaveSameLeaves
 hinted_same base rows before after same hinted i r here =
     let h = hinted i r here in
     let p = place base (key r) in
-    record { above = h.above; hint = ap (λ l. slice_get l (p % 512)) (same (p / 512)) ∙ h.hint }
+    record { above = h.above; hint = ap (λ (l : HintLeaf). slice_get l.numbers (p % 512)) (same (p / 512)) ∙ h.hint }
+
+-- hints whose pages have entries stay
+pub hinted_left : (base : ℕ) (rows : List Row) (before after : List HintLeaf) → AreHinted base rows before → AreCounted base rows after → KeepsUsedHints before after
+    → AreHinted base rows after
+unfolding AreHinted AreCounted KeepsUsedHints
+hinted_left base rows before after hinted counted kept i r here =
+    let h = hinted i r here in
+    let p = place base (key r) in
+    let some = has_count base rows i r here in
+    record { above = h.above; hint = kept p i (omega (arith, some, counted (p / 512))) h.hint }
 
 -- the entries before one have other spots
 pub none_before : (rows : List Row) (i : ℕ) (row : Row) → AreApart rows → slice_get rows i ≡ Some row → HasNoneAt (take i rows) (spot (key row))

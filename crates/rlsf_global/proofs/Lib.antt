@@ -1,5 +1,6 @@
 -- Lemmas about the value under the lock: its table, its heap and the steps of its calls.
 pub mod Checks
+mod CountedPages
 pub mod Deallocations
 pub mod Heaps
 mod Growth

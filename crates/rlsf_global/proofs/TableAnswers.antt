@@ -5,10 +5,12 @@ use Rattle.rlsf_model_global.specs.Rows.{Row, key, row_at, put, without_row}
 use Rattle.rlsf_model_global.proofs.Rows.{without_row-sorted}
 use Rattle.rlsf_model_global.proofs.Maps.{row_at-without_here, row_at-without_other}
 use Rattle.rlsf_global.proofs.ListElements.{get-some, some_same}
+use Rattle.rlsf_global.proofs.CountedPages.{counted-none, counted-set, counted_same}
+use Rattle.rlsf_global.proofs.HintLeaves.{fresh_none}
 use Rattle.rlsf_global.proofs.HintedRows.{hinted-set, hinted_same}
 use Rattle.rlsf_global.proofs.RowsInOrder.{row_at-some, row_at-in_order, in_order-sorted, same_rows, in_order-swap_remove, apart-swap_remove, in_order-set, apart-set}
-use Rattle.rlsf_global.specs.Hints.{HaveSameLeaves}
-use Rattle.rlsf_global.specs.LiveRows.{AreApart, AreHinted, IsIndexed, IsRowAt, in_order}
+use Rattle.rlsf_global.specs.Hints.{HaveSameLeaves, HintLeaf}
+use Rattle.rlsf_global.specs.LiveRows.{AreApart, AreCounted, AreHinted, IsIndexed, IsRowAt, in_order}
 
 -- the entry at an index, if there is one
 pub row_read : List Row → ℕ → Row → Row
@@ -21,15 +23,24 @@ has_read rows i d lt = some_same (sym (get-some rows i d lt) ∙ get-some rows i
 pub replaced_few : (rows : List Row) (i : ℕ) (new : Row) → length (set rows i new) ≡ length rows
 replaced_few rows i new = length-set rows i new
 
-pub none_indexed : (base : ℕ) (hints : List (List ℕ)) → IsIndexed base [] hints true
+pub none_indexed : (base : ℕ) (hints : List HintLeaf) → HaveSameLeaves [] hints → IsIndexed base [] hints true
 unfolding AreApart AreHinted
-none_indexed base hints = record { apart = λ i j r s h g same. absurd (cc); hinted = λ _ i r h. absurd (cc); few = λ _. omega arith }
+none_indexed base hints same = record {
+  apart = λ i j r s h g same. absurd (cc);
+  hinted = λ _ i r h. absurd (cc);
+  counted = λ _. counted-none base hints (fresh_none hints same);
+  few = λ _. omega arith;
+}
 
 -- hints with the same leaves, and more of them empty
-pub same_indexed : (base : ℕ) (rows : List Row) (before after : List (List ℕ)) (exact : Bool) → AreApart rows → (exact ≡ true → AreHinted base rows before)
-    → (exact ≡ true → length rows ≤ 4294967296) → HaveSameLeaves before after → IsIndexed base rows after exact
-same_indexed base rows before after exact apart hinted few same =
-    record { apart = apart; hinted = λ is. hinted_same base rows before after same (hinted is); few = few }
+pub same_indexed : (base : ℕ) (rows : List Row) (before after : List HintLeaf) (exact : Bool) → AreApart rows → (exact ≡ true → AreHinted base rows before)
+    → (exact ≡ true → AreCounted base rows before) → (exact ≡ true → length rows ≤ 4294967296) → HaveSameLeaves before after → IsIndexed base rows after exact
+same_indexed base rows before after exact apart hinted counted few same = record {
+  apart = apart;
+  hinted = λ is. hinted_same base rows before after same (hinted is);
+  counted = λ is. counted_same base rows before after same (counted is);
+  few = few;
+}
 
 module _ (rows : List Row) (addr : ℕ) where
   pub row_none : row_at addr rows ≡ None → None ≡ row_at addr (in_order rows)
@@ -70,5 +81,8 @@ module _ (rows : List Row) (addr : ℕ) where
     pub replaced_apart : (new : Row) → key new ≡ addr → AreApart (set rows i new)
     replaced_apart new same = apart-set rows apart i row new stands (same ∙ sym has_key)
 
-    pub replaced_hinted : (base : ℕ) (hints : List (List ℕ)) (new : Row) → key new ≡ addr → AreHinted base rows hints → AreHinted base (set rows i new) hints
+    pub replaced_counted : (base : ℕ) (hints : List HintLeaf) (new : Row) → key new ≡ addr → AreCounted base rows hints → AreCounted base (set rows i new) hints
+    replaced_counted base hints new same counted = counted-set base rows i row new hints found.in_range read (same ∙ sym has_key) counted
+
+    pub replaced_hinted : (base : ℕ) (hints : List HintLeaf) (new : Row) → key new ≡ addr → AreHinted base rows hints → AreHinted base (set rows i new) hints
     replaced_hinted base hints new same hinted = hinted-set base rows i row new hints stands (same ∙ sym has_key) hinted

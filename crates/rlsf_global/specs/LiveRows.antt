@@ -1,7 +1,8 @@
 -- The table of live payloads as contracts see it, and how it is kept.
-use Rattle.std.specs.Prelude.{◌≡◌, ◌≢◌, ℕ, ◌*◌, ◌-◌, ◌<◌, ◌≤◌, ◌/◌, Bool, true, List, [], ◌∷◌, Option, Some, None, length, slice_get, slice_index_or, MatchOption}
+use Rattle.std.specs.Prelude.{◌≡◌, ◌≢◌, ℕ, ◌*◌, ◌-◌, ◌<◌, ◌≤◌, ◌/◌, Bool, true, ◌==◌, if◌then◌else◌, List, [], ◌∷◌, Option, Some, None, length, slice_get, slice_index_or, MatchOption}
+use Rattle.std.specs.List.{sum_by}
 use Rattle.rlsf_model_global.specs.Rows.{Row, key, put, row_at}
-use Rattle.rlsf_global.specs.Hints.{HintPages, hint_at}
+use Rattle.rlsf_global.specs.Hints.{HintLeaf, HintPages, hint_at, leaf_at}
 
 -- which 32 bytes of addresses a payload takes for itself: the 16 bytes before it are of its own block
 abbrev pub spot : ℕ → ℕ
@@ -84,22 +85,31 @@ unfoldable pub AreApart : List Row → Type 0
 AreApart rows = (i j : ℕ) (r s : Row) → slice_get rows i ≡ Some r → slice_get rows j ≡ Some s → spot (key r) ≡ spot (key s) → i ≡ j
 
 -- the hint of an address is i
-pub record IsHinted (base addr : ℕ) (hints : List (List ℕ)) (i : ℕ) : Type 0 where
+pub record IsHinted (base addr : ℕ) (hints : List HintLeaf) (i : ℕ) : Type 0 where
   pub above : base ≤ spot addr
   pub hint : hint_at hints (place base addr) ≡ Some i
 
 -- each entry's hint is where it is
-unfoldable pub AreHinted : ℕ → List Row → List (List ℕ) → Type 0
+unfoldable pub AreHinted : ℕ → List Row → List HintLeaf → Type 0
 AreHinted base rows hints = (i : ℕ) (r : Row) → slice_get rows i ≡ Some r → IsHinted base (key r) hints i
+
+-- 1 for an entry in a page, and 0 for another
+abbrev pub in_page : ℕ → ℕ → Row → ℕ
+in_page base page row = if place base (key row) / 512 == page then 1 else 0
+
+-- each page counts its entries
+unfoldable pub AreCounted : ℕ → List Row → List HintLeaf → Type 0
+AreCounted base rows hints = (page : ℕ) → (leaf_at hints page).used ≡ sum_by (in_page base page) rows
 
 -- no entry has the spot
 unfoldable pub HasNoneAt : List Row → ℕ → Type 0
 HasNoneAt rows p = (i : ℕ) (r : Row) → slice_get rows i ≡ Some r → spot (key r) ≢ p
 
--- what is true of each table: where it is exact, hints have each entry, and an index has 32 bits
-pub record IsIndexed (base : ℕ) (rows : List Row) (hints : List (List ℕ)) (exact : Bool) : Type 0 where
+-- what is true of each table: where it is exact, hints have each entry, pages count theirs, and an index has 32 bits
+pub record IsIndexed (base : ℕ) (rows : List Row) (hints : List HintLeaf) (exact : Bool) : Type 0 where
   pub apart : AreApart rows
   pub hinted : exact ≡ true → AreHinted base rows hints
+  pub counted : exact ≡ true → AreCounted base rows hints
   pub few : exact ≡ true → length rows ≤ 4294967296
 
 -- the entry of an address is at i

@@ -1,13 +1,15 @@
 //! The table of live payloads.
 
-ghost use Rattle.std.specs.Prelude.{◌≡◌, ◌≤◌, ◌<◌, ◌+◌, ◌/◌, [], None, IfNone, IsSome, OnOk, OnSome, true};
+ghost use Rattle.std.specs.Prelude.{◌≡◌, ◌≤◌, ◌<◌, ◌+◌, ◌/◌, [], None, IfNone, IfSome, IsSome, OnOk, OnSome, false, true};
 ghost use Rattle.rlsf_base.specs.Addr.{at};
 ghost use Rattle.rlsf_global.specs.LiveRows.{AreSpread, HasSameSpace, IsReady, KeepsHints, KeepsHintsWith};
 ghost use Rattle.rlsf_model_global.specs.Rows.{key, put, row_at, without_row};
+ghost use Rattle.rlsf_model_global.specs.Steps.{is_same};
 
 mod counted_rows;
 mod entries;
 mod hints;
+mod leaves;
 pub(crate) mod looks;
 
 use crate::live_table::counted_rows::CountedRows;
@@ -146,6 +148,7 @@ impl LiveTable {
                     &mut self.hints,
                     self.base,
                     self.exact,
+                    addr,
                     index,
                     &mut self.looks,
                 );
@@ -153,6 +156,43 @@ impl LiveTable {
             }
             None => None,
         }
+    }
+
+    /// Removes the entry of an address, if it has one of a layout. Returns the entry that the address had.
+    pub(crate) fn remove_as(&mut self, addr: Addr, layout: Layout) -> Option<(Addr, Layout)>
+        ensures row { result ≡ row_at (at addr) self.old.rows }
+        ensures gone { IfSome result (λ row. true ≡ is_same row.1 layout → self.new.rows ≡ without_row (at addr) self.old.rows) }
+        ensures stays { IfSome result (λ row. false ≡ is_same row.1 layout → self.new.rows ≡ self.old.rows) }
+        ensures unchanged { IfNone result (self.new.rows ≡ self.old.rows) }
+        ensures hinted { KeepsHints self.old self.new }
+        ensures ready { self.old.hinted ≡ true → IsReady self.old → IsReady self.new }
+        ensures space { HasSameSpace self.old.space self.new.space }
+        ensures looks { self.old.hinted ≡ true → self.new.looks ≤ self.old.looks + 7 }
+    {
+        let Some(index) = find(
+            &self.rows,
+            &self.hints,
+            self.base,
+            self.exact,
+            addr,
+            &mut self.looks,
+        ) else {
+            return None;
+        };
+        let row = self.rows.row(index, &mut self.looks);
+        if row.1 != layout {
+            return Some(row);
+        }
+        self.exact = take_out(
+            &mut self.rows,
+            &mut self.hints,
+            self.base,
+            self.exact,
+            addr,
+            index,
+            &mut self.looks,
+        );
+        Some(row)
     }
 
     /// Replaces the entry of an address by one with the same address.

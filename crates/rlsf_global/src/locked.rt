@@ -157,14 +157,13 @@ impl<Options: GlobalTlsfOptions> Locked<Options> {
         ensures memory { KeepsMemory (flex_of self.old) (flex_of self.new) }
         ensures copied { self.new.memory.copied ≡ self.old.memory.copied }
     {
-        let Some(row) = self.rows.get(addr, &mut Looks::new()) else {
+        let Some(row) = self.rows.remove_as(addr, layout) else {
             // Refused before the layout is compared: an address without an entry has none.
             return Err(GlobalError::UnknownAddress);
         };
         if row.1 != layout {
             return Err(GlobalError::WrongLayout);
         }
-        let _gone = self.rows.remove(addr);
         self.flex.deallocate(addr, row.1.align());
         Ok(())
     }

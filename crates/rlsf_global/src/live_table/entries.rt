@@ -1,9 +1,9 @@
 //! Entries in any order, and hints of where they are.
 
-ghost use Rattle.std.specs.Prelude.{◌≡◌, ◌<◌, ◌≤◌, ◌+◌, ◌++◌, ◌∷◌, ℕ, [], IfNone, IfSome, None, Some, false, length, swap_remove, true};
+ghost use Rattle.std.specs.Prelude.{◌≡◌, ◌<◌, ◌≤◌, ◌+◌, ◌/◌, ◌^◌, ◌++◌, ◌∷◌, ℕ, [], IfNone, IfSome, None, Some, false, length, swap_remove, true};
 ghost use Rattle.rlsf_base.specs.Addr.{at};
-ghost use Rattle.rlsf_global.specs.Hints.{HasLeafFor, HasSamePages, KeepsOtherHints};
-ghost use Rattle.rlsf_global.specs.LiveRows.{AreApart, AreHinted, HasNoneAt, IsHinted, IsRowAt, IsWhere, place, spot};
+ghost use Rattle.rlsf_global.specs.Hints.{Counts, HasLeafFor, HasSamePages, HaveSameCounts, KeepsOtherHints, leaf_at};
+ghost use Rattle.rlsf_global.specs.LiveRows.{AreApart, AreCounted, AreHinted, HasNoneAt, IsHinted, IsRowAt, IsWhere, place, spot};
 ghost use Rattle.rlsf_model_global.specs.Rows.{Row, key, row_at};
 
 use crate::live_table::counted_rows::CountedRows;
@@ -89,15 +89,32 @@ pub(crate) fn find(
     }
 }
 
-/// Sets the hint of an address to an index. Returns whether it is set.
-///
-/// It is set if the index is below 2^32, and the address has a hint or a place while a spare leaf is ready.
+/// Changes the hint of an address to an index. Returns whether it is set: the address's page may have no leaf.
 fn point(hints: &mut Hints, base: usize, addr: Addr, index: usize) -> bool
     ensures set { result ≡ true → IsHinted base (at addr) hints.new.leaves index }
     ensures kept { KeepsOtherHints hints.old.leaves (place base (at addr)) hints.new.leaves }
     ensures few { result ≡ true → index < 4294967296 }
     ensures again { (n : ℕ) → IsHinted base (at addr) hints.old.leaves n → index < 4294967296 → result ≡ true }
-    ensures spare { (n : ℕ) → IsHinted base (at addr) hints.old.leaves n → hints.new.spare ≡ hints.old.spare }
+    ensures counts { HaveSameCounts hints.old.leaves hints.new.leaves }
+    ensures spare { hints.new.spare ≡ hints.old.spare }
+    ensures pages { HasSamePages hints.old hints.new }
+{
+    let spot = spot_of(addr);
+    if spot < base || index > 0xffff_ffff {
+        return false;
+    }
+    hints.change(spot - base, index as u32)
+}
+
+/// Sets the hint of a new address to an index, and counts its entry. Returns whether it is set.
+///
+/// It is set if the index is below 2^32, and the address has a place while a spare leaf is ready.
+fn enter(hints: &mut Hints, base: usize, addr: Addr, index: usize) -> bool
+    ensures set { result ≡ true → IsHinted base (at addr) hints.new.leaves index }
+    ensures kept { KeepsOtherHints hints.old.leaves (place base (at addr)) hints.new.leaves }
+    ensures few { result ≡ true → index < 4294967296 }
+    ensures counts { result ≡ true → (leaf_at hints.old.leaves (place base (at addr) / 512)).used + 1 < 2 ^ 64
+        → Counts hints.old.leaves (place base (at addr) / 512) ((leaf_at hints.old.leaves (place base (at addr) / 512)).used + 1) hints.new.leaves }
     ensures ready { base ≤ spot (at addr) → HasLeafFor hints.old (place base (at addr)) → index < 4294967296 → result ≡ true }
     ensures pages { HasSamePages hints.old hints.new }
 {
@@ -105,7 +122,7 @@ fn point(hints: &mut Hints, base: usize, addr: Addr, index: usize) -> bool
     if spot < base || index > 0xffff_ffff {
         return false;
     }
-    hints.set(spot - base, index as u32)
+    hints.add(spot - base, index as u32)
 }
 
 /// Appends an entry whose spot no other has. The entries have room for it. Returns whether hints are exact then.
@@ -122,36 +139,41 @@ pub(crate) fn append(
     requires room { 0 < rows.old.room }
     requires none { HasNoneAt rows.old.items (spot (key row)) }
     requires hinted { exact ≡ true → AreHinted base rows.old.items hints.old.leaves }
+    requires counted { exact ≡ true → AreCounted base rows.old.items hints.old.leaves }
     ensures items { rows.new.items ≡ rows.old.items ++ row ∷ [] }
     ensures hinted { result ≡ true → AreHinted base rows.new.items hints.new.leaves }
+    ensures counted { result ≡ true → AreCounted base rows.new.items hints.new.leaves }
     ensures few { result ≡ true → length rows.new.items ≤ 4294967296 }
     ensures exact { exact ≡ true → base ≤ spot (key row) → HasLeafFor hints.old (place base (key row)) → length rows.old.items < 4294967296 → result ≡ true }
     ensures pages { HasSamePages hints.old hints.new }
     ensures room { rows.old.room ≤ rows.new.room + 1 }
     ensures looks { looks.new.count ≤ looks.old.count + 9 }
 {
-    let set = point(hints, base, row.0, rows.len());
+    let set = enter(hints, base, row.0, rows.len());
     rows.push(row, looks);
     exact && set
 }
 
-/// Removes the entry at an index. The last one takes its place. Returns whether hints are exact then: they stay exact.
+/// Removes the entry of an address, which is at an index. The last one takes its place. Returns whether hints are exact then: they stay exact.
 pub(crate) fn take_out(
     rows: &mut CountedRows,
     hints: &mut Hints,
     base: usize,
     exact: bool,
+    addr: Addr,
     index: usize,
     looks: &mut Looks,
 ) -> bool
-    requires in_range { index < length rows.old.items }
+    requires here { IsRowAt rows.old.items (at addr) index }
     requires hinted { exact ≡ true → AreHinted base rows.old.items hints.old.leaves }
+    requires counted { exact ≡ true → AreCounted base rows.old.items hints.old.leaves }
     requires few { exact ≡ true → length rows.old.items ≤ 4294967296 }
     ensures items { (d : Row) → rows.new.items ≡ swap_remove rows.old.items index d }
     ensures hinted { result ≡ true → AreHinted base rows.new.items hints.new.leaves }
+    ensures counted { result ≡ true → AreCounted base rows.new.items hints.new.leaves }
     ensures exact { exact ≡ true → result ≡ true }
     ensures few { result ≡ true → length rows.new.items ≤ 4294967296 }
-    ensures spare { exact ≡ true → hints.new.spare ≡ hints.old.spare }
+    ensures spare { hints.old.spare ≤ hints.new.spare }
     ensures pages { HasSamePages hints.old hints.new }
     ensures room { rows.new.room ≡ rows.old.room + 1 }
     ensures looks { looks.new.count ≡ looks.old.count + 5 }
@@ -159,6 +181,7 @@ pub(crate) fn take_out(
     let last = rows.row(rows.len() - 1, looks).0;
     let set = point(hints, base, last, index);
     rows.swap_remove(index, looks);
+    hints.leave(place_of(base, addr));
     exact && set
 }
 
@@ -171,9 +194,11 @@ pub(crate) fn mend(
     looks: &mut Looks,
 ) -> bool
     requires hinted { exact ≡ true → AreHinted base rows.now.items hints.old.leaves }
+    requires counted { exact ≡ true → AreCounted base rows.now.items hints.old.leaves }
     requires few { exact ≡ true → length rows.now.items ≤ 4294967296 }
     requires apart { AreApart rows.now.items }
     ensures hinted { result ≡ true → AreHinted base rows.now.items hints.new.leaves }
+    ensures counted { result ≡ true → AreCounted base rows.now.items hints.new.leaves }
     ensures few { result ≡ true → length rows.now.items ≤ 4294967296 }
     ensures exact { exact ≡ true → result ≡ true }
     ensures pages { HasSamePages hints.old hints.new }
@@ -196,12 +221,14 @@ fn rebuild(
     requires inexact { exact ≡ false }
     requires apart { AreApart rows.now.items }
     ensures hinted { result ≡ true → AreHinted base rows.now.items hints.new.leaves }
+    ensures counted { result ≡ true → AreCounted base rows.now.items hints.new.leaves }
     ensures few { result ≡ true → length rows.now.items ≤ 4294967296 }
     ensures pages { HasSamePages hints.old hints.new }
 {
+    hints.forget();
     for i in 0..rows.len() {
         let row = rows.row(i, looks);
-        if !point(hints, base, row.0, i) {
+        if !enter(hints, base, row.0, i) {
             return false;
         }
     }

@@ -1,36 +1,31 @@
 //! Hints: a number for each place of an address, in leaves that are made as places are used.
 
-ghost use Rattle.std.specs.Prelude.{◌≡◌, ◌<◌, ◌≤◌, ◌+◌, ◌/◌, ℕ, [], Some, length, slice_get, true};
+ghost use Rattle.std.specs.Prelude.{◌≡◌, ◌<◌, ◌≤◌, ◌+◌, ◌-◌, ◌/◌, ◌^◌, ℕ, [], Some, length, slice_get, true};
 ghost use Rattle.std.specs.Vec.{vec_len};
-ghost use Rattle.rlsf_global.specs.Hints.{HasAll, HasLeafFor, HasSamePages, HaveSameLeaves, IsLeaf, KeepsOtherHints, KeepsOthers, hint_at, leaf_numbers};
+ghost use Rattle.rlsf_global.specs.Hints.{Counts, HasAll, HasLeafFor, HasSamePages, HaveNone, HaveSameCounts, HaveSameLeaves, KeepsOtherHints, KeepsOthers, KeepsUsedHints, hint_at, leaf_at};
 
+use crate::live_table::leaves::{Leaf, PLACES};
 use std::alloc::Global;
 use std::marker::Model;
-use std::mem::swap;
 
-/// The places of a leaf, which has 2 KiB.
-const PLACES: usize = 512;
-
-/// Numbers by places. A place has none until one is set.
+/// Numbers by places, and how many entries each page of places has. A place has no number until one is set.
 #[derive(Drop)]
 pub(crate) struct Hints {
     alloc: Global,
-    // For each page of places its leaf, or an empty one.
-    leaves: Vec<Vec<u32>>,
+    // For each page of places its leaf.
+    leaves: Vec<Leaf>,
     // How many pages there are.
     pages: usize,
-    // The next leaf, so that a hint can be set without memory from the system. Empty if there is none.
-    spare: Vec<u32>,
+    // The next leaf, so that a hint can be set without memory from the system.
+    spare: Leaf,
 }
 
 impl Model for Hints {
-    ghost use Rattle.rlsf_global.specs.Hints.{AreLeaves, HintPages, IsLeaf, hint_pages, leaf_numbers};
+    ghost use Rattle.rlsf_global.specs.Hints.{HintPages, hint_pages};
 
     ghost Value = { HintPages };
 
-    ghost view = { λ h. hint_pages (leaf_numbers h.leaves.items) h.pages h.spare.items };
-
-    ghost invariant = { λ h. AreLeaves (leaf_numbers h.leaves.items) × IsLeaf h.spare.items };
+    ghost view = { λ h. hint_pages h.leaves.items h.pages h.spare };
 }
 
 impl Hints {
@@ -46,7 +41,7 @@ impl Hints {
             alloc,
             leaves,
             pages,
-            spare: Vec::new(alloc),
+            spare: Leaf::none(alloc),
         }
     }
 
@@ -60,8 +55,8 @@ impl Hints {
         if !are_all_there(&mut self.leaves, self.pages, self.alloc) {
             return false;
         }
-        fill(&mut self.spare, self.alloc);
-        !self.spare.is_empty()
+        self.spare.fill(self.alloc);
+        self.spare.is_there()
     }
 
     /// Returns the hint of a place, if it has one.
@@ -70,18 +65,34 @@ impl Hints {
     {
         let page = place / PLACES;
         if page < self.leaves.len() {
-            self.leaves[page].get(place % PLACES).copied()
+            self.leaves[page].number(place % PLACES)
         } else {
             None
         }
     }
 
-    /// Sets the hint of a place. Returns whether it is set: there may be no leaf for it, and no memory for one.
-    pub(crate) fn set(&mut self, place: usize, number: u32) -> bool
+    /// Changes the hint of a place. Returns whether its page has a leaf.
+    pub(crate) fn change(&mut self, place: usize, number: u32) -> bool
         ensures set { result ≡ true → hint_at self.new.leaves place ≡ Some number }
         ensures kept { KeepsOtherHints self.old.leaves place self.new.leaves }
         ensures again { (n : ℕ) → hint_at self.old.leaves place ≡ Some n → result ≡ true }
-        ensures spare { (n : ℕ) → hint_at self.old.leaves place ≡ Some n → self.new.spare ≡ self.old.spare }
+        ensures counts { HaveSameCounts self.old.leaves self.new.leaves }
+        ensures spare { self.new.spare ≡ self.old.spare }
+        ensures pages { HasSamePages self.old self.new }
+    {
+        let page = place / PLACES;
+        if page >= self.leaves.len() {
+            return false;
+        }
+        self.leaves[page].set(place % PLACES, number)
+    }
+
+    /// Sets the hint of a place for an entry more. Returns whether it is set: there may be no leaf for it, and no memory for one.
+    pub(crate) fn add(&mut self, place: usize, number: u32) -> bool
+        ensures set { result ≡ true → hint_at self.new.leaves place ≡ Some number }
+        ensures kept { KeepsOtherHints self.old.leaves place self.new.leaves }
+        ensures counts { result ≡ true → (leaf_at self.old.leaves (place / 512)).used + 1 < 2 ^ 64
+            → Counts self.old.leaves (place / 512) ((leaf_at self.old.leaves (place / 512)).used + 1) self.new.leaves }
         ensures ready { HasLeafFor self.old place → result ≡ true }
         ensures pages { HasSamePages self.old self.new }
     {
@@ -89,7 +100,7 @@ impl Hints {
         if page >= self.leaves.len() {
             return false;
         }
-        set_in(
+        add_in(
             &mut self.leaves[page],
             &mut self.spare,
             place % PLACES,
@@ -97,11 +108,33 @@ impl Hints {
             self.alloc,
         )
     }
+
+    /// Counts an entry less. A leaf whose page has no entry then is the next spare one, or is freed if there is one.
+    pub(crate) fn leave(&mut self, place: usize)
+        ensures kept { KeepsUsedHints self.old.leaves self.new.leaves }
+        ensures counts { Counts self.old.leaves (place / 512) ((leaf_at self.old.leaves (place / 512)).used - 1) self.new.leaves }
+        ensures spare { self.old.spare ≤ self.new.spare }
+        ensures pages { HasSamePages self.old self.new }
+    {
+        let page = place / PLACES;
+        if page < self.leaves.len() {
+            leave_in(&mut self.leaves[page], &mut self.spare, self.alloc);
+        }
+    }
+
+    /// Counts no entries.
+    pub(crate) fn forget(&mut self)
+        ensures none { HaveNone self.new.leaves }
+        ensures spare { self.new.spare ≡ self.old.spare }
+        ensures pages { HasSamePages self.old self.new }
+    {
+        forget_all(&mut self.leaves);
+    }
 }
 
 /// Adds empty leaves if there are fewer than so many. Returns whether all are there: the system may be out of memory for them.
-fn are_all_there(leaves: &mut Vec<Vec<u32>>, pages: usize, alloc: Global) -> bool
-    ensures leaves { HaveSameLeaves (leaf_numbers leaves.old.items) (leaf_numbers leaves.new.items) }
+fn are_all_there(leaves: &mut Vec<Leaf>, pages: usize, alloc: Global) -> bool
+    ensures leaves { HaveSameLeaves leaves.old.items leaves.new.items }
     ensures all { result ≡ true → pages ≤ vec_len leaves.new }
 {
     if leaves.len() >= pages {
@@ -111,8 +144,8 @@ fn are_all_there(leaves: &mut Vec<Vec<u32>>, pages: usize, alloc: Global) -> boo
 }
 
 /// Adds empty leaves until there are so many. Returns whether there are: the system may be out of memory for them.
-fn reach(leaves: &mut Vec<Vec<u32>>, pages: usize, alloc: Global) -> bool
-    ensures leaves { HaveSameLeaves (leaf_numbers leaves.old.items) (leaf_numbers leaves.new.items) }
+fn reach(leaves: &mut Vec<Leaf>, pages: usize, alloc: Global) -> bool
+    ensures leaves { HaveSameLeaves leaves.old.items leaves.new.items }
     ensures all { result ≡ true → pages ≤ vec_len leaves.new }
 {
     if leaves
@@ -122,57 +155,63 @@ fn reach(leaves: &mut Vec<Vec<u32>>, pages: usize, alloc: Global) -> bool
         return false;
     }
     while leaves.len() < pages {
-        if leaves.push(Vec::new(alloc)).is_err() {
+        if leaves.push(Leaf::none(alloc)).is_err() {
             return false;
         }
     }
     true
 }
 
-/// Makes a leaf if it is empty, unless the system is out of memory.
-fn fill(leaf: &mut Vec<u32>, alloc: Global)
-    ensures all { HasAll leaf.old.items leaf.new.items }
-    ensures leaf { IsLeaf leaf.old.items → IsLeaf leaf.new.items }
-    ensures same { 0 < length leaf.old.items → leaf.new.items ≡ leaf.old.items }
+/// Counts no entries in each page.
+fn forget_all(leaves: &mut Vec<Leaf>)
+    ensures none { HaveNone leaves.new.items }
+    ensures len { length leaves.new.items ≡ length leaves.old.items }
 {
-    if !leaf.is_empty() {
-        return;
-    }
-    if let Ok(fresh) = vec![in alloc; 0; PLACES] {
-        *leaf = fresh;
+    for page in 0..leaves.len() {
+        leaves[page].forget();
     }
 }
 
 /// Gives a page without a leaf the spare one, or else a new one.
-fn give(leaf: &mut Vec<u32>, spare: &mut Vec<u32>, alloc: Global)
-    ensures all { HasAll leaf.old.items leaf.new.items }
-    ensures leaf { IsLeaf leaf.old.items → IsLeaf spare.old.items → IsLeaf leaf.new.items }
-    ensures spare { IsLeaf leaf.old.items → IsLeaf spare.old.items → IsLeaf spare.new.items }
-    ensures same { 0 < length leaf.old.items → leaf.new.items ≡ leaf.old.items }
-    ensures same_spare { 0 < length leaf.old.items → spare.new.items ≡ spare.old.items }
-    ensures given { length leaf.old.items ≡ 0 → 0 < length spare.old.items → leaf.new.items ≡ spare.old.items }
+fn give(leaf: &mut Leaf, spare: &mut Leaf, alloc: Global)
+    ensures all { HasAll leaf.old.numbers leaf.new.numbers }
+    ensures used { leaf.new.used ≡ leaf.old.used }
+    ensures there { 0 < length spare.old.numbers → 0 < length leaf.new.numbers }
 {
-    if !leaf.is_empty() {
+    if leaf.is_there() {
         return;
     }
-    swap(leaf, spare);
-    fill(leaf, alloc);
+    leaf.exchange(spare);
+    leaf.fill(alloc);
 }
 
-/// Sets a number of a leaf, which is the spare one or a new one if the page has none. Returns whether it is set.
-fn set_in(leaf: &mut Vec<u32>, spare: &mut Vec<u32>, at: usize, number: u32, alloc: Global) -> bool
-    ensures set { result ≡ true → slice_get leaf.new.items at ≡ Some number }
-    ensures kept { KeepsOthers leaf.old.items at leaf.new.items }
-    ensures leaf { IsLeaf leaf.old.items → IsLeaf spare.old.items → IsLeaf leaf.new.items }
-    ensures spare { IsLeaf leaf.old.items → IsLeaf spare.old.items → IsLeaf spare.new.items }
-    ensures again { at < length leaf.old.items → result ≡ true }
-    ensures same_spare { at < length leaf.old.items → spare.new.items ≡ spare.old.items }
-    ensures ready { IsLeaf leaf.old.items → IsLeaf spare.old.items → 0 < length spare.old.items → at < 512 → result ≡ true }
+/// Sets a number of a leaf for an entry more. If the page has none, it gets the spare leaf or a new one. Returns whether it is set.
+fn add_in(leaf: &mut Leaf, spare: &mut Leaf, at: usize, number: u32, alloc: Global) -> bool
+    ensures set { result ≡ true → slice_get leaf.new.numbers at ≡ Some number }
+    ensures kept { KeepsOthers leaf.old.numbers at leaf.new.numbers }
+    ensures used { result ≡ true → leaf.old.used + 1 < 2 ^ 64 → leaf.new.used ≡ leaf.old.used + 1 }
+    ensures there { 0 < length spare.old.numbers → at < 512 → result ≡ true }
 {
     give(leaf, spare, alloc);
-    if at >= leaf.len() {
+    if !leaf.set(at, number) {
         return false;
     }
-    leaf[at] = number;
+    leaf.enter();
     true
+}
+
+/// Counts an entry less. If none is left, the leaf is the next spare one, or is freed if there is one.
+fn leave_in(leaf: &mut Leaf, spare: &mut Leaf, alloc: Global)
+    ensures used { leaf.new.used ≡ leaf.old.used - 1 }
+    ensures kept { 0 < leaf.new.used → leaf.new.numbers ≡ leaf.old.numbers }
+    ensures spare { length spare.old.numbers ≤ length spare.new.numbers }
+{
+    if !leaf.leave() {
+        return;
+    }
+    if spare.is_there() {
+        leaf.clear(alloc);
+    } else {
+        leaf.exchange(spare);
+    }
 }

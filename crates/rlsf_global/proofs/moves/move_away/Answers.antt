@@ -10,15 +10,15 @@ returns-in_err-to g c =
     rw c.from_residual.ensures (record {
       step = tt;
       moved = tt;
-      none = λ rows. not_moved c.args.flex.now c.allocate.new.self did.same did.refused (at c.args.addr) c.args.keep c.args.wanted did.step rows;
-      refused = not_allocated_stays c.args.flex.now c.allocate.new.self did.same did.refused c.args.wanted.size c.args.wanted.align did.step;
+      none = λ rows. not_moved c.args.flex.now c.allocate.new.self did.refused.same did.refused.bytes (at c.args.addr) c.args.keep c.args.wanted did.step rows;
+      refused = not_allocated_stays c.args.flex.now c.allocate.new.self did.refused.same did.refused.bytes c.args.wanted.size c.args.wanted.align did.step;
       touches = λ some.
           let first = did.touches some in
           omega (arith, first);
-      grow = did.grow;
+      grow = did.frame.grow;
       memory = kept_allocated c.args.flex.now c.allocate.new.self c.args.wanted.size c.args.wanted.align None did.step;
       copied = tt;
-      copied_none = did.copied;
+      copied_none = did.frame.copied;
     })
 
 pub returns : goal.returns
@@ -26,7 +26,7 @@ returns g c = record {
   step = λ rows.
       moved_away c.args.flex.now c.allocate.new.self c.copy_payload.new.self c.deallocate.new.self (at c.args.addr) c.args.keep c.args.wanted c.in_ok-to.to c.in_ok-to.ensures.step
       c.copy_payload.ensures.step c.deallocate.ensures.step
-      c.copy_payload.ensures.source c.deallocate.ensures.source rows;
+      c.copy_payload.ensures.frame.source c.deallocate.ensures.frame.source rows;
   moved =
       let first = c.in_ok-to.ensures in
       let second = c.copy_payload.ensures in
@@ -34,19 +34,19 @@ returns g c = record {
       moved_away_seen c.args.flex.now c.allocate.new.self c.copy_payload.new.self c.deallocate.new.self (at c.args.addr) c.args.keep c.args.wanted c.in_ok-to.to first.step
       second.step third.step
       c.args.align c.requires.live first.result.new (record { live = first.result.live; sized = first.result.sized; few = first.result.few }) first.result.aligns
-      first.result.bytes second.aligns second.bytes
-      third.deallocation.gone third.deallocation.aligns third.deallocation.bytes;
+      first.result.bytes second.result.aligns second.result.bytes
+      third.result.gone third.result.aligns third.result.bytes;
   none = tt;
   refused = tt;
   touches = λ some.
       let first = c.in_ok-to.ensures.touches some in
       omega (arith, first, c.copy_payload.ensures.touches, c.deallocate.ensures.touches);
-  grow = omega (arith, c.in_ok-to.ensures.grow, c.copy_payload.ensures.touches, c.deallocate.ensures.grow);
+  grow = omega (arith, c.in_ok-to.ensures.frame.grow, c.copy_payload.ensures.touches, c.deallocate.ensures.frame.grow);
   memory =
       let copy = c.copy_payload.ensures in
       let free = c.deallocate.ensures in
       kept_moved c.args.flex.now c.allocate.new.self c.copy_payload.new.self c.deallocate.new.self c.args.wanted.size c.args.wanted.align (at c.in_ok-to.to) _ _
-      c.in_ok-to.ensures.step copy.step copy.place copy.chunks free.step free.place free.deallocation.chunks;
-  copied = c.deallocate.ensures.copied ∙ c.copy_payload.ensures.copied ∙ ap (λ n. n + c.args.keep) c.in_ok-to.ensures.copied;
+      c.in_ok-to.ensures.step copy.step copy.frame.place copy.frame.chunks free.step free.frame.place free.frame.chunks;
+  copied = c.deallocate.ensures.frame.copied ∙ c.copy_payload.ensures.frame.copied ∙ ap (λ n. n + c.args.keep) c.in_ok-to.ensures.frame.copied;
   copied_none = tt;
 }

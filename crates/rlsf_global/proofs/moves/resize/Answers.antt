@@ -1,13 +1,13 @@
-use Rattle.std.proofs.Common.{rules, min, ap, true≢false, ◌∙◌, ◌≡◌, ◌≢◌, ◌≤◌, ◌<◌, ◌+◌, ℕ, length, Ok, Err, Some, None, IsSome, Option, refl, subst, sym}
+use Rattle.std.proofs.Common.{rules, min, ap, true≢false, ◌∙◌, ◌≡◌, ◌≤◌, ◌+◌, Ok, Err, Some, None, IsSome, Option, refl, subst, sym}
 use Rattle.std.specs.declared.num.NonZeroUsize.{NonZeroUsize}
 use Rattle.rlsf_base.specs.Addr.{at, reply}
 use Rattle.rlsf_flex.specs.StandsFor.{FlexSteps}
+use Rattle.rlsf_tlsf.specs.Results.{IsReallocated}
 use Rattle.rlsf_global.specs.Locked.{heap_of}
 use Rattle.rlsf_model_global.specs.Pages.{MayOwe}
 use Rattle.rlsf_global.proofs.KeptMemories.{copied_at_most, kept_reallocated}
 use Rattle.rlsf_global.proofs.MovedPayloads.{not_reallocated, not_reallocated_stays, reallocated, reallocated_left, reallocated_stands}
 use Rattle.rlsf_global.proofs.Results.{for_none, for_some, none_of, some_of}
-use Rattle.rlsf_model.specs.Callers.{align_at, bytes_at}
 use Rattle.rlsf_model.specs.FlexReallocate.{FlexReallocates}
 use Rattle.rlsf_model.proofs.CallerWords.{align_at-some}
 use Rattle.rlsf_model_global.specs.declared.error.GlobalError.TheVariants.{NoRoom}
@@ -40,33 +40,34 @@ returns-then-ENABLE_REALLOCATION g c = record {
       let did = c.reallocate.ensures in
       let steps = steps_with g c (Some to) some in
       let live = align_at-some old.state.machine addr (subst IsSome (sym c.requires.live) refl) in
+      let is = some_of (λ to. IsReallocated old.state.machine new.state.machine addr c.args.wanted.size c.args.wanted.align (at to)) c.reallocate.result to some did.result in
       record {
         stands = reallocated_stands old new addr c.args.wanted to steps;
-        live = some_of (λ to. align_at new.state.machine (at to) ≡ Some c.args.wanted.align) c.reallocate.result to some did.live;
-        sized = some_of (λ to. c.args.wanted.size ≤ length (bytes_at new.state.machine (at to))) c.reallocate.result to some did.sized;
-        few = some_of (λ to. length (bytes_at new.state.machine (at to)) < c.args.wanted.size + 32) c.reallocate.result to some did.few;
-        new = some_of (λ to. at to ≢ addr → align_at old.state.machine (at to) ≡ None) c.reallocate.result to some did.new;
+        live = is.live;
+        sized = is.sized;
+        few = is.few;
+        new = is.new;
         left = reallocated_left old new addr c.args.wanted to steps c.requires.stands live;
-        aligns = some_of (λ to. (a : ℕ) → a ≢ addr → a ≢ at to → align_at new.state.machine a ≡ align_at old.state.machine a) c.reallocate.result to some did.aligns;
-        bytes = some_of (λ to. (a : ℕ) → a ≢ addr → a ≢ at to → bytes_at new.state.machine a ≡ bytes_at old.state.machine a) c.reallocate.result to some did.bytes;
+        aligns = is.aligns;
+        bytes = is.bytes;
       });
   none = for_none c.reallocate.result (λ none rows. subst
       (λ enabled. ReallocatesTo enabled (heap_of c.args.flex.now rows) (at c.args.addr) c.args.layout c.args.wanted (Err NoRoom) (heap_of c.reallocate.new.self rows))
       c.if-ENABLE_REALLOCATION.ensures
-      (not_reallocated c.args.flex.now c.reallocate.new.self (none_of c.reallocate.result none c.reallocate.ensures.same)
-      (none_of c.reallocate.result none c.reallocate.ensures.refused) (at c.args.addr) c.args.wanted (steps_with g c None none) rows));
+      (not_reallocated c.args.flex.now c.reallocate.new.self (none_of c.reallocate.result none c.reallocate.ensures.refused).same
+      (none_of c.reallocate.result none c.reallocate.ensures.refused).bytes (at c.args.addr) c.args.wanted (steps_with g c None none) rows));
   refused = for_none c.reallocate.result (λ none.
-      not_reallocated_stays c.args.flex.now c.reallocate.new.self (none_of c.reallocate.result none c.reallocate.ensures.same)
-      (none_of c.reallocate.result none c.reallocate.ensures.refused) (at c.args.addr) c.args.wanted.size (steps_with g c None none));
+      not_reallocated_stays c.args.flex.now c.reallocate.new.self (none_of c.reallocate.result none c.reallocate.ensures.refused).same
+      (none_of c.reallocate.result none c.reallocate.ensures.refused).bytes (at c.args.addr) c.args.wanted.size (steps_with g c None none));
   touches = λ on room. c.reallocate.ensures.touches room;
   touches_elsewhere = λ off some. absurd (true≢false (c.if-ENABLE_REALLOCATION.ensures ∙ off));
   grow = search rules;
   memory =
       kept_reallocated c.args.flex.now c.reallocate.new.self (at c.args.addr) c.args.wanted.size (reply c.reallocate.result) c.reallocate.ensures.step;
   copied = record {
-    grow = c.reallocate.ensures.grow_copied;
-    room = λ on room. c.reallocate.ensures.copied room;
-    stays = λ on room. c.reallocate.ensures.stays room;
+    grow = c.reallocate.ensures.frame.grow_copied;
+    room = λ on room. c.reallocate.ensures.frame.copied room;
+    stays = λ on room. c.reallocate.ensures.frame.stays room;
     elsewhere = λ off. absurd (true≢false (c.if-ENABLE_REALLOCATION.ensures ∙ off));
   };
 }

@@ -16,6 +16,7 @@ invariant_of-self c =
     record {
       apart = rw c.append-self-inside.ensures.items (apart-append rows c.self.invariant.apart c.args.row none);
       hinted = c.append-self-inside.ensures.hinted;
+      counted = c.append-self-inside.ensures.counted;
       few = c.append-self-inside.ensures.few;
     }
 

@@ -10,6 +10,7 @@ invariant_of-self c =
     record {
       apart = rw (c.take_out-self-inside.ensures.items row) (taken_apart rows (at c.args.addr) c.self.invariant.apart c.in-Some.index row found c.row-row.ensures.row row);
       hinted = c.take_out-self-inside.ensures.hinted;
+      counted = c.take_out-self-inside.ensures.counted;
       few = c.take_out-self-inside.ensures.few;
     }
 

@@ -1,6 +1,6 @@
 use Rattle.std.proofs.Common.{refl, ◌≤◌, subst, sym}
 use Rattle.rlsf_model_global.specs.Rows.{key}
-use Rattle.rlsf_global.proofs.TableAnswers.{not_live, replaced, replaced_apart, replaced_few, replaced_hinted, row_read, has_read}
+use Rattle.rlsf_global.proofs.TableAnswers.{not_live, replaced, replaced_apart, replaced_counted, replaced_few, replaced_hinted, row_read, has_read}
 use Rattle.rlsf_global.proofs.live_table.LiveTable.replace.Goals as goal
 
 pub invariant_of-self : goal.invariant_of-self
@@ -13,6 +13,8 @@ invariant_of-self c =
       apart = replaced_apart rows (key c.args.row) c.self.invariant.apart c.in-Some.index old found read c.args.row refl;
       hinted = λ exact. replaced_hinted rows (key c.args.row) c.self.invariant.apart c.in-Some.index old found read c.self.inside.base c.self.inside.hints.leaves c.args.row
           refl (c.self.invariant.hinted exact);
+      counted = λ exact. replaced_counted rows (key c.args.row) c.self.invariant.apart c.in-Some.index old found read c.self.inside.base c.self.inside.hints.leaves c.args.row
+          refl (c.self.invariant.counted exact);
       few = λ exact. subst (λ n. n ≤ 4294967296) (sym (replaced_few rows c.in-Some.index c.args.row)) (c.self.invariant.few exact);
     })
 

@@ -29,7 +29,7 @@ returns-then-is_err g c = rw (← c.self.view_is) (record {
 pub invariant_of-self-in_default : goal.invariant_of-self-in_default
 invariant_of-self-in_default g c =
     rw c.reserve.ensures.rows
-    (stays_locked c.self.inside.flex c.self.inside.rows.rows c.self.invariant c.allocate.new.self c.args.layout c.in_default.ensures.step c.in_default.ensures.same)
+    (stays_locked c.self.inside.flex c.self.inside.rows.rows c.self.invariant c.allocate.new.self c.args.layout c.in_default.ensures.step c.in_default.ensures.refused.same)
 
 pub put-requires-clause-fresh : goal.put-requires-clause-fresh
 put-requires-clause-fresh g c = rw c.reserve.ensures.rows (no_row c.self.inside.flex c.self.inside.rows.rows c.self.invariant _ c.in-Some.ensures.result.new)
@@ -54,7 +54,7 @@ pub returns-in_default : goal.returns-in_default
 returns-in_default g c = rw (← c.self.view_is) (record {
   step =
       rw c.reserve.ensures.rows
-      (not_allocated c.self.inside.flex c.self.inside.rows.rows c.self.invariant c.allocate.new.self c.args.layout c.in_default.ensures.step c.in_default.ensures.same);
+      (not_allocated c.self.inside.flex c.self.inside.rows.rows c.self.invariant c.allocate.new.self c.args.layout c.in_default.ensures.step c.in_default.ensures.refused.same);
   refused = search rules;
   allocation = record {
     live = tt;
@@ -64,13 +64,13 @@ returns-in_default g c = rw (← c.self.view_is) (record {
     contents = tt;
     same =
         rw c.reserve.ensures.rows
-        (heap_stays c.self.inside.flex c.self.inside.rows.rows c.self.invariant c.allocate.new.self c.args.layout c.in_default.ensures.step c.in_default.ensures.same);
+        (heap_stays c.self.inside.flex c.self.inside.rows.rows c.self.invariant c.allocate.new.self c.args.layout c.in_default.ensures.step c.in_default.ensures.refused.same);
   };
   touches = c.in_default.ensures.touches;
-  grow = c.in_default.ensures.grow;
+  grow = c.in_default.ensures.frame.grow;
   unasked = tt;
   memory = kept_allocated c.self.inside.flex c.allocate.new.self c.args.layout.size c.args.layout.align None c.in_default.ensures.step;
-  copied = c.in_default.ensures.copied;
+  copied = c.in_default.ensures.frame.copied;
 })
 
 pub returns : goal.returns
@@ -101,8 +101,8 @@ returns g c = rw (← c.self.view_is) (record {
     same = tt;
   };
   touches = c.in-Some.ensures.touches;
-  grow = c.in-Some.ensures.grow;
+  grow = c.in-Some.ensures.frame.grow;
   unasked = tt;
   memory = kept_allocated c.self.inside.flex c.allocate.new.self c.args.layout.size c.args.layout.align (Some (at c.in-Some.addr)) c.in-Some.ensures.step;
-  copied = c.in-Some.ensures.copied;
+  copied = c.in-Some.ensures.frame.copied;
 })

@@ -14,20 +14,30 @@ use Rattle.rlsf_global.proofs.locked.Locked.dealloc.Given as given
 use Rattle.rlsf_global.proofs.locked.Locked.dealloc.Goals as goal
 
 -- the entry of the address is gone
-taken_out : (g : given.Over) (c : goal.After-deallocate g) → c.remove-gone.new.self.rows ≡ without_row (at c.args.addr) c.self.inside.rows.rows
-taken_out g c = c.remove-gone.ensures.rows
+taken_out : (g : given.Over) (c : goal.After-deallocate g) → c.remove_as.new.self.rows ≡ without_row (at c.args.addr) c.self.inside.rows.rows
+taken_out g c = c.in-Some.ensures.gone (not-false _ c.if-ne.ensures)
+
+-- an entry of another layout stays
+stays : (g : given.Over) (c : goal.Then-ne g) → c.remove_as.new.self.rows ≡ c.self.inside.rows.rows
+stays g c = c.in-Some.ensures.stays (not-true _ c.if-ne.ensures)
+
+pub invariant_of-self-then-ne : goal.invariant_of-self-then-ne
+invariant_of-self-then-ne g c = rw (stays g c) c.self.invariant
 
 pub deallocate-requires : goal.deallocate-requires
 deallocate-requires g c =
     (lit< tt, live_row c.self.inside.flex c.self.inside.rows.rows c.self.invariant (at c.args.addr) c.in-Some.row (sym c.in-Some.ensures.row) ∙ ap Some (sym c.align.ensures.value))
 
 pub invariant_of-self : goal.invariant_of-self
-invariant_of-self g c =
-    released_locked c.self.inside.flex c.self.inside.rows.rows c.self.invariant c.deallocate.new.self (at c.args.addr) c.deallocate.ensures.step c.deallocate.ensures.source _
-    (taken_out g c) c.deallocate.ensures.deallocation.gone c.deallocate.ensures.deallocation.aligns c.deallocate.ensures.deallocation.bytes
+invariant_of-self g c = rw c.in_default.ensures.unchanged c.self.invariant
+
+pub invariant_of-self-2 : goal.invariant_of-self-2
+invariant_of-self-2 g c =
+    released_locked c.self.inside.flex c.self.inside.rows.rows c.self.invariant c.deallocate.new.self (at c.args.addr) c.deallocate.ensures.step c.deallocate.ensures.frame.source _
+    (taken_out g c) c.deallocate.ensures.result.gone c.deallocate.ensures.result.aligns c.deallocate.ensures.result.bytes
 
 pub returns-in_default : goal.returns-in_default
-returns-in_default g c = rw (← c.self.view_is) (record {
+returns-in_default g c = rw (c.in_default.ensures.unchanged, ← c.self.view_is) (record {
   step = (
       let h = heap_of c.self.inside.flex c.self.inside.rows.rows in
       let absent = sym c.in_default.ensures.row in
@@ -44,7 +54,7 @@ returns-in_default g c = rw (← c.self.view_is) (record {
 })
 
 pub returns-then-ne : goal.returns-then-ne
-returns-then-ne g c = rw (← c.self.view_is) (record {
+returns-then-ne g c = rw (stays g c, ← c.self.view_is) (record {
   step = (
       let found = sym c.in-Some.ensures.row in
       deallocates_out (heap_of c.self.inside.flex c.self.inside.rows.rows) (at c.args.addr) c.args.layout
@@ -64,23 +74,23 @@ pub returns : goal.returns
 returns g c = rw (← c.self.view_is) (record {
   step = (
       let h = heap_of c.self.inside.flex c.self.inside.rows.rows in
-      let after = heap_of c.deallocate.new.self c.remove-gone.new.self.rows in
+      let after = heap_of c.deallocate.new.self c.remove_as.new.self.rows in
       let found = sym c.in-Some.ensures.row in
       let row = found in
       let gone =
-      released c.self.inside.flex c.self.inside.rows.rows c.self.invariant c.deallocate.new.self (at c.args.addr) c.deallocate.ensures.step c.deallocate.ensures.source _
+      released c.self.inside.flex c.self.inside.rows.rows c.self.invariant c.deallocate.new.self (at c.args.addr) c.deallocate.ensures.step c.deallocate.ensures.frame.source _
       (taken_out g c) in
       subst (λ o. DeallocatesAsAt h (at c.args.addr) c.args.layout o (Ok tt) after) (sym row)
       (deallocates_in h (at c.args.addr) c.args.layout c.in-Some.row after (not-false _ c.if-ne.ensures) gone));
   refused = tt;
   deallocation = (
       let before = heap_of c.self.inside.flex c.self.inside.rows.rows in
-      let after = heap_of c.deallocate.new.self c.remove-gone.new.self.rows in
+      let after = heap_of c.deallocate.new.self c.remove_as.new.self.rows in
       let found = sym c.in-Some.ensures.row in
       let unknown = known c.self.inside.flex c.self.inside.rows.rows (at c.args.addr) _ found (Ok tt) refl in
-      IsDeallocation-done before after (at c.args.addr) unknown (taken_out g c) c.deallocate.ensures.deallocation.bytes);
+      IsDeallocation-done before after (at c.args.addr) unknown (taken_out g c) c.deallocate.ensures.result.bytes);
   touches = c.deallocate.ensures.touches;
-  grow = c.deallocate.ensures.grow;
-  memory = kept_alone c.self.inside.flex c.deallocate.new.self _ c.self.invariant.flex c.deallocate.ensures.step c.deallocate.ensures.place;
-  copied = c.deallocate.ensures.copied;
+  grow = c.deallocate.ensures.frame.grow;
+  memory = kept_alone c.self.inside.flex c.deallocate.new.self _ c.self.invariant.flex c.deallocate.ensures.step c.deallocate.ensures.frame.place;
+  copied = c.deallocate.ensures.frame.copied;
 })

@@ -27,8 +27,8 @@ invariant_of-self g c = rw c.in_default.ensures.unchanged c.self.invariant
 
 pub invariant_of-self-2 : goal.invariant_of-self-2
 invariant_of-self-2 g c =
-    released_locked c.self.inside.flex c.self.inside.rows.rows c.self.invariant c.deallocate.new.self (at c.args.addr) c.deallocate.ensures.step c.deallocate.ensures.source _
-    (taken_out g c) c.deallocate.ensures.deallocation.gone c.deallocate.ensures.deallocation.aligns c.deallocate.ensures.deallocation.bytes
+    released_locked c.self.inside.flex c.self.inside.rows.rows c.self.invariant c.deallocate.new.self (at c.args.addr) c.deallocate.ensures.step c.deallocate.ensures.frame.source _
+    (taken_out g c) c.deallocate.ensures.result.gone c.deallocate.ensures.result.aligns c.deallocate.ensures.result.bytes
 
 pub returns-in_default : goal.returns-in_default
 returns-in_default g c = rw (c.in_default.ensures.unchanged, ← c.self.view_is) (record {
@@ -52,7 +52,7 @@ returns g c = rw (← c.self.view_is) (record {
   step = (
       let found = sym c.in-Some.ensures.row in
       let gone =
-      released c.self.inside.flex c.self.inside.rows.rows c.self.invariant c.deallocate.new.self (at c.args.addr) c.deallocate.ensures.step c.deallocate.ensures.source _
+      released c.self.inside.flex c.self.inside.rows.rows c.self.invariant c.deallocate.new.self (at c.args.addr) c.deallocate.ensures.step c.deallocate.ensures.frame.source _
       (taken_out g c) in
       subst (λ o. DeallocatesAt (heap_of c.self.inside.flex c.self.inside.rows.rows) (at c.args.addr) o (Ok tt) (heap_of c.deallocate.new.self c.remove.new.self.rows))
       (sym found) (refl, gone));
@@ -62,9 +62,9 @@ returns g c = rw (← c.self.view_is) (record {
       let after = heap_of c.deallocate.new.self c.remove.new.self.rows in
       let found = sym c.in-Some.ensures.row in
       let unknown = known c.self.inside.flex c.self.inside.rows.rows (at c.args.addr) _ found (Ok tt) refl in
-      IsDeallocation-done before after (at c.args.addr) unknown (taken_out g c) c.deallocate.ensures.deallocation.bytes);
+      IsDeallocation-done before after (at c.args.addr) unknown (taken_out g c) c.deallocate.ensures.result.bytes);
   touches = c.deallocate.ensures.touches;
-  grow = c.deallocate.ensures.grow;
-  memory = kept_alone c.self.inside.flex c.deallocate.new.self _ c.self.invariant.flex c.deallocate.ensures.step c.deallocate.ensures.place;
-  copied = c.deallocate.ensures.copied;
+  grow = c.deallocate.ensures.frame.grow;
+  memory = kept_alone c.self.inside.flex c.deallocate.new.self _ c.self.invariant.flex c.deallocate.ensures.step c.deallocate.ensures.frame.place;
+  copied = c.deallocate.ensures.frame.copied;
 })

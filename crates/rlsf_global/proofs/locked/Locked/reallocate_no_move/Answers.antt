@@ -23,7 +23,7 @@ replaced : (g : given.Over) (c : After-replace g)
     → c.replace.new.self.rows ≡ put (c.in-Some-reallocate_no_move.to, c.from_size_align_unchecked-wanted.result) (without_row (at c.args.addr) c.self.inside.rows.rows)
 replaced g c =
     row_there c.self.inside.rows.rows c.replace.new.self.rows (at c.args.addr) c.in-Some-reallocate_no_move.to c.from_size_align_unchecked-wanted.result
-    c.in-Some-reallocate_no_move.ensures.there c.replace.ensures.rows
+    c.in-Some-reallocate_no_move.ensures.result.there c.replace.ensures.rows
 
 pub reallocate_no_move-requires : goal.reallocate_no_move-requires
 reallocate_no_move-requires g c =
@@ -36,12 +36,12 @@ pub invariant_of-self : goal.invariant_of-self
 invariant_of-self g c =
     let did = c.in_default-reallocate_no_move.ensures in
     not_resized_locked c.self.inside.flex c.self.inside.rows.rows c.self.invariant c.reallocate_no_move.new.self (at c.args.addr) c.from_size_align_unchecked-wanted.result
-    did.source did.step did.same
+    did.frame.source did.step did.refused.same
 
 pub replace-requires : goal.replace-requires
 replace-requires g c = record {
   live =
-      subst (λ a. IsSome (row_at a c.self.inside.rows.rows)) (sym c.in-Some-reallocate_no_move.ensures.there)
+      subst (λ a. IsSome (row_at a c.self.inside.rows.rows)) (sym c.in-Some-reallocate_no_move.ensures.result.there)
       (has_row c.self.inside.rows.rows (at c.args.addr) c.in-Some.row (sym c.in-Some.ensures.row));
 }
 
@@ -49,9 +49,9 @@ pub invariant_of-self-2 : goal.invariant_of-self-2
 invariant_of-self-2 g c =
     let did = c.in-Some-reallocate_no_move.ensures in
     let rows = replaced g c in
-    resized_locked c.self.inside.flex c.self.inside.rows.rows c.self.invariant c.reallocate_no_move.new.self (at c.args.addr) c.from_size_align_unchecked-wanted.result did.source
-    c.in-Some-reallocate_no_move.to did.there did.step _ rows
-    (record { live = did.live; sized = did.sized; few = did.few }) did.aligns did.bytes
+    resized_locked c.self.inside.flex c.self.inside.rows.rows c.self.invariant c.reallocate_no_move.new.self (at c.args.addr) c.from_size_align_unchecked-wanted.result did.frame.source
+    c.in-Some-reallocate_no_move.to did.result.there did.step _ rows
+    (record { live = did.frame.live; sized = did.result.sized; few = did.result.few }) did.frame.aligns did.frame.bytes
 
 -- the reference model made the step
 did_step : (g : given.Over) (c : After-replace g)
@@ -65,8 +65,8 @@ did_step g c =
     let row = found in
     let wanted = c.from_size_align_unchecked-wanted in
     let step =
-    resized c.self.inside.flex c.self.inside.rows.rows c.self.invariant c.reallocate_no_move.new.self (at c.args.addr) wanted.result did.source c.in-Some-reallocate_no_move.to
-    did.there did.step
+    resized c.self.inside.flex c.self.inside.rows.rows c.self.invariant c.reallocate_no_move.new.self (at c.args.addr) wanted.result did.frame.source c.in-Some-reallocate_no_move.to
+    did.result.there did.step
     _ (replaced g c) in
     subst (λ o. ReallocatesThereAt h (at c.args.addr) c.args.layout c.args.new_size o (Ok c.in-Some-reallocate_no_move.to) after) (sym row)
     (resizes_in h (at c.args.addr) c.args.layout c.args.new_size c.in-Some.row wanted.result (Ok c.in-Some-reallocate_no_move.to) after (not-false _ c.if-ne.ensures)
@@ -87,19 +87,19 @@ returns g c =
       step = step;
       refused = tt;
       unknown = known c.self.inside.flex c.self.inside.rows.rows (at c.args.addr) _ (sym c.in-Some.ensures.row) (Ok c.in-Some-reallocate_no_move.to) refl;
-      there = did.there;
-      live = (wanted.result, subst (λ a. layout_at after a ≡ Some wanted.result) did.there here, wanted.ensures.0, wanted.ensures.1 ∙ c.align.ensures.value);
+      there = did.result.there;
+      live = (wanted.result, subst (λ a. layout_at after a ≡ Some wanted.result) did.result.there here, wanted.ensures.0, wanted.ensures.1 ∙ c.align.ensures.value);
       kept =
           kept_there (locked_contents c.self.inside.flex c.self.inside.rows.rows) c.self.invariant _ c.in-Some-reallocate_no_move.to (at c.args.addr) c.args.layout
           c.args.new_size step;
-      layouts = λ a off. layout_at-moved_other before after (at c.args.addr) (c.in-Some-reallocate_no_move.to, wanted.result) rows a off (λ same. off (same ∙ did.there));
-      contents = λ a off. content_at-bytes before after a a (did.bytes a off);
+      layouts = λ a off. layout_at-moved_other before after (at c.args.addr) (c.in-Some-reallocate_no_move.to, wanted.result) rows a off (λ same. off (same ∙ did.result.there));
+      contents = λ a off. content_at-bytes before after a a (did.frame.bytes a off);
       same = tt;
       touches = did.touches;
-      grow = did.grow;
+      grow = did.frame.grow;
       unasked = tt;
-      memory = kept_alone c.self.inside.flex c.reallocate_no_move.new.self _ c.self.invariant.flex did.step did.place;
-      copied = did.copied;
+      memory = kept_alone c.self.inside.flex c.reallocate_no_move.new.self _ c.self.invariant.flex did.step did.frame.place;
+      copied = did.frame.copied;
     })
 
 pub returns-in_default : goal.returns-in_default
@@ -153,23 +153,23 @@ returns-in_default-reallocate_no_move g c =
     let row = found in
     let wanted = c.from_size_align_unchecked-wanted in
     let step =
-    not_resized c.self.inside.flex c.self.inside.rows.rows c.self.invariant c.reallocate_no_move.new.self (at c.args.addr) wanted.result did.source did.step did.same in
+    not_resized c.self.inside.flex c.self.inside.rows.rows c.self.invariant c.reallocate_no_move.new.self (at c.args.addr) wanted.result did.frame.source did.step did.refused.same in
     rw (← c.self.view_is) (record {
       step =
           subst (λ o. ReallocatesThereAt h (at c.args.addr) c.args.layout c.args.new_size o (Err NoRoom) after) (sym row)
           (resizes_in h (at c.args.addr) c.args.layout c.args.new_size c.in-Some.row wanted.result (Err NoRoom) after (not-false _ c.if-ne.ensures) wanted.ensures.0
           (wanted.ensures.1 ∙ c.align.ensures.value) step);
-      refused = did.refused;
+      refused = did.refused.bytes;
       unknown = known c.self.inside.flex c.self.inside.rows.rows (at c.args.addr) _ found (Err NoRoom) refl;
       there = tt;
       live = tt;
       kept = tt;
       layouts = tt;
       contents = tt;
-      same = same_heap c.self.inside.flex c.reallocate_no_move.new.self c.self.inside.rows.rows did.same did.source;
+      same = same_heap c.self.inside.flex c.reallocate_no_move.new.self c.self.inside.rows.rows did.refused.same did.frame.source;
       touches = did.touches;
-      grow = did.grow;
+      grow = did.frame.grow;
       unasked = tt;
-      memory = kept_alone c.self.inside.flex c.reallocate_no_move.new.self _ c.self.invariant.flex did.step did.place;
-      copied = did.copied;
+      memory = kept_alone c.self.inside.flex c.reallocate_no_move.new.self _ c.self.invariant.flex did.step did.frame.place;
+      copied = did.frame.copied;
     })
