@@ -1,24 +1,23 @@
-//! Two tenants of one memory, each with strings and maps in a range of its own. One fills its range, and ends. The other goes
-//! on, and the range serves the next tenant.
+//! Programs of one thread over heaps, and of std's collections. None has a proof file.
+//!
+//! `pair` and `words` are complete: each can be the `main.rt` of a crate of its own. `pair` writes two payloads at once, and makes one
+//! longer; `words` counts words in a heap and in a tenant. In this file two tenants of one memory have strings and maps, each in a range of
+//! its own. One fills its range, and ends. The other goes on, and the range serves the next tenant.
 #![tactic(auto)]
 
 ghost use Rattle.std.specs.Prelude.{◌≡◌};
 ghost use Rattle.rlsf_heaps.specs.Words.{lessor};
 
-use rlsf_heaps::{Heap, OpenMemory, Range, Tenant};
-use std::alloc::{AllocError, Allocator, Global};
-use std::collections::BTreeMap;
-use std::io;
-use std::process::ExitCode;
+mod pair;
+mod words;
 
-/// Chunks of up to 131,072 bytes, in 12 rows of 16 classes.
-type Small = Heap<u16, u16, 12, 16>;
+use rlsf_heaps::{OpenMemory, Range, Tenant};
+use std::alloc::{Allocator, Global};
+use std::io;
+use words::{Counts, Small, count};
 
 /// A tenant's heap, over a range of the pool.
 type Room = Tenant<u16, u16, 12, 16>;
-
-/// The words of a text, and how often each occurs.
-type Counts<A> = BTreeMap<String<A>, u64, A>;
 
 /// The addresses of the one memory. It has room for the two tenants, and for no third one.
 const POOL: Range = Range {
@@ -38,19 +37,6 @@ fn pool(alloc: Global) -> Option<Small> {
     let mut pool = Small::new(memory);
     pool.insert_free_block_ptr(POOL);
     Some(pool)
-}
-
-/// Counts the words of a text. Each word and each entry is in memory of the allocator.
-fn count<A: Allocator + Copy>(alloc: A, text: &str) -> Result<Counts<A>, AllocError> {
-    let mut counts = Counts::new(alloc);
-    for word in text.split(' ') {
-        let before = counts.get(word).copied().unwrap_or(0);
-        let key = String::from_str(alloc, word)?;
-        if counts.insert(key, before.saturating_add(1)).is_err() {
-            return Err(AllocError);
-        }
-    }
-    Ok(counts)
 }
 
 /// Pushes numbers until the allocator refuses one. Returns how many it took.
@@ -136,9 +122,8 @@ fn show(rt: &(impl Print + AllocGlobal)) -> Result<(), io::Error> {
     )
 }
 
-fn main(rt: HostRuntime) -> ExitCode {
-    match show(&rt) {
-        Ok(()) => ExitCode::SUCCESS,
-        Err(_) => ExitCode::FAILURE,
-    }
+fn main(rt: HostRuntime) -> io::Result<()> {
+    pair::main(rt)?;
+    words::main(rt)?;
+    show(&rt)
 }
