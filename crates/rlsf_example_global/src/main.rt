@@ -1,103 +1,44 @@
-//! Two threads over one allocator. Each keeps a list of numbers in a payload, which is reallocated to twice its length whenever it
-//! is full. At the end it reads all numbers back, and deallocates the payload.
-//!
-//! `error.rt` has its errors.
+//! Two threads over one allocator. Each writes a number to a payload, doubles the payload, reads the number and frees the payload.
 #![tactic(auto)]
 
-mod error;
-
-use error::SharedError;
-use rlsf::{Addr, Layout, Memory};
-use rlsf_global::{CAlloc, GlobalTlsf};
-use std::process::ExitCode;
+use rlsf::{Layout, Memory};
+use rlsf_global::{GlobalError, GlobalTlsf};
+use std::alloc::Global;
+use std::io;
 use std::sync::Wait;
-use std::thread;
-use std::thread::Threads;
+use std::thread::{Threads, join};
 
-/// How many numbers each list has.
-const NUMBERS: u64 = 1000;
-
-/// A payload, and the layout that was last asked for it.
-#[derive(Clone, Copy)]
-struct Payload {
-    addr: Addr,
-    layout: Layout,
+/// Returns an allocator over four pages. `None` if the system is out of memory.
+fn over_four_pages(alloc: Global) -> Option<GlobalTlsf> {
+    let memory = Memory::new(alloc, 65536, 262144).ok()?;
+    Some(GlobalTlsf::new(alloc, memory))
 }
 
-/// The payload, or one that is twice as long and has its bytes, if the offset is at its end.
-fn with_room<R: Wait>(
+/// Writes a number to a payload, makes the payload longer, reads the number, and frees the payload.
+fn kept<R: Wait>(rt: &R, shared: &GlobalTlsf, number: u64) -> Result<u64, GlobalError> {
+    let layout = Layout::from_size_align_unchecked(64, 8);
+    let longer = Layout::from_size_align_unchecked(1000, 8);
+    let addr = shared.alloc(rt, layout)?;
+    shared.write_payload(rt, addr, 0, &number.to_le_bytes())?;
+    let addr = shared.realloc(rt, addr, layout, longer.size())?;
+    let mut bytes = [0; 8];
+    shared.read_payload(rt, addr, 0, &mut bytes)?;
+    shared.dealloc(rt, addr, longer)?;
+    Ok(u64::from_le_bytes(bytes))
+}
+
+/// Lets two threads keep a number each.
+fn in_two_threads<R: Threads + Wait + Sync>(
     rt: &R,
     shared: &GlobalTlsf,
-    payload: Payload,
-    offset: usize,
-) -> Result<Payload, SharedError> {
-    if offset < payload.layout.size() {
-        return Ok(payload);
-    }
-    let size = payload.layout.size().saturating_mul(2);
-    let layout = Layout::from_size_align(size, payload.layout.align())?;
-    let addr = shared.realloc(rt, payload.addr, payload.layout, size)?;
-    Ok(Payload { addr, layout })
+) -> Result<[u64; 2], GlobalError> {
+    let (first, second) = join(rt, || kept(rt, shared, 1), || kept(rt, shared, 2));
+    Ok([first?, second?])
 }
 
-/// A list of the first multiples of a number.
-fn multiples<R: Wait>(rt: &R, shared: &GlobalTlsf, of: u64) -> Result<Payload, SharedError> {
-    let layout = Layout::from_size_align(64, 8)?;
-    let addr = shared.alloc(rt, layout)?;
-    let mut payload = Payload { addr, layout };
-    let mut number: u64 = 0;
-    for index in 0..NUMBERS {
-        let offset = (index * 8) as usize;
-        payload = with_room(rt, shared, payload, offset)?;
-        shared.write_payload(rt, payload.addr, offset, &number.to_le_bytes())?;
-        number = number.wrapping_add(of);
-    }
-    Ok(payload)
-}
-
-/// The sum of a list's numbers.
-fn sum<R: Wait>(rt: &R, shared: &GlobalTlsf, list: Payload) -> Result<u64, SharedError> {
-    let mut sum: u64 = 0;
-    for index in 0..NUMBERS {
-        let mut bytes = [0; 8];
-        shared.read_payload(rt, list.addr, (index * 8) as usize, &mut bytes)?;
-        sum = sum.wrapping_add(u64::from_le_bytes(bytes));
-    }
-    Ok(sum)
-}
-
-/// What a thread does: the sum of the first multiples of a number.
-fn sum_of_multiples<R: Wait>(rt: &R, shared: &GlobalTlsf, of: u64) -> Result<u64, SharedError> {
-    let list = multiples(rt, shared, of)?;
-    let sum = sum(rt, shared, list)?;
-    shared.dealloc(rt, list.addr, list.layout)?;
-    Ok(sum)
-}
-
-fn run<R: Print + AllocGlobal + Threads + Wait + Sync>(rt: &R) -> Result<(), SharedError> {
-    let memory = Memory::new(rt.alloc(), 65536, 262144)?;
-    let shared: GlobalTlsf = GlobalTlsf::new(rt.alloc(), memory);
-    let (ones, threes) = thread::join(
-        rt,
-        || sum_of_multiples(rt, &shared, 1),
-        || sum_of_multiples(rt, &shared, 3),
-    );
-    println!(rt; "the multiples of 1 add up to {}", ones?)?;
-    println!(rt; "the multiples of 3 add up to {}", threes?)?;
-    let addr = shared.allocate(rt, Layout::from_size_align(1, 1)?)?;
-    println!(rt;
-        "both lists were given back, so the next payload is the first one in the memory, at {addr}"
-    )?;
-    Ok(())
-}
-
-fn main(rt: HostRuntime) -> ExitCode {
-    match run(&rt) {
-        Ok(()) => ExitCode::SUCCESS,
-        Err(error) => {
-            // If standard error fails too, only the status shows the error.
-            let _ = eprintln!(rt; "{error}");
-            ExitCode::FAILURE
-        }
-    }
+fn main(rt: HostRuntime) -> io::Result<()> {
+    let Some(shared) = over_four_pages(rt.alloc()) else {
+        return println!(rt; "out of memory");
+    };
+    println!(rt; "from two threads: {:?}", in_two_threads(&rt, &shared))
 }

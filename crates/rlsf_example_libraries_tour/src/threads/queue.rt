@@ -1,6 +1,6 @@
 //! Four threads that fill messages, and one that reads and frees them. The messages go through a bounded queue, which copies no byte.
 
-use crate::messages::{Received, Shared, heap_for, layout, write_number};
+use crate::threads::messages::{Received, Shared, heap_for, layout, write_number};
 use rlsf_example_libraries::MessageQueue;
 use rlsf_heaps::SharedPayload;
 use std::alloc::Global;

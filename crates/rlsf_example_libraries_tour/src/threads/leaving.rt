@@ -1,7 +1,7 @@
 //! Two threads with a queue between them, of which the receiver leaves early.
 
-use crate::messages::{Received, Shared, heap_for, layout, write_number};
-use crate::queue::Queue;
+use crate::threads::messages::{Received, Shared, heap_for, layout, write_number};
+use crate::threads::queue::Queue;
 use rlsf_example_libraries::MessageQueue;
 use rlsf_heaps::SharedPayload;
 use std::alloc::Global;
