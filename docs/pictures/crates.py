@@ -28,8 +28,8 @@ LAYERS = [
     ("Examples", "programs to copy from", "#fff3d0", [
         [(1, "rlsf_example_readme", "the program of README.md"), (1, "rlsf_example_functions", "buffer, cache, pools, source"),
          (2, "rlsf_example_libraries_tour", "first calls, a tour of these libraries, lengths of pools")],
-        [(1, "rlsf_example_owned_payloads", "payloads that own their bytes"), (1, "rlsf_example_tenants", "std's collections in heaps"),
-         (1, "rlsf_example_global", "two threads, one allocator"), (1, "", "")],
+        [(1, "rlsf_example_owned_payloads", "two threads, one SharedHeap"), (1, "rlsf_example_tenants", "payloads, and std's collections"),
+         (1, "rlsf_example_global", "two threads, one GlobalTlsf"), (1, "", "")],
     ]),
     ("Libraries", "for other code", "#fff3d0", [
         [(1, "rlsf_c_lemmas", "proofs of C's exports: their template"), (1, "rlsf_pool", "static library for C: pools of numbers"),
