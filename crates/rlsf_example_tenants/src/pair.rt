@@ -70,7 +70,7 @@ fn pair_of_bytes(heap: &mut Small, layout: Layout) -> Option<[u8; 2]>
 }
 
 pub(crate) fn main(rt: HostRuntime) -> io::Result<()> {
-    let layout = Layout::from_size_align_unchecked(100, 64);
+    let layout = Layout::from_size_align_unchecked(100, 16);
     let bytes = with_pool(rt.alloc()).and_then(|mut heap| pair_of_bytes(&mut heap, layout));
     println!(rt; "a pair: {bytes:?}")
 }
