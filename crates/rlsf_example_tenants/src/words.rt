@@ -31,7 +31,7 @@ fn in_heap(alloc: Global, text: &str) -> Option<u64> {
     count(&heap, text).ok()?.get("the").copied()
 }
 
-/// Counts in a tenant, which has 8,192 bytes of a pool. Also returns whether the tenant ended, so that the pool has the bytes again.
+/// Counts in a tenant, which has 8,176 bytes of a pool. Also returns whether the tenant ended, so that the pool has the bytes again.
 fn in_tenant(alloc: Global, text: &str) -> Option<(u64, bool)> {
     let memory = OpenMemory::reserve(alloc, 4096, 16384).ok()?;
     let mut pool = Small::new(memory);
@@ -39,7 +39,7 @@ fn in_tenant(alloc: Global, text: &str) -> Option<(u64, bool)> {
         start: 4096,
         len: 16384,
     });
-    let tenant = Tenant::new(&mut pool, alloc, 8192)?;
+    let tenant = Tenant::new(&mut pool, alloc, 8176)?;
     let counted = count(tenant.heap(), text).ok()?.get("the").copied()?;
     Some((counted, tenant.end(&mut pool)))
 }
