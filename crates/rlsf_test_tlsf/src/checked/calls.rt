@@ -21,6 +21,8 @@ pub(super) enum Step {
     Payload(usize, Result<usize, CheckedError>),
     Write(usize, usize, &'static [u8], Result<(), CheckedError>),
     Read(usize, usize, Result<[u8; 4], CheckedError>),
+    Copy(usize, usize, usize, Result<(), CheckedError>),
+    Fill(usize, u8, Result<(), CheckedError>),
     Block(usize, usize, usize, bool),
     Remove(usize, usize, Result<(), CheckedError>),
     RemoveLast(bool),
@@ -80,7 +82,7 @@ fn has_sevens(pool: &Small, rt: &impl Abort, addr: usize, offset: usize, len: us
     pool.read(at(rt, addr), offset, read).is_ok() && is_all(read, 7)
 }
 
-/// Whether a call on ranges or on all blocks has its expected result.
+/// Whether a call on ranges, on all blocks or on all of a payload has its expected result.
 fn is_so(pool: &mut Small, rt: &impl Abort, step: &Step) -> bool {
     match step {
         Step::Remove(start, len, wanted) => pool.remove_pool(Range {
@@ -91,6 +93,8 @@ fn is_so(pool: &mut Small, rt: &impl Abort, step: &Step) -> bool {
         Step::Next(from, wanted) => next(pool, *from) == *wanted,
         Step::Totals(wanted) => totals(pool) == *wanted,
         Step::Sevens(addr, offset, len) => has_sevens(pool, rt, *addr, *offset, *len),
+        Step::Copy(from, to, len, wanted) => pool.copy(at(rt, *from), at(rt, *to), *len) == *wanted,
+        Step::Fill(addr, value, wanted) => pool.fill(at(rt, *addr), *value) == *wanted,
         _ => false,
     }
 }
@@ -198,7 +202,31 @@ const REFUSALS: &[Step] = &[
     Step::Deallocate(4112, Err(CheckedError::UnknownAddress)),
 ];
 
-static SCRIPTS: [&[Step]; 3] = [SIZES, RANGES, REFUSALS];
+const COPIES: &[Step] = &[
+    Step::Insert(4096, 1024, Ok(1024)),
+    Step::Allocate(100, 1, Ok(4112)),
+    Step::Allocate(20, 1, Ok(4240)),
+    Step::Write(4112, 0, &[1, 2, 3, 4], Ok(())),
+    Step::Write(4240, 0, &[5, 6, 7, 8], Ok(())),
+    Step::Copy(4112, 4240, 2, Ok(())),
+    Step::Read(4112, 0, Ok([1, 2, 3, 4])),
+    Step::Read(4240, 0, Ok([1, 2, 7, 8])),
+    Step::Copy(4112, 4240, 49, Err(CheckedError::OutOfRange)),
+    Step::Fill(4240, 7, Ok(())),
+    Step::Sevens(4240, 0, 48),
+    Step::Read(4112, 0, Ok([1, 2, 3, 4])),
+];
+
+const ALIGNED: &[Step] = &[
+    Step::Insert(4096, 1024, Ok(1024)),
+    Step::Allocate(65, 64, Ok(4160)),
+    Step::Usable(4160, Ok(96)),
+    // 90 isn't rounded up to 128, a multiple of the alignment.
+    Step::ReallocateThere(4160, 90, Ok(4160)),
+    Step::Usable(4160, Ok(96)),
+];
+
+static SCRIPTS: [&[Step]; 5] = [SIZES, RANGES, REFUSALS, COPIES, ALIGNED];
 
 #[test]
 fn scripts(rt: HostRuntime) {
@@ -215,6 +243,9 @@ fn is_strange(pool: &mut Small, rt: &impl Abort, addr: usize) {
         Step::Payload(addr, Err(strange)),
         Step::Read(addr, 0, Err(strange)),
         Step::Write(addr, 0, &[1], Err(strange)),
+        Step::Copy(addr, 4112, 0, Err(strange)),
+        Step::Copy(4112, addr, 0, Err(strange)),
+        Step::Fill(addr, 1, Err(strange)),
         Step::Reallocate(addr, 18446744073709551615, Err(strange)),
         Step::ReallocateThere(addr, 18446744073709551615, Err(strange)),
         Step::Deallocate(addr, Err(strange)),

@@ -9,8 +9,8 @@ fn lengths_of_pools(rt: HostRuntime) {
     // A payload of 16 bytes at a multiple of 16 needs a block of 32 bytes, where a class begins. So the length is (32 + 32) + 10 *
     // (32 + 32 - 32).
     let short = layout_of(&rt, 16, 16);
-    // One of 112 bytes needs a block of 128, at which a class begins too: 128 + 32.
-    let long = layout_of(&rt, 112, 8);
+    // One of 65 bytes at a multiple of 64 needs 65 + 64, so a block of 160 bytes, at which a class begins too: 160 + 32.
+    let long = layout_of(&rt, 65, 64);
     let found = [
         Small::pool_size_for_payloads(10, short),
         Small::pool_size_for_payloads(0, long),
@@ -20,6 +20,6 @@ fn lengths_of_pools(rt: HostRuntime) {
     ];
     all(
         &rt,
-        &[found == [Some(384), Some(160), Some(160), None, None]],
+        &[found == [Some(384), Some(192), Some(192), None, None]],
     );
 }
