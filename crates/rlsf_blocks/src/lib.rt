@@ -23,7 +23,7 @@ pub use extend::append_chunks;
 pub use free::{deallocate_block, take_if_free, take_previous, used_block};
 pub use listing::list;
 pub use payload::{load_block_of, load_usable_bytes, usable_bytes};
-pub use placement::{allocate_block, leave_rest};
+pub use placement::{allocate_block, allocate_range, leave_rest};
 pub use pool::insert_chunks;
 pub use removal::remove_chunks;
 pub use totals::{NO_TOTALS, Totals, totals_of};

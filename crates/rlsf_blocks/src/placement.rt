@@ -1,6 +1,6 @@
 //! A free block, or its front, becomes a used block.
 
-ghost use Rattle.std.specs.Prelude.{◌≡◌, ◌+◌, ◌-◌, ◌%◌, ◌^◌, ◌<◌, List, IfNone};
+ghost use Rattle.std.specs.Prelude.{◌≡◌, ◌+◌, ◌-◌, ◌%◌, ◌^◌, ◌<◌, List, IfNone, IfSome};
 ghost use Rattle.rlsf_base.specs.declared.memory.range.Range.{Range};
 ghost use Rattle.rlsf_base.specs.Range.{range_at};
 ghost use Rattle.rlsf_base.specs.SizeClass.{IsValid};
@@ -11,13 +11,13 @@ ghost use Rattle.rlsf_model.specs.Payload.{block_length, payload_of};
 ghost use Rattle.rlsf_model.specs.State.{State};
 ghost use Rattle.rlsf_table.specs.Counts.{Costs, Counts};
 ghost use Rattle.rlsf_table.specs.Table.{IsClassAt};
-ghost use Rattle.rlsf_blocks.specs.Steps.Rest.{AtEachChosen, AtEachRest, AtEachTaken, IsChosenIn, IsInnerRoom, IsFreeBlockBehind, IsOpened, IsTaken};
+ghost use Rattle.rlsf_blocks.specs.Steps.Rest.{AtChoice, AtEachChosen, AtEachRest, AtEachTaken, IsChosenIn, IsInnerRoom, IsFreeBlockBehind, IsOpened, IsTaken, room_of, start_of};
 ghost use Rattle.rlsf_blocks.specs.Steps.Standing.{InEach, StepsTo};
 ghost use Rattle.rlsf_blocks.specs.StandsFor.{contents, StandsFor};
 
 use crate::{GRANULARITY, HEADER};
 use rlsf_base::classes;
-use rlsf_base::memory::{Layout, OpenMemory, View};
+use rlsf_base::memory::{Layout, OpenMemory, Range, View};
 use rlsf_base::rounding::next_multiple_of_32;
 use rlsf_table::{
     ClassIndex, ClassTable, FoundBlock, PAD, PREVIOUS_BLOCK, first_fit, link_free_block,
@@ -96,7 +96,8 @@ fn front(block: usize, layout: Layout) -> (usize, usize)
     }
 }
 
-/// Makes a used block for a layout from the front of the free block that was chosen for it. Returns the payload's address.
+/// Makes a used block for a layout from the front of the free block that was chosen for it. Returns the payload's bytes: those up to
+/// the end of its block.
 #[inline(always)]
 fn place<const FLLEN: usize, const SLLEN: usize>(
     memory: &mut OpenMemory,
@@ -104,12 +105,13 @@ fn place<const FLLEN: usize, const SLLEN: usize>(
     table: &mut ClassTable<FLLEN, SLLEN>,
     found: FoundBlock,
     layout: Layout,
-) -> usize
+) -> Range
     requires parameters { IsValid 128 128 FLLEN SLLEN }
     requires class { IsClassAt FLLEN SLLEN (word_at memory.old found.start) found.class.fl found.class.sl }
     requires chosen { IsChosenIn FLLEN SLLEN memory.old table.old layout found.start }
     requires view { view ≡ memory.old.view }
-    ensures step { AtEachChosen FLLEN SLLEN memory.old table.old layout found.start (λ s f. StepsTo FLLEN SLLEN memory.old memory.new table.new s (Places SLLEN s layout.size layout.align result)) }
+    ensures step { AtEachChosen FLLEN SLLEN memory.old table.old layout found.start (λ s f. StepsTo FLLEN SLLEN memory.old memory.new table.new s (Places SLLEN s layout.size layout.align result.start)) }
+    ensures len { AtEachChosen FLLEN SLLEN memory.old table.old layout found.start (λ s f. result.len ≡ room_of f layout.size layout.align) }
     ensures costs { Costs memory.old memory.new 23 0 }
     ensures own { SameOwn memory.old memory.new }
     ensures here { StaysHere memory.old memory.new }
@@ -117,17 +119,44 @@ fn place<const FLLEN: usize, const SLLEN: usize>(
     let block = found.start;
     let len = memory.load_at(view, block) as usize;
     let (payload, taken) = front(block, layout);
+    let range = Range {
+        start: payload,
+        len: block + taken - payload,
+    };
     take_out(memory, view, table, block, len, found.class, taken);
     memory.set_word_at(view, block, used_size_word(taken));
     let wide = layout.align() >= GRANULARITY;
     if wide {
         memory.set_word_at(view, payload - PAD, block as u64);
     }
-    payload
+    range
 }
 
 /// Makes a used block for a layout from the front of a free block: the newest one of the first class that reaches the sought size.
-/// Returns the payload's address. If no free block's class reaches that size, returns `None`, and nothing changes.
+/// Returns the payload's bytes: those up to the end of its block. If no free block's class reaches that size, returns `None`, and
+/// nothing changes.
+#[inline(always)]
+pub fn allocate_range<const FLLEN: usize, const SLLEN: usize>(
+    memory: &mut OpenMemory,
+    view: View,
+    table: &mut ClassTable<FLLEN, SLLEN>,
+    layout: Layout,
+) -> Option<Range>
+    requires parameters { IsValid 128 128 FLLEN SLLEN }
+    requires stands { (s : State) × StandsFor FLLEN SLLEN (contents memory.old table.old) s }
+    requires view { view ≡ memory.old.view }
+    ensures step { InEach FLLEN SLLEN memory.old table.old (λ s. StepsTo FLLEN SLLEN memory.old memory.new table.new s (Allocates SLLEN s layout.size layout.align (start_of result))) }
+    ensures len { InEach FLLEN SLLEN memory.old table.old (λ s. IfSome result (λ r. AtChoice SLLEN s layout.size layout.align (λ f. r.len ≡ room_of f layout.size layout.align))) }
+    ensures unchanged { IfNone result (Counts memory.old memory.new 4 × (table.new ≡ table.old)) }
+    ensures costs { Costs memory.old memory.new 27 0 }
+    ensures own { SameOwn memory.old memory.new }
+    ensures here { StaysHere memory.old memory.new }
+{
+    let found = first_fit(memory, table, classes::request_size(layout))?;
+    Some(place(memory, view, table, found, layout))
+}
+
+/// Makes a used block as `allocate_range` does, and returns the payload's address.
 #[inline(always)]
 pub fn allocate_block<const FLLEN: usize, const SLLEN: usize>(
     memory: &mut OpenMemory,
@@ -144,6 +173,8 @@ pub fn allocate_block<const FLLEN: usize, const SLLEN: usize>(
     ensures own { SameOwn memory.old memory.new }
     ensures here { StaysHere memory.old memory.new }
 {
-    let found = first_fit(memory, table, classes::request_size(layout))?;
-    Some(place(memory, view, table, found, layout))
+    match allocate_range(memory, view, table, layout) {
+        Some(range) => Some(range.start),
+        None => None,
+    }
 }

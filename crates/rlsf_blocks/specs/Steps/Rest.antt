@@ -1,5 +1,5 @@
 -- What is left of a free block whose front is taken.
-use Rattle.std.specs.Prelude.{◌≡◌, ℕ, ◌+◌, ◌%◌, ◌<◌, ◌≤◌, List, ◌∷◌, ◌++◌, length, Some, find}
+use Rattle.std.specs.Prelude.{◌≡◌, ℕ, ◌+◌, ◌%◌, ◌<◌, ◌≤◌, List, ◌∷◌, ◌++◌, length, Option, Some, None, [], find}
 use Rattle.rlsf_base.specs.declared.memory.layout.Layout.{Layout}
 use Rattle.rlsf_base.specs.declared.memory.range.Range.{Range}
 use Rattle.rlsf_base.specs.Range.{end_of, range_at}
@@ -12,9 +12,9 @@ use Rattle.rlsf_table.specs.FreeTable.{IsRoom}
 use Rattle.rlsf_table.specs.Table.{Table, HasTable}
 use Rattle.rlsf_blocks.specs.StandsFor.{contents, StandsFor}
 use Rattle.rlsf_blocks.specs.Steps.Touched.{Touched}
-use Rattle.rlsf_model.specs.Allocate.{choice, has_class, rest_behind}
+use Rattle.rlsf_model.specs.Allocate.{choice, has_class, placed, rest_behind}
 use Rattle.rlsf_model.specs.Lists.{IsIn, without}
-use Rattle.rlsf_model.specs.State.{State}
+use Rattle.rlsf_model.specs.State.{State, usable}
 
 -- a range can become a free block beside those of a list, with the first words of another block behind it
 pub record IsInnerRoom (fllen sllen : ℕ) (m : Space) (t : Table) (free : List Range) (r : Range) : Type 0 where
@@ -62,6 +62,19 @@ IsChosenIn fllen sllen m t layout block = (s : State) × (f : Range) × StandsFo
 abbrev pub AtEachChosen : ℕ → ℕ → Space → Table → Layout → ℕ → (State → Range → Type 0) → Type 0
 AtEachChosen fllen sllen m t layout block P = (s : State) (f : Range) → StandsFor fllen sllen (contents m t) s
     → choice sllen (request_size layout.size layout.align) s.free ≡ Some f → f.start ≡ block → P s f
+
+-- this is true of the free range that is chosen for a size and an alignment
+abbrev pub AtChoice : ℕ → State → ℕ → ℕ → (Range → Type 0) → Type 0
+AtChoice sllen s size align P = (f : Range) → choice sllen (request_size size align) s.free ≡ Some f → P f
+
+-- how many bytes a payload has that is placed in the front of a free range
+abbrev pub room_of : Range → ℕ → ℕ → ℕ
+room_of f size align = (usable (placed f size align [])).len
+
+-- the address of the first byte of a range, if there is one
+abbrev pub start_of : Option Range → Option ℕ
+start_of None = None
+start_of (Some r) = Some r.start
 
 -- the words once the free range f isn't in the list any more, and what is left of it behind its front is
 pub record IsOpened (fllen sllen : ℕ) (m n : Space) (t : Table) (s : State) (f front : Range) : Type 0 where

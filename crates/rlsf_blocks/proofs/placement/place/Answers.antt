@@ -225,3 +225,37 @@ returns-then-wide-clause-costs g c =
 
 pub returns-else-wide-clause-costs : goal.returns-else-wide-clause-costs
 returns-else-wide-clause-costs g c = Costs-within (omega arith) (so_far g (goal.at.returns-else-wide-clause-costs g c).After-set_word_at)
+
+-- the payload's bytes end where its block does
+pub overflow_add-range : goal.overflow_add-range
+overflow_add-range g c =
+    let (s, f, v, chosen, start) = c.requires.chosen in
+    let at = goal.at.overflow_add-range g c in
+    let layout = c.args.layout in
+    let are = computed g at.After-front-payload (loaded g at.After-load_at-len v) f chosen start in
+    let place = free_in_memory v.well_formed f (is_free v f layout.size layout.align layout.valid.aligned chosen) in
+    let room = placed-fits v.well_formed f layout.size layout.align layout.valid.aligned chosen in
+    omega (arith, are.start, are.taken, room, place.1, v.well_formed.addressable)
+
+pub overflow_sub-range : goal.overflow_sub-range
+overflow_sub-range g c =
+    let (s, f, v, chosen, start) = c.requires.chosen in
+    let at = goal.at.overflow_sub-range g c in
+    let layout = c.args.layout in
+    let are = computed g at.After-front-payload (loaded g at.After-load_at-len v) f chosen start in
+    omega (arith, are.start, are.payload, are.taken, (fitting v f layout.size layout.align layout.valid.aligned chosen).before_end)
+
+-- and so they are as many as the payload has in the front of the range that was chosen
+pub returns-then-wide-clause-len : goal.returns-then-wide-clause-len
+returns-then-wide-clause-len g c =
+    λ s f v chosen start.
+    let at = goal.at.returns-then-wide-clause-len g c in
+    let are = computed g at.After-front-payload (loaded g at.After-load_at-len v) f chosen start in
+    omega (arith, are.start, are.payload, are.taken)
+
+pub returns-else-wide-clause-len : goal.returns-else-wide-clause-len
+returns-else-wide-clause-len g c =
+    λ s f v chosen start.
+    let at = goal.at.returns-else-wide-clause-len g c in
+    let are = computed g at.After-front-payload (loaded g at.After-load_at-len v) f chosen start in
+    omega (arith, are.start, are.payload, are.taken)

@@ -2,6 +2,7 @@
 use Rattle.rlsf_base.proofs.Lending.Present.{own-same, out-same}
 use Rattle.std.proofs.Common.{arith}
 use Rattle.std.proofs.Common.{◌≡◌, Option, arith, refl, sym, ◌∙◌, ap, subst, rules}
+use Rattle.std.proofs.lemmas.Option.{same_Some}
 use Rattle.rlsf_base.specs.declared.memory.range.Range.{Range}
 use Rattle.rlsf_base.specs.Sizes.{request_size}
 use Rattle.rlsf_base.specs.Space.{word_at}
@@ -11,13 +12,14 @@ use Rattle.rlsf_model.proofs.Choices.{choice-some}
 use Rattle.rlsf_table.specs.Table.{IsClassAt}
 use Rattle.rlsf_table.proofs.FreeLists.Counted.{word_at-counted}
 use Rattle.rlsf_blocks.specs.StandsFor.{contents, StandsFor}
+use Rattle.rlsf_blocks.specs.Steps.Rest.{start_of}
 use Rattle.rlsf_blocks.proofs.RepresentedStates.Counted.{KeepsSpare-counted, KeepsSpare-counted_first, StandsFor-counted}
 use Rattle.rlsf_blocks.proofs.RepresentedStates.FreeBlocks.{IsFreeTable-free}
-use Rattle.rlsf_blocks.proofs.Refused.{none_none}
+use Rattle.rlsf_blocks.proofs.Refused.{none_none, none_some}
 use Rattle.rlsf_table.proofs.Costs.{Costs-counted, Costs-then, Costs-within}
-use Rattle.rlsf_blocks.proofs.placement.allocate_block.Given as given
-use Rattle.rlsf_blocks.proofs.placement.allocate_block.Goals as goal
-use Rattle.rlsf_blocks.proofs.placement.allocate_block.Goals.{After-first_fit}
+use Rattle.rlsf_blocks.proofs.placement.allocate_range.Given as given
+use Rattle.rlsf_blocks.proofs.placement.allocate_range.Goals as goal
+use Rattle.rlsf_blocks.proofs.placement.allocate_range.Goals.{After-first_fit}
 
 -- what is computed for the layout is what is sought
 sought : (g : given.Over) (c : After-first_fit g) (s : State) {o : Option Range} → choice g.row.SLLEN c.request_size.result s.free ≡ o
@@ -41,10 +43,13 @@ returns-in_err-found-clause-step g c =
     let counts = c.first_fit.ensures.counts in
     let none = sought g at s (c.in_err-found.ensures.choice s.free (IsFreeTable-free v)) in (
       s,
-      subst (λ o. Allocates g.row.SLLEN s c.args.layout.size c.args.layout.align o s) (sym c.from_residual.ensures) (none, refl),
+      subst (λ o. Allocates g.row.SLLEN s c.args.layout.size c.args.layout.align (start_of o) s) (sym c.from_residual.ensures) (none, refl),
       searched g at v,
       KeepsSpare-counted c.args.memory.now c.first_fit.new.memory counts.start counts.bytes counts.out s s,
     )
+
+pub returns-in_err-found-clause-len : goal.returns-in_err-found-clause-len
+returns-in_err-found-clause-len g c = λ s v. none_some _ c.from_residual.result c.from_residual.ensures
 
 pub returns-in_err-found-clause-unchanged : goal.returns-in_err-found-clause-unchanged
 returns-in_err-found-clause-unchanged g c = none_none c.from_residual.result (c.first_fit.ensures.counts, refl)
@@ -76,6 +81,14 @@ returns-clause-step g c =
     let (f, chosen, start, _) = c.in_ok-found.ensures.choice s.free (IsFreeTable-free v) in
     let (t, places, now, spare) = c.place.ensures.step s f (searched g at v) (sought g at s chosen) start in
     (t, places, now, KeepsSpare-counted_first c.args.memory.now c.first_fit.new.memory counts.start counts.bytes counts.out s t c.place.new.memory spare)
+
+pub returns-clause-len : goal.returns-clause-len
+returns-clause-len g c =
+    λ s v f chosen.
+    let at = (goal.at.returns-clause-len g c).After-first_fit in
+    let (h, found, start, _) = c.in_ok-found.ensures.choice s.free (IsFreeTable-free v) in
+    c.place.ensures.len s f (searched g at v) chosen
+    (ap (λ (r : Range). r.start) (same_Some _ _ (sym chosen ∙ sought g at s found)) ∙ start)
 
 pub returns-clause-own : goal.returns-clause-own
 returns-clause-own g c =
