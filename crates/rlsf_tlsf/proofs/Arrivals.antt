@@ -4,7 +4,6 @@ use Rattle.rlsf_base.specs.SizeClass.{IsValid}
 use Rattle.rlsf_base.specs.Space.{Space, range_of}
 use Rattle.rlsf_model.specs.Lists.{IsIn}
 use Rattle.rlsf_model.specs.Callers.{align_at, bytes_at}
-use Rattle.rlsf_model.specs.Release.{released}
 use Rattle.rlsf_model.specs.Run.{Fills, IsSomeLive}
 use Rattle.rlsf_model.specs.State.{State, Used, filled_at, usable, with_bytes, Holds, IsLive}
 use Rattle.rlsf_model.proofs.CallerWords.{align_at-live, align_at-some, bytes_at-held}
@@ -16,8 +15,8 @@ use Rattle.rlsf_blocks.specs.Spare.{KeepsSpare}
 use Rattle.rlsf_blocks.specs.StandsFor.{contents, StandsFor}
 use Rattle.rlsf_blocks.specs.Steps.LiveBlock.{IsLiveIn}
 use Rattle.rlsf_tlsf.specs.Allocator.{Allocator, allocator, IsAllocator, IsStanding, Stands, Steps}
-use Rattle.rlsf_tlsf.specs.Steps.Moves.{bare, bare_used, deallocated}
-use Rattle.rlsf_tlsf.proofs.Moved.{bare-bare, deallocated-bare}
+use Rattle.rlsf_tlsf.specs.Steps.Moves.{bare, bare_used}
+use Rattle.rlsf_tlsf.proofs.Moved.{bare-bare}
 
 -- a represented state has the bytes that the memory has
 pub read_from-stands : {fllen sllen : ℕ} {m : Space} {x : Table} {s : State} → StandsFor fllen sllen (contents m x) s → read_from m s ≡ s
@@ -34,7 +33,7 @@ read_from-bare m s = ap (λ (used : List Used). record { chunks = s.chunks; used
     go [] = refl
     go (u ∷ us) = ap (λ l. with_bytes_of m u ∷ l) (go us)
 
-bare-read_from : (m : Space) (s : State) → bare (read_from m s) ≡ bare s
+pub bare-read_from : (m : Space) (s : State) → bare (read_from m s) ≡ bare s
 bare-read_from m s = ap (λ (used : List Used). record { chunks = s.chunks; used = used; free = s.free }) (go s.used)
   where
     go : (used : List Used) → map bare_used (map (with_bytes_of m) used) ≡ map bare_used used
@@ -44,14 +43,6 @@ bare-read_from m s = ap (λ (used : List Used). record { chunks = s.chunks; used
 -- what is kept of an allocator's state is the state without bytes
 pub bare-kept : {fl_bits sl_bits fllen sllen : ℕ} {m : Space} {x : Table} {s : State} → IsAllocator fl_bits sl_bits fllen sllen m x s → bare (read_from m s) ≡ s
 bare-kept {m = m} {s = s} is = bare-read_from m s ∙ is.is_bare
-
--- what is kept once a payload is gone is the state without it
-pub kept_without : {fl_bits sl_bits fllen sllen : ℕ} {m : Space} {x : Table} {s : State} → IsAllocator fl_bits sl_bits fllen sllen m x s
-    → (addr : ℕ) {payload : ℕ} (u : Used) → Holds (read_from m s) addr u → payload ≡ addr
-    → deallocated payload s ≡ bare (released (read_from m s) u)
-kept_without {m = m} {s = s} is addr u holds same =
-    (λ i. deallocated (same i) (sym (bare-kept is) i))
-    ∙ deallocated-bare is.stands.well_formed (released (read_from m s) u) addr (record { block = u; holds = holds; after = refl })
 
 module _ {fllen sllen : ℕ} {n : Space} {x : Table} {t : State} (v : StandsFor fllen sllen (contents n x) t) (reached : State) (e : reached ≡ bare t) where
   -- the state that is read is the represented one

@@ -7,8 +7,11 @@ pub mod IdleRows
 pub mod Lent
 pub mod Moved
 mod Opened
+mod Placed
+pub mod Reached
 pub mod Removed
 pub mod Replied
 mod SendAndSync
 pub mod Standing
 pub mod UnknownAlign
+mod Whole

@@ -2,7 +2,8 @@
 //!
 //! Read `specs/Allocator` (the allocator as contracts see it, and its steps) and `specs/Results` (what calls return, refuse and keep) first, then
 //! `src/tlsf`, which has `Tlsf` and its calls for payloads. `specs/Bounds` says what holds within the bounds that an allocator is sized for.
-//! `src/pools` has the calls for pools, `src/unknown_align` one for a payload of unknown alignment, and `src/zeroed` one that fills a payload. `specs/Lending` is for calls that lend bytes,
+//! `src/pools` has the calls for pools, `src/unknown_align` one for a payload of unknown alignment, and `src/zeroed` one that fills a payload.
+//! `src/core_calls` has what `rlsf_heap` shares, with definitions in `specs/Cores`. `specs/Lending` is for calls that lend bytes,
 //! and `specs/InPlace` for a payload's owner who writes it where it lies, as `rlsf_heap` has. `src/bitmaps` gives read access to the class table,
 //! `src/consistency` reads the words of a pool again, and `src/state` holds the ghost state. `specs/Steps` is for private functions.
 #![tactic(auto)]
@@ -13,6 +14,7 @@ ghost use Rattle.rlsf_blocks.specs.Laws.{WordsGiveBlock, WordsReadNoPayload};
 
 mod bitmaps;
 mod consistency;
+pub mod core_calls;
 mod pools;
 mod state;
 mod tlsf;

@@ -13,11 +13,10 @@ ghost use Rattle.rlsf_model.specs.Lists.{IsIn};
 ghost use Rattle.rlsf_model.specs.Remove.{IsIdle, Removes};
 ghost use Rattle.rlsf_blocks.specs.Blocks.{AreBlocks, walked};
 
+use crate::core_calls::{append_in, insert_in, remove_in};
 use crate::tlsf::Tlsf;
 use rlsf_base::memory::Range;
-use rlsf_blocks::{
-    BlockInfo, Blocks, append_chunks, chunk_end, insert_chunks, remove_chunks, walk_blocks,
-};
+use rlsf_blocks::{BlockInfo, Blocks, chunk_end, walk_blocks};
 use rlsf_int::BitPattern;
 use std::num::NonZeroUsize;
 
@@ -53,9 +52,12 @@ impl<FLBitmap: BitPattern, SLBitmap: BitPattern, const FLLEN: usize, const SLLEN
         ensures frame { KeepsFrameOfPools self.old self.new }
         ensures touches { self.new.memory.touches ≤ self.old.memory.touches + 13 * length (cut (max_pool_size FLLEN) (aligned_part range)) }
     {
-        let taken = insert_chunks(&mut self.memory.inner, &mut self.table, range);
-        self.state.insert(FLLEN, range.start, range.len);
-        taken
+        insert_in(
+            &mut self.memory.inner,
+            &mut self.table,
+            &mut self.state,
+            range,
+        )
     }
 
     /// Inserts a range of the memory as a pool, as `insert_free_block_ptr` does, but does not return the number of bytes
@@ -98,9 +100,12 @@ impl<FLBitmap: BitPattern, SLBitmap: BitPattern, const FLLEN: usize, const SLLEN
         ensures frame { KeepsFrameOfPools self.old self.new }
         ensures touches { self.new.memory.touches ≤ self.old.memory.touches + (if is_some (max_pool_size FLLEN) then 13 * length (cut (max_pool_size FLLEN) (aligned_part range)) else 34) }
     {
-        let taken = append_chunks(&mut self.memory.inner, &mut self.table, range);
-        self.state.append(FLLEN, range.start, range.len);
-        taken
+        append_in(
+            &mut self.memory.inner,
+            &mut self.table,
+            &mut self.state,
+            range,
+        )
     }
 
     /// Removes an inserted range: its chunks, and the free blocks in them. The removed part is the range from its start,
@@ -118,8 +123,12 @@ impl<FLBitmap: BitPattern, SLBitmap: BitPattern, const FLLEN: usize, const SLLEN
         ensures frame { KeepsFrameOfPools self.old self.new }
         ensures touches { self.new.memory.touches + 9 * length self.new.state.chunks ≤ self.old.memory.touches + 9 * length self.old.state.chunks }
     {
-        remove_chunks(&mut self.memory.inner, &mut self.table, range);
-        self.state.remove(range.start, range.len);
+        remove_in(
+            &mut self.memory.inner,
+            &mut self.table,
+            &mut self.state,
+            range,
+        );
     }
 
     /// Returns the address of the end of the chunk that begins at `addr`. This is the address just past its sentinel. The

@@ -18,12 +18,11 @@ ghost use Rattle.rlsf_model.specs.State.{empty};
 ghost use Rattle.rlsf_table.specs.Table.{newest_of, of_class};
 ghost use Rattle.rlsf_blocks.specs.Spare.{IsSpareWord};
 
+use crate::core_calls::{allocate_in, deallocate_block_in, deallocate_in};
 use crate::state::GhostState;
 use rlsf_base::memory::{Addr, Layout, Memory, Range};
 use rlsf_blocks::reallocation::{reallocate_block, resize_any_block, resize_block};
-use rlsf_blocks::{
-    allocate_block, deallocate_block, load_block_of, load_usable_bytes, usable_bytes, used_block,
-};
+use rlsf_blocks::{load_block_of, load_usable_bytes, usable_bytes, used_block};
 use rlsf_int::BitPattern;
 use rlsf_table::ClassTable;
 use std::marker::{Model, PhantomData};
@@ -124,10 +123,15 @@ impl<FLBitmap: BitPattern, SLBitmap: BitPattern, const FLLEN: usize, const SLLEN
         ensures frame { KeepsFrame self.old self.new }
         ensures touches { self.new.memory.touches ≤ self.old.memory.touches + 27 }
     {
-        let view = self.memory.inner.view();
-        let payload = allocate_block(&mut self.memory.inner, view, &mut self.table, layout)?;
-        self.state.allocate(SLLEN, layout.size(), layout.align());
-        NonZeroUsize::new(payload)
+        match allocate_in(
+            &mut self.memory.inner,
+            &mut self.table,
+            &mut self.state,
+            layout,
+        ) {
+            Some(range) => NonZeroUsize::new(range.start),
+            None => None,
+        }
     }
 
     /// Deallocates the payload at `addr`. Its block becomes free, and is joined with the free block before it and the
@@ -147,8 +151,13 @@ impl<FLBitmap: BitPattern, SLBitmap: BitPattern, const FLLEN: usize, const SLLEN
         let payload = addr.get();
         let view = self.memory.inner.view();
         let block = used_block(&mut self.memory.inner, view, payload, align);
-        deallocate_block(&mut self.memory.inner, view, &mut self.table, block);
-        self.state.deallocate(payload);
+        deallocate_block_in(
+            &mut self.memory.inner,
+            &mut self.table,
+            &mut self.state,
+            block,
+            payload,
+        );
     }
 
     /// Deallocates the payload at `addr`, as `deallocate` does, if the caller does not know its alignment. The resulting
@@ -165,11 +174,12 @@ impl<FLBitmap: BitPattern, SLBitmap: BitPattern, const FLLEN: usize, const SLLEN
         ensures frame { KeepsFrame self.old self.new }
         ensures touches { self.new.memory.touches ≤ self.old.memory.touches + 33 }
     {
-        let payload = addr.get();
-        let block = load_block_of(&mut self.memory.inner, payload);
-        let view = self.memory.inner.view();
-        deallocate_block(&mut self.memory.inner, view, &mut self.table, block);
-        self.state.deallocate(payload);
+        deallocate_in(
+            &mut self.memory.inner,
+            &mut self.table,
+            &mut self.state,
+            addr.get(),
+        );
     }
 
     /// Changes the size of the payload at `addr` to that of `layout`, and returns its address, a multiple of the

@@ -1,136 +1,46 @@
-use Rattle.std.proofs.Common.{[], arith, rules, ◌≡◌, refl, sym, ◌∙◌, ap}
+use Rattle.std.proofs.Common.{arith, sym, ◌∙◌, subst}
 use Rattle.rlsf_base.specs.Addr.{at}
-use Rattle.rlsf_model.specs.Release.{Deallocates, released}
-use Rattle.rlsf_model.specs.State.{State, Used, usable, Holds}
-use Rattle.rlsf_model.proofs.CallerWords.{SeesGone, align_at-some, gone_seen}
-use Rattle.rlsf_model.proofs.Chunks.{chunks-deallocated}
-use Rattle.rlsf_model.proofs.SizedWords.{count_gone, sized_gone}
-use Rattle.rlsf_table.proofs.Parameters.{IsValid-widest}
-use Rattle.rlsf_blocks.specs.Laws.{read_from}
-use Rattle.rlsf_blocks.specs.StandsFor.{contents, StandsFor}
-use Rattle.rlsf_blocks.proofs.RepresentedStates.Counted.{KeepsSpare-touched_first, StandsFor-touched}
-use Rattle.rlsf_tlsf.specs.Allocator.{Allocator, allocator, Steps}
-use Rattle.rlsf_tlsf.specs.Steps.Moves.{bare}
-use Rattle.rlsf_tlsf.proofs.Arrivals.{IsAllocator-arrived, IsLiveIn-inside, Steps-arrived, kept_without, opened, some_inside, view_well_formed}
-use Rattle.rlsf_base.specs.Space.{Space}
-use Rattle.rlsf_base.specs.OpenSpace.{IsOwned}
 use Rattle.rlsf_base.proofs.Lending.Present.{own-none}
-use Rattle.rlsf_blocks.proofs.Counting.{Counts-touched}
+use Rattle.rlsf_model.specs.Release.{Deallocates}
+use Rattle.rlsf_model.specs.State.{usable}
+use Rattle.rlsf_model.proofs.Chunks.{chunks-deallocated}
+use Rattle.rlsf_tlsf.specs.Allocator.{allocator}
+use Rattle.rlsf_tlsf.specs.Results.{IsDeallocated}
+use Rattle.rlsf_tlsf.proofs.Arrivals.{some_inside}
 use Rattle.rlsf_tlsf.proofs.Opened.{IsAllocator-opened, view-opened}
-use Rattle.rlsf_tlsf.proofs.AfterReading.{Costs-read_first}
-use Rattle.rlsf_table.proofs.Costs.{SamePlace-costs, copied_none}
-use Rattle.rlsf_tlsf.proofs.tlsf.Tlsf.deallocate_unknown_align.Given as given
+use Rattle.rlsf_tlsf.proofs.Whole.{IsAllocator-left, Steps-left, frame-left, none_left, core_of}
 use Rattle.rlsf_tlsf.proofs.tlsf.Tlsf.deallocate_unknown_align.Goals as goal
-use Rattle.rlsf_tlsf.proofs.tlsf.Tlsf.deallocate_unknown_align.Goals.{After-load_block_of-block, After-deallocate}
 
-pub load_block_of-block-requires : goal.load_block_of-block-requires
-load_block_of-block-requires g c =
-    IsLiveIn-inside (IsAllocator-opened c.self-inside.view_is c.self.invariant) c.args.self.now (view-opened c.self-inside.view_is c.self.view_is) (at c.args.addr)
-    c.get-payload.ensures.value c.requires
-
--- the allocator's state as the call begins
-abbrev state : (g : given.Over) (c : After-load_block_of-block g) → State
-state g c = read_from c.self-inside.inside.0.0.inner c.self-inside.inside.0.1.1.0.state
-
--- the block that was found is that of the payload
-found : (g : given.Over) (c : After-load_block_of-block g) → (u : Used) × Holds (state g c) (at c.args.addr) u × (u.block.start ≡ c.load_block_of-block.result)
-found g c =
+pub deallocate_in-requires : goal.deallocate_in-requires
+deallocate_in-requires g c =
     let is = IsAllocator-opened c.self-inside.view_is c.self.invariant in
-    let (u, holds) = some_inside is c.args.self.now (view-opened c.self-inside.view_is c.self.view_is) (at c.args.addr) c.requires in
-    let start =
-    c.load_block_of-block.ensures.block g.row.FLLEN g.row.SLLEN (contents c.self-inside.inside.0.0.inner c.self-inside.inside.0.1.0) (state g c) u refl is.stands
-    (holds.0, holds.1 ∙ sym c.get-payload.ensures.value) in
-    (u, holds, sym start)
-
--- the memory in which it was sought represents the same state
-read : (g : given.Over) (c : After-load_block_of-block g) → StandsFor g.row.FLLEN g.row.SLLEN (contents c.load_block_of-block.new.memory c.self-inside.inside.0.1.0) (state g c)
-read g c =
-    StandsFor-touched c.self-inside.inside.0.0.inner c.load_block_of-block.new.memory 2 c.load_block_of-block.ensures.memory
-    (IsAllocator-opened c.self-inside.view_is c.self.invariant).stands
-
--- nothing is out of it, and so neither are the payload's usable bytes
-whole : (g : given.Over) (c : After-load_block_of-block g) → c.load_block_of-block.new.memory.out ≡ []
-whole g c = ap (λ (o : Space). o.out) c.load_block_of-block.ensures.memory ∙ (IsAllocator-opened c.self-inside.view_is c.self.invariant).whole
-
-own : (g : given.Over) (c : After-load_block_of-block g) (u : Used) → IsOwned c.load_block_of-block.new.memory (usable u)
-own g c u = own-none c.load_block_of-block.new.memory (usable u) (whole g c)
-
-pub deallocate_block-requires : goal.deallocate_block-requires
-deallocate_block-requires g c =
-    let before = (goal.at.deallocate_block-requires g c).After-load_block_of-block in
-    let (u, holds, start) = found g before in (
+    let m = c.self-inside.inside.0.0.inner in
+    let (u, holds) = some_inside is c.args.self.now (view-opened c.self-inside.view_is c.self.view_is) (at c.args.addr) c.requires in (
       omega arith,
       (
-        IsValid-widest g.FLBitmap.BitPattern.width_limit (IsAllocator-opened c.self-inside.view_is c.self.invariant).valid,
-        ((state g before, u, read g before, holds.0, start, own g before u), search rules),
+        core_of is g.FLBitmap.BitPattern.width_limit,
+        (u, (holds.0, holds.1 ∙ sym c.get.ensures.value), own-none m (usable u) is.whole),
       ),
     )
 
--- what is kept of the state is the one without the payload
-kept : (g : given.Over) (c : After-deallocate g) (u : Used) → Holds (read_from c.self-inside.inside.0.0.inner c.self-inside.inside.0.1.1.0.state) (at c.args.addr) u
-    → c.deallocate.new.self.state ≡ bare (released (read_from c.self-inside.inside.0.0.inner c.self-inside.inside.0.1.1.0.state) u)
-kept g c u holds = c.deallocate.ensures ∙ kept_without (IsAllocator-opened c.self-inside.view_is c.self.invariant) (at c.args.addr) u holds c.get-payload.ensures.value
-
--- nothing is out after it
-none : (g : given.Over) (c : After-deallocate g) → c.deallocate_block.new.memory.out ≡ []
-none g c = c.deallocate_block.ensures.costs.none (whole g (goal.at.invariant_of-self g c).After-load_block_of-block)
-
 pub invariant_of-self-inside : goal.invariant_of-self-inside
-invariant_of-self-inside = none
+invariant_of-self-inside g c = none_left (IsAllocator-opened c.self-inside.view_is c.self.invariant) c.deallocate_in.ensures.left
 
 pub invariant_of-self : goal.invariant_of-self
-invariant_of-self g c =
-    let before = (goal.at.invariant_of-self g c).After-load_block_of-block in
-    let (u, holds, start) = found g before in
-    IsAllocator-arrived (c.deallocate_block.ensures.step (state g before) u (read g before) holds.0 start (own g before u)).0 c.deallocate.new.self.state (kept g c u holds)
-    (none g c) c.self.invariant.valid
-
-abbrev after : (g : given.Over) (c : After-deallocate g) → Allocator
-after g c = allocator c.deallocate_block.new.memory c.deallocate_block.new.table c.deallocate.new.self.state
-
-done : (g : given.Over) (c : After-deallocate g) → Steps g.row.FLLEN g.row.SLLEN c.args.self.now (after g c) (Deallocates c.args.self.now.state (at c.args.addr))
-done g c =
-    let before = (goal.at.returns g c).After-load_block_of-block in
-    let s = state g before in
-    let (u, holds, start) = found g before in
-    let (stands, spare) = c.deallocate_block.ensures.step s u (read g before) holds.0 start (own g before u) in
-    Steps-arrived stands c.deallocate.new.self.state (kept g c u holds) (none g c) c.args.self.now c.self-inside.inside.0.0.inner c.self-inside.inside.0.1.0
-    c.self-inside.inside.0.1.1.0.state (view-opened c.self-inside.view_is c.self.view_is)
-    (λ old. Deallocates old (at c.args.addr)) (record { block = u; holds = holds; after = refl })
-    (KeepsSpare-touched_first c.self-inside.inside.0.0.inner c.load_block_of-block.new.memory 2 c.load_block_of-block.ensures.memory s (released s u) c.deallocate_block.new.memory
-    spare)
-
-stepped : (g : given.Over) (c : After-deallocate g) → Deallocates c.args.self.now.state (at c.args.addr) (after g c).state
-stepped g c = (opened g.row.FLLEN g.row.SLLEN c.args.self.now (after g c) (Deallocates c.args.self.now.state (at c.args.addr)) (done g c)).0
-
-seen : (g : given.Over) (c : After-deallocate g) → SeesGone c.args.self.now.state (after g c).state (at c.args.addr)
-seen g c =
-    gone_seen (view_well_formed c.self.invariant c.args.self.now c.self.view_is) (after g c).state (at c.args.addr)
-    (align_at-some c.args.self.now.state (at c.args.addr) c.requires) (stepped g c)
+invariant_of-self g c = IsAllocator-left (IsAllocator-opened c.self-inside.view_is c.self.invariant) c.deallocate_in.ensures.left
 
 pub returns : goal.returns
 returns g c =
-    let view = view-opened c.self-inside.view_is c.self.view_is in
-    let counts = Counts-touched c.self-inside.inside.0.0.inner c.load_block_of-block.new.memory 2 c.load_block_of-block.ensures.memory in
-    let costs = Costs-read_first (ap (λ (o : Allocator). o.memory) view) counts c.deallocate_block.ensures.costs in
-    record {
-      step = done g c;
-      result = record {
-        gone = (seen g c).gone;
-        aligns = (seen g c).aligns;
-        bytes = (seen g c).bytes;
-        count =
-            count_gone (view_well_formed c.self.invariant c.args.self.now c.self.view_is) (after g c).state (at c.args.addr)
-            (align_at-some c.args.self.now.state (at c.args.addr) c.requires) (stepped g c);
-      };
-      bounds = λ count size align sized.
-          sized_gone (view_well_formed c.self.invariant c.args.self.now c.self.view_is) (after g c).state count size align sized (at c.args.addr)
-          (align_at-some c.args.self.now.state (at c.args.addr) c.requires) (stepped g c);
-      frame = record {
-        chunks = chunks-deallocated c.args.self.now.state (after g c).state (at c.args.addr) (stepped g c);
-        place = SamePlace-costs costs;
-        grow = costs.grow;
-        copied = copied_none costs;
-      };
-      touches = costs.touches;
-    }
+    let is = IsAllocator-opened c.self-inside.view_is c.self.invariant in
+    let before = allocator c.self-inside.inside.0.0.inner c.self-inside.inside.0.1.0 c.self-inside.inside.0.1.1.0.state in
+    let after = allocator c.deallocate_in.new.memory c.deallocate_in.new.table c.deallocate_in.new.state.state in
+    let e = c.deallocate_in.ensures in
+    let addr = at c.args.addr in
+    let step = subst (λ a. Deallocates before.state a after.state) c.get.ensures.value e.step in
+    rw (← view-opened c.self-inside.view_is c.self.view_is) (record {
+      step = Steps-left is e.left (Deallocates before.state addr) step;
+      result = subst (IsDeallocated before.state after.state) c.get.ensures.value e.result;
+      bounds = e.bounds;
+      frame = frame-left is e.left (chunks-deallocated before.state after.state addr step);
+      touches = e.left.costs.touches;
+    })

@@ -1,0 +1,66 @@
+-- A core after a call.
+use Rattle.std.proofs.Common.{◌≡◌, ℕ, ◌+◌, ◌-◌, arith, drop, map, take, sym, ◌∙◌, ap, subst}
+use Rattle.rlsf_base.proofs.Lending.Present.{out-same, own-same}
+use Rattle.rlsf_base.specs.SizeClass.{IsValid}
+use Rattle.rlsf_base.specs.Space.{Space}
+use Rattle.rlsf_model.specs.State.{State, Used, usable, with_bytes}
+use Rattle.rlsf_table.specs.Counts.{Counts}
+use Rattle.rlsf_table.specs.Table.{Table}
+use Rattle.rlsf_table.proofs.Costs.{Costs-counted, Costs-then}
+use Rattle.rlsf_blocks.specs.Laws.{read_from}
+use Rattle.rlsf_blocks.specs.StandsFor.{contents, StandsFor}
+use Rattle.rlsf_blocks.specs.Spare.{KeepsSpare}
+use Rattle.rlsf_blocks.proofs.RepresentedStates.Counted.{KeepsSpare-counted_first, StandsFor-counted}
+use Rattle.rlsf_tlsf.specs.Cores.{IsCore, LeavesCore}
+use Rattle.rlsf_tlsf.specs.Steps.Moves.{bare}
+use Rattle.rlsf_tlsf.proofs.Arrivals.{arrived, bare-read_from}
+use Rattle.rlsf_tlsf.proofs.Moved.{bare-bare}
+
+-- what is kept of the state is the state without bytes
+pub bare-core : {fllen sllen : ℕ} {m : Space} {x : Table} {s : State} → IsCore fllen sllen m x s → bare (read_from m s) ≡ s
+bare-core {m = m} {s = s} are = bare-read_from m s ∙ are.is_bare
+
+module _ {fllen sllen : ℕ} {n : Space} {x : Table} {t : State} (v : StandsFor fllen sllen (contents n x) t) (reached : State) (e : reached ≡ bare t) where
+  pub IsCore-arrived : IsValid 128 128 fllen sllen → IsCore fllen sllen n x reached
+  IsCore-arrived valid = record {
+    valid = valid;
+    stands = subst (StandsFor fllen sllen (contents n x)) (sym (arrived v reached e)) v;
+    is_bare = ap bare e ∙ bare-bare t ∙ sym e;
+  }
+
+  -- what is true of the state that was reached is true of the one that is read
+  pub reads : (P : State → Type 0) → P t → P (read_from n reached)
+  reads P = subst P (sym (arrived v reached e))
+
+-- memories with the same start and the same bytes have the same state
+pub read_from-same : (m n : Space) (s : State) → n.start ≡ m.start → n.bytes ≡ m.bytes → read_from n s ≡ read_from m s
+read_from-same m n s start bytes = λ i. record {
+  chunks = s.chunks;
+  used = map (λ (u : Used). with_bytes u (take (usable u).len (drop ((usable u).start - start i) (bytes i)))) s.used;
+  free = s.free;
+}
+
+-- ---- before the call, words were read
+
+module _ {m n : Space} {some : ℕ} (counts : Counts m n some) where
+  pub read_from-counted : (s : State) → read_from n s ≡ read_from m s
+  read_from-counted s = read_from-same m n s counts.start counts.bytes
+
+  module _ {fllen sllen : ℕ} where
+    pub IsCore-counted : {x : Table} {s : State} → IsCore fllen sllen m x s → IsCore fllen sllen n x s
+    IsCore-counted {x} {s} are = record {
+      valid = are.valid;
+      stands = subst (StandsFor fllen sllen (contents n x)) (sym (read_from-counted s)) (StandsFor-counted m n counts.start counts.bytes counts.out are.stands);
+      is_bare = are.is_bare;
+    }
+
+    pub LeavesCore-counted_first : {o : Space} {y : Table} {j k : State} {most : ℕ} → LeavesCore fllen sllen n o y j k most → LeavesCore fllen sllen m o y j k (some + most)
+    LeavesCore-counted_first {o} {j = j} {k = k} left = record {
+      core = left.core;
+      spare =
+          KeepsSpare-counted_first m n counts.start counts.bytes counts.out (read_from m j) (read_from o k) o
+          (subst (λ (s : State). KeepsSpare n s o (read_from o k)) (read_from-counted j) left.spare);
+      costs = Costs-then (Costs-counted counts) left.costs;
+      own = λ a inside. left.own a (omega (arith, inside, counts.start)) ∙ own-same m n counts.start counts.out a inside;
+      here = λ a inside is. left.here a (omega (arith, inside, counts.start)) (out-same m n a counts.start counts.out ∙ is);
+    }

@@ -1,0 +1,61 @@
+use Rattle.std.proofs.Common.{◌≡◌, arith, sym, ◌∙◌, ap}
+use Rattle.rlsf_base.specs.Addr.{reply}
+use Rattle.rlsf_base.specs.Space.{range_of}
+use Rattle.rlsf_model.specs.Insert.{Inserts}
+use Rattle.rlsf_model.specs.Run.{insert}
+use Rattle.rlsf_model.proofs.CallerWords.{same_seen}
+use Rattle.rlsf_model.proofs.Callers.{callers_see_map}
+use Rattle.rlsf_model.proofs.SizedWords.{count_inserted, sized_inserted, sized_pool}
+use Rattle.rlsf_model.proofs.Untouched.{untouched_inserted}
+use Rattle.rlsf_table.proofs.Costs.{SamePlace-costs, copied_none}
+use Rattle.rlsf_blocks.specs.Laws.{read_from}
+use Rattle.rlsf_blocks.specs.Spare.{KeepsSpare}
+use Rattle.rlsf_tlsf.specs.Steps.Moves.{bare, inserted}
+use Rattle.rlsf_tlsf.proofs.Moved.{inserted-bare}
+use Rattle.rlsf_tlsf.proofs.Reached.{IsCore-arrived, bare-core, reads}
+use Rattle.rlsf_tlsf.proofs.core_calls.insert_in.Goals as goal
+
+pub insert_chunks-taken-requires : goal.insert_chunks-taken-requires
+insert_chunks-taken-requires g c = (omega arith, (c.requires.core.valid, (_, c.requires.core.stands, c.requires.fresh)))
+
+pub returns : goal.returns
+returns g c =
+    let m = c.args.memory.now in
+    let n = c.insert_chunks-taken.new.memory in
+    let s = read_from m c.args.state.now.state in
+    let k = c.insert.new.self.state in
+    let t = read_from n k in
+    let r = c.args.range in
+    let taken = reply c.insert_chunks-taken.result in
+    let are = c.requires.core in
+    let well = are.stands.well_formed in
+    let e = c.insert_chunks-taken.ensures in
+    let (after, did, stands, spare) = e.step s are.stands c.requires.fresh in
+    let kept : k ≡ bare after = c.insert.ensures ∙ ap (inserted g.row.FLLEN r) (sym (bare-core are)) ∙ inserted-bare g.row.FLLEN s after r taken did in
+    let step : Inserts g.row.FLLEN s r taken t = reads stands k kept (Inserts g.row.FLLEN s r taken) did in
+    let seen = same_seen s t (callers_see_map g.row.FLLEN g.row.SLLEN (range_of m) s t (insert r taken) well c.requires.fresh step) in
+    record {
+      left = record {
+        core = IsCore-arrived stands k kept are.valid;
+        spare = reads stands k kept (KeepsSpare m s n) spare;
+        costs = e.costs;
+        own = e.own;
+        here = e.here;
+      };
+      step = step;
+      result = record {
+        untouched = untouched_inserted g.row.FLLEN s t r taken step;
+        pool = λ count size align len told at32 long idle.
+            sized_pool 128 128 g.row.FLLEN g.row.SLLEN count size align len s t r taken are.valid told at32 long idle step;
+      };
+      bounds = λ count size align sized. sized_inserted well t count size align sized r taken c.requires.fresh step;
+      refused = e.refused;
+      frame = record {
+        aligns = seen.aligns;
+        bytes = seen.bytes;
+        count = count_inserted well t r taken c.requires.fresh step;
+        place = SamePlace-costs e.costs;
+        grow = e.costs.grow;
+        copied = copied_none e.costs;
+      };
+    }

@@ -1,0 +1,71 @@
+-- The core that every allocator over pools has: a memory, a class table, and what is kept of the state. What the calls on a core ensure.
+use Rattle.std.specs.Prelude.{◌≡◌, ◌<◌, ◌*◌, ◌%◌, ℕ, length, is_some, if◌then◌else◌}
+use Rattle.rlsf_base.specs.declared.memory.range.Range.{Range}
+use Rattle.rlsf_base.specs.OpenSpace.{IsOwned, SameOwn, StaysHere}
+use Rattle.rlsf_base.specs.Range.{LiesIn}
+use Rattle.rlsf_base.specs.SizeClass.{IsValid}
+use Rattle.rlsf_base.specs.Sizes.{max_pool_size}
+use Rattle.rlsf_base.specs.Space.{Space}
+use Rattle.rlsf_model.specs.Callers.{bytes_at}
+use Rattle.rlsf_model.specs.Insert.{aligned_part, cut}
+use Rattle.rlsf_model.specs.State.{Holds, State, Used, usable}
+use Rattle.rlsf_table.specs.Counts.{Costs}
+use Rattle.rlsf_table.specs.Table.{Table}
+use Rattle.rlsf_blocks.specs.Laws.{read_from}
+use Rattle.rlsf_blocks.specs.Spare.{KeepsSpare}
+use Rattle.rlsf_blocks.specs.StandsFor.{contents, StandsFor}
+use Rattle.rlsf_tlsf.specs.Results.{IsAllocated}
+use Rattle.rlsf_tlsf.specs.Steps.Moves.{bare}
+
+-- what is true of a core
+pub record IsCore (fllen sllen : ℕ) (m : Space) (t : Table) (s : State) : Type 0 where
+  -- the parameters are valid
+  pub valid : IsValid 128 128 fllen sllen
+  -- memory and table represent the state, with the bytes of payloads that the memory has
+  pub stands : StandsFor fllen sllen (contents m t) (read_from m s)
+  -- what is kept of the state has no bytes of payloads
+  pub is_bare : bare s ≡ s
+
+-- what a call leaves of a core if it accesses so many words at most, and copies no byte
+pub record LeavesCore (fllen sllen : ℕ) (m n : Space) (t : Table) (s after : State) (most : ℕ) : Type 0 where
+  -- it is a core
+  pub core : IsCore fllen sllen n t after
+  -- each byte that no block is made of, before and after, is as it was
+  pub spare : KeepsSpare m (read_from m s) n (read_from n after)
+  -- the memory stays where it is
+  pub costs : Costs m n most 0
+  -- the same bytes are the memory's own
+  pub own : SameOwn m n
+  -- and what is here stays here
+  pub here : StaysHere m n
+
+-- at most so many words are accessed for the chunks of an inserted range
+abbrev pub insert_cost : ℕ → Range → ℕ
+insert_cost fllen r = 13 * length (cut (max_pool_size fllen) (aligned_part r))
+
+-- and so many for an appended one
+abbrev pub append_cost : ℕ → Range → ℕ
+append_cost fllen r = if is_some (max_pool_size fllen) then insert_cost fllen r else 34
+
+-- a used block, which begins at `block`, has the payload at the address, and the payload's bytes are the memory's own
+abbrev pub IsOwnBlock : Space → State → ℕ → ℕ → Type 0
+IsOwnBlock m s addr block = (u : Used) × Holds s addr u × (u.block.start ≡ block) × IsOwned m (usable u)
+
+-- a payload with any alignment is live at the address, and its bytes are the memory's own
+abbrev pub IsOwnPayload : Space → State → ℕ → Type 0
+IsOwnPayload m s addr = (u : Used) × Holds s addr u × IsOwned m (usable u)
+
+-- the range has the bytes of a payload that was allocated for this size and alignment
+pub record IsPlaced (n : Space) (before after : State) (size align : ℕ) (r : Range) : Type 0 where
+  -- it was allocated
+  pub made : IsAllocated before after size align r.start
+  -- these are all its bytes
+  pub long : r.len ≡ length (bytes_at after r.start)
+  -- it isn't at the address 0
+  pub some : 0 < r.start
+  -- its address is a multiple of the alignment
+  pub aligned : r.start % align ≡ 0
+  -- its bytes lie in the memory
+  pub lies : LiesIn r n.start (length n.bytes)
+  -- and are the memory's own
+  pub own : IsOwned n r

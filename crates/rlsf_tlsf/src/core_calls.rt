@@ -1,0 +1,157 @@
+//! The calls on a core: a memory, a class table and the ghost state, which each allocator over pools has.
+
+ghost use Rattle.std.specs.Prelude.{◌≡◌, ◌≤◌, ◌+◌, ◌*◌, length, IfNone, IfSome, IsSome};
+ghost use Rattle.rlsf_base.specs.Addr.{reply};
+ghost use Rattle.rlsf_base.specs.Space.{range_of};
+ghost use Rattle.rlsf_model.specs.Allocate.{Allocates};
+ghost use Rattle.rlsf_model.specs.ChunkRows.{IsRow};
+ghost use Rattle.rlsf_model.specs.Insert.{Appends, Inserts, IsFresh, IsNext};
+ghost use Rattle.rlsf_model.specs.Release.{Deallocates};
+ghost use Rattle.rlsf_model.specs.Remove.{IsIdle, Removes};
+ghost use Rattle.rlsf_blocks.specs.Blocks.{walked};
+ghost use Rattle.rlsf_blocks.specs.Laws.{read_from};
+ghost use Rattle.rlsf_blocks.specs.Steps.Rest.{start_of};
+ghost use Rattle.rlsf_tlsf.specs.Allocator.{allocator};
+ghost use Rattle.rlsf_tlsf.specs.Bounds.{IfWithinBounds, KeepsAllBounds, KeepsBounds};
+ghost use Rattle.rlsf_tlsf.specs.Cores.{IsCore, IsOwnBlock, IsOwnPayload, IsPlaced, LeavesCore, append_cost, insert_cost};
+ghost use Rattle.rlsf_tlsf.specs.Results.{IsAppended, IsDeallocated, IsInserted, IsRemoved, IsUnchanged, KeepsFrameOfPools};
+
+use crate::state::GhostState;
+use rlsf_base::memory::{Layout, OpenMemory, Range};
+use rlsf_blocks::{
+    allocate_range, append_chunks, deallocate_block, insert_chunks, load_block_of, remove_chunks,
+};
+use rlsf_table::ClassTable;
+use std::num::NonZeroUsize;
+
+/// Allocates a payload for `layout`, as `Tlsf::allocate` does. Returns its bytes, which are still the memory's.
+// In line, so that the tests of an alignment that is constant at the call go away.
+#[inline(always)]
+pub fn allocate_in<const FLLEN: usize, const SLLEN: usize>(
+    memory: &mut OpenMemory,
+    table: &mut ClassTable<FLLEN, SLLEN>,
+    state: &mut GhostState,
+    layout: Layout,
+) -> Option<Range>
+    requires { IsCore FLLEN SLLEN memory.old table.old state.old.state }
+    ensures left { LeavesCore FLLEN SLLEN memory.old memory.new table.new state.old.state state.new.state 27 }
+    ensures step { Allocates SLLEN (read_from memory.old state.old.state) layout.size layout.align (start_of result) (read_from memory.new state.new.state) }
+    ensures result { IfSome result (λ r. IsPlaced memory.new (read_from memory.old state.old.state) (read_from memory.new state.new.state) layout.size layout.align r) }
+    ensures room { IfWithinBounds SLLEN (read_from memory.old state.old.state) layout.size layout.align (IsSome result) }
+    ensures bounds { KeepsBounds SLLEN (read_from memory.old state.old.state) (read_from memory.new state.new.state) layout.size layout.align }
+    ensures refused { IfNone result (IsUnchanged (allocator memory.old table.old state.old.state) (allocator memory.new table.new state.new.state)) }
+{
+    let view = memory.view();
+    match allocate_range(memory, view, table, layout) {
+        Some(range) => {
+            state.allocate(SLLEN, layout.size(), layout.align());
+            Some(range)
+        }
+        None => None,
+    }
+}
+
+/// Deallocates the payload at `addr`, whose used block begins at `block`, as `Tlsf::deallocate` does.
+#[inline(always)]
+pub fn deallocate_block_in<const FLLEN: usize, const SLLEN: usize>(
+    memory: &mut OpenMemory,
+    table: &mut ClassTable<FLLEN, SLLEN>,
+    state: &mut GhostState,
+    block: usize,
+    addr: usize,
+)
+    requires core { IsCore FLLEN SLLEN memory.old table.old state.old.state }
+    requires own { IsOwnBlock memory.old (read_from memory.old state.old.state) addr block }
+    ensures left { LeavesCore FLLEN SLLEN memory.old memory.new table.new state.old.state state.new.state 31 }
+    ensures step { Deallocates (read_from memory.old state.old.state) addr (read_from memory.new state.new.state) }
+    ensures result { IsDeallocated (read_from memory.old state.old.state) (read_from memory.new state.new.state) addr }
+    ensures bounds { KeepsAllBounds SLLEN (read_from memory.old state.old.state) (read_from memory.new state.new.state) }
+{
+    let view = memory.view();
+    deallocate_block(memory, view, table, block);
+    state.deallocate(addr);
+}
+
+/// Deallocates the payload at `addr`, as `Tlsf::deallocate_unknown_align` does.
+#[inline(always)]
+pub fn deallocate_in<const FLLEN: usize, const SLLEN: usize>(
+    memory: &mut OpenMemory,
+    table: &mut ClassTable<FLLEN, SLLEN>,
+    state: &mut GhostState,
+    addr: usize,
+)
+    requires core { IsCore FLLEN SLLEN memory.old table.old state.old.state }
+    requires own { IsOwnPayload memory.old (read_from memory.old state.old.state) addr }
+    ensures left { LeavesCore FLLEN SLLEN memory.old memory.new table.new state.old.state state.new.state 33 }
+    ensures step { Deallocates (read_from memory.old state.old.state) addr (read_from memory.new state.new.state) }
+    ensures result { IsDeallocated (read_from memory.old state.old.state) (read_from memory.new state.new.state) addr }
+    ensures bounds { KeepsAllBounds SLLEN (read_from memory.old state.old.state) (read_from memory.new state.new.state) }
+{
+    let block = load_block_of(memory, addr);
+    deallocate_block_in(memory, table, state, block, addr);
+}
+
+/// Inserts a range of the memory as a pool, as `Tlsf::insert_free_block_ptr` does.
+#[inline(always)]
+pub fn insert_in<const FLLEN: usize, const SLLEN: usize>(
+    memory: &mut OpenMemory,
+    table: &mut ClassTable<FLLEN, SLLEN>,
+    state: &mut GhostState,
+    range: Range,
+) -> Option<NonZeroUsize>
+    requires core { IsCore FLLEN SLLEN memory.old table.old state.old.state }
+    requires fresh { IsFresh (range_of memory.old) (read_from memory.old state.old.state) range }
+    ensures left { LeavesCore FLLEN SLLEN memory.old memory.new table.new state.old.state state.new.state (insert_cost FLLEN range) }
+    ensures step { Inserts FLLEN (read_from memory.old state.old.state) range (reply result) (read_from memory.new state.new.state) }
+    ensures result { IsInserted FLLEN SLLEN range (read_from memory.old state.old.state) (read_from memory.new state.new.state) }
+    ensures bounds { KeepsAllBounds SLLEN (read_from memory.old state.old.state) (read_from memory.new state.new.state) }
+    ensures refused { IfNone result (memory.new.bytes ≡ memory.old.bytes) }
+    ensures frame { KeepsFrameOfPools (allocator memory.old table.old state.old.state) (allocator memory.new table.new state.new.state) }
+{
+    let taken = insert_chunks(memory, table, range);
+    state.insert(FLLEN, range.start, range.len);
+    taken
+}
+
+/// Appends a range of the memory that begins at the end of a chunk, as `Tlsf::append_free_block_ptr` does.
+#[inline(always)]
+pub fn append_in<const FLLEN: usize, const SLLEN: usize>(
+    memory: &mut OpenMemory,
+    table: &mut ClassTable<FLLEN, SLLEN>,
+    state: &mut GhostState,
+    range: Range,
+) -> usize
+    requires core { IsCore FLLEN SLLEN memory.old table.old state.old.state }
+    requires next { IsNext (range_of memory.old) (read_from memory.old state.old.state) range }
+    ensures left { LeavesCore FLLEN SLLEN memory.old memory.new table.new state.old.state state.new.state (append_cost FLLEN range) }
+    ensures step { Appends FLLEN (read_from memory.old state.old.state) range result (read_from memory.new state.new.state) }
+    ensures result { IsAppended range (read_from memory.old state.old.state) (read_from memory.new state.new.state) }
+    ensures bounds { KeepsAllBounds SLLEN (read_from memory.old state.old.state) (read_from memory.new state.new.state) }
+    ensures refused { result ≡ 0 → memory.new.bytes ≡ memory.old.bytes }
+    ensures frame { KeepsFrameOfPools (allocator memory.old table.old state.old.state) (allocator memory.new table.new state.new.state) }
+{
+    let taken = append_chunks(memory, table, range);
+    state.append(FLLEN, range.start, range.len);
+    taken
+}
+
+/// Removes an inserted range, as `Tlsf::remove_pool` does.
+#[inline(always)]
+pub fn remove_in<const FLLEN: usize, const SLLEN: usize>(
+    memory: &mut OpenMemory,
+    table: &mut ClassTable<FLLEN, SLLEN>,
+    state: &mut GhostState,
+    range: Range,
+)
+    requires core { IsCore FLLEN SLLEN memory.old table.old state.old.state }
+    requires row { IsRow (read_from memory.old state.old.state) (walked range) }
+    requires idle { IsIdle (read_from memory.old state.old.state) (walked range) }
+    ensures left { LeavesCore FLLEN SLLEN memory.old memory.new table.new state.old.state state.new.state (9 * length (read_from memory.old state.old.state).chunks) }
+    ensures step { Removes (read_from memory.old state.old.state) (walked range) (read_from memory.new state.new.state) }
+    ensures result { IsRemoved (walked range) (read_from memory.old state.old.state) (read_from memory.new state.new.state) }
+    ensures frame { KeepsFrameOfPools (allocator memory.old table.old state.old.state) (allocator memory.new table.new state.new.state) }
+    ensures touches { memory.new.touches + 9 * length (read_from memory.new state.new.state).chunks ≤ memory.old.touches + 9 * length (read_from memory.old state.old.state).chunks }
+{
+    remove_chunks(memory, table, range);
+    state.remove(range.start, range.len);
+}
