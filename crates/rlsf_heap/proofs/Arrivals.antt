@@ -1,29 +1,21 @@
 -- The state after a call is the one that its step leads to. The bytes of payloads are read from the memory.
-use Rattle.std.proofs.Common.{◌≡◌, ℕ, ◌+◌, ◌-◌, ◌≤◌, true, map, List, [], ◌∷◌, length, refl, sym, ◌∙◌, ap, subst, arith}
+use Rattle.std.proofs.Common.{◌≡◌, ℕ, ◌+◌, ◌-◌, ◌≤◌, true, List, [], ◌∷◌, length, sym, ◌∙◌, ap, subst, arith}
 use Rattle.rlsf_base.specs.Ledger.{Entry}
 use Rattle.rlsf_base.specs.Changes.{IsAllOwn}
 use Rattle.rlsf_base.specs.Out.{is_own, kept_at}
 use Rattle.rlsf_base.specs.SizeClass.{IsValid}
 use Rattle.rlsf_base.specs.Space.{Space, range_of}
 use Rattle.rlsf_model.specs.Lists.{IsIn}
-use Rattle.rlsf_model.specs.Release.{released}
 use Rattle.rlsf_model.specs.Sized.{live_count}
-use Rattle.rlsf_model.specs.State.{State, Used, Holds}
+use Rattle.rlsf_model.specs.State.{State, Used}
 use Rattle.rlsf_model.specs.WellFormed.{IsWellFormed}
 use Rattle.rlsf_table.specs.Table.{Table}
-use Rattle.rlsf_blocks.specs.Laws.{read_from, with_bytes_of}
+use Rattle.rlsf_blocks.specs.Laws.{read_from}
 use Rattle.rlsf_blocks.specs.StandsFor.{contents, StandsFor}
-use Rattle.rlsf_tlsf.specs.Steps.Moves.{bare, bare_used, deallocated}
-use Rattle.rlsf_tlsf.proofs.Arrivals.{arrived}
-use Rattle.rlsf_tlsf.proofs.Moved.{bare-bare, deallocated-bare}
+use Rattle.rlsf_tlsf.specs.Steps.Moves.{bare}
+use Rattle.rlsf_tlsf.proofs.Arrivals.{arrived, bare-read_from}
+use Rattle.rlsf_tlsf.proofs.Moved.{bare-bare}
 use Rattle.rlsf_heap.specs.Heap.{AreIssued, HeapView, IsHeap, Stands, Steps, heap_view}
-
-bare-read_from : (m : Space) (s : State) → bare (read_from m s) ≡ bare s
-bare-read_from m s = ap (λ (used : List Used). record { chunks = s.chunks; used = used; free = s.free }) (go s.used)
-  where
-    go : (used : List Used) → map bare_used (map (with_bytes_of m) used) ≡ map bare_used used
-    go [] = refl
-    go (u ∷ us) = ap (λ l. bare_used u ∷ l) (go us)
 
 -- where no payload is live, no block is used
 no_used : (t : State) (u : Used) → live_count t ≡ 0 → IsIn u t.used → ⊥
@@ -38,12 +30,6 @@ module _ {fl_bits sl_bits fllen sllen : ℕ} {m : Space} {x : Table} {s : State}
   -- the ghost state of a heap is its state without bytes
   pub bare-kept : bare (read_from m s) ≡ s
   bare-kept = bare-read_from m s ∙ is.is_bare
-
-  -- after a deallocation, the ghost state is the state without the payload
-  pub kept_without : (addr : ℕ) {payload : ℕ} (u : Used) → Holds (read_from m s) addr u → payload ≡ addr → deallocated payload s ≡ bare (released (read_from m s) u)
-  kept_without addr u holds same =
-      (λ i. deallocated (same i) (sym bare-kept i))
-      ∙ deallocated-bare is.stands.well_formed (released (read_from m s) u) addr (record { block = u; holds = holds; after = refl })
 
   -- the state that contracts see is well-formed
   pub view_well_formed : {ledger : ℕ} (v : HeapView) → heap_view m x s ledger ≡ v → IsWellFormed fllen sllen (range_of v.memory) v.state

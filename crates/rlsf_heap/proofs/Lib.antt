@@ -9,6 +9,7 @@ pub mod Kept
 pub mod Leaving
 pub mod LiveCounts
 pub mod MovedThin
+pub mod OnCores
 pub mod OwnedBytes
 pub mod PayloadsApart
 pub mod PutBack

@@ -1,5 +1,5 @@
 -- The state that is read from a memory whose bytes change, or from which bytes leave or come back.
-use Rattle.std.proofs.Common.{◌≡◌, ℕ, ◌-◌, ◌<◌, ◌≤◌, ◌⊎◌, List, length, map, take, drop, inl, inr, ap, sym, ◌∙◌, slice_index, subst, arith}
+use Rattle.std.proofs.Common.{◌≡◌, ℕ, ◌-◌, ◌<◌, ◌≤◌, ◌⊎◌, List, length, inl, inr, ap, sym, ◌∙◌, slice_index, subst, arith}
 use Rattle.rlsf_base.specs.declared.memory.range.Range.{Range}
 use Rattle.rlsf_base.specs.Out.{out, raw, kept_at}
 use Rattle.rlsf_base.specs.OpenSpace.{out_raw, out_without}
@@ -8,21 +8,13 @@ use Rattle.rlsf_base.specs.Space.{Space, out_at}
 use Rattle.rlsf_base.proofs.Changes.{changed-before, changed-behind}
 use Rattle.rlsf_base.specs.Ledger.{Entry}
 use Rattle.rlsf_model.specs.Lists.{IsIn}
-use Rattle.rlsf_model.specs.State.{State, Used, usable, with_bytes}
+use Rattle.rlsf_model.specs.State.{State, Used, usable}
 use Rattle.rlsf_table.specs.Table.{Table}
-use Rattle.rlsf_blocks.specs.Laws.{read_from}
 use Rattle.rlsf_blocks.specs.StandsFor.{contents, StandsFor, IsUnlent}
 use Rattle.rlsf_blocks.proofs.Payloads.Unlent.{words_read_no_payload}
 use Rattle.rlsf_heap.specs.Heap.{AreIssued}
 use Rattle.rlsf_tlsf.proofs.Arrivals.{read_from-stands}
-
--- memories with the same start and the same bytes have the same state
-read_from-same : (m n : Space) (s : State) → n.start ≡ m.start → n.bytes ≡ m.bytes → read_from n s ≡ read_from m s
-read_from-same m n s start bytes = λ i. record {
-  chunks = s.chunks;
-  used = map (λ (u : Used). with_bytes u (take (usable u).len (drop ((usable u).start - start i) (bytes i)))) s.used;
-  free = s.free;
-}
+use Rattle.rlsf_tlsf.proofs.Reached.{read_from-same}
 
 -- what is out of a memory, once a range has left it
 pub out-left : (m n : Space) (r : Range) (a : ℕ) → n.start ≡ m.start → n.out ≡ out_without m r → m.start ≤ r.start → m.start ≤ a

@@ -1,5 +1,6 @@
 -- Deallocation: the bytes of a payload are back in the memory, and its block is released.
-use Rattle.std.proofs.Common.{◌≡◌, ◌≢◌, ℕ, ◌-◌, ◌<◌, ◌≤◌, ◌⊎◌, false, List, length, set, arith, inl, inr, sym, ap, ◌∙◌}
+use Rattle.std.proofs.Common.{◌≡◌, ◌≢◌, ℕ, ◌-◌, ◌<◌, ◌≤◌, ◌⊎◌, false, List, length, set, arith, inl, inr, sym, ap, subst, ◌∙◌}
+use Rattle.rlsf_base.specs.declared.memory.range.Range.{Range}
 use Rattle.rlsf_base.specs.Ledger.{Entry, entry_of, extent, IsIssued}
 use Rattle.rlsf_base.specs.Out.{raw, is_own, kept_at}
 use Rattle.rlsf_base.specs.OpenSpace.{IsOwned, out_raw}
@@ -7,14 +8,19 @@ use Rattle.rlsf_base.specs.Piece.{Piece, piece_range}
 use Rattle.rlsf_base.specs.Range.{LiesIn, end_of}
 use Rattle.rlsf_base.specs.Space.{Space}
 use Rattle.rlsf_base.proofs.Changes.{changed-there}
-use Rattle.rlsf_model.specs.Release.{released}
+use Rattle.rlsf_model.specs.Release.{Deallocates, released}
 use Rattle.rlsf_model.specs.State.{State, Used, Holds, usable}
-use Rattle.rlsf_model.proofs.Changes.{IsIn-others_from}
+use Rattle.rlsf_model.specs.WellFormed.{IsWellFormed}
+use Rattle.rlsf_model.proofs.CallerWords.{gone_seen}
+use Rattle.rlsf_model.proofs.Changes.{Holds-unique, IsIn-others_from}
 use Rattle.rlsf_model.proofs.Payloads.{IsUsed-after_start}
+use Rattle.rlsf_model.proofs.SizedWords.{count_gone, sized_gone}
 use Rattle.rlsf_table.specs.Table.{Table}
 use Rattle.rlsf_blocks.specs.StandsFor.{contents, StandsFor}
 use Rattle.rlsf_blocks.proofs.Words.Apart.{used_in_memory}
-use Rattle.rlsf_heap.specs.Heap.{AreIssued, IsPayload}
+use Rattle.rlsf_heap.specs.Frame.{KeepsAllBounds}
+use Rattle.rlsf_heap.specs.Heap.{AreIssued, IsPayload, IsTicketOf}
+use Rattle.rlsf_heap.specs.Replies.{IsGone}
 use Rattle.rlsf_heap.proofs.Read.{out-back, stands_same}
 use Rattle.rlsf_heap.proofs.Tickets.{redeemed_other}
 
@@ -60,3 +66,25 @@ module _ {fllen sllen : ℕ} {m : Space} {table : Table} {s : State} {entries : 
     apart = λ i j w x one two at. tickets.apart i j w x (redeemed_other entries k (extent p.start (length p.bytes) align) is i w one).1
         (redeemed_other entries k (extent p.start (length p.bytes) align) is j x two).1 at;
   }
+
+-- ---- what callers see of it
+
+module _ {fllen sllen : ℕ} {memory : Range} {s t : State} {addr : ℕ} (w : IsWellFormed fllen sllen memory s) (did : Deallocates s addr t) where
+  pub is_released : (u : Used) → Holds s addr u → released s u ≡ t
+  is_released u holds = ap (released s) (Holds-unique w addr u did.block holds did.holds) ∙ sym did.after
+
+  pub gone : IsGone s t addr
+  gone =
+      let seen = gone_seen w t addr (did.block, did.holds) did in
+      record { gone = seen.gone; aligns = seen.aligns; count = count_gone w t addr (did.block, did.holds) did }
+
+  pub bounds_gone : KeepsAllBounds sllen s t
+  bounds_gone count most wide sized = sized_gone w t count most wide sized addr (did.block, did.holds) did
+
+-- the ledger without the ticket of a part
+pub redeemed : (es fs : List Entry) (p : Piece) (k align addr len wide : ℕ) → IsTicketOf p align (extent addr len wide)
+    → fs ≡ set es k (entry_of (extent addr len wide) false) → set es k (entry_of (extent p.start (length p.bytes) align) false) ≡ fs
+redeemed es fs p k align addr len wide ticket entries = (λ i. set es k (entry_of (extent (ticket.0 i) (ticket.1 i) (ticket.2 i)) false)) ∙ sym entries
+
+pub issued-as : {s t : State} {es fs : List Entry} → s ≡ t → es ≡ fs → AreIssued s es → AreIssued t fs
+issued-as {t = t} {es = es} same entries is = subst (AreIssued t) entries (subst (λ (x : State). AreIssued x es) same is)

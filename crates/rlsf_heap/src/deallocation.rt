@@ -13,8 +13,8 @@ use crate::heap::Heap;
 use crate::payload::Payload;
 use rlsf_base::memory::Part;
 use rlsf_base::memory::ledger::Ticket;
-use rlsf_blocks::{deallocate_block, load_block_of};
 use rlsf_int::BitPattern;
+use rlsf_tlsf::core_calls::deallocate_in;
 
 impl<FLBitmap: BitPattern, SLBitmap: BitPattern, const FLLEN: usize, const SLLEN: usize> Heap<
     FLBitmap,
@@ -63,10 +63,7 @@ impl<FLBitmap: BitPattern, SLBitmap: BitPattern, const FLLEN: usize, const SLLEN
         let addr = part.start();
         self.ledger.redeem(ticket);
         self.memory.put_back(part);
-        let block = load_block_of(&mut self.memory, addr);
-        let view = self.memory.view();
-        deallocate_block(&mut self.memory, view, &mut self.table, block);
+        deallocate_in(&mut self.memory, &mut self.table, &mut self.state, addr);
         self.live -= 1;
-        self.state.deallocate(addr);
     }
 }

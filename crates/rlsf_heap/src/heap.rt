@@ -19,13 +19,12 @@ ghost use Rattle.rlsf_heap.specs.Settled.{IsSettled};
 ghost use Rattle.rlsf_heap.specs.Frame.{KeepsAllBounds, KeepsBounds, KeepsFrame, KeepsFrameBeside};
 
 use crate::payload::Payload;
-use crate::usable::load_usable_of;
 use rlsf_base::memory::ledger::{Ledger, Ticket};
 use rlsf_base::memory::{Layout, OpenMemory, Part};
-use rlsf_blocks::{allocate_block, deallocate_block, load_block_of};
 use rlsf_int::BitPattern;
 use rlsf_table::ClassTable;
 use rlsf_tlsf::GhostState;
+use rlsf_tlsf::core_calls::{allocate_in, deallocate_in};
 use std::marker::{Model, PhantomData};
 use std::mem::ManuallyDrop;
 
@@ -162,14 +161,15 @@ impl<FLBitmap: BitPattern, SLBitmap: BitPattern, const FLLEN: usize, const SLLEN
         ensures frame { KeepsFrame self.old self.new }
         ensures touches { self.new.memory.touches ≤ self.old.memory.touches + 30 }
     {
-        let view = self.memory.view();
-        let addr = allocate_block(&mut self.memory, view, &mut self.table, layout)?;
-        let align = layout.align();
-        self.live += 1;
-        self.state.allocate(SLLEN, layout.size(), align);
-        let range = load_usable_of(&mut self.memory, view, addr, align);
-        let payload = Payload::hand_over(&mut self.memory, &mut self.ledger, range, align);
-        Some(payload)
+        match allocate_in(&mut self.memory, &mut self.table, &mut self.state, layout) {
+            Some(range) => {
+                let align = layout.align();
+                self.live += 1;
+                let payload = Payload::hand_over(&mut self.memory, &mut self.ledger, range, align);
+                Some(payload)
+            }
+            None => None,
+        }
     }
 
     /// Allocates a payload for `layout`, as `allocate` does, and fills it with zeros: its bytes are here. It is filled after it
@@ -231,11 +231,8 @@ impl<FLBitmap: BitPattern, SLBitmap: BitPattern, const FLLEN: usize, const SLLEN
         let addr = part.start();
         self.ledger.redeem(ticket);
         self.memory.put_room(part);
-        let block = load_block_of(&mut self.memory, addr);
-        let view = self.memory.view();
-        deallocate_block(&mut self.memory, view, &mut self.table, block);
+        deallocate_in(&mut self.memory, &mut self.table, &mut self.state, addr);
         self.live -= 1;
-        self.state.deallocate(addr);
     }
 }
 

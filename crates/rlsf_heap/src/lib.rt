@@ -4,7 +4,7 @@
 //! Read `payload.rt`, `handover.rt` and `heap.rt` first, then `deallocation.rt`, `reallocation.rt`, `pools.rt` and `reading.rt`. `apart.rt`
 //! states the laws of payloads that are out together, and `raw.rt` takes payloads apart. `thin.rt` has `ThinPayload`, a
 //! payload known by its address, with its calls in `thin_calls.rt`, `thin_reallocation.rt` and `thin_unknown_align.rt`. `units.rt` has
-//! the payloads that `rlsf_local_heap` uses. `consistency.rt` reads the words of a pool again. `usable.rt` is a helper.
+//! the payloads that `rlsf_local_heap` uses. `consistency.rt` reads the words of a pool again.
 //! `specs/Heap.antt` defines what contracts see.
 #![tactic(auto)]
 
@@ -23,7 +23,6 @@ mod thin_calls;
 mod thin_reallocation;
 mod thin_unknown_align;
 mod units;
-mod usable;
 
 pub use heap::Heap;
 pub use payload::Payload;

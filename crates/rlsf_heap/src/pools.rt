@@ -14,8 +14,9 @@ ghost use Rattle.rlsf_heap.specs.Frame.{KeepsAllBounds, KeepsPayloads};
 
 use crate::heap::Heap;
 use rlsf_base::memory::Range;
-use rlsf_blocks::{Blocks, append_chunks, insert_chunks, remove_chunks};
+use rlsf_blocks::Blocks;
 use rlsf_int::BitPattern;
+use rlsf_tlsf::core_calls::{append_in, insert_in, remove_in};
 use std::num::NonZeroUsize;
 
 impl<FLBitmap: BitPattern, SLBitmap: BitPattern, const FLLEN: usize, const SLLEN: usize> Heap<
@@ -51,9 +52,7 @@ impl<FLBitmap: BitPattern, SLBitmap: BitPattern, const FLLEN: usize, const SLLEN
         ensures frame { KeepsPayloads self.old self.new }
         ensures touches { self.new.memory.touches ≤ self.old.memory.touches + 13 * length (cut (max_pool_size FLLEN) (aligned_part range)) }
     {
-        let taken = insert_chunks(&mut self.memory, &mut self.table, range);
-        self.state.insert(FLLEN, range.start, range.len);
-        taken
+        insert_in(&mut self.memory, &mut self.table, &mut self.state, range)
     }
 
     /// Inserts a range of the memory as a pool, as `insert_free_block_ptr` does, but does not return the number of bytes
@@ -99,9 +98,7 @@ impl<FLBitmap: BitPattern, SLBitmap: BitPattern, const FLLEN: usize, const SLLEN
         ensures touches { self.new.memory.touches
             ≤ self.old.memory.touches + (if is_some (max_pool_size FLLEN) then 13 * length (cut (max_pool_size FLLEN) (aligned_part range)) else 34) }
     {
-        let taken = append_chunks(&mut self.memory, &mut self.table, range);
-        self.state.append(FLLEN, range.start, range.len);
-        taken
+        append_in(&mut self.memory, &mut self.table, &mut self.state, range)
     }
 
     /// Removes an inserted range: its chunks, and the free blocks in them. The removed part is the range from its start,
@@ -121,8 +118,7 @@ impl<FLBitmap: BitPattern, SLBitmap: BitPattern, const FLLEN: usize, const SLLEN
         ensures frame { KeepsPayloads self.old self.new }
         ensures touches { self.new.memory.touches + 9 * length self.new.state.chunks ≤ self.old.memory.touches + 9 * length self.old.state.chunks }
     {
-        remove_chunks(&mut self.memory, &mut self.table, range);
-        self.state.remove(range.start, range.len);
+        remove_in(&mut self.memory, &mut self.table, &mut self.state, range);
     }
 
     /// Removes an inserted range, as `remove_pool` does, if no block in it is used, and returns whether it did. Otherwise

@@ -12,9 +12,9 @@ use crate::heap::Heap;
 use crate::payload::Payload;
 use rlsf_base::memory::{Layout, UnitPayload, UnitTail};
 use rlsf_base::rounding::next_multiple_of_32;
-use rlsf_blocks::deallocate_block;
 use rlsf_blocks::reallocation::resize_kept_block;
 use rlsf_int::BitPattern;
+use rlsf_tlsf::core_calls::deallocate_block_in;
 
 /// The length of a unit, and its alignment.
 const UNIT: usize = 16;
@@ -101,10 +101,14 @@ impl<FLBitmap: BitPattern, SLBitmap: BitPattern, const FLLEN: usize, const SLLEN
     {
         // The word at 8 bytes past the payload's end names its block.
         let block = self.memory.put_unit_payload(&mut self.ledger, payload, 8) as usize;
-        let view = self.memory.view();
-        deallocate_block(&mut self.memory, view, &mut self.table, block);
+        deallocate_block_in(
+            &mut self.memory,
+            &mut self.table,
+            &mut self.state,
+            block,
+            block + 16,
+        );
         self.live -= 1;
-        self.state.deallocate(block + 16);
     }
 
     /// Gives a payload of units the size of `size` bytes without moving it. It uses the bytes of the payload's block and of a free

@@ -1,60 +1,39 @@
-use Rattle.std.proofs.Common.{Some, ◌≤◌, ◌≡◌, ℕ, ◌+◌, ◌-◌, set, false, length, rules, arith, refl, sym, ap, subst, ◌∙◌}
-use Rattle.rlsf_base.specs.Ledger.{entry_of, extent}
-use Rattle.rlsf_base.specs.OpenSpace.{IsAway, IsOwned}
+use Rattle.std.proofs.Common.{◌≡◌, ◌≤◌, ◌-◌, length, arith, refl, sym, ap, subst, ◌∙◌}
+use Rattle.rlsf_base.specs.Ledger.{extent}
 use Rattle.rlsf_base.specs.Piece.{piece_range}
-use Rattle.rlsf_base.specs.Space.{Space, range_of}
-use Rattle.rlsf_base.proofs.Lending.Present.{own-here, owned-same}
-use Rattle.rlsf_model.specs.Release.{Deallocates, released}
-use Rattle.rlsf_model.specs.Run.{IsSomeLive}
-use Rattle.rlsf_model.specs.Sized.{live_count}
-use Rattle.rlsf_model.specs.State.{State, Used, Holds, usable}
-use Rattle.rlsf_model.specs.WellFormed.{IsWellFormed}
-use Rattle.rlsf_model.specs.Callers.{align_at}
-use Rattle.rlsf_model.proofs.CallerWords.{gone_seen}
+use Rattle.rlsf_base.proofs.Lending.Present.{own-here}
+use Rattle.rlsf_model.specs.Release.{Deallocates}
+use Rattle.rlsf_model.specs.State.{State, Holds, usable}
 use Rattle.rlsf_model.proofs.Chunks.{chunks-deallocated}
-use Rattle.rlsf_model.proofs.SizedWords.{count_gone, sized_gone}
 use Rattle.rlsf_table.proofs.Parameters.{IsValid-widest}
-use Rattle.rlsf_blocks.specs.Steps.LiveBlock.{AtEachBlock}
-use Rattle.rlsf_blocks.specs.Steps.Standing.{StandsAfter}
 use Rattle.rlsf_blocks.specs.Laws.{read_from}
+use Rattle.rlsf_blocks.specs.Spare.{KeepsSpare}
 use Rattle.rlsf_blocks.specs.StandsFor.{contents, StandsFor}
-use Rattle.rlsf_blocks.proofs.RepresentedStates.Counted.{StandsFor-touched}
-use Rattle.rlsf_tlsf.specs.Steps.Moves.{bare}
-use Rattle.rlsf_heap.specs.Heap.{AreIssued, HeapView, Identity, heap_view}
-use Rattle.rlsf_heap.specs.Kept.{KeepsSpareBytes, NoneBecomesRaw}
-use Rattle.rlsf_heap.specs.Settled.{IsSettled}
-use Rattle.rlsf_heap.proofs.Arrivals.{IsHeap-arrived, Steps-arrived, kept_without, stepped, view_well_formed}
-use Rattle.rlsf_heap.proofs.Costs.{Leaves, left_costs, left_same, left_then, left_touched, sees_left}
-use Rattle.rlsf_blocks.proofs.Words.Stays.{Stays, Stays-same, Stays-then}
-use Rattle.rlsf_heap.proofs.Kept.{none_raw-seen, raw-stays, raw-with, spare-first, spare-seen, spare-then}
+use Rattle.rlsf_tlsf.proofs.Arrivals.{read_from-read_from}
+use Rattle.rlsf_heap.specs.Heap.{HeapView, Identity}
+use Rattle.rlsf_heap.specs.Kept.{NoneBecomesRaw}
+use Rattle.rlsf_heap.proofs.Kept.{raw-stays, raw-with, spare-then}
 use Rattle.rlsf_heap.proofs.Leaving.{lies-usable}
+use Rattle.rlsf_heap.proofs.OnCores.{IsHeap-left, Steps-left, heap-over, stays}
 use Rattle.rlsf_heap.proofs.PayloadsApart.{shown_live}
-use Rattle.rlsf_heap.proofs.Reallocating.{IsBackIn, block as filled_block, came, held as held_of, held_before, here, issued_gone, long_in, old_block, released_back}
-use Rattle.rlsf_heap.proofs.Reallocating.{spare_in, stands, state}
-use Rattle.rlsf_heap.proofs.Settled.{settled-back, settled-inside, settled-stays}
+use Rattle.rlsf_heap.proofs.Reallocating.{IsBackIn, block, came, held, held_before, here, issued_gone, long_in, old_block, released_back, spare_in, stands, state}
+use Rattle.rlsf_heap.proofs.Released.{bounds_gone, gone, is_released, issued-as, redeemed}
+use Rattle.rlsf_heap.proofs.Settled.{settled-back, settled-stays}
 use Rattle.rlsf_heap.proofs.heap.Heap.put_written.Given as given
 use Rattle.rlsf_heap.proofs.heap.Heap.put_written.Goals as goal
-use Rattle.rlsf_heap.proofs.heap.Heap.put_written.Goals.{After-put_back, After-deallocate}
-
--- the heap's state as the call begins
-abbrev before : (g : given.Over) (c : After-put_back g) → State
-before g c = read_from c.self.inside.memory c.self.inside.state.state
+use Rattle.rlsf_heap.proofs.heap.Heap.put_written.Goals.{After-put_back, After-deallocate_in}
 
 -- the payload is back in the memory
-back_in : (g : given.Over) (c : After-put_back g) → IsBackIn g.row.FLLEN g.row.SLLEN c.self.inside.memory c.put_back.new.self c.self.inside.table (before g c)
+back_in : (g : given.Over) (c : After-put_back g)
+    → IsBackIn g.row.FLLEN g.row.SLLEN c.self.inside.memory c.put_back.new.self c.self.inside.table (read_from c.self.inside.memory c.self.inside.state.state)
     c.self.inside.ledger.entries c.args.ticket.key c.args.part c.args.ticket.align
-back_in g c = came c.args.part c.self.invariant c.requires.ticket c.redeem.ensures.issued c.put_back.ensures.start c.put_back.ensures.bytes
-    c.put_back.ensures.out
+back_in g c =
+    let e = c.put_back.ensures in
+    came c.args.part c.self.invariant c.requires.ticket c.redeem.ensures.issued e.start e.bytes e.out
 
--- its block, without the bytes that came back
-abbrev block : (g : given.Over) → After-put_back g → Used
-block g c = old_block (back_in g c)
-
-held : (g : given.Over) (c : After-put_back g) → Holds (before g c) c.start-addr.result (block g c)
-held g c = let h = held_before (back_in g c) in (h.0, h.1 ∙ sym c.start-addr.ensures)
-
-held_back : (g : given.Over) (c : After-put_back g) → Holds (state (back_in g c)) c.start-addr.result (filled_block (back_in g c))
-held_back g c = let h = held_of (back_in g c) in (h.0, h.1 ∙ sym c.start-addr.ensures)
+-- the state with its bytes
+same : (g : given.Over) (c : After-put_back g) → state (back_in g c) ≡ read_from c.put_back.new.self c.self.inside.state.state
+same g c = read_from-read_from c.put_back.new.self c.self.inside.memory c.self.inside.state.state
 
 pub redeem-requires : goal.redeem-requires
 redeem-requires g c = ap (λ (h : Identity). h.ledger) c.requires.identity ∙ sym (ap (λ (v : HeapView). v.identity.ledger) c.self.view_is)
@@ -62,188 +41,78 @@ redeem-requires g c = ap (λ (h : Identity). h.ledger) c.requires.identity ∙ s
 pub put_back-requires-clause-home : goal.put_back-requires-clause-home
 put_back-requires-clause-home g c = ap (λ (h : Identity). h.home) c.requires.identity ∙ sym (ap (λ (v : HeapView). v.identity.home) c.self.view_is)
 
-pub load_block_of-block-requires : goal.load_block_of-block-requires
-load_block_of-block-requires g c =
-    let d = (goal.at.load_block_of-block-requires g c).After-put_back in
-    (g.row.FLLEN, g.row.SLLEN, contents c.put_back.new.self c.self.inside.table, state (back_in g d), refl, stands (back_in g d), (filled_block (back_in g d), held_back g d))
+pub deallocate_in-requires : goal.deallocate_in-requires
+deallocate_in-requires g c =
+    let is = c.self.invariant in
+    let d = (goal.at.deallocate_in-requires g c).After-put_back in
+    let q = c.put_back.new.self in
+    let b = back_in g d in
+    let there = subst (λ (s : State). Holds s c.start-addr.result (block b)) (same g d) ((held b).0, (held b).1 ∙ sym c.start-addr.ensures) in
+    (omega arith, (record { valid = IsValid-widest g.FLBitmap.BitPattern.width_limit is.valid; stands = subst (StandsFor g.row.FLLEN g.row.SLLEN (contents q c.self.inside.table)) (same g d) (stands b); is_bare = is.is_bare }, (block b, there, own-here q (usable (block b)) (here b))))
 
--- its bytes are the memory's own again, once more word accesses were counted
-own : (g : given.Over) (d : After-put_back g) (n : Space) → n ≡ record d.put_back.new.self { touches = d.put_back.new.self.touches + 2 }
-    → IsOwned n (usable (filled_block (back_in g d)))
-own g d n touched =
-    owned-same d.put_back.new.self n (usable (filled_block (back_in g d))) (ap (λ (o : Space). o.start) touched) (ap (λ (o : Space). o.out) touched)
-    (own-here d.put_back.new.self (usable (filled_block (back_in g d))) (here (back_in g d)))
-
--- its block is the one that was found
-starts : (g : given.Over) (d : After-put_back g) (start : ℕ) → AtEachBlock d.put_back.new.self d.start-addr.result (λ u. start ≡ u.block.start)
-    → (filled_block (back_in g d)).block.start ≡ start
-starts g d start each = sym (each g.row.FLLEN g.row.SLLEN (contents d.put_back.new.self d.self.inside.table) (state (back_in g d)) (filled_block (back_in g d)) refl
-    (stands (back_in g d)) (held_back g d))
-
-pub deallocate_block-requires : goal.deallocate_block-requires
-deallocate_block-requires g c =
-    let d = (goal.at.deallocate_block-requires g c).After-put_back in
-    let n = c.load_block_of-block.new.memory in
-    let touched = c.load_block_of-block.ensures.memory in
-    let now_stands = StandsFor-touched c.put_back.new.self n 2 touched (stands (back_in g d)) in (
-      omega arith,
-      (
-        IsValid-widest g.FLBitmap.BitPattern.width_limit c.self.invariant.valid,
-        (
-          (
-            state (back_in g d),
-            filled_block (back_in g d),
-            now_stands,
-            (held_back g d).0,
-            starts g d c.load_block_of-block.result c.load_block_of-block.ensures.block,
-            own g d n touched,
-          ),
-          search rules,
-        ),
-      ),
-    )
-
--- one payload less is live
-less : (g : given.Over) (d : After-put_back g) → live_count (before g d) ≡ live_count (released (before g d) (block g d)) + 1
-less g d =
-    count_gone d.self.invariant.stands.well_formed (released (before g d) (block g d)) d.start-addr.result (block g d, held g d)
-    (record { block = block g d; holds = held g d; after = refl })
+-- the payload is gone from the heap's state
+did : (g : given.Over) (c : After-deallocate_in g)
+    → Deallocates (read_from c.self.inside.memory c.self.inside.state.state) c.args.part.start (read_from c.deallocate_in.new.memory c.deallocate_in.new.state.state)
+did g c =
+    let d = (goal.at.overflow_sub-self g c).After-put_back in
+    let b = back_in g d in
+    let t = read_from c.deallocate_in.new.memory c.deallocate_in.new.state.state in
+    let step = subst (λ (s : State). Deallocates s c.args.part.start t) (sym (same g d))
+    (subst (λ a. Deallocates (read_from c.put_back.new.self c.self.inside.state.state) a t) c.start-addr.ensures c.deallocate_in.ensures.step) in
+    record { block = old_block b; holds = held_before b; after = sym (is_released (stands b).well_formed step (block b) (held b)) ∙ released_back b }
 
 pub overflow_sub-self : goal.overflow_sub-self
-overflow_sub-self g c = let d = (goal.at.overflow_sub-self g c).After-put_back in omega (arith, c.self.invariant.counted, less g d)
-
--- the block is released
-abbrev first : (g : given.Over) → After-deallocate g → After-put_back g
-first g c = (goal.at.invariant_of-self g c).After-put_back
-
-abbrev after : (g : given.Over) → After-deallocate g → State
-after g c = released (before g (first g c)) (block g (first g c))
-
-releasing : (g : given.Over) (c : After-deallocate g)
-    → StandsAfter g.row.FLLEN g.row.SLLEN c.load_block_of-block.new.memory c.deallocate_block.new.memory c.deallocate_block.new.table (state (back_in g (first g c))) (after g c)
-releasing g c =
-    let d = first g c in
-    let n = c.load_block_of-block.new.memory in
-    let touched = c.load_block_of-block.ensures.memory in
-    subst (StandsAfter g.row.FLLEN g.row.SLLEN n c.deallocate_block.new.memory c.deallocate_block.new.table (state (back_in g d))) (released_back (back_in g d))
-    (c.deallocate_block.ensures.step (state (back_in g d)) (filled_block (back_in g d)) (StandsFor-touched c.put_back.new.self n 2 touched (stands (back_in g d))) (held_back g d).0
-    (starts g d c.load_block_of-block.result c.load_block_of-block.ensures.block) (own g d n touched))
-
-standing : (g : given.Over) (c : After-deallocate g) → StandsFor g.row.FLLEN g.row.SLLEN (contents c.deallocate_block.new.memory c.deallocate_block.new.table) (after g c)
-standing g c = (releasing g c).0
-
--- the ghost state is the one without the payload
-kept : (g : given.Over) (c : After-deallocate g) → c.deallocate.new.self.state ≡ bare (after g c)
-kept g c = c.deallocate.ensures ∙ kept_without c.self.invariant c.start-addr.result (block g (first g c)) (held g (first g c)) refl
+overflow_sub-self g c =
+    let d = (goal.at.overflow_sub-self g c).After-deallocate_in in
+    omega (arith, c.self.invariant.counted, (gone c.self.invariant.stands.well_formed (did g d)).count)
 
 pub invariant_of-self : goal.invariant_of-self
 invariant_of-self g c =
-    let d = first g c in
+    let is = c.self.invariant in
+    let e = (goal.at.invariant_of-self g c).After-deallocate_in in
+    let b = back_in g (goal.at.invariant_of-self g c).After-put_back in
     let k = c.args.ticket.key in
-    let gone : set c.self.inside.ledger.entries k (entry_of (extent c.args.part.start (length c.args.part.bytes) c.args.ticket.align)
-    false) ≡ c.redeem.new.self.entries =
-    (λ i. set c.self.inside.ledger.entries k
-    (entry_of (extent (c.requires.ticket.0 i) (c.requires.ticket.1 i) (c.requires.ticket.2 i))
-    false)) ∙ sym c.redeem.ensures.entries in
-    IsHeap-arrived (standing g c) c.deallocate.new.self.state (kept g c) c.self.invariant.valid c.redeem.new.self.entries
-    (subst (AreIssued (after g c)) gone (issued_gone (back_in g d)))
-    (c.self.inside.live - 1) (omega (arith, c.self.invariant.counted, less g d))
-
--- the state that contracts see
-abbrev now : (g : given.Over) → After-deallocate g → State
-now g c = read_from c.deallocate_block.new.memory c.deallocate.new.self.state
-
--- the address is the part's
-at : (g : given.Over) (c : After-deallocate g) → c.start-addr.result ≡ c.args.part.start
-at g c = c.start-addr.ensures
-
-did : (g : given.Over) (c : After-deallocate g) → Deallocates c.args.self.now.state c.args.part.start (now g c)
-did g c =
-    let d = first g c in
-    subst (λ addr. Deallocates c.args.self.now.state addr (now g c)) (at g c)
-    (stepped (standing g c) c.deallocate.new.self.state (kept g c) c.self.inside.memory c.self.inside.state.state c.args.self.now c.self.view_is
-    (λ old. Deallocates old c.start-addr.result) (record { block = block g d; holds = held g d; after = refl }))
-
-well : (g : given.Over) (c : After-deallocate g) → IsWellFormed g.row.FLLEN g.row.SLLEN (range_of c.args.self.now.memory) c.args.self.now.state
-well g c = view_well_formed c.self.invariant c.args.self.now c.self.view_is
-
-live : (g : given.Over) (c : After-deallocate g) → IsSomeLive c.args.self.now.state c.args.part.start
-live g c = ((did g c).block, (did g c).holds)
-
-left : (g : given.Over) (c : After-deallocate g) → Leaves c.self.inside.memory c.deallocate_block.new.memory 33
-left g c =
-    let e = c.put_back.ensures in
-    left_then (left_same e.start e.len e.view e.touches)
-    (left_then (left_touched 2 c.load_block_of-block.ensures.memory) (left_costs c.deallocate_block.ensures.costs))
-
--- what is here once the payload is back stays here
-stays : (g : given.Over) (c : After-deallocate g) → Stays c.put_back.new.self c.deallocate_block.new.memory
-stays g c =
-    let touched = c.load_block_of-block.ensures.memory in
-    let last : Stays c.load_block_of-block.new.memory c.deallocate_block.new.memory =
-    record { start = c.deallocate_block.ensures.costs.start; own = c.deallocate_block.ensures.own; here = c.deallocate_block.ensures.here } in
-    Stays-then (Stays-same c.put_back.new.self c.load_block_of-block.new.memory (ap (λ (o : Space). o.start) touched) (ap (λ (o : Space). o.out) touched)) last
-
-low : (g : given.Over) (c : After-deallocate g) → c.self.inside.memory.start ≤ c.args.part.start
-low g c =
-    let b = back_in g (first g c) in
-    omega (arith, (lies-usable (stands b) (filled_block b) (held_of b).0).0, (held_of b).1, c.put_back.ensures.start)
-
-stays_settled : (g : given.Over) (c : After-deallocate g) → IsSettled c.args.self.now.memory → IsSettled c.deallocate_block.new.memory
-stays_settled g c settled =
-    settled-stays (stays g c)
-    (settled-back c.self.inside.memory c.put_back.new.self (piece_range c.args.part) c.put_back.ensures.start (low g c) c.put_back.ensures.out
-    (settled-inside c.self.inside.state.state c.args.self.now c.self.view_is settled))
-
--- so no byte becomes raw
-none_raw : (g : given.Over) (c : After-deallocate g) → NoneBecomesRaw c.args.self.now
-    (heap_view c.deallocate_block.new.memory c.deallocate_block.new.table c.deallocate.new.self.state c.redeem.new.self.name)
-none_raw g c =
-    let m = c.self.inside.memory in
-    let e = c.put_back.ensures in
-    none_raw-seen m c.deallocate_block.new.memory c.self.inside.state.state c.deallocate.new.self.state c.args.self.now c.self.view_is c.deallocate_block.new.table
-    c.redeem.new.self.name
-    (λ a from is. raw-with m c.put_back.new.self (piece_range c.args.part) e.start (low g c) e.out a from (raw-stays (stays g c) a (omega (arith, from, e.start)) is))
-
--- bytes that no block is made of are as they were
-spare : (g : given.Over) (c : After-deallocate g) → KeepsSpareBytes c.args.self.now
-    (heap_view c.deallocate_block.new.memory c.deallocate_block.new.table c.deallocate.new.self.state c.redeem.new.self.name)
-spare g c =
-    let m = c.self.inside.memory in
-    let n = c.deallocate_block.new.memory in
-    let touched = c.load_block_of-block.ensures.memory in
-    let s = before g (first g c) in
-    let b = back_in g (first g c) in
-    spare-seen m n s (after g c) (spare-then m c.put_back.new.self n s (after g c) c.put_back.ensures.start (long_in b) (state b) refl (spare_in b)
-    (spare-first c.put_back.new.self c.load_block_of-block.new.memory n (state b) (after g c) (ap (λ (o : Space). o.start) touched) (ap (λ (o : Space). o.bytes) touched)
-    (releasing g c).1))
-    c.self.inside.state.state c.deallocate.new.self.state refl (sym (ap (λ (s : State). s.chunks) (kept g c))) c.args.self.now c.self.view_is
-    c.deallocate_block.new.table c.redeem.new.self.name
+    IsHeap-left c.deallocate_in.ensures.left is.valid c.redeem.new.self.entries (issued-as (is_released is.stands.well_formed (did g e) (old_block b) (held_before b)) (redeemed _ _ c.args.part k _ _ _ _ c.requires.ticket c.redeem.ensures.entries)
+    (issued_gone b))
+    (c.self.inside.live - 1) (omega (arith, is.counted, (gone is.stands.well_formed (did g e)).count))
 
 pub returns : goal.returns
+unfolding NoneBecomesRaw
 returns g c =
-    let d = first g c in
-    let o = sees_left c.self.inside.memory c.deallocate_block.new.memory c.self.inside.table c.deallocate_block.new.table c.self.inside.state.state
-    c.deallocate.new.self.state c.self.inside.ledger.name c.redeem.new.self.name 33 (left g c) c.redeem.ensures.name c.args.self.now c.self.view_is in
-    let gone = gone_seen (well g c) (now g c) c.args.part.start (live g c) (did g c) in record {
-      step = Steps-arrived (standing g c) c.deallocate.new.self.state (kept g c) c.redeem.new.self.name (Deallocates c.args.self.now.state c.args.part.start) (did g c);
-      owner = subst (λ (v : HeapView). IsAway v.memory (piece_range c.args.part)) c.self.view_is c.put_back.ensures.away;
-      live = subst (λ (v : HeapView). align_at v.state c.args.part.start ≡ Some c.args.ticket.align) c.self.view_is
-          (shown_live c.self.invariant.stands.well_formed (extent c.args.part.start (length c.args.part.bytes) c.args.ticket.align)
-          (c.self.invariant.tickets.issued c.args.ticket.key (extent c.args.part.start (length c.args.part.bytes) c.args.ticket.align) (back_in g d).known));
-      result = record { gone = gone.gone; aligns = gone.aligns; count = count_gone (well g c) (now g c) c.args.part.start (live g c) (did g c) };
-      bounds = λ count size align sized. sized_gone (well g c) (now g c) count size align sized c.args.part.start (live g c) (did g c);
+    let is = c.self.invariant in
+    let d = (goal.at.returns g c).After-put_back in
+    let step = did g (goal.at.returns g c).After-deallocate_in in
+    let m = c.self.inside.memory in
+    let q = c.put_back.new.self in
+    let n = c.deallocate_in.new.memory in
+    let j = c.self.inside.state.state in
+    let k = c.deallocate_in.new.state.state in
+    let s = read_from m j in
+    let t = read_from n k in
+    let e = c.put_back.ensures in
+    let left = c.deallocate_in.ensures.left in
+    let costs = left.costs in
+    let b = back_in g d in
+    let r = piece_range c.args.part in
+    let low : m.start ≤ c.args.part.start = omega (arith, (lies-usable (stands b) (block b) (held b).0).0, (held b).1, e.start) in
+    let shown = extent c.args.part.start (length c.args.part.bytes) c.args.ticket.align in
+    rw (← c.self.view_is) (record {
+      step = Steps-left left c.redeem.new.self.name (Deallocates s c.args.part.start) step;
+      owner = e.away;
+      live = shown_live is.stands.well_formed shown (is.tickets.issued c.args.ticket.key shown b.known);
+      result = gone is.stands.well_formed step;
+      bounds = bounds_gone is.stands.well_formed step;
       frame = record {
-        heap = record { identity = o.identity; place = o.place; spare = spare g c; grow = o.grow };
-        bytes = record { raw = none_raw g c; settled = stays_settled g c };
-        chunks = chunks-deallocated c.args.self.now.state (now g c) c.args.part.start (did g c);
-        copied = omega (
-          arith,
-          ap (λ (v : HeapView). v.memory.copied) c.self.view_is,
-          c.put_back.ensures.copied,
-          ap (λ (m : Space). m.copied) c.load_block_of-block.ensures.memory,
-          c.deallocate_block.ensures.costs.copied,
-        );
+        heap = heap-over m n c.self.inside.table c.deallocate_in.new.table j k (costs.start ∙ e.start) (costs.length ∙ e.len) (costs.view ∙ e.view)
+            (omega (arith, costs.grow, e.touches))
+            (spare-then m q n s t e.start (long_in b) (state b) refl (spare_in b) (subst (λ (x : State). KeepsSpare q x n t) (sym (same g d)) left.spare))
+            c.self.inside.ledger.name c.redeem.new.self.name c.redeem.ensures.name;
+        bytes = record {
+          raw = λ a from is. raw-with m q r e.start low e.out a from (raw-stays (stays left) a (omega (arith, from, e.start)) is);
+          settled = λ settled. settled-stays (stays left) (settled-back m q r e.start low e.out settled);
+        };
+        chunks = chunks-deallocated s t c.args.part.start step;
+        copied = omega (arith, e.copied, costs.copied);
       };
-      touches = o.touches;
-    }
+      touches = omega (arith, e.touches, costs.touches);
+    })

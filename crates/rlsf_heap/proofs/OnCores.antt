@@ -1,0 +1,69 @@
+-- A heap after a call on its core.
+use Rattle.std.proofs.Common.{◌≡◌, ℕ, ◌≤◌, List, length, refl, arith}
+use Rattle.rlsf_base.specs.Ledger.{Entry}
+use Rattle.rlsf_base.specs.OpenSpace.{home_of}
+use Rattle.rlsf_base.specs.SizeClass.{IsValid}
+use Rattle.rlsf_base.specs.Space.{Space}
+use Rattle.rlsf_model.specs.Sized.{live_count}
+use Rattle.rlsf_model.specs.State.{State}
+use Rattle.rlsf_table.specs.Table.{Table}
+use Rattle.rlsf_table.proofs.Parameters.{IsValid-widest}
+use Rattle.rlsf_blocks.specs.Laws.{read_from}
+use Rattle.rlsf_blocks.specs.Spare.{KeepsSpare}
+use Rattle.rlsf_blocks.proofs.Words.Stays.{Stays}
+use Rattle.rlsf_tlsf.specs.Cores.{IsCore, LeavesCore}
+use Rattle.rlsf_heap.specs.Frame.{KeepsBytes, KeepsFrame, KeepsHeap}
+use Rattle.rlsf_heap.specs.Heap.{AreIssued, Identity, IsHeap, Stands, Steps, heap_view}
+use Rattle.rlsf_heap.specs.Kept.{KeepsSpareBytes, NoneBecomesRaw}
+use Rattle.rlsf_heap.proofs.Kept.{raw-stays}
+use Rattle.rlsf_heap.proofs.Settled.{settled-stays}
+
+-- the core of a heap
+pub core_of : {fl_bits sl_bits fllen sllen : ℕ} {m : Space} {x : Table} {j : State} {es : List Entry} {count : ℕ} → IsHeap fl_bits sl_bits fllen sllen m x j es count
+    → fl_bits ≤ 128 → IsCore fllen sllen m x j
+core_of is limit = record { valid = IsValid-widest limit is.valid; stands = is.stands; is_bare = is.is_bare }
+
+-- where the memory stays, it is the same heap
+pub same_identity : (m n : Space) → n.start ≡ m.start → length n.bytes ≡ length m.bytes → n.view ≡ m.view → (ledger name : ℕ) → name ≡ ledger
+    → ◌≡◌ {A = Identity} (record { home = home_of n; ledger = name }) (record { home = home_of m; ledger = ledger })
+same_identity m n start long view ledger name same = λ i. record { home = record { start = start i; len = long i; view = view i }; ledger = same i }
+
+-- a payload left the memory or came back, before the call or after it
+pub heap-over : (m n : Space) (x y : Table) (j k : State) → n.start ≡ m.start → length n.bytes ≡ length m.bytes → n.view ≡ m.view → m.touches ≤ n.touches
+    → KeepsSpare m (read_from m j) n (read_from n k) → (ledger name : ℕ) → name ≡ ledger → KeepsHeap (heap_view m x j ledger) (heap_view n y k name)
+unfolding KeepsSpareBytes
+heap-over m n x y j k start long view grow spare ledger name same = record {
+  identity = same_identity m n start long view ledger name same;
+  place = (start, long);
+  spare = spare;
+  grow = grow;
+}
+
+module _ {fllen sllen : ℕ} {m n : Space} {y : Table} {j k : State} {most : ℕ} (left : LeavesCore fllen sllen m n y j k most) where
+  pub stays : Stays m n
+  stays = record { start = left.costs.start; own = left.own; here = left.here }
+
+  pub IsHeap-left : {fl_bits sl_bits : ℕ} → IsValid fl_bits sl_bits fllen sllen → (fs : List Entry) → AreIssued (read_from n k) fs → (now : ℕ) → now ≡ live_count (read_from n k) → IsHeap fl_bits sl_bits fllen sllen n y k fs now
+  IsHeap-left valid fs tickets now counted = record {
+    valid = valid;
+    stands = left.core.stands;
+    is_bare = left.core.is_bare;
+    tickets = tickets;
+    counted = counted;
+  }
+
+  module _ (ledger : ℕ) where
+    pub Steps-left : (step : State → Type 0) → step (read_from n k) → Steps fllen sllen (heap_view n y k ledger) step
+    unfolding Steps Stands
+    Steps-left step did = (did, left.core.stands)
+
+    module _ (x : Table) where
+      pub heap-left : KeepsHeap (heap_view m x j ledger) (heap_view n y k ledger)
+      heap-left = heap-over m n x y j k left.costs.start left.costs.length left.costs.view left.costs.grow left.spare ledger ledger refl
+
+      pub bytes-left : KeepsBytes (heap_view m x j ledger) (heap_view n y k ledger)
+      unfolding NoneBecomesRaw
+      bytes-left = record { raw = raw-stays stays; settled = settled-stays stays }
+
+      pub frame-left : (read_from n k).chunks ≡ (read_from m j).chunks → KeepsFrame (heap_view m x j ledger) (heap_view n y k ledger)
+      frame-left chunks = record { heap = heap-left; bytes = bytes-left; chunks = chunks; copied = omega (arith, left.costs.copied) }
