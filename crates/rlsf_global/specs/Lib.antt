@@ -1,5 +1,4 @@
 -- The definitions of the calls behind the lock. Read `Locked` first.
-pub mod Calls
 pub mod Growth
 pub mod Hints
 pub mod Kept
@@ -7,6 +6,7 @@ pub mod LiveRows
 pub mod Locked
 pub mod Memory
 pub mod Refusals
+pub mod Results
 pub mod Steps
 pub mod Words
 pub mod Journal

@@ -3,8 +3,7 @@
 ghost use Rattle.std.specs.Prelude.{◌≡◌, ◌≢◌, ◌≤◌, ◌↔◌, ◌+◌, ◌++◌, [], length, IfOk, IsErrOf, OnErr, true};
 ghost use Rattle.rlsf_base.specs.Addr.{at};
 ghost use Rattle.rlsf_base.specs.Space.{range_of};
-ghost use Rattle.rlsf_global.specs.Locked.{flex_of};
-ghost use Rattle.rlsf_global.specs.Memory.{KeepsMemory};
+ghost use Rattle.rlsf_global.specs.Results.{IsLockedUntouched, KeepsBookWriting};
 ghost use Rattle.rlsf_global.specs.Journal.Close.{is_strange, AreComplete, LacksOne, Agree};
 ghost use Rattle.rlsf_global.specs.declared.close.CloseError.TheVariants.{MissingPass, StrangePass, Mismatch};
 ghost use Rattle.rlsf_global.specs.declared.entry.Reply.TheVariants.{JournalMemory};
@@ -129,12 +128,9 @@ impl Book {
         bytes: &[u8],
     ) -> Result<(), GlobalError>
         ensures step { HeapWrites self.old.locked.heap (at addr) offset bytes.now result self.new.locked.heap }
-        ensures journal { self.new.journal ≡ self.old.journal }
-        ensures refused { OnErr result (self.new.locked.memory ≡ self.old.locked.memory) }
-        ensures memory { KeepsMemory (flex_of self.old.locked) (flex_of self.new.locked) }
+        ensures refused { OnErr result (IsLockedUntouched self.old.locked self.new.locked) }
+        ensures frame { KeepsBookWriting self.old self.new }
         ensures touches { self.new.locked.memory.touches ≤ self.old.locked.memory.touches + 3 }
-        ensures grow { self.old.locked.memory.touches ≤ self.new.locked.memory.touches }
-        ensures copied { self.new.locked.memory.copied ≡ self.old.locked.memory.copied }
         ensures stood { BookStands self.old }
         ensures stands { BookStands self.new }
     {

@@ -1,19 +1,17 @@
 //! The value behind the lock: an allocator over pages, and the table of its live addresses.
 
-ghost use Rattle.std.specs.Prelude.{◌≡◌, ◌≢◌, ◌↔◌, ℕ, ◌+◌, ◌≤◌, length, min, nat_le, IfOk, IsErrOf, None, OnErr, OnOk, Some, drop, false, take, true};
+ghost use Rattle.std.specs.Prelude.{◌≡◌, ◌↔◌, ◌+◌, ◌≤◌, length, nat_le, IfOk, IsErrOf, None, OnErr, OnOk, drop, take};
 ghost use Rattle.std.specs.List.{splice};
 ghost use Rattle.rlsf_base.specs.Addr.{at};
 ghost use Rattle.rlsf_base.specs.Layout.{IsLayout};
 ghost use Rattle.rlsf_base.specs.Space.{range_of};
-ghost use Rattle.rlsf_global.specs.Calls.{IsAllocation, IsDeallocation};
-ghost use Rattle.rlsf_global.specs.Kept.{KeepsFirst};
-ghost use Rattle.rlsf_global.specs.Locked.{flex_of};
-ghost use Rattle.rlsf_global.specs.Memory.{CopiesOnResize, IfUnasked, KeepsMemory};
+ghost use Rattle.rlsf_global.specs.Memory.{IfUnasked};
+ghost use Rattle.rlsf_global.specs.Results.{HeapAllocated, HeapDeallocated, HeapMoved, HeapReallocated, HeapResized, HeapWritten};
+ghost use Rattle.rlsf_global.specs.Results.{BoundsResizing, IsLockedUnchanged, IsLockedUntouched};
+ghost use Rattle.rlsf_global.specs.Results.{KeepsLocked, KeepsLockedMoving, KeepsLockedResizing, KeepsLockedWriting};
 ghost use Rattle.rlsf_model.specs.Allocate.{HasRoomFor};
-ghost use Rattle.rlsf_model.specs.Reallocate.{HasRoomToResize};
 ghost use Rattle.rlsf_model_global.specs.declared.error.GlobalError.TheVariants.{UnknownAddress};
-ghost use Rattle.rlsf_model_global.specs.Heap.{HasLayout, beginning, content_at, layout_at};
-ghost use Rattle.rlsf_model_global.specs.Left.{in_both};
+ghost use Rattle.rlsf_model_global.specs.Heap.{beginning, content_at, layout_at};
 ghost use Rattle.rlsf_model_global.specs.Moves.{HeapReallocates, HeapReallocatesAs, HeapReallocatesThere};
 ghost use Rattle.rlsf_model_global.specs.Rows.{IsSorted};
 ghost use Rattle.rlsf_model_global.specs.Steps.{HeapAllocates, HeapDeallocates, HeapDeallocatesAs, HeapReads, HeapUsable, HeapWrites};
@@ -83,13 +81,11 @@ impl<Options: GlobalTlsfOptions> Locked<Options> {
     /// - else `NoRoom` exactly if there is no room and no memory came.
     pub fn allocate(&mut self, layout: Layout) -> Result<Addr, GlobalError>
         ensures step { HeapAllocates self.old.heap layout result self.new.heap }
-        ensures refused { OnErr result (self.new.memory.bytes ≡ self.old.memory.bytes) }
-        ensures allocation { IsAllocation self.old.heap self.new.heap layout result }
-        ensures touches { HasRoomFor 64 self.old.heap.flex.machine layout.size layout.align → self.new.memory.touches ≤ self.old.memory.touches + 27 }
-        ensures grow { self.old.memory.touches ≤ self.new.memory.touches }
+        ensures result { IfOk result (λ addr. HeapAllocated self.old.heap self.new.heap layout (at addr)) }
+        ensures refused { OnErr result (IsLockedUnchanged self.old self.new) }
         ensures unasked { IfUnasked result (self.new.memory ≡ self.old.memory) }
-        ensures memory { KeepsMemory (flex_of self.old) (flex_of self.new) }
-        ensures copied { self.new.memory.copied ≡ self.old.memory.copied }
+        ensures frame { KeepsLocked self.old self.new }
+        ensures touches { HasRoomFor 64 self.old.heap.flex.machine layout.size layout.align → self.new.memory.touches ≤ self.old.memory.touches + 27 }
     {
         if self.rows.reserve().is_err() {
             return Err(GlobalError::TableMemory);
@@ -109,13 +105,11 @@ impl<Options: GlobalTlsfOptions> Locked<Options> {
     /// - else `NoRoom` exactly if there is no room and no memory came.
     pub fn alloc(&mut self, layout: Layout) -> Result<Addr, GlobalError>
         ensures step { HeapAllocates self.old.heap layout result self.new.heap }
-        ensures refused { OnErr result (self.new.memory.bytes ≡ self.old.memory.bytes) }
-        ensures allocation { IsAllocation self.old.heap self.new.heap layout result }
-        ensures touches { HasRoomFor 64 self.old.heap.flex.machine layout.size layout.align → self.new.memory.touches ≤ self.old.memory.touches + 27 }
-        ensures grow { self.old.memory.touches ≤ self.new.memory.touches }
+        ensures result { IfOk result (λ addr. HeapAllocated self.old.heap self.new.heap layout (at addr)) }
+        ensures refused { OnErr result (IsLockedUnchanged self.old self.new) }
         ensures unasked { IfUnasked result (self.new.memory ≡ self.old.memory) }
-        ensures memory { KeepsMemory (flex_of self.old) (flex_of self.new) }
-        ensures copied { self.new.memory.copied ≡ self.old.memory.copied }
+        ensures frame { KeepsLocked self.old self.new }
+        ensures touches { HasRoomFor 64 self.old.heap.flex.machine layout.size layout.align → self.new.memory.touches ≤ self.old.memory.touches + 27 }
     {
         self.allocate(layout)
     }
@@ -125,12 +119,11 @@ impl<Options: GlobalTlsfOptions> Locked<Options> {
     /// An address that was deallocated and allocated again is live, so a call with it can't be refused.
     pub fn deallocate(&mut self, addr: Addr) -> Result<(), GlobalError>
         ensures step { HeapDeallocates self.old.heap (at addr) result self.new.heap }
-        ensures refused { OnErr result (self.new.memory ≡ self.old.memory) }
-        ensures deallocation { IsDeallocation self.old.heap self.new.heap (at addr) result }
+        ensures result { OnOk result (HeapDeallocated self.old.heap self.new.heap (at addr)) }
+        ensures unknown { IsErrOf result UnknownAddress ↔ (layout_at self.old.heap (at addr) ≡ None) }
+        ensures refused { OnErr result (IsLockedUntouched self.old self.new) }
+        ensures frame { KeepsLocked self.old self.new }
         ensures touches { self.new.memory.touches ≤ self.old.memory.touches + 32 }
-        ensures grow { self.old.memory.touches ≤ self.new.memory.touches }
-        ensures memory { KeepsMemory (flex_of self.old) (flex_of self.new) }
-        ensures copied { self.new.memory.copied ≡ self.old.memory.copied }
     {
         let Some(gone) = self.rows.remove(addr) else {
             // Only a live address has an entry, so nothing is deallocated twice.
@@ -150,12 +143,11 @@ impl<Options: GlobalTlsfOptions> Locked<Options> {
     /// An address that was deallocated and allocated again with the same layout is live, so a call with it can't be refused.
     pub fn dealloc(&mut self, addr: Addr, layout: Layout) -> Result<(), GlobalError>
         ensures step { HeapDeallocatesAs self.old.heap (at addr) layout result self.new.heap }
-        ensures refused { OnErr result (self.new.memory ≡ self.old.memory) }
-        ensures deallocation { IsDeallocation self.old.heap self.new.heap (at addr) result }
+        ensures result { OnOk result (HeapDeallocated self.old.heap self.new.heap (at addr)) }
+        ensures unknown { IsErrOf result UnknownAddress ↔ (layout_at self.old.heap (at addr) ≡ None) }
+        ensures refused { OnErr result (IsLockedUntouched self.old self.new) }
+        ensures frame { KeepsLocked self.old self.new }
         ensures touches { self.new.memory.touches ≤ self.old.memory.touches + 32 }
-        ensures grow { self.old.memory.touches ≤ self.new.memory.touches }
-        ensures memory { KeepsMemory (flex_of self.old) (flex_of self.new) }
-        ensures copied { self.new.memory.copied ≡ self.old.memory.copied }
     {
         let Some(row) = self.rows.remove_as(addr, layout) else {
             // Refused before the layout is compared: an address without an entry has none.
@@ -191,25 +183,12 @@ impl<Options: GlobalTlsfOptions> Locked<Options> {
     ) -> Result<Addr, GlobalError>
         requires { IsLayout new_size layout.align }
         ensures step { HeapReallocatesAs Options.ENABLE_REALLOCATION self.old.heap (at addr) layout new_size result self.new.heap }
-        ensures refused { OnErr result (self.new.memory.bytes ≡ self.old.memory.bytes) }
+        ensures result { IfOk result (λ to. HeapReallocated Options.ENABLE_REALLOCATION self.old.heap self.new.heap (at addr) layout new_size (at to)) }
         ensures unknown { IsErrOf result UnknownAddress ↔ (layout_at self.old.heap (at addr) ≡ None) }
-        ensures live { IfOk result (λ to. HasLayout self.new.heap (at to) new_size layout.align) }
-        ensures new { IfOk result (λ to. at to ≢ at addr → layout_at self.old.heap (at to) ≡ None) }
-        ensures left { IfOk result (λ to. at to ≢ at addr → layout_at self.new.heap (at addr) ≡ None) }
-        ensures kept { IfOk result (λ to. KeepsFirst (min layout.size new_size) self.old.heap (at addr) self.new.heap (at to)) }
-        ensures kept_usable { Options.ENABLE_REALLOCATION ≡ true
-            → IfOk result (λ to. KeepsFirst (in_both self.old.heap self.new.heap (at addr) (at to)) self.old.heap (at addr) self.new.heap (at to)) }
-        ensures layouts { IfOk result (λ to. (a : ℕ) → a ≢ at addr → a ≢ at to → layout_at self.new.heap a ≡ layout_at self.old.heap a) }
-        ensures contents { IfOk result (λ to. (a : ℕ) → a ≢ at addr → a ≢ at to → content_at self.new.heap a ≡ content_at self.old.heap a) }
-        ensures same { OnErr result (self.new.heap ≡ self.old.heap) }
-        ensures touches { Options.ENABLE_REALLOCATION ≡ true → HasRoomToResize 64 self.old.heap.flex.machine (at addr) new_size
-            → self.new.memory.touches ≤ self.old.memory.touches + 66 }
-        ensures touches_elsewhere { Options.ENABLE_REALLOCATION ≡ false → HasRoomFor 64 self.old.heap.flex.machine new_size layout.align
-            → self.new.memory.touches ≤ self.old.memory.touches + 59 }
-        ensures grow { self.old.memory.touches ≤ self.new.memory.touches }
+        ensures refused { OnErr result (IsLockedUnchanged self.old self.new) }
         ensures unasked { IfUnasked result (self.new.memory ≡ self.old.memory) }
-        ensures memory { KeepsMemory (flex_of self.old) (flex_of self.new) }
-        ensures copied { CopiesOnResize Options.ENABLE_REALLOCATION self.old.heap.flex.machine (at addr) layout.size new_size self.old.memory self.new.memory }
+        ensures frame { KeepsLockedResizing Options.ENABLE_REALLOCATION (at addr) layout.size new_size self.old self.new }
+        ensures touches { BoundsResizing Options.ENABLE_REALLOCATION (at addr) new_size layout.align self.old self.new }
     {
         let Some(row) = self.rows.get(addr, &mut Looks::new()) else {
             return Err(GlobalError::UnknownAddress);
@@ -236,21 +215,12 @@ impl<Options: GlobalTlsfOptions> Locked<Options> {
     /// The table needs no memory.
     pub fn reallocate(&mut self, addr: Addr, layout: Layout) -> Result<Addr, GlobalError>
         ensures step { HeapReallocates self.old.heap (at addr) layout result self.new.heap }
-        ensures refused { OnErr result (self.new.memory.bytes ≡ self.old.memory.bytes) }
+        ensures result { IfOk result (λ to. HeapMoved self.old.heap self.new.heap (at addr) layout (at to)) }
         ensures unknown { IsErrOf result UnknownAddress ↔ (layout_at self.old.heap (at addr) ≡ None) }
-        ensures live { IfOk result (λ to. layout_at self.new.heap (at to) ≡ Some layout) }
-        ensures new { IfOk result (λ to. at to ≢ at addr → layout_at self.old.heap (at to) ≡ None) }
-        ensures left { IfOk result (λ to. at to ≢ at addr → layout_at self.new.heap (at addr) ≡ None) }
-        ensures kept { IfOk result (λ to. KeepsFirst (min layout.size (length (content_at self.old.heap (at addr)))) self.old.heap (at addr) self.new.heap (at to)) }
-        ensures layouts { IfOk result (λ to. (a : ℕ) → a ≢ at addr → a ≢ at to → layout_at self.new.heap a ≡ layout_at self.old.heap a) }
-        ensures contents { IfOk result (λ to. (a : ℕ) → a ≢ at addr → a ≢ at to → content_at self.new.heap a ≡ content_at self.old.heap a) }
-        ensures same { OnErr result (self.new.heap ≡ self.old.heap) }
-        ensures touches { HasRoomFor 64 self.old.heap.flex.machine layout.size layout.align → self.new.memory.touches ≤ self.old.memory.touches + 59 }
-        ensures grow { self.old.memory.touches ≤ self.new.memory.touches }
+        ensures refused { OnErr result (IsLockedUnchanged self.old self.new) }
         ensures unasked { IfUnasked result (self.new.memory ≡ self.old.memory) }
-        ensures memory { KeepsMemory (flex_of self.old) (flex_of self.new) }
-        ensures copied { OnOk result (self.new.memory.copied ≡ self.old.memory.copied + min layout.size (length (content_at self.old.heap (at addr)))) }
-        ensures copied_none { OnErr result (self.new.memory.copied ≡ self.old.memory.copied) }
+        ensures frame { KeepsLockedMoving (at addr) layout.size result self.old self.new }
+        ensures touches { HasRoomFor 64 self.old.heap.flex.machine layout.size layout.align → self.new.memory.touches ≤ self.old.memory.touches + 59 }
     {
         let Some(row) = self.rows.get(addr, &mut Looks::new()) else {
             return Err(GlobalError::UnknownAddress);
@@ -282,19 +252,12 @@ impl<Options: GlobalTlsfOptions> Locked<Options> {
     ) -> Result<Addr, GlobalError>
         requires { IsLayout new_size layout.align }
         ensures step { HeapReallocatesThere self.old.heap (at addr) layout new_size result self.new.heap }
-        ensures refused { OnErr result (self.new.memory.bytes ≡ self.old.memory.bytes) }
+        ensures result { IfOk result (λ to. HeapResized self.old.heap self.new.heap (at addr) layout new_size (at to)) }
         ensures unknown { IsErrOf result UnknownAddress ↔ (layout_at self.old.heap (at addr) ≡ None) }
-        ensures there { IfOk result (λ to. at to ≡ at addr) }
-        ensures live { IfOk result (λ to. HasLayout self.new.heap (at addr) new_size layout.align) }
-        ensures kept { IfOk result (λ to. KeepsFirst (in_both self.old.heap self.new.heap (at addr) (at to)) self.old.heap (at addr) self.new.heap (at to)) }
-        ensures layouts { IfOk result (λ to. (a : ℕ) → a ≢ at addr → layout_at self.new.heap a ≡ layout_at self.old.heap a) }
-        ensures contents { IfOk result (λ to. (a : ℕ) → a ≢ at addr → content_at self.new.heap a ≡ content_at self.old.heap a) }
-        ensures same { OnErr result (self.new.heap ≡ self.old.heap) }
-        ensures touches { self.new.memory.touches ≤ self.old.memory.touches + 25 }
-        ensures grow { self.old.memory.touches ≤ self.new.memory.touches }
+        ensures refused { OnErr result (IsLockedUnchanged self.old self.new) }
         ensures unasked { IfUnasked result (self.new.memory ≡ self.old.memory) }
-        ensures memory { KeepsMemory (flex_of self.old) (flex_of self.new) }
-        ensures copied { self.new.memory.copied ≡ self.old.memory.copied }
+        ensures frame { KeepsLocked self.old self.new }
+        ensures touches { self.new.memory.touches ≤ self.old.memory.touches + 25 }
     {
         let Some(row) = self.rows.get(addr, &mut Looks::new()) else {
             return Err(GlobalError::UnknownAddress);
@@ -361,17 +324,11 @@ impl<Options: GlobalTlsfOptions> Locked<Options> {
         bytes: &[u8],
     ) -> Result<(), GlobalError>
         ensures step { HeapWrites self.old.heap (at addr) offset bytes.now result self.new.heap }
-        ensures refused { OnErr result (self.new.memory ≡ self.old.memory) }
+        ensures result { OnOk result (HeapWritten self.old.heap self.new.heap (at addr) offset bytes.now) }
         ensures unknown { IsErrOf result UnknownAddress ↔ (layout_at self.old.heap (at addr) ≡ None) }
-        ensures written { OnOk result (content_at self.new.heap (at addr)
-            ≡ splice (content_at self.old.heap (at addr)) offset (offset + length bytes.now) bytes.now) }
-        ensures layouts { layout_at self.new.heap ≡ layout_at self.old.heap }
-        ensures contents { OnOk result ((a : ℕ) → a ≢ at addr → content_at self.new.heap a ≡ content_at self.old.heap a) }
-        ensures same { OnErr result (self.new.heap ≡ self.old.heap) }
+        ensures refused { OnErr result (IsLockedUntouched self.old self.new) }
+        ensures frame { KeepsLockedWriting self.old self.new }
         ensures touches { self.new.memory.touches ≤ self.old.memory.touches + 3 }
-        ensures grow { self.old.memory.touches ≤ self.new.memory.touches }
-        ensures memory { KeepsMemory (flex_of self.old) (flex_of self.new) }
-        ensures copied { self.new.memory.copied ≡ self.old.memory.copied }
     {
         let Some(_row) = self.rows.get(addr, &mut Looks::new()) else {
             return Err(GlobalError::UnknownAddress);

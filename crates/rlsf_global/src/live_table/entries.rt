@@ -1,8 +1,8 @@
 //! Entries in any order, and hints of where they are.
 
-ghost use Rattle.std.specs.Prelude.{◌≡◌, ◌<◌, ◌≤◌, ◌+◌, ◌/◌, ◌^◌, ◌++◌, ◌∷◌, ℕ, [], IfNone, IfSome, None, Some, false, length, swap_remove, true};
+ghost use Rattle.std.specs.Prelude.{◌≡◌, ◌<◌, ◌≤◌, ◌+◌, ◌/◌, ◌++◌, ◌∷◌, ℕ, [], IfNone, IfSome, None, Some, false, length, swap_remove, true};
 ghost use Rattle.rlsf_base.specs.Addr.{at};
-ghost use Rattle.rlsf_global.specs.Hints.{Counts, HasLeafFor, HasSamePages, HaveSameCounts, KeepsOtherHints, leaf_at};
+ghost use Rattle.rlsf_global.specs.Hints.{CountsOneMore, HasLeafFor, HasSamePages, HaveSameCounts, KeepsOtherHints};
 ghost use Rattle.rlsf_global.specs.LiveRows.{AreApart, AreCounted, AreHinted, HasNoneAt, IsHinted, IsRowAt, IsWhere, place, spot};
 ghost use Rattle.rlsf_model_global.specs.Rows.{Row, key, row_at};
 
@@ -113,8 +113,7 @@ fn enter(hints: &mut Hints, base: usize, addr: Addr, index: usize) -> bool
     ensures set { result ≡ true → IsHinted base (at addr) hints.new.leaves index }
     ensures kept { KeepsOtherHints hints.old.leaves (place base (at addr)) hints.new.leaves }
     ensures few { result ≡ true → index < 4294967296 }
-    ensures counts { result ≡ true → (leaf_at hints.old.leaves (place base (at addr) / 512)).used + 1 < 2 ^ 64
-        → Counts hints.old.leaves (place base (at addr) / 512) ((leaf_at hints.old.leaves (place base (at addr) / 512)).used + 1) hints.new.leaves }
+    ensures counts { result ≡ true → CountsOneMore hints.old.leaves (place base (at addr) / 512) hints.new.leaves }
     ensures ready { base ≤ spot (at addr) → HasLeafFor hints.old (place base (at addr)) → index < 4294967296 → result ≡ true }
     ensures pages { HasSamePages hints.old hints.new }
 {

@@ -2,7 +2,8 @@
 
 ghost use Rattle.std.specs.Prelude.{◌≡◌, ◌<◌, ◌≤◌, ◌+◌, ◌-◌, ◌/◌, ◌^◌, ℕ, [], Some, length, slice_get, true};
 ghost use Rattle.std.specs.Vec.{vec_len};
-ghost use Rattle.rlsf_global.specs.Hints.{Counts, HasAll, HasLeafFor, HasSamePages, HaveNone, HaveSameCounts, HaveSameLeaves, KeepsOtherHints, KeepsOthers, KeepsUsedHints, hint_at, leaf_at};
+ghost use Rattle.rlsf_global.specs.Hints.{Counts, CountsOneMore, HasAll, HasLeafFor, HasSamePages, HaveNone, HaveSameCounts, HaveSameLeaves};
+ghost use Rattle.rlsf_global.specs.Hints.{KeepsOtherHints, KeepsOthers, KeepsUsedHints, hint_at, leaf_at};
 
 use crate::live_table::leaves::{Leaf, PLACES};
 use std::alloc::Global;
@@ -91,8 +92,7 @@ impl Hints {
     pub(crate) fn add(&mut self, place: usize, number: u32) -> bool
         ensures set { result ≡ true → hint_at self.new.leaves place ≡ Some number }
         ensures kept { KeepsOtherHints self.old.leaves place self.new.leaves }
-        ensures counts { result ≡ true → (leaf_at self.old.leaves (place / 512)).used + 1 < 2 ^ 64
-            → Counts self.old.leaves (place / 512) ((leaf_at self.old.leaves (place / 512)).used + 1) self.new.leaves }
+        ensures counts { result ≡ true → CountsOneMore self.old.leaves (place / 512) self.new.leaves }
         ensures ready { HasLeafFor self.old place → result ≡ true }
         ensures pages { HasSamePages self.old self.new }
     {

@@ -10,20 +10,11 @@ use Rattle.rlsf_global.proofs.locked.Locked.allocate.Goals as goal
 pub returns-then-is_err : goal.returns-then-is_err
 returns-then-is_err g c = rw (← c.self.view_is) (record {
   step = rw c.reserve.ensures.rows refl;
-  refused = search rules;
-  allocation = record {
-    live = tt;
-    sized = tt;
-    new = tt;
-    layouts = tt;
-    contents = tt;
-    same = search rules;
-  };
-  touches = search rules;
-  grow = search rules;
+  result = tt;
+  refused = record { same = rw c.reserve.ensures.rows refl; bytes = refl };
   unasked = refl;
-  memory = KeepsMemory-refl c.self.inside.flex;
-  copied = refl;
+  frame = record { memory = KeepsMemory-refl c.self.inside.flex; grow = search rules; copied = refl };
+  touches = search rules;
 })
 
 pub invariant_of-self-in_default : goal.invariant_of-self-in_default
@@ -55,22 +46,20 @@ returns-in_default g c = rw (← c.self.view_is) (record {
   step =
       rw c.reserve.ensures.rows
       (not_allocated c.self.inside.flex c.self.inside.rows.rows c.self.invariant c.allocate.new.self c.args.layout c.in_default.ensures.step c.in_default.ensures.refused.same);
-  refused = search rules;
-  allocation = record {
-    live = tt;
-    sized = tt;
-    new = tt;
-    layouts = tt;
-    contents = tt;
+  result = tt;
+  refused = record {
     same =
         rw c.reserve.ensures.rows
         (heap_stays c.self.inside.flex c.self.inside.rows.rows c.self.invariant c.allocate.new.self c.args.layout c.in_default.ensures.step c.in_default.ensures.refused.same);
+    bytes = c.in_default.ensures.refused.bytes;
+  };
+  unasked = tt;
+  frame = record {
+    memory = kept_allocated c.self.inside.flex c.allocate.new.self c.args.layout.size c.args.layout.align None c.in_default.ensures.step;
+    grow = c.in_default.ensures.frame.grow;
+    copied = c.in_default.ensures.frame.copied;
   };
   touches = c.in_default.ensures.touches;
-  grow = c.in_default.ensures.frame.grow;
-  unasked = tt;
-  memory = kept_allocated c.self.inside.flex c.allocate.new.self c.args.layout.size c.args.layout.align None c.in_default.ensures.step;
-  copied = c.in_default.ensures.frame.copied;
 })
 
 pub returns : goal.returns
@@ -79,8 +68,7 @@ returns g c = rw (← c.self.view_is) (record {
       let rows = rw c.reserve.ensures.rows at c.put.ensures.rows in
       (allocated c.self.inside.flex c.self.inside.rows.rows c.self.invariant c.allocate.new.self c.args.layout c.in-Some.addr c.in-Some.ensures.step _
       rows);
-  refused = tt;
-  allocation = record {
+  result = record {
     live =
         let rows = rw c.reserve.ensures.rows at c.put.ensures.rows in
         let before = heap_of c.self.inside.flex c.self.inside.rows.rows in
@@ -98,11 +86,13 @@ returns g c = rw (← c.self.view_is) (record {
         let before = heap_of c.self.inside.flex c.self.inside.rows.rows in
         let after = heap_of c.allocate.new.self c.put.new.self.rows in
         λ a off. content_at-bytes before after a a (c.in-Some.ensures.result.bytes a off));
-    same = tt;
+  };
+  refused = tt;
+  unasked = tt;
+  frame = record {
+    memory = kept_allocated c.self.inside.flex c.allocate.new.self c.args.layout.size c.args.layout.align (Some (at c.in-Some.addr)) c.in-Some.ensures.step;
+    grow = c.in-Some.ensures.frame.grow;
+    copied = c.in-Some.ensures.frame.copied;
   };
   touches = c.in-Some.ensures.touches;
-  grow = c.in-Some.ensures.frame.grow;
-  unasked = tt;
-  memory = kept_allocated c.self.inside.flex c.allocate.new.self c.args.layout.size c.args.layout.align (Some (at c.in-Some.addr)) c.in-Some.ensures.step;
-  copied = c.in-Some.ensures.frame.copied;
 })

@@ -1,5 +1,5 @@
 use Rattle.rlsf_global.proofs.KeptMemories.{KeepsMemory-refl, kept_alone}
-use Rattle.rlsf_global.proofs.Deallocations.{IsDeallocation-done, IsDeallocation-refused}
+use Rattle.rlsf_global.proofs.Deallocations.{deallocated}
 use Rattle.std.proofs.Common.{◌≡◌, Some, Ok, Err, lit<, ap, ◌∙◌, subst, sym, refl, arith}
 use Rattle.rlsf_base.specs.Addr.{at}
 use Rattle.rlsf_global.specs.Locked.{heap_of}
@@ -42,15 +42,13 @@ returns-in_default g c = rw (c.in_default.ensures.unchanged, ← c.self.view_is)
       let h = heap_of c.self.inside.flex c.self.inside.rows.rows in
       let absent = sym c.in_default.ensures.row in
       subst (λ o. DeallocatesAsAt h (at c.args.addr) c.args.layout o (Err UnknownAddress) h) (sym absent) (refl, refl));
-  refused = refl;
-  deallocation = (
+  result = tt;
+  unknown = (
       let absent = sym c.in_default.ensures.row in
-      let none = unknown c.self.inside.flex c.self.inside.rows.rows (at c.args.addr) absent in
-      IsDeallocation-refused (heap_of c.self.inside.flex c.self.inside.rows.rows) (at c.args.addr) UnknownAddress none);
+      unknown c.self.inside.flex c.self.inside.rows.rows (at c.args.addr) absent);
+  refused = record { same = refl; memory = refl };
+  frame = record { memory = KeepsMemory-refl c.self.inside.flex; grow = omega arith; copied = refl };
   touches = omega arith;
-  grow = omega arith;
-  memory = KeepsMemory-refl c.self.inside.flex;
-  copied = refl;
 })
 
 pub returns-then-ne : goal.returns-then-ne
@@ -59,15 +57,13 @@ returns-then-ne g c = rw (stays g c, ← c.self.view_is) (record {
       let found = sym c.in-Some.ensures.row in
       deallocates_out (heap_of c.self.inside.flex c.self.inside.rows.rows) (at c.args.addr) c.args.layout
       c.in-Some.row (not-true _ c.if-ne.ensures) found);
-  refused = refl;
-  deallocation = (
+  result = tt;
+  unknown = (
       let found = sym c.in-Some.ensures.row in
-      let unknown = known c.self.inside.flex c.self.inside.rows.rows (at c.args.addr) _ found (Err WrongLayout) refl in
-      IsDeallocation-refused (heap_of c.self.inside.flex c.self.inside.rows.rows) (at c.args.addr) WrongLayout unknown);
+      known c.self.inside.flex c.self.inside.rows.rows (at c.args.addr) _ found (Err WrongLayout) refl);
+  refused = record { same = refl; memory = refl };
+  frame = record { memory = KeepsMemory-refl c.self.inside.flex; grow = omega arith; copied = refl };
   touches = omega arith;
-  grow = omega arith;
-  memory = KeepsMemory-refl c.self.inside.flex;
-  copied = refl;
 })
 
 pub returns : goal.returns
@@ -82,15 +78,16 @@ returns g c = rw (← c.self.view_is) (record {
       (taken_out g c) in
       subst (λ o. DeallocatesAsAt h (at c.args.addr) c.args.layout o (Ok tt) after) (sym row)
       (deallocates_in h (at c.args.addr) c.args.layout c.in-Some.row after (not-false _ c.if-ne.ensures) gone));
-  refused = tt;
-  deallocation = (
+  result = (
       let before = heap_of c.self.inside.flex c.self.inside.rows.rows in
       let after = heap_of c.deallocate.new.self c.remove_as.new.self.rows in
-      let found = sym c.in-Some.ensures.row in
-      let unknown = known c.self.inside.flex c.self.inside.rows.rows (at c.args.addr) _ found (Ok tt) refl in
-      IsDeallocation-done before after (at c.args.addr) unknown (taken_out g c) c.deallocate.ensures.result.bytes);
+      deallocated before after (at c.args.addr) (taken_out g c) c.deallocate.ensures.result.bytes);
+  unknown = known c.self.inside.flex c.self.inside.rows.rows (at c.args.addr) _ (sym c.in-Some.ensures.row) (Ok tt) refl;
+  refused = tt;
+  frame = record {
+    memory = kept_alone c.self.inside.flex c.deallocate.new.self _ c.self.invariant.flex c.deallocate.ensures.step c.deallocate.ensures.frame.place;
+    grow = c.deallocate.ensures.frame.grow;
+    copied = c.deallocate.ensures.frame.copied;
+  };
   touches = c.deallocate.ensures.touches;
-  grow = c.deallocate.ensures.frame.grow;
-  memory = kept_alone c.self.inside.flex c.deallocate.new.self _ c.self.invariant.flex c.deallocate.ensures.step c.deallocate.ensures.frame.place;
-  copied = c.deallocate.ensures.frame.copied;
 })

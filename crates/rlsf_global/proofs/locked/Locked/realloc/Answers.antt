@@ -1,7 +1,6 @@
 use Rattle.rlsf_base.specs.Sizes.{request_size}
 use Rattle.rlsf_model.specs.Allocate.{HasRoomFor, choice}
 use Rattle.rlsf_model.specs.Reallocate.{HasRoomToResize}
-use Rattle.std.specs.declared.num.NonZeroUsize.{NonZeroUsize}
 use Rattle.std.proofs.Common.{rules, IsSome, ◌≡◌, ◌≤◌, ◌+◌, true, false, length, Some, Ok, Err, lit<, ap, ◌∙◌, subst, sym, refl, arith}
 use Rattle.rlsf_global.proofs.KeptMemories.{KeepsMemory-refl, copies_nothing}
 use Rattle.rlsf_global.proofs.Layouts.{content_at-bytes, layout_at-moved_left, layout_at-moved_other, layout_at-none, layout_at-put_here}
@@ -123,35 +122,40 @@ returns g c =
     (row_sized c.self.inside.flex c.self.inside.rows.rows c.self.invariant (at c.args.addr) c.in-Some.row row) in
     rw (← c.self.view_is) (record {
       step = step;
-      refused = tt;
+      result = record {
+        live = (
+          wanted.result,
+          layout_at-put_here before after (c.in-Some-resize.moved, wanted.result) _ rows,
+          wanted.ensures.0,
+          wanted.ensures.1 ∙ c.align.ensures.value,
+        );
+        new = λ off. layout_at-none before (at c.in-Some-resize.moved) (no_row c.self.inside.flex c.self.inside.rows.rows c.self.invariant (at c.in-Some-resize.moved)
+            (moved.new off));
+        left = λ off. layout_at-moved_left before after (at c.args.addr) (c.in-Some-resize.moved, wanted.result) rows off;
+        kept = kept_asked contents c.self.invariant _ c.in-Some-resize.moved (at c.args.addr) c.args.layout c.args.new_size enabled step sized;
+        kept_usable = λ on. kept_usable contents c.self.invariant _ c.in-Some-resize.moved (at c.args.addr) c.args.layout c.args.new_size enabled step on;
+        layouts = layout_at-moved_other before after (at c.args.addr) (c.in-Some-resize.moved, wanted.result) rows;
+        contents = λ a off off_to. content_at-bytes before after a a (moved.bytes a off off_to);
+      };
       unknown = known c.self.inside.flex c.self.inside.rows.rows (at c.args.addr) _ found (Ok c.in-Some-resize.moved) refl;
-      live = (
-        wanted.result,
-        layout_at-put_here before after (c.in-Some-resize.moved, wanted.result) _ rows,
-        wanted.ensures.0,
-        wanted.ensures.1 ∙ c.align.ensures.value,
-      );
-      new = λ off. layout_at-none before (at c.in-Some-resize.moved) (no_row c.self.inside.flex c.self.inside.rows.rows c.self.invariant (at c.in-Some-resize.moved)
-          (moved.new off));
-      left = λ off. layout_at-moved_left before after (at c.args.addr) (c.in-Some-resize.moved, wanted.result) rows off;
-      kept = kept_asked contents c.self.invariant _ c.in-Some-resize.moved (at c.args.addr) c.args.layout c.args.new_size enabled step sized;
-      kept_usable = λ on. kept_usable contents c.self.invariant _ c.in-Some-resize.moved (at c.args.addr) c.args.layout c.args.new_size enabled step on;
-      layouts = layout_at-moved_other before after (at c.args.addr) (c.in-Some-resize.moved, wanted.result) rows;
-      contents = λ a off off_to. content_at-bytes before after a a (moved.bytes a off off_to);
-      same = tt;
-      touches = touches_there g call;
-      touches_elsewhere = touches_elsewhere g call;
-      grow = c.resize.ensures.grow;
+      refused = tt;
       unasked = tt;
-      memory = c.resize.ensures.memory;
-      copied = copied g call;
+      frame = record { memory = c.resize.ensures.memory; grow = c.resize.ensures.grow; copied = copied g call };
+      touches = record { room = touches_there g call; elsewhere = touches_elsewhere g call };
     })
 
 pub returns-in_default : goal.returns-in_default
 returns-in_default g c =
     let absent = sym c.in_default.ensures.row in
-    let unasked = unknown c.self.inside.flex c.self.inside.rows.rows (at c.args.addr) {A = NonZeroUsize} absent in
-    rw (← c.self.view_is) (search (rules, unasked, KeepsMemory-refl, copies_nothing))
+    rw (← c.self.view_is) (record {
+      step = search rules;
+      result = tt;
+      unknown = unknown c.self.inside.flex c.self.inside.rows.rows (at c.args.addr) absent;
+      refused = record { same = refl; bytes = refl };
+      unasked = refl;
+      frame = record { memory = KeepsMemory-refl c.self.inside.flex; grow = omega arith; copied = copies_nothing _ _ _ _ _ _ };
+      touches = record { room = λ _ _. omega arith; elsewhere = λ _ _. omega arith };
+    })
 
 pub returns-then-ne : goal.returns-then-ne
 returns-then-ne g c =
@@ -160,22 +164,12 @@ returns-then-ne g c =
       step =
           reallocates_out g.Options.GlobalTlsfOptions.ENABLE_REALLOCATION (heap_of c.self.inside.flex c.self.inside.rows.rows) (at c.args.addr) c.args.layout c.args.new_size
           c.in-Some.row (not-true _ c.if-ne.ensures) found;
-      refused = refl;
+      result = tt;
       unknown = known c.self.inside.flex c.self.inside.rows.rows (at c.args.addr) _ found (Err WrongLayout) refl;
-      live = tt;
-      new = tt;
-      left = tt;
-      kept = tt;
-      kept_usable = λ _. tt;
-      layouts = tt;
-      contents = tt;
-      same = refl;
-      touches = λ _. omega arith;
-      touches_elsewhere = λ _. omega arith;
-      grow = omega arith;
+      refused = record { same = refl; bytes = refl };
       unasked = refl;
-      memory = KeepsMemory-refl c.self.inside.flex;
-      copied = copies_nothing _ _ _ _ _ _;
+      frame = record { memory = KeepsMemory-refl c.self.inside.flex; grow = omega arith; copied = copies_nothing _ _ _ _ _ _ };
+      touches = record { room = λ _ _. omega arith; elsewhere = λ _ _. omega arith };
     })
 
 pub returns-in_default-resize : goal.returns-in_default-resize
@@ -195,20 +189,10 @@ returns-in_default-resize g c =
           wanted.ensures.0
           (wanted.ensures.1 ∙ c.align.ensures.value)
           (c.in_default-resize.ensures.none c.self.inside.rows.rows));
-      refused = search rules;
+      result = tt;
       unknown = known c.self.inside.flex c.self.inside.rows.rows (at c.args.addr) _ found (Err NoRoom) refl;
-      live = tt;
-      new = tt;
-      left = tt;
-      kept = tt;
-      kept_usable = λ _. tt;
-      layouts = tt;
-      contents = tt;
-      same = same_heap c.self.inside.flex c.resize.new.flex c.self.inside.rows.rows stays.state stays.source;
-      touches = touches_there g call;
-      touches_elsewhere = touches_elsewhere g call;
-      grow = c.resize.ensures.grow;
+      refused = record { same = same_heap c.self.inside.flex c.resize.new.flex c.self.inside.rows.rows stays.state stays.source; bytes = stays.bytes };
       unasked = tt;
-      memory = c.resize.ensures.memory;
-      copied = copied g call;
+      frame = record { memory = c.resize.ensures.memory; grow = c.resize.ensures.grow; copied = copied g call };
+      touches = record { room = touches_there g call; elsewhere = touches_elsewhere g call };
     })

@@ -76,24 +76,27 @@ returns g c =
     let after = heap_of c.move_away.new.flex c.move_row.new.self.rows in
     rw (← c.self.view_is) (record {
       step = step;
-      refused = tt;
+      result = record {
+        live = layout_at-put_here before after (c.in-Some-move_away.to, c.args.layout) _ rows;
+        new = λ off. layout_at-none before (at c.in-Some-move_away.to) (no_row c.self.inside.flex c.self.inside.rows.rows c.self.invariant (at c.in-Some-move_away.to)
+            (moved.new off));
+        left = λ off. layout_at-moved_left before after (at c.args.addr) (c.in-Some-move_away.to, c.args.layout) rows off;
+        kept = kept_elsewhere (locked_contents c.self.inside.flex c.self.inside.rows.rows) c.self.invariant _ c.in-Some-move_away.to (at c.args.addr) c.args.layout step;
+        layouts = layout_at-moved_other before after (at c.args.addr) (c.in-Some-move_away.to, c.args.layout) rows;
+        contents = λ a off off_to. content_at-bytes before after a a (moved.bytes a off off_to);
+      };
       unknown = known c.self.inside.flex c.self.inside.rows.rows (at c.args.addr) _ (sym c.in-Some.ensures.row) (Ok c.in-Some-move_away.to) refl;
-      live = layout_at-put_here before after (c.in-Some-move_away.to, c.args.layout) _ rows;
-      new = λ off. layout_at-none before (at c.in-Some-move_away.to) (no_row c.self.inside.flex c.self.inside.rows.rows c.self.invariant (at c.in-Some-move_away.to)
-          (moved.new off));
-      left = λ off. layout_at-moved_left before after (at c.args.addr) (c.in-Some-move_away.to, c.args.layout) rows off;
-      kept = kept_elsewhere (locked_contents c.self.inside.flex c.self.inside.rows.rows) c.self.invariant _ c.in-Some-move_away.to (at c.args.addr) c.args.layout step;
-      layouts = layout_at-moved_other before after (at c.args.addr) (c.in-Some-move_away.to, c.args.layout) rows;
-      contents = λ a off off_to. content_at-bytes before after a a (moved.bytes a off off_to);
-      same = tt;
-      touches = c.move_away.ensures.touches;
-      grow = c.move_away.ensures.grow;
+      refused = tt;
       unasked = tt;
-      memory = c.move_away.ensures.memory;
-      copied = c.in-Some-move_away.ensures.copied ∙ ap (λ n. c.self.inside.flex.memory.copied + n)
-          (c.min-keep.ensures ∙ ap (λ n. min n c.allocation_usable_size.result) c.size.ensures.value
-          ∙ ap (min c.args.layout.size) (c.allocation_usable_size.ensures ∙ ap length (sym (content_at-is before (at c.args.addr)))));
-      copied_none = tt;
+      frame = record {
+        memory = c.move_away.ensures.memory;
+        grow = c.move_away.ensures.grow;
+        copied = c.in-Some-move_away.ensures.copied ∙ ap (λ n. c.self.inside.flex.memory.copied + n)
+            (c.min-keep.ensures ∙ ap (λ n. min n c.allocation_usable_size.result) c.size.ensures.value
+            ∙ ap (min c.args.layout.size) (c.allocation_usable_size.ensures ∙ ap length (sym (content_at-is before (at c.args.addr)))));
+        copied_none = tt;
+      };
+      touches = c.move_away.ensures.touches;
     })
 
 pub returns-in_default : goal.returns-in_default
@@ -101,21 +104,12 @@ returns-in_default g c =
     let absent = sym c.in_default.ensures.row in
     rw (← c.self.view_is) (record {
       step = search rules;
-      refused = refl;
-      live = tt;
-      new = tt;
-      left = tt;
-      kept = tt;
-      layouts = tt;
-      contents = tt;
+      result = tt;
       unknown = unknown c.self.inside.flex c.self.inside.rows.rows (at c.args.addr) absent;
-      same = refl;
-      touches = λ _. omega arith;
-      grow = omega arith;
+      refused = record { same = refl; bytes = refl };
       unasked = refl;
-      memory = KeepsMemory-refl c.self.inside.flex;
-      copied = tt;
-      copied_none = refl;
+      frame = record { memory = KeepsMemory-refl c.self.inside.flex; grow = omega arith; copied = tt; copied_none = refl };
+      touches = λ _. omega arith;
     })
 
 pub returns-in_default-move_away : goal.returns-in_default-move_away
@@ -130,19 +124,15 @@ returns-in_default-move_away g c =
       step =
           subst (λ o. ReallocatesAt h (at c.args.addr) c.args.layout o (Err NoRoom) after) (sym row)
           (subst (λ n. MovesAway h (at c.args.addr) n c.args.layout (Err NoRoom) after) keep (c.in_default-move_away.ensures.none c.self.inside.rows.rows));
-      refused = search rules;
+      result = tt;
       unknown = known c.self.inside.flex c.self.inside.rows.rows (at c.args.addr) _ found (Err NoRoom) refl;
-      live = tt;
-      new = tt;
-      left = tt;
-      kept = tt;
-      layouts = tt;
-      contents = tt;
-      same = same_heap c.self.inside.flex c.move_away.new.flex c.self.inside.rows.rows stays.state stays.source;
-      touches = c.move_away.ensures.touches;
-      grow = c.move_away.ensures.grow;
+      refused = record { same = same_heap c.self.inside.flex c.move_away.new.flex c.self.inside.rows.rows stays.state stays.source; bytes = stays.bytes };
       unasked = tt;
-      memory = c.move_away.ensures.memory;
-      copied = tt;
-      copied_none = c.in_default-move_away.ensures.copied_none;
+      frame = record {
+        memory = c.move_away.ensures.memory;
+        grow = c.move_away.ensures.grow;
+        copied = tt;
+        copied_none = c.in_default-move_away.ensures.copied_none;
+      };
+      touches = c.move_away.ensures.touches;
     })

@@ -49,7 +49,8 @@ pub invariant_of-self-2 : goal.invariant_of-self-2
 invariant_of-self-2 g c =
     let did = c.in-Some-reallocate_no_move.ensures in
     let rows = replaced g c in
-    resized_locked c.self.inside.flex c.self.inside.rows.rows c.self.invariant c.reallocate_no_move.new.self (at c.args.addr) c.from_size_align_unchecked-wanted.result did.frame.source
+    resized_locked c.self.inside.flex c.self.inside.rows.rows c.self.invariant c.reallocate_no_move.new.self (at c.args.addr) c.from_size_align_unchecked-wanted.result
+    did.frame.source
     c.in-Some-reallocate_no_move.to did.result.there did.step _ rows
     (record { live = did.frame.live; sized = did.result.sized; few = did.result.few }) did.frame.aligns did.frame.bytes
 
@@ -65,7 +66,8 @@ did_step g c =
     let row = found in
     let wanted = c.from_size_align_unchecked-wanted in
     let step =
-    resized c.self.inside.flex c.self.inside.rows.rows c.self.invariant c.reallocate_no_move.new.self (at c.args.addr) wanted.result did.frame.source c.in-Some-reallocate_no_move.to
+    resized c.self.inside.flex c.self.inside.rows.rows c.self.invariant c.reallocate_no_move.new.self (at c.args.addr) wanted.result did.frame.source
+    c.in-Some-reallocate_no_move.to
     did.result.there did.step
     _ (replaced g c) in
     subst (λ o. ReallocatesThereAt h (at c.args.addr) c.args.layout c.args.new_size o (Ok c.in-Some-reallocate_no_move.to) after) (sym row)
@@ -85,21 +87,25 @@ returns g c =
     let here = layout_at-put_here before after (c.in-Some-reallocate_no_move.to, wanted.result) _ rows in
     rw (← c.self.view_is) (record {
       step = step;
-      refused = tt;
+      result = record {
+        there = did.result.there;
+        live = (wanted.result, subst (λ a. layout_at after a ≡ Some wanted.result) did.result.there here, wanted.ensures.0, wanted.ensures.1 ∙ c.align.ensures.value);
+        kept =
+            kept_there (locked_contents c.self.inside.flex c.self.inside.rows.rows) c.self.invariant _ c.in-Some-reallocate_no_move.to (at c.args.addr) c.args.layout
+            c.args.new_size step;
+        layouts = λ a off. layout_at-moved_other before after (at c.args.addr) (c.in-Some-reallocate_no_move.to, wanted.result) rows a off
+            (λ same. off (same ∙ did.result.there));
+        contents = λ a off. content_at-bytes before after a a (did.frame.bytes a off);
+      };
       unknown = known c.self.inside.flex c.self.inside.rows.rows (at c.args.addr) _ (sym c.in-Some.ensures.row) (Ok c.in-Some-reallocate_no_move.to) refl;
-      there = did.result.there;
-      live = (wanted.result, subst (λ a. layout_at after a ≡ Some wanted.result) did.result.there here, wanted.ensures.0, wanted.ensures.1 ∙ c.align.ensures.value);
-      kept =
-          kept_there (locked_contents c.self.inside.flex c.self.inside.rows.rows) c.self.invariant _ c.in-Some-reallocate_no_move.to (at c.args.addr) c.args.layout
-          c.args.new_size step;
-      layouts = λ a off. layout_at-moved_other before after (at c.args.addr) (c.in-Some-reallocate_no_move.to, wanted.result) rows a off (λ same. off (same ∙ did.result.there));
-      contents = λ a off. content_at-bytes before after a a (did.frame.bytes a off);
-      same = tt;
-      touches = did.touches;
-      grow = did.frame.grow;
+      refused = tt;
       unasked = tt;
-      memory = kept_alone c.self.inside.flex c.reallocate_no_move.new.self _ c.self.invariant.flex did.step did.frame.place;
-      copied = did.frame.copied;
+      frame = record {
+        memory = kept_alone c.self.inside.flex c.reallocate_no_move.new.self _ c.self.invariant.flex did.step did.frame.place;
+        grow = did.frame.grow;
+        copied = did.frame.copied;
+      };
+      touches = did.touches;
     })
 
 pub returns-in_default : goal.returns-in_default
@@ -107,19 +113,12 @@ returns-in_default g c =
     let absent = sym c.in_default.ensures.row in
     rw (← c.self.view_is) (record {
       step = search rules;
-      refused = refl;
+      result = tt;
       unknown = unknown c.self.inside.flex c.self.inside.rows.rows (at c.args.addr) absent;
-      there = tt;
-      live = tt;
-      kept = tt;
-      layouts = tt;
-      contents = tt;
-      same = refl;
-      touches = omega arith;
-      grow = omega arith;
+      refused = record { same = refl; bytes = refl };
       unasked = refl;
-      memory = KeepsMemory-refl c.self.inside.flex;
-      copied = refl;
+      frame = record { memory = KeepsMemory-refl c.self.inside.flex; grow = omega arith; copied = refl };
+      touches = omega arith;
     })
 
 pub returns-then-ne : goal.returns-then-ne
@@ -129,19 +128,12 @@ returns-then-ne g c =
       step =
           resizes_out (heap_of c.self.inside.flex c.self.inside.rows.rows) (at c.args.addr) c.args.layout c.args.new_size
           c.in-Some.row (not-true _ c.if-ne.ensures) found;
-      refused = refl;
+      result = tt;
       unknown = known c.self.inside.flex c.self.inside.rows.rows (at c.args.addr) _ found (Err WrongLayout) refl;
-      there = tt;
-      live = tt;
-      kept = tt;
-      layouts = tt;
-      contents = tt;
-      same = refl;
-      touches = omega arith;
-      grow = omega arith;
+      refused = record { same = refl; bytes = refl };
       unasked = refl;
-      memory = KeepsMemory-refl c.self.inside.flex;
-      copied = refl;
+      frame = record { memory = KeepsMemory-refl c.self.inside.flex; grow = omega arith; copied = refl };
+      touches = omega arith;
     })
 
 pub returns-in_default-reallocate_no_move : goal.returns-in_default-reallocate_no_move
@@ -153,23 +145,24 @@ returns-in_default-reallocate_no_move g c =
     let row = found in
     let wanted = c.from_size_align_unchecked-wanted in
     let step =
-    not_resized c.self.inside.flex c.self.inside.rows.rows c.self.invariant c.reallocate_no_move.new.self (at c.args.addr) wanted.result did.frame.source did.step did.refused.same in
+    not_resized c.self.inside.flex c.self.inside.rows.rows c.self.invariant c.reallocate_no_move.new.self (at c.args.addr) wanted.result did.frame.source did.step
+    did.refused.same in
     rw (← c.self.view_is) (record {
       step =
           subst (λ o. ReallocatesThereAt h (at c.args.addr) c.args.layout c.args.new_size o (Err NoRoom) after) (sym row)
           (resizes_in h (at c.args.addr) c.args.layout c.args.new_size c.in-Some.row wanted.result (Err NoRoom) after (not-false _ c.if-ne.ensures) wanted.ensures.0
           (wanted.ensures.1 ∙ c.align.ensures.value) step);
-      refused = did.refused.bytes;
+      result = tt;
       unknown = known c.self.inside.flex c.self.inside.rows.rows (at c.args.addr) _ found (Err NoRoom) refl;
-      there = tt;
-      live = tt;
-      kept = tt;
-      layouts = tt;
-      contents = tt;
-      same = same_heap c.self.inside.flex c.reallocate_no_move.new.self c.self.inside.rows.rows did.refused.same did.frame.source;
-      touches = did.touches;
-      grow = did.frame.grow;
+      refused = record {
+        same = same_heap c.self.inside.flex c.reallocate_no_move.new.self c.self.inside.rows.rows did.refused.same did.frame.source;
+        bytes = did.refused.bytes;
+      };
       unasked = tt;
-      memory = kept_alone c.self.inside.flex c.reallocate_no_move.new.self _ c.self.invariant.flex did.step did.frame.place;
-      copied = did.frame.copied;
+      frame = record {
+        memory = kept_alone c.self.inside.flex c.reallocate_no_move.new.self _ c.self.invariant.flex did.step did.frame.place;
+        grow = did.frame.grow;
+        copied = did.frame.copied;
+      };
+      touches = did.touches;
     })

@@ -30,16 +30,11 @@ invariant_of-self g c =
 pub returns-in_default : goal.returns-in_default
 returns-in_default g c = rw (← c.self.view_is) (record {
   step = search rules;
-  refused = refl;
-  unknown = (unknown c.self.inside.flex c.self.inside.rows.rows (at c.args.addr) (sym c.in_default.ensures.row));
-  written = tt;
-  layouts = refl;
-  contents = tt;
-  same = refl;
+  result = tt;
+  unknown = unknown c.self.inside.flex c.self.inside.rows.rows (at c.args.addr) (sym c.in_default.ensures.row);
+  refused = record { same = refl; memory = refl };
+  frame = record { layouts = refl; memory = KeepsMemory-refl c.self.inside.flex; grow = omega arith; copied = refl };
   touches = omega arith;
-  grow = omega arith;
-  memory = KeepsMemory-refl c.self.inside.flex;
-  copied = refl;
 })
 
 pub returns-then-not-fits : goal.returns-then-not-fits
@@ -49,17 +44,11 @@ returns-then-not-fits g c = rw (← c.self.view_is) (record {
       let bytes = c.args.bytes.now in
       writes_out h (at c.args.addr) c.args.offset _ (sym c.in-Some.ensures.row) bytes
       (c.if-not-fits.ensures ∙ ap (nat_le (c.args.offset + length bytes)) c.allocation_usable_size.ensures));
-  refused = refl;
-  unknown =
-      (known c.self.inside.flex c.self.inside.rows.rows (at c.args.addr) _ (sym c.in-Some.ensures.row) (Err OutOfRange) refl);
-  written = tt;
-  layouts = refl;
-  contents = tt;
-  same = refl;
+  result = tt;
+  unknown = known c.self.inside.flex c.self.inside.rows.rows (at c.args.addr) _ (sym c.in-Some.ensures.row) (Err OutOfRange) refl;
+  refused = record { same = refl; memory = refl };
+  frame = record { layouts = refl; memory = KeepsMemory-refl c.self.inside.flex; grow = omega arith; copied = refl };
   touches = omega arith;
-  grow = omega arith;
-  memory = KeepsMemory-refl c.self.inside.flex;
-  copied = refl;
 })
 
 pub returns : goal.returns
@@ -77,38 +66,34 @@ returns g c = rw (← c.self.view_is) (record {
       subst (λ l. Fills h.flex.machine addr l after.state.machine) (c.write_at.ensures.bytes ∙ ap (λ l. splice l offset (offset + length bytes) bytes) did.value) fills in
       writes_in h addr offset _ (sym c.in-Some.ensures.row) bytes (heap_of after c.self.inside.rows.rows)
       (c.if-not-fits.ensures ∙ ap (nat_le (offset + length bytes)) c.allocation_usable_size.ensures) (after.state.machine, spliced, leads));
-  refused = tt;
-  unknown = (known c.self.inside.flex c.self.inside.rows.rows (at c.args.addr) _ (sym c.in-Some.ensures.row) (Ok tt) refl);
-  written = (
+  result = (
       let addr = at c.args.addr in
       let bytes = c.args.bytes.now in
       let w = c.write_at.new.payload in
       let did = c.payload_mut.ensures in
       let before = heap_of c.self.inside.flex c.self.inside.rows.rows in
       let after = heap_of (written c.self.inside.flex addr (length c.payload_mut.result.now) w) c.self.inside.rows.rows in
-      content_at-is after addr ∙ did.filled w c.write_at.ensures.len ∙ c.write_at.ensures.bytes
-      ∙ ap (λ l. splice l c.args.offset (c.args.offset + length bytes) bytes) (did.value ∙ sym (content_at-is before addr)));
-  layouts = (
-      let before = heap_of c.self.inside.flex c.self.inside.rows.rows in
-      let after = heap_of (written c.self.inside.flex (at c.args.addr) (length c.payload_mut.result.now) c.write_at.new.payload) c.self.inside.rows.rows in
-      λ i a. layout_at-row before after a a refl i);
-  contents = (
+      record {
+        written = content_at-is after addr ∙ did.filled w c.write_at.ensures.len ∙ c.write_at.ensures.bytes
+            ∙ ap (λ l. splice l c.args.offset (c.args.offset + length bytes) bytes) (did.value ∙ sym (content_at-is before addr));
+        contents = λ a off. content_at-bytes before after a a (did.bytes w a off);
+      });
+  unknown = known c.self.inside.flex c.self.inside.rows.rows (at c.args.addr) _ (sym c.in-Some.ensures.row) (Ok tt) refl;
+  refused = tt;
+  frame = (
       let w = c.write_at.new.payload in
+      let did = c.payload_mut.ensures in
+      let written_flex = written c.self.inside.flex (at c.args.addr) (length c.payload_mut.result.now) w in
       let before = heap_of c.self.inside.flex c.self.inside.rows.rows in
-      let after = heap_of (written c.self.inside.flex (at c.args.addr) (length c.payload_mut.result.now) w) c.self.inside.rows.rows in
-      λ a off. content_at-bytes before after a a (c.payload_mut.ensures.bytes w a off));
-  same = tt;
+      let after = heap_of written_flex c.self.inside.rows.rows in
+      let (chunks, after_place, source, place, stands, touches, copied) = did.rest w in
+      record {
+        layouts = λ i a. layout_at-row before after a a refl i;
+        memory = kept_alone c.self.inside.flex written_flex _ c.self.invariant.flex (did.meaning w c.write_at.ensures.len) place;
+        grow = search rules;
+        copied = copied;
+      });
   touches = (
       let (chunks, after, source, place, stands, touches, copied) = c.payload_mut.ensures.rest c.write_at.new.payload in
       omega (arith, touches));
-  grow = search rules;
-  memory = (
-      let w = c.write_at.new.payload in
-      let did = c.payload_mut.ensures in
-      let (chunks, after, source, place, stands, touches, copied) = did.rest w in
-      kept_alone c.self.inside.flex (written c.self.inside.flex (at c.args.addr) (length c.payload_mut.result.now) w) _ c.self.invariant.flex
-      (did.meaning w c.write_at.ensures.len) place);
-  copied = (
-      let (chunks, after, source, place, stands, touches, copied) = c.payload_mut.ensures.rest c.write_at.new.payload in
-      copied);
 })

@@ -1,0 +1,167 @@
+-- What the calls behind the lock ensure: a record for each of the clauses `result`, `refused`, `frame` and `touches`.
+use Rattle.std.specs.Prelude.{◌≡◌, ◌≢◌, ℕ, ◌+◌, ◌≤◌, Bool, true, false, List, length, min, None, Some, OnErr, OnOk}
+use Rattle.std.specs.List.{splice}
+use Rattle.rlsf_base.specs.declared.memory.layout.Layout.{Layout}
+use Rattle.rlsf_global.specs.Journal.Replay.{BookContents}
+use Rattle.rlsf_global.specs.Kept.{KeepsFirst}
+use Rattle.rlsf_global.specs.Locked.{LockedContents, flex_of}
+use Rattle.rlsf_global.specs.Memory.{CopiesOnResize, KeepsMemory}
+use Rattle.rlsf_model.specs.Allocate.{HasRoomFor}
+use Rattle.rlsf_model.specs.Reallocate.{HasRoomToResize}
+use Rattle.rlsf_model_global.specs.Heap.{HasLayout, Heap, content_at, layout_at}
+use Rattle.rlsf_model_global.specs.Left.{in_both}
+use Rattle.rlsf_model_global.specs.Steps.{Placed}
+
+-- ---- the results
+
+-- a payload was allocated at the address, for the layout
+pub record HeapAllocated (before after : Heap) (layout : Layout) (addr : ℕ) : Type 0 where
+  -- it is live, and the layout is its last one
+  pub live : layout_at after addr ≡ Some layout
+  -- it has at least the size in usable bytes
+  pub sized : layout.size ≤ length (content_at after addr)
+  -- no payload was live there before
+  pub new : layout_at before addr ≡ None
+  -- the other payloads have the layouts that they had
+  pub layouts : (a : ℕ) → a ≢ addr → layout_at after a ≡ layout_at before a
+  -- and the bytes
+  pub contents : (a : ℕ) → a ≢ addr → content_at after a ≡ content_at before a
+
+-- the payload at the address was deallocated
+pub record HeapDeallocated (before after : Heap) (addr : ℕ) : Type 0 where
+  -- no payload is live there
+  pub gone : layout_at after addr ≡ None
+  -- the other payloads have the layouts that they had
+  pub layouts : (a : ℕ) → a ≢ addr → layout_at after a ≡ layout_at before a
+  -- and the bytes
+  pub contents : (a : ℕ) → a ≢ addr → content_at after a ≡ content_at before a
+
+-- the payload at an address got another size, and is now at `to`, which may be the same address. It may be moved where `enabled` is false
+pub record HeapReallocated (enabled : Bool) (before after : Heap) (addr : ℕ) (layout : Layout) (new_size to : ℕ) : Type 0 where
+  -- it is live, with this size and its alignment
+  pub live : HasLayout after to new_size layout.align
+  -- if it moved, no payload was live where it is
+  pub new : to ≢ addr → layout_at before to ≡ None
+  -- and none is live where it was
+  pub left : to ≢ addr → layout_at after addr ≡ None
+  -- it begins with the bytes that it had, as many as both sizes have
+  pub kept : KeepsFirst (min layout.size new_size) before addr after to
+  -- or as many as were usable and are
+  pub kept_usable : enabled ≡ true → KeepsFirst (in_both before after addr to) before addr after to
+  -- the other payloads have the layouts that they had
+  pub layouts : (a : ℕ) → a ≢ addr → a ≢ to → layout_at after a ≡ layout_at before a
+  -- and the bytes
+  pub contents : (a : ℕ) → a ≢ addr → a ≢ to → content_at after a ≡ content_at before a
+
+-- the payload at an address was moved to `to`, for another layout
+pub record HeapMoved (before after : Heap) (addr : ℕ) (layout : Layout) (to : ℕ) : Type 0 where
+  -- it is live, and the layout is its last one
+  pub live : layout_at after to ≡ Some layout
+  -- if it has another address, no payload was live where it is
+  pub new : to ≢ addr → layout_at before to ≡ None
+  -- and none is live where it was
+  pub left : to ≢ addr → layout_at after addr ≡ None
+  -- it begins with the bytes that were usable, as many as the new size has
+  pub kept : KeepsFirst (min layout.size (length (content_at before addr))) before addr after to
+  -- the other payloads have the layouts that they had
+  pub layouts : (a : ℕ) → a ≢ addr → a ≢ to → layout_at after a ≡ layout_at before a
+  -- and the bytes
+  pub contents : (a : ℕ) → a ≢ addr → a ≢ to → content_at after a ≡ content_at before a
+
+-- the payload at an address got another size in place. `to` is the returned address
+pub record HeapResized (before after : Heap) (addr : ℕ) (layout : Layout) (new_size to : ℕ) : Type 0 where
+  -- the payload is where it was
+  pub there : to ≡ addr
+  -- it has this size and its alignment
+  pub live : HasLayout after addr new_size layout.align
+  -- it begins with the bytes that it had, as many as were usable and are
+  pub kept : KeepsFirst (in_both before after addr to) before addr after to
+  -- the other payloads have the layouts that they had
+  pub layouts : (a : ℕ) → a ≢ addr → layout_at after a ≡ layout_at before a
+  -- and the bytes
+  pub contents : (a : ℕ) → a ≢ addr → content_at after a ≡ content_at before a
+
+-- bytes of the payload at an address were overwritten, from an offset on
+pub record HeapWritten (before after : Heap) (addr offset : ℕ) (bytes : List ℕ) : Type 0 where
+  -- it has these bytes, and its other ones
+  pub written : content_at after addr ≡ splice (content_at before addr) offset (offset + length bytes) bytes
+  -- the other payloads have the bytes that they had
+  pub contents : (a : ℕ) → a ≢ addr → content_at after a ≡ content_at before a
+
+-- ---- a refusal
+
+-- a refused call changes nothing but the number of word accesses
+pub record IsLockedUnchanged (before after : LockedContents) : Type 0 where
+  -- the heap
+  pub same : after.heap ≡ before.heap
+  -- each byte of the memory
+  pub bytes : after.memory.bytes ≡ before.memory.bytes
+
+-- a call that is refused before the allocator was asked changes nothing
+pub record IsLockedUntouched (before after : LockedContents) : Type 0 where
+  -- the heap
+  pub same : after.heap ≡ before.heap
+  -- the memory, with both counts
+  pub memory : after.memory ≡ before.memory
+
+-- ---- what a call keeps in every case
+
+-- of a call that copies no byte
+pub record KeepsLocked (before after : LockedContents) : Type 0 where
+  -- place of the memory, and the bytes that belong to no block
+  pub memory : KeepsMemory (flex_of before) (flex_of after)
+  -- word accesses are only added
+  pub grow : before.memory.touches ≤ after.memory.touches
+  -- no byte is copied
+  pub copied : after.memory.copied ≡ before.memory.copied
+
+-- of a call that writes bytes of a payload
+pub record KeepsLockedWriting (before after : LockedContents) : Type 0 where
+  -- all payloads have the layouts that they had
+  pub layouts : layout_at after.heap ≡ layout_at before.heap
+  -- place of the memory, and the bytes that belong to no block
+  pub memory : KeepsMemory (flex_of before) (flex_of after)
+  -- word accesses are only added
+  pub grow : before.memory.touches ≤ after.memory.touches
+  -- no byte is copied
+  pub copied : after.memory.copied ≡ before.memory.copied
+
+-- of a call that changes the size of the payload at an address
+pub record KeepsLockedResizing (enabled : Bool) (addr size wanted : ℕ) (before after : LockedContents) : Type 0 where
+  -- place of the memory, and the bytes that belong to no block
+  pub memory : KeepsMemory (flex_of before) (flex_of after)
+  -- word accesses are only added
+  pub grow : before.memory.touches ≤ after.memory.touches
+  -- copied bytes are only added, and how many are is bounded
+  pub copied : CopiesOnResize enabled before.heap.flex.machine addr size wanted before.memory after.memory
+
+-- of a call that moves the payload at an address
+pub record KeepsLockedMoving (addr size : ℕ) (answer : Placed) (before after : LockedContents) : Type 0 where
+  -- place of the memory, and the bytes that belong to no block
+  pub memory : KeepsMemory (flex_of before) (flex_of after)
+  -- word accesses are only added
+  pub grow : before.memory.touches ≤ after.memory.touches
+  -- as many bytes are copied as were usable, and the new size has
+  pub copied : OnOk answer (after.memory.copied ≡ before.memory.copied + min size (length (content_at before.heap addr)))
+  -- none if the call is refused
+  pub copied_none : OnErr answer (after.memory.copied ≡ before.memory.copied)
+
+-- of a call of a book that writes bytes of a payload
+pub record KeepsBookWriting (before after : BookContents) : Type 0 where
+  -- the journal
+  pub journal : after.journal ≡ before.journal
+  -- place of the memory, and the bytes that belong to no block
+  pub memory : KeepsMemory (flex_of before.locked) (flex_of after.locked)
+  -- word accesses are only added
+  pub grow : before.locked.memory.touches ≤ after.locked.memory.touches
+  -- no byte is copied
+  pub copied : after.locked.memory.copied ≡ before.locked.memory.copied
+
+-- ---- word accesses
+
+-- of a call that changes the size of the payload at an address, of this alignment
+pub record BoundsResizing (enabled : Bool) (addr size align : ℕ) (before after : LockedContents) : Type 0 where
+  -- where the allocator reallocates
+  pub room : enabled ≡ true → HasRoomToResize 64 before.heap.flex.machine addr size → after.memory.touches ≤ before.memory.touches + 66
+  -- where the payload always moves
+  pub elsewhere : enabled ≡ false → HasRoomFor 64 before.heap.flex.machine size align → after.memory.touches ≤ before.memory.touches + 59
