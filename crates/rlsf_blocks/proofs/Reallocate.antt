@@ -1,4 +1,5 @@
 -- A used block gets another size.
+pub mod Addresses
 pub mod Computations
 pub mod Copies
 pub mod Elsewhere

@@ -1,4 +1,6 @@
-use Rattle.std.proofs.Common.{arith, ◌∙◌, sym, rules}
+use Rattle.std.proofs.Common.{◌≡◌, IfNone, arith, ◌∙◌, subst, sym, rules}
+use Rattle.rlsf_base.specs.Addr.{reply_of}
+use Rattle.rlsf_blocks.specs.Steps.Resize.{IsHereStill, IsReallocated}
 use Rattle.rlsf_base.proofs.Lending.Present.{here-same, own-here}
 use Rattle.rlsf_model.specs.State.{usable}
 use Rattle.rlsf_blocks.proofs.Reallocate.FirstPlan.{IsReallocated-counted_first, IsReallocated-planned, plan-stays}
@@ -68,13 +70,17 @@ returns-clause-step g c =
     let same = c.resize_block.ensures.unchanged c.if-resize_block.false in
     let v1 = StandsFor-unchanged c.args.memory.now c.resize_block.new.memory c.args.table.now c.resize_block.new.table s 2 same v in
     let first = c.resize_block.ensures.refused s u v is c.if-resize_block.false in
-    IsReallocated-counted_first c.resize_block.new.memory c.move_block.new.memory c.resize_block.new.table c.move_block.new.table s u c.args.layout.size c.args.memory.now 2
-    c.move_block.result same.0
-    (c.move_block.ensures.step s u v1 is first (here-same c.args.memory.now c.resize_block.new.memory (usable u) same.0.start same.0.out here))
+    let m = c.args.memory.now in
+    let o = c.move_block.new.memory in
+    subst (λ reply. IsReallocated g.row.FLLEN g.row.SLLEN m o c.move_block.new.table s u c.args.layout.size reply) (sym c.address.ensures)
+    (IsReallocated-counted_first c.resize_block.new.memory o c.resize_block.new.table c.move_block.new.table s u c.args.layout.size m 2
+    (reply_of c.move_block.result) same.0
+    (c.move_block.ensures.step s u v1 is first (here-same m c.resize_block.new.memory (usable u) same.0.start same.0.out here)))
 
 pub returns-clause-refused : goal.returns-clause-refused
 returns-clause-refused g c =
-    none_more c.move_block.result (λ same. same ∙ (c.resize_block.ensures.unchanged c.if-resize_block.false).0.bytes) c.move_block.ensures.refused
+    subst (λ reply. IfNone reply (c.move_block.new.memory.bytes ≡ c.args.memory.now.bytes)) (sym c.address.ensures)
+    (none_more (reply_of c.move_block.result) (λ same. same ∙ (c.resize_block.ensures.unchanged c.if-resize_block.false).0.bytes) c.move_block.ensures.refused)
 
 pub returns-clause-place : goal.returns-clause-place
 returns-clause-place g c =
@@ -151,4 +157,5 @@ returns-clause-kept_here g c =
     let same = c.resize_block.ensures.unchanged c.if-resize_block.false in
     let v1 = StandsFor-unchanged c.args.memory.now c.resize_block.new.memory c.args.table.now c.resize_block.new.table s 2 same v in
     let first = c.resize_block.ensures.refused s u v is c.if-resize_block.false in
-    c.move_block.ensures.kept_here s u v1 is first (here-same c.args.memory.now c.resize_block.new.memory (usable u) same.0.start same.0.out here)
+    subst (λ reply. IsHereStill c.args.memory.now c.move_block.new.memory u reply) (sym c.address.ensures)
+    (λ held. c.move_block.ensures.kept_here s u v1 is first (here-same c.args.memory.now c.resize_block.new.memory (usable u) same.0.start same.0.out held)) here
