@@ -47,11 +47,8 @@ fn resize_found<const FLLEN: usize, const SLLEN: usize>(
     ensures here { StaysHere memory.old memory.new }
 {
     let block = load_block_of(memory, payload);
-    let front = payload - block;
-    // A block whose length doesn't fit in a word is longer than the memory.
-    if layout.size() > usize::MAX - 31 - front {
-        return false;
-    }
+    // What lies before the payload in its block is shorter than the memory. So with any size the block's length fits in a word.
+    memory.is_below_limit();
     resize_any_block(memory, view, table, block, payload, layout)
 }
 

@@ -1,17 +1,15 @@
-use Rattle.std.proofs.Common.{◌+◌, ◌-◌, ◌^◌, ◌<◌, ◌≤◌, arith, refl, rules, sym, true≢false}
+use Rattle.std.proofs.Common.{◌-◌, ◌^◌, ◌<◌, ap, arith, length, refl, rules, sym}
 use Rattle.rlsf_base.specs.OpenSpace.{IsOwned}
 use Rattle.rlsf_base.proofs.Lending.Present.{owned-same}
 use Rattle.rlsf_model.specs.State.{State, Used, Holds, usable}
-use Rattle.rlsf_model.proofs.Payloads.{IsUsed-after_start}
 use Rattle.rlsf_table.specs.Counts.{Counts}
-use Rattle.rlsf_table.proofs.Costs.{Costs-counted, Costs-then, Costs-within}
+use Rattle.rlsf_table.proofs.Costs.{Costs-counted, Costs-then}
 use Rattle.rlsf_blocks.specs.StandsFor.{contents, StandsFor}
 use Rattle.rlsf_blocks.proofs.Counting.{Counts-counted_first, Counts-touched}
 use Rattle.rlsf_blocks.proofs.RepresentedStates.Counted.{KeepsSpare-counted_first, StandsFor-touched}
 use Rattle.rlsf_blocks.proofs.Words.Apart.{used_in_memory}
 use Rattle.rlsf_blocks.proofs.Words.Stays.{Stays, Stays-same, Stays-then}
 use Rattle.rlsf_blocks.specs.Steps.Resize.{IsUsedAt}
-use Rattle.rlsf_tlsf.proofs.UnknownAlign.{too_long}
 use Rattle.rlsf_heap.proofs.thin_unknown_align.resize_found.Given as given
 use Rattle.rlsf_heap.proofs.thin_unknown_align.resize_found.Goals as goal
 use Rattle.rlsf_heap.proofs.thin_unknown_align.resize_found.Goals.{After-load_block_of-block}
@@ -45,24 +43,10 @@ module _ (g : given.Over) (c : After-load_block_of-block g) where
     own_read : IsOwned c.args.memory.now (usable u) → IsOwned c.load_block_of-block.new.memory (usable u)
     own_read own = owned-same c.args.memory.now c.load_block_of-block.new.memory (usable u) counts.start counts.out own
 
-    -- it begins before the payload
-    begins : c.load_block_of-block.result ≤ c.args.payload
-    begins = omega (arith, used_at.caller, used_at.start, IsUsed-after_start u (v.well_formed.used u holds.0))
-
-    -- what lies before the payload in its block, which ends in the memory
-    front_fits : c.args.payload - c.load_block_of-block.result + 31 < 2 ^ 64
-    front_fits =
-        omega (arith, used_at.caller, used_at.start, (v.well_formed.used u holds.0).within, used_in_memory v.well_formed u holds.0, v.well_formed.addressable)
-
-pub overflow_sub-front : goal.overflow_sub-front
-overflow_sub-front g c =
-    let (s, u, v, holds, own) = c.requires.used in
-    begins g (goal.at.overflow_sub-front g c).After-load_block_of-block s u v holds
-
-pub overflow_sub-front-2 : goal.overflow_sub-front-2
-overflow_sub-front-2 g c =
-    let (s, u, v, holds, own) = c.requires.used in
-    omega (arith, front_fits g (goal.at.overflow_sub-front-2 g c).After-load_block_of-block s u v holds)
+    -- what lies before the payload in its block, which lies in the memory
+    front_fits : length c.load_block_of-block.new.memory.bytes < 2 ^ 59 → c.args.payload - c.load_block_of-block.result < 2 ^ 59
+    front_fits short =
+        omega (arith, short, ap length counts.bytes, used_at.caller, used_at.start, (v.well_formed.used u holds.0).within, used_in_memory v.well_formed u holds.0)
 
 pub resize_any_block-requires : goal.resize_any_block-requires
 resize_any_block-requires g c =
@@ -73,39 +57,10 @@ resize_any_block-requires g c =
         c.requires.parameters,
         (
           (s, u, read g d s u v holds, used_at g d s u v holds, own_read g d s u v holds own),
-          (search rules, omega (arith, front_fits g d s u v holds, c.if-size-front.false, c.size.ensures.value)),
+          (search rules, omega (arith, front_fits g d s u v holds c.is_below_limit.ensures, c.args.layout.valid.fits)),
         ),
       ),
     )
-
--- ---- a block that doesn't fit in a word
-
-pub returns-then-size-front : goal.returns-then-size-front
-returns-then-size-front g c =
-    let d = (goal.at.returns-then-size-front g c).After-load_block_of-block in
-    let counts = counts g d in
-    let stays = first_stays g d in
-    record {
-      done = λ s u v holds own yes. absurd (true≢false (sym yes));
-      refused = λ s u v holds no.
-          too_long v u holds.0 c.args.layout.size
-          (omega (arith, (used_at g d s u v holds).caller, (used_at g d s u v holds).start, c.if-size-front.true, c.size.ensures.value));
-      unchanged = λ no. (
-        record {
-          start = counts.start;
-          bytes = counts.bytes;
-          touches = omega (arith, counts.touches);
-          grow = counts.grow;
-          copied = counts.copied;
-          view = counts.view;
-          out = counts.out;
-        },
-        refl,
-      );
-      costs = Costs-within (omega arith) (Costs-counted counts);
-      own = stays.own;
-      here = stays.here;
-    }
 
 -- ---- the block has the size, or the bytes don't suffice
 
