@@ -1,7 +1,7 @@
 -- The numbers that calls return.
-use Rattle.std.specs.Prelude.{ℕ, if◌then◌else◌}
+use Rattle.std.specs.Prelude.{ℕ}
 use Rattle.rlsf_malloc.specs.declared.replies.Resized.{Resized}
 
 -- the address of a payload whose size was changed, or 0
 abbrev pub number_of : Resized → ℕ
-number_of r = if r.done then r.payload.addr else 0
+number_of r = r.number

@@ -29,20 +29,28 @@ impl Measured {
 
 /// A payload whose size was changed, or that was left as it was.
 pub struct Resized {
-    /// Whether its size was changed.
-    pub done: bool,
+    /// Its address if its size was changed, else 0.
+    pub number: usize,
     /// The payload, or none.
     pub payload: ThinPayload,
 }
 
 impl Resized {
+    /// Returns a payload whose size was changed, with its address.
+    pub(crate) fn changed(payload: ThinPayload) -> Resized
+        ensures { (number_of result ≡ payload.addr) × (result.payload.of ≡ payload.of) }
+    {
+        let (number, payload) = payload.with_addr();
+        Resized { number, payload }
+    }
+
     /// Passes the payload to the caller, and returns its address if its size was changed, else 0.
     pub(crate) fn into_raw(self) -> usize
         ensures* handed { sem 𝓛 (owns_reply self.payload.of) }
         ensures number { result ≡ number_of self }
     {
-        let Resized { done, payload } = self;
-        let addr = payload.into_raw();
-        if done { addr } else { 0 }
+        let Resized { number, payload } = self;
+        let _ = payload.into_raw();
+        number
     }
 }

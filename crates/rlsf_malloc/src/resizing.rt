@@ -37,14 +37,8 @@ fn resize<F: BitPattern, S: BitPattern, const FLLEN: usize, const SLLEN: usize>(
     ensures { Resizes SLLEN heap.old payload.of size align (number_of result) result.payload.of heap.new }
 {
     match heap.reallocate_thin(addr, payload, size, align) {
-        Ok(payload) => Resized {
-            done: true,
-            payload,
-        },
-        Err(payload) => Resized {
-            done: false,
-            payload,
-        },
+        Ok(payload) => Resized::changed(payload),
+        Err(payload) => Resized { number: 0, payload },
     }
 }
 
@@ -61,10 +55,7 @@ pub(crate) fn resize_aligned<F: BitPattern, S: BitPattern, const FLLEN: usize, c
 {
     let align = at_least_16(align);
     if addr == 0 {
-        return Resized {
-            done: true,
-            payload: allocate_aligned(heap, size, align),
-        };
+        return Resized::changed(allocate_aligned(heap, size, align));
     }
     resize(heap, addr, payload, size, align)
 }
@@ -83,20 +74,11 @@ fn resize_wide<F: BitPattern, S: BitPattern, const FLLEN: usize, const SLLEN: us
     ensures { ResizesWide SLLEN heap.old payload.of size (number_of result) result.payload.of heap.new }
 {
     let Ok(layout) = Layout::from_size_align(size, 16) else {
-        return Resized {
-            done: false,
-            payload,
-        };
+        return Resized { number: 0, payload };
     };
     match heap.reallocate_thin_unknown_align(addr, payload, layout) {
-        Ok(payload) => Resized {
-            done: true,
-            payload,
-        },
-        Err(payload) => Resized {
-            done: false,
-            payload,
-        },
+        Ok(payload) => Resized::changed(payload),
+        Err(payload) => Resized { number: 0, payload },
     }
 }
 
@@ -111,10 +93,7 @@ pub(crate) fn resize_any<F: BitPattern, S: BitPattern, const FLLEN: usize, const
     ensures { ResizesAny SLLEN heap.old addr payload.of size (number_of result) result.payload.of heap.new }
 {
     if addr == 0 {
-        return Resized {
-            done: true,
-            payload: allocate_aligned(heap, size, 16),
-        };
+        return Resized::changed(allocate_aligned(heap, size, 16));
     }
     // By this call it is known that the payload is live.
     let (_, payload) = heap.usable_thin(addr, payload);
@@ -137,20 +116,11 @@ fn resize_there<F: BitPattern, S: BitPattern, const FLLEN: usize, const SLLEN: u
 {
     // Of the layout only the size counts.
     let Ok(layout) = Layout::from_size_align(size, 16) else {
-        return Resized {
-            done: false,
-            payload,
-        };
+        return Resized { number: 0, payload };
     };
     match heap.resize_thin_unknown_align(addr, payload, layout) {
-        Ok(payload) => Resized {
-            done: true,
-            payload,
-        },
-        Err(payload) => Resized {
-            done: false,
-            payload,
-        },
+        Ok(payload) => Resized::changed(payload),
+        Err(payload) => Resized { number: 0, payload },
     }
 }
 
@@ -165,10 +135,7 @@ pub(crate) fn resize_in_place<F: BitPattern, S: BitPattern, const FLLEN: usize, 
     ensures { ResizesInPlace heap.old addr payload.of size (number_of result) result.payload.of heap.new }
 {
     if addr == 0 {
-        return Resized {
-            done: false,
-            payload,
-        };
+        return Resized { number: 0, payload };
     }
     resize_there(heap, addr, payload, size)
 }

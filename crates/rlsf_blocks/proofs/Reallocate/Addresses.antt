@@ -1,7 +1,6 @@
 -- The address that a reallocation returns isn't 0.
 use Rattle.std.proofs.Common.{◌≡◌, ◌≢◌, ℕ, zero, suc, Option, Some, None, arith, inl, refl, subst, sym}
 use Rattle.rlsf_base.specs.Addr.{reply_of}
-use Rattle.rlsf_base.specs.Space.{Space}
 use Rattle.rlsf_model.proofs.Payloads.{IsUsed-after_start, payload_of-after}
 use Rattle.rlsf_model.specs.Lists.{IsIn}
 use Rattle.rlsf_model.specs.Reallocate.{Plan, ReallocatesBy, moved}

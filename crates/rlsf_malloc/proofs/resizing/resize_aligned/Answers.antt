@@ -1,18 +1,23 @@
-use Rattle.std.proofs.Common.{sym, subst}
+use Rattle.std.proofs.Common.{ℕ, sym, subst}
+use Rattle.rlsf_heap.specs.Heap.{PayloadView}
 use Rattle.rlsf_malloc.specs.Calls.{Allocates}
 use Rattle.rlsf_malloc.specs.Replies.{number_of}
-use Rattle.rlsf_malloc.specs.Resizing.{Resizes}
+use Rattle.rlsf_malloc.specs.Resizing.{Resizes, ResizesAligned}
 use Rattle.rlsf_malloc.proofs.resizing.resize_aligned.Goals as goal
 
 pub returns-then-addr-eq0 : goal.returns-then-addr-eq0
 returns-then-addr-eq0 g c =
-    let p = c.allocate_aligned.result.of in record {
+    let p = c.allocate_aligned.result.of in
+    let told = c.changed.ensures in
+    subst (λ (x : ℕ × PayloadView). ResizesAligned g.row.SLLEN c.args.heap.now c.args.addr c.args.payload.of c.args.size c.args.align x.0 x.1 c.allocate_aligned.new.heap)
+    (λ i. (sym told.0 i, sym told.1 i))
+    (record {
       fresh = λ e. (
         sym c.allocate_aligned.ensures.0,
         subst (λ a. Allocates g.row.SLLEN c.args.heap.now c.args.size a p c.allocate_aligned.new.heap) c.at_least_16-align.ensures c.allocate_aligned.ensures.1,
       );
       known = λ some. absurd (some c.if-addr-eq0.true);
-    }
+    })
 
 pub returns : goal.returns
 returns g c =

@@ -1,9 +1,9 @@
-use Rattle.std.proofs.Common.{◌≡◌, Some, arith, rules, true≢false, sym, ap, subst, ◌∙◌}
+use Rattle.std.proofs.Common.{◌≡◌, ℕ, Some, arith, rules, true≢false, sym, ap, subst, ◌∙◌}
 use Rattle.rlsf_model.specs.Callers.{align_at}
 use Rattle.rlsf_heap.specs.Heap.{HeapView, PayloadView}
 use Rattle.rlsf_malloc.specs.Calls.{IsLiveAligned}
 use Rattle.rlsf_malloc.specs.Replies.{number_of}
-use Rattle.rlsf_malloc.specs.Resizing.{Resizes, ResizesWide}
+use Rattle.rlsf_malloc.specs.Resizing.{Resizes, ResizesAny, ResizesWide}
 use Rattle.rlsf_malloc.proofs.Outcomes.{some-same}
 use Rattle.rlsf_malloc.proofs.resizing.resize_any.Goals as goal
 
@@ -16,11 +16,14 @@ is_narrow-requires g c =
 
 pub returns-then-addr-eq0 : goal.returns-then-addr-eq0
 returns-then-addr-eq0 g c =
-    record {
+    let told = c.changed.ensures in
+    subst (λ (x : ℕ × PayloadView). ResizesAny g.row.SLLEN c.args.heap.now c.args.addr c.args.payload.of c.args.size x.0 x.1 c.allocate_aligned.new.heap)
+    (λ i. (sym told.0 i, sym told.1 i))
+    (record {
       fresh = λ e. (sym c.allocate_aligned.ensures.0, c.allocate_aligned.ensures.1);
       narrow = λ some e. absurd (some c.if-addr-eq0.true);
       wide = λ some e. absurd (some c.if-addr-eq0.true);
-    }
+    })
 
 pub returns-then-is_narrow : goal.returns-then-is_narrow
 returns-then-is_narrow g c =

@@ -1,7 +1,9 @@
-use Rattle.std.proofs.Common.{arith, Some, None, true≢false, refl, sym, subst, ◌∙◌}
+use Rattle.std.proofs.Common.{ℕ, arith, Some, None, true≢false, refl, sym, subst, ◌∙◌}
 use Rattle.rlsf_model.specs.NoMove.{ReallocatesWithoutMove}
+use Rattle.rlsf_heap.specs.Heap.{PayloadView}
 use Rattle.rlsf_heap.specs.Reallocation.{owned_by}
 use Rattle.rlsf_heap.specs.Replies.{IsReallocated, LeavesOthers}
+use Rattle.rlsf_malloc.specs.Resizing.{ResizesThere}
 use Rattle.rlsf_malloc.proofs.Outcomes.{kept_heap, same_heap, step_of}
 use Rattle.rlsf_malloc.proofs.Reallocated.{is_refused, is_resized, not_resized_there, resized_there, unchanged}
 use Rattle.rlsf_malloc.proofs.resizing.resize_there.Goals as goal
@@ -20,9 +22,11 @@ returns-in-Ok-resize_thin_unknown_align g c =
     let made : IsReallocated new.state p size p.align r.of = subst (λ s. IsReallocated new.state p s p.align r.of) shape.0 has.resized.made in
     let others : LeavesOthers old.state new.state addr r.of.start =
     record { some = λ e. some (sym has.start ∙ e); new = λ off. absurd (off has.start); aligns = λ a off off_new i. has.aligns i a } in
-    resized_there old new same p addr is.start some size r.of r.addr did.result.at has.start (c.in-Ok.ensures.succeeds.0 refl) step
+    let told = c.changed.ensures in
+    subst (λ (x : ℕ × PayloadView). ResizesThere old p size x.0 x.1 new) (λ i. (sym told.0 i, sym told.1 i))
+    (resized_there old new same p addr is.start some size r.of r.addr did.result.at has.start (c.in-Ok.ensures.succeeds.0 refl) step
     (is_resized old new same p addr is.start some size p.align r.of has.resized.identity has.resized.requested made (has.resized.here.written ready) others
-    (λ off. absurd (off has.start))) did.bounds.count
+    (λ off. absurd (off has.start))) did.bounds.count)
 
 pub returns-in-Err : goal.returns-in-Err
 returns-in-Err g c =

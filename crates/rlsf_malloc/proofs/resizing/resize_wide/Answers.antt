@@ -1,7 +1,9 @@
-use Rattle.std.proofs.Common.{arith, Some, None, true≢false, refl, sym, subst, ◌∙◌}
+use Rattle.std.proofs.Common.{ℕ, arith, Some, None, true≢false, refl, sym, subst, ◌∙◌}
+use Rattle.rlsf_heap.specs.Heap.{PayloadView}
 use Rattle.rlsf_heap.specs.Reallocation.{owned_by}
 use Rattle.rlsf_heap.specs.Replies.{IsReallocated}
 use Rattle.rlsf_heap.specs.ThinUnknownAlign.{StaysOrMoves}
+use Rattle.rlsf_malloc.specs.Resizing.{ResizesWide}
 use Rattle.rlsf_malloc.proofs.Outcomes.{kept_heap, same_heap, step_of}
 use Rattle.rlsf_malloc.proofs.Reallocated.{is_refused, is_resized, not_resized_wide, resized_wide, unchanged}
 use Rattle.rlsf_malloc.proofs.resizing.resize_wide.Goals as goal
@@ -19,9 +21,11 @@ returns-in-Ok-reallocate_thin_unknown_align g c =
     (subst (λ a. StaysOrMoves sllen (owned_by old.state p) addr layout.size a (Some r.of.start) new.state) shape.1
     (step_of g.row.FLLEN sllen new (λ t. StaysOrMoves sllen (owned_by old.state p) addr layout.size layout.align (Some r.of.start) t) did.step)) in
     let made : IsReallocated new.state p size r.of.align r.of = subst (λ s. IsReallocated new.state p s r.of.align r.of) shape.0 has.made in
-    resized_wide old new same p addr is.start some size sllen r.of r.addr did.result.at has.others.some (c.in-Ok.ensures.succeeds.0 refl) step
+    let told = c.changed.ensures in
+    subst (λ (x : ℕ × PayloadView). ResizesWide sllen old p size x.0 x.1 new) (λ i. (sym told.0 i, sym told.1 i))
+    (resized_wide old new same p addr is.start some size sllen r.of r.addr did.result.at has.others.some (c.in-Ok.ensures.succeeds.0 refl) step
     (λ long. did.room.there.enough (omega (arith, long, shape.0))) has.there (λ apart. has.moved apart ∙ shape.1)
-    (is_resized old new same p addr is.start some size r.of.align r.of has.identity refl made has.written has.others has.gone) did.bounds.count
+    (is_resized old new same p addr is.start some size r.of.align r.of has.identity refl made has.written has.others has.gone) did.bounds.count)
 
 pub returns-in-Err : goal.returns-in-Err
 returns-in-Err g c =

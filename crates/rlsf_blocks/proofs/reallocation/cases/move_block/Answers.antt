@@ -1,9 +1,8 @@
-use Rattle.std.proofs.Common.{◌≡◌, ◌≢◌, ◌+◌, ◌≤◌, Option, Some, IfNone, arith, refl, subst}
+use Rattle.std.proofs.Common.{◌≡◌, Some, IfNone, arith, subst}
 use Rattle.rlsf_base.specs.Addr.{reply_of}
 use Rattle.rlsf_blocks.proofs.Reallocate.Addresses.{address_some, some_reply}
 use Rattle.rlsf_blocks.specs.Steps.Resize.{IsHereStill, IsReallocated}
 use Rattle.rlsf_model.specs.Reallocate.{plan}
-use Rattle.rlsf_blocks.proofs.reallocation.cases.move_block.Given as given
 use Rattle.rlsf_blocks.proofs.reallocation.cases.move_block.Goals as goal
 
 pub moved-requires : goal.moved-requires

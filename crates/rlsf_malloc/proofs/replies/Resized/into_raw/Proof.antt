@@ -1,19 +1,9 @@
 -- `into_raw` of a payload whose size was to change passes to the caller what its payload owns.
-use Rattle.rlsf_malloc.proofs.Walking.{◌≡◌, ℕ, List, [], ◌∷◌, refl, w64, proved, id⊢, ftrue, Val, vint, tables, ‵, ◌⊛◌, some, ◌$◌, ◌∵◌, ! }
+use Rattle.rlsf_malloc.proofs.Walking.{List, [], ◌∷◌, refl, w64, proved, id⊢, ftrue, Val, vint, tables, ‵, ◌⊛◌, some, ◌$◌, ◌∵◌, ! }
 use Rattle.rlsf_malloc.proofs.Walking.{qed, done, keep, drop, use1, split, join, pick, rewrite, suffices, group, enter, of_opd, stop, no_more}
 use Rattle.rlsf_malloc.proofs.Walking.{and_then, returns, alloc_all, pass_all, free_all, look_at, get, sets, lands_as, usize, Is, shows, plain, nothing, owned, peeks}
-use Rattle.rlsf_malloc.proofs.Walking.{Stays, walk_of, stay_dropped, ends_at, framed, uint_Makes}
+use Rattle.rlsf_malloc.proofs.Walking.{Stays, walk_of, stay_dropped, ends_at, framed, uint_Makes, uint_Lawful}
 use base.Fml.{feq}
-use lib.Dec.{T}
-use mathlib.Core.Bool.{Bool, not}
-use denote.Builtin.{bool}
-use types.Kit.{Sq, at_ret, prop}
-use types.Run.{branches, exec, first, lit}
-use types.ByLocal.{env, sets_last}
-use Rattle.std.proofs.Common.{◌^◌, ◌<◌, true, false, ap, ◌∙◌, lit<}
-use Rattle.std.specs.Prelude.{if◌then◌else◌}
-use Rattle.rlsf_malloc.specs.Replies.{number_of}
-use Rattle.rlsf_malloc.proofs.Walking.{only}
 use denote.RattleType.{Valss}
 use denote.Triple.Walked.{says}
 use types.Kit.{frame}
@@ -22,8 +12,8 @@ use types.Part.{whole, sub}
 use types.Run.{fld}
 use Rattle.core.proofs.alloc.Calls.{Goes-blank}
 use Rattle.rlsf_heap.specs.Thin.{owns_reply}
-use Rattle.rlsf_heap.specs.contracts.thin.ThinPayload as payload
-use Rattle.rlsf_heap.proofs.thin.ThinPayload.TheLaws as payload_laws
+use Rattle.rlsf_heap.specs.contracts.thin.ThinPayload as thin
+use Rattle.rlsf_heap.proofs.thin.ThinPayload.TheLaws as thin_laws
 use Rattle.rlsf_heap.proofs.thin.ThinPayload.into_raw.Met.{met}
 use Rattle.rlsf_malloc.proofs.Steps.{passes_number}
 use Rattle.rlsf_malloc.specs.contracts.replies.Resized as reply
@@ -32,50 +22,35 @@ use Rattle.rlsf_malloc.specs.contracts.replies.Resized.into_raw as f
 use Rattle.rlsf_malloc.proofs.replies.Resized.into_raw.Statement.{statement}
 use Rattle.rlsf_malloc.proofs.replies.Resized.into_raw.Code as code
 
-number_yes : (b : Bool) (n : ℕ) → T b → n ≡ (if b then n else 0)
-number_yes true n t = refl
-number_yes false n t = absurd t
-
-number_no : (b : Bool) (n : ℕ) → T (not b) → 0 ≡ (if b then n else 0)
-number_no true n t = absurd t
-number_no false n t = refl
-
 abbrev stayed : Stays f.ended.signature.params f.ended.kept
 stayed = (stay_dropped (plain (λ _. reply.the_row)) f.ended.kept.0, tt)
 
 pub into_raw_spec : {M : Type 1} → statement M
 into_raw_spec 𝓤 𝓛 𝓜 𝓡 wired =
-    let c = f.clauses 𝓛 𝓜.mem 𝓡.returns in let W = walk_of 𝓛 f.ended stayed c in let Q = payload.the_row in let Z = reply.the_row in
+    let c = f.clauses 𝓛 𝓜.mem 𝓡.returns in let W = walk_of 𝓛 f.ended stayed c in let Q = thin.the_row in let Z = reply.the_row in
     proved 𝓛 f.ended stayed c 𝓜 𝓡 (Goes-blank 𝓛 0 (plain (λ _. reply.the_row)) f.ended.kept.0 (λ κs x w. tt), tt)
     f.Key.name code.function (code.unfolded 𝓤 𝓛.H 𝓜 𝓡 wired)
     (λ κs. ((λ r. reply_laws.lowers.lowered r ∷ []), tt)) (λ κs. (reply_laws.lowers.val_is, tt)) (λ κs qs bounds a g are.
-    let r = a.0 in let v = reply_laws.lowers.lowered r in let q = r.payload in let vq = payload_laws.lowers.lowered q in
+    let r = a.0 in let v = reply_laws.lowers.lowered r in let q = r.payload in let vq = thin_laws.lowers.lowered q in
     let y : W.Ghost = ((κs, qs, bounds, a, (v ∷ [], tt)), g) in
-    let 𝓣 = tables 𝓤 𝓛.H 𝓜 𝓡 𝓡.env in
-    let out : (n : ℕ) → n < 2 ^ 64 → n ≡ number_of r → Sq 𝓛 (‵ (owns_reply q.of) ∷ []) (prop (W.post y (vint w64 n))) = λ n fits is.
-    suffices ! _ (ends_at 𝓛 f.ended stayed c y (vint w64 n) n ((tt, (tt, tt)), tt) (tt, tt)) $
-    owned ! usize _ (uint_Makes 𝓛 w64) n _ (refl, fits) $ nothing ! $ nothing ! $ join ! $ nothing ! $ group ! 3 $ frame ! $ says ! is $ done ! in
     qed 𝓛 ((‵ ftrue ⊛ (‵ (Z.own_val r (v ∷ [])) ⊛ ‵ ftrue)) ∷ ‵ ftrue ∷ []) ∵ split ! $ drop ! $ split ! $
     peeks ! Z (Is Z) (shows 𝓛 Z) r (v ∷ []) (λ is.
-    use1 𝓛 (some (λ (us : Valss (bool ∷ Q ∷ [])). ‵ (feq (List Val) (v ∷ []) _) ⊛ (‵ (bool.own_val r.done us.0) ⊛ (‵ (Q.own_val q us.1.0) ⊛ ‵ ftrue))))
+    use1 𝓛 (some (λ (us : Valss (usize ∷ Q ∷ [])). ‵ (feq (List Val) (v ∷ []) _) ⊛ (‵ (usize.own_val r.number us.0) ⊛ (‵ (Q.own_val q us.1.0) ⊛ ‵ ftrue))))
     (id⊢ 𝓤 _) $
-    pick ! (λ us. split ! $ drop ! $ split ! $ drop ! $ split ! $
-    peeks ! Q (Is Q) (shows 𝓛 Q) q us.1.0 (λ is_us. rewrite ! 0 (λ (vs : List Val). ‵ (Q.own_val q vs)) (payload_laws.lowers.val_is q us.1.0 is_us) refl $
-    peeks ! Q (Is Q) (shows 𝓛 Q) q (vq ∷ []) (λ is_q. let typed = ((payload_laws.the_row_laws.lawful 𝓛).typed q _ is_q).0 in keep ! (0 ∷ []) $
+    pick ! (λ us. split ! $ drop ! $ split ! $
+    peeks ! usize (Is usize) (shows 𝓛 usize) r.number us.0 (λ is_n. drop ! $ split ! $
+    peeks ! Q (Is Q) (shows 𝓛 Q) q us.1.0 (λ is_us. rewrite ! 0 (λ (vs : List Val). ‵ (Q.own_val q vs)) (thin_laws.lowers.val_is q us.1.0 is_us) refl $
+    peeks ! Q (Is Q) (shows 𝓛 Q) q (vq ∷ []) (λ is_q. let typed = ((thin_laws.the_row_laws.lawful 𝓛).typed q _ is_q).0 in keep ! (0 ∷ []) $
     enter ! _ _ _ _ _ $ alloc_all ! (λ l. pass_all ! refl ((reply_laws.the_row_laws.lawful 𝓛).typed r _ is) $
     -- [the payload; the locals]
-    sets ! (of_opd ! (get_in ! (fld ! refl (stop !)) (sub ! 0 refl (whole !)))) refl (tt, tt) $
+    sets ! (of_opd ! (get_in ! (fld ! refl (stop !)) (sub ! 0 refl (whole !)))) refl (tt, record { fits = is_n.1 }) $
     sets ! (of_opd ! (get_in ! (fld ! refl (stop !)) (sub ! 1 refl (whole !)))) refl typed $
     sets ! (of_opd ! (get ! refl)) refl typed $
     passes_number ! (framed 𝓤 𝓛.H 𝓜 (tables 𝓤 𝓛.H 𝓜 𝓡 𝓡.env)) Q (λ p. p.addr) (λ p. owns_reply p.of)
     (met 𝓤 𝓛 𝓜 𝓡 (code.calls-rlsf_heap::thin::ThinPayload::into_raw 𝓡.env wired)) q vq (λ i. and_then ! (get ! refl) (no_more !))
-    (λ u m is_m at. lands_as ! (ap only is_m.0) refl (tt, record { fits = is_m.1 }) $
-    -- [what the payload owned; the locals]
-    sets ! (of_opd ! (get ! refl)) refl (tt, tt) $
-    first ! $ branches ! (get ! refl)
-    (λ yes. sets_last ! (of_opd ! (get ! refl)) refl (tt, record { fits = is_m.1 }) $ exec ! 𝓣.C 𝓣.Λ (env code.Mir.locals l) code.Mir.t-7 (at_ret _ (W.post y)) $
-    sets ! (of_opd ! (get ! refl)) refl (tt, record { fits = is_m.1 }) $
-    returns ! (look_at ! 0 refl) $ free_all ! refl $ keep ! (0 ∷ []) $ out m is_m.1 (at ∙ number_yes r.done q.addr yes))
-    (λ no. sets_last ! (of_opd ! (lit ! tt)) refl (tt, record { fits = lit< tt }) $ exec ! 𝓣.C 𝓣.Λ (env code.Mir.locals l) code.Mir.t-7 (at_ret _ (W.post y)) $
-    sets ! (of_opd ! (get ! refl)) refl (tt, record { fits = lit< tt }) $
-    returns ! (look_at ! 0 refl) $ free_all ! refl $ keep ! (0 ∷ []) $ out 0 (lit< tt) (number_no r.done q.addr no)))))))))
+    (λ u m is_m at. lands_as ! refl refl ((uint_Lawful 𝓛 w64).typed m _ is_m).0 $
+    -- [what the payload owned; its address; the locals]
+    sets ! (of_opd ! (get ! refl)) refl (tt, record { fits = is_n.1 }) $
+    returns ! (look_at ! 0 refl) $ free_all ! refl $ keep ! (0 ∷ []) $
+    suffices ! _ (ends_at 𝓛 f.ended stayed c y (vint w64 r.number) r.number ((tt, (tt, tt)), tt) (tt, tt)) $
+    owned ! usize _ (uint_Makes 𝓛 w64) r.number _ (refl, is_n.1) $ nothing ! $ nothing ! $ join ! $ nothing ! $ group ! 3 $ frame ! $ says ! refl $ done !))))))))
