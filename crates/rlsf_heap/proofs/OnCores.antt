@@ -43,7 +43,8 @@ module _ {fllen sllen : ℕ} {m n : Space} {y : Table} {j k : State} {most : ℕ
   pub stays : Stays m n
   stays = record { start = left.costs.start; own = left.own; here = left.here }
 
-  pub IsHeap-left : {fl_bits sl_bits : ℕ} → IsValid fl_bits sl_bits fllen sllen → (fs : List Entry) → AreIssued (read_from n k) fs → (now : ℕ) → now ≡ live_count (read_from n k) → IsHeap fl_bits sl_bits fllen sllen n y k fs now
+  pub IsHeap-left : {fl_bits sl_bits : ℕ} → IsValid fl_bits sl_bits fllen sllen → (fs : List Entry) → AreIssued (read_from n k) fs
+      → (now : ℕ) → now ≡ live_count (read_from n k) → IsHeap fl_bits sl_bits fllen sllen n y k fs now
   IsHeap-left valid fs tickets now counted = record {
     valid = valid;
     stands = left.core.stands;

@@ -28,7 +28,8 @@ allocate_in-requires g c = (omega arith, core_of c.self.invariant g.FLBitmap.Bit
 pub invariant_of-self-in-None : goal.invariant_of-self-in-None
 invariant_of-self-in-None g c =
     let e = c.in-None.ensures in
-    IsHeap-left e.left c.self.invariant.valid c.self.inside.ledger.entries (subst (λ (t : State). AreIssued t c.self.inside.ledger.entries) (sym e.refused.same) c.self.invariant.tickets)
+    IsHeap-left e.left c.self.invariant.valid c.self.inside.ledger.entries
+    (subst (λ (t : State). AreIssued t c.self.inside.ledger.entries) (sym e.refused.same) c.self.invariant.tickets)
     c.self.inside.live (c.self.invariant.counted ∙ ap live_count (sym e.refused.same))
 
 pub returns-in-None : goal.returns-in-None

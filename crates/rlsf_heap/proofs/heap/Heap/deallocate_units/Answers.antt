@@ -68,8 +68,17 @@ deallocate_block_in-requires g c =
     let p = c.args.payload in
     let back = units.units-back is.stands is.tickets p.key p.start p.len e.issued q e.start e.bytes e.out in
     let own = units.units-own is.stands is.tickets p.key p.start p.len e.issued q e.start e.bytes e.out in
-    let there = subst (λ (s : State). Holds s (d.put_unit_payload-block.result + 16) (block g d)) (sym (same g d)) ((held g d).0, (held g d).1 ∙ sym (at g d)) in
-    (omega arith, (record { valid = IsValid-widest g.FLBitmap.BitPattern.width_limit is.valid; stands = subst (StandsFor g.row.FLLEN g.row.SLLEN (contents q c.self.inside.table)) (sym (same g d)) back; is_bare = is.is_bare }, (block g d, there, starts g d, own)))
+    let there = subst (λ (s : State). Holds s (d.put_unit_payload-block.result + 16) (block g d)) (sym (same g d)) ((held g d).0, (held g d).1 ∙ sym (at g d)) in (
+      omega arith,
+      (
+        record {
+          valid = IsValid-widest g.FLBitmap.BitPattern.width_limit is.valid;
+          stands = subst (StandsFor g.row.FLLEN g.row.SLLEN (contents q c.self.inside.table)) (sym (same g d)) back;
+          is_bare = is.is_bare;
+        },
+        (block g d, there, starts g d, own),
+      ),
+    )
 
 -- the payload is gone from the heap's state
 did : (g : given.Over) (c : After-deallocate_block_in g) → Deallocates (read_from c.self.inside.memory c.self.inside.state.state) c.args.payload.start
@@ -91,7 +100,8 @@ invariant_of-self g c =
     let d = (goal.at.invariant_of-self g c).After-put_unit_payload-block in
     let f = (goal.at.invariant_of-self g c).After-deallocate_block_in in
     let e = c.put_unit_payload-block.ensures in
-    IsHeap-left c.deallocate_block_in.ensures.left is.valid c.put_unit_payload-block.new.ledger.entries (issued-as (is_released is.stands.well_formed (did g f) (block g d) (held g d)) (sym e.ledger.1)
+    IsHeap-left c.deallocate_block_in.ensures.left is.valid c.put_unit_payload-block.new.ledger.entries
+    (issued-as (is_released is.stands.well_formed (did g f) (block g d) (held g d)) (sym e.ledger.1)
     (units.issued-without is.stands is.tickets c.args.payload.key c.args.payload.start c.args.payload.len e.issued))
     (c.self.inside.live - 1) (omega (arith, is.counted, (gone is.stands.well_formed (did g f)).count))
 

@@ -75,7 +75,8 @@ invariant_of-self g c =
     let d = (goal.at.invariant_of-self g c).After-put_room in
     let e = (goal.at.invariant_of-self g c).After-deallocate_in in
     let k = c.args.ticket.key in
-    IsHeap-left c.deallocate_in.ensures.left is.valid c.redeem.new.self.entries (issued-as (is_released is.stands.well_formed (did g e) (block g d) (held g d)) (redeemed _ _ c.args.part k _ _ _ _ c.requires.ticket c.redeem.ensures.entries)
+    IsHeap-left c.deallocate_in.ensures.left is.valid c.redeem.new.self.entries
+    (issued-as (is_released is.stands.well_formed (did g e) (block g d) (held g d)) (redeemed _ _ c.args.part k _ _ _ _ c.requires.ticket c.redeem.ensures.entries)
     (issued-released is.stands is.tickets k c.args.part c.args.ticket.align (known g d)))
     (c.self.inside.live - 1) (omega (arith, is.counted, (gone is.stands.well_formed (did g e)).count))
 
@@ -106,7 +107,9 @@ returns g c =
       bounds = bounds_gone is.stands.well_formed step;
       frame = record {
         heap = heap-over m n c.self.inside.table c.deallocate_in.new.table j k (costs.start ∙ e.start) (costs.length ∙ ap length e.bytes) (costs.view ∙ e.view)
-            (omega (arith, costs.grow, e.touches)) (spare-first m q n s t e.start e.bytes (subst (λ (b : State). KeepsSpare q b n t) (same g d) left.spare)) c.self.inside.ledger.name c.redeem.new.self.name c.redeem.ensures.name;
+            (omega (arith, costs.grow, e.touches))
+            (spare-first m q n s t e.start e.bytes (subst (λ (b : State). KeepsSpare q b n t) (same g d) left.spare))
+            c.self.inside.ledger.name c.redeem.new.self.name c.redeem.ensures.name;
         raw = raw-back m q n r e.start inside.0 e.out (stays left);
         chunks = chunks-deallocated s t c.args.part.start step;
         copied = omega (arith, e.copied, costs.copied);

@@ -47,8 +47,17 @@ deallocate_in-requires g c =
     let d = (goal.at.deallocate_in-requires g c).After-put_back in
     let q = c.put_back.new.self in
     let b = back_in g d in
-    let there = subst (λ (s : State). Holds s c.start-addr.result (block b)) (same g d) ((held b).0, (held b).1 ∙ sym c.start-addr.ensures) in
-    (omega arith, (record { valid = IsValid-widest g.FLBitmap.BitPattern.width_limit is.valid; stands = subst (StandsFor g.row.FLLEN g.row.SLLEN (contents q c.self.inside.table)) (same g d) (stands b); is_bare = is.is_bare }, (block b, there, own-here q (usable (block b)) (here b))))
+    let there = subst (λ (s : State). Holds s c.start-addr.result (block b)) (same g d) ((held b).0, (held b).1 ∙ sym c.start-addr.ensures) in (
+      omega arith,
+      (
+        record {
+          valid = IsValid-widest g.FLBitmap.BitPattern.width_limit is.valid;
+          stands = subst (StandsFor g.row.FLLEN g.row.SLLEN (contents q c.self.inside.table)) (same g d) (stands b);
+          is_bare = is.is_bare;
+        },
+        (block b, there, own-here q (usable (block b)) (here b)),
+      ),
+    )
 
 -- the payload is gone from the heap's state
 did : (g : given.Over) (c : After-deallocate_in g)
@@ -72,7 +81,8 @@ invariant_of-self g c =
     let e = (goal.at.invariant_of-self g c).After-deallocate_in in
     let b = back_in g (goal.at.invariant_of-self g c).After-put_back in
     let k = c.args.ticket.key in
-    IsHeap-left c.deallocate_in.ensures.left is.valid c.redeem.new.self.entries (issued-as (is_released is.stands.well_formed (did g e) (old_block b) (held_before b)) (redeemed _ _ c.args.part k _ _ _ _ c.requires.ticket c.redeem.ensures.entries)
+    IsHeap-left c.deallocate_in.ensures.left is.valid c.redeem.new.self.entries
+    (issued-as (is_released is.stands.well_formed (did g e) (old_block b) (held_before b)) (redeemed _ _ c.args.part k _ _ _ _ c.requires.ticket c.redeem.ensures.entries)
     (issued_gone b))
     (c.self.inside.live - 1) (omega (arith, is.counted, (gone is.stands.well_formed (did g e)).count))
 
