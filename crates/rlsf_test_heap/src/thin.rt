@@ -195,11 +195,14 @@ fn payload_without_room_is_none(rt: HostRuntime) {
     are(&rt, &[none, heap.live()], &[0, 0]);
 }
 
-static STAYS_OR_MOVES: [Step; 3] = [
+static STAYS_OR_MOVES: [Step; 4] = [
+    // Refused.
     (Call::ResizeThere, 200, 4112, 112),
     (Call::Resize, 150, 4368, 176),
     // Refused.
     (Call::Resize, 1000, 4368, 176),
+    // It needs a block of 192 bytes, as it has.
+    (Call::ResizeThere, 170, 4368, 176),
 ];
 
 #[test]
