@@ -5,10 +5,10 @@ mod Gathered
 mod Joined
 mod Parts
 mod Pools
-mod RefusedWrites
 mod Removed
 mod RemovedRanges
 mod RunsByEdges
 mod SizeRefusals
 mod ToggledEdges
+mod Unchanged
 mod Validity

@@ -3,6 +3,6 @@ pub mod AllBlocks
 pub mod Answers
 pub mod Checked
 pub mod Removal
+pub mod Results
 pub mod Sizing
 pub mod Steps
-pub mod Writes

@@ -23,6 +23,6 @@ SucceedsWithinBounds sllen before addr size result =
     → refusal_at before addr size ≡ None → IsOk result
 
 -- afterwards the allocator is still sized for these bounds
-abbrev pub KeepsBounds : ℕ → State → ℕ → ℕ → State → Type 0
-KeepsBounds sllen before addr size after =
+abbrev pub KeepsBoundsSameAlign : ℕ → State → ℕ → ℕ → State → Type 0
+KeepsBoundsSameAlign sllen before addr size after =
     (count most align : ℕ) → IsSizedFor sllen count most align before → size ≤ most → IfSome (align_at before addr) (λ a. a ≤ align) → IsSizedFor sllen count most align after

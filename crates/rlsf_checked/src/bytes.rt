@@ -6,8 +6,9 @@ ghost use Rattle.rlsf_base.specs.Addr.{at};
 ghost use Rattle.rlsf_model.specs.Callers.{align_at, bytes_at, copied_over};
 ghost use Rattle.rlsf_model.specs.Run.{Fills};
 ghost use Rattle.rlsf_tlsf.specs.Allocator.{Steps};
+ghost use Rattle.rlsf_tlsf.specs.Bounds.{KeepsAllBounds};
 ghost use Rattle.rlsf_checked.specs.Answers.{copy_answer, if_live};
-ghost use Rattle.rlsf_checked.specs.Writes.{WritesOnlyAt};
+ghost use Rattle.rlsf_checked.specs.Results.{KeepsCheckedFrameCopying, KeepsCheckedFrameInPlace, RefusesUntouched};
 
 use crate::checked::CheckedTlsf;
 use crate::error::CheckedError;
@@ -25,14 +26,16 @@ impl<
     ///
     /// Returns `UnknownAddress` exactly if no payload is live at one of the addresses, else `OutOfRange` exactly if one of the payloads has
     /// fewer than `len` usable bytes. Then nothing changes.
+    ///
+    /// Takes time proportional to `len`: `len` bytes are copied, without a word access.
     pub fn copy(&mut self, from: Addr, to: Addr, len: usize) -> Result<(), CheckedError>
-        ensures answer { result ≡ copy_answer self.old.heap.state (at from) (at to) len }
         ensures step { OnOk result (Steps FLLEN SLLEN self.old.heap self.new.heap (Fills self.old.heap.state (at to)
             (copied_over self.old.heap.state (at from) (at to) len))) }
-        ensures filled { OnOk result (bytes_at self.new.heap.state (at to) ≡ copied_over self.old.heap.state (at from) (at to) len) }
-        ensures only { WritesOnlyAt SLLEN self.old self.new (at to) result }
+        ensures result { OnOk result (bytes_at self.new.heap.state (at to) ≡ copied_over self.old.heap.state (at from) (at to) len) }
+        ensures bounds { KeepsAllBounds SLLEN self.old.heap.state self.new.heap.state }
+        ensures refused { RefusesUntouched self.old self.new (result ≡ copy_answer self.old.heap.state (at from) (at to) len) result }
+        ensures frame { KeepsCheckedFrameCopying (at to) len self.old self.new result }
         ensures touches { self.new.heap.memory.touches ≡ self.old.heap.memory.touches }
-        ensures copied { OnOk result (self.new.heap.memory.copied ≡ self.old.heap.memory.copied + len) }
     {
         let Some(_) = self.alignment(from) else {
             return Err(CheckedError::UnknownAddress);
@@ -52,15 +55,16 @@ impl<
     /// Overwrites all usable bytes of a payload with a value. Everything else is unchanged.
     ///
     /// Returns `UnknownAddress` exactly if no payload is live at the address. Then nothing changes.
+    ///
+    /// Takes time proportional to the usable bytes: at most 3 word accesses, whatever the pools contain. No byte is copied.
     pub fn fill(&mut self, addr: Addr, value: u8) -> Result<(), CheckedError>
-        ensures answer { result ≡ if_live (align_at self.old.heap.state (at addr)) tt }
         ensures step { OnOk result (Steps FLLEN SLLEN self.old.heap self.new.heap (Fills self.old.heap.state (at addr)
             (replicate (length (bytes_at self.old.heap.state (at addr))) value))) }
-        ensures filled { OnOk result (bytes_at self.new.heap.state (at addr) ≡ replicate (length (bytes_at self.old.heap.state (at addr))) value) }
-        ensures only { WritesOnlyAt SLLEN self.old self.new (at addr) result }
+        ensures result { OnOk result (bytes_at self.new.heap.state (at addr) ≡ replicate (length (bytes_at self.old.heap.state (at addr))) value) }
+        ensures bounds { KeepsAllBounds SLLEN self.old.heap.state self.new.heap.state }
+        ensures refused { RefusesUntouched self.old self.new (result ≡ if_live (align_at self.old.heap.state (at addr)) tt) result }
+        ensures frame { KeepsCheckedFrameInPlace (at addr) self.old self.new }
         ensures touches { self.new.heap.memory.touches ≤ self.old.heap.memory.touches + 3 }
-        ensures grow { self.old.heap.memory.touches ≤ self.new.heap.memory.touches }
-        ensures copied { self.new.heap.memory.copied ≡ self.old.heap.memory.copied }
     {
         let Some(_) = self.alignment(addr) else {
             return Err(CheckedError::UnknownAddress);

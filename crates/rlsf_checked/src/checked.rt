@@ -7,22 +7,25 @@ ghost use Rattle.rlsf_base.specs.PowerOfTwo.{IsPowerOfTwo};
 ghost use Rattle.rlsf_base.specs.Range.{range_at};
 ghost use Rattle.rlsf_base.specs.SizeClass.{IsValid};
 ghost use Rattle.rlsf_base.specs.Sizes.{max_pool_size};
-ghost use Rattle.rlsf_base.specs.Space.{range_of, SamePlace};
+ghost use Rattle.rlsf_base.specs.Space.{range_of};
 ghost use Rattle.rlsf_model.specs.Allocate.{Allocates};
 ghost use Rattle.rlsf_model.specs.Callers.{align_at, bytes_at, written_over};
 ghost use Rattle.rlsf_model.specs.Insert.{Appends, Inserts, aligned_part, cut};
 ghost use Rattle.rlsf_model.specs.NoMove.{ReallocatesWithoutMove};
-ghost use Rattle.rlsf_model.specs.Reallocate.{Keeps, Reallocates};
+ghost use Rattle.rlsf_model.specs.Reallocate.{Reallocates};
 ghost use Rattle.rlsf_model.specs.Release.{Deallocates};
 ghost use Rattle.rlsf_model.specs.Run.{Fills};
-ghost use Rattle.rlsf_model.specs.Sized.{IsSizedFor, live_count};
+ghost use Rattle.rlsf_model.specs.Sized.{live_count};
 ghost use Rattle.rlsf_model.specs.State.{empty};
 ghost use Rattle.rlsf_blocks.specs.Blocks.{AreBlocks, walked};
 ghost use Rattle.rlsf_tlsf.specs.Allocator.{Steps, Stands};
+ghost use Rattle.rlsf_tlsf.specs.Bounds.{IfWithinBounds, KeepsAllBounds, KeepsBounds};
+ghost use Rattle.rlsf_tlsf.specs.Results.{IsAllocated, IsResized, KeepsFrameOfPools};
 ghost use Rattle.rlsf_checked.specs.Answers.{IsRefusedBy, append_answer, fits, if_in_range, if_live, insert_answer, is_next, is_within, addr_in, refusal_at, taken};
 ghost use Rattle.rlsf_checked.specs.declared.error.CheckedError.TheVariants.{InvalidClasses, NoRoom, OutOfMemory, UnknownAddress};
-ghost use Rattle.rlsf_checked.specs.Sizing.{KeepsBounds, SizesPool, SucceedsWithinBounds};
-ghost use Rattle.rlsf_checked.specs.Writes.{WritesOnlyAt};
+ghost use Rattle.rlsf_checked.specs.Results.{IsDeallocatedIfLive, IsReallocatedSameAlign, RefusesUnchanged, RefusesUntouched};
+ghost use Rattle.rlsf_checked.specs.Results.{KeepsCheckedFrame, KeepsCheckedFrameInPlace, KeepsCheckedFrameMoving};
+ghost use Rattle.rlsf_checked.specs.Sizing.{KeepsBoundsSameAlign, SizesPool, SucceedsWithinBounds};
 
 use crate::bytes::write_at;
 use crate::classes::are_valid;
@@ -41,6 +44,8 @@ use std::marker::Model;
 /// A mark is a byte for each 16 addresses of the memory. It records whether a payload begins there, and with which alignment. Each call
 /// reads one mark and writes at most two. The byte's highest bit is set where a run of contiguous chunks begins or ends, so that the blocks
 /// of all pools can be found. After `new`, the allocator requests nothing from the system.
+///
+/// The documentation of a call bounds its cost in word accesses, as that of `Tlsf` defines them. Reads and writes of marks aren't counted.
 #[derive(Drop)]
 pub struct CheckedTlsf<
     FLBitmap: BitPattern,
@@ -147,21 +152,16 @@ impl<
     /// - `OutsideMemory` exactly if the range doesn't lie in the memory.
     /// - else `NotBehind` exactly if the range begins before the end of the last pool.
     /// - else `TooShort` exactly if no chunk can be made of the range.
+    ///
+    /// At most 13 word accesses for each chunk that it makes. No byte is copied.
     pub fn insert(&mut self, range: Range) -> Result<usize, CheckedError>
-        ensures answer { result ≡ insert_answer FLLEN self.old range }
         ensures step { OnOk result (Steps FLLEN SLLEN self.old.heap self.new.heap (Inserts FLLEN self.old.heap.state range (taken result))) }
-        ensures pool { IfOk result (λ n. self.new.pool ≡ range_at range.start n) }
-        ensures same { OnErr result ((self.new.heap.state ≡ self.old.heap.state) × (self.new.pool ≡ self.old.pool)) }
-        ensures refused { OnErr result (self.new.heap.memory.bytes ≡ self.old.heap.memory.bytes) }
-        ensures aligns { align_at self.new.heap.state ≡ align_at self.old.heap.state }
-        ensures bytes { bytes_at self.new.heap.state ≡ bytes_at self.old.heap.state }
-        ensures count { live_count self.new.heap.state ≡ live_count self.old.heap.state }
-        ensures bounds { (count size align : ℕ) → IsSizedFor SLLEN count size align self.old.heap.state → IsSizedFor SLLEN count size align self.new.heap.state }
-        ensures sized_pool { SizesPool FLLEN SLLEN range self.old.heap.state self.new.heap.state result }
-        ensures place { SamePlace self.old.heap.memory self.new.heap.memory }
+        ensures result { IfOk result (λ n. self.new.pool ≡ range_at range.start n) }
+        ensures room { SizesPool FLLEN SLLEN range self.old.heap.state self.new.heap.state result }
+        ensures bounds { KeepsAllBounds SLLEN self.old.heap.state self.new.heap.state }
+        ensures refused { RefusesUnchanged self.old self.new (result ≡ insert_answer FLLEN self.old range) result }
+        ensures frame { KeepsFrameOfPools self.old.heap self.new.heap }
         ensures touches { self.new.heap.memory.touches ≤ self.old.heap.memory.touches + 13 * length (cut (max_pool_size FLLEN) (aligned_part range)) }
-        ensures grow { self.old.heap.memory.touches ≤ self.new.heap.memory.touches }
-        ensures copied { self.new.heap.memory.copied ≡ self.old.heap.memory.copied }
     {
         if !lies_in(self.heap.memory_ref(), range) {
             return Err(CheckedError::OutsideMemory);
@@ -193,21 +193,16 @@ impl<
     /// - `OutsideMemory` exactly if the range doesn't lie in the memory.
     /// - else `NotNext` exactly if the range doesn't begin at the end of the last pool, or no range was inserted.
     /// - else `TooShort` exactly if no byte of the range can be taken.
+    ///
+    /// At most 13 word accesses for each chunk that it makes, and at most 34 if a chunk grows. No byte is copied.
     pub fn append(&mut self, range: Range) -> Result<usize, CheckedError>
-        ensures answer { result ≡ append_answer FLLEN self.old range }
         ensures step { IfOk result (λ n. Steps FLLEN SLLEN self.old.heap self.new.heap (Appends FLLEN self.old.heap.state range n)) }
-        ensures pool { IfOk result (λ n. self.new.pool ≡ range_at self.old.pool.start (self.old.pool.len + n)) }
-        ensures same { OnErr result ((self.new.heap.state ≡ self.old.heap.state) × (self.new.pool ≡ self.old.pool)) }
-        ensures refused { OnErr result (self.new.heap.memory.bytes ≡ self.old.heap.memory.bytes) }
-        ensures aligns { align_at self.new.heap.state ≡ align_at self.old.heap.state }
-        ensures bytes { bytes_at self.new.heap.state ≡ bytes_at self.old.heap.state }
-        ensures count { live_count self.new.heap.state ≡ live_count self.old.heap.state }
-        ensures bounds { (count size align : ℕ) → IsSizedFor SLLEN count size align self.old.heap.state → IsSizedFor SLLEN count size align self.new.heap.state }
-        ensures place { SamePlace self.old.heap.memory self.new.heap.memory }
+        ensures result { IfOk result (λ n. self.new.pool ≡ range_at self.old.pool.start (self.old.pool.len + n)) }
+        ensures bounds { KeepsAllBounds SLLEN self.old.heap.state self.new.heap.state }
+        ensures refused { RefusesUnchanged self.old self.new (result ≡ append_answer FLLEN self.old range) result }
+        ensures frame { KeepsFrameOfPools self.old.heap self.new.heap }
         ensures touches { self.new.heap.memory.touches ≤ self.old.heap.memory.touches
             + (if is_some (max_pool_size FLLEN) then 13 * length (cut (max_pool_size FLLEN) (aligned_part range)) else 34) }
-        ensures grow { self.old.heap.memory.touches ≤ self.new.heap.memory.touches }
-        ensures copied { self.new.heap.memory.copied ≡ self.old.heap.memory.copied }
     {
         if !lies_in(self.heap.memory_ref(), range) {
             return Err(CheckedError::OutsideMemory);
@@ -235,27 +230,16 @@ impl<
     /// Returns `NoRoom` exactly if no free block has a class that reaches the sought size. Then nothing changes.
     ///
     /// Never refuses a payload within bounds that the allocator is sized for (`IsSizedFor`).
+    ///
+    /// Completes in constant time: at most 27 word accesses, whatever the pools contain. No byte is copied.
     pub fn allocate(&mut self, layout: Layout) -> Result<Addr, CheckedError>
-        ensures refused { IfErr result (λ e. e ≡ NoRoom) }
         ensures step { Steps FLLEN SLLEN self.old.heap self.new.heap (Allocates SLLEN self.old.heap.state layout.size layout.align (addr_in result)) }
-        ensures live { IfOk result (λ addr. align_at self.new.heap.state (at addr) ≡ Some layout.align) }
-        ensures sized { IfOk result (λ addr. layout.size ≤ length (bytes_at self.new.heap.state (at addr))) }
-        ensures few { IfOk result (λ addr. length (bytes_at self.new.heap.state (at addr)) < layout.size + 32) }
-        ensures new { IfOk result (λ addr. align_at self.old.heap.state (at addr) ≡ None) }
-        ensures aligns { IfOk result (λ addr. (a : ℕ) → a ≢ at addr → align_at self.new.heap.state a ≡ align_at self.old.heap.state a) }
-        ensures bytes { IfOk result (λ addr. (a : ℕ) → a ≢ at addr → bytes_at self.new.heap.state a ≡ bytes_at self.old.heap.state a) }
-        ensures room { (count size align : ℕ) → IsSizedFor SLLEN count size align self.old.heap.state → live_count self.old.heap.state ≤ count → layout.size ≤ size
-            → layout.align ≤ align → IsOk result }
-        ensures count { IfOk result (λ addr. live_count self.new.heap.state ≡ live_count self.old.heap.state + 1) }
-        ensures bounds { (count size align : ℕ) → IsSizedFor SLLEN count size align self.old.heap.state → layout.size ≤ size → layout.align ≤ align
-            → IsSizedFor SLLEN count size align self.new.heap.state }
-        ensures same { OnErr result (self.new.heap.state ≡ self.old.heap.state) }
-        ensures same_bytes { OnErr result (self.new.heap.memory.bytes ≡ self.old.heap.memory.bytes) }
-        ensures pool { self.new.pool ≡ self.old.pool }
-        ensures place { SamePlace self.old.heap.memory self.new.heap.memory }
+        ensures result { IfOk result (λ addr. IsAllocated self.old.heap.state self.new.heap.state layout.size layout.align (at addr)) }
+        ensures room { IfWithinBounds SLLEN self.old.heap.state layout.size layout.align (IsOk result) }
+        ensures bounds { KeepsBounds SLLEN self.old.heap.state self.new.heap.state layout.size layout.align }
+        ensures refused { RefusesUnchanged self.old self.new (IfErr result (λ e. e ≡ NoRoom)) result }
+        ensures frame { KeepsCheckedFrame self.old self.new }
         ensures touches { self.new.heap.memory.touches ≤ self.old.heap.memory.touches + 27 }
-        ensures grow { self.old.heap.memory.touches ≤ self.new.heap.memory.touches }
-        ensures copied { self.new.heap.memory.copied ≡ self.old.heap.memory.copied }
     {
         let Some(addr) = self.heap.allocate(layout) else {
             return Err(CheckedError::NoRoom);
@@ -267,20 +251,15 @@ impl<
     /// Deallocates a payload. Returns `UnknownAddress` exactly if none is live at the address. Then nothing changes.
     ///
     /// An address that was deallocated and allocated again is live, so a call with it can't be refused.
+    ///
+    /// Completes in constant time: at most 32 word accesses, whatever the pools contain. No byte is copied.
     pub fn deallocate(&mut self, addr: Addr) -> Result<(), CheckedError>
-        ensures answer { result ≡ if_live (align_at self.old.heap.state (at addr)) tt }
         ensures step { OnOk result (Steps FLLEN SLLEN self.old.heap self.new.heap (Deallocates self.old.heap.state (at addr))) }
-        ensures gone { align_at self.new.heap.state (at addr) ≡ None }
-        ensures aligns { (a : ℕ) → a ≢ at addr → align_at self.new.heap.state a ≡ align_at self.old.heap.state a }
-        ensures bytes { (a : ℕ) → a ≢ at addr → bytes_at self.new.heap.state a ≡ bytes_at self.old.heap.state a }
-        ensures count { OnOk result (live_count self.old.heap.state ≡ live_count self.new.heap.state + 1) }
-        ensures bounds { (count size align : ℕ) → IsSizedFor SLLEN count size align self.old.heap.state → IsSizedFor SLLEN count size align self.new.heap.state }
-        ensures same { OnErr result (self.new ≡ self.old) }
-        ensures pool { self.new.pool ≡ self.old.pool }
-        ensures place { SamePlace self.old.heap.memory self.new.heap.memory }
+        ensures result { IsDeallocatedIfLive self.old.heap.state self.new.heap.state (at addr) result }
+        ensures bounds { KeepsAllBounds SLLEN self.old.heap.state self.new.heap.state }
+        ensures refused { RefusesUntouched self.old self.new (result ≡ if_live (align_at self.old.heap.state (at addr)) tt) result }
+        ensures frame { KeepsCheckedFrame self.old self.new }
         ensures touches { self.new.heap.memory.touches ≤ self.old.heap.memory.touches + 32 }
-        ensures grow { self.old.heap.memory.touches ≤ self.new.heap.memory.touches }
-        ensures copied { self.new.heap.memory.copied ≡ self.old.heap.memory.copied }
     {
         match self.alignment(addr) {
             None => Err(CheckedError::UnknownAddress),
@@ -304,29 +283,17 @@ impl<
     /// - else `NoRoom` exactly if the reference model refuses.
     ///
     /// Never refuses to resize a live payload within bounds that the allocator is sized for (`IsSizedFor`).
+    ///
+    /// At most 66 word accesses, whatever the pools contain. At most the bytes that the payload had are copied.
     pub fn reallocate(&mut self, addr: Addr, size: usize) -> Result<Addr, CheckedError>
-        ensures answer { IsRefusedBy (refusal_at self.old.heap.state (at addr) size) result }
         ensures step { refusal_at self.old.heap.state (at addr) size ≡ None
             → Steps FLLEN SLLEN self.old.heap self.new.heap (Reallocates SLLEN self.old.heap.state (at addr) size (addr_in result)) }
-        ensures live { IfOk result (λ to. align_at self.new.heap.state (at to) ≡ align_at self.old.heap.state (at addr)) }
-        ensures sized { IfOk result (λ to. size ≤ length (bytes_at self.new.heap.state (at to))) }
-        ensures few { IfOk result (λ to. length (bytes_at self.new.heap.state (at to)) < size + 32) }
-        ensures kept { IfOk result (λ to. Keeps (bytes_at self.old.heap.state (at addr)) (bytes_at self.new.heap.state (at to))) }
-        ensures new { IfOk result (λ to. at to ≢ at addr → align_at self.old.heap.state (at to) ≡ None) }
-        ensures left { IfOk result (λ to. at to ≢ at addr → align_at self.new.heap.state (at addr) ≡ None) }
-        ensures aligns { IfOk result (λ to. (a : ℕ) → a ≢ at addr → a ≢ at to → align_at self.new.heap.state a ≡ align_at self.old.heap.state a) }
-        ensures bytes { IfOk result (λ to. (a : ℕ) → a ≢ at addr → a ≢ at to → bytes_at self.new.heap.state a ≡ bytes_at self.old.heap.state a) }
+        ensures result { IfOk result (λ to. IsReallocatedSameAlign self.old.heap.state self.new.heap.state (at addr) size (at to)) }
         ensures room { SucceedsWithinBounds SLLEN self.old.heap.state (at addr) size result }
-        ensures count { live_count self.new.heap.state ≡ live_count self.old.heap.state }
-        ensures bounds { KeepsBounds SLLEN self.old.heap.state (at addr) size self.new.heap.state }
-        ensures same { OnErr result (self.new.heap.state ≡ self.old.heap.state) }
-        ensures refused { OnErr result (self.new.heap.memory.bytes ≡ self.old.heap.memory.bytes) }
-        ensures pool { self.new.pool ≡ self.old.pool }
-        ensures place { SamePlace self.old.heap.memory self.new.heap.memory }
+        ensures bounds { KeepsBoundsSameAlign SLLEN self.old.heap.state (at addr) size self.new.heap.state }
+        ensures refused { RefusesUnchanged self.old self.new (IsRefusedBy (refusal_at self.old.heap.state (at addr) size) result) result }
+        ensures frame { KeepsCheckedFrameMoving (at addr) self.old self.new }
         ensures touches { self.new.heap.memory.touches ≤ self.old.heap.memory.touches + 66 }
-        ensures grow { self.old.heap.memory.touches ≤ self.new.heap.memory.touches }
-        ensures copied { self.new.heap.memory.copied ≤ self.old.heap.memory.copied + length (bytes_at self.old.heap.state (at addr)) }
-        ensures grow_copied { self.old.heap.memory.copied ≤ self.new.heap.memory.copied }
     {
         let Some(align) = self.alignment(addr) else {
             return Err(CheckedError::UnknownAddress);
@@ -351,25 +318,16 @@ impl<
     /// - `UnknownAddress` exactly if no payload is live at the address.
     /// - else `NoLayout` exactly if the size and the alignment together are above 2^63.
     /// - else `NoRoom` exactly if its block and a free one behind it don't suffice.
+    ///
+    /// Completes in constant time: at most 25 word accesses, whatever the pools contain.
     pub fn reallocate_no_move(&mut self, addr: Addr, size: usize) -> Result<Addr, CheckedError>
-        ensures answer { IsRefusedBy (refusal_at self.old.heap.state (at addr) size) result }
         ensures step { refusal_at self.old.heap.state (at addr) size ≡ None
             → Steps FLLEN SLLEN self.old.heap self.new.heap (ReallocatesWithoutMove self.old.heap.state (at addr) size (addr_in result)) }
-        ensures there { IfOk result (λ to. at to ≡ at addr) }
-        ensures sized { IfOk result (λ to. size ≤ length (bytes_at self.new.heap.state (at addr))) }
-        ensures few { IfOk result (λ to. length (bytes_at self.new.heap.state (at addr)) < size + 32) }
-        ensures kept { IfOk result (λ to. Keeps (bytes_at self.old.heap.state (at addr)) (bytes_at self.new.heap.state (at addr))) }
-        ensures aligns { align_at self.new.heap.state ≡ align_at self.old.heap.state }
-        ensures bytes { (a : ℕ) → a ≢ at addr → bytes_at self.new.heap.state a ≡ bytes_at self.old.heap.state a }
-        ensures count { live_count self.new.heap.state ≡ live_count self.old.heap.state }
-        ensures bounds { KeepsBounds SLLEN self.old.heap.state (at addr) size self.new.heap.state }
-        ensures same { OnErr result (self.new.heap.state ≡ self.old.heap.state) }
-        ensures refused { OnErr result (self.new.heap.memory.bytes ≡ self.old.heap.memory.bytes) }
-        ensures pool { self.new.pool ≡ self.old.pool }
-        ensures place { SamePlace self.old.heap.memory self.new.heap.memory }
+        ensures result { IfOk result (λ to. IsResized self.old.heap.state self.new.heap.state (at addr) size (at to)) }
+        ensures bounds { KeepsBoundsSameAlign SLLEN self.old.heap.state (at addr) size self.new.heap.state }
+        ensures refused { RefusesUnchanged self.old self.new (IsRefusedBy (refusal_at self.old.heap.state (at addr) size) result) result }
+        ensures frame { KeepsCheckedFrameInPlace (at addr) self.old self.new }
         ensures touches { self.new.heap.memory.touches ≤ self.old.heap.memory.touches + 25 }
-        ensures grow { self.old.heap.memory.touches ≤ self.new.heap.memory.touches }
-        ensures copied { self.new.heap.memory.copied ≡ self.old.heap.memory.copied }
     {
         let Some(align) = self.alignment(addr) else {
             return Err(CheckedError::UnknownAddress);
@@ -441,15 +399,17 @@ impl<
     ///
     /// Returns `UnknownAddress` exactly if no payload is live at the address, else `OutOfRange` exactly if the bytes go past the usable
     /// ones. Then nothing changes.
+    ///
+    /// Takes time proportional to the number of bytes: at most 3 word accesses, whatever the pools contain.
     pub fn write(&mut self, addr: Addr, offset: usize, bytes: &[u8]) -> Result<(), CheckedError>
-        ensures answer { result ≡ if_in_range (align_at self.old.heap.state (at addr)) (fits offset (length bytes.now) (bytes_at self.old.heap.state (at addr))) }
         ensures step { OnOk result (Steps FLLEN SLLEN self.old.heap self.new.heap (Fills self.old.heap.state (at addr)
             (written_over self.old.heap.state (at addr) offset bytes.now))) }
-        ensures written { OnOk result (bytes_at self.new.heap.state (at addr) ≡ written_over self.old.heap.state (at addr) offset bytes.now) }
-        ensures only { WritesOnlyAt SLLEN self.old self.new (at addr) result }
+        ensures result { OnOk result (bytes_at self.new.heap.state (at addr) ≡ written_over self.old.heap.state (at addr) offset bytes.now) }
+        ensures bounds { KeepsAllBounds SLLEN self.old.heap.state self.new.heap.state }
+        ensures refused { RefusesUntouched self.old self.new (result ≡ if_in_range (align_at self.old.heap.state (at addr))
+            (fits offset (length bytes.now) (bytes_at self.old.heap.state (at addr)))) result }
+        ensures frame { KeepsCheckedFrameInPlace (at addr) self.old self.new }
         ensures touches { self.new.heap.memory.touches ≤ self.old.heap.memory.touches + 3 }
-        ensures grow { self.old.heap.memory.touches ≤ self.new.heap.memory.touches }
-        ensures copied { self.new.heap.memory.copied ≡ self.old.heap.memory.copied }
     {
         let Some(_) = self.alignment(addr) else {
             return Err(CheckedError::UnknownAddress);

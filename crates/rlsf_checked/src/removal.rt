@@ -2,15 +2,16 @@
 
 ghost use Rattle.std.specs.Prelude.{◌≡◌, ◌≤◌, ◌<◌, ◌+◌, ◌*◌, ◌^◌, ◌↔◌, true, false, length, OnErr, OnOk};
 ghost use Rattle.rlsf_base.specs.Range.{end_of, range_at};
-ghost use Rattle.rlsf_base.specs.Space.{SamePlace, range_of};
-ghost use Rattle.rlsf_model.specs.Callers.{align_at, bytes_at};
+ghost use Rattle.rlsf_base.specs.Space.{range_of};
 ghost use Rattle.rlsf_model.specs.Remove.{IsIdle, Removes};
 ghost use Rattle.rlsf_model.specs.Sized.{live_count};
 ghost use Rattle.rlsf_model.specs.State.{between, empty};
 ghost use Rattle.rlsf_blocks.specs.Blocks.{walked};
 ghost use Rattle.rlsf_tlsf.specs.Allocator.{Stands, Steps};
+ghost use Rattle.rlsf_tlsf.specs.Results.{KeepsFrameOfPools};
 ghost use Rattle.rlsf_tlsf.specs.Steps.UsedBlocks.{has_used};
 ghost use Rattle.rlsf_checked.specs.Removal.{IsRemovalOf, pool_without};
+ghost use Rattle.rlsf_checked.specs.Results.{RefusesUntouched};
 
 use crate::checked::CheckedTlsf;
 use crate::error::CheckedError;
@@ -32,16 +33,11 @@ impl<
     /// Returns `true` exactly if no block of the last pool is used. Otherwise nothing changes. The time grows with the number of blocks of
     /// the last pool.
     pub fn remove_last(&mut self) -> bool
-        ensures idle { (result ≡ true) ↔ IsIdle self.old.heap.state (walked self.old.pool) }
         ensures step { result ≡ true → Steps FLLEN SLLEN self.old.heap self.new.heap (Removes self.old.heap.state (walked self.old.pool)) }
-        ensures pool { result ≡ true → self.new.pool ≡ range_at self.old.pool.start 0 }
-        ensures same { result ≡ false → self.new ≡ self.old }
-        ensures aligns { align_at self.new.heap.state ≡ align_at self.old.heap.state }
-        ensures bytes { bytes_at self.new.heap.state ≡ bytes_at self.old.heap.state }
-        ensures count { live_count self.new.heap.state ≡ live_count self.old.heap.state }
-        ensures place { SamePlace self.old.heap.memory self.new.heap.memory }
-        ensures grow { self.old.heap.memory.touches ≤ self.new.heap.memory.touches }
-        ensures copied { self.new.heap.memory.copied ≡ self.old.heap.memory.copied }
+        ensures result { result ≡ true → self.new.pool ≡ range_at self.old.pool.start 0 }
+        ensures idle { (result ≡ true) ↔ IsIdle self.old.heap.state (walked self.old.pool) }
+        ensures refused { result ≡ false → self.new ≡ self.old }
+        ensures frame { KeepsFrameOfPools self.old.heap self.new.heap }
     {
         let pool = self.pool;
         if any_used(self.heap.iter_blocks(pool)) {
@@ -73,20 +69,14 @@ impl<
     /// - else `InUse` exactly if a block of the part is used.
     ///
     /// The time grows with the number of blocks of the contiguous chunks, and with the length of the memory before them, of which one mark
-    /// in 32 bytes is read.
+    /// in 32 bytes is read. At most 9 word accesses for each chunk that it removes. No byte is copied.
     pub fn remove_pool(&mut self, range: Range) -> Result<(), CheckedError>
-        ensures answer { IsRemovalOf (range_of self.old.heap.memory) self.old.heap.state range result }
         ensures step { OnOk result (Steps FLLEN SLLEN self.old.heap self.new.heap (Removes self.old.heap.state (walked range))) }
-        ensures pool { OnOk result (self.new.pool ≡ pool_without self.old.pool (walked range)) }
-        ensures same { OnErr result (self.new ≡ self.old) }
-        ensures aligns { align_at self.new.heap.state ≡ align_at self.old.heap.state }
-        ensures bytes { bytes_at self.new.heap.state ≡ bytes_at self.old.heap.state }
-        ensures count { live_count self.new.heap.state ≡ live_count self.old.heap.state }
-        ensures place { SamePlace self.old.heap.memory self.new.heap.memory }
+        ensures result { OnOk result (self.new.pool ≡ pool_without self.old.pool (walked range)) }
+        ensures refused { RefusesUntouched self.old self.new (IsRemovalOf (range_of self.old.heap.memory) self.old.heap.state range result) result }
+        ensures frame { KeepsFrameOfPools self.old.heap self.new.heap }
         ensures touches { self.new.heap.memory.touches + 9 * length self.new.heap.state.chunks
             ≤ self.old.heap.memory.touches + 9 * length self.old.heap.state.chunks }
-        ensures grow { self.old.heap.memory.touches ≤ self.new.heap.memory.touches }
-        ensures copied { self.new.heap.memory.copied ≡ self.old.heap.memory.copied }
     {
         if !self.are_chunks(range) {
             return Err(CheckedError::NotChunks);

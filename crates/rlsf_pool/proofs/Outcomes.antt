@@ -14,17 +14,20 @@ use Rattle.rlsf_base.specs.Space.{SamePlace, Space, range_of}
 use Rattle.rlsf_model.specs.Allocate as machine
 use Rattle.rlsf_model.specs.Callers.{align_at, bytes_at}
 use Rattle.rlsf_model.specs.NoMove.{ReallocatesWithoutMove}
-use Rattle.rlsf_model.specs.Reallocate.{Keeps, Reallocates}
+use Rattle.rlsf_model.specs.Reallocate.{Reallocates}
 use Rattle.rlsf_model.specs.State.{State, empty}
 use Rattle.rlsf_tlsf.specs.Allocator.{Allocator, Steps}
+use Rattle.rlsf_tlsf.specs.Results.{IsAllocated, KeepsFrameOfPools}
+use Rattle.rlsf_tlsf.specs.Results as tlsf
 use Rattle.rlsf_checked.specs.Answers.{IsRefusedBy, append_answer, fits, if_in_range, if_live, insert_answer, addr_in as addr_in_result, size_refusal}
 use Rattle.rlsf_checked.specs.Checked.{Checked}
-use Rattle.rlsf_checked.specs.Writes.{WritesOnlyAt}
+use Rattle.rlsf_checked.specs.Results.{IsDeallocatedIfLive, IsReallocatedSameAlign, RefusesUnchanged, RefusesUntouched}
+use Rattle.rlsf_checked.specs.Results.{KeepsCheckedFrame, KeepsCheckedFrameInPlace, KeepsCheckedFrameMoving}
 use Rattle.rlsf_checked.specs.declared.error.CheckedError.{CheckedError}
 use Rattle.rlsf_checked.specs.declared.error.CheckedError.TheVariants.{InvalidClasses, OutOfMemory, UnknownAddress, OutOfRange, OutsideMemory, NotBehind, NotNext, TooShort}
 use Rattle.rlsf_checked.specs.declared.error.CheckedError.TheVariants.{NoLayout, NoRoom, InUse, NotChunks}
 use Rattle.rlsf_pool.specs.Answers.{answer_of, code_of, number_of, place_of, addr_in, refused_by}
-use Rattle.rlsf_pool.specs.Calls.{Allocates, Appends, Frees, Inserts, IsKeptBut, IsResized, IsToldBy, Reads, Resizes, ResizesThere, Tells, Writes, reach}
+use Rattle.rlsf_pool.specs.Calls.{Allocates, Appends, Frees, Inserts, IsKept, IsKeptBut, IsResized, IsToldBy, Reads, Resizes, ResizesThere, Tells, Writes, reach}
 use Rattle.rlsf_pool.specs.Seen.{Seen, nothing, seen_in}
 
 -- ---- errors
@@ -108,35 +111,35 @@ pool_if old new pool make (Ok n) made none = made
 pool_if old new pool make (Err e) made none = absurd (number_of-some e none)
 
 -- and where it is an error
-same_if : (sllen : ℕ) (old new : Checked) (r : Result ℕ CheckedError) → OnErr r ((new.heap.state ≡ old.heap.state) × (new.pool ≡ old.pool))
+same_if : (sllen : ℕ) (old new : Checked) (r : Result ℕ CheckedError) → OnErr r (new.heap.state ≡ old.heap.state) → OnErr r (new.pool ≡ old.pool)
     → SamePlace old.heap.memory new.heap.memory
     → (answer_of r).error ≢ 0 → seen_in sllen new ≡ seen_in sllen old
-same_if sllen old new (Ok n) same place some = absurd (some refl)
-same_if sllen old new (Err e) (state, pool) place some = same_seen sllen old new state pool place
+same_if sllen old new (Ok n) same pool place some = absurd (some refl)
+same_if sllen old new (Err e) same pool place some = same_seen sllen old new same pool place
 
-pub inserted : (fllen sllen : ℕ) (old new : Checked) (range : Range) (r : Result ℕ CheckedError) → r ≡ insert_answer fllen old range
-    → IfOk r (λ n. new.pool ≡ range_at range.start n)
-    → OnErr r ((new.heap.state ≡ old.heap.state) × (new.pool ≡ old.pool)) → align_at new.heap.state ≡ align_at old.heap.state
-    → bytes_at new.heap.state ≡ bytes_at old.heap.state
-    → SamePlace old.heap.memory new.heap.memory → Inserts (insert_answer fllen old range) (seen_in sllen old) range.start (answer_of r) (seen_in sllen new)
-inserted fllen sllen old new range r told pool same aligns bytes place = record {
-  told = ap answer_of told;
-  kept = record { classes = refl; memory = same_range old.heap.memory new.heap.memory place; aligns = aligns; bytes = bytes };
-  pool = pool_if old.pool new.pool old.pool (λ n. range_at range.start n) r pool;
-  same = same_if sllen old new r same place;
-}
+-- the payloads that a call on pools keeps
+pub kept_all : (sllen : ℕ) (old new : Checked) → KeepsFrameOfPools old.heap new.heap → IsKept (seen_in sllen old) (seen_in sllen new)
+kept_all sllen old new kept =
+    record { classes = refl; memory = same_range old.heap.memory new.heap.memory kept.place; aligns = kept.aligns; bytes = kept.bytes }
 
-pub appended : (fllen sllen : ℕ) (old new : Checked) (range : Range) (r : Result ℕ CheckedError) → r ≡ append_answer fllen old range
-    → IfOk r (λ n. new.pool ≡ range_at old.pool.start (old.pool.len + n))
-    → OnErr r ((new.heap.state ≡ old.heap.state) × (new.pool ≡ old.pool)) → align_at new.heap.state ≡ align_at old.heap.state
-    → bytes_at new.heap.state ≡ bytes_at old.heap.state
-    → SamePlace old.heap.memory new.heap.memory → Appends (append_answer fllen old range) (seen_in sllen old) (answer_of r) (seen_in sllen new)
-appended fllen sllen old new range r told pool same aligns bytes place = record {
-  told = ap answer_of told;
-  kept = record { classes = refl; memory = same_range old.heap.memory new.heap.memory place; aligns = aligns; bytes = bytes };
-  pool = pool_if old.pool new.pool old.pool (λ n. range_at old.pool.start (old.pool.len + n)) r pool;
-  same = same_if sllen old new r same place;
-}
+module _ (fllen sllen : ℕ) (old new : Checked) (range : Range) (r : Result ℕ CheckedError) (kept : KeepsFrameOfPools old.heap new.heap) where
+  pub inserted : IfOk r (λ n. new.pool ≡ range_at range.start n) → RefusesUnchanged old new (r ≡ insert_answer fllen old range) r
+      → Inserts (insert_answer fllen old range) (seen_in sllen old) range.start (answer_of r) (seen_in sllen new)
+  inserted pool refused = record {
+    told = ap answer_of refused.answer;
+    kept = kept_all sllen old new kept;
+    pool = pool_if old.pool new.pool old.pool (λ n. range_at range.start n) r pool;
+    same = same_if sllen old new r refused.same refused.pool kept.place;
+  }
+
+  pub appended : IfOk r (λ n. new.pool ≡ range_at old.pool.start (old.pool.len + n)) → RefusesUnchanged old new (r ≡ append_answer fllen old range) r
+      → Appends (append_answer fllen old range) (seen_in sllen old) (answer_of r) (seen_in sllen new)
+  appended pool refused = record {
+    told = ap answer_of refused.answer;
+    kept = kept_all sllen old new kept;
+    pool = pool_if old.pool new.pool old.pool (λ n. range_at old.pool.start (old.pool.len + n)) r pool;
+    same = same_if sllen old new r refused.same refused.pool kept.place;
+  }
 
 -- where there is no allocator, no range is taken
 pub none_inserted : (start : ℕ) → Inserts (Err OutsideMemory) nothing start (refused_by OutsideMemory) nothing
@@ -157,29 +160,26 @@ none_appended = record {
 
 -- ---- payloads that are new
 
-module _ (sllen : ℕ) (old new : Checked) (size align : ℕ) (layout : IsLayout size align) (pool : new.pool ≡ old.pool)
-    (place : SamePlace old.heap.memory new.heap.memory) where
-  pub allocated : (r : Result NonZeroUsize CheckedError) → IfErr r (λ e. e ≡ NoRoom) → machine.Allocates sllen old.heap.state size align (addr_in_result r) new.heap.state
-      → IfOk r (λ addr. align_at new.heap.state (at addr) ≡ Some align) → IfOk r (λ addr. size ≤ length (bytes_at new.heap.state (at addr)))
-      → IfOk r (λ addr. length (bytes_at new.heap.state (at addr)) < size + 32) → IfOk r (λ addr. align_at old.heap.state (at addr) ≡ None)
-      → IfOk r (λ addr. (a : ℕ) → a ≢ at addr → align_at new.heap.state a ≡ align_at old.heap.state a)
-      → IfOk r (λ addr. (a : ℕ) → a ≢ at addr → bytes_at new.heap.state a ≡ bytes_at old.heap.state a)
-      → OnErr r (new.heap.state ≡ old.heap.state) → Allocates (seen_in sllen old) size align (place_of r) (seen_in sllen new)
-  allocated (Ok addr) refused step live sized few fresh aligns bytes same = record {
-    no_layout = (λ e. absurd (omega (arith, e)), λ never. absurd (never layout));
-    errors = inl refl;
-    step = λ l. step;
-    new = λ e. record { new = fresh; live = live; sized = sized; few = few; kept = kept_but sllen old new (at addr) place pool aligns bytes };
-    same = λ some. absurd (some refl);
-  }
-  allocated (Err e) refused step live sized few fresh aligns bytes same =
-      let is_full : Allocates (seen_in sllen old) size align (refused_by NoRoom) (seen_in sllen new) = record {
-        no_layout = (λ e. absurd (omega (arith, e)), λ never. absurd (never layout));
-        errors = inr (inr refl);
-        step = λ l. step;
-        new = λ e. absurd (number_of-some NoRoom e);
-        same = λ some. same_seen sllen old new same pool place;
-      } in subst (λ d. Allocates (seen_in sllen old) size align (refused_by d) (seen_in sllen new)) (sym refused) is_full
+pub allocated : (sllen : ℕ) (old new : Checked) (size align : ℕ) → IsLayout size align → (r : Result NonZeroUsize CheckedError)
+    → machine.Allocates sllen old.heap.state size align (addr_in_result r) new.heap.state
+    → IfOk r (λ addr. IsAllocated old.heap.state new.heap.state size align (at addr)) → RefusesUnchanged old new (IfErr r (λ e. e ≡ NoRoom)) r → KeepsCheckedFrame old new
+    → Allocates (seen_in sllen old) size align (place_of r) (seen_in sllen new)
+allocated sllen old new size align layout (Ok addr) step is refused kept = record {
+  no_layout = (λ e. absurd (omega (arith, e)), λ never. absurd (never layout));
+  errors = inl refl;
+  step = λ l. step;
+  new = λ e.
+      record { new = is.new; live = is.live; sized = is.sized; few = is.few; kept = kept_but sllen old new (at addr) kept.place kept.pool is.aligns is.bytes };
+  same = λ some. absurd (some refl);
+}
+allocated sllen old new size align layout (Err e) step is refused kept =
+    let is_full : Allocates (seen_in sllen old) size align (refused_by NoRoom) (seen_in sllen new) = record {
+      no_layout = (λ e. absurd (omega (arith, e)), λ never. absurd (never layout));
+      errors = inr (inr refl);
+      step = λ l. step;
+      new = λ e. absurd (number_of-some NoRoom e);
+      same = λ some. same_seen sllen old new refused.same kept.pool kept.place;
+    } in subst (λ d. Allocates (seen_in sllen old) size align (refused_by d) (seen_in sllen new)) (sym refused.answer) is_full
 
 -- no layout has the size and the alignment
 pub no_layout : (v : Seen) (size align : ℕ) → (IsLayout size align → ⊥) → Allocates v size align (refused_by NoLayout) v
@@ -198,16 +198,13 @@ pub same_unless : (sllen : ℕ) (old new : Checked) (r : Result (Unit {0}) Check
 same_unless sllen old new (Ok x) same some = absurd (some refl)
 same_unless sllen old new (Err e) same some = ap (seen_in sllen) same
 
-pub freed : (sllen : ℕ) (old new : Checked) (addr : ℕ) (r : Result (Unit {0}) CheckedError) → r ≡ if_live (align_at old.heap.state addr) tt
-    → align_at new.heap.state addr ≡ None
-    → ((a : ℕ) → a ≢ addr → align_at new.heap.state a ≡ align_at old.heap.state a)
-    → ((a : ℕ) → a ≢ addr → bytes_at new.heap.state a ≡ bytes_at old.heap.state a)
-    → OnErr r (new ≡ old) → new.pool ≡ old.pool → SamePlace old.heap.memory new.heap.memory → Frees (seen_in sllen old) addr (code_of r) (seen_in sllen new)
-freed sllen old new addr r told gone aligns bytes same pool place = record {
-  told = ap code_of told;
-  gone = gone;
-  kept = kept_but sllen old new addr place pool aligns bytes;
-  same = same_unless sllen old new r same;
+pub freed : (sllen : ℕ) (old new : Checked) (addr : ℕ) (r : Result (Unit {0}) CheckedError) → IsDeallocatedIfLive old.heap.state new.heap.state addr r
+    → RefusesUntouched old new (r ≡ if_live (align_at old.heap.state addr) tt) r → KeepsCheckedFrame old new → Frees (seen_in sllen old) addr (code_of r) (seen_in sllen new)
+freed sllen old new addr r is refused kept = record {
+  told = ap code_of refused.answer;
+  gone = is.gone;
+  kept = kept_but sllen old new addr kept.place kept.pool is.aligns is.bytes;
+  same = same_unless sllen old new r refused.same;
 }
 
 pub none_freed : (v : Seen) (addr : ℕ) → align_at v.state addr ≡ None → Frees v addr (number_of UnknownAddress) v
@@ -225,85 +222,78 @@ told_by (Some e) r is = ap (λ x. (place_of x).error) is
 told_by None (Ok addr) is = inl refl
 told_by None (Err e) is = inr (ap number_of is)
 
-module _ (sllen : ℕ) (old new : Checked) (addr size : ℕ) (pool : new.pool ≡ old.pool) (place : SamePlace old.heap.memory new.heap.memory) where
+module _ (sllen : ℕ) (old new : Checked) (addr size : ℕ) where
+  -- what a call refuses to give another size
+  abbrev pub Refuses : Result NonZeroUsize CheckedError → Type 0
+  Refuses r = RefusesUnchanged old new (IsRefusedBy (size_refusal (align_at old.heap.state addr) size) r) r
+
   -- after an error all is as it was
-  same_placed : (r : Result NonZeroUsize CheckedError) → OnErr r (new.heap.state ≡ old.heap.state) → (place_of r).error ≢ 0 → seen_in sllen new ≡ seen_in sllen old
-  same_placed (Ok to) same some = absurd (some refl)
-  same_placed (Err e) same some = same_seen sllen old new same pool place
+  same_placed : (r : Result NonZeroUsize CheckedError) → new.pool ≡ old.pool → SamePlace old.heap.memory new.heap.memory → OnErr r (new.heap.state ≡ old.heap.state)
+      → (place_of r).error ≢ 0 → seen_in sllen new ≡ seen_in sllen old
+  same_placed (Ok to) pool place same some = absurd (some refl)
+  same_placed (Err e) pool place same some = same_seen sllen old new same pool place
 
-  pub resized : (r : Result NonZeroUsize CheckedError) → IsRefusedBy (size_refusal (align_at old.heap.state addr) size) r
+  pub resized : (r : Result NonZeroUsize CheckedError)
       → (size_refusal (align_at old.heap.state addr) size ≡ None → Reallocates sllen old.heap.state addr size (addr_in_result r) new.heap.state)
-      → IfOk r (λ to. align_at new.heap.state (at to) ≡ align_at old.heap.state addr) → IfOk r (λ to. size ≤ length (bytes_at new.heap.state (at to)))
-      → IfOk r (λ to. length (bytes_at new.heap.state (at to)) < size + 32) → IfOk r (λ to. Keeps (bytes_at old.heap.state addr) (bytes_at new.heap.state (at to)))
-      → IfOk r (λ to. at to ≢ addr → align_at old.heap.state (at to) ≡ None) → IfOk r (λ to. at to ≢ addr → align_at new.heap.state addr ≡ None)
-      → IfOk r (λ to. (a : ℕ) → a ≢ addr → a ≢ at to → align_at new.heap.state a ≡ align_at old.heap.state a)
-      → IfOk r (λ to. (a : ℕ) → a ≢ addr → a ≢ at to → bytes_at new.heap.state a ≡ bytes_at old.heap.state a)
-      → OnErr r (new.heap.state ≡ old.heap.state) → Resizes (seen_in sllen old) addr size (place_of r) (seen_in sllen new)
-  resized r refused step live sized few kept fresh left aligns bytes same = record {
-    told = told_by (size_refusal (align_at old.heap.state addr) size) r refused;
+      → IfOk r (λ to. IsReallocatedSameAlign old.heap.state new.heap.state addr size (at to)) → Refuses r → KeepsCheckedFrameMoving addr old new
+      → Resizes (seen_in sllen old) addr size (place_of r) (seen_in sllen new)
+  resized r step is refused kept = record {
+    told = told_by (size_refusal (align_at old.heap.state addr) size) r refused.answer;
     step = λ none. subst (λ o. Reallocates sllen old.heap.state addr size o new.heap.state) (addr_in-same r) (step none);
-    resized = moved r live sized few kept fresh left aligns bytes;
-    same = same_placed r same;
+    resized = moved r is;
+    same = same_placed r kept.pool kept.place refused.same;
   }
     where
-      moved : (r : Result NonZeroUsize CheckedError) → IfOk r (λ to. align_at new.heap.state (at to) ≡ align_at old.heap.state addr)
-          → IfOk r (λ to. size ≤ length (bytes_at new.heap.state (at to)))
-          → IfOk r (λ to. length (bytes_at new.heap.state (at to)) < size + 32) → IfOk r (λ to. Keeps (bytes_at old.heap.state addr) (bytes_at new.heap.state (at to)))
-          → IfOk r (λ to. at to ≢ addr → align_at old.heap.state (at to) ≡ None) → IfOk r (λ to. at to ≢ addr → align_at new.heap.state addr ≡ None)
-          → IfOk r (λ to. (a : ℕ) → a ≢ addr → a ≢ at to → align_at new.heap.state a ≡ align_at old.heap.state a)
-          → IfOk r (λ to. (a : ℕ) → a ≢ addr → a ≢ at to → bytes_at new.heap.state a ≡ bytes_at old.heap.state a)
-          → (place_of r).error ≡ 0 → IsResized addr size (place_of r).value (seen_in sllen old) (seen_in sllen new)
-      moved (Ok to) live sized few kept fresh left aligns bytes e = record {
-        live = live;
-        sized = sized;
-        few = few;
-        kept = kept;
-        new = fresh;
-        left = left;
-        aligns = aligns;
-        bytes = bytes;
+      moved : (r : Result NonZeroUsize CheckedError) → IfOk r (λ to. IsReallocatedSameAlign old.heap.state new.heap.state addr size (at to)) → (place_of r).error ≡ 0
+          → IsResized addr size (place_of r).value (seen_in sllen old) (seen_in sllen new)
+      moved (Ok to) is e = record {
+        live = is.live;
+        sized = is.sized;
+        few = is.few;
+        kept = is.kept;
+        new = is.new;
+        left = is.left;
+        aligns = is.aligns;
+        bytes = is.bytes;
         classes = refl;
-        memory = same_range old.heap.memory new.heap.memory place;
-        pool = pool;
+        memory = same_range old.heap.memory new.heap.memory kept.place;
+        pool = kept.pool;
       }
-      moved (Err d) live sized few kept fresh left aligns bytes e = absurd (number_of-some d e)
+      moved (Err d) is e = absurd (number_of-some d e)
 
-  pub resized_there : (r : Result NonZeroUsize CheckedError) → IsRefusedBy (size_refusal (align_at old.heap.state addr) size) r
+  pub resized_there : (r : Result NonZeroUsize CheckedError)
       → (size_refusal (align_at old.heap.state addr) size ≡ None → ReallocatesWithoutMove old.heap.state addr size (addr_in_result r) new.heap.state)
-      → IfOk r (λ to. at to ≡ addr) → IfOk r (λ to. size ≤ length (bytes_at new.heap.state addr)) → IfOk r (λ to. length (bytes_at new.heap.state addr) < size + 32)
-      → IfOk r (λ to. Keeps (bytes_at old.heap.state addr) (bytes_at new.heap.state addr)) → align_at new.heap.state ≡ align_at old.heap.state
-      → ((a : ℕ) → a ≢ addr → bytes_at new.heap.state a ≡ bytes_at old.heap.state a)
-      → OnErr r (new.heap.state ≡ old.heap.state) → ResizesThere (seen_in sllen old) addr size (place_of r) (seen_in sllen new)
-  resized_there r refused step there sized few kept aligns bytes same = record {
-    told = told_by (size_refusal (align_at old.heap.state addr) size) r refused;
+      → IfOk r (λ to. tlsf.IsResized old.heap.state new.heap.state addr size (at to)) → Refuses r → KeepsCheckedFrameInPlace addr old new
+      → ResizesThere (seen_in sllen old) addr size (place_of r) (seen_in sllen new)
+  resized_there r step is refused kept = record {
+    told = told_by (size_refusal (align_at old.heap.state addr) size) r refused.answer;
     step = λ none. subst (λ o. ReallocatesWithoutMove old.heap.state addr size o new.heap.state) (addr_in-same r) (step none);
-    there = stays r there;
-    resized = stayed r sized few kept;
-    same = same_placed r same;
+    there = stays r is;
+    resized = stayed r is;
+    same = same_placed r kept.pool kept.place refused.same;
   }
     where
-      stays : (r : Result NonZeroUsize CheckedError) → IfOk r (λ to. at to ≡ addr) → (place_of r).error ≡ 0 → (place_of r).value ≡ addr
-      stays (Ok to) there e = there
-      stays (Err d) there e = absurd (number_of-some d e)
+      stays : (r : Result NonZeroUsize CheckedError) → IfOk r (λ to. tlsf.IsResized old.heap.state new.heap.state addr size (at to)) → (place_of r).error ≡ 0
+          → (place_of r).value ≡ addr
+      stays (Ok to) is e = is.there
+      stays (Err d) is e = absurd (number_of-some d e)
 
-      stayed : (r : Result NonZeroUsize CheckedError) → IfOk r (λ to. size ≤ length (bytes_at new.heap.state addr))
-          → IfOk r (λ to. length (bytes_at new.heap.state addr) < size + 32)
-          → IfOk r (λ to. Keeps (bytes_at old.heap.state addr) (bytes_at new.heap.state addr)) → (place_of r).error ≡ 0
+      stayed : (r : Result NonZeroUsize CheckedError) → IfOk r (λ to. tlsf.IsResized old.heap.state new.heap.state addr size (at to)) → (place_of r).error ≡ 0
           → IsResized addr size addr (seen_in sllen old) (seen_in sllen new)
-      stayed (Ok to) sized few kept e = record {
-        live = ap (λ f. f addr) aligns;
-        sized = sized;
-        few = few;
-        kept = kept;
+      stayed (Ok to) is e = record {
+        live = ap (λ f. f addr) kept.aligns;
+        sized = is.sized;
+        few = is.few;
+        kept = is.kept;
         new = λ apart. absurd (apart refl);
         left = λ apart. absurd (apart refl);
-        aligns = λ a apart apart'. ap (λ f. f a) aligns;
-        bytes = λ a apart apart'. bytes a apart;
+        aligns = λ a apart apart'. ap (λ f. f a) kept.aligns;
+        bytes = λ a apart apart'. kept.bytes a apart;
         classes = refl;
-        memory = same_range old.heap.memory new.heap.memory place;
-        pool = pool;
+        memory = same_range old.heap.memory new.heap.memory kept.place;
+        pool = kept.pool;
       }
-      stayed (Err d) sized few kept e = absurd (number_of-some d e)
+      stayed (Err d) is e = absurd (number_of-some d e)
 
 -- where none is live, none gets another size
 refuses : (o : Option ℕ) (size : ℕ) → o ≡ None → size_refusal o size ≡ Some UnknownAddress
@@ -358,20 +348,19 @@ on_refused A (Ok x) did some = absurd (some refl)
 on_refused A (Err d) did some = did
 
 -- a call that writes bytes of one payload keeps the others
-pub kept_only : (sllen : ℕ) (old new : Checked) (addr : ℕ) (r : Result (Unit {0}) CheckedError) → WritesOnlyAt sllen old new addr r
-    → IsKeptBut addr (seen_in sllen old) (seen_in sllen new)
-kept_only sllen old new addr r only = kept_but sllen old new addr only.place only.pool (λ a apart. ap (λ f. f a) only.aligns) only.bytes
+pub kept_only : (sllen : ℕ) (old new : Checked) (addr : ℕ) → KeepsCheckedFrameInPlace addr old new → IsKeptBut addr (seen_in sllen old) (seen_in sllen new)
+kept_only sllen old new addr kept = kept_but sllen old new addr kept.place kept.pool (λ a apart. ap (λ f. f a) kept.aligns) kept.bytes
 
 pub written : (sllen : ℕ) (old new : Checked) (addr offset : ℕ) (bytes : List ℕ) (r : Result (Unit {0}) CheckedError)
-    → r ≡ if_in_range (align_at old.heap.state addr) (fits offset (length bytes) (bytes_at old.heap.state addr))
     → OnOk r (bytes_at new.heap.state addr ≡ splice (bytes_at old.heap.state addr) offset (offset + length bytes) bytes)
-    → WritesOnlyAt sllen old new addr r → Writes (seen_in sllen old) addr offset bytes (code_of r) (seen_in sllen new)
-written sllen old new addr offset bytes r told did only = record {
-  told = ap code_of told;
+    → RefusesUntouched old new (r ≡ if_in_range (align_at old.heap.state addr) (fits offset (length bytes) (bytes_at old.heap.state addr))) r
+    → KeepsCheckedFrameInPlace addr old new → Writes (seen_in sllen old) addr offset bytes (code_of r) (seen_in sllen new)
+written sllen old new addr offset bytes r did refused kept = record {
+  told = ap code_of refused.answer;
   written = on_done (bytes_at new.heap.state addr ≡ splice (bytes_at old.heap.state addr) offset (offset + length bytes) bytes) r did;
-  aligns = only.aligns;
-  kept = kept_only sllen old new addr r only;
-  same = same_unless sllen old new r only.same;
+  aligns = kept.aligns;
+  kept = kept_only sllen old new addr kept;
+  same = same_unless sllen old new r refused.same;
 }
 
 pub read_as : (v : Seen) (addr offset : ℕ) (was now : List ℕ) (r : Result (Unit {0}) CheckedError)

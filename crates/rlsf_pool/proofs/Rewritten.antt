@@ -7,36 +7,37 @@ use Rattle.std.proofs.lemmas.Option.{none-some}
 use Rattle.std.specs.Prelude.{IsSome, OnErr, OnOk}
 use Rattle.rlsf_base.specs.declared.memory.range.Range.{Range}
 use Rattle.rlsf_base.specs.Range.{range_at}
-use Rattle.rlsf_base.specs.Space.{SamePlace, range_of}
+use Rattle.rlsf_base.specs.Space.{range_of}
 use Rattle.rlsf_blocks.specs.Blocks.{walked}
 use Rattle.rlsf_model.specs.Callers.{align_at, bytes_at, copied_over}
 use Rattle.rlsf_model.specs.Remove.{IsIdle, Removes}
 use Rattle.rlsf_model.specs.Run.{Fills}
 use Rattle.rlsf_model.specs.State.{State, empty}
 use Rattle.rlsf_tlsf.specs.Allocator.{Steps}
+use Rattle.rlsf_tlsf.specs.Results.{KeepsFrameOfPools}
 use Rattle.rlsf_checked.specs.Answers.{both_have, copy_answer, if_both_in_range, if_live}
 use Rattle.rlsf_checked.specs.Checked.{Checked}
 use Rattle.rlsf_checked.specs.Removal.{AreChunks, IsRemovalOf, pool_without}
-use Rattle.rlsf_checked.specs.Writes.{WritesOnlyAt}
+use Rattle.rlsf_checked.specs.Results.{KeepsCheckedFrameCopying, KeepsCheckedFrameInPlace, RefusesUntouched}
 use Rattle.rlsf_checked.specs.declared.error.CheckedError.{CheckedError}
 use Rattle.rlsf_checked.specs.declared.error.CheckedError.TheVariants.{NotChunks, UnknownAddress}
 use Rattle.rlsf_pool.specs.Answers.{code_of, number_of}
 use Rattle.rlsf_pool.specs.declared.answers.Answer.{Answer}
 use Rattle.rlsf_pool.specs.Calls.{Allocates, AllocatesZeroed, Copies, IsNew, RemovesLast, RemovesRange, Zeroes}
 use Rattle.rlsf_pool.specs.Seen.{Seen, nothing, seen_in, without_payloads}
-use Rattle.rlsf_pool.proofs.Outcomes.{kept_only, kept_same, number_of-some, on_done, same_range, same_unless, step_of}
+use Rattle.rlsf_pool.proofs.Outcomes.{kept_all, kept_but, kept_only, kept_same, number_of-some, on_done, same_unless, step_of}
 
 -- ---- copies
 
-pub copied : (sllen : ℕ) (old new : Checked) (from to len : ℕ) (r : Result (Unit {0}) CheckedError) → r ≡ copy_answer old.heap.state from to len
-    → OnOk r (bytes_at new.heap.state to ≡ copied_over old.heap.state from to len) → WritesOnlyAt sllen old new to r
-    → Copies (seen_in sllen old) from to len (code_of r) (seen_in sllen new)
-copied sllen old new from to len r told did only = record {
-  told = ap code_of told;
+pub copied : (sllen : ℕ) (old new : Checked) (from to len : ℕ) (r : Result (Unit {0}) CheckedError)
+    → OnOk r (bytes_at new.heap.state to ≡ copied_over old.heap.state from to len) → RefusesUntouched old new (r ≡ copy_answer old.heap.state from to len) r
+    → KeepsCheckedFrameCopying to len old new r → Copies (seen_in sllen old) from to len (code_of r) (seen_in sllen new)
+copied sllen old new from to len r did refused kept = record {
+  told = ap code_of refused.answer;
   copied = on_done (bytes_at new.heap.state to ≡ copied_over old.heap.state from to len) r did;
-  aligns = only.aligns;
-  kept = kept_only sllen old new to r only;
-  same = same_unless sllen old new r only.same;
+  aligns = kept.aligns;
+  kept = kept_but sllen old new to kept.place kept.pool (λ a apart. ap (λ f. f a) kept.aligns) kept.bytes;
+  same = same_unless sllen old new r refused.same;
 }
 
 -- where none lives at one of the addresses, the copy is refused
@@ -62,20 +63,19 @@ is_done : (o : Option ℕ) (r : Result (Unit {0}) CheckedError) → r ≡ if_liv
 is_done None r told live = absurd (false≢true live)
 is_done (Some align) r told live = told
 
-pub zeroed : (fllen sllen : ℕ) (old new : Checked) (addr : ℕ) (r : Result (Unit {0}) CheckedError) → r ≡ if_live (align_at old.heap.state addr) tt
-    → IsSome (align_at old.heap.state addr)
+pub zeroed : (fllen sllen : ℕ) (old new : Checked) (addr : ℕ) (r : Result (Unit {0}) CheckedError) → IsSome (align_at old.heap.state addr)
     → OnOk r (Steps fllen sllen old.heap new.heap (Fills old.heap.state addr (replicate (length (bytes_at old.heap.state addr)) 0)))
-    → OnOk r (bytes_at new.heap.state addr ≡ replicate (length (bytes_at old.heap.state addr)) 0) → WritesOnlyAt sllen old new addr r
-    → Zeroes (seen_in sllen old) addr (seen_in sllen new)
-zeroed fllen sllen old new addr r told live step filled only =
+    → OnOk r (bytes_at new.heap.state addr ≡ replicate (length (bytes_at old.heap.state addr)) 0) → r ≡ if_live (align_at old.heap.state addr) tt
+    → KeepsCheckedFrameInPlace addr old new → Zeroes (seen_in sllen old) addr (seen_in sllen new)
+zeroed fllen sllen old new addr r live step filled told kept =
     let zeros = replicate (length (bytes_at old.heap.state addr)) 0 in
     let done = is_done (align_at old.heap.state addr) r told live in record {
       step =
           step_of fllen sllen old.heap new.heap (Fills old.heap.state addr zeros)
           (subst (λ x. OnOk x (Steps fllen sllen old.heap new.heap (Fills old.heap.state addr zeros))) done step);
       zeros = subst (λ x. OnOk x (bytes_at new.heap.state addr ≡ zeros)) done filled;
-      aligns = only.aligns;
-      kept = kept_only sllen old new addr r only;
+      aligns = kept.aligns;
+      kept = kept_only sllen old new addr kept;
     }
 
 -- a payload that is new and then zeroed
@@ -128,24 +128,22 @@ nothing_zeroed size align answer did = none_zeroed nothing nothing size align an
 
 -- ---- removals
 
-pub removed : (sllen : ℕ) (old new : Checked) (b : Bool) → ((b ≡ true) ↔ IsIdle old.heap.state (walked old.pool))
-    → (b ≡ true → Removes old.heap.state (walked old.pool) new.heap.state)
-    → (b ≡ true → new.pool ≡ range_at old.pool.start 0) → (b ≡ false → new ≡ old) → align_at new.heap.state ≡ align_at old.heap.state
-    → bytes_at new.heap.state ≡ bytes_at old.heap.state
-    → SamePlace old.heap.memory new.heap.memory → RemovesLast (seen_in sllen old) (cond b 0 15) (seen_in sllen new)
-removed sllen old new true idle step pool same aligns bytes place = record {
+pub removed : (sllen : ℕ) (old new : Checked) (b : Bool) → (b ≡ true → Removes old.heap.state (walked old.pool) new.heap.state)
+    → (b ≡ true → new.pool ≡ range_at old.pool.start 0) → ((b ≡ true) ↔ IsIdle old.heap.state (walked old.pool)) → (b ≡ false → new ≡ old)
+    → KeepsFrameOfPools old.heap new.heap → RemovesLast (seen_in sllen old) (cond b 0 15) (seen_in sllen new)
+removed sllen old new true step pool idle same kept = record {
   errors = inl refl;
   idle = (λ e. idle.0 refl, λ i. refl);
   step = λ e. step refl;
-  kept = record { classes = refl; memory = same_range old.heap.memory new.heap.memory place; aligns = aligns; bytes = bytes };
+  kept = kept_all sllen old new kept;
   pool = λ e. pool refl;
   same = λ some. absurd (some refl);
 }
-removed sllen old new false idle step pool same aligns bytes place = record {
+removed sllen old new false step pool idle same kept = record {
   errors = inr refl;
   idle = (λ e. absurd (omega (arith, e)), λ i. absurd (false≢true (idle.1 i)));
   step = λ e. absurd (omega (arith, e));
-  kept = record { classes = refl; memory = same_range old.heap.memory new.heap.memory place; aligns = aligns; bytes = bytes };
+  kept = kept_all sllen old new kept;
   pool = λ e. absurd (omega (arith, e));
   same = λ some. ap (seen_in sllen) (same refl);
 }
@@ -167,16 +165,15 @@ step_if fllen sllen old new range (Ok x) step = step_of fllen sllen old.heap new
 step_if fllen sllen old new range (Err e) step = tt
 
 pub range_removed : (fllen sllen : ℕ) (old new : Checked) (range : Range) (r : Result (Unit {0}) CheckedError)
-    → IsRemovalOf (range_of old.heap.memory) old.heap.state range r → OnOk r (Steps fllen sllen old.heap new.heap (Removes old.heap.state (walked range)))
-    → OnOk r (new.pool ≡ pool_without old.pool (walked range)) → OnErr r (new ≡ old) → align_at new.heap.state ≡ align_at old.heap.state
-    → bytes_at new.heap.state ≡ bytes_at old.heap.state
-    → SamePlace old.heap.memory new.heap.memory → RemovesRange (seen_in sllen old) range (code_of r) (seen_in sllen new)
-range_removed fllen sllen old new range r told step pool same aligns bytes place = record {
-  told = (r, refl, told);
+    → OnOk r (Steps fllen sllen old.heap new.heap (Removes old.heap.state (walked range))) → OnOk r (new.pool ≡ pool_without old.pool (walked range))
+    → RefusesUntouched old new (IsRemovalOf (range_of old.heap.memory) old.heap.state range r) r → KeepsFrameOfPools old.heap new.heap
+    → RemovesRange (seen_in sllen old) range (code_of r) (seen_in sllen new)
+range_removed fllen sllen old new range r step pool refused kept = record {
+  told = (r, refl, refused.answer);
   step = on_done (Removes old.heap.state (walked range) new.heap.state) r (step_if fllen sllen old new range r step);
-  kept = record { classes = refl; memory = same_range old.heap.memory new.heap.memory place; aligns = aligns; bytes = bytes };
+  kept = kept_all sllen old new kept;
   pool = on_done (new.pool ≡ pool_without old.pool (walked range)) r pool;
-  same = same_unless sllen old new r same;
+  same = same_unless sllen old new r refused.same;
 }
 
 -- where there is no allocator, no range is chunks

@@ -16,8 +16,7 @@ returns-in-Ok g c =
     let layout = c.in-Ok.layout in
     let step = step_of g.row.FLLEN sllen old.heap new.heap (λ t. machine.Allocates sllen old.heap.state layout.size layout.align (addr_in c.allocate.result) t) did.step in
     let done : Allocates (seen_in sllen old) layout.size layout.align (place_of c.allocate.result) (seen_in sllen new) =
-    allocated sllen old new layout.size layout.align layout.valid did.pool did.place c.allocate.result did.refused step did.live did.sized did.few did.new did.aligns did.bytes
-    did.same in
+    allocated sllen old new layout.size layout.align layout.valid c.allocate.result step did.result did.refused did.frame in
     subst (λ a. Allocates (seen_in sllen old) c.args.size c.args.align a (seen_in sllen new)) (sym c.to_place.ensures)
     (subst (λ n. Allocates (seen_in sllen old) n c.args.align (place_of c.allocate.result) (seen_in sllen new)) c.in-Ok.ensures.layout.0
     (subst (λ n. Allocates (seen_in sllen old) layout.size n (place_of c.allocate.result) (seen_in sllen new)) c.in-Ok.ensures.layout.1 done))

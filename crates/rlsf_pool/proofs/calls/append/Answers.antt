@@ -11,4 +11,4 @@ returns g c =
     let new = c.append.new.self in
     let did = c.append.ensures in
     subst (λ a. Appends (append_answer g.row.FLLEN old c.args.range) (seen_in g.row.SLLEN old) a (seen_in g.row.SLLEN new)) (sym c.to_answer.ensures)
-    (appended g.row.FLLEN g.row.SLLEN old new c.args.range c.append.result did.answer did.pool did.same did.aligns did.bytes did.place)
+    (appended g.row.FLLEN g.row.SLLEN old new c.args.range c.append.result did.frame did.result did.refused)

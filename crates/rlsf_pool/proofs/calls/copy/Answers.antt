@@ -14,7 +14,7 @@ returns g c =
     let old = c.args.heap.now in
     let new = c.copy.new.self in
     let did = c.copy.ensures in
-    let done = copied sllen old new (at c.in-Some.source) (at c.in-Some-new.target) c.args.len c.copy.result did.answer did.filled did.only in
+    let done = copied sllen old new (at c.in-Some.source) (at c.in-Some-new.target) c.args.len c.copy.result did.result did.refused did.frame in
     subst (λ n. Copies (seen_in sllen old) c.args.from c.args.to c.args.len n (seen_in sllen new)) (sym c.to_code.ensures)
     (subst (λ a. Copies (seen_in sllen old) a c.args.to c.args.len (code_of c.copy.result) (seen_in sllen new)) c.in-Some.ensures
     (subst (λ a. Copies (seen_in sllen old) (at c.in-Some.source) a c.args.len (code_of c.copy.result) (seen_in sllen new)) c.in-Some-new.ensures done))

@@ -14,7 +14,7 @@ returns-in-Some g c =
     let old = c.args.heap.now in
     let new = c.deallocate.new.self in
     let did = c.deallocate.ensures in
-    let done = freed sllen old new (at c.in-Some.addr) c.deallocate.result did.answer did.gone did.aligns did.bytes did.same did.pool did.place in
+    let done = freed sllen old new (at c.in-Some.addr) c.deallocate.result did.result did.refused did.frame in
     subst (λ n. Frees (seen_in sllen old) c.args.addr n (seen_in sllen new)) (sym c.to_code.ensures)
     (subst (λ a. Frees (seen_in sllen old) a (code_of c.deallocate.result) (seen_in sllen new)) c.in-Some.ensures done)
 

@@ -17,9 +17,9 @@ returns-in-Some g c =
     let new = c.reallocate.new.self in
     let did = c.reallocate.ensures in
     let addr = at c.in-Some.addr in
-    let done = resized sllen old new addr c.args.size did.pool did.place c.reallocate.result did.answer
+    let done = resized sllen old new addr c.args.size c.reallocate.result
     (λ none. step_of g.row.FLLEN sllen old.heap new.heap (λ t. Reallocates sllen old.heap.state addr c.args.size (addr_in c.reallocate.result) t) (did.step none))
-    did.live did.sized did.few did.kept did.new did.left did.aligns did.bytes did.same in
+    did.result did.refused did.frame in
     subst (λ r. Resizes (seen_in sllen old) c.args.addr c.args.size r (seen_in sllen new)) (sym c.to_place.ensures)
     (subst (λ a. Resizes (seen_in sllen old) a c.args.size (place_of c.reallocate.result) (seen_in sllen new)) c.in-Some.ensures done)
 

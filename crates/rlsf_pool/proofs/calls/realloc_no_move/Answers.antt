@@ -17,9 +17,9 @@ returns-in-Some g c =
     let new = c.reallocate_no_move.new.self in
     let did = c.reallocate_no_move.ensures in
     let addr = at c.in-Some.addr in
-    let done = resized_there sllen old new addr c.args.size did.pool did.place c.reallocate_no_move.result did.answer
+    let done = resized_there sllen old new addr c.args.size c.reallocate_no_move.result
     (λ none. step_of g.row.FLLEN sllen old.heap new.heap (λ t. ReallocatesWithoutMove old.heap.state addr c.args.size (addr_in c.reallocate_no_move.result) t) (did.step none))
-    did.there did.sized did.few did.kept did.aligns did.bytes did.same in
+    did.result did.refused did.frame in
     subst (λ r. ResizesThere (seen_in sllen old) c.args.addr c.args.size r (seen_in sllen new)) (sym c.to_place.ensures)
     (subst (λ a. ResizesThere (seen_in sllen old) a c.args.size (place_of c.reallocate_no_move.result) (seen_in sllen new)) c.in-Some.ensures done)
 

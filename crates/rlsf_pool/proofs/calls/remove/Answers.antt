@@ -11,4 +11,4 @@ returns g c =
     let new = c.remove_pool.new.self in
     let did = c.remove_pool.ensures in
     subst (λ n. RemovesRange (seen_in sllen old) c.args.range n (seen_in sllen new)) (sym c.to_code.ensures)
-    (range_removed g.row.FLLEN sllen old new c.args.range c.remove_pool.result did.answer did.step did.pool did.same did.aligns did.bytes did.place)
+    (range_removed g.row.FLLEN sllen old new c.args.range c.remove_pool.result did.step did.result did.refused did.frame)

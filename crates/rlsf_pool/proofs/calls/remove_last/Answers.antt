@@ -15,4 +15,4 @@ returns-then-remove_last g c =
     let did = c.remove_last.ensures in
     let step = λ (e : c.remove_last.result ≡ true). step_of g.row.FLLEN sllen old.heap new.heap (λ t. Removes old.heap.state (walked old.pool) t) (did.step e) in
     subst (λ b. RemovesLast (seen_in sllen old) (cond b 0 15) (seen_in sllen new)) c.if-remove_last.true
-    (removed sllen old new c.remove_last.result did.idle step did.pool did.same did.aligns did.bytes did.place)
+    (removed sllen old new c.remove_last.result step did.result did.idle did.refused did.frame)

@@ -15,7 +15,7 @@ returns-in-Some g c =
     let new = c.write.new.self in
     let did = c.write.ensures in
     let bytes = c.args.bytes.now in
-    let done = written sllen old new (at c.in-Some.addr) c.args.offset bytes c.write.result did.answer did.written did.only in
+    let done = written sllen old new (at c.in-Some.addr) c.args.offset bytes c.write.result did.result did.refused did.frame in
     subst (λ n. Writes (seen_in sllen old) c.args.addr c.args.offset bytes n (seen_in sllen new)) (sym c.to_code.ensures)
     (subst (λ a. Writes (seen_in sllen old) a c.args.offset bytes (code_of c.write.result) (seen_in sllen new)) c.in-Some.ensures done)
 

@@ -16,7 +16,7 @@ returns-in-Some g c =
     let did = c.fill.ensures in
     let live : IsSome (align_at old.heap.state (at c.in-Some.addr)) = subst (λ a. IsSome (align_at old.heap.state a)) (sym c.in-Some.ensures) c.requires in
     subst (λ a. Zeroes (seen_in sllen old) a (seen_in sllen new)) c.in-Some.ensures
-    (zeroed g.row.FLLEN sllen old new (at c.in-Some.addr) c.fill.result did.answer live did.step did.filled did.only)
+    (zeroed g.row.FLLEN sllen old new (at c.in-Some.addr) c.fill.result live did.step did.result did.refused.answer did.frame)
 
 pub returns-in_default : goal.returns-in_default
 returns-in_default g c =

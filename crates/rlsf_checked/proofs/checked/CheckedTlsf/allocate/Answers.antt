@@ -37,46 +37,24 @@ pub returns-in_default : goal.returns-in_default
 returns-in_default g c =
     let did = c.in_default.ensures in
     rw (← c.self.view_is) (record {
-      refused = refl;
       step = did.step;
-      live = tt;
-      sized = tt;
-      few = tt;
-      new = tt;
-      aligns = tt;
-      bytes = tt;
+      result = tt;
       room = did.room;
-      count = tt;
       bounds = did.bounds;
-      same = did.refused.same;
-      same_bytes = did.refused.bytes;
-      pool = refl;
-      place = did.frame.place;
+      refused = record { answer = refl; same = did.refused.same; pool = refl; bytes = did.refused.bytes };
+      frame = record { pool = refl; place = did.frame.place; grow = did.frame.grow; copied = did.frame.copied };
       touches = did.touches;
-      grow = did.frame.grow;
-      copied = did.frame.copied;
     })
 
 pub returns : goal.returns
 returns g c =
     let did = c.in-Some.ensures in
     rw (← c.self.view_is) (record {
-      refused = tt;
       step = did.step;
-      live = did.result.live;
-      sized = did.result.sized;
-      few = did.result.few;
-      new = did.result.new;
-      aligns = did.result.aligns;
-      bytes = did.result.bytes;
+      result = did.result;
       room = did.room;
-      count = did.result.count;
       bounds = did.bounds;
-      same = tt;
-      same_bytes = tt;
-      pool = refl;
-      place = did.frame.place;
+      refused = record { answer = tt; same = tt; pool = tt; bytes = tt };
+      frame = record { pool = refl; place = did.frame.place; grow = did.frame.grow; copied = did.frame.copied };
       touches = did.touches;
-      grow = did.frame.grow;
-      copied = did.frame.copied;
     })

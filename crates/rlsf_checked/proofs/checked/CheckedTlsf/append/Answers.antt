@@ -10,6 +10,7 @@ use Rattle.rlsf_checked.proofs.Edges.{flips}
 use Rattle.rlsf_checked.proofs.Pools.{appended_fits, handed_on, next_answer, next_is, next_range, none_apart, none_appended, none_outside, pool_fits, some_appended, within_is}
 use Rattle.rlsf_checked.proofs.FieldsOverSteps.{stands_after, step_of, unchanged}
 use Rattle.rlsf_checked.proofs.ToggledEdges.{appended_edges, appended_place}
+use Rattle.rlsf_checked.proofs.Unchanged.{frame_unchanged}
 use Rattle.rlsf_checked.proofs.checked.CheckedTlsf.append.Given as given
 use Rattle.rlsf_checked.proofs.checked.CheckedTlsf.append.Goals as goal
 use Rattle.rlsf_checked.proofs.checked.CheckedTlsf.append.Goals.{After-append_free_block_ptr-taken, Else-not-is_next, Then-taken-eq0}
@@ -99,19 +100,17 @@ returns-then-not-lies_in g c =
     let outside : false ≡ is_within (range_of c.self.inside.heap.memory) c.args.range =
     sym c.if-not-lies_in.true ∙ c.lies_in.ensures ∙ ap (λ m. is_within (range_of m) c.args.range) c.memory_ref.ensures.memory in
     rw (← c.self.view_is) (record {
-      answer = sym (none_outside g.row.FLLEN (checked c.self.inside.heap c.self.inside.pool) c.args.range outside);
       step = tt;
-      pool = tt;
-      same = (refl, refl);
-      refused = refl;
-      aligns = refl;
-      bytes = refl;
-      count = refl;
+      result = tt;
       bounds = λ count size align sized. sized;
-      place = (refl, refl, refl, λ none. none);
+      refused = record {
+        answer = sym (none_outside g.row.FLLEN (checked c.self.inside.heap c.self.inside.pool) c.args.range outside);
+        same = refl;
+        pool = refl;
+        bytes = refl;
+      };
+      frame = frame_unchanged c.self.inside.heap;
       touches = omega arith;
-      grow = omega arith;
-      copied = refl;
     })
 
 pub returns-then-not-is_next : goal.returns-then-not-is_next
@@ -121,18 +120,16 @@ returns-then-not-is_next g c =
     let apart : false ≡ is_next c.self.inside.pool c.args.range.start = sym c.if-not-is_next.true ∙ c.is_next.ensures in
     rw (← c.self.view_is) (record {
       step = tt;
-      pool = tt;
-      same = (refl, refl);
-      refused = refl;
-      aligns = refl;
-      answer = sym (none_apart g.row.FLLEN (checked c.self.inside.heap c.self.inside.pool) c.args.range within apart);
-      bytes = refl;
-      count = refl;
+      result = tt;
       bounds = λ count size align sized. sized;
-      place = (refl, refl, refl, λ none. none);
+      refused = record {
+        answer = sym (none_apart g.row.FLLEN (checked c.self.inside.heap c.self.inside.pool) c.args.range within apart);
+        same = refl;
+        pool = refl;
+        bytes = refl;
+      };
+      frame = frame_unchanged c.self.inside.heap;
       touches = omega arith;
-      grow = omega arith;
-      copied = refl;
     })
 
 pub returns-then-taken-eq0 : goal.returns-then-taken-eq0
@@ -141,20 +138,19 @@ returns-then-taken-eq0 g c =
     let (stands, step) = appended g (goal.at.returns-then-taken-eq0 g c).After-append_free_block_ptr-taken in
     let did = c.append_free_block_ptr-taken.ensures in
     rw (← c.self.view_is) (record {
-      answer =
-          sym (next_answer g.row.FLLEN (checked c.self.inside.heap c.self.inside.pool) c.args.range is.within is.next ∙ ap if_appended (sym step.answer ∙ c.if-taken-eq0.true));
       step = tt;
-      pool = tt;
-      same = (same_state g (goal.at.returns-then-taken-eq0 g c).Then-taken-eq0, refl);
-      refused = did.refused c.if-taken-eq0.true;
-      aligns = did.frame.aligns;
-      bytes = did.frame.bytes;
-      count = did.frame.count;
+      result = tt;
       bounds = did.bounds;
-      place = did.frame.place;
+      refused = record {
+        answer =
+            sym (next_answer g.row.FLLEN (checked c.self.inside.heap c.self.inside.pool) c.args.range is.within is.next
+            ∙ ap if_appended (sym step.answer ∙ c.if-taken-eq0.true));
+        same = same_state g (goal.at.returns-then-taken-eq0 g c).Then-taken-eq0;
+        pool = refl;
+        bytes = did.refused c.if-taken-eq0.true;
+      };
+      frame = did.frame;
       touches = did.touches;
-      grow = did.frame.grow;
-      copied = did.frame.copied;
     })
 
 pub returns : goal.returns
@@ -163,19 +159,17 @@ returns g c =
     let (stands, step) = appended g (goal.at.returns g c).After-append_free_block_ptr-taken in
     let did = c.append_free_block_ptr-taken.ensures in
     rw (← c.self.view_is) (record {
-      answer =
-          sym (next_answer g.row.FLLEN (checked c.self.inside.heap c.self.inside.pool) c.args.range is.within is.next ∙ ap if_appended (sym step.answer)
-          ∙ some_appended _ c.if-taken-eq0.false);
       step = did.step;
-      pool = refl;
-      same = tt;
-      refused = tt;
-      aligns = did.frame.aligns;
-      bytes = did.frame.bytes;
-      count = did.frame.count;
+      result = refl;
       bounds = did.bounds;
-      place = did.frame.place;
+      refused = record {
+        answer =
+            sym (next_answer g.row.FLLEN (checked c.self.inside.heap c.self.inside.pool) c.args.range is.within is.next ∙ ap if_appended (sym step.answer)
+            ∙ some_appended _ c.if-taken-eq0.false);
+        same = tt;
+        pool = tt;
+        bytes = tt;
+      };
+      frame = did.frame;
       touches = did.touches;
-      grow = did.frame.grow;
-      copied = did.frame.copied;
     })

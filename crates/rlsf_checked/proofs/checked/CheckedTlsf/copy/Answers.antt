@@ -3,8 +3,9 @@ use Rattle.rlsf_base.specs.Addr.{at}
 use Rattle.rlsf_model.specs.Callers.{bytes_at}
 use Rattle.rlsf_checked.specs.Answers.{both_have, if_both_in_range, if_in_range}
 use Rattle.rlsf_checked.specs.declared.error.CheckedError.TheVariants.{OutOfRange, UnknownAddress}
+use Rattle.rlsf_checked.specs.Checked.{checked}
 use Rattle.rlsf_checked.proofs.FieldsOverSteps.{stands_after, unchanged}
-use Rattle.rlsf_checked.proofs.RefusedWrites.{nothing_written}
+use Rattle.rlsf_checked.proofs.Unchanged.{frame_copying_unchanged}
 use Rattle.rlsf_checked.proofs.checked.CheckedTlsf.copy.Given as given
 use Rattle.rlsf_checked.proofs.checked.CheckedTlsf.copy.Goals as goal
 use Rattle.rlsf_checked.proofs.checked.CheckedTlsf.copy.Goals.{After-both_reach}
@@ -42,32 +43,31 @@ returns g c =
     let fits = sym c.if-not-both_reach.false ∙ reach g (goal.at.returns g c).After-both_reach in
     let did = c.copy_payload.ensures in
     rw (← c.self.view_is) (record {
-      answer = ap (λ b. cond b (Ok tt) (Err OutOfRange)) fits ∙ in_range _ _ _ _ _ from to;
       step = did.step;
-      filled = did.result.filled;
-      only = record {
+      result = did.result.filled;
+      bounds = did.bounds;
+      refused = record { answer = ap (λ b. cond b (Ok tt) (Err OutOfRange)) fits ∙ in_range _ _ _ _ _ from to; same = tt };
+      frame = record {
         aligns = did.result.aligns;
         bytes = did.result.bytes;
         count = did.result.count;
-        bounds = did.bounds;
-        same = tt;
         pool = refl;
         place = did.frame.place;
+        copied = did.frame.copied;
       };
       touches = did.touches;
-      copied = did.frame.copied;
     })
 
 pub returns-in_default : goal.returns-in_default
 returns-in_default g c =
     let from = rw (← c.self.view_is) at c.in_default.ensures.value in
     rw (← c.self.view_is) (record {
-      answer = not_from _ _ _ from;
       step = tt;
-      filled = tt;
-      only = nothing_written _ _ _ _;
+      result = tt;
+      bounds = λ count size align sized. sized;
+      refused = record { answer = not_from _ _ _ from; same = refl };
+      frame = frame_copying_unchanged (at c.args.to) c.args.len (checked c.self.inside.heap c.self.inside.pool) UnknownAddress;
       touches = refl;
-      copied = tt;
     })
 
 pub returns-in_default-alignment : goal.returns-in_default-alignment
@@ -75,12 +75,12 @@ returns-in_default-alignment g c =
     let from = rw (← c.self.view_is) at c.in-Some.ensures.value in
     let to = rw (← c.self.view_is) at c.in_default-alignment.ensures.value in
     rw (← c.self.view_is) (record {
-      answer = not_to _ _ _ _ from to;
       step = tt;
-      filled = tt;
-      only = nothing_written _ _ _ _;
+      result = tt;
+      bounds = λ count size align sized. sized;
+      refused = record { answer = not_to _ _ _ _ from to; same = refl };
+      frame = frame_copying_unchanged (at c.args.to) c.args.len (checked c.self.inside.heap c.self.inside.pool) UnknownAddress;
       touches = refl;
-      copied = tt;
     })
 
 pub returns-then-not-both_reach : goal.returns-then-not-both_reach
@@ -89,10 +89,10 @@ returns-then-not-both_reach g c =
     let to = rw (← c.self.view_is) at c.in-Some-alignment.ensures.value in
     let fits = sym c.if-not-both_reach.true ∙ reach g (goal.at.returns-then-not-both_reach g c).After-both_reach in
     rw (← c.self.view_is) (record {
-      answer = ap (λ b. cond b (Ok tt) (Err OutOfRange)) fits ∙ in_range _ _ _ _ _ from to;
       step = tt;
-      filled = tt;
-      only = nothing_written _ _ _ _;
+      result = tt;
+      bounds = λ count size align sized. sized;
+      refused = record { answer = ap (λ b. cond b (Ok tt) (Err OutOfRange)) fits ∙ in_range _ _ _ _ _ from to; same = refl };
+      frame = frame_copying_unchanged (at c.args.to) c.args.len (checked c.self.inside.heap c.self.inside.pool) OutOfRange;
       touches = refl;
-      copied = tt;
     })

@@ -29,36 +29,22 @@ returns-in-Some g c =
     let live = rw (← c.self.view_is) at c.in-Some.ensures.value in
     let did = c.deallocate.ensures in
     rw (← c.self.view_is) (record {
-      answer = ap (λ o. if_live o tt) live;
       step = did.step;
-      gone = did.result.gone;
-      aligns = did.result.aligns;
-      bytes = did.result.bytes;
-      count = did.result.count;
+      result = record { gone = did.result.gone; aligns = did.result.aligns; bytes = did.result.bytes; count = did.result.count };
       bounds = did.bounds;
-      same = tt;
-      pool = refl;
-      place = did.frame.place;
+      refused = record { answer = ap (λ o. if_live o tt) live; same = tt };
+      frame = record { pool = refl; place = did.frame.place; grow = did.frame.grow; copied = did.frame.copied };
       touches = did.touches;
-      grow = did.frame.grow;
-      copied = did.frame.copied;
     })
 
 pub returns-in-None : goal.returns-in-None
 returns-in-None g c =
     let none = rw (← c.self.view_is) at c.in-None.ensures.value in
     rw (← c.self.view_is) (record {
-      answer = ap (λ o. if_live o tt) none;
       step = tt;
-      gone = sym none;
-      aligns = λ a apart. refl;
-      bytes = λ a apart. refl;
-      count = tt;
+      result = record { gone = sym none; aligns = λ a apart. refl; bytes = λ a apart. refl; count = tt };
       bounds = λ count size align sized. sized;
-      same = refl;
-      pool = refl;
-      place = (refl, refl, refl, λ none. none);
+      refused = record { answer = ap (λ o. if_live o tt) none; same = refl };
+      frame = record { pool = refl; place = (refl, refl, refl, λ none. none); grow = omega arith; copied = refl };
       touches = omega arith;
-      grow = omega arith;
-      copied = refl;
     })

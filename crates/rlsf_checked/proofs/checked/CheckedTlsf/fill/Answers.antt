@@ -6,8 +6,9 @@ use Rattle.rlsf_model.specs.Run.{Fills}
 use Rattle.rlsf_tlsf.specs.Allocator.{Steps}
 use Rattle.rlsf_tlsf.specs.Lending.{written}
 use Rattle.rlsf_checked.specs.Answers.{if_live}
+use Rattle.rlsf_checked.specs.Checked.{checked}
 use Rattle.rlsf_checked.proofs.FieldsOverSteps.{unchanged}
-use Rattle.rlsf_checked.proofs.RefusedWrites.{nothing_written}
+use Rattle.rlsf_checked.proofs.Unchanged.{frame_in_place_unchanged}
 use Rattle.rlsf_checked.proofs.checked.CheckedTlsf.fill.Given as given
 use Rattle.rlsf_checked.proofs.checked.CheckedTlsf.fill.Goals as goal
 use Rattle.rlsf_checked.proofs.checked.CheckedTlsf.fill.Goals.{After-fill_all}
@@ -29,13 +30,12 @@ pub returns-in_default : goal.returns-in_default
 returns-in_default g c =
     let none = rw (← c.self.view_is) at c.in_default.ensures.value in
     rw (← c.self.view_is) (record {
-      answer = ap (λ o. if_live o tt) none;
       step = tt;
-      filled = tt;
-      only = nothing_written _ _ _ _;
+      result = tt;
+      bounds = λ count size align sized. sized;
+      refused = record { answer = ap (λ o. if_live o tt) none; same = refl };
+      frame = frame_in_place_unchanged (at c.args.addr) (checked c.self.inside.heap c.self.inside.pool);
       touches = omega arith;
-      grow = omega arith;
-      copied = refl;
     })
 
 pub returns : goal.returns
@@ -48,21 +48,20 @@ returns g c =
     let w = c.fill_all.new.bytes in
     let (chunks, place, stands, touches, copied) = did.rest w in
     rw (← c.self.view_is) (record {
-      answer = ap (λ o. if_live o tt) live;
       step =
           subst (λ b. Steps g.row.FLLEN g.row.SLLEN heap (written heap addr (length c.payload_mut.result.now) w) (Fills heap.state addr b)) (over g k)
           (did.meaning w (long g k));
-      filled = did.filled w (long g k) ∙ over g k;
-      only = record {
+      result = did.filled w (long g k) ∙ over g k;
+      bounds = did.bounds w;
+      refused = record { answer = ap (λ o. if_live o tt) live; same = tt };
+      frame = record {
         aligns = did.aligns w;
         bytes = did.bytes w;
         count = did.count w;
-        bounds = did.bounds w;
-        same = tt;
         pool = refl;
         place = place;
+        grow = omega (arith, touches);
+        copied = copied;
       };
       touches = omega (arith, touches);
-      grow = omega (arith, touches);
-      copied = copied;
     })

@@ -13,6 +13,7 @@ use Rattle.rlsf_checked.proofs.Edges.{Flips, flips}
 use Rattle.rlsf_checked.proofs.ToggledEdges.{inserted_edges, inserted_place}
 use Rattle.rlsf_checked.proofs.Pools.{before_answer, behind_answer, handed_in, none_taken, outside_answer, pool_fits, untouched, within_is}
 use Rattle.rlsf_checked.proofs.FieldsOverSteps.{stands_after, step_of, unchanged}
+use Rattle.rlsf_checked.proofs.Unchanged.{frame_unchanged}
 use Rattle.rlsf_checked.proofs.checked.CheckedTlsf.insert.Given as given
 use Rattle.rlsf_checked.proofs.checked.CheckedTlsf.insert.Goals as goal
 use Rattle.rlsf_checked.proofs.checked.CheckedTlsf.insert.Goals.{Else-range-self, In-Some}
@@ -95,20 +96,18 @@ returns-then-not-lies_in g c =
     let outside : false ≡ is_within (range_of c.self.inside.heap.memory) c.args.range =
     sym c.if-not-lies_in.true ∙ c.lies_in.ensures ∙ ap (λ m. is_within (range_of m) c.args.range) c.memory_ref.ensures.memory in
     rw (← c.self.view_is) (record {
-      answer = sym (outside_answer g.row.FLLEN (checked c.self.inside.heap c.self.inside.pool) c.args.range outside);
       step = tt;
-      pool = tt;
-      same = (refl, refl);
-      refused = refl;
-      aligns = refl;
-      bytes = refl;
-      count = refl;
+      result = tt;
+      room = λ count size align len told at32 long idle. tt;
       bounds = λ count size align sized. sized;
-      sized_pool = λ count size align len told at32 long idle. tt;
-      place = (refl, refl, refl, λ none. none);
+      refused = record {
+        answer = sym (outside_answer g.row.FLLEN (checked c.self.inside.heap c.self.inside.pool) c.args.range outside);
+        same = refl;
+        pool = refl;
+        bytes = refl;
+      };
+      frame = frame_unchanged c.self.inside.heap;
       touches = omega arith;
-      grow = omega arith;
-      copied = refl;
     })
 
 pub returns-then-range-self : goal.returns-then-range-self
@@ -117,19 +116,17 @@ returns-then-range-self g c =
     sym c.if-not-lies_in.false ∙ c.lies_in.ensures ∙ ap (λ m. is_within (range_of m) c.args.range) c.memory_ref.ensures.memory in
     rw (← c.self.view_is) (record {
       step = tt;
-      pool = tt;
-      same = (refl, refl);
-      refused = refl;
-      aligns = refl;
-      answer = sym (before_answer g.row.FLLEN (checked c.self.inside.heap c.self.inside.pool) c.args.range within c.if-range-self.true);
-      bytes = refl;
-      count = refl;
+      result = tt;
+      room = λ count size align len told at32 long idle. tt;
       bounds = λ count size align sized. sized;
-      sized_pool = λ count size align len told at32 long idle. tt;
-      place = (refl, refl, refl, λ none. none);
+      refused = record {
+        answer = sym (before_answer g.row.FLLEN (checked c.self.inside.heap c.self.inside.pool) c.args.range within c.if-range-self.true);
+        same = refl;
+        pool = refl;
+        bytes = refl;
+      };
+      frame = frame_unchanged c.self.inside.heap;
       touches = omega arith;
-      grow = omega arith;
-      copied = refl;
     })
 
 pub returns-in_default : goal.returns-in_default
@@ -138,20 +135,18 @@ returns-in_default g c =
     let did = c.in_default.ensures in
     let step : Inserts g.row.FLLEN c.self.inside.heap.state c.args.range None c.insert_free_block_ptr.new.self.state = step_of _ _ _ _ _ did.step in
     rw (← c.self.view_is) (record {
-      answer = sym (behind_answer g.row.FLLEN (checked c.self.inside.heap c.self.inside.pool) c.args.range is.within is.behind ∙ ap if_taken (sym step.answer));
       step = tt;
-      pool = tt;
-      same = (none_taken g.row.FLLEN c.self.inside.heap.state c.insert_free_block_ptr.new.self.state c.args.range step, refl);
-      refused = did.refused;
-      aligns = did.frame.aligns;
-      bytes = did.frame.bytes;
-      count = did.frame.count;
+      result = tt;
+      room = λ count size align len told at32 long idle. tt;
       bounds = did.bounds;
-      sized_pool = λ count size align len told at32 long idle. tt;
-      place = did.frame.place;
+      refused = record {
+        answer = sym (behind_answer g.row.FLLEN (checked c.self.inside.heap c.self.inside.pool) c.args.range is.within is.behind ∙ ap if_taken (sym step.answer));
+        same = none_taken g.row.FLLEN c.self.inside.heap.state c.insert_free_block_ptr.new.self.state c.args.range step;
+        pool = refl;
+        bytes = did.refused;
+      };
+      frame = did.frame;
       touches = did.touches;
-      grow = did.frame.grow;
-      copied = did.frame.copied;
     })
 
 pub returns : goal.returns
@@ -161,23 +156,21 @@ returns g c =
     let did = c.in-Some.ensures in
     let heap = c.self.inside.heap in
     rw (← c.self.view_is) (record {
-      answer =
-          ap Ok c.get-len.ensures.value
-          ∙ sym (behind_answer g.row.FLLEN (checked heap c.self.inside.pool) c.args.range is.within is.behind ∙ ap if_taken (sym step.answer));
       step =
           subst (λ n. Steps g.row.FLLEN g.row.SLLEN heap c.insert_free_block_ptr.new.self (Inserts g.row.FLLEN heap.state c.args.range (Some n)))
           (sym c.get-len.ensures.value)
           did.step;
-      pool = refl;
-      same = tt;
-      refused = tt;
-      aligns = did.frame.aligns;
-      bytes = did.frame.bytes;
-      count = did.frame.count;
+      result = refl;
+      room = did.result.pool;
       bounds = did.bounds;
-      sized_pool = did.result.pool;
-      place = did.frame.place;
+      refused = record {
+        answer =
+            ap Ok c.get-len.ensures.value
+            ∙ sym (behind_answer g.row.FLLEN (checked heap c.self.inside.pool) c.args.range is.within is.behind ∙ ap if_taken (sym step.answer));
+        same = tt;
+        pool = tt;
+        bytes = tt;
+      };
+      frame = did.frame;
       touches = did.touches;
-      grow = did.frame.grow;
-      copied = did.frame.copied;
     })

@@ -1,4 +1,4 @@
-use Rattle.std.proofs.Common.{rules, arith, ◌≡◌, ℕ, IfSome, ◌≤◌, ◌<◌, ◌+◌, length, suc, Some, None, Ok, Err, refl, sym, ◌∙◌, ap, subst}
+use Rattle.std.proofs.Common.{arith, ◌≡◌, ℕ, IfSome, ◌≤◌, ◌<◌, ◌+◌, length, suc, Some, None, Ok, Err, refl, sym, ◌∙◌, ap, subst}
 use Rattle.std.proofs.lemmas.Option.{none-some}
 use Rattle.std.specs.declared.num.NonZeroUsize.{NonZeroUsize}
 use Rattle.rlsf_base.specs.Addr.{at}
@@ -9,9 +9,12 @@ use Rattle.rlsf_model.specs.Sized.{IsSizedFor}
 use Rattle.rlsf_tlsf.specs.Allocator.{Steps}
 use Rattle.rlsf_checked.specs.Answers.{IsRefusedBy, size_refusal}
 use Rattle.rlsf_checked.specs.declared.error.CheckedError.TheVariants.{NoLayout, NoRoom, UnknownAddress}
+use Rattle.rlsf_checked.specs.Checked.{checked}
+use Rattle.rlsf_checked.specs.Results.{KeepsCheckedFrameMoving}
 use Rattle.rlsf_checked.specs.Steps.Marks.{HasMark, mark_at}
 use Rattle.rlsf_checked.proofs.SizeRefusals.{past_is_refused, unknown_is_refused}
 use Rattle.rlsf_checked.proofs.FieldsOverSteps.{has_mark, left_behind, marked_moved, size_fits, stands_after, step_of, unchanged}
+use Rattle.rlsf_checked.proofs.Unchanged.{frame_moving_unchanged}
 use Rattle.rlsf_checked.proofs.checked.CheckedTlsf.reallocate.Given as given
 use Rattle.rlsf_checked.proofs.checked.CheckedTlsf.reallocate.Goals as goal
 use Rattle.rlsf_checked.proofs.checked.CheckedTlsf.reallocate.Goals.{After-reallocate}
@@ -24,6 +27,13 @@ bounds_kept g c count most_size align sized short fits =
     let live : align_at c.self.inside.heap.state (at c.args.addr) ≡ Some c.in-Some.align = sym (rw (← c.self.view_is) at c.in-Some.ensures.value) in
     let low : c.in-Some.align ≤ align = subst (λ o. IfSome o (λ a. a ≤ align)) live fits in
     c.reallocate.ensures.bounds count most_size align sized (omega (arith, short, c.in-Ok.ensures.layout.0)) (omega (arith, low, c.in-Ok.ensures.layout.1))
+
+-- and so is what every call keeps
+frame_moving : (g : given.Over) (c : After-reallocate g)
+    → KeepsCheckedFrameMoving (at c.args.addr) (checked c.self.inside.heap c.self.inside.pool) (checked c.reallocate.new.self c.self.inside.pool)
+frame_moving g c =
+    let is = c.reallocate.ensures.frame in
+    record { count = is.count; pool = refl; place = is.place; grow = is.grow; copied = is.copied; grow_copied = is.grow_copied }
 
 pub invariant_of-self : goal.invariant_of-self
 invariant_of-self g c =
@@ -68,34 +78,38 @@ pub returns-in_default : goal.returns-in_default
 returns-in_default g c =
     let refused = unknown_is_refused c.args.size _ (rw (← c.self.view_is) at c.in_default.ensures.value) in
     rw (← c.self.view_is) (record {
-      answer = subst (λ o. IsRefusedBy {A = NonZeroUsize} o (Err UnknownAddress)) (sym refused) refl;
       step = λ fits. absurd (none-some _ (sym fits ∙ refused));
-      live = tt;
-      sized = tt;
-      few = tt;
-      kept = tt;
-      new = tt;
-      left = tt;
-      aligns = tt;
-      bytes = tt;
+      result = tt;
       room = λ count most_size align sized few short fits fine. absurd (none-some _ (sym fine ∙ refused));
-      count = refl;
       bounds = λ count most_size align sized short fits. sized;
-      same = refl;
-      refused = refl;
-      pool = refl;
-      place = (refl, refl, refl, λ none. none);
+      refused = record {
+        answer = subst (λ o. IsRefusedBy {A = NonZeroUsize} o (Err UnknownAddress)) (sym refused) refl;
+        same = refl;
+        pool = refl;
+        bytes = refl;
+      };
+      frame = frame_moving_unchanged (at c.args.addr) (checked c.self.inside.heap c.self.inside.pool);
       touches = omega arith;
-      grow = omega arith;
-      copied = omega arith;
-      grow_copied = omega arith;
     })
 
 pub returns-in_default-from_size_align : goal.returns-in_default-from_size_align
 returns-in_default-from_size_align g c =
     let live = rw (← c.self.view_is) at c.in-Some.ensures.value in
     let refused = past_is_refused c.args.size c.in-Some.align _ live c.in-Some.ensures.power c.in_default-from_size_align.ensures.succeeds.1 in
-    rw (← c.self.view_is) (search (rules, refused))
+    rw (← c.self.view_is) (record {
+      step = λ fits. absurd (none-some _ (sym fits ∙ refused));
+      result = tt;
+      room = λ count most_size align sized few short fits fine. absurd (none-some _ (sym fine ∙ refused));
+      bounds = λ count most_size align sized short fits. sized;
+      refused = record {
+        answer = subst (λ o. IsRefusedBy {A = NonZeroUsize} o (Err NoLayout)) (sym refused) refl;
+        same = refl;
+        pool = refl;
+        bytes = refl;
+      };
+      frame = frame_moving_unchanged (at c.args.addr) (checked c.self.inside.heap c.self.inside.pool);
+      touches = omega arith;
+    })
 
 pub returns-in_default-reallocate : goal.returns-in_default-reallocate
 returns-in_default-reallocate g c =
@@ -103,33 +117,24 @@ returns-in_default-reallocate g c =
     let live = rw (← c.self.view_is) at c.in-Some.ensures.value in
     let did = c.in_default-reallocate.ensures in
     rw (← c.self.view_is) (record {
-      answer =
-          subst (λ o. IsRefusedBy {A = NonZeroUsize} (size_refusal o c.args.size) (Err NoRoom)) live
-          (subst (λ o. IsRefusedBy {A = NonZeroUsize} o (Err NoRoom)) (sym (size_fits c.in-Ok.layout c.args.size c.in-Some.align size align)) refl);
       step =
           λ fits. subst (λ n. Steps g.row.FLLEN g.row.SLLEN c.self.inside.heap c.reallocate.new.self (Reallocates g.row.SLLEN c.self.inside.heap.state (at c.args.addr) n None))
           size did.step;
-      live = tt;
-      sized = tt;
-      few = tt;
-      kept = tt;
-      new = tt;
-      left = tt;
-      aligns = tt;
-      bytes = tt;
+      result = tt;
       room = λ count most_size most sized few short fits fine.
           let low : c.in-Some.align ≤ most = subst (λ o. IfSome o (λ a. a ≤ most)) (sym live) fits in
           did.room count most_size most sized few (omega (arith, short, size)) (omega (arith, low, align));
-      count = did.frame.count;
       bounds = bounds_kept g (goal.at.returns-in_default-reallocate g c).After-reallocate;
-      same = did.refused.same;
-      refused = did.refused.bytes;
-      pool = refl;
-      place = did.frame.place;
+      refused = record {
+        answer =
+            subst (λ o. IsRefusedBy {A = NonZeroUsize} (size_refusal o c.args.size) (Err NoRoom)) live
+            (subst (λ o. IsRefusedBy {A = NonZeroUsize} o (Err NoRoom)) (sym (size_fits c.in-Ok.layout c.args.size c.in-Some.align size align)) refl);
+        same = did.refused.same;
+        pool = refl;
+        bytes = did.refused.bytes;
+      };
+      frame = frame_moving g (goal.at.returns-in_default-reallocate g c).After-reallocate;
       touches = did.touches;
-      grow = did.frame.grow;
-      copied = did.frame.copied;
-      grow_copied = did.frame.grow_copied;
     })
 
 pub returns : goal.returns
@@ -142,28 +147,29 @@ returns g c =
     let heap = c.self.inside.heap in
     let new = c.reallocate.new.self in
     rw (← c.self.view_is) (record {
-      answer =
-          subst (λ o. IsRefusedBy (size_refusal o c.args.size) (Ok c.in-Some-reallocate.moved)) live
-          (subst (λ o. IsRefusedBy o (Ok c.in-Some-reallocate.moved)) (sym (size_fits c.in-Ok.layout c.args.size c.in-Some.align size align)) tt);
       step = λ fits. subst (λ n. Steps g.row.FLLEN g.row.SLLEN heap new (Reallocates g.row.SLLEN heap.state addr n (Some to))) size did.step;
-      live = did.result.live ∙ ap Some align ∙ live;
-      sized = subst (λ n. n ≤ length (bytes_at new.state to)) size did.result.sized;
-      few = subst (λ n. length (bytes_at new.state to) < n + 32) size did.result.few;
-      kept = did.result.kept;
-      new = did.result.new;
-      left =
-          left_behind g.row.FLLEN g.row.SLLEN heap c.self.invariant.stands new.state addr c.in-Some.align c.in-Ok.layout.size to (sym live) (step_of _ _ _ _ _ did.step);
-      aligns = did.result.aligns;
-      bytes = did.result.bytes;
+      result = record {
+        live = did.result.live ∙ ap Some align ∙ live;
+        sized = subst (λ n. n ≤ length (bytes_at new.state to)) size did.result.sized;
+        few = subst (λ n. length (bytes_at new.state to) < n + 32) size did.result.few;
+        kept = did.result.kept;
+        new = did.result.new;
+        left =
+            left_behind g.row.FLLEN g.row.SLLEN heap c.self.invariant.stands new.state addr c.in-Some.align c.in-Ok.layout.size to (sym live)
+            (step_of _ _ _ _ _ did.step);
+        aligns = did.result.aligns;
+        bytes = did.result.bytes;
+      };
       room = λ count most_size most sized few short fits fine. refl;
-      count = did.frame.count;
       bounds = bounds_kept g (goal.at.returns g c).After-reallocate;
-      same = tt;
-      refused = tt;
-      pool = refl;
-      place = did.frame.place;
+      refused = record {
+        answer =
+            subst (λ o. IsRefusedBy (size_refusal o c.args.size) (Ok c.in-Some-reallocate.moved)) live
+            (subst (λ o. IsRefusedBy o (Ok c.in-Some-reallocate.moved)) (sym (size_fits c.in-Ok.layout c.args.size c.in-Some.align size align)) tt);
+        same = tt;
+        pool = tt;
+        bytes = tt;
+      };
+      frame = frame_moving g (goal.at.returns g c).After-reallocate;
       touches = did.touches;
-      grow = did.frame.grow;
-      copied = did.frame.copied;
-      grow_copied = did.frame.grow_copied;
     })

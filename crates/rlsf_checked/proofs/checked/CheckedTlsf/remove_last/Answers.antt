@@ -5,6 +5,7 @@ use Rattle.rlsf_checked.proofs.Pools.{pool_fits}
 use Rattle.rlsf_checked.proofs.Removed.{idle_last, removed_last, used_last}
 use Rattle.rlsf_checked.proofs.FieldsOverSteps.{stands_after, step_of}
 use Rattle.rlsf_checked.proofs.ToggledEdges.{removed_edges, removed_none, removed_place}
+use Rattle.rlsf_checked.proofs.Unchanged.{frame_unchanged}
 use Rattle.rlsf_checked.proofs.checked.CheckedTlsf.remove_last.Goals as goal
 
 pub remove_pool-requires : goal.remove_pool-requires
@@ -54,49 +55,30 @@ invariant_of-self-2 g c =
 
 pub returns-then-any_used : goal.returns-then-any_used
 returns-then-any_used g c = rw (← c.self.view_is) (record {
+  step = λ e. absurd (true≢false (sym e));
+  result = λ e. absurd (true≢false (sym e));
   idle = (
     (λ e. absurd (true≢false (sym e))),
     (λ idle. absurd (used_last c.self.invariant c.iter_blocks.result c.iter_blocks.ensures.blocks (sym c.any_used.ensures ∙ c.if-any_used.true) idle)),
   );
-  step = λ e. absurd (true≢false (sym e));
-  pool = λ e. absurd (true≢false (sym e));
-  same = λ e. refl;
-  aligns = refl;
-  bytes = refl;
-  count = refl;
-  place = (refl, refl, refl, λ none. none);
-  grow = omega arith;
-  copied = refl;
+  refused = λ e. refl;
+  frame = frame_unchanged c.self.inside.heap;
 })
 
 pub returns-then-pool-eq0 : goal.returns-then-pool-eq0
-returns-then-pool-eq0 g c =
-    let did = c.remove_pool.ensures in
-    rw (← c.self.view_is) (record {
-      idle = ((λ e. idle_last c.self.invariant c.iter_blocks.result c.iter_blocks.ensures.blocks (sym c.any_used.ensures ∙ c.if-any_used.false)), (λ idle. refl));
-      step = λ e. did.step;
-      pool = λ e. refl;
-      same = λ e. absurd (true≢false e);
-      aligns = did.frame.aligns;
-      bytes = did.frame.bytes;
-      count = did.frame.count;
-      place = did.frame.place;
-      grow = did.frame.grow;
-      copied = did.frame.copied;
-    })
+returns-then-pool-eq0 g c = rw (← c.self.view_is) (record {
+  step = λ e. c.remove_pool.ensures.step;
+  result = λ e. refl;
+  idle = ((λ e. idle_last c.self.invariant c.iter_blocks.result c.iter_blocks.ensures.blocks (sym c.any_used.ensures ∙ c.if-any_used.false)), (λ idle. refl));
+  refused = λ e. absurd (true≢false e);
+  frame = c.remove_pool.ensures.frame;
+})
 
 pub returns : goal.returns
-returns g c =
-    let did = c.remove_pool.ensures in
-    rw (← c.self.view_is) (record {
-      step = λ e. did.step;
-      pool = λ e. refl;
-      same = λ e. absurd (true≢false e);
-      aligns = did.frame.aligns;
-      idle = ((λ e. idle_last c.self.invariant c.iter_blocks.result c.iter_blocks.ensures.blocks (sym c.any_used.ensures ∙ c.if-any_used.false)), (λ idle. refl));
-      bytes = did.frame.bytes;
-      count = did.frame.count;
-      place = did.frame.place;
-      grow = did.frame.grow;
-      copied = did.frame.copied;
-    })
+returns g c = rw (← c.self.view_is) (record {
+  step = λ e. c.remove_pool.ensures.step;
+  result = λ e. refl;
+  idle = ((λ e. idle_last c.self.invariant c.iter_blocks.result c.iter_blocks.ensures.blocks (sym c.any_used.ensures ∙ c.if-any_used.false)), (λ idle. refl));
+  refused = λ e. absurd (true≢false e);
+  frame = c.remove_pool.ensures.frame;
+})

@@ -13,6 +13,7 @@ use Rattle.rlsf_checked.proofs.Pools.{pool_fits}
 use Rattle.rlsf_checked.proofs.RemovedRanges.{high_below, removed_range, removed_range_edges, removed_range_place}
 use Rattle.rlsf_checked.proofs.RunsByEdges.{well_formed}
 use Rattle.rlsf_checked.proofs.FieldsOverSteps.{stands_after, step_of}
+use Rattle.rlsf_checked.proofs.Unchanged.{frame_unchanged}
 use Rattle.rlsf_checked.proofs.checked.CheckedTlsf.remove_pool.Goals as goal
 
 pub iter_blocks-requires : goal.iter_blocks-requires
@@ -75,17 +76,11 @@ invariant_of-self g c =
 
 pub returns-then-not-are_chunks : goal.returns-then-not-are_chunks
 returns-then-not-are_chunks g c = record {
-  answer = inl (refl, λ are. true≢false (sym (c.are_chunks.ensures.1 are) ∙ c.if-not-are_chunks.true));
   step = tt;
-  pool = tt;
-  same = refl;
-  aligns = refl;
-  bytes = refl;
-  count = refl;
-  place = (refl, refl, refl, λ none. none);
+  result = tt;
+  refused = record { answer = inl (refl, λ are. true≢false (sym (c.are_chunks.ensures.1 are) ∙ c.if-not-are_chunks.true)); same = refl };
+  frame = frame_unchanged c.args.self.now.heap;
   touches = omega arith;
-  grow = omega arith;
-  copied = refl;
 }
 
 pub returns-then-any_used : goal.returns-then-any_used
@@ -94,17 +89,11 @@ returns-then-any_used g c =
     let used : IsIdle c.self.inside.heap.state (walked c.args.range) → ⊥ =
     used_if (well_formed c.self.invariant) (walked c.args.range) are.row c.iter_blocks.result c.iter_blocks.ensures.blocks (sym c.any_used.ensures ∙ c.if-any_used.true) in
     rw (← c.self.view_is) (record {
-      answer = inr (refl, are, used);
       step = tt;
-      pool = tt;
-      same = refl;
-      aligns = refl;
-      bytes = refl;
-      count = refl;
-      place = (refl, refl, refl, λ none. none);
+      result = tt;
+      refused = record { answer = inr (refl, are, used); same = refl };
+      frame = frame_unchanged c.self.inside.heap;
       touches = omega arith;
-      grow = omega arith;
-      copied = refl;
     })
 
 pub returns : goal.returns
@@ -114,15 +103,9 @@ returns g c =
     idle_if (well_formed c.self.invariant) (walked c.args.range) are.row c.iter_blocks.result c.iter_blocks.ensures.blocks (sym c.any_used.ensures ∙ c.if-any_used.false) in
     let did = c.remove_pool.ensures in
     rw (← c.self.view_is) (record {
-      answer = (are, idle);
       step = did.step;
-      pool = c.pool_left-self-inside.ensures ∙ ap (λ a. pool_without c.self.inside.pool (between a (end_of c.args.range))) c.next_multiple_of_32-start.ensures.value;
-      same = tt;
-      aligns = did.frame.aligns;
-      bytes = did.frame.bytes;
-      count = did.frame.count;
-      place = did.frame.place;
+      result = c.pool_left-self-inside.ensures ∙ ap (λ a. pool_without c.self.inside.pool (between a (end_of c.args.range))) c.next_multiple_of_32-start.ensures.value;
+      refused = record { answer = (are, idle); same = tt };
+      frame = did.frame;
       touches = did.touches;
-      grow = did.frame.grow;
-      copied = did.frame.copied;
     })

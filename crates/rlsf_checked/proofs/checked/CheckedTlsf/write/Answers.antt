@@ -8,8 +8,9 @@ use Rattle.rlsf_tlsf.specs.Allocator.{Steps}
 use Rattle.rlsf_tlsf.specs.Lending.{written}
 use Rattle.rlsf_checked.specs.Answers.{fits, if_in_range}
 use Rattle.rlsf_checked.specs.declared.error.CheckedError.TheVariants.{OutOfRange}
+use Rattle.rlsf_checked.specs.Checked.{checked}
 use Rattle.rlsf_checked.proofs.FieldsOverSteps.{unchanged}
-use Rattle.rlsf_checked.proofs.RefusedWrites.{nothing_written}
+use Rattle.rlsf_checked.proofs.Unchanged.{frame_in_place_unchanged}
 use Rattle.rlsf_checked.proofs.checked.CheckedTlsf.write.Given as given
 use Rattle.rlsf_checked.proofs.checked.CheckedTlsf.write.Goals as goal
 use Rattle.rlsf_checked.proofs.checked.CheckedTlsf.write.Goals.{After-reaches, After-write_at}
@@ -38,13 +39,12 @@ pub returns-in_default : goal.returns-in_default
 returns-in_default g c =
     let none = rw (← c.self.view_is) at c.in_default.ensures.value in
     rw (← c.self.view_is) (record {
-      answer = ap (λ o. if_in_range o (fits c.args.offset (length c.args.bytes.now) (bytes_at c.self.inside.heap.state (at c.args.addr)))) none;
       step = tt;
-      written = tt;
-      only = nothing_written _ _ _ _;
+      result = tt;
+      bounds = λ count size align sized. sized;
+      refused = record { answer = ap (λ o. if_in_range o (fits c.args.offset (length c.args.bytes.now) (bytes_at c.self.inside.heap.state (at c.args.addr)))) none; same = refl };
+      frame = frame_in_place_unchanged (at c.args.addr) (checked c.self.inside.heap c.self.inside.pool);
       touches = omega arith;
-      grow = omega arith;
-      copied = refl;
     })
 
 pub returns-then-not-reaches : goal.returns-then-not-reaches
@@ -52,15 +52,17 @@ returns-then-not-reaches g c =
     let live = rw (← c.self.view_is) at c.in-Some.ensures.value in
     let told = sym c.if-not-reaches.true ∙ reach g (goal.at.returns-then-not-reaches g c).After-reaches in
     rw (← c.self.view_is) (record {
-      answer =
-          subst (λ o. Err OutOfRange ≡ if_in_range o (fits c.args.offset (length c.args.bytes.now) (bytes_at c.self.inside.heap.state (at c.args.addr)))) live
-          (ap (λ b. cond b (Ok tt) (Err OutOfRange)) told);
       step = tt;
-      written = tt;
-      only = nothing_written _ _ _ _;
+      result = tt;
+      bounds = λ count size align sized. sized;
+      refused = record {
+        answer =
+            subst (λ o. Err OutOfRange ≡ if_in_range o (fits c.args.offset (length c.args.bytes.now) (bytes_at c.self.inside.heap.state (at c.args.addr)))) live
+            (ap (λ b. cond b (Ok tt) (Err OutOfRange)) told);
+        same = refl;
+      };
+      frame = frame_in_place_unchanged (at c.args.addr) (checked c.self.inside.heap c.self.inside.pool);
       touches = omega arith;
-      grow = omega arith;
-      copied = refl;
     })
 
 pub returns : goal.returns
@@ -74,23 +76,25 @@ returns g c =
     let (chunks, place, stands, touches, copied) = did.rest w in
     let is = over g (goal.at.returns g c).After-write_at in
     rw (← c.self.view_is) (record {
-      answer =
-          subst (λ o. Ok tt ≡ if_in_range o (fits c.args.offset (length c.args.bytes.now) (bytes_at heap.state addr))) live
-          (ap (λ b. cond b (Ok tt) (Err OutOfRange)) told);
       step =
           subst (λ b. Steps g.row.FLLEN g.row.SLLEN heap (written heap addr (length c.payload_mut.result.now) w) (Fills heap.state addr b)) is
           (did.meaning w c.write_at.ensures.len);
-      written = did.filled w c.write_at.ensures.len ∙ is;
-      only = record {
+      result = did.filled w c.write_at.ensures.len ∙ is;
+      bounds = did.bounds w;
+      refused = record {
+        answer =
+            subst (λ o. Ok tt ≡ if_in_range o (fits c.args.offset (length c.args.bytes.now) (bytes_at heap.state addr))) live
+            (ap (λ b. cond b (Ok tt) (Err OutOfRange)) told);
+        same = tt;
+      };
+      frame = record {
         aligns = did.aligns w;
         bytes = did.bytes w;
         count = did.count w;
-        bounds = did.bounds w;
-        same = tt;
         pool = refl;
         place = place;
+        grow = omega (arith, touches);
+        copied = copied;
       };
       touches = omega (arith, touches);
-      grow = omega (arith, touches);
-      copied = copied;
     })
