@@ -76,6 +76,22 @@ impl LiveTable {
         ensures space { HasSameSpace self.old.space self.new.space }
         ensures looks { self.old.hinted ≡ true → self.new.looks ≡ self.old.looks }
     {
+        if !self.exact || !self.rows.has_room() || !self.hints.is_ready() {
+            return self.make_room();
+        }
+        Ok(())
+    }
+
+    /// Does what `reserve` does if something is missing.
+    fn make_room(&mut self) -> Result<(), AllocError>
+        ensures rows { self.new.rows ≡ self.old.rows }
+        ensures room { OnOk result (0 < self.new.room) }
+        ensures hinted { OnOk result (self.new.hinted ≡ true) }
+        ensures kept { KeepsHints self.old self.new }
+        ensures ready { OnOk result (IsReady self.new) }
+        ensures space { HasSameSpace self.old.space self.new.space }
+        ensures looks { self.old.hinted ≡ true → self.new.looks ≡ self.old.looks }
+    {
         self.exact = mend(
             &self.rows,
             &mut self.hints,

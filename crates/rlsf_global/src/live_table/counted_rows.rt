@@ -62,6 +62,13 @@ impl CountedRows {
         self.rows.len()
     }
 
+    /// Returns whether there is room for an entry.
+    pub(crate) fn has_room(&self) -> bool
+        ensures { result ≡ true → 0 < self.now.room }
+    {
+        self.rows.len() < self.limit
+    }
+
     /// Reserves room for an entry. Returns whether it is there. No entry is copied.
     pub(crate) fn reserve(&mut self) -> bool
         ensures items { self.new.items ≡ self.old.items }
@@ -124,7 +131,7 @@ impl CountedRows {
         ensures looks { looks.new.count ≤ looks.old.count + 9 }
     {
         looks.add(1);
-        let _pushed = self.rows.push(row);
+        self.rows.push_reserved(row);
         if self.limit == self.cap {
             copy_some(&self.rows, &mut self.next, looks);
         }

@@ -46,6 +46,17 @@ impl Hints {
         }
     }
 
+    /// Returns whether room for all leaves and a spare leaf are there.
+    pub(crate) fn is_ready(&self) -> bool
+        ensures all { result ≡ true → self.now.pages ≤ length self.now.leaves }
+        ensures spare { result ≡ true → 0 < self.now.spare }
+    {
+        if self.leaves.len() < self.pages {
+            return false;
+        }
+        self.spare.is_there()
+    }
+
     /// Makes what the next hint may need: room for all leaves, and a spare leaf. Returns whether both are there.
     pub(crate) fn prepare(&mut self) -> bool
         ensures leaves { HaveSameLeaves self.old.leaves self.new.leaves }

@@ -1,5 +1,5 @@
 use Rattle.rlsf_global.proofs.TableAnswers.{same_indexed}
-use Rattle.rlsf_global.proofs.live_table.LiveTable.reserve.Goals as goal
+use Rattle.rlsf_global.proofs.live_table.LiveTable.make_room.Goals as goal
 
 pub invariant_of-self-then-not-prepare : goal.invariant_of-self-then-not-prepare
 invariant_of-self-then-not-prepare c =
