@@ -13,7 +13,6 @@ pub mod OnCores
 pub mod OwnedBytes
 pub mod PayloadsApart
 pub mod PutBack
-pub mod RawPayloads
 pub mod Read
 pub mod Reallocated
 pub mod Reallocating

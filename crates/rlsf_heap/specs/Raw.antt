@@ -1,8 +1,6 @@
--- Payloads that were taken apart: what names one, and what it owns.
-use Rattle.std.specs.Prelude.{◌≡◌, ℕ, length}
+-- What a payload owns.
+use Rattle.std.specs.Prelude.{ℕ, length}
 use base.Fml.{Fml, fex, fsep}
-use Rattle.rlsf_base.specs.declared.memory.view.View.{View}
-use Rattle.rlsf_base.specs.declared.memory.range.Range.{Range}
 use Rattle.rlsf_base.specs.Ledger.{extent, ticket_owns}
 use Rattle.rlsf_base.specs.Piece.{CanCome, Piece, piece_owns}
 use Rattle.rlsf_heap.specs.Heap.{PayloadView, payload_range}
@@ -10,10 +8,6 @@ use Rattle.rlsf_heap.specs.Heap.{PayloadView, payload_range}
 -- the bytes of a payload
 abbrev pub bytes_of : PayloadView → Piece
 bytes_of p = record { home = p.identity.home; start = p.start; bytes = p.bytes; out = p.out }
-
--- a view, a range and an alignment name the payload: the view of its memory, its addresses, and its alignment
-abbrev pub IsNamed : PayloadView → View → Range → ℕ → Type 0
-IsNamed p view range align = (p.identity.home.view ≡ view) × (payload_range p ≡ range) × (p.align ≡ align)
 
 -- its bytes can be a part of its memory again
 abbrev pub IsWhole : PayloadView → Type 0

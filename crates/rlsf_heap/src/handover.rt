@@ -1,5 +1,5 @@
 //! Payloads leave the memory of a heap with a ticket, and come back.
-ghost use Rattle.std.specs.Prelude.{◌≡◌, ◌++◌, ◌∷◌, [], length, true};
+ghost use Rattle.std.specs.Prelude.{◌≡◌, ◌≢◌, ◌++◌, ◌∷◌, [], length, true};
 ghost use Rattle.rlsf_base.specs.Ledger.{entry_of, extent};
 ghost use Rattle.rlsf_base.specs.OpenSpace.{home_of, IsOwned};
 ghost use Rattle.rlsf_base.specs.Range.{LiesIn};
@@ -25,6 +25,8 @@ impl Payload {
         ensures over { IsHandedOver memory.old memory.new range align ledger.old.name ledger.old.entries ledger.new.entries result }
         ensures name { ledger.new.name ≡ ledger.old.name }
     {
+        // By this call it is known that no address of the memory is 0.
+        let _ = memory.start();
         let part = memory.take_out(range);
         Payload::issued(part, align, ledger)
     }
@@ -47,6 +49,7 @@ impl Payload {
     pub(crate) fn redeemed(self, ledger: &mut Ledger) -> (Part, usize)
         requires { self.identity.ledger ≡ ledger.old.name }
         ensures parts { payload_view result.0 result.1 self.identity.ledger ≡ self }
+        ensures some { result.0.start ≢ 0 }
         ensures name { ledger.new.name ≡ ledger.old.name }
         ensures entries { IsRedeemed self ledger.old.entries ledger.new.entries }
     {
@@ -56,9 +59,10 @@ impl Payload {
         (part, align)
     }
 
-    // Makes a payload of bytes that have no ticket.
+    // Makes a payload of bytes that have no ticket. Their address isn't 0.
     #[inline(always)]
     pub(crate) fn issued(part: Part, align: usize, ledger: &mut Ledger) -> Payload
+        requires { part.start ≢ 0 }
         ensures payload { result ≡ payload_view part align ledger.old.name }
         ensures name { ledger.new.name ≡ ledger.old.name }
         ensures entries { ledger.new.entries ≡ ledger.old.entries ++ entry_of (extent part.start (length part.bytes) align) true ∷ [] }

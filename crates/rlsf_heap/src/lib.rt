@@ -2,9 +2,9 @@
 //! other payloads are.
 //!
 //! Read `payload.rt`, `handover.rt` and `heap.rt` first, then `deallocation.rt`, `reallocation.rt`, `pools.rt` and `reading.rt`. `apart.rt`
-//! states the laws of payloads that are out together, and `raw.rt` takes payloads apart. `thin.rt` has `ThinPayload`, a
-//! payload known by its address, with its calls in `thin_calls.rt`, `thin_reallocation.rt` and `thin_unknown_align.rt`. `units.rt` has
-//! the payloads that `rlsf_local_heap` uses. `consistency.rt` reads the words of a pool again.
+//! states the laws of payloads that are out together. `thin.rt` has `ThinPayload`, a payload known by its address, with its calls in
+//! `thin_calls.rt`, `thin_reallocation.rt` and `thin_unknown_align.rt`. `units.rt` has the payloads that `rlsf_local_heap` uses.
+//! `consistency.rt` reads the words of a pool again.
 //! `specs/Heap.antt` defines what contracts see.
 #![tactic(auto)]
 
@@ -15,7 +15,6 @@ mod handover;
 mod heap;
 mod payload;
 mod pools;
-mod raw;
 mod reading;
 mod reallocation;
 mod thin;
@@ -26,5 +25,4 @@ mod units;
 
 pub use heap::Heap;
 pub use payload::Payload;
-pub use raw::RawPayload;
 pub use thin::ThinPayload;

@@ -1,5 +1,5 @@
 //! Payloads that left the memory of a heap.
-ghost use Rattle.std.specs.Prelude.{◌≡◌, ◌-◌, ◌≤◌, ◌++◌, ℕ, List, length, replicate, take};
+ghost use Rattle.std.specs.Prelude.{◌≡◌, ◌≢◌, ◌-◌, ◌≤◌, ◌++◌, ℕ, List, length, replicate, take};
 ghost use Rattle.std.specs.Borrow.{sem};
 ghost use Rattle.rlsf_base.specs.Changes.{IsIn};
 ghost use Rattle.rlsf_heap.specs.Heap.{IsWritten};
@@ -20,6 +20,7 @@ pub struct Payload {
 }
 
 impl Model for Payload {
+    ghost use Rattle.std.specs.Prelude.{◌≢◌};
     ghost use Rattle.rlsf_base.specs.Ledger.{extent};
     ghost use Rattle.rlsf_heap.specs.Heap.{PayloadView, payload_view, IsTicketOf};
 
@@ -27,7 +28,7 @@ impl Model for Payload {
 
     ghost view = { λ p. payload_view p.part p.align p.ticket.name };
 
-    ghost invariant = { λ p. IsTicketOf p.part p.align (extent p.ticket.addr p.ticket.len p.ticket.align) };
+    ghost invariant = { λ p. IsTicketOf p.part p.align (extent p.ticket.addr p.ticket.len p.ticket.align) × (p.part.start ≢ 0) };
 }
 
 impl Drop for Payload {
@@ -46,6 +47,7 @@ impl Payload {
     pub(crate) fn into_parts(self) -> (Part, Ticket)
         ensures parts { payload_view result.0 self.align result.1.name ≡ self }
         ensures ticket { IsTicketOf result.0 self.align (extent result.1.addr result.1.len result.1.align) }
+        ensures some { result.0.start ≢ 0 }
     {
         let Payload {
             part,

@@ -14,7 +14,7 @@ ghost use Rattle.rlsf_table.specs.Table.{class_at, is_in_row, newest_of, of_clas
 ghost use Rattle.rlsf_blocks.specs.Blocks.{AreBlocks, walked};
 
 use crate::heap::Heap;
-use rlsf_base::memory::{Addr, OpenMemory, Range, View};
+use rlsf_base::memory::{Addr, OpenMemory, Range};
 use rlsf_blocks::{BlockInfo, Blocks, chunk_end, walk_blocks};
 use rlsf_int::{BitPattern, Bitmap};
 use std::num::NonZeroUsize;
@@ -68,13 +68,6 @@ impl<FLBitmap: BitPattern, SLBitmap: BitPattern, const FLLEN: usize, const SLLEN
         ensures { reply result ≡ newest_of (of_class SLLEN fl sl self.now.state.free) }
     {
         NonZeroUsize::new(self.table.newest(fl, sl))
-    }
-
-    /// Returns a view of the memory, which `Payload::from_raw_parts` takes.
-    pub fn view(&self) -> View
-        ensures { result ≡ self.now.identity.home.view }
-    {
-        self.memory.view()
     }
 
     /// Returns the memory, for reading. Its words and the class table represent the state. The bytes of live payloads are

@@ -151,10 +151,10 @@ impl ThinPayload {
 }
 
 impl Payload {
-    /// Consumes the payload and returns it by its address, which isn't 0.
-    pub(crate) fn into_thin(self) -> ThinPayload
-        requires { self.start ≢ 0 }
-        ensures { (result.addr ≡ self.start) × (result.of ≡ self) }
+    /// Consumes the payload and returns it by its address, which isn't 0. `into_raw` of this returns the address as a number, which a
+    /// foreign structure can keep.
+    pub fn into_thin(self) -> ThinPayload
+        ensures { (result.addr ≡ self.start) × (result.of ≡ self) × (self.start ≢ 0) }
     {
         let (part, ticket) = self.into_parts();
         let addr = part.start();

@@ -7,7 +7,7 @@
 #![tactic(auto)]
 
 pub use rlsf_base::memory::{Layout, LayoutError, MemoryError, OpenMemory, Range, RawParts};
-pub use rlsf_heap::{Heap, Payload, RawPayload, ThinPayload};
+pub use rlsf_heap::{Heap, Payload, ThinPayload};
 pub use rlsf_local_heap::{Lease, LocalHeap, Tenant};
 pub use rlsf_shared_heap::{FreedOnDrop, SharedHeap, SharedPayload, ThreadHeap};
 pub use rlsf_tlsf::{BlockInfo, GRANULARITY};

@@ -3,12 +3,8 @@ use Rattle.rlsf_model.specs.Allocate.{Allocates}
 use Rattle.rlsf_heap.specs.Heap.{PayloadView, Steps}
 use Rattle.rlsf_heap.specs.Replies.{IsAllocatedZeroed}
 use Rattle.rlsf_heap.specs.Thin.{reply_of}
-use Rattle.rlsf_heap.proofs.ThinPayloads.{is_some, some_address, thin_step}
+use Rattle.rlsf_heap.proofs.ThinPayloads.{is_some, thin_step}
 use Rattle.rlsf_heap.proofs.heap.Heap.allocate_thin_zeroed.Goals as goal
-
-pub into_thin-requires : goal.into_thin-requires
-into_thin-requires g c =
-    some_address g.row.FLLEN g.row.SLLEN c.allocate_zeroed.new.self c.args.self.now.state c.args.layout.size c.args.layout.align c.in-Some.payload.start c.in-Some.ensures.step
 
 pub returns-in-Some : goal.returns-in-Some
 returns-in-Some g c =

@@ -29,11 +29,6 @@ put_written-requires g c =
       ),
     )
 
-pub into_thin-requires : goal.into_thin-requires
-into_thin-requires g c = λ e.
-    some_address g.row.FLLEN g.row.SLLEN c.allocate.new.self c.find_part-part.new.self.state c.args.layout.size c.args.layout.align c.in-Some.to.start c.in-Some.ensures.step
-    (sym ((c.as_mut_slice.ensures.left c.copy_front.new.to).start) ∙ e)
-
 -- the new payload is where the allocation put it
 there : (g : given.Over) (c : goal.After-into_thin g) → c.into_thin.result.of.start ≡ c.in-Some.to.start
 there g c = ap (λ (p : PayloadView). p.start) c.into_thin.ensures.1 ∙ (c.as_mut_slice.ensures.left c.copy_front.new.to).start

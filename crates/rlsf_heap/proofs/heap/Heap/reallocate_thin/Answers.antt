@@ -8,14 +8,6 @@ use Rattle.rlsf_heap.proofs.Found.{IsFound, as_found, bytes_found, heap_found, r
 use Rattle.rlsf_heap.specs.Frame.{CopiesToMove}
 use Rattle.rlsf_heap.proofs.heap.Heap.reallocate_thin.Goals as goal
 
-pub into_thin-requires : goal.into_thin-requires
-into_thin-requires g c = c.in-Ok.ensures.result.others.some
-
-pub into_thin-requires-in-Err : goal.into_thin-requires-in-Err
-into_thin-requires-in-Err g c = λ none.
-    c.requires.some.1 (sym c.requires.some.0 ∙ ap (λ (o : PayloadView). o.start) (sym c.find_payload-payload.ensures.payload)
-    ∙ sym c.in-Err.ensures.refused.returned.start ∙ none)
-
 pub returns-in-Ok : goal.returns-in-Ok
 returns-in-Ok g c =
     let e = c.in-Ok.ensures in

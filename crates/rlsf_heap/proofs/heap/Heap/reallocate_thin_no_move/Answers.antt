@@ -6,14 +6,6 @@ use Rattle.rlsf_heap.specs.Heap.{HeapView, PayloadView}
 use Rattle.rlsf_heap.proofs.Found.{IsFound, as_found, frame_found, refused_found, resized_found, sized_found, step_found}
 use Rattle.rlsf_heap.proofs.heap.Heap.reallocate_thin_no_move.Goals as goal
 
-pub into_thin-requires : goal.into_thin-requires
-into_thin-requires g c = λ none.
-    c.requires.some.1 (sym c.requires.some.0 ∙ ap (λ (o : PayloadView). o.start) (sym c.find_payload-payload.ensures.payload) ∙ sym c.in-Ok.ensures.result.start ∙ none)
-
-pub into_thin-requires-in-Err : goal.into_thin-requires-in-Err
-into_thin-requires-in-Err g c = λ none.
-    c.requires.some.1 (sym c.requires.some.0 ∙ ap (λ (o : PayloadView). o.start) (sym c.find_payload-payload.ensures.payload) ∙ sym c.in-Err.ensures.refused.returned.start ∙ none)
-
 pub returns-in-Ok : goal.returns-in-Ok
 returns-in-Ok g c =
     let e = c.in-Ok.ensures in

@@ -9,5 +9,8 @@ returns-clause-parts c =
 
 pub returns-clause-ticket : goal.returns-clause-ticket
 returns-clause-ticket c =
-    let is = c.self.invariant in
+    let is = c.self.invariant.0 in
     (is.0, is.1, sym (ap (λ (v : PayloadView). v.align) c.self.view_is) ∙ is.2)
+
+pub returns-clause-some : goal.returns-clause-some
+returns-clause-some c = c.self.invariant.1

@@ -15,3 +15,6 @@ returns-clause-entries c =
     subst (λ (p : PayloadView). (k : ℕ) × IsIssued es k (extent p.start (length p.bytes) p.align)
     × (c.redeem.new.self.entries ≡ set es k (entry_of (extent p.start (length p.bytes) p.align) false))) c.into_parts-part.ensures.parts
     (ticket.key, subst (IsIssued es ticket.key) shown c.redeem.ensures.issued, c.redeem.ensures.entries ∙ ap (λ (v : Extent). set es ticket.key (entry_of v false)) shown)
+
+pub returns-clause-some : goal.returns-clause-some
+returns-clause-some c = c.into_parts-part.ensures.some
