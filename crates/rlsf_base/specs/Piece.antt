@@ -3,7 +3,6 @@ use Rattle.std.specs.Prelude.{◌≡◌, ℕ, ◌+◌, ◌-◌, ◌*◌, ◌%◌
 use Rattle.rlsf_base.specs.declared.memory.range.Range.{Range}
 use Rattle.rlsf_base.specs.declared.memory.view.View.{View}
 use Rattle.rlsf_base.specs.declared.memory.block.Bytes.{Bytes}
-use Rattle.rlsf_base.specs.declared.memory.block.Units.{Units}
 use Rattle.rlsf_base.specs.Out.{Change, kept_at}
 use Rattle.rlsf_base.specs.Changes.{IsIn, IsOwn}
 use Rattle.rlsf_base.specs.Range.{LiesIn, range_at}
@@ -69,27 +68,6 @@ pub record CanCome (p : Piece) (view : View) (range : Range) : Type 0 where
   pub owned : IsOwn p.out 0 (length p.bytes)
   pub small : place_in p.home.view p.start + length p.bytes < 2 ^ 63
 
--- complete units of 16 bytes that left a memory: the memory, where they begin there, and how many bytes they have
-pub record UnitPiece : Type 0 where
-  pub home : Home
-  pub start : ℕ
-  pub len : ℕ
-
-abbrev pub unit_range : UnitPiece → Range
-unit_range p = range_at p.start p.len
-
 -- a range begins and ends at a multiple of 16
 abbrev pub IsUnits : Range → Type 0
 IsUnits r = (r.start % 16 ≡ 0) × (r.len % 16 ≡ 0)
-
--- the parts of such units
-pub record IsUnitPiece (view : View) (range : Range) (units : Units) : Type 0 where
-  pub lies : LiesIn range (home_from view units.of).start units.of.1
-  pub first : units.of.0 ≤ 15
-  pub place : (view.base.ptr ≡ units.at) × (units.first * 16 ≡ (view.shift + range.start) % 2 ^ 64)
-  pub aligned : view.shift % 16 ≡ 0
-  pub whole : units.count * 16 ≡ range.len
-
--- the owner of such units
-abbrev pub HasUnitsOf : UnitPiece → Units → Type 0
-HasUnitsOf p u = IsUnitPiece p.home.view (unit_range p) u × (home_from p.home.view u.of ≡ p.home)

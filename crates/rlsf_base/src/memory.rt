@@ -27,7 +27,7 @@ pub(crate) mod zeroed;
 pub use block::RawParts;
 pub use layout::{Layout, LayoutError};
 pub use open_memory::OpenMemory;
-pub use part::{Part, UnitPart};
+pub use part::Part;
 pub use range::{Addr, Range};
 pub use unit_payload::UnitPayload;
 pub use unit_tail::UnitTail;

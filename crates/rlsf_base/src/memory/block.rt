@@ -233,13 +233,6 @@ impl<A: Allocator> Deed<A> {
     }
 }
 
-impl Units {
-    /// Consumes the owner: the units are nobody's.
-    pub(crate) fn end(self) {
-        let Units { mark: _ } = self;
-    }
-}
-
 impl Bytes {
     ghost use Rattle.rlsf_base.specs.Steps.LentParts.{lends_part};
     ghost use Rattle.rlsf_base.specs.Steps.Owners.{Has, HasHere, HasOwn, Owns, IsPartOf, AreUnitsOf, Becomes, GivesOut, TakesBack, TakesBackRoom, bytes_in, out_with, with_bytes};

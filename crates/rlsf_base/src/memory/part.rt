@@ -2,13 +2,13 @@
 ghost use Rattle.std.specs.Prelude.{◌≡◌, ◌≤◌, ◌-◌, ◌++◌, ℕ, List, length, replicate, take};
 ghost use Rattle.std.specs.Borrow.{sem};
 ghost use Rattle.rlsf_base.specs.Changes.{IsIn};
-ghost use Rattle.rlsf_base.specs.OpenSpace.{HasUnits, home_of, IsAway, IsHere, IsOwned, StaysHere, StaysHereBeside, StaysOwnBeside, out_raw, out_with, out_without};
-ghost use Rattle.rlsf_base.specs.Piece.{piece_range, unit_range, HasStatesOf, IsFull, IsUnits};
+ghost use Rattle.rlsf_base.specs.OpenSpace.{home_of, IsAway, IsHere, IsOwned, StaysHere, StaysHereBeside, StaysOwnBeside, out_raw, out_with, out_without};
+ghost use Rattle.rlsf_base.specs.Piece.{piece_range, HasStatesOf, IsFull};
 ghost use Rattle.rlsf_base.specs.declared.memory.range.Range.{Range};
 ghost use Rattle.rlsf_base.specs.Range.{AreApart, LiesIn};
 ghost use Rattle.rlsf_base.specs.Space.{bytes_in, with_bytes};
 
-use super::block::{Bytes, Units};
+use super::block::Bytes;
 use super::filling::{fill_bytes, fill_bytes_from};
 use super::open_memory::OpenMemory;
 use super::range::Range;
@@ -162,61 +162,6 @@ impl Part {
     }
 }
 
-/// Units of 16 bytes that left a memory: the value owns their room, which is aligned to 16. It can go to another thread, and
-/// back into that memory. Dropping it leaks it, as with a `Part`.
-pub struct UnitPart {
-    pub(crate) view: View,
-    pub(crate) range: Range,
-    pub(crate) units: Units,
-}
-
-impl Model for UnitPart {
-    ghost use Rattle.rlsf_base.specs.Piece.{UnitPiece, IsUnitPiece, home_from};
-
-    ghost Value = { UnitPiece };
-
-    ghost view = { λ p. record { home = home_from p.view p.units.of; start = p.range.start; len = p.range.len } };
-
-    ghost invariant = { λ p. IsUnitPiece p.view p.range p.units };
-}
-
-impl Drop for UnitPart {
-    fn drop(self) {
-        self.into_units().end();
-    }
-}
-
-impl UnitPart {
-    ghost use Rattle.rlsf_base.specs.Piece.{HasUnitsOf};
-
-    // Consumes the part and returns the owner of its units. Only a method can take a part apart.
-    #[inline(always)]
-    fn into_units(self) -> Units
-        ensures { HasUnitsOf self result }
-    {
-        let UnitPart {
-            view: _,
-            range: _,
-            units,
-        } = self;
-        units
-    }
-
-    /// Returns the address of the first byte.
-    pub fn start(&self) -> usize
-        ensures { result ≡ self.now.start }
-    {
-        self.range.start
-    }
-
-    /// Returns the number of bytes.
-    pub fn len(&self) -> usize
-        ensures { result ≡ self.now.len }
-    {
-        self.range.len
-    }
-}
-
 impl OpenMemory {
     /// Takes the bytes of `range` out of the memory, and returns the part that owns them. Each is here or raw, as it was, and
     /// keeps its value. Nothing else changes.
@@ -287,49 +232,5 @@ impl OpenMemory {
         ensures own_beside { StaysOwnBeside self.old self.new (piece_range part) }
     {
         self.bytes.put_room(part.into_bytes());
-    }
-
-    /// Takes the units of 16 bytes of `range` out of the memory, as room that is aligned to 16. Their bytes may be raw. The bytes of
-    /// the memory, as contracts see them, and its counts don't change.
-    ///
-    /// The memory must have units: its block is the system's, or begins at a multiple of 16. `range` must lie in the memory,
-    /// begin and end at multiples of 16, and have no byte that is out.
-    #[inline(always)]
-    pub fn take_units(&mut self, range: Range) -> UnitPart
-        requires place { LiesIn range self.old.start (length self.old.bytes) }
-        requires units { IsUnits range }
-        requires aligned { HasUnits self.old }
-        requires own { IsOwned self.old range }
-        ensures part { (result.home ≡ home_of self.old) × (result.start ≡ range.start) × (result.len ≡ range.len) }
-        ensures start { self.new.start ≡ self.old.start }
-        ensures bytes { self.new.bytes ≡ self.old.bytes }
-        ensures touches { self.new.touches ≡ self.old.touches }
-        ensures copied { self.new.copied ≡ self.old.copied }
-        ensures view { self.new.view ≡ self.old.view }
-        ensures out { self.new.out ≡ out_without self.old range }
-    {
-        let view = self.view();
-        let units = self
-            .bytes
-            .take_units(view.place(range.start) / 16, range.len / 16);
-        UnitPart { view, range, units }
-    }
-
-    /// Takes units of the memory back: their bytes are raw from now on. They were out before, since the part owned them. The bytes
-    /// of the memory, as contracts see them, and its counts don't change.
-    ///
-    /// The part must be one of this memory.
-    #[inline(always)]
-    pub fn put_units(&mut self, part: UnitPart)
-        requires { part.home ≡ home_of self.old }
-        ensures away { IsAway self.old (unit_range part) }
-        ensures start { self.new.start ≡ self.old.start }
-        ensures bytes { self.new.bytes ≡ self.old.bytes }
-        ensures touches { self.new.touches ≡ self.old.touches }
-        ensures copied { self.new.copied ≡ self.old.copied }
-        ensures view { self.new.view ≡ self.old.view }
-        ensures out { self.new.out ≡ out_raw self.old (unit_range part) }
-    {
-        self.bytes.put_units(part.into_units());
     }
 }
