@@ -36,7 +36,7 @@ pub record HeapDeallocated (before after : Heap) (addr : ℕ) : Type 0 where
   -- and the bytes
   pub contents : (a : ℕ) → a ≢ addr → content_at after a ≡ content_at before a
 
--- the payload at an address got another size, and is now at `to`, which may be the same address. It may be moved where `enabled` is false
+-- the payload at an address got another size, and is now at `to`, which may be the same address. `enabled` is the option `ENABLE_REALLOCATION`
 pub record HeapReallocated (enabled : Bool) (before after : Heap) (addr : ℕ) (layout : Layout) (new_size to : ℕ) : Type 0 where
   -- it is live, with this size and its alignment
   pub live : HasLayout after to new_size layout.align
@@ -46,7 +46,7 @@ pub record HeapReallocated (enabled : Bool) (before after : Heap) (addr : ℕ) (
   pub left : to ≢ addr → layout_at after addr ≡ None
   -- it begins with the bytes that it had, as many as both sizes have
   pub kept : KeepsFirst (min layout.size new_size) before addr after to
-  -- or as many as were usable and are
+  -- with the option, also as many as were usable and are
   pub kept_usable : enabled ≡ true → KeepsFirst (in_both before after addr to) before addr after to
   -- the other payloads have the layouts that they had
   pub layouts : (a : ℕ) → a ≢ addr → a ≢ to → layout_at after a ≡ layout_at before a
