@@ -149,7 +149,7 @@ impl<FLBitmap: BitPattern, SLBitmap: BitPattern, const FLLEN: usize, const SLLEN
     /// Returns `None` if and only if no free block has a class that reaches the sought size; then nothing changes. Within
     /// bounds that the heap is sized for (`IsSizedFor`), an allocation is never refused.
     ///
-    /// Completes in constant time: at most 30 word accesses, whatever the pools contain.
+    /// Completes in constant time: at most 27 word accesses, whatever the pools contain.
     // In line, so that the tests of an alignment that is constant at the call go away, and no payload is passed in memory.
     #[inline(always)]
     pub fn allocate(&mut self, layout: Layout) -> Option<Payload>
@@ -159,7 +159,7 @@ impl<FLBitmap: BitPattern, SLBitmap: BitPattern, const FLLEN: usize, const SLLEN
         ensures bounds { KeepsBounds SLLEN self.old.state self.new.state layout.size layout.align }
         ensures refused { IfNone result (IsUnchanged self.old self.new) }
         ensures frame { KeepsFrame self.old self.new }
-        ensures touches { self.new.memory.touches ≤ self.old.memory.touches + 30 }
+        ensures touches { self.new.memory.touches ≤ self.old.memory.touches + 27 }
     {
         match allocate_in(&mut self.memory, &mut self.table, &mut self.state, layout) {
             Some(range) => {
@@ -177,7 +177,7 @@ impl<FLBitmap: BitPattern, SLBitmap: BitPattern, const FLLEN: usize, const SLLEN
     ///
     /// Returns `None` if and only if `allocate` does.
     ///
-    /// Takes at most 30 word accesses, whatever the pools contain, and fills each byte of the payload.
+    /// Takes at most 27 word accesses, whatever the pools contain, and fills each byte of the payload.
     pub fn allocate_zeroed(&mut self, layout: Layout) -> Option<Payload>
         ensures step { Steps FLLEN SLLEN self.new (Allocates SLLEN self.old.state layout.size layout.align (addr_of result)) }
         ensures result { IfSome result (λ p. IsAllocatedZeroed self.old self.new layout.size layout.align p) }
@@ -185,7 +185,7 @@ impl<FLBitmap: BitPattern, SLBitmap: BitPattern, const FLLEN: usize, const SLLEN
         ensures bounds { KeepsBounds SLLEN self.old.state self.new.state layout.size layout.align }
         ensures refused { IfNone result (IsUnchanged self.old self.new) }
         ensures frame { KeepsFrame self.old self.new }
-        ensures touches { self.new.memory.touches ≤ self.old.memory.touches + 30 }
+        ensures touches { self.new.memory.touches ≤ self.old.memory.touches + 27 }
     {
         let mut payload = self.allocate(layout)?;
         payload.fill(0);

@@ -29,7 +29,7 @@ impl<FLBitmap: BitPattern, SLBitmap: BitPattern, const FLLEN: usize, const SLLEN
     ///
     /// Returns none, the address 0, if and only if `allocate` returns `None`; then nothing changes.
     ///
-    /// Completes in constant time: at most 30 word accesses, whatever the pools contain.
+    /// Completes in constant time: at most 27 word accesses, whatever the pools contain.
     #[inline(always)]
     pub fn allocate_thin(&mut self, layout: Layout) -> ThinPayload
         ensures step { Steps FLLEN SLLEN self.new (Allocates SLLEN self.old.state layout.size layout.align (reply_of result.of.start)) }
@@ -38,7 +38,7 @@ impl<FLBitmap: BitPattern, SLBitmap: BitPattern, const FLLEN: usize, const SLLEN
         ensures bounds { KeepsBounds SLLEN self.old.state self.new.state layout.size layout.align }
         ensures refused { result.of.start ≡ 0 → IsUnchanged self.old self.new }
         ensures frame { KeepsFrame self.old self.new }
-        ensures touches { self.new.memory.touches ≤ self.old.memory.touches + 30 }
+        ensures touches { self.new.memory.touches ≤ self.old.memory.touches + 27 }
     {
         match self.allocate(layout) {
             Some(payload) => payload.into_thin(),
@@ -50,7 +50,7 @@ impl<FLBitmap: BitPattern, SLBitmap: BitPattern, const FLLEN: usize, const SLLEN
     ///
     /// Returns none, the address 0, if and only if `allocate` returns `None`; then nothing changes.
     ///
-    /// Takes at most 30 word accesses, whatever the pools contain, and fills each byte of the payload.
+    /// Takes at most 27 word accesses, whatever the pools contain, and fills each byte of the payload.
     #[inline(always)]
     pub fn allocate_thin_zeroed(&mut self, layout: Layout) -> ThinPayload
         ensures step { Steps FLLEN SLLEN self.new (Allocates SLLEN self.old.state layout.size layout.align (reply_of result.of.start)) }
@@ -59,7 +59,7 @@ impl<FLBitmap: BitPattern, SLBitmap: BitPattern, const FLLEN: usize, const SLLEN
         ensures bounds { KeepsBounds SLLEN self.old.state self.new.state layout.size layout.align }
         ensures refused { result.of.start ≡ 0 → IsUnchanged self.old self.new }
         ensures frame { KeepsFrame self.old self.new }
-        ensures touches { self.new.memory.touches ≤ self.old.memory.touches + 30 }
+        ensures touches { self.new.memory.touches ≤ self.old.memory.touches + 27 }
     {
         match self.allocate_zeroed(layout) {
             Some(payload) => payload.into_thin(),

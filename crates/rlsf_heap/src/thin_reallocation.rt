@@ -118,7 +118,7 @@ impl<FLBitmap: BitPattern, SLBitmap: BitPattern, const FLLEN: usize, const SLLEN
     /// The payload must be the one at `addr`, which isn't 0, and one of this heap, and its bytes must be here. No byte of the memory
     /// may be raw.
     ///
-    /// Takes at most 66 word accesses, whatever the pools contain, and copies each kept byte once.
+    /// Takes at most 63 word accesses, whatever the pools contain, and copies each kept byte once.
     pub fn move_thin(
         &mut self,
         addr: usize,
@@ -135,7 +135,7 @@ impl<FLBitmap: BitPattern, SLBitmap: BitPattern, const FLLEN: usize, const SLLEN
         ensures bounds { KeepsSized SLLEN self.old.state self.new.state layout.size layout.align }
         ensures refused { IfErr result (λ p. IsThin (λ of. IsLeft self.old self.new payload.of of) p) }
         ensures frame { KeepsFrame self.old self.new }
-        ensures touches { self.new.memory.touches ≤ self.old.memory.touches + 66 }
+        ensures touches { self.new.memory.touches ≤ self.old.memory.touches + 63 }
     {
         let (part, ticket) = self.find_part(addr, payload);
         let Some(mut to) = self.allocate(layout) else {

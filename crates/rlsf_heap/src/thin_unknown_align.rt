@@ -128,7 +128,7 @@ impl<FLBitmap: BitPattern, SLBitmap: BitPattern, const FLLEN: usize, const SLLEN
     /// The payload must be the one at `addr`, which isn't 0, and one of this heap, and its bytes must be here. No byte of the memory
     /// may be raw.
     ///
-    /// Takes at most 73 word accesses, whatever the pools contain. If the payload moves, each kept byte is copied once.
+    /// Takes at most 70 word accesses, whatever the pools contain. If the payload moves, each kept byte is copied once.
     pub fn reallocate_thin_unknown_align(
         &mut self,
         addr: usize,
@@ -145,7 +145,7 @@ impl<FLBitmap: BitPattern, SLBitmap: BitPattern, const FLLEN: usize, const SLLEN
         ensures bounds { KeepsSizedAny SLLEN self.old.state self.new.state layout.size payload.of.align layout.align }
         ensures refused { IfErr result (λ p. IsThin (λ of. IsRefusedAny self.old self.new addr payload.of of) p) }
         ensures frame { KeepsFrame self.old self.new }
-        ensures touches { self.new.memory.touches ≤ self.old.memory.touches + 73 }
+        ensures touches { self.new.memory.touches ≤ self.old.memory.touches + 70 }
     {
         match self.resize_thin_unknown_align(addr, payload, layout) {
             Ok(payload) => Ok(payload),

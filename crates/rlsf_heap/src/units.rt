@@ -67,7 +67,7 @@ impl<FLBitmap: BitPattern, SLBitmap: BitPattern, const FLLEN: usize, const SLLEN
     /// Returns `None` if and only if `allocate` does; then nothing changes. No byte of the memory becomes raw (`raw`). The memory must
     /// have units.
     ///
-    /// Completes in constant time: at most 30 word accesses, whatever the pools contain.
+    /// Completes in constant time: at most 27 word accesses, whatever the pools contain.
     #[inline(always)]
     pub fn allocate_units(&mut self, size: usize) -> Option<UnitPayload>
         requires size { size ≤ 2 ^ 63 - 16 }
@@ -78,7 +78,7 @@ impl<FLBitmap: BitPattern, SLBitmap: BitPattern, const FLLEN: usize, const SLLEN
         ensures bounds { KeepsBounds SLLEN self.old.state self.new.state size 16 }
         ensures refused { IfNone result (IsUnchanged self.old self.new) }
         ensures frame { KeepsFrame self.old self.new }
-        ensures touches { self.new.memory.touches ≤ self.old.memory.touches + 30 }
+        ensures touches { self.new.memory.touches ≤ self.old.memory.touches + 27 }
     {
         let layout = Layout::from_size_align_unchecked(size, 16);
         let payload = self.allocate(layout)?;

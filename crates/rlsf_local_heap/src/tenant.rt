@@ -57,7 +57,7 @@ impl<FLBitmap: BitPattern, SLBitmap: BitPattern, const FLLEN: usize, const SLLEN
     /// other payloads of `pool` stay as they are. The range is the only pool of the new heap (`pool`). A range of less than 64 bytes,
     /// for a `len` up to 48, holds no pool: each allocation is then refused.
     ///
-    /// Completes in constant time: at most 30 word accesses of `pool`'s memory, whatever the pools contain.
+    /// Completes in constant time: at most 27 word accesses of `pool`'s memory, whatever the pools contain.
     ///
     /// Returns `None` if `pool` refuses such a payload, if its memory has no units of 16 bytes, if `len` is 2^58 or more, or if
     /// the system has no memory for the new heap's own fields. Then the state of `pool` and the values of its bytes are as they
@@ -73,7 +73,7 @@ impl<FLBitmap: BitPattern, SLBitmap: BitPattern, const FLLEN: usize, const SLLEN
         ensures aligns { (a : ℕ) → align_at pool.old.state a ≢ None → align_at pool.new.state a ≡ align_at pool.old.state a }
         ensures refused { IfNone result (IsUnchanged pool.old pool.new) }
         ensures frame { KeepsFrame pool.old pool.new }
-        ensures touches { pool.new.memory.touches ≤ pool.old.memory.touches + 30 }
+        ensures touches { pool.new.memory.touches ≤ pool.old.memory.touches + 27 }
     {
         if is_too_long(len) || !pool.has_units() {
             return None;
