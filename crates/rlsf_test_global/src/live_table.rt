@@ -7,11 +7,12 @@ use rlsf_global::{GlobalError, SmallGlobalTlsfOptions};
 const UNKNOWN_ADDRESS: usize = GlobalError::UnknownAddress as usize;
 
 /// Runs that both kinds of allocators have.
-static ALIKE: [Run; 4] = [
+static ALIKE: [Run; 5] = [
     (131072, &NEIGHBOURS),
     (131072, &STALE),
     (131072, &LAST_MOVES),
     (65536, &ENDS),
+    (65536, &EMPTIED),
 ];
 
 /// A payload without bytes at the end of its block, and one 16 bytes behind it.
@@ -96,6 +97,28 @@ const ENDS: [(Step, usize); 19] = [
     (Step::Allocate(0, 32), 65568),
     (Step::Usable(65568), 0),
     (Step::Usable(65584), 65424),
+];
+
+/// The last payload of 16384 bytes of addresses goes, and these get one again. Then the last two of the bytes before them go.
+const EMPTIED: [(Step, usize); 18] = [
+    (Step::Allocate(1, 1), 65552),
+    (Step::Allocate(16368, 1), 65584),
+    (Step::Allocate(1, 1), 81968),
+    (Step::Deallocate(81968), 0),
+    (Step::Usable(81968), UNKNOWN_ADDRESS),
+    (Step::Usable(65552), 16),
+    (Step::Usable(65584), 16368),
+    (Step::Allocate(1, 1), 81968),
+    (Step::Usable(81968), 16),
+    (Step::Deallocate(65552), 0),
+    (Step::Usable(65584), 16368),
+    (Step::Deallocate(65584), 0),
+    (Step::Usable(65584), UNKNOWN_ADDRESS),
+    (Step::Usable(65552), UNKNOWN_ADDRESS),
+    (Step::Usable(81968), 16),
+    (Step::Allocate(1, 1), 65552),
+    (Step::Dealloc(65552, 1, 1), 0),
+    (Step::Dealloc(81968, 1, 1), 0),
 ];
 
 /// Runs of an allocator that coalesces its pools and doesn't always move a payload.
