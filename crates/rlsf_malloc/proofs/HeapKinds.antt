@@ -1,5 +1,5 @@
 -- The kinds of heaps: what the manual proofs of the exports need of a bitmap's type and of the numbers of rows and classes.
-use Rattle.std.proofs.Common.{rules, ◌≡◌, ℕ, ◌<◌, ◌^◌, refl, lit<, w64}
+use Rattle.std.proofs.Common.{rules, ℕ, ◌<◌, ◌^◌, refl, lit<, w64}
 use contract.BorrowLft.{◌⊑◌, ⊑_refl}
 use contract.Running.{Running}
 use denote.Builtin.{u16, u64}
@@ -24,7 +24,6 @@ use Rattle.rlsf_int.specs.contracts.impls.u64.U64BitPattern.TheImpl as impl64
 use Rattle.rlsf_int.proofs.impls.u16.U16BitPattern.TheImpl.Met.{passed as met16}
 use Rattle.rlsf_int.proofs.impls.u64.U64BitPattern.TheImpl.Met.{passed as met64}
 use Rattle.rlsf_heap.specs.contracts.heap.Heap.{the_row}
-use Rattle.rlsf_heap.proofs.heap.Heap.TheLaws.{the_row_laws}
 
 -- a heap of this kind has bitmaps of the type B
 pub record Kind : Type 2 where
@@ -45,6 +44,13 @@ pub record Kind : Type 2 where
 abbrev pub row : Kind → RattleType
 row K = the_row (param 0 K.B) (param 1 K.B) (param 2 (number K.rows)) (param 3 (number K.classes)) K.ghosts K.ghosts
 
+-- the numbers of rows and classes are valid for these bitmaps
+pub large_valid : IsValid impl64.ghosts.width impl64.ghosts.width 64 64
+large_valid = search rules
+
+pub small_valid : IsValid impl16.ghosts.width impl16.ghosts.width 12 16
+small_valid = search rules
+
 abbrev pub large : Kind
 large = record {
   B = u64;
@@ -57,7 +63,7 @@ large = record {
   classes_fit = record { fits = lit< tt };
   lasting = ⊑_refl [];
   met = λ M 𝓤 𝓛 𝓜 𝓡. met64 𝓡.env M 𝓤 𝓛 𝓜 𝓡;
-  valid = search rules;
+  valid = large_valid;
   small = lit< tt;
 }
 
@@ -73,6 +79,6 @@ small = record {
   classes_fit = record { fits = lit< tt };
   lasting = ⊑_refl [];
   met = λ M 𝓤 𝓛 𝓜 𝓡. met16 𝓡.env M 𝓤 𝓛 𝓜 𝓡;
-  valid = search rules;
+  valid = small_valid;
   small = lit< tt;
 }

@@ -4,7 +4,7 @@ use Rattle.rlsf_malloc.proofs.Walking.{Good, tables, Fn, Ty, Model, Closed, Runn
 use Rattle.rlsf_malloc.proofs.Walking.{◌≡◌, ℕ, List, [], ◌∷◌, refl, sym, subst, w64, MutBor, full_share, id⊢, ftrue, flft, flent, fsep, vptr, fact, ‵, raw, ◌⊛◌}
 use Rattle.rlsf_malloc.proofs.Walking.{some, later, ◌$◌, move, drop, use0, use1, use2, use3, split, join, fsplit, fjoin, fpack, pick, await, rewrite}
 use Rattle.rlsf_malloc.proofs.Walking.{lft_end, Body, yes, ref_back, part_at, mem, uint_vals, uint_Makes, block_ptr, lies_at, plain, nothing, owned, heard, peeks}
-use Rattle.rlsf_malloc.proofs.Walking.{lasts, triple_of, usize, Is, shows, fact_i, emp, sep, Val, Ura, Fml, Logic, sem, Callee, seq, call, RattleType, One, RefMutOf}
+use Rattle.rlsf_malloc.proofs.Walking.{lasts, triple_of, usize, Is, shows, fact_i, emp, sep, Val, Ura, Fml, Logic, sem, Callee, seq, call, RattleType, RefMutOf}
 use Rattle.rlsf_malloc.proofs.Walking.{Ended, Clauses, Lasts, closing}
 use Rattle.rlsf_c_lemmas.proofs.Lending.{lends}
 use Rattle.rlsf_malloc.proofs.HeapKinds.{Kind, row}

@@ -1,6 +1,6 @@
 -- The heap behind a handle.
 use Rattle.std.specs.Borrow.{Fml, full_share}
-use Rattle.std.specs.Ptr.{Ptr, lies_at, room_at}
+use Rattle.std.specs.Ptr.{Ptr, lies_at}
 use Rattle.std.specs.Prelude.{◌≡◌, ℕ, List, [], length}
 use base.Fml.{fex, fsep}
 use denote.Builtin.{u16, u64}
@@ -14,10 +14,9 @@ use Rattle.rlsf_base.specs.Steps.Ownership.{bytes_at}
 use Rattle.rlsf_base.specs.declared.memory.block.RawParts.{RawParts}
 use Rattle.rlsf_int.specs.contracts.impls.u16.U16BitPattern.TheImpl.{ghosts as ghosts16}
 use Rattle.rlsf_int.specs.contracts.impls.u64.U64BitPattern.TheImpl.{ghosts as ghosts64}
-use Rattle.rlsf_heap.specs.Heap.{HeapView, PayloadView}
+use Rattle.rlsf_heap.specs.Heap.{PayloadView}
 use Rattle.rlsf_heap.specs.Thin.{owns_reply}
 use Rattle.rlsf_heap.specs.contracts.heap.Heap.{the_row}
-use Rattle.rlsf_malloc.specs.Calls.{IsReady}
 
 -- the type of a large heap
 abbrev pub large : RattleType

@@ -3,7 +3,7 @@ use Rattle.rlsf_malloc.proofs.Walking.{◌≡◌, ℕ, List, [], ◌∷◌, ◌+
 use Rattle.rlsf_malloc.proofs.Walking.{done, move, keep, drop, join, pick, suffices, group, enter, of_opd, addr, stop, no_more, and_then, returns, alloc_all}
 use Rattle.rlsf_malloc.proofs.Walking.{pass_all, free_all, look_at, get, through, sets, lands_as, yes, uint_vals, uint_Tells, uint_Lawful, Ptr, RawPtr}
 use Rattle.rlsf_malloc.proofs.Walking.{block_ptr, lies_at, rawptr_vals, rawptr_Tells, plain, nothing, owned, on_entry, Stays, walk_of, stay_dropped}
-use Rattle.rlsf_malloc.proofs.Walking.{Goes-dropped, ends_at, framed, usize, uint_Makes, Is, Val, Ura, Fml, Logic, sem, Model, Closed, Running, Fn, Callee}
+use Rattle.rlsf_malloc.proofs.Walking.{Goes-dropped, ends_at, framed, usize, uint_Makes, Ura, Logic, sem, Model, Closed, Running, Fn, Callee}
 use Rattle.rlsf_malloc.proofs.Walking.{Ty, local, value_local, ty_ptr, ty_int, ty_ref, erased, mut, seq, assign, place, rv_opd, copy, addr_of, deref, call}
 use Rattle.rlsf_malloc.proofs.Walking.{return, RattleType, Ended, Clauses, closing, Meets}
 use Rattle.rlsf_malloc.proofs.Steps.{called, changes, finished, gives_out, lends_heap, passes, passes_number}

@@ -4,7 +4,7 @@ use Rattle.rlsf_malloc.proofs.Walking.{prop, ◌$◌, ◌∵◌, !, qed, done, m
 use Rattle.rlsf_malloc.proofs.Walking.{await, suffices, group, lft_end, enter, of_opd, addr, stop, no_more, and_then, returns, alloc_all, pass_all, free_all}
 use Rattle.rlsf_malloc.proofs.Walking.{look_at, get, through, sets, lands_as, yes, ref_back, part_at, uint_vals, uint_Tells, Ptr, RawPtr, block_ptr, lies_at}
 use Rattle.rlsf_malloc.proofs.Walking.{rawptr_vals, rawptr_Tells, plain, nothing, owned, heard, calls_at, lasts, triple_of, Stays, walk_of, stay_dropped}
-use Rattle.rlsf_malloc.proofs.Walking.{Goes-dropped, ends_at, framed, usize, uint_Makes, Is, shows, peeks, uint_Lawful, fact_i, emp, Ura, sep, Logic, sem}
+use Rattle.rlsf_malloc.proofs.Walking.{Goes-dropped, ends_at, framed, usize, uint_Makes, Is, shows, peeks, uint_Lawful, Ura, sep, Logic, sem}
 use Rattle.rlsf_malloc.proofs.Walking.{Model, Closed, Running, Fn, Callee, Ty, local, value_local, ty_ptr, ty_int, ty_ref, erased, mut, seq, assign, place}
 use Rattle.rlsf_malloc.proofs.Walking.{rv_opd, copy, addr_of, deref, call, return, RattleType, RefMutOf, Ended, Clauses, closing, Meets}
 use Rattle.std.proofs.Common.{List}
