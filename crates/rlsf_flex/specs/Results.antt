@@ -13,7 +13,7 @@ use Rattle.rlsf_model.specs.State.{State}
 
 -- ---- what can't be refused
 
--- so it is within all bounds that the allocator is sized for, if they include this size and alignment, and no more payloads are live than they allow
+-- what holds within all bounds that the allocator is sized for, if they include this size and alignment, and no more payloads are live than they allow
 pub record SucceedsUnasked {S : Type 0} (sllen : ℕ) (before after : FlexContents S) (size align : ℕ) (succeeds : Type 0) : Type 0 where
   -- the call is not refused
   pub room : IfWithinBounds sllen before.state.machine size align succeeds
