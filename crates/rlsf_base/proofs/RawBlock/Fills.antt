@@ -1,5 +1,7 @@
 -- A run of bytes that grows by one, and what each byte is then.
 use Rattle.std.proofs.Common.{◌≡◌, ℕ, ◌+◌, ◌-◌, ◌<◌, ◌≤◌, inl, inr, List, [], ◌∷◌, ◌++◌, length, take, drop, slice_index, replicate, arith, ap, sym, ◌∙◌}
+use Rattle.std.proofs.Common.{length-take}
+use Rattle.std.proofs.Math.Seq.{take-add}
 use Rattle.std.proofs.lemmas.Bool.{cases_lt}
 use Rattle.std.proofs.lemmas.List.{append_assoc, take_at}
 use Rattle.std.proofs.lemmas.Slice.{drop-append-drop}
@@ -60,3 +62,17 @@ own-written cs i n j m was k lo hi = elim (cases_lt k i) [
 pub one_more : (old new : List ℕ) (i : ℕ) → i < length new → length old ≡ length new
     → splice (take i new ++ drop i old) i (i + 1) (slice_index new i ∷ []) ≡ take (i + 1) new ++ drop (i + 1) old
 one_more old new i in_row long = grind (arith, common_steps)
+
+pub grows-by : (cs : List Change) (i n : ℕ) → IsIn cs 0 i → IsIn (came_back i n cs) 0 (i + n)
+grows-by cs i n was k lo hi = elim (cases_lt k i) [
+  | inl before ↦ back-before cs i n k before ∙ was k lo (omega (arith, before))
+  | inr behind ↦ back-there cs i n k behind (omega (arith, hi))
+]
+
+pub more-by : (old new : List ℕ) (i n : ℕ) → i + n ≤ length new
+    → splice (take i new ++ drop i old) i (i + n) (take n (drop i new)) ≡ take (i + n) new ++ drop (i + n) old
+more-by old new i n in_row =
+    let front : List ℕ = take i new in let next : List ℕ = take n (drop i new) in let rest : List ℕ = drop (i + n) old in
+    let long : length front ≡ i = length-take i new ∙ omega (arith, in_row) in
+    (λ k. take_at front (drop i old) i long k ++ (next ++ drop-append-drop i old front (i + n) (omega arith) long k))
+    ∙ sym (append_assoc front next rest) ∙ (λ k. sym (take-add i n new) k ++ rest)

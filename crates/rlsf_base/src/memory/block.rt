@@ -287,6 +287,16 @@ impl Bytes {
         unsafe { (base.ptr.add(place) as *mut [u8; 8]).write(word) }
     }
 
+    /// Writes the 16 bytes from the place `place` of the block on. None may be out, and they are then here. No other byte
+    /// changes.
+    #[inline(always)]
+    pub(crate) fn write_unit(&mut self, base: Base, place: usize, unit: [u8; 16])
+        requires { (base.ptr ≡ self.old.at) × HasOwn self.old place 16 }
+        ensures { Becomes self.old self.new (with_bytes self.old place 16 unit) (out_with self.old place 16) }
+    {
+        unsafe { (base.ptr.add(place) as *mut [u8; 16]).write(unit) }
+    }
+
     /// Replaces the list of changes by `out`. Each byte must have the same state by both. No byte changes.
     #[inline(always)]
     pub(crate) fn recount(&mut self)

@@ -1,9 +1,10 @@
 //! Copies within a block's bytes.
 
-ghost use Rattle.std.specs.Prelude.{◌≡◌, ℕ, ◌+◌, ◌-◌, ◌^◌, ◌<◌, ◌≤◌, ◌⊎◌, List, length};
+ghost use Rattle.std.specs.Prelude.{◌≡◌, ℕ, ◌+◌, ◌-◌, ◌^◌, ◌<◌, ◌≤◌, ◌⊎◌, List, length, take};
 ghost use Rattle.core.specs.List.{copy_within};
 ghost use Rattle.rlsf_base.specs.Out.{Change, kept_at};
 ghost use Rattle.rlsf_base.specs.Changes.{IsIn, IsOwn};
+ghost use Rattle.rlsf_base.specs.Steps.Fronts.{HasFront};
 ghost use Rattle.rlsf_base.specs.Steps.Owners.{Has, Becomes, Gets, bytes_in, out_with, with_bytes};
 
 use super::block::{Base, Bytes};
@@ -31,7 +32,7 @@ fn copy(bytes: &mut Bytes, base: Base, from: usize, to: usize, len: usize)
     ensures out { (k : ℕ) → kept_at bytes.new.out k ≡ kept_at (out_with bytes.old to len) k }
 {
     if from + len <= to || to + len <= from {
-        copy_apart(bytes, base, from, to, len);
+        copy_apart::<1>(bytes, base, from, to, len);
     } else if from < to {
         copy_up(bytes, base, from, to - from, len);
     } else if to < from {
@@ -40,31 +41,33 @@ fn copy(bytes: &mut Bytes, base: Base, from: usize, to: usize, len: usize)
 }
 
 // To bytes that overlap those copied, `by` places above. The last of them may be raw: they are written first.
+#[inline(never)]
 fn copy_up(bytes: &mut Bytes, base: Base, from: usize, by: usize, len: usize)
     requires lies { (base.ptr ≡ bytes.old.at) × (by < len) × Has bytes.old from (by + len) × (bytes.old.skip + length bytes.old.bytes < 2 ^ 64) }
     requires kept { IsIn bytes.old.out (from - bytes.old.skip) len × IsOwn bytes.old.out (from - bytes.old.skip + len) by }
     ensures bytes { Gets bytes.old bytes.new (with_bytes bytes.old (from + by) len (bytes_in bytes.old from len)) }
     ensures out { (k : ℕ) → kept_at bytes.new.out k ≡ kept_at (out_with bytes.old (from + by) len) k }
 {
-    copy_apart(bytes, base, from + len - by, from + len, by);
+    copy_apart::<0>(bytes, base, from + len - by, from + len, by);
     let rest = bytes.slice_mut(base, from, len);
     rest.copy_within(0..len - by, by);
 }
 
 // To bytes that overlap those copied, `by` places below. The first of them may be raw: they are written first.
+#[inline(never)]
 fn copy_down(bytes: &mut Bytes, base: Base, to: usize, by: usize, len: usize)
     requires lies { (base.ptr ≡ bytes.old.at) × (by < len) × Has bytes.old to (by + len) × (bytes.old.skip + length bytes.old.bytes < 2 ^ 64) }
     requires kept { IsIn bytes.old.out (to - bytes.old.skip + by) len × IsOwn bytes.old.out (to - bytes.old.skip) by }
     ensures bytes { Gets bytes.old bytes.new (with_bytes bytes.old to len (bytes_in bytes.old (to + by) len)) }
     ensures out { (k : ℕ) → kept_at bytes.new.out k ≡ kept_at (out_with bytes.old to len) k }
 {
-    copy_apart(bytes, base, to + by, to, by);
+    copy_apart::<0>(bytes, base, to + by, to, by);
     let rest = bytes.slice_mut(base, to + by, len);
     rest.copy_within(by..len, 0);
 }
 
 // To bytes that don't overlap those copied.
-fn copy_apart(bytes: &mut Bytes, base: Base, from: usize, to: usize, len: usize)
+fn copy_apart<const UNITS: usize>(bytes: &mut Bytes, base: Base, from: usize, to: usize, len: usize)
     requires lies { (base.ptr ≡ bytes.old.at) × Has bytes.old from len × Has bytes.old to len × (bytes.old.skip + length bytes.old.bytes < 2 ^ 64) }
     requires kept { IsIn bytes.old.out (from - bytes.old.skip) len × IsOwn bytes.old.out (to - bytes.old.skip) len }
     requires apart { (from + len ≤ to) ⊎ (to + len ≤ from) }
@@ -72,16 +75,67 @@ fn copy_apart(bytes: &mut Bytes, base: Base, from: usize, to: usize, len: usize)
     ensures out { (k : ℕ) → kept_at bytes.new.out k ≡ kept_at (out_with bytes.old to len) k }
 {
     let mut part = bytes.take_out(to, len);
-    write_bytes(&mut part, base, to, bytes.slice(base, from, len));
+    write_bytes::<UNITS>(&mut part, base, to, bytes.slice(base, from, len));
     bytes.put_back(part);
 }
 
-// LLVM makes one call of `memcpy` of it.
-fn write_bytes(bytes: &mut Bytes, base: Base, place: usize, from: &[u8])
+// Writes all bytes of a slice: units of 16 bytes, if `UNITS` is 1, then the rest.
+#[inline(always)]
+fn write_bytes<const UNITS: usize>(bytes: &mut Bytes, base: Base, place: usize, from: &[u8])
     requires { (base.ptr ≡ bytes.old.at) × (bytes.old.skip ≡ place) × (length bytes.old.bytes ≡ length from.now) × IsOwn bytes.old.out 0 (length from.now) × (place + length from.now < 2 ^ 64) }
     ensures { Gets bytes.old bytes.new from.now × IsIn bytes.new.out 0 (length from.now) }
 {
-    for index in 0..from.len() {
+    let written = write_units::<UNITS>(bytes, base, place, from);
+    if UNITS == 0 {
+        write_rest(bytes, base, place, from, written);
+        return;
+    }
+    if written < from.len() {
+        write_end(bytes, base, place, from, written);
+    }
+}
+
+// Writes units of 16 bytes, if `UNITS` is 1, and returns the number of bytes written. The compiler makes three loops of one that goes byte
+// by byte, since it can't see that the parts don't overlap. From a payload to the end of its block there are whole units.
+#[inline(always)]
+fn write_units<const UNITS: usize>(
+    bytes: &mut Bytes,
+    base: Base,
+    place: usize,
+    from: &[u8],
+) -> usize
+    requires { (base.ptr ≡ bytes.old.at) × (bytes.old.skip ≡ place) × (length bytes.old.bytes ≡ length from.now) × IsOwn bytes.old.out 0 (length from.now) × (place + length from.now < 2 ^ 64) }
+    ensures { HasFront bytes.old bytes.new from.now result }
+{
+    if UNITS == 0 {
+        return 0;
+    }
+    let mut index = 0;
+    while let Some(unit) = from[index..].first_chunk::<16>() {
+        bytes.write_unit(base, place + index, *unit);
+        index += 16;
+    }
+    index
+}
+
+// The same as `write_rest`, out of line: so a copy of whole units saves no register for it.
+#[inline(never)]
+fn write_end(bytes: &mut Bytes, base: Base, place: usize, from: &[u8], written: usize)
+    requires place { (base.ptr ≡ bytes.old.at) × (bytes.old.skip ≡ place) × (length bytes.old.bytes ≡ length from.now) × IsOwn bytes.old.out 0 (length from.now) × (place + length from.now < 2 ^ 64) }
+    requires written { (written ≤ length from.now) × (take written bytes.old.bytes ≡ take written from.now) × IsIn bytes.old.out 0 written }
+    ensures { Gets bytes.old bytes.new from.now × IsIn bytes.new.out 0 (length from.now) }
+{
+    write_rest(bytes, base, place, from, written);
+}
+
+// Writes the bytes behind the first `written`, which are written already.
+#[inline(always)]
+fn write_rest(bytes: &mut Bytes, base: Base, place: usize, from: &[u8], written: usize)
+    requires place { (base.ptr ≡ bytes.old.at) × (bytes.old.skip ≡ place) × (length bytes.old.bytes ≡ length from.now) × IsOwn bytes.old.out 0 (length from.now) × (place + length from.now < 2 ^ 64) }
+    requires written { (written ≤ length from.now) × (take written bytes.old.bytes ≡ take written from.now) × IsIn bytes.old.out 0 written }
+    ensures { Gets bytes.old bytes.new from.now × IsIn bytes.new.out 0 (length from.now) }
+{
+    for index in written..from.len() {
         bytes.write(base, place + index, from[index]);
     }
 }

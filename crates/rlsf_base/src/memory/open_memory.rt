@@ -324,6 +324,7 @@ impl OpenMemory {
     /// changes.
     ///
     /// Both must lie in the memory. The bytes of `range` must be here, and none of those from `to` on may be out.
+    #[inline(always)]
     pub fn copy_within(&mut self, range: Range, to: usize)
         requires from { LiesIn range self.old.start (length self.old.bytes) }
         requires to { LiesIn (range_at to range.len) self.old.start (length self.old.bytes) }

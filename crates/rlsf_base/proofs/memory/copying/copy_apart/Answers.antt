@@ -6,7 +6,7 @@ use Rattle.rlsf_base.proofs.Words.Splices.{length-part}
 use Rattle.rlsf_base.proofs.memory.copying.copy_apart.Goals as goal
 
 pub slice-requires : goal.slice-requires
-slice-requires c =
+slice-requires g c =
     let (is, gone) = c.take_out-part.ensures in let d = c.args.bytes.now in let lies = c.requires.lies in
     let side : (c.args.from - d.skip + c.args.len ≤ c.args.to - d.skip) ⊎ (c.args.to - d.skip + c.args.len ≤ c.args.from - d.skip) = elim c.requires.apart [
       | inl below ↦ inl (omega (arith, below, lies))
@@ -22,7 +22,7 @@ slice-requires c =
     )
 
 pub write_bytes-requires : goal.write_bytes-requires
-write_bytes-requires c =
+write_bytes-requires g c =
     let (is, gone) = c.take_out-part.ensures in let lies = c.requires.lies in
     let rest = c.take_out-part.new.self in
     let long : length c.slice.result.now ≡ c.args.len =
@@ -37,7 +37,7 @@ write_bytes-requires c =
     )
 
 pub returns-clause-out : goal.returns-clause-out
-returns-clause-out c k =
+returns-clause-out g c k =
     let (is, gone) = c.take_out-part.ensures in let w = c.write_bytes.ensures in let lies = c.requires.lies in let d = c.args.bytes.now in
     let rest = c.take_out-part.new.self in
     let long : length c.slice.result.now ≡ c.args.len =

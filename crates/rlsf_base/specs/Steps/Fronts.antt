@@ -1,0 +1,9 @@
+-- An owner of which the first bytes were written.
+use Rattle.std.specs.Prelude.{ℕ, ◌≤◌, ◌++◌, List, length, take, drop}
+use Rattle.rlsf_base.specs.Changes.{IsIn, IsOwn}
+use Rattle.rlsf_base.specs.Steps.Owners.{Gets}
+use Rattle.rlsf_base.specs.declared.memory.block.Bytes.{Bytes}
+
+-- the first n bytes have these values afterwards, and are here. The others have the values that they had, and none is out
+abbrev pub HasFront : Bytes → Bytes → List ℕ → ℕ → Type 0
+HasFront old new values n = (n ≤ length values) × Gets old new (take n values ++ drop n old.bytes) × IsIn new.out 0 n × IsOwn new.out 0 (length values)
