@@ -19,7 +19,7 @@ ghost use Rattle.rlsf_blocks.specs.Steps.Standing.{AtEachUsed, StandsAfter};
 use crate::{GRANULARITY, HEADER};
 use rlsf_base::memory::{OpenMemory, View};
 use rlsf_table::{
-    ClassTable, PAD, PREVIOUS_BLOCK, is_free, link_free_block, unlink_free_block, used_end,
+    ClassTable, PAD, PREVIOUS_BLOCK, is_free, link_joined_block, unlink_free_block, used_end,
 };
 
 /// Returns the used block whose payload at `payload` was allocated with that alignment.
@@ -123,7 +123,7 @@ fn put<const FLLEN: usize, const SLLEN: usize>(
 {
     memory.set_word_at(view, block, len as u64);
     memory.set_word_at(view, block + len + PREVIOUS_BLOCK, block as u64);
-    link_free_block(memory, view, table, block, len);
+    link_joined_block(memory, view, table, block, len);
 }
 
 /// Makes the used block at `block` free. Joined with a free block before it and a free block behind it, it becomes the

@@ -17,5 +17,5 @@ pub use block_words::{
     used_end, used_size_word,
 };
 pub use fit::{FoundBlock, first_fit};
-pub use list::{link_free_block, unlink_free_block, unlink_newest_block};
+pub use list::{link_free_block, link_joined_block, unlink_free_block, unlink_newest_block};
 pub use table::{ClassIndex, ClassTable};

@@ -21,8 +21,8 @@ set_word_at-requires-2-clause-place g c =
       own-there m c.set_word_at.new.self (word_range a) (omega arith) c.set_word_at.ensures.own (own-word m (range_at (end_of r) 16) a room.behind (omega arith) (omega arith)),
     )
 
-pub link_free_block-requires : goal.link_free_block-requires
-link_free_block-requires g c =
+pub link_joined_block-requires : goal.link_joined_block-requires
+link_joined_block-requires g c =
     let (free, r, start, len, room) = c.requires.room in
     let writes =
     ArePut-from {m1 = c.set_word_at.new.self} {m2 = c.set_word_at-2.new.self} c.args.block c.args.len r room start len
@@ -37,7 +37,7 @@ returns-clause-step g c =
     ArePut-from {m1 = c.set_word_at.new.self} {m2 = c.set_word_at-2.new.self} c.args.block c.args.len r room start len
     (c.set_word_at.ensures.start, c.set_word_at.ensures.bytes, c.set_word_at.ensures.out)
     (c.set_word_at-2.ensures.start, c.set_word_at-2.ensures.bytes, c.set_word_at-2.ensures.out) in
-    IsNewFreeBlock-written r room writes (c.link_free_block.ensures.step r free start len (room_written r room writes))
+    IsNewFreeBlock-written r room writes (c.link_joined_block.ensures.step r free start len (room_written r room writes))
 
 pub returns-clause-costs : goal.returns-clause-costs
 returns-clause-costs g c =
@@ -48,4 +48,4 @@ returns-clause-costs g c =
     let second =
     Costs-written one.new.self two.new.self (c.args.block + c.args.len + 8) two.ensures.start two.ensures.len two.ensures.touches two.ensures.copied two.ensures.view
     two.ensures.out in
-    Costs-then (Costs-then first second) c.link_free_block.ensures.costs
+    Costs-then (Costs-then first second) c.link_joined_block.ensures.costs

@@ -1,9 +1,6 @@
--- The indices are those of the block's class, and the table has the block in front of that class's list.
-use Rattle.std.proofs.Common.{arith}
-use Rattle.rlsf_table.specs.Table.{of_class}
-use Rattle.rlsf_table.proofs.Costs.{Costs-counted, Costs-then}
-use Rattle.rlsf_table.proofs.Tables.Linking.{coverage-front_class, HasTable-front, IsFreeList-of_class_from, Rewrites-front_class}
-use Rattle.rlsf_table.proofs.FreeLists.Counted.{HasTable-counted, IsRoom-counted, Rewrites-counted_first, Rewrites-counted_last}
+-- The indices are those of the block's class.
+use Rattle.std.proofs.Common.{arith, subst}
+use Rattle.rlsf_table.specs.Table.{IsClassAt}
 use Rattle.rlsf_table.proofs.FreeLists.Indices.{IsClassAt-told, room}
 use Rattle.rlsf_table.proofs.list.link_free_block.Goals as goal
 
@@ -12,48 +9,10 @@ class_of-fl-requires-clause-size g c =
     let (r, free, place, len, beside) = c.requires.room in
     omega (arith, len, room c.requires.parameters beside.block)
 
-pub head-newest-requires : goal.head-newest-requires
-head-newest-requires g c =
+pub link_in_class-requires : goal.link_in_class-requires
+link_in_class-requires g c =
     let (r, free, place, len, beside) = c.requires.room in
-    let at = IsClassAt-told c.requires.parameters beside.block c.args.len c.class_of-fl.result len c.class_of-fl.ensures in
-    (omega arith, (at.row, at.place))
-
-pub link_front-requires-clause-place : goal.link_front-requires-clause-place
-link_front-requires-clause-place g c =
-    let fl = c.class_of-fl.result.0 in
-    let sl = c.class_of-fl.result.1 in
-    let (r, free, place, len, beside) = c.requires.room in
-    let at = IsClassAt-told c.requires.parameters beside.block c.args.len c.class_of-fl.result len c.class_of-fl.ensures in
-    let counts = c.head-newest.ensures.counts in
-    let kept = IsRoom-counted c.args.memory.now c.head-newest.new.memory counts.start counts.bytes counts.out beside in
-    let list = IsFreeList-of_class_from kept.list fl sl at.row at.place c.head-newest.result c.head-newest.ensures.value in
-    (r, of_class g.row.SLLEN fl sl free, place, list, kept.placed, coverage-front_class fl sl kept at)
-
-pub put-requires : goal.put-requires
-put-requires g c =
-    let (r, free, place, len, beside) = c.requires.room in
-    let at = IsClassAt-told c.requires.parameters beside.block c.args.len c.class_of-fl.result len c.class_of-fl.ensures in
-    (omega arith, (c.requires.parameters, (at.row, at.place)))
-
-pub returns-clause-step : goal.returns-clause-step
-returns-clause-step g c =
-    λ r free place len beside.
-    let m = c.args.memory.now in
-    let n = c.head-newest.new.memory in
-    let o = c.link_front.new.memory in
-    let fl = c.class_of-fl.result.0 in
-    let sl = c.class_of-fl.result.1 in
-    let at = IsClassAt-told c.requires.parameters beside.block c.args.len c.class_of-fl.result len c.class_of-fl.ensures in
-    let read = c.head-newest.ensures.counts in
-    let kept = IsRoom-counted m n read.start read.bytes read.out beside in
-    let list = IsFreeList-of_class_from kept.list fl sl at.row at.place c.head-newest.result c.head-newest.ensures.value in
-    let (linked, rewrites) = c.link_front.ensures.step r (of_class g.row.SLLEN fl sl free) place list kept.placed (coverage-front_class fl sl kept at) in
-    let bits = c.put.ensures.bits r free at.class beside.list.table.bits in
-    let counts = c.put.ensures.counts in (
-      HasTable-counted o c.put.new.memory counts.start counts.bytes counts.out (HasTable-front fl sl kept at c.args.block place c.put.ensures.heads bits linked rewrites),
-      Rewrites-counted_first m n read.start read.bytes read.out
-          (Rewrites-counted_last o c.put.new.memory counts.start counts.bytes counts.out (Rewrites-front_class fl sl kept at rewrites)),
-    )
-
-pub returns-clause-costs : goal.returns-clause-costs
-returns-clause-costs g c = Costs-then (Costs-then (Costs-counted c.head-newest.ensures.counts) c.link_front.ensures.costs) (Costs-counted c.put.ensures.counts)
+    let at =
+    subst (λ n. IsClassAt g.row.FLLEN g.row.SLLEN n c.class_of-fl.result.0 c.class_of-fl.result.1) len
+    (IsClassAt-told c.requires.parameters beside.block c.args.len c.class_of-fl.result len c.class_of-fl.ensures) in
+    (omega arith, (c.requires.parameters, (at, (c.requires.room, c.requires.view))))
