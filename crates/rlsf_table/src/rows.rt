@@ -109,14 +109,7 @@ impl<const ROWS: usize, const PLACES: usize> Rows<ROWS, PLACES> {
         requires { (fl < ROWS) × (place < PLACES) × (PLACES ≤ 128) }
         ensures { IsFirstFrom PLACES (row_word PLACES self.now.low self.now.high fl) (place + 1) result }
     {
-        if PLACES < 64 {
-            let behind = self.low[fl].bit_scan_forward(place as u32 + 1);
-            if behind < 64 {
-                Some(behind as usize)
-            } else {
-                None
-            }
-        } else if PLACES == 64 {
+        if PLACES <= 64 {
             // All ones but the lowest, moved up: no place has to be tested.
             let places = self.low[fl] & ((u64::MAX - 1) << place);
             if places != 0 {

@@ -161,10 +161,11 @@ impl<const FLLEN: usize, const SLLEN: usize> ClassTable<FLLEN, SLLEN> {
     /// Returns the first class from a row and place on that has a free block, or `None` exactly if none has. At most three touches.
     ///
     /// The row is below `FLLEN`, and the place below `SLLEN`. In a table of 32 classes a row or fewer the place may be `SLLEN`: the
-    /// classes of the next row are the first from there on.
+    /// classes of the next row are the first from there on. The bitmaps must be those of a list of free blocks of valid classes.
     pub fn first_from(&self, memory: &mut OpenMemory, fl: usize, sl: usize) -> Option<ClassIndex>
         requires parameters { IsValid 128 128 FLLEN SLLEN }
         requires class { (fl < FLLEN) × CanBegin SLLEN sl }
+        requires list { (free : List Range) × HasBits FLLEN SLLEN self.now free × ((f : Range) → IsIn f free → IsFree FLLEN SLLEN f) }
         ensures first { (free : List Range) → HasBits FLLEN SLLEN self.now free → ((f : Range) → IsIn f free → IsFree FLLEN SLLEN f) → IsLeastFrom FLLEN SLLEN fl sl free result }
         ensures counts { Counts memory.old memory.new 3 }
     {
@@ -176,9 +177,6 @@ impl<const FLLEN: usize, const SLLEN: usize> ClassTable<FLLEN, SLLEN> {
         let Some(row) = self.first_level.first_behind(0, fl) else {
             return None;
         };
-        if row >= FLLEN {
-            return None;
-        }
         memory.touch();
         Some(ClassIndex {
             fl: row,

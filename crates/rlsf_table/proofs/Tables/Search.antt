@@ -55,6 +55,10 @@ module _ {fllen sllen : ℕ} {t : Table} {free : List Range} (any : 0 < sllen) (
       let (f, i, has) = list_any-some (is_in_row sllen row) free (sym (bits.first row) ∙ set) in
       (f, i, eqb-true (class_of sllen f.len).exponent (5 + row) has)
 
+  -- such a row is one of the table's
+  pub row_lt : (row : ℕ) → bit t.first_level row ≡ true → row < fllen
+  row_lt row set = let (f, i, at) = range_of_row row set in let valid = (blocks f i).valid in omega arith
+
   -- the scan of a row passed no free range
   pub place_from : {width start place : ℕ} (row : ℕ) → row < fllen → IsFirstOne width (slice_index t.second_level row) start place → (f : Range) → IsIn f free
       → (class_of sllen f.len).exponent ≡ 5 + row → start ≤ (class_of sllen f.len).division

@@ -20,7 +20,8 @@ returns-in_err-fl g c = record {
 
 pub first_from-requires : goal.first_from-requires
 first_from-requires g c =
-    (omega arith, (c.requires.parameters, (c.in_ok-fl.ensures.row, c.in_ok-fl.ensures.place)))
+    let (free, is) = c.requires.list in
+    (omega arith, (c.requires.parameters, ((c.in_ok-fl.ensures.row, c.in_ok-fl.ensures.place), (free, is.table.bits, is.blocks))))
 
 pub returns-in_err-class : goal.returns-in_err-class
 returns-in_err-class g c = record {
