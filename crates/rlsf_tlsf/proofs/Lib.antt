@@ -11,6 +11,7 @@ mod Placed
 pub mod Reached
 pub mod Removed
 pub mod Replied
+pub mod ResizedInPlace
 mod SendAndSync
 pub mod Standing
 pub mod UnknownAlign

@@ -1,15 +1,12 @@
 -- A reallocation by a caller that does not know the payload's alignment: it stays, or an allocation, a copy and a deallocation move it.
-use Rattle.std.proofs.Common.{◌≡◌, ◌≢◌, ℕ, ◌<◌, ◌≤◌, ◌+◌, ◌-◌, ◌^◌, List, length, min, take, drop, Option, Some, None, IsSome, arith}
+use Rattle.std.proofs.Common.{◌≡◌, ◌≢◌, ℕ, ◌<◌, ◌≤◌, List, length, min, take, drop, Option, Some, None, IsSome, arith}
 use Rattle.std.proofs.Common.{length-drop, true≢false, refl, sym, ◌∙◌, ap, subst}
 use Rattle.std.proofs.lemmas.List.{length-append, take_all, take_at}
-use Rattle.rlsf_base.specs.Range.{end_of}
 use Rattle.rlsf_base.specs.Space.{Space, SamePlace}
-use Rattle.rlsf_base.proofs.Numbers.Roundings.{next_multiple_of-le}
 use Rattle.rlsf_model.specs.Allocate.{Allocates}
 use Rattle.rlsf_model.specs.Callers.{align_at, bytes_at, copied_over}
-use Rattle.rlsf_model.specs.Lists.{IsIn}
 use Rattle.rlsf_model.specs.NoMove.{ReallocatesUnmovedBy, ReallocatesWithoutMove, unmoved_plan}
-use Rattle.rlsf_model.specs.Reallocate.{HasRoomToStay, Keeps, Plan, Reallocates, resized}
+use Rattle.rlsf_model.specs.Reallocate.{HasRoomToStay, Keeps, Plan, Reallocates}
 use Rattle.rlsf_model.specs.Release.{Deallocates}
 use Rattle.rlsf_model.specs.Run.{allocate, deallocate, fill, Fills}
 use Rattle.rlsf_model.specs.State.{State, Used, with_front}
@@ -18,12 +15,8 @@ use Rattle.rlsf_model.proofs.Changes.{Holds-unique}
 use Rattle.rlsf_model.proofs.NoMove.{unmoved_is_reallocated}
 use Rattle.rlsf_model.proofs.Payloads.{usable-short}
 use Rattle.rlsf_blocks.specs.Spare.{KeepsSpare}
-use Rattle.rlsf_blocks.specs.StandsFor.{contents, StandsFor}
 use Rattle.rlsf_blocks.proofs.RepresentedStates.SpareBytes.{KeepsSpare-trans}
 use Rattle.rlsf_blocks.proofs.Reallocate.FirstPlan.{in_place-none}
-use Rattle.rlsf_blocks.proofs.Reallocate.NextPlans.{no_plan}
-use Rattle.rlsf_blocks.proofs.Reallocate.Spans.{reach, reach-le, span_in_memory}
-use Rattle.rlsf_table.specs.Table.{Table}
 use Rattle.rlsf_tlsf.specs.Allocator.{Allocator, Stands, Steps}
 use Rattle.rlsf_tlsf.specs.UnknownAlign.{MovesTo, ReallocatesAnyAlign, ResizesBy}
 use Rattle.rlsf_tlsf.proofs.Arrivals.{opened, well_formed}
@@ -48,16 +41,6 @@ pub length-front : (n : ℕ) (old new : List ℕ) → length old ≡ n → n ≤
 length-front n old new is short =
     let front : length (take n old) ≡ n = ap length (take_all n old (omega (arith, is))) ∙ is in
     omega (arith, length-append (take n old) (drop n new), length-drop n new, front, short)
-
--- a block whose length doesn't fit in a word has no plan: the memory ends before
-pub too_long : {fllen sllen : ℕ} {m : Space} {t : Table} {s : State} → StandsFor fllen sllen (contents m t) s → (u : Used) → IsIn u s.used → (size : ℕ)
-    → 2 ^ 64 ≤ u.payload - u.block.start + size + 31 → unmoved_plan s u size ≡ None
-too_long {s = s} v u i size past =
-    let place = span_in_memory v u i in
-    let order = reach-le v u i in
-    let rounded = next_multiple_of-le (u.payload - u.block.start + size) 32 in
-    let longest : reach s u < end_of (resized u size) = omega (arith, past, place.1, rounded, v.well_formed.addressable) in
-    no_plan s u size (omega (arith, order, longest)) longest
 
 -- ---- it stays
 

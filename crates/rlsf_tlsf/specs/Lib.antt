@@ -3,6 +3,7 @@ pub mod Allocator
 pub mod Bounds
 pub mod InPlace
 pub mod Lending
+pub mod CoreResizes
 pub mod Cores
 pub mod Results
 pub mod Sizing

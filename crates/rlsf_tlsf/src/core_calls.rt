@@ -24,6 +24,10 @@ use rlsf_blocks::{
 use rlsf_table::ClassTable;
 use std::num::NonZeroUsize;
 
+mod resizing;
+
+pub use resizing::{resize_block_in, resize_in};
+
 /// Allocates a payload for `layout`, as `Tlsf::allocate` does. Returns its bytes, which are still the memory's.
 // In line, so that the tests of an alignment that is constant at the call go away.
 #[inline(always)]

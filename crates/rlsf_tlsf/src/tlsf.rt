@@ -18,11 +18,13 @@ ghost use Rattle.rlsf_model.specs.State.{empty};
 ghost use Rattle.rlsf_table.specs.Table.{newest_of, of_class};
 ghost use Rattle.rlsf_blocks.specs.Spare.{IsSpareWord};
 
-use crate::core_calls::{allocate_in, deallocate_block_in, deallocate_in};
+use crate::core_calls::{
+    allocate_in, deallocate_block_in, deallocate_in, resize_block_in, resize_in,
+};
 use crate::state::GhostState;
 use rlsf_base::memory::{Addr, Layout, Memory, Range};
-use rlsf_blocks::reallocation::{reallocate_block, resize_any_block, resize_block};
-use rlsf_blocks::{load_block_of, load_usable_bytes, usable_bytes, used_block};
+use rlsf_blocks::reallocation::reallocate_block;
+use rlsf_blocks::{load_usable_bytes, usable_bytes, used_block};
 use rlsf_int::BitPattern;
 use rlsf_table::ClassTable;
 use std::marker::{Model, PhantomData};
@@ -242,17 +244,16 @@ impl<FLBitmap: BitPattern, SLBitmap: BitPattern, const FLLEN: usize, const SLLEN
         let payload = addr.get();
         let view = self.memory.inner.view();
         let block = used_block(&mut self.memory.inner, view, payload, layout.align());
-        if !resize_block(
+        if !resize_block_in(
             &mut self.memory.inner,
-            view,
             &mut self.table,
+            &mut self.state,
             block,
             payload,
             layout,
         ) {
             return None;
         }
-        self.state.reallocate(SLLEN, payload, layout.size());
         Some(addr)
     }
 
@@ -274,26 +275,14 @@ impl<FLBitmap: BitPattern, SLBitmap: BitPattern, const FLLEN: usize, const SLLEN
     {
         let payload = addr.get();
         let usable = load_usable_bytes(&mut self.memory.inner, payload);
-        let block = load_block_of(&mut self.memory.inner, payload);
-        let front = payload - block;
-        // A block whose length doesn't fit in a word is longer than the memory.
-        let size = layout.size();
-        if size > usize::MAX - 31 - front {
-            return (false, usable.len);
-        }
-        let view = self.memory.inner.view();
-        if !resize_any_block(
+        let stays = resize_in(
             &mut self.memory.inner,
-            view,
             &mut self.table,
-            block,
+            &mut self.state,
             payload,
             layout,
-        ) {
-            return (false, usable.len);
-        }
-        self.state.reallocate(SLLEN, payload, size);
-        (true, usable.len)
+        );
+        (stays, usable.len)
     }
 
     /// Returns the number of usable bytes of the payload at `addr`: those from `addr` to the end of its block. They are

@@ -1,0 +1,72 @@
+//! A payload gets another size without moving.
+
+ghost use Rattle.std.specs.Prelude.{◌≡◌, ◌<◌, ◌+◌, ◌-◌, ◌^◌, true, false};
+ghost use Rattle.rlsf_model.specs.NoMove.{ReallocatesWithoutMove};
+ghost use Rattle.rlsf_blocks.specs.Laws.{read_from};
+ghost use Rattle.rlsf_tlsf.specs.CoreResizes.{IsOwnBehind, KeepsBoundsThere, KeepsCore, KeepsPayloads, stayed_if};
+ghost use Rattle.rlsf_tlsf.specs.Cores.{IsCore, IsOwnPayload, LeavesCore};
+ghost use Rattle.rlsf_tlsf.specs.Results.{IsResized};
+
+use crate::state::GhostState;
+use rlsf_base::memory::{Layout, OpenMemory};
+use rlsf_blocks::load_block_of;
+use rlsf_blocks::reallocation::resize_kept_block;
+use rlsf_table::ClassTable;
+
+/// Gives the payload at `addr`, whose used block begins at `block`, the size of `layout` without moving it, as
+/// `Tlsf::reallocate_no_move` does. Returns whether the bytes suffice. If not, nothing changes.
+///
+/// Of `layout` only the size counts: the payload has any alignment. The length of its block has to fit in a word. Usable bytes may
+/// be out if they are in its block of the new size, too.
+#[inline(always)]
+pub fn resize_block_in<const FLLEN: usize, const SLLEN: usize>(
+    memory: &mut OpenMemory,
+    table: &mut ClassTable<FLLEN, SLLEN>,
+    state: &mut GhostState,
+    block: usize,
+    addr: usize,
+    layout: Layout,
+) -> bool
+    requires core { IsCore FLLEN SLLEN memory.old table.old state.old.state }
+    requires own { IsOwnBehind memory.old (read_from memory.old state.old.state) addr block layout.size }
+    requires fits { addr - block + layout.size + 31 < 2 ^ 64 }
+    ensures left { LeavesCore FLLEN SLLEN memory.old memory.new table.new state.old.state state.new.state 24 }
+    ensures step { ReallocatesWithoutMove (read_from memory.old state.old.state) addr layout.size (stayed_if result addr) (read_from memory.new state.new.state) }
+    ensures result { result ≡ true → IsResized (read_from memory.old state.old.state) (read_from memory.new state.new.state) addr layout.size addr }
+    ensures kept { KeepsPayloads (read_from memory.old state.old.state) (read_from memory.new state.new.state) addr }
+    ensures bounds { KeepsBoundsThere SLLEN (read_from memory.old state.old.state) (read_from memory.new state.new.state) addr layout.size }
+    ensures refused { result ≡ false → KeepsCore memory.old memory.new table.old table.new state.old.state state.new.state 2 }
+{
+    let view = memory.view();
+    if !resize_kept_block(memory, view, table, block, addr, layout) {
+        return false;
+    }
+    state.reallocate(SLLEN, addr, layout.size());
+    true
+}
+
+/// Gives the payload at `addr` the size of `layout` without moving it, as `resize_block_in` does. Its block is found in the memory.
+///
+/// Of `layout` only the size counts: the payload has any alignment. No usable byte of it may be out.
+#[inline(always)]
+pub fn resize_in<const FLLEN: usize, const SLLEN: usize>(
+    memory: &mut OpenMemory,
+    table: &mut ClassTable<FLLEN, SLLEN>,
+    state: &mut GhostState,
+    addr: usize,
+    layout: Layout,
+) -> bool
+    requires core { IsCore FLLEN SLLEN memory.old table.old state.old.state }
+    requires own { IsOwnPayload memory.old (read_from memory.old state.old.state) addr }
+    ensures left { LeavesCore FLLEN SLLEN memory.old memory.new table.new state.old.state state.new.state 26 }
+    ensures step { ReallocatesWithoutMove (read_from memory.old state.old.state) addr layout.size (stayed_if result addr) (read_from memory.new state.new.state) }
+    ensures result { result ≡ true → IsResized (read_from memory.old state.old.state) (read_from memory.new state.new.state) addr layout.size addr }
+    ensures kept { KeepsPayloads (read_from memory.old state.old.state) (read_from memory.new state.new.state) addr }
+    ensures bounds { KeepsBoundsThere SLLEN (read_from memory.old state.old.state) (read_from memory.new state.new.state) addr layout.size }
+    ensures refused { result ≡ false → KeepsCore memory.old memory.new table.old table.new state.old.state state.new.state 4 }
+{
+    let block = load_block_of(memory, addr);
+    // What lies before the payload in its block is shorter than the memory. So with any size the block's length fits in a word.
+    memory.is_below_limit();
+    resize_block_in(memory, table, state, block, addr, layout)
+}
