@@ -19,7 +19,7 @@ pub mod Reallocating
 pub mod ReallocationViews
 pub mod Released
 pub mod Resized
-pub mod ResizedThin
+pub mod ResizedParts
 pub mod Rewritten
 pub mod Settled
 pub mod ThinPayloads

@@ -16,7 +16,7 @@ use Rattle.rlsf_model.proofs.Payloads.{IsUsed-after_start}
 use Rattle.rlsf_table.specs.Table.{Table}
 use Rattle.rlsf_blocks.specs.Steps.LiveBlock.{AtEachBlock, IsLiveIn}
 use Rattle.rlsf_blocks.specs.StandsFor.{contents, StandsFor}
-use Rattle.rlsf_heap.specs.Heap.{AreIssued, HeapView, Identity, PayloadView, Stands, Steps, payload_range}
+use Rattle.rlsf_heap.specs.Heap.{AreIssued, HeapView, Identity, IsTicketOf, PayloadView, Stands, Steps, payload_range, payload_view}
 use Rattle.rlsf_heap.specs.Raw.{IsWhole, bytes_of}
 use Rattle.rlsf_heap.specs.Thin.{reply_of}
 use Rattle.rlsf_heap.proofs.ThinValues.{one_more_than}
@@ -127,3 +127,14 @@ module _ (fllen sllen : ℕ) (before after : HeapView) (size align : ℕ) (p q :
   pub thin_step : Steps fllen sllen after (Allocates sllen before.state size align (reply_of q.start))
   thin_step =
       subst (λ o. Steps fllen sllen after (Allocates sllen before.state size align o)) ((λ i. Some (sym is i).start) ∙ reply_some q.start is_some) did
+
+-- ---- its bytes as a part
+
+module _ (of : PayloadView) (q : Piece) (one : q ≡ bytes_of of) where
+  -- the payload is made of the part with its bytes
+  pub payload_of_bytes : payload_view q of.align of.identity.ledger ≡ of
+  payload_of_bytes = ap (λ (o : Piece). payload_view o of.align of.identity.ledger) one
+
+  -- its ticket is one of this part
+  pub ticket_of_bytes : (t : Ticket) → IsTicketFor of t → IsTicketOf q of.align (extent t.addr t.len t.align)
+  ticket_of_bytes t is = (ap (λ (o : Piece). o.start) one ∙ sym is.1, ap (λ (o : Piece). length o.bytes) one ∙ sym is.2, sym is.3)

@@ -1,28 +1,16 @@
 -- Reallocation of a payload whose alignment its caller doesn't know.
 use Rattle.std.specs.Prelude.{◌≡◌, ◌≢◌, ℕ, ◌+◌, ◌≤◌, List, ◌∷◌, [], ◌++◌, set, true, false, Option, Some, None, IsOk, Result, MatchResult}
 use Rattle.rlsf_base.specs.Ledger.{Entry, Extent, entry_of, extent}
-use Rattle.rlsf_base.specs.OpenSpace.{IsOwned}
-use Rattle.rlsf_base.specs.Space.{Space}
 use Rattle.rlsf_model.specs.Callers.{align_at}
 use Rattle.rlsf_model.specs.NoMove.{ReallocatesUnmovedBy, unmoved_plan}
 use Rattle.rlsf_model.specs.Reallocate.{HasRoomToStay, Plan}
 use Rattle.rlsf_model.specs.Sized.{IsSizedFor, live_count}
-use Rattle.rlsf_model.specs.State.{State, Used, Holds, usable}
-use Rattle.rlsf_table.specs.Table.{Table}
-use Rattle.rlsf_blocks.specs.StandsFor.{contents, StandsFor}
+use Rattle.rlsf_model.specs.State.{State, Used, Holds}
 use Rattle.rlsf_heap.specs.declared.thin.ThinPayload.{ThinPayload}
 use Rattle.rlsf_heap.specs.Frame.{KeepsAllBounds}
 use Rattle.rlsf_heap.specs.Heap.{HeapView, IsWritten, PayloadView}
 use Rattle.rlsf_heap.specs.Replies.{IsReallocated, IsRefused, IsResized, LeavesOthers, WithinBounds}
 use Rattle.rlsf_heap.specs.ThinReplies.{MovesElsewhere}
-
--- this is true of the used block whose caller has the address, in each state that memory and table represent
-abbrev pub AtEachHeld : ℕ → ℕ → Space → Table → ℕ → (State → Used → Type 0) → Type 0
-AtEachHeld fllen sllen m t addr P = (s : State) (u : Used) → StandsFor fllen sllen (contents m t) s → Holds s addr u → P s u
-
--- this is true of that block, if the payload's usable bytes are the memory's own
-abbrev pub AtEachOwned : ℕ → ℕ → Space → Table → ℕ → (State → Used → Type 0) → Type 0
-AtEachOwned fllen sllen m t addr P = AtEachHeld fllen sllen m t addr (λ s u. IsOwned m (usable u) → P s u)
 
 -- within bounds that include the size and both alignments, the state after is sized for what the state before was sized for
 abbrev pub StaysSized : ℕ → ℕ → ℕ → ℕ → State → State → Type 0

@@ -3,7 +3,8 @@
 //!
 //! Read `payload.rt`, `handover.rt` and `heap.rt` first, then `deallocation.rt`, `reallocation.rt`, `pools.rt` and `reading.rt`. `apart.rt`
 //! states the laws of payloads that are out together. `thin.rt` has `ThinPayload`, a payload known by its address, with its calls in
-//! `thin_calls.rt`, `thin_reallocation.rt` and `thin_unknown_align.rt`. `units.rt` has the payloads that `rlsf_local_heap` uses.
+//! `thin_calls.rt`, `thin_reallocation.rt` and `thin_unknown_align.rt`. `resizing.rt` resizes either kind in place.
+//! `units.rt` has the payloads that `rlsf_local_heap` uses.
 //! `consistency.rt` reads the words of a pool again.
 //! `specs/Heap.antt` defines what contracts see.
 #![tactic(auto)]
@@ -17,6 +18,7 @@ mod payload;
 mod pools;
 mod reading;
 mod reallocation;
+mod resizing;
 mod thin;
 mod thin_calls;
 mod thin_reallocation;

@@ -11,7 +11,7 @@ ghost use Rattle.rlsf_heap.specs.Frame.{KeepsFrame, KeepsFrameMoving, KeepsSized
 use crate::heap::Heap;
 use crate::payload::Payload;
 use rlsf_base::memory::{Layout, Range};
-use rlsf_blocks::reallocation::{reallocate_block, resize_block};
+use rlsf_blocks::reallocation::reallocate_block;
 use rlsf_blocks::{load_usable_bytes, used_block};
 use rlsf_int::BitPattern;
 
@@ -102,23 +102,22 @@ impl<FLBitmap: BitPattern, SLBitmap: BitPattern, const FLLEN: usize, const SLLEN
         ensures frame { KeepsFrame self.old self.new }
         ensures touches { self.new.memory.touches ≤ self.old.memory.touches + 28 }
     {
-        let view = self.memory.view();
         let align = payload.align();
         let Ok(layout) = Layout::from_size_align(size, align) else {
+            // Opens the heap's invariant for the prover.
+            let _ = &self.memory;
             return Err(payload);
         };
-        let addr = payload.addr();
-        let len = payload.len();
-        payload.take_back(&mut self.memory, &mut self.ledger);
-        let block = used_block(&mut self.memory, view, addr, align);
-        if !resize_block(&mut self.memory, view, &mut self.table, block, addr, layout) {
-            let range = Range { start: addr, len };
-            let payload = Payload::hand_over(&mut self.memory, &mut self.ledger, range, align);
+        let (part, ticket) = payload.into_parts();
+        let (done, part, ticket) = self.resize_part(part, ticket, Some(align), layout);
+        let payload = Payload {
+            part,
+            align,
+            ticket,
+        };
+        if !done {
             return Err(payload);
         }
-        self.state.reallocate(SLLEN, addr, size);
-        let range = load_usable_bytes(&mut self.memory, addr);
-        let payload = Payload::hand_over(&mut self.memory, &mut self.ledger, range, align);
         Ok(payload)
     }
 }

@@ -1,66 +1,17 @@
 //! Reallocation of payloads that are known by their address alone, whatever their alignment is.
-ghost use Rattle.std.specs.Prelude.{◌≡◌, ◌≢◌, ◌≤◌, ◌<◌, ◌+◌, None, true, false, length, IfErr, IfOk, IsOk};
-ghost use Rattle.rlsf_base.specs.Ledger.{extent, IsIssued};
-ghost use Rattle.rlsf_base.specs.OpenSpace.{IsOwned, SameOwn, StaysHere};
-ghost use Rattle.rlsf_base.specs.SizeClass.{IsValid};
-ghost use Rattle.rlsf_model.specs.NoMove.{ReallocatesWithoutMove, unmoved_plan};
-ghost use Rattle.rlsf_model.specs.State.{Holds, State, Used, usable};
-ghost use Rattle.rlsf_table.specs.Counts.{Costs, Counts};
-ghost use Rattle.rlsf_blocks.specs.StandsFor.{contents, StandsFor};
-ghost use Rattle.rlsf_blocks.specs.Steps.Resize.{IsResized};
+ghost use Rattle.std.specs.Prelude.{◌≡◌, ◌≢◌, ◌≤◌, ◌+◌, None, length, IfErr, IfOk, IsOk};
+ghost use Rattle.rlsf_model.specs.NoMove.{ReallocatesWithoutMove};
 ghost use Rattle.rlsf_heap.specs.Heap.{IsWritten};
 ghost use Rattle.rlsf_heap.specs.Reallocation.{owned_by};
 ghost use Rattle.rlsf_heap.specs.Settled.{IsSettled};
 ghost use Rattle.rlsf_heap.specs.ThinReplies.{IsThin, thin_moved_to};
-ghost use Rattle.rlsf_heap.specs.ThinUnknownAlign.{AtEachHeld, AtEachOwned, HasRoom, HasRoomAny, IsRefusedAny, IsRefusedThere, IsResizedAny, IsResizedThere, KeepsSizedAny, StaysOrMoves, renewed_entries};
+ghost use Rattle.rlsf_heap.specs.ThinUnknownAlign.{HasRoom, HasRoomAny, IsRefusedAny, IsRefusedThere, IsResizedAny, IsResizedThere, KeepsSizedAny, StaysOrMoves};
 ghost use Rattle.rlsf_heap.specs.Frame.{KeepsFrame, KeepsSized};
 
 use crate::heap::Heap;
 use crate::thin::ThinPayload;
-use rlsf_base::memory::ledger::{Ledger, Ticket};
-use rlsf_base::memory::{Layout, OpenMemory, View};
-use rlsf_blocks::reallocation::resize_any_block;
-use rlsf_blocks::{load_block_of, load_usable_bytes};
+use rlsf_base::memory::Layout;
 use rlsf_int::BitPattern;
-use rlsf_table::ClassTable;
-
-// Gives the payload at `payload` the size of `layout` without moving it, as `resize_any_block` does. Its block is found in the memory.
-// Of `layout` only the size counts: the payload has any alignment. No usable byte of the payload may be out.
-//
-// Returns whether the bytes of its block and of a free block behind it suffice. If not, no byte and no block changes.
-fn resize_found<const FLLEN: usize, const SLLEN: usize>(
-    memory: &mut OpenMemory,
-    view: View,
-    table: &mut ClassTable<FLLEN, SLLEN>,
-    payload: usize,
-    layout: Layout,
-) -> bool
-    requires parameters { IsValid 128 128 FLLEN SLLEN }
-    requires used { (s : State) × (u : Used) × StandsFor FLLEN SLLEN (contents memory.old table.old) s × Holds s payload u × IsOwned memory.old (usable u) }
-    requires view { view ≡ memory.old.view }
-    ensures done { AtEachOwned FLLEN SLLEN memory.old table.old payload
-        (λ s u. result ≡ true → IsResized FLLEN SLLEN memory.old memory.new table.new s u layout.size payload) }
-    ensures refused { AtEachHeld FLLEN SLLEN memory.old table.old payload (λ s u. result ≡ false → unmoved_plan s u layout.size ≡ None) }
-    ensures unchanged { result ≡ false → Counts memory.old memory.new 4 × (table.new ≡ table.old) }
-    ensures costs { Costs memory.old memory.new 26 0 }
-    ensures own { SameOwn memory.old memory.new }
-    ensures here { StaysHere memory.old memory.new }
-{
-    let block = load_block_of(memory, payload);
-    // What lies before the payload in its block is shorter than the memory. So with any size the block's length fits in a word.
-    memory.is_below_limit();
-    resize_any_block(memory, view, table, block, payload, layout)
-}
-
-// Redeems a ticket, and returns one for another length, of the same address and alignment. It does nothing.
-fn renewed(ticket: Ticket, ledger: &mut Ledger, len: usize) -> Ticket
-    requires { ticket.name ≡ ledger.old.name }
-    ensures issued { IsIssued ledger.old.entries ticket.key (extent ticket.addr ticket.len ticket.align) }
-    ensures ticket { (result.name ≡ ticket.name) × (result.addr ≡ ticket.addr) × (result.len ≡ len) × (result.align ≡ ticket.align) }
-    ensures ledger { (ledger.new.name ≡ ledger.old.name) × (ledger.new.entries ≡ renewed_entries ledger.old.entries ticket.key (extent ticket.addr ticket.len ticket.align) len) }
-{
-    ticket
-}
 
 impl<FLBitmap: BitPattern, SLBitmap: BitPattern, const FLLEN: usize, const SLLEN: usize> Heap<
     FLBitmap,
@@ -97,21 +48,13 @@ impl<FLBitmap: BitPattern, SLBitmap: BitPattern, const FLLEN: usize, const SLLEN
         ensures frame { KeepsFrame self.old self.new }
         ensures touches { self.new.memory.touches ≤ self.old.memory.touches + 32 }
     {
-        let payload = payload.checked(&mut self.ledger);
-        let was = load_usable_bytes(&mut self.memory, addr);
-        let view = self.memory.view();
-        let (bytes, ticket) = unsafe { payload.into_parts() };
-        let part = unsafe { bytes.into_part(view, was) };
-        self.memory.put_back(part);
-        if !resize_found(&mut self.memory, view, &mut self.table, addr, layout) {
-            let same = self.memory.take_out(was);
-            return Err(ThinPayload::from_parts(addr, same, ticket));
+        let (part, ticket) = self.find_part(addr, payload);
+        let (done, part, ticket) = self.resize_part(part, ticket, None, layout);
+        let payload = ThinPayload::from_parts(addr, part, ticket);
+        if !done {
+            return Err(payload);
         }
-        self.state.reallocate(SLLEN, addr, layout.size());
-        let range = load_usable_bytes(&mut self.memory, addr);
-        let resized = self.memory.take_out(range);
-        let ticket = renewed(ticket, &mut self.ledger, range.len);
-        Ok(ThinPayload::from_parts(addr, resized, ticket))
+        Ok(payload)
     }
 
     /// Changes the size of a payload that is known by its address to that of `layout`, whatever its alignment is, and returns it by its

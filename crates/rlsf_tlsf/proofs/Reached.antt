@@ -10,7 +10,7 @@ use Rattle.rlsf_table.proofs.Costs.{Costs-counted, Costs-then}
 use Rattle.rlsf_blocks.specs.Laws.{read_from}
 use Rattle.rlsf_blocks.specs.StandsFor.{contents, StandsFor}
 use Rattle.rlsf_blocks.specs.Spare.{KeepsSpare}
-use Rattle.rlsf_blocks.proofs.RepresentedStates.Counted.{KeepsSpare-counted_first, StandsFor-counted}
+use Rattle.rlsf_blocks.proofs.RepresentedStates.Counted.{KeepsSpare-counted_first, KeepsSpare-counted_last, StandsFor-counted}
 use Rattle.rlsf_tlsf.specs.Cores.{IsCore, LeavesCore}
 use Rattle.rlsf_tlsf.specs.Steps.Moves.{bare}
 use Rattle.rlsf_tlsf.proofs.Arrivals.{arrived, bare-read_from}
@@ -63,4 +63,15 @@ module _ {m n : Space} {some : ℕ} (counts : Counts m n some) where
       costs = Costs-then (Costs-counted counts) left.costs;
       own = λ a inside. left.own a (omega (arith, inside, counts.start)) ∙ own-same m n counts.start counts.out a inside;
       here = λ a inside is. left.here a (omega (arith, inside, counts.start)) (out-same m n a counts.start counts.out ∙ is);
+    }
+
+    -- or after it
+    pub LeavesCore-counted_last : {o : Space} {y : Table} {j k : State} {most : ℕ} → LeavesCore fllen sllen o m y j k most → LeavesCore fllen sllen o n y j k (most + some)
+    LeavesCore-counted_last {o} {j = j} {k = k} left = record {
+      core = IsCore-counted left.core;
+      spare = subst (KeepsSpare o (read_from o j) n) (sym (read_from-counted k))
+          (KeepsSpare-counted_last m n counts.start counts.bytes counts.out (read_from o j) (read_from m k) o left.spare);
+      costs = Costs-then left.costs (Costs-counted counts);
+      own = λ a inside. own-same m n counts.start counts.out a (omega (arith, inside, left.costs.start)) ∙ left.own a inside;
+      here = λ a inside is. out-same m n a counts.start counts.out ∙ left.here a inside is;
     }

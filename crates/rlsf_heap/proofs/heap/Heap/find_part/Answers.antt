@@ -9,8 +9,8 @@ use Rattle.rlsf_heap.specs.Heap.{HeapView, Identity, IsHeap, PayloadView, heap_v
 use Rattle.rlsf_heap.specs.Raw.{bytes_of}
 use Rattle.rlsf_heap.proofs.Found.{found}
 use Rattle.rlsf_heap.proofs.PayloadsApart.{shown_live}
-use Rattle.rlsf_heap.proofs.ResizedThin.{payload_of_bytes, ticket_of_bytes}
 use Rattle.rlsf_heap.proofs.ThinPayloads as P
+use Rattle.rlsf_heap.proofs.ThinPayloads.{payload_of_bytes, ticket_of_bytes}
 use Rattle.rlsf_heap.proofs.heap.Heap.find_part.Goals as goal
 
 pub checked-payload-requires : goal.checked-payload-requires

@@ -25,9 +25,9 @@ use Rattle.rlsf_base.proofs.RawBlock.OwnerValues.{ticket_vals, ticket_Tells}
 use Rattle.rlsf_base.proofs.RawBlock.Values.{mark_val, mark_own, mark_made}
 use Rattle.rlsf_base.specs.contracts.memory.ledger.Ledger as ledger
 use Rattle.rlsf_base.specs.contracts.memory.ledger.Ticket as ticket
-use Rattle.rlsf_heap.specs.contracts.thin_unknown_align.renewed as f
-use Rattle.rlsf_heap.proofs.thin_unknown_align.renewed.Statement.{statement}
-use Rattle.rlsf_heap.proofs.thin_unknown_align.renewed.Code as code
+use Rattle.rlsf_heap.specs.contracts.resizing.renewed as f
+use Rattle.rlsf_heap.proofs.resizing.renewed.Statement.{statement}
+use Rattle.rlsf_heap.proofs.resizing.renewed.Code as code
 
 abbrev stayed : Stays f.ended.signature.params f.ended.kept
 stayed = (
