@@ -6,9 +6,11 @@ mod Found
 pub mod IdleRows
 pub mod Lent
 pub mod Moved
+pub mod NewSize
 mod Opened
 mod Placed
 pub mod Reached
+mod Relocated
 pub mod Removed
 pub mod Replied
 pub mod ResizedInPlace

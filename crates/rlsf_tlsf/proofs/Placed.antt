@@ -23,6 +23,14 @@ use Rattle.rlsf_blocks.proofs.Words.NeverOut.{here_free}
 use Rattle.rlsf_tlsf.specs.Cores.{IsPlaced}
 use Rattle.rlsf_tlsf.specs.Results.{IsAllocated}
 
+-- the bytes of a payload lie in the memory
+pub lies_used : {fllen sllen : ℕ} {m : Space} {table : Table} {s : State} → StandsFor fllen sllen (contents m table) s → (u : Used) → IsIn u s.used
+    → LiesIn (usable u) m.start (length m.bytes)
+lies_used v u i =
+    let is = v.well_formed.used u i in
+    let place = used_in_memory v.well_formed u i in
+    (omega (arith, place.0, IsUsed-after_start u is), omega (arith, place.1, is.within))
+
 module _ {fllen sllen : ℕ} {m n : Space} {table changed : Table} {s t : State} {size align addr : ℕ} (v : StandsFor fllen sllen (contents m table) s)
     (power : IsPowerOfTwo align) (places : Places sllen s size align addr t) (now : StandsFor fllen sllen (contents n changed) t) (own : SameOwn m n) where
   abbrev new : Used
@@ -44,12 +52,6 @@ module _ {fllen sllen : ℕ} {m n : Space} {table changed : Table} {s t : State}
       own-there m n (usable new) (omega (arith, fit.after_start, (free_in_memory v.well_formed f (is_free v f size align power places.chosen)).0)) own
       (own-inside m f (usable new) (omega (arith, fit.after_start))
       (omega (arith, fit.after_start, fit.before_end, placed-fits v.well_formed f size align power places.chosen)) (here_free v f (is_free v f size align power places.chosen)))
-
-  lies : LiesIn (usable new) n.start (length n.bytes)
-  lies =
-      let is = now.well_formed.used new is_new in
-      let place = used_in_memory now.well_formed new is_new in
-      (omega (arith, place.0, IsUsed-after_start new is), omega (arith, place.1, is.within))
 
   -- there are as many as the payload of the reference model has
   many : (usable new).len ≡ length (bytes_at t addr)
@@ -74,6 +76,6 @@ module _ {fllen sllen : ℕ} {m n : Space} {table changed : Table} {s t : State}
         long = long ∙ many ∙ ap (λ a. length (bytes_at t a)) (sym at);
         some = omega (arith, at, places.answer, payload_of-after places.range.start align);
         aligned = subst (λ a. a % align ≡ 0) (at_new ∙ sym at) (payload_of-aligned places.range.start align power);
-        lies = subst (λ q. LiesIn q n.start (length n.bytes)) same lies;
+        lies = subst (λ q. LiesIn q n.start (length n.bytes)) same (lies_used now new is_new);
         own = subst (IsOwned n) same owned;
       }

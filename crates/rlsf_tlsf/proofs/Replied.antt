@@ -1,5 +1,8 @@
--- What was allocated, as seen from another state before.
-use Rattle.std.proofs.Common.{◌≡◌, ℕ, ◌+◌, Option, Some, None, IfSome, sym, ◌∙◌, ap}
+-- What was allocated, as seen from another state before, and an address that is a number.
+use Rattle.std.proofs.Common.{◌≡◌, ℕ, ◌+◌, Option, Some, None, IfSome, IsSome, refl, sym, ◌∙◌, ap}
+use Rattle.std.proofs.lemmas.Option.{none-some}
+use Rattle.std.specs.declared.num.NonZeroUsize.{NonZeroUsize}
+use Rattle.rlsf_base.specs.Addr.{reply}
 use Rattle.rlsf_model.specs.Callers.{align_at, bytes_at}
 use Rattle.rlsf_model.specs.Sized.{live_count}
 use Rattle.rlsf_model.specs.State.{State}
@@ -9,6 +12,11 @@ use Rattle.rlsf_tlsf.specs.Results.{IsAllocated}
 pub some_more : {A : Type 0} {P Q : A → Type 0} (o : Option A) → ((x : A) → P x → Q x) → IfSome o P → IfSome o Q
 some_more None f p = tt
 some_more (Some x) f p = f x p
+
+-- an address was made of the number
+pub some_answer : (o : Option NonZeroUsize) (n : ℕ) → reply o ≡ Some n → IsSome o
+some_answer None n e = absurd (none-some n e)
+some_answer (Some x) n e = refl
 
 -- of a state before in which callers see the same
 pub IsAllocated-before : (s t after : State) (size align addr : ℕ) → align_at s ≡ align_at t → bytes_at s ≡ bytes_at t → live_count s ≡ live_count t

@@ -7,14 +7,14 @@ use Rattle.rlsf_table.proofs.Costs.{SamePlace-costs, copied_none}
 use Rattle.rlsf_table.proofs.Parameters.{IsValid-widest}
 use Rattle.rlsf_blocks.specs.Laws.{read_from}
 use Rattle.rlsf_tlsf.specs.Allocator.{allocator, IsAllocator, Stands, Steps}
-use Rattle.rlsf_tlsf.specs.Cores.{IsCore, LeavesCore}
+use Rattle.rlsf_tlsf.specs.Cores.{IsCore, LeavesCore, LeavesCoreCopying}
 use Rattle.rlsf_tlsf.specs.Results.{KeepsFrame}
 
 module _ {fl_bits sl_bits fllen sllen : ℕ} {m : Space} {x : Table} {j : State} (is : IsAllocator fl_bits sl_bits fllen sllen m x j) where
   pub core_of : fl_bits ≤ 128 → IsCore fllen sllen m x j
   core_of limit = record { valid = IsValid-widest limit is.valid; stands = is.stands; is_bare = is.is_bare }
 
-  module _ {n : Space} {y : Table} {k : State} {most : ℕ} (left : LeavesCore fllen sllen m n y j k most) where
+  module _ {n : Space} {y : Table} {k : State} {most copies : ℕ} (left : LeavesCoreCopying fllen sllen m n y j k most copies) where
     pub none_left : n.out ≡ []
     none_left = left.costs.none is.whole
 
@@ -25,5 +25,6 @@ module _ {fl_bits sl_bits fllen sllen : ℕ} {m : Space} {x : Table} {j : State}
     unfolding Steps Stands
     Steps-left step did = (did, record { stands = left.core.stands; whole = none_left }, left.spare)
 
-    pub frame-left : (read_from n k).chunks ≡ (read_from m j).chunks → KeepsFrame (allocator m x j) (allocator n y k)
-    frame-left chunks = record { chunks = chunks; place = SamePlace-costs left.costs; grow = left.costs.grow; copied = copied_none left.costs }
+  pub frame-left : {n : Space} {y : Table} {k : State} {most : ℕ} (left : LeavesCore fllen sllen m n y j k most)
+      → (read_from n k).chunks ≡ (read_from m j).chunks → KeepsFrame (allocator m x j) (allocator n y k)
+  frame-left left chunks = record { chunks = chunks; place = SamePlace-costs left.costs; grow = left.costs.grow; copied = copied_none left.costs }

@@ -26,18 +26,22 @@ pub record IsCore (fllen sllen : ℕ) (m : Space) (t : Table) (s : State) : Type
   -- what is kept of the state has no bytes of payloads
   pub is_bare : bare s ≡ s
 
--- what a call leaves of a core if it accesses so many words at most, and copies no byte
-pub record LeavesCore (fllen sllen : ℕ) (m n : Space) (t : Table) (s after : State) (most : ℕ) : Type 0 where
+-- what a call leaves of a core if it accesses so many words at most, and copies so many bytes
+pub record LeavesCoreCopying (fllen sllen : ℕ) (m n : Space) (t : Table) (s after : State) (most copies : ℕ) : Type 0 where
   -- it is a core
   pub core : IsCore fllen sllen n t after
   -- each byte that no block is made of, before and after, is as it was
   pub spare : KeepsSpare m (read_from m s) n (read_from n after)
   -- the memory stays where it is
-  pub costs : Costs m n most 0
+  pub costs : Costs m n most copies
   -- the same bytes are the memory's own
   pub own : SameOwn m n
   -- and what is here stays here
   pub here : StaysHere m n
+
+-- if it copies no byte
+abbrev pub LeavesCore : ℕ → ℕ → Space → Space → Table → State → State → ℕ → Type 0
+LeavesCore fllen sllen m n t s after most = LeavesCoreCopying fllen sllen m n t s after most 0
 
 -- at most so many words are accessed for the chunks of an inserted range
 abbrev pub insert_cost : ℕ → Range → ℕ

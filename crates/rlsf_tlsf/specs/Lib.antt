@@ -4,6 +4,7 @@ pub mod Bounds
 pub mod InPlace
 pub mod Lending
 pub mod CoreResizes
+pub mod Moving
 pub mod Cores
 pub mod Results
 pub mod Sizing

@@ -16,7 +16,10 @@ ghost use Rattle.rlsf_tlsf.specs.Bounds.{IfWithinBounds, KeepsAllBounds, KeepsBo
 ghost use Rattle.rlsf_tlsf.specs.Cores.{IsCore, IsOwnBlock, IsOwnPayload, IsPlaced, LeavesCore, append_cost, insert_cost};
 ghost use Rattle.rlsf_tlsf.specs.Results.{IsAppended, IsDeallocated, IsInserted, IsRemoved, IsUnchanged, KeepsFrameOfPools};
 
+mod moving;
+
 use crate::state::GhostState;
+pub use moving::reallocate_in;
 use rlsf_base::memory::{Layout, OpenMemory, Range};
 use rlsf_blocks::{
     allocate_range, append_chunks, deallocate_block, insert_chunks, load_block_of, remove_chunks,

@@ -3,7 +3,7 @@
 //! Read `specs/Allocator` (the allocator as contracts see it, and its steps) and `specs/Results` (what calls return, refuse and keep) first, then
 //! `src/tlsf`, which has `Tlsf` and its calls for payloads. `specs/Bounds` says what holds within the bounds that an allocator is sized for.
 //! `src/pools` has the calls for pools, `src/unknown_align` one for a payload of unknown alignment, and `src/zeroed` one that fills a payload.
-//! `src/core_calls` has what `rlsf_heap` shares, with definitions in `specs/Cores` and `specs/CoreResizes`. `specs/Lending` is for calls that lend bytes,
+//! `src/core_calls` has what `rlsf_heap` shares, with definitions in `specs/Cores`, `specs/CoreResizes` and `specs/Moving`. `specs/Lending` is for calls that lend bytes,
 //! and `specs/InPlace` for a payload's owner who writes it where it lies, as `rlsf_heap` has. `src/bitmaps` gives read access to the class table,
 //! `src/consistency` reads the words of a pool again, and `src/state` holds the ghost state. `specs/Steps` is for private functions.
 #![tactic(auto)]

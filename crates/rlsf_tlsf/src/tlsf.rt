@@ -19,11 +19,10 @@ ghost use Rattle.rlsf_table.specs.Table.{newest_of, of_class};
 ghost use Rattle.rlsf_blocks.specs.Spare.{IsSpareWord};
 
 use crate::core_calls::{
-    allocate_in, deallocate_block_in, deallocate_in, resize_block_in, resize_in,
+    allocate_in, deallocate_block_in, deallocate_in, reallocate_in, resize_block_in, resize_in,
 };
 use crate::state::GhostState;
 use rlsf_base::memory::{Addr, Layout, Memory, Range};
-use rlsf_blocks::reallocation::reallocate_block;
 use rlsf_blocks::{load_usable_bytes, usable_bytes, used_block};
 use rlsf_int::BitPattern;
 use rlsf_table::ClassTable;
@@ -208,19 +207,16 @@ impl<FLBitmap: BitPattern, SLBitmap: BitPattern, const FLLEN: usize, const SLLEN
         ensures frame { KeepsFrameMoving (at addr) layout.size self.old self.new }
         ensures touches { self.new.memory.touches ≤ self.old.memory.touches + 66 }
     {
-        let payload = addr.get();
-        let view = self.memory.inner.view();
-        let block = used_block(&mut self.memory.inner, view, payload, layout.align());
-        let moved = reallocate_block::<FLLEN, SLLEN, 1>(
+        match reallocate_in::<FLLEN, SLLEN, 1>(
             &mut self.memory.inner,
-            view,
             &mut self.table,
-            block,
-            payload,
+            &mut self.state,
+            addr.get(),
             layout,
-        )?;
-        self.state.reallocate(SLLEN, payload, layout.size());
-        NonZeroUsize::new(moved)
+        ) {
+            Some(to) => NonZeroUsize::new(to),
+            None => None,
+        }
     }
 
     /// Changes the size of the payload at `addr` to that of `layout` without moving it, and returns its address. It uses

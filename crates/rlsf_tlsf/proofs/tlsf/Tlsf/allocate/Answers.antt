@@ -1,7 +1,4 @@
-use Rattle.std.proofs.Common.{◌≡◌, ℕ, IsSome, Option, Some, None, arith, refl, sym, subst}
-use Rattle.std.proofs.lemmas.Option.{none-some}
-use Rattle.std.specs.declared.num.NonZeroUsize.{NonZeroUsize}
-use Rattle.rlsf_base.specs.Addr.{reply}
+use Rattle.std.proofs.Common.{Some, None, arith, sym, subst}
 use Rattle.rlsf_model.specs.Allocate.{Allocates}
 use Rattle.rlsf_model.proofs.Chunks.{chunks-allocated}
 use Rattle.rlsf_blocks.specs.Laws.{read_from}
@@ -9,6 +6,7 @@ use Rattle.rlsf_blocks.proofs.Words.NonZeroNumbers.{number, on_none, on_some}
 use Rattle.rlsf_tlsf.specs.Allocator.{Steps, allocator}
 use Rattle.rlsf_tlsf.specs.Results.{IsAllocated}
 use Rattle.rlsf_tlsf.proofs.Opened.{IsAllocator-opened, view-opened}
+use Rattle.rlsf_tlsf.proofs.Replied.{some_answer}
 use Rattle.rlsf_tlsf.proofs.Whole.{IsAllocator-left, Steps-left, frame-left, none_left, core_of}
 use Rattle.rlsf_tlsf.proofs.tlsf.Tlsf.allocate.Goals as goal
 
@@ -20,10 +18,6 @@ invariant_of-self-inside g c = none_left (IsAllocator-opened c.self-inside.view_
 
 pub invariant_of-self : goal.invariant_of-self
 invariant_of-self g c = IsAllocator-left (IsAllocator-opened c.self-inside.view_is c.self.invariant) c.allocate_in.ensures.left
-
-some_answer : (o : Option NonZeroUsize) (n : ℕ) → reply o ≡ Some n → IsSome o
-some_answer None n e = absurd (none-some n e)
-some_answer (Some x) n e = refl
 
 pub returns-in-Some : goal.returns-in-Some
 returns-in-Some g c =
