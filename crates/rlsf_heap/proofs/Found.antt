@@ -1,15 +1,12 @@
 -- A heap in which the length of a payload was found: only word accesses were counted.
-use Rattle.std.proofs.Common.{◌≡◌, ◌≢◌, ℕ, ◌+◌, Option, Some, arith, refl, sym, ap, subst, ◌∙◌}
+use Rattle.std.proofs.Common.{◌≡◌, ℕ, ◌+◌, Option, arith, refl, sym, ap, subst, ◌∙◌}
 use Rattle.rlsf_base.specs.declared.memory.range.Range.{Range}
 use Rattle.rlsf_base.specs.Layout.{IsLayout}
 use Rattle.rlsf_base.specs.OpenSpace.{IsAway}
 use Rattle.rlsf_base.specs.Piece.{Piece, piece_range}
-use Rattle.rlsf_model.specs.Callers.{align_at}
 use Rattle.rlsf_model.specs.State.{State}
-use Rattle.rlsf_model.proofs.CallerWords.{align_at-live}
-use Rattle.rlsf_model.proofs.Payloads.{IsUsed-after_start}
 use Rattle.rlsf_heap.specs.Frame.{KeepsBytes, KeepsFrame, KeepsHeap, KeepsSized}
-use Rattle.rlsf_heap.specs.Heap.{HeapView, IsOwners, PayloadView, Stands, Steps, payload_range, payload_view}
+use Rattle.rlsf_heap.specs.Heap.{HeapView, IsOwners, PayloadView, Steps, payload_range, payload_view}
 use Rattle.rlsf_heap.specs.Kept.{KeepsBytesBeside, KeepsSpareBytes, NoneBecomesRaw, NoneBecomesRawBeside}
 use Rattle.rlsf_heap.specs.Reallocation.{owned_by}
 use Rattle.rlsf_heap.specs.Replies.{IsReallocated, IsReallocatedHere, IsRefused, IsResized, IsReturned}
@@ -121,9 +118,3 @@ module _ {v w : HeapView} {p q : PayloadView} {addr align : ℕ} (f : IsFound v 
     returned = as_found to now thin (λ x from at wide made. IsReturned x.state new.state at from made) is.returned;
     unchanged = beside_found v (found v) new refl (payload_range p) (as_found to now thin (λ x from at wide made. KeepsBytesBeside x new (payload_range from)) is.unchanged);
   }
-
--- no payload is live at the address 0
-pub live_somewhere : (fllen sllen : ℕ) (v : HeapView) (step : State → Type 0) (a align : ℕ) → Steps fllen sllen v step → align_at v.state a ≡ Some align → a ≢ 0
-unfolding Steps Stands
-live_somewhere fllen sllen v step a align did live =
-    let (u, held, _) = align_at-live v.state a align live in λ e. omega (arith, e, held.1, IsUsed-after_start u (did.1.well_formed.used u held.0))

@@ -24,6 +24,7 @@ use Rattle.rlsf_blocks.proofs.Words.Stays.{Stays, Stays-same, Stays-then}
 use Rattle.rlsf_blocks.specs.Steps.Resize.{IsUsedAt}
 use Rattle.rlsf_tlsf.specs.Steps.Moves.{bare, reallocated}
 use Rattle.rlsf_tlsf.proofs.Arrivals.{arrived}
+use Rattle.rlsf_tlsf.proofs.NewSize.{holds_new, new, own_new}
 use Rattle.rlsf_heap.specs.Handover.{IsHandedOver, IsTakenBack}
 use Rattle.rlsf_heap.specs.Heap.{HeapView, IsHeap, IsTicketOf, PayloadView, Steps, heap_view, payload_range, payload_view}
 use Rattle.rlsf_heap.specs.Kept.{KeepsBytesBeside, KeepsSpareBytes, NoneBecomesRaw}
@@ -38,7 +39,6 @@ use Rattle.rlsf_heap.proofs.PayloadsApart.{redeemed_ticket}
 use Rattle.rlsf_heap.proofs.Reallocated.{Keeps-each}
 use Rattle.rlsf_heap.proofs.Reallocating.{IsBackIn, asked, bare_state, beside_in, block, bytes_are, counted, counted_here, counted_moved, counted_stayed, here as here_back}
 use Rattle.rlsf_heap.proofs.Reallocating.{held, here_still, issued_again, issued_anew, kept_moved, long_in, spare_in, stands, state, usable_is, used_at}
-use Rattle.rlsf_heap.proofs.Resized.{holds_new, new, own_new}
 use Rattle.rlsf_heap.proofs.Settled.{settled-back, settled-here, settled-inside, settled-left, settled-stays}
 use Rattle.rlsf_heap.proofs.ReallocationViews.{SeesChanged, aligns_view, alike_view, chunks_view, count_view, seen_changed, sized_view, stayed_changed}
 

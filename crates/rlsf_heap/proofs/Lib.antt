@@ -22,6 +22,7 @@ pub mod Resized
 pub mod ResizedParts
 pub mod Rewritten
 pub mod Settled
+mod TakenBack
 pub mod ThinPayloads
 pub mod ThinTickets
 pub mod ThinValues

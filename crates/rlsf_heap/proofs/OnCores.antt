@@ -11,7 +11,7 @@ use Rattle.rlsf_table.proofs.Parameters.{IsValid-widest}
 use Rattle.rlsf_blocks.specs.Laws.{read_from}
 use Rattle.rlsf_blocks.specs.Spare.{KeepsSpare}
 use Rattle.rlsf_blocks.proofs.Words.Stays.{Stays}
-use Rattle.rlsf_tlsf.specs.Cores.{IsCore, LeavesCore}
+use Rattle.rlsf_tlsf.specs.Cores.{IsCore, LeavesCore, LeavesCoreCopying}
 use Rattle.rlsf_heap.specs.Frame.{KeepsBytes, KeepsFrame, KeepsHeap}
 use Rattle.rlsf_heap.specs.Heap.{AreIssued, Identity, IsHeap, Stands, Steps, heap_view}
 use Rattle.rlsf_heap.specs.Kept.{KeepsSpareBytes, NoneBecomesRaw}
@@ -39,7 +39,7 @@ heap-over m n x y j k start long view grow spare ledger name same = record {
   grow = grow;
 }
 
-module _ {fllen sllen : ℕ} {m n : Space} {y : Table} {j k : State} {most : ℕ} (left : LeavesCore fllen sllen m n y j k most) where
+module _ {fllen sllen : ℕ} {m n : Space} {y : Table} {j k : State} {most copies : ℕ} (left : LeavesCoreCopying fllen sllen m n y j k most copies) where
   pub stays : Stays m n
   stays = record { start = left.costs.start; own = left.own; here = left.here }
 
@@ -66,5 +66,7 @@ module _ {fllen sllen : ℕ} {m n : Space} {y : Table} {j k : State} {most : ℕ
       unfolding NoneBecomesRaw
       bytes-left = record { raw = raw-stays stays; settled = settled-stays stays }
 
-      pub frame-left : (read_from n k).chunks ≡ (read_from m j).chunks → KeepsFrame (heap_view m x j ledger) (heap_view n y k ledger)
-      frame-left chunks = record { heap = heap-left; bytes = bytes-left; chunks = chunks; copied = omega (arith, left.costs.copied) }
+-- where no byte is copied
+module _ {fllen sllen : ℕ} {m n : Space} {y : Table} {j k : State} {most : ℕ} (left : LeavesCore fllen sllen m n y j k most) (ledger : ℕ) (x : Table) where
+  pub frame-left : (read_from n k).chunks ≡ (read_from m j).chunks → KeepsFrame (heap_view m x j ledger) (heap_view n y k ledger)
+  frame-left chunks = record { heap = heap-left left ledger x; bytes = bytes-left left ledger x; chunks = chunks; copied = omega (arith, left.costs.copied) }

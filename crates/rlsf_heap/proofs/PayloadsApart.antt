@@ -7,7 +7,7 @@ use Rattle.rlsf_base.specs.Range.{AreApart, end_of, range_at}
 use Rattle.rlsf_model.specs.Callers.{align_at, bytes_at}
 use Rattle.rlsf_model.specs.State.{State, Used}
 use Rattle.rlsf_model.specs.WellFormed.{IsWellFormed}
-use Rattle.rlsf_model.proofs.CallerWords.{align_at-held, bytes_at-held}
+use Rattle.rlsf_model.proofs.CallerWords.{align_at-held, align_at-live, bytes_at-held}
 use Rattle.rlsf_model.proofs.Live.{live_addresses_are_aligned}
 use Rattle.rlsf_model.proofs.Payloads.{IsUsed-after_start, IsUsed-some}
 use Rattle.rlsf_blocks.proofs.Words.Apart.{home_of_used, used_used}
@@ -40,6 +40,13 @@ module _ {fllen sllen : ℕ} {memory : Range} {s : State} (w : IsWellFormed flle
         let home = home_of_used w u is.1 in
         let of = w.used u is.1 in
         (home.chunk, home.is_chunk, omega (arith, home.from, IsUsed-after_start u of, is.2), omega (arith, home.to, of.within, is.2, is.3))
+
+  -- it is one of another state in which callers see the same at its address
+  pub payload_as : {other : Range} {t : State} → IsWellFormed fllen sllen other t → (v : Extent) → IsPayload s v → align_at t v.addr ≡ align_at s v.addr
+      → bytes_at t v.addr ≡ bytes_at s v.addr → IsPayload t v
+  payload_as {t = t} well v is aligns bytes =
+      let (u, holds, wide) = align_at-live t v.addr v.align (aligns ∙ shown_live v is) in
+      (u, holds.0, holds.1, sym (ap length (bytes_at-held well v.addr u holds) ∙ (well.used u holds.0).bytes) ∙ ap length bytes ∙ sym (shown_long v is), wide)
 
   -- payloads at two addresses have no byte in common
   pub shown_apart : (v x : Extent) → IsPayload s v → IsPayload s x → v.addr ≢ x.addr → AreApart (range_at v.addr v.len) (range_at x.addr x.len)

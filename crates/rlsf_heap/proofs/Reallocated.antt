@@ -11,7 +11,7 @@ use Rattle.rlsf_model.specs.State.{State, filled}
 use Rattle.rlsf_model.specs.WellFormed.{IsWellFormed}
 use Rattle.rlsf_model.proofs.CallerWords.{SeesFilled, align_at-live, filled_seen, resized_seen}
 use Rattle.rlsf_model.proofs.Chunks.{chunks-reallocated}
-use Rattle.rlsf_model.proofs.SizedWords.{count_filled, count_resized, never_refused_again, sized_filled, sized_resized}
+use Rattle.rlsf_model.proofs.SizedWords.{count_filled, count_resized, sized_filled, sized_resized}
 use Rattle.rlsf_model.proofs.Steps.{Fills-keeps}
 
 -- a payload has another size, at a new address or at its own, and all others are unchanged
@@ -55,12 +55,6 @@ module _ {fllen sllen : ℕ} {memory : Range} {s : State} (w : IsWellFormed flle
       pub sized_reallocated : (reply : Option ℕ) → Reallocates sllen now addr size reply t → IsSizedFor sllen count most wide t
       sized_reallocated reply step = sized_resized well_filled t count most wide (sized_filled w now count most wide is_sized addr bytes live_before fills) addr size align reply
           live_now short fits step
-
-      -- within the bounds that the state is sized for, it is never refused
-      pub never_refused_reallocation : live_count s ≤ count → Reallocates sllen now addr size None t → ⊥
-      never_refused_reallocation few step =
-          never_refused_again well_filled t count most wide (sized_filled w now count most wide is_sized addr bytes live_before fills) addr size align live_now
-          (subst (λ n. n ≤ count) (sym (count_filled w now addr bytes live_before fills)) few) short fits step
 
     pub reallocated_seen : (to : ℕ) → Reallocates sllen now addr size (Some to) t → SeesReallocated s t addr bytes size align to
     reallocated_seen to step =

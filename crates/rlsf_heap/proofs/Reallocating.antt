@@ -10,10 +10,9 @@ use Rattle.rlsf_model.specs.NoMove.{ReallocatesUnmovedBy, ReallocatesWithoutMove
 use Rattle.rlsf_model.specs.Reallocate.{Plan, Reallocates, ReallocatesBy, Replans, plan}
 use Rattle.rlsf_model.specs.Join.{join}
 use Rattle.rlsf_model.specs.Release.{released}
-use Rattle.rlsf_model.specs.Run.{Fills, reallocate}
+use Rattle.rlsf_model.specs.Run.{Fills}
 use Rattle.rlsf_model.specs.State.{State, Used, Holds, IsLive, filled, others, usable}
 use Rattle.rlsf_model.proofs.Changes.{Holds-unique, IsIn-others_from}
-use Rattle.rlsf_model.proofs.Determined.{refusal_changes_nothing}
 use Rattle.rlsf_model.proofs.NoMove.{unmoved_is_reallocated}
 use Rattle.rlsf_model.proofs.SizedWords.{count_filled, count_resized}
 use Rattle.rlsf_model.specs.Sized.{live_count}
@@ -27,11 +26,12 @@ use Rattle.rlsf_blocks.proofs.Words.Stays.{Stays}
 use Rattle.rlsf_blocks.specs.Steps.Resize.{IsUsedAt}
 use Rattle.rlsf_tlsf.specs.Steps.Moves.{bare, reallocated}
 use Rattle.rlsf_tlsf.proofs.Moved.{reallocated-bare}
+use Rattle.rlsf_tlsf.proofs.NewSize.{align_new, holds_new, new}
 use Rattle.rlsf_heap.specs.Heap.{AreIssued, IsHeap, IsPayload, IsTicketOf}
 use Rattle.rlsf_heap.proofs.Leaving.{lies-usable}
 use Rattle.rlsf_heap.proofs.PutBack.{bare-reread, others-filled, beside_back, bytes_back, fills_back, here_back, holds_back, issued-reread, long_back, read_back}
 use Rattle.rlsf_heap.proofs.PutBack.{spare_back, stands_back}
-use Rattle.rlsf_heap.proofs.Resized.{align_new, holds_new, new, others_there}
+use Rattle.rlsf_heap.proofs.Resized.{others_there}
 use Rattle.rlsf_heap.proofs.Tickets.{issued-less, issued-more, redeemed_other}
 
 -- a part was put back, whose ticket the ledger had issued
@@ -197,9 +197,6 @@ module _ {fllen sllen : ℕ} {m n : Space} {x : Table} {s : State} {es : List En
   kept_moved {addr} {size} {to} {t} {k} kept at step =
       (λ i. reallocated sllen (let e : addr ≡ block.payload = at ∙ sym held.1 in e i) size (sym (bare_state k kept) i))
       ∙ reallocated-bare stands.well_formed t block.payload size to step
-
-  pub refused_same : {size : ℕ} {t : State} → Reallocates sllen state block.payload size None t → t ≡ state
-  refused_same {size} {t} step = refusal_changes_nothing fllen sllen state t (reallocate block.payload size None) step refl
 
   -- ---- its tickets
 

@@ -1,69 +1,17 @@
--- A payload has another size: its bytes are the memory's own, and the other payloads are where they were.
-use Rattle.std.proofs.Common.{◌≡◌, ◌≢◌, ℕ, ◌≤◌, ◌<◌, Some, arith, refl, sym, ap, ◌∙◌}
+-- A payload has another size: the tickets of the other payloads are unchanged.
+use Rattle.std.proofs.Common.{◌≢◌, ℕ, Some, sym, ◌∙◌}
 use Rattle.rlsf_base.specs.Ledger.{Extent}
-use Rattle.rlsf_base.specs.OpenSpace.{IsOwned, SameOwn}
-use Rattle.rlsf_base.specs.Range.{end_of}
-use Rattle.rlsf_base.specs.Space.{Space, range_of}
-use Rattle.rlsf_base.proofs.Lending.Present.{own-there}
+use Rattle.rlsf_base.specs.Space.{Space}
 use Rattle.rlsf_model.specs.Lists.{IsIn}
 use Rattle.rlsf_model.specs.Reallocate.{Reallocates}
-use Rattle.rlsf_model.specs.Release.{released}
-use Rattle.rlsf_model.specs.Run.{reallocate}
-use Rattle.rlsf_model.specs.State.{State, Used, Holds, IsLive, usable}
-use Rattle.rlsf_model.proofs.Changes.{IsIn-others}
-use Rattle.rlsf_model.proofs.Live.{other_payloads_stay, reallocated_is_live}
-use Rattle.rlsf_model.proofs.Payloads.{IsUsed-after_start}
-use Rattle.rlsf_model.proofs.Releases.{IsWellFormed-released}
+use Rattle.rlsf_model.specs.State.{State, Used}
 use Rattle.rlsf_table.specs.Table.{Table}
 use Rattle.rlsf_blocks.specs.StandsFor.{contents, StandsFor}
-use Rattle.rlsf_blocks.proofs.Words.Apart.{Has, used_in_memory, used_used}
-use Rattle.rlsf_blocks.proofs.Words.NeverOut.{here_apart-in, here_released}
+use Rattle.rlsf_tlsf.proofs.NewSize.{other_place, stays}
 use Rattle.rlsf_heap.specs.Heap.{IsPayload}
 
 module _ {fllen sllen : ℕ} {m : Space} {table : Table} {s : State} (v : StandsFor fllen sllen (contents m table) s) (u : Used) (i : IsIn u s.used) (size to : ℕ) {t : State}
     (step : Reallocates sllen s u.payload size (Some to) t) where
-  live : IsLive t to u.align × ((other : ℕ) → IsLive s to other → to ≡ u.payload)
-  live = reallocated_is_live fllen sllen (range_of m) s t u.payload size to u.align v.well_formed (u, (i, refl), refl) step
-
-  -- the payload with the size
-  pub new : Used
-  new = live.0.0
-
-  pub holds_new : Holds t to new
-  unfolding new live
-  holds_new = live.0.1
-
-  pub align_new : new.align ≡ u.align
-  unfolding new live
-  align_new = live.0.2
-
-  -- no other payload was at its address
-  other_place : (y : Used) → IsIn y s.used → y.payload ≡ to → y.payload ≡ u.payload
-  other_place y j at = at ∙ live.1 y.align (y, (j, at), refl)
-
-  pub stays : (y : Used) → IsIn y s.used → y.payload ≢ u.payload → IsIn y t.used
-  stays y j apart = other_payloads_stay fllen sllen s t (reallocate u.payload size (Some to)) y step j (λ same. apart (sym same))
-
-  -- so the tickets of the other payloads are unchanged
   pub others_there : (w : Extent) → IsPayload s w → w.addr ≢ u.payload → IsPayload t w × (w.addr ≢ to)
-  others_there w (y, j, at, len, wide) apart = ((y, stays y j (λ same. apart (sym at ∙ same)), at, len, wide), λ is_to. apart (sym at ∙ other_place y j (at ∙ is_to)))
-
-  -- its bytes are the memory's own, where those of the old payload were
-  module _ (own : IsOwned m (usable u)) {n : Space} {x : Table} (w : StandsFor fllen sllen (contents n x) t) (start : n.start ≡ m.start) (same : SameOwn m n) where
-    from : m.start ≤ new.payload
-    from = omega (arith, start, (used_in_memory w.well_formed new holds_new.0).0, IsUsed-after_start new (w.well_formed.used new holds_new.0))
-
-    apart_from : (y : Used) → IsIn y (released s u).used → (a : ℕ) → y.payload ≤ a → a < end_of y.block → Has (usable new) a → ⊥
-    apart_from y k a low high has =
-        let (j, other) = IsIn-others u.payload y s.used k in
-        let there = stays y j other in
-        let same_block = used_used w.well_formed y new a there holds_new.0
-        (record { from = omega (arith, low, IsUsed-after_start y (v.well_formed.used y j)); to = high })
-        (record {
-          from = omega (arith, has.from, IsUsed-after_start new (w.well_formed.used new holds_new.0));
-          to = omega (arith, has.to, has.from, (w.well_formed.used new holds_new.0).within);
-        }) in
-        other (other_place y j (ap (λ (z : Used). z.payload) same_block ∙ holds_new.1))
-
-    pub own_new : IsOwned n (usable new)
-    own_new = own-there m n (usable new) from same (here_apart-in m (IsWellFormed-released v.well_formed u i) (here_released v u i own) (usable new) from apart_from)
+  others_there w (y, j, at, len, wide) apart =
+      ((y, stays v u i size to step y j (λ same. apart (sym at ∙ same)), at, len, wide), λ is_to. apart (sym at ∙ other_place v u i size to step y j (at ∙ is_to)))

@@ -27,10 +27,11 @@ use Rattle.rlsf_blocks.specs.Steps.Resize.{IsOwnedBehind}
 use Rattle.rlsf_blocks.proofs.Reallocate.NextPlans.{in_place-fits, kept_whole}
 use Rattle.rlsf_tlsf.specs.Steps.Moves.{bare, reallocated}
 use Rattle.rlsf_tlsf.proofs.Moved.{reallocated-bare}
+use Rattle.rlsf_tlsf.proofs.NewSize.{align_new, holds_new, new, stays}
 use Rattle.rlsf_heap.specs.Heap.{AreIssued, IsPayload}
 use Rattle.rlsf_heap.specs.Units.{payload_len}
 use Rattle.rlsf_heap.proofs.Read.{out-back, out-left, stands_same}
-use Rattle.rlsf_heap.proofs.Resized.{align_new, holds_new, new, others_there, stays}
+use Rattle.rlsf_heap.proofs.Resized.{others_there}
 use Rattle.rlsf_heap.proofs.Tickets.{issued-less, issued-more, redeemed_apart}
 use Rattle.rlsf_heap.proofs.UnitPayloads.{payload-narrow}
 

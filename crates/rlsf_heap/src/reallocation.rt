@@ -11,9 +11,9 @@ ghost use Rattle.rlsf_heap.specs.Frame.{KeepsFrame, KeepsFrameMoving, KeepsSized
 use crate::heap::Heap;
 use crate::payload::Payload;
 use rlsf_base::memory::{Layout, Range};
-use rlsf_blocks::reallocation::reallocate_block;
 use rlsf_blocks::{load_usable_bytes, used_block};
 use rlsf_int::BitPattern;
+use rlsf_tlsf::core_calls::reallocate_in;
 
 impl<FLBitmap: BitPattern, SLBitmap: BitPattern, const FLLEN: usize, const SLLEN: usize> Heap<
     FLBitmap,
@@ -50,7 +50,8 @@ impl<FLBitmap: BitPattern, SLBitmap: BitPattern, const FLLEN: usize, const SLLEN
         ensures frame { KeepsFrameMoving self.old self.new payload.start size payload }
         ensures touches { self.new.memory.touches ≤ self.old.memory.touches + 69 }
     {
-        let view = self.memory.view();
+        // Opens the heap's invariant for the prover, also for the case that no layout has the size.
+        let _ = self.memory.view();
         let align = payload.align();
         let Ok(layout) = Layout::from_size_align(size, align) else {
             return Err(payload);
@@ -58,12 +59,10 @@ impl<FLBitmap: BitPattern, SLBitmap: BitPattern, const FLLEN: usize, const SLLEN
         let addr = payload.addr();
         let len = payload.len();
         payload.take_back(&mut self.memory, &mut self.ledger);
-        let block = used_block(&mut self.memory, view, addr, align);
-        let moved = reallocate_block::<FLLEN, SLLEN, 0>(
+        let moved = reallocate_in::<FLLEN, SLLEN, 0>(
             &mut self.memory,
-            view,
             &mut self.table,
-            block,
+            &mut self.state,
             addr,
             layout,
         );
@@ -72,7 +71,6 @@ impl<FLBitmap: BitPattern, SLBitmap: BitPattern, const FLLEN: usize, const SLLEN
             let payload = Payload::hand_over(&mut self.memory, &mut self.ledger, range, align);
             return Err(payload);
         };
-        self.state.reallocate(SLLEN, addr, size);
         let range = load_usable_bytes(&mut self.memory, to);
         let payload = Payload::hand_over(&mut self.memory, &mut self.ledger, range, align);
         Ok(payload)

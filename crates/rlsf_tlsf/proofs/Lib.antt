@@ -10,7 +10,7 @@ pub mod NewSize
 mod Opened
 mod Placed
 pub mod Reached
-mod Relocated
+pub mod Relocated
 pub mod Removed
 pub mod Replied
 pub mod ResizedInPlace
