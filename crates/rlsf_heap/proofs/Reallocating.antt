@@ -12,7 +12,7 @@ use Rattle.rlsf_model.specs.Join.{join}
 use Rattle.rlsf_model.specs.Release.{released}
 use Rattle.rlsf_model.specs.Run.{Fills}
 use Rattle.rlsf_model.specs.State.{State, Used, Holds, IsLive, filled, others, usable}
-use Rattle.rlsf_model.proofs.Changes.{Holds-unique, IsIn-others_from}
+use Rattle.rlsf_model.proofs.Changes.{Holds-unique}
 use Rattle.rlsf_model.proofs.NoMove.{unmoved_is_reallocated}
 use Rattle.rlsf_model.proofs.SizedWords.{count_filled, count_resized}
 use Rattle.rlsf_model.specs.Sized.{live_count}
@@ -259,13 +259,3 @@ module _ {fllen sllen : ℕ} {m n : Space} {x : Table} {s : State} {es : List En
       let used : others block.payload state.used ≡ others old_block.payload s.used =
       (λ i. others (held.1 i) (is_state i).used) ∙ others-filled p.start p.bytes s.used ∙ ap (λ a. others a s.used) (sym held_old.1) in
       λ i. record { chunks = s.chunks; used = used i; free = join old_block.block s.free }
-
-  pub issued_gone : AreIssued (released s old_block) (set es key (entry_of shown false))
-  issued_gone = record {
-    issued = λ j w was.
-        let (other, before) = redeemed_other es key shown b.known j w was in
-        let (x, i, at, as_long, as_wide) = b.tickets.issued j w before in
-        let differ : x.payload ≢ old_block.payload = λ same. other (b.tickets.apart j key w shown before b.known (sym at ∙ same ∙ held_old.1)) in
-        (x, IsIn-others_from old_block.payload x s.used i differ, at, as_long, as_wide);
-    apart = (issued-less es key shown b.known s b.tickets).apart;
-  }

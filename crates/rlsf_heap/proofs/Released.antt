@@ -1,5 +1,5 @@
 -- Deallocation: the bytes of a payload are back in the memory, and its block is released.
-use Rattle.std.proofs.Common.{◌≡◌, ◌≢◌, ℕ, ◌-◌, ◌<◌, ◌≤◌, ◌⊎◌, false, List, length, set, arith, inl, inr, sym, ap, subst, ◌∙◌}
+use Rattle.std.proofs.Common.{◌≡◌, ◌≢◌, ℕ, ◌+◌, ◌-◌, ◌<◌, ◌≤◌, ◌⊎◌, false, List, length, set, arith, inl, inr, sym, ap, subst, ◌∙◌}
 use Rattle.rlsf_base.specs.declared.memory.range.Range.{Range}
 use Rattle.rlsf_base.specs.Ledger.{Entry, entry_of, extent, IsIssued}
 use Rattle.rlsf_base.specs.Out.{raw, is_own, kept_at}
@@ -9,6 +9,7 @@ use Rattle.rlsf_base.specs.Range.{LiesIn, end_of}
 use Rattle.rlsf_base.specs.Space.{Space}
 use Rattle.rlsf_base.proofs.Changes.{changed-there}
 use Rattle.rlsf_model.specs.Release.{Deallocates, released}
+use Rattle.rlsf_model.specs.Sized.{live_count}
 use Rattle.rlsf_model.specs.State.{State, Used, Holds, usable}
 use Rattle.rlsf_model.specs.WellFormed.{IsWellFormed}
 use Rattle.rlsf_model.proofs.CallerWords.{gone_seen}
@@ -16,11 +17,14 @@ use Rattle.rlsf_model.proofs.Changes.{Holds-unique, IsIn-others_from}
 use Rattle.rlsf_model.proofs.Payloads.{IsUsed-after_start}
 use Rattle.rlsf_model.proofs.SizedWords.{count_gone, sized_gone}
 use Rattle.rlsf_table.specs.Table.{Table}
+use Rattle.rlsf_blocks.specs.Laws.{read_from}
 use Rattle.rlsf_blocks.specs.StandsFor.{contents, StandsFor}
 use Rattle.rlsf_blocks.proofs.Words.Apart.{used_in_memory}
 use Rattle.rlsf_heap.specs.Frame.{KeepsAllBounds}
-use Rattle.rlsf_heap.specs.Heap.{AreIssued, IsPayload, IsTicketOf}
+use Rattle.rlsf_tlsf.specs.Cores.{LeavesCore}
+use Rattle.rlsf_heap.specs.Heap.{AreIssued, IsHeap, IsPayload, IsTicketOf}
 use Rattle.rlsf_heap.specs.Replies.{IsGone}
+use Rattle.rlsf_heap.proofs.OnCores.{IsHeap-left}
 use Rattle.rlsf_heap.proofs.Read.{out-back, stands_same}
 use Rattle.rlsf_heap.proofs.Tickets.{redeemed_other}
 
@@ -88,3 +92,18 @@ redeemed es fs p k align addr len wide ticket entries = (λ i. set es k (entry_o
 
 pub issued-as : {s t : State} {es fs : List Entry} → s ≡ t → es ≡ fs → AreIssued s es → AreIssued t fs
 issued-as {t = t} {es = es} same entries is = subst (AreIssued t) entries (subst (λ (x : State). AreIssued x es) same is)
+
+-- what the heap is after the call on its core
+module _ {fl_bits sl_bits fllen sllen : ℕ} {m q n : Space} {x y : Table} {j k : State} {es : List Entry} {count key align most : ℕ} (p : Piece)
+    (is : IsHeap fl_bits sl_bits fllen sllen m x j es count) (known : IsIssued es key (extent p.start (length p.bytes) align)) (left : LeavesCore fllen sllen q n y j k most)
+    (did : Deallocates (read_from m j) p.start (read_from n k)) where
+  pub one_less : count ≡ live_count (read_from n k) + 1
+  one_less = is.counted ∙ (gone is.stands.well_formed did).count
+
+  pub IsHeap-gone : {addr len wide : ℕ} → IsTicketOf p align (extent addr len wide) → (fs : List Entry) → fs ≡ set es key (entry_of (extent addr len wide) false)
+      → IsHeap fl_bits sl_bits fllen sllen n y k fs (count - 1)
+  IsHeap-gone {addr} {len} {wide} ticket fs entries =
+      IsHeap-left left is.valid fs
+      (issued-as (is_released is.stands.well_formed did (u is.stands is.tickets key p align known) (holds is.stands is.tickets key p align known))
+      (redeemed es fs p key align addr len wide ticket entries) (issued-released is.stands is.tickets key p align known))
+      (count - 1) (omega (arith, one_less))

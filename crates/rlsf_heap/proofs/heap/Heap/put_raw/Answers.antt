@@ -1,4 +1,4 @@
-use Rattle.std.proofs.Common.{◌≡◌, ◌-◌, length, arith, sym, ap, subst, ◌∙◌}
+use Rattle.std.proofs.Common.{◌≡◌, length, arith, sym, ap, subst, ◌∙◌}
 use Rattle.rlsf_base.specs.Ledger.{IsIssued, extent}
 use Rattle.rlsf_base.specs.Piece.{piece_range}
 use Rattle.rlsf_model.specs.Release.{Deallocates}
@@ -12,9 +12,9 @@ use Rattle.rlsf_tlsf.proofs.Reached.{read_from-same}
 use Rattle.rlsf_heap.specs.Heap.{HeapView, Identity}
 use Rattle.rlsf_heap.specs.Kept.{NoneBecomesRawBeside}
 use Rattle.rlsf_heap.proofs.Kept.{raw-back, spare-first}
-use Rattle.rlsf_heap.proofs.OnCores.{IsHeap-left, Steps-left, heap-over, stays}
+use Rattle.rlsf_heap.proofs.OnCores.{Steps-left, heap-over, stays}
 use Rattle.rlsf_heap.proofs.PayloadsApart.{shown_live}
-use Rattle.rlsf_heap.proofs.Released.{back-here, bounds_gone, gone, holds, is_released, issued-as, issued-released, lies, redeemed, stands-back, u}
+use Rattle.rlsf_heap.proofs.Released.{IsHeap-gone, back-here, bounds_gone, gone, holds, lies, one_less, stands-back, u}
 use Rattle.rlsf_heap.proofs.heap.Heap.put_raw.Given as given
 use Rattle.rlsf_heap.proofs.heap.Heap.put_raw.Goals as goal
 use Rattle.rlsf_heap.proofs.heap.Heap.put_raw.Goals.{After-put_room, After-deallocate_in}
@@ -67,18 +67,12 @@ did g c =
 pub overflow_sub-self : goal.overflow_sub-self
 overflow_sub-self g c =
     let d = (goal.at.overflow_sub-self g c).After-deallocate_in in
-    omega (arith, c.self.invariant.counted, (gone c.self.invariant.stands.well_formed (did g d)).count)
+    omega (arith, one_less c.args.part c.self.invariant (known g (goal.at.overflow_sub-self g c).After-put_room) c.deallocate_in.ensures.left (did g d))
 
 pub invariant_of-self : goal.invariant_of-self
 invariant_of-self g c =
-    let is = c.self.invariant in
-    let d = (goal.at.invariant_of-self g c).After-put_room in
-    let e = (goal.at.invariant_of-self g c).After-deallocate_in in
-    let k = c.args.ticket.key in
-    IsHeap-left c.deallocate_in.ensures.left is.valid c.redeem.new.self.entries
-    (issued-as (is_released is.stands.well_formed (did g e) (block g d) (held g d)) (redeemed _ _ c.args.part k _ _ _ _ c.requires.ticket c.redeem.ensures.entries)
-    (issued-released is.stands is.tickets k c.args.part c.args.ticket.align (known g d)))
-    (c.self.inside.live - 1) (omega (arith, is.counted, (gone is.stands.well_formed (did g e)).count))
+    let d = (goal.at.invariant_of-self g c).After-deallocate_in in
+    IsHeap-gone c.args.part c.self.invariant (known g (goal.at.invariant_of-self g c).After-put_room) c.deallocate_in.ensures.left (did g d) c.requires.ticket c.redeem.new.self.entries c.redeem.ensures.entries
 
 pub returns : goal.returns
 unfolding NoneBecomesRawBeside

@@ -1,4 +1,4 @@
-use Rattle.std.proofs.Common.{◌≡◌, ◌≤◌, ◌-◌, length, arith, refl, sym, ap, subst, ◌∙◌}
+use Rattle.std.proofs.Common.{◌≡◌, ◌≤◌, length, arith, refl, sym, ap, subst, ◌∙◌}
 use Rattle.rlsf_base.specs.Ledger.{extent}
 use Rattle.rlsf_base.specs.Piece.{piece_range}
 use Rattle.rlsf_base.proofs.Lending.Present.{own-here}
@@ -14,10 +14,10 @@ use Rattle.rlsf_heap.specs.Heap.{HeapView, Identity}
 use Rattle.rlsf_heap.specs.Kept.{NoneBecomesRaw}
 use Rattle.rlsf_heap.proofs.Kept.{raw-stays, raw-with, spare-then}
 use Rattle.rlsf_heap.proofs.Leaving.{lies-usable}
-use Rattle.rlsf_heap.proofs.OnCores.{IsHeap-left, Steps-left, heap-over, stays}
+use Rattle.rlsf_heap.proofs.OnCores.{Steps-left, heap-over, stays}
 use Rattle.rlsf_heap.proofs.PayloadsApart.{shown_live}
-use Rattle.rlsf_heap.proofs.Reallocating.{IsBackIn, block, came, held, held_before, here, issued_gone, long_in, old_block, released_back, spare_in, stands, state}
-use Rattle.rlsf_heap.proofs.Released.{bounds_gone, gone, is_released, issued-as, redeemed}
+use Rattle.rlsf_heap.proofs.Reallocating.{IsBackIn, block, came, held, held_before, here, long_in, old_block, released_back, spare_in, stands, state}
+use Rattle.rlsf_heap.proofs.Released.{IsHeap-gone, bounds_gone, gone, is_released, one_less}
 use Rattle.rlsf_heap.proofs.Settled.{settled-back, settled-stays}
 use Rattle.rlsf_heap.proofs.heap.Heap.put_written.Given as given
 use Rattle.rlsf_heap.proofs.heap.Heap.put_written.Goals as goal
@@ -73,18 +73,12 @@ did g c =
 pub overflow_sub-self : goal.overflow_sub-self
 overflow_sub-self g c =
     let d = (goal.at.overflow_sub-self g c).After-deallocate_in in
-    omega (arith, c.self.invariant.counted, (gone c.self.invariant.stands.well_formed (did g d)).count)
+    omega (arith, one_less c.args.part c.self.invariant (back_in g (goal.at.overflow_sub-self g c).After-put_back).known c.deallocate_in.ensures.left (did g d))
 
 pub invariant_of-self : goal.invariant_of-self
 invariant_of-self g c =
-    let is = c.self.invariant in
-    let e = (goal.at.invariant_of-self g c).After-deallocate_in in
-    let b = back_in g (goal.at.invariant_of-self g c).After-put_back in
-    let k = c.args.ticket.key in
-    IsHeap-left c.deallocate_in.ensures.left is.valid c.redeem.new.self.entries
-    (issued-as (is_released is.stands.well_formed (did g e) (old_block b) (held_before b)) (redeemed _ _ c.args.part k _ _ _ _ c.requires.ticket c.redeem.ensures.entries)
-    (issued_gone b))
-    (c.self.inside.live - 1) (omega (arith, is.counted, (gone is.stands.well_formed (did g e)).count))
+    let d = (goal.at.invariant_of-self g c).After-deallocate_in in
+    IsHeap-gone c.args.part c.self.invariant (back_in g (goal.at.invariant_of-self g c).After-put_back).known c.deallocate_in.ensures.left (did g d) c.requires.ticket c.redeem.new.self.entries c.redeem.ensures.entries
 
 pub returns : goal.returns
 unfolding NoneBecomesRaw
