@@ -40,6 +40,7 @@ use Rattle.rlsf_heap.proofs.Reallocated.{Keeps-each}
 use Rattle.rlsf_heap.proofs.Reallocating.{IsBackIn, asked, bare_state, beside_in, block, bytes_are, counted, counted_here, counted_moved, counted_stayed, here as here_back}
 use Rattle.rlsf_heap.proofs.Reallocating.{held, here_still, issued_again, issued_anew, kept_moved, long_in, spare_in, stands, state, usable_is, used_at}
 use Rattle.rlsf_heap.proofs.Settled.{settled-back, settled-here, settled-inside, settled-left, settled-stays}
+use Rattle.rlsf_heap.proofs.TakenBack as back
 use Rattle.rlsf_heap.proofs.ReallocationViews.{SeesChanged, aligns_view, alike_view, chunks_view, count_view, seen_changed, sized_view, stayed_changed}
 
 -- a payload is that of its bytes
@@ -72,20 +73,13 @@ module _ {fl_bits sl_bits fllen sllen : ℕ} {m n : Space} {x : Table} {k : Stat
     (pay : PayloadView) (taken : IsTakenBack m n es fs pay) where
   -- the entry of its ticket
   abbrev pub key : ℕ
-  key = (redeemed_ticket pay es fs taken.entries).0
+  key = back.key is pay taken
 
   redeemed : fs ≡ set es key (entry_of (extent pay.start (length pay.bytes) pay.align) false)
   redeemed = (redeemed_ticket pay es fs taken.entries).2
 
   pub back_in : IsBackIn fllen sllen m n x (read_from m k) es key (bytes_of pay) pay.align
-  back_in = record {
-    old = is.stands;
-    tickets = is.tickets;
-    known = (redeemed_ticket pay es fs taken.entries).1;
-    start = taken.start;
-    bytes = taken.bytes;
-    out = taken.out;
-  }
+  back_in = back.back_in is pay taken
 
   ticket : IsTicketOf (bytes_of pay) pay.align (extent pay.start (length pay.bytes) pay.align)
   ticket = (refl, refl, refl)

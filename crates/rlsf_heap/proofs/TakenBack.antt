@@ -41,16 +41,16 @@ use Rattle.rlsf_heap.specs.Frame.{KeepsBytes, KeepsFrameMoving, KeepsHeap, Keeps
 use Rattle.rlsf_heap.specs.Handover.{IsHandedOver, IsTakenBack}
 use Rattle.rlsf_heap.specs.Heap.{AreIssued, IsHeap, IsWritten, PayloadView, Steps, heap_view, payload_range}
 use Rattle.rlsf_heap.specs.Kept.{KeepsBytesBeside, NoneBecomesRaw}
+use Rattle.rlsf_heap.specs.Raw.{bytes_of}
 use Rattle.rlsf_heap.specs.Reallocation.{owned_by}
 use Rattle.rlsf_heap.specs.Settled.{IsSettled}
 use Rattle.rlsf_heap.proofs.Arrivals.{IsHeap-arrived, Steps-arrived}
-use Rattle.rlsf_heap.proofs.HandedOver.{back_in, key}
 use Rattle.rlsf_heap.proofs.Kept.{raw-left, raw-stays, raw-with, same-byte, spare-last, spare-then}
 use Rattle.rlsf_heap.proofs.Leaving.{lies-usable, stands-without}
 use Rattle.rlsf_heap.proofs.OnCores.{heap-over, same_identity, stays}
 use Rattle.rlsf_heap.proofs.PayloadsApart.{payload_as, redeemed_ticket, shown_live}
 use Rattle.rlsf_heap.proofs.PutBack.{issued-reread}
-use Rattle.rlsf_heap.proofs.Reallocating.{beside_in, block, fills, held, held_before, here as here_back, is_state, long, old_block, spare_in, stands, state, wide}
+use Rattle.rlsf_heap.proofs.Reallocating.{IsBackIn, beside_in, block, fills, held, held_before, here as here_back, is_state, long, old_block, spare_in, stands, state, wide}
 use Rattle.rlsf_heap.proofs.Settled.{settled-back, settled-here, settled-left, settled-stays}
 use Rattle.rlsf_heap.proofs.Tickets.{issued-less, issued-more, redeemed_apart}
 
@@ -88,28 +88,48 @@ Counts-none m = record { start = refl; bytes = refl; touches = omega arith; grow
 
 module _ {fl_bits sl_bits fllen sllen : ℕ} {m n : Space} {x : Table} {j : State} {es fs : List Entry} {count : ℕ} (is : IsHeap fl_bits sl_bits fllen sllen m x j es count)
     (pay : PayloadView) (taken : IsTakenBack m n es fs pay) where
-  same : state (back_in is pay taken) ≡ read_from n j
+  -- the entry of its ticket
+  abbrev pub key : ℕ
+  key = (redeemed_ticket pay es fs taken.entries).0
+
+  abbrev shown : Extent
+  shown = extent pay.start (length pay.bytes) pay.align
+
+  known : IsIssued es key shown
+  known = (redeemed_ticket pay es fs taken.entries).1
+
+  pub back_in : IsBackIn fllen sllen m n x (read_from m j) es key (bytes_of pay) pay.align
+  back_in = record {
+    old = is.stands;
+    tickets = is.tickets;
+    known = known;
+    start = taken.start;
+    bytes = taken.bytes;
+    out = taken.out;
+  }
+
+  same : state back_in ≡ read_from n j
   same = read_from-read_from n m j
 
   -- the core that the call is passed, and the payload in it
   pub core_back : fl_bits ≤ 128 → IsCore fllen sllen n x j
   core_back limit = record {
     valid = IsValid-widest limit is.valid;
-    stands = subst (StandsFor fllen sllen (contents n x)) same (stands (back_in is pay taken));
+    stands = subst (StandsFor fllen sllen (contents n x)) same (stands back_in);
     is_bare = is.is_bare;
   }
 
   pub payload_back : {addr align : ℕ} → addr ≡ pay.start → align ≡ pay.align → IsHerePayload n (read_from n j) addr align
   payload_back {addr} at aligned =
-      let b = back_in is pay taken in
+      let b = back_in in
       (block b, subst (λ (s : State). Holds s addr (block b)) same ((held b).0, (held b).1 ∙ sym at), wide b ∙ sym aligned, here_back b)
 
   -- the state in which the payload has the bytes that its owner wrote
   pub owned_back : read_from n j ≡ owned_by (read_from m j) pay
-  owned_back = sym same ∙ is_state (back_in is pay taken)
+  owned_back = sym same ∙ is_state back_in
 
   filled : Fills (read_from m j) pay.start pay.bytes (read_from n j)
-  filled = subst (Fills (read_from m j) pay.start pay.bytes) (sym owned_back) (fills (back_in is pay taken))
+  filled = subst (Fills (read_from m j) pay.start pay.bytes) (sym owned_back) (fills back_in)
 
   pub seen_back : SeesFilled (read_from m j) (read_from n j) pay.start pay.bytes
   seen_back = filled_seen is.stands.well_formed (read_from n j) pay.start pay.bytes filled
@@ -126,37 +146,28 @@ module _ {fl_bits sl_bits fllen sllen : ℕ} {m n : Space} {x : Table} {j : Stat
 
   pub room_back : (size : ℕ) → HasRoomToStay (read_from m j) pay.start size → HasRoomToStay (read_from n j) pay.start size
   room_back size room =
-      let b = back_in is pay taken in
+      let b = back_in in
       let (u, q, holds, first) = room in
       let one : u ≡ old_block b = Holds-unique is.stands.well_formed pay.start u (old_block b) holds (held_before b) in
       (block b, q, subst (λ (s : State). Holds s pay.start (block b)) same (held b), subst (λ (y : Used). unmoved_plan (read_from m j) y size ≡ Some q) one first)
 
   -- the tickets without its own
-  shown : Extent
-  shown = extent pay.start (length pay.bytes) pay.align
-
-  known : IsIssued es (key is pay taken) shown
-  unfolding shown
-  known = (redeemed_ticket pay es fs taken.entries).1
-
   there : AreIssued (read_from n j) es
   there = subst (λ (s : State). AreIssued s es) same (issued-reread n (read_from m j) es is.tickets)
 
   less : AreIssued (read_from n j) fs
-  unfolding shown
-  less = subst (AreIssued (read_from n j)) (sym (redeemed_ticket pay es fs taken.entries).2) (issued-less es (key is pay taken) shown known (read_from n j) there)
+  less = subst (AreIssued (read_from n j)) (sym (redeemed_ticket pay es fs taken.entries).2) (issued-less es key shown known (read_from n j) there)
 
   other : (i : ℕ) (w : Extent) → IsIssued fs i w → w.addr ≢ pay.start
-  unfolding shown
   other i w issued =
-      redeemed_apart es (key is pay taken) shown known (read_from n j) there i w (subst (λ (l : List Entry). IsIssued l i w) (redeemed_ticket pay es fs taken.entries).2 issued)
+      redeemed_apart es key shown known (read_from n j) there i w (subst (λ (l : List Entry). IsIssued l i w) (redeemed_ticket pay es fs taken.entries).2 issued)
 
   well_before : IsWellFormed fllen sllen (range_of n) (read_from n j)
-  well_before = subst (IsWellFormed fllen sllen (range_of n)) same (stands (back_in is pay taken)).well_formed
+  well_before = subst (IsWellFormed fllen sllen (range_of n)) same (stands back_in).well_formed
 
   -- it lies in the memory
   low : n.start ≤ pay.start
-  low = let b = back_in is pay taken in omega (arith, (lies-usable (stands b) (block b) (held b).0).0, (held b).1)
+  low = let b = back_in in omega (arith, (lies-usable (stands b) (block b) (held b).0).0, (held b).1)
 
   -- its bytes, as many as the state says
   bytes_are : bytes_at (read_from n j) pay.start ≡ pay.bytes
@@ -182,14 +193,13 @@ module _ {fl_bits sl_bits fllen sllen : ℕ} {m n : Space} {x : Table} {j : Stat
 
     pub here_unmoved : IsHere o (span (read_from o k) pay.start pay.start)
     here_unmoved =
-        let b = back_in is pay taken in
+        let b = back_in in
         subst (IsHere o) (range_back (held b).1 (long b)) (λ a lo hi. core.here a (omega (arith, low, (held b).1, lo)) (here_back b a lo hi))
 
     pub unmoved_at : IsAt o (read_from n j) (read_from o k) pay.start pay.align pay.start
-    unfolding shown
     unmoved_at = record {
       live = ap (λ (s : State). align_at s pay.start) unchanged ∙ seen_back.aligns pay.start
-          ∙ shown_live is.stands.well_formed shown (is.tickets.issued (key is pay taken) shown known);
+          ∙ shown_live is.stands.well_formed shown (is.tickets.issued key shown known);
       new = λ apart. absurd (apart refl);
       aligns = λ a _ _. ap (λ (s : State). align_at s a) unchanged;
       bytes = λ a _ _. ap (λ (s : State). bytes_at s a) unchanged;
@@ -274,7 +284,7 @@ module _ {fl_bits sl_bits fllen sllen : ℕ} {m n : Space} {x : Table} {j : Stat
             (over.view ∙ counts.view ∙ core.costs.view ∙ taken.view) (omega (arith, over.touches, counts.grow, core.costs.grow, taken.touches))
             (reads_over (KeepsSpare m (read_from m j) q) (spare-last m o q (read_from m j) (read_from o k) (over.start ∙ counts.start) (over.bytes ∙ counts.bytes)
             (spare-then m n o (read_from m j) (read_from o k) taken.start taken.long (read_from n j) refl
-            (subst (KeepsSpare m (read_from m j) n) same (spare_in (back_in is pay taken))) core.spare)))
+            (subst (KeepsSpare m (read_from m j) n) same (spare_in back_in)) core.spare)))
             ledger label named
 
         stays_over : Stays n l
@@ -310,7 +320,7 @@ module _ {fl_bits sl_bits fllen sllen : ℕ} {m n : Space} {x : Table} {j : Stat
         pub beside_over : o.bytes ≡ n.bytes → (ledger label : ℕ) → KeepsBytesBeside (heap_view m x j ledger) (heap_view q y k label) (payload_range pay)
         unfolding KeepsBytesBeside
         beside_over bytes ledger label a from _ side =
-            same-byte n q (over.start ∙ counts.start ∙ core.costs.start) (over.bytes ∙ counts.bytes ∙ bytes) a ∙ beside_in (back_in is pay taken) a from side
+            same-byte n q (over.start ∙ counts.start ∙ core.costs.start) (over.bytes ∙ counts.bytes ∙ bytes) a ∙ beside_in back_in a from side
 
         pub identity_over : (ledger : ℕ) → name ≡ ledger → p.identity ≡ record { home = home_of m; ledger = ledger }
         identity_over ledger named =
@@ -321,11 +331,11 @@ module _ {fl_bits sl_bits fllen sllen : ℕ} {m n : Space} {x : Table} {j : Stat
 
         module _ {addr asked size : ℕ} (place : addr ≡ pay.start) (sizes : asked ≡ size) (frame : CoreFrame addr asked (allocator n x j) (allocator o y k)) (ledger label : ℕ)
             (named : label ≡ ledger) where
-          pub step_over : {reply : Option ℕ} → Reallocates sllen (read_from n j) addr asked reply (read_from o k)
+          pub step_over : {made reply : Option ℕ} → made ≡ reply → Reallocates sllen (read_from n j) addr asked made (read_from o k)
               → Steps fllen sllen (heap_view q y k label) (λ s. IsLayout size pay.align → Reallocates sllen (owned_by (read_from m j) pay) pay.start size reply s)
-          step_over {reply} did =
+          step_over {made} {reply} told did =
               Steps-over label (λ s. IsLayout size pay.align → Reallocates sllen (owned_by (read_from m j) pay) pay.start size reply s)
-              (λ fits. subst (λ (z : State × ℕ × ℕ). Reallocates sllen z.0 z.1 z.2 reply (read_from o k)) (λ i. (owned_back i, place i, sizes i)) did)
+              (λ fits. subst (λ (z : State × ℕ × ℕ × Option ℕ). Reallocates sllen z.0 z.1 z.2 z.3 (read_from o k)) (λ i. (owned_back i, place i, sizes i, told i)) did)
 
           pub sized_over : {told : ℕ} → told ≡ pay.align → KeepsBounds sllen (read_from n j) (read_from o k) asked told
               → KeepsSized sllen (read_from m j) (read_from q k) size pay.align

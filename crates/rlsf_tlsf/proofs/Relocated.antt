@@ -19,7 +19,9 @@ use Rattle.rlsf_tlsf.proofs.Placed.{lies_used}
 -- the bytes of a payload are as many as its block has for it
 module _ {fllen sllen : ℕ} {m : Space} {table : Table} {s : State} (v : StandsFor fllen sllen (contents m table) s) (addr : ℕ) (u : Used) (holds : Holds s addr u) where
   pub span_held : usable u ≡ span s addr addr
-  span_held = λ i. range_at (holds.1 i) (let long : (usable u).len ≡ length (bytes_at s addr) = sym (ap length (bytes_at-held v.well_formed addr u holds) ∙ (v.well_formed.used u holds.0).bytes) in long i)
+  span_held =
+      let long : (usable u).len ≡ length (bytes_at s addr) = sym (ap length (bytes_at-held v.well_formed addr u holds) ∙ (v.well_formed.used u holds.0).bytes) in
+      λ i. range_at (holds.1 i) (long i)
 
 module _ {fllen sllen : ℕ} {m n : Space} {table changed : Table} {s t : State} {addr size align to : ℕ} (v : StandsFor fllen sllen (contents m table) s) (u : Used)
     (holds : Holds s addr u) (wide : u.align ≡ align) (step : Reallocates sllen s addr size (Some to) t) (now : StandsFor fllen sllen (contents n changed) t) where

@@ -72,7 +72,8 @@ overflow_sub-self g c =
 pub invariant_of-self : goal.invariant_of-self
 invariant_of-self g c =
     let d = (goal.at.invariant_of-self g c).After-deallocate_in in
-    IsHeap-gone c.args.part c.self.invariant (known g (goal.at.invariant_of-self g c).After-put_room) c.deallocate_in.ensures.left (did g d) c.requires.ticket c.redeem.new.self.entries c.redeem.ensures.entries
+    IsHeap-gone c.args.part c.self.invariant (known g (goal.at.invariant_of-self g c).After-put_room) c.deallocate_in.ensures.left
+    (did g d) c.requires.ticket c.redeem.new.self.entries c.redeem.ensures.entries
 
 pub returns : goal.returns
 unfolding NoneBecomesRawBeside

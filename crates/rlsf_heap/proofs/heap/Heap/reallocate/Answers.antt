@@ -12,7 +12,7 @@ use Rattle.rlsf_blocks.specs.Laws.{read_from}
 use Rattle.rlsf_blocks.specs.StandsFor.{contents}
 use Rattle.rlsf_blocks.proofs.Counting.{Counts-touched}
 use Rattle.rlsf_tlsf.specs.Moving.{span}
-use Rattle.rlsf_heap.specs.Heap.{HeapView, Identity, Steps, heap_view, payload_range}
+use Rattle.rlsf_heap.specs.Heap.{HeapView, Identity, Steps, payload_range}
 use Rattle.rlsf_heap.specs.Reallocation.{owned_by}
 use Rattle.rlsf_heap.proofs.Arrivals.{Steps-arrived, bare-kept}
 use Rattle.rlsf_heap.proofs.Costs.{returned_same}
@@ -97,18 +97,19 @@ returns-in_default-moved g c =
     let at = stayed g d in
     let reads = reads_over is pay back e.left at none (whole g d) c.align-align.ensures over in
     rw (← c.self.view_is) (record {
-      step = step_over is pay back e.left at none (whole g d) c.align-align.ensures over c.addr-addr.ensures sizes e.frame ledger label named e.step;
+      step = step_over is pay back e.left at none (whole g d) c.align-align.ensures over c.addr-addr.ensures sizes e.frame ledger label named refl e.step;
       result = tt;
       room = λ most longest widest sized few short fits _.
-          absurd (false≢true (e.room most longest widest (sized_back is pay back most longest widest sized) (omega (arith, few, count_back is pay back)) (omega (arith, short, sizes))
-          (omega (arith, fits, told))));
+          absurd (false≢true (e.room most longest widest (sized_back is pay back most longest widest sized) (omega (arith, few, count_back is pay back))
+          (omega (arith, short, sizes)) (omega (arith, fits, told))));
       bounds = sized_over is pay back e.left at none (whole g d) c.align-align.ensures over c.addr-addr.ensures sizes e.frame ledger label named told e.bounds;
       refused = record {
         identity = identity_over is pay back e.left at none (whole g d) c.align-align.ensures over ledger c.take_back.ensures.name;
         requested = over.align ∙ c.align-align.ensures;
         returned = record {
           start = over.at ∙ c.addr-addr.ensures;
-          bytes = values_over is pay back e.left at none (whole g d) c.align-align.ensures over ∙ ap (λ (x : State). bytes_at x pay.start) e.refused.same ∙ (seen_back is pay back).here;
+          bytes = values_over is pay back e.left at none (whole g d) c.align-align.ensures over ∙ ap (λ (x : State). bytes_at x pay.start) e.refused.same
+              ∙ (seen_back is pay back).here;
           written = here_over is pay back e.left at none (whole g d) c.align-align.ensures over (here_unmoved is pay back e.left e.refused.same);
           alike = reads (AreAlike s) (subst (AreAlike s) (sym e.refused.same) (alike_back is pay back));
           aligns = reads (λ (x : State). align_at x ≡ align_at s) (ap align_at e.refused.same ∙ (λ i a. (seen_back is pay back).aligns a i));
@@ -159,7 +160,8 @@ pub invariant_of-self-2 : goal.invariant_of-self-2
 invariant_of-self-2 g c =
     let at = moved g (goal.at.invariant_of-self-2 g c).In-Some in
     let d = (goal.at.invariant_of-self-2 g c).After-load_usable_bytes-range in
-    IsHeap-over c.self.invariant c.args.payload c.take_back.ensures.back c.in-Some.ensures.left at (read g d) (long g d at.live) c.align-align.ensures c.hand_over-payload-2.ensures.over
+    IsHeap-over c.self.invariant c.args.payload c.take_back.ensures.back c.in-Some.ensures.left at (read g d) (long g d at.live) c.align-align.ensures
+    c.hand_over-payload-2.ensures.over
 
 pub returns : goal.returns
 returns g c =
@@ -184,8 +186,8 @@ returns g c =
     let stays = here_kept is pay back c.addr-addr.ensures e.result.here over (read g d) (ap (λ (r : Range). r.start) (long g d at.live)) in
     let reads = reads_over is pay back e.left at (read g d) (long g d at.live) c.align-align.ensures over in
     rw (← c.self.view_is) (record {
-      step = subst (λ a. Steps g.row.FLLEN g.row.SLLEN (heap_view c.hand_over-payload-2.new.memory c.reallocate_in-moved.new.table c.reallocate_in-moved.new.state.state label) (λ x. IsLayout c.args.size pay.align → Reallocates g.row.SLLEN (owned_by s pay) pay.start c.args.size (Some a) x)) starts
-          (step_over is pay back e.left at (read g d) (long g d at.live) c.align-align.ensures over c.addr-addr.ensures sizes e.frame ledger label named e.step);
+      step = step_over is pay back e.left at (read g d) (long g d at.live) c.align-align.ensures over c.addr-addr.ensures sizes e.frame ledger label named (ap Some starts)
+          e.step;
       result = record {
         layout = subst (IsLayout c.args.size) c.align-align.ensures (c.in-Ok.ensures.succeeds.0 refl);
         resized = record {

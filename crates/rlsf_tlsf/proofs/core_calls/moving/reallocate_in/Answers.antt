@@ -65,7 +65,8 @@ used_block-block-requires-clause-live g c =
 pub reallocate_block-requires : goal.reallocate_block-requires
 reallocate_block-requires g c =
     let d = (goal.at.reallocate_block-requires g c).After-used_block-block in
-    (omega arith, (c.requires.core.valid, ((state g d, u g d, stands g d, used_at g d, here g d), (search rules, λ one. c.used_block-block.ensures.counts.out ∙ c.requires.whole one))))
+    let e = c.used_block-block.ensures in
+    (omega arith, (c.requires.core.valid, ((state g d, u g d, stands g d, used_at g d, here g d), (search rules, λ one. e.counts.out ∙ c.requires.whole one))))
 
 -- ---- what the call leaves and keeps, where it leads to the state
 
@@ -129,7 +130,9 @@ module _ (g : given.Over) (c : After-reallocate_block g) {t : State}
           chunks = reads now k kept (λ (x : State). x.chunks ≡ s.chunks) (chunks-reallocated g.row.SLLEN s t c.args.addr c.args.layout.size reply step);
           place = (e.place.0 ∙ counts.start, e.place.1 ∙ ap length counts.bytes, e.place.2 ∙ counts.view, λ none. e.place.3 (counts.out ∙ none));
           grow = omega (arith, e.grow, counts.grow);
-          copied = omega (arith, e.copied s u (stands g (early g c)) (used_at g (early g c)), counts.copied, ap (λ (r : Range). r.len) (span_held c.requires.core.stands c.args.addr u holds));
+          copied =
+              let long = ap (λ (r : Range). r.len) (span_held c.requires.core.stands c.args.addr u holds) in
+              omega (arith, e.copied s u (stands g (early g c)) (used_at g (early g c)), counts.copied, long);
           grow_copied = omega (arith, e.grow_copied, counts.copied);
           stays = λ room.
               let (v, p, held, first) = room in
@@ -156,7 +159,8 @@ returns-in-None g c =
       step = stepped g d now k kept told;
       result = tt;
       room = λ count most widest sized few short fits.
-          absurd (never_refused_again w t count most widest sized c.args.addr c.args.layout.size c.args.layout.align (align_at-held w c.args.addr u holds ∙ ap Some wide) few short fits told);
+          absurd (never_refused_again w t count most widest sized c.args.addr c.args.layout.size c.args.layout.align (align_at-held w c.args.addr u holds ∙ ap Some wide) few
+          short fits told);
       bounds = bounded g d now k kept told;
       refused = record { same = reads now k kept (λ (x : State). x ≡ s) same; bytes = c.in-None.ensures.refused ∙ c.used_block-block.ensures.counts.bytes };
       frame = framed g d now k kept told;
