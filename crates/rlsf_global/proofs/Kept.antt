@@ -9,7 +9,7 @@ use Rattle.rlsf_global.proofs.Heaps.{locked_heap}
 use Rattle.rlsf_global.proofs.Layouts.{content_at-is}
 use Rattle.rlsf_global.proofs.Placements.{locked_stands}
 use Rattle.rlsf_global.specs.Kept.{KeepsFirst}
-use Rattle.rlsf_global.specs.Locked.{IsLocked, LockedContents}
+use Rattle.rlsf_global.specs.Locked.{IsLocked, LockedContents, flex_of}
 use Rattle.rlsf_model.specs.Callers.{bytes_at}
 use Rattle.rlsf_model_global.proofs.Histories.{steps_keep_heap}
 use Rattle.rlsf_model_global.proofs.AddressesLeft.{payloads_serve}
@@ -25,7 +25,7 @@ fewer : (n m : ℕ) (before after : Heap) (addr to : ℕ) → n ≤ m → KeepsF
 fewer n m before after addr to le kept =
     sym (take-take n m (content_at after to) le) ∙ ap (take n) kept ∙ take-take n m (content_at before addr) le
 
-module _ (v : LockedContents) (is : IsLocked v) (g : Heap) (to : NonZeroUsize) (addr : ℕ) where
+module _ (v : LockedContents) (is : IsLocked (flex_of v) v.heap.asked) (g : Heap) (to : NonZeroUsize) (addr : ℕ) where
   heap : IsHeap (range_of v.memory) v.heap
   heap = locked_heap v (locked_stands v is)
 

@@ -13,6 +13,7 @@ mod ListElements
 pub mod Lives
 pub mod MovedPayloads
 pub mod Placements
+mod Places
 pub mod Refusals
 pub mod Resizes
 pub mod Results

@@ -8,7 +8,7 @@ use Rattle.rlsf_base.specs.Space.{range_of}
 use Rattle.rlsf_base.specs.declared.memory.layout.Layout.{Layout}
 use Rattle.rlsf_flex.specs.StandsFor.{FlexContents, FlexStandsFor, FlexSteps, StepsAlone}
 use Rattle.rlsf_flex.proofs.InnerAllocator.{alone_opened, flex_opened}
-use Rattle.rlsf_global.specs.Locked.{IsLocked, heap_of, locked_contents}
+use Rattle.rlsf_global.specs.Locked.{IsLocked, heap_of}
 use Rattle.rlsf_model_global.specs.Pages.{MayOwe}
 use Rattle.rlsf_global.specs.Steps.Moves.{IsGivenLayout, StaysRefused}
 use Rattle.rlsf_global.proofs.Checks.{when_false, when_true}
@@ -52,7 +52,7 @@ module _ (enabled : Bool) (h : Heap) (addr : ℕ) (layout : Layout) (n : ℕ) (r
 
 -- ---- the table after a move
 
-module _ (f : FlexContents PageCursor) (rows : List Row) (v : IsLocked (locked_contents f rows)) (f' : FlexContents PageCursor) where
+module _ (f : FlexContents PageCursor) (rows : List Row) (v : IsLocked f rows) (f' : FlexContents PageCursor) where
   module _ (addr : ℕ) (wanted : Layout) (to : NonZeroUsize) (is : IsGivenLayout f f' addr wanted (at to)) where
     -- once the old entry is gone, none has the new address
     pub moved_row : row_at (at to) (without_row addr rows) ≡ None
@@ -61,14 +61,14 @@ module _ (f : FlexContents PageCursor) (rows : List Row) (v : IsLocked (locked_c
       | inr other ↦ row_at-without_other addr rows (at to) other ∙ no_row f rows v (at to) (is.new other)
     ]
 
-    pub moved_locked : (rows' : List Row) → rows' ≡ put (to, wanted) (without_row addr rows) → IsLocked (locked_contents f' rows')
-    moved_locked rows' now = subst (λ l. IsLocked (locked_contents f' l)) (sym now) (record {
+    pub moved_locked : (rows' : List Row) → rows' ≡ put (to, wanted) (without_row addr rows) → IsLocked f' rows'
+    moved_locked rows' now = subst (λ l. IsLocked f' l) (sym now) (record {
       flex = is.stands;
       sorted = put-sorted (to, wanted) (without_row addr rows) (without_row-sorted addr rows v.sorted) (absent-row_at (at to) (without_row addr rows) moved_row);
       lists = Lists-moved rows f.state.machine f'.state.machine v.lists addr (to, wanted) (record { live = is.live; sized = is.sized; few = is.few }) is.left is.aligns is.bytes;
     })
 
-  pub refused_locked : StaysRefused f f' → IsLocked (locked_contents f' rows)
+  pub refused_locked : StaysRefused f f' → IsLocked f' rows
   refused_locked is = record { flex = is.stands; sorted = v.sorted; lists = subst (λ (s : FlexState). Lists rows s.machine) (sym is.state) v.lists }
 
 -- ---- nothing changed

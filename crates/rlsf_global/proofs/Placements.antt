@@ -6,7 +6,7 @@ use Rattle.rlsf_base.specs.Addr.{at}
 use Rattle.rlsf_base.specs.declared.memory.layout.Layout.{Layout}
 use Rattle.rlsf_flex.specs.StandsFor.{FlexContents, FlexSteps, StepsAlone}
 use Rattle.rlsf_flex.proofs.InnerAllocator.{alone_opened, flex_opened}
-use Rattle.rlsf_global.specs.Locked.{IsLocked, LockedContents, LockedStands, heap_of, locked_contents}
+use Rattle.rlsf_global.specs.Locked.{IsLocked, LockedContents, LockedStands, flex_of, heap_of}
 use Rattle.rlsf_model_global.specs.Pages.{MayOwe}
 use Rattle.rlsf_model_global.proofs.PageAnswers.{refused_notes}
 use Rattle.rlsf_model_global.proofs.Maps.{IsServed, Lists-filled, Lists-put, Lists-without_row, agrees-none}
@@ -24,11 +24,11 @@ use Rattle.rlsf_model_global.specs.Rows.{Row, put, row_at, without_row}
 use Rattle.rlsf_model_global.specs.Steps.{HeapAllocates, Releases}
 
 -- what is true of the value stays true
-pub locked_stands : (v : LockedContents) → IsLocked v → LockedStands v
+pub locked_stands : (v : LockedContents) → IsLocked (flex_of v) v.heap.asked → LockedStands v
 unfolding LockedStands
 locked_stands v is = is
 
-module _ (f : FlexContents PageCursor) (rows : List Row) (v : IsLocked (locked_contents f rows)) where
+module _ (f : FlexContents PageCursor) (rows : List Row) (v : IsLocked f rows) where
   -- an address with an entry is live, and its payload serves the entry's layout
   pub live_row : (addr : ℕ) (r : Row) → row_at addr rows ≡ Some r → align_at f.state.machine addr ≡ Some r.1.align
   live_row addr r there = (subst (λ o. Agrees o (align_at f.state.machine addr) (bytes_at f.state.machine addr)) there (v.lists addr)).0
@@ -53,10 +53,10 @@ module _ (f : FlexContents PageCursor) (rows : List Row) (v : IsLocked (locked_c
 
     pub allocated_locked : align_at f.state.machine (at addr) ≡ None → IsServed f'.state.machine (at addr) layout
         → ((a : ℕ) → a ≢ at addr → align_at f'.state.machine a ≡ align_at f.state.machine a)
-        → ((a : ℕ) → a ≢ at addr → bytes_at f'.state.machine a ≡ bytes_at f.state.machine a) → IsLocked (locked_contents f' rows')
+        → ((a : ℕ) → a ≢ at addr → bytes_at f'.state.machine a ≡ bytes_at f.state.machine a) → IsLocked f' rows'
     allocated_locked new is aligns bytes =
         let (notes, step, led, outside, stands) = flex_opened f f' (FlexAllocates 64 64 (terms_of f.source) f.state layout.size layout.align (Some (at addr))) steps in
-        subst (λ l. IsLocked (locked_contents f' l)) (sym there) (record {
+        subst (λ l. IsLocked f' l) (sym there) (record {
           flex = stands;
           sorted = put-sorted (addr, layout) rows v.sorted (absent-row_at (at addr) rows (no_row (at addr) new));
           lists = Lists-put rows f.state.machine f'.state.machine v.lists (addr, layout) is aligns bytes;
@@ -81,7 +81,7 @@ module _ (f : FlexContents PageCursor) (rows : List Row) (v : IsLocked (locked_c
         let here = subst (λ (x : FlexState). FlexAllocates 64 64 (terms_of f.source) f.state layout.size layout.align None notes x) same step in
         ((notes, here, subst (λ (y : PageCursor). LeadsBy PageLeads f.source notes y) cursor_stays led), heap_stays)
 
-    pub stays_locked : IsLocked (locked_contents f' rows)
+    pub stays_locked : IsLocked f' rows
     stays_locked =
         let (notes, step, led, outside, stands) = flex_opened f f' (FlexAllocates 64 64 (terms_of f.source) f.state layout.size layout.align None) steps in
         record { flex = stands; sorted = v.sorted; lists = subst (λ (s : FlexState). Lists rows s.machine) (sym same) v.lists }
@@ -100,10 +100,10 @@ module _ (f : FlexContents PageCursor) (rows : List Row) (v : IsLocked (locked_c
         )
 
     pub released_locked : align_at f'.state.machine addr ≡ None → ((a : ℕ) → a ≢ addr → align_at f'.state.machine a ≡ align_at f.state.machine a)
-        → ((a : ℕ) → a ≢ addr → bytes_at f'.state.machine a ≡ bytes_at f.state.machine a) → IsLocked (locked_contents f' rows')
+        → ((a : ℕ) → a ≢ addr → bytes_at f'.state.machine a ≡ bytes_at f.state.machine a) → IsLocked f' rows'
     released_locked gone aligns bytes =
         let (step, after, stands, spare) = alone_opened f f' (Deallocates f.state.machine addr) steps in
-        subst (λ l. IsLocked (locked_contents f' l)) (sym there) (record {
+        subst (λ l. IsLocked f' l) (sym there) (record {
           flex = stands;
           sorted = without_row-sorted addr rows v.sorted;
           lists = Lists-without_row rows f.state.machine f'.state.machine v.lists addr gone aligns bytes;
@@ -121,7 +121,7 @@ module _ (f : FlexContents PageCursor) (rows : List Row) (v : IsLocked (locked_c
         )
 
     pub filled_locked : align_at f'.state.machine ≡ align_at f.state.machine → length (bytes_at f'.state.machine addr) ≡ length (bytes_at f.state.machine addr)
-        → ((a : ℕ) → a ≢ addr → bytes_at f'.state.machine a ≡ bytes_at f.state.machine a) → IsLocked (locked_contents f' rows)
+        → ((a : ℕ) → a ≢ addr → bytes_at f'.state.machine a ≡ bytes_at f.state.machine a) → IsLocked f' rows
     filled_locked aligns len others =
         let (step, after, stands, spare) = alone_opened f f' (Fills f.state.machine addr bytes) steps in
         record { flex = stands; sorted = v.sorted; lists = Lists-filled rows f.state.machine f'.state.machine v.lists addr aligns len others }

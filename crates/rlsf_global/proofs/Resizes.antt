@@ -5,7 +5,7 @@ use Rattle.rlsf_base.specs.Addr.{at}
 use Rattle.rlsf_base.specs.declared.memory.layout.Layout.{Layout}
 use Rattle.rlsf_flex.specs.StandsFor.{FlexContents, StepsAlone}
 use Rattle.rlsf_flex.proofs.InnerAllocator.{alone_opened}
-use Rattle.rlsf_global.specs.Locked.{IsLocked, heap_of, locked_contents}
+use Rattle.rlsf_global.specs.Locked.{IsLocked, heap_of}
 use Rattle.rlsf_model_global.specs.Pages.{MayOwe}
 use Rattle.rlsf_global.proofs.Checks.{when_false, when_true}
 use Rattle.rlsf_model_global.proofs.Maps.{IsServed, Lists-moved, row_at-without_here}
@@ -47,7 +47,7 @@ row_there rows after addr to wanted there now = now ∙ ap (λ a. put (to, wante
 pub none_left : (addr to : ℕ) (rows : List Row) → to ≡ addr → row_at to (without_row addr rows) ≡ None
 none_left addr to rows there = subst (λ a. row_at a (without_row addr rows) ≡ None) (sym there) (row_at-without_here addr rows)
 
-module _ (f : FlexContents PageCursor) (rows : List Row) (v : IsLocked (locked_contents f rows)) (f' : FlexContents PageCursor) (addr : ℕ) (wanted : Layout)
+module _ (f : FlexContents PageCursor) (rows : List Row) (v : IsLocked f rows) (f' : FlexContents PageCursor) (addr : ℕ) (wanted : Layout)
     (stays : f'.source ≡ f.source) where
   module _ (to : NonZeroUsize) (there : at to ≡ addr) (steps : StepsAlone 64 64 terms_of MayOwe f f' (ReallocatesWithoutMove f.state.machine addr wanted.size (Some (at to))))
       (rows' : List Row) (now : rows' ≡ put (to, wanted) (without_row addr rows)) where
@@ -63,10 +63,10 @@ module _ (f : FlexContents PageCursor) (rows : List Row) (v : IsLocked (locked_c
 
     pub resized_locked : IsServed f'.state.machine addr wanted → align_at f'.state.machine ≡ align_at f.state.machine
         → ((a : ℕ) → a ≢ addr → bytes_at f'.state.machine a ≡ bytes_at f.state.machine a)
-        → IsLocked (locked_contents f' rows')
+        → IsLocked f' rows'
     resized_locked is aligns others =
         let (step, after, stands, spare) = alone_opened f f' (ReallocatesWithoutMove f.state.machine addr wanted.size (Some (at to))) steps in
-        subst (λ l. IsLocked (locked_contents f' l)) (sym now) (record {
+        subst (λ l. IsLocked f' l) (sym now) (record {
           flex = stands;
           sorted =
               put-sorted (to, wanted) (without_row addr rows) (without_row-sorted addr rows v.sorted)
@@ -88,7 +88,7 @@ module _ (f : FlexContents PageCursor) (rows : List Row) (v : IsLocked (locked_c
         let (step, after, stands, spare) = alone_opened f f' (ReallocatesWithoutMove f.state.machine addr wanted.size None) steps in
         (subst (λ (s : FlexState). ReallocatesWithoutMove f.state.machine addr wanted.size None s.machine) same step, heap_as_it_was)
 
-    pub not_resized_locked : IsLocked (locked_contents f' rows)
+    pub not_resized_locked : IsLocked f' rows
     not_resized_locked =
         let (step, after, stands, spare) = alone_opened f f' (ReallocatesWithoutMove f.state.machine addr wanted.size None) steps in
         record { flex = stands; sorted = v.sorted; lists = subst (λ (s : FlexState). Lists rows s.machine) (sym same) v.lists }

@@ -4,7 +4,7 @@ use Rattle.rlsf_base.specs.declared.memory.range.Range.{Range}
 use Rattle.rlsf_flex.specs.StandsFor.{FlexContents}
 use Rattle.rlsf_global.proofs.Placements.{live_row}
 use Rattle.rlsf_global.specs.LiveRows.{AreSpread, spot}
-use Rattle.rlsf_global.specs.Locked.{IsLocked, locked_contents}
+use Rattle.rlsf_global.specs.Locked.{IsLocked}
 use Rattle.rlsf_model.proofs.CallerWords.{align_at-live}
 use Rattle.rlsf_model.proofs.Coverage.{coverage-unique, covers-inside}
 use Rattle.rlsf_model.proofs.Payloads.{IsUsed-after_start}
@@ -16,7 +16,7 @@ use Rattle.rlsf_model_global.specs.Cursor.{PageCursor}
 use Rattle.rlsf_model_global.specs.Rows.{Row}
 
 -- a payload's block has the spot's first byte
-spot_inside : (u : Used) → IsUsed u → covers u.block (spot u.payload * 32) ≡ 1
+pub spot_inside : (u : Used) → IsUsed u → covers u.block (spot u.payload * 32) ≡ 1
 spot_inside u is =
     let after = IsUsed-after_start u is in
     let start = is.whole.start in
@@ -29,7 +29,7 @@ one_block fllen sllen memory s u v w iu iv same =
     coverage-unique block_of u v s.used (spot u.payload * 32) (used-le s (tiling_of w) (spot u.payload * 32)) iu iv (spot_inside u (w.used u iu))
     (subst (λ n. covers v.block (n * 32) ≡ 1) (sym same) (spot_inside v (w.used v iv)))
 
-pub spread : (f : FlexContents PageCursor) (rows : List Row) → IsLocked (locked_contents f rows) → AreSpread rows
+pub spread : (f : FlexContents PageCursor) (rows : List Row) → IsLocked f rows → AreSpread rows
 unfolding AreSpread
 spread f rows locked a b r s here there same =
     let m = f.state.machine in

@@ -28,14 +28,13 @@ pub record HintSpace : Type 0 where
   pub there : ℕ
 
 -- A table as contracts see it: the entries in the order of their addresses, and how many more have room. Whether each entry has its hint,
--- the addresses that have hints, and how many numbers the spare leaf has. And how many entries were read or changed so far.
+-- the addresses that have hints, and how many numbers the spare leaf has.
 pub record LiveRows : Type 0 where
   pub rows : List Row
   pub room : ℕ
   pub hinted : Bool
   pub space : HintSpace
   pub spare : ℕ
-  pub looks : ℕ
 
 -- an entry can be put without memory from the system, and keep its hint
 pub record IsReady (t : LiveRows) : Type 0 where
@@ -66,14 +65,13 @@ in_order [] = []
 in_order (r ∷ rows) = put r (in_order rows)
 
 -- the value of a table with these entries, in any order
-abbrev pub live_rows : RowList → HintPages → ℕ → Bool → ℕ → LiveRows
-live_rows rows hints base exact looks = record {
+abbrev pub live_rows : RowList → HintPages → ℕ → Bool → LiveRows
+live_rows rows hints base exact = record {
   rows = in_order rows.items;
   room = rows.room;
   hinted = exact;
   space = record { first = base; pages = hints.pages; there = length hints.leaves };
   spare = hints.spare;
-  looks = looks;
 }
 
 -- no two entries have one spot, as callers say it

@@ -1,7 +1,8 @@
 -- The value under the lock as contracts see it.
-use Rattle.std.specs.Prelude.{List}
+use Rattle.std.specs.Prelude.{◌≡◌, ℕ, ◌+◌, ◌/◌, List, length}
 use Rattle.rlsf_base.specs.Space.{Space}
 use Rattle.rlsf_flex.specs.StandsFor.{FlexContents, FlexStandsFor}
+use Rattle.rlsf_global.specs.LiveRows.{HintSpace, LiveRows}
 use Rattle.rlsf_model_global.specs.Pages.{MayOwe}
 use Rattle.rlsf_model_global.specs.Cursor.{PageCursor, terms_of}
 use Rattle.rlsf_model_global.specs.Heap.{Heap, Lists}
@@ -9,31 +10,44 @@ use Rattle.rlsf_model_global.specs.Rows.{IsSorted, Row}
 use Rattle.rlsf_table.specs.Table.{Table}
 
 -- Its memory, its class table, and its heap. The heap is the model's state with the ranges that the source provided, the source's
--- cursor, and the entries of the table of live addresses.
+-- cursor, and the entries of the table of live addresses. Then that table as it is kept, and how many of its entries calls have read,
+-- changed or copied.
 pub record LockedContents : Type 0 where
   pub memory : Space
   pub table : Table
   pub heap : Heap
+  pub live : LiveRows
+  pub looks : ℕ
 
 -- the heap of an allocator over pages, with these entries
 abbrev pub heap_of : FlexContents PageCursor → List Row → Heap
 heap_of f rows = record { flex = f.state; source = f.source; asked = rows }
 
 -- the contents by their parts
-abbrev pub locked_contents : FlexContents PageCursor → List Row → LockedContents
-locked_contents f rows = record { memory = f.memory; table = f.table; heap = heap_of f rows }
+abbrev pub locked_contents : FlexContents PageCursor → LiveRows → ℕ → LockedContents
+locked_contents f live looks = record { memory = f.memory; table = f.table; heap = heap_of f live.rows; live = live; looks = looks }
 
 -- the allocator over pages
 abbrev pub flex_of : LockedContents → FlexContents PageCursor
 flex_of v = record { memory = v.memory; table = v.table; source = v.heap.source; state = v.heap.flex }
 
--- What is true of every such value: memory, class table and source represent the heap's state, which is well-formed. The entries
--- list exactly the live payloads, in the order of their addresses.
-pub record IsLocked (v : LockedContents) : Type 0 where
-  pub flex : FlexStandsFor 64 64 terms_of MayOwe (flex_of v)
-  pub sorted : IsSorted v.heap.asked
-  pub lists : Lists v.heap.asked v.heap.flex.machine
+-- What is true of every such allocator with its entries: memory, class table and source represent the state, which is well-formed. The
+-- entries list exactly the live payloads, in the order of their addresses.
+pub record IsLocked (f : FlexContents PageCursor) (rows : List Row) : Type 0 where
+  pub flex : FlexStandsFor 64 64 terms_of MayOwe f
+  pub sorted : IsSorted rows
+  pub lists : Lists rows f.state.machine
+
+-- the addresses of a table are those of the memory
+pub record IsSpaceOf (m : Space) (s : HintSpace) : Type 0 where
+  pub first : s.first ≡ m.start / 32
+  pub pages : s.pages ≡ (length m.bytes / 32 + 1) / 512 + 1
+
+-- and the table of live addresses has a place for each address of the memory
+pub record IsListed (f : FlexContents PageCursor) (live : LiveRows) : Type 0 where
+  pub locked : IsLocked f live.rows
+  pub space : IsSpaceOf f.memory live.space
 
 -- IsLocked, as contracts cite it
 unfoldable pub LockedStands : LockedContents → Type 0
-LockedStands v = IsLocked v
+LockedStands v = IsLocked (flex_of v) v.heap.asked

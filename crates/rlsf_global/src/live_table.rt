@@ -25,8 +25,8 @@ use std::marker::Model;
 /// The entries are kept in any order. For each 32 bytes of the addresses in use, a hint has the index of the entry. So a call looks at one
 /// entry, however many there are. Where the system was out of memory for a hint, calls look at every entry until the next allocation.
 ///
-/// The table counts the entries that its calls read or change (`looks`). While each entry has its hint (`hinted`), no call counts more than
-/// five. Hints stay: only an entry that moves to addresses without a leaf may lose its hint, if there is no spare leaf and no memory.
+/// Calls count the entries that they read, change or copy (`looks`). While each entry has its hint (`hinted`), no call counts more than 16.
+/// Hints stay: only an entry that moves to addresses without a leaf may lose its hint, if there is no spare leaf and no memory.
 #[derive(Drop)]
 pub(crate) struct LiveTable {
     rows: CountedRows,
@@ -35,7 +35,6 @@ pub(crate) struct LiveTable {
     base: usize,
     // Whether hints tell each entry.
     exact: bool,
-    looks: Looks,
 }
 
 impl Model for LiveTable {
@@ -43,7 +42,7 @@ impl Model for LiveTable {
 
     ghost Value = { LiveRows };
 
-    ghost view = { λ t. live_rows t.rows t.hints t.base t.exact t.looks.count };
+    ghost view = { λ t. live_rows t.rows t.hints t.base t.exact };
 
     ghost invariant = { λ t. IsIndexed t.base t.rows.items t.hints.leaves t.exact };
 }
@@ -55,50 +54,42 @@ impl LiveTable {
         ensures hinted { result.hinted ≡ true }
         ensures first { result.space.first ≡ start / 32 }
         ensures pages { result.space.pages ≡ (len / 32 + 1) / 512 + 1 }
-        ensures looks { result.looks ≡ 0 }
     {
         LiveTable {
             rows: CountedRows::new(alloc),
             hints: Hints::new(alloc, len / 32 + 1),
             base: start / 32,
             exact: true,
-            looks: Looks::new(),
         }
     }
 
     /// Reserves room for an entry and its hint. If hints aren't exact, it sets them anew.
-    pub(crate) fn reserve(&mut self) -> Result<(), AllocError>
+    pub(crate) fn reserve(&mut self, looks: &mut Looks) -> Result<(), AllocError>
         ensures rows { self.new.rows ≡ self.old.rows }
         ensures room { OnOk result (0 < self.new.room) }
         ensures hinted { OnOk result (self.new.hinted ≡ true) }
         ensures kept { KeepsHints self.old self.new }
         ensures ready { OnOk result (IsReady self.new) }
         ensures space { HasSameSpace self.old.space self.new.space }
-        ensures looks { self.old.hinted ≡ true → self.new.looks ≡ self.old.looks }
+        ensures looks { self.old.hinted ≡ true → looks.new.count ≡ looks.old.count }
     {
         if !self.exact || !self.rows.has_room() || !self.hints.is_ready() {
-            return self.make_room();
+            return self.make_room(looks);
         }
         Ok(())
     }
 
     /// Does what `reserve` does if something is missing.
-    fn make_room(&mut self) -> Result<(), AllocError>
+    fn make_room(&mut self, looks: &mut Looks) -> Result<(), AllocError>
         ensures rows { self.new.rows ≡ self.old.rows }
         ensures room { OnOk result (0 < self.new.room) }
         ensures hinted { OnOk result (self.new.hinted ≡ true) }
         ensures kept { KeepsHints self.old self.new }
         ensures ready { OnOk result (IsReady self.new) }
         ensures space { HasSameSpace self.old.space self.new.space }
-        ensures looks { self.old.hinted ≡ true → self.new.looks ≡ self.old.looks }
+        ensures looks { self.old.hinted ≡ true → looks.new.count ≡ looks.old.count }
     {
-        self.exact = mend(
-            &self.rows,
-            &mut self.hints,
-            self.base,
-            self.exact,
-            &mut self.looks,
-        );
+        self.exact = mend(&self.rows, &mut self.hints, self.base, self.exact, looks);
         if !self.rows.reserve() || !self.hints.prepare() || !self.exact {
             return Err(AllocError);
         }
@@ -117,7 +108,7 @@ impl LiveTable {
     }
 
     /// Inserts an entry. The table has room for it, and its address has none.
-    pub(crate) fn put(&mut self, row: (Addr, Layout))
+    pub(crate) fn put(&mut self, row: (Addr, Layout), looks: &mut Looks)
         requires room { 0 < self.old.room }
         requires fresh { row_at (key row) self.old.rows ≡ None }
         requires spread { AreSpread (put row self.old.rows) }
@@ -125,7 +116,7 @@ impl LiveTable {
         ensures room { self.old.room ≤ self.new.room + 1 }
         ensures hinted { KeepsHintsWith self.old (key row) self.new }
         ensures space { HasSameSpace self.old.space self.new.space }
-        ensures looks { self.new.looks ≤ self.old.looks + 9 }
+        ensures looks { looks.new.count ≤ looks.old.count + 9 }
     {
         self.exact = append(
             &mut self.rows,
@@ -133,12 +124,12 @@ impl LiveTable {
             self.base,
             self.exact,
             row,
-            &mut self.looks,
+            looks,
         );
     }
 
     /// Removes the entry of an address, if it has one. Returns it.
-    pub(crate) fn remove(&mut self, addr: Addr) -> Option<(Addr, Layout)>
+    pub(crate) fn remove(&mut self, addr: Addr, looks: &mut Looks) -> Option<(Addr, Layout)>
         ensures row { result ≡ row_at (at addr) self.old.rows }
         ensures rows { self.new.rows ≡ without_row (at addr) self.old.rows }
         ensures room { self.old.room ≤ self.new.room }
@@ -147,18 +138,11 @@ impl LiveTable {
         ensures hinted { KeepsHints self.old self.new }
         ensures ready { self.old.hinted ≡ true → IsReady self.old → IsReady self.new }
         ensures space { HasSameSpace self.old.space self.new.space }
-        ensures looks { self.old.hinted ≡ true → self.new.looks ≤ self.old.looks + 7 }
+        ensures looks { self.old.hinted ≡ true → looks.new.count ≤ looks.old.count + 7 }
     {
-        match find(
-            &self.rows,
-            &self.hints,
-            self.base,
-            self.exact,
-            addr,
-            &mut self.looks,
-        ) {
+        match find(&self.rows, &self.hints, self.base, self.exact, addr, looks) {
             Some(index) => {
-                let row = self.rows.row(index, &mut self.looks);
+                let row = self.rows.row(index, looks);
                 self.exact = take_out(
                     &mut self.rows,
                     &mut self.hints,
@@ -166,7 +150,7 @@ impl LiveTable {
                     self.exact,
                     addr,
                     index,
-                    &mut self.looks,
+                    looks,
                 );
                 Some(row)
             }
@@ -175,7 +159,12 @@ impl LiveTable {
     }
 
     /// Removes the entry of an address, if it has one of a layout. Returns the entry that the address had.
-    pub(crate) fn remove_as(&mut self, addr: Addr, layout: Layout) -> Option<(Addr, Layout)>
+    pub(crate) fn remove_as(
+        &mut self,
+        addr: Addr,
+        layout: Layout,
+        looks: &mut Looks,
+    ) -> Option<(Addr, Layout)>
         ensures row { result ≡ row_at (at addr) self.old.rows }
         ensures gone { IfSome result (λ row. true ≡ is_same row.1 layout → self.new.rows ≡ without_row (at addr) self.old.rows) }
         ensures stays { IfSome result (λ row. false ≡ is_same row.1 layout → self.new.rows ≡ self.old.rows) }
@@ -183,19 +172,12 @@ impl LiveTable {
         ensures hinted { KeepsHints self.old self.new }
         ensures ready { self.old.hinted ≡ true → IsReady self.old → IsReady self.new }
         ensures space { HasSameSpace self.old.space self.new.space }
-        ensures looks { self.old.hinted ≡ true → self.new.looks ≤ self.old.looks + 7 }
+        ensures looks { self.old.hinted ≡ true → looks.new.count ≤ looks.old.count + 7 }
     {
-        let Some(index) = find(
-            &self.rows,
-            &self.hints,
-            self.base,
-            self.exact,
-            addr,
-            &mut self.looks,
-        ) else {
+        let Some(index) = find(&self.rows, &self.hints, self.base, self.exact, addr, looks) else {
             return None;
         };
-        let row = self.rows.row(index, &mut self.looks);
+        let row = self.rows.row(index, looks);
         if row.1 != layout {
             return Some(row);
         }
@@ -206,48 +188,41 @@ impl LiveTable {
             self.exact,
             addr,
             index,
-            &mut self.looks,
+            looks,
         );
         Some(row)
     }
 
     /// Replaces the entry of an address by one with the same address.
-    pub(crate) fn replace(&mut self, row: (Addr, Layout))
+    pub(crate) fn replace(&mut self, row: (Addr, Layout), looks: &mut Looks)
         requires live { IsSome (row_at (key row) self.old.rows) }
         ensures rows { self.new.rows ≡ put row (without_row (key row) self.old.rows) }
         ensures room { self.new.room ≡ self.old.room }
         ensures hinted { self.new.hinted ≡ self.old.hinted }
         ensures ready { IsReady self.old → IsReady self.new }
         ensures space { self.new.space ≡ self.old.space }
-        ensures looks { self.old.hinted ≡ true → self.new.looks ≤ self.old.looks + 3 }
+        ensures looks { self.old.hinted ≡ true → looks.new.count ≤ looks.old.count + 3 }
     {
-        if let Some(index) = find(
-            &self.rows,
-            &self.hints,
-            self.base,
-            self.exact,
-            row.0,
-            &mut self.looks,
-        ) {
-            self.rows.set_row(index, row, &mut self.looks);
+        if let Some(index) = find(&self.rows, &self.hints, self.base, self.exact, row.0, looks) {
+            self.rows.set_row(index, row, looks);
         }
     }
 
     /// Replaces the entry of an address by one that may have another address. No other entry has that.
-    pub(crate) fn move_row(&mut self, addr: Addr, row: (Addr, Layout))
+    pub(crate) fn move_row(&mut self, addr: Addr, row: (Addr, Layout), looks: &mut Looks)
         requires live { IsSome (row_at (at addr) self.old.rows) }
         requires fresh { row_at (key row) (without_row (at addr) self.old.rows) ≡ None }
         requires spread { AreSpread (put row (without_row (at addr) self.old.rows)) }
         ensures rows { self.new.rows ≡ put row (without_row (at addr) self.old.rows) }
         ensures hinted { KeepsHintsWith self.old (key row) self.new }
         ensures space { HasSameSpace self.old.space self.new.space }
-        ensures looks { self.old.hinted ≡ true → self.new.looks ≤ self.old.looks + 16 }
+        ensures looks { self.old.hinted ≡ true → looks.new.count ≤ looks.old.count + 16 }
     {
         if row.0.get() == addr.get() {
-            self.replace(row);
+            self.replace(row, looks);
         } else {
-            let _gone = self.remove(addr);
-            self.put(row);
+            let _gone = self.remove(addr, looks);
+            self.put(row, looks);
         }
     }
 
@@ -260,7 +235,6 @@ impl LiveTable {
             hints: _,
             base: _,
             exact: _,
-            looks: _,
         } = self;
         let mut rows = rows.into_vec();
         rows.sort_unstable_by_key(|row| row.0.get());

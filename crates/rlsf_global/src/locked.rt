@@ -1,6 +1,6 @@
 //! The value behind the lock: an allocator over pages, and the table of its live addresses.
 
-ghost use Rattle.std.specs.Prelude.{◌≡◌, ◌↔◌, ◌+◌, ◌≤◌, length, nat_le, IfOk, IsErrOf, None, OnErr, OnOk, drop, take};
+ghost use Rattle.std.specs.Prelude.{◌≡◌, ◌↔◌, ◌+◌, ◌<◌, ◌≤◌, length, nat_le, IfOk, IsErrOf, None, OnErr, OnOk, drop, take, true};
 ghost use Rattle.std.specs.List.{splice};
 ghost use Rattle.rlsf_base.specs.Addr.{at};
 ghost use Rattle.rlsf_base.specs.Layout.{IsLayout};
@@ -34,16 +34,17 @@ use std::marker::Model;
 pub struct Locked<Options: GlobalTlsfOptions> {
     flex: PagedTlsf<Options>,
     rows: LiveTable,
+    looks: Looks,
 }
 
 impl<Options: GlobalTlsfOptions> Model for Locked<Options> {
-    ghost use Rattle.rlsf_global.specs.Locked.{IsLocked, LockedContents, locked_contents};
+    ghost use Rattle.rlsf_global.specs.Locked.{IsListed, LockedContents, locked_contents};
 
     ghost Value = { LockedContents };
 
-    ghost view = { λ l. locked_contents l.flex l.rows.rows };
+    ghost view = { λ l. locked_contents l.flex l.rows l.looks.count };
 
-    ghost invariant = { λ l. IsLocked (locked_contents l.flex l.rows.rows) };
+    ghost invariant = { λ l. IsListed l.flex l.rows };
 }
 
 impl<Options: GlobalTlsfOptions> Locked<Options> {
@@ -54,6 +55,7 @@ impl<Options: GlobalTlsfOptions> Locked<Options> {
         ensures heap { result.heap ≡ beginning (range_of memory) Options.COALESCE_POOLS }
         ensures memory { result.memory ≡ memory }
         ensures stands { LockedStands result }
+        ensures hinted { result.live.hinted ≡ true }
     {
         let space = Range {
             start: memory.start(),
@@ -62,6 +64,7 @@ impl<Options: GlobalTlsfOptions> Locked<Options> {
         Locked {
             flex: FlexTlsf::new(memory, Source::new(space)),
             rows: LiveTable::new(alloc, space.start, space.len),
+            looks: Looks::new(),
         }
     }
 
@@ -84,16 +87,17 @@ impl<Options: GlobalTlsfOptions> Locked<Options> {
         ensures result { IfOk result (λ addr. HeapAllocated self.old.heap self.new.heap layout (at addr)) }
         ensures refused { OnErr result (IsLockedUnchanged self.old self.new) }
         ensures unasked { IfUnasked result (self.new.memory ≡ self.old.memory) }
+        ensures hinted { OnOk result (length self.old.heap.asked < 4294967296 → self.new.live.hinted ≡ true) }
         ensures frame { KeepsLocked self.old self.new }
         ensures touches { HasRoomFor 64 self.old.heap.flex.machine layout.size layout.align → self.new.memory.touches ≤ self.old.memory.touches + 27 }
     {
-        if self.rows.reserve().is_err() {
+        if self.rows.reserve(&mut self.looks).is_err() {
             return Err(GlobalError::TableMemory);
         }
         let Some(addr) = self.flex.allocate(layout) else {
             return Err(GlobalError::NoRoom);
         };
-        self.rows.put((addr, layout));
+        self.rows.put((addr, layout), &mut self.looks);
         Ok(addr)
     }
 
@@ -108,6 +112,7 @@ impl<Options: GlobalTlsfOptions> Locked<Options> {
         ensures result { IfOk result (λ addr. HeapAllocated self.old.heap self.new.heap layout (at addr)) }
         ensures refused { OnErr result (IsLockedUnchanged self.old self.new) }
         ensures unasked { IfUnasked result (self.new.memory ≡ self.old.memory) }
+        ensures hinted { OnOk result (length self.old.heap.asked < 4294967296 → self.new.live.hinted ≡ true) }
         ensures frame { KeepsLocked self.old self.new }
         ensures touches { HasRoomFor 64 self.old.heap.flex.machine layout.size layout.align → self.new.memory.touches ≤ self.old.memory.touches + 27 }
     {
@@ -125,7 +130,7 @@ impl<Options: GlobalTlsfOptions> Locked<Options> {
         ensures frame { KeepsLocked self.old self.new }
         ensures touches { self.new.memory.touches ≤ self.old.memory.touches + 32 }
     {
-        let Some(gone) = self.rows.remove(addr) else {
+        let Some(gone) = self.rows.remove(addr, &mut self.looks) else {
             // Only a live address has an entry, so nothing is deallocated twice.
             return Err(GlobalError::UnknownAddress);
         };
@@ -149,7 +154,7 @@ impl<Options: GlobalTlsfOptions> Locked<Options> {
         ensures frame { KeepsLocked self.old self.new }
         ensures touches { self.new.memory.touches ≤ self.old.memory.touches + 32 }
     {
-        let Some(row) = self.rows.remove_as(addr, layout) else {
+        let Some(row) = self.rows.remove_as(addr, layout, &mut self.looks) else {
             // Refused before the layout is compared: an address without an entry has none.
             return Err(GlobalError::UnknownAddress);
         };
@@ -190,7 +195,7 @@ impl<Options: GlobalTlsfOptions> Locked<Options> {
         ensures frame { KeepsLockedResizing Options.ENABLE_REALLOCATION (at addr) layout.size new_size self.old self.new }
         ensures touches { BoundsResizing Options.ENABLE_REALLOCATION (at addr) new_size layout.align self.old self.new }
     {
-        let Some(row) = self.rows.get(addr, &mut Looks::new()) else {
+        let Some(row) = self.rows.get(addr, &mut self.looks) else {
             return Err(GlobalError::UnknownAddress);
         };
         if row.1 != layout {
@@ -200,7 +205,7 @@ impl<Options: GlobalTlsfOptions> Locked<Options> {
         let Some(moved) = resize(&mut self.flex, addr, layout, wanted) else {
             return Err(GlobalError::NoRoom);
         };
-        self.rows.move_row(addr, (moved, wanted));
+        self.rows.move_row(addr, (moved, wanted), &mut self.looks);
         Ok(moved)
     }
 
@@ -222,7 +227,7 @@ impl<Options: GlobalTlsfOptions> Locked<Options> {
         ensures frame { KeepsLockedMoving (at addr) layout.size result self.old self.new }
         ensures touches { HasRoomFor 64 self.old.heap.flex.machine layout.size layout.align → self.new.memory.touches ≤ self.old.memory.touches + 59 }
     {
-        let Some(row) = self.rows.get(addr, &mut Looks::new()) else {
+        let Some(row) = self.rows.get(addr, &mut self.looks) else {
             return Err(GlobalError::UnknownAddress);
         };
         let align = row.1.align();
@@ -230,7 +235,7 @@ impl<Options: GlobalTlsfOptions> Locked<Options> {
         let Some(to) = move_away(&mut self.flex, addr, align, keep, layout) else {
             return Err(GlobalError::NoRoom);
         };
-        self.rows.move_row(addr, (to, layout));
+        self.rows.move_row(addr, (to, layout), &mut self.looks);
         Ok(to)
     }
 
@@ -259,7 +264,7 @@ impl<Options: GlobalTlsfOptions> Locked<Options> {
         ensures frame { KeepsLocked self.old self.new }
         ensures touches { self.new.memory.touches ≤ self.old.memory.touches + 25 }
     {
-        let Some(row) = self.rows.get(addr, &mut Looks::new()) else {
+        let Some(row) = self.rows.get(addr, &mut self.looks) else {
             return Err(GlobalError::UnknownAddress);
         };
         if row.1 != layout {
@@ -269,7 +274,7 @@ impl<Options: GlobalTlsfOptions> Locked<Options> {
         let Some(to) = self.flex.reallocate_no_move(addr, wanted) else {
             return Err(GlobalError::NoRoom);
         };
-        self.rows.replace((to, wanted));
+        self.rows.replace((to, wanted), &mut self.looks);
         Ok(to)
     }
 
@@ -330,7 +335,7 @@ impl<Options: GlobalTlsfOptions> Locked<Options> {
         ensures frame { KeepsLockedWriting self.old self.new }
         ensures touches { self.new.memory.touches ≤ self.old.memory.touches + 3 }
     {
-        let Some(_row) = self.rows.get(addr, &mut Looks::new()) else {
+        let Some(_row) = self.rows.get(addr, &mut self.looks) else {
             return Err(GlobalError::UnknownAddress);
         };
         if !fits(offset, bytes.len(), self.flex.allocation_usable_size(addr)) {
@@ -347,7 +352,11 @@ impl<Options: GlobalTlsfOptions> Locked<Options> {
         ensures rows { result.items ≡ self.heap.asked }
         ensures sorted { IsSorted result.items }
     {
-        let Locked { flex: _, rows } = self;
+        let Locked {
+            flex: _,
+            rows,
+            looks: _,
+        } = self;
         rows.into_rows()
     }
 }

@@ -17,6 +17,13 @@ pub closed_history : (b : BookContents) (r : Result Closed CloseError) → IfOk 
 closed_history b (Ok c) (same, replay) (live, sorted) = (b.locked.heap, subst (λ j. IsRun j b.locked.heap) (sym same) replay, live, sorted)
 closed_history b (Err e) journal live = tt
 
+-- and the passes agree with it
+pub closed_agreed : (b : BookContents) (callers : ℕ) (passes : List PassContents) (r : Result Closed CloseError)
+    → IfOk r (λ c. (c.journal.items ≡ b.journal) × IsRun b.journal b.locked.heap) → IfOk r (λ c. AreComplete callers passes × Agree callers passes b.journal)
+    → IfOk r (λ c. AreComplete callers passes × Agree callers passes c.journal.items)
+closed_agreed b callers passes (Ok c) (same, replay) (complete, agree) = (complete, subst (Agree callers passes) (sym same) agree)
+closed_agreed b callers passes (Err e) journal agreed = tt
+
 -- the errors are three
 strange≢missing : (result : Result Closed CloseError) → result ≡ Err StrangePass → result ≡ Err MissingPass → ⊥
 strange≢missing result is other = cc

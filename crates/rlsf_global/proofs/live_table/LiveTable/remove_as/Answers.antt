@@ -4,8 +4,8 @@ use Rattle.rlsf_global.proofs.Results.{clash, not-false, not-true}
 use Rattle.rlsf_global.proofs.TableAnswers.{row_found, row_none, taken_out, taken_apart}
 use Rattle.rlsf_global.proofs.live_table.LiveTable.remove_as.Goals as goal
 
-pub invariant_of-self-2 : goal.invariant_of-self-2
-invariant_of-self-2 c =
+pub invariant_of-self : goal.invariant_of-self
+invariant_of-self c =
     let rows = c.self.inside.rows.items in
     let found = c.in-Some.ensures.found in
     let row = c.row-row.result in

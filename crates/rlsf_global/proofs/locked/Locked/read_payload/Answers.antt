@@ -10,7 +10,7 @@ use Rattle.rlsf_global.proofs.locked.Locked.read_payload.Goals as goal
 
 pub payload-payload-requires : goal.payload-payload-requires
 payload-payload-requires g c =
-    (lit< tt, live_here c.self.inside.flex c.self.inside.rows.rows c.self.invariant (at c.args.addr) _ (sym c.in-Some.ensures.row))
+    (lit< tt, live_here c.self.inside.flex c.self.inside.rows.rows c.self.invariant.locked (at c.args.addr) _ (sym c.in-Some.ensures.row))
 
 pub returns-in_default : goal.returns-in_default
 returns-in_default g c = rw (← c.self.view_is) (record {

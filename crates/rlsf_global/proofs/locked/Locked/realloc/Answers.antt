@@ -1,22 +1,25 @@
 use Rattle.rlsf_base.specs.Sizes.{request_size}
 use Rattle.rlsf_model.specs.Allocate.{HasRoomFor, choice}
 use Rattle.rlsf_model.specs.Reallocate.{HasRoomToResize}
-use Rattle.std.proofs.Common.{rules, IsSome, ◌≡◌, ◌≤◌, ◌+◌, true, false, length, Some, Ok, Err, lit<, ap, ◌∙◌, subst, sym, refl, arith}
+use Rattle.std.proofs.Common.{rules, IsSome, ◌≡◌, ◌<◌, ◌≤◌, ◌+◌, true, false, length, Some, Ok, Err, lit<, ap, ◌∙◌, subst, sym, refl, arith}
 use Rattle.rlsf_global.proofs.KeptMemories.{KeepsMemory-refl, copies_nothing}
 use Rattle.rlsf_global.proofs.Layouts.{content_at-bytes, layout_at-moved_left, layout_at-moved_other, layout_at-none, layout_at-put_here}
 use Rattle.rlsf_base.specs.Addr.{at}
-use Rattle.rlsf_global.specs.Locked.{heap_of, locked_contents}
+use Rattle.rlsf_global.specs.LiveRows.{IsReady, KeepsHints}
+use Rattle.rlsf_global.specs.Locked.{IsLocked, heap_of, locked_contents}
 use Rattle.rlsf_global.specs.Memory.{CopiesOnResize}
 use Rattle.rlsf_global.proofs.Checks.{same_align, same_size}
-use Rattle.rlsf_global.proofs.MovedPayloads.{moved_locked, moved_row, same_heap, reallocates_in, reallocates_out}
+use Rattle.rlsf_global.proofs.MovedPayloads.{moved_locked, moved_row, refused_locked, same_heap, reallocates_in, reallocates_out}
 use Rattle.rlsf_global.proofs.Kept.{kept_asked, kept_usable}
 use Rattle.rlsf_global.proofs.Lives.{has_row, known, unknown}
+use Rattle.rlsf_global.proofs.Places.{has_place, listed, space_same, space_stays}
 use Rattle.rlsf_global.proofs.Placements.{live_row, no_row, row_sized}
 use Rattle.rlsf_global.proofs.Results.{not-false, not-true}
 use Rattle.rlsf_model.specs.Callers.{bytes_at}
 use Rattle.rlsf_model_global.specs.declared.error.GlobalError.TheVariants.{NoRoom, WrongLayout}
 use Rattle.rlsf_model_global.specs.Moves.{HeapReallocatesAs, ReallocatesAsAt, ReallocatesTo}
-use Rattle.rlsf_model_global.specs.Rows.{put, without_row}
+use Rattle.rlsf_model_global.proofs.Maps.{row_at-put_here}
+use Rattle.rlsf_model_global.specs.Rows.{Row, put, row_at, without_row}
 use Rattle.rlsf_global.proofs.locked.Locked.realloc.Given as given
 use Rattle.rlsf_global.proofs.Spots.{spread}
 use Rattle.rlsf_global.proofs.locked.Locked.realloc.Goals as goal
@@ -33,32 +36,57 @@ resize-requires g c =
     let row = found in
     let same = not-false _ c.if-ne.ensures in
     let live =
-    live_row c.self.inside.flex c.self.inside.rows.rows c.self.invariant (at c.args.addr) c.in-Some.row row
+    live_row c.self.inside.flex c.self.inside.rows.rows c.self.invariant.locked (at c.args.addr) c.in-Some.row row
     ∙ ap Some (same_align c.in-Some.row.1 c.args.layout same) in
     let sized =
     subst (λ n. n ≤ length (bytes_at c.self.inside.flex.state.machine (at c.args.addr))) (same_size c.in-Some.row.1 c.args.layout same)
-    (row_sized c.self.inside.flex c.self.inside.rows.rows c.self.invariant (at c.args.addr) c.in-Some.row row) in
-    (lit< tt, (live, (sized, (c.from_size_align_unchecked-wanted.ensures.1 ∙ c.align.ensures.value, c.self.invariant.flex))))
+    (row_sized c.self.inside.flex c.self.inside.rows.rows c.self.invariant.locked (at c.args.addr) c.in-Some.row row) in
+    (lit< tt, (live, (sized, (c.from_size_align_unchecked-wanted.ensures.1 ∙ c.align.ensures.value, c.self.invariant.locked.flex))))
 
 pub move_row-requires-clause-live : goal.move_row-requires-clause-live
 move_row-requires-clause-live g c = has_row c.self.inside.rows.rows (at c.args.addr) c.in-Some.row (sym c.in-Some.ensures.row)
 
 pub move_row-requires-clause-fresh : goal.move_row-requires-clause-fresh
 move_row-requires-clause-fresh g c =
-    moved_row c.self.inside.flex c.self.inside.rows.rows c.self.invariant c.resize.new.flex (at c.args.addr) c.from_size_align_unchecked-wanted.result c.in-Some-resize.moved
+    moved_row c.self.inside.flex c.self.inside.rows.rows c.self.invariant.locked c.resize.new.flex (at c.args.addr) c.from_size_align_unchecked-wanted.result c.in-Some-resize.moved
     c.in-Some-resize.ensures.moved
 
 pub move_row-requires-clause-spread : goal.move_row-requires-clause-spread
 move_row-requires-clause-spread g c =
     spread c.resize.new.flex _
-    (moved_locked c.self.inside.flex c.self.inside.rows.rows c.self.invariant c.resize.new.flex (at c.args.addr) c.from_size_align_unchecked-wanted.result c.in-Some-resize.moved
+    (moved_locked c.self.inside.flex c.self.inside.rows.rows c.self.invariant.locked c.resize.new.flex (at c.args.addr) c.from_size_align_unchecked-wanted.result
+    c.in-Some-resize.moved
     c.in-Some-resize.ensures.moved _ refl)
+
+-- the entries list the live payloads afterwards
+now_locked : (g : given.Over) (c : After-move_row g) → IsLocked c.resize.new.flex c.move_row.new.self.rows
+now_locked g c =
+    moved_locked c.self.inside.flex c.self.inside.rows.rows c.self.invariant.locked c.resize.new.flex (at c.args.addr) c.from_size_align_unchecked-wanted.result
+    c.in-Some-resize.moved
+    c.in-Some-resize.ensures.moved _ (replaced g c)
+
+pub invariant_of-self-in_default-resize : goal.invariant_of-self-in_default-resize
+invariant_of-self-in_default-resize g c =
+    listed c.self.inside.flex c.resize.new.flex c.self.inside.rows c.self.inside.rows c.self.invariant.space c.resize.ensures.memory.place
+    (space_same c.self.inside.rows.space)
+    (refused_locked c.self.inside.flex c.self.inside.rows.rows c.self.invariant.locked c.resize.new.flex c.in_default-resize.ensures.refused)
 
 pub invariant_of-self-2 : goal.invariant_of-self-2
 invariant_of-self-2 g c =
-    let rows = replaced g c in
-    moved_locked c.self.inside.flex c.self.inside.rows.rows c.self.invariant c.resize.new.flex (at c.args.addr) c.from_size_align_unchecked-wanted.result c.in-Some-resize.moved
-    c.in-Some-resize.ensures.moved _ rows
+    listed c.self.inside.flex c.resize.new.flex c.self.inside.rows c.move_row.new.self c.self.invariant.space c.resize.ensures.memory.place c.move_row.ensures.space
+    (now_locked g c)
+
+-- a table that is ready keeps its hints, since the new address has a place
+now_hinted : (g : given.Over) (c : After-move_row g) → IsReady c.self.inside.rows → length c.self.inside.rows.rows < 4294967296
+    → KeepsHints c.self.inside.rows c.move_row.new.self
+now_hinted g c ready few =
+    let to = c.in-Some-resize.moved in
+    let row : Row = (to, c.from_size_align_unchecked-wanted.result) in
+    let space = space_stays c.self.inside.flex c.resize.new.flex c.self.inside.rows.space c.self.inside.rows.space c.self.invariant.space c.resize.ensures.memory.place
+    (space_same c.self.inside.rows.space) in
+    let here : row_at (at to) c.move_row.new.self.rows ≡ Some row =
+    ap (row_at (at to)) (replaced g c) ∙ row_at-put_here row (without_row (at c.args.addr) c.self.inside.rows.rows) in
+    c.move_row.ensures.hinted ready (has_place c.resize.new.flex c.move_row.new.self.rows c.self.inside.rows.space (now_locked g c) space (at to) row here) few
 
 -- the reference model made the step
 did_step : (g : given.Over) (c : After-move_row g)
@@ -114,12 +142,12 @@ returns g c =
     let enabled = g.Options.GlobalTlsfOptions.ENABLE_REALLOCATION in
     let before = heap_of c.self.inside.flex c.self.inside.rows.rows in
     let after = heap_of c.resize.new.flex c.move_row.new.self.rows in
-    let contents = locked_contents c.self.inside.flex c.self.inside.rows.rows in
+    let contents = locked_contents c.self.inside.flex c.self.inside.rows c.self.inside.looks.count in
     let found = sym c.in-Some.ensures.row in
     let row = found in
     let sized =
     subst (λ n. n ≤ length (bytes_at c.self.inside.flex.state.machine (at c.args.addr))) (same_size c.in-Some.row.1 c.args.layout (not-false _ c.if-ne.ensures))
-    (row_sized c.self.inside.flex c.self.inside.rows.rows c.self.invariant (at c.args.addr) c.in-Some.row row) in
+    (row_sized c.self.inside.flex c.self.inside.rows.rows c.self.invariant.locked (at c.args.addr) c.in-Some.row row) in
     rw (← c.self.view_is) (record {
       step = step;
       result = record {
@@ -129,18 +157,24 @@ returns g c =
           wanted.ensures.0,
           wanted.ensures.1 ∙ c.align.ensures.value,
         );
-        new = λ off. layout_at-none before (at c.in-Some-resize.moved) (no_row c.self.inside.flex c.self.inside.rows.rows c.self.invariant (at c.in-Some-resize.moved)
+        new = λ off. layout_at-none before (at c.in-Some-resize.moved) (no_row c.self.inside.flex c.self.inside.rows.rows c.self.invariant.locked (at c.in-Some-resize.moved)
             (moved.new off));
         left = λ off. layout_at-moved_left before after (at c.args.addr) (c.in-Some-resize.moved, wanted.result) rows off;
-        kept = kept_asked contents c.self.invariant _ c.in-Some-resize.moved (at c.args.addr) c.args.layout c.args.new_size enabled step sized;
-        kept_usable = λ on. kept_usable contents c.self.invariant _ c.in-Some-resize.moved (at c.args.addr) c.args.layout c.args.new_size enabled step on;
+        kept = kept_asked contents c.self.invariant.locked _ c.in-Some-resize.moved (at c.args.addr) c.args.layout c.args.new_size enabled step sized;
+        kept_usable = λ on. kept_usable contents c.self.invariant.locked _ c.in-Some-resize.moved (at c.args.addr) c.args.layout c.args.new_size enabled step on;
         layouts = layout_at-moved_other before after (at c.args.addr) (c.in-Some-resize.moved, wanted.result) rows;
         contents = λ a off off_to. content_at-bytes before after a a (moved.bytes a off off_to);
       };
       unknown = known c.self.inside.flex c.self.inside.rows.rows (at c.args.addr) _ found (Ok c.in-Some-resize.moved) refl;
       refused = tt;
       unasked = tt;
-      frame = record { memory = c.resize.ensures.memory; grow = c.resize.ensures.grow; copied = copied g call };
+      frame = record {
+        memory = c.resize.ensures.memory;
+        grow = c.resize.ensures.grow;
+        copied = copied g call;
+        looks = λ was. omega (arith, c.get.ensures.looks was, c.move_row.ensures.looks was);
+        hinted = now_hinted g k;
+      };
       touches = record { room = touches_there g call; elsewhere = touches_elsewhere g call };
     })
 
@@ -153,7 +187,13 @@ returns-in_default g c =
       unknown = unknown c.self.inside.flex c.self.inside.rows.rows (at c.args.addr) absent;
       refused = record { same = refl; bytes = refl };
       unasked = refl;
-      frame = record { memory = KeepsMemory-refl c.self.inside.flex; grow = omega arith; copied = copies_nothing _ _ _ _ _ _ };
+      frame = record {
+        memory = KeepsMemory-refl c.self.inside.flex;
+        grow = omega arith;
+        copied = copies_nothing _ _ _ _ _ _;
+        looks = λ was. omega (arith, c.get.ensures.looks was);
+        hinted = λ _ _ was. was;
+      };
       touches = record { room = λ _ _. omega arith; elsewhere = λ _ _. omega arith };
     })
 
@@ -168,7 +208,13 @@ returns-then-ne g c =
       unknown = known c.self.inside.flex c.self.inside.rows.rows (at c.args.addr) _ found (Err WrongLayout) refl;
       refused = record { same = refl; bytes = refl };
       unasked = refl;
-      frame = record { memory = KeepsMemory-refl c.self.inside.flex; grow = omega arith; copied = copies_nothing _ _ _ _ _ _ };
+      frame = record {
+        memory = KeepsMemory-refl c.self.inside.flex;
+        grow = omega arith;
+        copied = copies_nothing _ _ _ _ _ _;
+        looks = λ was. omega (arith, c.get.ensures.looks was);
+        hinted = λ _ _ was. was;
+      };
       touches = record { room = λ _ _. omega arith; elsewhere = λ _ _. omega arith };
     })
 
@@ -193,6 +239,12 @@ returns-in_default-resize g c =
       unknown = known c.self.inside.flex c.self.inside.rows.rows (at c.args.addr) _ found (Err NoRoom) refl;
       refused = record { same = same_heap c.self.inside.flex c.resize.new.flex c.self.inside.rows.rows stays.state stays.source; bytes = stays.bytes };
       unasked = tt;
-      frame = record { memory = c.resize.ensures.memory; grow = c.resize.ensures.grow; copied = copied g call };
+      frame = record {
+        memory = c.resize.ensures.memory;
+        grow = c.resize.ensures.grow;
+        copied = copied g call;
+        looks = λ was. omega (arith, c.get.ensures.looks was);
+        hinted = λ _ _ was. was;
+      };
       touches = record { room = touches_there g call; elsewhere = touches_elsewhere g call };
     })

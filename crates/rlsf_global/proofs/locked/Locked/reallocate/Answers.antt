@@ -1,15 +1,18 @@
 use Rattle.rlsf_global.proofs.KeptMemories.{KeepsMemory-refl}
 use Rattle.rlsf_global.proofs.Layouts.{content_at-bytes, content_at-is, layout_at-moved_left, layout_at-moved_other, layout_at-none, layout_at-put_here}
-use Rattle.std.proofs.Common.{rules, ◌≡◌, ◌+◌, length, arith, min, Some, Ok, Err, lit<, ap, ◌∙◌, subst, sym, refl}
+use Rattle.std.proofs.Common.{rules, ◌≡◌, ◌<◌, ◌+◌, length, arith, min, Some, Ok, Err, lit<, ap, ◌∙◌, subst, sym, refl}
 use Rattle.rlsf_base.specs.Addr.{at}
-use Rattle.rlsf_global.specs.Locked.{heap_of, locked_contents}
-use Rattle.rlsf_global.proofs.MovedPayloads.{moved_locked, moved_row, same_heap}
+use Rattle.rlsf_global.specs.LiveRows.{IsReady, KeepsHints}
+use Rattle.rlsf_global.specs.Locked.{IsLocked, heap_of, locked_contents}
+use Rattle.rlsf_global.proofs.MovedPayloads.{moved_locked, moved_row, refused_locked, same_heap}
 use Rattle.rlsf_global.proofs.Kept.{kept_elsewhere}
 use Rattle.rlsf_global.proofs.Lives.{has_row, known, unknown}
+use Rattle.rlsf_global.proofs.Places.{has_place, listed, space_same, space_stays}
 use Rattle.rlsf_global.proofs.Placements.{live_here, live_row, no_row}
 use Rattle.rlsf_model_global.specs.declared.error.GlobalError.TheVariants.{NoRoom}
 use Rattle.rlsf_model_global.specs.Moves.{HeapReallocates, MovesAway, ReallocatesAt}
-use Rattle.rlsf_model_global.specs.Rows.{put, without_row}
+use Rattle.rlsf_model_global.proofs.Maps.{row_at-put_here}
+use Rattle.rlsf_model_global.specs.Rows.{Row, put, row_at, without_row}
 use Rattle.rlsf_global.proofs.locked.Locked.reallocate.Given as given
 use Rattle.rlsf_global.proofs.Spots.{spread}
 use Rattle.rlsf_global.proofs.locked.Locked.reallocate.Goals as goal
@@ -21,13 +24,13 @@ replaced g c = c.move_row.ensures.rows
 
 pub allocation_usable_size-requires : goal.allocation_usable_size-requires
 allocation_usable_size-requires g c =
-    (lit< tt, live_here c.self.inside.flex c.self.inside.rows.rows c.self.invariant (at c.args.addr) _ (sym c.in-Some.ensures.row))
+    (lit< tt, live_here c.self.inside.flex c.self.inside.rows.rows c.self.invariant.locked (at c.args.addr) _ (sym c.in-Some.ensures.row))
 
 pub move_away-requires : goal.move_away-requires
 move_away-requires g c =
     let found = sym c.in-Some.ensures.row in
     let row = found in
-    let live = live_row c.self.inside.flex c.self.inside.rows.rows c.self.invariant (at c.args.addr) c.in-Some.row row ∙ ap Some (sym c.align-align.ensures.value) in
+    let live = live_row c.self.inside.flex c.self.inside.rows.rows c.self.invariant.locked (at c.args.addr) c.in-Some.row row ∙ ap Some (sym c.align-align.ensures.value) in
     (lit< tt, (live, (omega (arith, c.min-keep.ensures, c.allocation_usable_size.ensures), omega (arith, c.min-keep.ensures, c.size.ensures.value))))
 
 pub move_row-requires-clause-live : goal.move_row-requires-clause-live
@@ -35,20 +38,43 @@ move_row-requires-clause-live g c = has_row c.self.inside.rows.rows (at c.args.a
 
 pub move_row-requires-clause-fresh : goal.move_row-requires-clause-fresh
 move_row-requires-clause-fresh g c =
-    moved_row c.self.inside.flex c.self.inside.rows.rows c.self.invariant c.move_away.new.flex (at c.args.addr) c.args.layout c.in-Some-move_away.to
+    moved_row c.self.inside.flex c.self.inside.rows.rows c.self.invariant.locked c.move_away.new.flex (at c.args.addr) c.args.layout c.in-Some-move_away.to
     c.in-Some-move_away.ensures.moved
 
 pub move_row-requires-clause-spread : goal.move_row-requires-clause-spread
 move_row-requires-clause-spread g c =
     spread c.move_away.new.flex _
-    (moved_locked c.self.inside.flex c.self.inside.rows.rows c.self.invariant c.move_away.new.flex (at c.args.addr) c.args.layout c.in-Some-move_away.to
+    (moved_locked c.self.inside.flex c.self.inside.rows.rows c.self.invariant.locked c.move_away.new.flex (at c.args.addr) c.args.layout c.in-Some-move_away.to
     c.in-Some-move_away.ensures.moved _ refl)
+
+-- the entries list the live payloads afterwards
+now_locked : (g : given.Over) (c : After-move_row g) → IsLocked c.move_away.new.flex c.move_row.new.self.rows
+now_locked g c =
+    moved_locked c.self.inside.flex c.self.inside.rows.rows c.self.invariant.locked c.move_away.new.flex (at c.args.addr) c.args.layout c.in-Some-move_away.to
+    c.in-Some-move_away.ensures.moved _ (replaced g c)
+
+pub invariant_of-self-in_default-move_away : goal.invariant_of-self-in_default-move_away
+invariant_of-self-in_default-move_away g c =
+    listed c.self.inside.flex c.move_away.new.flex c.self.inside.rows c.self.inside.rows c.self.invariant.space c.move_away.ensures.memory.place
+    (space_same c.self.inside.rows.space)
+    (refused_locked c.self.inside.flex c.self.inside.rows.rows c.self.invariant.locked c.move_away.new.flex c.in_default-move_away.ensures.refused)
 
 pub invariant_of-self-2 : goal.invariant_of-self-2
 invariant_of-self-2 g c =
-    let rows = replaced g c in
-    moved_locked c.self.inside.flex c.self.inside.rows.rows c.self.invariant c.move_away.new.flex (at c.args.addr) c.args.layout c.in-Some-move_away.to
-    c.in-Some-move_away.ensures.moved _ rows
+    listed c.self.inside.flex c.move_away.new.flex c.self.inside.rows c.move_row.new.self c.self.invariant.space c.move_away.ensures.memory.place c.move_row.ensures.space
+    (now_locked g c)
+
+-- a table that is ready keeps its hints, since the new address has a place
+now_hinted : (g : given.Over) (c : After-move_row g) → IsReady c.self.inside.rows → length c.self.inside.rows.rows < 4294967296
+    → KeepsHints c.self.inside.rows c.move_row.new.self
+now_hinted g c ready few =
+    let to = c.in-Some-move_away.to in
+    let row : Row = (to, c.args.layout) in
+    let space = space_stays c.self.inside.flex c.move_away.new.flex c.self.inside.rows.space c.self.inside.rows.space c.self.invariant.space c.move_away.ensures.memory.place
+    (space_same c.self.inside.rows.space) in
+    let here : row_at (at to) c.move_row.new.self.rows ≡ Some row =
+    ap (row_at (at to)) (replaced g c) ∙ row_at-put_here row (without_row (at c.args.addr) c.self.inside.rows.rows) in
+    c.move_row.ensures.hinted ready (has_place c.move_away.new.flex c.move_row.new.self.rows c.self.inside.rows.space (now_locked g c) space (at to) row here) few
 
 -- the reference model made the step
 did_step : (g : given.Over) (c : After-move_row g)
@@ -78,10 +104,11 @@ returns g c =
       step = step;
       result = record {
         live = layout_at-put_here before after (c.in-Some-move_away.to, c.args.layout) _ rows;
-        new = λ off. layout_at-none before (at c.in-Some-move_away.to) (no_row c.self.inside.flex c.self.inside.rows.rows c.self.invariant (at c.in-Some-move_away.to)
+        new = λ off. layout_at-none before (at c.in-Some-move_away.to) (no_row c.self.inside.flex c.self.inside.rows.rows c.self.invariant.locked (at c.in-Some-move_away.to)
             (moved.new off));
         left = λ off. layout_at-moved_left before after (at c.args.addr) (c.in-Some-move_away.to, c.args.layout) rows off;
-        kept = kept_elsewhere (locked_contents c.self.inside.flex c.self.inside.rows.rows) c.self.invariant _ c.in-Some-move_away.to (at c.args.addr) c.args.layout step;
+        kept = kept_elsewhere (locked_contents c.self.inside.flex c.self.inside.rows c.self.inside.looks.count) c.self.invariant.locked _ c.in-Some-move_away.to
+            (at c.args.addr) c.args.layout step;
         layouts = layout_at-moved_other before after (at c.args.addr) (c.in-Some-move_away.to, c.args.layout) rows;
         contents = λ a off off_to. content_at-bytes before after a a (moved.bytes a off off_to);
       };
@@ -95,6 +122,8 @@ returns g c =
             (c.min-keep.ensures ∙ ap (λ n. min n c.allocation_usable_size.result) c.size.ensures.value
             ∙ ap (min c.args.layout.size) (c.allocation_usable_size.ensures ∙ ap length (sym (content_at-is before (at c.args.addr)))));
         copied_none = tt;
+        looks = λ was. omega (arith, c.get.ensures.looks was, c.move_row.ensures.looks was);
+        hinted = now_hinted g k;
       };
       touches = c.move_away.ensures.touches;
     })
@@ -108,7 +137,14 @@ returns-in_default g c =
       unknown = unknown c.self.inside.flex c.self.inside.rows.rows (at c.args.addr) absent;
       refused = record { same = refl; bytes = refl };
       unasked = refl;
-      frame = record { memory = KeepsMemory-refl c.self.inside.flex; grow = omega arith; copied = tt; copied_none = refl };
+      frame = record {
+        memory = KeepsMemory-refl c.self.inside.flex;
+        grow = omega arith;
+        copied = tt;
+        copied_none = refl;
+        looks = λ was. omega (arith, c.get.ensures.looks was);
+        hinted = λ _ _ was. was;
+      };
       touches = λ _. omega arith;
     })
 
@@ -133,6 +169,8 @@ returns-in_default-move_away g c =
         grow = c.move_away.ensures.grow;
         copied = tt;
         copied_none = c.in_default-move_away.ensures.copied_none;
+        looks = λ was. omega (arith, c.get.ensures.looks was);
+        hinted = λ _ _ was. was;
       };
       touches = c.move_away.ensures.touches;
     })

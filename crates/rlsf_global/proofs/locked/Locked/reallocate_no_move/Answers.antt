@@ -8,6 +8,7 @@ use Rattle.rlsf_global.specs.Locked.{heap_of, locked_contents}
 use Rattle.rlsf_global.proofs.Checks.{same_align}
 use Rattle.rlsf_global.proofs.Kept.{kept_there}
 use Rattle.rlsf_global.proofs.Lives.{has_row, known, unknown}
+use Rattle.rlsf_global.proofs.Places.{listed, space_equal, space_same}
 use Rattle.rlsf_global.proofs.Placements.{live_row}
 use Rattle.rlsf_global.proofs.Resizes.{not_resized, not_resized_locked, resized, resized_locked, resizes_in, resizes_out, row_there}
 use Rattle.rlsf_global.proofs.Results.{not-false, not-true}
@@ -30,13 +31,14 @@ reallocate_no_move-requires g c =
     let found = sym c.in-Some.ensures.row in
     let row = found in
     let aligned = same_align c.in-Some.row.1 c.args.layout (not-false _ c.if-ne.ensures) ∙ sym (c.from_size_align_unchecked-wanted.ensures.1 ∙ c.align.ensures.value) in
-    (lit< tt, live_row c.self.inside.flex c.self.inside.rows.rows c.self.invariant (at c.args.addr) c.in-Some.row row ∙ ap Some aligned)
+    (lit< tt, live_row c.self.inside.flex c.self.inside.rows.rows c.self.invariant.locked (at c.args.addr) c.in-Some.row row ∙ ap Some aligned)
 
-pub invariant_of-self : goal.invariant_of-self
-invariant_of-self g c =
+pub invariant_of-self-in_default-reallocate_no_move : goal.invariant_of-self-in_default-reallocate_no_move
+invariant_of-self-in_default-reallocate_no_move g c =
     let did = c.in_default-reallocate_no_move.ensures in
-    not_resized_locked c.self.inside.flex c.self.inside.rows.rows c.self.invariant c.reallocate_no_move.new.self (at c.args.addr) c.from_size_align_unchecked-wanted.result
-    did.frame.source did.step did.refused.same
+    listed c.self.inside.flex c.reallocate_no_move.new.self c.self.inside.rows c.self.inside.rows c.self.invariant.space did.frame.place (space_same c.self.inside.rows.space)
+    (not_resized_locked c.self.inside.flex c.self.inside.rows.rows c.self.invariant.locked c.reallocate_no_move.new.self (at c.args.addr) c.from_size_align_unchecked-wanted.result
+    did.frame.source did.step did.refused.same)
 
 pub replace-requires : goal.replace-requires
 replace-requires g c = record {
@@ -49,10 +51,12 @@ pub invariant_of-self-2 : goal.invariant_of-self-2
 invariant_of-self-2 g c =
     let did = c.in-Some-reallocate_no_move.ensures in
     let rows = replaced g c in
-    resized_locked c.self.inside.flex c.self.inside.rows.rows c.self.invariant c.reallocate_no_move.new.self (at c.args.addr) c.from_size_align_unchecked-wanted.result
+    let same = space_equal c.replace.ensures.space in
+    listed c.self.inside.flex c.reallocate_no_move.new.self c.self.inside.rows c.replace.new.self c.self.invariant.space did.frame.place same
+    (resized_locked c.self.inside.flex c.self.inside.rows.rows c.self.invariant.locked c.reallocate_no_move.new.self (at c.args.addr) c.from_size_align_unchecked-wanted.result
     did.frame.source
     c.in-Some-reallocate_no_move.to did.result.there did.step _ rows
-    (record { live = did.frame.live; sized = did.result.sized; few = did.result.few }) did.frame.aligns did.frame.bytes
+    (record { live = did.frame.live; sized = did.result.sized; few = did.result.few }) did.frame.aligns did.frame.bytes)
 
 -- the reference model made the step
 did_step : (g : given.Over) (c : After-replace g)
@@ -66,7 +70,7 @@ did_step g c =
     let row = found in
     let wanted = c.from_size_align_unchecked-wanted in
     let step =
-    resized c.self.inside.flex c.self.inside.rows.rows c.self.invariant c.reallocate_no_move.new.self (at c.args.addr) wanted.result did.frame.source
+    resized c.self.inside.flex c.self.inside.rows.rows c.self.invariant.locked c.reallocate_no_move.new.self (at c.args.addr) wanted.result did.frame.source
     c.in-Some-reallocate_no_move.to
     did.result.there did.step
     _ (replaced g c) in
@@ -91,7 +95,8 @@ returns g c =
         there = did.result.there;
         live = (wanted.result, subst (λ a. layout_at after a ≡ Some wanted.result) did.result.there here, wanted.ensures.0, wanted.ensures.1 ∙ c.align.ensures.value);
         kept =
-            kept_there (locked_contents c.self.inside.flex c.self.inside.rows.rows) c.self.invariant _ c.in-Some-reallocate_no_move.to (at c.args.addr) c.args.layout
+            kept_there (locked_contents c.self.inside.flex c.self.inside.rows c.self.inside.looks.count) c.self.invariant.locked _ c.in-Some-reallocate_no_move.to
+            (at c.args.addr) c.args.layout
             c.args.new_size step;
         layouts = λ a off. layout_at-moved_other before after (at c.args.addr) (c.in-Some-reallocate_no_move.to, wanted.result) rows a off
             (λ same. off (same ∙ did.result.there));
@@ -101,9 +106,11 @@ returns g c =
       refused = tt;
       unasked = tt;
       frame = record {
-        memory = kept_alone c.self.inside.flex c.reallocate_no_move.new.self _ c.self.invariant.flex did.step did.frame.place;
+        memory = kept_alone c.self.inside.flex c.reallocate_no_move.new.self _ c.self.invariant.locked.flex did.step did.frame.place;
         grow = did.frame.grow;
         copied = did.frame.copied;
+        looks = λ was. omega (arith, c.get.ensures.looks was, c.replace.ensures.looks was);
+        hinted = λ _ was. c.replace.ensures.hinted ∙ was;
       };
       touches = did.touches;
     })
@@ -117,7 +124,13 @@ returns-in_default g c =
       unknown = unknown c.self.inside.flex c.self.inside.rows.rows (at c.args.addr) absent;
       refused = record { same = refl; bytes = refl };
       unasked = refl;
-      frame = record { memory = KeepsMemory-refl c.self.inside.flex; grow = omega arith; copied = refl };
+      frame = record {
+        memory = KeepsMemory-refl c.self.inside.flex;
+        grow = omega arith;
+        copied = refl;
+        looks = λ was. omega (arith, c.get.ensures.looks was);
+        hinted = λ _ was. was;
+      };
       touches = omega arith;
     })
 
@@ -132,7 +145,13 @@ returns-then-ne g c =
       unknown = known c.self.inside.flex c.self.inside.rows.rows (at c.args.addr) _ found (Err WrongLayout) refl;
       refused = record { same = refl; bytes = refl };
       unasked = refl;
-      frame = record { memory = KeepsMemory-refl c.self.inside.flex; grow = omega arith; copied = refl };
+      frame = record {
+        memory = KeepsMemory-refl c.self.inside.flex;
+        grow = omega arith;
+        copied = refl;
+        looks = λ was. omega (arith, c.get.ensures.looks was);
+        hinted = λ _ was. was;
+      };
       touches = omega arith;
     })
 
@@ -145,7 +164,7 @@ returns-in_default-reallocate_no_move g c =
     let row = found in
     let wanted = c.from_size_align_unchecked-wanted in
     let step =
-    not_resized c.self.inside.flex c.self.inside.rows.rows c.self.invariant c.reallocate_no_move.new.self (at c.args.addr) wanted.result did.frame.source did.step
+    not_resized c.self.inside.flex c.self.inside.rows.rows c.self.invariant.locked c.reallocate_no_move.new.self (at c.args.addr) wanted.result did.frame.source did.step
     did.refused.same in
     rw (← c.self.view_is) (record {
       step =
@@ -160,9 +179,11 @@ returns-in_default-reallocate_no_move g c =
       };
       unasked = tt;
       frame = record {
-        memory = kept_alone c.self.inside.flex c.reallocate_no_move.new.self _ c.self.invariant.flex did.step did.frame.place;
+        memory = kept_alone c.self.inside.flex c.reallocate_no_move.new.self _ c.self.invariant.locked.flex did.step did.frame.place;
         grow = did.frame.grow;
         copied = did.frame.copied;
+        looks = λ was. omega (arith, c.get.ensures.looks was);
+        hinted = λ _ was. was;
       };
       touches = did.touches;
     })

@@ -7,6 +7,7 @@ use Rattle.rlsf_flex.specs.Lending.{written}
 use Rattle.rlsf_global.specs.Locked.{heap_of}
 use Rattle.rlsf_global.proofs.Checks.{writes_in, writes_out}
 use Rattle.rlsf_global.proofs.Lives.{known, unknown}
+use Rattle.rlsf_global.proofs.Places.{listed, space_same}
 use Rattle.rlsf_global.proofs.Placements.{filled, filled_locked, live_here}
 use Rattle.rlsf_model.specs.Run.{Fills}
 use Rattle.rlsf_model_global.specs.declared.error.GlobalError.TheVariants.{OutOfRange}
@@ -14,18 +15,22 @@ use Rattle.rlsf_global.proofs.locked.Locked.write_payload.Goals as goal
 
 pub allocation_usable_size-requires : goal.allocation_usable_size-requires
 allocation_usable_size-requires g c =
-    (lit< tt, live_here c.self.inside.flex c.self.inside.rows.rows c.self.invariant (at c.args.addr) _ (sym c.in-Some.ensures.row))
+    (lit< tt, live_here c.self.inside.flex c.self.inside.rows.rows c.self.invariant.locked (at c.args.addr) _ (sym c.in-Some.ensures.row))
 
 pub payload_mut-requires : goal.payload_mut-requires
-payload_mut-requires g c = (lit< tt, live_here c.self.inside.flex c.self.inside.rows.rows c.self.invariant (at c.args.addr) _ (sym c.in-Some.ensures.row))
+payload_mut-requires g c = (lit< tt, live_here c.self.inside.flex c.self.inside.rows.rows c.self.invariant.locked (at c.args.addr) _ (sym c.in-Some.ensures.row))
 
-pub invariant_of-self : goal.invariant_of-self
-invariant_of-self g c =
+pub invariant_of-self-2 : goal.invariant_of-self-2
+invariant_of-self-2 g c =
     let w = c.write_at.new.payload in
     let did = c.payload_mut.ensures in
-    filled_locked c.self.inside.flex c.self.inside.rows.rows c.self.invariant (written c.self.inside.flex (at c.args.addr) (length c.payload_mut.result.now) w) (at c.args.addr) w
+    let after = written c.self.inside.flex (at c.args.addr) (length c.payload_mut.result.now) w in
+    let (chunks, after_place, source, place, stands, touches, copied) = did.rest w in
+    listed c.self.inside.flex after c.self.inside.rows c.self.inside.rows c.self.invariant.space place (space_same c.self.inside.rows.space)
+    (filled_locked c.self.inside.flex c.self.inside.rows.rows c.self.invariant.locked (written c.self.inside.flex (at c.args.addr) (length c.payload_mut.result.now) w)
+    (at c.args.addr) w
     (did.meaning w c.write_at.ensures.len) refl
-    (did.aligns w) (did.lengths w ∙ ap length did.value) (did.bytes w)
+    (did.aligns w) (did.lengths w ∙ ap length did.value) (did.bytes w))
 
 pub returns-in_default : goal.returns-in_default
 returns-in_default g c = rw (← c.self.view_is) (record {
@@ -33,7 +38,14 @@ returns-in_default g c = rw (← c.self.view_is) (record {
   result = tt;
   unknown = unknown c.self.inside.flex c.self.inside.rows.rows (at c.args.addr) (sym c.in_default.ensures.row);
   refused = record { same = refl; memory = refl };
-  frame = record { layouts = refl; memory = KeepsMemory-refl c.self.inside.flex; grow = omega arith; copied = refl };
+  frame = record {
+    layouts = refl;
+    memory = KeepsMemory-refl c.self.inside.flex;
+    grow = omega arith;
+    copied = refl;
+    looks = c.get.ensures.looks;
+    hinted = λ was. was;
+  };
   touches = omega arith;
 })
 
@@ -47,7 +59,14 @@ returns-then-not-fits g c = rw (← c.self.view_is) (record {
   result = tt;
   unknown = known c.self.inside.flex c.self.inside.rows.rows (at c.args.addr) _ (sym c.in-Some.ensures.row) (Err OutOfRange) refl;
   refused = record { same = refl; memory = refl };
-  frame = record { layouts = refl; memory = KeepsMemory-refl c.self.inside.flex; grow = omega arith; copied = refl };
+  frame = record {
+    layouts = refl;
+    memory = KeepsMemory-refl c.self.inside.flex;
+    grow = omega arith;
+    copied = refl;
+    looks = c.get.ensures.looks;
+    hinted = λ was. was;
+  };
   touches = omega arith;
 })
 
@@ -61,7 +80,7 @@ returns g c = rw (← c.self.view_is) (record {
       let w = c.write_at.new.payload in
       let did = c.payload_mut.ensures in
       let after = written c.self.inside.flex addr (length c.payload_mut.result.now) w in
-      let (fills, leads) = filled c.self.inside.flex c.self.inside.rows.rows c.self.invariant after addr w (did.meaning w c.write_at.ensures.len) refl in
+      let (fills, leads) = filled c.self.inside.flex c.self.inside.rows.rows c.self.invariant.locked after addr w (did.meaning w c.write_at.ensures.len) refl in
       let spliced =
       subst (λ l. Fills h.flex.machine addr l after.state.machine) (c.write_at.ensures.bytes ∙ ap (λ l. splice l offset (offset + length bytes) bytes) did.value) fills in
       writes_in h addr offset _ (sym c.in-Some.ensures.row) bytes (heap_of after c.self.inside.rows.rows)
@@ -89,9 +108,11 @@ returns g c = rw (← c.self.view_is) (record {
       let (chunks, after_place, source, place, stands, touches, copied) = did.rest w in
       record {
         layouts = λ i a. layout_at-row before after a a refl i;
-        memory = kept_alone c.self.inside.flex written_flex _ c.self.invariant.flex (did.meaning w c.write_at.ensures.len) place;
+        memory = kept_alone c.self.inside.flex written_flex _ c.self.invariant.locked.flex (did.meaning w c.write_at.ensures.len) place;
         grow = search rules;
         copied = copied;
+        looks = c.get.ensures.looks;
+        hinted = λ was. was;
       });
   touches = (
       let (chunks, after, source, place, stands, touches, copied) = c.payload_mut.ensures.rest c.write_at.new.payload in
