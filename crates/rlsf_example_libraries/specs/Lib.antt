@@ -6,6 +6,7 @@ pub mod Objects
 pub mod Owned
 pub mod Picture
 pub mod Queue
+pub mod Results
 pub mod Stored
 pub mod Strings
 pub mod Tiles

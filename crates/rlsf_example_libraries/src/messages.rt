@@ -1,12 +1,13 @@
 //! A bounded queue of messages of any length.
 
-ghost use Rattle.std.specs.Prelude.{◌≡◌, ◌≤◌, ◌<◌, ◌+◌, ◌∷◌, ◌++◌, ◌↔◌, ℕ, List, [], length, drop, IfOk, IfSome, IsErr, IsErrOf, IsOk, IsSomeAnd, IsTrue, None, OnErr, OnOk, Some};
+ghost use Rattle.std.specs.Prelude.{◌≡◌, ◌≤◌, ◌<◌, ◌+◌, ◌∷◌, ◌++◌, ◌↔◌, ℕ, List, [], length, drop, IfOk, IsErrOf, IsOk, IsSomeAnd, IsTrue, None, OnOk, Some};
 ghost use Rattle.std.specs.Option.{option_map};
 ghost use Rattle.std.specs.Map.Iter.{GivesInOrder};
 ghost use Rattle.rlsf_base.specs.Space.{range_of};
 ghost use Rattle.rlsf_blocks.specs.Blocks.{IsInOrder};
 ghost use Rattle.rlsf_example_libraries.specs.Queue.{FitsMessages, oldest};
-ghost use Rattle.rlsf_example_libraries.specs.Stored.{FitsPool, used_count};
+ghost use Rattle.rlsf_example_libraries.specs.Results.{AcceptsMessage, KeepsQueue, RefusesPop, RefusesPush};
+ghost use Rattle.rlsf_example_libraries.specs.Stored.{used_count};
 ghost use Rattle.rlsf_example_libraries.specs.declared.messages.LongestError.TheVariants as longest_error;
 
 use crate::store::{Store, pool_len};
@@ -156,16 +157,10 @@ impl Messages {
     /// - `NoRoom` if the pool has no room for the message. This error isn't returned for a message that isn't longer than the
     ///   longest one of `with_longest`, nor by an empty queue whose pool is long enough for the message.
     pub fn push(&mut self, message: &[u8]) -> Result<(), PushError>
-        ensures ok { OnOk result (self.new.messages ≡ self.old.messages ++ message.now ∷ []) }
-        ensures refused { OnErr result (self.new.messages ≡ self.old.messages) }
-        ensures full { IsErrOf result PushError.Full ↔ (length self.old.messages ≡ self.old.capacity) }
-        ensures long { IsErrOf result PushError.TooLong ↔ (length self.old.messages < self.old.capacity) × IsSomeAnd self.old.longest (λ longest. longest < length message.now) }
-        ensures room { self.old.messages ≡ [] → 0 < self.old.capacity → FitsPool self.old.memory (length message.now) 1
-            → IfSome self.old.longest (λ longest. length message.now ≤ longest) → IsOk result }
-        ensures enough { IsSomeAnd self.old.longest (λ longest. length message.now ≤ longest) → IsErr result → length self.old.messages ≡ self.old.capacity }
-        ensures capacity { self.new.capacity ≡ self.old.capacity }
-        ensures longest { self.new.longest ≡ self.old.longest }
-        ensures memory { self.new.memory ≡ self.old.memory }
+        ensures result { OnOk result (self.new.messages ≡ self.old.messages ++ message.now ∷ []) }
+        ensures room { AcceptsMessage self.old (length message.now) result }
+        ensures refused { RefusesPush self.old self.new (length message.now) result }
+        ensures frame { KeepsQueue self.old self.new }
         ensures touches { self.new.touches ≤ self.old.touches + 30 }
     {
         if self.entries.len() == self.entries.capacity() {
@@ -189,15 +184,10 @@ impl Messages {
     /// then nothing changes. If the queue was created with a longest message and `into` has that length, `TooShort` is never
     /// returned.
     pub fn pop(&mut self, into: &mut [u8]) -> Result<usize, PopError>
-        ensures ok { IfOk result (λ len. (m : List ℕ) × (self.old.messages ≡ m ∷ self.new.messages) × (len ≡ length m) × (into.new ≡ m ++ drop len into.old)) }
-        ensures refused { OnErr result ((self.new.messages ≡ self.old.messages) × (into.new ≡ into.old)) }
-        ensures empty { IsErrOf result PopError.Empty ↔ (self.old.messages ≡ []) }
-        ensures longest { self.new.longest ≡ self.old.longest }
-        ensures short { IsErrOf result PopError.TooShort ↔ IsSomeAnd (oldest self.old.messages) (λ m. length into.old < length m) }
-        ensures enough { IsSomeAnd self.old.longest (λ longest. longest ≤ length into.old) → IsErr result → self.old.messages ≡ [] }
+        ensures result { IfOk result (λ len. (m : List ℕ) × (self.old.messages ≡ m ∷ self.new.messages) × (len ≡ length m) × (into.new ≡ m ++ drop len into.old)) }
         ensures room { OnOk result (length self.new.messages < self.new.capacity) }
-        ensures capacity { self.new.capacity ≡ self.old.capacity }
-        ensures memory { self.new.memory ≡ self.old.memory }
+        ensures refused { RefusesPop self.old self.new into.old into.new result }
+        ensures frame { KeepsQueue self.old self.new }
         ensures touches { self.new.touches ≤ self.old.touches + 32 }
     {
         let Some(&entry) = self.entries.front() else {

@@ -1,8 +1,8 @@
 //! A pool of objects of one size and alignment, each of which owns its bytes.
 
-ghost use Rattle.std.specs.Prelude.{◌≡◌, ◌+◌, ◌-◌, ◌%◌, ◌^◌, ◌<◌, ◌≤◌, ◌↔◌, ℕ, None, Some, IfOk, IfSome, IsErrOf, IsNone, length, replicate};
-ghost use Rattle.rlsf_heap.specs.Heap.{IsWritten};
+ghost use Rattle.std.specs.Prelude.{◌≡◌, ◌+◌, ◌-◌, ◌^◌, ◌≤◌, ◌↔◌, ℕ, None, Some, IfNone, IfOk, IfSome, IsErrOf, IsNone};
 ghost use Rattle.rlsf_base.specs.Sizes.{pool_size_for_payloads};
+ghost use Rattle.rlsf_example_libraries.specs.Results.{IsTaken};
 
 use rlsf::{Layout, Range, classes};
 use rlsf_base::memory::{MemoryError, OpenMemory};
@@ -84,16 +84,10 @@ impl OwnedObjects {
     ///
     /// Returns `None` if and only if the number of objects that are out is the capacity; then nothing changes.
     pub fn take(&mut self) -> Option<Payload>
-        ensures full { IsNone result ↔ (self.old.live ≡ self.old.capacity) }
-        ensures refused { IsNone result → self.new ≡ self.old }
-        ensures taken { IfSome result (λ _. self.new ≡ record self.old { live = self.old.live + 1 }) }
-        ensures identity { self.new.identity ≡ self.old.identity }
-        ensures object { IfSome result (λ o. (o.identity ≡ self.old.identity) × (o.align ≡ self.old.align)) }
-        ensures written { IfSome result (λ o. IsWritten o) }
-        ensures zeros { IfSome result (λ o. o.bytes ≡ replicate (length o.bytes) 0) }
-        ensures sized { IfSome result (λ o. self.old.size ≤ length o.bytes) }
-        ensures few { IfSome result (λ o. length o.bytes < self.old.size + 32) }
-        ensures aligned { IfSome result (λ o. o.start % self.old.align ≡ 0) }
+        ensures result { IfSome result (λ object. IsTaken self.old self.new object) }
+        ensures room { IsNone result ↔ (self.old.live ≡ self.old.capacity) }
+        ensures refused { IfNone result (self.new ≡ self.old) }
+        ensures frame { self.new.identity ≡ self.old.identity }
     {
         if self.heap.live() == self.capacity {
             return None;

@@ -18,20 +18,25 @@ found c =
     let here = c.in-Some.ensures in
     oldest_stored c.self.inside.store entries.items c.in-Some.field-0.now c.self.invariant.0 (omega (arith, entries.ok.0, here.variant.0 refl)) here.lookup
 
-pub returns-then-into-entry-clause-short : goal.returns-then-into-entry-clause-short
-returns-then-into-entry-clause-short c =
-    let o = found (goal.at.returns-then-into-entry-clause-short c).In-Some in
-    rw (← c.self.view_is) (λ _. subst (λ ms. IsSomeAnd (oldest ms) (λ m. length c.args.into.now < length m)) (sym o.messages) (omega (arith, o.len)), λ _. refl)
-
-pub returns-then-into-entry-clause-enough : goal.returns-then-into-entry-clause-enough
-returns-then-into-entry-clause-enough c =
-    let i = c.self.inside in
-    let here = c.in-Some.ensures in
-    rw (← c.self.view_is) (λ within _. absurd (omega (
-      arith,
-      oldest_within i.longest (range_of i.store.heap.memory) (deque_capacity i.entries) (length c.args.into.now) i.entries.items c.in-Some.field-0.now c.self.invariant.1
-          (omega (arith, i.entries.ok.0, here.variant.0 refl)) here.lookup within,
-    )))
+pub returns-then-into-entry-clause-refused : goal.returns-then-into-entry-clause-refused
+returns-then-into-entry-clause-refused c = record {
+  same = search rules;
+  bytes = search rules;
+  empty =
+      let o = found (goal.at.returns-then-into-entry-clause-refused c).In-Some in
+      rw (← c.self.view_is) (λ bad. absurd cc, λ none. absurd (omega (arith, ap length (sym o.messages ∙ none))));
+  short =
+      let o = found (goal.at.returns-then-into-entry-clause-refused c).In-Some in
+      rw (← c.self.view_is) (λ _. subst (λ ms. IsSomeAnd (oldest ms) (λ m. length c.args.into.now < length m)) (sym o.messages) (omega (arith, o.len)), λ _. refl);
+  enough =
+      let i = c.self.inside in
+      let here = c.in-Some.ensures in
+      rw (← c.self.view_is) (λ within _. absurd (omega (
+        arith,
+        oldest_within i.longest (range_of i.store.heap.memory) (deque_capacity i.entries) (length c.args.into.now) i.entries.items c.in-Some.field-0.now c.self.invariant.1
+            (omega (arith, i.entries.ok.0, here.variant.0 refl)) here.lookup within,
+      )));
+}
 
 pub read-requires : goal.read-requires
 read-requires c = ([], _, _, (found (goal.at.read-requires c).In-Some).places, refl, refl)
@@ -62,7 +67,7 @@ invariant_of-self c =
 
 pub returns : goal.returns
 returns c = record {
-  ok =
+  result =
       let at = goal.at.returns c in
       let o = found at.In-Some in
       let rest = (left at.After-remove o).1 in
@@ -73,17 +78,12 @@ returns c = record {
         sym o.len,
         ap (λ bs. bs ++ drop c.in-Some.field-0.now.len c.args.into.now) bytes,
       );
-  refused = search rules;
-  empty = search rules;
-  longest = search rules;
-  short = search rules;
-  enough = search rules;
   room =
       let entries = c.self.inside.entries in
       let rest : drop 1 entries.items ≡ c.pop_front.new.self.items = cc in
       let less : length c.pop_front.new.self.items ≡ length entries.items - 1 = ap length (sym rest) ∙ length-drop 1 entries.items in
       omega (arith, less, length-messages c.remove.new.self.heap.memory c.pop_front.new.self.items, entries.ok.0, c.in-Some.ensures.variant.0 refl);
-  capacity = search rules;
-  memory = search rules;
+  refused = search rules;
+  frame = search rules;
   touches = search rules;
 }

@@ -22,15 +22,17 @@ invariant_of-self-2 c =
 
 pub returns-then-len-capacity : goal.returns-then-len-capacity
 returns-then-len-capacity c = record {
-  ok = search rules;
-  refused = search rules;
-  full = rw (← c.self.view_is) (λ _. omega (arith, length-messages c.self.inside.store.heap.memory c.self.inside.entries.items), λ _. refl);
-  long = rw (← c.self.view_is) (λ bad. absurd cc, λ (few, _). absurd (omega (arith, few, length-messages c.self.inside.store.heap.memory c.self.inside.entries.items)));
-  room = rw (← c.self.view_is) (λ none some _. absurd (omega (arith, length-messages c.self.inside.store.heap.memory c.self.inside.entries.items, ap length none)));
-  enough = rw (← c.self.view_is) (λ _ _. omega (arith, length-messages c.self.inside.store.heap.memory c.self.inside.entries.items));
-  capacity = search rules;
-  longest = search rules;
-  memory = search rules;
+  result = search rules;
+  room = record {
+    first = rw (← c.self.view_is) (λ none some _. absurd (omega (arith, length-messages c.self.inside.store.heap.memory c.self.inside.entries.items, ap length none)));
+    enough = rw (← c.self.view_is) (λ _ _. omega (arith, length-messages c.self.inside.store.heap.memory c.self.inside.entries.items));
+  };
+  refused = record {
+    same = search rules;
+    full = rw (← c.self.view_is) (λ _. omega (arith, length-messages c.self.inside.store.heap.memory c.self.inside.entries.items), λ _. refl);
+    long = rw (← c.self.view_is) (λ bad. absurd cc, λ (few, _). absurd (omega (arith, few, length-messages c.self.inside.store.heap.memory c.self.inside.entries.items)));
+  };
+  frame = search rules;
   touches = search rules;
 }
 
@@ -45,51 +47,54 @@ both_told (Some longest) len longer short = absurd (omega (arith, longer, short)
 
 pub returns-then-is_longer : goal.returns-then-is_longer
 returns-then-is_longer c = record {
-  ok = search rules;
-  refused = search rules;
-  full = rw (← c.self.view_is) (λ bad. absurd cc, λ full. absurd (omega (arith, length-messages c.self.inside.store.heap.memory c.self.inside.entries.items)));
-  long = rw (← c.self.view_is) (
-    λ _. (omega (arith, length-messages c.self.inside.store.heap.memory c.self.inside.entries.items), c.is_longer.ensures.0 c.if-is_longer.true),
-    λ _. refl,
-  );
-  room = rw (← c.self.view_is) (λ _ _ _ short. both c.self.inside.longest (length c.args.message.now) (c.is_longer.ensures.0 c.if-is_longer.true) short);
-  enough = rw (← c.self.view_is) (λ short _. both_told c.self.inside.longest (length c.args.message.now) (c.is_longer.ensures.0 c.if-is_longer.true) short);
-  capacity = search rules;
-  longest = search rules;
-  memory = search rules;
+  result = search rules;
+  room = record {
+    first = rw (← c.self.view_is) (λ _ _ _ short. both c.self.inside.longest (length c.args.message.now) (c.is_longer.ensures.0 c.if-is_longer.true) short);
+    enough = rw (← c.self.view_is) (λ short _. both_told c.self.inside.longest (length c.args.message.now) (c.is_longer.ensures.0 c.if-is_longer.true) short);
+  };
+  refused = record {
+    same = search rules;
+    full = rw (← c.self.view_is) (λ bad. absurd cc, λ full. absurd (omega (arith, length-messages c.self.inside.store.heap.memory c.self.inside.entries.items)));
+    long = rw (← c.self.view_is) (
+      λ _. (omega (arith, length-messages c.self.inside.store.heap.memory c.self.inside.entries.items), c.is_longer.ensures.0 c.if-is_longer.true),
+      λ _. refl,
+    );
+  };
+  frame = search rules;
   touches = search rules;
 }
 
 pub returns-in_default : goal.returns-in_default
 returns-in_default c = record {
-  ok = search rules;
-  refused = rw (← c.self.view_is) (c.in_default.ensures.refused _ c.self.invariant.0).1;
-  full = rw (← c.self.view_is) (λ bad. absurd cc, λ full. absurd (omega (arith, length-messages c.self.inside.store.heap.memory c.self.inside.entries.items)));
-  long = rw (← c.self.view_is) (λ bad. absurd cc, λ (_, longer). absurd (false≢true (sym c.if-is_longer.false ∙ c.is_longer.ensures.1 longer)));
-  room = rw (← c.self.view_is) (λ none _ fits _. c.in_default.ensures.room (nothing_stored c.self.inside.store c.self.inside.entries.items c.self.invariant.0 none) fits);
-  enough = rw (← c.self.view_is) (λ short _.
-      let i = c.self.inside in
-      let few : length i.entries.items < deque_capacity i.entries = omega arith in
-      let (n, budget, fits) = budget_for_message i.longest i.store i.entries.items (deque_capacity i.entries)
-      (length c.args.message.now) c.self.invariant.0 c.self.invariant.1 few short in
-      absurd (false≢true (c.in_default.ensures.enough _ _ _ budget fits)));
-  capacity = search rules;
-  longest = search rules;
-  memory = search rules;
+  result = search rules;
+  room = record {
+    first = rw (← c.self.view_is) (λ none _ fits _. c.in_default.ensures.room (nothing_stored c.self.inside.store c.self.inside.entries.items c.self.invariant.0 none) fits);
+    enough = rw (← c.self.view_is) (λ short _.
+        let i = c.self.inside in
+        let few : length i.entries.items < deque_capacity i.entries = omega arith in
+        let (n, budget, fits) = budget_for_message i.longest i.store i.entries.items (deque_capacity i.entries)
+        (length c.args.message.now) c.self.invariant.0 c.self.invariant.1 few short in
+        absurd (false≢true (c.in_default.ensures.enough _ _ _ budget fits)));
+  };
+  refused = record {
+    same = rw (← c.self.view_is) (c.in_default.ensures.refused _ c.self.invariant.0).1;
+    full = rw (← c.self.view_is) (λ bad. absurd cc, λ full. absurd (omega (arith, length-messages c.self.inside.store.heap.memory c.self.inside.entries.items)));
+    long = rw (← c.self.view_is) (λ bad. absurd cc, λ (_, longer). absurd (false≢true (sym c.if-is_longer.false ∙ c.is_longer.ensures.1 longer)));
+  };
+  frame = search rules;
   touches = search rules;
 }
 
 pub returns : goal.returns
 returns c = record {
-  ok = rw (← c.self.view_is, c.push_back_reserved.ensures.items)
+  result = rw (← c.self.view_is, c.push_back_reserved.ensures.items)
       (pushed c.self.inside.store c.add.new.self c.self.inside.entries.items _ c.args.message.now (c.in-Some.ensures.stored _ c.self.invariant.0)).1;
-  refused = search rules;
-  full = rw (← c.self.view_is) (λ bad. absurd cc, λ full. absurd (omega (arith, length-messages c.self.inside.store.heap.memory c.self.inside.entries.items)));
-  long = rw (← c.self.view_is) (λ bad. absurd cc, λ (_, longer). absurd (false≢true (sym c.if-is_longer.false ∙ c.is_longer.ensures.1 longer)));
   room = search rules;
-  enough = search rules;
-  capacity = search rules;
-  longest = search rules;
-  memory = search rules;
+  refused = record {
+    same = search rules;
+    full = rw (← c.self.view_is) (λ bad. absurd cc, λ full. absurd (omega (arith, length-messages c.self.inside.store.heap.memory c.self.inside.entries.items)));
+    long = rw (← c.self.view_is) (λ bad. absurd cc, λ (_, longer). absurd (false≢true (sym c.if-is_longer.false ∙ c.is_longer.ensures.1 longer)));
+  };
+  frame = search rules;
   touches = search rules;
 }
