@@ -1,18 +1,22 @@
 //! The bytes of payloads that the allocator itself writes.
 
-ghost use Rattle.std.specs.Prelude.{◌≡◌, ◌≤◌, ◌+◌, ◌&&◌, length, nat_le, replicate, OnOk};
+ghost use Rattle.std.specs.Prelude.{◌≡◌, ◌≤◌, ◌+◌, ◌&&◌, length, nat_le, replicate, IfErr, IfOk, IsOk, OnOk};
 ghost use Rattle.std.specs.List.{splice};
 ghost use Rattle.rlsf_base.specs.Addr.{at};
+ghost use Rattle.rlsf_model.specs.Allocate.{Allocates};
 ghost use Rattle.rlsf_model.specs.Callers.{align_at, bytes_at, copied_over};
 ghost use Rattle.rlsf_model.specs.Run.{Fills};
 ghost use Rattle.rlsf_tlsf.specs.Allocator.{Steps};
-ghost use Rattle.rlsf_tlsf.specs.Bounds.{KeepsAllBounds};
-ghost use Rattle.rlsf_checked.specs.Answers.{copy_answer, if_live};
-ghost use Rattle.rlsf_checked.specs.Results.{KeepsCheckedFrameCopying, KeepsCheckedFrameInPlace, RefusesUntouched};
+ghost use Rattle.rlsf_tlsf.specs.Bounds.{IfWithinBounds, KeepsAllBounds, KeepsBounds};
+ghost use Rattle.rlsf_tlsf.specs.Results.{IsAllocatedZeroed};
+ghost use Rattle.rlsf_checked.specs.Answers.{addr_in, copy_answer, if_live};
+ghost use Rattle.rlsf_checked.specs.declared.error.CheckedError.TheVariants.{NoRoom};
+ghost use Rattle.rlsf_checked.specs.Results.{KeepsCheckedFrame, KeepsCheckedFrameCopying, KeepsCheckedFrameInPlace, RefusesUnchanged, RefusesUntouched};
 
 use crate::checked::CheckedTlsf;
 use crate::error::CheckedError;
-use rlsf_base::memory::Addr;
+use crate::marks::mark_of;
+use rlsf_base::memory::{Addr, Layout};
 use rlsf_int::BitPattern;
 
 impl<
@@ -71,6 +75,27 @@ impl<
         };
         fill_all(self.heap.payload_mut(addr), value);
         Ok(())
+    }
+
+    /// Allocates a payload for a layout, as `allocate` does, and fills all its usable bytes with zeros. Returns its address.
+    ///
+    /// Returns `NoRoom` exactly if `allocate` does. Then nothing changes.
+    ///
+    /// At most 30 word accesses, whatever the pools contain, and time proportional to the usable bytes. No byte is copied.
+    pub fn allocate_zeroed(&mut self, layout: Layout) -> Result<Addr, CheckedError>
+        ensures step { Steps FLLEN SLLEN self.old.heap self.new.heap (Allocates SLLEN self.old.heap.state layout.size layout.align (addr_in result)) }
+        ensures result { IfOk result (λ addr. IsAllocatedZeroed self.old.heap.state self.new.heap.state layout.size layout.align (at addr)) }
+        ensures room { IfWithinBounds SLLEN self.old.heap.state layout.size layout.align (IsOk result) }
+        ensures bounds { KeepsBounds SLLEN self.old.heap.state self.new.heap.state layout.size layout.align }
+        ensures refused { RefusesUnchanged self.old self.new (IfErr result (λ e. e ≡ NoRoom)) result }
+        ensures frame { KeepsCheckedFrame self.old self.new }
+        ensures touches { self.new.heap.memory.touches ≤ self.old.heap.memory.touches + 30 }
+    {
+        let Some(addr) = self.heap.allocate_zeroed(layout) else {
+            return Err(CheckedError::NoRoom);
+        };
+        self.marks.set(addr.get(), mark_of(layout.align()));
+        Ok(addr)
     }
 }
 
