@@ -71,7 +71,7 @@ impl<
     const SLLEN: usize,
 > FlexTlsf<S, FLBitmap, SLBitmap, FLLEN, SLLEN> {
     ghost use Rattle.rlsf_tlsf.specs.Bounds.{IfWithinBounds, KeepsAllBounds, KeepsBounds};
-    ghost use Rattle.rlsf_tlsf.specs.Results.{IsAllocated, IsDeallocated, IsFilled, IsReallocated, IsResized};
+    ghost use Rattle.rlsf_tlsf.specs.Results.{IsAllocated, IsAllocatedZeroed, IsDeallocated, IsFilled, IsReallocated, IsResized};
     ghost use Rattle.rlsf_flex.specs.Lending.{LeavesRest, lends_payload, written};
     ghost use Rattle.rlsf_flex.specs.Results.{IsUnchangedButSource, KeepsFlexFrame, KeepsFlexFrameAlone, KeepsFlexFrameCopying};
     ghost use Rattle.rlsf_flex.specs.Results.{KeepsFlexFrameInPlace, KeepsFlexFrameMoving, KeepsFlexFrameOfTrim, SizesFreedRoom, SucceedsUnasked};
@@ -169,6 +169,28 @@ impl<
         } else {
             None
         }
+    }
+
+    /// Allocates a payload for a layout, as `allocate` does, and fills all its usable bytes with zeros. Returns its address.
+    ///
+    /// Returns `None` exactly if `allocate` does. Then the pools and all bytes are unchanged, and only the source was asked.
+    ///
+    /// If there is room, at most 30 word accesses, whatever the pools contain, and time proportional to the usable bytes. No byte is copied.
+    pub fn allocate_zeroed(&mut self, layout: Layout) -> Option<Addr>
+        ensures step { FlexSteps FLLEN SLLEN S.terms S.owes S.leads self.old self.new
+            (FlexAllocates FLLEN SLLEN (S.terms self.old.source) self.old.state layout.size layout.align (reply result)) }
+        ensures result { IfSome result (λ addr. IsAllocatedZeroed self.old.state.machine self.new.state.machine layout.size layout.align (at addr)) }
+        ensures room { SucceedsUnasked SLLEN self.old self.new layout.size layout.align (IsSome result) }
+        ensures bounds { KeepsBounds SLLEN self.old.state.machine self.new.state.machine layout.size layout.align }
+        ensures refused { IfNone result (IsUnchangedButSource self.old self.new) }
+        ensures frame { KeepsFlexFrame self.old self.new }
+        ensures touches { HasRoomFor SLLEN self.old.state.machine layout.size layout.align → self.new.memory.touches ≤ self.old.memory.touches + 30 }
+    {
+        // Opens the invariant for the prover: the parameters are valid, and the parts represent the state.
+        let _ = &self.parts;
+        let addr = self.allocate(layout)?;
+        self.payload_mut(addr).fill(0);
+        Some(addr)
     }
 
     /// Deallocates a payload, as `Tlsf::deallocate` does. The source is asked nothing.
