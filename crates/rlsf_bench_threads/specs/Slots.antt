@@ -1,7 +1,20 @@
 -- The payloads that the slots hold.
-use Rattle.std.specs.Prelude.{◌≡◌, List, Option, All, IfSome}
+use Rattle.std.specs.Prelude.{◌≡◌, ℕ, List, Option, None, Some, All, IfSome, slice_index_or}
+use Rattle.rlsf_base.specs.Addr.{at}
+use Rattle.rlsf_bench_threads.specs.declared.global_steps.Payload.{Payload}
 use Rattle.rlsf_heap.specs.Heap.{Identity, PayloadView}
+use Rattle.rlsf_model.specs.Callers.{align_at}
+use Rattle.rlsf_model.specs.State.{State}
 
 -- each is a payload of one heap
 abbrev pub AreOf : Identity → List (Option PayloadView) → Type 0
 AreOf heap slots = All (λ slot. IfSome slot (λ payload. payload.identity ≡ heap)) slots
+
+-- a slot has this payload
+abbrev pub Has : List (Option Payload) → ℕ → Payload → Type 0
+Has slots i p = slice_index_or slots i None ≡ Some p
+
+-- each is live in the state, with its alignment, and in no other slot
+pub record AreLive (s : State) (slots : List (Option Payload)) : Type 0 where
+  pub live : (i : ℕ) (p : Payload) → Has slots i p → align_at s (at p.addr) ≡ Some p.layout.align
+  pub one : (i j : ℕ) (p q : Payload) → Has slots i p → Has slots j q → at p.addr ≡ at q.addr → i ≡ j

@@ -38,13 +38,13 @@ impl Tally {
 
 /// A payload, and the layout that was asked for it.
 #[derive(Clone, Copy)]
-struct Payload {
-    addr: Addr,
-    layout: Layout,
+pub(crate) struct Payload {
+    pub(crate) addr: Addr,
+    pub(crate) layout: Layout,
 }
 
 /// The layout that a drawn number asks for: up to 511 bytes, anywhere.
-fn layout_of(draw: u64) -> Layout {
+pub(crate) fn layout_of(draw: u64) -> Layout {
     Layout::from_size_align_unchecked((draw % 512) as usize, 1)
 }
 

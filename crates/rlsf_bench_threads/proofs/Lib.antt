@@ -1,0 +1,2 @@
+-- Lemmas about the slots of a run.
+mod SlotChanges
