@@ -2,7 +2,7 @@
 use Rattle.std.proofs.Common.{◌≡◌, ◌≢◌, ◌⊎◌, ℕ, zero, length-set, suc, ◌-◌, ◌<◌, ◌≤◌, ◌/◌, ◌%◌, List, [], ◌∷◌, ◌++◌, length, Some, refl, sym, ap, arith, ◌∙◌, get_or, set, slice_get, subst, inl, inr, get_or-set_same, get_or-set_other}
 use Rattle.std.proofs.lemmas.Bool.{cases_eq}
 use Rattle.rlsf_global.proofs.ListElements.{get-length}
-use Rattle.rlsf_global.specs.Hints.{Counts, hint_at, HintLeaf, HasAll, HasSamePages, HaveNone, HaveSameCounts, HaveSameLeaves, HintPages, IsLeaf, KeepsOtherHints, KeepsOthers, KeepsUsedHints, leaf_at, no_leaf}
+use Rattle.rlsf_global.specs.Hints.{Counts, hint_at, HintLeaf, HasAll, HasSamePages, HaveNone, HaveSameCounts, HaveSameLeaves, HintPages, IsFreed, IsLeaf, KeepsOtherHints, KeepsOthers, KeepsUsedHints, leaf_at, no_leaf}
 
 slice_get-set : {X : Type 0} → (xs : List X) (i : ℕ) (x : X) → i < length xs → slice_get (set xs i x) i ≡ Some x
 slice_get-set [] i x h = absurd (omega (arith, h))
@@ -102,6 +102,9 @@ counts_past ls q h =
     let none : (leaf_at ls q).used ≡ 0 = ap (λ (l : HintLeaf). l.used) (none_past ls q h) in
     record { here = omega (arith, none); others = λ p off. refl }
 
+pub past_freed : (ls : List HintLeaf) (q : ℕ) → length ls ≤ q → IsFreed (leaf_at ls q)
+past_freed ls q h = subst IsFreed (sym (none_past ls q h)) (λ _. refl)
+
 pub none_counted : (ls : List HintLeaf) (n : ℕ) → length ls ≤ n → ((q : ℕ) → q < n → (leaf_at ls q).used ≡ 0) → HaveNone ls
 unfolding HaveNone
 none_counted ls n le none q = elim (below q n) [ inl lt ↦ none q lt | inr past ↦ ap (λ (l : HintLeaf). l.used) (none_past ls q (omega (arith, le, past))) ]
@@ -150,6 +153,9 @@ module _ (ls : List HintLeaf) (old new : HintLeaf) (place : ℕ) (within : place
 
   pub leaf_counts : (n : ℕ) → new.used ≡ n → Counts ls (place / 512) n (set ls (place / 512) new)
   leaf_counts n is = record { here = ap (λ (l : HintLeaf). l.used) after ∙ is; others = λ q off. ap (λ (l : HintLeaf). l.used) (other q off) }
+
+  pub leaf_freed : IsFreed new → IsFreed (leaf_at (set ls (place / 512) new) (place / 512))
+  leaf_freed is = subst IsFreed (sym after) is
 
   pub leaf_same_counts : new.used ≡ old.used → HaveSameCounts ls (set ls (place / 512) new)
   unfolding HaveSameCounts

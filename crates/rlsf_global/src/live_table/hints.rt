@@ -2,7 +2,7 @@
 
 ghost use Rattle.std.specs.Prelude.{◌≡◌, ◌<◌, ◌≤◌, ◌+◌, ◌-◌, ◌/◌, ◌^◌, ℕ, [], Some, length, slice_get, true};
 ghost use Rattle.std.specs.Vec.{vec_len};
-ghost use Rattle.rlsf_global.specs.Hints.{Counts, CountsOneMore, HasAll, HasLeafFor, HasSamePages, HaveNone, HaveSameCounts, HaveSameLeaves};
+ghost use Rattle.rlsf_global.specs.Hints.{Counts, CountsOneMore, HasAll, HasLeafFor, HasSamePages, HaveNone, HaveSameCounts, HaveSameLeaves, IsFreed};
 ghost use Rattle.rlsf_global.specs.Hints.{KeepsOtherHints, KeepsOthers, KeepsUsedHints, hint_at, leaf_at};
 
 use crate::live_table::leaves::{Leaf, PLACES};
@@ -124,6 +124,7 @@ impl Hints {
     pub(crate) fn leave(&mut self, place: usize)
         ensures kept { KeepsUsedHints self.old.leaves self.new.leaves }
         ensures counts { Counts self.old.leaves (place / 512) ((leaf_at self.old.leaves (place / 512)).used - 1) self.new.leaves }
+        ensures freed { IsFreed (leaf_at self.new.leaves (place / 512)) }
         ensures spare { self.old.spare ≤ self.new.spare }
         ensures pages { HasSamePages self.old self.new }
     {
@@ -215,6 +216,7 @@ fn add_in(leaf: &mut Leaf, spare: &mut Leaf, at: usize, number: u32, alloc: Glob
 fn leave_in(leaf: &mut Leaf, spare: &mut Leaf, alloc: Global)
     ensures used { leaf.new.used ≡ leaf.old.used - 1 }
     ensures kept { 0 < leaf.new.used → leaf.new.numbers ≡ leaf.old.numbers }
+    ensures freed { IsFreed leaf.new }
     ensures spare { length spare.old.numbers ≤ length spare.new.numbers }
 {
     if !leaf.leave() {

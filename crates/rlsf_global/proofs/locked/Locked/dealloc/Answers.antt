@@ -30,9 +30,11 @@ invariant_of-self-then-ne g c = record {
 }
 
 pub deallocate-requires : goal.deallocate-requires
-deallocate-requires g c =
-    (lit< tt, live_row c.self.inside.flex c.self.inside.rows.rows c.self.invariant.locked (at c.args.addr) c.in-Some.row (sym c.in-Some.ensures.row) ∙ ap Some
-    (sym c.align.ensures.value))
+deallocate-requires g c = (
+  lit< tt,
+  live_row c.self.inside.flex c.self.inside.rows.rows c.self.invariant.locked (at c.args.addr) c.in-Some.row (sym c.in-Some.ensures.row) ∙ ap Some
+      (sym c.align.ensures.value),
+)
 
 pub invariant_of-self : goal.invariant_of-self
 invariant_of-self g c = record {
