@@ -7,3 +7,4 @@ mod lengths;
 mod pools;
 mod random;
 mod removals;
+mod zeroed;

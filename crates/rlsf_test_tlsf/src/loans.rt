@@ -119,7 +119,7 @@ fn zeroed(tlsf: &mut Long, layout: Layout) -> Option<[usize; 2]> {
 }
 
 /// Sizes and alignments, and address and number of usable bytes of the first payload of a pool that begins at 4096.
-const ZEROED: [[usize; 4]; 10] = [
+pub(crate) const ZEROED: [[usize; 4]; 10] = [
     [0, 1, 4112, 16],
     [1, 1, 4112, 16],
     [17, 16, 4112, 48],
