@@ -12,9 +12,8 @@ use crate::heap::Heap;
 use crate::payload::Payload;
 use rlsf_base::memory::{Layout, UnitPayload, UnitTail};
 use rlsf_base::rounding::next_multiple_of_32;
-use rlsf_blocks::reallocation::resize_kept_block;
 use rlsf_int::BitPattern;
-use rlsf_tlsf::core_calls::deallocate_block_in;
+use rlsf_tlsf::core_calls::{deallocate_block_in, resize_block_in};
 
 /// The length of a unit, and its alignment.
 const UNIT: usize = 16;
@@ -144,12 +143,11 @@ impl<FLBitmap: BitPattern, SLBitmap: BitPattern, const FLLEN: usize, const SLLEN
         // The word at 8 bytes past the payload's end names its block.
         let block = self.memory.put_unit_tail(&mut self.ledger, tail, kept, 8) as usize;
         let start = block + 16;
-        let view = self.memory.view();
         let sought = Layout::from_size_align_unchecked(size, UNIT);
-        if !resize_kept_block(
+        if !resize_block_in(
             &mut self.memory,
-            view,
             &mut self.table,
+            &mut self.state,
             block,
             start,
             sought,
@@ -157,7 +155,6 @@ impl<FLBitmap: BitPattern, SLBitmap: BitPattern, const FLLEN: usize, const SLLEN
             let ticket = self.ledger.issue(start, len, UNIT);
             return Err(self.memory.take_unit_tail(ticket, start, len, kept));
         }
-        self.state.reallocate(SLLEN, start, size);
         let ticket = self.ledger.issue(start, wanted, UNIT);
         Ok(self.memory.take_unit_tail(ticket, start, wanted, kept))
     }

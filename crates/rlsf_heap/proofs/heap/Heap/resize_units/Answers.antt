@@ -1,40 +1,30 @@
-use Rattle.std.proofs.Common.{◌≡◌, ◌+◌, ◌-◌, ◌≤◌, ℕ, ◌∷◌, [], ◌++◌, true, false, set, length, None, Some, arith, inl, inr, refl, rules, sym, ap, subst}
-use Rattle.std.proofs.Common.{◌∙◌}
-use Rattle.std.proofs.lemmas.Bool.{cases_eq}
-use Rattle.rlsf_base.specs.Ledger.{entry_of, extent}
-use Rattle.rlsf_base.specs.OpenSpace.{Home, out_without}
-use Rattle.rlsf_base.specs.Range.{range_at}
-use Rattle.rlsf_base.specs.Space.{range_of}
+use Rattle.std.proofs.Common.{◌≡◌, ℕ, ◌+◌, ◌-◌, ◌≤◌, ◌∷◌, [], ◌++◌, List, Bool, true, false, length, Some, arith, refl, sym, ap, subst, ◌∙◌}
+use Rattle.rlsf_base.specs.declared.memory.unit_tail.UnitTail.{UnitTail}
+use Rattle.rlsf_base.specs.Ledger.{Entry, entry_of, extent}
+use Rattle.rlsf_base.specs.OpenSpace.{Home, IsOwned, home_of, out_without}
+use Rattle.rlsf_base.specs.Range.{LiesIn, range_at}
+use Rattle.rlsf_base.specs.Space.{Space}
 use Rattle.rlsf_base.specs.UnitPayload.{pointer_to}
-use Rattle.rlsf_model.specs.Callers.{align_at}
-use Rattle.rlsf_model.specs.NoMove.{ReallocatesUnmovedBy, ReallocatesWithoutMove, unmoved_plan}
-use Rattle.rlsf_model.specs.Reallocate.{Reallocates}
-use Rattle.rlsf_model.specs.Sized.{IsSizedFor, live_count}
-use Rattle.rlsf_model.specs.State.{State, Used}
-use Rattle.rlsf_model.specs.WellFormed.{IsWellFormed}
-use Rattle.rlsf_model.proofs.CallerWords.{SeesResized, align_at-held, align_at-live, resized_seen}
-use Rattle.rlsf_model.proofs.Chunks.{chunks-reallocated}
-use Rattle.rlsf_model.proofs.NoMove.{unmoved_is_reallocated}
-use Rattle.rlsf_model.proofs.SizedWords.{count_resized, sized_resized}
+use Rattle.rlsf_model.specs.NoMove.{ReallocatesWithoutMove}
+use Rattle.rlsf_model.specs.State.{Holds, State, Used, usable}
 use Rattle.rlsf_table.proofs.Parameters.{IsValid-widest}
 use Rattle.rlsf_blocks.specs.Laws.{read_from}
 use Rattle.rlsf_blocks.specs.StandsFor.{contents, StandsFor}
-use Rattle.rlsf_blocks.proofs.Words.Stays.{Stays}
-use Rattle.rlsf_blocks.specs.Steps.Resize.{IsOwnedBehind, IsResized, IsUsedAt}
-use Rattle.rlsf_blocks.proofs.Reallocate.FirstPlan.{StandsFor-unchanged}
-use Rattle.rlsf_tlsf.specs.Steps.Moves.{bare}
-use Rattle.rlsf_tlsf.proofs.Arrivals.{arrived}
-use Rattle.rlsf_heap.specs.Heap.{AreIssued, HeapView, Identity, heap_view}
-use Rattle.rlsf_heap.specs.Kept.{KeepsSpareBytes}
-use Rattle.rlsf_heap.specs.Units.{heap_of_tail, payload_len}
-use Rattle.rlsf_heap.proofs.Arrivals.{IsHeap-arrived, Steps-arrived, bare-kept, stepped, view_well_formed}
-use Rattle.rlsf_heap.proofs.Costs.{Leaves, is_of_heap, left_costs, left_same, left_then, sees_left}
-use Rattle.rlsf_heap.proofs.Kept.{beside-seen, raw-seen, raw-tail, same-byte, spare-first, spare-last, spare-same, spare-seen}
+use Rattle.rlsf_tlsf.specs.CoreResizes.{KeepsBoundsThere, KeepsPayloads, stayed_if}
+use Rattle.rlsf_tlsf.specs.Results.{IsResized}
+use Rattle.rlsf_tlsf.proofs.Reached.{read_from-counted, read_from-same}
+use Rattle.rlsf_heap.specs.Frame.{KeepsFrameBeside, KeepsSized}
+use Rattle.rlsf_heap.specs.Heap.{AreIssued, HeapView, Identity, IsHeap, Stands, Steps, heap_view}
+use Rattle.rlsf_heap.specs.Kept.{KeepsBytesBeside, NoneBecomesRawBeside}
+use Rattle.rlsf_heap.specs.Units.{IsTail, payload_len}
+use Rattle.rlsf_heap.proofs.Kept.{raw-tail, same-byte, spare-first, spare-last}
+use Rattle.rlsf_heap.proofs.OnCores.{heap-over, same_identity, stays}
 use Rattle.rlsf_heap.proofs.UnitPayloads.{payload_len-whole}
-use Rattle.rlsf_heap.proofs.UnitTails as tails
+use Rattle.rlsf_heap.proofs.UnitTails.{IsBack, begins_at, block, held, lies, live, now-issued, now-lies, now-own, now-stands, own-behind, readable, resized-long, same-long, shrinks}
+use Rattle.rlsf_heap.proofs.UnitTails.{stands-back, start-fits}
 use Rattle.rlsf_heap.proofs.heap.Heap.resize_units.Given as given
 use Rattle.rlsf_heap.proofs.heap.Heap.resize_units.Goals as goal
-use Rattle.rlsf_heap.proofs.heap.Heap.resize_units.Goals.{After-put_unit_tail-block, After-take_unit_tail, After-take_unit_tail-2}
+use Rattle.rlsf_heap.proofs.heap.Heap.resize_units.Goals.{After-put_unit_tail-block, After-resize_block_in}
 
 pub put_unit_tail-block-requires-clause-home : goal.put_unit_tail-block-requires-clause-home
 put_unit_tail-block-requires-clause-home g c = ap (λ (h : Identity). h.home) c.requires.heap ∙ sym (ap (λ (v : HeapView). v.identity.home) c.self.view_is)
@@ -43,456 +33,310 @@ pub put_unit_tail-block-requires-clause-name : goal.put_unit_tail-block-requires
 put_unit_tail-block-requires-clause-name g c = ap (λ (h : Identity). h.ledger) c.requires.heap ∙ sym (ap (λ (v : HeapView). v.identity.ledger) c.self.view_is)
 
 pub put_unit_tail-block-requires-clause-readable : goal.put_unit_tail-block-requires-clause-readable
-put_unit_tail-block-requires-clause-readable g c = λ is. tails.readable c.self.invariant.stands c.self.invariant.tickets c.args.tail.key c.args.tail.start c.args.tail.len is
+put_unit_tail-block-requires-clause-readable g c = λ is. readable (record { stands = c.self.invariant.stands; tickets = c.self.invariant.tickets; issued = is })
 
 -- ---- the units behind the kept bytes are back, and the block is found
 
-abbrev before : (g : given.Over) (d : After-put_unit_tail-block g) → State
-before g d = read_from d.self.inside.memory d.self.inside.state.state
-
-abbrev block : (g : given.Over) (d : After-put_unit_tail-block g) → Used
-block g d = tails.block d.self.invariant.stands d.self.invariant.tickets d.args.tail.key d.args.tail.start d.args.tail.len
-    d.put_unit_tail-block.ensures.issued
-
-starts : (g : given.Over) (d : After-put_unit_tail-block g) → (block g d).block.start ≡ d.put_unit_tail-block.result
-starts g d = sym (tails.names d.self.invariant.stands d.self.invariant.tickets d.args.tail.key d.args.tail.start d.args.tail.len
-    d.put_unit_tail-block.ensures.issued) ∙ sym d.put_unit_tail-block.ensures.word
-
-at : (g : given.Over) (d : After-put_unit_tail-block g) → d.put_unit_tail-block.result + 16 ≡ d.args.tail.start
-at g d = ap (λ b. b + 16) (sym (starts g d)) ∙ tails.begins d.self.invariant.stands d.self.invariant.tickets d.args.tail.key d.args.tail.start d.args.tail.len
-    d.put_unit_tail-block.ensures.issued
-
-back : (g : given.Over) (d : After-put_unit_tail-block g) → StandsFor g.row.FLLEN g.row.SLLEN (contents d.put_unit_tail-block.new.self d.self.inside.table) (before g d)
-back g d = tails.stands-back d.self.invariant.stands d.self.invariant.tickets d.args.tail.key d.args.tail.start d.args.tail.len
-    d.put_unit_tail-block.ensures.issued d.args.tail.kept d.args.tail.within.0 d.put_unit_tail-block.new.self d.put_unit_tail-block.ensures.start
-    d.put_unit_tail-block.ensures.bytes d.put_unit_tail-block.ensures.out
-
-fits : (g : given.Over) (d : After-put_unit_tail-block g) → d.args.tail.kept ≤ payload_len d.args.size
-fits g d = omega (arith, d.requires.kept)
-
-behind : (g : given.Over) (d : After-put_unit_tail-block g) (size : ℕ) → size ≡ d.args.size → IsOwnedBehind d.put_unit_tail-block.new.self (block g d) size
-behind g d size same = subst (IsOwnedBehind d.put_unit_tail-block.new.self (block g d)) (sym same)
-    (tails.own-behind d.self.invariant.stands d.self.invariant.tickets d.args.tail.key d.args.tail.start d.args.tail.len
-    d.put_unit_tail-block.ensures.issued d.args.tail.kept d.args.tail.within.0 d.put_unit_tail-block.new.self d.put_unit_tail-block.ensures.start
-    d.put_unit_tail-block.ensures.bytes d.put_unit_tail-block.ensures.out d.args.size (fits g d))
-
-used : (g : given.Over) (d : After-put_unit_tail-block g)
-    → IsUsedAt (before g d) (block g d) d.put_unit_tail-block.result (d.put_unit_tail-block.result + 16) (block g d).align
-used g d = record {
-  is_used = tails.listed d.self.invariant.stands d.self.invariant.tickets d.args.tail.key d.args.tail.start d.args.tail.len
-      d.put_unit_tail-block.ensures.issued;
-  start = starts g d;
-  caller = tails.there d.self.invariant.stands d.self.invariant.tickets d.args.tail.key d.args.tail.start d.args.tail.len
-      d.put_unit_tail-block.ensures.issued ∙ sym (at g d);
-  alignment = refl;
-}
-
--- the heap's memory is the one that the payload is of
-viewed : (g : given.Over) (d : After-put_unit_tail-block g) → d.put_unit_tail-block.new.self.view ≡ d.args.tail.home.view
-viewed g d =
-    d.put_unit_tail-block.ensures.view ∙ ap (λ (o : HeapView). o.identity.home.view) d.self.view_is ∙ sym (ap (λ (i : Identity). i.home.view) d.requires.heap)
+back : (g : given.Over) (c : After-put_unit_tail-block g) → IsBack g.row.FLLEN g.row.SLLEN c.self.inside.memory c.put_unit_tail-block.new.self c.self.inside.table
+    (read_from c.self.inside.memory c.self.inside.state.state) c.self.inside.ledger.entries c.args.tail.key c.args.tail.start c.args.tail.len c.args.tail.kept
+back g c =
+    let e = c.put_unit_tail-block.ensures in record {
+      shown = record { stands = c.self.invariant.stands; tickets = c.self.invariant.tickets; issued = e.issued };
+      within = c.args.tail.within.0;
+      same = e.start;
+      bytes = e.bytes;
+      out = e.out;
+    }
 
 pub overflow_add-start : goal.overflow_add-start
 overflow_add-start g c =
-    let d = (goal.at.overflow_add-start g c).After-put_unit_tail-block in let is = d.self.invariant in let t = d.args.tail in
-    record { fits = omega (arith, at g d, tails.start-fits is.stands is.tickets t.key t.start t.len d.put_unit_tail-block.ensures.issued) }
+    let b = back g (goal.at.overflow_add-start g c).After-put_unit_tail-block in
+    record { fits = omega (arith, (begins_at b.shown c.put_unit_tail-block.result c.put_unit_tail-block.ensures.word).1, start-fits b.shown) }
 
-pub resize_kept_block-requires : goal.resize_kept_block-requires
-resize_kept_block-requires g c =
-    let d = (goal.at.resize_kept_block-requires g c).After-put_unit_tail-block in
-    let e = c.from_size_align_unchecked-sought.ensures in (
+pub resize_block_in-requires : goal.resize_block_in-requires
+resize_block_in-requires g c =
+    let b = back g (goal.at.resize_block_in-requires g c).After-put_unit_tail-block in
+    let is = c.self.invariant in
+    let k = c.self.inside.state.state in
+    let n = c.put_unit_tail-block.new.self in
+    let e = c.put_unit_tail-block.ensures in
+    let size = c.from_size_align_unchecked-sought.ensures.0 in
+    let same = read_from-same c.self.inside.memory n k e.start e.bytes in
+    let (starts, at) = begins_at b.shown c.put_unit_tail-block.result e.word in
+    let there = held b.shown in (
       omega arith,
       (
-        IsValid-widest g.FLBitmap.BitPattern.width_limit c.self.invariant.valid,
+        record {
+          valid = IsValid-widest g.FLBitmap.BitPattern.width_limit is.valid;
+          stands = subst (StandsFor g.row.FLLEN g.row.SLLEN (contents n c.self.inside.table)) (sym same) (stands-back b);
+          is_bare = is.is_bare;
+        },
         (
-          (before g d, block g d, back g d, used g d, behind g d c.from_size_align_unchecked-sought.result.size e.0),
-          (search rules, omega (arith, e.0, c.requires.size)),
+          (
+            block b.shown,
+            subst (λ (s : State). Holds s (c.put_unit_tail-block.result + 16) (block b.shown)) (sym same) (there.0, there.1 ∙ sym at),
+            starts,
+            own-behind b c.from_size_align_unchecked-sought.result.size (omega (arith, c.requires.kept, size)),
+          ),
+          omega (arith, size, c.requires.size),
         ),
       ),
     )
 
--- ---- the bytes don't suffice: these units leave again
+-- ---- after the core's call
+
+module _ (g : given.Over) (c : After-resize_block_in g) where
+  abbrev m : Space
+  m = c.self.inside.memory
+
+  abbrev n : Space
+  n = c.put_unit_tail-block.new.self
+
+  abbrev o : Space
+  o = c.resize_block_in.new.memory
+
+  abbrev k : State
+  k = c.self.inside.state.state
+
+  abbrev j : State
+  j = c.resize_block_in.new.state.state
+
+  abbrev ledger : ℕ
+  ledger = c.self.inside.ledger.name
+
+  b : IsBack g.row.FLLEN g.row.SLLEN m n c.self.inside.table (read_from m k) c.self.inside.ledger.entries c.args.tail.key c.args.tail.start c.args.tail.len c.args.tail.kept
+  b =
+      let e = c.put_unit_tail-block.ensures in record {
+        shown = record { stands = c.self.invariant.stands; tickets = c.self.invariant.tickets; issued = e.issued };
+        within = c.args.tail.within.0;
+        same = e.start;
+        bytes = e.bytes;
+        out = e.out;
+      }
+
+  at : c.put_unit_tail-block.result + 16 ≡ c.args.tail.start
+  at = (begins_at b.shown c.put_unit_tail-block.result c.put_unit_tail-block.ensures.word).1
+
+  kept_is : c.lesser-kept.result ≡ c.args.tail.kept
+  kept_is = omega (arith, c.lesser-kept.ensures, c.payload_len-wanted.ensures, c.requires.len, c.requires.kept)
+
+  same : read_from n k ≡ read_from m k
+  same = read_from-same m n k c.put_unit_tail-block.ensures.start c.put_unit_tail-block.ensures.bytes
+
+  -- what is so of the states that the call saw, and of the address and the size as they were passed, is so of those that contracts see
+  told : {t : State} → t ≡ read_from o j → (So : State → State → ℕ → ℕ → Type 0)
+      → So (read_from n k) (read_from o j) (c.put_unit_tail-block.result + 16) c.from_size_align_unchecked-sought.result.size
+      → So (read_from m k) t c.args.tail.start c.args.size
+  told is So so =
+      subst (λ (x : State × State × ℕ × ℕ). So x.0 x.1 x.2 x.3) (λ i. (same i, sym is i, at i, c.from_size_align_unchecked-sought.ensures.0 i)) so
+
+  step : {t : State} → t ≡ read_from o j → (done : Bool) → c.resize_block_in.result ≡ done
+      → ReallocatesWithoutMove (read_from m k) c.args.tail.start c.args.size (stayed_if done c.args.tail.start) t
+  step {t} is done did =
+      subst (λ d. ReallocatesWithoutMove (read_from m k) c.args.tail.start c.args.size (stayed_if d c.args.tail.start) t) did
+      (told is (λ s u a size. ReallocatesWithoutMove s a size (stayed_if c.resize_block_in.result a) u) c.resize_block_in.ensures.step)
+
+  keeps : {t : State} → t ≡ read_from o j → KeepsPayloads (read_from m k) t c.args.tail.start
+  keeps is = told is (λ s u a size. KeepsPayloads s u a) c.resize_block_in.ensures.kept
+
+  sized : {t : State} → t ≡ read_from o j → KeepsSized g.row.SLLEN (read_from m k) t c.args.size 16
+  sized is =
+      let bounds = told is (λ s u a size. KeepsBoundsThere g.row.SLLEN s u a size) c.resize_block_in.ensures.bounds in
+      record { sized = λ count most wide sized short fits. bounds count most wide 16 sized (live b.shown) short fits; count = (keeps is).count }
+
+  -- its units leave again, by the length that it has now
+  module _ (q : Space) (start : q.start ≡ o.start) (bytes : q.bytes ≡ o.bytes) where
+    as_left : read_from q j ≡ read_from o j
+    as_left = read_from-same o q j start bytes
+
+    w : StandsFor g.row.FLLEN g.row.SLLEN (contents o c.resize_block_in.new.table) (read_from q j)
+    w = subst (StandsFor g.row.FLLEN g.row.SLLEN (contents o c.resize_block_in.new.table)) (sym as_left) c.resize_block_in.ensures.left.core.stands
+
+    same_as : c.resize_block_in.result ≡ false → read_from q j ≡ read_from m k
+    same_as refused = let e = c.resize_block_in.ensures.refused refused in as_left ∙ ap (read_from o) e.state ∙ read_from-counted e.counts k ∙ same
+
+    as_was : c.resize_block_in.result ≡ false → (z : Used) → Holds (read_from q j) c.args.tail.start z → c.args.tail.len ≡ (usable z).len
+    as_was refused = same-long b w (keeps as_left) (same_as refused)
+
+    as_wanted : c.resize_block_in.result ≡ true → (z : Used) → Holds (read_from q j) c.args.tail.start z → payload_len c.args.size ≡ (usable z).len
+    as_wanted did = resized-long b w (keeps as_left) c.args.size (told as_left (λ s u a size. IsResized s u a size a) (c.resize_block_in.ensures.result did))
+
+    module _ (now : ℕ) (fits : c.args.tail.kept ≤ now) (as_long : (z : Used) → Holds (read_from q j) c.args.tail.start z → now ≡ (usable z).len) {len : ℕ} (long : len ≡ now) where
+      placed : LiesIn (range_at (c.put_unit_tail-block.result + 16) len) o.start (length o.bytes)
+      placed = let is = now-lies b w (keeps as_left) now fits as_long in (omega (arith, is, at), omega (arith, is, at, long))
+
+      own : IsOwned o (range_at (c.put_unit_tail-block.result + 16 + c.lesser-kept.result) (len - c.lesser-kept.result))
+      own a lo hi =
+          now-own b w (keeps as_left) now fits as_long c.resize_block_in.ensures.left.costs.start c.resize_block_in.ensures.left.own a (omega (arith, lo, at, kept_is))
+          (omega (arith, lo, hi, at, kept_is, long))
+
+      heap : (fs : List Entry) → fs ≡ c.put_unit_tail-block.new.ledger.entries ++ entry_of (extent (c.put_unit_tail-block.result + 16) len 16) true ∷ []
+          → q.out ≡ out_without o (range_at (c.put_unit_tail-block.result + 16 + c.lesser-kept.result) (len - c.lesser-kept.result))
+          → IsHeap g.FLBitmap.BitPattern.width g.SLBitmap.BitPattern.width g.row.FLLEN g.row.SLLEN q c.resize_block_in.new.table j fs c.self.inside.live
+      heap fs entries out = record {
+        valid = c.self.invariant.valid;
+        stands = now-stands b w (keeps as_left) now fits as_long q start bytes (out ∙ (λ i. out_without o (range_at (at i + kept_is i) (long i - kept_is i))));
+        is_bare = c.resize_block_in.ensures.left.core.is_bare;
+        tickets = subst (AreIssued (read_from q j))
+            ((λ i. sym c.put_unit_tail-block.ensures.ledger.1 i ++ entry_of (extent (sym at i) (sym long i) 16) true ∷ []) ∙ sym entries)
+            (now-issued b w (keeps as_left) now fits as_long);
+        counted = c.self.invariant.counted ∙ sym (keeps as_left).count;
+      }
+
+      tail : {p : UnitTail} → (p.home ≡ home_of o) × (p.start ≡ c.put_unit_tail-block.result + 16) × (p.len ≡ len) × (p.kept ≡ c.lesser-kept.result) → p.name ≡ ledger
+          → IsTail (record { home = home_of m; ledger = ledger }) c.args.tail now p
+      tail {p} place name =
+          let put = c.put_unit_tail-block.ensures in
+          let costs = c.resize_block_in.ensures.left.costs in
+          let first : p.start ≡ c.args.tail.start = place.1 ∙ at in
+          let view : p.home.view ≡ c.args.tail.home.view =
+          ap (λ (h : Home). h.view) place.0 ∙ costs.view ∙ put.view ∙ ap (λ (v : HeapView). v.identity.home.view) c.self.view_is
+          ∙ sym (ap (λ (h : Identity). h.home.view) c.requires.heap) in
+          record {
+            identity = (λ i. record { home = place.0 i; ledger = p.name })
+                ∙ same_identity m o (costs.start ∙ put.start) (costs.length ∙ ap length put.bytes) (costs.view ∙ put.view) ledger p.name name;
+            start = first;
+            ptr = p.placed.at ∙ (λ i. pointer_to (view i) (first i)) ∙ sym c.args.tail.placed.at;
+            kept = place.3 ∙ kept_is;
+            long = place.2 ∙ long;
+          }
+
+      frame : q.view ≡ o.view → q.touches ≡ o.touches → q.copied ≡ o.copied
+          → q.out ≡ out_without o (range_at (c.put_unit_tail-block.result + 16 + c.lesser-kept.result) (len - c.lesser-kept.result)) → {name : ℕ} → name ≡ ledger
+          → KeepsFrameBeside (heap_view m c.self.inside.table k ledger) (heap_view q c.resize_block_in.new.table j name) (range_at c.args.tail.start c.args.tail.len)
+      unfolding NoneBecomesRawBeside
+      frame view touches copied out {name} called =
+          let put = c.put_unit_tail-block.ensures in
+          let left = c.resize_block_in.ensures.left in
+          let costs = left.costs in record {
+            heap = heap-over m q c.self.inside.table c.resize_block_in.new.table k j (start ∙ costs.start ∙ put.start) (ap length bytes ∙ costs.length ∙ ap length put.bytes)
+                (view ∙ costs.view ∙ put.view) (omega (arith, touches, costs.grow, put.touches))
+                (spare-last m o q (read_from m k) (read_from q j) start bytes (spare-first m n o (read_from m k) (read_from q j) put.start put.bytes left.spare))
+                ledger name called;
+            raw = raw-tail m n o q c.args.tail.start c.args.tail.kept c.args.tail.len c.args.tail.within.0 (lies b.shown).0 put.start put.out (stays left) _ start
+                (omega (arith, (lies b.shown).0, at, put.start, costs.start)) out;
+            chunks = (keeps as_left).chunks;
+            copied = omega (arith, copied, costs.copied, put.copied);
+          }
+
+-- ---- the bytes don't suffice
 
 pub take_unit_tail-requires-clause-place : goal.take_unit_tail-requires-clause-place
 take_unit_tail-requires-clause-place g c =
-    let d = (goal.at.take_unit_tail-requires-clause-place g c).After-put_unit_tail-block in
-    let inside = tails.lies d.self.invariant.stands d.self.invariant.tickets d.args.tail.key d.args.tail.start d.args.tail.len
-    d.put_unit_tail-block.ensures.issued in
-    let start : c.resize_kept_block.new.memory.start ≡ c.self.inside.memory.start = c.resize_kept_block.ensures.costs.start ∙ c.put_unit_tail-block.ensures.start in
-    let long : length c.resize_kept_block.new.memory.bytes ≡ length c.self.inside.memory.bytes =
-    c.resize_kept_block.ensures.costs.length ∙ ap length c.put_unit_tail-block.ensures.bytes in
-    (omega (arith, inside, at g d, start), omega (arith, inside, at g d, c.requires.len, start, long))
+    let d = (goal.at.take_unit_tail-requires-clause-place g c).After-resize_block_in in
+    let o = c.resize_block_in.new.memory in
+    placed g d o refl refl c.args.tail.len c.args.tail.within.0 (as_was g d o refl refl c.if-not-resize_block_in.true) c.requires.len
 
 pub take_unit_tail-requires-clause-units : goal.take_unit_tail-requires-clause-units
 take_unit_tail-requires-clause-units g c =
-    let d = (goal.at.take_unit_tail-requires-clause-units g c).After-put_unit_tail-block in
+    let d = (goal.at.take_unit_tail-requires-clause-units g c).After-resize_block_in in
     (omega (arith, at g d, c.args.tail.placed.aligned.0), omega (arith, c.requires.len, c.args.tail.placed.aligned.1))
 
 pub take_unit_tail-requires-clause-own : goal.take_unit_tail-requires-clause-own
 take_unit_tail-requires-clause-own g c =
-    let d = (goal.at.take_unit_tail-requires-clause-own g c).After-put_unit_tail-block in
-    let kept : c.lesser-kept.result ≡ c.args.tail.kept = omega (arith, c.lesser-kept.ensures, c.payload_len-wanted.ensures, c.requires.len, c.requires.kept) in
-    let inside = tails.lies d.self.invariant.stands d.self.invariant.tickets d.args.tail.key d.args.tail.start d.args.tail.len
-    d.put_unit_tail-block.ensures.issued in
-    λ a lo hi.
-    c.resize_kept_block.ensures.own a (omega (arith, lo, at g d, kept, inside, c.put_unit_tail-block.ensures.start))
-    ∙ tails.own-back d.self.invariant.stands d.self.invariant.tickets d.args.tail.key d.args.tail.start d.args.tail.len
-    d.put_unit_tail-block.ensures.issued d.args.tail.kept d.args.tail.within.0 d.put_unit_tail-block.new.self d.put_unit_tail-block.ensures.start
-    d.put_unit_tail-block.ensures.bytes d.put_unit_tail-block.ensures.out a (omega (arith, lo, at g d, kept)) (omega (arith, lo, hi, at g d, kept, c.requires.len))
-
-abbrev put-of : (g : given.Over) (c : After-take_unit_tail g) → After-put_unit_tail-block g
-put-of g c = (goal.at.invariant_of-self g c).After-put_unit_tail-block
-
-refused : (g : given.Over) (c : After-take_unit_tail g) → unmoved_plan (before g (put-of g c)) (block g (put-of g c)) c.args.size ≡ None
-refused g c =
-    let d = put-of g c in
-    subst (λ k. unmoved_plan (before g d) (block g d) k ≡ None) c.from_size_align_unchecked-sought.ensures.0
-    (c.resize_kept_block.ensures.refused (before g d) (block g d) (back g d) (used g d) c.if-not-resize_kept_block.true)
-
-stood : (g : given.Over) (c : After-take_unit_tail g)
-    → StandsFor g.row.FLLEN g.row.SLLEN (contents c.take_unit_tail.new.self c.resize_kept_block.new.table) (before g (put-of g c))
-stood g c =
-    let d = put-of g c in let e = c.take_unit_tail.ensures in
-    let kept : c.lesser-kept.result ≡ c.args.tail.kept = omega (arith, c.lesser-kept.ensures, c.payload_len-wanted.ensures, c.requires.len, c.requires.kept) in
-    let still =
-    StandsFor-unchanged c.put_unit_tail-block.new.self c.resize_kept_block.new.memory c.self.inside.table c.resize_kept_block.new.table (before g d) 2
-    (c.resize_kept_block.ensures.unchanged c.if-not-resize_kept_block.true) (back g d) in
-    tails.stands-left d.self.invariant.stands d.self.invariant.tickets d.args.tail.key d.args.tail.start d.args.tail.len
-    d.put_unit_tail-block.ensures.issued d.args.tail.kept d.args.tail.within.0 d.put_unit_tail-block.new.self d.put_unit_tail-block.ensures.start
-    d.put_unit_tail-block.ensures.bytes d.put_unit_tail-block.ensures.out still c.take_unit_tail.new.self e.start e.bytes
-    (e.out ∙ (λ i. out_without c.resize_kept_block.new.memory (range_at (at g d i + kept i) (c.requires.len i - kept i))))
-    (c.resize_kept_block.ensures.costs.start ∙ c.put_unit_tail-block.ensures.start)
-
-bared : (g : given.Over) (c : After-take_unit_tail g) → c.self.inside.state.state ≡ bare (before g (put-of g c))
-bared g c = sym (bare-kept c.self.invariant)
-
-entries : (g : given.Over) (c : After-take_unit_tail g)
-    → set c.self.inside.ledger.entries c.args.tail.key (entry_of (extent c.args.tail.start c.args.tail.len 16) false)
-    ++ entry_of (extent c.args.tail.start c.args.tail.len 16) true ∷ [] ≡ c.issue-ticket.new.self.entries
-entries g c =
-    (λ i. sym c.put_unit_tail-block.ensures.ledger.1 i ++ entry_of (extent (sym (at g (put-of g c)) i) (sym c.requires.len i) 16) true ∷ []) ∙ sym c.issue-ticket.ensures.entries
+    let d = (goal.at.take_unit_tail-requires-clause-own g c).After-resize_block_in in
+    let o = c.resize_block_in.new.memory in
+    own g d o refl refl c.args.tail.len c.args.tail.within.0 (as_was g d o refl refl c.if-not-resize_block_in.true) c.requires.len
 
 pub invariant_of-self : goal.invariant_of-self
 invariant_of-self g c =
-    let d = put-of g c in
-    IsHeap-arrived (stood g c) c.self.inside.state.state (bared g c) c.self.invariant.valid c.issue-ticket.new.self.entries
-    (subst (AreIssued (before g d)) (entries g c) (tails.issued-again d.self.invariant.stands d.self.invariant.tickets d.args.tail.key d.args.tail.start d.args.tail.len
-    d.put_unit_tail-block.ensures.issued)) c.self.inside.live c.self.invariant.counted
+    let d = (goal.at.invariant_of-self g c).After-resize_block_in in
+    let e = c.take_unit_tail.ensures in
+    let q = c.take_unit_tail.new.self in
+    heap g d q e.start e.bytes c.args.tail.len c.args.tail.within.0 (as_was g d q e.start e.bytes c.if-not-resize_block_in.true) c.requires.len c.issue-ticket.new.self.entries
+    c.issue-ticket.ensures.entries e.out
 
-same : (g : given.Over) (c : After-take_unit_tail g) → read_from c.take_unit_tail.new.self c.self.inside.state.state ≡ c.args.self.now.state
-same g c = arrived (stood g c) c.self.inside.state.state (bared g c) ∙ ap (λ (o : HeapView). o.state) c.self.view_is
-
-left_as : (g : given.Over) (c : After-take_unit_tail g) → (c.take_unit_tail.new.self.start ≡ c.self.inside.memory.start)
-    × (c.take_unit_tail.new.self.bytes ≡ c.self.inside.memory.bytes)
-left_as g c =
-    let put = c.put_unit_tail-block.ensures in let e = c.take_unit_tail.ensures in
-    let counts = (c.resize_kept_block.ensures.unchanged c.if-not-resize_kept_block.true).0 in
-    (e.start ∙ counts.start ∙ put.start, e.bytes ∙ counts.bytes ∙ put.bytes)
-
--- the memory before these units leave
-left : (g : given.Over) (d : After-put_unit_tail-block g) → Leaves d.self.inside.memory d.put_unit_tail-block.new.self 1
-left g d =
-    let e = d.put_unit_tail-block.ensures in
-    record { start = e.start; length = ap length e.bytes; view = e.view; touches = omega (arith, e.touches); grow = omega (arith, e.touches) }
-
-pub returns-then-not-resize_kept_block : goal.returns-then-not-resize_kept_block
-returns-then-not-resize_kept_block g c =
-    let k = c.self.inside.state.state in let e = c.take_unit_tail.ensures in let put = c.put_unit_tail-block.ensures in
-    let costs = c.resize_kept_block.ensures.costs in
-    let first = left_then (left g (put-of g c)) (left_costs costs) in
-    let o = sees_left c.self.inside.memory c.take_unit_tail.new.self c.self.inside.table c.resize_kept_block.new.table k k c.self.inside.ledger.name
-    c.issue-ticket.new.self.name 25 (left_then first (left_same e.start (ap length e.bytes) e.view e.touches)) (c.issue-ticket.ensures.name.1 ∙ put.ledger.0)
-    c.args.self.now c.self.view_is in record {
-      step = let d = put-of g c in
-          let step : ReallocatesWithoutMove (before g d) c.args.tail.start c.args.size None (before g d) = record {
-            block = block g d;
-            holds = (
-              tails.listed d.self.invariant.stands d.self.invariant.tickets d.args.tail.key d.args.tail.start d.args.tail.len
-                  d.put_unit_tail-block.ensures.issued,
-              tails.there d.self.invariant.stands d.self.invariant.tickets d.args.tail.key d.args.tail.start d.args.tail.len
-                  d.put_unit_tail-block.ensures.issued,
-            );
-            step = subst (λ o. ReallocatesUnmovedBy (before g d) (block g d) o None (before g d)) (sym (refused g c)) refl;
-          } in
-          Steps-arrived (stood g c) c.self.inside.state.state (bared g c) c.issue-ticket.new.self.name
-          (ReallocatesWithoutMove c.args.self.now.state c.args.tail.start c.args.size None)
-          (stepped (stood g c) c.self.inside.state.state (bared g c) c.self.inside.memory c.self.inside.state.state c.args.self.now c.self.view_is
-          (λ o t. ReallocatesWithoutMove o c.args.tail.start c.args.size None t) step);
+pub returns-then-not-resize_block_in : goal.returns-then-not-resize_block_in
+unfolding Steps Stands KeepsBytesBeside
+returns-then-not-resize_block_in g c =
+    let d = (goal.at.returns-then-not-resize_block_in g c).After-resize_block_in in
+    let m = c.self.inside.memory in
+    let q = c.take_unit_tail.new.self in
+    let put = c.put_unit_tail-block.ensures in
+    let e = c.take_unit_tail.ensures in
+    let no = c.if-not-resize_block_in.true in
+    let left = c.resize_block_in.ensures.left in
+    let counts = (c.resize_block_in.ensures.refused no).counts in
+    let is = as_left g d c.take_unit_tail.new.self e.start e.bytes in
+    let within = c.args.tail.within.0 in
+    let long = as_was g d c.take_unit_tail.new.self e.start e.bytes no in
+    let did = step g d is false no in
+    rw (← c.self.view_is) (record {
+      step = (did, (invariant_of-self g c).stands);
       result = tt;
-      room = let d = put-of g c in λ shorter. absurd
-          (tails.shrinks d.self.invariant.stands d.self.invariant.tickets d.args.tail.key d.args.tail.start d.args.tail.len
-          d.put_unit_tail-block.ensures.issued c.args.size shorter (refused g c));
-      bounds = record { sized = λ count most align sized short wide. subst (IsSizedFor g.row.SLLEN count most align) (sym (same g c)) sized; count = ap live_count (same g c) };
+      room = λ shorter. absurd (shrinks (b g d).shown c.args.size shorter did);
+      bounds = sized g d is;
       refused = record {
-        tail = record {
-          identity = is_of_heap c.self.inside.memory c.resize_kept_block.new.memory c.self.inside.table k c.self.inside.ledger.name c.issue-ticket.result.name 25 first
-              (c.issue-ticket.ensures.name.0 ∙ put.ledger.0) c.args.self.now c.self.view_is c.take_unit_tail.result.home e.place.0 (heap_of_tail c.take_unit_tail.result)
-              (λ i. record { home = c.take_unit_tail.result.home; ledger = e.ticket.0 i });
-          start = e.place.1 ∙ at g (put-of g c);
-          ptr = let d = put-of g c in let e = c.take_unit_tail.ensures.place in
-              let start : c.take_unit_tail.result.start ≡ c.args.tail.start = e.1 ∙ at g d in
-              let view : c.take_unit_tail.result.home.view ≡ c.args.tail.home.view = ap (λ (h : Home). h.view) e.0 ∙ c.resize_kept_block.ensures.costs.view ∙ viewed g d in
-              c.take_unit_tail.result.placed.at ∙ (λ i. pointer_to (view i) (start i)) ∙ sym c.args.tail.placed.at;
-          kept = omega (arith, e.place.3, c.lesser-kept.ensures, c.payload_len-wanted.ensures, c.requires.len, c.requires.kept);
-          long = e.place.2 ∙ c.requires.len;
-        };
-        same = same g c;
-        aligns = ap align_at (same g c);
-        unchanged = let m = c.self.inside.memory in let n = c.take_unit_tail.new.self in
-            beside-seen m n c.self.inside.state.state c.self.inside.state.state c.args.self.now c.self.view_is c.resize_kept_block.new.table c.issue-ticket.new.self.name
-            (range_at c.args.tail.start c.args.tail.len) (λ a from to side. same-byte m n (left_as g c).0 (left_as g c).1 a);
+        tail = tail g d q e.start e.bytes c.args.tail.len within long c.requires.len e.place (e.ticket.0 ∙ c.issue-ticket.ensures.name.0 ∙ put.ledger.0);
+        same = same_as g d c.take_unit_tail.new.self e.start e.bytes no;
+        aligns = (keeps g d is).aligns;
+        unchanged = λ a from to side. same-byte m q (e.start ∙ counts.start ∙ put.start) (e.bytes ∙ counts.bytes ∙ put.bytes) a;
       };
-      frame = record {
-        heap = record {
-          identity = o.identity;
-          place = o.place;
-          spare = let m = c.self.inside.memory in let n = c.take_unit_tail.new.self in let k = c.self.inside.state.state in
-              spare-seen m n k k (spare-same m n k k (left_as g c).0 (left_as g c).1) k k refl refl c.args.self.now c.self.view_is c.resize_kept_block.new.table
-              c.issue-ticket.new.self.name;
-          grow = o.grow;
-        };
-        raw = let d = put-of g c in let put = c.put_unit_tail-block.ensures in let e = c.take_unit_tail.ensures in
-            let across : Stays c.put_unit_tail-block.new.self c.resize_kept_block.new.memory =
-            record { start = c.resize_kept_block.ensures.costs.start; own = c.resize_kept_block.ensures.own; here = c.resize_kept_block.ensures.here } in
-            let inside = tails.lies d.self.invariant.stands d.self.invariant.tickets d.args.tail.key d.args.tail.start d.args.tail.len put.issued in
-            raw-seen c.self.inside.memory c.take_unit_tail.new.self c.self.inside.state.state c.self.inside.state.state c.args.self.now c.self.view_is
-            c.resize_kept_block.new.table c.issue-ticket.new.self.name (range_at c.args.tail.start c.args.tail.len)
-            (raw-tail c.self.inside.memory c.put_unit_tail-block.new.self c.resize_kept_block.new.memory c.take_unit_tail.new.self c.args.tail.start c.args.tail.kept
-            c.args.tail.len c.args.tail.within.0 inside.0 put.start put.out across _ e.start (omega (arith, inside, at g d, put.start, across.start)) e.out);
-        chunks = ap (λ (s : State). s.chunks) (same g c);
-        copied = omega (arith, e.copied, costs.copied, put.copied, ap (λ (v : HeapView). v.memory.copied) c.self.view_is);
-      };
-      touches = o.touches;
-    }
+      frame = frame g d q e.start e.bytes c.args.tail.len within long c.requires.len e.view e.touches e.copied e.out (c.issue-ticket.ensures.name.1 ∙ put.ledger.0);
+      touches = omega (arith, e.touches, left.costs.touches, put.touches);
+    })
 
 -- ---- the payload has the other size
 
+-- the kept bytes are its first ones then, too
+fits : (g : given.Over) (c : After-put_unit_tail-block g) → c.args.tail.kept ≤ payload_len c.args.size
+fits g c = omega (arith, c.requires.kept)
+
 pub take_unit_tail-requires-2-clause-place : goal.take_unit_tail-requires-2-clause-place
 take_unit_tail-requires-2-clause-place g c =
-    let d = (goal.at.take_unit_tail-requires-2-clause-place g c).After-put_unit_tail-block in
-    let (q, first, place, (t, replans, now, spare)) = c.resize_kept_block.ensures.done (before g d) (block g d) (back g d) (used g d)
-    (behind g d c.from_size_align_unchecked-sought.result.size c.from_size_align_unchecked-sought.ensures.0) c.if-not-resize_kept_block.false in
-    let first_is = subst (λ k. unmoved_plan (before g d) (block g d) k ≡ Some q) c.from_size_align_unchecked-sought.ensures.0 first in
-    let place_is : q.payload ≡ (block g d).payload = place ∙ at g d ∙ sym
-    (tails.there d.self.invariant.stands d.self.invariant.tickets d.args.tail.key d.args.tail.start d.args.tail.len
-    d.put_unit_tail-block.ensures.issued) in
-    let inside = tails.fresh-lies d.self.invariant.stands d.self.invariant.tickets d.args.tail.key d.args.tail.start d.args.tail.len
-    d.put_unit_tail-block.ensures.issued d.args.tail.kept d.args.tail.within.0 d.put_unit_tail-block.new.self d.put_unit_tail-block.ensures.start
-    d.put_unit_tail-block.ensures.bytes d.put_unit_tail-block.ensures.out d.args.size first_is place_is replans now
-    c.resize_kept_block.ensures.costs.start c.resize_kept_block.ensures.own in
-    (omega (arith, inside, at g d), omega (arith, inside, at g d, c.payload_len-wanted.ensures))
+    let d = (goal.at.take_unit_tail-requires-2-clause-place g c).After-resize_block_in in
+    let early = (goal.at.take_unit_tail-requires-2-clause-place g c).After-put_unit_tail-block in
+    let o = c.resize_block_in.new.memory in
+    placed g d o refl refl (payload_len c.args.size) (fits g early) (as_wanted g d o refl refl c.if-not-resize_block_in.false) c.payload_len-wanted.ensures
 
 pub take_unit_tail-requires-2-clause-units : goal.take_unit_tail-requires-2-clause-units
 take_unit_tail-requires-2-clause-units g c =
-    let d = (goal.at.take_unit_tail-requires-2-clause-units g c).After-put_unit_tail-block in
+    let d = (goal.at.take_unit_tail-requires-2-clause-units g c).After-resize_block_in in
     (omega (arith, at g d, c.args.tail.placed.aligned.0), omega (arith, c.payload_len-wanted.ensures, payload_len-whole c.args.size))
 
 pub take_unit_tail-requires-2-clause-own : goal.take_unit_tail-requires-2-clause-own
 take_unit_tail-requires-2-clause-own g c =
-    let d = (goal.at.take_unit_tail-requires-2-clause-own g c).After-put_unit_tail-block in
-    let kept : c.lesser-kept.result ≡ c.args.tail.kept = omega (arith, c.lesser-kept.ensures, c.payload_len-wanted.ensures, c.requires.len, c.requires.kept) in
-    let (q, first, place, (t, replans, now, spare)) = c.resize_kept_block.ensures.done (before g d) (block g d) (back g d) (used g d)
-    (behind g d c.from_size_align_unchecked-sought.result.size c.from_size_align_unchecked-sought.ensures.0) c.if-not-resize_kept_block.false in
-    let first_is = subst (λ k. unmoved_plan (before g d) (block g d) k ≡ Some q) c.from_size_align_unchecked-sought.ensures.0 first in
-    let place_is : q.payload ≡ (block g d).payload = place ∙ at g d ∙ sym
-    (tails.there d.self.invariant.stands d.self.invariant.tickets d.args.tail.key d.args.tail.start d.args.tail.len
-    d.put_unit_tail-block.ensures.issued) in
-    λ a lo hi.
-    tails.fresh-own d.self.invariant.stands d.self.invariant.tickets d.args.tail.key d.args.tail.start d.args.tail.len
-    d.put_unit_tail-block.ensures.issued d.args.tail.kept d.args.tail.within.0 d.put_unit_tail-block.new.self d.put_unit_tail-block.ensures.start
-    d.put_unit_tail-block.ensures.bytes d.put_unit_tail-block.ensures.out d.args.size first_is place_is replans now
-    c.resize_kept_block.ensures.costs.start c.resize_kept_block.ensures.own a (omega (arith, lo, at g d, kept)) (omega (arith, lo, hi, at g d, kept, c.payload_len-wanted.ensures))
-
-abbrev first-of : (g : given.Over) (c : After-take_unit_tail-2 g) → After-put_unit_tail-block g
-first-of g c = (goal.at.invariant_of-self-2 g c).After-put_unit_tail-block
-
-made : (g : given.Over) (c : After-take_unit_tail-2 g)
-    → IsResized g.row.FLLEN g.row.SLLEN c.put_unit_tail-block.new.self c.resize_kept_block.new.memory c.resize_kept_block.new.table (before g (first-of g c))
-    (block g (first-of g c))
-    c.args.size (block g (first-of g c)).payload
-made g c =
-    let d = first-of g c in
-    let (q, first, place, (t, replans, now, spare)) = c.resize_kept_block.ensures.done (before g d) (block g d) (back g d) (used g d)
-    (behind g d c.from_size_align_unchecked-sought.result.size c.from_size_align_unchecked-sought.ensures.0) c.if-not-resize_kept_block.false in
-    let first_is = subst (λ k. unmoved_plan (before g d) (block g d) k ≡ Some q) c.from_size_align_unchecked-sought.ensures.0 first in
-    let place_is : q.payload ≡ (block g d).payload = place ∙ at g d ∙ sym
-    (tails.there d.self.invariant.stands d.self.invariant.tickets d.args.tail.key d.args.tail.start d.args.tail.len
-    d.put_unit_tail-block.ensures.issued) in
-    (q, first_is, place_is, (t, replans, now, spare))
-
-after : (g : given.Over) (c : After-take_unit_tail-2 g) → State
-after g c = (made g c).3.0
-
-stood-2 : (g : given.Over) (c : After-take_unit_tail-2 g) → StandsFor g.row.FLLEN g.row.SLLEN (contents c.take_unit_tail-2.new.self c.resize_kept_block.new.table) (after g c)
-unfolding after
-stood-2 g c =
-    let d = first-of g c in let e = c.take_unit_tail-2.ensures in
-    let kept : c.lesser-kept.result ≡ c.args.tail.kept = omega (arith, c.lesser-kept.ensures, c.payload_len-wanted.ensures, c.requires.len, c.requires.kept) in
-    tails.fresh-left d.self.invariant.stands d.self.invariant.tickets d.args.tail.key d.args.tail.start d.args.tail.len
-    d.put_unit_tail-block.ensures.issued d.args.tail.kept d.args.tail.within.0 d.put_unit_tail-block.new.self d.put_unit_tail-block.ensures.start
-    d.put_unit_tail-block.ensures.bytes d.put_unit_tail-block.ensures.out d.args.size (made g c).1 (made g c).2 (made g c).3.1 (made g c).3.2
-    c.resize_kept_block.ensures.costs.start c.resize_kept_block.ensures.own (fits g d) c.take_unit_tail-2.new.self e.start e.bytes
-    (e.out ∙ (λ i. out_without c.resize_kept_block.new.memory (range_at (at g d i + kept i) (c.payload_len-wanted.ensures i - kept i))))
-
-moved : (g : given.Over) (c : After-take_unit_tail-2 g) → Reallocates g.row.SLLEN (before g (first-of g c)) (block g (first-of g c)).payload c.args.size
-    (Some (block g (first-of g c)).payload) (after g c)
-unfolding after
-moved g c = let d = first-of g c in tails.moves d.self.invariant.stands d.self.invariant.tickets d.args.tail.key d.args.tail.start d.args.tail.len
-    d.put_unit_tail-block.ensures.issued d.args.tail.kept d.args.tail.within.0 d.put_unit_tail-block.new.self d.put_unit_tail-block.ensures.start
-    d.put_unit_tail-block.ensures.bytes d.put_unit_tail-block.ensures.out d.args.size (made g c).1 (made g c).2 (made g c).3.1 (made g c).3.2
-    c.resize_kept_block.ensures.costs.start c.resize_kept_block.ensures.own
-
-bared-2 : (g : given.Over) (c : After-take_unit_tail-2 g) → c.reallocate.new.self.state ≡ bare (after g c)
-unfolding after
-bared-2 g c = let d = first-of g c in
-    c.reallocate.ensures ∙ tails.kept-moved d.self.invariant.stands d.self.invariant.tickets d.args.tail.key d.args.tail.start d.args.tail.len
-    d.put_unit_tail-block.ensures.issued d.args.tail.kept d.args.tail.within.0 d.put_unit_tail-block.new.self d.put_unit_tail-block.ensures.start
-    d.put_unit_tail-block.ensures.bytes d.put_unit_tail-block.ensures.out d.args.size (made g c).1 (made g c).2 (made g c).3.1 (made g c).3.2
-    c.resize_kept_block.ensures.costs.start c.resize_kept_block.ensures.own c.self.inside.state.state (bare-kept c.self.invariant) (c.put_unit_tail-block.result + 16) (at g d)
-
-entries-2 : (g : given.Over) (c : After-take_unit_tail-2 g)
-    → set c.self.inside.ledger.entries c.args.tail.key (entry_of (extent c.args.tail.start c.args.tail.len 16) false)
-    ++ entry_of (extent c.args.tail.start (payload_len c.args.size) 16) true ∷ [] ≡ c.issue-ticket-2.new.self.entries
-entries-2 g c =
-    (λ i. sym c.put_unit_tail-block.ensures.ledger.1 i ++ entry_of (extent (sym (at g (first-of g c)) i) (sym c.payload_len-wanted.ensures i) 16) true ∷ [])
-    ∙ sym c.issue-ticket-2.ensures.entries
-
-anew : (g : given.Over) (c : After-take_unit_tail-2 g) → AreIssued (after g c) c.issue-ticket-2.new.self.entries
-unfolding after
-anew g c = let d = first-of g c in subst (AreIssued (after g c)) (entries-2 g c)
-    (tails.issued-anew d.self.invariant.stands d.self.invariant.tickets d.args.tail.key d.args.tail.start d.args.tail.len
-    d.put_unit_tail-block.ensures.issued d.args.tail.kept d.args.tail.within.0 d.put_unit_tail-block.new.self d.put_unit_tail-block.ensures.start
-    d.put_unit_tail-block.ensures.bytes d.put_unit_tail-block.ensures.out d.args.size (made g c).1 (made g c).2 (made g c).3.1 (made g c).3.2
-    c.resize_kept_block.ensures.costs.start c.resize_kept_block.ensures.own)
+    let d = (goal.at.take_unit_tail-requires-2-clause-own g c).After-resize_block_in in
+    let early = (goal.at.take_unit_tail-requires-2-clause-own g c).After-put_unit_tail-block in
+    let o = c.resize_block_in.new.memory in
+    own g d o refl refl (payload_len c.args.size) (fits g early) (as_wanted g d o refl refl c.if-not-resize_block_in.false) c.payload_len-wanted.ensures
 
 pub invariant_of-self-2 : goal.invariant_of-self-2
 invariant_of-self-2 g c =
-    let d = first-of g c in
-    let many =
-    count_resized d.self.invariant.stands.well_formed (after g c) (block g d).payload c.args.size (Some (block g d).payload) (
-      block g d,
-      (
-        tails.listed d.self.invariant.stands d.self.invariant.tickets d.args.tail.key d.args.tail.start d.args.tail.len
-            d.put_unit_tail-block.ensures.issued,
-        refl,
-      ),
-    ) (moved g c) in
-    IsHeap-arrived (stood-2 g c) c.reallocate.new.self.state (bared-2 g c) c.self.invariant.valid c.issue-ticket-2.new.self.entries (anew g c) c.self.inside.live
-    (c.self.invariant.counted ∙ sym many)
-
-abbrev now-2 : (g : given.Over) → After-take_unit_tail-2 g → State
-now-2 g c = read_from c.take_unit_tail-2.new.self c.reallocate.new.self.state
-
-start-2 : (g : given.Over) (c : After-take_unit_tail-2 g) → c.take_unit_tail-2.result.start ≡ c.args.tail.start
-start-2 g c = c.take_unit_tail-2.ensures.place.1 ∙ at g (first-of g c)
-
-stepped-2 : (g : given.Over) (c : After-take_unit_tail-2 g) → ReallocatesWithoutMove (before g (first-of g c)) (block g (first-of g c)).payload c.args.size
-    (Some (block g (first-of g c)).payload) (after g c)
-unfolding after
-stepped-2 g c = let d = first-of g c in tails.step d.self.invariant.stands d.self.invariant.tickets d.args.tail.key d.args.tail.start d.args.tail.len
-    d.put_unit_tail-block.ensures.issued d.args.tail.kept d.args.tail.within.0 d.put_unit_tail-block.new.self d.put_unit_tail-block.ensures.start
-    d.put_unit_tail-block.ensures.bytes d.put_unit_tail-block.ensures.out d.args.size (made g c).1 (made g c).2 (made g c).3.1 (made g c).3.2
-    c.resize_kept_block.ensures.costs.start c.resize_kept_block.ensures.own
-
-did : (g : given.Over) (c : After-take_unit_tail-2 g)
-    → ReallocatesWithoutMove c.args.self.now.state c.args.tail.start c.args.size (Some c.take_unit_tail-2.result.start) (now-2 g c)
-did g c =
-    let d = first-of g c in
-    let there : (block g d).payload ≡ c.args.tail.start = tails.there d.self.invariant.stands d.self.invariant.tickets d.args.tail.key d.args.tail.start d.args.tail.len
-    d.put_unit_tail-block.ensures.issued in
-    stepped (stood-2 g c) c.reallocate.new.self.state (bared-2 g c) c.self.inside.memory c.self.inside.state.state c.args.self.now c.self.view_is
-    (λ o t. ReallocatesWithoutMove o c.args.tail.start c.args.size (Some c.take_unit_tail-2.result.start) t)
-    (subst (λ (a : ℕ × ℕ). ReallocatesWithoutMove (before g d) a.0 c.args.size (Some a.1) (after g c)) (λ i. (there i, (there ∙ sym (start-2 g c)) i)) (stepped-2 g c))
-
-moves : (g : given.Over) (c : After-take_unit_tail-2 g)
-    → Reallocates g.row.SLLEN c.args.self.now.state c.args.tail.start c.args.size (Some c.take_unit_tail-2.result.start) (now-2 g c)
-moves g c = (unmoved_is_reallocated g.row.SLLEN c.args.self.now.state (now-2 g c) c.args.tail.start c.args.size (Some c.take_unit_tail-2.result.start) (did g c)).0.1
-
-well : (g : given.Over) (c : After-take_unit_tail-2 g) → IsWellFormed g.row.FLLEN g.row.SLLEN (range_of c.args.self.now.memory) c.args.self.now.state
-well g c = view_well_formed c.self.invariant c.args.self.now c.self.view_is
-
-live : (g : given.Over) (c : After-take_unit_tail-2 g) → align_at c.args.self.now.state c.args.tail.start ≡ Some 16
-live g c =
-    let d = first-of g c in
-    sym (ap (λ (o : HeapView). align_at o.state c.args.tail.start) c.self.view_is)
-    ∙ align_at-held d.self.invariant.stands.well_formed c.args.tail.start (block g d) (
-      tails.listed d.self.invariant.stands d.self.invariant.tickets d.args.tail.key d.args.tail.start d.args.tail.len
-          d.put_unit_tail-block.ensures.issued,
-      tails.there d.self.invariant.stands d.self.invariant.tickets d.args.tail.key d.args.tail.start d.args.tail.len
-          d.put_unit_tail-block.ensures.issued,
-    )
-    ∙ ap Some (tails.wide d.self.invariant.stands d.self.invariant.tickets d.args.tail.key d.args.tail.start d.args.tail.len
-    d.put_unit_tail-block.ensures.issued)
-
-seen : (g : given.Over) (c : After-take_unit_tail-2 g) → SeesResized c.args.self.now.state (now-2 g c) c.args.tail.start c.args.size 16 c.take_unit_tail-2.result.start
-seen g c = resized_seen (well g c) (now-2 g c) c.args.tail.start c.args.size 16 c.take_unit_tail-2.result.start
-    (align_at-live c.args.self.now.state c.args.tail.start 16 (live g c)) (moves g c)
-
-aligned_at : (g : given.Over) (c : After-take_unit_tail-2 g) (a : ℕ) → align_at (now-2 g c) a ≡ align_at c.args.self.now.state a
-aligned_at g c a = elim (cases_eq a c.args.tail.start) [
-  | inl is ↦ ap (align_at (now-2 g c)) (is ∙ sym (start-2 g c)) ∙ (seen g c).live ∙ sym (ap (align_at c.args.self.now.state) is ∙ live g c)
-  | inr apart ↦ (seen g c).aligns a apart (λ is. apart (is ∙ start-2 g c))
-]
-
--- bytes that no block is made of are as they were
-resized_spare : (g : given.Over) (c : After-take_unit_tail-2 g) → KeepsSpareBytes c.args.self.now
-    (heap_view c.take_unit_tail-2.new.self c.resize_kept_block.new.table c.reallocate.new.self.state c.issue-ticket-2.new.self.name)
-unfolding after
-resized_spare g c =
-    let d = first-of g c in let put = c.put_unit_tail-block.ensures in let e = c.take_unit_tail-2.ensures in
-    let m = c.self.inside.memory in let n = c.put_unit_tail-block.new.self in
-    let o = c.resize_kept_block.new.memory in let q = c.take_unit_tail-2.new.self in
-    spare-seen m q (before g d) (after g c)
-    (spare-last m o q (before g d) (after g c) e.start e.bytes (spare-first m n o (before g d) (after g c) put.start put.bytes (made g c).3.3))
-    c.self.inside.state.state c.reallocate.new.self.state refl (sym (ap (λ (s : State). s.chunks) (bared-2 g c))) c.args.self.now c.self.view_is
-    c.resize_kept_block.new.table c.issue-ticket-2.new.self.name
+    let d = (goal.at.invariant_of-self-2 g c).After-resize_block_in in
+    let early = (goal.at.invariant_of-self-2 g c).After-put_unit_tail-block in
+    let e = c.take_unit_tail-2.ensures in
+    let q = c.take_unit_tail-2.new.self in
+    heap g d q e.start e.bytes (payload_len c.args.size) (fits g early) (as_wanted g d q e.start e.bytes c.if-not-resize_block_in.false) c.payload_len-wanted.ensures
+    c.issue-ticket-2.new.self.entries c.issue-ticket-2.ensures.entries e.out
 
 pub returns : goal.returns
+unfolding Steps Stands
 returns g c =
-    let k = c.self.inside.state.state in
-    let e = c.take_unit_tail-2.ensures in
+    let d = (goal.at.returns g c).After-resize_block_in in
+    let early = (goal.at.returns g c).After-put_unit_tail-block in
     let put = c.put_unit_tail-block.ensures in
-    let costs = c.resize_kept_block.ensures.costs in
-    let first = left_then (left g (first-of g c)) (left_costs costs) in
-    let o = sees_left c.self.inside.memory c.take_unit_tail-2.new.self c.self.inside.table c.resize_kept_block.new.table k c.reallocate.new.self.state c.self.inside.ledger.name
-    c.issue-ticket-2.new.self.name 25 (left_then first (left_same e.start (ap length e.bytes) e.view e.touches)) (c.issue-ticket-2.ensures.name.1 ∙ put.ledger.0)
-    c.args.self.now c.self.view_is in record {
-      step = Steps-arrived (stood-2 g c) c.reallocate.new.self.state (bared-2 g c) c.issue-ticket-2.new.self.name
-          (ReallocatesWithoutMove c.args.self.now.state c.args.tail.start c.args.size (Some c.take_unit_tail-2.result.start)) (did g c);
+    let e = c.take_unit_tail-2.ensures in
+    let yes = c.if-not-resize_block_in.false in
+    let left = c.resize_block_in.ensures.left in
+    let is = as_left g d c.take_unit_tail-2.new.self e.start e.bytes in
+    let now = payload_len c.args.size in
+    let long = as_wanted g d c.take_unit_tail-2.new.self e.start e.bytes yes in
+    let wanted = c.payload_len-wanted.ensures in
+    let start : c.take_unit_tail-2.result.start ≡ c.args.tail.start = e.place.1 ∙ at g d in
+    rw (← c.self.view_is) (record {
+      step = (
+        subst (λ a. ReallocatesWithoutMove (read_from c.self.inside.memory c.self.inside.state.state) c.args.tail.start c.args.size (Some a)
+            (read_from c.take_unit_tail-2.new.self c.resize_block_in.new.state.state)) (sym start) (step g d is true yes),
+        (invariant_of-self-2 g c).stands,
+      );
       result = record {
-        tail = record {
-          identity = is_of_heap c.self.inside.memory c.resize_kept_block.new.memory c.self.inside.table k c.self.inside.ledger.name c.issue-ticket-2.result.name 25 first
-              (c.issue-ticket-2.ensures.name.0 ∙ put.ledger.0) c.args.self.now c.self.view_is c.take_unit_tail-2.result.home e.place.0 (heap_of_tail c.take_unit_tail-2.result)
-              (λ i. record { home = c.take_unit_tail-2.result.home; ledger = e.ticket.0 i });
-          start = start-2 g c;
-          ptr = let d = first-of g c in let e = c.take_unit_tail-2.ensures.place in
-              let view : c.take_unit_tail-2.result.home.view ≡ c.args.tail.home.view = ap (λ (h : Home). h.view) e.0 ∙ c.resize_kept_block.ensures.costs.view ∙ viewed g d in
-              c.take_unit_tail-2.result.placed.at ∙ (λ i. pointer_to (view i) (start-2 g c i)) ∙ sym c.args.tail.placed.at;
-          kept = omega (arith, e.place.3, c.lesser-kept.ensures, c.payload_len-wanted.ensures, c.requires.len, c.requires.kept);
-          long = e.place.2 ∙ c.payload_len-wanted.ensures;
-        };
-        aligns = λ i a. aligned_at g c a i;
+        tail = tail g d c.take_unit_tail-2.new.self e.start e.bytes now (fits g early) long wanted e.place (e.ticket.0 ∙ c.issue-ticket-2.ensures.name.0 ∙ put.ledger.0);
+        aligns = (keeps g d is).aligns;
       };
       room = λ shorter. refl;
-      bounds = record {
-        sized = λ count most align sized short wide.
-            sized_resized (well g c) (now-2 g c) count most align sized c.args.tail.start c.args.size 16 (Some c.take_unit_tail-2.result.start) (live g c) short wide (moves g c);
-        count = let (u, holds, is) = align_at-live c.args.self.now.state c.args.tail.start 16 (live g c) in
-            count_resized (well g c) (now-2 g c) c.args.tail.start c.args.size (Some c.take_unit_tail-2.result.start) (u, holds) (moves g c);
-      };
+      bounds = sized g d is;
       refused = tt;
-      frame = record {
-        heap = record { identity = o.identity; place = o.place; spare = resized_spare g c; grow = o.grow };
-        raw = let d = first-of g c in let put = c.put_unit_tail-block.ensures in let e = c.take_unit_tail-2.ensures in
-            let across : Stays c.put_unit_tail-block.new.self c.resize_kept_block.new.memory =
-            record { start = c.resize_kept_block.ensures.costs.start; own = c.resize_kept_block.ensures.own; here = c.resize_kept_block.ensures.here } in
-            let inside = tails.lies d.self.invariant.stands d.self.invariant.tickets d.args.tail.key d.args.tail.start d.args.tail.len put.issued in
-            raw-seen c.self.inside.memory c.take_unit_tail-2.new.self c.self.inside.state.state c.reallocate.new.self.state c.args.self.now c.self.view_is
-            c.resize_kept_block.new.table c.issue-ticket-2.new.self.name (range_at c.args.tail.start c.args.tail.len)
-            (raw-tail c.self.inside.memory c.put_unit_tail-block.new.self c.resize_kept_block.new.memory c.take_unit_tail-2.new.self c.args.tail.start c.args.tail.kept
-            c.args.tail.len c.args.tail.within.0 inside.0 put.start put.out across _ e.start (omega (arith, inside, at g d, put.start, across.start)) e.out);
-        chunks = chunks-reallocated g.row.SLLEN c.args.self.now.state (now-2 g c) c.args.tail.start c.args.size (Some c.take_unit_tail-2.result.start) (moves g c);
-        copied = omega (arith, e.copied, costs.copied, put.copied, ap (λ (v : HeapView). v.memory.copied) c.self.view_is);
-      };
-      touches = o.touches;
-    }
+      frame = frame g d c.take_unit_tail-2.new.self e.start e.bytes now (fits g early) long wanted e.view e.touches e.copied e.out (c.issue-ticket-2.ensures.name.1 ∙ put.ledger.0);
+      touches = omega (arith, e.touches, left.costs.touches, put.touches);
+    })
