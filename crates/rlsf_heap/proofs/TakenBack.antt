@@ -27,7 +27,6 @@ use Rattle.rlsf_table.proofs.Parameters.{IsValid-widest}
 use Rattle.rlsf_blocks.specs.Laws.{read_from}
 use Rattle.rlsf_blocks.specs.Spare.{KeepsSpare}
 use Rattle.rlsf_blocks.specs.StandsFor.{contents, StandsFor}
-use Rattle.rlsf_blocks.specs.Steps.LiveBlock.{AtEachBlock}
 use Rattle.rlsf_blocks.proofs.Words.Stays.{Stays, Stays-same, Stays-then}
 use Rattle.rlsf_tlsf.specs.Cores.{IsCore, LeavesCoreCopying}
 use Rattle.rlsf_tlsf.specs.Moving.{IsHerePayload, IsRelocated, span}
@@ -74,13 +73,6 @@ relocated_at {o} {s} {t} {to = to} is count at aligned = subst (λ (z : ℕ × �
   count = count;
   own = is.own;
 })
-
--- the range that is read as its bytes
-pub range_loaded : {fllen sllen : ℕ} {o : Space} {y : Table} {t : State} {align to : ℕ} {r : Range} → StandsFor fllen sllen (contents o y) t → align_at t to ≡ Some align
-    → AtEachBlock o to (λ w. r ≡ usable w) → r ≡ span t to to
-range_loaded {fllen} {sllen} {o} {y} {t} {align} {to} now live each =
-    let (u, holds, _) = align_at-live t to align live in
-    each fllen sllen (contents o y) t u refl now holds ∙ span_held now to u holds
 
 -- where no word was read
 pub Counts-none : (m : Space) → Counts m m 0

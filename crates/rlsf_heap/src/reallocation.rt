@@ -11,7 +11,7 @@ ghost use Rattle.rlsf_heap.specs.Frame.{KeepsFrame, KeepsFrameMoving, KeepsSized
 use crate::heap::Heap;
 use crate::payload::Payload;
 use rlsf_base::memory::{Layout, Range};
-use rlsf_blocks::{load_usable_bytes, used_block};
+use rlsf_base::rounding::next_multiple_of_32;
 use rlsf_int::BitPattern;
 use rlsf_tlsf::core_calls::reallocate_in;
 
@@ -38,7 +38,7 @@ impl<FLBitmap: BitPattern, SLBitmap: BitPattern, const FLLEN: usize, const SLLEN
     ///
     /// The payload must be one of this heap, and its bytes must be here.
     ///
-    /// Takes at most 69 word accesses, whatever the pools contain. If the payload moves, each of its bytes is copied at most once.
+    /// Takes at most 66 word accesses, whatever the pools contain. If the payload moves, each of its bytes is copied at most once.
     pub fn reallocate(&mut self, payload: Payload, size: usize) -> Result<Payload, Payload>
         requires identity { payload.identity ≡ self.old.identity }
         requires written { IsWritten payload }
@@ -48,7 +48,7 @@ impl<FLBitmap: BitPattern, SLBitmap: BitPattern, const FLLEN: usize, const SLLEN
         ensures bounds { KeepsSized SLLEN self.old.state self.new.state size payload.align }
         ensures refused { IfErr result (λ p. IsRefused self.old self.new payload.start payload.align payload p) }
         ensures frame { KeepsFrameMoving self.old self.new payload.start size payload }
-        ensures touches { self.new.memory.touches ≤ self.old.memory.touches + 69 }
+        ensures touches { self.new.memory.touches ≤ self.old.memory.touches + 66 }
     {
         // Opens the heap's invariant for the prover, also for the case that no layout has the size.
         let _ = self.memory.view();
@@ -71,7 +71,12 @@ impl<FLBitmap: BitPattern, SLBitmap: BitPattern, const FLLEN: usize, const SLLEN
             let payload = Payload::hand_over(&mut self.memory, &mut self.ledger, range, align);
             return Err(payload);
         };
-        let range = load_usable_bytes(&mut self.memory, to);
+        // Its block is no longer than it has to be: it ends at the first multiple of 32 behind the size. So no word is read.
+        let end = next_multiple_of_32(to + size);
+        let range = Range {
+            start: to,
+            len: end - to,
+        };
         let payload = Payload::hand_over(&mut self.memory, &mut self.ledger, range, align);
         Ok(payload)
     }

@@ -49,7 +49,7 @@ impl<FLBitmap: BitPattern, SLBitmap: BitPattern, const FLLEN: usize, const SLLEN
     /// The payload must be the one at `addr`, which isn't 0, with the alignment `align`, and one of this heap, and its bytes must be
     /// here.
     ///
-    /// Takes at most 72 word accesses, whatever the pools contain. If the payload moves, each of its bytes is copied at most once.
+    /// Takes at most 69 word accesses, whatever the pools contain. If the payload moves, each of its bytes is copied at most once.
     pub fn reallocate_thin(
         &mut self,
         addr: usize,
@@ -66,7 +66,7 @@ impl<FLBitmap: BitPattern, SLBitmap: BitPattern, const FLLEN: usize, const SLLEN
         ensures bounds { KeepsSized SLLEN self.old.state self.new.state size align }
         ensures refused { IfErr result (λ p. IsThin (λ of. IsRefused self.old self.new addr align payload.of of) p) }
         ensures frame { KeepsFrameMoving self.old self.new addr size payload.of }
-        ensures touches { self.new.memory.touches ≤ self.old.memory.touches + 72 }
+        ensures touches { self.new.memory.touches ≤ self.old.memory.touches + 69 }
     {
         let payload = self.find_payload(addr, payload, align);
         match self.reallocate(payload, size) {

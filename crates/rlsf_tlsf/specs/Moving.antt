@@ -1,5 +1,5 @@
 -- A payload that gets another size, and may move: what the call on a core takes and returns.
-use Rattle.std.specs.Prelude.{◌≡◌, ◌<◌, ◌%◌, ℕ, length}
+use Rattle.std.specs.Prelude.{◌≡◌, ◌<◌, ◌%◌, ◌+◌, ℕ, length}
 use Rattle.rlsf_base.specs.declared.memory.range.Range.{Range}
 use Rattle.rlsf_base.specs.OpenSpace.{IsHere, IsOwned}
 use Rattle.rlsf_base.specs.Range.{LiesIn, range_at}
@@ -24,8 +24,10 @@ pub record IsRelocated (n : Space) (before after : State) (addr size align to : 
   pub some : 0 < to
   -- its address is a multiple of the alignment
   pub aligned : to % align ≡ 0
-  -- its bytes lie in the memory
-  pub lies : LiesIn (span after to to) n.start (length n.bytes)
+  -- its bytes lie in the memory, and so do 32 more
+  pub lies : LiesIn (range_at to (length (bytes_at after to) + 32)) n.start (length n.bytes)
+  -- they end at a multiple of 32
+  pub ends : (to + length (bytes_at after to)) % 32 ≡ 0
   -- and are the memory's own
   pub own : IsOwned n (span after to to)
   -- as many bytes as it had are here

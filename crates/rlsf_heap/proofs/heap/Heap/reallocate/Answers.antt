@@ -1,17 +1,14 @@
-use Rattle.std.proofs.Common.{◌≡◌, ℕ, ◌%◌, length, None, Some, arith, refl, sym, ap, subst, ◌∙◌}
+use Rattle.std.proofs.Common.{◌≡◌, ◌+◌, ◌-◌, ℕ, ◌%◌, length, None, Some, arith, refl, sym, ap, subst, ◌∙◌}
 use Rattle.std.proofs.lemmas.Bool.{false≢true}
-use Rattle.rlsf_base.specs.declared.memory.range.Range.{Range}
 use Rattle.rlsf_base.specs.Layout.{IsLayout}
 use Rattle.rlsf_base.specs.Range.{range_at}
+use Rattle.rlsf_base.specs.Rounding.{round32}
 use Rattle.rlsf_model.specs.Callers.{align_at, bytes_at}
 use Rattle.rlsf_model.specs.Reallocate.{Keeps, Reallocates}
 use Rattle.rlsf_model.specs.State.{AreAlike, State}
-use Rattle.rlsf_model.proofs.CallerWords.{align_at-live}
-use Rattle.rlsf_table.specs.Counts.{Counts}
 use Rattle.rlsf_blocks.specs.Laws.{read_from}
-use Rattle.rlsf_blocks.specs.StandsFor.{contents}
-use Rattle.rlsf_blocks.proofs.Counting.{Counts-touched}
 use Rattle.rlsf_tlsf.specs.Moving.{span}
+use Rattle.rlsf_tlsf.proofs.Relocated.{end_relocated}
 use Rattle.rlsf_heap.specs.Heap.{HeapView, Identity, Steps, payload_range}
 use Rattle.rlsf_heap.specs.Reallocation.{owned_by}
 use Rattle.rlsf_heap.proofs.Arrivals.{Steps-arrived, bare-kept}
@@ -21,10 +18,10 @@ use Rattle.rlsf_heap.proofs.Kept.{beside-none}
 use Rattle.rlsf_heap.proofs.Reallocated.{Keeps-each}
 use Rattle.rlsf_heap.proofs.TakenBack.{Counts-none, IsAt, IsHeap-over, alike_back, beside_over, core_back, count_back, frame_over, here_over, here_unmoved, identity_over, lies_over}
 use Rattle.rlsf_heap.proofs.TakenBack.{own_over, payload_back, range_back, reads_over, relocated_at, seen_back, sized_back, sized_over, step_over, unmoved_at, values_over}
-use Rattle.rlsf_heap.proofs.TakenBack.{here_kept, kept_as, range_loaded, written_over}
+use Rattle.rlsf_heap.proofs.TakenBack.{here_kept, kept_as, written_over}
 use Rattle.rlsf_heap.proofs.heap.Heap.reallocate.Given as given
 use Rattle.rlsf_heap.proofs.heap.Heap.reallocate.Goals as goal
-use Rattle.rlsf_heap.proofs.heap.Heap.reallocate.Goals.{After-load_usable_bytes-range, In-Some, In_default-moved}
+use Rattle.rlsf_heap.proofs.heap.Heap.reallocate.Goals.{In-Some, In_default-moved}
 
 -- ---- the payload is back in the memory
 
@@ -128,45 +125,43 @@ module _ (g : given.Over) (c : In-Some g) where
       (read_from c.reallocate_in-moved.new.memory c.reallocate_in-moved.new.state.state) c.args.payload.start c.args.payload.align c.in-Some.to
   moved = relocated_at c.in-Some.ensures.result c.in-Some.ensures.frame.count c.addr-addr.ensures (c.in-Ok.ensures.layout.1 ∙ c.align-align.ensures)
 
-pub load_usable_bytes-range-requires : goal.load_usable_bytes-range-requires
-load_usable_bytes-range-requires g c =
-    let at = moved g (goal.at.load_usable_bytes-range-requires g c).In-Some in
-    let t = read_from c.reallocate_in-moved.new.memory c.reallocate_in-moved.new.state.state in
-    let (u, holds, _) = align_at-live t c.in-Some.to c.args.payload.align at.live in
-    (g.row.FLLEN, g.row.SLLEN, contents c.reallocate_in-moved.new.memory c.reallocate_in-moved.new.table, t, refl, c.in-Some.ensures.left.core.stands, (u, holds))
+  -- and ends at the first multiple of 32 behind the size
+  ends : round32 (c.in-Some.to + c.args.size) ≡ c.in-Some.to + length (bytes_at (read_from c.reallocate_in-moved.new.memory c.reallocate_in-moved.new.state.state) c.in-Some.to)
+  ends = ap (λ n. round32 (c.in-Some.to + n)) (sym c.in-Ok.ensures.layout.0) ∙ end_relocated c.in-Some.ensures.result
 
--- its length is read
-module _ (g : given.Over) (c : After-load_usable_bytes-range g) where
-  read : Counts c.reallocate_in-moved.new.memory c.load_usable_bytes-range.new.memory 3
-  read = Counts-touched c.reallocate_in-moved.new.memory c.load_usable_bytes-range.new.memory 3 c.load_usable_bytes-range.ensures.memory
-
-  long : align_at (read_from c.reallocate_in-moved.new.memory c.reallocate_in-moved.new.state.state) c.in-Some.to ≡ Some c.args.payload.align
-      → c.load_usable_bytes-range.result ≡ span (read_from c.reallocate_in-moved.new.memory c.reallocate_in-moved.new.state.state) c.in-Some.to c.in-Some.to
-  long live = range_loaded c.in-Some.ensures.left.core.stands live c.load_usable_bytes-range.ensures.range
+  -- so its length is that of the range
+  long : {end len : ℕ} → end ≡ round32 (c.in-Some.to + c.args.size) → len ≡ end - c.in-Some.to
+      → range_at c.in-Some.to len ≡ span (read_from c.reallocate_in-moved.new.memory c.reallocate_in-moved.new.state.state) c.in-Some.to c.in-Some.to
+  long {end} {len} is_end is_len =
+      let many : len ≡ length (bytes_at (read_from c.reallocate_in-moved.new.memory c.reallocate_in-moved.new.state.state) c.in-Some.to) =
+      omega (arith, is_end, is_len, ends) in
+      λ i. range_at c.in-Some.to (many i)
 
 pub hand_over-payload-requires-2-clause-place : goal.hand_over-payload-requires-2-clause-place
 hand_over-payload-requires-2-clause-place g c =
-    let at = moved g (goal.at.hand_over-payload-requires-2-clause-place g c).In-Some in
-    let d = (goal.at.hand_over-payload-requires-2-clause-place g c).After-load_usable_bytes-range in
-    lies_over c.self.invariant c.args.payload c.take_back.ensures.back c.in-Some.ensures.left at (read g d) (long g d at.live)
+    let d = (goal.at.hand_over-payload-requires-2-clause-place g c).In-Some in
+    lies_over c.self.invariant c.args.payload c.take_back.ensures.back c.in-Some.ensures.left (moved g d) (Counts-none c.reallocate_in-moved.new.memory)
+    (long g d c.next_multiple_of_32-end.ensures.value refl)
 
 pub hand_over-payload-requires-2-clause-own : goal.hand_over-payload-requires-2-clause-own
 hand_over-payload-requires-2-clause-own g c =
-    let at = moved g (goal.at.hand_over-payload-requires-2-clause-own g c).In-Some in
-    let d = (goal.at.hand_over-payload-requires-2-clause-own g c).After-load_usable_bytes-range in
-    own_over c.self.invariant c.args.payload c.take_back.ensures.back c.in-Some.ensures.left at (read g d) (long g d at.live)
+    let d = (goal.at.hand_over-payload-requires-2-clause-own g c).In-Some in
+    own_over c.self.invariant c.args.payload c.take_back.ensures.back c.in-Some.ensures.left (moved g d) (Counts-none c.reallocate_in-moved.new.memory)
+    (long g d c.next_multiple_of_32-end.ensures.value refl)
 
 pub invariant_of-self-2 : goal.invariant_of-self-2
 invariant_of-self-2 g c =
     let at = moved g (goal.at.invariant_of-self-2 g c).In-Some in
-    let d = (goal.at.invariant_of-self-2 g c).After-load_usable_bytes-range in
-    IsHeap-over c.self.invariant c.args.payload c.take_back.ensures.back c.in-Some.ensures.left at (read g d) (long g d at.live) c.align-align.ensures
-    c.hand_over-payload-2.ensures.over
+    let whole = long g (goal.at.invariant_of-self-2 g c).In-Some c.next_multiple_of_32-end.ensures.value refl in
+    IsHeap-over c.self.invariant c.args.payload c.take_back.ensures.back c.in-Some.ensures.left at (Counts-none c.reallocate_in-moved.new.memory) whole
+    c.align-align.ensures c.hand_over-payload-2.ensures.over
 
 pub returns : goal.returns
 returns g c =
     let at = moved g (goal.at.returns g c).In-Some in
-    let d = (goal.at.returns g c).After-load_usable_bytes-range in
+    let d = (goal.at.returns g c).In-Some in
+    let none = Counts-none c.reallocate_in-moved.new.memory in
+    let whole = long g d c.next_multiple_of_32-end.ensures.value refl in
     let is = c.self.invariant in
     let pay = c.args.payload in
     let back = c.take_back.ensures.back in
@@ -180,18 +175,18 @@ returns g c =
     let told = c.in-Ok.ensures.layout.1 ∙ c.align-align.ensures in
     let named = c.hand_over-payload-2.ensures.name ∙ c.take_back.ensures.name in
     let p = c.hand_over-payload-2.result in
-    let starts : c.in-Some.to ≡ p.start = sym (over.at ∙ ap (λ (r : Range). r.start) (long g d at.live)) in
-    let values : p.bytes ≡ bytes_at t c.in-Some.to = values_over is pay back e.left at (read g d) (long g d at.live) c.align-align.ensures over in
+    let starts : c.in-Some.to ≡ p.start = sym over.at in
+    let values : p.bytes ≡ bytes_at t c.in-Some.to = values_over is pay back e.left at none whole c.align-align.ensures over in
     let kept : Keeps pay.bytes p.bytes = kept_as is pay back c.addr-addr.ensures e.result.made.kept values in
-    let stays = here_kept is pay back c.addr-addr.ensures e.result.here over (read g d) (ap (λ (r : Range). r.start) (long g d at.live)) in
-    let reads = reads_over is pay back e.left at (read g d) (long g d at.live) c.align-align.ensures over in
+    let stays = here_kept is pay back c.addr-addr.ensures e.result.here over none refl in
+    let reads = reads_over is pay back e.left at none whole c.align-align.ensures over in
     rw (← c.self.view_is) (record {
-      step = step_over is pay back e.left at (read g d) (long g d at.live) c.align-align.ensures over c.addr-addr.ensures sizes e.frame ledger label named (ap Some starts)
+      step = step_over is pay back e.left at none whole c.align-align.ensures over c.addr-addr.ensures sizes e.frame ledger label named (ap Some starts)
           e.step;
       result = record {
         layout = subst (IsLayout c.args.size) c.align-align.ensures (c.in-Ok.ensures.succeeds.0 refl);
         resized = record {
-          identity = identity_over is pay back e.left at (read g d) (long g d at.live) c.align-align.ensures over ledger c.take_back.ensures.name;
+          identity = identity_over is pay back e.left at none whole c.align-align.ensures over ledger c.take_back.ensures.name;
           requested = over.align ∙ c.align-align.ensures;
           made = record {
             live = reads (λ (x : State). align_at x p.start ≡ Some pay.align) (subst (λ a. align_at t a ≡ Some pay.align) starts at.live);
@@ -205,7 +200,7 @@ returns g c =
           here = record {
             here = λ i from high. stays i (omega (arith, high)) (omega (arith, high));
             shrunk = λ shorter i from high. stays i (omega (arith, high, shorter)) (omega (arith, high));
-            written = written_over is pay back e.left at (read g d) (long g d at.live) c.align-align.ensures over;
+            written = written_over is pay back e.left at none whole c.align-align.ensures over;
           };
         };
         others = record {
@@ -216,10 +211,10 @@ returns g c =
         };
       };
       room = λ most longest widest sized few short fits _. refl;
-      bounds = sized_over is pay back e.left at (read g d) (long g d at.live) c.align-align.ensures over c.addr-addr.ensures sizes e.frame ledger label named told e.bounds;
+      bounds = sized_over is pay back e.left at none whole c.align-align.ensures over c.addr-addr.ensures sizes e.frame ledger label named told e.bounds;
       refused = tt;
-      frame = frame_over is pay back e.left at (read g d) (long g d at.live) c.align-align.ensures over c.addr-addr.ensures sizes e.frame ledger label named;
-      touches = omega (arith, e.left.costs.touches, over.touches, back.touches, (read g d).touches);
+      frame = frame_over is pay back e.left at none whole c.align-align.ensures over c.addr-addr.ensures sizes e.frame ledger label named;
+      touches = omega (arith, e.left.costs.touches, over.touches, back.touches);
     })
 
 -- ---- no layout has the size
