@@ -143,6 +143,40 @@ fn copies_onto_raw_bytes_apart(rt: HostRuntime) {
     all(&rt, &[is_copied]);
 }
 
+/// A memory of 64 bytes, all of them 0.
+fn wide_zeros(rt: &(impl Abort + AllocGlobal)) -> OpenMemory
+    ensures start { result.start ≡ 4096 }
+    ensures len { length result.bytes ≡ 64 }
+    ensures here { IsHere result (range_of result) }
+    ensures own { IsAllOwn result.out }
+{
+    OpenMemory::new(rt.alloc(), 4096, 64).expect(rt, "a memory")
+}
+
+#[test]
+fn copies_a_unit_and_a_rest(rt: HostRuntime) {
+    let mut memory = wide_zeros(&rt);
+    memory.set_word(4096, FIRST);
+    memory.set_word(4104, SECOND);
+    memory.set_word(4112, FIRST);
+    let from = Range {
+        start: 4097,
+        len: 19,
+    };
+    memory.copy_within(from, 4131);
+    let place = Range {
+        start: 4131,
+        len: 19,
+    };
+    let is_copied = memory.slice(place)
+        == [
+            2, 3, 4, 5, 6, 7, 8, 9, 10, 11, 12, 13, 14, 15, 16, 1, 2, 3, 4,
+        ]
+        .as_slice();
+    memory.free();
+    all(&rt, &[is_copied]);
+}
+
 #[test]
 fn copies_up_onto_raw_bytes(rt: HostRuntime) {
     let mut memory = reserved(&rt);
