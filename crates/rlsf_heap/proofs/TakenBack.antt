@@ -1,15 +1,14 @@
 -- A payload came back into the memory for a call on the heap's core, and leaves again after it, at its address or at another one.
-use Rattle.std.proofs.Common.{◌≡◌, ◌≢◌, ◌<◌, ◌≤◌, ◌+◌, ◌-◌, ℕ, List, length, Option, None, Some, arith, refl, sym, ap, subst, ◌∙◌}
+use Rattle.std.proofs.Common.{◌≡◌, ◌≢◌, ◌<◌, ◌≤◌, ◌+◌, ℕ, List, length, Option, None, Some, arith, refl, sym, ap, subst, ◌∙◌}
 use Rattle.std.proofs.lemmas.Option.{none-some}
 use Rattle.rlsf_base.specs.declared.memory.range.Range.{Range}
-use Rattle.rlsf_base.specs.Changes.{left}
 use Rattle.rlsf_base.specs.Ledger.{Entry, Extent, extent, IsIssued}
-use Rattle.rlsf_base.specs.OpenSpace.{IsHere, IsOwned, home_of}
+use Rattle.rlsf_base.specs.OpenSpace.{IsHere, IsOwned, home_of, out_without}
 use Rattle.rlsf_base.specs.Layout.{IsLayout}
 use Rattle.rlsf_base.specs.Out.{here, kept_at}
 use Rattle.rlsf_base.specs.Range.{LiesIn, range_at}
 use Rattle.rlsf_base.specs.Space.{Space, bytes_in, range_of}
-use Rattle.rlsf_base.proofs.Lending.Present.{here-same, out-same, own-here, owned-same}
+use Rattle.rlsf_base.proofs.Lending.Present.{own-here}
 use Rattle.rlsf_model.specs.Callers.{align_at, bytes_at}
 use Rattle.rlsf_model.specs.NoMove.{unmoved_plan}
 use Rattle.rlsf_model.specs.Reallocate.{HasRoomToStay, Keeps, Reallocates}
@@ -21,13 +20,11 @@ use Rattle.rlsf_model.proofs.CallerWords.{SeesFilled, align_at-live, bytes_at-he
 use Rattle.rlsf_model.proofs.Changes.{Holds-unique}
 use Rattle.rlsf_model.proofs.Fillings.{AreAlike-filled}
 use Rattle.rlsf_model.proofs.SizedWords.{count_filled, sized_filled}
-use Rattle.rlsf_table.specs.Counts.{Counts}
 use Rattle.rlsf_table.specs.Table.{Table}
 use Rattle.rlsf_table.proofs.Parameters.{IsValid-widest}
 use Rattle.rlsf_blocks.specs.Laws.{read_from}
 use Rattle.rlsf_blocks.specs.Spare.{KeepsSpare}
 use Rattle.rlsf_blocks.specs.StandsFor.{contents, StandsFor}
-use Rattle.rlsf_blocks.proofs.Words.Stays.{Stays, Stays-same, Stays-then}
 use Rattle.rlsf_tlsf.specs.Cores.{IsCore, LeavesCoreCopying}
 use Rattle.rlsf_tlsf.specs.Moving.{IsHerePayload, IsRelocated, span}
 use Rattle.rlsf_tlsf.proofs.Arrivals.{arrived, read_from-read_from}
@@ -73,10 +70,6 @@ relocated_at {o} {s} {t} {to = to} is count at aligned = subst (λ (z : ℕ × �
   count = count;
   own = is.own;
 })
-
--- where no word was read
-pub Counts-none : (m : Space) → Counts m m 0
-Counts-none m = record { start = refl; bytes = refl; touches = omega arith; grow = omega arith; copied = refl; view = refl; out = refl }
 
 module _ {fl_bits sl_bits fllen sllen : ℕ} {m n : Space} {x : Table} {j : State} {es fs : List Entry} {count : ℕ} (is : IsHeap fl_bits sl_bits fllen sllen m x j es count)
     (pay : PayloadView) (taken : IsTakenBack m n es fs pay) where
@@ -169,13 +162,12 @@ module _ {fl_bits sl_bits fllen sllen : ℕ} {m n : Space} {x : Table} {j : Stat
   pub kept_as : {addr : ℕ} {after bytes : List ℕ} → addr ≡ pay.start → Keeps (bytes_at (read_from n j) addr) after → bytes ≡ after → Keeps pay.bytes bytes
   kept_as at keeps same_bytes = subst (λ (z : List ℕ × List ℕ). Keeps z.0 z.1) (λ i. ((ap (bytes_at (read_from n j)) at ∙ bytes_are) i, sym same_bytes i)) keeps
 
-  pub here_kept : {o l q : Space} {some wide name addr to : ℕ} {r : Range} {hs gs : List Entry} {p : PayloadView} → addr ≡ pay.start
-      → IsHere o (span (read_from n j) addr to) → IsHandedOver l q r wide name hs gs p → Counts o l some → r.start ≡ to
+  pub here_kept : {o q : Space} {wide name addr to : ℕ} {r : Range} {hs gs : List Entry} {p : PayloadView} → addr ≡ pay.start
+      → IsHere o (span (read_from n j) addr to) → IsHandedOver o q r wide name hs gs p → r.start ≡ to
       → (i : ℕ) → i < length pay.bytes → i < length p.bytes → kept_at p.out i ≡ here
-  here_kept {o} {l} {r = r} at still over counts begins i below inside =
+  here_kept {o} {r = r} at still over begins i below inside =
       let many = ap length (ap (bytes_at (read_from n j)) at ∙ bytes_are) in
-      over.states i (omega (arith, inside, over.long)) ∙ out-same o l (r.start + i) counts.start counts.out
-      ∙ still (r.start + i) (omega (arith, begins)) (omega (arith, begins, below, many))
+      over.states i (omega (arith, inside, over.long)) ∙ still (r.start + i) (omega (arith, begins)) (omega (arith, begins, below, many))
 
   -- the call was refused: the payload is where it was
   module _ {o : Space} {y : Table} {k : State} {most copies : ℕ} (core : LeavesCoreCopying fllen sllen n o y j k most copies) (unchanged : read_from o k ≡ read_from n j) where
@@ -199,10 +191,10 @@ module _ {fl_bits sl_bits fllen sllen : ℕ} {m n : Space} {x : Table} {j : Stat
       own = own-here o (span (read_from o k) pay.start pay.start) here_unmoved;
     }
 
-  -- ---- the call was made, and a payload leaves, perhaps once words were read
+  -- ---- the call was made, and a payload leaves
 
   module _ {o : Space} {y : Table} {k : State} {most copies : ℕ} (core : LeavesCoreCopying fllen sllen n o y j k most copies) {align to : ℕ}
-      (at : IsAt o (read_from n j) (read_from o k) pay.start align to) {l : Space} {some : ℕ} (counts : Counts o l some) {r : Range} (is_range : r ≡ span (read_from o k) to to)
+      (at : IsAt o (read_from n j) (read_from o k) pay.start align to) {r : Range} (is_range : r ≡ span (read_from o k) to to)
     where
       u : Used
       u = (align_at-live (read_from o k) to align at.live).0
@@ -219,21 +211,21 @@ module _ {fl_bits sl_bits fllen sllen : ℕ} {m n : Space} {x : Table} {j : Stat
       range_is = is_range ∙ sym (span_held core.core.stands to u holds)
 
       -- its bytes are the memory's own
-      pub lies_over : LiesIn r l.start (length l.bytes)
+      pub lies_over : LiesIn r o.start (length o.bytes)
       lies_over =
           let lies = lies-usable core.core.stands u holds.0 in (
-            omega (arith, lies.0, counts.start, ap (λ (q : Range). q.start) range_is),
-            omega (arith, lies.1, counts.start, ap length counts.bytes, ap (λ (q : Range). q.start) range_is, ap (λ (q : Range). q.len) range_is),
+            omega (arith, lies.0, ap (λ (q : Range). q.start) range_is),
+            omega (arith, lies.1, ap (λ (q : Range). q.start) range_is, ap (λ (q : Range). q.len) range_is),
           )
 
-      pub own_over : IsOwned l r
-      own_over = owned-same o l r counts.start counts.out (subst (IsOwned o) (sym is_range) at.own)
+      pub own_over : IsOwned o r
+      own_over = subst (IsOwned o) (sym is_range) at.own
 
-      module _ {q : Space} {wide name : ℕ} {gs : List Entry} {p : PayloadView} (aligned : wide ≡ align) (over : IsHandedOver l q r wide name fs gs p) where
+      module _ {q : Space} {wide name : ℕ} {gs : List Entry} {p : PayloadView} (aligned : wide ≡ align) (over : IsHandedOver o q r wide name fs gs p) where
         standing : StandsFor fllen sllen (contents q y) (read_from o k)
         standing =
-            stands-without core.core.stands u holds.0 q (over.start ∙ counts.start) (over.bytes ∙ counts.bytes)
-            (over.out ∙ (λ i. left ((range_is i).start - counts.start i) (range_is i).len (counts.out i)))
+            stands-without core.core.stands u holds.0 q over.start over.bytes
+            (over.out ∙ ap (out_without o) range_is)
 
         -- the state is the one that the call led to
         pub state_over : read_from q k ≡ read_from o k
@@ -272,52 +264,49 @@ module _ {fl_bits sl_bits fllen sllen : ℕ} {m n : Space} {x : Table} {j : Stat
         -- what the call keeps
         pub keeps_over : (ledger label : ℕ) → label ≡ ledger → KeepsHeap (heap_view m x j ledger) (heap_view q y k label)
         keeps_over ledger label named =
-            heap-over m q x y j k (over.start ∙ counts.start ∙ core.costs.start ∙ taken.start) (ap length over.bytes ∙ ap length counts.bytes ∙ core.costs.length ∙ taken.long)
-            (over.view ∙ counts.view ∙ core.costs.view ∙ taken.view) (omega (arith, over.touches, counts.grow, core.costs.grow, taken.touches))
-            (reads_over (KeepsSpare m (read_from m j) q) (spare-last m o q (read_from m j) (read_from o k) (over.start ∙ counts.start) (over.bytes ∙ counts.bytes)
+            heap-over m q x y j k (over.start ∙ core.costs.start ∙ taken.start) (ap length over.bytes ∙ core.costs.length ∙ taken.long)
+            (over.view ∙ core.costs.view ∙ taken.view) (omega (arith, over.touches, core.costs.grow, taken.touches))
+            (reads_over (KeepsSpare m (read_from m j) q) (spare-last m o q (read_from m j) (read_from o k) over.start over.bytes
             (spare-then m n o (read_from m j) (read_from o k) taken.start taken.long (read_from n j) refl
             (subst (KeepsSpare m (read_from m j) n) same (spare_in back_in)) core.spare)))
             ledger label named
 
-        stays_over : Stays n l
-        stays_over = Stays-then (stays core) (Stays-same o l counts.start counts.out)
-
-        settled_before : IsSettled m → IsSettled l
-        settled_before settled = settled-stays stays_over (settled-back m n (payload_range pay) taken.start (omega (arith, low, taken.start)) taken.out settled)
+        settled_before : IsSettled m → IsSettled o
+        settled_before settled = settled-stays (stays core) (settled-back m n (payload_range pay) taken.start (omega (arith, low, taken.start)) taken.out settled)
 
         pub bytes_over : (ledger label : ℕ) → KeepsBytes (heap_view m x j ledger) (heap_view q y k label)
         unfolding NoneBecomesRaw
         bytes_over ledger label = record {
           raw = λ a from is_raw.
               raw-with m n (payload_range pay) taken.start (omega (arith, low, taken.start)) taken.out a from
-              (raw-stays stays_over a (omega (arith, from, taken.start))
-              (raw-left l q r over.start lies_over.0 over.out a (omega (arith, from, taken.start, stays_over.start)) is_raw));
-          settled = λ settled. settled-left l q r over.start lies_over.0 over.out (settled_before settled);
+              (raw-stays (stays core) a (omega (arith, from, taken.start))
+              (raw-left o q r over.start lies_over.0 over.out a (omega (arith, from, taken.start, core.costs.start)) is_raw));
+          settled = λ settled. settled-left o q r over.start lies_over.0 over.out (settled_before settled);
         }
 
         -- if no byte of the memory was raw, all its bytes are here
         pub written_over : IsSettled m → IsWritten p
-        written_over settled = over.full (settled-here l r lies_over.0 own_over (settled_before settled))
+        written_over settled = over.full (settled-here o r lies_over.0 own_over (settled_before settled))
 
         -- they are those of the state, and here if they were
         pub values_over : p.bytes ≡ bytes_at (read_from o k) to
         values_over =
-            over.values ∙ (λ i. bytes_in (record l { start = counts.start i; bytes = counts.bytes i }) (range_is i)) ∙ core.core.stands.payloads.bytes u holds.0
+            over.values ∙ ap (bytes_in o) range_is ∙ core.core.stands.payloads.bytes u holds.0
             ∙ sym (bytes_at-held core.core.stands.well_formed to u holds)
 
         pub here_over : IsHere o (span (read_from o k) to to) → IsWritten p
-        here_over still = over.full (here-same o l r counts.start counts.out (subst (IsHere o) (sym is_range) still))
+        here_over still = over.full (subst (IsHere o) (sym is_range) still)
 
         -- where the call changed no byte, no byte beside the payload is another
         pub beside_over : o.bytes ≡ n.bytes → (ledger label : ℕ) → KeepsBytesBeside (heap_view m x j ledger) (heap_view q y k label) (payload_range pay)
         unfolding KeepsBytesBeside
         beside_over bytes ledger label a from _ side =
-            same-byte n q (over.start ∙ counts.start ∙ core.costs.start) (over.bytes ∙ counts.bytes ∙ bytes) a ∙ beside_in back_in a from side
+            same-byte n q (over.start ∙ core.costs.start) (over.bytes ∙ bytes) a ∙ beside_in back_in a from side
 
         pub identity_over : (ledger : ℕ) → name ≡ ledger → p.identity ≡ record { home = home_of m; ledger = ledger }
         identity_over ledger named =
-            over.identity ∙ same_identity m l (counts.start ∙ core.costs.start ∙ taken.start) (ap length counts.bytes ∙ core.costs.length ∙ taken.long)
-            (counts.view ∙ core.costs.view ∙ taken.view) ledger name named
+            over.identity ∙ same_identity m o (core.costs.start ∙ taken.start) (core.costs.length ∙ taken.long)
+            (core.costs.view ∙ taken.view) ledger name named
 
         -- ---- as contracts see it, if the call was a reallocation
 
@@ -345,11 +334,10 @@ module _ {fl_bits sl_bits fllen sllen : ℕ} {m n : Space} {x : Table} {j : Stat
                 bytes = bytes_over ledger label;
                 chunks = reads_over (λ (s : State). s.chunks ≡ j.chunks) frame.chunks;
                 copied = record {
-                  copied = omega (arith, least, over.copied, counts.copied, taken.copied);
-                  grow_copied = omega (arith, frame.grow_copied, over.copied, counts.copied, taken.copied);
+                  copied = omega (arith, least, over.copied, taken.copied);
+                  grow_copied = omega (arith, frame.grow_copied, over.copied, taken.copied);
                   stays = λ room.
-                      over.copied ∙ counts.copied
-                      ∙ frame.stays (subst (λ (z : ℕ × ℕ). HasRoomToStay (read_from n j) z.0 z.1) (λ i. (sym place i, sym sizes i)) (room_back size room))
+                      over.copied ∙ frame.stays (subst (λ (z : ℕ × ℕ). HasRoomToStay (read_from n j) z.0 z.1) (λ i. (sym place i, sym sizes i)) (room_back size room))
                       ∙ taken.copied;
                 };
               }

@@ -16,7 +16,7 @@ use Rattle.rlsf_heap.proofs.Costs.{returned_same}
 use Rattle.rlsf_heap.proofs.Frames.{bytes_same, heap_same}
 use Rattle.rlsf_heap.proofs.Kept.{beside-none}
 use Rattle.rlsf_heap.proofs.Reallocated.{Keeps-each}
-use Rattle.rlsf_heap.proofs.TakenBack.{Counts-none, IsAt, IsHeap-over, alike_back, beside_over, core_back, count_back, frame_over, here_over, here_unmoved, identity_over, lies_over}
+use Rattle.rlsf_heap.proofs.TakenBack.{IsAt, IsHeap-over, alike_back, beside_over, core_back, count_back, frame_over, here_over, here_unmoved, identity_over, lies_over}
 use Rattle.rlsf_heap.proofs.TakenBack.{own_over, payload_back, range_back, reads_over, relocated_at, seen_back, sized_back, sized_over, step_over, unmoved_at, values_over}
 use Rattle.rlsf_heap.proofs.TakenBack.{here_kept, kept_as, written_over}
 use Rattle.rlsf_heap.proofs.heap.Heap.reallocate.Given as given
@@ -59,17 +59,17 @@ module _ (g : given.Over) (c : In_default-moved g) where
 pub hand_over-payload-requires-clause-place : goal.hand_over-payload-requires-clause-place
 hand_over-payload-requires-clause-place g c =
     let d = (goal.at.hand_over-payload-requires-clause-place g c).In_default-moved in
-    lies_over c.self.invariant c.args.payload c.take_back.ensures.back c.in_default-moved.ensures.left (stayed g d) (Counts-none c.reallocate_in-moved.new.memory) (whole g d)
+    lies_over c.self.invariant c.args.payload c.take_back.ensures.back c.in_default-moved.ensures.left (stayed g d) (whole g d)
 
 pub hand_over-payload-requires-clause-own : goal.hand_over-payload-requires-clause-own
 hand_over-payload-requires-clause-own g c =
     let d = (goal.at.hand_over-payload-requires-clause-own g c).In_default-moved in
-    own_over c.self.invariant c.args.payload c.take_back.ensures.back c.in_default-moved.ensures.left (stayed g d) (Counts-none c.reallocate_in-moved.new.memory) (whole g d)
+    own_over c.self.invariant c.args.payload c.take_back.ensures.back c.in_default-moved.ensures.left (stayed g d) (whole g d)
 
 pub invariant_of-self : goal.invariant_of-self
 invariant_of-self g c =
     let d = (goal.at.invariant_of-self g c).In_default-moved in
-    IsHeap-over c.self.invariant c.args.payload c.take_back.ensures.back c.in_default-moved.ensures.left (stayed g d) (Counts-none c.reallocate_in-moved.new.memory) (whole g d)
+    IsHeap-over c.self.invariant c.args.payload c.take_back.ensures.back c.in_default-moved.ensures.left (stayed g d) (whole g d)
     c.align-align.ensures c.hand_over-payload.ensures.over
 
 pub returns-in_default-moved : goal.returns-in_default-moved
@@ -86,34 +86,33 @@ returns-in_default-moved g c =
     let ledger = c.self.inside.ledger.name in
     let label = c.hand_over-payload.new.ledger.name in
     let e = c.in_default-moved.ensures in
-    let none = Counts-none o in
     let over = c.hand_over-payload.ensures.over in
     let sizes = c.in-Ok.ensures.layout.0 in
     let told = c.in-Ok.ensures.layout.1 ∙ c.align-align.ensures in
     let named = c.hand_over-payload.ensures.name ∙ c.take_back.ensures.name in
     let at = stayed g d in
-    let reads = reads_over is pay back e.left at none (whole g d) c.align-align.ensures over in
+    let reads = reads_over is pay back e.left at (whole g d) c.align-align.ensures over in
     rw (← c.self.view_is) (record {
-      step = step_over is pay back e.left at none (whole g d) c.align-align.ensures over c.addr-addr.ensures sizes e.frame ledger label named refl e.step;
+      step = step_over is pay back e.left at (whole g d) c.align-align.ensures over c.addr-addr.ensures sizes e.frame ledger label named refl e.step;
       result = tt;
       room = λ most longest widest sized few short fits _.
           absurd (false≢true (e.room most longest widest (sized_back is pay back most longest widest sized) (omega (arith, few, count_back is pay back))
           (omega (arith, short, sizes)) (omega (arith, fits, told))));
-      bounds = sized_over is pay back e.left at none (whole g d) c.align-align.ensures over c.addr-addr.ensures sizes e.frame ledger label named told e.bounds;
+      bounds = sized_over is pay back e.left at (whole g d) c.align-align.ensures over c.addr-addr.ensures sizes e.frame ledger label named told e.bounds;
       refused = record {
-        identity = identity_over is pay back e.left at none (whole g d) c.align-align.ensures over ledger c.take_back.ensures.name;
+        identity = identity_over is pay back e.left at (whole g d) c.align-align.ensures over ledger c.take_back.ensures.name;
         requested = over.align ∙ c.align-align.ensures;
         returned = record {
           start = over.at ∙ c.addr-addr.ensures;
-          bytes = values_over is pay back e.left at none (whole g d) c.align-align.ensures over ∙ ap (λ (x : State). bytes_at x pay.start) e.refused.same
+          bytes = values_over is pay back e.left at (whole g d) c.align-align.ensures over ∙ ap (λ (x : State). bytes_at x pay.start) e.refused.same
               ∙ (seen_back is pay back).here;
-          written = here_over is pay back e.left at none (whole g d) c.align-align.ensures over (here_unmoved is pay back e.left e.refused.same);
+          written = here_over is pay back e.left at (whole g d) c.align-align.ensures over (here_unmoved is pay back e.left e.refused.same);
           alike = reads (AreAlike s) (subst (AreAlike s) (sym e.refused.same) (alike_back is pay back));
           aligns = reads (λ (x : State). align_at x ≡ align_at s) (ap align_at e.refused.same ∙ (λ i a. (seen_back is pay back).aligns a i));
         };
-        unchanged = beside_over is pay back e.left at none (whole g d) c.align-align.ensures over e.refused.bytes ledger label;
+        unchanged = beside_over is pay back e.left at (whole g d) c.align-align.ensures over e.refused.bytes ledger label;
       };
-      frame = frame_over is pay back e.left at none (whole g d) c.align-align.ensures over c.addr-addr.ensures sizes e.frame ledger label named;
+      frame = frame_over is pay back e.left at (whole g d) c.align-align.ensures over c.addr-addr.ensures sizes e.frame ledger label named;
       touches = omega (arith, e.left.costs.touches, over.touches, back.touches);
     })
 
@@ -140,27 +139,26 @@ module _ (g : given.Over) (c : In-Some g) where
 pub hand_over-payload-requires-2-clause-place : goal.hand_over-payload-requires-2-clause-place
 hand_over-payload-requires-2-clause-place g c =
     let d = (goal.at.hand_over-payload-requires-2-clause-place g c).In-Some in
-    lies_over c.self.invariant c.args.payload c.take_back.ensures.back c.in-Some.ensures.left (moved g d) (Counts-none c.reallocate_in-moved.new.memory)
+    lies_over c.self.invariant c.args.payload c.take_back.ensures.back c.in-Some.ensures.left (moved g d)
     (long g d c.next_multiple_of_32-end.ensures.value refl)
 
 pub hand_over-payload-requires-2-clause-own : goal.hand_over-payload-requires-2-clause-own
 hand_over-payload-requires-2-clause-own g c =
     let d = (goal.at.hand_over-payload-requires-2-clause-own g c).In-Some in
-    own_over c.self.invariant c.args.payload c.take_back.ensures.back c.in-Some.ensures.left (moved g d) (Counts-none c.reallocate_in-moved.new.memory)
+    own_over c.self.invariant c.args.payload c.take_back.ensures.back c.in-Some.ensures.left (moved g d)
     (long g d c.next_multiple_of_32-end.ensures.value refl)
 
 pub invariant_of-self-2 : goal.invariant_of-self-2
 invariant_of-self-2 g c =
     let at = moved g (goal.at.invariant_of-self-2 g c).In-Some in
     let whole = long g (goal.at.invariant_of-self-2 g c).In-Some c.next_multiple_of_32-end.ensures.value refl in
-    IsHeap-over c.self.invariant c.args.payload c.take_back.ensures.back c.in-Some.ensures.left at (Counts-none c.reallocate_in-moved.new.memory) whole
+    IsHeap-over c.self.invariant c.args.payload c.take_back.ensures.back c.in-Some.ensures.left at whole
     c.align-align.ensures c.hand_over-payload-2.ensures.over
 
 pub returns : goal.returns
 returns g c =
     let at = moved g (goal.at.returns g c).In-Some in
     let d = (goal.at.returns g c).In-Some in
-    let none = Counts-none c.reallocate_in-moved.new.memory in
     let whole = long g d c.next_multiple_of_32-end.ensures.value refl in
     let is = c.self.invariant in
     let pay = c.args.payload in
@@ -176,17 +174,17 @@ returns g c =
     let named = c.hand_over-payload-2.ensures.name ∙ c.take_back.ensures.name in
     let p = c.hand_over-payload-2.result in
     let starts : c.in-Some.to ≡ p.start = sym over.at in
-    let values : p.bytes ≡ bytes_at t c.in-Some.to = values_over is pay back e.left at none whole c.align-align.ensures over in
+    let values : p.bytes ≡ bytes_at t c.in-Some.to = values_over is pay back e.left at whole c.align-align.ensures over in
     let kept : Keeps pay.bytes p.bytes = kept_as is pay back c.addr-addr.ensures e.result.made.kept values in
-    let stays = here_kept is pay back c.addr-addr.ensures e.result.here over none refl in
-    let reads = reads_over is pay back e.left at none whole c.align-align.ensures over in
+    let stays = here_kept is pay back c.addr-addr.ensures e.result.here over refl in
+    let reads = reads_over is pay back e.left at whole c.align-align.ensures over in
     rw (← c.self.view_is) (record {
-      step = step_over is pay back e.left at none whole c.align-align.ensures over c.addr-addr.ensures sizes e.frame ledger label named (ap Some starts)
+      step = step_over is pay back e.left at whole c.align-align.ensures over c.addr-addr.ensures sizes e.frame ledger label named (ap Some starts)
           e.step;
       result = record {
         layout = subst (IsLayout c.args.size) c.align-align.ensures (c.in-Ok.ensures.succeeds.0 refl);
         resized = record {
-          identity = identity_over is pay back e.left at none whole c.align-align.ensures over ledger c.take_back.ensures.name;
+          identity = identity_over is pay back e.left at whole c.align-align.ensures over ledger c.take_back.ensures.name;
           requested = over.align ∙ c.align-align.ensures;
           made = record {
             live = reads (λ (x : State). align_at x p.start ≡ Some pay.align) (subst (λ a. align_at t a ≡ Some pay.align) starts at.live);
@@ -200,7 +198,7 @@ returns g c =
           here = record {
             here = λ i from high. stays i (omega (arith, high)) (omega (arith, high));
             shrunk = λ shorter i from high. stays i (omega (arith, high, shorter)) (omega (arith, high));
-            written = written_over is pay back e.left at none whole c.align-align.ensures over;
+            written = written_over is pay back e.left at whole c.align-align.ensures over;
           };
         };
         others = record {
@@ -211,9 +209,9 @@ returns g c =
         };
       };
       room = λ most longest widest sized few short fits _. refl;
-      bounds = sized_over is pay back e.left at none whole c.align-align.ensures over c.addr-addr.ensures sizes e.frame ledger label named told e.bounds;
+      bounds = sized_over is pay back e.left at whole c.align-align.ensures over c.addr-addr.ensures sizes e.frame ledger label named told e.bounds;
       refused = tt;
-      frame = frame_over is pay back e.left at none whole c.align-align.ensures over c.addr-addr.ensures sizes e.frame ledger label named;
+      frame = frame_over is pay back e.left at whole c.align-align.ensures over c.addr-addr.ensures sizes e.frame ledger label named;
       touches = omega (arith, e.left.costs.touches, over.touches, back.touches);
     })
 
