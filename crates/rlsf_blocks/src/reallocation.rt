@@ -10,4 +10,4 @@ mod previous;
 mod resize;
 
 pub use cases::reallocate_block;
-pub use resize::{resize_any_block, resize_block, resize_kept_block};
+pub use resize::resize_kept_block;

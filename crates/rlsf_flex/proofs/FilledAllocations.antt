@@ -1,44 +1,26 @@
 -- A payload that an allocator over a source allocated and then filled is one that was allocated with these bytes.
-use Rattle.std.proofs.Common.{◌≡◌, ℕ, List, Some, length, inl, inr, arith, refl, sym, ◌∙◌, ap, subst}
+use Rattle.std.proofs.Common.{◌≡◌, ℕ, List, Some, inl, inr, arith, ◌∙◌, ap, subst}
 use Rattle.rlsf_base.specs.declared.memory.range.Range.{Range}
 use Rattle.rlsf_base.specs.PowerOfTwo.{IsPowerOfTwo}
 use Rattle.rlsf_base.specs.SizeClass.{IsValid}
 use Rattle.rlsf_base.specs.Space.{SamePlace}
 use Rattle.rlsf_tlsf.specs.Allocator.{Allocator}
 use Rattle.rlsf_flex.specs.StandsFor.{FillsAlone, FlexContents, FlexStandsFor, FlexSteps, StepsAlone, with_allocator}
-use Rattle.rlsf_model.specs.Allocate.{placed, Places}
 use Rattle.rlsf_model.specs.Answers.{MayAnswerAll}
 use Rattle.rlsf_model.specs.FlexAllocate.{FlexAllocates}
 use Rattle.rlsf_model.specs.FlexState.{FlexState, with_machine}
 use Rattle.rlsf_model.specs.FlexWellFormed.{IsFlexWellFormed}
 use Rattle.rlsf_model.specs.Note.{Note}
 use Rattle.rlsf_model.specs.Run.{Fills}
-use Rattle.rlsf_model.specs.State.{State, Used, Holds}
+use Rattle.rlsf_model.specs.State.{State}
 use Rattle.rlsf_model.specs.Terms.{Terms}
 use Rattle.rlsf_model.specs.WellFormed.{IsWellFormed}
-use Rattle.rlsf_model.proofs.Changes.{Holds-unique}
 use Rattle.rlsf_model.proofs.Chunks.{chunks-filled}
 use Rattle.rlsf_model.proofs.FlexSteps.{asked_keeps}
-use Rattle.rlsf_model.proofs.Live.{allocated_filled}
+use Rattle.rlsf_tlsf.proofs.FilledAllocations.{Places-filled}
 use Rattle.rlsf_flex.proofs.OutsideNow.{KeepsOutsideNow-stands}
 use Rattle.rlsf_flex.proofs.Places.{SamePlace-then}
 use Rattle.rlsf_flex.proofs.SpareBytes.{KeepsSpareButFooter-before}
-
--- in the reference model, where there is room
-Places-filled : {fllen sllen : ℕ} {memory other : Range} {s t r : State} {size align addr : ℕ} {bytes : List ℕ} → IsWellFormed fllen sllen memory s
-    → IsWellFormed fllen sllen other t → IsPowerOfTwo align → Places sllen s size align addr t → Fills t addr bytes r
-    → Places sllen s size align addr r
-Places-filled {t = t} {size = size} {align = align} {addr = addr} {bytes = bytes} before after power step fills =
-    let new : Used = placed step.range size align step.bytes in
-    let holds : Holds t addr new = subst (λ x. Holds x addr new) (sym step.after) (inl refl, sym step.answer) in
-    record {
-      range = step.range;
-      bytes = bytes;
-      chosen = step.chosen;
-      answer = step.answer;
-      length = fills.length ∙ ap (λ (x : Used). length x.bytes) (Holds-unique after addr fills.block new fills.holds holds) ∙ step.length;
-      after = allocated_filled before power step fills;
-    }
 
 -- over a source
 FlexAllocates-filled : {fl_bits sl_bits fllen sllen : ℕ} {memory other : Range} {t : Terms} {s u : FlexState} {size align addr : ℕ} {bytes : List ℕ} {notes : List Note} {x : State}

@@ -6,7 +6,7 @@ pub mod Calls
 pub mod DisjointRanges
 pub mod EmptyFlex
 pub mod Ends
-pub mod FilledAllocations
+mod FilledAllocations
 pub mod FooterWords
 pub mod Frames
 pub mod Growths

@@ -8,7 +8,6 @@ use Rattle.rlsf_base.specs.Range.{LiesIn, range_at}
 use Rattle.rlsf_base.specs.Space.{Space, bytes_in, out_at}
 use Rattle.rlsf_base.proofs.Lending.Present.{out-same, own-here}
 use Rattle.rlsf_model.specs.Callers.{bytes_at}
-use Rattle.rlsf_model.specs.NoMove.{ReallocatesWithoutMove}
 use Rattle.rlsf_model.specs.Reallocate.{Keeps, Reallocates}
 use Rattle.rlsf_model.specs.Sized.{IsSizedFor, live_count}
 use Rattle.rlsf_model.specs.State.{Holds, IsLive, State, Used, usable}
@@ -29,7 +28,6 @@ use Rattle.rlsf_heap.specs.Handover.{IsHandedOver, IsTakenBack}
 use Rattle.rlsf_heap.specs.Heap.{HeapView, IsHeap, IsTicketOf, PayloadView, Steps, heap_view, payload_range, payload_view}
 use Rattle.rlsf_heap.specs.Kept.{KeepsBytesBeside, KeepsSpareBytes, NoneBecomesRaw}
 use Rattle.rlsf_heap.specs.Raw.{bytes_of}
-use Rattle.rlsf_heap.specs.Reallocation.{owned_by}
 use Rattle.rlsf_heap.specs.Replies.{IsReallocated, IsReallocatedHere, IsReturned}
 use Rattle.rlsf_heap.specs.Settled.{IsSettled}
 use Rattle.rlsf_heap.proofs.Arrivals.{IsHeap-arrived, Steps-arrived, bare-kept}
@@ -41,7 +39,7 @@ use Rattle.rlsf_heap.proofs.Reallocating.{IsBackIn, asked, bare_state, beside_in
 use Rattle.rlsf_heap.proofs.Reallocating.{held, here_still, issued_again, issued_anew, kept_moved, long_in, spare_in, stands, state, usable_is, used_at}
 use Rattle.rlsf_heap.proofs.Settled.{settled-back, settled-here, settled-inside, settled-left, settled-stays}
 use Rattle.rlsf_heap.proofs.TakenBack as back
-use Rattle.rlsf_heap.proofs.ReallocationViews.{SeesChanged, aligns_view, alike_view, chunks_view, count_view, seen_changed, sized_view, stayed_changed}
+use Rattle.rlsf_heap.proofs.ReallocationViews.{SeesChanged, aligns_view, alike_view, chunks_view, count_view, seen_changed, sized_view}
 
 -- a payload is that of its bytes
 pub is_view : (pay : PayloadView) → payload_view (bytes_of pay) pay.align pay.identity.ledger ≡ pay
@@ -243,11 +241,6 @@ module _ {fl_bits sl_bits fllen sllen : ℕ} {m n : Space} {x : Table} {k : Stat
               (λ a from is. raw-with m n (payload_range pay) taken.start (omega (arith, low, taken.start)) taken.out a from
               (raw-stays stays_read a (omega (arith, from, taken.start))
               (raw-left o q r over.start resized_lies.0 over.out a (omega (arith, from, taken.start, stays_read.start)) is)))
-
-          -- a reallocation without a move is one as contracts see it
-          pub stayed_resized : ReallocatesWithoutMove (state back_in) u.payload size (Some to) t
-              → ReallocatesWithoutMove (owned_by old.state pay) pay.start size (Some p.start) (read_from q after)
-          stayed_resized did = stayed_changed k back_in old view pay (is_view pay) resized_standing after resized_kept size to p.start resized_at did
 
           -- what was here of its bytes is here
           pub sees_new_size : ((i : ℕ) → i < length pay.bytes → i < r.len → out_at l (loaded + i) ≡ here) → SeesNewSize sllen old (heap_view q y after ledger) pay p size

@@ -1,7 +1,6 @@
 -- Reallocation of a payload with the bytes that its owner wrote, as callers see it.
-use Rattle.std.proofs.Common.{arith, get_or-take, inl, inr, min, slice_index, ◌≡◌, ◌≢◌, ℕ, ◌+◌, ◌<◌, ◌≤◌, List, length, Option, Some, None, sym}
+use Rattle.std.proofs.Common.{arith, get_or-take, min, slice_index, ◌≡◌, ◌≢◌, ℕ, ◌+◌, ◌<◌, ◌≤◌, List, length, Option, Some, None, sym}
 use Rattle.std.proofs.Common.{◌∙◌, ap, subst}
-use Rattle.std.proofs.lemmas.Bool.{cases_eq}
 use Rattle.rlsf_base.specs.declared.memory.range.Range.{Range}
 use Rattle.rlsf_model.specs.Callers.{align_at, bytes_at}
 use Rattle.rlsf_model.specs.Reallocate.{Keeps, Reallocates}
@@ -67,17 +66,6 @@ module _ {fllen sllen : ℕ} {memory : Range} {s : State} (w : IsWellFormed flle
           new = λ apart. sym (fill_seen.aligns to) ∙ seen.new apart;
           aligns = λ a off off_to. seen.aligns a off off_to ∙ fill_seen.aligns a;
         }
-
--- at its own address, each payload has the alignment that it had
-pub aligns_stay : {s t : State} {addr size align to : ℕ} {old : List ℕ} → SeesReallocated s t addr old size align to → to ≡ addr → align_at s addr ≡ Some align
-    → align_at t ≡ align_at s
-aligns_stay {s} {t} {addr} {align = align} seen there live i a = at a i
-  where
-    at : (a : ℕ) → align_at t a ≡ align_at s a
-    at a = elim (cases_eq a addr) [
-      | inl same ↦ ap (align_at t) (same ∙ sym there) ∙ seen.live ∙ sym (ap (align_at s) same ∙ live)
-      | inr apart ↦ seen.aligns a apart (λ is. apart (is ∙ there))
-    ]
 
 -- each byte that both have is kept
 pub Keeps-each : (old new : List ℕ) → Keeps old new → (k : ℕ) → k < length old → k < length new → slice_index new k ≡ slice_index old k

@@ -1,5 +1,5 @@
 -- Reallocation: a payload is back in the memory, and has another size or is unchanged. The state that memory and table represent, and the tickets.
-use Rattle.std.proofs.Common.{◌≡◌, ◌≢◌, ◌≤◌, ℕ, List, [], ◌∷◌, ◌++◌, true, false, set, length, Option, Some, None, arith, refl, sym, ap, subst, ◌∙◌}
+use Rattle.std.proofs.Common.{◌≡◌, ◌≢◌, ◌≤◌, ℕ, List, [], ◌∷◌, ◌++◌, true, false, set, length, Option, Some, arith, refl, sym, ap, subst, ◌∙◌}
 use Rattle.rlsf_base.specs.Ledger.{Entry, Extent, IsIssued, entry_of, extent}
 use Rattle.rlsf_base.specs.OpenSpace.{IsBeside, IsHere, out_with}
 use Rattle.rlsf_base.specs.Piece.{Piece, piece_range}
@@ -13,7 +13,6 @@ use Rattle.rlsf_model.specs.Release.{released}
 use Rattle.rlsf_model.specs.Run.{Fills}
 use Rattle.rlsf_model.specs.State.{State, Used, Holds, IsLive, filled, others, usable}
 use Rattle.rlsf_model.proofs.Changes.{Holds-unique}
-use Rattle.rlsf_model.proofs.NoMove.{unmoved_is_reallocated}
 use Rattle.rlsf_model.proofs.SizedWords.{count_filled, count_resized}
 use Rattle.rlsf_model.specs.Sized.{live_count}
 use Rattle.rlsf_table.specs.Table.{Table}
@@ -181,15 +180,6 @@ module _ {fllen sllen : ℕ} {m n : Space} {x : Table} {s : State} {es : List En
         holds = (held.0, refl);
         step = subst (λ o. ReallocatesUnmovedBy state block o (Some block.payload) t) (sym first) (subst (λ a. Replans state block q a t) there replans);
       })
-
-  pub unmoved_moves : {size : ℕ} {t : State} → ReallocatesWithoutMove state block.payload size (Some block.payload) t
-      → Reallocates sllen state block.payload size (Some block.payload) t
-  unmoved_moves {size} {t} step = (unmoved_is_reallocated sllen state t block.payload size (Some block.payload) step).0.1
-
-  pub unmoved_refused : {asked size : ℕ} → asked ≡ size → unmoved_plan state block asked ≡ None → ReallocatesWithoutMove state block.payload size None state
-  unmoved_refused {asked} {size} same none =
-      subst (λ k. ReallocatesWithoutMove state block.payload k None state) same
-      (record { block = block; holds = (held.0, refl); step = subst (λ o. ReallocatesUnmovedBy state block o None state) (sym none) refl })
 
   -- the ghost state
   pub kept_moved : {addr size to : ℕ} {t k : State} → bare s ≡ k → addr ≡ p.start → Reallocates sllen state block.payload size (Some to) t

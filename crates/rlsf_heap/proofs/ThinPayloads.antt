@@ -41,11 +41,6 @@ IsTicketFor p t = (t.name ≡ p.identity.ledger) × (t.addr ≡ p.start) × (t.l
 shows : (p : PayloadView) (t : Ticket) → IsTicketFor p t → extent t.addr t.len t.align ≡ shown p
 shows p t is = λ i. extent (is.1 i) (is.2 i) (is.3 i)
 
--- its entry is the payload's
-pub known_by : (p : PayloadView) (t : Ticket) → IsTicketFor p t → (entries : List Entry) → IsIssued entries t.key (extent t.addr t.len t.align)
-    → IsIssued entries t.key (shown p)
-known_by p t is entries live = subst (IsIssued entries t.key) (shows p t is) live
-
 module _ {fllen sllen : ℕ} {m : Space} {table : Table} {s : State} {entries : List Entry} (v : StandsFor fllen sllen (contents m table) s) (tickets : AreIssued s entries)
     (of : PayloadView) (addr key : ℕ) (same : of.start ≡ addr) (known : IsIssued entries key (shown of)) where
   -- the payload's block

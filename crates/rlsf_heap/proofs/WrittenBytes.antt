@@ -14,16 +14,12 @@ use Rattle.rlsf_base.specs.Piece.{piece_owns}
 use Rattle.rlsf_base.specs.Steps.Ownership.{bytes_own}
 use Rattle.rlsf_base.proofs.RawBlock.Rows.{held-same}
 use Rattle.rlsf_base.proofs.RawBlock.Units.{unit-all, ways-same}
-use Rattle.rlsf_heap.specs.Heap.{Identity, IsWritten, PayloadView}
+use Rattle.rlsf_heap.specs.Heap.{IsWritten, PayloadView}
 use Rattle.rlsf_heap.specs.Raw.{IsWhole, bytes_of, payload_owns}
 use Rattle.rlsf_heap.specs.Thin.{owns_at, written_payload}
 
 pub all_own : (n : ℕ) → IsOwn [] 0 n
 all_own n k lo hi = ap is_own (none-out k)
-
--- a payload with values has all its bytes here
-pub written_is : (h : Identity) (addr : ℕ) (bs : List ℕ) (align : ℕ) → IsWritten (written_payload h addr bs align)
-written_is h addr bs align k lo hi = none-out k
 
 written_own : (cs : List Change) (n : ℕ) → IsIn cs 0 n → IsOwn cs 0 n
 written_own cs n is k lo hi = ap is_own (is k lo hi)

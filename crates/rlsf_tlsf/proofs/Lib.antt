@@ -1,7 +1,7 @@
 -- Lemmas on the allocator over pools: its steps, and lent bytes.
 mod AfterReading
 pub mod Arrivals
-mod FilledAllocations
+pub mod FilledAllocations
 mod Found
 pub mod IdleRows
 pub mod Lent

@@ -1,10 +1,8 @@
 -- The state that an allocator is in, by a name of its own.
 use Rattle.std.proofs.Common.{◌≡◌, ℕ, Some, IsSome, refl, sym, subst}
-use Rattle.rlsf_base.specs.Space.{range_of}
 use Rattle.rlsf_model.specs.Callers.{align_at, bytes_at}
 use Rattle.rlsf_model.specs.Run.{IsSomeLive}
 use Rattle.rlsf_model.specs.State.{State, Used, Holds, IsLive}
-use Rattle.rlsf_model.specs.WellFormed.{IsWellFormed}
 use Rattle.rlsf_model.proofs.CallerWords.{align_at-held, bytes_at-held}
 use Rattle.rlsf_blocks.specs.Spare.{KeepsSpare}
 use Rattle.rlsf_tlsf.specs.Allocator.{Allocator, IsInState, Stands, Steps}
@@ -15,9 +13,6 @@ unfolding Stands
 in_state fllen sllen v is = record { state = refl; stands = is.stands; whole = is.whole }
 
 module _ {fllen sllen : ℕ} {v : Allocator} {s : State} (is : IsInState fllen sllen v s) where
-  pub in_well_formed : IsWellFormed fllen sllen (range_of v.memory) s
-  in_well_formed = is.stands.well_formed
-
   -- what a call says of the allocator's state is true of that state
   pub at_state : (P : State → Type 0) → P v.state → P s
   at_state P = subst P is.state

@@ -124,35 +124,6 @@ pub fn resize_kept_block<const FLLEN: usize, const SLLEN: usize>(
     true
 }
 
-/// Gives the payload at `payload` the size of `layout`, as `resize_kept_block` does.
-///
-/// Of `layout` only the size counts: the payload has any alignment. The length of its block has to fit in a word. No usable
-/// byte of the payload may be out.
-///
-/// Returns whether the bytes suffice. If not, no byte and no block changes.
-#[inline(always)]
-pub fn resize_any_block<const FLLEN: usize, const SLLEN: usize>(
-    memory: &mut OpenMemory,
-    view: View,
-    table: &mut ClassTable<FLLEN, SLLEN>,
-    block: usize,
-    payload: usize,
-    layout: Layout,
-) -> bool
-    requires parameters { IsValid 128 128 FLLEN SLLEN }
-    requires used { (s : State) × (u : Used) × StandsFor FLLEN SLLEN (contents memory.old table.old) s × IsUsedAt s u block payload u.align × IsOwned memory.old (usable u) }
-    requires view { view ≡ memory.old.view }
-    requires fits { payload - block + layout.size + 31 < 2 ^ 64 }
-    ensures done { AtEachAligned FLLEN SLLEN memory.old table.old block payload (λ s u. ResizesOwned FLLEN SLLEN memory.old memory.new table.new s u layout.size payload result) }
-    ensures refused { AtEachAligned FLLEN SLLEN memory.old table.old block payload (λ s u. result ≡ false → unmoved_plan s u layout.size ≡ None) }
-    ensures unchanged { result ≡ false → Counts memory.old memory.new 2 × (table.new ≡ table.old) }
-    ensures costs { Costs memory.old memory.new 24 0 }
-    ensures own { SameOwn memory.old memory.new }
-    ensures here { StaysHere memory.old memory.new }
-{
-    resize_kept_block(memory, view, table, block, payload, layout)
-}
-
 /// Gives the payload at `payload`, in the used block at `block`, the size of `layout` in bytes without moving it, if the
 /// bytes of the block and of a free block behind it suffice. The rest of them becomes a free block.
 ///
@@ -160,7 +131,7 @@ pub fn resize_any_block<const FLLEN: usize, const SLLEN: usize>(
 ///
 /// Returns whether the bytes suffice. If not, no byte and no block changes.
 #[inline(always)]
-pub fn resize_block<const FLLEN: usize, const SLLEN: usize>(
+pub(crate) fn resize_block<const FLLEN: usize, const SLLEN: usize>(
     memory: &mut OpenMemory,
     view: View,
     table: &mut ClassTable<FLLEN, SLLEN>,
@@ -178,5 +149,5 @@ pub fn resize_block<const FLLEN: usize, const SLLEN: usize>(
     ensures own { SameOwn memory.old memory.new }
     ensures here { StaysHere memory.old memory.new }
 {
-    resize_any_block(memory, view, table, block, payload, layout)
+    resize_kept_block(memory, view, table, block, payload, layout)
 }

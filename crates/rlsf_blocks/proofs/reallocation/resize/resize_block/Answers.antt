@@ -1,10 +1,19 @@
 use Rattle.std.proofs.Common.{ℕ, ◌+◌, ◌-◌, ◌^◌, ◌<◌, refl, arith, rules}
 use Rattle.rlsf_base.specs.Layout.{IsLayout}
+use Rattle.rlsf_base.specs.OpenSpace.{IsOwned}
+use Rattle.rlsf_base.specs.Space.{Space}
 use Rattle.rlsf_model.specs.WellFormed.{IsUsed}
-use Rattle.rlsf_model.proofs.Payloads.{payload_of-le}
-use Rattle.rlsf_model.specs.State.{State, Used}
-use Rattle.rlsf_blocks.specs.Steps.Resize.{IsUsedAt}
+use Rattle.rlsf_model.proofs.Payloads.{block_length-le, IsUsed-after_start, payload_of-le}
+use Rattle.rlsf_model.specs.State.{State, Used, usable}
+use Rattle.rlsf_blocks.specs.Steps.Resize.{IsOwnedBehind, IsUsedAt}
 use Rattle.rlsf_blocks.proofs.reallocation.resize.resize_block.Goals as goal
+
+-- what is behind the new end is usable
+owned : (m : Space) (u : Used) (size : ℕ) → IsUsed u → IsOwned m (usable u) → IsOwnedBehind m u size
+owned m u size is own a lo hi =
+    let long = block_length-le u.block.start u.payload size in
+    let after = IsUsed-after_start u is in
+    own a (omega (arith, lo, long, after)) (omega (arith, lo, hi, long, after))
 
 -- a used block of some alignment has its own
 own_align : {s : State} {u : Used} {block payload align : ℕ} → IsUsedAt s u block payload align → IsUsedAt s u block payload u.align
@@ -16,14 +25,17 @@ sought payload block size align u is at valid =
     let within = payload_of-le u.block.start u.align is.whole.start is.power in
     omega (arith, within, is.placed, at.caller, at.start, at.alignment, valid.fits)
 
-pub resize_any_block-requires : goal.resize_any_block-requires
-resize_any_block-requires g c =
+pub resize_kept_block-requires : goal.resize_kept_block-requires
+resize_kept_block-requires g c =
     let (s, u, v, at, own) = c.requires.used in
-    let fits = sought c.args.payload c.args.block c.args.layout.size c.args.layout.align u (v.well_formed.used u at.is_used) at c.args.layout.valid in
-    (omega arith, (c.requires.parameters, ((s, u, v, own_align at, own), (search rules, fits))))
+    let is = v.well_formed.used u at.is_used in
+    let fits = sought c.args.payload c.args.block c.args.layout.size c.args.layout.align u is at c.args.layout.valid in
+    (omega arith, (c.requires.parameters, ((s, u, v, own_align at, owned c.args.memory.now u c.args.layout.size is own), (search rules, fits))))
 
 pub returns-clause-done : goal.returns-clause-done
-returns-clause-done g c = λ s u v at own yes. c.resize_any_block.ensures.done s u v (own_align at) own yes
+returns-clause-done g c =
+    λ s u v at own yes.
+    c.resize_kept_block.ensures.done s u v (own_align at) (owned c.args.memory.now u c.args.layout.size (v.well_formed.used u at.is_used) own) yes
 
 pub returns-clause-refused : goal.returns-clause-refused
-returns-clause-refused g c = λ s u v at no. c.resize_any_block.ensures.refused s u v (own_align at) no
+returns-clause-refused g c = λ s u v at no. c.resize_kept_block.ensures.refused s u v (own_align at) no
