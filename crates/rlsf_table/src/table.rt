@@ -162,7 +162,12 @@ impl<const FLLEN: usize, const SLLEN: usize> ClassTable<FLLEN, SLLEN> {
     ///
     /// The row is below `FLLEN`, and the place below `SLLEN`. In a table of 32 classes a row or fewer the place may be `SLLEN`: the
     /// classes of the next row are the first from there on. The bitmaps must be those of a list of free blocks of valid classes.
-    pub fn first_from(&self, memory: &mut OpenMemory, fl: usize, sl: usize) -> Option<ClassIndex>
+    pub(crate) fn first_from(
+        &self,
+        memory: &mut OpenMemory,
+        fl: usize,
+        sl: usize,
+    ) -> Option<ClassIndex>
         requires parameters { IsValid 128 128 FLLEN SLLEN }
         requires class { (fl < FLLEN) × CanBegin SLLEN sl }
         requires list { (free : List Range) × HasBits FLLEN SLLEN self.now free × ((f : Range) → IsIn f free → IsFree FLLEN SLLEN f) }
