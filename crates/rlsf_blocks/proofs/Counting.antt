@@ -34,9 +34,6 @@ module _ (m n : Space) (most : ℕ) (counts : Counts m n most) where
     pub grow-counted_first : n.touches ≤ o.touches → m.touches ≤ o.touches
     grow-counted_first least = omega arith
 
-    pub copied-counted_first : o.copied ≡ n.copied → o.copied ≡ m.copied
-    copied-counted_first same = same ∙ counts.copied
-
     pub grow_copied-counted_first : n.copied ≤ o.copied → m.copied ≤ o.copied
     grow_copied-counted_first least = subst (λ x. x ≤ o.copied) counts.copied least
 

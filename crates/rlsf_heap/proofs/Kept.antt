@@ -9,13 +9,11 @@ use Rattle.rlsf_base.specs.Space.{Space, byte_at, out_at}
 use Rattle.rlsf_base.proofs.Changes.{back-there, changed-there}
 use Rattle.rlsf_model.specs.Lists.{IsIn}
 use Rattle.rlsf_model.specs.State.{State}
-use Rattle.rlsf_table.specs.Table.{Table}
 use Rattle.rlsf_blocks.specs.InBand.{sentinel_of}
-use Rattle.rlsf_blocks.specs.Laws.{read_from}
 use Rattle.rlsf_blocks.specs.Spare.{IsSpare, KeepsSpare}
 use Rattle.rlsf_blocks.proofs.Words.Stays.{Stays}
-use Rattle.rlsf_heap.specs.Heap.{HeapView, heap_view}
-use Rattle.rlsf_heap.specs.Kept.{KeepsBytesBeside, KeepsSpareBytes, NoneBecomesRaw, NoneBecomesRawBeside}
+use Rattle.rlsf_heap.specs.Heap.{HeapView}
+use Rattle.rlsf_heap.specs.Kept.{KeepsBytesBeside, KeepsSpareBytes, NoneBecomesRaw}
 use Rattle.rlsf_heap.proofs.Read.{out-back, out-left}
 use Rattle.rlsf_heap.proofs.Settled.{back_at, beside_back}
 
@@ -28,9 +26,6 @@ same-byte m n start bytes a = λ i. slice_index (bytes i) (a - start i)
 -- which ones these are depends on the chunks alone
 same-chunks : (s t : State) (a : ℕ) → t.chunks ≡ s.chunks → IsSpare s a → IsSpare t a
 same-chunks s t a same = subst (λ (cs : List Range). (c : Range) → IsIn c cs → c.start ≤ a → a < end_of c → sentinel_of c + 16 ≤ a) (sym same)
-
-pub spare-same : (m n : Space) (s t : State) → n.start ≡ m.start → n.bytes ≡ m.bytes → KeepsSpare m s n t
-spare-same m n s t start bytes a from to before after = same-byte m n start bytes a
 
 module _ (m n o : Space) (s t : State) where
   -- a memory with the same bytes, before or after
@@ -46,14 +41,6 @@ module _ (m n o : Space) (s t : State) where
   spare-then start long u same first second a from to before after =
       let between = same-chunks s u a same before in
       second a (omega (arith, from, start)) (omega (arith, to, start, long)) between after ∙ first a from to before between
-
--- as contracts see it
-pub spare-seen : (m n : Space) (s t : State) → KeepsSpare m s n t → (j k : State) → s.chunks ≡ j.chunks → t.chunks ≡ k.chunks → {x : Table} {ledger : ℕ}
-    → (old : HeapView) → heap_view m x j ledger ≡ old → (y : Table) (name : ℕ) → KeepsSpareBytes old (heap_view n y k name)
-unfolding KeepsSpareBytes
-spare-seen m n s t keeps j k first last old view y name =
-    subst (λ (o : HeapView). KeepsSpare o.memory o.state n (read_from n k)) view
-    (λ a from to before after. keeps a from to (same-chunks (read_from m j) s a first before) (same-chunks (read_from n k) t a last after))
 
 -- of a heap that doesn't change
 pub spare-none : (v : HeapView) → KeepsSpareBytes v v
@@ -119,13 +106,6 @@ raw-tail m n o q start kept len within low same back stays r same_q inside gone 
       | inr past ↦ inr (omega (arith, past, within))
     ]) (raw-left o q r same_q inside gone a (omega (arith, from, same, stays.start)) is)
 
--- as contracts see it
-pub none_raw-seen : (m n : Space) {x : Table} {ledger : ℕ} (j k : State) (old : HeapView) → heap_view m x j ledger ≡ old → (y : Table) (name : ℕ)
-    → ((a : ℕ) → m.start ≤ a → out_at n a ≡ raw → out_at m a ≡ raw) → NoneBecomesRaw old (heap_view n y k name)
-unfolding NoneBecomesRaw
-none_raw-seen m n j k old view y name none =
-    subst (λ (o : HeapView). (a : ℕ) → o.memory.start ≤ a → out_at n a ≡ raw → out_at o.memory a ≡ raw) view none
-
 -- of a heap that doesn't change
 pub none_raw-none : (v : HeapView) → NoneBecomesRaw v v
 unfolding NoneBecomesRaw
@@ -136,19 +116,7 @@ pub none_raw-both : (u v w : HeapView) → v.memory.start ≡ u.memory.start →
 unfolding NoneBecomesRaw
 none_raw-both u v w start first second a from is = first a from (second a (omega (arith, from, start)) is)
 
-pub raw-seen : (m n : Space) {x : Table} {ledger : ℕ} (j k : State) (old : HeapView) → heap_view m x j ledger ≡ old → (y : Table) (name : ℕ) (r : Range)
-    → ((a : ℕ) → m.start ≤ a → IsBeside r a → out_at n a ≡ raw → out_at m a ≡ raw) → NoneBecomesRawBeside old (heap_view n y k name) r
-unfolding NoneBecomesRawBeside
-raw-seen m n j k old view y name r none =
-    subst (λ (o : HeapView). (a : ℕ) → o.memory.start ≤ a → IsBeside r a → out_at n a ≡ raw → out_at o.memory a ≡ raw) view none
-
 -- ---- bytes beside a payload
-
-pub beside-seen : (m n : Space) {x : Table} {ledger : ℕ} (j k : State) (old : HeapView) → heap_view m x j ledger ≡ old → (y : Table) (name : ℕ) (r : Range)
-    → ((a : ℕ) → m.start ≤ a → a < m.start + length m.bytes → IsBeside r a → byte_at n a ≡ byte_at m a) → KeepsBytesBeside old (heap_view n y k name) r
-unfolding KeepsBytesBeside
-beside-seen m n j k old view y name r same =
-    subst (λ (o : HeapView). (a : ℕ) → o.memory.start ≤ a → a < o.memory.start + length o.memory.bytes → IsBeside r a → byte_at n a ≡ byte_at o.memory a) view same
 
 -- by another call that changes no byte
 pub beside-last : (u v w : HeapView) (r : Range) → w.memory.start ≡ v.memory.start → w.memory.bytes ≡ v.memory.bytes → KeepsBytesBeside u v r → KeepsBytesBeside u w r

@@ -4,7 +4,6 @@ pub mod Arrivals
 pub mod Costs
 pub mod Found
 pub mod Frames
-pub mod HandedOver
 pub mod Kept
 pub mod Leaving
 pub mod LiveCounts
@@ -18,7 +17,6 @@ pub mod Reallocated
 pub mod Reallocating
 pub mod ReallocationViews
 pub mod Released
-pub mod Resized
 pub mod ResizedParts
 pub mod Rewritten
 pub mod Settled

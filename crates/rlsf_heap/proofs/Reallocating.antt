@@ -1,11 +1,10 @@
 -- Reallocation: a payload is back in the memory, and has another size or is unchanged. The state that memory and table represent, and the tickets.
-use Rattle.std.proofs.Common.{◌≡◌, ◌≢◌, ◌≤◌, ℕ, List, [], ◌∷◌, ◌++◌, true, false, set, length, Option, Some, arith, refl, sym, ap, subst, ◌∙◌}
+use Rattle.std.proofs.Common.{◌≡◌, ◌≢◌, ◌≤◌, ℕ, List, false, set, length, Option, Some, arith, refl, sym, ap, subst, ◌∙◌}
 use Rattle.rlsf_base.specs.Ledger.{Entry, Extent, IsIssued, entry_of, extent}
 use Rattle.rlsf_base.specs.OpenSpace.{IsBeside, IsHere, out_with}
 use Rattle.rlsf_base.specs.Piece.{Piece, piece_range}
 use Rattle.rlsf_base.specs.Range.{range_at}
 use Rattle.rlsf_base.specs.Space.{Space, byte_at, bytes_in, with_bytes}
-use Rattle.rlsf_base.proofs.Lending.Present.{here-same}
 use Rattle.rlsf_model.specs.NoMove.{ReallocatesUnmovedBy, ReallocatesWithoutMove, unmoved_plan}
 use Rattle.rlsf_model.specs.Reallocate.{Plan, Reallocates, ReallocatesBy, Replans, plan}
 use Rattle.rlsf_model.specs.Join.{join}
@@ -13,8 +12,6 @@ use Rattle.rlsf_model.specs.Release.{released}
 use Rattle.rlsf_model.specs.Run.{Fills}
 use Rattle.rlsf_model.specs.State.{State, Used, Holds, IsLive, filled, others, usable}
 use Rattle.rlsf_model.proofs.Changes.{Holds-unique}
-use Rattle.rlsf_model.proofs.SizedWords.{count_filled, count_resized}
-use Rattle.rlsf_model.specs.Sized.{live_count}
 use Rattle.rlsf_table.specs.Table.{Table}
 use Rattle.rlsf_blocks.specs.Laws.{read_from, with_bytes_of}
 use Rattle.rlsf_blocks.specs.Spare.{KeepsSpare}
@@ -25,13 +22,11 @@ use Rattle.rlsf_blocks.proofs.Words.Stays.{Stays}
 use Rattle.rlsf_blocks.specs.Steps.Resize.{IsUsedAt}
 use Rattle.rlsf_tlsf.specs.Steps.Moves.{bare, reallocated}
 use Rattle.rlsf_tlsf.proofs.Moved.{reallocated-bare}
-use Rattle.rlsf_tlsf.proofs.NewSize.{align_new, holds_new, new}
 use Rattle.rlsf_heap.specs.Heap.{AreIssued, IsHeap, IsPayload, IsTicketOf}
 use Rattle.rlsf_heap.proofs.Leaving.{lies-usable}
 use Rattle.rlsf_heap.proofs.PutBack.{bare-reread, others-filled, beside_back, bytes_back, fills_back, here_back, holds_back, issued-reread, long_back, read_back}
 use Rattle.rlsf_heap.proofs.PutBack.{spare_back, stands_back}
-use Rattle.rlsf_heap.proofs.Resized.{others_there}
-use Rattle.rlsf_heap.proofs.Tickets.{issued-less, issued-more, redeemed_other}
+use Rattle.rlsf_heap.proofs.Tickets.{issued-less}
 
 -- a part was put back, whose ticket the ledger had issued
 pub record IsBackIn (fllen sllen : ℕ) (m n : Space) (x : Table) (s : State) (es : List Entry) (key : ℕ) (p : Piece) (align : ℕ) : Type 0 where
@@ -151,9 +146,6 @@ module _ {fllen sllen : ℕ} {m n : Space} {x : Table} {s : State} {es : List En
     pub counted : StandsFor fllen sllen (contents o x) state
     counted = StandsFor-counted n o same_start same_bytes same_out stands
 
-    pub counted_here : IsHere o (usable block)
-    counted_here = here-same n o (usable block) same_start same_out here
-
   -- its bytes are still here if bytes that are here stay here
   module _ {addr len : ℕ} (at : addr ≡ p.start) (as_long : len ≡ length p.bytes) where
     pub usable_is : range_at addr len ≡ usable block
@@ -198,49 +190,6 @@ module _ {fllen sllen : ℕ} {m n : Space} {x : Table} {s : State} {es : List En
 
   less : AreIssued state redeemed
   less = issued-less es key shown b.known state tickets_still
-
-  -- no other payload is at its address
-  apart_redeemed : (j : ℕ) (w : Extent) → IsIssued redeemed j w → w.addr ≢ block.payload
-  apart_redeemed j w was = let (other, before) = redeemed_other es key shown b.known j w was in apart_from j w other before
-
-  pub issued_moved : {size to : ℕ} {t : State} (step : Reallocates sllen state block.payload size (Some to) t) (name : Extent) → name.addr ≡ to
-      → name.len ≡ (usable (new stands block held.0 size to step)).len → name.align ≡ align
-      → AreIssued t (set es key (entry_of shown false) ++ entry_of name true ∷ [])
-  issued_moved {size} {to} {t} step name at len wide_name =
-      let is_new = holds_new stands block held.0 size to step in
-      let others = λ (j : ℕ) (w : Extent) (was : IsIssued redeemed j w). others_there stands block held.0 size to step w (less.issued j w was) (apart_redeemed j w was) in
-      issued-more redeemed name t (record { issued = λ j w was. (others j w was).0; apart = less.apart })
-      (new stands block held.0 size to step, is_new.0, is_new.1 ∙ sym at, sym len, align_new stands block held.0 size to step ∙ wide ∙ sym wide_name)
-      (λ j w was same. (others j w was).1 (same ∙ at))
-
-  pub issued_stayed : (name : Extent) → name.addr ≡ p.start → name.len ≡ length p.bytes → name.align ≡ align
-      → AreIssued state (set es key (entry_of shown false) ++ entry_of name true ∷ [])
-  issued_stayed name at len wide_name =
-      issued-more redeemed name state less (block, held.0, held.1 ∙ sym at, long ∙ sym len, wide ∙ sym wide_name)
-      (λ j w was same. apart_redeemed j w was (same ∙ at ∙ sym held.1))
-
-  -- after the old ticket is redeemed and a new one is issued
-  module _ {addr len wide : ℕ} (ticket : IsTicketOf p align (extent addr len wide)) {fs gs : List Entry} (gone : fs ≡ set es key (entry_of (extent addr len wide) false))
-      (name : Extent) (came_new : gs ≡ fs ++ entry_of name true ∷ []) where
-    entries_are : set es key (entry_of shown false) ++ entry_of name true ∷ [] ≡ gs
-    entries_are =
-        let same : set es key (entry_of shown false) ≡ fs = (λ i. set es key (entry_of (extent (ticket.0 i) (ticket.1 i) (ticket.2 i)) false)) ∙ sym gone in
-        ap (λ (l : List Entry). l ++ entry_of name true ∷ []) same ∙ sym came_new
-
-    pub issued_again : name.addr ≡ p.start → name.len ≡ length p.bytes → name.align ≡ align → AreIssued state gs
-    issued_again at as_long as_wide = subst (AreIssued state) entries_are (issued_stayed name at as_long as_wide)
-
-    pub issued_anew : {size to : ℕ} {t : State} (step : Reallocates sllen state block.payload size (Some to) t) → name.addr ≡ to
-        → name.len ≡ (usable (new stands block held.0 size to step)).len → name.align ≡ align → AreIssued t gs
-    issued_anew {t = t} step at as_long as_wide = subst (AreIssued t) entries_are (issued_moved step name at as_long as_wide)
-
-  -- ---- as many payloads are live
-
-  pub counted_stayed : live_count state ≡ live_count s
-  counted_stayed = ap live_count is_state ∙ count_filled b.old.well_formed (filled s p.start p.bytes) p.start p.bytes (fills.block, fills.holds) fills
-
-  pub counted_moved : {size to : ℕ} {t : State} → Reallocates sllen state block.payload size (Some to) t → live_count t ≡ live_count s
-  counted_moved {size} {to} {t} step = count_resized stands.well_formed t block.payload size (Some to) (block, (held.0, refl)) step ∙ counted_stayed
 
   -- ---- the payload is deallocated
 

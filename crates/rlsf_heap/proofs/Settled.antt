@@ -1,5 +1,5 @@
 -- A memory of which no byte is raw: after a write, or after bytes leave or come back, no byte is raw.
-use Rattle.std.proofs.Common.{[], subst, ◌≡◌, ℕ, ◌⊎◌, ◌-◌, ◌≤◌, ◌<◌, ap, arith, inl, inr, sym, ◌∙◌}
+use Rattle.std.proofs.Common.{[], ◌≡◌, ℕ, ◌⊎◌, ◌-◌, ◌≤◌, ◌<◌, ap, arith, inl, inr, sym, ◌∙◌}
 use Rattle.std.proofs.lemmas.Bool.{cases_lt, false≢true}
 use Rattle.rlsf_base.specs.declared.memory.range.Range.{Range}
 use Rattle.rlsf_base.specs.OpenSpace.{IsHere, IsOwned, out_with, out_without}
@@ -9,10 +9,7 @@ use Rattle.rlsf_base.proofs.Lending.Present.{here-none}
 use Rattle.rlsf_base.specs.Space.{Space, out_at}
 use Rattle.rlsf_base.proofs.Changes.{back-before, back-behind, back-there, changed-before, changed-behind, changed-there}
 use Rattle.rlsf_blocks.proofs.Words.Stays.{Stays}
-use Rattle.rlsf_heap.specs.Heap.{HeapView, heap_view}
 use Rattle.rlsf_heap.specs.Settled.{IsSettled}
-use Rattle.rlsf_table.specs.Table.{Table}
-use Rattle.rlsf_model.specs.State.{State}
 
 pub settled-stays : {m n : Space} → Stays m n → IsSettled m → IsSettled n
 unfolding IsSettled
@@ -75,7 +72,3 @@ settled-here m r inside own settled a lo hi = settled a (omega (arith, inside)) 
 pub settled-none : (m : Space) → m.out ≡ [] → IsSettled m
 unfolding IsSettled
 settled-none m none a from own = here-none m (range_at a 1) none a (omega arith) (omega arith)
-
--- a heap's memory is that of its fields
-pub settled-inside : {m : Space} {x : Table} (k : State) {ledger : ℕ} (v : HeapView) → heap_view m x k ledger ≡ v → IsSettled v.memory → IsSettled m
-settled-inside k v view settled = subst (λ (o : HeapView). IsSettled o.memory) (sym view) settled

@@ -1,5 +1,4 @@
 -- Lemmas on the allocator over pools: its steps, and lent bytes.
-mod AfterReading
 pub mod Arrivals
 pub mod FilledAllocations
 mod Found

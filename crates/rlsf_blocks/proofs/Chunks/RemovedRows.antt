@@ -185,8 +185,3 @@ module _ {fllen sllen : ℕ} {m0 : Space} {t0 : Table} {s : State} (v : StandsFo
             copied = omega (arith, is.copied, costs.copied);
             stays = Stays-then is.stays stays;
           }
-
-    -- at the end all are taken out
-    pub IsRemovedTo-end : {m : Space} {table : Table} {start : ℕ} → IsRemovedTo fllen sllen m0 s q m table start → end_of q ≤ start
-        → IsRemovedTo fllen sllen m0 s q m table (end_of q)
-    IsRemovedTo-end {m} {table} {start} is over = subst (IsRemovedTo fllen sllen m0 s q m table) (omega (arith, is.to, over)) is

@@ -53,13 +53,6 @@ module _ (fllen sllen size : ℕ) where
         class = ap₂ (λ k j. record { exponent = k; division = j }) exponent places;
       }
 
-  pub map_floor-at : (fl sl : ℕ) → IsClassAt fllen sllen size fl sl → map_floor fllen sllen size ≡ Some (fl, sl)
-  map_floor-at fl sl at =
-      let exponent : (class_of sllen size).exponent ≡ 5 + fl = ap (λ c. c.exponent) at.class in
-      let valid : IsValidClass fllen (class_of sllen size) = omega (arith, exponent, at.row) in
-      let row : (class_of sllen size).exponent - 5 ≡ fl = omega (arith, exponent) in
-      valid-some valid ∙ ap₂ (λ k j. Some (k, j)) row (ap (λ c. c.division) at.class)
-
 -- a size has one pair of indices
 pub IsClassAt-same : (fllen sllen size fl sl row place : ℕ) → IsClassAt fllen sllen size fl sl → IsClassAt fllen sllen size row place → (fl ≡ row) × (sl ≡ place)
 IsClassAt-same fllen sllen size fl sl row place at there =

@@ -108,9 +108,6 @@ module _ {fllen sllen : ℕ} {m : Space} {t : Table} {s : State} (v : StandsFor 
     some_previous : (f : Range) → IsIn f s.free → previous ≡ f.start → previous ≢ 0
     some_previous f j same none = omega (arith, (free_in_memory v.well_formed f j).0, v.nonzero)
 
-    some_used : (x : Used) → IsIn x s.used → previous ≡ x.block.start → previous ≢ 0
-    some_used x j same none = omega (arith, (used_in_memory v.well_formed x j).0, v.nonzero)
-
     -- no block is before it
     pub IsPreviousOut-none : (n : Space) → n.start ≡ m.start → n.bytes ≡ m.bytes → n.out ≡ m.out → previous ≡ 0 → IsPreviousOut fllen sllen m n t s.free b b
     IsPreviousOut-none n start bytes out none = go named

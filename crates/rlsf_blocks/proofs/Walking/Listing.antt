@@ -18,10 +18,6 @@ pub record IsListed (from : ℕ) (was now : List ℕ) (count : ℕ) (left all : 
   pub listed : take (3 * count) now ++ all_numbers (all_from from left) ≡ all_numbers (all_from from all)
   pub rest : drop (3 * count) now ≡ drop (3 * count) was
 
--- none is listed yet
-pub none_listed : (from : ℕ) (was : List ℕ) (all : List Block) → IsListed from was was 0 all all
-none_listed from was all = record { len = refl; few = omega arith; counted = omega arith; listed = refl; rest = refl }
-
 -- the blocks from an address on, with a block before it, and with one behind it
 all_from-skip : (from : ℕ) (b : Block) (bs : List Block) → b.range.start < from → all_from from (b ∷ bs) ≡ all_from from bs
 all_from-skip from b bs low = ap (λ k. cond k (b ∷ all_from from bs) (all_from from bs)) (lt-leb from b.range.start low)
@@ -90,9 +86,6 @@ listing from was now count left all is told = record {
   where
     fits : 3 * count ≤ length now
     fits = omega (arith, is.len, is.few)
-
-pub all_listed : (from : ℕ) (was now : List ℕ) (count : ℕ) (all : List Block) → IsListed from was now count [] all → IsListingOf (all_from from all) was count now
-all_listed from was now count all is = listing from was now count [] all is (omega (arith, is.counted, is.few))
 
 pub full : (from : ℕ) (was now : List ℕ) (count : ℕ) (b : Block) (bs all : List Block) → IsListed from was now count (b ∷ bs) all → from ≤ b.range.start
     → count ≡ length was / 3
