@@ -32,7 +32,7 @@ impl Model for Note {
 impl Note {
     /// A note of `size` bytes or a few more. `None` if the pool has no room.
     pub fn new(mut pool: Pool, size: usize) -> Option<Note>
-        ensures size { IfSome result (λ note. size ≤ length note.bytes) }
+        ensures long { IfSome result (λ note. size ≤ length note.bytes) }
         ensures live { IfSome result (λ note. note.live ≡ live_count pool.state + 1) }
     {
         let layout = Layout::from_size_align(size, 8).ok()?;

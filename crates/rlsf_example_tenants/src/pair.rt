@@ -11,7 +11,7 @@ use std::io;
 /// Chunks of up to 131,072 bytes, in 12 rows of 16 classes.
 type Small = Heap<u16, u16, 12, 16>;
 
-/// Returns a heap with one pool of 4096 bytes, all of them written.
+/// Returns a heap with one pool: 4096 bytes from address 4096 on, to which `OpenMemory::new` wrote zeros.
 fn with_pool(alloc: Global) -> Option<Small>
     ensures { IfSome result (λ heap. IsSettled heap.memory) }
 {
