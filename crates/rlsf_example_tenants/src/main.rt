@@ -1,14 +1,16 @@
 //! Programs of one thread over heaps, and of std's collections. None has a proof file.
 //!
 //! `pair` and `words` are complete: each can be the `main.rt` of a crate of its own. `pair` writes two payloads at once, and makes one
-//! longer; `words` counts words in a heap and in a tenant. In this file two tenants of one memory have strings and maps, each in a range of
-//! its own. One fills its range, and ends. The other goes on, and the range serves the next tenant.
+//! longer; `words` counts words in a heap and in a tenant. `sized` has allocations that are never refused. In this file two tenants of one
+//! memory have strings and maps, each in a range of its own. One fills its range, and ends. The other goes on, and the range serves the
+//! next tenant.
 #![tactic(auto)]
 
 ghost use Rattle.std.specs.Prelude.{◌≡◌};
 ghost use Rattle.rlsf_heaps.specs.Words.{lessor};
 
 mod pair;
+mod sized;
 mod words;
 
 use rlsf_heaps::{OpenMemory, Range, Tenant};
@@ -124,6 +126,7 @@ fn show(rt: &(impl Print + AllocGlobal)) -> Result<(), io::Error> {
 
 fn main(rt: HostRuntime) -> io::Result<()> {
     pair::main(rt)?;
+    sized::main(rt)?;
     words::main(rt)?;
     show(&rt)
 }
