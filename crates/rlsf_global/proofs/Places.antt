@@ -1,56 +1,74 @@
--- Each live address has a place among the hints: its payload lies in the memory, whose addresses the table's are.
-use Rattle.std.proofs.Common.{◌≡◌, ℕ, ◌*◌, ◌≤◌, ◌<◌, ◌+◌, ◌/◌, List, Some, arith, length, ap, subst, ◌∙◌, refl, sym}
-use Rattle.rlsf_base.specs.Space.{SamePlace, Space}
-use Rattle.rlsf_flex.specs.StandsFor.{FlexContents}
-use Rattle.rlsf_global.proofs.Placements.{live_row}
-use Rattle.rlsf_global.proofs.Spots.{spot_inside}
-use Rattle.rlsf_global.specs.LiveRows.{HasPlace, HasSameSpace, HintSpace, LiveRows, spot}
+-- Each payload's address has a code: it is a multiple of 16 in the memory, whose addresses the table's are.
+use Rattle.std.proofs.Common.{◌≡◌, ℕ, zero, suc, ◌+◌, ◌*◌, ◌/◌, ◌%◌, ◌^◌, ◌<◌, ◌≤◌, Some, arith, length, ap, subst, ◌∙◌, sym}
+use Rattle.std.proofs.lemmas.Nat.{pow_pos, pow-add}
+use Rattle.std.proofs.Math.Nat.{div-add-mod'}
+use Rattle.std.specs.Int.{next_multiple_of}
+use Rattle.rlsf_base.proofs.Numbers.Roundings.{next_multiple_of-multiple}
+use Rattle.rlsf_base.specs.PowerOfTwo.{floor_log2}
+use Rattle.rlsf_base.specs.Space.{SamePlace, Space, range_of}
+use Rattle.rlsf_flex.specs.StandsFor.{FlexContents, FlexStandsFor}
+use Rattle.rlsf_global.specs.LiveRows.{CodeSpace, HasCode, LiveRows, codes_for}
 use Rattle.rlsf_global.specs.Locked.{IsListed, IsLocked, IsSpaceOf}
 use Rattle.rlsf_model.proofs.CallerWords.{align_at-live}
-use Rattle.rlsf_model.proofs.Coverage.{coverage-IsIn, coverage-some}
-use Rattle.rlsf_model.proofs.Tiling.{block_of}
-use Rattle.rlsf_model.specs.WellFormed.{covers, coverage, itself, last_bytes}
-use Rattle.rlsf_model_global.specs.Cursor.{PageCursor}
-use Rattle.rlsf_model_global.specs.Rows.{Row, row_at}
+use Rattle.rlsf_model.proofs.Live.{payload_lies_in_one_chunk}
+use Rattle.rlsf_model.proofs.Payloads.{IsUsed-after_start}
+use Rattle.rlsf_model.specs.Callers.{align_at}
+use Rattle.rlsf_model.specs.Payload.{payload_of}
+use Rattle.rlsf_model.specs.State.{Used}
+use Rattle.rlsf_model.specs.WellFormed.{IsUsed}
+use Rattle.rlsf_model_global.specs.Cursor.{PageCursor, terms_of}
+use Rattle.rlsf_model_global.specs.Pages.{MayOwe}
 
--- the table's addresses stay those of the memory, which stays where it is
-pub space_stays : (f f' : FlexContents PageCursor) (s s' : HintSpace) → IsSpaceOf f.memory s → SamePlace f.memory f'.memory → HasSameSpace s s' → IsSpaceOf f'.memory s'
-space_stays f f' s s' was place same = record {
-  first = same.first ∙ was.first ∙ subst (λ n. f.memory.start / 32 ≡ n / 32) (sym place.0) refl;
-  pages = same.pages ∙ was.pages ∙ subst (λ n. (length f.memory.bytes / 32 + 1) / 512 + 1 ≡ (n / 32 + 1) / 512 + 1) (sym place.1) refl;
-}
+-- ---- the table's addresses
 
-pub SamePlace-refl : (m : Space) → SamePlace m m
-SamePlace-refl m = (refl, refl, refl, λ none. none)
+-- they stay those of the memory, which stays where it is
+pub space_stays : (m m' : Space) (s : CodeSpace) → IsSpaceOf m s → SamePlace m m' → IsSpaceOf m' s
+space_stays m m' s was place = was ∙ ap (λ n. codes_for n (length m.bytes)) (sym place.0) ∙ ap (codes_for m'.start) (sym place.1)
 
-pub space_same : (s : HintSpace) → HasSameSpace s s
-space_same s = record { first = refl; pages = refl }
-
-pub space_equal : {s e : HintSpace} → e ≡ s → HasSameSpace s e
-space_equal same = record { first = ap (λ (s : HintSpace). s.first) same; pages = ap (λ (s : HintSpace). s.pages) same }
-
-pub space_then : {s m e : HintSpace} → HasSameSpace s m → HasSameSpace m e → HasSameSpace s e
-space_then first then = record { first = then.first ∙ first.first; pages = then.pages ∙ first.pages }
-
-pub listed : (f f' : FlexContents PageCursor) (t t' : LiveRows) → IsSpaceOf f.memory t.space → SamePlace f.memory f'.memory → HasSameSpace t.space t'.space
+pub listed : (f f' : FlexContents PageCursor) (t t' : LiveRows) → IsSpaceOf f.memory t.space → SamePlace f.memory f'.memory → t'.space ≡ t.space
     → IsLocked f' t'.rows → IsListed f' t'
-listed f f' t t' was place same locked = record { locked = locked; space = space_stays f f' t.space t'.space was place same }
+listed f f' t t' was place same locked = record { locked = locked; space = same ∙ space_stays f.memory f'.memory t.space was place }
 
-pub has_place : (f : FlexContents PageCursor) (rows : List Row) (s : HintSpace) → IsLocked f rows → IsSpaceOf f.memory s → (a : ℕ) (r : Row) → row_at a rows ≡ Some r
-    → HasPlace s a
-has_place f rows s locked space a r here =
-    let m = f.state.machine in
-    let well = locked.flex.well_formed.machine in
-    let (u, (iu, at_a), alike) = align_at-live m a r.1.align (live_row f rows locked a r here) in
-    let first = spot u.payload * 32 in
-    let one : covers u.block first ≡ 1 = spot_inside u (well.used u iu) in
-    let used : covers u.block first ≤ coverage block_of m.used first = coverage-IsIn block_of u m.used first iu in
-    let tiled : coverage block_of m.used first + coverage itself m.free first + coverage last_bytes m.chunks first ≡ coverage itself m.chunks first = well.tiled first in
-    let (c, ic, from, to) = coverage-some itself m.chunks first (omega (arith, one, used, tiled)) in
-    let (low, high) = (well.chunks c ic).lies_in in
-    let low_spot : f.memory.start ≤ spot u.payload * 32 = omega (arith, low, from) in
-    let high_spot : spot u.payload * 32 < f.memory.start + length f.memory.bytes = omega (arith, high, to) in
-    subst (HasPlace s) at_a (record {
-      above = omega (arith, low_spot, space.first);
-      below = omega (arith, low_spot, high_spot, space.first, space.pages);
-    })
+-- ---- where payloads live
+
+-- the payload of a block lies at a multiple of 16
+even_payload : (k b : ℕ) → b % 32 ≡ 0 → payload_of b (2 ^ k) % 16 ≡ 0
+even_payload zero b whole = omega arith
+even_payload (suc zero) b whole = omega arith
+even_payload (suc (suc zero)) b whole = omega arith
+even_payload (suc (suc (suc zero))) b whole = omega arith
+even_payload (suc (suc (suc (suc k)))) b whole =
+    let n = 2 ^ (4 + k) in
+    let exponent : suc (suc (suc (suc k))) ≡ 4 + k = omega arith in
+    let p = next_multiple_of (b + 16) n in
+    let times : n ≡ 16 * 2 ^ k = pow-add 2 4 k in
+    let some : 0 < n = pow_pos (4 + k) in
+    let product : p / n * n ≡ p / n * (16 * 2 ^ k) = ap (λ m. p / n * m) times in
+    let multiple : p ≡ 16 * (p / n * 2 ^ k) = omega (arith, div-add-mod' p n, next_multiple_of-multiple (b + 16) n some) in
+    subst (λ e. payload_of b (2 ^ e) % 16 ≡ 0) (sym exponent) (omega (arith, multiple))
+
+even_used : (u : Used) → IsUsed u → u.payload % 16 ≡ 0
+even_used u is =
+    let k = floor_log2 u.align in
+    let rounded : u.payload ≡ payload_of u.block.start (2 ^ k) = is.placed ∙ ap (payload_of u.block.start) is.power in
+    omega (arith, rounded, even_payload k u.block.start is.whole.start)
+
+module _ (f : FlexContents PageCursor) (stands : FlexStandsFor 64 64 terms_of MayOwe f) (s : CodeSpace) (space : IsSpaceOf f.memory s) where
+  pub has_code : (a align : ℕ) → align_at f.state.machine a ≡ Some align → HasCode s a
+  has_code a align live =
+      let m = f.state.machine in
+      let well = stands.well_formed.machine in
+      let (u, (iu, at_a), alike) = align_at-live m a align live in
+      let used = well.used u iu in
+      let (c, ic, from, to, _) = payload_lies_in_one_chunk 64 64 (range_of f.memory) m u well iu in
+      let (low, high) = (well.chunks c ic).lies_in in
+      let within = used.within in
+      let behind = IsUsed-after_start u used in
+      let below : f.memory.start ≤ u.payload = omega (arith, low, from) in
+      let above : u.payload ≤ f.memory.start + length f.memory.bytes = omega arith in
+      let whole : u.payload % 16 ≡ 0 = even_used u used in
+      subst (λ s. HasCode s a) (sym space) (subst (HasCode (codes_for f.memory.start (length f.memory.bytes))) at_a (record {
+        whole = whole;
+        above = omega (arith, below);
+        below = omega (arith, below, above);
+      }))

@@ -1,6 +1,4 @@
 -- The definitions of the calls behind the lock. Read `Locked` first.
-pub mod Growth
-pub mod Hints
 pub mod Kept
 pub mod LiveRows
 pub mod Locked

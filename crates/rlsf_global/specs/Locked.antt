@@ -1,8 +1,8 @@
 -- The value under the lock as contracts see it.
-use Rattle.std.specs.Prelude.{◌≡◌, ℕ, ◌+◌, ◌/◌, List, length}
+use Rattle.std.specs.Prelude.{◌≡◌, ℕ, List, length}
 use Rattle.rlsf_base.specs.Space.{Space}
 use Rattle.rlsf_flex.specs.StandsFor.{FlexContents, FlexStandsFor}
-use Rattle.rlsf_global.specs.LiveRows.{HintSpace, LiveRows}
+use Rattle.rlsf_global.specs.LiveRows.{CodeSpace, LiveRows, codes_for}
 use Rattle.rlsf_model_global.specs.Pages.{MayOwe}
 use Rattle.rlsf_model_global.specs.Cursor.{PageCursor, terms_of}
 use Rattle.rlsf_model_global.specs.Heap.{Heap, Lists}
@@ -10,8 +10,8 @@ use Rattle.rlsf_model_global.specs.Rows.{IsSorted, Row}
 use Rattle.rlsf_table.specs.Table.{Table}
 
 -- Its memory, its class table, and its heap. The heap is the model's state with the ranges that the source provided, the source's
--- cursor, and the entries of the table of live addresses. Then that table as it is kept, and how many of its entries calls have read,
--- changed or copied.
+-- cursor, and the entries of the table of live addresses. Then that table as it is kept, and how many of its codes calls have read or
+-- written.
 pub record LockedContents : Type 0 where
   pub memory : Space
   pub table : Table
@@ -38,12 +38,11 @@ pub record IsLocked (f : FlexContents PageCursor) (rows : List Row) : Type 0 whe
   pub sorted : IsSorted rows
   pub lists : Lists rows f.state.machine
 
--- the addresses of a table are those of the memory
-pub record IsSpaceOf (m : Space) (s : HintSpace) : Type 0 where
-  pub first : s.first ≡ m.start / 32
-  pub pages : s.pages ≡ (length m.bytes / 32 + 1) / 512 + 1
+-- the addresses with codes are those of the memory
+abbrev pub IsSpaceOf : Space → CodeSpace → Type 0
+IsSpaceOf m s = s ≡ codes_for m.start (length m.bytes)
 
--- and the table of live addresses has a place for each address of the memory
+-- and the table of live addresses has a code for each multiple of 16 in the memory
 pub record IsListed (f : FlexContents PageCursor) (live : LiveRows) : Type 0 where
   pub locked : IsLocked f live.rows
   pub space : IsSpaceOf f.memory live.space

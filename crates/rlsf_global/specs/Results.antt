@@ -1,10 +1,9 @@
 -- What the calls behind the lock ensure: a record for each of the clauses `result`, `refused`, `frame` and `touches`.
-use Rattle.std.specs.Prelude.{◌≡◌, ◌≢◌, ℕ, ◌+◌, ◌<◌, ◌≤◌, Bool, true, false, List, length, min, None, Some, OnErr, OnOk}
+use Rattle.std.specs.Prelude.{◌≡◌, ◌≢◌, ℕ, ◌+◌, ◌≤◌, Bool, true, false, List, length, min, None, Some, OnErr, OnOk}
 use Rattle.std.specs.List.{splice}
 use Rattle.rlsf_base.specs.declared.memory.layout.Layout.{Layout}
 use Rattle.rlsf_global.specs.Journal.Replay.{BookContents}
 use Rattle.rlsf_global.specs.Kept.{KeepsFirst}
-use Rattle.rlsf_global.specs.LiveRows.{IsReady, KeepsHints}
 use Rattle.rlsf_global.specs.Locked.{LockedContents, flex_of}
 use Rattle.rlsf_global.specs.Memory.{CopiesOnResize, KeepsMemory}
 use Rattle.rlsf_model.specs.Allocate.{HasRoomFor}
@@ -107,13 +106,9 @@ pub record IsLockedUntouched (before after : LockedContents) : Type 0 where
 
 -- ---- what a call keeps in every case
 
--- of the table of live addresses: how many entries a call reads, changes or copies at most, while each has its hint
+-- of the table of live addresses: how many codes a call reads or writes at most
 abbrev pub LooksAtMost : ℕ → LockedContents → LockedContents → Type 0
-LooksAtMost most before after = before.live.hinted ≡ true → after.looks ≤ before.looks + most
-
--- and that each keeps its hint, if an index of one more fits
-abbrev pub KeepsFewHints : LockedContents → LockedContents → Type 0
-KeepsFewHints before after = length before.heap.asked < 4294967296 → KeepsHints before.live after.live
+LooksAtMost most before after = after.looks ≤ before.looks + most
 
 -- of a call that copies no byte
 pub record KeepsLocked (before after : LockedContents) : Type 0 where
@@ -123,10 +118,8 @@ pub record KeepsLocked (before after : LockedContents) : Type 0 where
   pub grow : before.memory.touches ≤ after.memory.touches
   -- no byte is copied
   pub copied : after.memory.copied ≡ before.memory.copied
-  -- few entries of the table are looked at
-  pub looks : LooksAtMost 9 before after
-  -- and each keeps its hint
-  pub hinted : KeepsFewHints before after
+  -- few codes of the table are read or written
+  pub looks : LooksAtMost 2 before after
 
 -- of a call that writes bytes of a payload
 pub record KeepsLockedWriting (before after : LockedContents) : Type 0 where
@@ -138,10 +131,8 @@ pub record KeepsLockedWriting (before after : LockedContents) : Type 0 where
   pub grow : before.memory.touches ≤ after.memory.touches
   -- no byte is copied
   pub copied : after.memory.copied ≡ before.memory.copied
-  -- few entries of the table are looked at
-  pub looks : LooksAtMost 2 before after
-  -- and each keeps its hint
-  pub hinted : KeepsHints before.live after.live
+  -- one code of the table is read
+  pub looks : LooksAtMost 1 before after
 
 -- of a call that changes the size of the payload at an address
 pub record KeepsLockedResizing (enabled : Bool) (addr size wanted : ℕ) (before after : LockedContents) : Type 0 where
@@ -151,10 +142,8 @@ pub record KeepsLockedResizing (enabled : Bool) (addr size wanted : ℕ) (before
   pub grow : before.memory.touches ≤ after.memory.touches
   -- copied bytes are only added, and how many are is bounded
   pub copied : CopiesOnResize enabled before.heap.flex.machine addr size wanted before.memory after.memory
-  -- few entries of the table are looked at
-  pub looks : LooksAtMost 18 before after
-  -- and each keeps its hint, if a spare leaf is there
-  pub hinted : IsReady before.live → KeepsFewHints before after
+  -- few codes of the table are read or written
+  pub looks : LooksAtMost 3 before after
 
 -- of a call that moves the payload at an address
 pub record KeepsLockedMoving (addr size : ℕ) (answer : Placed) (before after : LockedContents) : Type 0 where
@@ -166,10 +155,8 @@ pub record KeepsLockedMoving (addr size : ℕ) (answer : Placed) (before after :
   pub copied : OnOk answer (after.memory.copied ≡ before.memory.copied + min size (length (content_at before.heap addr)))
   -- none if the call is refused
   pub copied_none : OnErr answer (after.memory.copied ≡ before.memory.copied)
-  -- few entries of the table are looked at
-  pub looks : LooksAtMost 18 before after
-  -- and each keeps its hint, if a spare leaf is there
-  pub hinted : IsReady before.live → KeepsFewHints before after
+  -- few codes of the table are read or written
+  pub looks : LooksAtMost 3 before after
 
 -- of a call of a book that writes bytes of a payload
 pub record KeepsBookWriting (before after : BookContents) : Type 0 where

@@ -1,7 +1,7 @@
 //! An allocator for threads: `GlobalTlsf` is a TLSF allocator over whole pages behind one lock, with a table of its live addresses.
 //!
 //! Read `locked.rt` first: `Locked` is the value under the lock, with all calls. `shared.rt` puts it behind the lock. `moves.rt`
-//! moves payloads, and `live_table.rt` has the table.
+//! moves payloads, `live_table.rt` has the table, and `rows.rt` returns its entries.
 //! The contracts cite `specs/Locked.antt`, and the heap and its steps in `rlsf_model_global`.
 //!
 //! A `Book` is a `Locked` with a journal of its placement calls, and a `Journaled` is a book behind a lock. Each caller has a `Pass`,
@@ -22,6 +22,7 @@ mod locked;
 mod moves;
 mod pass;
 mod receipts;
+mod rows;
 mod shared;
 mod text;
 

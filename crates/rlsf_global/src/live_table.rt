@@ -1,196 +1,144 @@
 //! The table of live payloads.
 
-ghost use Rattle.std.specs.Prelude.{◌≡◌, ◌≤◌, ◌<◌, ◌+◌, ◌/◌, [], None, IfNone, IfSome, IsSome, OnOk, OnSome, false, true};
+ghost use Rattle.std.specs.Prelude.{◌≡◌, ◌<◌, ◌≤◌, ◌+◌, [], length, None, OnOk, IsSome};
+ghost use Rattle.std.specs.Vec.{vec_capacity};
 ghost use Rattle.rlsf_base.specs.Addr.{at};
-ghost use Rattle.rlsf_global.specs.LiveRows.{AreSpread, HasSameSpace, IsReady, KeepsHints, KeepsHintsWith};
-ghost use Rattle.rlsf_model_global.specs.Rows.{key, put, row_at, without_row};
-ghost use Rattle.rlsf_model_global.specs.Steps.{is_same};
+ghost use Rattle.rlsf_global.specs.LiveRows.{AreAddresses, AreCoded, HasCode, code_in, codes_for};
+ghost use Rattle.rlsf_model_global.specs.Rows.{IsSorted, key, put, row_at, without_row};
 
-mod counted_rows;
+pub(crate) mod codes;
 mod entries;
-mod hints;
-mod leaves;
 pub(crate) mod looks;
 
-use crate::live_table::counted_rows::CountedRows;
-use crate::live_table::entries::{append, find, mend, take_out};
-use crate::live_table::hints::Hints;
+use crate::live_table::codes::{Codes, code_of};
+use crate::live_table::entries::Entries;
 use crate::live_table::looks::Looks;
 use rlsf_base::memory::{Addr, Layout};
 use std::alloc::{AllocError, Global};
 use std::marker::Model;
 
+/// The greatest limit that is doubled, so that the new one doesn't overflow.
+const MOST: usize = 1 << 56;
+
 /// A table of live payloads: addresses, each with its last layout. Contracts see the entries in the order of their addresses.
 ///
-/// The entries are kept in any order. For each 32 bytes of the addresses in use, a hint has the index of the entry. So a call looks at one
-/// entry, however many there are. Where the system was out of memory for a hint, calls look at every entry until the next allocation.
+/// Each multiple of 16 in the memory has a code of two bytes. It is 0 where no payload begins, and else it has the alignment and the last
+/// bits of the size. A payload has less than 32 bytes more than were requested, so its length in the memory determines the other bits.
 ///
-/// Calls count the entries that they read, change or copy (`looks`). While each entry has its hint (`hinted`), no call counts more than 16.
-/// Hints stay: only an entry that moves to addresses without a leaf may lose its hint, if there is no spare leaf and no memory.
+/// A call reads or writes the code of one address, or those of two, however many payloads are live. It counts them (`looks`).
 #[derive(Drop)]
 pub(crate) struct LiveTable {
-    rows: CountedRows,
-    hints: Hints,
-    // How many places are before the space.
-    base: usize,
-    // Whether hints tell each entry.
-    exact: bool,
+    codes: Codes,
+    // Room for all entries, so that `rows_of` asks for no memory. It has none of them.
+    rows: Vec<(Addr, Layout)>,
+    // How many payloads are live.
+    live: usize,
+    // How many can be live until `reserve` has to make room: 0 while there are no codes.
+    limit: usize,
+    alloc: Global,
+    // The entries, as ghost data.
+    entries: Entries,
 }
 
 impl Model for LiveTable {
-    ghost use Rattle.rlsf_global.specs.LiveRows.{IsIndexed, LiveRows, live_rows};
+    ghost use Rattle.std.specs.Prelude.{◌-◌};
+    ghost use Rattle.std.specs.Vec.{vec_capacity};
+    ghost use Rattle.rlsf_global.specs.LiveRows.{IsKept, LiveRows, code_space, live_rows};
 
     ghost Value = { LiveRows };
 
-    ghost view = { λ t. live_rows t.rows t.hints t.base t.exact };
+    ghost view = { λ t. live_rows t.entries.rows (t.limit - t.live) (code_space t.codes) };
 
-    ghost invariant = { λ t. IsIndexed t.base t.rows.items t.hints.leaves t.exact };
+    ghost invariant = { λ t. IsKept t.codes t.entries.rows t.live t.limit t.rows.items (vec_capacity t.rows) };
 }
 
 impl LiveTable {
-    /// Creates a table without entries, for the addresses of a range of `len` bytes from `start` on.
+    /// Creates a table without entries, for the addresses of a memory of `len` bytes from `start` on. It requests memory for their codes.
+    /// If the system is out of memory, `reserve` requests it again.
     pub(crate) fn new(alloc: Global, start: usize, len: usize) -> LiveTable
         ensures rows { result.rows ≡ [] }
-        ensures hinted { result.hinted ≡ true }
-        ensures first { result.space.first ≡ start / 32 }
-        ensures pages { result.space.pages ≡ (len / 32 + 1) / 512 + 1 }
+        ensures space { result.space ≡ codes_for start len }
     {
+        let mut codes = Codes::new(alloc, start, len);
+        let _there = codes.fill(alloc);
         LiveTable {
-            rows: CountedRows::new(alloc),
-            hints: Hints::new(alloc, len / 32 + 1),
-            base: start / 32,
-            exact: true,
+            codes,
+            rows: Vec::new(alloc),
+            live: 0,
+            limit: 0,
+            alloc,
+            entries: Entries::new(),
         }
     }
 
-    /// Reserves room for an entry and its hint. If hints aren't exact, it sets them anew.
-    pub(crate) fn reserve(&mut self, looks: &mut Looks) -> Result<(), AllocError>
+    /// Reserves room for an entry.
+    pub(crate) fn reserve(&mut self) -> Result<(), AllocError>
         ensures rows { self.new.rows ≡ self.old.rows }
         ensures room { OnOk result (0 < self.new.room) }
-        ensures hinted { OnOk result (self.new.hinted ≡ true) }
-        ensures kept { KeepsHints self.old self.new }
-        ensures ready { OnOk result (IsReady self.new) }
-        ensures space { HasSameSpace self.old.space self.new.space }
-        ensures looks { self.old.hinted ≡ true → looks.new.count ≡ looks.old.count }
+        ensures space { self.new.space ≡ self.old.space }
     {
-        if !self.exact || !self.rows.has_room() || !self.hints.is_ready() {
-            return self.make_room(looks);
+        if self.live < self.limit {
+            return Ok(());
         }
-        Ok(())
+        self.make_room()
     }
 
-    /// Does what `reserve` does if something is missing.
-    fn make_room(&mut self, looks: &mut Looks) -> Result<(), AllocError>
+    /// Does what `reserve` does if there is no room.
+    #[inline(never)]
+    fn make_room(&mut self) -> Result<(), AllocError>
         ensures rows { self.new.rows ≡ self.old.rows }
         ensures room { OnOk result (0 < self.new.room) }
-        ensures hinted { OnOk result (self.new.hinted ≡ true) }
-        ensures kept { KeepsHints self.old self.new }
-        ensures ready { OnOk result (IsReady self.new) }
-        ensures space { HasSameSpace self.old.space self.new.space }
-        ensures looks { self.old.hinted ≡ true → looks.new.count ≡ looks.old.count }
+        ensures space { self.new.space ≡ self.old.space }
     {
-        self.exact = mend(&self.rows, &mut self.hints, self.base, self.exact, looks);
-        if !self.rows.reserve() || !self.hints.prepare() || !self.exact {
+        if !self.codes.fill(self.alloc) || self.limit > MOST {
             return Err(AllocError);
         }
+        let wanted = 2 * self.limit + 4;
+        let Ok(rows) = Vec::with_capacity(self.alloc, wanted) else {
+            return Err(AllocError);
+        };
+        self.rows = rows;
+        self.limit = wanted;
         Ok(())
     }
 
-    /// Returns the entry of an address, if it has one.
-    pub(crate) fn get(&self, addr: Addr, looks: &mut Looks) -> Option<(Addr, Layout)>
-        ensures row { result ≡ row_at (at addr) self.now.rows }
-        ensures looks { self.now.hinted ≡ true → looks.new.count ≤ looks.old.count + 2 }
+    /// Returns the code of an address: 0 if it has no entry.
+    pub(crate) fn code(&self, addr: Addr, looks: &mut Looks) -> u16
+        ensures code { result ≡ code_in (row_at (at addr) self.now.rows) }
+        ensures looks { looks.new.count ≡ looks.old.count + 1 }
     {
-        match find(&self.rows, &self.hints, self.base, self.exact, addr, looks) {
-            Some(index) => Some(self.rows.row(index, looks)),
-            None => None,
-        }
+        looks.add(1);
+        self.codes.get(addr.get())
     }
 
     /// Inserts an entry. The table has room for it, and its address has none.
     pub(crate) fn put(&mut self, row: (Addr, Layout), looks: &mut Looks)
         requires room { 0 < self.old.room }
         requires fresh { row_at (key row) self.old.rows ≡ None }
-        requires spread { AreSpread (put row self.old.rows) }
+        requires place { HasCode self.old.space (key row) }
         ensures rows { self.new.rows ≡ put row self.old.rows }
-        ensures room { self.old.room ≤ self.new.room + 1 }
-        ensures hinted { KeepsHintsWith self.old (key row) self.new }
-        ensures space { HasSameSpace self.old.space self.new.space }
-        ensures looks { looks.new.count ≤ looks.old.count + 9 }
+        ensures room { self.old.room ≡ self.new.room + 1 }
+        ensures space { self.new.space ≡ self.old.space }
+        ensures looks { looks.new.count ≡ looks.old.count + 1 }
     {
-        self.exact = append(
-            &mut self.rows,
-            &mut self.hints,
-            self.base,
-            self.exact,
-            row,
-            looks,
-        );
+        looks.add(1);
+        self.codes.set(row.0.get(), code_of(row.1));
+        self.live += 1;
+        self.entries.put(row);
     }
 
-    /// Removes the entry of an address, if it has one. Returns it.
-    pub(crate) fn remove(&mut self, addr: Addr, looks: &mut Looks) -> Option<(Addr, Layout)>
-        ensures row { result ≡ row_at (at addr) self.old.rows }
+    /// Removes the entry of an address, which has one.
+    pub(crate) fn remove(&mut self, addr: Addr, looks: &mut Looks)
+        requires live { IsSome (row_at (at addr) self.old.rows) }
         ensures rows { self.new.rows ≡ without_row (at addr) self.old.rows }
-        ensures room { self.old.room ≤ self.new.room }
-        ensures unchanged { IfNone result (self.new.rows ≡ self.old.rows) }
-        ensures more_room { OnSome result (0 < self.new.room) }
-        ensures hinted { KeepsHints self.old self.new }
-        ensures ready { self.old.hinted ≡ true → IsReady self.old → IsReady self.new }
-        ensures space { HasSameSpace self.old.space self.new.space }
-        ensures looks { self.old.hinted ≡ true → looks.new.count ≤ looks.old.count + 7 }
+        ensures room { self.new.room ≡ self.old.room + 1 }
+        ensures space { self.new.space ≡ self.old.space }
+        ensures looks { looks.new.count ≡ looks.old.count + 1 }
     {
-        match find(&self.rows, &self.hints, self.base, self.exact, addr, looks) {
-            Some(index) => {
-                let row = self.rows.row(index, looks);
-                self.exact = take_out(
-                    &mut self.rows,
-                    &mut self.hints,
-                    self.base,
-                    self.exact,
-                    addr,
-                    index,
-                    looks,
-                );
-                Some(row)
-            }
-            None => None,
-        }
-    }
-
-    /// Removes the entry of an address, if it has one of a layout. Returns the entry that the address had.
-    pub(crate) fn remove_as(
-        &mut self,
-        addr: Addr,
-        layout: Layout,
-        looks: &mut Looks,
-    ) -> Option<(Addr, Layout)>
-        ensures row { result ≡ row_at (at addr) self.old.rows }
-        ensures gone { IfSome result (λ row. true ≡ is_same row.1 layout → self.new.rows ≡ without_row (at addr) self.old.rows) }
-        ensures stays { IfSome result (λ row. false ≡ is_same row.1 layout → self.new.rows ≡ self.old.rows) }
-        ensures unchanged { IfNone result (self.new.rows ≡ self.old.rows) }
-        ensures hinted { KeepsHints self.old self.new }
-        ensures ready { self.old.hinted ≡ true → IsReady self.old → IsReady self.new }
-        ensures space { HasSameSpace self.old.space self.new.space }
-        ensures looks { self.old.hinted ≡ true → looks.new.count ≤ looks.old.count + 7 }
-    {
-        let Some(index) = find(&self.rows, &self.hints, self.base, self.exact, addr, looks) else {
-            return None;
-        };
-        let row = self.rows.row(index, looks);
-        if row.1 != layout {
-            return Some(row);
-        }
-        self.exact = take_out(
-            &mut self.rows,
-            &mut self.hints,
-            self.base,
-            self.exact,
-            addr,
-            index,
-            looks,
-        );
-        Some(row)
+        looks.add(1);
+        self.codes.set(addr.get(), 0);
+        self.live -= 1;
+        self.entries.remove(addr);
     }
 
     /// Replaces the entry of an address by one with the same address.
@@ -198,46 +146,50 @@ impl LiveTable {
         requires live { IsSome (row_at (key row) self.old.rows) }
         ensures rows { self.new.rows ≡ put row (without_row (key row) self.old.rows) }
         ensures room { self.new.room ≡ self.old.room }
-        ensures hinted { self.new.hinted ≡ self.old.hinted }
-        ensures ready { IsReady self.old → IsReady self.new }
         ensures space { self.new.space ≡ self.old.space }
-        ensures looks { self.old.hinted ≡ true → looks.new.count ≤ looks.old.count + 3 }
+        ensures looks { looks.new.count ≡ looks.old.count + 1 }
     {
-        if let Some(index) = find(&self.rows, &self.hints, self.base, self.exact, row.0, looks) {
-            self.rows.set_row(index, row, looks);
-        }
+        looks.add(1);
+        self.codes.set(row.0.get(), code_of(row.1));
+        self.entries.remove(row.0);
+        self.entries.put(row);
     }
 
     /// Replaces the entry of an address by one that may have another address. No other entry has that.
     pub(crate) fn move_row(&mut self, addr: Addr, row: (Addr, Layout), looks: &mut Looks)
         requires live { IsSome (row_at (at addr) self.old.rows) }
         requires fresh { row_at (key row) (without_row (at addr) self.old.rows) ≡ None }
-        requires spread { AreSpread (put row (without_row (at addr) self.old.rows)) }
+        requires place { HasCode self.old.space (key row) }
         ensures rows { self.new.rows ≡ put row (without_row (at addr) self.old.rows) }
-        ensures hinted { KeepsHintsWith self.old (key row) self.new }
-        ensures space { HasSameSpace self.old.space self.new.space }
-        ensures looks { self.old.hinted ≡ true → looks.new.count ≤ looks.old.count + 16 }
+        ensures room { self.new.room ≡ self.old.room }
+        ensures space { self.new.space ≡ self.old.space }
+        ensures looks { looks.new.count ≡ looks.old.count + 2 }
     {
         if row.0.get() == addr.get() {
+            looks.add(1);
             self.replace(row, looks);
         } else {
-            let _gone = self.remove(addr, looks);
+            self.remove(addr, looks);
             self.put(row, looks);
         }
     }
 
-    /// Returns the entries in the order of their addresses.
-    pub(crate) fn into_rows(self) -> Vec<(Addr, Layout)>
-        ensures { result.items ≡ self.rows }
+    /// Takes the table apart. Returns its codes, and a `Vec` with room for all entries, which has none.
+    pub(crate) fn into_parts(self) -> (Codes, Vec<(Addr, Layout)>)
+        ensures codes { AreCoded result.0 self.rows }
+        ensures sorted { IsSorted self.rows }
+        ensures addresses { AreAddresses self.rows }
+        ensures none { result.1.items ≡ [] }
+        ensures room { length self.rows ≤ vec_capacity result.1 }
     {
         let LiveTable {
+            codes,
             rows,
-            hints: _,
-            base: _,
-            exact: _,
+            live: _,
+            limit: _,
+            alloc: _,
+            entries: _,
         } = self;
-        let mut rows = rows.into_vec();
-        rows.sort_unstable_by_key(|row| row.0.get());
-        rows
+        (codes, rows)
     }
 }

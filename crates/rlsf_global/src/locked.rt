@@ -1,6 +1,6 @@
 //! The value behind the lock: an allocator over pages, and the table of its live addresses.
 
-ghost use Rattle.std.specs.Prelude.{◌≡◌, ◌↔◌, ◌+◌, ◌<◌, ◌≤◌, length, nat_le, IfOk, IsErrOf, None, OnErr, OnOk, drop, take, true};
+ghost use Rattle.std.specs.Prelude.{◌≡◌, ◌↔◌, ◌+◌, ◌≤◌, length, nat_le, IfOk, IsErrOf, None, OnErr, OnOk, drop, take};
 ghost use Rattle.std.specs.List.{splice};
 ghost use Rattle.rlsf_base.specs.Addr.{at};
 ghost use Rattle.rlsf_base.specs.Layout.{IsLayout};
@@ -19,6 +19,7 @@ ghost use Rattle.rlsf_model_global.specs.Steps.{HeapAllocates, HeapDeallocates, 
 use crate::live_table::LiveTable;
 use crate::live_table::looks::Looks;
 use crate::moves::{PagedTlsf, move_away, resize};
+use crate::rows::{row_of, rows_of};
 use rlsf_base::memory::{Addr, Layout, Memory, Range};
 use rlsf_flex::{FlexTlsf, GlobalTlsfOptions, Source};
 use rlsf_model_global::GlobalError;
@@ -55,7 +56,6 @@ impl<Options: GlobalTlsfOptions> Locked<Options> {
         ensures heap { result.heap ≡ beginning (range_of memory) Options.COALESCE_POOLS }
         ensures memory { result.memory ≡ memory }
         ensures stands { LockedStands result }
-        ensures hinted { result.live.hinted ≡ true }
     {
         let space = Range {
             start: memory.start(),
@@ -87,11 +87,10 @@ impl<Options: GlobalTlsfOptions> Locked<Options> {
         ensures result { IfOk result (λ addr. HeapAllocated self.old.heap self.new.heap layout (at addr)) }
         ensures refused { OnErr result (IsLockedUnchanged self.old self.new) }
         ensures unasked { IfUnasked result (self.new.memory ≡ self.old.memory) }
-        ensures hinted { OnOk result (length self.old.heap.asked < 4294967296 → self.new.live.hinted ≡ true) }
         ensures frame { KeepsLocked self.old self.new }
         ensures touches { HasRoomFor 64 self.old.heap.flex.machine layout.size layout.align → self.new.memory.touches ≤ self.old.memory.touches + 27 }
     {
-        if self.rows.reserve(&mut self.looks).is_err() {
+        if self.rows.reserve().is_err() {
             return Err(GlobalError::TableMemory);
         }
         let Some(addr) = self.flex.allocate(layout) else {
@@ -112,7 +111,6 @@ impl<Options: GlobalTlsfOptions> Locked<Options> {
         ensures result { IfOk result (λ addr. HeapAllocated self.old.heap self.new.heap layout (at addr)) }
         ensures refused { OnErr result (IsLockedUnchanged self.old self.new) }
         ensures unasked { IfUnasked result (self.new.memory ≡ self.old.memory) }
-        ensures hinted { OnOk result (length self.old.heap.asked < 4294967296 → self.new.live.hinted ≡ true) }
         ensures frame { KeepsLocked self.old self.new }
         ensures touches { HasRoomFor 64 self.old.heap.flex.machine layout.size layout.align → self.new.memory.touches ≤ self.old.memory.touches + 27 }
     {
@@ -130,11 +128,12 @@ impl<Options: GlobalTlsfOptions> Locked<Options> {
         ensures frame { KeepsLocked self.old self.new }
         ensures touches { self.new.memory.touches ≤ self.old.memory.touches + 32 }
     {
-        let Some(gone) = self.rows.remove(addr, &mut self.looks) else {
+        let Some(row) = row_of(&self.flex, &self.rows, addr, &mut self.looks) else {
             // Only a live address has an entry, so nothing is deallocated twice.
             return Err(GlobalError::UnknownAddress);
         };
-        self.flex.deallocate(addr, gone.1.align());
+        self.rows.remove(addr, &mut self.looks);
+        self.flex.deallocate(addr, row.1.align());
         Ok(())
     }
 
@@ -154,14 +153,15 @@ impl<Options: GlobalTlsfOptions> Locked<Options> {
         ensures frame { KeepsLocked self.old self.new }
         ensures touches { self.new.memory.touches ≤ self.old.memory.touches + 32 }
     {
-        let Some(row) = self.rows.remove_as(addr, layout, &mut self.looks) else {
+        let Some(row) = row_of(&self.flex, &self.rows, addr, &mut self.looks) else {
             // Refused before the layout is compared: an address without an entry has none.
             return Err(GlobalError::UnknownAddress);
         };
         if row.1 != layout {
             return Err(GlobalError::WrongLayout);
         }
-        self.flex.deallocate(addr, row.1.align());
+        self.rows.remove(addr, &mut self.looks);
+        self.flex.deallocate(addr, layout.align());
         Ok(())
     }
 
@@ -195,7 +195,7 @@ impl<Options: GlobalTlsfOptions> Locked<Options> {
         ensures frame { KeepsLockedResizing Options.ENABLE_REALLOCATION (at addr) layout.size new_size self.old self.new }
         ensures touches { BoundsResizing Options.ENABLE_REALLOCATION (at addr) new_size layout.align self.old self.new }
     {
-        let Some(row) = self.rows.get(addr, &mut self.looks) else {
+        let Some(row) = row_of(&self.flex, &self.rows, addr, &mut self.looks) else {
             return Err(GlobalError::UnknownAddress);
         };
         if row.1 != layout {
@@ -227,7 +227,7 @@ impl<Options: GlobalTlsfOptions> Locked<Options> {
         ensures frame { KeepsLockedMoving (at addr) layout.size result self.old self.new }
         ensures touches { HasRoomFor 64 self.old.heap.flex.machine layout.size layout.align → self.new.memory.touches ≤ self.old.memory.touches + 59 }
     {
-        let Some(row) = self.rows.get(addr, &mut self.looks) else {
+        let Some(row) = row_of(&self.flex, &self.rows, addr, &mut self.looks) else {
             return Err(GlobalError::UnknownAddress);
         };
         let align = row.1.align();
@@ -264,7 +264,7 @@ impl<Options: GlobalTlsfOptions> Locked<Options> {
         ensures frame { KeepsLocked self.old self.new }
         ensures touches { self.new.memory.touches ≤ self.old.memory.touches + 25 }
     {
-        let Some(row) = self.rows.get(addr, &mut self.looks) else {
+        let Some(row) = row_of(&self.flex, &self.rows, addr, &mut self.looks) else {
             return Err(GlobalError::UnknownAddress);
         };
         if row.1 != layout {
@@ -286,7 +286,7 @@ impl<Options: GlobalTlsfOptions> Locked<Options> {
         ensures unknown { IsErrOf result UnknownAddress ↔ (layout_at self.now.heap (at addr) ≡ None) }
         ensures len { IfOk result (λ n. n ≡ length (content_at self.now.heap (at addr))) }
     {
-        let Some(_row) = self.rows.get(addr, &mut Looks::new()) else {
+        let Some(_row) = row_of(&self.flex, &self.rows, addr, &mut Looks::new()) else {
             return Err(GlobalError::UnknownAddress);
         };
         Ok(self.flex.allocation_usable_size(addr))
@@ -307,7 +307,7 @@ impl<Options: GlobalTlsfOptions> Locked<Options> {
         ensures told { OnOk result (bytes.new ≡ take (length bytes.old) (drop offset (content_at self.now.heap (at addr)))) }
         ensures refused { OnErr result (bytes.new ≡ bytes.old) }
     {
-        let Some(_row) = self.rows.get(addr, &mut Looks::new()) else {
+        let Some(_row) = row_of(&self.flex, &self.rows, addr, &mut Looks::new()) else {
             return Err(GlobalError::UnknownAddress);
         };
         let payload = self.flex.payload(addr);
@@ -335,7 +335,7 @@ impl<Options: GlobalTlsfOptions> Locked<Options> {
         ensures frame { KeepsLockedWriting self.old self.new }
         ensures touches { self.new.memory.touches ≤ self.old.memory.touches + 3 }
     {
-        let Some(_row) = self.rows.get(addr, &mut self.looks) else {
+        let Some(_row) = row_of(&self.flex, &self.rows, addr, &mut self.looks) else {
             return Err(GlobalError::UnknownAddress);
         };
         if !fits(offset, bytes.len(), self.flex.allocation_usable_size(addr)) {
@@ -353,11 +353,11 @@ impl<Options: GlobalTlsfOptions> Locked<Options> {
         ensures sorted { IsSorted result.items }
     {
         let Locked {
-            flex: _,
+            flex,
             rows,
             looks: _,
         } = self;
-        rows.into_rows()
+        rows_of(&flex, rows)
     }
 }
 

@@ -7,10 +7,11 @@ use rlsf_global::{GlobalError, SmallGlobalTlsfOptions};
 const UNKNOWN_ADDRESS: usize = GlobalError::UnknownAddress as usize;
 
 /// Runs that both kinds of allocators have.
-static ALIKE: [Run; 5] = [
+static ALIKE: [Run; 6] = [
     (131072, &NEIGHBOURS),
     (131072, &STALE),
     (131072, &LAST_MOVES),
+    (65536, &SAME_LAST_BITS),
     (65536, &ENDS),
     (65536, &EMPTIED),
 ];
@@ -74,6 +75,27 @@ const LAST_MOVES: [(Step, usize); 11] = [
     (Step::Dealloc(65648, 2, 2), 0),
     (Step::Dealloc(65616, 1, 1), 0),
     (Step::Dealloc(65616, 1, 1), UNKNOWN_ADDRESS),
+];
+
+/// Layouts of one alignment whose sizes differ by 32 bytes. The payload's length determines which one is the last.
+const SAME_LAST_BITS: [(Step, usize); 17] = [
+    (Step::Alloc(40, 8), 65552),
+    (Step::Alloc(0, 8), 65616),
+    (Step::Dealloc(65552, 8, 8), WRONG_LAYOUT),
+    (Step::Dealloc(65552, 72, 8), WRONG_LAYOUT),
+    (Step::Realloc(65552, 72, 8, 100), WRONG_LAYOUT),
+    (Step::Dealloc(65616, 32, 8), WRONG_LAYOUT),
+    (Step::NoMove(65552, 40, 8, 8), 65552),
+    (Step::Usable(65552), 16),
+    (Step::Dealloc(65552, 40, 8), WRONG_LAYOUT),
+    (Step::NoMove(65552, 8, 8, 41), 65552),
+    (Step::Dealloc(65552, 9, 8), WRONG_LAYOUT),
+    (Step::NoMove(65552, 41, 8, 48), 65552),
+    (Step::Dealloc(65552, 16, 8), WRONG_LAYOUT),
+    (Step::Reallocate(65616, 32, 8), 65648),
+    (Step::Dealloc(65648, 0, 8), WRONG_LAYOUT),
+    (Step::Dealloc(65648, 32, 8), 0),
+    (Step::Dealloc(65552, 48, 8), 0),
 ];
 
 /// Payloads in the first and in the last 32 bytes of a memory of one page.

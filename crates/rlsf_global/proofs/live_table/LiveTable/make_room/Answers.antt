@@ -1,14 +1,23 @@
-use Rattle.rlsf_global.proofs.TableAnswers.{same_indexed}
+use Rattle.std.proofs.Common.{◌+◌, ◌*◌, arith}
+use Rattle.rlsf_global.proofs.CodedRows.{kept-filled, kept-longer}
 use Rattle.rlsf_global.proofs.live_table.LiveTable.make_room.Goals as goal
 
-pub invariant_of-self-then-not-prepare : goal.invariant_of-self-then-not-prepare
-invariant_of-self-then-not-prepare c =
-    rw c.reserve.ensures.items
-    (same_indexed c.self.inside.base c.self.inside.rows.items c.mend-self-inside.new.hints.leaves c.prepare.new.self.leaves c.mend-self-inside.result c.self.invariant.apart
-    c.mend-self-inside.ensures.hinted c.mend-self-inside.ensures.counted c.mend-self-inside.ensures.few c.prepare.ensures.leaves)
+pub invariant_of-self : goal.invariant_of-self
+invariant_of-self c =
+    let t = c.self.inside in
+    let filled = c.fill.ensures in
+    kept-filled t.codes c.fill.new.self t.entries.rows t.live t.limit t.rows.items _ c.self.invariant filled.space filled.same filled.more filled.all
 
-pub invariant_of-self-else-not-self : goal.invariant_of-self-else-not-self
-invariant_of-self-else-not-self c =
-    rw c.reserve.ensures.items
-    (same_indexed c.self.inside.base c.self.inside.rows.items c.mend-self-inside.new.hints.leaves c.prepare.new.self.leaves c.mend-self-inside.result c.self.invariant.apart
-    c.mend-self-inside.ensures.hinted c.mend-self-inside.ensures.counted c.mend-self-inside.ensures.few c.prepare.ensures.leaves)
+pub invariant_of-self-in_default : goal.invariant_of-self-in_default
+invariant_of-self-in_default c =
+    let t = c.self.inside in
+    let filled = c.fill.ensures in
+    kept-filled t.codes c.fill.new.self t.entries.rows t.live t.limit t.rows.items _ c.self.invariant filled.space filled.same filled.more filled.all
+
+pub invariant_of-self-2 : goal.invariant_of-self-2
+invariant_of-self-2 c =
+    let t = c.self.inside in
+    let filled = c.fill.ensures in
+    kept-longer t.codes c.fill.new.self t.entries.rows t.live t.limit t.rows.items _ c.self.invariant filled.space filled.same
+    (filled.there c.if-not-fill.false)
+    (2 * t.limit + 4) c.in-Ok.rows.items _ (omega arith) c.in-Ok.ensures.capacity c.in-Ok.ensures.items

@@ -1,35 +1,16 @@
-use Rattle.std.proofs.Common.{arith}
-use Rattle.rlsf_model_global.specs.Rows.{key}
-use Rattle.rlsf_global.specs.Hints.{HasLeafFor}
-use Rattle.rlsf_global.specs.LiveRows.{place}
-use Rattle.rlsf_global.proofs.RowsInOrder.{apart-append, in_order-append, length-in_order, none_near}
+use Rattle.std.proofs.Common.{◌≡◌, ◌^◌, ◌-◌, ◌<◌, None, arith, subst, sym}
+use Rattle.rlsf_global.proofs.CodedRows.{kept-put}
+use Rattle.rlsf_global.specs.LiveRows.{LiveRows}
+use Rattle.rlsf_model_global.specs.Rows.{key, row_at}
 use Rattle.rlsf_global.proofs.live_table.LiveTable.put.Goals as goal
-
-pub append-self-inside-requires-clause-none : goal.append-self-inside-requires-clause-none
-append-self-inside-requires-clause-none c =
-    none_near c.self.inside.rows.items c.args.row c.self.invariant.apart (rw (← c.self.view_is) at c.requires.fresh) (rw (← c.self.view_is) at c.requires.spread)
 
 pub invariant_of-self : goal.invariant_of-self
 invariant_of-self c =
-    let rows = c.self.inside.rows.items in
-    let none = none_near rows c.args.row c.self.invariant.apart (rw (← c.self.view_is) at c.requires.fresh) (rw (← c.self.view_is) at c.requires.spread) in
-    record {
-      apart = rw c.append-self-inside.ensures.items (apart-append rows c.self.invariant.apart c.args.row none);
-      hinted = c.append-self-inside.ensures.hinted;
-      counted = c.append-self-inside.ensures.counted;
-      few = c.append-self-inside.ensures.few;
-    }
-
-pub returns-clause-rows : goal.returns-clause-rows
-returns-clause-rows c =
-    let rows = c.self.inside.rows.items in
-    let none = none_near rows c.args.row c.self.invariant.apart (rw (← c.self.view_is) at c.requires.fresh) (rw (← c.self.view_is) at c.requires.spread) in
-    rw (c.append-self-inside.ensures.items, ← c.self.view_is) (in_order-append rows c.self.invariant.apart c.args.row none)
-
-pub returns-clause-hinted : goal.returns-clause-hinted
-returns-clause-hinted c = rw (← c.self.view_is) (λ ready at few was.
-    let rows = c.self.inside.rows.items in
-    let long = length-in_order rows c.self.invariant.apart in
-    let p = place c.self.inside.base (key c.args.row) in
-    let leaf : HasLeafFor c.self.inside.hints p = record { page = omega (arith, at.below, ready.all); spare = ready.spare } in
-    c.append-self-inside.ensures.exact was at.above leaf (omega (arith, long, few)))
+    let t = c.self.inside in
+    let set = c.set.ensures in
+    let fresh = subst (λ (v : LiveRows). row_at (key c.args.row) v.rows ≡ None) (sym c.self.view_is) c.requires.fresh in
+    let room : 0 < t.limit - t.live = subst (λ (v : LiveRows). 0 < v.room) (sym c.self.view_is) c.requires.room in
+    let fits = subst (λ n. n < 2 ^ 64) c.get.ensures.value c.get.type_inv in
+    kept-put t.codes c.set.new.self t.entries.rows t.live t.limit t.rows.items _ c.self.invariant set.space
+    c.get.result c.code_of.result set.here set.others set.len
+    c.args.row c.get.ensures.value c.code_of.ensures fresh fits (omega (arith, room)) c.put.new.self.rows c.put.ensures

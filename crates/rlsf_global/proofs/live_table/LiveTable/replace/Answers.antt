@@ -1,32 +1,21 @@
-use Rattle.std.proofs.Common.{refl, ◌≤◌, subst, sym}
-use Rattle.rlsf_model_global.specs.Rows.{key}
-use Rattle.rlsf_global.proofs.TableAnswers.{not_live, replaced, replaced_apart, replaced_counted, replaced_few, replaced_hinted, row_read, has_read}
+use Rattle.std.proofs.Common.{◌^◌, ◌<◌, IsSome, ap, ◌∙◌, subst, sym}
+use Rattle.rlsf_global.proofs.CodedRows.{coded-place, kept-replaced}
+use Rattle.rlsf_global.specs.LiveRows.{HasPlace, LiveRows}
+use Rattle.rlsf_model_global.specs.Rows.{key, put, row_at}
 use Rattle.rlsf_global.proofs.live_table.LiveTable.replace.Goals as goal
+
+pub set-requires : goal.set-requires
+set-requires c =
+    let t = c.self.inside in
+    let some = subst (λ (v : LiveRows). IsSome (row_at (key c.args.row) v.rows)) (sym c.self.view_is) c.requires.live in
+    subst (HasPlace t.codes) (sym c.get.ensures.value) (coded-place t.codes t.entries.rows c.self.invariant.coded (key c.args.row) some)
 
 pub invariant_of-self : goal.invariant_of-self
 invariant_of-self c =
-    let rows = c.self.inside.rows.items in
-    let found = c.in-Some.ensures.found in
-    let old = row_read rows c.in-Some.index c.args.row in
-    let read = has_read rows c.in-Some.index c.args.row found.in_range in
-    rw c.set_row.ensures.items (record {
-      apart = replaced_apart rows (key c.args.row) c.self.invariant.apart c.in-Some.index old found read c.args.row refl;
-      hinted = λ exact. replaced_hinted rows (key c.args.row) c.self.invariant.apart c.in-Some.index old found read c.self.inside.base c.self.inside.hints.leaves c.args.row
-          refl (c.self.invariant.hinted exact);
-      counted = λ exact. replaced_counted rows (key c.args.row) c.self.invariant.apart c.in-Some.index old found read c.self.inside.base c.self.inside.hints.leaves c.args.row
-          refl (c.self.invariant.counted exact);
-      few = λ exact. subst (λ n. n ≤ 4294967296) (sym (replaced_few rows c.in-Some.index c.args.row)) (c.self.invariant.few exact);
-    })
-
-pub returns-in-Some-clause-rows : goal.returns-in-Some-clause-rows
-returns-in-Some-clause-rows c =
-    let rows = c.self.inside.rows.items in
-    let found = c.in-Some.ensures.found in
-    let old = row_read rows c.in-Some.index c.args.row in
-    let read = has_read rows c.in-Some.index c.args.row found.in_range in
-    rw (c.set_row.ensures.items, ← c.self.view_is) (replaced rows (key c.args.row) c.self.invariant.apart c.in-Some.index old found read c.args.row refl)
-
-pub returns-in_default-clause-rows : goal.returns-in_default-clause-rows
-returns-in_default-clause-rows c =
-    let none = c.in_default.ensures.found in
-    not_live c.self.inside.rows.items (key c.args.row) none (rw (← c.self.view_is) at c.requires.live)
+    let t = c.self.inside in
+    let set = c.set.ensures in
+    let some = subst (λ (v : LiveRows). IsSome (row_at (key c.args.row) v.rows)) (sym c.self.view_is) c.requires.live in
+    let fits = subst (λ n. n < 2 ^ 64) c.get.ensures.value c.get.type_inv in
+    kept-replaced t.codes c.set.new.self t.entries.rows t.live t.limit t.rows.items _ c.self.invariant set.space
+    c.get.result c.code_of.result set.here set.others set.len
+    c.args.row c.get.ensures.value c.code_of.ensures some fits c.put.new.self.rows (c.put.ensures ∙ ap (put c.args.row) c.remove.ensures)

@@ -1,17 +1,14 @@
-use Rattle.std.proofs.Common.{rules, arith, ◌≡◌, ◌<◌, ◌≤◌, ◌∙◌, None, Some, ap, length, refl, subst, sym, true}
+use Rattle.std.proofs.Common.{rules, arith, ◌≤◌, ◌∙◌, None, Some, length, refl, subst, sym}
 use Rattle.rlsf_base.specs.Addr.{at}
-use Rattle.rlsf_base.specs.Space.{SamePlace}
-use Rattle.rlsf_global.specs.Locked.{IsLocked, heap_of}
-use Rattle.rlsf_global.proofs.KeptMemories.{KeepsMemory-refl, kept_allocated}
+use Rattle.rlsf_flex.proofs.InnerAllocator.{flex_opened}
+use Rattle.rlsf_global.specs.Locked.{heap_of}
+use Rattle.rlsf_global.proofs.KeptMemories.{keeps_unchanged, kept_allocated}
 use Rattle.rlsf_global.proofs.Layouts.{content_at-bytes, content_at-is, layout_at-none, layout_at-put_here, layout_at-put_other}
 use Rattle.rlsf_global.proofs.Placements.{allocated, allocated_locked, heap_stays, no_row, not_allocated, stays_locked}
-use Rattle.rlsf_global.proofs.Places.{has_place, listed, space_stays, space_then}
-use Rattle.rlsf_global.proofs.Spots.{spread}
-use Rattle.rlsf_model_global.proofs.Maps.{row_at-put_here}
-use Rattle.rlsf_model_global.specs.Rows.{row_at}
-use Rattle.rlsf_global.proofs.locked.Locked.allocate.Given as given
+use Rattle.rlsf_global.proofs.Places.{has_code, listed, space_stays}
+use Rattle.rlsf_model.specs.FlexAllocate.{FlexAllocates}
+use Rattle.rlsf_model_global.specs.Cursor.{terms_of}
 use Rattle.rlsf_global.proofs.locked.Locked.allocate.Goals as goal
-use Rattle.rlsf_global.proofs.locked.Locked.allocate.Goals.{After-put}
 
 pub returns-then-is_err : goal.returns-then-is_err
 returns-then-is_err g c = rw (← c.self.view_is) (record {
@@ -19,14 +16,9 @@ returns-then-is_err g c = rw (← c.self.view_is) (record {
   result = tt;
   refused = record { same = rw c.reserve.ensures.rows refl; bytes = refl };
   unasked = refl;
-  hinted = tt;
-  frame = record {
-    memory = KeepsMemory-refl c.self.inside.flex;
-    grow = search rules;
-    copied = refl;
-    looks = λ was. omega (arith, c.reserve.ensures.looks was);
-    hinted = λ _. c.reserve.ensures.kept;
-  };
+  frame =
+      keeps_unchanged c.self.inside.flex c.self.inside.rows c.reserve.new.self c.self.inside.looks.count
+      c.self.inside.looks.count (omega arith);
   touches = search rules;
 })
 
@@ -40,41 +32,26 @@ invariant_of-self-in_default g c =
 pub put-requires-clause-fresh : goal.put-requires-clause-fresh
 put-requires-clause-fresh g c = rw c.reserve.ensures.rows (no_row c.self.inside.flex c.self.inside.rows.rows c.self.invariant.locked _ c.in-Some.ensures.result.new)
 
-pub put-requires-clause-spread : goal.put-requires-clause-spread
-put-requires-clause-spread g c =
-    rw c.reserve.ensures.rows
-    (spread c.allocate.new.self _
-    (allocated_locked c.self.inside.flex c.self.inside.rows.rows c.self.invariant.locked c.allocate.new.self c.args.layout c.in-Some.addr c.in-Some.ensures.step _ refl
-    c.in-Some.ensures.result.new (record { live = c.in-Some.ensures.result.live; sized = c.in-Some.ensures.result.sized; few = c.in-Some.ensures.result.few })
-    c.in-Some.ensures.result.aligns
-    c.in-Some.ensures.result.bytes))
-
--- the entries list the live payloads afterwards
-now_locked : (g : given.Over) (c : After-put g) → IsLocked c.allocate.new.self c.put.new.self.rows
-now_locked g c =
-    let rows = rw c.reserve.ensures.rows at c.put.ensures.rows in
-    allocated_locked c.self.inside.flex c.self.inside.rows.rows c.self.invariant.locked c.allocate.new.self c.args.layout c.in-Some.addr c.in-Some.ensures.step _ rows
-    c.in-Some.ensures.result.new (record { live = c.in-Some.ensures.result.live; sized = c.in-Some.ensures.result.sized; few = c.in-Some.ensures.result.few })
-    c.in-Some.ensures.result.aligns c.in-Some.ensures.result.bytes
-
--- the memory is where it was
-same_place : (g : given.Over) (c : After-put g) → SamePlace c.self.inside.flex.memory c.allocate.new.self.memory
-same_place g c = (kept_allocated c.self.inside.flex c.allocate.new.self c.args.layout.size c.args.layout.align (Some (at c.in-Some.addr)) c.in-Some.ensures.step).place
-
--- the table is ready for the entry, whose address has a place
-now_hinted : (g : given.Over) (c : After-put g) → length c.self.inside.rows.rows < 4294967296 → c.put.new.self.hinted ≡ true
-now_hinted g c few =
-    let space = space_stays c.self.inside.flex c.allocate.new.self c.self.inside.rows.space c.reserve.new.self.space c.self.invariant.space (same_place g c)
-    c.reserve.ensures.space in
-    let row : row_at (at c.in-Some.addr) c.put.new.self.rows ≡ Some (c.in-Some.addr, c.args.layout) =
-    ap (row_at (at c.in-Some.addr)) c.put.ensures.rows ∙ row_at-put_here (c.in-Some.addr, c.args.layout) c.reserve.new.self.rows in
-    let there = has_place c.allocate.new.self c.put.new.self.rows c.reserve.new.self.space (now_locked g c) space (at c.in-Some.addr) (c.in-Some.addr, c.args.layout) row in
-    c.put.ensures.hinted (search rules) there (rw c.reserve.ensures.rows few) (search rules)
+pub put-requires-clause-place : goal.put-requires-clause-place
+put-requires-clause-place g c =
+    let f = c.self.inside.flex in
+    let size = c.args.layout.size in
+    let align = c.args.layout.align in
+    let (notes, step, led, outside, stands) =
+    flex_opened f c.allocate.new.self (FlexAllocates 64 64 (terms_of f.source) f.state size align (Some (at c.in-Some.addr))) c.in-Some.ensures.step in
+    has_code c.allocate.new.self stands c.reserve.new.self.space
+    (c.reserve.ensures.space ∙ space_stays f.memory c.allocate.new.self.memory c.self.inside.rows.space c.self.invariant.space outside.place)
+    (at c.in-Some.addr) _ c.in-Some.ensures.result.live
 
 pub invariant_of-self-2 : goal.invariant_of-self-2
 invariant_of-self-2 g c =
-    listed c.self.inside.flex c.allocate.new.self c.self.inside.rows c.put.new.self c.self.invariant.space (same_place g c)
-    (space_then c.reserve.ensures.space c.put.ensures.space) (now_locked g c)
+    let did = c.in-Some.ensures.result in
+    let step = c.in-Some.ensures.step in
+    listed c.self.inside.flex c.allocate.new.self c.self.inside.rows c.put.new.self c.self.invariant.space
+    (kept_allocated c.self.inside.flex c.allocate.new.self c.args.layout.size c.args.layout.align (Some (at c.in-Some.addr)) step).place
+    (c.put.ensures.space ∙ c.reserve.ensures.space)
+    (allocated_locked c.self.inside.flex c.self.inside.rows.rows c.self.invariant.locked c.allocate.new.self c.args.layout c.in-Some.addr step _
+    (rw c.reserve.ensures.rows at c.put.ensures.rows) did.new (record { live = did.live; sized = did.sized; few = did.few }) did.aligns did.bytes)
 
 pub returns-in_default : goal.returns-in_default
 returns-in_default g c = rw (← c.self.view_is) (record {
@@ -91,13 +68,11 @@ returns-in_default g c = rw (← c.self.view_is) (record {
     bytes = c.in_default.ensures.refused.bytes;
   };
   unasked = tt;
-  hinted = tt;
   frame = record {
     memory = kept_allocated c.self.inside.flex c.allocate.new.self c.args.layout.size c.args.layout.align None c.in_default.ensures.step;
     grow = c.in_default.ensures.frame.grow;
     copied = c.in_default.ensures.frame.copied;
-    looks = λ was. omega (arith, c.reserve.ensures.looks was);
-    hinted = λ _. c.reserve.ensures.kept;
+    looks = omega arith;
   };
   touches = c.in_default.ensures.touches;
 })
@@ -129,13 +104,11 @@ returns g c = rw (← c.self.view_is) (record {
   };
   refused = tt;
   unasked = tt;
-  hinted = now_hinted g (goal.at.returns g c).After-put;
   frame = record {
     memory = kept_allocated c.self.inside.flex c.allocate.new.self c.args.layout.size c.args.layout.align (Some (at c.in-Some.addr)) c.in-Some.ensures.step;
     grow = c.in-Some.ensures.frame.grow;
     copied = c.in-Some.ensures.frame.copied;
-    looks = λ was. omega (arith, c.reserve.ensures.looks was, c.put.ensures.looks);
-    hinted = λ few _. now_hinted g (goal.at.returns g c).After-put few;
+    looks = omega (arith, c.put.ensures.looks);
   };
   touches = c.in-Some.ensures.touches;
 })

@@ -7,6 +7,9 @@ use Rattle.rlsf_global.proofs.Lives.{known, unknown}
 use Rattle.rlsf_global.proofs.Placements.{live_here}
 use Rattle.rlsf_global.proofs.locked.Locked.allocation_usable_size.Goals as goal
 
+pub row_of-requires : goal.row_of-requires
+row_of-requires g c = (lit< tt, c.self.invariant.locked.lists)
+
 pub allocation_usable_size-requires : goal.allocation_usable_size-requires
 allocation_usable_size-requires g c =
     (lit< tt, live_here c.self.inside.flex c.self.inside.rows.rows c.self.invariant.locked (at c.args.addr) _ (sym c.in-Some.ensures.row))

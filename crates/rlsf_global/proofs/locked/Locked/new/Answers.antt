@@ -15,7 +15,7 @@ none_locked g c = subst (λ l. IsLocked c.new-2.result l) (sym c.new-3.ensures.r
 pub invariant_of-result : goal.invariant_of-result
 invariant_of-result g c = record {
   locked = none_locked g c;
-  space = record { first = search rules; pages = search rules };
+  space = search rules;
 }
 
 pub returns : goal.returns
@@ -23,5 +23,4 @@ returns g c = record {
   heap = search rules;
   memory = search rules;
   stands = locked_stands _ (none_locked g (goal.at.returns g c).After-new-4);
-  hinted = c.new-3.ensures.hinted;
 }

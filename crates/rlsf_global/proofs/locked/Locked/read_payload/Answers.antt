@@ -8,6 +8,9 @@ use Rattle.rlsf_global.proofs.Placements.{live_here}
 use Rattle.rlsf_model_global.specs.declared.error.GlobalError.TheVariants.{OutOfRange}
 use Rattle.rlsf_global.proofs.locked.Locked.read_payload.Goals as goal
 
+pub row_of-requires : goal.row_of-requires
+row_of-requires g c = (lit< tt, c.self.invariant.locked.lists)
+
 pub payload-payload-requires : goal.payload-payload-requires
 payload-payload-requires g c =
     (lit< tt, live_here c.self.inside.flex c.self.inside.rows.rows c.self.invariant.locked (at c.args.addr) _ (sym c.in-Some.ensures.row))

@@ -1,39 +1,32 @@
 use Rattle.rlsf_base.specs.Sizes.{request_size}
 use Rattle.rlsf_model.specs.Allocate.{HasRoomFor, choice}
 use Rattle.rlsf_model.specs.Reallocate.{HasRoomToResize}
-use Rattle.std.proofs.Common.{rules, IsSome, ◌≡◌, ◌<◌, ◌≤◌, ◌+◌, true, false, length, Some, Ok, Err, lit<, ap, ◌∙◌, subst, sym, refl, arith}
+use Rattle.std.proofs.Common.{rules, IsSome, ◌≡◌, ◌≤◌, ◌+◌, true, false, length, Some, Ok, Err, lit<, ap, ◌∙◌, subst, sym, refl, arith}
 use Rattle.rlsf_global.proofs.KeptMemories.{KeepsMemory-refl, copies_nothing}
 use Rattle.rlsf_global.proofs.Layouts.{content_at-bytes, layout_at-moved_left, layout_at-moved_other, layout_at-none, layout_at-put_here}
 use Rattle.rlsf_base.specs.Addr.{at}
-use Rattle.rlsf_global.specs.LiveRows.{IsReady, KeepsHints}
-use Rattle.rlsf_global.specs.Locked.{IsLocked, heap_of, locked_contents}
+use Rattle.rlsf_global.specs.Locked.{heap_of, locked_contents}
 use Rattle.rlsf_global.specs.Memory.{CopiesOnResize}
 use Rattle.rlsf_global.proofs.Checks.{same_align, same_size}
 use Rattle.rlsf_global.proofs.MovedPayloads.{moved_locked, moved_row, refused_locked, same_heap, reallocates_in, reallocates_out}
 use Rattle.rlsf_global.proofs.Kept.{kept_asked, kept_usable}
 use Rattle.rlsf_global.proofs.Lives.{has_row, known, unknown}
-use Rattle.rlsf_global.proofs.Places.{has_place, listed, space_same, space_stays}
+use Rattle.rlsf_global.proofs.Places.{has_code, listed, space_stays}
 use Rattle.rlsf_global.proofs.Placements.{live_row, no_row, row_sized}
 use Rattle.rlsf_global.proofs.Results.{not-false, not-true}
 use Rattle.rlsf_model.specs.Callers.{bytes_at}
 use Rattle.rlsf_model_global.specs.declared.error.GlobalError.TheVariants.{NoRoom, WrongLayout}
 use Rattle.rlsf_model_global.specs.Moves.{HeapReallocatesAs, ReallocatesAsAt, ReallocatesTo}
-use Rattle.rlsf_model_global.proofs.Maps.{row_at-put_here}
-use Rattle.rlsf_model_global.specs.Rows.{Row, put, row_at, without_row}
 use Rattle.rlsf_global.proofs.locked.Locked.realloc.Given as given
-use Rattle.rlsf_global.proofs.Spots.{spread}
 use Rattle.rlsf_global.proofs.locked.Locked.realloc.Goals as goal
 use Rattle.rlsf_global.proofs.locked.Locked.realloc.Goals.{After-move_row, After-resize}
 
--- the entry of the address is now that of the payload with the wanted layout
-replaced : (g : given.Over) (c : After-move_row g)
-    → c.move_row.new.self.rows ≡ put (c.in-Some-resize.moved, c.from_size_align_unchecked-wanted.result) (without_row (at c.args.addr) c.self.inside.rows.rows)
-replaced g c = c.move_row.ensures.rows
+pub row_of-requires : goal.row_of-requires
+row_of-requires g c = (lit< tt, c.self.invariant.locked.lists)
 
 pub resize-requires : goal.resize-requires
 resize-requires g c =
-    let found = sym c.in-Some.ensures.row in
-    let row = found in
+    let row = sym c.in-Some.ensures.row in
     let same = not-false _ c.if-ne.ensures in
     let live =
     live_row c.self.inside.flex c.self.inside.rows.rows c.self.invariant.locked (at c.args.addr) c.in-Some.row row
@@ -51,42 +44,23 @@ move_row-requires-clause-fresh g c =
     moved_row c.self.inside.flex c.self.inside.rows.rows c.self.invariant.locked c.resize.new.flex (at c.args.addr) c.from_size_align_unchecked-wanted.result c.in-Some-resize.moved
     c.in-Some-resize.ensures.moved
 
-pub move_row-requires-clause-spread : goal.move_row-requires-clause-spread
-move_row-requires-clause-spread g c =
-    spread c.resize.new.flex _
-    (moved_locked c.self.inside.flex c.self.inside.rows.rows c.self.invariant.locked c.resize.new.flex (at c.args.addr) c.from_size_align_unchecked-wanted.result
-    c.in-Some-resize.moved
-    c.in-Some-resize.ensures.moved _ refl)
-
--- the entries list the live payloads afterwards
-now_locked : (g : given.Over) (c : After-move_row g) → IsLocked c.resize.new.flex c.move_row.new.self.rows
-now_locked g c =
-    moved_locked c.self.inside.flex c.self.inside.rows.rows c.self.invariant.locked c.resize.new.flex (at c.args.addr) c.from_size_align_unchecked-wanted.result
-    c.in-Some-resize.moved
-    c.in-Some-resize.ensures.moved _ (replaced g c)
+pub move_row-requires-clause-place : goal.move_row-requires-clause-place
+move_row-requires-clause-place g c =
+    let moved = c.in-Some-resize.ensures.moved in
+    has_code c.resize.new.flex moved.stands c.self.inside.rows.space
+    (space_stays c.self.inside.flex.memory c.resize.new.flex.memory c.self.inside.rows.space c.self.invariant.space c.resize.ensures.memory.place)
+    (at c.in-Some-resize.moved) _ moved.live
 
 pub invariant_of-self-in_default-resize : goal.invariant_of-self-in_default-resize
 invariant_of-self-in_default-resize g c =
-    listed c.self.inside.flex c.resize.new.flex c.self.inside.rows c.self.inside.rows c.self.invariant.space c.resize.ensures.memory.place
-    (space_same c.self.inside.rows.space)
+    listed c.self.inside.flex c.resize.new.flex c.self.inside.rows c.self.inside.rows c.self.invariant.space c.resize.ensures.memory.place refl
     (refused_locked c.self.inside.flex c.self.inside.rows.rows c.self.invariant.locked c.resize.new.flex c.in_default-resize.ensures.refused)
 
 pub invariant_of-self-2 : goal.invariant_of-self-2
 invariant_of-self-2 g c =
     listed c.self.inside.flex c.resize.new.flex c.self.inside.rows c.move_row.new.self c.self.invariant.space c.resize.ensures.memory.place c.move_row.ensures.space
-    (now_locked g c)
-
--- a table that is ready keeps its hints, since the new address has a place
-now_hinted : (g : given.Over) (c : After-move_row g) → IsReady c.self.inside.rows → length c.self.inside.rows.rows < 4294967296
-    → KeepsHints c.self.inside.rows c.move_row.new.self
-now_hinted g c ready few =
-    let to = c.in-Some-resize.moved in
-    let row : Row = (to, c.from_size_align_unchecked-wanted.result) in
-    let space = space_stays c.self.inside.flex c.resize.new.flex c.self.inside.rows.space c.self.inside.rows.space c.self.invariant.space c.resize.ensures.memory.place
-    (space_same c.self.inside.rows.space) in
-    let here : row_at (at to) c.move_row.new.self.rows ≡ Some row =
-    ap (row_at (at to)) (replaced g c) ∙ row_at-put_here row (without_row (at c.args.addr) c.self.inside.rows.rows) in
-    c.move_row.ensures.hinted ready (has_place c.resize.new.flex c.move_row.new.self.rows c.self.inside.rows.space (now_locked g c) space (at to) row here) few
+    (moved_locked c.self.inside.flex c.self.inside.rows.rows c.self.invariant.locked c.resize.new.flex (at c.args.addr)
+    c.from_size_align_unchecked-wanted.result c.in-Some-resize.moved c.in-Some-resize.ensures.moved _ c.move_row.ensures.rows)
 
 -- the reference model made the step
 did_step : (g : given.Over) (c : After-move_row g)
@@ -95,12 +69,11 @@ did_step : (g : given.Over) (c : After-move_row g)
 did_step g c =
     let h = heap_of c.self.inside.flex c.self.inside.rows.rows in
     let after = heap_of c.resize.new.flex c.move_row.new.self.rows in
-    let found = sym c.in-Some.ensures.row in
-    let row = found in
+    let row = sym c.in-Some.ensures.row in
     let wanted = c.from_size_align_unchecked-wanted in
     let enabled = g.Options.GlobalTlsfOptions.ENABLE_REALLOCATION in
     let step =
-    subst (λ l. ReallocatesTo enabled h (at c.args.addr) c.args.layout wanted.result (Ok c.in-Some-resize.moved) (heap_of c.resize.new.flex l)) (sym (replaced g c))
+    subst (λ l. ReallocatesTo enabled h (at c.args.addr) c.args.layout wanted.result (Ok c.in-Some-resize.moved) (heap_of c.resize.new.flex l)) (sym c.move_row.ensures.rows)
     (c.in-Some-resize.ensures.step c.self.inside.rows.rows) in
     subst (λ o. ReallocatesAsAt enabled h (at c.args.addr) c.args.layout c.args.new_size o (Ok c.in-Some-resize.moved) after) (sym row)
     (reallocates_in enabled h (at c.args.addr) c.args.layout c.args.new_size c.in-Some.row wanted.result (Ok c.in-Some-resize.moved) after (not-false _ c.if-ne.ensures)
@@ -135,7 +108,7 @@ pub returns : goal.returns
 returns g c =
     let k = (goal.at.returns g c).After-move_row in
     let call = (goal.at.returns g c).After-resize in
-    let rows = replaced g k in
+    let rows = c.move_row.ensures.rows in
     let step = did_step g k in
     let moved = c.in-Some-resize.ensures.moved in
     let wanted = c.from_size_align_unchecked-wanted in
@@ -143,8 +116,7 @@ returns g c =
     let before = heap_of c.self.inside.flex c.self.inside.rows.rows in
     let after = heap_of c.resize.new.flex c.move_row.new.self.rows in
     let contents = locked_contents c.self.inside.flex c.self.inside.rows c.self.inside.looks.count in
-    let found = sym c.in-Some.ensures.row in
-    let row = found in
+    let row = sym c.in-Some.ensures.row in
     let sized =
     subst (λ n. n ≤ length (bytes_at c.self.inside.flex.state.machine (at c.args.addr))) (same_size c.in-Some.row.1 c.args.layout (not-false _ c.if-ne.ensures))
     (row_sized c.self.inside.flex c.self.inside.rows.rows c.self.invariant.locked (at c.args.addr) c.in-Some.row row) in
@@ -165,15 +137,14 @@ returns g c =
         layouts = layout_at-moved_other before after (at c.args.addr) (c.in-Some-resize.moved, wanted.result) rows;
         contents = λ a off off_to. content_at-bytes before after a a (moved.bytes a off off_to);
       };
-      unknown = known c.self.inside.flex c.self.inside.rows.rows (at c.args.addr) _ found (Ok c.in-Some-resize.moved) refl;
+      unknown = known c.self.inside.flex c.self.inside.rows.rows (at c.args.addr) _ row (Ok c.in-Some-resize.moved) refl;
       refused = tt;
       unasked = tt;
       frame = record {
         memory = c.resize.ensures.memory;
         grow = c.resize.ensures.grow;
         copied = copied g call;
-        looks = λ was. omega (arith, c.get.ensures.looks was, c.move_row.ensures.looks was);
-        hinted = now_hinted g k;
+        looks = omega (arith, c.row_of.ensures.looks, c.move_row.ensures.looks);
       };
       touches = record { room = touches_there g call; elsewhere = touches_elsewhere g call };
     })
@@ -191,29 +162,27 @@ returns-in_default g c =
         memory = KeepsMemory-refl c.self.inside.flex;
         grow = omega arith;
         copied = copies_nothing _ _ _ _ _ _;
-        looks = λ was. omega (arith, c.get.ensures.looks was);
-        hinted = λ _ _ was. was;
+        looks = omega (arith, c.row_of.ensures.looks);
       };
       touches = record { room = λ _ _. omega arith; elsewhere = λ _ _. omega arith };
     })
 
 pub returns-then-ne : goal.returns-then-ne
 returns-then-ne g c =
-    let found = sym c.in-Some.ensures.row in
+    let row = sym c.in-Some.ensures.row in
     rw (← c.self.view_is) (record {
       step =
           reallocates_out g.Options.GlobalTlsfOptions.ENABLE_REALLOCATION (heap_of c.self.inside.flex c.self.inside.rows.rows) (at c.args.addr) c.args.layout c.args.new_size
-          c.in-Some.row (not-true _ c.if-ne.ensures) found;
+          c.in-Some.row (not-true _ c.if-ne.ensures) row;
       result = tt;
-      unknown = known c.self.inside.flex c.self.inside.rows.rows (at c.args.addr) _ found (Err WrongLayout) refl;
+      unknown = known c.self.inside.flex c.self.inside.rows.rows (at c.args.addr) _ row (Err WrongLayout) refl;
       refused = record { same = refl; bytes = refl };
       unasked = refl;
       frame = record {
         memory = KeepsMemory-refl c.self.inside.flex;
         grow = omega arith;
         copied = copies_nothing _ _ _ _ _ _;
-        looks = λ was. omega (arith, c.get.ensures.looks was);
-        hinted = λ _ _ was. was;
+        looks = omega (arith, c.row_of.ensures.looks);
       };
       touches = record { room = λ _ _. omega arith; elsewhere = λ _ _. omega arith };
     })
@@ -223,8 +192,7 @@ returns-in_default-resize g c =
     let call = (goal.at.returns-in_default-resize g c).After-resize in
     let h = heap_of c.self.inside.flex c.self.inside.rows.rows in
     let after = heap_of c.resize.new.flex c.self.inside.rows.rows in
-    let found = sym c.in-Some.ensures.row in
-    let row = found in
+    let row = sym c.in-Some.ensures.row in
     let wanted = c.from_size_align_unchecked-wanted in
     let enabled = g.Options.GlobalTlsfOptions.ENABLE_REALLOCATION in
     let stays = c.in_default-resize.ensures.refused in
@@ -236,15 +204,14 @@ returns-in_default-resize g c =
           (wanted.ensures.1 ∙ c.align.ensures.value)
           (c.in_default-resize.ensures.none c.self.inside.rows.rows));
       result = tt;
-      unknown = known c.self.inside.flex c.self.inside.rows.rows (at c.args.addr) _ found (Err NoRoom) refl;
+      unknown = known c.self.inside.flex c.self.inside.rows.rows (at c.args.addr) _ row (Err NoRoom) refl;
       refused = record { same = same_heap c.self.inside.flex c.resize.new.flex c.self.inside.rows.rows stays.state stays.source; bytes = stays.bytes };
       unasked = tt;
       frame = record {
         memory = c.resize.ensures.memory;
         grow = c.resize.ensures.grow;
         copied = copied g call;
-        looks = λ was. omega (arith, c.get.ensures.looks was);
-        hinted = λ _ _ was. was;
+        looks = omega (arith, c.row_of.ensures.looks);
       };
       touches = record { room = touches_there g call; elsewhere = touches_elsewhere g call };
     })

@@ -1,26 +1,21 @@
 use Rattle.rlsf_global.proofs.KeptMemories.{KeepsMemory-refl}
 use Rattle.rlsf_global.proofs.Layouts.{content_at-bytes, content_at-is, layout_at-moved_left, layout_at-moved_other, layout_at-none, layout_at-put_here}
-use Rattle.std.proofs.Common.{rules, ◌≡◌, ◌<◌, ◌+◌, length, arith, min, Some, Ok, Err, lit<, ap, ◌∙◌, subst, sym, refl}
+use Rattle.std.proofs.Common.{rules, ◌+◌, length, arith, min, Some, Ok, Err, lit<, ap, ◌∙◌, subst, sym, refl}
 use Rattle.rlsf_base.specs.Addr.{at}
-use Rattle.rlsf_global.specs.LiveRows.{IsReady, KeepsHints}
-use Rattle.rlsf_global.specs.Locked.{IsLocked, heap_of, locked_contents}
+use Rattle.rlsf_global.specs.Locked.{heap_of, locked_contents}
 use Rattle.rlsf_global.proofs.MovedPayloads.{moved_locked, moved_row, refused_locked, same_heap}
 use Rattle.rlsf_global.proofs.Kept.{kept_elsewhere}
 use Rattle.rlsf_global.proofs.Lives.{has_row, known, unknown}
-use Rattle.rlsf_global.proofs.Places.{has_place, listed, space_same, space_stays}
+use Rattle.rlsf_global.proofs.Places.{has_code, listed, space_stays}
 use Rattle.rlsf_global.proofs.Placements.{live_here, live_row, no_row}
 use Rattle.rlsf_model_global.specs.declared.error.GlobalError.TheVariants.{NoRoom}
 use Rattle.rlsf_model_global.specs.Moves.{HeapReallocates, MovesAway, ReallocatesAt}
-use Rattle.rlsf_model_global.proofs.Maps.{row_at-put_here}
-use Rattle.rlsf_model_global.specs.Rows.{Row, put, row_at, without_row}
 use Rattle.rlsf_global.proofs.locked.Locked.reallocate.Given as given
-use Rattle.rlsf_global.proofs.Spots.{spread}
 use Rattle.rlsf_global.proofs.locked.Locked.reallocate.Goals as goal
 use Rattle.rlsf_global.proofs.locked.Locked.reallocate.Goals.{After-move_row}
 
--- the entry of the address is now that of the payload with the new layout
-replaced : (g : given.Over) (c : After-move_row g) → c.move_row.new.self.rows ≡ put (c.in-Some-move_away.to, c.args.layout) (without_row (at c.args.addr) c.self.inside.rows.rows)
-replaced g c = c.move_row.ensures.rows
+pub row_of-requires : goal.row_of-requires
+row_of-requires g c = (lit< tt, c.self.invariant.locked.lists)
 
 pub allocation_usable_size-requires : goal.allocation_usable_size-requires
 allocation_usable_size-requires g c =
@@ -28,8 +23,7 @@ allocation_usable_size-requires g c =
 
 pub move_away-requires : goal.move_away-requires
 move_away-requires g c =
-    let found = sym c.in-Some.ensures.row in
-    let row = found in
+    let row = sym c.in-Some.ensures.row in
     let live = live_row c.self.inside.flex c.self.inside.rows.rows c.self.invariant.locked (at c.args.addr) c.in-Some.row row ∙ ap Some (sym c.align-align.ensures.value) in
     (lit< tt, (live, (omega (arith, c.min-keep.ensures, c.allocation_usable_size.ensures), omega (arith, c.min-keep.ensures, c.size.ensures.value))))
 
@@ -41,40 +35,23 @@ move_row-requires-clause-fresh g c =
     moved_row c.self.inside.flex c.self.inside.rows.rows c.self.invariant.locked c.move_away.new.flex (at c.args.addr) c.args.layout c.in-Some-move_away.to
     c.in-Some-move_away.ensures.moved
 
-pub move_row-requires-clause-spread : goal.move_row-requires-clause-spread
-move_row-requires-clause-spread g c =
-    spread c.move_away.new.flex _
-    (moved_locked c.self.inside.flex c.self.inside.rows.rows c.self.invariant.locked c.move_away.new.flex (at c.args.addr) c.args.layout c.in-Some-move_away.to
-    c.in-Some-move_away.ensures.moved _ refl)
-
--- the entries list the live payloads afterwards
-now_locked : (g : given.Over) (c : After-move_row g) → IsLocked c.move_away.new.flex c.move_row.new.self.rows
-now_locked g c =
-    moved_locked c.self.inside.flex c.self.inside.rows.rows c.self.invariant.locked c.move_away.new.flex (at c.args.addr) c.args.layout c.in-Some-move_away.to
-    c.in-Some-move_away.ensures.moved _ (replaced g c)
+pub move_row-requires-clause-place : goal.move_row-requires-clause-place
+move_row-requires-clause-place g c =
+    let moved = c.in-Some-move_away.ensures.moved in
+    has_code c.move_away.new.flex moved.stands c.self.inside.rows.space
+    (space_stays c.self.inside.flex.memory c.move_away.new.flex.memory c.self.inside.rows.space c.self.invariant.space c.move_away.ensures.memory.place)
+    (at c.in-Some-move_away.to) _ moved.live
 
 pub invariant_of-self-in_default-move_away : goal.invariant_of-self-in_default-move_away
 invariant_of-self-in_default-move_away g c =
-    listed c.self.inside.flex c.move_away.new.flex c.self.inside.rows c.self.inside.rows c.self.invariant.space c.move_away.ensures.memory.place
-    (space_same c.self.inside.rows.space)
+    listed c.self.inside.flex c.move_away.new.flex c.self.inside.rows c.self.inside.rows c.self.invariant.space c.move_away.ensures.memory.place refl
     (refused_locked c.self.inside.flex c.self.inside.rows.rows c.self.invariant.locked c.move_away.new.flex c.in_default-move_away.ensures.refused)
 
 pub invariant_of-self-2 : goal.invariant_of-self-2
 invariant_of-self-2 g c =
     listed c.self.inside.flex c.move_away.new.flex c.self.inside.rows c.move_row.new.self c.self.invariant.space c.move_away.ensures.memory.place c.move_row.ensures.space
-    (now_locked g c)
-
--- a table that is ready keeps its hints, since the new address has a place
-now_hinted : (g : given.Over) (c : After-move_row g) → IsReady c.self.inside.rows → length c.self.inside.rows.rows < 4294967296
-    → KeepsHints c.self.inside.rows c.move_row.new.self
-now_hinted g c ready few =
-    let to = c.in-Some-move_away.to in
-    let row : Row = (to, c.args.layout) in
-    let space = space_stays c.self.inside.flex c.move_away.new.flex c.self.inside.rows.space c.self.inside.rows.space c.self.invariant.space c.move_away.ensures.memory.place
-    (space_same c.self.inside.rows.space) in
-    let here : row_at (at to) c.move_row.new.self.rows ≡ Some row =
-    ap (row_at (at to)) (replaced g c) ∙ row_at-put_here row (without_row (at c.args.addr) c.self.inside.rows.rows) in
-    c.move_row.ensures.hinted ready (has_place c.move_away.new.flex c.move_row.new.self.rows c.self.inside.rows.space (now_locked g c) space (at to) row here) few
+    (moved_locked c.self.inside.flex c.self.inside.rows.rows c.self.invariant.locked c.move_away.new.flex (at c.args.addr) c.args.layout
+    c.in-Some-move_away.to c.in-Some-move_away.ensures.moved _ c.move_row.ensures.rows)
 
 -- the reference model made the step
 did_step : (g : given.Over) (c : After-move_row g)
@@ -83,11 +60,10 @@ did_step : (g : given.Over) (c : After-move_row g)
 did_step g c =
     let h = heap_of c.self.inside.flex c.self.inside.rows.rows in
     let after = heap_of c.move_away.new.flex c.move_row.new.self.rows in
-    let found = sym c.in-Some.ensures.row in
-    let row = found in
+    let row = sym c.in-Some.ensures.row in
     let keep = c.min-keep.ensures ∙ ap (λ n. min n c.allocation_usable_size.result) c.size.ensures.value ∙ ap (min c.args.layout.size) c.allocation_usable_size.ensures in
     let step =
-    subst (λ l. MovesAway h (at c.args.addr) c.min-keep.result c.args.layout (Ok c.in-Some-move_away.to) (heap_of c.move_away.new.flex l)) (sym (replaced g c))
+    subst (λ l. MovesAway h (at c.args.addr) c.min-keep.result c.args.layout (Ok c.in-Some-move_away.to) (heap_of c.move_away.new.flex l)) (sym c.move_row.ensures.rows)
     (c.in-Some-move_away.ensures.step c.self.inside.rows.rows) in
     subst (λ o. ReallocatesAt h (at c.args.addr) c.args.layout o (Ok c.in-Some-move_away.to) after) (sym row)
     (subst (λ n. MovesAway h (at c.args.addr) n c.args.layout (Ok c.in-Some-move_away.to) after) keep step)
@@ -95,7 +71,7 @@ did_step g c =
 pub returns : goal.returns
 returns g c =
     let k = (goal.at.returns g c).After-move_row in
-    let rows = replaced g k in
+    let rows = c.move_row.ensures.rows in
     let step = did_step g k in
     let moved = c.in-Some-move_away.ensures.moved in
     let before = heap_of c.self.inside.flex c.self.inside.rows.rows in
@@ -122,8 +98,7 @@ returns g c =
             (c.min-keep.ensures ∙ ap (λ n. min n c.allocation_usable_size.result) c.size.ensures.value
             ∙ ap (min c.args.layout.size) (c.allocation_usable_size.ensures ∙ ap length (sym (content_at-is before (at c.args.addr)))));
         copied_none = tt;
-        looks = λ was. omega (arith, c.get.ensures.looks was, c.move_row.ensures.looks was);
-        hinted = now_hinted g k;
+        looks = omega (arith, c.row_of.ensures.looks, c.move_row.ensures.looks);
       };
       touches = c.move_away.ensures.touches;
     })
@@ -142,8 +117,7 @@ returns-in_default g c =
         grow = omega arith;
         copied = tt;
         copied_none = refl;
-        looks = λ was. omega (arith, c.get.ensures.looks was);
-        hinted = λ _ _ was. was;
+        looks = omega (arith, c.row_of.ensures.looks);
       };
       touches = λ _. omega arith;
     })
@@ -152,8 +126,7 @@ pub returns-in_default-move_away : goal.returns-in_default-move_away
 returns-in_default-move_away g c =
     let h = heap_of c.self.inside.flex c.self.inside.rows.rows in
     let after = heap_of c.move_away.new.flex c.self.inside.rows.rows in
-    let found = sym c.in-Some.ensures.row in
-    let row = found in
+    let row = sym c.in-Some.ensures.row in
     let keep = c.min-keep.ensures ∙ ap (λ n. min n c.allocation_usable_size.result) c.size.ensures.value ∙ ap (min c.args.layout.size) c.allocation_usable_size.ensures in
     let stays = c.in_default-move_away.ensures.refused in
     rw (← c.self.view_is) (record {
@@ -161,7 +134,7 @@ returns-in_default-move_away g c =
           subst (λ o. ReallocatesAt h (at c.args.addr) c.args.layout o (Err NoRoom) after) (sym row)
           (subst (λ n. MovesAway h (at c.args.addr) n c.args.layout (Err NoRoom) after) keep (c.in_default-move_away.ensures.none c.self.inside.rows.rows));
       result = tt;
-      unknown = known c.self.inside.flex c.self.inside.rows.rows (at c.args.addr) _ found (Err NoRoom) refl;
+      unknown = known c.self.inside.flex c.self.inside.rows.rows (at c.args.addr) _ row (Err NoRoom) refl;
       refused = record { same = same_heap c.self.inside.flex c.move_away.new.flex c.self.inside.rows.rows stays.state stays.source; bytes = stays.bytes };
       unasked = tt;
       frame = record {
@@ -169,8 +142,7 @@ returns-in_default-move_away g c =
         grow = c.move_away.ensures.grow;
         copied = tt;
         copied_none = c.in_default-move_away.ensures.copied_none;
-        looks = λ was. omega (arith, c.get.ensures.looks was);
-        hinted = λ _ _ was. was;
+        looks = omega (arith, c.row_of.ensures.looks);
       };
       touches = c.move_away.ensures.touches;
     })

@@ -1,6 +1,6 @@
 use Rattle.std.proofs.Common.{rules, ◌≡◌, IsSome, Some, Ok, Err, lit<, ap, ◌∙◌, subst, sym, refl, arith}
 use Rattle.rlsf_model_global.specs.Heap.{layout_at}
-use Rattle.rlsf_global.proofs.KeptMemories.{KeepsMemory-refl, kept_alone}
+use Rattle.rlsf_global.proofs.KeptMemories.{keeps_unchanged, kept_alone}
 use Rattle.rlsf_global.proofs.MovedPayloads.{same_heap}
 use Rattle.rlsf_global.proofs.Layouts.{content_at-bytes, layout_at-moved_other, layout_at-put_here}
 use Rattle.rlsf_base.specs.Addr.{at}
@@ -8,7 +8,7 @@ use Rattle.rlsf_global.specs.Locked.{heap_of, locked_contents}
 use Rattle.rlsf_global.proofs.Checks.{same_align}
 use Rattle.rlsf_global.proofs.Kept.{kept_there}
 use Rattle.rlsf_global.proofs.Lives.{has_row, known, unknown}
-use Rattle.rlsf_global.proofs.Places.{listed, space_equal, space_same}
+use Rattle.rlsf_global.proofs.Places.{listed}
 use Rattle.rlsf_global.proofs.Placements.{live_row}
 use Rattle.rlsf_global.proofs.Resizes.{not_resized, not_resized_locked, resized, resized_locked, resizes_in, resizes_out, row_there}
 use Rattle.rlsf_global.proofs.Results.{not-false, not-true}
@@ -26,17 +26,19 @@ replaced g c =
     row_there c.self.inside.rows.rows c.replace.new.self.rows (at c.args.addr) c.in-Some-reallocate_no_move.to c.from_size_align_unchecked-wanted.result
     c.in-Some-reallocate_no_move.ensures.result.there c.replace.ensures.rows
 
+pub row_of-requires : goal.row_of-requires
+row_of-requires g c = (lit< tt, c.self.invariant.locked.lists)
+
 pub reallocate_no_move-requires : goal.reallocate_no_move-requires
 reallocate_no_move-requires g c =
-    let found = sym c.in-Some.ensures.row in
-    let row = found in
+    let row = sym c.in-Some.ensures.row in
     let aligned = same_align c.in-Some.row.1 c.args.layout (not-false _ c.if-ne.ensures) ∙ sym (c.from_size_align_unchecked-wanted.ensures.1 ∙ c.align.ensures.value) in
     (lit< tt, live_row c.self.inside.flex c.self.inside.rows.rows c.self.invariant.locked (at c.args.addr) c.in-Some.row row ∙ ap Some aligned)
 
 pub invariant_of-self-in_default-reallocate_no_move : goal.invariant_of-self-in_default-reallocate_no_move
 invariant_of-self-in_default-reallocate_no_move g c =
     let did = c.in_default-reallocate_no_move.ensures in
-    listed c.self.inside.flex c.reallocate_no_move.new.self c.self.inside.rows c.self.inside.rows c.self.invariant.space did.frame.place (space_same c.self.inside.rows.space)
+    listed c.self.inside.flex c.reallocate_no_move.new.self c.self.inside.rows c.self.inside.rows c.self.invariant.space did.frame.place refl
     (not_resized_locked c.self.inside.flex c.self.inside.rows.rows c.self.invariant.locked c.reallocate_no_move.new.self (at c.args.addr) c.from_size_align_unchecked-wanted.result
     did.frame.source did.step did.refused.same)
 
@@ -51,8 +53,7 @@ pub invariant_of-self-2 : goal.invariant_of-self-2
 invariant_of-self-2 g c =
     let did = c.in-Some-reallocate_no_move.ensures in
     let rows = replaced g c in
-    let same = space_equal c.replace.ensures.space in
-    listed c.self.inside.flex c.reallocate_no_move.new.self c.self.inside.rows c.replace.new.self c.self.invariant.space did.frame.place same
+    listed c.self.inside.flex c.reallocate_no_move.new.self c.self.inside.rows c.replace.new.self c.self.invariant.space did.frame.place c.replace.ensures.space
     (resized_locked c.self.inside.flex c.self.inside.rows.rows c.self.invariant.locked c.reallocate_no_move.new.self (at c.args.addr) c.from_size_align_unchecked-wanted.result
     did.frame.source
     c.in-Some-reallocate_no_move.to did.result.there did.step _ rows
@@ -66,8 +67,7 @@ did_step g c =
     let h = heap_of c.self.inside.flex c.self.inside.rows.rows in
     let after = heap_of c.reallocate_no_move.new.self c.replace.new.self.rows in
     let did = c.in-Some-reallocate_no_move.ensures in
-    let found = sym c.in-Some.ensures.row in
-    let row = found in
+    let row = sym c.in-Some.ensures.row in
     let wanted = c.from_size_align_unchecked-wanted in
     let step =
     resized c.self.inside.flex c.self.inside.rows.rows c.self.invariant.locked c.reallocate_no_move.new.self (at c.args.addr) wanted.result did.frame.source
@@ -109,8 +109,7 @@ returns g c =
         memory = kept_alone c.self.inside.flex c.reallocate_no_move.new.self _ c.self.invariant.locked.flex did.step did.frame.place;
         grow = did.frame.grow;
         copied = did.frame.copied;
-        looks = λ was. omega (arith, c.get.ensures.looks was, c.replace.ensures.looks was);
-        hinted = λ _ was. c.replace.ensures.hinted ∙ was;
+        looks = omega (arith, c.row_of.ensures.looks, c.replace.ensures.looks);
       };
       touches = did.touches;
     })
@@ -124,34 +123,26 @@ returns-in_default g c =
       unknown = unknown c.self.inside.flex c.self.inside.rows.rows (at c.args.addr) absent;
       refused = record { same = refl; bytes = refl };
       unasked = refl;
-      frame = record {
-        memory = KeepsMemory-refl c.self.inside.flex;
-        grow = omega arith;
-        copied = refl;
-        looks = λ was. omega (arith, c.get.ensures.looks was);
-        hinted = λ _ was. was;
-      };
+      frame =
+          keeps_unchanged c.self.inside.flex c.self.inside.rows c.self.inside.rows c.self.inside.looks.count
+          c.row_of.new.looks.count (omega (arith, c.row_of.ensures.looks));
       touches = omega arith;
     })
 
 pub returns-then-ne : goal.returns-then-ne
 returns-then-ne g c =
-    let found = sym c.in-Some.ensures.row in
+    let row = sym c.in-Some.ensures.row in
     rw (← c.self.view_is) (record {
       step =
           resizes_out (heap_of c.self.inside.flex c.self.inside.rows.rows) (at c.args.addr) c.args.layout c.args.new_size
-          c.in-Some.row (not-true _ c.if-ne.ensures) found;
+          c.in-Some.row (not-true _ c.if-ne.ensures) row;
       result = tt;
-      unknown = known c.self.inside.flex c.self.inside.rows.rows (at c.args.addr) _ found (Err WrongLayout) refl;
+      unknown = known c.self.inside.flex c.self.inside.rows.rows (at c.args.addr) _ row (Err WrongLayout) refl;
       refused = record { same = refl; bytes = refl };
       unasked = refl;
-      frame = record {
-        memory = KeepsMemory-refl c.self.inside.flex;
-        grow = omega arith;
-        copied = refl;
-        looks = λ was. omega (arith, c.get.ensures.looks was);
-        hinted = λ _ was. was;
-      };
+      frame =
+          keeps_unchanged c.self.inside.flex c.self.inside.rows c.self.inside.rows c.self.inside.looks.count
+          c.row_of.new.looks.count (omega (arith, c.row_of.ensures.looks));
       touches = omega arith;
     })
 
@@ -160,8 +151,7 @@ returns-in_default-reallocate_no_move g c =
     let h = heap_of c.self.inside.flex c.self.inside.rows.rows in
     let after = heap_of c.reallocate_no_move.new.self c.self.inside.rows.rows in
     let did = c.in_default-reallocate_no_move.ensures in
-    let found = sym c.in-Some.ensures.row in
-    let row = found in
+    let row = sym c.in-Some.ensures.row in
     let wanted = c.from_size_align_unchecked-wanted in
     let step =
     not_resized c.self.inside.flex c.self.inside.rows.rows c.self.invariant.locked c.reallocate_no_move.new.self (at c.args.addr) wanted.result did.frame.source did.step
@@ -172,7 +162,7 @@ returns-in_default-reallocate_no_move g c =
           (resizes_in h (at c.args.addr) c.args.layout c.args.new_size c.in-Some.row wanted.result (Err NoRoom) after (not-false _ c.if-ne.ensures) wanted.ensures.0
           (wanted.ensures.1 ∙ c.align.ensures.value) step);
       result = tt;
-      unknown = known c.self.inside.flex c.self.inside.rows.rows (at c.args.addr) _ found (Err NoRoom) refl;
+      unknown = known c.self.inside.flex c.self.inside.rows.rows (at c.args.addr) _ row (Err NoRoom) refl;
       refused = record {
         same = same_heap c.self.inside.flex c.reallocate_no_move.new.self c.self.inside.rows.rows did.refused.same did.frame.source;
         bytes = did.refused.bytes;
@@ -182,8 +172,7 @@ returns-in_default-reallocate_no_move g c =
         memory = kept_alone c.self.inside.flex c.reallocate_no_move.new.self _ c.self.invariant.locked.flex did.step did.frame.place;
         grow = did.frame.grow;
         copied = did.frame.copied;
-        looks = λ was. omega (arith, c.get.ensures.looks was);
-        hinted = λ _ was. was;
+        looks = omega (arith, c.row_of.ensures.looks);
       };
       touches = did.touches;
     })

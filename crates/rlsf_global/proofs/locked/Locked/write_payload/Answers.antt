@@ -7,11 +7,14 @@ use Rattle.rlsf_flex.specs.Lending.{written}
 use Rattle.rlsf_global.specs.Locked.{heap_of}
 use Rattle.rlsf_global.proofs.Checks.{writes_in, writes_out}
 use Rattle.rlsf_global.proofs.Lives.{known, unknown}
-use Rattle.rlsf_global.proofs.Places.{listed, space_same}
+use Rattle.rlsf_global.proofs.Places.{listed}
 use Rattle.rlsf_global.proofs.Placements.{filled, filled_locked, live_here}
 use Rattle.rlsf_model.specs.Run.{Fills}
 use Rattle.rlsf_model_global.specs.declared.error.GlobalError.TheVariants.{OutOfRange}
 use Rattle.rlsf_global.proofs.locked.Locked.write_payload.Goals as goal
+
+pub row_of-requires : goal.row_of-requires
+row_of-requires g c = (lit< tt, c.self.invariant.locked.lists)
 
 pub allocation_usable_size-requires : goal.allocation_usable_size-requires
 allocation_usable_size-requires g c =
@@ -26,7 +29,7 @@ invariant_of-self-2 g c =
     let did = c.payload_mut.ensures in
     let after = written c.self.inside.flex (at c.args.addr) (length c.payload_mut.result.now) w in
     let (chunks, after_place, source, place, stands, touches, copied) = did.rest w in
-    listed c.self.inside.flex after c.self.inside.rows c.self.inside.rows c.self.invariant.space place (space_same c.self.inside.rows.space)
+    listed c.self.inside.flex after c.self.inside.rows c.self.inside.rows c.self.invariant.space place refl
     (filled_locked c.self.inside.flex c.self.inside.rows.rows c.self.invariant.locked (written c.self.inside.flex (at c.args.addr) (length c.payload_mut.result.now) w)
     (at c.args.addr) w
     (did.meaning w c.write_at.ensures.len) refl
@@ -43,8 +46,7 @@ returns-in_default g c = rw (← c.self.view_is) (record {
     memory = KeepsMemory-refl c.self.inside.flex;
     grow = omega arith;
     copied = refl;
-    looks = c.get.ensures.looks;
-    hinted = λ was. was;
+    looks = omega (arith, c.row_of.ensures.looks);
   };
   touches = omega arith;
 })
@@ -64,8 +66,7 @@ returns-then-not-fits g c = rw (← c.self.view_is) (record {
     memory = KeepsMemory-refl c.self.inside.flex;
     grow = omega arith;
     copied = refl;
-    looks = c.get.ensures.looks;
-    hinted = λ was. was;
+    looks = omega (arith, c.row_of.ensures.looks);
   };
   touches = omega arith;
 })
@@ -111,8 +112,7 @@ returns g c = rw (← c.self.view_is) (record {
         memory = kept_alone c.self.inside.flex written_flex _ c.self.invariant.locked.flex (did.meaning w c.write_at.ensures.len) place;
         grow = search rules;
         copied = copied;
-        looks = c.get.ensures.looks;
-        hinted = λ was. was;
+        looks = omega (arith, c.row_of.ensures.looks);
       });
   touches = (
       let (chunks, after, source, place, stands, touches, copied) = c.payload_mut.ensures.rest c.write_at.new.payload in

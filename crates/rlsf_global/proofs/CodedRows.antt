@@ -1,0 +1,290 @@
+-- Codes and their entries.
+use Rattle.std.proofs.Common.{◌≡◌, ◌≢◌, ◌⊎◌, ℕ, suc, ◌+◌, ◌*◌, ◌^◌, ◌-◌, ◌/◌, ◌%◌, ◌<◌, ◌≤◌, ◌==◌, nat_lt, not}
+use Rattle.std.proofs.Common.{Bool, true, false, true≢false, List, [], ◌∷◌, get_or, length, Option, Some, None, IsSome}
+use Rattle.std.proofs.Common.{if◌then◌else◌, arith, refl, sym, ap, subst, inl, inr, ◌∙◌}
+use Rattle.std.proofs.lemmas.Bool.{cases_eq}
+use Rattle.std.proofs.lemmas.Bool.Decides.{eqb_tells, leb_tells, nat_tests}
+use Rattle.std.proofs.lemmas.List.{get_or_past}
+use Rattle.rlsf_global.specs.LiveRows.{AreAddresses, AreCoded, CodeSpace, HasPlace, IsKept, code_at, code_in, code_of, code_space, codes_for}
+use Rattle.rlsf_global.specs.declared.live_table.codes.Codes.{Codes}
+use Rattle.rlsf_model.specs.Lists.{IsIn}
+use Rattle.rlsf_model_global.proofs.Maps.{row_at-put_here, row_at-put_other, row_at-without_here, row_at-without_other}
+use Rattle.rlsf_model_global.proofs.Rows.{IsIn-put, IsIn-without_row, absent-row_at, put-sorted, without_row-sorted}
+use Rattle.rlsf_model_global.specs.Rows.{IsSorted, Row, key, put, row_at, without_row}
+
+pub clash : {X : Type 0} → true ≡ false → X
+clash e = absurd (true≢false e)
+
+pub clash' : {X : Type 0} → false ≡ true → X
+clash' e = absurd (true≢false (sym e))
+
+-- ---- the entry of an address
+
+pub row_at-in : (a : ℕ) (rows : List Row) (r : Row) → row_at a rows ≡ Some r → IsIn r rows × (key r ≡ a)
+row_at-in a [] r e = cc
+row_at-in a (x ∷ rows) r e = by (key x == a) (eqb_tells (key x) a) (row_at-in a rows r) e
+  where
+    by : (eq : Bool) → ((eq ≡ true) × (key x ≡ a)) ⊎ ((eq ≡ false) × (key x ≢ a)) → (row_at a rows ≡ Some r → IsIn r rows × (key r ≡ a))
+        → (if eq then Some x else row_at a rows) ≡ Some r → IsIn r (x ∷ rows) × (key r ≡ a)
+    by true (inl (_, here)) rest e = let same : r ≡ x = cc in (inl same, ap key same ∙ here)
+    by true (inr (off, _)) rest e = clash off
+    by false t rest e = let found = rest e in (inr found.0, found.1)
+
+pub row_at-of : (rows : List Row) (r : Row) → IsSorted rows → IsIn r rows → row_at (key r) rows ≡ Some r
+row_at-of [] r s i = absurd i
+row_at-of (x ∷ rows) r s i = by (key x == key r) (eqb_tells (key x) (key r)) i (row_at-of rows r s.1)
+  where
+    by : (eq : Bool) → ((eq ≡ true) × (key x ≡ key r)) ⊎ ((eq ≡ false) × (key x ≢ key r)) → IsIn r (x ∷ rows)
+        → (IsIn r rows → row_at (key r) rows ≡ Some r) → (if eq then Some x else row_at (key r) rows) ≡ Some r
+    by true t (inl same) rest = ap Some (sym same)
+    by true (inl (_, same)) (inr i) rest = let above = s.0 r i in absurd (omega (arith, above, same))
+    by true (inr (off, _)) (inr i) rest = clash off
+    by false (inl (off, _)) (inl same) rest = clash' off
+    by false (inr (_, differs)) (inl same) rest = absurd (differs (sym (ap key same)))
+    by false t (inr i) rest = rest i
+
+-- ---- the code of an address
+
+-- an address with a code has a place
+pub has_place : (c : Codes) (a : ℕ) → code_at c a ≢ 0 → HasPlace c a
+has_place c a some =
+    let past = get_or_past c.codes.items (a / 16 - c.first) 0 in
+    (grind (arith, nat_tests), grind (arith, nat_tests), grind (arith, nat_tests, past))
+
+-- the code at a place
+pub code_at-place : (c : Codes) (a place : ℕ) → a ≡ (c.first + place) * 16 → code_at c a ≡ get_or c.codes.items place 0
+code_at-place c a place is =
+    let whole : a % 16 ≡ 0 = omega arith in
+    let quotient : a / 16 ≡ c.first + place = omega arith in
+    let there : a / 16 - c.first ≡ place = omega arith in
+    let low : c.first ≤ a / 16 = omega arith in
+    subst (λ n. code_at c a ≡ get_or c.codes.items n 0) there (grind (arith, nat_tests))
+
+code_in-some : (o : Option Row) → IsSome o → code_in o ≢ 0
+code_in-some None some = cc
+code_in-some (Some r) some = λ none. omega (arith, none)
+
+-- no entry is where no code is
+pub code_in-none : (o : Option Row) → code_in o ≡ 0 → o ≡ None
+code_in-none None e = refl
+code_in-none (Some r) e = absurd (omega (arith, e))
+
+pub coded-place : (c : Codes) (rows : List Row) → AreCoded c rows → (a : ℕ) → IsSome (row_at a rows) → HasPlace c a
+unfolding AreCoded
+coded-place c rows coded a some = has_place c a (λ none. code_in-some (row_at a rows) some (sym (coded a) ∙ none))
+
+pub coded-none : (c : Codes) → length c.codes.items ≡ 0 → AreCoded c []
+unfolding AreCoded
+coded-none c none a = let past = get_or_past c.codes.items (a / 16 - c.first) 0 in grind (arith, nat_tests, past)
+
+pub coded-at : (c : Codes) (rows : List Row) → AreCoded c rows → (a : ℕ) → code_at c a ≡ code_in (row_at a rows)
+unfolding AreCoded
+coded-at c rows coded = coded
+
+module _ (c e : Codes) (rows : List Row) (coded : AreCoded c rows) where
+  pub coded-same : ((a : ℕ) → code_at e a ≡ code_at c a) → AreCoded e rows
+  unfolding AreCoded
+  coded-same same a = same a ∙ coded a
+
+  pub coded-put : (row : Row) → code_at e (key row) ≡ code_of row.1 → ((a : ℕ) → a ≢ key row → code_at e a ≡ code_at c a) → AreCoded e (put row rows)
+  unfolding AreCoded
+  coded-put row here others a = elim (cases_eq a (key row)) [
+    | inl same ↦ ap (code_at e) same ∙ here ∙ ap code_in (sym (ap (λ b. row_at b (put row rows)) same ∙ row_at-put_here row rows))
+    | inr other ↦ others a other ∙ coded a ∙ ap code_in (sym (row_at-put_other row rows a other))
+  ]
+
+  pub coded-without : (addr : ℕ) → code_at e addr ≡ 0 → ((a : ℕ) → a ≢ addr → code_at e a ≡ code_at c a) → AreCoded e (without_row addr rows)
+  unfolding AreCoded
+  coded-without addr here others a = elim (cases_eq a addr) [
+    | inl same ↦ ap (code_at e) same ∙ here ∙ ap code_in (sym (ap (λ b. row_at b (without_row addr rows)) same ∙ row_at-without_here addr rows))
+    | inr other ↦ others a other ∙ coded a ∙ ap code_in (sym (row_at-without_other addr rows a other))
+  ]
+
+  pub coded-replaced : (row : Row) → code_at e (key row) ≡ code_of row.1 → ((a : ℕ) → a ≢ key row → code_at e a ≡ code_at c a)
+      → AreCoded e (put row (without_row (key row) rows))
+  unfolding AreCoded
+  coded-replaced row here others a = elim (cases_eq a (key row)) [
+    | inl same ↦ ap (code_at e) same ∙ here
+        ∙ ap code_in (sym (ap (λ b. row_at b (put row (without_row (key row) rows))) same ∙ row_at-put_here row (without_row (key row) rows)))
+    | inr other ↦ others a other ∙ coded a
+        ∙ ap code_in (sym (row_at-put_other row (without_row (key row) rows) a other ∙ row_at-without_other (key row) rows a other))
+  ]
+
+-- ---- how many entries there are
+
+pub length-put : (row : Row) (rows : List Row) → row_at (key row) rows ≡ None → length (put row rows) ≡ length rows + 1
+length-put row [] none = refl
+length-put row (r ∷ rows) none = by (nat_lt (key r) (key row)) (key r == key row) (length-put row rows) none
+  where
+    by : (lt eq : Bool) → (row_at (key row) rows ≡ None → length (put row rows) ≡ length rows + 1) → (if eq then Some r else row_at (key row) rows) ≡ None
+        → length (if lt then r ∷ put row rows else if eq then row ∷ rows else row ∷ r ∷ rows) ≡ suc (length rows) + 1
+    by lt true rest e = cc
+    by true false rest e = let h = rest e in omega (arith, h)
+    by false false rest e = omega arith
+
+without-absent : (a : ℕ) (rows : List Row) → ((r : Row) → IsIn r rows → key r ≢ a) → without_row a rows ≡ rows
+without-absent a [] n = refl
+without-absent a (r ∷ rows) n = by (key r == a) (eqb_tells (key r) a) (without-absent a rows (λ x i. n x (inr i)))
+  where
+    by : (eq : Bool) → ((eq ≡ true) × (key r ≡ a)) ⊎ ((eq ≡ false) × (key r ≢ a)) → without_row a rows ≡ rows
+        → (if not eq then r ∷ without_row a rows else without_row a rows) ≡ r ∷ rows
+    by true (inl (_, same)) rest = absurd (n r (inl refl) same)
+    by true (inr (off, _)) rest = clash off
+    by false t rest = ap (λ xs. r ∷ xs) rest
+
+pub length-without : (a : ℕ) (rows : List Row) → IsSorted rows → IsSome (row_at a rows) → length (without_row a rows) + 1 ≡ length rows
+length-without a [] s some = cc
+length-without a (r ∷ rows) s some = by (key r == a) (eqb_tells (key r) a) (length-without a rows s.1) some
+  where
+    by : (eq : Bool) → ((eq ≡ true) × (key r ≡ a)) ⊎ ((eq ≡ false) × (key r ≢ a)) → (IsSome (row_at a rows) → length (without_row a rows) + 1 ≡ length rows)
+        → IsSome (if eq then Some r else row_at a rows) → length (if not eq then r ∷ without_row a rows else without_row a rows) + 1 ≡ suc (length rows)
+    by true (inl (_, same)) rest some =
+        let e = ap length (without-absent a rows (λ x i here. let above = s.0 x i in omega (arith, above, same, here))) in omega (arith, e)
+    by true (inr (off, _)) rest some = clash off
+    by false t rest some = let e = rest some in omega (arith, e)
+
+-- ---- their order and their addresses
+
+pub sorted-put : (row : Row) (rows : List Row) → IsSorted rows → row_at (key row) rows ≡ None → IsSorted (put row rows)
+sorted-put row rows sorted none = put-sorted row rows sorted (absent-row_at (key row) rows none)
+
+pub sorted-replaced : (row : Row) (rows : List Row) → IsSorted rows → IsSorted (put row (without_row (key row) rows))
+sorted-replaced row rows sorted =
+    sorted-put row (without_row (key row) rows) (without_row-sorted (key row) rows sorted) (row_at-without_here (key row) rows)
+
+pub length-replaced : (row : Row) (rows : List Row) → IsSorted rows → IsSome (row_at (key row) rows)
+    → length (put row (without_row (key row) rows)) ≡ length rows
+length-replaced row rows sorted some =
+    length-put row (without_row (key row) rows) (row_at-without_here (key row) rows) ∙ length-without (key row) rows sorted some
+
+pub addresses-none : AreAddresses []
+unfolding AreAddresses
+addresses-none r i = absurd i
+
+pub addresses-put : (row : Row) (rows : List Row) → key row < 2 ^ 64 → AreAddresses rows → AreAddresses (put row rows)
+unfolding AreAddresses
+addresses-put row rows fits all r i = elim (IsIn-put r row rows i) [ inl e ↦ subst (λ x. key x < 2 ^ 64) (sym e) fits | inr j ↦ all r j ]
+
+pub addresses-without : (a : ℕ) (rows : List Row) → AreAddresses rows → AreAddresses (without_row a rows)
+unfolding AreAddresses
+addresses-without a rows all r i = all r (IsIn-without_row r a rows i).0
+
+pub address-fits : (a : ℕ) (rows : List Row) → AreAddresses rows → (r : Row) → row_at a rows ≡ Some r → a < 2 ^ 64
+unfolding AreAddresses
+address-fits a rows all r e = let found = row_at-in a rows r e in subst (λ n. n < 2 ^ 64) found.1 (all r found.0)
+
+-- ---- what is true of a table
+
+-- a table without entries
+pub kept-none : (c e : Codes) (start len : ℕ) → start < 2 ^ 64 → len < 2 ^ 64 → length c.codes.items ≡ 0 → code_space c ≡ codes_for start len
+    → ((a : ℕ) → code_at e a ≡ code_at c a) → (0 < length e.codes.items → length e.codes.items ≡ e.count) → code_space e ≡ code_space c
+    → (rows listed : List Row) (cap : ℕ) → rows ≡ [] → listed ≡ [] → IsKept e rows 0 0 listed cap
+kept-none c e start len small short none space same all stays rows listed cap is empty =
+    let now = stays ∙ space in
+    let first : e.first ≡ start / 16 = ap (λ (s : CodeSpace). s.first) now in
+    let count : e.count ≡ len / 16 + 2 = ap (λ (s : CodeSpace). s.count) now in
+    subst (λ xs. IsKept e xs 0 0 listed cap) (sym is) (record {
+      coded = coded-same c e [] (coded-none c none) same;
+      sorted = tt;
+      addresses = addresses-none;
+      counted = refl;
+      within = omega arith;
+      room = omega arith;
+      none = empty;
+      ready = λ some. absurd (omega (arith, some));
+      all = all;
+      narrow = omega (arith, first, count, small, short);
+    })
+
+module _ (c e : Codes) (rows : List Row) (live limit : ℕ) (listed : List Row) (cap : ℕ) (kept : IsKept c rows live limit listed cap)
+    (space : code_space e ≡ code_space c) where
+  first_same : e.first ≡ c.first
+  first_same = ap (λ (s : CodeSpace). s.first) space
+
+  count_same : e.count ≡ c.count
+  count_same = ap (λ (s : CodeSpace). s.count) space
+
+  -- codes were made if there were none
+  pub kept-filled : ((a : ℕ) → code_at e a ≡ code_at c a) → length c.codes.items ≤ length e.codes.items
+      → (0 < length e.codes.items → length e.codes.items ≡ e.count) → IsKept e rows live limit listed cap
+  kept-filled same more all = record {
+    coded = coded-same c e rows kept.coded same;
+    sorted = kept.sorted;
+    addresses = kept.addresses;
+    counted = kept.counted;
+    within = kept.within;
+    room = kept.room;
+    none = kept.none;
+    ready = λ some. let was = kept.ready some in elim (leb_tells 1 (length e.codes.items)) [
+      | inl there ↦ all there.1
+      | inr none ↦ omega (arith, none.1, was, more, count_same)
+    ];
+    all = all;
+    narrow = let was = kept.narrow in omega (arith, was, first_same, count_same);
+  }
+
+  -- and there is more room
+  pub kept-longer : ((a : ℕ) → code_at e a ≡ code_at c a) → length e.codes.items ≡ c.count → (more : ℕ) (empty : List Row) (cap' : ℕ) → limit ≤ more
+      → more ≤ cap' → empty ≡ [] → IsKept e rows live more empty cap'
+  kept-longer same there more empty cap' longer room none = record {
+    coded = coded-same c e rows kept.coded same;
+    sorted = kept.sorted;
+    addresses = kept.addresses;
+    counted = kept.counted;
+    within = let was = kept.within in omega (arith, was, longer);
+    room = room;
+    none = none;
+    ready = λ some. there ∙ sym count_same;
+    all = λ some. there ∙ sym count_same;
+    narrow = let was = kept.narrow in omega (arith, was, first_same, count_same);
+  }
+
+  -- the code of one address was set
+  module _ (n code : ℕ) (here : code_at e n ≡ code) (others : (a : ℕ) → a ≢ n → code_at e a ≡ code_at c a)
+      (len : length e.codes.items ≡ length c.codes.items) where
+    with_rows : (after : List Row) (live' : ℕ) → AreCoded e after → IsSorted after → AreAddresses after → live' ≡ length after → live' ≤ limit
+        → IsKept e after live' limit listed cap
+    with_rows after live' coded sorted addresses counted within = record {
+      coded = coded;
+      sorted = sorted;
+      addresses = addresses;
+      counted = counted;
+      within = within;
+      room = kept.room;
+      none = kept.none;
+      ready = λ some. len ∙ kept.ready some ∙ sym count_same;
+      all = λ some. len ∙ kept.all (subst (λ k. 0 < k) len some) ∙ sym count_same;
+      narrow = let was = kept.narrow in omega (arith, was, first_same, count_same);
+    }
+
+    pub kept-put : (row : Row) → n ≡ key row → code ≡ code_of row.1 → row_at (key row) rows ≡ None → key row < 2 ^ 64 → live < limit → (after : List Row)
+        → after ≡ put row rows → IsKept e after (live + 1) limit listed cap
+    kept-put row is made fresh fits room after e' =
+        let now : code_at e (key row) ≡ code_of row.1 = subst (λ m. code_at e m ≡ code_of row.1) is (here ∙ made) in
+        let longer = length-put row rows fresh in
+        let count = kept.counted in
+        subst (λ xs. IsKept e xs (live + 1) limit listed cap) (sym e') (with_rows (put row rows) (live + 1)
+        (coded-put c e rows kept.coded row now (subst (λ m. (a : ℕ) → a ≢ m → code_at e a ≡ code_at c a) is others))
+        (sorted-put row rows kept.sorted fresh) (addresses-put row rows fits kept.addresses) (omega (arith, longer, count)) (omega (arith, room)))
+
+    pub kept-without : (addr : ℕ) → n ≡ addr → code ≡ 0 → IsSome (row_at addr rows) → (after : List Row) → after ≡ without_row addr rows
+        → IsKept e after (live - 1) limit listed cap
+    kept-without addr is zero some after e' =
+        let now : code_at e addr ≡ 0 = subst (λ m. code_at e m ≡ 0) is (here ∙ zero) in
+        let shorter = length-without addr rows kept.sorted some in
+        let count = kept.counted in
+        let within = kept.within in
+        subst (λ xs. IsKept e xs (live - 1) limit listed cap) (sym e') (with_rows (without_row addr rows) (live - 1)
+        (coded-without c e rows kept.coded addr now (subst (λ m. (a : ℕ) → a ≢ m → code_at e a ≡ code_at c a) is others))
+        (without_row-sorted addr rows kept.sorted) (addresses-without addr rows kept.addresses) (omega (arith, shorter, count)) (omega (arith, within)))
+
+    pub kept-replaced : (row : Row) → n ≡ key row → code ≡ code_of row.1 → IsSome (row_at (key row) rows) → key row < 2 ^ 64 → (after : List Row)
+        → after ≡ put row (without_row (key row) rows) → IsKept e after live limit listed cap
+    kept-replaced row is made some fits after e' =
+        let now : code_at e (key row) ≡ code_of row.1 = subst (λ m. code_at e m ≡ code_of row.1) is (here ∙ made) in
+        let same = length-replaced row rows kept.sorted some in
+        let rest = without_row (key row) rows in
+        subst (λ xs. IsKept e xs live limit listed cap) (sym e') (with_rows (put row rest) live
+        (coded-replaced c e rows kept.coded row now (subst (λ m. (a : ℕ) → a ≢ m → code_at e a ≡ code_at c a) is others))
+        (sorted-replaced row rows kept.sorted) (addresses-put row rest fits (addresses-without (key row) rows kept.addresses))
+        (kept.counted ∙ sym same) kept.within)

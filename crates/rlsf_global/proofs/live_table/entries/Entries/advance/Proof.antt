@@ -1,0 +1,61 @@
+-- Shows that `advance` replaces the entries, which is ghost data that nothing in memory is tied to. Assumes `Logic`.
+use Rattle.std.proofs.Common.{List, [], ◌∷◌, refl, w64}
+use mir.Syntax.{named}
+use mir.Val.{Val, vunit}
+use base.Fml.{ftrue, flft}
+use types.Kit.{‵, ◌⊛◌, ◌$◌, ◌∵◌, !, qed, move, keep, split, join, suffices, frame, fsplit, fsplit3, fjoin, fjoin3, feq_i, done}
+use types.Run.{unit_lit, of_opd, returns, enter}
+use types.ByLocal.{alloc_all, pass_all, free_all, look_at, sets}
+use denote.RattleType.{owns}
+use denote.Ref.{mut_vals, mut_Tells}
+use denote.Plain.{uint_vals, uint_Tells}
+use denote.Builtin.{usize}
+use denote.Signature.{plain, types_at}
+use denote.Steps.{nothing, opens, closes}
+use denote.Triple.Walked.{says, Stays, stay_ref, stay_dropped, walk_of, Goes-ref, Goes-dropped, ends_at}
+use Rattle.std.proofs.raw_atomic.Walks.{proved}
+use Rattle.rlsf_global.specs.contracts.live_table.entries.Entries as entries
+use Rattle.rlsf_global.specs.contracts.live_table.entries.Entries.advance as f
+use Rattle.rlsf_global.proofs.live_table.entries.Entries.advance.Statement.{statement}
+use Rattle.rlsf_global.proofs.live_table.entries.Entries.advance.Code as code
+
+abbrev stayed : Stays f.ended.signature.params f.ended.kept
+stayed = (
+  stay_ref (0 ∷ []) tt (plain (λ _. entries.the_row)),
+  (
+    stay_dropped (plain (λ _. usize)) f.ended.kept.1.0,
+    (stay_dropped (plain (λ _. usize)) f.ended.kept.1.1.0, (stay_dropped (plain (λ _. usize)) f.ended.kept.1.1.1.0, tt)),
+  ),
+)
+
+pub advance_spec : {M : Type 1} → statement M
+advance_spec 𝓤 𝓛 𝓜 𝓡 wired =
+    let c = f.clauses 𝓛 𝓜.mem 𝓡.returns in let W = walk_of 𝓛 f.ended stayed c in
+    proved 𝓛 f.ended stayed c 𝓜 𝓡 (
+      Goes-ref 𝓛 1 0 tt (plain (λ _. entries.the_row)),
+      (
+        Goes-dropped 𝓛 1 (plain (λ _. usize)) f.ended.kept.1.0 (λ κs x w. refl),
+        (
+          Goes-dropped 𝓛 1 (plain (λ _. usize)) f.ended.kept.1.1.0 (λ κs x w. refl),
+          (Goes-dropped 𝓛 1 (plain (λ _. usize)) f.ended.kept.1.1.1.0 (λ κs x w. refl), tt),
+        ),
+      ),
+    )
+    f.Key.name code.function (code.unfolded 𝓤 𝓛.H 𝓜 𝓡 wired)
+    (λ κs. (mut_vals, (uint_vals w64, (uint_vals w64, (uint_vals w64, tt)))))
+    (λ κs. (mut_Tells (named 0) κs.0 entries.the_row, (uint_Tells w64, (uint_Tells w64, (uint_Tells w64, tt))))) (λ κs qs bounds a g are.
+    let b = a.0.ref_ptr.0 in let o = a.0.ref_ptr.1 in let d = a.0.now in
+    let vss : List Val × (List Val × (List Val × (List Val × Unit {0}))) = (mut_vals a.0, (uint_vals w64 a.1.0, (uint_vals w64 a.1.1.0, (uint_vals w64 a.1.1.1.0, tt)))) in
+    let y : W.Ghost = ((κs, qs, bounds, a, vss), g) in
+    let new : (entries.the_row).Denot = record { rows = g a.1.0 a.1.1.0 a.1.1.1.0 d.rows } in
+    qed 𝓛 (((‵ (flft κs.0 qs.0) ⊛ ‵ ftrue) ⊛ ‵ (owns (types_at f.signature.params κs) a vss)) ∷ ‵ ftrue ∷ []) ∵
+    split ! $ split ! $ move ! (2 ∷ []) $ fsplit ! $ keep ! (0 ∷ 2 ∷ []) $
+    enter ! _ _ _ _ _ $ alloc_all !
+    (λ l. pass_all ! refl ((tt, tt), ((tt, record { fits = are.1.0.1 }), ((tt, record { fits = are.1.1.0.1 }), ((tt, record { fits = are.1.1.1.0.1 }), tt)))) $
+    fsplit3 ! $ move ! (1 ∷ 2 ∷ 3 ∷ []) $ opens ! tt entries.the_row b o (λ us. closes ! tt entries.the_row new us b o $
+    sets ! (of_opd ! (unit_lit !)) refl (tt, tt) $
+    returns ! (look_at ! 0 refl) $ free_all ! refl $ keep ! (0 ∷ 1 ∷ 2 ∷ 3 ∷ []) $ feq_i ! (List Val) (vunit ∷ []) (vunit ∷ []) refl $ move !
+    (1 ∷ 2 ∷ 3 ∷ 0 ∷ 4 ∷ []) $
+    suffices ! _ (ends_at 𝓛 f.ended stayed c y vunit tt (new, (tt, (tt, (tt, tt)))) (tt, (tt, (tt, (tt, tt))))) $ says ! refl $
+    nothing ! $ move ! (3 ∷ 0 ∷ []) $ join ! $ frame ! $ move ! (3 ∷ 0 ∷ 1 ∷ []) $ fjoin3 ! $ nothing ! $ nothing ! $ fjoin ! $ nothing ! $ fjoin ! $ nothing ! $ fjoin !
+    $ move ! (1 ∷ 0 ∷ []) $ fjoin ! $ done !)))
