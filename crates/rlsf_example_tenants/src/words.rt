@@ -31,7 +31,7 @@ fn in_heap(alloc: Global, text: &str) -> Option<u64> {
     count(&heap, text).ok()?.get("the").copied()
 }
 
-/// Counts in a tenant, which has 8,176 bytes of a pool. Also returns whether the tenant ended, so that the pool has the bytes again.
+/// Counts in a tenant, which has 8,176 bytes of a pool. Also returns whether the tenant ended: then the pool has the bytes again.
 fn in_tenant(alloc: Global, text: &str) -> Option<(u64, bool)> {
     let memory = OpenMemory::reserve(alloc, 4096, 16384).ok()?;
     let mut pool = Small::new(memory);
