@@ -8,7 +8,7 @@ use Rattle.rlsf_base.specs.Sizes.{request_size}
 use Rattle.rlsf_base.specs.Space.{Space, bytes_in, with_bytes}
 use Rattle.rlsf_base.specs.OpenSpace.{IsHere, IsOwned, SameOwn, StaysHere, out_with}
 use Rattle.rlsf_base.proofs.Lending.Copied.{out_at-copied, out_at-there, here-copied, is_own-copied}
-use Rattle.rlsf_base.proofs.Lending.Present.{own-inside, own-there}
+use Rattle.rlsf_base.proofs.Lending.Present.{own-here, own-inside, own-there}
 use Rattle.rlsf_base.proofs.Lending.Replaced.{length-with, bytes_in-with, bytes_in-there}
 use Rattle.rlsf_model.specs.Allocate.{given, placed, Places}
 use Rattle.rlsf_model.specs.Lists.{IsIn}
@@ -87,9 +87,8 @@ module _ {fllen sllen : ℕ} {memory : Range} {m : Space} {table : Table} {s t :
     pub stands : StandsFor fllen sllen (contents n table) (both bytes)
     pub spare : KeepsSpare m t n (both bytes)
 
-  module _ {r : Range} (is : r ≡ usable u) (n : Space) (start : n.start ≡ m.start) (copied : n.bytes ≡ with_bytes m addr (bytes_in m r))
-      (out : n.out ≡ out_with m (range_at addr r.len))
-      (own : IsOwned m (range_at addr (usable u).len)) where
+  module _ (l : Space) (old : Table) (first : StandsFor fllen sllen (contents l old) s) (stays : SameOwn l m) {r : Range} (is : r ≡ usable u) (n : Space) (start : n.start ≡ m.start) (copied : n.bytes ≡ with_bytes m addr (bytes_in m r))
+      (out : n.out ≡ out_with m (range_at addr r.len)) where
     abbrev target : Range
     target = range_at addr (usable u).len
 
@@ -143,7 +142,7 @@ module _ {fllen sllen : ℕ} {memory : Range} {m : Space} {table : Table} {s t :
             stands = subst (StandsFor fllen sllen (contents n table)) is_both stands;
             spare = subst (KeepsSpare m t n) is_both spare;
             place = (start, IsSameOutside-copied.length);
-            own = is_own-copied m n (usable u) addr LiesIn-old LiesIn-new start copied_there out_there own;
+            own = is_own-copied m n (usable u) addr LiesIn-old LiesIn-new start copied_there out_there (IsOwned-new l old first stays);
             here = here-copied m n (usable u) addr LiesIn-old LiesIn-new start copied_there out_there;
             there = out_at-there m n (usable u) addr LiesIn-old LiesIn-new start copied_there out_there;
           },
@@ -151,6 +150,9 @@ module _ {fllen sllen : ℕ} {memory : Range} {m : Space} {table : Table} {s t :
 
   -- and then the old block was deallocated
   module _ {n : Space} {bytes : List ℕ} (is : IsCopied n bytes) where
+    pub IsOwned-old : IsHere m (usable u) → IsOwned n (usable u)
+    IsOwned-old here = own-there m n (usable u) (omega (arith, LiesIn-old)) is.own (own-here m (usable u) here)
+
     pub MovesAway-copied : MovesAway sllen s u size addr (released (both bytes) u)
     MovesAway-copied = record {
       meanwhile = both bytes;

@@ -1,26 +1,27 @@
 -- A used block moves into the free block before it: what is computed on the way is as the reference model's plan has it.
-use Rattle.std.proofs.Common.{◌≡◌, ℕ, ◌+◌, ◌-◌, ◌%◌, ◌^◌, ◌≤◌, ◌<◌, List, Some, None, [], length, arith, sym, ◌∙◌, ap, subst}
+use Rattle.std.proofs.Common.{◌≡◌, ℕ, ◌+◌, ◌-◌, ◌%◌, ◌^◌, ◌≤◌, ◌<◌, List, None, length, arith, sym, ◌∙◌, ap, subst}
 use mathlib.Core.Path.{ap₂}
 use Rattle.rlsf_base.specs.declared.memory.range.Range.{Range}
 use Rattle.rlsf_base.specs.Range.{end_of, LiesIn, range_at}
-use Rattle.rlsf_base.specs.Space.{Space, bytes_in, with_bytes, word_range}
-use Rattle.rlsf_base.specs.OpenSpace.{IsHere, IsOwned, IsWritable, SameOwn, out_with}
+use Rattle.rlsf_base.specs.Space.{Space, bytes_in, with_bytes, with_word, word_range}
+use Rattle.rlsf_base.specs.OpenSpace.{IsHere, IsOwned, IsWritable, out_with}
 use Rattle.rlsf_base.proofs.Lending.Copied.{out_at-there}
 use Rattle.rlsf_base.proofs.Lending.Present.{own-here, own-inside, own-there, own-word}
 use Rattle.rlsf_model.specs.Join.{ends_at, start_or}
 use Rattle.rlsf_model.specs.Lists.{IsIn, without}
 use Rattle.rlsf_model.specs.Payload.{block_length, payload_of}
-use Rattle.rlsf_model.specs.Reallocate.{Plan, in_place, into_previous}
+use Rattle.rlsf_model.specs.Reallocate.{in_place, into_previous}
 use Rattle.rlsf_model.specs.State.{State, Used, usable}
 use Rattle.rlsf_blocks.specs.StandsFor.{contents, StandsFor}
 use Rattle.rlsf_blocks.specs.Steps.Join.{IsNextOut, IsPreviousOut, union, untouched}
 use Rattle.rlsf_blocks.specs.Steps.Previous.{FitsBefore, IsUsedBlock}
-use Rattle.rlsf_blocks.specs.Steps.Resize.{IsCarriedOut, IsOccupied, IsSpanRoom, IsUsedAt}
+use Rattle.rlsf_blocks.specs.Steps.Resize.{IsOccupied, IsPlanned, IsSpanRoom, IsUsedAt}
 use Rattle.rlsf_blocks.specs.Steps.Rest.{IsInnerRoom}
 use Rattle.rlsf_table.specs.Table.{Table}
 use Rattle.rlsf_blocks.proofs.Deallocate.Releases.{before_at, behind_at, gone, IsInnerRoom-union, start_before, union_len, union_start}
-use Rattle.rlsf_table.proofs.Words.Writes.{Writes}
-use Rattle.rlsf_blocks.proofs.Words.Stays.{Stays, Stays-rewrites, Stays-then}
+use Rattle.rlsf_table.proofs.Words.Writes.{Writes, Writes-some}
+use Rattle.rlsf_blocks.proofs.RepresentedStates.Counted.{KeepsSpare-counted_first}
+use Rattle.rlsf_blocks.proofs.Words.Stays.{Stays, Stays-rewrites, Stays-same, Stays-then}
 use Rattle.rlsf_blocks.proofs.Reallocate.Occupied.{IsSpanRoom-inner}
 use Rattle.rlsf_blocks.proofs.Reallocate.Copies.{IsCopied, IsInnerRoom-copied, LiesIn-copied, Rewrites-copied}
 use Rattle.rlsf_blocks.proofs.Reallocate.Moves.{IsSpan, span, payload_here, payload_placed, IsCarriedOut-moved}
@@ -31,8 +32,9 @@ pub IsUsedBlock-from : {s : State} {u : Used} {block end payload align : ℕ} �
 IsUsedBlock-from is end = record { is_used = is.is_used; start = is.start; end_is = end; alignment = is.alignment }
 
 -- the payload of the used block from `block` to `end` fits before it, and its free neighbours are taken out
-pub record AreOut (fllen sllen : ℕ) (m : Space) (t : Table) (s : State) (u : Used) (block end payload align size to taken : ℕ) (m1 m2 : Space) (t1 t2 : Table)
+pub record AreOut (fllen sllen : ℕ) (first m : Space) (t : Table) (s : State) (u : Used) (block end payload align size to taken : ℕ) (m1 m2 : Space) (t1 t2 : Table)
     (start next : ℕ) : Type 0 where
+  pub counts : (m.start ≡ first.start) × (m.bytes ≡ first.bytes) × (m.out ≡ first.out)
   pub stands : StandsFor fllen sllen (contents m t) s
   pub used : IsUsedAt s u block payload align
   pub is_end : end_of u.block ≡ end
@@ -42,8 +44,8 @@ pub record AreOut (fllen sllen : ℕ) (m : Space) (t : Table) (s : State) (u : U
   pub out : IsPreviousOut fllen sllen m m1 t1 s.free block start
   pub more : IsNextOut fllen sllen m1 m2 t2 (without (ends_at block) s.free) end next
 
-module _ {fllen sllen : ℕ} {m : Space} {t : Table} {s : State} {u : Used} {block end payload align size to taken : ℕ} {m1 m2 : Space} {t1 t2 : Table} {start next : ℕ}
-    (are : AreOut fllen sllen m t s u block end payload align size to taken m1 m2 t1 t2 start next) where
+module _ {fllen sllen : ℕ} {first m : Space} {t : Table} {s : State} {u : Used} {block end payload align size to taken : ℕ} {m1 m2 : Space} {t1 t2 : Table} {start next : ℕ}
+    (are : AreOut fllen sllen first m t s u block end payload align size to taken m1 m2 t1 t2 start next) where
   v : StandsFor fllen sllen (contents m t) s
   v = are.stands
 
@@ -153,40 +155,11 @@ module _ {fllen sllen : ℕ} {m : Space} {t : Table} {s : State} {u : Used} {blo
       occupied : IsOccupied fllen sllen m3 m4 t4 (untouched u.block s.free) (union u.block s.free) (range_at start taken)
       occupied = made (untouched u.block s.free) (union u.block s.free) union_begins total_is.1 (IsSpanRoom-inner taken room)
 
-      -- start and length of the memory stay, and what is its own; and where nothing was out, nothing is
-      place-occupied : (m4.start ≡ m.start) × (length m4.bytes ≡ length m.bytes) × (m.out ≡ [] → m4.out ≡ []) × SameOwn m m4
-      place-occupied =
-          let first = gone v u i before behind in
-          let second = Rewrites-copied (union u.block s.free) inner (usable u) (payload_of are.plan.previous.start u.align) IsCopied-computed in
-          let third = occupied.rewrites in (
-            third.start ∙ second.start ∙ first.start,
-            third.length ∙ second.length ∙ first.length,
-            λ none. third.none (second.none (first.none none)),
-            λ a inside. third.own a (omega (arith, second.start, first.start)) ∙ second.own a (omega (arith, first.start)) ∙ first.own a inside,
-          )
-
-      -- and what is here
-      pub stays-occupied : Stays m m4
-      stays-occupied =
-          let copy = Rewrites-copied (union u.block s.free) inner (usable u) (payload_of are.plan.previous.start u.align) IsCopied-computed in
-          Stays-then (Stays-rewrites (gone v u i before behind)) (Stays-then (Stays-rewrites copy) (Stays-rewrites occupied.rewrites))
-
-      -- and as many bytes as the payload has are here at its new place
-      pub here-occupied : IsHere m4 (range_at to (usable u).len)
-      here-occupied =
-          let target = payload_of are.plan.previous.start u.align in
-          let is = IsCopied-computed in
-          let there = LiesIn-copied (union u.block s.free) inner (usable u) target is in
-          λ a lo hi. occupied.rewrites.here a (omega (arith, same_start, there, are.plan.placed))
-          (out_at-there m2 m3 (usable u) target is.placed there is.start is.bytes is.out a (omega (arith, are.plan.placed)) (omega (arith, are.plan.placed)))
-
       -- the word before the payload can be written
       pub IsWritable-pad : 32 ≤ align → IsWritable m4 (to - 8)
       IsWritable-pad wide =
           let is = spans in
           let inside = inner.room.placed.lies_in in
-          let first = gone v u i before behind in
-          let same = place-occupied in
           let second = Rewrites-copied (union u.block s.free) inner (usable u) (payload_of are.plan.previous.start u.align) IsCopied-computed in
           let third = occupied.rewrites in
           let span = union u.block s.free in
@@ -198,23 +171,43 @@ module _ {fllen sllen : ℕ} {m : Space} {t : Table} {s : State} {u : Used} {blo
           let whole = is.wide (omega (arith, are.used.alignment)) in (
             omega (arith, are.plan.placed, whole, is.after_start),
             (
-              omega (arith, are.plan.placed, is.after_start, is.start, inside.0, same.0, first.start),
-              omega (arith, are.plan.placed, is.after_start, is.end, is.enough, fits, inside.1, same.0, same.1, first.start, first.length),
+              omega (arith, low, inside.0, second.start, third.start),
+              omega (arith, high, inside.1, second.start, second.length, third.start, third.length),
             ),
             own_there,
           )
 
-      -- with that word, where it is wanted, the plan is carried out
-      pub moved_to : {n : Space} → Writes m4 n (32 ≤ align) (to - 8) start
-          → (p : Plan) × (into_previous s u size ≡ Some p) × (p.payload ≡ to) × IsCarriedOut fllen sllen (contents m t) (contents n t4) s u p
-      moved_to {n} padded =
-          let f = are.plan.previous in
-          let block = subst (IsOccupied fllen sllen m3 m4 t4 (untouched u.block s.free) (union u.block s.free)) (ap₂ range_at begins length_of) occupied in
-          let wanted = subst (λ a. Writes m4 n (32 ≤ a) (to - 8) start) (sym are.used.alignment) padded in
-          let there = subst (λ p. Writes m4 n (32 ≤ u.align) (p - 8) start) are.plan.placed wanted in
-          let named = subst (λ b. Writes m4 n (32 ≤ u.align) (payload_of f.start u.align - 8) b) begins there in (
-            planned s u size f,
-            into_previous-fits s u size f are.plan.found fits,
-            sym are.plan.placed,
-            IsCarriedOut-moved v u i size f are.plan.found fits are.short before behind own IsCopied-computed block named,
-          )
+      pub padded : (n : Space) → 32 ≤ align → n.start ≡ m4.start → n.bytes ≡ with_word m4 (to - 8) start → n.out ≡ out_with m4 (word_range (to - 8))
+          → Writes m4 n (32 ≤ align) (to - 8) start
+      padded n wide = Writes-some (32 ≤ align) wide (IsWritable-pad wide) start-fits
+
+      -- with that word, where it is wanted
+      module _ {n : Space} (named : Writes m4 n (32 ≤ align) (to - 8) start) where
+        -- the plan is carried out
+        pub moved_to : IsPlanned fllen sllen first n t4 s u (into_previous s u size) to
+        moved_to =
+            let f = are.plan.previous in
+            let block = subst (IsOccupied fllen sllen m3 m4 t4 (untouched u.block s.free) (union u.block s.free)) (ap₂ range_at begins length_of) occupied in
+            let wanted = subst (λ a. Writes m4 n (32 ≤ a) (to - 8) start) (sym are.used.alignment) named in
+            let there = subst (λ p. Writes m4 n (32 ≤ u.align) (p - 8) start) are.plan.placed wanted in
+            let begun = subst (λ b. Writes m4 n (32 ≤ u.align) (payload_of f.start u.align - 8) b) begins there in
+            let (after, replans, now, spare) = IsCarriedOut-moved v u i size f are.plan.found fits are.short before behind own IsCopied-computed block begun in
+            let kept = KeepsSpare-counted_first first m are.counts.0 are.counts.1 are.counts.2 s after n spare in
+            (planned s u size f, into_previous-fits s u size f are.plan.found fits, sym are.plan.placed, (after, replans, now, kept))
+
+        -- no byte leaves, and none that is here becomes raw
+        pub stays_moved : Stays first n
+        stays_moved =
+            let copy = Rewrites-copied (union u.block s.free) inner (usable u) (payload_of are.plan.previous.start u.align) IsCopied-computed in
+            let before_it = Stays-then (Stays-same first m are.counts.0 are.counts.2) (Stays-rewrites (gone v u i before behind)) in
+            Stays-then before_it (Stays-then (Stays-rewrites copy) (Stays-then (Stays-rewrites occupied.rewrites) (Stays-rewrites named.rewrites)))
+
+        -- as many bytes as the payload has are here at its new place
+        pub here_moved : IsHere n (range_at to (usable u).len)
+        here_moved a lo hi =
+            let target = payload_of are.plan.previous.start u.align in
+            let is = IsCopied-computed in
+            let there = LiesIn-copied (union u.block s.free) inner (usable u) target is in
+            named.rewrites.here a (omega (arith, occupied.rewrites.start, same_start, there, are.plan.placed))
+            (occupied.rewrites.here a (omega (arith, same_start, there, are.plan.placed))
+            (out_at-there m2 m3 (usable u) target is.placed there is.start is.bytes is.out a (omega (arith, are.plan.placed)) (omega (arith, are.plan.placed))))
