@@ -4,7 +4,7 @@ use Rattle.rlsf_base.specs.OpenSpace.{IsWritable, SameOwn, out_with}
 use Rattle.rlsf_base.proofs.Lending.Present.{own-word, own-inside}
 use Rattle.rlsf_base.specs.Space.{word_range}
 use Rattle.rlsf_blocks.proofs.Words.NeverOut.{here_free}
-use Rattle.std.proofs.Common.{[], ◌≡◌, ℕ, ◌+◌, ◌-◌, ◌%◌, ◌^◌, ◌<◌, ◌≤◌, ◌⊎◌, ◌++◌, length, drop, Some, arith, inl, inr, refl, sym}
+use Rattle.std.proofs.Common.{◌≡◌, ℕ, ◌+◌, ◌-◌, ◌%◌, ◌^◌, ◌<◌, ◌≤◌, ◌⊎◌, ◌++◌, length, drop, Some, arith, inl, inr, refl, sym}
 use Rattle.std.proofs.Common.{◌∙◌, ap, subst}
 use mathlib.Core.Path.{ap₂}
 use Rattle.std.proofs.lemmas.List.{length-drop, length-take-le}
@@ -18,7 +18,7 @@ use Rattle.rlsf_base.specs.Space.{Space, bytes_in, range_of, with_word, word_at}
 use Rattle.rlsf_table.specs.Rewrites.{CanBeBlock, Rewrites}
 use Rattle.rlsf_table.specs.Table.{Table}
 use Rattle.rlsf_table.proofs.Tables.FreeTables.{HasTable-Rewrites}
-use Rattle.rlsf_table.proofs.Words.Writes.{CanBeBlock-Rewrites, Rewrites-trans, Rewrites-weaken, Writes}
+use Rattle.rlsf_table.proofs.Words.Writes.{CanBeBlock-Rewrites, Rewrites-trans, Rewrites-weaken, Writes, Writes-some}
 use Rattle.rlsf_table.proofs.Words.Writing.{IsWrite, write, rewrites_of, reads_of}
 use Rattle.rlsf_blocks.specs.Steps.Touched.{Touched, in_hole}
 use Rattle.rlsf_blocks.specs.InBand.{sentinel_of}
@@ -33,6 +33,7 @@ use Rattle.rlsf_blocks.specs.StandsFor.{contents, StandsFor}
 use Rattle.rlsf_blocks.proofs.Words.Apart.{Has, free_in_memory, home_of_free}
 use Rattle.rlsf_blocks.proofs.Allocate.UsedBlocks.{IsCarved, StandsFor-carved}
 use Rattle.rlsf_blocks.proofs.Words.Frames.{wide_whole}
+use Rattle.rlsf_blocks.proofs.Words.Stays.{Stays, Stays-rewrites, Stays-then}
 use Rattle.rlsf_blocks.proofs.RepresentedStates.FreeBlocks.{CanBeBlock-free}
 use Rattle.rlsf_model.proofs.Allocations.{IsWellFormed-given, placed-fits}
 use Rattle.rlsf_model.proofs.Changes.{IsIn-rest_behind}
@@ -326,27 +327,33 @@ module _ {fllen sllen : ℕ} {m : Space} {table : Table} {s : State} {v : Stands
       record { opened = opened; sized = write (IsWritable-block n1 opened.rewrites.start opened.rewrites.length opened.rewrites.own) start written fits out }
 
   module _ {n1 n2 : Space} {changed : Table} (is : IsSized n1 n2 changed) where
-    place-sized : (n2.start ≡ m.start) × (length n2.bytes ≡ length m.bytes) × (m.out ≡ [] → n2.out ≡ [])
-    place-sized =
-        let size = rewrites_of is.sized in
-        (size.start ∙ is.opened.rewrites.start, size.length ∙ is.opened.rewrites.length, λ none. size.none (is.opened.rewrites.none none))
-
     -- the word before the payload lies in the memory
     pub IsWritable-pad : 32 ≤ align → IsWritable n2 (address - 8)
     IsWritable-pad wide =
         let fits = fit in
         let place = free_in_memory v.well_formed f free in
-        let same = place-sized in (
+        let one = is.opened.rewrites in
+        let two = rewrites_of is.sized in
+        let last = placed-fits v.well_formed f size align power chosen in (
           omega (arith, are.payload, fits.wide wide, fits.after_start),
           (
-            omega (arith, are.payload, fits.after_start, place.0, same.0),
-            omega (arith, are.payload, fits.after_start, fits.before_end, placed-fits v.well_formed f size align power chosen, place.1, same.0, same.1),
+            omega (arith, are.payload, fits.after_start, place.0, one.start, two.start),
+            omega (arith, are.payload, fits.after_start, fits.before_end, last, place.1, one.start, one.length, two.start, two.length),
           ),
           own-there m n2 (word_range (address - 8)) (omega (arith, are.payload, fits.after_start, place.0))
-              (λ a inside. (rewrites_of is.sized).own a (omega (arith, is.opened.rewrites.start)) ∙ is.opened.rewrites.own a inside)
+              (λ a inside. two.own a (omega (arith, one.start)) ∙ one.own a inside)
               (own-word m f (address - 8) (here_free v f free) (omega (arith, are.payload, fits.after_start))
-              (omega (arith, are.payload, fits.after_start, fits.before_end, placed-fits v.well_formed f size align power chosen))),
+              (omega (arith, are.payload, fits.after_start, fits.before_end, last))),
         )
+
+    pub padded : (n : Space) → 32 ≤ align → n.start ≡ n2.start → n.bytes ≡ with_word n2 (address - 8) block → n.out ≡ out_with n2 (word_range (address - 8))
+        → Writes n2 n (32 ≤ align) (address - 8) block
+    padded n wide =
+        Writes-some (32 ≤ align) wide (IsWritable-pad wide) (omega (arith, are.start, (free_in_memory v.well_formed f free).1, v.well_formed.addressable))
+
+    -- no byte leaves, and none that is here becomes raw
+    pub Stays-sized : {n : Space} → Writes n2 n (32 ≤ align) (address - 8) block → Stays m n
+    Stays-sized named = Stays-then (Stays-rewrites is.opened.rewrites) (Stays-then (Stays-rewrites (rewrites_of is.sized)) (Stays-rewrites named.rewrites))
 
     -- with that word, where it is wanted, the block is in the memory
     pub Places-sized : {n : Space} → Writes n2 n (32 ≤ align) (address - 8) block

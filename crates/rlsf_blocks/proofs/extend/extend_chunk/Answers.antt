@@ -8,6 +8,7 @@ use Rattle.rlsf_model.specs.State.{State}
 use Rattle.rlsf_blocks.specs.StandsFor.{contents, StandsFor}
 use Rattle.rlsf_blocks.specs.Steps.Extension.{IsExtensible, lengthened, more_block}
 use Rattle.rlsf_blocks.proofs.LongerChunks.Extensions.{extension, here_more, here_extension, AreExtended, AreExtended-from, StandsFor-lengthened, Stays-extended, grown_stands, more_bytes, placed}
+use Rattle.rlsf_blocks.proofs.Words.Stays.{Stays, Stays-then}
 use Rattle.rlsf_table.proofs.Costs.{Costs-then, Costs-written}
 use Rattle.rlsf_blocks.proofs.extend.extend_chunk.Given as given
 use Rattle.rlsf_blocks.proofs.extend.extend_chunk.Goals as goal
@@ -91,40 +92,33 @@ deallocate_block-requires g c =
       ),
     )
 
-pub returns-clause-step : goal.returns-clause-step
-returns-clause-step g c =
-    λ s d v is at.
-    let len = c.args.len in
-    let n = c.set_word-3.new.self in
-    let writes = written g (goal.at.returns-clause-step g c).After-set_word-3 d v is at in
-    let step =
-    c.deallocate_block.ensures.step (lengthened d len (more_bytes n d len) s) (more_block d len (more_bytes n d len)) (StandsFor-lengthened v d len is writes) (inl refl)
-    (ap (λ e. e - 32) at) (here_more v d len is writes) in
-    grown_stands v d len is writes step
-
-pub returns-clause-costs : goal.returns-clause-costs
-returns-clause-costs g c =
-    let one = c.set_word in
-    let two = c.set_word-2 in
-    let three = c.set_word-3 in
-    let first =
-    Costs-written c.args.memory.now one.new.self (c.args.end - 32) one.ensures.start one.ensures.len one.ensures.touches one.ensures.copied one.ensures.view one.ensures.out in
-    let second =
-    Costs-written one.new.self two.new.self (c.args.end - 32 + c.args.len) two.ensures.start two.ensures.len two.ensures.touches two.ensures.copied two.ensures.view
-    two.ensures.out in
-    let third =
-    Costs-written two.new.self three.new.self (c.args.end - 32 + c.args.len + 8) three.ensures.start three.ensures.len three.ensures.touches three.ensures.copied
-    three.ensures.view three.ensures.out in
-    Costs-then (Costs-then (Costs-then first second) third) c.deallocate_block.ensures.costs
-
-pub returns-clause-own : goal.returns-clause-own
-returns-clause-own g c =
+pub returns : goal.returns
+returns g c =
+    let at_last = (goal.at.returns g c).After-set_word-3 in
+    let m = c.args.memory.now in
+    let n1 = c.set_word.new.self in
+    let n2 = c.set_word-2.new.self in
+    let n3 = c.set_word-3.new.self in
+    let one = c.set_word.ensures in
+    let two = c.set_word-2.ensures in
+    let three = c.set_word-3.ensures in
     let (s, d, v, is, at) = c.requires.extensible in
-    let stays = Stays-extended v d c.args.len is (written g (goal.at.returns-clause-own g c).After-set_word-3 d v is at) in
-    λ a inside. c.deallocate_block.ensures.own a (omega (arith, stays.start)) ∙ stays.own a inside
-
-pub returns-clause-here : goal.returns-clause-here
-returns-clause-here g c =
-    let (s, d, v, is, at) = c.requires.extensible in
-    let stays = Stays-extended v d c.args.len is (written g (goal.at.returns-clause-here g c).After-set_word-3 d v is at) in
-    λ a inside was. c.deallocate_block.ensures.here a (omega (arith, stays.start)) (stays.here a inside was)
+    let extended = Stays-extended v d c.args.len is (written g at_last d v is at) in
+    let freed : Stays n3 c.deallocate_block.new.memory =
+    record { start = c.deallocate_block.ensures.costs.start; own = c.deallocate_block.ensures.own; here = c.deallocate_block.ensures.here } in
+    let stays = Stays-then extended freed in
+    record {
+      step = λ s d v is at.
+          let len = c.args.len in
+          let writes = written g at_last d v is at in
+          let bytes = more_bytes n3 d len in
+          grown_stands v d len is writes (c.deallocate_block.ensures.step (lengthened d len bytes s) (more_block d len bytes) (StandsFor-lengthened v d len is writes) (inl refl)
+          (ap (λ e. e - 32) at) (here_more v d len is writes));
+      costs =
+          let first = Costs-written m n1 (c.args.end - 32) one.start one.len one.touches one.copied one.view one.out in
+          let second = Costs-written n1 n2 (c.args.end - 32 + c.args.len) two.start two.len two.touches two.copied two.view two.out in
+          let third = Costs-written n2 n3 (c.args.end - 32 + c.args.len + 8) three.start three.len three.touches three.copied three.view three.out in
+          Costs-then (Costs-then (Costs-then first second) third) c.deallocate_block.ensures.costs;
+      own = stays.own;
+      here = stays.here;
+    }

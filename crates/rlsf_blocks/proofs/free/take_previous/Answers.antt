@@ -36,58 +36,47 @@ take_free-requires g c =
     let (s, u, v, i, at) = c.requires.used in
     let m = c.args.memory.now in
     let n = c.load_at-previous.new.self in
-    let start = c.load_at-previous.ensures.start in
-    let bytes = c.load_at-previous.ensures.bytes in
-    let out = c.load_at-previous.ensures.out in
-    let marked = IsMarked-loaded m n start bytes out (IsMarked-previous v u i at c.load_at-previous.ensures.word c.if-previous-eq0.false) in
-    (omega arith, (c.requires.parameters, ((s.free, IsFreeTable-counted m n start bytes out (IsFreeTable-free v), marked), search rules)))
+    let read = c.load_at-previous.ensures in
+    let marked = IsMarked-loaded m n read.start read.bytes read.out (IsMarked-previous v u i at read.word c.if-previous-eq0.false) in
+    (omega arith, (c.requires.parameters, ((s.free, IsFreeTable-counted m n read.start read.bytes read.out (IsFreeTable-free v), marked), search rules)))
 
-pub returns-then-previous-eq0-clause-step : goal.returns-then-previous-eq0-clause-step
-returns-then-previous-eq0-clause-step g c =
-    λ s u v i at.
-    IsPreviousOut-none v u i at c.load_at-previous.ensures.word c.load_at-previous.new.self c.load_at-previous.ensures.start c.load_at-previous.ensures.bytes
-    c.load_at-previous.ensures.out c.if-previous-eq0.true
+pub returns-then-previous-eq0 : goal.returns-then-previous-eq0
+returns-then-previous-eq0 g c =
+    let n = c.load_at-previous.new.self in
+    let read = c.load_at-previous.ensures in
+    record {
+      step = λ s u v i at. IsPreviousOut-none v u i at read.word n read.start read.bytes read.out c.if-previous-eq0.true;
+      costs = Costs-within (omega arith) (Costs-loaded c.args.memory.now n read.start read.bytes read.touches read.copied read.view read.out);
+    }
 
-pub returns-in-Some-clause-step : goal.returns-in-Some-clause-step
-returns-in-Some-clause-step g c =
-    λ s u v i at.
+pub returns-in-Some : goal.returns-in-Some
+returns-in-Some g c =
     let m = c.args.memory.now in
     let n = c.load_at-previous.new.self in
-    let start = c.load_at-previous.ensures.start in
-    let bytes = c.load_at-previous.ensures.bytes in
-    let out = c.load_at-previous.ensures.out in
-    let word = c.load_at-previous.ensures.word in
-    let some = c.if-previous-eq0.false in
-    let marked = IsMarked-loaded m n start bytes out (IsMarked-previous v u i at word some) in
-    let next = IsNextOut-loaded m n start bytes out (c.in-Some.ensures.step s.free (IsFreeTable-counted m n start bytes out (IsFreeTable-free v)) marked) in
-    let is = (previous_out v u i at word some next).1 in
-    record { rewrites = is.rewrites; list = is.list; begins = omega (arith, is.begins, previous_begins v u i at word some next c.in-Some.ensures.some) }
+    let read = c.load_at-previous.ensures in
+    record {
+      step = λ s u v i at.
+          let some = c.if-previous-eq0.false in
+          let marked = IsMarked-loaded m n read.start read.bytes read.out (IsMarked-previous v u i at read.word some) in
+          let list = IsFreeTable-counted m n read.start read.bytes read.out (IsFreeTable-free v) in
+          let next = IsNextOut-loaded m n read.start read.bytes read.out (c.in-Some.ensures.step s.free list marked) in
+          let is = (previous_out v u i at read.word some next).1 in
+          record { rewrites = is.rewrites; list = is.list; begins = omega (arith, is.begins, previous_begins v u i at read.word some next c.in-Some.ensures.some) };
+      costs = Costs-then (Costs-loaded m n read.start read.bytes read.touches read.copied read.view read.out) c.in-Some.ensures.costs;
+    }
 
-pub returns-in-None-clause-step : goal.returns-in-None-clause-step
-returns-in-None-clause-step g c =
-    λ s u v i at.
+pub returns-in-None : goal.returns-in-None
+returns-in-None g c =
     let m = c.args.memory.now in
     let n = c.load_at-previous.new.self in
-    let start = c.load_at-previous.ensures.start in
-    let bytes = c.load_at-previous.ensures.bytes in
-    let out = c.load_at-previous.ensures.out in
-    let marked = IsMarked-loaded m n start bytes out (IsMarked-previous v u i at c.load_at-previous.ensures.word c.if-previous-eq0.false) in
-    let next = IsNextOut-loaded m n start bytes out (c.in-None.ensures.step s.free (IsFreeTable-counted m n start bytes out (IsFreeTable-free v)) marked) in
-    let is = (previous_out v u i at c.load_at-previous.ensures.word c.if-previous-eq0.false next).1 in
-    record { rewrites = is.rewrites; list = is.list; begins = omega (arith, is.begins) }
-
-pub returns-then-previous-eq0-clause-costs : goal.returns-then-previous-eq0-clause-costs
-returns-then-previous-eq0-clause-costs g c =
-    Costs-within (omega arith)
-    (Costs-loaded c.args.memory.now c.load_at-previous.new.self c.load_at-previous.ensures.start c.load_at-previous.ensures.bytes c.load_at-previous.ensures.touches
-    c.load_at-previous.ensures.copied c.load_at-previous.ensures.view c.load_at-previous.ensures.out)
-
-pub returns-in-Some-clause-costs : goal.returns-in-Some-clause-costs
-returns-in-Some-clause-costs g c =
-    Costs-then (Costs-loaded c.args.memory.now c.load_at-previous.new.self c.load_at-previous.ensures.start c.load_at-previous.ensures.bytes c.load_at-previous.ensures.touches
-    c.load_at-previous.ensures.copied c.load_at-previous.ensures.view c.load_at-previous.ensures.out) c.in-Some.ensures.costs
-
-pub returns-in-None-clause-costs : goal.returns-in-None-clause-costs
-returns-in-None-clause-costs g c =
-    Costs-then (Costs-loaded c.args.memory.now c.load_at-previous.new.self c.load_at-previous.ensures.start c.load_at-previous.ensures.bytes c.load_at-previous.ensures.touches
-    c.load_at-previous.ensures.copied c.load_at-previous.ensures.view c.load_at-previous.ensures.out) c.in-None.ensures.costs
+    let read = c.load_at-previous.ensures in
+    record {
+      step = λ s u v i at.
+          let some = c.if-previous-eq0.false in
+          let marked = IsMarked-loaded m n read.start read.bytes read.out (IsMarked-previous v u i at read.word some) in
+          let list = IsFreeTable-counted m n read.start read.bytes read.out (IsFreeTable-free v) in
+          let next = IsNextOut-loaded m n read.start read.bytes read.out (c.in-None.ensures.step s.free list marked) in
+          let is = (previous_out v u i at read.word some next).1 in
+          record { rewrites = is.rewrites; list = is.list; begins = omega (arith, is.begins) };
+      costs = Costs-then (Costs-loaded m n read.start read.bytes read.touches read.copied read.view read.out) c.in-None.ensures.costs;
+    }

@@ -1,6 +1,4 @@
 -- What the search finds is the choice for the layout, and gives its front to the payload.
-use Rattle.rlsf_base.proofs.Lending.Present.{own-same, out-same}
-use Rattle.std.proofs.Common.{arith}
 use Rattle.std.proofs.Common.{◌≡◌, Option, arith, refl, sym, ◌∙◌, ap, subst, rules}
 use Rattle.std.proofs.lemmas.Option.{same_Some}
 use Rattle.rlsf_base.specs.declared.memory.range.Range.{Range}
@@ -16,6 +14,7 @@ use Rattle.rlsf_blocks.specs.Steps.Rest.{start_of}
 use Rattle.rlsf_blocks.proofs.RepresentedStates.Counted.{KeepsSpare-counted, KeepsSpare-counted_first, StandsFor-counted}
 use Rattle.rlsf_blocks.proofs.RepresentedStates.FreeBlocks.{IsFreeTable-free}
 use Rattle.rlsf_blocks.proofs.Refused.{none_none, none_some}
+use Rattle.rlsf_blocks.proofs.Words.Stays.{Stays, Stays-same, Stays-then}
 use Rattle.rlsf_table.proofs.Costs.{Costs-counted, Costs-then, Costs-within}
 use Rattle.rlsf_blocks.proofs.placement.allocate_range.Given as given
 use Rattle.rlsf_blocks.proofs.placement.allocate_range.Goals as goal
@@ -36,29 +35,27 @@ first_fit-requires g c =
     let (s, v) = c.requires.stands in
     (omega arith, (c.requires.parameters, (c.request_size.ensures.size, (s.free, IsFreeTable-free v))))
 
-pub returns-in_err-found-clause-step : goal.returns-in_err-found-clause-step
-returns-in_err-found-clause-step g c =
-    λ s v.
-    let at = (goal.at.returns-in_err-found-clause-step g c).After-first_fit in
+pub returns-in_err-found : goal.returns-in_err-found
+returns-in_err-found g c =
+    let at = (goal.at.returns-in_err-found g c).After-first_fit in
+    let m = c.args.memory.now in
+    let n = c.first_fit.new.memory in
     let counts = c.first_fit.ensures.counts in
-    let none = sought g at s (c.in_err-found.ensures.choice s.free (IsFreeTable-free v)) in (
-      s,
-      subst (λ o. Allocates g.row.SLLEN s c.args.layout.size c.args.layout.align (start_of o) s) (sym c.from_residual.ensures) (none, refl),
-      searched g at v,
-      KeepsSpare-counted c.args.memory.now c.first_fit.new.memory counts.start counts.bytes counts.out s s,
-    )
-
-pub returns-in_err-found-clause-len : goal.returns-in_err-found-clause-len
-returns-in_err-found-clause-len g c = λ s v. none_some _ c.from_residual.result c.from_residual.ensures
-
-pub returns-in_err-found-clause-unchanged : goal.returns-in_err-found-clause-unchanged
-returns-in_err-found-clause-unchanged g c = none_none c.from_residual.result (c.first_fit.ensures.counts, refl)
-
-pub returns-in_err-found-clause-own : goal.returns-in_err-found-clause-own
-returns-in_err-found-clause-own g c = own-same c.args.memory.now c.first_fit.new.memory c.first_fit.ensures.counts.start c.first_fit.ensures.counts.out
-
-pub returns-in_err-found-clause-here : goal.returns-in_err-found-clause-here
-returns-in_err-found-clause-here g c = λ a inside was. out-same c.args.memory.now c.first_fit.new.memory a c.first_fit.ensures.counts.start c.first_fit.ensures.counts.out ∙ was
+    let stays = Stays-same m n counts.start counts.out in
+    record {
+      step = λ s v.
+          let none = sought g at s (c.in_err-found.ensures.choice s.free (IsFreeTable-free v)) in (
+            s,
+            subst (λ o. Allocates g.row.SLLEN s c.args.layout.size c.args.layout.align (start_of o) s) (sym c.from_residual.ensures) (none, refl),
+            searched g at v,
+            KeepsSpare-counted m n counts.start counts.bytes counts.out s s,
+          );
+      len = λ s v. none_some _ c.from_residual.result c.from_residual.ensures;
+      unchanged = none_none c.from_residual.result (counts, refl);
+      costs = Costs-within (omega arith) (Costs-counted counts);
+      own = stays.own;
+      here = stays.here;
+    }
 
 pub place-requires : goal.place-requires
 place-requires g c =
@@ -73,37 +70,24 @@ place-requires g c =
     let at_class = subst (λ n. IsClassAt g.row.FLLEN g.row.SLLEN n c.in_ok-found.found.class.fl c.in_ok-found.found.class.sl) (sym size) class in
     (omega arith, (c.requires.parameters, (at_class, ((s, f, searched g at v, sought g at s chosen, start), search rules))))
 
-pub returns-clause-step : goal.returns-clause-step
-returns-clause-step g c =
-    λ s v.
-    let at = (goal.at.returns-clause-step g c).After-first_fit in
+pub returns : goal.returns
+returns g c =
+    let at = (goal.at.returns g c).After-first_fit in
+    let m = c.args.memory.now in
+    let n = c.first_fit.new.memory in
     let counts = c.first_fit.ensures.counts in
-    let (f, chosen, start, _) = c.in_ok-found.ensures.choice s.free (IsFreeTable-free v) in
-    let (t, places, now, spare) = c.place.ensures.step s f (searched g at v) (sought g at s chosen) start in
-    (t, places, now, KeepsSpare-counted_first c.args.memory.now c.first_fit.new.memory counts.start counts.bytes counts.out s t c.place.new.memory spare)
-
-pub returns-clause-len : goal.returns-clause-len
-returns-clause-len g c =
-    λ s v f chosen.
-    let at = (goal.at.returns-clause-len g c).After-first_fit in
-    let (h, found, start, _) = c.in_ok-found.ensures.choice s.free (IsFreeTable-free v) in
-    c.place.ensures.len s f (searched g at v) chosen
-    (ap (λ (r : Range). r.start) (same_Some _ _ (sym chosen ∙ sought g at s found)) ∙ start)
-
-pub returns-clause-own : goal.returns-clause-own
-returns-clause-own g c =
-    λ a inside. c.place.ensures.own a (omega (arith, c.first_fit.ensures.counts.start))
-    ∙ own-same c.args.memory.now c.first_fit.new.memory c.first_fit.ensures.counts.start c.first_fit.ensures.counts.out a inside
-
-pub returns-clause-here : goal.returns-clause-here
-returns-clause-here g c =
-    λ a inside was. c.place.ensures.here a (omega (arith, c.first_fit.ensures.counts.start))
-    (out-same c.args.memory.now c.first_fit.new.memory a c.first_fit.ensures.counts.start c.first_fit.ensures.counts.out ∙ was)
-
-pub returns-in_err-found-clause-costs : goal.returns-in_err-found-clause-costs
-returns-in_err-found-clause-costs g c =
-    Costs-within (omega arith) (Costs-counted c.first_fit.ensures.counts)
-
-pub returns-clause-costs : goal.returns-clause-costs
-returns-clause-costs g c =
-    Costs-then (Costs-counted c.first_fit.ensures.counts) c.place.ensures.costs
+    let placed : Stays n c.place.new.memory = record { start = c.place.ensures.costs.start; own = c.place.ensures.own; here = c.place.ensures.here } in
+    let stays = Stays-then (Stays-same m n counts.start counts.out) placed in
+    record {
+      step = λ s v.
+          let (f, chosen, start, _) = c.in_ok-found.ensures.choice s.free (IsFreeTable-free v) in
+          let (t, places, now, spare) = c.place.ensures.step s f (searched g at v) (sought g at s chosen) start in
+          (t, places, now, KeepsSpare-counted_first m n counts.start counts.bytes counts.out s t c.place.new.memory spare);
+      len = λ s v f chosen.
+          let (h, found, start, _) = c.in_ok-found.ensures.choice s.free (IsFreeTable-free v) in
+          c.place.ensures.len s f (searched g at v) chosen (ap (λ (r : Range). r.start) (same_Some _ _ (sym chosen ∙ sought g at s found)) ∙ start);
+      unchanged = tt;
+      costs = Costs-then (Costs-counted counts) c.place.ensures.costs;
+      own = stays.own;
+      here = stays.here;
+    }

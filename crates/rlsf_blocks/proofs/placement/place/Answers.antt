@@ -1,5 +1,4 @@
 use Rattle.rlsf_base.proofs.Lending.WordIsHere.{is_word}
-use Rattle.rlsf_base.proofs.Lending.Present.{own-same, out-same}
 use Rattle.std.proofs.Common.{◌<◌, ◌^◌}
 use Rattle.rlsf_base.specs.Space.{word_at}
 use Rattle.std.proofs.Common.{◌≡◌, ◌+◌, ◌-◌, ◌^◌, ◌<◌, ◌≤◌, Some, arith, refl, sym, ◌∙◌, rules, subst}
@@ -11,15 +10,16 @@ use Rattle.rlsf_model.specs.Allocate.{choice}
 use Rattle.rlsf_model.specs.Payload.{block_length, payload_of}
 use Rattle.rlsf_model.specs.State.{State}
 use Rattle.rlsf_table.proofs.FreeLists.Counted.{word_at-counted}
-use Rattle.rlsf_table.proofs.Words.Writes.{Writes, Writes-none, Writes-some}
-use Rattle.rlsf_table.proofs.Words.Writing.{wrote, wrote_there, rewrites_of}
+use Rattle.rlsf_table.proofs.Words.Writes.{Writes-none}
+use Rattle.rlsf_table.proofs.Words.Writing.{wrote, wrote_there}
 use Rattle.rlsf_blocks.specs.StandsFor.{contents, StandsFor}
 use Rattle.rlsf_table.specs.Counts.{Costs}
 use Rattle.rlsf_table.specs.Table.{IsClassAt}
 use Rattle.rlsf_blocks.proofs.Words.Apart.{free_in_memory}
 use Rattle.rlsf_blocks.proofs.RepresentedStates.Counted.{KeepsSpare-counted_first, StandsFor-counted}
 use Rattle.rlsf_blocks.proofs.Allocate.Placements.{AreComputed, AreComputed-from, fitting, is_free, IsSized, IsSized-from, IsTaken-computed, IsWritable-block, IsWritable-pad}
-use Rattle.rlsf_blocks.proofs.Allocate.Placements.{Places-sized}
+use Rattle.rlsf_blocks.proofs.Allocate.Placements.{padded, Places-sized, Stays-sized}
+use Rattle.rlsf_blocks.proofs.Words.Stays.{Stays-same, Stays-then}
 use Rattle.rlsf_model.proofs.Allocations.{placed-fits}
 use Rattle.rlsf_table.proofs.Costs.{Costs-loaded, Costs-then, Costs-within, Costs-written}
 use Rattle.rlsf_blocks.proofs.placement.place.Given as given
@@ -128,104 +128,6 @@ so_far g c =
     Costs-then (Costs-then loaded c.take_out.ensures.costs)
     (Costs-written c.take_out.new.memory c.set_word_at.new.self c.args.found.start write.start write.len write.touches write.copied write.view write.out)
 
-pub returns-then-wide-clause-step : goal.returns-then-wide-clause-step
-returns-then-wide-clause-step g c =
-    λ s f v chosen start.
-    let at = goal.at.returns-then-wide-clause-step g c in
-    let are = computed g at.After-front-payload (loaded g at.After-load_at-len v) f chosen start in
-    let is = sized g at.After-set_word_at are in
-    let wide : 32 ≤ c.args.layout.align = omega arith in
-    let (t, places, stands, spare) =
-    Places-sized are is (Writes-some (32 ≤ c.args.layout.align) wide (IsWritable-pad are is wide) (omega arith) c.set_word_at-then-wide.ensures.start
-    (wrote c.set_word_at.new.self c.set_word_at-then-wide.new.self (c.front-payload.result.0 - 8) c.args.found.start c.set_word_at-then-wide.ensures.bytes (omega arith)
-    (omega arith)) (wrote_there c.set_word_at.new.self c.set_word_at-then-wide.new.self (c.front-payload.result.0 - 8) c.set_word_at-then-wide.ensures.out
-    (omega arith))) in (
-      t,
-      places,
-      stands,
-      KeepsSpare-counted_first c.args.memory.now c.load_at-len.new.self c.load_at-len.ensures.start c.load_at-len.ensures.bytes c.load_at-len.ensures.out s t
-          c.set_word_at-then-wide.new.self spare,
-    )
-
-pub returns-then-wide-clause-own : goal.returns-then-wide-clause-own
-returns-then-wide-clause-own g c =
-    let (s, f, v, chosen, start) = c.requires.chosen in
-    let at = goal.at.returns-then-wide-clause-own g c in
-    let are = computed g at.After-front-payload (loaded g at.After-load_at-len v) f chosen start in
-    let is = sized g at.After-set_word_at are in
-    let wide : 32 ≤ c.args.layout.align = omega arith in
-    let padded : Writes c.set_word_at.new.self c.set_word_at-then-wide.new.self (32 ≤ c.args.layout.align) (c.front-payload.result.0 - 8) c.args.found.start =
-    Writes-some (32 ≤ c.args.layout.align) wide (IsWritable-pad are is wide) (omega arith) c.set_word_at-then-wide.ensures.start
-    (wrote c.set_word_at.new.self c.set_word_at-then-wide.new.self (c.front-payload.result.0 - 8) c.args.found.start c.set_word_at-then-wide.ensures.bytes (omega arith)
-    (omega arith)) (wrote_there c.set_word_at.new.self c.set_word_at-then-wide.new.self (c.front-payload.result.0 - 8) c.set_word_at-then-wide.ensures.out
-    (omega arith)) in
-    λ a inside. padded.rewrites.own a (omega (arith, is.sized.start, is.opened.rewrites.start, c.load_at-len.ensures.start))
-    ∙ (rewrites_of is.sized).own a (omega (arith, is.opened.rewrites.start, c.load_at-len.ensures.start))
-    ∙ is.opened.rewrites.own a (omega (arith, c.load_at-len.ensures.start))
-    ∙ own-same c.args.memory.now c.load_at-len.new.self c.load_at-len.ensures.start c.load_at-len.ensures.out a inside
-
-pub returns-then-wide-clause-here : goal.returns-then-wide-clause-here
-returns-then-wide-clause-here g c =
-    let (s, f, v, chosen, start) = c.requires.chosen in
-    let at = goal.at.returns-then-wide-clause-here g c in
-    let are = computed g at.After-front-payload (loaded g at.After-load_at-len v) f chosen start in
-    let is = sized g at.After-set_word_at are in
-    let wide : 32 ≤ c.args.layout.align = omega arith in
-    let padded : Writes c.set_word_at.new.self c.set_word_at-then-wide.new.self (32 ≤ c.args.layout.align) (c.front-payload.result.0 - 8) c.args.found.start =
-    Writes-some (32 ≤ c.args.layout.align) wide (IsWritable-pad are is wide) (omega arith) c.set_word_at-then-wide.ensures.start
-    (wrote c.set_word_at.new.self c.set_word_at-then-wide.new.self (c.front-payload.result.0 - 8) c.args.found.start c.set_word_at-then-wide.ensures.bytes (omega arith)
-    (omega arith)) (wrote_there c.set_word_at.new.self c.set_word_at-then-wide.new.self (c.front-payload.result.0 - 8) c.set_word_at-then-wide.ensures.out
-    (omega arith)) in
-    λ a inside was. padded.rewrites.here a (omega (arith, is.sized.start, is.opened.rewrites.start, c.load_at-len.ensures.start))
-    ((rewrites_of is.sized).here a (omega (arith, is.opened.rewrites.start, c.load_at-len.ensures.start))
-    (is.opened.rewrites.here a (omega (arith, c.load_at-len.ensures.start))
-    (out-same c.args.memory.now c.load_at-len.new.self a c.load_at-len.ensures.start c.load_at-len.ensures.out ∙ was)))
-
-pub returns-else-wide-clause-step : goal.returns-else-wide-clause-step
-returns-else-wide-clause-step g c =
-    λ s f v chosen start.
-    let at = goal.at.returns-else-wide-clause-step g c in
-    let are = computed g at.After-front-payload (loaded g at.After-load_at-len v) f chosen start in
-    let narrow : ¬ (32 ≤ c.args.layout.align) = λ wide. omega arith in
-    let (t, places, stands, spare) =
-    Places-sized are (sized g at.After-set_word_at are)
-    (Writes-none c.set_word_at.new.self c.set_word_at.new.self (32 ≤ c.args.layout.align) (c.front-payload.result.0 - 8) c.args.found.start refl narrow) in (
-      t,
-      places,
-      stands,
-      KeepsSpare-counted_first c.args.memory.now c.load_at-len.new.self c.load_at-len.ensures.start c.load_at-len.ensures.bytes c.load_at-len.ensures.out s t
-          c.set_word_at.new.self spare,
-    )
-
-pub returns-else-wide-clause-own : goal.returns-else-wide-clause-own
-returns-else-wide-clause-own g c =
-    let (s, f, v, chosen, start) = c.requires.chosen in
-    let at = goal.at.returns-else-wide-clause-own g c in
-    let are = computed g at.After-front-payload (loaded g at.After-load_at-len v) f chosen start in
-    let is = sized g at.After-set_word_at are in
-    λ a inside. (rewrites_of is.sized).own a (omega (arith, is.opened.rewrites.start, c.load_at-len.ensures.start))
-    ∙ is.opened.rewrites.own a (omega (arith, c.load_at-len.ensures.start))
-    ∙ own-same c.args.memory.now c.load_at-len.new.self c.load_at-len.ensures.start c.load_at-len.ensures.out a inside
-
-pub returns-else-wide-clause-here : goal.returns-else-wide-clause-here
-returns-else-wide-clause-here g c =
-    let (s, f, v, chosen, start) = c.requires.chosen in
-    let at = goal.at.returns-else-wide-clause-here g c in
-    let are = computed g at.After-front-payload (loaded g at.After-load_at-len v) f chosen start in
-    let is = sized g at.After-set_word_at are in
-    λ a inside was. (rewrites_of is.sized).here a (omega (arith, is.opened.rewrites.start, c.load_at-len.ensures.start))
-    (is.opened.rewrites.here a (omega (arith, c.load_at-len.ensures.start))
-    (out-same c.args.memory.now c.load_at-len.new.self a c.load_at-len.ensures.start c.load_at-len.ensures.out ∙ was))
-
-pub returns-then-wide-clause-costs : goal.returns-then-wide-clause-costs
-returns-then-wide-clause-costs g c =
-    let write = c.set_word_at-then-wide.ensures in
-    Costs-then (so_far g (goal.at.returns-then-wide-clause-costs g c).After-set_word_at)
-    (Costs-written c.set_word_at.new.self c.set_word_at-then-wide.new.self (c.front-payload.result.0 - 8) write.start write.len write.touches write.copied write.view write.out)
-
-pub returns-else-wide-clause-costs : goal.returns-else-wide-clause-costs
-returns-else-wide-clause-costs g c = Costs-within (omega arith) (so_far g (goal.at.returns-else-wide-clause-costs g c).After-set_word_at)
-
 -- the payload's bytes end where its block does
 pub overflow_add-range : goal.overflow_add-range
 overflow_add-range g c =
@@ -245,17 +147,58 @@ overflow_sub-range g c =
     let are = computed g at.After-front-payload (loaded g at.After-load_at-len v) f chosen start in
     omega (arith, are.start, are.payload, are.taken, (fitting v f layout.size layout.align layout.valid.aligned chosen).before_end)
 
--- and so they are as many as the payload has in the front of the range that was chosen
-pub returns-then-wide-clause-len : goal.returns-then-wide-clause-len
-returns-then-wide-clause-len g c =
-    λ s f v chosen start.
-    let at = goal.at.returns-then-wide-clause-len g c in
+pub returns-then-wide : goal.returns-then-wide
+returns-then-wide g c =
+    let at = goal.at.returns-then-wide g c in
+    let m = c.args.memory.now in
+    let l = c.load_at-len.new.self in
+    let o = c.set_word_at.new.self in
+    let n = c.set_word_at-then-wide.new.self in
+    let read = c.load_at-len.ensures in
+    let write = c.set_word_at-then-wide.ensures in
+    let pad = c.front-payload.result.0 - 8 in
+    let wide : 32 ≤ c.args.layout.align = omega arith in
+    let written = wrote o n pad c.args.found.start write.bytes (omega arith) (omega arith) in
+    let there = wrote_there o n pad write.out (omega arith) in
+    let (s, f, v, chosen, start) = c.requires.chosen in
     let are = computed g at.After-front-payload (loaded g at.After-load_at-len v) f chosen start in
-    omega (arith, are.start, are.payload, are.taken)
+    let is = sized g at.After-set_word_at are in
+    let stays = Stays-then (Stays-same m l read.start read.out) (Stays-sized are is (padded are is n wide write.start written there)) in
+    record {
+      step = λ s f v chosen start.
+          let are = computed g at.After-front-payload (loaded g at.After-load_at-len v) f chosen start in
+          let is = sized g at.After-set_word_at are in
+          let (t, places, stands, spare) = Places-sized are is (padded are is n wide write.start written there) in
+          (t, places, stands, KeepsSpare-counted_first m l read.start read.bytes read.out s t n spare);
+      len = λ s f v chosen start.
+          let are = computed g at.After-front-payload (loaded g at.After-load_at-len v) f chosen start in
+          omega (arith, are.start, are.payload, are.taken);
+      costs = Costs-then (so_far g at.After-set_word_at) (Costs-written o n pad write.start write.len write.touches write.copied write.view write.out);
+      own = stays.own;
+      here = stays.here;
+    }
 
-pub returns-else-wide-clause-len : goal.returns-else-wide-clause-len
-returns-else-wide-clause-len g c =
-    λ s f v chosen start.
-    let at = goal.at.returns-else-wide-clause-len g c in
+pub returns-else-wide : goal.returns-else-wide
+returns-else-wide g c =
+    let at = goal.at.returns-else-wide g c in
+    let m = c.args.memory.now in
+    let l = c.load_at-len.new.self in
+    let o = c.set_word_at.new.self in
+    let read = c.load_at-len.ensures in
+    let narrow : ¬ (32 ≤ c.args.layout.align) = λ wide. omega arith in
+    let padded = Writes-none o o (32 ≤ c.args.layout.align) (c.front-payload.result.0 - 8) c.args.found.start refl narrow in
+    let (s, f, v, chosen, start) = c.requires.chosen in
     let are = computed g at.After-front-payload (loaded g at.After-load_at-len v) f chosen start in
-    omega (arith, are.start, are.payload, are.taken)
+    let stays = Stays-then (Stays-same m l read.start read.out) (Stays-sized are (sized g at.After-set_word_at are) padded) in
+    record {
+      step = λ s f v chosen start.
+          let are = computed g at.After-front-payload (loaded g at.After-load_at-len v) f chosen start in
+          let (t, places, stands, spare) = Places-sized are (sized g at.After-set_word_at are) padded in
+          (t, places, stands, KeepsSpare-counted_first m l read.start read.bytes read.out s t o spare);
+      len = λ s f v chosen start.
+          let are = computed g at.After-front-payload (loaded g at.After-load_at-len v) f chosen start in
+          omega (arith, are.start, are.payload, are.taken);
+      costs = Costs-within (omega arith) (so_far g at.After-set_word_at);
+      own = stays.own;
+      here = stays.here;
+    }

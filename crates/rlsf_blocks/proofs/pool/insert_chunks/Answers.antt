@@ -10,26 +10,35 @@ use Rattle.rlsf_blocks.specs.Steps.Pool.{IsAdded, IsNewChunk}
 use Rattle.rlsf_blocks.proofs.Words.NonZeroNumbers.{number, on_none}
 use Rattle.rlsf_blocks.proofs.Chunks.Pools.{IsFilled, IsFilled-end, IsFilled-init, IsFilled-next, IsNewChunk-next, nothing_inserted}
 use Rattle.rlsf_table.proofs.Costs.{Costs-same, Costs-within}
-use Rattle.rlsf_blocks.proofs.Words.Stays.{Stays-same}
 use Rattle.rlsf_blocks.proofs.pool.insert_chunks.Goals as goal
 use Rattle.rlsf_blocks.proofs.pool.insert_chunks.Goals.{then-start-first, else-start-first}
 
-pub returns-in_default-clause-step : goal.returns-in_default-clause-step
-returns-in_default-clause-step g c =
-    λ s v fresh.
-    let first : c.in-Some.first ≡ round32 c.args.range.start = c.in-Some.ensures.1 in
-    nothing_inserted v c.args.range fresh (omega (arith, c.if-first-end.false))
+pub returns-in_default : goal.returns-in_default
+returns-in_default g c = record {
+  step = λ s v fresh.
+      let first : c.in-Some.first ≡ round32 c.args.range.start = c.in-Some.ensures.1 in
+      nothing_inserted v c.args.range fresh (omega (arith, c.if-first-end.false));
+  refused = refl;
+  own = λ a from. refl;
+  here = λ a from is. is;
+  costs = Costs-within (omega arith) (Costs-same c.args.memory.now c.args.memory.now refl);
+}
 
-pub returns-in_default-2-clause-step : goal.returns-in_default-2-clause-step
-returns-in_default-2-clause-step g c =
-    λ s v fresh.
-    let past : 2 ^ 64 ≤ round32 c.args.range.start = elim (cases_lt (round32 c.args.range.start) (2 ^ 64)) [
-      | inl below ↦ absurd (c.in_default.ensures (omega arith, below))
-      | inr above ↦ above
-    ] in
-    let inside = fresh.lies_in.1 in
-    let none : (aligned_part c.args.range).len ≡ 0 = omega (arith, v.well_formed.addressable) in
-    nothing_inserted v c.args.range fresh none
+pub returns-in_default-2 : goal.returns-in_default-2
+returns-in_default-2 g c = record {
+  step = λ s v fresh.
+      let past : 2 ^ 64 ≤ round32 c.args.range.start = elim (cases_lt (round32 c.args.range.start) (2 ^ 64)) [
+        | inl below ↦ absurd (c.in_default.ensures (omega arith, below))
+        | inr above ↦ above
+      ] in
+      let inside = fresh.lies_in.1 in
+      let none : (aligned_part c.args.range).len ≡ 0 = omega (arith, v.well_formed.addressable) in
+      nothing_inserted v c.args.range fresh none;
+  refused = refl;
+  own = λ a from. refl;
+  here = λ a from is. is;
+  costs = Costs-within (omega arith) (Costs-same c.args.memory.now c.args.memory.now refl);
+}
 
 pub loop-left-init : goal.loop-left-init
 loop-left-init g c = λ s v fresh.
@@ -79,66 +88,35 @@ overflow_sub-taken g c =
     let filled = c.loop-left.invariant s v fresh in
     omega (arith, filled.from, round32-le c.args.range.start)
 
-pub returns-clause-step : goal.returns-clause-step
-returns-clause-step g c =
-    λ s v fresh.
-    let filled = c.loop-left.invariant s v fresh in
-    let answer = number c.new.result c.if-start-first.taken c.new.ensures in
-    let first : c.in-Some.first ≡ round32 c.args.range.start = c.in-Some.ensures.1 in
-    let skipped = round32-le c.args.range.start in
-    IsFilled-end v c.args.range fresh filled (omega arith) (option_map non_zero_usize_get c.new.result)
-    (λ at. answer.0 (elim c.if-start-first.branch [ then-start-first w ↦ w.taken-is | else-start-first w ↦ absurd (w.if-start-first.false (at ∙ sym first)) ]))
-    (λ past. elim c.if-start-first.branch [
-      | then-start-first w ↦ absurd (past (w.if-start-first.true ∙ first))
-      | else-start-first w ↦ answer.1 (omega (arith, w.taken-is, filled.from, past)) ∙ ap Some w.taken-is
-    ])
-
-pub returns-clause-refused : goal.returns-clause-refused
-returns-clause-refused g c =
+pub returns : goal.returns
+returns g c =
     let (s, v, fresh) = c.requires.fresh in
     let filled = c.loop-left.invariant s v fresh in
     let first : c.in-Some.first ≡ round32 c.args.range.start = c.in-Some.ensures.1 in
-    on_none c.new.result c.if-start-first.taken c.new.ensures (λ none. filled.untouched (elim c.if-start-first.branch [
-      | then-start-first w ↦ w.if-start-first.true ∙ first
-      | else-start-first w ↦ omega (arith, w.taken-is, filled.from, round32-le c.args.range.start)
-    ]))
-
-pub returns-in_default-clause-costs : goal.returns-in_default-clause-costs
-returns-in_default-clause-costs g c =
-    Costs-within (omega arith) (Costs-same c.args.memory.now c.args.memory.now refl)
-
-pub returns-in_default-2-clause-costs : goal.returns-in_default-2-clause-costs
-returns-in_default-2-clause-costs g c =
-    Costs-within (omega arith) (Costs-same c.args.memory.now c.args.memory.now refl)
-
-pub returns-clause-costs : goal.returns-clause-costs
-returns-clause-costs g c =
-    let (s, v, fresh) = c.requires.fresh in
-    let filled = c.loop-left.invariant s v fresh in
     record {
-      start = ap (λ p. p.start) filled.place;
-      length = ap (λ p. p.len) filled.place;
-      touches = omega (arith, filled.touches);
-      grow = filled.grow;
-      copied = omega (arith, filled.copied);
-      view = filled.view;
-      none = filled.none;
+      step = λ s v fresh.
+          let filled = c.loop-left.invariant s v fresh in
+          let answer = number c.new.result c.if-start-first.taken c.new.ensures in
+          let skipped = round32-le c.args.range.start in
+          IsFilled-end v c.args.range fresh filled (omega arith) (option_map non_zero_usize_get c.new.result)
+          (λ at. answer.0 (elim c.if-start-first.branch [ then-start-first w ↦ w.taken-is | else-start-first w ↦ absurd (w.if-start-first.false (at ∙ sym first)) ]))
+          (λ past. elim c.if-start-first.branch [
+            | then-start-first w ↦ absurd (past (w.if-start-first.true ∙ first))
+            | else-start-first w ↦ answer.1 (omega (arith, w.taken-is, filled.from, past)) ∙ ap Some w.taken-is
+          ]);
+      refused = on_none c.new.result c.if-start-first.taken c.new.ensures (λ none. filled.untouched (elim c.if-start-first.branch [
+        | then-start-first w ↦ w.if-start-first.true ∙ first
+        | else-start-first w ↦ omega (arith, w.taken-is, filled.from, round32-le c.args.range.start)
+      ]));
+      own = filled.stays.own;
+      here = filled.stays.here;
+      costs = record {
+        start = ap (λ p. p.start) filled.place;
+        length = ap (λ p. p.len) filled.place;
+        touches = omega (arith, filled.touches);
+        grow = filled.grow;
+        copied = omega (arith, filled.copied);
+        view = filled.view;
+        none = filled.none;
+      };
     }
-
-pub returns-in_default-clause-own : goal.returns-in_default-clause-own
-returns-in_default-clause-own g c = (Stays-same c.args.memory.now c.args.memory.now refl refl).own
-
-pub returns-in_default-2-clause-own : goal.returns-in_default-2-clause-own
-returns-in_default-2-clause-own g c = (Stays-same c.args.memory.now c.args.memory.now refl refl).own
-
-pub returns-clause-own : goal.returns-clause-own
-returns-clause-own g c = let (s, v, fresh) = c.requires.fresh in (c.loop-left.invariant s v fresh).stays.own
-
-pub returns-in_default-clause-here : goal.returns-in_default-clause-here
-returns-in_default-clause-here g c = (Stays-same c.args.memory.now c.args.memory.now refl refl).here
-
-pub returns-in_default-2-clause-here : goal.returns-in_default-2-clause-here
-returns-in_default-2-clause-here g c = (Stays-same c.args.memory.now c.args.memory.now refl refl).here
-
-pub returns-clause-here : goal.returns-clause-here
-returns-clause-here g c = let (s, v, fresh) = c.requires.fresh in (c.loop-left.invariant s v fresh).stays.here

@@ -32,23 +32,19 @@ free_length-requires-clause-marked c =
     let (fllen, sllen, t, s, u, v, i, at) = c.requires.used in
     let m = c.args.memory.now in
     let n = c.load_at-previous.new.self in
-    let start = c.load_at-previous.ensures.start in
-    let bytes = c.load_at-previous.ensures.bytes in
-    let out = c.load_at-previous.ensures.out in
-    let marked = IsMarked-loaded m n start bytes out (IsMarked-previous v u i at c.load_at-previous.ensures.word c.if-previous-eq0.false) in
-    (fllen, sllen, t, s.free, IsFreeTable-counted m n start bytes out (IsFreeTable-free v), marked)
+    let read = c.load_at-previous.ensures in
+    let marked = IsMarked-loaded m n read.start read.bytes read.out (IsMarked-previous v u i at read.word c.if-previous-eq0.false) in
+    (fllen, sllen, t, s.free, IsFreeTable-counted m n read.start read.bytes read.out (IsFreeTable-free v), marked)
 
 pub overflow_sub-result : goal.overflow_sub-result
 overflow_sub-result c =
     let (fllen, sllen, t, s, u, v, i, at) = c.requires.used in
     let m = c.args.memory.now in
     let n = c.load_at-previous.new.self in
-    let start = c.load_at-previous.ensures.start in
-    let bytes = c.load_at-previous.ensures.bytes in
-    let out = c.load_at-previous.ensures.out in
-    let marked = IsMarked-loaded m n start bytes out (IsMarked-previous v u i at c.load_at-previous.ensures.word c.if-previous-eq0.false) in
-    let long = c.free_length.ensures.length fllen sllen t s.free (IsFreeTable-counted m n start bytes out (IsFreeTable-free v)) marked in
-    (start_or-length v u i at c.load_at-previous.ensures.word c.if-previous-eq0.false long).0
+    let read = c.load_at-previous.ensures in
+    let marked = IsMarked-loaded m n read.start read.bytes read.out (IsMarked-previous v u i at read.word c.if-previous-eq0.false) in
+    let long = c.free_length.ensures.length fllen sllen t s.free (IsFreeTable-counted m n read.start read.bytes read.out (IsFreeTable-free v)) marked in
+    (start_or-length v u i at read.word c.if-previous-eq0.false long).0
 
 pub returns-then-previous-eq0 : goal.returns-then-previous-eq0
 returns-then-previous-eq0 c = record {
@@ -63,11 +59,9 @@ returns-else-previous-eq0 c = record {
   start = λ fllen sllen t s u v i at.
       let m = c.args.memory.now in
       let n = c.load_at-previous.new.self in
-      let start = c.load_at-previous.ensures.start in
-      let bytes = c.load_at-previous.ensures.bytes in
-      let out = c.load_at-previous.ensures.out in
-      let marked = IsMarked-loaded m n start bytes out (IsMarked-previous v u i at c.load_at-previous.ensures.word c.if-previous-eq0.false) in
-      let long = c.free_length.ensures.length fllen sllen t s.free (IsFreeTable-counted m n start bytes out (IsFreeTable-free v)) marked in
-      (start_or-length v u i at c.load_at-previous.ensures.word c.if-previous-eq0.false long).1;
+      let read = c.load_at-previous.ensures in
+      let marked = IsMarked-loaded m n read.start read.bytes read.out (IsMarked-previous v u i at read.word c.if-previous-eq0.false) in
+      let long = c.free_length.ensures.length fllen sllen t s.free (IsFreeTable-counted m n read.start read.bytes read.out (IsFreeTable-free v)) marked in
+      (start_or-length v u i at read.word c.if-previous-eq0.false long).1;
   counts = search rules;
 }
