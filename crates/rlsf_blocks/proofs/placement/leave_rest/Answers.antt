@@ -65,24 +65,21 @@ link_free_block-requires g c =
     let writes = written g (goal.at.link_free_block-requires g c).After-set_word_at-3 r room start len in
     (omega arith, (c.requires.parameters, ((r, free, start, omega (arith, len), IsRoom-written r room writes), search rules)))
 
-pub returns-clause-step : goal.returns-clause-step
-returns-clause-step g c =
-    λ free r start len room.
-    let writes = written g (goal.at.returns-clause-step g c).After-set_word_at-3 r room start len in
-    IsFreeBlockBehind-written r room writes (c.link_free_block.ensures.step r free start (omega (arith, len)) (IsRoom-written r room writes))
-
-pub returns-clause-costs : goal.returns-clause-costs
-returns-clause-costs g c =
-    let one = c.set_word_at in
-    let two = c.set_word_at-2 in
-    let three = c.set_word_at-3 in
-    let first =
-    Costs-written c.args.memory.now one.new.self (c.args.block + c.args.taken) one.ensures.start one.ensures.len one.ensures.touches one.ensures.copied one.ensures.view
-    one.ensures.out in
-    let second =
-    Costs-written one.new.self two.new.self (c.args.block + c.args.taken + 8) two.ensures.start two.ensures.len two.ensures.touches two.ensures.copied two.ensures.view
-    two.ensures.out in
-    let third =
-    Costs-written two.new.self three.new.self (c.args.block + c.args.len + 8) three.ensures.start three.ensures.len three.ensures.touches three.ensures.copied
-    three.ensures.view three.ensures.out in
-    Costs-then (Costs-then (Costs-then first second) third) c.link_free_block.ensures.costs
+pub returns : goal.returns
+returns g c =
+    let at = (goal.at.returns g c).After-set_word_at-3 in
+    let n1 = c.set_word_at.new.self in
+    let n2 = c.set_word_at-2.new.self in
+    let one = c.set_word_at.ensures in
+    let two = c.set_word_at-2.ensures in
+    let three = c.set_word_at-3.ensures in
+    record {
+      step = λ free r start len room.
+          let writes = written g at r room start len in
+          IsFreeBlockBehind-written r room writes (c.link_free_block.ensures.step r free start (omega (arith, len)) (IsRoom-written r room writes));
+      costs =
+          let first = Costs-written c.args.memory.now n1 (c.args.block + c.args.taken) one.start one.len one.touches one.copied one.view one.out in
+          let second = Costs-written n1 n2 (c.args.block + c.args.taken + 8) two.start two.len two.touches two.copied two.view two.out in
+          let third = Costs-written n2 c.set_word_at-3.new.self (c.args.block + c.args.len + 8) three.start three.len three.touches three.copied three.view three.out in
+          Costs-then (Costs-then (Costs-then first second) third) c.link_free_block.ensures.costs;
+    }

@@ -31,24 +31,20 @@ leave_rest-requires g c =
       ),
     )
 
-pub returns-then-longer-clause-step : goal.returns-then-longer-clause-step
-returns-then-longer-clause-step g c =
-    λ s f v take.
-    let unlinked = c.unlink_newest_block.ensures.step f (ahead v take) (later v take) take.start (is_newest v take (at_class c.requires.class take)) (split_list v take) in
-    let short : c.args.taken < c.args.len = omega (arith, take.fits) in
-    let room = IsInnerRoom-rest v take unlinked short in
-    IsOpened-rest v take unlinked short (c.leave_rest.ensures.step (ahead v take ++ later v take) (rest v take) refl (omega (arith, take.start, take.length, take.fits)) room)
+pub returns-then-longer : goal.returns-then-longer
+returns-then-longer g c = record {
+  step = λ s f v take.
+      let unlinked = c.unlink_newest_block.ensures.step f (ahead v take) (later v take) take.start (is_newest v take (at_class c.requires.class take)) (split_list v take) in
+      let short : c.args.taken < c.args.len = omega (arith, take.fits) in
+      let room = IsInnerRoom-rest v take unlinked short in
+      IsOpened-rest v take unlinked short (c.leave_rest.ensures.step (ahead v take ++ later v take) (rest v take) refl (omega (arith, take.start, take.length, take.fits)) room);
+  costs = Costs-then c.unlink_newest_block.ensures.costs c.leave_rest.ensures.costs;
+}
 
-pub returns-else-longer-clause-step : goal.returns-else-longer-clause-step
-returns-else-longer-clause-step g c =
-    λ s f v take.
-    let unlinked = c.unlink_newest_block.ensures.step f (ahead v take) (later v take) take.start (is_newest v take (at_class c.requires.class take)) (split_list v take) in
-    IsOpened-whole v take unlinked (omega (arith, take.fits))
-
-pub returns-then-longer-clause-costs : goal.returns-then-longer-clause-costs
-returns-then-longer-clause-costs g c =
-    Costs-then c.unlink_newest_block.ensures.costs c.leave_rest.ensures.costs
-
-pub returns-else-longer-clause-costs : goal.returns-else-longer-clause-costs
-returns-else-longer-clause-costs g c =
-    Costs-within (omega arith) c.unlink_newest_block.ensures.costs
+pub returns-else-longer : goal.returns-else-longer
+returns-else-longer g c = record {
+  step = λ s f v take.
+      let unlinked = c.unlink_newest_block.ensures.step f (ahead v take) (later v take) take.start (is_newest v take (at_class c.requires.class take)) (split_list v take) in
+      IsOpened-whole v take unlinked (omega (arith, take.fits));
+  costs = Costs-within (omega arith) c.unlink_newest_block.ensures.costs;
+}

@@ -68,32 +68,18 @@ set_word-requires-4 g c =
     let lies = new.lies_in in
     let room = new.room in
     let whole = new.whole in
+    let one = c.set_word.ensures in
+    let two = c.set_word-2.ensures in
+    let three = c.set_word-3.ensures in
     let a = chunk.start + (chunk.len - 32) + 8 in (
       omega arith,
       (
-        omega (
-          arith,
-          c.set_word.ensures.start,
-          c.set_word.ensures.len,
-          c.set_word-2.ensures.start,
-          c.set_word-2.ensures.len,
-          c.set_word-3.ensures.start,
-          c.set_word-3.ensures.len,
-        ),
-        omega (
-          arith,
-          c.set_word.ensures.start,
-          c.set_word.ensures.len,
-          c.set_word-2.ensures.start,
-          c.set_word-2.ensures.len,
-          c.set_word-3.ensures.start,
-          c.set_word-3.ensures.len,
-        ),
+        omega (arith, one.start, one.len, two.start, two.len, three.start, three.len),
+        omega (arith, one.start, one.len, two.start, two.len, three.start, three.len),
       ),
-      own-there c.set_word-2.new.self c.set_word-3.new.self (word_range a) (omega (arith, c.set_word.ensures.start, c.set_word-2.ensures.start)) c.set_word-3.ensures.own
-          (own-there c.set_word.new.self c.set_word-2.new.self (word_range a) (omega (arith, c.set_word.ensures.start)) c.set_word-2.ensures.own
-          (own-there c.args.memory.now c.set_word.new.self (word_range a) (omega arith) c.set_word.ensures.own
-          (own-word c.args.memory.now chunk a new.own (omega arith) (omega arith)))),
+      own-there c.set_word-2.new.self c.set_word-3.new.self (word_range a) (omega (arith, one.start, two.start)) three.own
+          (own-there c.set_word.new.self c.set_word-2.new.self (word_range a) (omega (arith, one.start)) two.own
+          (own-there c.args.memory.now c.set_word.new.self (word_range a) (omega arith) one.own (own-word c.args.memory.now chunk a new.own (omega arith) (omega arith)))),
     )
 
 pub link_free_block-requires : goal.link_free_block-requires
@@ -103,28 +89,25 @@ link_free_block-requires g c =
     let writes = written g (goal.at.link_free_block-requires g c).After-set_word-4 v new in
     (omega arith, (c.requires.parameters, ((body chunk, s.free, refl, refl, IsRoom-body v chunk new writes), search rules)))
 
-pub returns-clause-step : goal.returns-clause-step
-returns-clause-step g c =
-    λ s v new.
+pub returns : goal.returns
+returns g c =
+    let at = (goal.at.returns g c).After-set_word-4 in
     let chunk = c.args.chunk in
-    let writes = written g (goal.at.returns-clause-step g c).After-set_word-4 v new in
-    IsAdded-written v chunk new writes (c.link_free_block.ensures.step (body chunk) s.free refl refl (IsRoom-body v chunk new writes))
-
-pub returns-clause-costs : goal.returns-clause-costs
-returns-clause-costs g c =
-    let one = c.set_word in
-    let two = c.set_word-2 in
-    let three = c.set_word-3 in
-    let four = c.set_word-4 in
-    let first =
-    Costs-written c.args.memory.now one.new.self c.args.chunk.start one.ensures.start one.ensures.len one.ensures.touches one.ensures.copied one.ensures.view one.ensures.out in
-    let second =
-    Costs-written one.new.self two.new.self (c.args.chunk.start + 8) two.ensures.start two.ensures.len two.ensures.touches two.ensures.copied two.ensures.view
-    two.ensures.out in
-    let third =
-    Costs-written two.new.self three.new.self (c.args.chunk.start + (c.args.chunk.len - 32)) three.ensures.start three.ensures.len three.ensures.touches three.ensures.copied
-    three.ensures.view three.ensures.out in
-    let fourth =
-    Costs-written three.new.self four.new.self (c.args.chunk.start + (c.args.chunk.len - 32) + 8) four.ensures.start four.ensures.len four.ensures.touches four.ensures.copied
-    four.ensures.view four.ensures.out in
-    Costs-then (Costs-then (Costs-then (Costs-then first second) third) fourth) c.link_free_block.ensures.costs
+    let n1 = c.set_word.new.self in
+    let n2 = c.set_word-2.new.self in
+    let n3 = c.set_word-3.new.self in
+    let one = c.set_word.ensures in
+    let two = c.set_word-2.ensures in
+    let three = c.set_word-3.ensures in
+    let four = c.set_word-4.ensures in
+    record {
+      step = λ s v new.
+          let writes = written g at v new in
+          IsAdded-written v chunk new writes (c.link_free_block.ensures.step (body chunk) s.free refl refl (IsRoom-body v chunk new writes));
+      costs =
+          let first = Costs-written c.args.memory.now n1 chunk.start one.start one.len one.touches one.copied one.view one.out in
+          let second = Costs-written n1 n2 (chunk.start + 8) two.start two.len two.touches two.copied two.view two.out in
+          let third = Costs-written n2 n3 (chunk.start + (chunk.len - 32)) three.start three.len three.touches three.copied three.view three.out in
+          let fourth = Costs-written n3 c.set_word-4.new.self (chunk.start + (chunk.len - 32) + 8) four.start four.len four.touches four.copied four.view four.out in
+          Costs-then (Costs-then (Costs-then (Costs-then first second) third) fourth) c.link_free_block.ensures.costs;
+    }

@@ -51,31 +51,25 @@ loop-start-preserved g c = λ s v row idle.
     (span, IsRemovedTo-next v q rowed idles is more step e.costs (record { start = e.costs.start; own = e.own; here = e.here }))
 
 pub returns : goal.returns
-returns g c = record {
-  step = λ s v row idle.
-      let (span, is) = c.loop-start.invariant s v row idle in
-      let end : c.loop-start.start ≡ c.span-start.result.1 = omega (arith, is.to, span.within, c.loop-start-test.false) in
-      let stands = subst (λ a. StandsFor g.row.FLLEN g.row.SLLEN (contents c.loop-start.memory c.loop-start.table) (removed (between c.span-start.result.0 a) s)) end is.stands in
-      (subst (StandsFor g.row.FLLEN g.row.SLLEN (contents c.loop-start.memory c.loop-start.table)) (removed-span v (walked c.args.range) _ _ span) stands, is.spare);
-  place =
-      let (s, v, row, idle) = c.requires.idle in
-      (c.loop-start.invariant s v row idle).1.place;
-  touches = λ s v row idle.
-      let (span, is) = c.loop-start.invariant s v row idle in
-      let end : c.loop-start.start ≡ c.span-start.result.1 = omega (arith, is.to, span.within, c.loop-start-test.false) in
-      let same = ap (λ (x : State). length x.chunks) (removed-span v (walked c.args.range) _ _ span) in
-      let at_end = ap (λ a. length (outside_of (between c.span-start.result.0 a) s.chunks)) end in
-      omega (arith, is.touches, same, at_end);
-  grow =
-      let (s, v, row, idle) = c.requires.idle in
-      (c.loop-start.invariant s v row idle).1.grow;
-  copied =
-      let (s, v, row, idle) = c.requires.idle in
-      (c.loop-start.invariant s v row idle).1.copied;
-  own =
-      let (s, v, row, idle) = c.requires.idle in
-      (c.loop-start.invariant s v row idle).1.stays.own;
-  here =
-      let (s, v, row, idle) = c.requires.idle in
-      (c.loop-start.invariant s v row idle).1.stays.here;
-}
+returns g c =
+    let (s, v, row, idle) = c.requires.idle in
+    let so_far = (c.loop-start.invariant s v row idle).1 in
+    record {
+      step = λ s v row idle.
+          let (span, is) = c.loop-start.invariant s v row idle in
+          let end : c.loop-start.start ≡ c.span-start.result.1 = omega (arith, is.to, span.within, c.loop-start-test.false) in
+          let after = StandsFor g.row.FLLEN g.row.SLLEN (contents c.loop-start.memory c.loop-start.table) in
+          let stands = subst (λ a. after (removed (between c.span-start.result.0 a) s)) end is.stands in
+          (subst after (removed-span v (walked c.args.range) _ _ span) stands, is.spare);
+      place = so_far.place;
+      touches = λ s v row idle.
+          let (span, is) = c.loop-start.invariant s v row idle in
+          let end : c.loop-start.start ≡ c.span-start.result.1 = omega (arith, is.to, span.within, c.loop-start-test.false) in
+          let same = ap (λ (x : State). length x.chunks) (removed-span v (walked c.args.range) _ _ span) in
+          let at_end = ap (λ a. length (outside_of (between c.span-start.result.0 a) s.chunks)) end in
+          omega (arith, is.touches, same, at_end);
+      grow = so_far.grow;
+      copied = so_far.copied;
+      own = so_far.stays.own;
+      here = so_far.stays.here;
+    }
