@@ -2,4 +2,3 @@
 pub mod Placements
 pub mod Rests
 pub mod TakenOut
-pub mod UsedBlocks

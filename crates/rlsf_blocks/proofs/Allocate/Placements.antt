@@ -4,7 +4,7 @@ use Rattle.rlsf_base.specs.OpenSpace.{IsWritable, SameOwn, out_with}
 use Rattle.rlsf_base.proofs.Lending.Present.{own-word, own-inside}
 use Rattle.rlsf_base.specs.Space.{word_range}
 use Rattle.rlsf_blocks.proofs.Words.NeverOut.{here_free}
-use Rattle.std.proofs.Common.{◌≡◌, ℕ, ◌+◌, ◌-◌, ◌%◌, ◌^◌, ◌<◌, ◌≤◌, ◌⊎◌, ◌++◌, length, drop, Some, arith, inl, inr, refl, sym}
+use Rattle.std.proofs.Common.{◌≡◌, ℕ, ◌+◌, ◌-◌, ◌%◌, ◌^◌, ◌<◌, ◌≤◌, ◌⊎◌, List, ◌∷◌, ◌++◌, length, drop, Some, arith, inl, inr, refl, sym}
 use Rattle.std.proofs.Common.{◌∙◌, ap, subst}
 use mathlib.Core.Path.{ap₂}
 use Rattle.std.proofs.lemmas.List.{length-drop, length-take-le}
@@ -21,7 +21,6 @@ use Rattle.rlsf_table.proofs.Tables.FreeTables.{HasTable-Rewrites}
 use Rattle.rlsf_table.proofs.Words.Writes.{CanBeBlock-Rewrites, Rewrites-trans, Rewrites-weaken, Writes, Writes-some}
 use Rattle.rlsf_table.proofs.Words.Writing.{IsWrite, write, rewrites_of, reads_of}
 use Rattle.rlsf_blocks.specs.Steps.Touched.{Touched, in_hole}
-use Rattle.rlsf_blocks.specs.InBand.{sentinel_of}
 use Rattle.rlsf_model.specs.Allocate.{choice, given, has_class, placed, Places, rest_behind}
 use Rattle.rlsf_model.specs.Lists.{IsIn, without}
 use Rattle.rlsf_model.specs.Payload.{block_for, block_length, payload_of}
@@ -30,8 +29,8 @@ use Rattle.rlsf_model.specs.WellFormed.{IsWellFormed}
 use Rattle.rlsf_blocks.specs.Spare.{KeepsSpare}
 use Rattle.rlsf_blocks.specs.Steps.Rest.{IsOpened, IsTaken}
 use Rattle.rlsf_blocks.specs.StandsFor.{contents, StandsFor}
-use Rattle.rlsf_blocks.proofs.Words.Apart.{Has, free_in_memory, home_of_free}
-use Rattle.rlsf_blocks.proofs.Allocate.UsedBlocks.{IsCarved, StandsFor-carved}
+use Rattle.rlsf_blocks.proofs.Words.Apart.{used_free, free_in_memory, home_of_free}
+use Rattle.rlsf_blocks.proofs.Words.Refilled.{IsUsedStill, old_used, new_used, old_free, new_free, IsRefilled, StandsFor-refilled, KeepsSpare-refilled}
 use Rattle.rlsf_blocks.proofs.Words.Frames.{wide_whole}
 use Rattle.rlsf_blocks.proofs.Words.Stays.{Stays, Stays-rewrites, Stays-then}
 use Rattle.rlsf_blocks.proofs.RepresentedStates.FreeBlocks.{CanBeBlock-free}
@@ -41,7 +40,6 @@ use Rattle.rlsf_model.proofs.Choices.{choice-some}
 use Rattle.rlsf_model.proofs.Coverage.{IsIn-append, IsIn-without}
 use Rattle.rlsf_model.proofs.Payloads.{block_length-le, block_length-whole, payload_of-after, payload_of-aligned}
 use Rattle.rlsf_blocks.proofs.Allocate.TakenOut.{left_apart}
-use Rattle.rlsf_blocks.proofs.Chunks.Pools.{KeepsSpare-Touched}
 
 pub length-bytes_in : (m : Space) (r : Range) → LiesIn r m.start (length m.bytes) → length (bytes_in m r) ≡ r.len
 length-bytes_in m r inside = length-take-le r.len (drop (r.start - m.start) m.bytes) (omega (arith, length-drop (r.start - m.start) m.bytes, inside))
@@ -96,7 +94,10 @@ module _ {fllen sllen : ℕ} {m : Space} {table : Table} {s : State} (v : Stands
   module _ {n1 n2 n : Space} {changed : Table} (opened : IsOpened fllen sllen m n1 changed s f (range_at f.start (block_length f.start (payload_of f.start align) size)))
       (sized : IsWrite n1 n2 f.start (block_length f.start (payload_of f.start align) size + 1)) (padded : Writes n2 n (32 ≤ align) (payload_of f.start align - 8) f.start) where
     abbrev u : Used
-    u = placed f size align (bytes_in n (between (payload_of f.start align) (end_of (block_for f.start (payload_of f.start align) size))))
+    u = placed f size align (bytes_in n (between payload (end_of (block_for f.start payload size))))
+
+    abbrev left : List Range
+    left = rest_behind (range_at f.start taken) (end_of f) ++ without (has_class sllen (class_of sllen f.len)) s.free
 
     -- the two words that were written last
     last : Rewrites n1 n (λ a. (a ≡ f.start) ⊎ ((32 ≤ align) × (a ≡ payload_of f.start align - 8)))
@@ -123,71 +124,61 @@ module _ {fllen sllen : ℕ} {m : Space} {table : Table} {s : State} (v : Stands
         go (inl at) = omega (arith, fitting.whole)
         go (inr (w, at)) = omega (arith, fitting.wide w, fitting.after_start)
 
-    pub IsCarved-written : IsCarved fllen sllen m n changed s f
-        (placed f size align (bytes_in n (between (payload_of f.start align) (end_of (block_for f.start (payload_of f.start align) size)))))
-    IsCarved-written =
+    -- the words once its front is the block
+    refilled : IsRefilled fllen sllen m n changed s (u ∷ s.used) left f
+    refilled =
         let fit = fitting in
         let place = free_in_memory v.well_formed f is_free in
-        let is = v.well_formed.free f is_free in
         record {
           rewrites = rewrites;
-          size = padded.rewrites.words f.start (omega (arith, fit.whole)) (omega (arith, same_start, sized.start, place.0)) size_apart ∙ reads_of sized;
           first = second (f.start + 8) (omega (arith, fit.whole)) (omega (arith, place.0)) ∙ opened.first;
-          behind = second (f.start + block_length f.start (payload_of f.start align) size + 8) (omega (arith, fit.whole, fit.granules)) (omega (arith, place.0)) ∙ opened.behind;
-          rest = λ g i. (rest_size g i ∙ (opened.rest g i).0, rest_previous g i ∙ (opened.rest g i).1);
-          pad = padded.reads;
-          bytes = refl;
-          listed = HasTable-Rewrites last linked other opened.table;
+          used_still = used_still;
+          free_still = λ g i. elim (sorted g i) [
+            | inl j ↦ new_free (rest_size g j ∙ (opened.rest g j).0) (rest_previous g j ∙ (opened.rest g j).1)
+            | inr j ↦ old_free (IsIn-without (has_class sllen (class_of sllen f.len)) g s.free j) (λ a hg hf. left_apart v IsTaken-chosen g j a hg.from hg.to hf.from hf.to)
+          ];
+          table = HasTable-Rewrites last linked other opened.table;
+          own = λ a from unlent. v.own a from (λ x i. unlent x (inr i));
         }
       where
-        size_apart : (32 ≤ align) × (f.start ≡ payload_of f.start align - 8) → ⊥
-        size_apart (w, at) = omega (arith, fitting.after_start)
-
-        rest_size : (g : Range) → IsIn g (rest_behind (range_at f.start (block_length f.start (payload_of f.start align) size)) (end_of f))
-            → word_at n g.start ≡ word_at n1 g.start
-        rest_size g i =
-            let (same, short) = IsIn-rest_behind (range_at f.start (block_length f.start (payload_of f.start align) size)) (end_of f) g i in
-            let start : g.start ≡ f.start + block_length f.start (payload_of f.start align) size = ap (λ q. q.start) same in
+        used_still : (y : Used) → IsIn y (u ∷ s.used) → IsUsedStill n s f y
+        used_still y (inr i) = old_used i (λ a hy hf. used_free v.well_formed y f a i is_free hy hf)
+        used_still y (inl same) =
+            let fit = fitting in
             let place = free_in_memory v.well_formed f is_free in
-            last.words g.start (omega (arith, fitting.whole, fitting.granules)) (omega (arith, same_start, place.0)) (apart start)
+            let size =
+            padded.rewrites.words f.start (omega (arith, fit.whole)) (omega (arith, same_start, sized.start, place.0)) (λ (w, at). omega (arith, fit.after_start))
+            ∙ reads_of sized in
+            let behind = second (f.start + taken + 8) (omega (arith, fit.whole, fit.granules)) (omega (arith, place.0)) ∙ opened.behind in
+            subst (IsUsedStill n s f) (sym same) (new_used size behind refl padded.reads)
+
+        rest_size : (g : Range) → IsIn g (rest_behind (range_at f.start taken) (end_of f)) → word_at n g.start ≡ word_at n1 g.start
+        rest_size g i =
+            let start : g.start ≡ f.start + taken = ap (λ q. q.start) (IsIn-rest_behind (range_at f.start taken) (end_of f) g i).0 in
+            last.words g.start (omega (arith, fitting.whole, fitting.granules)) (omega (arith, same_start, (free_in_memory v.well_formed f is_free).0)) (apart start)
           where
-            apart : g.start ≡ f.start + block_length f.start (payload_of f.start align) size
-                → (g.start ≡ f.start) ⊎ ((32 ≤ align) × (g.start ≡ payload_of f.start align - 8)) → ⊥
+            apart : g.start ≡ f.start + taken → (g.start ≡ f.start) ⊎ ((32 ≤ align) × (g.start ≡ payload - 8)) → ⊥
             apart start (inl at) = omega (arith, fitting.long)
             apart start (inr (w, at)) = omega (arith, fitting.before_end, fitting.after_start)
 
-        rest_previous : (g : Range) → IsIn g (rest_behind (range_at f.start (block_length f.start (payload_of f.start align) size)) (end_of f))
-            → word_at n (end_of g + 8) ≡ word_at n1 (end_of g + 8)
+        rest_previous : (g : Range) → IsIn g (rest_behind (range_at f.start taken) (end_of f)) → word_at n (end_of g + 8) ≡ word_at n1 (end_of g + 8)
         rest_previous g i =
-            let (same, short) = IsIn-rest_behind (range_at f.start (block_length f.start (payload_of f.start align) size)) (end_of f) g i in
+            let (same, short) = IsIn-rest_behind (range_at f.start taken) (end_of f) g i in
             let end : end_of g ≡ end_of f = ap end_of same ∙ omega arith in
-            let place = free_in_memory v.well_formed f is_free in
             let is = v.well_formed.free f is_free in
-            second (end_of g + 8) (omega (arith, is.whole.start, is.whole.len)) (omega (arith, place.0))
+            second (end_of g + 8) (omega (arith, is.whole.start, is.whole.len)) (omega (arith, (free_in_memory v.well_formed f is_free).0))
 
         -- a block of the list lies behind the front of f, or apart from f
-        sorted : (g : Range) → IsIn g
-            (rest_behind (range_at f.start (block_length f.start (payload_of f.start align) size)) (end_of f) ++ without (has_class sllen (class_of sllen f.len)) s.free)
-            → (g ≡ between (f.start + block_length f.start (payload_of f.start align) size) (end_of f))
-            × (f.start + block_length f.start (payload_of f.start align) size < end_of f)
-            ⊎ IsIn g (without (has_class sllen (class_of sllen f.len)) s.free)
-        sorted g i =
-            elim (IsIn-append g (rest_behind (range_at f.start (block_length f.start (payload_of f.start align) size)) (end_of f))
-            (without (has_class sllen (class_of sllen f.len)) s.free) i) [
-              | inl j ↦ inl (IsIn-rest_behind (range_at f.start (block_length f.start (payload_of f.start align) size)) (end_of f) g j)
-              | inr j ↦ inr j
-            ]
+        sorted : (g : Range) → IsIn g left → IsIn g (rest_behind (range_at f.start taken) (end_of f)) ⊎ IsIn g (without (has_class sllen (class_of sllen f.len)) s.free)
+        sorted g = IsIn-append g (rest_behind (range_at f.start taken) (end_of f)) (without (has_class sllen (class_of sllen f.len)) s.free)
 
-        linked : (g : Range) → IsIn g
-            (rest_behind (range_at f.start (block_length f.start (payload_of f.start align) size)) (end_of f) ++ without (has_class sllen (class_of sllen f.len)) s.free)
-            → CanBeBlock n1 g
+        linked : (g : Range) → IsIn g left → CanBeBlock n1 g
         linked g i = elim (sorted g i) [
-          | inl (same, short) ↦ subst (CanBeBlock n1) (sym same) (rest_placed short)
+          | inl j ↦ let (same, short) = IsIn-rest_behind (range_at f.start taken) (end_of f) g j in subst (CanBeBlock n1) (sym same) (rest_placed short)
           | inr j ↦ CanBeBlock-Rewrites opened.rewrites (CanBeBlock-free v g (IsIn-without (has_class sllen (class_of sllen f.len)) g s.free j))
         ]
           where
-            rest_placed : f.start + block_length f.start (payload_of f.start align) size < end_of f
-                → CanBeBlock n1 (between (f.start + block_length f.start (payload_of f.start align) size) (end_of f))
+            rest_placed : f.start + taken < end_of f → CanBeBlock n1 (between (f.start + taken) (end_of f))
             rest_placed short =
                 let fit = fitting in
                 let place = free_in_memory v.well_formed f is_free in
@@ -198,30 +189,24 @@ module _ {fllen sllen : ℕ} {m : Space} {table : Table} {s : State} (v : Stands
                   whole = omega (arith, fit.whole, fit.granules);
                   room = omega (arith, fit.whole, fit.granules, is.whole.len);
                   lies_in = (omega (arith, place.0), omega (arith, place.1, opened.rewrites.length));
-                  own =
-                      own-there m n1 (between (f.start + block_length f.start (payload_of f.start align) size) (end_of f)) (omega arith) opened.rewrites.own
-                      (own-inside m f (between (f.start + block_length f.start (payload_of f.start align) size) (end_of f)) (omega arith) (omega (arith, short))
-                      (here_free v f is_free));
+                  own = own-there m n1 (between (f.start + taken) (end_of f)) (omega arith) opened.rewrites.own
+                      (own-inside m f (between (f.start + taken) (end_of f)) (omega arith) (omega (arith, short)) (here_free v f is_free));
                 }
 
-        no_link : (g : Range) → IsIn g
-            (rest_behind (range_at f.start (block_length f.start (payload_of f.start align) size)) (end_of f) ++ without (has_class sllen (class_of sllen f.len)) s.free)
-            → (i : ℕ) → i % 8 ≡ 0 → 8 ≤ i → i + 8 ≤ 32 → (g.start + i ≡ f.start) ⊎ ((32 ≤ align) × (g.start + i ≡ payload_of f.start align - 8)) → ⊥
+        no_link : (g : Range) → IsIn g left → (i : ℕ) → i % 8 ≡ 0 → 8 ≤ i → i + 8 ≤ 32
+            → (g.start + i ≡ f.start) ⊎ ((32 ≤ align) × (g.start + i ≡ payload - 8)) → ⊥
         no_link g among i whole some within (inl at) = omega (arith, (linked g among).whole, fitting.whole)
         no_link g among i whole some within (inr (w, at)) = elim (sorted g among) [
-          | inl (same, short) ↦ let start : g.start ≡ f.start + block_length f.start (payload_of f.start align) size = ap (λ q. q.start) same in
+          | inl j ↦ let start : g.start ≡ f.start + taken = ap (λ q. q.start) (IsIn-rest_behind (range_at f.start taken) (end_of f) g j).0 in
               omega (arith, fitting.before_end, fitting.after_start)
           | inr j ↦
               let fit = fitting in
-              let p = linked g among in
-              left_apart v IsTaken-chosen g j (g.start + i) (omega arith) (omega (arith, p.room)) (omega (arith, fit.after_start))
+              left_apart v IsTaken-chosen g j (g.start + i) (omega arith) (omega (arith, (linked g among).room)) (omega (arith, fit.after_start))
               (omega (arith, fit.after_start, fit.before_end, placed-fits v.well_formed f size align power chosen))
         ]
 
-        other : (g : Range) → IsIn g
-            (rest_behind (range_at f.start (block_length f.start (payload_of f.start align) size)) (end_of f) ++ without (has_class sllen (class_of sllen f.len)) s.free)
-            → ¬ ((g.start + 16 ≡ f.start) ⊎ ((32 ≤ align) × (g.start + 16 ≡ payload_of f.start align - 8)))
-            × ¬ ((g.start + 24 ≡ f.start) ⊎ ((32 ≤ align) × (g.start + 24 ≡ payload_of f.start align - 8)))
+        other : (g : Range) → IsIn g left → ¬ ((g.start + 16 ≡ f.start) ⊎ ((32 ≤ align) × (g.start + 16 ≡ payload - 8)))
+            × ¬ ((g.start + 24 ≡ f.start) ⊎ ((32 ≤ align) × (g.start + 24 ≡ payload - 8)))
         other g i = (no_link g i 16 refl (omega arith) (omega arith), no_link g i 24 refl (omega arith) (omega arith))
 
     -- the state with the block is in the memory, and no spare byte has changed
@@ -230,39 +215,29 @@ module _ {fllen sllen : ℕ} {m : Space} {table : Table} {s : State} (v : Stands
     Places-written addr is =
         let fit = fitting in
         let place = free_in_memory v.well_formed f is_free in
-        let bytes = bytes_in n (between (payload_of f.start align) (end_of (block_for f.start (payload_of f.start align) size))) in
-        let inside : LiesIn (between (payload_of f.start align) (end_of (block_for f.start (payload_of f.start align) size))) n.start (length n.bytes) = (
+        let free = v.well_formed.free f is_free in
+        let home = home_of_free v.well_formed f is_free in
+        let bytes = bytes_in n (between payload (end_of (block_for f.start payload size))) in
+        let inside : LiesIn (between payload (end_of (block_for f.start payload size))) n.start (length n.bytes) = (
           omega (arith, rewrites.start, place.0, fit.after_start),
           omega (arith, rewrites.start, rewrites.length, place.1, fit.before_end, placed-fits v.well_formed f size align power chosen),
         ) in
-        let long : length bytes ≡ end_of (block_for f.start (payload_of f.start align) size) - payload_of f.start align =
-        length-bytes_in n (between (payload_of f.start align) (end_of (block_for f.start (payload_of f.start align) size))) inside in
+        let long : length bytes ≡ end_of (block_for f.start payload size) - payload = length-bytes_in n (between payload (end_of (block_for f.start payload size))) inside in
         let well_formed = IsWellFormed-given v.well_formed f size align power chosen bytes long in
         let same : range_of n ≡ range_of m = ap₂ (λ a l. range_at a l) rewrites.start rewrites.length in
-        let t_well_formed = subst (λ p. IsWellFormed fllen sllen p (given sllen s f (placed f size align bytes))) (sym same) well_formed in (
-          given sllen s f (placed f size align bytes),
+        let t_well_formed = subst (λ p. IsWellFormed fllen sllen p (given sllen s f u)) (sym same) well_formed in (
+          given sllen s f u,
           record {
             range = f;
             bytes = bytes;
             chosen = chosen;
             answer = is;
-            length = long ∙ ap (λ p. end_of (block_for f.start (payload_of f.start align) size) - p) (sym is);
+            length = long ∙ ap (λ p. end_of (block_for f.start payload size) - p) (sym is);
             after = refl;
           },
-          StandsFor-carved v f is_free (placed f size align bytes) refl (omega (arith, fit.long)) IsCarved-written t_well_formed,
-          KeepsSpare-Touched v.well_formed (given sllen s f (placed f size align bytes)) f (end_of f + 8) rewrites no_hole no_other,
+          StandsFor-refilled v f free.whole free.some home refilled t_well_formed,
+          KeepsSpare-refilled v f free.whole free.some home refilled,
         )
-      where
-        no_hole : (a : ℕ) → ((c : Range) → IsIn c s.chunks → c.start ≤ a → a < end_of c → sentinel_of c + 16 ≤ a) → Has f a → ⊥
-        no_hole a spare h =
-            let home = home_of_free v.well_formed f is_free in
-            omega (arith, spare home.chunk home.is_chunk (omega (arith, home.from, h.from)) (omega (arith, home.to, h.to)), home.to, h.to)
-
-        no_other : (a : ℕ) → ((c : Range) → IsIn c s.chunks → c.start ≤ a → a < end_of c → sentinel_of c + 16 ≤ a) → end_of f + 8 ≤ a → a < end_of f + 8 + 8
-            → ⊥
-        no_other a spare low high =
-            let home = home_of_free v.well_formed f is_free in
-            omega (arith, spare home.chunk home.is_chunk (omega (arith, home.from)) (omega (arith, home.to)), home.to)
 
   -- what the code computes of the block, its payload and its length
   pub record AreComputed (block len address bytes : ℕ) : Type 0 where
