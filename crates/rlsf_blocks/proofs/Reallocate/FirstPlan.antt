@@ -21,10 +21,6 @@ or_else-none_first : (p q : Option Plan) → or_else p q ≡ None → p ≡ None
 or_else-none_first None q none = refl
 or_else-none_first (Some p) q none = absurd (cc)
 
-or_else-none : (p q : Option Plan) → or_else p q ≡ None → q ≡ None
-or_else-none None q none = none
-or_else-none (Some p) q none = absurd (cc)
-
 module _ (s : State) (u : Used) (size : ℕ) where
   -- one of the first two plans, if one of them can be
   pub plan-stays : (p : Plan) → or_else (in_place s u size) (into_next s u size) ≡ Some p → plan s u size ≡ Some p

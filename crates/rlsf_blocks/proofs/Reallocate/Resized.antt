@@ -28,10 +28,11 @@ use Rattle.rlsf_blocks.proofs.Allocate.Placements.{length-bytes_in}
 use Rattle.rlsf_blocks.proofs.RepresentedStates.Counted.{KeepsSpare-counted, StandsFor-counted}
 use Rattle.rlsf_table.proofs.Words.Writes.{Rewrites-trans, Rewrites-weaken}
 use Rattle.rlsf_blocks.proofs.Reallocate.NextPlans.{stretched, kept_whole, tail_joined-same, IsSound-kept, IsSound-stretched}
-use Rattle.rlsf_blocks.proofs.Reallocate.Spans.{own_but_front, reach, span_of, staying, end_of-span, home, IsWhole-span}
+use Rattle.rlsf_blocks.proofs.Reallocate.Spans.{reach, span_of, staying, end_of-span, home, IsWhole-span}
 use Rattle.rlsf_blocks.proofs.Reallocate.Spans.{free_apart, used_apart, span-some, span_in_memory, was_free}
 use Rattle.rlsf_blocks.proofs.Words.Apart.{used_free, used_in_memory}
 use Rattle.rlsf_blocks.proofs.Words.Frames.{sides, wide_whole}
+use Rattle.rlsf_blocks.proofs.Words.NeverOut.{own_but_front}
 use Rattle.rlsf_blocks.proofs.Words.Refilled.{IsUsedStill, old_used, new_used, IsFreeStill, old_free, new_free, IsRefilled, StandsFor-refilled, KeepsSpare-refilled}
 
 -- as many first bytes of two ranges at one address as both have are the same, if they are the same in both memories

@@ -23,7 +23,7 @@ use Rattle.rlsf_blocks.specs.Steps.Join.{IsNextOut}
 use Rattle.rlsf_blocks.specs.Steps.Resize.{IsSpanRoom}
 use Rattle.rlsf_table.specs.Table.{Table}
 use Rattle.rlsf_blocks.proofs.Words.Apart.{Has, used_used}
-use Rattle.rlsf_blocks.proofs.Words.NeverOut.{here_front}
+use Rattle.rlsf_blocks.proofs.Words.NeverOut.{here_front, own_but_front}
 
 -- where the free block behind a used one ends, or where that ends itself
 abbrev pub reach : State → Used → ℕ
@@ -99,28 +99,6 @@ module _ {fllen sllen : ℕ} {m : Space} {t : Table} {s : State} (v : StandsFor 
   -- ---- which of its bytes are the memory's own, if those from an address on are, up to the used block's end
 
   module _ (x : ℕ) (own : IsOwned m (between x (end_of u.block))) where
-    -- nothing is out but usable bytes of the other payloads, and those of this one before that address
-    pub own_but_front : (a : ℕ) → m.start ≤ a → (a < u.payload) ⊎ (x ≤ a) → IsUnlent (released s u) a → is_own (out_at m a) ≡ true
-    own_but_front a from side unlent = elim side [
-      | inl before ↦ v.own a from (λ y j. elim (cases_eq y.payload u.payload) [
-        | inl same ↦ inl (omega arith)
-        | inr other ↦ unlent y (IsIn-others_from u.payload y s.used j other)
-      ])
-      | inr low ↦ elim (cases_lt a (end_of u.block)) [
-        | inl within ↦ own a low (omega (arith, low, within))
-        | inr past ↦ v.own a from (λ y j. elim (cases_eq y.payload u.payload) [
-          | inl same ↦
-              let is = v.well_formed.used u i in let at = v.well_formed.used y j in
-              let has_u : Has u.block (u.payload - 1) = record { from = omega (arith, IsUsed-after_start u is); to = omega (arith, IsUsed-after_start u is, is.within) } in
-              let has_y : Has y.block (u.payload - 1) =
-              record { from = omega (arith, IsUsed-after_start y at, same); to = omega (arith, IsUsed-after_start y at, same, at.within) } in
-              let one = used_used v.well_formed y u (u.payload - 1) j i has_y has_u in
-              inr (subst (λ (z : Used). end_of z.block ≤ a) (sym one) past)
-          | inr other ↦ unlent y (IsIn-others_from u.payload y s.used j other)
-        ])
-      ]
-    ]
-
     deep : (y : Used) → IsIn y (others u.payload s.used) → y.block.start + 16 ≤ y.payload
     deep y j = IsUsed-after_start y (v.well_formed.used y (IsIn-others u.payload y s.used j).0)
 
@@ -136,14 +114,14 @@ module _ {fllen sllen : ℕ} {m : Space} {t : Table} {s : State} (v : StandsFor 
 
     pub IsOwned-rest : u.block.start ≤ x → IsOwned m (between x (end_of (span_of s u)))
     IsOwned-rest after a lo hi =
-        own_but_front a (omega (arith, span_in_memory.0, after, lo)) (inr lo)
+        own_but_front v u i x own a (omega (arith, span_in_memory.0, after, lo)) (inr lo)
         (beside a (λ y j low high. used_apart y j a (record { from = omega (arith, deep y j, low); to = high })
         (record { from = omega (arith, after, lo); to = omega (arith, lo, hi) })))
 
     pub IsOwned-behind_span : x ≤ end_of (span_of s u) → IsOwned m (range_at (end_of (span_of s u)) 16)
     IsOwned-behind_span fits a lo hi =
         let long = span-some in
-        own_but_front a (omega (arith, span_in_memory.0, lo)) (inr (omega (arith, fits, lo)))
+        own_but_front v u i x own a (omega (arith, span_in_memory.0, lo)) (inr (omega (arith, fits, lo)))
         (beside a (λ y j low high. elim (cases_lt y.block.start (end_of (span_of s u))) [
           | inl before ↦ used_apart y j (end_of (span_of s u) - 1) (record { from = omega arith; to = omega (arith, high, lo) })
               (record { from = omega arith; to = omega arith })

@@ -51,6 +51,3 @@ module _ (m n : Space) (more : ℕ) (touched : n ≡ record m { touches = m.touc
   -- more touches alone were counted
   pub StandsFor-touched : {fllen sllen : ℕ} {t : Table} {s : State} → StandsFor fllen sllen (contents m t) s → StandsFor fllen sllen (contents n t) s
   StandsFor-touched = StandsFor-counted m n (ap (λ o. o.start) touched) (ap (λ o. o.bytes) touched) (ap (λ o. o.out) touched)
-
-  pub KeepsSpare-touched_first : (s t : State) (o : Space) → KeepsSpare n s o t → KeepsSpare m s o t
-  KeepsSpare-touched_first = KeepsSpare-counted_first m n (ap (λ o. o.start) touched) (ap (λ o. o.bytes) touched) (ap (λ o. o.out) touched)

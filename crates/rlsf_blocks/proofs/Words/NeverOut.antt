@@ -1,5 +1,5 @@
 -- What isn't out, since it is no usable byte of a payload: free blocks, the first words of each block, and a chunk's last bytes.
-use Rattle.std.proofs.Common.{true, subst, sym, ◌≡◌, ℕ, ◌+◌, ◌-◌, ◌^◌, ◌<◌, ◌≤◌, arith, ap, inl, inr}
+use Rattle.std.proofs.Common.{true, subst, sym, ◌≡◌, ℕ, ◌+◌, ◌-◌, ◌^◌, ◌<◌, ◌≤◌, ◌⊎◌, arith, ap, inl, inr}
 use Rattle.std.proofs.lemmas.Bool.{cases_eq, cases_lt}
 use Rattle.rlsf_model.specs.Release.{released}
 use Rattle.rlsf_model.proofs.Changes.{IsIn-others_from}
@@ -49,20 +49,13 @@ module _ {fllen sllen : ℕ} {m : Space} {t : Table} {s : State} (v : StandsFor 
   -- a range that has no usable byte of a payload
   pub here_apart : (r : Range) → m.start ≤ r.start → ((u : Used) → IsIn u s.used → (a : ℕ) → u.payload ≤ a → a < end_of u.block → Has r a → ⊥)
       → IsOwned m r
-  here_apart r from apart a lo hi = v.own a (omega arith) (λ u i. elim (cases_lt a u.payload) [
-    | inl before ↦ inl before
-    | inr behind ↦ elim (cases_lt a (end_of u.block)) [
-      | inl within ↦ absurd (apart u i a behind within (record { from = lo; to = hi }))
-      | inr past ↦ inr past
-    ]
-  ])
+  here_apart = here_apart-in m v.well_formed v.own
 
   after : (u : Used) → IsIn u s.used → u.block.start + 16 ≤ u.payload
   after u i = IsUsed-after_start u (v.well_formed.used u i)
 
   pub here_free : (f : Range) → IsIn f s.free → IsOwned m f
-  here_free f i =
-      here_apart f (free_in_memory v.well_formed f i).0 (λ u j a low high h. used_free v.well_formed u f a j i (record { from = omega (arith, after u j); to = high }) h)
+  here_free = here_free-in m v.well_formed v.own
 
   -- the bytes of a used block before its payload
   pub here_front : (u : Used) → IsIn u s.used → IsOwned m (between u.block.start u.payload)
@@ -87,10 +80,7 @@ module _ {fllen sllen : ℕ} {m : Space} {t : Table} {s : State} (v : StandsFor 
   ])
 
   pub here_behind_free : (f : Range) → IsIn f s.free → IsOwned m (range_at (end_of f) 16)
-  here_behind_free f i =
-      let some = (v.well_formed.free f i).some in
-      here_behind f some (free_in_memory v.well_formed f i).0
-      (λ u j h. absurd (used_free v.well_formed u f (end_of f - 1) j i h (record { from = omega arith; to = omega arith })))
+  here_behind_free = here_behind_free-in m v.well_formed v.own
 
   pub here_behind_used : (u : Used) → IsIn u s.used → IsOwned m (range_at (end_of u.block) 16)
   here_behind_used u i =
@@ -140,25 +130,30 @@ module _ {fllen sllen : ℕ} {m : Space} {t : Table} {s : State} (v : StandsFor 
       let chunk = v.well_formed.chunks c i in
       own-word m (last_bytes c) a (here_last c i) (omega (arith, begins)) (omega (arith, begins, chunk.has_room))
 
-  -- a used block's bytes are here: then nothing is out but usable bytes of the other payloads
-  pub here_released : (u : Used) → IsIn u s.used → IsOwned m (usable u) → (a : ℕ) → m.start ≤ a → IsUnlent (released s u) a → is_own (out_at m a) ≡ true
-  here_released u i own a from unlent = elim (cases_lt a u.payload) [
-    | inl before ↦ v.own a from (λ x j. elim (cases_eq x.payload u.payload) [
+  -- a used block's bytes from an address on are here: then nothing is out but usable bytes of the other payloads, and those of this one before that address
+  pub own_but_front : (u : Used) → IsIn u s.used → (x : ℕ) → IsOwned m (between x (end_of u.block)) → (a : ℕ) → m.start ≤ a → (a < u.payload) ⊎ (x ≤ a)
+      → IsUnlent (released s u) a → is_own (out_at m a) ≡ true
+  own_but_front u i x own a from side unlent = elim side [
+    | inl before ↦ v.own a from (λ y j. elim (cases_eq y.payload u.payload) [
       | inl same ↦ inl (omega arith)
-      | inr other ↦ unlent x (IsIn-others_from u.payload x s.used j other)
+      | inr other ↦ unlent y (IsIn-others_from u.payload y s.used j other)
     ])
-    | inr behind ↦ elim (cases_lt a (end_of u.block)) [
-      | inl within ↦ own a behind (omega (arith, within))
-      | inr past ↦ v.own a from (λ x j. elim (cases_eq x.payload u.payload) [
+    | inr low ↦ elim (cases_lt a (end_of u.block)) [
+      | inl within ↦ own a low (omega (arith, low, within))
+      | inr past ↦ v.own a from (λ y j. elim (cases_eq y.payload u.payload) [
         | inl same ↦
             let has_u : Has u.block (u.payload - 1) = record { from = omega (arith, after u i); to = omega (arith, after u i, (v.well_formed.used u i).within) } in
-            let has_x : Has x.block (u.payload - 1) = record { from = omega (arith, after x j, same); to = omega (arith, after x j, same, (v.well_formed.used x j).within) } in
-            let one = used_used v.well_formed x u (u.payload - 1) j i has_x has_u in
-            inr (subst (λ (y : Used). end_of y.block ≤ a) (sym one) past)
-        | inr other ↦ unlent x (IsIn-others_from u.payload x s.used j other)
+            let has_y : Has y.block (u.payload - 1) = record { from = omega (arith, after y j, same); to = omega (arith, after y j, same, (v.well_formed.used y j).within) } in
+            let one = used_used v.well_formed y u (u.payload - 1) j i has_y has_u in
+            inr (subst (λ (z : Used). end_of z.block ≤ a) (sym one) past)
+        | inr other ↦ unlent y (IsIn-others_from u.payload y s.used j other)
       ])
     ]
   ]
+
+  pub here_released : (u : Used) → IsIn u s.used → IsOwned m (usable u) → (a : ℕ) → m.start ≤ a → IsUnlent (released s u) a → is_own (out_at m a) ≡ true
+  here_released u i own a from unlent =
+      own_but_front u i u.payload (λ k lo hi. own k lo (omega (arith, hi, (v.well_formed.used u i).within))) a from (cases_lt a u.payload) unlent
 
   -- a block's first word is one, and so is the word where an iteration goes on
   pub block-fits : (b : Block) → HasBlock s b → word_at m b.range.start < 2 ^ 64

@@ -24,11 +24,3 @@ Stays-same m n start out = record { start = start; own = own-same m n start out;
 
 pub Stays-rewrites : {m n : Space} {at : ℕ → Type 0} → Rewrites m n at → Stays m n
 Stays-rewrites rewrites = record { start = rewrites.start; own = rewrites.own; here = rewrites.here }
-
-pub Stays-written : (m n : Space) (addr word : ℕ) → IsWritable m addr → n.start ≡ m.start → n.bytes ≡ with_word m addr word → n.out ≡ out_with m (word_range addr)
-    → Stays m n
-Stays-written m n addr word placed start bytes out = record {
-  start = start;
-  own = is_own-written m n addr word placed start bytes out;
-  here = here-written m n addr word placed start bytes out;
-}
