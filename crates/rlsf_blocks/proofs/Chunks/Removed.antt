@@ -1,14 +1,10 @@
 -- A chunk without a used block is taken out: its one free block leaves its list.
-use Rattle.std.proofs.Common.{◌<◌, ◌^◌}
-use Rattle.rlsf_base.proofs.Lending.WordIsHere.{is_word}
-use Rattle.rlsf_base.proofs.Lending.Present.{own-word}
-use Rattle.rlsf_blocks.proofs.Words.NeverOut.{here_free}
-use Rattle.std.proofs.Common.{◌≡◌, ℕ, ◌+◌, ◌%◌, true, false, true≢false, List, ◌∷◌, ◌++◌, Some, find, arith, inl, inr, refl, sym, ◌∙◌, ap, subst}
+use Rattle.std.proofs.Common.{◌≡◌, ℕ, ◌+◌, true, false, true≢false, List, ◌∷◌, ◌++◌, Some, find, arith, inl, inr, refl, sym, ◌∙◌, ap, subst}
 use mathlib.Core.Path.{ap₂}
 use Rattle.std.proofs.lemmas.Bool.{cases_eq, cases_lt, false_from_ne_true}
 use Rattle.rlsf_base.specs.declared.memory.range.Range.{Range}
 use Rattle.rlsf_base.specs.Range.{end_of}
-use Rattle.rlsf_base.specs.Space.{Space, range_of, word_at}
+use Rattle.rlsf_base.specs.Space.{Space, range_of}
 use Rattle.rlsf_table.specs.Rewrites.{IsLink}
 use Rattle.rlsf_table.specs.Table.{Table, HasTable}
 use Rattle.rlsf_table.proofs.FreeLists.Found.{find-start}
@@ -28,7 +24,7 @@ use Rattle.rlsf_model.proofs.Removals.{lies_within-le, lies_within-true, IsIn-ou
 use Rattle.rlsf_model.proofs.Room.{idle_chunk_is_one_range}
 use Rattle.rlsf_model.proofs.Tiling.{LiesInChunk, free-le, tiling_of}
 use Rattle.rlsf_blocks.proofs.Chunks.Filtered.{outside_of-found}
-use Rattle.rlsf_blocks.proofs.Deallocate.Marks.{free_even}
+use Rattle.rlsf_blocks.proofs.Deallocate.Marks.{IsMarked-free}
 use Rattle.rlsf_blocks.proofs.Words.Apart.{chunk_chunk, free_free, free_in_memory, used_free}
 use Rattle.rlsf_blocks.proofs.Words.Refilled.{old_used, old_free, IsRefilled, StandsFor-refilled_in, KeepsSpare-refilled}
 
@@ -42,20 +38,7 @@ module _ {fllen sllen : ℕ} {m : Space} {t : Table} {s : State} (v : StandsFor 
 
   -- the word at its start is marked
   pub IsMarked-idle : (start : ℕ) → c.start ≡ start → IsMarked m s.free start
-  IsMarked-idle start at =
-      let whole = (w.free (body c) is_free).whole.start in
-      let place = free_in_memory w (body c) is_free in
-      record {
-        word =
-            is_word m start (
-              omega (arith, at, whole),
-              (omega (arith, at, place.0), omega (arith, at, place.1)),
-              own-word m (body c) start (here_free v (body c) is_free) (omega (arith, at))
-                  (omega (arith, at, (w.free (body c) is_free).some, (w.free (body c) is_free).whole.len)),
-            )
-            (subst (λ a. word_at m a < 2 ^ 64) at (omega (arith, v.sizes.free (body c) is_free, place.1, w.addressable)));
-        mark = (λ _. (body c, is_free, at), λ _. subst (λ a. word_at m a % 2 ≡ 0) at (free_even v (body c) is_free));
-      }
+  IsMarked-idle start at = IsMarked-free v (body c) is_free start at
 
   -- two chunks are one, or have no address in common
   chunk_whole : (d : Range) → IsIn d s.chunks → IsWithinOrOff c d

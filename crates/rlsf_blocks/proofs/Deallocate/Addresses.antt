@@ -1,7 +1,5 @@
 -- Where the block of a payload begins, by its alignment.
-use Rattle.rlsf_base.proofs.Lending.WordIsHere.{is_word}
-use Rattle.rlsf_base.proofs.Lending.Present.{own-word}
-use Rattle.rlsf_blocks.proofs.Words.NeverOut.{here_front}
+use Rattle.rlsf_blocks.proofs.Words.NeverOut.{front_word}
 use Rattle.std.proofs.Common.{◌≡◌, ℕ, ◌+◌, ◌-◌, ◌^◌, ◌<◌, ◌≤◌, arith, sym, ◌∙◌, ap}
 use Rattle.rlsf_base.specs.Space.{Space, word_at}
 use Rattle.rlsf_base.specs.OpenSpace.{IsReadable}
@@ -9,7 +7,7 @@ use Rattle.rlsf_base.proofs.Numbers.PowersOfTwo.{IsPowerOfTwo-le}
 use Rattle.rlsf_table.specs.Table.{Table}
 use Rattle.rlsf_blocks.specs.StandsFor.{contents, StandsFor}
 use Rattle.rlsf_model.specs.Lists.{IsIn}
-use Rattle.rlsf_model.specs.State.{State, Used, between}
+use Rattle.rlsf_model.specs.State.{State, Used}
 use Rattle.rlsf_model.proofs.Payloads.{payload_of-le, IsUsed-aligned, IsUsed-after_start}
 use Rattle.rlsf_blocks.proofs.Words.Apart.{used_in_memory}
 use Rattle.rlsf_blocks.proofs.Words.Frames.{wide_whole}
@@ -34,8 +32,4 @@ module _ {fllen sllen : ℕ} {m : Space} {t : Table} {s : State} (v : StandsFor 
       let granule = wide_whole u.payload u.align used.power (omega arith) (IsUsed-aligned u used) in
       let after_start = IsUsed-after_start u used in
       let bound : word_at m (payload - 8) < 2 ^ 64 = omega (arith, wide_start wide, place.1, v.well_formed.addressable, used.within) in
-      is_word m (payload - 8) (
-        omega (arith, granule),
-        (omega (arith, place.0), omega (arith, place.1, used.within)),
-        own-word m (between u.block.start u.payload) (payload - 8) (here_front v u i) (omega (arith, at, after_start)) (omega (arith, at, after_start)),
-      ) bound
+      front_word v u i (payload - 8) (omega (arith, granule, at)) (omega (arith, at, after_start)) (omega (arith, at, after_start)) bound

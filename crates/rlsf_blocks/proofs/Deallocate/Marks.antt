@@ -1,14 +1,12 @@
 -- The words at the neighbours of a used block show whether they are free.
 use Rattle.rlsf_base.proofs.Lending.WordIsHere.{is_word}
-use Rattle.rlsf_base.proofs.Lending.Present.{own-there}
-use Rattle.std.proofs.Common.{◌<◌, ◌^◌}
+use Rattle.std.proofs.Common.{◌^◌}
 use Rattle.rlsf_base.proofs.Lending.Present.{own-word}
-use Rattle.rlsf_base.specs.Range.{range_at}
-use Rattle.rlsf_base.specs.Space.{word_range}
-use Rattle.rlsf_model.specs.State.{between}
+use Rattle.rlsf_base.specs.OpenSpace.{IsReadable}
+use Rattle.rlsf_model.specs.WellFormed.{last_bytes}
 use Rattle.rlsf_model.proofs.Payloads.{IsUsed-after_start}
-use Rattle.rlsf_blocks.proofs.Words.NeverOut.{here_free, here_front, here_behind_used}
-use Rattle.std.proofs.Common.{◌≡◌, ◌≢◌, ◌↔◌, ℕ, eqb, false, ◌+◌, ◌-◌, ◌%◌, ◌<◌, ◌≤◌, Some, None, find, arith, inl, inr, sym, ◌∙◌}
+use Rattle.rlsf_blocks.proofs.Words.NeverOut.{free_word, front_word, here_last, used_word}
+use Rattle.std.proofs.Common.{◌≡◌, ◌≢◌, ℕ, ◌+◌, ◌-◌, ◌%◌, ◌<◌, ◌≤◌, Some, None, find, arith, inl, inr, sym, ◌∙◌}
 use Rattle.std.proofs.Common.{ap, subst}
 use Rattle.std.proofs.lemmas.Bool.{eq-eqb, eqb-true, ne_eqb}
 use Rattle.rlsf_base.specs.declared.memory.range.Range.{Range}
@@ -59,6 +57,27 @@ module _ {fllen sllen : ℕ} {m : Space} {t : Table} {s : State} (v : StandsFor 
   pub free_even : (f : Range) → IsIn f s.free → word_at m f.start % 2 ≡ 0
   free_even f i = omega (arith, v.sizes.free f i, (v.well_formed.free f i).whole.len)
 
+  -- so the first word of a free block is marked, that of a used one, and that of a chunk's last bytes
+  pub IsMarked-free : (f : Range) → IsIn f s.free → (a : ℕ) → f.start ≡ a → IsMarked m s.free a
+  IsMarked-free f i a at = record { word = free_word v f i a at; mark = (λ _. (f, i, at), λ _. ap (λ b. word_at m b % 2) (sym at) ∙ free_even f i) }
+
+  IsMarked-used : (x : Used) → IsIn x s.used → (a : ℕ) → x.block.start ≡ a → IsMarked m s.free a
+  IsMarked-used x i a at =
+      let odd = ap (λ b. word_at m b % 2) (sym at) ∙ used_odd x i in
+      record { word = used_word v x i a at; mark = (λ even. absurd (omega (arith, odd, even)), λ begins. absurd (used_begins x i a at begins)) }
+
+  IsMarked-last : (c : Range) → IsIn c s.chunks → (a : ℕ) → sentinel_of c ≡ a → IsMarked m s.free a
+  IsMarked-last c i a at =
+      let chunk = v.well_formed.chunks c i in
+      let word : word_at m a ≡ 35 = subst (λ b. word_at m b ≡ 35) at (v.sizes.sentinel c i) in
+      let own = own-word m (last_bytes c) a (here_last v c i) (omega (arith, at)) (omega (arith, at, chunk.has_room)) in
+      let inside = chunk.lies_in in
+      let room = chunk.has_room in
+      record {
+        word = is_word m a (omega (arith, at, chunk.whole.start, chunk.whole.len), (omega (arith, at), omega (arith, at)), own) (omega (arith, word));
+        mark = (λ even. absurd (omega (arith, word, even)), λ begins. absurd (last_begins c i a at begins));
+      }
+
   -- ---- the block before
 
   module _ (u : Used) (i : IsIn u s.used) {b previous : ℕ} (at : u.block.start ≡ b) (is : previous ≡ word_at m (b + 8)) where
@@ -96,9 +115,11 @@ module _ {fllen sllen : ℕ} {m : Space} {t : Table} {s : State} (v : StandsFor 
         go (used_before x j end) = names_used x j (is ∙ ap (λ a. word_at m (a + 8)) (sym end) ∙ v.previous.used x j) (no_other_end x j end)
         go (none_before c j start) = names_none (is ∙ ap (λ a. word_at m (a + 8)) (sym start) ∙ v.previous.first c j) (no_end_before c j start)
 
-    -- the word that shows it is one
-    pub previous-fits : word_at m (b + 8) < 2 ^ 64
-    previous-fits = subst (λ n. n < 2 ^ 64) is (go named)
+    -- the word that shows it can be read
+    pub previous_word : IsReadable m (b + 8)
+    previous_word =
+        front_word v u i (b + 8) (omega (arith, at, (v.well_formed.used u i).whole.start)) (omega (arith, at))
+        (omega (arith, at, IsUsed-after_start u (v.well_formed.used u i))) (subst (λ n. n < 2 ^ 64) is (go named))
       where
         go : Named m s b previous → previous < 2 ^ 64
         go (names_free f j end same found) = omega (arith, same, (free_in_memory v.well_formed f j).1, v.well_formed.addressable)
@@ -129,87 +150,62 @@ module _ {fllen sllen : ℕ} {m : Space} {t : Table} {s : State} (v : StandsFor 
     IsMarked-previous some = go named
       where
         go : Named m s b previous → IsMarked m s.free previous
-        go (names_free f j end same found) =
-            let is = v.well_formed.free f j in
-            let place = free_in_memory v.well_formed f j in
-            record {
-              word =
-                  is_word m previous (
-                    omega (arith, is.whole.start),
-                    (omega (arith, place.0), omega (arith, place.1)),
-                    own-word m f previous (here_free v f j) (omega (arith, same)) (omega (arith, same, is.some, is.whole.len)),
-                  )
-                  (subst (λ a. word_at m a < 2 ^ 64) (sym same) (omega (arith, v.sizes.free f j, place.1, v.well_formed.addressable)));
-              mark = (λ even. (f, j, sym same), λ begins. ap (λ a. word_at m a % 2) same ∙ free_even f j);
-            }
-        go (names_used x j same e) =
-            let is = v.well_formed.used x j in
-            let place = used_in_memory v.well_formed x j in
-            let odd = ap (λ a. word_at m a % 2) same ∙ used_odd x j in
-            record {
-              word =
-                  is_word m previous (
-                    omega (arith, is.whole.start),
-                    (omega (arith, place.0), omega (arith, place.1)),
-                    own-word m (between x.block.start x.payload) previous (here_front v x j) (omega (arith, same)) (omega (arith, same, IsUsed-after_start x is)),
-                  )
-                  (subst (λ a. word_at m a < 2 ^ 64) (sym same) (omega (arith, v.sizes.used x j, place.1, v.well_formed.addressable)));
-              mark = (λ even. absurd (omega (arith, odd, even)), λ begins. absurd (used_begins x j previous (sym same) begins));
-            }
+        go (names_free f j end same found) = IsMarked-free f j previous (sym same)
+        go (names_used x j same e) = IsMarked-used x j previous (sym same)
         go (names_none none e) = absurd (some none)
 
-    -- and was taken out, if it is free
-    pub previous_out : {n : Space} {x : Table} {len : ℕ} → previous ≢ 0 → IsNextOut fllen sllen m n x s.free previous len
-        → (len ≤ b) × IsPreviousOut fllen sllen m n x s.free b (b - len)
-    previous_out {n} {x} {len} some out = go named
+    -- a length is that of the free block before it, or 0 if none is before it
+    pub record IsLengthBefore (len : ℕ) : Type 0 where
+      pub within : len ≤ b
+      pub begins : b - len ≡ start_or b (find (ends_at b) s.free)
+      pub ends : 0 < len → previous + len ≡ b
+      pub left : without (starts_at previous) s.free ≡ without (ends_at b) s.free
+
+    -- as the length of a free block that begins where the word says, or 0, is
+    pub length_before : {len : ℕ} → previous ≢ 0 → previous + len ≡ end_or previous (find (starts_at previous) s.free) → IsLengthBefore len
+    length_before {len} some long = go named
       where
-        missing : (FreeBlockBegins s.free previous → ⊥) → find (ends_at b) s.free ≡ None → (len ≤ b) × IsPreviousOut fllen sllen m n x s.free b (b - len)
+        missing : (FreeBlockBegins s.free previous → ⊥) → find (ends_at b) s.free ≡ None → IsLengthBefore len
         missing none e =
             let no_start = find-no_start s.free previous (λ f j same. none (f, j, same)) in
-            let left : without (starts_at previous) s.free ≡ without (ends_at b) s.free =
-            without-none (starts_at previous) s.free no_start ∙ sym (without-none (ends_at b) s.free e) in
-            let end : previous + len ≡ previous = out.end ∙ ap (end_or previous) no_start in (
-              omega (arith, end),
-              record {
-                rewrites = out.rewrites;
-                list = subst (IsFreeTable fllen sllen n x) left out.list;
-                begins = omega (arith, end) ∙ sym (ap (start_or b) e);
-              },
-            )
+            let end : previous + len ≡ previous = long ∙ ap (end_or previous) no_start in
+            record {
+              within = omega (arith, end);
+              begins = omega (arith, end) ∙ sym (ap (start_or b) e);
+              ends = λ more. absurd (omega (arith, end));
+              left = without-none (starts_at previous) s.free no_start ∙ sym (without-none (ends_at b) s.free e);
+            }
 
-        go : Named m s b previous → (len ≤ b) × IsPreviousOut fllen sllen m n x s.free b (b - len)
+        go : Named m s b previous → IsLengthBefore len
         go (names_free f j end same found) =
             let start = find-start s.free f previous (IsFreeTable-free v).apart (λ g k. (v.well_formed.free g k).some) j (sym same) in
-            let left = without-same (starts_at previous) (ends_at b) f s.free start found in
-            let long : previous + len ≡ end_of f = out.end ∙ ap (end_or previous) start in (
-              omega arith,
-              record {
-                rewrites = out.rewrites;
-                list = subst (IsFreeTable fllen sllen n x) left out.list;
-                begins = omega arith ∙ sym (ap (start_or b) found);
-              },
-            )
+            let to : previous + len ≡ b = long ∙ ap (end_or previous) start ∙ end in
+            record {
+              within = omega arith;
+              begins = omega arith ∙ sym (ap (start_or b) found);
+              ends = λ more. to;
+              left = without-same (starts_at previous) (ends_at b) f s.free start found;
+            }
         go (names_used y j same e) = missing (used_begins y j previous (sym same)) e
         go (names_none none e) = absurd (some none)
 
-    -- where a block was taken out, it begins where the word says
-    pub previous_begins : {n : Space} {x : Table} {len : ℕ} → previous ≢ 0 → IsNextOut fllen sllen m n x s.free previous len → 0 < len → previous + len ≡ b
-    previous_begins {len = len} some out more = go named
-      where
-        missing : (FreeBlockBegins s.free previous → ⊥) → previous + len ≡ b
-        missing none =
-            let no_start = find-no_start s.free previous (λ f j same. none (f, j, same)) in
-            let end : previous + len ≡ previous = out.end ∙ ap (end_or previous) no_start in
-            absurd (omega (arith, end))
-
-        go : Named m s b previous → previous + len ≡ b
-        go (names_free f j end same found) =
-            let start = find-start s.free f previous (IsFreeTable-free v).apart (λ g k. (v.well_formed.free g k).some) j (sym same) in
-            out.end ∙ ap (end_or previous) start ∙ end
-        go (names_used y j same e) = missing (used_begins y j previous (sym same))
-        go (names_none none e) = absurd (some none)
+    -- and was taken out, if it is free
+    pub previous_out : {n : Space} {x : Table} {len start : ℕ} → previous ≢ 0 → IsNextOut fllen sllen m n x s.free previous len → start ≡ b - len
+        → IsPreviousOut fllen sllen m n x s.free b start
+    previous_out {n} {x} some out from =
+        let is = length_before some out.end in
+        record { rewrites = out.rewrites; list = subst (IsFreeTable fllen sllen n x) is.left out.list; begins = from ∙ is.begins }
 
   -- ---- the block behind
+
+  -- it is marked
+  pub IsMarked-end : (u : Used) → IsIn u s.used → (e : ℕ) → end_of u.block ≡ e → IsMarked m s.free e
+  IsMarked-end u i e end = go (subst (Behind s) end (behind_used v.well_formed u i))
+    where
+      go : Behind s e → IsMarked m s.free e
+      go (free_behind f j begin) = IsMarked-free f j e begin
+      go (used_behind x j begin) = IsMarked-used x j e begin
+      go (last_behind c j begin) = IsMarked-last c j e begin
 
   module _ (u : Used) (i : IsIn u s.used) {n : Space} {x : Table} {b start : ℕ} (at : u.block.start ≡ b) (out : IsPreviousOut fllen sllen m n x s.free b start) where
     -- a size word is as it was
@@ -220,44 +216,26 @@ module _ {fllen sllen : ℕ} {m : Space} {t : Table} {s : State} (v : StandsFor 
         no_link (g, j, inl at_link) = omega (arith, (v.well_formed.free g j).whole.start)
         no_link (g, j, inr at_link) = omega (arith, (v.well_formed.free g j).whole.start)
 
-    -- what begins in the list without the block before began in the complete list
-    still : (a : ℕ) → FreeBlockBegins (without (ends_at b) s.free) a → FreeBlockBegins s.free a
-    still a (f, j, same) = (f, IsIn-without (ends_at b) f s.free j, same)
-
-    -- the word there is one
-    behind-fits : (e : ℕ) → Behind s e → word_at m e < 2 ^ 64
-    behind-fits e (free_behind f j begin) =
-        subst (λ a. word_at m a < 2 ^ 64) begin (omega (arith, v.sizes.free f j, (free_in_memory v.well_formed f j).1, v.well_formed.addressable))
-    behind-fits e (used_behind x j begin) =
-        subst (λ a. word_at m a < 2 ^ 64) begin (omega (arith, v.sizes.used x j, (used_in_memory v.well_formed x j).1, v.well_formed.addressable))
-    behind-fits e (last_behind c j begin) = subst (λ a. word_at m a < 2 ^ 64) begin (omega (arith, v.sizes.sentinel c j))
-
-    -- the block behind it is marked
+    -- and it is marked still
     pub IsMarked-behind : (e : ℕ) → end_of u.block ≡ e → IsMarked n (without (ends_at b) s.free) e
     IsMarked-behind e end =
         let is = v.well_formed.used u i in
+        let some = IsUsed-some u is in
         let place = used_in_memory v.well_formed u i in
-        let whole : e % 32 ≡ 0 = omega (arith, end, is.whole.start, is.whole.len) in
+        let first = IsMarked-end u i e end in
+        let moved = out.rewrites in
+        let same = ap (λ w. w % 2) (kept e (omega (arith, end, is.whole.start, is.whole.len)) (omega (arith, end, place.0))) in
         record {
-          word =
-              is_word n e (
-                omega (arith, whole),
-                (omega (arith, end, place.0, out.rewrites.start), omega (arith, end, place.1, out.rewrites.start, out.rewrites.length)),
-                own-there m n (word_range e) (omega (arith, end, place.0)) out.rewrites.own
-                    (own-word m (range_at (end_of u.block) 16) e (here_behind_used v u i) (omega (arith, end)) (omega (arith, end))),
-              )
-              (subst (λ a. a < 2 ^ 64) (sym (kept e whole (omega (arith, end, place.0)))) (behind-fits e (subst (Behind s) end (behind_used v.well_formed u i))));
-          mark = go (kept e whole (omega (arith, end, place.0))) (subst (Behind s) end (behind_used v.well_formed u i));
+          word = (
+            first.word.0,
+            (omega (arith, first.word.1, moved.start), omega (arith, first.word.1, moved.start, moved.length)),
+            λ k lo hi. moved.here k (omega (arith, first.word.1, lo)) (first.word.2 k lo hi),
+          );
+          mark = (
+            λ even.
+                let (f, j, begin) = first.mark.0 (sym same ∙ even) in
+                let more = (v.well_formed.free f j).some in
+                (f, IsIn-without_other (ends_at b) f s.free (ne_eqb (end_of f) b (λ same_end. omega arith)) j, begin),
+            λ (f, j, begin). same ∙ first.mark.1 (f, IsIn-without (ends_at b) f s.free j, begin),
+          );
         }
-      where
-        odd : word_at n e % 2 ≡ 1 → (FreeBlockBegins s.free e → ⊥) → (word_at n e % 2 ≡ 0) ↔ FreeBlockBegins (without (ends_at b) s.free) e
-        odd is_odd none = (λ even. absurd (omega (arith, even, is_odd)), λ begins. absurd (none (still e begins)))
-
-        go : word_at n e ≡ word_at m e → Behind s e → (word_at n e % 2 ≡ 0) ↔ FreeBlockBegins (without (ends_at b) s.free) e
-        go same (free_behind f j begin) =
-            let more = (v.well_formed.free f j).some in
-            let other : eqb (end_of f) b ≡ false = ne_eqb (end_of f) b (λ same_end. omega arith) in
-            let even : word_at n e % 2 ≡ 0 = ap (λ w. w % 2) (same ∙ ap (word_at m) (sym begin)) ∙ free_even f j in
-            (λ _. (f, IsIn-without_other (ends_at b) f s.free other j, begin), λ _. even)
-        go same (used_behind x j begin) = odd (ap (λ w. w % 2) (same ∙ ap (word_at m) (sym begin)) ∙ used_odd x j) (used_begins x j e begin)
-        go same (last_behind c j begin) = odd (ap (λ w. w % 2) (same ∙ ap (word_at m) (sym begin) ∙ v.sizes.sentinel c j)) (last_begins c j e begin)

@@ -1,8 +1,5 @@
 -- What the word before a payload says of its block, whatever its alignment.
-use Rattle.rlsf_base.proofs.Lending.WordIsHere.{is_word}
-use Rattle.rlsf_base.proofs.Lending.Present.{own-word}
-use Rattle.rlsf_model.specs.State.{between}
-use Rattle.rlsf_blocks.proofs.Words.NeverOut.{here_free, here_front}
+use Rattle.rlsf_blocks.proofs.Words.NeverOut.{free_word, front_word, used_word}
 use Rattle.std.proofs.Common.{◌≡◌, ◌≢◌, ℕ, ◌+◌, ◌-◌, ◌^◌, ◌<◌, ◌≤◌, length, arith, inl, inr, refl, sym, ◌∙◌, ap, subst}
 use Rattle.std.proofs.lemmas.Bool.{cases_lt, cond-false, cond-true, le-ltb, lt-ltb}
 use Rattle.std.proofs.lemmas.Bool.Decides.{eqb_tells}
@@ -17,7 +14,7 @@ use Rattle.rlsf_blocks.specs.Laws.{WordsGiveBlock}
 use Rattle.rlsf_blocks.specs.StandsFor.{Contents, StandsFor}
 use Rattle.rlsf_blocks.proofs.Deallocate.Addresses.{IsReadable-before, narrow_start, wide_start}
 use Rattle.rlsf_blocks.proofs.RepresentedStates.Neighbours.{before_used, free_before, none_before, used_before}
-use Rattle.rlsf_blocks.proofs.Words.Apart.{free_in_memory, used_in_memory}
+use Rattle.rlsf_blocks.proofs.Words.Apart.{used_in_memory}
 
 -- The word before the payload of u. It is 0, or the start of the block before u's block, which ends where u's block begins: then the
 -- payload lies 16 bytes into its block. Or it is the start of u's block
@@ -52,25 +49,11 @@ module _ {fllen sllen : ℕ} {v : Contents} {s : State} (stands : StandsFor flle
         | used_before x j ends ↦
             let place : u.payload - 8 ≡ end_of x.block + 8 = omega arith in
             let names = ap (word_at v.memory) place ∙ stands.previous.used x j in
-            let inside = used_in_memory w x j in
-            subst (Says v.memory u) (sym names)
-            (another (is_word v.memory x.block.start (
-              omega (arith, (w.used x j).whole.start),
-              (inside.0, omega (arith, inside.1)),
-              own-word v.memory (between x.block.start x.payload) x.block.start (here_front stands x j) (omega arith) (omega (arith, IsUsed-after_start x (w.used x j))),
-            )
-            (omega (arith, stands.sizes.used x j, inside.1, w.addressable))) (omega (arith, stands.sizes.used x j)) at)
+            subst (Says v.memory u) (sym names) (another (used_word stands x j x.block.start refl) (omega (arith, stands.sizes.used x j)) at)
         | free_before f j ends ↦
             let place : u.payload - 8 ≡ end_of f + 8 = omega arith in
             let names = ap (word_at v.memory) place ∙ stands.previous.free f j in
-            let inside = free_in_memory w f j in
-            subst (Says v.memory u) (sym names)
-            (another (is_word v.memory f.start (
-              omega (arith, (w.free f j).whole.start),
-              (inside.0, omega (arith, inside.1)),
-              own-word v.memory f f.start (here_free stands f j) (omega arith) (omega (arith, (w.free f j).some, (w.free f j).whole.len)),
-            )
-            (omega (arith, stands.sizes.free f j, inside.1, w.addressable))) (omega (arith, stands.sizes.free f j)) at)
+            subst (Says v.memory u) (sym names) (another (free_word stands f j f.start refl) (omega (arith, stands.sizes.free f j)) at)
       ]
 
   -- it is a word
@@ -93,15 +76,8 @@ module _ {fllen sllen : ℕ} {v : Contents} {s : State} (stands : StandsFor flle
     | inr wide ↦ (IsReadable-before stands u i refl refl wide, its_own (wide_start stands u i refl refl wide))
     | inl few ↦
         let at : u.block.start + 16 ≡ u.payload = narrow_start stands u i refl refl few in
-        let is = stands.well_formed.used u i in
-        let place = used_in_memory stands.well_formed u i in (
-          is_word v.memory (u.payload - 8) (
-            omega (arith, is.whole.start),
-            (omega (arith, place.0), omega (arith, place.1, is.within)),
-            own-word v.memory (between u.block.start u.payload) (u.payload - 8) (here_front stands u i) (omega (arith, at)) (omega (arith, at)),
-          ) (narrow-fits (sym at)),
-          says_narrow (sym at),
-        )
+        let whole = (stands.well_formed.used u i).whole in
+        (front_word stands u i (u.payload - 8) (omega (arith, at, whole.start)) (omega (arith, at)) (omega (arith, at)) (narrow-fits (sym at)), says_narrow (sym at))
   ]
 
   is_payload : IsPayloadOf v.memory u.payload u
@@ -121,13 +97,7 @@ module _ {fllen sllen : ℕ} {v : Contents} {s : State} (stands : StandsFor flle
         ends = omega (arith, place.1, w.addressable);
         word = word;
         says = says;
-        own_word =
-            is_word v.memory u.block.start (
-              omega (arith, is.whole.start),
-              (place.0, omega (arith, place.1)),
-              own-word v.memory (between u.block.start u.payload) u.block.start (here_front stands u i) (omega arith) (omega (arith, after_start)),
-            )
-            (omega (arith, stands.sizes.used u i, place.1, w.addressable));
+        own_word = used_word stands u i u.block.start refl;
         size = stands.sizes.used u i;
       }
 

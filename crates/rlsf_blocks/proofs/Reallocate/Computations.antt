@@ -1,15 +1,12 @@
 -- What is computed of a used block and of the size that it gets.
-use Rattle.std.proofs.Common.{◌≡◌, ℕ, ◌+◌, ◌-◌, ◌%◌, ◌^◌, ◌<◌, find, arith, sym, ◌∙◌, ap, subst}
+use Rattle.std.proofs.Common.{◌≡◌, ℕ, ◌+◌, ◌-◌, ◌%◌, ◌<◌, find, arith, sym, ◌∙◌, ap, subst}
 use mathlib.Core.Path.{ap₂}
 use Rattle.std.specs.Int.{next_multiple_of}
 use Rattle.rlsf_base.specs.Range.{end_of}
 use Rattle.rlsf_base.specs.Space.{Space, word_at}
-use Rattle.rlsf_base.specs.OpenSpace.{IsReadable}
-use Rattle.rlsf_base.proofs.Lending.WordIsHere.{is_word}
-use Rattle.rlsf_base.proofs.Lending.Present.{own-word}
 use Rattle.rlsf_model.specs.Join.{starts_at, end_or}
 use Rattle.rlsf_model.specs.Reallocate.{resized}
-use Rattle.rlsf_model.specs.State.{State, Used, between}
+use Rattle.rlsf_model.specs.State.{State, Used}
 use Rattle.rlsf_model.proofs.Payloads.{block_length-le, block_length-whole, IsUsed-after_start}
 use Rattle.rlsf_blocks.specs.StandsFor.{contents, StandsFor}
 use Rattle.rlsf_blocks.specs.Steps.Join.{IsMarked, IsNextOut}
@@ -17,22 +14,11 @@ use Rattle.rlsf_blocks.specs.Steps.Resize.{IsUsedAt}
 use Rattle.rlsf_table.specs.Table.{Table}
 use Rattle.rlsf_blocks.proofs.Deallocate.Loaded.{IsMarked-loaded, IsNextOut-loaded}
 use Rattle.rlsf_blocks.proofs.Deallocate.Releases.{end_computed}
-use Rattle.rlsf_blocks.proofs.Reallocate.Neighbours.{IsMarked-end}
+use Rattle.rlsf_blocks.proofs.Deallocate.Marks.{IsMarked-end}
 use Rattle.rlsf_blocks.proofs.Reallocate.Spans.{reach}
-use Rattle.rlsf_blocks.proofs.Words.Apart.{used_in_memory}
-use Rattle.rlsf_blocks.proofs.Words.NeverOut.{here_front}
 
 module _ {fllen sllen : ℕ} {m : Space} {t : Table} {s : State} (v : StandsFor fllen sllen (contents m t) s) (u : Used) {block payload align : ℕ}
     (at : IsUsedAt s u block payload align) where
-  -- its size word can be read
-  pub IsReadable-size : IsReadable m block
-  IsReadable-size =
-      let is = v.well_formed.used u at.is_used in
-      let place = used_in_memory v.well_formed u at.is_used in
-      let own = own-word m (between u.block.start u.payload) block (here_front v u at.is_used) (omega (arith, at.start)) (omega (arith, at.start, IsUsed-after_start u is)) in
-      is_word m block (omega (arith, at.start, is.whole.start), (omega (arith, at.start, place.0), omega (arith, at.start, place.1)), own)
-      (subst (λ a. word_at m a < 2 ^ 64) at.start (omega (arith, v.sizes.used u at.is_used, place.1, v.well_formed.addressable)))
-
   -- the length of the block that it would be
   pub taken_computed : {wanted taken : ℕ} (size : ℕ) → wanted ≡ size → taken ≡ next_multiple_of (payload - block + wanted) 32 → taken ≡ (resized u size).len
   taken_computed size same is =

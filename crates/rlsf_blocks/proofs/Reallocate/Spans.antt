@@ -1,10 +1,9 @@
 -- A used block and the free block behind it, if there is one: the span of both.
-use Rattle.std.proofs.Common.{◌≡◌, ℕ, ◌+◌, ◌<◌, ◌≤◌, ◌-◌, ◌⊎◌, true, List, find, length, arith, inl, inr, refl, sym, subst}
-use Rattle.std.proofs.lemmas.Bool.{cases_eq, cases_lt}
+use Rattle.std.proofs.Common.{◌≡◌, ℕ, ◌+◌, ◌<◌, ◌≤◌, ◌-◌, List, find, length, arith, inl, inr, refl}
+use Rattle.std.proofs.lemmas.Bool.{cases_lt}
 use Rattle.rlsf_base.specs.declared.memory.range.Range.{Range}
 use Rattle.rlsf_base.specs.Range.{end_of, range_at}
-use Rattle.rlsf_base.specs.Out.{is_own}
-use Rattle.rlsf_base.specs.Space.{Space, out_at}
+use Rattle.rlsf_base.specs.Space.{Space}
 use Rattle.rlsf_base.specs.OpenSpace.{IsOwned}
 use Rattle.rlsf_base.proofs.Lending.Present.{own-there}
 use Rattle.rlsf_model.specs.Join.{starts_at, end_or}
@@ -12,7 +11,7 @@ use Rattle.rlsf_model.specs.Lists.{IsIn, without}
 use Rattle.rlsf_model.specs.Release.{released}
 use Rattle.rlsf_model.specs.State.{State, Used, between, others}
 use Rattle.rlsf_model.specs.WellFormed.{covers, coverage, itself, IsFree, IsWhole}
-use Rattle.rlsf_model.proofs.Changes.{coverage-others, IsIn-others, IsIn-others_from}
+use Rattle.rlsf_model.proofs.Changes.{coverage-others, IsIn-others}
 use Rattle.rlsf_model.proofs.Coverage.{covers-inside, covers-split, coverage-IsIn, IsIn-without}
 use Rattle.rlsf_model.proofs.Joins.{IsRight, right_of}
 use Rattle.rlsf_model.proofs.Payloads.{IsUsed-after_start, IsUsed-some}
@@ -22,7 +21,7 @@ use Rattle.rlsf_blocks.specs.StandsFor.{contents, IsUnlent, StandsFor}
 use Rattle.rlsf_blocks.specs.Steps.Join.{IsNextOut}
 use Rattle.rlsf_blocks.specs.Steps.Resize.{IsSpanRoom}
 use Rattle.rlsf_table.specs.Table.{Table}
-use Rattle.rlsf_blocks.proofs.Words.Apart.{Has, used_used}
+use Rattle.rlsf_blocks.proofs.Words.Apart.{Has}
 use Rattle.rlsf_blocks.proofs.Words.NeverOut.{here_front, own_but_front}
 
 -- where the free block behind a used one ends, or where that ends itself

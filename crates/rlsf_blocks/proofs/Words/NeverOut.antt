@@ -1,5 +1,5 @@
 -- What isn't out, since it is no usable byte of a payload: free blocks, the first words of each block, and a chunk's last bytes.
-use Rattle.std.proofs.Common.{true, subst, sym, ◌≡◌, ℕ, ◌+◌, ◌-◌, ◌^◌, ◌<◌, ◌≤◌, ◌⊎◌, arith, ap, inl, inr}
+use Rattle.std.proofs.Common.{true, subst, sym, ◌≡◌, ℕ, ◌+◌, ◌-◌, ◌%◌, ◌^◌, ◌<◌, ◌≤◌, ◌⊎◌, arith, ap, inl, inr}
 use Rattle.std.proofs.lemmas.Bool.{cases_eq, cases_lt}
 use Rattle.rlsf_model.specs.Release.{released}
 use Rattle.rlsf_model.proofs.Changes.{IsIn-others_from}
@@ -7,7 +7,7 @@ use Rattle.rlsf_base.specs.declared.memory.range.Range.{Range}
 use Rattle.rlsf_base.specs.Out.{is_own}
 use Rattle.rlsf_base.specs.Range.{end_of, range_at}
 use Rattle.rlsf_base.specs.Space.{Space, out_at, range_of, word_at, word_range}
-use Rattle.rlsf_base.specs.OpenSpace.{IsOwned}
+use Rattle.rlsf_base.specs.OpenSpace.{IsOwned, IsReadable}
 use Rattle.rlsf_model.specs.Lists.{IsIn}
 use Rattle.rlsf_model.specs.State.{State, Used, between, usable}
 use Rattle.rlsf_model.specs.WellFormed.{IsWellFormed, coverage, itself, last_bytes}
@@ -16,6 +16,7 @@ use Rattle.rlsf_model.proofs.Payloads.{IsUsed-after_start}
 use Rattle.rlsf_table.specs.Table.{Table}
 use Rattle.rlsf_blocks.specs.StandsFor.{contents, IsUnlent, StandsFor}
 use Rattle.rlsf_base.proofs.Lending.Present.{own-word}
+use Rattle.rlsf_base.proofs.Lending.WordIsHere.{is_word}
 use Rattle.rlsf_blocks.specs.Blocks.{Block, HasBlock, used, free}
 use Rattle.rlsf_blocks.proofs.Walking.Begins.{BehindBlock, block_behind, end_behind}
 use Rattle.rlsf_blocks.proofs.Words.Apart.{Has, used_free, used_used, used_last, free_in_memory, used_in_memory, home_of_used}
@@ -70,6 +71,27 @@ module _ {fllen sllen : ℕ} {m : Space} {t : Table} {s : State} (v : StandsFor 
       here_apart (last_bytes c) (omega (arith, chunk.lies_in, chunk.has_room))
       (λ u j a low high h. used_last v.well_formed u c a j i (record { from = omega (arith, after u j); to = high }) (omega (arith, h.from, chunk.has_room))
       (omega (arith, h.to, chunk.has_room)))
+
+  -- words that can be read: one of a used block before its payload, the first one of such a block, and that of a free block
+  pub front_word : (u : Used) → IsIn u s.used → (a : ℕ) → a % 8 ≡ 0 → u.block.start ≤ a → a + 8 ≤ u.payload → word_at m a < 2 ^ 64 → IsReadable m a
+  front_word u i a whole from to fits =
+      let place = used_in_memory v.well_formed u i in
+      let within = (v.well_formed.used u i).within in
+      let own = own-word m (between u.block.start u.payload) a (here_front u i) (omega (arith, from)) (omega (arith, from, to)) in
+      is_word m a (whole, (omega (arith, place.0, from), omega (arith, place.1, within, to)), own) fits
+
+  pub used_word : (u : Used) → IsIn u s.used → (a : ℕ) → u.block.start ≡ a → IsReadable m a
+  used_word u i a at =
+      front_word u i a (omega (arith, at, (v.well_formed.used u i).whole.start)) (omega (arith, at)) (omega (arith, at, after u i))
+      (subst (λ b. word_at m b < 2 ^ 64) at (omega (arith, v.sizes.used u i, (used_in_memory v.well_formed u i).1, v.well_formed.addressable)))
+
+  pub free_word : (f : Range) → IsIn f s.free → (a : ℕ) → f.start ≡ a → IsReadable m a
+  free_word f i a at =
+      let is = v.well_formed.free f i in
+      let place = free_in_memory v.well_formed f i in
+      let own = own-word m f a (here_free f i) (omega (arith, at)) (omega (arith, at, is.some, is.whole.len)) in
+      is_word m a (omega (arith, at, is.whole.start), (omega (arith, at, place.0), omega (arith, at, place.1)), own)
+      (subst (λ b. word_at m b < 2 ^ 64) at (omega (arith, v.sizes.free f i, place.1, v.well_formed.addressable)))
 
   -- the 16 bytes behind a range, where no used block goes past its end
   pub here_behind : (r : Range) → 0 < r.len → m.start ≤ r.start → ((u : Used) → IsIn u s.used → Has u.block (end_of r - 1) → end_of u.block ≤ end_of r)

@@ -1,9 +1,8 @@
 -- What is a memory's own stays so over several steps, and so does what is here.
 use Rattle.std.proofs.Common.{◌≡◌, ℕ, arith, ◌∙◌}
-use Rattle.rlsf_base.specs.Space.{Space, word_range, with_word}
-use Rattle.rlsf_base.specs.OpenSpace.{IsWritable, SameOwn, StaysHere, out_with}
+use Rattle.rlsf_base.specs.Space.{Space}
+use Rattle.rlsf_base.specs.OpenSpace.{SameOwn, StaysHere}
 use Rattle.rlsf_base.proofs.Lending.Present.{out-same, own-same}
-use Rattle.rlsf_base.proofs.Words.Written.{here-written, is_own-written}
 use Rattle.rlsf_table.specs.Rewrites.{Rewrites}
 
 -- the memory stays where it is, the same bytes are its own, and what is here stays here

@@ -1,12 +1,8 @@
-use Rattle.rlsf_base.proofs.Lending.WordIsHere.{is_word}
-use Rattle.std.proofs.Common.{subst, ◌<◌, ◌^◌}
-use Rattle.rlsf_base.specs.Space.{word_at}
 use Rattle.std.proofs.Common.{◌≡◌, ◌+◌, ◌-◌, arith, rules, sym, ◌∙◌}
-use Rattle.rlsf_base.proofs.Lending.Present.{owned-same, own-word}
+use Rattle.rlsf_base.proofs.Lending.Present.{owned-same}
 use Rattle.rlsf_base.specs.Range.{end_of}
-use Rattle.rlsf_model.specs.State.{State, Used, between, usable}
-use Rattle.rlsf_model.proofs.Payloads.{IsUsed-after_start}
-use Rattle.rlsf_blocks.proofs.Words.NeverOut.{here_front}
+use Rattle.rlsf_model.specs.State.{State, Used, usable}
+use Rattle.rlsf_blocks.proofs.Words.NeverOut.{used_word}
 use Rattle.rlsf_blocks.specs.StandsFor.{contents, StandsFor}
 use Rattle.rlsf_blocks.specs.Steps.Join.{IsNextOut, IsPreviousOut, union, untouched}
 use Rattle.rlsf_model.specs.Join.{ends_at}
@@ -26,14 +22,7 @@ use Rattle.rlsf_blocks.proofs.free.deallocate_block.Goals.{After-take_if_free-ne
 pub load_at-requires-clause-place : goal.load_at-requires-clause-place
 load_at-requires-clause-place g c =
     let (s, u, v, i, at, own) = c.requires.used in
-    let place = used_in_memory v.well_formed u i in
-    is_word c.args.memory.now c.args.block (
-      omega (arith, at, (v.well_formed.used u i).whole.start),
-      (omega (arith, at, place.0), omega (arith, at, place.1)),
-      own-word c.args.memory.now (between u.block.start u.payload) c.args.block (here_front v u i) (omega (arith, at))
-          (omega (arith, at, IsUsed-after_start u (v.well_formed.used u i))),
-    )
-    (subst (λ a. word_at c.args.memory.now a < 2 ^ 64) at (omega (arith, v.sizes.used u i, place.1, v.well_formed.addressable)))
+    used_word v u i c.args.block at
 
 pub used_end-end-requires-clause-used : goal.used_end-end-requires-clause-used
 used_end-end-requires-clause-used g c =

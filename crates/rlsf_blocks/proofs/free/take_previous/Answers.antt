@@ -1,15 +1,7 @@
-use Rattle.rlsf_base.proofs.Lending.WordIsHere.{is_word}
-use Rattle.std.proofs.Common.{refl}
-use Rattle.rlsf_blocks.proofs.Deallocate.Marks.{previous-fits}
-use Rattle.std.proofs.Common.{arith, rules}
-use Rattle.std.proofs.Common.{◌+◌}
-use Rattle.rlsf_base.proofs.Lending.Present.{own-word}
-use Rattle.rlsf_model.specs.State.{between}
-use Rattle.rlsf_model.proofs.Payloads.{IsUsed-after_start}
-use Rattle.rlsf_blocks.proofs.Words.NeverOut.{here_front}
+use Rattle.std.proofs.Common.{arith, refl, rules}
 use Rattle.rlsf_table.proofs.FreeLists.Counted.{IsFreeTable-counted}
 use Rattle.rlsf_blocks.proofs.Deallocate.Loaded.{IsMarked-loaded, IsNextOut-loaded}
-use Rattle.rlsf_blocks.proofs.Deallocate.Marks.{IsMarked-previous, IsPreviousOut-none, previous_begins, previous_out}
+use Rattle.rlsf_blocks.proofs.Deallocate.Marks.{IsMarked-previous, IsPreviousOut-none, length_before, previous_out, previous_word}
 use Rattle.rlsf_blocks.proofs.RepresentedStates.FreeBlocks.{IsFreeTable-free}
 use Rattle.rlsf_blocks.proofs.Words.Apart.{used_in_memory}
 use Rattle.rlsf_table.proofs.Costs.{Costs-loaded, Costs-then, Costs-within}
@@ -23,13 +15,7 @@ overflow_add-block g c =
 pub load_at-previous-requires-clause-place : goal.load_at-previous-requires-clause-place
 load_at-previous-requires-clause-place g c =
     let (s, u, v, i, at) = c.requires.used in
-    let place = used_in_memory v.well_formed u i in
-    is_word c.args.memory.now (c.args.block + 8) (
-      omega (arith, at, (v.well_formed.used u i).whole.start),
-      (omega (arith, at, place.0), omega (arith, at, place.1)),
-      own-word c.args.memory.now (between u.block.start u.payload) (c.args.block + 8) (here_front v u i) (omega (arith, at))
-          (omega (arith, at, IsUsed-after_start u (v.well_formed.used u i))),
-    ) (previous-fits v u i at refl)
+    previous_word v u i at refl
 
 pub take_free-requires : goal.take_free-requires
 take_free-requires g c =
@@ -60,8 +46,7 @@ returns-in-Some g c =
           let marked = IsMarked-loaded m n read.start read.bytes read.out (IsMarked-previous v u i at read.word some) in
           let list = IsFreeTable-counted m n read.start read.bytes read.out (IsFreeTable-free v) in
           let next = IsNextOut-loaded m n read.start read.bytes read.out (c.in-Some.ensures.step s.free list marked) in
-          let is = (previous_out v u i at read.word some next).1 in
-          record { rewrites = is.rewrites; list = is.list; begins = omega (arith, is.begins, previous_begins v u i at read.word some next c.in-Some.ensures.some) };
+          previous_out v u i at read.word some next (omega (arith, (length_before v u i at read.word some next.end).ends c.in-Some.ensures.some));
       costs = Costs-then (Costs-loaded m n read.start read.bytes read.touches read.copied read.view read.out) c.in-Some.ensures.costs;
     }
 
@@ -76,7 +61,6 @@ returns-in-None g c =
           let marked = IsMarked-loaded m n read.start read.bytes read.out (IsMarked-previous v u i at read.word some) in
           let list = IsFreeTable-counted m n read.start read.bytes read.out (IsFreeTable-free v) in
           let next = IsNextOut-loaded m n read.start read.bytes read.out (c.in-None.ensures.step s.free list marked) in
-          let is = (previous_out v u i at read.word some next).1 in
-          record { rewrites = is.rewrites; list = is.list; begins = omega (arith, is.begins) };
+          previous_out v u i at read.word some next (omega arith);
       costs = Costs-then (Costs-loaded m n read.start read.bytes read.touches read.copied read.view read.out) c.in-None.ensures.costs;
     }

@@ -1,9 +1,5 @@
-use Rattle.rlsf_base.proofs.Lending.WordIsHere.{is_word}
-use Rattle.std.proofs.Common.{◌<◌, ◌^◌}
-use Rattle.rlsf_base.specs.Space.{word_at}
 use Rattle.std.proofs.Common.{◌≡◌, ◌+◌, ◌-◌, ◌^◌, ◌<◌, ◌≤◌, Some, arith, refl, sym, ◌∙◌, rules, subst}
-use Rattle.rlsf_base.proofs.Lending.Present.{own-word}
-use Rattle.rlsf_blocks.proofs.Words.NeverOut.{here_free}
+use Rattle.rlsf_blocks.proofs.Words.NeverOut.{free_word}
 use Rattle.rlsf_base.specs.declared.memory.range.Range.{Range}
 use Rattle.rlsf_base.specs.Sizes.{request_size}
 use Rattle.rlsf_model.specs.Allocate.{choice}
@@ -29,17 +25,7 @@ use Rattle.rlsf_blocks.proofs.placement.place.Goals.{After-load_at-len, After-fr
 pub load_at-len-requires-clause-place : goal.load_at-len-requires-clause-place
 load_at-len-requires-clause-place g c =
     let (s, f, v, chosen, start) = c.requires.chosen in
-    let layout = c.args.layout in
-    let place = free_in_memory v.well_formed f (is_free v f layout.size layout.align layout.valid.aligned chosen) in
-    let fit = fitting v f layout.size layout.align layout.valid.aligned chosen in
-    let free = is_free v f layout.size layout.align layout.valid.aligned chosen in
-    is_word c.args.memory.now c.args.found.start (
-      omega (arith, fit.whole),
-      (omega (arith, place.0), omega (arith, place.1)),
-      own-word c.args.memory.now f c.args.found.start (here_free v f free) (omega (arith, start))
-          (omega (arith, start, (v.well_formed.free f free).some, (v.well_formed.free f free).whole.len)),
-    )
-    (subst (λ a. word_at c.args.memory.now a < 2 ^ 64) start (omega (arith, v.sizes.free f free, place.1, v.well_formed.addressable)))
+    free_word v f (is_free v f c.args.layout.size c.args.layout.align c.args.layout.valid.aligned chosen) c.args.found.start start
 
 pub front-payload-requires-clause-whole : goal.front-payload-requires-clause-whole
 front-payload-requires-clause-whole g c =

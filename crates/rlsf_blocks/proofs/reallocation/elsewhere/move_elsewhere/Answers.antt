@@ -16,7 +16,7 @@ use Rattle.rlsf_blocks.specs.StandsFor.{contents, StandsFor}
 use Rattle.rlsf_blocks.specs.Steps.Resize.{IsUsedAt}
 use Rattle.rlsf_blocks.proofs.Deallocate.Releases.{end_computed, word_computed}
 use Rattle.rlsf_blocks.proofs.RepresentedStates.Counted.{KeepsSpare-counted_first, StandsFor-counted}
-use Rattle.rlsf_blocks.proofs.Reallocate.Computations.{IsReadable-size}
+use Rattle.rlsf_blocks.proofs.Words.NeverOut.{used_word}
 use Rattle.rlsf_blocks.proofs.Reallocate.Elsewhere.{both, copied_stands, IsCopied, IsOwned-new, IsOwned-old, KeepsSpare-copied, LiesIn-new, LiesIn-old, MovesAway-copied}
 use Rattle.rlsf_blocks.proofs.Words.Apart.{used_in_memory}
 use Rattle.rlsf_blocks.proofs.Words.Stays.{Stays, Stays-same, Stays-then}
@@ -77,7 +77,7 @@ payload_here g c u v i here a lo hi = (still g c).1 a (omega (arith, lo, (used_i
 pub load_at-requires-clause-place : goal.load_at-requires-clause-place
 load_at-requires-clause-place g c =
     let (s, u, v, is, short, here) = c.requires.used in
-    IsReadable-size v u is
+    used_word v u is.is_used c.args.block is.start
 
 pub used_end-end-requires-clause-used : goal.used_end-end-requires-clause-used
 used_end-end-requires-clause-used g c =

@@ -13,7 +13,7 @@ use Rattle.rlsf_blocks.proofs.Deallocate.Marks.{IsMarked-behind}
 use Rattle.rlsf_blocks.proofs.Deallocate.Releases.{end_computed, word_computed}
 use Rattle.rlsf_blocks.proofs.RepresentedStates.Counted.{StandsFor-counted}
 use Rattle.rlsf_table.proofs.Words.Writes.{Writes-none}
-use Rattle.rlsf_blocks.proofs.Reallocate.Computations.{IsReadable-size}
+use Rattle.rlsf_blocks.proofs.Words.NeverOut.{used_word}
 use Rattle.rlsf_blocks.proofs.Reallocate.PreviousPlans.{AreOut, here_moved, IsHere-payload, IsOwned-moved, IsUsedBlock-from, IsWritable-pad, LiesIn-moved, LiesIn-payload}
 use Rattle.rlsf_blocks.proofs.Reallocate.PreviousPlans.{moved_to, padded, part, payload_within, room, sixteen-le, stays_moved, total_is, total-fits, union_begins}
 use Rattle.rlsf_blocks.proofs.Words.Apart.{used_in_memory}
@@ -34,7 +34,7 @@ use Rattle.rlsf_blocks.proofs.reallocation.previous.move_into_previous.Goals.{Af
 pub load_at-requires-clause-place : goal.load_at-requires-clause-place
 load_at-requires-clause-place g c =
     let (s, u, v, used, short, here) = c.requires.used in
-    IsReadable-size v u used
+    used_word v u used.is_used c.args.block used.start
 
 -- where a used block ends, by the word that was read, and the state that the memory represents then
 ends : (g : given.Over) (c : After-used_end-end g) {s : State} {u : Used} → StandsFor g.row.FLLEN g.row.SLLEN (contents c.args.memory.now c.args.table.now) s

@@ -1,7 +1,7 @@
 use Rattle.std.proofs.Common.{rules, arith, refl}
 use Rattle.rlsf_blocks.proofs.RepresentedStates.Counted.{StandsFor-counted}
 use Rattle.rlsf_blocks.proofs.RepresentedStates.FreeBlocks.{IsFreeTable-free}
-use Rattle.rlsf_blocks.proofs.Reallocate.Neighbours.{IsMarked-end}
+use Rattle.rlsf_blocks.proofs.Deallocate.Marks.{IsMarked-end}
 use Rattle.rlsf_blocks.proofs.Reallocate.Previous.{FitsBefore-computed, block-le, end-in_memory, into_previous-refused, none_before, payload-le, previous-le, room_behind}
 use Rattle.rlsf_blocks.proofs.reallocation.previous.place_before.Goals as goal
 

@@ -1,15 +1,9 @@
-use Rattle.std.proofs.Common.{◌+◌, rules, arith, refl}
-use Rattle.rlsf_base.proofs.Lending.WordIsHere.{is_word}
-use Rattle.rlsf_base.proofs.Lending.Present.{own-word}
-use Rattle.rlsf_model.specs.State.{between}
-use Rattle.rlsf_model.proofs.Payloads.{IsUsed-after_start}
+use Rattle.std.proofs.Common.{rules, arith, refl}
 use Rattle.rlsf_blocks.proofs.Deallocate.Loaded.{IsMarked-loaded}
-use Rattle.rlsf_blocks.proofs.Deallocate.Marks.{IsMarked-previous, IsPreviousOut-none, previous-fits}
+use Rattle.rlsf_blocks.proofs.Deallocate.Marks.{IsMarked-previous, IsPreviousOut-none, length_before, previous_word}
 use Rattle.rlsf_table.proofs.FreeLists.Counted.{IsFreeTable-counted}
 use Rattle.rlsf_blocks.proofs.RepresentedStates.FreeBlocks.{IsFreeTable-free}
-use Rattle.rlsf_blocks.proofs.Reallocate.Neighbours.{start_or-length}
 use Rattle.rlsf_blocks.proofs.Words.Apart.{used_in_memory}
-use Rattle.rlsf_blocks.proofs.Words.NeverOut.{here_front}
 use Rattle.rlsf_blocks.proofs.reallocation.previous.start_before.Goals as goal
 
 pub overflow_add-block : goal.overflow_add-block
@@ -20,12 +14,7 @@ overflow_add-block c =
 pub load_at-previous-requires-clause-place : goal.load_at-previous-requires-clause-place
 load_at-previous-requires-clause-place c =
     let (fllen, sllen, t, s, u, v, i, at) = c.requires.used in
-    let place = used_in_memory v.well_formed u i in
-    let own =
-    own-word c.args.memory.now (between u.block.start u.payload) (c.args.block + 8) (here_front v u i) (omega (arith, at))
-    (omega (arith, at, IsUsed-after_start u (v.well_formed.used u i))) in
-    is_word c.args.memory.now (c.args.block + 8) (omega (arith, at, (v.well_formed.used u i).whole.start), (omega (arith, at, place.0), omega (arith, at, place.1)), own)
-    (previous-fits v u i at refl)
+    previous_word v u i at refl
 
 pub free_length-requires-clause-marked : goal.free_length-requires-clause-marked
 free_length-requires-clause-marked c =
@@ -44,7 +33,7 @@ overflow_sub-result c =
     let read = c.load_at-previous.ensures in
     let marked = IsMarked-loaded m n read.start read.bytes read.out (IsMarked-previous v u i at read.word c.if-previous-eq0.false) in
     let long = c.free_length.ensures.length fllen sllen t s.free (IsFreeTable-counted m n read.start read.bytes read.out (IsFreeTable-free v)) marked in
-    (start_or-length v u i at read.word c.if-previous-eq0.false long).0
+    (length_before v u i at read.word c.if-previous-eq0.false long).within
 
 pub returns-then-previous-eq0 : goal.returns-then-previous-eq0
 returns-then-previous-eq0 c = record {
@@ -62,6 +51,6 @@ returns-else-previous-eq0 c = record {
       let read = c.load_at-previous.ensures in
       let marked = IsMarked-loaded m n read.start read.bytes read.out (IsMarked-previous v u i at read.word c.if-previous-eq0.false) in
       let long = c.free_length.ensures.length fllen sllen t s.free (IsFreeTable-counted m n read.start read.bytes read.out (IsFreeTable-free v)) marked in
-      (start_or-length v u i at read.word c.if-previous-eq0.false long).1;
+      (length_before v u i at read.word c.if-previous-eq0.false long).begins;
   counts = search rules;
 }

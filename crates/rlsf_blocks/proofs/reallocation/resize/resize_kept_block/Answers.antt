@@ -10,9 +10,10 @@ use Rattle.rlsf_blocks.specs.Steps.Resize.{HasRoomBehind, IsUsedAt}
 use Rattle.rlsf_base.proofs.Numbers.Roundings.{next_multiple_of-lt}
 use Rattle.rlsf_table.proofs.FreeLists.Counted.{IsFreeTable-counted, word_at-counted}
 use Rattle.rlsf_blocks.proofs.Words.Apart.{used_in_memory}
+use Rattle.rlsf_blocks.proofs.Words.NeverOut.{used_word}
 use Rattle.rlsf_blocks.proofs.RepresentedStates.Counted.{KeepsSpare-counted_first, StandsFor-counted}
 use Rattle.rlsf_blocks.proofs.RepresentedStates.FreeBlocks.{IsFreeTable-free}
-use Rattle.rlsf_blocks.proofs.Reallocate.Computations.{end_is, IsMarked-loaded_end, IsReadable-size, reach_is, taken_computed}
+use Rattle.rlsf_blocks.proofs.Reallocate.Computations.{end_is, IsMarked-loaded_end, reach_is, taken_computed}
 use Rattle.rlsf_blocks.proofs.Reallocate.NextPlans.{kept_whole, no_plan, or_else-kept}
 use Rattle.rlsf_blocks.proofs.Reallocate.Resized.{IsCarriedOut-kept}
 use Rattle.rlsf_blocks.proofs.Reallocate.Spans.{reach, span_in_memory}
@@ -25,7 +26,7 @@ use Rattle.rlsf_blocks.proofs.reallocation.resize.resize_kept_block.Goals as goa
 use Rattle.rlsf_blocks.proofs.reallocation.resize.resize_kept_block.Goals.{After-free_length}
 
 pub load_at-requires-clause-place : goal.load_at-requires-clause-place
-load_at-requires-clause-place g c = let (s, u, v, at, own) = c.requires.used in IsReadable-size v u at
+load_at-requires-clause-place g c = let (s, u, v, at, own) = c.requires.used in used_word v u at.is_used c.args.block at.start
 
 pub overflow_add-payload : goal.overflow_add-payload
 overflow_add-payload g c = record { fits = omega (arith, c.requires.fits, c.size.ensures.value) }
