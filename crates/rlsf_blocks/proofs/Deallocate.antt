@@ -3,5 +3,4 @@ pub mod Addresses
 pub mod Loaded
 pub mod Marks
 pub mod TakenIfFree
-pub mod FreeBlockWrites
 pub mod Releases

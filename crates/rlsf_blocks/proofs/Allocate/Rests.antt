@@ -1,11 +1,11 @@
--- The writes that leave a rest.
+-- The writes that make a free block of bytes that are no block's.
 use Rattle.rlsf_base.proofs.Lending.Present.{own-there}
 use Rattle.rlsf_base.specs.OpenSpace.{out_with}
 use Rattle.rlsf_base.specs.Range.{range_at}
 use Rattle.rlsf_base.proofs.Lending.Present.{own-word}
 use Rattle.rlsf_base.specs.Space.{word_range}
 use Rattle.rlsf_base.specs.OpenSpace.{IsOwned}
-use Rattle.std.proofs.Common.{◌≡◌, ◌≢◌, ℕ, ◌+◌, ◌-◌, ◌%◌, ◌^◌, ◌<◌, ◌≤◌, ◌⊎◌, List, ◌∷◌, arith, inl, inr, sym, ◌∙◌, ap}
+use Rattle.std.proofs.Common.{◌≡◌, ◌≢◌, ℕ, ◌+◌, ◌-◌, ◌%◌, ◌^◌, ◌<◌, ◌≤◌, ◌⊎◌, List, ◌∷◌, arith, inl, inr, refl, sym, ◌∙◌, ap}
 use Rattle.std.proofs.Common.{subst}
 use Rattle.rlsf_base.specs.declared.memory.range.Range.{Range}
 use Rattle.rlsf_base.specs.Range.{end_of}
@@ -14,18 +14,19 @@ use Rattle.rlsf_table.specs.Rewrites.{IsLink, Rewrites}
 use Rattle.rlsf_table.specs.FreeTable.{IsRoom}
 use Rattle.rlsf_table.specs.Table.{Table, HasTable}
 use Rattle.rlsf_table.proofs.Tables.FreeTables.{IsFreeTable-Rewrites}
-use Rattle.rlsf_table.proofs.Words.Writes.{before_links, Rewrites-trans, Rewrites-weaken, Rewrites-word, CanBeBlock-Rewrites}
+use Rattle.rlsf_table.proofs.Words.Writes.{before_links, Rewrites-trans, Rewrites-weaken, Rewrites-word, CanBeBlock-Rewrites, Writes, Writes-none, Writes-some}
 use Rattle.rlsf_table.proofs.Words.Writing.{IsWrite, write, rewrites_of, reads_of}
 use Rattle.rlsf_blocks.specs.Steps.Touched.{Touched, at_link, in_hole, at_other}
 use Rattle.rlsf_model.specs.Lists.{IsIn}
 use Rattle.rlsf_model.specs.WellFormed.{itself}
+use Rattle.rlsf_blocks.specs.Steps.Join.{IsNewFreeBlock}
 use Rattle.rlsf_blocks.specs.Steps.Rest.{IsInnerRoom, IsFreeBlockBehind}
 use Rattle.rlsf_model.proofs.Coverage.{covers-inside, coverage-IsIn}
 
--- the memories m1 to m3 after the three writes
-pub record AreLeft (m m1 m2 m3 : Space) (block : ℕ) (r : Range) : Type 0 where
+-- the memories m1 to m3 after the writes: the size of the rest, the block before it, where that is wanted, and the start of the rest behind it
+pub record AreLeft (named : Type 0) (m m1 m2 m3 : Space) (block : ℕ) (r : Range) : Type 0 where
   pub one : IsWrite m m1 r.start r.len
-  pub two : IsWrite m1 m2 (r.start + 8) block
+  pub two : Writes m1 m2 named (r.start + 8) block
   pub three : IsWrite m2 m3 (end_of r + 8) r.start
 
 pub AreLeft-from : {fllen sllen : ℕ} {m m1 m2 m3 : Space} {table : Table} {free : List Range} (block len taken : ℕ) (r : Range) → IsInnerRoom fllen sllen m table free r
@@ -33,7 +34,7 @@ pub AreLeft-from : {fllen sllen : ℕ} {m m1 m2 m3 : Space} {table : Table} {fre
     → (m1.start ≡ m.start) × (m1.bytes ≡ with_word m (block + taken) (len - taken)) × (m1.out ≡ out_with m (word_range (block + taken)))
     → (m2.start ≡ m1.start) × (m2.bytes ≡ with_word m1 (block + taken + 8) block) × (m2.out ≡ out_with m1 (word_range (block + taken + 8)))
     → (m3.start ≡ m2.start) × (m3.bytes ≡ with_word m2 (block + len + 8) (block + taken)) × (m3.out ≡ out_with m2 (word_range (block + len + 8)))
-    → AreLeft m m1 m2 m3 block r
+    → AreLeft (Unit {0}) m m1 m2 m3 block r
 AreLeft-from {m = m} {m1 = m1} {m2 = m2} {m3 = m3} block len taken r room start_is len_is fits e1 e2 e3 =
     let inside = room.room.placed.lies_in in
     let whole = room.room.block.whole in
@@ -58,15 +59,39 @@ AreLeft-from {m = m} {m1 = m1} {m2 = m2} {m3 = m3} block len taken r room start_
     let w3 : IsWrite m2 m3 (block + len + 8) (block + taken) = write (omega arith, (omega arith, omega arith), h3) e3.0 e3.1 (omega arith) e3.2 in
     record {
       one = subst (λ a. IsWrite m m1 a r.len) start (subst (λ n. IsWrite m m1 (block + taken) n) size w1);
-      two = subst (λ a. IsWrite m1 m2 (a + 8) block) start w2;
+      two = subst (λ a. Writes m1 m2 (Unit {0}) (a + 8) block) start (Writes-some (Unit {0}) tt w2.placed w2.fits w2.start w2.bytes w2.out);
       three = subst (λ a. IsWrite m2 m3 (end_of r + 8) a) start (subst (λ a. IsWrite m2 m3 (a + 8) (block + taken)) end w3);
     }
 
-module _ {fllen sllen : ℕ} {m m1 m2 m3 : Space} {table : Table} {block : ℕ} {free : List Range} (r : Range) (inner : IsInnerRoom fllen sllen m table free r)
-    (writes : AreLeft m m1 m2 m3 block r) where
-  -- the words were written at the rest and at the second word behind it
-  written : Rewrites m m3 (λ a. (a ≡ r.start) ⊎ ((a ≡ r.start + 8) ⊎ (a ≡ end_of r + 8)))
-  written = Rewrites-trans (rewrites_of writes.one) (Rewrites-trans (rewrites_of writes.two) (rewrites_of writes.three))
+-- the word that names the block before it isn't written
+pub ArePut-from : {fllen sllen : ℕ} {m m1 m2 : Space} {t : Table} {free : List Range} (block len : ℕ) (r : Range) → IsInnerRoom fllen sllen m t free r → r.start ≡ block
+    → r.len ≡ len
+    → (m1.start ≡ m.start) × (m1.bytes ≡ with_word m block len) × (m1.out ≡ out_with m (word_range block))
+    → (m2.start ≡ m1.start) × (m2.bytes ≡ with_word m1 (block + len + 8) block) × (m2.out ≡ out_with m1 (word_range (block + len + 8))) → AreLeft ⊥ m m1 m1 m2 0 r
+ArePut-from {m = m} {m1 = m1} {m2 = m2} block len r inner start length e1 e2 =
+    let inside = inner.room.placed.lies_in in
+    let whole = inner.room.block.whole in
+    let not_last = inner.not_last in
+    let addressable = inner.room.list.addressable in
+    let end : block + len ≡ end_of r = omega arith in
+    let large = inner.room.placed.room in
+    let h1 : IsOwned m (word_range block) = own-word m r block inner.room.placed.own (omega arith) (omega (arith, large)) in
+    let w1 : IsWrite m m1 block len = write (omega arith, (omega arith, omega arith), h1) e1.0 e1.1 (omega arith) e1.2 in
+    let l1 = (Rewrites-word m m1 block len w1.placed w1.start w1.bytes w1.out).length in
+    let h2 : IsOwned m1 (word_range (block + len + 8)) =
+    own-there m m1 (word_range (block + len + 8)) (omega arith) (rewrites_of w1).own
+    (own-word m (range_at (end_of r) 16) (block + len + 8) inner.behind (omega arith) (omega arith)) in
+    let w2 : IsWrite m1 m2 (block + len + 8) block = write (omega arith, (omega arith, omega arith), h2) e2.0 e2.1 (omega arith) e2.2 in
+    record {
+      one = subst (λ a. IsWrite m m1 a r.len) (sym start) (subst (λ n. IsWrite m m1 block n) (sym length) w1);
+      two = Writes-none m1 m1 ⊥ (r.start + 8) 0 refl (λ none. none);
+      three = subst (λ a. IsWrite m1 m2 (end_of r + 8) a) (sym start) (subst (λ a. IsWrite m1 m2 (a + 8) block) end w2);
+    }
+
+module _ {fllen sllen : ℕ} {named : Type 0} {m m1 m2 m3 : Space} {table : Table} {block : ℕ} {free : List Range} (r : Range) (inner : IsInnerRoom fllen sllen m table free r)
+    (writes : AreLeft named m m1 m2 m3 block r) where
+  written : Rewrites m m3 (λ a. (a ≡ r.start) ⊎ ((named × (a ≡ r.start + 8)) ⊎ (a ≡ end_of r + 8)))
+  written = Rewrites-trans (rewrites_of writes.one) (Rewrites-trans writes.two.rewrites (rewrites_of writes.three))
 
   room : IsRoom fllen sllen m table free r
   room = inner.room
@@ -74,9 +99,9 @@ module _ {fllen sllen : ℕ} {m m1 m2 m3 : Space} {table : Table} {block : ℕ} 
   pub IsRoom-written : IsRoom fllen sllen m3 table free r
   IsRoom-written = record { list = IsFreeTable-Rewrites written other room.list; block = room.block; placed = CanBeBlock-Rewrites written room.placed; apart = room.apart }
     where
-      other : (f : Range) → IsIn f free → ¬ ((f.start ≡ r.start) ⊎ ((f.start ≡ r.start + 8) ⊎ (f.start ≡ end_of r + 8)))
-          × ¬ ((f.start + 16 ≡ r.start) ⊎ ((f.start + 16 ≡ r.start + 8) ⊎ (f.start + 16 ≡ end_of r + 8)))
-          × ¬ ((f.start + 24 ≡ r.start) ⊎ ((f.start + 24 ≡ r.start + 8) ⊎ (f.start + 24 ≡ end_of r + 8)))
+      other : (f : Range) → IsIn f free → ¬ ((f.start ≡ r.start) ⊎ ((named × (f.start ≡ r.start + 8)) ⊎ (f.start ≡ end_of r + 8)))
+          × ¬ ((f.start + 16 ≡ r.start) ⊎ ((named × (f.start + 16 ≡ r.start + 8)) ⊎ (f.start + 16 ≡ end_of r + 8)))
+          × ¬ ((f.start + 24 ≡ r.start) ⊎ ((named × (f.start + 24 ≡ r.start + 8)) ⊎ (f.start + 24 ≡ end_of r + 8)))
       other f i =
           let placed = room.list.placed f i in
           let mine = room.placed.whole in
@@ -90,9 +115,9 @@ module _ {fllen sllen : ℕ} {m m1 m2 m3 : Space} {table : Table} {block : ℕ} 
             coverage-IsIn itself f free r.start i,
             covers-inside f r.start (omega arith) (omega (arith, placed.room)),
           ) in (
-            (elim [ inl e ↦ apart e | inr (inl e) ↦ omega (arith, placed.whole) | inr (inr e) ↦ omega (arith, placed.whole) ]),
-            (elim [ inl e ↦ omega (arith, placed.whole) | inr (inl e) ↦ omega (arith, placed.whole) | inr (inr e) ↦ omega (arith, placed.whole) ]),
-            (elim [ inl e ↦ omega (arith, placed.whole) | inr (inl e) ↦ omega (arith, placed.whole) | inr (inr e) ↦ omega (arith, placed.whole) ]),
+            (elim [ inl e ↦ apart e | inr (inl (_, e)) ↦ omega (arith, placed.whole) | inr (inr e) ↦ omega (arith, placed.whole) ]),
+            (elim [ inl e ↦ omega (arith, placed.whole) | inr (inl (_, e)) ↦ omega (arith, placed.whole) | inr (inr e) ↦ omega (arith, placed.whole) ]),
+            (elim [ inl e ↦ omega (arith, placed.whole) | inr (inl (_, e)) ↦ omega (arith, placed.whole) | inr (inr e) ↦ omega (arith, placed.whole) ]),
           )
 
   -- and once the rest is linked, it is a free block
@@ -104,31 +129,63 @@ module _ {fllen sllen : ℕ} {m m1 m2 m3 : Space} {table : Table} {block : ℕ} 
         start f (inl is) = omega (arith, room.placed.whole, ap (λ q. q.start) is)
         start f (inr i) = (room.list.placed f i).whole
 
-    pub IsFreeBlockBehind-written : IsFreeBlockBehind fllen sllen m n changed free block r
-    IsFreeBlockBehind-written =
-        let whole = room.block.whole in
-        let long = room.placed.room in
+    size : word_at n r.start ≡ r.len
+    size =
         let inside = room.placed.lies_in in
-        let r3 = rewrites_of writes.three in
-        let r2 = Rewrites-trans (rewrites_of writes.two) r3 in
-        let same1 = writes.one.start in
-        let same2 = writes.two.start in
-        record {
-          rewrites = Rewrites-weaken joined (Rewrites-trans written linked.1);
-          size = kept r.start (inl whole.start) inside.0 ∙ r2.words r.start (omega arith) (omega arith) size_apart ∙ reads_of writes.one;
-          previous = kept (r.start + 8) (inr (omega arith)) (omega arith) ∙ r3.words (r.start + 8) (omega arith) (omega arith) (λ e. omega arith) ∙ reads_of writes.two;
-          behind = kept (end_of r + 8) (inr (omega arith)) (omega arith) ∙ reads_of writes.three;
-          table = linked.0;
-        }
+        let later = Rewrites-trans writes.two.rewrites (rewrites_of writes.three) in
+        kept r.start (inl room.block.whole.start) inside.0 ∙ later.words r.start (omega (arith, room.block.whole.start)) (omega (arith, inside.0, writes.one.start)) apart
+        ∙ reads_of writes.one
       where
-        size_apart : (r.start ≡ r.start + 8) ⊎ (r.start ≡ end_of r + 8) → ⊥
-        size_apart (inl e) = omega arith
-        size_apart (inr e) = omega arith
+        apart : (named × (r.start ≡ r.start + 8)) ⊎ (r.start ≡ end_of r + 8) → ⊥
+        apart (inl (_, e)) = omega arith
+        apart (inr e) = omega arith
 
-        joined : (a : ℕ) → ((a ≡ r.start) ⊎ ((a ≡ r.start + 8) ⊎ (a ≡ end_of r + 8))) ⊎ IsLink (r ∷ free) a → Touched free r (end_of r + 8) a
+    behind : word_at n (end_of r + 8) ≡ r.start
+    behind =
+        kept (end_of r + 8) (inr (omega (arith, room.block.whole.start, room.block.whole.len))) (omega (arith, room.placed.lies_in)) ∙ reads_of writes.three
+
+    rewrites : Rewrites m n (Touched free r (end_of r + 8))
+    rewrites = Rewrites-weaken joined (Rewrites-trans written linked.1)
+      where
+        joined : (a : ℕ) → ((a ≡ r.start) ⊎ ((named × (a ≡ r.start + 8)) ⊎ (a ≡ end_of r + 8))) ⊎ IsLink (r ∷ free) a → Touched free r (end_of r + 8) a
         joined a (inl (inl e)) = in_hole (omega arith) (omega (arith, room.placed.room))
-        joined a (inl (inr (inl e))) = in_hole (omega arith) (omega (arith, room.placed.room))
+        joined a (inl (inr (inl (_, e)))) = in_hole (omega arith) (omega (arith, room.placed.room))
         joined a (inl (inr (inr e))) = at_other e
         joined a (inr (f, inl is, inl at)) = in_hole (omega (arith, ap (λ q. q.start) is)) (omega (arith, ap (λ q. q.start) is, room.placed.room))
         joined a (inr (f, inl is, inr at)) = in_hole (omega (arith, ap (λ q. q.start) is)) (omega (arith, ap (λ q. q.start) is, room.placed.room))
         joined a (inr (f, inr i, at)) = at_link (f, i, at)
+
+    -- whose second word names the block before it
+    pub IsFreeBlockBehind-written : named → IsFreeBlockBehind fllen sllen m n changed free block r
+    IsFreeBlockBehind-written holds =
+        let whole = room.block.whole in
+        let long = room.placed.room in
+        let inside = room.placed.lies_in in
+        let same1 = writes.one.start in
+        let same2 = writes.two.rewrites.start in
+        let last = rewrites_of writes.three in
+        record {
+          rewrites = rewrites;
+          size = size;
+          previous = kept (r.start + 8) (inr (omega arith)) (omega arith) ∙ last.words (r.start + 8) (omega arith) (omega arith) (λ e. omega arith) ∙ writes.two.reads holds;
+          behind = behind;
+          table = linked.0;
+        }
+
+    -- or is as it was
+    pub IsNewFreeBlock-written : ¬ named → IsNewFreeBlock fllen sllen m n changed free r
+    IsNewFreeBlock-written none =
+        let whole = room.block.whole in
+        let inside = room.placed.lies_in in
+        record {
+          rewrites = rewrites;
+          size = size;
+          first = kept (r.start + 8) (inr (omega arith)) (omega arith) ∙ written.words (r.start + 8) (omega arith) (omega arith) apart;
+          behind = behind;
+          table = linked.0;
+        }
+      where
+        apart : (r.start + 8 ≡ r.start) ⊎ ((named × (r.start + 8 ≡ r.start + 8)) ⊎ (r.start + 8 ≡ end_of r + 8)) → ⊥
+        apart (inl e) = omega arith
+        apart (inr (inl (holds, e))) = none holds
+        apart (inr (inr e)) = omega (arith, room.placed.room)

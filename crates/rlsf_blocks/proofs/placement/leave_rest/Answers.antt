@@ -14,7 +14,7 @@ use Rattle.rlsf_blocks.proofs.placement.leave_rest.Goals.{After-set_word_at-3}
 -- the three words of the rest are written
 written : (g : given.Over) (c : After-set_word_at-3 g) {free : List Range} (r : Range) → IsInnerRoom g.row.FLLEN g.row.SLLEN c.args.memory.now c.args.table.now free r
     → r.start ≡ c.args.block + c.args.taken → r.len + c.args.taken ≡ c.args.len
-    → AreLeft c.args.memory.now c.set_word_at.new.self c.set_word_at-2.new.self c.set_word_at-3.new.self c.args.block r
+    → AreLeft (Unit {0}) c.args.memory.now c.set_word_at.new.self c.set_word_at-2.new.self c.set_word_at-3.new.self c.args.block r
 written g c r room start len =
     let block = c.args.block in
     let rest = c.args.block + c.args.taken in
@@ -76,7 +76,7 @@ returns g c =
     record {
       step = λ free r start len room.
           let writes = written g at r room start len in
-          IsFreeBlockBehind-written r room writes (c.link_free_block.ensures.step r free start (omega (arith, len)) (IsRoom-written r room writes));
+          IsFreeBlockBehind-written r room writes (c.link_free_block.ensures.step r free start (omega (arith, len)) (IsRoom-written r room writes)) tt;
       costs =
           let first = Costs-written c.args.memory.now n1 (c.args.block + c.args.taken) one.start one.len one.touches one.copied one.view one.out in
           let second = Costs-written n1 n2 (c.args.block + c.args.taken + 8) two.start two.len two.touches two.copied two.view two.out in
