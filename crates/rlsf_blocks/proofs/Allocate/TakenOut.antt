@@ -15,7 +15,7 @@ use Rattle.rlsf_table.specs.FreeTable.{IsFreeTable}
 use Rattle.rlsf_table.specs.Table.{IsClassAt, IsNewestAt, Table, HasTable}
 use Rattle.rlsf_table.proofs.Tables.FreeTables.{IsFreeTable-removal}
 use Rattle.rlsf_table.proofs.FreeLists.Chains.{find-split}
-use Rattle.rlsf_table.proofs.Words.Writes.{Rewrites-trans, Rewrites-weaken}
+use Rattle.rlsf_table.proofs.Words.Writes.{before_links, Rewrites-trans, Rewrites-weaken}
 use Rattle.rlsf_blocks.specs.Steps.Touched.{Touched, at_link, in_hole, at_other}
 use Rattle.rlsf_model.specs.Allocate.{has_class, rest_behind}
 use Rattle.rlsf_model.specs.Lists.{IsIn, without}
@@ -90,11 +90,7 @@ module _ {fllen sllen : ℕ} {m : Space} {table : Table} {s : State} {f : Range}
 
     -- no link is a second word
     second_word : (a : ℕ) → a % 32 ≡ 8 → m.start ≤ a → word_at m1 a ≡ word_at m a
-    second_word a second from = unlinked_rewrites.words a (omega arith) from no_link
-      where
-        no_link : IsLink s.free a → ⊥
-        no_link (g, i, inl at) = omega (arith, (v.well_formed.free g i).whole.start)
-        no_link (g, i, inr at) = omega (arith, (v.well_formed.free g i).whole.start)
+    second_word a second = before_links s.free (λ g i. (v.well_formed.free g i).whole.start) unlinked_rewrites a (inr second)
 
     pub IsInnerRoom-rest : taken < len → IsInnerRoom fllen sllen m1 others (ahead ++ later) rest
     IsInnerRoom-rest short =

@@ -17,6 +17,7 @@ use Rattle.rlsf_table.specs.FreeTable.{IsFreeTable}
 use Rattle.rlsf_table.specs.Table.{Table}
 use Rattle.rlsf_table.proofs.FreeLists.Found.{find-one, find-no, find-start, find-no_start, without-same}
 use Rattle.rlsf_table.proofs.FreeLists.Counted.{IsFreeTable-counted, Rewrites-counted}
+use Rattle.rlsf_table.proofs.Words.Writes.{before_links}
 use Rattle.rlsf_blocks.specs.InBand.{sentinel_of}
 use Rattle.rlsf_blocks.specs.StandsFor.{contents, StandsFor}
 use Rattle.rlsf_blocks.specs.Steps.Join.{FreeBlockBegins, IsMarked, IsNextOut, IsPreviousOut}
@@ -210,11 +211,7 @@ module _ {fllen sllen : ℕ} {m : Space} {t : Table} {s : State} (v : StandsFor 
   module _ (u : Used) (i : IsIn u s.used) {n : Space} {x : Table} {b start : ℕ} (at : u.block.start ≡ b) (out : IsPreviousOut fllen sllen m n x s.free b start) where
     -- a size word is as it was
     kept : (a : ℕ) → a % 32 ≡ 0 → m.start ≤ a → word_at n a ≡ word_at m a
-    kept a whole from = out.rewrites.words a (omega arith) from no_link
-      where
-        no_link : IsLink s.free a → ⊥
-        no_link (g, j, inl at_link) = omega (arith, (v.well_formed.free g j).whole.start)
-        no_link (g, j, inr at_link) = omega (arith, (v.well_formed.free g j).whole.start)
+    kept a whole = before_links s.free (λ g j. (v.well_formed.free g j).whole.start) out.rewrites a (inl whole)
 
     -- and it is marked still
     pub IsMarked-behind : (e : ℕ) → end_of u.block ≡ e → IsMarked n (without (ends_at b) s.free) e

@@ -9,7 +9,7 @@ use Rattle.rlsf_base.specs.Space.{Space, range_of, word_at}
 use Rattle.rlsf_base.specs.OpenSpace.{IsOwned}
 use Rattle.rlsf_table.specs.Rewrites.{IsLink, Rewrites}
 use Rattle.rlsf_table.specs.Table.{Table}
-use Rattle.rlsf_table.proofs.Words.Writes.{Rewrites-trans, Rewrites-weaken}
+use Rattle.rlsf_table.proofs.Words.Writes.{before_links, Rewrites-trans, Rewrites-weaken}
 use Rattle.rlsf_blocks.specs.Spare.{KeepsSpare}
 use Rattle.rlsf_blocks.specs.StandsFor.{contents, StandsFor}
 use Rattle.rlsf_blocks.specs.Steps.Touched.{Touched, at_link, in_hole, at_other}
@@ -25,8 +25,8 @@ use Rattle.rlsf_model.proofs.Coverage.{covers-inside, coverage-IsIn, IsIn-withou
 use Rattle.rlsf_model.proofs.Joins.{left_of}
 use Rattle.rlsf_model.proofs.Releases.{IsSound-free, IsWellFormed-released}
 use Rattle.rlsf_model.proofs.Tiling.{LiesInChunk, free-le, tiling_of}
-use Rattle.rlsf_blocks.proofs.Words.Apart.{used_free, free_in_memory, home_of_free}
-use Rattle.rlsf_blocks.proofs.Words.Refilled.{old_used, IsFreeStill, old_free, new_free, IsRefilled, StandsFor-refilled, KeepsSpare-refilled}
+use Rattle.rlsf_blocks.proofs.Words.Apart.{Has, used_free, free_in_memory, home_of_free}
+use Rattle.rlsf_blocks.proofs.Words.Refilled.{Touched-joined, old_used, IsFreeStill, old_free, new_free, IsRefilled, StandsFor-refilled, KeepsSpare-refilled}
 
 module _ {fllen sllen : ℕ} {m : Space} {t : Table} {s : State} (v : StandsFor fllen sllen (contents m t) s) (u : Used) (i : IsIn u s.used) where
   -- the state without the block
@@ -38,6 +38,19 @@ module _ {fllen sllen : ℕ} {m : Space} {t : Table} {s : State} (v : StandsFor 
 
   pub home : LiesInChunk s (union u.block s.free)
   home = let here = home_of_free t_well_formed (union u.block s.free) (inl refl) in record { chunk = here.chunk; is_chunk = here.is_chunk; from = here.from; to = here.to }
+
+  -- the other free blocks were free, and have no address of it
+  pub was_free : (f : Range) → IsIn f (untouched u.block s.free) → IsIn f s.free
+  was_free f j = IsIn-without (ends_at u.block.start) f s.free (IsIn-without (starts_at (end_of u.block)) f (without (ends_at u.block.start) s.free) j)
+
+  pub untouched_apart : (f : Range) → IsIn f (untouched u.block s.free) → (a : ℕ) → Has f a → Has (union u.block s.free) a → ⊥
+  untouched_apart f j a hf hu = omega (
+    arith,
+    free-le (released s u) (tiling_of t_well_formed) a,
+    covers-inside (union u.block s.free) a hu.from hu.to,
+    covers-inside f a hf.from hf.to,
+    coverage-IsIn itself f (untouched u.block s.free) a j,
+  )
 
   -- its size word
   pub word_computed : {block word : ℕ} → u.block.start ≡ block → word ≡ word_at m block → word ≡ u.block.len + 1
@@ -108,44 +121,22 @@ module _ {fllen sllen : ℕ} {m : Space} {t : Table} {s : State} (v : StandsFor 
 
     -- and their union with it was put in front
     module _ {n : Space} {x : Table} (put : IsNewFreeBlock fllen sllen m2 n x (untouched u.block s.free) (union u.block s.free)) where
-      was_free : (f : Range) → IsIn f (untouched u.block s.free) → IsIn f s.free
-      was_free f j = IsIn-without (ends_at u.block.start) f s.free (IsIn-without (starts_at (end_of u.block)) f (without (ends_at u.block.start) s.free) j)
-
       pub IsRefilled-released : IsOwned m (usable u) → IsRefilled fllen sllen m n x s (others u.payload s.used) (join u.block s.free) (union u.block s.free)
       IsRefilled-released own =
           let is = is_free in
           let place = free_in_memory t_well_formed (union u.block s.free) (inl refl) in
           record {
-            rewrites = Rewrites-weaken joined (Rewrites-trans gone put.rewrites);
-            first = put.first ∙ gone.words ((union u.block s.free).start + 8) (omega (arith, is.whole.start)) (omega (arith, place.0)) no_link;
+            rewrites = Rewrites-weaken (Touched-joined was_free) (Rewrites-trans gone put.rewrites);
+            first = put.first ∙ before_links s.free (λ f j. (v.well_formed.free f j).whole.start) gone ((union u.block s.free).start + 8) (inr (omega (arith, is.whole.start))) (omega (arith, place.0));
             used_still = λ y j. old_used (IsIn-others u.payload y s.used j).0 (λ a hy hu. used_free t_well_formed y (union u.block s.free) a j (inl refl) hy hu);
             free_still = still;
             table = put.table;
             own = here_released v u i own;
           }
         where
-          joined : (a : ℕ) → IsLink s.free a ⊎ Touched (untouched u.block s.free) (union u.block s.free) (end_of (union u.block s.free) + 8) a
-              → Touched s.free (union u.block s.free) (end_of (union u.block s.free) + 8) a
-          joined a (inl l) = at_link l
-          joined a (inr (at_link (f, j, at))) = at_link (f, was_free f j, at)
-          joined a (inr (in_hole low high)) = in_hole low high
-          joined a (inr (at_other at)) = at_other at
-
-          no_link : IsLink s.free ((union u.block s.free).start + 8) → ⊥
-          no_link (f, j, inl at) = omega (arith, (v.well_formed.free f j).whole.start, is_free.whole.start)
-          no_link (f, j, inr at) = omega (arith, (v.well_formed.free f j).whole.start, is_free.whole.start)
-
           still : (f : Range) → IsIn f (join u.block s.free) → IsFreeStill n s (union u.block s.free) f
           still f (inl same) = subst (IsFreeStill n s (union u.block s.free)) (sym same) (new_free put.size put.behind)
-          still f (inr j) =
-              old_free (was_free f j)
-              (λ a hf hu. omega (
-                arith,
-                free-le (released s u) (tiling_of t_well_formed) a,
-                covers-inside (union u.block s.free) a hu.from hu.to,
-                covers-inside f a hf.from hf.to,
-                coverage-IsIn itself f (untouched u.block s.free) a j,
-              ))
+          still f (inr j) = old_free (was_free f j) (untouched_apart f j)
 
       pub released_stands : IsOwned m (usable u) → StandsFor fllen sllen (contents n x) (released s u) × KeepsSpare m s n (released s u)
       released_stands own =

@@ -34,15 +34,15 @@ use Rattle.rlsf_blocks.specs.Steps.Join.{IsNextOut, IsPreviousOut, union, untouc
 use Rattle.rlsf_blocks.specs.Steps.Resize.{IsCarriedOut, IsOccupied}
 use Rattle.rlsf_table.specs.Table.{Table, HasTable}
 use Rattle.rlsf_blocks.proofs.Allocate.Placements.{length-bytes_in}
-use Rattle.rlsf_blocks.proofs.Deallocate.Releases.{gone, home, is_free, IsInnerRoom-union}
+use Rattle.rlsf_blocks.proofs.Deallocate.Releases.{gone, home, is_free, IsInnerRoom-union, untouched_apart, was_free}
 use Rattle.rlsf_table.proofs.Tables.FreeTables.{HasTable-Rewrites}
-use Rattle.rlsf_table.proofs.Words.Writes.{Rewrites-trans, Rewrites-weaken, Writes}
+use Rattle.rlsf_table.proofs.Words.Writes.{before_links, Rewrites-trans, Rewrites-weaken, Writes}
 use Rattle.rlsf_blocks.proofs.Reallocate.Copies.{IsCopied, IsInside, LiesIn-copied, Rewrites-copied}
 use Rattle.rlsf_blocks.proofs.Reallocate.Previous.{into_previous-fits, planned, reach}
 use Rattle.rlsf_blocks.proofs.Words.Apart.{used_free, free_in_memory, used_in_memory}
 use Rattle.rlsf_blocks.proofs.Words.Frames.{sides, wide_whole}
 use Rattle.rlsf_blocks.proofs.Words.NeverOut.{here_free-in, here_released}
-use Rattle.rlsf_blocks.proofs.Words.Refilled.{IsUsedStill, old_used, new_used, IsFreeStill, old_free, new_free, IsRefilled, StandsFor-refilled, KeepsSpare-refilled}
+use Rattle.rlsf_blocks.proofs.Words.Refilled.{Touched-joined, IsUsedStill, old_used, new_used, IsFreeStill, old_free, new_free, IsRefilled, StandsFor-refilled, KeepsSpare-refilled}
 
 -- a block that is too short to grow in place has fewer bytes than its payload is to have
 in_place-short : (s : State) (u : Used) (size : ℕ) → u.block.len % 32 ≡ 0 → u.block.start ≤ u.payload → in_place s u size ≡ None → end_of u.block < u.payload + size
@@ -136,10 +136,7 @@ module _ {fllen sllen : ℕ} {m : Space} {t : Table} {s : State} (v : StandsFor 
               → Touched s.free (union u.block s.free) (end_of (union u.block s.free) + 8) a
           joined a (inl l) = at_link l
           joined a (inr (inl (low, high))) = in_hole low high
-          joined a (inr (inr (inl (at_link (g, j, at))))) =
-              at_link (g, IsIn-without (ends_at u.block.start) g s.free (IsIn-without (starts_at (end_of u.block)) g (without (ends_at u.block.start) s.free) j), at)
-          joined a (inr (inr (inl (in_hole low high)))) = in_hole low high
-          joined a (inr (inr (inl (at_other at)))) = at_other at
+          joined a (inr (inr (inl t))) = Touched-joined (was_free v u i) a (inr t)
           joined a (inr (inr (inr (w, at)))) = let is = span in in_hole (omega (arith, is.start, is.after_start)) (omega (arith, is.end, is.after_start, is.enough, fits))
 
       -- a word that isn't before the payload is as it was when the block was made
@@ -163,11 +160,7 @@ module _ {fllen sllen : ℕ} {m : Space} {t : Table} {s : State} (v : StandsFor 
           ∙ occupied.first
           ∙ word_at-with_bytes m2 m3 (usable u) to copied.placed there copied.start copied.bytes copied.out a (omega (arith, is.start, same.start))
           (inl (omega (arith, is.start, is.after_start)))
-          ∙ same.words a (omega (arith, is.start, is.whole)) (omega (arith, is.start)) no_link
-        where
-          no_link : IsLink s.free ((union u.block s.free).start + 8) → ⊥
-          no_link (g, j, inl at) = omega (arith, (v.well_formed.free g j).whole.start, span.start, span.whole)
-          no_link (g, j, inr at) = omega (arith, (v.well_formed.free g j).whole.start, span.start, span.whole)
+          ∙ before_links s.free (λ g j. (v.well_formed.free g j).whole.start) same a (inr (omega (arith, is.start, is.whole))) (omega (arith, is.start))
 
       -- ---- the state after
 
@@ -245,14 +238,7 @@ module _ {fllen sllen : ℕ} {m : Space} {t : Table} {s : State} (v : StandsFor 
       free_still : (g : Range) → IsIn g (planned s u size f).free → IsFreeStill n s (union u.block s.free) g
       free_still g k = elim (IsIn-append g (rest_behind (planned s u size f).block (reach s u)) (untouched u.block s.free) k) [
         | inl j ↦ rest_still g j
-        | inr j ↦ old_free (IsIn-without (ends_at u.block.start) g s.free (IsIn-without (starts_at (end_of u.block)) g (without (ends_at u.block.start) s.free) j))
-            (λ a hg hu. omega (
-              arith,
-              free-le (released s u) (tiling_of (IsWellFormed-released v.well_formed u i)) a,
-              covers-inside (union u.block s.free) a hu.from hu.to,
-              covers-inside g a hg.from hg.to,
-              coverage-IsIn itself g (untouched u.block s.free) a j,
-            ))
+        | inr j ↦ old_free (was_free v u i g j) (untouched_apart v u i g j)
       ]
 
       -- the word before the payload is no link

@@ -20,20 +20,19 @@ use Rattle.rlsf_model.proofs.Payloads.{IsUsed-after_start, IsUsed-aligned, IsUse
 use Rattle.rlsf_model.proofs.Plans.{IsSoundPlan, IsWellFormed-replanned}
 use Rattle.rlsf_blocks.specs.StandsFor.{contents, IsUnlent, StandsFor}
 use Rattle.rlsf_table.specs.Rewrites.{IsLink}
-use Rattle.rlsf_blocks.specs.Steps.Touched.{Touched, at_link, in_hole, at_other}
 use Rattle.rlsf_blocks.specs.Steps.Join.{IsNextOut}
 use Rattle.rlsf_blocks.specs.Steps.Resize.{IsCarriedOut, IsOccupied, IsOwnedBehind}
 use Rattle.rlsf_table.specs.Table.{Table, HasTable}
 use Rattle.rlsf_blocks.proofs.Allocate.Placements.{length-bytes_in}
 use Rattle.rlsf_blocks.proofs.RepresentedStates.Counted.{KeepsSpare-counted, StandsFor-counted}
-use Rattle.rlsf_table.proofs.Words.Writes.{Rewrites-trans, Rewrites-weaken}
+use Rattle.rlsf_table.proofs.Words.Writes.{before_links, Rewrites-trans, Rewrites-weaken}
 use Rattle.rlsf_blocks.proofs.Reallocate.NextPlans.{stretched, kept_whole, tail_joined-same, IsSound-kept, IsSound-stretched}
 use Rattle.rlsf_blocks.proofs.Reallocate.Spans.{reach, span_of, staying, end_of-span, home, IsWhole-span}
 use Rattle.rlsf_blocks.proofs.Reallocate.Spans.{free_apart, used_apart, span-some, span_in_memory, was_free}
 use Rattle.rlsf_blocks.proofs.Words.Apart.{used_free, used_in_memory}
 use Rattle.rlsf_blocks.proofs.Words.Frames.{sides, wide_whole}
 use Rattle.rlsf_blocks.proofs.Words.NeverOut.{own_but_front}
-use Rattle.rlsf_blocks.proofs.Words.Refilled.{IsUsedStill, old_used, new_used, IsFreeStill, old_free, new_free, IsRefilled, StandsFor-refilled, KeepsSpare-refilled}
+use Rattle.rlsf_blocks.proofs.Words.Refilled.{Touched-joined, IsUsedStill, old_used, new_used, IsFreeStill, old_free, new_free, IsRefilled, StandsFor-refilled, KeepsSpare-refilled}
 
 -- as many first bytes of two ranges at one address as both have are the same, if they are the same in both memories
 pub Keeps-bytes_in : (m n : Space) (at old new : ℕ) → LiesIn (between at old) m.start (length m.bytes) → LiesIn (between at new) n.start (length n.bytes)
@@ -169,8 +168,9 @@ module _ {fllen sllen : ℕ} {m : Space} {t : Table} {s : State} (v : StandsFor 
         let whole = IsWhole-span v u i in
         let place = span_in_memory v u i in
         record {
-          rewrites = Rewrites-weaken joined (Rewrites-trans out.rewrites occupied.rewrites);
-          first = occupied.first ∙ out.rewrites.words (u.block.start + 8) (omega (arith, whole.start)) (omega (arith, place.0)) no_link;
+          rewrites = Rewrites-weaken (Touched-joined (was_free v u i)) (Rewrites-trans out.rewrites occupied.rewrites);
+          first = occupied.first
+              ∙ before_links s.free (λ g j. (v.well_formed.free g j).whole.start) out.rewrites (u.block.start + 8) (inr (omega (arith, whole.start))) (omega (arith, place.0));
           used_still = still_used;
           free_still = still_free;
           table = subst (λ l. HasTable fllen sllen n x (l ++ staying s u)) listed occupied.table;
@@ -179,16 +179,6 @@ module _ {fllen sllen : ℕ} {m : Space} {t : Table} {s : State} (v : StandsFor 
       where
         listed : rest_behind (resized u size) (end_of (span_of s u)) ≡ rest_behind (resized u size) (reach s u)
         listed = ap (rest_behind (resized u size)) (end_of-span v u i)
-
-        joined : (a : ℕ) → IsLink s.free a ⊎ Touched (staying s u) (span_of s u) (end_of (span_of s u) + 8) a → Touched s.free (span_of s u) (end_of (span_of s u) + 8) a
-        joined a (inl l) = at_link l
-        joined a (inr (at_link (g, j, at))) = at_link (g, was_free v u i g j, at)
-        joined a (inr (in_hole low high)) = in_hole low high
-        joined a (inr (at_other at)) = at_other at
-
-        no_link : IsLink s.free (u.block.start + 8) → ⊥
-        no_link (g, j, inl at) = omega (arith, (v.well_formed.free g j).whole.start, (v.well_formed.used u i).whole.start)
-        no_link (g, j, inr at) = omega (arith, (v.well_formed.free g j).whole.start, (v.well_formed.used u i).whole.start)
 
         still_used : (y : Used) → IsIn y (moved u (stretched s u size) (resized_bytes n u size) ∷ others u.payload s.used) → IsUsedStill n s (span_of s u) y
         still_used y (inl same) = subst (IsUsedStill n s (span_of s u)) (sym same) (new_used occupied.size occupied.behind refl pad)

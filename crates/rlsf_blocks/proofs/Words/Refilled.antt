@@ -5,9 +5,9 @@ use Rattle.rlsf_base.specs.declared.memory.range.Range.{Range}
 use Rattle.rlsf_base.specs.Out.{is_own}
 use Rattle.rlsf_base.specs.Range.{end_of}
 use Rattle.rlsf_base.specs.Space.{Space, out_at, bytes_in, range_of, word_at}
-use Rattle.rlsf_table.specs.Rewrites.{Rewrites}
+use Rattle.rlsf_table.specs.Rewrites.{IsLink, Rewrites}
 use Rattle.rlsf_table.specs.Table.{Table, HasTable}
-use Rattle.rlsf_blocks.specs.Steps.Touched.{Touched}
+use Rattle.rlsf_blocks.specs.Steps.Touched.{Touched, at_link, in_hole, at_other}
 use Rattle.rlsf_blocks.specs.InBand.{sentinel_of}
 use Rattle.rlsf_blocks.specs.Spare.{KeepsSpare}
 use Rattle.rlsf_blocks.specs.StandsFor.{contents, StandsFor}
@@ -19,6 +19,14 @@ use Rattle.rlsf_model.proofs.Tiling.{LiesInChunk}
 use Rattle.rlsf_blocks.proofs.Chunks.Pools.{KeepsSpare-Touched}
 use Rattle.rlsf_blocks.proofs.Words.Apart.{Has, chunk_chunk}
 use Rattle.rlsf_blocks.proofs.Words.Frames.{used_size, used_previous, used_bytes, used_pad, free_size, free_previous, chunk_first, chunk_sentinel}
+
+-- the links of the list, and what was touched in a part of it, in the hole and at another word
+pub Touched-joined : {free part : List Range} {hole : Range} {other : ℕ} → ((f : Range) → IsIn f part → IsIn f free) → (a : ℕ)
+    → IsLink free a ⊎ Touched part hole other a → Touched free hole other a
+Touched-joined among a (inl l) = at_link l
+Touched-joined among a (inr (at_link (f, j, at))) = at_link (f, among f j, at)
+Touched-joined among a (inr (in_hole low high)) = in_hole low high
+Touched-joined among a (inr (at_other at)) = at_other at
 
 -- a used block that was there, outside the hole, or a new one with its words
 pub data IsUsedStill (n : Space) (s : State) (hole : Range) (u : Used) : Type 0 where
