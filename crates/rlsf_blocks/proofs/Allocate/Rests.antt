@@ -1,8 +1,8 @@
--- The writes that make a free block of bytes that are no block's.
+-- Room for a free block among bytes that are no block's, and the writes that make one there.
 use Rattle.rlsf_base.proofs.Lending.Present.{own-there}
 use Rattle.rlsf_base.specs.OpenSpace.{out_with}
 use Rattle.rlsf_base.specs.Range.{range_at}
-use Rattle.rlsf_base.proofs.Lending.Present.{own-word}
+use Rattle.rlsf_base.proofs.Lending.Present.{own-inside, own-word}
 use Rattle.rlsf_base.specs.Space.{word_range}
 use Rattle.rlsf_base.specs.OpenSpace.{IsOwned}
 use Rattle.std.proofs.Common.{◌≡◌, ◌≢◌, ℕ, ◌+◌, ◌-◌, ◌%◌, ◌^◌, ◌<◌, ◌≤◌, ◌⊎◌, List, ◌∷◌, arith, inl, inr, refl, sym, ◌∙◌, ap}
@@ -18,10 +18,77 @@ use Rattle.rlsf_table.proofs.Words.Writes.{before_links, Rewrites-trans, Rewrite
 use Rattle.rlsf_table.proofs.Words.Writing.{IsWrite, write, rewrites_of, reads_of}
 use Rattle.rlsf_blocks.specs.Steps.Touched.{Touched, at_link, in_hole, at_other}
 use Rattle.rlsf_model.specs.Lists.{IsIn}
-use Rattle.rlsf_model.specs.WellFormed.{itself}
+use Rattle.rlsf_model.specs.State.{between}
+use Rattle.rlsf_model.specs.WellFormed.{covers, itself}
 use Rattle.rlsf_blocks.specs.Steps.Join.{IsNewFreeBlock}
+use Rattle.rlsf_blocks.specs.Steps.Resize.{IsSpanRoom}
 use Rattle.rlsf_blocks.specs.Steps.Rest.{IsInnerRoom, IsFreeBlockBehind}
-use Rattle.rlsf_model.proofs.Coverage.{covers-inside, coverage-IsIn}
+use Rattle.rlsf_model.proofs.Coverage.{inside, before, behind, where_is, covers-inside, coverage-IsIn}
+use Rattle.rlsf_model.proofs.Tiling.{IsValidClass-le}
+
+-- a part of a range has no address that the range doesn't have
+pub covers-part : (r f : Range) (a : ℕ) → f.start ≤ r.start → end_of r ≤ end_of f → covers r a ≤ covers f a
+covers-part r f a from to = elim (where_is r a) [
+  | inside one low high ↦ omega (arith, covers-inside f a (omega arith) (omega arith))
+  | before none low ↦ omega arith
+  | behind none high ↦ omega arith
+]
+
+-- room for a block stays room for one where no start and no link of the other free blocks was written
+pub IsInnerRoom-Rewrites : {fllen sllen : ℕ} {m n : Space} {t : Table} {free : List Range} {r : Range} {at : ℕ → Type 0} → Rewrites m n at
+    → ((f : Range) → IsIn f free → ¬ at f.start × ¬ at (f.start + 16) × ¬ at (f.start + 24)) → IsInnerRoom fllen sllen m t free r → IsInnerRoom fllen sllen n t free r
+IsInnerRoom-Rewrites {m = m} {n = n} {r = r} rewrites other inner =
+    let room = inner.room in
+    record {
+      room = record { list = IsFreeTable-Rewrites rewrites other room.list; block = room.block; placed = CanBeBlock-Rewrites rewrites room.placed; apart = room.apart };
+      not_last = omega (arith, inner.not_last, rewrites.start, rewrites.length);
+      behind = own-there m n (range_at (end_of r) 16) (omega (arith, room.placed.lies_in)) rewrites.own inner.behind;
+    }
+
+-- a range of which each byte is the memory's own is one of which any front can be taken
+pub IsSpanRoom-inner : {fllen sllen : ℕ} {m : Space} {t : Table} {free : List Range} {r : Range} (taken : ℕ) → IsInnerRoom fllen sllen m t free r
+    → IsSpanRoom fllen sllen m t free r taken
+IsSpanRoom-inner taken inner = record {
+  list = inner.room.list;
+  block = inner.room.block;
+  some = inner.room.placed.some;
+  room = inner.room.placed.room;
+  lies_in = inner.room.placed.lies_in;
+  apart = inner.room.apart;
+  front = λ a lo hi. inner.room.placed.own a lo (omega (arith, hi, inner.room.placed.room));
+  rest = λ a lo hi. inner.room.placed.own a (omega (arith, lo)) (omega (arith, lo, hi));
+  not_last = inner.not_last;
+  behind = inner.behind;
+}
+
+-- what is left of it behind the front is room for a block
+pub IsInnerRoom-part : {fllen sllen : ℕ} {m : Space} {t : Table} {free : List Range} {taken : ℕ} (r : Range) → IsSpanRoom fllen sllen m t free r taken → (from : ℕ)
+    → from ≡ r.start + taken → taken % 32 ≡ 0 → taken < r.len → IsInnerRoom fllen sllen m t free (between from (end_of r))
+IsInnerRoom-part {fllen} {sllen} {m} {taken = taken} r span from at granules short =
+    let is = span.block in
+    let inside = span.lies_in in
+    let some : 0 < end_of r - from = omega arith in
+    let shorter : end_of r - from ≤ r.len = omega arith in
+    record {
+      room = record {
+        list = span.list;
+        block = record {
+          whole = record { start = omega (arith, is.whole.start); len = omega (arith, is.whole.start, is.whole.len) };
+          some = some;
+          valid = IsValidClass-le fllen sllen (end_of r - from) r.len some shorter is.valid;
+        };
+        placed = record {
+          some = omega (arith, span.some);
+          whole = omega (arith, is.whole.start);
+          room = omega (arith, is.whole.start, is.whole.len);
+          lies_in = (omega (arith, inside.0), omega (arith, inside.1));
+          own = own-inside m (between (r.start + taken) (end_of r)) (between from (end_of r)) (omega arith) (omega arith) span.rest;
+        };
+        apart = λ a. omega (arith, span.apart a, covers-part (between from (end_of r)) r a (omega arith) (omega arith));
+      };
+      not_last = omega (arith, span.not_last);
+      behind = own-inside m (range_at (end_of r) 16) (range_at (end_of (between from (end_of r))) 16) (omega arith) (omega arith) span.behind;
+    }
 
 -- the memories m1 to m3 after the writes: the size of the rest, the block before it, where that is wanted, and the start of the rest behind it
 pub record AreLeft (named : Type 0) (m m1 m2 m3 : Space) (block : ℕ) (r : Range) : Type 0 where
@@ -140,8 +207,8 @@ module _ {fllen sllen : ℕ} {named : Type 0} {m m1 m2 m3 : Space} {table : Tabl
         apart (inl (_, e)) = omega arith
         apart (inr e) = omega arith
 
-    behind : word_at n (end_of r + 8) ≡ r.start
-    behind =
+    named_behind : word_at n (end_of r + 8) ≡ r.start
+    named_behind =
         kept (end_of r + 8) (inr (omega (arith, room.block.whole.start, room.block.whole.len))) (omega (arith, room.placed.lies_in)) ∙ reads_of writes.three
 
     rewrites : Rewrites m n (Touched free r (end_of r + 8))
@@ -168,7 +235,7 @@ module _ {fllen sllen : ℕ} {named : Type 0} {m m1 m2 m3 : Space} {table : Tabl
           rewrites = rewrites;
           size = size;
           previous = kept (r.start + 8) (inr (omega arith)) (omega arith) ∙ last.words (r.start + 8) (omega arith) (omega arith) (λ e. omega arith) ∙ writes.two.reads holds;
-          behind = behind;
+          behind = named_behind;
           table = linked.0;
         }
 
@@ -181,7 +248,7 @@ module _ {fllen sllen : ℕ} {named : Type 0} {m m1 m2 m3 : Space} {table : Tabl
           rewrites = rewrites;
           size = size;
           first = kept (r.start + 8) (inr (omega arith)) (omega arith) ∙ written.words (r.start + 8) (omega arith) (omega arith) apart;
-          behind = behind;
+          behind = named_behind;
           table = linked.0;
         }
       where

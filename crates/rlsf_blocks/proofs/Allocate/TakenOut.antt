@@ -1,7 +1,6 @@
 -- A free block is taken out of the list, and what is left of it behind its front is put in.
 use Rattle.rlsf_base.proofs.Lending.Present.{own-there}
-use Rattle.rlsf_base.proofs.Lending.Present.{own-inside}
-use Rattle.rlsf_blocks.proofs.Words.NeverOut.{here_free, here_behind_free}
+use Rattle.rlsf_blocks.proofs.Words.NeverOut.{here_behind_free}
 use Rattle.std.proofs.Common.{◌≡◌, ℕ, ◌+◌, ◌-◌, ◌%◌, ◌<◌, ◌≤◌, ◌⊎◌, List, [], ◌∷◌, ◌++◌, cond, filter, arith, inl, inr, sym}
 use Rattle.std.proofs.Common.{◌∙◌, ap, subst}
 use Rattle.std.proofs.lemmas.Bool.{le-ltb, lt-ltb}
@@ -9,13 +8,12 @@ use Rattle.rlsf_base.specs.declared.memory.range.Range.{Range}
 use Rattle.rlsf_base.specs.Range.{end_of, range_at}
 use Rattle.rlsf_base.specs.SizeClass.{class_of}
 use Rattle.rlsf_base.specs.Space.{Space, word_at}
-use Rattle.rlsf_base.specs.OpenSpace.{IsOwned}
 use Rattle.rlsf_table.specs.Rewrites.{IsLink, Rewrites}
 use Rattle.rlsf_table.specs.FreeTable.{IsFreeTable}
 use Rattle.rlsf_table.specs.Table.{IsClassAt, IsNewestAt, Table, HasTable}
 use Rattle.rlsf_table.proofs.Tables.FreeTables.{IsFreeTable-removal}
 use Rattle.rlsf_table.proofs.FreeLists.Chains.{find-split}
-use Rattle.rlsf_table.proofs.Words.Writes.{before_links, Rewrites-trans, Rewrites-weaken}
+use Rattle.rlsf_table.proofs.Words.Writes.{before_links, CanBeBlock-Rewrites, Rewrites-trans, Rewrites-weaken}
 use Rattle.rlsf_blocks.specs.Steps.Touched.{Touched, at_link, in_hole, at_other}
 use Rattle.rlsf_model.specs.Allocate.{has_class, rest_behind}
 use Rattle.rlsf_model.specs.Lists.{IsIn, without}
@@ -24,19 +22,11 @@ use Rattle.rlsf_model.specs.WellFormed.{covers, itself}
 use Rattle.rlsf_blocks.specs.Steps.Rest.{IsInnerRoom, IsFreeBlockBehind, IsOpened, IsTaken}
 use Rattle.rlsf_blocks.specs.StandsFor.{contents, StandsFor}
 use Rattle.rlsf_blocks.proofs.Words.Apart.{free_in_memory}
-use Rattle.rlsf_blocks.proofs.RepresentedStates.FreeBlocks.{IsFreeTable-free}
+use Rattle.rlsf_blocks.proofs.RepresentedStates.FreeBlocks.{CanBeBlock-free, IsFreeTable-free}
+use Rattle.rlsf_blocks.proofs.Allocate.Rests.{IsInnerRoom-part, IsSpanRoom-inner}
 use Rattle.rlsf_model.proofs.Changes.{IsIn-rest_behind}
-use Rattle.rlsf_model.proofs.Tiling.{IsValidClass-le}
 use Rattle.rlsf_model.proofs.Coverage.{inside, before, behind, where_is, covers-inside, coverage-append, coverage-IsIn, find-some, IsIn-append, IsIn-append_left}
 use Rattle.rlsf_model.proofs.Coverage.{IsIn-append_right}
-
--- a part of a range has no address that the range doesn't have
-pub covers-part : (r f : Range) (a : ℕ) → f.start ≤ r.start → end_of r ≤ end_of f → covers r a ≤ covers f a
-covers-part r f a from to = elim (where_is r a) [
-  | inside one low high ↦ omega (arith, covers-inside f a (omega arith) (omega arith))
-  | before none low ↦ omega arith
-  | behind none high ↦ omega arith
-]
 
 module _ {fllen sllen : ℕ} {m : Space} {table : Table} {s : State} {f : Range} {block len taken : ℕ} (v : StandsFor fllen sllen (contents m table) s)
     (take : IsTaken sllen s f block len taken) where
@@ -94,49 +84,20 @@ module _ {fllen sllen : ℕ} {m : Space} {table : Table} {s : State} {f : Range}
 
     pub IsInnerRoom-rest : taken < len → IsInnerRoom fllen sllen m1 others (ahead ++ later) rest
     IsInnerRoom-rest short =
-        let is = v.well_formed.free f is_free in
         let place = free_in_memory v.well_formed f is_free in
         let moved = unlinked.1 in
-        let start = take.start in
-        let long = take.length in
-        let granules = take.whole in
-        let list = IsFreeTable-removal ahead f later split_list unlinked.0 unlinked.1 in
-        let some : 0 < end_of f - (block + taken) = omega arith in
-        let shorter : end_of f - (block + taken) ≤ f.len = omega arith in
+        let inner : IsInnerRoom fllen sllen m1 others (ahead ++ later) f =
         record {
           room = record {
-            list = list;
-            block = record {
-              whole = record { start = omega (arith, is.whole.start); len = omega (arith, is.whole.start, is.whole.len) };
-              some = some;
-              valid = IsValidClass-le fllen sllen (end_of f - (block + taken)) f.len some shorter is.valid;
-            };
-            placed =
-                record {
-                  own =
-                      own-there m m1 (between (block + taken) (end_of f)) (omega (arith, place.0)) moved.own
-                      (own-inside m f (between (block + taken) (end_of f)) (omega arith) (omega (arith, short)) (here_free v f is_free));
-                  some = omega (arith, take.some);
-                  whole =
-                      omega (arith, is.whole.start);
-                  room = omega (arith, is.whole.start, is.whole.len);
-                  lies_in =
-                      (omega (arith, moved.start, place.0), omega (arith, moved.start, moved.length, place.1));
-                };
-            apart =
-                λ a. omega (
-                  arith,
-                  split_list.apart a,
-                  coverage-append itself ahead (f ∷ later) a,
-                  coverage-append itself ahead later a,
-                  covers-part (between (end_of (range_at block taken)) (end_of f)) f a (omega arith) (omega arith),
-                );
+            list = IsFreeTable-removal ahead f later split_list unlinked.0 moved;
+            block = v.well_formed.free f is_free;
+            placed = CanBeBlock-Rewrites moved (CanBeBlock-free v f is_free);
+            apart = λ a. omega (arith, split_list.apart a, coverage-append itself ahead (f ∷ later) a, coverage-append itself ahead later a);
           };
           not_last = omega (arith, moved.start, moved.length, place.1);
-          behind =
-              (let e : end_of f ≡ end_of rest = omega arith in
-              subst (λ k. IsOwned m1 (range_at k 16)) e (own-there m m1 (range_at (end_of f) 16) (omega (arith, place.0)) moved.own (here_behind_free v f is_free)));
-        }
+          behind = own-there m m1 (range_at (end_of f) 16) (omega (arith, place.0)) moved.own (here_behind_free v f is_free);
+        } in
+        IsInnerRoom-part f (IsSpanRoom-inner taken inner) (block + taken) (omega (arith, take.start)) take.whole (omega (arith, short, take.length))
 
     -- nothing is left
     pub IsOpened-whole : len ≤ taken → IsOpened fllen sllen m m1 others s f (range_at block taken)

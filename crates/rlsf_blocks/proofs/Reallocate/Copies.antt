@@ -7,7 +7,7 @@ use Rattle.rlsf_base.specs.Space.{Space, byte_range, bytes_in, with_bytes}
 use Rattle.rlsf_base.specs.OpenSpace.{IsOwned, out_with}
 use Rattle.rlsf_base.proofs.Lending.Copied.{length-with_bytes, bytes_in-with_bytes, word_at-with_bytes, out_at-copied, none-copied, is_own-copied, here-copied}
 use Rattle.rlsf_base.proofs.Lending.Whole.{none-with}
-use Rattle.rlsf_base.proofs.Lending.Present.{own-inside, own-there}
+use Rattle.rlsf_base.proofs.Lending.Present.{own-inside}
 use Rattle.rlsf_model.specs.Lists.{IsIn}
 use Rattle.rlsf_model.specs.WellFormed.{itself}
 use Rattle.rlsf_model.proofs.Coverage.{covers-inside, coverage-IsIn}
@@ -15,8 +15,7 @@ use Rattle.rlsf_table.specs.Counts.{Costs}
 use Rattle.rlsf_table.specs.Rewrites.{Rewrites}
 use Rattle.rlsf_blocks.specs.Steps.Rest.{IsInnerRoom}
 use Rattle.rlsf_table.specs.Table.{Table}
-use Rattle.rlsf_table.proofs.Tables.FreeTables.{IsFreeTable-Rewrites}
-use Rattle.rlsf_table.proofs.Words.Writes.{CanBeBlock-Rewrites}
+use Rattle.rlsf_blocks.proofs.Allocate.Rests.{IsInnerRoom-Rewrites}
 
 -- the word at the address lies in the hole
 abbrev pub IsInside : Range → ℕ → Type 0
@@ -85,18 +84,7 @@ module _ {fllen sllen : ℕ} {m : Space} {t : Table} {free : List Range} (hole :
 
   -- the hole is room for a block as before
   pub IsInnerRoom-copied : IsInnerRoom fllen sllen n t free hole
-  IsInnerRoom-copied =
-      let rewrites = Rewrites-copied in
-      record {
-        room = record {
-          list = IsFreeTable-Rewrites rewrites other inner.room.list;
-          block = inner.room.block;
-          placed = CanBeBlock-Rewrites rewrites inner.room.placed;
-          apart = inner.room.apart;
-        };
-        not_last = omega (arith, inner.not_last, rewrites.start, rewrites.length);
-        behind = own-there m n (range_at (end_of hole) 16) (omega (arith, inner.room.placed.lies_in)) rewrites.own inner.behind;
-      }
+  IsInnerRoom-copied = IsInnerRoom-Rewrites Rewrites-copied other inner
     where
       none : (f : Range) → IsIn f free → (k : ℕ) → k + 8 ≤ 32 → IsInside hole (f.start + k) → ⊥
       none f i k early (low, high) =

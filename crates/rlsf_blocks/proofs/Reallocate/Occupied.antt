@@ -13,14 +13,12 @@ use Rattle.rlsf_model.specs.State.{between}
 use Rattle.rlsf_model.specs.WellFormed.{itself}
 use Rattle.rlsf_model.proofs.Changes.{IsIn-rest_behind}
 use Rattle.rlsf_model.proofs.Coverage.{covers-inside, coverage-IsIn}
-use Rattle.rlsf_model.proofs.Tiling.{IsValidClass-le}
 use Rattle.rlsf_table.specs.Rewrites.{IsLink}
 use Rattle.rlsf_blocks.specs.Steps.Touched.{Touched, at_link, in_hole, at_other}
-use Rattle.rlsf_table.specs.FreeTable.{IsFreeTable}
 use Rattle.rlsf_blocks.specs.Steps.Resize.{IsOccupied, IsSpanRoom}
 use Rattle.rlsf_blocks.specs.Steps.Rest.{IsInnerRoom, IsFreeBlockBehind}
 use Rattle.rlsf_table.specs.Table.{Table, HasTable}
-use Rattle.rlsf_blocks.proofs.Allocate.TakenOut.{covers-part}
+use Rattle.rlsf_blocks.proofs.Allocate.Rests.{IsInnerRoom-part, IsInnerRoom-Rewrites}
 use Rattle.rlsf_table.proofs.Tables.FreeTables.{IsFreeTable-Rewrites}
 use Rattle.rlsf_table.proofs.Words.Writes.{Rewrites-trans, Rewrites-weaken}
 use Rattle.rlsf_blocks.proofs.Words.Apart.{Has}
@@ -30,22 +28,6 @@ use Rattle.rlsf_table.proofs.Words.Writing.{IsWrite, write, rewrites_of, reads_o
 -- what is left of a span behind the first bytes that are taken
 abbrev pub rest_of : ℕ → ℕ → Range → Range
 rest_of block taken span = between (block + taken) (end_of span)
-
--- a range of which each byte is the memory's own is one of which any front can be taken
-pub IsSpanRoom-inner : {fllen sllen : ℕ} {m : Space} {t : Table} {free : List Range} {r : Range} (taken : ℕ) → IsInnerRoom fllen sllen m t free r
-    → IsSpanRoom fllen sllen m t free r taken
-IsSpanRoom-inner taken inner = record {
-  list = inner.room.list;
-  block = inner.room.block;
-  some = inner.room.placed.some;
-  room = inner.room.placed.room;
-  lies_in = inner.room.placed.lies_in;
-  apart = inner.room.apart;
-  front = λ a lo hi. inner.room.placed.own a lo (omega (arith, hi, inner.room.placed.room));
-  rest = λ a lo hi. inner.room.placed.own a (omega (arith, lo)) (omega (arith, lo, hi));
-  not_last = inner.not_last;
-  behind = inner.behind;
-}
 
 module _ {fllen sllen : ℕ} {m : Space} {table : Table} {free : List Range} {block total taken : ℕ}
     (span : Range) (start : span.start ≡ block) (long : span.len ≡ total) (inner : IsSpanRoom fllen sllen m table free span taken)
@@ -81,49 +63,16 @@ module _ {fllen sllen : ℕ} {m : Space} {table : Table} {free : List Range} {bl
       elim (sides span g (omega arith) (omega arith) (apart g i)) [ inl before ↦ inl (omega arith) | inr behind ↦ inr (omega arith) ]
 
   module _ {m1 : Space} (sized : IsWrite m m1 block (taken + 1)) where
-    list_sized : IsFreeTable fllen sllen m1 table free
-    list_sized = IsFreeTable-Rewrites (rewrites_of sized) other inner.list
-      where
-        other : (g : Range) → IsIn g free → ¬ (g.start ≡ block) × ¬ (g.start + 16 ≡ block) × ¬ (g.start + 24 ≡ block)
-        other g i =
-            let placed = inner.list.placed g i in
-            let mine = inner in
-            (begins_elsewhere g i, (λ e. omega (arith, placed.whole, mine.block.whole.start)), (λ e. omega (arith, placed.whole, mine.block.whole.start)))
+    unlinked : (g : Range) → IsIn g free → ¬ (g.start ≡ block) × ¬ (g.start + 16 ≡ block) × ¬ (g.start + 24 ≡ block)
+    unlinked g i =
+        let placed = inner.list.placed g i in
+        let mine = inner in
+        (begins_elsewhere g i, (λ e. omega (arith, placed.whole, mine.block.whole.start)), (λ e. omega (arith, placed.whole, mine.block.whole.start)))
 
     -- ---- a rest is left
 
     pub IsInnerRoom-rest : taken < total → IsInnerRoom fllen sllen m1 table free (rest_of block taken span)
-    IsInnerRoom-rest short =
-        let is = inner.block in
-        let placed = inner in
-        let inside = placed.lies_in in
-        let moved = rewrites_of sized in
-        let granules = part.0 in
-        let some : 0 < end_of span - (block + taken) = omega arith in
-        let shorter : end_of span - (block + taken) ≤ span.len = omega arith in
-        record {
-          room = record {
-            list = list_sized;
-            block = record {
-              whole = record { start = omega (arith, is.whole.start); len = omega (arith, is.whole.start, is.whole.len) };
-              some = some;
-              valid = IsValidClass-le fllen sllen (end_of span - (block + taken)) span.len some shorter is.valid;
-            };
-            placed = record {
-              some = omega (arith, placed.some);
-              whole = omega (arith, is.whole.start);
-              room = omega (arith, is.whole.start, is.whole.len);
-              lies_in = (omega (arith, moved.start, inside.0), omega (arith, moved.start, moved.length, inside.1));
-              own =
-                  own-there m m1 (rest_of block taken span) (omega (arith, inside.0)) moved.own
-                  (own-inside m (between (span.start + taken) (end_of span)) (rest_of block taken span) (omega arith) (omega arith) placed.rest);
-            };
-            apart = λ a. omega (arith, inner.apart a, covers-part (rest_of block taken span) span a (omega arith) (omega arith));
-          };
-          not_last = omega (arith, moved.start, moved.length, inner.not_last);
-          behind = own-there m m1 (range_at (end_of (rest_of block taken span)) 16) (omega (arith, inside.0)) moved.own
-              (own-inside m (range_at (end_of span) 16) (range_at (end_of (rest_of block taken span)) 16) (omega arith) (omega arith) inner.behind);
-        }
+    IsInnerRoom-rest short = IsInnerRoom-Rewrites (rewrites_of sized) unlinked (IsInnerRoom-part span inner (block + taken) (omega arith) part.0 (omega arith))
 
     pub IsOccupied-rest : {n : Space} {changed : Table} → taken < total → IsFreeBlockBehind fllen sllen m1 n changed free block (rest_of block taken span)
         → IsOccupied fllen sllen m n changed free span (range_at block taken)
@@ -206,7 +155,7 @@ module _ {fllen sllen : ℕ} {m : Space} {table : Table} {free : List Range} {bl
             kept =
                 λ q from to. last.bytes q (omega (arith, moved.start, inside.0)) (λ a at. inl (omega arith))
                 ∙ moved.bytes q (omega (arith, inside.0)) (λ a at. inr (omega arith));
-            table = subst (λ l. HasTable fllen sllen n table (l ++ free)) (sym none) (IsFreeTable-Rewrites last other list_sized).table;
+            table = subst (λ l. HasTable fllen sllen n table (l ++ free)) (sym none) (IsFreeTable-Rewrites last other (IsFreeTable-Rewrites moved unlinked inner.list)).table;
           }
         where
           joined : (a : ℕ) → (a ≡ block) ⊎ (a ≡ block + total + 8) → Touched free span (end_of span + 8) a

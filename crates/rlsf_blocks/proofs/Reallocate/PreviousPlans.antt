@@ -22,7 +22,7 @@ use Rattle.rlsf_blocks.proofs.Deallocate.Releases.{before_at, behind_at, gone, I
 use Rattle.rlsf_table.proofs.Words.Writes.{Writes, Writes-some}
 use Rattle.rlsf_blocks.proofs.RepresentedStates.Counted.{KeepsSpare-counted_first}
 use Rattle.rlsf_blocks.proofs.Words.Stays.{Stays, Stays-rewrites, Stays-same, Stays-then}
-use Rattle.rlsf_blocks.proofs.Reallocate.Occupied.{IsSpanRoom-inner}
+use Rattle.rlsf_blocks.proofs.Allocate.Rests.{IsSpanRoom-inner}
 use Rattle.rlsf_blocks.proofs.Reallocate.Copies.{IsCopied, IsInnerRoom-copied, LiesIn-copied, Rewrites-copied}
 use Rattle.rlsf_blocks.proofs.Reallocate.Moves.{IsSpan, span, payload_here, payload_placed, IsCarriedOut-moved}
 use Rattle.rlsf_blocks.proofs.Reallocate.Previous.{into_previous-fits, planned, reach}

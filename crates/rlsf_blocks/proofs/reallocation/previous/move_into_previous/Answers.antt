@@ -25,7 +25,7 @@ use Rattle.rlsf_base.specs.declared.memory.range.Range.{Range}
 use Rattle.rlsf_table.specs.Counts.{Costs, Counts}
 use Rattle.rlsf_blocks.proofs.Counting.{Counts-counted_first, Counts-loaded, SamePlace-counted, copied-more, grow_copied-same, touches-counted, touches-more}
 use Rattle.rlsf_table.proofs.Costs.{Costs-counted, Costs-then, Costs-written, SamePlace-costs}
-use Rattle.rlsf_blocks.proofs.Reallocate.Occupied.{IsSpanRoom-inner}
+use Rattle.rlsf_blocks.proofs.Allocate.Rests.{IsSpanRoom-inner}
 use Rattle.rlsf_blocks.proofs.Reallocate.Copies.{Costs-copied, Costs-moving, copied-costs, grow_copied-costs}
 use Rattle.rlsf_blocks.proofs.reallocation.previous.move_into_previous.Given as given
 use Rattle.rlsf_blocks.proofs.reallocation.previous.move_into_previous.Goals as goal
