@@ -1,7 +1,7 @@
 -- A free block is taken out of the list, and what is left of it behind its front is put in.
 use Rattle.rlsf_base.proofs.Lending.Present.{own-there}
 use Rattle.rlsf_blocks.proofs.Words.NeverOut.{here_behind_free}
-use Rattle.std.proofs.Common.{◌≡◌, ℕ, ◌+◌, ◌-◌, ◌%◌, ◌<◌, ◌≤◌, ◌⊎◌, List, [], ◌∷◌, ◌++◌, cond, filter, arith, inl, inr, sym}
+use Rattle.std.proofs.Common.{◌≡◌, ℕ, ◌+◌, ◌%◌, ◌<◌, ◌≤◌, ◌⊎◌, List, [], ◌∷◌, ◌++◌, cond, filter, arith, inl, inr, sym}
 use Rattle.std.proofs.Common.{◌∙◌, ap, subst}
 use Rattle.std.proofs.lemmas.Bool.{le-ltb, lt-ltb}
 use Rattle.rlsf_base.specs.declared.memory.range.Range.{Range}
@@ -18,14 +18,14 @@ use Rattle.rlsf_blocks.specs.Steps.Touched.{Touched, at_link, in_hole, at_other}
 use Rattle.rlsf_model.specs.Allocate.{has_class, rest_behind}
 use Rattle.rlsf_model.specs.Lists.{IsIn, without}
 use Rattle.rlsf_model.specs.State.{State, between}
-use Rattle.rlsf_model.specs.WellFormed.{covers, itself}
+use Rattle.rlsf_model.specs.WellFormed.{itself}
 use Rattle.rlsf_blocks.specs.Steps.Rest.{IsInnerRoom, IsFreeBlockBehind, IsOpened, IsTaken}
 use Rattle.rlsf_blocks.specs.StandsFor.{contents, StandsFor}
 use Rattle.rlsf_blocks.proofs.Words.Apart.{free_in_memory}
 use Rattle.rlsf_blocks.proofs.RepresentedStates.FreeBlocks.{CanBeBlock-free, IsFreeTable-free}
 use Rattle.rlsf_blocks.proofs.Allocate.Rests.{IsInnerRoom-part, IsSpanRoom-inner}
 use Rattle.rlsf_model.proofs.Changes.{IsIn-rest_behind}
-use Rattle.rlsf_model.proofs.Coverage.{inside, before, behind, where_is, covers-inside, coverage-append, coverage-IsIn, find-some, IsIn-append, IsIn-append_left}
+use Rattle.rlsf_model.proofs.Coverage.{covers-inside, coverage-append, coverage-IsIn, find-some, IsIn-append, IsIn-append_left}
 use Rattle.rlsf_model.proofs.Coverage.{IsIn-append_right}
 
 module _ {fllen sllen : ℕ} {m : Space} {table : Table} {s : State} {f : Range} {block len taken : ℕ} (v : StandsFor fllen sllen (contents m table) s)

@@ -1,69 +1,28 @@
 -- The chunks of an inserted range are made one after another.
 use Rattle.rlsf_blocks.proofs.Words.NeverOut.{here_clear}
-use Rattle.std.proofs.Common.{◌≡◌, ◌≢◌, ℕ, suc, ◌+◌, ◌-◌, ◌<◌, ◌≤◌, ◌⊎◌, List, [], ◌∷◌, ◌*◌, length, drop, get_or, Option, Some}
+use Rattle.std.proofs.Common.{◌≡◌, ◌≢◌, ℕ, suc, ◌+◌, ◌-◌, ◌<◌, ◌≤◌, List, [], ◌∷◌, ◌*◌, length, Option, Some}
 use Rattle.std.proofs.Common.{None, arith, inl, inr, refl, sym, ◌∙◌, ap, subst}
 use mathlib.Core.Path.{ap₂}
-use Rattle.std.proofs.lemmas.Bool.{cases_lt}
-use Rattle.std.proofs.lemmas.List.{get_or-drop, get_or-take}
 use Rattle.rlsf_base.specs.declared.memory.range.Range.{Range}
 use Rattle.rlsf_base.specs.Range.{end_of, range_at}
 use Rattle.rlsf_base.specs.Sizes.{max_pool_size}
-use Rattle.rlsf_base.specs.Space.{Space, byte_at, bytes_in, range_of}
+use Rattle.rlsf_base.specs.Space.{Space, range_of}
 use Rattle.rlsf_table.specs.Counts.{Costs}
-use Rattle.rlsf_table.specs.Rewrites.{Rewrites}
 use Rattle.rlsf_table.specs.Table.{Table}
-use Rattle.rlsf_blocks.specs.Steps.Touched.{Touched, at_link, in_hole, at_other}
 use Rattle.rlsf_model.specs.Insert.{aligned_part, body, bytes_taken, cut, end_of_last, Inserts, IsFresh, with_chunk, with_chunks}
 use Rattle.rlsf_model.specs.Laws.{first_length}
-use Rattle.rlsf_model.specs.Lists.{IsIn}
 use Rattle.rlsf_model.specs.State.{State}
 use Rattle.rlsf_model.specs.WellFormed.{IsChunk, IsFree, IsWellFormed}
 use Rattle.rlsf_blocks.specs.Steps.Pool.{IsAdded, IsNewChunk, opened}
 use Rattle.rlsf_blocks.specs.Spare.{IsSpare, KeepsSpare}
 use Rattle.rlsf_blocks.specs.StandsFor.{contents, StandsFor}
 use Rattle.rlsf_blocks.proofs.Chunks.NewChunks.{StandsFor-added}
-use Rattle.rlsf_blocks.proofs.Words.Apart.{Has, home_of_free}
+use Rattle.rlsf_blocks.proofs.Words.Apart.{Has}
+use Rattle.rlsf_blocks.proofs.Words.Refilled.{KeepsSpare-Touched}
 use Rattle.rlsf_blocks.proofs.Words.Stays.{Stays, Stays-rewrites, Stays-same, Stays-then}
 use Rattle.rlsf_model.proofs.Coverage.{covers-inside}
 use Rattle.rlsf_model.proofs.Cuts.{chunks_are_cut_off_the_front}
 use Rattle.rlsf_model.proofs.Insertions.{AreNew, AreNew-cut, IsWellFormed-with_chunk}
-
--- ---- bytes that no block is made of
-
--- a byte is the one byte of a range
-byte_at-bytes_in : (m : Space) (a : ℕ) → byte_at m a ≡ get_or (bytes_in m (range_at a 1)) 0 0
-byte_at-bytes_in m a = let some : 0 < 1 = omega arith in
-    sym (get_or-take 1 (drop (a - m.start) m.bytes) 0 0 some ∙ get_or-drop (a - m.start) m.bytes 0 0 ∙ ap (λ i. get_or m.bytes i 0) (omega arith))
-
--- the words that are written while a hole is hold no spare byte, where the hole doesn't
-pub KeepsSpare-Touched : {fllen sllen : ℕ} {memory : Range} {m n : Space} {s : State} → IsWellFormed fllen sllen memory s → (t : State) (hole : Range) (other : ℕ)
-    → Rewrites m n (Touched s.free hole other)
-    → ((a : ℕ) → IsSpare t a → Has hole a → ⊥) → ((a : ℕ) → IsSpare t a → other ≤ a → a < other + 8 → ⊥) → KeepsSpare m s n t
-KeepsSpare-Touched {m = m} {n = n} {s = s} w t hole other rewrites no_hole no_other a from to spare_s spare_t =
-    byte_at-bytes_in n a ∙ ap (λ bs. get_or bs 0 0) (rewrites.bytes (range_at a 1) from apart) ∙ sym (byte_at-bytes_in m a)
-  where
-    word_apart : (x : ℕ) → ((a < x) ⊎ (x + 8 ≤ a)) → (end_of (range_at a 1) ≤ x) ⊎ (x + 8 ≤ a)
-    word_apart x (inl below) = inl (omega arith)
-    word_apart x (inr above) = inr above
-
-    -- no free block has a spare byte
-    not_free : (g : Range) → IsIn g s.free → Has g a → ⊥
-    not_free g i h =
-        let home = home_of_free w g i in
-        let beyond = spare_s home.chunk home.is_chunk (omega (arith, home.from, h.from)) (omega (arith, home.to, h.to)) in
-        omega (arith, home.to, h.to)
-
-    outside : (r : Range) (x : ℕ) → (Has r a → ⊥) → r.start ≤ x → x + 8 ≤ end_of r → (a < x) ⊎ (x + 8 ≤ a)
-    outside r x none low high = elim (cases_lt a x) [
-      | inl below ↦ inl below
-      | inr from_x ↦ elim (cases_lt a (x + 8)) [ inl inside ↦ absurd (none (record { from = omega arith; to = omega arith })) | inr above ↦ inr above ]
-    ]
-
-    apart : (x : ℕ) → Touched s.free hole other x → (end_of (range_at a 1) ≤ x) ⊎ (x + 8 ≤ a)
-    apart x (at_link (g, i, inl at)) = let is = w.free g i in word_apart x (outside g x (not_free g i) (omega arith) (omega (arith, is.some, is.whole.len)))
-    apart x (at_link (g, i, inr at)) = let is = w.free g i in word_apart x (outside g x (not_free g i) (omega arith) (omega (arith, is.some, is.whole.len)))
-    apart x (in_hole low high) = word_apart x (outside hole x (no_hole a spare_t) low high)
-    apart x (at_other at) = word_apart x (outside (range_at other 8) x (λ h. no_other a spare_t h.from h.to) (omega arith) (omega arith))
 
 -- ---- the state of the loop
 

@@ -12,7 +12,6 @@ use Rattle.rlsf_table.specs.Table.{Table}
 use Rattle.rlsf_table.proofs.Words.Writes.{before_links, Rewrites-trans, Rewrites-weaken}
 use Rattle.rlsf_blocks.specs.Spare.{KeepsSpare}
 use Rattle.rlsf_blocks.specs.StandsFor.{contents, StandsFor}
-use Rattle.rlsf_blocks.specs.Steps.Touched.{Touched, at_link, in_hole, at_other}
 use Rattle.rlsf_blocks.specs.Steps.Join.{IsNextOut, IsPreviousOut, IsNewFreeBlock, union, untouched}
 use Rattle.rlsf_blocks.specs.Steps.Rest.{IsInnerRoom}
 use Rattle.rlsf_model.specs.Join.{ends_at, starts_at, join}

@@ -8,7 +8,7 @@ use Rattle.rlsf_blocks.proofs.Words.NeverOut.{here_longer}
 use Rattle.std.proofs.Common.{◌≡◌, ℕ, ◌+◌, ◌-◌, ◌%◌, ◌^◌, ◌<◌, ◌≤◌, ◌⊎◌, List, ◌∷◌, length, arith, inl, inr, refl, sym, ◌∙◌, ap}
 use Rattle.std.proofs.Common.{subst}
 use mathlib.Core.Path.{ap₂}
-use Rattle.std.proofs.lemmas.Bool.{cases_eq, cases_lt}
+use Rattle.std.proofs.lemmas.Bool.{cases_lt}
 use Rattle.rlsf_base.specs.declared.memory.range.Range.{Range}
 use Rattle.rlsf_base.specs.Range.{end_of, range_at}
 use Rattle.rlsf_base.specs.Space.{Space, bytes_in, range_of, with_word, word_at}
@@ -31,10 +31,10 @@ use Rattle.rlsf_blocks.proofs.LongerChunks.Lengthened.{is_chunk, IsWellFormed-le
 use Rattle.rlsf_table.proofs.Tables.FreeTables.{HasTable-Rewrites}
 use Rattle.rlsf_blocks.proofs.RepresentedStates.FreeBlocks.{CanBeBlock-free}
 use Rattle.rlsf_table.proofs.Words.Writes.{Rewrites-trans, Rewrites-weaken, Rewrites-word}
-use Rattle.rlsf_blocks.proofs.Chunks.Pools.{KeepsSpare-Touched}
 use Rattle.rlsf_blocks.proofs.Words.Stays.{Stays, Stays-rewrites}
 use Rattle.rlsf_blocks.proofs.Words.Apart.{Has, chunk_chunk, home_of_free, home_of_used, free_last, used_last}
-use Rattle.rlsf_blocks.proofs.Words.Frames.{used_size, used_previous, used_bytes, used_pad, free_size, free_previous, chunk_first, chunk_sentinel}
+use Rattle.rlsf_blocks.proofs.Words.Frames.{chunk_first}
+use Rattle.rlsf_blocks.proofs.Words.Refilled.{KeepsSpare-Touched, IsUsedStill, old_used, new_used, old_free, IsChunkStill, old_chunk, new_chunk, StandsFor-rewritten}
 use Rattle.rlsf_table.proofs.Words.Writing.{IsWrite, write, rewrites_of, reads_of}
 
 -- the memories m1 to m3 after the three writes: the size word of the new block, and the words of the new sentinel
@@ -202,19 +202,6 @@ module _ {fllen sllen : ℕ} {m : Space} {table : Table} {s : State} (v : Stands
               (omega (arith, hh.to))
         ]
 
-    -- the word that names the block before the old sentinel, and others like it
-    used_way_back : (u : Used) → IsIn u s.used → word_at n (end_of u.block + 8) ≡ word_at m (end_of u.block + 8)
-    used_way_back u i = elim (cases_eq (end_of u.block) (sentinel_of c)) [
-      | inl at ↦ ap (λ a. word_at n (a + 8)) at ∙ stays ∙ ap (λ a. word_at m (a + 8)) (sym at)
-      | inr off ↦ used_previous w hole granule some (sentinel_of c + 8) second (omega arith) (omega arith) rewrites u i (used_apart u i) off (λ e. off (omega arith))
-    ]
-
-    free_way_back : (f : Range) → IsIn f s.free → word_at n (end_of f + 8) ≡ word_at m (end_of f + 8)
-    free_way_back f i = elim (cases_eq (end_of f) (sentinel_of c)) [
-      | inl at ↦ ap (λ a. word_at n (a + 8)) at ∙ stays ∙ ap (λ a. word_at m (a + 8)) (sym at)
-      | inr off ↦ free_previous w hole granule some (sentinel_of c + 8) second (omega arith) (omega arith) rewrites f i (free_apart f i) off (λ e. off (omega arith))
-    ]
-
     -- ---- the state with a used block more
 
     bytes : List ℕ
@@ -240,17 +227,17 @@ module _ {fllen sllen : ℕ} {m : Space} {table : Table} {s : State} (v : Stands
         chunk_apart d (end_of c) (IsIn-without (ends_at (end_of c)) d s.chunks j) (record { from = omega arith; to = omega arith }) (omega arith) (omega arith)
 
     pub StandsFor-lengthened : StandsFor fllen sllen (contents n table) (lengthened c len (more_bytes n c len) s)
-    StandsFor-lengthened = record {
-      nonzero = omega (arith, v.nonzero, written.start);
-      well_formed =
-          (let same : range_of n ≡ range_of m = ap₂ (λ a l. record { start = a; len = l }) written.start written.length in
-          subst (λ p. IsWellFormed fllen sllen p (lengthened c len (more_bytes n c len) s)) (sym same) t_well_formed);
-      sizes = record { used = sizes_used; free = sizes_free; sentinel = sizes_sentinel };
-      previous = record { used = previous_used; free = λ f i. free_way_back f i ∙ v.previous.free f i; first = previous_first };
-      payloads = record { bytes = payload_bytes; pad = payload_pad };
-      table = HasTable-Rewrites written (CanBeBlock-free v) (λ f i. (no_link f i 16 refl (omega arith), no_link f i 24 refl (omega arith))) v.table;
-      own = λ a from unlent. written.own a (omega (arith, written.start, from)) ∙ v.own a (omega (arith, written.start, from)) (λ x i. unlent x (inr i));
-    }
+    StandsFor-lengthened =
+        let same : range_of n ≡ range_of m = ap₂ (λ a l. record { start = a; len = l }) written.start written.length in
+        StandsFor-rewritten v hole granule some (sentinel_of c + 8) second (inr refl) (record {
+          rewrites = rewrites;
+          first = λ _. stays;
+          used_still = used_still;
+          free_still = λ f i. old_free i (free_apart f i);
+          chunk_still = chunk_still;
+          table = HasTable-Rewrites written (CanBeBlock-free v) (λ f i. (no_link f i 16 refl (omega arith), no_link f i 24 refl (omega arith))) v.table;
+          own = λ a from unlent. v.own a from (λ x i. unlent x (inr i));
+        }) (subst (λ p. IsWellFormed fllen sllen p (lengthened c len (more_bytes n c len) s)) (sym same) t_well_formed)
       where
         no_link : (f : Range) → IsIn f s.free → (i : ℕ) → i % 32 ≡ i → 16 ≤ i
             → (((f.start + i ≡ sentinel_of c) ⊎ (f.start + i ≡ sentinel_of c + len)) ⊎ (f.start + i ≡ sentinel_of c + len + 8)) → ⊥
@@ -260,48 +247,24 @@ module _ {fllen sllen : ℕ} {m : Space} {table : Table} {s : State} (v : Stands
             let whole = granule in
             elim at [ inl first ↦ elim first [ inl e ↦ omega arith | inr e ↦ omega arith ] | inr e ↦ omega arith ]
 
-        sizes_used : (u : Used) → IsIn u (more_block c len (more_bytes n c len) ∷ s.used) → word_at n u.block.start ≡ u.block.len + 1
-        sizes_used u (inl same) = subst (λ (x : Used). word_at n x.block.start ≡ x.block.len + 1) (sym same) size
-        sizes_used u (inr i) = used_size w hole granule some (sentinel_of c + 8) second (omega arith) (omega arith) rewrites u i (used_apart u i) ∙ v.sizes.used u i
+        used_still : (u : Used) → IsIn u (more_block c len (more_bytes n c len) ∷ s.used) → IsUsedStill n s hole u
+        used_still u (inl same) = subst (IsUsedStill n s hole) (sym same) (new_used size (reads_of writes.three) refl (λ wide. absurd (omega arith)))
+        used_still u (inr i) = old_used i (used_apart u i)
 
-        sizes_free : (f : Range) → IsIn f s.free → word_at n f.start ≡ f.len
-        sizes_free f i = free_size w hole granule some (sentinel_of c + 8) second (omega arith) (omega arith) rewrites f i (free_apart f i) ∙ v.sizes.free f i
-
-        sizes_sentinel : (d : Range) → IsIn d (range_at c.start (c.len + len) ∷ without (ends_at (end_of c)) s.chunks) → word_at n (sentinel_of d) ≡ 35
-        sizes_sentinel d (inl same) = ap (λ e. word_at n (sentinel_of e)) same ∙ ap (word_at n) (omega (arith, placed.room)) ∙ sentinel
-        sizes_sentinel d (inr j) =
+        chunk_still : (d : Range) → IsIn d (range_at c.start (c.len + len) ∷ without (ends_at (end_of c)) s.chunks) → IsChunkStill n s hole d
+        chunk_still d (inl same) =
+            let room = placed.room in
+            let begins : word_at n (c.start + 8) ≡ 0 =
+            chunk_first w hole granule some (sentinel_of c + 8) second (omega arith) (omega arith) rewrites c is_c (λ h. omega (arith, h.from)) (λ e. omega arith)
+            ∙ v.previous.first c is_c in
+            subst (IsChunkStill n s hole) (sym same) (new_chunk (ap (word_at n) (omega arith) ∙ sentinel) begins)
+        chunk_still d (inr j) =
             let i = IsIn-without (ends_at (end_of c)) d s.chunks j in
             let room = (w.chunks d i).has_room in
-            let apart : Has hole (sentinel_of d) → ⊥ =
-            λ h. other_apart d (sentinel_of d) j (record { from = omega arith; to = omega arith })
-            (record { from = omega (arith, h.from, placed.room); to = omega (arith, h.to) }) in
-            chunk_sentinel w hole granule some (sentinel_of c + 8) second (omega arith) (omega arith) rewrites d i apart ∙ v.sizes.sentinel d i
-
-        previous_used : (u : Used) → IsIn u (more_block c len (more_bytes n c len) ∷ s.used) → word_at n (end_of u.block + 8) ≡ u.block.start
-        previous_used u (inl same) = subst (λ (x : Used). word_at n (end_of x.block + 8) ≡ x.block.start) (sym same) (reads_of writes.three)
-        previous_used u (inr i) = used_way_back u i ∙ v.previous.used u i
-
-        first_word : (d : Range) → IsIn d s.chunks → (Has hole d.start → ⊥) → word_at n (d.start + 8) ≡ 0
-        first_word d i apart =
-            chunk_first w hole granule some (sentinel_of c + 8) second (omega arith) (omega arith) rewrites d i apart
-            (λ e. apart (record { from = omega arith; to = omega arith })) ∙ v.previous.first d i
-
-        previous_first : (d : Range) → IsIn d (range_at c.start (c.len + len) ∷ without (ends_at (end_of c)) s.chunks) → word_at n (d.start + 8) ≡ 0
-        previous_first d (inl same) = ap (λ (e : Range). word_at n (e.start + 8)) same ∙ first_word c is_c (λ h. omega (arith, h.from, placed.room))
-        previous_first d (inr j) =
-            let i = IsIn-without (ends_at (end_of c)) d s.chunks j in
-            let room = (w.chunks d i).has_room in
-            first_word d i (λ h. other_apart d d.start j (record { from = omega arith; to = omega arith })
-            (record { from = omega (arith, h.from, placed.room); to = omega (arith, h.to) }))
-
-        payload_bytes : (u : Used) → IsIn u (more_block c len (more_bytes n c len) ∷ s.used) → bytes_in n (usable u) ≡ u.bytes
-        payload_bytes u (inl same) = subst (λ (x : Used). bytes_in n (usable x) ≡ x.bytes) (sym same) refl
-        payload_bytes u (inr i) = used_bytes w hole granule some (sentinel_of c + 8) second (omega arith) (omega arith) rewrites u i (used_apart u i) ∙ v.payloads.bytes u i
-
-        payload_pad : (u : Used) → IsIn u (more_block c len (more_bytes n c len) ∷ s.used) → 32 ≤ u.align → word_at n (u.payload - 8) ≡ u.block.start
-        payload_pad u (inl same) wide = absurd (omega (arith, ap (λ (x : Used). x.align) same))
-        payload_pad u (inr i) wide =
-            used_pad w hole granule some (sentinel_of c + 8) second (omega arith) (omega arith) rewrites u i (used_apart u i) wide ∙ v.payloads.pad u i wide
+            let long = placed.room in
+            old_chunk i
+            (λ h. other_apart d (sentinel_of d) j (record { from = omega arith; to = omega arith }) (record { from = omega (arith, h.from); to = omega (arith, h.to) }))
+            (λ low high. absurd (other_apart d d.start j (record { from = omega arith; to = omega arith }) (record { from = omega arith; to = omega arith })))
 
     -- no spare byte has changed
     KeepsSpare-lengthened : KeepsSpare m s n (lengthened c len (more_bytes n c len) s)

@@ -13,23 +13,21 @@ use Rattle.rlsf_base.specs.OpenSpace.{IsHere, IsOwned}
 use Rattle.rlsf_base.proofs.Lending.Present.{own-there}
 use Rattle.rlsf_base.proofs.Lending.Copied.{bytes_in-copied, word_at-with_bytes}
 use Rattle.rlsf_model.specs.Allocate.{rest_behind}
-use Rattle.rlsf_model.specs.Join.{ends_at, starts_at, start_or}
+use Rattle.rlsf_model.specs.Join.{ends_at, start_or}
 use Rattle.rlsf_model.specs.Lists.{IsIn, without}
 use Rattle.rlsf_model.specs.Payload.{payload_of}
 use Rattle.rlsf_model.specs.Reallocate.{Keeps, Plan, in_place, moved, replanned, resized, tail_joined}
-use Rattle.rlsf_model.specs.Release.{released}
 use Rattle.rlsf_model.specs.State.{State, Used, between, usable}
-use Rattle.rlsf_model.specs.WellFormed.{itself, IsWellFormed}
+use Rattle.rlsf_model.specs.WellFormed.{IsWellFormed}
 use Rattle.rlsf_model.proofs.Changes.{IsIn-others, IsIn-rest_behind}
-use Rattle.rlsf_model.proofs.Coverage.{by_test, covers-inside, coverage-IsIn, IsIn-append, IsIn-without}
+use Rattle.rlsf_model.proofs.Coverage.{by_test, IsIn-append}
 use Rattle.rlsf_model.proofs.Joins.{IsSound-without, left_of, right_of}
 use Rattle.rlsf_model.proofs.Payloads.{IsUsed-after_start, IsUsed-some, payload_of-after, payload_of-aligned}
 use Rattle.rlsf_model.proofs.Plans.{IsSoundPlan, IsSound-into_previous, IsWellFormed-replanned}
 use Rattle.rlsf_model.proofs.Releases.{IsSound-free, IsWellFormed-released}
-use Rattle.rlsf_model.proofs.Tiling.{free-le, tiling_of}
 use Rattle.rlsf_blocks.specs.StandsFor.{contents, IsUnlent, StandsFor}
 use Rattle.rlsf_table.specs.Rewrites.{IsLink, CanBeBlock, Rewrites}
-use Rattle.rlsf_blocks.specs.Steps.Touched.{Touched, at_link, in_hole, at_other}
+use Rattle.rlsf_blocks.specs.Steps.Touched.{Touched, at_link, in_hole}
 use Rattle.rlsf_blocks.specs.Steps.Join.{IsNextOut, IsPreviousOut, union, untouched}
 use Rattle.rlsf_blocks.specs.Steps.Resize.{IsCarriedOut, IsOccupied}
 use Rattle.rlsf_table.specs.Table.{Table, HasTable}
