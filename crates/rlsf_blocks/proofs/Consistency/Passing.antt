@@ -1,5 +1,5 @@
 -- A check passes each block and each chunk of a state whose words the memory has.
-use Rattle.std.proofs.Common.{◌≡◌, ◌≢◌, ◌⊎◌, ℕ, ◌+◌, ◌-◌, ◌%◌, ◌^◌, ◌<◌, ◌≤◌, arith, sym, ◌∙◌, ap, subst, inl, inr}
+use Rattle.std.proofs.Common.{◌≡◌, ◌≢◌, ◌⊎◌, ℕ, ◌+◌, ◌-◌, ◌%◌, ◌<◌, ◌≤◌, arith, sym, ◌∙◌, ap, subst, inl, inr}
 use Rattle.std.proofs.lemmas.Bool.{cases_lt}
 use Rattle.rlsf_base.specs.declared.memory.range.Range.{Range}
 use Rattle.rlsf_base.specs.Range.{end_of}
@@ -7,9 +7,11 @@ use Rattle.rlsf_base.specs.Sizes.{IsSize}
 use Rattle.rlsf_base.specs.Space.{IsWord, Space, range_of, word_at}
 use Rattle.rlsf_blocks.specs.Blocks.{Block, HasBlock, free, used}
 use Rattle.rlsf_blocks.specs.Steps.Walk.{BlockBegins}
-use Rattle.rlsf_blocks.proofs.Walking.Begins.{BehindBlock, begins_at_chunk, behind_block, block_behind, end_behind, lies_in_same_chunk}
+use Rattle.rlsf_blocks.proofs.Walking.Begins.{BehindBlock, block_behind, end_behind}
 use Rattle.rlsf_blocks.proofs.Walking.Blocks.{IsWhole-block, block-some, home_of_block}
-use Rattle.rlsf_blocks.proofs.Walking.ChunkEnds.{IsInChunk}
+use Rattle.rlsf_blocks.proofs.Walking.ChunkEnds.{IsInChunk, IsInChunk-behind, IsInChunk-start}
+use Rattle.rlsf_blocks.proofs.Walking.Sizes.{block_word}
+use Rattle.rlsf_blocks.proofs.Words.NeverOut.{block-fits, walk-fits}
 use Rattle.rlsf_blocks.proofs.Words.Apart.{chunk_chunk}
 use Rattle.rlsf_model.specs.ChunkRows.{IsRow}
 use Rattle.rlsf_model.specs.Lists.{IsIn}
@@ -22,12 +24,6 @@ use Rattle.rlsf_blocks.specs.Steps.Legible.{IsLegible, IsLegibleBlock}
 use Rattle.rlsf_blocks.proofs.Consistency.Reading.{HasLegibleLinks-linked, legible, legible_is, readable}
 
 module _ {fllen sllen : ℕ} {m : Space} {t : Table} {r : Range} {s : State} (v : HasLayout fllen sllen m t r s) where
-  -- the size word of a block is no sentinel's
-  block_word : (b : Block) → HasBlock s b → word_at m b.range.start ≢ 35
-  block_word b (used u i same o) sentinel =
-      omega (arith, sentinel, ap (λ r. word_at m r.start) same, v.sizes.used u i, (v.well_formed.used u i).whole.len)
-  block_word b (free i o) sentinel = omega (arith, sentinel, v.sizes.free b.range i, (v.well_formed.free b.range i).whole.len)
-
   -- the word behind a block names it
   named : (b : Block) → HasBlock s b → word_at m (end_of b.range + 8) ≡ b.range.start
   named b (used u i same o) = ap (λ r. word_at m (end_of r + 8)) same ∙ v.previous.used u i ∙ ap (λ r. r.start) (sym same)
@@ -61,52 +57,42 @@ module _ {fllen sllen : ℕ} {m : Space} {t : Table} {r : Range} {s : State} (v 
       )
 
   module _ (c : Range) (i : IsIn c s.chunks) where
-    -- a check of a chunk begins at its first block
-    pub IsInChunk-first : (start : ℕ) → c.start ≡ start → IsInChunk s c start
-    IsInChunk-first start at =
-        let chunk = v.well_formed.chunks c i in
-        subst (IsInChunk s c) at
-        (record { at = block_behind (begins_at_chunk v.well_formed c i); whole = chunk.whole.start; from = omega arith; to = omega (arith, chunk.has_room) })
-
     module _ {a : ℕ} (is : IsInChunk s c a) where
       -- where the word is a sentinel's, the chunk ends behind it
       pub ends_there : word_at m a ≡ 35 → a + 32 ≡ end_of c
       ends_there sentinel = elim is.at [
-        | block_behind (b, j, begins) ↦ absurd (block_word b j (ap (word_at m) begins ∙ sentinel))
+        | block_behind (b, j, begins) ↦ absurd (block_word v.well_formed v.sizes b j (ap (word_at m) begins ∙ sentinel))
         | end_behind d j begins ends ↦ ends
       ]
 
-      -- where it is another one, a block begins, and behind it the check goes on
+      -- where it is another one, a block begins
+      block_there : word_at m a ≢ 35 → BlockBegins s a
+      block_there other = elim is.at [
+        | block_behind begins ↦ begins
+        | end_behind d j begins ends ↦ absurd (other (ap (word_at m) (sym begins) ∙ v.sizes.sentinel d j))
+      ]
+
+      -- and behind it the check goes on
       pub goes_on : (end : ℕ) → end_of c ≤ end → word_at m a ≢ 35 → (stop : ℕ) × IsBlockTo fllen sllen m t a end stop × IsInChunk s c stop
       goes_on end within other =
-          let begins : BlockBegins s a = elim is.at [
-            | block_behind begins ↦ begins
-            | end_behind d j begins ends ↦ absurd (other (ap (word_at m) (sym begins) ∙ v.sizes.sentinel d j))
-          ] in
-          let (b, j, at) = begins in
-          let w = v.well_formed in
-          let some = block-some w b j in
-          let whole = IsWhole-block w b j in
-          let inside =
-          lies_in_same_chunk w b j c i b.range.start (record { from = omega arith; to = omega (arith, some) })
-          (record { from = omega (arith, at, is.from); to = omega (arith, at, is.to) }) in
-          let behind = behind_block w b j c i (record { from = inside.0; to = omega (arith, inside.1, some) }) in
-          let stop = end_of b.range in (
-            stop,
-            subst (λ x. IsBlockTo fllen sllen m t x end stop) at (record {
-              some = omega (arith, some);
+          let (b, j, at) = block_there other in
+          let whole = IsWhole-block v.well_formed b j in
+          let next = IsInChunk-behind v.well_formed c i is b j at in (
+            end_of b.range,
+            subst (λ x. IsBlockTo fllen sllen m t x end (end_of b.range)) at (record {
+              some = omega (arith, block-some v.well_formed b j);
               whole = omega (arith, whole.start, whole.len);
-              before_end = omega (arith, inside.1, within);
+              before_end = omega (arith, next.to, within);
               named = named b j;
-              kind = kind b j (end_of c) behind;
+              kind = kind b j (end_of c) next.at;
             }),
-            record { at = behind; whole = omega (arith, whole.start, whole.len); from = omega (arith, inside.0); to = inside.1 },
+            next,
           )
 
     -- a chunk doesn't begin with its sentinel
     pub not_at_start : (start : ℕ) → c.start ≡ start → word_at m start ≢ 35
     not_at_start start at sentinel =
-        let ends = ends_there (IsInChunk-first start at) sentinel in
+        let ends = ends_there (IsInChunk-start v.well_formed c i start at) sentinel in
         omega (arith, ends, at, (v.well_formed.chunks c i).has_room)
 
   -- the first chunk of a row, and the rest of it
@@ -140,22 +126,6 @@ module _ {fllen sllen : ℕ} {m : Space} {t : Table} {r : Range} {s : State} (v 
       let placed = (v.well_formed.chunks home.chunk home.is_chunk).lies_in in
       (omega (arith, home.from, placed.0), omega (arith, home.to, placed.1))
 
-  size_small : (b : Block) → HasBlock s b → word_at m b.range.start < 2 ^ 64
-  size_small b (used u i same o) = omega (
-    arith,
-    ap (λ r. word_at m r.start) same,
-    v.sizes.used u i,
-    ap (λ (x : Range). x.len) same,
-    (block_in b (used u i same o)).1,
-    (v.well_formed.used u i).whole.len,
-    v.well_formed.addressable,
-  )
-  size_small b (free i o) = omega (arith, v.sizes.free b.range i, (block_in b (free i o)).1, v.well_formed.addressable)
-
-  behind_small : (a end : ℕ) → BehindBlock s a end → word_at m a < 2 ^ 64
-  behind_small a end (block_behind (b, i, at)) = omega (arith, ap (word_at m) at, size_small b i)
-  behind_small a end (end_behind c i at ends) = omega (arith, ap (word_at m) at, v.sizes.sentinel c i)
-
   -- where the size word is that of a length, that is the block's
   len_is : (b : Block) → HasBlock s b → (len : ℕ) → IsSize len → (word_at m b.range.start ≡ len) ⊎ (word_at m b.range.start ≡ len + 1) → len ≡ b.range.len
   len_is b (used u i same o) len size (inl is) = absurd (omega (arith, size.1, is, ap (λ r. word_at m r.start) same, v.sizes.used u i, (v.well_formed.used u i).whole.len))
@@ -170,11 +140,11 @@ module _ {fllen sllen : ℕ} {m : Space} {t : Table} {r : Range} {s : State} (v 
       let whole = IsWhole-block v.well_formed b i in
       let word : IsWord m b.range.start = (omega (arith, whole.start), (omega (arith, lies.0), omega (arith, lies.1, some))) in
       record {
-        size = readable m b.range.start (legible m b.range.start (size_small b i)) word;
+        size = readable m b.range.start (legible m b.range.start (block-fits v.well_formed v.sizes b i)) word;
         behind = λ len size is.
             let same = len_is b i len size is in
             let at : end_of b.range ≡ b.range.start + len = omega (arith, same) in (
-              subst (IsLegible m) at (legible m (end_of b.range) (behind_small (end_of b.range) end behind)),
+              subst (IsLegible m) at (legible m (end_of b.range) (walk-fits v.well_formed v.sizes (end_of b.range) end behind)),
               subst (λ a. IsLegible m (a + 8)) at (legible_is m (end_of b.range + 8) b.range.start (named b i) (omega (arith, lies.1, v.well_formed.addressable))),
             );
         links = λ size.
@@ -189,18 +159,9 @@ module _ {fllen sllen : ℕ} {m : Space} {t : Table} {r : Range} {s : State} (v 
 
     -- the word where a check is, and if it isn't a sentinel's, those of its block
     pub legible_there : {a : ℕ} → IsInChunk s c a → IsLegible m a
-    legible_there {a} is = legible m a (behind_small a (end_of c) is.at)
+    legible_there {a} is = legible m a (walk-fits v.well_formed v.sizes a (end_of c) is.at)
 
     pub IsLegibleBlock-there : {a : ℕ} → IsInChunk s c a → word_at m a ≢ 35 → IsLegibleBlock m a
     IsLegibleBlock-there {a} is other =
-        let begins : BlockBegins s a = elim is.at [
-          | block_behind begins ↦ begins
-          | end_behind d j begins ends ↦ absurd (other (ap (word_at m) (sym begins) ∙ v.sizes.sentinel d j))
-        ] in
-        let (b, j, at) = begins in
-        let some = block-some v.well_formed b j in
-        let inside =
-        lies_in_same_chunk v.well_formed b j c i b.range.start (record { from = omega arith; to = omega (arith, some) })
-        (record { from = omega (arith, at, is.from); to = omega (arith, at, is.to) }) in
-        let behind = behind_block v.well_formed b j c i (record { from = inside.0; to = omega (arith, inside.1, some) }) in
-        subst (IsLegibleBlock m) at (legible_block b j (end_of c) behind)
+        let (b, j, at) = block_there c i is other in
+        subst (IsLegibleBlock m) at (legible_block b j (end_of c) (IsInChunk-behind v.well_formed c i is b j at).at)

@@ -44,14 +44,14 @@ IsFirst-underway m start end (fllen, sllen, t, s, v, is) more =
             (omega (arith, step.begins, home.from, placed.0), omega (arith, step.begins, some, whole.len, home.to, placed.1)),
             subst (λ a. IsOwned m (word_range a)) step.begins (here_block v step.block step.has),
           )
-          (subst (λ a. word_at m a < 2 ^ 64) step.begins (block-fits v step.block step.has));
+          (subst (λ a. word_at m a < 2 ^ 64) step.begins (block-fits w v.sizes step.block step.has));
       behind = is_word m (start + word_at m start / 32 * 32) (
         omega (arith, step.begins, whole.start, len, whole.len),
         (omega (arith, step.begins, home.from, placed.0), omega (arith, step.begins, len, home.to, placed.1)),
         own-word m (range_at (end_of step.block.range) 16) (start + word_at m start / 32 * 32) (here_behind_block v step.block step.has) (omega (arith, step.begins, len))
             (omega (arith, step.begins, len)),
       ) (subst (λ a. word_at m a < 2 ^ 64) (let e : end_of step.block.range ≡ start + word_at m start / 32 * 32 = omega (arith, step.begins, len) in e)
-          (walk-fits v (end_of step.block.range) (end_of home.chunk)
+          (walk-fits w v.sizes (end_of step.block.range) (end_of home.chunk)
           (behind_block w step.block step.has home.chunk home.is_chunk (record { from = home.from; to = omega (arith, home.to, some) }))));
       past = omega (arith, step.begins, len, home.to, placed.1, w.addressable);
       block = record {

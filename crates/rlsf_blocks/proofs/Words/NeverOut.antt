@@ -18,6 +18,7 @@ use Rattle.rlsf_blocks.specs.StandsFor.{contents, IsUnlent, StandsFor}
 use Rattle.rlsf_base.proofs.Lending.Present.{own-word}
 use Rattle.rlsf_base.proofs.Lending.WordIsHere.{is_word}
 use Rattle.rlsf_blocks.specs.Blocks.{Block, HasBlock, used, free}
+use Rattle.rlsf_blocks.specs.InBand.{HasSizes}
 use Rattle.rlsf_blocks.proofs.Walking.Begins.{BehindBlock, block_behind, end_behind}
 use Rattle.rlsf_blocks.proofs.Words.Apart.{Has, used_free, used_used, used_last, free_in_memory, used_in_memory, home_of_used}
 
@@ -45,6 +46,17 @@ module _ {fllen sllen : ℕ} (m : Space) {s : State} (w : IsWellFormed fllen sll
         | inl before ↦ used_free w u f (end_of f - 1) j i (record { from = omega arith; to = omega (arith, h.from) }) (record { from = omega arith; to = omega arith })
         | inr past ↦ omega (arith, h.to, IsUsed-after_start u (w.used u j))
       ])
+
+-- a block's first word is one, and so is the word where an iteration goes on
+module _ {fllen sllen : ℕ} {m : Space} {s : State} (w : IsWellFormed fllen sllen (range_of m) s) (sizes : HasSizes m s) where
+  pub block-fits : (b : Block) → HasBlock s b → word_at m b.range.start < 2 ^ 64
+  block-fits b (used u i same occupied) =
+      subst (λ (r : Range). word_at m r.start < 2 ^ 64) (sym same) (omega (arith, sizes.used u i, (used_in_memory w u i).1, w.addressable))
+  block-fits b (free i vacant) = omega (arith, sizes.free b.range i, (free_in_memory w b.range i).1, w.addressable)
+
+  pub walk-fits : (a end : ℕ) → BehindBlock s a end → word_at m a < 2 ^ 64
+  walk-fits a end (block_behind (b, has, begins)) = subst (λ k. word_at m k < 2 ^ 64) begins (block-fits b has)
+  walk-fits a end (end_behind c i begins ends) = subst (λ k. word_at m k < 2 ^ 64) begins (omega (arith, sizes.sentinel c i))
 
 module _ {fllen sllen : ℕ} {m : Space} {t : Table} {s : State} (v : StandsFor fllen sllen (contents m t) s) where
   -- a range that has no usable byte of a payload
@@ -176,13 +188,3 @@ module _ {fllen sllen : ℕ} {m : Space} {t : Table} {s : State} (v : StandsFor 
   pub here_released : (u : Used) → IsIn u s.used → IsOwned m (usable u) → (a : ℕ) → m.start ≤ a → IsUnlent (released s u) a → is_own (out_at m a) ≡ true
   here_released u i own a from unlent =
       own_but_front u i u.payload (λ k lo hi. own k lo (omega (arith, hi, (v.well_formed.used u i).within))) a from (cases_lt a u.payload) unlent
-
-  -- a block's first word is one, and so is the word where an iteration goes on
-  pub block-fits : (b : Block) → HasBlock s b → word_at m b.range.start < 2 ^ 64
-  block-fits b (used u i same occupied) =
-      subst (λ (r : Range). word_at m r.start < 2 ^ 64) (sym same) (omega (arith, v.sizes.used u i, (used_in_memory v.well_formed u i).1, v.well_formed.addressable))
-  block-fits b (free i vacant) = omega (arith, v.sizes.free b.range i, (free_in_memory v.well_formed b.range i).1, v.well_formed.addressable)
-
-  pub walk-fits : (a end : ℕ) → BehindBlock s a end → word_at m a < 2 ^ 64
-  walk-fits a end (block_behind (b, has, begins)) = subst (λ k. word_at m k < 2 ^ 64) begins (block-fits b has)
-  walk-fits a end (end_behind c i begins ends) = subst (λ k. word_at m k < 2 ^ 64) begins (omega (arith, v.sizes.sentinel c i))

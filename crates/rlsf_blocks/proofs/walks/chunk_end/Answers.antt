@@ -5,10 +5,10 @@ use Rattle.rlsf_blocks.proofs.walks.chunk_end.Goals as goal
 pub word-word-requires : goal.word-word-requires
 word-word-requires c =
     let (fllen, sllen, t, s, k, v, i, at) = c.requires in
-    IsReadable-chunk v k i (IsInChunk-start v k i c.args.start at)
+    IsReadable-chunk v k i (IsInChunk-start v.well_formed k i c.args.start at)
 
 pub loop-word-init : goal.loop-word-init
-loop-word-init c = (c.word-word.ensures, λ fllen sllen t s k v i at. IsInChunk-start v k i c.args.start at)
+loop-word-init c = (c.word-word.ensures, λ fllen sllen t s k v i at. IsInChunk-start v.well_formed k i c.args.start at)
 
 pub overflow_add-block : goal.overflow_add-block
 overflow_add-block c =

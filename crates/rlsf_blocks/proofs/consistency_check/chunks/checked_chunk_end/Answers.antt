@@ -1,14 +1,16 @@
 use Rattle.std.proofs.Common.{◌≡◌, ◌≢◌, ◌+◌, ◌-◌, ◌<◌, Some, None, true≢false, arith, refl, sym, ◌∙◌, ap, inl, inr, subst}
 use Rattle.rlsf_base.specs.SizeClass.{IsValidClass, class_of}
 use Rattle.rlsf_base.specs.Space.{IsWord, word_at}
-use Rattle.rlsf_blocks.proofs.Walking.ChunkEnds.{IsInChunk}
+use Rattle.rlsf_blocks.proofs.Walking.ChunkEnds.{IsInChunk, IsInChunk-start}
 use Rattle.rlsf_blocks.proofs.Consistency.Classes.{map_floor-none, map_floor-valid}
-use Rattle.rlsf_blocks.proofs.Consistency.Passing.{IsInChunk-first, IsLegibleBlock-there, ends_there, goes_on, legible_first, legible_there, not_at_start}
+use Rattle.rlsf_blocks.proofs.Consistency.Passing.{IsLegibleBlock-there, ends_there, goes_on, legible_first, legible_there, not_at_start}
 use Rattle.rlsf_blocks.proofs.Consistency.Reading.{IsLegibleBlock-here, legible_here}
 use Rattle.rlsf_blocks.specs.Steps.BlockAt.{IsSpanOf}
 use Rattle.rlsf_blocks.specs.Steps.Legible.{IsLegibleBlock}
 use Rattle.rlsf_blocks.proofs.Consistency.Pieces.{IsBase-valid, SomeChunks-one, SomePart-more, SomePart-none}
+use Rattle.rlsf_blocks.proofs.consistency_check.chunks.checked_chunk_end.Given as given
 use Rattle.rlsf_blocks.proofs.consistency_check.chunks.checked_chunk_end.Goals as goal
+use Rattle.rlsf_blocks.proofs.consistency_check.chunks.checked_chunk_end.Goals.{In-loop-block}
 
 pub loop-block-init : goal.loop-block-init
 loop-block-init g c = record {
@@ -16,16 +18,22 @@ loop-block-init g c = record {
   to = omega (arith, c.if-end-chunk.false);
   whole = c.requires.whole;
   part = SomePart-none g.row.FLLEN g.row.SLLEN c.args.memory.now c.args.table.now c.args.chunk;
-  passes = λ s k r v i at within. IsInChunk-first v k i c.args.chunk at;
+  passes = λ s k r v i at within. IsInChunk-start v.well_formed k i c.args.chunk at;
 }
+
+-- where the loop goes on there is a word, and not a sentinel's
+not_last : (g : given.Over) (c : In-loop-block g) → IsWord c.args.memory.now c.loop-block.block × (word_at c.args.memory.now c.loop-block.block ≢ 35)
+not_last g c =
+    let so_far = c.loop-block.invariant in
+    let word : IsWord c.args.memory.now c.loop-block.block =
+    (omega (arith, so_far.whole), (omega (arith, c.requires.span.from, so_far.from), omega (arith, c.requires.span.to, so_far.to))) in
+    (word, λ sentinel. true≢false (sym (c.loop-block-test.ensures.1 (word, sentinel))))
 
 pub loop-block-preserved : goal.loop-block-preserved
 loop-block-preserved g c =
     let is = c.in-Some.ensures.some in
     let so_far = c.loop-block.invariant in
-    let word : IsWord c.args.memory.now c.loop-block.block =
-    (omega (arith, so_far.whole), (omega (arith, c.requires.span.from, so_far.from), omega (arith, c.requires.span.to, so_far.to))) in
-    let other : word_at c.args.memory.now c.loop-block.block ≢ 35 = λ sentinel. true≢false (sym (c.loop-block-test.ensures.1 (word, sentinel))) in
+    let (word, other) = not_last g (goal.at.loop-block-preserved g c).In-loop-block in
     record {
       from = omega (arith, is.some, so_far.from);
       to = is.before_end;
@@ -42,9 +50,7 @@ loop-block-preserved g c =
 pub returns-in-None-clause-each : goal.returns-in-None-clause-each
 returns-in-None-clause-each g c = λ s k r v i at within.
     let so_far = c.loop-block.invariant in
-    let word : IsWord c.args.memory.now c.loop-block.block =
-    (omega (arith, so_far.whole), (omega (arith, c.requires.span.from, so_far.from), omega (arith, c.requires.span.to, so_far.to))) in
-    let other : word_at c.args.memory.now c.loop-block.block ≢ 35 = λ sentinel. true≢false (sym (c.loop-block-test.ensures.1 (word, sentinel))) in
+    let (word, other) = not_last g (goal.at.returns-in-None-clause-each g c).In-loop-block in
     let (stop, block, after) = goes_on v k i (so_far.passes s k r v i at within) c.args.end within other in
     let clash : None ≡ Some stop = c.in-None.ensures.each stop block in
     absurd (cc)
@@ -94,9 +100,7 @@ has_word-requires-in-loop-block g c = elim c.requires.legible [
 pub block_end-requires : goal.block_end-requires
 block_end-requires g c =
     let so_far = c.loop-block.invariant in
-    let word : IsWord c.args.memory.now c.loop-block.block =
-    (omega (arith, so_far.whole), (omega (arith, c.requires.span.from, so_far.from), omega (arith, c.requires.span.to, so_far.to))) in
-    let other : word_at c.args.memory.now c.loop-block.block ≢ 35 = λ sentinel. true≢false (sym (c.loop-block-test.ensures.1 (word, sentinel))) in
+    let (word, other) = not_last g (goal.at.block_end-requires g c).In-loop-block in
     let legible : IsLegibleBlock c.args.memory.now c.loop-block.block = elim c.requires.legible [
       | inl here ↦ IsLegibleBlock-here c.args.memory.now here c.loop-block.block word
       | inr (s, k, r, v, i, at, within) ↦ IsLegibleBlock-there v k i (so_far.passes s k r v i at within) other
