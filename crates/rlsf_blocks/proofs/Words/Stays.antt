@@ -1,8 +1,10 @@
 -- What is a memory's own stays so over several steps, and so does what is here.
-use Rattle.std.proofs.Common.{◌≡◌, ℕ, arith, ◌∙◌}
-use Rattle.rlsf_base.specs.Space.{Space}
-use Rattle.rlsf_base.specs.OpenSpace.{SameOwn, StaysHere}
-use Rattle.rlsf_base.proofs.Lending.Present.{out-same, own-same}
+use Rattle.std.proofs.Common.{◌≡◌, ℕ, ◌+◌, ◌%◌, ◌≤◌, length, arith, ◌∙◌}
+use Rattle.rlsf_base.specs.declared.memory.range.Range.{Range}
+use Rattle.rlsf_base.specs.Range.{end_of, LiesIn}
+use Rattle.rlsf_base.specs.Space.{Space, word_range}
+use Rattle.rlsf_base.specs.OpenSpace.{IsOwned, IsWritable, SameOwn, StaysHere}
+use Rattle.rlsf_base.proofs.Lending.Present.{out-same, own-same, own-there, own-word}
 use Rattle.rlsf_table.specs.Rewrites.{Rewrites}
 
 -- the memory stays where it is, the same bytes are its own, and what is here stays here
@@ -23,3 +25,28 @@ Stays-same m n start out = record { start = start; own = own-same m n start out;
 
 pub Stays-rewrites : {m n : Space} {at : ℕ → Type 0} → Rewrites m n at → Stays m n
 Stays-rewrites rewrites = record { start = rewrites.start; own = rewrites.own; here = rewrites.here }
+
+-- a memory lies where another one does, and the same bytes are its own
+pub record IsPlacedAs (m n : Space) : Type 0 where
+  pub start : n.start ≡ m.start
+  pub length : length n.bytes ≡ length m.bytes
+  pub own : SameOwn m n
+
+pub placed_as : (m n : Space) → n.start ≡ m.start → length n.bytes ≡ length m.bytes → SameOwn m n → IsPlacedAs m n
+placed_as m n start len own = record { start = start; length = len; own = own }
+
+pub placed_by : {m n : Space} {at : ℕ → Type 0} → Rewrites m n at → IsPlacedAs m n
+placed_by rewrites = record { start = rewrites.start; length = rewrites.length; own = rewrites.own }
+
+pub placed_then : {m n o : Space} → IsPlacedAs m n → IsPlacedAs n o → IsPlacedAs m o
+placed_then one two =
+    record { start = two.start ∙ one.start; length = two.length ∙ one.length; own = λ a inside. two.own a (omega (arith, one.start)) ∙ one.own a inside }
+
+-- so a word can be written there, if it lies in a range that was the memory's own
+pub IsWritable-in : {m n : Space} → IsPlacedAs m n → (r : Range) → LiesIn r m.start (length m.bytes) → IsOwned m r → (a : ℕ) → a % 8 ≡ 0 → r.start ≤ a → a + 8 ≤ end_of r
+    → IsWritable n a
+IsWritable-in {m} {n} is r inside own a whole from to = (
+  whole,
+  (omega (arith, is.start, inside.0, from), omega (arith, is.start, is.length, inside.1, to)),
+  own-there m n (word_range a) (omega (arith, inside.0, from)) is.own (own-word m r a own from to),
+)

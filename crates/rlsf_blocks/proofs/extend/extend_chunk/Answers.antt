@@ -1,18 +1,18 @@
 use Rattle.std.proofs.Common.{◌≡◌, ◌-◌, ◌∙◌, arith, inl, refl, rules, ap}
-use Rattle.std.proofs.Common.{◌+◌}
-use Rattle.rlsf_base.proofs.Lending.Present.{own-there, own-word}
+use Rattle.std.proofs.Common.{ℕ, ◌+◌, ◌%◌, ◌≤◌}
 use Rattle.rlsf_base.specs.declared.memory.range.Range.{Range}
 use Rattle.rlsf_base.specs.Range.{end_of}
-use Rattle.rlsf_base.specs.Space.{range_of, word_range, with_word}
+use Rattle.rlsf_base.specs.Space.{Space, range_of, with_word}
+use Rattle.rlsf_base.specs.OpenSpace.{IsWritable}
 use Rattle.rlsf_model.specs.State.{State}
 use Rattle.rlsf_blocks.specs.StandsFor.{contents, StandsFor}
 use Rattle.rlsf_blocks.specs.Steps.Extension.{IsExtensible, lengthened, more_block}
 use Rattle.rlsf_blocks.proofs.LongerChunks.Extensions.{extension, here_more, here_extension, AreExtended, AreExtended-from, StandsFor-lengthened, Stays-extended, grown_stands, more_bytes, placed}
-use Rattle.rlsf_blocks.proofs.Words.Stays.{Stays, Stays-then}
+use Rattle.rlsf_blocks.proofs.Words.Stays.{IsPlacedAs, IsWritable-in, placed_as, placed_then, Stays, Stays-then}
 use Rattle.rlsf_table.proofs.Costs.{Costs-then, Costs-written}
 use Rattle.rlsf_blocks.proofs.extend.extend_chunk.Given as given
 use Rattle.rlsf_blocks.proofs.extend.extend_chunk.Goals as goal
-use Rattle.rlsf_blocks.proofs.extend.extend_chunk.Goals.{After-set_word-3}
+use Rattle.rlsf_blocks.proofs.extend.extend_chunk.Goals.{After-set_word-3, Start}
 
 -- the three words are written
 written : (g : given.Over) (c : After-set_word-3 g) {s : State} (d : Range) → StandsFor g.row.FLLEN g.row.SLLEN (contents c.args.memory.now c.args.table.now) s
@@ -28,46 +28,40 @@ overflow_sub-block g c =
     let (s, d, v, is, at) = c.requires.extensible in
     omega (arith, at, (placed v d c.args.len is).room)
 
+-- words of what the chunk has more can be written
+writable : (g : given.Over) (c : Start g) {s : State} {d : Range} (v : StandsFor g.row.FLLEN g.row.SLLEN (contents c.args.memory.now c.args.table.now) s)
+    → IsExtensible g.row.FLLEN (range_of c.args.memory.now) s d c.args.len → end_of d ≡ c.args.end → {n : Space} → IsPlacedAs c.args.memory.now n → (a : ℕ) → a % 8 ≡ 0
+    → c.args.end - 32 ≤ a → a + 8 ≤ c.args.end + c.args.len → IsWritable n a
+writable g c {d = d} v is at same a whole from to =
+    let p = placed v d c.args.len is in
+    IsWritable-in same (extension v d c.args.len is) (omega (arith, p.from, p.room), omega (arith, p.to, p.room)) (here_extension v d c.args.len is) a whole
+    (omega (arith, at, from)) (omega (arith, at, to, p.room))
+
 pub set_word-requires : goal.set_word-requires
 set_word-requires g c =
     let (s, d, v, is, at) = c.requires.extensible in
     let p = placed v d c.args.len is in
-    let room = p.room in
-    let from = p.from in
-    let to = p.to in (
-      omega (arith, p.start, p.length),
-      (omega arith, omega arith),
-      own-word c.args.memory.now (extension v d c.args.len is) (c.args.end - 32) (here_extension v d c.args.len is) (omega (arith, at)) (omega (arith, at)),
-    )
+    let same = placed_as c.args.memory.now c.args.memory.now refl refl (λ a from. refl) in
+    writable g (goal.at.set_word-requires g c).Start v is at same (c.args.end - 32) (omega (arith, p.start, p.length, at)) (omega arith) (omega (arith, p.room, at))
 
 pub set_word-requires-2 : goal.set_word-requires-2
 set_word-requires-2 g c =
     let (s, d, v, is, at) = c.requires.extensible in
     let p = placed v d c.args.len is in
-    let room = p.room in
-    let from = p.from in
-    let to = p.to in
-    let a = c.args.end - 32 + c.args.len in (
-      omega (arith, p.start, p.length, p.more),
-      (omega arith, omega arith),
-      own-there c.args.memory.now c.set_word.new.self (word_range a) (omega arith) c.set_word.ensures.own
-          (own-word c.args.memory.now (extension v d c.args.len is) a (here_extension v d c.args.len is) (omega (arith, at)) (omega (arith, at))),
-    )
+    let one = placed_as c.args.memory.now c.set_word.new.self c.set_word.ensures.start c.set_word.ensures.len c.set_word.ensures.own in
+    writable g (goal.at.set_word-requires-2 g c).Start v is at one (c.args.end - 32 + c.args.len) (omega (arith, p.start, p.length, p.more, at)) (omega arith)
+    (omega (arith, p.room, at))
 
 pub set_word-requires-3 : goal.set_word-requires-3
 set_word-requires-3 g c =
     let (s, d, v, is, at) = c.requires.extensible in
     let p = placed v d c.args.len is in
-    let room = p.room in
-    let from = p.from in
-    let to = p.to in
-    let a = c.args.end - 32 + c.args.len + 8 in (
-      omega (arith, p.start, p.length, p.more),
-      (omega arith, omega arith),
-      own-there c.set_word.new.self c.set_word-2.new.self (word_range a) (omega arith) c.set_word-2.ensures.own
-          (own-there c.args.memory.now c.set_word.new.self (word_range a) (omega arith) c.set_word.ensures.own
-          (own-word c.args.memory.now (extension v d c.args.len is) a (here_extension v d c.args.len is) (omega (arith, at)) (omega (arith, at)))),
-    )
+    let first = c.set_word.ensures in
+    let second = c.set_word-2.ensures in
+    let one = placed_as c.args.memory.now c.set_word.new.self first.start first.len first.own in
+    let two = placed_then one (placed_as c.set_word.new.self c.set_word-2.new.self second.start second.len second.own) in
+    writable g (goal.at.set_word-requires-3 g c).Start v is at two (c.args.end - 32 + c.args.len + 8) (omega (arith, p.start, p.length, p.more, at)) (omega arith)
+    (omega (arith, p.room, at))
 
 pub deallocate_block-requires : goal.deallocate_block-requires
 deallocate_block-requires g c =

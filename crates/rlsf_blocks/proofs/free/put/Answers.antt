@@ -1,10 +1,9 @@
 use Rattle.rlsf_base.specs.Range.{range_at, end_of}
-use Rattle.rlsf_base.specs.Space.{word_range}
-use Rattle.rlsf_base.proofs.Lending.Present.{own-there, own-word}
 use Rattle.std.proofs.Common.{◌≡◌, ◌+◌, List, arith, rules}
 use Rattle.rlsf_base.specs.declared.memory.range.Range.{Range}
 use Rattle.rlsf_blocks.specs.Steps.Rest.{IsInnerRoom}
 use Rattle.rlsf_blocks.proofs.Allocate.Rests.{AreLeft, ArePut-from, IsNewFreeBlock-written, IsRoom-written}
+use Rattle.rlsf_blocks.proofs.Words.Stays.{IsWritable-in, placed_as}
 use Rattle.rlsf_table.proofs.Costs.{Costs-then, Costs-written}
 use Rattle.rlsf_blocks.proofs.free.put.Given as given
 use Rattle.rlsf_blocks.proofs.free.put.Goals as goal
@@ -13,16 +12,10 @@ use Rattle.rlsf_blocks.proofs.free.put.Goals.{After-set_word_at-2}
 pub set_word_at-requires-2-clause-place : goal.set_word_at-requires-2-clause-place
 set_word_at-requires-2-clause-place g c =
     let (free, r, start, len, room) = c.requires.room in
-    let m = c.args.memory.now in
-    let large = room.room.placed.room in
     let inside = room.room.placed.lies_in in
     let whole = room.room.block.whole in
-    let not_last = room.not_last in
-    let a = c.args.block + c.args.len + 8 in (
-      omega arith,
-      (omega (arith, c.set_word_at.ensures.start), omega (arith, c.set_word_at.ensures.start, c.set_word_at.ensures.len)),
-      own-there m c.set_word_at.new.self (word_range a) (omega arith) c.set_word_at.ensures.own (own-word m (range_at (end_of r) 16) a room.behind (omega arith) (omega arith)),
-    )
+    let one = placed_as c.args.memory.now c.set_word_at.new.self c.set_word_at.ensures.start c.set_word_at.ensures.len c.set_word_at.ensures.own in
+    IsWritable-in one (range_at (end_of r) 16) (omega arith, room.not_last) room.behind (c.args.block + c.args.len + 8) (omega arith) (omega arith) (omega arith)
 
 -- the two words are written
 written : (g : given.Over) (c : After-set_word_at-2 g) {free : List Range} (r : Range) → IsInnerRoom g.row.FLLEN g.row.SLLEN c.args.memory.now c.args.table.now free r

@@ -1,11 +1,10 @@
 use Rattle.rlsf_base.specs.Range.{range_at, end_of}
-use Rattle.rlsf_base.specs.Space.{word_range}
-use Rattle.rlsf_base.proofs.Lending.Present.{own-there, own-word}
 use Rattle.std.proofs.Common.{◌≡◌, ◌+◌, ◌-◌, List, arith, rules}
 use Rattle.rlsf_base.specs.declared.memory.range.Range.{Range}
 use Rattle.rlsf_table.proofs.Words.Writing.{wrote, wrote_there}
 use Rattle.rlsf_blocks.specs.Steps.Rest.{IsInnerRoom}
 use Rattle.rlsf_blocks.proofs.Allocate.Rests.{AreLeft, AreLeft-from, IsFreeBlockBehind-written, IsRoom-written}
+use Rattle.rlsf_blocks.proofs.Words.Stays.{IsWritable-in, placed_as, placed_then}
 use Rattle.rlsf_table.proofs.Costs.{Costs-then, Costs-written}
 use Rattle.rlsf_blocks.proofs.placement.leave_rest.Given as given
 use Rattle.rlsf_blocks.proofs.placement.leave_rest.Goals as goal
@@ -29,35 +28,22 @@ written g c r room start len =
 pub set_word_at-requires-2-clause-place : goal.set_word_at-requires-2-clause-place
 set_word_at-requires-2-clause-place g c =
     let (free, r, start, len, room) = c.requires.room in
-    let m = c.args.memory.now in
-    let large = room.room.placed.room in
-    let inside = room.room.placed.lies_in in
+    let placed = room.room.placed in
+    let large = placed.room in
     let whole = room.room.block.whole in
-    let not_last = room.not_last in
-    let a = c.args.block + c.args.taken + 8 in (
-      omega arith,
-      (omega (arith, c.set_word_at.ensures.start), omega (arith, c.set_word_at.ensures.start, c.set_word_at.ensures.len)),
-      own-there m c.set_word_at.new.self (word_range a) (omega arith) c.set_word_at.ensures.own (own-word m r a room.room.placed.own (omega arith) (omega (arith, large))),
-    )
+    let one = placed_as c.args.memory.now c.set_word_at.new.self c.set_word_at.ensures.start c.set_word_at.ensures.len c.set_word_at.ensures.own in
+    IsWritable-in one r placed.lies_in placed.own (c.args.block + c.args.taken + 8) (omega arith) (omega arith) (omega arith)
 
 pub set_word_at-requires-3-clause-place : goal.set_word_at-requires-3-clause-place
 set_word_at-requires-3-clause-place g c =
     let (free, r, start, len, room) = c.requires.room in
-    let m = c.args.memory.now in
-    let one = c.set_word_at.new.self in
-    let large = room.room.placed.room in
     let inside = room.room.placed.lies_in in
     let whole = room.room.block.whole in
-    let not_last = room.not_last in
-    let a = c.args.block + c.args.len + 8 in (
-      omega arith,
-      (
-        omega (arith, c.set_word_at.ensures.start, c.set_word_at-2.ensures.start),
-        omega (arith, c.set_word_at.ensures.start, c.set_word_at.ensures.len, c.set_word_at-2.ensures.start, c.set_word_at-2.ensures.len),
-      ),
-      own-there one c.set_word_at-2.new.self (word_range a) (omega (arith, c.set_word_at.ensures.start)) c.set_word_at-2.ensures.own
-          (own-there m one (word_range a) (omega arith) c.set_word_at.ensures.own (own-word m (range_at (end_of r) 16) a room.behind (omega arith) (omega arith))),
-    )
+    let first = c.set_word_at.ensures in
+    let second = c.set_word_at-2.ensures in
+    let one = placed_as c.args.memory.now c.set_word_at.new.self first.start first.len first.own in
+    let two = placed_then one (placed_as c.set_word_at.new.self c.set_word_at-2.new.self second.start second.len second.own) in
+    IsWritable-in two (range_at (end_of r) 16) (omega arith, room.not_last) room.behind (c.args.block + c.args.len + 8) (omega arith) (omega arith) (omega arith)
 
 pub link_free_block-requires : goal.link_free_block-requires
 link_free_block-requires g c =

@@ -1,5 +1,3 @@
-use Rattle.rlsf_base.specs.Space.{word_range}
-use Rattle.rlsf_base.proofs.Lending.Present.{own-there, own-word}
 use Rattle.std.proofs.Common.{◌+◌, ◌-◌, arith, refl, rules}
 use Rattle.rlsf_model.specs.Insert.{body}
 use Rattle.rlsf_model.specs.State.{State}
@@ -10,7 +8,8 @@ use Rattle.rlsf_blocks.proofs.Chunks.ChunkWrites.{AreWrites, AreWrites-from, IsA
 use Rattle.rlsf_table.proofs.Costs.{Costs-then, Costs-written}
 use Rattle.rlsf_blocks.proofs.pool.add_chunk.Given as given
 use Rattle.rlsf_blocks.proofs.pool.add_chunk.Goals as goal
-use Rattle.rlsf_blocks.proofs.pool.add_chunk.Goals.{After-set_word-4}
+use Rattle.rlsf_blocks.proofs.pool.add_chunk.Goals.{After-set_word-2, After-set_word-4}
+use Rattle.rlsf_blocks.proofs.Words.Stays.{IsPlacedAs, IsWritable-in, placed_as, placed_then}
 
 -- the four words of the chunk are written
 written : (g : given.Over) (c : After-set_word-4 g) {s : State} → StandsFor g.row.FLLEN g.row.SLLEN (contents c.args.memory.now c.args.table.now) s
@@ -29,58 +28,38 @@ written g c v new =
     (c.set_word-3.ensures.start, three, wrote_there c.set_word-2.new.self c.set_word-3.new.self sentinel c.set_word-3.ensures.out (omega arith))
     (c.set_word-4.ensures.start, four, wrote_there c.set_word-3.new.self c.set_word-4.new.self (sentinel + 8) c.set_word-4.ensures.out (omega arith))
 
+-- so far words of the chunk were written
+first_two : (g : given.Over) (c : After-set_word-2 g) → IsPlacedAs c.args.memory.now c.set_word-2.new.self
+first_two g c =
+    let one = c.set_word in
+    let two = c.set_word-2 in
+    placed_then (placed_as c.args.memory.now one.new.self one.ensures.start one.ensures.len one.ensures.own)
+    (placed_as one.new.self two.new.self two.ensures.start two.ensures.len two.ensures.own)
+
 pub set_word-requires-2 : goal.set_word-requires-2
 set_word-requires-2 g c =
     let (s, v, new) = c.requires.fresh in
-    let chunk = c.args.chunk in
-    let lies = new.lies_in in
     let room = new.room in
     let whole = new.whole in
-    let a = chunk.start + 8 in (
-      omega arith,
-      (omega (arith, c.set_word.ensures.start, c.set_word.ensures.len), omega (arith, c.set_word.ensures.start, c.set_word.ensures.len)),
-      own-there c.args.memory.now c.set_word.new.self (word_range a) (omega arith) c.set_word.ensures.own
-          (own-word c.args.memory.now chunk a new.own (omega arith) (omega arith)),
-    )
+    let one = placed_as c.args.memory.now c.set_word.new.self c.set_word.ensures.start c.set_word.ensures.len c.set_word.ensures.own in
+    IsWritable-in one c.args.chunk new.lies_in new.own (c.args.chunk.start + 8) (omega arith) (omega arith) (omega arith)
 
 pub set_word-requires-3 : goal.set_word-requires-3
 set_word-requires-3 g c =
     let (s, v, new) = c.requires.fresh in
-    let chunk = c.args.chunk in
-    let lies = new.lies_in in
     let room = new.room in
     let whole = new.whole in
-    let a = chunk.start + (chunk.len - 32) in (
-      omega arith,
-      (
-        omega (arith, c.set_word.ensures.start, c.set_word.ensures.len, c.set_word-2.ensures.start, c.set_word-2.ensures.len),
-        omega (arith, c.set_word.ensures.start, c.set_word.ensures.len, c.set_word-2.ensures.start, c.set_word-2.ensures.len),
-      ),
-      own-there c.set_word.new.self c.set_word-2.new.self (word_range a) (omega (arith, c.set_word.ensures.start)) c.set_word-2.ensures.own
-          (own-there c.args.memory.now c.set_word.new.self (word_range a) (omega arith) c.set_word.ensures.own
-          (own-word c.args.memory.now chunk a new.own (omega arith) (omega arith))),
-    )
+    let two = first_two g (goal.at.set_word-requires-3 g c).After-set_word-2 in
+    IsWritable-in two c.args.chunk new.lies_in new.own (c.args.chunk.start + (c.args.chunk.len - 32)) (omega arith) (omega arith) (omega arith)
 
 pub set_word-requires-4 : goal.set_word-requires-4
 set_word-requires-4 g c =
     let (s, v, new) = c.requires.fresh in
-    let chunk = c.args.chunk in
-    let lies = new.lies_in in
     let room = new.room in
     let whole = new.whole in
-    let one = c.set_word.ensures in
-    let two = c.set_word-2.ensures in
-    let three = c.set_word-3.ensures in
-    let a = chunk.start + (chunk.len - 32) + 8 in (
-      omega arith,
-      (
-        omega (arith, one.start, one.len, two.start, two.len, three.start, three.len),
-        omega (arith, one.start, one.len, two.start, two.len, three.start, three.len),
-      ),
-      own-there c.set_word-2.new.self c.set_word-3.new.self (word_range a) (omega (arith, one.start, two.start)) three.own
-          (own-there c.set_word.new.self c.set_word-2.new.self (word_range a) (omega (arith, one.start)) two.own
-          (own-there c.args.memory.now c.set_word.new.self (word_range a) (omega arith) one.own (own-word c.args.memory.now chunk a new.own (omega arith) (omega arith)))),
-    )
+    let last = placed_as c.set_word-2.new.self c.set_word-3.new.self c.set_word-3.ensures.start c.set_word-3.ensures.len c.set_word-3.ensures.own in
+    let three = placed_then (first_two g (goal.at.set_word-requires-4 g c).After-set_word-2) last in
+    IsWritable-in three c.args.chunk new.lies_in new.own (c.args.chunk.start + (c.args.chunk.len - 32) + 8) (omega arith) (omega arith) (omega arith)
 
 pub link_free_block-requires : goal.link_free_block-requires
 link_free_block-requires g c =
