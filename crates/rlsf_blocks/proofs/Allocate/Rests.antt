@@ -16,6 +16,7 @@ use Rattle.rlsf_table.specs.Table.{Table, HasTable}
 use Rattle.rlsf_table.proofs.Tables.FreeTables.{IsFreeTable-Rewrites}
 use Rattle.rlsf_table.proofs.Words.Writes.{before_links, Rewrites-trans, Rewrites-weaken, Rewrites-word, CanBeBlock-Rewrites, Writes, Writes-none, Writes-some}
 use Rattle.rlsf_table.proofs.Words.Writing.{IsWrite, write, rewrites_of, reads_of}
+use Rattle.rlsf_blocks.proofs.Words.Stays.{IsWritable-in, placed_by, placed_here, placed_then}
 use Rattle.rlsf_blocks.specs.Steps.Touched.{Touched, at_link, in_hole, at_other}
 use Rattle.rlsf_model.specs.Lists.{IsIn}
 use Rattle.rlsf_model.specs.State.{between}
@@ -111,19 +112,15 @@ AreLeft-from {m = m} {m1 = m1} {m2 = m2} {m3 = m3} block len taken r room start_
     let size : len - taken ≡ r.len = omega arith in
     let end : block + len ≡ end_of r = omega arith in
     let long = room.room.placed.room in
-    let h1 : IsOwned m (word_range (block + taken)) = own-word m r (block + taken) room.room.placed.own (omega arith) (omega (arith, long)) in
-    let w1 : IsWrite m m1 (block + taken) (len - taken) = write (omega arith, (omega arith, omega arith), h1) e1.0 e1.1 (omega arith) e1.2 in
-    let l1 = (Rewrites-word m m1 (block + taken) (len - taken) w1.placed w1.start w1.bytes w1.out).length in
-    let h2 : IsOwned m1 (word_range (block + taken + 8)) =
-    own-there m m1 (word_range (block + taken + 8)) (omega arith) (rewrites_of w1).own
-    (own-word m r (block + taken + 8) room.room.placed.own (omega arith) (omega (arith, long))) in
-    let w2 : IsWrite m1 m2 (block + taken + 8) block = write (omega arith, (omega arith, omega arith), h2) e2.0 e2.1 fits e2.2 in
-    let l2 = (Rewrites-word m1 m2 (block + taken + 8) block w2.placed w2.start w2.bytes w2.out).length in
-    let h3 : IsOwned m2 (word_range (block + len + 8)) =
-    own-there m1 m2 (word_range (block + len + 8)) (omega arith) (rewrites_of w2).own
-    (own-there m m1 (word_range (block + len + 8)) (omega arith) (rewrites_of w1).own
-    (own-word m (range_at (end_of r) 16) (block + len + 8) room.behind (omega arith) (omega arith))) in
-    let w3 : IsWrite m2 m3 (block + len + 8) (block + taken) = write (omega arith, (omega arith, omega arith), h3) e3.0 e3.1 (omega arith) e3.2 in
+    let own = room.room.placed.own in
+    let can1 = IsWritable-in (placed_here m) r inside own (block + taken) (omega arith) (omega arith) (omega arith) in
+    let w1 : IsWrite m m1 (block + taken) (len - taken) = write can1 e1.0 e1.1 (omega arith) e1.2 in
+    let one = placed_by (rewrites_of w1) in
+    let can2 = IsWritable-in one r inside own (block + taken + 8) (omega arith) (omega arith) (omega arith) in
+    let w2 : IsWrite m1 m2 (block + taken + 8) block = write can2 e2.0 e2.1 fits e2.2 in
+    let two = placed_then one (placed_by (rewrites_of w2)) in
+    let can3 = IsWritable-in two (range_at (end_of r) 16) (omega arith, room.not_last) room.behind (block + len + 8) (omega arith) (omega arith) (omega arith) in
+    let w3 : IsWrite m2 m3 (block + len + 8) (block + taken) = write can3 e3.0 e3.1 (omega arith) e3.2 in
     record {
       one = subst (λ a. IsWrite m m1 a r.len) start (subst (λ n. IsWrite m m1 (block + taken) n) size w1);
       two = subst (λ a. Writes m1 m2 (Unit {0}) (a + 8) block) start (Writes-some (Unit {0}) tt w2.placed w2.fits w2.start w2.bytes w2.out);
@@ -142,13 +139,11 @@ ArePut-from {m = m} {m1 = m1} {m2 = m2} block len r inner start length e1 e2 =
     let addressable = inner.room.list.addressable in
     let end : block + len ≡ end_of r = omega arith in
     let large = inner.room.placed.room in
-    let h1 : IsOwned m (word_range block) = own-word m r block inner.room.placed.own (omega arith) (omega (arith, large)) in
-    let w1 : IsWrite m m1 block len = write (omega arith, (omega arith, omega arith), h1) e1.0 e1.1 (omega arith) e1.2 in
-    let l1 = (Rewrites-word m m1 block len w1.placed w1.start w1.bytes w1.out).length in
-    let h2 : IsOwned m1 (word_range (block + len + 8)) =
-    own-there m m1 (word_range (block + len + 8)) (omega arith) (rewrites_of w1).own
-    (own-word m (range_at (end_of r) 16) (block + len + 8) inner.behind (omega arith) (omega arith)) in
-    let w2 : IsWrite m1 m2 (block + len + 8) block = write (omega arith, (omega arith, omega arith), h2) e2.0 e2.1 (omega arith) e2.2 in
+    let can1 = IsWritable-in (placed_here m) r inside inner.room.placed.own block (omega arith) (omega arith) (omega arith) in
+    let w1 : IsWrite m m1 block len = write can1 e1.0 e1.1 (omega arith) e1.2 in
+    let one = placed_by (rewrites_of w1) in
+    let can2 = IsWritable-in one (range_at (end_of r) 16) (omega arith, inner.not_last) inner.behind (block + len + 8) (omega arith) (omega arith) (omega arith) in
+    let w2 : IsWrite m1 m2 (block + len + 8) block = write can2 e2.0 e2.1 (omega arith) e2.2 in
     record {
       one = subst (λ a. IsWrite m m1 a r.len) (sym start) (subst (λ n. IsWrite m m1 block n) (sym length) w1);
       two = Writes-none m1 m1 ⊥ (r.start + 8) 0 refl (λ none. none);

@@ -13,6 +13,7 @@ use Rattle.rlsf_table.specs.Table.{Table, HasTable}
 use Rattle.rlsf_table.proofs.Tables.FreeTables.{HasTable-Rewrites}
 use Rattle.rlsf_table.proofs.Words.Writing.{IsWrite, write, rewrites_of, reads_of}
 use Rattle.rlsf_table.proofs.Words.Writes.{before_links, Rewrites-word, Rewrites-trans, Rewrites-weaken, CanBeBlock-Rewrites}
+use Rattle.rlsf_blocks.proofs.Words.Stays.{IsPlacedAs, IsWritable-in, placed_by, placed_here, placed_then}
 use Rattle.rlsf_blocks.specs.Steps.Touched.{Touched, at_link, in_hole}
 use Rattle.rlsf_blocks.specs.InBand.{sentinel_of}
 use Rattle.rlsf_model.specs.Insert.{body}
@@ -45,23 +46,14 @@ AreWrites-from {m = m} {m1 = m1} {m2 = m2} {m3 = m3} {m4 = m4} c len sentinel ne
     let room = new.room in
     let inside = new.lies_in in
     let place : sentinel ≡ sentinel_of c = omega arith in
-    let h1 : IsOwned m (word_range c.start) = own-word m c c.start new.own (omega arith) (omega arith) in
-    let w1 : IsWrite m m1 c.start len = write (omega arith, (omega arith, omega arith), h1) e1.0 e1.1 (omega arith) e1.2 in
-    let l1 = (Rewrites-word m m1 c.start len w1.placed w1.start w1.bytes w1.out).length in
-    let h2 : IsOwned m1 (word_range (c.start + 8)) =
-    own-there m m1 (word_range (c.start + 8)) (omega arith) (rewrites_of w1).own (own-word m c (c.start + 8) new.own (omega arith) (omega arith)) in
-    let w2 : IsWrite m1 m2 (c.start + 8) 0 = write (omega arith, (omega arith, omega arith), h2) e2.0 e2.1 (omega arith) e2.2 in
-    let l2 = (Rewrites-word m1 m2 (c.start + 8) 0 w2.placed w2.start w2.bytes w2.out).length in
-    let h3 : IsOwned m2 (word_range sentinel) =
-    own-there m1 m2 (word_range sentinel) (omega arith) (rewrites_of w2).own
-    (own-there m m1 (word_range sentinel) (omega arith) (rewrites_of w1).own (own-word m c sentinel new.own (omega arith) (omega arith))) in
-    let w3 : IsWrite m2 m3 sentinel 35 = write (omega arith, (omega arith, omega arith), h3) e3.0 e3.1 (omega arith) e3.2 in
-    let l3 = (Rewrites-word m2 m3 sentinel 35 w3.placed w3.start w3.bytes w3.out).length in
-    let h4 : IsOwned m3 (word_range (sentinel + 8)) =
-    own-there m2 m3 (word_range (sentinel + 8)) (omega arith) (rewrites_of w3).own
-    (own-there m1 m2 (word_range (sentinel + 8)) (omega arith) (rewrites_of w2).own
-    (own-there m m1 (word_range (sentinel + 8)) (omega arith) (rewrites_of w1).own (own-word m c (sentinel + 8) new.own (omega arith) (omega arith)))) in
-    let w4 : IsWrite m3 m4 (sentinel + 8) c.start = write (omega arith, (omega arith, omega arith), h4) e4.0 e4.1 (omega arith) e4.2 in
+    let can = λ (l : Space) (is : IsPlacedAs m l) (a : ℕ). IsWritable-in is c inside new.own a in
+    let w1 : IsWrite m m1 c.start len = write (can m (placed_here m) c.start (omega arith) (omega arith) (omega arith)) e1.0 e1.1 (omega arith) e1.2 in
+    let one = placed_by (rewrites_of w1) in
+    let w2 : IsWrite m1 m2 (c.start + 8) 0 = write (can m1 one (c.start + 8) (omega arith) (omega arith) (omega arith)) e2.0 e2.1 (omega arith) e2.2 in
+    let two = placed_then one (placed_by (rewrites_of w2)) in
+    let w3 : IsWrite m2 m3 sentinel 35 = write (can m2 two sentinel (omega arith) (omega arith) (omega arith)) e3.0 e3.1 (omega arith) e3.2 in
+    let three = placed_then two (placed_by (rewrites_of w3)) in
+    let w4 : IsWrite m3 m4 (sentinel + 8) c.start = write (can m3 three (sentinel + 8) (omega arith) (omega arith) (omega arith)) e4.0 e4.1 (omega arith) e4.2 in
     record {
       one = subst (λ n. IsWrite m m1 c.start n) len_is w1;
       two = w2;

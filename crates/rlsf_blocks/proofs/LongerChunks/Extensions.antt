@@ -31,7 +31,7 @@ use Rattle.rlsf_blocks.proofs.LongerChunks.Lengthened.{is_chunk, IsWellFormed-le
 use Rattle.rlsf_table.proofs.Tables.FreeTables.{HasTable-Rewrites}
 use Rattle.rlsf_blocks.proofs.RepresentedStates.FreeBlocks.{CanBeBlock-free}
 use Rattle.rlsf_table.proofs.Words.Writes.{Rewrites-trans, Rewrites-weaken, Rewrites-word}
-use Rattle.rlsf_blocks.proofs.Words.Stays.{Stays, Stays-rewrites}
+use Rattle.rlsf_blocks.proofs.Words.Stays.{IsPlacedAs, IsWritable-in, placed_by, placed_here, placed_then, Stays, Stays-rewrites}
 use Rattle.rlsf_blocks.proofs.Words.Apart.{Has, chunk_chunk, home_of_free, home_of_used, free_last, used_last}
 use Rattle.rlsf_blocks.proofs.Words.Frames.{chunk_first}
 use Rattle.rlsf_blocks.proofs.Words.Refilled.{KeepsSpare-Touched, IsUsedStill, old_used, new_used, old_free, IsChunkStill, old_chunk, new_chunk, StandsFor-rewritten}
@@ -95,19 +95,13 @@ module _ {fllen sllen : ℕ} {m : Space} {table : Table} {s : State} (v : Stands
       let more = placed.more in
       let some = placed.some in
       let addressable = placed.addressable in
-      let h1 : IsOwned m (word_range (end - 32)) = own-word m extension (end - 32) here_extension (omega (arith, at)) (omega (arith, at)) in
-      let w1 : IsWrite m m1 (end - 32) (len + 1) = write (omega arith, (omega arith, omega arith), h1) e1.0 e1.1 (omega arith) e1.2 in
-      let l1 = (Rewrites-word m m1 (end - 32) (len + 1) w1.placed w1.start w1.bytes w1.out).length in
-      let h2 : IsOwned m1 (word_range (end - 32 + len)) =
-      own-there m m1 (word_range (end - 32 + len)) (omega arith) (rewrites_of w1).own
-      (own-word m extension (end - 32 + len) here_extension (omega (arith, at)) (omega (arith, at))) in
-      let w2 : IsWrite m1 m2 (end - 32 + len) 35 = write (omega arith, (omega arith, omega arith), h2) e2.0 e2.1 (omega arith) e2.2 in
-      let l2 = (Rewrites-word m1 m2 (end - 32 + len) 35 w2.placed w2.start w2.bytes w2.out).length in
-      let h3 : IsOwned m2 (word_range (end - 32 + len + 8)) =
-      own-there m1 m2 (word_range (end - 32 + len + 8)) (omega arith) (rewrites_of w2).own
-      (own-there m m1 (word_range (end - 32 + len + 8)) (omega arith) (rewrites_of w1).own
-      (own-word m extension (end - 32 + len + 8) here_extension (omega (arith, at)) (omega (arith, at)))) in
-      let w3 : IsWrite m2 m3 (end - 32 + len + 8) (end - 32) = write (omega arith, (omega arith, omega arith), h3) e3.0 e3.1 (omega arith) e3.2 in
+      let can = λ (l : Space) (same : IsPlacedAs m l) (a : ℕ). IsWritable-in same extension (omega arith, omega arith) here_extension a in
+      let w1 : IsWrite m m1 (end - 32) (len + 1) = write (can m (placed_here m) (end - 32) (omega arith) (omega (arith, at)) (omega (arith, at))) e1.0 e1.1 (omega arith) e1.2 in
+      let one = placed_by (rewrites_of w1) in
+      let w2 : IsWrite m1 m2 (end - 32 + len) 35 = write (can m1 one (end - 32 + len) (omega arith) (omega (arith, at)) (omega (arith, at))) e2.0 e2.1 (omega arith) e2.2 in
+      let two = placed_then one (placed_by (rewrites_of w2)) in
+      let w3 : IsWrite m2 m3 (end - 32 + len + 8) (end - 32) =
+      write (can m2 two (end - 32 + len + 8) (omega arith) (omega (arith, at)) (omega (arith, at))) e3.0 e3.1 (omega arith) e3.2 in
       let writes = λ (e : ℕ). IsWrite m m1 (e - 32) (len + 1) × IsWrite m1 m2 (e - 32 + len) 35 × IsWrite m2 m3 (e - 32 + len + 8) (e - 32) in
       let (one, two, three) = subst writes (sym at) (w1, w2, w3) in
       record { one = one; two = two; three = three }

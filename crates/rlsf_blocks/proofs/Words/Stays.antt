@@ -1,5 +1,5 @@
 -- What is a memory's own stays so over several steps, and so does what is here.
-use Rattle.std.proofs.Common.{◌≡◌, ℕ, ◌+◌, ◌%◌, ◌≤◌, length, arith, ◌∙◌}
+use Rattle.std.proofs.Common.{◌≡◌, ℕ, ◌+◌, ◌%◌, ◌≤◌, length, arith, refl, ◌∙◌}
 use Rattle.rlsf_base.specs.declared.memory.range.Range.{Range}
 use Rattle.rlsf_base.specs.Range.{end_of, LiesIn}
 use Rattle.rlsf_base.specs.Space.{Space, word_range}
@@ -34,6 +34,9 @@ pub record IsPlacedAs (m n : Space) : Type 0 where
 
 pub placed_as : (m n : Space) → n.start ≡ m.start → length n.bytes ≡ length m.bytes → SameOwn m n → IsPlacedAs m n
 placed_as m n start len own = record { start = start; length = len; own = own }
+
+pub placed_here : (m : Space) → IsPlacedAs m m
+placed_here m = record { start = refl; length = refl; own = λ a inside. refl }
 
 pub placed_by : {m n : Space} {at : ℕ → Type 0} → Rewrites m n at → IsPlacedAs m n
 placed_by rewrites = record { start = rewrites.start; length = rewrites.length; own = rewrites.own }
