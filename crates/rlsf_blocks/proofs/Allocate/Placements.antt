@@ -32,7 +32,7 @@ use Rattle.rlsf_blocks.specs.StandsFor.{contents, StandsFor}
 use Rattle.rlsf_blocks.proofs.Words.Apart.{used_free, free_in_memory, home_of_free}
 use Rattle.rlsf_blocks.proofs.Words.Refilled.{IsUsedStill, old_used, new_used, old_free, new_free, IsRefilled, StandsFor-refilled, KeepsSpare-refilled}
 use Rattle.rlsf_blocks.proofs.Words.Frames.{wide_whole}
-use Rattle.rlsf_blocks.proofs.Words.Stays.{Stays, Stays-rewrites, Stays-then}
+use Rattle.rlsf_blocks.proofs.Words.Stays.{IsPlacedAs, IsWritable-in, placed_by, placed_then, Stays, Stays-rewrites, Stays-then}
 use Rattle.rlsf_blocks.proofs.RepresentedStates.FreeBlocks.{CanBeBlock-free}
 use Rattle.rlsf_model.proofs.Allocations.{IsWellFormed-given, placed-fits}
 use Rattle.rlsf_model.proofs.Changes.{IsIn-rest_behind}
@@ -280,16 +280,12 @@ module _ {fllen sllen : ℕ} {m : Space} {table : Table} {s : State} {v : Stands
       }
 
   -- the block's first word lies in the memory, or in another one of its place and length
-  pub IsWritable-block : (n : Space) → n.start ≡ m.start → length n.bytes ≡ length m.bytes → SameOwn m n → IsWritable n block
-  IsWritable-block n start long own =
-      let fits = fit in
-      let place = free_in_memory v.well_formed f free in (
-        omega (arith, are.start, fits.whole),
-        (omega (arith, are.start, place.0), omega (arith, are.start, place.1)),
-        own-there m n (word_range block) (omega (arith, are.start, place.0)) own
-            (own-word m f block (here_free v f free) (omega (arith, are.start))
-            (omega (arith, are.start, (v.well_formed.free f free).some, (v.well_formed.free f free).whole.len))),
-      )
+  pub IsWritable-block : {n : Space} → IsPlacedAs m n → IsWritable n block
+  IsWritable-block is =
+      let place = free_in_memory v.well_formed f free in
+      let whole = (v.well_formed.free f free).whole in
+      IsWritable-in is f (omega (arith, place.0), omega (arith, place.1)) (here_free v f free) block (omega (arith, are.start, whole.start)) (omega (arith, are.start))
+      (omega (arith, are.start, (v.well_formed.free f free).some, whole.len))
 
   -- the block was taken out of the list, and then its size word was written
   pub record IsSized (n1 n2 : Space) (changed : Table) : Type 0 where
@@ -298,8 +294,8 @@ module _ {fllen sllen : ℕ} {m : Space} {table : Table} {s : State} {v : Stands
 
   pub IsSized-from : {n1 n2 : Space} {changed : Table} → IsOpened fllen sllen m n1 changed s f (range_at block bytes) → n2.start ≡ n1.start
       → n2.bytes ≡ with_word n1 block (bytes + 1) → bytes + 1 < 2 ^ 64 → n2.out ≡ out_with n1 (word_range block) → IsSized n1 n2 changed
-  IsSized-from {n1} opened start written fits out =
-      record { opened = opened; sized = write (IsWritable-block n1 opened.rewrites.start opened.rewrites.length opened.rewrites.own) start written fits out }
+  IsSized-from opened start written fits out =
+      record { opened = opened; sized = write (IsWritable-block (placed_by opened.rewrites)) start written fits out }
 
   module _ {n1 n2 : Space} {changed : Table} (is : IsSized n1 n2 changed) where
     -- the word before the payload lies in the memory
@@ -307,19 +303,10 @@ module _ {fllen sllen : ℕ} {m : Space} {table : Table} {s : State} {v : Stands
     IsWritable-pad wide =
         let fits = fit in
         let place = free_in_memory v.well_formed f free in
-        let one = is.opened.rewrites in
-        let two = rewrites_of is.sized in
-        let last = placed-fits v.well_formed f size align power chosen in (
-          omega (arith, are.payload, fits.wide wide, fits.after_start),
-          (
-            omega (arith, are.payload, fits.after_start, place.0, one.start, two.start),
-            omega (arith, are.payload, fits.after_start, fits.before_end, last, place.1, one.start, one.length, two.start, two.length),
-          ),
-          own-there m n2 (word_range (address - 8)) (omega (arith, are.payload, fits.after_start, place.0))
-              (λ a inside. two.own a (omega (arith, one.start)) ∙ one.own a inside)
-              (own-word m f (address - 8) (here_free v f free) (omega (arith, are.payload, fits.after_start))
-              (omega (arith, are.payload, fits.after_start, fits.before_end, last))),
-        )
+        let last = placed-fits v.well_formed f size align power chosen in
+        IsWritable-in (placed_then (placed_by is.opened.rewrites) (placed_by (rewrites_of is.sized))) f (omega (arith, place.0), omega (arith, place.1))
+        (here_free v f free) (address - 8) (omega (arith, are.payload, fits.wide wide, fits.after_start)) (omega (arith, are.payload, fits.after_start))
+        (omega (arith, are.payload, fits.after_start, fits.before_end, last))
 
     pub padded : (n : Space) → 32 ≤ align → n.start ≡ n2.start → n.bytes ≡ with_word n2 (address - 8) block → n.out ≡ out_with n2 (word_range (address - 8))
         → Writes n2 n (32 ≤ align) (address - 8) block

@@ -23,6 +23,7 @@ use Rattle.rlsf_table.proofs.Tables.FreeTables.{IsFreeTable-Rewrites}
 use Rattle.rlsf_table.proofs.Words.Writes.{Rewrites-trans, Rewrites-weaken}
 use Rattle.rlsf_blocks.proofs.Words.Apart.{Has}
 use Rattle.rlsf_blocks.proofs.Words.Frames.{sides}
+use Rattle.rlsf_blocks.proofs.Words.Stays.{IsWritable-in, placed_by, placed_here}
 use Rattle.rlsf_table.proofs.Words.Writing.{IsWrite, write, rewrites_of, reads_of}
 
 -- what is left of a span behind the first bytes that are taken
@@ -36,11 +37,10 @@ module _ {fllen sllen : ℕ} {m : Space} {table : Table} {free : List Range} {bl
   pub sized_from : {m1 : Space} → m1.start ≡ m.start → m1.bytes ≡ with_word m block (taken + 1) → m1.out ≡ out_with m (word_range block)
       → IsWrite m m1 block (taken + 1)
   sized_from same written out =
-      let placed = inner in
-      let inside = placed.lies_in in
+      let inside = inner.lies_in in
       let addressable = inner.list.addressable in
-      let own = own-word m (range_at span.start 16) block placed.front (omega (arith, start)) (omega (arith, start)) in
-      write (omega (arith, inner.block.whole.start), (omega arith, omega (arith, placed.room)), own) same written (omega (arith, placed.room, placed.some, part.2)) out
+      let can = IsWritable-in (placed_here m) (range_at span.start 16) (omega arith, omega (arith, inner.room)) inner.front block (omega (arith, inner.block.whole.start)) (omega (arith, start)) (omega (arith, start)) in
+      write can same written (omega (arith, inner.room, inner.some, part.2)) out
 
   -- no free block has an address of the span
   apart : (g : Range) → IsIn g free → (a : ℕ) → Has span a → Has g a → ⊥
@@ -127,11 +127,11 @@ module _ {fllen sllen : ℕ} {m : Space} {table : Table} {free : List Range} {bl
     named_from same written out =
         let whole = inner.block.whole in
         let inside = inner.lies_in in
-        let moved = rewrites_of sized in
         let addressable = inner.list.addressable in
-        let own = own-word m (range_at (end_of span) 16) (block + total + 8) inner.behind (omega arith) (omega arith) in
-        let there = own-there m m1 (word_range (block + total + 8)) (omega arith) moved.own own in
-        write (omega (arith, whole.start, whole.len), (omega (arith, moved.start), omega (arith, moved.start, moved.length, inner.not_last)), there) same written (omega arith) out
+        let can =
+        IsWritable-in (placed_by (rewrites_of sized)) (range_at (end_of span) 16) (omega arith, inner.not_last) inner.behind (block + total + 8)
+        (omega (arith, whole.start, whole.len)) (omega arith) (omega arith) in
+        write can same written (omega arith) out
 
     module _ {n : Space} (all : total ≤ taken) (named : IsWrite m1 n (block + total + 8) block) where
       pub IsOccupied-whole_span : IsOccupied fllen sllen m n table free span (range_at block taken)

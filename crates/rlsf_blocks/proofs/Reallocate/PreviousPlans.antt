@@ -21,7 +21,7 @@ use Rattle.rlsf_table.specs.Table.{Table}
 use Rattle.rlsf_blocks.proofs.Deallocate.Releases.{before_at, behind_at, gone, IsInnerRoom-union, start_before, union_len, union_start}
 use Rattle.rlsf_table.proofs.Words.Writes.{Writes, Writes-some}
 use Rattle.rlsf_blocks.proofs.RepresentedStates.Counted.{KeepsSpare-counted_first}
-use Rattle.rlsf_blocks.proofs.Words.Stays.{Stays, Stays-rewrites, Stays-same, Stays-then}
+use Rattle.rlsf_blocks.proofs.Words.Stays.{IsWritable-in, placed_by, placed_then, Stays, Stays-rewrites, Stays-same, Stays-then}
 use Rattle.rlsf_blocks.proofs.Allocate.Rests.{IsSpanRoom-inner}
 use Rattle.rlsf_blocks.proofs.Reallocate.Copies.{IsCopied, IsInnerRoom-copied, LiesIn-copied, Rewrites-copied}
 use Rattle.rlsf_blocks.proofs.Reallocate.Moves.{IsSpan, span, payload_here, payload_placed, IsCarriedOut-moved}
@@ -165,17 +165,8 @@ module _ {fllen sllen : ℕ} {first m : Space} {t : Table} {s : State} {u : Used
           let span = union u.block s.free in
           let low : span.start ≤ to - 8 = omega (arith, are.plan.placed, is.after_start, is.start) in
           let high : to - 8 + 8 ≤ end_of span = omega (arith, are.plan.placed, is.after_start, is.end, is.enough, fits) in
-          let own_there =
-          own-there m2 m4 (word_range (to - 8)) (omega (arith, low, inside.0)) (λ a from. third.own a (omega (arith, second.start)) ∙ second.own a from)
-          (own-word m2 span (to - 8) inner.room.placed.own low high) in
-          let whole = is.wide (omega (arith, are.used.alignment)) in (
-            omega (arith, are.plan.placed, whole, is.after_start),
-            (
-              omega (arith, low, inside.0, second.start, third.start),
-              omega (arith, high, inside.1, second.start, second.length, third.start, third.length),
-            ),
-            own_there,
-          )
+          let whole = is.wide (omega (arith, are.used.alignment)) in
+          IsWritable-in (placed_then (placed_by second) (placed_by third)) span inside inner.room.placed.own (to - 8) (omega (arith, are.plan.placed, whole, is.after_start)) low high
 
       pub padded : (n : Space) → 32 ≤ align → n.start ≡ m4.start → n.bytes ≡ with_word m4 (to - 8) start → n.out ≡ out_with m4 (word_range (to - 8))
           → Writes m4 n (32 ≤ align) (to - 8) start

@@ -15,7 +15,7 @@ use Rattle.rlsf_blocks.proofs.Words.Apart.{free_in_memory}
 use Rattle.rlsf_blocks.proofs.RepresentedStates.Counted.{KeepsSpare-counted_first, StandsFor-counted}
 use Rattle.rlsf_blocks.proofs.Allocate.Placements.{AreComputed, AreComputed-from, fitting, is_free, IsSized, IsSized-from, IsTaken-computed, IsWritable-block, IsWritable-pad}
 use Rattle.rlsf_blocks.proofs.Allocate.Placements.{padded, Places-sized, Stays-sized}
-use Rattle.rlsf_blocks.proofs.Words.Stays.{Stays-same, Stays-then}
+use Rattle.rlsf_blocks.proofs.Words.Stays.{placed_by, Stays-same, Stays-then}
 use Rattle.rlsf_model.proofs.Allocations.{placed-fits}
 use Rattle.rlsf_table.proofs.Costs.{Costs-loaded, Costs-then, Costs-within, Costs-written}
 use Rattle.rlsf_blocks.proofs.placement.place.Given as given
@@ -96,7 +96,7 @@ set_word_at-requires-clause-place g c =
     let stands = loaded g at.After-load_at-len v in
     let are = computed g at.After-front-payload stands f chosen start in
     let opened = c.take_out.ensures.step s f stands (IsTaken-computed are) in
-    IsWritable-block are c.take_out.new.memory opened.rewrites.start opened.rewrites.length opened.rewrites.own
+    IsWritable-block are (placed_by opened.rewrites)
 
 pub set_word_at-requires-then-wide-clause-place : goal.set_word_at-requires-then-wide-clause-place
 set_word_at-requires-then-wide-clause-place g c =
