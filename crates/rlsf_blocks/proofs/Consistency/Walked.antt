@@ -51,26 +51,29 @@ module _ (fllen sllen : ℕ) (m : Space) (t : Table) (r : Range) (skipped : ℕ)
       let (s, (v, inside)) = SomeChunks-none {t = t} base r.start in
       (heads, (s, over v (walked r) (λ a low high. absurd (omega (arith, is, short, low, high)))))
 
-  module _ (rest : ℕ) (left : rest + skipped ≡ r.len) (some : 0 < rest) where
+  module _ (less : skipped < r.len) where
+    abbrev rest : ℕ
+    rest = r.len - skipped
+
     starts : (walked r).start ≡ r.start + skipped
     starts = omega (arith, is)
 
     ends : end_of (walked r) ≡ r.start + skipped + rest
-    ends = omega (arith, is, left, some)
+    ends = omega (arith, is, less)
 
     -- the rest lies in the memory
-    pub rest_within : IsConsistent fllen sllen m t (walked r) → (m.start ≤ r.start + skipped) × (r.start + skipped + rest ≤ end_of (range_of m))
+    pub rest_within : IsConsistent fllen sllen m t (walked r) → (m.start ≤ r.start + skipped) × (r.start + skipped + (r.len - skipped) ≤ end_of (range_of m))
     rest_within consistent =
-        let lies = row_within fllen sllen m t (walked r) consistent (omega (arith, starts, ends, some)) in (omega (arith, lies.0, starts), omega (arith, lies.1, ends))
+        let lies = row_within fllen sllen m t (walked r) consistent (omega (arith, starts, ends, less)) in (omega (arith, lies.0, starts), omega (arith, lies.1, ends))
 
-    pub IsConsistent-rest : HasHeads fllen sllen m t → SomeLayout fllen sllen m t (between (r.start + skipped) (r.start + skipped + rest)) → IsConsistent fllen sllen m t (walked r)
+    pub IsConsistent-rest : HasHeads fllen sllen m t → SomeLayout fllen sllen m t (between (r.start + skipped) (r.start + skipped + (r.len - skipped))) → IsConsistent fllen sllen m t (walked r)
     unfolding IsConsistent
     IsConsistent-rest heads (s, v) =
         let span = between (r.start + skipped) (r.start + skipped + rest) in
         let end : end_of span ≡ r.start + skipped + rest = omega arith in
         (heads, (s, over v (walked r) (row_same s span (walked r) starts (omega (arith, ends, end)) v.row)))
 
-    pub rest_of : IsConsistent fllen sllen m t (walked r) → SomeLayout fllen sllen m t (between (r.start + skipped) (r.start + skipped + rest))
+    pub rest_of : IsConsistent fllen sllen m t (walked r) → SomeLayout fllen sllen m t (between (r.start + skipped) (r.start + skipped + (r.len - skipped)))
     unfolding IsConsistent
     rest_of (heads, (s, v)) =
         let span = between (r.start + skipped) (r.start + skipped + rest) in

@@ -29,38 +29,32 @@ returns-then-range-skipped g c =
 pub returns-then-is_within : goal.returns-then-is_within
 returns-then-is_within g c =
     let skipped = (32 - c.args.range.start % 32) % 32 in
-    let rest = c.args.range.len - skipped in
-    let left : rest + skipped ≡ c.args.range.len = omega (arith, c.if-range-skipped.false) in
-    let some : 0 < rest = omega (arith, c.if-range-skipped.false) in
+    let less : skipped < c.args.range.len = omega (arith, c.if-range-skipped.false) in
     let at : c.args.range.start + skipped ≡ c.in-Some.start = omega (arith, c.in-Some.ensures) in
-    let from = SomeLayoutFrom g.row.FLLEN g.row.SLLEN c.args.memory.now c.args.table.now rest in (
-      λ same. IsConsistent-rest g.row.FLLEN g.row.SLLEN c.args.memory.now c.args.table.now c.args.range skipped refl rest left some (c.if-not-heads_agree.ensures.0 refl)
+    let from = SomeLayoutFrom g.row.FLLEN g.row.SLLEN c.args.memory.now c.args.table.now (c.args.range.len - skipped) in (
+      λ same. IsConsistent-rest g.row.FLLEN g.row.SLLEN c.args.memory.now c.args.table.now c.args.range skipped refl less (c.if-not-heads_agree.ensures.0 refl)
           (subst from (sym at) (c.are_chunks.ensures.0 same)),
-      λ is. c.are_chunks.ensures.1 (subst from at (rest_of g.row.FLLEN g.row.SLLEN c.args.memory.now c.args.table.now c.args.range skipped refl rest left some is)),
+      λ is. c.are_chunks.ensures.1 (subst from at (rest_of g.row.FLLEN g.row.SLLEN c.args.memory.now c.args.table.now c.args.range skipped refl less is)),
     )
 
 pub returns-else-is_within : goal.returns-else-is_within
 returns-else-is_within g c =
     let skipped = (32 - c.args.range.start % 32) % 32 in
-    let rest = c.args.range.len - skipped in
-    let left : rest + skipped ≡ c.args.range.len = omega (arith, c.if-range-skipped.false) in
-    let some : 0 < rest = omega (arith, c.if-range-skipped.false) in
+    let less : skipped < c.args.range.len = omega (arith, c.if-range-skipped.false) in
     let at : c.args.range.start + skipped ≡ c.in-Some.start = omega (arith, c.in-Some.ensures) in (
       λ yes. absurd (true≢false (sym yes ∙ c.if-is_within.false)),
       λ is.
-          let lies = rest_within g.row.FLLEN g.row.SLLEN c.args.memory.now c.args.table.now c.args.range skipped refl rest left some is in
+          let lies = rest_within g.row.FLLEN g.row.SLLEN c.args.memory.now c.args.table.now c.args.range skipped refl less is in
           c.is_within.ensures.1 (omega (arith, lies.0, at), omega (arith, lies.1, at)),
     )
 
 pub returns-in-None : goal.returns-in-None
 returns-in-None g c =
     let skipped = (32 - c.args.range.start % 32) % 32 in
-    let rest = c.args.range.len - skipped in
-    let left : rest + skipped ≡ c.args.range.len = omega (arith, c.if-range-skipped.false) in
-    let some : 0 < rest = omega (arith, c.if-range-skipped.false) in (
+    let less : skipped < c.args.range.len = omega (arith, c.if-range-skipped.false) in (
       λ no. absurd (true≢false (sym no)),
       λ is.
-          let lies = rest_within g.row.FLLEN g.row.SLLEN c.args.memory.now c.args.table.now c.args.range skipped refl rest left some is in
+          let lies = rest_within g.row.FLLEN g.row.SLLEN c.args.memory.now c.args.table.now c.args.range skipped refl less is in
           absurd (omega (arith, lies.1, c.start.ensures.bounds, c.in-None.ensures)),
     )
 
@@ -80,16 +74,14 @@ are_chunks-requires g c =
     let m = c.args.memory.now in
     let t = c.args.table.now in
     let skipped = (32 - c.args.range.start % 32) % 32 in
-    let rest = c.args.range.len - skipped in
-    let left : rest + skipped ≡ c.args.range.len = omega (arith, c.if-range-skipped.false) in
-    let some : 0 < rest = omega (arith, c.if-range-skipped.false) in
+    let less : skipped < c.args.range.len = omega (arith, c.if-range-skipped.false) in
     let at : c.args.range.start + skipped ≡ c.in-Some.start = omega (arith, c.in-Some.ensures) in
-    let from = SomeLayoutFrom g.row.FLLEN g.row.SLLEN m t rest in
-    let legible : CanReadChunks g.row.FLLEN g.row.SLLEN m t (between c.in-Some.start (c.in-Some.start + rest)) = elim c.requires.legible [
+    let from = SomeLayoutFrom g.row.FLLEN g.row.SLLEN m t (c.args.range.len - skipped) in
+    let legible : CanReadChunks g.row.FLLEN g.row.SLLEN m t (between c.in-Some.start (c.in-Some.start + (c.args.range.len - skipped))) = elim c.requires.legible [
       | inl here ↦ inl here
-      | inr is ↦ inr (subst from at (rest_of g.row.FLLEN g.row.SLLEN m t c.args.range skipped refl rest left some is))
+      | inr is ↦ inr (subst from at (rest_of g.row.FLLEN g.row.SLLEN m t c.args.range skipped refl less is))
     ] in
     let lies = c.is_within.ensures.0 c.if-is_within.true in
-    let span : IsSpanOf m c.in-Some.start (c.in-Some.start + rest) =
+    let span : IsSpanOf m c.in-Some.start (c.in-Some.start + (c.args.range.len - skipped)) =
     record { from = lies.0; to = lies.1; addressable = omega (arith, c.start.ensures.bounds) } in
     (omega arith, (c.requires.parameters, (span, (legible, (omega (arith, at), omega arith)))))
