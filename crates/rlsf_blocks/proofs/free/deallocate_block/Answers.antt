@@ -24,15 +24,13 @@ load_at-requires-clause-place g c =
     let (s, u, v, i, at, own) = c.requires.used in
     used_word v u i c.args.block at
 
-pub used_end-end-requires-clause-used : goal.used_end-end-requires-clause-used
-used_end-end-requires-clause-used g c =
+pub used_end-end-requires : goal.used_end-end-requires
+used_end-end-requires g c =
     let (s, u, v, i, at, own) = c.requires.used in
-    omega (arith, word_computed v u i at c.load_at.ensures.word)
-
-pub used_end-end-requires-clause-fits : goal.used_end-end-requires-clause-fits
-used_end-end-requires-clause-fits g c =
-    let (s, u, v, i, at, own) = c.requires.used in
-    omega (arith, end_computed v u i at c.load_at.ensures.word, used_in_memory v.well_formed u i, v.well_formed.addressable)
+    record {
+      used = omega (arith, word_computed v u i at c.load_at.ensures.word);
+      fits = omega (arith, end_computed v u i at c.load_at.ensures.word, used_in_memory v.well_formed u i, v.well_formed.addressable);
+    }
 
 pub take_previous-start-requires : goal.take_previous-start-requires
 take_previous-start-requires g c =

@@ -13,21 +13,14 @@ load-requires c =
     IsReadable-loaded c.args.memory.now c.load_block_of-block.new.memory (ap (λ (m : Space). m.start) touched) (ap (λ (m : Space). m.bytes) touched)
     (ap (λ (m : Space). m.out) touched) (IsReadable-block is c.load_block_of-block.result begins)
 
-pub used_end-end-requires-clause-used : goal.used_end-end-requires-clause-used
-used_end-end-requires-clause-used c =
+pub used_end-end-requires : goal.used_end-end-requires
+used_end-end-requires c =
     let (fllen, sllen, v, s, same, stands, live) = c.requires in
     let is = IsPayloadOf-holds live.0 same stands live.1 in
     let begins = c.load_block_of-block.ensures.block fllen sllen v s live.0 same stands live.1 in
     let size = c.load.ensures.word ∙ word_at-touched c.args.memory.now c.load_block_of-block.new.memory 2 c.load_block_of-block.ensures.memory c.load_block_of-block.result in
-    omega (arith, sized is c.load_block_of-block.result begins c.load.result size, is.in_block, is.within)
-
-pub used_end-end-requires-clause-fits : goal.used_end-end-requires-clause-fits
-used_end-end-requires-clause-fits c =
-    let (fllen, sllen, v, s, same, stands, live) = c.requires in
-    let is = IsPayloadOf-holds live.0 same stands live.1 in
-    let begins = c.load_block_of-block.ensures.block fllen sllen v s live.0 same stands live.1 in
-    let size = c.load.ensures.word ∙ word_at-touched c.args.memory.now c.load_block_of-block.new.memory 2 c.load_block_of-block.ensures.memory c.load_block_of-block.result in
-    omega (arith, sized is c.load_block_of-block.result begins c.load.result size, is.ends)
+    let word = sized is c.load_block_of-block.result begins c.load.result size in
+    record { used = omega (arith, word, is.in_block, is.within); fits = omega (arith, word, is.ends) }
 
 pub overflow_sub-result : goal.overflow_sub-result
 overflow_sub-result c =

@@ -7,19 +7,13 @@ word-requires c =
     let (fllen, sllen, v, s, same, stands, live) = c.requires in
     IsReadable-block (IsPayloadOf-holds live.0 same stands live.1) c.block_of-block.result (c.block_of-block.ensures fllen sllen v s live.0 same stands live.1)
 
-pub used_end-end-requires-clause-used : goal.used_end-end-requires-clause-used
-used_end-end-requires-clause-used c =
+pub used_end-end-requires : goal.used_end-end-requires
+used_end-end-requires c =
     let (fllen, sllen, v, s, same, stands, live) = c.requires in
     let is = IsPayloadOf-holds live.0 same stands live.1 in
     let begins = c.block_of-block.ensures fllen sllen v s live.0 same stands live.1 in
-    omega (arith, sized is c.block_of-block.result begins c.word.result c.word.ensures, is.in_block, is.within)
-
-pub used_end-end-requires-clause-fits : goal.used_end-end-requires-clause-fits
-used_end-end-requires-clause-fits c =
-    let (fllen, sllen, v, s, same, stands, live) = c.requires in
-    let is = IsPayloadOf-holds live.0 same stands live.1 in
-    let begins = c.block_of-block.ensures fllen sllen v s live.0 same stands live.1 in
-    omega (arith, sized is c.block_of-block.result begins c.word.result c.word.ensures, is.ends)
+    let word = sized is c.block_of-block.result begins c.word.result c.word.ensures in
+    record { used = omega (arith, word, is.in_block, is.within); fits = omega (arith, word, is.ends) }
 
 pub overflow_sub-result : goal.overflow_sub-result
 overflow_sub-result c =

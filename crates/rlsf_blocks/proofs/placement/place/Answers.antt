@@ -27,30 +27,20 @@ load_at-len-requires-clause-place g c =
     let (s, f, v, chosen, start) = c.requires.chosen in
     free_word v f (is_free v f c.args.layout.size c.args.layout.align c.args.layout.valid.aligned chosen) c.args.found.start start
 
-pub front-payload-requires-clause-whole : goal.front-payload-requires-clause-whole
-front-payload-requires-clause-whole g c =
-    let (s, f, v, chosen, start) = c.requires.chosen in
-    let layout = c.args.layout in
-    omega (arith, (fitting v f layout.size layout.align layout.valid.aligned chosen).whole, start)
-
-pub front-payload-requires-clause-address : goal.front-payload-requires-clause-address
-front-payload-requires-clause-address g c =
+pub front-payload-requires : goal.front-payload-requires
+front-payload-requires g c =
     let (s, f, v, chosen, start) = c.requires.chosen in
     let layout = c.args.layout in
     let place = free_in_memory v.well_formed f (is_free v f layout.size layout.align layout.valid.aligned chosen) in
     let fit = fitting v f layout.size layout.align layout.valid.aligned chosen in
-    let below : payload_of f.start layout.align < 2 ^ 64 =
-    omega (arith, fit.before_end, placed-fits v.well_formed f layout.size layout.align layout.valid.aligned chosen, place.1, v.well_formed.addressable) in
-    subst (λ b. payload_of b layout.align < 2 ^ 64) start below
-
-pub front-payload-requires-clause-length : goal.front-payload-requires-clause-length
-front-payload-requires-clause-length g c =
-    let (s, f, v, chosen, start) = c.requires.chosen in
-    let layout = c.args.layout in
-    let place = free_in_memory v.well_formed f (is_free v f layout.size layout.align layout.valid.aligned chosen) in
-    let below : block_length f.start (payload_of f.start layout.align) layout.size < 2 ^ 64 =
-    omega (arith, placed-fits v.well_formed f layout.size layout.align layout.valid.aligned chosen, place.1, v.well_formed.addressable) in
-    subst (λ b. block_length b (payload_of b layout.align) layout.size < 2 ^ 64) start below
+    let fits = placed-fits v.well_formed f layout.size layout.align layout.valid.aligned chosen in
+    let address : payload_of f.start layout.align < 2 ^ 64 = omega (arith, fit.before_end, fits, place.1, v.well_formed.addressable) in
+    let length : block_length f.start (payload_of f.start layout.align) layout.size < 2 ^ 64 = omega (arith, fits, place.1, v.well_formed.addressable) in
+    record {
+      whole = omega (arith, fit.whole, start);
+      address = subst (λ b. payload_of b layout.align < 2 ^ 64) start address;
+      length = subst (λ b. block_length b (payload_of b layout.align) layout.size < 2 ^ 64) start length;
+    }
 
 -- the memory whose word was read represents the same states
 loaded : (g : given.Over) (c : After-load_at-len g) {s : State} → StandsFor g.row.FLLEN g.row.SLLEN (contents c.args.memory.now c.args.table.now) s

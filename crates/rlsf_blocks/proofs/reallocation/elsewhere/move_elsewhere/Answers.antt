@@ -79,15 +79,14 @@ load_at-requires-clause-place g c =
     let (s, u, v, is, short, here) = c.requires.used in
     used_word v u is.is_used c.args.block is.start
 
-pub used_end-end-requires-clause-used : goal.used_end-end-requires-clause-used
-used_end-end-requires-clause-used g c =
+pub used_end-end-requires : goal.used_end-end-requires
+used_end-end-requires g c =
     let (s, u, v, is, short, here) = c.requires.used in
-    omega (arith, word_computed v u is.is_used is.start c.load_at.ensures.word)
-
-pub used_end-end-requires-clause-fits : goal.used_end-end-requires-clause-fits
-used_end-end-requires-clause-fits g c =
-    let (s, u, v, is, short, here) = c.requires.used in
-    omega (arith, end_computed v u is.is_used is.start c.load_at.ensures.word, used_in_memory v.well_formed u is.is_used, v.well_formed.addressable)
+    let word = c.load_at.ensures.word in
+    record {
+      used = omega (arith, word_computed v u is.is_used is.start word);
+      fits = omega (arith, end_computed v u is.is_used is.start word, used_in_memory v.well_formed u is.is_used, v.well_formed.addressable);
+    }
 
 pub allocate_block-requires : goal.allocate_block-requires
 allocate_block-requires g c =

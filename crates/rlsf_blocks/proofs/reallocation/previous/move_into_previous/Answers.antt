@@ -45,15 +45,14 @@ loaded : (g : given.Over) (c : After-load_at g) {s : State} → StandsFor g.row.
     → StandsFor g.row.FLLEN g.row.SLLEN (contents c.load_at.new.self c.args.table.now) s
 loaded g c v = StandsFor-counted c.args.memory.now c.load_at.new.self c.load_at.ensures.start c.load_at.ensures.bytes c.load_at.ensures.out v
 
-pub used_end-end-requires-clause-used : goal.used_end-end-requires-clause-used
-used_end-end-requires-clause-used g c =
+pub used_end-end-requires : goal.used_end-end-requires
+used_end-end-requires g c =
     let (s, u, v, used, short, here) = c.requires.used in
-    omega (arith, word_computed v u used.is_used used.start c.load_at.ensures.word)
-
-pub used_end-end-requires-clause-fits : goal.used_end-end-requires-clause-fits
-used_end-end-requires-clause-fits g c =
-    let (s, u, v, used, short, here) = c.requires.used in
-    omega (arith, end_computed v u used.is_used used.start c.load_at.ensures.word, used_in_memory v.well_formed u used.is_used, v.well_formed.addressable)
+    let word = c.load_at.ensures.word in
+    record {
+      used = omega (arith, word_computed v u used.is_used used.start word);
+      fits = omega (arith, end_computed v u used.is_used used.start word, used_in_memory v.well_formed u used.is_used, v.well_formed.addressable);
+    }
 
 pub place_before-requires-clause-used : goal.place_before-requires-clause-used
 place_before-requires-clause-used g c =
