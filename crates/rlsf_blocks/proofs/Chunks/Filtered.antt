@@ -1,7 +1,9 @@
 -- Lists of ranges without those that lie in a range.
 use Rattle.std.proofs.Common.{◌≡◌, ℕ, ◌+◌, ◌<◌, ◌≤◌, ◌||◌, Bool, true, false, true≢false, not, cond, List, [], ◌∷◌, ◌++◌, Some, find, length}
 use Rattle.std.proofs.Common.{arith, inl, inr, refl, sym, ◌∙◌, ap}
-use Rattle.std.proofs.lemmas.Bool.{cases_lt, false_from_ne_true, or_from}
+use Rattle.std.proofs.lemmas.Bool.{cases_lt, or_cases, or_left, or_right}
+use Rattle.std.specs.Cmp.{both_ways}
+use Rattle.rlsf_model.proofs.Parts.{length-filter_le}
 use Rattle.std.proofs.lemmas.List.Elements.{filter-append}
 use Rattle.rlsf_base.specs.declared.memory.range.Range.{Range}
 use Rattle.rlsf_base.specs.Range.{end_of}
@@ -48,43 +50,27 @@ outside_of-found r f test xs found lies others =
 -- a range that doesn't lie on both sides of an address lies between two others if it lies on one side
 pub lies_within-split : (first mid end : ℕ) (x : Range) → first ≤ mid → mid ≤ end → 0 < x.len → (x.start < mid → end_of x ≤ mid)
     → lies_within (between first end) x ≡ (lies_within (between first mid) x || lies_within (between mid end) x)
-lies_within-split first mid end x from to some edge = elim (cases_lt x.start mid) [
-  | inl before ↦
-      let not_behind : lies_within (between mid end) x ≡ false =
-      false_from_ne_true (lies_within (between mid end) x) (λ e. omega (arith, lies_within-true (between mid end) x e)) in
-      by_test (lies_within (between first mid) x)
-      (λ e. lies_within-le (between first end) x (omega (arith, lies_within-true (between first mid) x e)) (omega (arith, lies_within-true (between first mid) x e))
-      ∙ sym (ap (λ b. b || lies_within (between mid end) x) e))
-      (λ e. false_from_ne_true (lies_within (between first end) x) (λ lies.
-      let ends = lies_within-true (between first end) x lies in
-      true≢false (sym (lies_within-le (between first mid) x (omega (arith, ends)) (omega (arith, edge before))) ∙ e))
-      ∙ sym (or_from (lies_within (between first mid) x) (lies_within (between mid end) x) e not_behind))
-  | inr behind ↦
-      let not_before : lies_within (between first mid) x ≡ false =
-      false_from_ne_true (lies_within (between first mid) x) (λ e. omega (arith, lies_within-true (between first mid) x e)) in
-      by_test (lies_within (between mid end) x)
-      (λ e. lies_within-le (between first end) x (omega (arith, lies_within-true (between mid end) x e)) (omega (arith, lies_within-true (between mid end) x e))
-      ∙ sym (ap (λ b. b || lies_within (between mid end) x) not_before ∙ e))
-      (λ e. false_from_ne_true (lies_within (between first end) x) (λ lies.
-      let ends = lies_within-true (between first end) x lies in
-      true≢false (sym (lies_within-le (between mid end) x (omega (arith, behind)) (omega (arith, ends))) ∙ e))
-      ∙ sym (or_from (lies_within (between first mid) x) (lies_within (between mid end) x) not_before e))
-]
+lies_within-split first mid end x from to some edge =
+    let front = lies_within (between first mid) x in
+    let back = lies_within (between mid end) x in
+    both_ways (lies_within (between first end) x) (front || back)
+    (λ lies.
+    let ends = lies_within-true (between first end) x lies in
+    elim (cases_lt x.start mid) [
+      | inl before ↦ or_left front back (lies_within-le (between first mid) x (omega (arith, ends)) (omega (arith, edge before)))
+      | inr behind ↦ or_right front back (lies_within-le (between mid end) x (omega (arith, behind)) (omega (arith, ends)))
+    ])
+    (λ lies. elim (or_cases front back lies) [
+      | inl e ↦ lies_within-le (between first end) x (omega (arith, lies_within-true (between first mid) x e)) (omega (arith, lies_within-true (between first mid) x e))
+      | inr e ↦ lies_within-le (between first end) x (omega (arith, lies_within-true (between mid end) x e)) (omega (arith, lies_within-true (between mid end) x e))
+    ])
 
--- no more are left than there were, and fewer if one lies there
-pub length-outside_of : (r : Range) (xs : List Range) → length (outside_of r xs) ≤ length xs
-length-outside_of r [] = omega arith
-length-outside_of r (x ∷ xs) =
-    let rest = length-outside_of r xs in
-    by_test (lies_within r x)
-    (λ e. let same = ap (λ b. length (cond (not b) (x ∷ outside_of r xs) (outside_of r xs))) e in omega (arith, same, rest))
-    (λ e. let same = ap (λ b. length (cond (not b) (x ∷ outside_of r xs) (outside_of r xs))) e in omega (arith, same, rest))
-
+-- fewer are left than there were, if one lies there
 pub length-outside_of_one : (r x : Range) (xs : List Range) → IsIn x xs → lies_within r x ≡ true → length (outside_of r xs) + 1 ≤ length xs
 length-outside_of_one r x [] i lies = absurd i
 length-outside_of_one r x (y ∷ ys) i lies =
     by_test (lies_within r y)
-    (λ e. let same = ap (λ b. length (cond (not b) (y ∷ outside_of r ys) (outside_of r ys))) e in omega (arith, same, length-outside_of r ys))
+    (λ e. let same = ap (λ b. length (cond (not b) (y ∷ outside_of r ys) (outside_of r ys))) e in omega (arith, same, length-filter_le (λ z. not (lies_within r z)) ys))
     (λ e. elim i [
       | inl same ↦ absurd (true≢false (sym lies ∙ ap (lies_within r) same ∙ e))
       | inr j ↦ let same = ap (λ b. length (cond (not b) (y ∷ outside_of r ys) (outside_of r ys))) e in omega (arith, same, length-outside_of_one r x ys j lies)
