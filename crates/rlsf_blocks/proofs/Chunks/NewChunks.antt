@@ -10,6 +10,7 @@ use Rattle.rlsf_model.specs.Insert.{body}
 use Rattle.rlsf_model.specs.Lists.{IsIn}
 use Rattle.rlsf_model.specs.State.{State, Used}
 use Rattle.rlsf_model.specs.WellFormed.{coverage, itself, IsWhole, IsWellFormed}
+use Rattle.rlsf_model.proofs.Tiling.{LiesInChunk}
 use Rattle.rlsf_blocks.specs.StandsFor.{contents, StandsFor}
 use Rattle.rlsf_blocks.proofs.Words.Apart.{Has, home_of_free, home_of_used}
 use Rattle.rlsf_blocks.proofs.RepresentedStates.Neighbours.{Before, free_before, used_before, none_before}
@@ -26,27 +27,16 @@ module _ {fllen sllen : ℕ} {m n : Space} {table changed : Table} {s : State} (
   apart : (d : Range) (a : ℕ) → IsIn d s.chunks → Has d a → Has c a → ⊥
   apart d a i hd hc = omega (arith, fresh a hc, coverage-IsIn itself d s.chunks a i, covers-inside d a hd.from hd.to)
 
-  apart_used : (u : Used) → IsIn u s.used → (a : ℕ) → Has u.block a → Has c a → ⊥
-  apart_used u i a hu hc = let home = home_of_used w u i in
-      apart home.chunk a home.is_chunk (record { from = omega (arith, home.from, hu.from); to = omega (arith, home.to, hu.to) }) hc
+  -- nor is one of a block, which doesn't end where the new chunk begins either
+  block_apart : {r : Range} → LiesInChunk s r → (a : ℕ) → Has r a → Has c a → ⊥
+  block_apart home a hr = apart home.chunk a home.is_chunk (record { from = omega (arith, home.from, hr.from); to = omega (arith, home.to, hr.to) })
 
-  apart_free : (g : Range) → IsIn g s.free → (a : ℕ) → Has g a → Has c a → ⊥
-  apart_free g i a hg hc = let home = home_of_free w g i in
-      apart home.chunk a home.is_chunk (record { from = omega (arith, home.from, hg.from); to = omega (arith, home.to, hg.to) }) hc
+  ends_elsewhere : {r : Range} → LiesInChunk s r → end_of r ≢ c.start
+  ends_elsewhere {r} home e =
+      apart home.chunk (end_of r) home.is_chunk (record { from = omega (arith, home.from); to = omega (arith, home.to) }) (record { from = omega arith; to = omega arith })
 
   inside_opened : (a : ℕ) → Has (opened c) a → Has c a
   inside_opened a h = record { from = h.from; to = omega (arith, h.to) }
-
-  -- a block of an old chunk doesn't end where the new chunk begins
-  end_used : (u : Used) → IsIn u s.used → end_of u.block ≢ c.start
-  end_used u i e =
-      let home = home_of_used w u i in
-      apart home.chunk (end_of u.block) home.is_chunk (record { from = omega (arith, home.from); to = omega (arith, home.to) }) (record { from = omega arith; to = omega arith })
-
-  end_free : (g : Range) → IsIn g s.free → end_of g ≢ c.start
-  end_free g i e =
-      let home = home_of_free w g i in
-      apart home.chunk (end_of g) home.is_chunk (record { from = omega (arith, home.from); to = omega (arith, home.to) }) (record { from = omega arith; to = omega arith })
 
   module _ (cs : List Range) (t_well_formed : IsWellFormed fllen sllen (range_of n) (record { chunks = cs; used = s.used; free = body c ∷ s.free }))
       (chunks : (d : Range) → IsIn d cs → (d ≡ c) ⊎ IsIn d s.chunks) where
@@ -55,7 +45,7 @@ module _ {fllen sllen : ℕ} {m n : Space} {table changed : Table} {s : State} (
         StandsFor-rewritten old (opened c) whole.start (omega arith) (c.start + 8) (omega (arith, whole.start)) (inr refl) (record {
           rewrites = added.rewrites;
           first = λ before. absurd (alone before);
-          used_still = λ u i. old_used i (λ a hu hc. apart_used u i a hu (inside_opened a hc));
+          used_still = λ u i. old_used i (λ a hu hc. block_apart (home_of_used w u i) a hu (inside_opened a hc));
           free_still = free_still;
           chunk_still = chunk_still;
           table = added.table;
@@ -63,15 +53,15 @@ module _ {fllen sllen : ℕ} {m n : Space} {table changed : Table} {s : State} (
         }) t_well_formed
       where
         alone : Before s c.start → ⊥
-        alone (free_before f i e) = end_free f i e
-        alone (used_before u i e) = end_used u i e
+        alone (free_before f i e) = ends_elsewhere (home_of_free w f i) e
+        alone (used_before u i e) = ends_elsewhere (home_of_used w u i) e
         alone (none_before d i e) =
             let long = (w.chunks d i).has_room in
             apart d d.start i (record { from = omega arith; to = omega arith }) (record { from = omega arith; to = omega arith })
 
         free_still : (f : Range) → IsIn f (body c ∷ s.free) → IsFreeStill n s (opened c) f
         free_still f (inl same) = subst (IsFreeStill n s (opened c)) (sym same) (new_free added.size (ap (word_at n) (omega arith) ∙ added.previous))
-        free_still f (inr i) = old_free i (λ a hg hc. apart_free f i a hg (inside_opened a hc))
+        free_still f (inr i) = old_free i (λ a hg hc. block_apart (home_of_free w f i) a hg (inside_opened a hc))
 
         chunk_still : (d : Range) → IsIn d cs → IsChunkStill n s (opened c) d
         chunk_still d i = elim (chunks d i) [

@@ -31,6 +31,7 @@ use Rattle.rlsf_blocks.proofs.LongerChunks.Lengthened.{is_chunk, IsWellFormed-le
 use Rattle.rlsf_table.proofs.Tables.FreeTables.{HasTable-Rewrites}
 use Rattle.rlsf_blocks.proofs.RepresentedStates.FreeBlocks.{CanBeBlock-free}
 use Rattle.rlsf_table.proofs.Words.Writes.{Rewrites-trans, Rewrites-weaken, Rewrites-word}
+use Rattle.rlsf_model.proofs.Tiling.{LiesInChunk}
 use Rattle.rlsf_blocks.proofs.Words.Stays.{IsPlacedAs, IsWritable-in, placed_by, placed_here, placed_then, Stays, Stays-rewrites}
 use Rattle.rlsf_blocks.proofs.Words.Apart.{Has, chunk_chunk, home_of_free, home_of_used, free_last, used_last}
 use Rattle.rlsf_blocks.proofs.Words.Frames.{chunk_first}
@@ -178,23 +179,18 @@ module _ {fllen sllen : ℕ} {m : Space} {table : Table} {s : State} (v : Stands
     chunk_apart : (d : Range) (a : ℕ) → IsIn d s.chunks → Has d a → end_of c ≤ a → a < end_of c + len → ⊥
     chunk_apart d a i h low high = omega (arith, is.fresh.apart a low high, coverage-IsIn itself d s.chunks a i, covers-inside d a h.from h.to)
 
+    -- nor has a block of c an address of c's last bytes
+    block_apart : (r : Range) → LiesInChunk s r → ((a : ℕ) → Has r a → sentinel_of c ≤ a → a < end_of c → ⊥) → (a : ℕ) → Has r a → Has hole a → ⊥
+    block_apart r home last a hr hh = elim (cases_lt a (end_of c)) [
+      | inl low ↦ last a hr (omega (arith, hh.from)) low
+      | inr high ↦ chunk_apart home.chunk a home.is_chunk (record { from = omega (arith, home.from, hr.from); to = omega (arith, home.to, hr.to) }) high (omega (arith, hh.to))
+    ]
+
     used_apart : (u : Used) → IsIn u s.used → (a : ℕ) → Has u.block a → Has hole a → ⊥
-    used_apart u i a hu hh =
-        let home = home_of_used w u i in
-        elim (cases_lt a (end_of c)) [
-          | inl low ↦ used_last w u c a i is_c hu (omega (arith, hh.from)) low
-          | inr high ↦ chunk_apart home.chunk a home.is_chunk (record { from = omega (arith, home.from, hu.from); to = omega (arith, home.to, hu.to) }) high
-              (omega (arith, hh.to))
-        ]
+    used_apart u i = block_apart u.block (home_of_used w u i) (λ a h low. used_last w u c a i is_c h (omega (arith, low)))
 
     free_apart : (f : Range) → IsIn f s.free → (a : ℕ) → Has f a → Has hole a → ⊥
-    free_apart f i a hf hh =
-        let home = home_of_free w f i in
-        elim (cases_lt a (end_of c)) [
-          | inl low ↦ free_last w f c a i is_c hf (omega (arith, hh.from)) low
-          | inr high ↦ chunk_apart home.chunk a home.is_chunk (record { from = omega (arith, home.from, hf.from); to = omega (arith, home.to, hf.to) }) high
-              (omega (arith, hh.to))
-        ]
+    free_apart f i = block_apart f (home_of_free w f i) (λ a h low. free_last w f c a i is_c h (omega (arith, low)))
 
     -- ---- the state with a used block more
 
