@@ -1,7 +1,7 @@
 -- A used block is made of the front of the free block that is the choice for a layout.
 use Rattle.rlsf_base.proofs.Lending.Present.{own-there}
-use Rattle.rlsf_base.specs.OpenSpace.{IsWritable, SameOwn, out_with}
-use Rattle.rlsf_base.proofs.Lending.Present.{own-word, own-inside}
+use Rattle.rlsf_base.specs.OpenSpace.{IsWritable, out_with}
+use Rattle.rlsf_base.proofs.Lending.Present.{own-inside}
 use Rattle.rlsf_base.specs.Space.{word_range}
 use Rattle.rlsf_blocks.proofs.Words.NeverOut.{here_free}
 use Rattle.std.proofs.Common.{◌≡◌, ℕ, ◌+◌, ◌-◌, ◌%◌, ◌^◌, ◌<◌, ◌≤◌, ◌⊎◌, List, ◌∷◌, ◌++◌, length, drop, Some, arith, inl, inr, refl, sym}

@@ -2,9 +2,8 @@
 use Rattle.rlsf_base.proofs.Lending.Present.{own-there}
 use Rattle.rlsf_base.specs.OpenSpace.{out_with}
 use Rattle.rlsf_base.specs.Range.{range_at}
-use Rattle.rlsf_base.proofs.Lending.Present.{own-inside, own-word}
+use Rattle.rlsf_base.proofs.Lending.Present.{own-inside}
 use Rattle.rlsf_base.specs.Space.{word_range}
-use Rattle.rlsf_base.specs.OpenSpace.{IsOwned}
 use Rattle.std.proofs.Common.{◌≡◌, ◌≢◌, ℕ, ◌+◌, ◌-◌, ◌%◌, ◌^◌, ◌<◌, ◌≤◌, ◌⊎◌, List, ◌∷◌, arith, inl, inr, refl, sym, ◌∙◌, ap}
 use Rattle.std.proofs.Common.{subst}
 use Rattle.rlsf_base.specs.declared.memory.range.Range.{Range}
@@ -14,7 +13,7 @@ use Rattle.rlsf_table.specs.Rewrites.{IsLink, Rewrites}
 use Rattle.rlsf_table.specs.FreeTable.{IsRoom}
 use Rattle.rlsf_table.specs.Table.{Table, HasTable}
 use Rattle.rlsf_table.proofs.Tables.FreeTables.{IsFreeTable-Rewrites}
-use Rattle.rlsf_table.proofs.Words.Writes.{before_links, Rewrites-trans, Rewrites-weaken, Rewrites-word, CanBeBlock-Rewrites, Writes, Writes-none, Writes-some}
+use Rattle.rlsf_table.proofs.Words.Writes.{before_links, Rewrites-trans, Rewrites-weaken, CanBeBlock-Rewrites, Writes, Writes-none, Writes-some}
 use Rattle.rlsf_table.proofs.Words.Writing.{IsWrite, write, rewrites_of, reads_of}
 use Rattle.rlsf_blocks.proofs.Words.Stays.{IsWritable-in, placed_by, placed_here, placed_then}
 use Rattle.rlsf_blocks.specs.Steps.Touched.{Touched, at_link, in_hole, at_other}

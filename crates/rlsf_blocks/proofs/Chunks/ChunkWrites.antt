@@ -1,9 +1,8 @@
 -- The writes that make a chunk.
 use Rattle.rlsf_base.proofs.Lending.Present.{own-there}
 use Rattle.rlsf_base.specs.OpenSpace.{out_with}
-use Rattle.rlsf_base.proofs.Lending.Present.{own-word, own-inside}
+use Rattle.rlsf_base.proofs.Lending.Present.{own-inside}
 use Rattle.rlsf_base.specs.Space.{word_range}
-use Rattle.rlsf_base.specs.OpenSpace.{IsOwned}
 use Rattle.std.proofs.Common.{◌≡◌, ℕ, ◌+◌, ◌-◌, ◌%◌, ◌^◌, ◌<◌, ◌≤◌, ◌⊎◌, ◌∷◌, length, arith, inl, inr, ◌∙◌, ap, subst}
 use Rattle.rlsf_base.specs.declared.memory.range.Range.{Range}
 use Rattle.rlsf_base.specs.Space.{Space, word_at, with_word}
@@ -12,7 +11,7 @@ use Rattle.rlsf_table.specs.FreeTable.{IsFreeTable, IsRoom}
 use Rattle.rlsf_table.specs.Table.{Table, HasTable}
 use Rattle.rlsf_table.proofs.Tables.FreeTables.{HasTable-Rewrites}
 use Rattle.rlsf_table.proofs.Words.Writing.{IsWrite, write, rewrites_of, reads_of}
-use Rattle.rlsf_table.proofs.Words.Writes.{before_links, Rewrites-word, Rewrites-trans, Rewrites-weaken, CanBeBlock-Rewrites}
+use Rattle.rlsf_table.proofs.Words.Writes.{before_links, Rewrites-trans, Rewrites-weaken, CanBeBlock-Rewrites}
 use Rattle.rlsf_blocks.proofs.Words.Stays.{IsPlacedAs, IsWritable-in, placed_by, placed_here, placed_then}
 use Rattle.rlsf_blocks.specs.Steps.Touched.{Touched, at_link, in_hole}
 use Rattle.rlsf_blocks.specs.InBand.{sentinel_of}

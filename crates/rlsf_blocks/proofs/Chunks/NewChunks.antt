@@ -8,7 +8,7 @@ use Rattle.rlsf_blocks.specs.Steps.Pool.{IsAdded, opened}
 use Rattle.rlsf_blocks.specs.InBand.{sentinel_of}
 use Rattle.rlsf_model.specs.Insert.{body}
 use Rattle.rlsf_model.specs.Lists.{IsIn}
-use Rattle.rlsf_model.specs.State.{State, Used}
+use Rattle.rlsf_model.specs.State.{State}
 use Rattle.rlsf_model.specs.WellFormed.{coverage, itself, IsWhole, IsWellFormed}
 use Rattle.rlsf_model.proofs.Tiling.{LiesInChunk}
 use Rattle.rlsf_blocks.specs.StandsFor.{contents, StandsFor}

@@ -6,7 +6,6 @@ use Rattle.rlsf_base.specs.declared.memory.range.Range.{Range}
 use Rattle.rlsf_base.specs.Range.{end_of, range_at}
 use Rattle.rlsf_base.specs.Space.{Space, word_at, word_range, with_word}
 use Rattle.rlsf_base.specs.OpenSpace.{out_with}
-use Rattle.rlsf_base.proofs.Lending.Present.{own-there, own-word}
 use Rattle.rlsf_model.specs.Allocate.{rest_behind}
 use Rattle.rlsf_model.specs.Lists.{IsIn}
 use Rattle.rlsf_model.specs.State.{between}

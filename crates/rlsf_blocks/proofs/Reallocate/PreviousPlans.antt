@@ -6,7 +6,7 @@ use Rattle.rlsf_base.specs.Range.{end_of, LiesIn, range_at}
 use Rattle.rlsf_base.specs.Space.{Space, bytes_in, with_bytes, with_word, word_range}
 use Rattle.rlsf_base.specs.OpenSpace.{IsHere, IsOwned, IsWritable, out_with}
 use Rattle.rlsf_base.proofs.Lending.Copied.{out_at-there}
-use Rattle.rlsf_base.proofs.Lending.Present.{own-here, own-inside, own-there, own-word}
+use Rattle.rlsf_base.proofs.Lending.Present.{own-here, own-inside}
 use Rattle.rlsf_model.specs.Join.{ends_at, start_or}
 use Rattle.rlsf_model.specs.Lists.{IsIn, without}
 use Rattle.rlsf_model.specs.Payload.{block_length, payload_of}

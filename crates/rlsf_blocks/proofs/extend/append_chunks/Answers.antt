@@ -4,7 +4,6 @@ use Rattle.std.specs.Option.{option_map}
 use Rattle.rlsf_base.specs.Space.{range_of}
 use Rattle.rlsf_model.specs.Insert.{grown}
 use Rattle.rlsf_blocks.proofs.LongerChunks.Appended.{Appends-grown, Appends-inserted, found_chunk, no_most, or_zero, some_most, Costs-cut, Costs-grown}
-use Rattle.rlsf_table.proofs.Costs.{Costs-same, Costs-within}
 use Rattle.rlsf_blocks.proofs.extend.append_chunks.Goals as goal
 
 pub extend_chunk-requires : goal.extend_chunk-requires
@@ -52,12 +51,6 @@ returns-in-Some g c =
       own = c.insert_chunks.ensures.own;
       here = c.insert_chunks.ensures.here;
     }
-
-pub returns-then-len-eq0-clause-unchanged : goal.returns-then-len-eq0-clause-unchanged
-returns-then-len-eq0-clause-unchanged g c = λ none. refl
-
-pub returns-then-len-eq0-clause-costs : goal.returns-then-len-eq0-clause-costs
-returns-then-len-eq0-clause-costs g c = Costs-within (omega arith) (Costs-same c.args.memory.now c.args.memory.now refl)
 
 pub returns : goal.returns
 returns g c =

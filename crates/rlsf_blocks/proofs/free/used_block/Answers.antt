@@ -1,5 +1,5 @@
-use Rattle.std.proofs.Common.{rules, arith, sym, ◌∙◌}
-use Rattle.rlsf_blocks.proofs.Deallocate.Addresses.{IsReadable-before, narrow_start, wide_start}
+use Rattle.std.proofs.Common.{rules, arith}
+use Rattle.rlsf_blocks.proofs.Deallocate.Addresses.{IsReadable-before, narrow_start}
 use Rattle.rlsf_model.proofs.Payloads.{IsUsed-after_start}
 use Rattle.rlsf_blocks.proofs.free.used_block.Goals as goal
 
@@ -22,12 +22,5 @@ pub returns-then-align-lt-GRANULARITY : goal.returns-then-align-lt-GRANULARITY
 returns-then-align-lt-GRANULARITY c = record {
   block = λ fllen sllen t s v (u, (i, at), is).
       (u, (i, at), is, omega (arith, narrow_start v u i at is c.if-align-lt-GRANULARITY.true));
-  counts = search rules;
-}
-
-pub returns-else-align-lt-GRANULARITY : goal.returns-else-align-lt-GRANULARITY
-returns-else-align-lt-GRANULARITY c = record {
-  block = λ fllen sllen t s v (u, (i, at), is).
-      (u, (i, at), is, sym (c.load_at.ensures.word ∙ wide_start v u i at is c.if-align-lt-GRANULARITY.false));
   counts = search rules;
 }

@@ -115,14 +115,6 @@ overflow_add-range g c =
     let room = placed-fits v.well_formed f layout.size layout.align layout.valid.aligned chosen in
     omega (arith, are.start, are.taken, room, place.1, v.well_formed.addressable)
 
-pub overflow_sub-range : goal.overflow_sub-range
-overflow_sub-range g c =
-    let (s, f, v, chosen, start) = c.requires.chosen in
-    let at = goal.at.overflow_sub-range g c in
-    let layout = c.args.layout in
-    let are = computed g at.After-front-payload (loaded g at.After-load_at-len v) f chosen start in
-    omega (arith, are.start, are.payload, are.taken, (fitting v f layout.size layout.align layout.valid.aligned chosen).before_end)
-
 pub returns-then-wide : goal.returns-then-wide
 returns-then-wide g c =
     let at = goal.at.returns-then-wide g c in

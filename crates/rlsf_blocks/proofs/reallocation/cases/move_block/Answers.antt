@@ -1,12 +1,9 @@
-use Rattle.std.proofs.Common.{◌≡◌, Some, IfNone, arith, subst}
+use Rattle.std.proofs.Common.{◌≡◌, Some, IfNone, subst}
 use Rattle.rlsf_base.specs.Addr.{reply_of}
 use Rattle.rlsf_blocks.proofs.Reallocate.Addresses.{address_some, some_reply}
 use Rattle.rlsf_blocks.specs.Steps.Resize.{IsHereStill, IsReallocated}
 use Rattle.rlsf_model.specs.Reallocate.{plan}
 use Rattle.rlsf_blocks.proofs.reallocation.cases.move_block.Goals as goal
-
-pub moved-requires : goal.moved-requires
-moved-requires g c = (omega arith, (c.requires.parameters, (c.requires.used, c.requires.whole)))
 
 pub returns-in-Some : goal.returns-in-Some
 returns-in-Some g c =
@@ -29,20 +26,4 @@ returns-in-Some g c =
       own = e.own;
       here = e.here;
       kept_here = λ s u v is first. subst (λ o. IsHereStill m n u o) same (e.kept_here s u v is first);
-    }
-
-pub returns-in-None : goal.returns-in-None
-returns-in-None g c =
-    let e = c.in-None.ensures in
-    record {
-      step = e.step;
-      refused = e.refused;
-      place = e.place;
-      touches = e.touches;
-      grow = e.grow;
-      copied = e.copied;
-      grow_copied = e.grow_copied;
-      own = e.own;
-      here = e.here;
-      kept_here = e.kept_here;
     }

@@ -36,6 +36,3 @@ pub returns-clause-done : goal.returns-clause-done
 returns-clause-done g c =
     λ s u v at own yes.
     c.resize_kept_block.ensures.done s u v (own_align at) (owned c.args.memory.now u c.args.layout.size (v.well_formed.used u at.is_used) own) yes
-
-pub returns-clause-refused : goal.returns-clause-refused
-returns-clause-refused g c = λ s u v at no. c.resize_kept_block.ensures.refused s u v (own_align at) no
