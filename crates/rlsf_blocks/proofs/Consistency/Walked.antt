@@ -66,7 +66,8 @@ module _ (fllen sllen : ℕ) (m : Space) (t : Table) (r : Range) (skipped : ℕ)
     rest_within consistent =
         let lies = row_within fllen sllen m t (walked r) consistent (omega (arith, starts, ends, less)) in (omega (arith, lies.0, starts), omega (arith, lies.1, ends))
 
-    pub IsConsistent-rest : HasHeads fllen sllen m t → SomeLayout fllen sllen m t (between (r.start + skipped) (r.start + skipped + (r.len - skipped))) → IsConsistent fllen sllen m t (walked r)
+    pub IsConsistent-rest : HasHeads fllen sllen m t → SomeLayout fllen sllen m t (between (r.start + skipped) (r.start + skipped + (r.len - skipped)))
+        → IsConsistent fllen sllen m t (walked r)
     unfolding IsConsistent
     IsConsistent-rest heads (s, v) =
         let span = between (r.start + skipped) (r.start + skipped + rest) in

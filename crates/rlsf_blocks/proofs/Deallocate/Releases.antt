@@ -126,7 +126,8 @@ module _ {fllen sllen : ℕ} {m : Space} {t : Table} {s : State} (v : StandsFor 
           let place = free_in_memory t_well_formed (union u.block s.free) (inl refl) in
           record {
             rewrites = Rewrites-weaken (Touched-joined was_free) (Rewrites-trans gone put.rewrites);
-            first = put.first ∙ before_links s.free (λ f j. (v.well_formed.free f j).whole.start) gone ((union u.block s.free).start + 8) (inr (omega (arith, is.whole.start))) (omega (arith, place.0));
+            first = put.first ∙ before_links s.free (λ f j. (v.well_formed.free f j).whole.start) gone ((union u.block s.free).start + 8)
+                (inr (omega (arith, is.whole.start))) (omega (arith, place.0));
             used_still = λ y j. old_used (IsIn-others u.payload y s.used j).0 (λ a hy hu. used_free t_well_formed y (union u.block s.free) a j (inl refl) hy hu);
             free_still = still;
             table = put.table;

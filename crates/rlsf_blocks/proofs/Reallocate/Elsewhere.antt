@@ -87,7 +87,8 @@ module _ {fllen sllen : ℕ} {memory : Range} {m : Space} {table : Table} {s t :
     pub stands : StandsFor fllen sllen (contents n table) (both bytes)
     pub spare : KeepsSpare m t n (both bytes)
 
-  module _ (l : Space) (old : Table) (first : StandsFor fllen sllen (contents l old) s) (stays : SameOwn l m) {r : Range} (is : r ≡ usable u) (n : Space) (start : n.start ≡ m.start) (copied : n.bytes ≡ with_bytes m addr (bytes_in m r))
+  module _ (l : Space) (old : Table) (first : StandsFor fllen sllen (contents l old) s) (stays : SameOwn l m) {r : Range} (is : r ≡ usable u) (n : Space)
+      (start : n.start ≡ m.start) (copied : n.bytes ≡ with_bytes m addr (bytes_in m r))
       (out : n.out ≡ out_with m (range_at addr r.len)) where
     abbrev target : Range
     target = range_at addr (usable u).len

@@ -38,7 +38,9 @@ module _ {fllen sllen : ℕ} {m : Space} {table : Table} {free : List Range} {bl
   sized_from same written out =
       let inside = inner.lies_in in
       let addressable = inner.list.addressable in
-      let can = IsWritable-in (placed_here m) (range_at span.start 16) (omega arith, omega (arith, inner.room)) inner.front block (omega (arith, inner.block.whole.start)) (omega (arith, start)) (omega (arith, start)) in
+      let can =
+      IsWritable-in (placed_here m) (range_at span.start 16) (omega arith, omega (arith, inner.room)) inner.front block (omega (arith, inner.block.whole.start))
+      (omega (arith, start)) (omega (arith, start)) in
       write can same written (omega (arith, inner.room, inner.some, part.2)) out
 
   -- no free block has an address of the span

@@ -166,7 +166,8 @@ module _ {fllen sllen : ℕ} {first m : Space} {t : Table} {s : State} {u : Used
           let low : span.start ≤ to - 8 = omega (arith, are.plan.placed, is.after_start, is.start) in
           let high : to - 8 + 8 ≤ end_of span = omega (arith, are.plan.placed, is.after_start, is.end, is.enough, fits) in
           let whole = is.wide (omega (arith, are.used.alignment)) in
-          IsWritable-in (placed_then (placed_by second) (placed_by third)) span inside inner.room.placed.own (to - 8) (omega (arith, are.plan.placed, whole, is.after_start)) low high
+          IsWritable-in (placed_then (placed_by second) (placed_by third)) span inside inner.room.placed.own (to - 8)
+          (omega (arith, are.plan.placed, whole, is.after_start)) low high
 
       pub padded : (n : Space) → 32 ≤ align → n.start ≡ m4.start → n.bytes ≡ with_word m4 (to - 8) start → n.out ≡ out_with m4 (word_range (to - 8))
           → Writes m4 n (32 ≤ align) (to - 8) start

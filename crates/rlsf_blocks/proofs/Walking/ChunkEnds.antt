@@ -47,7 +47,8 @@ module _ {fllen sllen : ℕ} {m : Space} {t : Table} {s : State} (v : StandsFor 
     -- a word is there
     pub IsReadable-chunk : IsReadable m a
     IsReadable-chunk = let placed = (v.well_formed.chunks c i).lies_in in
-        is_word m a (omega (arith, is.whole), (omega (arith, is.from, placed.0), omega (arith, is.to, placed.1)), here_walk v a (end_of c) is.at) (walk-fits v.well_formed v.sizes a (end_of c) is.at)
+        is_word m a (omega (arith, is.whole), (omega (arith, is.from, placed.0), omega (arith, is.to, placed.1)), here_walk v a (end_of c) is.at)
+        (walk-fits v.well_formed v.sizes a (end_of c) is.at)
 
     -- which is that of the chunk's sentinel, where the iteration is at the chunk's end
     pub end_there : {word : ℕ} → word ≡ word_at m a → word ≡ 35 → a + 32 ≡ end_of c

@@ -240,7 +240,8 @@ returns-then-wide g c =
     Costs-moving (omega arith)
     (Costs-then (occupied g at.After-occupy counts) (Costs-written o n pad write.start write.len write.touches write.copied write.view write.out)) in
     let (s, u, ours) = ours g at.After-take_if_free-next counts in
-    let stays = stays_moved ours copy.start copy.bytes copy.out c.occupy.ensures.step (padded ours copy.start copy.bytes copy.out c.occupy.ensures.step n wide write.start written there) in
+    let named = padded ours copy.start copy.bytes copy.out c.occupy.ensures.step n wide write.start written there in
+    let stays = stays_moved ours copy.start copy.bytes copy.out c.occupy.ensures.step named in
     record {
       moved = λ s u v used short here.
           let are = outs g at.After-take_if_free-next counts v used short here in

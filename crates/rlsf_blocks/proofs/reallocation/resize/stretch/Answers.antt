@@ -67,7 +67,8 @@ occupy-requires g c =
     let (gone, long, fits, inner) = spanned g (goal.at.occupy-requires g c).After-take_if_free-next v u at own room in
     let taken = taken_computed v u at c.args.layout.size refl c.requires.numbers.wanted in
     let parts = IsTaken-len v u at c.args.layout.size in
-    (omega arith, (c.requires.parameters, ((staying s u, span_of s u, at.start, long, inner), ((omega (arith, parts.0, taken), omega (arith, parts.1, taken), fits), search rules))))
+    let start = at.start in
+    (omega arith, (c.requires.parameters, ((staying s u, span_of s u, start, long, inner), ((omega (arith, parts.0, taken), omega (arith, parts.1, taken), fits), search rules))))
 
 pub returns : goal.returns
 returns g c =
