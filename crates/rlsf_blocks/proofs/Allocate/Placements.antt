@@ -1,11 +1,9 @@
 -- A used block is made of the front of the free block that is the choice for a layout.
-use Rattle.rlsf_base.proofs.Lending.Present.{own-there}
+use Rattle.rlsf_base.proofs.Lending.Present.{own-there, own-inside}
 use Rattle.rlsf_base.specs.OpenSpace.{IsWritable, out_with}
-use Rattle.rlsf_base.proofs.Lending.Present.{own-inside}
-use Rattle.rlsf_base.specs.Space.{word_range}
+use Rattle.rlsf_base.specs.Space.{word_range, Space, bytes_in, range_of, with_word, word_at}
 use Rattle.rlsf_blocks.proofs.Words.NeverOut.{here_free}
-use Rattle.std.proofs.Common.{◌≡◌, ℕ, ◌+◌, ◌-◌, ◌%◌, ◌^◌, ◌<◌, ◌≤◌, ◌⊎◌, List, ◌∷◌, ◌++◌, length, drop, Some, arith, inl, inr, refl, sym}
-use Rattle.std.proofs.Common.{◌∙◌, ap, subst}
+use Rattle.std.proofs.Common.{◌≡◌, ℕ, ◌+◌, ◌-◌, ◌%◌, ◌^◌, ◌<◌, ◌≤◌, ◌⊎◌, List, ◌∷◌, ◌++◌, length, drop, Some, arith, inl, inr, refl, sym, ◌∙◌, ap, subst}
 use mathlib.Core.Path.{ap₂}
 use Rattle.std.proofs.lemmas.List.{length-drop, length-take-le}
 use Rattle.std.specs.Int.{next_multiple_of}
@@ -14,7 +12,6 @@ use Rattle.rlsf_base.specs.PowerOfTwo.{IsPowerOfTwo}
 use Rattle.rlsf_base.specs.Range.{end_of, LiesIn, range_at}
 use Rattle.rlsf_base.specs.SizeClass.{class_of}
 use Rattle.rlsf_base.specs.Sizes.{request_size}
-use Rattle.rlsf_base.specs.Space.{Space, bytes_in, range_of, with_word, word_at}
 use Rattle.rlsf_table.specs.Rewrites.{CanBeBlock, Rewrites}
 use Rattle.rlsf_table.specs.Table.{Table}
 use Rattle.rlsf_table.proofs.Tables.FreeTables.{HasTable-Rewrites}

@@ -1,14 +1,10 @@
 -- Room for a free block among bytes that are no block's, and the writes that make one there.
-use Rattle.rlsf_base.proofs.Lending.Present.{own-there}
+use Rattle.rlsf_base.proofs.Lending.Present.{own-there, own-inside}
 use Rattle.rlsf_base.specs.OpenSpace.{out_with}
-use Rattle.rlsf_base.specs.Range.{range_at}
-use Rattle.rlsf_base.proofs.Lending.Present.{own-inside}
-use Rattle.rlsf_base.specs.Space.{word_range}
-use Rattle.std.proofs.Common.{◌≡◌, ◌≢◌, ℕ, ◌+◌, ◌-◌, ◌%◌, ◌^◌, ◌<◌, ◌≤◌, ◌⊎◌, List, ◌∷◌, arith, inl, inr, refl, sym, ◌∙◌, ap}
-use Rattle.std.proofs.Common.{subst}
+use Rattle.rlsf_base.specs.Range.{range_at, end_of}
+use Rattle.rlsf_base.specs.Space.{word_range, Space, word_at, with_word}
+use Rattle.std.proofs.Common.{◌≡◌, ◌≢◌, ℕ, ◌+◌, ◌-◌, ◌%◌, ◌^◌, ◌<◌, ◌≤◌, ◌⊎◌, List, ◌∷◌, arith, inl, inr, refl, sym, ◌∙◌, ap, subst}
 use Rattle.rlsf_base.specs.declared.memory.range.Range.{Range}
-use Rattle.rlsf_base.specs.Range.{end_of}
-use Rattle.rlsf_base.specs.Space.{Space, word_at, with_word}
 use Rattle.rlsf_table.specs.Rewrites.{IsLink, Rewrites}
 use Rattle.rlsf_table.specs.FreeTable.{IsRoom}
 use Rattle.rlsf_table.specs.Table.{Table, HasTable}

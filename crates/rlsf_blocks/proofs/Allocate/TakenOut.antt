@@ -1,8 +1,7 @@
 -- A free block is taken out of the list, and what is left of it behind its front is put in.
 use Rattle.rlsf_base.proofs.Lending.Present.{own-there}
 use Rattle.rlsf_blocks.proofs.Words.NeverOut.{here_behind_free}
-use Rattle.std.proofs.Common.{◌≡◌, ℕ, ◌+◌, ◌%◌, ◌<◌, ◌≤◌, ◌⊎◌, List, [], ◌∷◌, ◌++◌, cond, filter, arith, inl, inr, sym}
-use Rattle.std.proofs.Common.{◌∙◌, ap, subst}
+use Rattle.std.proofs.Common.{◌≡◌, ℕ, ◌+◌, ◌%◌, ◌<◌, ◌≤◌, ◌⊎◌, List, [], ◌∷◌, ◌++◌, cond, filter, arith, inl, inr, sym, ◌∙◌, ap, subst}
 use Rattle.std.proofs.lemmas.Bool.{le-ltb, lt-ltb}
 use Rattle.rlsf_base.specs.declared.memory.range.Range.{Range}
 use Rattle.rlsf_base.specs.Range.{end_of, range_at}
@@ -25,8 +24,7 @@ use Rattle.rlsf_blocks.proofs.Words.Apart.{free_in_memory}
 use Rattle.rlsf_blocks.proofs.RepresentedStates.FreeBlocks.{CanBeBlock-free, IsFreeTable-free}
 use Rattle.rlsf_blocks.proofs.Allocate.Rests.{IsInnerRoom-part, IsSpanRoom-inner}
 use Rattle.rlsf_model.proofs.Changes.{IsIn-rest_behind}
-use Rattle.rlsf_model.proofs.Coverage.{covers-inside, coverage-append, coverage-IsIn, find-some, IsIn-append, IsIn-append_left}
-use Rattle.rlsf_model.proofs.Coverage.{IsIn-append_right}
+use Rattle.rlsf_model.proofs.Coverage.{covers-inside, coverage-append, coverage-IsIn, find-some, IsIn-append, IsIn-append_left, IsIn-append_right}
 
 module _ {fllen sllen : ℕ} {m : Space} {table : Table} {s : State} {f : Range} {block len taken : ℕ} (v : StandsFor fllen sllen (contents m table) s)
     (take : IsTaken sllen s f block len taken) where

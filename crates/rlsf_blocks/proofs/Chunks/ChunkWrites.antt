@@ -1,11 +1,9 @@
 -- The writes that make a chunk.
-use Rattle.rlsf_base.proofs.Lending.Present.{own-there}
+use Rattle.rlsf_base.proofs.Lending.Present.{own-there, own-inside}
 use Rattle.rlsf_base.specs.OpenSpace.{out_with}
-use Rattle.rlsf_base.proofs.Lending.Present.{own-inside}
-use Rattle.rlsf_base.specs.Space.{word_range}
+use Rattle.rlsf_base.specs.Space.{word_range, Space, word_at, with_word}
 use Rattle.std.proofs.Common.{◌≡◌, ℕ, ◌+◌, ◌-◌, ◌%◌, ◌^◌, ◌<◌, ◌≤◌, ◌⊎◌, ◌∷◌, length, arith, inl, inr, ◌∙◌, ap, subst}
 use Rattle.rlsf_base.specs.declared.memory.range.Range.{Range}
-use Rattle.rlsf_base.specs.Space.{Space, word_at, with_word}
 use Rattle.rlsf_table.specs.Rewrites.{IsLink, CanBeBlock, Rewrites}
 use Rattle.rlsf_table.specs.FreeTable.{IsFreeTable, IsRoom}
 use Rattle.rlsf_table.specs.Table.{Table, HasTable}

@@ -1,17 +1,13 @@
 -- The writes that make a chunk longer: the value represents the state with a used block more, and then for that of the grown chunk.
-use Rattle.rlsf_base.proofs.Lending.Present.{own-there}
-use Rattle.rlsf_base.specs.OpenSpace.{out_with}
-use Rattle.rlsf_base.proofs.Lending.Present.{own-inside}
-use Rattle.rlsf_base.specs.Space.{word_range}
-use Rattle.rlsf_base.specs.OpenSpace.{IsOwned}
+use Rattle.rlsf_base.proofs.Lending.Present.{own-there, own-inside}
+use Rattle.rlsf_base.specs.OpenSpace.{out_with, IsOwned}
+use Rattle.rlsf_base.specs.Space.{word_range, Space, bytes_in, range_of, with_word, word_at}
 use Rattle.rlsf_blocks.proofs.Words.NeverOut.{here_longer}
-use Rattle.std.proofs.Common.{◌≡◌, ℕ, ◌+◌, ◌-◌, ◌%◌, ◌^◌, ◌<◌, ◌≤◌, ◌⊎◌, List, ◌∷◌, length, arith, inl, inr, refl, sym, ◌∙◌, ap}
-use Rattle.std.proofs.Common.{subst}
+use Rattle.std.proofs.Common.{◌≡◌, ℕ, ◌+◌, ◌-◌, ◌%◌, ◌^◌, ◌<◌, ◌≤◌, ◌⊎◌, List, ◌∷◌, length, arith, inl, inr, refl, sym, ◌∙◌, ap, subst}
 use mathlib.Core.Path.{ap₂}
 use Rattle.std.proofs.lemmas.Bool.{cases_lt}
 use Rattle.rlsf_base.specs.declared.memory.range.Range.{Range}
 use Rattle.rlsf_base.specs.Range.{end_of, range_at}
-use Rattle.rlsf_base.specs.Space.{Space, bytes_in, range_of, with_word, word_at}
 use Rattle.rlsf_model.specs.Insert.{grown}
 use Rattle.rlsf_model.specs.Join.{ends_at}
 use Rattle.rlsf_model.specs.Lists.{IsIn, without}

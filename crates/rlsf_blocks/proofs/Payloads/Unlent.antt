@@ -9,7 +9,7 @@ use Rattle.rlsf_base.specs.Space.{Space, byte_at, bytes_in, range_of, word_at, w
 use Rattle.rlsf_model.specs.Lists.{IsIn}
 use Rattle.rlsf_model.specs.State.{State, Used, usable}
 use Rattle.rlsf_model.specs.WellFormed.{coverage, covers, IsUsed, IsWellFormed}
-use Rattle.rlsf_blocks.specs.StandsFor.{IsUnlent}
+use Rattle.rlsf_blocks.specs.StandsFor.{IsUnlent, contents, StandsFor}
 use Rattle.rlsf_base.specs.Out.{is_own}
 use Rattle.rlsf_base.proofs.Lending.WordIsHere.{word_at-kept}
 use Rattle.rlsf_model.proofs.Coverage.{IsIn-map, IsIn-map_from}
@@ -20,7 +20,6 @@ use Rattle.rlsf_table.proofs.FreeLists.Chains.{Links-same}
 use Rattle.rlsf_table.proofs.FreeLists.Classes.{IsIn-of_class}
 use Rattle.rlsf_blocks.specs.InBand.{sentinel_of, HasSizes, HasPrevious, HasPayloads}
 use Rattle.rlsf_blocks.specs.Laws.{DiffersInPayloads, read_from, with_bytes_of, WordsReadNoPayload}
-use Rattle.rlsf_blocks.specs.StandsFor.{contents, StandsFor}
 use Rattle.rlsf_blocks.proofs.Words.Apart.{Has, used_free, used_used, used_last, chunk_chunk, home_of_used, free_in_memory, used_in_memory}
 
 -- ---- equal bytes make equal words

@@ -1,6 +1,5 @@
 -- Which plan a used block's new size has, where its own bytes and those of a free block behind it suffice.
-use Rattle.std.proofs.Common.{◌≡◌, ◌≢◌, ℕ, ◌-◌, ◌<◌, ◌≤◌, cond, List, [], ◌∷◌, ◌++◌, Option, Some, None, find, arith, inl, inr, sym}
-use Rattle.std.proofs.Common.{◌∙◌, ap}
+use Rattle.std.proofs.Common.{◌≡◌, ◌≢◌, ℕ, ◌-◌, ◌<◌, ◌≤◌, cond, List, [], ◌∷◌, ◌++◌, Option, Some, None, find, arith, inl, inr, sym, ◌∙◌, ap}
 use mathlib.Core.Path.{ap₂}
 use Rattle.std.proofs.lemmas.Bool.{cases_lt, eqb-true, le-leb, lt-leb, le-ltb, lt-ltb}
 use Rattle.rlsf_base.specs.declared.memory.range.Range.{Range}

@@ -1,11 +1,8 @@
 -- A new value represents the empty state.
-use Rattle.std.proofs.Common.{◌≡◌}
+use Rattle.std.proofs.Common.{◌≡◌, true, ◌≤◌, ℕ, ◌+◌, ◌^◌, ◌<◌, [], length}
 use Rattle.rlsf_base.specs.Out.{is_own}
-use Rattle.rlsf_base.specs.Space.{out_at}
-use Rattle.std.proofs.Common.{true, ◌≤◌}
-use Rattle.std.proofs.Common.{ℕ, ◌+◌, ◌^◌, ◌<◌, [], length}
+use Rattle.rlsf_base.specs.Space.{out_at, Space, range_of}
 use Rattle.rlsf_base.specs.SizeClass.{IsValid}
-use Rattle.rlsf_base.specs.Space.{Space, range_of}
 use Rattle.rlsf_model.specs.State.{empty}
 use Rattle.rlsf_table.specs.Table.{Table, HasTable}
 use Rattle.rlsf_table.proofs.Tables.RowLengths.{row_length-bounds}

@@ -1,5 +1,4 @@
-use Rattle.std.proofs.Common.{◌≡◌, ◌-◌, ◌∙◌, arith, inl, refl, rules, ap}
-use Rattle.std.proofs.Common.{ℕ, ◌+◌, ◌%◌, ◌≤◌}
+use Rattle.std.proofs.Common.{◌≡◌, ◌-◌, ◌∙◌, arith, inl, refl, rules, ap, ℕ, ◌+◌, ◌%◌, ◌≤◌}
 use Rattle.rlsf_base.specs.declared.memory.range.Range.{Range}
 use Rattle.rlsf_base.specs.Range.{end_of}
 use Rattle.rlsf_base.specs.Space.{Space, range_of, with_word}

@@ -1,7 +1,6 @@
-use Rattle.std.proofs.Common.{sym, ◌∙◌}
+use Rattle.std.proofs.Common.{sym, ◌∙◌, Some}
 use Rattle.std.proofs.lemmas.Bool.{eq-eqb, eqb-true}
 use mathlib.Core.Path.{ap₂}
-use Rattle.std.proofs.Common.{Some}
 use Rattle.rlsf_table.proofs.Tables.RowLengths.{row_length-bounds}
 use Rattle.rlsf_blocks.proofs.Consistency.Classes.{IsClassAt-same, map_floor-some}
 use Rattle.rlsf_blocks.proofs.consistency_check.heads.has_class.Goals as goal

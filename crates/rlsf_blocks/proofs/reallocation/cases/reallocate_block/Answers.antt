@@ -3,8 +3,7 @@ use Rattle.rlsf_base.specs.Addr.{reply_of}
 use Rattle.rlsf_blocks.specs.Steps.Resize.{IsHereStill, IsReallocated}
 use Rattle.rlsf_base.proofs.Lending.Present.{here-same, own-here}
 use Rattle.rlsf_model.specs.State.{usable}
-use Rattle.rlsf_blocks.proofs.Reallocate.FirstPlan.{IsReallocated-counted_first, IsReallocated-planned, plan-stays}
-use Rattle.rlsf_blocks.proofs.Reallocate.FirstPlan.{StandsFor-unchanged}
+use Rattle.rlsf_blocks.proofs.Reallocate.FirstPlan.{IsReallocated-counted_first, IsReallocated-planned, plan-stays, StandsFor-unchanged}
 use Rattle.std.proofs.lemmas.Option.{none-some}
 use Rattle.rlsf_blocks.proofs.Counting.{SamePlace-counted_first, copied-more, grow-counted_first, grow_copied-counted_first, grow_copied-same, touches-counted_first, touches-more}
 use Rattle.rlsf_blocks.proofs.Refused.{none_more}
