@@ -4,11 +4,10 @@ use Rattle.rlsf_base.specs.Ledger.{Entry}
 use Rattle.rlsf_base.specs.Changes.{IsAllOwn}
 use Rattle.rlsf_base.specs.Out.{is_own, kept_at}
 use Rattle.rlsf_base.specs.SizeClass.{IsValid}
-use Rattle.rlsf_base.specs.Space.{Space, range_of}
+use Rattle.rlsf_base.specs.Space.{Space}
 use Rattle.rlsf_model.specs.Lists.{IsIn}
 use Rattle.rlsf_model.specs.Sized.{live_count}
 use Rattle.rlsf_model.specs.State.{State, Used}
-use Rattle.rlsf_model.specs.WellFormed.{IsWellFormed}
 use Rattle.rlsf_table.specs.Table.{Table}
 use Rattle.rlsf_blocks.specs.Laws.{read_from}
 use Rattle.rlsf_blocks.specs.StandsFor.{contents, StandsFor}
@@ -30,10 +29,6 @@ module _ {fl_bits sl_bits fllen sllen : ℕ} {m : Space} {x : Table} {s : State}
   -- the ghost state of a heap is its state without bytes
   pub bare-kept : bare (read_from m s) ≡ s
   bare-kept = bare-read_from m s ∙ is.is_bare
-
-  -- the state that contracts see is well-formed
-  pub view_well_formed : {ledger : ℕ} (v : HeapView) → heap_view m x s ledger ≡ v → IsWellFormed fllen sllen (range_of v.memory) v.state
-  view_well_formed v view = subst (λ (o : HeapView). IsWellFormed fllen sllen (range_of o.memory) o.state) view is.stands.well_formed
 
   -- memory and class table represent it
   pub Stands-view : {ledger : ℕ} (v : HeapView) → heap_view m x s ledger ≡ v → Stands fllen sllen v
@@ -67,12 +62,6 @@ module _ {fllen sllen : ℕ} {n : Space} {x : Table} {t : State} (v : StandsFor 
   pub Stands-arrived : (ledger : ℕ) → Stands fllen sllen (heap_view n x reached ledger)
   unfolding Stands
   Stands-arrived ledger = stands
-
-  -- a step to it, from the state that contracts see
-  pub stepped : (m : Space) (s : State) (old : HeapView) {y : Table} {ledger : ℕ} → heap_view m y s ledger ≡ old → (step : State → State → Type 0)
-      → step (read_from m s) t
-      → step old.state (read_from n reached)
-  stepped m s old view step is = subst (λ (o : HeapView). step o.state (read_from n reached)) view (subst (step (read_from m s)) (sym (arrived v reached e)) is)
 
   pub Steps-arrived : (ledger : ℕ) (step : State → Type 0) → step (read_from n reached) → Steps fllen sllen (heap_view n x reached ledger) step
   unfolding Steps

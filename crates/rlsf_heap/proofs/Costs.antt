@@ -1,10 +1,7 @@
 -- What a call leaves of a heap: which one it is, where its memory is, and how many word accesses were counted.
-use Rattle.std.proofs.Common.{◌≡◌, ℕ, ◌+◌, ◌≤◌, List, length, arith, refl, ap, ◌∙◌}
-use Rattle.rlsf_base.specs.declared.memory.range.Range.{Range}
-use Rattle.rlsf_base.specs.Ledger.{Entry}
+use Rattle.std.proofs.Common.{◌≡◌, ℕ, ◌+◌, ◌≤◌, length, arith, refl, ap, ◌∙◌}
 use Rattle.rlsf_base.specs.Space.{Space}
 use Rattle.rlsf_table.specs.Counts.{Costs, Counts}
-use Rattle.rlsf_heap.specs.Handover.{IsHandedOver}
 use Rattle.rlsf_heap.specs.Heap.{HeapView, IsWritten, PayloadView}
 use Rattle.rlsf_heap.specs.Replies.{IsReturned}
 
@@ -34,10 +31,6 @@ left_costs is = record { start = is.start; length = is.length; view = is.view; t
 
 pub left_same : {m n : Space} → n.start ≡ m.start → length n.bytes ≡ length m.bytes → n.view ≡ m.view → n.touches ≡ m.touches → Leaves m n 0
 left_same start long view touches = record { start = start; length = long; view = view; touches = omega (arith, touches); grow = omega (arith, touches) }
-
--- a payload left the memory, or came back
-pub left_over : {m n : Space} {r : Range} {wide ledger : ℕ} {es fs : List Entry} {p : PayloadView} → IsHandedOver m n r wide ledger es fs p → Leaves m n 0
-left_over is = left_same is.start (ap length is.bytes) is.view is.touches
 
 -- a payload that goes back to its caller at once is as it was
 pub returned_same : (v : HeapView) (p : PayloadView) → IsWritten p → IsReturned v.state v.state p.start p p

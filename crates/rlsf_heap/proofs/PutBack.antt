@@ -1,5 +1,5 @@
 -- A payload is back with its values: the memory represents the state in which it has these bytes.
-use Rattle.std.proofs.Common.{eqb, cond, ◌≡◌, ◌≤◌, ℕ, ◌-◌, map, List, [], ◌∷◌, length, arith, inl, inr, refl, sym, ap, ◌∙◌}
+use Rattle.std.proofs.Common.{eqb, cond, ◌≡◌, ◌≤◌, ℕ, ◌-◌, List, [], ◌∷◌, length, arith, inl, inr, refl, sym, ap, ◌∙◌}
 use Rattle.std.specs.Prelude.{not}
 use Rattle.rlsf_base.specs.Ledger.{Entry}
 use Rattle.rlsf_base.specs.OpenSpace.{IsBeside, IsHere, out_with}
@@ -19,16 +19,7 @@ use Rattle.rlsf_blocks.specs.Spare.{KeepsSpare}
 use Rattle.rlsf_blocks.specs.StandsFor.{contents, StandsFor}
 use Rattle.rlsf_blocks.proofs.Payloads.Filled.{IsSameOutside, filled_in}
 use Rattle.rlsf_blocks.proofs.Words.Apart.{used_in_memory}
-use Rattle.rlsf_tlsf.specs.Steps.Moves.{bare, bare_used}
 use Rattle.rlsf_heap.specs.Heap.{AreIssued}
-
--- the ghost state is the same for any bytes of payloads
-pub bare-reread : (n : Space) (s : State) → bare (read_from n s) ≡ bare s
-bare-reread n s = ap (λ (used : List Used). record { chunks = s.chunks; used = used; free = s.free }) (go s.used)
-  where
-    go : (used : List Used) → map bare_used (map (with_bytes_of n) used) ≡ map bare_used used
-    go [] = refl
-    go (u ∷ us) = ap (λ l. bare_used u ∷ l) (go us)
 
 -- the other used blocks are unchanged
 pub others-filled : (addr : ℕ) (bytes : List ℕ) (us : List Used) → others addr (filled_at addr bytes us) ≡ others addr us

@@ -1,28 +1,16 @@
 -- Reallocation as contracts see it: a payload is back in the memory, and has another size or is unchanged.
-use Rattle.std.proofs.Common.{◌≡◌, ℕ, ◌%◌, ◌≤◌, List, Some, sym, subst}
+use Rattle.std.proofs.Common.{◌≡◌, ℕ, List, Some, sym, subst}
 use Rattle.rlsf_base.specs.Ledger.{Entry}
 use Rattle.rlsf_base.specs.Piece.{Piece}
 use Rattle.rlsf_base.specs.Space.{Space}
 use Rattle.rlsf_model.specs.NoMove.{unmoved_plan}
-use Rattle.rlsf_model.specs.Reallocate.{HasRoomToStay, Plan, Reallocates, in_place, into_next, or_else}
+use Rattle.rlsf_model.specs.Reallocate.{HasRoomToStay, Plan, in_place, into_next, or_else}
 use Rattle.rlsf_model.specs.State.{State, Used}
 use Rattle.rlsf_model.proofs.Changes.{Holds-unique}
-use Rattle.rlsf_model.specs.Sized.{IsSizedFor, live_count}
 use Rattle.rlsf_table.specs.Table.{Table}
 use Rattle.rlsf_blocks.specs.Laws.{read_from}
 use Rattle.rlsf_heap.specs.Heap.{HeapView, PayloadView, heap_view, payload_view}
-use Rattle.rlsf_heap.specs.Reallocation.{owned_by}
-use Rattle.rlsf_heap.proofs.Reallocated.{SeesReallocated}
 use Rattle.rlsf_heap.proofs.Reallocating.{IsBackIn, block, held_before, old_block, state}
-
--- a payload has another size, at a new address or at its own
-pub record SeesChanged (sllen : ℕ) (old : HeapView) (pay : PayloadView) (now : State) (size to : ℕ) : Type 0 where
-  pub did : Reallocates sllen (owned_by old.state pay) pay.start size (Some to) now
-  pub seen : SeesReallocated old.state now pay.start pay.bytes size pay.align to
-  pub aligned : to % pay.align ≡ 0
-  pub count : live_count now ≡ live_count old.state
-  pub bounds : (most longest widest : ℕ) → IsSizedFor sllen most longest widest old.state → size ≤ longest → pay.align ≤ widest → IsSizedFor sllen most longest widest now
-  pub chunks : now.chunks ≡ old.state.chunks
 
 module _ {fllen sllen : ℕ} {m n : Space} {x : Table} (k : State) {es : List Entry} {key align : ℕ} {p : Piece} (b : IsBackIn fllen sllen m n x (read_from m k) es key p align)
     (old : HeapView) {ledger : ℕ} (view : heap_view m x k ledger ≡ old) (pay : PayloadView) {mark : ℕ} (is : payload_view p align mark ≡ pay) where

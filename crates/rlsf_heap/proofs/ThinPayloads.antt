@@ -1,16 +1,15 @@
 -- Payloads that are known by their address.
-use Rattle.std.proofs.Common.{◌≡◌, ◌≢◌, ℕ, ◌+◌, ◌≤◌, set, false, List, length, Some, arith, inl, refl, sym, ap, subst, ◌∙◌}
-use Rattle.rlsf_base.specs.Ledger.{Entry, Extent, IsIssued, entry_of, extent}
+use Rattle.std.proofs.Common.{◌≡◌, ◌≢◌, ℕ, ◌+◌, List, length, Some, arith, inl, refl, sym, ap, subst, ◌∙◌}
+use Rattle.rlsf_base.specs.Ledger.{Entry, Extent, IsIssued, extent}
 use Rattle.rlsf_base.specs.declared.memory.ledger.Ticket.{Ticket}
 use Rattle.rlsf_base.specs.declared.memory.range.Range.{Range}
 use Rattle.rlsf_base.specs.declared.memory.view.View.{View}
-use Rattle.rlsf_base.specs.OpenSpace.{Home, IsOwned, home_of, out_raw}
-use Rattle.rlsf_base.specs.Piece.{CanCome, Piece, piece_range}
+use Rattle.rlsf_base.specs.OpenSpace.{Home, home_of}
+use Rattle.rlsf_base.specs.Piece.{CanCome, Piece}
 use Rattle.rlsf_base.specs.Range.{range_at}
 use Rattle.rlsf_base.specs.Space.{Space}
 use Rattle.rlsf_model.specs.Allocate.{Allocates, placed}
 use Rattle.rlsf_model.specs.Lists.{IsIn}
-use Rattle.rlsf_model.specs.Release.{released}
 use Rattle.rlsf_model.specs.State.{State, Used, Holds, usable}
 use Rattle.rlsf_model.proofs.Payloads.{IsUsed-after_start}
 use Rattle.rlsf_table.specs.Table.{Table}
@@ -38,9 +37,6 @@ shown p = extent p.start (length p.bytes) p.align
 abbrev pub IsTicketFor : PayloadView → Ticket → Type 0
 IsTicketFor p t = (t.name ≡ p.identity.ledger) × (t.addr ≡ p.start) × (t.len ≡ length p.bytes) × (t.align ≡ p.align)
 
-shows : (p : PayloadView) (t : Ticket) → IsTicketFor p t → extent t.addr t.len t.align ≡ shown p
-shows p t is = λ i. extent (is.1 i) (is.2 i) (is.3 i)
-
 module _ {fllen sllen : ℕ} {m : Space} {table : Table} {s : State} {entries : List Entry} (v : StandsFor fllen sllen (contents m table) s) (tickets : AreIssued s entries)
     (of : PayloadView) (addr key : ℕ) (same : of.start ≡ addr) (known : IsIssued entries key (shown of)) where
   -- the payload's block
@@ -49,14 +45,6 @@ module _ {fllen sllen : ℕ} {m : Space} {table : Table} {s : State} {entries : 
 
   pub held : Holds s addr block
   held = let h = R.holds v tickets key (bytes_of of) of.align known in (h.0, h.1 ∙ same)
-
-  -- it lies in the memory
-  pub inside : m.start ≤ of.start
-  inside = (R.lies v tickets key (bytes_of of) of.align known).0
-
-  -- it was allocated with this alignment
-  pub wide : block.align ≡ of.align
-  wide = (R.found v tickets key (bytes_of of) of.align known).4
 
   pub live_in : IsLiveIn m addr
   live_in = (fllen, sllen, contents m table, s, refl, v, (block, held))
@@ -82,32 +70,6 @@ module _ {fllen sllen : ℕ} {m : Space} {table : Table} {s : State} {entries : 
       → n ≡ record m { touches = m.touches + 3 } → (view : View) → view ≡ n.view → (r : Range) → AtEachBlock m addr (λ u. r ≡ usable u) → CanCome q view r
   comes_found h home heap p same q bytes =
       comes (subst IsWhole same bytes.1) (ap (λ (i : Identity). i.home) heap ∙ sym home) q (bytes.0 ∙ ap bytes_of same)
-
-  module _ (n : Space) (touched : n ≡ record m { touches = m.touches + 3 }) (q : Piece) (one : q ≡ bytes_of of) (o : Space) (start : o.start ≡ n.start)
-      (bytes : o.bytes ≡ n.bytes)
-      (out : o.out ≡ out_raw n (piece_range q)) where
-    pub start_is : o.start ≡ m.start
-    start_is = start ∙ ap (λ (x : Space). x.start) touched
-
-    pub bytes_are : o.bytes ≡ m.bytes
-    bytes_are = bytes ∙ ap (λ (x : Space). x.bytes) touched
-
-    pub gone : o.out ≡ out_raw m (payload_range of)
-    gone = out ∙ ap (λ (x : Piece). out_raw n (piece_range x)) one ∙ ap (λ (x : Space). out_raw x (payload_range of)) touched
-
-    -- with its bytes back, the memory represents the same state
-    pub back : StandsFor fllen sllen (contents o table) s
-    back = R.stands-back v tickets key (bytes_of of) of.align known o start_is bytes_are gone
-
-    pub own : IsOwned o (usable block)
-    own = R.back-here v tickets key (bytes_of of) of.align known o start_is bytes_are gone
-
-  -- its ticket is redeemed
-  pub left : (t : Ticket) → IsTicketFor of t → t.key ≡ key → (fs : List Entry) → fs ≡ set entries t.key (entry_of (extent t.addr t.len t.align) false)
-      → AreIssued (released s block) fs
-  left t is at fs redeemed =
-      let gone : set entries key (entry_of (shown of) false) ≡ fs = (λ i. set entries (sym at i) (entry_of (sym (shows of t is) i) false)) ∙ sym redeemed in
-      subst (AreIssued (released s block)) gone (R.issued-released v tickets key (bytes_of of) of.align known)
 
 -- an address that isn't 0 is a reply
 pub reply_some : (n : ℕ) → n ≢ 0 → Some n ≡ reply_of n
