@@ -2,17 +2,18 @@
 use Rattle.std.proofs.Common.{◌≡◌, ◌≢◌, ℕ, ◌<◌, ◌≤◌, List, length, min, take, drop, Option, Some, None, IsSome, arith}
 use Rattle.std.proofs.Common.{length-drop, true≢false, refl, sym, ◌∙◌, ap, subst}
 use Rattle.std.proofs.lemmas.List.{length-append, take_all, take_at}
+use Rattle.rlsf_base.specs.declared.memory.range.Range.{Range}
 use Rattle.rlsf_base.specs.Space.{Space, SamePlace}
 use Rattle.rlsf_model.specs.Allocate.{Allocates}
 use Rattle.rlsf_model.specs.Callers.{align_at, bytes_at, copied_over}
 use Rattle.rlsf_model.specs.NoMove.{ReallocatesUnmovedBy, ReallocatesWithoutMove, unmoved_plan}
-use Rattle.rlsf_model.specs.Reallocate.{HasRoomToStay, Keeps, Plan, Reallocates}
+use Rattle.rlsf_model.specs.Reallocate.{HasRoomToStay, Keeps, Plan}
 use Rattle.rlsf_model.specs.Release.{Deallocates}
 use Rattle.rlsf_model.specs.Run.{allocate, deallocate, fill, Fills}
 use Rattle.rlsf_model.specs.State.{State, Used, with_front}
-use Rattle.rlsf_model.proofs.CallerWords.{SeesResized, align_at-held, bytes_at-held, resized_seen}
+use Rattle.rlsf_model.specs.WellFormed.{IsWellFormed}
+use Rattle.rlsf_model.proofs.CallerWords.{bytes_at-held}
 use Rattle.rlsf_model.proofs.Changes.{Holds-unique}
-use Rattle.rlsf_model.proofs.NoMove.{unmoved_is_reallocated}
 use Rattle.rlsf_model.proofs.Payloads.{usable-short}
 use Rattle.rlsf_blocks.specs.Spare.{KeepsSpare}
 use Rattle.rlsf_blocks.proofs.RepresentedStates.SpareBytes.{KeepsSpare-trans}
@@ -44,11 +45,7 @@ length-front n old new is short =
 
 -- ---- it stays
 
-module _ (fllen sllen : ℕ) (old new : Allocator) (addr size : ℕ) (stands : Stands fllen sllen old)
-    (did : Steps fllen sllen old new (ReallocatesWithoutMove old.state addr size (Some addr))) where
-  pub stay : ReallocatesWithoutMove old.state addr size (Some addr) new.state
-  stay = (opened fllen sllen old new (ReallocatesWithoutMove old.state addr size (Some addr)) did).0
-
+module _ (fllen sllen : ℕ) (old new : Allocator) (addr size : ℕ) (did : Steps fllen sllen old new (ReallocatesWithoutMove old.state addr size (Some addr))) where
   pub stayed : (align : ℕ) → Steps fllen sllen old new (ReallocatesAnyAlign sllen old.state addr size align (Some addr))
   stayed align =
       let (step, after, spare) = opened fllen sllen old new (ReallocatesWithoutMove old.state addr size (Some addr)) did in
@@ -59,54 +56,43 @@ module _ (fllen sllen : ℕ) (old new : Allocator) (addr size : ℕ) (stands : S
       go u None did = absurd did
       go u (Some p) did = did
 
-  pub stay_reached : Reallocates sllen old.state addr size (Some addr) new.state
-  stay_reached = (unmoved_is_reallocated sllen old.state new.state addr size (Some addr) stay).0.1
-
-  -- the alignment is the one before
-  abbrev pub stay_align : ℕ
-  stay_align = stay.block.align
-
-  pub stay_was : align_at old.state addr ≡ Some stay_align
-  stay_was = align_at-held (well_formed old stands) addr stay.block stay.holds
-
-  pub stay_seen : SeesResized old.state new.state addr size stay_align addr
-  stay_seen = resized_seen (well_formed old stands) new.state addr size stay_align addr (stay.block, stay.holds, refl) stay_reached
-
 -- ---- it can't stay
 
-module _ (fllen sllen : ℕ) (old mid : Allocator) (addr size : ℕ) (stands : Stands fllen sllen old)
-    (no : Steps fllen sllen old mid (ReallocatesWithoutMove old.state addr size None)) where
-  denied : ReallocatesWithoutMove old.state addr size None mid.state
-  denied = (opened fllen sllen old mid (ReallocatesWithoutMove old.state addr size None) no).0
-
-  denied_by : (unmoved_plan old.state denied.block size ≡ None) × (mid.state ≡ old.state)
-  denied_by = go (unmoved_plan old.state denied.block size) refl denied.step
+module _ {fllen sllen : ℕ} {memory : Range} {s t : State} {addr size : ℕ} (w : IsWellFormed fllen sllen memory s) (no : ReallocatesWithoutMove s addr size None t) where
+  denied_by : (unmoved_plan s no.block size ≡ None) × (t ≡ s)
+  denied_by = go (unmoved_plan s no.block size) refl no.step
     where
-      go : (o : Option Plan) → unmoved_plan old.state denied.block size ≡ o → ReallocatesUnmovedBy old.state denied.block o None mid.state
-          → (unmoved_plan old.state denied.block size ≡ None) × (mid.state ≡ old.state)
+      go : (o : Option Plan) → unmoved_plan s no.block size ≡ o → ReallocatesUnmovedBy s no.block o None t → (unmoved_plan s no.block size ≡ None) × (t ≡ s)
       go None e did = (e, did)
       go (Some p) e did = absurd did
 
+  -- its bytes are too few
+  pub denied_short : length (bytes_at s addr) < size
+  denied_short =
+      let short = usable-short w no.block no.holds.0 size (in_place-none s no.block size denied_by.0) in
+      omega (arith, ap length (bytes_at-held w addr no.block no.holds), (w.used no.block no.holds.0).bytes, short)
+
+  pub no_room_to_stay : HasRoomToStay s addr size → ⊥
+  no_room_to_stay (u, p, holds, plan) =
+      let one : u ≡ no.block = Holds-unique w addr u no.block holds no.holds in
+      let some : unmoved_plan s no.block size ≡ Some p = subst (λ x. unmoved_plan s x size ≡ Some p) one plan in
+      let none = denied_by.0 in
+      absurd (cc)
+
+module _ (fllen sllen : ℕ) (old mid : Allocator) (addr size : ℕ) (stands : Stands fllen sllen old)
+    (no : Steps fllen sllen old mid (ReallocatesWithoutMove old.state addr size None)) where
+  pub denied : ReallocatesWithoutMove old.state addr size None mid.state
+  denied = (opened fllen sllen old mid (ReallocatesWithoutMove old.state addr size None) no).0
+
+  none_by : unmoved_plan old.state denied.block size ≡ None
+  none_by = (denied_by (well_formed old stands) denied).0
+
   -- nothing has changed
   pub denied_same : mid.state ≡ old.state
-  denied_same = denied_by.1
+  denied_same = (denied_by (well_formed old stands) denied).1
 
   held_bytes : bytes_at old.state addr ≡ denied.block.bytes
   held_bytes = bytes_at-held (well_formed old stands) addr denied.block denied.holds
-
-  -- its bytes are too few
-  pub denied_short : length (bytes_at old.state addr) < size
-  denied_short =
-      let w = well_formed old stands in
-      let short = usable-short w denied.block denied.holds.0 size (in_place-none old.state denied.block size denied_by.0) in
-      omega (arith, ap length held_bytes, (w.used denied.block denied.holds.0).bytes, short)
-
-  pub no_room_to_stay : HasRoomToStay old.state addr size → ⊥
-  no_room_to_stay (u, p, holds, plan) =
-      let one : u ≡ denied.block = Holds-unique (well_formed old stands) addr u denied.block holds denied.holds in
-      let some : unmoved_plan old.state denied.block size ≡ Some p = subst (λ x. unmoved_plan old.state x size ≡ Some p) one plan in
-      let none = denied_by.0 in
-      absurd (cc)
 
   -- and nothing is allocated
   pub denied_everywhere : (after : Allocator) (align : ℕ) → SamePlace old.memory mid.memory → Steps fllen sllen mid after (Allocates sllen mid.state size align None)
@@ -117,7 +103,7 @@ module _ (fllen sllen : ℕ) (old mid : Allocator) (addr size : ℕ) (stands : S
       let refused : Allocates sllen old.state size align None after.state = subst (λ s. Allocates sllen s size align None after.state) denied_same step in
       let spare = KeepsSpare-trans fllen sllen old.memory mid.memory after.memory old.state mid.state after.state (allocate size align None) (λ x. x) place step first second in
       closed fllen sllen old after (ReallocatesAnyAlign sllen old.state addr size align None) (
-        record { block = denied.block; holds = denied.holds; step = subst (λ o. ResizesBy sllen old.state denied.block size align o None after.state) (sym denied_by.0) refused },
+        record { block = denied.block; holds = denied.holds; step = subst (λ o. ResizesBy sllen old.state denied.block size align o None after.state) (sym none_by) refused },
         stood,
         spare,
       )
@@ -142,7 +128,7 @@ module _ (fllen sllen : ℕ) (old mid : Allocator) (addr size : ℕ) (stands : S
         } in
         let moves : MovesTo sllen old.state denied.block.payload (length denied.block.bytes) size align to new.state =
         subst (λ a. MovesTo sllen old.state a (length denied.block.bytes) size align to new.state) (sym denied.holds.1) by in
-        record { block = denied.block; holds = denied.holds; step = subst (λ o. ResizesBy sllen old.state denied.block size align o (Some to) new.state) (sym denied_by.0) moves }
+        record { block = denied.block; holds = denied.holds; step = subst (λ o. ResizesBy sllen old.state denied.block size align o (Some to) new.state) (sym none_by) moves }
 
     pub moved : SamePlace old.memory mid.memory → SamePlace old.memory made.memory → SamePlace old.memory copied.memory
         → Steps fllen sllen old new (ReallocatesAnyAlign sllen old.state addr size align (Some to))

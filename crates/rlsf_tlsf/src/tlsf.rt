@@ -19,7 +19,7 @@ ghost use Rattle.rlsf_table.specs.Table.{newest_of, of_class};
 ghost use Rattle.rlsf_blocks.specs.Spare.{IsSpareWord};
 
 use crate::core_calls::{
-    allocate_in, deallocate_block_in, deallocate_in, reallocate_in, resize_block_in, resize_in,
+    allocate_in, deallocate_block_in, deallocate_in, reallocate_in, resize_in,
 };
 use crate::state::GhostState;
 use rlsf_base::memory::{Addr, Layout, Memory, Range};
@@ -66,6 +66,7 @@ impl<FLBitmap: BitPattern, SLBitmap: BitPattern, const FLLEN: usize, const SLLEN
     SLLEN,
 > {
     ghost use Rattle.rlsf_tlsf.specs.Allocator.{Stands, Steps};
+    ghost use Rattle.rlsf_tlsf.specs.CoreResizes.{KeepsBoundsThere, KeepsPayloads, stayed_if};
     ghost use Rattle.rlsf_tlsf.specs.Lending.{LeavesRest, lends_payload, written};
     ghost use Rattle.rlsf_tlsf.specs.Bounds.{IfWithinBounds, KeepsAllBounds, KeepsBounds};
     ghost use Rattle.rlsf_tlsf.specs.Results.{IsAllocated, IsDeallocated, IsFilled, IsReallocated, IsResized, IsUnchanged};
@@ -237,15 +238,12 @@ impl<FLBitmap: BitPattern, SLBitmap: BitPattern, const FLLEN: usize, const SLLEN
         ensures frame { KeepsFrameInPlace (at addr) layout.align self.old self.new }
         ensures touches { self.new.memory.touches ≤ self.old.memory.touches + 25 }
     {
-        let payload = addr.get();
-        let view = self.memory.inner.view();
-        let block = used_block(&mut self.memory.inner, view, payload, layout.align());
-        if !resize_block_in(
+        if !resize_in(
             &mut self.memory.inner,
             &mut self.table,
             &mut self.state,
-            block,
-            payload,
+            addr.get(),
+            Some(layout.align()),
             layout,
         ) {
             return None;
@@ -262,8 +260,10 @@ impl<FLBitmap: BitPattern, SLBitmap: BitPattern, const FLLEN: usize, const SLLEN
     pub(crate) fn resize_unknown_align(&mut self, addr: Addr, layout: Layout) -> (bool, usize)
         requires { IsSome (align_at self.old.state (at addr)) }
         ensures stands { Stands FLLEN SLLEN self.old }
-        ensures resized { result.0 ≡ true → Steps FLLEN SLLEN self.old self.new (ReallocatesWithoutMove self.old.state (at addr) layout.size (Some (at addr))) }
-        ensures refused { result.0 ≡ false → Steps FLLEN SLLEN self.old self.new (ReallocatesWithoutMove self.old.state (at addr) layout.size None) }
+        ensures step { Steps FLLEN SLLEN self.old self.new (ReallocatesWithoutMove self.old.state (at addr) layout.size (stayed_if result.0 (at addr))) }
+        ensures resized { result.0 ≡ true → IsResized self.old.state self.new.state (at addr) layout.size (at addr) }
+        ensures kept { KeepsPayloads self.old.state self.new.state (at addr) }
+        ensures bounds { KeepsBoundsThere SLLEN self.old.state self.new.state (at addr) layout.size }
         ensures unchanged { result.0 ≡ false → (self.new.memory.bytes ≡ self.old.memory.bytes) × (self.new.memory.touches ≤ self.old.memory.touches + 7) }
         ensures len { result.1 ≡ length (bytes_at self.old.state (at addr)) }
         ensures frame { KeepsFrame self.old self.new }
@@ -276,6 +276,7 @@ impl<FLBitmap: BitPattern, SLBitmap: BitPattern, const FLLEN: usize, const SLLEN
             &mut self.table,
             &mut self.state,
             payload,
+            None,
             layout,
         );
         (stays, usable.len)

@@ -2,15 +2,16 @@
 
 ghost use Rattle.std.specs.Prelude.{◌≡◌, ◌<◌, ◌+◌, ◌-◌, ◌^◌, true, false};
 ghost use Rattle.rlsf_model.specs.NoMove.{ReallocatesWithoutMove};
+ghost use Rattle.rlsf_table.specs.Counts.{Counts};
 ghost use Rattle.rlsf_blocks.specs.Laws.{read_from};
-ghost use Rattle.rlsf_tlsf.specs.CoreResizes.{IsOwnBehind, KeepsBoundsThere, KeepsCore, KeepsPayloads, stayed_if};
-ghost use Rattle.rlsf_tlsf.specs.Cores.{IsCore, IsOwnPayload, LeavesCore};
+ghost use Rattle.rlsf_tlsf.specs.CoreResizes.{AtEachFound, HasFound, IsOwnBehind, IsOwnFound, KeepsBoundsThere, KeepsCore, KeepsPayloads, found_cost, stayed_if};
+ghost use Rattle.rlsf_tlsf.specs.Cores.{IsCore, LeavesCore};
 ghost use Rattle.rlsf_tlsf.specs.Results.{IsResized};
 
 use crate::state::GhostState;
 use rlsf_base::memory::{Layout, OpenMemory};
-use rlsf_blocks::load_block_of;
 use rlsf_blocks::reallocation::resize_kept_block;
+use rlsf_blocks::{load_block_of, used_block};
 use rlsf_table::ClassTable;
 
 /// Gives the payload at `addr`, whose used block begins at `block`, the size of `layout` without moving it, as
@@ -45,27 +46,44 @@ pub fn resize_block_in<const FLLEN: usize, const SLLEN: usize>(
     true
 }
 
+// Returns the start of the used block of the payload at `addr`: by its alignment, if that is passed, or else by two words.
+#[inline(always)]
+fn find_block(memory: &mut OpenMemory, addr: usize, align: Option<usize>) -> usize
+    requires { HasFound memory.old addr align }
+    ensures block { AtEachFound memory.old addr align (λ u. result ≡ u.block.start) }
+    ensures counts { Counts memory.old memory.new (found_cost align) }
+{
+    match align {
+        Some(align) => {
+            let view = memory.view();
+            used_block(memory, view, addr, align)
+        }
+        None => load_block_of(memory, addr),
+    }
+}
+
 /// Gives the payload at `addr` the size of `layout` without moving it, as `resize_block_in` does. Its block is found in the memory.
 ///
-/// Of `layout` only the size counts: the payload has any alignment. No usable byte of it may be out.
+/// Of `layout` only the size counts. If `align` is one, it is the payload's alignment. No usable byte of the payload may be out.
 #[inline(always)]
 pub fn resize_in<const FLLEN: usize, const SLLEN: usize>(
     memory: &mut OpenMemory,
     table: &mut ClassTable<FLLEN, SLLEN>,
     state: &mut GhostState,
     addr: usize,
+    align: Option<usize>,
     layout: Layout,
 ) -> bool
     requires core { IsCore FLLEN SLLEN memory.old table.old state.old.state }
-    requires own { IsOwnPayload memory.old (read_from memory.old state.old.state) addr }
-    ensures left { LeavesCore FLLEN SLLEN memory.old memory.new table.new state.old.state state.new.state 26 }
+    requires own { IsOwnFound memory.old (read_from memory.old state.old.state) addr align }
+    ensures left { LeavesCore FLLEN SLLEN memory.old memory.new table.new state.old.state state.new.state (found_cost align + 24) }
     ensures step { ReallocatesWithoutMove (read_from memory.old state.old.state) addr layout.size (stayed_if result addr) (read_from memory.new state.new.state) }
     ensures result { result ≡ true → IsResized (read_from memory.old state.old.state) (read_from memory.new state.new.state) addr layout.size addr }
     ensures kept { KeepsPayloads (read_from memory.old state.old.state) (read_from memory.new state.new.state) addr }
     ensures bounds { KeepsBoundsThere SLLEN (read_from memory.old state.old.state) (read_from memory.new state.new.state) addr layout.size }
-    ensures refused { result ≡ false → KeepsCore memory.old memory.new table.old table.new state.old.state state.new.state 4 }
+    ensures refused { result ≡ false → KeepsCore memory.old memory.new table.old table.new state.old.state state.new.state (found_cost align + 2) }
 {
-    let block = load_block_of(memory, addr);
+    let block = find_block(memory, addr, align);
     // What lies before the payload in its block is shorter than the memory. So with any size the block's length fits in a word.
     memory.is_below_limit();
     resize_block_in(memory, table, state, block, addr, layout)

@@ -1,31 +1,31 @@
-use Rattle.std.proofs.Common.{ap, arith, length, refl, subst, sym}
+use Rattle.std.proofs.Common.{ap, arith, length, subst, sym}
 use Rattle.rlsf_base.proofs.Lending.Present.{owned-same}
 use Rattle.rlsf_model.specs.NoMove.{ReallocatesWithoutMove}
 use Rattle.rlsf_model.specs.State.{Holds, State, usable}
 use Rattle.rlsf_blocks.specs.Laws.{read_from}
-use Rattle.rlsf_blocks.specs.StandsFor.{contents}
-use Rattle.rlsf_blocks.proofs.Counting.{Counts-counted_first, Counts-touched}
+use Rattle.rlsf_blocks.proofs.Counting.{Counts-counted_first}
 use Rattle.rlsf_blocks.proofs.Words.Apart.{used_in_memory}
-use Rattle.rlsf_tlsf.specs.CoreResizes.{KeepsBoundsThere, KeepsPayloads, stayed_if}
+use Rattle.rlsf_tlsf.specs.CoreResizes.{KeepsBoundsThere, KeepsPayloads, found_cost, stayed_if}
 use Rattle.rlsf_tlsf.specs.Results.{IsResized}
 use Rattle.rlsf_tlsf.proofs.Reached.{IsCore-counted, LeavesCore-counted_first, read_from-counted}
 use Rattle.rlsf_tlsf.proofs.ResizedInPlace.{own_behind}
 use Rattle.rlsf_tlsf.proofs.core_calls.resizing.resize_in.Goals as goal
 
-pub load_block_of-block-requires : goal.load_block_of-block-requires
-load_block_of-block-requires g c =
-    let (u, holds, own) = c.requires.own in
-    (g.row.FLLEN, g.row.SLLEN, contents c.args.memory.now c.args.table.now, read_from c.args.memory.now c.args.state.now.state, refl, c.requires.core.stands, (u, holds))
+pub find_block-block-requires : goal.find_block-block-requires
+find_block-block-requires g c =
+    let (u, found, own) = c.requires.own in
+    (g.row.FLLEN, g.row.SLLEN, c.args.table.now, read_from c.args.memory.now c.args.state.now.state, u, c.requires.core.stands, found)
 
 pub resize_block_in-requires : goal.resize_block_in-requires
 resize_block_in-requires g c =
-    let (u, holds, own) = c.requires.own in
+    let (u, found, own) = c.requires.own in
+    let holds = found.0 in
     let m = c.args.memory.now in
-    let n = c.load_block_of-block.new.memory in
-    let counts = Counts-touched m n 2 c.load_block_of-block.ensures.memory in
+    let n = c.find_block-block.new.memory in
+    let counts = c.find_block-block.ensures.counts in
     let s = read_from m c.args.state.now.state in
     let well = c.requires.core.stands.well_formed in
-    let start = c.load_block_of-block.ensures.block g.row.FLLEN g.row.SLLEN (contents m c.args.table.now) s u refl c.requires.core.stands holds in (
+    let start = c.find_block-block.ensures.block g.row.FLLEN g.row.SLLEN c.args.table.now s u c.requires.core.stands found in (
       omega arith,
       (
         IsCore-counted counts c.requires.core,
@@ -52,7 +52,7 @@ resize_block_in-requires g c =
 
 pub returns : goal.returns
 returns g c =
-    let counts = Counts-touched c.args.memory.now c.load_block_of-block.new.memory 2 c.load_block_of-block.ensures.memory in
+    let counts = c.find_block-block.ensures.counts in
     let same = read_from-counted counts c.args.state.now.state in
     let e = c.resize_block_in.ensures in
     let o = c.resize_block_in.new.memory in
@@ -66,5 +66,5 @@ returns g c =
       kept = subst (λ (s : State). KeepsPayloads s t addr) same e.kept;
       bounds = subst (λ (s : State). KeepsBoundsThere g.row.SLLEN s t addr size) same e.bounds;
       refused = λ no. let r = e.refused no in
-          record { counts = Counts-counted_first c.args.memory.now c.load_block_of-block.new.memory o 2 2 counts r.counts; table = r.table; state = r.state };
+          record { counts = Counts-counted_first c.args.memory.now c.find_block-block.new.memory o (found_cost c.args.align) 2 counts r.counts; table = r.table; state = r.state };
     }

@@ -1,14 +1,12 @@
-use Rattle.std.proofs.Common.{arith, ◌≡◌, ◌≢◌, ℕ, Some, None, IsSome, length, refl, sym, ◌∙◌, ap, subst, ◌≤◌, ◌<◌}
+use Rattle.std.proofs.Common.{arith, ◌≡◌, ◌≢◌, ℕ, None, IsSome, length, refl, sym, ◌∙◌, ap, subst, ◌≤◌, ◌<◌}
 use Rattle.rlsf_base.specs.Addr.{at}
 use Rattle.rlsf_model.specs.Callers.{align_at, bytes_at}
 use Rattle.rlsf_model.specs.NoMove.{ReallocatesWithoutMove}
 use Rattle.rlsf_model.specs.Sized.{IsSizedFor, live_count}
-use Rattle.rlsf_model.proofs.Chunks.{chunks-reallocated}
-use Rattle.rlsf_model.proofs.SizedWords.{count_resized, sized_resized}
 use Rattle.rlsf_tlsf.specs.Allocator.{Allocator, Steps}
+use Rattle.rlsf_tlsf.specs.CoreResizes.{stayed_if}
 use Rattle.rlsf_tlsf.proofs.Arrivals.{well_formed}
-use Rattle.rlsf_tlsf.proofs.UnknownAlign.{denied_everywhere, denied_same, denied_short, made_elsewhere, moved, moved_keeps, moved_long, no_room_to_stay, place_after, stay_reached}
-use Rattle.rlsf_tlsf.proofs.UnknownAlign.{stay_seen, stay_was, stayed}
+use Rattle.rlsf_tlsf.proofs.UnknownAlign.{denied, denied_everywhere, denied_same, denied_short, made_elsewhere, moved, moved_keeps, moved_long, no_room_to_stay, place_after, stayed}
 use Rattle.rlsf_tlsf.proofs.tlsf.Tlsf.reallocate_unknown_align.Given as given
 use Rattle.rlsf_tlsf.proofs.tlsf.Tlsf.reallocate_unknown_align.Goals as goal
 use Rattle.rlsf_tlsf.proofs.tlsf.Tlsf.reallocate_unknown_align.Goals.{In-Some}
@@ -23,32 +21,31 @@ returns-then-stays g c =
     let new = c.resize_unknown_align-stays.new.self in
     let addr = at c.args.addr in
     let size = c.args.layout.size in
-    let stands = c.resize_unknown_align-stays.ensures.stands in
     let did = c.resize_unknown_align-stays.ensures in
-    let yes = did.resized c.if-stays.true in
-    let seen = stay_seen fllen sllen old new addr size stands yes in
-    let reached = stay_reached fllen sllen old new addr size stands yes in
-    let w = well_formed old stands in
+    let is = did.resized c.if-stays.true in
+    let kept = did.kept in
+    let still : align_at new.state addr ≡ align_at old.state addr = ap (λ f. f addr) kept.aligns in
     record {
-      step = stayed fllen sllen old new addr size stands yes c.args.layout.align;
+      step = stayed fllen sllen old new addr size
+          (subst (λ b. Steps fllen sllen old new (ReallocatesWithoutMove old.state addr size (stayed_if b addr))) c.if-stays.true did.step) c.args.layout.align;
       result = record {
-        live = subst IsSome (sym seen.live) refl;
-        there = λ same. seen.live ∙ sym (stay_was fllen sllen old new addr size stands yes);
+        live = subst IsSome (sym still) c.requires;
+        there = λ same. still;
         moved = λ apart. absurd (apart refl);
         gone = λ apart. absurd (apart refl);
-        sized = seen.sized;
-        few = seen.few;
-        kept = seen.kept;
+        sized = is.sized;
+        few = is.few;
+        kept = is.kept;
         new = λ apart. absurd (apart refl);
-        aligns = seen.aligns;
-        bytes = seen.bytes;
+        aligns = λ a off _. ap (λ f. f a) kept.aligns;
+        bytes = λ a off _. kept.bytes a off;
       };
       room = λ count most align sized few short fits. refl;
-      bounds = λ count most align was sized live within short fits. sized_resized w new.state count most align sized addr size was (Some addr) live short within reached;
+      bounds = λ count most align was sized live within short fits. did.bounds count most align was sized live short within;
       refused = tt;
       frame = record {
-        count = count_resized w new.state addr size (Some addr) (reached.block, reached.holds) reached;
-        chunks = chunks-reallocated sllen old.state new.state addr size (Some addr) reached;
+        count = kept.count;
+        chunks = kept.chunks;
         place = did.frame.place;
         grow = did.frame.grow;
         copied = omega (arith, did.frame.copied);
@@ -86,13 +83,17 @@ module _ (g : given.Over) (c : In-Some g) where
   len = c.resize_unknown_align-stays.result.1
 
   no : Steps fllen sllen old mid (ReallocatesWithoutMove old.state addr c.args.layout.size None)
-  no = c.resize_unknown_align-stays.ensures.refused c.if-stays.false
+  no =
+      subst (λ b. Steps fllen sllen old mid (ReallocatesWithoutMove old.state addr c.args.layout.size (stayed_if b addr))) c.if-stays.false
+      c.resize_unknown_align-stays.ensures.step
 
   same : mid.state ≡ old.state
   same = denied_same fllen sllen old mid addr c.args.layout.size c.resize_unknown_align-stays.ensures.stands no
 
   short : length (bytes_at old.state addr) < c.args.layout.size
-  short = denied_short fllen sllen old mid addr c.args.layout.size c.resize_unknown_align-stays.ensures.stands no
+  short =
+      let stands = c.resize_unknown_align-stays.ensures.stands in
+      denied_short (well_formed old stands) (denied fllen sllen old mid addr c.args.layout.size stands no)
 
   long : len ≡ length (bytes_at old.state addr)
   long = c.resize_unknown_align-stays.ensures.len
@@ -173,7 +174,7 @@ returns-in-Some g c =
         grow = omega (arith, first.frame.grow, did.frame.grow, copy.touches, free.frame.grow);
         copied = omega (arith, first.frame.copied, did.frame.copied, copy.frame.copied, free.frame.copied, is);
         grow_copied = omega (arith, first.frame.copied, did.frame.copied, copy.frame.copied, free.frame.copied);
-        stays = λ room. absurd (no_room_to_stay g.row.FLLEN g.row.SLLEN old mid addr size stands (no g here) room);
+        stays = λ room. absurd (no_room_to_stay (well_formed old stands) (denied g.row.FLLEN g.row.SLLEN old mid addr size stands (no g here)) room);
       };
       touches = omega (arith, (first.unchanged c.if-stays.false).1, did.touches, copy.touches, free.touches);
     }
@@ -190,7 +191,8 @@ returns-in-None g c =
     let stands = c.resize_unknown_align-stays.ensures.stands in
     let first = c.resize_unknown_align-stays.ensures in
     let did = c.in-None.ensures in
-    let no = first.refused c.if-stays.false in
+    let no =
+    subst (λ b. Steps g.row.FLLEN g.row.SLLEN old mid (ReallocatesWithoutMove old.state addr size (stayed_if b addr))) c.if-stays.false first.step in
     let same : made.state ≡ old.state = did.refused.same ∙ denied_same g.row.FLLEN g.row.SLLEN old mid addr size stands no in
     let mid_same : mid.state ≡ old.state = denied_same g.row.FLLEN g.row.SLLEN old mid addr size stands no in
     record {

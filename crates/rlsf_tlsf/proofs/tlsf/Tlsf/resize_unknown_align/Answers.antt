@@ -1,4 +1,4 @@
-use Rattle.std.proofs.Common.{◌≡◌, ℕ, Bool, true, false, length, arith, refl, sym, ◌∙◌, ap, subst}
+use Rattle.std.proofs.Common.{ℕ, length, arith, refl, sym, ◌∙◌, ap, subst}
 use Rattle.rlsf_base.specs.Addr.{at}
 use Rattle.rlsf_base.proofs.Lending.Present.{own-none}
 use Rattle.rlsf_model.specs.NoMove.{ReallocatesWithoutMove}
@@ -8,8 +8,9 @@ use Rattle.rlsf_blocks.specs.Laws.{read_from}
 use Rattle.rlsf_blocks.specs.StandsFor.{contents}
 use Rattle.rlsf_blocks.proofs.Counting.{Counts-touched}
 use Rattle.rlsf_tlsf.specs.Allocator.{Allocator, Steps, allocator}
-use Rattle.rlsf_tlsf.specs.CoreResizes.{KeepsPayloads, stayed_if}
+use Rattle.rlsf_tlsf.specs.CoreResizes.{KeepsBoundsThere, KeepsPayloads, stayed_if}
 use Rattle.rlsf_tlsf.specs.Cores.{LeavesCore}
+use Rattle.rlsf_tlsf.specs.Results.{IsResized}
 use Rattle.rlsf_tlsf.proofs.Arrivals.{IsLiveIn-inside, Stands-view, bytes_inside, some_inside}
 use Rattle.rlsf_tlsf.proofs.Opened.{IsAllocator-opened, view-opened}
 use Rattle.rlsf_tlsf.proofs.Reached.{IsCore-counted, LeavesCore-counted_first, read_from-counted}
@@ -47,7 +48,7 @@ resize_in-stays-requires g c =
         IsCore-counted (counts g d) (core_of is g.FLBitmap.BitPattern.width_limit),
         (
           u,
-          subst (λ (s : State). Holds s c.get-payload.result u) (sym (read_from-counted (counts g d) c.self-inside.inside.0.1.1.0.state)) holds,
+          (subst (λ (s : State). Holds s c.get-payload.result u) (sym (read_from-counted (counts g d) c.self-inside.inside.0.1.1.0.state)) holds, tt),
           own-none n (usable u) ((counts g d).out ∙ is.whole),
         ),
       ),
@@ -68,13 +69,21 @@ module _ (g : given.Over) (c : After-resize_in-stays g) where
   left : LeavesCore g.row.FLLEN g.row.SLLEN before.memory after.memory after.table c.self-inside.inside.0.1.1.0.state c.resize_in-stays.new.state.state 29
   left = LeavesCore-counted_first (counts g early) c.resize_in-stays.ensures.left
 
-  step : (done : Bool) → c.resize_in-stays.result ≡ done
-      → Steps g.row.FLLEN g.row.SLLEN before after (ReallocatesWithoutMove before.state (at c.args.addr) c.args.layout.size (stayed_if done (at c.args.addr)))
-  step done is =
+  -- what is so of the state after the words were read, and of the payload's address as a number, is so of those that the caller has
+  told : (So : State → ℕ → Type 0) → So (read_from c.load_usable_bytes-usable.new.memory c.self-inside.inside.0.1.1.0.state) c.get-payload.result
+      → So before.state (at c.args.addr)
+  told So so =
+      subst (λ (x : State × ℕ). So x.0 x.1) (λ i. (read_from-counted (counts g early) c.self-inside.inside.0.1.1.0.state i, c.get-payload.ensures.value i)) so
+
+  step : Steps g.row.FLLEN g.row.SLLEN before after
+      (ReallocatesWithoutMove before.state (at c.args.addr) c.args.layout.size (stayed_if c.resize_in-stays.result (at c.args.addr)))
+  step =
       Steps-left (IsAllocator-opened c.self-inside.view_is c.self.invariant) left
-      (ReallocatesWithoutMove before.state (at c.args.addr) c.args.layout.size (stayed_if done (at c.args.addr)))
-      (subst (λ (x : State × ℕ × Bool). ReallocatesWithoutMove x.0 x.1 c.args.layout.size (stayed_if x.2 x.1) after.state)
-      (λ i. (read_from-counted (counts g early) c.self-inside.inside.0.1.1.0.state i, c.get-payload.ensures.value i, is i)) c.resize_in-stays.ensures.step)
+      (ReallocatesWithoutMove before.state (at c.args.addr) c.args.layout.size (stayed_if c.resize_in-stays.result (at c.args.addr)))
+      (told (λ s a. ReallocatesWithoutMove s a c.args.layout.size (stayed_if c.resize_in-stays.result a) after.state) c.resize_in-stays.ensures.step)
+
+  kept : KeepsPayloads before.state after.state (at c.args.addr)
+  kept = told (λ s a. KeepsPayloads s after.state a) c.resize_in-stays.ensures.kept
 
 pub invariant_of-self-inside : goal.invariant_of-self-inside
 invariant_of-self-inside g c = none_left (IsAllocator-opened c.self-inside.view_is c.self.invariant) (left g (goal.at.invariant_of-self-inside g c).After-resize_in-stays)
@@ -95,15 +104,16 @@ returns g c =
     let held : Holds s (at c.args.addr) u = (holds.0, holds.1 ∙ c.get-payload.ensures.value) in
     let range = c.load_usable_bytes-usable.ensures.range g.row.FLLEN g.row.SLLEN (contents m x) s u refl is.stands holds in
     let e = c.resize_in-stays.ensures in
-    let kept = subst (λ (b : State). KeepsPayloads b (after g d).state c.get-payload.result) (read_from-counted (counts g first) k) e.kept in
     rw (← view-opened c.self-inside.view_is c.self.view_is) (record {
       stands = Stands-view m x k (before g d) refl is.stands is.whole;
-      resized = λ yes. step g d true yes;
-      refused = λ no. step g d false no;
+      step = step g d;
+      resized = λ yes. told g d (λ s a. IsResized s (after g d).state a c.args.layout.size a) (e.result yes);
+      kept = kept g d;
+      bounds = told g d (λ s a. KeepsBoundsThere g.row.SLLEN s (after g d).state a c.args.layout.size) e.bounds;
       unchanged = λ no. let same = (e.refused no).counts in (same.bytes ∙ (counts g first).bytes, omega (arith, same.touches, (counts g first).touches));
       len =
           ap (λ r. r.len) range
           ∙ sym (ap length (bytes_inside is (before g d) refl (at c.args.addr) u held) ∙ (is.stands.well_formed.used u held.0).bytes);
-      frame = frame-left is (left g d) kept.chunks;
+      frame = frame-left is (left g d) (kept g d).chunks;
       touches = (left g d).costs.touches;
     })
