@@ -15,7 +15,6 @@ pub mod PutBack
 pub mod Read
 pub mod Reallocated
 pub mod Reallocating
-pub mod ReallocationViews
 pub mod Released
 pub mod ResizedParts
 pub mod Rewritten

@@ -1,52 +1,59 @@
 -- A payload came back into the memory for a call on the heap's core, and leaves again after it, at its address or at another one.
-use Rattle.std.proofs.Common.{◌≡◌, ◌≢◌, ◌<◌, ◌≤◌, ◌+◌, ℕ, List, length, Option, None, Some, arith, refl, sym, ap, subst, ◌∙◌}
+use Rattle.std.proofs.Common.{◌≡◌, ◌≢◌, ◌<◌, ◌≤◌, ◌+◌, ℕ, false, set, List, length, Option, None, Some, IfSome, arith, refl, sym, ap, subst, ◌∙◌}
 use Rattle.std.proofs.lemmas.Option.{none-some}
 use Rattle.rlsf_base.specs.declared.memory.range.Range.{Range}
-use Rattle.rlsf_base.specs.Ledger.{Entry, Extent, extent, IsIssued}
-use Rattle.rlsf_base.specs.OpenSpace.{IsHere, IsOwned, home_of, out_without}
-use Rattle.rlsf_base.specs.Layout.{IsLayout}
+use Rattle.rlsf_base.specs.Ledger.{Entry, Extent, entry_of, extent, IsIssued}
+use Rattle.rlsf_base.specs.OpenSpace.{IsHere, IsOwned, home_of, out_with, out_without}
 use Rattle.rlsf_base.specs.Out.{here, kept_at}
+use Rattle.rlsf_base.specs.Piece.{Piece, piece_range}
 use Rattle.rlsf_base.specs.Range.{LiesIn, range_at}
-use Rattle.rlsf_base.specs.Space.{Space, bytes_in, range_of}
+use Rattle.rlsf_base.specs.Space.{Space, bytes_in, range_of, with_bytes}
 use Rattle.rlsf_base.proofs.Lending.Present.{own-here}
 use Rattle.rlsf_model.specs.Callers.{align_at, bytes_at}
-use Rattle.rlsf_model.specs.NoMove.{unmoved_plan}
-use Rattle.rlsf_model.specs.Reallocate.{HasRoomToStay, Keeps, Reallocates}
+use Rattle.rlsf_model.specs.NoMove.{ReallocatesWithoutMove, unmoved_plan}
+use Rattle.rlsf_model.specs.Reallocate.{HasRoomToStay, Keeps}
 use Rattle.rlsf_model.specs.Run.{Fills}
 use Rattle.rlsf_model.specs.Sized.{IsSizedFor, live_count}
 use Rattle.rlsf_model.specs.State.{AreAlike, Holds, State, Used, usable}
-use Rattle.rlsf_model.specs.WellFormed.{IsWellFormed}
 use Rattle.rlsf_model.proofs.CallerWords.{SeesFilled, align_at-live, bytes_at-held, filled_seen}
 use Rattle.rlsf_model.proofs.Changes.{Holds-unique}
 use Rattle.rlsf_model.proofs.Fillings.{AreAlike-filled}
+use Rattle.rlsf_model.proofs.Live.{live_addresses_are_aligned}
 use Rattle.rlsf_model.proofs.SizedWords.{count_filled, sized_filled}
 use Rattle.rlsf_table.specs.Table.{Table}
 use Rattle.rlsf_table.proofs.Parameters.{IsValid-widest}
 use Rattle.rlsf_blocks.specs.Laws.{read_from}
 use Rattle.rlsf_blocks.specs.Spare.{KeepsSpare}
 use Rattle.rlsf_blocks.specs.StandsFor.{contents, StandsFor}
+use Rattle.rlsf_tlsf.specs.Allocator.{allocator}
+use Rattle.rlsf_tlsf.specs.Bounds.{KeepsBounds}
+use Rattle.rlsf_tlsf.specs.CoreResizes.{IsOwnFound, KeepsPayloads}
 use Rattle.rlsf_tlsf.specs.Cores.{IsCore, LeavesCoreCopying}
 use Rattle.rlsf_tlsf.specs.Moving.{IsHerePayload, IsRelocated, span}
+use Rattle.rlsf_tlsf.specs.Results.{KeepsFrameMoving as CoreFrame}
 use Rattle.rlsf_tlsf.proofs.Arrivals.{arrived, read_from-read_from}
 use Rattle.rlsf_tlsf.proofs.Reached.{bare-core}
 use Rattle.rlsf_tlsf.proofs.Relocated.{span_held}
-use Rattle.rlsf_tlsf.specs.Allocator.{allocator}
-use Rattle.rlsf_tlsf.specs.Bounds.{KeepsBounds}
-use Rattle.rlsf_tlsf.specs.Results.{KeepsFrameMoving as CoreFrame}
-use Rattle.rlsf_heap.specs.Frame.{KeepsBytes, KeepsFrameMoving, KeepsHeap, KeepsSized}
+use Rattle.rlsf_tlsf.proofs.Replied.{some_more}
+use Rattle.rlsf_tlsf.proofs.UnknownAlign.{denied_short, no_room_to_stay}
+use Rattle.rlsf_heap.specs.Frame.{KeepsAllBounds, KeepsBytes, KeepsFrameMoving, KeepsHeap, KeepsSized}
 use Rattle.rlsf_heap.specs.Handover.{IsHandedOver, IsTakenBack}
-use Rattle.rlsf_heap.specs.Heap.{AreIssued, IsHeap, IsWritten, PayloadView, Steps, heap_view, payload_range}
+use Rattle.rlsf_heap.specs.Heap.{AreIssued, IsHeap, IsTicketOf, PayloadView, Steps, heap_view, payload_range, payload_view}
 use Rattle.rlsf_heap.specs.Kept.{KeepsBytesBeside, NoneBecomesRaw}
 use Rattle.rlsf_heap.specs.Raw.{bytes_of}
 use Rattle.rlsf_heap.specs.Reallocation.{owned_by}
+use Rattle.rlsf_heap.specs.Replies.{IsRefused, IsResized}
 use Rattle.rlsf_heap.specs.Settled.{IsSettled}
+use Rattle.rlsf_heap.specs.ThinUnknownAlign.{HasRoom}
 use Rattle.rlsf_heap.proofs.Arrivals.{IsHeap-arrived, Steps-arrived}
 use Rattle.rlsf_heap.proofs.Kept.{raw-left, raw-stays, raw-with, same-byte, spare-last, spare-then}
 use Rattle.rlsf_heap.proofs.Leaving.{lies-usable, stands-without}
 use Rattle.rlsf_heap.proofs.OnCores.{heap-over, same_identity, stays}
 use Rattle.rlsf_heap.proofs.PayloadsApart.{payload_as, redeemed_ticket, shown_live}
 use Rattle.rlsf_heap.proofs.PutBack.{issued-reread}
+use Rattle.rlsf_heap.proofs.Reallocated.{Keeps-each}
 use Rattle.rlsf_heap.proofs.Reallocating.{IsBackIn, beside_in, block, fills, held, held_before, here as here_back, is_state, long, old_block, spare_in, stands, state, wide}
+use Rattle.rlsf_heap.proofs.ResizedParts.{own_at, still}
 use Rattle.rlsf_heap.proofs.Settled.{settled-back, settled-here, settled-left, settled-stays}
 use Rattle.rlsf_heap.proofs.Tickets.{issued-less, issued-more, redeemed_apart}
 
@@ -60,57 +67,109 @@ pub record IsAt (o : Space) (s t : State) (addr align to : ℕ) : Type 0 where
   pub own : IsOwned o (span t to to)
 
 -- that of a reallocation
-pub relocated_at : {o : Space} {s t : State} {addr size align to start wide : ℕ} → IsRelocated o s t addr size align to → live_count t ≡ live_count s → addr ≡ start → align ≡ wide
-    → IsAt o s t start wide to
-relocated_at {o} {s} {t} {to = to} is count at aligned = subst (λ (z : ℕ × ℕ). IsAt o s t z.0 z.1 to) (λ i. (at i, aligned i)) (record {
-  live = is.made.live;
-  new = is.made.new;
-  aligns = is.made.aligns;
-  bytes = is.made.bytes;
-  count = count;
-  own = is.own;
-})
+pub relocated_at : {o : Space} {s t : State} {addr size align to : ℕ} → IsRelocated o s t addr size align to → live_count t ≡ live_count s → IsAt o s t addr align to
+relocated_at is count = record { live = is.made.live; new = is.made.new; aligns = is.made.aligns; bytes = is.made.bytes; count = count; own = is.own }
+
+-- what is so of three numbers as a call was passed them is so of those that contracts see
+pub told_as : {a b c d e f : ℕ} → a ≡ d → b ≡ e → c ≡ f → (So : ℕ → ℕ → ℕ → Type 0) → So a b c → So d e f
+told_as first second third So so = subst (λ (z : ℕ × ℕ × ℕ). So z.0 z.1 z.2) (λ i. (first i, second i, third i)) so
+
+-- a payload came back with its values, and the entries of the ledger are those without its ticket; nothing else changed
+pub record IsBack (m n : Space) (es fs : List Entry) (pay : PayloadView) : Type 0 where
+  pub key : ℕ
+  pub known : IsIssued es key (extent pay.start (length pay.bytes) pay.align)
+  pub rest : (s : State) → AreIssued s es → AreIssued s fs × ((i : ℕ) (w : Extent) → IsIssued fs i w → w.addr ≢ pay.start)
+  pub start : n.start ≡ m.start
+  pub bytes : n.bytes ≡ with_bytes m pay.start pay.bytes
+  pub long : length n.bytes ≡ length m.bytes
+  pub out : n.out ≡ out_with m (payload_range pay)
+  pub touches : n.touches ≡ m.touches
+  pub copied : n.copied ≡ m.copied
+  pub view : n.view ≡ m.view
+
+-- the entries without that of a ticket
+pub without : {es fs : List Entry} (k : ℕ) (shown : Extent) → IsIssued es k shown → fs ≡ set es k (entry_of shown false) → (s : State) → AreIssued s es
+    → AreIssued s fs × ((i : ℕ) (w : Extent) → IsIssued fs i w → w.addr ≢ shown.addr)
+without {es} {fs} k shown is after s tickets = (
+  subst (AreIssued s) (sym after) (issued-less es k shown is s tickets),
+  λ i w issued. redeemed_apart es k shown is s tickets i w (subst (λ (l : List Entry). IsIssued l i w) after issued),
+)
+
+pub taken_back : {m n : Space} {es fs : List Entry} (pay : PayloadView) → IsTakenBack m n es fs pay → IsBack m n es fs pay
+taken_back {es = es} {fs = fs} pay is =
+    let ticket = redeemed_ticket pay es fs is.entries in record {
+      key = ticket.0;
+      known = ticket.1;
+      rest = without ticket.0 (extent pay.start (length pay.bytes) pay.align) ticket.1 ticket.2;
+      start = is.start;
+      bytes = is.bytes;
+      long = is.long;
+      out = is.out;
+      touches = is.touches;
+      copied = is.copied;
+      view = is.view;
+    }
+
+-- so did one by its part and its ticket
+pub back_as : {m n : Space} {es fs : List Entry} {key align addr len wide : ℕ} (p : Piece) (ledger : ℕ) → IsTicketOf p align (extent addr len wide)
+    → IsIssued es key (extent addr len wide) → n.start ≡ m.start → n.bytes ≡ with_bytes m p.start p.bytes → length n.bytes ≡ length m.bytes
+    → n.out ≡ out_with m (piece_range p) → n.touches ≡ m.touches → n.copied ≡ m.copied → n.view ≡ m.view
+    → ((s : State) → AreIssued s es → AreIssued s fs × ((i : ℕ) (w : Extent) → IsIssued fs i w → w.addr ≢ addr)) → IsBack m n es fs (payload_view p align ledger)
+back_as {es = es} {key = key} p ledger ticket issued start bytes long out touches copied view rest = record {
+  key = key;
+  known = subst (IsIssued es key) (λ i. extent (sym ticket.0 i) (sym ticket.1 i) (sym ticket.2 i)) issued;
+  rest = λ s tickets. let without = rest s tickets in (without.0, λ i w is same. without.1 i w is (same ∙ ticket.0));
+  start = start;
+  bytes = bytes;
+  long = long;
+  out = out;
+  touches = touches;
+  copied = copied;
+  view = view;
+}
+
+-- where the state is the same, so are its payloads
+pub kept_same : {s t : State} (addr : ℕ) → t ≡ s → KeepsPayloads s t addr
+kept_same addr same = record {
+  aligns = ap align_at same;
+  bytes = λ a off. ap (λ (u : State). bytes_at u a) same;
+  count = ap live_count same;
+  chunks = ap (λ (u : State). u.chunks) same;
+}
 
 module _ {fl_bits sl_bits fllen sllen : ℕ} {m n : Space} {x : Table} {j : State} {es fs : List Entry} {count : ℕ} (is : IsHeap fl_bits sl_bits fllen sllen m x j es count)
-    (pay : PayloadView) (taken : IsTakenBack m n es fs pay) where
-  -- the entry of its ticket
-  abbrev pub key : ℕ
-  key = (redeemed_ticket pay es fs taken.entries).0
-
+    (pay : PayloadView) (back : IsBack m n es fs pay) where
   abbrev shown : Extent
   shown = extent pay.start (length pay.bytes) pay.align
 
-  known : IsIssued es key shown
-  known = (redeemed_ticket pay es fs taken.entries).1
-
-  pub back_in : IsBackIn fllen sllen m n x (read_from m j) es key (bytes_of pay) pay.align
-  back_in = record {
-    old = is.stands;
-    tickets = is.tickets;
-    known = known;
-    start = taken.start;
-    bytes = taken.bytes;
-    out = taken.out;
-  }
+  back_in : IsBackIn fllen sllen m n x (read_from m j) es back.key (bytes_of pay) pay.align
+  back_in = record { old = is.stands; tickets = is.tickets; known = back.known; start = back.start; bytes = back.bytes; out = back.out }
 
   same : state back_in ≡ read_from n j
   same = read_from-read_from n m j
 
+  stands_in : StandsFor fllen sllen (contents n x) (read_from n j)
+  stands_in = subst (StandsFor fllen sllen (contents n x)) same (stands back_in)
+
+  held_in : Holds (read_from n j) pay.start (block back_in)
+  held_in = subst (λ (s : State). Holds s pay.start (block back_in)) same (held back_in)
+
   -- the core that the call is passed, and the payload in it
   pub core_back : fl_bits ≤ 128 → IsCore fllen sllen n x j
-  core_back limit = record {
-    valid = IsValid-widest limit is.valid;
-    stands = subst (StandsFor fllen sllen (contents n x)) same (stands back_in);
-    is_bare = is.is_bare;
-  }
+  core_back limit = record { valid = IsValid-widest limit is.valid; stands = stands_in; is_bare = is.is_bare }
 
   pub payload_back : {addr align : ℕ} → addr ≡ pay.start → align ≡ pay.align → IsHerePayload n (read_from n j) addr align
-  payload_back {addr} at aligned =
-      let b = back_in in
-      (block b, subst (λ (s : State). Holds s addr (block b)) same ((held b).0, (held b).1 ∙ sym at), wide b ∙ sym aligned, here_back b)
+  payload_back at aligned = (block back_in, (held_in.0, held_in.1 ∙ sym at), wide back_in ∙ sym aligned, here_back back_in)
+
+  pub found_back : {addr : ℕ} (align : Option ℕ) → addr ≡ pay.start → IfSome align (λ a. pay.align ≡ a) → IsOwnFound n (read_from n j) addr align
+  found_back align at aligned = (
+    block back_in,
+    ((held_in.0, held_in.1 ∙ sym at), some_more align (λ a is. wide back_in ∙ is) aligned),
+    own-here n (usable (block back_in)) (here_back back_in),
+  )
 
   -- the state in which the payload has the bytes that its owner wrote
-  pub owned_back : read_from n j ≡ owned_by (read_from m j) pay
+  owned_back : read_from n j ≡ owned_by (read_from m j) pay
   owned_back = sym same ∙ is_state back_in
 
   filled : Fills (read_from m j) pay.start pay.bytes (read_from n j)
@@ -119,130 +178,129 @@ module _ {fl_bits sl_bits fllen sllen : ℕ} {m n : Space} {x : Table} {j : Stat
   pub seen_back : SeesFilled (read_from m j) (read_from n j) pay.start pay.bytes
   seen_back = filled_seen is.stands.well_formed (read_from n j) pay.start pay.bytes filled
 
-  pub alike_back : AreAlike (read_from m j) (read_from n j)
-  alike_back = AreAlike-filled filled
-
   pub count_back : live_count (read_from n j) ≡ live_count (read_from m j)
   count_back = count_filled is.stands.well_formed (read_from n j) pay.start pay.bytes (filled.block, filled.holds) filled
 
-  pub sized_back : (most longest widest : ℕ) → IsSizedFor sllen most longest widest (read_from m j) → IsSizedFor sllen most longest widest (read_from n j)
+  pub sized_back : KeepsAllBounds sllen (read_from m j) (read_from n j)
   sized_back most longest widest sized =
       sized_filled is.stands.well_formed (read_from n j) most longest widest sized pay.start pay.bytes (filled.block, filled.holds) filled
 
   pub room_back : (size : ℕ) → HasRoomToStay (read_from m j) pay.start size → HasRoomToStay (read_from n j) pay.start size
   room_back size room =
-      let b = back_in in
       let (u, q, holds, first) = room in
-      let one : u ≡ old_block b = Holds-unique is.stands.well_formed pay.start u (old_block b) holds (held_before b) in
-      (block b, q, subst (λ (s : State). Holds s pay.start (block b)) same (held b), subst (λ (y : Used). unmoved_plan (read_from m j) y size ≡ Some q) one first)
+      let one : u ≡ old_block back_in = Holds-unique is.stands.well_formed pay.start u (old_block back_in) holds (held_before back_in) in
+      (block back_in, q, held_in, subst (λ (y : Used). unmoved_plan (read_from m j) y size ≡ Some q) one first)
+
+  -- its bytes, as many as the state says
+  pub bytes_are : bytes_at (read_from n j) pay.start ≡ pay.bytes
+  bytes_are = seen_back.here
+
+  -- it was live, and is
+  pub live_before : align_at (read_from m j) pay.start ≡ Some pay.align
+  live_before = shown_live is.stands.well_formed shown (is.tickets.issued back.key shown back.known)
+
+  pub live_back : align_at (read_from n j) pay.start ≡ Some pay.align
+  live_back = seen_back.aligns pay.start ∙ live_before
+
+  -- where it was refused to be resized in place, it has no room
+  pub no_room : {t : State} (size : ℕ) (A : Type 0) → ReallocatesWithoutMove (read_from n j) pay.start size None t
+      → HasRoom (read_from m j) pay.start size (length pay.bytes) A
+  no_room size A refused = record {
+    enough = λ enough. absurd (omega (arith, enough, denied_short stands_in.well_formed refused, ap length bytes_are));
+    stays = λ room. absurd (no_room_to_stay stands_in.well_formed refused (room_back size room));
+  }
 
   -- the tickets without its own
-  there : AreIssued (read_from n j) es
-  there = subst (λ (s : State). AreIssued s es) same (issued-reread n (read_from m j) es is.tickets)
-
   less : AreIssued (read_from n j) fs
-  less = subst (AreIssued (read_from n j)) (sym (redeemed_ticket pay es fs taken.entries).2) (issued-less es key shown known (read_from n j) there)
+  less = (back.rest (read_from n j) (subst (λ (s : State). AreIssued s es) same (issued-reread n (read_from m j) es is.tickets))).0
 
   other : (i : ℕ) (w : Extent) → IsIssued fs i w → w.addr ≢ pay.start
-  other i w issued =
-      redeemed_apart es key shown known (read_from n j) there i w (subst (λ (l : List Entry). IsIssued l i w) (redeemed_ticket pay es fs taken.entries).2 issued)
-
-  well_before : IsWellFormed fllen sllen (range_of n) (read_from n j)
-  well_before = subst (IsWellFormed fllen sllen (range_of n)) same (stands back_in).well_formed
+  other = (back.rest (read_from n j) (subst (λ (s : State). AreIssued s es) same (issued-reread n (read_from m j) es is.tickets))).1
 
   -- it lies in the memory
   low : n.start ≤ pay.start
-  low = let b = back_in in omega (arith, (lies-usable (stands b) (block b) (held b).0).0, (held b).1)
+  low = omega (arith, (lies-usable stands_in (block back_in) held_in.0).0, held_in.1)
 
-  -- its bytes, as many as the state says
-  bytes_are : bytes_at (read_from n j) pay.start ≡ pay.bytes
-  bytes_are = seen_back.here
+  -- the call left it where it was
+  module _ {o : Space} {y : Table} {k : State} {most copies : ℕ} (core : LeavesCoreCopying fllen sllen n o y j k most copies)
+      (kept : KeepsPayloads (read_from n j) (read_from o k) pay.start) where
+    pub here_there : IsHere o (span (read_from n j) pay.start pay.start)
+    here_there a lo hi =
+        core.here a (omega (arith, low, lo)) (here_back back_in a (omega (arith, lo, held_in.1)) (omega (arith, hi, held_in.1, long back_in, ap length bytes_are)))
 
-  -- the payload that leaves keeps its first bytes, and they are here
-  pub kept_as : {addr : ℕ} {after bytes : List ℕ} → addr ≡ pay.start → Keeps (bytes_at (read_from n j) addr) after → bytes ≡ after → Keeps pay.bytes bytes
-  kept_as at keeps same_bytes = subst (λ (z : List ℕ × List ℕ). Keeps z.0 z.1) (λ i. ((ap (bytes_at (read_from n j)) at ∙ bytes_are) i, sym same_bytes i)) keeps
+    pub there_at : IsAt o (read_from n j) (read_from o k) pay.start pay.align pay.start
+    there_at =
+        let b = block back_in in
+        let within = (stands_in.well_formed.used b held_in.0).within in
+        let (z, holds, _) = still stands_in core.core.stands kept pay.start b held_in in
+        let ends = (core.core.stands.well_formed.used z holds.0).within in record {
+          live = ap (λ f. f pay.start) kept.aligns ∙ live_back;
+          new = λ apart. absurd (apart refl);
+          aligns = λ a off _. ap (λ f. f a) kept.aligns;
+          bytes = λ a off _. kept.bytes a off;
+          count = kept.count;
+          own = subst (IsOwned o) (span_held core.core.stands pay.start z holds) (λ a lo hi.
+              own_at stands_in core.core.stands kept b z held_in holds core.costs.start core.own a (omega (arith, lo, holds.1)) (omega (arith, hi, ends))
+              (λ inside. own-here n (usable b) (here_back back_in) a (omega (arith, lo, holds.1, held_in.1)) (omega (arith, inside, within))));
+        }
 
-  pub here_kept : {o q : Space} {wide name addr to : ℕ} {r : Range} {hs gs : List Entry} {p : PayloadView} → addr ≡ pay.start
-      → IsHere o (span (read_from n j) addr to) → IsHandedOver o q r wide name hs gs p → r.start ≡ to
-      → (i : ℕ) → i < length pay.bytes → i < length p.bytes → kept_at p.out i ≡ here
-  here_kept {o} {r = r} at still over begins i below inside =
-      let many = ap length (ap (bytes_at (read_from n j)) at ∙ bytes_are) in
-      over.states i (omega (arith, inside, over.long)) ∙ still (r.start + i) (omega (arith, begins)) (omega (arith, begins, below, many))
+    pub range_back : {addr len : ℕ} → addr ≡ pay.start → len ≡ length (bytes_at (read_from o k) pay.start) → range_at addr len ≡ span (read_from o k) pay.start pay.start
+    range_back at long = λ i. range_at (at i) (long i)
 
-  -- the call was refused: the payload is where it was
-  module _ {o : Space} {y : Table} {k : State} {most copies : ℕ} (core : LeavesCoreCopying fllen sllen n o y j k most copies) (unchanged : read_from o k ≡ read_from n j) where
-    pub range_back : {addr len : ℕ} → addr ≡ pay.start → len ≡ length pay.bytes → range_at addr len ≡ span (read_from o k) pay.start pay.start
-    range_back {addr} {len} at long = λ i. range_at (at i) (let e : len ≡ length (bytes_at (read_from o k) pay.start) = long
-        ∙ sym (ap length (ap (λ (s : State). bytes_at s pay.start) unchanged ∙ bytes_are)) in e i)
+  -- ---- a payload leaves
 
-    pub here_unmoved : IsHere o (span (read_from o k) pay.start pay.start)
-    here_unmoved =
-        let b = back_in in
-        subst (IsHere o) (range_back (held b).1 (long b)) (λ a lo hi. core.here a (omega (arith, low, (held b).1, lo)) (here_back b a lo hi))
-
-    pub unmoved_at : IsAt o (read_from n j) (read_from o k) pay.start pay.align pay.start
-    unmoved_at = record {
-      live = ap (λ (s : State). align_at s pay.start) unchanged ∙ seen_back.aligns pay.start
-          ∙ shown_live is.stands.well_formed shown (is.tickets.issued key shown known);
-      new = λ apart. absurd (apart refl);
-      aligns = λ a _ _. ap (λ (s : State). align_at s a) unchanged;
-      bytes = λ a _ _. ap (λ (s : State). bytes_at s a) unchanged;
-      count = ap live_count unchanged;
-      own = own-here o (span (read_from o k) pay.start pay.start) here_unmoved;
-    }
-
-  -- ---- the call was made, and a payload leaves
-
-  module _ {o : Space} {y : Table} {k : State} {most copies : ℕ} (core : LeavesCoreCopying fllen sllen n o y j k most copies) {align to : ℕ}
-      (at : IsAt o (read_from n j) (read_from o k) pay.start align to) {r : Range} (is_range : r ≡ span (read_from o k) to to)
+  module _ {o : Space} {y : Table} {k : State} {most copies : ℕ} (core : LeavesCoreCopying fllen sllen n o y j k most copies) {to : ℕ}
+      (at : IsAt o (read_from n j) (read_from o k) pay.start pay.align to) {r : Range} (is_range : r ≡ span (read_from o k) to to)
     where
       u : Used
-      u = (align_at-live (read_from o k) to align at.live).0
+      u = (align_at-live (read_from o k) to pay.align at.live).0
 
       holds : Holds (read_from o k) to u
       unfolding u
-      holds = (align_at-live (read_from o k) to align at.live).1
+      holds = (align_at-live (read_from o k) to pay.align at.live).1
 
-      aligned_as : u.align ≡ align
+      aligned_as : u.align ≡ pay.align
       unfolding u
-      aligned_as = (align_at-live (read_from o k) to align at.live).2
+      aligned_as = (align_at-live (read_from o k) to pay.align at.live).2
 
       range_is : r ≡ usable u
       range_is = is_range ∙ sym (span_held core.core.stands to u holds)
 
       -- its bytes are the memory's own
       pub lies_over : LiesIn r o.start (length o.bytes)
-      lies_over =
-          let lies = lies-usable core.core.stands u holds.0 in (
-            omega (arith, lies.0, ap (λ (q : Range). q.start) range_is),
-            omega (arith, lies.1, ap (λ (q : Range). q.start) range_is, ap (λ (q : Range). q.len) range_is),
-          )
+      lies_over = subst (λ (q : Range). LiesIn q o.start (length o.bytes)) (sym range_is) (lies-usable core.core.stands u holds.0)
 
       pub own_over : IsOwned o r
       own_over = subst (IsOwned o) (sym is_range) at.own
 
-      module _ {q : Space} {wide name : ℕ} {gs : List Entry} {p : PayloadView} (aligned : wide ≡ align) (over : IsHandedOver o q r wide name fs gs p) where
+      module _ {q : Space} {wide name : ℕ} {gs : List Entry} {p : PayloadView} (aligned : wide ≡ pay.align) (over : IsHandedOver o q r wide name fs gs p) where
         standing : StandsFor fllen sllen (contents q y) (read_from o k)
-        standing =
-            stands-without core.core.stands u holds.0 q over.start over.bytes
-            (over.out ∙ ap (out_without o) range_is)
+        standing = stands-without core.core.stands u holds.0 q over.start over.bytes (over.out ∙ ap (out_without o) range_is)
 
         -- the state is the one that the call led to
-        pub state_over : read_from q k ≡ read_from o k
+        state_over : read_from q k ≡ read_from o k
         state_over = arrived standing k (sym (bare-core core.core))
 
         pub reads_over : (P : State → Type 0) → P (read_from o k) → P (read_from q k)
         reads_over P = subst P (sym state_over)
 
-        pub Steps-over : (label : ℕ) (did : State → Type 0) → did (read_from o k) → Steps fllen sllen (heap_view q y k label) did
-        Steps-over label did has = Steps-arrived standing k (sym (bare-core core.core)) label did (reads_over did has)
+        -- the payload is where the call put it
+        begins : p.start ≡ to
+        begins = over.at ∙ ap (λ (z : Range). z.start) is_range
+
+        -- a step, as contracts see it
+        pub step_over : (label : ℕ) (Step : State → State → Type 0) → Step (read_from n j) (read_from o k)
+            → Steps fllen sllen (heap_view q y k label) (Step (owned_by (read_from m j) pay))
+        step_over label Step did =
+            Steps-arrived standing k (sym (bare-core core.core)) label (Step (owned_by (read_from m j) pay))
+            (reads_over (Step (owned_by (read_from m j) pay)) (subst (λ (s : State). Step s (read_from o k)) owned_back did))
 
         -- the other tickets are those of the same payloads, and the new one is its own
         others_at : (i : ℕ) (w : Extent) → IsIssued fs i w → w.addr ≢ to
         others_at i w issued is_to =
             let apart = other i w issued in
             absurd (none-some w.align (sym (at.new (λ e. apart (is_to ∙ e))) ∙ ap (align_at (read_from n j)) (sym is_to)
-            ∙ shown_live well_before w (less.issued i w issued)))
+            ∙ shown_live stands_in.well_formed w (less.issued i w issued)))
 
         issued_over : AreIssued (read_from o k) gs
         issued_over =
@@ -250,7 +308,7 @@ module _ {fl_bits sl_bits fllen sllen : ℕ} {m n : Space} {x : Table} {j : Stat
               issued = λ i w issued.
                   let apart = other i w issued in
                   let apart_to = others_at i w issued in
-                  payload_as well_before core.core.stands.well_formed w (less.issued i w issued) (at.aligns w.addr apart apart_to) (at.bytes w.addr apart apart_to);
+                  payload_as stands_in.well_formed core.core.stands.well_formed w (less.issued i w issued) (at.aligns w.addr apart apart_to) (at.bytes w.addr apart apart_to);
               apart = less.apart;
             } in
             subst (AreIssued (read_from o k)) (sym over.entries)
@@ -264,80 +322,101 @@ module _ {fl_bits sl_bits fllen sllen : ℕ} {m n : Space} {x : Table} {j : Stat
         -- what the call keeps
         pub keeps_over : (ledger label : ℕ) → label ≡ ledger → KeepsHeap (heap_view m x j ledger) (heap_view q y k label)
         keeps_over ledger label named =
-            heap-over m q x y j k (over.start ∙ core.costs.start ∙ taken.start) (ap length over.bytes ∙ core.costs.length ∙ taken.long)
-            (over.view ∙ core.costs.view ∙ taken.view) (omega (arith, over.touches, core.costs.grow, taken.touches))
+            heap-over m q x y j k (over.start ∙ core.costs.start ∙ back.start) (ap length over.bytes ∙ core.costs.length ∙ back.long)
+            (over.view ∙ core.costs.view ∙ back.view) (omega (arith, over.touches, core.costs.grow, back.touches))
             (reads_over (KeepsSpare m (read_from m j) q) (spare-last m o q (read_from m j) (read_from o k) over.start over.bytes
-            (spare-then m n o (read_from m j) (read_from o k) taken.start taken.long (read_from n j) refl
+            (spare-then m n o (read_from m j) (read_from o k) back.start back.long (read_from n j) refl
             (subst (KeepsSpare m (read_from m j) n) same (spare_in back_in)) core.spare)))
             ledger label named
 
         settled_before : IsSettled m → IsSettled o
-        settled_before settled = settled-stays (stays core) (settled-back m n (payload_range pay) taken.start (omega (arith, low, taken.start)) taken.out settled)
+        settled_before settled = settled-stays (stays core) (settled-back m n (payload_range pay) back.start (omega (arith, low, back.start)) back.out settled)
 
         pub bytes_over : (ledger label : ℕ) → KeepsBytes (heap_view m x j ledger) (heap_view q y k label)
         unfolding NoneBecomesRaw
         bytes_over ledger label = record {
           raw = λ a from is_raw.
-              raw-with m n (payload_range pay) taken.start (omega (arith, low, taken.start)) taken.out a from
-              (raw-stays (stays core) a (omega (arith, from, taken.start))
-              (raw-left o q r over.start lies_over.0 over.out a (omega (arith, from, taken.start, core.costs.start)) is_raw));
+              raw-with m n (payload_range pay) back.start (omega (arith, low, back.start)) back.out a from
+              (raw-stays (stays core) a (omega (arith, from, back.start))
+              (raw-left o q r over.start lies_over.0 over.out a (omega (arith, from, back.start, core.costs.start)) is_raw));
           settled = λ settled. settled-left o q r over.start lies_over.0 over.out (settled_before settled);
         }
 
-        -- if no byte of the memory was raw, all its bytes are here
-        pub written_over : IsSettled m → IsWritten p
-        written_over settled = over.full (settled-here o r lies_over.0 own_over (settled_before settled))
-
-        -- they are those of the state, and here if they were
-        pub values_over : p.bytes ≡ bytes_at (read_from o k) to
+        -- its bytes are those of the state
+        values_over : p.bytes ≡ bytes_at (read_from o k) to
         values_over =
-            over.values ∙ ap (bytes_in o) range_is ∙ core.core.stands.payloads.bytes u holds.0
-            ∙ sym (bytes_at-held core.core.stands.well_formed to u holds)
+            over.values ∙ ap (bytes_in o) range_is ∙ core.core.stands.payloads.bytes u holds.0 ∙ sym (bytes_at-held core.core.stands.well_formed to u holds)
 
-        pub here_over : IsHere o (span (read_from o k) to to) → IsWritten p
-        here_over still = over.full (subst (IsHere o) (sym is_range) still)
+        pub sized_over : (size : ℕ) → KeepsBounds sllen (read_from n j) (read_from o k) size pay.align → KeepsSized sllen (read_from m j) (read_from q k) size pay.align
+        sized_over size bounds = record {
+          sized = λ most longest widest sized short fits.
+              reads_over (IsSizedFor sllen most longest widest) (bounds most longest widest (sized_back most longest widest sized) short fits);
+          count = reads_over (λ (s : State). live_count s ≡ live_count (read_from m j)) (at.count ∙ count_back);
+        }
 
-        -- where the call changed no byte, no byte beside the payload is another
-        pub beside_over : o.bytes ≡ n.bytes → (ledger label : ℕ) → KeepsBytesBeside (heap_view m x j ledger) (heap_view q y k label) (payload_range pay)
-        unfolding KeepsBytesBeside
-        beside_over bytes ledger label a from _ side =
-            same-byte n q (over.start ∙ core.costs.start) (over.bytes ∙ bytes) a ∙ beside_in back_in a from side
+        -- what it keeps if it may have copied the payload's bytes
+        pub frame_over : (ledger label : ℕ) → label ≡ ledger → (size : ℕ) → CoreFrame pay.start size (allocator n x j) (allocator o y k)
+            → KeepsFrameMoving (heap_view m x j ledger) (heap_view q y k label) pay.start size pay
+        frame_over ledger label named size frame =
+            let least : o.copied ≤ n.copied + length pay.bytes = subst (λ (l : List ℕ). o.copied ≤ n.copied + length l) bytes_are frame.copied in record {
+              heap = keeps_over ledger label named;
+              bytes = bytes_over ledger label;
+              chunks = reads_over (λ (s : State). s.chunks ≡ j.chunks) frame.chunks;
+              copied = record {
+                copied = omega (arith, least, over.copied, back.copied);
+                grow_copied = omega (arith, frame.grow_copied, over.copied, back.copied);
+                stays = λ room. over.copied ∙ frame.stays (room_back size room) ∙ back.copied;
+              };
+            }
 
-        pub identity_over : (ledger : ℕ) → name ≡ ledger → p.identity ≡ record { home = home_of m; ledger = ledger }
-        identity_over ledger named =
-            over.identity ∙ same_identity m o (core.costs.start ∙ taken.start) (core.costs.length ∙ taken.long)
-            (core.costs.view ∙ taken.view) ledger name named
+        -- ---- it has the size, or is as it was
 
-        -- ---- as contracts see it, if the call was a reallocation
+        module _ (ledger label : ℕ) (named : name ≡ ledger) where
+          identity_over : p.identity ≡ record { home = home_of m; ledger = ledger }
+          identity_over =
+              over.identity ∙ same_identity m o (core.costs.start ∙ back.start) (core.costs.length ∙ back.long) (core.costs.view ∙ back.view) ledger name named
 
-        module _ {addr asked size : ℕ} (place : addr ≡ pay.start) (sizes : asked ≡ size) (frame : CoreFrame addr asked (allocator n x j) (allocator o y k)) (ledger label : ℕ)
-            (named : label ≡ ledger) where
-          pub step_over : {made reply : Option ℕ} → made ≡ reply → Reallocates sllen (read_from n j) addr asked made (read_from o k)
-              → Steps fllen sllen (heap_view q y k label) (λ s. IsLayout size pay.align → Reallocates sllen (owned_by (read_from m j) pay) pay.start size reply s)
-          step_over {made} {reply} told did =
-              Steps-over label (λ s. IsLayout size pay.align → Reallocates sllen (owned_by (read_from m j) pay) pay.start size reply s)
-              (λ fits. subst (λ (z : State × ℕ × ℕ × Option ℕ). Reallocates sllen z.0 z.1 z.2 z.3 (read_from o k)) (λ i. (owned_back i, place i, sizes i, told i)) did)
-
-          pub sized_over : {told : ℕ} → told ≡ pay.align → KeepsBounds sllen (read_from n j) (read_from o k) asked told
-              → KeepsSized sllen (read_from m j) (read_from q k) size pay.align
-          sized_over told bounds = record {
-            sized = λ most longest widest sized short fits. reads_over (IsSizedFor sllen most longest widest)
-                (bounds most longest widest (sized_back most longest widest sized) (omega (arith, short, sizes)) (omega (arith, fits, told)));
-            count = reads_over (λ (s : State). live_count s ≡ live_count (read_from m j)) (frame.count ∙ count_back);
-          }
-
-          pub frame_over : KeepsFrameMoving (heap_view m x j ledger) (heap_view q y k label) pay.start size pay
-          frame_over =
-              let least : o.copied ≤ n.copied + length pay.bytes =
-              subst (λ (l : List ℕ). o.copied ≤ n.copied + length l) (ap (bytes_at (read_from n j)) place ∙ bytes_are) frame.copied in record {
-                heap = keeps_over ledger label named;
-                bytes = bytes_over ledger label;
-                chunks = reads_over (λ (s : State). s.chunks ≡ j.chunks) frame.chunks;
-                copied = record {
-                  copied = omega (arith, least, over.copied, taken.copied);
-                  grow_copied = omega (arith, frame.grow_copied, over.copied, taken.copied);
-                  stays = λ room.
-                      over.copied ∙ frame.stays (subst (λ (z : ℕ × ℕ). HasRoomToStay (read_from n j) z.0 z.1) (λ i. (sym place i, sym sizes i)) (room_back size room))
-                      ∙ taken.copied;
+          pub resized_over : (size : ℕ) → size ≤ length (bytes_at (read_from o k) to) → length (bytes_at (read_from o k) to) < size + 32
+              → Keeps (bytes_at (read_from n j) pay.start) (bytes_at (read_from o k) to) → IsHere o (span (read_from n j) pay.start to)
+              → IsResized (heap_view m x j ledger) (heap_view q y k label) size pay.align pay p
+          resized_over size enough few keeps still_here =
+              let kept : Keeps pay.bytes p.bytes = subst (λ (z : List ℕ × List ℕ). Keeps z.0 z.1) (λ i. (bytes_are i, sym values_over i)) keeps in
+              let as_was : (i : ℕ) → i < length pay.bytes → i < length p.bytes → kept_at p.out i ≡ here =
+              λ i below inside.
+                  over.states i (omega (arith, inside, over.long))
+                  ∙ still_here (r.start + i) (omega (arith, over.at, begins)) (omega (arith, over.at, begins, below, ap length bytes_are)) in record {
+                identity = identity_over;
+                requested = over.align ∙ aligned;
+                made = record {
+                  live = reads_over (λ (s : State). align_at s p.start ≡ Some pay.align) (ap (align_at (read_from o k)) begins ∙ at.live);
+                  long = reads_over (λ (s : State). length p.bytes ≡ length (bytes_at s p.start))
+                      (ap length values_over ∙ ap (λ a. length (bytes_at (read_from o k) a)) (sym begins));
+                  aligned = live_addresses_are_aligned fllen sllen (range_of o) (read_from o k) p.start pay.align core.core.stands.well_formed
+                      (u, (holds.0, holds.1 ∙ sym begins), aligned_as);
+                  sized = omega (arith, enough, ap length values_over);
+                  few = omega (arith, few, ap length values_over);
+                  kept = kept;
+                  each = Keeps-each pay.bytes p.bytes kept;
+                };
+                here = record {
+                  here = λ i from high. as_was i (omega (arith, high)) (omega (arith, high));
+                  shrunk = λ shorter i from high. as_was i (omega (arith, high, shorter)) (omega (arith, high));
+                  written = λ settled. over.full (settled-here o r lies_over.0 own_over (settled_before settled));
                 };
               }
+
+          pub refused_over : read_from o k ≡ read_from n j → o.bytes ≡ n.bytes → to ≡ pay.start → IsHere o (span (read_from n j) pay.start to)
+              → IsRefused (heap_view m x j ledger) (heap_view q y k label) pay.start pay.align pay p
+          unfolding KeepsBytesBeside
+          refused_over unchanged bytes there still_here = record {
+            identity = identity_over;
+            requested = over.align ∙ aligned;
+            returned = record {
+              start = begins ∙ there;
+              bytes = values_over ∙ (λ i. bytes_at (unchanged i) (there i)) ∙ bytes_are;
+              written = over.full (subst (IsHere o) ((λ i. range_at to (length (bytes_at (sym unchanged i) (sym there i)))) ∙ sym is_range) still_here);
+              alike = reads_over (AreAlike (read_from m j)) (subst (AreAlike (read_from m j)) (sym unchanged) (AreAlike-filled filled));
+              aligns = reads_over (λ (s : State). align_at s ≡ align_at (read_from m j)) (ap align_at unchanged ∙ (λ i a. seen_back.aligns a i));
+            };
+            unchanged = λ a from _ side. same-byte n q (over.start ∙ core.costs.start) (over.bytes ∙ bytes) a ∙ beside_in back_in a from side;
+          }

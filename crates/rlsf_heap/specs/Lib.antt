@@ -9,7 +9,6 @@ pub mod Pools
 pub mod Raw
 pub mod Renewed
 pub mod Replies
-pub mod Resizing
 pub mod Settled
 pub mod Thin
 pub mod ThinReplies

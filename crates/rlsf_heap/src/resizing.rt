@@ -1,24 +1,23 @@
 //! A payload gets another size without moving, by its bytes and its ticket.
-ghost use Rattle.std.specs.Prelude.{◌≡◌, ◌≤◌, ◌+◌, Some, true, false, length, IfSome};
+ghost use Rattle.std.specs.Prelude.{◌≡◌, ◌≤◌, ◌<◌, ◌+◌, ◌-◌, ◌^◌, Some, true, false, length, IfSome};
 ghost use Rattle.rlsf_base.specs.Ledger.{extent, IsIssued};
 ghost use Rattle.rlsf_base.specs.Piece.{IsFull};
+ghost use Rattle.rlsf_base.specs.Rounding.{round32};
 ghost use Rattle.rlsf_model.specs.Callers.{align_at};
 ghost use Rattle.rlsf_model.specs.NoMove.{ReallocatesWithoutMove};
-ghost use Rattle.rlsf_table.specs.Counts.{Counts};
-ghost use Rattle.rlsf_tlsf.specs.CoreResizes.{stayed_if};
+ghost use Rattle.rlsf_tlsf.specs.CoreResizes.{found_cost, stayed_if};
 ghost use Rattle.rlsf_heap.specs.Frame.{KeepsAllBounds, KeepsFrame, KeepsSized};
 ghost use Rattle.rlsf_heap.specs.Heap.{IsTicketOf, payload_view};
 ghost use Rattle.rlsf_heap.specs.Reallocation.{owned_by};
 ghost use Rattle.rlsf_heap.specs.Replies.{IsRefused};
-ghost use Rattle.rlsf_heap.specs.Resizing.{AtEachFound, HasFound, found_cost};
 ghost use Rattle.rlsf_heap.specs.ThinUnknownAlign.{HasRoom, IsResizedThere, renewed_entries};
 
 use crate::heap::Heap;
 use rlsf_base::memory::ledger::{Ledger, Ticket};
-use rlsf_base::memory::{Layout, OpenMemory, Part, Range};
-use rlsf_blocks::{load_block_of, load_usable_bytes, used_block};
+use rlsf_base::memory::{Layout, Part, Range};
+use rlsf_base::rounding::next_multiple_of_32;
 use rlsf_int::BitPattern;
-use rlsf_tlsf::core_calls::resize_block_in;
+use rlsf_tlsf::core_calls::resize_in;
 
 // Redeems a ticket, and returns one for another length, of the same address and alignment. It does nothing.
 fn renewed(ticket: Ticket, ledger: &mut Ledger, len: usize) -> Ticket
@@ -30,19 +29,19 @@ fn renewed(ticket: Ticket, ledger: &mut Ledger, len: usize) -> Ticket
     ticket
 }
 
-// Returns the start of the used block of the payload at `addr`: by its alignment, if that is passed, or else by two words.
+// Returns the length of the payload at `addr`: the one for `size` bytes if it has this size now, or else the one that it had.
+//
+// Its block is no longer than it has to be: it ends at the first multiple of 32 behind the size. So no word is read.
 #[inline(always)]
-fn find_block(memory: &mut OpenMemory, addr: usize, align: Option<usize>) -> usize
-    requires { HasFound memory.old addr align }
-    ensures block { AtEachFound memory.old addr align (λ u. result ≡ u.block.start) }
-    ensures counts { Counts memory.old memory.new (found_cost align) }
+fn length_now(done: bool, addr: usize, size: usize, was: usize) -> usize
+    requires { done ≡ true → round32 (addr + size) < 2 ^ 64 }
+    ensures done { done ≡ true → result ≡ round32 (addr + size) - addr }
+    ensures kept { done ≡ false → result ≡ was }
 {
-    match align {
-        Some(align) => {
-            let view = memory.view();
-            used_block(memory, view, addr, align)
-        }
-        None => load_block_of(memory, addr),
+    if done {
+        next_multiple_of_32(addr + size) - addr
+    } else {
+        was
     }
 }
 
@@ -83,31 +82,23 @@ impl<FLBitmap: BitPattern, SLBitmap: BitPattern, const FLLEN: usize, const SLLEN
         ensures ticket { IsTicketOf result.1 result.2.align (extent result.2.addr result.2.len result.2.align) }
         ensures bounds { KeepsSized SLLEN self.old.state self.new.state layout.size ticket.align }
         ensures frame { KeepsFrame self.old self.new }
-        ensures touches { self.new.memory.touches ≤ self.old.memory.touches + (found_cost align + 27) }
+        ensures touches { self.new.memory.touches ≤ self.old.memory.touches + (found_cost align + 24) }
     {
-        let was = Range {
-            start: part.start(),
-            len: part.len(),
-        };
-        let ticket = renewed(ticket, &mut self.ledger, was.len);
+        let addr = part.start();
+        let was = part.len();
+        let ticket = renewed(ticket, &mut self.ledger, was);
         self.memory.put_back(part);
-        let block = find_block(&mut self.memory, was.start, align);
-        // What lies before the payload in its block is shorter than the memory. So with any size the block's length fits in a word.
-        self.memory.is_below_limit();
-        if !resize_block_in(
+        let done = resize_in(
             &mut self.memory,
             &mut self.table,
             &mut self.state,
-            block,
-            was.start,
+            addr,
+            align,
             layout,
-        ) {
-            let same = self.memory.take_out(was);
-            return (false, same, ticket);
-        }
-        let range = load_usable_bytes(&mut self.memory, was.start);
-        let resized = self.memory.take_out(range);
-        let ticket = renewed(ticket, &mut self.ledger, range.len);
-        (true, resized, ticket)
+        );
+        let len = length_now(done, addr, layout.size(), was);
+        let part = self.memory.take_out(Range { start: addr, len });
+        let ticket = renewed(ticket, &mut self.ledger, len);
+        (done, part, ticket)
     }
 }

@@ -1,5 +1,5 @@
 -- A payload that got another size: what callers see of it, and where its bytes lie.
-use Rattle.std.proofs.Common.{◌≡◌, ℕ, ◌+◌, Some, length, arith, sym, ◌∙◌, ap, subst}
+use Rattle.std.proofs.Common.{◌≡◌, ℕ, ◌+◌, ◌%◌, Some, length, arith, sym, ◌∙◌, ap, subst}
 use Rattle.rlsf_base.specs.declared.memory.range.Range.{Range}
 use Rattle.rlsf_base.specs.OpenSpace.{IsHere, IsOwned, SameOwn}
 use Rattle.rlsf_base.specs.Range.{end_of, range_at}
@@ -28,6 +28,12 @@ module _ {fllen sllen : ℕ} {m : Space} {table : Table} {s : State} (v : Stands
   span_held =
       let long : (usable u).len ≡ length (bytes_at s addr) = sym (ap length (bytes_at-held v.well_formed addr u holds) ∙ (v.well_formed.used u holds.0).bytes) in
       λ i. range_at (holds.1 i) (long i)
+
+  -- and end at a multiple of 32
+  pub ends_held : (addr + length (bytes_at s addr)) % 32 ≡ 0
+  ends_held =
+      let of = v.well_formed.used u holds.0 in
+      omega (arith, ap (λ (r : Range). r.len) span_held, of.within, of.whole.start, of.whole.len, holds.1)
 
 module _ {fllen sllen : ℕ} {m n : Space} {table changed : Table} {s t : State} {addr size align to : ℕ} (v : StandsFor fllen sllen (contents m table) s) (u : Used)
     (holds : Holds s addr u) (wide : u.align ≡ align) (step : Reallocates sllen s addr size (Some to) t) (now : StandsFor fllen sllen (contents n changed) t) where
@@ -59,7 +65,7 @@ module _ {fllen sllen : ℕ} {m n : Space} {table changed : Table} {s t : State}
         some = omega (arith, now.nonzero, (lies_used now fresh fresh_in.0).0, fresh_in.1);
         aligned = live_addresses_are_aligned fllen sllen (range_of n) t to align now.well_formed (fresh, fresh_in, fresh_wide);
         lies = (omega (arith, (lies_used now fresh fresh_in.0).0, fresh_in.1), omega (arith, ending, (used_in_memory now.well_formed fresh fresh_in.0).1));
-        ends = omega (arith, ending, of.whole.start, of.whole.len);
+        ends = ends_held now to fresh fresh_in;
         own = subst (IsOwned n) is_span (own_new v u holds.0 size to at_block (own-here m (usable u) here) now start own);
         here = subst (λ (r : Range). IsHere n (range_at to r.len)) (span_held v addr u holds) still;
       }

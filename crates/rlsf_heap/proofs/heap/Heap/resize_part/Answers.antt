@@ -1,402 +1,237 @@
-use Rattle.std.proofs.Common.{◌≡◌, ℕ, ◌+◌, Bool, true, false, true≢false, length, arith, refl, sym, ap, subst, ◌∙◌}
-use Rattle.rlsf_base.specs.declared.memory.range.Range.{Range}
-use Rattle.rlsf_base.specs.Ledger.{Extent, extent}
-use Rattle.rlsf_base.specs.OpenSpace.{IsOwned}
-use Rattle.rlsf_base.specs.Range.{LiesIn, range_at}
-use Rattle.rlsf_base.specs.Space.{Space}
-use Rattle.rlsf_base.proofs.Lending.Present.{own-here, owned-same}
+use Rattle.std.proofs.Common.{◌≡◌, ◌≢◌, ◌≤◌, ℕ, ◌+◌, ◌-◌, ◌++◌, ◌∷◌, [], true, false, set, length, List, arith, refl, sym, ap, subst, ◌∙◌}
+use Rattle.rlsf_base.specs.Ledger.{Entry, Extent, IsIssued, entry_of, extent}
+use Rattle.rlsf_base.specs.Piece.{HasStatesOf}
+use Rattle.rlsf_base.specs.Range.{range_at}
+use Rattle.rlsf_base.specs.Rounding.{round32}
+use Rattle.rlsf_model.specs.Callers.{align_at, bytes_at}
 use Rattle.rlsf_model.specs.NoMove.{ReallocatesWithoutMove}
 use Rattle.rlsf_model.specs.Sized.{IsSizedFor}
-use Rattle.rlsf_model.specs.State.{Holds, State, Used, usable}
-use Rattle.rlsf_table.specs.Counts.{Counts}
-use Rattle.rlsf_table.proofs.Parameters.{IsValid-widest}
+use Rattle.rlsf_model.specs.State.{State}
+use Rattle.rlsf_model.proofs.CallerWords.{align_at-live}
+use Rattle.rlsf_model.proofs.Coverage.{by_test}
 use Rattle.rlsf_blocks.specs.Laws.{read_from}
-use Rattle.rlsf_blocks.specs.StandsFor.{contents, StandsFor}
-use Rattle.rlsf_blocks.specs.Steps.LiveBlock.{AtEachBlock, IsLiveIn}
-use Rattle.rlsf_blocks.proofs.Counting.{Counts-touched}
-use Rattle.rlsf_blocks.proofs.Words.Apart.{used_in_memory}
 use Rattle.rlsf_tlsf.specs.CoreResizes.{KeepsBoundsThere, KeepsPayloads, stayed_if}
-use Rattle.rlsf_tlsf.specs.Cores.{LeavesCore}
+use Rattle.rlsf_tlsf.specs.Moving.{span}
 use Rattle.rlsf_tlsf.specs.Results.{IsResized}
-use Rattle.rlsf_tlsf.proofs.Reached.{IsCore-counted, LeavesCore-counted_first, LeavesCore-counted_last, read_from-counted}
-use Rattle.rlsf_tlsf.proofs.Replied.{some_more}
-use Rattle.rlsf_tlsf.proofs.ResizedInPlace.{own_behind}
-use Rattle.rlsf_heap.specs.Heap.{AreIssued, HeapView, Identity, IsPayload, Stands, Steps}
-use Rattle.rlsf_heap.specs.Resizing.{IsFound, found_cost}
-use Rattle.rlsf_heap.proofs.Costs.{Leaves, left_costs, left_counts, left_same, left_then}
-use Rattle.rlsf_heap.proofs.Leaving.{lies-usable}
-use Rattle.rlsf_heap.proofs.PutBack.{issued-reread}
-use Rattle.rlsf_heap.proofs.Reallocating.{IsBackIn, block, came, here as here_back, is_state, usable_is, wide}
-use Rattle.rlsf_heap.proofs.ResizedParts.{IsHeap-taken, IsTaken, as_left, count, frame, held_owned, is_owned, issued_renewed, no_room, own_at, owned, owned_sized, payload_still, payload_there}
-use Rattle.rlsf_heap.proofs.ResizedParts.{refused, resized, sized, standing, stands_owned, start_is, still, was}
+use Rattle.rlsf_tlsf.proofs.Reached.{read_from-counted}
+use Rattle.rlsf_tlsf.proofs.Relocated.{ends_held}
+use Rattle.rlsf_heap.specs.Handover.{IsHandedOver}
+use Rattle.rlsf_heap.specs.Heap.{AreIssued, HeapView, Identity, IsPayload, PayloadView, payload_view}
+use Rattle.rlsf_heap.proofs.ResizedParts.{issued_renewed}
+use Rattle.rlsf_heap.proofs.TakenBack.{IsAt, IsBack, IsHeap-over, back_as, bytes_over, core_back, found_back, here_there, keeps_over, lies_over, live_back, live_before, no_room, own_over}
+use Rattle.rlsf_heap.proofs.TakenBack.{range_back, reads_over, refused_over, resized_over, seen_back, sized_back, sized_over, step_over, there_at, bytes_are, without}
 use Rattle.rlsf_heap.proofs.heap.Heap.resize_part.Given as given
 use Rattle.rlsf_heap.proofs.heap.Heap.resize_part.Goals as goal
-use Rattle.rlsf_heap.proofs.heap.Heap.resize_part.Goals.{After-put_back, After-renewed-ticket-2, After-resize_block_in, After-take_out-same}
+use Rattle.rlsf_heap.proofs.heap.Heap.resize_part.Goals.{After-renewed-ticket-2, After-resize_in-done}
 
--- ---- the payload is back in the memory, and its block is found
+-- ---- the payload is back in the memory
 
-module _ (g : given.Over) (c : After-put_back g) where
-  first : IsBackIn g.row.FLLEN g.row.SLLEN c.self.inside.memory c.put_back.new.self c.self.inside.table (read_from c.self.inside.memory c.self.inside.state.state)
-      c.self.inside.ledger.entries c.args.ticket.key c.args.part c.args.ticket.align
-  first = came c.args.part c.self.invariant c.requires.ticket c.renewed-ticket.ensures.issued c.put_back.ensures.start c.put_back.ensures.bytes c.put_back.ensures.out
-
-  found : IsFound (owned c.self.inside.state.state first) c.start.result c.args.align (block first)
-  found = let h = held_owned c.self.inside.state.state first in ((h.0, h.1 ∙ sym c.start.ensures), some_more c.args.align (λ a same. wide first ∙ same) c.requires.align)
-
-pub find_block-block-requires : goal.find_block-block-requires
-find_block-block-requires g c =
-    let d = (goal.at.find_block-block-requires g c).After-put_back in
-    let b = first g d in (g.row.FLLEN, g.row.SLLEN, c.self.inside.table, owned c.self.inside.state.state b, block b, stands_owned c.self.inside.state.state b, found g d)
-
-pub resize_block_in-requires : goal.resize_block_in-requires
-resize_block_in-requires g c =
-    let d = (goal.at.resize_block_in-requires g c).After-put_back in
-    let b = first g d in
-    let is = c.self.invariant in
-    let k = c.self.inside.state.state in
-    let q = c.put_back.new.self in
-    let n = c.find_block-block.new.memory in
-    let counts = c.find_block-block.ensures.counts in
-    let v = stands_owned k b in
-    let (held, _) = found g d in
-    let used = v.well_formed.used (block b) held.0 in
-    let start = c.find_block-block.ensures.block g.row.FLLEN g.row.SLLEN c.self.inside.table (owned k b) (block b) v (found g d) in (
+pub resize_in-done-requires : goal.resize_in-done-requires
+resize_in-done-requires g c =
+    let pay = payload_view c.args.part c.args.ticket.align c.args.ticket.name in
+    let e = c.put_back.ensures in
+    let issued = c.renewed-ticket.ensures.issued in
+    let back = back_as c.args.part c.args.ticket.name c.requires.ticket issued e.start e.bytes e.len e.out e.touches e.copied e.view (without _ _ issued refl) in (
       omega arith,
       (
-        IsCore-counted counts (record {
-          valid = IsValid-widest g.FLBitmap.BitPattern.width_limit is.valid;
-          stands = subst (StandsFor g.row.FLLEN g.row.SLLEN (contents q c.self.inside.table)) (sym (is_owned k b)) v;
-          is_bare = is.is_bare;
-        }),
-        (
-          (
-            block b,
-            subst (λ (s : State). Holds s c.start.result (block b)) (sym (read_from-counted counts k ∙ is_owned k b)) held,
-            sym start,
-            own_behind n (block b) c.args.layout.size used
-                (owned-same q n (usable (block b)) counts.start counts.out (own-here q (usable (block b)) (here_back b))),
-          ),
-          omega (
-            arith,
-            c.is_below_limit.ensures,
-            ap length counts.bytes,
-            held.1,
-            start,
-            used.within,
-            used_in_memory v.well_formed (block b) held.0,
-            c.args.layout.valid.fits,
-          ),
-        ),
+        core_back c.self.invariant pay back g.FLBitmap.BitPattern.width_limit,
+        found_back c.self.invariant pay back c.args.align c.start-addr.ensures c.requires.align,
       ),
     )
 
 -- ---- after the core's call
 
-module _ (g : given.Over) (c : After-resize_block_in g) where
-  abbrev m : Space
-  m = c.self.inside.memory
+module _ (g : given.Over) (c : After-resize_in-done g) where
+  -- the payload, as its part and its ticket show it
+  abbrev pay : PayloadView
+  pay = payload_view c.args.part c.args.ticket.align c.args.ticket.name
 
-  abbrev q : Space
-  q = c.put_back.new.self
+  abbrev was : Extent
+  was = extent c.args.ticket.addr c.args.ticket.len c.args.ticket.align
 
-  abbrev o : Space
-  o = c.resize_block_in.new.memory
+  back_by : {fs : List Entry} → ((s : State) → AreIssued s c.self.inside.ledger.entries
+      → AreIssued s fs × ((i : ℕ) (w : Extent) → IsIssued fs i w → w.addr ≢ c.args.ticket.addr)) → IsBack c.self.inside.memory c.put_back.new.self c.self.inside.ledger.entries fs pay
+  back_by =
+      let e = c.put_back.ensures in
+      back_as c.args.part c.args.ticket.name c.requires.ticket c.renewed-ticket.ensures.issued e.start e.bytes e.len e.out e.touches e.copied e.view
 
-  abbrev k : State
-  k = c.self.inside.state.state
+  back : IsBack c.self.inside.memory c.put_back.new.self c.self.inside.ledger.entries (set c.self.inside.ledger.entries c.args.ticket.key (entry_of was false)) pay
+  back = back_by (without c.args.ticket.key was c.renewed-ticket.ensures.issued refl)
 
-  abbrev j : State
-  j = c.resize_block_in.new.state.state
+  abbrev s : State
+  s = read_from c.put_back.new.self c.self.inside.state.state
 
-  b : IsBackIn g.row.FLLEN g.row.SLLEN m q c.self.inside.table (read_from m k) c.self.inside.ledger.entries c.args.ticket.key c.args.part c.args.ticket.align
-  b = came c.args.part c.self.invariant c.requires.ticket c.renewed-ticket.ensures.issued c.put_back.ensures.start c.put_back.ensures.bytes c.put_back.ensures.out
+  abbrev t : State
+  t = read_from c.resize_in-done.new.memory c.resize_in-done.new.state.state
 
-  left : LeavesCore g.row.FLLEN g.row.SLLEN q o c.resize_block_in.new.table k j (found_cost c.args.align + 24)
-  left = LeavesCore-counted_first c.find_block-block.ensures.counts c.resize_block_in.ensures.left
+  -- what is so of the address as a number is so of the part's
+  told : (So : ℕ → Type 0) → So c.start-addr.result → So c.args.part.start
+  told So so = subst So c.start-addr.ensures so
 
-  -- what is so of the states that the call saw, and of the address as it was passed, is so of those that contracts see
-  told : {t : State} → t ≡ read_from o j → (So : State → State → ℕ → Type 0) → So (read_from c.find_block-block.new.memory k) (read_from o j) c.start.result
-      → So (owned k b) t c.args.part.start
-  told same So so =
-      subst (λ (z : State × State × ℕ). So z.0 z.1 z.2) (λ i. ((read_from-counted c.find_block-block.ensures.counts k ∙ is_owned k b) i, sym same i, c.start.ensures i)) so
+  kept : KeepsPayloads s t c.args.part.start
+  kept = told (KeepsPayloads s t) c.resize_in-done.ensures.kept
 
-  kept_in : {t : State} → t ≡ read_from o j → KeepsPayloads (owned k b) t c.args.part.start
-  kept_in same = told same KeepsPayloads c.resize_block_in.ensures.kept
+  there : IsAt c.resize_in-done.new.memory s t c.args.part.start c.args.ticket.align c.args.part.start
+  there = there_at c.self.invariant pay back c.resize_in-done.ensures.left kept
 
-  step_in : {t : State} → t ≡ read_from o j → (done : Bool) → c.resize_block_in.result ≡ done
-      → ReallocatesWithoutMove (owned k b) c.args.part.start c.args.layout.size (stayed_if done c.args.part.start) t
-  step_in {t} same done is =
-      subst (λ d. ReallocatesWithoutMove (owned k b) c.args.part.start c.args.layout.size (stayed_if d c.args.part.start) t) is
-      (told same (λ s u a. ReallocatesWithoutMove s a c.args.layout.size (stayed_if c.resize_block_in.result a) u) c.resize_block_in.ensures.step)
+  same : c.resize_in-done.result ≡ false → t ≡ s
+  same refused =
+      let e = c.resize_in-done.ensures.refused refused in ap (read_from c.resize_in-done.new.memory) e.state ∙ read_from-counted e.counts c.self.inside.state.state
 
-  -- the block that it has now, whose bytes are the memory's own
-  now_held : (z : Used) × Holds (read_from o j) c.args.part.start z × (z.align ≡ (block b).align)
-  now_held = still (stands_owned k b) left.core.stands (kept_in refl) c.args.part.start (block b) (held_owned k b)
+  resized_now : c.resize_in-done.result ≡ true → IsResized s t c.args.part.start c.args.layout.size c.args.part.start
+  resized_now did = told (λ a. IsResized s t a c.args.layout.size a) (c.resize_in-done.ensures.result did)
 
-  own_now : (z : Used) → Holds (read_from o j) c.args.part.start z → IsOwned o (usable z)
-  own_now z holds a lo hi =
-      let was = held_owned k b in
-      let before = (stands_owned k b).well_formed.used (block b) was.0 in
-      own_at (stands_owned k b) left.core.stands (kept_in refl) (block b) z was holds left.costs.start left.own a (omega (arith, lo, holds.1))
-      (omega (arith, hi, (left.core.stands.well_formed.used z holds.0).within))
-      (λ inside. own-here q (usable (block b)) (here_back b) a (omega (arith, lo, holds.1, was.1)) (omega (arith, inside, before.within)))
+  -- it ends at the first multiple of 32 behind its size
+  ends : c.resize_in-done.result ≡ true → round32 (c.args.part.start + c.args.layout.size) ≡ c.args.part.start + length (bytes_at t c.args.part.start)
+  ends did =
+      let stands = c.resize_in-done.ensures.left.core.stands in
+      let (u, holds, _) = align_at-live t c.args.part.start c.args.ticket.align there.live in
+      omega (arith, (resized_now did).sized, (resized_now did).few, ends_held stands c.args.part.start u holds)
 
-  copied_to : o.copied ≡ m.copied
-  copied_to = omega (arith, left.costs.copied, c.put_back.ensures.copied)
+  lies : (c.resize_in-done.new.memory.start ≤ c.args.part.start)
+      × (c.args.part.start + length (bytes_at t c.args.part.start) ≤ c.resize_in-done.new.memory.start + length c.resize_in-done.new.memory.bytes)
+  lies = lies_over c.self.invariant pay back c.resize_in-done.ensures.left there refl
 
-  -- ---- the tickets
+  -- and so long is it now
+  whole : (len size : ℕ) → size ≡ c.args.layout.size → (c.resize_in-done.result ≡ true → len ≡ round32 (c.start-addr.result + size) - c.start-addr.result)
+      → (c.resize_in-done.result ≡ false → len ≡ c.len-was.result)
+      → range_at c.start-addr.result len ≡ span t c.args.part.start c.args.part.start
+  whole len size sizes now before =
+      range_back c.self.invariant pay back c.resize_in-done.ensures.left kept c.start-addr.ensures (by_test c.resize_in-done.result
+      (λ did. omega (arith, now did, ends did, c.start-addr.ensures, sizes))
+      (λ refused. before refused ∙ c.len-was.ensures ∙ sym (ap length (ap (λ (u : State). bytes_at u c.args.part.start) (same refused) ∙ bytes_are c.self.invariant pay back))))
 
-  abbrev shown : Extent
-  shown = extent c.args.ticket.addr c.args.ticket.len c.args.ticket.align
+pub length_now-len-requires : goal.length_now-len-requires
+length_now-len-requires g c = λ yes.
+    let d = (goal.at.length_now-len-requires g c).After-resize_in-done in
+    omega (arith, ends g d yes, c.start-addr.ensures, c.size.ensures, lies g d, c.resize_in-done.ensures.left.core.stands.well_formed.addressable)
 
-  tickets : AreIssued (owned k b) c.renewed-ticket.new.ledger.entries
-  tickets =
-      let same = subst (λ s. AreIssued s c.self.inside.ledger.entries) (is_state b) (issued-reread q (read_from m k) c.self.inside.ledger.entries c.self.invariant.tickets) in
+pub take_out-part-requires-clause-place : goal.take_out-part-requires-clause-place
+take_out-part-requires-clause-place g c =
+    let f = (goal.at.take_out-part-requires-clause-place g c).After-resize_in-done in
+    lies_over c.self.invariant (pay g f) (back g f) c.resize_in-done.ensures.left (there g f)
+    (whole g f c.length_now-len.result c.size.result c.size.ensures.value c.length_now-len.ensures.done c.length_now-len.ensures.kept)
+
+pub take_out-part-requires-clause-own : goal.take_out-part-requires-clause-own
+take_out-part-requires-clause-own g c =
+    let f = (goal.at.take_out-part-requires-clause-own g c).After-resize_in-done in
+    own_over c.self.invariant (pay g f) (back g f) c.resize_in-done.ensures.left (there g f)
+    (whole g f c.length_now-len.result c.size.result c.size.ensures.value c.length_now-len.ensures.done c.length_now-len.ensures.kept)
+
+-- ---- its bytes leave, and its ticket is renewed again
+
+module _ (g : given.Over) (c : After-renewed-ticket-2 g) where
+  abbrev f : After-resize_in-done g
+  f = (goal.at.returns g c).After-resize_in-done
+
+  abbrev new : PayloadView
+  new = payload_view c.take_out-part.result c.renewed-ticket-2.result.align c.renewed-ticket-2.result.name
+
+  abbrev again : Extent
+  again = extent c.renewed-ticket.result.addr c.renewed-ticket.result.len c.renewed-ticket.result.align
+
+  abbrev rest : List Entry
+  rest = set c.renewed-ticket.new.ledger.entries c.renewed-ticket.result.key (entry_of again false)
+
+  at_part : c.renewed-ticket.result.addr ≡ c.args.part.start
+  at_part = c.renewed-ticket.ensures.ticket.1 ∙ sym c.requires.ticket.0
+
+  back_last : IsBack c.self.inside.memory c.put_back.new.self c.self.inside.ledger.entries rest (pay g f)
+  back_last = back_by g f (λ s tickets.
+      let first = was g f in
       let is = c.renewed-ticket.ensures.issued in
-      subst (AreIssued (owned k b)) (sym c.renewed-ticket.ensures.ledger.1)
-      (issued_renewed c.args.ticket.key shown c.len.result same is (λ e there apart. there)
-      (subst (λ (n : ℕ). IsPayload (owned k b) (extent shown.addr n shown.align)) (sym (c.len.ensures ∙ c.requires.ticket.1)) (same.issued c.args.ticket.key shown is)))
+      let long = subst (λ n. IsPayload s (extent c.args.ticket.addr n c.args.ticket.align)) (sym (c.len-was.ensures ∙ c.requires.ticket.1)) (tickets.issued c.args.ticket.key first is) in
+      let less = without c.renewed-ticket.result.key again c.renewed-ticket-2.ensures.issued refl s (subst (AreIssued s) (sym c.renewed-ticket.ensures.ledger.1)
+      (issued_renewed c.args.ticket.key first c.len-was.result tickets is (λ e there apart. there) long)) in
+      (less.0, λ i w issued same. less.1 i w issued (same ∙ sym c.renewed-ticket.ensures.ticket.1)))
 
-  -- the ticket is one of the heap's
-  names : c.renewed-ticket.result.name ≡ c.self.inside.ledger.name
-  names =
-      c.renewed-ticket.ensures.ticket.0 ∙ ap (λ (h : Identity). h.ledger) c.requires.identity ∙ sym (ap (λ (v : HeapView). v.identity.ledger) c.self.view_is)
+  over : IsHandedOver c.resize_in-done.new.memory c.take_out-part.new.self (range_at c.start-addr.result c.length_now-len.result) c.renewed-ticket.result.align
+      c.renewed-ticket-2.result.name rest c.renewed-ticket-2.new.ledger.entries new
+  unfolding HasStatesOf
+  over =
+      let e = c.take_out-part.ensures in record {
+        identity = λ i. record { home = e.part.0 i; ledger = c.renewed-ticket-2.result.name };
+        at = e.part.1;
+        align = c.renewed-ticket-2.ensures.ticket.3;
+        values = e.part.2;
+        long = e.len;
+        states = e.kept;
+        full = e.full;
+        start = e.start;
+        bytes = e.bytes;
+        out = e.out;
+        touches = e.touches;
+        copied = e.copied;
+        view = e.view;
+        entries = c.renewed-ticket-2.ensures.ledger.1
+            ∙ (λ i. rest ++ entry_of (extent ((at_part ∙ sym c.start-addr.ensures) i) c.length_now-len.result c.renewed-ticket.result.align) true ∷ []);
+      }
 
-  -- ---- it is as it was
-
-  module _ (no : c.resize_block_in.result ≡ false) where
-    same_state : read_from o j ≡ owned k b
-    same_state =
-        let e = c.resize_block_in.ensures.refused no in
-        ap (read_from o) e.state ∙ read_from-counted e.counts k ∙ read_from-counted c.find_block-block.ensures.counts k ∙ is_owned k b
-
-    same_held : Holds (read_from o j) c.args.part.start (block b)
-    same_held = subst (λ (s : State). Holds s c.args.part.start (block b)) (sym same_state) (held_owned k b)
-
-    same_range : range_at c.start.result c.len.result ≡ usable (block b)
-    same_range = usable_is b c.start.ensures c.len.ensures
-
-    same_own : IsOwned o (range_at c.start.result c.len.result)
-    same_own = subst (IsOwned o) (sym same_range) (own_now (block b) same_held)
-
-pub take_out-same-requires-clause-place : goal.take_out-same-requires-clause-place
-take_out-same-requires-clause-place g c =
-    let d = (goal.at.take_out-same-requires-clause-place g c).After-resize_block_in in
-    let n = c.resize_block_in.new.memory in
-    let no = c.if-not-resize_block_in.true in
-    subst (λ (r : Range). LiesIn r n.start (length n.bytes)) (sym (same_range g d no)) (lies-usable (left g d).core.stands (block (b g d)) (same_held g d no).0)
-
-pub take_out-same-requires-clause-own : goal.take_out-same-requires-clause-own
-take_out-same-requires-clause-own g c = same_own g (goal.at.take_out-same-requires-clause-own g c).After-resize_block_in c.if-not-resize_block_in.true
-
-same_taken : (g : given.Over) (c : After-take_out-same g) → IsTaken g.row.FLLEN g.row.SLLEN (found_cost c.args.align + 24) c.self.inside.memory c.put_back.new.self
-    c.resize_block_in.new.memory c.take_out-same.new.self c.self.inside.table c.resize_block_in.new.table c.self.inside.state.state c.resize_block_in.new.state.state
-    c.self.inside.ledger.entries c.args.ticket.key c.args.ticket.align c.args.part c.take_out-same.result (range_at c.start.result c.len.result)
-same_taken g c =
-    let d = (goal.at.invariant_of-self g c).After-resize_block_in in
-    let no = c.if-not-resize_block_in.true in
-    let e = c.take_out-same.ensures in record {
-      back = b g d;
-      left = left g d;
-      takes = record { part = e.part; len = e.len; kept = e.kept; full = e.full; start = e.start; bytes = e.bytes; view = e.view; out = e.out };
-      used = block (b g d);
-      holds = same_held g d no;
-      is_range = same_range g d no;
-      own = same_own g d no;
-    }
-
-same_now : (g : given.Over) (c : After-take_out-same g) → read_from c.take_out-same.new.self c.resize_block_in.new.state.state
-    ≡ owned c.self.inside.state.state (same_taken g c).back
-same_now g c = as_left (same_taken g c) ∙ same_state g (goal.at.invariant_of-self g c).After-resize_block_in c.if-not-resize_block_in.true
-
-same_leaves : (g : given.Over) (c : After-take_out-same g) → Leaves c.self.inside.memory c.take_out-same.new.self (found_cost c.args.align + 2)
-same_leaves g c =
-    let put = c.put_back.ensures in
-    let e = c.take_out-same.ensures in
-    subst (Leaves c.self.inside.memory c.take_out-same.new.self) (omega arith)
-    (left_then (left_same put.start put.len put.view put.touches) (left_then (left_counts c.find_block-block.ensures.counts)
-    (left_then (left_counts (c.resize_block_in.ensures.refused c.if-not-resize_block_in.true).counts) (left_same e.start (ap length e.bytes) e.view e.touches))))
+  range : range_at c.start-addr.result c.length_now-len.result ≡ span (t g f) c.args.part.start c.args.part.start
+  range = whole g f c.length_now-len.result c.size.result c.size.ensures.value c.length_now-len.ensures.done c.length_now-len.ensures.kept
 
 pub invariant_of-self : goal.invariant_of-self
 invariant_of-self g c =
-    let d = (goal.at.invariant_of-self g c).After-resize_block_in in
-    let w = same_taken g c in
-    IsHeap-taken w c.self.invariant.valid c.renewed-ticket.new.ledger.entries
-    (subst (λ (s : State). AreIssued s c.renewed-ticket.new.ledger.entries) (sym (same_now g c)) (tickets g d))
-    c.self.inside.live (c.self.invariant.counted ∙ sym (count w (kept_in g d (as_left w))))
-
-pub returns-then-not-resize_block_in : goal.returns-then-not-resize_block_in
-unfolding Steps Stands
-returns-then-not-resize_block_in g c =
-    let d = (goal.at.returns-then-not-resize_block_in g c).After-resize_block_in in
-    let no = c.if-not-resize_block_in.true in
-    let w = same_taken g c in
-    let leaves = same_leaves g c in
-    let kept = kept_in g d (as_left w) in
-    let name = c.renewed-ticket.ensures.ledger.0 in
-    let t = c.renewed-ticket.ensures.ticket in
-    let size = c.args.layout.size in
-    let now = read_from c.take_out-same.new.self c.resize_block_in.new.state.state in
-    let step = step_in g d (as_left w) false no in
-    let bounds = told g d (as_left w) (λ s u a. KeepsBoundsThere g.row.SLLEN s u a size) c.resize_block_in.ensures.bounds in
-    rw (← c.self.view_is) (record {
-      step = (step, standing w);
-      result = λ yes. absurd (true≢false (sym yes));
-      refused = λ _.
-          refused w kept leaves name c.args.ticket.name (names g d) t.3 (same_now g c)
-          ((c.resize_block_in.ensures.refused no).counts.bytes ∙ c.find_block-block.ensures.counts.bytes);
-      kept = λ _. (
-        λ most longest wide is. subst (IsSizedFor g.row.SLLEN most longest wide) (sym (same_now g c)) (owned_sized w most longest wide is),
-        leaves.touches,
-      );
-      live = was w;
-      room = no_room c.self.inside.state.state w.back size (false ≡ true) step;
-      place = (start_is w, t.3);
-      ticket = (
-        start_is w ∙ c.requires.ticket.0 ∙ sym t.1,
-        c.take_out-same.ensures.len ∙ sym t.2,
-        refl,
-      );
-      bounds = sized w kept size bounds;
-      frame = frame w kept leaves name (c.take_out-same.ensures.copied ∙ copied_to g d);
-      touches = omega (arith, leaves.touches);
-    })
-
--- ---- it has the size, and its length is read
-
-module _ (g : given.Over) (c : After-resize_block_in g) where
-  -- it is live where it is read
-  reads : IsLiveIn c.resize_block_in.new.memory c.start.result
-  reads =
-      let (z, holds, _) = now_held g c in (
-        g.row.FLLEN,
-        g.row.SLLEN,
-        contents c.resize_block_in.new.memory c.resize_block_in.new.table,
-        read_from c.resize_block_in.new.memory c.resize_block_in.new.state.state,
-        refl,
-        (left g c).core.stands,
-        (z, (holds.0, holds.1 ∙ sym c.start.ensures)),
-      )
-
-  module _ {r : Space} {range : Range} (touched : r ≡ record c.resize_block_in.new.memory { touches = c.resize_block_in.new.memory.touches + 3 })
-      (each : AtEachBlock c.resize_block_in.new.memory c.start.result (λ u. range ≡ usable u)) where
-    more : Counts c.resize_block_in.new.memory r 3
-    more = Counts-touched c.resize_block_in.new.memory r 3 touched
-
-    read_left : LeavesCore g.row.FLLEN g.row.SLLEN c.put_back.new.self r c.resize_block_in.new.table c.self.inside.state.state c.resize_block_in.new.state.state
-        (found_cost c.args.align + 24 + 3)
-    read_left = LeavesCore-counted_last more (left g c)
-
-    read_range : (u : Used) → Holds (read_from c.resize_block_in.new.memory c.resize_block_in.new.state.state) c.args.part.start u → range ≡ usable u
-    read_range u holds =
-        each g.row.FLLEN g.row.SLLEN (contents c.resize_block_in.new.memory c.resize_block_in.new.table)
-        (read_from c.resize_block_in.new.memory c.resize_block_in.new.state.state) u refl (left g c).core.stands (holds.0, holds.1 ∙ sym c.start.ensures)
-
-    read_held : Holds (read_from r c.resize_block_in.new.state.state) c.args.part.start (now_held g c).0
-    read_held = subst (λ (s : State). Holds s c.args.part.start (now_held g c).0) (sym (read_from-counted more c.resize_block_in.new.state.state)) (now_held g c).1
-
-    read_lies : LiesIn range r.start (length r.bytes)
-    read_lies =
-        subst (λ (t : Range). LiesIn t r.start (length r.bytes)) (sym (read_range (now_held g c).0 (now_held g c).1))
-        (lies-usable read_left.core.stands (now_held g c).0 read_held.0)
-
-    read_own : IsOwned r range
-    read_own =
-        let u = (now_held g c).0 in
-        subst (IsOwned r) (sym (read_range u (now_held g c).1))
-        (owned-same c.resize_block_in.new.memory r (usable u) more.start more.out (own_now g c u (now_held g c).1))
-
-pub load_usable_bytes-range-requires : goal.load_usable_bytes-range-requires
-load_usable_bytes-range-requires g c = reads g (goal.at.load_usable_bytes-range-requires g c).After-resize_block_in
-
-pub take_out-resized-requires-clause-place : goal.take_out-resized-requires-clause-place
-take_out-resized-requires-clause-place g c =
-    read_lies g (goal.at.take_out-resized-requires-clause-place g c).After-resize_block_in c.load_usable_bytes-range.ensures.memory c.load_usable_bytes-range.ensures.range
-
-pub take_out-resized-requires-clause-own : goal.take_out-resized-requires-clause-own
-take_out-resized-requires-clause-own g c =
-    read_own g (goal.at.take_out-resized-requires-clause-own g c).After-resize_block_in c.load_usable_bytes-range.ensures.memory c.load_usable_bytes-range.ensures.range
-
-taken : (g : given.Over) (c : After-renewed-ticket-2 g)
-    → IsTaken g.row.FLLEN g.row.SLLEN (found_cost c.args.align + 24 + 3) c.self.inside.memory c.put_back.new.self c.load_usable_bytes-range.new.memory
-    c.take_out-resized.new.self c.self.inside.table c.resize_block_in.new.table c.self.inside.state.state c.resize_block_in.new.state.state c.self.inside.ledger.entries
-    c.args.ticket.key c.args.ticket.align c.args.part c.take_out-resized.result c.load_usable_bytes-range.result
-taken g c =
-    let d = (goal.at.invariant_of-self-2 g c).After-resize_block_in in
-    let touched = c.load_usable_bytes-range.ensures.memory in
-    let each = c.load_usable_bytes-range.ensures.range in
-    let e = c.take_out-resized.ensures in record {
-      back = b g d;
-      left = read_left g d touched each;
-      takes = record { part = e.part; len = e.len; kept = e.kept; full = e.full; start = e.start; bytes = e.bytes; view = e.view; out = e.out };
-      used = (now_held g d).0;
-      holds = read_held g d touched each;
-      is_range = read_range g d touched each (now_held g d).0 (now_held g d).1;
-      own = read_own g d touched each;
-    }
-
--- the state that contracts see is the one that the call led to
-now_is : (g : given.Over) (c : After-renewed-ticket-2 g) → read_from c.take_out-resized.new.self c.resize_block_in.new.state.state
-    ≡ read_from c.resize_block_in.new.memory c.resize_block_in.new.state.state
-now_is g c =
-    let d = (goal.at.invariant_of-self-2 g c).After-resize_block_in in
-    as_left (taken g c) ∙ read_from-counted (more g d c.load_usable_bytes-range.ensures.memory c.load_usable_bytes-range.ensures.range) c.resize_block_in.new.state.state
-
-leaves : (g : given.Over) (c : After-renewed-ticket-2 g) → Leaves c.self.inside.memory c.take_out-resized.new.self (found_cost c.args.align + 27)
-leaves g c =
-    let put = c.put_back.ensures in
-    let e = c.take_out-resized.ensures in
-    subst (Leaves c.self.inside.memory c.take_out-resized.new.self) (omega arith)
-    (left_then (left_same put.start put.len put.view put.touches) (left_then (left_costs (taken g c).left.costs) (left_same e.start (ap length e.bytes) e.view e.touches)))
-
-renewed_again : (g : given.Over) (c : After-renewed-ticket-2 g) → AreIssued (read_from c.take_out-resized.new.self c.resize_block_in.new.state.state)
-    c.renewed-ticket-2.new.ledger.entries
-renewed_again g c =
-    let d = (goal.at.invariant_of-self-2 g c).After-resize_block_in in
-    let k = c.self.inside.state.state in
-    let w = taken g c in
-    let t = c.renewed-ticket.result in
-    let is = c.renewed-ticket-2.ensures.issued in
-    let kept = kept_in g d (now_is g c) in
-    let at : t.addr ≡ c.args.part.start = c.renewed-ticket.ensures.ticket.1 ∙ sym c.requires.ticket.0 in
-    let was = (tickets g d).issued t.key (extent t.addr t.len t.align) is in
-    subst (AreIssued (read_from c.take_out-resized.new.self c.resize_block_in.new.state.state)) (sym c.renewed-ticket-2.ensures.ledger.1)
-    (issued_renewed t.key (extent t.addr t.len t.align) c.load_usable_bytes-range.result.len (tickets g d) is
-    (λ e there apart. payload_still (stands_owned k w.back) (standing w) kept e there (λ same. apart (same ∙ sym at)))
-    (payload_there (stands_owned k w.back) (standing w) kept (extent t.addr t.len t.align) was at c.load_usable_bytes-range.result.len
-    (λ u holds. ap (λ (z : Range). z.len) (read_range g d c.load_usable_bytes-range.ensures.memory c.load_usable_bytes-range.ensures.range u
-    (subst (λ (s : State). Holds s c.args.part.start u) (now_is g c) holds)))))
-
-pub invariant_of-self-2 : goal.invariant_of-self-2
-invariant_of-self-2 g c =
-    let w = taken g c in
-    IsHeap-taken w c.self.invariant.valid c.renewed-ticket-2.new.ledger.entries (renewed_again g c) c.self.inside.live
-    (c.self.invariant.counted ∙ sym (count w (kept_in g (goal.at.invariant_of-self-2 g c).After-resize_block_in (now_is g c))))
+    let e = (goal.at.invariant_of-self g c).After-renewed-ticket-2 in
+    IsHeap-over c.self.invariant (pay g (f g e)) (back_last g e) c.resize_in-done.ensures.left (there g (f g e)) (range g e) c.renewed-ticket.ensures.ticket.3 (over g e)
 
 pub returns : goal.returns
-unfolding Steps Stands
 returns g c =
-    let d = (goal.at.returns g c).After-resize_block_in in
-    let yes = c.if-not-resize_block_in.false in
-    let w = taken g c in
-    let leaves = leaves g c in
-    let kept = kept_in g d (now_is g c) in
-    let name = c.renewed-ticket-2.ensures.ledger.0 ∙ c.renewed-ticket.ensures.ledger.0 in
-    let t = c.renewed-ticket-2.ensures.ticket in
-    let u = c.renewed-ticket.ensures.ticket in
+    let h = (goal.at.returns g c).After-renewed-ticket-2 in
+    let f = f g h in
+    let is = c.self.invariant in
+    let pay = pay g f in
+    let back = back_last g h in
+    let e = c.resize_in-done.ensures in
+    let put = c.put_back.ensures in
+    let take = c.take_out-part.ensures in
+    let kept = kept g f in
+    let at = there g f in
+    let whole = range g h in
+    let aligned = c.renewed-ticket.ensures.ticket.3 in
+    let over = over g h in
     let size = c.args.layout.size in
-    let is = told g d (now_is g c) (λ (s u : State) (a : ℕ). IsResized s u a size a) (c.resize_block_in.ensures.result yes) in
-    let bounds = told g d (now_is g c) (λ s u a. KeepsBoundsThere g.row.SLLEN s u a size) c.resize_block_in.ensures.bounds in
+    let m = c.self.inside.memory in
+    let before = read_from m c.self.inside.state.state in
+    let ledger = c.self.inside.ledger.name in
+    let label = c.renewed-ticket-2.new.ledger.name in
+    let named = c.renewed-ticket-2.ensures.ledger.0 ∙ c.renewed-ticket.ensures.ledger.0 in
+    let name : c.renewed-ticket-2.result.name ≡ ledger =
+    c.renewed-ticket-2.ensures.ticket.0 ∙ c.renewed-ticket.ensures.ticket.0 ∙ ap (λ (i : Identity). i.ledger) c.requires.identity
+    ∙ sym (ap (λ (v : HeapView). v.identity.ledger) c.self.view_is) in
+    let here = here_there is pay back e.left kept in
+    let reads = reads_over is pay back e.left at whole aligned over in
+    let aligns = reads (λ (x : State). align_at x ≡ align_at before) (kept.aligns ∙ (λ i a. (seen_back is pay back).aligns a i)) in
+    let step = told g f (λ a. ReallocatesWithoutMove (s g f) a size (stayed_if c.resize_in-done.result a) (t g f)) e.step in
     rw (← c.self.view_is) (record {
-      step = (step_in g d (now_is g c) true yes, standing w);
-      result = λ _. resized w kept leaves name c.args.ticket.name (t.0 ∙ names g d) (t.3 ∙ u.3) size is;
-      refused = λ no. absurd (true≢false no);
-      kept = λ no. absurd (true≢false no);
-      live = was w;
-      room = record { enough = λ _. refl; stays = λ _. refl };
-      place = (start_is w, t.3 ∙ u.3);
-      ticket = (start_is w ∙ c.requires.ticket.0 ∙ sym u.1 ∙ sym t.1, c.take_out-resized.ensures.len ∙ sym t.2, refl);
-      bounds = sized w kept size bounds;
-      frame = frame w kept leaves name (c.take_out-resized.ensures.copied ∙ ap (λ (o : Space). o.copied) c.load_usable_bytes-range.ensures.memory ∙ copied_to g d);
-      touches = leaves.touches;
+      step = step_over is pay back e.left at whole aligned over label (λ x y. ReallocatesWithoutMove x c.args.part.start size (stayed_if c.resize_in-done.result c.args.part.start) y) step;
+      result = λ yes.
+          let now = resized_now g f yes in record {
+            resized = resized_over is pay back e.left at whole aligned over ledger label name size now.sized now.few now.kept here;
+            start = take.part.1 ∙ c.start-addr.ensures;
+            live = live_before is pay back;
+            aligns = aligns;
+          };
+      refused = λ no. refused_over is pay back e.left at whole aligned over ledger label name (same g f no) (e.refused no).counts.bytes refl here;
+      kept = λ no. (
+        λ most longest wide sized. reads (IsSizedFor g.row.SLLEN most longest wide)
+            (subst (IsSizedFor g.row.SLLEN most longest wide) (sym (same g f no)) (sized_back is pay back most longest wide sized)),
+        omega (arith, (e.refused no).counts.touches, put.touches, take.touches),
+      );
+      live = live_before is pay back;
+      room = by_test c.resize_in-done.result
+          (λ yes. record { enough = λ _. yes; stays = λ _. yes })
+          (λ no. no_room is pay back size (c.resize_in-done.result ≡ true)
+          (subst (λ b. ReallocatesWithoutMove (s g f) c.args.part.start size (stayed_if b c.args.part.start) (t g f)) no step));
+      place = (take.part.1 ∙ c.start-addr.ensures, c.renewed-ticket-2.ensures.ticket.3 ∙ aligned);
+      ticket = (take.part.1 ∙ c.start-addr.ensures ∙ sym (at_part g h) ∙ sym c.renewed-ticket-2.ensures.ticket.1, take.len ∙ sym c.renewed-ticket-2.ensures.ticket.2, refl);
+      bounds = sized_over is pay back e.left at whole aligned over size (λ most longest wide sized short fits.
+          told g f (λ a. KeepsBoundsThere g.row.SLLEN (s g f) (t g f) a size) e.bounds most longest wide c.args.ticket.align sized (live_back is pay back) short fits);
+      frame = record {
+        heap = keeps_over is pay back e.left at whole aligned over ledger label named;
+        bytes = bytes_over is pay back e.left at whole aligned over ledger label;
+        chunks = reads (λ (x : State). x.chunks ≡ before.chunks) kept.chunks;
+        copied = take.copied ∙ (let e : c.resize_in-done.new.memory.copied ≡ m.copied = omega (arith, e.left.costs.copied, put.copied) in e);
+      };
+      touches = omega (arith, e.left.costs.touches, put.touches, take.touches);
     })
