@@ -11,14 +11,13 @@ pub mod MovedThin
 pub mod OnCores
 pub mod OwnedBytes
 pub mod PayloadsApart
-pub mod PutBack
 pub mod Read
 pub mod Reallocated
-pub mod Reallocating
 pub mod Released
 pub mod ResizedParts
 pub mod Rewritten
 pub mod Settled
+pub mod Shown
 mod TakenBack
 pub mod ThinPayloads
 pub mod ThinTickets

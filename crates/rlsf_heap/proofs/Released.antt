@@ -1,75 +1,32 @@
--- Deallocation: the bytes of a payload are back in the memory, and its block is released.
-use Rattle.std.proofs.Common.{◌≡◌, ◌≢◌, ℕ, ◌+◌, ◌-◌, ◌<◌, ◌≤◌, ◌⊎◌, false, List, length, set, arith, inl, inr, sym, ap, subst, ◌∙◌}
+-- Deallocation: the bytes of a payload are the memory's own again, and its block is released.
+use Rattle.std.proofs.Common.{◌≡◌, ℕ, ◌+◌, ◌-◌, ◌≤◌, false, List, length, set, arith, refl, sym, ap, subst, ◌∙◌}
 use Rattle.rlsf_base.specs.declared.memory.range.Range.{Range}
-use Rattle.rlsf_base.specs.Ledger.{Entry, entry_of, extent, IsIssued}
-use Rattle.rlsf_base.specs.Out.{raw, is_own, kept_at}
+use Rattle.rlsf_base.specs.Ledger.{Entry, Extent, entry_of, extent}
 use Rattle.rlsf_base.specs.OpenSpace.{IsOwned, out_raw}
-use Rattle.rlsf_base.specs.Piece.{Piece, piece_range}
-use Rattle.rlsf_base.specs.Range.{LiesIn, end_of}
+use Rattle.rlsf_base.specs.Piece.{Piece}
+use Rattle.rlsf_base.specs.Range.{range_at}
 use Rattle.rlsf_base.specs.Space.{Space}
-use Rattle.rlsf_base.proofs.Changes.{changed-there}
 use Rattle.rlsf_model.specs.Release.{Deallocates, released}
 use Rattle.rlsf_model.specs.Sized.{live_count}
 use Rattle.rlsf_model.specs.State.{State, Used, Holds, usable}
 use Rattle.rlsf_model.specs.WellFormed.{IsWellFormed}
 use Rattle.rlsf_model.proofs.CallerWords.{gone_seen}
-use Rattle.rlsf_model.proofs.Changes.{Holds-unique, IsIn-others_from}
-use Rattle.rlsf_model.proofs.Payloads.{IsUsed-after_start}
+use Rattle.rlsf_model.proofs.Changes.{Holds-unique}
+use Rattle.rlsf_model.proofs.Chunks.{chunks-deallocated}
 use Rattle.rlsf_model.proofs.SizedWords.{count_gone, sized_gone}
 use Rattle.rlsf_table.specs.Table.{Table}
+use Rattle.rlsf_table.proofs.Parameters.{IsValid-widest}
 use Rattle.rlsf_blocks.specs.Laws.{read_from}
+use Rattle.rlsf_blocks.specs.Spare.{KeepsSpare}
 use Rattle.rlsf_blocks.specs.StandsFor.{contents, StandsFor}
-use Rattle.rlsf_blocks.proofs.Words.Apart.{used_in_memory}
-use Rattle.rlsf_heap.specs.Frame.{KeepsAllBounds}
-use Rattle.rlsf_tlsf.specs.Cores.{LeavesCore}
-use Rattle.rlsf_heap.specs.Heap.{AreIssued, IsHeap, IsPayload, IsTicketOf}
+use Rattle.rlsf_tlsf.specs.Cores.{IsCore, LeavesCore}
+use Rattle.rlsf_tlsf.proofs.Reached.{read_from-same}
+use Rattle.rlsf_heap.specs.Frame.{KeepsAllBounds, KeepsHeap}
+use Rattle.rlsf_heap.specs.Heap.{AreIssued, IsHeap, IsTicketOf, Steps, heap_view}
 use Rattle.rlsf_heap.specs.Replies.{IsGone}
-use Rattle.rlsf_heap.proofs.OnCores.{IsHeap-left}
-use Rattle.rlsf_heap.proofs.Read.{out-back, stands_same}
-use Rattle.rlsf_heap.proofs.Tickets.{redeemed_other}
-
-module _ {fllen sllen : ℕ} {m : Space} {table : Table} {s : State} {entries : List Entry} (v : StandsFor fllen sllen (contents m table) s) (tickets : AreIssued s entries)
-    (k : ℕ)
-    (p : Piece) (align : ℕ) (is : IsIssued entries k (extent p.start (length p.bytes) align)) where
-  -- the payload
-  pub found : IsPayload s (extent p.start (length p.bytes) align)
-  found = tickets.issued k (extent p.start (length p.bytes) align) is
-
-  abbrev pub u : Used
-  u = found.0
-
-  pub holds : Holds s p.start u
-  holds = (found.1, found.2)
-
-  pub lies : LiesIn (piece_range p) m.start (length m.bytes)
-  lies =
-      let of = v.well_formed.used u found.1 in let place = used_in_memory v.well_formed u found.1 in
-      (omega (arith, place.0, IsUsed-after_start u of, found.2), omega (arith, place.1, of.within, found.2, found.3))
-
-  module _ (n : Space) (start : n.start ≡ m.start) (bytes : n.bytes ≡ m.bytes) (back : n.out ≡ out_raw m (piece_range p)) where
-    side : (a : ℕ) → (a < u.payload) ⊎ (end_of u.block ≤ a) → (a < p.start) ⊎ (end_of (piece_range p) ≤ a)
-    side a (inl before) = inl (omega (arith, before, found.2))
-    side a (inr behind) = inr (omega (arith, behind, found.2, found.3, (v.well_formed.used u found.1).within))
-
-    pub stands-back : StandsFor fllen sllen (contents n table) s
-    stands-back = stands_same m n v start bytes (λ a from unlent. out-back m n (piece_range p) a start back lies.0 from (side a (unlent u found.1)))
-
-    pub back-here : IsOwned n (usable u)
-    back-here a lo hi = (λ i. is_own (kept_at (back i) (a - start i)))
-        ∙ ap is_own (changed-there raw m.out (p.start - m.start) (length p.bytes) (a - m.start) (omega (arith, lo, found.2, lies.0))
-        (omega (arith, hi, found.2, found.3, lies.0)))
-
-  -- its ticket is redeemed
-  pub issued-released : AreIssued (released s u) (set entries k (entry_of (extent p.start (length p.bytes) align) false))
-  issued-released = record {
-    issued = λ j w was.
-        let (apart, old) = redeemed_other entries k (extent p.start (length p.bytes) align) is j w was in
-        let (x, i, at, len, wide) = tickets.issued j w old in
-        let differ : x.payload ≢ u.payload = λ same. apart (tickets.apart j k w (extent p.start (length p.bytes) align) old is (sym at ∙ same ∙ found.2)) in
-        (x, IsIn-others_from u.payload x s.used i differ, at, len, wide);
-    apart = λ i j w x one two at. tickets.apart i j w x (redeemed_other entries k (extent p.start (length p.bytes) align) is i w one).1
-        (redeemed_other entries k (extent p.start (length p.bytes) align) is j x two).1 at;
-  }
+use Rattle.rlsf_heap.proofs.Kept.{same-byte, spare-then}
+use Rattle.rlsf_heap.proofs.OnCores.{IsHeap-left, Steps-left, heap-over}
+use Rattle.rlsf_heap.proofs.Shown.{IsReturned, IsShown, all_behind, block, ends, held, issued-released, own-back, stands-back}
 
 -- ---- what callers see of it
 
@@ -77,33 +34,92 @@ module _ {fllen sllen : ℕ} {memory : Range} {s t : State} {addr : ℕ} (w : Is
   pub is_released : (u : Used) → Holds s addr u → released s u ≡ t
   is_released u holds = ap (released s) (Holds-unique w addr u did.block holds did.holds) ∙ sym did.after
 
-  pub gone : IsGone s t addr
+  gone : IsGone s t addr
   gone =
       let seen = gone_seen w t addr (did.block, did.holds) did in
       record { gone = seen.gone; aligns = seen.aligns; count = count_gone w t addr (did.block, did.holds) did }
 
-  pub bounds_gone : KeepsAllBounds sllen s t
+  bounds_gone : KeepsAllBounds sllen s t
   bounds_gone count most wide sized = sized_gone w t count most wide sized addr (did.block, did.holds) did
 
--- the ledger without the ticket of a part
-pub redeemed : (es fs : List Entry) (p : Piece) (k align addr len wide : ℕ) → IsTicketOf p align (extent addr len wide)
-    → fs ≡ set es k (entry_of (extent addr len wide) false) → set es k (entry_of (extent p.start (length p.bytes) align) false) ≡ fs
-redeemed es fs p k align addr len wide ticket entries = (λ i. set es k (entry_of (extent (ticket.0 i) (ticket.1 i) (ticket.2 i)) false)) ∙ sym entries
+-- a part's ticket shows the part
+pub as_part : {align addr len wide : ℕ} (p : Piece) → IsTicketOf p align (extent addr len wide) → extent addr len wide ≡ extent p.start (length p.bytes) align
+as_part p ticket = λ i. extent (sym ticket.0 i) (sym ticket.1 i) (sym ticket.2 i)
 
-pub issued-as : {s t : State} {es fs : List Entry} → s ≡ t → es ≡ fs → AreIssued s es → AreIssued t fs
-issued-as {t = t} {es = es} same entries is = subst (AreIssued t) entries (subst (λ (x : State). AreIssued x es) same is)
+-- ---- what a call on the core needs
 
--- what the heap is after the call on its core
-module _ {fl_bits sl_bits fllen sllen : ℕ} {m q n : Space} {x y : Table} {j k : State} {es : List Entry} {count key align most : ℕ} (p : Piece)
-    (is : IsHeap fl_bits sl_bits fllen sllen m x j es count) (known : IsIssued es key (extent p.start (length p.bytes) align)) (left : LeavesCore fllen sllen q n y j k most)
-    (did : Deallocates (read_from m j) p.start (read_from n k)) where
-  pub one_less : count ≡ live_count (read_from n k) + 1
-  one_less = is.counted ∙ (gone is.stands.well_formed did).count
+-- the payload's bytes are back, with values or without, and a deallocation of the state that is read is one of the state before
+pub record IsGiven (fllen sllen : ℕ) (m n : Space) (x : Table) (j : State) (es : List Entry) (k : ℕ) (e : Extent) : Type 0 where
+  pub shown : IsShown fllen sllen m x (read_from m j) es k e
+  pub used : Used
+  pub begins : used.block.start ≡ (block shown).block.start
+  pub holds : Holds (read_from n j) e.addr used
+  pub own : IsOwned n (usable used)
+  pub stands : StandsFor fllen sllen (contents n x) (read_from n j)
+  pub spare : KeepsSpare m (read_from m j) n (read_from n j)
+  pub start : n.start ≡ m.start
+  pub long : length n.bytes ≡ length m.bytes
+  pub view : n.view ≡ m.view
+  pub grow : m.touches ≤ n.touches
+  pub steps : (t : State) → Deallocates (read_from n j) e.addr t → Deallocates (read_from m j) e.addr t
 
-  pub IsHeap-gone : {addr len wide : ℕ} → IsTicketOf p align (extent addr len wide) → (fs : List Entry) → fs ≡ set es key (entry_of (extent addr len wide) false)
-      → IsHeap fl_bits sl_bits fllen sllen n y k fs (count - 1)
-  IsHeap-gone {addr} {len} {wide} ticket fs entries =
-      IsHeap-left left is.valid fs
-      (issued-as (is_released is.stands.well_formed did (u is.stands is.tickets key p align known) (holds is.stands is.tickets key p align known))
-      (redeemed es fs p key align addr len wide ticket entries) (issued-released is.stands is.tickets key p align known))
-      (count - 1) (omega (arith, one_less))
+-- without values: the state is the same
+pub raw_given : {fllen sllen : ℕ} {m n : Space} {x : Table} {j : State} {es : List Entry} {k : ℕ} {e : Extent} → IsShown fllen sllen m x (read_from m j) es k e
+    → n.start ≡ m.start → n.bytes ≡ m.bytes → n.out ≡ out_raw m (range_at e.addr e.len) → n.view ≡ m.view → m.touches ≤ n.touches
+    → IsGiven fllen sllen m n x j es k e
+raw_given {fllen} {sllen} {m} {n} {x} {j} {es} {k} {e} p start bytes out view grow =
+    let same : read_from n j ≡ read_from m j = read_from-same m n j start bytes in
+    let b : IsReturned fllen sllen m n x (read_from m j) es k e 0 =
+    record { shown = p; within = omega arith; same = start; bytes = bytes; out = out ∙ ap (out_raw m) (all_behind e.addr e.len) } in record {
+      shown = p;
+      used = block p;
+      begins = refl;
+      holds = subst (λ (s : State). Holds s e.addr (block p)) (sym same) (held p);
+      own = λ a lo hi. own-back b a (omega (arith, lo, (held p).1)) (omega (arith, hi, ends p, (p.stands.well_formed.used (block p) (held p).0).within));
+      stands = subst (StandsFor fllen sllen (contents n x)) (sym same) (stands-back b);
+      spare = λ a from to before after. same-byte m n start bytes a;
+      start = start;
+      long = ap length bytes;
+      view = view;
+      grow = grow;
+      steps = λ t. subst (λ (s : State). Deallocates s e.addr t) same;
+    }
+
+module _ {fl_bits sl_bits fllen sllen : ℕ} {m n : Space} {x : Table} {j : State} {es : List Entry} {count k : ℕ} {e : Extent}
+    (is : IsHeap fl_bits sl_bits fllen sllen m x j es count) (g : IsGiven fllen sllen m n x j es k e) where
+  pub core_given : fl_bits ≤ 128 → IsCore fllen sllen n x j
+  core_given limit = record { valid = IsValid-widest limit is.valid; stands = g.stands; is_bare = is.is_bare }
+
+  -- ---- after the call
+
+  module _ {o : Space} {y : Table} {l : State} {most : ℕ} (left : LeavesCore fllen sllen n o y j l most) {at : ℕ} (same : at ≡ e.addr)
+      (step : Deallocates (read_from n j) at (read_from o l)) where
+    pub did : Deallocates (read_from m j) e.addr (read_from o l)
+    did = g.steps (read_from o l) (subst (λ a. Deallocates (read_from n j) a (read_from o l)) same step)
+
+    pub gone_given : IsGone (read_from m j) (read_from o l) e.addr
+    gone_given = gone is.stands.well_formed did
+
+    pub one_less : count ≡ live_count (read_from o l) + 1
+    one_less = is.counted ∙ gone_given.count
+
+    pub IsHeap-given : (fs : List Entry) → fs ≡ set es k (entry_of e false) → IsHeap fl_bits sl_bits fllen sllen o y l fs (count - 1)
+    IsHeap-given fs entries =
+        IsHeap-left left is.valid fs
+        (subst (AreIssued (read_from o l)) (sym entries) (subst (λ (t : State). AreIssued t (set es k (entry_of e false)))
+        (is_released is.stands.well_formed did (block g.shown) (held g.shown)) (issued-released g.shown)))
+        (count - 1) (omega (arith, one_less))
+
+    pub step_given : (label : ℕ) → Steps fllen sllen (heap_view o y l label) (Deallocates (read_from m j) e.addr)
+    step_given label = Steps-left left label (Deallocates (read_from m j) e.addr) did
+
+    pub bounds_given : KeepsAllBounds sllen (read_from m j) (read_from o l)
+    bounds_given = bounds_gone is.stands.well_formed did
+
+    pub chunks_given : (read_from o l).chunks ≡ (read_from m j).chunks
+    chunks_given = chunks-deallocated (read_from m j) (read_from o l) e.addr did
+
+    pub keeps_given : (ledger label : ℕ) → label ≡ ledger → KeepsHeap (heap_view m x j ledger) (heap_view o y l label)
+    keeps_given ledger label named =
+        heap-over m o x y j l (left.costs.start ∙ g.start) (left.costs.length ∙ g.long) (left.costs.view ∙ g.view) (omega (arith, left.costs.grow, g.grow))
+        (spare-then m n o (read_from m j) (read_from o l) g.start g.long (read_from n j) refl g.spare left.spare) ledger label named

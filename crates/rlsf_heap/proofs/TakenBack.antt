@@ -1,30 +1,38 @@
--- A payload came back into the memory for a call on the heap's core, and leaves again after it, at its address or at another one.
-use Rattle.std.proofs.Common.{◌≡◌, ◌≢◌, ◌<◌, ◌≤◌, ◌+◌, ℕ, false, set, List, length, Option, None, Some, IfSome, arith, refl, sym, ap, subst, ◌∙◌}
+-- A payload came back into the memory with its values for a call on the heap's core, and leaves again after it, at its address or at another one.
+use Rattle.std.proofs.Common.{eqb, cond, ◌≡◌, ◌≤◌, ℕ, ◌-◌, List, [], ◌∷◌, length, arith, inl, inr, refl, sym, ap, ◌∙◌, ◌≢◌, ◌<◌, ◌+◌, false, set, Option}
+use Rattle.std.proofs.Common.{None, Some, IfSome, subst}
+use Rattle.std.specs.Prelude.{not}
 use Rattle.std.proofs.lemmas.Option.{none-some}
-use Rattle.rlsf_base.specs.declared.memory.range.Range.{Range}
 use Rattle.rlsf_base.specs.Ledger.{Entry, Extent, entry_of, extent, IsIssued}
-use Rattle.rlsf_base.specs.OpenSpace.{IsHere, IsOwned, home_of, out_with, out_without}
-use Rattle.rlsf_base.specs.Out.{here, kept_at}
+use Rattle.rlsf_base.specs.OpenSpace.{IsBeside, IsHere, out_with, IsOwned, home_of, out_without}
+use Rattle.rlsf_base.specs.Out.{kept_at, here, raw}
 use Rattle.rlsf_base.specs.Piece.{Piece, piece_range}
 use Rattle.rlsf_base.specs.Range.{LiesIn, range_at}
-use Rattle.rlsf_base.specs.Space.{Space, bytes_in, range_of, with_bytes}
+use Rattle.rlsf_base.specs.Space.{Space, byte_at, byte_range, bytes_in, with_bytes, range_of, out_at}
+use Rattle.rlsf_base.proofs.Changes.{back-before, back-behind, back-there}
+use Rattle.rlsf_base.proofs.Lending.Replaced.{byte_at-same, bytes_in-there, bytes_in-with}
+use Rattle.rlsf_base.specs.declared.memory.range.Range.{Range}
 use Rattle.rlsf_base.proofs.Lending.Present.{own-here}
+use Rattle.rlsf_model.specs.Run.{Fills}
+use Rattle.rlsf_model.specs.State.{State, Used, Holds, filled_at, others, usable, with_bytes as with_these, AreAlike}
+use Rattle.rlsf_model.proofs.Coverage.{IsIn-map, by_test}
 use Rattle.rlsf_model.specs.Callers.{align_at, bytes_at}
 use Rattle.rlsf_model.specs.NoMove.{ReallocatesWithoutMove, unmoved_plan}
 use Rattle.rlsf_model.specs.Reallocate.{HasRoomToStay, Keeps}
-use Rattle.rlsf_model.specs.Run.{Fills}
 use Rattle.rlsf_model.specs.Sized.{IsSizedFor, live_count}
-use Rattle.rlsf_model.specs.State.{AreAlike, Holds, State, Used, usable}
 use Rattle.rlsf_model.proofs.CallerWords.{SeesFilled, align_at-live, bytes_at-held, filled_seen}
 use Rattle.rlsf_model.proofs.Changes.{Holds-unique}
 use Rattle.rlsf_model.proofs.Fillings.{AreAlike-filled}
 use Rattle.rlsf_model.proofs.Live.{live_addresses_are_aligned}
 use Rattle.rlsf_model.proofs.SizedWords.{count_filled, sized_filled}
+use Rattle.rlsf_model.specs.Release.{released}
+use Rattle.rlsf_model.specs.Join.{join}
 use Rattle.rlsf_table.specs.Table.{Table}
 use Rattle.rlsf_table.proofs.Parameters.{IsValid-widest}
-use Rattle.rlsf_blocks.specs.Laws.{read_from}
+use Rattle.rlsf_blocks.specs.Laws.{read_from, with_bytes_of}
 use Rattle.rlsf_blocks.specs.Spare.{KeepsSpare}
 use Rattle.rlsf_blocks.specs.StandsFor.{contents, StandsFor}
+use Rattle.rlsf_blocks.proofs.Payloads.Filled.{IsSameOutside, filled_in}
 use Rattle.rlsf_tlsf.specs.Allocator.{allocator}
 use Rattle.rlsf_tlsf.specs.Bounds.{KeepsBounds}
 use Rattle.rlsf_tlsf.specs.CoreResizes.{IsOwnFound, KeepsPayloads}
@@ -36,11 +44,10 @@ use Rattle.rlsf_tlsf.proofs.Reached.{bare-core}
 use Rattle.rlsf_tlsf.proofs.Relocated.{span_held}
 use Rattle.rlsf_tlsf.proofs.Replied.{some_more}
 use Rattle.rlsf_tlsf.proofs.UnknownAlign.{denied_short, no_room_to_stay}
+use Rattle.rlsf_heap.specs.Heap.{AreIssued, IsHeap, IsTicketOf, PayloadView, Steps, heap_view, payload_range, payload_view}
 use Rattle.rlsf_heap.specs.Frame.{KeepsAllBounds, KeepsBytes, KeepsFrameMoving, KeepsHeap, KeepsSized}
 use Rattle.rlsf_heap.specs.Handover.{IsHandedOver, IsTakenBack}
-use Rattle.rlsf_heap.specs.Heap.{AreIssued, IsHeap, IsTicketOf, PayloadView, Steps, heap_view, payload_range, payload_view}
 use Rattle.rlsf_heap.specs.Kept.{KeepsBytesBeside, NoneBecomesRaw}
-use Rattle.rlsf_heap.specs.Raw.{bytes_of}
 use Rattle.rlsf_heap.specs.Reallocation.{owned_by}
 use Rattle.rlsf_heap.specs.Replies.{IsRefused, IsResized}
 use Rattle.rlsf_heap.specs.Settled.{IsSettled}
@@ -50,12 +57,29 @@ use Rattle.rlsf_heap.proofs.Kept.{raw-left, raw-stays, raw-with, same-byte, spar
 use Rattle.rlsf_heap.proofs.Leaving.{lies-usable, stands-without}
 use Rattle.rlsf_heap.proofs.OnCores.{heap-over, same_identity, stays}
 use Rattle.rlsf_heap.proofs.PayloadsApart.{payload_as, redeemed_ticket, shown_live}
-use Rattle.rlsf_heap.proofs.PutBack.{issued-reread}
 use Rattle.rlsf_heap.proofs.Reallocated.{Keeps-each}
-use Rattle.rlsf_heap.proofs.Reallocating.{IsBackIn, beside_in, block, fills, held, held_before, here as here_back, is_state, long, old_block, spare_in, stands, state, wide}
 use Rattle.rlsf_heap.proofs.ResizedParts.{own_at, still}
 use Rattle.rlsf_heap.proofs.Settled.{settled-back, settled-here, settled-left, settled-stays}
 use Rattle.rlsf_heap.proofs.Tickets.{issued-less, issued-more, redeemed_apart}
+use Rattle.rlsf_heap.proofs.Shown.{IsShown, block, held, live, long, usable_is, wide, lies}
+use Rattle.rlsf_heap.proofs.Released.{IsGiven, is_released}
+
+-- the other used blocks are unchanged
+pub others-filled : (addr : ℕ) (bytes : List ℕ) (us : List Used) → others addr (filled_at addr bytes us) ≡ others addr us
+others-filled addr bytes [] = refl
+others-filled addr bytes (u ∷ us) =
+    let rest = others-filled addr bytes us in by_test (eqb u.payload addr)
+    (λ e. ap (λ b. others addr (cond b (with_these u bytes) u ∷ filled_at addr bytes us)) e
+    ∙ ap (λ b. cond (not b) (with_these u bytes ∷ others addr (filled_at addr bytes us)) (others addr (filled_at addr bytes us))) e ∙ rest
+    ∙ sym (ap (λ b. cond (not b) (u ∷ others addr us) (others addr us)) e))
+    (λ e. ap (λ b. others addr (cond b (with_these u bytes) u ∷ filled_at addr bytes us)) e ∙ ap (λ l. cond (not (eqb u.payload addr)) (u ∷ l) l) rest)
+
+-- the tickets are those of the same payloads, for any bytes
+pub issued-reread : (n : Space) (s : State) (es : List Entry) → AreIssued s es → AreIssued (read_from n s) es
+issued-reread n s es tickets = record {
+  issued = λ k v is. let (u, i, at, len, wide) = tickets.issued k v is in (with_bytes_of n u, IsIn-map (with_bytes_of n) u s.used i, at, len, wide);
+  apart = tickets.apart;
+}
 
 -- the payload at an address is at another one in the state after, and its bytes are the memory's own. The others are as they were
 pub record IsAt (o : Space) (s t : State) (addr align to : ℕ) : Type 0 where
@@ -111,7 +135,7 @@ taken_back {es = es} {fs = fs} pay is =
     }
 
 -- so did one by its part and its ticket
-pub back_as : {m n : Space} {es fs : List Entry} {key align addr len wide : ℕ} (p : Piece) (ledger : ℕ) → IsTicketOf p align (extent addr len wide)
+abbrev pub back_as : {m n : Space} {es fs : List Entry} {key align addr len wide : ℕ} (p : Piece) (ledger : ℕ) → IsTicketOf p align (extent addr len wide)
     → IsIssued es key (extent addr len wide) → n.start ≡ m.start → n.bytes ≡ with_bytes m p.start p.bytes → length n.bytes ≡ length m.bytes
     → n.out ≡ out_with m (piece_range p) → n.touches ≡ m.touches → n.copied ≡ m.copied → n.view ≡ m.view
     → ((s : State) → AreIssued s es → AreIssued s fs × ((i : ℕ) (w : Extent) → IsIssued fs i w → w.addr ≢ addr)) → IsBack m n es fs (payload_view p align ledger)
@@ -142,54 +166,119 @@ module _ {fl_bits sl_bits fllen sllen : ℕ} {m n : Space} {x : Table} {j : Stat
   abbrev shown : Extent
   shown = extent pay.start (length pay.bytes) pay.align
 
-  back_in : IsBackIn fllen sllen m n x (read_from m j) es back.key (bytes_of pay) pay.align
-  back_in = record { old = is.stands; tickets = is.tickets; known = back.known; start = back.start; bytes = back.bytes; out = back.out }
+  p : IsShown fllen sllen m x (read_from m j) es back.key shown
+  p = record { stands = is.stands; tickets = is.tickets; issued = back.known }
 
-  same : state back_in ≡ read_from n j
-  same = read_from-read_from n m j
+  outside : IsSameOutside m n (usable (block p))
+  outside = record {
+    start = back.start;
+    length = back.long;
+    bytes = λ q from side. bytes_in-with m n (payload_range pay) pay.bytes (lies p) refl back.start back.bytes q from
+        (elim side [ inl before ↦ inl (omega (arith, before, (held p).1)) | inr behind ↦ inr (omega (arith, behind, (held p).1, long p)) ]);
+    out = λ a from side. (λ i. kept_at (back.out i) (a - back.start i)) ∙ elim side [
+      | inl before ↦ back-before m.out (pay.start - m.start) (length pay.bytes) (a - m.start) (omega (arith, before, (held p).1, (lies p).0, from))
+      | inr behind ↦ back-behind m.out (pay.start - m.start) (length pay.bytes) (a - m.start) (omega (arith, behind, (held p).1, long p, (lies p).0))
+    ];
+  }
+
+  -- the state that is read from the memory is the one with these bytes
+  reread : Fills (read_from m j) pay.start (bytes_in n (usable (block p))) (read_from n j) × StandsFor fllen sllen (contents n x) (read_from n j)
+      × KeepsSpare m (read_from m j) n (read_from n j)
+  reread =
+      subst (λ (t : State). Fills (read_from m j) pay.start (bytes_in n (usable (block p))) t × StandsFor fllen sllen (contents n x) t × KeepsSpare m (read_from m j) n t)
+      (read_from-read_from n m j) (filled_in is.stands pay.start (block p) (held p) n outside)
+
+  filled_back : Fills (read_from m j) pay.start pay.bytes (read_from n j)
+  filled_back =
+      subst (λ (bs : List ℕ). Fills (read_from m j) pay.start bs (read_from n j))
+      (ap (bytes_in n) (usable_is p) ∙ bytes_in-there m n (payload_range pay) pay.bytes (lies p) refl back.start back.bytes) reread.0
+
+  owned_back : read_from n j ≡ owned_by (read_from m j) pay
+  owned_back = filled_back.after
 
   stands_in : StandsFor fllen sllen (contents n x) (read_from n j)
-  stands_in = subst (StandsFor fllen sllen (contents n x)) same (stands back_in)
+  stands_in = reread.1
 
-  held_in : Holds (read_from n j) pay.start (block back_in)
-  held_in = subst (λ (s : State). Holds s pay.start (block back_in)) same (held back_in)
+  -- its block there
+  abbrev used : Used
+  used = with_bytes_of n (block p)
 
-  -- the core that the call is passed, and the payload in it
+  held_in : Holds (read_from n j) pay.start used
+  held_in = subst (λ (t : State). Holds t pay.start used) (read_from-read_from n m j) (IsIn-map (with_bytes_of n) (block p) (read_from m j).used (held p).0, (held p).1)
+
+  here_in : IsHere n (usable used)
+  here_in a lo hi = (λ i. kept_at (back.out i) (a - back.start i))
+      ∙ back-there m.out (pay.start - m.start) (length pay.bytes) (a - m.start) (omega (arith, lo, (held p).1, (lies p).0)) (omega (arith, hi, (held p).1, long p, (lies p).0))
+
+  -- bytes beside it are as they were
+  beside_in : (a : ℕ) → m.start ≤ a → IsBeside (payload_range pay) a → byte_at n a ≡ byte_at m a
+  beside_in a from side = byte_at-same m n a (outside.bytes (byte_range a) from (elim side [
+    | inl before ↦ inl (omega (arith, before, (held p).1))
+    | inr behind ↦ inr (omega (arith, behind, (held p).1, long p))
+  ]))
+
+  low : n.start ≤ pay.start
+  low = omega (arith, (lies p).0, back.start)
+
+  -- no byte becomes raw
+  pub raw_back : (a : ℕ) → m.start ≤ a → out_at n a ≡ raw → out_at m a ≡ raw
+  raw_back = raw-with m n (payload_range pay) back.start (omega (arith, low, back.start)) back.out
+
+  pub settled_before : IsSettled m → IsSettled n
+  settled_before = settled-back m n (payload_range pay) back.start (omega (arith, low, back.start)) back.out
+
+  -- ---- the core that a call is passed, and the payload in it
+
   pub core_back : fl_bits ≤ 128 → IsCore fllen sllen n x j
   core_back limit = record { valid = IsValid-widest limit is.valid; stands = stands_in; is_bare = is.is_bare }
 
   pub payload_back : {addr align : ℕ} → addr ≡ pay.start → align ≡ pay.align → IsHerePayload n (read_from n j) addr align
-  payload_back at aligned = (block back_in, (held_in.0, held_in.1 ∙ sym at), wide back_in ∙ sym aligned, here_back back_in)
+  payload_back at aligned = (used, (held_in.0, held_in.1 ∙ sym at), wide p ∙ sym aligned, here_in)
 
   pub found_back : {addr : ℕ} (align : Option ℕ) → addr ≡ pay.start → IfSome align (λ a. pay.align ≡ a) → IsOwnFound n (read_from n j) addr align
-  found_back align at aligned = (
-    block back_in,
-    ((held_in.0, held_in.1 ∙ sym at), some_more align (λ a is. wide back_in ∙ is) aligned),
-    own-here n (usable (block back_in)) (here_back back_in),
-  )
+  found_back align at aligned = (used, ((held_in.0, held_in.1 ∙ sym at), some_more align (λ a same. wide p ∙ same) aligned), own-here n (usable used) here_in)
 
-  -- the state in which the payload has the bytes that its owner wrote
-  owned_back : read_from n j ≡ owned_by (read_from m j) pay
-  owned_back = sym same ∙ is_state back_in
+  -- a deallocation of it
+  pub given_back : IsGiven fllen sllen m n x j es back.key shown
+  given_back =
+      let others_same : others pay.start (read_from n j).used ≡ others (block p).payload (read_from m j).used =
+      (λ i. others pay.start (owned_back i).used) ∙ others-filled pay.start pay.bytes (read_from m j).used ∙ ap (λ a. others a (read_from m j).used) (sym (held p).1) in
+      let after : released (read_from n j) used ≡ released (read_from m j) (block p) =
+      (λ i. record { chunks = j.chunks; used = others ((held p).1 i) (read_from n j).used; free = join (block p).block j.free })
+      ∙ (λ i. record { chunks = j.chunks; used = others_same i; free = join (block p).block j.free }) in record {
+        shown = p;
+        used = used;
+        begins = refl;
+        holds = held_in;
+        own = own-here n (usable used) here_in;
+        stands = stands_in;
+        spare = reread.2;
+        start = back.start;
+        long = back.long;
+        view = back.view;
+        grow = omega (arith, back.touches);
+        steps = λ t step. record { block = block p; holds = held p; after = sym (is_released stands_in.well_formed step used held_in) ∙ after };
+      }
 
-  filled : Fills (read_from m j) pay.start pay.bytes (read_from n j)
-  filled = subst (Fills (read_from m j) pay.start pay.bytes) (sym owned_back) (fills back_in)
+  -- ---- what callers see
 
   pub seen_back : SeesFilled (read_from m j) (read_from n j) pay.start pay.bytes
-  seen_back = filled_seen is.stands.well_formed (read_from n j) pay.start pay.bytes filled
+  seen_back = filled_seen is.stands.well_formed (read_from n j) pay.start pay.bytes filled_back
 
   pub count_back : live_count (read_from n j) ≡ live_count (read_from m j)
-  count_back = count_filled is.stands.well_formed (read_from n j) pay.start pay.bytes (filled.block, filled.holds) filled
+  count_back = count_filled is.stands.well_formed (read_from n j) pay.start pay.bytes (filled_back.block, filled_back.holds) filled_back
 
   pub sized_back : KeepsAllBounds sllen (read_from m j) (read_from n j)
   sized_back most longest widest sized =
-      sized_filled is.stands.well_formed (read_from n j) most longest widest sized pay.start pay.bytes (filled.block, filled.holds) filled
+      sized_filled is.stands.well_formed (read_from n j) most longest widest sized pay.start pay.bytes (filled_back.block, filled_back.holds) filled_back
 
-  pub room_back : (size : ℕ) → HasRoomToStay (read_from m j) pay.start size → HasRoomToStay (read_from n j) pay.start size
-  room_back size room =
-      let (u, q, holds, first) = room in
-      let one : u ≡ old_block back_in = Holds-unique is.stands.well_formed pay.start u (old_block back_in) holds (held_before back_in) in
-      (block back_in, q, held_in, subst (λ (y : Used). unmoved_plan (read_from m j) y size ≡ Some q) one first)
+  room_back : (size : ℕ) → HasRoomToStay (read_from m j) pay.start size → HasRoomToStay (read_from n j) pay.start size
+  room_back size (u, q, holds, first) = (
+    used,
+    q,
+    held_in,
+    subst (λ (y : Used). unmoved_plan (read_from m j) y size ≡ Some q) (Holds-unique is.stands.well_formed pay.start u (block p) holds (held p)) first,
+  )
 
   -- its bytes, as many as the state says
   pub bytes_are : bytes_at (read_from n j) pay.start ≡ pay.bytes
@@ -197,7 +286,7 @@ module _ {fl_bits sl_bits fllen sllen : ℕ} {m n : Space} {x : Table} {j : Stat
 
   -- it was live, and is
   pub live_before : align_at (read_from m j) pay.start ≡ Some pay.align
-  live_before = shown_live is.stands.well_formed shown (is.tickets.issued back.key shown back.known)
+  live_before = live p
 
   pub live_back : align_at (read_from n j) pay.start ≡ Some pay.align
   live_back = seen_back.aligns pay.start ∙ live_before
@@ -211,26 +300,19 @@ module _ {fl_bits sl_bits fllen sllen : ℕ} {m n : Space} {x : Table} {j : Stat
   }
 
   -- the tickets without its own
-  less : AreIssued (read_from n j) fs
-  less = (back.rest (read_from n j) (subst (λ (s : State). AreIssued s es) same (issued-reread n (read_from m j) es is.tickets))).0
-
-  other : (i : ℕ) (w : Extent) → IsIssued fs i w → w.addr ≢ pay.start
-  other = (back.rest (read_from n j) (subst (λ (s : State). AreIssued s es) same (issued-reread n (read_from m j) es is.tickets))).1
-
-  -- it lies in the memory
-  low : n.start ≤ pay.start
-  low = omega (arith, (lies-usable stands_in (block back_in) held_in.0).0, held_in.1)
+  rest : AreIssued (read_from n j) fs × ((i : ℕ) (w : Extent) → IsIssued fs i w → w.addr ≢ pay.start)
+  rest = back.rest (read_from n j) (subst (λ (s : State). AreIssued s es) (read_from-read_from n m j) (issued-reread n (read_from m j) es is.tickets))
 
   -- the call left it where it was
   module _ {o : Space} {y : Table} {k : State} {most copies : ℕ} (core : LeavesCoreCopying fllen sllen n o y j k most copies)
       (kept : KeepsPayloads (read_from n j) (read_from o k) pay.start) where
     pub here_there : IsHere o (span (read_from n j) pay.start pay.start)
     here_there a lo hi =
-        core.here a (omega (arith, low, lo)) (here_back back_in a (omega (arith, lo, held_in.1)) (omega (arith, hi, held_in.1, long back_in, ap length bytes_are)))
+        core.here a (omega (arith, low, lo)) (here_in a (omega (arith, lo, held_in.1)) (omega (arith, hi, held_in.1, long p, ap length bytes_are)))
 
     pub there_at : IsAt o (read_from n j) (read_from o k) pay.start pay.align pay.start
     there_at =
-        let b = block back_in in
+        let b = used in
         let within = (stands_in.well_formed.used b held_in.0).within in
         let (z, holds, _) = still stands_in core.core.stands kept pay.start b held_in in
         let ends = (core.core.stands.well_formed.used z holds.0).within in record {
@@ -241,7 +323,7 @@ module _ {fl_bits sl_bits fllen sllen : ℕ} {m n : Space} {x : Table} {j : Stat
           count = kept.count;
           own = subst (IsOwned o) (span_held core.core.stands pay.start z holds) (λ a lo hi.
               own_at stands_in core.core.stands kept b z held_in holds core.costs.start core.own a (omega (arith, lo, holds.1)) (omega (arith, hi, ends))
-              (λ inside. own-here n (usable b) (here_back back_in) a (omega (arith, lo, holds.1, held_in.1)) (omega (arith, inside, within))));
+              (λ inside. own-here n (usable b) (here_in) a (omega (arith, lo, holds.1, held_in.1)) (omega (arith, inside, within))));
         }
 
     pub range_back : {addr len : ℕ} → addr ≡ pay.start → len ≡ length (bytes_at (read_from o k) pay.start) → range_at addr len ≡ span (read_from o k) pay.start pay.start
@@ -298,18 +380,18 @@ module _ {fl_bits sl_bits fllen sllen : ℕ} {m n : Space} {x : Table} {j : Stat
         -- the other tickets are those of the same payloads, and the new one is its own
         others_at : (i : ℕ) (w : Extent) → IsIssued fs i w → w.addr ≢ to
         others_at i w issued is_to =
-            let apart = other i w issued in
+            let apart = rest.1 i w issued in
             absurd (none-some w.align (sym (at.new (λ e. apart (is_to ∙ e))) ∙ ap (align_at (read_from n j)) (sym is_to)
-            ∙ shown_live stands_in.well_formed w (less.issued i w issued)))
+            ∙ shown_live stands_in.well_formed w (rest.0.issued i w issued)))
 
         issued_over : AreIssued (read_from o k) gs
         issued_over =
             let old : AreIssued (read_from o k) fs = record {
               issued = λ i w issued.
-                  let apart = other i w issued in
+                  let apart = rest.1 i w issued in
                   let apart_to = others_at i w issued in
-                  payload_as stands_in.well_formed core.core.stands.well_formed w (less.issued i w issued) (at.aligns w.addr apart apart_to) (at.bytes w.addr apart apart_to);
-              apart = less.apart;
+                  payload_as stands_in.well_formed core.core.stands.well_formed w (rest.0.issued i w issued) (at.aligns w.addr apart apart_to) (at.bytes w.addr apart apart_to);
+              apart = rest.0.apart;
             } in
             subst (AreIssued (read_from o k)) (sym over.entries)
             (issued-more fs (extent r.start r.len wide) (read_from o k) old
@@ -326,20 +408,20 @@ module _ {fl_bits sl_bits fllen sllen : ℕ} {m n : Space} {x : Table} {j : Stat
             (over.view ∙ core.costs.view ∙ back.view) (omega (arith, over.touches, core.costs.grow, back.touches))
             (reads_over (KeepsSpare m (read_from m j) q) (spare-last m o q (read_from m j) (read_from o k) over.start over.bytes
             (spare-then m n o (read_from m j) (read_from o k) back.start back.long (read_from n j) refl
-            (subst (KeepsSpare m (read_from m j) n) same (spare_in back_in)) core.spare)))
+            reread.2 core.spare)))
             ledger label named
 
-        settled_before : IsSettled m → IsSettled o
-        settled_before settled = settled-stays (stays core) (settled-back m n (payload_range pay) back.start (omega (arith, low, back.start)) back.out settled)
+        settled_over : IsSettled m → IsSettled o
+        settled_over settled = settled-stays (stays core) (settled_before settled)
 
         pub bytes_over : (ledger label : ℕ) → KeepsBytes (heap_view m x j ledger) (heap_view q y k label)
         unfolding NoneBecomesRaw
         bytes_over ledger label = record {
           raw = λ a from is_raw.
-              raw-with m n (payload_range pay) back.start (omega (arith, low, back.start)) back.out a from
+              raw_back a from
               (raw-stays (stays core) a (omega (arith, from, back.start))
               (raw-left o q r over.start lies_over.0 over.out a (omega (arith, from, back.start, core.costs.start)) is_raw));
-          settled = λ settled. settled-left o q r over.start lies_over.0 over.out (settled_before settled);
+          settled = λ settled. settled-left o q r over.start lies_over.0 over.out (settled_over settled);
         }
 
         -- its bytes are those of the state
@@ -383,8 +465,8 @@ module _ {fl_bits sl_bits fllen sllen : ℕ} {m n : Space} {x : Table} {j : Stat
               let kept : Keeps pay.bytes p.bytes = subst (λ (z : List ℕ × List ℕ). Keeps z.0 z.1) (λ i. (bytes_are i, sym values_over i)) keeps in
               let as_was : (i : ℕ) → i < length pay.bytes → i < length p.bytes → kept_at p.out i ≡ here =
               λ i below inside.
-                  over.states i (omega (arith, inside, over.long))
-                  ∙ still_here (r.start + i) (omega (arith, over.at, begins)) (omega (arith, over.at, begins, below, ap length bytes_are)) in record {
+              over.states i (omega (arith, inside, over.long))
+              ∙ still_here (r.start + i) (omega (arith, over.at, begins)) (omega (arith, over.at, begins, below, ap length bytes_are)) in record {
                 identity = identity_over;
                 requested = over.align ∙ aligned;
                 made = record {
@@ -401,7 +483,7 @@ module _ {fl_bits sl_bits fllen sllen : ℕ} {m n : Space} {x : Table} {j : Stat
                 here = record {
                   here = λ i from high. as_was i (omega (arith, high)) (omega (arith, high));
                   shrunk = λ shorter i from high. as_was i (omega (arith, high, shorter)) (omega (arith, high));
-                  written = λ settled. over.full (settled-here o r lies_over.0 own_over (settled_before settled));
+                  written = λ settled. over.full (settled-here o r lies_over.0 own_over (settled_over settled));
                 };
               }
 
@@ -415,8 +497,8 @@ module _ {fl_bits sl_bits fllen sllen : ℕ} {m n : Space} {x : Table} {j : Stat
               start = begins ∙ there;
               bytes = values_over ∙ (λ i. bytes_at (unchanged i) (there i)) ∙ bytes_are;
               written = over.full (subst (IsHere o) ((λ i. range_at to (length (bytes_at (sym unchanged i) (sym there i)))) ∙ sym is_range) still_here);
-              alike = reads_over (AreAlike (read_from m j)) (subst (AreAlike (read_from m j)) (sym unchanged) (AreAlike-filled filled));
+              alike = reads_over (AreAlike (read_from m j)) (subst (AreAlike (read_from m j)) (sym unchanged) (AreAlike-filled filled_back));
               aligns = reads_over (λ (s : State). align_at s ≡ align_at (read_from m j)) (ap align_at unchanged ∙ (λ i a. seen_back.aligns a i));
             };
-            unchanged = λ a from _ side. same-byte n q (over.start ∙ core.costs.start) (over.bytes ∙ bytes) a ∙ beside_in back_in a from side;
+            unchanged = λ a from _ side. same-byte n q (over.start ∙ core.costs.start) (over.bytes ∙ bytes) a ∙ beside_in a from side;
           }

@@ -6,11 +6,10 @@ use Rattle.rlsf_base.specs.declared.memory.range.Range.{Range}
 use Rattle.rlsf_base.specs.declared.memory.view.View.{View}
 use Rattle.rlsf_base.specs.OpenSpace.{Home, home_of}
 use Rattle.rlsf_base.specs.Piece.{CanCome, Piece}
-use Rattle.rlsf_base.specs.Range.{range_at}
 use Rattle.rlsf_base.specs.Space.{Space}
 use Rattle.rlsf_model.specs.Allocate.{Allocates, placed}
 use Rattle.rlsf_model.specs.Lists.{IsIn}
-use Rattle.rlsf_model.specs.State.{State, Used, Holds, usable}
+use Rattle.rlsf_model.specs.State.{State, usable}
 use Rattle.rlsf_model.proofs.Payloads.{IsUsed-after_start}
 use Rattle.rlsf_table.specs.Table.{Table}
 use Rattle.rlsf_blocks.specs.Steps.LiveBlock.{AtEachBlock, IsLiveIn}
@@ -19,7 +18,7 @@ use Rattle.rlsf_heap.specs.Heap.{AreIssued, HeapView, Identity, IsTicketOf, Payl
 use Rattle.rlsf_heap.specs.Raw.{IsWhole, bytes_of}
 use Rattle.rlsf_heap.specs.Thin.{reply_of}
 use Rattle.rlsf_heap.proofs.ThinValues.{one_more_than}
-use Rattle.rlsf_heap.proofs.Released as R
+use Rattle.rlsf_heap.proofs.Shown.{IsShown, block, held, usable_is}
 
 -- no payload is at the address 0
 pub some_address : (fllen sllen : ℕ) (v : HeapView) (s : State) (size align addr : ℕ) → Steps fllen sllen v (Allocates sllen s size align (Some addr)) → addr ≢ 0
@@ -39,22 +38,15 @@ IsTicketFor p t = (t.name ≡ p.identity.ledger) × (t.addr ≡ p.start) × (t.l
 
 module _ {fllen sllen : ℕ} {m : Space} {table : Table} {s : State} {entries : List Entry} (v : StandsFor fllen sllen (contents m table) s) (tickets : AreIssued s entries)
     (of : PayloadView) (addr key : ℕ) (same : of.start ≡ addr) (known : IsIssued entries key (shown of)) where
-  -- the payload's block
-  abbrev pub block : Used
-  block = R.u v tickets key (bytes_of of) of.align known
-
-  pub held : Holds s addr block
-  held = let h = R.holds v tickets key (bytes_of of) of.align known in (h.0, h.1 ∙ same)
+  p : IsShown fllen sllen m table s entries key (shown of)
+  p = record { stands = v; tickets = tickets; issued = known }
 
   pub live_in : IsLiveIn m addr
-  live_in = (fllen, sllen, contents m table, s, refl, v, (block, held))
-
-  usable_is : usable block ≡ payload_range of
-  usable_is = let found = R.found v tickets key (bytes_of of) of.align known in λ i. range_at (found.2 i) (found.3 i)
+  live_in = (fllen, sllen, contents m table, s, refl, v, (block p, ((held p).0, (held p).1 ∙ same)))
 
   -- the range that is found has its bytes
   pub ranged : (r : Range) → AtEachBlock m addr (λ u. r ≡ usable u) → r ≡ payload_range of
-  ranged r each = each fllen sllen (contents m table) s block refl v held ∙ usable_is
+  ranged r each = each fllen sllen (contents m table) s (block p) refl v ((held p).0, (held p).1 ∙ same) ∙ usable_is p
 
   -- the bytes lie where its length says
   pub comes : IsWhole of → of.identity.home ≡ home_of m → (q : Piece) → q ≡ bytes_of of → (n : Space) → n ≡ record m { touches = m.touches + 3 } → (view : View) → view ≡

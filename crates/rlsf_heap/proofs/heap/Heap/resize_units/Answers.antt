@@ -20,8 +20,8 @@ use Rattle.rlsf_heap.specs.Units.{IsTail, payload_len}
 use Rattle.rlsf_heap.proofs.Kept.{raw-tail, same-byte, spare-first, spare-last}
 use Rattle.rlsf_heap.proofs.OnCores.{heap-over, same_identity, stays}
 use Rattle.rlsf_heap.proofs.UnitPayloads.{payload_len-whole}
-use Rattle.rlsf_heap.proofs.UnitTails.{IsBack, begins_at, block, held, lies, live, now-issued, now-lies, now-own, now-stands, own-behind, readable, resized-long, same-long, shrinks}
-use Rattle.rlsf_heap.proofs.UnitTails.{stands-back, start-fits}
+use Rattle.rlsf_heap.proofs.Shown.{IsReturned, block, held, lies, live, stands-back}
+use Rattle.rlsf_heap.proofs.UnitTails.{begins_at, now-issued, now-lies, now-own, now-stands, own-behind, readable, resized-long, same-long, shrinks, start-fits}
 use Rattle.rlsf_heap.proofs.heap.Heap.resize_units.Given as given
 use Rattle.rlsf_heap.proofs.heap.Heap.resize_units.Goals as goal
 use Rattle.rlsf_heap.proofs.heap.Heap.resize_units.Goals.{After-put_unit_tail-block, After-resize_block_in}
@@ -37,8 +37,8 @@ put_unit_tail-block-requires-clause-readable g c = λ is. readable (record { sta
 
 -- ---- the units behind the kept bytes are back, and the block is found
 
-back : (g : given.Over) (c : After-put_unit_tail-block g) → IsBack g.row.FLLEN g.row.SLLEN c.self.inside.memory c.put_unit_tail-block.new.self c.self.inside.table
-    (read_from c.self.inside.memory c.self.inside.state.state) c.self.inside.ledger.entries c.args.tail.key c.args.tail.start c.args.tail.len c.args.tail.kept
+back : (g : given.Over) (c : After-put_unit_tail-block g) → IsReturned g.row.FLLEN g.row.SLLEN c.self.inside.memory c.put_unit_tail-block.new.self c.self.inside.table
+    (read_from c.self.inside.memory c.self.inside.state.state) c.self.inside.ledger.entries c.args.tail.key (extent c.args.tail.start c.args.tail.len 16) c.args.tail.kept
 back g c =
     let e = c.put_unit_tail-block.ensures in record {
       shown = record { stands = c.self.invariant.stands; tickets = c.self.invariant.tickets; issued = e.issued };
@@ -104,7 +104,7 @@ module _ (g : given.Over) (c : After-resize_block_in g) where
   abbrev ledger : ℕ
   ledger = c.self.inside.ledger.name
 
-  b : IsBack g.row.FLLEN g.row.SLLEN m n c.self.inside.table (read_from m k) c.self.inside.ledger.entries c.args.tail.key c.args.tail.start c.args.tail.len c.args.tail.kept
+  b : IsReturned g.row.FLLEN g.row.SLLEN m n c.self.inside.table (read_from m k) c.self.inside.ledger.entries c.args.tail.key (extent c.args.tail.start c.args.tail.len 16) c.args.tail.kept
   b =
       let e = c.put_unit_tail-block.ensures in record {
         shown = record { stands = c.self.invariant.stands; tickets = c.self.invariant.tickets; issued = e.issued };
