@@ -35,8 +35,8 @@ use Rattle.rlsf_blocks.specs.StandsFor.{contents, StandsFor}
 use Rattle.rlsf_blocks.proofs.Payloads.Filled.{IsSameOutside, filled_in}
 use Rattle.rlsf_tlsf.specs.Allocator.{allocator}
 use Rattle.rlsf_tlsf.specs.Bounds.{KeepsBounds}
-use Rattle.rlsf_tlsf.specs.CoreResizes.{IsOwnFound, KeepsPayloads}
-use Rattle.rlsf_tlsf.specs.Cores.{IsCore, LeavesCoreCopying}
+use Rattle.rlsf_tlsf.specs.CoreResizes.{KeepsPayloads}
+use Rattle.rlsf_tlsf.specs.Cores.{IsCore, IsOwnFound, LeavesCoreCopying}
 use Rattle.rlsf_tlsf.specs.Moving.{IsHerePayload, IsRelocated, span}
 use Rattle.rlsf_tlsf.specs.Results.{KeepsFrameMoving as CoreFrame}
 use Rattle.rlsf_tlsf.proofs.Arrivals.{arrived, read_from-read_from}

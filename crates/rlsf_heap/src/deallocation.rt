@@ -63,7 +63,13 @@ impl<FLBitmap: BitPattern, SLBitmap: BitPattern, const FLLEN: usize, const SLLEN
         let addr = part.start();
         self.ledger.redeem(ticket);
         self.memory.put_back(part);
-        deallocate_in(&mut self.memory, &mut self.table, &mut self.state, addr);
+        deallocate_in(
+            &mut self.memory,
+            &mut self.table,
+            &mut self.state,
+            addr,
+            None,
+        );
         self.live -= 1;
     }
 }

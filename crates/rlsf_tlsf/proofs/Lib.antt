@@ -1,7 +1,6 @@
 -- Lemmas on the allocator over pools: its steps, and lent bytes.
 pub mod Arrivals
 pub mod FilledAllocations
-mod Found
 pub mod IdleRows
 pub mod Lent
 pub mod Moved

@@ -1,17 +1,18 @@
 -- A core after a call.
 use Rattle.std.proofs.Common.{◌≡◌, ℕ, ◌+◌, ◌-◌, arith, drop, map, take, sym, ◌∙◌, ap, subst}
 use Rattle.rlsf_base.proofs.Lending.Present.{out-same, own-same}
+use Rattle.rlsf_base.specs.OpenSpace.{SameOwn, StaysHere}
 use Rattle.rlsf_base.specs.SizeClass.{IsValid}
 use Rattle.rlsf_base.specs.Space.{Space}
 use Rattle.rlsf_model.specs.State.{State, Used, usable, with_bytes}
-use Rattle.rlsf_table.specs.Counts.{Counts}
+use Rattle.rlsf_table.specs.Counts.{Costs, Counts}
 use Rattle.rlsf_table.specs.Table.{Table}
 use Rattle.rlsf_table.proofs.Costs.{Costs-counted, Costs-then}
 use Rattle.rlsf_blocks.specs.Laws.{read_from}
 use Rattle.rlsf_blocks.specs.StandsFor.{contents, StandsFor}
 use Rattle.rlsf_blocks.specs.Spare.{KeepsSpare}
-use Rattle.rlsf_blocks.proofs.RepresentedStates.Counted.{KeepsSpare-counted_first, KeepsSpare-counted_last, StandsFor-counted}
-use Rattle.rlsf_tlsf.specs.Cores.{IsCore, LeavesCore}
+use Rattle.rlsf_blocks.proofs.RepresentedStates.Counted.{KeepsSpare-counted_first, StandsFor-counted}
+use Rattle.rlsf_tlsf.specs.Cores.{IsCore, LeavesCore, LeavesCoreCopying}
 use Rattle.rlsf_tlsf.specs.Steps.Moves.{bare}
 use Rattle.rlsf_tlsf.proofs.Arrivals.{arrived, bare-read_from}
 use Rattle.rlsf_tlsf.proofs.Moved.{bare-bare}
@@ -31,6 +32,12 @@ module _ {fllen sllen : ℕ} {n : Space} {x : Table} {t : State} (v : StandsFor 
   -- what is true of the state that was reached is true of the one that is read
   pub reads : (P : State → Type 0) → P t → P (read_from n reached)
   reads P = subst P (sym (arrived v reached e))
+
+  -- so this is what a call leaves that led to it
+  pub LeavesCore-arrived : {m : Space} {j : State} {most copies : ℕ} → IsValid 128 128 fllen sllen → KeepsSpare m (read_from m j) n t → Costs m n most copies → SameOwn m n
+      → StaysHere m n → LeavesCoreCopying fllen sllen m n x j reached most copies
+  LeavesCore-arrived {m} {j} valid spare costs own here =
+      record { core = IsCore-arrived valid; spare = reads (KeepsSpare m (read_from m j) n) spare; costs = costs; own = own; here = here }
 
 -- memories with the same start and the same bytes have the same state
 pub read_from-same : (m n : Space) (s : State) → n.start ≡ m.start → n.bytes ≡ m.bytes → read_from n s ≡ read_from m s
@@ -63,15 +70,4 @@ module _ {m n : Space} {some : ℕ} (counts : Counts m n some) where
       costs = Costs-then (Costs-counted counts) left.costs;
       own = λ a inside. left.own a (omega (arith, inside, counts.start)) ∙ own-same m n counts.start counts.out a inside;
       here = λ a inside is. left.here a (omega (arith, inside, counts.start)) (out-same m n a counts.start counts.out ∙ is);
-    }
-
-    -- or after it
-    pub LeavesCore-counted_last : {o : Space} {y : Table} {j k : State} {most : ℕ} → LeavesCore fllen sllen o m y j k most → LeavesCore fllen sllen o n y j k (most + some)
-    LeavesCore-counted_last {o} {j = j} {k = k} left = record {
-      core = IsCore-counted left.core;
-      spare = subst (KeepsSpare o (read_from o j) n) (sym (read_from-counted k))
-          (KeepsSpare-counted_last m n counts.start counts.bytes counts.out (read_from o j) (read_from m k) o left.spare);
-      costs = Costs-then left.costs (Costs-counted counts);
-      own = λ a inside. own-same m n counts.start counts.out a (omega (arith, inside, left.costs.start)) ∙ left.own a inside;
-      here = λ a inside is. out-same m n a counts.start counts.out ∙ left.here a inside is;
     }

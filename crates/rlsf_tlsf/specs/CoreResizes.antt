@@ -1,39 +1,16 @@
 -- What the calls on a core require and ensure that give a payload another size without moving it.
-use Rattle.std.specs.Prelude.{◌≡◌, ◌≢◌, ◌≤◌, ℕ, Bool, true, false, Option, Some, None, IfSome}
-use Rattle.rlsf_base.specs.OpenSpace.{IsOwned}
+use Rattle.std.specs.Prelude.{◌≡◌, ◌≢◌, ◌≤◌, ℕ, Bool, true, false, Option, Some, None}
 use Rattle.rlsf_base.specs.Space.{Space}
 use Rattle.rlsf_model.specs.Callers.{align_at, bytes_at}
 use Rattle.rlsf_model.specs.Sized.{IsSizedFor, live_count}
-use Rattle.rlsf_model.specs.State.{Holds, State, Used, usable}
+use Rattle.rlsf_model.specs.State.{Holds, State, Used}
 use Rattle.rlsf_table.specs.Counts.{Counts}
 use Rattle.rlsf_table.specs.Table.{Table}
-use Rattle.rlsf_blocks.specs.StandsFor.{contents, StandsFor}
 use Rattle.rlsf_blocks.specs.Steps.Resize.{IsOwnedBehind}
 
 -- a used block, which begins at `block`, has the payload at the address, and its bytes behind its end of that size are the memory's own
 abbrev pub IsOwnBehind : Space → State → ℕ → ℕ → ℕ → Type 0
 IsOwnBehind m s addr block size = (u : Used) × Holds s addr u × (u.block.start ≡ block) × IsOwnedBehind m u size
-
--- a used block has the payload at the address, with that alignment, if there is one
-abbrev pub IsFound : State → ℕ → Option ℕ → Used → Type 0
-IsFound s addr align u = Holds s addr u × IfSome align (λ a. u.align ≡ a)
-
--- some state that the memory represents has such a block
-abbrev pub HasFound : Space → ℕ → Option ℕ → Type 0
-HasFound m addr align = (fllen : ℕ) × (sllen : ℕ) × (t : Table) × (s : State) × (u : Used) × StandsFor fllen sllen (contents m t) s × IsFound s addr align u
-
--- this is true of that block in each state that the memory represents
-abbrev pub AtEachFound : Space → ℕ → Option ℕ → (Used → Type 0) → Type 0
-AtEachFound m addr align P = (fllen sllen : ℕ) (t : Table) (s : State) (u : Used) → StandsFor fllen sllen (contents m t) s → IsFound s addr align u → P u
-
--- so many words are read to find it
-abbrev pub found_cost : Option ℕ → ℕ
-found_cost None = 2
-found_cost (Some align) = 1
-
--- a state has such a block, and the payload's bytes are the memory's own
-abbrev pub IsOwnFound : Space → State → ℕ → Option ℕ → Type 0
-IsOwnFound m s addr align = (u : Used) × IsFound s addr align u × IsOwned m (usable u)
 
 -- the address of a payload that got another size, or none if it kept its own
 abbrev pub stayed_if : Bool → ℕ → Option ℕ

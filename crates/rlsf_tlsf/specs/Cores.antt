@@ -1,5 +1,5 @@
 -- The core that every allocator over pools has: a memory, a class table, and what is kept of the state. What the calls on a core ensure.
-use Rattle.std.specs.Prelude.{◌≡◌, ◌<◌, ◌*◌, ◌%◌, ℕ, length, is_some, if◌then◌else◌}
+use Rattle.std.specs.Prelude.{◌≡◌, ◌<◌, ◌*◌, ◌%◌, ℕ, Option, None, Some, IfSome, length, is_some, if◌then◌else◌}
 use Rattle.rlsf_base.specs.declared.memory.range.Range.{Range}
 use Rattle.rlsf_base.specs.OpenSpace.{IsOwned, SameOwn, StaysHere}
 use Rattle.rlsf_base.specs.Range.{LiesIn}
@@ -55,9 +55,26 @@ append_cost fllen r = if is_some (max_pool_size fllen) then insert_cost fllen r 
 abbrev pub IsOwnBlock : Space → State → ℕ → ℕ → Type 0
 IsOwnBlock m s addr block = (u : Used) × Holds s addr u × (u.block.start ≡ block) × IsOwned m (usable u)
 
--- a payload with any alignment is live at the address, and its bytes are the memory's own
-abbrev pub IsOwnPayload : Space → State → ℕ → Type 0
-IsOwnPayload m s addr = (u : Used) × Holds s addr u × IsOwned m (usable u)
+-- a used block has the payload at the address, with that alignment, if there is one
+abbrev pub IsFound : State → ℕ → Option ℕ → Used → Type 0
+IsFound s addr align u = Holds s addr u × IfSome align (λ a. u.align ≡ a)
+
+-- some state that the memory represents has such a block
+abbrev pub HasFound : Space → ℕ → Option ℕ → Type 0
+HasFound m addr align = (fllen : ℕ) × (sllen : ℕ) × (t : Table) × (s : State) × (u : Used) × StandsFor fllen sllen (contents m t) s × IsFound s addr align u
+
+-- this is true of that block in each state that the memory represents
+abbrev pub AtEachFound : Space → ℕ → Option ℕ → (Used → Type 0) → Type 0
+AtEachFound m addr align P = (fllen sllen : ℕ) (t : Table) (s : State) (u : Used) → StandsFor fllen sllen (contents m t) s → IsFound s addr align u → P u
+
+-- so many words are read to find it
+abbrev pub found_cost : Option ℕ → ℕ
+found_cost None = 2
+found_cost (Some align) = 1
+
+-- a state has such a block, and the payload's bytes are the memory's own
+abbrev pub IsOwnFound : Space → State → ℕ → Option ℕ → Type 0
+IsOwnFound m s addr align = (u : Used) × IsFound s addr align u × IsOwned m (usable u)
 
 -- the range has the bytes of a payload that was allocated for this size and alignment
 pub record IsPlaced (n : Space) (before after : State) (size align : ℕ) (r : Range) : Type 0 where

@@ -8,12 +8,13 @@ ghost use Rattle.rlsf_model.specs.ChunkRows.{IsRow};
 ghost use Rattle.rlsf_model.specs.Insert.{Appends, Inserts, IsFresh, IsNext};
 ghost use Rattle.rlsf_model.specs.Release.{Deallocates};
 ghost use Rattle.rlsf_model.specs.Remove.{IsIdle, Removes};
+ghost use Rattle.rlsf_table.specs.Counts.{Counts};
 ghost use Rattle.rlsf_blocks.specs.Blocks.{walked};
 ghost use Rattle.rlsf_blocks.specs.Laws.{read_from};
 ghost use Rattle.rlsf_blocks.specs.Steps.Rest.{start_of};
 ghost use Rattle.rlsf_tlsf.specs.Allocator.{allocator};
 ghost use Rattle.rlsf_tlsf.specs.Bounds.{IfWithinBounds, KeepsAllBounds, KeepsBounds};
-ghost use Rattle.rlsf_tlsf.specs.Cores.{IsCore, IsOwnBlock, IsOwnPayload, IsPlaced, LeavesCore, append_cost, insert_cost};
+ghost use Rattle.rlsf_tlsf.specs.Cores.{AtEachFound, HasFound, IsCore, IsOwnBlock, IsOwnFound, IsPlaced, LeavesCore, append_cost, found_cost, insert_cost};
 ghost use Rattle.rlsf_tlsf.specs.Results.{IsAppended, IsDeallocated, IsInserted, IsRemoved, IsUnchanged, KeepsFrameOfPools};
 
 mod moving;
@@ -23,6 +24,7 @@ pub use moving::reallocate_in;
 use rlsf_base::memory::{Layout, OpenMemory, Range};
 use rlsf_blocks::{
     allocate_range, append_chunks, deallocate_block, insert_chunks, load_block_of, remove_chunks,
+    used_block,
 };
 use rlsf_table::ClassTable;
 use std::num::NonZeroUsize;
@@ -79,22 +81,40 @@ pub fn deallocate_block_in<const FLLEN: usize, const SLLEN: usize>(
     state.deallocate(addr);
 }
 
-/// Deallocates the payload at `addr`, as `Tlsf::deallocate_unknown_align` does.
+// Returns the start of the used block of the payload at `addr`: by its alignment, if that is passed, or else by two words.
+#[inline(always)]
+pub(crate) fn find_block(memory: &mut OpenMemory, addr: usize, align: Option<usize>) -> usize
+    requires { HasFound memory.old addr align }
+    ensures block { AtEachFound memory.old addr align (λ u. result ≡ u.block.start) }
+    ensures counts { Counts memory.old memory.new (found_cost align) }
+{
+    match align {
+        Some(align) => {
+            let view = memory.view();
+            used_block(memory, view, addr, align)
+        }
+        None => load_block_of(memory, addr),
+    }
+}
+
+/// Deallocates the payload at `addr`. If `align` is one, it is its alignment, and it is deallocated as `Tlsf::deallocate` does. Or else it is as
+/// `Tlsf::deallocate_unknown_align` does.
 #[inline(always)]
 pub fn deallocate_in<const FLLEN: usize, const SLLEN: usize>(
     memory: &mut OpenMemory,
     table: &mut ClassTable<FLLEN, SLLEN>,
     state: &mut GhostState,
     addr: usize,
+    align: Option<usize>,
 )
     requires core { IsCore FLLEN SLLEN memory.old table.old state.old.state }
-    requires own { IsOwnPayload memory.old (read_from memory.old state.old.state) addr }
-    ensures left { LeavesCore FLLEN SLLEN memory.old memory.new table.new state.old.state state.new.state 33 }
+    requires own { IsOwnFound memory.old (read_from memory.old state.old.state) addr align }
+    ensures left { LeavesCore FLLEN SLLEN memory.old memory.new table.new state.old.state state.new.state (found_cost align + 31) }
     ensures step { Deallocates (read_from memory.old state.old.state) addr (read_from memory.new state.new.state) }
     ensures result { IsDeallocated (read_from memory.old state.old.state) (read_from memory.new state.new.state) addr }
     ensures bounds { KeepsAllBounds SLLEN (read_from memory.old state.old.state) (read_from memory.new state.new.state) }
 {
-    let block = load_block_of(memory, addr);
+    let block = find_block(memory, addr, align);
     deallocate_block_in(memory, table, state, block, addr);
 }
 

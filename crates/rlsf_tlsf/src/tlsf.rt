@@ -18,12 +18,10 @@ ghost use Rattle.rlsf_model.specs.State.{empty};
 ghost use Rattle.rlsf_table.specs.Table.{newest_of, of_class};
 ghost use Rattle.rlsf_blocks.specs.Spare.{IsSpareWord};
 
-use crate::core_calls::{
-    allocate_in, deallocate_block_in, deallocate_in, reallocate_in, resize_in,
-};
+use crate::core_calls::{allocate_in, deallocate_in, reallocate_in, resize_in};
 use crate::state::GhostState;
 use rlsf_base::memory::{Addr, Layout, Memory, Range};
-use rlsf_blocks::{load_usable_bytes, usable_bytes, used_block};
+use rlsf_blocks::{load_usable_bytes, usable_bytes};
 use rlsf_int::BitPattern;
 use rlsf_table::ClassTable;
 use std::marker::{Model, PhantomData};
@@ -150,15 +148,12 @@ impl<FLBitmap: BitPattern, SLBitmap: BitPattern, const FLLEN: usize, const SLLEN
         ensures frame { KeepsFrame self.old self.new }
         ensures touches { self.new.memory.touches ≤ self.old.memory.touches + 32 }
     {
-        let payload = addr.get();
-        let view = self.memory.inner.view();
-        let block = used_block(&mut self.memory.inner, view, payload, align);
-        deallocate_block_in(
+        deallocate_in(
             &mut self.memory.inner,
             &mut self.table,
             &mut self.state,
-            block,
-            payload,
+            addr.get(),
+            Some(align),
         );
     }
 
@@ -181,6 +176,7 @@ impl<FLBitmap: BitPattern, SLBitmap: BitPattern, const FLLEN: usize, const SLLEN
             &mut self.table,
             &mut self.state,
             addr.get(),
+            None,
         );
     }
 

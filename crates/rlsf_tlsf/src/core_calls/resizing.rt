@@ -2,16 +2,15 @@
 
 ghost use Rattle.std.specs.Prelude.{◌≡◌, ◌<◌, ◌+◌, ◌-◌, ◌^◌, true, false};
 ghost use Rattle.rlsf_model.specs.NoMove.{ReallocatesWithoutMove};
-ghost use Rattle.rlsf_table.specs.Counts.{Counts};
 ghost use Rattle.rlsf_blocks.specs.Laws.{read_from};
-ghost use Rattle.rlsf_tlsf.specs.CoreResizes.{AtEachFound, HasFound, IsOwnBehind, IsOwnFound, KeepsBoundsThere, KeepsCore, KeepsPayloads, found_cost, stayed_if};
-ghost use Rattle.rlsf_tlsf.specs.Cores.{IsCore, LeavesCore};
+ghost use Rattle.rlsf_tlsf.specs.CoreResizes.{IsOwnBehind, KeepsBoundsThere, KeepsCore, KeepsPayloads, stayed_if};
+ghost use Rattle.rlsf_tlsf.specs.Cores.{IsCore, IsOwnFound, LeavesCore, found_cost};
 ghost use Rattle.rlsf_tlsf.specs.Results.{IsResized};
 
+use crate::core_calls::find_block;
 use crate::state::GhostState;
 use rlsf_base::memory::{Layout, OpenMemory};
 use rlsf_blocks::reallocation::resize_kept_block;
-use rlsf_blocks::{load_block_of, used_block};
 use rlsf_table::ClassTable;
 
 /// Gives the payload at `addr`, whose used block begins at `block`, the size of `layout` without moving it, as
@@ -44,22 +43,6 @@ pub fn resize_block_in<const FLLEN: usize, const SLLEN: usize>(
     }
     state.reallocate(SLLEN, addr, layout.size());
     true
-}
-
-// Returns the start of the used block of the payload at `addr`: by its alignment, if that is passed, or else by two words.
-#[inline(always)]
-fn find_block(memory: &mut OpenMemory, addr: usize, align: Option<usize>) -> usize
-    requires { HasFound memory.old addr align }
-    ensures block { AtEachFound memory.old addr align (λ u. result ≡ u.block.start) }
-    ensures counts { Counts memory.old memory.new (found_cost align) }
-{
-    match align {
-        Some(align) => {
-            let view = memory.view();
-            used_block(memory, view, addr, align)
-        }
-        None => load_block_of(memory, addr),
-    }
 }
 
 /// Gives the payload at `addr` the size of `layout` without moving it, as `resize_block_in` does. Its block is found in the memory.

@@ -4,12 +4,11 @@ use Rattle.rlsf_model.specs.Sized.{IsSizedFor}
 use Rattle.rlsf_model.specs.State.{State}
 use Rattle.rlsf_model.proofs.SizedWords.{never_refused, sized_new}
 use Rattle.rlsf_blocks.specs.Laws.{read_from}
-use Rattle.rlsf_blocks.specs.Spare.{KeepsSpare}
 use Rattle.rlsf_tlsf.specs.Cores.{IsPlaced}
 use Rattle.rlsf_tlsf.specs.Steps.Moves.{allocated, bare}
 use Rattle.rlsf_tlsf.proofs.Moved.{allocated-bare}
 use Rattle.rlsf_tlsf.proofs.Placed.{IsPlaced-at}
-use Rattle.rlsf_tlsf.proofs.Reached.{IsCore-arrived, bare-core, reads}
+use Rattle.rlsf_tlsf.proofs.Reached.{LeavesCore-arrived, bare-core, reads}
 use Rattle.rlsf_tlsf.proofs.core_calls.allocate_in.Given as given
 use Rattle.rlsf_tlsf.proofs.core_calls.allocate_in.Goals as goal
 use Rattle.rlsf_tlsf.proofs.core_calls.allocate_in.Goals.{After-allocate}
@@ -23,13 +22,7 @@ returns-in-None g c =
     let kept : k ≡ bare t = sym (bare-core c.requires) ∙ ap bare (sym step.1) in
     let same : read_from c.allocate_range.new.memory k ≡ s = reads stands k kept (λ (x : State). x ≡ s) step.1 in
     record {
-      left = record {
-        core = IsCore-arrived stands k kept c.requires.valid;
-        spare = reads stands k kept (KeepsSpare c.args.memory.now s c.allocate_range.new.memory) spare;
-        costs = e.costs;
-        own = e.own;
-        here = e.here;
-      };
+      left = LeavesCore-arrived stands k kept c.requires.valid spare e.costs e.own e.here;
       step = (step.0, same);
       result = tt;
       room = λ count most widest sized few short fits.
@@ -61,13 +54,7 @@ returns-in-Some g c =
     let is = kept g c t places in
     let long = e.len s c.requires.stands places.range places.chosen in
     record {
-      left = record {
-        core = IsCore-arrived stands after is c.requires.valid;
-        spare = reads stands after is (KeepsSpare m s n) spare;
-        costs = e.costs;
-        own = e.own;
-        here = e.here;
-      };
+      left = LeavesCore-arrived stands after is c.requires.valid spare e.costs e.own e.here;
       step = reads stands after is (Allocates g.row.SLLEN s size align (Some range.start)) places;
       result = reads stands after is (λ (x : State). IsPlaced n s x size align range) (IsPlaced-at c.requires.stands power places stands e.own range refl long);
       room = λ count most widest sized few short fits. refl;

@@ -8,10 +8,9 @@ use Rattle.rlsf_model.proofs.SizedWords.{count_appended, sized_appended}
 use Rattle.rlsf_model.proofs.AppendedRanges.{untouched_appended}
 use Rattle.rlsf_table.proofs.Costs.{SamePlace-costs, copied_none}
 use Rattle.rlsf_blocks.specs.Laws.{read_from}
-use Rattle.rlsf_blocks.specs.Spare.{KeepsSpare}
 use Rattle.rlsf_tlsf.specs.Steps.Moves.{appended_to, bare}
 use Rattle.rlsf_tlsf.proofs.Moved.{appended_to-bare}
-use Rattle.rlsf_tlsf.proofs.Reached.{IsCore-arrived, bare-core, reads}
+use Rattle.rlsf_tlsf.proofs.Reached.{LeavesCore-arrived, bare-core, reads}
 use Rattle.rlsf_tlsf.proofs.core_calls.append_in.Goals as goal
 
 pub append_chunks-taken-requires : goal.append_chunks-taken-requires
@@ -34,13 +33,7 @@ returns g c =
     let step : Appends g.row.FLLEN s r taken t = reads stands k kept (Appends g.row.FLLEN s r taken) did in
     let seen = same_seen s t (callers_see_map g.row.FLLEN g.row.SLLEN (range_of m) s t (append r taken) well c.requires.next step) in
     record {
-      left = record {
-        core = IsCore-arrived stands k kept are.valid;
-        spare = reads stands k kept (KeepsSpare m s n) spare;
-        costs = e.costs;
-        own = e.own;
-        here = e.here;
-      };
+      left = LeavesCore-arrived stands k kept are.valid spare e.costs e.own e.here;
       step = step;
       result = record { untouched = untouched_appended g.row.FLLEN s t r taken step };
       bounds = λ count size align sized. sized_appended well t count size align sized r taken c.requires.next step;

@@ -5,11 +5,10 @@ use Rattle.rlsf_model.specs.State.{State}
 use Rattle.rlsf_model.proofs.CallerWords.{gone_seen}
 use Rattle.rlsf_model.proofs.SizedWords.{count_gone, sized_gone}
 use Rattle.rlsf_blocks.specs.Laws.{read_from}
-use Rattle.rlsf_blocks.specs.Spare.{KeepsSpare}
 use Rattle.rlsf_tlsf.specs.Results.{IsDeallocated}
 use Rattle.rlsf_tlsf.specs.Steps.Moves.{bare, deallocated}
 use Rattle.rlsf_tlsf.proofs.Moved.{deallocated-bare}
-use Rattle.rlsf_tlsf.proofs.Reached.{IsCore-arrived, bare-core, reads}
+use Rattle.rlsf_tlsf.proofs.Reached.{LeavesCore-arrived, bare-core, reads}
 use Rattle.rlsf_tlsf.proofs.core_calls.deallocate_block_in.Goals as goal
 
 pub deallocate_block-requires : goal.deallocate_block-requires
@@ -34,13 +33,7 @@ returns g c =
     let well = are.stands.well_formed in
     let seen = gone_seen well t addr (u, holds) did in
     record {
-      left = record {
-        core = IsCore-arrived stands k kept are.valid;
-        spare = reads stands k kept (KeepsSpare m s n) spare;
-        costs = e.costs;
-        own = e.own;
-        here = e.here;
-      };
+      left = LeavesCore-arrived stands k kept are.valid spare e.costs e.own e.here;
       step = reads stands k kept (Deallocates s addr) did;
       result = reads stands k kept (λ (x : State). IsDeallocated s x addr)
           (record { gone = seen.gone; aligns = seen.aligns; bytes = seen.bytes; count = count_gone well t addr (u, holds) did });

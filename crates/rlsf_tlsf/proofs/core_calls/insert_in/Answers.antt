@@ -9,10 +9,9 @@ use Rattle.rlsf_model.proofs.SizedWords.{count_inserted, sized_inserted, sized_p
 use Rattle.rlsf_model.proofs.Untouched.{untouched_inserted}
 use Rattle.rlsf_table.proofs.Costs.{SamePlace-costs, copied_none}
 use Rattle.rlsf_blocks.specs.Laws.{read_from}
-use Rattle.rlsf_blocks.specs.Spare.{KeepsSpare}
 use Rattle.rlsf_tlsf.specs.Steps.Moves.{bare, inserted}
 use Rattle.rlsf_tlsf.proofs.Moved.{inserted-bare}
-use Rattle.rlsf_tlsf.proofs.Reached.{IsCore-arrived, bare-core, reads}
+use Rattle.rlsf_tlsf.proofs.Reached.{LeavesCore-arrived, bare-core, reads}
 use Rattle.rlsf_tlsf.proofs.core_calls.insert_in.Goals as goal
 
 pub insert_chunks-taken-requires : goal.insert_chunks-taken-requires
@@ -35,13 +34,7 @@ returns g c =
     let step : Inserts g.row.FLLEN s r taken t = reads stands k kept (Inserts g.row.FLLEN s r taken) did in
     let seen = same_seen s t (callers_see_map g.row.FLLEN g.row.SLLEN (range_of m) s t (insert r taken) well c.requires.fresh step) in
     record {
-      left = record {
-        core = IsCore-arrived stands k kept are.valid;
-        spare = reads stands k kept (KeepsSpare m s n) spare;
-        costs = e.costs;
-        own = e.own;
-        here = e.here;
-      };
+      left = LeavesCore-arrived stands k kept are.valid spare e.costs e.own e.here;
       step = step;
       result = record {
         untouched = untouched_inserted g.row.FLLEN s t r taken step;

@@ -31,7 +31,7 @@ back g c =
 pub deallocate_in-requires : goal.deallocate_in-requires
 deallocate_in-requires g c =
     let b = back g (goal.at.deallocate_in-requires g c).After-put_room in
-    (omega arith, (core_given c.self.invariant b g.FLBitmap.BitPattern.width_limit, (b.used, (b.holds.0, b.holds.1 ∙ sym c.start-addr.ensures), b.own)))
+    (omega arith, (core_given c.self.invariant b g.FLBitmap.BitPattern.width_limit, (b.used, ((b.holds.0, b.holds.1 ∙ sym c.start-addr.ensures), tt), b.own)))
 
 pub overflow_sub-self : goal.overflow_sub-self
 overflow_sub-self g c =

@@ -11,14 +11,13 @@ use Rattle.rlsf_model.proofs.Coverage.{by_test}
 use Rattle.rlsf_model.proofs.NoMove.{unmoved_is_reallocated}
 use Rattle.rlsf_model.proofs.SizedWords.{count_resized, sized_resized}
 use Rattle.rlsf_blocks.specs.Laws.{read_from}
-use Rattle.rlsf_blocks.specs.Spare.{KeepsSpare}
 use Rattle.rlsf_blocks.proofs.RepresentedStates.Counted.{KeepsSpare-counted}
 use Rattle.rlsf_tlsf.specs.CoreResizes.{KeepsPayloads}
 use Rattle.rlsf_tlsf.specs.Cores.{IsCore}
 use Rattle.rlsf_tlsf.specs.Results.{IsResized}
 use Rattle.rlsf_tlsf.specs.Steps.Moves.{bare, reallocated}
 use Rattle.rlsf_tlsf.proofs.Moved.{reallocated-bare}
-use Rattle.rlsf_tlsf.proofs.Reached.{IsCore-arrived, IsCore-counted, bare-core, read_from-counted, reads}
+use Rattle.rlsf_tlsf.proofs.Reached.{LeavesCore-arrived, IsCore-counted, bare-core, read_from-counted, reads}
 use Rattle.rlsf_tlsf.proofs.core_calls.resizing.resize_block_in.Goals as goal
 
 pub resize_kept_block-requires : goal.resize_kept_block-requires
@@ -97,13 +96,7 @@ returns g c =
     let kept : k ≡ bare t =
     c.reallocate.ensures ∙ (λ i. reallocated g.row.SLLEN addr (c.size.ensures.value i) (sym (bare-core are) i)) ∙ reallocated-bare well t addr size addr reached in
     record {
-      left = record {
-        core = IsCore-arrived stands k kept are.valid;
-        spare = reads stands k kept (KeepsSpare m s n) spare;
-        costs = e.costs;
-        own = e.own;
-        here = e.here;
-      };
+      left = LeavesCore-arrived stands k kept are.valid spare e.costs e.own e.here;
       step = reads stands k kept (ReallocatesWithoutMove s addr size (Some addr)) did;
       result = λ yes. reads stands k kept (λ (x : State). IsResized s x addr size addr) (record { there = refl; sized = seen.sized; few = seen.few; kept = seen.kept });
       kept = reads stands k kept (λ (x : State). KeepsPayloads s x addr) (record {

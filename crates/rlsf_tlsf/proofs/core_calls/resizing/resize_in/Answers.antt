@@ -5,7 +5,8 @@ use Rattle.rlsf_model.specs.State.{Holds, State, usable}
 use Rattle.rlsf_blocks.specs.Laws.{read_from}
 use Rattle.rlsf_blocks.proofs.Counting.{Counts-counted_first}
 use Rattle.rlsf_blocks.proofs.Words.Apart.{used_in_memory}
-use Rattle.rlsf_tlsf.specs.CoreResizes.{KeepsBoundsThere, KeepsPayloads, found_cost, stayed_if}
+use Rattle.rlsf_tlsf.specs.CoreResizes.{KeepsBoundsThere, KeepsPayloads, stayed_if}
+use Rattle.rlsf_tlsf.specs.Cores.{found_cost}
 use Rattle.rlsf_tlsf.specs.Results.{IsResized}
 use Rattle.rlsf_tlsf.proofs.Reached.{IsCore-counted, LeavesCore-counted_first, read_from-counted}
 use Rattle.rlsf_tlsf.proofs.ResizedInPlace.{own_behind}

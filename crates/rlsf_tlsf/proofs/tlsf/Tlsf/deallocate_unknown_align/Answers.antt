@@ -19,7 +19,7 @@ deallocate_in-requires g c =
       omega arith,
       (
         core_of is g.FLBitmap.BitPattern.width_limit,
-        (u, (holds.0, holds.1 ∙ sym c.get.ensures.value), own-none m (usable u) is.whole),
+        (u, ((holds.0, holds.1 ∙ sym c.get.ensures.value), tt), own-none m (usable u) is.whole),
       ),
     )
 

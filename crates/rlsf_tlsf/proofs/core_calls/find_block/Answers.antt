@@ -2,7 +2,7 @@ use Rattle.std.proofs.Common.{ap, refl, subst, sym, ◌≡◌, ◌∙◌, IfSome
 use Rattle.rlsf_model.specs.State.{Used}
 use Rattle.rlsf_model.proofs.Changes.{Holds-unique}
 use Rattle.rlsf_blocks.specs.StandsFor.{contents}
-use Rattle.rlsf_tlsf.proofs.core_calls.resizing.find_block.Goals as goal
+use Rattle.rlsf_tlsf.proofs.core_calls.find_block.Goals as goal
 
 pub returns-in-Some-clause-block : goal.returns-in-Some-clause-block
 returns-in-Some-clause-block c = λ fllen sllen t s u v is.
