@@ -38,7 +38,7 @@ module _ {fllen sllen : ℕ} {n : Space} {y : Table} {s t : State} {size align :
   pub stands-left : (o : Space) → o.start ≡ n.start → o.bytes ≡ n.bytes → o.out ≡ out_without n r → StandsFor fllen sllen (contents o y) t
   stands-left o start bytes gone =
       let whole : r ≡ usable new = λ i. range_at (sym at_new i) (sym many i) in
-      stands_same n o now start bytes (λ a from unlent. out-left n o (usable new) a start (gone ∙ ap (out_without n) whole) (omega (arith, p.lies, at_new)) from
+      stands_same n o now start bytes (λ a from unlent. out-left n o (usable new) start (omega (arith, p.lies, at_new)) (gone ∙ ap (out_without n) whole) a from
       (elim (unlent new is_new) [
         | inl before ↦ inl before
         | inr behind ↦ inr (omega (arith, behind, (now.well_formed.used new is_new).within))

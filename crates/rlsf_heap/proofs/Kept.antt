@@ -1,12 +1,11 @@
 -- Bytes that a call leaves as they are: those that no block is made of, and those beside a payload.
 use Rattle.std.proofs.Common.{◌≡◌, ℕ, ◌+◌, ◌-◌, ◌<◌, ◌≤◌, List, length, slice_index, arith, inl, inr, refl, sym, ap, subst, ◌∙◌}
-use Rattle.std.proofs.lemmas.Bool.{cases_lt, false≢true}
+use Rattle.std.proofs.lemmas.Bool.{false≢true}
 use Rattle.rlsf_base.specs.declared.memory.range.Range.{Range}
 use Rattle.rlsf_base.specs.OpenSpace.{IsBeside, out_raw, out_with, out_without}
-use Rattle.rlsf_base.specs.Out.{Kept, here, is_here, is_own, kept_at, out, raw}
+use Rattle.rlsf_base.specs.Out.{Kept, here, is_here, is_own, out, raw}
 use Rattle.rlsf_base.specs.Range.{end_of, range_at}
 use Rattle.rlsf_base.specs.Space.{Space, byte_at, out_at}
-use Rattle.rlsf_base.proofs.Changes.{back-there, changed-there}
 use Rattle.rlsf_model.specs.Lists.{IsIn}
 use Rattle.rlsf_model.specs.State.{State}
 use Rattle.rlsf_blocks.specs.InBand.{sentinel_of}
@@ -14,8 +13,7 @@ use Rattle.rlsf_blocks.specs.Spare.{IsSpare, KeepsSpare}
 use Rattle.rlsf_blocks.proofs.Words.Stays.{Stays}
 use Rattle.rlsf_heap.specs.Heap.{HeapView}
 use Rattle.rlsf_heap.specs.Kept.{KeepsBytesBeside, KeepsSpareBytes, NoneBecomesRaw}
-use Rattle.rlsf_heap.proofs.Read.{out-back, out-left}
-use Rattle.rlsf_heap.proofs.Settled.{back_at, beside_back}
+use Rattle.rlsf_heap.proofs.Read.{left-or, out-back, with-or}
 
 -- memories with the same start and the same bytes have the same byte at each address
 pub same-byte : (m n : Space) → n.start ≡ m.start → n.bytes ≡ m.bytes → (a : ℕ) → byte_at n a ≡ byte_at m a
@@ -68,32 +66,20 @@ raw-stays {m} {n} stays a from = only-raw (out_at m a) (out_at n a) (stays.here 
 pub raw-back : (m n o : Space) (r : Range) → n.start ≡ m.start → m.start ≤ r.start → n.out ≡ out_raw m r → Stays n o → (a : ℕ) → m.start ≤ a → IsBeside r a
     → out_at o a ≡ raw → out_at m a ≡ raw
 raw-back m n o r start inside back stays a from side is =
-    sym (out-back m n r a start back inside from side) ∙ raw-stays stays a (omega (arith, from, start)) is
+    sym (out-back m n r start inside back a from side) ∙ raw-stays stays a (omega (arith, from, start)) is
 
 -- bytes that are raw once a range has left were raw before
 pub raw-left : (m n : Space) (r : Range) → n.start ≡ m.start → m.start ≤ r.start → n.out ≡ out_without m r → (a : ℕ) → m.start ≤ a → out_at n a ≡ raw → out_at m a ≡ raw
-raw-left m n r start inside left a from is = elim (cases_lt a r.start) [
-  | inl before ↦ sym (out-left m n r a start left inside from (inl before)) ∙ is
-  | inr behind ↦ elim (cases_lt a (end_of r)) [
-    | inl within ↦
-        let gone : out_at n a ≡ out = (λ i. kept_at (left i) (a - start i)) ∙ changed-there out m.out (r.start - m.start) r.len (a - m.start) (omega (arith, behind))
-        (omega (arith, within, inside)) in
-        absurd (false≢true (sym (ap is_own gone) ∙ ap is_own is))
-    | inr past ↦ sym (out-left m n r a start left inside from (inr past)) ∙ is
-  ]
+raw-left m n r start inside left a from is = elim (left-or m n r start inside left a from) [
+  | inl same ↦ sym same ∙ is
+  | inr gone ↦ absurd (false≢true (sym (ap is_own gone) ∙ ap is_own is))
 ]
 
 -- and so were those that are raw once a range has come back with its values
 pub raw-with : (m n : Space) (r : Range) → n.start ≡ m.start → m.start ≤ r.start → n.out ≡ out_with m r → (a : ℕ) → m.start ≤ a → out_at n a ≡ raw → out_at m a ≡ raw
-raw-with m n r start inside back a from is = elim (cases_lt a r.start) [
-  | inl before ↦ sym (beside_back m n r start inside back a from (inl before)) ∙ is
-  | inr behind ↦ elim (cases_lt a (end_of r)) [
-    | inl within ↦
-        let came : out_at n a ≡ here = back_at m n r start inside back a ∙ back-there m.out (r.start - m.start) r.len (a - m.start) (omega (arith, behind))
-        (omega (arith, within, inside)) in
-        absurd (false≢true (sym (ap is_here is) ∙ ap is_here came))
-    | inr past ↦ sym (beside_back m n r start inside back a from (inr past)) ∙ is
-  ]
+raw-with m n r start inside back a from is = elim (with-or m n r start inside back a from) [
+  | inl same ↦ sym same ∙ is
+  | inr came ↦ absurd (false≢true (sym (ap is_here is) ∙ ap is_here came))
 ]
 
 -- the bytes of a payload behind its first ones came back raw, and other bytes left

@@ -20,7 +20,7 @@ module _ {fllen sllen : ℕ} {m : Space} {table : Table} {s : State} (v : Stands
 
   -- after they left, the memory represents the same state
   pub stands-without : (n : Space) → n.start ≡ m.start → n.bytes ≡ m.bytes → n.out ≡ out_without m (usable u) → StandsFor fllen sllen (contents n table) s
-  stands-without n start bytes gone = stands_same m n v start bytes (λ a from unlent. out-left m n (usable u) a start gone lies-usable.0 from (elim (unlent u i) [
+  stands-without n start bytes gone = stands_same m n v start bytes (λ a from unlent. out-left m n (usable u) start lies-usable.0 gone a from (elim (unlent u i) [
     | inl before ↦ inl before
     | inr behind ↦ inr (omega (arith, behind, (v.well_formed.used u i).within))
   ]))

@@ -1,11 +1,12 @@
 -- The state that is read from a memory whose bytes change, or from which bytes leave or come back.
-use Rattle.std.proofs.Common.{◌≡◌, ℕ, ◌-◌, ◌<◌, ◌≤◌, ◌⊎◌, List, length, inl, inr, ap, sym, ◌∙◌, slice_index, subst, arith}
+use Rattle.std.proofs.Common.{◌≡◌, ℕ, ◌+◌, ◌-◌, ◌<◌, ◌≤◌, ◌⊎◌, List, length, inl, inr, ap, sym, ◌∙◌, slice_index, subst, arith}
+use Rattle.std.proofs.lemmas.Bool.{cases_lt}
 use Rattle.rlsf_base.specs.declared.memory.range.Range.{Range}
-use Rattle.rlsf_base.specs.Out.{out, raw, kept_at}
-use Rattle.rlsf_base.specs.OpenSpace.{out_raw, out_without}
+use Rattle.rlsf_base.specs.Out.{Change, Kept, here, out, raw, kept_at}
+use Rattle.rlsf_base.specs.OpenSpace.{out_raw, out_with, out_without}
 use Rattle.rlsf_base.specs.Range.{end_of}
 use Rattle.rlsf_base.specs.Space.{Space, out_at}
-use Rattle.rlsf_base.proofs.Changes.{changed-before, changed-behind}
+use Rattle.rlsf_base.proofs.Changes.{back-before, back-behind, back-there, changed-before, changed-behind, changed-there}
 use Rattle.rlsf_base.specs.Ledger.{Entry}
 use Rattle.rlsf_model.specs.Lists.{IsIn}
 use Rattle.rlsf_model.specs.State.{State, Used, usable}
@@ -16,25 +17,41 @@ use Rattle.rlsf_heap.specs.Heap.{AreIssued}
 use Rattle.rlsf_tlsf.proofs.Arrivals.{read_from-stands}
 use Rattle.rlsf_tlsf.proofs.Reached.{read_from-same}
 
--- what is out of a memory, once a range has left it
-pub out-left : (m n : Space) (r : Range) (a : ℕ) → n.start ≡ m.start → n.out ≡ out_without m r → m.start ≤ r.start → m.start ≤ a
-    → (a < r.start) ⊎ (end_of r ≤ a)
-    → out_at n a ≡ out_at m a
-out-left m n r a start gone inside from side =
-    (λ i. kept_at (gone i) (a - start i)) ∙ elim side [
-      | inl before ↦ changed-before out m.out (r.start - m.start) r.len (a - m.start) (omega (arith, before, inside, from))
-      | inr behind ↦ changed-behind out m.out (r.start - m.start) r.len (a - m.start) (omega (arith, behind, inside, from))
-    ]
+-- what is out of a memory, once a range of it left or came back: each byte of the range is of one kind, and the others are as they were
+module _ (m n : Space) (r : Range) {t : Kept} {cs : List Change} (start : n.start ≡ m.start) (now : n.out ≡ cs) (inside : m.start ≤ r.start)
+    (before : (k : ℕ) → k < r.start - m.start → kept_at cs k ≡ kept_at m.out k) (behind : (k : ℕ) → r.start - m.start + r.len ≤ k → kept_at cs k ≡ kept_at m.out k)
+    (there : (k : ℕ) → r.start - m.start ≤ k → k < r.start - m.start + r.len → kept_at cs k ≡ t) where
+  beside : (a : ℕ) → m.start ≤ a → (a < r.start) ⊎ (end_of r ≤ a) → out_at n a ≡ out_at m a
+  beside a from side = (λ i. kept_at (now i) (a - start i)) ∙ elim side [
+    | inl low ↦ before (a - m.start) (omega (arith, low, from))
+    | inr high ↦ behind (a - m.start) (omega (arith, high, inside))
+  ]
 
--- what is out of a memory, once a range has come back
-pub out-back : (m n : Space) (r : Range) (a : ℕ) → n.start ≡ m.start → n.out ≡ out_raw m r → m.start ≤ r.start → m.start ≤ a
-    → (a < r.start) ⊎ (end_of r ≤ a)
-    → out_at n a ≡ out_at m a
-out-back m n r a start back inside from side =
-    (λ i. kept_at (back i) (a - start i)) ∙ elim side [
-      | inl before ↦ changed-before raw m.out (r.start - m.start) r.len (a - m.start) (omega (arith, before, inside, from))
-      | inr behind ↦ changed-behind raw m.out (r.start - m.start) r.len (a - m.start) (omega (arith, behind, inside, from))
+  either : (a : ℕ) → m.start ≤ a → (out_at n a ≡ out_at m a) ⊎ (out_at n a ≡ t)
+  either a from = elim (cases_lt a r.start) [
+    | inl low ↦ inl (beside a from (inl low))
+    | inr high ↦ elim (cases_lt a (end_of r)) [
+      | inl within ↦ inr ((λ i. kept_at (now i) (a - start i)) ∙ there (a - m.start) (omega (arith, high)) (omega (arith, within, inside)))
+      | inr past ↦ inl (beside a from (inr past))
     ]
+  ]
+
+module _ (m n : Space) (r : Range) (start : n.start ≡ m.start) (inside : m.start ≤ r.start) where
+  -- it left
+  module _ (gone : n.out ≡ out_without m r) where
+    pub out-left : (a : ℕ) → m.start ≤ a → (a < r.start) ⊎ (end_of r ≤ a) → out_at n a ≡ out_at m a
+    out-left = beside m n r start gone inside (changed-before out m.out _ _) (changed-behind out m.out _ _) (changed-there out m.out _ _)
+
+    pub left-or : (a : ℕ) → m.start ≤ a → (out_at n a ≡ out_at m a) ⊎ (out_at n a ≡ out)
+    left-or = either m n r start gone inside (changed-before out m.out _ _) (changed-behind out m.out _ _) (changed-there out m.out _ _)
+
+  -- it came back raw
+  pub out-back : n.out ≡ out_raw m r → (a : ℕ) → m.start ≤ a → (a < r.start) ⊎ (end_of r ≤ a) → out_at n a ≡ out_at m a
+  out-back back = beside m n r start back inside (changed-before raw m.out _ _) (changed-behind raw m.out _ _) (changed-there raw m.out _ _)
+
+  -- it came back with its values
+  pub with-or : n.out ≡ out_with m r → (a : ℕ) → m.start ≤ a → (out_at n a ≡ out_at m a) ⊎ (out_at n a ≡ here)
+  with-or back = either m n r start back inside (back-before m.out _ _) (back-behind m.out _ _) (back-there m.out _ _)
 
 -- where only usable bytes of live payloads leave or come back, the memory represents the same state
 pub stands_same : {fllen sllen : ℕ} (m n : Space) {t : Table} {s : State} → StandsFor fllen sllen (contents m t) s → n.start ≡ m.start → n.bytes ≡ m.bytes

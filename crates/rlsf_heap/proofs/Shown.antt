@@ -83,7 +83,7 @@ module _ {fllen sllen : ℕ} {m n : Space} {table : Table} {s : State} {es : Lis
   pub stands-back : StandsFor fllen sllen (contents n table) s
   stands-back =
       stands_same m n b.shown.stands b.same b.bytes
-      (λ a from unlent. out-back m n (range_at (e.addr + kept) (e.len - kept)) a b.same b.out (omega (arith, (lies b.shown).0)) from
+      (λ a from unlent. out-back m n (range_at (e.addr + kept) (e.len - kept)) b.same (omega (arith, (lies b.shown).0)) b.out a from
       (side a (unlent (block b.shown) (held b.shown).0)))
 
   pub own-back : IsOwned n (range_at (e.addr + kept) (e.len - kept))

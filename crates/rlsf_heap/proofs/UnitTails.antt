@@ -127,7 +127,7 @@ module _ {fllen sllen : ℕ} {m n : Space} {table : Table} {s : State} {es : Lis
       pub now-stands : (q : Space) → q.start ≡ o.start → q.bytes ≡ o.bytes → q.out ≡ out_without o (range_at (start + kept) (now - kept)) → StandsFor fllen sllen (contents q y) t
       now-stands q same bytes out =
           stands_same o q w same bytes
-          (λ a from unlent. out-left o q (range_at (start + kept) (now - kept)) a same out (omega (arith, now-lies.0)) from (now-side a (unlent z now-held.1.0)))
+          (λ a from unlent. out-left o q (range_at (start + kept) (now - kept)) same (omega (arith, now-lies.0)) out a from (now-side a (unlent z now-held.1.0)))
 
       -- its ticket is issued again, for this length
       pub now-issued : AreIssued t (renewed_entries es k (extent start len 16) now)
