@@ -1,5 +1,5 @@
 -- A heap after a call on its core.
-use Rattle.std.proofs.Common.{◌≡◌, ℕ, ◌≤◌, List, length, refl, arith}
+use Rattle.std.proofs.Common.{◌≡◌, ℕ, ◌≤◌, List, length, refl, sym, ◌∙◌, arith}
 use Rattle.rlsf_base.specs.Ledger.{Entry}
 use Rattle.rlsf_base.specs.OpenSpace.{home_of}
 use Rattle.rlsf_base.specs.SizeClass.{IsValid}
@@ -11,11 +11,15 @@ use Rattle.rlsf_table.proofs.Parameters.{IsValid-widest}
 use Rattle.rlsf_blocks.specs.Laws.{read_from}
 use Rattle.rlsf_blocks.specs.Spare.{KeepsSpare}
 use Rattle.rlsf_blocks.proofs.Words.Stays.{Stays}
+use Rattle.rlsf_tlsf.specs.Allocator.{allocator}
 use Rattle.rlsf_tlsf.specs.Cores.{IsCore, LeavesCore, LeavesCoreCopying}
-use Rattle.rlsf_heap.specs.Frame.{KeepsBytes, KeepsFrame, KeepsHeap}
+use Rattle.rlsf_tlsf.specs.Results.{KeepsFrameOfPools}
+use Rattle.rlsf_heap.specs.Frame.{KeepsBytes, KeepsFrame, KeepsHeap, KeepsPayloads}
 use Rattle.rlsf_heap.specs.Heap.{AreIssued, Identity, IsHeap, Stands, Steps, heap_view}
 use Rattle.rlsf_heap.specs.Kept.{KeepsSpareBytes, NoneBecomesRaw}
 use Rattle.rlsf_heap.proofs.Kept.{raw-stays}
+use Rattle.rlsf_heap.proofs.LiveCounts.{live_count-same}
+use Rattle.rlsf_heap.proofs.Read.{issued-same}
 use Rattle.rlsf_heap.proofs.Settled.{settled-stays}
 
 -- the core of a heap
@@ -70,3 +74,20 @@ module _ {fllen sllen : ℕ} {m n : Space} {y : Table} {j k : State} {most copie
 module _ {fllen sllen : ℕ} {m n : Space} {y : Table} {j k : State} {most : ℕ} (left : LeavesCore fllen sllen m n y j k most) (ledger : ℕ) (x : Table) where
   pub frame-left : (read_from n k).chunks ≡ (read_from m j).chunks → KeepsFrame (heap_view m x j ledger) (heap_view n y k ledger)
   frame-left chunks = record { heap = heap-left left ledger x; bytes = bytes-left left ledger x; chunks = chunks; copied = omega (arith, left.costs.copied) }
+
+-- where no used block changes
+module _ {fllen sllen : ℕ} {m n : Space} {x y : Table} {j k : State} {most : ℕ} (left : LeavesCore fllen sllen m n y j k most) where
+  pub IsHeap-pools : {fl_bits sl_bits : ℕ} {es : List Entry} {count : ℕ} → IsHeap fl_bits sl_bits fllen sllen m x j es count → (read_from n k).used ≡ (read_from m j).used
+      → IsHeap fl_bits sl_bits fllen sllen n y k es count
+  IsHeap-pools {es = es} {count = count} is used =
+      IsHeap-left left is.valid es (issued-same (read_from m j) (read_from n k) used is.tickets) count
+      (is.counted ∙ live_count-same (read_from m j) (read_from n k) (sym used))
+
+  pub frame-pools : (ledger : ℕ) → KeepsFrameOfPools (allocator m x j) (allocator n y k) → KeepsPayloads (heap_view m x j ledger) (heap_view n y k ledger)
+  frame-pools ledger frame = record {
+    heap = heap-left left ledger x;
+    bytes = bytes-left left ledger x;
+    aligns = frame.aligns;
+    count = frame.count;
+    copied = frame.copied;
+  }

@@ -9,8 +9,11 @@ use types.Logic.{Logic, sem}
 use denote.RattleType.{RattleType}
 use denote.Builtin.{usize}
 use denote.Shadow.{shadow, makes_shadow}
+use denote.Laws.{Tells, Is}
 use denote.Struct.Struct.{Struct}
 use Rattle.core.proofs.cell.Inside.{Good}
+use Rattle.rlsf_heap.proofs.thin.ThinPayload.TheLaws.{lowers}
+use Rattle.rlsf_heap.specs.contracts.thin.ThinPayload as thin
 
 abbrev plainly : List RattleType → RattleType
 plainly Rs = Struct (record { name = []; args = []; types = []; fields = Rs })
@@ -29,6 +32,13 @@ addr_made 𝓛 n f = makes_shadow 𝓛 (addr_own n (addr_val n ∷ [])) (λ _. (
 
 pub addr_typed : (n : ℕ) → n < 2 ^ 64 → Good (ty_struct [] (tcons (ty_int w64) tnil)) (addr_val n)
 addr_typed n f = (tt, (record { fits = f }, tt))
+
+-- a payload by its address is its address
+abbrev pub payload_vals : (thin.the_row).Denot → List Val
+payload_vals d = addr_val d.addr ∷ []
+
+pub payload_Tells : Tells thin.the_row (Is thin.the_row) payload_vals
+payload_Tells = lowers.val_is
 
 -- a number that isn't 0 is one more than another
 pub one_more_than : (n : ℕ) → n ≢ 0 → (k : ℕ) × (n ≡ suc k)

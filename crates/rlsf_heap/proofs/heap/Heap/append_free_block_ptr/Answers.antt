@@ -1,12 +1,10 @@
-use Rattle.std.proofs.Common.{arith, sym, ◌∙◌, subst}
+use Rattle.std.proofs.Common.{arith, sym, subst}
 use Rattle.rlsf_base.specs.Space.{range_of}
 use Rattle.rlsf_model.specs.Insert.{Appends, IsNext}
 use Rattle.rlsf_model.proofs.Chunks.{used-appended}
 use Rattle.rlsf_blocks.specs.Laws.{read_from}
 use Rattle.rlsf_heap.specs.Heap.{HeapView}
-use Rattle.rlsf_heap.proofs.LiveCounts.{live_count-same}
-use Rattle.rlsf_heap.proofs.OnCores.{IsHeap-left, Steps-left, bytes-left, heap-left, core_of}
-use Rattle.rlsf_heap.proofs.Read.{issued-same}
+use Rattle.rlsf_heap.proofs.OnCores.{IsHeap-pools, Steps-left, core_of, frame-pools}
 use Rattle.rlsf_heap.proofs.heap.Heap.append_free_block_ptr.Goals as goal
 
 pub append_in-requires : goal.append_in-requires
@@ -18,12 +16,8 @@ append_in-requires g c =
 
 pub invariant_of-self : goal.invariant_of-self
 invariant_of-self g c =
-    let s = read_from c.self.inside.memory c.self.inside.state.state in
-    let t = read_from c.append_in.new.memory c.append_in.new.state.state in
-    let e = c.append_in.ensures in
-    let used = used-appended g.row.FLLEN s t c.args.range c.append_in.result e.step in
-    IsHeap-left e.left c.self.invariant.valid c.self.inside.ledger.entries (issued-same s t used c.self.invariant.tickets) c.self.inside.live
-    (c.self.invariant.counted ∙ live_count-same s t (sym used))
+    IsHeap-pools c.append_in.ensures.left c.self.invariant (used-appended g.row.FLLEN (read_from c.self.inside.memory c.self.inside.state.state) (read_from c.append_in.new.memory c.append_in.new.state.state)
+    c.args.range c.append_in.result c.append_in.ensures.step)
 
 pub returns : goal.returns
 returns g c =
@@ -35,12 +29,6 @@ returns g c =
       untouched = e.result.untouched;
       bounds = e.bounds;
       refused = e.refused;
-      frame = record {
-        heap = heap-left e.left ledger c.self.inside.table;
-        bytes = bytes-left e.left ledger c.self.inside.table;
-        aligns = e.frame.aligns;
-        count = e.frame.count;
-        copied = e.frame.copied;
-      };
+      frame = frame-pools e.left ledger e.frame;
       touches = e.left.costs.touches;
     })

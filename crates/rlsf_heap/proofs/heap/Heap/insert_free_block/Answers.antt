@@ -1,16 +1,10 @@
-use Rattle.std.proofs.Common.{◌≡◌, ℕ, Option, Some, None, IfNone, sym, ◌∙◌, ap}
-use Rattle.std.proofs.lemmas.Option.{none-some}
-use Rattle.std.specs.declared.num.NonZeroUsize.{NonZeroUsize}
-use Rattle.rlsf_base.specs.Addr.{at, reply}
+use Rattle.std.proofs.Common.{ℕ, ◌∙◌, ap}
+use Rattle.rlsf_base.specs.Addr.{reply}
 use Rattle.rlsf_model.specs.Insert.{Inserts, bytes_taken}
 use Rattle.rlsf_model.specs.State.{State}
+use Rattle.rlsf_tlsf.proofs.Replied.{where_none}
 use Rattle.rlsf_heap.specs.Heap.{HeapView, Steps}
 use Rattle.rlsf_heap.proofs.heap.Heap.insert_free_block.Goals as goal
-
--- a fact about refused inserts holds if nothing is returned
-where_none : (P : Type 0) (o : Option NonZeroUsize) → reply o ≡ None → IfNone o P → P
-where_none P None e holds = holds
-where_none P (Some x) e holds = absurd (none-some (at x) (sym e))
 
 -- the step that a call made
 step_of : (fllen sllen : ℕ) (after : HeapView) (step : State → Type 0) → Steps fllen sllen after step → step after.state

@@ -1,4 +1,4 @@
-use Rattle.std.proofs.Common.{arith, sym, ◌∙◌, subst}
+use Rattle.std.proofs.Common.{arith, sym, subst}
 use Rattle.rlsf_base.specs.Addr.{reply}
 use Rattle.rlsf_base.specs.Space.{range_of}
 use Rattle.rlsf_model.specs.Insert.{Inserts, IsFresh}
@@ -6,9 +6,7 @@ use Rattle.rlsf_model.proofs.Chunks.{used-inserted}
 use Rattle.rlsf_model.proofs.Untouched.{IsFresh-untouched}
 use Rattle.rlsf_blocks.specs.Laws.{read_from}
 use Rattle.rlsf_heap.specs.Heap.{HeapView}
-use Rattle.rlsf_heap.proofs.LiveCounts.{live_count-same}
-use Rattle.rlsf_heap.proofs.OnCores.{IsHeap-left, Steps-left, bytes-left, heap-left, core_of}
-use Rattle.rlsf_heap.proofs.Read.{issued-same}
+use Rattle.rlsf_heap.proofs.OnCores.{IsHeap-pools, Steps-left, core_of, frame-pools}
 use Rattle.rlsf_heap.proofs.heap.Heap.insert_free_block_ptr.Goals as goal
 
 pub insert_in-requires : goal.insert_in-requires
@@ -22,12 +20,8 @@ insert_in-requires g c =
 
 pub invariant_of-self : goal.invariant_of-self
 invariant_of-self g c =
-    let s = read_from c.self.inside.memory c.self.inside.state.state in
-    let t = read_from c.insert_in.new.memory c.insert_in.new.state.state in
-    let e = c.insert_in.ensures in
-    let used = used-inserted g.row.FLLEN s t c.args.range (reply c.insert_in.result) e.step in
-    IsHeap-left e.left c.self.invariant.valid c.self.inside.ledger.entries (issued-same s t used c.self.invariant.tickets) c.self.inside.live
-    (c.self.invariant.counted ∙ live_count-same s t (sym used))
+    IsHeap-pools c.insert_in.ensures.left c.self.invariant (used-inserted g.row.FLLEN (read_from c.self.inside.memory c.self.inside.state.state) (read_from c.insert_in.new.memory c.insert_in.new.state.state)
+    c.args.range (reply c.insert_in.result) c.insert_in.ensures.step)
 
 pub returns : goal.returns
 returns g c =
@@ -40,12 +34,6 @@ returns g c =
       room = e.result.pool;
       bounds = e.bounds;
       refused = e.refused;
-      frame = record {
-        heap = heap-left e.left ledger c.self.inside.table;
-        bytes = bytes-left e.left ledger c.self.inside.table;
-        aligns = e.frame.aligns;
-        count = e.frame.count;
-        copied = e.frame.copied;
-      };
+      frame = frame-pools e.left ledger e.frame;
       touches = e.left.costs.touches;
     })

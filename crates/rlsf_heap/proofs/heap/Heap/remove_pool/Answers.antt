@@ -1,13 +1,11 @@
-use Rattle.std.proofs.Common.{arith, sym, ◌∙◌, ap, subst}
+use Rattle.std.proofs.Common.{arith, sym, ap, subst}
 use Rattle.rlsf_model.specs.ChunkRows.{IsRow}
 use Rattle.rlsf_model.specs.Remove.{IsIdle, Removes}
 use Rattle.rlsf_model.specs.State.{State}
 use Rattle.rlsf_blocks.specs.Blocks.{walked}
 use Rattle.rlsf_blocks.specs.Laws.{read_from}
 use Rattle.rlsf_heap.specs.Heap.{HeapView}
-use Rattle.rlsf_heap.proofs.LiveCounts.{live_count-same}
-use Rattle.rlsf_heap.proofs.OnCores.{IsHeap-left, Steps-left, bytes-left, heap-left, core_of}
-use Rattle.rlsf_heap.proofs.Read.{issued-same}
+use Rattle.rlsf_heap.proofs.OnCores.{IsHeap-pools, Steps-left, core_of, frame-pools}
 use Rattle.rlsf_heap.proofs.heap.Heap.remove_pool.Goals as goal
 
 pub remove_in-requires : goal.remove_in-requires
@@ -18,13 +16,7 @@ remove_in-requires g c =
     (omega arith, (core_of is g.FLBitmap.BitPattern.width_limit, (row, idle)))
 
 pub invariant_of-self : goal.invariant_of-self
-invariant_of-self g c =
-    let s = read_from c.self.inside.memory c.self.inside.state.state in
-    let t = read_from c.remove_in.new.memory c.remove_in.new.state.state in
-    let e = c.remove_in.ensures in
-    let used = ap (λ (x : State). x.used) e.step in
-    IsHeap-left e.left c.self.invariant.valid c.self.inside.ledger.entries (issued-same s t used c.self.invariant.tickets) c.self.inside.live
-    (c.self.invariant.counted ∙ live_count-same s t (sym used))
+invariant_of-self g c = IsHeap-pools c.remove_in.ensures.left c.self.invariant (ap (λ (x : State). x.used) c.remove_in.ensures.step)
 
 pub returns : goal.returns
 returns g c =
@@ -35,12 +27,6 @@ returns g c =
       step = Steps-left e.left ledger (Removes s (walked c.args.range)) e.step;
       untouched = e.result.untouched;
       result = e.result.gone;
-      frame = record {
-        heap = heap-left e.left ledger c.self.inside.table;
-        bytes = bytes-left e.left ledger c.self.inside.table;
-        aligns = e.frame.aligns;
-        count = e.frame.count;
-        copied = e.frame.copied;
-      };
+      frame = frame-pools e.left ledger e.frame;
       touches = e.touches;
     })

@@ -11,7 +11,6 @@ use types.Kit.{fpack, done}
 use types.Run.{of_opd, returns, enter}
 use types.ByLocal.{alloc_all, pass_all, free_all, look_at, get, sets}
 use denote.RattleType.{owns}
-use denote.Laws.{Tells, Is}
 use denote.Ref.{mut_vals, mut_Tells}
 use denote.Signature.{plain, types_at}
 use denote.Steps.{nothing, heard, opens, closes}
@@ -25,18 +24,11 @@ use Rattle.rlsf_base.specs.contracts.memory.ledger.Ledger as ledger
 use Rattle.rlsf_heap.specs.Raw.{IsWhole, bytes_of}
 use Rattle.rlsf_heap.specs.Thin.{owns_at}
 use Rattle.rlsf_heap.proofs.ThinTickets.{shows_live}
-use Rattle.rlsf_heap.proofs.ThinValues.{addr_val, addr_own, addr_made, addr_told, addr_typed, one_more_than}
-use Rattle.rlsf_heap.proofs.thin.ThinPayload.TheLaws.{lowers}
+use Rattle.rlsf_heap.proofs.ThinValues.{addr_val, addr_own, addr_made, addr_told, addr_typed, one_more_than, payload_Tells, payload_vals}
 use Rattle.rlsf_heap.specs.contracts.thin.ThinPayload as thin
 use Rattle.rlsf_heap.specs.contracts.thin.ThinPayload.checked as f
 use Rattle.rlsf_heap.proofs.thin.ThinPayload.checked.Statement.{statement}
 use Rattle.rlsf_heap.proofs.thin.ThinPayload.checked.Code as code
-
-abbrev payload_vals : (thin.the_row).Denot → List Val
-payload_vals d = addr_val d.addr ∷ []
-
-payload_Tells : Tells thin.the_row (Is thin.the_row) payload_vals
-payload_Tells = lowers.val_is
 
 abbrev stayed : Stays f.ended.signature.params f.ended.kept
 stayed = (stay_dropped (plain (λ _. thin.the_row)) f.ended.kept.0, (stay_ref (0 ∷ []) tt (plain (λ _. ledger.the_row)), tt))

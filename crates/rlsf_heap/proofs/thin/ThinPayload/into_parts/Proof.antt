@@ -10,7 +10,7 @@ use types.Part.{agg}
 use types.Run.{of_opd, no_more, and_then, returns, enter}
 use types.ByLocal.{alloc_all, pass_all, free_all, look_at, get, sets, lands_as}
 use denote.RattleType.{RattleType, owns}
-use denote.Laws.{Tells, Is, shows}
+use denote.Laws.{Is, shows}
 use denote.Signature.{plain, types_at}
 use denote.Steps.{nothing, heard, peeks, only}
 use denote.Struct.Tuple.{Tuple}
@@ -31,19 +31,12 @@ use Rattle.rlsf_base.specs.contracts.memory.ledger.Ticket.from_raw as g
 use Rattle.rlsf_base.proofs.memory.ledger.Ticket.from_raw.Met.{met as raw_met}
 use Rattle.rlsf_heap.specs.Raw.{IsWhole, bytes_of}
 use Rattle.rlsf_heap.specs.Thin.{owns_at}
-use Rattle.rlsf_heap.proofs.ThinValues.{addr_val, addr_told, addr_typed, one_more_than}
-use Rattle.rlsf_heap.proofs.thin.ThinPayload.TheLaws.{lowers}
+use Rattle.rlsf_heap.proofs.ThinValues.{addr_val, addr_told, addr_typed, one_more_than, payload_Tells, payload_vals}
 use Rattle.rlsf_heap.specs.contracts.thin.ThinBytes as bytes_type
 use Rattle.rlsf_heap.specs.contracts.thin.ThinPayload as raw_payload
 use Rattle.rlsf_heap.specs.contracts.thin.ThinPayload.into_parts as f
 use Rattle.rlsf_heap.proofs.thin.ThinPayload.into_parts.Statement.{statement}
 use Rattle.rlsf_heap.proofs.thin.ThinPayload.into_parts.Code as code
-
-abbrev payload_vals : (raw_payload.the_row).Denot → List Val
-payload_vals d = addr_val d.addr ∷ []
-
-payload_Tells : Tells raw_payload.the_row (Is raw_payload.the_row) payload_vals
-payload_Tells = lowers.val_is
 
 abbrev stayed : Stays f.ended.signature.params f.ended.kept
 stayed = (stay_dropped (plain (λ _. raw_payload.the_row)) f.ended.kept.0, tt)

@@ -9,24 +9,16 @@ use types.ByLocal.{alloc_all, pass_all, free_all, look_at, get, get_in, sets}
 use denote.Builtin.{usize}
 use denote.Plain.{uint_Makes}
 use denote.RattleType.{owns}
-use denote.Laws.{Tells, Is}
 use denote.Signature.{plain, types_at}
 use denote.Steps.{nothing, owned}
 use denote.Triple.Walked.{says, Stays, walk_of, stay_dropped, ends_at}
 use Rattle.core.proofs.alloc.Calls.{Goes-blank}
 use Rattle.std.proofs.raw_atomic.Walks.{proved}
-use Rattle.rlsf_heap.proofs.ThinValues.{addr_val, addr_told, addr_typed}
-use Rattle.rlsf_heap.proofs.thin.ThinPayload.TheLaws.{lowers}
+use Rattle.rlsf_heap.proofs.ThinValues.{addr_val, addr_told, addr_typed, payload_Tells, payload_vals}
 use Rattle.rlsf_heap.specs.contracts.thin.ThinPayload as raw_payload
 use Rattle.rlsf_heap.specs.contracts.thin.ThinPayload.into_raw as f
 use Rattle.rlsf_heap.proofs.thin.ThinPayload.into_raw.Statement.{statement}
 use Rattle.rlsf_heap.proofs.thin.ThinPayload.into_raw.Code as code
-
-abbrev payload_vals : (raw_payload.the_row).Denot → List Val
-payload_vals d = addr_val d.addr ∷ []
-
-payload_Tells : Tells raw_payload.the_row (Is raw_payload.the_row) payload_vals
-payload_Tells = lowers.val_is
 
 abbrev stayed : Stays f.ended.signature.params f.ended.kept
 stayed = (stay_dropped (plain (λ _. raw_payload.the_row)) f.ended.kept.0, tt)

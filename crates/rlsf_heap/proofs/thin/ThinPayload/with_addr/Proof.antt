@@ -10,7 +10,6 @@ use denote.Builtin.{usize}
 use denote.Plain.{uint_Makes}
 use denote.RattleType.{RattleType, owns}
 use denote.Struct.Tuple.{Tuple}
-use denote.Laws.{Tells, Is}
 use denote.Signature.{plain, types_at}
 use denote.Steps.{nothing, owned}
 use denote.Triple.Walked.{Stays, walk_of, stay_dropped, ends_at}
@@ -18,18 +17,11 @@ use Rattle.core.proofs.alloc.Calls.{Goes-blank}
 use Rattle.core.proofs.mem.Facts.{says_two}
 use Rattle.std.proofs.raw_atomic.Walks.{proved}
 use Rattle.rlsf_base.proofs.RawBlock.Values.{two_val, two_of}
-use Rattle.rlsf_heap.proofs.ThinValues.{addr_val, addr_own, addr_made, addr_told, addr_typed}
-use Rattle.rlsf_heap.proofs.thin.ThinPayload.TheLaws.{lowers}
+use Rattle.rlsf_heap.proofs.ThinValues.{addr_val, addr_own, addr_made, addr_told, addr_typed, payload_Tells, payload_vals}
 use Rattle.rlsf_heap.specs.contracts.thin.ThinPayload as thin
 use Rattle.rlsf_heap.specs.contracts.thin.ThinPayload.with_addr as f
 use Rattle.rlsf_heap.proofs.thin.ThinPayload.with_addr.Statement.{statement}
 use Rattle.rlsf_heap.proofs.thin.ThinPayload.with_addr.Code as code
-
-abbrev payload_vals : (thin.the_row).Denot → List Val
-payload_vals d = addr_val d.addr ∷ []
-
-payload_Tells : Tells thin.the_row (Is thin.the_row) payload_vals
-payload_Tells = lowers.val_is
 
 abbrev stayed : Stays f.ended.signature.params f.ended.kept
 stayed = (stay_dropped (plain (λ _. thin.the_row)) f.ended.kept.0, tt)

@@ -8,7 +8,6 @@ use types.Part.{agg, whole, sub}
 use types.Run.{stop, fld, of_opd, no_more, and_then, returns, enter}
 use types.ByLocal.{alloc_all, pass_all, free_all, look_at, get, get_in, sets}
 use denote.RattleType.{owns}
-use denote.Laws.{Tells, Is}
 use denote.Signature.{plain, types_at}
 use denote.Steps.{nothing, heard}
 use denote.Triple.Walked.{says, Stays, walk_of, stay_dropped, ends_at}
@@ -16,19 +15,12 @@ use Rattle.core.proofs.alloc.Calls.{Goes-blank}
 use Rattle.std.proofs.raw_atomic.Walks.{proved}
 use Rattle.rlsf_heap.specs.Heap.{IsWritten}
 use Rattle.rlsf_heap.specs.Thin.{owns_reply}
-use Rattle.rlsf_heap.proofs.ThinValues.{addr_val, addr_own, addr_made, addr_told, addr_typed}
+use Rattle.rlsf_heap.proofs.ThinValues.{addr_val, addr_own, addr_made, addr_told, addr_typed, payload_Tells, payload_vals}
 use Rattle.rlsf_heap.proofs.WrittenBytes.{owns_values, with_values}
-use Rattle.rlsf_heap.proofs.thin.ThinPayload.TheLaws.{lowers}
 use Rattle.rlsf_heap.specs.contracts.thin.ThinPayload as thin
 use Rattle.rlsf_heap.specs.contracts.thin.ThinPayload.with_values as f
 use Rattle.rlsf_heap.proofs.thin.ThinPayload.with_values.Statement.{statement}
 use Rattle.rlsf_heap.proofs.thin.ThinPayload.with_values.Code as code
-
-abbrev payload_vals : (thin.the_row).Denot → List Val
-payload_vals d = addr_val d.addr ∷ []
-
-payload_Tells : Tells thin.the_row (Is thin.the_row) payload_vals
-payload_Tells = lowers.val_is
 
 abbrev stayed : Stays f.ended.signature.params f.ended.kept
 stayed = (stay_dropped (plain (λ _. thin.the_row)) f.ended.kept.0, tt)

@@ -1,17 +1,11 @@
-use Rattle.std.proofs.Common.{◌≡◌, ℕ, Option, Some, None, IfNone, sym, ◌∙◌, ap}
-use Rattle.std.proofs.lemmas.Option.{none-some}
-use Rattle.std.specs.declared.num.NonZeroUsize.{NonZeroUsize}
-use Rattle.rlsf_base.specs.Addr.{at, reply}
+use Rattle.std.proofs.Common.{ℕ, Option, ◌∙◌, ap}
+use Rattle.rlsf_base.specs.Addr.{reply}
 use Rattle.rlsf_base.specs.declared.memory.range.Range.{Range}
 use Rattle.rlsf_model.specs.Insert.{Inserts, bytes_taken}
 use Rattle.rlsf_tlsf.specs.Allocator.{Allocator, Steps}
 use Rattle.rlsf_tlsf.proofs.Arrivals.{opened}
+use Rattle.rlsf_tlsf.proofs.Replied.{where_none}
 use Rattle.rlsf_tlsf.proofs.tlsf.Tlsf.insert_free_block.Goals as goal
-
--- what holds where nothing is returned
-where_none : (P : Type 0) (o : Option NonZeroUsize) → reply o ≡ None → IfNone o P → P
-where_none P None e holds = holds
-where_none P (Some x) e holds = absurd (none-some (at x) (sym e))
 
 -- whatever is returned
 somehow : (fllen sllen : ℕ) (before after : Allocator) (r : Range) (taken : Option ℕ) → Steps fllen sllen before after (Inserts fllen before.state r taken)
