@@ -42,6 +42,7 @@ impl<FLBitmap: BitPattern, SLBitmap: BitPattern, const FLLEN: usize, const SLLEN
     /// The range must lie in the memory and overlap no chunk.
     ///
     /// At most 13 word accesses for each chunk that it makes. No byte is copied.
+    #[tactic(auto, using(crate::proofs::Whole::none_again, crate::proofs::Whole::allocator_again))]
     pub fn insert_free_block_ptr(&mut self, range: Range) -> Option<NonZeroUsize>
         requires lies_in { LiesIn range self.old.memory.start (length self.old.memory.bytes) }
         requires untouched { IsUntouched self.old.state.chunks range }
@@ -91,6 +92,7 @@ impl<FLBitmap: BitPattern, SLBitmap: BitPattern, const FLLEN: usize, const SLLEN
     /// The range must lie in the memory, overlap no chunk, and begin where a chunk ends.
     ///
     /// At most 13 word accesses for each chunk that it makes, and at most 34 if a chunk grows. No byte is copied.
+    #[tactic(auto, using(crate::proofs::Whole::none_again, crate::proofs::Whole::allocator_again))]
     pub fn append_free_block_ptr(&mut self, range: Range) -> usize
         requires { IsNext (range_of self.old.memory) self.old.state range }
         ensures step { Steps FLLEN SLLEN self.old self.new (Appends FLLEN self.old.state range result) }
@@ -115,6 +117,7 @@ impl<FLBitmap: BitPattern, SLBitmap: BitPattern, const FLLEN: usize, const SLLEN
     /// The removed part must be complete contiguous chunks, or empty. No block in it may be used.
     ///
     /// At most 9 word accesses for each chunk that it removes. No byte is copied.
+    #[tactic(auto, using(crate::proofs::Whole::none_again, crate::proofs::Whole::allocator_again))]
     pub fn remove_pool(&mut self, range: Range)
         requires row { IsRow self.old.state (walked range) }
         requires idle { IsIdle self.old.state (walked range) }

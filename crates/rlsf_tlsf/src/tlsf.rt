@@ -114,6 +114,7 @@ impl<FLBitmap: BitPattern, SLBitmap: BitPattern, const FLLEN: usize, const SLLEN
     /// Completes in constant time: at most 27 word accesses, whatever the pools contain. No byte is copied.
     // In line, so that the tests of an alignment that is constant at the call go away.
     #[inline(always)]
+    #[tactic(auto, using(crate::proofs::Whole::core_again, crate::proofs::Whole::none_again, crate::proofs::Whole::allocator_again))]
     pub fn allocate(&mut self, layout: Layout) -> Option<Addr>
         ensures step { Steps FLLEN SLLEN self.old self.new (Allocates SLLEN self.old.state layout.size layout.align (reply result)) }
         ensures result { IfSome result (λ addr. IsAllocated self.old.state self.new.state layout.size layout.align (at addr)) }
@@ -140,6 +141,7 @@ impl<FLBitmap: BitPattern, SLBitmap: BitPattern, const FLLEN: usize, const SLLEN
     /// The payload at `addr` must be live, with the alignment `align`.
     ///
     /// Completes in constant time: at most 32 word accesses, whatever the pools contain. No byte is copied.
+    #[tactic(auto, using(crate::proofs::Whole::none_again, crate::proofs::Whole::allocator_again))]
     pub fn deallocate(&mut self, addr: Addr, align: usize)
         requires { align_at self.old.state (at addr) ≡ Some align }
         ensures step { Steps FLLEN SLLEN self.old self.new (Deallocates self.old.state (at addr)) }
@@ -163,6 +165,7 @@ impl<FLBitmap: BitPattern, SLBitmap: BitPattern, const FLLEN: usize, const SLLEN
     /// The payload at `addr` must be live, with any alignment.
     ///
     /// Completes in constant time: at most 33 word accesses, whatever the pools contain. No byte is copied.
+    #[tactic(auto, using(crate::proofs::Whole::none_again, crate::proofs::Whole::allocator_again))]
     pub fn deallocate_unknown_align(&mut self, addr: Addr)
         requires { IsSome (align_at self.old.state (at addr)) }
         ensures step { Steps FLLEN SLLEN self.old self.new (Deallocates self.old.state (at addr)) }
@@ -194,6 +197,7 @@ impl<FLBitmap: BitPattern, SLBitmap: BitPattern, const FLLEN: usize, const SLLEN
     ///
     /// At most 66 word accesses, whatever the pools contain. If the payload stays, no byte is copied. If it moves, at most the
     /// bytes that it had are copied.
+    #[tactic(auto, using(crate::proofs::Whole::none_again, crate::proofs::Whole::allocator_again))]
     pub fn reallocate(&mut self, addr: Addr, layout: Layout) -> Option<Addr>
         requires { align_at self.old.state (at addr) ≡ Some layout.align }
         ensures step { Steps FLLEN SLLEN self.old self.new (Reallocates SLLEN self.old.state (at addr) layout.size (reply result)) }
@@ -225,6 +229,7 @@ impl<FLBitmap: BitPattern, SLBitmap: BitPattern, const FLLEN: usize, const SLLEN
     /// The payload at `addr` must be live, with the alignment of `layout`.
     ///
     /// Completes in constant time: at most 25 word accesses, whatever the pools contain. No byte is copied.
+    #[tactic(auto, using(crate::proofs::Whole::none_again, crate::proofs::Whole::allocator_again))]
     pub fn reallocate_no_move(&mut self, addr: Addr, layout: Layout) -> Option<Addr>
         requires { align_at self.old.state (at addr) ≡ Some layout.align }
         ensures step { Steps FLLEN SLLEN self.old self.new (ReallocatesWithoutMove self.old.state (at addr) layout.size (reply result)) }

@@ -7,17 +7,8 @@ use Rattle.rlsf_tlsf.specs.Allocator.{Steps, allocator}
 use Rattle.rlsf_tlsf.specs.Results.{IsAllocated}
 use Rattle.rlsf_tlsf.proofs.Opened.{IsAllocator-opened, view-opened}
 use Rattle.rlsf_tlsf.proofs.Replied.{some_answer}
-use Rattle.rlsf_tlsf.proofs.Whole.{IsAllocator-left, Steps-left, frame-left, none_left, core_of}
+use Rattle.rlsf_tlsf.proofs.Whole.{Steps-left, frame-left}
 use Rattle.rlsf_tlsf.proofs.tlsf.Tlsf.allocate.Goals as goal
-
-pub allocate_in-requires : goal.allocate_in-requires
-allocate_in-requires g c = (omega arith, core_of (IsAllocator-opened c.self-inside.view_is c.self.invariant) g.FLBitmap.BitPattern.width_limit)
-
-pub invariant_of-self-inside : goal.invariant_of-self-inside
-invariant_of-self-inside g c = none_left (IsAllocator-opened c.self-inside.view_is c.self.invariant) c.allocate_in.ensures.left
-
-pub invariant_of-self : goal.invariant_of-self
-invariant_of-self g c = IsAllocator-left (IsAllocator-opened c.self-inside.view_is c.self.invariant) c.allocate_in.ensures.left
 
 pub returns-in-Some : goal.returns-in-Some
 returns-in-Some g c =

@@ -1,26 +1,15 @@
-use Rattle.std.proofs.Common.{arith, sym, subst}
+use Rattle.std.proofs.Common.{sym, subst, arith}
 use Rattle.rlsf_base.specs.Space.{range_of}
 use Rattle.rlsf_model.specs.Insert.{Appends, IsNext}
 use Rattle.rlsf_tlsf.specs.Allocator.{Allocator, allocator}
 use Rattle.rlsf_tlsf.proofs.Opened.{IsAllocator-opened, view-opened}
-use Rattle.rlsf_tlsf.proofs.Whole.{IsAllocator-left, Steps-left, none_left, core_of}
+use Rattle.rlsf_tlsf.proofs.Whole.{core_again, Steps-left}
 use Rattle.rlsf_tlsf.proofs.tlsf.Tlsf.append_free_block_ptr.Goals as goal
 
 pub append_in-requires : goal.append_in-requires
 append_in-requires g c =
-    let is = IsAllocator-opened c.self-inside.view_is c.self.invariant in (
-      omega arith,
-      (
-        core_of is g.FLBitmap.BitPattern.width_limit,
-        subst (λ (o : Allocator). IsNext (range_of o.memory) o.state c.args.range) (sym (view-opened c.self-inside.view_is c.self.view_is)) c.requires,
-      ),
-    )
-
-pub invariant_of-self-inside : goal.invariant_of-self-inside
-invariant_of-self-inside g c = none_left (IsAllocator-opened c.self-inside.view_is c.self.invariant) c.append_in.ensures.left
-
-pub invariant_of-self : goal.invariant_of-self
-invariant_of-self g c = IsAllocator-left (IsAllocator-opened c.self-inside.view_is c.self.invariant) c.append_in.ensures.left
+    let next = subst (λ (o : Allocator). IsNext (range_of o.memory) o.state c.args.range) (sym (view-opened c.self-inside.view_is c.self.view_is)) c.requires in
+    (omega arith, (core_again c.self-inside.view_is c.self.invariant g.FLBitmap.BitPattern.width_limit, next))
 
 pub returns : goal.returns
 returns g c =

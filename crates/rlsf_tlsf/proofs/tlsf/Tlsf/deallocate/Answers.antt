@@ -1,4 +1,4 @@
-use Rattle.std.proofs.Common.{arith, sym, ◌∙◌, subst}
+use Rattle.std.proofs.Common.{sym, ◌∙◌, subst, arith}
 use Rattle.rlsf_base.specs.Addr.{at}
 use Rattle.rlsf_base.proofs.Lending.Present.{own-none}
 use Rattle.rlsf_model.specs.Release.{Deallocates}
@@ -8,26 +8,15 @@ use Rattle.rlsf_tlsf.specs.Allocator.{allocator}
 use Rattle.rlsf_tlsf.specs.Results.{IsDeallocated}
 use Rattle.rlsf_tlsf.proofs.Arrivals.{live_inside}
 use Rattle.rlsf_tlsf.proofs.Opened.{IsAllocator-opened, view-opened}
-use Rattle.rlsf_tlsf.proofs.Whole.{IsAllocator-left, Steps-left, frame-left, none_left, core_of}
+use Rattle.rlsf_tlsf.proofs.Whole.{core_again, Steps-left, frame-left}
 use Rattle.rlsf_tlsf.proofs.tlsf.Tlsf.deallocate.Goals as goal
 
 pub deallocate_in-requires : goal.deallocate_in-requires
 deallocate_in-requires g c =
     let is = IsAllocator-opened c.self-inside.view_is c.self.invariant in
-    let m = c.self-inside.inside.0.0.inner in
-    let (u, holds, wide) = live_inside is c.args.self.now (view-opened c.self-inside.view_is c.self.view_is) (at c.args.addr) c.args.align c.requires in (
-      omega arith,
-      (
-        core_of is g.FLBitmap.BitPattern.width_limit,
-        (u, ((holds.0, holds.1 ∙ sym c.get.ensures.value), wide), own-none m (usable u) is.whole),
-      ),
-    )
-
-pub invariant_of-self-inside : goal.invariant_of-self-inside
-invariant_of-self-inside g c = none_left (IsAllocator-opened c.self-inside.view_is c.self.invariant) c.deallocate_in.ensures.left
-
-pub invariant_of-self : goal.invariant_of-self
-invariant_of-self g c = IsAllocator-left (IsAllocator-opened c.self-inside.view_is c.self.invariant) c.deallocate_in.ensures.left
+    let (u, holds, wide) = live_inside is c.args.self.now (view-opened c.self-inside.view_is c.self.view_is) (at c.args.addr) c.args.align c.requires in
+    let own = own-none c.self-inside.inside.0.0.inner (usable u) is.whole in
+    (omega arith, (core_again c.self-inside.view_is c.self.invariant g.FLBitmap.BitPattern.width_limit, (u, ((holds.0, holds.1 ∙ sym c.get.ensures.value), wide), own)))
 
 pub returns : goal.returns
 returns g c =

@@ -9,25 +9,15 @@ use Rattle.rlsf_tlsf.specs.Results.{IsReallocated}
 use Rattle.rlsf_tlsf.proofs.Arrivals.{live_inside}
 use Rattle.rlsf_tlsf.proofs.Opened.{IsAllocator-opened, view-opened}
 use Rattle.rlsf_tlsf.proofs.Replied.{some_answer}
-use Rattle.rlsf_tlsf.proofs.Whole.{IsAllocator-left, Steps-left, none_left, core_of}
+use Rattle.rlsf_tlsf.proofs.Whole.{core_again, Steps-left}
 use Rattle.rlsf_tlsf.proofs.tlsf.Tlsf.reallocate.Goals as goal
 
 pub reallocate_in-requires : goal.reallocate_in-requires
 reallocate_in-requires g c =
     let is = IsAllocator-opened c.self-inside.view_is c.self.invariant in
-    let (u, holds, wide) = live_inside is c.args.self.now (view-opened c.self-inside.view_is c.self.view_is) (at c.args.addr) c.args.layout.align c.requires in (
-      omega arith,
-      (
-        core_of is g.FLBitmap.BitPattern.width_limit,
-        ((u, (holds.0, holds.1 ∙ sym c.get.ensures.value), wide, here-none c.self-inside.inside.0.0.inner (usable u) is.whole), λ one. is.whole),
-      ),
-    )
-
-pub invariant_of-self-inside : goal.invariant_of-self-inside
-invariant_of-self-inside g c = none_left (IsAllocator-opened c.self-inside.view_is c.self.invariant) c.reallocate_in.ensures.left
-
-pub invariant_of-self : goal.invariant_of-self
-invariant_of-self g c = IsAllocator-left (IsAllocator-opened c.self-inside.view_is c.self.invariant) c.reallocate_in.ensures.left
+    let (u, holds, wide) = live_inside is c.args.self.now (view-opened c.self-inside.view_is c.self.view_is) (at c.args.addr) c.args.layout.align c.requires in
+    let here = here-none c.self-inside.inside.0.0.inner (usable u) is.whole in
+    (omega arith, (core_again c.self-inside.view_is c.self.invariant g.FLBitmap.BitPattern.width_limit, ((u, (holds.0, holds.1 ∙ sym c.get.ensures.value), wide, here), λ one. is.whole)))
 
 pub returns-in-Some : goal.returns-in-Some
 returns-in-Some g c =

@@ -1,4 +1,4 @@
-use Rattle.std.proofs.Common.{◌≡◌, ℕ, Bool, true, false, Some, arith, sym, ◌∙◌, ap, subst}
+use Rattle.std.proofs.Common.{◌≡◌, ℕ, Bool, true, false, Some, sym, ◌∙◌, ap, subst, arith}
 use Rattle.rlsf_base.specs.Addr.{at}
 use Rattle.rlsf_base.proofs.Lending.Present.{own-none}
 use Rattle.rlsf_model.specs.Callers.{align_at}
@@ -12,7 +12,7 @@ use Rattle.rlsf_tlsf.specs.Results.{IsResized, KeepsFrameInPlace}
 use Rattle.rlsf_tlsf.proofs.Arrivals.{live_inside}
 use Rattle.rlsf_tlsf.proofs.Opened.{IsAllocator-opened, view-opened}
 use Rattle.rlsf_tlsf.proofs.Reached.{read_from-counted}
-use Rattle.rlsf_tlsf.proofs.Whole.{IsAllocator-left, Steps-left, none_left, core_of}
+use Rattle.rlsf_tlsf.proofs.Whole.{core_again, Steps-left}
 use Rattle.rlsf_tlsf.proofs.tlsf.Tlsf.reallocate_no_move.Given as given
 use Rattle.rlsf_tlsf.proofs.tlsf.Tlsf.reallocate_no_move.Goals as goal
 use Rattle.rlsf_tlsf.proofs.tlsf.Tlsf.reallocate_no_move.Goals.{After-resize_in}
@@ -21,17 +21,9 @@ pub resize_in-requires : goal.resize_in-requires
 resize_in-requires g c =
     let is = IsAllocator-opened c.self-inside.view_is c.self.invariant in
     let (u, holds, aligned) =
-    live_inside is c.args.self.now (view-opened c.self-inside.view_is c.self.view_is) (at c.args.addr) c.args.layout.align c.requires in (
-      omega arith,
-      (
-        core_of is g.FLBitmap.BitPattern.width_limit,
-        (
-          u,
-          ((holds.0, holds.1 ∙ sym c.get.ensures.value), aligned ∙ sym c.align.ensures.value),
-          own-none c.self-inside.inside.0.0.inner (usable u) is.whole,
-        ),
-      ),
-    )
+    live_inside is c.args.self.now (view-opened c.self-inside.view_is c.self.view_is) (at c.args.addr) c.args.layout.align c.requires in
+    let own = own-none c.self-inside.inside.0.0.inner (usable u) is.whole in
+    (omega arith, (core_again c.self-inside.view_is c.self.invariant g.FLBitmap.BitPattern.width_limit, (u, ((holds.0, holds.1 ∙ sym c.get.ensures.value), aligned ∙ sym c.align.ensures.value), own)))
 
 -- ---- after the core's call
 
@@ -73,12 +65,6 @@ module _ (g : given.Over) (c : After-resize_in g) where
         grow = costs.grow;
         copied = copied_none costs;
       }
-
-pub invariant_of-self-inside : goal.invariant_of-self-inside
-invariant_of-self-inside g c = none_left (IsAllocator-opened c.self-inside.view_is c.self.invariant) c.resize_in.ensures.left
-
-pub invariant_of-self : goal.invariant_of-self
-invariant_of-self g c = IsAllocator-left (IsAllocator-opened c.self-inside.view_is c.self.invariant) c.resize_in.ensures.left
 
 pub returns-then-not-resize_in : goal.returns-then-not-resize_in
 returns-then-not-resize_in g c =

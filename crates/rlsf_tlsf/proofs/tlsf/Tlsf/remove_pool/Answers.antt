@@ -4,7 +4,7 @@ use Rattle.rlsf_model.specs.Remove.{IsIdle, Removes}
 use Rattle.rlsf_blocks.specs.Blocks.{walked}
 use Rattle.rlsf_tlsf.specs.Allocator.{Allocator, allocator}
 use Rattle.rlsf_tlsf.proofs.Opened.{IsAllocator-opened, view-opened}
-use Rattle.rlsf_tlsf.proofs.Whole.{IsAllocator-left, Steps-left, none_left, core_of}
+use Rattle.rlsf_tlsf.proofs.Whole.{Steps-left, core_of}
 use Rattle.rlsf_tlsf.proofs.tlsf.Tlsf.remove_pool.Goals as goal
 
 pub remove_in-requires : goal.remove_in-requires
@@ -14,12 +14,6 @@ remove_in-requires g c =
     let row = subst (λ (o : Allocator). IsRow o.state (walked c.args.range)) (sym view) c.requires.row in
     let idle = subst (λ (o : Allocator). IsIdle o.state (walked c.args.range)) (sym view) c.requires.idle in
     (omega arith, (core_of is g.FLBitmap.BitPattern.width_limit, (row, idle)))
-
-pub invariant_of-self-inside : goal.invariant_of-self-inside
-invariant_of-self-inside g c = none_left (IsAllocator-opened c.self-inside.view_is c.self.invariant) c.remove_in.ensures.left
-
-pub invariant_of-self : goal.invariant_of-self
-invariant_of-self g c = IsAllocator-left (IsAllocator-opened c.self-inside.view_is c.self.invariant) c.remove_in.ensures.left
 
 pub returns : goal.returns
 returns g c =
