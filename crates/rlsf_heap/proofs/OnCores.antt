@@ -1,7 +1,7 @@
 -- A heap after a call on its core.
-use Rattle.std.proofs.Common.{◌≡◌, ℕ, ◌≤◌, List, length, refl, sym, ◌∙◌, arith}
+use Rattle.std.proofs.Common.{◌≡◌, ℕ, ◌≤◌, List, length, refl, sym, ap, ◌∙◌, arith}
 use Rattle.rlsf_base.specs.Ledger.{Entry}
-use Rattle.rlsf_base.specs.OpenSpace.{home_of}
+use Rattle.rlsf_base.specs.OpenSpace.{Home, home_of}
 use Rattle.rlsf_base.specs.SizeClass.{IsValid}
 use Rattle.rlsf_base.specs.Space.{Space}
 use Rattle.rlsf_model.specs.Sized.{live_count}
@@ -15,7 +15,7 @@ use Rattle.rlsf_tlsf.specs.Allocator.{allocator}
 use Rattle.rlsf_tlsf.specs.Cores.{IsCore, LeavesCore, LeavesCoreCopying}
 use Rattle.rlsf_tlsf.specs.Results.{KeepsFrameOfPools}
 use Rattle.rlsf_heap.specs.Frame.{KeepsBytes, KeepsFrame, KeepsHeap, KeepsPayloads}
-use Rattle.rlsf_heap.specs.Heap.{AreIssued, Identity, IsHeap, Stands, Steps, heap_view}
+use Rattle.rlsf_heap.specs.Heap.{AreIssued, HeapView, Identity, IsHeap, Stands, Steps, heap_view}
 use Rattle.rlsf_heap.specs.Kept.{KeepsSpareBytes, NoneBecomesRaw}
 use Rattle.rlsf_heap.proofs.Kept.{raw-stays}
 use Rattle.rlsf_heap.proofs.LiveCounts.{live_count-same}
@@ -26,6 +26,16 @@ use Rattle.rlsf_heap.proofs.Settled.{settled-stays}
 pub core_of : {fl_bits sl_bits fllen sllen : ℕ} {m : Space} {x : Table} {j : State} {es : List Entry} {count : ℕ} → IsHeap fl_bits sl_bits fllen sllen m x j es count
     → fl_bits ≤ 128 → IsCore fllen sllen m x j
 core_of is limit = record { valid = IsValid-widest limit is.valid; stands = is.stands; is_bare = is.is_bare }
+
+-- what is of the heap that callers see is of this memory and this ledger
+module _ {m : Space} {x : Table} {s : State} {name : ℕ} {v : HeapView}
+    (view : ◌≡◌ {A = HeapView} (record { identity = record { home = home_of m; ledger = name }; memory = m; table = x; state = s }) v) {home : Home} {ledger : ℕ}
+    (same : ◌≡◌ {A = Identity} (record { home = home; ledger = ledger }) v.identity) where
+  pub of_memory : home ≡ home_of m
+  of_memory = ap (λ (i : Identity). i.home) same ∙ sym (ap (λ (o : HeapView). o.identity.home) view)
+
+  pub of_ledger : ledger ≡ name
+  of_ledger = ap (λ (i : Identity). i.ledger) same ∙ sym (ap (λ (o : HeapView). o.identity.ledger) view)
 
 -- where the memory stays, it is the same heap
 pub same_identity : (m n : Space) → n.start ≡ m.start → length n.bytes ≡ length m.bytes → n.view ≡ m.view → (ledger name : ℕ) → name ≡ ledger

@@ -217,6 +217,7 @@ impl<FLBitmap: BitPattern, SLBitmap: BitPattern, const FLLEN: usize, const SLLEN
 
     // Deallocates a payload by its bytes, which become raw, and its ticket.
     #[inline(always)]
+    #[tactic(auto, using(crate::proofs::OnCores::of_memory, crate::proofs::OnCores::of_ledger))]
     pub(crate) fn put_raw(&mut self, part: Part, ticket: Ticket)
         requires ticket { IsTicketOf part ticket.align (extent ticket.addr ticket.len ticket.align) }
         requires identity { record { home = part.home; ledger = ticket.name } ≡ self.old.identity }

@@ -90,6 +90,7 @@ impl<FLBitmap: BitPattern, SLBitmap: BitPattern, const FLLEN: usize, const SLLEN
     ///
     /// Completes in constant time: at most 32 word accesses, whatever the pools contain.
     #[inline(always)]
+    #[tactic(auto, using(crate::proofs::OnCores::of_memory, crate::proofs::OnCores::of_ledger))]
     pub fn deallocate_units(&mut self, payload: UnitPayload)
         requires { heap_of payload ≡ self.old.identity }
         ensures step { Steps FLLEN SLLEN self.new (Deallocates self.old.state payload.start) }
@@ -120,6 +121,7 @@ impl<FLBitmap: BitPattern, SLBitmap: BitPattern, const FLLEN: usize, const SLLEN
     /// The payload must be one of this heap, `len` its length, and all of its bytes but those that stay must be in it.
     ///
     /// Completes in constant time: at most 25 word accesses, whatever the pools contain.
+    #[tactic(auto, using(crate::proofs::OnCores::of_memory, crate::proofs::OnCores::of_ledger))]
     pub fn resize_units(
         &mut self,
         tail: UnitTail,

@@ -1,7 +1,6 @@
-use Rattle.std.proofs.Common.{arith, sym, ap, ◌∙◌}
+use Rattle.std.proofs.Common.{arith, sym, ◌∙◌}
 use Rattle.rlsf_base.specs.Ledger.{extent}
 use Rattle.rlsf_base.specs.Range.{range_at}
-use Rattle.rlsf_heap.specs.Heap.{HeapView, Identity}
 use Rattle.rlsf_heap.specs.Kept.{NoneBecomesRawBeside}
 use Rattle.rlsf_heap.proofs.Kept.{raw-back}
 use Rattle.rlsf_heap.proofs.OnCores.{stays}
@@ -11,12 +10,6 @@ use Rattle.rlsf_heap.proofs.UnitTails.{begins_at, readable, start-fits}
 use Rattle.rlsf_heap.proofs.heap.Heap.deallocate_units.Given as given
 use Rattle.rlsf_heap.proofs.heap.Heap.deallocate_units.Goals as goal
 use Rattle.rlsf_heap.proofs.heap.Heap.deallocate_units.Goals.{After-put_unit_payload-block}
-
-pub put_unit_payload-block-requires-clause-home : goal.put_unit_payload-block-requires-clause-home
-put_unit_payload-block-requires-clause-home g c = ap (λ (h : Identity). h.home) c.requires ∙ sym (ap (λ (v : HeapView). v.identity.home) c.self.view_is)
-
-pub put_unit_payload-block-requires-clause-name : goal.put_unit_payload-block-requires-clause-name
-put_unit_payload-block-requires-clause-name g c = ap (λ (h : Identity). h.ledger) c.requires ∙ sym (ap (λ (v : HeapView). v.identity.ledger) c.self.view_is)
 
 pub put_unit_payload-block-requires-clause-readable : goal.put_unit_payload-block-requires-clause-readable
 put_unit_payload-block-requires-clause-readable g c = λ is. readable (record { stands = c.self.invariant.stands; tickets = c.self.invariant.tickets; issued = is })

@@ -1,7 +1,6 @@
 use Rattle.std.proofs.Common.{length, false, set, arith, sym, ap, subst, ◌∙◌}
 use Rattle.rlsf_base.specs.Ledger.{Extent, IsIssued, entry_of, extent}
 use Rattle.rlsf_base.specs.Piece.{piece_range}
-use Rattle.rlsf_heap.specs.Heap.{HeapView, Identity}
 use Rattle.rlsf_heap.specs.Kept.{NoneBecomesRawBeside}
 use Rattle.rlsf_heap.proofs.Kept.{raw-back}
 use Rattle.rlsf_heap.proofs.OnCores.{stays}
@@ -10,12 +9,6 @@ use Rattle.rlsf_heap.proofs.Shown.{lies, live}
 use Rattle.rlsf_heap.proofs.heap.Heap.put_raw.Given as given
 use Rattle.rlsf_heap.proofs.heap.Heap.put_raw.Goals as goal
 use Rattle.rlsf_heap.proofs.heap.Heap.put_raw.Goals.{After-put_room}
-
-pub redeem-requires : goal.redeem-requires
-redeem-requires g c = ap (λ (h : Identity). h.ledger) c.requires.identity ∙ sym (ap (λ (v : HeapView). v.identity.ledger) c.self.view_is)
-
-pub put_room-requires : goal.put_room-requires
-put_room-requires g c = ap (λ (h : Identity). h.home) c.requires.identity ∙ sym (ap (λ (v : HeapView). v.identity.home) c.self.view_is)
 
 -- the part's bytes are back
 back : (g : given.Over) (c : After-put_room g) → IsGiven g.row.FLLEN g.row.SLLEN c.self.inside.memory c.put_room.new.self c.self.inside.table c.self.inside.state.state

@@ -1,6 +1,6 @@
 use Rattle.std.proofs.Common.{length, false, set, arith, refl, sym, ap, ◌∙◌}
 use Rattle.rlsf_base.specs.Ledger.{Extent, entry_of, extent}
-use Rattle.rlsf_heap.specs.Heap.{HeapView, Identity, PayloadView, payload_view}
+use Rattle.rlsf_heap.specs.Heap.{PayloadView, payload_view}
 use Rattle.rlsf_heap.specs.Kept.{NoneBecomesRaw}
 use Rattle.rlsf_heap.proofs.Kept.{raw-stays}
 use Rattle.rlsf_heap.proofs.OnCores.{stays}
@@ -11,12 +11,6 @@ use Rattle.rlsf_heap.proofs.TakenBack.{IsBack, back_as, given_back, raw_back, se
 use Rattle.rlsf_heap.proofs.heap.Heap.put_written.Given as given
 use Rattle.rlsf_heap.proofs.heap.Heap.put_written.Goals as goal
 use Rattle.rlsf_heap.proofs.heap.Heap.put_written.Goals.{After-put_back}
-
-pub redeem-requires : goal.redeem-requires
-redeem-requires g c = ap (λ (h : Identity). h.ledger) c.requires.identity ∙ sym (ap (λ (v : HeapView). v.identity.ledger) c.self.view_is)
-
-pub put_back-requires-clause-home : goal.put_back-requires-clause-home
-put_back-requires-clause-home g c = ap (λ (h : Identity). h.home) c.requires.identity ∙ sym (ap (λ (v : HeapView). v.identity.home) c.self.view_is)
 
 -- the part's bytes are back
 module _ (g : given.Over) (c : After-put_back g) where

@@ -13,7 +13,7 @@ use Rattle.rlsf_tlsf.specs.CoreResizes.{KeepsPayloads}
 use Rattle.rlsf_tlsf.specs.Moving.{IsRelocated, span}
 use Rattle.rlsf_tlsf.specs.Results.{KeepsFrameMoving as CoreFrame}
 use Rattle.rlsf_tlsf.proofs.Relocated.{end_relocated}
-use Rattle.rlsf_heap.specs.Heap.{HeapView, Identity, Steps, payload_range}
+use Rattle.rlsf_heap.specs.Heap.{HeapView, Steps, payload_range}
 use Rattle.rlsf_heap.specs.Reallocation.{owned_by}
 use Rattle.rlsf_heap.proofs.Arrivals.{Steps-arrived, bare-kept}
 use Rattle.rlsf_heap.proofs.Costs.{returned_same}
@@ -26,12 +26,6 @@ use Rattle.rlsf_heap.proofs.heap.Heap.reallocate.Goals as goal
 use Rattle.rlsf_heap.proofs.heap.Heap.reallocate.Goals.{In-Some, In_default-moved}
 
 -- ---- the payload is back in the memory
-
-pub take_back-requires-clause-home : goal.take_back-requires-clause-home
-take_back-requires-clause-home g c = ap (λ (i : Identity). i.home) c.requires.identity ∙ sym (ap (λ (v : HeapView). v.identity.home) c.self.view_is)
-
-pub take_back-requires-clause-issuer : goal.take_back-requires-clause-issuer
-take_back-requires-clause-issuer g c = ap (λ (i : Identity). i.ledger) c.requires.identity ∙ sym (ap (λ (v : HeapView). v.identity.ledger) c.self.view_is)
 
 pub reallocate_in-moved-requires : goal.reallocate_in-moved-requires
 reallocate_in-moved-requires g c =

@@ -26,12 +26,6 @@ use Rattle.rlsf_heap.proofs.heap.Heap.resize_units.Given as given
 use Rattle.rlsf_heap.proofs.heap.Heap.resize_units.Goals as goal
 use Rattle.rlsf_heap.proofs.heap.Heap.resize_units.Goals.{After-put_unit_tail-block, After-resize_block_in}
 
-pub put_unit_tail-block-requires-clause-home : goal.put_unit_tail-block-requires-clause-home
-put_unit_tail-block-requires-clause-home g c = ap (λ (h : Identity). h.home) c.requires.heap ∙ sym (ap (λ (v : HeapView). v.identity.home) c.self.view_is)
-
-pub put_unit_tail-block-requires-clause-name : goal.put_unit_tail-block-requires-clause-name
-put_unit_tail-block-requires-clause-name g c = ap (λ (h : Identity). h.ledger) c.requires.heap ∙ sym (ap (λ (v : HeapView). v.identity.ledger) c.self.view_is)
-
 pub put_unit_tail-block-requires-clause-readable : goal.put_unit_tail-block-requires-clause-readable
 put_unit_tail-block-requires-clause-readable g c = λ is. readable (record { stands = c.self.invariant.stands; tickets = c.self.invariant.tickets; issued = is })
 
