@@ -1,8 +1,9 @@
 -- What calls keep of a heap, of none and of two after each other.
-use Rattle.std.proofs.Common.{arith, refl, ◌∙◌}
+use Rattle.std.proofs.Common.{◌≡◌, arith, refl, ◌∙◌}
 use Rattle.rlsf_heap.specs.Frame.{KeepsBytes, KeepsFrame, KeepsHeap, KeepsPayloads}
-use Rattle.rlsf_heap.specs.Heap.{HeapView}
-use Rattle.rlsf_heap.proofs.Kept.{none_raw-both, none_raw-none, spare-both, spare-none}
+use Rattle.rlsf_heap.specs.Heap.{HeapView, IsWritten, PayloadView, payload_range}
+use Rattle.rlsf_heap.specs.Replies.{IsRefused}
+use Rattle.rlsf_heap.proofs.Kept.{beside-none, none_raw-both, none_raw-none, spare-both, spare-none}
 
 -- a heap that is unchanged is kept
 pub heap_same : (v : HeapView) → KeepsHeap v v
@@ -16,6 +17,15 @@ frame_same v = record { heap = heap_same v; bytes = bytes_same v; chunks = refl;
 
 pub payloads_same : (v : HeapView) → KeepsPayloads v v
 payloads_same v = record { heap = heap_same v; bytes = bytes_same v; aligns = refl; count = refl; copied = refl }
+
+-- a payload that goes back to its caller at once is as it was
+pub refused_same : (v : HeapView) (p : PayloadView) → p.identity ≡ v.identity → IsWritten p → IsRefused v v p.start p.align p p
+refused_same v p identity written = record {
+  identity = identity;
+  requested = refl;
+  returned = record { start = refl; bytes = refl; written = written; alike = record { chunks = refl; used = refl; free = refl }; aligns = refl };
+  unchanged = beside-none v (payload_range p);
+}
 
 -- what each of two calls keeps, both keep
 pub frame_both : (a b c : HeapView) → KeepsFrame a b → KeepsFrame b c → KeepsFrame a c

@@ -1,7 +1,6 @@
 -- Lemmas of the heap's calls, and what the manual proofs cite.
 pub mod Allocated
 pub mod Arrivals
-pub mod Costs
 pub mod Found
 pub mod Frames
 pub mod Kept

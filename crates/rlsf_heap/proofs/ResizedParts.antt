@@ -16,7 +16,7 @@ use Rattle.rlsf_blocks.proofs.Words.Apart.{used_used}
 use Rattle.rlsf_tlsf.specs.CoreResizes.{KeepsPayloads}
 use Rattle.rlsf_heap.specs.Heap.{AreIssued, IsPayload}
 use Rattle.rlsf_heap.specs.ThinUnknownAlign.{renewed_entries}
-use Rattle.rlsf_heap.proofs.Leaving.{lies-usable}
+use Rattle.rlsf_tlsf.proofs.Placed.{lies_used}
 use Rattle.rlsf_heap.proofs.Tickets.{issued-less, issued-more, redeemed_apart}
 
 -- a ticket is renewed, and the other payloads are as they were
@@ -77,7 +77,7 @@ module _ {fllen sllen : ℕ} {m o : Space} {x y : Table} {s t : State} {addr : �
     -- its bytes are the memory's own if those that it had are
     pub own_at : o.start ≡ m.start → SameOwn m o → (a : ℕ) → addr ≤ a → a < end_of z.block → (a < end_of u.block → is_own (out_at m a) ≡ true) → is_own (out_at o a) ≡ true
     own_at start own a lo hi mine =
-        let from : m.start ≤ a = omega (arith, lo, start, is.1, (lies-usable w z is.0).0) in
+        let from : m.start ≤ a = omega (arith, lo, start, is.1, (lies_used w z is.0).0) in
         own a from ∙ elim (cases_lt a (end_of u.block)) [
           | inl inside ↦ mine inside
           | inr past ↦ v.own a from (unlent a past lo hi)

@@ -15,7 +15,7 @@ use Rattle.rlsf_model.proofs.Changes.{IsIn-others_from}
 use Rattle.rlsf_table.specs.Table.{Table}
 use Rattle.rlsf_blocks.specs.StandsFor.{contents, StandsFor}
 use Rattle.rlsf_heap.specs.Heap.{AreIssued, IsPayload}
-use Rattle.rlsf_heap.proofs.Leaving.{lies-usable}
+use Rattle.rlsf_tlsf.proofs.Placed.{lies_used}
 use Rattle.rlsf_heap.proofs.Read.{out-back, stands_same}
 use Rattle.rlsf_heap.proofs.Tickets.{redeemed_other}
 
@@ -51,7 +51,7 @@ module _ {fllen sllen : ℕ} {m : Space} {table : Table} {s : State} {es : List 
 
   -- it lies in the memory
   pub lies : LiesIn (range_at e.addr e.len) m.start (length m.bytes)
-  lies = subst (λ (r : Range). LiesIn r m.start (length m.bytes)) usable_is (lies-usable p.stands block held.0)
+  lies = subst (λ (r : Range). LiesIn r m.start (length m.bytes)) usable_is (lies_used p.stands block held.0)
 
   pub ends : end_of block.block ≡ e.addr + e.len
   ends = omega (arith, long, held.1, (p.stands.well_formed.used block held.0).within)

@@ -54,7 +54,8 @@ use Rattle.rlsf_heap.specs.Settled.{IsSettled}
 use Rattle.rlsf_heap.specs.ThinUnknownAlign.{HasRoom}
 use Rattle.rlsf_heap.proofs.Arrivals.{IsHeap-arrived, Steps-arrived}
 use Rattle.rlsf_heap.proofs.Kept.{raw-left, raw-stays, raw-with, same-byte, spare-last, spare-then}
-use Rattle.rlsf_heap.proofs.Leaving.{lies-usable, stands-without}
+use Rattle.rlsf_heap.proofs.Leaving.{stands-without}
+use Rattle.rlsf_tlsf.proofs.Placed.{lies_used}
 use Rattle.rlsf_heap.proofs.OnCores.{heap-over, same_identity, stays}
 use Rattle.rlsf_heap.proofs.PayloadsApart.{payload_as, redeemed_ticket, shown_live}
 use Rattle.rlsf_heap.proofs.Reallocated.{Keeps-each}
@@ -350,7 +351,7 @@ module _ {fl_bits sl_bits fllen sllen : ℕ} {m n : Space} {x : Table} {j : Stat
 
       -- its bytes are the memory's own
       pub lies_over : LiesIn r o.start (length o.bytes)
-      lies_over = subst (λ (q : Range). LiesIn q o.start (length o.bytes)) (sym range_is) (lies-usable core.core.stands u holds.0)
+      lies_over = subst (λ (q : Range). LiesIn q o.start (length o.bytes)) (sym range_is) (lies_used core.core.stands u holds.0)
 
       pub own_over : IsOwned o r
       own_over = subst (IsOwned o) (sym is_range) at.own

@@ -48,20 +48,15 @@ module _ {fllen sllen : ℕ} {m : Space} {table : Table} {s : State} {entries : 
   pub ranged : (r : Range) → AtEachBlock m addr (λ u. r ≡ usable u) → r ≡ payload_range of
   ranged r each = each fllen sllen (contents m table) s (block p) refl v ((held p).0, (held p).1 ∙ same) ∙ usable_is p
 
-  -- the bytes lie where its length says
-  pub comes : IsWhole of → of.identity.home ≡ home_of m → (q : Piece) → q ≡ bytes_of of → (n : Space) → n ≡ record m { touches = m.touches + 3 } → (view : View) → view ≡
-      n.view → (r : Range)
-      → AtEachBlock m addr (λ u. r ≡ usable u) → CanCome q view r
-  comes whole home q is n touched view viewed r each =
-      let at : payload_range of ≡ r = sym (ranged r each) in
-      let seen : of.identity.home.view ≡ view = ap (λ (h : Home). h.view) home ∙ sym (ap (λ (o : Space). o.view) touched) ∙ sym viewed in
-      subst (λ (o : Piece). CanCome o view r) (sym is) (subst (λ (u : View × Range). CanCome (bytes_of of) u.0 u.1) (λ i. (seen i, at i)) whole)
-
-  -- so the bytes of a payload that was found with its ticket do
+  -- the bytes of a payload that was found with its ticket lie where its length says
   pub comes_found : (h : Identity) → home_of m ≡ h.home → of.identity ≡ h → (p : PayloadView) → p ≡ of → (q : Piece) → (q ≡ bytes_of p) × IsWhole p → (n : Space)
       → n ≡ record m { touches = m.touches + 3 } → (view : View) → view ≡ n.view → (r : Range) → AtEachBlock m addr (λ u. r ≡ usable u) → CanCome q view r
-  comes_found h home heap p same q bytes =
-      comes (subst IsWhole same bytes.1) (ap (λ (i : Identity). i.home) heap ∙ sym home) q (bytes.0 ∙ ap bytes_of same)
+  comes_found h home heap p same q bytes n touched view viewed r each =
+      let at : payload_range of ≡ r = sym (ranged r each) in
+      let seen : of.identity.home.view ≡ view = ap (λ (i : Identity). i.home.view) heap ∙ sym (ap (λ (o : Home). o.view) home) ∙ sym (ap (λ (o : Space). o.view) touched)
+      ∙ sym viewed in
+      subst (λ (o : Piece). CanCome o view r) (sym (bytes.0 ∙ ap bytes_of same)) (subst (λ (u : View × Range). CanCome (bytes_of of) u.0 u.1) (λ i. (seen i, at i))
+      (subst IsWhole same bytes.1))
 
 -- an address that isn't 0 is a reply
 pub reply_some : (n : ℕ) → n ≢ 0 → Some n ≡ reply_of n

@@ -24,7 +24,7 @@ use Rattle.rlsf_tlsf.specs.Results.{IsResized}
 use Rattle.rlsf_heap.specs.Heap.{AreIssued}
 use Rattle.rlsf_heap.specs.ThinUnknownAlign.{renewed_entries}
 use Rattle.rlsf_heap.specs.Units.{payload_len}
-use Rattle.rlsf_heap.proofs.Leaving.{lies-usable}
+use Rattle.rlsf_tlsf.proofs.Placed.{lies_used}
 use Rattle.rlsf_heap.proofs.Read.{out-left, stands_same}
 use Rattle.rlsf_heap.proofs.ResizedParts.{issued_renewed, own_at, payload_still, payload_there, still}
 use Rattle.rlsf_heap.proofs.Shown.{IsReturned, IsShown, block, ends, found, held, lies, long, own-back, stands-back, wide}
@@ -112,7 +112,7 @@ module _ {fllen sllen : ℕ} {m n : Space} {table : Table} {s : State} {es : Lis
       last = omega (arith, as_long z now-held.1, now-held.1.1, (w.well_formed.used z now-held.1.0).within)
 
       pub now-lies : LiesIn (range_at start now) o.start (length o.bytes)
-      now-lies = let l = lies-usable w z now-held.1.0 in (omega (arith, l.0, now-held.1.1), omega (arith, l.1, now-held.1.1, as_long z now-held.1))
+      now-lies = let l = lies_used w z now-held.1.0 in (omega (arith, l.0, now-held.1.1), omega (arith, l.1, now-held.1.1, as_long z now-held.1))
 
       -- its units behind the first ones are the memory's own, and leave again
       pub now-own : o.start ≡ n.start → SameOwn n o → IsOwned o (range_at (start + kept) (now - kept))

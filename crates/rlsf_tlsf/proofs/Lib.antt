@@ -6,7 +6,7 @@ pub mod Lent
 pub mod Moved
 pub mod NewSize
 mod Opened
-mod Placed
+pub mod Placed
 pub mod Reached
 pub mod Relocated
 pub mod Removed

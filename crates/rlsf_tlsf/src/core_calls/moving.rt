@@ -9,10 +9,10 @@ ghost use Rattle.rlsf_tlsf.specs.Cores.{IsCore, LeavesCoreCopying};
 ghost use Rattle.rlsf_tlsf.specs.Moving.{IsHerePayload, IsRelocated};
 ghost use Rattle.rlsf_tlsf.specs.Results.{IsUnchanged, KeepsFrameMoving};
 
+use crate::core_calls::find_block;
 use crate::state::GhostState;
 use rlsf_base::memory::{Layout, OpenMemory};
 use rlsf_blocks::reallocation::reallocate_block;
-use rlsf_blocks::used_block;
 use rlsf_table::ClassTable;
 
 /// Changes the size of the payload at `addr` to that of `layout`, as `Tlsf::reallocate` does. Returns its address.
@@ -40,7 +40,7 @@ pub fn reallocate_in<const FLLEN: usize, const SLLEN: usize, const WHOLE: usize>
     ensures frame { KeepsFrameMoving addr layout.size (allocator memory.old table.old state.old.state) (allocator memory.new table.new state.new.state) }
 {
     let view = memory.view();
-    let block = used_block(memory, view, addr, layout.align());
+    let block = find_block(memory, addr, Some(layout.align()));
     match reallocate_block::<FLLEN, SLLEN, WHOLE>(memory, view, table, block, addr, layout) {
         Some(to) => {
             state.reallocate(SLLEN, addr, layout.size());

@@ -13,12 +13,10 @@ use Rattle.rlsf_tlsf.specs.CoreResizes.{KeepsPayloads}
 use Rattle.rlsf_tlsf.specs.Moving.{IsRelocated, span}
 use Rattle.rlsf_tlsf.specs.Results.{KeepsFrameMoving as CoreFrame}
 use Rattle.rlsf_tlsf.proofs.Relocated.{end_relocated}
-use Rattle.rlsf_heap.specs.Heap.{HeapView, Steps, payload_range}
+use Rattle.rlsf_heap.specs.Heap.{HeapView, Steps}
 use Rattle.rlsf_heap.specs.Reallocation.{owned_by}
 use Rattle.rlsf_heap.proofs.Arrivals.{Steps-arrived, bare-kept}
-use Rattle.rlsf_heap.proofs.Costs.{returned_same}
-use Rattle.rlsf_heap.proofs.Frames.{bytes_same, heap_same}
-use Rattle.rlsf_heap.proofs.Kept.{beside-none}
+use Rattle.rlsf_heap.proofs.Frames.{bytes_same, heap_same, refused_same}
 use Rattle.rlsf_heap.proofs.TakenBack.{IsAt, IsBack, IsHeap-over, core_back, count_back, frame_over, here_there, kept_same, lies_over, own_over, payload_back, range_back}
 use Rattle.rlsf_heap.proofs.TakenBack.{bytes_are, reads_over, refused_over, relocated_at, resized_over, seen_back, sized_back, sized_over, step_over, taken_back, there_at, told_as}
 use Rattle.rlsf_heap.proofs.heap.Heap.reallocate.Given as given
@@ -218,12 +216,7 @@ returns-in_default g c =
       result = tt;
       room = λ count most wide sized few short fits whole. absurd (none whole);
       bounds = record { sized = λ count most wide sized short fits. sized; count = refl };
-      refused = record {
-        identity = c.requires.identity;
-        requested = refl;
-        returned = returned_same c.args.self.now c.args.payload c.requires.written;
-        unchanged = beside-none c.args.self.now (payload_range c.args.payload);
-      };
+      refused = refused_same c.args.self.now c.args.payload c.requires.identity c.requires.written;
       frame = record {
         heap = heap_same c.args.self.now;
         bytes = bytes_same c.args.self.now;

@@ -3,11 +3,9 @@ use Rattle.std.proofs.lemmas.Bool.{false≢true}
 use Rattle.rlsf_base.specs.Layout.{IsLayout}
 use Rattle.rlsf_model.specs.NoMove.{ReallocatesWithoutMove}
 use Rattle.rlsf_tlsf.specs.CoreResizes.{stayed_if}
-use Rattle.rlsf_heap.specs.Heap.{PayloadView, Stands, Steps, payload_range, payload_view}
+use Rattle.rlsf_heap.specs.Heap.{PayloadView, Stands, Steps, payload_view}
 use Rattle.rlsf_heap.specs.Reallocation.{owned_by}
-use Rattle.rlsf_heap.proofs.Costs.{returned_same}
-use Rattle.rlsf_heap.proofs.Frames.{frame_same}
-use Rattle.rlsf_heap.proofs.Kept.{beside-none}
+use Rattle.rlsf_heap.proofs.Frames.{frame_same, refused_same}
 use Rattle.rlsf_heap.proofs.heap.Heap.reallocate_no_move.Given as given
 use Rattle.rlsf_heap.proofs.heap.Heap.reallocate_no_move.Goals as goal
 use Rattle.rlsf_heap.proofs.heap.Heap.reallocate_no_move.Goals.{After-resize_part-done}
@@ -47,12 +45,7 @@ returns-in_default g c =
       step = rw (← c.self.view_is) (λ fits. absurd (none fits), c.self.invariant.stands);
       result = tt;
       bounds = record { sized = λ count most wide sized short fits. sized; count = refl };
-      refused = record {
-        identity = c.requires.identity;
-        requested = refl;
-        returned = returned_same c.args.self.now c.args.payload c.requires.written;
-        unchanged = beside-none c.args.self.now (payload_range c.args.payload);
-      };
+      refused = refused_same c.args.self.now c.args.payload c.requires.identity c.requires.written;
       frame = frame_same c.args.self.now;
       touches = omega arith;
     }

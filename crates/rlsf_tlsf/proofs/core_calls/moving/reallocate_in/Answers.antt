@@ -29,48 +29,46 @@ use Rattle.rlsf_tlsf.proofs.Reached.{IsCore-arrived, bare-core, reads}
 use Rattle.rlsf_tlsf.proofs.Relocated.{IsRelocated-at, span_held}
 use Rattle.rlsf_tlsf.proofs.core_calls.moving.reallocate_in.Given as given
 use Rattle.rlsf_tlsf.proofs.core_calls.moving.reallocate_in.Goals as goal
-use Rattle.rlsf_tlsf.proofs.core_calls.moving.reallocate_in.Goals.{After-reallocate, After-reallocate_block, After-used_block-block}
+use Rattle.rlsf_tlsf.proofs.core_calls.moving.reallocate_in.Goals.{After-reallocate, After-reallocate_block, After-find_block-block}
 
 -- the payload's block, once it was found, in the state as the call begins
-module _ (g : given.Over) (c : After-used_block-block g) where
+module _ (g : given.Over) (c : After-find_block-block g) where
   abbrev state : State
   state = read_from c.args.memory.now c.args.state.now.state
 
   abbrev u : Used
   u = c.requires.here.0
 
-  stands : StandsFor g.row.FLLEN g.row.SLLEN (contents c.used_block-block.new.memory c.args.table.now) state
+  stands : StandsFor g.row.FLLEN g.row.SLLEN (contents c.find_block-block.new.memory c.args.table.now) state
   stands =
-      let counts = c.used_block-block.ensures.counts in
-      StandsFor-counted c.args.memory.now c.used_block-block.new.memory counts.start counts.bytes counts.out c.requires.core.stands
+      let counts = c.find_block-block.ensures.counts in
+      StandsFor-counted c.args.memory.now c.find_block-block.new.memory counts.start counts.bytes counts.out c.requires.core.stands
 
-  used_at : IsUsedAt state u c.used_block-block.result c.args.addr c.args.layout.align
+  used_at : IsUsedAt state u c.find_block-block.result c.args.addr c.args.layout.align
   used_at =
       let (_, holds, wide, _) = c.requires.here in
-      let (x, held, _, start) = c.used_block-block.ensures.block g.row.FLLEN g.row.SLLEN c.args.table.now state c.requires.core.stands
-      (u, holds, wide ∙ sym c.align.ensures.value) in
-      let one : u ≡ x = Holds-unique c.requires.core.stands.well_formed c.args.addr u x holds held in
-      record { is_used = holds.0; start = ap (λ (y : Used). y.block.start) one ∙ start; caller = holds.1; alignment = wide }
+      let start = c.find_block-block.ensures.block g.row.FLLEN g.row.SLLEN c.args.table.now state u c.requires.core.stands (holds, wide ∙ sym c.align.ensures.value) in
+      record { is_used = holds.0; start = sym start; caller = holds.1; alignment = wide }
 
-  here : IsHere c.used_block-block.new.memory (usable u)
+  here : IsHere c.find_block-block.new.memory (usable u)
   here =
-      let counts = c.used_block-block.ensures.counts in
-      here-same c.args.memory.now c.used_block-block.new.memory (usable u) counts.start counts.out c.requires.here.3
+      let counts = c.find_block-block.ensures.counts in
+      here-same c.args.memory.now c.find_block-block.new.memory (usable u) counts.start counts.out c.requires.here.3
 
-pub used_block-block-requires-clause-live : goal.used_block-block-requires-clause-live
-used_block-block-requires-clause-live g c =
+pub find_block-block-requires : goal.find_block-block-requires
+find_block-block-requires g c =
     let (u, holds, wide, _) = c.requires.here in
-    (g.row.FLLEN, g.row.SLLEN, c.args.table.now, read_from c.args.memory.now c.args.state.now.state, c.requires.core.stands, (u, holds, wide ∙ sym c.align.ensures.value))
+    (g.row.FLLEN, g.row.SLLEN, c.args.table.now, read_from c.args.memory.now c.args.state.now.state, u, c.requires.core.stands, (holds, wide ∙ sym c.align.ensures.value))
 
 pub reallocate_block-requires : goal.reallocate_block-requires
 reallocate_block-requires g c =
-    let d = (goal.at.reallocate_block-requires g c).After-used_block-block in
-    let e = c.used_block-block.ensures in
+    let d = (goal.at.reallocate_block-requires g c).After-find_block-block in
+    let e = c.find_block-block.ensures in
     (omega arith, (c.requires.core.valid, ((state g d, u g d, stands g d, used_at g d, here g d), (search rules, λ one. e.counts.out ∙ c.requires.whole one))))
 
 -- ---- what the call leaves and keeps, where it leads to the state
 
-abbrev early : (g : given.Over) → After-reallocate_block g → After-used_block-block g
+abbrev early : (g : given.Over) → After-reallocate_block g → After-find_block-block g
 early g c = c.before.before.before
 
 module _ (g : given.Over) (c : After-reallocate_block g) {t : State}
@@ -78,19 +76,19 @@ module _ (g : given.Over) (c : After-reallocate_block g) {t : State}
     (k : State) (kept : k ≡ bare t) where
   stay : Stays c.args.memory.now c.reallocate_block.new.memory
   stay =
-      let counts = c.used_block-block.ensures.counts in
+      let counts = c.find_block-block.ensures.counts in
       let e = c.reallocate_block.ensures in
-      Stays-then (Stays-same c.args.memory.now c.used_block-block.new.memory counts.start counts.out) (record { start = e.place.0; own = e.own; here = e.here })
+      Stays-then (Stays-same c.args.memory.now c.find_block-block.new.memory counts.start counts.out) (record { start = e.place.0; own = e.own; here = e.here })
 
-  left : KeepsSpare c.used_block-block.new.memory (state g (early g c)) c.reallocate_block.new.memory t
+  left : KeepsSpare c.find_block-block.new.memory (state g (early g c)) c.reallocate_block.new.memory t
       → LeavesCoreCopying g.row.FLLEN g.row.SLLEN c.args.memory.now c.reallocate_block.new.memory c.reallocate_block.new.table c.args.state.now.state k 66
       (c.reallocate_block.new.memory.copied - c.args.memory.now.copied)
   left spare =
       let m = c.args.memory.now in
-      let n = c.used_block-block.new.memory in
+      let n = c.find_block-block.new.memory in
       let o = c.reallocate_block.new.memory in
       let s = state g (early g c) in
-      let counts = c.used_block-block.ensures.counts in
+      let counts = c.find_block-block.ensures.counts in
       let e = c.reallocate_block.ensures in record {
         core = IsCore-arrived now k kept c.requires.core.valid;
         spare = reads now k kept (KeepsSpare m s o) (KeepsSpare-counted_first m n counts.start counts.bytes counts.out s t o spare);
@@ -124,7 +122,7 @@ module _ (g : given.Over) (c : After-reallocate_block g) {t : State}
         let (u, holds, _, _) = c.requires.here in
         let s = state g (early g c) in
         let w = c.requires.core.stands.well_formed in
-        let counts = c.used_block-block.ensures.counts in
+        let counts = c.find_block-block.ensures.counts in
         let e = c.reallocate_block.ensures in record {
           count = reads now k kept (λ (x : State). live_count x ≡ live_count s) (count_resized w t c.args.addr c.args.layout.size reply (u, holds) step);
           chunks = reads now k kept (λ (x : State). x.chunks ≡ s.chunks) (chunks-reallocated g.row.SLLEN s t c.args.addr c.args.layout.size reply step);
@@ -162,7 +160,7 @@ returns-in-None g c =
           absurd (never_refused_again w t count most widest sized c.args.addr c.args.layout.size c.args.layout.align (align_at-held w c.args.addr u holds ∙ ap Some wide) few
           short fits told);
       bounds = bounded g d now k kept told;
-      refused = record { same = reads now k kept (λ (x : State). x ≡ s) same; bytes = c.in-None.ensures.refused ∙ c.used_block-block.ensures.counts.bytes };
+      refused = record { same = reads now k kept (λ (x : State). x ≡ s) same; bytes = c.in-None.ensures.refused ∙ c.find_block-block.ensures.counts.bytes };
       frame = framed g d now k kept told;
     }
 
