@@ -17,7 +17,7 @@ use Rattle.rlsf_blocks.specs.StandsFor.{contents, StandsFor}
 use Rattle.rlsf_tlsf.specs.Cores.{IsPlaced}
 use Rattle.rlsf_heap.specs.Heap.{AreIssued}
 use Rattle.rlsf_heap.proofs.LiveCounts.{live_fits}
-use Rattle.rlsf_heap.proofs.Read.{out-left, stands_same}
+use Rattle.rlsf_heap.proofs.Read.{stands-without}
 use Rattle.rlsf_heap.proofs.Tickets.{issued-more}
 
 module _ {fllen sllen : ℕ} {n : Space} {y : Table} {s t : State} {size align : ℕ} {r : Range} (places : Places sllen s size align r.start t)
@@ -36,13 +36,7 @@ module _ {fllen sllen : ℕ} {n : Space} {y : Table} {s t : State} {size align :
 
   -- the bytes leave
   pub stands-left : (o : Space) → o.start ≡ n.start → o.bytes ≡ n.bytes → o.out ≡ out_without n r → StandsFor fllen sllen (contents o y) t
-  stands-left o start bytes gone =
-      let whole : r ≡ usable new = λ i. range_at (sym at_new i) (sym many i) in
-      stands_same n o now start bytes (λ a from unlent. out-left n o (usable new) start (omega (arith, p.lies, at_new)) (gone ∙ ap (out_without n) whole) a from
-      (elim (unlent new is_new) [
-        | inl before ↦ inl before
-        | inr behind ↦ inr (omega (arith, behind, (now.well_formed.used new is_new).within))
-      ]))
+  stands-left o start bytes gone = stands-without now new is_new o start bytes (gone ∙ ap (out_without n) (λ i. range_at (sym at_new i) (sym many i)))
 
   -- a ticket is issued for them
   pub issued-new : {memory : Range} → IsWellFormed fllen sllen memory s → (entries : List Entry) → AreIssued s entries → (shown : Extent) → shown.addr ≡ r.start

@@ -4,7 +4,6 @@ pub mod Arrivals
 pub mod Found
 pub mod Frames
 pub mod Kept
-pub mod Leaving
 pub mod LiveCounts
 pub mod MovedThin
 pub mod OnCores

@@ -13,6 +13,7 @@ use Rattle.rlsf_model.specs.State.{State, Used, usable}
 use Rattle.rlsf_table.specs.Table.{Table}
 use Rattle.rlsf_blocks.specs.StandsFor.{contents, StandsFor, IsUnlent}
 use Rattle.rlsf_blocks.proofs.Payloads.Unlent.{words_read_no_payload}
+use Rattle.rlsf_tlsf.proofs.Placed.{lies_used}
 use Rattle.rlsf_heap.specs.Heap.{AreIssued}
 use Rattle.rlsf_tlsf.proofs.Arrivals.{read_from-stands}
 use Rattle.rlsf_tlsf.proofs.Reached.{read_from-same}
@@ -60,6 +61,14 @@ stands_same {fllen} {sllen} m n {t} {s} v start bytes kept =
     subst (StandsFor fllen sllen (contents n t)) (read_from-same m n s start bytes ∙ read_from-stands v)
     (words_read_no_payload fllen sllen m n t s v
     (record { start = start; length = ap length bytes; bytes = λ a from unlent. (λ i. slice_index (bytes i) (a - start i)); out = kept }))
+
+-- after the bytes of a payload left, the memory represents the same state
+pub stands-without : {fllen sllen : ℕ} {m : Space} {table : Table} {s : State} (v : StandsFor fllen sllen (contents m table) s) (u : Used) (i : IsIn u s.used) (n : Space)
+    → n.start ≡ m.start → n.bytes ≡ m.bytes → n.out ≡ out_without m (usable u) → StandsFor fllen sllen (contents n table) s
+stands-without {m = m} v u i n start bytes gone = stands_same m n v start bytes (λ a from unlent. out-left m n (usable u) start (lies_used v u i).0 gone a from (elim (unlent u i) [
+  | inl before ↦ inl before
+  | inr behind ↦ inr (omega (arith, behind, (v.well_formed.used u i).within))
+]))
 
 -- where no used block changes, the live entries are still those of live payloads
 pub issued-same : (s t : State) {es : List Entry} → t.used ≡ s.used → AreIssued s es → AreIssued t es

@@ -152,6 +152,7 @@ impl<FLBitmap: BitPattern, SLBitmap: BitPattern, const FLLEN: usize, const SLLEN
     /// Completes in constant time: at most 27 word accesses, whatever the pools contain.
     // In line, so that the tests of an alignment that is constant at the call go away, and no payload is passed in memory.
     #[inline(always)]
+    #[tactic(auto, using(crate::proofs::OnCores::core_of))]
     pub fn allocate(&mut self, layout: Layout) -> Option<Payload>
         ensures step { Steps FLLEN SLLEN self.new (Allocates SLLEN self.old.state layout.size layout.align (addr_of result)) }
         ensures result { IfSome result (λ p. IsAllocated self.old self.new layout.size layout.align p) }

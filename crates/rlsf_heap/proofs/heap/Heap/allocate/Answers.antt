@@ -14,14 +14,11 @@ use Rattle.rlsf_heap.specs.Kept.{KeepsSpareBytes, NoneBecomesRaw}
 use Rattle.rlsf_heap.proofs.Allocated.{issued-new, one_more, stands-left}
 use Rattle.rlsf_heap.proofs.Arrivals.{IsHeap-arrived}
 use Rattle.rlsf_heap.proofs.Kept.{raw-left, raw-stays, spare-last}
-use Rattle.rlsf_heap.proofs.OnCores.{IsHeap-left, Steps-left, frame-left, core_of, same_identity, stays}
+use Rattle.rlsf_heap.proofs.OnCores.{IsHeap-left, Steps-left, frame-left, same_identity, stays}
 use Rattle.rlsf_heap.proofs.Settled.{settled-here, settled-left, settled-stays}
 use Rattle.rlsf_heap.proofs.heap.Heap.allocate.Given as given
 use Rattle.rlsf_heap.proofs.heap.Heap.allocate.Goals as goal
 use Rattle.rlsf_heap.proofs.heap.Heap.allocate.Goals.{After-hand_over-payload}
-
-pub allocate_in-requires : goal.allocate_in-requires
-allocate_in-requires g c = (omega arith, core_of c.self.invariant g.FLBitmap.BitPattern.width_limit)
 
 -- ---- a refused allocation changes nothing
 
