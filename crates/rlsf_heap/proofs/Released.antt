@@ -1,5 +1,6 @@
 -- Deallocation: the bytes of a payload are the memory's own again, and its block is released.
-use Rattle.std.proofs.Common.{◌≡◌, ℕ, ◌+◌, ◌-◌, ◌≤◌, false, List, length, set, arith, refl, sym, ap, subst, ◌∙◌}
+use Rattle.std.proofs.Common.{◌≡◌, ℕ, ◌+◌, ◌-◌, ◌≤◌, false, List, [], ◌∷◌, length, set, eqb, cond, arith, refl, sym, ap, subst, ◌∙◌}
+use Rattle.std.specs.Prelude.{not}
 use Rattle.rlsf_base.specs.declared.memory.range.Range.{Range}
 use Rattle.rlsf_base.specs.Ledger.{Entry, Extent, entry_of, extent}
 use Rattle.rlsf_base.specs.OpenSpace.{IsOwned, out_raw}
@@ -8,11 +9,12 @@ use Rattle.rlsf_base.specs.Range.{range_at}
 use Rattle.rlsf_base.specs.Space.{Space}
 use Rattle.rlsf_model.specs.Release.{Deallocates, released}
 use Rattle.rlsf_model.specs.Sized.{live_count}
-use Rattle.rlsf_model.specs.State.{State, Used, Holds, usable}
+use Rattle.rlsf_model.specs.State.{State, Used, Holds, usable, others, filled_at, with_bytes as with_these}
 use Rattle.rlsf_model.specs.WellFormed.{IsWellFormed}
 use Rattle.rlsf_model.proofs.CallerWords.{gone_seen}
 use Rattle.rlsf_model.proofs.Changes.{Holds-unique}
 use Rattle.rlsf_model.proofs.Chunks.{chunks-deallocated}
+use Rattle.rlsf_model.proofs.Coverage.{by_test}
 use Rattle.rlsf_model.proofs.SizedWords.{count_gone, sized_gone}
 use Rattle.rlsf_table.specs.Table.{Table}
 use Rattle.rlsf_table.proofs.Parameters.{IsValid-widest}
@@ -27,6 +29,16 @@ use Rattle.rlsf_heap.specs.Replies.{IsGone}
 use Rattle.rlsf_heap.proofs.Kept.{same-byte, spare-then}
 use Rattle.rlsf_heap.proofs.OnCores.{IsHeap-left, Steps-left, heap-over}
 use Rattle.rlsf_heap.proofs.Shown.{IsReturned, IsShown, all_behind, block, ends, held, issued-released, own-back, stands-back}
+
+-- the other used blocks are unchanged
+pub others-filled : (addr : ℕ) (bytes : List ℕ) (us : List Used) → others addr (filled_at addr bytes us) ≡ others addr us
+others-filled addr bytes [] = refl
+others-filled addr bytes (u ∷ us) =
+    let rest = others-filled addr bytes us in by_test (eqb u.payload addr)
+    (λ e. ap (λ b. others addr (cond b (with_these u bytes) u ∷ filled_at addr bytes us)) e
+    ∙ ap (λ b. cond (not b) (with_these u bytes ∷ others addr (filled_at addr bytes us)) (others addr (filled_at addr bytes us))) e ∙ rest
+    ∙ sym (ap (λ b. cond (not b) (u ∷ others addr us) (others addr us)) e))
+    (λ e. ap (λ b. others addr (cond b (with_these u bytes) u ∷ filled_at addr bytes us)) e ∙ ap (λ l. cond (not (eqb u.payload addr)) (u ∷ l) l) rest)
 
 -- ---- what callers see of it
 

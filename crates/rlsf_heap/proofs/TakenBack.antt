@@ -1,12 +1,10 @@
 -- A payload came back into the memory with its values for a call on the heap's core, and leaves again after it, at its address or at another one.
-use Rattle.std.proofs.Common.{eqb, cond, ◌≡◌, ◌≤◌, ℕ, ◌-◌, List, [], ◌∷◌, length, arith, inl, inr, refl, sym, ap, ◌∙◌, ◌≢◌, ◌<◌, ◌+◌, false, set, Option}
+use Rattle.std.proofs.Common.{◌≡◌, ◌≤◌, ℕ, ◌-◌, List, length, arith, inl, inr, refl, sym, ap, ◌∙◌, ◌≢◌, ◌<◌, ◌+◌, false, set, Option}
 use Rattle.std.proofs.Common.{None, Some, IfSome, subst}
-use Rattle.std.specs.Prelude.{not}
 use Rattle.std.proofs.lemmas.Option.{none-some}
 use Rattle.rlsf_base.specs.Ledger.{Entry, Extent, entry_of, extent, IsIssued}
 use Rattle.rlsf_base.specs.OpenSpace.{IsBeside, IsHere, out_with, IsOwned, home_of, out_without}
 use Rattle.rlsf_base.specs.Out.{kept_at, here, raw}
-use Rattle.rlsf_base.specs.Piece.{Piece, piece_range}
 use Rattle.rlsf_base.specs.Range.{LiesIn, range_at}
 use Rattle.rlsf_base.specs.Space.{Space, byte_at, byte_range, bytes_in, with_bytes, range_of, out_at}
 use Rattle.rlsf_base.proofs.Changes.{back-before, back-behind, back-there}
@@ -14,8 +12,8 @@ use Rattle.rlsf_base.proofs.Lending.Replaced.{byte_at-same, bytes_in-there, byte
 use Rattle.rlsf_base.specs.declared.memory.range.Range.{Range}
 use Rattle.rlsf_base.proofs.Lending.Present.{own-here}
 use Rattle.rlsf_model.specs.Run.{Fills}
-use Rattle.rlsf_model.specs.State.{State, Used, Holds, filled_at, others, usable, with_bytes as with_these, AreAlike}
-use Rattle.rlsf_model.proofs.Coverage.{IsIn-map, by_test}
+use Rattle.rlsf_model.specs.State.{State, Used, Holds, others, usable, AreAlike}
+use Rattle.rlsf_model.proofs.Coverage.{IsIn-map}
 use Rattle.rlsf_model.specs.Callers.{align_at, bytes_at}
 use Rattle.rlsf_model.specs.NoMove.{ReallocatesWithoutMove, unmoved_plan}
 use Rattle.rlsf_model.specs.Reallocate.{HasRoomToStay, Keeps}
@@ -44,7 +42,7 @@ use Rattle.rlsf_tlsf.proofs.Reached.{bare-core}
 use Rattle.rlsf_tlsf.proofs.Relocated.{span_held}
 use Rattle.rlsf_tlsf.proofs.Replied.{some_more}
 use Rattle.rlsf_tlsf.proofs.UnknownAlign.{denied_short, no_room_to_stay}
-use Rattle.rlsf_heap.specs.Heap.{AreIssued, IsHeap, IsTicketOf, PayloadView, Steps, heap_view, payload_range, payload_view}
+use Rattle.rlsf_heap.specs.Heap.{AreIssued, IsHeap, PayloadView, Steps, heap_view, payload_range}
 use Rattle.rlsf_heap.specs.Frame.{KeepsAllBounds, KeepsBytes, KeepsFrameMoving, KeepsHeap, KeepsSized}
 use Rattle.rlsf_heap.specs.Handover.{IsHandedOver, IsTakenBack}
 use Rattle.rlsf_heap.specs.Kept.{KeepsBytesBeside, NoneBecomesRaw}
@@ -63,17 +61,7 @@ use Rattle.rlsf_heap.proofs.ResizedParts.{own_at, still}
 use Rattle.rlsf_heap.proofs.Settled.{settled-back, settled-here, settled-left, settled-stays}
 use Rattle.rlsf_heap.proofs.Tickets.{issued-less, issued-more, redeemed_apart}
 use Rattle.rlsf_heap.proofs.Shown.{IsShown, block, held, live, long, usable_is, wide, lies}
-use Rattle.rlsf_heap.proofs.Released.{IsGiven, is_released}
-
--- the other used blocks are unchanged
-pub others-filled : (addr : ℕ) (bytes : List ℕ) (us : List Used) → others addr (filled_at addr bytes us) ≡ others addr us
-others-filled addr bytes [] = refl
-others-filled addr bytes (u ∷ us) =
-    let rest = others-filled addr bytes us in by_test (eqb u.payload addr)
-    (λ e. ap (λ b. others addr (cond b (with_these u bytes) u ∷ filled_at addr bytes us)) e
-    ∙ ap (λ b. cond (not b) (with_these u bytes ∷ others addr (filled_at addr bytes us)) (others addr (filled_at addr bytes us))) e ∙ rest
-    ∙ sym (ap (λ b. cond (not b) (u ∷ others addr us) (others addr us)) e))
-    (λ e. ap (λ b. others addr (cond b (with_these u bytes) u ∷ filled_at addr bytes us)) e ∙ ap (λ l. cond (not (eqb u.payload addr)) (u ∷ l) l) rest)
+use Rattle.rlsf_heap.proofs.Released.{IsGiven, is_released, others-filled}
 
 -- the tickets are those of the same payloads, for any bytes
 pub issued-reread : (n : Space) (s : State) (es : List Entry) → AreIssued s es → AreIssued (read_from n s) es
@@ -120,27 +108,12 @@ without {es} {fs} k shown is after s tickets = (
   λ i w issued. redeemed_apart es k shown is s tickets i w (subst (λ (l : List Entry). IsIssued l i w) after issued),
 )
 
-pub taken_back : {m n : Space} {es fs : List Entry} (pay : PayloadView) → IsTakenBack m n es fs pay → IsBack m n es fs pay
-taken_back {es = es} {fs = fs} pay is =
-    let ticket = redeemed_ticket pay es fs is.entries in record {
-      key = ticket.0;
-      known = ticket.1;
-      rest = without ticket.0 (extent pay.start (length pay.bytes) pay.align) ticket.1 ticket.2;
-      start = is.start;
-      bytes = is.bytes;
-      long = is.long;
-      out = is.out;
-      touches = is.touches;
-      copied = is.copied;
-      view = is.view;
-    }
-
--- so did one by its part and its ticket
-abbrev pub back_as : {m n : Space} {es fs : List Entry} {key align addr len wide : ℕ} (p : Piece) (ledger : ℕ) → IsTicketOf p align (extent addr len wide)
-    → IsIssued es key (extent addr len wide) → n.start ≡ m.start → n.bytes ≡ with_bytes m p.start p.bytes → length n.bytes ≡ length m.bytes
-    → n.out ≡ out_with m (piece_range p) → n.touches ≡ m.touches → n.copied ≡ m.copied → n.view ≡ m.view
-    → ((s : State) → AreIssued s es → AreIssued s fs × ((i : ℕ) (w : Extent) → IsIssued fs i w → w.addr ≢ addr)) → IsBack m n es fs (payload_view p align ledger)
-back_as {es = es} {key = key} p ledger ticket issued start bytes long out touches copied view rest = record {
+-- by what its ticket shows of it
+abbrev pub back_as : {m n : Space} {es fs : List Entry} {key addr len wide : ℕ} (pay : PayloadView) → (pay.start ≡ addr) × (length pay.bytes ≡ len) × (pay.align ≡ wide)
+    → IsIssued es key (extent addr len wide) → n.start ≡ m.start → n.bytes ≡ with_bytes m pay.start pay.bytes → length n.bytes ≡ length m.bytes
+    → n.out ≡ out_with m (payload_range pay) → n.touches ≡ m.touches → n.copied ≡ m.copied → n.view ≡ m.view
+    → ((s : State) → AreIssued s es → AreIssued s fs × ((i : ℕ) (w : Extent) → IsIssued fs i w → w.addr ≢ addr)) → IsBack m n es fs pay
+back_as {es = es} {key = key} pay ticket issued start bytes long out touches copied view rest = record {
   key = key;
   known = subst (IsIssued es key) (λ i. extent (sym ticket.0 i) (sym ticket.1 i) (sym ticket.2 i)) issued;
   rest = λ s tickets. let without = rest s tickets in (without.0, λ i w is same. without.1 i w is (same ∙ ticket.0));
@@ -152,6 +125,12 @@ back_as {es = es} {key = key} p ledger ticket issued start bytes long out touche
   copied = copied;
   view = view;
 }
+
+pub taken_back : {m n : Space} {es fs : List Entry} (pay : PayloadView) → IsTakenBack m n es fs pay → IsBack m n es fs pay
+taken_back {es = es} {fs = fs} pay is =
+    let (key, issued, after) = redeemed_ticket pay es fs is.entries in
+    let shown = extent pay.start (length pay.bytes) pay.align in
+    back_as pay (refl, refl, refl) issued is.start is.bytes is.long is.out is.touches is.copied is.view (without key shown issued after)
 
 -- where the state is the same, so are its payloads
 pub kept_same : {s t : State} (addr : ℕ) → t ≡ s → KeepsPayloads s t addr

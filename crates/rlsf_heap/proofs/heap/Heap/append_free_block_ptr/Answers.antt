@@ -16,8 +16,8 @@ append_in-requires g c =
 
 pub invariant_of-self : goal.invariant_of-self
 invariant_of-self g c =
-    IsHeap-pools c.append_in.ensures.left c.self.invariant (used-appended g.row.FLLEN (read_from c.self.inside.memory c.self.inside.state.state) (read_from c.append_in.new.memory c.append_in.new.state.state)
-    c.args.range c.append_in.result c.append_in.ensures.step)
+    IsHeap-pools c.append_in.ensures.left c.self.invariant (used-appended g.row.FLLEN (read_from c.self.inside.memory c.self.inside.state.state)
+    (read_from c.append_in.new.memory c.append_in.new.state.state) c.args.range c.append_in.result c.append_in.ensures.step)
 
 pub returns : goal.returns
 returns g c =

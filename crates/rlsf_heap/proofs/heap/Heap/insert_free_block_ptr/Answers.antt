@@ -20,8 +20,8 @@ insert_in-requires g c =
 
 pub invariant_of-self : goal.invariant_of-self
 invariant_of-self g c =
-    IsHeap-pools c.insert_in.ensures.left c.self.invariant (used-inserted g.row.FLLEN (read_from c.self.inside.memory c.self.inside.state.state) (read_from c.insert_in.new.memory c.insert_in.new.state.state)
-    c.args.range (reply c.insert_in.result) c.insert_in.ensures.step)
+    IsHeap-pools c.insert_in.ensures.left c.self.invariant (used-inserted g.row.FLLEN (read_from c.self.inside.memory c.self.inside.state.state)
+    (read_from c.insert_in.new.memory c.insert_in.new.state.state) c.args.range (reply c.insert_in.result) c.insert_in.ensures.step)
 
 pub returns : goal.returns
 returns g c =

@@ -21,7 +21,7 @@ module _ (g : given.Over) (c : After-put_back g) where
       (set c.self.inside.ledger.entries c.args.ticket.key (entry_of (extent c.args.ticket.addr c.args.ticket.len c.args.ticket.align) false)) pay
   back =
       let e = c.put_back.ensures in
-      back_as c.args.part c.args.ticket.name c.requires.ticket c.redeem.ensures.issued e.start e.bytes e.len e.out e.touches e.copied e.view
+      back_as pay c.requires.ticket c.redeem.ensures.issued e.start e.bytes e.len e.out e.touches e.copied e.view
       (without c.args.ticket.key (extent c.args.ticket.addr c.args.ticket.len c.args.ticket.align) c.redeem.ensures.issued refl)
 
   all_back : IsGiven g.row.FLLEN g.row.SLLEN c.self.inside.memory c.put_back.new.self c.self.inside.table c.self.inside.state.state c.self.inside.ledger.entries

@@ -31,7 +31,7 @@ resize_in-done-requires g c =
     let pay = payload_view c.args.part c.args.ticket.align c.args.ticket.name in
     let e = c.put_back.ensures in
     let issued = c.renewed-ticket.ensures.issued in
-    let back = back_as c.args.part c.args.ticket.name c.requires.ticket issued e.start e.bytes e.len e.out e.touches e.copied e.view (without _ _ issued refl) in (
+    let back = back_as pay c.requires.ticket issued e.start e.bytes e.len e.out e.touches e.copied e.view (without _ _ issued refl) in (
       omega arith,
       (
         core_back c.self.invariant pay back g.FLBitmap.BitPattern.width_limit,
@@ -50,10 +50,11 @@ module _ (g : given.Over) (c : After-resize_in-done g) where
   was = extent c.args.ticket.addr c.args.ticket.len c.args.ticket.align
 
   back_by : {fs : List Entry} → ((s : State) → AreIssued s c.self.inside.ledger.entries
-      → AreIssued s fs × ((i : ℕ) (w : Extent) → IsIssued fs i w → w.addr ≢ c.args.ticket.addr)) → IsBack c.self.inside.memory c.put_back.new.self c.self.inside.ledger.entries fs pay
+      → AreIssued s fs × ((i : ℕ) (w : Extent) → IsIssued fs i w → w.addr ≢ c.args.ticket.addr))
+      → IsBack c.self.inside.memory c.put_back.new.self c.self.inside.ledger.entries fs pay
   back_by =
       let e = c.put_back.ensures in
-      back_as c.args.part c.args.ticket.name c.requires.ticket c.renewed-ticket.ensures.issued e.start e.bytes e.len e.out e.touches e.copied e.view
+      back_as pay c.requires.ticket c.renewed-ticket.ensures.issued e.start e.bytes e.len e.out e.touches e.copied e.view
 
   back : IsBack c.self.inside.memory c.put_back.new.self c.self.inside.ledger.entries (set c.self.inside.ledger.entries c.args.ticket.key (entry_of was false)) pay
   back = back_by (without c.args.ticket.key was c.renewed-ticket.ensures.issued refl)
@@ -140,7 +141,8 @@ module _ (g : given.Over) (c : After-renewed-ticket-2 g) where
   back_last = back_by g f (λ s tickets.
       let first = was g f in
       let is = c.renewed-ticket.ensures.issued in
-      let long = subst (λ n. IsPayload s (extent c.args.ticket.addr n c.args.ticket.align)) (sym (c.len-was.ensures ∙ c.requires.ticket.1)) (tickets.issued c.args.ticket.key first is) in
+      let long = subst (λ n. IsPayload s (extent c.args.ticket.addr n c.args.ticket.align)) (sym (c.len-was.ensures ∙ c.requires.ticket.1))
+      (tickets.issued c.args.ticket.key first is) in
       let less = without c.renewed-ticket.result.key again c.renewed-ticket-2.ensures.issued refl s (subst (AreIssued s) (sym c.renewed-ticket.ensures.ledger.1)
       (issued_renewed c.args.ticket.key first c.len-was.result tickets is (λ e there apart. there) long)) in
       (less.0, λ i w issued same. less.1 i w issued (same ∙ sym c.renewed-ticket.ensures.ticket.1)))
@@ -202,9 +204,10 @@ returns g c =
     let here = here_there is pay back e.left kept in
     let reads = reads_over is pay back e.left at whole aligned over in
     let aligns = reads (λ (x : State). align_at x ≡ align_at before) (kept.aligns ∙ (λ i a. (seen_back is pay back).aligns a i)) in
-    let step = told g f (λ a. ReallocatesWithoutMove (s g f) a size (stayed_if c.resize_in-done.result a) (t g f)) e.step in
+    let Moves : ℕ → State → State → Type 0 = λ a x y. ReallocatesWithoutMove x a size (stayed_if c.resize_in-done.result a) y in
+    let step = told g f (λ a. Moves a (s g f) (t g f)) e.step in
     rw (← c.self.view_is) (record {
-      step = step_over is pay back e.left at whole aligned over label (λ x y. ReallocatesWithoutMove x c.args.part.start size (stayed_if c.resize_in-done.result c.args.part.start) y) step;
+      step = step_over is pay back e.left at whole aligned over label (Moves c.args.part.start) step;
       result = λ yes.
           let now = resized_now g f yes in record {
             resized = resized_over is pay back e.left at whole aligned over ledger label name size now.sized now.few now.kept here;

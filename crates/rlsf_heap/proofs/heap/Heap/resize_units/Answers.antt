@@ -98,7 +98,8 @@ module _ (g : given.Over) (c : After-resize_block_in g) where
   abbrev ledger : ℕ
   ledger = c.self.inside.ledger.name
 
-  b : IsReturned g.row.FLLEN g.row.SLLEN m n c.self.inside.table (read_from m k) c.self.inside.ledger.entries c.args.tail.key (extent c.args.tail.start c.args.tail.len 16) c.args.tail.kept
+  b : IsReturned g.row.FLLEN g.row.SLLEN m n c.self.inside.table (read_from m k) c.self.inside.ledger.entries c.args.tail.key
+      (extent c.args.tail.start c.args.tail.len 16) c.args.tail.kept
   b =
       let e = c.put_unit_tail-block.ensures in record {
         shown = record { stands = c.self.invariant.stands; tickets = c.self.invariant.tickets; issued = e.issued };

@@ -17,7 +17,8 @@ reallocate_in-requires g c =
     let is = IsAllocator-opened c.self-inside.view_is c.self.invariant in
     let (u, holds, wide) = live_inside is c.args.self.now (view-opened c.self-inside.view_is c.self.view_is) (at c.args.addr) c.args.layout.align c.requires in
     let here = here-none c.self-inside.inside.0.0.inner (usable u) is.whole in
-    (omega arith, (core_again c.self-inside.view_is c.self.invariant g.FLBitmap.BitPattern.width_limit, ((u, (holds.0, holds.1 ∙ sym c.get.ensures.value), wide, here), λ one. is.whole)))
+    let at = holds.1 ∙ sym c.get.ensures.value in
+    (omega arith, (core_again c.self-inside.view_is c.self.invariant g.FLBitmap.BitPattern.width_limit, ((u, (holds.0, at), wide, here), λ one. is.whole)))
 
 pub returns-in-Some : goal.returns-in-Some
 returns-in-Some g c =

@@ -23,7 +23,8 @@ resize_in-requires g c =
     let (u, holds, aligned) =
     live_inside is c.args.self.now (view-opened c.self-inside.view_is c.self.view_is) (at c.args.addr) c.args.layout.align c.requires in
     let own = own-none c.self-inside.inside.0.0.inner (usable u) is.whole in
-    (omega arith, (core_again c.self-inside.view_is c.self.invariant g.FLBitmap.BitPattern.width_limit, (u, ((holds.0, holds.1 ∙ sym c.get.ensures.value), aligned ∙ sym c.align.ensures.value), own)))
+    let at = holds.1 ∙ sym c.get.ensures.value in
+    (omega arith, (core_again c.self-inside.view_is c.self.invariant g.FLBitmap.BitPattern.width_limit, (u, ((holds.0, at), aligned ∙ sym c.align.ensures.value), own)))
 
 -- ---- after the core's call
 
