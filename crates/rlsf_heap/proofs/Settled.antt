@@ -1,9 +1,9 @@
 -- A memory of which no byte is raw: after a write, or after bytes leave or come back, no byte is raw.
-use Rattle.std.proofs.Common.{[], ◌≡◌, ◌-◌, ◌≤◌, ap, arith, inl, inr, sym, ◌∙◌}
+use Rattle.std.proofs.Common.{[], ◌≡◌, ◌≤◌, ap, arith, inl, inr, sym, ◌∙◌}
 use Rattle.std.proofs.lemmas.Bool.{false≢true}
 use Rattle.rlsf_base.specs.declared.memory.range.Range.{Range}
 use Rattle.rlsf_base.specs.OpenSpace.{IsHere, IsOwned, out_with, out_without}
-use Rattle.rlsf_base.specs.Out.{is_own, out}
+use Rattle.rlsf_base.specs.Out.{is_own}
 use Rattle.rlsf_base.specs.Range.{range_at}
 use Rattle.rlsf_base.proofs.Lending.Present.{here-none}
 use Rattle.rlsf_base.specs.Space.{Space}

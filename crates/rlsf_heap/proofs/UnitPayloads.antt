@@ -13,7 +13,6 @@ use Rattle.rlsf_model.proofs.CallerWords.{bytes_at-held}
 use Rattle.rlsf_model.proofs.Payloads.{payload_of-le, payload_of-after}
 use Rattle.rlsf_heap.specs.Heap.{HeapView, Stands, Steps}
 use Rattle.rlsf_heap.specs.Units.{payload_len}
-use Rattle.rlsf_heap.proofs.Released as R
 
 -- at an alignment of 16 or less the payload begins 16 bytes behind its block
 pub payload-narrow : (start align : ℕ) → start % 32 ≡ 0 → IsPowerOfTwo align → align ≤ 16 → payload_of start align ≡ start + 16

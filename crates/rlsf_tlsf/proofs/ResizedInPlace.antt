@@ -1,5 +1,5 @@
 -- A payload gets another size without moving.
-use Rattle.std.proofs.Common.{◌-◌, ℕ, arith}
+use Rattle.std.proofs.Common.{ℕ, arith}
 use Rattle.rlsf_base.specs.OpenSpace.{IsOwned}
 use Rattle.rlsf_base.specs.Space.{Space}
 use Rattle.rlsf_model.specs.State.{Used, usable}
