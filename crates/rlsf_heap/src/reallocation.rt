@@ -94,7 +94,7 @@ impl<FLBitmap: BitPattern, SLBitmap: BitPattern, const FLLEN: usize, const SLLEN
     ///
     /// The payload must be one of this heap, and its bytes must be here.
     ///
-    /// Completes in constant time: at most 28 word accesses, whatever the pools contain.
+    /// Completes in constant time: at most 25 word accesses, whatever the pools contain.
     pub fn reallocate_no_move(&mut self, payload: Payload, size: usize) -> Result<Payload, Payload>
         requires identity { payload.identity ≡ self.old.identity }
         requires written { IsWritten payload }
@@ -104,7 +104,7 @@ impl<FLBitmap: BitPattern, SLBitmap: BitPattern, const FLLEN: usize, const SLLEN
         ensures bounds { KeepsSized SLLEN self.old.state self.new.state size payload.align }
         ensures refused { IfErr result (λ p. IsRefused self.old self.new payload.start payload.align payload p) }
         ensures frame { KeepsFrame self.old self.new }
-        ensures touches { self.new.memory.touches ≤ self.old.memory.touches + 28 }
+        ensures touches { self.new.memory.touches ≤ self.old.memory.touches + 25 }
     {
         let align = payload.align();
         let Ok(layout) = Layout::from_size_align(size, align) else {

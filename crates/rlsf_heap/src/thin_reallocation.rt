@@ -84,7 +84,7 @@ impl<FLBitmap: BitPattern, SLBitmap: BitPattern, const FLLEN: usize, const SLLEN
     /// The payload must be the one at `addr`, which isn't 0, with the alignment `align`, and one of this heap, and its bytes must be
     /// here.
     ///
-    /// Completes in constant time: at most 31 word accesses, whatever the pools contain.
+    /// Completes in constant time: at most 28 word accesses, whatever the pools contain.
     pub fn reallocate_thin_no_move(
         &mut self,
         addr: usize,
@@ -100,7 +100,7 @@ impl<FLBitmap: BitPattern, SLBitmap: BitPattern, const FLLEN: usize, const SLLEN
         ensures bounds { KeepsSized SLLEN self.old.state self.new.state size align }
         ensures refused { IfErr result (λ p. IsThin (λ of. IsRefused self.old self.new addr align payload.of of) p) }
         ensures frame { KeepsFrame self.old self.new }
-        ensures touches { self.new.memory.touches ≤ self.old.memory.touches + 31 }
+        ensures touches { self.new.memory.touches ≤ self.old.memory.touches + 28 }
     {
         let payload = self.find_payload(addr, payload, align);
         match self.reallocate_no_move(payload, size) {

@@ -30,7 +30,7 @@ impl<FLBitmap: BitPattern, SLBitmap: BitPattern, const FLLEN: usize, const SLLEN
     ///
     /// The payload must be the one at `addr`, which isn't 0, and one of this heap, and its bytes must be here.
     ///
-    /// Completes in constant time: at most 32 word accesses, whatever the pools contain.
+    /// Completes in constant time: at most 29 word accesses, whatever the pools contain.
     pub fn resize_thin_unknown_align(
         &mut self,
         addr: usize,
@@ -46,7 +46,7 @@ impl<FLBitmap: BitPattern, SLBitmap: BitPattern, const FLLEN: usize, const SLLEN
         ensures bounds { KeepsSized SLLEN self.old.state self.new.state layout.size payload.of.align }
         ensures refused { IfErr result (λ p. IsThin (λ of. IsRefusedThere self.old self.new SLLEN addr payload.of of) p) }
         ensures frame { KeepsFrame self.old self.new }
-        ensures touches { self.new.memory.touches ≤ self.old.memory.touches + 32 }
+        ensures touches { self.new.memory.touches ≤ self.old.memory.touches + 29 }
     {
         let (part, ticket) = self.find_part(addr, payload);
         let (done, part, ticket) = self.resize_part(part, ticket, None, layout);
