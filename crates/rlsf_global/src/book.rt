@@ -149,6 +149,7 @@ impl Book {
     /// - else `Mismatch` exactly if passes and journal don't agree.
     ///
     /// The memory is dropped. On an error, the journal and the passes are dropped, too. The call requests no memory.
+    /// It reads the complete table, so its time also grows with the memory's length.
     pub fn close(self, callers: usize, passes: Vec<Pass>) -> Result<Closed, CloseError>
         ensures strange { IsErrOf result StrangePass ↔ (is_strange callers passes.items ≡ true) }
         ensures missing { IsErrOf result MissingPass ↔ LacksOne callers passes.items }

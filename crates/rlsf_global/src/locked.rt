@@ -52,6 +52,8 @@ impl<Options: GlobalTlsfOptions> Locked<Options> {
     ghost use Rattle.rlsf_global.specs.Locked.{LockedStands};
 
     /// Creates an allocator whose source has the complete memory as its space. Nothing is live.
+    ///
+    /// It asks the system for an eighth of the memory's length, for the table. If that is refused, the next allocation asks again.
     pub fn new(alloc: Global, memory: Memory) -> Self
         ensures heap { result.heap ≡ beginning (range_of memory) Options.COALESCE_POOLS }
         ensures memory { result.memory ≡ memory }
@@ -347,7 +349,8 @@ impl<Options: GlobalTlsfOptions> Locked<Options> {
 }
 
 impl<Options: GlobalTlsfOptions> Locked<Options> {
-    /// Returns the live addresses with their last layouts, in the order of the addresses. The memory is dropped.
+    /// Returns the live addresses with their last layouts, in the order of the addresses. The memory is dropped. The call requests no memory,
+    /// and takes time proportional to the memory's length.
     pub fn into_rows(self) -> Vec<(Addr, Layout)>
         ensures rows { result.items ≡ self.heap.asked }
         ensures sorted { IsSorted result.items }

@@ -26,6 +26,8 @@ pub type SmallGlobalTlsf = GlobalTlsf<SmallGlobalTlsfOptions>;
 
 impl<Options: GlobalTlsfOptions> GlobalTlsf<Options> {
     /// Creates an allocator whose source has the complete memory as its space. Nothing is live.
+    ///
+    /// It asks the system for an eighth of the memory's length, for the table. If that is refused, the next `alloc` asks again.
     pub fn new(alloc: Global, memory: Memory) -> Self {
         GlobalTlsf {
             locked: Mutex::new(Locked::new(alloc, memory)),
