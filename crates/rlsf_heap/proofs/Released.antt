@@ -1,5 +1,5 @@
 -- Deallocation: the bytes of a payload are the memory's own again, and its block is released.
-use Rattle.std.proofs.Common.{◌≡◌, ℕ, ◌+◌, ◌-◌, ◌≤◌, false, List, [], ◌∷◌, length, set, eqb, cond, arith, refl, sym, ap, subst, ◌∙◌}
+use Rattle.std.proofs.Common.{◌≡◌, ℕ, ◌+◌, ◌-◌, ◌≤◌, false, List, [], ◌∷◌, length, Option, IfSome, set, eqb, cond, arith, refl, sym, ap, subst, ◌∙◌}
 use Rattle.std.specs.Prelude.{not}
 use Rattle.rlsf_base.specs.declared.memory.range.Range.{Range}
 use Rattle.rlsf_base.specs.Ledger.{Entry, Extent, entry_of, extent}
@@ -21,14 +21,15 @@ use Rattle.rlsf_table.proofs.Parameters.{IsValid-widest}
 use Rattle.rlsf_blocks.specs.Laws.{read_from}
 use Rattle.rlsf_blocks.specs.Spare.{KeepsSpare}
 use Rattle.rlsf_blocks.specs.StandsFor.{contents, StandsFor}
-use Rattle.rlsf_tlsf.specs.Cores.{IsCore, LeavesCore}
+use Rattle.rlsf_tlsf.specs.Cores.{IsCore, IsOwnFound, LeavesCore}
 use Rattle.rlsf_tlsf.proofs.Reached.{read_from-same}
+use Rattle.rlsf_tlsf.proofs.Replied.{some_more}
 use Rattle.rlsf_heap.specs.Frame.{KeepsAllBounds, KeepsHeap}
 use Rattle.rlsf_heap.specs.Heap.{AreIssued, IsHeap, IsTicketOf, Steps, heap_view}
 use Rattle.rlsf_heap.specs.Replies.{IsGone}
 use Rattle.rlsf_heap.proofs.Kept.{same-byte, spare-then}
 use Rattle.rlsf_heap.proofs.OnCores.{IsHeap-left, Steps-left, heap-over}
-use Rattle.rlsf_heap.proofs.Shown.{IsReturned, IsShown, all_behind, block, ends, held, issued-released, own-back, stands-back}
+use Rattle.rlsf_heap.proofs.Shown.{IsReturned, IsShown, all_behind, block, ends, held, issued-released, own-back, stands-back, wide}
 
 -- the other used blocks are unchanged
 pub others-filled : (addr : ℕ) (bytes : List ℕ) (us : List Used) → others addr (filled_at addr bytes us) ≡ others addr us
@@ -66,6 +67,7 @@ pub record IsGiven (fllen sllen : ℕ) (m n : Space) (x : Table) (j : State) (es
   pub used : Used
   pub begins : used.block.start ≡ (block shown).block.start
   pub holds : Holds (read_from n j) e.addr used
+  pub wide : used.align ≡ e.align
   pub own : IsOwned n (usable used)
   pub stands : StandsFor fllen sllen (contents n x) (read_from n j)
   pub spare : KeepsSpare m (read_from m j) n (read_from n j)
@@ -87,6 +89,7 @@ raw_given {fllen} {sllen} {m} {n} {x} {j} {es} {k} {e} p start bytes out view gr
       used = block p;
       begins = refl;
       holds = subst (λ (s : State). Holds s e.addr (block p)) (sym same) (held p);
+      wide = wide p;
       own = λ a lo hi. own-back b a (omega (arith, lo, (held p).1)) (omega (arith, hi, ends p, (p.stands.well_formed.used (block p) (held p).0).within));
       stands = subst (StandsFor fllen sllen (contents n x)) (sym same) (stands-back b);
       spare = λ a from to before after. same-byte m n start bytes a;
@@ -101,6 +104,9 @@ module _ {fl_bits sl_bits fllen sllen : ℕ} {m n : Space} {x : Table} {j : Stat
     (is : IsHeap fl_bits sl_bits fllen sllen m x j es count) (g : IsGiven fllen sllen m n x j es k e) where
   pub core_given : fl_bits ≤ 128 → IsCore fllen sllen n x j
   core_given limit = record { valid = IsValid-widest limit is.valid; stands = g.stands; is_bare = is.is_bare }
+
+  pub found_given : {at : ℕ} (align : Option ℕ) → at ≡ e.addr → IfSome align (λ a. e.align ≡ a) → IsOwnFound n (read_from n j) at align
+  found_given align same aligned = (g.used, ((g.holds.0, g.holds.1 ∙ sym same), some_more align (λ a is. g.wide ∙ is) aligned), g.own)
 
   -- ---- after the call
 

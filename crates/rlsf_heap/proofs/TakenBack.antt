@@ -230,6 +230,7 @@ module _ {fl_bits sl_bits fllen sllen : ℕ} {m n : Space} {x : Table} {j : Stat
         used = used;
         begins = refl;
         holds = held_in;
+        wide = wide p;
         own = own-here n (usable used) here_in;
         stands = stands_in;
         spare = reread.2;

@@ -1,10 +1,11 @@
 //! Deallocation of payloads whose bytes are here.
-ghost use Rattle.std.specs.Prelude.{◌≡◌, ◌≤◌, ◌+◌, Some};
+ghost use Rattle.std.specs.Prelude.{◌≡◌, ◌≤◌, ◌+◌, IfSome, Some};
 ghost use Rattle.rlsf_base.specs.Ledger.{extent};
 ghost use Rattle.rlsf_base.specs.OpenSpace.{IsAway};
 ghost use Rattle.rlsf_base.specs.Piece.{IsFull, piece_range};
 ghost use Rattle.rlsf_model.specs.Callers.{align_at};
 ghost use Rattle.rlsf_model.specs.Release.{Deallocates};
+ghost use Rattle.rlsf_tlsf.specs.Cores.{found_cost};
 ghost use Rattle.rlsf_heap.specs.Heap.{IsTicketOf, IsWritten};
 ghost use Rattle.rlsf_heap.specs.Frame.{KeepsAllBounds, KeepsFrame};
 ghost use Rattle.rlsf_heap.specs.Replies.{IsDeallocated, IsGone};
@@ -32,7 +33,7 @@ impl<FLBitmap: BitPattern, SLBitmap: BitPattern, const FLLEN: usize, const SLLEN
     ///
     /// The payload must be one of this heap, and its bytes must be here.
     ///
-    /// Completes in constant time: at most 33 word accesses, whatever the pools contain.
+    /// Completes in constant time: at most 32 word accesses, whatever the pools contain.
     pub fn deallocate_written(&mut self, payload: Payload)
         requires identity { payload.identity ≡ self.old.identity }
         requires written { IsWritten payload }
@@ -40,26 +41,28 @@ impl<FLBitmap: BitPattern, SLBitmap: BitPattern, const FLLEN: usize, const SLLEN
         ensures result { IsDeallocated self.old self.new payload.start payload }
         ensures bounds { KeepsAllBounds SLLEN self.old.state self.new.state }
         ensures frame { KeepsFrame self.old self.new }
-        ensures touches { self.new.memory.touches ≤ self.old.memory.touches + 33 }
+        ensures touches { self.new.memory.touches ≤ self.old.memory.touches + 32 }
     {
+        let align = payload.align();
         let (part, ticket) = payload.into_parts();
-        self.put_written(part, ticket);
+        self.put_written(part, ticket, Some(align));
     }
 
-    // Deallocates a payload by its bytes, which are here, and its ticket.
+    // Deallocates a payload by its bytes, which are here, and its ticket. If `align` is one, it is the payload's alignment.
     #[inline(always)]
     #[tactic(auto, using(crate::proofs::OnCores::of_memory, crate::proofs::OnCores::of_ledger))]
-    pub(crate) fn put_written(&mut self, part: Part, ticket: Ticket)
+    pub(crate) fn put_written(&mut self, part: Part, ticket: Ticket, align: Option<usize>)
         requires ticket { IsTicketOf part ticket.align (extent ticket.addr ticket.len ticket.align) }
         requires identity { record { home = part.home; ledger = ticket.name } ≡ self.old.identity }
         requires full { IsFull part }
+        requires align { IfSome align (λ a. ticket.align ≡ a) }
         ensures step { Steps FLLEN SLLEN self.new (Deallocates self.old.state part.start) }
         ensures owner { IsAway self.old.memory (piece_range part) }
         ensures live { align_at self.old.state part.start ≡ Some ticket.align }
         ensures result { IsGone self.old.state self.new.state part.start }
         ensures bounds { KeepsAllBounds SLLEN self.old.state self.new.state }
         ensures frame { KeepsFrame self.old self.new }
-        ensures touches { self.new.memory.touches ≤ self.old.memory.touches + 33 }
+        ensures touches { self.new.memory.touches ≤ self.old.memory.touches + (found_cost align + 31) }
     {
         let addr = part.start();
         self.ledger.redeem(ticket);
@@ -69,7 +72,7 @@ impl<FLBitmap: BitPattern, SLBitmap: BitPattern, const FLLEN: usize, const SLLEN
             &mut self.table,
             &mut self.state,
             addr,
-            None,
+            align,
         );
         self.live -= 1;
     }

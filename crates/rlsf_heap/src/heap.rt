@@ -13,6 +13,7 @@ ghost use Rattle.rlsf_model.specs.Insert.{IsUntouched};
 ghost use Rattle.rlsf_model.specs.Release.{Deallocates};
 ghost use Rattle.rlsf_model.specs.Sized.{live_count};
 ghost use Rattle.rlsf_model.specs.State.{empty};
+ghost use Rattle.rlsf_tlsf.specs.Cores.{found_cost};
 ghost use Rattle.rlsf_heap.specs.Heap.{addr_of, IsTicketOf, payload_range};
 ghost use Rattle.rlsf_heap.specs.Replies.{IsAllocated, IsAllocatedZeroed, IsDeallocated, IsGone, IsUnchanged, WithinBounds};
 ghost use Rattle.rlsf_heap.specs.Settled.{IsSettled};
@@ -201,7 +202,7 @@ impl<FLBitmap: BitPattern, SLBitmap: BitPattern, const FLLEN: usize, const SLLEN
     ///
     /// The payload must be one of this heap.
     ///
-    /// Completes in constant time: at most 33 word accesses, whatever the pools contain.
+    /// Completes in constant time: at most 32 word accesses, whatever the pools contain.
     // In line, so that no payload is passed in memory.
     #[inline(always)]
     pub fn deallocate(&mut self, payload: Payload)
@@ -210,25 +211,27 @@ impl<FLBitmap: BitPattern, SLBitmap: BitPattern, const FLLEN: usize, const SLLEN
         ensures result { IsDeallocated self.old self.new payload.start payload }
         ensures bounds { KeepsAllBounds SLLEN self.old.state self.new.state }
         ensures frame { KeepsFrameBeside self.old self.new (payload_range payload) }
-        ensures touches { self.new.memory.touches ≤ self.old.memory.touches + 33 }
+        ensures touches { self.new.memory.touches ≤ self.old.memory.touches + 32 }
     {
+        let align = payload.align();
         let (part, ticket) = payload.into_parts();
-        self.put_raw(part, ticket);
+        self.put_raw(part, ticket, Some(align));
     }
 
-    // Deallocates a payload by its bytes, which become raw, and its ticket.
+    // Deallocates a payload by its bytes, which become raw, and its ticket. If `align` is one, it is the payload's alignment.
     #[inline(always)]
     #[tactic(auto, using(crate::proofs::OnCores::of_memory, crate::proofs::OnCores::of_ledger))]
-    pub(crate) fn put_raw(&mut self, part: Part, ticket: Ticket)
+    pub(crate) fn put_raw(&mut self, part: Part, ticket: Ticket, align: Option<usize>)
         requires ticket { IsTicketOf part ticket.align (extent ticket.addr ticket.len ticket.align) }
         requires identity { record { home = part.home; ledger = ticket.name } ≡ self.old.identity }
+        requires align { IfSome align (λ a. ticket.align ≡ a) }
         ensures step { Steps FLLEN SLLEN self.new (Deallocates self.old.state part.start) }
         ensures owner { IsAway self.old.memory (piece_range part) }
         ensures live { align_at self.old.state part.start ≡ Some ticket.align }
         ensures result { IsGone self.old.state self.new.state part.start }
         ensures bounds { KeepsAllBounds SLLEN self.old.state self.new.state }
         ensures frame { KeepsFrameBeside self.old self.new (piece_range part) }
-        ensures touches { self.new.memory.touches ≤ self.old.memory.touches + 33 }
+        ensures touches { self.new.memory.touches ≤ self.old.memory.touches + (found_cost align + 31) }
     {
         let addr = part.start();
         self.ledger.redeem(ticket);
@@ -238,7 +241,7 @@ impl<FLBitmap: BitPattern, SLBitmap: BitPattern, const FLLEN: usize, const SLLEN
             &mut self.table,
             &mut self.state,
             addr,
-            None,
+            align,
         );
         self.live -= 1;
     }

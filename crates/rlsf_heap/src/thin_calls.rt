@@ -121,7 +121,7 @@ impl<FLBitmap: BitPattern, SLBitmap: BitPattern, const FLLEN: usize, const SLLEN
         ensures touches { self.new.memory.touches ≤ self.old.memory.touches + 36 }
     {
         let (part, ticket) = self.find_part(addr, payload);
-        self.put_raw(part, ticket);
+        self.put_raw(part, ticket, None);
     }
 
     /// Deallocates a payload that is known by its address, as `deallocate_written` does. Its length is found in the memory.
@@ -142,6 +142,6 @@ impl<FLBitmap: BitPattern, SLBitmap: BitPattern, const FLLEN: usize, const SLLEN
         ensures touches { self.new.memory.touches ≤ self.old.memory.touches + 36 }
     {
         let (part, ticket) = self.find_part(addr, payload);
-        self.put_written(part, ticket);
+        self.put_written(part, ticket, None);
     }
 }

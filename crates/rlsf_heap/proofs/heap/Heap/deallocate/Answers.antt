@@ -9,7 +9,8 @@ use Rattle.rlsf_heap.proofs.heap.Heap.deallocate.Goals as goal
 pub put_raw-requires : goal.put_raw-requires
 put_raw-requires g c =
     let t = c.into_parts-part.ensures.ticket in
-    (omega arith, ((t.0, t.1, refl), ap (λ (p : PayloadView). p.identity) c.into_parts-part.ensures.parts ∙ c.requires))
+    let identity = ap (λ (p : PayloadView). p.identity) c.into_parts-part.ensures.parts ∙ c.requires in
+    (omega arith, ((t.0, t.1, refl), (identity, sym t.2 ∙ sym c.align-align.ensures)))
 
 pub returns-clause-result : goal.returns-clause-result
 returns-clause-result g c =

@@ -13,7 +13,7 @@ put_written-requires g c =
         (t.0, t.1, refl),
         (
           ap (λ (p : PayloadView). p.identity) parts ∙ c.requires.identity,
-          subst (λ (p : PayloadView). IsWritten p) (sym parts) c.requires.written,
+          (subst (λ (p : PayloadView). IsWritten p) (sym parts) c.requires.written, sym t.2 ∙ sym c.align-align.ensures),
         ),
       ),
     )

@@ -24,7 +24,7 @@ put_written-requires g c =
         (
           ap (λ (p : PayloadView). p.identity) parts ∙ c.requires.heap
               ∙ sym (ap (λ (v : HeapView). v.identity) c.find_part-part.ensures.heap) ∙ sym c.in-Some.ensures.frame.heap.identity,
-          subst (λ (p : PayloadView). IsWritten p) (sym parts) c.requires.written,
+          (subst (λ (p : PayloadView). IsWritten p) (sym parts) c.requires.written, tt),
         ),
       ),
     )

@@ -4,7 +4,7 @@ use Rattle.rlsf_base.specs.Piece.{piece_range}
 use Rattle.rlsf_heap.specs.Kept.{NoneBecomesRawBeside}
 use Rattle.rlsf_heap.proofs.Kept.{raw-back}
 use Rattle.rlsf_heap.proofs.OnCores.{stays}
-use Rattle.rlsf_heap.proofs.Released.{IsGiven, IsHeap-given, as_part, bounds_given, chunks_given, core_given, gone_given, keeps_given, one_less, raw_given, step_given}
+use Rattle.rlsf_heap.proofs.Released.{IsGiven, IsHeap-given, as_part, bounds_given, chunks_given, core_given, found_given, gone_given, keeps_given, one_less, raw_given, step_given}
 use Rattle.rlsf_heap.proofs.Shown.{lies, live}
 use Rattle.rlsf_heap.proofs.heap.Heap.put_raw.Given as given
 use Rattle.rlsf_heap.proofs.heap.Heap.put_raw.Goals as goal
@@ -24,7 +24,7 @@ back g c =
 pub deallocate_in-requires : goal.deallocate_in-requires
 deallocate_in-requires g c =
     let b = back g (goal.at.deallocate_in-requires g c).After-put_room in
-    (omega arith, (core_given c.self.invariant b g.FLBitmap.BitPattern.width_limit, (b.used, ((b.holds.0, b.holds.1 ∙ sym c.start-addr.ensures), tt), b.own)))
+    (omega arith, (core_given c.self.invariant b g.FLBitmap.BitPattern.width_limit, found_given c.self.invariant b c.args.align c.start-addr.ensures c.requires.align))
 
 pub overflow_sub-self : goal.overflow_sub-self
 overflow_sub-self g c =

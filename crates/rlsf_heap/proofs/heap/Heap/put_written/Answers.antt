@@ -4,7 +4,7 @@ use Rattle.rlsf_heap.specs.Heap.{PayloadView, payload_view}
 use Rattle.rlsf_heap.specs.Kept.{NoneBecomesRaw}
 use Rattle.rlsf_heap.proofs.Kept.{raw-stays}
 use Rattle.rlsf_heap.proofs.OnCores.{stays}
-use Rattle.rlsf_heap.proofs.Released.{IsGiven, IsHeap-given, as_part, bounds_given, chunks_given, core_given, gone_given, keeps_given, one_less, step_given}
+use Rattle.rlsf_heap.proofs.Released.{IsGiven, IsHeap-given, as_part, bounds_given, chunks_given, core_given, found_given, gone_given, keeps_given, one_less, step_given}
 use Rattle.rlsf_heap.proofs.Settled.{settled-stays}
 use Rattle.rlsf_heap.proofs.Shown.{live}
 use Rattle.rlsf_heap.proofs.TakenBack.{IsBack, back_as, given_back, raw_back, settled_before, without}
@@ -31,7 +31,7 @@ module _ (g : given.Over) (c : After-put_back g) where
 pub deallocate_in-requires : goal.deallocate_in-requires
 deallocate_in-requires g c =
     let b = all_back g (goal.at.deallocate_in-requires g c).After-put_back in
-    (omega arith, (core_given c.self.invariant b g.FLBitmap.BitPattern.width_limit, (b.used, ((b.holds.0, b.holds.1 ∙ sym c.start-addr.ensures), tt), b.own)))
+    (omega arith, (core_given c.self.invariant b g.FLBitmap.BitPattern.width_limit, found_given c.self.invariant b c.args.align c.start-addr.ensures c.requires.align))
 
 pub overflow_sub-self : goal.overflow_sub-self
 overflow_sub-self g c =
