@@ -11,8 +11,8 @@ mod entries;
 pub(crate) mod looks;
 
 use crate::live_table::codes::{Codes, code_of};
-use crate::live_table::entries::Entries;
-use crate::live_table::looks::Looks;
+use crate::live_table::entries::GhostEntries;
+use crate::live_table::looks::GhostLooks;
 use rlsf_base::memory::{Addr, Layout};
 use std::alloc::{AllocError, Global};
 use std::marker::Model;
@@ -37,7 +37,7 @@ pub(crate) struct LiveTable {
     limit: usize,
     alloc: Global,
     // The entries, as ghost data.
-    entries: Entries,
+    entries: GhostEntries,
 }
 
 impl Model for LiveTable {
@@ -67,7 +67,7 @@ impl LiveTable {
             live: 0,
             limit: 0,
             alloc,
-            entries: Entries::new(),
+            entries: GhostEntries::new(),
         }
     }
 
@@ -103,7 +103,7 @@ impl LiveTable {
     }
 
     /// Returns the code of an address: 0 if it has no entry.
-    pub(crate) fn code(&self, addr: Addr, looks: &mut Looks) -> u16
+    pub(crate) fn code(&self, addr: Addr, looks: &mut GhostLooks) -> u16
         ensures code { result ≡ code_in (row_at (at addr) self.now.rows) }
         ensures looks { looks.new.count ≡ looks.old.count + 1 }
     {
@@ -112,7 +112,7 @@ impl LiveTable {
     }
 
     /// Inserts an entry. The table has room for it, and its address has none.
-    pub(crate) fn put(&mut self, row: (Addr, Layout), looks: &mut Looks)
+    pub(crate) fn put(&mut self, row: (Addr, Layout), looks: &mut GhostLooks)
         requires room { 0 < self.old.room }
         requires fresh { row_at (key row) self.old.rows ≡ None }
         requires place { HasCode self.old.space (key row) }
@@ -128,7 +128,7 @@ impl LiveTable {
     }
 
     /// Removes the entry of an address, which has one.
-    pub(crate) fn remove(&mut self, addr: Addr, looks: &mut Looks)
+    pub(crate) fn remove(&mut self, addr: Addr, looks: &mut GhostLooks)
         requires live { IsSome (row_at (at addr) self.old.rows) }
         ensures rows { self.new.rows ≡ without_row (at addr) self.old.rows }
         ensures room { self.new.room ≡ self.old.room + 1 }
@@ -142,7 +142,7 @@ impl LiveTable {
     }
 
     /// Replaces the entry of an address by one with the same address.
-    pub(crate) fn replace(&mut self, row: (Addr, Layout), looks: &mut Looks)
+    pub(crate) fn replace(&mut self, row: (Addr, Layout), looks: &mut GhostLooks)
         requires live { IsSome (row_at (key row) self.old.rows) }
         ensures rows { self.new.rows ≡ put row (without_row (key row) self.old.rows) }
         ensures room { self.new.room ≡ self.old.room }
@@ -156,7 +156,7 @@ impl LiveTable {
     }
 
     /// Replaces the entry of an address by one that may have another address. No other entry has that.
-    pub(crate) fn move_row(&mut self, addr: Addr, row: (Addr, Layout), looks: &mut Looks)
+    pub(crate) fn move_row(&mut self, addr: Addr, row: (Addr, Layout), looks: &mut GhostLooks)
         requires live { IsSome (row_at (at addr) self.old.rows) }
         requires fresh { row_at (key row) (without_row (at addr) self.old.rows) ≡ None }
         requires place { HasCode self.old.space (key row) }

@@ -17,7 +17,7 @@ ghost use Rattle.rlsf_model_global.specs.Rows.{IsSorted};
 ghost use Rattle.rlsf_model_global.specs.Steps.{HeapAllocates, HeapDeallocates, HeapDeallocatesAs, HeapReads, HeapUsable, HeapWrites};
 
 use crate::live_table::LiveTable;
-use crate::live_table::looks::Looks;
+use crate::live_table::looks::GhostLooks;
 use crate::moves::{PagedTlsf, move_away, resize};
 use crate::rows::{row_of, rows_of};
 use rlsf_base::memory::{Addr, Layout, Memory, Range};
@@ -35,7 +35,7 @@ use std::marker::Model;
 pub struct Locked<Options: GlobalTlsfOptions> {
     flex: PagedTlsf<Options>,
     rows: LiveTable,
-    looks: Looks,
+    looks: GhostLooks,
 }
 
 impl<Options: GlobalTlsfOptions> Model for Locked<Options> {
@@ -66,7 +66,7 @@ impl<Options: GlobalTlsfOptions> Locked<Options> {
         Locked {
             flex: FlexTlsf::new(memory, Source::new(space)),
             rows: LiveTable::new(alloc, space.start, space.len),
-            looks: Looks::new(),
+            looks: GhostLooks::new(),
         }
     }
 
@@ -288,7 +288,7 @@ impl<Options: GlobalTlsfOptions> Locked<Options> {
         ensures unknown { IsErrOf result UnknownAddress ↔ (layout_at self.now.heap (at addr) ≡ None) }
         ensures len { IfOk result (λ n. n ≡ length (content_at self.now.heap (at addr))) }
     {
-        let Some(_row) = row_of(&self.flex, &self.rows, addr, &mut Looks::new()) else {
+        let Some(_row) = row_of(&self.flex, &self.rows, addr, &mut GhostLooks::new()) else {
             return Err(GlobalError::UnknownAddress);
         };
         Ok(self.flex.allocation_usable_size(addr))
@@ -309,7 +309,7 @@ impl<Options: GlobalTlsfOptions> Locked<Options> {
         ensures told { OnOk result (bytes.new ≡ take (length bytes.old) (drop offset (content_at self.now.heap (at addr)))) }
         ensures refused { OnErr result (bytes.new ≡ bytes.old) }
     {
-        let Some(_row) = row_of(&self.flex, &self.rows, addr, &mut Looks::new()) else {
+        let Some(_row) = row_of(&self.flex, &self.rows, addr, &mut GhostLooks::new()) else {
             return Err(GlobalError::UnknownAddress);
         };
         let payload = self.flex.payload(addr);

@@ -8,7 +8,7 @@ ghost use Rattle.rlsf_model_global.specs.Heap.{Lists};
 ghost use Rattle.rlsf_model_global.specs.Rows.{row_at};
 
 use crate::live_table::LiveTable;
-use crate::live_table::looks::Looks;
+use crate::live_table::looks::GhostLooks;
 use crate::moves::PagedTlsf;
 use rlsf_base::memory::{Addr, Layout};
 use rlsf_flex::GlobalTlsfOptions;
@@ -18,7 +18,7 @@ pub(crate) fn row_of<Options: GlobalTlsfOptions>(
     flex: &PagedTlsf<Options>,
     table: &LiveTable,
     addr: Addr,
-    looks: &mut Looks,
+    looks: &mut GhostLooks,
 ) -> Option<(Addr, Layout)>
     requires lists { Lists table.now.rows flex.now.state.machine }
     ensures row { result ≡ row_at (at addr) table.now.rows }

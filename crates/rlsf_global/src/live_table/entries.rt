@@ -10,26 +10,26 @@ use std::marker::{Model, Send, Sync};
 
 /// The entries in the order of their addresses.
 #[derive(Drop)]
-pub(crate) struct Entries {
+pub(crate) struct GhostEntries {
     pub(crate) ghost rows: { List Row },
 }
 
-const _: () = prove!(size_of::<Entries>() == 0);
+const _: () = prove!(size_of::<GhostEntries>() == 0);
 
-impl Model for Entries {
+impl Model for GhostEntries {
     ghost also_owns = { λ _. ftrue };
 }
 
-unsafe impl Send for Entries {}
+unsafe impl Send for GhostEntries {}
 
-unsafe impl Sync for Entries {}
+unsafe impl Sync for GhostEntries {}
 
-impl Entries {
+impl GhostEntries {
     /// Returns no entries.
-    pub(crate) fn new() -> Entries
+    pub(crate) fn new() -> GhostEntries
         ensures { result.rows ≡ [] }
     {
-        Entries {}
+        GhostEntries {}
     }
 
     /// Replaces the entries by others, which the entries before and three numbers determine.

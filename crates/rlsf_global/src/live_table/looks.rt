@@ -7,24 +7,24 @@ use std::marker::{Model, Send, Sync};
 
 /// How many codes were read or written.
 #[derive(Drop)]
-pub(crate) struct Looks {
+pub(crate) struct GhostLooks {
     ghost count: { ℕ },
 }
 
-impl Model for Looks {
+impl Model for GhostLooks {
     ghost also_owns = { λ _. ftrue };
 }
 
-unsafe impl Send for Looks {}
+unsafe impl Send for GhostLooks {}
 
-unsafe impl Sync for Looks {}
+unsafe impl Sync for GhostLooks {}
 
-impl Looks {
+impl GhostLooks {
     /// Creates a count of no codes.
-    pub(crate) fn new() -> Looks
+    pub(crate) fn new() -> GhostLooks
         ensures { result.count ≡ 0 }
     {
-        Looks {}
+        GhostLooks {}
     }
 
     /// Counts so many codes.

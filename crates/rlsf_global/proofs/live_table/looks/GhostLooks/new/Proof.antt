@@ -1,4 +1,4 @@
--- Shows that `new` makes entries of no bytes. Assumes `Logic`.
+-- Shows that `new` makes a count of no bytes, which is zero. Assumes `Logic`.
 use Rattle.std.proofs.Common.{[], ◌∷◌, refl}
 use mir.Val.{Val, vstruct, vnil}
 use base.Fml.{ftrue}
@@ -10,10 +10,10 @@ use denote.Shadow.{makes_shadow}
 use denote.Steps.{nothing}
 use denote.Triple.Walked.{says, Stays, walk_of, ends_at}
 use Rattle.std.proofs.raw_atomic.Walks.{proved}
-use Rattle.rlsf_global.specs.contracts.live_table.entries.Entries as entries
-use Rattle.rlsf_global.specs.contracts.live_table.entries.Entries.new as f
-use Rattle.rlsf_global.proofs.live_table.entries.Entries.new.Statement.{statement}
-use Rattle.rlsf_global.proofs.live_table.entries.Entries.new.Code as code
+use Rattle.rlsf_global.specs.contracts.live_table.looks.GhostLooks as looks
+use Rattle.rlsf_global.specs.contracts.live_table.looks.GhostLooks.new as f
+use Rattle.rlsf_global.proofs.live_table.looks.GhostLooks.new.Statement.{statement}
+use Rattle.rlsf_global.proofs.live_table.looks.GhostLooks.new.Code as code
 
 abbrev stayed : Stays f.ended.signature.params f.ended.kept
 stayed = tt
@@ -23,10 +23,10 @@ new_spec 𝓤 𝓛 𝓜 𝓡 wired =
     let c = f.clauses 𝓛 𝓜.mem 𝓡.returns in let W = walk_of 𝓛 f.ended stayed c in
     proved 𝓛 f.ended stayed c 𝓜 𝓡 tt f.Key.name code.function (code.unfolded 𝓤 𝓛.H 𝓜 𝓡 wired) (λ κs. tt) (λ κs. tt) (λ κs qs bounds a g are.
     let y : W.Ghost = ((κs, qs, bounds, a, tt), g) in
-    let zero : (entries.the_row).Denot = record { rows = [] } in let v : Val = vstruct vnil in
+    let zero : (looks.the_row).Denot = record { count = 0 } in let v : Val = vstruct vnil in
     qed 𝓛 ((‵ ftrue ⊛ ‵ ftrue) ∷ ‵ ftrue ∷ []) ∵ keep ! [] $
     enter ! _ _ _ _ _ $ alloc_all ! (λ l. pass_all ! refl tt $
     sets ! (agg ! (no_more !)) refl (tt, tt) $ returns ! (look_at ! 0 refl) $ free_all ! refl $
     suffices ! _ (ends_at 𝓛 f.ended stayed c y v zero tt tt) $ says ! refl $
-    use0 𝓛 (‵ ((entries.the_row).own_val zero (v ∷ []))) (makes_shadow 𝓛 ((entries.the_row).own_val zero (v ∷ [])) ((λ _. (tt, tt)), tt) ((tt, (refl, tt)), tt)) $
+    use0 𝓛 (‵ ((looks.the_row).own_val zero (v ∷ []))) (makes_shadow 𝓛 ((looks.the_row).own_val zero (v ∷ [])) ((λ _. (tt, tt)), tt) ((tt, (refl, tt)), tt)) $
     nothing ! $ nothing ! $ done !))

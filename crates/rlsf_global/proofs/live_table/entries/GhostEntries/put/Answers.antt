@@ -1,6 +1,6 @@
 use Rattle.std.proofs.Common.{◌∙◌, ap}
 use Rattle.rlsf_global.proofs.RowNumbers.{put_from, put_from-row}
-use Rattle.rlsf_global.proofs.live_table.entries.Entries.put.Goals as goal
+use Rattle.rlsf_global.proofs.live_table.entries.GhostEntries.put.Goals as goal
 
 pub returns : goal.returns
 returns c =

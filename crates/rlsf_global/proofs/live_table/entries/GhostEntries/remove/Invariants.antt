@@ -1,5 +1,5 @@
 use Rattle.rlsf_model_global.specs.Rows.{without_row}
-use Rattle.rlsf_global.proofs.live_table.entries.Entries.remove.Given as goal
+use Rattle.rlsf_global.proofs.live_table.entries.GhostEntries.remove.Given as goal
 
 abbrev pub ghost-advance : goal.ghost-advance
 ghost-advance a = λ x y z. without_row x

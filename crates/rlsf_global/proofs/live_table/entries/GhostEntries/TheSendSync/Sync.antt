@@ -1,7 +1,7 @@
 -- A `&` to the entries may go to another thread.
 use denote.Param.Send.{IsSync, part_keyless}
-use Rattle.rlsf_global.specs.contracts.live_table.entries.Entries.{the_row}
-use Rattle.rlsf_global.proofs.live_table.entries.Entries.TheSendSync.Send.{send}
+use Rattle.rlsf_global.specs.contracts.live_table.entries.GhostEntries.{the_row}
+use Rattle.rlsf_global.proofs.live_table.entries.GhostEntries.TheSendSync.Send.{send}
 
 pub sync : IsSync the_row
 sync = record { shared = λ d b o κ q. part_keyless the_row send q d b o }
