@@ -1,8 +1,8 @@
 """Counts the instructions of a step of a `GlobalTlsf`, and prints a row of docs/THREADS.md.
 
 It counts the steps of `rlsf_bench_threads` with one thread, as callgrind counts them: the difference of two runs, one of which does more steps.
-Then it counts each step with 100,000 live payloads by itself, from one `Mutex::lock` to the next, and prints the mean and the longest.
-`rt run` proves and builds the program; --quick takes the one that is there, and counts no single steps."""
+Then it counts each step with 100,000 live payloads by itself, from one `Mutex::lock` to the next, and prints the mean and the longest:
+that takes some minutes. `rt run` proves and builds the program; --quick takes the one that is there, and counts no single steps."""
 import subprocess
 
 from measuring.bench import instructions, run_once, there
