@@ -106,7 +106,8 @@ pub record IsLockedUntouched (before after : LockedContents) : Type 0 where
 
 -- ---- what a call keeps in every case
 
--- of the table of live addresses: how many codes a call reads or writes at most
+-- Of the table of live addresses: how many codes a call reads or writes at most. The zeros aren't counted that an allocation writes to all
+-- codes when it makes them, since the system refused them before.
 abbrev pub LooksAtMost : ℕ → LockedContents → LockedContents → Type 0
 LooksAtMost most before after = after.looks ≤ before.looks + most
 
