@@ -19,4 +19,3 @@ pub mod Sizes
 pub mod Space
 pub mod Steps
 pub mod UnitPayload
-pub mod UnitTail

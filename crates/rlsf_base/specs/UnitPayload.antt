@@ -1,5 +1,5 @@
--- Complete units that left a memory, by a pointer to them, with their ticket.
-use Rattle.std.specs.Prelude.{◌≡◌, ℕ, ◌/◌, ◌%◌}
+-- Payloads of complete units that left a memory, by a pointer, with their ticket. Their first bytes may stay with their owner.
+use Rattle.std.specs.Prelude.{◌≡◌, ℕ, ◌-◌, ◌/◌, ◌%◌, ◌≤◌}
 use base.Fml.{Fml, fsep}
 use denote.RawPtr.{Ptr, room_for, ◌+ₚ◌}
 use Rattle.rlsf_base.specs.declared.memory.view.View.{View}
@@ -19,6 +19,10 @@ pub record IsPlaced (home : Home) (ptr : Ptr) (start len : ℕ) : Type 0 where
   pub grid : home.view.shift % 16 ≡ 0
   pub aligned : (start % 16 ≡ 0) × (len % 16 ≡ 0)
 
--- the ticket for so many bytes at an address, of the alignment 16, and room for their units at a pointer
-abbrev pub unit_payload_owns : ℕ → ℕ → ℕ → Ptr → ℕ → Fml
-unit_payload_owns name key start ptr len = fsep (ticket_owns name key (extent start len 16)) (room_for (units_ty (len / 16)) ptr)
+-- so many bytes can be the first ones of a payload of len bytes that stay with their owner: they are complete units
+abbrev pub IsKept : ℕ → ℕ → Type 0
+IsKept kept len = (kept ≤ len) × (kept % 16 ≡ 0)
+
+-- the ticket for so many bytes at an address, of the alignment 16, and room for the units behind the first ones at a pointer
+abbrev pub unit_payload_owns : ℕ → ℕ → ℕ → Ptr → ℕ → ℕ → Fml
+unit_payload_owns name key start ptr len kept = fsep (ticket_owns name key (extent start len 16)) (room_for (units_ty ((len - kept) / 16)) (ptr +ₚ kept))

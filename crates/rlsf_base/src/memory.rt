@@ -20,7 +20,6 @@ mod part;
 mod range;
 mod raw_parts;
 mod unit_payload;
-mod unit_tail;
 mod view;
 pub(crate) mod zeroed;
 
@@ -30,7 +29,6 @@ pub use open_memory::OpenMemory;
 pub use part::Part;
 pub use range::{Addr, Range};
 pub use unit_payload::UnitPayload;
-pub use unit_tail::UnitTail;
 pub use view::View;
 
 /// The reason why a `Memory` was not created. Each error has a number.

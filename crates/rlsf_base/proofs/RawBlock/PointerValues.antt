@@ -1,10 +1,10 @@
--- A pointer and a length as machine values: what is owned determines them, and is made of nothing. And room at a pointer as units of its block. Assumes `Logic`.
-use Rattle.std.proofs.Common.{◌≡◌, ℕ, ◌+◌, ◌*◌, ◌^◌, ◌<◌, List, [], ◌∷◌, ◌++◌, refl, subst, ◌∙◌, arith, lit<, w64}
+-- A pointer and a length as machine values: what is owned determines them, and is made of nothing. And the room that a payload owns at its pointer. Assumes `Logic`.
+use Rattle.std.proofs.Common.{◌≡◌, ℕ, ◌+◌, ◌-◌, ◌/◌, ◌^◌, ◌<◌, List, [], ◌∷◌, ◌++◌, refl, ap, ◌∙◌, arith, lit<, w64}
 use seplogic.Ra.Ura.{Ura}
 use mir.Syntax.{ty_int, ty_ptr, ty_struct, tcons, tnil}
 use mir.Val.{Val, vint, vstruct, vcons, vnil, of_list}
-use base.Logic.{ent, emp, id⊢}
-use base.Fml.{Fml, froom}
+use base.Logic.{ent, emp}
+use base.Fml.{Fml}
 use types.Logic.{Logic, sem}
 use denote.RattleType.{RattleType}
 use denote.Builtin.{usize}
@@ -12,9 +12,9 @@ use denote.RawPtr.{Ptr, RawPtr, block_ptr, null_ptr, ptr_val, room_for, ◌+ₚ�
 use denote.Shadow.{shadow, makes_shadow}
 use denote.Struct.Struct.{Struct}
 use Rattle.core.proofs.cell.Inside.{Good}
-use Rattle.rlsf_base.specs.Steps.Ownership.{units_ty, units_own}
+use Rattle.rlsf_base.specs.Steps.Ownership.{units_ty}
 use Rattle.rlsf_base.specs.declared.memory.view.View.{View}
-use Rattle.rlsf_base.proofs.RawBlock.Values.{base_val, mark_val, three_val}
+use Rattle.rlsf_base.proofs.RawBlock.Values.{base_val}
 
 -- a struct by its fields alone: what it owns does not read its name
 abbrev plainly : List RattleType → RattleType
@@ -41,20 +41,15 @@ pub ptr_typed : (p : Ptr) → Good ty_ptr (ptr_val p)
 ptr_typed (block_ptr b o) = (tt, tt)
 ptr_typed null_ptr = (tt, record { fits = lit< tt })
 
--- room at a place of a block is that of the units there
-pub units_at : {M : Type 1} {𝓤 : Ura M} (𝓛 : Logic 𝓤) (at : Ptr) (first count k : ℕ) → first * 16 ≡ k
-    → ent 𝓤 (sem 𝓛 (room_for (units_ty count) (at +ₚ k))) (sem 𝓛 (units_own at first count))
-units_at {𝓤 = 𝓤} 𝓛 (block_ptr b o) first count k e =
-    let same : o + k ≡ first * 16 + o = omega (arith, e) in
-    subst (λ (n : ℕ). ent 𝓤 (sem 𝓛 (froom (units_ty count) b (o + k))) (sem 𝓛 (froom (units_ty count) b n))) same (id⊢ 𝓤 _)
-units_at {𝓤 = 𝓤} 𝓛 null_ptr first count k e = id⊢ 𝓤 _
+-- a pointer is at its own place
+pub unmoved : (p : Ptr) → p +ₚ 0 ≡ p
+unmoved (block_ptr b o) = let e : o + 0 ≡ o = omega arith in ap (λ (k : ℕ). block_ptr b k) e
+unmoved null_ptr = refl
 
--- a tuple of a pointer with a length and two owners that take no bytes
-pub three_typed : (p : Ptr) (n : ℕ) → (n < 2 ^ 64)
-    → Good (ty_struct [] (tcons (ty_struct [] (tcons ty_ptr (tcons (ty_int w64) tnil)))
-    (tcons (ty_struct [] (tcons (ty_struct [] tnil) tnil)) (tcons (ty_struct [] (tcons (ty_struct [] tnil) tnil)) tnil)))) (three_val (spot_val p n) mark_val mark_val)
-three_typed (block_ptr b o) n f = (tt, ((tt, (record { fits = f }, tt)), ((tt, tt), ((tt, tt), tt))))
-three_typed null_ptr n f = (tt, ((record { fits = lit< tt }, (record { fits = f }, tt)), ((tt, tt), ((tt, tt), tt))))
+-- a payload of which nothing is kept owns the room of all of its units
+pub room-complete : (p : Ptr) (len kept : ℕ) → kept ≡ 0 → room_for (units_ty ((len - kept) / 16)) (p +ₚ kept) ≡ room_for (units_ty (len / 16)) p
+room-complete p len kept none =
+    let all : len - kept ≡ len = omega (arith, none) in (λ i. room_for (units_ty (all i / 16)) (p +ₚ none i)) ∙ ap (λ (q : Ptr). room_for (units_ty (len / 16)) q) (unmoved p)
 
 -- the view of a memory: a struct of a pointer, and a number
 abbrev pub view_val : Ptr → ℕ → Val

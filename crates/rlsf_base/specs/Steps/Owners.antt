@@ -40,9 +40,9 @@ abbrev pub IsPartOf : Bytes → Bytes → ℕ → ℕ → Type 0
 IsPartOf b part place len =
     Owns part b.at place (bytes_in b place len) (shifted (place - b.skip) b.out) b.units × (part.of ≡ (b.skip, length b.bytes))
 
--- the count units from the unit first on that left an owner
-abbrev pub AreUnitsOf : Bytes → Units → ℕ → ℕ → Type 0
-AreUnitsOf b units first count = (units.at ≡ b.at) × (units.first ≡ first) × (units.count ≡ count) × (units.of ≡ (b.skip, length b.bytes))
+-- the count units from the unit first on that left an owner, and which memory they are of
+abbrev pub AreUnitsOf : Bytes → Units → ℕ → ℕ → ℕ × ℕ → Type 0
+AreUnitsOf b units first count of = (units.at ≡ b.at) × (units.first ≡ first) × (units.count ≡ count) × (units.of ≡ of)
 
 -- an owner has these values afterwards. Its place and its units stay, and its changes may be others
 abbrev pub Gets : Bytes → Bytes → List ℕ → Type 0

@@ -1,28 +1,18 @@
--- What payloads of complete units and their tails consist of: where the units are, the units, and the ticket.
+-- What payloads of complete units consist of: where the units are, the units, and the ticket.
 use Rattle.std.specs.Prelude.{◌≡◌, ℕ, ◌+◌, ◌*◌}
 use denote.RawPtr.{◌+ₚ◌}
 use Rattle.rlsf_base.specs.OpenSpace.{Home, place_in}
-use Rattle.rlsf_base.specs.UnitPayload.{IsPlaced, pointer_to}
 use Rattle.rlsf_base.specs.declared.memory.block.Units.{Units}
 use Rattle.rlsf_base.specs.declared.memory.ledger.Ticket.{Ticket}
 use Rattle.rlsf_base.specs.declared.memory.unit_payload.Spot.{Spot}
-use Rattle.rlsf_base.specs.declared.memory.unit_tail.TailSpot.{TailSpot}
-
--- where the units of the len bytes at an address are
-abbrev pub IsSpotAt : Home → ℕ → ℕ → Spot → Type 0
-IsSpotAt home start len spot = (spot.ptr ≡ pointer_to home.view start) × (spot.len ≡ len) × IsPlaced home spot.ptr start len
-
--- these units
-abbrev pub AreUnitsAt : Home → ℕ → ℕ → Units → Type 0
-AreUnitsAt home start len units = (units.at ≡ home.view.base.ptr) × (units.first * 16 ≡ place_in home.view start) × (units.count * 16 ≡ len)
 
 -- where the units behind the first bytes of a payload of len bytes are, with the length of the complete payload
-abbrev pub IsTailSpot : Units → ℕ → TailSpot → Type 0
-IsTailSpot units len spot = (spot.ptr ≡ units.at +ₚ units.first * 16) × (spot.len ≡ len)
+abbrev pub IsSpotAt : Units → ℕ → Spot → Type 0
+IsSpotAt units len spot = (spot.ptr ≡ units.at +ₚ units.first * 16) × (spot.len ≡ len)
 
 -- the units behind the first `kept` of the len bytes at an address
-abbrev pub AreTailUnits : Home → ℕ → ℕ → ℕ → Units → Type 0
-AreTailUnits home start len kept units =
+abbrev pub AreUnitsAt : Home → ℕ → ℕ → ℕ → Units → Type 0
+AreUnitsAt home start len kept units =
     (units.at ≡ home.view.base.ptr) × (units.first * 16 ≡ place_in home.view start + kept) × (units.count * 16 + kept ≡ len)
 
 -- the ticket of a name and a key for the len bytes at an address, of the alignment 16

@@ -51,7 +51,7 @@ pub(crate) struct Units {
     ghost at: { Ptr },
     ghost first: { ℕ },
     ghost count: { ℕ },
-    // Where the bytes of the owner begin from which they were taken, and how many it has.
+    // Where the bytes of their memory begin, and how many it has.
     ghost of: { ℕ × ℕ },
 }
 
@@ -372,11 +372,12 @@ impl Bytes {
     }
 
     /// Takes the `count` units from the unit `first` of the block on out of this owner, as room that is aligned to 16. Their bytes may
-    /// be raw.
+    /// be raw. `of` names the memory that they are of.
     #[inline(always)]
     pub(crate) fn take_units(&mut self, first: usize, count: usize) -> Units
+        ghost of: { ℕ × ℕ }
         requires { HasOwn self.old (first * 16) (count * 16) × (first + count ≤ self.old.units) }
-        ensures { AreUnitsOf self.old result first count × GivesOut self.old self.new (first * 16) (count * 16) }
+        ensures { AreUnitsOf self.old result first count of × GivesOut self.old self.new (first * 16) (count * 16) }
     {
         Units { mark: PhantomData }
     }

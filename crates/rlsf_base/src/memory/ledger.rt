@@ -3,9 +3,8 @@ ghost use Rattle.std.specs.Prelude.{◌≡◌, ℕ, List, [], ◌∷◌, ◌++�
 ghost use Rattle.std.specs.Borrow.{sem};
 ghost use Rattle.rlsf_base.specs.Ledger.{Entry, Extent, entry_of, extent, IsIssued, ledger_owns, ticket_owns};
 
-use super::block::{Bytes, Units};
+use super::block::Units;
 use super::unit_payload::UnitPayload;
-use super::unit_tail::UnitTail;
 use super::view::View;
 use std::marker::{Model, PhantomData, Send, Sync};
 
@@ -123,42 +122,19 @@ impl Ticket {
 }
 
 impl Ticket {
-    ghost use Rattle.std.specs.Prelude.{◌*◌};
-    ghost use Rattle.rlsf_base.specs.OpenSpace.{place_in};
-    ghost use Rattle.rlsf_base.specs.Piece.{home_from};
-    ghost use Rattle.rlsf_base.specs.UnitPayload.{IsPlaced, pointer_to};
-
-    // Returns the units that were taken of a part, of which `rest` is left, with this ticket for them, as one payload.
-    pub(crate) fn with_units(
-        self,
-        view: View,
-        place: usize,
-        len: usize,
-        units: Units,
-        rest: Bytes,
-    ) -> UnitPayload
-        requires units { (units.at ≡ view.base.ptr) × (units.first * 16 ≡ place) × (units.count * 16 ≡ len) }
-        requires ticket { (self.len ≡ len) × (self.align ≡ 16) × (place ≡ place_in view self.addr) }
-        requires placed { IsPlaced (home_from view rest.of) (pointer_to view self.addr) self.addr self.len }
-        ensures place { (result.home ≡ home_from view rest.of) × (result.start ≡ self.addr) × (result.len ≡ len) }
-        ensures ticket { (result.name ≡ self.name) × (result.key ≡ self.key) }
-    {
-        let Ticket { mark: _ } = self;
-        let Units { mark: _ } = units;
-        let Bytes { mark: _ } = rest;
-        let ptr = unsafe { view.base.ptr.add(place) };
-        UnitPayload { ptr, len }
-    }
-}
-
-impl Ticket {
     ghost use Rattle.std.specs.Prelude.{◌+◌, ◌-◌, ◌*◌, ◌≤◌};
     ghost use Rattle.rlsf_base.specs.OpenSpace.{place_in};
     ghost use Rattle.rlsf_base.specs.Piece.{home_from};
     ghost use Rattle.rlsf_base.specs.UnitPayload.{IsPlaced, pointer_to};
 
     // Returns the last units of the `len` bytes at a place of the block, with this ticket for all of these bytes.
-    pub(crate) fn with_tail(self, view: View, place: usize, len: usize, units: Units) -> UnitTail
+    pub(crate) fn with_units(
+        self,
+        view: View,
+        place: usize,
+        len: usize,
+        units: Units,
+    ) -> UnitPayload
         requires units { (units.at ≡ view.base.ptr) × (units.first * 16 + units.count * 16 ≡ place + len) × (units.count * 16 ≤ len) }
         requires ticket { (self.len ≡ len) × (self.align ≡ 16) × (place ≡ place_in view self.addr) }
         requires placed { IsPlaced (home_from view units.of) (pointer_to view self.addr) self.addr self.len }
@@ -168,6 +144,6 @@ impl Ticket {
         let Ticket { mark: _ } = self;
         let Units { mark: _ } = units;
         let ptr = unsafe { view.base.ptr.add(place) };
-        UnitTail { ptr, len }
+        UnitPayload { ptr, len }
     }
 }

@@ -1,5 +1,5 @@
-//! Payloads of complete units that are known by a pointer alone.
-ghost use Rattle.std.specs.Prelude.{◌≡◌, ℕ, ◌+◌, ◌%◌, ◌↔◌, IsTrue, false, length, set};
+//! Payloads of complete units that are known by a pointer alone, and of which the first bytes may stay with their owner.
+ghost use Rattle.std.specs.Prelude.{◌≡◌, ℕ, ◌+◌, ◌-◌, ◌%◌, ◌↔◌, IsTrue, false, length, set};
 ghost use Rattle.std.specs.Int.{w64, from_le_bytes};
 ghost use Rattle.rlsf_base.specs.Ledger.{IsIssued, entry_of, extent};
 ghost use Rattle.rlsf_base.specs.OpenSpace.{HasUnits, Home, home_of, IsAway, IsOwned, IsReadable, out_raw, out_without};
@@ -7,7 +7,7 @@ ghost use Rattle.rlsf_base.specs.Piece.{piece_range, IsUnits};
 ghost use Rattle.rlsf_base.specs.Range.{LiesIn, range_at};
 ghost use Rattle.rlsf_base.specs.Space.{word_at};
 ghost use Rattle.rlsf_base.specs.Steps.UnitParts.{AreUnitsAt, IsSpotAt, IsTicketFor};
-ghost use Rattle.rlsf_base.specs.UnitPayload.{IsPlaced};
+ghost use Rattle.rlsf_base.specs.UnitPayload.{IsKept, IsPlaced};
 
 use super::block::{Base, Units};
 use super::ledger::{Ledger, Ticket};
@@ -15,8 +15,9 @@ use super::open_memory::OpenMemory;
 use super::part::Part;
 use std::marker::{Model, PhantomData};
 
-/// Complete units of 16 bytes that left a memory, by a pointer to them. It owns their room, which is aligned to 16, and the
-/// ticket for them. It takes two words: their address is that of the ticket, which takes no space.
+/// A payload of complete units of 16 bytes that left a memory, by a pointer to it. Its first `kept` bytes stay with their owner, so that it
+/// can grow or shrink in place. It owns the room of the units behind them, which is aligned to 16, and the ticket for the complete payload.
+/// It takes two words: its address is that of the ticket, which takes no space.
 pub struct UnitPayload {
     /// Points to the first byte.
     pub ptr: *mut u8,
@@ -26,16 +27,18 @@ pub struct UnitPayload {
     pub ghost name: { ℕ },
     pub ghost key: { ℕ },
     pub ghost start: { ℕ },
+    pub ghost kept: { ℕ },
     pub ghost placed: { IsPlaced home ptr start len },
+    pub ghost within: { IsKept kept len },
 }
 
 impl Model for UnitPayload {
     ghost use Rattle.rlsf_base.specs.UnitPayload.{unit_payload_owns};
 
-    ghost also_owns = { λ p. unit_payload_owns p.name p.key p.start p.ptr p.len };
+    ghost also_owns = { λ p. unit_payload_owns p.name p.key p.start p.ptr p.len p.kept };
 }
 
-// Where units are, and how many bytes they have. It owns nothing.
+// Where the units are, and how many bytes the payload has. It owns nothing.
 #[derive(Clone, Copy)]
 struct Spot {
     ptr: *mut u8,
@@ -43,11 +46,13 @@ struct Spot {
 }
 
 impl UnitPayload {
-    /// Returns where the units are, the units, and the ticket.
-    fn into_parts(self) -> (Spot, Units, Ticket)
-        ensures { IsSpotAt self.home self.start self.len result.0 × AreUnitsAt self.home self.start self.len result.1 × IsTicketFor self.name self.key self.start self.len result.2 }
+    /// Returns where the units behind the first `kept` bytes are, these units, and the ticket.
+    fn into_parts(self, kept: usize) -> (Spot, Units, Ticket)
+        requires { kept ≡ self.kept }
+        ensures { IsSpotAt result.1 self.len result.0 × AreUnitsAt self.home self.start self.len self.kept result.1 × IsTicketFor self.name self.key self.start self.len result.2 }
     {
         let UnitPayload { ptr, len } = self;
+        let ptr = unsafe { ptr.add(kept) };
         (
             Spot { ptr, len },
             Units { mark: PhantomData },
@@ -66,14 +71,15 @@ impl Part {
         requires units { IsUnits (piece_range self) }
         requires aligned { self.home.view.shift % 16 ≡ 0 }
         requires ticket { (ticket.addr ≡ self.start) × (ticket.len ≡ length self.bytes) × (ticket.align ≡ 16) }
-        ensures place { (result.home ≡ self.home) × (result.start ≡ self.start) × (result.len ≡ length self.bytes) }
+        ensures place { (result.home ≡ self.home) × (result.start ≡ self.start) × (result.len ≡ length self.bytes) × (result.kept ≡ 0) }
         ensures ticket { (result.name ≡ ticket.name) × (result.key ≡ ticket.key) }
     {
         let (view, range) = (self.view, self.range);
         let mut bytes = self.into_bytes();
         let place = view.place(range.start);
         let units = bytes.take_units(place / 16, range.len / 16);
-        ticket.with_units(view, place, range.len, units, bytes)
+        bytes.end();
+        ticket.with_units(view, place, range.len, units)
     }
 }
 
@@ -85,8 +91,8 @@ impl OpenMemory {
         self.shift % 16 == 0
     }
 
-    /// Puts the units of a payload back, redeems its ticket, and returns the word that lies `behind` bytes past the payload's
-    /// end. The units are then raw. Counts one touch. Nothing else changes.
+    /// Puts the units of a payload behind its first `kept` bytes back, redeems its ticket, and returns the word that lies `behind` bytes
+    /// past the payload's end. These units are then raw; the bytes before them stay out. Counts one touch. Nothing else changes.
     ///
     /// The payload must come from this memory, with a ticket of `ledger`. The word must be here. `behind` is a multiple of 8.
     #[inline(always)]
@@ -94,35 +100,76 @@ impl OpenMemory {
         &mut self,
         ledger: &mut Ledger,
         payload: UnitPayload,
+        kept: usize,
         behind: usize,
     ) -> u64
         requires home { payload.home ≡ home_of self.old }
         requires name { payload.name ≡ ledger.old.name }
+        requires kept { kept ≡ payload.kept }
         requires readable { IsIssued ledger.old.entries payload.key (extent payload.start payload.len 16) → IsReadable self.old (payload.start + (payload.len + behind)) }
         ensures issued { IsIssued ledger.old.entries payload.key (extent payload.start payload.len 16) }
         ensures ledger { (ledger.new.name ≡ ledger.old.name) × (ledger.new.entries ≡ set ledger.old.entries payload.key (entry_of (extent payload.start payload.len 16) false)) }
         ensures word { result ≡ word_at self.old (payload.start + (payload.len + behind)) }
-        ensures away { IsAway self.old (range_at payload.start payload.len) }
+        ensures away { IsAway self.old (range_at (payload.start + payload.kept) (payload.len - payload.kept)) }
         ensures start { self.new.start ≡ self.old.start }
         ensures bytes { self.new.bytes ≡ self.old.bytes }
         ensures touches { self.new.touches ≡ self.old.touches + 1 }
         ensures copied { self.new.copied ≡ self.old.copied }
         ensures view { self.new.view ≡ self.old.view }
-        ensures out { self.new.out ≡ out_raw self.old (range_at payload.start payload.len) }
+        ensures out { self.new.out ≡ out_raw self.old (range_at (payload.start + payload.kept) (payload.len - payload.kept)) }
     {
-        let (spot, units, ticket) = payload.into_parts();
+        let (spot, units, ticket) = payload.into_parts(kept);
         ledger.redeem(ticket);
         let from = Base::at(spot.ptr);
-        let word = word_of(self.bytes.slice_ahead(from, &units, spot.len + behind, 8));
+        let word = word_of(
+            self.bytes
+                .slice_ahead(from, &units, spot.len - kept + behind, 8),
+        );
         self.touch();
         self.bytes.put_units(units);
         word
+    }
+
+    /// Takes the units of the `len` bytes at `start` out of the memory but for the first `kept` bytes, and returns them as a payload with
+    /// the ticket for all of these bytes. Their bytes may be raw. Nothing else changes.
+    ///
+    /// The memory must have units. The bytes must lie in it, and begin, end and be parted at multiples of 16. None of those behind the
+    /// first `kept` may be out.
+    #[inline(always)]
+    pub fn take_unit_payload(
+        &mut self,
+        ticket: Ticket,
+        start: usize,
+        len: usize,
+        kept: usize,
+    ) -> UnitPayload
+        requires place { LiesIn (range_at start len) self.old.start (length self.old.bytes) }
+        requires units { (start % 16 ≡ 0) × (len % 16 ≡ 0) }
+        requires kept { IsKept kept len }
+        requires aligned { HasUnits self.old }
+        requires own { IsOwned self.old (range_at (start + kept) (len - kept)) }
+        requires ticket { (ticket.addr ≡ start) × (ticket.len ≡ len) × (ticket.align ≡ 16) }
+        ensures place { (result.home ≡ home_of self.old) × (result.start ≡ start) × (result.len ≡ len) × (result.kept ≡ kept) }
+        ensures ticket { (result.name ≡ ticket.name) × (result.key ≡ ticket.key) }
+        ensures start { self.new.start ≡ self.old.start }
+        ensures bytes { self.new.bytes ≡ self.old.bytes }
+        ensures touches { self.new.touches ≡ self.old.touches }
+        ensures copied { self.new.copied ≡ self.old.copied }
+        ensures view { self.new.view ≡ self.old.view }
+        ensures out { self.new.out ≡ out_without self.old (range_at (start + kept) (len - kept)) }
+    {
+        let view = self.view();
+        let place = view.place(start);
+        let units = self
+            .bytes
+            .take_units((place + kept) / 16, (len - kept) / 16);
+        ticket.with_units(view, place, len, units)
     }
 }
 
 // Returns the word of eight bytes, the least significant byte first.
 #[inline(always)]
-pub(crate) fn word_of(bytes: &[u8]) -> u64
+fn word_of(bytes: &[u8]) -> u64
     requires { length bytes.now ≡ 8 }
     ensures { result ≡ from_le_bytes w64 bytes.now }
 {

@@ -55,7 +55,7 @@ take_units_spec 𝓤 𝓛 𝓜 𝓡 wired =
     in_a_block ! d.at (λ p. bytes_own p d.skip d.bytes d.out d.units) (id⊢ 𝓤 (never 𝓤)) (λ b o e. fsplit ! $ flt_l ! (λ small.
     let i = first * 16 - d.skip in let cs = left i (count * 16) d.out in
     let new : (owner.the_row).Denot = record { mark = d.mark; at = d.at; skip = d.skip; bytes = d.bytes; out = cs; of = d.of; units = d.units } in
-    let run : (units.the_row).Denot = record { mark = record {}; at = d.at; first = first; count = count; of = (d.skip, length d.bytes) } in
+    let run : (units.the_row).Denot = record { mark = record {}; at = d.at; first = first; count = count; of = g } in
     -- [the bytes; the ways; the mark; its cell; the open borrow; ..]
     fsplit ! $ use2 𝓛 (‵ (froom (units_ty count) b (first * 16 + o)) ⊛ ‵ (held (kept_at cs) 0 d.bytes b (d.skip + o)) ⊛ ‵
     (ways_of (own_unit cs d.skip (length d.bytes)) 0 d.units b o))

@@ -7,7 +7,7 @@ use Rattle.rlsf_base.specs.Steps.Ownership.{units_for}
 use Rattle.rlsf_base.specs.Changes.{IsOwn}
 use Rattle.rlsf_base.proofs.RawBlock.Units.{units_in-aligned}
 use Rattle.rlsf_base.proofs.Lending.Present.{own-in}
-use Rattle.rlsf_base.proofs.memory.open_memory.OpenMemory.take_unit_tail.Goals as goal
+use Rattle.rlsf_base.proofs.memory.open_memory.OpenMemory.take_unit_payload.Goals as goal
 
 pub take_units-units-requires : goal.take_units-units-requires
 take_units-units-requires c =
