@@ -13,6 +13,7 @@ pub mod Read
 pub mod Reallocated
 pub mod Released
 pub mod ResizedParts
+pub mod ResizedUnits
 pub mod Rewritten
 pub mod Settled
 pub mod Shown
@@ -22,6 +23,5 @@ pub mod ThinTickets
 pub mod ThinValues
 pub mod Tickets
 pub mod UnitPayloads
-pub mod UnitTails
 pub mod UnknownAlign
 pub mod WrittenBytes

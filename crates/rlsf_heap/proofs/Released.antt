@@ -84,7 +84,7 @@ pub raw_given : {fllen sllen : ℕ} {m n : Space} {x : Table} {j : State} {es : 
 raw_given {fllen} {sllen} {m} {n} {x} {j} {es} {k} {e} p start bytes out view grow =
     let same : read_from n j ≡ read_from m j = read_from-same m n j start bytes in
     let b : IsReturned fllen sllen m n x (read_from m j) es k e 0 =
-    record { shown = p; within = omega arith; same = start; bytes = bytes; out = out ∙ ap (out_raw m) (all_behind e.addr e.len) } in record {
+    record { shown = p; within = omega arith; same = start; bytes = bytes; out = out ∙ ap (out_raw m) (sym (all_behind e.addr e.len 0 refl)) } in record {
       shown = p;
       used = block p;
       begins = refl;

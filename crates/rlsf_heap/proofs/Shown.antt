@@ -92,5 +92,5 @@ module _ {fllen sllen : ℕ} {m n : Space} {table : Table} {s : State} {es : Lis
       ∙ ap is_own (changed-there raw m.out (e.addr + kept - m.start) (e.len - kept) (a - m.start) (omega (arith, lo, (lies b.shown).0)) (omega (arith, hi, lo, (lies b.shown).0)))
 
 -- all bytes are those behind the first 0
-pub all_behind : (start len : ℕ) → range_at start len ≡ range_at (start + 0) (len - 0)
-all_behind start len = λ i. range_at (let e : start ≡ start + 0 = omega arith in e i) (let e : len ≡ len - 0 = omega arith in e i)
+pub all_behind : (start len kept : ℕ) → kept ≡ 0 → range_at (start + kept) (len - kept) ≡ range_at start len
+all_behind start len kept none = λ i. range_at (let e : start + kept ≡ start = omega (arith, none) in e i) (let e : len - kept ≡ len = omega (arith, none) in e i)

@@ -1,7 +1,6 @@
 -- Payloads of complete units, as contracts see them.
 use Rattle.std.specs.Prelude.{◌≡◌, ◌≢◌, ℕ, ◌+◌, ◌-◌, ◌%◌, Option, Some, None, Result, Ok, Err}
 use Rattle.rlsf_base.specs.declared.memory.unit_payload.UnitPayload.{UnitPayload}
-use Rattle.rlsf_base.specs.declared.memory.unit_tail.UnitTail.{UnitTail}
 use Rattle.rlsf_base.specs.Range.{range_at}
 use Rattle.rlsf_base.specs.Rounding.{round32}
 use Rattle.rlsf_model.specs.Callers.{align_at}
@@ -13,12 +12,12 @@ use Rattle.rlsf_heap.specs.Kept.{KeepsBytesBeside}
 abbrev pub heap_of : UnitPayload → Identity
 heap_of p = record { home = p.home; ledger = p.name }
 
--- which heap a payload is of, whose first bytes are out
-abbrev pub heap_of_tail : UnitTail → Identity
-heap_of_tail p = record { home = p.home; ledger = p.name }
+-- a payload is of a heap, and complete: none of its bytes stay with their owner
+abbrev pub IsCompleteOf : UnitPayload → Identity → Type 0
+IsCompleteOf p heap = (heap_of p ≡ heap) × (p.kept ≡ 0)
 
 -- the address of a payload that has another size, or none if it kept its own
-abbrev pub stayed_at : Result UnitTail UnitTail → Option ℕ
+abbrev pub stayed_at : Result UnitPayload UnitPayload → Option ℕ
 stayed_at (Ok p) = Some p.start
 stayed_at (Err p) = None
 
@@ -37,8 +36,8 @@ GivesUnits h = h.home.view.shift % 16 ≡ 0
 
 -- what an allocated payload of units is
 pub record IsUnitAllocated (before after : HeapView) (size : ℕ) (p : UnitPayload) : Type 0 where
-  -- it is of this heap
-  pub identity : heap_of p ≡ before.identity
+  -- it is of this heap, and complete
+  pub complete : IsCompleteOf p before.identity
   -- it has the length for the size
   pub long : p.len ≡ payload_len size
   -- it is live
@@ -50,30 +49,30 @@ pub record IsUnitAllocated (before after : HeapView) (size : ℕ) (p : UnitPaylo
   -- one more payload is live
   pub count : live_count after.state ≡ live_count before.state + 1
 
--- what the end of a payload of units is, whose first bytes are out, once the payload has a length
-pub record IsTail (heap : Identity) (was : UnitTail) (len : ℕ) (p : UnitTail) : Type 0 where
+-- a payload of units has a length, where it was
+pub record IsInPlace (heap : Identity) (was : UnitPayload) (len : ℕ) (p : UnitPayload) : Type 0 where
   -- it is of this heap
-  pub identity : heap_of_tail p ≡ heap
-  -- the payload is where it was
+  pub identity : heap_of p ≡ heap
+  -- it is where it was
   pub start : p.start ≡ was.start
   -- and so is its pointer
   pub ptr : p.ptr ≡ was.ptr
-  -- as many first bytes are out
+  -- as many first bytes stay with their owner
   pub kept : p.kept ≡ was.kept
   -- it has the length
   pub long : p.len ≡ len
 
 -- a payload of units has another size
-pub record IsTailResized (before after : HeapView) (was : UnitTail) (size : ℕ) (p : UnitTail) : Type 0 where
+pub record IsUnitResized (before after : HeapView) (was : UnitPayload) (size : ℕ) (p : UnitPayload) : Type 0 where
   -- it has the length for the size
-  pub tail : IsTail before.identity was (payload_len size) p
+  pub place : IsInPlace before.identity was (payload_len size) p
   -- the same payloads are live, with their alignments
   pub aligns : align_at after.state ≡ align_at before.state
 
 -- a payload of units kept its size
-pub record IsTailRefused (before after : HeapView) (was p : UnitTail) : Type 0 where
+pub record IsUnitRefused (before after : HeapView) (was p : UnitPayload) : Type 0 where
   -- it has the length that it had
-  pub tail : IsTail before.identity was was.len p
+  pub place : IsInPlace before.identity was was.len p
   -- the state is the same
   pub same : after.state ≡ before.state
   -- the same payloads are live, with their alignments

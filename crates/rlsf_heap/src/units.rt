@@ -4,13 +4,13 @@ ghost use Rattle.rlsf_base.specs.Range.{range_at};
 ghost use Rattle.rlsf_model.specs.Allocate.{Allocates};
 ghost use Rattle.rlsf_model.specs.NoMove.{ReallocatesWithoutMove};
 ghost use Rattle.rlsf_model.specs.Release.{Deallocates};
-ghost use Rattle.rlsf_heap.specs.Units.{GivesUnits, IsTailRefused, IsTailResized, IsUnitAllocated, heap_of, heap_of_tail, payload_len, stayed_at, unit_addr_of};
+ghost use Rattle.rlsf_heap.specs.Units.{GivesUnits, IsCompleteOf, IsUnitAllocated, IsUnitRefused, IsUnitResized, heap_of, payload_len, stayed_at, unit_addr_of};
 ghost use Rattle.rlsf_heap.specs.Frame.{KeepsAllBounds, KeepsBounds, KeepsFrame, KeepsFrameBeside, KeepsSized};
 ghost use Rattle.rlsf_heap.specs.Replies.{IsGone, IsUnchanged, WithinBounds};
 
 use crate::heap::Heap;
 use crate::payload::Payload;
-use rlsf_base::memory::{Layout, UnitPayload, UnitTail};
+use rlsf_base::memory::{Layout, UnitPayload};
 use rlsf_base::rounding::next_multiple_of_32;
 use rlsf_int::BitPattern;
 use rlsf_tlsf::core_calls::{deallocate_block_in, resize_block_in};
@@ -38,7 +38,7 @@ impl Payload {
     #[inline(always)]
     fn into_unit_payload(self) -> UnitPayload
         requires units { (self.start % 16 ≡ 0) × (length self.bytes % 16 ≡ 0) × (self.identity.home.view.shift % 16 ≡ 0) × (self.align ≡ 16) }
-        ensures { (heap_of result ≡ self.identity) × (result.start ≡ self.start) × (result.len ≡ length self.bytes) }
+        ensures { IsCompleteOf result self.identity × (result.start ≡ self.start) × (result.len ≡ length self.bytes) }
     {
         let (part, ticket) = self.into_parts();
         part.into_unit_payload(ticket)
@@ -86,13 +86,13 @@ impl<FLBitmap: BitPattern, SLBitmap: BitPattern, const FLLEN: usize, const SLLEN
 
     /// Deallocates a payload of units, as `deallocate` does. No byte but the payload's becomes raw (`raw`).
     ///
-    /// The payload must be one of this heap.
+    /// The payload must be one of this heap, and complete: none of its bytes stay with their owner.
     ///
     /// Completes in constant time: at most 32 word accesses, whatever the pools contain.
     #[inline(always)]
     #[tactic(auto, using(crate::proofs::OnCores::of_memory, crate::proofs::OnCores::of_ledger))]
     pub fn deallocate_units(&mut self, payload: UnitPayload)
-        requires { heap_of payload ≡ self.old.identity }
+        requires { IsCompleteOf payload self.old.identity }
         ensures step { Steps FLLEN SLLEN self.new (Deallocates self.old.state payload.start) }
         ensures result { IsGone self.old.state self.new.state payload.start }
         ensures bounds { KeepsAllBounds SLLEN self.old.state self.new.state }
@@ -100,7 +100,9 @@ impl<FLBitmap: BitPattern, SLBitmap: BitPattern, const FLLEN: usize, const SLLEN
         ensures touches { self.new.memory.touches ≤ self.old.memory.touches + 32 }
     {
         // The word at 8 bytes past the payload's end names its block.
-        let block = self.memory.put_unit_payload(&mut self.ledger, payload, 8) as usize;
+        let block = self
+            .memory
+            .put_unit_payload(&mut self.ledger, payload, 0, 8) as usize;
         deallocate_block_in(
             &mut self.memory,
             &mut self.table,
@@ -124,26 +126,28 @@ impl<FLBitmap: BitPattern, SLBitmap: BitPattern, const FLLEN: usize, const SLLEN
     #[tactic(auto, using(crate::proofs::OnCores::of_memory, crate::proofs::OnCores::of_ledger))]
     pub fn resize_units(
         &mut self,
-        tail: UnitTail,
+        payload: UnitPayload,
         len: usize,
         size: usize,
-    ) -> Result<UnitTail, UnitTail>
-        requires heap { heap_of_tail tail ≡ self.old.identity }
-        requires len { len ≡ tail.len }
+    ) -> Result<UnitPayload, UnitPayload>
+        requires heap { heap_of payload ≡ self.old.identity }
+        requires len { len ≡ payload.len }
         requires size { size ≤ 2 ^ 63 - 16 }
-        requires kept { tail.kept ≡ min tail.len (payload_len size) }
-        ensures step { Steps FLLEN SLLEN self.new (ReallocatesWithoutMove self.old.state tail.start size (stayed_at result)) }
-        ensures result { IfOk result (λ p. IsTailResized self.old self.new tail size p) }
-        ensures room { payload_len size ≤ tail.len → IsOk result }
+        requires kept { payload.kept ≡ min payload.len (payload_len size) }
+        ensures step { Steps FLLEN SLLEN self.new (ReallocatesWithoutMove self.old.state payload.start size (stayed_at result)) }
+        ensures result { IfOk result (λ p. IsUnitResized self.old self.new payload size p) }
+        ensures room { payload_len size ≤ payload.len → IsOk result }
         ensures bounds { KeepsSized SLLEN self.old.state self.new.state size 16 }
-        ensures refused { IfErr result (λ p. IsTailRefused self.old self.new tail p) }
-        ensures frame { KeepsFrameBeside self.old self.new (range_at tail.start tail.len) }
+        ensures refused { IfErr result (λ p. IsUnitRefused self.old self.new payload p) }
+        ensures frame { KeepsFrameBeside self.old self.new (range_at payload.start payload.len) }
         ensures touches { self.new.memory.touches ≤ self.old.memory.touches + 25 }
     {
         let wanted = payload_len(size);
         let kept = lesser(len, wanted);
         // The word at 8 bytes past the payload's end names its block.
-        let block = self.memory.put_unit_tail(&mut self.ledger, tail, kept, 8) as usize;
+        let block = self
+            .memory
+            .put_unit_payload(&mut self.ledger, payload, kept, 8) as usize;
         let start = block + 16;
         let sought = Layout::from_size_align_unchecked(size, UNIT);
         if !resize_block_in(
@@ -155,9 +159,9 @@ impl<FLBitmap: BitPattern, SLBitmap: BitPattern, const FLLEN: usize, const SLLEN
             sought,
         ) {
             let ticket = self.ledger.issue(start, len, UNIT);
-            return Err(self.memory.take_unit_tail(ticket, start, len, kept));
+            return Err(self.memory.take_unit_payload(ticket, start, len, kept));
         }
         let ticket = self.ledger.issue(start, wanted, UNIT);
-        Ok(self.memory.take_unit_tail(ticket, start, wanted, kept))
+        Ok(self.memory.take_unit_payload(ticket, start, wanted, kept))
     }
 }

@@ -1,12 +1,13 @@
-use Rattle.std.proofs.Common.{arith, sym, ◌∙◌}
+use Rattle.std.proofs.Common.{◌≡◌, arith, ap, sym, ◌∙◌}
 use Rattle.rlsf_base.specs.Ledger.{extent}
+use Rattle.rlsf_base.specs.OpenSpace.{out_raw}
 use Rattle.rlsf_base.specs.Range.{range_at}
 use Rattle.rlsf_heap.specs.Kept.{NoneBecomesRawBeside}
 use Rattle.rlsf_heap.proofs.Kept.{raw-back}
 use Rattle.rlsf_heap.proofs.OnCores.{stays}
 use Rattle.rlsf_heap.proofs.Released.{IsGiven, IsHeap-given, bounds_given, chunks_given, core_given, gone_given, keeps_given, one_less, raw_given, step_given}
-use Rattle.rlsf_heap.proofs.Shown.{lies}
-use Rattle.rlsf_heap.proofs.UnitTails.{begins_at, readable, start-fits}
+use Rattle.rlsf_heap.proofs.Shown.{all_behind, lies}
+use Rattle.rlsf_heap.proofs.ResizedUnits.{begins_at, readable, start-fits}
 use Rattle.rlsf_heap.proofs.heap.Heap.deallocate_units.Given as given
 use Rattle.rlsf_heap.proofs.heap.Heap.deallocate_units.Goals as goal
 use Rattle.rlsf_heap.proofs.heap.Heap.deallocate_units.Goals.{After-put_unit_payload-block}
@@ -14,12 +15,17 @@ use Rattle.rlsf_heap.proofs.heap.Heap.deallocate_units.Goals.{After-put_unit_pay
 pub put_unit_payload-block-requires-clause-readable : goal.put_unit_payload-block-requires-clause-readable
 put_unit_payload-block-requires-clause-readable g c = λ is. readable (record { stands = c.self.invariant.stands; tickets = c.self.invariant.tickets; issued = is })
 
+-- none of its bytes stay with their owner
+out : (g : given.Over) (c : After-put_unit_payload-block g) → c.put_unit_payload-block.new.self.out
+    ≡ out_raw c.self.inside.memory (range_at c.args.payload.start c.args.payload.len)
+out g c = c.put_unit_payload-block.ensures.out ∙ ap (out_raw c.self.inside.memory) (all_behind c.args.payload.start c.args.payload.len c.args.payload.kept c.requires.1)
+
 -- the payload's units are back
 back : (g : given.Over) (c : After-put_unit_payload-block g) → IsGiven g.row.FLLEN g.row.SLLEN c.self.inside.memory c.put_unit_payload-block.new.self c.self.inside.table
     c.self.inside.state.state c.self.inside.ledger.entries c.args.payload.key (extent c.args.payload.start c.args.payload.len 16)
 back g c =
     let e = c.put_unit_payload-block.ensures in
-    raw_given (record { stands = c.self.invariant.stands; tickets = c.self.invariant.tickets; issued = e.issued }) e.start e.bytes e.out e.view (omega (arith, e.touches))
+    raw_given (record { stands = c.self.invariant.stands; tickets = c.self.invariant.tickets; issued = e.issued }) e.start e.bytes (out g c) e.view (omega (arith, e.touches))
 
 pub overflow_add-block : goal.overflow_add-block
 overflow_add-block g c =
@@ -61,7 +67,7 @@ returns g c =
       frame = record {
         heap = keeps_given is b f.left at f.step c.self.inside.ledger.name name e.ledger.0;
         raw = raw-back c.self.inside.memory c.put_unit_payload-block.new.self c.deallocate_block_in.new.memory (range_at c.args.payload.start c.args.payload.len) e.start
-            (lies b.shown).0 e.out (stays f.left);
+            (lies b.shown).0 (out g (goal.at.returns g c).After-put_unit_payload-block) (stays f.left);
         chunks = chunks_given is b f.left at f.step;
         copied = omega (arith, e.copied, f.left.costs.copied);
       };

@@ -1,4 +1,4 @@
-use Rattle.std.proofs.Common.{length, false, set, arith, sym, ap, subst, ◌∙◌}
+use Rattle.std.proofs.Common.{length, false, set, arith, ap, subst, ◌∙◌}
 use Rattle.rlsf_base.specs.Ledger.{Extent, IsIssued, entry_of, extent}
 use Rattle.rlsf_base.specs.Piece.{piece_range}
 use Rattle.rlsf_heap.specs.Kept.{NoneBecomesRawBeside}

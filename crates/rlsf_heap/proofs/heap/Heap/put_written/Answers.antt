@@ -1,4 +1,4 @@
-use Rattle.std.proofs.Common.{length, false, set, arith, refl, sym, ap, ◌∙◌}
+use Rattle.std.proofs.Common.{length, false, set, arith, refl, ap, ◌∙◌}
 use Rattle.rlsf_base.specs.Ledger.{Extent, entry_of, extent}
 use Rattle.rlsf_heap.specs.Heap.{PayloadView, payload_view}
 use Rattle.rlsf_heap.specs.Kept.{NoneBecomesRaw}

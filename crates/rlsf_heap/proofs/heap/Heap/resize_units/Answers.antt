@@ -1,5 +1,5 @@
 use Rattle.std.proofs.Common.{◌≡◌, ℕ, ◌+◌, ◌-◌, ◌≤◌, ◌∷◌, [], ◌++◌, List, Bool, true, false, length, Some, arith, refl, sym, ap, subst, ◌∙◌}
-use Rattle.rlsf_base.specs.declared.memory.unit_tail.UnitTail.{UnitTail}
+use Rattle.rlsf_base.specs.declared.memory.unit_payload.UnitPayload.{UnitPayload}
 use Rattle.rlsf_base.specs.Ledger.{Entry, entry_of, extent}
 use Rattle.rlsf_base.specs.OpenSpace.{Home, IsOwned, home_of, out_without}
 use Rattle.rlsf_base.specs.Range.{LiesIn, range_at}
@@ -16,27 +16,28 @@ use Rattle.rlsf_tlsf.proofs.Reached.{read_from-counted, read_from-same}
 use Rattle.rlsf_heap.specs.Frame.{KeepsFrameBeside, KeepsSized}
 use Rattle.rlsf_heap.specs.Heap.{AreIssued, HeapView, Identity, IsHeap, Stands, Steps, heap_view}
 use Rattle.rlsf_heap.specs.Kept.{KeepsBytesBeside, NoneBecomesRawBeside}
-use Rattle.rlsf_heap.specs.Units.{IsTail, payload_len}
+use Rattle.rlsf_heap.specs.Units.{IsInPlace, payload_len}
 use Rattle.rlsf_heap.proofs.Kept.{raw-tail, same-byte, spare-first, spare-last}
 use Rattle.rlsf_heap.proofs.OnCores.{heap-over, same_identity, stays}
 use Rattle.rlsf_heap.proofs.UnitPayloads.{payload_len-whole}
 use Rattle.rlsf_heap.proofs.Shown.{IsReturned, block, held, lies, live, stands-back}
-use Rattle.rlsf_heap.proofs.UnitTails.{begins_at, now-issued, now-lies, now-own, now-stands, own-behind, readable, resized-long, same-long, shrinks, start-fits}
+use Rattle.rlsf_heap.proofs.ResizedUnits.{begins_at, now-issued, now-lies, now-own, now-stands, own-behind, readable, resized-long, same-long, shrinks, start-fits}
 use Rattle.rlsf_heap.proofs.heap.Heap.resize_units.Given as given
 use Rattle.rlsf_heap.proofs.heap.Heap.resize_units.Goals as goal
-use Rattle.rlsf_heap.proofs.heap.Heap.resize_units.Goals.{After-put_unit_tail-block, After-resize_block_in}
+use Rattle.rlsf_heap.proofs.heap.Heap.resize_units.Goals.{After-put_unit_payload-block, After-resize_block_in}
 
-pub put_unit_tail-block-requires-clause-readable : goal.put_unit_tail-block-requires-clause-readable
-put_unit_tail-block-requires-clause-readable g c = λ is. readable (record { stands = c.self.invariant.stands; tickets = c.self.invariant.tickets; issued = is })
+pub put_unit_payload-block-requires-clause-readable : goal.put_unit_payload-block-requires-clause-readable
+put_unit_payload-block-requires-clause-readable g c = λ is. readable (record { stands = c.self.invariant.stands; tickets = c.self.invariant.tickets; issued = is })
 
 -- ---- the units behind the kept bytes are back, and the block is found
 
-back : (g : given.Over) (c : After-put_unit_tail-block g) → IsReturned g.row.FLLEN g.row.SLLEN c.self.inside.memory c.put_unit_tail-block.new.self c.self.inside.table
-    (read_from c.self.inside.memory c.self.inside.state.state) c.self.inside.ledger.entries c.args.tail.key (extent c.args.tail.start c.args.tail.len 16) c.args.tail.kept
+back : (g : given.Over) (c : After-put_unit_payload-block g) → IsReturned g.row.FLLEN g.row.SLLEN c.self.inside.memory c.put_unit_payload-block.new.self c.self.inside.table
+    (read_from c.self.inside.memory c.self.inside.state.state) c.self.inside.ledger.entries c.args.payload.key
+    (extent c.args.payload.start c.args.payload.len 16) c.args.payload.kept
 back g c =
-    let e = c.put_unit_tail-block.ensures in record {
+    let e = c.put_unit_payload-block.ensures in record {
       shown = record { stands = c.self.invariant.stands; tickets = c.self.invariant.tickets; issued = e.issued };
-      within = c.args.tail.within.0;
+      within = c.args.payload.within.0;
       same = e.start;
       bytes = e.bytes;
       out = e.out;
@@ -44,19 +45,19 @@ back g c =
 
 pub overflow_add-start : goal.overflow_add-start
 overflow_add-start g c =
-    let b = back g (goal.at.overflow_add-start g c).After-put_unit_tail-block in
-    record { fits = omega (arith, (begins_at b.shown c.put_unit_tail-block.result c.put_unit_tail-block.ensures.word).1, start-fits b.shown) }
+    let b = back g (goal.at.overflow_add-start g c).After-put_unit_payload-block in
+    record { fits = omega (arith, (begins_at b.shown c.put_unit_payload-block.result c.put_unit_payload-block.ensures.word).1, start-fits b.shown) }
 
 pub resize_block_in-requires : goal.resize_block_in-requires
 resize_block_in-requires g c =
-    let b = back g (goal.at.resize_block_in-requires g c).After-put_unit_tail-block in
+    let b = back g (goal.at.resize_block_in-requires g c).After-put_unit_payload-block in
     let is = c.self.invariant in
     let k = c.self.inside.state.state in
-    let n = c.put_unit_tail-block.new.self in
-    let e = c.put_unit_tail-block.ensures in
+    let n = c.put_unit_payload-block.new.self in
+    let e = c.put_unit_payload-block.ensures in
     let size = c.from_size_align_unchecked-sought.ensures.0 in
     let same = read_from-same c.self.inside.memory n k e.start e.bytes in
-    let (starts, at) = begins_at b.shown c.put_unit_tail-block.result e.word in
+    let (starts, at) = begins_at b.shown c.put_unit_payload-block.result e.word in
     let there = held b.shown in (
       omega arith,
       (
@@ -68,7 +69,7 @@ resize_block_in-requires g c =
         (
           (
             block b.shown,
-            subst (λ (s : State). Holds s (c.put_unit_tail-block.result + 16) (block b.shown)) (sym same) (there.0, there.1 ∙ sym at),
+            subst (λ (s : State). Holds s (c.put_unit_payload-block.result + 16) (block b.shown)) (sym same) (there.0, there.1 ∙ sym at),
             starts,
             own-behind b c.from_size_align_unchecked-sought.result.size (omega (arith, c.requires.kept, size)),
           ),
@@ -84,7 +85,7 @@ module _ (g : given.Over) (c : After-resize_block_in g) where
   m = c.self.inside.memory
 
   abbrev n : Space
-  n = c.put_unit_tail-block.new.self
+  n = c.put_unit_payload-block.new.self
 
   abbrev o : Space
   o = c.resize_block_in.new.memory
@@ -98,40 +99,40 @@ module _ (g : given.Over) (c : After-resize_block_in g) where
   abbrev ledger : ℕ
   ledger = c.self.inside.ledger.name
 
-  b : IsReturned g.row.FLLEN g.row.SLLEN m n c.self.inside.table (read_from m k) c.self.inside.ledger.entries c.args.tail.key
-      (extent c.args.tail.start c.args.tail.len 16) c.args.tail.kept
+  b : IsReturned g.row.FLLEN g.row.SLLEN m n c.self.inside.table (read_from m k) c.self.inside.ledger.entries c.args.payload.key
+      (extent c.args.payload.start c.args.payload.len 16) c.args.payload.kept
   b =
-      let e = c.put_unit_tail-block.ensures in record {
+      let e = c.put_unit_payload-block.ensures in record {
         shown = record { stands = c.self.invariant.stands; tickets = c.self.invariant.tickets; issued = e.issued };
-        within = c.args.tail.within.0;
+        within = c.args.payload.within.0;
         same = e.start;
         bytes = e.bytes;
         out = e.out;
       }
 
-  at : c.put_unit_tail-block.result + 16 ≡ c.args.tail.start
-  at = (begins_at b.shown c.put_unit_tail-block.result c.put_unit_tail-block.ensures.word).1
+  at : c.put_unit_payload-block.result + 16 ≡ c.args.payload.start
+  at = (begins_at b.shown c.put_unit_payload-block.result c.put_unit_payload-block.ensures.word).1
 
-  kept_is : c.lesser-kept.result ≡ c.args.tail.kept
+  kept_is : c.lesser-kept.result ≡ c.args.payload.kept
   kept_is = omega (arith, c.lesser-kept.ensures, c.payload_len-wanted.ensures, c.requires.len, c.requires.kept)
 
   same : read_from n k ≡ read_from m k
-  same = read_from-same m n k c.put_unit_tail-block.ensures.start c.put_unit_tail-block.ensures.bytes
+  same = read_from-same m n k c.put_unit_payload-block.ensures.start c.put_unit_payload-block.ensures.bytes
 
   -- what is so of the states that the call saw, and of the address and the size as they were passed, is so of those that contracts see
   told : {t : State} → t ≡ read_from o j → (So : State → State → ℕ → ℕ → Type 0)
-      → So (read_from n k) (read_from o j) (c.put_unit_tail-block.result + 16) c.from_size_align_unchecked-sought.result.size
-      → So (read_from m k) t c.args.tail.start c.args.size
+      → So (read_from n k) (read_from o j) (c.put_unit_payload-block.result + 16) c.from_size_align_unchecked-sought.result.size
+      → So (read_from m k) t c.args.payload.start c.args.size
   told is So so =
       subst (λ (x : State × State × ℕ × ℕ). So x.0 x.1 x.2 x.3) (λ i. (same i, sym is i, at i, c.from_size_align_unchecked-sought.ensures.0 i)) so
 
   step : {t : State} → t ≡ read_from o j → (done : Bool) → c.resize_block_in.result ≡ done
-      → ReallocatesWithoutMove (read_from m k) c.args.tail.start c.args.size (stayed_if done c.args.tail.start) t
+      → ReallocatesWithoutMove (read_from m k) c.args.payload.start c.args.size (stayed_if done c.args.payload.start) t
   step {t} is done did =
-      subst (λ d. ReallocatesWithoutMove (read_from m k) c.args.tail.start c.args.size (stayed_if d c.args.tail.start) t) did
+      subst (λ d. ReallocatesWithoutMove (read_from m k) c.args.payload.start c.args.size (stayed_if d c.args.payload.start) t) did
       (told is (λ s u a size. ReallocatesWithoutMove s a size (stayed_if c.resize_block_in.result a) u) c.resize_block_in.ensures.step)
 
-  keeps : {t : State} → t ≡ read_from o j → KeepsPayloads (read_from m k) t c.args.tail.start
+  keeps : {t : State} → t ≡ read_from o j → KeepsPayloads (read_from m k) t c.args.payload.start
   keeps is = told is (λ s u a size. KeepsPayloads s u a) c.resize_block_in.ensures.kept
 
   sized : {t : State} → t ≡ read_from o j → KeepsSized g.row.SLLEN (read_from m k) t c.args.size 16
@@ -150,65 +151,66 @@ module _ (g : given.Over) (c : After-resize_block_in g) where
     same_as : c.resize_block_in.result ≡ false → read_from q j ≡ read_from m k
     same_as refused = let e = c.resize_block_in.ensures.refused refused in as_left ∙ ap (read_from o) e.state ∙ read_from-counted e.counts k ∙ same
 
-    as_was : c.resize_block_in.result ≡ false → (z : Used) → Holds (read_from q j) c.args.tail.start z → c.args.tail.len ≡ (usable z).len
+    as_was : c.resize_block_in.result ≡ false → (z : Used) → Holds (read_from q j) c.args.payload.start z → c.args.payload.len ≡ (usable z).len
     as_was refused = same-long b w (keeps as_left) (same_as refused)
 
-    as_wanted : c.resize_block_in.result ≡ true → (z : Used) → Holds (read_from q j) c.args.tail.start z → payload_len c.args.size ≡ (usable z).len
+    as_wanted : c.resize_block_in.result ≡ true → (z : Used) → Holds (read_from q j) c.args.payload.start z → payload_len c.args.size ≡ (usable z).len
     as_wanted did = resized-long b w (keeps as_left) c.args.size (told as_left (λ s u a size. IsResized s u a size a) (c.resize_block_in.ensures.result did))
 
-    module _ (now : ℕ) (fits : c.args.tail.kept ≤ now) (as_long : (z : Used) → Holds (read_from q j) c.args.tail.start z → now ≡ (usable z).len) {len : ℕ} (long : len ≡ now) where
-      placed : LiesIn (range_at (c.put_unit_tail-block.result + 16) len) o.start (length o.bytes)
+    module _ (now : ℕ) (fits : c.args.payload.kept ≤ now) (as_long : (z : Used) → Holds (read_from q j) c.args.payload.start z → now ≡ (usable z).len)
+        {len : ℕ} (long : len ≡ now) where
+      placed : LiesIn (range_at (c.put_unit_payload-block.result + 16) len) o.start (length o.bytes)
       placed = let is = now-lies b w (keeps as_left) now fits as_long in (omega (arith, is, at), omega (arith, is, at, long))
 
-      own : IsOwned o (range_at (c.put_unit_tail-block.result + 16 + c.lesser-kept.result) (len - c.lesser-kept.result))
+      own : IsOwned o (range_at (c.put_unit_payload-block.result + 16 + c.lesser-kept.result) (len - c.lesser-kept.result))
       own a lo hi =
           now-own b w (keeps as_left) now fits as_long c.resize_block_in.ensures.left.costs.start c.resize_block_in.ensures.left.own a (omega (arith, lo, at, kept_is))
           (omega (arith, lo, hi, at, kept_is, long))
 
-      heap : (fs : List Entry) → fs ≡ c.put_unit_tail-block.new.ledger.entries ++ entry_of (extent (c.put_unit_tail-block.result + 16) len 16) true ∷ []
-          → q.out ≡ out_without o (range_at (c.put_unit_tail-block.result + 16 + c.lesser-kept.result) (len - c.lesser-kept.result))
+      heap : (fs : List Entry) → fs ≡ c.put_unit_payload-block.new.ledger.entries ++ entry_of (extent (c.put_unit_payload-block.result + 16) len 16) true ∷ []
+          → q.out ≡ out_without o (range_at (c.put_unit_payload-block.result + 16 + c.lesser-kept.result) (len - c.lesser-kept.result))
           → IsHeap g.FLBitmap.BitPattern.width g.SLBitmap.BitPattern.width g.row.FLLEN g.row.SLLEN q c.resize_block_in.new.table j fs c.self.inside.live
       heap fs entries out = record {
         valid = c.self.invariant.valid;
         stands = now-stands b w (keeps as_left) now fits as_long q start bytes (out ∙ (λ i. out_without o (range_at (at i + kept_is i) (long i - kept_is i))));
         is_bare = c.resize_block_in.ensures.left.core.is_bare;
         tickets = subst (AreIssued (read_from q j))
-            ((λ i. sym c.put_unit_tail-block.ensures.ledger.1 i ++ entry_of (extent (sym at i) (sym long i) 16) true ∷ []) ∙ sym entries)
+            ((λ i. sym c.put_unit_payload-block.ensures.ledger.1 i ++ entry_of (extent (sym at i) (sym long i) 16) true ∷ []) ∙ sym entries)
             (now-issued b w (keeps as_left) now fits as_long);
         counted = c.self.invariant.counted ∙ sym (keeps as_left).count;
       }
 
-      tail : {p : UnitTail} → (p.home ≡ home_of o) × (p.start ≡ c.put_unit_tail-block.result + 16) × (p.len ≡ len) × (p.kept ≡ c.lesser-kept.result) → p.name ≡ ledger
-          → IsTail (record { home = home_of m; ledger = ledger }) c.args.tail now p
-      tail {p} place name =
-          let put = c.put_unit_tail-block.ensures in
+      in_place : {p : UnitPayload} → (p.home ≡ home_of o) × (p.start ≡ c.put_unit_payload-block.result + 16) × (p.len ≡ len) × (p.kept ≡ c.lesser-kept.result) → p.name ≡ ledger
+          → IsInPlace (record { home = home_of m; ledger = ledger }) c.args.payload now p
+      in_place {p} place name =
+          let put = c.put_unit_payload-block.ensures in
           let costs = c.resize_block_in.ensures.left.costs in
-          let first : p.start ≡ c.args.tail.start = place.1 ∙ at in
-          let view : p.home.view ≡ c.args.tail.home.view =
+          let first : p.start ≡ c.args.payload.start = place.1 ∙ at in
+          let view : p.home.view ≡ c.args.payload.home.view =
           ap (λ (h : Home). h.view) place.0 ∙ costs.view ∙ put.view ∙ ap (λ (v : HeapView). v.identity.home.view) c.self.view_is
           ∙ sym (ap (λ (h : Identity). h.home.view) c.requires.heap) in
           record {
             identity = (λ i. record { home = place.0 i; ledger = p.name })
                 ∙ same_identity m o (costs.start ∙ put.start) (costs.length ∙ ap length put.bytes) (costs.view ∙ put.view) ledger p.name name;
             start = first;
-            ptr = p.placed.at ∙ (λ i. pointer_to (view i) (first i)) ∙ sym c.args.tail.placed.at;
+            ptr = p.placed.at ∙ (λ i. pointer_to (view i) (first i)) ∙ sym c.args.payload.placed.at;
             kept = place.3 ∙ kept_is;
             long = place.2 ∙ long;
           }
 
       frame : q.view ≡ o.view → q.touches ≡ o.touches → q.copied ≡ o.copied
-          → q.out ≡ out_without o (range_at (c.put_unit_tail-block.result + 16 + c.lesser-kept.result) (len - c.lesser-kept.result)) → {name : ℕ} → name ≡ ledger
-          → KeepsFrameBeside (heap_view m c.self.inside.table k ledger) (heap_view q c.resize_block_in.new.table j name) (range_at c.args.tail.start c.args.tail.len)
+          → q.out ≡ out_without o (range_at (c.put_unit_payload-block.result + 16 + c.lesser-kept.result) (len - c.lesser-kept.result)) → {name : ℕ} → name ≡ ledger
+          → KeepsFrameBeside (heap_view m c.self.inside.table k ledger) (heap_view q c.resize_block_in.new.table j name) (range_at c.args.payload.start c.args.payload.len)
       unfolding NoneBecomesRawBeside
       frame view touches copied out {name} called =
-          let put = c.put_unit_tail-block.ensures in
+          let put = c.put_unit_payload-block.ensures in
           let left = c.resize_block_in.ensures.left in
           let costs = left.costs in record {
             heap = heap-over m q c.self.inside.table c.resize_block_in.new.table k j (start ∙ costs.start ∙ put.start) (ap length bytes ∙ costs.length ∙ ap length put.bytes)
                 (view ∙ costs.view ∙ put.view) (omega (arith, touches, costs.grow, put.touches))
                 (spare-last m o q (read_from m k) (read_from q j) start bytes (spare-first m n o (read_from m k) (read_from q j) put.start put.bytes left.spare))
                 ledger name called;
-            raw = raw-tail m n o q c.args.tail.start c.args.tail.kept c.args.tail.len c.args.tail.within.0 (lies b.shown).0 put.start put.out (stays left) _ start
+            raw = raw-tail m n o q c.args.payload.start c.args.payload.kept c.args.payload.len c.args.payload.within.0 (lies b.shown).0 put.start put.out (stays left) _ start
                 (omega (arith, (lies b.shown).0, at, put.start, costs.start)) out;
             chunks = (keeps as_left).chunks;
             copied = omega (arith, copied, costs.copied, put.copied);
@@ -216,45 +218,45 @@ module _ (g : given.Over) (c : After-resize_block_in g) where
 
 -- ---- the bytes don't suffice
 
-pub take_unit_tail-requires-clause-place : goal.take_unit_tail-requires-clause-place
-take_unit_tail-requires-clause-place g c =
-    let d = (goal.at.take_unit_tail-requires-clause-place g c).After-resize_block_in in
+pub take_unit_payload-requires-clause-place : goal.take_unit_payload-requires-clause-place
+take_unit_payload-requires-clause-place g c =
+    let d = (goal.at.take_unit_payload-requires-clause-place g c).After-resize_block_in in
     let o = c.resize_block_in.new.memory in
-    placed g d o refl refl c.args.tail.len c.args.tail.within.0 (as_was g d o refl refl c.if-not-resize_block_in.true) c.requires.len
+    placed g d o refl refl c.args.payload.len c.args.payload.within.0 (as_was g d o refl refl c.if-not-resize_block_in.true) c.requires.len
 
-pub take_unit_tail-requires-clause-units : goal.take_unit_tail-requires-clause-units
-take_unit_tail-requires-clause-units g c =
-    let d = (goal.at.take_unit_tail-requires-clause-units g c).After-resize_block_in in
-    (omega (arith, at g d, c.args.tail.placed.aligned.0), omega (arith, c.requires.len, c.args.tail.placed.aligned.1))
+pub take_unit_payload-requires-clause-units : goal.take_unit_payload-requires-clause-units
+take_unit_payload-requires-clause-units g c =
+    let d = (goal.at.take_unit_payload-requires-clause-units g c).After-resize_block_in in
+    (omega (arith, at g d, c.args.payload.placed.aligned.0), omega (arith, c.requires.len, c.args.payload.placed.aligned.1))
 
-pub take_unit_tail-requires-clause-own : goal.take_unit_tail-requires-clause-own
-take_unit_tail-requires-clause-own g c =
-    let d = (goal.at.take_unit_tail-requires-clause-own g c).After-resize_block_in in
+pub take_unit_payload-requires-clause-own : goal.take_unit_payload-requires-clause-own
+take_unit_payload-requires-clause-own g c =
+    let d = (goal.at.take_unit_payload-requires-clause-own g c).After-resize_block_in in
     let o = c.resize_block_in.new.memory in
-    own g d o refl refl c.args.tail.len c.args.tail.within.0 (as_was g d o refl refl c.if-not-resize_block_in.true) c.requires.len
+    own g d o refl refl c.args.payload.len c.args.payload.within.0 (as_was g d o refl refl c.if-not-resize_block_in.true) c.requires.len
 
 pub invariant_of-self : goal.invariant_of-self
 invariant_of-self g c =
     let d = (goal.at.invariant_of-self g c).After-resize_block_in in
-    let e = c.take_unit_tail.ensures in
-    let q = c.take_unit_tail.new.self in
-    heap g d q e.start e.bytes c.args.tail.len c.args.tail.within.0 (as_was g d q e.start e.bytes c.if-not-resize_block_in.true) c.requires.len c.issue-ticket.new.self.entries
-    c.issue-ticket.ensures.entries e.out
+    let e = c.take_unit_payload.ensures in
+    let q = c.take_unit_payload.new.self in
+    heap g d q e.start e.bytes c.args.payload.len c.args.payload.within.0 (as_was g d q e.start e.bytes c.if-not-resize_block_in.true) c.requires.len
+    c.issue-ticket.new.self.entries c.issue-ticket.ensures.entries e.out
 
 pub returns-then-not-resize_block_in : goal.returns-then-not-resize_block_in
 unfolding Steps Stands KeepsBytesBeside
 returns-then-not-resize_block_in g c =
     let d = (goal.at.returns-then-not-resize_block_in g c).After-resize_block_in in
     let m = c.self.inside.memory in
-    let q = c.take_unit_tail.new.self in
-    let put = c.put_unit_tail-block.ensures in
-    let e = c.take_unit_tail.ensures in
+    let q = c.take_unit_payload.new.self in
+    let put = c.put_unit_payload-block.ensures in
+    let e = c.take_unit_payload.ensures in
     let no = c.if-not-resize_block_in.true in
     let left = c.resize_block_in.ensures.left in
     let counts = (c.resize_block_in.ensures.refused no).counts in
-    let is = as_left g d c.take_unit_tail.new.self e.start e.bytes in
-    let within = c.args.tail.within.0 in
-    let long = as_was g d c.take_unit_tail.new.self e.start e.bytes no in
+    let is = as_left g d c.take_unit_payload.new.self e.start e.bytes in
+    let within = c.args.payload.within.0 in
+    let long = as_was g d c.take_unit_payload.new.self e.start e.bytes no in
     let did = step g d is false no in
     rw (← c.self.view_is) (record {
       step = (did, (invariant_of-self g c).stands);
@@ -262,46 +264,46 @@ returns-then-not-resize_block_in g c =
       room = λ shorter. absurd (shrinks (b g d).shown c.args.size shorter did);
       bounds = sized g d is;
       refused = record {
-        tail = tail g d q e.start e.bytes c.args.tail.len within long c.requires.len e.place (e.ticket.0 ∙ c.issue-ticket.ensures.name.0 ∙ put.ledger.0);
-        same = same_as g d c.take_unit_tail.new.self e.start e.bytes no;
+        place = in_place g d q e.start e.bytes c.args.payload.len within long c.requires.len e.place (e.ticket.0 ∙ c.issue-ticket.ensures.name.0 ∙ put.ledger.0);
+        same = same_as g d c.take_unit_payload.new.self e.start e.bytes no;
         aligns = (keeps g d is).aligns;
         unchanged = λ a from to side. same-byte m q (e.start ∙ counts.start ∙ put.start) (e.bytes ∙ counts.bytes ∙ put.bytes) a;
       };
-      frame = frame g d q e.start e.bytes c.args.tail.len within long c.requires.len e.view e.touches e.copied e.out (c.issue-ticket.ensures.name.1 ∙ put.ledger.0);
+      frame = frame g d q e.start e.bytes c.args.payload.len within long c.requires.len e.view e.touches e.copied e.out (c.issue-ticket.ensures.name.1 ∙ put.ledger.0);
       touches = omega (arith, e.touches, left.costs.touches, put.touches);
     })
 
 -- ---- the payload has the other size
 
 -- the kept bytes are its first ones then, too
-fits : (g : given.Over) (c : After-put_unit_tail-block g) → c.args.tail.kept ≤ payload_len c.args.size
+fits : (g : given.Over) (c : After-put_unit_payload-block g) → c.args.payload.kept ≤ payload_len c.args.size
 fits g c = omega (arith, c.requires.kept)
 
-pub take_unit_tail-requires-2-clause-place : goal.take_unit_tail-requires-2-clause-place
-take_unit_tail-requires-2-clause-place g c =
-    let d = (goal.at.take_unit_tail-requires-2-clause-place g c).After-resize_block_in in
-    let early = (goal.at.take_unit_tail-requires-2-clause-place g c).After-put_unit_tail-block in
+pub take_unit_payload-requires-2-clause-place : goal.take_unit_payload-requires-2-clause-place
+take_unit_payload-requires-2-clause-place g c =
+    let d = (goal.at.take_unit_payload-requires-2-clause-place g c).After-resize_block_in in
+    let early = (goal.at.take_unit_payload-requires-2-clause-place g c).After-put_unit_payload-block in
     let o = c.resize_block_in.new.memory in
     placed g d o refl refl (payload_len c.args.size) (fits g early) (as_wanted g d o refl refl c.if-not-resize_block_in.false) c.payload_len-wanted.ensures
 
-pub take_unit_tail-requires-2-clause-units : goal.take_unit_tail-requires-2-clause-units
-take_unit_tail-requires-2-clause-units g c =
-    let d = (goal.at.take_unit_tail-requires-2-clause-units g c).After-resize_block_in in
-    (omega (arith, at g d, c.args.tail.placed.aligned.0), omega (arith, c.payload_len-wanted.ensures, payload_len-whole c.args.size))
+pub take_unit_payload-requires-2-clause-units : goal.take_unit_payload-requires-2-clause-units
+take_unit_payload-requires-2-clause-units g c =
+    let d = (goal.at.take_unit_payload-requires-2-clause-units g c).After-resize_block_in in
+    (omega (arith, at g d, c.args.payload.placed.aligned.0), omega (arith, c.payload_len-wanted.ensures, payload_len-whole c.args.size))
 
-pub take_unit_tail-requires-2-clause-own : goal.take_unit_tail-requires-2-clause-own
-take_unit_tail-requires-2-clause-own g c =
-    let d = (goal.at.take_unit_tail-requires-2-clause-own g c).After-resize_block_in in
-    let early = (goal.at.take_unit_tail-requires-2-clause-own g c).After-put_unit_tail-block in
+pub take_unit_payload-requires-2-clause-own : goal.take_unit_payload-requires-2-clause-own
+take_unit_payload-requires-2-clause-own g c =
+    let d = (goal.at.take_unit_payload-requires-2-clause-own g c).After-resize_block_in in
+    let early = (goal.at.take_unit_payload-requires-2-clause-own g c).After-put_unit_payload-block in
     let o = c.resize_block_in.new.memory in
     own g d o refl refl (payload_len c.args.size) (fits g early) (as_wanted g d o refl refl c.if-not-resize_block_in.false) c.payload_len-wanted.ensures
 
 pub invariant_of-self-2 : goal.invariant_of-self-2
 invariant_of-self-2 g c =
     let d = (goal.at.invariant_of-self-2 g c).After-resize_block_in in
-    let early = (goal.at.invariant_of-self-2 g c).After-put_unit_tail-block in
-    let e = c.take_unit_tail-2.ensures in
-    let q = c.take_unit_tail-2.new.self in
+    let early = (goal.at.invariant_of-self-2 g c).After-put_unit_payload-block in
+    let e = c.take_unit_payload-2.ensures in
+    let q = c.take_unit_payload-2.new.self in
     heap g d q e.start e.bytes (payload_len c.args.size) (fits g early) (as_wanted g d q e.start e.bytes c.if-not-resize_block_in.false) c.payload_len-wanted.ensures
     c.issue-ticket-2.new.self.entries c.issue-ticket-2.ensures.entries e.out
 
@@ -309,29 +311,30 @@ pub returns : goal.returns
 unfolding Steps Stands
 returns g c =
     let d = (goal.at.returns g c).After-resize_block_in in
-    let early = (goal.at.returns g c).After-put_unit_tail-block in
-    let put = c.put_unit_tail-block.ensures in
-    let e = c.take_unit_tail-2.ensures in
+    let early = (goal.at.returns g c).After-put_unit_payload-block in
+    let put = c.put_unit_payload-block.ensures in
+    let e = c.take_unit_payload-2.ensures in
     let yes = c.if-not-resize_block_in.false in
     let left = c.resize_block_in.ensures.left in
-    let is = as_left g d c.take_unit_tail-2.new.self e.start e.bytes in
+    let is = as_left g d c.take_unit_payload-2.new.self e.start e.bytes in
     let now = payload_len c.args.size in
-    let long = as_wanted g d c.take_unit_tail-2.new.self e.start e.bytes yes in
+    let long = as_wanted g d c.take_unit_payload-2.new.self e.start e.bytes yes in
     let wanted = c.payload_len-wanted.ensures in
-    let start : c.take_unit_tail-2.result.start ≡ c.args.tail.start = e.place.1 ∙ at g d in
+    let start : c.take_unit_payload-2.result.start ≡ c.args.payload.start = e.place.1 ∙ at g d in
     rw (← c.self.view_is) (record {
       step = (
-        subst (λ a. ReallocatesWithoutMove (read_from c.self.inside.memory c.self.inside.state.state) c.args.tail.start c.args.size (Some a)
-            (read_from c.take_unit_tail-2.new.self c.resize_block_in.new.state.state)) (sym start) (step g d is true yes),
+        subst (λ a. ReallocatesWithoutMove (read_from c.self.inside.memory c.self.inside.state.state) c.args.payload.start c.args.size (Some a)
+            (read_from c.take_unit_payload-2.new.self c.resize_block_in.new.state.state)) (sym start) (step g d is true yes),
         (invariant_of-self-2 g c).stands,
       );
       result = record {
-        tail = tail g d c.take_unit_tail-2.new.self e.start e.bytes now (fits g early) long wanted e.place (e.ticket.0 ∙ c.issue-ticket-2.ensures.name.0 ∙ put.ledger.0);
+        place = in_place g d c.take_unit_payload-2.new.self e.start e.bytes now (fits g early) long wanted e.place (e.ticket.0 ∙ c.issue-ticket-2.ensures.name.0 ∙ put.ledger.0);
         aligns = (keeps g d is).aligns;
       };
       room = λ shorter. refl;
       bounds = sized g d is;
       refused = tt;
-      frame = frame g d c.take_unit_tail-2.new.self e.start e.bytes now (fits g early) long wanted e.view e.touches e.copied e.out (c.issue-ticket-2.ensures.name.1 ∙ put.ledger.0);
+      frame = frame g d c.take_unit_payload-2.new.self e.start e.bytes now (fits g early) long wanted e.view e.touches e.copied e.out
+          (c.issue-ticket-2.ensures.name.1 ∙ put.ledger.0);
       touches = omega (arith, e.touches, left.costs.touches, put.touches);
     })
