@@ -1,14 +1,13 @@
 -- What follows from a call that may return nothing, or an error.
 use Rattle.std.proofs.Common.{◌≡◌, ◌≢◌, ℕ, Option, Some, None, Result, Ok, Err, IfSome, IfNone, IfOk, IfErr, IsSome, IsNone, MatchResult, is_ok, refl, true≢false, sym, ap, subst, ◌∙◌}
 use Rattle.rlsf_base.specs.declared.memory.unit_payload.UnitPayload.{UnitPayload}
-use Rattle.rlsf_base.specs.declared.memory.unit_tail.UnitTail.{UnitTail}
 use Rattle.rlsf_model.specs.Callers.{align_at}
 use Rattle.rlsf_model.specs.State.{State}
 use Rattle.rlsf_base.specs.declared.memory.range.Range.{Range}
 use Rattle.rlsf_heap.specs.Heap.{HeapView}
 use Rattle.rlsf_heap.specs.Kept.{NoneBecomesRawBeside}
 use Rattle.rlsf_heap.specs.Frame.{KeepsFrameBeside}
-use Rattle.rlsf_heap.specs.Units.{IsTailRefused, IsTailResized, heap_of_tail, payload_len, unit_addr_of}
+use Rattle.rlsf_heap.specs.Units.{IsUnitRefused, IsUnitResized, heap_of, payload_len, unit_addr_of}
 use Rattle.rlsf_heap.proofs.Frames.{heap_same}
 use Rattle.rlsf_local_heap.specs.Resized.{IsAtSamePlace}
 
@@ -79,8 +78,8 @@ pub frame_beside-same : (v : HeapView) (r : Range) → KeepsFrameBeside v v r
 frame_beside-same v r = record { heap = heap_same v; raw = none_raw_beside-none v r; chunks = refl; copied = refl }
 
 -- a payload of units that has another size, or not, is at the same place
-pub tail_of : (old new : HeapView) (r : Result UnitTail UnitTail) (tail : UnitTail) (size : ℕ) → heap_of_tail tail ≡ old.identity
-    → IfOk r (IsTailResized old new tail size) → IfErr r (IsTailRefused old new tail)
-    → MatchResult r (λ p. IsAtSamePlace tail p (payload_len size)) (λ p. IsAtSamePlace tail p tail.len)
-tail_of old new (Ok p) tail size heap is none = let t = is.tail in (t.identity ∙ sym heap, t.start, t.ptr, t.kept, t.long)
-tail_of old new (Err p) tail size heap none is = let t = is.tail in (t.identity ∙ sym heap, t.start, t.ptr, t.kept, t.long)
+pub stays_there : (old new : HeapView) (r : Result UnitPayload UnitPayload) (was : UnitPayload) (size : ℕ) → heap_of was ≡ old.identity
+    → IfOk r (IsUnitResized old new was size) → IfErr r (IsUnitRefused old new was)
+    → MatchResult r (λ p. IsAtSamePlace was p (payload_len size)) (λ p. IsAtSamePlace was p was.len)
+stays_there old new (Ok p) was size heap is none = let t = is.place in (t.identity ∙ sym heap, t.start, t.ptr, t.kept, t.long)
+stays_there old new (Err p) was size heap none is = let t = is.place in (t.identity ∙ sym heap, t.start, t.ptr, t.kept, t.long)

@@ -5,7 +5,7 @@ use seplogic.Ra.Ura.{Ura}
 use mir.Syntax.{Ty}
 use mir.Val.{Val, vcons, vnil, of_list}
 use base.Logic.{ent, sep, never, id⊢}
-use base.Fml.{fex, fsep, froom}
+use base.Fml.{Fml, fex, fsep, froom}
 use prog.Memory.{size, align, capped}
 use prog.Align.{align_w}
 use prog.Capped.{capped_is, capped_small}
@@ -22,9 +22,9 @@ use Rattle.rlsf_base.specs.OpenSpace.{Home}
 use Rattle.rlsf_base.specs.Steps.Ownership.{units_ty}
 use Rattle.rlsf_base.specs.UnitPayload.{IsPlaced}
 use Rattle.rlsf_base.specs.contracts.memory.unit_payload.UnitPayload as payload
-use Rattle.rlsf_base.proofs.RawBlock.PointerValues.{spot_val, spot_own, spot_told}
+use Rattle.rlsf_base.proofs.RawBlock.PointerValues.{room-complete, spot_val, spot_own, spot_told}
 use Rattle.rlsf_heap.specs.Heap.{Identity}
-use Rattle.rlsf_heap.specs.Units.{heap_of, payload_len}
+use Rattle.rlsf_heap.specs.Units.{IsCompleteOf, payload_len}
 use Rattle.rlsf_local_heap.specs.Ownership.{beside_value, block_token}
 use Rattle.rlsf_local_heap.proofs.SmallerUnits.{handed}
 
@@ -32,7 +32,7 @@ abbrev pub Taken : RattleType
 Taken = option.the_row payload.the_row
 
 abbrev pub Told : Identity → ℕ → ℕ → Taken.Denot → Type 0
-Told r n a x = IfSome x (λ p. (heap_of p ≡ r) × (p.len ≡ payload_len n) × (n < 2 ^ 63) × (a ≤ 16))
+Told r n a x = IfSome x (λ p. IsCompleteOf p r × (p.len ≡ payload_len n) × (n < 2 ^ 63) × (a ≤ 16))
 
 pub holds : (n : ℕ) → n ≤ payload_len n
 holds n = omega arith
@@ -75,10 +75,11 @@ module _ {M : Type 1} {𝓤 : Ura M} {𝓛 : Logic 𝓤} {K : Type 0} {Γ : List
       fpick t (λ us. fsplit t $
       feq_l t (λ is. fpick t (λ vss. fsplit t $ feq_l t (λ is'. fsplit t $ move t (1 ∷ []) $ drop t $ fsplit t $ pure_l t (spot_own w.ptr w.len vss.0) (λ s.
       let parts = spot_told w.ptr w.len vss.0 s in
-      fsplit t $ move t (1 ∷ []) $ in_a_block t w.ptr (λ p. room_for (units_ty (w.len / 16)) p) (id⊢ 𝓤 (never 𝓤)) (λ b o e.
+      fsplit t $ move t (1 ∷ []) $ rewrite t 0 (λ (F : Fml). ‵ F) (room-complete w.ptr w.len w.kept told.0.1) refl $
+      in_a_block t w.ptr (λ p. room_for (units_ty (w.len / 16)) p) (id⊢ 𝓤 (never 𝓤)) (λ b o e.
       rewrite t 0 (λ (k : ℕ). ‵ (froom (units_ty (k / 16)) b o)) told.1 refl $ move t (1 ∷ []) $
-      rewrite t 0 (λ (u : ℕ × ℕ). ‵ (ticket_owns u.0 w.key (extent w.start u.1 16))) (λ i. ((told.0 i).ledger, told.1 i)) refl $
-      some b o w.start w.key (subst (λ (u : Home × Ptr × ℕ). IsPlaced u.0 u.1 w.start u.2) (λ i. ((told.0 i).home, e i, told.1 i)) w.placed)
+      rewrite t 0 (λ (u : ℕ × ℕ). ‵ (ticket_owns u.0 w.key (extent w.start u.1 16))) (λ i. ((told.0.0 i).ledger, told.1 i)) refl $
+      some b o w.start w.key (subst (λ (u : Home × Ptr × ℕ). IsPlaced u.0 u.1 w.start u.2) (λ i. ((told.0.0 i).home, e i, told.1 i)) w.placed)
       (subst (λ (k : ℕ). k < 2 ^ 64) told.1 parts.1) told.2 told.3
       (ap only is ∙ ap (λ (xs : List Val). live 1 (of_list xs)) (is' ∙ ap (λ (xs : List Val). xs ++ []) parts.0)
       ∙ (λ i. live 1 (vcons (spot_val (e i) (told.1 i)) vnil)))))))))

@@ -3,10 +3,10 @@ ghost use Rattle.std.specs.Prelude.{◌≡◌, ℕ, ◌*◌, ◌^◌, ◌<◌, �
 ghost use Rattle.std.specs.Mem.{type_size};
 ghost use Rattle.std.specs.Allocator.{block_with_items};
 ghost use Rattle.rlsf_heap.specs.Heap.{Identity};
-ghost use Rattle.rlsf_heap.specs.Units.{heap_of, heap_of_tail, payload_len};
+ghost use Rattle.rlsf_heap.specs.Units.{IsCompleteOf, heap_of, payload_len};
 ghost use Rattle.rlsf_local_heap.specs.Ownership.{block_beside, block_token};
 
-use rlsf_base::memory::{UnitPayload, UnitTail};
+use rlsf_base::memory::UnitPayload;
 use std::marker::{Model, PhantomData};
 use std::ptr::copy_nonoverlapping;
 
@@ -41,16 +41,16 @@ impl<T> Buffer<T> {
     ghost use Rattle.rlsf_local_heap.specs.Resized.{IsLentOf};
 
     /// Returns the first `cap` places, and the payload of `whole` bytes with the units behind them.
-    pub(crate) fn lend(self, whole: usize, cap: usize) -> (Seats<T>, UnitTail)
+    pub(crate) fn lend(self, whole: usize, cap: usize) -> (Seats<T>, UnitPayload)
         requires { (whole ≡ payload_len (self.cap * type_size T.row)) × (self.len ≤ cap) × (cap ≤ self.cap) }
         ensures { IsLentOf self cap whole (payload_len (cap * type_size T.row)) result.0 result.1 }
     {
         let Buffer { ptr, marker } = self;
-        let tail = UnitTail {
+        let payload = UnitPayload {
             ptr: ptr as *mut u8,
             len: whole,
         };
-        (Seats { ptr, marker }, tail)
+        (Seats { ptr, marker }, payload)
     }
 
     /// Moves the `len` values to the payload, which becomes a block for `cap` values. Returns it, and the old payload of `whole` bytes.
@@ -61,9 +61,9 @@ impl<T> Buffer<T> {
         whole: usize,
         cap: usize,
     ) -> (Buffer<T>, UnitPayload)
-        requires payload { payload.len ≡ payload_len (cap * type_size T.row) }
+        requires payload { (payload.len ≡ payload_len (cap * type_size T.row)) × (payload.kept ≡ 0) }
         requires sizes { (len ≡ self.len) × (len ≤ cap) × (len ≤ self.cap) × (cap * type_size T.row < 2 ^ 63) × (whole ≡ payload_len (self.cap * type_size T.row)) }
-        ensures { (result.0.heap ≡ heap_of payload) × (result.0.len ≡ len) × (result.0.cap ≡ cap) × (result.0.items ≡ self.items) × (heap_of result.1 ≡ self.heap) }
+        ensures { (result.0.heap ≡ heap_of payload) × (result.0.len ≡ len) × (result.0.cap ≡ cap) × (result.0.items ≡ self.items) × IsCompleteOf result.1 self.heap }
     {
         let Buffer { ptr: old, marker } = self;
         let UnitPayload { ptr, len: _ } = payload;
@@ -79,13 +79,13 @@ impl<T> Buffer<T> {
 
 impl<T> Seats<T> {
     /// Returns the block for `cap` values, of these places and the units behind them.
-    pub(crate) fn with(self, tail: UnitTail, cap: usize) -> Buffer<T>
-        requires place { (tail.ptr ≡ self.ptr) × (tail.len ≡ payload_len (cap * type_size T.row)) × (tail.kept ≡ payload_len (self.cap * type_size T.row)) }
+    pub(crate) fn with(self, payload: UnitPayload, cap: usize) -> Buffer<T>
+        requires place { (payload.ptr ≡ self.ptr) × (payload.len ≡ payload_len (cap * type_size T.row)) × (payload.kept ≡ payload_len (self.cap * type_size T.row)) }
         requires sizes { (self.len ≤ self.cap) × (self.cap ≤ cap) × (cap * type_size T.row < 2 ^ 63) }
-        ensures { (result.ptr ≡ self.ptr) × (result.heap ≡ heap_of_tail tail) × (result.len ≡ self.len) × (result.cap ≡ cap) × (result.items ≡ self.items) }
+        ensures { (result.ptr ≡ self.ptr) × (result.heap ≡ heap_of payload) × (result.len ≡ self.len) × (result.cap ≡ cap) × (result.items ≡ self.items) }
     {
         let Seats { ptr, marker } = self;
-        let UnitTail { ptr: _, len: _ } = tail;
+        let UnitPayload { ptr: _, len: _ } = payload;
         Buffer { ptr, marker }
     }
 }

@@ -43,12 +43,12 @@ impl Drop for Lease {
 }
 
 impl Lease {
-    ghost use Rattle.rlsf_heap.specs.Units.{heap_of};
+    ghost use Rattle.rlsf_heap.specs.Units.{IsCompleteOf, heap_of};
     ghost use Rattle.rlsf_local_heap.specs.Tenants.{lessor};
 
-    /// Makes a memory of the units of a payload, in constant time, and returns it with the right to end it. Its bytes are raw.
+    /// Makes a memory of the units of a complete payload, in constant time, and returns it with the right to end it. Its bytes are raw.
     pub(crate) fn begin(alloc: Global, payload: UnitPayload) -> (OpenMemory, Lease)
-        requires { payload.len < 2 ^ 59 }
+        requires { (payload.len < 2 ^ 59) × (payload.kept ≡ 0) }
         ensures memory { (home_of result.0 ≡ result.1.memory) × (result.0.start ≡ 64) × IsAllOwn result.0.out }
         ensures payload { (lessor result.1 ≡ heap_of payload) × (result.1.start ≡ payload.start) × (result.1.memory.len ≡ payload.len) }
     {
@@ -63,7 +63,7 @@ impl Lease {
     pub(crate) fn end(self, memory: OpenMemory) -> UnitPayload
         requires memory { home_of memory ≡ self.memory }
         requires own { IsOwned memory (range_of memory) }
-        ensures { (heap_of result ≡ lessor self) × (result.start ≡ self.start) × (result.len ≡ self.memory.len) }
+        ensures { IsCompleteOf result (lessor self) × (result.start ≡ self.start) × (result.len ≡ self.memory.len) }
     {
         self.into_payload(memory.into_raw_parts())
     }
@@ -74,7 +74,7 @@ impl Lease {
         requires base { parts.base.ptr ≡ self.memory.view.base.ptr +ₚ place_in self.memory.view self.memory.start }
         requires place { (parts.start ≡ self.memory.start) × (parts.len ≡ self.memory.len) }
         requires own { IsOwn parts.bytes.out 0 parts.len }
-        ensures { (heap_of result ≡ lessor self) × (result.start ≡ self.start) × (result.len ≡ self.memory.len) }
+        ensures { IsCompleteOf result (lessor self) × (result.start ≡ self.start) × (result.len ≡ self.memory.len) }
     {
         let Lease { ptr: _, len } = self;
         let ptr = parts.release_room();

@@ -3,7 +3,7 @@ ghost use Rattle.std.specs.Prelude.{◌≡◌, ◌↔◌, ◌+◌, ◌*◌, ◌^
 ghost use Rattle.std.specs.Mem.{type_size};
 ghost use Rattle.rlsf_base.specs.Range.{range_at};
 ghost use Rattle.rlsf_base.specs.SizeClass.{IsValid};
-ghost use Rattle.rlsf_heap.specs.Units.{GivesUnits, heap_of, heap_of_tail, payload_len};
+ghost use Rattle.rlsf_heap.specs.Units.{GivesUnits, IsCompleteOf, heap_of, payload_len};
 ghost use Rattle.rlsf_local_heap.specs.Constants.{chunks_of_range, constants_of};
 ghost use Rattle.rlsf_local_heap.specs.Ownership.{block_token};
 ghost use Rattle.rlsf_local_heap.specs.Resized.{HasPlaces, IsAtSamePlace, StaysWith};
@@ -11,7 +11,7 @@ ghost use Rattle.rlsf_local_heap.specs.Resized.{HasPlaces, IsAtSamePlace, StaysW
 use crate::buffer::Buffer;
 use crate::slot::Slot;
 use crate::unit_heap::{UNIT, UnitHeap, over_all};
-use rlsf_base::memory::{MemoryError, OpenMemory, UnitPayload, UnitTail};
+use rlsf_base::memory::{MemoryError, OpenMemory, UnitPayload};
 use rlsf_heap::Heap;
 use rlsf_int::BitPattern;
 use std::alloc::{AllocError, Allocator, Global};
@@ -144,7 +144,7 @@ impl<H: UnitHeap> LocalHeap<H> {
     }
 
     pub(crate) fn take(&self, size: usize, align: usize) -> Option<UnitPayload>
-        ensures { IfSome result (λ p. (heap_of p ≡ self.now.slot.heap) × (p.len ≡ payload_len size) × (size < 2 ^ 63) × (align ≤ 16)) }
+        ensures { IfSome result (λ p. IsCompleteOf p self.now.slot.heap × (p.len ≡ payload_len size) × (size < 2 ^ 63) × (align ≤ 16)) }
     {
         if align > UNIT {
             return None;
@@ -160,7 +160,7 @@ impl<H: UnitHeap> LocalHeap<H> {
 
     // `len` is the payload's.
     pub(crate) fn give(&self, payload: UnitPayload, len: usize)
-        requires { heap_of payload ≡ self.now.slot.heap }
+        requires { IsCompleteOf payload self.now.slot.heap }
     {
         match self.slot.replace(None) {
             Some(mut heap) => {
@@ -175,20 +175,25 @@ impl<H: UnitHeap> LocalHeap<H> {
     }
 
     // Gives a payload the length for `size` bytes without moving it, as `UnitHeap::resize` does. Refuses sizes that no payload has.
-    fn resize(&self, tail: UnitTail, len: usize, size: usize) -> Result<UnitTail, UnitTail>
-        requires heap { heap_of_tail tail ≡ self.now.slot.heap }
-        requires len { len ≡ tail.len }
+    fn resize(
+        &self,
+        payload: UnitPayload,
+        len: usize,
+        size: usize,
+    ) -> Result<UnitPayload, UnitPayload>
+        requires heap { heap_of payload ≡ self.now.slot.heap }
+        requires len { len ≡ payload.len }
         requires small { size < 2 ^ 63 }
-        requires kept { tail.kept ≡ min tail.len (payload_len size) }
-        ensures { MatchResult result (λ p. IsAtSamePlace tail p (payload_len size)) (λ p. IsAtSamePlace tail p tail.len) }
+        requires kept { payload.kept ≡ min payload.len (payload_len size) }
+        ensures { MatchResult result (λ p. IsAtSamePlace payload p (payload_len size)) (λ p. IsAtSamePlace payload p payload.len) }
     {
         if size > isize::MAX as usize - UNIT {
-            return Err(tail);
+            return Err(payload);
         }
         let Some(mut heap) = self.slot.replace(None) else {
-            return Err(tail);
+            return Err(payload);
         };
-        let resized = heap.resize(tail, len, size);
+        let resized = heap.resize(payload, len, size);
         self.slot.replace(Some(heap));
         if resized.is_ok() {
             self.discount(len);
@@ -211,11 +216,11 @@ impl<H: UnitHeap> LocalHeap<H> {
         ensures { MatchResult result (λ b. HasPlaces buffer len new_cap b) (λ b. StaysWith buffer len old_cap b) }
     {
         let whole = array_len::<T>(old_cap);
-        let (seats, tail) = buffer.lend(whole, old_cap.min(new_cap));
-        match self.resize(tail, whole, new_cap * size_of::<T>()) {
-            Ok(tail) => Ok(seats.with(tail, new_cap)),
-            Err(tail) => {
-                let buffer = seats.with(tail, old_cap);
+        let (seats, payload) = buffer.lend(whole, old_cap.min(new_cap));
+        match self.resize(payload, whole, new_cap * size_of::<T>()) {
+            Ok(payload) => Ok(seats.with(payload, new_cap)),
+            Err(payload) => {
+                let buffer = seats.with(payload, old_cap);
                 if old_cap < new_cap {
                     self.moved(buffer, len, whole, new_cap)
                 } else {

@@ -125,7 +125,7 @@ impl<FLBitmap: BitPattern, SLBitmap: BitPattern, const FLLEN: usize, const SLLEN
         payload: Option<UnitPayload>,
     ) -> Option<Self>
         requires valid { IsValid FLBitmap.width SLBitmap.width FLLEN SLLEN }
-        requires small { IfSome payload (λ p. p.len < 2 ^ 59) }
+        requires small { IfSome payload (λ p. (p.len < 2 ^ 59) × (p.kept ≡ 0)) }
         ensures some { IfSome payload (λ p. IsSome result) }
         ensures none { IfNone payload (IsNone result) }
         ensures lease { IfSome payload (λ p. IfSome result (λ t. (lessor t.lease ≡ heap_of p) × (t.lease.start ≡ p.start) × (t.lease.memory.len ≡ p.len))) }

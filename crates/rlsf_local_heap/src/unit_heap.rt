@@ -7,12 +7,12 @@ ghost use Rattle.rlsf_base.specs.Space.{range_of};
 ghost use Rattle.rlsf_model.specs.Insert.{Inserts};
 ghost use Rattle.rlsf_model.specs.State.{empty};
 ghost use Rattle.rlsf_heap.specs.Heap.{Steps};
-ghost use Rattle.rlsf_heap.specs.Units.{heap_of, heap_of_tail, payload_len};
+ghost use Rattle.rlsf_heap.specs.Units.{IsCompleteOf, heap_of, payload_len};
 ghost use Rattle.rlsf_local_heap.specs.Constants.{chunks_of_range, constants_of};
 ghost use Rattle.rlsf_local_heap.specs.Resized.{IsAtSamePlace};
 
 use crate::slot::Identified;
-use rlsf_base::memory::{OpenMemory, Range, UnitPayload, UnitTail};
+use rlsf_base::memory::{OpenMemory, Range, UnitPayload};
 use rlsf_heap::Heap;
 use rlsf_int::BitPattern;
 
@@ -24,22 +24,27 @@ pub trait UnitHeap: Identified + Drop {
     /// Allocates a payload of units for `size` bytes. Returns `None` if the heap refuses it.
     fn take(&mut self, size: usize) -> Option<UnitPayload>
         ensures constants { Self.constants self.new ≡ Self.constants self.old }
-        ensures payload { IfSome result (λ p. (heap_of p ≡ (Self.constants self.old).heap) × (p.len ≡ payload_len size) × (size < 2 ^ 63)) };
+        ensures payload { IfSome result (λ p. IsCompleteOf p (Self.constants self.old).heap × (p.len ≡ payload_len size) × (size < 2 ^ 63)) };
 
-    /// Deallocates a payload of this heap.
+    /// Deallocates a complete payload of this heap.
     fn give(&mut self, payload: UnitPayload)
-        requires { heap_of payload ≡ (Self.constants self.old).heap }
+        requires { IsCompleteOf payload (Self.constants self.old).heap }
         ensures { Self.constants self.new ≡ Self.constants self.old };
 
     /// Gives a payload of this heap the length for `size` bytes without moving it, while its first bytes, as many as both lengths
-    /// have, are out. Returns it as it was, as the error, if the heap refuses it. `len` is the payload's length.
-    fn resize(&mut self, tail: UnitTail, len: usize, size: usize) -> Result<UnitTail, UnitTail>
-        requires heap { heap_of_tail tail ≡ (Self.constants self.old).heap }
-        requires len { len ≡ tail.len }
+    /// have, stay with their owner. Returns it as it was, as the error, if the heap refuses it. `len` is the payload's length.
+    fn resize(
+        &mut self,
+        payload: UnitPayload,
+        len: usize,
+        size: usize,
+    ) -> Result<UnitPayload, UnitPayload>
+        requires heap { heap_of payload ≡ (Self.constants self.old).heap }
+        requires len { len ≡ payload.len }
         requires size { size ≤ 2 ^ 63 - 16 }
-        requires kept { tail.kept ≡ min tail.len (payload_len size) }
+        requires kept { payload.kept ≡ min payload.len (payload_len size) }
         ensures constants { Self.constants self.new ≡ Self.constants self.old }
-        ensures tail { MatchResult result (λ p. IsAtSamePlace tail p (payload_len size)) (λ p. IsAtSamePlace tail p tail.len) };
+        ensures payload { MatchResult result (λ p. IsAtSamePlace payload p (payload_len size)) (λ p. IsAtSamePlace payload p payload.len) };
 
     /// Returns the number of bytes of the heap's memory.
     fn size(&self) -> usize;
@@ -66,8 +71,13 @@ impl<FLBitmap: BitPattern, SLBitmap: BitPattern, const FLLEN: usize, const SLLEN
         self.deallocate_units(payload);
     }
 
-    fn resize(&mut self, tail: UnitTail, len: usize, size: usize) -> Result<UnitTail, UnitTail> {
-        self.resize_units(tail, len, size)
+    fn resize(
+        &mut self,
+        payload: UnitPayload,
+        len: usize,
+        size: usize,
+    ) -> Result<UnitPayload, UnitPayload> {
+        self.resize_units(payload, len, size)
     }
 
     fn size(&self) -> usize {
@@ -92,8 +102,13 @@ impl<H: UnitHeap> UnitHeap for Box<H> {
         (**self).give(payload);
     }
 
-    fn resize(&mut self, tail: UnitTail, len: usize, size: usize) -> Result<UnitTail, UnitTail> {
-        (**self).resize(tail, len, size)
+    fn resize(
+        &mut self,
+        payload: UnitPayload,
+        len: usize,
+        size: usize,
+    ) -> Result<UnitPayload, UnitPayload> {
+        (**self).resize(payload, len, size)
     }
 
     fn size(&self) -> usize {

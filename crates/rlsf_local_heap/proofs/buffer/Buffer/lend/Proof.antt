@@ -27,9 +27,8 @@ use Rattle.core.proofs.ptr.Rows.{El}
 use Rattle.std.proofs.raw_atomic.Walks.{proved_at, leaves}
 use Rattle.rlsf_base.specs.Ledger.{extent, ticket_owns}
 use Rattle.rlsf_base.specs.Steps.Ownership.{units_ty}
-use Rattle.rlsf_base.specs.UnitPayload.{IsPlaced}
-use Rattle.rlsf_base.specs.UnitTail.{IsKept}
-use Rattle.rlsf_base.specs.contracts.memory.unit_tail.UnitTail as tail_type
+use Rattle.rlsf_base.specs.UnitPayload.{IsKept, IsPlaced}
+use Rattle.rlsf_base.specs.contracts.memory.unit_payload.UnitPayload as payload_type
 use Rattle.rlsf_base.proofs.RawBlock.PointerValues.{spot_val, spot_own, spot_made}
 use Rattle.rlsf_base.proofs.RawBlock.Values.{two_val, two_of}
 use Rattle.rlsf_heap.specs.Heap.{Identity}
@@ -91,16 +90,17 @@ lend_spec 𝓤 𝓛 𝓜 𝓡 wired T L =
     let placed : IsPlaced h.home p start full = subst (λ (v : Ptr × ℕ). IsPlaced h.home v.0 start v.1) (λ i. (e i, as_long i)) is.0 in
     let within : IsKept k full = (subst (λ (j : ℕ). k ≤ j) as_long (lengthens E 𝓛 len small cap b o asked.1 asked.2), in_units (size (block_type E small))) in
     let y : (seats.the_row R).Denot = record { ptr = p; marker = record {}; len = len; cap = small; items = xs } in
-    let t : (tail_type.the_row).Denot =
+    let t : (payload_type.the_row).Denot =
     record { ptr = p; len = full; home = h.home; name = h.ledger; key = key; start = start; kept = k; placed = placed; within = within } in
     let v : Val = two_val (list_val p) (spot_val p full) in
     -- [the places; what is beside; the units; the ticket; the values; κ's]
     move ! (2 ∷ []) $ rewrite ! 0 (λ (j : ℕ). ‵ (froom (units_ty ((j - k) / 16)) b (o + k))) as_long refl $ move ! (3 ∷ []) $
     rewrite ! 0 (λ (j : ℕ). ‵ (ticket_owns h.ledger key (extent start j 16))) as_long refl $ fjoin ! $
     use0 𝓛 (‵ (spot_own p full (spot_val p full ∷ []))) (spot_made 𝓛 p full fits) $ fjoin ! $
-    -- [the tail; the places; what is beside; the values; κ's]
+    -- [the payload; the places; what is beside; the values; κ's]
     move ! (3 ∷ 1 ∷ 2 ∷ []) $ fjoin3 ! $ use0 𝓛 (‵ (list_own p (list_val p ∷ []))) (list_made 𝓛 p tt) $ fjoin ! $
-    use2 𝓛 (‵ ((Tuple (seats.the_row R ∷ tail_type.the_row ∷ [])).own_val (y, t) (v ∷ []))) (two_of 𝓛 (seats.the_row R) tail_type.the_row y t (list_val p) (spot_val p full)) $
+    use2 𝓛 (‵ ((Tuple (seats.the_row R ∷ payload_type.the_row ∷ [])).own_val (y, t) (v ∷ [])))
+    (two_of 𝓛 (seats.the_row R) payload_type.the_row y t (list_val p) (spot_val p full)) $
     let Made : Type 0 = (p ≡ x.ptr) × (len ≡ len) × (small ≡ small) × (xs ≡ xs) × (h ≡ h) × (p ≡ x.ptr) × (full ≡ full) × (k ≡ payload_len (small * s)) in
     nothing ! $ move ! (2 ∷ 0 ∷ []) $ join ! $ move ! (1 ∷ 0 ∷ []) $
     use0 𝓛 (raw (fact 𝓤 Made)) (fact_i 𝓤 Made (emp 𝓤) (sym e, refl, refl, refl, refl, sym e, refl, ap payload_len (block_size E small))) $

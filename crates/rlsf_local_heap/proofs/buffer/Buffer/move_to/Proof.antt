@@ -1,11 +1,11 @@
 -- Shows that `move_to` moves the values, and puts the old block's places and the units behind them together. Assumes `Logic`.
-use Rattle.std.proofs.Common.{◌≡◌, ℕ, ◌+◌, ◌-◌, ◌*◌, ◌/◌, ◌^◌, ◌<◌, ◌≤◌, List, [], ◌∷◌, ◌++◌, refl, sym, ap, subst, ◌∙◌, w64}
+use Rattle.std.proofs.Common.{◌≡◌, ℕ, ◌+◌, ◌-◌, ◌*◌, ◌/◌, ◌^◌, ◌<◌, ◌≤◌, List, [], ◌∷◌, ◌++◌, refl, sym, ap, subst, ◌∙◌, arith, w64}
 use mir.Syntax.{Ty, Fn, Args, a_type, place, ty_array}
 use mir.Val.{Val, vint, vunit}
 use mir.MapTy.{inst_fn}
 use base.Fraction.{full_share}
 use base.Logic.{SProp, emp, never, id⊢}
-use base.Fml.{Lft, Share, ftrue, fsep, fex, froom, flft}
+use base.Fml.{Fml, Lft, Share, ftrue, fsep, fex, froom, flft}
 use prog.Memory.{size}
 use prog.Wp.{Env, WpFn}
 use contract.BorrowLft.{◌⊑◌}
@@ -37,11 +37,11 @@ use Rattle.rlsf_base.specs.Ledger.{extent, ticket_owns}
 use Rattle.rlsf_base.specs.Steps.Ownership.{units_ty}
 use Rattle.rlsf_base.specs.UnitPayload.{IsPlaced}
 use Rattle.rlsf_base.specs.contracts.memory.unit_payload.UnitPayload as payload_type
-use Rattle.rlsf_base.proofs.RawBlock.PointerValues.{spot_val, spot_own, spot_told, spot_made}
+use Rattle.rlsf_base.proofs.RawBlock.PointerValues.{room-complete, spot_val, spot_own, spot_told, spot_made}
 use Rattle.rlsf_base.proofs.RawBlock.Values.{two_val, two_of}
 use Rattle.rlsf_base.proofs.RawBlock.Walks.{then_runs, out_of_block}
 use Rattle.rlsf_heap.specs.Heap.{Identity}
-use Rattle.rlsf_heap.specs.Units.{heap_of, payload_len}
+use Rattle.rlsf_heap.specs.Units.{IsCompleteOf, heap_of, payload_len}
 use Rattle.rlsf_local_heap.specs.Ownership.{block_beside, block_token}
 use Rattle.rlsf_local_heap.proofs.SmallerUnits.{handed, returned}
 use Rattle.rlsf_local_heap.proofs.Stretched.{array_len, block_size, block_type, emptied, parted}
@@ -75,7 +75,7 @@ move_to_spec 𝓤 𝓛 𝓜 𝓡 wired T L =
     let u' : Ty = block_type E cap' in
     let m = array_len E cap in
     let m' = array_len E cap' in
-    let Long : Type 0 = w.len ≡ payload_len (cap' * s) in
+    let Long : Type 0 = (w.len ≡ payload_len (cap' * s)) × (w.kept ≡ 0) in
     let Sizes : Type 0 = (len ≡ x.len) × (len ≤ cap') × (len ≤ cap) × (cap' * s < 2 ^ 63) × (full ≡ payload_len (cap * s)) in
     let Token = λ (g : Identity) (v : Ty) (p : Ptr) (j k : ℕ). fex (IsPlaced g.home p j (payload_len (size v)) × (size v < 2 ^ 63))
     (λ _. fsep (ticket_owns g.ledger k (extent j (payload_len (size v)) 16)) (block_beside v p)) in
@@ -90,8 +90,9 @@ move_to_spec 𝓤 𝓛 𝓜 𝓡 wired T L =
     rewrite ! 2 (λ (r : Ptr). ‵ (lies_at (Array R len) full_share r xs)) e refl $ move ! (4 ∷ []) $
     fsplit ! $ fsplit ! $ drop ! $ fsplit ! $ move ! (1 ∷ []) $
     -- [the new units; their ticket; the numbers; what is beside; the ticket; the values; the places; κ's]
+    rewrite ! 0 (λ (F : Fml). ‵ F) (room-complete w.ptr w.len w.kept asked.1) refl $
     in_a_block ! w.ptr (λ p. room_for (units_ty (w.len / 16)) p) (id⊢ 𝓤 (never 𝓤)) (λ b' o' e'. let new : Ptr = block_ptr b' o' in
-    let long : w.len ≡ m' = asked ∙ ap payload_len (sym (block_size E cap')) in
+    let long : w.len ≡ m' = asked.0 ∙ ap payload_len (sym (block_size E cap')) in
     let as_long : m ≡ full = ap payload_len (block_size E cap) ∙ sym sizes.4 in
     rewrite ! 0 (λ (j : ℕ). ‵ (froom (units_ty (j / 16)) b' o')) long refl $
     rewrite ! 1 (λ (j : ℕ). ‵ (ticket_owns w.name w.key (extent w.start j 16))) long refl $
@@ -139,7 +140,8 @@ move_to_spec 𝓤 𝓛 𝓜 𝓡 wired T L =
     use2 𝓛 (‵ (froom (units_ty (m / 16)) b o)) (returned 𝓛 u b o m (holds (size u)) (in_units (size u))) $
     -- [the old units; the values; κ's; the other new places; what is beside; the new ticket; the numbers; the old ticket]
     returns ! (look_at ! 0 refl) $ free_all ! refl $
-    rewrite ! 0 (λ (j : ℕ). ‵ (froom (units_ty (j / 16)) b o)) as_long refl $ move ! (7 ∷ []) $
+    rewrite ! 0 (λ (j : ℕ). ‵ (froom (units_ty (j / 16)) b o)) as_long refl $
+    rewrite ! 0 (λ (F : Fml). ‵ F) (sym (room-complete old full 0 refl)) refl $ move ! (7 ∷ []) $
     rewrite ! 0 (λ (j : ℕ). ‵ (ticket_owns h.ledger key (extent start j 16))) as_long refl $ fjoin ! $
     use0 𝓛 (‵ (spot_own old full (spot_val old full ∷ []))) (spot_made 𝓛 old full are.1.1.1.0.1) $ fjoin ! $
     -- [the old payload; the values; κ's; the other new places; what is beside; the new ticket; the numbers]
@@ -152,11 +154,12 @@ move_to_spec 𝓤 𝓛 𝓜 𝓡 wired T L =
     move ! (2 ∷ 4 ∷ 0 ∷ []) $ fjoin3 ! $ use0 𝓛 (‵ (list_own new (list_val new ∷ []))) (list_made 𝓛 new tt) $ fjoin ! $
     let placed : IsPlaced h.home old start full = subst (λ (v : Ptr × ℕ). IsPlaced h.home v.0 start v.1) (λ i. (e i, as_long i)) is.0 in
     let r : (buffer.the_row R).Denot = record { ptr = new; marker = record {}; heap = h'; len = len; cap = cap'; items = xs } in
-    let back : (payload_type.the_row).Denot = record { ptr = old; len = full; home = h.home; name = h.ledger; key = key; start = start; placed = placed } in
+    let back : (payload_type.the_row).Denot =
+    record { ptr = old; len = full; home = h.home; name = h.ledger; key = key; start = start; kept = 0; placed = placed; within = (omega arith, refl) } in
     let v : Val = two_val (list_val new) (spot_val old full) in
     use2 𝓛 (‵ ((Tuple (buffer.the_row R ∷ payload_type.the_row ∷ [])).own_val (r, back) (v ∷ [])))
     (two_of 𝓛 (buffer.the_row R) payload_type.the_row r back (list_val new) (spot_val old full)) $ keep ! (0 ∷ 1 ∷ []) $
-    let Made : Type 0 = (h' ≡ h') × (len ≡ len) × (cap' ≡ cap') × (xs ≡ xs) × (h ≡ h) in
-    nothing ! $ move ! (2 ∷ 0 ∷ []) $ join ! $ move ! (1 ∷ 0 ∷ []) $ use0 𝓛 (raw (fact 𝓤 Made)) (fact_i 𝓤 Made (emp 𝓤) (refl, refl, refl, refl, refl)) $
+    let Made : Type 0 = (h' ≡ h') × (len ≡ len) × (cap' ≡ cap') × (xs ≡ xs) × IsCompleteOf back h in
+    nothing ! $ move ! (2 ∷ 0 ∷ []) $ join ! $ move ! (1 ∷ 0 ∷ []) $ use0 𝓛 (raw (fact 𝓤 Made)) (fact_i 𝓤 Made (emp 𝓤) (refl, refl, refl, refl, (refl, refl))) $
     nothing ! $ nothing ! $ fjoin ! $ nothing ! $ fjoin ! $ nothing ! $ fjoin ! $ nothing ! $ fjoin ! $ nothing ! $ fjoin ! $ move ! (3 ∷ 0 ∷ 2 ∷ 1 ∷ []) $
     by ! (leaves 𝓛 En₀ stays c z v (r, back) (tt, (tt, (tt, (tt, (tt, tt))))) (tt, (tt, (tt, (tt, (tt, tt))))))))))))))))))

@@ -29,7 +29,7 @@ use Rattle.rlsf_base.specs.Steps.Ownership.{units_ty}
 use Rattle.rlsf_base.specs.UnitPayload.{IsPlaced}
 use Rattle.rlsf_base.proofs.RawBlock.PointerValues.{spot_val, spot_told}
 use Rattle.rlsf_heap.specs.Heap.{Identity}
-use Rattle.rlsf_heap.specs.Units.{heap_of_tail, payload_len}
+use Rattle.rlsf_heap.specs.Units.{heap_of, payload_len}
 use Rattle.rlsf_local_heap.specs.Ownership.{block_beside}
 use Rattle.rlsf_local_heap.proofs.Stretched.{array_len, block_size, block_type, stretched}
 use Rattle.rlsf_local_heap.proofs.Values.{list_val, list_own, list_told, list_made}
@@ -53,7 +53,7 @@ with_spec 𝓤 𝓛 𝓜 𝓡 wired T L =
     let x = a.0 in let xs = x.items in let len = x.len in let small = x.cap in
     let t = a.1.0 in
     let cap = a.1.1.0 in
-    let h : Identity = heap_of_tail t in
+    let h : Identity = heap_of t in
     let u : Ty = block_type E cap in
     let m = array_len E cap in
     let k = array_len E small in

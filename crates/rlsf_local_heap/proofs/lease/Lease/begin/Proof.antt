@@ -4,7 +4,7 @@ use Rattle.std.proofs.Common.{lit<, w64}
 use Rattle.std.specs.Prelude.{◌&&◌}
 use mir.Val.{Val}
 use base.Logic.{never, id⊢, emp}
-use base.Fml.{ftrue}
+use base.Fml.{Fml, ftrue}
 use contract.Monad.{fact, fact_i}
 use contract.Running.{tables}
 use types.Kit.{‵, raw, ◌⊛◌, some, later, at_ret, ◌$◌, ◌∵◌, !, qed, move, keep, drop, use0, use1, use2, split, join, fsplit, fjoin, pick, await, rewrite, suffices}
@@ -36,7 +36,7 @@ use Rattle.rlsf_base.specs.Changes.{IsAllOwn}
 use Rattle.rlsf_base.specs.RawParts.{CanStart}
 use Rattle.rlsf_base.specs.OpenSpace.{home_of, place_in}
 use Rattle.rlsf_base.specs.Steps.Ownership.{room_at, units_ty}
-use Rattle.rlsf_base.proofs.RawBlock.PointerValues.{spot_val, spot_own, spot_told, spot_made, spot_typed, ptr_typed}
+use Rattle.rlsf_base.proofs.RawBlock.PointerValues.{room-complete, spot_val, spot_own, spot_told, spot_made, spot_typed, ptr_typed}
 use Rattle.rlsf_base.proofs.RawBlock.Values.{two_val, two_of}
 use Rattle.rlsf_base.specs.contracts.memory.open_memory.OpenMemory as memory
 use Rattle.rlsf_base.proofs.memory.open_memory.OpenMemory.TheLaws as memory_laws
@@ -69,20 +69,21 @@ begin_spec 𝓤 𝓛 𝓜 𝓡 wired =
     let vss : List Val × (List Val × Unit {0}) = (heap_val ∷ [], (spot_val p len ∷ [], tt)) in
     let y : W.Ghost = ((κs, qs, bounds, a, vss), none) in
     let fits : len < 2 ^ 64 = (spot_told p len (spot_val p len ∷ []) are.1.0.0).1 in
-    let Asked : Type 0 = len < 2 ^ 59 in
+    let Asked : Type 0 = (len < 2 ^ 59) × (d.kept ≡ 0) in
     qed 𝓛 ((‵ ftrue ⊛ ‵ (owns (types_at f.signature.params κs) a vss)) ∷ raw (fact 𝓤 Asked) ∷ []) ∵
     move ! (1 ∷ []) $ heard ! Asked (λ asked. split ! $ drop ! $ fsplit ! $ move ! (1 ∷ []) $ fsplit ! $ fsplit ! $ drop ! $ fsplit ! $ keep ! (0 ∷ 1 ∷ 3 ∷ []) $
     -- [the ticket; the room; the handle of the system's heap]
     enter ! _ _ _ _ _ $ alloc_all ! (λ l. pass_all ! refl ((tt, ((tt, tt), tt)), (spot_typed p len fits, tt)) $
     sets ! (of_opd ! (get_in ! (fld ! refl (stop !)) (sub ! 0 refl (whole !)))) refl (ptr_typed p) $
     sets ! (of_opd ! (get_in ! (fld ! refl (stop !)) (sub ! 1 refl (whole !)))) refl (tt, record { fits = fits }) $ move ! (1 ∷ []) $
+    rewrite ! 0 (λ (F : Fml). ‵ F) (room-complete p len d.kept asked.1) refl $
     in_a_block ! p (λ (q : Ptr). room_for (units_ty (len / 16)) q) (id⊢ 𝓤 (never 𝓤)) (λ b o e.
     use1 𝓛 (‵ (room_at (block_ptr b o) 64 len)) (units-lent 𝓛 b o 64 len refl d.placed.aligned.1) $ rewrite ! 0 (λ (q : Ptr). ‵ (room_at q 64 len)) (sym e) refl $
     -- [the room; the ticket; the handle]
     let G = triple_of 𝓛 g.signature (g.spec 𝓛 𝓜.mem 𝓡.returns) in
     let z : G.Ghost = ((tt, tt, tt, (h, (p, (64, (len, tt)))), (heap_val ∷ [], (rawptr_vals p, (uint_vals w64 64, (uint_vals w64 len, tt))))), tt) in
     let Can : Type 0 = CanStart 64 len in
-    use0 𝓛 (raw (fact 𝓤 Can)) (fact_i 𝓤 Can (emp 𝓤) (refl, omega arith, omega (arith, asked), asked)) $ move ! (1 ∷ 0 ∷ []) $ join ! $
+    use0 𝓛 (raw (fact 𝓤 Can)) (fact_i 𝓤 Can (emp 𝓤) (refl, omega arith, omega (arith, asked.0), asked.0)) $ move ! (1 ∷ 0 ∷ []) $ join ! $
     nothing ! $ owned ! usize _ (uint_Makes 𝓛 w64) len _ (refl, fits) $ join ! $ owned ! usize _ (uint_Makes 𝓛 w64) 64 _ (refl, lit< tt) $ join ! $
     owned ! RawPtr _ (rawptr_Makes 𝓛) p _ refl $ join ! $
     move ! (3 ∷ 0 ∷ []) $ join ! $ nothing ! $ join ! $ join ! $ use1 𝓛 (raw (G.pre z)) (id⊢ 𝓤 _) $

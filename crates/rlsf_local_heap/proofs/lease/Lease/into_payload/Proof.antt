@@ -1,8 +1,8 @@
 -- Shows that `into_payload` makes the units of the room again, and puts them beside the ticket. Assumes `Logic`.
-use Rattle.std.proofs.Common.{◌≡◌, ℕ, ◌+◌, ◌/◌, ◌^◌, ◌<◌, List, [], ◌∷◌, refl, sym, ap, subst, ◌∙◌, arith}
+use Rattle.std.proofs.Common.{◌≡◌, ℕ, ◌/◌, ◌^◌, ◌<◌, List, [], ◌∷◌, refl, sym, ap, subst, ◌∙◌, arith}
 use mir.Val.{Val}
 use base.Logic.{never, id⊢, emp}
-use base.Fml.{ftrue, froom}
+use base.Fml.{Fml, ftrue, froom}
 use contract.Monad.{fact, fact_i}
 use contract.Running.{tables}
 use types.Kit.{‵, raw, ◌⊛◌, some, later, ◌$◌, ◌∵◌, !, qed, move, keep, drop, use0, use1, use2, split, join, fsplit, fjoin, feq_l, pick, await, rewrite, suffices}
@@ -12,7 +12,7 @@ use types.Run.{stop, fld, of_opd, no_more, and_then, returns, enter}
 use types.ByLocal.{alloc_all, pass_all, free_all, look_at, get, get_in, sets, lands_as}
 use denote.Laws.{Is, shows}
 use denote.RattleType.{owns}
-use denote.RawPtr.{Ptr, RawPtr, block_ptr, null_ptr, in_a_block, room_for, ◌+ₚ◌}
+use denote.RawPtr.{Ptr, RawPtr, in_a_block, room_for, ◌+ₚ◌}
 use denote.Signature.{plain, types_at}
 use denote.Steps.{nothing, heard, peeks, only}
 use denote.Triple.Call.{calls_at}
@@ -27,7 +27,7 @@ use Rattle.rlsf_base.specs.RawParts.{LiesAtBlock}
 use Rattle.rlsf_base.specs.OpenSpace.{place_in}
 use Rattle.rlsf_base.specs.UnitPayload.{IsPlaced}
 use Rattle.rlsf_base.specs.Steps.Ownership.{room_at, units_ty}
-use Rattle.rlsf_base.proofs.RawBlock.PointerValues.{spot_val, spot_own, spot_told, spot_made, spot_typed, ptr_typed}
+use Rattle.rlsf_base.proofs.RawBlock.PointerValues.{room-complete, spot_val, spot_own, spot_told, spot_made, spot_typed, ptr_typed, unmoved}
 use Rattle.rlsf_base.specs.contracts.memory.unit_payload.UnitPayload as payload_type
 use Rattle.rlsf_base.specs.contracts.memory.block.RawParts as parts_type
 use Rattle.rlsf_base.proofs.memory.block.RawParts.TheLaws as parts_laws
@@ -40,11 +40,6 @@ use Rattle.rlsf_local_heap.proofs.LeasedRooms.{units-returned}
 use Rattle.rlsf_local_heap.specs.contracts.lease.Lease.into_payload as f
 use Rattle.rlsf_local_heap.proofs.lease.Lease.into_payload.Statement.{statement}
 use Rattle.rlsf_local_heap.proofs.lease.Lease.into_payload.Code as code
-
--- a pointer is at its own place
-unmoved : (p : Ptr) → p +ₚ 0 ≡ p
-unmoved (block_ptr b o) = let e : o + 0 ≡ o = omega arith in ap (λ (k : ℕ). block_ptr b k) e
-unmoved null_ptr = refl
 
 abbrev stayed : Stays f.ended.signature.params f.ended.kept
 stayed = (stay_dropped (plain (λ _. lease_type.the_row)) f.ended.kept.0, (stay_dropped (plain (λ _. parts_type.the_row)) f.ended.kept.1.0, tt))
@@ -95,11 +90,13 @@ into_payload_spec 𝓤 𝓛 𝓜 𝓡 wired =
     let same : parts.len ≡ len = place.1 ∙ d.leased.long in
     let pointed : d.ptr ≡ q = sym (there ∙ based ∙ (λ i. d.leased.at i +ₚ d.leased.first i) ∙ unmoved d.ptr) in
     let placed : IsPlaced d.home q d.start len = subst (λ (u : Ptr). IsPlaced d.home u d.start len) pointed d.placed in
-    let x : (payload_type.the_row).Denot = record { ptr = q; len = len; home = d.home; name = d.name; key = d.key; start = d.start; placed = placed } in
+    let x : (payload_type.the_row).Denot =
+    record { ptr = q; len = len; home = d.home; name = d.name; key = d.key; start = d.start; kept = 0; placed = placed; within = (omega arith, refl) } in
     rewrite ! 0 (λ (u : ℕ × ℕ). ‵ (room_at q u.0 u.1)) {x = (d.memory.start, len)} {y = (parts.start, parts.len)} (λ i. (place.0 i, same i)) refl $
     in_a_block ! q (λ (u : Ptr). room_at u d.memory.start len) (id⊢ 𝓤 (never 𝓤)) (λ b o at.
     use1 𝓛 (‵ (froom (units_ty (len / 16)) b o)) (units-returned 𝓛 b o d.memory.start len d.leased.aligned d.placed.aligned.1) $
-    rewrite ! 0 (λ (u : Ptr). ‵ (room_for (units_ty (len / 16)) u)) (sym at) refl $ move ! (1 ∷ 0 ∷ []) $ fjoin ! $
+    rewrite ! 0 (λ (u : Ptr). ‵ (room_for (units_ty (len / 16)) u)) (sym at) refl $
+    rewrite ! 0 (λ (F : Fml). ‵ F) (sym (room-complete q len 0 refl)) refl $ move ! (1 ∷ 0 ∷ []) $ fjoin ! $
     use0 𝓛 (‵ (spot_own q len (spot_val q len ∷ []))) (spot_made 𝓛 q len fits) $ fjoin ! $
-    suffices ! _ (ends_at 𝓛 f.ended stayed c y (spot_val q len) x (tt, ((tt, (tt, (tt, (tt, tt)))), tt)) (tt, (tt, tt))) $ says ! (refl, refl, sym d.leased.long) $
+    suffices ! _ (ends_at 𝓛 f.ended stayed c y (spot_val q len) x (tt, ((tt, (tt, (tt, (tt, tt)))), tt)) (tt, (tt, tt))) $ says ! ((refl, refl), refl, sym d.leased.long) $
     nothing ! $ nothing ! $ join ! $ nothing ! $ join ! $ nothing ! $ done !)))))))))))))

@@ -4,7 +4,7 @@ use mir.Syntax.{Ty, Fn, Args, a_type, dcons, dnil}
 use mir.MapTy.{inst_fn}
 use mir.Val.{Val, vint, vptr, vunit}
 use base.Logic.{SProp, emp, id⊢, never}
-use base.Fml.{ftrue, froom}
+use base.Fml.{Fml, ftrue, froom}
 use contract.BorrowLft.{◌⊑◌}
 use prog.Memory.{size, align, capped}
 use prog.Capped.{capped_is}
@@ -32,9 +32,9 @@ use Rattle.std.proofs.raw_atomic.Walks.{proved_at, leaves}
 use Rattle.rlsf_base.specs.Steps.Ownership.{units_ty}
 use Rattle.rlsf_base.specs.UnitPayload.{IsPlaced}
 use Rattle.rlsf_base.specs.contracts.memory.unit_payload.UnitPayload as payload
-use Rattle.rlsf_base.proofs.RawBlock.PointerValues.{spot_val, spot_own, spot_made}
+use Rattle.rlsf_base.proofs.RawBlock.PointerValues.{room-complete, spot_val, spot_own, spot_made}
 use Rattle.rlsf_heap.specs.Heap.{Identity}
-use Rattle.rlsf_heap.specs.Units.{heap_of, payload_len}
+use Rattle.rlsf_heap.specs.Units.{IsCompleteOf, payload_len}
 use Rattle.rlsf_local_heap.specs.contracts.local.payload_len as sizer
 use Rattle.rlsf_local_heap.proofs.local.payload_len.Met.{met as sizes}
 use Rattle.rlsf_local_heap.specs.Ownership.{block_beside, block_token}
@@ -83,6 +83,7 @@ deallocate_spec 𝓤 𝓛 𝓜 𝓡 wired T L gU dU gI dI dd mU mI md =
     (λ start. fpick ! (λ key. fpick ! (λ is. fsplit ! $ move ! (2 ∷ 1 ∷ []) $ in_a_block ! from (λ p. room_for τ p) (id⊢ 𝓤 (never 𝓤)) (λ b o e.
     rewrite ! 1 (λ (p : Ptr). ‵ (block_beside τ p)) e refl $
     use2 𝓛 (‵ (froom (units_ty (m / 16)) b o)) (returned 𝓛 τ b o m (holds (size τ)) (whole (size τ))) $
+    rewrite ! 0 (λ (F : Fml). ‵ F) (sym (room-complete (block_ptr b o) m 0 refl)) refl $
     move ! (1 ∷ 0 ∷ []) $ fjoin ! $
     let p : Ptr = block_ptr b o in let short : size τ < 2 ^ 63 = is.1 in let same : size τ ≡ n = sym (capped_is (size τ) (omega arith)) ∙ asked.0 in
     let placed : IsPlaced r.home p start m = subst (λ (u : Ptr). IsPlaced r.home u start m) e is.0 in
@@ -101,13 +102,14 @@ deallocate_spec 𝓤 𝓛 𝓜 𝓡 wired T L gU dU gI dI dd mU mI md =
     pick ! (λ _. split ! $ drop ! $ heard ! (j ≡ payload_len n) (λ said. split ! $ drop ! $ fsplit ! $ feq_l ! (λ e'. drop ! $ let fits : m < 2 ^ 64 = omega arith in
     lands_as ! (ap only e' ∙ ap (vint w64) (said ∙ ap payload_len (sym same))) refl (tt, record { fits = fits }) $
     sets ! (agg ! (and_then ! (get ! refl) (and_then ! (get ! refl) (no_more !)))) refl (tt, (tt, (record { fits = fits }, tt))) $
-    let x : (payload.the_row).Denot = record { ptr = p; len = m; home = r.home; name = r.ledger; key = key; start = start; placed = placed } in
-    let Mine : Type 0 = heap_of x ≡ r in
+    let x : (payload.the_row).Denot =
+    record { ptr = p; len = m; home = r.home; name = r.ledger; key = key; start = start; kept = 0; placed = placed; within = (omega arith, refl) } in
+    let Mine : Type 0 = IsCompleteOf x r in
     let y : k.Ghost = ((z.0.0, z.0.1, z.0.2, (a.0, (x, (m, tt))), (me ∷ [], (spot_val p m ∷ [], (vint w64 m ∷ [], tt)))), tt) in
     use0 𝓛 (‵ (spot_own p m (spot_val p m ∷ []))) (spot_made 𝓛 p m fits) $ fjoin ! $
     nothing ! $ flt_i ! m (2 ^ 64) fits $ feq_i ! (List Val) (vint w64 m ∷ []) (vint w64 m ∷ []) refl $ fjoin ! $ fjoin ! $ move ! (1 ∷ 0 ∷ []) $ fjoin ! $
     move ! (1 ∷ []) $ feq_i ! (List Val) (me ∷ []) (me ∷ []) refl $ fjoin ! $ fjoin ! $ move ! (1 ∷ 0 ∷ []) $ join ! $
-    use0 𝓛 (raw (fact 𝓤 Mine)) (fact_i 𝓤 Mine (emp 𝓤) refl) $ use0 𝓛 (raw (fact 𝓤 Lives)) (fact_i 𝓤 Lives (emp 𝓤) lives) $ join ! $
+    use0 𝓛 (raw (fact 𝓤 Mine)) (fact_i 𝓤 Mine (emp 𝓤) (refl, refl)) $ use0 𝓛 (raw (fact 𝓤 Lives)) (fact_i 𝓤 Lives (emp 𝓤) lives) $ join ! $
     move ! (1 ∷ 0 ∷ []) $ join ! $ use1 𝓛 (raw (k.pre y)) (id⊢ 𝓤 _) $
     calls_at ! (fm 𝓛 𝓜 𝓡) k (gives 𝓤 𝓛 𝓜 𝓡 (compiled.calls-rlsf_local_heap::local::LocalHeap::give 𝓡.env wired) T L gU dU gI dI dd mU mI md) y
     (and_then ! (get ! refl) (and_then ! (get ! refl) (and_then ! (get ! refl) (no_more !)))) (λ u.

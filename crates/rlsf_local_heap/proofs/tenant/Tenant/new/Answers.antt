@@ -39,7 +39,7 @@ returns g c =
           (λ p t ties is. subst (λ a. Steps g.row.FLLEN g.row.SLLEN new (Allocates g.row.SLLEN old.state c.args.len 16 (Some a))) (sym ties.1) is)
           (at_address (λ a. Steps g.row.FLLEN g.row.SLLEN new (Allocates g.row.SLLEN old.state c.args.len 16 a)) payload did.step);
       result = made_of payload tenant over.none (both _ _ payload tenant over.lease over.pool) (λ p t ties is. record {
-        tenant = ties.0.0 ∙ is.identity;
+        tenant = ties.0.0 ∙ is.complete.0;
         long = ties.0.2 ∙ is.long;
         pool = ties.1 ∙ ap (λ n. chunks_of_range g.row.FLLEN (range_at 64 n)) is.long;
         new = ap (align_at old.state) ties.0.1 ∙ is.new;

@@ -6,5 +6,5 @@ pub returns : goal.returns
 returns g c =
     let did = c.allocate_units.ensures in record {
       constants = λ i. record { heap = did.frame.heap.identity i; chunks = did.frame.chunks i };
-      payload = each_value c.allocate_units.result (λ p is. (is.identity, is.long, omega arith)) did.result;
+      payload = each_value c.allocate_units.result (λ p is. (is.complete, is.long, omega arith)) did.result;
     }
