@@ -10,4 +10,5 @@ mod previous;
 mod resize;
 
 pub use cases::reallocate_block;
+pub use elsewhere::move_elsewhere;
 pub use resize::resize_kept_block;

@@ -1,5 +1,5 @@
 -- A core after a call.
-use Rattle.std.proofs.Common.{◌≡◌, ℕ, ◌+◌, ◌-◌, arith, drop, map, take, sym, ◌∙◌, ap, subst}
+use Rattle.std.proofs.Common.{◌≡◌, ℕ, ◌+◌, ◌-◌, ◌≤◌, arith, drop, map, take, sym, ◌∙◌, ap, subst}
 use Rattle.rlsf_base.proofs.Lending.Present.{out-same, own-same}
 use Rattle.rlsf_base.specs.OpenSpace.{SameOwn, StaysHere}
 use Rattle.rlsf_base.specs.SizeClass.{IsValid}
@@ -7,11 +7,11 @@ use Rattle.rlsf_base.specs.Space.{Space}
 use Rattle.rlsf_model.specs.State.{State, Used, usable, with_bytes}
 use Rattle.rlsf_table.specs.Counts.{Costs, Counts}
 use Rattle.rlsf_table.specs.Table.{Table}
-use Rattle.rlsf_table.proofs.Costs.{Costs-counted, Costs-then}
+use Rattle.rlsf_table.proofs.Costs.{Costs-counted, Costs-then, Costs-within}
 use Rattle.rlsf_blocks.specs.Laws.{read_from}
 use Rattle.rlsf_blocks.specs.StandsFor.{contents, StandsFor}
 use Rattle.rlsf_blocks.specs.Spare.{KeepsSpare}
-use Rattle.rlsf_blocks.proofs.RepresentedStates.Counted.{KeepsSpare-counted_first, StandsFor-counted}
+use Rattle.rlsf_blocks.proofs.RepresentedStates.Counted.{KeepsSpare-counted, KeepsSpare-counted_first, StandsFor-counted}
 use Rattle.rlsf_tlsf.specs.Cores.{IsCore, LeavesCore, LeavesCoreCopying}
 use Rattle.rlsf_tlsf.specs.Steps.Moves.{bare}
 use Rattle.rlsf_tlsf.proofs.Arrivals.{arrived, bare-read_from}
@@ -39,6 +39,12 @@ module _ {fllen sllen : ℕ} {n : Space} {x : Table} {t : State} (v : StandsFor 
   LeavesCore-arrived {m} {j} valid spare costs own here =
       record { core = IsCore-arrived valid; spare = reads (KeepsSpare m (read_from m j) n) spare; costs = costs; own = own; here = here }
 
+-- a larger bound
+pub LeavesCore-within : {fllen sllen : ℕ} {m n : Space} {x : Table} {j k : State} {a b c d : ℕ} → a ≤ b → c ≡ d → LeavesCoreCopying fllen sllen m n x j k a c
+    → LeavesCoreCopying fllen sllen m n x j k b d
+LeavesCore-within {m = m} {n = n} {b = b} within same left =
+    record { core = left.core; spare = left.spare; costs = subst (Costs m n b) same (Costs-within within left.costs); own = left.own; here = left.here }
+
 -- memories with the same start and the same bytes have the same state
 pub read_from-same : (m n : Space) (s : State) → n.start ≡ m.start → n.bytes ≡ m.bytes → read_from n s ≡ read_from m s
 read_from-same m n s start bytes = λ i. record {
@@ -47,7 +53,7 @@ read_from-same m n s start bytes = λ i. record {
   free = s.free;
 }
 
--- ---- before the call, words were read
+-- ---- words were read
 
 module _ {m n : Space} {some : ℕ} (counts : Counts m n some) where
   pub read_from-counted : (s : State) → read_from n s ≡ read_from m s
@@ -61,6 +67,17 @@ module _ {m n : Space} {some : ℕ} (counts : Counts m n some) where
       is_bare = are.is_bare;
     }
 
+    -- that is all that a call did
+    pub LeavesCore-counted : {x y : Table} {j k : State} → y ≡ x → k ≡ j → IsCore fllen sllen m x j → LeavesCore fllen sllen m n y j k some
+    LeavesCore-counted {x} {y} {j} {k} table state are = record {
+      core = subst (λ (o : Table × State). IsCore fllen sllen n o.0 o.1) (λ i. (sym table i, sym state i)) (IsCore-counted are);
+      spare = KeepsSpare-counted m n counts.start counts.bytes counts.out (read_from m j) (read_from n k);
+      costs = Costs-counted counts;
+      own = own-same m n counts.start counts.out;
+      here = λ a inside is. out-same m n a counts.start counts.out ∙ is;
+    }
+
+    -- or all that was done before a call
     pub LeavesCore-counted_first : {o : Space} {y : Table} {j k : State} {most : ℕ} → LeavesCore fllen sllen n o y j k most → LeavesCore fllen sllen m o y j k (some + most)
     LeavesCore-counted_first {o} {j = j} {k = k} left = record {
       core = left.core;

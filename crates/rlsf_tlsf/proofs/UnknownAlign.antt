@@ -1,32 +1,31 @@
--- A reallocation by a caller that does not know the payload's alignment: it stays, or an allocation, a copy and a deallocation move it.
-use Rattle.std.proofs.Common.{◌≡◌, ◌≢◌, ℕ, ◌<◌, ◌≤◌, List, length, min, take, drop, Option, Some, None, IsSome, arith}
-use Rattle.std.proofs.Common.{length-drop, true≢false, refl, sym, ◌∙◌, ap, subst}
+-- A reallocation by a caller that does not know the payload's alignment: it stays, or moves into one that is allocated for it.
+use Rattle.std.proofs.Common.{◌≡◌, ◌≢◌, ℕ, ◌<◌, ◌≤◌, List, length, min, take, drop, Option, Some, None, IsSome, arith, inr}
+use Rattle.std.proofs.Common.{◌+◌, length-drop, refl, sym, ◌∙◌, ap, subst}
 use Rattle.std.proofs.lemmas.List.{length-append, take_all, take_at}
+use Rattle.std.proofs.lemmas.Option.{none-some}
 use Rattle.rlsf_base.specs.declared.memory.range.Range.{Range}
-use Rattle.rlsf_base.specs.Space.{Space, SamePlace}
-use Rattle.rlsf_model.specs.Allocate.{Allocates}
-use Rattle.rlsf_model.specs.Callers.{align_at, bytes_at, copied_over}
+use Rattle.rlsf_base.specs.PowerOfTwo.{IsPowerOfTwo}
+use Rattle.rlsf_model.specs.Callers.{align_at, bytes_at}
+use Rattle.rlsf_model.specs.Lists.{IsIn}
 use Rattle.rlsf_model.specs.NoMove.{ReallocatesUnmovedBy, ReallocatesWithoutMove, unmoved_plan}
-use Rattle.rlsf_model.specs.Reallocate.{HasRoomToStay, Keeps, Plan}
+use Rattle.rlsf_model.specs.Reallocate.{HasRoomToStay, Keeps, MovesAway, Plan}
 use Rattle.rlsf_model.specs.Release.{Deallocates}
-use Rattle.rlsf_model.specs.Run.{allocate, deallocate, fill, Fills}
-use Rattle.rlsf_model.specs.State.{State, Used, with_front}
+use Rattle.rlsf_model.specs.Sized.{live_count}
+use Rattle.rlsf_model.specs.State.{Holds, State, Used, with_front}
 use Rattle.rlsf_model.specs.WellFormed.{IsWellFormed}
-use Rattle.rlsf_model.proofs.CallerWords.{bytes_at-held}
+use Rattle.rlsf_model.proofs.Allocations.{Allocates-keeps}
+use Rattle.rlsf_model.proofs.CallerWords.{SeesGone, SeesNew, align_at-held, bytes_at-held, gone_seen, new_seen}
 use Rattle.rlsf_model.proofs.Changes.{Holds-unique}
-use Rattle.rlsf_model.proofs.Payloads.{usable-short}
-use Rattle.rlsf_blocks.specs.Spare.{KeepsSpare}
-use Rattle.rlsf_blocks.proofs.RepresentedStates.SpareBytes.{KeepsSpare-trans}
+use Rattle.rlsf_model.proofs.Chunks.{chunks-allocated, chunks-deallocated}
+use Rattle.rlsf_model.proofs.Payloads.{payload_of-after, usable-short}
+use Rattle.rlsf_model.proofs.SizedWords.{count_gone, count_new, sized_gone, sized_new}
+use Rattle.rlsf_blocks.specs.Steps.Resize.{realigned}
 use Rattle.rlsf_blocks.proofs.Reallocate.FirstPlan.{in_place-none}
-use Rattle.rlsf_tlsf.specs.Allocator.{Allocator, Stands, Steps}
-use Rattle.rlsf_tlsf.specs.UnknownAlign.{MovesTo, ReallocatesAnyAlign, ResizesBy}
-use Rattle.rlsf_tlsf.proofs.Arrivals.{opened, well_formed}
-
--- a step that was made is one that the call says
-closed : (fllen sllen : ℕ) (before after : Allocator) (step : State → Type 0)
-    → step after.state × Stands fllen sllen after × KeepsSpare before.memory before.state after.memory after.state → Steps fllen sllen before after step
-unfolding Steps
-closed fllen sllen before after step is = is
+use Rattle.rlsf_tlsf.specs.Bounds.{KeepsBoundsAnyAlign}
+use Rattle.rlsf_tlsf.specs.Results.{IsReallocatedAnyAlign}
+use Rattle.rlsf_tlsf.specs.Steps.Moves.{allocated, bare, deallocated}
+use Rattle.rlsf_tlsf.specs.UnknownAlign.{ReallocatesAnyAlign, ResizesBy}
+use Rattle.rlsf_tlsf.proofs.Moved.{allocated-bare, deallocated-bare}
 
 -- a list with the whole of a shorter one in front keeps it
 pub Keeps-front : (n : ℕ) (old new : List ℕ) → length old ≡ n → n ≤ length new → Keeps old (with_front n old new)
@@ -45,21 +44,17 @@ length-front n old new is short =
 
 -- ---- it stays
 
-module _ (fllen sllen : ℕ) (old new : Allocator) (addr size : ℕ) (did : Steps fllen sllen old new (ReallocatesWithoutMove old.state addr size (Some addr))) where
-  pub stayed : (align : ℕ) → Steps fllen sllen old new (ReallocatesAnyAlign sllen old.state addr size align (Some addr))
-  stayed align =
-      let (step, after, spare) = opened fllen sllen old new (ReallocatesWithoutMove old.state addr size (Some addr)) did in
-      closed fllen sllen old new (ReallocatesAnyAlign sllen old.state addr size align (Some addr))
-      (record { block = step.block; holds = step.holds; step = go step.block (unmoved_plan old.state step.block size) step.step }, after, spare)
-    where
-      go : (u : Used) (o : Option Plan) → ReallocatesUnmovedBy old.state u o (Some addr) new.state → ResizesBy sllen old.state u size align o (Some addr) new.state
-      go u None did = absurd did
-      go u (Some p) did = did
+pub stayed : (sllen : ℕ) {s t : State} {addr size : ℕ} (align : ℕ) → ReallocatesWithoutMove s addr size (Some addr) t → ReallocatesAnyAlign sllen s addr size align (Some addr) t
+stayed sllen {s} {t} {addr} {size} align did = record { block = did.block; holds = did.holds; step = go (unmoved_plan s did.block size) did.step }
+  where
+    go : (o : Option Plan) → ReallocatesUnmovedBy s did.block o (Some addr) t → ResizesBy sllen s did.block size align o (Some addr) t
+    go None by = absurd by
+    go (Some p) by = by
 
 -- ---- it can't stay
 
 module _ {fllen sllen : ℕ} {memory : Range} {s t : State} {addr size : ℕ} (w : IsWellFormed fllen sllen memory s) (no : ReallocatesWithoutMove s addr size None t) where
-  denied_by : (unmoved_plan s no.block size ≡ None) × (t ≡ s)
+  pub denied_by : (unmoved_plan s no.block size ≡ None) × (t ≡ s)
   denied_by = go (unmoved_plan s no.block size) refl no.step
     where
       go : (o : Option Plan) → unmoved_plan s no.block size ≡ o → ReallocatesUnmovedBy s no.block o None t → (unmoved_plan s no.block size ≡ None) × (t ≡ s)
@@ -79,91 +74,67 @@ module _ {fllen sllen : ℕ} {memory : Range} {s t : State} {addr size : ℕ} (w
       let none = denied_by.0 in
       absurd (cc)
 
-module _ (fllen sllen : ℕ) (old mid : Allocator) (addr size : ℕ) (stands : Stands fllen sllen old)
-    (no : Steps fllen sllen old mid (ReallocatesWithoutMove old.state addr size None)) where
-  pub denied : ReallocatesWithoutMove old.state addr size None mid.state
-  denied = (opened fllen sllen old mid (ReallocatesWithoutMove old.state addr size None) no).0
+-- ---- it moves
 
-  none_by : unmoved_plan old.state denied.block size ≡ None
-  none_by = (denied_by (well_formed old stands) denied).0
+-- what is so of the state after
+pub record IsMoved (sllen : ℕ) (s t : State) (addr size align to : ℕ) : Type 0 where
+  pub step : ReallocatesAnyAlign sllen s addr size align (Some to) t
+  pub result : IsReallocatedAnyAlign s t addr size align to
+  pub some : 0 < to
+  pub bounds : KeepsBoundsAnyAlign sllen s addr size align t
+  pub count : live_count t ≡ live_count s
+  pub chunks : t.chunks ≡ s.chunks
 
-  -- nothing has changed
-  pub denied_same : mid.state ≡ old.state
-  denied_same = (denied_by (well_formed old stands) denied).1
+module _ {fllen sllen : ℕ} {memory : Range} {s t : State} {addr size align to : ℕ} (w : IsWellFormed fllen sllen memory s) (u : Used) (holds : Holds s addr u)
+    (power : IsPowerOfTwo align) (none : unmoved_plan s u size ≡ None) (moves : MovesAway sllen s (realigned u align) size to t) where
+  abbrev mid : State
+  mid = moves.meanwhile
 
-  held_bytes : bytes_at old.state addr ≡ denied.block.bytes
-  held_bytes = bytes_at-held (well_formed old stands) addr denied.block denied.holds
+  mid_well_formed : IsWellFormed fllen sllen memory mid
+  mid_well_formed = Allocates-keeps w size align (Some to) mid power moves.allocated
 
-  -- and nothing is allocated
-  pub denied_everywhere : (after : Allocator) (align : ℕ) → SamePlace old.memory mid.memory → Steps fllen sllen mid after (Allocates sllen mid.state size align None)
-      → Steps fllen sllen old after (ReallocatesAnyAlign sllen old.state addr size align None)
-  denied_everywhere after align place did =
-      let (nothing, _, first) = opened fllen sllen old mid (ReallocatesWithoutMove old.state addr size None) no in
-      let (step, stood, second) = opened fllen sllen mid after (Allocates sllen mid.state size align None) did in
-      let refused : Allocates sllen old.state size align None after.state = subst (λ s. Allocates sllen s size align None after.state) denied_same step in
-      let spare = KeepsSpare-trans fllen sllen old.memory mid.memory after.memory old.state mid.state after.state (allocate size align None) (λ x. x) place step first second in
-      closed fllen sllen old after (ReallocatesAnyAlign sllen old.state addr size align None) (
-        record { block = denied.block; holds = denied.holds; step = subst (λ o. ResizesBy sllen old.state denied.block size align o None after.state) (sym none_by) refused },
-        stood,
-        spare,
-      )
+  still : Holds mid addr u
+  still = (subst (λ (x : State). IsIn u x.used) (sym moves.allocated.after) (inr holds.0), holds.1)
 
-  -- it moves
-  module _ (made copied new : Allocator) (align to len : ℕ) (is : len ≡ length (bytes_at old.state addr))
-      (first : Steps fllen sllen mid made (Allocates sllen mid.state size align (Some to)))
-      (second : Steps fllen sllen made copied (Fills made.state to (copied_over made.state addr to len)))
-      (third : Steps fllen sllen copied new (Deallocates copied.state addr)) where
-    moved_step : ReallocatesAnyAlign sllen old.state addr size align (Some to) new.state
-    moved_step =
-        let step1 = (opened fllen sllen mid made (Allocates sllen mid.state size align (Some to)) first).0 in
-        let step2 = (opened fllen sllen made copied (Fills made.state to (copied_over made.state addr to len)) second).0 in
-        let step3 = (opened fllen sllen copied new (Deallocates copied.state addr) third).0 in
-        let long : len ≡ length denied.block.bytes = is ∙ ap length held_bytes in
-        let by : MovesTo sllen old.state addr (length denied.block.bytes) size align to new.state = record {
-          made = made.state;
-          copied = copied.state;
-          allocated = subst (λ s. Allocates sllen s size align (Some to) made.state) denied_same step1;
-          filled = subst (λ n. Fills made.state to (copied_over made.state addr to n) copied.state) long step2;
-          released = step3;
-        } in
-        let moves : MovesTo sllen old.state denied.block.payload (length denied.block.bytes) size align to new.state =
-        subst (λ a. MovesTo sllen old.state a (length denied.block.bytes) size align to new.state) (sym denied.holds.1) by in
-        record { block = denied.block; holds = denied.holds; step = subst (λ o. ResizesBy sllen old.state denied.block size align o (Some to) new.state) (sym none_by) moves }
+  released : Deallocates mid addr t
+  released = subst (λ a. Deallocates mid a t) holds.1 moves.released
 
-    pub moved : SamePlace old.memory mid.memory → SamePlace old.memory made.memory → SamePlace old.memory copied.memory
-        → Steps fllen sllen old new (ReallocatesAnyAlign sllen old.state addr size align (Some to))
-    moved place1 place2 place3 =
-        let (_, _, spare0) = opened fllen sllen old mid (ReallocatesWithoutMove old.state addr size None) no in
-        let (step1, _, kept1) = opened fllen sllen mid made (Allocates sllen mid.state size align (Some to)) first in
-        let (step2, _, kept2) = opened fllen sllen made copied (Fills made.state to (copied_over made.state addr to len)) second in
-        let (step3, stood, kept3) = opened fllen sllen copied new (Deallocates copied.state addr) third in
-        let spare1 =
-        KeepsSpare-trans fllen sllen old.memory mid.memory made.memory old.state mid.state made.state (allocate size align (Some to)) (λ x. x) place1 step1 spare0 kept1 in
-        let spare2 =
-        KeepsSpare-trans fllen sllen old.memory made.memory copied.memory old.state made.state copied.state (fill to (copied_over made.state addr to len)) (λ x. x) place2
-        step2 spare1 kept2 in
-        let spare3 = KeepsSpare-trans fllen sllen old.memory copied.memory new.memory old.state copied.state new.state (deallocate addr) (λ x. x) place3 step3 spare2 kept3 in
-        closed fllen sllen old new (ReallocatesAnyAlign sllen old.state addr size align (Some to)) (moved_step, stood, spare3)
+  new : SeesNew s mid size align to
+  new = new_seen w mid size align to power moves.allocated
 
--- ---- what callers see
+  gone : SeesGone mid t addr
+  gone = gone_seen mid_well_formed t addr (u, still) released
 
--- a memory that stays in its place twice stays there
-pub place_after : (m n k : Space) → SamePlace m n → SamePlace n k → SamePlace m k
-place_after m n k first then = (then.0 ∙ first.0, then.1 ∙ first.1, then.2 ∙ first.2, λ none. then.3 (first.3 none))
+  off : to ≢ addr
+  off e = none-some u.align (sym new.new ∙ ap (align_at s) e ∙ align_at-held w addr u holds)
 
-module _ (old made copied new : State) (addr to len : ℕ) (is : len ≡ length (bytes_at old addr)) (enough : len ≤ length (bytes_at made to))
-    (as_was : bytes_at made addr ≡ bytes_at old addr) (filled : bytes_at copied to ≡ copied_over made addr to len) (still : bytes_at new to ≡ bytes_at copied to) where
-  here : bytes_at new to ≡ with_front len (bytes_at old addr) (bytes_at made to)
-  here = still ∙ filled ∙ ap (λ bs. with_front len bs (bytes_at made to)) as_was
+  has : bytes_at mid to ≡ moves.block.bytes
+  has = bytes_at-held mid_well_formed to moves.block moves.holds
 
-  -- the new payload is as long as it was made
-  pub moved_long : length (bytes_at new to) ≡ length (bytes_at made to)
-  moved_long = ap length here ∙ length-front len (bytes_at old addr) (bytes_at made to) (sym is) enough
+  pub moved : IsMoved sllen s t addr size align to
+  moved =
+      let live : align_at t to ≡ Some align = gone.aligns to off ∙ new.live in
+      let kept : bytes_at t to ≡ bytes_at mid to = gone.bytes to off in
+      record {
+        step = record { block = u; holds = holds; step = subst (λ o. ResizesBy sllen s u size align o (Some to) t) (sym none) moves };
+        result = record {
+          live = subst IsSome (sym live) refl;
+          there = λ e. absurd (off e);
+          moved = λ apart. live;
+          gone = λ apart. gone.gone;
+          sized = subst (λ (l : List ℕ). size ≤ length l) (sym kept) new.sized;
+          few = subst (λ (l : List ℕ). length l < size + 32) (sym kept) new.few;
+          kept = subst (λ (x : List ℕ × List ℕ). Keeps x.0 x.1) (λ i. (sym (bytes_at-held w addr u holds) i, sym (kept ∙ has) i)) moves.kept;
+          new = λ apart. new.new;
+          aligns = λ a from at. gone.aligns a from ∙ new.aligns a at;
+          bytes = λ a from at. gone.bytes a from ∙ new.bytes a at;
+        };
+        some = omega (arith, moves.allocated.answer, payload_of-after moves.allocated.range.start align);
+        bounds = λ count most widest was sized live within short fits. sized_gone mid_well_formed t count most widest
+            (sized_new w mid count most widest sized size align (Some to) power short fits moves.allocated) addr (u, still) released;
+        count = omega (arith, count_new w mid size align to power moves.allocated, count_gone mid_well_formed t addr (u, still) released);
+        chunks = chunks-deallocated mid t addr released ∙ chunks-allocated sllen s mid size align (Some to) moves.allocated;
+      }
 
-  -- and begins with the old bytes
-  pub moved_keeps : Keeps (bytes_at old addr) (bytes_at new to)
-  moved_keeps = subst (Keeps (bytes_at old addr)) (sym here) (Keeps-front len (bytes_at old addr) (bytes_at made to) (sym is) enough)
-
--- a payload that is made lies at another address
-pub made_elsewhere : (s : State) (addr to : ℕ) → IsSome (align_at s addr) → align_at s to ≡ None → addr ≢ to
-made_elsewhere s addr to live none e = absurd (true≢false (sym (subst IsSome (ap (align_at s) e ∙ none) live)))
+  pub moved-bare : deallocated addr (allocated sllen size align (bare s)) ≡ bare t
+  moved-bare = ap (deallocated addr) (allocated-bare sllen s mid size align to moves.allocated) ∙ deallocated-bare mid_well_formed t addr released

@@ -17,10 +17,10 @@ ghost use Rattle.rlsf_tlsf.specs.Bounds.{IfWithinBounds, KeepsAllBounds, KeepsBo
 ghost use Rattle.rlsf_tlsf.specs.Cores.{AtEachFound, HasFound, IsCore, IsOwnBlock, IsOwnFound, IsPlaced, LeavesCore, append_cost, found_cost, insert_cost};
 ghost use Rattle.rlsf_tlsf.specs.Results.{IsAppended, IsDeallocated, IsInserted, IsRemoved, IsUnchanged, KeepsFrameOfPools};
 
-mod moving;
+mod resizing;
 
 use crate::state::GhostState;
-pub use moving::reallocate_in;
+pub use resizing::{resize_block_in, resize_in};
 use rlsf_base::memory::{Layout, OpenMemory, Range};
 use rlsf_blocks::{
     allocate_range, append_chunks, deallocate_block, insert_chunks, load_block_of, remove_chunks,
@@ -29,9 +29,10 @@ use rlsf_blocks::{
 use rlsf_table::ClassTable;
 use std::num::NonZeroUsize;
 
-mod resizing;
+mod moving;
 
-pub use resizing::{resize_block_in, resize_in};
+pub use moving::reallocate_in;
+pub(crate) use moving::reallocate_unknown_align_in;
 
 /// Allocates a payload for `layout`, as `Tlsf::allocate` does. Returns its bytes, which are still the memory's.
 // In line, so that the tests of an alignment that is constant at the call go away.

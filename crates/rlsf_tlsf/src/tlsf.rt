@@ -64,7 +64,6 @@ impl<FLBitmap: BitPattern, SLBitmap: BitPattern, const FLLEN: usize, const SLLEN
     SLLEN,
 > {
     ghost use Rattle.rlsf_tlsf.specs.Allocator.{Stands, Steps};
-    ghost use Rattle.rlsf_tlsf.specs.CoreResizes.{KeepsBoundsThere, KeepsPayloads, stayed_if};
     ghost use Rattle.rlsf_tlsf.specs.Lending.{LeavesRest, lends_payload, written};
     ghost use Rattle.rlsf_tlsf.specs.Bounds.{IfWithinBounds, KeepsAllBounds, KeepsBounds};
     ghost use Rattle.rlsf_tlsf.specs.Results.{IsAllocated, IsDeallocated, IsFilled, IsReallocated, IsResized, IsUnchanged};
@@ -250,37 +249,6 @@ impl<FLBitmap: BitPattern, SLBitmap: BitPattern, const FLLEN: usize, const SLLEN
             return None;
         }
         Some(addr)
-    }
-
-    /// Changes the size of the payload at `addr` without moving it, as `reallocate_no_move` does, if the caller does not know
-    /// its alignment. Of `layout` only the size counts.
-    ///
-    /// Returns whether the bytes suffice, and how many usable bytes the payload had.
-    ///
-    /// The payload at `addr` must be live, with any alignment.
-    pub(crate) fn resize_unknown_align(&mut self, addr: Addr, layout: Layout) -> (bool, usize)
-        requires { IsSome (align_at self.old.state (at addr)) }
-        ensures stands { Stands FLLEN SLLEN self.old }
-        ensures step { Steps FLLEN SLLEN self.old self.new (ReallocatesWithoutMove self.old.state (at addr) layout.size (stayed_if result.0 (at addr))) }
-        ensures resized { result.0 ≡ true → IsResized self.old.state self.new.state (at addr) layout.size (at addr) }
-        ensures kept { KeepsPayloads self.old.state self.new.state (at addr) }
-        ensures bounds { KeepsBoundsThere SLLEN self.old.state self.new.state (at addr) layout.size }
-        ensures unchanged { result.0 ≡ false → (self.new.memory.bytes ≡ self.old.memory.bytes) × (self.new.memory.touches ≤ self.old.memory.touches + 7) }
-        ensures len { result.1 ≡ length (bytes_at self.old.state (at addr)) }
-        ensures frame { KeepsFrame self.old self.new }
-        ensures touches { self.new.memory.touches ≤ self.old.memory.touches + 29 }
-    {
-        let payload = addr.get();
-        let usable = load_usable_bytes(&mut self.memory.inner, payload);
-        let stays = resize_in(
-            &mut self.memory.inner,
-            &mut self.table,
-            &mut self.state,
-            payload,
-            None,
-            layout,
-        );
-        (stays, usable.len)
     }
 
     /// Returns the number of usable bytes of the payload at `addr`: those from `addr` to the end of its block. They are

@@ -4,9 +4,11 @@ ghost use Rattle.std.specs.Prelude.{◌≤◌, ◌<◌, ◌+◌, None, Some, IfN
 ghost use Rattle.rlsf_base.specs.Addr.{at, reply};
 ghost use Rattle.rlsf_model.specs.Callers.{align_at};
 
+use crate::core_calls::reallocate_unknown_align_in;
 use crate::tlsf::Tlsf;
 use rlsf_base::memory::{Addr, Layout};
 use rlsf_int::BitPattern;
+use std::num::NonZeroUsize;
 
 impl<FLBitmap: BitPattern, SLBitmap: BitPattern, const FLLEN: usize, const SLLEN: usize> Tlsf<
     FLBitmap,
@@ -32,8 +34,9 @@ impl<FLBitmap: BitPattern, SLBitmap: BitPattern, const FLLEN: usize, const SLLEN
     ///
     /// The payload at `addr` must be live, with any alignment.
     ///
-    /// At most 67 word accesses, whatever the pools contain. If the payload stays, no byte is copied. If it moves, at most the
+    /// At most 63 word accesses, whatever the pools contain. If the payload stays, no byte is copied. If it moves, at most the
     /// bytes that it had are copied.
+    #[tactic(auto, using(crate::proofs::Whole::none_again, crate::proofs::Whole::allocator_again))]
     pub fn reallocate_unknown_align(&mut self, addr: Addr, layout: Layout) -> Option<Addr>
         requires { IsSome (align_at self.old.state (at addr)) }
         ensures step { Steps FLLEN SLLEN self.old self.new (ReallocatesAnyAlign SLLEN self.old.state (at addr) layout.size layout.align (reply result)) }
@@ -42,18 +45,16 @@ impl<FLBitmap: BitPattern, SLBitmap: BitPattern, const FLLEN: usize, const SLLEN
         ensures bounds { KeepsBoundsAnyAlign SLLEN self.old.state (at addr) layout.size layout.align self.new.state }
         ensures refused { IfNone result (IsUnchanged self.old self.new) }
         ensures frame { KeepsFrameMoving (at addr) layout.size self.old self.new }
-        ensures touches { self.new.memory.touches ≤ self.old.memory.touches + 67 }
+        ensures touches { self.new.memory.touches ≤ self.old.memory.touches + 63 }
     {
-        let (stays, len) = self.resize_unknown_align(addr, layout);
-        if stays {
-            return Some(addr);
-        }
-        match self.allocate(layout) {
-            Some(to) => {
-                self.copy_payload(addr, to, len);
-                self.deallocate_unknown_align(addr);
-                Some(to)
-            }
+        match reallocate_unknown_align_in(
+            &mut self.memory.inner,
+            &mut self.table,
+            &mut self.state,
+            addr.get(),
+            layout,
+        ) {
+            Some(to) => NonZeroUsize::new(to),
             None => None,
         }
     }

@@ -3,6 +3,7 @@ use Rattle.std.proofs.Common.{◌≡◌, ℕ, ◌+◌, ◌-◌, ◌<◌, List, N
 use Rattle.std.proofs.lemmas.List.{take-take, take_all}
 use Rattle.std.specs.List.{splice}
 use Rattle.rlsf_base.specs.declared.memory.range.Range.{Range}
+use Rattle.rlsf_base.specs.PowerOfTwo.{IsPowerOfTwo}
 use Rattle.rlsf_base.specs.Range.{end_of, range_at, LiesIn}
 use Rattle.rlsf_base.specs.Sizes.{request_size}
 use Rattle.rlsf_base.specs.Space.{Space, bytes_in, with_bytes}
@@ -23,6 +24,7 @@ use Rattle.rlsf_model.proofs.Live.{allocated_filled}
 use Rattle.rlsf_model.proofs.Payloads.{payload_of-after, usable-short, IsUsed-after_start}
 use Rattle.rlsf_blocks.specs.Spare.{IsSpare, KeepsSpare}
 use Rattle.rlsf_blocks.specs.StandsFor.{contents, StandsFor}
+use Rattle.rlsf_blocks.specs.Steps.Resize.{realigned}
 use Rattle.rlsf_table.specs.Table.{Table}
 use Rattle.rlsf_blocks.proofs.Payloads.Filled.{IsSameOutside, stands_filled}
 use Rattle.rlsf_blocks.proofs.Words.Apart.{free_in_memory, used_in_memory}
@@ -30,10 +32,10 @@ use Rattle.rlsf_blocks.proofs.Words.NeverOut.{here_free}
 
 module _ {fllen sllen : ℕ} {memory : Range} {m : Space} {table : Table} {s t : State} (w : IsWellFormed fllen sllen memory s) (u : Used) (i : IsIn u s.used) (size : ℕ)
     (short : in_place s u size ≡ None)
-    {addr : ℕ} (places : Places sllen s size u.align addr t) (v : StandsFor fllen sllen (contents m table) t) where
+    {addr align : ℕ} (places : Places sllen s size align addr t) (v : StandsFor fllen sllen (contents m table) t) where
   -- the block that was allocated, with these bytes
   abbrev block_with : List ℕ → Used
-  block_with bytes = placed places.range size u.align bytes
+  block_with bytes = placed places.range size align bytes
 
   -- the state in which both blocks are used, with these bytes in the new one
   abbrev pub both : List ℕ → State
@@ -49,7 +51,7 @@ module _ {fllen sllen : ℕ} {memory : Range} {m : Space} {table : Table} {s t :
   old_stays = subst (λ x. IsIn u x.used) (sym places.after) (inr i)
 
   shorter : (usable u).len < (usable new).len
-  shorter = omega (arith, usable-short w u i size short, payload_of-after places.range.start u.align)
+  shorter = omega (arith, usable-short w u i size short, payload_of-after places.range.start align)
 
   pub LiesIn-old : LiesIn (usable u) m.start (length m.bytes)
   LiesIn-old =
@@ -61,17 +63,17 @@ module _ {fllen sllen : ℕ} {memory : Range} {m : Space} {table : Table} {s t :
   pub LiesIn-new : LiesIn (range_at addr (usable u).len) m.start (length m.bytes)
   LiesIn-new =
       let place = used_in_memory v.well_formed new Holds-new.0 in (
-        omega (arith, places.answer, place.0, payload_of-after places.range.start u.align),
-        omega (arith, places.answer, place.1, shorter, payload_of-after places.range.start u.align),
+        omega (arith, places.answer, place.0, payload_of-after places.range.start align),
+        omega (arith, places.answer, place.1, shorter, payload_of-after places.range.start align),
       )
 
   -- which were a free block's, and so are the memory's own
-  pub IsOwned-new : (l : Space) (old : Table) → StandsFor fllen sllen (contents l old) s → SameOwn l m → IsOwned m (range_at addr (usable u).len)
-  IsOwned-new l old first same =
+  pub IsOwned-new : IsPowerOfTwo align → (l : Space) (old : Table) → StandsFor fllen sllen (contents l old) s → SameOwn l m → IsOwned m (range_at addr (usable u).len)
+  IsOwned-new power l old first same =
       let f = places.range in
-      let is_in = (choice-some sllen (request_size size u.align) s.free f places.chosen).is_in in
-      let after = payload_of-after f.start u.align in
-      let fits = placed-fits w f size u.align (w.used u i).power places.chosen in
+      let is_in = (choice-some sllen (request_size size align) s.free f places.chosen).is_in in
+      let after = payload_of-after f.start align in
+      let fits = placed-fits w f size align power places.chosen in
       let target = range_at addr (usable u).len in
       own-there l m target (omega (arith, places.answer, after, (free_in_memory first.well_formed f is_in).0)) same
       (own-inside l f target (omega (arith, places.answer, after)) (omega (arith, places.answer, shorter, fits)) (here_free first f is_in))
@@ -87,8 +89,8 @@ module _ {fllen sllen : ℕ} {memory : Range} {m : Space} {table : Table} {s t :
     pub stands : StandsFor fllen sllen (contents n table) (both bytes)
     pub spare : KeepsSpare m t n (both bytes)
 
-  module _ (l : Space) (old : Table) (first : StandsFor fllen sllen (contents l old) s) (stays : SameOwn l m) {r : Range} (is : r ≡ usable u) (n : Space)
-      (start : n.start ≡ m.start) (copied : n.bytes ≡ with_bytes m addr (bytes_in m r))
+  module _ (power : IsPowerOfTwo align) (l : Space) (old : Table) (first : StandsFor fllen sllen (contents l old) s) (stays : SameOwn l m) {r : Range} (is : r ≡ usable u)
+      (n : Space) (start : n.start ≡ m.start) (copied : n.bytes ≡ with_bytes m addr (bytes_in m r))
       (out : n.out ≡ out_with m (range_at addr r.len)) where
     abbrev target : Range
     target = range_at addr (usable u).len
@@ -111,11 +113,11 @@ module _ {fllen sllen : ℕ} {memory : Range} {m : Space} {table : Table} {s t :
       length = length-with m n target u.bytes LiesIn-new long start spliced;
       bytes = λ q from side. bytes_in-with m n target u.bytes LiesIn-new long start spliced q from (elim side [
         | inl before ↦ inl (omega (arith, before, places.answer))
-        | inr behind ↦ inr (omega (arith, behind, places.answer, shorter, payload_of-after places.range.start u.align))
+        | inr behind ↦ inr (omega (arith, behind, places.answer, shorter, payload_of-after places.range.start align))
       ]);
       out = λ a inside side. out_at-copied m n (usable u) addr LiesIn-old LiesIn-new start copied_there out_there a inside (elim side [
         | inl before ↦ inl (omega (arith, before, places.answer))
-        | inr behind ↦ inr (omega (arith, behind, places.answer, shorter, payload_of-after places.range.start u.align))
+        | inr behind ↦ inr (omega (arith, behind, places.answer, shorter, payload_of-after places.range.start align))
       ]);
     }
 
@@ -135,7 +137,7 @@ module _ {fllen sllen : ℕ} {memory : Range} {m : Space} {table : Table} {s t :
         let same : fills.block ≡ new = Holds-unique v.well_formed addr fills.block new fills.holds Holds-new in
         let bytes = bytes_in n (usable new) in
         let whole : length bytes ≡ end_of new.block - addr = fills.length ∙ ap (λ b. length b.bytes) same ∙ places.length in
-        let is_both : x ≡ both bytes = allocated_filled w (w.used u i).power places fills in (
+        let is_both : x ≡ both bytes = allocated_filled w power places fills in (
           bytes,
           record {
             length = whole;
@@ -143,7 +145,7 @@ module _ {fllen sllen : ℕ} {memory : Range} {m : Space} {table : Table} {s t :
             stands = subst (StandsFor fllen sllen (contents n table)) is_both stands;
             spare = subst (KeepsSpare m t n) is_both spare;
             place = (start, IsSameOutside-copied.length);
-            own = is_own-copied m n (usable u) addr LiesIn-old LiesIn-new start copied_there out_there (IsOwned-new l old first stays);
+            own = is_own-copied m n (usable u) addr LiesIn-old LiesIn-new start copied_there out_there (IsOwned-new power l old first stays);
             here = here-copied m n (usable u) addr LiesIn-old LiesIn-new start copied_there out_there;
             there = out_at-there m n (usable u) addr LiesIn-old LiesIn-new start copied_there out_there;
           },
@@ -154,7 +156,7 @@ module _ {fllen sllen : ℕ} {memory : Range} {m : Space} {table : Table} {s t :
     pub IsOwned-old : IsHere m (usable u) → IsOwned n (usable u)
     IsOwned-old here = own-there m n (usable u) (omega (arith, LiesIn-old)) is.own (own-here m (usable u) here)
 
-    pub MovesAway-copied : MovesAway sllen s u size addr (released (both bytes) u)
+    pub MovesAway-copied : MovesAway sllen s (realigned u align) size addr (released (both bytes) u)
     MovesAway-copied = record {
       meanwhile = both bytes;
       allocated = record { range = places.range; bytes = bytes; chosen = places.chosen; answer = places.answer; length = is.length; after = refl };

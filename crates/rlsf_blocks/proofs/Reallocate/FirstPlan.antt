@@ -7,9 +7,13 @@ use Rattle.rlsf_model.specs.State.{State, Used}
 use Rattle.rlsf_blocks.specs.Spare.{KeepsSpare}
 use Rattle.rlsf_blocks.specs.StandsFor.{contents, StandsFor}
 use Rattle.rlsf_table.specs.Counts.{Counts}
-use Rattle.rlsf_blocks.specs.Steps.Resize.{IsCarriedOut, IsReallocated}
+use Rattle.rlsf_blocks.specs.Steps.Resize.{IsCarriedOut, IsReallocated, IsUsedAt}
 use Rattle.rlsf_table.specs.Table.{Table}
 use Rattle.rlsf_blocks.proofs.RepresentedStates.Counted.{KeepsSpare-counted, KeepsSpare-counted_first, StandsFor-counted}
+
+-- a used block of some alignment has its own
+pub own_align : {s : State} {u : Used} {block payload align : ℕ} → IsUsedAt s u block payload align → IsUsedAt s u block payload u.align
+own_align at = record { is_used = at.is_used; start = at.start; caller = at.caller; alignment = refl }
 
 -- ---- choices of plans
 

@@ -40,6 +40,19 @@ AtEachHere fllen sllen m t block payload layout P = AtEachPayload fllen sllen m 
 abbrev pub AtEachAligned : ℕ → ℕ → Space → Table → ℕ → ℕ → (State → Used → Type 0) → Type 0
 AtEachAligned fllen sllen m t block payload P = (s : State) (u : Used) → StandsFor fllen sllen (contents m t) s → IsUsedAt s u block payload u.align → P s u
 
+-- the same where it is too short for that size
+abbrev pub AtEachTooShort : ℕ → ℕ → Space → Table → ℕ → ℕ → ℕ → (State → Used → Type 0) → Type 0
+AtEachTooShort fllen sllen m t block payload size P = AtEachAligned fllen sllen m t block payload (λ s u. in_place s u size ≡ None → P s u)
+
+-- the same where its usable bytes are here
+abbrev pub AtEachTooShortHere : ℕ → ℕ → Space → Table → ℕ → ℕ → ℕ → (State → Used → Type 0) → Type 0
+AtEachTooShortHere fllen sllen m t block payload size P = AtEachTooShort fllen sllen m t block payload size (λ s u. IsHere m (usable u) → P s u)
+
+-- some state that memory and table represent has such a block, too short for that size, and its usable bytes are here
+abbrev pub HasTooShortHere : ℕ → ℕ → Space → Table → ℕ → ℕ → ℕ → Type 0
+HasTooShortHere fllen sllen m t block payload size = (s : State) × (u : Used) × StandsFor fllen sllen (contents m t) s × IsUsedAt s u block payload u.align
+    × (in_place s u size ≡ None) × IsHere m (usable u)
+
 -- this is true of that block, by the layout's alignment, where it is too short for the layout
 abbrev pub AtEachShort : ℕ → ℕ → Space → Table → ℕ → ℕ → Layout → (State → Used → Type 0) → Type 0
 AtEachShort fllen sllen m t block payload layout P = (s : State) (u : Used) → StandsFor fllen sllen (contents m t) s
@@ -153,9 +166,14 @@ IsMovedBefore fllen sllen m n t s u size reply = IfSome reply (IsPlanned fllen s
 abbrev pub IsReallocated : ℕ → ℕ → Space → Space → Table → State → Used → ℕ → Option ℕ → Type 0
 IsReallocated fllen sllen m n t s u size reply = StepsTo fllen sllen m n t s (ReallocatesBy sllen s u size (plan s u size) reply)
 
--- the payload lies in a block that was allocated for it, and its old block is deallocated; or the allocation is refused
-abbrev pub IsElsewhere : ℕ → ℕ → Space → Space → Table → State → Used → ℕ → Option ℕ → Type 0
-IsElsewhere fllen sllen m n t s u size reply = MatchOption reply (Allocates sllen s size u.align None s) (λ addr. StepsTo fllen sllen m n t s (MovesAway sllen s u size addr))
+-- the used block, with another alignment of its payload
+abbrev pub realigned : Used → ℕ → Used
+realigned u align = record u { align = align }
+
+-- the payload lies in a block that was allocated for it, by the alignment, and its old block is deallocated; or the allocation is refused
+abbrev pub IsElsewhere : ℕ → ℕ → Space → Space → Table → State → Used → ℕ → ℕ → Option ℕ → Type 0
+IsElsewhere fllen sllen m n t s u size align reply =
+    MatchOption reply (Allocates sllen s size align None s) (λ addr. StepsTo fllen sllen m n t s (MovesAway sllen s (realigned u align) size addr))
 
 -- if the usable bytes of the used block were here, as many bytes are here from the returned address on, if one is returned
 abbrev pub IsHereStill : Space → Space → Used → Option ℕ → Type 0

@@ -1,18 +1,20 @@
-//! The call on a core that gives a payload another size, and may move it.
+//! The calls on a core that give a payload another size, and may move it.
 
-ghost use Rattle.std.specs.Prelude.{◌≡◌, ◌-◌, [], IfNone, IfSome, IsSome};
+ghost use Rattle.std.specs.Prelude.{◌≡◌, ◌<◌, ◌-◌, [], IfNone, IfSome, IsSome};
 ghost use Rattle.rlsf_model.specs.Reallocate.{Reallocates};
+ghost use Rattle.rlsf_model.specs.Run.{IsSomeLive};
 ghost use Rattle.rlsf_blocks.specs.Laws.{read_from};
 ghost use Rattle.rlsf_tlsf.specs.Allocator.{allocator};
-ghost use Rattle.rlsf_tlsf.specs.Bounds.{IfWithinBounds, KeepsBounds};
+ghost use Rattle.rlsf_tlsf.specs.Bounds.{IfWithinBounds, KeepsBounds, KeepsBoundsAnyAlign};
 ghost use Rattle.rlsf_tlsf.specs.Cores.{IsCore, LeavesCoreCopying};
 ghost use Rattle.rlsf_tlsf.specs.Moving.{IsHerePayload, IsRelocated};
-ghost use Rattle.rlsf_tlsf.specs.Results.{IsUnchanged, KeepsFrameMoving};
+ghost use Rattle.rlsf_tlsf.specs.Results.{IsReallocatedAnyAlign, IsUnchanged, KeepsFrameMoving};
+ghost use Rattle.rlsf_tlsf.specs.UnknownAlign.{ReallocatesAnyAlign};
 
-use crate::core_calls::find_block;
+use crate::core_calls::{find_block, resize_block_in};
 use crate::state::GhostState;
 use rlsf_base::memory::{Layout, OpenMemory};
-use rlsf_blocks::reallocation::reallocate_block;
+use rlsf_blocks::reallocation::{move_elsewhere, reallocate_block};
 use rlsf_table::ClassTable;
 
 /// Changes the size of the payload at `addr` to that of `layout`, as `Tlsf::reallocate` does. Returns its address.
@@ -45,6 +47,45 @@ pub fn reallocate_in<const FLLEN: usize, const SLLEN: usize, const WHOLE: usize>
         Some(to) => {
             state.reallocate(SLLEN, addr, layout.size());
             Some(to)
+        }
+        None => None,
+    }
+}
+
+/// Changes the size of the payload at `addr` to that of `layout`, as `Tlsf::reallocate_unknown_align` does. Returns its address.
+///
+/// No byte of the memory may be raw or out.
+#[inline(always)]
+pub(crate) fn reallocate_unknown_align_in<const FLLEN: usize, const SLLEN: usize>(
+    memory: &mut OpenMemory,
+    table: &mut ClassTable<FLLEN, SLLEN>,
+    state: &mut GhostState,
+    addr: usize,
+    layout: Layout,
+) -> Option<usize>
+    requires core { IsCore FLLEN SLLEN memory.old table.old state.old.state }
+    requires live { IsSomeLive (read_from memory.old state.old.state) addr }
+    requires whole { memory.old.out ≡ [] }
+    ensures left { LeavesCoreCopying FLLEN SLLEN memory.old memory.new table.new state.old.state state.new.state 63 (memory.new.copied - memory.old.copied) }
+    ensures step { ReallocatesAnyAlign SLLEN (read_from memory.old state.old.state) addr layout.size layout.align result (read_from memory.new state.new.state) }
+    ensures result { IfSome result (λ to. 0 < to × IsReallocatedAnyAlign (read_from memory.old state.old.state) (read_from memory.new state.new.state) addr layout.size layout.align to) }
+    ensures room { IfWithinBounds SLLEN (read_from memory.old state.old.state) layout.size layout.align (IsSome result) }
+    ensures bounds { KeepsBoundsAnyAlign SLLEN (read_from memory.old state.old.state) addr layout.size layout.align (read_from memory.new state.new.state) }
+    ensures refused { IfNone result (IsUnchanged (allocator memory.old table.old state.old.state) (allocator memory.new table.new state.new.state)) }
+    ensures frame { KeepsFrameMoving addr layout.size (allocator memory.old table.old state.old.state) (allocator memory.new table.new state.new.state) }
+{
+    let block = find_block(memory, addr, None);
+    // What lies before the payload in its block is shorter than the memory. So with any size the block's length fits in a word.
+    memory.is_below_limit();
+    if resize_block_in(memory, table, state, block, addr, layout) {
+        return Some(addr);
+    }
+    let view = memory.view();
+    match move_elsewhere::<FLLEN, SLLEN, 1>(memory, view, table, block, addr, layout) {
+        Some(moved) => {
+            state.allocate(SLLEN, layout.size(), layout.align());
+            state.deallocate(addr);
+            Some(moved)
         }
         None => None,
     }

@@ -1,10 +1,13 @@
-use Rattle.std.proofs.Common.{arith, ◌∙◌, rules}
+use Rattle.std.proofs.Common.{arith, ◌∙◌, rules, subst, sym}
 use Rattle.rlsf_base.proofs.Lending.Present.{here-same}
 use Rattle.rlsf_model.specs.State.{usable}
 use Rattle.rlsf_blocks.proofs.Reallocate.FirstPlan.{in_place-none, IsReallocated-counted_first, IsReallocated-elsewhere, IsReallocated-planned, plan-moves}
-use Rattle.rlsf_blocks.proofs.Reallocate.FirstPlan.{StandsFor-unchanged}
+use Rattle.rlsf_blocks.specs.Steps.Resize.{IsElsewhere}
+use Rattle.rlsf_blocks.proofs.Reallocate.FirstPlan.{StandsFor-unchanged, own_align}
 use Rattle.rlsf_blocks.proofs.Counting.{SamePlace-counted_first, grow-counted_first, grow_copied-counted_first, touches-counted_first, touches-more}
 use Rattle.rlsf_blocks.proofs.Refused.{none_more}
+use Rattle.rlsf_table.proofs.Costs.{SamePlace-costs}
+use Rattle.rlsf_blocks.proofs.Reallocate.Copies.{grow_copied-costs}
 use Rattle.rlsf_blocks.proofs.Words.Stays.{Stays, Stays-same, Stays-then}
 use Rattle.rlsf_blocks.proofs.reallocation.cases.moved.Goals as goal
 
@@ -26,7 +29,7 @@ move_elsewhere-requires g c =
         (
           search rules,
           (
-            (s, u, v1, is, none, here-same c.args.memory.now c.move_into_previous.new.memory (usable u) same.0.start same.0.out here),
+            (s, u, v1, own_align is, none, here-same c.args.memory.now c.move_into_previous.new.memory (usable u) same.0.start same.0.out here),
             λ whole. same.0.out ∙ c.requires.whole whole,
           ),
         ),
@@ -67,7 +70,7 @@ returns g c =
     let same = c.in_default.ensures.unchanged in
     let counts = same.0 in
     let moves = c.move_elsewhere.ensures in
-    let second : Stays n o = record { start = moves.place.0; own = moves.own; here = moves.here } in
+    let second : Stays n o = record { start = moves.costs.start; own = moves.own; here = moves.here } in
     let stays = Stays-then (Stays-same m n counts.start counts.out) second in
     record {
       step = λ s u v is first here.
@@ -76,16 +79,17 @@ returns g c =
           let nowhere = plan-moves s u size first ∙ c.in_default.ensures.refused s u v is none in
           IsReallocated-counted_first n o c.move_into_previous.new.table c.move_elsewhere.new.table s u size m 4 c.move_elsewhere.result counts
           (IsReallocated-elsewhere n o c.move_into_previous.new.table c.move_elsewhere.new.table s u size c.move_elsewhere.result 5 nowhere v1 moves.unchanged
-          (moves.step s u v1 is none (here-same m n (usable u) counts.start counts.out here)));
+          (subst (λ a. IsElsewhere g.row.FLLEN g.row.SLLEN n o c.move_elsewhere.new.table s u size a c.move_elsewhere.result) (sym is.alignment)
+          (moves.step s u v1 (own_align is) none (here-same m n (usable u) counts.start counts.out here))));
       refused = none_more c.move_elsewhere.result (λ same. same.0.bytes ∙ counts.bytes) moves.unchanged;
-      place = SamePlace-counted_first m n 4 counts o moves.place;
-      touches = touches-counted_first m n 4 counts o 59 moves.touches;
-      grow = grow-counted_first m n 4 counts o moves.grow;
-      copied = λ s u v is. omega (arith, counts.copied, moves.copied s u (StandsFor-unchanged m n c.args.table.now c.move_into_previous.new.table s 4 same v) is);
-      grow_copied = grow_copied-counted_first m n 4 counts o moves.grow_copied;
+      place = SamePlace-counted_first m n 4 counts o (SamePlace-costs moves.costs);
+      touches = touches-counted_first m n 4 counts o 59 moves.costs.touches;
+      grow = grow-counted_first m n 4 counts o moves.costs.grow;
+      copied = λ s u v is. omega (arith, counts.copied, moves.copied s u (StandsFor-unchanged m n c.args.table.now c.move_into_previous.new.table s 4 same v) (own_align is));
+      grow_copied = grow_copied-counted_first m n 4 counts o (grow_copied-costs moves.costs);
       own = stays.own;
       here = stays.here;
       kept_here = λ s u v is first here.
           let v1 = StandsFor-unchanged m n c.args.table.now c.move_into_previous.new.table s 4 same v in
-          moves.kept_here s u v1 is (in_place-none s u size first) (here-same m n (usable u) counts.start counts.out here);
+          moves.kept_here s u v1 (own_align is) (in_place-none s u size first) (here-same m n (usable u) counts.start counts.out here);
     }

@@ -2,10 +2,9 @@ use Rattle.std.proofs.Common.{◌≡◌, ℕ, ◌-◌, List, Option, Some, None,
 use mathlib.Core.Path.{ap₂}
 use Rattle.rlsf_base.specs.declared.memory.range.Range.{Range}
 use Rattle.rlsf_base.specs.Range.{range_at, LiesIn}
-use Rattle.rlsf_base.specs.Sizes.{request_size}
 use Rattle.rlsf_base.specs.OpenSpace.{IsHere, IsOwned, SameOwn, StaysHere}
 use Rattle.rlsf_base.proofs.Lending.Present.{out-same, own-same}
-use Rattle.rlsf_model.specs.Allocate.{choice, Places}
+use Rattle.rlsf_model.specs.Allocate.{Places}
 use Rattle.rlsf_model.specs.Lists.{IsIn}
 use Rattle.rlsf_model.specs.Reallocate.{in_place}
 use Rattle.rlsf_model.proofs.Payloads.{IsUsed-after_start}
@@ -21,10 +20,10 @@ use Rattle.rlsf_blocks.proofs.Reallocate.Elsewhere.{both, copied_stands, IsCopie
 use Rattle.rlsf_blocks.proofs.Words.Apart.{used_in_memory}
 use Rattle.rlsf_blocks.proofs.Words.Stays.{Stays, Stays-same, Stays-then}
 use Rattle.rlsf_table.specs.Counts.{Costs}
-use Rattle.rlsf_blocks.proofs.Counting.{Counts-counted_first, Counts-loaded, SamePlace-counted, copied-more, grow_copied-same, touches-counted}
-use Rattle.rlsf_table.proofs.Costs.{Costs-loaded, Costs-then, SamePlace-costs}
+use Rattle.rlsf_blocks.proofs.Counting.{Counts-counted_first, Counts-loaded, copied-more}
+use Rattle.rlsf_table.proofs.Costs.{Costs-counted, Costs-loaded, Costs-then, Costs-within}
 use Rattle.rlsf_blocks.proofs.Refused.{none_none, none_some}
-use Rattle.rlsf_blocks.proofs.Reallocate.Copies.{Costs-copied, Costs-moving, copied-costs, grow_copied-costs}
+use Rattle.rlsf_blocks.proofs.Reallocate.Copies.{Costs-copied, Costs-moving, copied-costs}
 use Rattle.rlsf_blocks.proofs.reallocation.elsewhere.move_elsewhere.Given as given
 use Rattle.rlsf_blocks.proofs.reallocation.elsewhere.move_elsewhere.Goals as goal
 use Rattle.rlsf_blocks.proofs.reallocation.elsewhere.move_elsewhere.Goals.{After-copy_payload, After-deallocate_block, After-load_at, In_ok-moved}
@@ -41,14 +40,14 @@ loaded g c v = StandsFor-counted c.args.memory.now c.load_at.new.self c.load_at.
 
 -- a block is allocated for it
 placing : (g : given.Over) (c : In_ok-moved g) (s : State) (u : Used) → StandsFor g.row.FLLEN g.row.SLLEN (contents c.args.memory.now c.args.table.now) s
-    → IsUsedAt s u c.args.block c.args.payload c.args.layout.align
-    → (t : State) × Places g.row.SLLEN s c.args.layout.size u.align c.in_ok-moved.moved t
+    → IsUsedAt s u c.args.block c.args.payload u.align
+    → (t : State) × Places g.row.SLLEN s c.args.layout.size c.args.layout.align c.in_ok-moved.moved t
     × StandsFor g.row.FLLEN g.row.SLLEN (contents c.allocate_block.new.memory c.allocate_block.new.table) t × KeepsSpare c.args.memory.now s c.allocate_block.new.memory t
 placing g c s u v is =
     let before = c.load_at.ensures in
     let (t, places, now, spare) = c.in_ok-moved.ensures.step s (StandsFor-counted c.args.memory.now c.load_at.new.self before.start before.bytes before.out v) in (
       t,
-      subst (λ a. Places g.row.SLLEN s c.args.layout.size a c.in_ok-moved.moved t) (sym is.alignment) places,
+      places,
       now,
       KeepsSpare-counted_first c.args.memory.now c.load_at.new.self before.start before.bytes before.out s t c.allocate_block.new.memory spare,
     )
@@ -65,7 +64,7 @@ still g c =
 
 -- what is copied is the old payload
 old_payload : (g : given.Over) (c : In_ok-moved g) {s : State} (u : Used) → StandsFor g.row.FLLEN g.row.SLLEN (contents c.args.memory.now c.args.table.now) s
-    → IsUsedAt s u c.args.block c.args.payload c.args.layout.align
+    → IsUsedAt s u c.args.block c.args.payload u.align
     → range_at c.args.payload (c.used_end-end.result - c.args.payload) ≡ usable u
 old_payload g c u v is = ap₂ (λ from to. between from to) (sym is.caller) (c.used_end-end.ensures ∙ sym (end_computed v u is.is_used is.start c.load_at.ensures.word))
 
@@ -104,7 +103,7 @@ copy_payload-requires g c =
       from = subst (λ r. LiesIn r m.start (length m.bytes)) same (LiesIn-old v.well_formed u is.is_used c.args.layout.size short places now);
       here = subst (IsHere m) same (payload_here g at u v is.is_used here);
       own = subst (λ (r : Range). IsOwned m (range_at c.in_ok-moved.moved r.len)) same
-          (IsOwned-new v.well_formed u is.is_used c.args.layout.size short places now c.args.memory.now c.args.table.now v (still g at).0);
+          (IsOwned-new v.well_formed u is.is_used c.args.layout.size short places now c.args.layout.valid.aligned c.args.memory.now c.args.table.now v (still g at).0);
       to = subst (λ (r : Range). LiesIn (range_at c.in_ok-moved.moved r.len) m.start (length m.bytes)) same
           (LiesIn-new v.well_formed u is.is_used c.args.layout.size short places now);
       whole = λ is. c.in_ok-moved.ensures.costs.none (c.load_at.ensures.out ∙ c.requires.whole is);
@@ -112,14 +111,14 @@ copy_payload-requires g c =
 
 -- the bytes are copied there
 copying : (g : given.Over) (c : After-copy_payload g) → SameOwn c.args.memory.now c.allocate_block.new.memory → {s : State} {u : Used}
-    (v : StandsFor g.row.FLLEN g.row.SLLEN (contents c.args.memory.now c.args.table.now) s) (is : IsUsedAt s u c.args.block c.args.payload c.args.layout.align)
-    (short : in_place s u c.args.layout.size ≡ None) {t : State} (places : Places g.row.SLLEN s c.args.layout.size u.align c.in_ok-moved.moved t)
+    (v : StandsFor g.row.FLLEN g.row.SLLEN (contents c.args.memory.now c.args.table.now) s) (is : IsUsedAt s u c.args.block c.args.payload u.align)
+    (short : in_place s u c.args.layout.size ≡ None) {t : State} (places : Places g.row.SLLEN s c.args.layout.size c.args.layout.align c.in_ok-moved.moved t)
     (now : StandsFor g.row.FLLEN g.row.SLLEN (contents c.allocate_block.new.memory c.allocate_block.new.table) t)
     → range_at c.args.payload (c.used_end-end.result - c.args.payload) ≡ usable u
     → (bytes : List ℕ) × IsCopied v.well_formed u is.is_used c.args.layout.size short places now c.copy_payload.new.memory bytes
 copying g c own {s} {u} v is short places now old =
-    copied_stands v.well_formed u is.is_used c.args.layout.size short places now c.args.memory.now c.args.table.now v own old c.copy_payload.new.memory
-    c.copy_payload.ensures.start c.copy_payload.ensures.bytes c.copy_payload.ensures.out
+    copied_stands v.well_formed u is.is_used c.args.layout.size short places now c.args.layout.valid.aligned c.args.memory.now c.args.table.now v own old
+    c.copy_payload.new.memory c.copy_payload.ensures.start c.copy_payload.ensures.bytes c.copy_payload.ensures.out
 
 pub deallocate_block-requires : goal.deallocate_block-requires
 deallocate_block-requires g c =
@@ -150,14 +149,10 @@ returns-in_err-moved g c =
     record {
       step = λ s u v is short here.
           let (t, none, now, spare) = c.in_err-moved.ensures.step s (loaded g at.After-load_at v) in
-          on_none _ c.from_residual.result c.from_residual.ensures
-          (subst (λ a. choice g.row.SLLEN (request_size c.args.layout.size a) s.free ≡ None) (sym is.alignment) none.0, refl);
+          on_none _ c.from_residual.result c.from_residual.ensures (none.0, refl);
       unchanged = none_none c.from_residual.result (counts, c.in_err-moved.ensures.unchanged.1);
-      place = SamePlace-counted m n 5 counts;
-      touches = touches-counted m n 5 counts 54;
-      grow = counts.grow;
+      costs = Costs-moving (omega (arith, counts.copied)) (Costs-within (omega arith) (Costs-counted counts));
       copied = λ s u v is. copied-more m n (usable u).len counts.copied;
-      grow_copied = grow_copied-same m n counts.copied;
       own = stays.own;
       here = stays.here;
       kept_here = λ s u v is short here. none_some _ c.from_residual.result c.from_residual.ensures;
@@ -207,11 +202,8 @@ returns g c =
                 (placed.start ∙ c.load_at.ensures.start, placed.length ∙ ap length c.load_at.ensures.bytes) spare last,
           );
       unchanged = tt;
-      place = SamePlace-costs costs;
-      touches = costs.touches;
-      grow = costs.grow;
+      costs = Costs-moving (omega (arith, costs.copied)) costs;
       copied = λ s u v is. copied-costs costs (ap (λ (r : Range). r.len) (old_payload g at.In_ok-moved u v is));
-      grow_copied = grow_copied-costs costs;
       own = stays.own;
       here = stays.here;
       kept_here = λ s u v is short here.

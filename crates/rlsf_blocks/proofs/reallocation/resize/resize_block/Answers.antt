@@ -1,4 +1,4 @@
-use Rattle.std.proofs.Common.{ℕ, ◌+◌, ◌-◌, ◌^◌, ◌<◌, refl, arith, rules}
+use Rattle.std.proofs.Common.{ℕ, ◌+◌, ◌-◌, ◌^◌, ◌<◌, arith, rules}
 use Rattle.rlsf_base.specs.Layout.{IsLayout}
 use Rattle.rlsf_base.specs.OpenSpace.{IsOwned}
 use Rattle.rlsf_base.specs.Space.{Space}
@@ -6,6 +6,7 @@ use Rattle.rlsf_model.specs.WellFormed.{IsUsed}
 use Rattle.rlsf_model.proofs.Payloads.{block_length-le, IsUsed-after_start, payload_of-le}
 use Rattle.rlsf_model.specs.State.{State, Used, usable}
 use Rattle.rlsf_blocks.specs.Steps.Resize.{IsOwnedBehind, IsUsedAt}
+use Rattle.rlsf_blocks.proofs.Reallocate.FirstPlan.{own_align}
 use Rattle.rlsf_blocks.proofs.reallocation.resize.resize_block.Goals as goal
 
 -- what is behind the new end is usable
@@ -14,10 +15,6 @@ owned m u size is own a lo hi =
     let long = block_length-le u.block.start u.payload size in
     let after = IsUsed-after_start u is in
     own a (omega (arith, lo, long, after)) (omega (arith, lo, hi, long, after))
-
--- a used block of some alignment has its own
-own_align : {s : State} {u : Used} {block payload align : ℕ} → IsUsedAt s u block payload align → IsUsedAt s u block payload u.align
-own_align at = record { is_used = at.is_used; start = at.start; caller = at.caller; alignment = refl }
 
 -- the block that is sought fits in a word
 sought : (payload block size align : ℕ) {s : State} (u : Used) → IsUsed u → IsUsedAt s u block payload align → IsLayout size align → payload - block + size + 31 < 2 ^ 64

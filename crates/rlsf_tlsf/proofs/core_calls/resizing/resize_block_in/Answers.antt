@@ -11,13 +11,11 @@ use Rattle.rlsf_model.proofs.Coverage.{by_test}
 use Rattle.rlsf_model.proofs.NoMove.{unmoved_is_reallocated}
 use Rattle.rlsf_model.proofs.SizedWords.{count_resized, sized_resized}
 use Rattle.rlsf_blocks.specs.Laws.{read_from}
-use Rattle.rlsf_blocks.proofs.RepresentedStates.Counted.{KeepsSpare-counted}
 use Rattle.rlsf_tlsf.specs.CoreResizes.{KeepsPayloads}
-use Rattle.rlsf_tlsf.specs.Cores.{IsCore}
 use Rattle.rlsf_tlsf.specs.Results.{IsResized}
 use Rattle.rlsf_tlsf.specs.Steps.Moves.{bare, reallocated}
 use Rattle.rlsf_tlsf.proofs.Moved.{reallocated-bare}
-use Rattle.rlsf_tlsf.proofs.Reached.{LeavesCore-arrived, IsCore-counted, bare-core, read_from-counted, reads}
+use Rattle.rlsf_tlsf.proofs.Reached.{LeavesCore-arrived, LeavesCore-counted, LeavesCore-within, bare-core, read_from-counted, reads}
 use Rattle.rlsf_tlsf.proofs.core_calls.resizing.resize_block_in.Goals as goal
 
 pub resize_kept_block-requires : goal.resize_kept_block-requires
@@ -53,13 +51,7 @@ returns-then-not-resize_kept_block g c =
     let none = e.refused s u c.requires.core.stands (record { is_used = holds.0; start = start; caller = holds.1; alignment = refl }) no in
     let same : read_from n k ≡ s = read_from-counted counts k in
     record {
-      left = record {
-        core = subst (λ x. IsCore g.row.FLLEN g.row.SLLEN n x k) (sym table) (IsCore-counted counts c.requires.core);
-        spare = KeepsSpare-counted m n counts.start counts.bytes counts.out s (read_from n k);
-        costs = e.costs;
-        own = e.own;
-        here = e.here;
-      };
+      left = LeavesCore-within (omega arith) refl (LeavesCore-counted counts table refl c.requires.core);
       step = record { block = u; holds = holds; step = subst (λ o. ReallocatesUnmovedBy s u o None (read_from n k)) (sym none) same };
       result = λ yes. absurd (true≢false (sym yes));
       kept = record { aligns = ap align_at same; bytes = λ a apart. ap (λ x. bytes_at x a) same; count = ap live_count same; chunks = refl };
