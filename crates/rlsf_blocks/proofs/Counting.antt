@@ -1,6 +1,6 @@
 -- What a call leaves of a memory's place and counts, after one that only counted.
-use Rattle.std.proofs.Common.{◌≡◌, ℕ, ◌+◌, ◌≤◌, length, arith, ◌∙◌, ap, subst}
-use Rattle.rlsf_base.specs.Space.{Space, SamePlace}
+use Rattle.std.proofs.Common.{◌≡◌, ℕ, ◌+◌, ◌≤◌, arith, ◌∙◌, ap}
+use Rattle.rlsf_base.specs.Space.{Space}
 use Rattle.rlsf_table.specs.Counts.{Counts}
 
 -- more touches alone were counted
@@ -16,26 +16,6 @@ Counts-touched m n more touched =
       view = ap (λ (o : Space). o.view) touched;
       out = ap (λ (o : Space). o.out) touched;
     }
-
-module _ (m n : Space) (most : ℕ) (counts : Counts m n most) where
-  pub SamePlace-counted : SamePlace m n
-  SamePlace-counted = (counts.start, ap length counts.bytes, counts.view, λ none. counts.out ∙ none)
-
-  pub touches-counted : (more : ℕ) → n.touches ≤ m.touches + (most + more)
-  touches-counted more = omega arith
-
-  module _ (o : Space) where
-    pub SamePlace-counted_first : SamePlace n o → SamePlace m o
-    SamePlace-counted_first place = (place.0 ∙ counts.start, place.1 ∙ ap length counts.bytes, place.2 ∙ counts.view, λ none. place.3 (counts.out ∙ none))
-
-    pub touches-counted_first : (more : ℕ) → o.touches ≤ n.touches + more → o.touches ≤ m.touches + (most + more)
-    touches-counted_first more least = omega arith
-
-    pub grow-counted_first : n.touches ≤ o.touches → m.touches ≤ o.touches
-    grow-counted_first least = omega arith
-
-    pub grow_copied-counted_first : n.copied ≤ o.copied → m.copied ≤ o.copied
-    grow_copied-counted_first least = subst (λ x. x ≤ o.copied) counts.copied least
 
 -- a word alone was read
 pub Counts-loaded : (m n : Space) → n.start ≡ m.start → n.bytes ≡ m.bytes → n.touches ≡ m.touches + 1 → n.copied ≡ m.copied → n.view ≡ m.view
@@ -53,11 +33,5 @@ Counts-counted_first m n o most more first second = record {
   out = second.out ∙ first.out;
 }
 
-pub touches-more : (m n : Space) (most more : ℕ) → n.touches ≤ m.touches + most → n.touches ≤ m.touches + (most + more)
-touches-more m n most more least = omega arith
-
 pub copied-more : (m n : Space) (more : ℕ) → n.copied ≡ m.copied → n.copied ≤ m.copied + more
 copied-more m n more same = omega arith
-
-pub grow_copied-same : (m n : Space) → n.copied ≡ m.copied → m.copied ≤ n.copied
-grow_copied-same m n same = omega arith

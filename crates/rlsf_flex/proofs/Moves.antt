@@ -1,5 +1,6 @@
 -- A payload moves into a block that is allocated for it: its bytes are copied there, and its old block is deallocated.
-use Rattle.std.proofs.Common.{◌≡◌, ℕ, ◌≤◌, List, Some, length, arith, inl, refl, sym, ◌∙◌, ap, subst}
+use Rattle.std.proofs.Common.{◌≡◌, ℕ, ◌≤◌, List, Some, length, length-drop, min, take, drop, arith, inl, refl, sym, ◌∙◌, ap, subst}
+use Rattle.std.proofs.lemmas.List.{length-append, take_all, take_at}
 use Rattle.rlsf_base.specs.declared.memory.range.Range.{Range}
 use Rattle.rlsf_base.specs.PowerOfTwo.{IsPowerOfTwo}
 use Rattle.rlsf_base.specs.Space.{range_of, SamePlace}
@@ -7,7 +8,7 @@ use Rattle.rlsf_blocks.specs.Spare.{KeepsSpare}
 use Rattle.rlsf_tlsf.specs.Allocator.{Allocator, IsInState}
 use Rattle.rlsf_model.specs.Allocate.{Allocates, given, placed, Places}
 use Rattle.rlsf_model.specs.Callers.{bytes_at}
-use Rattle.rlsf_model.specs.Reallocate.{MovesAway}
+use Rattle.rlsf_model.specs.Reallocate.{Keeps, MovesAway}
 use Rattle.rlsf_model.specs.Release.{Deallocates}
 use Rattle.rlsf_model.specs.Run.{Fills, allocate, deallocate, fill}
 use Rattle.rlsf_model.specs.State.{State, Used, usable, with_front, Holds}
@@ -16,8 +17,22 @@ use Rattle.rlsf_model.proofs.CallerWords.{bytes_at-held}
 use Rattle.rlsf_model.proofs.Changes.{Holds-unique}
 use Rattle.rlsf_model.proofs.Live.{allocated_filled, allocation_has_size, other_payloads_stay}
 use Rattle.rlsf_blocks.proofs.RepresentedStates.SpareBytes.{KeepsSpare-trans}
-use Rattle.rlsf_tlsf.proofs.UnknownAlign.{Keeps-front}
 use Rattle.rlsf_flex.proofs.Places.{SamePlace-then}
+
+-- a list with the whole of a shorter one in front keeps it
+pub Keeps-front : (n : ℕ) (old new : List ℕ) → length old ≡ n → n ≤ length new → Keeps old (with_front n old new)
+Keeps-front n old new is short =
+    let whole : take n old ≡ old = take_all n old (omega (arith, is)) in
+    let front : length (take n old) ≡ n = ap length whole ∙ is in
+    let long : n ≤ length (with_front n old new) = omega (arith, length-append (take n old) (drop n new), front) in
+    let least : min (length old) (length (with_front n old new)) ≡ n = omega (arith, is, long) in
+    subst (λ k. take k (with_front n old new) ≡ take k old) (sym least) (take_at (take n old) (drop n new) n front)
+
+-- and is as long as it was
+pub length-front : (n : ℕ) (old new : List ℕ) → length old ≡ n → n ≤ length new → length (with_front n old new) ≡ length new
+length-front n old new is short =
+    let front : length (take n old) ≡ n = ap length (take_all n old (omega (arith, is))) ∙ is in
+    omega (arith, length-append (take n old) (drop n new), length-drop n new, front, short)
 
 -- the bytes that were copied are those of the two payloads
 pub Fills-copied : {fllen sllen : ℕ} {memory : Range} {s t : State} → IsWellFormed fllen sllen memory s → (from to len : ℕ) (x y : Used) → Holds s from x → Holds s to y

@@ -78,13 +78,22 @@ module _ {m n : Space} {some : ℕ} (counts : Counts m n some) where
     }
 
     -- or all that was done before a call
-    pub LeavesCore-counted_first : {o : Space} {y : Table} {j k : State} {most : ℕ} → LeavesCore fllen sllen n o y j k most → LeavesCore fllen sllen m o y j k (some + most)
-    LeavesCore-counted_first {o} {j = j} {k = k} left = record {
+    pub LeavesCore-counted_first : {o : Space} {y : Table} {j k : State} {most copies : ℕ} → LeavesCoreCopying fllen sllen n o y j k most copies
+        → LeavesCoreCopying fllen sllen m o y j k (some + most) copies
+    LeavesCore-counted_first {o} {j = j} {k = k} {most = most} {copies = copies} left = record {
       core = left.core;
       spare =
           KeepsSpare-counted_first m n counts.start counts.bytes counts.out (read_from m j) (read_from o k) o
           (subst (λ (s : State). KeepsSpare n s o (read_from o k)) (read_from-counted j) left.spare);
-      costs = Costs-then (Costs-counted counts) left.costs;
+      costs = let same : 0 + copies ≡ copies = omega arith in subst (Costs m o (some + most)) same (Costs-then (Costs-counted counts) left.costs);
       own = λ a inside. left.own a (omega (arith, inside, counts.start)) ∙ own-same m n counts.start counts.out a inside;
       here = λ a inside is. left.here a (omega (arith, inside, counts.start)) (out-same m n a counts.start counts.out ∙ is);
     }
+
+    -- before one that copied bytes, and led to the state
+    pub LeavesCore-moved : {o : Space} {y : Table} {j t : State} {most : ℕ} → StandsFor fllen sllen (contents o y) t → (k : State) → k ≡ bare t → IsValid 128 128 fllen sllen
+        → KeepsSpare n (read_from m j) o t → Costs n o most (o.copied - n.copied) → SameOwn n o → StaysHere n o
+        → LeavesCoreCopying fllen sllen m o y j k (some + most) (o.copied - m.copied)
+    LeavesCore-moved {o} {j = j} {t = t} now k kept valid spare costs own here =
+        let still : KeepsSpare n (read_from n j) o t = subst (λ (s : State). KeepsSpare n s o t) (sym (read_from-counted j)) spare in
+        LeavesCore-within (omega arith) (omega (arith, counts.copied)) (LeavesCore-counted_first (LeavesCore-arrived now k kept valid still costs own here))

@@ -1,7 +1,5 @@
 -- A reallocation by a caller that does not know the payload's alignment: it stays, or moves into one that is allocated for it.
-use Rattle.std.proofs.Common.{◌≡◌, ◌≢◌, ℕ, ◌<◌, ◌≤◌, List, length, min, take, drop, Option, Some, None, IsSome, arith, inr}
-use Rattle.std.proofs.Common.{◌+◌, length-drop, refl, sym, ◌∙◌, ap, subst}
-use Rattle.std.proofs.lemmas.List.{length-append, take_all, take_at}
+use Rattle.std.proofs.Common.{◌≡◌, ◌≢◌, ℕ, ◌+◌, ◌<◌, ◌≤◌, List, length, Option, Some, None, IsSome, arith, inr, refl, sym, ◌∙◌, ap, subst}
 use Rattle.std.proofs.lemmas.Option.{none-some}
 use Rattle.rlsf_base.specs.declared.memory.range.Range.{Range}
 use Rattle.rlsf_base.specs.PowerOfTwo.{IsPowerOfTwo}
@@ -11,7 +9,7 @@ use Rattle.rlsf_model.specs.NoMove.{ReallocatesUnmovedBy, ReallocatesWithoutMove
 use Rattle.rlsf_model.specs.Reallocate.{HasRoomToStay, Keeps, MovesAway, Plan}
 use Rattle.rlsf_model.specs.Release.{Deallocates}
 use Rattle.rlsf_model.specs.Sized.{live_count}
-use Rattle.rlsf_model.specs.State.{Holds, State, Used, with_front}
+use Rattle.rlsf_model.specs.State.{Holds, State, Used}
 use Rattle.rlsf_model.specs.WellFormed.{IsWellFormed}
 use Rattle.rlsf_model.proofs.Allocations.{Allocates-keeps}
 use Rattle.rlsf_model.proofs.CallerWords.{SeesGone, SeesNew, align_at-held, bytes_at-held, gone_seen, new_seen}
@@ -26,21 +24,6 @@ use Rattle.rlsf_tlsf.specs.Results.{IsReallocatedAnyAlign}
 use Rattle.rlsf_tlsf.specs.Steps.Moves.{allocated, bare, deallocated}
 use Rattle.rlsf_tlsf.specs.UnknownAlign.{ReallocatesAnyAlign, ResizesBy}
 use Rattle.rlsf_tlsf.proofs.Moved.{allocated-bare, deallocated-bare}
-
--- a list with the whole of a shorter one in front keeps it
-pub Keeps-front : (n : ℕ) (old new : List ℕ) → length old ≡ n → n ≤ length new → Keeps old (with_front n old new)
-Keeps-front n old new is short =
-    let whole : take n old ≡ old = take_all n old (omega (arith, is)) in
-    let front : length (take n old) ≡ n = ap length whole ∙ is in
-    let long : n ≤ length (with_front n old new) = omega (arith, length-append (take n old) (drop n new), front) in
-    let least : min (length old) (length (with_front n old new)) ≡ n = omega (arith, is, long) in
-    subst (λ k. take k (with_front n old new) ≡ take k old) (sym least) (take_at (take n old) (drop n new) n front)
-
--- and is as long as it was
-pub length-front : (n : ℕ) (old new : List ℕ) → length old ≡ n → n ≤ length new → length (with_front n old new) ≡ length new
-length-front n old new is short =
-    let front : length (take n old) ≡ n = ap length (take_all n old (omega (arith, is))) ∙ is in
-    omega (arith, length-append (take n old) (drop n new), length-drop n new, front, short)
 
 -- ---- it stays
 

@@ -105,9 +105,6 @@ Costs-copied m n r start len touches copied view out =
 pub Costs-moving : {m n : Space} {most a b : ℕ} → a ≡ b → Costs m n most a → Costs m n most b
 Costs-moving {m} {n} {most} same costs = subst (Costs m n most) same costs
 
--- no more bytes were copied than that, and none are taken back
+-- no more bytes were copied than that
 pub copied-costs : {m n : Space} {most a b : ℕ} → Costs m n most a → a ≡ b → n.copied ≤ m.copied + b
 copied-costs costs same = omega (arith, costs.copied, same)
-
-pub grow_copied-costs : {m n : Space} {most a : ℕ} → Costs m n most a → m.copied ≤ n.copied
-grow_copied-costs costs = omega (arith, costs.copied)

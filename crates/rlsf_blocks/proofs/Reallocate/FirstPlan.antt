@@ -26,11 +26,7 @@ or_else-none_first None q none = refl
 or_else-none_first (Some p) q none = absurd (cc)
 
 module _ (s : State) (u : Used) (size : ℕ) where
-  -- one of the first two plans, if one of them can be
-  pub plan-stays : (p : Plan) → or_else (in_place s u size) (into_next s u size) ≡ Some p → plan s u size ≡ Some p
-  plan-stays p is = or_else-associative (in_place s u size) (into_next s u size) (into_previous s u size) ∙ ap (λ o. or_else o (into_previous s u size)) is
-
-  -- else the last one
+  -- the last plan, if neither of the first two can be
   pub plan-moves : or_else (in_place s u size) (into_next s u size) ≡ None → plan s u size ≡ into_previous s u size
   plan-moves none = or_else-associative (in_place s u size) (into_next s u size) (into_previous s u size) ∙ ap (λ o. or_else o (into_previous s u size)) none
 

@@ -32,10 +32,6 @@ pub record IsUsedAt (s : State) (u : Used) (block payload align : ℕ) : Type 0 
 abbrev pub AtEachPayload : ℕ → ℕ → Space → Table → ℕ → ℕ → Layout → (State → Used → Type 0) → Type 0
 AtEachPayload fllen sllen m t block payload layout P = (s : State) (u : Used) → StandsFor fllen sllen (contents m t) s → IsUsedAt s u block payload layout.align → P s u
 
--- the same where its usable bytes are here
-abbrev pub AtEachHere : ℕ → ℕ → Space → Table → ℕ → ℕ → Layout → (State → Used → Type 0) → Type 0
-AtEachHere fllen sllen m t block payload layout P = AtEachPayload fllen sllen m t block payload layout (λ s u. IsHere m (usable u) → P s u)
-
 -- this is true of that block whatever the payload's alignment
 abbrev pub AtEachAligned : ℕ → ℕ → Space → Table → ℕ → ℕ → (State → Used → Type 0) → Type 0
 AtEachAligned fllen sllen m t block payload P = (s : State) (u : Used) → StandsFor fllen sllen (contents m t) s → IsUsedAt s u block payload u.align → P s u
@@ -153,10 +149,6 @@ IsResized fllen sllen m n t s u size addr = IsPlanned fllen sllen m n t s u (unm
 -- if the bytes behind the used block's end of that size are the memory's own and a call succeeded, the payload has the size in place
 abbrev pub ResizesKept : ℕ → ℕ → Space → Space → Table → State → Used → ℕ → ℕ → Bool → Type 0
 ResizesKept fllen sllen m n t s u size addr done = IsOwnedBehind m u size → done ≡ true → IsResized fllen sllen m n t s u size addr
-
--- the same if its usable bytes are the memory's own
-abbrev pub ResizesOwned : ℕ → ℕ → Space → Space → Table → State → Used → ℕ → ℕ → Bool → Type 0
-ResizesOwned fllen sllen m n t s u size addr done = IsOwned m (usable u) → done ≡ true → IsResized fllen sllen m n t s u size addr
 
 -- if an address is returned, the payload lies there, in the free block before its own
 abbrev pub IsMovedBefore : ℕ → ℕ → Space → Space → Table → State → Used → ℕ → Option ℕ → Type 0

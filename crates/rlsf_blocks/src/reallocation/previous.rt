@@ -1,8 +1,7 @@
 //! A payload moves into the free block before its own.
 
-ghost use Rattle.std.specs.Prelude.{◌≡◌, ◌+◌, ◌≤◌, ℕ, None, find, IfNone, []};
+ghost use Rattle.std.specs.Prelude.{◌≡◌, ◌+◌, ◌-◌, ◌≤◌, ℕ, None, find, IfNone, []};
 ghost use Rattle.rlsf_base.specs.SizeClass.{IsValid};
-ghost use Rattle.rlsf_base.specs.Space.{SamePlace};
 ghost use Rattle.rlsf_base.specs.OpenSpace.{SameOwn, StaysHere};
 ghost use Rattle.rlsf_model.specs.Join.{ends_at, start_or};
 ghost use Rattle.rlsf_model.specs.Lists.{IsIn};
@@ -10,7 +9,7 @@ ghost use Rattle.rlsf_model.specs.Reallocate.{into_previous};
 ghost use Rattle.rlsf_model.specs.State.{State, Used, usable};
 ghost use Rattle.rlsf_blocks.specs.StandsFor.{contents, StandsFor};
 ghost use Rattle.rlsf_blocks.specs.Steps.Standing.{AtEachUsed};
-ghost use Rattle.rlsf_table.specs.Counts.{Counts};
+ghost use Rattle.rlsf_table.specs.Counts.{Costs, Counts};
 ghost use Rattle.rlsf_blocks.specs.Steps.Previous.{IsUsedBlock, IsPlaceBefore};
 ghost use Rattle.rlsf_blocks.specs.Steps.Resize.{AtEachPayload, AtEachShort, AtEachShortHere, HasShortHere, IsHereStill, IsMovedBefore};
 ghost use Rattle.rlsf_table.specs.Table.{Table};
@@ -89,11 +88,8 @@ pub(crate) fn move_into_previous<const FLLEN: usize, const SLLEN: usize, const W
     ensures moved { AtEachShortHere FLLEN SLLEN memory.old table.old block payload layout (λ s u. IsMovedBefore FLLEN SLLEN memory.old memory.new table.new s u layout.size result) }
     ensures refused { AtEachShort FLLEN SLLEN memory.old table.old block payload layout (λ s u. IfNone result (into_previous s u layout.size ≡ None)) }
     ensures unchanged { IfNone result (Counts memory.old memory.new 4 × (table.new ≡ table.old)) }
-    ensures place { SamePlace memory.old memory.new }
-    ensures touches { memory.new.touches ≤ memory.old.touches + 37 }
-    ensures grow { memory.old.touches ≤ memory.new.touches }
+    ensures costs { Costs memory.old memory.new 37 (memory.new.copied - memory.old.copied) }
     ensures copied { AtEachPayload FLLEN SLLEN memory.old table.old block payload layout (λ s u. memory.new.copied ≤ memory.old.copied + (usable u).len) }
-    ensures grow_copied { memory.old.copied ≤ memory.new.copied }
     ensures own { SameOwn memory.old memory.new }
     ensures here { StaysHere memory.old memory.new }
     ensures kept_here { AtEachShort FLLEN SLLEN memory.old table.old block payload layout (λ s u. IsHereStill memory.old memory.new u result) }

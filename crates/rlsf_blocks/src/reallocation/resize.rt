@@ -4,14 +4,14 @@ ghost use Rattle.std.specs.Prelude.{◌≡◌, ◌+◌, ◌-◌, ◌^◌, ◌%�
 ghost use Rattle.rlsf_base.specs.declared.memory.range.Range.{Range};
 ghost use Rattle.rlsf_base.specs.Range.{range_at};
 ghost use Rattle.rlsf_base.specs.SizeClass.{IsValid};
-ghost use Rattle.rlsf_base.specs.OpenSpace.{IsOwned, SameOwn, StaysHere};
+ghost use Rattle.rlsf_base.specs.OpenSpace.{SameOwn, StaysHere};
 ghost use Rattle.rlsf_model.specs.NoMove.{unmoved_plan};
-ghost use Rattle.rlsf_model.specs.State.{State, Used, usable};
+ghost use Rattle.rlsf_model.specs.State.{State, Used};
 ghost use Rattle.rlsf_blocks.specs.StandsFor.{contents, StandsFor};
 ghost use Rattle.rlsf_table.specs.Counts.{Costs, Counts};
 ghost use Rattle.rlsf_table.specs.FreeTable.{IsFreeTable};
 ghost use Rattle.rlsf_blocks.specs.Steps.Join.{IsMarked};
-ghost use Rattle.rlsf_blocks.specs.Steps.Resize.{AtEachAligned, AtEachPayload, AtEachSpanRoom, AtEachStretched, HasStretched, IsFreeLength, IsOccupied, IsOwnedBehind, IsResized, IsSpanRoom, IsStretched, IsUsedAt, ResizesKept, ResizesOwned};
+ghost use Rattle.rlsf_blocks.specs.Steps.Resize.{AtEachAligned, AtEachSpanRoom, AtEachStretched, HasStretched, IsFreeLength, IsOccupied, IsOwnedBehind, IsResized, IsSpanRoom, IsStretched, IsUsedAt, ResizesKept};
 ghost use Rattle.rlsf_table.specs.Table.{Table};
 
 use crate::{leave_rest, take_if_free};
@@ -122,32 +122,4 @@ pub fn resize_kept_block<const FLLEN: usize, const SLLEN: usize>(
     }
     stretch(memory, view, table, block, payload, layout, len, taken);
     true
-}
-
-/// Gives the payload at `payload`, in the used block at `block`, the size of `layout` in bytes without moving it, if the
-/// bytes of the block and of a free block behind it suffice. The rest of them becomes a free block.
-///
-/// `layout` must have the alignment of the payload. No usable byte of the payload may be out.
-///
-/// Returns whether the bytes suffice. If not, no byte and no block changes.
-#[inline(always)]
-pub(crate) fn resize_block<const FLLEN: usize, const SLLEN: usize>(
-    memory: &mut OpenMemory,
-    view: View,
-    table: &mut ClassTable<FLLEN, SLLEN>,
-    block: usize,
-    payload: usize,
-    layout: Layout,
-) -> bool
-    requires parameters { IsValid 128 128 FLLEN SLLEN }
-    requires used { (s : State) × (u : Used) × StandsFor FLLEN SLLEN (contents memory.old table.old) s × IsUsedAt s u block payload layout.align × IsOwned memory.old (usable u) }
-    requires view { view ≡ memory.old.view }
-    ensures done { AtEachPayload FLLEN SLLEN memory.old table.old block payload layout (λ s u. ResizesOwned FLLEN SLLEN memory.old memory.new table.new s u layout.size payload result) }
-    ensures refused { AtEachPayload FLLEN SLLEN memory.old table.old block payload layout (λ s u. result ≡ false → unmoved_plan s u layout.size ≡ None) }
-    ensures unchanged { result ≡ false → Counts memory.old memory.new 2 × (table.new ≡ table.old) }
-    ensures costs { Costs memory.old memory.new 24 0 }
-    ensures own { SameOwn memory.old memory.new }
-    ensures here { StaysHere memory.old memory.new }
-{
-    resize_kept_block(memory, view, table, block, payload, layout)
 }

@@ -14,7 +14,7 @@ ghost use Rattle.rlsf_tlsf.specs.UnknownAlign.{ReallocatesAnyAlign};
 use crate::core_calls::{find_block, resize_block_in};
 use crate::state::GhostState;
 use rlsf_base::memory::{Layout, OpenMemory};
-use rlsf_blocks::reallocation::{move_elsewhere, reallocate_block};
+use rlsf_blocks::reallocation::{move_block, move_elsewhere};
 use rlsf_table::ClassTable;
 
 /// Changes the size of the payload at `addr` to that of `layout`, as `Tlsf::reallocate` does. Returns its address.
@@ -41,15 +41,18 @@ pub fn reallocate_in<const FLLEN: usize, const SLLEN: usize, const WHOLE: usize>
     ensures refused { IfNone result (IsUnchanged (allocator memory.old table.old state.old.state) (allocator memory.new table.new state.new.state)) }
     ensures frame { KeepsFrameMoving addr layout.size (allocator memory.old table.old state.old.state) (allocator memory.new table.new state.new.state) }
 {
-    let view = memory.view();
     let block = find_block(memory, addr, Some(layout.align()));
-    match reallocate_block::<FLLEN, SLLEN, WHOLE>(memory, view, table, block, addr, layout) {
-        Some(to) => {
-            state.reallocate(SLLEN, addr, layout.size());
-            Some(to)
-        }
-        None => None,
+    // What lies before the payload in its block is shorter than the memory. So with any size the block's length fits in a word.
+    memory.is_below_limit();
+    if resize_block_in(memory, table, state, block, addr, layout) {
+        return Some(addr);
     }
+    let to = move_block::<FLLEN, SLLEN, WHOLE>(memory, table, block, addr, layout);
+    if to == 0 {
+        return None;
+    }
+    state.reallocate(SLLEN, addr, layout.size());
+    Some(to)
 }
 
 /// Changes the size of the payload at `addr` to that of `layout`, as `Tlsf::reallocate_unknown_align` does. Returns its address.

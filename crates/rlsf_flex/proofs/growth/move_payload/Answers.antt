@@ -10,8 +10,7 @@ use Rattle.rlsf_model.proofs.CallerWords.{align_at-live, bytes_at-held}
 use Rattle.rlsf_tlsf.specs.Allocator.{IsInState}
 use Rattle.rlsf_tlsf.proofs.Standing.{in_state}
 use Rattle.rlsf_flex.specs.Steps.Growth.{MovesTo}
-use Rattle.rlsf_tlsf.proofs.UnknownAlign.{Keeps-front, length-front}
-use Rattle.rlsf_flex.proofs.Moves.{new, Fills-copied, Holds-new, Holds-old, KeepsSpare-copied, MovesAway-copied}
+use Rattle.rlsf_flex.proofs.Moves.{new, Fills-copied, Holds-new, Holds-old, Keeps-front, KeepsSpare-copied, MovesAway-copied, length-front}
 use Rattle.rlsf_flex.proofs.Places.{SamePlace-then}
 use Rattle.rlsf_flex.proofs.InnerAllocator.{opened, opened_whole, stood_at}
 use Rattle.rlsf_flex.proofs.growth.move_payload.Given as given

@@ -18,11 +18,8 @@ returns-in-Some g c =
       step = λ s u v is first here.
           subst (λ o. IsReallocated g.row.FLLEN g.row.SLLEN m n c.moved.new.table s u c.args.layout.size o) same (e.step s u v is first here);
       refused = subst (λ o. IfNone o (n.bytes ≡ m.bytes)) same tt;
-      place = e.place;
-      touches = e.touches;
-      grow = e.grow;
+      costs = e.costs;
       copied = e.copied;
-      grow_copied = e.grow_copied;
       own = e.own;
       here = e.here;
       kept_here = λ s u v is first. subst (λ o. IsHereStill m n u o) same (e.kept_here s u v is first);

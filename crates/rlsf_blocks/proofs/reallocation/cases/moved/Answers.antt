@@ -4,10 +4,9 @@ use Rattle.rlsf_model.specs.State.{usable}
 use Rattle.rlsf_blocks.proofs.Reallocate.FirstPlan.{in_place-none, IsReallocated-counted_first, IsReallocated-elsewhere, IsReallocated-planned, plan-moves}
 use Rattle.rlsf_blocks.specs.Steps.Resize.{IsElsewhere}
 use Rattle.rlsf_blocks.proofs.Reallocate.FirstPlan.{StandsFor-unchanged, own_align}
-use Rattle.rlsf_blocks.proofs.Counting.{SamePlace-counted_first, grow-counted_first, grow_copied-counted_first, touches-counted_first, touches-more}
 use Rattle.rlsf_blocks.proofs.Refused.{none_more}
-use Rattle.rlsf_table.proofs.Costs.{SamePlace-costs}
-use Rattle.rlsf_blocks.proofs.Reallocate.Copies.{grow_copied-costs}
+use Rattle.rlsf_table.proofs.Costs.{Costs-counted, Costs-then, Costs-within}
+use Rattle.rlsf_blocks.proofs.Reallocate.Copies.{Costs-moving}
 use Rattle.rlsf_blocks.proofs.Words.Stays.{Stays, Stays-same, Stays-then}
 use Rattle.rlsf_blocks.proofs.reallocation.cases.moved.Goals as goal
 
@@ -49,11 +48,8 @@ returns-in-Some g c =
           IsReallocated-planned m n c.args.table.now c.move_into_previous.new.table s u c.args.layout.size p c.in-Some.moved
           (plan-moves s u c.args.layout.size first ∙ third) at carried;
       refused = tt;
-      place = moves.place;
-      touches = touches-more m n 37 26 moves.touches;
-      grow = moves.grow;
+      costs = Costs-within (omega arith) moves.costs;
       copied = moves.copied;
-      grow_copied = moves.grow_copied;
       own = moves.own;
       here = moves.here;
       kept_here = λ s u v is first here. moves.kept_here s u v is (in_place-none s u c.args.layout.size first) here;
@@ -82,11 +78,8 @@ returns g c =
           (subst (λ a. IsElsewhere g.row.FLLEN g.row.SLLEN n o c.move_elsewhere.new.table s u size a c.move_elsewhere.result) (sym is.alignment)
           (moves.step s u v1 (own_align is) none (here-same m n (usable u) counts.start counts.out here))));
       refused = none_more c.move_elsewhere.result (λ same. same.0.bytes ∙ counts.bytes) moves.unchanged;
-      place = SamePlace-counted_first m n 4 counts o (SamePlace-costs moves.costs);
-      touches = touches-counted_first m n 4 counts o 59 moves.costs.touches;
-      grow = grow-counted_first m n 4 counts o moves.costs.grow;
+      costs = Costs-moving (omega (arith, counts.copied)) (Costs-then (Costs-counted counts) moves.costs);
       copied = λ s u v is. omega (arith, counts.copied, moves.copied s u (StandsFor-unchanged m n c.args.table.now c.move_into_previous.new.table s 4 same v) (own_align is));
-      grow_copied = grow_copied-counted_first m n 4 counts o (grow_copied-costs moves.costs);
       own = stays.own;
       here = stays.here;
       kept_here = λ s u v is first here.

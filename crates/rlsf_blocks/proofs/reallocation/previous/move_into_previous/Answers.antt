@@ -23,10 +23,10 @@ use Rattle.rlsf_blocks.proofs.Refused.{none_none, none_some}
 use mathlib.Core.Path.{ap₂}
 use Rattle.rlsf_base.specs.declared.memory.range.Range.{Range}
 use Rattle.rlsf_table.specs.Counts.{Costs, Counts}
-use Rattle.rlsf_blocks.proofs.Counting.{Counts-counted_first, Counts-loaded, SamePlace-counted, copied-more, grow_copied-same, touches-counted, touches-more}
-use Rattle.rlsf_table.proofs.Costs.{Costs-counted, Costs-then, Costs-written, SamePlace-costs}
+use Rattle.rlsf_blocks.proofs.Counting.{Counts-counted_first, Counts-loaded, copied-more}
+use Rattle.rlsf_table.proofs.Costs.{Costs-counted, Costs-then, Costs-within, Costs-written}
 use Rattle.rlsf_blocks.proofs.Allocate.Rests.{IsSpanRoom-inner}
-use Rattle.rlsf_blocks.proofs.Reallocate.Copies.{Costs-copied, Costs-moving, copied-costs, grow_copied-costs}
+use Rattle.rlsf_blocks.proofs.Reallocate.Copies.{Costs-copied, Costs-moving, copied-costs}
 use Rattle.rlsf_blocks.proofs.reallocation.previous.move_into_previous.Given as given
 use Rattle.rlsf_blocks.proofs.reallocation.previous.move_into_previous.Goals as goal
 use Rattle.rlsf_blocks.proofs.reallocation.previous.move_into_previous.Goals.{After-load_at, After-used_end-end, After-take_if_free-next, In_ok-moved, After-occupy, After-place_before}
@@ -83,11 +83,8 @@ returns-in_err-moved g c =
           (c.in_err-moved.ensures.place g.row.FLLEN g.row.SLLEN c.args.table.now s u (loaded g at.After-load_at v)
           (IsUsedBlock-from used (ends g at.After-used_end-end v used)));
       unchanged = none_none {P = Counts m n 4 × (c.args.table.now ≡ c.args.table.now)} c.from_residual.result (counts, refl);
-      place = SamePlace-counted m n 4 counts;
-      touches = touches-counted m n 4 counts 33;
-      grow = counts.grow;
+      costs = Costs-moving (omega (arith, counts.copied)) (Costs-within (omega arith) (Costs-counted counts));
       copied = λ s u v used. copied-more m n (usable u).len counts.copied;
-      grow_copied = grow_copied-same m n counts.copied;
       own = stays.own;
       here = stays.here;
       kept_here = λ s u v used short here. none_some _ c.from_residual.result c.from_residual.ensures;
@@ -236,7 +233,7 @@ returns-then-wide g c =
     let wide : 32 ≤ c.args.layout.align = omega (arith, c.align-wide.ensures.value, c.if-wide.true) in
     let written = wrote o n pad c.take_previous-start.result write.bytes (omega arith) (omega arith) in
     let there = wrote_there o n pad write.out (omega arith) in
-    let costs =
+    let costs : Costs c.args.memory.now n 37 (c.used_end-end.result - c.args.payload) =
     Costs-moving (omega arith)
     (Costs-then (occupied g at.After-occupy counts) (Costs-written o n pad write.start write.len write.touches write.copied write.view write.out)) in
     let (s, u, ours) = ours g at.After-take_if_free-next counts in
@@ -248,11 +245,8 @@ returns-then-wide g c =
           moved_to are copy.start copy.bytes copy.out c.occupy.ensures.step (padded are copy.start copy.bytes copy.out c.occupy.ensures.step n wide write.start written there);
       refused = λ s u v used short. tt;
       unchanged = tt;
-      place = SamePlace-costs costs;
-      touches = costs.touches;
-      grow = costs.grow;
+      costs = Costs-moving (omega (arith, costs.copied)) costs;
       copied = λ s u v used. copied-costs costs (long g at.After-used_end-end v used);
-      grow_copied = grow_copied-costs costs;
       own = stays.own;
       here = stays.here;
       kept_here = λ s u v used short here.
@@ -276,11 +270,8 @@ returns-else-wide g c =
           moved_to (outs g at.After-take_if_free-next counts v used short here) copy.start copy.bytes copy.out c.occupy.ensures.step padded;
       refused = λ s u v used short. tt;
       unchanged = tt;
-      place = SamePlace-costs costs;
-      touches = touches-more c.args.memory.now o 36 1 costs.touches;
-      grow = costs.grow;
+      costs = Costs-moving (omega (arith, costs.copied)) (Costs-within (omega arith) costs);
       copied = λ s u v used. copied-costs costs (long g at.After-used_end-end v used);
-      grow_copied = grow_copied-costs costs;
       own = stays.own;
       here = stays.here;
       kept_here = λ s u v used short here.

@@ -1,15 +1,13 @@
-use Rattle.std.proofs.Common.{ap, arith, length, subst, sym}
-use Rattle.rlsf_base.proofs.Lending.Present.{owned-same}
+use Rattle.std.proofs.Common.{arith, subst}
 use Rattle.rlsf_model.specs.NoMove.{ReallocatesWithoutMove}
-use Rattle.rlsf_model.specs.State.{Holds, State, usable}
+use Rattle.rlsf_model.specs.State.{State}
 use Rattle.rlsf_blocks.specs.Laws.{read_from}
 use Rattle.rlsf_blocks.proofs.Counting.{Counts-counted_first}
-use Rattle.rlsf_blocks.proofs.Words.Apart.{used_in_memory}
 use Rattle.rlsf_tlsf.specs.CoreResizes.{KeepsBoundsThere, KeepsPayloads, stayed_if}
 use Rattle.rlsf_tlsf.specs.Cores.{found_cost}
 use Rattle.rlsf_tlsf.specs.Results.{IsResized}
 use Rattle.rlsf_tlsf.proofs.Reached.{IsCore-counted, LeavesCore-counted_first, read_from-counted}
-use Rattle.rlsf_tlsf.proofs.ResizedInPlace.{own_behind}
+use Rattle.rlsf_tlsf.proofs.ResizedInPlace.{fits_found, own_found}
 use Rattle.rlsf_tlsf.proofs.core_calls.resizing.resize_in.Goals as goal
 
 pub find_block-block-requires : goal.find_block-block-requires
@@ -20,33 +18,15 @@ find_block-block-requires g c =
 pub resize_block_in-requires : goal.resize_block_in-requires
 resize_block_in-requires g c =
     let (u, found, own) = c.requires.own in
-    let holds = found.0 in
-    let m = c.args.memory.now in
-    let n = c.find_block-block.new.memory in
+    let v = c.requires.core.stands in
     let counts = c.find_block-block.ensures.counts in
-    let s = read_from m c.args.state.now.state in
-    let well = c.requires.core.stands.well_formed in
-    let start = c.find_block-block.ensures.block g.row.FLLEN g.row.SLLEN c.args.table.now s u c.requires.core.stands found in (
+    let start = c.find_block-block.ensures.block g.row.FLLEN g.row.SLLEN c.args.table.now (read_from c.args.memory.now c.args.state.now.state) u v found in (
       omega arith,
       (
         IsCore-counted counts c.requires.core,
         (
-          (
-            u,
-            subst (λ (s : State). Holds s c.args.addr u) (sym (read_from-counted counts c.args.state.now.state)) holds,
-            sym start,
-            own_behind n u c.args.layout.size (well.used u holds.0) (owned-same m n (usable u) counts.start counts.out own),
-          ),
-          omega (
-            arith,
-            c.is_below_limit.ensures,
-            ap length counts.bytes,
-            holds.1,
-            start,
-            (well.used u holds.0).within,
-            used_in_memory well u holds.0,
-            c.args.layout.valid.fits,
-          ),
+          own_found c.args.state.now.state v counts c.args.layout.size u found.0 start own,
+          fits_found c.args.state.now.state v counts c.args.layout.size u found.0 start c.args.layout.valid c.is_below_limit.ensures,
         ),
       ),
     )
