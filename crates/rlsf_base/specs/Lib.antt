@@ -6,6 +6,7 @@ pub mod Layout
 pub mod Ledger
 pub mod Lends
 pub mod LendsPiece
+pub mod MemoryCalls
 pub mod OpenSpace
 pub mod Out
 pub mod Piece

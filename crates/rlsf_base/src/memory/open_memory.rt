@@ -1,8 +1,8 @@
 //! A memory from which bytes can leave.
-ghost use Rattle.std.specs.Prelude.{◌≡◌, ◌+◌, ◌-◌, ◌%◌, ◌^◌, ◌<◌, ◌≤◌, ◌↔◌, [], length, replicate, IfOk, IsOk, IsErrOf};
+ghost use Rattle.std.specs.Prelude.{◌≡◌, ◌+◌, ◌-◌, ◌%◌, ◌^◌, ◌<◌, ◌≤◌, ◌↔◌, [], length, IfOk, IsOk, IsErrOf};
 ghost use Rattle.std.specs.Borrow.{sem};
-ghost use Rattle.rlsf_base.specs.Changes.{IsAllOwn};
-ghost use Rattle.rlsf_base.specs.OpenSpace.{HasUnits, IsHere, IsOwned, IsReadable, IsWritable, SameOwn, StaysHere, WritesWord, out_with};
+ghost use Rattle.rlsf_base.specs.MemoryCalls.{IsReserved, IsSpaceWith, IsZeroed};
+ghost use Rattle.rlsf_base.specs.OpenSpace.{IsHere, IsOwned, IsReadable, IsWritable, SameOwn, StaysHere, WritesWord, out_with};
 ghost use Rattle.rlsf_base.specs.Range.{range_at, LiesIn};
 ghost use Rattle.rlsf_base.specs.Space.{bytes_in, word_range, range_of, word_at, with_bytes};
 
@@ -67,13 +67,7 @@ impl OpenMemory {
         ensures zero_start { IsErrOf result MemoryError.ZeroStart ↔ (start ≡ 0) }
         ensures too_long { IsErrOf result MemoryError.TooLong ↔ ((1 ≤ start) × (2 ^ 64 ≤ start + len)) }
         ensures empty { (1 ≤ start) × (start < 2 ^ 64) × (len ≡ 0) → IsOk result }
-        ensures start { IfOk result (λ m. m.start ≡ start) }
-        ensures bytes { IfOk result (λ m. m.bytes ≡ replicate len 0) }
-        ensures counts { IfOk result (λ m. (m.touches ≡ 0) × (m.copied ≡ 0)) }
-        ensures out { IfOk result (λ m. m.out ≡ []) }
-        ensures here { IfOk result (λ m. IsHere m (range_of m)) }
-        ensures own { IfOk result (λ m. IsAllOwn m.out) }
-        ensures units { IfOk result (λ m. HasUnits m) }
+        ensures memory { IfOk result (λ m. IsZeroed m start len) }
     {
         addressed(start, len)?;
         match take_zeroed(alloc, start % 16, len) {
@@ -97,11 +91,7 @@ impl OpenMemory {
         ensures zero_start { IsErrOf result MemoryError.ZeroStart ↔ (start ≡ 0) }
         ensures too_long { IsErrOf result MemoryError.TooLong ↔ ((1 ≤ start) × (2 ^ 64 ≤ start + len)) }
         ensures empty { (1 ≤ start) × (start < 2 ^ 64) × (len ≡ 0) → IsOk result }
-        ensures start { IfOk result (λ m. m.start ≡ start) }
-        ensures len { IfOk result (λ m. length m.bytes ≡ len) }
-        ensures counts { IfOk result (λ m. (m.touches ≡ 0) × (m.copied ≡ 0)) }
-        ensures own { IfOk result (λ m. IsAllOwn m.out) }
-        ensures units { IfOk result (λ m. HasUnits m) }
+        ensures memory { IfOk result (λ m. IsReserved m start len) }
     {
         addressed(start, len)?;
         match take_raw(alloc, start % 16, len) {
@@ -330,13 +320,9 @@ impl OpenMemory {
         requires to { LiesIn (range_at to range.len) self.old.start (length self.old.bytes) }
         requires here { IsHere self.old range }
         requires own { IsOwned self.old (range_at to range.len) }
-        ensures start { self.new.start ≡ self.old.start }
-        ensures bytes { self.new.bytes ≡ with_bytes self.old to (bytes_in self.old range) }
+        ensures memory { IsSpaceWith self.old self.new (with_bytes self.old to (bytes_in self.old range)) (out_with self.old (range_at to range.len)) }
         ensures len { length self.new.bytes ≡ length self.old.bytes }
-        ensures touches { self.new.touches ≡ self.old.touches }
-        ensures copied { self.new.copied ≡ self.old.copied + range.len }
-        ensures view { self.new.view ≡ self.old.view }
-        ensures out { self.new.out ≡ out_with self.old (range_at to range.len) }
+        ensures counts { (self.new.touches ≡ self.old.touches) × (self.new.copied ≡ self.old.copied + range.len) }
         ensures own { SameOwn self.old self.new }
         ensures here { IsHere self.new (range_at to range.len) }
         ensures stays { StaysHere self.old self.new }

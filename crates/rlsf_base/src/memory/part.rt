@@ -2,11 +2,11 @@
 ghost use Rattle.std.specs.Prelude.{◌≡◌, ◌≤◌, ◌-◌, ◌++◌, ℕ, List, length, replicate, take};
 ghost use Rattle.std.specs.Borrow.{sem};
 ghost use Rattle.rlsf_base.specs.Changes.{IsIn};
-ghost use Rattle.rlsf_base.specs.OpenSpace.{home_of, IsAway, IsHere, IsOwned, StaysHere, StaysHereBeside, StaysOwnBeside, out_raw, out_with, out_without};
-ghost use Rattle.rlsf_base.specs.Piece.{piece_range, HasStatesOf, IsFull};
-ghost use Rattle.rlsf_base.specs.declared.memory.range.Range.{Range};
-ghost use Rattle.rlsf_base.specs.Range.{AreApart, LiesIn};
-ghost use Rattle.rlsf_base.specs.Space.{bytes_in, with_bytes};
+ghost use Rattle.rlsf_base.specs.MemoryCalls.{CountsNothing, IsPutBack, IsSpaceWith, IsTakenOut, StaysBeside};
+ghost use Rattle.rlsf_base.specs.OpenSpace.{home_of, IsAway, IsOwned, out_raw, out_with, out_without};
+ghost use Rattle.rlsf_base.specs.Piece.{piece_range, IsFull};
+ghost use Rattle.rlsf_base.specs.Range.{LiesIn};
+ghost use Rattle.rlsf_base.specs.Space.{with_bytes};
 
 use super::block::Bytes;
 use super::filling::{fill_bytes, fill_bytes_from};
@@ -171,18 +171,10 @@ impl OpenMemory {
     pub fn take_out(&mut self, range: Range) -> Part
         requires place { LiesIn range self.old.start (length self.old.bytes) }
         requires own { IsOwned self.old range }
-        ensures part { (result.home ≡ home_of self.old) × (result.start ≡ range.start) × (result.bytes ≡ bytes_in self.old range) }
-        ensures len { length result.bytes ≡ range.len }
-        ensures kept { HasStatesOf self.old range result }
-        ensures full { IsHere self.old range → IsFull result }
-        ensures start { self.new.start ≡ self.old.start }
-        ensures bytes { self.new.bytes ≡ self.old.bytes }
-        ensures touches { self.new.touches ≡ self.old.touches }
-        ensures copied { self.new.copied ≡ self.old.copied }
-        ensures view { self.new.view ≡ self.old.view }
-        ensures out { self.new.out ≡ out_without self.old range }
-        ensures beside { StaysHereBeside self.old self.new range }
-        ensures own_beside { StaysOwnBeside self.old self.new range }
+        ensures part { IsTakenOut self.old range result }
+        ensures memory { IsSpaceWith self.old self.new self.old.bytes (out_without self.old range) }
+        ensures counts { CountsNothing self.old self.new }
+        ensures beside { StaysBeside self.old self.new range }
     {
         let view = self.view();
         let bytes = self.bytes.take_out(view.place(range.start), range.len);
@@ -197,19 +189,9 @@ impl OpenMemory {
         requires home { part.home ≡ home_of self.old }
         requires full { IsFull part }
         ensures away { IsAway self.old (piece_range part) }
-        ensures start { self.new.start ≡ self.old.start }
-        ensures bytes { self.new.bytes ≡ with_bytes self.old part.start part.bytes }
-        ensures len { length self.new.bytes ≡ length self.old.bytes }
-        ensures touches { self.new.touches ≡ self.old.touches }
-        ensures copied { self.new.copied ≡ self.old.copied }
-        ensures view { self.new.view ≡ self.old.view }
-        ensures out { self.new.out ≡ out_with self.old (piece_range part) }
-        ensures here { IsHere self.new (piece_range part) }
-        ensures stays { StaysHere self.old self.new }
-        ensures own { IsOwned self.new (piece_range part) }
-        ensures own_beside { StaysOwnBeside self.old self.new (piece_range part) }
-        ensures values { bytes_in self.new (piece_range part) ≡ part.bytes }
-        ensures others { (q : Range) → self.old.start ≤ q.start → AreApart (piece_range part) q → bytes_in self.new q ≡ bytes_in self.old q }
+        ensures memory { IsSpaceWith self.old self.new (with_bytes self.old part.start part.bytes) (out_with self.old (piece_range part)) }
+        ensures counts { CountsNothing self.old self.new }
+        ensures back { IsPutBack self.old self.new part }
     {
         self.bytes.put_back(part.into_bytes());
     }
@@ -221,15 +203,10 @@ impl OpenMemory {
     pub fn put_room(&mut self, part: Part)
         requires { part.home ≡ home_of self.old }
         ensures away { IsAway self.old (piece_range part) }
-        ensures start { self.new.start ≡ self.old.start }
-        ensures bytes { self.new.bytes ≡ self.old.bytes }
-        ensures touches { self.new.touches ≡ self.old.touches }
-        ensures copied { self.new.copied ≡ self.old.copied }
-        ensures view { self.new.view ≡ self.old.view }
-        ensures out { self.new.out ≡ out_raw self.old (piece_range part) }
+        ensures memory { IsSpaceWith self.old self.new self.old.bytes (out_raw self.old (piece_range part)) }
+        ensures counts { CountsNothing self.old self.new }
         ensures own { IsOwned self.new (piece_range part) }
-        ensures beside { StaysHereBeside self.old self.new (piece_range part) }
-        ensures own_beside { StaysOwnBeside self.old self.new (piece_range part) }
+        ensures beside { StaysBeside self.old self.new (piece_range part) }
     {
         self.bytes.put_room(part.into_bytes());
     }

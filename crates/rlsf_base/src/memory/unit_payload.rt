@@ -2,6 +2,7 @@
 ghost use Rattle.std.specs.Prelude.{◌≡◌, ℕ, ◌+◌, ◌-◌, ◌%◌, ◌↔◌, IsTrue, false, length, set};
 ghost use Rattle.std.specs.Int.{w64, from_le_bytes};
 ghost use Rattle.rlsf_base.specs.Ledger.{IsIssued, entry_of, extent};
+ghost use Rattle.rlsf_base.specs.MemoryCalls.{CountsNothing, IsSpaceWith};
 ghost use Rattle.rlsf_base.specs.OpenSpace.{HasUnits, Home, home_of, IsAway, IsOwned, IsReadable, out_raw, out_without};
 ghost use Rattle.rlsf_base.specs.Piece.{piece_range, IsUnits};
 ghost use Rattle.rlsf_base.specs.Range.{LiesIn, range_at};
@@ -111,12 +112,8 @@ impl OpenMemory {
         ensures ledger { (ledger.new.name ≡ ledger.old.name) × (ledger.new.entries ≡ set ledger.old.entries payload.key (entry_of (extent payload.start payload.len 16) false)) }
         ensures word { result ≡ word_at self.old (payload.start + (payload.len + behind)) }
         ensures away { IsAway self.old (range_at (payload.start + payload.kept) (payload.len - payload.kept)) }
-        ensures start { self.new.start ≡ self.old.start }
-        ensures bytes { self.new.bytes ≡ self.old.bytes }
-        ensures touches { self.new.touches ≡ self.old.touches + 1 }
-        ensures copied { self.new.copied ≡ self.old.copied }
-        ensures view { self.new.view ≡ self.old.view }
-        ensures out { self.new.out ≡ out_raw self.old (range_at (payload.start + payload.kept) (payload.len - payload.kept)) }
+        ensures memory { IsSpaceWith self.old self.new self.old.bytes (out_raw self.old (range_at (payload.start + payload.kept) (payload.len - payload.kept))) }
+        ensures counts { (self.new.touches ≡ self.old.touches + 1) × (self.new.copied ≡ self.old.copied) }
     {
         let (spot, units, ticket) = payload.into_parts(kept);
         ledger.redeem(ticket);
@@ -151,12 +148,8 @@ impl OpenMemory {
         requires ticket { (ticket.addr ≡ start) × (ticket.len ≡ len) × (ticket.align ≡ 16) }
         ensures place { (result.home ≡ home_of self.old) × (result.start ≡ start) × (result.len ≡ len) × (result.kept ≡ kept) }
         ensures ticket { (result.name ≡ ticket.name) × (result.key ≡ ticket.key) }
-        ensures start { self.new.start ≡ self.old.start }
-        ensures bytes { self.new.bytes ≡ self.old.bytes }
-        ensures touches { self.new.touches ≡ self.old.touches }
-        ensures copied { self.new.copied ≡ self.old.copied }
-        ensures view { self.new.view ≡ self.old.view }
-        ensures out { self.new.out ≡ out_without self.old (range_at (start + kept) (len - kept)) }
+        ensures memory { IsSpaceWith self.old self.new self.old.bytes (out_without self.old (range_at (start + kept) (len - kept))) }
+        ensures counts { CountsNothing self.old self.new }
     {
         let view = self.view();
         let place = view.place(start);

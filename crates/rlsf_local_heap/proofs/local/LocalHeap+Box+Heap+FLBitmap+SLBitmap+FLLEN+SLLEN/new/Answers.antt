@@ -14,8 +14,8 @@ returns-in-Ok g c =
     let made = c.in_a_box.ensures ∙ ap constants_of c.in-Ok.ensures.ok in
     let home = ap (λ (k : Constants). k.heap.home) made ∙ c.over_all.ensures.home in
     record {
-      memory = (ap (λ (h : Home). h.start) home ∙ m.start, ap (λ (h : Home). h.len) home ∙ m.len, ap (λ (h : Home). h.view.shift % 16) home ∙ m.units);
-      pool = ap (λ (k : Constants). k.chunks) made ∙ c.over_all.ensures.chunks ∙ (λ i. chunks_of_range g.row.FLLEN (range_at (m.start i) (m.len i)));
+      memory = (ap (λ (h : Home). h.start) home ∙ m.memory.start, ap (λ (h : Home). h.len) home ∙ m.memory.len, ap (λ (h : Home). h.view.shift % 16) home ∙ m.memory.units);
+      pool = ap (λ (k : Constants). k.chunks) made ∙ c.over_all.ensures.chunks ∙ (λ i. chunks_of_range g.row.FLLEN (range_at (m.memory.start i) (m.memory.len i)));
       too_long = (λ e. absurd (ok_is_no_error e), λ long. absurd (ok_is_no_error (m.too_long.1 (some_address, long))));
       starts = λ e. ok_is_no_error e;
     }

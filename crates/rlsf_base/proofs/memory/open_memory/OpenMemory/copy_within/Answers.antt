@@ -34,13 +34,9 @@ returns c =
     let bytes : n.bytes ≡ with_bytes now c.args.to moved =
     e.0.2 ∙ (λ i. splice (is i).bytes (to i) (to i + sym long i) (take range.len (drop (from i) (is i).bytes))) in
     record {
-      start = start;
-      bytes = bytes;
+      memory = record { start = start; view = ap (λ (s : Space). s.view) is; bytes = bytes; out = out };
       len = ap length bytes ∙ length-splice now.bytes moved (c.args.to - now.start) (length moved) (omega (arith, c.requires.to, long)) refl;
-      touches = counted.0 ∙ ap (λ (s : Space). s.touches) is;
-      copied = counted.1 ∙ ap (λ (s : Space). s.copied + range.len) is;
-      view = ap (λ (s : Space). s.view) is;
-      out = out;
+      counts = (counted.0 ∙ ap (λ (s : Space). s.touches) is, counted.1 ∙ ap (λ (s : Space). s.copied + range.len) is);
       own = with-same_own now n there c.requires.to.0 start out c.requires.own;
       here = with-here now n there c.requires.to.0 start out;
       stays = with-stays now n there c.requires.to.0 start out;

@@ -5,7 +5,7 @@ use Rattle.rlsf_base.specs.Piece.{piece_range}
 use Rattle.rlsf_base.specs.Range.{LiesIn}
 use Rattle.rlsf_base.specs.Space.{Space, with_bytes}
 use Rattle.rlsf_base.proofs.Lending.BytesBeside.{with-here, with-own, with-stays}
-use Rattle.rlsf_base.proofs.Lending.Replaced.{bytes_in-there, bytes_in-with}
+use Rattle.rlsf_base.proofs.Lending.Replaced.{bytes_in-there, bytes_in-with, length-with}
 use Rattle.rlsf_base.specs.OpenSpace.{Home, out_with}
 use Rattle.rlsf_base.specs.Steps.Block.{start_of, view_of}
 use Rattle.rlsf_base.specs.Steps.Ownership.{units_in}
@@ -34,50 +34,22 @@ put_back-requires c =
       units,
     )
 
-pub returns-clause-here : goal.returns-clause-here
-returns-clause-here c =
+pub returns-clause-back : goal.returns-clause-back
+returns-clause-back c =
     let m = c.self.inside in let p = c.args.part in let now = c.args.self.now in
     let n : Space = with_contents now (start_of m.shift m.len_and_skip) c.put_back.new.self.bytes c.put_back.new.self.out in
     let start : n.start ≡ now.start = ap (λ (s : Space). s.start) c.self.view_is in
     let out : n.out ≡ out_with now (piece_range p) = search rules in
-    let lies : LiesIn (piece_range p) now.start (length now.bytes) = search rules in
-    with-here now n (piece_range p) lies.0 start out
-
-pub returns-clause-stays : goal.returns-clause-stays
-returns-clause-stays c =
-    let m = c.self.inside in let p = c.args.part in let now = c.args.self.now in
-    let n : Space = with_contents now (start_of m.shift m.len_and_skip) c.put_back.new.self.bytes c.put_back.new.self.out in
-    let start : n.start ≡ now.start = ap (λ (s : Space). s.start) c.self.view_is in
-    let out : n.out ≡ out_with now (piece_range p) = search rules in
-    let lies : LiesIn (piece_range p) now.start (length now.bytes) = search rules in
-    with-stays now n (piece_range p) lies.0 start out
-
-pub returns-clause-own : goal.returns-clause-own
-returns-clause-own c a lo hi = ap is_own (returns-clause-here c a lo hi)
-
-pub returns-clause-own_beside : goal.returns-clause-own_beside
-returns-clause-own_beside c =
-    let m = c.self.inside in let p = c.args.part in let now = c.args.self.now in
-    let n : Space = with_contents now (start_of m.shift m.len_and_skip) c.put_back.new.self.bytes c.put_back.new.self.out in
-    let start : n.start ≡ now.start = ap (λ (s : Space). s.start) c.self.view_is in
-    let out : n.out ≡ out_with now (piece_range p) = search rules in
-    let lies : LiesIn (piece_range p) now.start (length now.bytes) = search rules in
-    λ a from side. with-own now n (piece_range p) lies.0 start out a from
-
-pub returns-clause-values : goal.returns-clause-values
-returns-clause-values c =
-    let m = c.self.inside in let p = c.args.part in let now = c.args.self.now in
-    let n : Space = with_contents now (start_of m.shift m.len_and_skip) c.put_back.new.self.bytes c.put_back.new.self.out in
-    let start : n.start ≡ now.start = ap (λ (s : Space). s.start) c.self.view_is in
     let lies : LiesIn (piece_range p) now.start (length now.bytes) = search rules in
     let bytes : n.bytes ≡ with_bytes now p.start p.bytes = search rules in
-    bytes_in-there now n (piece_range p) p.bytes lies refl start bytes
-
-pub returns-clause-others : goal.returns-clause-others
-returns-clause-others c q from side =
-    let m = c.self.inside in let p = c.args.part in let now = c.args.self.now in
-    let n : Space = with_contents now (start_of m.shift m.len_and_skip) c.put_back.new.self.bytes c.put_back.new.self.out in
-    let start : n.start ≡ now.start = ap (λ (s : Space). s.start) c.self.view_is in
-    let lies : LiesIn (piece_range p) now.start (length now.bytes) = search rules in
-    let bytes : n.bytes ≡ with_bytes now p.start p.bytes = search rules in
-    bytes_in-with now n (piece_range p) p.bytes lies refl start bytes q from (elim side [ inl before ↦ inr before | inr behind ↦ inl behind ])
+    let here = with-here now n (piece_range p) lies.0 start out in
+    record {
+      len = length-with now n (piece_range p) p.bytes lies refl start bytes;
+      here = here;
+      own = λ a lo hi. ap is_own (here a lo hi);
+      values = bytes_in-there now n (piece_range p) p.bytes lies refl start bytes;
+      others = λ q from side. bytes_in-with now n (piece_range p) p.bytes lies refl start bytes q from
+          (elim side [ inl before ↦ inr before | inr behind ↦ inl behind ]);
+      stays = with-stays now n (piece_range p) lies.0 start out;
+      own_beside = λ a from side. with-own now n (piece_range p) lies.0 start out a from;
+    }

@@ -9,29 +9,20 @@ use Rattle.rlsf_base.proofs.Lending.BytesBeside.{changed-own, changed-own_stays,
 use Rattle.rlsf_base.proofs.Lending.Memories.{with_contents}
 use Rattle.rlsf_base.proofs.memory.open_memory.OpenMemory.put_room.Goals as goal
 
-pub returns-clause-own : goal.returns-clause-own
-returns-clause-own c =
+pub returns : goal.returns
+returns c =
     let m = c.self.inside in let p = c.args.part in let now = c.args.self.now in
     let n : Space = with_contents now (start_of m.shift m.len_and_skip) c.put_room.new.self.bytes c.put_room.new.self.out in
     let start : n.start ≡ now.start = ap (λ (s : Space). s.start) c.self.view_is in
     let out : n.out ≡ out_raw now (piece_range p) = search rules in
     let lies : LiesIn (piece_range p) now.start (length now.bytes) = search rules in
-    changed-own raw now n (piece_range p) lies.0 start out refl
-
-pub returns-clause-beside : goal.returns-clause-beside
-returns-clause-beside c =
-    let m = c.self.inside in let p = c.args.part in let now = c.args.self.now in
-    let n : Space = with_contents now (start_of m.shift m.len_and_skip) c.put_room.new.self.bytes c.put_room.new.self.out in
-    let start : n.start ≡ now.start = ap (λ (s : Space). s.start) c.self.view_is in
-    let out : n.out ≡ out_raw now (piece_range p) = search rules in
-    let lies : LiesIn (piece_range p) now.start (length now.bytes) = search rules in
-    changed-stays raw now n (piece_range p) lies.0 start out
-
-pub returns-clause-own_beside : goal.returns-clause-own_beside
-returns-clause-own_beside c =
-    let m = c.self.inside in let p = c.args.part in let now = c.args.self.now in
-    let n : Space = with_contents now (start_of m.shift m.len_and_skip) c.put_room.new.self.bytes c.put_room.new.self.out in
-    let start : n.start ≡ now.start = ap (λ (s : Space). s.start) c.self.view_is in
-    let out : n.out ≡ out_raw now (piece_range p) = search rules in
-    let lies : LiesIn (piece_range p) now.start (length now.bytes) = search rules in
-    changed-own_stays raw now n (piece_range p) lies.0 start out
+    record {
+      away = search rules;
+      memory = record { start = start; view = search rules; bytes = search rules; out = out };
+      counts = search rules;
+      own = changed-own raw now n (piece_range p) lies.0 start out refl;
+      beside = record {
+        here = changed-stays raw now n (piece_range p) lies.0 start out;
+        own = changed-own_stays raw now n (piece_range p) lies.0 start out;
+      };
+    }

@@ -85,10 +85,11 @@ returns c =
       );
       word = c.word_of-word.ensures ∙ ap (λ bs. from_le_bytes w64 bs) read ∙ sym (word_at-is now (addr d) (readable d).1.0 (readable d).2);
       away = λ a lo hi. ap (λ cs. kept_at cs (a - now.start)) (sym out) ∙ back.0 (a - now.start) (omega (arith, place, lo)) (omega (arith, place, many, lo, hi, p.placed.lies));
-      start = start;
-      bytes = back.1.0.2 ∙ ap (λ (s : Space). s.bytes) is ∙ t.bytes;
-      touches = ap (λ (s : Space). s.touches) is ∙ t.touches;
-      copied = ap (λ (s : Space). s.copied) is ∙ t.copied;
-      view = view;
-      out = back.1.1 ∙ (λ i. came_raw (place i) (many i) (out i));
+      memory = record {
+        start = start;
+        view = view;
+        bytes = back.1.0.2 ∙ ap (λ (s : Space). s.bytes) is ∙ t.bytes;
+        out = back.1.1 ∙ (λ i. came_raw (place i) (many i) (out i));
+      };
+      counts = (ap (λ (s : Space). s.touches) is ∙ t.touches, ap (λ (s : Space). s.copied) is ∙ t.copied);
     }

@@ -1,7 +1,7 @@
-use Rattle.std.proofs.Common.{rules, ◌≡◌, ℕ, ◌+◌, ◌-◌, ◌∙◌, ap, arith, drop, length, length-drop, length-take, sym}
+use Rattle.std.proofs.Common.{rules, ◌≡◌, ℕ, ◌+◌, ◌-◌, ◌<◌, ◌∙◌, ap, arith, drop, length, length-drop, length-take, sym}
 use Rattle.rlsf_base.specs.declared.memory.view.View.{View}
 use Rattle.rlsf_base.specs.Piece.{HasStatesOf}
-use Rattle.rlsf_base.specs.Space.{Space}
+use Rattle.rlsf_base.specs.Space.{Space, out_at}
 use Rattle.rlsf_base.specs.Steps.Block.{start_of, view_of}
 use Rattle.rlsf_base.specs.Steps.Ownership.{units_in}
 use Rattle.rlsf_base.specs.OpenSpace.{out_without}
@@ -41,29 +41,26 @@ invariant_of-result c =
       small = omega arith;
     }
 
-pub returns-clause-len : goal.returns-clause-len
-returns-clause-len c =
-    let m = c.self.inside in let i = c.place.result - m.bytes.skip in
-    let start : start_of m.shift m.len_and_skip ≡ c.args.self.now.start = ap (λ (s : Space). s.start) c.self.view_is in
-    let shift : c.view-view.result.shift ≡ m.shift = ap (λ (v : View). v.shift) (c.view-view.ensures ∙ sym (ap (λ (s : Space). s.view) c.self.view_is)) in
-    let long : length m.bytes.bytes ≡ length c.args.self.now.bytes = ap (λ (s : Space). length s.bytes) c.self.view_is in
-    ap length c.take_out-bytes.ensures.0.0.2 ∙ omega (arith, length-take c.args.range.len (drop i m.bytes.bytes), length-drop i m.bytes.bytes)
-
-pub returns-clause-kept : goal.returns-clause-kept
+pub returns-clause-part : goal.returns-clause-part
 unfolding HasStatesOf
-returns-clause-kept c k lo =
-    let m = c.self.inside in let now = c.args.self.now in
+returns-clause-part c =
+    let m = c.self.inside in let now = c.args.self.now in let i = c.place.result - m.bytes.skip in
     let start : start_of m.shift m.len_and_skip ≡ now.start = ap (λ (s : Space). s.start) c.self.view_is in
     let shift : c.view-view.result.shift ≡ m.shift = ap (λ (v : View). v.shift) (c.view-view.ensures ∙ sym (ap (λ (s : Space). s.view) c.self.view_is)) in
     let long : length m.bytes.bytes ≡ length now.bytes = ap (λ (s : Space). length s.bytes) c.self.view_is in
-    let place : c.place.result - m.bytes.skip + k ≡ c.args.range.start + k - now.start = omega arith in
-    ap (λ cs. kept_at cs k) c.take_out-bytes.ensures.0.0.3 ∙ shifted-at (c.place.result - m.bytes.skip) m.bytes.out k ∙ (λ i. kept_at (c.self.view_is i).out (place i))
-
-pub returns-clause-full : goal.returns-clause-full
-unfolding HasStatesOf
-returns-clause-full c here k lo hi =
-    let taken : length c.take_out-bytes.result.bytes ≡ c.args.range.len = returns-clause-len c in
-    returns-clause-kept c k (omega (arith, hi, taken)) ∙ here (c.args.range.start + k) (omega arith) (omega (arith, hi, taken))
+    let taken : length c.take_out-bytes.result.bytes ≡ c.args.range.len =
+    ap length c.take_out-bytes.ensures.0.0.2 ∙ omega (arith, length-take c.args.range.len (drop i m.bytes.bytes), length-drop i m.bytes.bytes) in
+    let kept : (k : ℕ) → k < c.args.range.len → kept_at c.take_out-bytes.result.out k ≡ out_at now (c.args.range.start + k) =
+    λ k lo. let place : i + k ≡ c.args.range.start + k - now.start = omega arith in
+    ap (λ cs. kept_at cs k) c.take_out-bytes.ensures.0.0.3 ∙ shifted-at i m.bytes.out k ∙ (λ j. kept_at (c.self.view_is j).out (place j)) in
+    record {
+      home = search rules;
+      start = search rules;
+      bytes = search rules;
+      len = taken;
+      kept = kept;
+      full = λ here k lo hi. kept k (omega (arith, hi, taken)) ∙ here (c.args.range.start + k) (omega arith) (omega (arith, hi, taken));
+    }
 
 pub returns-clause-beside : goal.returns-clause-beside
 returns-clause-beside c =
@@ -71,12 +68,7 @@ returns-clause-beside c =
     let n : Space = with_contents now (start_of m.shift m.len_and_skip) new.bytes new.out in
     let start : n.start ≡ now.start = ap (λ (s : Space). s.start) c.self.view_is in
     let out : n.out ≡ out_without now c.args.range = search rules in
-    changed-stays gone now n c.args.range c.requires.place.0 start out
-
-pub returns-clause-own_beside : goal.returns-clause-own_beside
-returns-clause-own_beside c =
-    let m = c.self.inside in let now = c.args.self.now in let new = c.take_out-bytes.new.self in
-    let n : Space = with_contents now (start_of m.shift m.len_and_skip) new.bytes new.out in
-    let start : n.start ≡ now.start = ap (λ (s : Space). s.start) c.self.view_is in
-    let out : n.out ≡ out_without now c.args.range = search rules in
-    changed-own_stays gone now n c.args.range c.requires.place.0 start out
+    record {
+      here = changed-stays gone now n c.args.range c.requires.place.0 start out;
+      own = changed-own_stays gone now n c.args.range c.requires.place.0 start out;
+    }
