@@ -18,14 +18,14 @@ put_unit_payload-block-requires-clause-readable g c = λ is. readable (record { 
 -- none of its bytes stay with their owner
 out : (g : given.Over) (c : After-put_unit_payload-block g) → c.put_unit_payload-block.new.self.out
     ≡ out_raw c.self.inside.memory (range_at c.args.payload.start c.args.payload.len)
-out g c = c.put_unit_payload-block.ensures.out ∙ ap (out_raw c.self.inside.memory) (all_behind c.args.payload.start c.args.payload.len c.args.payload.kept c.requires.1)
+out g c = c.put_unit_payload-block.ensures.memory.out ∙ ap (out_raw c.self.inside.memory) (all_behind c.args.payload.start c.args.payload.len c.args.payload.kept c.requires.1)
 
 -- the payload's units are back
 back : (g : given.Over) (c : After-put_unit_payload-block g) → IsGiven g.row.FLLEN g.row.SLLEN c.self.inside.memory c.put_unit_payload-block.new.self c.self.inside.table
     c.self.inside.state.state c.self.inside.ledger.entries c.args.payload.key (extent c.args.payload.start c.args.payload.len 16)
 back g c =
     let e = c.put_unit_payload-block.ensures in
-    raw_given (record { stands = c.self.invariant.stands; tickets = c.self.invariant.tickets; issued = e.issued }) e.start e.bytes (out g c) e.view (omega (arith, e.touches))
+    raw_given (record { stands = c.self.invariant.stands; tickets = c.self.invariant.tickets; issued = e.issued }) e.memory.start e.memory.bytes (out g c) e.memory.view (omega (arith, e.counts.0))
 
 pub overflow_add-block : goal.overflow_add-block
 overflow_add-block g c =
@@ -66,10 +66,10 @@ returns g c =
       bounds = bounds_given is b f.left at f.step;
       frame = record {
         heap = keeps_given is b f.left at f.step c.self.inside.ledger.name name e.ledger.0;
-        raw = raw-back c.self.inside.memory c.put_unit_payload-block.new.self c.deallocate_block_in.new.memory (range_at c.args.payload.start c.args.payload.len) e.start
+        raw = raw-back c.self.inside.memory c.put_unit_payload-block.new.self c.deallocate_block_in.new.memory (range_at c.args.payload.start c.args.payload.len) e.memory.start
             (lies b.shown).0 (out g (goal.at.returns g c).After-put_unit_payload-block) (stays f.left);
         chunks = chunks_given is b f.left at f.step;
-        copied = omega (arith, e.copied, f.left.costs.copied);
+        copied = omega (arith, e.counts.1, f.left.costs.copied);
       };
-      touches = omega (arith, e.touches, f.left.costs.touches);
+      touches = omega (arith, e.counts.0, f.left.costs.touches);
     })

@@ -19,7 +19,7 @@ back g c =
       stands = c.self.invariant.stands;
       tickets = c.self.invariant.tickets;
       issued = subst (IsIssued c.self.inside.ledger.entries c.args.ticket.key) (as_part c.args.part c.requires.ticket) c.redeem.ensures.issued;
-    }) e.start e.bytes e.out e.view (omega (arith, e.touches))
+    }) e.memory.start e.memory.bytes e.memory.out e.memory.view (omega (arith, e.counts.0))
 
 pub deallocate_in-requires : goal.deallocate_in-requires
 deallocate_in-requires g c =
@@ -54,9 +54,9 @@ returns g c =
       bounds = bounds_given is b f.left at f.step;
       frame = record {
         heap = keeps_given is b f.left at f.step c.self.inside.ledger.name c.redeem.new.self.name c.redeem.ensures.name;
-        raw = raw-back c.self.inside.memory q c.deallocate_in.new.memory (piece_range c.args.part) e.start (lies b.shown).0 e.out (stays f.left);
+        raw = raw-back c.self.inside.memory q c.deallocate_in.new.memory (piece_range c.args.part) e.memory.start (lies b.shown).0 e.memory.out (stays f.left);
         chunks = chunks_given is b f.left at f.step;
-        copied = omega (arith, e.copied, f.left.costs.copied);
+        copied = omega (arith, e.counts.1, f.left.costs.copied);
       };
-      touches = omega (arith, e.touches, f.left.costs.touches);
+      touches = omega (arith, e.counts.0, f.left.costs.touches);
     })

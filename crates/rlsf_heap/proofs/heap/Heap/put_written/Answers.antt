@@ -21,7 +21,7 @@ module _ (g : given.Over) (c : After-put_back g) where
       (set c.self.inside.ledger.entries c.args.ticket.key (entry_of (extent c.args.ticket.addr c.args.ticket.len c.args.ticket.align) false)) pay
   back =
       let e = c.put_back.ensures in
-      back_as pay c.requires.ticket c.redeem.ensures.issued e.start e.bytes e.len e.out e.touches e.copied e.view
+      back_as pay c.requires.ticket c.redeem.ensures.issued e.memory.start e.memory.bytes e.back.len e.memory.out e.counts.0 e.counts.1 e.memory.view
       (without c.args.ticket.key (extent c.args.ticket.addr c.args.ticket.len c.args.ticket.align) c.redeem.ensures.issued refl)
 
   all_back : IsGiven g.row.FLLEN g.row.SLLEN c.self.inside.memory c.put_back.new.self c.self.inside.table c.self.inside.state.state c.self.inside.ledger.entries
@@ -62,11 +62,11 @@ returns g c =
       frame = record {
         heap = keeps_given is b f.left at f.step c.self.inside.ledger.name c.redeem.new.self.name c.redeem.ensures.name;
         bytes = record {
-          raw = λ a from here. raw_back is (pay g d) (back g d) a from (raw-stays (stays f.left) a (omega (arith, from, e.start)) here);
+          raw = λ a from here. raw_back is (pay g d) (back g d) a from (raw-stays (stays f.left) a (omega (arith, from, e.memory.start)) here);
           settled = λ settled. settled-stays (stays f.left) (settled_before is (pay g d) (back g d) settled);
         };
         chunks = chunks_given is b f.left at f.step;
-        copied = omega (arith, e.copied, f.left.costs.copied);
+        copied = omega (arith, e.counts.1, f.left.costs.copied);
       };
-      touches = omega (arith, e.touches, f.left.costs.touches);
+      touches = omega (arith, e.counts.0, f.left.costs.touches);
     })

@@ -31,7 +31,7 @@ resize_in-done-requires g c =
     let pay = payload_view c.args.part c.args.ticket.align c.args.ticket.name in
     let e = c.put_back.ensures in
     let issued = c.renewed-ticket.ensures.issued in
-    let back = back_as pay c.requires.ticket issued e.start e.bytes e.len e.out e.touches e.copied e.view (without _ _ issued refl) in (
+    let back = back_as pay c.requires.ticket issued e.memory.start e.memory.bytes e.back.len e.memory.out e.counts.0 e.counts.1 e.memory.view (without _ _ issued refl) in (
       omega arith,
       (
         core_back c.self.invariant pay back g.FLBitmap.BitPattern.width_limit,
@@ -54,7 +54,7 @@ module _ (g : given.Over) (c : After-resize_in-done g) where
       → IsBack c.self.inside.memory c.put_back.new.self c.self.inside.ledger.entries fs pay
   back_by =
       let e = c.put_back.ensures in
-      back_as pay c.requires.ticket c.renewed-ticket.ensures.issued e.start e.bytes e.len e.out e.touches e.copied e.view
+      back_as pay c.requires.ticket c.renewed-ticket.ensures.issued e.memory.start e.memory.bytes e.back.len e.memory.out e.counts.0 e.counts.1 e.memory.view
 
   back : IsBack c.self.inside.memory c.put_back.new.self c.self.inside.ledger.entries (set c.self.inside.ledger.entries c.args.ticket.key (entry_of was false)) pay
   back = back_by (without c.args.ticket.key was c.renewed-ticket.ensures.issued refl)
@@ -152,19 +152,19 @@ module _ (g : given.Over) (c : After-renewed-ticket-2 g) where
   unfolding HasStatesOf
   over =
       let e = c.take_out-part.ensures in record {
-        identity = λ i. record { home = e.part.0 i; ledger = c.renewed-ticket-2.result.name };
-        at = e.part.1;
+        identity = λ i. record { home = e.part.home i; ledger = c.renewed-ticket-2.result.name };
+        at = e.part.start;
         align = c.renewed-ticket-2.ensures.ticket.3;
-        values = e.part.2;
-        long = e.len;
-        states = e.kept;
-        full = e.full;
-        start = e.start;
-        bytes = e.bytes;
-        out = e.out;
-        touches = e.touches;
-        copied = e.copied;
-        view = e.view;
+        values = e.part.bytes;
+        long = e.part.len;
+        states = e.part.kept;
+        full = e.part.full;
+        start = e.memory.start;
+        bytes = e.memory.bytes;
+        out = e.memory.out;
+        touches = e.counts.0;
+        copied = e.counts.1;
+        view = e.memory.view;
         entries = c.renewed-ticket-2.ensures.ledger.1
             ∙ (λ i. rest ++ entry_of (extent ((at_part ∙ sym c.start-addr.ensures) i) c.length_now-len.result c.renewed-ticket.result.align) true ∷ []);
       }
@@ -211,7 +211,7 @@ returns g c =
       result = λ yes.
           let now = resized_now g f yes in record {
             resized = resized_over is pay back e.left at whole aligned over ledger label name size now.sized now.few now.kept here;
-            start = take.part.1 ∙ c.start-addr.ensures;
+            start = take.part.start ∙ c.start-addr.ensures;
             live = live_before is pay back;
             aligns = aligns;
           };
@@ -219,22 +219,22 @@ returns g c =
       kept = λ no. (
         λ most longest wide sized. reads (IsSizedFor g.row.SLLEN most longest wide)
             (subst (IsSizedFor g.row.SLLEN most longest wide) (sym (same g f no)) (sized_back is pay back most longest wide sized)),
-        omega (arith, (e.refused no).counts.touches, put.touches, take.touches),
+        omega (arith, (e.refused no).counts.touches, put.counts.0, take.counts.0),
       );
       live = live_before is pay back;
       room = by_test c.resize_in-done.result
           (λ yes. record { enough = λ _. yes; stays = λ _. yes })
           (λ no. no_room is pay back size (c.resize_in-done.result ≡ true)
           (subst (λ b. ReallocatesWithoutMove (s g f) c.args.part.start size (stayed_if b c.args.part.start) (t g f)) no step));
-      place = (take.part.1 ∙ c.start-addr.ensures, c.renewed-ticket-2.ensures.ticket.3 ∙ aligned);
-      ticket = (take.part.1 ∙ c.start-addr.ensures ∙ sym (at_part g h) ∙ sym c.renewed-ticket-2.ensures.ticket.1, take.len ∙ sym c.renewed-ticket-2.ensures.ticket.2, refl);
+      place = (take.part.start ∙ c.start-addr.ensures, c.renewed-ticket-2.ensures.ticket.3 ∙ aligned);
+      ticket = (take.part.start ∙ c.start-addr.ensures ∙ sym (at_part g h) ∙ sym c.renewed-ticket-2.ensures.ticket.1, take.part.len ∙ sym c.renewed-ticket-2.ensures.ticket.2, refl);
       bounds = sized_over is pay back e.left at whole aligned over size (λ most longest wide sized short fits.
           told g f (λ a. KeepsBoundsThere g.row.SLLEN (s g f) (t g f) a size) e.bounds most longest wide c.args.ticket.align sized (live_back is pay back) short fits);
       frame = record {
         heap = keeps_over is pay back e.left at whole aligned over ledger label named;
         bytes = bytes_over is pay back e.left at whole aligned over ledger label;
         chunks = reads (λ (x : State). x.chunks ≡ before.chunks) kept.chunks;
-        copied = take.copied ∙ (let e : c.resize_in-done.new.memory.copied ≡ m.copied = omega (arith, e.left.costs.copied, put.copied) in e);
+        copied = take.counts.1 ∙ (let e : c.resize_in-done.new.memory.copied ≡ m.copied = omega (arith, e.left.costs.copied, put.counts.1) in e);
       };
-      touches = omega (arith, e.left.costs.touches, put.touches, take.touches);
+      touches = omega (arith, e.left.costs.touches, put.counts.0, take.counts.0);
     })

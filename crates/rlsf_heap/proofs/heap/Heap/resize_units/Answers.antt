@@ -38,9 +38,9 @@ back g c =
     let e = c.put_unit_payload-block.ensures in record {
       shown = record { stands = c.self.invariant.stands; tickets = c.self.invariant.tickets; issued = e.issued };
       within = c.args.payload.within.0;
-      same = e.start;
-      bytes = e.bytes;
-      out = e.out;
+      same = e.memory.start;
+      bytes = e.memory.bytes;
+      out = e.memory.out;
     }
 
 pub overflow_add-start : goal.overflow_add-start
@@ -56,7 +56,7 @@ resize_block_in-requires g c =
     let n = c.put_unit_payload-block.new.self in
     let e = c.put_unit_payload-block.ensures in
     let size = c.from_size_align_unchecked-sought.ensures.0 in
-    let same = read_from-same c.self.inside.memory n k e.start e.bytes in
+    let same = read_from-same c.self.inside.memory n k e.memory.start e.memory.bytes in
     let (starts, at) = begins_at b.shown c.put_unit_payload-block.result e.word in
     let there = held b.shown in (
       omega arith,
@@ -105,9 +105,9 @@ module _ (g : given.Over) (c : After-resize_block_in g) where
       let e = c.put_unit_payload-block.ensures in record {
         shown = record { stands = c.self.invariant.stands; tickets = c.self.invariant.tickets; issued = e.issued };
         within = c.args.payload.within.0;
-        same = e.start;
-        bytes = e.bytes;
-        out = e.out;
+        same = e.memory.start;
+        bytes = e.memory.bytes;
+        out = e.memory.out;
       }
 
   at : c.put_unit_payload-block.result + 16 ≡ c.args.payload.start
@@ -117,7 +117,7 @@ module _ (g : given.Over) (c : After-resize_block_in g) where
   kept_is = omega (arith, c.lesser-kept.ensures, c.payload_len-wanted.ensures, c.requires.len, c.requires.kept)
 
   same : read_from n k ≡ read_from m k
-  same = read_from-same m n k c.put_unit_payload-block.ensures.start c.put_unit_payload-block.ensures.bytes
+  same = read_from-same m n k c.put_unit_payload-block.ensures.memory.start c.put_unit_payload-block.ensures.memory.bytes
 
   -- what is so of the states that the call saw, and of the address and the size as they were passed, is so of those that contracts see
   told : {t : State} → t ≡ read_from o j → (So : State → State → ℕ → ℕ → Type 0)
@@ -187,11 +187,11 @@ module _ (g : given.Over) (c : After-resize_block_in g) where
           let costs = c.resize_block_in.ensures.left.costs in
           let first : p.start ≡ c.args.payload.start = place.1 ∙ at in
           let view : p.home.view ≡ c.args.payload.home.view =
-          ap (λ (h : Home). h.view) place.0 ∙ costs.view ∙ put.view ∙ ap (λ (v : HeapView). v.identity.home.view) c.self.view_is
+          ap (λ (h : Home). h.view) place.0 ∙ costs.view ∙ put.memory.view ∙ ap (λ (v : HeapView). v.identity.home.view) c.self.view_is
           ∙ sym (ap (λ (h : Identity). h.home.view) c.requires.heap) in
           record {
             identity = (λ i. record { home = place.0 i; ledger = p.name })
-                ∙ same_identity m o (costs.start ∙ put.start) (costs.length ∙ ap length put.bytes) (costs.view ∙ put.view) ledger p.name name;
+                ∙ same_identity m o (costs.start ∙ put.memory.start) (costs.length ∙ ap length put.memory.bytes) (costs.view ∙ put.memory.view) ledger p.name name;
             start = first;
             ptr = p.placed.at ∙ (λ i. pointer_to (view i) (first i)) ∙ sym c.args.payload.placed.at;
             kept = place.3 ∙ kept_is;
@@ -206,14 +206,14 @@ module _ (g : given.Over) (c : After-resize_block_in g) where
           let put = c.put_unit_payload-block.ensures in
           let left = c.resize_block_in.ensures.left in
           let costs = left.costs in record {
-            heap = heap-over m q c.self.inside.table c.resize_block_in.new.table k j (start ∙ costs.start ∙ put.start) (ap length bytes ∙ costs.length ∙ ap length put.bytes)
-                (view ∙ costs.view ∙ put.view) (omega (arith, touches, costs.grow, put.touches))
-                (spare-last m o q (read_from m k) (read_from q j) start bytes (spare-first m n o (read_from m k) (read_from q j) put.start put.bytes left.spare))
+            heap = heap-over m q c.self.inside.table c.resize_block_in.new.table k j (start ∙ costs.start ∙ put.memory.start) (ap length bytes ∙ costs.length ∙ ap length put.memory.bytes)
+                (view ∙ costs.view ∙ put.memory.view) (omega (arith, touches, costs.grow, put.counts.0))
+                (spare-last m o q (read_from m k) (read_from q j) start bytes (spare-first m n o (read_from m k) (read_from q j) put.memory.start put.memory.bytes left.spare))
                 ledger name called;
-            raw = raw-tail m n o q c.args.payload.start c.args.payload.kept c.args.payload.len c.args.payload.within.0 (lies b.shown).0 put.start put.out (stays left) _ start
-                (omega (arith, (lies b.shown).0, at, put.start, costs.start)) out;
+            raw = raw-tail m n o q c.args.payload.start c.args.payload.kept c.args.payload.len c.args.payload.within.0 (lies b.shown).0 put.memory.start put.memory.out (stays left) _ start
+                (omega (arith, (lies b.shown).0, at, put.memory.start, costs.start)) out;
             chunks = (keeps as_left).chunks;
-            copied = omega (arith, copied, costs.copied, put.copied);
+            copied = omega (arith, copied, costs.copied, put.counts.1);
           }
 
 -- ---- the bytes don't suffice
@@ -240,8 +240,8 @@ invariant_of-self g c =
     let d = (goal.at.invariant_of-self g c).After-resize_block_in in
     let e = c.take_unit_payload.ensures in
     let q = c.take_unit_payload.new.self in
-    heap g d q e.start e.bytes c.args.payload.len c.args.payload.within.0 (as_was g d q e.start e.bytes c.if-not-resize_block_in.true) c.requires.len
-    c.issue-ticket.new.self.entries c.issue-ticket.ensures.entries e.out
+    heap g d q e.memory.start e.memory.bytes c.args.payload.len c.args.payload.within.0 (as_was g d q e.memory.start e.memory.bytes c.if-not-resize_block_in.true) c.requires.len
+    c.issue-ticket.new.self.entries c.issue-ticket.ensures.entries e.memory.out
 
 pub returns-then-not-resize_block_in : goal.returns-then-not-resize_block_in
 unfolding Steps Stands KeepsBytesBeside
@@ -254,9 +254,9 @@ returns-then-not-resize_block_in g c =
     let no = c.if-not-resize_block_in.true in
     let left = c.resize_block_in.ensures.left in
     let counts = (c.resize_block_in.ensures.refused no).counts in
-    let is = as_left g d c.take_unit_payload.new.self e.start e.bytes in
+    let is = as_left g d c.take_unit_payload.new.self e.memory.start e.memory.bytes in
     let within = c.args.payload.within.0 in
-    let long = as_was g d c.take_unit_payload.new.self e.start e.bytes no in
+    let long = as_was g d c.take_unit_payload.new.self e.memory.start e.memory.bytes no in
     let did = step g d is false no in
     rw (← c.self.view_is) (record {
       step = (did, (invariant_of-self g c).stands);
@@ -264,13 +264,13 @@ returns-then-not-resize_block_in g c =
       room = λ shorter. absurd (shrinks (b g d).shown c.args.size shorter did);
       bounds = sized g d is;
       refused = record {
-        place = in_place g d q e.start e.bytes c.args.payload.len within long c.requires.len e.place (e.ticket.0 ∙ c.issue-ticket.ensures.name.0 ∙ put.ledger.0);
-        same = same_as g d c.take_unit_payload.new.self e.start e.bytes no;
+        place = in_place g d q e.memory.start e.memory.bytes c.args.payload.len within long c.requires.len e.place (e.ticket.0 ∙ c.issue-ticket.ensures.name.0 ∙ put.ledger.0);
+        same = same_as g d c.take_unit_payload.new.self e.memory.start e.memory.bytes no;
         aligns = (keeps g d is).aligns;
-        unchanged = λ a from to side. same-byte m q (e.start ∙ counts.start ∙ put.start) (e.bytes ∙ counts.bytes ∙ put.bytes) a;
+        unchanged = λ a from to side. same-byte m q (e.memory.start ∙ counts.start ∙ put.memory.start) (e.memory.bytes ∙ counts.bytes ∙ put.memory.bytes) a;
       };
-      frame = frame g d q e.start e.bytes c.args.payload.len within long c.requires.len e.view e.touches e.copied e.out (c.issue-ticket.ensures.name.1 ∙ put.ledger.0);
-      touches = omega (arith, e.touches, left.costs.touches, put.touches);
+      frame = frame g d q e.memory.start e.memory.bytes c.args.payload.len within long c.requires.len e.memory.view e.counts.0 e.counts.1 e.memory.out (c.issue-ticket.ensures.name.1 ∙ put.ledger.0);
+      touches = omega (arith, e.counts.0, left.costs.touches, put.counts.0);
     })
 
 -- ---- the payload has the other size
@@ -304,8 +304,8 @@ invariant_of-self-2 g c =
     let early = (goal.at.invariant_of-self-2 g c).After-put_unit_payload-block in
     let e = c.take_unit_payload-2.ensures in
     let q = c.take_unit_payload-2.new.self in
-    heap g d q e.start e.bytes (payload_len c.args.size) (fits g early) (as_wanted g d q e.start e.bytes c.if-not-resize_block_in.false) c.payload_len-wanted.ensures
-    c.issue-ticket-2.new.self.entries c.issue-ticket-2.ensures.entries e.out
+    heap g d q e.memory.start e.memory.bytes (payload_len c.args.size) (fits g early) (as_wanted g d q e.memory.start e.memory.bytes c.if-not-resize_block_in.false) c.payload_len-wanted.ensures
+    c.issue-ticket-2.new.self.entries c.issue-ticket-2.ensures.entries e.memory.out
 
 pub returns : goal.returns
 unfolding Steps Stands
@@ -316,9 +316,9 @@ returns g c =
     let e = c.take_unit_payload-2.ensures in
     let yes = c.if-not-resize_block_in.false in
     let left = c.resize_block_in.ensures.left in
-    let is = as_left g d c.take_unit_payload-2.new.self e.start e.bytes in
+    let is = as_left g d c.take_unit_payload-2.new.self e.memory.start e.memory.bytes in
     let now = payload_len c.args.size in
-    let long = as_wanted g d c.take_unit_payload-2.new.self e.start e.bytes yes in
+    let long = as_wanted g d c.take_unit_payload-2.new.self e.memory.start e.memory.bytes yes in
     let wanted = c.payload_len-wanted.ensures in
     let start : c.take_unit_payload-2.result.start ≡ c.args.payload.start = e.place.1 ∙ at g d in
     rw (← c.self.view_is) (record {
@@ -328,13 +328,13 @@ returns g c =
         (invariant_of-self-2 g c).stands,
       );
       result = record {
-        place = in_place g d c.take_unit_payload-2.new.self e.start e.bytes now (fits g early) long wanted e.place (e.ticket.0 ∙ c.issue-ticket-2.ensures.name.0 ∙ put.ledger.0);
+        place = in_place g d c.take_unit_payload-2.new.self e.memory.start e.memory.bytes now (fits g early) long wanted e.place (e.ticket.0 ∙ c.issue-ticket-2.ensures.name.0 ∙ put.ledger.0);
         aligns = (keeps g d is).aligns;
       };
       room = λ shorter. refl;
       bounds = sized g d is;
       refused = tt;
-      frame = frame g d c.take_unit_payload-2.new.self e.start e.bytes now (fits g early) long wanted e.view e.touches e.copied e.out
+      frame = frame g d c.take_unit_payload-2.new.self e.memory.start e.memory.bytes now (fits g early) long wanted e.memory.view e.counts.0 e.counts.1 e.memory.out
           (c.issue-ticket-2.ensures.name.1 ∙ put.ledger.0);
-      touches = omega (arith, e.touches, left.costs.touches, put.touches);
+      touches = omega (arith, e.counts.0, left.costs.touches, put.counts.0);
     })

@@ -11,19 +11,19 @@ returns-clause-over c =
     let e = c.take_out-part.ensures in
     let is = c.issued.ensures.payload in
     let ledger = c.args.ledger.now in record {
-      identity = ap (λ (p : PayloadView). p.identity) is ∙ (λ i. record { home = e.part.0 i; ledger = ledger.name });
-      at = ap (λ (p : PayloadView). p.start) is ∙ e.part.1;
+      identity = ap (λ (p : PayloadView). p.identity) is ∙ (λ i. record { home = e.part.home i; ledger = ledger.name });
+      at = ap (λ (p : PayloadView). p.start) is ∙ e.part.start;
       align = ap (λ (p : PayloadView). p.align) is;
-      values = ap (λ (p : PayloadView). p.bytes) is ∙ e.part.2;
-      long = ap (λ (p : PayloadView). length p.bytes) is ∙ e.len;
-      states = λ k less. ap (λ (p : PayloadView). kept_at p.out k) is ∙ e.kept k less;
-      full = λ here. subst (λ (p : PayloadView). IsWritten p) (sym is) (e.full here);
-      start = e.start;
-      bytes = e.bytes;
-      out = e.out;
-      touches = e.touches;
-      copied = e.copied;
-      view = e.view;
+      values = ap (λ (p : PayloadView). p.bytes) is ∙ e.part.bytes;
+      long = ap (λ (p : PayloadView). length p.bytes) is ∙ e.part.len;
+      states = λ k less. ap (λ (p : PayloadView). kept_at p.out k) is ∙ e.part.kept k less;
+      full = λ here. subst (λ (p : PayloadView). IsWritten p) (sym is) (e.part.full here);
+      start = e.memory.start;
+      bytes = e.memory.bytes;
+      out = e.memory.out;
+      touches = e.counts.0;
+      copied = e.counts.1;
+      view = e.memory.view;
       entries = c.issued.ensures.entries
-          ∙ (λ i. ledger.entries ++ entry_of (extent (e.part.1 i) (e.len i) c.args.align) true ∷ []);
+          ∙ (λ i. ledger.entries ++ entry_of (extent (e.part.start i) (e.part.len i) c.args.align) true ∷ []);
     }

@@ -67,7 +67,7 @@ module _ (g : given.Over) (c : After-copy_within g) where
 
   -- nothing is out after it
   none : c.copy_within.new.self.out ≡ []
-  none = none-with m c.copy_within.new.self (range_at c.get-2.result c.args.len) c.copy_within.ensures.out (IsAllocator-opened c.self-inside.view_is c.self.invariant).whole
+  none = none-with m c.copy_within.new.self (range_at c.get-2.result c.args.len) c.copy_within.ensures.memory.out (IsAllocator-opened c.self-inside.view_is c.self.invariant).whole
 
   -- the front is copied
   copying : (t : State) × Fills (read_from m j) (at c.args.to) front t × StandsFor g.row.FLLEN g.row.SLLEN (contents c.copy_within.new.self c.self-inside.inside.0.1.0) t
@@ -79,12 +79,12 @@ module _ (g : given.Over) (c : After-copy_within g) where
       let (u, source) = some_inside is old view (at c.args.from) c.requires.live.0 in
       let (w, target) = some_inside is old view (at c.args.to) c.requires.live.1 in
       let bytes : n.bytes ≡ with_bytes m (at c.args.to) (bytes_in m (range_at (at c.args.from) len)) =
-      c.copy_within.ensures.bytes ∙ (λ i. with_bytes m (c.get-2.ensures.value i) (bytes_in m (range_at (c.get.ensures.value i) len))) in
+      c.copy_within.ensures.memory.bytes ∙ (λ i. with_bytes m (c.get-2.ensures.value i) (bytes_in m (range_at (c.get.ensures.value i) len))) in
       subst (λ (bs : List ℕ). (t : State) × Fills (read_from m j) (at c.args.to) bs t × StandsFor g.row.FLLEN g.row.SLLEN (contents n c.self-inside.inside.0.1.0) t
       × KeepsSpare m (read_from m j) n t) {x = with_front len u.bytes w.bytes}
       (λ i. with_front len (sym (bytes_inside is old view (at c.args.from) u source) i) (sym (bytes_inside is old view (at c.args.to) w target) i))
       (stands_copied is.stands len (at c.args.from) (at c.args.to) u w source target (long_inside is old view (at c.args.from) len u source c.requires.long.0)
-      (long_inside is old view (at c.args.to) len w target c.requires.long.1) n c.copy_within.ensures.start bytes (none ∙ sym is.whole))
+      (long_inside is old view (at c.args.to) len w target c.requires.long.1) n c.copy_within.ensures.memory.start bytes (none ∙ sym is.whole))
 
   -- what is kept of the state is kept of the state after
   kept : j ≡ bare copying.0
@@ -124,8 +124,8 @@ returns g c =
       bounds = λ count size align sized. sized_filled w (after g d).state count size align sized (at c.args.to) (front g d) (fills.block, fills.holds) fills;
       frame = record {
         chunks = chunks-filled c.args.self.now.state (after g d).state (at c.args.to) (front g d) fills;
-        place = subst (λ (o : Allocator). SamePlace o.memory c.copy_within.new.self) view (e.start, e.len, e.view, λ _. none g d);
-        copied = e.copied ∙ ap (λ (o : Allocator). o.memory.copied + c.args.len) view;
+        place = subst (λ (o : Allocator). SamePlace o.memory c.copy_within.new.self) view (e.memory.start, e.len, e.memory.view, λ _. none g d);
+        copied = e.counts.1 ∙ ap (λ (o : Allocator). o.memory.copied + c.args.len) view;
       };
-      touches = e.touches ∙ ap (λ (o : Allocator). o.memory.touches) view;
+      touches = e.counts.0 ∙ ap (λ (o : Allocator). o.memory.touches) view;
     }
