@@ -1,10 +1,8 @@
 -- What is true of a checked allocator's fields over the steps.
-use Rattle.std.proofs.Common.{◌≡◌, ◌≢◌, ℕ, zero, suc, ◌+◌, ◌-◌, ◌*◌, ◌/◌, ◌%◌, ◌^◌, ◌<◌, ◌≤◌, cond, Option, None, Some, arith, refl}
+use Rattle.std.proofs.Common.{◌≡◌, ◌≢◌, ℕ, zero, suc, ◌+◌, ◌-◌, ◌%◌, ◌^◌, ◌<◌, ◌≤◌, cond, Option, None, Some, arith, refl}
 use Rattle.std.proofs.Common.{sym, ◌∙◌, ap, subst, inl, inr}
 use Rattle.std.proofs.lemmas.Bool.{cases_eq, cases_lt, le-leb, lt-leb}
-use Rattle.std.proofs.lemmas.Nat.{pow_pos, pow-add}
-use Rattle.std.proofs.Math.Nat.{div-add-mod', mod-eq_of_lt}
-use Rattle.std.specs.Int.{next_multiple_of}
+use Rattle.std.proofs.Math.Nat.{mod-eq_of_lt}
 use Rattle.rlsf_base.specs.declared.memory.layout.Layout.{Layout}
 use Rattle.rlsf_base.specs.declared.memory.range.Range.{Range}
 use Rattle.rlsf_base.specs.Layout.{IsLayout}
@@ -12,11 +10,9 @@ use Rattle.rlsf_base.specs.PowerOfTwo.{IsPowerOfTwo, floor_log2}
 use Rattle.rlsf_base.specs.Range.{end_of}
 use Rattle.rlsf_base.specs.Space.{SamePlace, range_of}
 use Rattle.rlsf_base.proofs.Numbers.PowersOfTwo.{IsPowerOfTwo-pow, pow-between}
-use Rattle.rlsf_base.proofs.Numbers.Roundings.{next_multiple_of-multiple}
 use Rattle.rlsf_blocks.specs.Blocks.{walked}
 use Rattle.rlsf_model.specs.Callers.{align_at}
 use Rattle.rlsf_model.specs.Lists.{IsIn}
-use Rattle.rlsf_model.specs.Payload.{payload_of}
 use Rattle.rlsf_model.specs.Reallocate.{Reallocates}
 use Rattle.rlsf_model.specs.Run.{reallocate}
 use Rattle.rlsf_model.specs.State.{State}
@@ -24,7 +20,7 @@ use Rattle.rlsf_model.proofs.CallerWords.{align_at-live, align_at-none}
 use Rattle.rlsf_model.proofs.Callers.{callers_see_map}
 use Rattle.rlsf_model.proofs.ChunkRows.{IsRow-same}
 use Rattle.rlsf_model.proofs.Live.{payload_lies_in_one_chunk}
-use Rattle.rlsf_model.proofs.Payloads.{IsUsed-after_start, IsUsed-aligned}
+use Rattle.rlsf_model.proofs.Payloads.{IsUsed-after_start, IsUsed-aligned, IsUsed-even}
 use Rattle.rlsf_tlsf.specs.Allocator.{Allocator, Stands, Steps}
 use Rattle.rlsf_checked.specs.Answers.{size_refusal}
 use Rattle.rlsf_checked.specs.declared.error.CheckedError.TheVariants.{NoLayout}
@@ -53,22 +49,6 @@ pub record IsPlace (v : Allocator) (addr align : ℕ) : Type 0 where
   pub power : IsPowerOfTwo align
   pub short : floor_log2 align < 64
 
--- the payload of a block lies at a multiple of 16
-even_payload : (k b : ℕ) → b % 32 ≡ 0 → payload_of b (2 ^ k) % 16 ≡ 0
-even_payload zero b whole = omega arith
-even_payload (suc zero) b whole = omega arith
-even_payload (suc (suc zero)) b whole = omega arith
-even_payload (suc (suc (suc zero))) b whole = omega arith
-even_payload (suc (suc (suc (suc k)))) b whole =
-    let n = 2 ^ (4 + k) in
-    let exponent : suc (suc (suc (suc k))) ≡ 4 + k = omega arith in
-    let p = next_multiple_of (b + 16) n in
-    let times : n ≡ 16 * 2 ^ k = pow-add 2 4 k in
-    let some : 0 < n = pow_pos (4 + k) in
-    let product : p / n * n ≡ p / n * (16 * 2 ^ k) = ap (λ m. p / n * m) times in
-    let multiple : p ≡ 16 * (p / n * 2 ^ k) = omega (arith, div-add-mod' p n, next_multiple_of-multiple (b + 16) n some) in
-    subst (λ e. payload_of b (2 ^ e) % 16 ≡ 0) (sym exponent) (omega (arith, multiple))
-
 -- a multiple of a number that isn't 0 is at least that number
 divisor-le : (n m : ℕ) → 0 < n → n % m ≡ 0 → m ≤ n
 divisor-le n zero some whole = omega arith
@@ -93,10 +73,8 @@ live_place fllen sllen v stands addr align is =
     let few : u.align ≤ u.payload = divisor-le u.payload u.align (omega arith) (IsUsed-aligned u used) in
     let power : IsPowerOfTwo align = subst IsPowerOfTwo aligned used.power in
     let small : 2 ^ floor_log2 align < 2 ^ 64 = omega (arith, power, few, aligned, w.addressable, below, at) in
-    let k = floor_log2 u.align in
-    let rounded : u.payload ≡ payload_of u.block.start (2 ^ k) = used.placed ∙ ap (payload_of u.block.start) used.power in
     record {
-      even = omega (arith, at, rounded, even_payload k u.block.start used.whole.start);
+      even = omega (arith, at, IsUsed-even u used);
       low = omega (arith, low, from, at);
       high = below;
       power = power;

@@ -1,21 +1,13 @@
 -- Each payload's address has a code: it is a multiple of 16 in the memory, whose addresses the table's are.
-use Rattle.std.proofs.Common.{◌≡◌, ℕ, zero, suc, ◌+◌, ◌*◌, ◌/◌, ◌%◌, ◌^◌, ◌<◌, ◌≤◌, Some, arith, length, ap, subst, ◌∙◌, sym}
-use Rattle.std.proofs.lemmas.Nat.{pow_pos, pow-add}
-use Rattle.std.proofs.Math.Nat.{div-add-mod'}
-use Rattle.std.specs.Int.{next_multiple_of}
-use Rattle.rlsf_base.proofs.Numbers.Roundings.{next_multiple_of-multiple}
-use Rattle.rlsf_base.specs.PowerOfTwo.{floor_log2}
+use Rattle.std.proofs.Common.{◌≡◌, ℕ, ◌+◌, ◌%◌, ◌≤◌, Some, arith, length, ap, subst, ◌∙◌, sym}
 use Rattle.rlsf_base.specs.Space.{SamePlace, Space, range_of}
 use Rattle.rlsf_flex.specs.StandsFor.{FlexContents, FlexStandsFor}
 use Rattle.rlsf_global.specs.LiveRows.{CodeSpace, HasCode, LiveRows, codes_for}
 use Rattle.rlsf_global.specs.Locked.{IsListed, IsLocked, IsSpaceOf}
 use Rattle.rlsf_model.proofs.CallerWords.{align_at-live}
 use Rattle.rlsf_model.proofs.Live.{payload_lies_in_one_chunk}
-use Rattle.rlsf_model.proofs.Payloads.{IsUsed-after_start}
+use Rattle.rlsf_model.proofs.Payloads.{IsUsed-after_start, IsUsed-even}
 use Rattle.rlsf_model.specs.Callers.{align_at}
-use Rattle.rlsf_model.specs.Payload.{payload_of}
-use Rattle.rlsf_model.specs.State.{Used}
-use Rattle.rlsf_model.specs.WellFormed.{IsUsed}
 use Rattle.rlsf_model_global.specs.Cursor.{PageCursor, terms_of}
 use Rattle.rlsf_model_global.specs.Pages.{MayOwe}
 
@@ -31,28 +23,6 @@ listed f f' t t' was place same locked = record { locked = locked; space = same 
 
 -- ---- where payloads live
 
--- the payload of a block lies at a multiple of 16
-even_payload : (k b : ℕ) → b % 32 ≡ 0 → payload_of b (2 ^ k) % 16 ≡ 0
-even_payload zero b whole = omega arith
-even_payload (suc zero) b whole = omega arith
-even_payload (suc (suc zero)) b whole = omega arith
-even_payload (suc (suc (suc zero))) b whole = omega arith
-even_payload (suc (suc (suc (suc k)))) b whole =
-    let n = 2 ^ (4 + k) in
-    let exponent : suc (suc (suc (suc k))) ≡ 4 + k = omega arith in
-    let p = next_multiple_of (b + 16) n in
-    let times : n ≡ 16 * 2 ^ k = pow-add 2 4 k in
-    let some : 0 < n = pow_pos (4 + k) in
-    let product : p / n * n ≡ p / n * (16 * 2 ^ k) = ap (λ m. p / n * m) times in
-    let multiple : p ≡ 16 * (p / n * 2 ^ k) = omega (arith, div-add-mod' p n, next_multiple_of-multiple (b + 16) n some) in
-    subst (λ e. payload_of b (2 ^ e) % 16 ≡ 0) (sym exponent) (omega (arith, multiple))
-
-even_used : (u : Used) → IsUsed u → u.payload % 16 ≡ 0
-even_used u is =
-    let k = floor_log2 u.align in
-    let rounded : u.payload ≡ payload_of u.block.start (2 ^ k) = is.placed ∙ ap (payload_of u.block.start) is.power in
-    omega (arith, rounded, even_payload k u.block.start is.whole.start)
-
 module _ (f : FlexContents PageCursor) (stands : FlexStandsFor 64 64 terms_of MayOwe f) (s : CodeSpace) (space : IsSpaceOf f.memory s) where
   pub has_code : (a align : ℕ) → align_at f.state.machine a ≡ Some align → HasCode s a
   has_code a align live =
@@ -66,7 +36,7 @@ module _ (f : FlexContents PageCursor) (stands : FlexStandsFor 64 64 terms_of Ma
       let behind = IsUsed-after_start u used in
       let below : f.memory.start ≤ u.payload = omega (arith, low, from) in
       let above : u.payload ≤ f.memory.start + length f.memory.bytes = omega arith in
-      let whole : u.payload % 16 ≡ 0 = even_used u used in
+      let whole : u.payload % 16 ≡ 0 = IsUsed-even u used in
       subst (λ s. HasCode s a) (sym space) (subst (HasCode (codes_for f.memory.start (length f.memory.bytes))) at_a (record {
         whole = whole;
         above = omega (arith, below);

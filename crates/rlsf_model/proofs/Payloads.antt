@@ -34,6 +34,22 @@ payload_pow (suc (suc (suc (suc (suc k))))) b whole =
     let multiple : p ≡ 32 * (p / n * 2 ^ k) = omega (arith, div-add-mod' p n, next_multiple_of-multiple (b + 16) n some) in
     subst (λ e. payload_of b (2 ^ e) ≤ b + 16 + (2 ^ e - 16)) (sym exponent) (omega (arith, next_multiple_of-lt (b + 16) n some))
 
+-- the payload of a block lies at a multiple of 16
+even_payload : (k b : ℕ) → b % 32 ≡ 0 → payload_of b (2 ^ k) % 16 ≡ 0
+even_payload zero b whole = omega arith
+even_payload (suc zero) b whole = omega arith
+even_payload (suc (suc zero)) b whole = omega arith
+even_payload (suc (suc (suc zero))) b whole = omega arith
+even_payload (suc (suc (suc (suc k)))) b whole =
+    let n = 2 ^ (4 + k) in
+    let exponent : suc (suc (suc (suc k))) ≡ 4 + k = omega arith in
+    let p = next_multiple_of (b + 16) n in
+    let times : n ≡ 16 * 2 ^ k = pow-add 2 4 k in
+    let some : 0 < n = pow_pos (4 + k) in
+    let product : p / n * n ≡ p / n * (16 * 2 ^ k) = ap (λ m. p / n * m) times in
+    let multiple : p ≡ 16 * (p / n * 2 ^ k) = omega (arith, div-add-mod' p n, next_multiple_of-multiple (b + 16) n some) in
+    subst (λ e. payload_of b (2 ^ e) % 16 ≡ 0) (sym exponent) (omega (arith, multiple))
+
 pub payload_of-le : (b align : ℕ) → b % 32 ≡ 0 → IsPowerOfTwo align → payload_of b align ≤ b + 16 + (align - 16)
 payload_of-le b align whole power = subst (λ n. payload_of b n ≤ b + 16 + (n - 16)) (sym power) (payload_pow (floor_log2 align) b whole)
 
@@ -43,10 +59,18 @@ payload_of-after b align = next_multiple_of-le (b + 16) align
 pub payload_of-aligned : (b align : ℕ) → IsPowerOfTwo align → payload_of b align % align ≡ 0
 payload_of-aligned b align power = next_multiple_of-multiple (b + 16) align (IsPowerOfTwo-positive align power)
 
--- so a used block's payload is a multiple of its alignment, and 16 bytes or more into the block
+-- so a used block's payload is a multiple of its alignment
 pub IsUsed-aligned : (u : Used) → IsUsed u → u.payload % u.align ≡ 0
 IsUsed-aligned u is = subst (λ p. p % u.align ≡ 0) (sym is.placed) (payload_of-aligned u.block.start u.align is.power)
 
+-- and of 16
+pub IsUsed-even : (u : Used) → IsUsed u → u.payload % 16 ≡ 0
+IsUsed-even u is =
+    let k = floor_log2 u.align in
+    let rounded : u.payload ≡ payload_of u.block.start (2 ^ k) = is.placed ∙ ap (payload_of u.block.start) is.power in
+    omega (arith, rounded, even_payload k u.block.start is.whole.start)
+
+-- and it lies 16 bytes or more into the block
 pub IsUsed-after_start : (u : Used) → IsUsed u → u.block.start + 16 ≤ u.payload
 IsUsed-after_start u is = omega (arith, is.placed, payload_of-after u.block.start u.align)
 
