@@ -9,7 +9,7 @@ use Rattle.rlsf_tlsf.specs.Results.{IsReallocated}
 use Rattle.rlsf_blocks.specs.Spare.{KeepsSpare}
 use Rattle.rlsf_flex.specs.Steps.Outside.{KeepsOutsideNow}
 use Rattle.rlsf_flex.specs.StandsFor.{FlexContents, FlexStandsFor, FlexSteps, allocator_of, with_allocator}
-use Rattle.rlsf_flex.specs.Steps.Growth.{Extended, MovesTo}
+use Rattle.rlsf_flex.specs.Steps.Growth.{Extended, MovesPayload}
 use Rattle.rlsf_model.specs.Allocate.{Allocates}
 use Rattle.rlsf_model.specs.Callers.{align_at, bytes_at}
 use Rattle.rlsf_model.specs.FlexAllocate.{Asks, FlexAllocates}
@@ -163,7 +163,7 @@ module _ {S : Type 0} {fllen sllen : ℕ} {terms : S → Terms} {owes : S → Li
           (subst (λ (s : FlexState). Holds s.machine addr u) (sym tried.same) stuck.holds)
 
       module _ (last : Allocator) (came : more ≡ true) (place : SamePlace after.memory last.memory) (whole : v.memory.out ≡ []) {to : ℕ}
-          (moved : MovesTo fllen sllen (allocator_of after) last addr size to) where
+          (moved : MovesPayload fllen sllen (allocator_of after) last addr size to) where
         moves : MovesAway sllen after.state.machine u size to last.state
         moves =
             subst (λ x. MovesAway sllen after.state.machine x size to last.state) (Holds-unique h.stands.machine.well_formed addr moved.block u moved.holds Holds-came) moved.moves

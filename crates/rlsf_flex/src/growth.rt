@@ -9,7 +9,7 @@ ghost use Rattle.rlsf_tlsf.specs.Allocator.{Stands};
 ghost use Rattle.rlsf_tlsf.specs.Bounds.{KeepsBounds};
 ghost use Rattle.rlsf_tlsf.specs.Results.{IsReallocated};
 ghost use Rattle.rlsf_flex.specs.StandsFor.{FlexStandsFor, kept_pool};
-ghost use Rattle.rlsf_flex.specs.Steps.Growth.{AskedGrowth, AskedRange, Extended, IsAsBefore, KeepsPayloads, MovesTo, kept_len, kept_start};
+ghost use Rattle.rlsf_flex.specs.Steps.Growth.{AskedGrowth, AskedRange, Extended, IsAsBefore, KeepsPayloads, MovesPayload, kept_len, kept_start};
 ghost use Rattle.rlsf_flex.specs.Steps.Parts.{flex_over};
 ghost use Rattle.rlsf_model.specs.Allocate.{Allocates};
 ghost use Rattle.rlsf_model.specs.Callers.{align_at, bytes_at};
@@ -167,7 +167,7 @@ pub(crate) fn move_payload<const FLLEN: usize, const SLLEN: usize>(
     requires live { align_at tlsf.old.state (at addr) ≡ Some layout.align }
     requires short { length (bytes_at tlsf.old.state (at addr)) ≤ layout.size }
     ensures refused { IfNone result (Allocates SLLEN tlsf.old.state layout.size layout.align None tlsf.old.state) }
-    ensures step { IfSome result (λ to. MovesTo FLLEN SLLEN tlsf.old tlsf.new (at addr) layout.size (at to)) }
+    ensures step { IfSome result (λ to. MovesPayload FLLEN SLLEN tlsf.old tlsf.new (at addr) layout.size (at to)) }
     ensures result { IfSome result (λ to. IsReallocated tlsf.old.state tlsf.new.state (at addr) layout.size layout.align (at to)) }
     ensures count { live_count tlsf.new.state ≡ live_count tlsf.old.state }
     ensures bounds { KeepsBounds SLLEN tlsf.old.state tlsf.new.state layout.size layout.align }

@@ -30,7 +30,7 @@ use Rattle.rlsf_model.proofs.FlexCallers.{flex_callers_see_map}
 use Rattle.rlsf_model_global.specs.declared.error.GlobalError.TheVariants.{NoRoom, WrongLayout}
 use Rattle.rlsf_model_global.specs.Cursor.{PageCursor, PageLeads, terms_of}
 use Rattle.rlsf_model_global.specs.Heap.{Heap, Lists}
-use Rattle.rlsf_model_global.specs.Moves.{MovesAway, ReallocatesAsAt, ReallocatesTo, ResizesTo, Wanted}
+use Rattle.rlsf_model_global.specs.Moves.{HeapMovesAway, ReallocatesAsAt, ReallocatesTo, ResizesTo, Wanted}
 use Rattle.rlsf_model_global.specs.Rows.{Row, put, row_at, without_row}
 use Rattle.rlsf_model_global.specs.Steps.{Placed, is_same}
 
@@ -92,7 +92,7 @@ module _ (f f' : FlexContents PageCursor) (same : f'.state ≡ f.state) (kept : 
 
   pub not_moved : (addr keep : ℕ) (wanted : Layout)
       → FlexSteps 64 64 terms_of MayOwe PageLeads f f' (FlexAllocates 64 64 (terms_of f.source) f.state wanted.size wanted.align None) → (rows : List Row)
-      → MovesAway (heap_of f rows) addr keep wanted (Err NoRoom) (heap_of f' rows)
+      → HeapMovesAway (heap_of f rows) addr keep wanted (Err NoRoom) (heap_of f' rows)
   not_moved addr keep wanted steps rows =
       let (notes, step, led, outside, stands) = flex_opened f f' (FlexAllocates 64 64 (terms_of f.source) f.state wanted.size wanted.align None) steps in
       let stays = refused_notes f.source f'.source _ _ (subst (λ ns. LeadsBy PageLeads f.source ns f'.source) step.extends.asked led) in
@@ -149,7 +149,7 @@ module _ (f m k e : FlexContents PageCursor) (addr keep : ℕ) (wanted : Layout)
     (copies : StepsAlone 64 64 terms_of MayOwe m k (Fills m.state.machine (at to) (with_front keep (bytes_at m.state.machine addr) (bytes_at m.state.machine (at to)))))
     (frees : StepsAlone 64 64 terms_of MayOwe k e (Deallocates k.state.machine addr)) where
   pub moved_away : k.source ≡ m.source → e.source ≡ k.source → (rows : List Row)
-      → MovesAway (heap_of f rows) addr keep wanted (Ok to) (heap_of e (put (to, wanted) (without_row addr rows)))
+      → HeapMovesAway (heap_of f rows) addr keep wanted (Ok to) (heap_of e (put (to, wanted) (without_row addr rows)))
   moved_away copy_stays free_stays rows =
       let (notes, step, led, outside, stands) = flex_opened f m (FlexAllocates 64 64 (terms_of f.source) f.state wanted.size wanted.align (Some (at to))) takes in
       let (fills, copied, stands2, spare2) =

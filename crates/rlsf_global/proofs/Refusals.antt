@@ -5,7 +5,7 @@ use Rattle.rlsf_global.specs.Refusals.{RefusesOnlyBy}
 use Rattle.rlsf_model_global.specs.declared.error.GlobalError.{GlobalError}
 use Rattle.rlsf_model_global.specs.declared.error.GlobalError.TheVariants.{JournalMemory, NoRoom, OutOfRange, TableMemory, UnknownAddress, WrongLayout}
 use Rattle.rlsf_model_global.specs.Heap.{Heap}
-use Rattle.rlsf_model_global.specs.Moves.{MovesAway, ReallocatesAsAt, ReallocatesAt, ReallocatesThereAt, ReallocatesTo, ResizesThere, ResizesTo}
+use Rattle.rlsf_model_global.specs.Moves.{HeapMovesAway, ReallocatesAsAt, ReallocatesAt, ReallocatesThereAt, ReallocatesTo, ResizesThere, ResizesTo}
 use Rattle.rlsf_model_global.specs.Rows.{Row}
 use Rattle.rlsf_model_global.specs.Steps.{DeallocatesAsAt, DeallocatesAt, Done, HeapAllocates, Placed, ReadsAt, UsableAt, WritesAt, is_same, fits}
 
@@ -68,7 +68,7 @@ pub usable_refuses : (h : Heap) (addr : ℕ) (row : Option Row) (r : Result ℕ 
 usable_refuses h addr None r step = same (UnknownAddress ∷ []) r _ step (inl refl)
 usable_refuses h addr (Some row) r step = same (UnknownAddress ∷ []) r _ step tt
 
-moves_refuses : (h g : Heap) (addr keep : ℕ) (wanted : Layout) (r : Placed) → MovesAway h addr keep wanted r g → RefusesOnlyBy (UnknownAddress ∷ NoRoom ∷ []) r
+moves_refuses : (h g : Heap) (addr keep : ℕ) (wanted : Layout) (r : Placed) → HeapMovesAway h addr keep wanted r g → RefusesOnlyBy (UnknownAddress ∷ NoRoom ∷ []) r
 moves_refuses h g addr keep wanted (Ok to) step = tt
 moves_refuses h g addr keep wanted (Err NoRoom) step = inr (inl refl)
 moves_refuses h g addr keep wanted (Err UnknownAddress) step = absurd step

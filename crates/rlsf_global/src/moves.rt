@@ -12,7 +12,7 @@ ghost use Rattle.rlsf_model.specs.Callers.{align_at, bytes_at};
 ghost use Rattle.rlsf_model.specs.Reallocate.{HasRoomToResize};
 ghost use Rattle.rlsf_model_global.specs.declared.error.GlobalError.TheVariants.{NoRoom};
 ghost use Rattle.rlsf_model_global.specs.Cursor.{terms_of};
-ghost use Rattle.rlsf_model_global.specs.Moves.{MovesAway, ReallocatesTo};
+ghost use Rattle.rlsf_model_global.specs.Moves.{HeapMovesAway, ReallocatesTo};
 ghost use Rattle.rlsf_model_global.specs.Rows.{Row, put, without_row};
 
 use rlsf_base::memory::{Addr, Layout};
@@ -33,10 +33,10 @@ pub(crate) fn move_away<Options: GlobalTlsfOptions>(
     requires live { align_at flex.old.state.machine (at addr) ≡ Some align }
     requires old { keep ≤ length (bytes_at flex.old.state.machine (at addr)) }
     requires new { keep ≤ wanted.size }
-    ensures step { IfSome result (λ to. (rows : List Row) → MovesAway (heap_of flex.old rows) (at addr) keep wanted (Ok to)
+    ensures step { IfSome result (λ to. (rows : List Row) → HeapMovesAway (heap_of flex.old rows) (at addr) keep wanted (Ok to)
         (heap_of flex.new (put (to, wanted) (without_row (at addr) rows)))) }
     ensures moved { IfSome result (λ to. IsGivenLayout flex.old flex.new (at addr) wanted (at to)) }
-    ensures none { IfNone result ((rows : List Row) → MovesAway (heap_of flex.old rows) (at addr) keep wanted (Err NoRoom) (heap_of flex.new rows)) }
+    ensures none { IfNone result ((rows : List Row) → HeapMovesAway (heap_of flex.old rows) (at addr) keep wanted (Err NoRoom) (heap_of flex.new rows)) }
     ensures refused { IfNone result (StaysRefused flex.old flex.new) }
     ensures touches { HasRoomFor 64 flex.old.state.machine wanted.size wanted.align → flex.new.memory.touches ≤ flex.old.memory.touches + 59 }
     ensures grow { flex.old.memory.touches ≤ flex.new.memory.touches }

@@ -16,7 +16,7 @@ use Rattle.rlsf_model_global.specs.declared.error.GlobalError.TheVariants.{NoRoo
 use Rattle.rlsf_model_global.specs.Heap.{Heap, content_at, layout_at, row_layout, with_state}
 use Rattle.rlsf_model_global.specs.History.{Gives, LeadsTo, Names, Step, allocate, deallocate, deallocate_as, reallocate, reallocate_as, reallocate_there, read, usable, write}
 use Rattle.rlsf_model_global.specs.Isolation.{HistoriesKeepHeap, IsSameAt, StepsKeepHeap, UnnamedStays, UnnamedStaysThroughout}
-use Rattle.rlsf_model_global.specs.Moves.{MovesAway, ReallocatesAsAt, ReallocatesAt, ReallocatesThereAt, ReallocatesTo, ResizesThere, ResizesTo, Wanted}
+use Rattle.rlsf_model_global.specs.Moves.{HeapMovesAway, ReallocatesAsAt, ReallocatesAt, ReallocatesThereAt, ReallocatesTo, ResizesThere, ResizesTo, Wanted}
 use Rattle.rlsf_model_global.specs.Rows.{Row, put, row_at, without_row}
 use Rattle.rlsf_model_global.specs.Standing.{IsHeap}
 use Rattle.rlsf_model_global.specs.Steps.{DeallocatesAsAt, DeallocatesAt, Done, Placed, Releases, WritesAt, WritesIn, fits, is_same}
@@ -64,7 +64,7 @@ module _ {memory : Range} (h : Heap) (w : IsHeap memory h) (g : Heap) where
     live : IsSomeLive h.flex.machine addr
     live = align_at-some h.flex.machine addr (subst IsSome (sym (live_row h addr row w.lists there)) refl)
 
-    moving_goes : (keep : ℕ) (result : Placed) → MovesAway h addr keep wanted result g → Goes memory h g (λ a. (addr ≡ a) ⊎ Gives result a)
+    moving_goes : (keep : ℕ) (result : Placed) → HeapMovesAway h addr keep wanted result g → Goes memory h g (λ a. (addr ≡ a) ⊎ Gives result a)
     moving_goes keep (Ok to) step = replaced h w addr row there g to wanted step.1 keep step.0
     moving_goes keep (Err NoRoom) step = stays_all h w (λ a. (addr ≡ a) ⊎ Gives (Err NoRoom) a) g step.1
     moving_goes keep (Err e) step = absurd step

@@ -23,7 +23,7 @@ use Rattle.rlsf_model_global.specs.declared.error.GlobalError.TheVariants.{NoRoo
 use Rattle.rlsf_model_global.specs.Cursor.{PageCursor, PageLeads, terms_of}
 use Rattle.rlsf_model_global.specs.Heap.{HaveSamePlacement, Heap}
 use Rattle.rlsf_model_global.specs.History.{allocate, deallocate, deallocate_as, reallocate, reallocate_as, reallocate_there, read, usable, write}
-use Rattle.rlsf_model_global.specs.Moves.{MovesAway, ReallocatesAsAt, ReallocatesAt, ReallocatesThereAt, ReallocatesTo, Replaces, Resizes, ResizesThere, ResizesTo, Wanted}
+use Rattle.rlsf_model_global.specs.Moves.{HeapMovesAway, ReallocatesAsAt, ReallocatesAt, ReallocatesThereAt, ReallocatesTo, Replaces, Resizes, ResizesThere, ResizesTo, Wanted}
 use Rattle.rlsf_model_global.specs.Replays.{LacksMemory, PlacementDetermines}
 use Rattle.rlsf_model_global.specs.Rows.{Row, put, row_at, without_row}
 use Rattle.rlsf_model_global.specs.Standing.{IsHeap}
@@ -158,7 +158,7 @@ module _ {memory : Range} (h h' : Heap) (w : IsHeap memory h) (w' : IsHeap memor
 
     -- ---- a payload that gets another size
 
-    moves_away : (addr keep keep' : ℕ) (wanted : Layout) (m n : Placed) → MovesAway h addr keep wanted m g → MovesAway h' addr keep' wanted n g'
+    moves_away : (addr keep keep' : ℕ) (wanted : Layout) (m n : Placed) → HeapMovesAway h addr keep wanted m g → HeapMovesAway h' addr keep' wanted n g'
         → (m ≡ n) × HaveSamePlacement g g'
     moves_away addr keep keep' wanted (Ok a) (Ok b) s t =
         let (reply, near, now) = replaced addr keep keep' wanted.size wanted.align (at a) (at b) wanted.valid.aligned g.flex g'.flex g.source g'.source s.0 t.0 in

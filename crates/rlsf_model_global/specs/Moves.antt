@@ -33,10 +33,10 @@ Resizes h addr size reply flex source =
 
 -- the payload moves into another, with an entry for it in the place of the old one's; where there is no room and no memory came, nothing
 -- changes
-abbrev pub MovesAway : Heap → ℕ → ℕ → Layout → Placed → Heap → Type 0
-MovesAway h addr keep wanted (Ok to) g = Replaces h addr keep wanted.size wanted.align (at to) g.flex g.source × (g.asked ≡ put (to, wanted) (without_row addr h.asked))
-MovesAway h addr keep wanted (Err NoRoom) g = Takes h wanted.size wanted.align None h.flex h.source × (g ≡ h)
-MovesAway h addr keep wanted (Err e) g = ⊥
+abbrev pub HeapMovesAway : Heap → ℕ → ℕ → Layout → Placed → Heap → Type 0
+HeapMovesAway h addr keep wanted (Ok to) g = Replaces h addr keep wanted.size wanted.align (at to) g.flex g.source × (g.asked ≡ put (to, wanted) (without_row addr h.asked))
+HeapMovesAway h addr keep wanted (Err NoRoom) g = Takes h wanted.size wanted.align None h.flex h.source × (g ≡ h)
+HeapMovesAway h addr keep wanted (Err e) g = ⊥
 
 -- the payload gets another size by the reference model, with an entry for it in the place of the old one's; where there is no room and no memory
 -- came, nothing changes
@@ -62,7 +62,7 @@ pub record Wanted (n a : ℕ) (step : Layout → Type 0) : Type 0 where
 -- the payload of an entry gets another size: by the reference model, or, where that isn't enabled, in a new payload
 abbrev pub ReallocatesTo : Bool → Heap → ℕ → Layout → Layout → Placed → Heap → Type 0
 ReallocatesTo true h addr old wanted result g = ResizesTo h addr wanted result g
-ReallocatesTo false h addr old wanted result g = MovesAway h addr (min old.size wanted.size) wanted result g
+ReallocatesTo false h addr old wanted result g = HeapMovesAway h addr (min old.size wanted.size) wanted result g
 
 -- the entry decides: none, or one of another layout, is refused
 abbrev pub ReallocatesAsAt : Bool → Heap → ℕ → Layout → ℕ → Option Row → Placed → Heap → Type 0
@@ -77,7 +77,7 @@ HeapReallocatesAs enabled h addr layout new_size result g = ReallocatesAsAt enab
 -- the entry decides: none is refused; else the payload moves, with as many of its first bytes as both sizes have
 abbrev pub ReallocatesAt : Heap → ℕ → Layout → Option Row → Placed → Heap → Type 0
 ReallocatesAt h addr wanted None result g = (result ≡ Err UnknownAddress) × (g ≡ h)
-ReallocatesAt h addr wanted (Some row) result g = MovesAway h addr (min wanted.size (length (bytes_at h.flex.machine addr))) wanted result g
+ReallocatesAt h addr wanted (Some row) result g = HeapMovesAway h addr (min wanted.size (length (bytes_at h.flex.machine addr))) wanted result g
 
 -- another layout for a payload
 abbrev pub HeapReallocates : Heap → ℕ → Layout → Placed → Heap → Type 0

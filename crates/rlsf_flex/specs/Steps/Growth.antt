@@ -97,7 +97,7 @@ module _ {S : Type 0} (fllen sllen : ℕ) (terms : S → Terms) (owes : S → Li
     pub room : is_more outcome ≡ true → HasPool e after.state.machine
 
 -- the payload at an address moved to another, and memory and class table represent the state that came of it
-pub record MovesTo (fllen sllen : ℕ) (before after : Allocator) (addr size to : ℕ) : Type 0 where
+pub record MovesPayload (fllen sllen : ℕ) (before after : Allocator) (addr size to : ℕ) : Type 0 where
   pub block : Used
   pub holds : Holds before.state addr block
   pub moves : MovesAway sllen before.state block size to after.state

@@ -21,7 +21,7 @@ use Rattle.rlsf_model_global.specs.declared.error.GlobalError.TheVariants as err
 use Rattle.rlsf_model_global.specs.Cursor.{PageCursor, PageLeads}
 use Rattle.rlsf_model_global.specs.Heap.{Heap, beginning}
 use Rattle.rlsf_model_global.specs.History.{IsHistory, LeadsTo, Step, write}
-use Rattle.rlsf_model_global.specs.Moves.{MovesAway, ReallocatesAt}
+use Rattle.rlsf_model_global.specs.Moves.{HeapMovesAway, ReallocatesAt}
 use Rattle.rlsf_model_global.specs.Replays as placement
 use Rattle.rlsf_model_global.specs.Replays.{journal_of}
 use Rattle.rlsf_model_global.specs.Rows.{Row, row_at}
@@ -52,7 +52,7 @@ deallocates-start : (h g : Heap) (addr : ℕ) (o : Option Row) (result : Done) �
 deallocates-start h g addr None result (refused, same) = ap beginning_of same
 deallocates-start h g addr (Some row) result (done, (m, frees, after)) = ap beginning_of after
 
-moves-start : (h g : Heap) (addr keep : ℕ) (wanted : Layout) (result : Answer) → MovesAway h addr keep wanted result g → beginning_of g ≡ beginning_of h
+moves-start : (h g : Heap) (addr keep : ℕ) (wanted : Layout) (result : Answer) → HeapMovesAway h addr keep wanted result g → beginning_of g ≡ beginning_of h
 moves-start h g addr keep wanted (Ok to) (moved, rows) = takes-start h wanted.size wanted.align (Some (at to)) moved.meanwhile g.source moved.takes
 moves-start h g addr keep wanted (Err error.NoRoom) (takes, same) = ap beginning_of same
 moves-start h g addr keep wanted (Err error.UnknownAddress) moved = absurd moved

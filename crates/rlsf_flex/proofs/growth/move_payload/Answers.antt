@@ -9,7 +9,7 @@ use Rattle.rlsf_model.specs.State.{State, with_front}
 use Rattle.rlsf_model.proofs.CallerWords.{align_at-live, bytes_at-held}
 use Rattle.rlsf_tlsf.specs.Allocator.{IsInState}
 use Rattle.rlsf_tlsf.proofs.Standing.{in_state}
-use Rattle.rlsf_flex.specs.Steps.Growth.{MovesTo}
+use Rattle.rlsf_flex.specs.Steps.Growth.{MovesPayload}
 use Rattle.rlsf_flex.proofs.Moves.{new, Fills-copied, Holds-new, Holds-old, Keeps-front, KeepsSpare-copied, MovesAway-copied, length-front}
 use Rattle.rlsf_flex.proofs.Places.{SamePlace-then}
 use Rattle.rlsf_flex.proofs.InnerAllocator.{opened, opened_whole, stood_at}
@@ -74,7 +74,8 @@ moved_length g c =
     short
 
 -- which is the reference model's move
-moves : (g : given.Over) (c : After-deallocate g) → MovesTo g.row.FLLEN g.row.SLLEN c.args.tlsf.now c.deallocate.new.self (at c.args.addr) c.args.layout.size (at c.in_ok-to.to)
+moves : (g : given.Over) (c : After-deallocate g)
+    → MovesPayload g.row.FLLEN g.row.SLLEN c.args.tlsf.now c.deallocate.new.self (at c.args.addr) c.args.layout.size (at c.in_ok-to.to)
 moves g c =
     let addr = at c.args.addr in
     let to = at c.in_ok-to.to in

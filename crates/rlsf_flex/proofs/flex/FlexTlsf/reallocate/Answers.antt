@@ -4,7 +4,7 @@ use Rattle.std.proofs.Common.{subst}
 use Rattle.rlsf_base.specs.Addr.{at, reply}
 use Rattle.rlsf_flex.specs.StandsFor.{FlexContents, flex_contents, FlexSteps}
 use Rattle.rlsf_flex.specs.Steps.Parts.{flex_over}
-use Rattle.rlsf_flex.specs.Steps.Growth.{MovesTo}
+use Rattle.rlsf_flex.specs.Steps.Growth.{MovesPayload}
 use Rattle.rlsf_model.specs.Allocate.{Allocates}
 use Rattle.rlsf_model.specs.Callers.{align_at, bytes_at}
 use Rattle.rlsf_model.specs.FlexReallocate.{FlexReallocates, IsStuck}
@@ -197,7 +197,7 @@ in_more g c u stuck is first None e = absurd (found g c first e)
 in_more g c u stuck is first (Some to) e =
     let now = flex_over c.self.inside.parts in
     let moved =
-    subst (λ o. IfSome o (λ to. MovesTo g.row.FLLEN g.row.SLLEN c.extend.new.self.tlsf c.move_payload.new.tlsf (at c.args.addr) c.args.layout.size (at to))) e
+    subst (λ o. IfSome o (λ to. MovesPayload g.row.FLLEN g.row.SLLEN c.extend.new.self.tlsf c.move_payload.new.tlsf (at c.args.addr) c.args.layout.size (at to))) e
     c.move_payload.ensures.step in
     reallocated_in_more (at c.args.addr) c.args.layout.size c.args.layout.align g.S.FlexSource.leads now stuck is first (sym c.in_ok-wanted.ensures) c.if-extend.ensures.step
     c.move_payload.new.tlsf refl c.move_payload.ensures.place c.self.invariant.whole moved

@@ -9,7 +9,7 @@ use Rattle.rlsf_global.proofs.Lives.{has_row, known, unknown}
 use Rattle.rlsf_global.proofs.Places.{has_code, listed, space_stays}
 use Rattle.rlsf_global.proofs.Placements.{live_here, live_row, no_row}
 use Rattle.rlsf_model_global.specs.declared.error.GlobalError.TheVariants.{NoRoom}
-use Rattle.rlsf_model_global.specs.Moves.{HeapReallocates, MovesAway, ReallocatesAt}
+use Rattle.rlsf_model_global.specs.Moves.{HeapReallocates, HeapMovesAway, ReallocatesAt}
 use Rattle.rlsf_global.proofs.locked.Locked.reallocate.Given as given
 use Rattle.rlsf_global.proofs.locked.Locked.reallocate.Goals as goal
 use Rattle.rlsf_global.proofs.locked.Locked.reallocate.Goals.{After-move_row}
@@ -63,10 +63,10 @@ did_step g c =
     let row = sym c.in-Some.ensures.row in
     let keep = c.min-keep.ensures ∙ ap (λ n. min n c.allocation_usable_size.result) c.size.ensures.value ∙ ap (min c.args.layout.size) c.allocation_usable_size.ensures in
     let step =
-    subst (λ l. MovesAway h (at c.args.addr) c.min-keep.result c.args.layout (Ok c.in-Some-move_away.to) (heap_of c.move_away.new.flex l)) (sym c.move_row.ensures.rows)
+    subst (λ l. HeapMovesAway h (at c.args.addr) c.min-keep.result c.args.layout (Ok c.in-Some-move_away.to) (heap_of c.move_away.new.flex l)) (sym c.move_row.ensures.rows)
     (c.in-Some-move_away.ensures.step c.self.inside.rows.rows) in
     subst (λ o. ReallocatesAt h (at c.args.addr) c.args.layout o (Ok c.in-Some-move_away.to) after) (sym row)
-    (subst (λ n. MovesAway h (at c.args.addr) n c.args.layout (Ok c.in-Some-move_away.to) after) keep step)
+    (subst (λ n. HeapMovesAway h (at c.args.addr) n c.args.layout (Ok c.in-Some-move_away.to) after) keep step)
 
 pub returns : goal.returns
 returns g c =
@@ -132,7 +132,7 @@ returns-in_default-move_away g c =
     rw (← c.self.view_is) (record {
       step =
           subst (λ o. ReallocatesAt h (at c.args.addr) c.args.layout o (Err NoRoom) after) (sym row)
-          (subst (λ n. MovesAway h (at c.args.addr) n c.args.layout (Err NoRoom) after) keep (c.in_default-move_away.ensures.none c.self.inside.rows.rows));
+          (subst (λ n. HeapMovesAway h (at c.args.addr) n c.args.layout (Err NoRoom) after) keep (c.in_default-move_away.ensures.none c.self.inside.rows.rows));
       result = tt;
       unknown = known c.self.inside.flex c.self.inside.rows.rows (at c.args.addr) _ row (Err NoRoom) refl;
       refused = record { same = same_heap c.self.inside.flex c.move_away.new.flex c.self.inside.rows.rows stays.state stays.source; bytes = stays.bytes };
