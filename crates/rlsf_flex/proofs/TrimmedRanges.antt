@@ -8,7 +8,7 @@ use Rattle.rlsf_blocks.specs.Spare.{IsSpare}
 use Rattle.rlsf_flex.specs.Footers.{first}
 use Rattle.rlsf_flex.specs.Outside.{IsOutside, KeepsOutside, NothingGoesBack, ever_owed, handed}
 use Rattle.rlsf_flex.specs.StandsFor.{FlexContents, FlexStandsFor, FlexSteps}
-use Rattle.rlsf_flex.specs.Steps.Trim.{GaveBack, GaveNewest}
+use Rattle.rlsf_flex.specs.Steps.Trim.{GaveBack, GaveNewest, LeavesPayloads}
 use Rattle.rlsf_model.specs.Answers.{MayAnswer}
 use Rattle.rlsf_model.specs.FlexState.{KeptPool}
 use Rattle.rlsf_model.specs.FlexWellFormed.{ArePools, IsNewest}
@@ -31,6 +31,21 @@ use Rattle.rlsf_flex.proofs.Outside.{KeepsOutside-refl, ever_owed-coverage}
 use Rattle.rlsf_flex.proofs.OutsideNow.{outside_spare}
 use Rattle.rlsf_flex.proofs.Places.{SamePlace-refl, SamePlace-then}
 use Rattle.rlsf_flex.proofs.SpareBytes.{KeepsSpareButFooter-all}
+use Rattle.rlsf_tlsf.specs.Allocator.{Allocator}
+
+-- ---- the payloads
+
+pub LeavesPayloads-refl : (a : Allocator) → LeavesPayloads a a
+LeavesPayloads-refl a = record { live = refl; aligns = refl; bytes = refl; grow = omega arith; copied = refl }
+
+pub LeavesPayloads-then : {a b c : Allocator} → LeavesPayloads a b → LeavesPayloads b c → LeavesPayloads a c
+LeavesPayloads-then first then = record {
+  live = then.live ∙ first.live;
+  aligns = then.aligns ∙ first.aligns;
+  bytes = then.bytes ∙ first.bytes;
+  grow = omega (arith, first.grow, then.grow);
+  copied = then.copied ∙ first.copied;
+}
 
 -- ---- the reference model's state
 

@@ -4,12 +4,10 @@ ghost use Rattle.std.specs.Prelude.{◌≡◌, ◌↔◌, ◌≤◌, ◌<◌, �
 ghost use Rattle.rlsf_blocks.specs.Blocks.{walked};
 ghost use Rattle.rlsf_flex.specs.StandsFor.{FlexStandsFor};
 ghost use Rattle.rlsf_flex.specs.Steps.Parts.{flex_over};
-ghost use Rattle.rlsf_flex.specs.Steps.Trim.{GaveBack, GaveNewest, HasRoomForChunk};
-ghost use Rattle.rlsf_model.specs.Callers.{align_at, bytes_at};
+ghost use Rattle.rlsf_flex.specs.Steps.Trim.{GaveBack, GaveNewest, HasRoomForChunk, LeavesPayloads};
 ghost use Rattle.rlsf_model.specs.ChunkRows.{IsRow};
 ghost use Rattle.rlsf_model.specs.FlexWellFormed.{IsPool};
 ghost use Rattle.rlsf_model.specs.Remove.{IsIdle};
-ghost use Rattle.rlsf_model.specs.Sized.{live_count};
 ghost use Rattle.rlsf_model.specs.Trim.{IsNewestHeld};
 ghost use Rattle.rlsf_tlsf.specs.Allocator.{Stands};
 
@@ -85,12 +83,8 @@ impl<S: FlexSource, const FLLEN: usize, const SLLEN: usize> Parts<S, FLLEN, SLLE
         ensures gone { result ≡ true → GaveNewest FLLEN SLLEN S.terms S.owes S.leads (flex_over self.old) (flex_over self.new) }
         ensures held { result ≡ false → IsNewestHeld self.old.tlsf.state self.old.owed.ranges }
         ensures same { result ≡ false → self.new ≡ self.old }
-        ensures live { live_count self.new.tlsf.state ≡ live_count self.old.tlsf.state }
-        ensures aligns { align_at self.new.tlsf.state ≡ align_at self.old.tlsf.state }
-        ensures bytes { bytes_at self.new.tlsf.state ≡ bytes_at self.old.tlsf.state }
+        ensures payloads { LeavesPayloads self.old.tlsf self.new.tlsf }
         ensures touches { self.new.tlsf.memory.touches + 9 * length self.new.tlsf.state.chunks ≤ self.old.tlsf.memory.touches + 9 * length self.old.tlsf.state.chunks }
-        ensures grow { self.old.tlsf.memory.touches ≤ self.new.tlsf.memory.touches }
-        ensures copied { self.new.tlsf.memory.copied ≡ self.old.tlsf.memory.copied }
     {
         let Some(pool) = self.kept else {
             return false;
@@ -120,12 +114,8 @@ impl<S: FlexSource, const FLLEN: usize, const SLLEN: usize> Parts<S, FLLEN, SLLE
         ensures gone { GaveBack FLLEN SLLEN S.terms S.owes S.leads (flex_over self.old) (flex_over self.new) result }
         ensures held { IsNewestHeld self.new.tlsf.state self.new.owed.ranges }
         ensures same { result ≡ 0 → self.new ≡ self.old }
-        ensures live { live_count self.new.tlsf.state ≡ live_count self.old.tlsf.state }
-        ensures aligns { align_at self.new.tlsf.state ≡ align_at self.old.tlsf.state }
-        ensures bytes { bytes_at self.new.tlsf.state ≡ bytes_at self.old.tlsf.state }
+        ensures payloads { LeavesPayloads self.old.tlsf self.new.tlsf }
         ensures touches { self.new.tlsf.memory.touches + 9 * length self.new.tlsf.state.chunks ≤ self.old.tlsf.memory.touches + 9 * length self.old.tlsf.state.chunks }
-        ensures grow { self.old.tlsf.memory.touches ≤ self.new.tlsf.memory.touches }
-        ensures copied { self.new.tlsf.memory.copied ≡ self.old.tlsf.memory.copied }
     {
         let mut count = 0;
         while self.give_newest_back() {

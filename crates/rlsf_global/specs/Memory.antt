@@ -4,6 +4,7 @@ use Rattle.rlsf_base.specs.Space.{SamePlace, Space, byte_at}
 use Rattle.rlsf_blocks.specs.Spare.{KeepsSpare}
 use Rattle.rlsf_flex.specs.Outside.{IsOutside}
 use Rattle.rlsf_flex.specs.StandsFor.{FlexContents}
+use Rattle.rlsf_model.specs.Allocate.{HasRoomFor}
 use Rattle.rlsf_model.specs.Callers.{bytes_at}
 use Rattle.rlsf_model.specs.Reallocate.{HasRoomToResize, HasRoomToStay}
 use Rattle.rlsf_model.specs.State.{State}
@@ -32,3 +33,10 @@ pub record CopiesOnResize (enabled : Bool) (s : State) (addr size wanted : ℕ) 
   pub room : enabled ≡ true → HasRoomToResize 64 s addr wanted → after.copied ≤ before.copied + length (bytes_at s addr)
   pub stays : enabled ≡ true → HasRoomToStay s addr wanted → after.copied ≡ before.copied
   pub elsewhere : enabled ≡ false → after.copied ≤ before.copied + min size wanted
+
+-- how many words are accessed if a payload of this alignment gets another size, where there is room
+pub record BoundsOnResize (enabled : Bool) (s : State) (addr size align : ℕ) (before after : Space) : Type 0 where
+  -- where the allocator reallocates
+  pub room : enabled ≡ true → HasRoomToResize 64 s addr size → after.touches ≤ before.touches + 66
+  -- where the payload always moves
+  pub elsewhere : enabled ≡ false → HasRoomFor 64 s size align → after.touches ≤ before.touches + 59

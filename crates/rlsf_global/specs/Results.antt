@@ -5,9 +5,7 @@ use Rattle.rlsf_base.specs.declared.memory.layout.Layout.{Layout}
 use Rattle.rlsf_global.specs.Journal.Replay.{BookContents}
 use Rattle.rlsf_global.specs.Kept.{KeepsFirst}
 use Rattle.rlsf_global.specs.Locked.{LockedContents, flex_of}
-use Rattle.rlsf_global.specs.Memory.{CopiesOnResize, KeepsMemory}
-use Rattle.rlsf_model.specs.Allocate.{HasRoomFor}
-use Rattle.rlsf_model.specs.Reallocate.{HasRoomToResize}
+use Rattle.rlsf_global.specs.Memory.{BoundsOnResize, CopiesOnResize, KeepsMemory}
 use Rattle.rlsf_model_global.specs.Heap.{HasLayout, Heap, content_at, layout_at}
 use Rattle.rlsf_model_global.specs.Left.{in_both}
 use Rattle.rlsf_model_global.specs.Steps.{Placed}
@@ -173,8 +171,5 @@ pub record KeepsBookWriting (before after : BookContents) : Type 0 where
 -- ---- word accesses
 
 -- of a call that changes the size of the payload at an address, of this alignment
-pub record BoundsResizing (enabled : Bool) (addr size align : ℕ) (before after : LockedContents) : Type 0 where
-  -- where the allocator reallocates
-  pub room : enabled ≡ true → HasRoomToResize 64 before.heap.flex.machine addr size → after.memory.touches ≤ before.memory.touches + 66
-  -- where the payload always moves
-  pub elsewhere : enabled ≡ false → HasRoomFor 64 before.heap.flex.machine size align → after.memory.touches ≤ before.memory.touches + 59
+abbrev pub BoundsResizing : Bool → ℕ → ℕ → ℕ → LockedContents → LockedContents → Type 0
+BoundsResizing enabled addr size align before after = BoundsOnResize enabled before.heap.flex.machine addr size align before.memory after.memory

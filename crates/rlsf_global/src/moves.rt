@@ -1,15 +1,14 @@
 //! Reallocation of payloads, with and without a move.
 
-ghost use Rattle.std.specs.Prelude.{◌≡◌, ◌≤◌, ◌+◌, List, Ok, Err, Some, IfNone, IfSome, false, length, true};
+ghost use Rattle.std.specs.Prelude.{◌≡◌, ◌≤◌, ◌+◌, List, Ok, Err, Some, IfNone, IfSome, length};
 ghost use Rattle.rlsf_base.specs.Addr.{at};
 ghost use Rattle.rlsf_flex.specs.StandsFor.{FlexStandsFor};
 ghost use Rattle.rlsf_global.specs.Locked.{heap_of};
 ghost use Rattle.rlsf_model_global.specs.Pages.{MayOwe};
-ghost use Rattle.rlsf_global.specs.Memory.{CopiesOnResize, KeepsMemory};
-ghost use Rattle.rlsf_global.specs.Steps.Moves.{IsGivenLayout, ResizesTo, StaysRefused};
+ghost use Rattle.rlsf_global.specs.Memory.{BoundsOnResize};
+ghost use Rattle.rlsf_global.specs.Steps.Moves.{IsGivenLayout, KeepsMoving, KeepsResizing, ResizesTo, StaysRefused};
 ghost use Rattle.rlsf_model.specs.Allocate.{HasRoomFor};
 ghost use Rattle.rlsf_model.specs.Callers.{align_at, bytes_at};
-ghost use Rattle.rlsf_model.specs.Reallocate.{HasRoomToResize};
 ghost use Rattle.rlsf_model_global.specs.declared.error.GlobalError.TheVariants.{NoRoom};
 ghost use Rattle.rlsf_model_global.specs.Cursor.{terms_of};
 ghost use Rattle.rlsf_model_global.specs.Moves.{HeapMovesAway, ReallocatesTo};
@@ -39,10 +38,7 @@ pub(crate) fn move_away<Options: GlobalTlsfOptions>(
     ensures none { IfNone result ((rows : List Row) → HeapMovesAway (heap_of flex.old rows) (at addr) keep wanted (Err NoRoom) (heap_of flex.new rows)) }
     ensures refused { IfNone result (StaysRefused flex.old flex.new) }
     ensures touches { HasRoomFor 64 flex.old.state.machine wanted.size wanted.align → flex.new.memory.touches ≤ flex.old.memory.touches + 59 }
-    ensures grow { flex.old.memory.touches ≤ flex.new.memory.touches }
-    ensures memory { KeepsMemory flex.old flex.new }
-    ensures copied { IfSome result (λ to. flex.new.memory.copied ≡ flex.old.memory.copied + keep) }
-    ensures copied_none { IfNone result (flex.new.memory.copied ≡ flex.old.memory.copied) }
+    ensures frame { KeepsMoving flex.old flex.new keep result }
 {
     let to = flex.allocate(wanted)?;
     flex.copy_payload(addr, to, keep);
@@ -66,13 +62,8 @@ pub(crate) fn resize<Options: GlobalTlsfOptions>(
     ensures none { IfNone result ((rows : List Row) → ReallocatesTo Options.ENABLE_REALLOCATION (heap_of flex.old rows) (at addr) layout wanted (Err NoRoom)
         (heap_of flex.new rows)) }
     ensures refused { IfNone result (StaysRefused flex.old flex.new) }
-    ensures touches { Options.ENABLE_REALLOCATION ≡ true → HasRoomToResize 64 flex.old.state.machine (at addr) wanted.size
-        → flex.new.memory.touches ≤ flex.old.memory.touches + 66 }
-    ensures touches_elsewhere { Options.ENABLE_REALLOCATION ≡ false → HasRoomFor 64 flex.old.state.machine wanted.size wanted.align
-        → flex.new.memory.touches ≤ flex.old.memory.touches + 59 }
-    ensures grow { flex.old.memory.touches ≤ flex.new.memory.touches }
-    ensures memory { KeepsMemory flex.old flex.new }
-    ensures copied { CopiesOnResize Options.ENABLE_REALLOCATION flex.old.state.machine (at addr) layout.size wanted.size flex.old.memory flex.new.memory }
+    ensures touches { BoundsOnResize Options.ENABLE_REALLOCATION flex.old.state.machine (at addr) wanted.size wanted.align flex.old.memory flex.new.memory }
+    ensures frame { KeepsResizing Options.ENABLE_REALLOCATION flex.old flex.new (at addr) layout.size wanted.size }
 {
     if Options::ENABLE_REALLOCATION {
         flex.reallocate(addr, wanted)

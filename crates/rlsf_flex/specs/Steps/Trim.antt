@@ -5,15 +5,31 @@ use Rattle.rlsf_base.specs.Range.{end_of}
 use Rattle.rlsf_base.specs.Space.{SamePlace}
 use Rattle.rlsf_blocks.specs.Spare.{KeepsSpare}
 use Rattle.rlsf_flex.specs.StandsFor.{FlexContents, FlexStandsFor}
+use Rattle.rlsf_model.specs.Callers.{align_at, bytes_at}
 use Rattle.rlsf_model.specs.Lists.{IsIn}
 use Rattle.rlsf_model.specs.Note.{Note, LeadsBy, dealloc}
 use Rattle.rlsf_model.specs.Remove.{IsIdle, removed}
+use Rattle.rlsf_model.specs.Sized.{live_count}
 use Rattle.rlsf_model.specs.Terms.{Terms}
 use Rattle.rlsf_model.specs.Trim.{all_removed}
+use Rattle.rlsf_tlsf.specs.Allocator.{Allocator}
 
 -- the range has room for a chunk, and ends below 2^64
 abbrev pub HasRoomForChunk : Range → Type 0
 HasRoomForChunk r = (64 ≤ r.len) × (end_of r < 2 ^ 64)
+
+-- every payload stays, and nothing is copied
+pub record LeavesPayloads (before after : Allocator) : Type 0 where
+  -- as many are live
+  pub live : live_count after.state ≡ live_count before.state
+  -- with their alignments
+  pub aligns : align_at after.state ≡ align_at before.state
+  -- and their bytes
+  pub bytes : bytes_at after.state ≡ bytes_at before.state
+  -- word accesses are only added
+  pub grow : before.memory.touches ≤ after.memory.touches
+  -- no byte is copied
+  pub copied : after.memory.copied ≡ before.memory.copied
 
 -- the ranges except for the newest
 abbrev pub older : List Range → List Range

@@ -1,9 +1,10 @@
 -- A payload that is resized, as callers see it.
-use Rattle.std.specs.Prelude.{◌≡◌, ◌≢◌, ℕ, ◌+◌, ◌≤◌, ◌<◌, Bool, List, length, Some, None, Ok}
+use Rattle.std.specs.Prelude.{◌≡◌, ◌≢◌, ℕ, ◌+◌, ◌≤◌, ◌<◌, Bool, List, length, Option, Some, None, IfSome, IfNone, Ok}
 use Rattle.std.specs.declared.num.NonZeroUsize.{NonZeroUsize}
 use Rattle.rlsf_base.specs.declared.memory.layout.Layout.{Layout}
 use Rattle.rlsf_flex.specs.StandsFor.{FlexContents, FlexStandsFor}
 use Rattle.rlsf_global.specs.Locked.{heap_of}
+use Rattle.rlsf_global.specs.Memory.{CopiesOnResize, KeepsMemory}
 use Rattle.rlsf_model_global.specs.Pages.{MayOwe}
 use Rattle.rlsf_model.specs.Callers.{align_at, bytes_at}
 use Rattle.rlsf_model_global.specs.Cursor.{PageCursor, terms_of}
@@ -25,6 +26,26 @@ pub record IsGivenLayout (before after : FlexContents PageCursor) (addr : ℕ) (
 abbrev pub ResizesTo : Bool → FlexContents PageCursor → FlexContents PageCursor → ℕ → Layout → Layout → NonZeroUsize → Type 0
 ResizesTo enabled before after addr layout wanted to =
     (rows : List Row) → ReallocatesTo enabled (heap_of before rows) addr layout wanted (Ok to) (heap_of after (put (to, wanted) (without_row addr rows)))
+
+-- what a move into a new payload keeps
+pub record KeepsMoving (before after : FlexContents PageCursor) (keep : ℕ) (reply : Option NonZeroUsize) : Type 0 where
+  -- place of the memory, and the bytes that belong to no block
+  pub memory : KeepsMemory before after
+  -- word accesses are only added
+  pub grow : before.memory.touches ≤ after.memory.touches
+  -- so many bytes are copied
+  pub copied : IfSome reply (λ to. after.memory.copied ≡ before.memory.copied + keep)
+  -- none if it is refused
+  pub copied_none : IfNone reply (after.memory.copied ≡ before.memory.copied)
+
+-- what a new size keeps
+pub record KeepsResizing (enabled : Bool) (before after : FlexContents PageCursor) (addr size wanted : ℕ) : Type 0 where
+  -- place of the memory, and the bytes that belong to no block
+  pub memory : KeepsMemory before after
+  -- word accesses are only added
+  pub grow : before.memory.touches ≤ after.memory.touches
+  -- how many bytes are copied is bounded
+  pub copied : CopiesOnResize enabled before.state.machine addr size wanted before.memory after.memory
 
 -- nothing changed
 pub record StaysRefused (before after : FlexContents PageCursor) : Type 0 where

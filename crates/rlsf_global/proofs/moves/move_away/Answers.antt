@@ -15,10 +15,12 @@ returns-in_err-to g c =
       touches = λ some.
           let first = did.touches some in
           omega (arith, first);
-      grow = did.frame.grow;
-      memory = kept_allocated c.args.flex.now c.allocate.new.self c.args.wanted.size c.args.wanted.align None did.step;
-      copied = tt;
-      copied_none = did.frame.copied;
+      frame = record {
+        memory = kept_allocated c.args.flex.now c.allocate.new.self c.args.wanted.size c.args.wanted.align None did.step;
+        grow = did.frame.grow;
+        copied = tt;
+        copied_none = did.frame.copied;
+      };
     })
 
 pub returns : goal.returns
@@ -41,12 +43,14 @@ returns g c = record {
   touches = λ some.
       let first = c.in_ok-to.ensures.touches some in
       omega (arith, first, c.copy_payload.ensures.touches, c.deallocate.ensures.touches);
-  grow = omega (arith, c.in_ok-to.ensures.frame.grow, c.copy_payload.ensures.touches, c.deallocate.ensures.frame.grow);
-  memory =
+  frame =
       let copy = c.copy_payload.ensures in
-      let free = c.deallocate.ensures in
-      kept_moved c.args.flex.now c.allocate.new.self c.copy_payload.new.self c.deallocate.new.self c.args.wanted.size c.args.wanted.align (at c.in_ok-to.to) _ _
-      c.in_ok-to.ensures.step copy.step copy.frame.place copy.frame.chunks free.step free.frame.place free.frame.chunks;
-  copied = c.deallocate.ensures.frame.copied ∙ c.copy_payload.ensures.frame.copied ∙ ap (λ n. n + c.args.keep) c.in_ok-to.ensures.frame.copied;
-  copied_none = tt;
+      let free = c.deallocate.ensures in record {
+        memory =
+            kept_moved c.args.flex.now c.allocate.new.self c.copy_payload.new.self c.deallocate.new.self c.args.wanted.size c.args.wanted.align (at c.in_ok-to.to) _ _
+            c.in_ok-to.ensures.step copy.step copy.frame.place copy.frame.chunks free.step free.frame.place free.frame.chunks;
+        grow = omega (arith, c.in_ok-to.ensures.frame.grow, copy.touches, free.frame.grow);
+        copied = free.frame.copied ∙ copy.frame.copied ∙ ap (λ n. n + c.args.keep) c.in_ok-to.ensures.frame.copied;
+        copied_none = tt;
+      };
 }

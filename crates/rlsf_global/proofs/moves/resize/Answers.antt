@@ -59,16 +59,20 @@ returns-then-ENABLE_REALLOCATION g c = record {
   refused = for_none c.reallocate.result (λ none.
       not_reallocated_stays c.args.flex.now c.reallocate.new.self (none_of c.reallocate.result none c.reallocate.ensures.refused).same
       (none_of c.reallocate.result none c.reallocate.ensures.refused).bytes (at c.args.addr) c.args.wanted.size (steps_with g c None none));
-  touches = λ on room. c.reallocate.ensures.touches room;
-  touches_elsewhere = λ off some. absurd (true≢false (c.if-ENABLE_REALLOCATION.ensures ∙ off));
-  grow = search rules;
-  memory =
-      kept_reallocated c.args.flex.now c.reallocate.new.self (at c.args.addr) c.args.wanted.size (reply c.reallocate.result) c.reallocate.ensures.step;
-  copied = record {
-    grow = c.reallocate.ensures.frame.grow_copied;
-    room = λ on room. c.reallocate.ensures.frame.copied room;
-    stays = λ on room. c.reallocate.ensures.frame.stays room;
-    elsewhere = λ off. absurd (true≢false (c.if-ENABLE_REALLOCATION.ensures ∙ off));
+  touches = record {
+    room = λ on room. c.reallocate.ensures.touches room;
+    elsewhere = λ off some. absurd (true≢false (c.if-ENABLE_REALLOCATION.ensures ∙ off));
+  };
+  frame = record {
+    memory =
+        kept_reallocated c.args.flex.now c.reallocate.new.self (at c.args.addr) c.args.wanted.size (reply c.reallocate.result) c.reallocate.ensures.step;
+    grow = search rules;
+    copied = record {
+      grow = c.reallocate.ensures.frame.grow_copied;
+      room = λ on room. c.reallocate.ensures.frame.copied room;
+      stays = λ on room. c.reallocate.ensures.frame.stays room;
+      elsewhere = λ off. absurd (true≢false (c.if-ENABLE_REALLOCATION.ensures ∙ off));
+    };
   };
 }
 
@@ -77,8 +81,8 @@ few_copied : (g : given.Over) (c : After-move_away g)
     → (c.args.flex.now.memory.copied ≤ c.move_away.new.flex.memory.copied)
     × (c.move_away.new.flex.memory.copied ≤ c.args.flex.now.memory.copied + c.min-keep.result)
 few_copied g c =
-    copied_at_most c.move_away.result c.args.flex.now.memory.copied c.move_away.new.flex.memory.copied c.min-keep.result c.move_away.ensures.copied
-    c.move_away.ensures.copied_none
+    copied_at_most c.move_away.result c.args.flex.now.memory.copied c.move_away.new.flex.memory.copied c.min-keep.result c.move_away.ensures.frame.copied
+    c.move_away.ensures.frame.copied_none
 
 pub returns-else-ENABLE_REALLOCATION : goal.returns-else-ENABLE_REALLOCATION
 returns-else-ENABLE_REALLOCATION g c = record {
@@ -88,19 +92,22 @@ returns-else-ENABLE_REALLOCATION g c = record {
       (λ enabled. ReallocatesTo enabled (heap_of c.args.flex.now rows) (at c.args.addr) c.args.layout c.args.wanted (Err NoRoom) (heap_of c.move_away.new.flex rows))
       c.if-ENABLE_REALLOCATION.ensures (none_of c.move_away.result none c.move_away.ensures.none rows));
   refused = search rules;
-  touches = λ on room. absurd (true≢false (sym on ∙ sym c.if-ENABLE_REALLOCATION.ensures));
-  touches_elsewhere = λ off some. c.move_away.ensures.touches some;
-  grow = search rules;
-  memory = c.move_away.ensures.memory;
-  copied =
-      let (more, few) = few_copied g (goal.at.returns-else-ENABLE_REALLOCATION g c).After-move_away in
-      record {
-        grow = more;
-        room = λ on room. absurd (true≢false (sym on ∙ sym c.if-ENABLE_REALLOCATION.ensures));
-        stays = λ on room. absurd (true≢false (sym on ∙ sym c.if-ENABLE_REALLOCATION.ensures));
-        elsewhere = λ off. subst (λ n. c.move_away.new.flex.memory.copied ≤ c.args.flex.now.memory.copied + n)
-            (c.min-keep.ensures ∙ ap (λ n. min n c.size-else-ENABLE_REALLOCATION.result) c.size.ensures.value
-            ∙ ap (min c.args.layout.size) c.size-else-ENABLE_REALLOCATION.ensures.value)
-            few;
+  touches = record {
+    room = λ on room. absurd (true≢false (sym on ∙ sym c.if-ENABLE_REALLOCATION.ensures));
+    elsewhere = λ off some. c.move_away.ensures.touches some;
+  };
+  frame =
+      let (more, few) = few_copied g (goal.at.returns-else-ENABLE_REALLOCATION g c).After-move_away in record {
+        memory = c.move_away.ensures.frame.memory;
+        grow = c.move_away.ensures.frame.grow;
+        copied = record {
+          grow = more;
+          room = λ on room. absurd (true≢false (sym on ∙ sym c.if-ENABLE_REALLOCATION.ensures));
+          stays = λ on room. absurd (true≢false (sym on ∙ sym c.if-ENABLE_REALLOCATION.ensures));
+          elsewhere = λ off. subst (λ n. c.move_away.new.flex.memory.copied ≤ c.args.flex.now.memory.copied + n)
+              (c.min-keep.ensures ∙ ap (λ n. min n c.size-else-ENABLE_REALLOCATION.result) c.size.ensures.value
+              ∙ ap (min c.args.layout.size) c.size-else-ENABLE_REALLOCATION.ensures.value)
+              few;
+        };
       };
 }

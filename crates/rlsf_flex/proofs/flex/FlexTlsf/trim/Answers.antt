@@ -22,12 +22,12 @@ returns-then-supports_dealloc g c =
       refused = λ none. ap flex_over (is.same none);
       frame = record {
         spare = is.gone.spare;
-        aligns = is.aligns;
-        bytes = is.bytes;
-        count = is.live;
+        aligns = is.payloads.aligns;
+        bytes = is.payloads.bytes;
+        count = is.payloads.live;
         place = is.gone.place;
-        grow = is.grow;
-        copied = is.copied;
+        grow = is.payloads.grow;
+        copied = is.payloads.copied;
       };
       touches = is.touches;
     })

@@ -5,7 +5,7 @@ use Rattle.rlsf_model.specs.Trim.{IsNewestHeld}
 use Rattle.rlsf_flex.specs.StandsFor.{FlexContents}
 use Rattle.rlsf_flex.specs.Steps.Parts.{flex_over}
 use Rattle.rlsf_flex.specs.Steps.Trim.{GaveBack}
-use Rattle.rlsf_flex.proofs.TrimmedRanges.{GaveBack-few, GaveBack-next, GaveBack-none}
+use Rattle.rlsf_flex.proofs.TrimmedRanges.{GaveBack-few, GaveBack-next, GaveBack-none, LeavesPayloads-refl, LeavesPayloads-then}
 use Rattle.rlsf_flex.proofs.parts.Parts.give_idle_back.Goals as goal
 
 pub loop-count-init : goal.loop-count-init
@@ -14,12 +14,8 @@ loop-count-init g c = record {
   supported = c.requires.supported;
   whole = c.requires.whole;
   same = λ none. refl;
-  live = refl;
-  aligns = refl;
-  bytes = refl;
+  payloads = LeavesPayloads-refl c.args.self.now.tlsf;
   touches = omega arith;
-  grow = omega arith;
-  copied = refl;
 }
 
 pub overflow_add-count : goal.overflow_add-count
@@ -49,12 +45,8 @@ loop-count-preserved g c =
           ap (λ (t : Terms). t.dealloc) (g.met.S.FlexSource.constant c.loop-count.self.source c.give_newest_back.new.self.source (dealloc one.newest) one.led) ∙ h.supported;
       whole = one.place.3 h.whole;
       same = λ none. absurd (omega (arith, none));
-      live = step.live ∙ h.live;
-      aligns = step.aligns ∙ h.aligns;
-      bytes = step.bytes ∙ h.bytes;
+      payloads = LeavesPayloads-then h.payloads step.payloads;
       touches = omega (arith, step.touches, h.touches);
-      grow = omega (arith, step.grow, h.grow);
-      copied = step.copied ∙ h.copied;
     }
 
 pub returns : goal.returns
@@ -67,10 +59,6 @@ returns g c = record {
       subst (λ (now : FlexContents g.row.S.Denot). IsNewestHeld now.state.machine now.state.pools) (sym (ap flex_over (c.loop-count-test.ensures.same refl)))
       (c.loop-count-test.ensures.held refl);
   same = λ none. c.loop-count-test.ensures.same refl ∙ c.loop-count.invariant.same none;
-  live = c.loop-count-test.ensures.live ∙ c.loop-count.invariant.live;
-  aligns = c.loop-count-test.ensures.aligns ∙ c.loop-count.invariant.aligns;
-  bytes = c.loop-count-test.ensures.bytes ∙ c.loop-count.invariant.bytes;
+  payloads = LeavesPayloads-then c.loop-count.invariant.payloads c.loop-count-test.ensures.payloads;
   touches = omega (arith, c.loop-count-test.ensures.touches, c.loop-count.invariant.touches);
-  grow = omega (arith, c.loop-count-test.ensures.grow, c.loop-count.invariant.grow);
-  copied = c.loop-count-test.ensures.copied ∙ c.loop-count.invariant.copied;
 }

@@ -8,6 +8,7 @@ use Rattle.rlsf_model.specs.Trim.{IsNewestHeld}
 use Rattle.rlsf_flex.specs.StandsFor.{kept_of}
 use Rattle.rlsf_flex.proofs.NewestRange.{gave_newest, newest_ends, newest_first, newest_footers, newest_held, newest_pool, newest_words, next_pool, others, others_start}
 use Rattle.rlsf_flex.proofs.InnerAllocator.{opened, opened_whole, stood_at}
+use Rattle.rlsf_flex.proofs.TrimmedRanges.{LeavesPayloads-refl}
 use Rattle.rlsf_flex.proofs.parts.Parts.give_newest_back.Given as given
 use Rattle.rlsf_flex.proofs.parts.Parts.give_newest_back.Goals as goal
 use Rattle.rlsf_flex.proofs.parts.Parts.give_newest_back.Goals.{After-drop_newest}
@@ -73,12 +74,14 @@ returns g c =
           (c.dealloc.ensures.owes [] (others v is) (subst (g.S.FlexSource.owes c.args.self.now.source) (newest_first v is) v.owed)) c.drop_newest.ensures;
       held = λ stayed. absurd (true≢false stayed);
       same = λ stayed. absurd (true≢false stayed);
-      live = removed.frame.count;
-      aligns = removed.frame.aligns;
-      bytes = removed.frame.bytes;
+      payloads = record {
+        live = removed.frame.count;
+        aligns = removed.frame.aligns;
+        bytes = removed.frame.bytes;
+        grow = removed.frame.grow;
+        copied = removed.frame.copied;
+      };
       touches = removed.touches;
-      grow = removed.frame.grow;
-      copied = removed.frame.copied;
     }
 
 pub returns-then-not-is_idle : goal.returns-then-not-is_idle
@@ -86,12 +89,8 @@ returns-then-not-is_idle g c = record {
   gone = λ went. absurd (false≢true went);
   held = λ stayed. newest_held c.requires.stands c.in-Some.is (λ idle. false≢true (sym c.if-not-is_idle.true ∙ c.is_idle.ensures.1 idle));
   same = λ stayed. refl;
-  live = refl;
-  aligns = refl;
-  bytes = refl;
+  payloads = LeavesPayloads-refl c.args.self.now.tlsf;
   touches = omega arith;
-  grow = omega arith;
-  copied = refl;
 }
 
 pub returns-in_default : goal.returns-in_default
@@ -104,10 +103,6 @@ returns-in_default g c =
       gone = λ went. absurd (false≢true went);
       held = λ stayed. subst (IsNewestHeld c.args.self.now.tlsf.state) (sym (newest (ap (λ b. b || t.grow) c.requires.supported))) tt;
       same = λ stayed. refl;
-      live = refl;
-      aligns = refl;
-      bytes = refl;
+      payloads = LeavesPayloads-refl c.args.self.now.tlsf;
       touches = omega arith;
-      grow = omega arith;
-      copied = refl;
     }

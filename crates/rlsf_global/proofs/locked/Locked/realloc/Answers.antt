@@ -48,17 +48,17 @@ pub move_row-requires-clause-place : goal.move_row-requires-clause-place
 move_row-requires-clause-place g c =
     let moved = c.in-Some-resize.ensures.moved in
     has_code c.resize.new.flex moved.stands c.self.inside.rows.space
-    (space_stays c.self.inside.flex.memory c.resize.new.flex.memory c.self.inside.rows.space c.self.invariant.space c.resize.ensures.memory.place)
+    (space_stays c.self.inside.flex.memory c.resize.new.flex.memory c.self.inside.rows.space c.self.invariant.space c.resize.ensures.frame.memory.place)
     (at c.in-Some-resize.moved) _ moved.live
 
 pub invariant_of-self-in_default-resize : goal.invariant_of-self-in_default-resize
 invariant_of-self-in_default-resize g c =
-    listed c.self.inside.flex c.resize.new.flex c.self.inside.rows c.self.inside.rows c.self.invariant.space c.resize.ensures.memory.place refl
+    listed c.self.inside.flex c.resize.new.flex c.self.inside.rows c.self.inside.rows c.self.invariant.space c.resize.ensures.frame.memory.place refl
     (refused_locked c.self.inside.flex c.self.inside.rows.rows c.self.invariant.locked c.resize.new.flex c.in_default-resize.ensures.refused)
 
 pub invariant_of-self-2 : goal.invariant_of-self-2
 invariant_of-self-2 g c =
-    listed c.self.inside.flex c.resize.new.flex c.self.inside.rows c.move_row.new.self c.self.invariant.space c.resize.ensures.memory.place c.move_row.ensures.space
+    listed c.self.inside.flex c.resize.new.flex c.self.inside.rows c.move_row.new.self c.self.invariant.space c.resize.ensures.frame.memory.place c.move_row.ensures.space
     (moved_locked c.self.inside.flex c.self.inside.rows.rows c.self.invariant.locked c.resize.new.flex (at c.args.addr)
     c.from_size_align_unchecked-wanted.result c.in-Some-resize.moved c.in-Some-resize.ensures.moved _ c.move_row.ensures.rows)
 
@@ -84,7 +84,7 @@ touches_there : (g : given.Over) (c : After-resize g) → g.Options.GlobalTlsfOp
     → HasRoomToResize 64 c.self.inside.flex.state.machine (at c.args.addr) c.args.new_size
     → c.resize.new.flex.memory.touches ≤ c.self.inside.flex.memory.touches + 66
 touches_there g c on room =
-    c.resize.ensures.touches on (subst (HasRoomToResize 64 c.self.inside.flex.state.machine (at c.args.addr)) (sym c.from_size_align_unchecked-wanted.ensures.0) room)
+    c.resize.ensures.touches.room on (subst (HasRoomToResize 64 c.self.inside.flex.state.machine (at c.args.addr)) (sym c.from_size_align_unchecked-wanted.ensures.0) room)
 
 touches_elsewhere : (g : given.Over) (c : After-resize g) → g.Options.GlobalTlsfOptions.ENABLE_REALLOCATION ≡ false
     → HasRoomFor 64 c.self.inside.flex.state.machine c.args.new_size c.args.layout.align
@@ -93,7 +93,7 @@ touches_elsewhere g c off some =
     let wanted = c.from_size_align_unchecked-wanted in
     let free = c.self.inside.flex.state.machine.free in
     let same = ap (λ n. request_size n c.args.layout.align) (sym wanted.ensures.0) ∙ ap (request_size wanted.result.size) (sym (wanted.ensures.1 ∙ c.align.ensures.value)) in
-    c.resize.ensures.touches_elsewhere off (subst (λ n. IsSome (choice 64 n free)) same some)
+    c.resize.ensures.touches.elsewhere off (subst (λ n. IsSome (choice 64 n free)) same some)
 
 -- and the bytes that were copied
 copied : (g : given.Over) (c : After-resize g)
@@ -102,7 +102,7 @@ copied : (g : given.Over) (c : After-resize g)
 copied g c =
     subst (λ n. CopiesOnResize g.Options.GlobalTlsfOptions.ENABLE_REALLOCATION c.self.inside.flex.state.machine (at c.args.addr) c.args.layout.size n
     c.self.inside.flex.memory c.resize.new.flex.memory)
-    c.from_size_align_unchecked-wanted.ensures.0 c.resize.ensures.copied
+    c.from_size_align_unchecked-wanted.ensures.0 c.resize.ensures.frame.copied
 
 pub returns : goal.returns
 returns g c =
@@ -141,8 +141,8 @@ returns g c =
       refused = tt;
       unasked = tt;
       frame = record {
-        memory = c.resize.ensures.memory;
-        grow = c.resize.ensures.grow;
+        memory = c.resize.ensures.frame.memory;
+        grow = c.resize.ensures.frame.grow;
         copied = copied g call;
         looks = omega (arith, c.row_of.ensures.looks, c.move_row.ensures.looks);
       };
@@ -208,8 +208,8 @@ returns-in_default-resize g c =
       refused = record { same = same_heap c.self.inside.flex c.resize.new.flex c.self.inside.rows.rows stays.state stays.source; bytes = stays.bytes };
       unasked = tt;
       frame = record {
-        memory = c.resize.ensures.memory;
-        grow = c.resize.ensures.grow;
+        memory = c.resize.ensures.frame.memory;
+        grow = c.resize.ensures.frame.grow;
         copied = copied g call;
         looks = omega (arith, c.row_of.ensures.looks);
       };

@@ -39,17 +39,17 @@ pub move_row-requires-clause-place : goal.move_row-requires-clause-place
 move_row-requires-clause-place g c =
     let moved = c.in-Some-move_away.ensures.moved in
     has_code c.move_away.new.flex moved.stands c.self.inside.rows.space
-    (space_stays c.self.inside.flex.memory c.move_away.new.flex.memory c.self.inside.rows.space c.self.invariant.space c.move_away.ensures.memory.place)
+    (space_stays c.self.inside.flex.memory c.move_away.new.flex.memory c.self.inside.rows.space c.self.invariant.space c.move_away.ensures.frame.memory.place)
     (at c.in-Some-move_away.to) _ moved.live
 
 pub invariant_of-self-in_default-move_away : goal.invariant_of-self-in_default-move_away
 invariant_of-self-in_default-move_away g c =
-    listed c.self.inside.flex c.move_away.new.flex c.self.inside.rows c.self.inside.rows c.self.invariant.space c.move_away.ensures.memory.place refl
+    listed c.self.inside.flex c.move_away.new.flex c.self.inside.rows c.self.inside.rows c.self.invariant.space c.move_away.ensures.frame.memory.place refl
     (refused_locked c.self.inside.flex c.self.inside.rows.rows c.self.invariant.locked c.move_away.new.flex c.in_default-move_away.ensures.refused)
 
 pub invariant_of-self-2 : goal.invariant_of-self-2
 invariant_of-self-2 g c =
-    listed c.self.inside.flex c.move_away.new.flex c.self.inside.rows c.move_row.new.self c.self.invariant.space c.move_away.ensures.memory.place c.move_row.ensures.space
+    listed c.self.inside.flex c.move_away.new.flex c.self.inside.rows c.move_row.new.self c.self.invariant.space c.move_away.ensures.frame.memory.place c.move_row.ensures.space
     (moved_locked c.self.inside.flex c.self.inside.rows.rows c.self.invariant.locked c.move_away.new.flex (at c.args.addr) c.args.layout
     c.in-Some-move_away.to c.in-Some-move_away.ensures.moved _ c.move_row.ensures.rows)
 
@@ -92,9 +92,9 @@ returns g c =
       refused = tt;
       unasked = tt;
       frame = record {
-        memory = c.move_away.ensures.memory;
-        grow = c.move_away.ensures.grow;
-        copied = c.in-Some-move_away.ensures.copied ∙ ap (λ n. c.self.inside.flex.memory.copied + n)
+        memory = c.move_away.ensures.frame.memory;
+        grow = c.move_away.ensures.frame.grow;
+        copied = c.in-Some-move_away.ensures.frame.copied ∙ ap (λ n. c.self.inside.flex.memory.copied + n)
             (c.min-keep.ensures ∙ ap (λ n. min n c.allocation_usable_size.result) c.size.ensures.value
             ∙ ap (min c.args.layout.size) (c.allocation_usable_size.ensures ∙ ap length (sym (content_at-is before (at c.args.addr)))));
         copied_none = tt;
@@ -138,10 +138,10 @@ returns-in_default-move_away g c =
       refused = record { same = same_heap c.self.inside.flex c.move_away.new.flex c.self.inside.rows.rows stays.state stays.source; bytes = stays.bytes };
       unasked = tt;
       frame = record {
-        memory = c.move_away.ensures.memory;
-        grow = c.move_away.ensures.grow;
+        memory = c.move_away.ensures.frame.memory;
+        grow = c.move_away.ensures.frame.grow;
         copied = tt;
-        copied_none = c.in_default-move_away.ensures.copied_none;
+        copied_none = c.in_default-move_away.ensures.frame.copied_none;
         looks = omega (arith, c.row_of.ensures.looks);
       };
       touches = c.move_away.ensures.touches;
