@@ -2,7 +2,7 @@
 use Rattle.std.specs.Prelude.{◌≡◌, ℕ, ◌≤◌, [], List, length, replicate}
 use Rattle.rlsf_base.specs.declared.memory.range.Range.{Range}
 use Rattle.rlsf_base.specs.Changes.{IsAllOwn}
-use Rattle.rlsf_base.specs.OpenSpace.{HasUnits, IsHere, IsOwned, SameOwn, StaysHere, StaysHereBeside, StaysOwnBeside, home_of}
+use Rattle.rlsf_base.specs.OpenSpace.{HasUnits, IsHere, IsOwned, StaysHere, StaysHereBeside, StaysOwnBeside, home_of}
 use Rattle.rlsf_base.specs.Out.{Change}
 use Rattle.rlsf_base.specs.Piece.{HasStatesOf, IsFull, Piece, piece_range}
 use Rattle.rlsf_base.specs.Range.{AreApart}

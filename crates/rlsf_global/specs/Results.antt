@@ -1,5 +1,5 @@
 -- What the calls behind the lock ensure: a record for each of the clauses `result`, `refused`, `frame` and `touches`.
-use Rattle.std.specs.Prelude.{◌≡◌, ◌≢◌, ℕ, ◌+◌, ◌≤◌, Bool, true, false, List, length, min, None, Some, OnErr, OnOk}
+use Rattle.std.specs.Prelude.{◌≡◌, ◌≢◌, ℕ, ◌+◌, ◌≤◌, Bool, true, List, length, min, None, Some, OnErr, OnOk}
 use Rattle.std.specs.List.{splice}
 use Rattle.rlsf_base.specs.declared.memory.layout.Layout.{Layout}
 use Rattle.rlsf_global.specs.Journal.Replay.{BookContents}

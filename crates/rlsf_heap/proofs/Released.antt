@@ -3,6 +3,7 @@ use Rattle.std.proofs.Common.{◌≡◌, ℕ, ◌+◌, ◌-◌, ◌≤◌, false
 use Rattle.std.specs.Prelude.{not}
 use Rattle.rlsf_base.specs.declared.memory.range.Range.{Range}
 use Rattle.rlsf_base.specs.Ledger.{Entry, Extent, entry_of, extent}
+use Rattle.rlsf_base.specs.MemoryCalls.{IsSpaceWith}
 use Rattle.rlsf_base.specs.OpenSpace.{IsOwned, out_raw}
 use Rattle.rlsf_base.specs.Piece.{Piece}
 use Rattle.rlsf_base.specs.Range.{range_at}
@@ -79,12 +80,11 @@ pub record IsGiven (fllen sllen : ℕ) (m n : Space) (x : Table) (j : State) (es
 
 -- without values: the state is the same
 pub raw_given : {fllen sllen : ℕ} {m n : Space} {x : Table} {j : State} {es : List Entry} {k : ℕ} {e : Extent} → IsShown fllen sllen m x (read_from m j) es k e
-    → n.start ≡ m.start → n.bytes ≡ m.bytes → n.out ≡ out_raw m (range_at e.addr e.len) → n.view ≡ m.view → m.touches ≤ n.touches
-    → IsGiven fllen sllen m n x j es k e
-raw_given {fllen} {sllen} {m} {n} {x} {j} {es} {k} {e} p start bytes out view grow =
-    let same : read_from n j ≡ read_from m j = read_from-same m n j start bytes in
+    → IsSpaceWith m n m.bytes (out_raw m (range_at e.addr e.len)) → m.touches ≤ n.touches → IsGiven fllen sllen m n x j es k e
+raw_given {fllen} {sllen} {m} {n} {x} {j} {es} {k} {e} p memory grow =
+    let same : read_from n j ≡ read_from m j = read_from-same m n j memory.start memory.bytes in
     let b : IsReturned fllen sllen m n x (read_from m j) es k e 0 =
-    record { shown = p; within = omega arith; same = start; bytes = bytes; out = out ∙ ap (out_raw m) (sym (all_behind e.addr e.len 0 refl)) } in record {
+    record { shown = p; within = omega arith; memory = subst (λ r. IsSpaceWith m n m.bytes (out_raw m r)) (sym (all_behind e.addr e.len 0 refl)) memory } in record {
       shown = p;
       used = block p;
       begins = refl;
@@ -92,10 +92,10 @@ raw_given {fllen} {sllen} {m} {n} {x} {j} {es} {k} {e} p start bytes out view gr
       wide = wide p;
       own = λ a lo hi. own-back b a (omega (arith, lo, (held p).1)) (omega (arith, hi, ends p, (p.stands.well_formed.used (block p) (held p).0).within));
       stands = subst (StandsFor fllen sllen (contents n x)) (sym same) (stands-back b);
-      spare = λ a from to before after. same-byte m n start bytes a;
-      start = start;
-      long = ap length bytes;
-      view = view;
+      spare = λ a from to before after. same-byte m n memory.start memory.bytes a;
+      start = memory.start;
+      long = ap length memory.bytes;
+      view = memory.view;
       grow = grow;
       steps = λ t. subst (λ (s : State). Deallocates s e.addr t) same;
     }

@@ -2,6 +2,7 @@
 use Rattle.std.proofs.Common.{◌≡◌, ℕ, ◌+◌, ◌-◌, ◌<◌, ◌≤◌, ◌⊎◌, List, length, set, false, Some, arith, inl, inr, sym, ap, subst, ◌∙◌}
 use Rattle.rlsf_base.specs.declared.memory.range.Range.{Range}
 use Rattle.rlsf_base.specs.Ledger.{Entry, Extent, entry_of, IsIssued}
+use Rattle.rlsf_base.specs.MemoryCalls.{IsSpaceWith}
 use Rattle.rlsf_base.specs.OpenSpace.{IsOwned, out_raw}
 use Rattle.rlsf_base.specs.Out.{raw, is_own, kept_at}
 use Rattle.rlsf_base.specs.Range.{LiesIn, end_of, range_at}
@@ -70,9 +71,7 @@ module _ {fllen sllen : ℕ} {m : Space} {table : Table} {s : State} {es : List 
 pub record IsReturned (fllen sllen : ℕ) (m n : Space) (table : Table) (s : State) (es : List Entry) (k : ℕ) (e : Extent) (kept : ℕ) : Type 0 where
   pub shown : IsShown fllen sllen m table s es k e
   pub within : kept ≤ e.len
-  pub same : n.start ≡ m.start
-  pub bytes : n.bytes ≡ m.bytes
-  pub out : n.out ≡ out_raw m (range_at (e.addr + kept) (e.len - kept))
+  pub memory : IsSpaceWith m n m.bytes (out_raw m (range_at (e.addr + kept) (e.len - kept)))
 
 module _ {fllen sllen : ℕ} {m n : Space} {table : Table} {s : State} {es : List Entry} {k : ℕ} {e : Extent} {kept : ℕ}
     (b : IsReturned fllen sllen m n table s es k e kept) where
@@ -82,13 +81,13 @@ module _ {fllen sllen : ℕ} {m n : Space} {table : Table} {s : State} {es : Lis
 
   pub stands-back : StandsFor fllen sllen (contents n table) s
   stands-back =
-      stands_same m n b.shown.stands b.same b.bytes
-      (λ a from unlent. out-back m n (range_at (e.addr + kept) (e.len - kept)) b.same (omega (arith, (lies b.shown).0)) b.out a from
+      stands_same m n b.shown.stands b.memory.start b.memory.bytes
+      (λ a from unlent. out-back m n (range_at (e.addr + kept) (e.len - kept)) b.memory.start (omega (arith, (lies b.shown).0)) b.memory.out a from
       (side a (unlent (block b.shown) (held b.shown).0)))
 
   pub own-back : IsOwned n (range_at (e.addr + kept) (e.len - kept))
   own-back a lo hi =
-      (λ i. is_own (kept_at (b.out i) (a - b.same i)))
+      (λ i. is_own (kept_at (b.memory.out i) (a - b.memory.start i)))
       ∙ ap is_own (changed-there raw m.out (e.addr + kept - m.start) (e.len - kept) (a - m.start) (omega (arith, lo, (lies b.shown).0)) (omega (arith, hi, lo, (lies b.shown).0)))
 
 -- all bytes are those behind the first 0

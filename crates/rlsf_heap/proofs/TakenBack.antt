@@ -3,6 +3,7 @@ use Rattle.std.proofs.Common.{◌≡◌, ◌≤◌, ℕ, ◌-◌, List, length, 
 use Rattle.std.proofs.Common.{None, Some, IfSome, subst}
 use Rattle.std.proofs.lemmas.Option.{none-some}
 use Rattle.rlsf_base.specs.Ledger.{Entry, Extent, entry_of, extent, IsIssued}
+use Rattle.rlsf_base.specs.MemoryCalls.{CountsNothing, IsSpaceWith}
 use Rattle.rlsf_base.specs.OpenSpace.{IsBeside, IsHere, out_with, IsOwned, home_of, out_without}
 use Rattle.rlsf_base.specs.Out.{kept_at, here, raw}
 use Rattle.rlsf_base.specs.Range.{LiesIn, range_at}
@@ -92,13 +93,9 @@ pub record IsBack (m n : Space) (es fs : List Entry) (pay : PayloadView) : Type 
   pub key : ℕ
   pub known : IsIssued es key (extent pay.start (length pay.bytes) pay.align)
   pub rest : (s : State) → AreIssued s es → AreIssued s fs × ((i : ℕ) (w : Extent) → IsIssued fs i w → w.addr ≢ pay.start)
-  pub start : n.start ≡ m.start
-  pub bytes : n.bytes ≡ with_bytes m pay.start pay.bytes
+  pub memory : IsSpaceWith m n (with_bytes m pay.start pay.bytes) (out_with m (payload_range pay))
   pub long : length n.bytes ≡ length m.bytes
-  pub out : n.out ≡ out_with m (payload_range pay)
-  pub touches : n.touches ≡ m.touches
-  pub copied : n.copied ≡ m.copied
-  pub view : n.view ≡ m.view
+  pub counts : CountsNothing m n
 
 -- the entries without that of a ticket
 pub without : {es fs : List Entry} (k : ℕ) (shown : Extent) → IsIssued es k shown → fs ≡ set es k (entry_of shown false) → (s : State) → AreIssued s es
@@ -110,27 +107,23 @@ without {es} {fs} k shown is after s tickets = (
 
 -- by what its ticket shows of it
 abbrev pub back_as : {m n : Space} {es fs : List Entry} {key addr len wide : ℕ} (pay : PayloadView) → (pay.start ≡ addr) × (length pay.bytes ≡ len) × (pay.align ≡ wide)
-    → IsIssued es key (extent addr len wide) → n.start ≡ m.start → n.bytes ≡ with_bytes m pay.start pay.bytes → length n.bytes ≡ length m.bytes
-    → n.out ≡ out_with m (payload_range pay) → n.touches ≡ m.touches → n.copied ≡ m.copied → n.view ≡ m.view
+    → IsIssued es key (extent addr len wide) → IsSpaceWith m n (with_bytes m pay.start pay.bytes) (out_with m (payload_range pay)) → length n.bytes ≡ length m.bytes
+    → CountsNothing m n
     → ((s : State) → AreIssued s es → AreIssued s fs × ((i : ℕ) (w : Extent) → IsIssued fs i w → w.addr ≢ addr)) → IsBack m n es fs pay
-back_as {es = es} {key = key} pay ticket issued start bytes long out touches copied view rest = record {
+back_as {es = es} {key = key} pay ticket issued memory long counts rest = record {
   key = key;
   known = subst (IsIssued es key) (λ i. extent (sym ticket.0 i) (sym ticket.1 i) (sym ticket.2 i)) issued;
   rest = λ s tickets. let without = rest s tickets in (without.0, λ i w is same. without.1 i w is (same ∙ ticket.0));
-  start = start;
-  bytes = bytes;
+  memory = memory;
   long = long;
-  out = out;
-  touches = touches;
-  copied = copied;
-  view = view;
+  counts = counts;
 }
 
 pub taken_back : {m n : Space} {es fs : List Entry} (pay : PayloadView) → IsTakenBack m n es fs pay → IsBack m n es fs pay
 taken_back {es = es} {fs = fs} pay is =
     let (key, issued, after) = redeemed_ticket pay es fs is.entries in
     let shown = extent pay.start (length pay.bytes) pay.align in
-    back_as pay (refl, refl, refl) issued is.start is.bytes is.long is.out is.touches is.copied is.view (without key shown issued after)
+    back_as pay (refl, refl, refl) issued is.memory is.long is.counts (without key shown issued after)
 
 -- where the state is the same, so are its payloads
 pub kept_same : {s t : State} (addr : ℕ) → t ≡ s → KeepsPayloads s t addr
@@ -151,11 +144,11 @@ module _ {fl_bits sl_bits fllen sllen : ℕ} {m n : Space} {x : Table} {j : Stat
 
   outside : IsSameOutside m n (usable (block p))
   outside = record {
-    start = back.start;
+    start = back.memory.start;
     length = back.long;
-    bytes = λ q from side. bytes_in-with m n (payload_range pay) pay.bytes (lies p) refl back.start back.bytes q from
+    bytes = λ q from side. bytes_in-with m n (payload_range pay) pay.bytes (lies p) refl back.memory.start back.memory.bytes q from
         (elim side [ inl before ↦ inl (omega (arith, before, (held p).1)) | inr behind ↦ inr (omega (arith, behind, (held p).1, long p)) ]);
-    out = λ a from side. (λ i. kept_at (back.out i) (a - back.start i)) ∙ elim side [
+    out = λ a from side. (λ i. kept_at (back.memory.out i) (a - back.memory.start i)) ∙ elim side [
       | inl before ↦ back-before m.out (pay.start - m.start) (length pay.bytes) (a - m.start) (omega (arith, before, (held p).1, (lies p).0, from))
       | inr behind ↦ back-behind m.out (pay.start - m.start) (length pay.bytes) (a - m.start) (omega (arith, behind, (held p).1, long p, (lies p).0))
     ];
@@ -171,7 +164,7 @@ module _ {fl_bits sl_bits fllen sllen : ℕ} {m n : Space} {x : Table} {j : Stat
   filled_back : Fills (read_from m j) pay.start pay.bytes (read_from n j)
   filled_back =
       subst (λ (bs : List ℕ). Fills (read_from m j) pay.start bs (read_from n j))
-      (ap (bytes_in n) (usable_is p) ∙ bytes_in-there m n (payload_range pay) pay.bytes (lies p) refl back.start back.bytes) reread.0
+      (ap (bytes_in n) (usable_is p) ∙ bytes_in-there m n (payload_range pay) pay.bytes (lies p) refl back.memory.start back.memory.bytes) reread.0
 
   owned_back : read_from n j ≡ owned_by (read_from m j) pay
   owned_back = filled_back.after
@@ -187,7 +180,7 @@ module _ {fl_bits sl_bits fllen sllen : ℕ} {m n : Space} {x : Table} {j : Stat
   held_in = subst (λ (t : State). Holds t pay.start used) (read_from-read_from n m j) (IsIn-map (with_bytes_of n) (block p) (read_from m j).used (held p).0, (held p).1)
 
   here_in : IsHere n (usable used)
-  here_in a lo hi = (λ i. kept_at (back.out i) (a - back.start i))
+  here_in a lo hi = (λ i. kept_at (back.memory.out i) (a - back.memory.start i))
       ∙ back-there m.out (pay.start - m.start) (length pay.bytes) (a - m.start) (omega (arith, lo, (held p).1, (lies p).0)) (omega (arith, hi, (held p).1, long p, (lies p).0))
 
   -- bytes beside it are as they were
@@ -198,14 +191,14 @@ module _ {fl_bits sl_bits fllen sllen : ℕ} {m n : Space} {x : Table} {j : Stat
   ]))
 
   low : n.start ≤ pay.start
-  low = omega (arith, (lies p).0, back.start)
+  low = omega (arith, (lies p).0, back.memory.start)
 
   -- no byte becomes raw
   pub raw_back : (a : ℕ) → m.start ≤ a → out_at n a ≡ raw → out_at m a ≡ raw
-  raw_back = raw-with m n (payload_range pay) back.start (omega (arith, low, back.start)) back.out
+  raw_back = raw-with m n (payload_range pay) back.memory.start (omega (arith, low, back.memory.start)) back.memory.out
 
   pub settled_before : IsSettled m → IsSettled n
-  settled_before = settled-back m n (payload_range pay) back.start (omega (arith, low, back.start)) back.out
+  settled_before = settled-back m n (payload_range pay) back.memory.start (omega (arith, low, back.memory.start)) back.memory.out
 
   -- ---- the core that a call is passed, and the payload in it
 
@@ -234,10 +227,10 @@ module _ {fl_bits sl_bits fllen sllen : ℕ} {m n : Space} {x : Table} {j : Stat
         own = own-here n (usable used) here_in;
         stands = stands_in;
         spare = reread.2;
-        start = back.start;
+        start = back.memory.start;
         long = back.long;
-        view = back.view;
-        grow = omega (arith, back.touches);
+        view = back.memory.view;
+        grow = omega (arith, back.counts.0);
         steps = λ t step. record { block = block p; holds = held p; after = sym (is_released stands_in.well_formed step used held_in) ∙ after };
       }
 
@@ -338,7 +331,7 @@ module _ {fl_bits sl_bits fllen sllen : ℕ} {m n : Space} {x : Table} {j : Stat
 
       module _ {q : Space} {wide name : ℕ} {gs : List Entry} {p : PayloadView} (aligned : wide ≡ pay.align) (over : IsHandedOver o q r wide name fs gs p) where
         standing : StandsFor fllen sllen (contents q y) (read_from o k)
-        standing = stands-without core.core.stands u holds.0 q over.start over.bytes (over.out ∙ ap (out_without o) range_is)
+        standing = stands-without core.core.stands u holds.0 q over.memory.start over.memory.bytes (over.memory.out ∙ ap (out_without o) range_is)
 
         -- the state is the one that the call led to
         state_over : read_from q k ≡ read_from o k
@@ -385,10 +378,10 @@ module _ {fl_bits sl_bits fllen sllen : ℕ} {m n : Space} {x : Table} {j : Stat
         -- what the call keeps
         pub keeps_over : (ledger label : ℕ) → label ≡ ledger → KeepsHeap (heap_view m x j ledger) (heap_view q y k label)
         keeps_over ledger label named =
-            heap-over m q x y j k (over.start ∙ core.costs.start ∙ back.start) (ap length over.bytes ∙ core.costs.length ∙ back.long)
-            (over.view ∙ core.costs.view ∙ back.view) (omega (arith, over.touches, core.costs.grow, back.touches))
-            (reads_over (KeepsSpare m (read_from m j) q) (spare-last m o q (read_from m j) (read_from o k) over.start over.bytes
-            (spare-then m n o (read_from m j) (read_from o k) back.start back.long (read_from n j) refl
+            heap-over m q x y j k (over.memory.start ∙ core.costs.start ∙ back.memory.start) (ap length over.memory.bytes ∙ core.costs.length ∙ back.long)
+            (over.memory.view ∙ core.costs.view ∙ back.memory.view) (omega (arith, over.counts.0, core.costs.grow, back.counts.0))
+            (reads_over (KeepsSpare m (read_from m j) q) (spare-last m o q (read_from m j) (read_from o k) over.memory.start over.memory.bytes
+            (spare-then m n o (read_from m j) (read_from o k) back.memory.start back.long (read_from n j) refl
             reread.2 core.spare)))
             ledger label named
 
@@ -400,9 +393,9 @@ module _ {fl_bits sl_bits fllen sllen : ℕ} {m n : Space} {x : Table} {j : Stat
         bytes_over ledger label = record {
           raw = λ a from is_raw.
               raw_back a from
-              (raw-stays (stays core) a (omega (arith, from, back.start))
-              (raw-left o q r over.start lies_over.0 over.out a (omega (arith, from, back.start, core.costs.start)) is_raw));
-          settled = λ settled. settled-left o q r over.start lies_over.0 over.out (settled_over settled);
+              (raw-stays (stays core) a (omega (arith, from, back.memory.start))
+              (raw-left o q r over.memory.start lies_over.0 over.memory.out a (omega (arith, from, back.memory.start, core.costs.start)) is_raw));
+          settled = λ settled. settled-left o q r over.memory.start lies_over.0 over.memory.out (settled_over settled);
         }
 
         -- its bytes are those of the state
@@ -426,9 +419,9 @@ module _ {fl_bits sl_bits fllen sllen : ℕ} {m n : Space} {x : Table} {j : Stat
               bytes = bytes_over ledger label;
               chunks = reads_over (λ (s : State). s.chunks ≡ j.chunks) frame.chunks;
               copied = record {
-                copied = omega (arith, least, over.copied, back.copied);
-                grow_copied = omega (arith, frame.grow_copied, over.copied, back.copied);
-                stays = λ room. over.copied ∙ frame.stays (room_back size room) ∙ back.copied;
+                copied = omega (arith, least, over.counts.1, back.counts.1);
+                grow_copied = omega (arith, frame.grow_copied, over.counts.1, back.counts.1);
+                stays = λ room. over.counts.1 ∙ frame.stays (room_back size room) ∙ back.counts.1;
               };
             }
 
@@ -437,7 +430,7 @@ module _ {fl_bits sl_bits fllen sllen : ℕ} {m n : Space} {x : Table} {j : Stat
         module _ (ledger label : ℕ) (named : name ≡ ledger) where
           identity_over : p.identity ≡ record { home = home_of m; ledger = ledger }
           identity_over =
-              over.identity ∙ same_identity m o (core.costs.start ∙ back.start) (core.costs.length ∙ back.long) (core.costs.view ∙ back.view) ledger name named
+              over.identity ∙ same_identity m o (core.costs.start ∙ back.memory.start) (core.costs.length ∙ back.long) (core.costs.view ∙ back.memory.view) ledger name named
 
           pub resized_over : (size : ℕ) → size ≤ length (bytes_at (read_from o k) to) → length (bytes_at (read_from o k) to) < size + 32
               → Keeps (bytes_at (read_from n j) pay.start) (bytes_at (read_from o k) to) → IsHere o (span (read_from n j) pay.start to)
@@ -481,5 +474,5 @@ module _ {fl_bits sl_bits fllen sllen : ℕ} {m n : Space} {x : Table} {j : Stat
               alike = reads_over (AreAlike (read_from m j)) (subst (AreAlike (read_from m j)) (sym unchanged) (AreAlike-filled filled_back));
               aligns = reads_over (λ (s : State). align_at s ≡ align_at (read_from m j)) (ap align_at unchanged ∙ (λ i a. seen_back.aligns a i));
             };
-            unchanged = λ a from _ side. same-byte n q (over.start ∙ core.costs.start) (over.bytes ∙ bytes) a ∙ beside_in a from side;
+            unchanged = λ a from _ side. same-byte n q (over.memory.start ∙ core.costs.start) (over.memory.bytes ∙ bytes) a ∙ beside_in a from side;
           }

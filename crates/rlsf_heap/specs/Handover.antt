@@ -2,6 +2,7 @@
 use Rattle.std.specs.Prelude.{◌≡◌, ℕ, ◌+◌, ◌<◌, true, List, [], ◌∷◌, ◌++◌, length}
 use Rattle.rlsf_base.specs.declared.memory.range.Range.{Range}
 use Rattle.rlsf_base.specs.Ledger.{Entry, entry_of, extent}
+use Rattle.rlsf_base.specs.MemoryCalls.{CountsNothing, IsSpaceWith}
 use Rattle.rlsf_base.specs.OpenSpace.{IsHere, home_of, out_with, out_without}
 use Rattle.rlsf_base.specs.Out.{kept_at}
 use Rattle.rlsf_base.specs.Space.{Space, bytes_in, out_at, with_bytes}
@@ -17,21 +18,13 @@ pub record IsHandedOver (m n : Space) (r : Range) (wide ledger : ℕ) (es fs : L
   pub long : length p.bytes ≡ r.len
   pub states : (k : ℕ) → k < r.len → kept_at p.out k ≡ out_at m (r.start + k)
   pub full : IsHere m r → IsWritten p
-  pub start : n.start ≡ m.start
-  pub bytes : n.bytes ≡ m.bytes
-  pub out : n.out ≡ out_without m r
-  pub touches : n.touches ≡ m.touches
-  pub copied : n.copied ≡ m.copied
-  pub view : n.view ≡ m.view
+  pub memory : IsSpaceWith m n m.bytes (out_without m r)
+  pub counts : CountsNothing m n
   pub entries : fs ≡ es ++ entry_of (extent r.start r.len wide) true ∷ []
 
 -- the bytes of a payload came back into the memory with their values, and its ticket was redeemed; nothing else changed
 pub record IsTakenBack (m n : Space) (es fs : List Entry) (p : PayloadView) : Type 0 where
-  pub start : n.start ≡ m.start
-  pub bytes : n.bytes ≡ with_bytes m p.start p.bytes
+  pub memory : IsSpaceWith m n (with_bytes m p.start p.bytes) (out_with m (payload_range p))
   pub long : length n.bytes ≡ length m.bytes
-  pub out : n.out ≡ out_with m (payload_range p)
-  pub touches : n.touches ≡ m.touches
-  pub copied : n.copied ≡ m.copied
-  pub view : n.view ≡ m.view
+  pub counts : CountsNothing m n
   pub entries : IsRedeemed p es fs

@@ -57,7 +57,7 @@ stands : (g : given.Over) (c : After-hand_over-payload g) → StandsFor g.row.FL
 stands g c =
     let e = c.in-Some.ensures in
     let over = c.hand_over-payload.ensures.over in
-    stands-left e.step e.left.core.stands e.result c.hand_over-payload.new.memory over.start over.bytes over.out
+    stands-left e.step e.left.core.stands e.result c.hand_over-payload.new.memory over.memory.start over.memory.bytes over.memory.out
 
 pub invariant_of-self : goal.invariant_of-self
 invariant_of-self g c =
@@ -110,18 +110,18 @@ returns-in-Some g c =
       refused = tt;
       frame = record {
         heap = record {
-          identity = same_identity m o (over.start ∙ costs.start) (ap length over.bytes ∙ costs.length) (over.view ∙ costs.view) c.self.inside.ledger.name
+          identity = same_identity m o (over.memory.start ∙ costs.start) (ap length over.memory.bytes ∙ costs.length) (over.memory.view ∙ costs.view) c.self.inside.ledger.name
               c.hand_over-payload.new.ledger.name c.hand_over-payload.ensures.name;
-          place = (over.start ∙ costs.start, ap length over.bytes ∙ costs.length);
-          spare = spare-last m n o s t over.start over.bytes e.left.spare;
-          grow = omega (arith, costs.grow, over.touches);
+          place = (over.memory.start ∙ costs.start, ap length over.memory.bytes ∙ costs.length);
+          spare = spare-last m n o s t over.memory.start over.memory.bytes e.left.spare;
+          grow = omega (arith, costs.grow, over.counts.0);
         };
         bytes = record {
-          raw = λ a from is. raw-stays (stays e.left) a from (raw-left n o r over.start p.lies.0 over.out a (omega (arith, from, costs.start)) is);
-          settled = λ settled. settled-left n o r over.start p.lies.0 over.out (settled-stays (stays e.left) settled);
+          raw = λ a from is. raw-stays (stays e.left) a from (raw-left n o r over.memory.start p.lies.0 over.memory.out a (omega (arith, from, costs.start)) is);
+          settled = λ settled. settled-left n o r over.memory.start p.lies.0 over.memory.out (settled-stays (stays e.left) settled);
         };
         chunks = ap (λ (x : State). x.chunks) e.step.after;
-        copied = omega (arith, costs.copied, over.copied);
+        copied = omega (arith, costs.copied, over.counts.1);
       };
-      touches = omega (arith, costs.touches, over.touches);
+      touches = omega (arith, costs.touches, over.counts.0);
     }))

@@ -1,5 +1,6 @@
-use Rattle.std.proofs.Common.{◌≡◌, arith, ap, sym, ◌∙◌}
+use Rattle.std.proofs.Common.{arith, sym, subst, ◌∙◌}
 use Rattle.rlsf_base.specs.Ledger.{extent}
+use Rattle.rlsf_base.specs.MemoryCalls.{IsSpaceWith}
 use Rattle.rlsf_base.specs.OpenSpace.{out_raw}
 use Rattle.rlsf_base.specs.Range.{range_at}
 use Rattle.rlsf_heap.specs.Kept.{NoneBecomesRawBeside}
@@ -16,16 +17,18 @@ pub put_unit_payload-block-requires-clause-readable : goal.put_unit_payload-bloc
 put_unit_payload-block-requires-clause-readable g c = λ is. readable (record { stands = c.self.invariant.stands; tickets = c.self.invariant.tickets; issued = is })
 
 -- none of its bytes stay with their owner
-out : (g : given.Over) (c : After-put_unit_payload-block g) → c.put_unit_payload-block.new.self.out
-    ≡ out_raw c.self.inside.memory (range_at c.args.payload.start c.args.payload.len)
-out g c = c.put_unit_payload-block.ensures.memory.out ∙ ap (out_raw c.self.inside.memory) (all_behind c.args.payload.start c.args.payload.len c.args.payload.kept c.requires.1)
+memory : (g : given.Over) (c : After-put_unit_payload-block g) → IsSpaceWith c.self.inside.memory c.put_unit_payload-block.new.self c.self.inside.memory.bytes
+    (out_raw c.self.inside.memory (range_at c.args.payload.start c.args.payload.len))
+memory g c =
+    subst (λ r. IsSpaceWith c.self.inside.memory c.put_unit_payload-block.new.self c.self.inside.memory.bytes (out_raw c.self.inside.memory r))
+    (all_behind c.args.payload.start c.args.payload.len c.args.payload.kept c.requires.1) c.put_unit_payload-block.ensures.memory
 
 -- the payload's units are back
 back : (g : given.Over) (c : After-put_unit_payload-block g) → IsGiven g.row.FLLEN g.row.SLLEN c.self.inside.memory c.put_unit_payload-block.new.self c.self.inside.table
     c.self.inside.state.state c.self.inside.ledger.entries c.args.payload.key (extent c.args.payload.start c.args.payload.len 16)
 back g c =
     let e = c.put_unit_payload-block.ensures in
-    raw_given (record { stands = c.self.invariant.stands; tickets = c.self.invariant.tickets; issued = e.issued }) e.memory.start e.memory.bytes (out g c) e.memory.view (omega (arith, e.counts.0))
+    raw_given (record { stands = c.self.invariant.stands; tickets = c.self.invariant.tickets; issued = e.issued }) (memory g c) (omega (arith, e.counts.0))
 
 pub overflow_add-block : goal.overflow_add-block
 overflow_add-block g c =
@@ -67,7 +70,7 @@ returns g c =
       frame = record {
         heap = keeps_given is b f.left at f.step c.self.inside.ledger.name name e.ledger.0;
         raw = raw-back c.self.inside.memory c.put_unit_payload-block.new.self c.deallocate_block_in.new.memory (range_at c.args.payload.start c.args.payload.len) e.memory.start
-            (lies b.shown).0 (out g (goal.at.returns g c).After-put_unit_payload-block) (stays f.left);
+            (lies b.shown).0 (memory g (goal.at.returns g c).After-put_unit_payload-block).out (stays f.left);
         chunks = chunks_given is b f.left at f.step;
         copied = omega (arith, e.counts.1, f.left.costs.copied);
       };

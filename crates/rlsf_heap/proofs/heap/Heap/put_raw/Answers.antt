@@ -19,7 +19,7 @@ back g c =
       stands = c.self.invariant.stands;
       tickets = c.self.invariant.tickets;
       issued = subst (IsIssued c.self.inside.ledger.entries c.args.ticket.key) (as_part c.args.part c.requires.ticket) c.redeem.ensures.issued;
-    }) e.memory.start e.memory.bytes e.memory.out e.memory.view (omega (arith, e.counts.0))
+    }) e.memory (omega (arith, e.counts.0))
 
 pub deallocate_in-requires : goal.deallocate_in-requires
 deallocate_in-requires g c =

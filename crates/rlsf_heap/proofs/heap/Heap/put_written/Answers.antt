@@ -21,7 +21,7 @@ module _ (g : given.Over) (c : After-put_back g) where
       (set c.self.inside.ledger.entries c.args.ticket.key (entry_of (extent c.args.ticket.addr c.args.ticket.len c.args.ticket.align) false)) pay
   back =
       let e = c.put_back.ensures in
-      back_as pay c.requires.ticket c.redeem.ensures.issued e.memory.start e.memory.bytes e.back.len e.memory.out e.counts.0 e.counts.1 e.memory.view
+      back_as pay c.requires.ticket c.redeem.ensures.issued e.memory e.back.len e.counts
       (without c.args.ticket.key (extent c.args.ticket.addr c.args.ticket.len c.args.ticket.align) c.redeem.ensures.issued refl)
 
   all_back : IsGiven g.row.FLLEN g.row.SLLEN c.self.inside.memory c.put_back.new.self c.self.inside.table c.self.inside.state.state c.self.inside.ledger.entries

@@ -108,7 +108,7 @@ returns-in_default-moved g c =
       refused = refused_over is pay back e.left at whole c.align-align.ensures over ledger label c.take_back.ensures.name e.refused.same e.refused.bytes refl
           (here_there is pay back e.left (kept g d));
       frame = frame_over is pay back e.left at whole c.align-align.ensures over ledger label named c.args.size frame;
-      touches = omega (arith, e.left.costs.touches, over.touches, back.touches);
+      touches = omega (arith, e.left.costs.touches, over.counts.0, back.counts.0);
     })
 
 -- ---- the payload has another size, and is handed over
@@ -199,7 +199,7 @@ returns g c =
           (told_as place sizes told (λ a size wide. KeepsBounds g.row.SLLEN (read_from n j) (read_from o k) size wide) e.bounds);
       refused = tt;
       frame = frame_over is pay back e.left at whole c.align-align.ensures over ledger label named c.args.size frame;
-      touches = omega (arith, e.left.costs.touches, over.touches, back.touches);
+      touches = omega (arith, e.left.costs.touches, over.counts.0, back.counts.0);
     })
 
 -- ---- no layout has the size

@@ -31,7 +31,7 @@ resize_in-done-requires g c =
     let pay = payload_view c.args.part c.args.ticket.align c.args.ticket.name in
     let e = c.put_back.ensures in
     let issued = c.renewed-ticket.ensures.issued in
-    let back = back_as pay c.requires.ticket issued e.memory.start e.memory.bytes e.back.len e.memory.out e.counts.0 e.counts.1 e.memory.view (without _ _ issued refl) in (
+    let back = back_as pay c.requires.ticket issued e.memory e.back.len e.counts (without _ _ issued refl) in (
       omega arith,
       (
         core_back c.self.invariant pay back g.FLBitmap.BitPattern.width_limit,
@@ -54,7 +54,7 @@ module _ (g : given.Over) (c : After-resize_in-done g) where
       → IsBack c.self.inside.memory c.put_back.new.self c.self.inside.ledger.entries fs pay
   back_by =
       let e = c.put_back.ensures in
-      back_as pay c.requires.ticket c.renewed-ticket.ensures.issued e.memory.start e.memory.bytes e.back.len e.memory.out e.counts.0 e.counts.1 e.memory.view
+      back_as pay c.requires.ticket c.renewed-ticket.ensures.issued e.memory e.back.len e.counts
 
   back : IsBack c.self.inside.memory c.put_back.new.self c.self.inside.ledger.entries (set c.self.inside.ledger.entries c.args.ticket.key (entry_of was false)) pay
   back = back_by (without c.args.ticket.key was c.renewed-ticket.ensures.issued refl)
@@ -159,12 +159,8 @@ module _ (g : given.Over) (c : After-renewed-ticket-2 g) where
         long = e.part.len;
         states = e.part.kept;
         full = e.part.full;
-        start = e.memory.start;
-        bytes = e.memory.bytes;
-        out = e.memory.out;
-        touches = e.counts.0;
-        copied = e.counts.1;
-        view = e.memory.view;
+        memory = e.memory;
+        counts = e.counts;
         entries = c.renewed-ticket-2.ensures.ledger.1
             ∙ (λ i. rest ++ entry_of (extent ((at_part ∙ sym c.start-addr.ensures) i) c.length_now-len.result c.renewed-ticket.result.align) true ∷ []);
       }
@@ -227,7 +223,11 @@ returns g c =
           (λ no. no_room is pay back size (c.resize_in-done.result ≡ true)
           (subst (λ b. ReallocatesWithoutMove (s g f) c.args.part.start size (stayed_if b c.args.part.start) (t g f)) no step));
       place = (take.part.start ∙ c.start-addr.ensures, c.renewed-ticket-2.ensures.ticket.3 ∙ aligned);
-      ticket = (take.part.start ∙ c.start-addr.ensures ∙ sym (at_part g h) ∙ sym c.renewed-ticket-2.ensures.ticket.1, take.part.len ∙ sym c.renewed-ticket-2.ensures.ticket.2, refl);
+      ticket = (
+        take.part.start ∙ c.start-addr.ensures ∙ sym (at_part g h) ∙ sym c.renewed-ticket-2.ensures.ticket.1,
+        take.part.len ∙ sym c.renewed-ticket-2.ensures.ticket.2,
+        refl,
+      );
       bounds = sized_over is pay back e.left at whole aligned over size (λ most longest wide sized short fits.
           told g f (λ a. KeepsBoundsThere g.row.SLLEN (s g f) (t g f) a size) e.bounds most longest wide c.args.ticket.align sized (live_back is pay back) short fits);
       frame = record {

@@ -38,9 +38,7 @@ back g c =
     let e = c.put_unit_payload-block.ensures in record {
       shown = record { stands = c.self.invariant.stands; tickets = c.self.invariant.tickets; issued = e.issued };
       within = c.args.payload.within.0;
-      same = e.memory.start;
-      bytes = e.memory.bytes;
-      out = e.memory.out;
+      memory = e.memory;
     }
 
 pub overflow_add-start : goal.overflow_add-start
@@ -105,9 +103,7 @@ module _ (g : given.Over) (c : After-resize_block_in g) where
       let e = c.put_unit_payload-block.ensures in record {
         shown = record { stands = c.self.invariant.stands; tickets = c.self.invariant.tickets; issued = e.issued };
         within = c.args.payload.within.0;
-        same = e.memory.start;
-        bytes = e.memory.bytes;
-        out = e.memory.out;
+        memory = e.memory;
       }
 
   at : c.put_unit_payload-block.result + 16 ≡ c.args.payload.start
@@ -206,11 +202,13 @@ module _ (g : given.Over) (c : After-resize_block_in g) where
           let put = c.put_unit_payload-block.ensures in
           let left = c.resize_block_in.ensures.left in
           let costs = left.costs in record {
-            heap = heap-over m q c.self.inside.table c.resize_block_in.new.table k j (start ∙ costs.start ∙ put.memory.start) (ap length bytes ∙ costs.length ∙ ap length put.memory.bytes)
+            heap = heap-over m q c.self.inside.table c.resize_block_in.new.table k j (start ∙ costs.start ∙ put.memory.start)
+                (ap length bytes ∙ costs.length ∙ ap length put.memory.bytes)
                 (view ∙ costs.view ∙ put.memory.view) (omega (arith, touches, costs.grow, put.counts.0))
                 (spare-last m o q (read_from m k) (read_from q j) start bytes (spare-first m n o (read_from m k) (read_from q j) put.memory.start put.memory.bytes left.spare))
                 ledger name called;
-            raw = raw-tail m n o q c.args.payload.start c.args.payload.kept c.args.payload.len c.args.payload.within.0 (lies b.shown).0 put.memory.start put.memory.out (stays left) _ start
+            raw = raw-tail m n o q c.args.payload.start c.args.payload.kept c.args.payload.len c.args.payload.within.0 (lies b.shown).0 put.memory.start
+                put.memory.out (stays left) _ start
                 (omega (arith, (lies b.shown).0, at, put.memory.start, costs.start)) out;
             chunks = (keeps as_left).chunks;
             copied = omega (arith, copied, costs.copied, put.counts.1);
@@ -269,7 +267,8 @@ returns-then-not-resize_block_in g c =
         aligns = (keeps g d is).aligns;
         unchanged = λ a from to side. same-byte m q (e.memory.start ∙ counts.start ∙ put.memory.start) (e.memory.bytes ∙ counts.bytes ∙ put.memory.bytes) a;
       };
-      frame = frame g d q e.memory.start e.memory.bytes c.args.payload.len within long c.requires.len e.memory.view e.counts.0 e.counts.1 e.memory.out (c.issue-ticket.ensures.name.1 ∙ put.ledger.0);
+      frame = frame g d q e.memory.start e.memory.bytes c.args.payload.len within long c.requires.len e.memory.view e.counts.0 e.counts.1 e.memory.out
+          (c.issue-ticket.ensures.name.1 ∙ put.ledger.0);
       touches = omega (arith, e.counts.0, left.costs.touches, put.counts.0);
     })
 
@@ -304,7 +303,8 @@ invariant_of-self-2 g c =
     let early = (goal.at.invariant_of-self-2 g c).After-put_unit_payload-block in
     let e = c.take_unit_payload-2.ensures in
     let q = c.take_unit_payload-2.new.self in
-    heap g d q e.memory.start e.memory.bytes (payload_len c.args.size) (fits g early) (as_wanted g d q e.memory.start e.memory.bytes c.if-not-resize_block_in.false) c.payload_len-wanted.ensures
+    heap g d q e.memory.start e.memory.bytes (payload_len c.args.size) (fits g early)
+    (as_wanted g d q e.memory.start e.memory.bytes c.if-not-resize_block_in.false) c.payload_len-wanted.ensures
     c.issue-ticket-2.new.self.entries c.issue-ticket-2.ensures.entries e.memory.out
 
 pub returns : goal.returns
@@ -328,7 +328,8 @@ returns g c =
         (invariant_of-self-2 g c).stands,
       );
       result = record {
-        place = in_place g d c.take_unit_payload-2.new.self e.memory.start e.memory.bytes now (fits g early) long wanted e.place (e.ticket.0 ∙ c.issue-ticket-2.ensures.name.0 ∙ put.ledger.0);
+        place = in_place g d c.take_unit_payload-2.new.self e.memory.start e.memory.bytes now (fits g early) long wanted e.place
+            (e.ticket.0 ∙ c.issue-ticket-2.ensures.name.0 ∙ put.ledger.0);
         aligns = (keeps g d is).aligns;
       };
       room = λ shorter. refl;

@@ -18,12 +18,8 @@ returns-clause-over c =
       long = ap (λ (p : PayloadView). length p.bytes) is ∙ e.part.len;
       states = λ k less. ap (λ (p : PayloadView). kept_at p.out k) is ∙ e.part.kept k less;
       full = λ here. subst (λ (p : PayloadView). IsWritten p) (sym is) (e.part.full here);
-      start = e.memory.start;
-      bytes = e.memory.bytes;
-      out = e.memory.out;
-      touches = e.counts.0;
-      copied = e.counts.1;
-      view = e.memory.view;
+      memory = e.memory;
+      counts = e.counts;
       entries = c.issued.ensures.entries
           ∙ (λ i. ledger.entries ++ entry_of (extent (e.part.start i) (e.part.len i) c.args.align) true ∷ []);
     }

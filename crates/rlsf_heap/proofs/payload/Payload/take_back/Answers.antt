@@ -1,4 +1,5 @@
 use Rattle.std.proofs.Common.{sym, ap, subst, ◌∙◌}
+use Rattle.rlsf_base.specs.MemoryCalls.{IsSpaceWith}
 use Rattle.rlsf_base.specs.OpenSpace.{out_with}
 use Rattle.rlsf_base.specs.Space.{with_bytes}
 use Rattle.rlsf_heap.specs.Heap.{IsWritten, PayloadView, payload_range}
@@ -15,12 +16,8 @@ returns-clause-back c =
     let e = c.put_back.ensures in
     let is = c.redeemed-part.ensures.parts in
     let m = c.args.memory.now in record {
-      start = e.memory.start;
-      bytes = e.memory.bytes ∙ ap (λ (p : PayloadView). with_bytes m p.start p.bytes) is;
+      memory = subst (λ (p : PayloadView). IsSpaceWith m c.put_back.new.self (with_bytes m p.start p.bytes) (out_with m (payload_range p))) is e.memory;
       long = e.back.len;
-      out = e.memory.out ∙ ap (λ (p : PayloadView). out_with m (payload_range p)) is;
-      touches = e.counts.0;
-      copied = e.counts.1;
-      view = e.memory.view;
+      counts = e.counts;
       entries = c.redeemed-part.ensures.entries;
     }
