@@ -1,16 +1,24 @@
-/* An allocator (version 0.2.0) over memory that the caller provides. A payload is used in place: its address is a pointer.
+/* An allocator (version 0.2.0) over memory that the caller lends it, range by range. A payload is used in place: its address is a pointer.
  * docs/C.md shows how to link it. The archive is librlsf_malloc.a. It needs only memmove and memset.
+ *
+ * A pool is a range that is lent to a heap: the address that rlsf_heap_add was passed, and the length that it returned, with those that
+ * rlsf_heap_append returned added. Pools may lie anywhere, side by side or apart.
  *
  * Conditions on the caller. No call tests them:
  *   - `heap` is a heap that rlsf_heap_init or rlsf_heap_begin returned. rlsf_heap_end wasn't called on it since, and only the library
- *     writes to its handle.
+ *     writes to its handle. A handle holds no address of itself: between two calls it may be copied to another place, aligned to 8. Then
+ *     only the copy is a heap.
  *   - `payload` is NULL, or a pointer that a call on this heap returned. It is live: it wasn't freed since, and no rlsf_realloc or
  *     rlsf_aligned_realloc of it succeeded since.
- *   - Only the library writes to the heap's memory, except to the bytes of live payloads: rlsf_usable_size of them from the pointer on.
- *   - Each byte of the memory has a value when the heap is made, as in static, mapped and allocated memory.
+ *   - Only the library writes to the bytes of a pool, except to those of live payloads: rlsf_usable_size of them from the pointer on. The last
+ *     16 bytes of a pool, too, are nobody's to write.
+ *   - The bytes that rlsf_heap_add and rlsf_heap_append are passed are the caller's, and no pool's. Each has a value, as in static, mapped and
+ *     allocated memory. They lie between the addresses 32 and 2^58, and can be read and written until they are removed or the heap ends.
+ *   - Where a call is passed a pool, that is one, or several that follow each other.
+ *   - When rlsf_heap_end is called, no payload is live.
  *   - One call on a heap runs at a time. A lock orders the calls of several threads.
  *
- * Who owns the bytes. From rlsf_heap_begin to rlsf_heap_end the memory's bytes belong to the heap. A call that returns a payload passes the
+ * Who owns the bytes. A pool's bytes belong to the heap until rlsf_heap_remove or rlsf_heap_end. A call that returns a payload passes the
  * payload's bytes to its caller, and rlsf_free takes them back. A call on the heap accesses no byte of a payload that is out, but for the one
  * that it is passed. So each thread may read and write its payloads while another thread's call runs under the lock.
  *
@@ -18,9 +26,8 @@
  *
  * The inline functions below aren't proved. They do this and no more:
  *   - They pass a pointer to an exported function as the number (size_t)pointer, and cast the returned number back.
- *   - They store the kind at the start of the handle, and choose the exported function by it. Behind it they store the last pool, for
- *     rlsf_heap_stats, the memory and the pools, with which rlsf_heap_try_add compares a new one, and a sum of these, for rlsf_heap_check.
- *   - rlsf_heap_begin leaves out the bytes before the first multiple of 16, and rlsf_heap_init also adds all bytes as a pool. */
+ *   - They store the kind at the start of the handle, and choose the exported function by it.
+ *   - rlsf_heap_init, rlsf_heap_try_add and rlsf_heap_check call several: for each pool of an array the last two call one. */
 #ifndef RLSF_H
 #define RLSF_H
 
@@ -47,8 +54,8 @@ extern "C" {
 #define RLSF_LARGE ((size_t)2)
 
 /* The size of a handle of each kind in bytes. A handle is aligned to 8. */
-#define RLSF_SMALL_HEAP_SIZE 1848
-#define RLSF_LARGE_HEAP_SIZE 33912
+#define RLSF_SMALL_HEAP_SIZE 1792
+#define RLSF_LARGE_HEAP_SIZE 33856
 
 /* The totals of some blocks. */
 typedef struct {
@@ -71,6 +78,7 @@ typedef struct {
     void rlsf_##KIND##_init(void *heap, void *block, size_t start, size_t len);                       \
     void rlsf_##KIND##_end(void *heap);                                                               \
     size_t rlsf_##KIND##_add(void *heap, size_t start, size_t len);                                   \
+    size_t rlsf_##KIND##_append(void *heap, size_t start, size_t len);                                \
     size_t rlsf_##KIND##_remove(void *heap, size_t start, size_t len);                                \
     size_t rlsf_##KIND##_malloc(void *heap, size_t size);                                             \
     size_t rlsf_##KIND##_allocate(void *heap, size_t size, size_t align);                             \
@@ -86,25 +94,18 @@ typedef struct {
 RLSF_KIND_DECLARES(small)
 RLSF_KIND_DECLARES(large)
 #undef RLSF_KIND_DECLARES
+size_t rlsf_range_is_outside(size_t start, size_t len);
+size_t rlsf_ranges_overlap(size_t start, size_t len, size_t other, size_t other_len);
 
-/* The place and the length of a pool that rlsf_heap_try_add added. The program provides it, and doesn't write to it until the pool is removed or the heap ends. */
-typedef struct rlsf_part {
-    struct rlsf_part *next;
+/* A pool: where it begins, and its length. The program keeps those of a heap; a handle has no list of them. */
+typedef struct {
     size_t start;
     size_t len;
-} rlsf_part;
+} rlsf_range;
 
 /* A heap at its handle, and behind it what the exported functions use. */
 typedef struct rlsf_heap {
     size_t kind;
-    size_t start; /* the last pool */
-    size_t len;
-    size_t memory; /* the heap's memory */
-    size_t size;
-    size_t low; /* all pools that rlsf_heap_add made lie from here to `high` */
-    size_t high;
-    rlsf_part *parts; /* the other pools */
-    size_t sum;       /* the rlsf_heap_sum of what may not change between two calls */
 } rlsf_heap;
 
 /* Handles of each kind, for a handle that is static or on the stack. */
@@ -125,131 +126,76 @@ RLSF_INLINE size_t rlsf_heap_size(size_t kind) {
 /* What the exported functions use of a heap, also in a call that leaves it as it is. */
 RLSF_INLINE void *rlsf_heap_state(const rlsf_heap *heap) { return (void *)(size_t)(heap + 1); }
 
-/* Returns a number of the words above and of the three behind them, which say where the exported functions find the memory: it is another
- * one if a bit of one word is another. */
-RLSF_INLINE size_t rlsf_heap_sum(const rlsf_heap *heap) {
-    const size_t *behind = (const size_t *)(heap + 1);
-    size_t sum = heap->kind;
-    sum = 31 * sum + heap->start;
-    sum = 31 * sum + heap->len;
-    sum = 31 * sum + heap->memory;
-    sum = 31 * sum + heap->size;
-    sum = 31 * sum + heap->low;
-    sum = 31 * sum + heap->high;
-    sum = 31 * sum + (size_t)heap->parts;
-    sum = 31 * sum + behind[0];
-    sum = 31 * sum + behind[1];
-    return 31 * sum + behind[2];
-}
-
-/* Adds the `len` bytes at `memory` as the last pool, and returns what rlsf_heap_add does. */
-RLSF_INLINE size_t rlsf_heap_add_last(rlsf_heap *heap, void *memory, size_t len) {
-    size_t taken = heap->kind == RLSF_SMALL ? rlsf_small_add(heap + 1, (size_t)memory, len) : rlsf_large_add(heap + 1, (size_t)memory, len);
-    if (taken) {
-        heap->start = (size_t)memory;
-        heap->len = taken;
-    }
-    return taken;
+/* Creates a heap at a handle, without a pool. No memory is needed yet: rlsf_heap_add adds it. The call takes constant time.
+ *
+ * Returns NULL exactly if there is no such kind; then nothing changes. The handle has rlsf_heap_size(kind) bytes and is aligned to 8. */
+RLSF_INLINE rlsf_heap *rlsf_heap_begin(void *handle, size_t kind) {
+    rlsf_heap *heap = (rlsf_heap *)handle;
+    /* A heap over the addresses from 32 up to 2^58, at themselves: none of their bytes is its own. */
+    if (kind == RLSF_SMALL)
+        rlsf_small_init(heap + 1, (void *)(size_t)32, 32, ((size_t)1 << 58) - 32);
+    else if (kind == RLSF_LARGE)
+        rlsf_large_init(heap + 1, (void *)(size_t)32, 32, ((size_t)1 << 58) - 32);
+    else
+        return NULL;
+    heap->kind = kind;
+    return heap;
 }
 
 /* Adds the `len` bytes at `memory` as a pool, in a time that doesn't depend on them. In a small heap, the time grows by a few word
- * accesses for each 128 KiB. Returns the number of bytes from `memory` to the end of the pool, or 0 if there are too few bytes.
+ * accesses for each 128 KiB. Returns the number of bytes from `memory` to the end of the pool, or 0 if there are too few bytes: then nothing
+ * changes. Bytes behind the pool, at most 63, stay the caller's.
  *
- * The bytes must lie in the heap's memory, and no byte may be one that was added before: rlsf_heap_try_add tests this. */
+ * A pool ends at a multiple of 32, and its part from the first multiple of 32 on has at least 64 bytes. In a small heap that part is cut into
+ * chunks of 128 KiB and one of the rest, if the rest has 64 bytes. So a large heap has too few bytes exactly if that part has below 64. */
 RLSF_INLINE size_t rlsf_heap_add(rlsf_heap *heap, void *memory, size_t len) {
-    size_t taken = rlsf_heap_add_last(heap, memory, len), end = (size_t)memory + taken;
-    if (!taken) return 0;
-    if (heap->low == heap->high || (size_t)memory < heap->low) heap->low = (size_t)memory;
-    if (end > heap->high) heap->high = end;
-    heap->sum = rlsf_heap_sum(heap);
-    return taken;
+    return heap->kind == RLSF_SMALL ? rlsf_small_add(heap + 1, (size_t)memory, len) : rlsf_large_add(heap + 1, (size_t)memory, len);
+}
+
+/* Appends the `len` bytes at `memory`, where a pool ends. Returns by how many bytes the pool is longer, or 0 if there are too few bytes: then
+ * nothing changes. In a large heap it grows by all bytes but those past a multiple of 32, in constant time, and a payload may lie across the old
+ * end. In a small heap the bytes become chunks of their own, as by rlsf_heap_add. Bytes behind the pool stay the caller's. */
+RLSF_INLINE size_t rlsf_heap_append(rlsf_heap *heap, void *memory, size_t len) {
+    return heap->kind == RLSF_SMALL ? rlsf_small_append(heap + 1, (size_t)memory, len) : rlsf_large_append(heap + 1, (size_t)memory, len);
 }
 
 /* What rlsf_heap_try_add returns. */
 typedef enum rlsf_add_error {
     RLSF_ADD_OK = 0,
-    RLSF_ADD_OUTSIDE = 1,  /* the bytes don't all lie in the heap's memory */
-    RLSF_ADD_OVERLAPS = 2, /* a byte lies in a pool, or between two that rlsf_heap_add made */
+    RLSF_ADD_OUTSIDE = 1,  /* the bytes begin below the address 32, or end past 2^58 or past the greatest address */
+    RLSF_ADD_OVERLAPS = 2, /* a byte lies in a pool */
     RLSF_ADD_TOO_SHORT = 3 /* there are too few bytes */
 } rlsf_add_error;
 
-/* Adds the `len` bytes at `memory` as a pool, of which `part` has the place and the length afterwards. After an error nothing has changed;
- * if more than one applies, the call returns the first. The time grows with the number of pools. */
-RLSF_INLINE rlsf_add_error rlsf_heap_try_add(rlsf_heap *heap, rlsf_part *part, void *memory, size_t len) {
-    size_t start = (size_t)memory, end = start + len, taken;
-    const rlsf_part *other;
-    if (start < heap->memory || len > heap->size || start - heap->memory > heap->size - len) return RLSF_ADD_OUTSIDE;
-    if (start < heap->high && end > heap->low) return RLSF_ADD_OVERLAPS;
-    for (other = heap->parts; other; other = other->next)
-        if (start < other->start + other->len && end > other->start) return RLSF_ADD_OVERLAPS;
-    taken = rlsf_heap_add_last(heap, memory, len);
+/* Adds the `len` bytes at `memory` as rlsf_heap_add does. The first `count` of `pools` are the heap's pools. The one behind them becomes the
+ * new pool. After an error nothing has changed; if more than one applies, the call returns the first. The time grows with `count`. */
+RLSF_INLINE rlsf_add_error rlsf_heap_try_add(rlsf_heap *heap, rlsf_range *pools, size_t count, void *memory, size_t len) {
+    size_t start = (size_t)memory, taken, n;
+    if (rlsf_range_is_outside(start, len)) return RLSF_ADD_OUTSIDE;
+    for (n = 0; n < count; n++)
+        if (rlsf_ranges_overlap(start, len, pools[n].start, pools[n].len)) return RLSF_ADD_OVERLAPS;
+    taken = rlsf_heap_add(heap, memory, len);
     if (!taken) return RLSF_ADD_TOO_SHORT;
-    part->next = heap->parts;
-    part->start = start;
-    part->len = taken;
-    heap->parts = part;
-    heap->sum = rlsf_heap_sum(heap);
+    pools[count].start = start;
+    pools[count].len = taken;
     return RLSF_ADD_OK;
 }
 
-/* Removes a pool if no payload is live in it, and returns 1. Otherwise returns 0, and nothing changes. No later call accesses these bytes,
- * until they are added again or the heap ends. The time grows with the number of blocks.
- *
- * The pool is one that rlsf_heap_add made of `memory`, and `len` is what it returned; or the place and the length of an rlsf_part, which is
- * the program's again. */
+/* Removes the pool of `len` bytes at `memory` if no payload is live in it, and returns 1: its bytes are the caller's again, who may unmap
+ * them. Otherwise returns 0, and nothing changes. The time grows with the number of blocks. */
 RLSF_INLINE int rlsf_heap_remove(rlsf_heap *heap, void *memory, size_t len) {
-    size_t start = (size_t)memory;
-    rlsf_part **link = &heap->parts;
-    if (!(heap->kind == RLSF_SMALL ? rlsf_small_remove(heap + 1, start, len) : rlsf_large_remove(heap + 1, start, len))) return 0;
-    while (*link && (*link)->start != start) link = &(*link)->next;
-    if (*link)
-        *link = (*link)->next;
-    else if (heap->low == start)
-        heap->low += len;
-    else if (heap->high == start + len)
-        heap->high = start;
-    if (heap->low >= heap->high) heap->low = heap->high = 0;
-    if (heap->start == start) heap->len = 0;
-    heap->sum = rlsf_heap_sum(heap);
-    return 1;
+    return (int)(heap->kind == RLSF_SMALL ? rlsf_small_remove(heap + 1, (size_t)memory, len) : rlsf_large_remove(heap + 1, (size_t)memory, len));
 }
 
-/* Creates a heap at a handle, over the `len` bytes at `memory`. No pool is added yet: rlsf_heap_add adds parts of these bytes. They belong
- * to the heap until rlsf_heap_end. The call takes constant time, and doesn't access them.
- *
- * Returns NULL exactly if there is no such kind or `len` is below 16; then nothing changes. The handle has rlsf_heap_size(kind) bytes and
- * is aligned to 8. `memory` isn't NULL, and `len` is below 2^59. */
-RLSF_INLINE rlsf_heap *rlsf_heap_begin(void *handle, size_t kind, void *memory, size_t len) {
-    rlsf_heap *heap = (rlsf_heap *)handle;
-    size_t skipped = (0 - (size_t)memory) % 16;
-    if (len < 16) return NULL;
-    if (kind == RLSF_SMALL)
-        rlsf_small_init(heap + 1, (char *)memory + skipped, (size_t)memory + skipped, len - skipped);
-    else if (kind == RLSF_LARGE)
-        rlsf_large_init(heap + 1, (char *)memory + skipped, (size_t)memory + skipped, len - skipped);
-    else
-        return NULL;
-    heap->kind = kind;
-    heap->start = heap->memory = (size_t)memory + skipped;
-    heap->len = 0;
-    heap->size = len - skipped;
-    heap->low = heap->high = 0;
-    heap->parts = NULL;
-    heap->sum = rlsf_heap_sum(heap);
-    return heap;
-}
-
-/* Creates a heap at a handle, over the `len` bytes at `memory`, which become a pool, but for some bytes at both ends. It is rlsf_heap_begin and rlsf_heap_add.
- * Returns NULL exactly if rlsf_heap_begin does. */
+/* Creates a heap at a handle, and adds the `len` bytes at `memory` as a pool, as rlsf_heap_begin and rlsf_heap_add do. If there are too few
+ * bytes, the heap has no pool. Returns NULL exactly if there is no such kind; then nothing changes. */
 RLSF_INLINE rlsf_heap *rlsf_heap_init(void *handle, size_t kind, void *memory, size_t len) {
-    rlsf_heap *heap = rlsf_heap_begin(handle, kind, memory, len);
-    size_t skipped = (0 - (size_t)memory) % 16;
-    if (heap) rlsf_heap_add(heap, (char *)memory + skipped, len - skipped);
+    rlsf_heap *heap = rlsf_heap_begin(handle, kind);
+    if (heap) (void)rlsf_heap_add(heap, memory, len);
     return heap;
 }
 
-/* Ends a heap. Its memory and its handle are the caller's again. The bytes of payloads keep their values. The proof is about heaps of which no
- * payload is live: the others' bytes were their callers' all the time. */
+/* Ends a heap. Its pools and its handle are the caller's again. */
 RLSF_INLINE void rlsf_heap_end(rlsf_heap *heap) {
     if (heap->kind == RLSF_SMALL)
         rlsf_small_end(heap + 1);
@@ -325,46 +271,36 @@ RLSF_INLINE size_t rlsf_usable_size(const rlsf_heap *heap, const void *payload) 
     return heap->kind == RLSF_SMALL ? rlsf_small_usable(rlsf_heap_state(heap), (size_t)payload) : rlsf_large_usable(rlsf_heap_state(heap), (size_t)payload);
 }
 
-/* Returns the totals of the blocks of the last pool: the one that rlsf_heap_init or the last successful rlsf_heap_add made. The time grows
- * with the number of these blocks. */
-RLSF_INLINE rlsf_totals rlsf_heap_stats(const rlsf_heap *heap) {
-    return heap->kind == RLSF_SMALL ? rlsf_small_stats(rlsf_heap_state(heap), heap->start, heap->len)
-                                    : rlsf_large_stats(rlsf_heap_state(heap), heap->start, heap->len);
-}
-
-/* Returns the totals of the blocks of any pool. The time grows with the number of these blocks.
- *
- * The pool is one that rlsf_heap_add made of `memory`, and `len` is what it returned. */
-RLSF_INLINE rlsf_totals rlsf_heap_pool_stats(const rlsf_heap *heap, const void *memory, size_t len) {
+/* Returns the totals of the blocks of the pool of `len` bytes at `memory`. The time grows with the number of these blocks. */
+RLSF_INLINE rlsf_totals rlsf_heap_stats(const rlsf_heap *heap, const void *memory, size_t len) {
     return heap->kind == RLSF_SMALL ? rlsf_small_stats(rlsf_heap_state(heap), (size_t)memory, len)
                                     : rlsf_large_stats(rlsf_heap_state(heap), (size_t)memory, len);
 }
 
-/* Fills an array with the blocks of a pool that begin at `from` or behind it, in address order, and returns the number of filled ones: all
- * of them, or `count` if there are more. The others stay as they are. To go on behind a full array, pass the last block's start + len as
- * `from`. The time grows with the number of blocks up to the last listed one.
- *
- * The pool is one that rlsf_heap_add made of `memory`, and `len` is what it returned; or the last pool, if `memory` is NULL. */
+/* Fills an array with the blocks of the pool of `len` bytes at `memory` that begin at `from` or behind it, in address order, and returns the
+ * number of filled ones: all of them, or `count` if there are more. The others stay as they are. To go on behind a full array, pass the last
+ * block's start + len as `from`. The time grows with the number of blocks up to the last listed one. */
 RLSF_INLINE size_t rlsf_heap_walk(const rlsf_heap *heap, const void *memory, size_t len, const void *from, rlsf_span *blocks, size_t count) {
-    size_t start = memory ? (size_t)memory : heap->start, taken = memory ? len : heap->len;
-    return heap->kind == RLSF_SMALL ? rlsf_small_list(rlsf_heap_state(heap), start, taken, (size_t)from, &blocks->start, 3 * count)
-                                    : rlsf_large_list(rlsf_heap_state(heap), start, taken, (size_t)from, &blocks->start, 3 * count);
+    return heap->kind == RLSF_SMALL ? rlsf_small_list(rlsf_heap_state(heap), (size_t)memory, len, (size_t)from, &blocks->start, 3 * count)
+                                    : rlsf_large_list(rlsf_heap_state(heap), (size_t)memory, len, (size_t)from, &blocks->start, 3 * count);
 }
 
-/* For debugging: reads the words of each block of a pool again, the links of its free blocks, and the lists' beginnings in the handle.
+/* For debugging: reads the words of each block of some pools again, the links of their free blocks, and the lists' beginnings in the handle.
  * Returns 1 if they agree. Returns 0 if they don't: then the program wrote to bytes that it may not write to, and no other call on the heap
- * is defined. Whatever these words and the handle's are, the call reads only the heap's memory and its handle. The time grows with the number
- * of blocks.
+ * is defined. A word that was overwritten may also name an address that can't be read, and the call faults there.
  *
  * It finds each wrong header of a block, each missing sentinel, two free blocks side by side, and a free block whose neighbours in its list
- * don't name it. Of the handle it finds each flipped bit, but for those of the number of live payloads and those that no call reads. It
- * doesn't read payloads, nor the words before payloads with an alignment above 16. A call in another thread must not run at the same time.
+ * don't name it. Of the handle it finds each flipped bit of the lists' beginnings and of their bitmaps. It doesn't read payloads, nor the
+ * words before payloads with an alignment above 16. A call in another thread must not run at the same time.
  *
- * The pool is one that rlsf_heap_add made of `memory`, and `len` is what it returned; or the last pool, if `memory` is NULL. */
-RLSF_INLINE int rlsf_heap_check(const rlsf_heap *heap, const void *memory, size_t len) {
-    size_t start = memory ? (size_t)memory : heap->start, taken = memory ? len : heap->len;
-    if (heap->sum != rlsf_heap_sum(heap)) return 0;
-    return (int)(heap->kind == RLSF_SMALL ? rlsf_small_check(rlsf_heap_state(heap), start, taken) : rlsf_large_check(rlsf_heap_state(heap), start, taken));
+ * The pools are the first `count` of `pools`. The time grows with the number of blocks. */
+RLSF_INLINE int rlsf_heap_check(const rlsf_heap *heap, const rlsf_range *pools, size_t count) {
+    size_t n;
+    for (n = 0; n < count; n++)
+        if (!(heap->kind == RLSF_SMALL ? rlsf_small_check(rlsf_heap_state(heap), pools[n].start, pools[n].len)
+                                       : rlsf_large_check(rlsf_heap_state(heap), pools[n].start, pools[n].len)))
+            return 0;
+    return 1;
 }
 
 #ifdef __cplusplus

@@ -1,16 +1,19 @@
 -- What a part owned is that part again.
-use Rattle.std.proofs.Common.{◌≡◌, ℕ, List, length, arith, refl, sym, ap, ◌∙◌, subst}
+use Rattle.std.proofs.Common.{◌≡◌, ℕ, ◌^◌, ◌<◌, List, length, arith, refl, sym, ap, ◌∙◌, subst}
 use Rattle.rlsf_base.specs.Changes.{IsOwn}
 use Rattle.rlsf_base.specs.Out.{Change}
 use Rattle.rlsf_base.specs.OpenSpace.{Home, place_in}
 use Rattle.rlsf_base.specs.Piece.{CanCome, IsPiece, IsPieceOf, Piece, first_place, home_from, piece_range}
 use Rattle.rlsf_base.specs.Range.{LiesIn}
-use Rattle.rlsf_base.specs.Steps.Block.{start_of}
+use Rattle.rlsf_base.specs.RawParts.{TakesParts}
+use Rattle.rlsf_base.specs.Steps.Block.{IsMemory, memory_of, start_of, view_of}
 use Rattle.rlsf_base.specs.Steps.Owners.{Owns}
 use Rattle.rlsf_base.specs.Steps.Ownership.{units_in}
+use Rattle.rlsf_base.specs.declared.memory.block.Base.{Base}
 use Rattle.rlsf_base.specs.declared.memory.block.Bytes.{Bytes}
 use Rattle.rlsf_base.specs.declared.memory.range.Range.{Range}
 use Rattle.rlsf_base.specs.declared.memory.view.View.{View}
+use Rattle.rlsf_base.specs.declared.memory.zeroed.Supplier.{Supplier}
 
 -- the owner of what a part owns
 abbrev pub IsOwnerOf : Piece → Bytes → Type 0
@@ -66,4 +69,23 @@ can_come p e is home bytes out =
       first = (omega (arith, first, is.first), sym (ap (λ (h : Home). h.start) home) ∙ ap (start_of p.home.view.shift) first);
       owned = subst (λ (u : List Change × List ℕ). IsOwn u.0 0 (length u.1)) (λ i. (out i, bytes i)) is.whole.1;
       small = omega (arith, is.place.1, is.small);
+    }
+
+-- so can what a part at a memory's addresses owned
+pub takes_parts : {base : Base} {shift len_and_skip : ℕ} {bytes : Bytes} {supplier : Supplier} → IsMemory base shift len_and_skip bytes supplier → shift < 2 ^ 64
+    → (touches copied : ℕ) → TakesParts (memory_of base shift len_and_skip bytes touches copied)
+takes_parts {base} {shift} {len_and_skip} {bytes} is fits touches copied p r home placed lies own =
+    let start : p.home.start ≡ start_of shift len_and_skip = ap (λ (h : Home). h.start) home in
+    let len : p.home.len ≡ length bytes.bytes = ap (λ (h : Home). h.len) home in
+    let view : p.home.view ≡ view_of base shift = ap (λ (h : Home). h.view) home in
+    let shifts : p.home.view.shift ≡ shift = ap (λ (v : View). v.shift) view in
+    let from : p.start ≡ r.start = ap (λ (q : Range). q.start) placed in
+    let long : length p.bytes ≡ r.len = ap (λ (q : Range). q.len) placed in
+    record {
+      viewed = view;
+      placed = placed;
+      lies = (omega (arith, start, from, lies.0), omega (arith, start, len, from, long, lies.1));
+      first = (omega (arith, start, shifts), omega (arith, start, shifts));
+      owned = own;
+      small = omega (arith, fits, start, shifts, from, long, lies.0, lies.1, is.bounds.0, is.bounds.1, is.bounds.2, is.whole);
     }

@@ -1,6 +1,7 @@
 -- What a value of the allocator represents.
 use Rattle.std.specs.Prelude.{◌≡◌, ℕ, ◌<◌, ◌≤◌, ◌⊎◌, true}
 use Rattle.rlsf_base.specs.Out.{is_own}
+use Rattle.rlsf_base.specs.declared.memory.range.Range.{Range}
 use Rattle.rlsf_base.specs.Range.{end_of}
 use Rattle.rlsf_base.specs.Space.{Space, out_at, range_of}
 use Rattle.rlsf_model.specs.Lists.{IsIn}
@@ -22,7 +23,11 @@ contents m t = record { memory = m; table = t }
 abbrev pub IsUnlent : State → ℕ → Type 0
 IsUnlent s a = (u : Used) → IsIn u s.used → (a < u.payload) ⊎ (end_of u.block ≤ a)
 
--- The state is well-formed, and only usable bytes of live payloads may be out. The words in the memory and the class table encode the
+-- each byte of a chunk is the memory's own, but for the usable bytes of live payloads. A byte outside of all chunks may be out
+abbrev pub OwnsChunks : Space → State → Type 0
+OwnsChunks m s = (a : ℕ) → m.start ≤ a → IsUnlent s a → (c : Range) → IsIn c s.chunks → c.start ≤ a → a < end_of c → is_own (out_at m a) ≡ true
+
+-- The state is well-formed, and in chunks only usable bytes of live payloads may be out. The words in the memory and the class table encode the
 -- state. No byte has the address 0
 pub record StandsFor (fllen sllen : ℕ) (v : Contents) (s : State) : Type 0 where
   pub nonzero : 0 < v.memory.start
@@ -31,4 +36,4 @@ pub record StandsFor (fllen sllen : ℕ) (v : Contents) (s : State) : Type 0 whe
   pub previous : HasPrevious v.memory s
   pub payloads : HasPayloads v.memory s
   pub table : HasTable fllen sllen v.memory v.table s.free
-  pub own : (a : ℕ) → v.memory.start ≤ a → IsUnlent s a → is_own (out_at v.memory a) ≡ true
+  pub own : OwnsChunks v.memory s

@@ -2,8 +2,8 @@
 
 ghost use Rattle.std.specs.Prelude.{◌≡◌, ◌+◌, ◌*◌, is_some, length, if◌then◌else◌};
 ghost use Rattle.rlsf_base.specs.declared.memory.range.Range.{Range};
-ghost use Rattle.rlsf_base.specs.OpenSpace.{SameOwn, StaysHere};
-ghost use Rattle.rlsf_base.specs.Range.{end_of};
+ghost use Rattle.rlsf_base.specs.OpenSpace.{IsOwned, SameOwn, StaysHere};
+ghost use Rattle.rlsf_base.specs.Range.{end_of, range_at};
 ghost use Rattle.rlsf_base.specs.SizeClass.{IsValid};
 ghost use Rattle.rlsf_base.specs.Sizes.{max_pool_size};
 ghost use Rattle.rlsf_base.specs.Space.{range_of};
@@ -32,6 +32,7 @@ fn extend_chunk<const FLLEN: usize, const SLLEN: usize>(
     requires parameters { IsValid 128 128 FLLEN SLLEN }
     requires extensible { (s : State) × (c : Range) × StandsFor FLLEN SLLEN (contents memory.old table.old) s
         × IsExtensible FLLEN (range_of memory.old) s c len × (end_of c ≡ end) }
+    requires own { IsOwned memory.old (range_at end len) }
     ensures step { AtEachExtensible FLLEN SLLEN memory.old table.old end len (λ s c. StandsAfter FLLEN SLLEN memory.old memory.new table.new s (grown c len s)) }
     ensures costs { Costs memory.old memory.new 34 0 }
     ensures own { SameOwn memory.old memory.new }
@@ -56,6 +57,7 @@ pub fn append_chunks<const FLLEN: usize, const SLLEN: usize>(
 ) -> usize
     requires parameters { IsValid 128 128 FLLEN SLLEN }
     requires next { (s : State) × StandsFor FLLEN SLLEN (contents memory.old table.old) s × IsNext (range_of memory.old) s range }
+    requires own { IsOwned memory.old range }
     ensures step { InEach FLLEN SLLEN memory.old table.old (λ s. IsNext (range_of memory.old) s range → StepsTo FLLEN SLLEN memory.old memory.new table.new s (Appends FLLEN s range result)) }
     ensures unchanged { result ≡ 0 → memory.new.bytes ≡ memory.old.bytes }
     ensures costs { Costs memory.old memory.new (if is_some (max_pool_size FLLEN) then 13 * length (cut (max_pool_size FLLEN) (aligned_part range)) else 34) 0 }

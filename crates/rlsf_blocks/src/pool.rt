@@ -2,7 +2,7 @@
 
 ghost use Rattle.std.specs.Prelude.{◌≡◌, ◌+◌, ◌*◌, ◌≤◌, IfNone, length};
 ghost use Rattle.rlsf_base.specs.Addr.{reply};
-ghost use Rattle.rlsf_base.specs.OpenSpace.{SameOwn, StaysHere};
+ghost use Rattle.rlsf_base.specs.OpenSpace.{IsOwned, SameOwn, StaysHere};
 ghost use Rattle.rlsf_base.specs.SizeClass.{IsValid};
 ghost use Rattle.rlsf_base.specs.Sizes.{max_pool_size};
 ghost use Rattle.rlsf_base.specs.Space.{range_of};
@@ -70,6 +70,7 @@ pub fn insert_chunks<const FLLEN: usize, const SLLEN: usize>(
 ) -> Option<NonZeroUsize>
     requires parameters { IsValid 128 128 FLLEN SLLEN }
     requires fresh { (s : State) × StandsFor FLLEN SLLEN (contents memory.old table.old) s × IsFresh (range_of memory.old) s range }
+    requires own { IsOwned memory.old range }
     ensures step { InEach FLLEN SLLEN memory.old table.old (λ s. IsFresh (range_of memory.old) s range → StepsTo FLLEN SLLEN memory.old memory.new table.new s (Inserts FLLEN s range (reply result))) }
     ensures refused { IfNone result (memory.new.bytes ≡ memory.old.bytes) }
     ensures own { SameOwn memory.old memory.new }

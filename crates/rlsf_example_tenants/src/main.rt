@@ -9,6 +9,7 @@
 ghost use Rattle.std.specs.Prelude.{◌≡◌};
 ghost use Rattle.rlsf_heaps.specs.Words.{lessor};
 
+mod lent;
 mod pair;
 mod sized;
 mod words;
@@ -125,6 +126,7 @@ fn show(rt: &(impl Print + AllocGlobal)) -> Result<(), io::Error> {
 }
 
 fn main(rt: HostRuntime) -> io::Result<()> {
+    lent::main(rt)?;
     pair::main(rt)?;
     sized::main(rt)?;
     words::main(rt)?;

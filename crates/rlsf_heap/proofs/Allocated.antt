@@ -1,11 +1,12 @@
 -- Allocation: a payload is placed, and its bytes leave the memory.
-use Rattle.std.proofs.Common.{◌≡◌, ℕ, ◌+◌, ◌^◌, ◌<◌, true, List, [], ◌∷◌, ◌++◌, length, None, IfNone, IfSome, Option, arith, inl, inr, refl, sym, ◌∙◌, ap, subst}
+use Rattle.std.proofs.Common.{◌≡◌, ℕ, ◌+◌, ◌^◌, ◌<◌, ◌≤◌, true, List, [], ◌∷◌, ◌++◌, length, None, IfNone, IfSome, Option, arith, inl, inr, refl, sym, ◌∙◌, ap, subst}
 use Rattle.std.proofs.lemmas.Option.{none-some}
 use Rattle.rlsf_base.specs.declared.memory.range.Range.{Range}
 use Rattle.rlsf_base.specs.Ledger.{Entry, Extent, entry_of}
 use Rattle.rlsf_base.specs.OpenSpace.{out_without}
 use Rattle.rlsf_base.specs.Range.{range_at}
-use Rattle.rlsf_base.specs.Space.{Space}
+use Rattle.rlsf_base.specs.Out.{is_own}
+use Rattle.rlsf_base.specs.Space.{Space, out_at}
 use Rattle.rlsf_model.specs.Allocate.{Places, placed}
 use Rattle.rlsf_model.specs.Lists.{IsIn}
 use Rattle.rlsf_model.specs.Sized.{live_count}
@@ -15,9 +16,10 @@ use Rattle.rlsf_model.proofs.CallerWords.{align_at-held, bytes_at-held}
 use Rattle.rlsf_table.specs.Table.{Table}
 use Rattle.rlsf_blocks.specs.StandsFor.{contents, StandsFor}
 use Rattle.rlsf_tlsf.specs.Cores.{IsPlaced}
-use Rattle.rlsf_heap.specs.Heap.{AreIssued}
+use Rattle.rlsf_heap.specs.Heap.{AreIssued, IsOutside}
 use Rattle.rlsf_heap.proofs.LiveCounts.{live_fits}
 use Rattle.rlsf_heap.proofs.Read.{stands-without}
+use Rattle.rlsf_heap.proofs.Rest.{own_without}
 use Rattle.rlsf_heap.proofs.Tickets.{issued-more}
 
 module _ {fllen sllen : ℕ} {n : Space} {y : Table} {s t : State} {size align : ℕ} {r : Range} (places : Places sllen s size align r.start t)
@@ -37,6 +39,10 @@ module _ {fllen sllen : ℕ} {n : Space} {y : Table} {s t : State} {size align :
   -- the bytes leave
   pub stands-left : (o : Space) → o.start ≡ n.start → o.bytes ≡ n.bytes → o.out ≡ out_without n r → StandsFor fllen sllen (contents o y) t
   stands-left o start bytes gone = stands-without now new is_new o start bytes (gone ∙ ap (out_without n) (λ i. range_at (sym at_new i) (sym many i)))
+
+  -- the same bytes outside of all chunks are the memory's own
+  pub own-left : (o : Space) → o.start ≡ n.start → o.out ≡ out_without n r → (a : ℕ) → n.start ≤ a → IsOutside t a → is_own (out_at o a) ≡ is_own (out_at n a)
+  own-left o start gone = own_without now new is_new o start (gone ∙ ap (out_without n) (λ i. range_at (sym at_new i) (sym many i)))
 
   -- a ticket is issued for them
   pub issued-new : {memory : Range} → IsWellFormed fllen sllen memory s → (entries : List Entry) → AreIssued s entries → (shown : Extent) → shown.addr ≡ r.start

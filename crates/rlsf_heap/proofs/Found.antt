@@ -6,7 +6,7 @@ use Rattle.rlsf_base.specs.OpenSpace.{IsAway}
 use Rattle.rlsf_base.specs.Piece.{Piece, piece_range}
 use Rattle.rlsf_model.specs.State.{State}
 use Rattle.rlsf_heap.specs.Frame.{KeepsBytes, KeepsFrame, KeepsHeap, KeepsSized}
-use Rattle.rlsf_heap.specs.Heap.{HeapView, IsOwners, PayloadView, Steps, payload_range, payload_view}
+use Rattle.rlsf_heap.specs.Heap.{HeapView, IsOwners, PayloadView, Steps, lent_bytes, payload_range, payload_view}
 use Rattle.rlsf_heap.specs.Kept.{KeepsBytesBeside, KeepsSpareBytes, NoneBecomesRaw, NoneBecomesRawBeside}
 use Rattle.rlsf_heap.specs.Reallocation.{owned_by}
 use Rattle.rlsf_heap.specs.Replies.{IsReallocated, IsReallocatedHere, IsRefused, IsResized, IsReturned}
@@ -26,6 +26,11 @@ pub spare_found : (v w new : HeapView) → w ≡ found v → KeepsSpareBytes w n
 unfolding KeepsSpareBytes
 spare_found v w new is keeps = subst (λ (x : HeapView). KeepsSpareBytes x new) is keeps
 
+-- the same bytes are lent
+lent_found : (v : HeapView) → lent_bytes (found v) ≡ lent_bytes v
+unfolding lent_bytes
+lent_found v = refl
+
 pub raw_found : (v w new : HeapView) → w ≡ found v → NoneBecomesRaw w new → NoneBecomesRaw v new
 unfolding NoneBecomesRaw
 raw_found v w new is none = subst (λ (x : HeapView). NoneBecomesRaw x new) is none
@@ -42,7 +47,14 @@ beside_found v w new is r keeps = subst (λ (x : HeapView). KeepsBytesBeside x n
 pub heap_found : (v w new : HeapView) → w ≡ found v → KeepsHeap w new → KeepsHeap v new
 heap_found v w new is kept =
     let k = subst (λ (x : HeapView). KeepsHeap x new) is kept in
-    record { identity = k.identity; place = k.place; spare = spare_found v w new is kept.spare; grow = omega (arith, k.grow) }
+    record {
+      identity = k.identity;
+      place = k.place;
+      spare = spare_found v w new is kept.spare;
+      lent = k.lent;
+      lent_bytes = k.lent_bytes ∙ lent_found v;
+      grow = omega (arith, k.grow);
+    }
 
 pub bytes_found : (v w new : HeapView) → w ≡ found v → KeepsBytes w new → KeepsBytes v new
 bytes_found v w new is kept = record { raw = raw_found v w new is kept.raw; settled = λ settled. kept.settled (settled_found v w is settled) }

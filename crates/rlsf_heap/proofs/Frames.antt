@@ -7,7 +7,7 @@ use Rattle.rlsf_heap.proofs.Kept.{beside-none, none_raw-both, none_raw-none, spa
 
 -- a heap that is unchanged is kept
 pub heap_same : (v : HeapView) → KeepsHeap v v
-heap_same v = record { identity = refl; place = (refl, refl); spare = spare-none v; grow = omega arith }
+heap_same v = record { identity = refl; place = (refl, refl); spare = spare-none v; lent = refl; lent_bytes = refl; grow = omega arith }
 
 pub bytes_same : (v : HeapView) → KeepsBytes v v
 bytes_same v = record { raw = none_raw-none v; settled = λ settled. settled }
@@ -34,6 +34,8 @@ frame_both a b c f h = record {
     identity = h.heap.identity ∙ f.heap.identity;
     place = (h.heap.place.0 ∙ f.heap.place.0, h.heap.place.1 ∙ f.heap.place.1);
     spare = spare-both a b c f.heap.place f.chunks f.heap.spare h.heap.spare;
+    lent = h.heap.lent ∙ f.heap.lent;
+    lent_bytes = h.heap.lent_bytes ∙ f.heap.lent_bytes;
     grow = omega (arith, f.heap.grow, h.heap.grow);
   };
   bytes = record { raw = none_raw-both a b c f.heap.place.0 f.bytes.raw h.bytes.raw; settled = λ settled. h.bytes.settled (f.bytes.settled settled) };

@@ -1,5 +1,5 @@
 -- Deallocation: the bytes of a payload are the memory's own again, and its block is released.
-use Rattle.std.proofs.Common.{◌≡◌, ℕ, ◌+◌, ◌-◌, ◌≤◌, false, List, [], ◌∷◌, length, Option, IfSome, set, eqb, cond, arith, refl, sym, ap, subst, ◌∙◌}
+use Rattle.std.proofs.Common.{◌≡◌, ℕ, ◌+◌, ◌-◌, ◌≤◌, Bool, false, List, [], ◌∷◌, length, Option, IfSome, set, eqb, cond, arith, refl, sym, ap, subst, ◌∙◌}
 use Rattle.std.specs.Prelude.{not}
 use Rattle.rlsf_base.specs.declared.memory.range.Range.{Range}
 use Rattle.rlsf_base.specs.Ledger.{Entry, Extent, entry_of, extent}
@@ -7,7 +7,8 @@ use Rattle.rlsf_base.specs.MemoryCalls.{IsSpaceWith}
 use Rattle.rlsf_base.specs.OpenSpace.{IsOwned, out_raw}
 use Rattle.rlsf_base.specs.Piece.{Piece}
 use Rattle.rlsf_base.specs.Range.{range_at}
-use Rattle.rlsf_base.specs.Space.{Space}
+use Rattle.rlsf_base.specs.Out.{is_own}
+use Rattle.rlsf_base.specs.Space.{Space, out_at}
 use Rattle.rlsf_model.specs.Release.{Deallocates, released}
 use Rattle.rlsf_model.specs.Sized.{live_count}
 use Rattle.rlsf_model.specs.State.{State, Used, Holds, usable, others, filled_at, with_bytes as with_these}
@@ -26,11 +27,14 @@ use Rattle.rlsf_tlsf.specs.Cores.{IsCore, IsOwnFound, LeavesCore}
 use Rattle.rlsf_tlsf.proofs.Reached.{read_from-same}
 use Rattle.rlsf_tlsf.proofs.Replied.{some_more}
 use Rattle.rlsf_heap.specs.Frame.{KeepsAllBounds, KeepsHeap}
-use Rattle.rlsf_heap.specs.Heap.{AreIssued, IsHeap, IsTicketOf, Steps, heap_view}
+use Rattle.rlsf_heap.specs.Heap.{AreIssued, IsHeap, IsOutside, IsTicketOf, Steps, heap_view}
+use Rattle.rlsf_heap.specs.Kept.{KeepsOwn}
 use Rattle.rlsf_heap.specs.Replies.{IsGone}
 use Rattle.rlsf_heap.proofs.Kept.{same-byte, spare-then}
+use Rattle.rlsf_heap.proofs.LentBytes.{lent_kept}
 use Rattle.rlsf_heap.proofs.OnCores.{IsHeap-left, Steps-left, heap-over}
-use Rattle.rlsf_heap.proofs.Shown.{IsReturned, IsShown, all_behind, block, ends, held, issued-released, own-back, stands-back, wide}
+use Rattle.rlsf_heap.proofs.Shown.{IsReturned, IsShown, all_behind, block, ends, held, issued-released, outside-back, own-back, stands-back, wide}
+use Rattle.rlsf_heap.proofs.Rest.{outside_unlent, rest_kept}
 
 -- the other used blocks are unchanged
 pub others-filled : (addr : ℕ) (bytes : List ℕ) (us : List Used) → others addr (filled_at addr bytes us) ≡ others addr us
@@ -76,6 +80,7 @@ pub record IsGiven (fllen sllen : ℕ) (m n : Space) (x : Table) (j : State) (es
   pub long : length n.bytes ≡ length m.bytes
   pub view : n.view ≡ m.view
   pub grow : m.touches ≤ n.touches
+  pub rest : (a : ℕ) → m.start ≤ a → IsOutside (read_from m j) a → is_own (out_at n a) ≡ is_own (out_at m a)
   pub steps : (t : State) → Deallocates (read_from n j) e.addr t → Deallocates (read_from m j) e.addr t
 
 -- without values: the state is the same
@@ -97,11 +102,12 @@ raw_given {fllen} {sllen} {m} {n} {x} {j} {es} {k} {e} p memory grow =
       long = ap length memory.bytes;
       view = memory.view;
       grow = grow;
+      rest = λ a from out. ap is_own (outside-back b a from (outside_unlent p.stands.well_formed a out));
       steps = λ t. subst (λ (s : State). Deallocates s e.addr t) same;
     }
 
-module _ {fl_bits sl_bits fllen sllen : ℕ} {m n : Space} {x : Table} {j : State} {es : List Entry} {count k : ℕ} {e : Extent}
-    (is : IsHeap fl_bits sl_bits fllen sllen m x j es count) (g : IsGiven fllen sllen m n x j es k e) where
+module _ {fl_bits sl_bits fllen sllen : ℕ} {m n : Space} {x : Table} {j : State} {es : List Entry} {count k : ℕ} {e : Extent} {lent : Bool}
+    (is : IsHeap fl_bits sl_bits fllen sllen m x j es count lent) (g : IsGiven fllen sllen m n x j es k e) where
   pub core_given : fl_bits ≤ 128 → IsCore fllen sllen n x j
   core_given limit = record { valid = IsValid-widest limit is.valid; stands = g.stands; is_bare = is.is_bare }
 
@@ -121,23 +127,28 @@ module _ {fl_bits sl_bits fllen sllen : ℕ} {m n : Space} {x : Table} {j : Stat
     pub one_less : count ≡ live_count (read_from o l) + 1
     one_less = is.counted ∙ gone_given.count
 
-    pub IsHeap-given : (fs : List Entry) → fs ≡ set es k (entry_of e false) → IsHeap fl_bits sl_bits fllen sllen o y l fs (count - 1)
+    pub chunks_given : (read_from o l).chunks ≡ (read_from m j).chunks
+    chunks_given = chunks-deallocated (read_from m j) (read_from o l) e.addr did
+
+    own_given : KeepsOwn m (read_from m j) o (read_from o l)
+    own_given a from out again = left.own a (omega (arith, from, g.start)) ∙ g.rest a from out
+
+    pub IsHeap-given : (fs : List Entry) → fs ≡ set es k (entry_of e false) → IsHeap fl_bits sl_bits fllen sllen o y l fs (count - 1) lent
     IsHeap-given fs entries =
         IsHeap-left left is.valid fs
         (subst (AreIssued (read_from o l)) (sym entries) (subst (λ (t : State). AreIssued t (set es k (entry_of e false)))
         (is_released is.stands.well_formed did (block g.shown) (held g.shown)) (issued-released g.shown)))
         (count - 1) (omega (arith, one_less))
+        (λ not_lent. rest_kept m o (read_from m j) (read_from o l) (left.costs.start ∙ g.start) chunks_given own_given (is.rest not_lent))
 
-    pub step_given : (label : ℕ) → Steps fllen sllen (heap_view o y l label) (Deallocates (read_from m j) e.addr)
-    step_given label = Steps-left left label (Deallocates (read_from m j) e.addr) did
+    pub step_given : (label : ℕ) → Steps fllen sllen (heap_view o y l label lent) (Deallocates (read_from m j) e.addr)
+    step_given label = Steps-left left label lent (Deallocates (read_from m j) e.addr) did
 
     pub bounds_given : KeepsAllBounds sllen (read_from m j) (read_from o l)
     bounds_given = bounds_gone is.stands.well_formed did
 
-    pub chunks_given : (read_from o l).chunks ≡ (read_from m j).chunks
-    chunks_given = chunks-deallocated (read_from m j) (read_from o l) e.addr did
-
-    pub keeps_given : (ledger label : ℕ) → label ≡ ledger → KeepsHeap (heap_view m x j ledger) (heap_view o y l label)
+    pub keeps_given : (ledger label : ℕ) → label ≡ ledger → KeepsHeap (heap_view m x j ledger lent) (heap_view o y l label lent)
     keeps_given ledger label named =
         heap-over m o x y j l (left.costs.start ∙ g.start) (left.costs.length ∙ g.long) (left.costs.view ∙ g.view) (omega (arith, left.costs.grow, g.grow))
-        (spare-then m n o (read_from m j) (read_from o l) g.start g.long (read_from n j) refl g.spare left.spare) ledger label named
+        (spare-then m n o (read_from m j) (read_from o l) g.start g.long (read_from n j) refl g.spare left.spare)
+        (lent_kept m o (read_from m j) (read_from o l) (left.costs.start ∙ g.start) chunks_given own_given) ledger label named

@@ -6,13 +6,14 @@ use Rattle.rlsf_base.specs.OpenSpace.{SameOwn}
 use Rattle.rlsf_base.specs.Out.{is_own}
 use Rattle.rlsf_base.specs.Range.{end_of}
 use Rattle.rlsf_base.specs.Space.{Space, out_at}
+use Rattle.rlsf_model.specs.Lists.{IsIn}
 use Rattle.rlsf_model.specs.State.{Holds, State, Used, usable}
 use Rattle.rlsf_model.proofs.CallerWords.{align_at-held, align_at-live, bytes_at-held}
 use Rattle.rlsf_model.proofs.Changes.{Holds-unique}
 use Rattle.rlsf_model.proofs.Payloads.{IsUsed-after_start}
 use Rattle.rlsf_table.specs.Table.{Table}
 use Rattle.rlsf_blocks.specs.StandsFor.{contents, IsUnlent, StandsFor}
-use Rattle.rlsf_blocks.proofs.Words.Apart.{used_used}
+use Rattle.rlsf_blocks.proofs.Words.Apart.{home_of_used, used_used}
 use Rattle.rlsf_tlsf.specs.CoreResizes.{KeepsPayloads}
 use Rattle.rlsf_heap.specs.Heap.{AreIssued, IsPayload}
 use Rattle.rlsf_heap.specs.ThinUnknownAlign.{renewed_entries}
@@ -80,5 +81,9 @@ module _ {fllen sllen : ℕ} {m o : Space} {x y : Table} {s t : State} {addr : �
         let from : m.start ≤ a = omega (arith, lo, start, is.1, (lies_used w z is.0).0) in
         own a from ∙ elim (cases_lt a (end_of u.block)) [
           | inl inside ↦ mine inside
-          | inr past ↦ v.own a from (unlent a past lo hi)
+          | inr past ↦
+              let home = home_of_used w.well_formed z is.0 in
+              let deep = IsUsed-after_start z (w.well_formed.used z is.0) in
+              v.own a from (unlent a past lo hi) home.chunk (subst (IsIn home.chunk) kept.chunks home.is_chunk) (omega (arith, home.from, deep, lo, is.1))
+              (omega (arith, home.to, hi))
         ]

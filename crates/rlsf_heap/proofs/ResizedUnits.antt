@@ -4,7 +4,7 @@ use Rattle.rlsf_base.specs.Ledger.{Entry, extent}
 use Rattle.rlsf_base.specs.OpenSpace.{IsOwned, IsReadable, SameOwn, out_without}
 use Rattle.rlsf_base.specs.Range.{LiesIn, end_of, range_at}
 use Rattle.rlsf_base.specs.Rounding.{round32}
-use Rattle.rlsf_base.specs.Space.{Space, word_at}
+use Rattle.rlsf_base.specs.Space.{Space, out_at, word_at}
 use Rattle.rlsf_base.proofs.Lending.Present.{own-word}
 use Rattle.rlsf_base.proofs.Lending.WordIsHere.{is_word}
 use Rattle.rlsf_model.specs.NoMove.{ReallocatesUnmovedBy, ReallocatesWithoutMove, unmoved_plan}
@@ -14,7 +14,7 @@ use Rattle.rlsf_model.specs.WellFormed.{IsUsed}
 use Rattle.rlsf_model.proofs.CallerWords.{bytes_at-held}
 use Rattle.rlsf_model.proofs.Changes.{Holds-unique}
 use Rattle.rlsf_table.specs.Table.{Table}
-use Rattle.rlsf_blocks.specs.StandsFor.{contents, StandsFor}
+use Rattle.rlsf_blocks.specs.StandsFor.{contents, IsUnlent, StandsFor}
 use Rattle.rlsf_blocks.proofs.Words.Apart.{used_in_memory}
 use Rattle.rlsf_blocks.proofs.Words.NeverOut.{here_behind_used}
 use Rattle.rlsf_blocks.specs.Steps.Resize.{IsOwnedBehind}
@@ -124,10 +124,15 @@ module _ {fllen sllen : ℕ} {m n : Space} {table : Table} {s : State} {es : Lis
       now-side a (inl before) = inl (omega (arith, before, now-held.1.1))
       now-side a (inr past) = inr (omega (arith, past, last, fits))
 
+      pub now-outside : (q : Space) → q.start ≡ o.start → q.out ≡ out_without o (range_at (start + kept) (now - kept)) → (a : ℕ) → o.start ≤ a → IsUnlent t a
+          → out_at q a ≡ out_at o a
+      now-outside q same out a from unlent =
+          out-left o q (range_at (start + kept) (now - kept)) same (omega (arith, now-lies.0)) out a from (now-side a (unlent z now-held.1.0))
+
       pub now-stands : (q : Space) → q.start ≡ o.start → q.bytes ≡ o.bytes → q.out ≡ out_without o (range_at (start + kept) (now - kept)) → StandsFor fllen sllen (contents q y) t
       now-stands q same bytes out =
           stands_same o q w same bytes
-          (λ a from unlent. out-left o q (range_at (start + kept) (now - kept)) same (omega (arith, now-lies.0)) out a from (now-side a (unlent z now-held.1.0)))
+          (now-outside q same out)
 
       -- its ticket is issued again, for this length
       pub now-issued : AreIssued t (renewed_entries es k (extent start len 16) now)

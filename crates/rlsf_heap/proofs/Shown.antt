@@ -6,7 +6,7 @@ use Rattle.rlsf_base.specs.MemoryCalls.{IsSpaceWith}
 use Rattle.rlsf_base.specs.OpenSpace.{IsOwned, out_raw}
 use Rattle.rlsf_base.specs.Out.{raw, is_own, kept_at}
 use Rattle.rlsf_base.specs.Range.{LiesIn, end_of, range_at}
-use Rattle.rlsf_base.specs.Space.{Space}
+use Rattle.rlsf_base.specs.Space.{Space, out_at}
 use Rattle.rlsf_base.proofs.Changes.{changed-there}
 use Rattle.rlsf_model.specs.Callers.{align_at}
 use Rattle.rlsf_model.specs.Release.{released}
@@ -14,7 +14,7 @@ use Rattle.rlsf_model.specs.State.{State, Used, Holds, usable}
 use Rattle.rlsf_model.proofs.CallerWords.{align_at-held}
 use Rattle.rlsf_model.proofs.Changes.{IsIn-others_from}
 use Rattle.rlsf_table.specs.Table.{Table}
-use Rattle.rlsf_blocks.specs.StandsFor.{contents, StandsFor}
+use Rattle.rlsf_blocks.specs.StandsFor.{contents, IsUnlent, StandsFor}
 use Rattle.rlsf_heap.specs.Heap.{AreIssued, IsPayload}
 use Rattle.rlsf_tlsf.proofs.Placed.{lies_used}
 use Rattle.rlsf_heap.proofs.Read.{out-back, stands_same}
@@ -79,11 +79,13 @@ module _ {fllen sllen : ℕ} {m n : Space} {table : Table} {s : State} {es : Lis
   side a (inl before) = inl (omega (arith, before, (held b.shown).1))
   side a (inr past) = inr (omega (arith, past, ends b.shown, b.within))
 
+  pub outside-back : (a : ℕ) → m.start ≤ a → IsUnlent s a → out_at n a ≡ out_at m a
+  outside-back a from unlent =
+      out-back m n (range_at (e.addr + kept) (e.len - kept)) b.memory.start (omega (arith, (lies b.shown).0)) b.memory.out a from
+      (side a (unlent (block b.shown) (held b.shown).0))
+
   pub stands-back : StandsFor fllen sllen (contents n table) s
-  stands-back =
-      stands_same m n b.shown.stands b.memory.start b.memory.bytes
-      (λ a from unlent. out-back m n (range_at (e.addr + kept) (e.len - kept)) b.memory.start (omega (arith, (lies b.shown).0)) b.memory.out a from
-      (side a (unlent (block b.shown) (held b.shown).0)))
+  stands-back = stands_same m n b.shown.stands b.memory.start b.memory.bytes outside-back
 
   pub own-back : IsOwned n (range_at (e.addr + kept) (e.len - kept))
   own-back a lo hi =

@@ -1,11 +1,11 @@
 -- A payload came back into the memory with its values for a call on the heap's core, and leaves again after it, at its address or at another one.
-use Rattle.std.proofs.Common.{◌≡◌, ◌≤◌, ℕ, ◌-◌, List, length, arith, inl, inr, refl, sym, ap, ◌∙◌, ◌≢◌, ◌<◌, ◌+◌, false, set, Option}
+use Rattle.std.proofs.Common.{◌≡◌, ◌≤◌, ℕ, ◌-◌, List, length, arith, inl, inr, refl, sym, ap, ◌∙◌, ◌≢◌, ◌<◌, ◌+◌, Bool, false, set, Option}
 use Rattle.std.proofs.Common.{None, Some, IfSome, subst}
 use Rattle.std.proofs.lemmas.Option.{none-some}
 use Rattle.rlsf_base.specs.Ledger.{Entry, Extent, entry_of, extent, IsIssued}
 use Rattle.rlsf_base.specs.MemoryCalls.{CountsNothing, IsSpaceWith}
 use Rattle.rlsf_base.specs.OpenSpace.{IsBeside, IsHere, out_with, IsOwned, home_of, out_without}
-use Rattle.rlsf_base.specs.Out.{kept_at, here, raw}
+use Rattle.rlsf_base.specs.Out.{kept_at, here, is_own, raw}
 use Rattle.rlsf_base.specs.Range.{LiesIn, range_at}
 use Rattle.rlsf_base.specs.Space.{Space, byte_at, byte_range, bytes_in, with_bytes, range_of, out_at}
 use Rattle.rlsf_base.proofs.Changes.{back-before, back-behind, back-there}
@@ -43,17 +43,19 @@ use Rattle.rlsf_tlsf.proofs.Reached.{bare-core}
 use Rattle.rlsf_tlsf.proofs.Relocated.{span_held}
 use Rattle.rlsf_tlsf.proofs.Replied.{some_more}
 use Rattle.rlsf_tlsf.proofs.UnknownAlign.{denied_short, no_room_to_stay}
-use Rattle.rlsf_heap.specs.Heap.{AreIssued, IsHeap, PayloadView, Steps, heap_view, payload_range}
+use Rattle.rlsf_heap.specs.Heap.{AreIssued, IsHeap, IsOutside, PayloadView, Steps, heap_view, is_lent_at, payload_range}
 use Rattle.rlsf_heap.specs.Frame.{KeepsAllBounds, KeepsBytes, KeepsFrameMoving, KeepsHeap, KeepsSized}
 use Rattle.rlsf_heap.specs.Handover.{IsHandedOver, IsTakenBack}
-use Rattle.rlsf_heap.specs.Kept.{KeepsBytesBeside, NoneBecomesRaw}
+use Rattle.rlsf_heap.specs.Kept.{KeepsBytesBeside, KeepsOwn, NoneBecomesRaw}
 use Rattle.rlsf_heap.specs.Reallocation.{owned_by}
 use Rattle.rlsf_heap.specs.Replies.{IsRefused, IsResized}
 use Rattle.rlsf_heap.specs.Settled.{IsSettled}
 use Rattle.rlsf_heap.specs.ThinUnknownAlign.{HasRoom}
 use Rattle.rlsf_heap.proofs.Arrivals.{IsHeap-arrived, Steps-arrived}
 use Rattle.rlsf_heap.proofs.Kept.{raw-left, raw-stays, raw-with, same-byte, spare-last, spare-then}
+use Rattle.rlsf_heap.proofs.LentBytes.{lent_kept}
 use Rattle.rlsf_heap.proofs.Read.{stands-without}
+use Rattle.rlsf_heap.proofs.Rest.{outside_unlent, own_without, rest_kept}
 use Rattle.rlsf_tlsf.proofs.Placed.{lies_used}
 use Rattle.rlsf_heap.proofs.OnCores.{heap-over, same_identity, stays}
 use Rattle.rlsf_heap.proofs.PayloadsApart.{payload_as, redeemed_ticket, shown_live}
@@ -134,7 +136,8 @@ kept_same addr same = record {
   chunks = ap (λ (u : State). u.chunks) same;
 }
 
-module _ {fl_bits sl_bits fllen sllen : ℕ} {m n : Space} {x : Table} {j : State} {es fs : List Entry} {count : ℕ} (is : IsHeap fl_bits sl_bits fllen sllen m x j es count)
+module _ {fl_bits sl_bits fllen sllen : ℕ} {m n : Space} {x : Table} {j : State} {es fs : List Entry} {count : ℕ} {lent : Bool}
+    (is : IsHeap fl_bits sl_bits fllen sllen m x j es count lent)
     (pay : PayloadView) (back : IsBack m n es fs pay) where
   abbrev shown : Extent
   shown = extent pay.start (length pay.bytes) pay.align
@@ -200,6 +203,13 @@ module _ {fl_bits sl_bits fllen sllen : ℕ} {m n : Space} {x : Table} {j : Stat
   pub settled_before : IsSettled m → IsSettled n
   settled_before = settled-back m n (payload_range pay) back.memory.start (omega (arith, low, back.memory.start)) back.memory.out
 
+  -- the same bytes outside of all chunks are its own
+  rest_back : (a : ℕ) → m.start ≤ a → IsOutside (read_from m j) a → is_own (out_at n a) ≡ is_own (out_at m a)
+  rest_back a from out = ap is_own (outside.out a from (elim (outside_unlent is.stands.well_formed a out (block p) (held p).0) [
+    | inl before ↦ inl before
+    | inr behind ↦ inr (omega (arith, behind, (is.stands.well_formed.used (block p) (held p).0).within))
+  ]))
+
   -- ---- the core that a call is passed, and the payload in it
 
   pub core_back : fl_bits ≤ 128 → IsCore fllen sllen n x j
@@ -231,6 +241,7 @@ module _ {fl_bits sl_bits fllen sllen : ℕ} {m n : Space} {x : Table} {j : Stat
         long = back.long;
         view = back.memory.view;
         grow = omega (arith, back.counts.0);
+        rest = rest_back;
         steps = λ t step. record { block = block p; holds = held p; after = sym (is_released stands_in.well_formed step used held_in) ∙ after };
       }
 
@@ -346,9 +357,9 @@ module _ {fl_bits sl_bits fllen sllen : ℕ} {m n : Space} {x : Table} {j : Stat
 
         -- a step, as contracts see it
         pub step_over : (label : ℕ) (Step : State → State → Type 0) → Step (read_from n j) (read_from o k)
-            → Steps fllen sllen (heap_view q y k label) (Step (owned_by (read_from m j) pay))
+            → Steps fllen sllen (heap_view q y k label lent) (Step (owned_by (read_from m j) pay))
         step_over label Step did =
-            Steps-arrived standing k (sym (bare-core core.core)) label (Step (owned_by (read_from m j) pay))
+            Steps-arrived standing k (sym (bare-core core.core)) label lent (Step (owned_by (read_from m j) pay))
             (reads_over (Step (owned_by (read_from m j) pay)) (subst (λ (s : State). Step s (read_from o k)) owned_back did))
 
         -- the other tickets are those of the same payloads, and the new one is its own
@@ -372,23 +383,33 @@ module _ {fl_bits sl_bits fllen sllen : ℕ} {m n : Space} {x : Table} {j : Stat
             (u, holds.0, ap (λ (z : Range). z.start) (sym range_is), ap (λ (z : Range). z.len) (sym range_is), aligned_as ∙ sym aligned)
             (λ i w issued e. others_at i w issued (e ∙ ap (λ (z : Range). z.start) range_is ∙ holds.1)))
 
-        pub IsHeap-over : IsHeap fl_bits sl_bits fllen sllen q y k gs count
-        IsHeap-over = IsHeap-arrived standing k (sym (bare-core core.core)) is.valid gs issued_over count (is.counted ∙ sym (at.count ∙ count_back))
+        own_over_all : KeepsOwn m (read_from m j) q (read_from o k)
+        own_over_all a from out again =
+            own_without core.core.stands u holds.0 q over.memory.start (over.memory.out ∙ ap (out_without o) range_is) a
+            (omega (arith, from, back.memory.start, core.costs.start)) again
+            ∙ core.own a (omega (arith, from, back.memory.start)) ∙ rest_back a from out
+
+        pub IsHeap-over : (read_from o k).chunks ≡ j.chunks → IsHeap fl_bits sl_bits fllen sllen q y k gs count lent
+        IsHeap-over chunks =
+            IsHeap-arrived standing k (sym (bare-core core.core)) is.valid gs issued_over count (is.counted ∙ sym (at.count ∙ count_back))
+            (λ not_lent. rest_kept m q (read_from m j) (read_from o k) (over.memory.start ∙ core.costs.start ∙ back.memory.start) chunks own_over_all (is.rest not_lent))
 
         -- what the call keeps
-        pub keeps_over : (ledger label : ℕ) → label ≡ ledger → KeepsHeap (heap_view m x j ledger) (heap_view q y k label)
-        keeps_over ledger label named =
+        pub keeps_over : (read_from o k).chunks ≡ j.chunks → (ledger label : ℕ) → label ≡ ledger → KeepsHeap (heap_view m x j ledger lent) (heap_view q y k label lent)
+        keeps_over chunks ledger label named =
             heap-over m q x y j k (over.memory.start ∙ core.costs.start ∙ back.memory.start) (ap length over.memory.bytes ∙ core.costs.length ∙ back.long)
             (over.memory.view ∙ core.costs.view ∙ back.memory.view) (omega (arith, over.counts.0, core.costs.grow, back.counts.0))
             (reads_over (KeepsSpare m (read_from m j) q) (spare-last m o q (read_from m j) (read_from o k) over.memory.start over.memory.bytes
             (spare-then m n o (read_from m j) (read_from o k) back.memory.start back.long (read_from n j) refl
             reread.2 core.spare)))
+            (reads_over (λ (s : State). is_lent_at q s ≡ is_lent_at m (read_from m j)) (lent_kept m q (read_from m j) (read_from o k)
+            (over.memory.start ∙ core.costs.start ∙ back.memory.start) chunks own_over_all))
             ledger label named
 
         settled_over : IsSettled m → IsSettled o
         settled_over settled = settled-stays (stays core) (settled_before settled)
 
-        pub bytes_over : (ledger label : ℕ) → KeepsBytes (heap_view m x j ledger) (heap_view q y k label)
+        pub bytes_over : (ledger label : ℕ) → KeepsBytes (heap_view m x j ledger lent) (heap_view q y k label lent)
         unfolding NoneBecomesRaw
         bytes_over ledger label = record {
           raw = λ a from is_raw.
@@ -412,10 +433,10 @@ module _ {fl_bits sl_bits fllen sllen : ℕ} {m n : Space} {x : Table} {j : Stat
 
         -- what it keeps if it may have copied the payload's bytes
         pub frame_over : (ledger label : ℕ) → label ≡ ledger → (size : ℕ) → CoreFrame pay.start size (allocator n x j) (allocator o y k)
-            → KeepsFrameMoving (heap_view m x j ledger) (heap_view q y k label) pay.start size pay
+            → KeepsFrameMoving (heap_view m x j ledger lent) (heap_view q y k label lent) pay.start size pay
         frame_over ledger label named size frame =
             let least : o.copied ≤ n.copied + length pay.bytes = subst (λ (l : List ℕ). o.copied ≤ n.copied + length l) bytes_are frame.copied in record {
-              heap = keeps_over ledger label named;
+              heap = keeps_over frame.chunks ledger label named;
               bytes = bytes_over ledger label;
               chunks = reads_over (λ (s : State). s.chunks ≡ j.chunks) frame.chunks;
               copied = record {
@@ -434,7 +455,7 @@ module _ {fl_bits sl_bits fllen sllen : ℕ} {m n : Space} {x : Table} {j : Stat
 
           pub resized_over : (size : ℕ) → size ≤ length (bytes_at (read_from o k) to) → length (bytes_at (read_from o k) to) < size + 32
               → Keeps (bytes_at (read_from n j) pay.start) (bytes_at (read_from o k) to) → IsHere o (span (read_from n j) pay.start to)
-              → IsResized (heap_view m x j ledger) (heap_view q y k label) size pay.align pay p
+              → IsResized (heap_view m x j ledger lent) (heap_view q y k label lent) size pay.align pay p
           resized_over size enough few keeps still_here =
               let kept : Keeps pay.bytes p.bytes = subst (λ (z : List ℕ × List ℕ). Keeps z.0 z.1) (λ i. (bytes_are i, sym values_over i)) keeps in
               let as_was : (i : ℕ) → i < length pay.bytes → i < length p.bytes → kept_at p.out i ≡ here =
@@ -462,7 +483,7 @@ module _ {fl_bits sl_bits fllen sllen : ℕ} {m n : Space} {x : Table} {j : Stat
               }
 
           pub refused_over : read_from o k ≡ read_from n j → o.bytes ≡ n.bytes → to ≡ pay.start → IsHere o (span (read_from n j) pay.start to)
-              → IsRefused (heap_view m x j ledger) (heap_view q y k label) pay.start pay.align pay p
+              → IsRefused (heap_view m x j ledger lent) (heap_view q y k label lent) pay.start pay.align pay p
           unfolding KeepsBytesBeside
           refused_over unchanged bytes there still_here = record {
             identity = identity_over;

@@ -5,7 +5,7 @@ use Rattle.rlsf_model.specs.Callers.{align_at}
 use Rattle.rlsf_model.specs.Reallocate.{HasRoomToStay}
 use Rattle.rlsf_model.specs.Sized.{IsSizedFor, live_count}
 use Rattle.rlsf_model.specs.State.{State}
-use Rattle.rlsf_heap.specs.Heap.{HeapView, PayloadView}
+use Rattle.rlsf_heap.specs.Heap.{HeapView, PayloadView, lent_bytes}
 use Rattle.rlsf_heap.specs.Kept.{KeepsSpareBytes, NoneBecomesRaw, NoneBecomesRawBeside}
 use Rattle.rlsf_heap.specs.Settled.{IsSettled}
 
@@ -17,6 +17,10 @@ pub record KeepsHeap (before after : HeapView) : Type 0 where
   pub place : (after.memory.start ≡ before.memory.start) × (length after.memory.bytes ≡ length before.memory.bytes)
   -- each byte that no block is made of, before and after
   pub spare : KeepsSpareBytes before after
+  -- whether its bytes are lent to it in ranges
+  pub lent : after.lent ≡ before.lent
+  -- which bytes are
+  pub lent_bytes : lent_bytes after ≡ lent_bytes before
   -- word accesses are added to the count
   pub grow : before.memory.touches ≤ after.memory.touches
 

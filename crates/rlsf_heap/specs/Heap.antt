@@ -1,17 +1,18 @@
 -- The heap and its payloads, as contracts see them, and the steps that the calls make.
-use Rattle.std.specs.Prelude.{◌≡◌, ◌+◌, ◌≤◌, ℕ, List, length, Option, Some, None}
+use Rattle.std.specs.Prelude.{◌≡◌, ◌+◌, ◌≤◌, ◌<◌, ℕ, Bool, true, false, ◌&&◌, ◌||◌, leb, List, length, Option, Some, None}
 use Rattle.rlsf_base.specs.Ledger.{Entry, Extent, IsIssued}
 use Rattle.rlsf_base.specs.Changes.{IsIn}
 use Rattle.rlsf_base.specs.OpenSpace.{Home, home_of, IsAway}
-use Rattle.rlsf_base.specs.Out.{Change}
+use Rattle.rlsf_base.specs.Out.{Change, is_own}
 use Rattle.rlsf_base.specs.Piece.{Piece}
 use Rattle.rlsf_base.specs.declared.memory.range.Range.{Range}
 use Rattle.rlsf_base.specs.Range.{end_of, range_at}
 use Rattle.rlsf_base.specs.SizeClass.{IsValid}
-use Rattle.rlsf_base.specs.Space.{Space}
+use Rattle.rlsf_base.specs.Space.{Space, out_at}
 use Rattle.rlsf_model.specs.Lists.{IsIn as IsListed}
 use Rattle.rlsf_model.specs.Sized.{live_count}
 use Rattle.rlsf_model.specs.State.{State, Used, usable}
+use Rattle.rlsf_model.specs.WellFormed.{coverage, itself}
 use Rattle.rlsf_table.specs.Table.{Table}
 use Rattle.rlsf_blocks.specs.Laws.{read_from}
 use Rattle.rlsf_blocks.specs.StandsFor.{contents, StandsFor}
@@ -23,16 +24,45 @@ pub record Identity : Type 0 where
   pub ledger : ℕ
 
 -- a heap: which one it is, its memory, its class table, and its state of the reference model; the bytes of a payload that is out are
--- the last ones that the memory had there
+-- the last ones that the memory had there; and whether its memory's bytes are lent to it in ranges, so that some may not be its own
 pub record HeapView : Type 0 where
   pub identity : Identity
   pub memory : Space
   pub table : Table
   pub state : State
+  pub lent : Bool
 
 -- the heap by its fields
-abbrev pub heap_view : Space → Table → State → ℕ → HeapView
-heap_view m t s ledger = record { identity = record { home = home_of m; ledger = ledger }; memory = m; table = t; state = read_from m s }
+abbrev pub heap_view : Space → Table → State → ℕ → Bool → HeapView
+heap_view m t s ledger lent = record { identity = record { home = home_of m; ledger = ledger }; memory = m; table = t; state = read_from m s; lent = lent }
+
+-- an address in no chunk
+abbrev pub IsOutside : State → ℕ → Type 0
+IsOutside s a = coverage itself s.chunks a ≡ 0
+
+-- each byte outside of all chunks is the memory's own
+abbrev pub OwnsRest : Space → State → Type 0
+OwnsRest m s = (a : ℕ) → m.start ≤ a → IsOutside s a → is_own (out_at m a) ≡ true
+
+-- whether a byte is lent to a heap: it is the memory's own, or in a chunk
+abbrev pub is_lent_at : Space → State → ℕ → Bool
+is_lent_at m s a = leb m.start a && (is_own (out_at m a) || leb 1 (coverage itself s.chunks a))
+
+-- which bytes are lent to the heap
+unfoldable pub lent_bytes : HeapView → ℕ → Bool
+lent_bytes v = is_lent_at v.memory v.state
+
+-- each byte of a range is among these
+unfoldable pub AreAmong : (ℕ → Bool) → Range → Type 0
+AreAmong bytes r = (a : ℕ) → r.start ≤ a → a < end_of r → bytes a ≡ true
+
+-- each byte of a range is lent to the heap
+abbrev pub IsLent : HeapView → Range → Type 0
+IsLent v r = AreAmong (lent_bytes v) r
+
+-- a range is the heap's to use: any range of its memory is, unless bytes are lent to it in ranges
+abbrev pub IsUsable : HeapView → Range → Type 0
+IsUsable v r = v.lent ≡ true → IsLent v r
 
 -- a payload that is out: its heap, its address, its alignment, its bytes, and the changes of their states
 pub record PayloadView : Type 0 where
@@ -73,13 +103,15 @@ pub record AreIssued (s : State) (es : List Entry) : Type 0 where
   pub apart : (j k : ℕ) (v w : Extent) → IsIssued es j v → IsIssued es k w → v.addr ≡ w.addr → j ≡ k
 
 -- what is true of every heap's fields: the parameters are valid, memory and table represent the state, the ghost state has no bytes of
--- payloads, the live entries of the ledger are those of live payloads, and the count is that of the live payloads
-pub record IsHeap (fl_bits sl_bits fllen sllen : ℕ) (m : Space) (t : Table) (s : State) (es : List Entry) (count : ℕ) : Type 0 where
+-- payloads, the live entries of the ledger are those of live payloads, the count is that of the live payloads, and unless its bytes are lent to it
+-- in ranges, it owns those outside of all chunks
+pub record IsHeap (fl_bits sl_bits fllen sllen : ℕ) (m : Space) (t : Table) (s : State) (es : List Entry) (count : ℕ) (lent : Bool) : Type 0 where
   pub valid : IsValid fl_bits sl_bits fllen sllen
   pub stands : StandsFor fllen sllen (contents m t) (read_from m s)
   pub is_bare : bare s ≡ s
   pub tickets : AreIssued (read_from m s) es
   pub counted : count ≡ live_count (read_from m s)
+  pub rest : lent ≡ false → OwnsRest m s
 
 -- memory and class table represent the state, which is well-formed
 unfoldable pub Stands : ℕ → ℕ → HeapView → Type 0

@@ -3,6 +3,8 @@ pub mod Heap
 pub mod Frame
 pub mod Handover
 pub mod Kept
+pub mod Lending
+pub mod Loans
 pub mod Lends
 pub mod Reallocation
 pub mod Pools

@@ -1,5 +1,5 @@
 //! The heap: an allocator whose payloads leave its memory.
-ghost use Rattle.std.specs.Prelude.{[], Some, ◌≡◌, ◌≤◌, ◌+◌, ◌↔◌, None, length, IfErr, IfNone, IfOk, IfSome, IsOk, IsSome};
+ghost use Rattle.std.specs.Prelude.{[], false, Some, ◌≡◌, ◌≤◌, ◌+◌, ◌↔◌, None, length, IfErr, IfNone, IfOk, IfSome, IsOk, IsSome};
 ghost use Rattle.rlsf_base.specs.Changes.{IsAllOwn};
 ghost use Rattle.rlsf_base.specs.Ledger.{extent};
 ghost use Rattle.rlsf_base.specs.OpenSpace.{home_of, IsAway, IsOwned};
@@ -49,11 +49,13 @@ pub struct Heap<
     pub(crate) memory: OpenMemory,
     // Before the table, which is long: here it is beside the words that each call reads.
     pub(crate) live: usize,
+    // Whether the memory's bytes are lent to the heap in ranges: then some outside of all chunks may be out.
+    pub(crate) lent: bool,
     pub(crate) table: ClassTable<FLLEN, SLLEN>,
     pub(crate) state: GhostState,
     pub(crate) ledger: Ledger,
     // Of no element. A type that has an array beside a type parameter is known to be below 2^63 bytes, whatever else it holds.
-    bitmaps: [PhantomData<(FLBitmap, SLBitmap)>; 0],
+    pub(crate) bitmaps: [PhantomData<(FLBitmap, SLBitmap)>; 0],
 }
 
 impl<FLBitmap: BitPattern, SLBitmap: BitPattern, const FLLEN: usize, const SLLEN: usize> Model
@@ -62,9 +64,9 @@ impl<FLBitmap: BitPattern, SLBitmap: BitPattern, const FLLEN: usize, const SLLEN
 
     ghost Value = { HeapView };
 
-    ghost view = { λ h. heap_view h.memory h.table h.state.state h.ledger.name };
+    ghost view = { λ h. heap_view h.memory h.table h.state.state h.ledger.name h.lent };
 
-    ghost invariant = { λ h. IsHeap FLBitmap.width SLBitmap.width FLLEN SLLEN h.memory h.table h.state.state h.ledger.entries h.live };
+    ghost invariant = { λ h. IsHeap FLBitmap.width SLBitmap.width FLLEN SLLEN h.memory h.table h.state.state h.ledger.entries h.live h.lent };
 }
 
 impl<FLBitmap: BitPattern, SLBitmap: BitPattern, const FLLEN: usize, const SLLEN: usize> Heap<
@@ -73,7 +75,7 @@ impl<FLBitmap: BitPattern, SLBitmap: BitPattern, const FLLEN: usize, const SLLEN
     FLLEN,
     SLLEN,
 > {
-    ghost use Rattle.rlsf_heap.specs.Heap.{Stands, Steps};
+    ghost use Rattle.rlsf_heap.specs.Heap.{IsLent, Stands, Steps};
 
     /// Creates a heap that owns `memory` and has no pool. No byte of the memory may be out; each may be raw.
     ///
@@ -89,7 +91,7 @@ impl<FLBitmap: BitPattern, SLBitmap: BitPattern, const FLLEN: usize, const SLLEN
         ensures count { live_count result.state ≡ 0 }
         ensures memory { result.memory ≡ memory }
         ensures home { result.identity.home ≡ home_of memory }
-        ensures settled { memory.out ≡ [] → IsSettled result.memory }
+        ensures bytes { (memory.out ≡ [] → IsSettled result.memory) × (result.lent ≡ false) }
     {
         // Opens the memory's invariant for the prover: no address is 0, and each fits in a word.
         let _ = memory.start();
@@ -99,19 +101,21 @@ impl<FLBitmap: BitPattern, SLBitmap: BitPattern, const FLLEN: usize, const SLLEN
             state: GhostState::new(),
             ledger: Ledger::new(),
             live: 0,
+            lent: false,
             bitmaps: [],
         }
     }
 
-    /// Consumes the heap and returns its memory, as the heap leaves it. No byte of it is out.
+    /// Consumes the heap and returns its memory, as the heap leaves it. No byte of it is out, but for those that aren't lent to the heap.
     ///
     /// No payload may be live.
     pub fn into_memory(self) -> OpenMemory
         requires { live_count self.state ≡ 0 }
         ensures memory { result ≡ self.memory }
         ensures home { home_of result ≡ self.identity.home }
-        ensures own { IsAllOwn result.out }
-        ensures free { IsOwned result (range_of result) }
+        ensures own { self.lent ≡ false → IsAllOwn result.out }
+        ensures free { self.lent ≡ false → IsOwned result (range_of result) }
+        ensures lent { (r : Range) → IsLent self r → IsOwned result r }
     {
         let Heap {
             memory,
@@ -119,6 +123,7 @@ impl<FLBitmap: BitPattern, SLBitmap: BitPattern, const FLLEN: usize, const SLLEN
             state: _,
             ledger: _,
             live: _,
+            lent: _,
             bitmaps: _,
         } = self;
         memory
@@ -132,8 +137,9 @@ impl<FLBitmap: BitPattern, SLBitmap: BitPattern, const FLLEN: usize, const SLLEN
         ensures which { IsOk result ↔ (live_count self.state ≡ 0) }
         ensures memory { IfOk result (λ m. m ≡ self.memory) }
         ensures home { IfOk result (λ m. home_of m ≡ self.identity.home) }
-        ensures own { IfOk result (λ m. IsAllOwn m.out) }
-        ensures free { IfOk result (λ m. IsOwned m (range_of m)) }
+        ensures own { IfOk result (λ m. self.lent ≡ false → IsAllOwn m.out) }
+        ensures free { IfOk result (λ m. self.lent ≡ false → IsOwned m (range_of m)) }
+        ensures lent { IfOk result (λ m. (r : Range) → IsLent self r → IsOwned m r) }
         ensures same { IfErr result (λ h. h ≡ self) }
     {
         if self.live == 0 {
@@ -256,12 +262,15 @@ impl<FLBitmap: BitPattern, SLBitmap: BitPattern, const FLLEN: usize, const SLLEN
             state: _,
             ledger: _,
             live,
+            lent,
             bitmaps: _,
         } = self;
-        if live == 0 {
-            memory.free();
-        } else {
-            let _leaked = unsafe { ManuallyDrop::new_unchecked(memory) };
+        if !lent {
+            if live == 0 {
+                memory.free();
+                return;
+            }
         }
+        let _leaked = unsafe { ManuallyDrop::new_unchecked(memory) };
     }
 }

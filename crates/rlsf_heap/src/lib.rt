@@ -14,6 +14,8 @@ mod consistency;
 mod deallocation;
 mod handover;
 mod heap;
+mod lending;
+mod loan;
 mod payload;
 mod pools;
 mod reading;
@@ -26,5 +28,6 @@ mod thin_unknown_align;
 mod units;
 
 pub use heap::Heap;
+pub use loan::Loan;
 pub use payload::Payload;
 pub use thin::ThinPayload;

@@ -11,6 +11,7 @@ ghost use Rattle.rlsf_model.specs.Remove.{IsIdle, Removes};
 ghost use Rattle.rlsf_blocks.specs.Blocks.{walked};
 ghost use Rattle.rlsf_tlsf.specs.Steps.UsedBlocks.{has_used};
 ghost use Rattle.rlsf_heap.specs.Frame.{KeepsAllBounds, KeepsPayloads};
+ghost use Rattle.rlsf_heap.specs.Lending.{InsertsPool, KeepsPools};
 
 use crate::heap::Heap;
 use rlsf_base::memory::Range;
@@ -25,7 +26,7 @@ impl<FLBitmap: BitPattern, SLBitmap: BitPattern, const FLLEN: usize, const SLLEN
     FLLEN,
     SLLEN,
 > {
-    ghost use Rattle.rlsf_heap.specs.Heap.{Steps};
+    ghost use Rattle.rlsf_heap.specs.Heap.{IsUsable, Steps};
     ghost use Rattle.rlsf_heap.specs.Pools.{RemovesIfIdle};
     ghost use Rattle.rlsf_tlsf.specs.Sizing.{SizesPool};
 
@@ -44,10 +45,11 @@ impl<FLBitmap: BitPattern, SLBitmap: BitPattern, const FLLEN: usize, const SLLEN
     pub fn insert_free_block_ptr(&mut self, range: Range) -> Option<NonZeroUsize>
         requires lies_in { LiesIn range self.old.memory.start (length self.old.memory.bytes) }
         requires untouched { IsUntouched self.old.state.chunks range }
+        requires usable { IsUsable self.old range }
         ensures step { Steps FLLEN SLLEN self.new (Inserts FLLEN self.old.state range (reply result)) }
         ensures untouched { (r : Range) → IsUntouched self.old.state.chunks r → AreApart range r → IsUntouched self.new.state.chunks r }
-        ensures room { SizesPool FLLEN SLLEN range self.old.state self.new.state }
-        ensures bounds { KeepsAllBounds SLLEN self.old.state self.new.state }
+        ensures pool { InsertsPool self.old.state.chunks self.new.state.chunks range result }
+        ensures room { SizesPool FLLEN SLLEN range self.old.state self.new.state × KeepsAllBounds SLLEN self.old.state self.new.state }
         ensures refused { IfNone result (self.new.memory.bytes ≡ self.old.memory.bytes) }
         ensures frame { KeepsPayloads self.old self.new }
         ensures touches { self.new.memory.touches ≤ self.old.memory.touches + 13 * length (cut (max_pool_size FLLEN) (aligned_part range)) }
@@ -64,10 +66,11 @@ impl<FLBitmap: BitPattern, SLBitmap: BitPattern, const FLLEN: usize, const SLLEN
     pub fn insert_free_block(&mut self, range: Range)
         requires lies_in { LiesIn range self.old.memory.start (length self.old.memory.bytes) }
         requires untouched { IsUntouched self.old.state.chunks range }
+        requires usable { IsUsable self.old range }
         ensures step { Steps FLLEN SLLEN self.new (λ t. (taken : Option ℕ) × Inserts FLLEN self.old.state range taken t) }
         ensures untouched { (r : Range) → IsUntouched self.old.state.chunks r → AreApart range r → IsUntouched self.new.state.chunks r }
-        ensures room { SizesPool FLLEN SLLEN range self.old.state self.new.state }
-        ensures bounds { KeepsAllBounds SLLEN self.old.state self.new.state }
+        ensures pool { KeepsPools self.old.state.chunks self.new.state.chunks range }
+        ensures room { SizesPool FLLEN SLLEN range self.old.state self.new.state × KeepsAllBounds SLLEN self.old.state self.new.state }
         ensures refused { cut (max_pool_size FLLEN) (aligned_part range) ≡ [] → self.new.memory.bytes ≡ self.old.memory.bytes }
         ensures frame { KeepsPayloads self.old self.new }
         ensures touches { self.new.memory.touches ≤ self.old.memory.touches + 13 * length (cut (max_pool_size FLLEN) (aligned_part range)) }
@@ -89,7 +92,8 @@ impl<FLBitmap: BitPattern, SLBitmap: BitPattern, const FLLEN: usize, const SLLEN
     /// If there is a longest chunk, takes at most 13 word accesses for each chunk that it makes. Otherwise completes in constant time: at
     /// most 34 word accesses, whatever the pools contain.
     pub fn append_free_block_ptr(&mut self, range: Range) -> usize
-        requires { IsNext (range_of self.old.memory) self.old.state range }
+        requires next { IsNext (range_of self.old.memory) self.old.state range }
+        requires usable { IsUsable self.old range }
         ensures step { Steps FLLEN SLLEN self.new (Appends FLLEN self.old.state range result) }
         ensures untouched { (r : Range) → IsUntouched self.old.state.chunks r → AreApart range r → IsUntouched self.new.state.chunks r }
         ensures bounds { KeepsAllBounds SLLEN self.old.state self.new.state }

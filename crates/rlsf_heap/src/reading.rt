@@ -34,6 +34,13 @@ impl<FLBitmap: BitPattern, SLBitmap: BitPattern, const FLLEN: usize, const SLLEN
         self.live
     }
 
+    /// Returns whether the memory's bytes are lent to the heap in ranges.
+    pub fn is_lent(&self) -> bool
+        ensures { result ≡ self.now.lent }
+    {
+        self.lent
+    }
+
     /// Returns the address of the end of the chunk that begins at `addr`. This is the address just past its sentinel. The
     /// iteration over the chunk's blocks is not counted as word accesses.
     ///

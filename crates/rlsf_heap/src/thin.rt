@@ -16,7 +16,7 @@ use std::marker::{Model, PhantomData};
 
 /// The bytes of a payload whose place isn't known yet. The value takes no space.
 pub(crate) struct ThinBytes {
-    mark: PhantomData<()>,
+    pub(crate) mark: PhantomData<()>,
     pub(crate) ghost piece: { Piece },
 }
 

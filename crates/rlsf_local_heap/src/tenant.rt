@@ -111,7 +111,7 @@ impl<FLBitmap: BitPattern, SLBitmap: BitPattern, const FLLEN: usize, const SLLEN
             return false;
         };
         let heap = Box::into_inner(heap);
-        if heap.live() != 0 {
+        if heap.live() != 0 || heap.is_lent() {
             return false;
         }
         pool.deallocate_units(lease.end(heap.into_memory()));

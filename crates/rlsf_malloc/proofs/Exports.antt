@@ -20,12 +20,12 @@ use seplogic.Ra.Ura.{Ura}
 use types.Logic.{Logic}
 use Rattle.core.proofs.cell.Inside.{Good}
 use Rattle.rlsf_base.specs.Range.{range_at}
-use Rattle.rlsf_base.specs.contracts.memory.Memory.{the_row as memory}
+use Rattle.rlsf_base.specs.contracts.memory.open_memory.OpenMemory.{the_row as memory}
 use Rattle.rlsf_base.specs.contracts.memory.block.RawParts.{the_row as parts_row}
-use Rattle.rlsf_base.proofs.memory.Memory.from_raw_parts.Symbol as from_raw_parts
-use Rattle.rlsf_base.proofs.memory.Memory.from_raw_parts.Met.{met as from_raw_parts_met}
-use Rattle.rlsf_base.proofs.memory.block.RawParts.release.Symbol as release
-use Rattle.rlsf_base.proofs.memory.block.RawParts.release.Met.{met as release_met}
+use Rattle.rlsf_base.proofs.memory.open_memory.OpenMemory.over_addresses.Symbol as from_raw_parts
+use Rattle.rlsf_base.proofs.memory.open_memory.OpenMemory.over_addresses.Met.{met as from_raw_parts_met}
+use Rattle.rlsf_base.proofs.memory.block.RawParts.release_lent.Symbol as release
+use Rattle.rlsf_base.proofs.memory.block.RawParts.release_lent.Met.{met as release_met}
 use Rattle.rlsf_blocks.specs.Blocks.{walked}
 use Rattle.rlsf_blocks.specs.contracts.totals.Totals as totals_type
 use Rattle.rlsf_blocks.proofs.totals.Totals.TheLaws as totals_laws
@@ -36,13 +36,21 @@ use Rattle.rlsf_model.specs.Sized.{live_count}
 use Rattle.rlsf_heap.specs.Heap.{HeapView}
 use Rattle.rlsf_heap.specs.contracts.thin.ThinPayload as payload
 use Rattle.rlsf_heap.proofs.heap.Heap.TheLaws as heap_laws
+use Rattle.rlsf_heap.specs.contracts.loan.Loan as loan
+use Rattle.rlsf_heap.proofs.loan.Loan.TheLaws as loan_laws
+use Rattle.rlsf_heap.proofs.loan.Loan.from_raw.Symbol as loan_from_raw
+use Rattle.rlsf_heap.proofs.loan.Loan.from_raw.Met.{met as loan_from_raw_met}
+use Rattle.rlsf_malloc.specs.contracts.replies.Lending as lending
+use Rattle.rlsf_malloc.proofs.replies.Lending.TheLaws as lending_laws
+use Rattle.rlsf_malloc.proofs.replies.Lending.into_raw.Symbol as lending_into_raw
+use Rattle.rlsf_malloc.proofs.replies.Lending.into_raw.Met.{met as lending_into_raw_met}
 use Rattle.rlsf_heap.proofs.thin.ThinPayload.TheLaws as payload_laws
 use Rattle.rlsf_heap.proofs.thin.ThinPayload.from_raw.Symbol as from_raw
 use Rattle.rlsf_heap.proofs.thin.ThinPayload.from_raw.Met.{met as from_raw_met}
 use Rattle.rlsf_heap.proofs.thin.ThinPayload.into_raw.Symbol as into_raw
 use Rattle.rlsf_heap.proofs.thin.ThinPayload.into_raw.Met.{met as into_raw_met}
 use Rattle.rlsf_malloc.specs.Blocks.{AreTotals, IsCheckOf, IsListing}
-use Rattle.rlsf_malloc.specs.Calls.{Adds, Allocates, AllocatesZeroed, CanAdd, IsFresh, IsOver, IsReady, RemovesPool, aligned_for}
+use Rattle.rlsf_malloc.specs.Calls.{Allocates, AllocatesZeroed, IsFresh, IsOver, IsReady, OwnsLent, aligned_for}
 use Rattle.rlsf_malloc.specs.contracts.replies.Measured as measured
 use Rattle.rlsf_malloc.specs.contracts.replies.Resized as resized
 use Rattle.rlsf_malloc.proofs.replies.Measured.TheLaws as measured_laws
@@ -54,7 +62,7 @@ use Rattle.rlsf_malloc.proofs.replies.Resized.into_raw.Met.{met as resized_into_
 use Rattle.rlsf_malloc.proofs.HeapKinds.{Kind, row}
 use Rattle.rlsf_malloc.proofs.Outcomes.{fresh}
 use Rattle.rlsf_malloc.proofs.Payloads as does
-use Rattle.rlsf_malloc.proofs.Payloads.{payloads}
+use Rattle.rlsf_malloc.proofs.Payloads.{loans, payloads}
 use Rattle.rlsf_malloc.proofs.Templates.Begins
 use Rattle.rlsf_malloc.proofs.Templates.Ends
 use Rattle.rlsf_malloc.proofs.Templates.Gives1
@@ -67,6 +75,8 @@ use Rattle.rlsf_malloc.proofs.Templates.Trades1
 use Rattle.rlsf_malloc.proofs.Templates.Trades2
 use Rattle.rlsf_malloc.proofs.calls.add.Symbol as add
 use Rattle.rlsf_malloc.proofs.calls.add.Met.{met as add_met}
+use Rattle.rlsf_malloc.proofs.calls.append.Symbol as append
+use Rattle.rlsf_malloc.proofs.calls.append.Met.{met as append_met}
 use Rattle.rlsf_malloc.proofs.calls.malloc.Symbol as malloc
 use Rattle.rlsf_malloc.proofs.calls.malloc.Met.{met as malloc_met}
 use Rattle.rlsf_malloc.proofs.calls.allocate.Symbol as allocate
@@ -123,6 +133,18 @@ module _ (K : Kind) {M : Type 1} (𝓤 : Ura M) (𝓛 : Logic 𝓤) (𝓜 : Mode
   abbrev Resized : Ty
   Resized = lone resized.the_row.mir
 
+  abbrev Loan : Ty
+  Loan = lone loan.the_row.mir
+
+  abbrev Lending : Ty
+  Lending = lone lending.the_row.mir
+
+  loan_typed : (q : loan.the_row.Denot) (v : Val) → Is loan.the_row q (v ∷ []) → Good Loan v
+  loan_typed q v is = ((loan_laws.the_row_laws.lawful 𝓛).typed q _ is).0
+
+  lending_typed : (q : lending.the_row.Denot) (v : Val) → Is lending.the_row q (v ∷ []) → Good Lending v
+  lending_typed q v is = ((lending_laws.the_row_laws.lawful 𝓛).typed q _ is).0
+
   payload_typed : (q : payload.the_row.Denot) (v : Val) → Is payload.the_row q (v ∷ []) → Good Payload v
   payload_typed q v is = ((payload_laws.the_row_laws.lawful 𝓛).typed q _ is).0
 
@@ -144,8 +166,10 @@ module _ (K : Kind) {M : Type 1} (𝓤 : Ura M) (𝓛 : Logic 𝓤) (𝓜 : Mode
   CanEnd v = IsReady v × (live_count v.state ≡ 0) × (v.identity.home.start % 8 ≡ 0)
 
   pub ends : Wired 𝓡.env parts.code → Wired 𝓡.env release.code → (key : Callee)
-      → Proved Ends.exported (Ends.outer K IsReady IsEmpty CanEnd (λ v. v.identity.home) 𝓛) key (Ends.function (lone (row K).mir) (lone parts_row.mir) (parts.name args))
-  ends has_parts has_release key code = Ends.exports K IsReady IsEmpty CanEnd (λ v. v.identity.home) (λ v ready known. (ready, known.0, known.1)) 𝓤 𝓛 𝓜 𝓡
+      → Proved Ends.exported (Ends.outer K IsReady IsEmpty CanEnd (λ v. v.identity.home) (λ v. v.memory.out) OwnsLent 𝓛) key
+      (Ends.function (lone (row K).mir) (lone parts_row.mir) (parts.name args))
+  ends has_parts has_release key code = Ends.exports K IsReady IsEmpty CanEnd (λ v. v.identity.home) (λ v. v.memory.out) OwnsLent
+      (λ v ready known. (ready, known.0, known.1)) 𝓤 𝓛 𝓜 𝓡
       key (parts.name args) (λ v w is. ((row_laws.lawful 𝓛).typed v _ is).0) code (at_kind (parts_met 𝓤 𝓛 𝓜 𝓡 has_parts)) (release_met 𝓤 𝓛 𝓜 𝓡 has_release)
 
   pub mallocs : Wired 𝓡.env malloc.code → Wired 𝓡.env into_raw.code → (σ τ : Ty) (key : Callee)
@@ -209,26 +233,34 @@ module _ (K : Kind) {M : Type 1} (𝓤 : Ura M) (𝓛 : Logic 𝓤) (𝓜 : Mode
   abbrev IsChecked : HeapView → ℕ → ℕ → ℕ → HeapView → Type 0
   IsChecked v n k r w = IsCheckOf K.rows K.classes v (range_at n k) r × (w ≡ v)
 
-  abbrev IsRemoved : HeapView → ℕ → ℕ → ℕ → HeapView → Type 0
-  IsRemoved v n k r w = RemovesPool v (walked (range_at n k)) r w
-
   abbrev IsListed : HeapView → ℕ → ℕ → ℕ → List ℕ → ℕ → List ℕ → HeapView → Type 0
   IsListed v n k from was r now w = IsListing v (range_at n k) from was r now × (w ≡ v)
 
-  pub adds : Wired 𝓡.env add.code → (σ τ : Ty) (key : Callee)
-      → Proved (Lends2.exported usize) (Lends2.outer K IsReady usize CanAdd (Adds K.rows) 𝓛) key (Lends2.function σ τ (ty_int w64) (add.name args))
-  adds calls σ τ key code = Lends2.exports K IsReady usize CanAdd (Adds K.rows) 𝓤 𝓛 𝓜 𝓡 σ τ (ty_int w64) key (add.name args)
-      number_typed code (at_kind (add_met 𝓤 𝓛 𝓜 𝓡 calls))
+  pub adds : Wired 𝓡.env loan_from_raw.code → Wired 𝓡.env add.code → Wired 𝓡.env lending_into_raw.code → (σ τ : Ty) (key : Callee)
+      → Proved Trades1.exported (Trades1.outer K loans (does.adds K) 𝓛) key
+      (Trades1.function σ τ Loan Lending loan_from_raw.name (add.name args) lending_into_raw.name)
+  adds takes calls passes σ τ key code = Trades1.exports K loans (does.adds K) 𝓤 𝓛 𝓜 𝓡 σ τ Loan Lending
+      key loan_from_raw.name (add.name args) lending_into_raw.name loan_typed lending_typed code
+      (loan_from_raw_met 𝓤 𝓛 𝓜 𝓡 takes) (at_kind (add_met 𝓤 𝓛 𝓜 𝓡 calls)) (lending_into_raw_met 𝓤 𝓛 𝓜 𝓡 passes)
+
+  pub appends : Wired 𝓡.env loan_from_raw.code → Wired 𝓡.env append.code → Wired 𝓡.env lending_into_raw.code → (σ τ : Ty) (key : Callee)
+      → Proved Trades1.exported (Trades1.outer K loans (does.appends K) 𝓛) key
+      (Trades1.function σ τ Loan Lending loan_from_raw.name (append.name args) lending_into_raw.name)
+  appends takes calls passes σ τ key code = Trades1.exports K loans (does.appends K) 𝓤 𝓛 𝓜 𝓡 σ τ Loan Lending
+      key loan_from_raw.name (append.name args) lending_into_raw.name loan_typed lending_typed code
+      (loan_from_raw_met 𝓤 𝓛 𝓜 𝓡 takes) (at_kind (append_met 𝓤 𝓛 𝓜 𝓡 calls)) (lending_into_raw_met 𝓤 𝓛 𝓜 𝓡 passes)
 
   pub checks : Wired 𝓡.env check_in.code → (σ τ : Ty) (key : Callee)
       → Proved (Lends2.exported usize) (Lends2.outer K IsReady usize IsRowOf IsChecked 𝓛) key (Lends2.function σ τ (ty_int w64) (check_in.name args))
   checks calls σ τ key code = Lends2.exports K IsReady usize IsRowOf IsChecked 𝓤 𝓛 𝓜 𝓡 σ τ (ty_int w64) key (check_in.name args)
       number_typed code (at_kind (check_in_met 𝓤 𝓛 𝓜 𝓡 calls))
 
-  pub removes : Wired 𝓡.env remove_in.code → (σ τ : Ty) (key : Callee)
-      → Proved (Lends2.exported usize) (Lends2.outer K IsReady usize IsRowOf IsRemoved 𝓛) key (Lends2.function σ τ (ty_int w64) (remove_in.name args))
-  removes calls σ τ key code = Lends2.exports K IsReady usize IsRowOf IsRemoved 𝓤 𝓛 𝓜 𝓡 σ τ (ty_int w64) key (remove_in.name args)
-      number_typed code (at_kind (remove_in_met 𝓤 𝓛 𝓜 𝓡 calls))
+  pub removes : Wired 𝓡.env loan_from_raw.code → Wired 𝓡.env remove_in.code → Wired 𝓡.env lending_into_raw.code → (σ τ : Ty) (key : Callee)
+      → Proved Trades1.exported (Trades1.outer K loans (does.removes K) 𝓛) key
+      (Trades1.function σ τ Loan Lending loan_from_raw.name (remove_in.name args) lending_into_raw.name)
+  removes takes calls passes σ τ key code = Trades1.exports K loans (does.removes K) 𝓤 𝓛 𝓜 𝓡 σ τ Loan Lending
+      key loan_from_raw.name (remove_in.name args) lending_into_raw.name loan_typed lending_typed code
+      (loan_from_raw_met 𝓤 𝓛 𝓜 𝓡 takes) (at_kind (remove_in_met 𝓤 𝓛 𝓜 𝓡 calls)) (lending_into_raw_met 𝓤 𝓛 𝓜 𝓡 passes)
 
   pub totals : Wired 𝓡.env totals_in.code → (σ τ : Ty) (key : Callee)
       → Proved (Lends2.exported totals_type.the_row) (Lends2.outer K IsReady totals_type.the_row IsRowOf HasTotals 𝓛) key

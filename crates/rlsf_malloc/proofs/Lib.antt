@@ -3,9 +3,11 @@ mod Alignments
 pub mod AtAddresses
 pub mod Exports
 pub mod HeapKinds
+mod Lends
 mod Moved
 mod Outcomes
 pub mod Payloads
+mod PoolEnds
 mod Reallocated
 pub mod Steps
 pub mod Templates

@@ -3,7 +3,11 @@ use Rattle.std.proofs.Common.{◌≡◌, ◌≢◌, ℕ, ◌≤◌, refl, sym, s
 use Rattle.rlsf_heap.specs.Heap.{HeapView, PayloadView}
 use Rattle.rlsf_heap.specs.Thin.{owns_reply}
 use Rattle.rlsf_heap.specs.contracts.thin.ThinPayload as thin
-use Rattle.rlsf_malloc.specs.Calls.{Frees, IsAt, IsReady, IsUsable, aligned_for}
+use Rattle.rlsf_base.specs.Piece.{Piece}
+use Rattle.rlsf_heap.specs.Loans.{owns_loan}
+use Rattle.rlsf_heap.specs.contracts.loan.Loan as loan
+use Rattle.rlsf_malloc.specs.contracts.replies.Lending as lending
+use Rattle.rlsf_malloc.specs.Calls.{AddsLent, AppendsLent, CanAppend, CanLend, CanRemove, Frees, IsAt, IsReady, IsUsable, RemovesLent, aligned_for}
 use Rattle.rlsf_malloc.specs.Replies.{number_of}
 use Rattle.rlsf_malloc.specs.Resizing.{ResizesAligned, ResizesAny, ResizesInPlace}
 use Rattle.rlsf_malloc.specs.contracts.replies.Measured as measured
@@ -17,6 +21,9 @@ use Rattle.rlsf_malloc.proofs.Templates.Trades2.{Export as Trades2}
 
 abbrev pub payloads : Payloads
 payloads = record { Q = thin.the_row; D = PayloadView; owns = owns_reply; Makes = λ x d q. (q.addr ≡ x) × (q.of ≡ d) }
+
+abbrev pub loans : Payloads
+loans = record { Q = loan.the_row; D = Piece; owns = owns_loan; Makes = λ x d q. (q.addr ≡ x) × (q.of ≡ d) }
 
 -- the payload at an address, whose alignment P is true of
 abbrev IsAtSuch : (ℕ → Type 0) → HeapView → ℕ → PayloadView → Type 0
@@ -90,4 +97,46 @@ module _ (K : Kind) where
     asks = λ v d x n k q ready known made. can_resize (λ align. align ≡ aligned_for k) v d x q ready known made;
     packs = λ v d x n k q z w ready known made did.
         (z.payload.of, subst (λ (p : PayloadView). ResizesAligned K.classes v x p n k (number_of z) z.payload.of w) made.1 did, refl);
+  }
+
+  abbrev pub adds : Trades1 (row K) loans
+  adds = record {
+    S = λ v. IsReady v;
+    Z = lending.the_row;
+    num = λ z. z.number;
+    gives = λ z. owns_loan z.loan.of;
+    Fact = λ v d x n. CanLend v x n d;
+    Asks = λ v x q n. IsReady v × CanLend v x n q.of;
+    Post = λ v x q n z w. AddsLent K.rows v x n z.number z.loan.of w;
+    Outer = λ v d x n r w p. AddsLent K.rows v x n r p w;
+    asks = λ v d x n q ready known made. (ready, subst (λ (p : Piece). CanLend v x n p) (sym made.1) known);
+    packs = λ v d x n q z w ready known made did. (z.loan.of, did, refl);
+  }
+
+  abbrev pub appends : Trades1 (row K) loans
+  appends = record {
+    S = λ v. IsReady v;
+    Z = lending.the_row;
+    num = λ z. z.number;
+    gives = λ z. owns_loan z.loan.of;
+    Fact = λ v d x n. CanAppend v x n d;
+    Asks = λ v x q n. IsReady v × CanAppend v x n q.of;
+    Post = λ v x q n z w. AppendsLent K.rows v x n z.number z.loan.of w;
+    Outer = λ v d x n r w p. AppendsLent K.rows v x n r p w;
+    asks = λ v d x n q ready known made. (ready, subst (λ (p : Piece). CanAppend v x n p) (sym made.1) known);
+    packs = λ v d x n q z w ready known made did. (z.loan.of, did, refl);
+  }
+
+  abbrev pub removes : Trades1 (row K) loans
+  removes = record {
+    S = λ v. IsReady v;
+    Z = lending.the_row;
+    num = λ z. z.number;
+    gives = λ z. owns_loan z.loan.of;
+    Fact = λ v d x n. CanRemove v x n d;
+    Asks = λ v x q n. IsReady v × CanRemove v x n q.of;
+    Post = λ v x q n z w. RemovesLent v x n z.number z.loan.of w;
+    Outer = λ v d x n r w p. RemovesLent v x n r p w;
+    asks = λ v d x n q ready known made. (ready, subst (λ (p : Piece). CanRemove v x n p) (sym made.1) known);
+    packs = λ v d x n q z w ready known made did. (z.loan.of, did, refl);
   }

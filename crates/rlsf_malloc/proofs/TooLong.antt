@@ -8,7 +8,7 @@ use Rattle.rlsf_model.proofs.Choices.{choice-from_none}
 use Rattle.rlsf_heap.specs.Heap.{HeapView, PayloadView, Stands}
 use Rattle.rlsf_heap.specs.Thin.{reply_of}
 use Rattle.rlsf_malloc.specs.Calls.{Allocates, IsReady}
-use Rattle.rlsf_malloc.proofs.Outcomes.{same_heap}
+use Rattle.rlsf_malloc.proofs.Outcomes.{itself_heap}
 
 module _ (fllen sllen : ℕ) (v : HeapView) (stands : Stands fllen sllen v) (size align : ℕ) (long : 2 ^ (5 + fllen) < size + 48) where
   -- no free block is long enough
@@ -25,7 +25,7 @@ module _ (fllen sllen : ℕ) (v : HeapView) (stands : Stands fllen sllen v) (siz
   refused p none ready = record {
     no_layout = λ never. none;
     step = λ layout. subst (λ n. machine.Allocates sllen v.state size align (reply_of n) v.state) (sym none) (no_choice, refl);
-    heap = same_heap v v refl (refl, refl) ready;
+    heap = itself_heap v ready;
     at = record { start = refl; heap = λ some. absurd (some none); written = λ some. absurd (some none) };
     new = λ some. absurd (some none);
     sized = λ some. absurd (some none);

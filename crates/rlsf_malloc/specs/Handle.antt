@@ -1,7 +1,7 @@
 -- The heap behind a handle.
 use Rattle.std.specs.Borrow.{Fml, full_share}
 use Rattle.std.specs.Ptr.{Ptr, lies_at}
-use Rattle.std.specs.Prelude.{◌≡◌, ℕ, List, [], length}
+use Rattle.std.specs.Prelude.{◌≡◌, ℕ, List, length}
 use base.Fml.{fex, fsep}
 use denote.Builtin.{u16, u64}
 use prog.Memory.{size}
@@ -9,12 +9,15 @@ use denote.Param.{layout, number}
 use denote.RattleType.{RattleType}
 use denote.RawPtr.{◌+ₚ◌}
 use Rattle.rlsf_base.specs.OpenSpace.{Home, place_in}
+use Rattle.rlsf_base.specs.Out.{Change}
+use Rattle.rlsf_base.specs.Piece.{Piece}
 use Rattle.rlsf_base.specs.RawParts.{LiesAtBlock}
-use Rattle.rlsf_base.specs.Steps.Ownership.{bytes_at}
+use Rattle.rlsf_base.specs.Steps.Ownership.{lent_at}
 use Rattle.rlsf_base.specs.declared.memory.block.RawParts.{RawParts}
 use Rattle.rlsf_int.specs.contracts.impls.u16.U16BitPattern.TheImpl.{ghosts as ghosts16}
 use Rattle.rlsf_int.specs.contracts.impls.u64.U64BitPattern.TheImpl.{ghosts as ghosts64}
 use Rattle.rlsf_heap.specs.Heap.{PayloadView}
+use Rattle.rlsf_heap.specs.Loans.{owns_loan}
 use Rattle.rlsf_heap.specs.Thin.{owns_reply}
 use Rattle.rlsf_heap.specs.contracts.heap.Heap.{the_row}
 
@@ -42,6 +45,10 @@ HoldsBeside R p Y P F = fex ((v : R.Denot) × (y : Y) × P v y) (λ x. fsep (lie
 abbrev pub Gives : (R : RattleType) → Ptr → (R.Denot → PayloadView → Type 0) → Fml
 Gives R p P = HoldsBeside R p PayloadView P (λ v q. owns_reply q)
 
+-- a heap of the type R lies at the handle, and the caller owns bytes, such that P is true of both; or none, if their address is 0
+abbrev pub Returns : (R : RattleType) → Ptr → (R.Denot → Piece → Type 0) → Fml
+Returns R p P = HoldsBeside R p Piece P (λ v q. owns_loan q)
+
 -- the number of bytes of a handle of a heap of the type R
 abbrev pub handle_size : RattleType → ℕ
 handle_size R = size (layout R)
@@ -50,10 +57,10 @@ handle_size R = size (layout R)
 abbrev pub first_of : Home → Ptr
 first_of h = h.view.base.ptr +ₚ place_in h.view h.start
 
--- the parts of a memory, each byte of which has a value
-abbrev pub ArePartsOf : Home → RawParts → Type 0
-ArePartsOf h r = (r.base.ptr ≡ first_of h) × (r.start ≡ h.start) × LiesAtBlock r × (length r.bytes.bytes ≡ h.len) × (r.bytes.out ≡ [])
+-- the parts of a memory, with these changes of its bytes' states, of which P is true
+abbrev pub ArePartsOf : Home → List Change → Type 0 → RawParts → Type 0
+ArePartsOf h cs P r = (r.base.ptr ≡ first_of h) × (r.start ≡ h.start) × LiesAtBlock r × (length r.bytes.bytes ≡ h.len) × (r.bytes.out ≡ cs) × P
 
--- the bytes of a memory, where they lie, each with some value
-abbrev pub bytes_of : Home → Fml
-bytes_of h = fex ((bytes : List ℕ) × (length bytes ≡ h.len)) (λ x. bytes_at (first_of h) h.start x.0)
+-- of the bytes of a memory, where they lie, those that aren't out by these changes, of which P is true, each with some value
+abbrev pub rest_of : Home → List Change → Type 0 → Fml
+rest_of h cs P = fex ((bytes : List ℕ) × (length bytes ≡ h.len) × P) (λ x. lent_at (first_of h) h.start x.0 cs)

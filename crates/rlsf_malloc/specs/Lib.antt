@@ -2,5 +2,6 @@
 pub mod Blocks
 pub mod Calls
 pub mod Handle
+pub mod Ranges
 pub mod Replies
 pub mod Resizing

@@ -1,34 +1,37 @@
 //! The calls of a heap, over numbers and payloads.
 
-ghost use Rattle.std.specs.Prelude.{false, ◌%◌, ◌+◌, ◌<◌, ◌^◌, ◌≡◌, ◌≢◌};
+ghost use Rattle.std.specs.Prelude.{false, ◌%◌, ◌+◌, ◌-◌, ◌<◌, ◌≤◌, ◌^◌, ◌≡◌, ◌≢◌};
+ghost use Rattle.rlsf_base.specs.Range.{range_at};
 ghost use Rattle.rlsf_base.specs.SizeClass.{IsValid};
 ghost use Rattle.rlsf_model.specs.Sized.{live_count};
-ghost use Rattle.rlsf_malloc.specs.Calls.{Adds, Allocates, AllocatesZeroed, CanAdd, Frees, IsAt, IsOver, IsReady, IsUsable, aligned_for};
+ghost use Rattle.rlsf_base.specs.Addr.{reply, reply_of};
+ghost use Rattle.rlsf_malloc.specs.Calls.{AddsLent, AppendsLent, CanAppend, Allocates, AllocatesZeroed, CanLend, Frees, IsAllOut, IsAt, IsOver, IsReady, IsUsable, OwnsLent, aligned_for};
 ghost use Rattle.rlsf_malloc.specs.Handle.{ArePartsOf};
 
-use crate::replies::Measured;
-use rlsf_base::memory::{Layout, Memory, Range, RawParts};
-use rlsf_heap::{Heap, ThinPayload};
+use crate::replies::{Lending, Measured};
+use rlsf_base::memory::{Layout, OpenMemory, Range, RawParts};
+use rlsf_heap::{Heap, Loan, ThinPayload};
 use rlsf_int::BitPattern;
+use std::num::NonZeroUsize;
 
 /// Creates a heap over a memory, to which no range was added. The parameters must be valid, as for `Heap::new`.
 pub(crate) fn over<F: BitPattern, S: BitPattern, const FLLEN: usize, const SLLEN: usize>(
-    memory: Memory,
+    memory: OpenMemory,
 ) -> Heap<F, S, FLLEN, SLLEN>
-    requires { IsValid F.width S.width FLLEN SLLEN }
+    requires { IsValid F.width S.width FLLEN SLLEN × IsAllOut memory }
     ensures { IsOver memory result }
 {
-    Heap::new(memory.into_open())
+    Heap::over_lent(memory)
 }
 
-/// Consumes a heap of which no payload is live, and returns the parts of its memory.
+/// Consumes a heap of which no payload is live, and returns the parts of its memory. Bytes that aren't lent to it are out.
 pub(crate) fn parts<F: BitPattern, S: BitPattern, const FLLEN: usize, const SLLEN: usize>(
     heap: Heap<F, S, FLLEN, SLLEN>,
 ) -> RawParts
     requires { IsReady heap × (live_count heap.state ≡ 0) × (heap.identity.home.start % 8 ≡ 0) }
-    ensures { ArePartsOf heap.identity.home result }
+    ensures { ArePartsOf heap.identity.home heap.memory.out (OwnsLent heap) result }
 {
-    heap.into_memory().into_closed().into_raw_parts()
+    heap.into_memory().into_raw_parts()
 }
 
 /// Returns the alignment of a payload for which `align` was requested: 16 at least.
@@ -38,18 +41,69 @@ pub(crate) fn at_least_16(align: usize) -> usize
     if align < 16 { 16 } else { align }
 }
 
-/// Adds a range of the memory. Returns the number of bytes taken, or 0.
+/// Returns a number of bytes, or 0 if there is none.
+fn or_zero(bytes: Option<NonZeroUsize>) -> usize
+    ensures { reply bytes ≡ reply_of result }
+{
+    match bytes {
+        Some(number) => number.get(),
+        None => 0,
+    }
+}
+
+/// Returns what of a range is behind its first bytes.
+fn behind(range: Range, taken: usize) -> Range
+    requires few { taken ≤ range.len }
+    requires end { range.start + range.len < 2 ^ 64 }
+    ensures { result ≡ range_at (range.start + taken) (range.len - taken) }
+{
+    Range {
+        start: range.start + taken,
+        len: range.len - taken,
+    }
+}
+
+/// Adds a range of the caller's bytes. Returns the number of bytes from its start to the end of its last chunk, or 0, and the bytes behind these.
 pub(crate) fn add<F: BitPattern, S: BitPattern, const FLLEN: usize, const SLLEN: usize>(
     heap: &mut Heap<F, S, FLLEN, SLLEN>,
     start: usize,
+    loan: Loan,
     len: usize,
-) -> usize
-    requires { IsReady heap.old × CanAdd heap.old start len }
-    ensures { Adds FLLEN heap.old start len result heap.new }
+) -> Lending
+    requires { IsReady heap.old × CanLend heap.old start len loan.of }
+    ensures { AddsLent FLLEN heap.old start len result.number result.loan.of heap.new }
 {
-    match heap.insert_free_block_ptr(Range { start, len }) {
-        Some(taken) => taken.get(),
-        None => 0,
+    let range = Range { start, len };
+    // What it says of every memory: each address fits in a word.
+    let _ = heap.memory_ref().start();
+    heap.lend_loan(loan, range);
+    let number = or_zero(heap.insert_free_block_ptr(range));
+    let rest = behind(range, number);
+    Lending {
+        number,
+        loan: heap.reclaim_loan(rest),
+    }
+}
+
+/// Appends a range of the caller's bytes, which begins where a chunk ends. Returns the number of bytes taken, and the bytes behind these.
+pub(crate) fn append<F: BitPattern, S: BitPattern, const FLLEN: usize, const SLLEN: usize>(
+    heap: &mut Heap<F, S, FLLEN, SLLEN>,
+    start: usize,
+    loan: Loan,
+    len: usize,
+) -> Lending
+    requires { IsReady heap.old × CanAppend heap.old start len loan.of }
+    ensures { AppendsLent FLLEN heap.old start len result.number result.loan.of heap.new }
+{
+    let range = Range { start, len };
+    // What it says of every memory: each address fits in a word.
+    let _ = heap.memory_ref().start();
+    heap.lend_loan(loan, range);
+    let number = heap.append_free_block_ptr(range);
+    let rest = behind(range, number);
+    Lending {
+        number,
+        loan: heap.reclaim_loan(rest),
     }
 }
 

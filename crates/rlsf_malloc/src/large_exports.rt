@@ -5,21 +5,23 @@ ghost use Rattle.std.specs.Ptr.{room_at};
 ghost use Rattle.std.specs.Prelude.{◌≡◌, ◌≢◌, ◌%◌, ◌≤◌, ℕ, List, length};
 ghost use Rattle.rlsf_base.specs.Range.{range_at};
 ghost use Rattle.rlsf_base.specs.RawParts.{CanStart};
-ghost use Rattle.rlsf_base.specs.Steps.Ownership.{bytes_at};
+ghost use Rattle.rlsf_base.specs.Piece.{Piece};
+ghost use Rattle.rlsf_base.specs.Steps.Ownership.{IsInBlock};
+ghost use Rattle.rlsf_heap.specs.Loans.{owns_loan};
 ghost use Rattle.rlsf_blocks.specs.Blocks.{walked};
 ghost use Rattle.rlsf_model.specs.ChunkRows.{IsRow};
 ghost use Rattle.rlsf_model.specs.Sized.{live_count};
 ghost use Rattle.rlsf_heap.specs.Heap.{HeapView, PayloadView};
 ghost use Rattle.rlsf_heap.specs.Thin.{owns_reply};
 ghost use Rattle.rlsf_malloc.specs.Blocks.{AreTotals, IsCheckOf, IsListing};
-ghost use Rattle.rlsf_malloc.specs.Calls.{Adds, Allocates, AllocatesZeroed, CanAdd, Frees, IsAt, IsFresh, IsReady, IsUsable, RemovesPool, aligned_for};
-ghost use Rattle.rlsf_malloc.specs.Handle.{Gives, Holds, HoldsSome, bytes_of, handle_size, large};
+ghost use Rattle.rlsf_malloc.specs.Calls.{AddsLent, Allocates, AllocatesZeroed, AppendsLent, CanAppend, CanLend, CanRemove, Frees, IsAt, IsFresh, IsReady, IsUsable, OwnsLent, RemovesLent, aligned_for};
+ghost use Rattle.rlsf_malloc.specs.Handle.{Gives, Holds, HoldsSome, Returns, handle_size, rest_of, large};
 ghost use Rattle.rlsf_malloc.specs.Resizing.{ResizesAligned, ResizesAny, ResizesInPlace};
 
 use crate::{calls, pools, resizing};
-use rlsf_base::memory::Memory;
+use rlsf_base::memory::OpenMemory;
 use rlsf_blocks::Totals;
-use rlsf_heap::{Heap, ThinPayload};
+use rlsf_heap::{Heap, Loan, ThinPayload};
 use std::alloc::Global;
 use std::mem::size_of;
 
@@ -34,8 +36,8 @@ pub extern "C" fn rlsf_large_size() -> usize
     size_of::<Large>()
 }
 
-/// Creates a heap of the large kind at a handle, over the `len` bytes at `block`, whose addresses begin at `start`. No range of them is
-/// added yet. The bytes are the heap's from now on.
+/// Creates a heap of the large kind at a handle, over the `len` addresses from `start` on, the first of which is that of `block`. The heap owns no byte
+/// there until a range is added.
 #[unsafe(no_mangle)]
 pub unsafe extern "C" fn rlsf_large_init(
     heap: *mut u8,
@@ -44,33 +46,48 @@ pub unsafe extern "C" fn rlsf_large_init(
     start: usize,
     len: usize,
 )
-    ghost bytes: { List ℕ }
-    requires* { sem 𝓛 (room_at large heap) ∗ (sem 𝓛 (bytes_at block start bytes) ∗ ⌜ (length bytes ≡ len) × CanStart start len ⌝) }
-    ensures* { sem 𝓛 (HoldsSome large heap (λ after. IsFresh block start bytes after)) }
+    requires* { sem 𝓛 (room_at large heap) ∗ ⌜ CanStart start len × IsInBlock block ⌝ }
+    ensures* { sem 𝓛 (HoldsSome large heap (λ after. IsFresh block start len after)) }
 {
-    let memory = Memory::from_raw_parts(alloc, block, start, len);
+    let memory = OpenMemory::over_addresses(alloc, block, start, len);
     std::ptr::write(heap as *mut Large, calls::over(memory));
 }
 
-/// Ends a heap of which no payload is live. Its handle is room for one again, and its block's bytes are the caller's.
+/// Ends a heap of which no payload is live. Its handle is room for one again, and the bytes that it has are the caller's.
 #[unsafe(no_mangle)]
 pub unsafe extern "C" fn rlsf_large_end(heap: *mut u8)
     ghost before: { HeapView }
     requires* { sem 𝓛 (Holds large IsReady heap before) ∗ ⌜ (live_count before.state ≡ 0) × (before.identity.home.start % 8 ≡ 0) ⌝ }
-    ensures* { sem 𝓛 (room_at large heap) ∗ sem 𝓛 (bytes_of before.identity.home) }
+    ensures* { sem 𝓛 (room_at large heap) ∗ sem 𝓛 (rest_of before.identity.home before.memory.out (OwnsLent before)) }
 {
     let parts = calls::parts(std::ptr::read(heap as *const Large));
-    let _ = parts.release();
+    let _ = parts.release_lent();
 }
 
-/// Adds a range of the memory. Returns the number of bytes from its start to the end of its last chunk, or 0 if it makes no chunk.
+/// Adds a range of the caller's bytes. Returns the number of bytes from its start to the end of its last chunk, or 0 if it makes no chunk. These
+/// bytes are lent to the heap from now on, and those behind them are the caller's.
 #[unsafe(no_mangle)]
 pub unsafe extern "C" fn rlsf_large_add(heap: *mut u8, start: usize, len: usize) -> usize
-    ghost before: { HeapView }
-    requires* { sem 𝓛 (Holds large IsReady heap before) ∗ ⌜ CanAdd before start len ⌝ }
-    ensures* { sem 𝓛 (HoldsSome large heap (λ after. Adds 64 before start len result after)) }
+    ghost before: { HeapView × Piece }
+    requires* { sem 𝓛 (Holds large IsReady heap before.0) ∗ (sem 𝓛 (owns_loan before.1) ∗ ⌜ CanLend before.0 start len before.1 ⌝) }
+    ensures* { sem 𝓛 (Returns large heap (λ after back. AddsLent 64 before.0 start len result back after)) }
 {
-    calls::add(&mut *(heap as *mut Large), start, len)
+    let loan = Loan::from_raw(start);
+    let lending = calls::add(&mut *(heap as *mut Large), start, loan, len);
+    lending.into_raw()
+}
+
+/// Appends a range of the caller's bytes, which begins where a pool ends. Returns the number of bytes by which the pool grows, or 0. These bytes are
+/// lent to the heap from now on, and those behind them are the caller's.
+#[unsafe(no_mangle)]
+pub unsafe extern "C" fn rlsf_large_append(heap: *mut u8, start: usize, len: usize) -> usize
+    ghost before: { HeapView × Piece }
+    requires* { sem 𝓛 (Holds large IsReady heap before.0) ∗ (sem 𝓛 (owns_loan before.1) ∗ ⌜ CanAppend before.0 start len before.1 ⌝) }
+    ensures* { sem 𝓛 (Returns large heap (λ after back. AppendsLent 64 before.0 start len result back after)) }
+{
+    let loan = Loan::from_raw(start);
+    let lending = calls::append(&mut *(heap as *mut Large), start, loan, len);
+    lending.into_raw()
 }
 
 /// Allocates a payload of the alignment 16. Returns its address, or 0. The caller owns its bytes from now on, and the right to free
@@ -221,13 +238,15 @@ pub unsafe extern "C" fn rlsf_large_check(heap: *mut u8, start: usize, len: usiz
     pools::check_in(&mut *(heap as *mut Large), start, len)
 }
 
-/// Removes a range, which is one added range or several that follow each other, if no block in it is used. Returns 1 if it did, else 0; then
-/// nothing changes. No later call accesses the removed bytes, until they are added again.
+/// Removes a range, which is one added range or several that follow each other, if no block in it is used. Returns 1 if it did: its bytes are
+/// the caller's again. Else returns 0; then nothing changes.
 #[unsafe(no_mangle)]
 pub unsafe extern "C" fn rlsf_large_remove(heap: *mut u8, start: usize, len: usize) -> usize
-    ghost before: { HeapView }
-    requires* { sem 𝓛 (Holds large IsReady heap before) ∗ ⌜ IsRow before.state (walked (range_at start len)) ⌝ }
-    ensures* { sem 𝓛 (HoldsSome large heap (λ after. RemovesPool before (walked (range_at start len)) result after)) }
+    ghost before: { HeapView × Piece }
+    requires* { sem 𝓛 (Holds large IsReady heap before.0) ∗ (sem 𝓛 (owns_loan before.1) ∗ ⌜ CanRemove before.0 start len before.1 ⌝) }
+    ensures* { sem 𝓛 (Returns large heap (λ after back. RemovesLent before.0 start len result back after)) }
 {
-    pools::remove_in(&mut *(heap as *mut Large), start, len)
+    let none = Loan::from_raw(start);
+    let lending = pools::remove_in(&mut *(heap as *mut Large), start, none, len);
+    lending.into_raw()
 }

@@ -8,6 +8,7 @@
 mod calls;
 mod large_exports;
 mod pools;
+mod ranges;
 mod replies;
 mod resizing;
 mod small_exports;

@@ -5,11 +5,12 @@ ghost use Rattle.rlsf_base.specs.Range.{range_at};
 ghost use Rattle.rlsf_blocks.specs.Blocks.{walked};
 ghost use Rattle.rlsf_model.specs.ChunkRows.{IsRow};
 ghost use Rattle.rlsf_malloc.specs.Blocks.{AreTotals, IsCheckOf, IsListing};
-ghost use Rattle.rlsf_malloc.specs.Calls.{IsReady, RemovesPool};
+ghost use Rattle.rlsf_malloc.specs.Calls.{CanRemove, IsReady, RemovesLent};
 
+use crate::replies::Lending;
 use rlsf_base::memory::Range;
 use rlsf_blocks::{Totals, list, totals_of};
-use rlsf_heap::Heap;
+use rlsf_heap::{Heap, Loan};
 use rlsf_int::BitPattern;
 
 /// Returns the totals of the blocks in a range, which is complete contiguous chunks.
@@ -50,18 +51,26 @@ pub(crate) fn check_in<F: BitPattern, S: BitPattern, const FLLEN: usize, const S
     heap.is_consistent(Range { start, len }) as usize
 }
 
-/// Removes a range, which is complete contiguous chunks, and returns 1; or returns 0 if a block in it is used.
+/// Removes a range, which is complete contiguous chunks, and returns 1 and its bytes; or returns 0 if a block in it is used. `none` is no bytes.
 pub(crate) fn remove_in<F: BitPattern, S: BitPattern, const FLLEN: usize, const SLLEN: usize>(
     heap: &mut Heap<F, S, FLLEN, SLLEN>,
     start: usize,
+    none: Loan,
     len: usize,
-) -> usize
-    requires { IsReady heap.old × IsRow heap.old.state (walked (range_at start len)) }
-    ensures { RemovesPool heap.old (walked (range_at start len)) result heap.new }
+) -> Lending
+    requires { IsReady heap.old × CanRemove heap.old start len none.of }
+    ensures { RemovesLent heap.old start len result.number result.loan.of heap.new }
 {
-    if heap.try_remove_pool(Range { start, len }) {
-        1
+    let range = Range { start, len };
+    if heap.try_remove_pool(range) {
+        Lending {
+            number: 1,
+            loan: heap.reclaim_loan(range),
+        }
     } else {
-        0
+        Lending {
+            number: 0,
+            loan: none,
+        }
     }
 }

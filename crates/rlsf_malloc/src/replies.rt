@@ -2,10 +2,11 @@
 
 ghost use Rattle.std.specs.Borrow.{sem};
 ghost use Rattle.std.specs.Prelude.{◌≡◌};
+ghost use Rattle.rlsf_heap.specs.Loans.{owns_loan};
 ghost use Rattle.rlsf_heap.specs.Thin.{owns_reply};
 ghost use Rattle.rlsf_malloc.specs.Replies.{number_of};
 
-use rlsf_heap::ThinPayload;
+use rlsf_heap::{Loan, ThinPayload};
 
 /// A payload and the number of its usable bytes.
 pub struct Measured {
@@ -51,6 +52,26 @@ impl Resized {
     {
         let Resized { number, payload } = self;
         let _ = payload.into_raw();
+        number
+    }
+}
+
+/// Bytes that are the caller's again, or none, and a number.
+pub struct Lending {
+    /// The number.
+    pub number: usize,
+    /// The bytes.
+    pub loan: Loan,
+}
+
+impl Lending {
+    /// Passes the bytes to the caller, and returns the number.
+    pub(crate) fn into_raw(self) -> usize
+        ensures* handed { sem 𝓛 (owns_loan self.loan.of) }
+        ensures number { result ≡ self.number }
+    {
+        let Lending { number, loan } = self;
+        let _ = loan.into_raw();
         number
     }
 }

@@ -5,21 +5,23 @@ ghost use Rattle.std.specs.Ptr.{room_at};
 ghost use Rattle.std.specs.Prelude.{◌≡◌, ◌≢◌, ◌%◌, ◌≤◌, ℕ, List, length};
 ghost use Rattle.rlsf_base.specs.Range.{range_at};
 ghost use Rattle.rlsf_base.specs.RawParts.{CanStart};
-ghost use Rattle.rlsf_base.specs.Steps.Ownership.{bytes_at};
+ghost use Rattle.rlsf_base.specs.Piece.{Piece};
+ghost use Rattle.rlsf_base.specs.Steps.Ownership.{IsInBlock};
+ghost use Rattle.rlsf_heap.specs.Loans.{owns_loan};
 ghost use Rattle.rlsf_blocks.specs.Blocks.{walked};
 ghost use Rattle.rlsf_model.specs.ChunkRows.{IsRow};
 ghost use Rattle.rlsf_model.specs.Sized.{live_count};
 ghost use Rattle.rlsf_heap.specs.Heap.{HeapView, PayloadView};
 ghost use Rattle.rlsf_heap.specs.Thin.{owns_reply};
 ghost use Rattle.rlsf_malloc.specs.Blocks.{AreTotals, IsCheckOf, IsListing};
-ghost use Rattle.rlsf_malloc.specs.Calls.{Adds, Allocates, AllocatesZeroed, CanAdd, Frees, IsAt, IsFresh, IsReady, IsUsable, RemovesPool, aligned_for};
-ghost use Rattle.rlsf_malloc.specs.Handle.{Gives, Holds, HoldsSome, bytes_of, handle_size, small};
+ghost use Rattle.rlsf_malloc.specs.Calls.{AddsLent, Allocates, AllocatesZeroed, AppendsLent, CanAppend, CanLend, CanRemove, Frees, IsAt, IsFresh, IsReady, IsUsable, OwnsLent, RemovesLent, aligned_for};
+ghost use Rattle.rlsf_malloc.specs.Handle.{Gives, Holds, HoldsSome, Returns, handle_size, rest_of, small};
 ghost use Rattle.rlsf_malloc.specs.Resizing.{ResizesAligned, ResizesAny, ResizesInPlace};
 
 use crate::{calls, pools, resizing};
-use rlsf_base::memory::Memory;
+use rlsf_base::memory::OpenMemory;
 use rlsf_blocks::Totals;
-use rlsf_heap::{Heap, ThinPayload};
+use rlsf_heap::{Heap, Loan, ThinPayload};
 use std::alloc::Global;
 use std::mem::size_of;
 
@@ -43,11 +45,10 @@ pub unsafe extern "C" fn rlsf_small_init(
     start: usize,
     len: usize,
 )
-    ghost bytes: { List ℕ }
-    requires* { sem 𝓛 (room_at small heap) ∗ (sem 𝓛 (bytes_at block start bytes) ∗ ⌜ (length bytes ≡ len) × CanStart start len ⌝) }
-    ensures* { sem 𝓛 (HoldsSome small heap (λ after. IsFresh block start bytes after)) }
+    requires* { sem 𝓛 (room_at small heap) ∗ ⌜ CanStart start len × IsInBlock block ⌝ }
+    ensures* { sem 𝓛 (HoldsSome small heap (λ after. IsFresh block start len after)) }
 {
-    let memory = Memory::from_raw_parts(alloc, block, start, len);
+    let memory = OpenMemory::over_addresses(alloc, block, start, len);
     std::ptr::write(heap as *mut Small, calls::over(memory));
 }
 
@@ -56,20 +57,34 @@ pub unsafe extern "C" fn rlsf_small_init(
 pub unsafe extern "C" fn rlsf_small_end(heap: *mut u8)
     ghost before: { HeapView }
     requires* { sem 𝓛 (Holds small IsReady heap before) ∗ ⌜ (live_count before.state ≡ 0) × (before.identity.home.start % 8 ≡ 0) ⌝ }
-    ensures* { sem 𝓛 (room_at small heap) ∗ sem 𝓛 (bytes_of before.identity.home) }
+    ensures* { sem 𝓛 (room_at small heap) ∗ sem 𝓛 (rest_of before.identity.home before.memory.out (OwnsLent before)) }
 {
     let parts = calls::parts(std::ptr::read(heap as *const Small));
-    let _ = parts.release();
+    let _ = parts.release_lent();
 }
 
 /// As `rlsf_large_add`, for the small kind.
 #[unsafe(no_mangle)]
 pub unsafe extern "C" fn rlsf_small_add(heap: *mut u8, start: usize, len: usize) -> usize
-    ghost before: { HeapView }
-    requires* { sem 𝓛 (Holds small IsReady heap before) ∗ ⌜ CanAdd before start len ⌝ }
-    ensures* { sem 𝓛 (HoldsSome small heap (λ after. Adds 12 before start len result after)) }
+    ghost before: { HeapView × Piece }
+    requires* { sem 𝓛 (Holds small IsReady heap before.0) ∗ (sem 𝓛 (owns_loan before.1) ∗ ⌜ CanLend before.0 start len before.1 ⌝) }
+    ensures* { sem 𝓛 (Returns small heap (λ after back. AddsLent 12 before.0 start len result back after)) }
 {
-    calls::add(&mut *(heap as *mut Small), start, len)
+    let loan = Loan::from_raw(start);
+    let lending = calls::add(&mut *(heap as *mut Small), start, loan, len);
+    lending.into_raw()
+}
+
+/// As `rlsf_large_append`, for the small kind.
+#[unsafe(no_mangle)]
+pub unsafe extern "C" fn rlsf_small_append(heap: *mut u8, start: usize, len: usize) -> usize
+    ghost before: { HeapView × Piece }
+    requires* { sem 𝓛 (Holds small IsReady heap before.0) ∗ (sem 𝓛 (owns_loan before.1) ∗ ⌜ CanAppend before.0 start len before.1 ⌝) }
+    ensures* { sem 𝓛 (Returns small heap (λ after back. AppendsLent 12 before.0 start len result back after)) }
+{
+    let loan = Loan::from_raw(start);
+    let lending = calls::append(&mut *(heap as *mut Small), start, loan, len);
+    lending.into_raw()
 }
 
 /// As `rlsf_large_malloc`, for the small kind.
@@ -216,9 +231,11 @@ pub unsafe extern "C" fn rlsf_small_check(heap: *mut u8, start: usize, len: usiz
 /// As `rlsf_large_remove`, for the small kind.
 #[unsafe(no_mangle)]
 pub unsafe extern "C" fn rlsf_small_remove(heap: *mut u8, start: usize, len: usize) -> usize
-    ghost before: { HeapView }
-    requires* { sem 𝓛 (Holds small IsReady heap before) ∗ ⌜ IsRow before.state (walked (range_at start len)) ⌝ }
-    ensures* { sem 𝓛 (HoldsSome small heap (λ after. RemovesPool before (walked (range_at start len)) result after)) }
+    ghost before: { HeapView × Piece }
+    requires* { sem 𝓛 (Holds small IsReady heap before.0) ∗ (sem 𝓛 (owns_loan before.1) ∗ ⌜ CanRemove before.0 start len before.1 ⌝) }
+    ensures* { sem 𝓛 (Returns small heap (λ after back. RemovesLent before.0 start len result back after)) }
 {
-    pools::remove_in(&mut *(heap as *mut Small), start, len)
+    let none = Loan::from_raw(start);
+    let lending = pools::remove_in(&mut *(heap as *mut Small), start, none, len);
+    lending.into_raw()
 }

@@ -1,5 +1,5 @@
 -- A payload has another size: its block, the other blocks, and its bytes, which are the memory's own.
-use Rattle.std.proofs.Common.{◌≡◌, ◌≢◌, ℕ, ◌≤◌, ◌<◌, Some, arith, refl, sym, ◌∙◌, ap}
+use Rattle.std.proofs.Common.{◌≡◌, ◌≢◌, ℕ, ◌≤◌, ◌<◌, Some, arith, refl, sym, subst, ◌∙◌, ap}
 use Rattle.rlsf_base.specs.OpenSpace.{IsOwned, SameOwn}
 use Rattle.rlsf_base.specs.Range.{end_of}
 use Rattle.rlsf_base.specs.Space.{Space, range_of}
@@ -10,12 +10,13 @@ use Rattle.rlsf_model.specs.Release.{released}
 use Rattle.rlsf_model.specs.Run.{reallocate}
 use Rattle.rlsf_model.specs.State.{State, Used, Holds, IsLive, usable}
 use Rattle.rlsf_model.proofs.Changes.{IsIn-others}
+use Rattle.rlsf_model.proofs.Chunks.{chunks-reallocated}
 use Rattle.rlsf_model.proofs.Live.{other_payloads_stay, reallocated_is_live}
 use Rattle.rlsf_model.proofs.Payloads.{IsUsed-after_start}
 use Rattle.rlsf_model.proofs.Releases.{IsWellFormed-released}
 use Rattle.rlsf_table.specs.Table.{Table}
 use Rattle.rlsf_blocks.specs.StandsFor.{contents, StandsFor}
-use Rattle.rlsf_blocks.proofs.Words.Apart.{Has, used_in_memory, used_used}
+use Rattle.rlsf_blocks.proofs.Words.Apart.{Has, home_of_used, used_in_memory, used_used}
 use Rattle.rlsf_blocks.proofs.Words.NeverOut.{here_apart-in, here_released}
 
 module _ {fllen sllen : ℕ} {m : Space} {table : Table} {s : State} (v : StandsFor fllen sllen (contents m table) s) (u : Used) (i : IsIn u s.used) (size to : ℕ) {t : State}
@@ -60,4 +61,11 @@ module _ {fllen sllen : ℕ} {m : Space} {table : Table} {s : State} (v : Stands
         other (other_place y j (ap (λ (z : Used). z.payload) same_block ∙ holds_new.1))
 
     pub own_new : IsOwned n (usable new)
-    own_new = own-there m n (usable new) from same (here_apart-in m (IsWellFormed-released v.well_formed u i) (here_released v u i own) (usable new) from apart_from)
+    own_new =
+        let home = home_of_used w.well_formed new holds_new.0 in
+        let after = IsUsed-after_start new (w.well_formed.used new holds_new.0) in
+        let within = (w.well_formed.used new holds_new.0).within in
+        let is_chunk = subst (IsIn home.chunk) (chunks-reallocated sllen s t u.payload size (Some to) step) home.is_chunk in
+        own-there m n (usable new) from same
+        (here_apart-in m (IsWellFormed-released v.well_formed u i) (here_released v u i own) (usable new) from home.chunk is_chunk (omega (arith, home.from, after))
+        (omega (arith, home.to, within, after)) apart_from)

@@ -2,6 +2,7 @@
 
 ghost use Rattle.std.specs.Prelude.{◌≡◌, ◌≤◌, ◌+◌, ◌*◌, length, IfNone, IfSome, IsSome};
 ghost use Rattle.rlsf_base.specs.Addr.{reply};
+ghost use Rattle.rlsf_base.specs.OpenSpace.{IsOwned};
 ghost use Rattle.rlsf_base.specs.Space.{range_of};
 ghost use Rattle.rlsf_model.specs.Allocate.{Allocates};
 ghost use Rattle.rlsf_model.specs.ChunkRows.{IsRow};
@@ -129,6 +130,7 @@ pub fn insert_in<const FLLEN: usize, const SLLEN: usize>(
 ) -> Option<NonZeroUsize>
     requires core { IsCore FLLEN SLLEN memory.old table.old state.old.state }
     requires fresh { IsFresh (range_of memory.old) (read_from memory.old state.old.state) range }
+    requires own { IsOwned memory.old range }
     ensures left { LeavesCore FLLEN SLLEN memory.old memory.new table.new state.old.state state.new.state (insert_cost FLLEN range) }
     ensures step { Inserts FLLEN (read_from memory.old state.old.state) range (reply result) (read_from memory.new state.new.state) }
     ensures result { IsInserted FLLEN SLLEN range (read_from memory.old state.old.state) (read_from memory.new state.new.state) }
@@ -151,6 +153,7 @@ pub fn append_in<const FLLEN: usize, const SLLEN: usize>(
 ) -> usize
     requires core { IsCore FLLEN SLLEN memory.old table.old state.old.state }
     requires next { IsNext (range_of memory.old) (read_from memory.old state.old.state) range }
+    requires own { IsOwned memory.old range }
     ensures left { LeavesCore FLLEN SLLEN memory.old memory.new table.new state.old.state state.new.state (append_cost FLLEN range) }
     ensures step { Appends FLLEN (read_from memory.old state.old.state) range result (read_from memory.new state.new.state) }
     ensures result { IsAppended range (read_from memory.old state.old.state) (read_from memory.new state.new.state) }

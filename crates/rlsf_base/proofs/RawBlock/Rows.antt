@@ -91,7 +91,7 @@ module _ {M : Type 1} {𝓤 : Ura M} (𝓛 : Logic 𝓤) (b : ℕ) where
       λ i. fsep (byte_in (first i) x b o) (others i)
 
   -- of bytes that are all out, nothing is held
-  held-gone : (is : ℕ → Kept) (k : ℕ) (xs : List ℕ) (o : ℕ) → ((j : ℕ) → k ≤ j → j < k + length xs → is j ≡ out)
+  pub held-gone : (is : ℕ → Kept) (k : ℕ) (xs : List ℕ) (o : ℕ) → ((j : ℕ) → k ≤ j → j < k + length xs → is j ≡ out)
       → ent 𝓤 (emp 𝓤) (sem 𝓛 (held is k xs b o))
   held-gone is k [] o h = id⊢ 𝓤 (emp 𝓤)
   held-gone is k (x ∷ xs) o h =

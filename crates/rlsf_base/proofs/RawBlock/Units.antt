@@ -76,6 +76,16 @@ unit-all cs skip len u own = elim (cases_lt (u * 16) skip) [
   ]
 ]
 
+-- where each byte is out, it has none
+pub unit-gone : (cs : List Change) (skip len u : ℕ) → IsOut cs 0 len → own_unit cs skip len u ≡ false
+unit-gone cs skip len u gone = elim (cases_lt (u * 16) skip) [
+  | inl before ↦ no-and _ _ (in_run-before skip len (u * 16) before)
+  | inr behind ↦ elim (cases_lt (u * 16) (skip + len)) [
+    | inl inside ↦ ap (λ t. begins_in skip len u && is_own t) (gone (u * 16 - skip) (omega arith) (omega (arith, behind, inside))) ∙ and-false (begins_in skip len u)
+    | inr past ↦ no-and _ _ (in_run-behind skip len (u * 16) past)
+  ]
+]
+
 -- in no bytes no unit begins
 pub unit-nowhere : (cs : List Change) (skip u : ℕ) → own_unit cs skip 0 u ≡ false
 unit-nowhere cs skip u = elim (cases_lt (u * 16) skip) [

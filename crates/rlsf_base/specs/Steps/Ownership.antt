@@ -1,5 +1,5 @@
 -- What the parts of a memory own and lend.
-use Rattle.std.specs.Prelude.{ℕ, zero, suc, ◌+◌, ◌-◌, ◌*◌, ◌/◌, ◌%◌, ◌^◌, Bool, true, false, ◌&&◌, eqb, if◌then◌else◌, List, [], ◌∷◌}
+use Rattle.std.specs.Prelude.{◌≡◌, ℕ, zero, suc, ◌+◌, ◌-◌, ◌*◌, ◌/◌, ◌%◌, ◌^◌, Bool, true, false, ◌&&◌, eqb, if◌then◌else◌, List, [], ◌∷◌}
 use Rattle.std.specs.Prelude.{length}
 use base.Fraction.{full_share}
 use base.Fml.{Lft, Fml, ftrue, ffalse, fsep, fwand, flt, froom}
@@ -83,6 +83,10 @@ deed_owns token (block_ptr b o) units skip len =
     (fwand (froom (bytes_ty len) b (skip + o)) (fwand (ways_of (begins_in skip len) 0 units b o) (froom (units_ty units) b o)))
 deed_owns token null_ptr units skip len = ftrue
 
+-- the place in a block to which a pointer points: it isn't null
+abbrev pub IsInBlock : Ptr → Type 0
+IsInBlock p = (b : ℕ) × (o : ℕ) × (p ≡ block_ptr b o)
+
 -- room for count units from the unit first of the block at p on
 abbrev pub units_own : Ptr → ℕ → ℕ → Fml
 units_own (block_ptr b o) first count = froom (units_ty count) b (first * 16 + o)
@@ -91,6 +95,10 @@ units_own null_ptr first count = ffalse
 -- the units of the caller's block of len bytes whose first byte has the address start: none where start is no multiple of 16
 abbrev pub units_from : ℕ → ℕ → ℕ
 units_from start len = units_in start 0 len
+
+-- of the bytes bs at p, whose addresses begin at start, those that aren't out by these changes; where start is a multiple of 16, with the ways of their units
+abbrev pub lent_at : Ptr → ℕ → List ℕ → List Change → Fml
+lent_at p start bs cs = bytes_own p 0 bs cs (units_from start (length bs))
 
 -- the bytes bs at p, whose addresses begin at start; where start is a multiple of 16, with the ways of their units
 abbrev pub bytes_at : Ptr → ℕ → List ℕ → Fml

@@ -4,8 +4,8 @@ ghost use Rattle.std.specs.Borrow.{sem};
 ghost use base.Fml.{ftrue};
 ghost use denote.RawPtr.{Ptr, null_ptr, ◌+ₚ◌};
 ghost use Rattle.rlsf_base.specs.Out.{Change, kept_at};
-ghost use Rattle.rlsf_base.specs.Changes.{IsIn, IsOwn, came_raw};
-ghost use Rattle.rlsf_base.specs.Steps.Ownership.{bytes_at, bytes_own, bytes_lent, deed_owns, room_at, units_for, units_from, units_own};
+ghost use Rattle.rlsf_base.specs.Changes.{IsIn, IsOwn, came_raw, left};
+ghost use Rattle.rlsf_base.specs.Steps.Ownership.{IsInBlock, bytes_at, bytes_own, bytes_lent, deed_owns, lent_at, room_at, units_for, units_from, units_own};
 
 use std::alloc::Allocator;
 use std::marker::{Model, PhantomData, Send, Sync};
@@ -165,6 +165,17 @@ pub(crate) unsafe fn adopt_room(block: *mut u8, start: usize, len: usize) -> Byt
     Bytes { mark: PhantomData }
 }
 
+/// Returns the owner of none of the `len` bytes at `block`, which are to have the addresses from `start` on: all are out.
+pub(crate) fn adopt_none(block: *mut u8, start: usize, len: usize) -> Bytes
+    requires { IsInBlock block × (len < 2 ^ 63) }
+    ensures { (result.at ≡ block) × (result.skip ≡ 0) × (length result.bytes ≡ len) × (result.out ≡ left 0 len []) × (result.units ≡ units_from start len) }
+{
+    let _ = block;
+    let _ = start;
+    let _ = len;
+    Bytes { mark: PhantomData }
+}
+
 /// What a memory was made of: its block, its addresses and its bytes. It owns the bytes, and `release` or `release_room`
 /// hands them to the caller.
 pub struct RawParts {
@@ -185,6 +196,22 @@ impl RawParts {
     pub fn release(self) -> *mut u8
         requires { (self.bytes.at ≡ self.base.ptr) × (self.bytes.skip ≡ 0) × (self.bytes.out ≡ []) × (self.bytes.units ≡ units_from self.start (length self.bytes.bytes)) }
         ensures* handed { sem 𝓛 (bytes_at result self.start self.bytes.bytes) }
+        ensures block { result ≡ self.base.ptr }
+    {
+        let RawParts {
+            base,
+            start: _,
+            len: _,
+            bytes,
+        } = self;
+        let Bytes { mark: _ } = bytes;
+        base.ptr
+    }
+
+    /// Returns the block. Of its bytes those that aren't out are the caller's from now on.
+    pub fn release_lent(self) -> *mut u8
+        requires { LiesAtBlock self }
+        ensures* handed { sem 𝓛 (lent_at result self.start self.bytes.bytes self.bytes.out) }
         ensures block { result ≡ self.base.ptr }
     {
         let RawParts {

@@ -2,14 +2,14 @@
 ghost use Rattle.std.specs.Prelude.{◌≡◌, ℕ, List, [], ◌%◌, length};
 ghost use denote.RawPtr.{◌+ₚ◌};
 ghost use Rattle.std.specs.Borrow.{sem};
-ghost use Rattle.rlsf_base.specs.Changes.{IsAllOwn, IsOwn};
-ghost use Rattle.rlsf_base.specs.RawParts.{CanStart, LiesAtBlock};
+ghost use Rattle.rlsf_base.specs.Changes.{IsAllOwn, IsOwn, left};
+ghost use Rattle.rlsf_base.specs.RawParts.{CanStart, LiesAtBlock, TakesParts};
 ghost use Rattle.rlsf_base.specs.Space.{range_of};
-ghost use Rattle.rlsf_base.specs.OpenSpace.{place_in, IsOwned};
-ghost use Rattle.rlsf_base.specs.Steps.Ownership.{bytes_at, room_at, units_from};
+ghost use Rattle.rlsf_base.specs.OpenSpace.{place_in, IsAway, IsOwned};
+ghost use Rattle.rlsf_base.specs.Steps.Ownership.{IsInBlock, bytes_at, room_at, units_from};
 
 use super::Memory;
-use super::block::{Base, Bytes, RawParts, adopt, adopt_room};
+use super::block::{Base, Bytes, RawParts, adopt, adopt_none, adopt_room};
 use super::counters::Counters;
 use super::open_memory::OpenMemory;
 use super::zeroed::no_supplier;
@@ -42,12 +42,41 @@ impl OpenMemory {
         OpenMemory::over(alloc, block, start, len, bytes)
     }
 
-    /// Consumes the memory and returns its parts, with the first byte as the first of the block. `release_room` of the parts
-    /// passes the room to the caller. A block of the system is never deallocated.
+    /// Creates a memory of the `len` addresses from `start` on, of which it owns no byte: all are out. The byte at `start` is to
+    /// lie at `block`, which may not be null. No byte there has to be accessible.
     ///
-    /// No byte may be out, and the address of the first byte must be a multiple of 8.
+    /// Bytes are lent to the memory by `put_back` or `put_room`, as a part that `Part::from_raw` makes of the caller's bytes at a
+    /// range. `take_out` and `into_raw` of the part return them.
+    ///
+    /// `start` must be a multiple of 8 and not zero, `start + len` must not be past the greatest address, and `len` must be below
+    /// 2^59.
+    pub fn over_addresses(alloc: Global, block: *mut u8, start: usize, len: usize) -> OpenMemory
+        requires bounds { CanStart start len }
+        requires some { IsInBlock block }
+        ensures start { result.start ≡ start }
+        ensures len { length result.bytes ≡ len }
+        ensures counts { (result.touches ≡ 0) × (result.copied ≡ 0) }
+        ensures block { (result.view.base.ptr ≡ block) × (place_in result.view start ≡ 0) }
+        ensures away { IsAway result (range_of result) }
+        ensures out { result.out ≡ left 0 len [] }
+    {
+        let bytes = adopt_none(block, start, len);
+        OpenMemory::over(alloc, block, start, len, bytes)
+    }
+
+    /// Does nothing. Its contract states that `Part::from_raw` can make a part of the caller's bytes at this memory's addresses.
+    pub fn takes_parts(&self)
+        ensures { TakesParts self.now }
+    {
+        let _ = self.shift.wrapping_neg();
+    }
+
+    /// Consumes the memory and returns its parts, with the first byte as the first of the block. `release_room` of the parts
+    /// passes the room to the caller, if no byte is out, and `release_lent` the bytes that aren't. A block of the system is never
+    /// deallocated.
+    ///
+    /// The address of the first byte must be a multiple of 8.
     pub fn into_raw_parts(self) -> RawParts
-        requires own { IsOwned self (range_of self) }
         requires start { self.start % 8 ≡ 0 }
         ensures base { result.base.ptr ≡ self.view.base.ptr +ₚ place_in self.view self.start }
         ensures start { result.start ≡ self.start }
@@ -55,7 +84,7 @@ impl OpenMemory {
         ensures block { LiesAtBlock result }
         ensures bytes { result.bytes.bytes ≡ self.bytes }
         ensures out { result.bytes.out ≡ self.out }
-        ensures own { IsOwn result.bytes.out 0 result.len }
+        ensures own { IsOwned self (range_of self) → IsOwn result.bytes.out 0 result.len }
     {
         let start = self.start();
         let len = self.len();

@@ -2,6 +2,7 @@
 use Rattle.std.proofs.Common.{◌≡◌, ◌≢◌, ℕ, ◌+◌, ◌≤◌, ◌⊎◌, List, ◌∷◌, arith, inl, inr, sym, ◌∙◌, ap, subst, refl}
 use Rattle.rlsf_base.specs.declared.memory.range.Range.{Range}
 use Rattle.rlsf_base.specs.Range.{end_of}
+use Rattle.rlsf_base.specs.OpenSpace.{IsOwned}
 use Rattle.rlsf_base.specs.Space.{Space, range_of, word_at}
 use Rattle.rlsf_table.specs.Table.{Table}
 use Rattle.rlsf_blocks.specs.Steps.Pool.{IsAdded, opened}
@@ -19,7 +20,7 @@ use Rattle.rlsf_model.proofs.Coverage.{covers-inside, coverage-IsIn}
 
 module _ {fllen sllen : ℕ} {m n : Space} {table changed : Table} {s : State} (old : StandsFor fllen sllen (contents m table) s) (c : Range) (whole : IsWhole c)
     (room : 64 ≤ c.len)
-    (fresh : (a : ℕ) → Has c a → coverage itself s.chunks a ≡ 0) (added : IsAdded fllen sllen m n changed s.free c) where
+    (fresh : (a : ℕ) → Has c a → coverage itself s.chunks a ≡ 0) (owned : IsOwned m c) (added : IsAdded fllen sllen m n changed s.free c) where
   w : IsWellFormed fllen sllen (range_of m) s
   w = old.well_formed
 
@@ -49,7 +50,10 @@ module _ {fllen sllen : ℕ} {m n : Space} {table changed : Table} {s : State} (
           free_still = free_still;
           chunk_still = chunk_still;
           table = added.table;
-          own = old.own;
+          own = λ a from unlent d i low high. elim (chunks d i) [
+            | inl same ↦ owned a (omega (arith, low, ap (λ (r : Range). r.start) same)) (omega (arith, high, ap (λ (r : Range). end_of r) same))
+            | inr j ↦ old.own a from unlent d j low high
+          ];
         }) t_well_formed
       where
         alone : Before s c.start → ⊥

@@ -1,11 +1,12 @@
 -- The chunks of an inserted range are made one after another.
-use Rattle.rlsf_blocks.proofs.Words.NeverOut.{here_clear}
 use Rattle.std.proofs.Common.{◌≡◌, ◌≢◌, ℕ, suc, ◌+◌, ◌-◌, ◌<◌, ◌≤◌, List, [], ◌∷◌, ◌*◌, length, Option, Some, None, arith, inl, inr, refl, sym, ◌∙◌, ap, subst}
 use mathlib.Core.Path.{ap₂}
 use Rattle.rlsf_base.specs.declared.memory.range.Range.{Range}
 use Rattle.rlsf_base.specs.Range.{end_of, range_at}
 use Rattle.rlsf_base.specs.Sizes.{max_pool_size}
+use Rattle.rlsf_base.specs.OpenSpace.{IsOwned}
 use Rattle.rlsf_base.specs.Space.{Space, range_of}
+use Rattle.rlsf_base.proofs.Numbers.Roundings.{round32-le}
 use Rattle.rlsf_table.specs.Counts.{Costs}
 use Rattle.rlsf_table.specs.Table.{Table}
 use Rattle.rlsf_model.specs.Insert.{aligned_part, body, bytes_taken, cut, end_of_last, Inserts, IsFresh, with_chunk, with_chunks}
@@ -94,8 +95,15 @@ module _ {fllen sllen : ℕ} {m0 : Space} {table0 : Table} {s : State} (v : Stan
         ∷ cut (max_pool_size fllen) (range_at (start + first_length (max_pool_size fllen) left) (left - first_length (max_pool_size fllen) left)))
     new = subst (AreNew fllen sllen (range_of m) filled.now) more filled.new
 
-    pub IsNewChunk-next : IsNewChunk fllen sllen m filled.now (range_at start (first_length (max_pool_size fllen) left))
-    IsNewChunk-next =
+    -- which is the memory's own, where the range was
+    pub IsOwned-next : IsOwned m0 r → IsOwned m (range_at start (first_length (max_pool_size fllen) left))
+    IsOwned-next owned a low high =
+        let shorter : first_length (max_pool_size fllen) left ≤ left = first_length-le (max_pool_size fllen) left in
+        let up = round32-le r.start in
+        filled.stays.own a (omega (arith, low, filled.from, fresh.lies_in.0)) ∙ owned a (omega (arith, low, filled.from)) (omega (arith, high, filled.to, shorter))
+
+    pub IsNewChunk-next : IsOwned m0 r → IsNewChunk fllen sllen m filled.now (range_at start (first_length (max_pool_size fllen) left))
+    IsNewChunk-next owned =
         let c = range_at start (first_length (max_pool_size fllen) left) in
         let chunk = new.chunk c (inl refl) in
         record {
@@ -105,19 +113,19 @@ module _ {fllen sllen : ℕ} {m0 : Space} {table0 : Table} {s : State} (v : Stan
           lies_in = chunk.lies_in;
           fresh = λ a low high. omega (arith, new.apart a, covers-inside c a low high);
           block = IsFree-body c chunk;
-          own = here_clear filled.stands c chunk.lies_in.0 (λ a low high. omega (arith, new.apart a, covers-inside c a low high));
+          own = IsOwned-next owned;
         }
 
-    pub IsFilled-next : (n : Space) (changed : Table) → IsAdded fllen sllen m n changed filled.now.free (range_at start (first_length (max_pool_size fllen) left))
+    pub IsFilled-next : IsOwned m0 r → (n : Space) (changed : Table) → IsAdded fllen sllen m n changed filled.now.free (range_at start (first_length (max_pool_size fllen) left))
         → Costs m n 13 0
         → IsFilled fllen sllen m0 s r n changed (start + first_length (max_pool_size fllen) left) (left - first_length (max_pool_size fllen) left)
-    IsFilled-next n changed added costs =
+    IsFilled-next owned n changed added costs =
         let c = range_at start (first_length (max_pool_size fllen) left) in
         let rest = cut (max_pool_size fllen) (range_at (start + first_length (max_pool_size fllen) left) (left - first_length (max_pool_size fllen) left)) in
         let chunk = new.chunk c (inl refl) in
         let t_well_formed = IsWellFormed-with_chunk filled.stands.well_formed c chunk (λ a. omega (arith, new.apart a)) in
         let place : range_of n ≡ range_of m = ap₂ (λ a l. range_at a l) added.rewrites.start added.rewrites.length in
-        let fresh_now = IsNewChunk-next in
+        let fresh_now = IsNewChunk-next owned in
         let shorter : first_length (max_pool_size fllen) left ≤ left = first_length-le (max_pool_size fllen) left in
         record {
           now = with_chunk c filled.now;
@@ -126,7 +134,7 @@ module _ {fllen sllen : ℕ} {m0 : Space} {table0 : Table} {s : State} (v : Stan
               subst (λ p. AreNew fllen sllen p (with_chunk c filled.now) rest) (sym place)
               (record { chunk = λ d i. new.chunk d (inr i); apart = λ a. omega (arith, new.apart a) });
           answer = answered filled.answer;
-          stands = StandsFor-added filled.stands c chunk.whole chunk.has_room (λ a h. fresh_now.fresh a h.from h.to) added (c ∷ filled.now.chunks)
+          stands = StandsFor-added filled.stands c chunk.whole chunk.has_room (λ a h. fresh_now.fresh a h.from h.to) fresh_now.own added (c ∷ filled.now.chunks)
               (subst (λ p. IsWellFormed fllen sllen p (with_chunk c filled.now)) (sym place) t_well_formed) (λ d i. i);
           spare = λ a from to spare_s spare_t.
               let spare_now : IsSpare filled.now a = λ d i. spare_t d (inr i) in

@@ -1,9 +1,10 @@
 -- The writes that make a chunk longer: the value represents the state with a used block more, and then for that of the grown chunk.
 use Rattle.rlsf_base.proofs.Lending.Present.{own-there, own-inside}
 use Rattle.rlsf_base.specs.OpenSpace.{out_with, IsOwned}
-use Rattle.rlsf_base.specs.Space.{word_range, Space, bytes_in, range_of, with_word, word_at}
+use Rattle.rlsf_base.specs.Out.{is_own}
+use Rattle.rlsf_base.specs.Space.{out_at, word_range, Space, bytes_in, range_of, with_word, word_at}
 use Rattle.rlsf_blocks.proofs.Words.NeverOut.{here_longer}
-use Rattle.std.proofs.Common.{◌≡◌, ℕ, ◌+◌, ◌-◌, ◌%◌, ◌^◌, ◌<◌, ◌≤◌, ◌⊎◌, List, ◌∷◌, length, arith, inl, inr, refl, sym, ◌∙◌, ap, subst}
+use Rattle.std.proofs.Common.{◌≡◌, ℕ, ◌+◌, ◌-◌, ◌%◌, ◌^◌, ◌<◌, ◌≤◌, ◌⊎◌, true, List, ◌∷◌, length, arith, inl, inr, refl, sym, ◌∙◌, ap, subst}
 use mathlib.Core.Path.{ap₂}
 use Rattle.std.proofs.lemmas.Bool.{cases_lt}
 use Rattle.rlsf_base.specs.declared.memory.range.Range.{Range}
@@ -17,7 +18,7 @@ use Rattle.rlsf_model.specs.WellFormed.{itself, IsWellFormed}
 use Rattle.rlsf_model.proofs.Coverage.{covers-inside, coverage-IsIn, IsIn-without}
 use Rattle.rlsf_blocks.specs.InBand.{sentinel_of}
 use Rattle.rlsf_blocks.specs.Spare.{IsSpare, KeepsSpare}
-use Rattle.rlsf_blocks.specs.StandsFor.{contents, StandsFor}
+use Rattle.rlsf_blocks.specs.StandsFor.{contents, IsUnlent, StandsFor}
 use Rattle.rlsf_blocks.specs.Steps.Extension.{IsExtensible, lengthened, more_block}
 use Rattle.rlsf_table.specs.Rewrites.{Rewrites}
 use Rattle.rlsf_blocks.specs.Steps.Touched.{Touched, in_hole}
@@ -75,15 +76,15 @@ module _ {fllen sllen : ℕ} {m : Space} {table : Table} {s : State} (v : Stands
   abbrev pub extension : Range
   extension = range_at (end_of c - 32) (32 + len)
 
-  pub here_extension : IsOwned m extension
-  here_extension = here_longer v c (is_chunk v.well_formed c len is) len is.fresh.apart
+  pub here_extension : IsOwned m (range_at (end_of c) len) → IsOwned m extension
+  here_extension = here_longer v c (is_chunk v.well_formed c len is) len
 
-  pub AreExtended-from : {m1 m2 m3 : Space} {end : ℕ} → end_of c ≡ end
+  pub AreExtended-from : IsOwned m (range_at (end_of c) len) → {m1 m2 m3 : Space} {end : ℕ} → end_of c ≡ end
       → (m1.start ≡ m.start) × (m1.bytes ≡ with_word m (end - 32) (len + 1)) × (m1.out ≡ out_with m (word_range (end - 32)))
       → (m2.start ≡ m1.start) × (m2.bytes ≡ with_word m1 (end - 32 + len) 35) × (m2.out ≡ out_with m1 (word_range (end - 32 + len)))
       → (m3.start ≡ m2.start) × (m3.bytes ≡ with_word m2 (end - 32 + len + 8) (end - 32)) × (m3.out ≡ out_with m2 (word_range (end - 32 + len + 8)))
       → AreExtended m m1 m2 m3 c len
-  AreExtended-from {m1} {m2} {m3} {end} at e1 e2 e3 =
+  AreExtended-from owned {m1} {m2} {m3} {end} at e1 e2 e3 =
       let start = placed.start in
       let granules = placed.length in
       let room = placed.room in
@@ -92,7 +93,7 @@ module _ {fllen sllen : ℕ} {m : Space} {table : Table} {s : State} (v : Stands
       let more = placed.more in
       let some = placed.some in
       let addressable = placed.addressable in
-      let can = λ (l : Space) (same : IsPlacedAs m l) (a : ℕ). IsWritable-in same extension (omega arith, omega arith) here_extension a in
+      let can = λ (l : Space) (same : IsPlacedAs m l) (a : ℕ). IsWritable-in same extension (omega arith, omega arith) (here_extension owned) a in
       let w1 : IsWrite m m1 (end - 32) (len + 1) = write (can m (placed_here m) (end - 32) (omega arith) (omega (arith, at)) (omega (arith, at))) e1.0 e1.1 (omega arith) e1.2 in
       let one = placed_by (rewrites_of w1) in
       let w2 : IsWrite m1 m2 (end - 32 + len) 35 = write (can m1 one (end - 32 + len) (omega arith) (omega (arith, at)) (omega (arith, at))) e2.0 e2.1 (omega arith) e2.2 in
@@ -112,10 +113,10 @@ module _ {fllen sllen : ℕ} {m : Space} {table : Table} {s : State} (v : Stands
     Stays-extended = Stays-rewrites written
 
     -- the new block's payload is here
-    pub here_more : IsOwned n (usable (more_block c len (more_bytes n c len)))
-    here_more =
+    pub here_more : IsOwned m (range_at (end_of c) len) → IsOwned n (usable (more_block c len (more_bytes n c len)))
+    here_more owned =
         own-there m n (usable (more_block c len (more_bytes n c len))) (omega arith) written.own
-        (own-inside m extension (usable (more_block c len (more_bytes n c len))) (omega arith) (omega (arith, placed.some)) here_extension)
+        (own-inside m extension (usable (more_block c len (more_bytes n c len))) (omega arith) (omega (arith, placed.some)) (here_extension owned))
 
     -- they are in a hole from the old sentinel on
     abbrev hole : Range
@@ -212,8 +213,8 @@ module _ {fllen sllen : ℕ} {m : Space} {table : Table} {s : State} (v : Stands
         let more = placed.some in
         chunk_apart d (end_of c) (IsIn-without (ends_at (end_of c)) d s.chunks j) (record { from = omega arith; to = omega arith }) (omega arith) (omega arith)
 
-    pub StandsFor-lengthened : StandsFor fllen sllen (contents n table) (lengthened c len (more_bytes n c len) s)
-    StandsFor-lengthened =
+    pub StandsFor-lengthened : IsOwned m (range_at (end_of c) len) → StandsFor fllen sllen (contents n table) (lengthened c len (more_bytes n c len) s)
+    StandsFor-lengthened owned =
         let same : range_of n ≡ range_of m = ap₂ (λ a l. record { start = a; len = l }) written.start written.length in
         StandsFor-rewritten v hole granule some (sentinel_of c + 8) second (inr refl) (record {
           rewrites = rewrites;
@@ -222,9 +223,20 @@ module _ {fllen sllen : ℕ} {m : Space} {table : Table} {s : State} (v : Stands
           free_still = λ f i. old_free i (free_apart f i);
           chunk_still = chunk_still;
           table = HasTable-Rewrites written (CanBeBlock-free v) (λ f i. (no_link f i 16 refl (omega arith), no_link f i 24 refl (omega arith))) v.table;
-          own = λ a from unlent. v.own a from (λ x i. unlent x (inr i));
+          own = λ a from unlent d j low high. elim j [
+            | inl same ↦ in_longer a from (λ x i. unlent x (inr i)) (omega (arith, low, ap (λ (r : Range). r.start) same))
+                (omega (arith, high, ap (λ (r : Range). end_of r) same))
+            | inr k ↦ v.own a from (λ x i. unlent x (inr i)) d (IsIn-without (ends_at (end_of c)) d s.chunks k) low high
+          ];
         }) (subst (λ p. IsWellFormed fllen sllen p (lengthened c len (more_bytes n c len) s)) (sym same) t_well_formed)
       where
+        -- the longer chunk's bytes are those of the chunk, and those behind it
+        in_longer : (a : ℕ) → m.start ≤ a → IsUnlent s a → c.start ≤ a → a < c.start + (c.len + len) → is_own (out_at m a) ≡ true
+        in_longer a from unlent low high = elim (cases_lt a (end_of c)) [
+          | inl inside ↦ v.own a from unlent c is_c low inside
+          | inr past ↦ owned a past (omega (arith, high))
+        ]
+
         no_link : (f : Range) → IsIn f s.free → (i : ℕ) → i % 32 ≡ i → 16 ≤ i
             → (((f.start + i ≡ sentinel_of c) ⊎ (f.start + i ≡ sentinel_of c + len)) ⊎ (f.start + i ≡ sentinel_of c + len + 8)) → ⊥
         no_link f j i inner late at =

@@ -25,7 +25,7 @@ use Rattle.rlsf_model.proofs.Joins.{IsSound-without, left_of, right_of}
 use Rattle.rlsf_model.proofs.Payloads.{IsUsed-after_start, IsUsed-some, payload_of-after, payload_of-aligned}
 use Rattle.rlsf_model.proofs.Plans.{IsSoundPlan, IsSound-into_previous, IsWellFormed-replanned}
 use Rattle.rlsf_model.proofs.Releases.{IsSound-free, IsWellFormed-released}
-use Rattle.rlsf_blocks.specs.StandsFor.{contents, IsUnlent, StandsFor}
+use Rattle.rlsf_blocks.specs.StandsFor.{contents, OwnsChunks, StandsFor}
 use Rattle.rlsf_table.specs.Rewrites.{IsLink, CanBeBlock, Rewrites}
 use Rattle.rlsf_blocks.specs.Steps.Touched.{Touched, at_link, in_hole}
 use Rattle.rlsf_blocks.specs.Steps.Join.{IsNextOut, IsPreviousOut, union, untouched}
@@ -173,7 +173,7 @@ module _ {fllen sllen : ℕ} {m : Space} {t : Table} {s : State} (v : StandsFor 
           (omega (arith, rewrites.start, place.0, is.start, is.after_start), omega (arith, rewrites.start, rewrites.length, place.1, is.end, is.enough, fits))
 
       -- nothing is out but usable bytes of the other payloads
-      own_replanned : (a : ℕ) → m.start ≤ a → IsUnlent (replanned s u (planned s u size f) bytes) a → is_own (out_at m a) ≡ true
+      own_replanned : OwnsChunks m (replanned s u (planned s u size f) bytes)
       own_replanned a from unlent = here_released v u i own a from (λ x j. unlent x (inr j))
 
       t_well_formed : IsWellFormed fllen sllen (range_of m) (replanned s u (planned s u size f) bytes)

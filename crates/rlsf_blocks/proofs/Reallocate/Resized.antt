@@ -17,7 +17,7 @@ use Rattle.rlsf_model.proofs.Changes.{IsIn-others}
 use Rattle.rlsf_model.proofs.Coverage.{IsIn-append}
 use Rattle.rlsf_model.proofs.Payloads.{IsUsed-after_start, IsUsed-aligned, IsUsed-some}
 use Rattle.rlsf_model.proofs.Plans.{IsSoundPlan, IsWellFormed-replanned}
-use Rattle.rlsf_blocks.specs.StandsFor.{contents, IsUnlent, StandsFor}
+use Rattle.rlsf_blocks.specs.StandsFor.{contents, OwnsChunks, StandsFor}
 use Rattle.rlsf_table.specs.Rewrites.{IsLink}
 use Rattle.rlsf_blocks.specs.Steps.Join.{IsNextOut}
 use Rattle.rlsf_blocks.specs.Steps.Resize.{IsCarriedOut, IsOccupied, IsOwnedBehind}
@@ -54,8 +54,7 @@ resized_bytes n u size = bytes_in n (between u.payload (end_of (resized u size))
 module _ {fllen sllen : ℕ} {m : Space} {t : Table} {s : State} (v : StandsFor fllen sllen (contents m t) s) (u : Used) (i : IsIn u s.used) (size : ℕ)
     (own : IsOwnedBehind m u size) where
   -- nothing is out but usable bytes of the other payloads
-  own_replanned : (free : List Range) (bytes : List ℕ) (a : ℕ) → m.start ≤ a
-      → IsUnlent (replanned s u (record { block = resized u size; payload = u.payload; free = free }) bytes) a → is_own (out_at m a) ≡ true
+  own_replanned : (free : List Range) (bytes : List ℕ) → OwnsChunks m (replanned s u (record { block = resized u size; payload = u.payload; free = free }) bytes)
   own_replanned free bytes a from unlent =
       own_but_front v u i (end_of (resized u size)) own a from
       (unlent (moved u (record { block = resized u size; payload = u.payload; free = free }) bytes) (inl refl)) (λ x j. unlent x (inr j))
@@ -64,7 +63,7 @@ module _ {fllen sllen : ℕ} {m : Space} {t : Table} {s : State} (v : StandsFor 
 
   -- the value represents the state with the used blocks in another order
   StandsFor-reordered : (used : List Used) (free : List Range) → ((x : Used) → IsIn x used → IsIn x s.used) → free ≡ s.free
-      → ((a : ℕ) → m.start ≤ a → IsUnlent (record { chunks = s.chunks; used = used; free = free }) a → is_own (out_at m a) ≡ true)
+      → OwnsChunks m (record { chunks = s.chunks; used = used; free = free })
       → IsWellFormed fllen sllen (range_of m) (record { chunks = s.chunks; used = used; free = free })
       → StandsFor fllen sllen (contents m t) (record { chunks = s.chunks; used = used; free = free })
   StandsFor-reordered used free among same own_after well_formed =

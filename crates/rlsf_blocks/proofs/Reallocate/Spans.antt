@@ -112,20 +112,21 @@ module _ {fllen sllen : ℕ} {m : Space} {t : Table} {s : State} (v : StandsFor 
     ]
 
     pub IsOwned-rest : u.block.start ≤ x → IsOwned m (between x (end_of (span_of s u)))
-    IsOwned-rest after a lo hi =
+    IsOwned-rest after a lo hi = let here = home in
         own_but_front v u i x own a (omega (arith, span_in_memory.0, after, lo)) (inr lo)
         (beside a (λ y j low high. used_apart y j a (record { from = omega (arith, deep y j, low); to = high })
-        (record { from = omega (arith, after, lo); to = omega (arith, lo, hi) })))
+        (record { from = omega (arith, after, lo); to = omega (arith, lo, hi) }))) here.chunk here.is_chunk (omega (arith, here.from, after, lo)) (omega (arith, here.to, lo, hi))
 
     pub IsOwned-behind_span : x ≤ end_of (span_of s u) → IsOwned m (range_at (end_of (span_of s u)) 16)
     IsOwned-behind_span fits a lo hi =
         let long = span-some in
+        let here = home in
         own_but_front v u i x own a (omega (arith, span_in_memory.0, lo)) (inr (omega (arith, fits, lo)))
         (beside a (λ y j low high. elim (cases_lt y.block.start (end_of (span_of s u))) [
           | inl before ↦ used_apart y j (end_of (span_of s u) - 1) (record { from = omega arith; to = omega (arith, high, lo) })
               (record { from = omega arith; to = omega arith })
           | inr past ↦ omega (arith, hi, low, deep y j)
-        ]))
+        ])) here.chunk here.is_chunk (omega (arith, here.from, lo)) (omega (arith, here.to, hi))
 
   IsOwned-front : IsOwned m (range_at u.block.start 16)
   IsOwned-front a lo hi = here_front v u i a lo (omega (arith, hi, IsUsed-after_start u (v.well_formed.used u i)))

@@ -32,7 +32,7 @@ module _ (m n : Space) (start : n.start ≡ m.start) (bytes : n.bytes ≡ m.byte
           pad = λ u i wide. word_at-counted m n start bytes out _ ∙ v.payloads.pad u i wide;
         };
     table = HasTable-counted m n start bytes out v.table;
-    own = λ a from unlent. own-same m n start out a (omega (arith, start, from)) ∙ v.own a (omega (arith, start, from)) unlent;
+    own = λ a from unlent c i low high. own-same m n start out a (omega (arith, start, from)) ∙ v.own a (omega (arith, start, from)) unlent c i low high;
   }
 
   -- ---- the spare bytes

@@ -1,7 +1,6 @@
 -- A new value represents the empty state.
-use Rattle.std.proofs.Common.{◌≡◌, true, ◌≤◌, ℕ, ◌+◌, ◌^◌, ◌<◌, [], length}
-use Rattle.rlsf_base.specs.Out.{is_own}
-use Rattle.rlsf_base.specs.Space.{out_at, Space, range_of}
+use Rattle.std.proofs.Common.{◌≡◌, ℕ, ◌+◌, ◌^◌, ◌<◌, [], length}
+use Rattle.rlsf_base.specs.Space.{Space, range_of}
 use Rattle.rlsf_base.specs.SizeClass.{IsValid}
 use Rattle.rlsf_model.specs.State.{empty}
 use Rattle.rlsf_table.specs.Table.{Table, HasTable}
@@ -10,13 +9,13 @@ use Rattle.rlsf_blocks.specs.StandsFor.{contents, StandsFor}
 use Rattle.rlsf_model.proofs.Steps.{empty_is_well_formed}
 
 pub StandsFor-empty : {fl_bits sl_bits fllen sllen : ℕ} {m : Space} {t : Table} → IsValid fl_bits sl_bits fllen sllen → (0 < m.start) × (m.start + length m.bytes < 2 ^ 64)
-    → HasTable fllen sllen m t [] → ((a : ℕ) → m.start ≤ a → is_own (out_at m a) ≡ true) → StandsFor fllen sllen (contents m t) empty
-StandsFor-empty {fllen = fllen} {sllen = sllen} {m = m} valid bounds table none = record {
+    → HasTable fllen sllen m t [] → StandsFor fllen sllen (contents m t) empty
+StandsFor-empty {fllen = fllen} {sllen = sllen} {m = m} valid bounds table = record {
   nonzero = bounds.0;
   well_formed = empty_is_well_formed fllen sllen (range_of m) valid.some_rows (row_length-bounds sllen valid.power_of_two).0 bounds.1;
   sizes = record { used = λ u i. absurd i; free = λ f i. absurd i; sentinel = λ c i. absurd i };
   previous = record { used = λ u i. absurd i; free = λ f i. absurd i; first = λ c i. absurd i };
   payloads = record { bytes = λ u i. absurd i; pad = λ u i. absurd i };
   table = table;
-  own = λ a from unlent. none a from;
+  own = λ a from unlent c i. absurd i;
 }

@@ -101,5 +101,5 @@ module _ {fllen sllen : ℕ} {m : Space} {t : Table} {s : State} (old : StandsFo
         };
         payloads = record { bytes = λ u i. payload u i ∙ old.payloads.bytes u i; pad = λ u i wide. pad u i wide ∙ old.payloads.pad u i wide };
         table = HasTable-Rewrites rewrites (CanBeBlock-free old) links old.table;
-        own = λ a from unlent. rewrites.own a (omega (arith, start, from)) ∙ old.own a (omega (arith, start, from)) unlent;
+        own = λ a from unlent c i low high. rewrites.own a (omega (arith, start, from)) ∙ old.own a (omega (arith, start, from)) unlent c i low high;
       }

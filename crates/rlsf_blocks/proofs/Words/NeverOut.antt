@@ -14,35 +14,40 @@ use Rattle.rlsf_model.specs.WellFormed.{IsWellFormed, coverage, itself, last_byt
 use Rattle.rlsf_model.proofs.Coverage.{covers-inside, coverage-IsIn}
 use Rattle.rlsf_model.proofs.Payloads.{IsUsed-after_start}
 use Rattle.rlsf_table.specs.Table.{Table}
-use Rattle.rlsf_blocks.specs.StandsFor.{contents, IsUnlent, StandsFor}
+use Rattle.rlsf_blocks.specs.StandsFor.{contents, IsUnlent, OwnsChunks, StandsFor}
 use Rattle.rlsf_base.proofs.Lending.Present.{own-word}
 use Rattle.rlsf_base.proofs.Lending.WordIsHere.{is_word}
 use Rattle.rlsf_blocks.specs.Blocks.{Block, HasBlock, used, free}
 use Rattle.rlsf_blocks.specs.InBand.{HasSizes}
 use Rattle.rlsf_blocks.proofs.Walking.Begins.{BehindBlock, block_behind, end_behind}
-use Rattle.rlsf_blocks.proofs.Words.Apart.{Has, used_free, used_used, used_last, free_in_memory, used_in_memory, home_of_used}
+use Rattle.rlsf_blocks.proofs.Words.Apart.{Has, used_free, used_used, used_last, free_in_memory, used_in_memory, home_of_free, home_of_used}
 
 -- of a memory of which nothing is out but usable bytes of a state's payloads
 module _ {fllen sllen : ℕ} (m : Space) {s : State} (w : IsWellFormed fllen sllen (range_of m) s)
-    (here : (a : ℕ) → m.start ≤ a → IsUnlent s a → is_own (out_at m a) ≡ true) where
-  pub here_apart-in : (r : Range) → m.start ≤ r.start → ((u : Used) → IsIn u s.used → (a : ℕ) → u.payload ≤ a → a < end_of u.block → Has r a → ⊥)
-      → IsOwned m r
-  here_apart-in r from apart a lo hi = here a (omega arith) (λ u i. elim (cases_lt a u.payload) [
+    (here : OwnsChunks m s) where
+  -- a range of a chunk, which has no usable byte of a payload
+  pub here_apart-in : (r : Range) → m.start ≤ r.start → (c : Range) → IsIn c s.chunks → c.start ≤ r.start → end_of r ≤ end_of c
+      → ((u : Used) → IsIn u s.used → (a : ℕ) → u.payload ≤ a → a < end_of u.block → Has r a → ⊥) → IsOwned m r
+  here_apart-in r from c in_chunks low high apart a lo hi = here a (omega arith) (λ u i. elim (cases_lt a u.payload) [
     | inl before ↦ inl before
     | inr behind ↦ elim (cases_lt a (end_of u.block)) [
       | inl within ↦ absurd (apart u i a behind within (record { from = lo; to = hi }))
       | inr past ↦ inr past
     ]
-  ])
+  ]) c in_chunks (omega arith) (omega arith)
 
   pub here_free-in : (f : Range) → IsIn f s.free → IsOwned m f
   here_free-in f i =
-      here_apart-in f (free_in_memory w f i).0 (λ u j a low high h. used_free w u f a j i (record { from = omega (arith, IsUsed-after_start u (w.used u j)); to = high }) h)
+      let home = home_of_free w f i in
+      here_apart-in f (free_in_memory w f i).0 home.chunk home.is_chunk (omega (arith, home.from)) (omega (arith, home.to))
+      (λ u j a low high h. used_free w u f a j i (record { from = omega (arith, IsUsed-after_start u (w.used u j)); to = high }) h)
 
   pub here_behind_free-in : (f : Range) → IsIn f s.free → IsOwned m (range_at (end_of f) 16)
   here_behind_free-in f i =
       let some = (w.free f i).some in
-      here_apart-in (range_at (end_of f) 16) (omega (arith, (free_in_memory w f i).0)) (λ u j a low high h. elim (cases_lt u.block.start (end_of f)) [
+      let home = home_of_free w f i in
+      here_apart-in (range_at (end_of f) 16) (omega (arith, (free_in_memory w f i).0)) home.chunk home.is_chunk
+      (omega (arith, home.from)) (omega (arith, home.to)) (λ u j a low high h. elim (cases_lt u.block.start (end_of f)) [
         | inl before ↦ used_free w u f (end_of f - 1) j i (record { from = omega arith; to = omega (arith, h.from) }) (record { from = omega arith; to = omega arith })
         | inr past ↦ omega (arith, h.to, IsUsed-after_start u (w.used u j))
       ])
@@ -59,9 +64,9 @@ module _ {fllen sllen : ℕ} {m : Space} {s : State} (w : IsWellFormed fllen sll
   walk-fits a end (end_behind c i begins ends) = subst (λ k. word_at m k < 2 ^ 64) begins (omega (arith, sizes.sentinel c i))
 
 module _ {fllen sllen : ℕ} {m : Space} {t : Table} {s : State} (v : StandsFor fllen sllen (contents m t) s) where
-  -- a range that has no usable byte of a payload
-  pub here_apart : (r : Range) → m.start ≤ r.start → ((u : Used) → IsIn u s.used → (a : ℕ) → u.payload ≤ a → a < end_of u.block → Has r a → ⊥)
-      → IsOwned m r
+  -- a range of a chunk that has no usable byte of a payload
+  pub here_apart : (r : Range) → m.start ≤ r.start → (c : Range) → IsIn c s.chunks → c.start ≤ r.start → end_of r ≤ end_of c
+      → ((u : Used) → IsIn u s.used → (a : ℕ) → u.payload ≤ a → a < end_of u.block → Has r a → ⊥) → IsOwned m r
   here_apart = here_apart-in m v.well_formed v.own
 
   after : (u : Used) → IsIn u s.used → u.block.start + 16 ≤ u.payload
@@ -72,7 +77,9 @@ module _ {fllen sllen : ℕ} {m : Space} {t : Table} {s : State} (v : StandsFor 
 
   -- the bytes of a used block before its payload
   pub here_front : (u : Used) → IsIn u s.used → IsOwned m (between u.block.start u.payload)
-  here_front u i = here_apart (between u.block.start u.payload) (used_in_memory v.well_formed u i).0 (λ x j a low high h.
+  here_front u i = let home = home_of_used v.well_formed u i in
+      here_apart (between u.block.start u.payload) (used_in_memory v.well_formed u i).0 home.chunk home.is_chunk (omega (arith, home.from, after u i))
+      (omega (arith, home.to, after u i, (v.well_formed.used u i).within)) (λ x j a low high h.
       let in_block : Has u.block a = record { from = h.from; to = omega (arith, h.to, after u i, (v.well_formed.used u i).within) } in
       let same = used_used v.well_formed x u a j i (record { from = omega (arith, after x j); to = high }) in_block in
       omega (arith, ap (λ (y : Used). y.payload) same, h.to, after u i))
@@ -80,7 +87,7 @@ module _ {fllen sllen : ℕ} {m : Space} {t : Table} {s : State} (v : StandsFor 
   pub here_last : (c : Range) → IsIn c s.chunks → IsOwned m (last_bytes c)
   here_last c i =
       let chunk = v.well_formed.chunks c i in
-      here_apart (last_bytes c) (omega (arith, chunk.lies_in, chunk.has_room))
+      here_apart (last_bytes c) (omega (arith, chunk.lies_in, chunk.has_room)) c i (omega (arith, chunk.has_room)) (omega (arith, chunk.has_room))
       (λ u j a low high h. used_last v.well_formed u c a j i (record { from = omega (arith, after u j); to = high }) (omega (arith, h.from, chunk.has_room))
       (omega (arith, h.to, chunk.has_room)))
 
@@ -105,13 +112,15 @@ module _ {fllen sllen : ℕ} {m : Space} {t : Table} {s : State} (v : StandsFor 
       is_word m a (omega (arith, at, is.whole.start), (omega (arith, at, place.0), omega (arith, at, place.1)), own)
       (subst (λ b. word_at m b < 2 ^ 64) at (omega (arith, v.sizes.free f i, place.1, v.well_formed.addressable)))
 
-  -- the 16 bytes behind a range, where no used block goes past its end
-  pub here_behind : (r : Range) → 0 < r.len → m.start ≤ r.start → ((u : Used) → IsIn u s.used → Has u.block (end_of r - 1) → end_of u.block ≤ end_of r)
+  -- the 16 bytes behind a range, which a chunk has too, where no used block goes past its end
+  pub here_behind : (r : Range) → 0 < r.len → m.start ≤ r.start → (c : Range) → IsIn c s.chunks → c.start ≤ r.start → end_of r + 16 ≤ end_of c
+      → ((u : Used) → IsIn u s.used → Has u.block (end_of r - 1) → end_of u.block ≤ end_of r)
       → IsOwned m (range_at (end_of r) 16)
-  here_behind r some from ends = here_apart (range_at (end_of r) 16) (omega arith) (λ u j a low high h. elim (cases_lt u.block.start (end_of r)) [
-    | inl before ↦ omega (arith, h.from, ends u j (record { from = omega arith; to = omega (arith, h.from) }))
-    | inr past ↦ omega (arith, h.to, after u j)
-  ])
+  here_behind r some from c i low high ends = here_apart (range_at (end_of r) 16) (omega arith) c i (omega arith)
+      (omega arith) (λ u j a low high h. elim (cases_lt u.block.start (end_of r)) [
+        | inl before ↦ omega (arith, h.from, ends u j (record { from = omega arith; to = omega (arith, h.from) }))
+        | inr past ↦ omega (arith, h.to, after u j)
+      ])
 
   pub here_behind_free : (f : Range) → IsIn f s.free → IsOwned m (range_at (end_of f) 16)
   here_behind_free = here_behind_free-in m v.well_formed v.own
@@ -120,29 +129,18 @@ module _ {fllen sllen : ℕ} {m : Space} {t : Table} {s : State} (v : StandsFor 
   here_behind_used u i =
       let some = after u i in
       let within = (v.well_formed.used u i).within in
-      here_behind u.block (omega arith) (used_in_memory v.well_formed u i).0
+      let home = home_of_used v.well_formed u i in
+      here_behind u.block (omega arith) (used_in_memory v.well_formed u i).0 home.chunk home.is_chunk (omega (arith, home.from)) (omega (arith, home.to))
       (λ x j h. let same = used_used v.well_formed x u (end_of u.block - 1) j i h (record { from = omega arith; to = omega arith }) in
       omega (arith, ap (λ (y : Used). end_of y.block) same))
 
-  -- a range that no chunk has a byte of
-  pub here_clear : (r : Range) → m.start ≤ r.start → ((a : ℕ) → r.start ≤ a → a < end_of r → coverage itself s.chunks a ≡ 0) → IsOwned m r
-  here_clear r from clear = here_apart r from (λ u j a low high h.
-      let home = home_of_used v.well_formed u j in
-      omega (
-        arith,
-        clear a h.from h.to,
-        coverage-IsIn itself home.chunk s.chunks a home.is_chunk,
-        covers-inside home.chunk a (omega (arith, home.from, after u j)) (omega (arith, home.to)),
-      ))
-
-  -- the last bytes of a chunk, and such a range behind it
-  pub here_longer : (c : Range) → IsIn c s.chunks → (len : ℕ) → ((a : ℕ) → end_of c ≤ a → a < end_of c + len → coverage itself s.chunks a ≡ 0)
-      → IsOwned m (range_at (end_of c - 32) (32 + len))
-  here_longer c i len clear a lo hi =
+  -- the last bytes of a chunk, and a range behind it that is the memory's own
+  pub here_longer : (c : Range) → IsIn c s.chunks → (len : ℕ) → IsOwned m (range_at (end_of c) len) → IsOwned m (range_at (end_of c - 32) (32 + len))
+  here_longer c i len own a lo hi =
       let chunk = v.well_formed.chunks c i in
       elim (cases_lt a (end_of c)) [
         | inl inside ↦ here_last c i a (omega arith) (omega (arith, chunk.has_room))
-        | inr past ↦ here_clear (range_at (end_of c) len) (omega (arith, chunk.lies_in)) clear a past (omega (arith, hi, chunk.has_room))
+        | inr past ↦ own a past (omega (arith, hi, chunk.has_room))
       ]
 
   -- a block's first word, the words behind it, and the word where an iteration goes on
@@ -166,12 +164,12 @@ module _ {fllen sllen : ℕ} {m : Space} {t : Table} {s : State} (v : StandsFor 
 
   -- a used block's bytes from an address on are here: then nothing is out but usable bytes of the other payloads, and those of this one before that address
   pub own_but_front : (u : Used) → IsIn u s.used → (x : ℕ) → IsOwned m (between x (end_of u.block)) → (a : ℕ) → m.start ≤ a → (a < u.payload) ⊎ (x ≤ a)
-      → IsUnlent (released s u) a → is_own (out_at m a) ≡ true
-  own_but_front u i x own a from side unlent = elim side [
+      → IsUnlent (released s u) a → (c : Range) → IsIn c s.chunks → c.start ≤ a → a < end_of c → is_own (out_at m a) ≡ true
+  own_but_front u i x own a from side unlent c is_chunk begins ends = elim side [
     | inl before ↦ v.own a from (λ y j. elim (cases_eq y.payload u.payload) [
       | inl same ↦ inl (omega arith)
       | inr other ↦ unlent y (IsIn-others_from u.payload y s.used j other)
-    ])
+    ]) c is_chunk begins ends
     | inr low ↦ elim (cases_lt a (end_of u.block)) [
       | inl within ↦ own a low (omega (arith, low, within))
       | inr past ↦ v.own a from (λ y j. elim (cases_eq y.payload u.payload) [
@@ -181,10 +179,10 @@ module _ {fllen sllen : ℕ} {m : Space} {t : Table} {s : State} (v : StandsFor 
             let one = used_used v.well_formed y u (u.payload - 1) j i has_y has_u in
             inr (subst (λ (z : Used). end_of z.block ≤ a) (sym one) past)
         | inr other ↦ unlent y (IsIn-others_from u.payload y s.used j other)
-      ])
+      ]) c is_chunk begins ends
     ]
   ]
 
-  pub here_released : (u : Used) → IsIn u s.used → IsOwned m (usable u) → (a : ℕ) → m.start ≤ a → IsUnlent (released s u) a → is_own (out_at m a) ≡ true
+  pub here_released : (u : Used) → IsIn u s.used → IsOwned m (usable u) → OwnsChunks m (released s u)
   here_released u i own a from unlent =
       own_but_front u i u.payload (λ k lo hi. own k lo (omega (arith, hi, (v.well_formed.used u i).within))) a from (cases_lt a u.payload) unlent

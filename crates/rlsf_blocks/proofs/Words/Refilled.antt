@@ -11,7 +11,7 @@ use Rattle.rlsf_table.specs.Table.{Table, HasTable}
 use Rattle.rlsf_blocks.specs.Steps.Touched.{Touched, at_link, in_hole, at_other}
 use Rattle.rlsf_blocks.specs.InBand.{sentinel_of}
 use Rattle.rlsf_blocks.specs.Spare.{IsSpare, KeepsSpare}
-use Rattle.rlsf_blocks.specs.StandsFor.{contents, StandsFor}
+use Rattle.rlsf_blocks.specs.StandsFor.{contents, OwnsChunks, StandsFor}
 use Rattle.rlsf_model.specs.Lists.{IsIn}
 use Rattle.rlsf_model.specs.State.{State, Used, usable}
 use Rattle.rlsf_model.specs.WellFormed.{IsWhole, IsWellFormed}
@@ -90,7 +90,7 @@ pub record IsRewritten (fllen sllen : ℕ) (m n : Space) (t : Table) (s : State)
   pub chunk_still : (d : Range) → IsIn d chunks → IsChunkStill n s hole d
   pub table : HasTable fllen sllen n t free
   -- nothing is out but usable bytes of the new used blocks
-  pub own : (a : ℕ) → m.start ≤ a → ((u : Used) → IsIn u used → (a < u.payload) ⊎ (end_of u.block ≤ a)) → is_own (out_at m a) ≡ true
+  pub own : OwnsChunks m (record { chunks = chunks; used = used; free = free })
 
 module _ {fllen sllen : ℕ} {m n : Space} {table changed : Table} {s : State} (old : StandsFor fllen sllen (contents m table) s) {chunks : List Range} {used : List Used}
     {free : List Range} (hole : Range) (whole : hole.start % 32 ≡ 0) (some : 0 < hole.len) (past : ℕ) (second : past % 32 ≡ 8)
@@ -170,7 +170,7 @@ module _ {fllen sllen : ℕ} {m n : Space} {table changed : Table} {s : State} (
     };
     payloads = record { bytes = λ u i. payload_bytes u (is.used_still u i); pad = λ u i. payload_pad u (is.used_still u i) };
     table = is.table;
-    own = λ a from unlent. is.rewrites.own a (omega (arith, is.rewrites.start, from)) ∙ is.own a (omega (arith, is.rewrites.start, from)) unlent;
+    own = λ a from unlent c i low high. is.rewrites.own a (omega (arith, is.rewrites.start, from)) ∙ is.own a (omega (arith, is.rewrites.start, from)) unlent c i low high;
   }
 
 -- the words once a hole was filled with other blocks
@@ -181,7 +181,7 @@ pub record IsRefilled (fllen sllen : ℕ) (m n : Space) (t : Table) (s : State) 
   pub free_still : (f : Range) → IsIn f free → IsFreeStill n s hole f
   pub table : HasTable fllen sllen n t free
   -- nothing is out but usable bytes of the new used blocks
-  pub own : (a : ℕ) → m.start ≤ a → ((u : Used) → IsIn u used → (a < u.payload) ⊎ (end_of u.block ≤ a)) → is_own (out_at m a) ≡ true
+  pub own : OwnsChunks m (record { chunks = s.chunks; used = used; free = free })
 
 module _ {fllen sllen : ℕ} {m n : Space} {table changed : Table} {s : State} (old : StandsFor fllen sllen (contents m table) s) {used : List Used} {free : List Range}
     (hole : Range) (whole : IsWhole hole) (some : 0 < hole.len) (home : LiesInChunk s hole) (is : IsRefilled fllen sllen m n changed s used free hole) where
@@ -221,7 +221,7 @@ module _ {fllen sllen : ℕ} {m n : Space} {table changed : Table} {s : State} (
         free_still = is.free_still;
         chunk_still = λ d i. old_chunk (still d i) (last_apart d (still d i)) (starts_there d (still d i));
         table = is.table;
-        own = is.own;
+        own = λ a from unlent c i. is.own a from unlent c (still c i);
       })
 
   pub StandsFor-refilled : IsWellFormed fllen sllen (range_of n) (record { chunks = s.chunks; used = used; free = free })

@@ -14,14 +14,16 @@ use denote.Memory.{lone}
 use denote.RawPtr.{room_at, rawptr_Lawful}
 use types.Run.{forget, load, look}
 use Rattle.rlsf_base.specs.OpenSpace.{Home}
-use Rattle.rlsf_base.specs.Steps.Ownership.{bytes_at, units_from}
+use Rattle.rlsf_base.specs.Out.{Change}
+use Rattle.rlsf_base.specs.RawParts.{LiesAtBlock}
+use Rattle.rlsf_base.specs.Steps.Ownership.{lent_at}
 use Rattle.rlsf_base.specs.contracts.memory.block.RawParts as parts
 use Rattle.rlsf_base.proofs.memory.block.RawParts.TheLaws as parts_laws
-use Rattle.rlsf_base.specs.contracts.memory.block.RawParts.release as k
+use Rattle.rlsf_base.specs.contracts.memory.block.RawParts.release_lent as k
 use Rattle.rlsf_malloc.proofs.HeapKinds.{Kind, row}
 use Rattle.rlsf_malloc.proofs.Steps.{at_kind, kind_lasts, lasting, tokens, all_shares}
 use contract.Lifetimes.{toks}
-use Rattle.rlsf_malloc.specs.Handle.{ArePartsOf, Holds, bytes_of, first_of}
+use Rattle.rlsf_malloc.specs.Handle.{ArePartsOf, Holds, first_of, rest_of}
 
 abbrev P : RattleType
 P = parts.the_row
@@ -57,7 +59,8 @@ called K = record { signature = record { lifetimes = 4; outlives = []; params = 
 abbrev stayed : Stays exported.signature.params exported.kept
 stayed = (stay_dropped _ yes, tt)
 
-module _ (K : Kind) (S Fact Asked : (row K).Denot → Type 0) (home : (row K).Denot → Home) where
+module _ (K : Kind) (S Fact Asked : (row K).Denot → Type 0) (home : (row K).Denot → Home) (changes : (row K).Denot → List Change)
+    (told : (row K).Denot → Type 0) where
   abbrev R : RattleType
   R = row K
 
@@ -66,11 +69,11 @@ module _ (K : Kind) (S Fact Asked : (row K).Denot → Type 0) (home : (row K).De
     outer κs a = record {
       ghost = R.Denot;
       requires = λ v. sep 𝓤 (sem 𝓛 (Holds R S a.0 v)) (fact 𝓤 (Fact v));
-      ensures = λ v r end. sep 𝓤 (sem 𝓛 (room_at R a.0)) (sem 𝓛 (bytes_of (home v)));
+      ensures = λ v r end. sep 𝓤 (sem 𝓛 (room_at R a.0)) (sem 𝓛 (rest_of (home v) (changes v) (told v)));
     }
 
     abbrev pub inner : Clauses 𝓤 (called K)
-    inner κs a = record { ghost = Unit {0}; requires = λ _. at_kind 𝓛 K κs (Asked a.0); ensures = λ _ r end. fact 𝓤 (ArePartsOf (home a.0) r) }
+    inner κs a = record { ghost = Unit {0}; requires = λ _. at_kind 𝓛 K κs (Asked a.0); ensures = λ _ r end. fact 𝓤 (ArePartsOf (home a.0) (changes a.0) (told a.0) r) }
 
   pub exports : ((v : R.Denot) → S v → Fact v → Asked v)
       → {M : Type 1} (𝓤 : Ura M) (𝓛 : Logic 𝓤) (𝓜 : Model 𝓤 𝓛.H) (𝓡 : Running 𝓤 𝓛.H 𝓜) (key callee : Callee)
@@ -84,7 +87,7 @@ module _ (K : Kind) (S Fact Asked : (row K).Denot → Type 0) (home : (row K).De
       proved 𝓛 exported stayed c 𝓜 𝓡 (Goes-dropped 𝓛 0 (plain (λ _. RawPtr)) yes (λ κs x w. refl), tt)
       key code closed
       (λ κs. (rawptr_vals, tt)) (λ κs. (rawptr_Tells, tt)) (λ κs qs bounds a before are.
-      let s : Ptr → W.Ghost = λ p. ((κs, qs, bounds, (p, tt), (rawptr_vals p, tt)), before) in let m = home before in
+      let s : Ptr → W.Ghost = λ p. ((κs, qs, bounds, (p, tt), (rawptr_vals p, tt)), before) in let m = home before in let cs = changes before in let is_told = told before in
       qed 𝓛 (raw (on_entry 𝓛 exported.signature κs qs a (s a.0).0.4) ∷ (some (λ (_ : S before). ‵ (lies_at R full_share a.0 before)) ⊛ raw (fact 𝓤 (Fact before))) ∷ [])
       ∵ drop ! $ split ! $ pick ! (λ ready. move ! (1 ∷ []) $ heard ! (Fact before) (λ known.
       in_a_block ! a.0 (λ p. lies_at R full_share p before) (id⊢ 𝓤 _) (λ b o e.
@@ -104,28 +107,28 @@ module _ (K : Kind) (S Fact Asked : (row K).Denot → Type 0) (home : (row K).De
       calls_at ! (framed 𝓤 𝓛.H 𝓜 (tables 𝓤 𝓛.H 𝓜 𝓡 𝓡.env)) G met y
       (and_then ! (get ! refl) (no_more !)) (λ u.
       use1 𝓛 (later (some (λ (r : P.Denot). (raw (toks 𝓛 4 (lasting 𝓛) (all_shares 𝓛)) ⊛ ‵ (P.own_val r (u ∷ []))) ⊛
-      some (λ (ws : Lasts (called K) (lasting 𝓛) (before, tt)). ‵ (lasts (called K) y.0.0 y.0.3 ws) ⊛ raw (fact 𝓤 (ArePartsOf m r)))))) (id⊢ 𝓤 _) $
+      some (λ (ws : Lasts (called K) (lasting 𝓛) (before, tt)). ‵ (lasts (called K) y.0.0 y.0.3 ws) ⊛ raw (fact 𝓤 (ArePartsOf m cs is_told r)))))) (id⊢ 𝓤 _) $
       await ! tt $ pick ! (λ r. split ! $ split ! $ drop ! $
       peeks ! P (Is P) (shows 𝓛 P) r (u ∷ [])
       (λ is_parts. let parts_typed = ((parts_laws.the_row_laws.lawful 𝓛).typed r _ is_parts).0 in lands_as ! refl refl parts_typed $
-      move ! (1 ∷ []) $ pick ! (λ ws. split ! $ drop ! $ heard ! (ArePartsOf m r) (λ ended.
+      move ! (1 ∷ []) $ pick ! (λ ws. split ! $ drop ! $ heard ! (ArePartsOf m cs is_told r) (λ ended.
       sets ! (of_opd ! (get ! refl)) refl parts_typed $
       -- [the parts; the room; the locals]
       let T = triple_of 𝓛 k.signature (k.spec 𝓛 𝓜.mem 𝓡.returns) in
       let z : T.Ghost = ((tt, tt, tt, (r, tt), (u ∷ [], tt)), tt) in
-      let Owed : Type 0 = (r.bytes.at ≡ r.base.ptr) × (r.bytes.skip ≡ 0) × (r.bytes.out ≡ []) × (r.bytes.units ≡ units_from r.start (length r.bytes.bytes)) in
-      nothing ! $ move ! (1 ∷ 0 ∷ []) $ join ! $ nothing ! $ join ! $ use0 𝓛 (raw (fact 𝓤 Owed)) (fact_i 𝓤 Owed (emp 𝓤) (ended.2.0, ended.2.1, ended.4, ended.2.3)) $
+      let Owed : Type 0 = LiesAtBlock r in
+      nothing ! $ move ! (1 ∷ 0 ∷ []) $ join ! $ nothing ! $ join ! $ use0 𝓛 (raw (fact 𝓤 Owed)) (fact_i 𝓤 Owed (emp 𝓤) ended.2) $
       move ! (1 ∷ 0 ∷ []) $ use2 𝓛 (raw (T.pre z)) (id⊢ 𝓤 _) $
       calls_at ! (framed 𝓤 𝓛.H 𝓜 (tables 𝓤 𝓛.H 𝓜 𝓡 𝓡.env)) T release_met z
       (and_then ! (get ! refl) (no_more !)) (λ w.
       use1 𝓛 (later (some (λ (q : Ptr). (‵ ftrue ⊛ ‵ (RawPtr.own_val q (w ∷ []))) ⊛
-      some (λ (ws' : Lasts k.ended tt (r, tt)). ‵ (lasts k.ended z.0.0 z.0.3 ws') ⊛ (‵ (bytes_at q r.start r.bytes.bytes) ⊛ raw (fact 𝓤 (q ≡ r.base.ptr)))))))
+      some (λ (ws' : Lasts k.ended tt (r, tt)). ‵ (lasts k.ended z.0.0 z.0.3 ws') ⊛ (‵ (lent_at q r.start r.bytes.bytes r.bytes.out) ⊛ raw (fact 𝓤 (q ≡ r.base.ptr)))))))
       (id⊢ 𝓤 _) $
       await ! tt $ pick ! (λ q. split ! $ split ! $ drop ! $
       peeks ! RawPtr (Is RawPtr) (shows 𝓛 RawPtr) q (w ∷ []) (λ is_ptr. lands_as ! refl refl ((rawptr_Lawful 𝓛).typed q _ is_ptr).0 $ drop ! $
       pick ! (λ ws'. split ! $ drop ! $ split ! $ move ! (1 ∷ []) $ heard ! _ (λ there.
-      rewrite ! 0 (λ (x : Ptr × ℕ). ‵ (bytes_at x.0 x.1 r.bytes.bytes)) (λ i. ((there ∙ ended.0) i, ended.1 i)) refl $
-      fpack ! ((bytes : List ℕ) × (length bytes ≡ m.len)) (λ x. bytes_at (first_of m) m.start x.0) (r.bytes.bytes, ended.3) $
+      rewrite ! 0 (λ (x : Ptr × ℕ × List Change). ‵ (lent_at x.0 x.1 r.bytes.bytes x.2)) (λ i. ((there ∙ ended.0) i, ended.1 i, ended.4 i)) refl $
+      fpack ! ((bytes : List ℕ) × (length bytes ≡ m.len) × is_told) (λ x. lent_at (first_of m) m.start x.0 cs) (r.bytes.bytes, ended.3, ended.5) $
       sets ! (of_opd ! (unit_lit !)) refl (tt, tt) $
       returns ! (look_at ! 0 refl) $ free_all ! refl $ move ! (1 ∷ 0 ∷ []) $ join ! $
       suffices ! _ (ends_at 𝓛 exported stayed c (s (block_ptr b o)) vunit tt (tt, tt) (tt, tt)) $

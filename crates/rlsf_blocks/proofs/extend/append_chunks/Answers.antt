@@ -14,7 +14,7 @@ extend_chunk-requires g c =
     let false = c.if-is_some.false in
     let unlimited = no_most g.row.FLLEN (cc) in
     let (d, is, at) = found_chunk g.row.FLLEN s c.args.range unlimited (range_of c.args.memory.now) (omega (arith, c.if-len-eq0.false)) next in
-    (omega arith, (c.requires.parameters, (s, d, v, is, at)))
+    (omega arith, (c.requires.parameters, ((s, d, v, is, at), (λ a low high. c.requires.own a low (omega (arith, high))))))
 
 pub returns-in-None : goal.returns-in-None
 returns-in-None g c =

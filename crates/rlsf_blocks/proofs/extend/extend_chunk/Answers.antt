@@ -1,8 +1,8 @@
-use Rattle.std.proofs.Common.{◌≡◌, ◌-◌, ◌∙◌, arith, inl, refl, rules, ap, ℕ, ◌+◌, ◌%◌, ◌≤◌}
+use Rattle.std.proofs.Common.{subst, sym, ◌≡◌, ◌-◌, ◌∙◌, arith, inl, refl, rules, ap, ℕ, ◌+◌, ◌%◌, ◌≤◌}
 use Rattle.rlsf_base.specs.declared.memory.range.Range.{Range}
-use Rattle.rlsf_base.specs.Range.{end_of}
+use Rattle.rlsf_base.specs.Range.{end_of, range_at}
 use Rattle.rlsf_base.specs.Space.{Space, range_of, with_word}
-use Rattle.rlsf_base.specs.OpenSpace.{IsWritable}
+use Rattle.rlsf_base.specs.OpenSpace.{IsOwned, IsWritable}
 use Rattle.rlsf_model.specs.State.{State}
 use Rattle.rlsf_blocks.specs.StandsFor.{contents, StandsFor}
 use Rattle.rlsf_blocks.specs.Steps.Extension.{IsExtensible, lengthened, more_block}
@@ -13,12 +13,16 @@ use Rattle.rlsf_blocks.proofs.extend.extend_chunk.Given as given
 use Rattle.rlsf_blocks.proofs.extend.extend_chunk.Goals as goal
 use Rattle.rlsf_blocks.proofs.extend.extend_chunk.Goals.{After-set_word-3, Start}
 
+-- what is behind the chunk is the memory's own
+owned : (m : Space) (d : Range) (end len : ℕ) → IsOwned m (range_at end len) → end_of d ≡ end → IsOwned m (range_at (end_of d) len)
+owned m d end len own at = subst (λ e. IsOwned m (range_at e len)) (sym at) own
+
 -- the three words are written
 written : (g : given.Over) (c : After-set_word-3 g) {s : State} (d : Range) → StandsFor g.row.FLLEN g.row.SLLEN (contents c.args.memory.now c.args.table.now) s
     → IsExtensible g.row.FLLEN (range_of c.args.memory.now) s d c.args.len → end_of d ≡ c.args.end
     → AreExtended c.args.memory.now c.set_word.new.self c.set_word-2.new.self c.set_word-3.new.self d c.args.len
 written g c d v is at =
-    AreExtended-from v d c.args.len is at
+    AreExtended-from v d c.args.len is (owned c.args.memory.now d c.args.end c.args.len c.requires.own at) at
     (c.set_word.ensures.start, c.set_word.ensures.bytes ∙ ap (λ w. with_word c.args.memory.now (c.args.end - 32) w) c.used_size_word.ensures, c.set_word.ensures.out)
     (c.set_word-2.ensures.start, c.set_word-2.ensures.bytes, c.set_word-2.ensures.out) (c.set_word-3.ensures.start, c.set_word-3.ensures.bytes, c.set_word-3.ensures.out)
 
@@ -33,7 +37,8 @@ writable : (g : given.Over) (c : Start g) {s : State} {d : Range} (v : StandsFor
     → c.args.end - 32 ≤ a → a + 8 ≤ c.args.end + c.args.len → IsWritable n a
 writable g c {d = d} v is at same a whole from to =
     let p = placed v d c.args.len is in
-    IsWritable-in same (extension v d c.args.len is) (omega (arith, p.from, p.room), omega (arith, p.to, p.room)) (here_extension v d c.args.len is) a whole
+    IsWritable-in same (extension v d c.args.len is) (omega (arith, p.from, p.room), omega (arith, p.to, p.room))
+    (here_extension v d c.args.len is (owned c.args.memory.now d c.args.end c.args.len c.requires.own at)) a whole
     (omega (arith, at, from)) (omega (arith, at, to, p.room))
 
 pub set_word-requires : goal.set_word-requires
@@ -75,10 +80,10 @@ deallocate_block-requires g c =
           (
             lengthened d len (more_bytes n d len) s,
             more_block d len (more_bytes n d len),
-            StandsFor-lengthened v d len is writes,
+            StandsFor-lengthened v d len is writes (owned c.args.memory.now d c.args.end c.args.len c.requires.own at),
             inl refl,
             ap (λ e. e - 32) at,
-            here_more v d len is writes,
+            here_more v d len is writes (owned c.args.memory.now d c.args.end c.args.len c.requires.own at),
           ),
           search rules,
         ),
@@ -105,8 +110,9 @@ returns g c =
           let len = c.args.len in
           let writes = written g at_last d v is at in
           let bytes = more_bytes n3 d len in
-          grown_stands v d len is writes (c.deallocate_block.ensures.step (lengthened d len bytes s) (more_block d len bytes) (StandsFor-lengthened v d len is writes) (inl refl)
-          (ap (λ e. e - 32) at) (here_more v d len is writes));
+          grown_stands v d len is writes (c.deallocate_block.ensures.step (lengthened d len bytes s) (more_block d len bytes)
+          (StandsFor-lengthened v d len is writes (owned c.args.memory.now d c.args.end c.args.len c.requires.own at)) (inl refl)
+          (ap (λ e. e - 32) at) (here_more v d len is writes (owned c.args.memory.now d c.args.end c.args.len c.requires.own at)));
       costs =
           let first = Costs-written m n1 (c.args.end - 32) one.start one.len one.touches one.copied one.view one.out in
           let second = Costs-written n1 n2 (c.args.end - 32 + c.args.len) two.start two.len two.touches two.copied two.view two.out in

@@ -49,7 +49,7 @@ pub add_chunk-requires : goal.add_chunk-requires
 add_chunk-requires g c =
     let (s, v, fresh) = c.requires.fresh in
     let filled = c.loop-left.invariant s v fresh in
-    let new = IsNewChunk-next v c.args.range fresh filled (omega arith) in (
+    let new = IsNewChunk-next v c.args.range fresh filled (omega arith) c.requires.own in (
       omega arith,
       (
         c.requires.parameters,
@@ -72,7 +72,7 @@ pub loop-left-preserved : goal.loop-left-preserved
 loop-left-preserved g c = λ s v fresh.
     let filled = c.loop-left.invariant s v fresh in
     let same = c.chunk_length-len.ensures.value in
-    let new = IsNewChunk-next v c.args.range fresh filled (omega arith) in
+    let new = IsNewChunk-next v c.args.range fresh filled (omega arith) c.requires.own in
     let made =
     c.add_chunk.ensures.step filled.now filled.stands
     (subst (λ n. IsNewChunk g.row.FLLEN g.row.SLLEN c.loop-left.memory filled.now (range_at c.loop-left.start n)) (sym same) new) in
@@ -80,7 +80,7 @@ loop-left-preserved g c = λ s v fresh.
     subst (λ n. IsAdded g.row.FLLEN g.row.SLLEN c.loop-left.memory c.add_chunk.new.memory c.add_chunk.new.table filled.now.free (range_at c.loop-left.start n)) same made in
     subst (λ n. IsFilled g.row.FLLEN g.row.SLLEN c.args.memory.now s c.args.range c.add_chunk.new.memory c.add_chunk.new.table (c.loop-left.start + n) (c.loop-left.left - n))
     (sym same)
-    (IsFilled-next v c.args.range fresh filled (omega arith) c.add_chunk.new.memory c.add_chunk.new.table added c.add_chunk.ensures.costs)
+    (IsFilled-next v c.args.range fresh filled (omega arith) c.requires.own c.add_chunk.new.memory c.add_chunk.new.table added c.add_chunk.ensures.costs)
 
 pub overflow_sub-taken : goal.overflow_sub-taken
 overflow_sub-taken g c =

@@ -4,7 +4,7 @@ use Rattle.rlsf_heap.specs.Heap.{PayloadView}
 use Rattle.rlsf_heap.specs.Reallocation.{owned_by}
 use Rattle.rlsf_heap.specs.Replies.{IsReallocated, LeavesOthers}
 use Rattle.rlsf_malloc.specs.Resizing.{ResizesThere}
-use Rattle.rlsf_malloc.proofs.Outcomes.{kept_heap, same_heap, step_of}
+use Rattle.rlsf_malloc.proofs.Outcomes.{kept_heap, itself_heap, step_of}
 use Rattle.rlsf_malloc.proofs.Reallocated.{is_refused, is_resized, not_resized_there, resized_there, unchanged}
 use Rattle.rlsf_malloc.proofs.resizing.resize_there.Goals as goal
 
@@ -49,7 +49,7 @@ returns-in_default g c =
       at = λ moved. absurd (moved refl);
       no_layout = λ never. refl;
       step = λ layout. absurd (true≢false (sym (c.in_default.ensures.succeeds.1 layout)));
-      heap = same_heap old old refl (refl, refl) ready;
+      heap = itself_heap old ready;
       resized = λ moved. absurd (moved refl);
       refused = λ e. unchanged old p (is.written some);
       count = refl;

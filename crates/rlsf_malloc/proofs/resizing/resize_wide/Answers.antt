@@ -4,7 +4,7 @@ use Rattle.rlsf_heap.specs.Reallocation.{owned_by}
 use Rattle.rlsf_heap.specs.Replies.{IsReallocated}
 use Rattle.rlsf_heap.specs.ThinUnknownAlign.{StaysOrMoves}
 use Rattle.rlsf_malloc.specs.Resizing.{ResizesWide}
-use Rattle.rlsf_malloc.proofs.Outcomes.{kept_heap, same_heap, step_of}
+use Rattle.rlsf_malloc.proofs.Outcomes.{kept_heap, itself_heap, step_of}
 use Rattle.rlsf_malloc.proofs.Reallocated.{is_refused, is_resized, not_resized_wide, resized_wide, unchanged}
 use Rattle.rlsf_malloc.proofs.resizing.resize_wide.Goals as goal
 
@@ -48,7 +48,7 @@ returns-in_default g c =
       stays = λ layout long. absurd (true≢false (sym (c.in_default.ensures.succeeds.1 layout)));
       no_layout = λ never. refl;
       step = λ layout. absurd (true≢false (sym (c.in_default.ensures.succeeds.1 layout)));
-      heap = same_heap old old refl (refl, refl) ready;
+      heap = itself_heap old ready;
       at = λ moved. absurd (moved refl);
       there = λ e. refl;
       moved = λ moved. absurd (moved refl);

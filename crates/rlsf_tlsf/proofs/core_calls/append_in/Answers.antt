@@ -14,7 +14,7 @@ use Rattle.rlsf_tlsf.proofs.Reached.{LeavesCore-arrived, bare-core, reads}
 use Rattle.rlsf_tlsf.proofs.core_calls.append_in.Goals as goal
 
 pub append_chunks-taken-requires : goal.append_chunks-taken-requires
-append_chunks-taken-requires g c = (omega arith, (c.requires.core.valid, (_, c.requires.core.stands, c.requires.next)))
+append_chunks-taken-requires g c = (omega arith, (c.requires.core.valid, ((_, c.requires.core.stands, c.requires.next), c.requires.own)))
 
 pub returns : goal.returns
 returns g c =

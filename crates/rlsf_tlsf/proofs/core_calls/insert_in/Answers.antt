@@ -15,7 +15,7 @@ use Rattle.rlsf_tlsf.proofs.Reached.{LeavesCore-arrived, bare-core, reads}
 use Rattle.rlsf_tlsf.proofs.core_calls.insert_in.Goals as goal
 
 pub insert_chunks-taken-requires : goal.insert_chunks-taken-requires
-insert_chunks-taken-requires g c = (omega arith, (c.requires.core.valid, (_, c.requires.core.stands, c.requires.fresh)))
+insert_chunks-taken-requires g c = (omega arith, (c.requires.core.valid, ((_, c.requires.core.stands, c.requires.fresh), c.requires.own)))
 
 pub returns : goal.returns
 returns g c =

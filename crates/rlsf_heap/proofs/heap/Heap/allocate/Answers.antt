@@ -9,11 +9,13 @@ use Rattle.rlsf_blocks.specs.StandsFor.{contents, StandsFor}
 use Rattle.rlsf_tlsf.specs.Results.{IsAllocated}
 use Rattle.rlsf_tlsf.proofs.Arrivals.{arrived}
 use Rattle.rlsf_tlsf.proofs.Reached.{bare-core}
-use Rattle.rlsf_heap.specs.Heap.{AreIssued, Stands, Steps}
-use Rattle.rlsf_heap.specs.Kept.{KeepsSpareBytes, NoneBecomesRaw}
-use Rattle.rlsf_heap.proofs.Allocated.{issued-new, one_more, stands-left}
+use Rattle.rlsf_heap.specs.Heap.{AreIssued, Stands, Steps, lent_bytes}
+use Rattle.rlsf_heap.specs.Kept.{KeepsOwn, KeepsSpareBytes, NoneBecomesRaw}
+use Rattle.rlsf_heap.proofs.Allocated.{issued-new, one_more, own-left, stands-left}
+use Rattle.rlsf_heap.proofs.Rest.{rest_kept}
 use Rattle.rlsf_heap.proofs.Arrivals.{IsHeap-arrived}
 use Rattle.rlsf_heap.proofs.Kept.{raw-left, raw-stays, spare-last}
+use Rattle.rlsf_heap.proofs.LentBytes.{lent_kept}
 use Rattle.rlsf_heap.proofs.OnCores.{IsHeap-left, Steps-left, frame-left, same_identity, stays}
 use Rattle.rlsf_heap.proofs.Settled.{settled-here, settled-left, settled-stays}
 use Rattle.rlsf_heap.proofs.heap.Heap.allocate.Given as given
@@ -28,6 +30,9 @@ invariant_of-self-in-None g c =
     IsHeap-left e.left c.self.invariant.valid c.self.inside.ledger.entries
     (subst (λ (t : State). AreIssued t c.self.inside.ledger.entries) (sym e.refused.same) c.self.invariant.tickets)
     c.self.inside.live (c.self.invariant.counted ∙ ap live_count (sym e.refused.same))
+    (λ not_lent. rest_kept c.self.inside.memory c.allocate_in.new.memory (read_from c.self.inside.memory c.self.inside.state.state)
+    (read_from c.allocate_in.new.memory c.allocate_in.new.state.state) e.left.costs.start (ap (λ (t : State). t.chunks) e.refused.same)
+    (λ a from out again. e.left.own a from) (c.self.invariant.rest not_lent))
 
 pub returns-in-None : goal.returns-in-None
 returns-in-None g c =
@@ -35,7 +40,7 @@ returns-in-None g c =
     let e = c.in-None.ensures in
     let ledger = c.self.inside.ledger.name in
     rw (← c.self.view_is) (record {
-      step = Steps-left e.left ledger (Allocates g.row.SLLEN s c.args.layout.size c.args.layout.align None) e.step;
+      step = Steps-left e.left ledger c.self.inside.lent (Allocates g.row.SLLEN s c.args.layout.size c.args.layout.align None) e.step;
       result = tt;
       room = e.room;
       bounds = e.bounds;
@@ -59,6 +64,15 @@ stands g c =
     let over = c.hand_over-payload.ensures.over in
     stands-left e.step e.left.core.stands e.result c.hand_over-payload.new.memory over.memory.start over.memory.bytes over.memory.out
 
+-- the same bytes outside of all chunks are the memory's own
+kept_own : (g : given.Over) (c : After-hand_over-payload g) → KeepsOwn c.self.inside.memory (read_from c.self.inside.memory c.self.inside.state.state)
+    c.hand_over-payload.new.memory (read_from c.allocate_in.new.memory c.allocate_in.new.state.state)
+kept_own g c a from out again =
+    let e = c.in-Some.ensures in
+    let over = c.hand_over-payload.ensures.over in
+    own-left e.step e.left.core.stands e.result c.hand_over-payload.new.memory over.memory.start over.memory.out a (omega (arith, from, e.left.costs.start)) again
+    ∙ e.left.own a from
+
 pub invariant_of-self : goal.invariant_of-self
 invariant_of-self g c =
     let e = c.in-Some.ensures in
@@ -70,9 +84,11 @@ invariant_of-self g c =
     (issued-new e.step e.left.core.stands e.result c.self.invariant.stands.well_formed c.self.inside.ledger.entries c.self.invariant.tickets
     (extent r.start r.len c.align-align.result) refl refl c.align-align.ensures.value))
     (c.self.inside.live + 1) (one_more e.step e.left.core.stands e.result c.self.inside.live c.self.invariant.counted).0
+    (λ not_lent. rest_kept c.self.inside.memory c.hand_over-payload.new.memory (read_from c.self.inside.memory c.self.inside.state.state) t
+    (c.hand_over-payload.ensures.over.memory.start ∙ e.left.costs.start) (ap (λ (x : State). x.chunks) e.step.after) (kept_own g d) (c.self.invariant.rest not_lent))
 
 pub returns-in-Some : goal.returns-in-Some
-unfolding Steps Stands KeepsSpareBytes NoneBecomesRaw
+unfolding Steps Stands lent_bytes KeepsSpareBytes NoneBecomesRaw
 returns-in-Some g c =
     let m = c.self.inside.memory in
     let n = c.allocate_in.new.memory in
@@ -114,6 +130,9 @@ returns-in-Some g c =
               c.hand_over-payload.new.ledger.name c.hand_over-payload.ensures.name;
           place = (over.memory.start ∙ costs.start, ap length over.memory.bytes ∙ costs.length);
           spare = spare-last m n o s t over.memory.start over.memory.bytes e.left.spare;
+          lent = refl;
+          lent_bytes = lent_kept m o s t (over.memory.start ∙ costs.start) (ap (λ (x : State). x.chunks) e.step.after)
+              (kept_own g (goal.at.returns-in-Some g c).After-hand_over-payload);
           grow = omega (arith, costs.grow, over.counts.0);
         };
         bytes = record {

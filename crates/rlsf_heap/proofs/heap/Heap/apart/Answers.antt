@@ -66,6 +66,7 @@ invariant_of-self g c =
       tickets = subst (AreIssued (state g c)) (sym all)
           (issued-again (entries g c) (state g c) c.self.invariant.tickets (first g c).0 (second g c).0 (shown c.args.first) (shown c.args.second) (first g c).1 (second g c).1);
       counted = c.self.invariant.counted;
+      rest = c.self.invariant.rest;
     }
 
 pub returns : goal.returns
@@ -77,7 +78,7 @@ returns g c =
     let kept = c.issued-first.ensures.name ∙ names in
     let ledger = sym (ap (λ (o : HeapView). o.identity.ledger) c.self.view_is) in
     record {
-      heap = (λ i. heap_view c.self.inside.memory c.self.inside.table c.self.inside.state.state ((c.issued-second.ensures.name ∙ kept) i)) ∙ c.self.view_is;
+      heap = (λ i. heap_view c.self.inside.memory c.self.inside.table c.self.inside.state.state ((c.issued-second.ensures.name ∙ kept) i) c.self.inside.lent) ∙ c.self.view_is;
       payloads = (
         c.issued-first.ensures.payload
             ∙ ap (λ n. payload_view c.redeemed-part.result.0 c.redeemed-part.result.1 n) (names ∙ sym (ap (λ (o : Identity). o.ledger) c.requires.first ∙ ledger)) ∙ a.parts,

@@ -36,13 +36,14 @@ invariant_of-self g c =
     let m = c.self.inside.memory in let k = c.self.inside.state.state in let entries = c.self.inside.ledger.entries in
     let old = c.self.invariant in
     let Held : Space → List Entry → Type 0 =
-    λ n es. IsHeap g.FLBitmap.BitPattern.width g.SLBitmap.BitPattern.width g.row.FLLEN g.row.SLLEN n c.self.inside.table k es c.self.inside.live in
+    λ n es. IsHeap g.FLBitmap.BitPattern.width g.SLBitmap.BitPattern.width g.row.FLLEN g.row.SLLEN n c.self.inside.table k es c.self.inside.live c.self.inside.lent in
     let counted : Held (record m { touches = m.touches + 3 }) entries = record {
       valid = old.valid;
       stands = StandsFor-touched m (record m { touches = m.touches + 3 }) 3 refl old.stands;
       is_bare = old.is_bare;
       tickets = old.tickets;
       counted = old.counted;
+      rest = old.rest;
     } in
     subst (Held c.load_usable_bytes-range.new.memory) (ap (λ (l : Ledger). l.entries) (sym c.checked-payload.ensures.ledger))
     (subst (λ n. Held n entries) (sym c.load_usable_bytes-range.ensures.memory) counted)
@@ -59,6 +60,7 @@ returns g c =
       ticket = ticket_of_bytes of c.into_part-part.result one c.into_parts.result.1 ticket;
       live = subst (λ (v : HeapView). align_at v.state c.args.addr ≡ Some of.align) c.self.view_is
           (subst (λ a. align_at (read_from c.self.inside.memory c.self.inside.state.state) a ≡ Some of.align) c.requires.some.0 at);
-      heap = (λ i. heap_view (c.load_usable_bytes-range.ensures.memory i) c.self.inside.table c.self.inside.state.state (c.checked-payload.ensures.ledger i).name)
+      heap = (λ i. heap_view (c.load_usable_bytes-range.ensures.memory i) c.self.inside.table c.self.inside.state.state (c.checked-payload.ensures.ledger i).name
+          c.self.inside.lent)
           ∙ ap found c.self.view_is;
     }

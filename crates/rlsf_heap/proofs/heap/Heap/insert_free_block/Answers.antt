@@ -16,3 +16,6 @@ unfolding Steps
 returns-clause-refused g c = λ none.
     let e = c.insert_free_block_ptr.ensures in
     where_none _ c.insert_free_block_ptr.result (e.step.0.answer ∙ ap (bytes_taken c.args.range.start) none) e.refused
+
+pub returns-clause-pool : goal.returns-clause-pool
+returns-clause-pool g c = c.insert_free_block_ptr.ensures.pool.2

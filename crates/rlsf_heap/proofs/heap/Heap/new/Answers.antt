@@ -1,4 +1,4 @@
-use Rattle.std.proofs.Common.{ℕ, ◌-◌, ◌<◌, length, arith, ◌∙◌, ap, sym, subst}
+use Rattle.std.proofs.Common.{ℕ, ◌-◌, ◌<◌, false, length, arith, ◌∙◌, ap, sym, subst, refl}
 use Rattle.rlsf_model.specs.Insert.{IsUntouched}
 use Rattle.rlsf_model.specs.Sized.{live_count}
 use Rattle.rlsf_model.specs.State.{State, empty}
@@ -15,7 +15,7 @@ use Rattle.rlsf_heap.proofs.heap.Heap.new.Goals as goal
 
 -- the memory represents the empty state
 standing : (g : given.Over) (c : goal.After-new-3 g) → StandsFor g.row.FLLEN g.row.SLLEN (contents c.args.memory c.new.result) empty
-standing g c = StandsFor-empty c.requires.valid c.start.ensures.bounds (c.new.ensures c.args.memory) (λ a from. c.requires.own (a - c.args.memory.start))
+standing g c = StandsFor-empty c.requires.valid c.start.ensures.bounds (c.new.ensures c.args.memory)
 
 none_issued : (g : given.Over) (c : goal.After-new-3 g) → AreIssued empty c.new-3.result.entries
 none_issued g c =
@@ -24,15 +24,16 @@ none_issued g c =
 
 pub invariant_of-result : goal.invariant_of-result
 invariant_of-result g c = IsHeap-arrived (standing g c) c.new-2.result.state c.new-2.ensures c.requires.valid c.new-3.result.entries (none_issued g c) 0 (sym live_count-empty)
+    (λ not_lent a from out. c.requires.own (a - c.args.memory.start))
 
 pub returns-clause-untouched : goal.returns-clause-untouched
 returns-clause-untouched g c = λ r. subst (λ (s : State). IsUntouched s.chunks r) (sym c.new-2.ensures) (untouched_empty r)
 
 pub returns-clause-stands : goal.returns-clause-stands
-returns-clause-stands g c = Stands-arrived (standing g c) c.new-2.result.state c.new-2.ensures c.new-3.result.name
+returns-clause-stands g c = Stands-arrived (standing g c) c.new-2.result.state c.new-2.ensures c.new-3.result.name false
 
 pub returns-clause-count : goal.returns-clause-count
 returns-clause-count g c = ap (λ (s : State). live_count (read_from c.args.memory s)) c.new-2.ensures ∙ live_count-empty
 
-pub returns-clause-settled : goal.returns-clause-settled
-returns-clause-settled g c = λ none. settled-none c.args.memory none
+pub returns-clause-bytes : goal.returns-clause-bytes
+returns-clause-bytes g c = ((λ none. settled-none c.args.memory none), refl)

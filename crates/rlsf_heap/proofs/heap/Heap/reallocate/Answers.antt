@@ -72,7 +72,7 @@ pub invariant_of-self : goal.invariant_of-self
 invariant_of-self g c =
     let d = (goal.at.invariant_of-self g c).In_default-moved in
     IsHeap-over c.self.invariant c.args.payload (back_refused g d) c.in_default-moved.ensures.left (stayed g d) (whole g d)
-    c.align-align.ensures c.hand_over-payload.ensures.over
+    c.align-align.ensures c.hand_over-payload.ensures.over c.in_default-moved.ensures.frame.chunks
 
 pub returns-in_default-moved : goal.returns-in_default-moved
 returns-in_default-moved g c =
@@ -151,7 +151,7 @@ pub invariant_of-self-2 : goal.invariant_of-self-2
 invariant_of-self-2 g c =
     let d = (goal.at.invariant_of-self-2 g c).In-Some in
     IsHeap-over c.self.invariant c.args.payload (back_moved g d) c.in-Some.ensures.left (moved g d) (long g d c.next_multiple_of_32-end.ensures.value refl)
-    c.align-align.ensures c.hand_over-payload-2.ensures.over
+    c.align-align.ensures c.hand_over-payload-2.ensures.over c.in-Some.ensures.frame.chunks
 
 pub returns : goal.returns
 returns g c =
@@ -210,7 +210,7 @@ returns-in_default g c =
     λ fits. false≢true (c.in_default.ensures.succeeds.1 (subst (IsLayout c.args.size) (sym c.align-align.ensures) fits)) in record {
       step = subst (λ (o : HeapView). Steps g.row.FLLEN g.row.SLLEN o (λ t. IsLayout c.args.size c.args.payload.align
           → Reallocates g.row.SLLEN (owned_by c.args.self.now.state c.args.payload) c.args.payload.start c.args.size None t)) c.self.view_is
-          (Steps-arrived c.self.invariant.stands c.self.inside.state.state (sym (bare-kept c.self.invariant)) c.self.inside.ledger.name
+          (Steps-arrived c.self.invariant.stands c.self.inside.state.state (sym (bare-kept c.self.invariant)) c.self.inside.ledger.name c.self.inside.lent
           (λ t. IsLayout c.args.size c.args.payload.align → Reallocates g.row.SLLEN (owned_by c.args.self.now.state c.args.payload) c.args.payload.start c.args.size None t)
           (λ fits. absurd (none fits)));
       result = tt;

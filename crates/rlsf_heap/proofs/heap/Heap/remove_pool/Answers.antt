@@ -24,9 +24,9 @@ returns g c =
     let ledger = c.self.inside.ledger.name in
     let e = c.remove_in.ensures in
     rw (← c.self.view_is) (record {
-      step = Steps-left e.left ledger (Removes s (walked c.args.range)) e.step;
+      step = Steps-left e.left ledger c.self.inside.lent (Removes s (walked c.args.range)) e.step;
       untouched = e.result.untouched;
       result = e.result.gone;
-      frame = frame-pools e.left ledger e.frame;
+      frame = frame-pools e.left c.self.invariant (ap (λ (x : State). x.used) e.step) ledger e.frame;
       touches = e.touches;
     })

@@ -172,6 +172,7 @@ pub invariant_of-self : goal.invariant_of-self
 invariant_of-self g c =
     let e = (goal.at.invariant_of-self g c).After-renewed-ticket-2 in
     IsHeap-over c.self.invariant (pay g (f g e)) (back_last g e) c.resize_in-done.ensures.left (there g (f g e)) (range g e) c.renewed-ticket.ensures.ticket.3 (over g e)
+    (kept g (f g e)).chunks
 
 pub returns : goal.returns
 returns g c =
@@ -231,7 +232,7 @@ returns g c =
       bounds = sized_over is pay back e.left at whole aligned over size (λ most longest wide sized short fits.
           told g f (λ a. KeepsBoundsThere g.row.SLLEN (s g f) (t g f) a size) e.bounds most longest wide c.args.ticket.align sized (live_back is pay back) short fits);
       frame = record {
-        heap = keeps_over is pay back e.left at whole aligned over ledger label named;
+        heap = keeps_over is pay back e.left at whole aligned over kept.chunks ledger label named;
         bytes = bytes_over is pay back e.left at whole aligned over ledger label;
         chunks = reads (λ (x : State). x.chunks ≡ before.chunks) kept.chunks;
         copied = take.counts.1 ∙ (let e : c.resize_in-done.new.memory.copied ≡ m.copied = omega (arith, e.left.costs.copied, put.counts.1) in e);

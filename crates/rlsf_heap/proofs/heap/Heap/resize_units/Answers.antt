@@ -2,6 +2,7 @@ use Rattle.std.proofs.Common.{◌≡◌, ℕ, ◌+◌, ◌-◌, ◌≤◌, ◌�
 use Rattle.rlsf_base.specs.declared.memory.unit_payload.UnitPayload.{UnitPayload}
 use Rattle.rlsf_base.specs.Ledger.{Entry, entry_of, extent}
 use Rattle.rlsf_base.specs.OpenSpace.{Home, IsOwned, home_of, out_without}
+use Rattle.rlsf_base.specs.Out.{is_own}
 use Rattle.rlsf_base.specs.Range.{LiesIn, range_at}
 use Rattle.rlsf_base.specs.Space.{Space}
 use Rattle.rlsf_base.specs.UnitPayload.{pointer_to}
@@ -15,13 +16,15 @@ use Rattle.rlsf_tlsf.specs.Results.{IsResized}
 use Rattle.rlsf_tlsf.proofs.Reached.{read_from-counted, read_from-same}
 use Rattle.rlsf_heap.specs.Frame.{KeepsFrameBeside, KeepsSized}
 use Rattle.rlsf_heap.specs.Heap.{AreIssued, HeapView, Identity, IsHeap, Stands, Steps, heap_view}
-use Rattle.rlsf_heap.specs.Kept.{KeepsBytesBeside, NoneBecomesRawBeside}
+use Rattle.rlsf_heap.specs.Kept.{KeepsBytesBeside, KeepsOwn, NoneBecomesRawBeside}
 use Rattle.rlsf_heap.specs.Units.{IsInPlace, payload_len}
 use Rattle.rlsf_heap.proofs.Kept.{raw-tail, same-byte, spare-first, spare-last}
+use Rattle.rlsf_heap.proofs.LentBytes.{lent_kept}
 use Rattle.rlsf_heap.proofs.OnCores.{heap-over, same_identity, stays}
 use Rattle.rlsf_heap.proofs.UnitPayloads.{payload_len-whole}
-use Rattle.rlsf_heap.proofs.Shown.{IsReturned, block, held, lies, live, stands-back}
-use Rattle.rlsf_heap.proofs.ResizedUnits.{begins_at, now-issued, now-lies, now-own, now-stands, own-behind, readable, resized-long, same-long, shrinks, start-fits}
+use Rattle.rlsf_heap.proofs.Shown.{IsReturned, block, held, lies, live, outside-back, stands-back}
+use Rattle.rlsf_heap.proofs.Rest.{outside_unlent, rest_kept}
+use Rattle.rlsf_heap.proofs.ResizedUnits.{begins_at, now-issued, now-lies, now-outside, now-own, now-stands, own-behind, readable, resized-long, same-long, shrinks, start-fits}
 use Rattle.rlsf_heap.proofs.heap.Heap.resize_units.Given as given
 use Rattle.rlsf_heap.proofs.heap.Heap.resize_units.Goals as goal
 use Rattle.rlsf_heap.proofs.heap.Heap.resize_units.Goals.{After-put_unit_payload-block, After-resize_block_in}
@@ -163,9 +166,19 @@ module _ (g : given.Over) (c : After-resize_block_in g) where
           now-own b w (keeps as_left) now fits as_long c.resize_block_in.ensures.left.costs.start c.resize_block_in.ensures.left.own a (omega (arith, lo, at, kept_is))
           (omega (arith, lo, hi, at, kept_is, long))
 
+      -- the same bytes outside of all chunks are the memory's own
+      kept_own : q.out ≡ out_without o (range_at (c.put_unit_payload-block.result + 16 + c.lesser-kept.result) (len - c.lesser-kept.result))
+          → KeepsOwn m (read_from m k) q (read_from q j)
+      kept_own out a from before after =
+          let put = c.put_unit_payload-block.ensures.memory.start in
+          let left = c.resize_block_in.ensures.left in
+          ap is_own (now-outside b w (keeps as_left) now fits as_long q start (out ∙ (λ i. out_without o (range_at (at i + kept_is i) (long i - kept_is i)))) a
+          (omega (arith, from, put, left.costs.start)) (outside_unlent w.well_formed a after))
+          ∙ left.own a (omega (arith, from, put)) ∙ ap is_own (outside-back b a from (outside_unlent c.self.invariant.stands.well_formed a before))
+
       heap : (fs : List Entry) → fs ≡ c.put_unit_payload-block.new.ledger.entries ++ entry_of (extent (c.put_unit_payload-block.result + 16) len 16) true ∷ []
           → q.out ≡ out_without o (range_at (c.put_unit_payload-block.result + 16 + c.lesser-kept.result) (len - c.lesser-kept.result))
-          → IsHeap g.FLBitmap.BitPattern.width g.SLBitmap.BitPattern.width g.row.FLLEN g.row.SLLEN q c.resize_block_in.new.table j fs c.self.inside.live
+          → IsHeap g.FLBitmap.BitPattern.width g.SLBitmap.BitPattern.width g.row.FLLEN g.row.SLLEN q c.resize_block_in.new.table j fs c.self.inside.live c.self.inside.lent
       heap fs entries out = record {
         valid = c.self.invariant.valid;
         stands = now-stands b w (keeps as_left) now fits as_long q start bytes (out ∙ (λ i. out_without o (range_at (at i + kept_is i) (long i - kept_is i))));
@@ -174,6 +187,8 @@ module _ (g : given.Over) (c : After-resize_block_in g) where
             ((λ i. sym c.put_unit_payload-block.ensures.ledger.1 i ++ entry_of (extent (sym at i) (sym long i) 16) true ∷ []) ∙ sym entries)
             (now-issued b w (keeps as_left) now fits as_long);
         counted = c.self.invariant.counted ∙ sym (keeps as_left).count;
+        rest = λ not_lent. rest_kept m q (read_from m k) (read_from q j) (start ∙ c.resize_block_in.ensures.left.costs.start ∙ c.put_unit_payload-block.ensures.memory.start)
+            (keeps as_left).chunks (kept_own out) (c.self.invariant.rest not_lent);
       }
 
       in_place : {p : UnitPayload} → (p.home ≡ home_of o) × (p.start ≡ c.put_unit_payload-block.result + 16) × (p.len ≡ len) × (p.kept ≡ c.lesser-kept.result) → p.name ≡ ledger
@@ -196,7 +211,8 @@ module _ (g : given.Over) (c : After-resize_block_in g) where
 
       frame : q.view ≡ o.view → q.touches ≡ o.touches → q.copied ≡ o.copied
           → q.out ≡ out_without o (range_at (c.put_unit_payload-block.result + 16 + c.lesser-kept.result) (len - c.lesser-kept.result)) → {name : ℕ} → name ≡ ledger
-          → KeepsFrameBeside (heap_view m c.self.inside.table k ledger) (heap_view q c.resize_block_in.new.table j name) (range_at c.args.payload.start c.args.payload.len)
+          → KeepsFrameBeside (heap_view m c.self.inside.table k ledger c.self.inside.lent) (heap_view q c.resize_block_in.new.table j name c.self.inside.lent)
+          (range_at c.args.payload.start c.args.payload.len)
       unfolding NoneBecomesRawBeside
       frame view touches copied out {name} called =
           let put = c.put_unit_payload-block.ensures in
@@ -206,7 +222,7 @@ module _ (g : given.Over) (c : After-resize_block_in g) where
                 (ap length bytes ∙ costs.length ∙ ap length put.memory.bytes)
                 (view ∙ costs.view ∙ put.memory.view) (omega (arith, touches, costs.grow, put.counts.0))
                 (spare-last m o q (read_from m k) (read_from q j) start bytes (spare-first m n o (read_from m k) (read_from q j) put.memory.start put.memory.bytes left.spare))
-                ledger name called;
+                (lent_kept m q (read_from m k) (read_from q j) (start ∙ costs.start ∙ put.memory.start) (keeps as_left).chunks (kept_own out)) ledger name called;
             raw = raw-tail m n o q c.args.payload.start c.args.payload.kept c.args.payload.len c.args.payload.within.0 (lies b.shown).0 put.memory.start
                 put.memory.out (stays left) _ start
                 (omega (arith, (lies b.shown).0, at, put.memory.start, costs.start)) out;

@@ -30,5 +30,5 @@ returns g c =
           (subst (λ a. align_at (read_from m c.self.inside.state.state) a ≡ Some of.align) c.requires.some.0 (shown_live w (P.shown of) one));
       long = subst (λ (v : HeapView). length of.bytes ≡ length (bytes_at v.state c.args.addr)) c.self.view_is
           (subst (λ a. length of.bytes ≡ length (bytes_at (read_from m c.self.inside.state.state) a)) c.requires.some.0 (shown_long w (P.shown of) one));
-      same = (λ i. heap_view m c.self.inside.table c.self.inside.state.state (c.checked-payload.ensures.ledger i).name) ∙ c.self.view_is;
+      same = (λ i. heap_view m c.self.inside.table c.self.inside.state.state (c.checked-payload.ensures.ledger i).name c.self.inside.lent) ∙ c.self.view_is;
     }

@@ -1,5 +1,6 @@
 use Rattle.std.proofs.Common.{sym, subst, arith}
 use Rattle.rlsf_base.specs.Space.{range_of}
+use Rattle.rlsf_base.proofs.Lending.Present.{own-none}
 use Rattle.rlsf_model.specs.Insert.{Appends, IsNext}
 use Rattle.rlsf_tlsf.specs.Allocator.{Allocator, allocator}
 use Rattle.rlsf_tlsf.proofs.Opened.{IsAllocator-opened, view-opened}
@@ -9,7 +10,8 @@ use Rattle.rlsf_tlsf.proofs.tlsf.Tlsf.append_free_block_ptr.Goals as goal
 pub append_in-requires : goal.append_in-requires
 append_in-requires g c =
     let next = subst (λ (o : Allocator). IsNext (range_of o.memory) o.state c.args.range) (sym (view-opened c.self-inside.view_is c.self.view_is)) c.requires in
-    (omega arith, (core_again c.self-inside.view_is c.self.invariant g.FLBitmap.BitPattern.width_limit, next))
+    let own = own-none c.self-inside.inside.0.0.inner c.args.range (IsAllocator-opened c.self-inside.view_is c.self.invariant).whole in
+    (omega arith, (core_again c.self-inside.view_is c.self.invariant g.FLBitmap.BitPattern.width_limit, (next, own)))
 
 pub returns : goal.returns
 returns g c =

@@ -1,6 +1,7 @@
 use Rattle.std.proofs.Common.{sym, subst, arith}
 use Rattle.rlsf_base.specs.Addr.{reply}
 use Rattle.rlsf_base.specs.Space.{range_of}
+use Rattle.rlsf_base.proofs.Lending.Present.{own-none}
 use Rattle.rlsf_model.specs.Insert.{Inserts, IsFresh}
 use Rattle.rlsf_model.proofs.Untouched.{IsFresh-untouched}
 use Rattle.rlsf_tlsf.specs.Allocator.{Allocator, allocator}
@@ -13,7 +14,8 @@ insert_in-requires g c =
     let old = c.args.self.now in
     let fresh = subst (λ (o : Allocator). IsFresh (range_of o.memory) o.state c.args.range) (sym (view-opened c.self-inside.view_is c.self.view_is))
     (IsFresh-untouched (range_of old.memory) old.state c.args.range c.requires.lies_in c.requires.untouched) in
-    (omega arith, (core_again c.self-inside.view_is c.self.invariant g.FLBitmap.BitPattern.width_limit, fresh))
+    let own = own-none c.self-inside.inside.0.0.inner c.args.range (IsAllocator-opened c.self-inside.view_is c.self.invariant).whole in
+    (omega arith, (core_again c.self-inside.view_is c.self.invariant g.FLBitmap.BitPattern.width_limit, (fresh, own)))
 
 pub returns : goal.returns
 returns g c =

@@ -1,7 +1,5 @@
 use Rattle.std.proofs.Common.{◌≡◌, ℕ, ◌+◌, ◌^◌, ◌<◌, ◌≤◌, [], true, length, arith, ◌∙◌, ap, rules, sym, subst}
-use Rattle.rlsf_base.specs.Out.{is_own}
-use Rattle.rlsf_base.specs.Space.{Space, byte_range, out_at}
-use Rattle.rlsf_base.proofs.Lending.Present.{own-none}
+use Rattle.rlsf_base.specs.Space.{Space}
 use Rattle.rlsf_model.specs.Insert.{IsUntouched}
 use Rattle.rlsf_model.specs.Sized.{live_count}
 use Rattle.rlsf_model.specs.State.{State, empty}
@@ -19,10 +17,6 @@ module _ (m n : Space) (same : m ≡ n) (none : m.out ≡ []) where
   whole : n.out ≡ []
   whole = ap (λ (o : Space). o.out) (sym same) ∙ none
 
-  -- each byte is its own
-  own : (a : ℕ) → n.start ≤ a → is_own (out_at n a) ≡ true
-  own a from = own-none n (byte_range a) whole a (omega arith) (omega arith)
-
   bounds : (0 < m.start) × (m.start + length m.bytes < 2 ^ 64) → (0 < n.start) × (n.start + length n.bytes < 2 ^ 64)
   bounds = subst (λ (o : Space). (0 < o.start) × (o.start + length o.bytes < 2 ^ 64)) same
 
@@ -31,7 +25,7 @@ standing : (g : given.Over) (c : goal.After-new-2 g) → StandsFor g.row.FLLEN g
 standing g c =
     let m = c.memory.inside.inner in
     let n = c.args.memory in
-    StandsFor-empty c.requires (bounds m n c.memory.view_is c.memory.invariant c.start.ensures.bounds) (c.new.ensures n) (own m n c.memory.view_is c.memory.invariant)
+    StandsFor-empty c.requires (bounds m n c.memory.view_is c.memory.invariant c.start.ensures.bounds) (c.new.ensures n)
 
 pub invariant_of-result : goal.invariant_of-result
 invariant_of-result g c =

@@ -11,10 +11,10 @@ use Rattle.rlsf_base.proofs.Lending.Present.{own-in}
 use Rattle.rlsf_base.proofs.memory.open_memory.OpenMemory.into_raw_parts.Goals as goal
 
 pub returns-clause-own : goal.returns-clause-own
-returns-clause-own c =
+returns-clause-own c = λ own.
     let m = c.self.inside in
     let here : IsOwn m.bytes.out 0 (length c.args.self.bytes) =
-    own-in m.bytes.out c.args.self (range_of c.args.self) 0 (ap (λ (s : Space). s.out) c.self.view_is) (omega arith) (omega arith) c.requires.own in
+    own-in m.bytes.out c.args.self (range_of c.args.self) 0 (ap (λ (s : Space). s.out) c.self.view_is) (omega arith) (omega arith) own in
     λ k lo hi. ap (λ cs. is_own (kept_at cs k)) c.from_first-bytes.ensures.1.3 ∙ here k lo (omega (arith, hi))
 
 -- where the first byte is not the block's first, the block is the system's, and the address of the byte no multiple of 16
