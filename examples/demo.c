@@ -51,16 +51,30 @@ static void numbers(void) {
 }
 _Static_assert(RLSF_POOL_SIZE % sizeof(size_t) == 0, "handles in an array are aligned");
 
-/* Each error has a text of its own, and no other number has one. */
+/* The text of each number, with an error and without one. */
 static void texts(void) {
-    static const size_t errors[] = {0, 2, 3, 4, 5, 6, 7, 8, 9, 10, 11, 12, 13, 14, 15, 16};
-    enum { COUNT = sizeof errors / sizeof *errors };
-    for (size_t i = 0; i < COUNT; i++)
-        for (size_t j = 0; j <= i; j++) WANT(strcmp(rlsf_pool_error_text(errors[i]), rlsf_pool_error_text(errors[j])) == 0, i == j);
-    WANT(strcmp(rlsf_pool_error_text(1), "unknown error"), 0);
-    WANT(strcmp(rlsf_pool_error_text(17), "unknown error"), 0);
+    static const char *const all[] = {
+        "success",
+        "unknown error",
+        "the system is out of memory",
+        "no payload is live at the address",
+        "the bytes go past those of the payload",
+        "the range doesn't lie in the memory",
+        "the range begins before the end of the last range",
+        "the range doesn't begin at the end of the last range",
+        "no part of the range can be used",
+        "no layout has the size and the alignment",
+        "there is no room",
+        "there is no such kind of pool",
+        "the start is 0, which is no address",
+        "the end lies past the greatest address",
+        "no block begins at the address or behind it",
+        "a payload is live in the range",
+        "the range isn't complete contiguous chunks",
+        "unknown error",
+    };
+    for (size_t i = 0; i < sizeof all / sizeof *all; i++) WANT(strcmp(rlsf_pool_error_text(i), all[i]), 0);
     WANT(strcmp(rlsf_pool_error_text((size_t)-1), "unknown error"), 0);
-    WANT(strcmp(rlsf_pool_error_text(RLSF_NO_ROOM), "there is no room"), 0);
     char version[16];
     snprintf(version, sizeof version, "%d.%d.%d", RLSF_VERSION_MAJOR, RLSF_VERSION_MINOR, RLSF_VERSION_PATCH);
     WANT(strcmp(version, RLSF_VERSION), 0);

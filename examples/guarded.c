@@ -15,14 +15,17 @@ typedef struct {
     rlsf_heap *heap;
     size_t start; /* the memory, from the first multiple of 16 on */
     size_t len;
+    size_t pool; /* the number of bytes of the memory's pool */
     unsigned char *bits;
 } guarded;
 
 /* Makes a heap as rlsf_heap_init does. Returns whether there is such a kind and enough memory. */
 static int guarded_init(guarded *all, void *handle, size_t kind, void *memory, size_t len, unsigned char *bits) {
     size_t skipped = (0 - (size_t)memory) % 16;
-    all->heap = rlsf_heap_init(handle, kind, memory, len);
+    all->heap = rlsf_heap_begin(handle, kind);
     if (!all->heap) return 0;
+    all->pool = rlsf_heap_add(all->heap, memory, len);
+    if (!all->pool) return 0;
     all->start = (size_t)memory + skipped;
     all->len = len - skipped;
     all->bits = memset(bits, 0, GUARDED_BITS(len));
@@ -73,7 +76,7 @@ static int is_right(guarded *all, char *memory, size_t len) {
     moved = guarded_realloc(all, first, 5000);
     right &= moved && moved != first && !guarded_free(all, first);
     right &= guarded_free(all, moved) && !guarded_free(all, moved) && guarded_free(all, second) && !guarded_free(all, second);
-    return right && rlsf_heap_stats(all->heap).payloads == 0;
+    return right && rlsf_heap_stats(all->heap, memory + 1, all->pool).payloads == 0;
 }
 
 int main(void) {

@@ -180,17 +180,20 @@ static void try(void *handle, size_t kind, size_t len, size_t longest, size_t ca
     unsigned char *block = malloc(len + 1);
     rlsf_heap *heap;
     rlsf_totals before, after;
+    size_t taken;
     void *all;
     want(block != NULL, "the system has no memory");
-    /* At an odd address: the heap begins at the next multiple of 16. */
-    heap = rlsf_heap_init(handle, kind, block + 1, len);
+    heap = rlsf_heap_begin(handle, kind);
     want(heap != NULL, "there is no such kind");
-    before = rlsf_heap_stats(heap);
+    /* At an odd address: the first block begins at the next multiple of 32. */
+    taken = rlsf_heap_add(heap, block + 1, len);
+    want(taken <= len && taken > len - 64, "another length is added");
+    before = rlsf_heap_stats(heap, block + 1, taken);
     want(before.payloads == 0 && before.free > len - 200 && before.free < len, "a new heap has other totals");
     known(heap);
     all = rlsf_malloc(heap, longest);
     want(all != NULL, "there is no room in a new heap");
-    after = rlsf_heap_stats(heap);
+    after = rlsf_heap_stats(heap, block + 1, taken);
     want(after.payloads == 1 && after.used >= longest && after.used + after.free == before.free, "a payload isn't in the totals");
     rlsf_free(heap, all);
     for (size_t i = 0; i < threads; i++) {
@@ -199,7 +202,7 @@ static void try(void *handle, size_t kind, size_t len, size_t longest, size_t ca
         want(pthread_create(&running[i], NULL, work, &workers[i]) == 0, "no thread starts");
     }
     for (size_t i = 0; i < threads; i++) pthread_join(running[i], NULL);
-    after = rlsf_heap_stats(heap);
+    after = rlsf_heap_stats(heap, block + 1, taken);
     want(after.payloads == 0 && after.used == 0 && after.free == before.free && after.longest == before.longest, "a heap without payloads has other totals");
     /* Every byte is back: what fitted at first fits, at the same place. */
     want(rlsf_malloc(heap, longest) == all, "a heap without payloads isn't as it was");
@@ -217,7 +220,7 @@ int main(int count, char **words) {
     if (threads < 1 || threads > MOST_THREADS) threads = 1;
     want(rlsf_small_size() + sizeof(rlsf_heap) == RLSF_SMALL_HEAP_SIZE && rlsf_heap_size(RLSF_SMALL) == sizeof small, "a small handle has another size");
     want(rlsf_large_size() + sizeof(rlsf_heap) == RLSF_LARGE_HEAP_SIZE && rlsf_heap_size(RLSF_LARGE) == sizeof large, "a large handle has another size");
-    want(rlsf_heap_size(3) == 0 && rlsf_heap_init(&large, 3, &large, 99) == NULL, "there is a kind 3");
+    want(rlsf_heap_size(3) == 0 && rlsf_heap_init(&large, 3, &large, 99) == NULL && rlsf_heap_begin(&large, 3) == NULL, "there is a kind 3");
     try(&small, RLSF_SMALL, 120000, 100000, calls / 2, threads);
     try(&large, RLSF_LARGE, 3000000, 300000, calls / 2, threads);
     return 0;

@@ -10,8 +10,7 @@ _Static_assert(sizeof(rlsf_small_handle) == RLSF_SMALL_HEAP_SIZE && sizeof(rlsf_
 
 static _Alignas(64) unsigned char memory[POOLS * LEN];
 static rlsf_large_handle handle;
-static rlsf_part parts[POOLS];
-static size_t taken[POOLS];
+static rlsf_range pools[POOLS];
 static int failures;
 
 static void want(const char *what, size_t got, size_t wanted) {
@@ -26,11 +25,8 @@ static unsigned char *pool(size_t i) { return memory + i * LEN; }
 
 /* A heap with pools that don't touch each other. */
 static rlsf_heap *with_pools(size_t kind) {
-    rlsf_heap *heap = rlsf_heap_begin(&handle, kind, memory, sizeof memory);
-    for (size_t i = 0; i < POOLS; i++) {
-        WANT(rlsf_heap_try_add(heap, &parts[i], pool(i), LEN - 64), RLSF_ADD_OK);
-        taken[i] = parts[i].len;
-    }
+    rlsf_heap *heap = rlsf_heap_begin(&handle, kind);
+    for (size_t i = 0; i < POOLS; i++) WANT(rlsf_heap_try_add(heap, pools, i, pool(i), LEN - 64), RLSF_ADD_OK);
     return heap;
 }
 
@@ -43,10 +39,10 @@ static void lists(rlsf_heap *heap, void **live, size_t most) {
         size_t at = (size_t)pool(i), got, before = found, used = 0, unused = 0;
         do {
             memset(spans, 7, sizeof spans);
-            got = rlsf_heap_walk(heap, pool(i), taken[i], (void *)at, spans, most);
+            got = rlsf_heap_walk(heap, pool(i), pools[i].len, (void *)at, spans, most);
             WANT(spans[got].start, 0x0707070707070707u);
             for (size_t j = 0; j < got; j++) {
-                WANT(spans[j].start >= at && spans[j].start + spans[j].len <= (size_t)pool(i) + taken[i], 1);
+                WANT(spans[j].start >= at && spans[j].start + spans[j].len <= (size_t)pool(i) + pools[i].len, 1);
                 at = spans[j].start + spans[j].len;
                 *(spans[j].used ? &used : &unused) += spans[j].len;
                 size_t payloads = 0;
@@ -55,30 +51,30 @@ static void lists(rlsf_heap *heap, void **live, size_t most) {
                 found += payloads;
             }
         } while (got == most);
-        rlsf_totals totals = rlsf_heap_pool_stats(heap, pool(i), taken[i]);
+        rlsf_totals totals = rlsf_heap_stats(heap, pool(i), pools[i].len);
         WANT(totals.payloads, found - before);
         WANT(totals.used, used);
         WANT(totals.free, unused);
-        WANT(rlsf_heap_check(heap, pool(i), taken[i]), 1);
     }
+    WANT(rlsf_heap_check(heap, pools, POOLS), 1);
     WANT(found, held);
 }
 
-/* Each wrong word in a header of the last pool is found, and a pool is right again once the word is written back. */
-static void overruns(rlsf_heap *heap) {
+/* Each wrong word in a header of a pool is found, and the heap is right again once the word is written back. */
+static void overruns(rlsf_heap *heap, size_t i) {
     static rlsf_span spans[MOST];
-    size_t count = rlsf_heap_walk(heap, NULL, 0, NULL, spans, MOST), words = 0;
-    WANT(rlsf_heap_check(heap, NULL, 0), 1);
-    for (size_t i = 0; i < count; i++) {
-        size_t *word = (size_t *)spans[i].start;
-        for (size_t j = 0; j < (spans[i].used ? 2 : 4); j++, words++) {
+    size_t count = rlsf_heap_walk(heap, pool(i), pools[i].len, NULL, spans, MOST), words = 0;
+    WANT(rlsf_heap_check(heap, pools, POOLS), 1);
+    for (size_t n = 0; n < count; n++) {
+        size_t *word = (size_t *)spans[n].start;
+        for (size_t j = 0; j < (spans[n].used ? 2 : 4); j++, words++) {
             size_t right = word[j];
             word[j] = right ^ 0x4545454545454545u;
-            WANT(rlsf_heap_check(heap, NULL, 0), 0);
-            word[j] = right + 32;
-            WANT(rlsf_heap_check(heap, NULL, 0), 0);
+            WANT(rlsf_heap_check(heap, pools, POOLS), 0);
+            word[j] = right ? right + 32 : (size_t)memory + 64;
+            WANT(rlsf_heap_check(heap, pools, POOLS), 0);
             word[j] = right;
-            WANT(rlsf_heap_check(heap, NULL, 0), 1);
+            WANT(rlsf_heap_check(heap, pools, POOLS), 1);
         }
     }
     WANT(words > 20, 1);
@@ -96,12 +92,9 @@ static void run(size_t kind) {
     lists(heap, live, MOST);
     lists(heap, live, 7);
     lists(heap, live, 1);
-    rlsf_span last[MOST], same[MOST];
-    size_t count = rlsf_heap_walk(heap, NULL, 0, NULL, last, MOST);
-    WANT(rlsf_heap_walk(heap, pool(POOLS - 1), taken[POOLS - 1], NULL, same, MOST), count);
-    WANT(memcmp(last, same, count * sizeof *last), 0);
-    WANT(rlsf_heap_walk(heap, NULL, 0, NULL, last, 0), 0);
-    overruns(heap);
+    rlsf_span none[1];
+    WANT(rlsf_heap_walk(heap, pool(0), pools[0].len, NULL, none, 0), 0);
+    for (size_t i = 0; i < POOLS; i++) overruns(heap, i);
     rlsf_heap_end(heap);
 }
 

@@ -1,61 +1,129 @@
-/* rlsf_heap_try_add refuses a range outside of the heap's memory and one that overlaps a pool, by name, and nothing else. */
+/* rlsf_heap_add takes exactly the bytes that make a pool, wherever they lie. rlsf_heap_try_add refuses a range outside of the addresses of a heap
+ * and one that overlaps a pool, by name, and nothing else. */
 #include "rlsf.h"
 #include "want.h"
+#include <string.h>
 
 enum { LEN = 1 << 16 };
 static _Alignas(64) unsigned char memory[4 * LEN];
 static rlsf_large_handle handle;
 
-static void with_kind(size_t kind) {
-    static rlsf_part parts[4];
-    rlsf_heap *heap = rlsf_heap_begin(&handle, kind, memory + LEN, 2 * LEN);
-    unsigned char *start = memory + LEN;
-    WANT(rlsf_heap_try_add(heap, &parts[0], start - 64, LEN), RLSF_ADD_OUTSIDE);
-    WANT(rlsf_heap_try_add(heap, &parts[0], start + LEN, LEN + 1), RLSF_ADD_OUTSIDE);
-    WANT(rlsf_heap_try_add(heap, &parts[0], start + 3 * LEN, 32), RLSF_ADD_OUTSIDE);
-    WANT(rlsf_heap_try_add(heap, &parts[0], start + 64, (size_t)0 - 64), RLSF_ADD_OUTSIDE);
-    WANT(rlsf_heap_try_add(heap, &parts[0], start + 64, 63), RLSF_ADD_TOO_SHORT);
+/* A refused add leaves the pools, the record behind them and the bytes as they are. */
+static void refuses(rlsf_heap *heap, rlsf_range *pools, size_t count, void *start, size_t len, rlsf_add_error error) {
+    static unsigned char before[sizeof memory];
+    static rlsf_large_handle was;
+    rlsf_range record = pools[count];
+    memcpy(before, memory, sizeof memory);
+    was = handle;
+    WANT(rlsf_heap_try_add(heap, pools, count, start, len), error);
+    WANT(memcmp(before, memory, sizeof memory) || memcmp(&was, &handle, sizeof handle), 0);
+    WANT(pools[count].start == record.start && pools[count].len == record.len, 1);
+}
+
+/* Of several errors the first is returned. */
+static void errors(size_t kind) {
+    rlsf_range pools[4] = {{0, 0}, {1, 2}, {3, 4}, {5, 7}};
+    const size_t past = (size_t)1 << 58;
+    rlsf_heap *heap = rlsf_heap_begin(&handle, kind);
+    refuses(heap, pools, 0, (void *)16, 64, RLSF_ADD_OUTSIDE);
+    refuses(heap, pools, 0, (void *)31, 0, RLSF_ADD_OUTSIDE);
+    refuses(heap, pools, 0, (void *)32, 63, RLSF_ADD_TOO_SHORT);
+    refuses(heap, pools, 0, (void *)(past - 64), 65, RLSF_ADD_OUTSIDE);
+    refuses(heap, pools, 0, (void *)(past - 63), 63, RLSF_ADD_TOO_SHORT);
+    refuses(heap, pools, 0, (void *)past, 0, RLSF_ADD_TOO_SHORT);
+    refuses(heap, pools, 0, (void *)past, 1, RLSF_ADD_OUTSIDE);
+    refuses(heap, pools, 0, (void *)(past + 1), 0, RLSF_ADD_OUTSIDE);
+    refuses(heap, pools, 0, memory, (size_t)0 - 64, RLSF_ADD_OUTSIDE);
     WANT(rlsf_malloc(heap, 1) == NULL, 1);
-    WANT(rlsf_heap_try_add(heap, &parts[0], start + 4096, 4096), RLSF_ADD_OK);
-    WANT(parts[0].start == (size_t)start + 4096 && parts[0].len == 4096, 1);
-    WANT(rlsf_heap_try_add(heap, &parts[1], start + 4096, 4096), RLSF_ADD_OVERLAPS);
-    WANT(rlsf_heap_try_add(heap, &parts[1], start, 4097), RLSF_ADD_OVERLAPS);
-    WANT(rlsf_heap_try_add(heap, &parts[1], start + 8191, 4096), RLSF_ADD_OVERLAPS);
-    WANT(rlsf_heap_try_add(heap, &parts[1], start + 5000, 16), RLSF_ADD_OVERLAPS);
-    WANT(rlsf_heap_try_add(heap, &parts[1], start, 2 * LEN), RLSF_ADD_OVERLAPS);
-    WANT(rlsf_heap_try_add(heap, &parts[1], start + LEN, LEN), RLSF_ADD_OK);
-    WANT(rlsf_heap_try_add(heap, &parts[2], start, 4096), RLSF_ADD_OK);
-    WANT(rlsf_heap_try_add(heap, &parts[3], start + 8192, LEN - 8192), RLSF_ADD_OK);
-    unsigned char *payload = rlsf_malloc(heap, 60000), *next = rlsf_malloc(heap, 50000);
-    WANT(payload >= start + LEN && payload + 60000 <= start + 2 * LEN, 1);
-    WANT(next >= start + 8192 && next + 50000 <= start + LEN, 1);
-    rlsf_free(heap, payload);
-    rlsf_free(heap, next);
+    for (size_t n = 0; n < 3; n++) {
+        WANT(rlsf_heap_try_add(heap, pools, n, memory + (2 - n) * LEN, 4096), RLSF_ADD_OK);
+        WANT(pools[n].start == (size_t)(memory + (2 - n) * LEN) && pools[n].len == 4096, 1);
+    }
+    for (size_t n = 0; n < 3; n++) {
+        unsigned char *pool = memory + n * LEN;
+        refuses(heap, pools, 3, pool, 4096, RLSF_ADD_OVERLAPS);
+        refuses(heap, pools, 3, pool, 1, RLSF_ADD_OVERLAPS);
+        refuses(heap, pools, 3, pool + 4095, 1, RLSF_ADD_OVERLAPS);
+        refuses(heap, pools, 3, pool + 4095, LEN - 4000, RLSF_ADD_OVERLAPS);
+        refuses(heap, pools, 3, pool + 4096, 63, RLSF_ADD_TOO_SHORT);
+        refuses(heap, pools, 3, pool + 5000, 0, RLSF_ADD_TOO_SHORT);
+    }
+    refuses(heap, pools, 3, memory + LEN - 64, 65, RLSF_ADD_OVERLAPS);
+    refuses(heap, pools, 3, memory, sizeof memory, RLSF_ADD_OVERLAPS);
+    refuses(heap, pools, 3, (void *)32, past - 32, RLSF_ADD_OVERLAPS);
+    refuses(heap, pools, 3, (void *)32, past - 31, RLSF_ADD_OUTSIDE);
+    WANT(rlsf_heap_try_add(heap, pools, 3, memory + LEN - 64, 64), RLSF_ADD_OK);
+    WANT(rlsf_heap_check(heap, pools, 4), 1);
     rlsf_heap_end(heap);
 }
 
-/* Beside pools of the other two calls. */
-static void beside_others(size_t kind) {
-    static rlsf_part part, other;
-    rlsf_heap *heap = rlsf_heap_init(&handle, kind, memory, LEN);
-    WANT(rlsf_heap_try_add(heap, &part, memory, 4096), RLSF_ADD_OVERLAPS);
-    WANT(rlsf_heap_try_add(heap, &part, memory + LEN - 64, 64), RLSF_ADD_OVERLAPS);
+/* Ranges of each length, at each start modulo 32: a pool reaches from the first multiple of 32 to the last one, if these are 64 bytes apart. Its
+ * length counts from the start of the range. No byte before or behind it changes, and the next pool may begin at its end. */
+static void at_each_start(size_t kind) {
+    rlsf_range pools[2] = {{0, 0}, {0, 0}};
+    rlsf_heap *heap = rlsf_heap_begin(&handle, kind);
+    for (size_t from = 0; from < 32; from++)
+        for (size_t len = 0; len < 160; len++) {
+            size_t start = (from + 31) / 32 * 32, end = (from + len) / 32 * 32, taken = end >= start + 64 ? end - from : 0;
+            unsigned char *range = memory + 4096 + from, *payload;
+            memset(memory, 0xa5, 8192);
+            pools[0].len = 7;
+            WANT(rlsf_heap_try_add(heap, pools, 0, range, len), taken ? RLSF_ADD_OK : RLSF_ADD_TOO_SHORT);
+            WANT(pools[0].len, taken ? taken : 7);
+            payload = rlsf_malloc(heap, 16);
+            WANT(payload != NULL, taken != 0);
+            if (payload) memset(payload, 1, rlsf_usable_size(heap, payload));
+            for (unsigned char *byte = memory; byte < memory + 8192; byte++)
+                if (byte < memory + 4096 + start || byte >= range + (taken ? taken - 16 : 0)) WANT(*byte, 0xa5);
+            if (!taken) continue;
+            WANT(rlsf_heap_remove(heap, range, taken), 0);
+            rlsf_free(heap, payload);
+            WANT(rlsf_heap_stats(heap, range, taken).free, end - start - 32);
+            WANT(rlsf_heap_try_add(heap, pools, 1, range + taken, 64), RLSF_ADD_OK);
+            WANT(rlsf_heap_remove(heap, range, taken), 1);
+            WANT(rlsf_heap_remove(heap, range + taken, 64), 1);
+            WANT(rlsf_heap_add(heap, range, len), taken);
+            WANT(rlsf_heap_remove(heap, range, taken), 1);
+        }
+    WANT(rlsf_malloc(heap, 0) == NULL, 1);
     rlsf_heap_end(heap);
-    heap = rlsf_heap_begin(&handle, kind, memory, 4 * LEN);
-    WANT(rlsf_heap_add(heap, memory + 2 * LEN, LEN), LEN);
-    WANT(rlsf_heap_add(heap, memory, 4096), 4096);
-    WANT(rlsf_heap_try_add(heap, &part, memory, 4096), RLSF_ADD_OVERLAPS);
-    WANT(rlsf_heap_try_add(heap, &part, memory + 3 * LEN - 64, 128), RLSF_ADD_OVERLAPS);
-    WANT(rlsf_heap_try_add(heap, &part, memory + LEN, 4096), RLSF_ADD_OVERLAPS);
-    WANT(rlsf_heap_try_add(heap, &part, memory + 3 * LEN, LEN), RLSF_ADD_OK);
-    WANT(rlsf_heap_try_add(heap, &other, memory + 4 * LEN - 64, 64), RLSF_ADD_OVERLAPS);
-    rlsf_heap_end(heap);
+}
+
+/* An appended range is taken but for what is past a multiple of 32; in a small heap it becomes chunks of its own. */
+static void appends(size_t kind) {
+    static const size_t lens[] = {0, 31, 32, 63, 64, 95, 4096, 4127, 4128};
+    for (size_t n = 0; n < sizeof lens / sizeof *lens; n++) {
+        size_t taken = lens[n] / 32 * 32;
+        rlsf_heap *heap = rlsf_heap_begin(&handle, kind);
+        if (kind == RLSF_SMALL && taken < 64) taken = 0;
+        memset(memory, 0xa5, 16384);
+        WANT(rlsf_heap_add(heap, memory + 5, 4091), 4091);
+        WANT(rlsf_heap_append(heap, memory + 4096, lens[n]), taken);
+        rlsf_totals totals = rlsf_heap_stats(heap, memory + 5, 4091 + taken);
+        WANT(totals.free, 4096 - 64 + taken - (kind == RLSF_SMALL && taken ? 32 : 0));
+        WANT(totals.longest, kind == RLSF_LARGE || taken < 4096 ? 4096 - 64 + (kind == RLSF_LARGE ? taken : 0) : taken - 32);
+        WANT(rlsf_malloc(heap, 7500) != NULL, kind == RLSF_LARGE && taken >= 4096);
+        for (size_t k = 4096 + taken; k < 16384; k++) WANT(memory[k], 0xa5);
+        WANT(rlsf_heap_remove(heap, memory + 5, 4091 + taken), kind == RLSF_SMALL || taken < 4096);
+        rlsf_heap_end(heap);
+    }
+}
+
+/* A heap of few bytes has room from 64 on. There are two kinds: with another number the handle is unchanged. */
+static void of_few_bytes(size_t kind) {
+    static rlsf_large_handle before;
+    for (size_t len = 0; len < 80; len++) WANT(rlsf_malloc(rlsf_heap_init(&handle, kind, memory, len), 16) != NULL, len >= 64);
+    memset(&before, 0xa5, sizeof before);
+    handle = before;
+    WANT(rlsf_heap_size(3 * kind) == 0 && !rlsf_heap_init(&handle, 3 * kind, memory, LEN) && !rlsf_heap_begin(&handle, 3 * kind), 1);
+    WANT(memcmp(&handle, &before, sizeof handle), 0);
 }
 
 int main(void) {
-    with_kind(RLSF_SMALL);
-    with_kind(RLSF_LARGE);
-    beside_others(RLSF_SMALL);
-    beside_others(RLSF_LARGE);
+    static void (*const tests[])(size_t) = {errors, at_each_start, appends, of_few_bytes};
+    for (size_t n = 0; n < sizeof tests / sizeof *tests; n++) {
+        tests[n](RLSF_SMALL);
+        tests[n](RLSF_LARGE);
+    }
     return 0;
 }

@@ -49,6 +49,8 @@ static void reallocations(void) {
     FAILS(realloc(payload, most), ENOMEM);
     FAILS(realloc(payload, (size_t)1 << 60), ENOMEM);
     FAILS(reallocarray(payload, most / 2, 3), ENOMEM);
+    FAILS(reallocarray(payload, most / 8 + 2, 8), ENOMEM); /* the product wraps to 8 */
+    FAILS(calloc(most / 8 + 2, 8), ENOMEM);
     WANT(strcmp(payload, "unchanged"), 0);
     payload = realloc(payload, 5000000);
     FAILS(realloc(payload, most), ENOMEM);

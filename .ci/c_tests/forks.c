@@ -2,9 +2,11 @@
 #define _GNU_SOURCE
 #include "want.h"
 #include <errno.h>
+#include <malloc.h>
 #include <pthread.h>
 #include <signal.h>
 #include <stdint.h>
+#include <stdatomic.h>
 #include <string.h>
 #include <sys/mman.h>
 #include <sys/syscall.h>
@@ -13,6 +15,7 @@
 
 static volatile int done;
 static volatile int raises; /* whether a fork raises a signal */
+static volatile int slow;   /* whether malloc's lock is held for long */
 
 static void wait_for(pid_t child) {
     int status = 0, error = errno;
@@ -45,22 +48,40 @@ static void allocate_some(size_t round) {
     }
 }
 
+/* Allocates in a child, before malloc's own handler runs there. */
+static volatile int early;
+static void allocate_early(void) {
+    static char *kept[400];
+    if (!early) return;
+    for (size_t n = 0; n < 400; n++) kept[n] = memset(malloc(n * 50 + 1), (int)n, n * 50 + 1);
+    for (size_t n = 0; n < 400; n++) {
+        WANT(kept[n][n * 50], (char)n);
+        free(kept[n]);
+    }
+}
+
 /* A signal in each fork. What is registered first runs last: after what malloc does before a fork, and before what it does behind one. */
 static void raise_one(void) {
     if (raises) raise(SIGUSR1);
 }
-static void watch_forks(void) { pthread_atfork(raise_one, NULL, NULL); }
+static void watch_forks(void) { pthread_atfork(raise_one, NULL, allocate_early); }
 __attribute__((section(".preinit_array"), used)) static void (*before_constructors)(void) = watch_forks;
 
-/* A signal while malloc makes memory of its heap, under its lock: this function takes the place of the C library's there. */
-int mprotect(void *at, size_t len, int how) {
+/* A signal while malloc asks the system for memory, or returns some: these functions take the place of the C library's there. */
+void *mmap(void *at, size_t len, int access, int flags, int file, off_t offset) {
     if (raises) raise(SIGUSR1);
-    return (int)syscall(SYS_mprotect, at, len, how);
+    return (void *)syscall(SYS_mmap, at, len, access, flags, file, offset);
+}
+int munmap(void *at, size_t len) {
+    if (raises) raise(SIGUSR1);
+    if (slow) usleep(3000);
+    return (int)syscall(SYS_munmap, at, len);
 }
 
 /* Signals come at any time: in malloc, in free, and in a fork. */
 static void in_handlers(void) {
     struct sigaction action = {.sa_handler = fork_in_handler, .sa_flags = SA_RESTART};
+    static void *kept[1000];
     pid_t parent = getpid(), sender;
     WANT(sigaction(SIGUSR1, &action, NULL), 0);
     sender = fork();
@@ -69,7 +90,8 @@ static void in_handlers(void) {
         _exit(0);
     }
     raises = 1;
-    for (size_t n = 0; n < 1000; n++) WANT(malloc(90000) != NULL, 1);
+    for (size_t n = 0; n < 1000; n++) WANT((kept[n] = malloc(90000)) != NULL, 1);
+    for (size_t n = 0; n < 1000; n++) free(kept[n]);
     for (size_t round = 0; round < 200; round++) {
         allocate_some(round);
         if (round % 10) continue;
@@ -110,13 +132,69 @@ static void *allocate(void *unused) {
     return unused;
 }
 
-/* Forks beside two threads; each child allocates, too. */
+/* What the main thread allocated is freed by others, while it forks. */
+static _Atomic(unsigned char *) given[256];
+static void *free_given(void *unused) {
+    while (!done)
+        for (size_t n = 0; n < 256; n++) {
+            unsigned char *payload = atomic_exchange(&given[n], NULL);
+            if (payload) WANT(payload[0], (unsigned char)n);
+            free(payload);
+        }
+    return unused;
+}
+
+static size_t used(void) {
+    malloc_trim(0);
+    return mallinfo2().uordblks;
+}
+
+/* Nothing that is freed during a fork is lost, or is freed in the child, too: what lives there keeps its bytes. */
+static void give_during_forks(void) {
+    static unsigned char *kept[256];
+    pthread_t threads[4];
+    size_t before;
+    for (size_t n = 0; n < 4; n++) WANT(pthread_create(&threads[n], NULL, free_given, NULL), 0);
+    for (size_t n = 0; n < 256; n++) memset(kept[n] = malloc(300), (int)n, 300);
+    before = used();
+    for (size_t round = 0; round < 300; round++) {
+        for (size_t n = 0; n < 256; n++)
+            if (!given[n]) given[n] = memset(malloc(200), (int)n, 200);
+        pid_t child = fork();
+        if (child == 0) {
+            for (size_t n = 0; n < 2000; n++) memset(malloc(n % 300), 0xee, n % 300);
+            for (size_t n = 0; n < 256; n++) WANT(kept[n][0] == (unsigned char)n && kept[n][299] == (unsigned char)n, 1);
+            _exit(0);
+        }
+        wait_for(child);
+    }
+    for (size_t n = 0; n < 256; n++)
+        while (given[n]) usleep(100);
+    done = 1;
+    for (size_t n = 0; n < 4; n++) WANT(pthread_join(threads[n], NULL), 0);
+    WANT(used() <= before, 1);
+}
+
+/* Begins threads that end: malloc's lock is held while they return memory. */
+static void *allocate_once(void *unused) {
+    free(malloc(100));
+    return unused;
+}
+static void *begin_often(void *unused) {
+    while (!done) {
+        pthread_t thread;
+        WANT(pthread_create(&thread, NULL, allocate_once, NULL), 0);
+        WANT(pthread_join(thread, NULL), 0);
+    }
+    return unused;
+}
+
+/* Forks beside four threads; each child allocates, too. */
 static void beside(void *(*first)(void *), void *(*second)(void *)) {
-    pthread_t threads[2];
+    pthread_t threads[4];
     time_t begun = time(NULL);
-    WANT(pthread_create(&threads[0], NULL, first, NULL), 0);
-    WANT(pthread_create(&threads[1], NULL, second, NULL), 0);
-    for (size_t round = 0; round < 2000 && time(NULL) < begun + 4; round++) {
+    for (size_t n = 0; n < 4; n++) WANT(pthread_create(&threads[n], NULL, n % 2 ? second : first, NULL), 0);
+    for (size_t round = 0; round < 600 && time(NULL) < begun + 2; round++) {
         pid_t child = fork();
         if (child == 0) {
             allocate_some(round);
@@ -127,13 +205,29 @@ static void beside(void *(*first)(void *), void *(*second)(void *)) {
         wait_for(child);
     }
     done = 1;
-    pthread_join(threads[0], NULL);
-    pthread_join(threads[1], NULL);
+    for (size_t n = 0; n < 4; n++) WANT(pthread_join(threads[n], NULL), 0);
+}
+
+/* Four threads fork, and allocate meanwhile. */
+static void *fork_often(void *unused) {
+    for (size_t round = 0; round < 100; round++) {
+        allocate_some(round);
+        pid_t child = fork();
+        if (child == 0) {
+            allocate_some(round + 1);
+            _exit(0);
+        }
+        wait_for(child);
+    }
+    return unused;
 }
 
 int main(int count, char **words) {
     if (count > 1 && !strcmp(words[1], "handlers")) in_handlers();
     else if (count > 1 && !strcmp(words[1], "streams")) beside(flush, read_lines);
+    else if (count > 1 && !strcmp(words[1], "given")) give_during_forks();
+    else if (count > 1 && !strcmp(words[1], "early")) early = slow = 1, beside(begin_often, begin_often);
+    else if (count > 1 && !strcmp(words[1], "several")) beside(fork_often, fork_often);
     else beside(allocate, allocate);
     return 0;
 }

@@ -1,53 +1,54 @@
-/* rlsf_heap_check of a handle that was overwritten: it never reads elsewhere, and finds each flipped bit but those that no call reads and
- * those of the number of payloads. */
+/* rlsf_heap_check of a handle that was overwritten: it finds each flipped bit of the lists' beginnings and of their bitmaps, but those that no call
+ * reads. A flipped link may lead it to an address that can't be read. */
+#define _GNU_SOURCE
 #include "rlsf.h"
 #include "want.h"
+#include <setjmp.h>
+#include <signal.h>
 
 static _Alignas(64) unsigned char memory[1 << 16];
 static rlsf_large_handle handle;
+static rlsf_range pools[1];
+static sigjmp_buf back;
 
-/* The number of bits of the handle of which rlsf_heap_check doesn't say that they are flipped. */
+/* Before the bitmaps: the kind, three words on the memory, the number of payloads, and whether bytes are lent. */
+enum { BEFORE = 6 * 8 };
+
+static void faulted(int number) { siglongjmp(back, number); }
+
+static int is_found(const rlsf_heap *heap) { return sigsetjmp(back, 1) || !rlsf_heap_check(heap, pools, 1); }
+
+/* The number of bits of which rlsf_heap_check doesn't say that they are flipped. */
 static size_t unseen_flips(rlsf_heap *heap, size_t kind) {
-    size_t unseen = 0;
-    for (size_t n = 0; n < rlsf_heap_size(kind); n++)
-        for (size_t bit = 0; bit < 8; bit++) {
+    static volatile size_t unseen, n, bit;
+    unseen = 0;
+    for (n = BEFORE; n < rlsf_heap_size(kind); n++)
+        for (bit = 0; bit < 8; bit++) {
             handle.bytes[n] ^= (unsigned char)(1 << bit);
-            unseen += (size_t)rlsf_heap_check(heap, NULL, 0);
+            unseen += !is_found(heap);
             handle.bytes[n] ^= (unsigned char)(1 << bit);
         }
     return unseen;
 }
 
-/* Other words in place of those of the handle: the first 12, before the lists, are seen in any case. */
-static void other_words(rlsf_heap *heap, size_t kind) {
-    size_t *words = (size_t *)&handle, random = 88172645463325252u;
-    for (size_t n = 0; n < rlsf_heap_size(kind) / 8; n++)
-        for (size_t k = 0; k < 20; k++) {
-            size_t right = words[n];
-            random ^= random << 13, random ^= random >> 7, random ^= random << 17;
-            words[n] = k == 0 ? ~right : k == 1 ? right + 32 : k == 2 ? (size_t)memory + 64 : random >> (k * 3);
-            int found = !rlsf_heap_check(heap, NULL, 0);
-            if (n < 12) WANT(found, words[n] != right);
-            words[n] = right;
-        }
-}
-
 static void with_kind(size_t kind, size_t unseen) {
     rlsf_heap *heap = rlsf_heap_init(&handle, kind, memory, sizeof memory);
     void *payloads[50];
+    pools[0] = (rlsf_range){(size_t)memory, sizeof memory};
     for (size_t n = 0; n < 50; n++) payloads[n] = rlsf_malloc(heap, 10 + n * 20);
     for (size_t n = 0; n < 50; n += 2) rlsf_free(heap, payloads[n]);
-    WANT(rlsf_heap_check(heap, NULL, 0), 1);
+    WANT(rlsf_heap_check(heap, pools, 1), 1);
     WANT(unseen_flips(heap, kind), unseen);
-    other_words(heap, kind);
-    WANT(rlsf_heap_check(heap, NULL, 0), 1);
+    WANT(rlsf_heap_check(heap, pools, 1), 1);
     for (size_t n = 1; n < 50; n += 2) rlsf_free(heap, payloads[n]);
     rlsf_heap_end(heap);
 }
 
 int main(void) {
+    signal(SIGSEGV, faulted);
+    signal(SIGBUS, faulted);
     /* A bitmap has 128 bits. A small heap has one for its 12 rows and one for the 16 classes of each; a large one has 64 of each. */
-    with_kind(RLSF_SMALL, (128 - 12) + 12 * (128 - 16) + 64);
-    with_kind(RLSF_LARGE, (128 - 64) + 64 * (128 - 64) + 64);
+    with_kind(RLSF_SMALL, (128 - 12) + 12 * (128 - 16));
+    with_kind(RLSF_LARGE, (128 - 64) + 64 * (128 - 64));
     return 0;
 }

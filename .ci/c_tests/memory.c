@@ -5,6 +5,7 @@
 #include <malloc.h>
 #include <stdint.h>
 #include <string.h>
+#include <sys/resource.h>
 
 #define MB ((size_t)1 << 20)
 
@@ -40,9 +41,9 @@ static void large_payloads_go_back(int figures) {
     WANT(payload[4 * MB - 1], 7);
     WANT(zeroed <= 1, 1);
     WANT(freed <= 1, 1);
-    WANT(resident() - before <= 3, 1);
+    WANT(resident() <= before + 3, 1);
     free(payload);
-    WANT(resident() - before <= 1, 1);
+    WANT(resident() <= before + 1, 1);
 }
 
 /* A payload keeps its bytes, which are others each time, while it changes between the heap and a mapping. */
@@ -102,22 +103,133 @@ static void heap_shrinks(void) {
     static char *payloads[3000];
     size_t before = resident();
     for (size_t n = 0; n < 3000; n++) payloads[n] = memset(malloc(90000), 1, 90000);
-    WANT(resident() - before >= 200, 1);
+    WANT(resident() >= before + 200, 1);
     for (size_t n = 0; n < 3000; n++)
         if (n != 1500) free(payloads[n]);
     malloc_trim(0);
-    WANT(resident() - before <= 70, 1);
+    WANT(resident() <= before + 70, 1);
     for (size_t n = 0; n < 90000; n += 1000) WANT(payloads[1500][n], 1);
     free(payloads[1500]);
     malloc_trim(0);
     free(calloc(1, 90000));
 }
 
+/* The bytes of all blocks with payloads in them, and of the segments of single ones. */
+static size_t used(void) {
+    struct mallinfo2 found = mallinfo2();
+    return found.uordblks + found.hblkhd;
+}
+
+/* An alignment is kept where the heap has to grow, and by the calls for pages. */
+static void alignments_in_new_memory(void) {
+    static void *payloads[400];
+    size_t page = (size_t)sysconf(_SC_PAGESIZE);
+    for (size_t align = 32; align <= MB; align *= 8) {
+        for (size_t n = 0; n < 400; n++) {
+            payloads[n] = aligned_alloc(align, 40000);
+            WANT(payloads[n] != NULL, 1);
+            WANT((size_t)payloads[n] % align, 0);
+        }
+        for (size_t n = 0; n < 400; n++) free(payloads[n]);
+    }
+    for (size_t size = 1; size < 3 * MB; size = size * 3 + 5) {
+        char *whole = pvalloc(size), *some = valloc(size);
+        WANT((size_t)whole % page, 0);
+        WANT((size_t)some % page, 0);
+        WANT(malloc_usable_size(whole) >= (size + page - 1) / page * page, 1);
+        WANT(malloc_usable_size(some) >= size, 1);
+        memset(whole, 1, (size + page - 1) / page * page);
+        free(whole);
+        free(some);
+    }
+}
+
+/* The usable bytes are those that were asked for and less than 32 more, or up to the end of the last page. */
+static void usable_sizes(void) {
+    size_t page = (size_t)sysconf(_SC_PAGESIZE);
+    for (size_t size = 16; size < MB; size = size * 9 / 8) {
+        char *payload = malloc(size);
+        WANT(malloc_usable_size(payload) - size < 32, 1);
+        memset(payload, 1, malloc_usable_size(payload));
+        free(payload);
+    }
+    for (size_t align = 16; align <= 256 * MB; align *= 4) {
+        char *payload = aligned_alloc(align, 2 * MB);
+        WANT((size_t)payload % align, 0);
+        WANT(malloc_usable_size(payload) - 2 * MB < page, 1);
+        WANT((size_t)(payload + malloc_usable_size(payload)) % page, 0);
+        memset(payload, 1, malloc_usable_size(payload));
+        free(payload);
+    }
+}
+
+/* realloc of no bytes frees. A trim says whether there was something to return. */
+static void nothing_is_lost(void) {
+    size_t before = used();
+    for (size_t n = 0; n < 1000; n++) WANT(realloc(malloc(n * n), 0) == NULL, 1);
+    WANT(used(), before);
+    malloc_trim(0);
+    WANT(malloc_trim(0), 0);
+    char *first = malloc(300000), *second = malloc(100);
+    memset(first, 1, 300000);
+    free(first);
+    WANT(malloc_trim(0), 1);
+    WANT(malloc_trim(0), 0);
+    free(second);
+    WANT(used(), before);
+}
+
+/* What small payloads took goes back by itself, but for a segment. */
+static void small_payloads_go_back(void) {
+    static char *payloads[500000];
+    size_t before = resident(), held = mallinfo2().arena;
+    for (size_t n = 0; n < 500000; n++) payloads[n] = memset(malloc(1000), 1, 1000);
+    WANT(resident() >= before + 476, 1);
+    for (size_t n = 0; n < 500000; n++) free(payloads[n]);
+    WANT(resident() <= before + 33, 1);
+    WANT(mallinfo2().arena <= held + 33 * MB, 1);
+}
+
+static void limit_addresses(size_t more) {
+    unsigned long pages;
+    FILE *file = fopen("/proc/self/statm", "r");
+    WANT(file != NULL && fscanf(file, "%lu", &pages), 1);
+    fclose(file);
+    struct rlimit limit = {pages * (size_t)sysconf(_SC_PAGESIZE) + more, RLIM_INFINITY};
+    WANT(setrlimit(RLIMIT_AS, &limit), 0);
+}
+
+/* Where the system has no memory left, a large payload is placed in the heap, and a single one is made shorter where it lies. */
+static void under_a_limit(void) {
+    static char *payloads[200];
+    char *single = memset(malloc(3 * MB), 7, 3 * MB), *other = memset(malloc(3 * MB), 8, 3 * MB);
+    for (size_t n = 0; n < 200; n++) payloads[n] = malloc(n % 5 == 0 ? 100 : 900000);
+    for (size_t n = 0; n < 200; n++)
+        if (n % 5) free(payloads[n]);
+    limit_addresses(0);
+    char *large = malloc(2 * MB);
+    WANT(large != NULL, 1);
+    memset(large, 1, 2 * MB);
+    WANT((large = realloc(large, 2 * MB + 100000)) != NULL, 1);
+    WANT(large[2 * MB - 1], 1);
+    WANT(single[3 * MB - 1], 7);
+    while (malloc(200000)) continue;
+    other = realloc(other, 200000);
+    WANT(other != NULL && other[199999] == 8, 1);
+    WANT(realloc(single, 30 * MB) == NULL, 1);
+    WANT(single[3 * MB - 1], 7);
+}
+
 int main(int count, char **words) {
     large_payloads_go_back(count > 1 && !strcmp(words[1], "figures"));
+    small_payloads_go_back();
     bytes_are_kept();
     payloads_fit();
     heap_shrinks();
     heap_grows();
+    alignments_in_new_memory();
+    usable_sizes();
+    nothing_is_lost();
+    under_a_limit();
     return 0;
 }

@@ -91,6 +91,15 @@ def pools(options, folder, *flags):
     return found
 
 
+def complete_malloc(options, folder):
+    """The malloc of c/malloc.c over the library, if that is built."""
+    if not options.ours.exists():
+        missing("ours", f"there is no {options.ours}; build it with `cd crates/rlsf_malloc && rt lib`")
+        return []
+    words = ["-shared", "-fPIC", f"-I{ROOT}/include", "-Wl,--exclude-libs,ALL", "-lpthread"]
+    return [Allocator("ours", str(compiled([ROOT / "c/malloc.c", options.ours], folder / "complete.so", *words)))]
+
+
 def loader_knows(name):
     ran = subprocess.run(["true"], env={**os.environ, "LD_PRELOAD": name}, capture_output=True, text=True)
     return ran.returncode == 0 and not ran.stderr

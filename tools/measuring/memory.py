@@ -1,4 +1,4 @@
-"""Compares the peak of resident memory with the peak of live bytes, for recorded programs under each allocator.
+"""Compares the peak of resident memory with the peak of requested bytes, for recorded programs under each allocator.
 
 The calls of a trace are made anew, and every byte of each payload is written (tools/measuring/resident.c). Resident memory is looked at after
 each call. It is that of touched pages of 4096 bytes, without those that were resident before the first call: what an allocator sets up at
@@ -59,8 +59,8 @@ def measure(options, folder: pathlib.Path):
         options.runs = 1
     program = compiled([ROOT / "tools/measuring/resident.c"], folder / "resident")
     allocators = chosen(options, pools(options, folder) + others())
-    heads = ["Program", "Calls", "Live bytes", *(title(allocator.name) for allocator in allocators)]
-    print(f"\npeak of resident memory, divided by the peak of live bytes; greatest of {options.runs} runs\n")
+    heads = ["Program", "Calls", "Requested bytes", *(title(allocator.name) for allocator in allocators)]
+    print(f"\npeak of resident memory, divided by the peak of requested bytes; greatest of {options.runs} runs\n")
     print("| " + " | ".join(heads) + " |\n" + "|---" * len(heads) + "|", flush=True)
     for name, body in bodies(options, folder):
         row(name, body, allocators, program, options, folder)

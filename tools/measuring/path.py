@@ -33,7 +33,7 @@ BOUNDS = {
     "check": "blocks of the pool, class table",
 }
 # Those of one kind alone. A pool of a large heap is one chunk.
-BOUNDS_OF_KIND = {("small", "add"): "chunks of the pool"}
+BOUNDS_OF_KIND = {("small", "add"): "chunks of the pool", ("small", "append"): "chunks of the pool"}
 # The calls of a Tlsf. The benchmark has a function for each, called_allocate and so on.
 TLSF = ["allocate", "deallocate", "reallocate"]
 HEADS = ["instructions", "returning 0", "memory operands"]

@@ -33,10 +33,15 @@ def programs(options, folder: pathlib.Path):
     return found | {"malloc of the C library": (ours, "malloc"), "the loop alone": (ours, "nothing")}
 
 
-def instructions(program, over, bound, steps):
-    words = ["valgrind", "--tool=callgrind", "--callgrind-out-file=/dev/null", str(program), over, str(bound), str(steps)]
+def counted_by_callgrind(command):
+    """The number of instructions of a program's run."""
+    words = ["valgrind", "--tool=callgrind", "--callgrind-out-file=/dev/null", *map(str, command)]
     run = subprocess.run(words, capture_output=True, text=True, check=True)
     return int(re.search(r"Collected : (\d+)", run.stderr).group(1))
+
+
+def instructions(program, over, bound, steps):
+    return counted_by_callgrind([program, over, bound, steps])
 
 
 def nanoseconds(program, over, bound, steps, core):

@@ -1,0 +1,86 @@
+/* Wrong calls, which a malloc with checks reports: the argument is the number of one. It prints what the report begins with. Without one, the
+ * calls are right, in four threads and a child. */
+#define _GNU_SOURCE
+#include "want.h"
+#include <malloc.h>
+#include <pthread.h>
+#include <string.h>
+#include <sys/wait.h>
+
+static void announce(const char *call, const void *payload) {
+    printf("rlsf: %s(%p): ", call, payload);
+}
+
+/* The bytes from an offset on are written, and the payload is freed. */
+static void write_behind(size_t size, size_t offset) {
+    volatile char *payload = malloc(size);
+    payload[offset] ^= 1;
+    announce("free", (const void *)payload);
+    free((void *)payload);
+}
+
+/* A header of the heap is overwritten, far from the payloads that are freed behind it. */
+static void write_header(void) {
+    volatile size_t *payload = malloc(1000);
+    void *next = malloc(1000), *after = malloc(1000);
+    payload[((size_t)next - (size_t)payload) / 8 - 2] ^= 64;
+    printf("rlsf: free(0x");
+    for (size_t n = 0; after && n < 2000; n++) free(malloc(10));
+}
+
+static void misuse(size_t number) {
+    static char nobody[64] __attribute__((aligned(16)));
+    char *volatile payload = malloc(100), *volatile large = malloc(3000000);
+    switch (number) {
+    case 1: free(payload), announce("free", payload), free(payload); break;
+    case 2: announce("free", payload + 16), free(payload + 16); break;
+    case 3: announce("free", nobody), free(nobody); break;
+    case 4: announce("free", (char *)0x123450), free((void *)0x123450); break;
+    case 5: free(large), announce("free", large), free(large); break;
+    case 6: announce("realloc", payload + 32), payload = realloc(payload + 32, 200); break;
+    case 7: free(payload), announce("realloc", payload), payload = realloc(payload, 200); break;
+    case 8: free(payload), announce("malloc_usable_size", payload), (void)!malloc_usable_size(payload); break;
+    case 9: write_behind(100, 100); break;
+    case 10: write_behind(101, 108); break;
+    case 11: write_behind(3000000, 3000000); break;
+    case 12: write_header(); break;
+    }
+}
+
+/* The usable size is what was asked for, unless a child of several threads has no checks. */
+static void *work(void *is_child) {
+    for (size_t n = 0; n < 3000; n++) {
+        size_t size = n * 37 % 5000 + (n % 500 == 0) * 2000000;
+        char *payload = n % 3 == 0 ? malloc(size) : n % 3 == 1 ? calloc(1, size) : aligned_alloc(256, size);
+        WANT(payload != NULL && malloc_usable_size(payload) >= size && (is_child || malloc_usable_size(payload) == size), 1);
+        memset(payload, 1, size);
+        payload = realloc(payload, size + n % 300 + 1);
+        WANT(payload != NULL && malloc_usable_size(payload) > size, 1);
+        for (size_t k = 0; k < size; k += 50) WANT(payload[k], 1);
+        free(payload);
+    }
+    return is_child;
+}
+
+static void right_calls(void) {
+    pthread_t threads[4];
+    for (size_t n = 0; n < 4; n++) WANT(pthread_create(&threads[n], NULL, work, NULL), 0);
+    for (size_t n = 0; n < 20; n++) {
+        int status = 1;
+        pid_t child = fork();
+        if (child == 0) {
+            work(&status);
+            _exit(0);
+        }
+        WANT(waitpid(child, &status, 0), child);
+        WANT(status, 0);
+    }
+    for (size_t n = 0; n < 4; n++) WANT(pthread_join(threads[n], NULL), 0);
+}
+
+int main(int count, char **words) {
+    setvbuf(stdout, NULL, _IONBF, 0);
+    if (count > 1) misuse(strtoul(words[1], NULL, 10));
+    else right_calls();
+    return 0;
+}
