@@ -42,9 +42,9 @@ pub record IsReallocatedSameAlign (before after : State) (addr size to : ℕ) : 
 
 -- ---- refusals
 
--- an error is returned exactly if `answer` says so, and then nothing changes but the number of word accesses
+-- what is said of the errors, after which nothing changes but the number of word accesses
 pub record RefusesUnchanged {A : Type 0} (before after : Checked) (answers : Type 0) (reply : Result A CheckedError) : Type 0 where
-  -- when each error is returned
+  -- exactly when each error but `NoRoom` is returned; the call's step says when that one is
   pub answer : answers
   -- at an error, chunks, blocks and payloads are as they were
   pub same : OnErr reply (after.heap.state ≡ before.heap.state)

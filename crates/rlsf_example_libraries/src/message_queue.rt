@@ -42,6 +42,19 @@ impl<T> MessageQueue<T> {
         result
     }
 
+    /// Sends a message, without waiting. Returns it if the queue is full, or if another thread has its lock.
+    pub fn try_send(&self, message: T) -> Result<(), T>
+        ensures { IfErr result (λ back. back ≡ message) }
+    {
+        let Some(mut messages) = self.messages.try_lock() else {
+            return Err(message);
+        };
+        let result = append(&mut messages, message);
+        drop(messages);
+        self.sent.notify_one();
+        result
+    }
+
     /// Receives the message that was sent first. Returns `None` if the queue is empty.
     pub fn receive<R: Wait>(&self, rt: &R) -> Option<T> {
         let first = self.messages.lock(rt).pop_front();

@@ -95,7 +95,8 @@ pub record IsLockedUnchanged (before after : LockedContents) : Type 0 where
   -- each byte of the memory
   pub bytes : after.memory.bytes ≡ before.memory.bytes
 
--- a call that is refused before the allocator was asked changes nothing
+-- A call that is refused before the allocator was asked changes neither heap nor memory. Nothing is said here of the class table, nor of the
+-- room in the table of live addresses and the count of its codes.
 pub record IsLockedUntouched (before after : LockedContents) : Type 0 where
   -- the heap
   pub same : after.heap ≡ before.heap

@@ -3,6 +3,8 @@
 pub use Rattle.rlsf_base.specs.declared.memory.layout.Layout.{Layout}
 pub use Rattle.rlsf_base.specs.declared.memory.range.Range.{Range}
 pub use Rattle.rlsf_base.specs.Changes.{IsAllOwn, IsOwn}
+pub use Rattle.rlsf_base.specs.OpenSpace.{home_of}
+pub use Rattle.rlsf_base.specs.Piece.{IsFull, Piece, piece_range}
 pub use Rattle.rlsf_base.specs.Range.{AreApart, LiesIn, end_of, range_at}
 pub use Rattle.rlsf_base.specs.RawParts.{LiesAtBlock}
 pub use Rattle.rlsf_base.specs.SizeClass.{IsValid}
@@ -10,16 +12,20 @@ pub use Rattle.rlsf_base.specs.Sizes.{pool_size_for_payloads}
 pub use Rattle.rlsf_base.specs.Space.{Space, range_of}
 -- of the state of a heap
 pub use Rattle.rlsf_model.specs.Callers.{align_at, bytes_at}
+pub use Rattle.rlsf_model.specs.Insert.{IsUntouched}
 pub use Rattle.rlsf_model.specs.Sized.{IsSizedFor, live_count}
 pub use Rattle.rlsf_model.specs.State.{State}
 -- of a heap and its payloads
-pub use Rattle.rlsf_heap.specs.Heap.{HeapView, Identity, IsWritten, PayloadView, payload_range}
+pub use Rattle.rlsf_heap.specs.Heap.{HeapView, Identity, IsLent, IsUsable, IsWritten, PayloadView, lent_bytes, payload_range}
 pub use Rattle.rlsf_heap.specs.Replies.{IsAllocated, IsAllocatedZeroed, IsDeallocated, IsGone, IsOut, IsReallocated, IsRefused, IsResized}
 pub use Rattle.rlsf_heap.specs.Replies.{IsResizedInPlace, IsResizedOrMoved, IsReturned, IsUnchanged, LeavesOthers, WithinBounds}
 pub use Rattle.rlsf_heap.specs.Frame.{CopiesToMove, KeepsAllBounds, KeepsBounds, KeepsBytes, KeepsFrame, KeepsFrameBeside, KeepsFrameMoving}
 pub use Rattle.rlsf_heap.specs.Frame.{KeepsHeap, KeepsPayloads, KeepsSized}
+pub use Rattle.rlsf_heap.specs.Lending.{HasPool, IsLentTo, IsReclaimed, ReclaimsPool}
 pub use Rattle.rlsf_heap.specs.Settled.{IsSettled}
 -- of tenants
 pub use Rattle.rlsf_local_heap.specs.Tenants.{lessor}
 -- of shared heaps
 pub use Rattle.rlsf_shared_heap.specs.Shared.{SharedView}
+-- of heaps whose thread never waits
+pub use Rattle.rlsf_shared_heap.specs.Owners.{IsCollected, IsServed, KeepsOwner, LeavesLent, LendsNew, OwnerView, ReturnsView, Serves, ServesLent}

@@ -1,4 +1,5 @@
 -- Lemmas on the lock and on what a call under it leaves.
+mod Collected
 mod LockCrosses
 mod LockLives
 mod LockRows

@@ -1,10 +1,14 @@
-//! A heap behind one lock, for threads that allocate and deallocate themselves. Their payloads own their bytes.
+//! Heaps for threads, whose payloads own their bytes: one behind a lock, and one of a thread that never waits.
 //!
 //! In reading order: `shared.rt` (`SharedHeap` and its contracts), and in its folder `payload.rt` (payloads that know their heap),
 //! `calls.rt` (the calls of `Heap` that it makes, first on the heap and then through the lock), `held.rt` (a heap with a name for its
-//! identity) and `lock.rt` (the lock, which is known by that identity). Only `lock.rt` has manual proofs.
+//! identity), `lock.rt` (the lock, which is known by that identity) and `heaps.rt` (a `SharedHeap` for each thread). Then `owner.rt`
+//! (`OwnerHeap`, whose thread never waits), `returns.rt` (the payloads that other threads returned to it) and `heap_identity.rt` (of which
+//! heap they are). Only `lock.rt` and `heap_identity.rt` have manual proofs.
 #![tactic(auto)]
 
 mod shared;
 
-pub use shared::{FreedOnDrop, SharedHeap, SharedPayload, ThreadHeap};
+pub use shared::{
+    FreedOnDrop, OwnerHeap, Returns, SharedHeap, SharedHeaps, SharedPayload, ThreadHeap,
+};

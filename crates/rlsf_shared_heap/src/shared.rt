@@ -1,19 +1,22 @@
 //! A heap behind one lock, for threads that allocate and deallocate themselves. Their payloads own their bytes.
-//!
-//! In reading order: this file (`SharedHeap` and its contracts); `shared/calls.rt` (the calls of `Heap` that it makes, first on the
-//! heap and then through the lock); `shared/held.rt` (a heap with a name for its identity); `shared/lock.rt` (the lock, which is known by
-//! that identity). Only `shared/lock.rt` has manual proofs.
 ghost use Rattle.std.specs.Prelude.{◌≡◌, ◌+◌, ◌%◌, ◌<◌, ◌≤◌, length, replicate, IfSome};
 ghost use Rattle.rlsf_heap.specs.Heap.{IsWritten};
 ghost use Rattle.rlsf_shared_heap.specs.SharedReallocation.{IsReallocation};
 
 mod calls;
+mod heap_identity;
+mod heaps;
 mod held;
 mod lock;
+mod owner;
 mod payload;
+mod returns;
 
+pub use heaps::SharedHeaps;
 use lock::Lock;
+pub use owner::OwnerHeap;
 pub use payload::{FreedOnDrop, SharedPayload, ThreadHeap};
+pub use returns::Returns;
 use rlsf_base::memory::Layout;
 use rlsf_heap::{Heap, Payload};
 use rlsf_int::BitPattern;

@@ -17,7 +17,8 @@ pub trait ThreadHeap {
 
     /// Deallocates a payload of this heap, as `SharedHeap::deallocate` does.
     fn deallocate<R: Wait>(&self, rt: &R, payload: Payload)
-        requires { payload.identity ≡ Self.identity self.now };
+        requires own { payload.identity ≡ Self.identity self.now }
+        requires written { IsWritten payload };
 
     /// Changes the size of a payload of this heap, as `SharedHeap::reallocate` does.
     fn reallocate<R: Wait>(&self, rt: &R, payload: Payload, size: usize) -> Result<Payload, Payload>
@@ -79,7 +80,12 @@ impl<'h, H: ThreadHeap> SharedPayload<'h, H> {
         SharedPayload { heap, payload }
     }
 
-    /// Deallocates the payload.
+    // The heap of the payload.
+    pub(crate) fn heap(&self) -> &'h H {
+        self.heap
+    }
+
+    /// Deallocates the payload. One that an `OwnerHeap` lent goes back to that owner, which deallocates it.
     pub fn free<R: Wait>(self, rt: &R) {
         let SharedPayload { heap, payload } = self;
         heap.deallocate(rt, payload);
@@ -87,7 +93,8 @@ impl<'h, H: ThreadHeap> SharedPayload<'h, H> {
 
     /// Consumes the value, and returns its payload. `SharedHeap::adopt` of its heap makes the value of it again.
     pub fn into_payload(self) -> Payload
-        ensures { result ≡ self.entry }
+        ensures same { result ≡ self.entry }
+        ensures written { IsWritten result }
     {
         let SharedPayload { heap: _, payload } = self;
         payload

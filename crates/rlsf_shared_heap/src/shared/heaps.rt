@@ -1,0 +1,67 @@
+//! A `SharedHeap` for each thread of a program.
+ghost use Rattle.std.specs.Prelude.{◌≡◌, ◌+◌, ◌%◌, ◌<◌, ◌≤◌, length, replicate, IfSome};
+
+use crate::shared::SharedHeap;
+use crate::shared::payload::SharedPayload;
+use rlsf_base::memory::Layout;
+use rlsf_int::BitPattern;
+use std::sync::Wait;
+
+/// `SharedHeap`s for the threads of a program, one for each. A thread seldom waits for a lock, since it allocates from its own heap while
+/// that has room.
+///
+/// Each payload goes back to the heap that it came from, whichever thread frees it. Dropping the value drops the heaps.
+#[derive(Drop)]
+pub struct SharedHeaps<
+    FLBitmap: BitPattern,
+    SLBitmap: BitPattern,
+    const FLLEN: usize,
+    const SLLEN: usize,
+> {
+    heaps: Vec<SharedHeap<FLBitmap, SLBitmap, FLLEN, SLLEN>>,
+}
+
+impl<
+    FLBitmap: BitPattern,
+    SLBitmap: BitPattern,
+    const FLLEN: usize,
+    const SLLEN: usize,
+> SharedHeaps<FLBitmap, SLBitmap, FLLEN, SLLEN> {
+    /// Creates a set of these heaps: thread number 0 has the first, and so on.
+    pub fn new(heaps: Vec<SharedHeap<FLBitmap, SLBitmap, FLLEN, SLLEN>>) -> Self {
+        SharedHeaps { heaps }
+    }
+
+    /// Consumes the set, and returns its heaps, in their order.
+    pub fn into_inner(self) -> Vec<SharedHeap<FLBitmap, SLBitmap, FLLEN, SLLEN>> {
+        let SharedHeaps { heaps } = self;
+        heaps
+    }
+
+    /// Allocates a payload of zeros for `layout`, as `SharedHeap::allocate_shared` does, from the heap of a thread. If that has no room, asks
+    /// the next one, and so on round. With more threads than heaps, some share one.
+    ///
+    /// Returns `None` if no heap has room.
+    pub fn allocate_shared<R: Wait>(
+        &self,
+        rt: &R,
+        thread: usize,
+        layout: Layout,
+    ) -> Option<SharedPayload<'_, SharedHeap<FLBitmap, SLBitmap, FLLEN, SLLEN>>>
+        ensures zeros { IfSome result (λ p. p.bytes ≡ replicate (length p.bytes) 0) }
+        ensures align { IfSome result (λ p. p.align ≡ layout.align) }
+        ensures aligned { IfSome result (λ p. p.start % layout.align ≡ 0) }
+        ensures sized { IfSome result (λ p. layout.size ≤ length p.bytes) }
+        ensures few { IfSome result (λ p. length p.bytes < layout.size + 32) }
+    {
+        let own = thread.checked_rem(self.heaps.len())?;
+        let (before, from_own) = self.heaps.split_at(own);
+        for heap in from_own.iter().chain(before) {
+            let payload = heap.allocate_shared(rt, layout);
+            if payload.is_some() {
+                return payload;
+            }
+        }
+        None
+    }
+}
