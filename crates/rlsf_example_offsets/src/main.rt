@@ -1,0 +1,79 @@
+//! The memory of a GPU: buffers and textures are allocated and freed in another order. A map shows where those lie that are left.
+#![tactic(auto)]
+
+use rlsf_offsets::OffsetTlsf;
+use std::io;
+
+const MIB: usize = 1 << 20;
+
+/// A buffer or a texture: the letter that shows it, its offset and its length.
+#[derive(Clone, Copy)]
+struct Resource {
+    letter: char,
+    offset: usize,
+    len: usize,
+}
+
+/// Allocates resources of 256 MiB, and frees two of them.
+fn resources(memory: &mut OffsetTlsf<256>) -> Option<[Resource; 3]> {
+    let vertices = memory.allocate(40 * MIB, 256)?;
+    let texture = memory.allocate(64 * MIB, 65536)?;
+    let indices = memory.allocate(10000000, 16)?;
+    let shadows = memory.allocate(32 * MIB, 65536)?;
+    let indices_len = memory.len(indices);
+    let shadows_len = memory.len(shadows);
+    memory.deallocate(texture);
+    memory.deallocate(vertices);
+    let frame = memory.allocate(100 * MIB, 65536)?;
+    let frame_len = memory.len(frame);
+    Some([
+        Resource {
+            letter: 'i',
+            offset: indices,
+            len: indices_len,
+        },
+        Resource {
+            letter: 's',
+            offset: shadows,
+            len: shadows_len,
+        },
+        Resource {
+            letter: 'f',
+            offset: frame,
+            len: frame_len,
+        },
+    ])
+}
+
+/// Returns the letter of the resource that has the byte at an offset, or a dot if none has.
+fn letter_at(resources: &[Resource; 3], at: usize) -> char {
+    for resource in resources.iter() {
+        if at >= resource.offset && at - resource.offset < resource.len {
+            return resource.letter;
+        }
+    }
+    '.'
+}
+
+fn main(rt: HostRuntime) -> io::Result<()> {
+    let Ok(mut memory) = OffsetTlsf::<256>::new(rt.alloc(), 256 * MIB) else {
+        return println!(rt; "out of memory");
+    };
+    let Some(resources) = resources(&mut memory) else {
+        return println!(rt; "no room");
+    };
+    for resource in resources.iter() {
+        let Resource {
+            letter,
+            offset,
+            len,
+        } = *resource;
+        println!(rt; "{letter}: {len} bytes at {offset}")?;
+    }
+    // A letter shows what lies at the first byte of each 4 MiB.
+    for cell in 0..64usize {
+        let letter = letter_at(&resources, cell * 4 * MIB);
+        print!(rt; "{letter}")?;
+    }
+    println!(rt; "")
+}

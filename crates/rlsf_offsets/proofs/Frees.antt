@@ -1,0 +1,110 @@
+-- A range of units is deallocated, and a space in which nothing is live.
+use Rattle.std.proofs.Common.{◌≡◌, ◌≢◌, ◌⊎◌, ℕ, ◌+◌, ◌-◌, ◌*◌, ◌/◌, ◌%◌, ◌^◌, ◌<◌, ◌≤◌, List, [], ◌∷◌, cond, length, lit<, Option, Some, None, IsSome, true≢false, arith, inl, inr, refl, sym, ◌∙◌, ap, subst}
+use Rattle.std.proofs.lemmas.Bool.{cases_lt, le-leb}
+use Rattle.std.proofs.lemmas.Nat.{pow-add}
+use Rattle.std.proofs.Math.Nat.{div-add-mod', mul-le-mul_right, mul-mod_right, mul-sub}
+use Rattle.std.proofs.lemmas.Option.{none-some}
+use Rattle.std.specs.Option.{option_map}
+use Rattle.rlsf_base.specs.declared.memory.range.Range.{Range}
+use Rattle.rlsf_base.specs.PowerOfTwo.{IsPowerOfTwo, floor_log2}
+use Rattle.rlsf_base.specs.Range.{end_of}
+use Rattle.rlsf_base.specs.Layout.{IsLayout}
+use Rattle.rlsf_base.specs.SizeClass.{Reaches, class_of}
+use Rattle.rlsf_base.specs.Sizes.{request_size}
+use Rattle.rlsf_base.specs.Space.{range_of}
+use Rattle.rlsf_base.proofs.Numbers.PowersOfTwo.{IsPowerOfTwo-pow, IsPowerOfTwo-positive, pow-between}
+use Rattle.rlsf_base.proofs.Numbers.Roundings.{next_multiple_of-multiple}
+use Rattle.rlsf_base.proofs.SizeClasses.Reach.{Reaches-class_of, Reaches-from_slack}
+use Rattle.rlsf_model.specs.Callers.{align_at, bytes_at}
+use Rattle.rlsf_model.specs.Lists.{IsIn}
+use Rattle.rlsf_model.specs.Allocate.{Allocates, Places, placed}
+use Rattle.rlsf_model.specs.Payload.{payload_of}
+use Rattle.rlsf_model.specs.Release.{Deallocates}
+use Rattle.rlsf_model.specs.Sized.{live_count}
+use Rattle.rlsf_model.specs.State.{State, Used}
+use Rattle.rlsf_model.specs.WellFormed.{covers, coverage, itself, last_bytes, IsWellFormed}
+use Rattle.rlsf_model.specs.Insert.{Inserts, aligned_part, cut, with_chunks}
+use Rattle.rlsf_base.specs.Sizes.{max_pool_size}
+use Rattle.rlsf_model.specs.State.{empty}
+use Rattle.rlsf_model.proofs.CallerWords.{align_at-live, align_at-none, align_at-held, bytes_at-held}
+use Rattle.rlsf_model.proofs.Callers.{payload_at-none}
+use Rattle.rlsf_model.proofs.Coverage.{covers-inside, covers-before, covers-behind, coverage-none, coverage-some, coverage-unique}
+use Rattle.rlsf_model.proofs.Payloads.{payload_of-le, IsUsed-after_start, IsUsed-aligned, IsUsed-some}
+use Rattle.rlsf_model.proofs.Tiling.{block_of, tiling_of, used-le, free-le, lies_in_chunk, IsPart-free, IsPart-used}
+use Rattle.rlsf_model.proofs.Live.{deallocation_leaves_others}
+use Rattle.rlsf_model.proofs.Room.{refused_without_reach}
+use Rattle.rlsf_tlsf.specs.Allocator.{Allocator, allocator}
+use Rattle.rlsf_tlsf.specs.Cores.{IsCore, IsOwnFound, LeavesCore}
+use Rattle.rlsf_tlsf.specs.Results.{IsAllocated, IsDeallocated}
+use Rattle.rlsf_tlsf.specs.Steps.Moves.{bare}
+use Rattle.rlsf_offsets.specs.Units.{AreWhole, IsEmpty, IsFreeRun, IsFull, IsKept, IsSizedForUnits, SizesSpace, SucceedsWithin, KeepsSized, KeepsSizedFor, align_of, whole_shadow, IsReleased, IsReserved, IsShadow, IsSpace, Offsets, offsets, place, units_at}
+use Rattle.rlsf_base.specs.OpenSpace.{IsOwned}
+use Rattle.rlsf_base.specs.SizeClass.{IsValid}
+use Rattle.rlsf_base.specs.Space.{Space}
+use Rattle.rlsf_blocks.specs.Laws.{read_from}
+use Rattle.rlsf_blocks.specs.StandsFor.{contents}
+use Rattle.rlsf_blocks.specs.Steps.LiveBlock.{IsLiveIn}
+use Rattle.rlsf_model.specs.Sized.{IsSizedFor}
+use Rattle.rlsf_model.specs.State.{usable}
+use Rattle.rlsf_model.proofs.CallerWords.{align_at-some}
+use Rattle.rlsf_model.proofs.SizedWords.{never_refused}
+use Rattle.rlsf_table.specs.Table.{Table}
+use Rattle.rlsf_tlsf.specs.Bounds.{IfWithinBounds, KeepsAllBounds, KeepsBounds}
+use Rattle.rlsf_tlsf.specs.Sizing.{SizesPool}
+use Rattle.rlsf_offsets.proofs.Ranges.{align_of-none, align_of-same, units_at-none, units_at-same}
+
+pub AreWhole-deallocated : (s t : State) (addr : ℕ) → Deallocates s addr t → AreWhole s → AreWhole t
+AreWhole-deallocated s t addr step whole u i = whole u (((deallocation_leaves_others s t addr step).1 u).0 i).0
+
+pub IsReleased-deallocated : {units : ℕ} {a b : Allocator} (o addr : ℕ) → addr ≡ place o → IsDeallocated a.state b.state addr
+    → IsReleased (offsets units a) (offsets units b) o
+IsReleased-deallocated {units} {a} {b} o addr at gone =
+    let here = subst (IsDeallocated a.state b.state) at gone in
+    record {
+      gone = (units_at-none (offsets units b) o here.gone, align_of-none (offsets units b) o here.gone);
+      others = λ p other.
+          let apart : place p ≢ place o = λ e. other (omega (arith, e)) in (
+            units_at-same (offsets units a) (offsets units b) p (here.aligns (place p) apart) (here.bytes (place p) apart),
+            align_of-same (offsets units a) (offsets units b) p (here.aligns (place p) apart),
+          );
+      space = refl;
+    }
+
+-- ---- the beginning
+
+nothing : (used : List Used) (u : Used) → length used ≡ 0 → IsIn u used → ⊥
+nothing [] u e i = i
+nothing (x ∷ xs) u e i = omega (arith, e)
+
+pub AreWhole-none : (s : State) → live_count s ≡ 0 → AreWhole s
+unfolding live_count
+AreWhole-none s none u i = absurd (nothing s.used u none i)
+
+pub nothing_at : (s : State) → live_count s ≡ 0 → (a : ℕ) → align_at s a ≡ None
+unfolding live_count
+nothing_at s none a = align_at-none s a (payload_at-none s a (λ u held. nothing s.used u none held.0))
+
+-- all of the shadow becomes one chunk
+pub shadow_chunk : (units : ℕ) (r : Range) (t : State) (reply : Option ℕ) → r ≡ whole_shadow units → Inserts 59 empty r reply t → 0 < units
+    → t.chunks ≡ whole_shadow units ∷ []
+shadow_chunk units r t reply e step some =
+    let w = whole_shadow units in
+    let len : (end_of w - w.start) / 32 * 32 ≡ w.len = omega arith in
+    let part : aligned_part w ≡ w = λ i. record { start = 2 ^ 62 - 32; len = len i } in
+    let one : cut (max_pool_size 59) w ≡ w ∷ [] = ap (λ b. cond b (w ∷ []) []) (le-leb 64 w.len (omega arith)) in
+    let pieces : cut (max_pool_size 59) (aligned_part r) ≡ w ∷ [] = ap (λ x. cut (max_pool_size 59) (aligned_part x)) e ∙ ap (cut (max_pool_size 59)) part ∙ one in
+    ap (λ (x : State). x.chunks) step.after ∙ ap (λ cs. (with_chunks cs empty).chunks) pieces
+
+pub sized-freed : (v x : Offsets) → KeepsAllBounds 8 v.shadow.state x.shadow.state → KeepsSized v x
+unfolding KeepsSized
+sized-freed v x kept = λ count most widest sized. kept count (32 * (most - 1)) (32 * widest) sized
+
+pub IsEmpty-fresh : (v : Offsets) → ((a : ℕ) → align_at v.shadow.state a ≡ None) → IsEmpty v
+unfolding IsEmpty
+IsEmpty-fresh v none = λ o. units_at-none v o (none (place o))
+
+pub SizesSpace-fresh : (v : Offsets) (r : Range) (before : State) → r.start % 32 ≡ 0 → r.len ≡ 32 * v.units + 32 → live_count before ≡ 0
+    → SizesPool 59 8 r before v.shadow.state → SizesSpace v
+unfolding SizesSpace
+SizesSpace-fresh v r before whole same none pool = λ count units align len told long.
+    pool count (32 * (units - 1)) (32 * align) len told whole (omega (arith, long, same)) none

@@ -1,0 +1,156 @@
+-- The fields of an allocator of units: a core, whose memory's bytes are its own.
+use Rattle.std.proofs.Common.{◌≡◌, ◌≢◌, ◌⊎◌, ℕ, ◌+◌, ◌-◌, ◌*◌, ◌/◌, ◌%◌, ◌^◌, ◌<◌, ◌≤◌, List, [], ◌∷◌, cond, length, lit<, Option, Some, None, IsSome, true≢false, arith, inl, inr, refl, sym, ◌∙◌, ap, subst}
+use Rattle.std.proofs.lemmas.Bool.{cases_lt, le-leb}
+use Rattle.std.proofs.lemmas.Nat.{pow-add}
+use Rattle.std.proofs.Math.Nat.{div-add-mod', mul-le-mul_right, mul-mod_right, mul-sub}
+use Rattle.std.proofs.lemmas.Option.{none-some}
+use Rattle.std.specs.Option.{option_map}
+use Rattle.rlsf_base.specs.declared.memory.range.Range.{Range}
+use Rattle.rlsf_base.specs.PowerOfTwo.{IsPowerOfTwo, floor_log2}
+use Rattle.rlsf_base.specs.Range.{end_of}
+use Rattle.rlsf_base.specs.Layout.{IsLayout}
+use Rattle.rlsf_base.specs.SizeClass.{Reaches, class_of}
+use Rattle.rlsf_base.specs.Sizes.{request_size}
+use Rattle.rlsf_base.specs.Space.{range_of}
+use Rattle.rlsf_base.proofs.Numbers.PowersOfTwo.{IsPowerOfTwo-pow, IsPowerOfTwo-positive, pow-between}
+use Rattle.rlsf_base.proofs.Numbers.Roundings.{next_multiple_of-multiple}
+use Rattle.rlsf_base.proofs.SizeClasses.Reach.{Reaches-class_of, Reaches-from_slack}
+use Rattle.rlsf_model.specs.Callers.{align_at, bytes_at}
+use Rattle.rlsf_model.specs.Lists.{IsIn}
+use Rattle.rlsf_model.specs.Allocate.{Allocates, Places, placed}
+use Rattle.rlsf_model.specs.Payload.{payload_of}
+use Rattle.rlsf_model.specs.Release.{Deallocates}
+use Rattle.rlsf_model.specs.Sized.{live_count}
+use Rattle.rlsf_model.specs.State.{State, Used}
+use Rattle.rlsf_model.specs.WellFormed.{covers, coverage, itself, last_bytes, IsWellFormed}
+use Rattle.rlsf_model.specs.Insert.{Inserts, aligned_part, cut, with_chunks}
+use Rattle.rlsf_base.specs.Sizes.{max_pool_size}
+use Rattle.rlsf_model.specs.State.{empty}
+use Rattle.rlsf_model.proofs.CallerWords.{align_at-live, align_at-none, align_at-held, bytes_at-held}
+use Rattle.rlsf_model.proofs.Callers.{payload_at-none}
+use Rattle.rlsf_model.proofs.Coverage.{covers-inside, covers-before, covers-behind, coverage-none, coverage-some, coverage-unique}
+use Rattle.rlsf_model.proofs.Payloads.{payload_of-le, IsUsed-after_start, IsUsed-aligned, IsUsed-some}
+use Rattle.rlsf_model.proofs.Tiling.{block_of, tiling_of, used-le, free-le, lies_in_chunk, IsPart-free, IsPart-used}
+use Rattle.rlsf_model.proofs.Live.{deallocation_leaves_others}
+use Rattle.rlsf_model.proofs.Room.{refused_without_reach}
+use Rattle.rlsf_tlsf.specs.Allocator.{Allocator, allocator}
+use Rattle.rlsf_tlsf.specs.Cores.{IsCore, IsOwnFound, LeavesCore}
+use Rattle.rlsf_tlsf.specs.Results.{IsAllocated, IsDeallocated}
+use Rattle.rlsf_tlsf.specs.Steps.Moves.{bare}
+use Rattle.rlsf_offsets.specs.Units.{AreWhole, IsEmpty, IsFreeRun, IsFull, IsKept, IsSizedForUnits, SizesSpace, SucceedsWithin, KeepsSized, KeepsSizedFor, align_of, whole_shadow, IsReleased, IsReserved, IsShadow, IsSpace, Offsets, offsets, place, units_at}
+use Rattle.rlsf_base.specs.OpenSpace.{IsOwned}
+use Rattle.rlsf_base.specs.SizeClass.{IsValid}
+use Rattle.rlsf_base.specs.Space.{Space}
+use Rattle.rlsf_blocks.specs.Laws.{read_from}
+use Rattle.rlsf_blocks.specs.StandsFor.{contents}
+use Rattle.rlsf_blocks.specs.Steps.LiveBlock.{AtEachBlock, IsLiveIn}
+use Rattle.rlsf_model.specs.Sized.{IsSizedFor}
+use Rattle.rlsf_model.specs.State.{usable}
+use Rattle.rlsf_model.proofs.CallerWords.{align_at-some}
+use Rattle.rlsf_model.proofs.SizedWords.{never_refused}
+use Rattle.rlsf_table.specs.Table.{Table}
+use Rattle.rlsf_tlsf.specs.Bounds.{IfWithinBounds, KeepsAllBounds, KeepsBounds}
+use Rattle.rlsf_base.specs.Changes.{IsAllOwn}
+use Rattle.rlsf_blocks.proofs.RepresentedStates.EmptyState.{StandsFor-empty}
+use Rattle.rlsf_blocks.specs.StandsFor.{StandsFor}
+use Rattle.rlsf_model.specs.Insert.{IsFresh}
+use Rattle.rlsf_model.proofs.SizedWords.{live_count-empty}
+use Rattle.rlsf_table.specs.Table.{HasTable}
+use Rattle.rlsf_offsets.proofs.Frees.{AreWhole-none, shadow_chunk}
+use Rattle.rlsf_tlsf.specs.Sizing.{SizesPool}
+
+is_valid : IsValid 128 128 59 8
+is_valid = record { some_rows = lit< tt; rows_fit = omega arith; power_of_two = refl; classes_fit = omega arith }
+
+pub IsCore-kept : {units : ℕ} {m : Space} {t : Table} {s : State} → IsKept units m t s → IsCore 59 8 m t s
+IsCore-kept is = record { valid = is_valid; stands = is.shadow.stands; is_bare = is.is_bare }
+
+-- after a call on the core that keeps the chunks, the memory is the shadow of the same space
+pub IsKept-left : {units : ℕ} {m n : Space} {t y : Table} {j k : State} {most : ℕ} → IsKept units m t j → LeavesCore 59 8 m n y j k most
+    → (read_from n k).chunks ≡ (read_from m j).chunks → AreWhole (read_from n k) → IsKept units n y k
+IsKept-left {m = m} {n = n} is left chunks whole =
+    let shadow = is.shadow in
+    let start = left.costs.start in
+    let len = left.costs.length in
+    record {
+      shadow = record {
+        stands = left.core.stands;
+        own = λ a from to. left.own a (omega (arith, from, start)) ∙ shadow.own a (omega (arith, from, start)) (omega (arith, to, start, len));
+        start = start ∙ shadow.start;
+        len = len ∙ shadow.len;
+        few = shadow.few;
+        whole = whole;
+        chunks = λ some. chunks ∙ shadow.chunks some;
+      };
+      is_bare = left.core.is_bare;
+    }
+
+-- each byte of a payload is the memory's own
+pub own_payload : {units : ℕ} {a : Allocator} → IsShadow units a → (u : Used) → IsIn u a.state.used → IsOwned a.memory (usable u)
+own_payload {units} {a} is u i =
+    let w = is.stands.well_formed in
+    let used = w.used u i in
+    let home = lies_in_chunk a.state (tiling_of w) u.block (IsUsed-some u used) (IsPart-used a.state (tiling_of w) u i) in
+    let chunk = w.chunks home.chunk home.is_chunk in
+    let lies = chunk.lies_in in
+    λ p from to. is.own p (omega (arith, from, IsUsed-after_start u used, lies.0, home.from)) (omega (arith, to, IsUsed-after_start u used, lies.1, home.to))
+
+-- the live range at a unit has a used block, whose payload is the memory's own
+pub own_found : {units : ℕ} {m : Space} {t : Table} {s : State} → IsKept units m t s → (first addr : ℕ) → addr ≡ place first
+    → IsSome (align_at (read_from m s) (place first)) → IsOwnFound m (read_from m s) addr None
+own_found {m = m} {s = s} is first addr at some =
+    let (u, holds) = align_at-some (read_from m s) (place first) some in
+    (u, ((holds.0, holds.1 ∙ sym at), tt), own_payload is.shadow u holds.0)
+
+-- so its bytes are found by words
+pub live_found : {units : ℕ} {m : Space} {t : Table} {s : State} → IsKept units m t s → (first addr : ℕ) → addr ≡ place first
+    → IsSome (align_at (read_from m s) (place first)) → IsLiveIn m addr
+live_found {m = m} {t = t} {s = s} is first addr at some =
+    let (u, holds) = align_at-some (read_from m s) (place first) some in
+    (59, 8, contents m t, read_from m s, refl, is.shadow.stands, (u, (holds.0, holds.1 ∙ sym at)))
+
+-- and so is its length
+pub found_len : {units : ℕ} {m : Space} {t : Table} {s : State} → IsKept units m t s → (first addr : ℕ) → addr ≡ place first
+    → IsSome (align_at (read_from m s) (place first)) → (r : Range) → AtEachBlock m addr (λ u. r ≡ usable u) → r.len ≡ length (bytes_at (read_from m s) (place first))
+found_len {m = m} {t = t} {s = s} is first addr at some r each =
+    let w = is.shadow.stands.well_formed in
+    let (u, holds) = align_at-some (read_from m s) (place first) some in
+    let range = each 59 8 (contents m t) (read_from m s) u refl is.shadow.stands (holds.0, holds.1 ∙ sym at) in
+    ap (λ (x : Range). x.len) range ∙ sym (w.used u holds.0).bytes ∙ ap length (sym (bytes_at-held w (place first) u holds))
+
+-- ---- a new space
+
+module _ {m : Space} {t : Table} (bounds : (0 < m.start) × (m.start + length m.bytes < 2 ^ 64)) (table : HasTable 59 8 m t []) (own : IsAllOwn m.out) (s : State)
+    (none : s ≡ empty) where
+  read : read_from m s ≡ empty
+  read = ap (read_from m) none
+
+  pub IsCore-new : IsCore 59 8 m t s
+  IsCore-new = record {
+    valid = is_valid;
+    stands = subst (StandsFor 59 8 (contents m t)) (sym read) (StandsFor-empty is_valid bounds table);
+    is_bare = ap bare none ∙ sym none;
+  }
+
+  pub IsFresh-new : (r : Range) → m.start ≡ r.start → r.len ≡ length m.bytes → IsFresh (range_of m) (read_from m s) r
+  IsFresh-new r start len =
+      subst (λ (x : State). IsFresh (range_of m) x r) (sym read) (record { lies_in = (omega (arith, start), omega (arith, start, len)); apart = λ a from to. refl })
+
+  pub none_live-new : live_count (read_from m s) ≡ 0
+  none_live-new = ap live_count read ∙ live_count-empty
+
+  pub IsKept-new : (units : ℕ) → units ≤ 2 ^ 56 → m.start ≡ 2 ^ 62 - 32 → length m.bytes ≡ 32 * units + 32 → {n : Space} {y : Table} {k : State} {most : ℕ}
+      → LeavesCore 59 8 m n y s k most → (r : Range) → r ≡ whole_shadow units → (reply : Option ℕ) → Inserts 59 (read_from m s) r reply (read_from n k)
+      → live_count (read_from n k) ≡ 0 → IsKept units n y k
+  IsKept-new units few start len {n} {y} {k} left r same reply step count = record {
+    shadow = record {
+      stands = left.core.stands;
+      own = λ a from to. left.own a (omega (arith, from, left.costs.start)) ∙ own (a - m.start);
+      start = left.costs.start ∙ start;
+      len = left.costs.length ∙ len;
+      few = few;
+      whole = AreWhole-none (read_from n k) count;
+      chunks = λ some. shadow_chunk units r (read_from n k) reply same (subst (λ x. Inserts 59 x r reply (read_from n k)) read step) some;
+    };
+    is_bare = left.core.is_bare;
+  }

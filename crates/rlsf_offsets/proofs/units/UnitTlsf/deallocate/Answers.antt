@@ -1,0 +1,40 @@
+use Rattle.std.proofs.Common.{subst, sym, arith}
+use Rattle.std.specs.Prelude.{IsSome}
+use Rattle.rlsf_blocks.specs.Laws.{read_from}
+use Rattle.rlsf_model.proofs.Chunks.{chunks-deallocated}
+use Rattle.rlsf_tlsf.specs.Allocator.{allocator}
+use Rattle.rlsf_offsets.specs.Units.{IsReleased, KeepsSized, Offsets, offsets, units_at}
+use Rattle.rlsf_offsets.proofs.Frees.{AreWhole-deallocated, IsReleased-deallocated, sized-freed}
+use Rattle.rlsf_offsets.proofs.Kept.{IsCore-kept, IsKept-left, own_found}
+use Rattle.rlsf_offsets.proofs.Ranges.{live_place}
+use Rattle.rlsf_offsets.proofs.units.UnitTlsf.deallocate.Goals as goal
+
+pub place_of-addr-requires : goal.place_of-addr-requires
+place_of-addr-requires c =
+    let is = live_place c.self.invariant.shadow c.args.first (subst (λ (v : Offsets). IsSome (units_at v c.args.first)) (sym c.self.view_is) c.requires) in
+    (is.0, c.self.invariant.shadow.few)
+
+pub deallocate_in-requires : goal.deallocate_in-requires
+deallocate_in-requires c =
+    let is = live_place c.self.invariant.shadow c.args.first (subst (λ (v : Offsets). IsSome (units_at v c.args.first)) (sym c.self.view_is) c.requires) in
+    (omega arith, (IsCore-kept c.self.invariant, own_found c.self.invariant c.args.first c.place_of-addr.result c.place_of-addr.ensures is.1))
+
+pub invariant_of-self : goal.invariant_of-self
+invariant_of-self c =
+    let e = c.deallocate_in.ensures in
+    let s = read_from c.self.inside.memory c.self.inside.state.state in
+    let t = read_from c.deallocate_in.new.memory c.deallocate_in.new.state.state in
+    let addr = c.place_of-addr.result in
+    IsKept-left c.self.invariant e.left (chunks-deallocated s t addr e.step) (AreWhole-deallocated s t addr e.step c.self.invariant.shadow.whole)
+
+pub returns-clause-released : goal.returns-clause-released
+returns-clause-released c =
+    let after = offsets c.self.inside.units (allocator c.deallocate_in.new.memory c.deallocate_in.new.table c.deallocate_in.new.state.state) in
+    subst (λ (v : Offsets). IsReleased v after c.args.first) c.self.view_is
+    (IsReleased-deallocated c.args.first c.place_of-addr.result c.place_of-addr.ensures c.deallocate_in.ensures.result)
+
+pub returns-clause-sized : goal.returns-clause-sized
+returns-clause-sized c =
+    let before = offsets c.self.inside.units (allocator c.self.inside.memory c.self.inside.table c.self.inside.state.state) in
+    let after = offsets c.self.inside.units (allocator c.deallocate_in.new.memory c.deallocate_in.new.table c.deallocate_in.new.state.state) in
+    subst (λ (v : Offsets). KeepsSized v after) c.self.view_is (sized-freed before after c.deallocate_in.ensures.bounds)

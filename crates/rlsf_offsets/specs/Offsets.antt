@@ -1,0 +1,79 @@
+-- An allocator of offsets as its callers see it: where live ranges begin, and how many bytes they have.
+use Rattle.std.specs.Prelude.{◌≡◌, ◌≢◌, ◌⊎◌, ℕ, zero, suc, ◌+◌, ◌-◌, ◌*◌, ◌/◌, ◌%◌, ◌<◌, ◌≤◌, Option, Some, None, IsSome}
+use Rattle.std.specs.Option.{option_map}
+use Rattle.rlsf_offsets.specs.Units.{ArePiecesApart, IsFull, IsReleased, IsReserved, Offsets, SucceedsWithin, KeepsSizedFor, units_at}
+
+-- how many units so many bytes take: the fewest that have them, and at least one
+abbrev pub units_for : ℕ → ℕ → ℕ
+units_for unit bytes = (bytes - 1) / unit + 1
+
+-- the length of a range of so many bytes: these bytes, rounded up to units
+abbrev pub rounded : ℕ → ℕ → ℕ
+rounded unit bytes = units_for unit bytes * unit
+
+-- what is at a multiple of the unit, by the rest of an offset
+abbrev pub at_multiple : ℕ → Option ℕ → Option ℕ
+at_multiple zero o = o
+at_multiple (suc rest) o = None
+
+-- the bytes of the live range at an offset, or none where no range begins
+unfoldable pub len_at : ℕ → Offsets → ℕ → Option ℕ
+len_at unit v offset = at_multiple (offset % unit) (option_map (λ (n : ℕ). n * unit) (units_at v (offset / unit)))
+
+-- live ranges lie in the space, are not empty, begin and end at multiples of the unit, and no two of them have a byte in common
+pub record IsDivided (unit : ℕ) (v : Offsets) : Type 0 where
+  pub inside : (o n : ℕ) → len_at unit v o ≡ Some n → (0 < n) × (o + n ≤ v.units * unit)
+  pub whole : (o n : ℕ) → len_at unit v o ≡ Some n → (o % unit ≡ 0) × (n % unit ≡ 0)
+  pub apart : (o n p m : ℕ) → len_at unit v o ≡ Some n → len_at unit v p ≡ Some m → o ≢ p → ArePiecesApart o n p m
+
+-- a range for so many bytes was allocated at the offset
+pub record IsAllocated (unit : ℕ) (before after : Offsets) (len align offset : ℕ) : Type 0 where
+  -- it is live, with these bytes rounded up to units
+  pub live : len_at unit after offset ≡ Some (rounded unit len)
+  -- they are at least as many
+  pub long : len ≤ rounded unit len
+  -- and less than one unit more
+  pub few : 0 < len → rounded unit len < len + unit
+  -- none was live there before
+  pub new : len_at unit before offset ≡ None
+  -- it lies in the space
+  pub inside : offset + rounded unit len ≤ before.units * unit
+  -- the offset is a multiple of the unit
+  pub whole : offset % unit ≡ 0
+  -- and of the alignment
+  pub aligned : offset % align ≡ 0
+  -- it has no byte of a range that was live
+  pub apart : (o n : ℕ) → len_at unit before o ≡ Some n → ArePiecesApart o n offset (rounded unit len)
+  -- so it isn't where one was live
+  pub other : (o : ℕ) → IsSome (len_at unit before o) → o ≢ offset
+  -- the other ranges are as they were
+  pub others : (o : ℕ) → o ≢ offset → len_at unit after o ≡ len_at unit before o
+  -- those that were live are live
+  pub stay : (o : ℕ) → IsSome (len_at unit before o) → IsSome (len_at unit after o)
+  -- the space is as long
+  pub space : after.units ≡ before.units
+  -- the same in units
+  pub units : IsReserved before after (units_for unit len) (units_for unit align) (offset / unit)
+
+-- the range at the offset was deallocated
+pub record IsDeallocated (unit : ℕ) (before after : Offsets) (offset : ℕ) : Type 0 where
+  -- none is live there
+  pub gone : len_at unit after offset ≡ None
+  -- the other ranges are as they were
+  pub others : (o : ℕ) → o ≢ offset → len_at unit after o ≡ len_at unit before o
+  -- those that were live are live
+  pub stay : (o : ℕ) → o ≢ offset → IsSome (len_at unit before o) → IsSome (len_at unit after o)
+  -- the space is as long
+  pub space : after.units ≡ before.units
+  -- the same in units
+  pub units : IsReleased before after (offset / unit)
+
+-- no free range has a class that reaches so many bytes, rounded up to units, and the units that the alignment may leave in front
+abbrev pub IsFullFor : ℕ → Offsets → ℕ → ℕ → Type 0
+IsFullFor unit v len align = IsFull v (units_for unit len + units_for unit align - 1)
+
+-- ---- bounds
+
+-- within the bounds that the space is sized for, an allocation succeeds
+abbrev pub SucceedsFor : ℕ → Offsets → ℕ → ℕ → Type 0 → Type 0
+SucceedsFor unit v len align succeeds = SucceedsWithin v (units_for unit len) (units_for unit align) succeeds

@@ -1,0 +1,10 @@
+//! Allocation of ranges of a space that the processor can't reach: the memory of a GPU, a file, device addresses, identifiers.
+//!
+//! Read `specs/Offsets` (live ranges as callers see them) first, then `src/offsets`. `src/units` has the allocator below it, which counts in
+//! units, with definitions in `specs/Units`.
+#![tactic(auto)]
+
+mod offsets;
+mod units;
+
+pub use offsets::OffsetTlsf;

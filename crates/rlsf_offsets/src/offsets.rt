@@ -1,0 +1,133 @@
+//! The allocator of offsets.
+ghost use Rattle.std.specs.Prelude.{◌≡◌, ◌≤◌, ◌<◌, ◌+◌, ◌-◌, ◌*◌, ◌/◌, ◌^◌, ◌↔◌, ◌⊎◌, ℕ, Some, None, IfErr, IfOk, IfNone, IfSome, IsErrOf, IsSome};
+ghost use Rattle.rlsf_base.specs.PowerOfTwo.{IsPowerOfTwo};
+ghost use Rattle.rlsf_offsets.specs.Offsets as offsets;
+ghost use Rattle.rlsf_offsets.specs.Offsets.{IsAllocated, IsDeallocated, IsDivided, IsFullFor, SucceedsFor, len_at};
+ghost use Rattle.rlsf_offsets.specs.Units.{IsEmpty, IsFreeRun, IsUnchanged, KeepsSized, KeepsSizedFor, SizesSpace};
+
+use crate::units::UnitTlsf;
+use rlsf_base::memory::MemoryError;
+use std::alloc::Global;
+use std::marker::Model;
+
+/// An allocator of ranges of a space that it neither reads nor writes, as the memory of a GPU, a file, or numbers.
+///
+/// A range is an offset and a length in bytes. Both are multiples of `UNIT`, a power of two. Live ranges lie in the space, and no two of them
+/// have a byte in common (`IsDivided`).
+///
+/// The allocator keeps a shadow of the space: 32 bytes for each unit, and 32 more. The system reserves it, but memory is resident only where the
+/// shadow was written. Dropping the allocator deallocates it.
+///
+/// The documentation of a call bounds its cost in word accesses, as that of `Tlsf` defines them. None is in the space.
+#[derive(Drop)]
+pub struct OffsetTlsf<const UNIT: usize> {
+    inner: UnitTlsf,
+}
+
+impl<const UNIT: usize> Model for OffsetTlsf<UNIT> {
+    ghost use Rattle.std.specs.Prelude.{◌<◌, ◌*◌, ◌^◌};
+    ghost use Rattle.rlsf_base.specs.PowerOfTwo.{IsPowerOfTwo};
+    ghost use Rattle.rlsf_offsets.specs.Units.{Offsets};
+
+    ghost Value = { Offsets };
+
+    ghost view = { λ o. o.inner };
+
+    ghost invariant = { λ o. IsPowerOfTwo UNIT × (o.inner.units * UNIT < 2 ^ 64) };
+}
+
+impl<const UNIT: usize> OffsetTlsf<UNIT> {
+    /// Creates an allocator of a space of `len` bytes, all of which are free. Bytes behind the last complete unit are not used.
+    ///
+    /// Returns `TooLong` if and only if the space has more than `2^56` units, and `OutOfMemory` if the system refuses the shadow.
+    ///
+    /// `UNIT` must be a power of two.
+    ///
+    /// Takes constant time: no byte of the shadow is written but some words.
+    pub fn new(alloc: Global, len: usize) -> Result<Self, MemoryError>
+        requires { IsPowerOfTwo UNIT }
+        ensures too_long { IsErrOf result MemoryError.TooLong ↔ (2 ^ 56 < len / UNIT) }
+        ensures refused { IfErr result (λ e. (e ≡ MemoryError.TooLong) ⊎ (e ≡ MemoryError.OutOfMemory)) }
+        ensures units { IfOk result (λ space. space.units ≡ len / UNIT) }
+        ensures empty { IfOk result (λ space. (o : ℕ) → len_at UNIT space o ≡ None) }
+        ensures free { IfOk result (λ space. IsFreeRun space 0 (len / UNIT)) }
+        ensures sized { IfOk result (λ space. SizesSpace space) }
+    {
+        let inner = UnitTlsf::new(alloc, len / UNIT)?;
+        Ok(OffsetTlsf { inner })
+    }
+
+    /// Returns the length of the space in bytes, a multiple of the unit.
+    pub fn space_len(&self) -> usize
+        ensures value { result ≡ self.now.units * UNIT }
+        ensures divided { IsDivided UNIT self.now }
+    {
+        self.inner.units() * UNIT
+    }
+
+    /// Allocates a range for `len` bytes, and returns its offset, a multiple of `align` and of the unit. Its length is `len` rounded up to a
+    /// multiple of the unit, or one unit if `len` is 0. The range is the front of the newest free range of the first class that has a free range
+    /// and reaches the sought units: those of the range and, of an alignment of `a` units, `a - 1` more. What the alignment leaves in front of the
+    /// range is free again once the range is deallocated.
+    ///
+    /// Returns `None` if and only if no free range has a class that reaches the sought units; then nothing changes. With 8 classes for each power of
+    /// two, it is never refused if so many units and an eighth of them are free side by side (`room`), nor within bounds that the space is
+    /// sized for.
+    ///
+    /// `align` must be a power of two, and may be less than the unit.
+    ///
+    /// Completes in constant time: at most 27 word accesses.
+    pub fn allocate(&mut self, len: usize, align: usize) -> Option<usize>
+        requires { IsPowerOfTwo align }
+        ensures allocated { IfSome result (λ offset. IsAllocated UNIT self.old self.new len align offset) }
+        ensures refused { (result ≡ None) ↔ IsFullFor UNIT self.old len align }
+        ensures room { (o m : ℕ) → IsFreeRun self.old o m → 9 * (offsets.units_for UNIT len + offsets.units_for UNIT align - 1) ≤ 8 * m → IsSome result }
+        ensures within { SucceedsFor UNIT self.old len align (IsSome result) }
+        ensures sized { KeepsSizedFor self.old self.new (offsets.units_for UNIT len) (offsets.units_for UNIT align) }
+        ensures same { IfNone result (IsUnchanged self.old self.new) }
+        ensures touches { self.new.shadow.memory.touches ≤ self.old.shadow.memory.touches + 27 }
+    {
+        // Opens the invariant for the prover: the unit isn't 0.
+        let _ = &self.inner;
+        let units = units_for::<UNIT>(len);
+        let step = units_for::<UNIT>(align);
+        let first = self.inner.allocate(units, step)?;
+        Some(first * UNIT)
+    }
+
+    /// Deallocates the range at `offset`. It is joined with the free range before it and the free range behind it, if they exist.
+    ///
+    /// A range must be live at `offset`.
+    ///
+    /// Completes in constant time: at most 33 word accesses.
+    pub fn deallocate(&mut self, offset: usize)
+        requires { IsSome (len_at UNIT self.old offset) }
+        ensures deallocated { IsDeallocated UNIT self.old self.new offset }
+        ensures sized { KeepsSized self.old self.new }
+        ensures touches { self.new.shadow.memory.touches ≤ self.old.shadow.memory.touches + 33 }
+    {
+        self.inner.deallocate(offset / UNIT);
+    }
+
+    /// Returns the length in bytes of the range at `offset`.
+    ///
+    /// A range must be live at `offset`.
+    ///
+    /// Completes in constant time.
+    pub fn len(&self, offset: usize) -> usize
+        requires { IsSome (len_at UNIT self.now offset) }
+        ensures value { len_at UNIT self.now offset ≡ Some result }
+        ensures inside { (0 < result) × (offset + result ≤ self.now.units * UNIT) }
+    {
+        self.inner.len(offset / UNIT) * UNIT
+    }
+}
+
+/// Returns how many units so many bytes take: the fewest that have them, and at least one.
+fn units_for<const UNIT: usize>(bytes: usize) -> usize
+    requires { 0 < UNIT }
+    ensures value { result ≡ offsets.units_for UNIT bytes }
+    ensures some { 0 < result }
+{
+    bytes.saturating_sub(1) / UNIT + 1
+}
