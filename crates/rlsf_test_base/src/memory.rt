@@ -6,7 +6,7 @@ ghost use Rattle.rlsf_base.specs.RawParts.{CanStart, LiesAtBlock};
 ghost use Rattle.rlsf_base.specs.Space.{IsWord};
 
 use crate::answers::{all, passes};
-use rlsf_base::memory::{Memory, MemoryError, Range, RawParts};
+use rlsf_base::memory::{Memory, MemoryError, OpenMemory, Range, RawParts};
 use std::alloc::Global;
 use std::mem::size_of;
 use std::process::Abort;
@@ -289,16 +289,27 @@ fn mapped(rt: &(impl Abort + Files + AllocGlobal)) -> usize {
     pages.saturating_mul(4096)
 }
 
-// They are 512 MiB together, so a process that stays below 384 MiB more than before has freed them. Under `rt try` it keeps 256 MiB of
-// freed memory, to find uses of it.
+/// Frees 512 MiB of memories. Under `rt try` a process keeps 256 MiB of freed memory, to find uses of it. What is freed from then on
+/// takes the place of what was freed before.
+fn free_memories(rt: &(impl Abort + AllocGlobal)) {
+    for _ in 0..128 {
+        let memory = OpenMemory::reserve(rt.alloc(), 4096, 1 << 22);
+        memory.expect(rt, "a memory").free();
+    }
+}
+
+// Those of each start are 32 MiB together, so a process that stays below 16 MiB more than before has freed them.
 #[test]
 fn dropped_memories_are_given_back(rt: HostRuntime) {
-    let steps = [Step::SetWord(4096, 1), Step::Word(4096, 1)];
+    let steps = [Step::SetWord(4104, 1), Step::Word(4104, 1)];
+    free_memories(&rt);
     let before = mapped(&rt);
-    for _ in 0..128 {
-        let is_so = goes_so(rt.alloc(), 4096, 1 << 22, &steps);
+    for round in 0..96 {
+        // Multiples of 16, of 8 and of 1.
+        let start = 4096 + [0, 8, 1][round % 3];
+        let is_so = goes_so(rt.alloc(), start, 1 << 20, &steps);
         let then = mapped(&rt);
-        all(&rt, &[is_so, then.saturating_sub(before) < 3 << 27]);
+        all(&rt, &[is_so, then.saturating_sub(before) < 1 << 24]);
     }
 }
 

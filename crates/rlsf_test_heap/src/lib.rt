@@ -2,10 +2,10 @@
 //!
 //! In reading order: `answers` has the assertions; `pair` and `growing` are programs without a proof file; `rows` and `resized_rows`
 //! compare the addresses of payloads with worked examples, as tables of steps; `ends` and `drops` show that dropped heaps deallocate
-//! their memory; `local` has collections in a heap, `in_place` vectors that grow and shrink there, `sizes` blocks of each size, and
+//! their memory; `lent` lends ranges, and gets them back; `local` has collections in a heap, `in_place` vectors that grow and shrink there, `sizes` blocks of each size, and
 //! `printed` what is printed of one; `pools` fills new heaps and tenants; `raw` takes a payload apart; `thin` has payloads by their
 //! address, in `unknown_align` also of any alignment; `shared` and `returned` share a heap between threads, and take it apart again;
-//! `shared_rows` has the addresses of its payloads, and `sent` sends payloads between threads.
+//! `shared_rows` has the addresses of its payloads; `sent` sends payloads between threads, and `queue` numbers.
 #![tactic(auto)]
 
 #[cfg(test)]
@@ -19,6 +19,8 @@ mod growing;
 #[cfg(test)]
 mod in_place;
 #[cfg(test)]
+mod lent;
+#[cfg(test)]
 mod local;
 #[cfg(test)]
 mod pair;
@@ -26,6 +28,8 @@ mod pair;
 mod pools;
 #[cfg(test)]
 mod printed;
+#[cfg(test)]
+mod queue;
 #[cfg(test)]
 mod raw;
 #[cfg(test)]

@@ -5,7 +5,7 @@
 //! for the crates above, which inspect the allocator between two ops.
 //!
 //! `replays.rt` has the programs' part: `replay` reads (`input.rt`), runs and prints (`prints.rt`), and writes (`output.rt`). The run has
-//! only the part of the memory that the ops name (`parts.rt`). The definitions of its faults and its output are in `specs/Replays.antt`
+//! only the part of the memory that the ops name (`parts.rt`). `bad_word.rt` finds the word of a fault. The definitions of its faults and its output are in `specs/Replays.antt`
 //! and `specs/Output.antt`.
 //!
 //! `traces.rt` makes the allocator of a trace and calls `watch` in `watched.rt`, which records a moment after each op (`moments.rt`) and
@@ -13,6 +13,7 @@
 //! definitions are in `specs/Moments.antt`.
 #![tactic(auto)]
 
+mod bad_word;
 mod blocks;
 mod input;
 mod moments;
@@ -29,6 +30,7 @@ mod traces;
 mod walks;
 mod watched;
 
+pub use bad_word::bad_word_of;
 pub use input::read_input;
 pub use moments::Moment;
 pub use names::Payload;

@@ -32,7 +32,7 @@ pub struct Pools {
 
 impl Pools {
     /// No pools, with room for so many, or an error if the system is out of memory.
-    pub(crate) fn with_room(alloc: Global, count: usize) -> Result<Pools, AllocError>
+    pub fn with_room(alloc: Global, count: usize) -> Result<Pools, AllocError>
         ensures empty { IfOk result (λ pools. (pools.ranges.items ≡ []) × (pools.firsts.items ≡ [])) }
         ensures room { IfOk result (λ pools. vec_len pools.ranges + count ≤ vec_capacity pools.ranges) }
     {
@@ -42,7 +42,7 @@ impl Pools {
     }
 
     /// Adds a pool. There is room for it.
-    pub(crate) fn add(&mut self, pool: Range)
+    pub fn add(&mut self, pool: Range)
         requires room { vec_len self.old.ranges < vec_capacity self.old.ranges }
         requires in_runs { AreInRuns self.old.ranges.items self.old.firsts.items }
         ensures ranges { IsPermutation (pool ∷ self.old.ranges.items) self.new.ranges.items }
