@@ -27,11 +27,11 @@ LAYERS = [
     ]),
     ("Examples", "programs to copy from", "#fff3d0", [
         [(1, "rlsf_example_readme", "the program of README.md"), (1, "rlsf_example_functions", "buffer, cache, pools, source"),
-         (2, "rlsf_example_libraries_tour", "first calls, a tour of these libraries, lengths of pools")],
+         (1, "rlsf_example_libraries_tour", "first calls, lengths of pools"), (1, "rlsf_example_offsets", "the memory of a GPU")],
         [(1, "rlsf_example_owned_payloads", "two threads, one SharedHeap"), (1, "rlsf_example_tenants", "payloads, and std's collections"),
-         (1, "rlsf_example_global", "two threads, one GlobalTlsf"), (1, "", "")],
+         (1, "rlsf_example_global", "two threads, one GlobalTlsf"), (1, "rlsf_example_real_time", "a thread that never waits")],
     ]),
-    ("Libraries", "for other code", "#fff3d0", [
+    ("Libraries", "for other code, but for the lemmas", "#fff3d0", [
         [(1, "rlsf_c_lemmas", "proofs of C's exports: their template"), (1, "rlsf_pool", "static library for C: pools of numbers"),
          (1, "rlsf_malloc", "static library for C: payloads are pointers"), (1, "rlsf_example_libraries", "queues, objects and strings in a pool")],
     ]),
@@ -45,7 +45,7 @@ LAYERS = [
          (2, "", "A Tlsf lends its payloads. A Heap returns them as values that own their bytes. A FlexTlsf grows: it asks a source for memory.")],
         [(2, "rlsf_global", "behind one lock, for threads; a journal that explains all replies", True),
          (1, "rlsf_shared_heap", "Heap for threads"), (1, "rlsf_local_heap", "Heap for std's collections")],
-        [(2, "rlsf_flex", "FlexTlsf: memory from a source; two sources"), (1, "rlsf_checked", "errors in place of conditions"),
+        [(1, "rlsf_offsets", "ranges of a GPU's memory"), (1, "rlsf_flex", "FlexTlsf: memory from a source"), (1, "rlsf_checked", "errors in place of conditions"),
          (2, "rlsf_heap", "Heap: payloads own their bytes")],
         [(1, "rlsf_tlsf", "Tlsf: the allocator over one memory; the work of each call has a bound")],
     ]),
@@ -114,7 +114,7 @@ def draw():
         "<title>The crates and their layers</title>",
         f"<rect width='{WIDTH}' height='{y + 4:.0f}' fill='white'/>",
         "<text x='20' y='24' font-size='18' font-weight='bold'>The crates of rlsf: a crate uses crates below it</text>",
-        "<text x='20' y='42' font-size='13'>Begin with a crate that has a thick green edge: one for one thread, one for threads, one whose payloads are values.</text>",
+        "<text x='20' y='42' font-size='13'>Begin with a crate that has a thick green edge: one for one thread, one whose payloads are values, one for threads.</text>",
     ]
     return "\n".join([*head, *body, "</svg>"]) + "\n"
 
