@@ -129,24 +129,22 @@ impl<FLBitmap: BitPattern, SLBitmap: BitPattern, const FLLEN: usize, const SLLEN
         memory
     }
 
-    /// Consumes the heap and returns its memory, as `into_memory` does, if no payload is live. Otherwise returns the heap
-    /// unchanged, as the error.
+    /// Consumes the heap and returns its memory, as `into_memory` does, if no payload is live and the memory is the heap's own: its
+    /// bytes weren't lent to it. Otherwise returns the heap unchanged, as the error.
     ///
     /// The memory is the one that `new` was passed: it has the same start, length and block (`home`).
     pub fn try_into_memory(self) -> Result<OpenMemory, Self>
-        ensures which { IsOk result ↔ (live_count self.state ≡ 0) }
+        ensures which { IsOk result ↔ ((live_count self.state ≡ 0) × (self.lent ≡ false)) }
         ensures memory { IfOk result (λ m. m ≡ self.memory) }
         ensures home { IfOk result (λ m. home_of m ≡ self.identity.home) }
-        ensures own { IfOk result (λ m. self.lent ≡ false → IsAllOwn m.out) }
-        ensures free { IfOk result (λ m. self.lent ≡ false → IsOwned m (range_of m)) }
-        ensures lent { IfOk result (λ m. (r : Range) → IsLent self r → IsOwned m r) }
+        ensures own { IfOk result (λ m. IsAllOwn m.out) }
+        ensures free { IfOk result (λ m. IsOwned m (range_of m)) }
         ensures same { IfErr result (λ h. h ≡ self) }
     {
-        if self.live == 0 {
-            Ok(self.into_memory())
-        } else {
-            Err(self)
+        if self.lent || self.live > 0 {
+            return Err(self);
         }
+        Ok(self.into_memory())
     }
 
     /// Allocates a payload for `layout`. It leaves the memory. Its bytes may be raw; if no byte of the memory is raw, none of

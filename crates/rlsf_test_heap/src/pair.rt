@@ -46,6 +46,7 @@ fn marked(first: Payload, second: Payload) -> (Pair, [u8; 2])
 fn with_pair(heap: &mut Small, layout: Layout) -> Option<[u8; 2]>
     requires { 0 < layout.size }
     ensures count { live_count heap.new.state ≡ live_count heap.old.state }
+    ensures lent { heap.new.lent ≡ heap.old.lent }
     ensures read { IfSome result (λ r. r ≡ 7 ∷ 9 ∷ []) }
 {
     let first = heap.allocate_zeroed(layout)?;

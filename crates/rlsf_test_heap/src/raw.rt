@@ -13,6 +13,7 @@ type Small = Heap<u16, u16, 12, 16>;
 /// Allocates a payload, writes it, makes it one that is known by its address alone, and deallocates it by this number. Returns its length.
 fn through_number(heap: &mut Small, layout: Layout) -> Option<usize>
     ensures count { live_count heap.new.state ≡ live_count heap.old.state }
+    ensures lent { heap.new.lent ≡ heap.old.lent }
     ensures len { IfSome result (λ n. layout.size ≤ n) }
 {
     let mut payload = heap.allocate(layout)?;

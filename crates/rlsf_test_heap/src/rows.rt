@@ -1,5 +1,5 @@
 //! Heaps whose payloads have to lie at given addresses.
-ghost use Rattle.std.specs.Prelude.{◌≡◌, ◌↔◌, [], ◌∷◌, ◌≤◌, true, length};
+ghost use Rattle.std.specs.Prelude.{◌≡◌, ◌↔◌, [], ◌∷◌, ◌≤◌, false, true, length};
 ghost use Rattle.rlsf_base.specs.Changes.{IsAllOwn};
 ghost use Rattle.rlsf_base.specs.Range.{range_at};
 ghost use Rattle.rlsf_model.specs.Sized.{live_count};
@@ -55,7 +55,7 @@ pub(crate) fn give_back(heap: &mut Small, payload: Option<Payload>)
 
 /// Whether a heap returns its memory, which is then deallocated. A heap with a live payload is dropped.
 fn ends(heap: Small) -> bool
-    ensures { (result ≡ true) ↔ (live_count heap.state ≡ 0) }
+    ensures { (result ≡ true) ↔ ((live_count heap.state ≡ 0) × (heap.lent ≡ false)) }
 {
     match heap.try_into_memory() {
         Ok(memory) => {
@@ -286,6 +286,7 @@ fn with_chunk(rt: &(impl Abort + AllocGlobal)) -> Long
     ensures chunk { result.state.chunks ≡ range_at 4096 256 ∷ [] }
     ensures idle { result.state.used ≡ [] }
     ensures place { (result.memory.start ≡ 4096) × (length result.memory.bytes ≡ 1024) }
+    ensures own { result.lent ≡ false }
 {
     let mut heap = Long::new(memory(rt, 4096, 1024));
     heap.insert_free_block(Range {
@@ -301,6 +302,7 @@ fn appended(heap: &mut Long, layout: Layout, len: usize) -> [usize; 3]
     requires chunk { heap.old.state.chunks ≡ range_at 4096 256 ∷ [] }
     requires place { (heap.old.memory.start ≡ 4096) × (length heap.old.memory.bytes ≡ 1024) }
     requires len { len ≤ 512 }
+    requires own { heap.old.lent ≡ false }
 {
     let first = heap.allocate(layout);
     let taken = heap.append_free_block_ptr(Range { start: 4352, len });
