@@ -75,6 +75,7 @@ typedef struct {
 /* The exported functions. Each takes the handle's bytes behind an rlsf_heap. */
 #define RLSF_KIND_DECLARES(KIND)                                                                      \
     size_t rlsf_##KIND##_size(void);                                                                  \
+    size_t rlsf_##KIND##_pool_size(size_t size, size_t align);                                        \
     void rlsf_##KIND##_init(void *heap, void *block, size_t start, size_t len);                       \
     void rlsf_##KIND##_end(void *heap);                                                               \
     size_t rlsf_##KIND##_add(void *heap, size_t start, size_t len);                                   \
@@ -121,6 +122,12 @@ typedef union {
 /* Returns the size of a handle of a kind in bytes, or 0 if there is no such kind. */
 RLSF_INLINE size_t rlsf_heap_size(size_t kind) {
     return kind == RLSF_SMALL ? RLSF_SMALL_HEAP_SIZE : kind == RLSF_LARGE ? RLSF_LARGE_HEAP_SIZE : 0;
+}
+
+/* Returns the least length in bytes of a pool, from a multiple of 32 on, in which a first payload of a size and an alignment is not refused.
+ * Returns 0 if no pool has it, the alignment is no power of two, or there is no such kind. The call takes constant time. */
+RLSF_INLINE size_t rlsf_heap_pool_size(size_t kind, size_t size, size_t align) {
+    return kind == RLSF_SMALL ? rlsf_small_pool_size(size, align) : kind == RLSF_LARGE ? rlsf_large_pool_size(size, align) : 0;
 }
 
 /* What the exported functions use of a heap, also in a call that leaves it as it is. */

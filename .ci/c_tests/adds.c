@@ -119,8 +119,23 @@ static void of_few_bytes(size_t kind) {
     WANT(memcmp(&handle, &before, sizeof handle), 0);
 }
 
+/* A pool of the length for a payload serves it once. A shorter one doesn't: a class begins each 32, 64 or 4,096 bytes there. */
+static void lengths(size_t kind) {
+    static const size_t sizes[] = {0, 1, 17, 100, 1000, 1100, 65536, 126960}, aligns[] = {1, 8, 32, 16, 64, 16, 4096, 1};
+    static const size_t small[] = {64, 64, 96, 160, 1120, 1184, 69664, 127008}, large[] = {64, 64, 96, 160, 1120, 1152, 69664, 127008};
+    const size_t *lens = kind == RLSF_SMALL ? small : large;
+    for (size_t n = 0; n < sizeof sizes / sizeof *sizes; n++) {
+        WANT(rlsf_heap_pool_size(kind, sizes[n], aligns[n]), lens[n]);
+        WANT(rlsf_aligned_alloc(rlsf_heap_init(&handle, kind, memory, lens[n] - 32), aligns[n], sizes[n]) == NULL, 1);
+        WANT(rlsf_aligned_alloc(rlsf_heap_init(&handle, kind, memory, lens[n]), aligns[n], sizes[n]) != NULL, 1);
+    }
+    WANT(rlsf_heap_pool_size(kind, 126961, 1), kind == RLSF_SMALL ? 0 : 128032);
+    WANT(rlsf_heap_pool_size(kind, 100, 0) + rlsf_heap_pool_size(kind, 100, 24) + rlsf_heap_pool_size(3 * kind, 100, 16), 0);
+    WANT(rlsf_heap_pool_size(kind, (size_t)-1, 16) + rlsf_heap_pool_size(kind, (size_t)-1 / 2, 16), 0);
+}
+
 int main(void) {
-    static void (*const tests[])(size_t) = {errors, at_each_start, appends, of_few_bytes};
+    static void (*const tests[])(size_t) = {errors, at_each_start, appends, of_few_bytes, lengths};
     for (size_t n = 0; n < sizeof tests / sizeof *tests; n++) {
         tests[n](RLSF_SMALL);
         tests[n](RLSF_LARGE);

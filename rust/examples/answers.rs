@@ -60,8 +60,12 @@ allocators! {
     LargeTlsf = Tlsf<'static, u64, u64, 64, 64>;
     Growing = Tlsf<'static, u64, u64, 59, 64>;
     FewWideRows = Tlsf<'static, u32, u64, 10, 64>;
+    FewClasses = Tlsf<'static, u64, u8, 64, 8>;
+    HalfTheClasses = Tlsf<'static, u32, u32, 28, 32>;
     LargeFlex = FlexTlsf<Source, usize, usize, 64, 64>;
     SmallFlex = FlexTlsf<Source, u16, u16, 12, 16>;
+    FewClassesFlex = FlexTlsf<Source, u32, u8, 20, 8>;
+    HalfTheClassesFlex = FlexTlsf<Source, u64, u32, 64, 32>;
 }
 
 /// One random call on payloads.
@@ -240,6 +244,10 @@ fn main() {
     over_pools!(steps, seed + 2, LargeTlsf);
     over_pools!(steps, seed + 3, Growing);
     over_pools!(steps, seed + 4, FewWideRows);
+    over_pools!(steps, seed + 7, FewClasses);
+    over_pools!(steps, seed + 8, HalfTheClasses);
     over_sources!(steps / 16, seed + 5, LargeFlex);
     over_sources!(steps / 16, seed + 6, SmallFlex);
+    over_sources!(steps / 16, seed + 9, FewClassesFlex);
+    over_sources!(steps / 16, seed + 10, HalfTheClassesFlex);
 }

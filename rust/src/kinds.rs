@@ -8,6 +8,7 @@ mod private {
 /// The exported functions of a kind. Each takes the heap's handle first. An address is a number, and 0 is no address.
 pub struct Calls {
     pub size: unsafe extern "C" fn() -> usize,
+    pub pool_size: unsafe extern "C" fn(usize, usize) -> usize,
     pub init: unsafe extern "C" fn(*mut u8, *mut u8, usize, usize),
     pub add: unsafe extern "C" fn(*mut u8, usize, usize) -> usize,
     pub append: unsafe extern "C" fn(*mut u8, usize, usize) -> usize,
@@ -43,6 +44,8 @@ macro_rules! kind {
             unsafe extern "C" {
                 #[link_name = concat!("rlsf_", $name, "_size")]
                 fn size() -> usize;
+                #[link_name = concat!("rlsf_", $name, "_pool_size")]
+                fn pool_size(size: usize, align: usize) -> usize;
                 #[link_name = concat!("rlsf_", $name, "_init")]
                 fn init(heap: *mut u8, block: *mut u8, start: usize, len: usize);
                 #[link_name = concat!("rlsf_", $name, "_add")]
@@ -68,7 +71,7 @@ macro_rules! kind {
                 // 7 words, and for each row two words of bits and a word for each class.
                 type Handle = Words<{ 7 + $rows * (2 + $classes) }>;
                 const EMPTY: Self::Handle = Words([0; 7 + $rows * (2 + $classes)]);
-                const CALLS: Calls = Calls { size, init, add, append, malloc, allocate, reallocate_aligned, free, usable, list };
+                const CALLS: Calls = Calls { size, pool_size, init, add, append, malloc, allocate, reallocate_aligned, free, usable, list };
             }
         };
     };
@@ -78,7 +81,15 @@ kind!(
     Small = "small": 12 rows of 16
 );
 kind!(
-    /// Heaps of 64 rows.
+    /// Heaps of 64 rows of 8 classes.
+    LargeOf8 = "large_8": 64 rows of 8
+);
+kind!(
+    /// Heaps of 64 rows of 32 classes.
+    LargeOf32 = "large_32": 64 rows of 32
+);
+kind!(
+    /// Heaps of 64 rows of 64 classes.
     Large = "large": 64 rows of 64
 );
 
@@ -89,7 +100,7 @@ pub enum Classes<const FLLEN: usize, const SLLEN: usize> {}
 /// [`MAX_POOL_SIZE`](crate::Tlsf::MAX_POOL_SIZE).
 #[diagnostic::on_unimplemented(
     message = "the proved archive has no heaps with the rows and classes of `{Self}`",
-    label = "there are 1 to 12 rows of 16 classes, and 1 to 64 rows of 64 classes"
+    label = "there are 1 to 12 rows of 16 classes, and 1 to 64 rows of 8, 32 and 64 classes"
 )]
 pub trait Served: private::Sealed {
     /// The kind of heaps.
@@ -107,6 +118,17 @@ macro_rules! served {
         )*
     };
 }
+macro_rules! served_up_to_64_rows {
+    ($($kind:ty, $classes:literal;)*) => {
+        $(
+            served!($kind, $classes: 1 2 3 4 5 6 7 8 9 10 11 12 13 14 15 16 17 18 19 20 21 22 23 24 25 26 27 28 29 30 31 32);
+            served!($kind, $classes: 33 34 35 36 37 38 39 40 41 42 43 44 45 46 47 48 49 50 51 52 53 54 55 56 57 58 59 60 61 62 63 64);
+        )*
+    };
+}
 served!(Small, 16: 1 2 3 4 5 6 7 8 9 10 11 12);
-served!(Large, 64: 1 2 3 4 5 6 7 8 9 10 11 12 13 14 15 16 17 18 19 20 21 22 23 24 25 26 27 28 29 30 31 32);
-served!(Large, 64: 33 34 35 36 37 38 39 40 41 42 43 44 45 46 47 48 49 50 51 52 53 54 55 56 57 58 59 60 61 62 63 64);
+served_up_to_64_rows! {
+    LargeOf8, 8;
+    LargeOf32, 32;
+    Large, 64;
+}

@@ -19,8 +19,8 @@
 //! }
 //! ```
 //!
-//! The archive has heaps of 12 first-level rows with 16 size classes, and of 64 rows with 64 classes. So `FLLEN` is at most 12 with an `SLLEN` of
-//! 16, and at most 64 with an `SLLEN` of 64. Any other pair doesn't compile. Code that is generic over these numbers has the bound
+//! The archive has heaps of 12 first-level rows with 16 size classes, and of 64 rows with 8, 32 and 64 classes. So `FLLEN` is at most 12 with an
+//! `SLLEN` of 16, and at most 64 with one of 8, 32 and 64. Any other pair doesn't compile. Code that is generic over these numbers has the bound
 //! `Classes<FLLEN, SLLEN>: Served`.
 #![no_std]
 #![warn(missing_docs)]

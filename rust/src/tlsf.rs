@@ -178,16 +178,9 @@ where
 
     /// Returns the least length of a pool that begins at a multiple of 32 and contains a payload of `layout`. Returns `None` if none does.
     pub(crate) fn pool_size_to_contain_allocation(layout: Layout) -> Option<usize> {
-        let sought = (layout.size() + layout.align().max(LEAST_ALIGN)).checked_next_multiple_of(GRANULARITY)?;
-        // The first class whose blocks all have that many bytes begins at a multiple of its row's step.
-        let step = GRANULARITY.max((1 << sought.ilog2()) / SLLEN);
-        let least = sought.checked_next_multiple_of(step)?;
-        let is_longer = Self::MAX_POOL_SIZE.is_some_and(|longest| longest <= least);
-        if is_longer {
-            None
-        } else {
-            least.checked_add(GRANULARITY)
-        }
+        let least = NonZeroUsize::new(unsafe { (Self::CALLS.pool_size)(layout.size(), layout.align()) })?.get();
+        let is_longer = Self::MAX_POOL_SIZE.is_some_and(|longest| longest < least);
+        if is_longer { None } else { Some(least) }
     }
 
     /// Allocates a payload of at least `layout.size()` bytes at a multiple of `layout.align()`. Its bytes may have any values. Returns `None` if

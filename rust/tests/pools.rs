@@ -83,6 +83,8 @@ calls_agree_with_a_table!(twelve_rows_of_16, Tlsf<'_, u16, u16, 12, 16>);
 calls_agree_with_a_table!(seven_rows_of_16, Tlsf<'_, u8, u16, 7, 16>);
 calls_agree_with_a_table!(sixty_four_rows_of_64, Tlsf<'_, u64, u64, 64, 64>);
 calls_agree_with_a_table!(twelve_rows_of_64, Tlsf<'_, u16, u64, 12, 64>);
+calls_agree_with_a_table!(sixty_four_rows_of_8, Tlsf<'_, u64, u8, 64, 8>);
+calls_agree_with_a_table!(thirty_rows_of_32, Tlsf<'_, u32, u32, 30, 32>);
 
 /// A pool is the whole multiples of 32 of its range, if these are two at least. One payload takes all but 48 bytes of it.
 #[test]

@@ -48,6 +48,12 @@ row K = the_row (param 0 K.B) (param 1 K.B) (param 2 (number K.rows)) (param 3 (
 pub large_valid : IsValid impl64.ghosts.width impl64.ghosts.width 64 64
 large_valid = search rules
 
+pub large_8_valid : IsValid impl64.ghosts.width impl64.ghosts.width 64 8
+large_8_valid = search rules
+
+pub large_32_valid : IsValid impl64.ghosts.width impl64.ghosts.width 64 32
+large_32_valid = search rules
+
 pub small_valid : IsValid impl16.ghosts.width impl16.ghosts.width 12 16
 small_valid = search rules
 
@@ -64,6 +70,38 @@ large = record {
   lasting = ⊑_refl [];
   met = λ M 𝓤 𝓛 𝓜 𝓡. met64 𝓡.env M 𝓤 𝓛 𝓜 𝓡;
   valid = large_valid;
+  small = lit< tt;
+}
+
+abbrev pub large_8 : Kind
+large_8 = record {
+  B = u64;
+  rows = 64;
+  classes = 8;
+  ghosts = impl64.ghosts;
+  dict = impl64.dict;
+  laws = of_field u64-field u64-laws refl (copy_shared u64-field u64-copy);
+  rows_fit = record { fits = lit< tt };
+  classes_fit = record { fits = lit< tt };
+  lasting = ⊑_refl [];
+  met = λ M 𝓤 𝓛 𝓜 𝓡. met64 𝓡.env M 𝓤 𝓛 𝓜 𝓡;
+  valid = large_8_valid;
+  small = lit< tt;
+}
+
+abbrev pub large_32 : Kind
+large_32 = record {
+  B = u64;
+  rows = 64;
+  classes = 32;
+  ghosts = impl64.ghosts;
+  dict = impl64.dict;
+  laws = of_field u64-field u64-laws refl (copy_shared u64-field u64-copy);
+  rows_fit = record { fits = lit< tt };
+  classes_fit = record { fits = lit< tt };
+  lasting = ⊑_refl [];
+  met = λ M 𝓤 𝓛 𝓜 𝓡. met64 𝓡.env M 𝓤 𝓛 𝓜 𝓡;
+  valid = large_32_valid;
   small = lit< tt;
 }
 

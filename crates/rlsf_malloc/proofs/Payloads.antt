@@ -1,4 +1,4 @@
--- The exports that take a payload from their caller, for both kinds of heaps: what each does to a heap and a payload.
+-- The exports that take a payload from their caller, for each kind of heaps: what each does to a heap and a payload.
 use Rattle.std.proofs.Common.{◌≡◌, ◌≢◌, ℕ, ◌≤◌, refl, sym, subst}
 use Rattle.rlsf_heap.specs.Heap.{HeapView, PayloadView}
 use Rattle.rlsf_heap.specs.Thin.{owns_reply}

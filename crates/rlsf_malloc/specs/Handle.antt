@@ -29,6 +29,14 @@ large = the_row u64 u64 (number 64) (number 64) ghosts64 ghosts64
 abbrev pub small : RattleType
 small = the_row u16 u16 (number 12) (number 16) ghosts16 ghosts16
 
+-- the type of a heap of 64 rows of 8 classes
+abbrev pub large_8 : RattleType
+large_8 = the_row u64 u64 (number 64) (number 8) ghosts64 ghosts64
+
+-- the type of a heap of 64 rows of 32 classes
+abbrev pub large_32 : RattleType
+large_32 = the_row u64 u64 (number 64) (number 32) ghosts64 ghosts64
+
 -- a value of a type lies at a pointer, and S is true of it
 abbrev pub Holds : (R : RattleType) → (R.Denot → Type 0) → Ptr → R.Denot → Fml
 Holds R S p v = fex (S v) (λ _. lies_at R full_share p v)

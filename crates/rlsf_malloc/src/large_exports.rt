@@ -16,9 +16,10 @@ ghost use Rattle.rlsf_heap.specs.Thin.{owns_reply};
 ghost use Rattle.rlsf_malloc.specs.Blocks.{AreTotals, IsCheckOf, IsListing};
 ghost use Rattle.rlsf_malloc.specs.Calls.{AddsLent, Allocates, AllocatesZeroed, AppendsLent, CanAppend, CanLend, CanRemove, Frees, IsAt, IsFresh, IsReady, IsUsable, OwnsLent, RemovesLent, aligned_for};
 ghost use Rattle.rlsf_malloc.specs.Handle.{Gives, Holds, HoldsSome, Returns, handle_size, rest_of, large};
+ghost use Rattle.rlsf_malloc.specs.Ranges.{IsPoolSizeOf};
 ghost use Rattle.rlsf_malloc.specs.Resizing.{ResizesAligned, ResizesAny, ResizesInPlace};
 
-use crate::{calls, pools, resizing};
+use crate::{calls, pools, ranges, resizing};
 use rlsf_base::memory::OpenMemory;
 use rlsf_blocks::Totals;
 use rlsf_heap::{Heap, Loan, ThinPayload};
@@ -34,6 +35,15 @@ pub extern "C" fn rlsf_large_size() -> usize
     ensures { result ≡ handle_size large }
 {
     size_of::<Large>()
+}
+
+/// Returns the least length of a range, from a multiple of 32 on, in which a first payload of a size and an alignment is never refused. Returns 0
+/// if no range has it, or if the alignment is no power of two.
+#[unsafe(no_mangle)]
+pub extern "C" fn rlsf_large_pool_size(size: usize, align: usize) -> usize
+    ensures { IsPoolSizeOf 64 64 size align result }
+{
+    ranges::pool_size::<u64, u64, 64, 64>(size, align)
 }
 
 /// Creates a heap of the large kind at a handle, over the `len` addresses from `start` on, the first of which is that of `block`. The heap owns no byte

@@ -1,8 +1,13 @@
-//! Comparisons of ranges, for callers that keep a list of a heap's pools.
+//! Comparisons of ranges, for callers that keep a list of a heap's pools, and lengths of pools.
 
 ghost use Rattle.std.specs.Prelude.{◌≡◌, ◌≢◌, ◌-◌};
 ghost use Rattle.rlsf_base.specs.Range.{LiesIn, range_at};
-ghost use Rattle.rlsf_malloc.specs.Ranges.{Overlap, past};
+ghost use Rattle.rlsf_base.specs.SizeClass.{IsValid};
+ghost use Rattle.rlsf_malloc.specs.Ranges.{IsPoolSizeOf, Overlap, past};
+
+use rlsf_base::classes::pool_size_to_contain_allocation;
+use rlsf_base::memory::Layout;
+use rlsf_int::BitPattern;
 
 // A heap over all addresses has those from 32 up to 2^58.
 const FIRST: usize = 32;
@@ -45,5 +50,20 @@ pub extern "C" fn rlsf_ranges_overlap(
         } else {
             0
         }
+    }
+}
+
+/// Returns the least length of a range, from a multiple of 32 on, in which a first payload of a size and an alignment is never refused. Returns 0
+/// if no range has it, or if the alignment is no power of two.
+pub(crate) fn pool_size<F: BitPattern, S: BitPattern, const FLLEN: usize, const SLLEN: usize>(
+    size: usize,
+    align: usize,
+) -> usize
+    requires parameters { IsValid F.width S.width FLLEN SLLEN }
+    ensures { IsPoolSizeOf FLLEN SLLEN size align result }
+{
+    match Layout::from_size_align(size, align) {
+        Ok(layout) => { pool_size_to_contain_allocation::<F, S, FLLEN, SLLEN>(layout).unwrap_or(0) }
+        Err(_) => 0,
     }
 }

@@ -1,4 +1,4 @@
-//! The exports of the small kind of heaps: 12 first-level rows of 16 size classes.
+//! The exports of the small kind, as `large_exports.rt` has them for the large kind.
 
 ghost use Rattle.std.specs.Borrow.{sem};
 ghost use Rattle.std.specs.Ptr.{room_at};
@@ -16,9 +16,10 @@ ghost use Rattle.rlsf_heap.specs.Thin.{owns_reply};
 ghost use Rattle.rlsf_malloc.specs.Blocks.{AreTotals, IsCheckOf, IsListing};
 ghost use Rattle.rlsf_malloc.specs.Calls.{AddsLent, Allocates, AllocatesZeroed, AppendsLent, CanAppend, CanLend, CanRemove, Frees, IsAt, IsFresh, IsReady, IsUsable, OwnsLent, RemovesLent, aligned_for};
 ghost use Rattle.rlsf_malloc.specs.Handle.{Gives, Holds, HoldsSome, Returns, handle_size, rest_of, small};
+ghost use Rattle.rlsf_malloc.specs.Ranges.{IsPoolSizeOf};
 ghost use Rattle.rlsf_malloc.specs.Resizing.{ResizesAligned, ResizesAny, ResizesInPlace};
 
-use crate::{calls, pools, resizing};
+use crate::{calls, pools, ranges, resizing};
 use rlsf_base::memory::OpenMemory;
 use rlsf_blocks::Totals;
 use rlsf_heap::{Heap, Loan, ThinPayload};
@@ -34,6 +35,14 @@ pub extern "C" fn rlsf_small_size() -> usize
     ensures { result ≡ handle_size small }
 {
     size_of::<Small>()
+}
+
+/// As `rlsf_large_pool_size`, for the small kind.
+#[unsafe(no_mangle)]
+pub extern "C" fn rlsf_small_pool_size(size: usize, align: usize) -> usize
+    ensures { IsPoolSizeOf 12 16 size align result }
+{
+    ranges::pool_size::<u16, u16, 12, 16>(size, align)
 }
 
 /// As `rlsf_large_init`, for the small kind.
