@@ -26,7 +26,7 @@ use rlsf_heap::{Heap, Loan, ThinPayload};
 use std::alloc::Global;
 use std::mem::size_of;
 
-/// A small heap.
+/// A heap of the small kind.
 pub type Small = Heap<u16, u16, 12, 16>;
 
 /// As `rlsf_large_size`, for the small kind.
