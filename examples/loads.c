@@ -1,9 +1,10 @@
 /* Makes calls of malloc, realloc and free in a fixed order, to measure whichever allocator the program runs with. tools/measure builds it
- * in four ways and runs it:
+ * in five ways and runs it:
  *
  *     loads LOAD CALLS THREADS               makes the calls, in each of some threads; prints how many there were, and what failed
  *     loads LOAD CALLS touched|fresh FILE    (-DTIMED) writes to a file how long each call took, in ticks of the processor's counter
  *     loads LOAD CALLS touched|fresh FILE    (-DSTEPPED) makes many calls, then writes how many instructions each of CALLS more executed
+ *     loads LOAD CALLS fresh FILE            (-DMARKED, under lackey) makes many calls, then marks CALLS more; writes what lies at which addresses
  *     loads LOAD CALLS touched|fresh N..     (-DCOUNTED, under callgrind) dumps what each of the calls number N.. executed, from 0
  *     loads live:N CALLS count               (-DCOUNTED, under callgrind) makes many calls, then turns the counting on and makes CALLS more
  *
@@ -61,10 +62,14 @@ static double now(void) {
     return (double)time.tv_sec + (double)time.tv_nsec * 1e-9;
 }
 
-#if defined COUNTED || defined STEPPED
+#if defined COUNTED || defined STEPPED || defined MARKED
 /* Makes so many calls that what was there at the start no longer matters. */
 static void settle(struct run *run) {
+#ifdef MARKED
+    make_calls(run, 4 * run->slot_count); /* as few as serve, since the trace is slow */
+#else
     make_calls(run, 10000 + 4 * run->slot_count);
+#endif
     run->calls = 0;
 }
 #endif
@@ -121,6 +126,19 @@ static void run_stepped(const char *load, size_t calls, const char *path) {
 }
 #endif
 
+#ifdef MARKED
+static void run_marked(const char *load, size_t calls, const char *path) {
+    struct run run = {0};
+    begin_run(&run, load, 0);
+    settle(&run);
+    marking = 1;
+    make_calls(&run, calls);
+    marking = 0;
+    report(&run, 0);
+    write_places(path);
+}
+#endif
+
 #ifdef TIMED
 /* The least ticks between two looks at the counter. */
 static uint64_t empty_ticks(void) {
@@ -174,6 +192,8 @@ int main(int count, char **words) {
     if (!strcmp(words[3], "touched")) touch(load, calls);
 #ifdef STEPPED
     run_stepped(load, calls, words[4]);
+#elif defined MARKED
+    run_marked(load, calls, words[4]);
 #elif defined TIMED
     run_timed(load, calls, words[4]);
 #elif defined COUNTED

@@ -7,6 +7,8 @@
 #include <string.h>
 #ifdef STEPPED
 #include "stepped.h"
+#elif defined MARKED
+#include "marked.h"
 #elif defined TIMED
 #if defined __x86_64__
 #include <x86intrin.h>
@@ -82,6 +84,16 @@ CALL void counted_free(void *at) {
     if (stepping) in_steps((size_t)free, (size_t)at, 0);
     else free(at);
 }
+#elif defined MARKED
+CALL void *marked(int call, void *at, size_t size) {
+    mark_call(call);
+    void *result = call == MALLOC ? malloc(size) : call == REALLOC ? realloc(at, size) : (free(at), NULL);
+    mark_call(END);
+    return result;
+}
+CALL void *counted_malloc(size_t size) { return marked(MALLOC, NULL, size); }
+CALL void *counted_realloc(void *at, size_t size) { return marked(REALLOC, at, size); }
+CALL void counted_free(void *at) { marked(FREE, at, 0); }
 #else
 CALL void *counted_malloc(size_t size) { return malloc(size); }
 CALL void *counted_realloc(void *at, size_t size) { return realloc(at, size); }

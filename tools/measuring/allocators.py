@@ -66,12 +66,13 @@ def kit():
 
 
 def heap_object(folder, name, archives, flags, quick):
-    """The malloc of preload.c over an archive, as a shared object."""
+    """The malloc of preload.c over an archive, as a shared object. The linker's map lies beside it."""
     object_ = folder / f"{name}{''.join(flags)}.so"
     if object_.exists():
         return object_
     length = LEN if "-DTOUCHED" not in flags else QUICK_LEN if quick else TOUCHED_LEN
     words = ["-shared", "-fPIC", f"-I{ROOT}/include", f"-DLEN=((size_t){length})", *flags, "-Wl,--exclude-libs,ALL", "-Wl,--gc-sections"]
+    words.append(f"-Wl,-Map={object_}.map")
     return compiled([ROOT / "tools/measuring/preload.c", *archives], object_, *words, "-lpthread")
 
 
@@ -91,13 +92,13 @@ def pools(options, folder, *flags):
     return found
 
 
-def complete_malloc(options, folder):
-    """The malloc of c/malloc.c over the library, if that is built."""
+def complete_malloc(options, folder, source="c/malloc.c"):
+    """The malloc of c/malloc.c over the library, if that is built. The linker's map lies beside it."""
     if not options.ours.exists():
         missing("ours", f"there is no {options.ours}; build it with `cd crates/rlsf_malloc && rt lib`")
         return []
-    words = ["-shared", "-fPIC", f"-I{ROOT}/include", "-Wl,--exclude-libs,ALL", "-lpthread"]
-    return [Allocator("ours", str(compiled([ROOT / "c/malloc.c", options.ours], folder / "complete.so", *words)))]
+    words = ["-shared", "-fPIC", f"-I{ROOT}/include", "-Wl,--exclude-libs,ALL", f"-Wl,-Map={folder}/complete.so.map", "-lpthread"]
+    return [Allocator("ours", str(compiled([ROOT / source, options.ours], folder / "complete.so", *words)))]
 
 
 def loader_knows(name):

@@ -3,7 +3,8 @@
  *
  *     -DTOUCHED    all pages of the memory are mapped at the start
  *     -DLOCKED     a mutex is held in each call
- *     -DEACH       each thread has a heap of its own, of which other threads free nothing: such frees do nothing */
+ *     -DEACH       each thread has a heap of its own, of which other threads free nothing: such frees do nothing
+ *     -DNAMED      a function says where the handle and the blocks lie (examples/marked.h) */
 #define _GNU_SOURCE
 #include "rlsf.h"
 #include <errno.h>
@@ -107,3 +108,10 @@ int posix_memalign(void **payload, size_t align, size_t size) {
     *payload = aligned_alloc(align, size);
     return *payload ? 0 : ENOMEM;
 }
+
+#ifdef NAMED
+void name_places(void (*name)(const char *, const void *, size_t)) {
+    name("handle", heap, rlsf_heap_size(RLSF_LARGE));
+    name("blocks", memory, LEN);
+}
+#endif
