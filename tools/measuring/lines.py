@@ -3,7 +3,8 @@
 valgrind's lackey prints every instruction and every access to memory of a program, and the program marks each call (examples/marked.h).
 Counted are lines of code, of the allocator and of the C library's functions that it calls, and lines of data: those of the heap's handle, of
 its blocks, payloads and headers alike, and all others but the stack's. What the program itself touches isn't counted. Of a preloaded heap,
-lines that only the functions around it touch are also named apart: those of tools/measuring/preload.c, or of c/malloc.c."""
+those that the heap and the C library's functions touch, and those that only the functions around it do, are also told apart: the functions of
+include/rlsf.h, and of tools/measuring/preload.c or c/malloc.c."""
 import collections
 import dataclasses
 import os
@@ -22,7 +23,8 @@ FLAGS = ["-DMARKED", "-fno-builtin", "-fno-pie", "-no-pie", f"-Wl,--section-star
 # The rows of the tables: what they are called, their load and their call.
 ROWS = [("`malloc`", "live:{}", "malloc"), ("`free`", "live:{}", "free")]
 ROWS += [(f"`realloc`, `{load}`", load, "realloc") for load in ("byte", "word", "double")]
-PARTS = ["data of the handle", "data of blocks", "code of the wrapper alone", "data of the wrapper alone"]
+# What is counted of a call: what of all, what of that the heap touches, and what only the functions around it do.
+PARTS = ["code", "data", "code of the heap", "data of the heap", "of these in the handle", "of these in blocks", "other code", "other data"]
 
 
 def add_words(parser):
@@ -69,7 +71,7 @@ def lines_at(address, size):
 
 
 def counted(events, places):
-    """The numbers of distinct lines that a call touches: of code, of data, and of each of PARTS."""
+    """The numbers of distinct lines that a call touches: of each of PARTS."""
     lines, by = collections.defaultdict(set), "program"
     for is_code, address, size in events:
         place = places.name(address)
@@ -78,9 +80,8 @@ def counted(events, places):
         if by != "program" and place != "stack":
             for kind in {"code" if is_code else "data", place, by}:
                 lines[kind].update(lines_at(address, size))
-    alone = lines["wrapper"] - lines["library"]
-    parts = lines["code"], lines["data"], lines["handle"], lines["blocks"], alone & lines["code"], alone & lines["data"]
-    return list(map(len, parts))
+    code, data, own = lines["code"], lines["data"], lines["library"]
+    return list(map(len, (code, data, code & own, data & own, lines["handle"] & own, lines["blocks"] & own, code - own, data - own)))
 
 
 def calls_in(trace):
@@ -143,7 +144,8 @@ def table(heading, allocators, rows):
 def measure(options, folder: pathlib.Path):
     options.rows = ROWS
     if options.quick:
-        options.calls, options.live, options.rows = 100, 100, ROWS[:3]
+        # One load that makes calls of each kind.
+        options.calls, options.rows = 100, [(head, "double", call) for head, _, call in (*ROWS[:2], ROWS[-1])]
     try:
         program = example(folder, "loads.c", "loads_marked", *FLAGS, "-lpthread")
         subprocess.run(["valgrind", "--version"], check=True, capture_output=True)
@@ -154,11 +156,11 @@ def measure(options, folder: pathlib.Path):
     found = chosen(options, heaps + others())
     numbers = numbers_of(program, found, options, folder)
 
-    def rows(parts, allocators):
+    def rows(first, last, allocators):
         for head, load, call in options.rows:
-            for part, name in parts:
-                yield f"{head}: {name}", [entry([each[part] for each in numbers[load, call, allocator.name]]) for allocator in allocators]
+            for part in range(first, last):
+                yield f"{head}: {PARTS[part]}", [entry([each[part] for each in numbers[load, call, allocator.name]]) for allocator in allocators]
 
-    table("Lines a call: mean / worst", found, rows([(0, "code"), (1, "data")], found))
+    table("Lines a call: mean / worst", found, rows(0, 2, found))
     inside = [allocator for allocator in found if allocator in heaps]
-    table("Of these", inside, rows([(n + 2, name) for n, name in enumerate(PARTS)], inside))
+    table("Of these", inside, rows(2, len(PARTS), inside))
