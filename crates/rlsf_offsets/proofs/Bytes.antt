@@ -1,5 +1,5 @@
 -- Live ranges by their offsets in bytes.
-use Rattle.std.proofs.Common.{◌≡◌, ◌≢◌, ◌⊎◌, ℕ, zero, suc, ◌+◌, ◌-◌, ◌*◌, ◌/◌, ◌%◌, ◌^◌, ◌<◌, ◌≤◌, Option, Some, None, IsSome, true≢false, arith, inl, inr, refl, sym, ◌∙◌, ap, subst}
+use Rattle.std.proofs.Common.{◌≡◌, ◌≢◌, ◌⊎◌, ℕ, Bool, true, false, zero, suc, ◌+◌, ◌-◌, ◌*◌, ◌/◌, ◌%◌, ◌^◌, ◌<◌, ◌≤◌, Option, Some, None, IsSome, true≢false, arith, inl, inr, refl, sym, ◌∙◌, ap, subst}
 use Rattle.std.proofs.lemmas.Bool.{cases_lt}
 use Rattle.std.proofs.lemmas.Nat.{pow-add}
 use Rattle.std.proofs.lemmas.Option.{none-some}
@@ -7,8 +7,11 @@ use Rattle.std.proofs.Math.Nat.{div-add-mod', div-eq_of_lt-le, mod-lt, mul_assoc
 use Rattle.std.specs.Option.{option_map}
 use Rattle.rlsf_base.specs.PowerOfTwo.{IsPowerOfTwo, floor_log2}
 use Rattle.rlsf_base.proofs.Numbers.PowersOfTwo.{IsPowerOfTwo-pow, IsPowerOfTwo-positive}
-use Rattle.rlsf_offsets.specs.Units.{ArePiecesApart, IsEmpty, IsReleased, IsReserved, IsSpace, Offsets, units_at}
-use Rattle.rlsf_offsets.specs.Offsets.{IsAllocated, IsDeallocated, IsDivided, at_multiple, len_at, rounded, units_for}
+use Rattle.rlsf_model.specs.Callers.{align_at, bytes_at}
+use Rattle.rlsf_model.specs.State.{State}
+use Rattle.rlsf_offsets.specs.Units.{ArePiecesApart, IsEmpty, IsReleased, IsReserved, IsResized, IsSpace, IsUnchanged, Offsets, place, units_at}
+use Rattle.rlsf_offsets.specs.Offsets.{IsAllocated, IsDeallocated, IsDivided, IsReallocated, at_multiple, len_at, rounded, units_for}
+use Rattle.rlsf_offsets.proofs.Ranges.{units_at-same}
 
 -- ---- where live ranges are
 
@@ -236,3 +239,53 @@ module _ (unit align : ℕ) (is_unit : IsPowerOfTwo unit) (is_align : IsPowerOfT
         space = made.space;
         units = subst (λ k. IsReserved v x n (units_for unit align) k) (sym (mul-div_left first some)) made;
       }
+
+-- ---- in place
+
+module _ (unit : ℕ) (some : 0 < unit) (v x : Offsets) (len o : ℕ) (live : IsSome (len_at unit v o)) where
+  pub IsReallocated-units : IsResized v x (units_for unit len) (o / unit) → IsReallocated unit v x len o
+  IsReallocated-units made =
+      let n = units_for unit len in
+      let first = some_len unit some v o live in
+      let rest : (p : ℕ) → p ≢ o → len_at unit x p ≡ len_at unit v p = λ p other.
+      others unit some v x (o / unit) (λ u apart. (made.others u apart).0) p (λ e. other (e ∙ sym first)) in
+      let now : len_at unit x o ≡ Some (rounded unit len) = ap (len_at unit x) first ∙ len_at-live unit some x (o / unit) n made.live in
+      record {
+        live = now;
+        long = rounded-long unit some len;
+        few = rounded-few unit some len;
+        inside = omega (arith, first, scaled (o / unit) n v.units unit made.inside);
+        apart = λ p m other told.
+            let u = of_units unit some v p m told in
+            let at = u.first in
+            let long = u.len_is in
+            let firsts : p / unit ≢ o / unit = λ same. other (u.first ∙ ap (λ (y : ℕ). y * unit) same ∙ sym first) in
+            elim (made.apart (p / unit) u.units firsts u.live) [
+              | inl before ↦ inl (omega (arith, first, scaled (p / unit) u.units (o / unit) unit before))
+              | inr behind ↦ inr (omega (arith, first, scaled (o / unit) n (p / unit) unit behind))
+            ];
+        others = rest;
+        stay = λ p was. elim (cases_lt p o) [
+          | inl less ↦ subst IsSome (sym (rest p (λ e. omega (arith, e, less)))) was
+          | inr more ↦ elim (cases_lt o p) [
+            | inl less ↦ subst IsSome (sym (rest p (λ e. omega (arith, e, less)))) was
+            | inr same ↦ let at : p ≡ o = omega arith in subst IsSome (sym (ap (len_at unit x) at ∙ now)) refl
+          ]
+        ];
+        space = made.space;
+        units = made;
+      }
+
+-- where nothing changed, the ranges are those that were live
+len_at-unchanged : (unit : ℕ) (v x : Offsets) → IsUnchanged v x → (p : ℕ) → len_at unit x p ≡ len_at unit v p
+unfolding len_at
+len_at-unchanged unit v x is p =
+    let o = p / unit in
+    let same = units_at-same v x o (ap (λ (s : State). align_at s (place o)) is.same) (ap (λ (s : State). bytes_at s (place o)) is.same) in
+    ap (λ (u : Option ℕ). at_multiple (p % unit) (option_map (λ (n : ℕ). n * unit) u)) same
+
+-- a reallocation in place that is done or refused leaves each live range live
+pub still_live : (unit : ℕ) (v x : Offsets) (len o : ℕ) (result : Bool) → (result ≡ true → IsReallocated unit v x len o) → (result ≡ false → IsUnchanged v x)
+    → (p : ℕ) → IsSome (len_at unit v p) → IsSome (len_at unit x p)
+still_live unit v x len o true made none p live = (made refl).stay p live
+still_live unit v x len o false made none p live = subst IsSome (sym (len_at-unchanged unit v x (none refl) p)) live

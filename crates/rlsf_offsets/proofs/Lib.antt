@@ -2,6 +2,8 @@
 mod Ranges
 mod Allocations
 mod Frees
+mod Resizes
 mod Rooms
 mod Kept
 mod Bytes
+mod Blocks

@@ -1,7 +1,7 @@
 -- An allocator of offsets as its callers see it: where live ranges begin, and how many bytes they have.
 use Rattle.std.specs.Prelude.{◌≡◌, ◌≢◌, ◌⊎◌, ℕ, zero, suc, ◌+◌, ◌-◌, ◌*◌, ◌/◌, ◌%◌, ◌<◌, ◌≤◌, Option, Some, None, IsSome}
 use Rattle.std.specs.Option.{option_map}
-use Rattle.rlsf_offsets.specs.Units.{ArePiecesApart, IsFull, IsReleased, IsReserved, Offsets, SucceedsWithin, KeepsSizedFor, units_at}
+use Rattle.rlsf_offsets.specs.Units.{ArePiecesApart, HasRoomInPlace, IsFull, IsReleased, IsReserved, IsResized, KeepsSizedFor, Offsets, SucceedsWithin, units_at}
 
 -- how many units so many bytes take: the fewest that have them, and at least one
 abbrev pub units_for : ℕ → ℕ → ℕ
@@ -67,6 +67,31 @@ pub record IsDeallocated (unit : ℕ) (before after : Offsets) (offset : ℕ) : 
   pub space : after.units ≡ before.units
   -- the same in units
   pub units : IsReleased before after (offset / unit)
+
+-- the range at the offset is for so many bytes now, in place
+pub record IsReallocated (unit : ℕ) (before after : Offsets) (len offset : ℕ) : Type 0 where
+  -- it is live, with these bytes rounded up to units
+  pub live : len_at unit after offset ≡ Some (rounded unit len)
+  -- they are at least as many
+  pub long : len ≤ rounded unit len
+  -- and less than one unit more
+  pub few : 0 < len → rounded unit len < len + unit
+  -- it lies in the space
+  pub inside : offset + rounded unit len ≤ before.units * unit
+  -- it has no byte of another live range
+  pub apart : (o n : ℕ) → o ≢ offset → len_at unit before o ≡ Some n → ArePiecesApart o n offset (rounded unit len)
+  -- the other ranges are as they were
+  pub others : (o : ℕ) → o ≢ offset → len_at unit after o ≡ len_at unit before o
+  -- those that were live are live
+  pub stay : (o : ℕ) → IsSome (len_at unit before o) → IsSome (len_at unit after o)
+  -- the space is as long
+  pub space : after.units ≡ before.units
+  -- the same in units
+  pub units : IsResized before after (units_for unit len) (offset / unit)
+
+-- the live range at an offset can be for so many bytes in place: it has them, or a free range that begins at its end has the rest
+abbrev pub HasRoomFor : ℕ → Offsets → ℕ → ℕ → Type 0
+HasRoomFor unit v offset len = HasRoomInPlace v (offset / unit) (units_for unit len)
 
 -- no free range has a class that reaches so many bytes, rounded up to units, and the units that the alignment may leave in front
 abbrev pub IsFullFor : ℕ → Offsets → ℕ → ℕ → Type 0

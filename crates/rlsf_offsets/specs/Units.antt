@@ -81,6 +81,31 @@ pub record IsFreeRun (v : Offsets) (o units : ℕ) : Type 0 where
 unfoldable pub IsFull : Offsets → ℕ → Type 0
 IsFull v units = (f : Range) → IsIn f v.shadow.state.free → Reaches 8 (class_of 8 f.len) (32 * units) → ⊥
 
+-- a free range begins at a unit, and has so many units
+unfoldable pub IsFreeRange : Offsets → ℕ → ℕ → Type 0
+IsFreeRange v o units = IsIn (range_at (2 ^ 62 - 32 + 32 * o) (32 * units)) v.shadow.state.free
+
+-- the live range at an offset can have so many units in place: it has them, or a free range that begins at its end has the rest
+pub record HasRoomInPlace (v : Offsets) (offset units : ℕ) : Type 0 where
+  pub now : ℕ
+  pub live : units_at v offset ≡ Some now
+  pub room : (units ≤ now) ⊎ ((more : ℕ) × IsFreeRange v (offset + now) more × (units ≤ now + more))
+
+-- the live range at an offset got exactly so many units in place
+pub record IsResized (before after : Offsets) (units offset : ℕ) : Type 0 where
+  -- it is live, and has exactly these units
+  pub live : units_at after offset ≡ Some units
+  -- it lies in the space
+  pub inside : offset + units ≤ before.units
+  -- it has no unit of another live range
+  pub apart : (o n : ℕ) → o ≢ offset → units_at before o ≡ Some n → ArePiecesApart o n offset units
+  -- it has its alignment
+  pub has_align : align_of after offset ≡ align_of before offset
+  -- the other ranges are as they were
+  pub others : (o : ℕ) → o ≢ offset → (units_at after o ≡ units_at before o) × (align_of after o ≡ align_of before o)
+  -- and the space has as many units
+  pub space : after.units ≡ before.units
+
 -- nothing is live
 unfoldable pub IsEmpty : Offsets → Type 0
 IsEmpty v = (o : ℕ) → units_at v o ≡ None
@@ -106,6 +131,12 @@ SucceedsWithin before units align succeeds =
 unfoldable pub KeepsSizedFor : Offsets → Offsets → ℕ → ℕ → Type 0
 KeepsSizedFor before after units align =
     (count most widest : ℕ) → IsSizedForUnits count most widest before → units ≤ most → align ≤ widest → IsSizedForUnits count most widest after
+
+-- the space stays sized for all bounds that include so many units, and the alignment of the range at an offset
+unfoldable pub KeepsSizedThere : Offsets → Offsets → ℕ → ℕ → Type 0
+KeepsSizedThere before after offset units =
+    (count most widest align : ℕ) → IsSizedForUnits count most widest before → align_of before offset ≡ Some align → units ≤ most → align ≤ widest
+    → IsSizedForUnits count most widest after
 
 -- the space stays sized for all bounds
 unfoldable pub KeepsSized : Offsets → Offsets → Type 0

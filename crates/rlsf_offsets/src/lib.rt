@@ -5,6 +5,10 @@
 #![tactic(auto)]
 
 mod offsets;
+mod pieces;
+mod stats;
 mod units;
 
 pub use offsets::OffsetTlsf;
+pub use pieces::{Piece, Pieces};
+pub use stats::Stats;

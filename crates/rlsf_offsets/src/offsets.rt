@@ -1,11 +1,16 @@
 //! The allocator of offsets.
-ghost use Rattle.std.specs.Prelude.{◌≡◌, ◌≤◌, ◌<◌, ◌+◌, ◌-◌, ◌*◌, ◌/◌, ◌^◌, ◌↔◌, ◌⊎◌, ℕ, Some, None, IfErr, IfOk, IfNone, IfSome, IsErrOf, IsSome};
+ghost use Rattle.std.specs.Prelude.{◌≡◌, ◌≤◌, ◌<◌, ◌+◌, ◌-◌, ◌*◌, ◌/◌, ◌^◌, ◌↔◌, ◌⊎◌, ℕ, Some, None, true, false, IfErr, IfOk, IfNone, IfSome, IsErrOf, IsSome};
 ghost use Rattle.rlsf_base.specs.PowerOfTwo.{IsPowerOfTwo};
 ghost use Rattle.rlsf_offsets.specs.Offsets as offsets;
-ghost use Rattle.rlsf_offsets.specs.Offsets.{IsAllocated, IsDeallocated, IsDivided, IsFullFor, SucceedsFor, len_at};
-ghost use Rattle.rlsf_offsets.specs.Units.{IsEmpty, IsFreeRun, IsUnchanged, KeepsSized, KeepsSizedFor, SizesSpace};
+ghost use Rattle.rlsf_offsets.specs.Offsets.{HasRoomFor, IsAllocated, IsDeallocated, IsDivided, IsFullFor, IsReallocated, SucceedsFor, len_at};
+ghost use Rattle.std.specs.Map.Iter.{GivesInOrder};
+ghost use Rattle.rlsf_offsets.specs.Iteration.{ArePieces};
+ghost use Rattle.rlsf_offsets.specs.Blocks.{AreStats};
+ghost use Rattle.rlsf_offsets.specs.Units.{IsEmpty, IsFreeRun, IsUnchanged, KeepsSized, KeepsSizedFor, KeepsSizedThere, SizesSpace};
 
-use crate::units::UnitTlsf;
+use crate::pieces::{Piece, Pieces};
+use crate::stats::Stats;
+use crate::units::{SHADOW, UnitTlsf};
 use rlsf_base::memory::MemoryError;
 use std::alloc::Global;
 use std::marker::Model;
@@ -109,6 +114,30 @@ impl<const UNIT: usize> OffsetTlsf<UNIT> {
         self.inner.deallocate(offset / UNIT);
     }
 
+    /// Changes the length of the range at `offset` to `len` bytes, rounded up to units as `allocate` does. The range stays at its offset. What
+    /// it no longer has is free, and what it gains was the front of the free range behind it.
+    ///
+    /// Returns whether the range has the length now: if and only if it had as many units, or a free range that begins at its end has the rest.
+    /// Otherwise nothing changes.
+    ///
+    /// A range must be live at `offset`.
+    ///
+    /// Completes in constant time: at most 26 word accesses.
+    pub fn reallocate_in_place(&mut self, offset: usize, len: usize) -> bool
+        requires { IsSome (len_at UNIT self.old offset) }
+        ensures reallocated { result ≡ true → IsReallocated UNIT self.old self.new len offset }
+        ensures room { (result ≡ true) ↔ HasRoomFor UNIT self.old offset len }
+        ensures stay { (o : ℕ) → IsSome (len_at UNIT self.old o) → IsSome (len_at UNIT self.new o) }
+        ensures sized { KeepsSizedThere self.old self.new (offset / UNIT) (offsets.units_for UNIT len) }
+        ensures same { result ≡ false → IsUnchanged self.old self.new }
+        ensures touches { self.new.shadow.memory.touches ≤ self.old.shadow.memory.touches + 26 }
+    {
+        // Opens the invariant for the prover: the unit isn't 0.
+        let _ = &self.inner;
+        let units = units_for::<UNIT>(len);
+        self.inner.reallocate_in_place(offset / UNIT, units)
+    }
+
     /// Returns the length in bytes of the range at `offset`.
     ///
     /// A range must be live at `offset`.
@@ -121,6 +150,43 @@ impl<const UNIT: usize> OffsetTlsf<UNIT> {
     {
         self.inner.len(offset / UNIT) * UNIT
     }
+
+    /// Returns an iterator over the free ranges and the live ranges, in order of offset. What the alignment of a live range leaves in front of
+    /// it belongs to its piece.
+    pub fn pieces(&self) -> Pieces<'_, UNIT>
+        ensures pieces { ArePieces UNIT self.now result }
+        ensures runs { GivesInOrder Piece }
+    {
+        let blocks = self.inner.blocks();
+        Pieces { blocks }
+    }
+
+    /// Returns the totals of the space: the number of live ranges, their bytes, the free bytes, and the bytes of the longest free range. Live
+    /// and free ranges total the length of the space.
+    ///
+    /// Takes time proportional to the number of ranges.
+    pub fn stats(&self) -> Stats
+        ensures { AreStats UNIT self.now result }
+    {
+        let totals = self.inner.totals();
+        let used = in_bytes::<UNIT>(totals.used);
+        let free = in_bytes::<UNIT>(totals.free);
+        let longest = in_bytes::<UNIT>(totals.longest);
+        Stats {
+            ranges: totals.payloads,
+            used,
+            free,
+            longest,
+        }
+    }
+}
+
+/// Returns how many bytes of the space so many bytes of the shadow are for.
+fn in_bytes<const UNIT: usize>(shadow: usize) -> usize
+    requires { shadow / 32 * UNIT < 2 ^ 64 }
+    ensures { result ≡ shadow / 32 * UNIT }
+{
+    shadow / SHADOW * UNIT
 }
 
 /// Returns how many units so many bytes take: the fewest that have them, and at least one.

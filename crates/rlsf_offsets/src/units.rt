@@ -4,24 +4,30 @@
 //! units with the alignment `a` is a payload of `32 * (k - 1)` bytes with the alignment `32 * a`: it begins 32 bytes before the payload, ends
 //! where the payload's block ends, and has exactly `k` units. The shadow begins 32 bytes before a multiple of `2^62`, so that its first unit is
 //! a multiple of each alignment. It has one unit more than the space, for the sentinel.
-ghost use Rattle.std.specs.Prelude.{◌≡◌, ◌≤◌, ◌<◌, ◌+◌, ◌-◌, ◌*◌, ◌^◌, ◌↔◌, ◌⊎◌, ℕ, Some, None, IfErr, IfOk, IfNone, IfSome, IsErrOf, IsSome};
+ghost use Rattle.std.specs.Prelude.{◌≡◌, ◌≤◌, ◌<◌, ◌+◌, ◌-◌, ◌*◌, ◌^◌, ◌↔◌, ◌⊎◌, ℕ, Some, None, true, false, IfErr, IfOk, IfNone, IfSome, IsErrOf, IsSome};
+ghost use Rattle.std.specs.Map.Iter.{GivesInOrder};
 ghost use Rattle.rlsf_base.specs.MemoryCalls as memories;
 ghost use Rattle.rlsf_base.specs.PowerOfTwo.{IsPowerOfTwo};
-ghost use Rattle.rlsf_offsets.specs.Units.{IsEmpty, IsFreeRun, IsFull, IsReleased, IsReserved, IsSpace, IsUnchanged, KeepsSized, KeepsSizedFor, SizesSpace, SucceedsWithin, place, units_at};
+ghost use Rattle.rlsf_offsets.specs.Blocks.{AreAllBlocks, AreTotals, AreWithin};
+ghost use Rattle.rlsf_offsets.specs.Units.{HasRoomInPlace, IsEmpty, IsFreeRun, IsFull, IsReleased, IsReserved, IsResized, IsSpace, IsUnchanged};
+ghost use Rattle.rlsf_offsets.specs.Units.{KeepsSized, KeepsSizedFor, KeepsSizedThere, SizesSpace, SucceedsWithin, place, units_at};
 
 use rlsf_base::memory::{Layout, MemoryError, OpenMemory, Range};
-use rlsf_blocks::usable_bytes;
+use rlsf_blocks::{BlockInfo, Blocks, Totals, totals_of, usable_bytes, walk_blocks};
 use rlsf_table::ClassTable;
 use rlsf_tlsf::GhostState;
-use rlsf_tlsf::core_calls::{allocate_in, deallocate_in, insert_in};
+use rlsf_tlsf::core_calls::{allocate_in, deallocate_in, insert_in, resize_in};
 use std::alloc::Global;
 use std::marker::Model;
 
 /// The bytes of the shadow for each unit.
-const SHADOW: usize = 32;
+pub(crate) const SHADOW: usize = 32;
 
 /// Where the shadow of the second unit begins.
 const ORIGIN: usize = 1 << 62;
+
+/// Where the shadow of the first unit begins.
+pub(crate) const START: usize = ORIGIN - SHADOW;
 
 /// The greatest number of units of a space.
 const MOST: usize = 1 << 56;
@@ -124,6 +130,35 @@ impl UnitTlsf {
         );
     }
 
+    /// Gives the live range that begins at a unit `units` units, and leaves it where it is. Returns whether it has them.
+    ///
+    /// Returns `true` if and only if the range had so many units, or a free range that begins at its end has the rest. Otherwise nothing
+    /// changes.
+    pub(crate) fn reallocate_in_place(&mut self, first: usize, units: usize) -> bool
+        requires some { 0 < units }
+        requires live { IsSome (units_at self.old first) }
+        ensures resized { result ≡ true → IsResized self.old self.new units first }
+        ensures room { (result ≡ true) ↔ HasRoomInPlace self.old first units }
+        ensures sized { KeepsSizedThere self.old self.new first units }
+        ensures same { result ≡ false → IsUnchanged self.old self.new }
+        ensures touches { self.new.shadow.memory.touches ≤ self.old.shadow.memory.touches + 26 }
+    {
+        // The space is shorter.
+        if units > self.units {
+            return false;
+        }
+        let layout = Layout::from_size_align_unchecked(SHADOW * (units - 1), SHADOW);
+        let addr = place_of(first, self.units);
+        resize_in(
+            &mut self.memory,
+            &mut self.table,
+            &mut self.state,
+            addr,
+            None,
+            layout,
+        )
+    }
+
     /// Returns the number of units of the live range that begins at a unit.
     pub(crate) fn len(&self, first: usize) -> usize
         requires { IsSome (units_at self.now first) }
@@ -131,6 +166,26 @@ impl UnitTlsf {
         ensures inside { (0 < result) × (first + result ≤ self.now.units) }
     {
         usable_bytes(&self.memory, place_of(first, self.units)).len / SHADOW + 1
+    }
+
+    /// Returns the blocks of the shadow, used and free, in order.
+    pub(crate) fn blocks(&self) -> Blocks<'_>
+        ensures blocks { AreAllBlocks self.now result }
+        ensures within { AreWithin self.now.units result }
+        ensures runs { GivesInOrder BlockInfo }
+    {
+        let len = chunk_len(self.units);
+        walk_blocks(&self.memory, Range { start: START, len })
+    }
+
+    /// Returns the totals of the shadow, in its bytes.
+    pub(crate) fn totals(&self) -> Totals
+        ensures totals { AreTotals self.now result }
+        ensures few { (result.used ≤ 32 * self.now.units) × (result.free ≤ 32 * self.now.units) × (result.longest ≤ 32 * self.now.units) }
+    {
+        // Opens the invariant for the prover: the memory represents the state.
+        let _ = &self.memory;
+        totals_of(self.blocks())
     }
 }
 
@@ -140,6 +195,19 @@ fn place_of(first: usize, units: usize) -> usize
     ensures { result ≡ place first }
 {
     ORIGIN + SHADOW * first
+}
+
+/// Returns the length of the chunk that the shadow of so many units is. No unit makes none.
+fn chunk_len(units: usize) -> usize
+    requires { units ≤ 2 ^ 56 }
+    ensures some { 0 < units → result ≡ 32 * units + 32 }
+    ensures none { units ≡ 0 → result ≡ 0 }
+{
+    if units == 0 {
+        0
+    } else {
+        SHADOW * units + SHADOW
+    }
 }
 
 /// Reserves the shadow of a space of so many units. None of its bytes is written.
