@@ -1,5 +1,5 @@
 -- The blocks of a shadow, and their totals.
-use Rattle.std.proofs.Common.{◌≡◌, ◌≢◌, ◌⊎◌, ℕ, ◌+◌, ◌-◌, ◌*◌, ◌/◌, ◌%◌, ◌^◌, ◌<◌, ◌≤◌, Bool, true, false, cond, not, List, [], ◌∷◌, length, map, arith, inl, inr, refl, sym, ◌∙◌, ap, subst}
+use Rattle.std.proofs.Common.{◌≡◌, ℕ, ◌+◌, ◌-◌, ◌*◌, ◌/◌, ◌%◌, ◌^◌, ◌<◌, ◌≤◌, Bool, true, false, cond, not, List, [], ◌∷◌, map, arith, inl, inr, refl, sym, ◌∙◌, ap, subst}
 use Rattle.std.proofs.lemmas.Bool.{cases_lt}
 use Rattle.std.proofs.lemmas.List.Sums.{sum_by-cons}
 use Rattle.std.proofs.Math.Nat.{mul-le-mul_right, mul_assoc}
@@ -10,7 +10,6 @@ use Rattle.rlsf_blocks.specs.declared.totals.Totals.{Totals}
 use Rattle.rlsf_blocks.specs.Totals.{AreTotalsOf, free_of, greatest, total, used_of}
 use Rattle.rlsf_model.specs.ChunkRows.{IsRow}
 use Rattle.rlsf_model.specs.Lists.{IsIn}
-use Rattle.rlsf_model.specs.State.{Used}
 use Rattle.rlsf_model.specs.WellFormed.{coverage, itself, last_bytes}
 use Rattle.rlsf_model.proofs.Coverage.{covers-before, covers-inside, coverage-some}
 use Rattle.rlsf_model.proofs.Payloads.{IsUsed-some}

@@ -1,56 +1,20 @@
 -- Where live ranges of units lie, and what callers see of them.
-use Rattle.std.proofs.Common.{◌≡◌, ◌≢◌, ◌⊎◌, ℕ, ◌+◌, ◌-◌, ◌*◌, ◌/◌, ◌%◌, ◌^◌, ◌<◌, ◌≤◌, List, [], ◌∷◌, cond, length, lit<, Option, Some, None, IsSome, true≢false, arith, inl, inr, refl, sym, ◌∙◌, ap, subst}
-use Rattle.std.proofs.lemmas.Bool.{cases_lt, le-leb}
-use Rattle.std.proofs.lemmas.Nat.{pow-add}
-use Rattle.std.proofs.Math.Nat.{div-add-mod', mul-le-mul_right, mul-mod_right, mul-sub}
+use Rattle.std.proofs.Common.{◌≡◌, ℕ, ◌+◌, ◌-◌, ◌/◌, ◌%◌, ◌<◌, ◌≤◌, List, length, Option, Some, None, IsSome, true≢false, arith, inl, inr, refl, sym, ◌∙◌, ap, subst}
+use Rattle.std.proofs.lemmas.Bool.{cases_lt}
 use Rattle.std.proofs.lemmas.Option.{none-some}
 use Rattle.std.specs.Option.{option_map}
 use Rattle.rlsf_base.specs.declared.memory.range.Range.{Range}
-use Rattle.rlsf_base.specs.PowerOfTwo.{IsPowerOfTwo, floor_log2}
 use Rattle.rlsf_base.specs.Range.{end_of}
-use Rattle.rlsf_base.specs.Layout.{IsLayout}
-use Rattle.rlsf_base.specs.SizeClass.{Reaches, class_of}
-use Rattle.rlsf_base.specs.Sizes.{request_size}
-use Rattle.rlsf_base.specs.Space.{range_of}
-use Rattle.rlsf_base.proofs.Numbers.PowersOfTwo.{IsPowerOfTwo-pow, IsPowerOfTwo-positive, pow-between}
-use Rattle.rlsf_base.proofs.Numbers.Roundings.{next_multiple_of-multiple}
-use Rattle.rlsf_base.proofs.SizeClasses.Reach.{Reaches-class_of, Reaches-from_slack}
 use Rattle.rlsf_model.specs.Callers.{align_at, bytes_at}
 use Rattle.rlsf_model.specs.Lists.{IsIn}
-use Rattle.rlsf_model.specs.Allocate.{Allocates, Places, placed}
-use Rattle.rlsf_model.specs.Payload.{payload_of}
-use Rattle.rlsf_model.specs.Release.{Deallocates}
-use Rattle.rlsf_model.specs.Sized.{live_count}
 use Rattle.rlsf_model.specs.State.{State, Used}
-use Rattle.rlsf_model.specs.WellFormed.{covers, coverage, itself, last_bytes, IsWellFormed}
-use Rattle.rlsf_model.specs.Insert.{Inserts, aligned_part, cut, with_chunks}
-use Rattle.rlsf_base.specs.Sizes.{max_pool_size}
-use Rattle.rlsf_model.specs.State.{empty}
-use Rattle.rlsf_model.proofs.CallerWords.{align_at-live, align_at-none, align_at-held, bytes_at-held}
-use Rattle.rlsf_model.proofs.Callers.{payload_at-none}
-use Rattle.rlsf_model.proofs.Coverage.{covers-inside, covers-before, covers-behind, coverage-none, coverage-some, coverage-unique}
-use Rattle.rlsf_model.proofs.Payloads.{payload_of-le, IsUsed-after_start, IsUsed-aligned, IsUsed-some}
-use Rattle.rlsf_model.proofs.Tiling.{block_of, tiling_of, used-le, free-le, lies_in_chunk, IsPart-free, IsPart-used}
-use Rattle.rlsf_model.proofs.Live.{deallocation_leaves_others}
-use Rattle.rlsf_model.proofs.Room.{refused_without_reach}
-use Rattle.rlsf_tlsf.specs.Allocator.{Allocator, allocator}
-use Rattle.rlsf_tlsf.specs.Cores.{IsCore, IsOwnFound, LeavesCore}
-use Rattle.rlsf_tlsf.specs.Results.{IsAllocated, IsDeallocated}
-use Rattle.rlsf_tlsf.specs.Steps.Moves.{bare}
-use Rattle.rlsf_offsets.specs.Units.{AreWhole, IsEmpty, IsFreeRun, IsFull, IsKept, IsSizedForUnits, SizesSpace, SucceedsWithin, KeepsSized, KeepsSizedFor, align_of, whole_shadow, IsReleased, IsReserved, IsShadow, IsSpace, Offsets, offsets, place, units_at}
-use Rattle.rlsf_base.specs.OpenSpace.{IsOwned}
-use Rattle.rlsf_base.specs.SizeClass.{IsValid}
-use Rattle.rlsf_base.specs.Space.{Space}
-use Rattle.rlsf_blocks.specs.Laws.{read_from}
-use Rattle.rlsf_blocks.specs.StandsFor.{contents}
-use Rattle.rlsf_blocks.specs.Steps.LiveBlock.{IsLiveIn}
-use Rattle.rlsf_model.specs.Sized.{IsSizedFor}
-use Rattle.rlsf_model.specs.State.{usable}
-use Rattle.rlsf_model.proofs.CallerWords.{align_at-some}
-use Rattle.rlsf_model.proofs.SizedWords.{never_refused}
-use Rattle.rlsf_table.specs.Table.{Table}
-use Rattle.rlsf_tlsf.specs.Bounds.{IfWithinBounds, KeepsAllBounds, KeepsBounds}
-use Rattle.rlsf_tlsf.specs.Sizing.{SizesPool}
+use Rattle.rlsf_model.specs.WellFormed.{covers, IsWellFormed}
+use Rattle.rlsf_model.proofs.CallerWords.{align_at-live, bytes_at-held}
+use Rattle.rlsf_model.proofs.Coverage.{covers-inside, coverage-unique}
+use Rattle.rlsf_model.proofs.Payloads.{IsUsed-after_start, IsUsed-some}
+use Rattle.rlsf_model.proofs.Tiling.{block_of, tiling_of, used-le, lies_in_chunk, IsPart-used}
+use Rattle.rlsf_tlsf.specs.Allocator.{Allocator}
+use Rattle.rlsf_offsets.specs.Units.{AreWhole, align_of, IsShadow, IsSpace, Offsets, offsets, place, units_at}
 
 module _ {fllen sllen : ℕ} {memory : Range} {s : State} (w : IsWellFormed fllen sllen memory s) (whole : AreWhole s) where
   -- where the block of a used block lies

@@ -1,5 +1,5 @@
 -- The pieces of a space, one after another: free ranges, and live ranges with the units that their alignments leave in front.
-use Rattle.std.specs.Prelude.{◌≡◌, ℕ, ◌+◌, ◌-◌, ◌*◌, ◌/◌, ◌^◌, ◌<◌, ◌≤◌, List, map, not}
+use Rattle.std.specs.Prelude.{◌≡◌, ℕ, ◌-◌, ◌*◌, ◌/◌, ◌^◌, ◌<◌, ◌≤◌, List, map, not}
 use Rattle.rlsf_base.specs.Range.{end_of}
 use Rattle.rlsf_blocks.specs.Blocks.{Block}
 use Rattle.rlsf_model.specs.Lists.{IsIn}

@@ -1,7 +1,7 @@
 -- An allocator of offsets as its callers see it: where live ranges begin, and how many bytes they have.
-use Rattle.std.specs.Prelude.{◌≡◌, ◌≢◌, ◌⊎◌, ℕ, zero, suc, ◌+◌, ◌-◌, ◌*◌, ◌/◌, ◌%◌, ◌<◌, ◌≤◌, Option, Some, None, IsSome}
+use Rattle.std.specs.Prelude.{◌≡◌, ◌≢◌, ℕ, zero, suc, ◌+◌, ◌-◌, ◌*◌, ◌/◌, ◌%◌, ◌<◌, ◌≤◌, Option, Some, None, IsSome}
 use Rattle.std.specs.Option.{option_map}
-use Rattle.rlsf_offsets.specs.Units.{ArePiecesApart, HasRoomInPlace, IsFull, IsReleased, IsReserved, IsResized, KeepsSizedFor, Offsets, SucceedsWithin, units_at}
+use Rattle.rlsf_offsets.specs.Units.{ArePiecesApart, HasRoomInPlace, IsFull, IsReleased, IsReserved, IsResized, Offsets, SucceedsWithin, units_at}
 
 -- how many units so many bytes take: the fewest that have them, and at least one
 abbrev pub units_for : ℕ → ℕ → ℕ

@@ -46,6 +46,10 @@ impl<const UNIT: usize> OffsetTlsf<UNIT> {
     ///
     /// Returns `TooLong` if and only if the space has more than `2^56` units, and `OutOfMemory` if the system refuses the shadow.
     ///
+    /// The space is sized for `count` ranges of up to `n` units at multiples of up to `a` units if `pool_size_for_payloads` of `rlsf::classes`
+    /// returns at most the bytes of the shadow for `count` payloads of `32 * (n - 1)` bytes with the alignment `32 * a` (`sized`).
+    /// While `count` or fewer of such ranges are live, one more is then never refused.
+    ///
     /// `UNIT` must be a power of two.
     ///
     /// Takes constant time: no byte of the shadow is written but some words.

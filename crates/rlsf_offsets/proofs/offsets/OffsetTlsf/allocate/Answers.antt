@@ -1,4 +1,4 @@
-use Rattle.std.proofs.Common.{◌*◌, ◌≡◌, ℕ, subst, sym, true≢false, arith}
+use Rattle.std.proofs.Common.{◌*◌, ℕ, subst, sym, true≢false, arith}
 use Rattle.rlsf_base.specs.PowerOfTwo.{IsPowerOfTwo}
 use Rattle.rlsf_base.proofs.Numbers.PowersOfTwo.{IsPowerOfTwo-positive}
 use Rattle.rlsf_offsets.specs.Offsets.{IsAllocated, units_for}

@@ -1,6 +1,6 @@
-use Rattle.std.proofs.Common.{◌≡◌, ◌/◌, ℕ, IsSome, true, subst, sym}
+use Rattle.std.proofs.Common.{◌/◌, ℕ, IsSome, subst, sym}
 use Rattle.rlsf_base.proofs.Numbers.PowersOfTwo.{IsPowerOfTwo-positive}
-use Rattle.rlsf_offsets.specs.Offsets.{IsReallocated, len_at, units_for}
+use Rattle.rlsf_offsets.specs.Offsets.{IsReallocated, len_at}
 use Rattle.rlsf_offsets.specs.Units.{IsResized, Offsets}
 use Rattle.rlsf_offsets.proofs.Bytes.{IsReallocated-units, some_units, still_live}
 use Rattle.rlsf_offsets.proofs.offsets.OffsetTlsf.reallocate_in_place.Goals as goal

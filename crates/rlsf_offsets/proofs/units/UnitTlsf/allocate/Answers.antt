@@ -1,6 +1,6 @@
-use Rattle.std.proofs.Common.{◌≡◌, ℕ, ◌<◌, ◌≤◌, None, Some, ◌+◌, ◌-◌, ◌*◌, ◌^◌, ◌/◌, subst, sym, refl, false, true, arith}
+use Rattle.std.proofs.Common.{◌≡◌, ◌≤◌, Some, ◌+◌, ◌-◌, ◌^◌, ◌/◌, subst, sym, refl, false, true, arith}
 use Rattle.std.proofs.lemmas.Option.{none-some}
-use Rattle.std.specs.Prelude.{IfNone, IsSome}
+use Rattle.std.specs.Prelude.{IsSome}
 use Rattle.rlsf_base.proofs.Numbers.PowersOfTwo.{IsPowerOfTwo-positive}
 use Rattle.rlsf_blocks.specs.Laws.{read_from}
 use Rattle.rlsf_model.proofs.Chunks.{chunks-allocated}

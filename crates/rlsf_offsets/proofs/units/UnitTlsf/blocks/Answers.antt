@@ -1,7 +1,6 @@
-use Rattle.std.proofs.Common.{◌^◌, ◌-◌, subst}
-use Rattle.rlsf_base.specs.Range.{range_at}
+use Rattle.std.proofs.Common.{subst}
 use Rattle.rlsf_offsets.specs.Blocks.{AreAllBlocks, AreWithin}
-use Rattle.rlsf_offsets.specs.Units.{Offsets, offsets}
+use Rattle.rlsf_offsets.specs.Units.{Offsets}
 use Rattle.rlsf_offsets.proofs.Blocks.{AreAllBlocks-row, AreWithin-blocks, IsRow-shadow}
 use Rattle.rlsf_offsets.proofs.units.UnitTlsf.blocks.Goals as goal
 
