@@ -1,7 +1,7 @@
-//! The memory of a GPU: buffers and textures are allocated and freed in another order. A map shows where those lie that are left.
+//! The memory of a GPU: buffers and textures are allocated and freed in another order. Lines and a map show where those lie that are left.
 #![tactic(auto)]
 
-use rlsf_offsets::OffsetTlsf;
+use rlsf_offsets::{OffsetTlsf, Piece, Stats};
 use std::io;
 
 const MIB: usize = 1 << 20;
@@ -14,12 +14,13 @@ struct Resource {
     len: usize,
 }
 
-/// Allocates resources of 256 MiB, and frees two of them.
+/// Allocates resources of 256 MiB, frees two of them, and halves one in place.
 fn resources(memory: &mut OffsetTlsf<256>) -> Option<[Resource; 3]> {
     let vertices = memory.allocate(40 * MIB, 256)?;
     let texture = memory.allocate(64 * MIB, 65536)?;
     let indices = memory.allocate(10000000, 16)?;
     let shadows = memory.allocate(32 * MIB, 65536)?;
+    memory.reallocate_in_place(shadows, 16 * MIB);
     let indices_len = memory.len(indices);
     let shadows_len = memory.len(shadows);
     memory.deallocate(texture);
@@ -55,6 +56,26 @@ fn letter_at(resources: &[Resource; 3], at: usize) -> char {
     '.'
 }
 
+/// Prints each piece of the memory, and the totals.
+fn print_pieces(rt: &HostRuntime, memory: &OffsetTlsf<256>) -> io::Result<()> {
+    for piece in memory.pieces() {
+        let Piece {
+            offset,
+            len,
+            is_free,
+        } = piece;
+        let state = if is_free { "free" } else { "used" };
+        println!(rt; "{offset}: {len} bytes {state}")?;
+    }
+    let Stats {
+        ranges,
+        used,
+        free,
+        longest,
+    } = memory.stats();
+    println!(rt; "{ranges} ranges: {used} bytes used, {free} free, {longest} side by side")
+}
+
 fn main(rt: HostRuntime) -> io::Result<()> {
     let Ok(mut memory) = OffsetTlsf::<256>::new(rt.alloc(), 256 * MIB) else {
         return println!(rt; "out of memory");
@@ -70,6 +91,7 @@ fn main(rt: HostRuntime) -> io::Result<()> {
         } = *resource;
         println!(rt; "{letter}: {len} bytes at {offset}")?;
     }
+    print_pieces(&rt, &memory)?;
     // A letter shows what lies at the first byte of each 4 MiB.
     for cell in 0..64usize {
         let letter = letter_at(&resources, cell * 4 * MIB);
