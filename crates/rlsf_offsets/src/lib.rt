@@ -1,7 +1,8 @@
 //! Allocation of ranges of a space that the processor can't reach: the memory of a GPU, a file, device addresses, identifiers.
 //!
 //! Read `specs/Offsets` (live ranges as callers see them) first, then `src/offsets`. `src/units` has the allocator below it, which counts in
-//! units, with definitions in `specs/Units`.
+//! units, with definitions in `specs/Units`. `src/pieces` lists used and free ranges (`specs/Iteration`), and `src/stats` has their totals
+//! (`specs/Blocks`).
 #![tactic(auto)]
 
 mod offsets;
