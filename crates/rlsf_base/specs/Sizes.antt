@@ -56,6 +56,17 @@ abbrev pub pool_size_for_payloads : ℕ → ℕ → ℕ → ℕ → ℕ → Opti
 pool_size_for_payloads fllen sllen count size align =
     option_and_then (λ least. chunk_length fllen (payloads_length count (request_size size align) least)) (map_ceil_and_unmap fllen sllen (request_size size align))
 
+-- the length of a chunk with used blocks of `bytes` bytes together, and one more free range than `count`. Each of these is 32 bytes
+-- shorter than the least that is taken, but for one, which is taken. The chunk ends with a sentinel of 32 bytes
+abbrev pub budget_length : ℕ → ℕ → ℕ → ℕ
+budget_length count bytes least = 32 + bytes + (count + 1) * (least - 32) + 32
+
+-- the length of a chunk that never refuses a payload up to a layout while `count` or fewer are live, whose blocks have `bytes` bytes
+-- or fewer together, reallocations among them
+abbrev pub pool_size_for_budget : ℕ → ℕ → ℕ → ℕ → ℕ → ℕ → Option ℕ
+pool_size_for_budget fllen sllen count bytes size align =
+    option_and_then (λ least. chunk_length fllen (budget_length count bytes least)) (map_ceil_and_unmap fllen sllen (request_size size align))
+
 -- the block of an object: the least one from a class's start on that has room for so many bytes behind 16
 abbrev pub object_length : ℕ → ℕ → ℕ → Option ℕ
 object_length fllen sllen size = map_ceil_and_unmap fllen sllen (round32 (size + 16))

@@ -167,6 +167,35 @@ pub fn pool_size_for_payloads<
     within_longest::<FLBitmap, SLBitmap, FLLEN, SLLEN>(len)
 }
 
+/// Returns the length, in bytes, of a chunk that refuses no allocation and no reallocation within these bounds:
+/// - Each payload that a call requests has at most the size and the alignment of `layout`.
+/// - At most `count` payloads are live in the chunk before each allocation and each reallocation.
+/// - The blocks of these payloads have at most `bytes` bytes together. The block of a payload has at most as many bytes as
+///   `request_size` returns for its layout.
+///
+/// If few payloads are large, the length is shorter than that of `pool_size_for_payloads`. If `bytes` is `count` times the
+/// sought size of `layout`, both lengths are equal. Memory of that length becomes such a chunk if it begins at a multiple
+/// of 32.
+///
+/// Returns `None` if and only if one of these holds:
+/// - No class reaches the sought size.
+/// - The length doesn't fit in a `usize`.
+/// - The length is greater than that of the longest chunk.
+pub fn pool_size_for_budget<
+    FLBitmap: BitPattern,
+    SLBitmap: BitPattern,
+    const FLLEN: usize,
+    const SLLEN: usize,
+>(count: usize, bytes: usize, layout: Layout) -> Option<usize>
+    requires parameters { IsValid FLBitmap.width SLBitmap.width FLLEN SLLEN }
+    ensures { result ≡ sizes.pool_size_for_budget FLLEN SLLEN count bytes layout.size layout.align }
+{
+    let least = map_ceil_and_unmap::<FLBitmap, SLBitmap, FLLEN, SLLEN>(request_size(layout))?;
+    let free = count.checked_mul(least - 32)?;
+    let len = bytes.checked_add(free)?.checked_add(least + 32)?;
+    within_longest::<FLBitmap, SLBitmap, FLLEN, SLLEN>(len)
+}
+
 /// Returns the length of a chunk that has room for exactly `count` payloads of `size` bytes, and the size to request.
 /// Both are in bytes.
 ///

@@ -9,7 +9,7 @@ use Rattle.std.proofs.lemmas.Grind.{div_ceil_times}
 use Rattle.std.proofs.Math.Nat.{mul-le-mul_right, mul-mod_left}
 use Rattle.rlsf_base.specs.Rounding.{round32}
 use Rattle.rlsf_base.specs.SizeClass.{class_of, class_start, is_row_length, reaching_class, Reaches}
-use Rattle.rlsf_base.specs.Sizes.{IsSize, chunk_length, map_ceil_and_unmap, object_length, objects_in, payloads_length, pool_size_for_objects}
+use Rattle.rlsf_base.specs.Sizes.{IsSize, budget_length, chunk_length, map_ceil_and_unmap, object_length, objects_in, payloads_length, pool_size_for_objects}
 use Rattle.rlsf_base.proofs.Numbers.Roundings.{round32-le, round32-least, round32-multiple}
 use Rattle.rlsf_base.proofs.SizeClasses.Order.{IsFirstReaching-reaching_class}
 use Rattle.rlsf_base.proofs.SizeMaps.Laws.{IsUnmapped-some}
@@ -38,6 +38,13 @@ pub payloads-are : (fllen sllen count size asked least : ℕ) {o : Option ℕ} �
 payloads-are fllen sllen count size asked least is told chunk =
     chunk ∙ ap (option_and_then (λ n. chunk_length fllen (payloads_length count size n))) told
     ∙ (λ i. option_and_then (λ n. chunk_length fllen (payloads_length count (is i) n)) (map_ceil_and_unmap fllen sllen (is i)))
+
+-- what a chunk for a budget is, by its length
+pub budget-is : (fllen sllen count bytes size asked least : ℕ) {o : Option ℕ} → size ≡ asked → Some least ≡ map_ceil_and_unmap fllen sllen size
+    → o ≡ chunk_length fllen (budget_length count bytes least)
+    → o ≡ option_and_then (λ n. chunk_length fllen (budget_length count bytes n)) (map_ceil_and_unmap fllen sllen asked)
+budget-is fllen sllen count bytes size asked least is told chunk =
+    chunk ∙ ap (option_and_then (λ n. chunk_length fllen (budget_length count bytes n))) (told ∙ ap (map_ceil_and_unmap fllen sllen) is)
 
 div_ceil-le : (n d : ℕ) → 0 < d → div_ceil n d ≤ n
 div_ceil-le n d some = elim (cases_lt n (div_ceil n d)) [
@@ -132,6 +139,32 @@ module _ (fllen sllen count size len : ℕ) (row : IsTrue (is_row_length sllen))
   pub IsPayloadPool-some : option_and_then (λ least. chunk_length fllen (payloads_length count size least)) (map_ceil_and_unmap fllen sllen size) ≡ Some len
       → IsPayloadPool fllen sllen count size len
   IsPayloadPool-some told = payload_pool_from (map_ceil_and_unmap fllen sllen size) refl told
+
+-- a pool for a budget has the length for so many bytes of blocks and for free ranges that are too short for one
+pub record IsBudgetPool (fllen sllen count bytes size len : ℕ) : Type 0 where
+  pub least : ℕ
+  pub is : IsSize least
+  pub reaches : Reaches sllen (class_of sllen least) size
+  pub length : budget_length count bytes least ≡ len
+  pub short : len ≤ 2 ^ (5 + fllen)
+
+module _ (fllen sllen count bytes size len : ℕ) (row : IsTrue (is_row_length sllen)) (size_is : IsSize size) where
+  budget_pool_from : (o : Option ℕ) → map_ceil_and_unmap fllen sllen size ≡ o
+      → option_and_then (λ least. chunk_length fllen (budget_length count bytes least)) o ≡ Some len → IsBudgetPool fllen sllen count bytes size len
+  budget_pool_from None e told = absurd (none-some len told)
+  budget_pool_from (Some least) e told =
+      let taken = least_is_taken fllen sllen size least row size_is e in
+      record {
+        least = least;
+        is = taken.0;
+        reaches = taken.1;
+        length = chunk_length-is fllen (budget_length count bytes least) len told;
+        short = omega (arith, chunk_length-is fllen (budget_length count bytes least) len told, chunk_length-short fllen (budget_length count bytes least) len told);
+      }
+
+  pub IsBudgetPool-some : option_and_then (λ least. chunk_length fllen (budget_length count bytes least)) (map_ceil_and_unmap fllen sllen size) ≡ Some len
+      → IsBudgetPool fllen sllen count bytes size len
+  IsBudgetPool-some told = budget_pool_from (map_ceil_and_unmap fllen sllen size) refl told
 
 -- a pool for objects has room for so many blocks, each of which begins a class
 pub record IsObjectPool (sllen count size len asked : ℕ) : Type 0 where
