@@ -1,5 +1,5 @@
 -- Runs whose calls ask for little enough that none is refused.
-use Rattle.std.proofs.Common.{◌≡◌, ℕ, ◌+◌, ◌-◌, ◌*◌, ◌<◌, ◌≤◌, eqb, not, filter, List, [], ◌∷◌, Option, Some, None, length, arith, refl, sym}
+use Rattle.std.proofs.Common.{◌≡◌, ℕ, ◌+◌, ◌-◌, ◌*◌, ◌<◌, ◌≤◌, Bool, cond, eqb, not, filter, List, [], ◌∷◌, Option, Some, None, length, arith, refl, sym}
 use Rattle.std.proofs.Common.{◌∙◌, ap, subst, inl, inr}
 use Rattle.std.proofs.lemmas.List.{length-map}
 use Rattle.std.proofs.lemmas.List.Sums.{sum_by-cons}
@@ -11,20 +11,20 @@ use Rattle.rlsf_base.specs.PowerOfTwo.{IsPowerOfTwo}
 use Rattle.rlsf_base.specs.Sizes.{request_size}
 use Rattle.rlsf_base.proofs.Numbers.Roundings.{round32-mono}
 use Rattle.rlsf_model.specs.Allocate.{placed, Allocates}
-use Rattle.rlsf_model.specs.Budget.{total_len, used_bytes, AreFronts, IsFront, AreAtMost, IsModest, RunsModestly, HasBudget, IsDenied, live_after, AsksWithin, AreWithin}
+use Rattle.rlsf_model.specs.Budget.{total_len, used_bytes, AreFronts, IsFront, AreAtMost, IsModest, IsFrugal, IsRequest, RunsFrugally, RunsModestly, HasBudget, HasRoomFor, IsDenied, live_after, AsksWithin, AreWithin}
 use Rattle.rlsf_model.specs.Insert.{with_chunk}
 use Rattle.rlsf_model.specs.Lists.{IsIn}
 use Rattle.rlsf_model.specs.Reallocate.{Plan, plan, moved, ReallocatesBy}
 use Rattle.rlsf_model.specs.Release.{Deallocates}
 use Rattle.rlsf_model.specs.Run.{Event, insert, append, allocate, deallocate, reallocate, fill, remove, trim, IsRemoval, Leads, MayCall, Runs}
-use Rattle.rlsf_model.specs.Sizing.{ModestRunsAreNotDenied, LiveIsCounted, BoundedRunsAreNotDenied}
+use Rattle.rlsf_model.specs.Sizing.{FrugalRunsAreNotDenied, ModestRunsAreNotDenied, LiveIsCounted, BoundedRunsAreNotDenied}
 use Rattle.rlsf_model.specs.State.{empty, State, Used, Holds, others, filled_if, filled_at}
 use Rattle.rlsf_model.specs.WellFormed.{IsWellFormed}
 use Rattle.rlsf_model.proofs.Allocations.{Allocates-keeps}
 use Rattle.rlsf_model.proofs.Changes.{IsIn-others}
 use Rattle.rlsf_model.proofs.Choices.{choice-none, choice-some}
 use Rattle.rlsf_model.proofs.Chunks.{chunks_stay, used-inserted, used-appended}
-use Rattle.rlsf_model.proofs.Coverage.{covers-le}
+use Rattle.rlsf_model.proofs.Coverage.{by_test, covers-le}
 use Rattle.rlsf_model.proofs.Fillings.{shape-filled_from}
 use Rattle.rlsf_model.proofs.Live.{live_address_has_one_block}
 use Rattle.rlsf_model.proofs.Parts.{begins_in, part, IsIn-filter, length-filter_le, part_is_well_formed, have_chunks}
@@ -39,26 +39,51 @@ used_bytes-le : (most : ℕ) (us : List Used) → AreAtMost most us → used_byt
 used_bytes-le most [] small = omega arith
 used_bytes-le most (u ∷ us) small = omega (arith, sum_by-cons (λ v. v.block.len) u us, small u (inl refl), used_bytes-le most us (λ v i. small v (inr i)))
 
--- within the budget an allocation is not refused
-pub not_denied : (live most : ℕ) {fllen sllen : ℕ} {memory : Range} {s : State} → IsWellFormed fllen sllen memory s → (fronts : List Range) → AreFronts s.chunks fronts
-    → AreAtMost most s.used
-    → HasBudget live most sllen fronts → length s.used ≤ live → (size align : ℕ) → request_size size align ≤ most → (t : State)
-    → Allocates sllen s size align None t → ⊥
-not_denied live most {fllen} {sllen} {memory} {s} w fronts are small budget few size align fits t step =
+used_bytes-filter : (p : Used → Bool) (us : List Used) → used_bytes (filter p us) ≤ used_bytes us
+used_bytes-filter p [] = omega arith
+used_bytes-filter p (u ∷ us) =
+    let rest = used_bytes-filter p us in
+    by_test (p u)
+    (λ e. let is : used_bytes (filter p (u ∷ us)) ≡ used_bytes (u ∷ filter p us) = ap (λ b. used_bytes (cond b (u ∷ filter p us) (filter p us))) e in
+    omega (arith, is, rest, sum_by-cons (λ v. v.block.len) u us, sum_by-cons (λ v. v.block.len) u (filter p us)))
+    (λ e. let is : used_bytes (filter p (u ∷ us)) ≡ used_bytes (filter p us) = ap (λ b. used_bytes (cond b (u ∷ filter p us) (filter p us))) e in
+    omega (arith, is, rest, sum_by-cons (λ v. v.block.len) u us))
+
+-- where there is room for the used blocks and one more, an allocation is not refused
+pub never_denied : (live bytes most : ℕ) {fllen sllen : ℕ} {memory : Range} {s : State} → IsWellFormed fllen sllen memory s → (fronts : List Range)
+    → AreFronts s.chunks fronts → HasRoomFor live bytes most sllen fronts → length s.used ≤ live → used_bytes s.used ≤ bytes
+    → (size align : ℕ) → request_size size align ≤ most → (t : State) → Allocates sllen s size align None t → ⊥
+never_denied live bytes most {fllen} {sllen} {memory} {s} w fronts are room few little size align fits t step =
     let have = have_chunks s.chunks w.disjoint fronts are.each are.disjoint in
     let cs = have.whole in
     let n = length cs in
     let p = part cs s in
     let wp = part_is_well_formed w cs have.are have.disjoint in
-    let least = budget.least in
+    let least = room.least in
     let fewer : length p.used ≤ live = omega (arith, length-filter_le (λ u. begins_in cs u.block) s.used) in
-    let blocks : length p.used * most ≤ live * most = mul-le-mul_right most fewer in
     let gaps : (length p.used + n) * (least - 32) ≤ (live + n) * (least - 32) = mul-le-mul_right (least - 32) (omega arith) in
-    let same : 32 * n + live * most + (live + n) * (least - 32) < total_len fronts =
-    subst (λ k. 32 * k + live * most + (live + k) * (least - 32) < total_len fronts) (sym have.count) budget.enough in
-    let used = used_bytes-le most p.used (λ u i. small u (IsIn-filter (λ v. begins_in cs v.block) u s.used i)) in
-    let (f, i, reached) = taken_free p wp most least (request_size size align) budget.taken fits (omega (arith, bytes_add_up fllen sllen memory p wp, used, have.longer)) in
+    let same : 32 * n + bytes + (live + n) * (least - 32) < total_len fronts =
+    subst (λ k. 32 * k + bytes + (live + k) * (least - 32) < total_len fronts) (sym have.count) room.enough in
+    let used = used_bytes-filter (λ u. begins_in cs u.block) s.used in
+    let (f, i, reached) = taken_free p wp most least (request_size size align) room.taken fits (omega (arith, bytes_add_up fllen sllen memory p wp, used, have.longer)) in
     choice-none sllen (request_size size align) s.free step.0 f (IsIn-filter (begins_in cs) f s.free i) reached
+
+-- a budget is room for as many blocks of the greatest length
+HasRoomFor-budget : {live most sllen : ℕ} {fronts : List Range} → HasBudget live most sllen fronts → HasRoomFor live (live * most) most sllen fronts
+HasRoomFor-budget budget = record { least = budget.least; taken = budget.taken; enough = budget.enough }
+
+within_budget : (live most : ℕ) (us : List Used) → AreAtMost most us → length us ≤ live → used_bytes us ≤ live * most
+within_budget live most us small few =
+    let blocks : length us * most ≤ live * most = mul-le-mul_right most few in
+    omega (arith, used_bytes-le most us small)
+
+-- so within the budget an allocation is not refused
+pub not_denied : (live most : ℕ) {fllen sllen : ℕ} {memory : Range} {s : State} → IsWellFormed fllen sllen memory s → (fronts : List Range) → AreFronts s.chunks fronts
+    → AreAtMost most s.used
+    → HasBudget live most sllen fronts → length s.used ≤ live → (size align : ℕ) → request_size size align ≤ most → (t : State)
+    → Allocates sllen s size align None t → ⊥
+not_denied live most {s = s} w fronts are small budget few size align fits t step =
+    never_denied live (live * most) most w fronts are (HasRoomFor-budget budget) few (within_budget live most s.used small few) size align fits t step
 
 -- ---- steps
 
@@ -133,35 +158,65 @@ module _ (most : ℕ) {fllen sllen : ℕ} {memory : Range} {s : State} (w : IsWe
   step_modest live t (remove r) may modest step = absurd modest
   step_modest live t (trim n) may modest step = absurd modest
 
-  -- and the call is not refused
-  step_not_denied : (live : ℕ) (fronts : List Range) (t : State) (e : Event) → AreFronts s.chunks fronts → HasBudget live most sllen fronts → IsModest live most s e
-      → Leads fllen sllen s e t → IsDenied e → ⊥
-  step_not_denied live fronts t (insert r reply) are budget modest step denied = absurd denied
-  step_not_denied live fronts t (append r reply) are budget modest step denied = absurd denied
-  step_not_denied live fronts t (allocate size align reply) are budget modest step denied =
-      not_denied live most w fronts are small budget modest.0 size align modest.1 t (subst (λ r. Allocates sllen s size align r t) denied step)
-  step_not_denied live fronts t (deallocate addr) are budget modest step denied = absurd denied
-  step_not_denied live fronts t (reallocate addr size reply) are budget modest step denied =
+-- ---- calls for which there is room
+
+module _ (live bytes most : ℕ) {fllen sllen : ℕ} {memory : Range} {s : State} (w : IsWellFormed fllen sllen memory s) (fronts : List Range)
+    (are : AreFronts s.chunks fronts) (room : HasRoomFor live bytes most sllen fronts) where
+  step_not_denied : (t : State) (e : Event) → IsFrugal live bytes most s e → Leads fllen sllen s e t → IsDenied e → ⊥
+  step_not_denied t (insert r reply) frugal step denied = absurd denied
+  step_not_denied t (append r reply) frugal step denied = absurd denied
+  step_not_denied t (allocate size align reply) (modest, little) step denied =
+      never_denied live bytes most w fronts are room modest.0 (little tt) size align modest.1 t (subst (λ r. Allocates sllen s size align r t) denied step)
+  step_not_denied t (deallocate addr) frugal step denied = absurd denied
+  step_not_denied t (reallocate addr size reply) (modest, little) step denied =
       let u = step.block in
       none_left (plan s u size) (subst (λ r. ReallocatesBy sllen s u size (plan s u size) r t) denied step.step)
     where
       none_left : (o : Option Plan) → ReallocatesBy sllen s step.block size o None t → ⊥
       none_left (Some p) impossible = impossible
-      none_left None allocated = not_denied live most w fronts are small budget modest.0 size step.block.align (modest.1 step.block step.holds) t allocated
-  step_not_denied live fronts t (fill addr bytes) are budget modest step denied = absurd denied
-  step_not_denied live fronts t (remove r) are budget modest step denied = absurd denied
-  step_not_denied live fronts t (trim n) are budget modest step denied = absurd denied
+      none_left None allocated = never_denied live bytes most w fronts are room modest.0 (little tt) size step.block.align (modest.1 step.block step.holds) t allocated
+  step_not_denied t (fill addr bytes) frugal step denied = absurd denied
+  step_not_denied t (remove r) frugal step denied = absurd denied
+  step_not_denied t (trim n) frugal step denied = absurd denied
 
 -- ---- runs
 
-pub modest_runs_are_not_denied : ModestRunsAreNotDenied
-modest_runs_are_not_denied live most fllen sllen memory s t fronts [] w are small budget run e i denied = absurd i
-modest_runs_are_not_denied live most fllen sllen memory s t fronts (d ∷ es) w are small budget (u, may, modest, step, rest) e i denied = elim i [
-  | inl same ↦ step_not_denied most w small live fronts u d are budget modest step (subst IsDenied same denied)
+pub frugal_runs_are_not_denied : FrugalRunsAreNotDenied
+frugal_runs_are_not_denied live bytes most fllen sllen memory s t fronts [] w are room run e i denied = absurd i
+frugal_runs_are_not_denied live bytes most fllen sllen memory s t fronts (d ∷ es) w are room (u, may, frugal, step, rest) e i denied = elim i [
+  | inl same ↦ step_not_denied live bytes most w fronts are room u d frugal step (subst IsDenied same denied)
   | inr j ↦
-      modest_runs_are_not_denied live most fllen sllen memory u t fronts es (steps_keep_well_formed fllen sllen memory s u d w may step)
-      (AreFronts-kept fllen sllen s fronts are u d (IsModest-stays live most s d modest) step) (step_modest most w small live u d may modest step) budget rest e j denied
+      frugal_runs_are_not_denied live bytes most fllen sllen memory u t fronts es (steps_keep_well_formed fllen sllen memory s u d w may step)
+      (AreFronts-kept fllen sllen s fronts are u d (IsModest-stays live most s d frugal.0) step) room rest e j denied
 ]
+
+-- few payloads are live before a modest call that requests bytes
+few_live : (live most : ℕ) (s : State) (e : Event) → IsModest live most s e → IsRequest e → length s.used ≤ live
+few_live live most s (insert r reply) modest asks = absurd asks
+few_live live most s (append r reply) modest asks = absurd asks
+few_live live most s (allocate size align reply) modest asks = modest.0
+few_live live most s (deallocate addr) modest asks = absurd asks
+few_live live most s (reallocate addr size reply) modest asks = modest.0
+few_live live most s (fill addr bytes) modest asks = absurd asks
+few_live live most s (remove r) modest asks = absurd asks
+few_live live most s (trim n) modest asks = absurd asks
+
+-- a modest run is frugal: the used blocks have the bytes of as many of the greatest length, or fewer
+runs_frugally : (live most fllen sllen : ℕ) (memory : Range) (s t : State) (es : List Event) → IsWellFormed fllen sllen memory s → AreAtMost most s.used
+    → RunsModestly live most fllen sllen memory s es t → RunsFrugally live (live * most) most fllen sllen memory s es t
+runs_frugally live most fllen sllen memory s t [] w small run = run
+runs_frugally live most fllen sllen memory s t (e ∷ es) w small (u, may, modest, step, rest) = (
+  u,
+  may,
+  (modest, λ asks. within_budget live most s.used small (few_live live most s e modest asks)),
+  step,
+  runs_frugally live most fllen sllen memory u t es (steps_keep_well_formed fllen sllen memory s u e w may step) (step_modest most w small live u e may modest step) rest,
+)
+
+pub modest_runs_are_not_denied : ModestRunsAreNotDenied
+modest_runs_are_not_denied live most fllen sllen memory s t fronts es w are small budget run =
+    frugal_runs_are_not_denied live (live * most) most fllen sllen memory s t fronts es w are (HasRoomFor-budget budget)
+    (runs_frugally live most fllen sllen memory s t es w small run)
 
 -- ---- how many payloads are live
 

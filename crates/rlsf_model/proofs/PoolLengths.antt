@@ -7,17 +7,17 @@ use Rattle.rlsf_base.specs.Rounding.{round32}
 use Rattle.rlsf_base.specs.SizeClass.{Reaches, class_of}
 use Rattle.rlsf_base.specs.Sizes.{IsSize, payloads_length, request_size}
 use Rattle.rlsf_base.proofs.Numbers.Roundings.{round32-same}
-use Rattle.rlsf_base.proofs.SizeMaps.ChunkLengths.{IsObjectPool-some, IsPayloadPool, IsPayloadPool-some}
+use Rattle.rlsf_base.proofs.SizeMaps.ChunkLengths.{IsBudgetPool, IsBudgetPool-some, IsObjectPool-some, IsPayloadPool, IsPayloadPool-some}
 use Rattle.rlsf_base.proofs.SizeMaps.Laws.{IsSize-request_size}
-use Rattle.rlsf_model.specs.Budget.{HasBudget, total_len}
+use Rattle.rlsf_model.specs.Budget.{HasBudget, HasRoomFor, total_len}
 use Rattle.rlsf_model.specs.Insert.{body}
 use Rattle.rlsf_model.specs.Lists.{IsIn}
 use Rattle.rlsf_model.specs.Run.{Event, insert, append, allocate, deallocate, reallocate, fill, remove, trim}
-use Rattle.rlsf_model.specs.Sizing.{PayloadPoolIsEnough, ObjectPoolIsExact}
+use Rattle.rlsf_model.specs.Sizing.{BudgetPoolIsEnough, PayloadPoolIsEnough, ObjectPoolIsExact}
 use Rattle.rlsf_model.specs.State.{State}
 use Rattle.rlsf_model.specs.Uniform.{AreDeniedOnlyAt, AsksForObject, AsksUniformly, IsUniform, blocks_in}
 use Rattle.rlsf_model.specs.WellFormed.{coverage, IsWellFormed}
-use Rattle.rlsf_model.proofs.Budgets.{AreFronts-one, bounded_runs_are_not_denied}
+use Rattle.rlsf_model.proofs.Budgets.{AreFronts-one, bounded_runs_are_not_denied, frugal_runs_are_not_denied}
 use Rattle.rlsf_model.proofs.Coverage.{covers-inside}
 use Rattle.rlsf_model.proofs.Room.{idle_chunk_is_one_range}
 use Rattle.rlsf_model.proofs.Tiling.{IsPart-free, lies_in_chunk, tiling_of}
@@ -45,6 +45,29 @@ payload_pool_is_enough fl_bits sl_bits fllen sllen count size align len memory s
     let pool = IsPayloadPool-some fllen sllen count sought len valid.power_of_two (IsSize-request_size size align) told in
     bounded_runs_are_not_denied count size align fllen sllen memory s t (c ∷ []) es w idle (AreFronts-one c s.chunks is_chunk (omega arith))
     (HasBudget-pool count sought sllen len c pool long) run within
+
+-- ---- payloads whose blocks have so many bytes together
+
+sums : (count bytes n len : ℕ) → 32 + bytes + (count + 1) * n + 32 ≤ len → 32 * 1 + bytes + (count + 1) * n < len
+sums count bytes n len long = omega arith
+
+pub HasRoomFor-pool : {fllen : ℕ} (count bytes size sllen len : ℕ) (c : Range) → IsBudgetPool fllen sllen count bytes size len → len ≤ c.len
+    → HasRoomFor count bytes size sllen (c ∷ [])
+HasRoomFor-pool count bytes size sllen len c pool long =
+    let all : c.len ≡ total_len (c ∷ []) = omega (arith, sum_by-cons (λ (r : Range). r.len) c []) in
+    record {
+      least = pool.least;
+      taken = record { is = pool.is; reaches = pool.reaches };
+      enough = sums count bytes (pool.least - 32) (total_len (c ∷ [])) (omega (arith, pool.length, long, all));
+    }
+
+pub budget_pool_is_enough : BudgetPoolIsEnough
+budget_pool_is_enough fl_bits sl_bits fllen sllen count bytes size align len memory s t c es valid w told is_chunk long run =
+    let room = (w.chunks c is_chunk).has_room in
+    let sought = request_size size align in
+    let pool = IsBudgetPool-some fllen sllen count bytes sought len valid.power_of_two (IsSize-request_size size align) told in
+    frugal_runs_are_not_denied count bytes sought fllen sllen memory s t (c ∷ []) es w (AreFronts-one c s.chunks is_chunk (omega arith))
+    (HasRoomFor-pool count bytes sought sllen len c pool long) run
 
 -- ---- objects of one size
 

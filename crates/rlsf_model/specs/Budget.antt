@@ -37,6 +37,13 @@ pub record HasBudget (live most sllen : ℕ) (ranges : List Range) : Type 0 wher
   pub taken : IsTakenFor sllen most least
   pub enough : 32 * length ranges + live * most + (live + length ranges) * (least - 32) < total_len ranges
 
+-- Some ranges are long enough for `live` blocks of `bytes` bytes together, and one more of `most`. Their total length is above a sum:
+-- 32 bytes for each range, `bytes`, and `least - 32` for each block and each range. A free range of `least` bytes can be taken
+pub record HasRoomFor (live bytes most sllen : ℕ) (ranges : List Range) : Type 0 where
+  pub least : ℕ
+  pub taken : IsTakenFor sllen most least
+  pub enough : 32 * length ranges + bytes + (live + length ranges) * (least - 32) < total_len ranges
+
 -- no used block is longer
 abbrev pub AreAtMost : ℕ → List Used → Type 0
 AreAtMost most used = (u : Used) → IsIn u used → u.block.len ≤ most
@@ -58,6 +65,22 @@ abbrev pub RunsModestly : ℕ → ℕ → ℕ → ℕ → Range → State → Li
 RunsModestly live most fllen sllen memory s [] t = t ≡ s
 RunsModestly live most fllen sllen memory s (e ∷ es) t =
     (u : State) × MayCall memory s e × IsModest live most s e × Leads fllen sllen s e u × RunsModestly live most fllen sllen memory u es t
+
+-- the call requests bytes
+abbrev pub IsRequest : Event → Type 0
+IsRequest (allocate size align reply) = Unit {0}
+IsRequest (reallocate addr size reply) = Unit {0}
+IsRequest e = ⊥
+
+-- and, if the call requests bytes, the used blocks have at most `bytes` bytes together before it
+abbrev pub IsFrugal : ℕ → ℕ → ℕ → State → Event → Type 0
+IsFrugal live bytes most s e = IsModest live most s e × (IsRequest e → used_bytes s.used ≤ bytes)
+
+-- a list of such calls with their replies, one after another, each of which its caller may make
+abbrev pub RunsFrugally : ℕ → ℕ → ℕ → ℕ → ℕ → Range → State → List Event → State → Type 0
+RunsFrugally live bytes most fllen sllen memory s [] t = t ≡ s
+RunsFrugally live bytes most fllen sllen memory s (e ∷ es) t =
+    (u : State) × MayCall memory s e × IsFrugal live bytes most s e × Leads fllen sllen s e u × RunsFrugally live bytes most fllen sllen memory u es t
 
 -- the call requests bytes and gets none: an allocation or a reallocation is refused
 abbrev pub IsDenied : Event → Type 0

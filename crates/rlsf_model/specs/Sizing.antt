@@ -3,9 +3,9 @@ use Rattle.std.specs.Prelude.{◌≡◌, ◌≢◌, ◌↔◌, ℕ, ◌+◌, ◌
 use Rattle.rlsf_base.specs.declared.memory.range.Range.{Range}
 use Rattle.rlsf_base.specs.PowerOfTwo.{IsPowerOfTwo}
 use Rattle.rlsf_base.specs.SizeClass.{class_of, IsValid, Reaches}
-use Rattle.rlsf_base.specs.Sizes.{IsSize, map_ceil_and_unmap, payloads_length, pool_size_for_objects, pool_size_for_payloads, request_size}
+use Rattle.rlsf_base.specs.Sizes.{IsSize, map_ceil_and_unmap, payloads_length, pool_size_for_budget, pool_size_for_objects, pool_size_for_payloads, request_size}
 use Rattle.rlsf_model.specs.Allocate.{Allocates}
-use Rattle.rlsf_model.specs.Budget.{total_len, used_bytes, AreFronts, AreAtMost, HasBudget, IsTakenFor, RunsModestly, IsDenied, AreWithin, live_after}
+use Rattle.rlsf_model.specs.Budget.{total_len, used_bytes, AreFronts, AreAtMost, HasBudget, IsTakenFor, HasRoomFor, RunsFrugally, RunsModestly, IsDenied, AreWithin, live_after}
 use Rattle.rlsf_model.specs.FlexRun.{FlexEvent, IsFlexRun, events_in, notes_in}
 use Rattle.rlsf_model.specs.FlexState.{FlexState}
 use Rattle.rlsf_model.specs.Lists.{IsIn}
@@ -37,6 +37,13 @@ abbrev pub ModestRunsAreNotDenied : Type 0
 ModestRunsAreNotDenied = (live most fllen sllen : ℕ) (memory : Range) (s t : State) (fronts : List Range) (es : List Event) → IsWellFormed fllen sllen memory s
     → AreFronts s.chunks fronts → AreAtMost most s.used → HasBudget live most sllen fronts
     → RunsModestly live most fllen sllen memory s es t → (e : Event) → IsIn e es → IsDenied e → ⊥
+
+-- in a run whose calls keep to a count of payloads and to a number of bytes that fronts of the chunks have room for, no allocation or
+-- reallocation is refused, whatever memory comes meanwhile
+abbrev pub FrugalRunsAreNotDenied : Type 0
+FrugalRunsAreNotDenied = (live bytes most fllen sllen : ℕ) (memory : Range) (s t : State) (fronts : List Range) (es : List Event) → IsWellFormed fllen sllen memory s
+    → AreFronts s.chunks fronts → HasRoomFor live bytes most sllen fronts
+    → RunsFrugally live bytes most fllen sllen memory s es t → (e : Event) → IsIn e es → IsDenied e → ⊥
 
 -- how many payloads are live after a step
 abbrev pub LiveIsCounted : Type 0
@@ -85,6 +92,14 @@ PayloadPoolIsEnough = (fl_bits sl_bits fllen sllen count size align len : ℕ) (
     → IsWellFormed fllen sllen memory s
     → pool_size_for_payloads fllen sllen count size align ≡ Some len → s.used ≡ [] → IsIn c s.chunks → len ≤ c.len
     → Runs fllen sllen memory s es t → AreWithin count size align 0 es → (e : Event) → IsIn e es → IsDenied e → ⊥
+
+-- a chunk of the length that is computed for so many payloads, whose blocks have so many bytes together, refuses none up to a layout
+-- while the live ones keep to both. Nothing else matters: payloads may be live, and blocks may have any length
+abbrev pub BudgetPoolIsEnough : Type 0
+BudgetPoolIsEnough = (fl_bits sl_bits fllen sllen count bytes size align len : ℕ) (memory : Range) (s t : State) (c : Range) (es : List Event)
+    → IsValid fl_bits sl_bits fllen sllen → IsWellFormed fllen sllen memory s
+    → pool_size_for_budget fllen sllen count bytes size align ≡ Some len → IsIn c s.chunks → len ≤ c.len
+    → RunsFrugally count bytes (request_size size align) fllen sllen memory s es t → (e : Event) → IsIn e es → IsDenied e → ⊥
 
 -- in some run whose calls keep to the bounds one is refused
 pub record EndsRefused (live most fllen sllen : ℕ) (memory : Range) (s : State) : Type 0 where
@@ -156,6 +171,7 @@ pub record SizingLaws : Type 0 where
   pub bytes : BytesAddUp
   pub budget : BudgetIsEnough
   pub modest_runs : ModestRunsAreNotDenied
+  pub frugal_runs : FrugalRunsAreNotDenied
   pub live : LiveIsCounted
   pub bounded_runs : BoundedRunsAreNotDenied
   pub uniform_full : UniformIsFull
@@ -164,6 +180,7 @@ pub record SizingLaws : Type 0 where
   pub uniform_runs : RunsKeepUniform
   pub uniform_answers : UniformRunsAnswer
   pub payload_pool : PayloadPoolIsEnough
+  pub budget_pool : BudgetPoolIsEnough
   pub payload_pool_exact : PayloadPoolIsExact
   pub layout_pool_exact : LayoutPoolIsExact
   pub object_pool : ObjectPoolIsExact

@@ -1,4 +1,4 @@
-use Rattle.rlsf_model.proofs.Budgets.{modest_runs_are_not_denied, live_is_counted, bounded_runs_are_not_denied}
+use Rattle.rlsf_model.proofs.Budgets.{frugal_runs_are_not_denied, modest_runs_are_not_denied, live_is_counted, bounded_runs_are_not_denied}
 use Rattle.rlsf_model.proofs.Callers.{payload_is_in_block, callers_see_map}
 use Rattle.rlsf_model.proofs.Chunks.{chunks_stay, inserted_chunks_lie_in_range}
 use Rattle.rlsf_model.proofs.Cuts.{chunks_are_cut_off_the_front}
@@ -17,7 +17,7 @@ use Rattle.rlsf_model.proofs.Live.{reallocation_has_size, reallocation_keeps_byt
 use Rattle.rlsf_model.proofs.Live.{released_is_not_live, filled_has_bytes, fill_leaves_others, deallocation_leaves_others}
 use Rattle.rlsf_model.proofs.NoMove.{unmoved_is_reallocated}
 use Rattle.rlsf_model.proofs.Orders.{order_means_nothing}
-use Rattle.rlsf_model.proofs.PoolLengths.{payload_pool_is_enough, object_pool_is_exact}
+use Rattle.rlsf_model.proofs.PoolLengths.{budget_pool_is_enough, payload_pool_is_enough, object_pool_is_exact}
 use Rattle.rlsf_model.proofs.Owed.{each_goes_back}
 use Rattle.rlsf_model.proofs.Pools.{pool_has_room, idle_chunk_has_room}
 use Rattle.rlsf_model.proofs.Removals.{removal_leaves_others}
@@ -105,6 +105,7 @@ returns-clause-sizing c = record {
   bytes = bytes_add_up;
   budget = budget_is_enough;
   modest_runs = modest_runs_are_not_denied;
+  frugal_runs = frugal_runs_are_not_denied;
   live = live_is_counted;
   bounded_runs = bounded_runs_are_not_denied;
   uniform_full = uniform_is_full;
@@ -113,6 +114,7 @@ returns-clause-sizing c = record {
   uniform_runs = runs_keep_uniform;
   uniform_answers = uniform_runs_answer;
   payload_pool = payload_pool_is_enough;
+  budget_pool = budget_pool_is_enough;
   payload_pool_exact = payload_pool_is_exact;
   layout_pool_exact = layout_pool_is_exact;
   object_pool = object_pool_is_exact;
