@@ -4,6 +4,7 @@ pub mod Allocations
 pub mod AppendedRanges
 pub mod Appends
 pub mod Between
+pub mod BudgetWords
 pub mod Budgets
 pub mod CallerWords
 pub mod Callers

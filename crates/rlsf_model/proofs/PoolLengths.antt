@@ -48,10 +48,11 @@ payload_pool_is_enough fl_bits sl_bits fllen sllen count size align len memory s
 
 -- ---- payloads whose blocks have so many bytes together
 
-sums : (count bytes n len : ℕ) → 32 + bytes + (count + 1) * n + 32 ≤ len → 32 * 1 + bytes + (count + 1) * n < len
+sums : (count bytes n len : ℕ) → 32 + bytes + (count + 1) * n + 32 < len + 32 → 32 * 1 + bytes + (count + 1) * n < len
 sums count bytes n len long = omega arith
 
-pub HasRoomFor-pool : {fllen : ℕ} (count bytes size sllen len : ℕ) (c : Range) → IsBudgetPool fllen sllen count bytes size len → len ≤ c.len
+-- bytes that a chunk's length leaves out, since it is a multiple of 32, do no harm
+pub HasRoomFor-pool : {fllen : ℕ} (count bytes size sllen len : ℕ) (c : Range) → IsBudgetPool fllen sllen count bytes size len → len < c.len + 32
     → HasRoomFor count bytes size sllen (c ∷ [])
 HasRoomFor-pool count bytes size sllen len c pool long =
     let all : c.len ≡ total_len (c ∷ []) = omega (arith, sum_by-cons (λ (r : Range). r.len) c []) in
@@ -67,7 +68,7 @@ budget_pool_is_enough fl_bits sl_bits fllen sllen count bytes size align len mem
     let sought = request_size size align in
     let pool = IsBudgetPool-some fllen sllen count bytes sought len valid.power_of_two (IsSize-request_size size align) told in
     frugal_runs_are_not_denied count bytes sought fllen sllen memory s t (c ∷ []) es w (AreFronts-one c s.chunks is_chunk (omega arith))
-    (HasRoomFor-pool count bytes sought sllen len c pool long) run
+    (HasRoomFor-pool count bytes sought sllen len c pool (omega arith)) run
 
 -- ---- objects of one size
 
