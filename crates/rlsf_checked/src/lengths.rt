@@ -2,7 +2,7 @@
 
 ghost use Rattle.std.specs.Prelude.{◌≡◌, None};
 ghost use Rattle.rlsf_base.specs.SizeClass.{IsValid};
-ghost use Rattle.rlsf_base.specs.Sizes.{pool_size_for_payloads, pool_size_to_contain_allocation};
+ghost use Rattle.rlsf_base.specs.Sizes.{pool_size_for_budget, pool_size_for_payloads, pool_size_to_contain_allocation};
 
 use crate::checked::CheckedTlsf;
 use crate::classes::are_valid;
@@ -32,6 +32,25 @@ impl<FLBitmap: Bitmap, SLBitmap: Bitmap, const FLLEN: usize, const SLLEN: usize>
             return None;
         }
         classes::pool_size_for_payloads::<FLBitmap, SLBitmap, FLLEN, SLLEN>(count, layout)
+    }
+
+    /// Returns the length in bytes of a pool that refuses no payload of up to the size and alignment of the layout. This holds while, before
+    /// each allocation and each reallocation, at most `count` payloads are live, and their blocks have at most `bytes` bytes together. The
+    /// pool starts at a multiple of 32.
+    ///
+    /// Returns `None` exactly in these cases:
+    ///
+    /// - The parameters are invalid.
+    /// - No class reaches the sought size.
+    /// - The length is above the greatest `usize` or the longest chunk.
+    pub fn pool_size_for_budget(count: usize, bytes: usize, layout: Layout) -> Option<usize>
+        ensures length { IsValid FLBitmap.width SLBitmap.width FLLEN SLLEN → result ≡ pool_size_for_budget FLLEN SLLEN count bytes layout.size layout.align }
+        ensures invalid { (IsValid FLBitmap.width SLBitmap.width FLLEN SLLEN → ⊥) → result ≡ None }
+    {
+        if !are_valid::<FLBitmap, SLBitmap, FLLEN, SLLEN>() {
+            return None;
+        }
+        classes::pool_size_for_budget::<FLBitmap, SLBitmap, FLLEN, SLLEN>(count, bytes, layout)
     }
 
     /// Returns the least length in bytes of a pool in which an allocation of the layout succeeds while nothing is live there. The pool
