@@ -65,6 +65,7 @@ ghost use Rattle.rlsf_model.specs.Sizing.{SizingLaws};
 /// - The length that is computed for a number of payloads is enough for each chunk (`payload_pool`). In a shorter chunk, alone and with
 ///   nothing live, some run within the bounds is refused. This is stated for sought blocks (`payload_pool_exact`), and for layouts with an
 ///   alignment of 16 or less (`layout_pool_exact`).
+/// - The length that is computed for a number of payloads and the bytes of their blocks is enough, too, whatever is live (`budget_pool`).
 /// - The length that is computed for a number of objects is exact, too.
 /// - Within such bounds a source is never asked.
 pub fn laws()
