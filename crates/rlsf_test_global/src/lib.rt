@@ -2,8 +2,8 @@
 //!
 //! `answers.rt` has the assertions. `steps.rt` has calls as tables, which `locked.rt` and `shared.rt` make. `growth.rt` and
 //! `alignments.rt` have more of them through the lock. `blocks.rt`, `pages.rt` and `payloads.rt` test the layout, the source and the
-//! bytes, and `live_table.rt` the table. `originals.rt` has the original's random tests, with their tables below. `threads.rt` has
-//! threads, and `journal.rt` the tests of journals.
+//! bytes, and `live_table.rt` the table. `originals.rt` has the original's random tests, with their tables below. `threads.rt` and
+//! `at_once.rt` have threads, `drops.rt` the ends of allocators, and `journal.rt` the tests of journals.
 #![tactic(auto)]
 
 #[cfg(test)]
@@ -11,7 +11,11 @@ mod alignments;
 #[cfg(test)]
 mod answers;
 #[cfg(test)]
+mod at_once;
+#[cfg(test)]
 mod blocks;
+#[cfg(test)]
+mod drops;
 #[cfg(test)]
 mod growth;
 #[cfg(test)]

@@ -14,7 +14,7 @@ use std::sync::Wait;
 use std::test::Fail;
 
 /// An allocator behind a lock.
-trait Shared {
+pub trait Shared {
     fn read<R: Wait>(
         &self,
         rt: &R,
@@ -102,6 +102,16 @@ static READS: [(usize, usize, usize, [u8; 4]); 8] = [
     (7, usize::MAX, 2, [7; 4]),
 ];
 
+/// Addresses and offsets from which no bytes are read, each with 0 or the number of the error.
+static EMPTY_READS: [(usize, usize, usize); 6] = [
+    (65552, 0, 0),
+    (65552, 48, 0),
+    (65552, 49, 5),
+    (65560, 0, 2),
+    (7, 0, 2),
+    (usize::MAX, usize::MAX, 2),
+];
+
 /// What a write answers: 0, or the number of the error. Nothing where there is no such address.
 fn written(
     rt: &impl Wait,
@@ -147,11 +157,28 @@ fn first_wrong_read(rt: &impl Wait, shared: &impl Shared) -> Option<usize> {
     None
 }
 
+/// What a read of no bytes answers: 0, or the number of the error. Nothing where there is no such address.
+fn nothing_read(rt: &impl Wait, shared: &impl Shared, addr: usize, offset: usize) -> Option<usize> {
+    let addr = NonZeroUsize::new(addr)?;
+    Some(done(shared.read(rt, addr, offset, &mut [])))
+}
+
+/// The place of the first read of no bytes with a wrong result.
+fn first_wrong_empty_read(rt: &impl Wait, shared: &impl Shared) -> Option<usize> {
+    for (place, (addr, offset, wanted)) in EMPTY_READS.iter().enumerate() {
+        if nothing_read(rt, shared, *addr, *offset) != Some(*wanted) {
+            return Some(place);
+        }
+    }
+    None
+}
+
 /// Passes if all writes, and then all reads, have their expected results.
 fn are_right(rt: &(impl Wait + Abort), shared: &impl Shared) {
     let answers = [
         first_wrong_write(rt, shared).is_none(),
         first_wrong_read(rt, shared).is_none(),
+        first_wrong_empty_read(rt, shared).is_none(),
     ];
     all(rt, &answers);
 }

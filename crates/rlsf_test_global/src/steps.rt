@@ -224,7 +224,7 @@ pub static SMALL_PAGES: [Run; 1] = [(
 )];
 
 /// An address that is strange, one that was freed, and one that was freed and provided again, which is live then.
-const FREED: [(Step, usize); 15] = [
+const FREED: [(Step, usize); 16] = [
     (Step::Allocate(1, 1), 65552),
     (Step::Deallocate(65552), 0),
     (Step::Deallocate(65552), UNKNOWN_ADDRESS),
@@ -232,6 +232,7 @@ const FREED: [(Step, usize); 15] = [
     (Step::Dealloc(65552, 1, 1), UNKNOWN_ADDRESS),
     (Step::Usable(65552), UNKNOWN_ADDRESS),
     (Step::Read(65552, 0, 1), UNKNOWN_ADDRESS),
+    (Step::Read(65552, 0, 0), UNKNOWN_ADDRESS),
     (Step::Write(65552, 0, 0), UNKNOWN_ADDRESS),
     (Step::Realloc(65552, 1, 1, 2), UNKNOWN_ADDRESS),
     (Step::Reallocate(65552, 1, 1), UNKNOWN_ADDRESS),

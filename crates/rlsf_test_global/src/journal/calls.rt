@@ -3,7 +3,7 @@
 use crate::answers::all;
 use crate::steps::{Call, NO_STEP, Step, call_of, done, placed};
 use rlsf_base::memory::Memory;
-use rlsf_global::{CloseError, Closed, GlobalError, Journaled, Pass};
+use rlsf_global::{CloseError, Closed, GlobalError, Journaled, Pass, Reply};
 use std::alloc::Global;
 use std::process::Abort;
 use std::sync::Wait;
@@ -275,5 +275,29 @@ fn too_many_callers(rt: HostRuntime) -> Result<(), Fail> {
     let memory = Memory::new(rt.alloc(), 65536, 65536)?;
     let refused = Journaled::new(rt.alloc(), memory, usize::MAX).err();
     all(&rt, &[refused == Some(GlobalError::JournalMemory)]);
+    Ok(())
+}
+
+#[test]
+fn no_callers(rt: HostRuntime) -> Result<(), Fail> {
+    let (journaled, passes) = over(rt.alloc(), 65536, 0)?;
+    all(&rt, &[journaled.callers() == 0, passes.is_empty()]);
+    let closed = agreed(&rt, journaled, passes, (0, 0));
+    let text = closed.to_string(rt.alloc())?;
+    all(&rt, &[text.is_empty()]);
+    Ok(())
+}
+
+// The last two have no entry, so no text of a journal shows theirs.
+#[test]
+fn each_reply_has_its_text(rt: HostRuntime) -> Result<(), Fail> {
+    let answers = [
+        Reply::Freed.to_string(rt.alloc())?.as_str() == "freed",
+        Reply::NoRoom.to_string(rt.alloc())?.as_str() == "no room",
+        Reply::UnknownAddress.to_string(rt.alloc())?.as_str() == "unknown address",
+        Reply::TableMemory.to_string(rt.alloc())?.as_str() == "no memory for the table",
+        Reply::JournalMemory.to_string(rt.alloc())?.as_str() == "no memory for the journal",
+    ];
+    all(&rt, &answers);
     Ok(())
 }

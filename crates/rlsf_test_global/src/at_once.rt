@@ -1,0 +1,242 @@
+//! Calls of several threads at once: none is refused because another thread is in, and each is one step for the others.
+
+use crate::answers::all;
+use crate::journal::over;
+use crate::payloads::Shared;
+use rlsf_base::memory::{Addr, Layout, Memory};
+use rlsf_global::{CAlloc, GlobalError, GlobalTlsf, GlobalTlsfOptions, SmallGlobalTlsfOptions};
+use std::alloc::{AllocError, Global};
+use std::sync::Wait;
+use std::sync::atomic::{AtomicBool, Ordering};
+use std::test::Fail;
+use std::thread;
+use std::thread::Threads;
+
+/// How many threads there are, and how many rounds each of them makes.
+const THREADS: usize = 4;
+
+const ROUNDS: usize = 500;
+
+/// Makes each call on payloads of one's own. Returns whether the first has 48 usable bytes, and a longer one the bytes that it had.
+fn round<R: Wait, Options: GlobalTlsfOptions>(
+    rt: &R,
+    shared: &GlobalTlsf<Options>,
+    mark: u8,
+) -> Result<bool, GlobalError> {
+    let layout = Layout::from_size_align_unchecked(40, 8);
+    let longer = Layout::from_size_align_unchecked(100, 8);
+    let mut found = [0; 40];
+    let first = shared.alloc(rt, layout)?;
+    shared.write_payload(rt, first, 0, &[mark; 40])?;
+    let usable = shared.allocation_usable_size(rt, first)?;
+    let second = shared.realloc(rt, first, layout, 100)?;
+    let third = shared.reallocate_no_move(rt, second, longer, 40)?;
+    shared.read_payload(rt, third, 0, &mut found)?;
+    shared.dealloc(rt, third, layout)?;
+    let other = shared.allocate(rt, layout)?;
+    let other = shared.reallocate(rt, other, longer)?;
+    shared.deallocate(rt, other)?;
+    Ok(usable == 48 && found == [mark; 40])
+}
+
+/// How many rounds of a thread go as they should, one after another.
+fn rounds<R: Wait, Options: GlobalTlsfOptions>(
+    rt: &R,
+    shared: &GlobalTlsf<Options>,
+    mark: u8,
+) -> usize {
+    for number in 0..ROUNDS {
+        if round(rt, shared, mark) != Ok(true) {
+            return number;
+        }
+    }
+    ROUNDS
+}
+
+/// How many rounds of each of four threads go as they should.
+fn of_four<R: Threads + Wait + Sync, Options: GlobalTlsfOptions + Send>(
+    rt: &R,
+    alloc: Global,
+    shared: &GlobalTlsf<Options>,
+) -> Result<Vec<usize>, AllocError> {
+    thread::map_indices(rt, alloc, THREADS, &|index| rounds(rt, shared, index as u8))
+}
+
+// The memory has room for all payloads of all threads, so a call is refused only if it doesn't wait for the lock.
+#[test]
+fn no_call_is_refused_while_another_thread_is_in(rt: HostRuntime) -> Result<(), Fail> {
+    let memory = Memory::new(rt.alloc(), 65536, 131072)?;
+    let shared = GlobalTlsf::<()>::new(rt.alloc(), memory);
+    let done = of_four(&rt, rt.alloc(), &shared)?;
+    let memory = Memory::new(rt.alloc(), 65536, 131072)?;
+    let small = GlobalTlsf::<SmallGlobalTlsfOptions>::new(rt.alloc(), memory);
+    let done_by_small = of_four(&rt, rt.alloc(), &small)?;
+    let answers = [
+        done.iter().all(|rounds| *rounds == ROUNDS),
+        done_by_small.iter().all(|rounds| *rounds == ROUNDS),
+    ];
+    all(&rt, &answers);
+    Ok(())
+}
+
+/// How many bytes a payload has that two threads write and read.
+const LEN: usize = 4096;
+
+/// How often each of them does.
+const TIMES: usize = 1000;
+
+/// Overwrites all bytes of a payload with one byte, each time with another one. Returns how often it went.
+fn write_often<R: Wait>(rt: &R, shared: &impl Shared, addr: Addr) -> usize {
+    for time in 0..TIMES {
+        if shared
+            .write(rt, addr, 0, &[(time % 128) as u8; LEN])
+            .is_err()
+        {
+            return time;
+        }
+    }
+    TIMES
+}
+
+/// Whether all bytes of a payload are of one write.
+fn is_of_one_write<R: Wait>(rt: &R, shared: &impl Shared, addr: Addr) -> bool {
+    let mut bytes = [0; LEN];
+    let is_read = shared.read(rt, addr, 0, &mut bytes).is_ok();
+    let first = bytes[0];
+    is_read && bytes.iter().all(|byte| *byte == first)
+}
+
+/// How often a payload has the bytes of one write.
+fn read_often<R: Wait>(rt: &R, shared: &impl Shared, addr: Addr) -> usize {
+    for time in 0..TIMES {
+        if !is_of_one_write(rt, shared, addr) {
+            return time;
+        }
+    }
+    TIMES
+}
+
+/// Whether a thread that reads a payload sees all of a write of another one, or nothing of it.
+fn is_one_step<R: Threads + Wait + Sync>(
+    rt: &R,
+    shared: &(impl Shared + Sync),
+    addr: Addr,
+) -> bool {
+    let times = thread::join(
+        rt,
+        || write_often(rt, shared, addr),
+        || read_often(rt, shared, addr),
+    );
+    times == (TIMES, TIMES)
+}
+
+#[test]
+fn a_reader_sees_all_of_a_write_or_nothing(rt: HostRuntime) -> Result<(), Fail> {
+    let layout = Layout::from_size_align_unchecked(LEN, 8);
+    let shared = GlobalTlsf::<()>::new(rt.alloc(), Memory::new(rt.alloc(), 65536, 65536)?);
+    let addr = shared.alloc(&rt, layout)?;
+    all(&rt, &[is_one_step(&rt, &shared, addr)]);
+    let (journaled, mut passes) = over(rt.alloc(), 65536, 1)?;
+    if let Some(pass) = passes.first_mut() {
+        if pass.caller() < journaled.callers() {
+            let addr = journaled.allocate(&rt, pass, layout)?;
+            all(&rt, &[is_one_step(&rt, &journaled, addr)]);
+            return Ok(());
+        }
+    }
+    Err(Fail::new("a pass"))
+}
+
+/// How often a payload moves while another thread writes to it.
+const MOVES: usize = 100;
+
+/// The call that moves it.
+#[derive(Clone, Copy)]
+enum Moves {
+    Realloc,
+    Reallocate,
+}
+
+/// Writes 1, 2, .. to a payload until its address is refused. Returns the last number.
+fn write_until_refused<R: Wait, Options: GlobalTlsfOptions>(
+    rt: &R,
+    shared: &GlobalTlsf<Options>,
+    addr: Addr,
+    is_begun: &AtomicBool,
+) -> u64 {
+    for number in 0..10_000_000u64 {
+        let bytes = number.wrapping_add(1).to_le_bytes();
+        if shared.write_payload(rt, addr, 0, &bytes).is_err() {
+            return number;
+        }
+        is_begun.store(true, Ordering::SeqCst);
+    }
+    0
+}
+
+/// Moves a payload of 100 bytes into one of 200, once another thread has begun to write.
+fn move_away<R: Wait, Options: GlobalTlsfOptions>(
+    rt: &R,
+    shared: &GlobalTlsf<Options>,
+    addr: Addr,
+    call: Moves,
+    is_begun: &AtomicBool,
+) -> Result<Addr, GlobalError> {
+    for _ in 0..100_000_000 {
+        if is_begun.load(Ordering::SeqCst) {
+            break;
+        }
+    }
+    match call {
+        Moves::Realloc => shared.realloc(rt, addr, Layout::from_size_align_unchecked(100, 8), 200),
+        Moves::Reallocate => {
+            shared.reallocate(rt, addr, Layout::from_size_align_unchecked(200, 8))
+        }
+    }
+}
+
+/// Moves a payload while another thread writes to its old address. Returns whether the new one has the last number that was written.
+fn keeps_the_last_number<R: Threads + Wait + Sync, Options: GlobalTlsfOptions + Send>(
+    rt: &R,
+    shared: &GlobalTlsf<Options>,
+    call: Moves,
+) -> Result<bool, GlobalError> {
+    let is_begun = AtomicBool::new(false);
+    let mut found = [0; 8];
+    let addr = shared.alloc(rt, Layout::from_size_align_unchecked(100, 8))?;
+    let (last, moved) = thread::join(
+        rt,
+        || write_until_refused(rt, shared, addr, &is_begun),
+        || move_away(rt, shared, addr, call, &is_begun),
+    );
+    let moved = moved?;
+    shared.read_payload(rt, moved, 0, &mut found)?;
+    shared.deallocate(rt, moved)?;
+    Ok(found == last.to_le_bytes())
+}
+
+/// How many of the moves go as they should, one after another.
+fn right_moves<R: Threads + Wait + Sync, Options: GlobalTlsfOptions + Send>(
+    rt: &R,
+    alloc: Global,
+    call: Moves,
+) -> Result<usize, Fail> {
+    let shared = GlobalTlsf::<Options>::new(alloc, Memory::new(alloc, 65536, 65536)?);
+    for number in 0..MOVES {
+        if keeps_the_last_number(rt, &shared, call) != Ok(true) {
+            return Ok(number);
+        }
+    }
+    Ok(MOVES)
+}
+
+#[test]
+fn a_move_is_one_step_for_a_writer(rt: HostRuntime) -> Result<(), Fail> {
+    let counts = [
+        right_moves::<_, SmallGlobalTlsfOptions>(&rt, rt.alloc(), Moves::Realloc)?,
+        right_moves::<_, SmallGlobalTlsfOptions>(&rt, rt.alloc(), Moves::Reallocate)?,
+        right_moves::<_, ()>(&rt, rt.alloc(), Moves::Reallocate)?,
+    ];
+    all(&rt, &[counts == [MOVES; 3]]);
+    Ok(())
+}
