@@ -1,5 +1,6 @@
 //! Replays: what is written for texts, how their faults are reported, and the status.
 
+mod drops;
 mod examples;
 mod faults;
 mod streams;

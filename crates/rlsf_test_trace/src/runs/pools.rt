@@ -1,12 +1,15 @@
 //! Runs with many pools, which are inserted in several orders and appended to. An insert of one byte is refused if that is in a pool.
 
-use crate::answers::passes;
+use crate::answers::{all, passes};
 use rlsf_base::memory::{Memory, Range};
 use rlsf_tlsf::Tlsf;
-use rlsf_trace_runs::run;
+use rlsf_trace_runs::{Pools, run};
 use rlsf_trace_text::{Answer, Op, TraceError};
+use std::alloc::{AllocError, Global};
+use std::marker::Model;
 use std::num::NonZeroUsize;
 use std::process::Abort;
+use std::test::Fail;
 
 /// The error if the system is out of memory.
 const MEMORY: &str = "memory";
@@ -136,4 +139,63 @@ fn pools_in_several_orders(rt: HostRuntime) {
         run(rt.alloc(), &mut tlsf, &script.ops, &mut answers).expect(&rt, MEMORY);
         passes(&rt, answers.as_slice() == script.wanted.as_slice(), index);
     }
+}
+
+/// Pools that are added one after another. What is known of them is that they are in runs.
+#[derive(Drop)]
+struct Added {
+    pools: Pools,
+}
+
+impl Model for Added {
+    ghost use Rattle.std.specs.Prelude.{List};
+    ghost use Rattle.rlsf_base.specs.declared.memory.range.Range.{Range};
+    ghost use Rattle.rlsf_trace_runs.specs.Steps.Pools.{AreInRuns};
+
+    ghost Value = { List Range };
+
+    ghost view = { λ a. a.pools.ranges.items };
+
+    ghost invariant = { λ a. AreInRuns a.pools.ranges.items a.pools.firsts.items };
+}
+
+impl Added {
+    /// No pools, with room for so many.
+    fn with_room(alloc: Global, count: usize) -> Result<Added, AllocError> {
+        let pools = Pools::with_room(alloc, count)?;
+        Ok(Added { pools })
+    }
+
+    /// Adds a pool, if there is room for it.
+    fn add(&mut self, pool: Range) {
+        if self.pools.ranges.len() < self.pools.ranges.capacity() {
+            self.pools.add(pool);
+        }
+    }
+
+    /// Adds adjacent pools of 64 bytes, from the one of a number up to that of another.
+    fn add_from(&mut self, first: usize, end: usize) {
+        for number in first..end {
+            let start = number.saturating_mul(64);
+            self.add(Range { start, len: 64 });
+        }
+    }
+
+    /// How many pools there are, and where the runs of them begin.
+    fn counts(&self) -> (usize, &[usize]) {
+        (self.pools.ranges.len(), &self.pools.firsts)
+    }
+}
+
+// As soon as two runs are equally long, the next pool makes one run of them: of 1, 3, 7 pools and so on. So a search goes through few runs.
+#[test]
+fn pools_are_kept_in_few_runs(rt: HostRuntime) -> Result<(), Fail> {
+    let mut added = Added::with_room(rt.alloc(), 2000)?;
+    added.add_from(1, 1024);
+    all(&rt, &[added.counts() == (1023, &[0])]);
+    added.add_from(1024, 1025);
+    all(&rt, &[added.counts() == (1024, &[0, 1023])]);
+    added.add_from(1025, 1034);
+    all(&rt, &[added.counts() == (1033, &[0, 1023, 1030])]);
+    Ok(())
 }
