@@ -145,7 +145,7 @@ def measure(options, folder: pathlib.Path):
     if not options.original:
         missing("the original", "give --original the folder that tools/original/build filled")
     heap_of_trace = example(folder, "heap_of_trace.c", "heap_of_trace")
-    print("\n| Program | Calls | Live payloads | Longest | Live bytes | Blocks | Pool `59x8` | Pool `12x16` | glibc | Never refuses |")
+    print("\n| Program | Calls | Live payloads | Longest | Requested | Blocks | Pool `59x8` | Pool `12x16` | glibc | Never refuses |")
     print("|---" * 10 + "|", flush=True)
     for name, body in found(options, folder):
         least = row(options, name, body, heap_of_trace, folder)
@@ -153,5 +153,5 @@ def measure(options, folder: pathlib.Path):
             options.keep.mkdir(exist_ok=True)
             first = f"59x8 {START} {least}\ninsert {START} {least}\n".encode()
             (options.keep / f"{name.replace(' ', '_')}.txt").write_bytes(first + body)
-    print("\nthe columns from `Blocks` on are lengths, divided by the live bytes")
+    print("\nthe columns from `Blocks` on are lengths, divided by the requested bytes")
     print("the programs that replay print the same" if options.original or options.quick else "nothing was compared")

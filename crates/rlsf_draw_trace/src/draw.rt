@@ -3,7 +3,7 @@
 use crate::boxes::PayloadBox;
 use crate::colour::{Class, Colour};
 use crate::legend::{LeftOut, Legend, print_denied_list, print_pool_list};
-use crate::pools::Pool;
+use crate::pools::{Part, Pool};
 use crate::scale::{HEIGHT, Scale, TOP, Tenths};
 use crate::swatches::print_swatches;
 use crate::window::Window;
@@ -30,7 +30,9 @@ const FOOT: &str =
 pub(crate) struct Scene<'a> {
     /// The calls of the drawing.
     pub(crate) window: Window,
-    /// All pools of the trace.
+    /// The parts of all pools of the trace.
+    pub(crate) parts: &'a [Part],
+    /// These pools.
     pub(crate) pools: &'a [Pool],
     /// The payloads of the window.
     pub(crate) boxes: &'a [PayloadBox],
@@ -69,24 +71,24 @@ fn print_head(text: &mut String, window: Window) -> Result<(), AllocError> {
 
 // All that has a place on the scale.
 fn print_shapes(text: &mut String, scene: &Scene) -> Result<(), AllocError> {
-    let scale = Scale::new(scene.window, scene.pools);
-    print_pools(text, scale, scene.pools, scene.window)?;
+    let scale = Scale::new(scene.window, scene.parts);
+    print_parts(text, scale, scene.parts, scene.window)?;
     print_boxes(text, scale, scene.boxes, scene.legend.classes)?;
     print_sentinels(text, scale, scene.blocks)?;
     print_denied(text, scale, scene.denied)?;
     print_axes(text, scale, scene.window)
 }
 
-fn print_pools(
+fn print_parts(
     text: &mut String,
     scale: Scale,
-    pools: &[Pool],
+    parts: &[Part],
     window: Window,
 ) -> Result<(), AllocError> {
-    for pool in pools {
-        if pool.since < window.end {
-            let calls = (pool.since, window.end);
-            let addrs = (pool.start as u128, pool.end());
+    for part in parts {
+        if part.since < window.end {
+            let calls = (part.since, window.end);
+            let addrs = (part.start, part.end);
             let rect = scale.rect(calls, addrs, Colour::Free);
             writeln!(text, "{rect}/>")?;
         }
@@ -164,10 +166,11 @@ fn print_denied(text: &mut String, scale: Scale, denied: &[usize]) -> Result<(),
     Ok(())
 }
 
-// The two axes: which way each goes, and where it begins and ends.
+// The two axes: which way each goes, where it begins and ends, and three addresses between.
 fn print_axes(text: &mut String, scale: Scale, window: Window) -> Result<(), AllocError> {
     let (first, last) = (window.first as u128 + 2, window.end as u128 + 1);
     let (low, high) = (scale.low(), scale.high());
+    let [quarter, half, three_quarters] = [scale.between(1), scale.between(2), scale.between(3)];
     writeln!(
         text,
         "<text x='40' y='592'>line {first}</text>
@@ -175,9 +178,13 @@ fn print_axes(text: &mut String, scale: Scale, window: Window) -> Result<(), All
 <text x='1160' y='592' text-anchor='end'>line {last}</text>
 <g transform='translate(32 560) rotate(-90)'>
 <text x='0' y='0'>{low}</text>
-<text x='260' y='0' text-anchor='middle'>addresses &#8594;</text>
+<text x='130' y='0' text-anchor='middle'>{quarter}</text>
+<text x='260' y='0' text-anchor='middle'>{half}</text>
+<text x='390' y='0' text-anchor='middle'>{three_quarters}</text>
 <text x='520' y='0' text-anchor='end'>{high}</text>
-</g>"
+<text x='260' y='-16' text-anchor='middle'>addresses &#8594;</text>
+</g>
+<path d='M34 430h6M34 300h6M34 170h6' stroke='black'/>"
     )
 }
 
@@ -190,7 +197,7 @@ fn print_legend(text: &mut String, scene: &Scene) -> Result<(), AllocError> {
     write!(
         text,
         "</text>
-<text x='40' y='672'>at most {most_usable} bytes live, in the whole trace</text>
+<text x='40' y='672'>usable bytes of all payloads: at most {most_usable}, in the complete trace</text>
 <text x='40' y='694'>no room: {denied} times"
     )?;
     print_denied_list(text, scene.denied)?;

@@ -74,7 +74,7 @@ impl fmt::Display for LeftOut {
 /// Lists where the first pools are.
 pub(crate) fn print_pool_list(text: &mut String, pools: &[Pool]) -> Result<(), AllocError> {
     for pool in pools.get(..MOST_LISTED).unwrap_or(pools) {
-        let (start, end) = (pool.start, pool.end());
+        let Pool { start, end } = *pool;
         write!(text, ", {start} to {end}")?;
     }
     Ok(())

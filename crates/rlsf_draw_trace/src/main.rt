@@ -27,10 +27,20 @@ fn main(rt: HostRuntime) -> ExitCode {
         let _ = eprintln!(rt; "usage: rlsf_draw_trace [FIRST LAST] < TRACE");
         return ExitCode::from(2);
     };
-    let outcome = map(rt.alloc(), &mut rt.stdin(), &mut rt.stdout(), lines);
+    let mut word = None;
+    let outcome = map(
+        rt.alloc(),
+        &mut rt.stdin(),
+        &mut rt.stdout(),
+        lines,
+        &mut word,
+    );
     if let Err(fault) = &outcome {
         // If standard error fails too, only the status shows the fault.
         let _ = eprintln!(rt; "{fault}");
+        if let Some(word) = word {
+            let _ = eprintln!(rt; "the word is {word:?}");
+        }
     }
     ExitCode::from(status(&outcome))
 }

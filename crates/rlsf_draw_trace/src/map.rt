@@ -8,9 +8,9 @@ ghost use Rattle.rlsf_trace_runs.specs.Replays.{not_read, IsOutputFault, IsRepla
 use crate::boxes::boxes_of;
 use crate::draw::{Scene, drawing};
 use crate::legend::{denied_of, legend_of};
-use crate::pools::pools_of;
+use crate::pools::{parts_of, pools_of};
 use crate::window::{Lines, Window};
-use rlsf_trace_runs::{Watched, read_input, watch_trace, write_text};
+use rlsf_trace_runs::{Watched, bad_word_of, read_input, watch_trace, write_text};
 use rlsf_trace_text::{Fault, ReplayFault, Trace};
 use std::alloc::{AllocError, Global};
 use std::io::{Read, Write};
@@ -18,12 +18,13 @@ use std::io::{Read, Write};
 /// Reads a trace from the rest of the reader, runs it on a new allocator, and writes a drawing of the calls of some lines.
 ///
 /// The faults are those of `rlsf_trace_runs::replay`, in its order. Nothing is written with any fault but `Write`, and with that one a
-/// beginning of the drawing may be.
+/// beginning of the drawing may be. After `BadNumber`, `word` is the word that isn't such a number. No clause says that.
 pub(crate) fn map<R: Read, W: Write>(
     alloc: Global,
     reader: &mut R,
     writer: &mut W,
     lines: Lines,
+    word: &mut Option<String>,
 ) -> Result<(), ReplayFault>
     ensures end { OnOk result (IsAtEnd (R.remaining reader.new)) }
     ensures fault { IfErr result (λ f. IfSome (R.remaining reader.old) (λ input. IsReplayFault input f)) }
@@ -31,7 +32,13 @@ pub(crate) fn map<R: Read, W: Write>(
     ensures silent { IfErr result (λ f. f.fault ≢ Fault.Write → W.contents writer.new ≡ W.contents writer.old) }
 {
     let input = read_input(alloc, reader).map_err(|fault| fault.at_line(0))?;
-    let text = text_for(alloc, &input, lines)?;
+    let text = match text_for(alloc, &input, lines) {
+        Ok(text) => text,
+        Err(fault) => {
+            *word = bad_word_of(alloc, &input, fault);
+            return Err(fault);
+        }
+    };
     write_text(writer, text.as_bytes()).map_err(|fault| fault.at_line(0))
 }
 
@@ -54,11 +61,13 @@ fn drawing_for(
     lines: Lines,
 ) -> Result<String, AllocError> {
     let window = Window::new(lines, trace.ops.len());
-    let pools = pools_of(alloc, &trace.ops, &watched.answers)?;
+    let parts = parts_of(alloc, &trace.ops, &watched.answers)?;
+    let pools = pools_of(alloc, &parts)?;
     let boxes = boxes_of(alloc, &trace.ops, watched, window)?;
     let denied = denied_of(alloc, &watched.answers, window)?;
     let scene = Scene {
         window,
+        parts: &parts,
         pools: &pools,
         boxes: &boxes.boxes,
         blocks: &watched.blocks,

@@ -1,54 +1,86 @@
-//! The pools of the allocator.
+//! The pools of the allocator, and the parts of them that came at once.
 
 use rlsf_trace_text::{Answer, Op};
 use std::alloc::{AllocError, Global};
 
-/// A range that was inserted.
+/// What a pool begins at a multiple of.
+const GRANULARITY: usize = 32;
+
+/// A part of a pool: what one call inserted or appended.
+#[derive(Clone, Copy)]
+pub(crate) struct Part {
+    /// Its first address.
+    pub(crate) start: u128,
+    /// The address behind it.
+    pub(crate) end: u128,
+    /// The index of the call that inserted or appended it.
+    pub(crate) since: usize,
+    // Whether it was appended.
+    is_appended: bool,
+}
+
+/// A pool: where it begins, and where it ends after the last call.
 #[derive(Clone, Copy)]
 pub(crate) struct Pool {
     /// Its first address.
-    pub(crate) start: usize,
-    /// How many of its bytes the pool has.
-    pub(crate) len: usize,
-    /// The index of the call that inserted it.
-    pub(crate) since: usize,
-}
-
-impl Pool {
+    pub(crate) start: u128,
     /// The address behind it.
-    pub(crate) fn end(self) -> u128 {
-        self.start as u128 + self.len as u128
-    }
+    pub(crate) end: u128,
 }
 
-/// The ranges that were inserted or appended.
-pub(crate) fn pools_of(
+/// The parts of the pools, in the order of their calls.
+pub(crate) fn parts_of(
     alloc: Global,
     ops: &[Op],
     answers: &[Answer],
-) -> Result<Vec<Pool>, AllocError> {
-    let mut pools = Vec::new(alloc);
+) -> Result<Vec<Part>, AllocError> {
+    let mut parts = Vec::new(alloc);
     for index in 0..ops.len() {
-        if let Some(pool) = pool_of(ops, answers, index) {
-            pools.push(pool)?;
+        if let Some(part) = part_of(ops, answers, index) {
+            parts.push(part)?;
         }
+    }
+    Ok(parts)
+}
+
+// What the call of an index inserted or appended. A pool begins at the start of its range, rounded up to a multiple of 32.
+fn part_of(ops: &[Op], answers: &[Answer], since: usize) -> Option<Part> {
+    match (*ops.get(since)?, *answers.get(since)?) {
+        (Op::Insert(range), Answer::Inserted(Some(len))) => Some(Part {
+            start: range.start.checked_next_multiple_of(GRANULARITY)? as u128,
+            end: range.start as u128 + len.get() as u128,
+            since,
+            is_appended: false,
+        }),
+        (Op::Append(range), Answer::Appended(len)) if len > 0 => Some(Part {
+            start: range.start as u128,
+            end: range.start as u128 + len as u128,
+            since,
+            is_appended: true,
+        }),
+        _ => None,
+    }
+}
+
+/// The pools of these parts, in the order in which they were inserted. An appended part lengthens the pool that ends where it begins.
+pub(crate) fn pools_of(alloc: Global, parts: &[Part]) -> Result<Vec<Pool>, AllocError> {
+    let mut pools = Vec::new(alloc);
+    for part in parts {
+        add_part(&mut pools, *part)?;
     }
     Ok(pools)
 }
 
-// The range that the call of an index inserted or appended.
-fn pool_of(ops: &[Op], answers: &[Answer], since: usize) -> Option<Pool> {
-    match (*ops.get(since)?, *answers.get(since)?) {
-        (Op::Insert(range), Answer::Inserted(Some(len))) => Some(Pool {
-            start: range.start,
-            len: len.get(),
-            since,
-        }),
-        (Op::Append(range), Answer::Appended(len)) if len > 0 => Some(Pool {
-            start: range.start,
-            len,
-            since,
-        }),
-        _ => None,
+fn add_part(pools: &mut Vec<Pool>, part: Part) -> Result<(), AllocError> {
+    let Part { start, end, .. } = part;
+    if part.is_appended {
+        if let Some(place) = pools.iter().position(|pool| pool.end == start) {
+            if let Some(pool) = pools.get_mut(place) {
+                pool.end = end;
+                return Ok(());
+            }
+        }
     }
+    pools.push(Pool { start, end })?;
+    Ok(())
 }

@@ -1,7 +1,7 @@
 //! Where calls and addresses are on the drawing.
 
 use crate::colour::Colour;
-use crate::pools::Pool;
+use crate::pools::Part;
 use crate::window::Window;
 use std::fmt;
 
@@ -79,13 +79,9 @@ pub(crate) struct Scale {
 
 impl Scale {
     /// The scale of a window, and of all addresses from the first pool to the last one's end.
-    pub(crate) fn new(window: Window, pools: &[Pool]) -> Scale {
-        let low = pools
-            .iter()
-            .map(|pool| pool.start as u128)
-            .min()
-            .unwrap_or(0);
-        let high = pools.iter().map(|pool| pool.end()).max().unwrap_or(0);
+    pub(crate) fn new(window: Window, parts: &[Part]) -> Scale {
+        let low = parts.iter().map(|part| part.start).min().unwrap_or(0);
+        let high = parts.iter().map(|part| part.end).max().unwrap_or(0);
         Scale {
             first: window.first as u128,
             calls: (window.len() as u128).max(1),
@@ -108,6 +104,12 @@ impl Scale {
     /// The address behind the greatest one.
     pub(crate) fn high(self) -> u128 {
         self.low.saturating_add(self.bytes)
+    }
+
+    /// The address that so many quarters of the addresses lie below.
+    pub(crate) fn between(self, quarters: u128) -> u128 {
+        self.low
+            .saturating_add(self.bytes.saturating_mul(quarters) / 4)
     }
 
     /// Where an address is, from bottom to top: the greater the address, the less is what SVG calls `y`.

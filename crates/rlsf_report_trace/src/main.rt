@@ -1,14 +1,15 @@
 //! Counts what a trace of allocator calls does: reads it from standard input, and writes a table to standard output. With `--csv` it
 //! writes a line for each call instead.
 //!
-//! Read `report.rt` first. `kinds.rt` and `counts.rt` count the calls, `summary.rt` and `sizes.rt` payloads and bytes, and `advice.rt`
-//! computes lengths of pools. `table.rt` and `csv.rt` print.
+//! Read `report.rt` first. `kinds.rt` and `counts.rt` count the calls, `refusals.rt` lists those that are refused, `summary.rt` and
+//! `sizes.rt` count payloads and bytes, and `advice.rt` computes lengths of pools. `table.rt` and `csv.rt` print.
 #![tactic(auto)]
 
 mod advice;
 mod counts;
 mod csv;
 mod kinds;
+mod refusals;
 mod report;
 mod sizes;
 mod summary;
@@ -25,10 +26,20 @@ fn main(rt: HostRuntime) -> ExitCode {
         let _ = eprintln!(rt; "usage: rlsf_report_trace [--csv] < TRACE");
         return ExitCode::from(2);
     };
-    let outcome = report(rt.alloc(), &mut rt.stdin(), &mut rt.stdout(), form);
+    let mut word = None;
+    let outcome = report(
+        rt.alloc(),
+        &mut rt.stdin(),
+        &mut rt.stdout(),
+        form,
+        &mut word,
+    );
     if let Err(fault) = &outcome {
         // If standard error fails too, only the status shows the fault.
         let _ = eprintln!(rt; "{fault}");
+        if let Some(word) = word {
+            let _ = eprintln!(rt; "the word is {word:?}");
+        }
     }
     ExitCode::from(status(&outcome))
 }

@@ -8,10 +8,11 @@ ghost use Rattle.rlsf_trace_runs.specs.Replays.{no_memory, not_read, IsOutputFau
 use crate::advice::advice_of;
 use crate::counts::counts_of;
 use crate::csv::csv_of;
+use crate::refusals::{print_refusals, refusals_of};
 use crate::sizes::asked_bytes;
 use crate::summary::summary_of;
-use crate::table::table_of;
-use rlsf_trace_runs::{Watched, read_input, watch_trace, write_text};
+use crate::table::{print_advice, print_counts, print_summary};
+use rlsf_trace_runs::{Watched, bad_word_of, read_input, watch_trace, write_text};
 use rlsf_trace_text::{Fault, ReplayFault, Trace};
 use std::alloc::Global;
 use std::io::{Read, Write};
@@ -28,12 +29,13 @@ pub(crate) enum Form {
 /// Reads a trace from the rest of the reader, runs it on a new allocator, and writes its report.
 ///
 /// The faults are those of `rlsf_trace_runs::replay`, in its order. Nothing is written with any fault but `Write`, and with that one a
-/// beginning of the text may be.
+/// beginning of the text may be. After `BadNumber`, `word` is the word that isn't such a number. No clause says that.
 pub(crate) fn report<R: Read, W: Write>(
     alloc: Global,
     reader: &mut R,
     writer: &mut W,
     form: Form,
+    word: &mut Option<String>,
 ) -> Result<(), ReplayFault>
     ensures end { OnOk result (IsAtEnd (R.remaining reader.new)) }
     ensures fault { IfErr result (λ f. IfSome (R.remaining reader.old) (λ input. IsReplayFault input f)) }
@@ -41,7 +43,13 @@ pub(crate) fn report<R: Read, W: Write>(
     ensures silent { IfErr result (λ f. f.fault ≢ Fault.Write → W.contents writer.new ≡ W.contents writer.old) }
 {
     let input = read_input(alloc, reader).map_err(|fault| fault.at_line(0))?;
-    let text = text_for(alloc, &input, form)?;
+    let text = match text_for(alloc, &input, form) {
+        Ok(text) => text,
+        Err(fault) => {
+            *word = bad_word_of(alloc, &input, fault);
+            return Err(fault);
+        }
+    };
     write_text(writer, text.as_bytes()).map_err(|fault| fault.at_line(0))
 }
 
@@ -64,8 +72,16 @@ fn table_for(alloc: Global, trace: &Trace, watched: &Watched) -> Result<String, 
     ensures { IfErr result (λ f. (f ≡ out_of_memory) ⊎ (f ≡ no_memory)) }
 {
     let counts = counts_of(alloc, &trace.ops, &watched.answers)?;
+    let refusals = refusals_of(alloc, &trace.ops, &watched.answers)?;
     let summary = summary_of(watched);
     let asked = asked_bytes(alloc, &trace.ops, &watched.answers)?;
     let advice = advice_of(alloc, trace, watched)?;
-    Ok(table_of(alloc, &counts, summary, asked, advice)?)
+    let mut text = String::new(alloc);
+    print_counts(&mut text, &counts)?;
+    print_refusals(&mut text, &refusals)?;
+    print_summary(&mut text, summary, asked)?;
+    if let Some(advice) = advice {
+        print_advice(&mut text, trace.configuration, advice)?;
+    }
+    Ok(text)
 }

@@ -4,26 +4,11 @@ use crate::advice::Advice;
 use crate::counts::Count;
 use crate::summary::Summary;
 use rlsf_trace_runs::Moment;
-use std::alloc::{AllocError, Global};
+use rlsf_trace_text::Configuration;
+use std::alloc::AllocError;
 
-/// The table of a report.
-pub(crate) fn table_of(
-    alloc: Global,
-    counts: &[Count],
-    summary: Summary,
-    asked: u128,
-    advice: Option<Advice>,
-) -> Result<String, AllocError> {
-    let mut text = String::new(alloc);
-    print_counts(&mut text, counts)?;
-    print_summary(&mut text, summary, asked)?;
-    if let Some(advice) = advice {
-        print_advice(&mut text, advice)?;
-    }
-    Ok(text)
-}
-
-fn print_counts(text: &mut String, counts: &[Count]) -> Result<(), AllocError> {
+/// Prints a line for each kind of calls.
+pub(crate) fn print_counts(text: &mut String, counts: &[Count]) -> Result<(), AllocError> {
     text.push_str("call            lines   no room   refused\n")?;
     for count in counts {
         let Count {
@@ -37,7 +22,12 @@ fn print_counts(text: &mut String, counts: &[Count]) -> Result<(), AllocError> {
     Ok(())
 }
 
-fn print_summary(text: &mut String, summary: Summary, asked: u128) -> Result<(), AllocError> {
+/// Prints what the allocator held, and how many bytes its payloads asked for.
+pub(crate) fn print_summary(
+    text: &mut String,
+    summary: Summary,
+    asked: u128,
+) -> Result<(), AllocError> {
     let Summary {
         last: Moment { live, usable },
         most_live,
@@ -62,7 +52,12 @@ longest free block              {longest:>15}"
     )
 }
 
-fn print_advice(text: &mut String, advice: Advice) -> Result<(), AllocError> {
+/// Prints the advice for a trace of a configuration.
+pub(crate) fn print_advice(
+    text: &mut String,
+    configuration: Configuration,
+    advice: Advice,
+) -> Result<(), AllocError> {
     let Advice {
         live,
         size,
@@ -75,7 +70,7 @@ fn print_advice(text: &mut String, advice: Advice) -> Result<(), AllocError> {
         text,
         "\n{live} payloads of up to {size} bytes at multiples of up to {align}"
     )?;
-    print_enough(text, enough)?;
+    print_enough(text, configuration, enough)?;
     print_half(text, inserted / 2, first_denied)
 }
 
@@ -97,9 +92,29 @@ fn print_half(
     }
 }
 
-fn print_enough(text: &mut String, enough: Option<usize>) -> Result<(), AllocError> {
+fn print_enough(
+    text: &mut String,
+    configuration: Configuration,
+    enough: Option<usize>,
+) -> Result<(), AllocError> {
     match enough {
         Some(len) => writeln!(text, "never refused in a pool of      {len:>15}"),
-        None => text.push_str("no pool is so long that it never refuses them\n"),
+        None => {
+            let most = longest_chunk(configuration);
+            writeln!(
+                text,
+                "no pool never refuses them: a chunk has at most {most} bytes"
+            )
+        }
+    }
+}
+
+// How many bytes a chunk has at most: `MAX_POOL_SIZE`, or the greatest multiple of 32 where that is more.
+fn longest_chunk(configuration: Configuration) -> usize {
+    match configuration {
+        Configuration::OneByOne => 64,
+        Configuration::EightByEight | Configuration::EightByOne => 8192,
+        Configuration::TwelveBySixteen => 131072,
+        Configuration::FiftyNineByEight => 18446744073709551584,
     }
 }
