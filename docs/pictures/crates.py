@@ -16,10 +16,10 @@ WIDTH, LEFT, GAP, LINE = 1200, 190, 8, 15
 # Layers from top to bottom: name, what they are, colour, and rows of boxes (share of the width, crates, lines of text, marked).
 LAYERS = [
     ("Tests", "in crates of their own, so that what they test is proved once", "#eeeeee", [
-        [(1, "rlsf_test_tlsf", "calls of Tlsf and of libraries"), (1, "rlsf_test_heap", "heaps, with threads"),
-         (1, "rlsf_test_flex", "sources and FlexTlsf"), (1, "rlsf_test_global", "lock and journal, with threads")],
-        [(1, "rlsf_test_base", "integers and memories"), (1, "rlsf_test_trace", "traces"),
-         (2, "rlsf_compare_model", "comparison with the model in Python")],
+        [(1, "rlsf_test_tlsf", "calls of Tlsf and of libraries"), (1, "rlsf_test_heap", "heaps of one thread"),
+         (1, "rlsf_test_shared_heap", "heaps and queues, with threads"), (1, "rlsf_test_flex", "sources and FlexTlsf")],
+        [(1, "rlsf_test_global", "lock and journal, with threads"), (1, "rlsf_test_base", "integers and memories"), (1, "rlsf_test_trace", "traces"),
+         (1, "rlsf_compare_model", "comparison with the model in Python")],
     ]),
     ("Benchmarks", "one set of steps, three programs", "#eeeeee", [
         [(1, "rlsf_bench_common", "the steps"), (1, "rlsf_bench", "Tlsf"), (1, "rlsf_bench_heap", "Heap"),

@@ -1,17 +1,14 @@
 //! Tests of `rlsf_heap` and `rlsf_local_heap`. This crate has no other code, so that these two are proved once.
 //!
 //! In reading order: `answers` has the assertions; `pair` and `growing` are programs without a proof file; `rows` and `resized_rows`
-//! compare the addresses of payloads with worked examples, as tables of steps; `ends` and `drops` show that dropped heaps deallocate
-//! their memory; `lent` lends ranges, and gets them back; `local` has collections in a heap, `in_place` vectors that grow and shrink there, `sizes` blocks of each size, and
-//! `printed` what is printed of one; `pools` fills new heaps and tenants; `raw` takes a payload apart; `thin` has payloads by their
-//! address, in `unknown_align` also of any alignment; `shared` and `returned` share a heap between threads, and take it apart again;
-//! `shared_rows` has the addresses of its payloads; `sent` sends payloads between threads, and `queue` numbers.
+//! compare the addresses of payloads with worked examples, as tables of steps; `ends` shows that dropped heaps deallocate their memory;
+//! `lent` lends ranges, and gets them back; `local` has collections in a heap, `in_place` vectors that grow and shrink there, `sizes`
+//! blocks of each size, and `printed` what is printed of one; `pools` fills new heaps and tenants; `raw` takes a payload apart; `thin` has
+//! payloads by their address, in `unknown_align` also of any alignment.
 #![tactic(auto)]
 
 #[cfg(test)]
 mod answers;
-#[cfg(test)]
-mod drops;
 #[cfg(test)]
 mod ends;
 #[cfg(test)]
@@ -29,21 +26,11 @@ mod pools;
 #[cfg(test)]
 mod printed;
 #[cfg(test)]
-mod queue;
-#[cfg(test)]
 mod raw;
 #[cfg(test)]
 mod resized_rows;
 #[cfg(test)]
-mod returned;
-#[cfg(test)]
 mod rows;
-#[cfg(test)]
-mod sent;
-#[cfg(test)]
-mod shared;
-#[cfg(test)]
-mod shared_rows;
 #[cfg(test)]
 mod sizes;
 #[cfg(test)]
