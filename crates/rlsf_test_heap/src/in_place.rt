@@ -78,6 +78,30 @@ pub(crate) fn shrink_and_grow_again<A: Allocator + Copy, F: Fn() -> [usize; 3]>(
     Ok([grown, shrunk, kept, again, [kept_again, 0, 0]])
 }
 
+/// A vector with room for 375 words shrinks to six of them, to one, and to none.
+pub(crate) fn shrink_to_a_few<A: Allocator + Copy, F: Fn() -> [usize; 3]>(
+    alloc: A,
+    counts: F,
+) -> Result<Found, AllocError>
+    requires { F.IsAlwaysCallable counts }
+{
+    let mut words = squares_of(alloc)?;
+    words.truncate(6);
+    words.shrink_to_fit();
+    let six = counts();
+    let last = words.last().copied().unwrap_or(0) as usize;
+    let of_six = words.capacity();
+    words.truncate(1);
+    words.shrink_to_fit();
+    let one = counts();
+    let of_one = words.capacity();
+    words.clear();
+    words.shrink_to_fit();
+    let none = counts();
+    let places = [of_six, of_one, words.capacity()];
+    Ok([six, one, none, places, [of_six, last, words.len()]])
+}
+
 /// A vector of 2,000 bytes is refused 1,000 more.
 pub(crate) fn refuse_to_grow<A: Allocator + Copy, F: Fn() -> [usize; 3]>(
     alloc: A,
@@ -174,6 +198,11 @@ fn a_vector_grows_into_the_free_block_behind_it(rt: HostRuntime) -> Result<(), F
 #[test]
 fn a_vector_that_shrinks_returns_bytes(rt: HostRuntime) -> Result<(), Fail> {
     passes_in_a_heap(&rt, 4096, Case::ShrinkAndGrowAgain)
+}
+
+#[test]
+fn a_vector_that_shrinks_to_a_few_values_has_a_short_block(rt: HostRuntime) -> Result<(), Fail> {
+    passes_in_a_heap(&rt, 4096, Case::ShrinkToAFew)
 }
 
 #[test]

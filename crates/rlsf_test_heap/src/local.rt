@@ -5,6 +5,7 @@
 use crate::answers::{all, are};
 use crate::in_place::{
     grow_by_the_block_behind, keep_texts, move_to_grow, refuse_to_grow, shrink_and_grow_again,
+    shrink_to_a_few,
 };
 use crate::sizes::serve_each_size;
 use rlsf_base::memory::{OpenMemory, Range};
@@ -59,6 +60,7 @@ pub(crate) enum Case {
     FillAndClear,
     GrowByTheBlockBehind,
     ShrinkAndGrowAgain,
+    ShrinkToAFew,
     RefuseToGrow,
     MoveToGrow,
     KeepTexts,
@@ -86,6 +88,7 @@ fn found<A: Allocator + Copy, F: Fn() -> [usize; 3]>(
         Case::FillAndClear => fill_and_clear(alloc),
         Case::GrowByTheBlockBehind => grow_by_the_block_behind(alloc, counts),
         Case::ShrinkAndGrowAgain => shrink_and_grow_again(alloc, counts),
+        Case::ShrinkToAFew => shrink_to_a_few(alloc, counts),
         Case::RefuseToGrow => refuse_to_grow(alloc, counts),
         Case::MoveToGrow => move_to_grow(alloc, counts),
         Case::KeepTexts => keep_texts(alloc),
@@ -121,6 +124,14 @@ fn expected(case: Case) -> Found {
             [125, 1, 0],
             [1, 4032, 64],
             [1, 0, 0],
+        ],
+        // 64 and 24 bytes, of which the second are rounded up to 32.
+        Case::ShrinkToAFew => [
+            [1, 64, 4032],
+            [1, 32, 4064],
+            [0, 0, 4096],
+            [6, 1, 0],
+            [6, 25, 0],
         ],
         Case::RefuseToGrow => [
             [2, 2048, 2048],

@@ -1,9 +1,12 @@
-//! The one pool of an allocator of collections, and of a tenant: all of its memory but what the heap keeps for itself.
+//! The one pool of an allocator of collections, and of a tenant: all of its memory but what the heap keeps for itself. Tenants that are
+//! refused, that have a long range, and that share a pool.
+ghost use Rattle.std.specs.Prelude.{◌≡◌};
+
 use crate::answers::all;
 use rlsf_base::memory::{OpenMemory, Range};
 use rlsf_heap::Heap;
 use rlsf_local_heap::{LocalHeap, Tenant};
-use std::alloc::Allocator;
+use std::alloc::{Allocator, Global};
 use std::process::Abort;
 
 /// Chunks of any length.
@@ -14,6 +17,9 @@ type Small = Heap<u16, u16, 12, 16>;
 
 /// A heap over a range of another's memory.
 type Room = Tenant<u16, u16, 12, 16>;
+
+/// The same, of any length.
+type LargeRoom = Tenant<u64, u64, 59, 8>;
 
 /// Whether a vector alone in a heap gets room for so many bytes, and for no more. For 0 bytes, whether it gets none.
 fn takes<A: Allocator + Copy>(alloc: A, bytes: usize) -> bool {
@@ -93,4 +99,96 @@ fn a_tenant_has_all_of_its_range(rt: HostRuntime) {
     // The pool is one free block again, in the last class of the last row.
     let first = pool.first_free(11, 15).map_or(0, |addr| addr.get());
     all(&rt, &[pool.live() == 0, first == 4096]);
+}
+
+/// Whether a pool of `lessor` has so many live payloads and, if there is none, its one free block.
+fn has_live(pool: &Small, live: usize) -> bool {
+    let first = pool.first_free(11, 15).map_or(0, |addr| addr.get());
+    pool.live() == live && (live > 0 || first == 4096)
+}
+
+/// Whether a pool refuses a tenant of `len` bytes, and has as many live payloads as before then.
+fn refuses(alloc: Global, pool: &mut Small, len: usize, live: usize) -> bool
+    ensures { pool.new.identity ≡ pool.old.identity }
+{
+    let is_refused = Room::new(pool, alloc, len).is_none();
+    is_refused && has_live(pool, live)
+}
+
+// The last class of blocks begins at 126,976 bytes, and a payload has 16 bytes before it. A range of 100,003 leaves a block of 31,008 bytes,
+// whose class begins at 30,720.
+#[test]
+fn a_refused_tenant_leaves_no_payload(rt: HostRuntime) {
+    let mut pool = lessor(&rt);
+    let empty = [
+        refuses(rt.alloc(), &mut pool, 126961, 0),
+        refuses(rt.alloc(), &mut pool, 1 << 58, 0),
+        refuses(rt.alloc(), &mut pool, usize::MAX, 0),
+    ];
+    let room = Room::new(&mut pool, rt.alloc(), 100003).expect(&rt, "room");
+    let beside = [
+        refuses(rt.alloc(), &mut pool, 30705, 1),
+        refuses(rt.alloc(), &mut pool, 65536, 1),
+    ];
+    let ended = room.end(&mut pool);
+    all(&rt, &empty);
+    all(&rt, &beside);
+    all(&rt, &[ended, has_live(&pool, 0)]);
+}
+
+/// Passes if a tenant of a range of so many bytes ends, and leaves no payload.
+fn comes_and_goes(
+    rt: &(impl Abort + AllocGlobal),
+    pool: &mut Heap<u64, u64, 59, 8>,
+    len: usize,
+    bytes: usize,
+) {
+    let room = LargeRoom::new(pool, rt.alloc(), len).expect(rt, "room");
+    let is_taken = takes(room.heap(), bytes);
+    all(rt, &[is_taken, pool.live() == 1, room.end(pool)]);
+    all(rt, &[pool.live() == 0]);
+}
+
+// A range of so many bytes has 16 more, and 64 are the sentinel's, the block's and those that are left over. Two of the longest don't fit.
+#[test]
+fn a_tenant_of_a_long_range_ends(rt: HostRuntime) {
+    let memory = OpenMemory::reserve(rt.alloc(), 4096, 1 << 22).expect(&rt, "memory");
+    let mut pool = Heap::new(memory);
+    pool.insert_free_block_ptr(Range {
+        start: 4096,
+        len: 1 << 22,
+    });
+    comes_and_goes(&rt, &mut pool, 1 << 17, 131024);
+    comes_and_goes(&rt, &mut pool, 1 << 20, 1048528);
+    comes_and_goes(&rt, &mut pool, 3 << 20, 3145680);
+    comes_and_goes(&rt, &mut pool, 3 << 20, 3145680);
+}
+
+/// Passes if a tenant lives beside others in a pool, and ends.
+fn nest(rt: &(impl Abort + AllocGlobal), pool: &mut Small) {
+    let first = Room::new(pool, rt.alloc(), 20000).expect(rt, "room");
+    let second = Room::new(pool, rt.alloc(), 20000).expect(rt, "room");
+    let third = Room::new(pool, rt.alloc(), 2033).expect(rt, "room");
+    let fourth = Room::new(pool, rt.alloc(), 20000).expect(rt, "room");
+    let all_live = has_live(pool, 4);
+    let taken = [
+        takes(first.heap(), 19952),
+        takes(second.heap(), 19952),
+        takes(third.heap(), 2000),
+        takes(fourth.heap(), 19952),
+    ];
+    let ended = [
+        third.end(pool),
+        first.end(pool),
+        fourth.end(pool),
+        second.end(pool),
+    ];
+    all(rt, &taken);
+    all(rt, &ended);
+    all(rt, &[all_live, has_live(pool, 0)]);
+}
+
+#[test]
+fn four_tenants_share_a_pool(rt: HostRuntime) {
+    nest(&rt, &mut lessor(&rt));
 }
