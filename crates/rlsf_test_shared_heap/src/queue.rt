@@ -132,7 +132,7 @@ struct Meeting {
 }
 
 /// Sleeps for a thousandth of a second.
-fn nap<R: Wait>(rt: &R) {
+pub(crate) fn nap<R: Wait>(rt: &R) {
     AtomicU64::new(0).park_timeout(rt, 0, Duration::from_millis(1));
 }
 

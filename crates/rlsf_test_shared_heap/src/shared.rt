@@ -36,14 +36,19 @@ fn shared_heap(alloc: Global) -> Result<Shared, Fail> {
     Ok(Shared::new(heap))
 }
 
-/// A payload that is filled with a byte.
+/// A payload that is filled with a byte. It is raw before if that is even.
 fn filled<R: Wait>(rt: &R, shared: &Shared, size: usize, mark: u8) -> Option<Payload>
     ensures identity { IfSome result (λ p. p.identity ≡ shared.now.identity) }
     ensures written { IfSome result (λ p. IsWritten p) }
 {
     let layout = Layout::from_size_align(size, 16).ok()?;
-    let mut payload = shared.allocate_zeroed(rt, layout)?;
-    payload.as_mut_slice().fill(mark);
+    let payload = if mark % 2 == 0 {
+        shared.allocate(rt, layout)
+    } else {
+        shared.allocate_zeroed(rt, layout)
+    };
+    let mut payload = payload?;
+    payload.fill(mark);
     Some(payload)
 }
 
