@@ -4,7 +4,10 @@
 #include "want.h"
 #include <malloc.h>
 #include <pthread.h>
+#include <signal.h>
+#include <stdatomic.h>
 #include <string.h>
+#include <sys/resource.h>
 #include <sys/wait.h>
 
 static void announce(const char *call, const void *payload) {
@@ -48,7 +51,10 @@ static void misuse(size_t number) {
 }
 
 /* The usable size is what was asked for, unless a child of several threads has no checks. */
+static atomic_int begun;
 static void *work(void *is_child) {
+    free(malloc(1));
+    begun++;
     for (size_t n = 0; n < 3000; n++) {
         size_t size = n * 37 % 5000 + (n % 500 == 0) * 2000000;
         char *payload = n % 3 == 0 ? malloc(size) : n % 3 == 1 ? calloc(1, size) : aligned_alloc(256, size);
@@ -62,23 +68,50 @@ static void *work(void *is_child) {
     return is_child;
 }
 
+/* Runs a child, and returns its status. */
+static int status_of(void (*run)(void)) {
+    int status = 1;
+    pid_t child = fork();
+    if (child == 0) {
+        run();
+        _exit(0);
+    }
+    WANT(waitpid(child, &status, 0), child);
+    return status;
+}
+
+static void in_child_of_one(void) { work(NULL); }
+static void free_twice(void) {
+    char *volatile payload = malloc(100);
+    free(payload);
+    free(payload);
+}
+
+/* No call is checked: so the usable bytes are those of the block, of 128 bytes, and a wrong size isn't seen. */
+static void in_child_of_several(void) {
+    char *volatile payload = malloc(100);
+    WANT(malloc_usable_size(payload), 112);
+    memset(payload, 1, 112);
+    free(payload);
+    work(&begun);
+}
+
+/* A child of one thread is checked as its parent is, and one of several threads isn't. */
 static void right_calls(void) {
     pthread_t threads[4];
+    free(malloc(1));
+    WANT(status_of(in_child_of_one), 0);
+    WANT(status_of(free_twice), SIGABRT);
     for (size_t n = 0; n < 4; n++) WANT(pthread_create(&threads[n], NULL, work, NULL), 0);
-    for (size_t n = 0; n < 20; n++) {
-        int status = 1;
-        pid_t child = fork();
-        if (child == 0) {
-            work(&status);
-            _exit(0);
-        }
-        WANT(waitpid(child, &status, 0), child);
-        WANT(status, 0);
-    }
+    while (begun < 4) usleep(100);
+    for (size_t n = 0; n < 20; n++) WANT(status_of(in_child_of_several), 0);
+    WANT(malloc_usable_size(memset(malloc(100), 1, 100)), 100);
     for (size_t n = 0; n < 4; n++) WANT(pthread_join(threads[n], NULL), 0);
 }
 
 int main(int count, char **words) {
+    struct rlimit none = {0, 0}; /* a report leaves no core */
+    setrlimit(RLIMIT_CORE, &none);
     setvbuf(stdout, NULL, _IONBF, 0);
     if (count > 1) misuse(strtoul(words[1], NULL, 10));
     else right_calls();

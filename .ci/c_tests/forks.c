@@ -3,7 +3,9 @@
 #include "want.h"
 #include <errno.h>
 #include <malloc.h>
+#include "info.h"
 #include <pthread.h>
+#include <sched.h>
 #include <signal.h>
 #include <stdint.h>
 #include <stdatomic.h>
@@ -16,6 +18,7 @@
 static volatile int done;
 static volatile int raises; /* whether a fork raises a signal */
 static volatile int slow;   /* whether malloc's lock is held for long */
+static atomic_int unmaps;   /* how many threads return memory, in which malloc's lock is held */
 
 static void wait_for(pid_t child) {
     int status = 0, error = errno;
@@ -60,11 +63,13 @@ static void allocate_early(void) {
     }
 }
 
-/* A signal in each fork. What is registered first runs last: after what malloc does before a fork, and before what it does behind one. */
-static void raise_one(void) {
+/* What is registered first runs last: after what malloc does before a fork, and before what it does behind one. So there is a signal in each
+ * fork, or another thread has malloc's lock then. */
+static void before_fork(void) {
     if (raises) raise(SIGUSR1);
+    for (size_t n = 0; slow && !unmaps && n < 200; n++) usleep(100);
 }
-static void watch_forks(void) { pthread_atfork(raise_one, NULL, allocate_early); }
+static void watch_forks(void) { pthread_atfork(before_fork, NULL, allocate_early); }
 __attribute__((section(".preinit_array"), used)) static void (*before_constructors)(void) = watch_forks;
 
 /* A signal while malloc asks the system for memory, or returns some: these functions take the place of the C library's there. */
@@ -74,7 +79,9 @@ void *mmap(void *at, size_t len, int access, int flags, int file, off_t offset) 
 }
 int munmap(void *at, size_t len) {
     if (raises) raise(SIGUSR1);
+    unmaps++;
     if (slow) usleep(3000);
+    unmaps--;
     return (int)syscall(SYS_munmap, at, len);
 }
 
@@ -133,14 +140,26 @@ static void *allocate(void *unused) {
 }
 
 /* What the main thread allocated is freed by others, while it forks. */
-static _Atomic(unsigned char *) given[256];
+enum { GIVEN = 1024 };
+static _Atomic(unsigned char *) given[GIVEN];
 static void *free_given(void *unused) {
     while (!done)
-        for (size_t n = 0; n < 256; n++) {
+        for (size_t n = 0; n < GIVEN; n++) {
             unsigned char *payload = atomic_exchange(&given[n], NULL);
-            if (payload) WANT(payload[0], (unsigned char)n);
+            if (!payload) continue;
+            WANT(payload[0], (unsigned char)n);
             free(payload);
+            sched_yield();
         }
+    return unused;
+}
+static void *give(void *unused) {
+    for (size_t n = 0; n < GIVEN; n++)
+        if (!given[n]) given[n] = memset(malloc(200), (int)n, 200);
+    return unused;
+}
+static void *free_all(void *unused) {
+    for (size_t n = 0; n < GIVEN; n++) free(atomic_exchange(&given[n], NULL));
     return unused;
 }
 
@@ -149,7 +168,37 @@ static size_t used(void) {
     return mallinfo2().uordblks;
 }
 
-/* Nothing that is freed during a fork is lost, or is freed in the child, too: what lives there keeps its bytes. */
+static void in_thread(void *(*run)(void *)) {
+    pthread_t thread;
+    WANT(pthread_create(&thread, NULL, run, NULL), 0);
+    WANT(pthread_join(thread, NULL), 0);
+}
+
+/* What was freed before a fork is free in the child, too: in the heap of the thread that forks, and in one without a thread. */
+static void free_before_fork(void) {
+    for (size_t round = 0; round < 2; round++) {
+        size_t before = used();
+        if (round) in_thread(give), free_all(NULL);
+        else give(NULL), in_thread(free_all);
+        WANT(mallinfo2().uordblks >= before + GIVEN * 200, 1);
+        pid_t child = fork();
+        if (child == 0) {
+            WANT(used(), before);
+            _exit(0);
+        }
+        wait_for(child);
+        WANT(used(), before);
+    }
+}
+
+/* A child of threads that free: what lives keeps its bytes, and what is allocated is nobody else's. */
+static void in_child_of_givers(unsigned char *const *kept) {
+    for (size_t n = 0; n < 2000; n++) memset(malloc(n % 300), 0xee, n % 300);
+    for (size_t n = 0; n < 256; n++) WANT(kept[n][0] == (unsigned char)n && kept[n][299] == (unsigned char)n, 1);
+    _exit(0);
+}
+
+/* Nothing that is freed during a fork is lost, or is freed twice. */
 static void give_during_forks(void) {
     static unsigned char *kept[256];
     pthread_t threads[4];
@@ -157,22 +206,18 @@ static void give_during_forks(void) {
     for (size_t n = 0; n < 4; n++) WANT(pthread_create(&threads[n], NULL, free_given, NULL), 0);
     for (size_t n = 0; n < 256; n++) memset(kept[n] = malloc(300), (int)n, 300);
     before = used();
-    for (size_t round = 0; round < 300; round++) {
-        for (size_t n = 0; n < 256; n++)
-            if (!given[n]) given[n] = memset(malloc(200), (int)n, 200);
+    for (size_t round = 0; round < 100; round++) {
+        give(NULL);
         pid_t child = fork();
-        if (child == 0) {
-            for (size_t n = 0; n < 2000; n++) memset(malloc(n % 300), 0xee, n % 300);
-            for (size_t n = 0; n < 256; n++) WANT(kept[n][0] == (unsigned char)n && kept[n][299] == (unsigned char)n, 1);
-            _exit(0);
-        }
+        if (child == 0) in_child_of_givers(kept);
         wait_for(child);
     }
-    for (size_t n = 0; n < 256; n++)
+    for (size_t n = 0; n < GIVEN; n++)
         while (given[n]) usleep(100);
     done = 1;
     for (size_t n = 0; n < 4; n++) WANT(pthread_join(threads[n], NULL), 0);
-    WANT(used() <= before, 1);
+    WANT(used(), before);
+    free_before_fork();
 }
 
 /* Begins threads that end: malloc's lock is held while they return memory. */
@@ -206,6 +251,10 @@ static void beside(void *(*first)(void *), void *(*second)(void *)) {
     }
     done = 1;
     for (size_t n = 0; n < 4; n++) WANT(pthread_join(threads[n], NULL), 0);
+    /* Each heap but this thread's was left, also where its thread ended during a fork. */
+    size_t heaps, left;
+    read_heaps(&heaps, &left);
+    WANT(heaps, left + 1);
 }
 
 /* Four threads fork, and allocate meanwhile. */

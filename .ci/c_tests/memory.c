@@ -5,6 +5,7 @@
 #include <malloc.h>
 #include <stdint.h>
 #include <string.h>
+#include <sys/mman.h>
 #include <sys/resource.h>
 
 #define MB ((size_t)1 << 20)
@@ -179,23 +180,66 @@ static void nothing_is_lost(void) {
     WANT(used(), before);
 }
 
-/* What small payloads took goes back by itself, but for a segment. */
+/* What 1 GiB of small payloads took goes back by itself, but for a segment of 32 MiB. */
 static void small_payloads_go_back(void) {
-    static char *payloads[500000];
+    enum { COUNT = 1073742 };
+    static char *payloads[COUNT];
     size_t before = resident(), held = mallinfo2().arena;
-    for (size_t n = 0; n < 500000; n++) payloads[n] = memset(malloc(1000), 1, 1000);
-    WANT(resident() >= before + 476, 1);
-    for (size_t n = 0; n < 500000; n++) free(payloads[n]);
+    memset(payloads, 1, sizeof payloads);
+    before = resident();
+    for (size_t n = 0; n < COUNT; n++) payloads[n] = memset(malloc(1000), 1, 1000);
+    WANT(resident() >= before + 1024, 1);
+    for (size_t n = 0; n < COUNT; n++) free(payloads[n]);
     WANT(resident() <= before + 33, 1);
-    WANT(mallinfo2().arena <= held + 33 * MB, 1);
+    WANT(mallinfo2().arena <= held + 32 * MB, 1);
 }
 
-static void limit_addresses(size_t more) {
+/* A segment's length goes with what the heap has, not with what it had. */
+static void segments_stay_short(void) {
+    static char *payloads[12];
+    malloc_trim(0);
+    size_t held = mallinfo2().arena;
+    for (size_t round = 0; round < 50; round++) {
+        for (size_t n = 0; n < 12; n++) payloads[n] = malloc(900000);
+        for (size_t n = 0; n < 12; n++) free(payloads[n]);
+    }
+    WANT(mallinfo2().arena <= held + 2 * MB, 1);
+}
+
+/* The addresses of this process, in pages. */
+static size_t address_pages(void) {
     unsigned long pages;
     FILE *file = fopen("/proc/self/statm", "r");
     WANT(file != NULL && fscanf(file, "%lu", &pages), 1);
     fclose(file);
-    struct rlimit limit = {pages * (size_t)sysconf(_SC_PAGESIZE) + more, RLIM_INFINITY};
+    return pages;
+}
+
+/* Where the next places are taken, a payload of its own gets no more addresses than it needs, and loses none. It moves without a copy. */
+static void places_are_taken(void) {
+    enum { COUNT = 20 };
+    char *payloads[COUNT], *first = malloc(60 * MB), *taken;
+    size_t before, page = (size_t)sysconf(_SC_PAGESIZE), len = (size_t)64 << 30;
+    taken = mmap(first - (size_t)first % (64 * MB) + 64 * MB, len, PROT_NONE, MAP_PRIVATE | MAP_ANONYMOUS | MAP_NORESERVE | MAP_FIXED_NOREPLACE, -1, 0);
+    WANT(taken != MAP_FAILED, 1);
+    before = address_pages();
+    for (size_t n = 0; n < COUNT; n++) payloads[n] = malloc(MB);
+    WANT(address_pages() - before, COUNT * (MB / page + 1));
+    for (size_t n = 0; n < COUNT; n++) free(payloads[n]);
+    WANT(address_pages(), before);
+    size_t resident_before = resident();
+    first[0] = 5, first[60 * MB - 1] = 6;
+    first = realloc(first, 1024 * MB);
+    WANT(first != NULL && first[0] == 5 && first[60 * MB - 1] == 6, 1);
+    first[1024 * MB - 1] = 7;
+    WANT(resident() <= resident_before + 1, 1);
+    WANT(munmap(taken, len), 0);
+    free(first);
+    WANT(address_pages(), before - 60 * MB / page - 1 - len / page);
+}
+
+static void limit_addresses(size_t more) {
+    struct rlimit limit = {address_pages() * (size_t)sysconf(_SC_PAGESIZE) + more, RLIM_INFINITY};
     WANT(setrlimit(RLIMIT_AS, &limit), 0);
 }
 
@@ -230,6 +274,8 @@ int main(int count, char **words) {
     alignments_in_new_memory();
     usable_sizes();
     nothing_is_lost();
+    segments_stay_short();
+    places_are_taken();
     under_a_limit();
     return 0;
 }

@@ -3,6 +3,7 @@
 #define _GNU_SOURCE
 #include "want.h"
 #include <malloc.h>
+#include "info.h"
 #include <pthread.h>
 #include <stdatomic.h>
 #include <string.h>
@@ -88,15 +89,9 @@ static void *meet(void *unused) {
     return unused;
 }
 
-/* The heaps, and those without a thread. */
 static void want_heaps(size_t wanted, size_t wanted_left) {
-    char text[1000] = {0};
-    size_t heaps = 0, left = 0;
-    FILE *to = fmemopen(text, sizeof text, "w");
-    WANT(malloc_info(0, to), 0);
-    fclose(to);
-    const char *found = strstr(text, "<heaps ");
-    WANT(found && sscanf(found, "<heaps count=\"%zu\" left=\"%zu\"/>", &heaps, &left) == 2, 1);
+    size_t heaps, left;
+    read_heaps(&heaps, &left);
     WANT(heaps, wanted);
     WANT(left, wanted_left);
 }
@@ -125,6 +120,64 @@ static void freed_before_growth(void) {
     for (size_t n = 0; n < 12; n++) payloads[n] = malloc(900000);
     WANT(mallinfo2().arena <= held, 1);
     for (size_t n = 0; n < 12; n++) free(payloads[n]);
+}
+
+/* What a thread allocated keeps its bytes when the thread has ended, and may be freed. What is freed then goes back to the system when another
+ * thread asks it for memory. */
+static void *allocate_all(void *unused) {
+    for (size_t n = 0; n < 20; n++) payloads[n] = memset(malloc(900000), (int)n, 900000);
+    return unused;
+}
+static void payloads_of_an_ended_thread(void) {
+    void *others[15];
+    pthread_t thread;
+    size_t held;
+    WANT(pthread_create(&thread, NULL, allocate_all, NULL), 0);
+    WANT(pthread_join(thread, NULL), 0);
+    held = mallinfo2().arena;
+    for (size_t n = 0; n < 20; n++) {
+        const unsigned char *payload = payloads[n];
+        for (size_t k = 0; k < 900000; k += 999) WANT(payload[k], n);
+        free(payloads[n]);
+    }
+    WANT(mallinfo2().arena, held);
+    for (size_t n = 0; n < 15; n++) others[n] = malloc(900000);
+    WANT(mallinfo2().arena < held, 1);
+    for (size_t n = 0; n < 15; n++) free(others[n]);
+}
+
+/* Of what other threads freed, an allocation frees two payloads: from the 16th one behind their frees on, until there is none left. */
+static void two_in_each_allocation(void) {
+    enum { BLOCK = 1024 };
+    void *others[40];
+    pthread_t thread;
+    size_t before, first = 0;
+    for (size_t n = 0; n < 20; n++) payloads[n] = malloc(1000);
+    before = mallinfo2().uordblks;
+    WANT(pthread_create(&thread, NULL, free_all, NULL), 0);
+    WANT(pthread_join(thread, NULL), 0);
+    WANT(mallinfo2().uordblks, before);
+    for (size_t n = 0; n < 40; n++) {
+        others[n] = malloc(1000);
+        size_t freed = (before + (n + 1) * BLOCK - mallinfo2().uordblks) / BLOCK;
+        if (!freed) first = n + 1;
+        WANT(freed, n < first ? 0 : n < first + 10 ? 2 * (n - first + 1) : 20);
+    }
+    WANT(first < 16, 1);
+    for (size_t n = 0; n < 40; n++) free(others[n]);
+}
+
+/* Of the heaps that threads left at the same time, one keeps a segment without a payload. */
+static void one_segment_is_kept(void) {
+    void *payload = malloc(1000);
+    size_t segments;
+    malloc_trim(0);
+    segments = mallinfo2().ordblks;
+    run_threads(0, meet);
+    WANT(mallinfo2().ordblks, segments + 1);
+    malloc_trim(0);
+    WANT(mallinfo2().ordblks, segments);
+    free(payload);
 }
 
 /* Payloads of no bytes have room for what another thread writes when it frees them. */
@@ -185,7 +238,10 @@ int main(int count, char **words) {
     WANT(pthread_barrier_init(&met, NULL, THREADS), 0);
     run_threads(0, meet);
     want_heaps(THREADS + 1, THREADS);
+    one_segment_is_kept();
     freed_before_growth();
+    payloads_of_an_ended_thread();
+    two_in_each_allocation();
     empty_payloads();
     destructors_allocate();
     size_t before = used();
