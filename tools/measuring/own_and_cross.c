@@ -3,9 +3,9 @@
  *
  *     own_and_cross THREADS STEPS own|cross MOST        MOST is the greatest size
  *
- * With -DSTEPPED it prints how many instructions malloc and free executed in one of the threads, in so many steps behind as many others: the mean,
- * and the worst call. Calls in which the allocator calls mmap or munmap of the C library count for the mean alone. A thread that is counted is a
- * thousand times slower, so the threads take turns. */
+ * With -DSTEPPED it counts the instructions of calls in one of the threads (examples/stepped.h): in STEPS steps, behind as many that aren't
+ * counted. It prints the number of calls of malloc, their mean, and the worst one in which the system neither maps nor unmaps memory; and those
+ * three of free. A counted thread is a thousand times slower than others, so the threads take turns: each makes as many steps as the next. */
 #define _GNU_SOURCE
 #include <pthread.h>
 #include <stdatomic.h>
@@ -22,19 +22,10 @@ static int crosses;
 
 #ifdef STEPPED
 #include "../../examples/stepped.h"
+#include <semaphore.h>
 #include <sys/mman.h>
-#include <sys/syscall.h>
-#include <unistd.h>
 
-static __thread int mapped;
-void *mmap(void *at, size_t len, int access, int flags, int file, off_t offset) {
-    mapped = 1;
-    return (void *)syscall(SYS_mmap, at, len, access, flags, file, offset);
-}
-int munmap(void *at, size_t len) {
-    mapped = 1;
-    return (int)syscall(SYS_munmap, at, len);
-}
+enum { STEPS_OF_A_TURN = 16 };
 void *own_memory(size_t len) { return mmap(NULL, len, PROT_READ | PROT_WRITE, MAP_PRIVATE | MAP_ANONYMOUS, -1, 0); }
 
 struct counted {
@@ -43,11 +34,13 @@ struct counted {
 static struct counted of_malloc, of_free;
 static volatile int done;
 static __thread int counts;
-static pthread_mutex_t turn = PTHREAD_MUTEX_INITIALIZER;
+static sem_t turns[MOST_THREADS];
 
 static void *count(struct counted *of, size_t function, size_t argument) {
     size_t before = steps;
-    void *result = (mapped = 0, in_steps(function, argument, 0));
+    void *result;
+    mapped = 0;
+    result = in_steps(function, argument, 0);
     of->calls++;
     of->all += steps - before;
     if (!mapped && steps - before > of->worst) of->worst = steps - before;
@@ -65,14 +58,30 @@ static int goes_on(size_t me, size_t step) {
     if (!me && step == 2 * steps_wanted) done = 1;
     return !done;
 }
-static void take_turn(int begins) { (void)(begins ? pthread_mutex_lock(&turn) : pthread_mutex_unlock(&turn)); }
+static void begin_turns(void) {
+    for (size_t n = 0; n < threads; n++) sem_init(&turns[n], 0, n == 0);
+}
+static void wait_for_turn(size_t me, size_t step) {
+    if (step % STEPS_OF_A_TURN) return;
+    if (step) sem_post(&turns[(me + 1) % threads]);
+    while (sem_wait(&turns[me])) continue;
+}
+static void end_turns(size_t me) { sem_post(&turns[(me + 1) % threads]); }
+static void print_counted(const struct counted *of) { printf("%zu %.1f %zu\n", of->calls, (double)of->all / (double)of->calls, of->worst); }
+static void print_result(double time) {
+    (void)time;
+    print_counted(&of_malloc);
+    print_counted(&of_free);
+}
 #else
 static int goes_on(size_t me, size_t step) { return (void)me, step < steps_wanted; }
-static void take_turn(int begins) { (void)begins; }
+static void begin_turns(void) {}
+static void wait_for_turn(size_t me, size_t step) { (void)me, (void)step; }
+static void end_turns(size_t me) { (void)me; }
+static void print_result(double time) { printf("%.2f\n", (double)(threads * steps_wanted) / time / 1e6); }
 #define call_malloc malloc
 #define call_free free
 #endif
-
 
 static void make_step(size_t me, size_t step, uint64_t random) {
     _Atomic(unsigned char *) *slot = &slots[crosses ? (random >> 40) % threads : me][random % SLOTS];
@@ -92,10 +101,10 @@ static void *work(void *number) {
     uint64_t random = 88172645463325252u + me * 7919;
     for (size_t step = 0; goes_on(me, step); step++) {
         random ^= random << 13, random ^= random >> 7, random ^= random << 17;
-        take_turn(1);
+        wait_for_turn(me, step);
         make_step(me, step, random);
-        take_turn(0);
     }
+    end_turns(me);
     return NULL;
 }
 
@@ -111,14 +120,11 @@ int main(int count, char **words) {
     steps_wanted = strtoul(words[2], NULL, 10);
     crosses = !strcmp(words[3], "cross");
     most = strtoul(words[4], NULL, 10);
+    begin_turns();
     double begun = seconds();
     for (size_t n = 0; n < threads; n++)
         if (pthread_create(&all[n], NULL, work, (void *)n)) return 1;
     for (size_t n = 0; n < threads; n++) pthread_join(all[n], NULL);
-#ifdef STEPPED
-    printf("%.1f %zu %.1f %zu\n", (double)of_malloc.all / (double)of_malloc.calls, of_malloc.worst, (double)of_free.all / (double)of_free.calls, of_free.worst);
-    return 0;
-#endif
-    printf("%.2f\n", (double)(threads * steps_wanted) / (seconds() - begun) / 1e6);
+    print_result(seconds() - begun);
     return 0;
 }
