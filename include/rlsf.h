@@ -246,8 +246,9 @@ RLSF_INLINE void rlsf_free(rlsf_heap *heap, void *payload) {
  * rlsf_malloc does.
  *
  * The library doesn't store alignments. So a payload that was requested with an alignment above 16 stays at its address, and keeps its
- * alignment, if its usable bytes and those of a free block behind it suffice. Otherwise it moves, and its new alignment is 16.
- * rlsf_aligned_realloc keeps the alignment.
+ * alignment, if its usable bytes and those of a free block behind it suffice. Otherwise it moves, and its new alignment is 16: exactly if the
+ * returned address is another one. Compare both to know the alignment that a later rlsf_aligned_realloc needs. rlsf_aligned_realloc itself
+ * keeps the alignment.
  *
  * Returns NULL exactly if `size` is above 2^63 - 16 or there is no room. Then nothing changes, and `payload` is still live. */
 RLSF_INLINE void *rlsf_realloc(rlsf_heap *heap, void *payload, size_t size) {
