@@ -13,10 +13,10 @@ use std::test::Fail;
 use std::thread::{Threads, join};
 
 /// A heap of one thread.
-type Owner<'r> = OwnerHeap<'r, u16, u16, 12, 16>;
+pub(crate) type Owner<'r> = OwnerHeap<'r, u16, u16, 12, 16>;
 
 /// A payload that it lent.
-type Lent<'r> = SharedPayload<'r, Returns>;
+pub(crate) type Lent<'r> = SharedPayload<'r, Returns>;
 
 /// Lends a payload.
 fn lend<'r>(owner: &mut Owner<'r>, size: usize) -> Option<Lent<'r>>

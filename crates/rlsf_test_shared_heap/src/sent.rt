@@ -49,7 +49,7 @@ fn zeros<'h, R: Wait>(
 }
 
 /// Writes a number to the first eight bytes and, backwards, to the last eight.
-fn write_ends(message: &mut [u8], number: u64) {
+pub(crate) fn write_ends(message: &mut [u8], number: u64) {
     let bytes = number.to_le_bytes();
     for (byte, value) in message.iter_mut().zip(bytes) {
         *byte = value;
@@ -60,7 +60,7 @@ fn write_ends(message: &mut [u8], number: u64) {
 }
 
 /// Returns the number at both ends. Returns `u64::MAX` if there are two.
-fn number_of(message: &[u8]) -> u64 {
+pub(crate) fn number_of(message: &[u8]) -> u64 {
     let mut first = [0; 8];
     let mut last = [0; 8];
     for (byte, value) in first.iter_mut().zip(message) {
@@ -150,7 +150,7 @@ fn of_eight<R: Threads + Wait + Sync>(
 }
 
 /// Returns whether each number below `count` is there once, and no other.
-fn are_all_once(
+pub(crate) fn are_all_once(
     alloc: Global,
     numbers: &[Result<Vec<u64>, AllocError>],
     count: usize,
