@@ -1,5 +1,5 @@
-//! A heap whose thread never waits: what it deallocates, how many payloads it lends, and that it goes on while another thread has the list of
-//! those that came back.
+//! A heap whose thread never waits: what it deallocates, how many payloads it lends, and that it goes on while another thread has the
+//! list of those that came back.
 ghost use Rattle.std.specs.Prelude.{◌≡◌, IfSome};
 
 use crate::answers::{all, are};
@@ -110,8 +110,8 @@ fn an_allocation_deallocates_two_that_came_back(rt: HostRuntime) -> Result<(), F
     Ok(())
 }
 
-/// Lends nearly all of the heap, and gets it back. Returns the addresses of payloads as long as that, lent or not: of one while the first one is
-/// out, and of those behind that.
+/// Lends nearly all of the heap, and gets it back. Returns the addresses of payloads as long as that, lent or not: of one while the first
+/// one is out, and of those behind that.
 fn most_at_once<R: Wait>(rt: &R, owner: &mut Owner<'_>) -> Option<[usize; 4]> {
     let first = lend(owner, 126_000)?;
     let out = allocate(owner, 126_000);
@@ -247,8 +247,8 @@ fn hold<'r, R: Wait>(rt: &R, payload: &Lent<'r>, signs: &Signs) -> bool {
     held.is_some()
 }
 
-/// The owner's calls while another thread has the list. Returns how often it allocated, how many that came back it deallocated, and how many
-/// are lent.
+/// The owner's calls while another thread has the list. Returns how often it allocated, how many that came back it deallocated, and how
+/// many are lent.
 fn go_on<R: Wait>(rt: &R, owner: &mut Owner<'_>, signs: &Signs) -> [usize; 3] {
     wait_for(rt, &signs.held);
     let rounds = rounds(owner, 65808);
@@ -258,8 +258,8 @@ fn go_on<R: Wait>(rt: &R, owner: &mut Owner<'_>, signs: &Signs) -> [usize; 3] {
     found
 }
 
-/// Lends two payloads, gets one of them back, and has the list held by another thread. Returns 1 if that thread had it, what `go_on` returns,
-/// and how many come back at the end.
+/// Lends two payloads, gets one of them back, and has the list held by another thread. Returns 1 if that thread had it, what `go_on`
+/// returns, and how many come back at the end.
 fn beside_a_holder<R: Threads + Wait + Sync>(rt: &R, owner: &mut Owner<'_>) -> Option<[usize; 5]> {
     let held = lend(owner, 100)?;
     let back = lend(owner, 100)?;

@@ -19,8 +19,8 @@ fn three(alloc: Global) -> Result<Heaps, Fail> {
     Ok(SharedHeaps::new(heaps))
 }
 
-// The number of a thread, a size, and the address of its payload, or 0 if it is refused. Each stays live. One of 100 bytes has a block of 128,
-// and one of 126,000 leaves no room for another one.
+// The number of a thread, a size, and the address of its payload, or 0 if it is refused. Each stays live. One of 100 bytes has a block of
+// 128, and one of 126,000 leaves no room for another one.
 static CALLS: [(usize, usize, usize); 11] = [
     (0, 100, 65552),
     (1, 100, 262160),

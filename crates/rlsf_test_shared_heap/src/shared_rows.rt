@@ -207,8 +207,8 @@ fn is_marked(bytes: &[u8]) -> bool {
     bytes.iter().all(|byte| *byte == MARK)
 }
 
-/// Gives a payload another size, and deallocates it. Returns its address and its length then, or zeros if the size is refused. They are 1 if
-/// a payload that didn't get longer has another byte than the mark; those that a longer one has behind its old bytes are raw.
+/// Gives a payload another size, and deallocates it. Returns its address and its length then, or zeros if the size is refused. They are 1
+/// if a payload that didn't get longer has another byte than the mark; those that a longer one has behind its old bytes are raw.
 fn resized<R: Wait>(rt: &R, shared: &Shared, payload: Payload, size: usize) -> (usize, usize)
     requires own { payload.identity ≡ shared.now.identity }
     requires written { IsWritten payload }
