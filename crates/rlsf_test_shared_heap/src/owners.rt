@@ -23,14 +23,17 @@ fn lend<'r>(owner: &mut Owner<'r>, size: usize) -> Option<Lent<'r>>
     ensures heap { owner.new.heap.identity ≡ owner.old.heap.identity }
     ensures own { IfSome result (λ p. p.identity ≡ owner.old.heap.identity) }
 {
-    owner.allocate_lent(Layout::from_size_align_unchecked(size, 16))
+    owner.allocate_lent(Layout::from_size_align(size, 16).ok()?)
 }
 
 /// Allocates a payload that isn't lent, and deallocates it. Returns its address, or 0.
 fn allocate(owner: &mut Owner<'_>, size: usize) -> usize
     ensures { owner.new.heap.identity ≡ owner.old.heap.identity }
 {
-    let Some(mut payload) = owner.allocate(Layout::from_size_align_unchecked(size, 16)) else {
+    let Ok(layout) = Layout::from_size_align(size, 16) else {
+        return 0;
+    };
+    let Some(mut payload) = owner.allocate(layout) else {
         return 0;
     };
     payload.fill(3);
