@@ -7,6 +7,7 @@ use rlsf_base::memory::Layout;
 use rlsf_example_libraries::MessageQueue;
 use rlsf_shared_heap::{OwnerHeap, Returns};
 use std::alloc::{AllocError, Global};
+use std::process::Abort;
 use std::sync::Wait;
 use std::test::Fail;
 use std::thread;
@@ -23,8 +24,7 @@ const COUNT: usize = 2_000;
 const LENT: usize = 1000;
 
 /// Lends a payload, once there is room.
-fn lend<'r, R: Wait>(rt: &R, owner: &mut Owner<'r>, size: usize) -> Lent<'r> {
-    let layout = Layout::from_size_align_unchecked(size, 16);
+fn lend<'r, R: Wait>(rt: &R, owner: &mut Owner<'r>, layout: Layout) -> Lent<'r> {
     for _ in rt.forever() {
         if let Some(payload) = owner.allocate_lent(layout) {
             return payload;
@@ -35,9 +35,10 @@ fn lend<'r, R: Wait>(rt: &R, owner: &mut Owner<'r>, size: usize) -> Lent<'r> {
 }
 
 /// Lends payloads of several lengths, each with its number at both ends. Then sends each giver a `None`.
-fn lend_all<'r, R: Wait>(rt: &R, owner: &mut Owner<'r>, queue: &Queue<'r>) {
+fn lend_all<'r, R: Wait + Abort>(rt: &R, owner: &mut Owner<'r>, queue: &Queue<'r>) {
     for number in 0..COUNT {
-        let mut payload = lend(rt, owner, 16 + number % 100);
+        let layout = Layout::from_size_align(16 + number % 100, 16).expect(rt, "a layout");
+        let mut payload = lend(rt, owner, layout);
         write_ends(payload.as_mut_slice(), number as u64);
         queue.wait_and_send(rt, Some(payload));
     }
@@ -65,7 +66,7 @@ fn give_back<'r, R: Wait>(
 }
 
 /// Lends all payloads, and returns the numbers that each giver read.
-fn of_all<'r, R: Threads + Wait + Sync>(
+fn of_all<'r, R: Threads + Wait + Abort + Sync>(
     rt: &R,
     alloc: Global,
     owner: &mut Owner<'r>,
