@@ -38,7 +38,7 @@ fn main(rt: HostRuntime) -> ExitCode {
     if let Err(fault) = &outcome {
         // If standard error fails too, only the status shows the fault.
         let _ = eprintln!(rt; "{fault}");
-        if let Some(word) = word {
+        if let Some(word) = &word {
             let _ = eprintln!(rt; "the word is {word:?}");
         }
     }

@@ -52,13 +52,20 @@ fn part_of(ops: &[Op], answers: &[Answer], since: usize) -> Option<Part> {
             since,
             is_appended: false,
         }),
-        (Op::Append(range), Answer::Appended(len)) if len > 0 => Some(Part {
-            start: range.start as u128,
-            end: range.start as u128 + len as u128,
-            since,
-            is_appended: true,
-        }),
+        (Op::Append(range), Answer::Appended(len)) if len > 0 => {
+            Some(appended(range.start, len, since))
+        }
         _ => None,
+    }
+}
+
+// The part that the call of an index appended.
+fn appended(start: usize, len: usize, since: usize) -> Part {
+    Part {
+        start: start as u128,
+        end: start as u128 + len as u128,
+        since,
+        is_appended: true,
     }
 }
 
