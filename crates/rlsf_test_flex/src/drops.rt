@@ -14,7 +14,7 @@ type Long = FlexTlsf<BumpSource, u64, u64, 59, 8>;
 /// All addresses of a memory.
 const SPACE: Range = Range {
     start: 4097,
-    len: 1 << 25,
+    len: 33_554_432,
 };
 
 /// The number in front of the first space.
@@ -31,13 +31,11 @@ fn mapped(rt: &(impl Files + AllocGlobal)) -> Option<usize> {
 }
 
 /// Makes an allocator with a payload, and drops it. Returns whether it was made. The memory begins at an address that is no multiple of 16.
-fn made_and_dropped(alloc: Global) -> bool {
-    let Ok(memory) = Memory::new(alloc, SPACE.start, SPACE.len) else {
-        return false;
-    };
+fn made_and_dropped(alloc: Global) -> Option<bool> {
+    let memory = Memory::new(alloc, SPACE.start, SPACE.len).ok()?;
     let mut flex = Long::new(memory, BumpSource::new(SPACE));
-    flex.allocate(Layout::from_size_align_unchecked(100, 8))
-        .is_some()
+    let layout = Layout::from_size_align_unchecked(100, 8);
+    Some(flex.allocate(layout).is_some())
 }
 
 // Ten memories have 320 MiB together.
@@ -45,8 +43,8 @@ fn made_and_dropped(alloc: Global) -> bool {
 fn a_dropped_allocator_deallocates_its_memory(rt: HostRuntime) {
     let before = mapped(&rt).expect(&rt, "a number");
     for _ in 0..10 {
-        let is_made = made_and_dropped(rt.alloc());
+        let is_made = made_and_dropped(rt.alloc()) == Some(true);
         let then = mapped(&rt).expect(&rt, "a number");
-        all(&rt, &[is_made, then.saturating_sub(before) < 9 << 25]);
+        all(&rt, &[is_made, then.saturating_sub(before) < 301_989_888]);
     }
 }
