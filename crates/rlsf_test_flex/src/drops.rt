@@ -31,9 +31,9 @@ fn mapped(rt: &(impl Files + AllocGlobal)) -> Option<usize> {
 }
 
 /// Makes an allocator with a payload, and drops it. Returns whether it was made. The memory begins at an address that is no multiple of 16.
-fn made_and_dropped(alloc: Global) -> Option<bool> {
-    let memory = Memory::new(alloc, SPACE.start, SPACE.len).ok()?;
-    let mut flex = Long::new(memory, BumpSource::new(SPACE));
+fn made_and_dropped(alloc: Global, space: Range) -> Option<bool> {
+    let memory = Memory::new(alloc, space.start, space.len).ok()?;
+    let mut flex = Long::new(memory, BumpSource::new(space));
     let layout = Layout::from_size_align_unchecked(100, 8);
     Some(flex.allocate(layout).is_some())
 }
@@ -43,7 +43,7 @@ fn made_and_dropped(alloc: Global) -> Option<bool> {
 fn a_dropped_allocator_deallocates_its_memory(rt: HostRuntime) {
     let before = mapped(&rt).expect(&rt, "a number");
     for _ in 0..10 {
-        let is_made = made_and_dropped(rt.alloc()) == Some(true);
+        let is_made = made_and_dropped(rt.alloc(), SPACE) == Some(true);
         let then = mapped(&rt).expect(&rt, "a number");
         all(&rt, &[is_made, then.saturating_sub(before) < 301_989_888]);
     }
