@@ -1,11 +1,11 @@
 -- Bytes that are copied in two parts, the first to where they overlap nothing, are as if they were copied at once.
-use Rattle.std.proofs.Common.{◌≡◌, ℕ, ◌+◌, ◌-◌, ◌≤◌, List, ◌++◌, length, take, drop, arith, sym, ap, ◌∙◌, take-append-drop}
+use Rattle.std.proofs.Common.{◌≡◌, ℕ, ◌+◌, ◌-◌, ◌≤◌, ◌⊎◌, List, ◌++◌, length, take, drop, arith, inl, inr, refl, sym, ap, ◌∙◌, take-append-drop}
 use Rattle.std.proofs.lemmas.List.{drop-append-le, drop-drop, drop-take, drop_at, length-append, length-drop, length-take-le, take-take, take_at}
 use Rattle.std.proofs.lemmas.Grind.{common_steps}
 use Rattle.std.specs.List.{splice}
 use Rattle.core.specs.List.{copy_within}
 use Rattle.rlsf_base.specs.Lends.{refilled}
-use Rattle.rlsf_base.proofs.Words.Splices.{splice-after, splice-before, splice-inside}
+use Rattle.rlsf_base.proofs.Words.Splices.{length-part, splice-after, splice-before, splice-inside}
 
 take-parts : (xs : List ℕ) (i k n : ℕ) → n ≡ i + k → take n xs ≡ take i xs ++ take k (drop i xs)
 take-parts xs i k n e =
@@ -102,3 +102,34 @@ module _ (xs ys : List ℕ) (at by len : ℕ) (less : by ≤ len) (room : at + b
       ∙ (λ i. up_to i ++ (moved i ++ behind i))
       ∙ down-sides (take at xs) part (take (len - by) (drop by run)) (drop (len - by) (take len run)) (drop (at + by + len) xs)
       ∙ (λ i. take at xs ++ (sym (take-parts run by (len - by) len (omega (arith, less))) i ++ sym rest i))
+
+-- ---- units are copied one after the other
+
+pub copied-nothing : (xs : List ℕ) (at from : ℕ) → xs ≡ splice xs at (at + 0) (take 0 (drop from xs))
+copied-nothing xs at from = grind (arith, common_steps)
+
+more-sides : (a b c r : List ℕ) → (a ++ b) ++ (c ++ r) ≡ a ++ ((b ++ c) ++ r)
+more-sides a b c r = grind (arith, common_steps)
+
+-- where some are copied, the next ones are as they were, unless they are overwritten later
+pub copied-more : (xs ys : List ℕ) (at from i n : ℕ) → at + (i + n) ≤ length xs → from + (i + n) ≤ length xs → (from + (i + n) ≤ at) ⊎ (at ≤ from)
+    → ys ≡ splice xs at (at + i) (take i (drop from xs))
+    → splice ys (at + i) (at + i + n) (take n (drop (from + i) ys)) ≡ splice xs at (at + (i + n)) (take (i + n) (drop from xs))
+copied-more xs ys at from i n room there side first =
+    let part = take i (drop from xs) in
+    let fits : at + i ≤ length xs = omega (arith, room) in
+    let full : length part ≡ i = length-part i from xs (omega (arith, there)) in
+    let next : take n (drop (from + i) ys) ≡ take n (drop (from + i) xs) = ap (λ l. take n (drop (from + i) l)) first ∙ (elim side [
+      | inl below ↦ splice-before xs part at i fits full (from + i) n (omega (arith, below))
+      | inr above ↦ ap (take n) (splice-after xs part at i fits full (from + i) (omega (arith, above)))
+    ]) in
+    let front : take at ys ≡ take at xs = ap (take at) first ∙ splice-before xs part at i fits full 0 at (omega arith) in
+    let written : take i (drop at ys) ≡ part = ap (λ l. take i (drop at l)) first ∙ splice-inside xs part at i fits full in
+    let up_to : take (at + i) ys ≡ take at xs ++ part = take-parts ys at i (at + i) refl ∙ (λ j. front j ++ written j) in
+    let end : at + i + n ≡ at + (i + n) = omega arith in
+    let behind : drop (at + i + n) ys ≡ drop (at + (i + n)) xs =
+    ap (drop (at + i + n)) first ∙ splice-after xs part at i fits full (at + i + n) (omega arith) ∙ ap (λ k. drop k xs) end in
+    let all : part ++ take n (drop (from + i) xs) ≡ take (i + n) (drop from xs) =
+    ap (λ l. part ++ take n l) (sym (drop-drop i from xs)) ∙ sym (take-parts (drop from xs) i n (i + n) refl) in
+    (λ j. up_to j ++ (next j ++ behind j)) ∙ more-sides (take at xs) part (take n (drop (from + i) xs)) (drop (at + (i + n)) xs)
+    ∙ ap (λ l. take at xs ++ (l ++ drop (at + (i + n)) xs)) all

@@ -1,11 +1,11 @@
 //! Copies within a block's bytes.
 
-ghost use Rattle.std.specs.Prelude.{◌≡◌, ℕ, ◌+◌, ◌-◌, ◌^◌, ◌<◌, ◌≤◌, ◌⊎◌, List, length, take};
+ghost use Rattle.std.specs.Prelude.{◌≡◌, ℕ, ◌+◌, ◌-◌, ◌%◌, ◌^◌, ◌<◌, ◌≤◌, ◌⊎◌, List, length, take};
 ghost use Rattle.core.specs.List.{copy_within};
 ghost use Rattle.rlsf_base.specs.Out.{Change, kept_at};
 ghost use Rattle.rlsf_base.specs.Changes.{IsIn, IsOwn};
 ghost use Rattle.rlsf_base.specs.Steps.Fronts.{HasFront};
-ghost use Rattle.rlsf_base.specs.Steps.Owners.{Has, Becomes, Gets, bytes_in, out_with, with_bytes};
+ghost use Rattle.rlsf_base.specs.Steps.Owners.{Has, HasHere, Becomes, Gets, bytes_in, out_with, with_bytes};
 
 use super::block::{Base, Bytes};
 
@@ -137,6 +137,41 @@ fn write_rest(bytes: &mut Bytes, base: Base, place: usize, from: &[u8], written:
 {
     for index in written..from.len() {
         bytes.write(base, place + index, from[index]);
+    }
+}
+
+/// Copies `len` bytes, all here, from the place `from` of the block on to the place `to` on, in units of 16 bytes. The bytes at `to` begin
+/// no later than those copied, or behind them, and may be raw. The bytes written are those before the call.
+// The first unit goes first: so each is read before it is written, and no test is needed whether the bytes overlap.
+#[inline(always)]
+pub(crate) fn copy_units(bytes: &mut Bytes, base: Base, from: usize, to: usize, len: usize)
+    ghost out: { List Change }
+    requires lies { (base.ptr ≡ bytes.old.at) × Has bytes.old from len × Has bytes.old to len × (bytes.old.skip + length bytes.old.bytes < 2 ^ 64) }
+    requires kept { IsIn bytes.old.out (from - bytes.old.skip) len × IsOwn bytes.old.out (to - bytes.old.skip) len }
+    requires units { (len % 16 ≡ 0) × ((from + len ≤ to) ⊎ (to ≤ from)) }
+    requires out { out ≡ out_with bytes.old to len }
+    ensures { Becomes bytes.old bytes.new (with_bytes bytes.old to len (bytes_in bytes.old from len)) out }
+{
+    let mut index = 0;
+    // Not `<`: so the compiler can't count the rounds, and doesn't unroll the loop. Most payloads have few units.
+    while index != len {
+        let unit = unit_at(bytes, base, from + index);
+        bytes.write_unit(base, to + index, unit);
+        index += 16;
+    }
+    bytes.recount();
+}
+
+// Returns the unit from a place on.
+#[inline(always)]
+fn unit_at(bytes: &Bytes, base: Base, place: usize) -> [u8; 16]
+    requires { (base.ptr ≡ bytes.now.at) × HasHere bytes.now place 16 }
+    ensures { result ≡ bytes_in bytes.now place 16 }
+{
+    match bytes.slice(base, place, 16).first_chunk::<16>() {
+        Some(unit) => *unit,
+        // There are 16 bytes, so `None` doesn't come.
+        None => [0; 16],
     }
 }
 

@@ -1,14 +1,14 @@
 //! A memory from which bytes can leave.
-ghost use Rattle.std.specs.Prelude.{◌≡◌, ◌+◌, ◌-◌, ◌%◌, ◌^◌, ◌<◌, ◌≤◌, ◌↔◌, [], length, IfOk, IsOk, IsErrOf};
+ghost use Rattle.std.specs.Prelude.{◌≡◌, ◌+◌, ◌-◌, ◌%◌, ◌^◌, ◌<◌, ◌≤◌, ◌⊎◌, ◌↔◌, [], length, IfOk, IsOk, IsErrOf};
 ghost use Rattle.std.specs.Borrow.{sem};
 ghost use Rattle.rlsf_base.specs.MemoryCalls.{IsReserved, IsSpaceWith, IsZeroed};
 ghost use Rattle.rlsf_base.specs.OpenSpace.{IsHere, IsOwned, IsReadable, IsWritable, SameOwn, StaysHere, WritesWord, out_with};
-ghost use Rattle.rlsf_base.specs.Range.{range_at, LiesIn};
+ghost use Rattle.rlsf_base.specs.Range.{end_of, range_at, LiesIn};
 ghost use Rattle.rlsf_base.specs.Space.{bytes_in, word_range, range_of, word_at, with_bytes};
 
 use super::MemoryError;
 use super::block::{Base, Bytes};
-use super::copying::{copy_bytes, copy_in_slice};
+use super::copying::{copy_bytes, copy_in_slice, copy_units};
 use super::counters::Counters;
 use super::range::Range;
 use super::view::View;
@@ -330,6 +330,31 @@ impl OpenMemory {
         let view = self.view();
         let (from, place) = (view.place(range.start), view.place(to));
         copy_bytes(&mut self.bytes, view.base, from, place, range.len);
+        self.counters.count_copy(range.len);
+    }
+
+    /// Copies as `copy_within` does, by a view of the memory and in units of 16 bytes. It is faster: the bytes from `to` on begin no
+    /// later than `range`, or behind it, so no test is needed whether both overlap.
+    ///
+    /// `view` must be a view of this memory, and the length of `range` a multiple of 16. Both ranges must lie in the memory. The bytes
+    /// of `range` must be here, and none of those from `to` on may be out.
+    #[inline(always)]
+    pub fn copy_units_at(&mut self, view: View, range: Range, to: usize)
+        requires from { LiesIn range self.old.start (length self.old.bytes) }
+        requires to { LiesIn (range_at to range.len) self.old.start (length self.old.bytes) }
+        requires here { IsHere self.old range }
+        requires own { IsOwned self.old (range_at to range.len) }
+        requires view { view ≡ self.old.view }
+        requires units { (range.len % 16 ≡ 0) × ((end_of range ≤ to) ⊎ (to ≤ range.start)) }
+        ensures memory { IsSpaceWith self.old self.new (with_bytes self.old to (bytes_in self.old range)) (out_with self.old (range_at to range.len)) }
+        ensures len { length self.new.bytes ≡ length self.old.bytes }
+        ensures counts { (self.new.touches ≡ self.old.touches) × (self.new.copied ≡ self.old.copied + range.len) }
+        ensures own { SameOwn self.old self.new }
+        ensures here { IsHere self.new (range_at to range.len) }
+        ensures stays { StaysHere self.old self.new }
+    {
+        let (from, place) = (view.place(range.start), view.place(to));
+        copy_units(&mut self.bytes, view.base, from, place, range.len);
         self.counters.count_copy(range.len);
     }
 
