@@ -1,5 +1,5 @@
 -- The bytes of a payload are copied into one that is allocated for it, and then its block is deallocated.
-use Rattle.std.proofs.Common.{◌≡◌, ℕ, ◌+◌, ◌-◌, ◌<◌, List, None, length, min, take, drop, arith, inl, inr, refl, sym, ◌∙◌, ap, subst}
+use Rattle.std.proofs.Common.{◌≡◌, ℕ, ◌+◌, ◌-◌, ◌<◌, ◌%◌, ◌≤◌, ◌⊎◌, List, None, length, min, take, drop, arith, inl, inr, refl, sym, ◌∙◌, ap, subst}
 use Rattle.std.proofs.lemmas.List.{take-take, take_all}
 use Rattle.std.specs.List.{splice}
 use Rattle.rlsf_base.specs.declared.memory.range.Range.{Range}
@@ -21,13 +21,14 @@ use Rattle.rlsf_model.proofs.Changes.{Holds-unique}
 use Rattle.rlsf_model.proofs.Allocations.{placed-fits}
 use Rattle.rlsf_model.proofs.Choices.{choice-some}
 use Rattle.rlsf_model.proofs.Live.{allocated_filled}
-use Rattle.rlsf_model.proofs.Payloads.{payload_of-after, usable-short, IsUsed-after_start}
+use Rattle.rlsf_model.proofs.Payloads.{payload_of-after, usable-short, IsUsed-after_start, IsUsed-some}
 use Rattle.rlsf_blocks.specs.Spare.{IsSpare, KeepsSpare}
 use Rattle.rlsf_blocks.specs.StandsFor.{contents, StandsFor}
 use Rattle.rlsf_blocks.specs.Steps.Resize.{realigned}
 use Rattle.rlsf_table.specs.Table.{Table}
 use Rattle.rlsf_blocks.proofs.Payloads.Filled.{IsSameOutside, stands_filled}
-use Rattle.rlsf_blocks.proofs.Words.Apart.{free_in_memory, used_in_memory}
+use Rattle.rlsf_blocks.proofs.Words.Apart.{free_in_memory, usable_units, used_free, used_in_memory}
+use Rattle.rlsf_blocks.proofs.Words.Frames.{sides}
 use Rattle.rlsf_blocks.proofs.Words.NeverOut.{here_free}
 
 module _ {fllen sllen : ℕ} {memory : Range} {m : Space} {table : Table} {s t : State} (w : IsWellFormed fllen sllen memory s) (u : Used) (i : IsIn u s.used) (size : ℕ)
@@ -77,6 +78,21 @@ module _ {fllen sllen : ℕ} {memory : Range} {m : Space} {table : Table} {s t :
       let target = range_at addr (usable u).len in
       own-there l m target (omega (arith, places.answer, after, (free_in_memory first.well_formed f is_in).0)) same
       (own-inside l f target (omega (arith, places.answer, after)) (omega (arith, places.answer, shorter, fits)) (here_free first f is_in))
+
+  -- the old payload is units of 16 bytes, and doesn't overlap the new one
+  pub are_units : IsPowerOfTwo align → ((usable u).len % 16 ≡ 0) × ((end_of (usable u) ≤ addr) ⊎ (addr ≤ (usable u).start))
+  are_units power =
+      let f = places.range in
+      let is = w.used u i in
+      let is_in = (choice-some sllen (request_size size align) s.free f places.chosen).is_in in
+      let after = payload_of-after f.start align in
+      let fits = placed-fits w f size align power places.chosen in (
+        usable_units w u i,
+        elim (sides u.block f (IsUsed-some u is) (w.free f is_in).some (λ a hu hf. used_free w u f a i is_in hu hf)) [
+          | inl before ↦ inl (omega (arith, before, places.answer, after, is.within))
+          | inr behind ↦ inr (omega (arith, behind, places.answer, shorter, fits, IsUsed-after_start u is))
+        ],
+      )
 
   -- the bytes of the old payload were copied to the new one
   pub record IsCopied (n : Space) (bytes : List ℕ) : Type 0 where

@@ -23,7 +23,7 @@ use Rattle.rlsf_blocks.proofs.Words.Apart.{used_in_memory}
 use Rattle.rlsf_model.proofs.Payloads.{IsUsed-some, payload_of-after}
 
 -- a block at a lower address has its payload at a lower one
-payload_of-order : (a b align : ℕ) → IsPowerOfTwo align → a ≤ b → payload_of a align ≤ payload_of b align
+pub payload_of-order : (a b align : ℕ) → IsPowerOfTwo align → a ≤ b → payload_of a align ≤ payload_of b align
 payload_of-order a b align power order =
     let some = IsPowerOfTwo-positive align power in
     let p = payload_of b align in

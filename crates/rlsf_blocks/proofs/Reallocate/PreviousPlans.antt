@@ -1,5 +1,5 @@
 -- A used block moves into the free block before it: what is computed on the way is as the reference model's plan has it.
-use Rattle.std.proofs.Common.{◌≡◌, ℕ, ◌+◌, ◌-◌, ◌%◌, ◌^◌, ◌≤◌, ◌<◌, List, None, length, arith, sym, ◌∙◌, ap, subst}
+use Rattle.std.proofs.Common.{◌≡◌, ℕ, ◌+◌, ◌-◌, ◌%◌, ◌^◌, ◌≤◌, ◌<◌, ◌⊎◌, List, None, length, arith, inr, sym, ◌∙◌, ap, subst}
 use mathlib.Core.Path.{ap₂}
 use Rattle.rlsf_base.specs.declared.memory.range.Range.{Range}
 use Rattle.rlsf_base.specs.Range.{end_of, LiesIn, range_at}
@@ -25,7 +25,9 @@ use Rattle.rlsf_blocks.proofs.Words.Stays.{IsWritable-in, placed_by, placed_then
 use Rattle.rlsf_blocks.proofs.Allocate.Rests.{IsSpanRoom-inner}
 use Rattle.rlsf_blocks.proofs.Reallocate.Copies.{IsCopied, IsInnerRoom-copied, LiesIn-copied, Rewrites-copied}
 use Rattle.rlsf_blocks.proofs.Reallocate.Moves.{IsSpan, span, payload_here, payload_placed, IsCarriedOut-moved}
-use Rattle.rlsf_blocks.proofs.Reallocate.Previous.{into_previous-fits, planned, reach}
+use Rattle.rlsf_blocks.proofs.Reallocate.Neighbours.{start_or-le}
+use Rattle.rlsf_blocks.proofs.Reallocate.Previous.{into_previous-fits, payload_of-order, planned, reach}
+use Rattle.rlsf_blocks.proofs.Words.Apart.{usable_units}
 
 -- the used block by its start and its end
 pub IsUsedBlock-from : {s : State} {u : Used} {block end payload align : ℕ} → IsUsedAt s u block payload align → end_of u.block ≡ end → IsUsedBlock s u block end align
@@ -109,6 +111,15 @@ module _ {fllen sllen : ℕ} {first m : Space} {t : Table} {s : State} {u : Used
       let same : end - payload ≡ (usable u).len = ap (λ q. q.len) usable_is in
       own-inside m2 (union u.block s.free) (range_at to (end - payload)) (omega (arith, are.plan.placed, is.start, is.after_start))
       (omega (arith, same, are.plan.placed, is.end, is.enough, fits)) inner.room.placed.own
+
+  -- units of 16 bytes go to no later place
+  pub are_units : ((end - payload) % 16 ≡ 0) × ((payload + (end - payload) ≤ to) ⊎ (to ≤ payload))
+  are_units =
+      let is = v.well_formed.used u i in
+      let same : end - payload ≡ (usable u).len = ap (λ q. q.len) usable_is in
+      let begin : are.plan.previous.start ≤ u.block.start = omega (arith, begins, start_or-le v.well_formed u.block.start before.begins) in
+      let order = payload_of-order are.plan.previous.start u.block.start u.align is.power begin in
+      (omega (arith, same, usable_units v.well_formed u i), inr (omega (arith, order, are.plan.placed, is.placed, are.used.caller)))
 
   -- ---- the bytes of all that was taken out
 

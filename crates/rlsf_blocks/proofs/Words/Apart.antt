@@ -1,12 +1,12 @@
 -- Blocks, chunks and their last bytes have no address in common, so a word of one is no word of another.
-use Rattle.std.proofs.Common.{◌≡◌, ℕ, ◌+◌, ◌<◌, ◌≤◌, arith}
+use Rattle.std.proofs.Common.{◌≡◌, ℕ, ◌+◌, ◌%◌, ◌<◌, ◌≤◌, arith}
 use Rattle.rlsf_base.specs.declared.memory.range.Range.{Range}
 use Rattle.rlsf_base.specs.Range.{end_of}
 use Rattle.rlsf_model.specs.Lists.{IsIn}
-use Rattle.rlsf_model.specs.State.{State, Used}
+use Rattle.rlsf_model.specs.State.{State, Used, usable}
 use Rattle.rlsf_model.specs.WellFormed.{itself, IsWellFormed}
 use Rattle.rlsf_model.proofs.Coverage.{covers-inside, coverage-IsIn, coverage-unique}
-use Rattle.rlsf_model.proofs.Payloads.{IsUsed-some}
+use Rattle.rlsf_model.proofs.Payloads.{IsUsed-even, IsUsed-some}
 use Rattle.rlsf_model.proofs.Tiling.{block_of, blocks-le, free-le, used-le, tiling_of, LiesInChunk, lies_in_chunk, apart_from_last, IsPart-free, IsPart-used}
 
 -- an address of a range
@@ -57,3 +57,7 @@ module _ {fllen sllen : ℕ} {memory : Range} {s : State} (w : IsWellFormed flle
   pub used_in_memory : (u : Used) → IsIn u s.used → (memory.start ≤ u.block.start) × (end_of u.block + 32 ≤ end_of memory)
   used_in_memory u i = let home = home_of_used u i in let placed = (w.chunks home.chunk home.is_chunk).lies_in in
       (omega (arith, home.from, placed.0), omega (arith, home.to, placed.1))
+
+  -- the usable bytes of a used block are units of 16 bytes
+  pub usable_units : (u : Used) → IsIn u s.used → (usable u).len % 16 ≡ 0
+  usable_units u i = let is = w.used u i in omega (arith, is.whole.start, is.whole.len, IsUsed-even u is, is.within)

@@ -44,6 +44,7 @@ pub fn move_elsewhere<const FLLEN: usize, const SLLEN: usize, const WHOLE: usize
     let moved = allocate_block(memory, view, table, layout)?;
     copy_payload::<WHOLE>(
         memory,
+        view,
         Range {
             start: payload,
             len: end - payload,

@@ -101,6 +101,7 @@ pub(crate) fn move_into_previous<const FLLEN: usize, const SLLEN: usize, const W
     // Before any header is written: a header may overwrite these bytes.
     copy_payload::<WHOLE>(
         memory,
+        view,
         Range {
             start: payload,
             len: end - payload,

@@ -1,7 +1,7 @@
-use Rattle.std.proofs.Common.{◌≡◌, ℕ, ◌-◌, List, Option, Some, None, MatchOption, arith, refl, sym, ◌∙◌, ap, subst, inr, length, rules}
+use Rattle.std.proofs.Common.{◌≡◌, ℕ, ◌-◌, ◌%◌, ◌≤◌, ◌⊎◌, List, Option, Some, None, MatchOption, arith, refl, sym, ◌∙◌, ap, subst, inr, length, rules}
 use mathlib.Core.Path.{ap₂}
 use Rattle.rlsf_base.specs.declared.memory.range.Range.{Range}
-use Rattle.rlsf_base.specs.Range.{range_at, LiesIn}
+use Rattle.rlsf_base.specs.Range.{end_of, range_at, LiesIn}
 use Rattle.rlsf_base.specs.OpenSpace.{IsHere, IsOwned, SameOwn, StaysHere}
 use Rattle.rlsf_base.proofs.Lending.Present.{out-same, own-same}
 use Rattle.rlsf_model.specs.Allocate.{Places}
@@ -16,7 +16,7 @@ use Rattle.rlsf_blocks.specs.Steps.Resize.{IsUsedAt}
 use Rattle.rlsf_blocks.proofs.Deallocate.Releases.{end_computed, word_computed}
 use Rattle.rlsf_blocks.proofs.RepresentedStates.Counted.{KeepsSpare-counted_first, StandsFor-counted}
 use Rattle.rlsf_blocks.proofs.Words.NeverOut.{used_word}
-use Rattle.rlsf_blocks.proofs.Reallocate.Elsewhere.{both, copied_stands, IsCopied, IsOwned-new, IsOwned-old, KeepsSpare-copied, LiesIn-new, LiesIn-old, MovesAway-copied}
+use Rattle.rlsf_blocks.proofs.Reallocate.Elsewhere.{are_units, both, copied_stands, IsCopied, IsOwned-new, IsOwned-old, KeepsSpare-copied, LiesIn-new, LiesIn-old, MovesAway-copied}
 use Rattle.rlsf_blocks.proofs.Words.Apart.{used_in_memory}
 use Rattle.rlsf_blocks.proofs.Words.Stays.{Stays, Stays-same, Stays-then}
 use Rattle.rlsf_table.specs.Counts.{Costs}
@@ -106,6 +106,9 @@ copy_payload-requires g c =
           (IsOwned-new v.well_formed u is.is_used c.args.layout.size short places now c.args.layout.valid.aligned c.args.memory.now c.args.table.now v (still g at).0);
       to = subst (λ (r : Range). LiesIn (range_at c.in_ok-moved.moved r.len) m.start (length m.bytes)) same
           (LiesIn-new v.well_formed u is.is_used c.args.layout.size short places now);
+      view = search rules;
+      units = subst (λ (r : Range). (r.len % 16 ≡ 0) × ((end_of r ≤ c.in_ok-moved.moved) ⊎ (c.in_ok-moved.moved ≤ r.start))) same
+          (are_units v.well_formed u is.is_used c.args.layout.size short places now c.args.layout.valid.aligned);
       whole = λ is. c.in_ok-moved.ensures.costs.none (c.load_at.ensures.out ∙ c.requires.whole is);
     }
 

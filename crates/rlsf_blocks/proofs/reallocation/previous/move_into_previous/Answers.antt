@@ -14,7 +14,7 @@ use Rattle.rlsf_blocks.proofs.Deallocate.Releases.{end_computed, word_computed}
 use Rattle.rlsf_blocks.proofs.RepresentedStates.Counted.{StandsFor-counted}
 use Rattle.rlsf_table.proofs.Words.Writes.{Writes-none}
 use Rattle.rlsf_blocks.proofs.Words.NeverOut.{used_word}
-use Rattle.rlsf_blocks.proofs.Reallocate.PreviousPlans.{AreOut, here_moved, IsHere-payload, IsOwned-moved, IsUsedBlock-from, IsWritable-pad, LiesIn-moved, LiesIn-payload}
+use Rattle.rlsf_blocks.proofs.Reallocate.PreviousPlans.{AreOut, are_units, here_moved, IsHere-payload, IsOwned-moved, IsUsedBlock-from, IsWritable-pad, LiesIn-moved, LiesIn-payload}
 use Rattle.rlsf_blocks.proofs.Reallocate.PreviousPlans.{moved_to, padded, part, payload_within, room, sixteen-le, stays_moved, total_is, total-fits, union_begins}
 use Rattle.rlsf_blocks.proofs.Words.Apart.{used_in_memory}
 use Rattle.rlsf_blocks.proofs.Words.Stays.{Stays-same}
@@ -162,6 +162,8 @@ copy_payload-requires g c =
       here = IsHere-payload are;
       own = IsOwned-moved are;
       to = LiesIn-moved are;
+      view = search rules;
+      units = are_units are;
       whole = λ is. are.more.rewrites.none (are.out.rewrites.none (c.place_before.ensures.counts.out ∙ c.load_at.ensures.out ∙ c.requires.whole is));
     }
 
