@@ -1,4 +1,5 @@
 -- The raw block of a memory: lemmas for the manual proofs.
+pub mod CopiedUnits
 pub mod Copies
 pub mod Crosses
 pub mod Dropped

@@ -4,8 +4,8 @@ ghost use Rattle.std.specs.Prelude.{◌≡◌, ℕ, ◌+◌, ◌-◌, ◌%◌, �
 ghost use Rattle.core.specs.List.{copy_within};
 ghost use Rattle.rlsf_base.specs.Out.{Change, kept_at};
 ghost use Rattle.rlsf_base.specs.Changes.{IsIn, IsOwn};
-ghost use Rattle.rlsf_base.specs.Steps.Fronts.{HasFront};
-ghost use Rattle.rlsf_base.specs.Steps.Owners.{Has, HasHere, Becomes, Gets, bytes_in, out_with, with_bytes};
+ghost use Rattle.rlsf_base.specs.Steps.Fronts.{HasCopied, HasFront};
+ghost use Rattle.rlsf_base.specs.Steps.Owners.{Has, HasHere, HasOwn, Becomes, Gets, bytes_in, out_with, with_bytes};
 
 use super::block::{Base, Bytes};
 
@@ -152,14 +152,41 @@ pub(crate) fn copy_units(bytes: &mut Bytes, base: Base, from: usize, to: usize, 
     requires out { out ≡ out_with bytes.old to len }
     ensures { Becomes bytes.old bytes.new (with_bytes bytes.old to len (bytes_in bytes.old from len)) out }
 {
-    let mut index = 0;
-    // Not `<`: so the compiler can't count the rounds, and doesn't unroll the loop. Most payloads have few units.
+    let mut index = copy_odd_unit(bytes, base, from, to, len);
+    // Not `<`: so the compiler can't count the rounds, and doesn't unroll the loop further. Most payloads have few units.
     while index != len {
-        let unit = unit_at(bytes, base, from + index);
-        bytes.write_unit(base, to + index, unit);
-        index += 16;
+        copy_unit(bytes, base, from + index, to + index);
+        let next = index + 16;
+        copy_unit(bytes, base, from + next, to + next);
+        index = next + 16;
     }
     bytes.recount();
+}
+
+// Copies the first unit, if the number of units is odd. Returns the number of bytes copied.
+#[inline(always)]
+fn copy_odd_unit(bytes: &mut Bytes, base: Base, from: usize, to: usize, len: usize) -> usize
+    requires lies { (base.ptr ≡ bytes.old.at) × Has bytes.old from len × Has bytes.old to len }
+    requires kept { IsIn bytes.old.out (from - bytes.old.skip) len × IsOwn bytes.old.out (to - bytes.old.skip) len }
+    requires units { len % 16 ≡ 0 }
+    ensures copied { HasCopied bytes.old bytes.new from to result }
+    ensures rest { (result ≤ len) × ((len - result) % 32 ≡ 0) }
+{
+    if len % 32 == 0 {
+        return 0;
+    }
+    copy_unit(bytes, base, from, to);
+    16
+}
+
+// Copies the unit from a place on to another place.
+#[inline(always)]
+fn copy_unit(bytes: &mut Bytes, base: Base, from: usize, to: usize)
+    requires { (base.ptr ≡ bytes.old.at) × HasHere bytes.old from 16 × HasOwn bytes.old to 16 }
+    ensures { Becomes bytes.old bytes.new (with_bytes bytes.old to 16 (bytes_in bytes.old from 16)) (out_with bytes.old to 16) }
+{
+    let unit = unit_at(bytes, base, from);
+    bytes.write_unit(base, to, unit);
 }
 
 // Returns the unit from a place on.
