@@ -19,6 +19,7 @@ use rlsf_table::{ClassTable, used_end};
 /// `layout`. All usable bytes of the payload must be here: none is raw or out.
 ///
 /// Returns the new address. If the allocation is refused, returns `None`, and no byte and no block changes.
+#[inline(always)]
 pub fn move_elsewhere<const FLLEN: usize, const SLLEN: usize, const WHOLE: usize>(
     memory: &mut OpenMemory,
     view: View,
