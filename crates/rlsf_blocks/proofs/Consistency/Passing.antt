@@ -1,5 +1,5 @@
 -- A check passes each block and each chunk of a state whose words the memory has.
-use Rattle.std.proofs.Common.{◌≡◌, ◌≢◌, ◌⊎◌, ℕ, ◌+◌, ◌-◌, ◌%◌, ◌<◌, ◌≤◌, arith, sym, ◌∙◌, ap, subst, inl, inr}
+use Rattle.std.proofs.Common.{◌≡◌, ◌≢◌, ◌⊎◌, ℕ, ◌+◌, ◌-◌, ◌%◌, ◌<◌, ◌≤◌, List, arith, sym, ◌∙◌, ap, subst, inl, inr}
 use Rattle.std.proofs.lemmas.Bool.{cases_lt}
 use Rattle.rlsf_base.specs.declared.memory.range.Range.{Range}
 use Rattle.rlsf_base.specs.Range.{end_of}
@@ -21,9 +21,9 @@ use Rattle.rlsf_blocks.specs.Consistency.Layout.{HasLayout}
 use Rattle.rlsf_blocks.specs.Consistency.Linked.{IsLinked}
 use Rattle.rlsf_blocks.specs.Steps.BlockAt.{IsBlockTo, IsUsedOrFree}
 use Rattle.rlsf_blocks.specs.Steps.Legible.{IsLegible, IsLegibleBlock}
-use Rattle.rlsf_blocks.proofs.Consistency.Reading.{HasLegibleLinks-linked, legible, legible_is, readable}
+use Rattle.rlsf_blocks.proofs.Consistency.Reading.{HasLegibleLinks-linked, legible, legible_is, readable_is}
 
-module _ {fllen sllen : ℕ} {m : Space} {t : Table} {r : Range} {s : State} (v : HasLayout fllen sllen m t r s) where
+module _ {fllen sllen : ℕ} {ps : List ℕ} {m : Space} {t : Table} {r : Range} {s : State} (v : HasLayout fllen sllen ps m t r s) where
   -- the word behind a block names it
   named : (b : Block) → HasBlock s b → word_at m (end_of b.range + 8) ≡ b.range.start
   named b (used u i same o) = ap (λ r. word_at m (end_of r + 8)) same ∙ v.previous.used u i ∙ ap (λ r. r.start) (sym same)
@@ -45,7 +45,7 @@ module _ {fllen sllen : ℕ} {m : Space} {t : Table} {r : Range} {s : State} (v 
   ]
   closed f i end (end_behind c j at ends) = omega (arith, ap (word_at m) at, v.sizes.sentinel c j)
 
-  kind : (b : Block) → HasBlock s b → (end : ℕ) → BehindBlock s (end_of b.range) end → IsUsedOrFree fllen sllen m t b.range.start (end_of b.range)
+  kind : (b : Block) → HasBlock s b → (end : ℕ) → BehindBlock s (end_of b.range) end → IsUsedOrFree fllen sllen ps m t b.range.start (end_of b.range)
   kind b (used u i same o) end behind =
       inl (omega (arith, ap (λ r. word_at m r.start) same, v.sizes.used u i, ap (λ (x : Range). x.len) same))
   kind b (free i o) end behind =
@@ -53,7 +53,7 @@ module _ {fllen sllen : ℕ} {m : Space} {t : Table} {r : Range} {s : State} (v 
       inr (
         v.sizes.free b.range i ∙ len,
         closed b.range i end behind,
-        subst (λ n. IsLinked fllen sllen m t (record { start = b.range.start; len = n })) len (v.linked b.range i),
+        subst (λ n. IsLinked fllen sllen ps m t (record { start = b.range.start; len = n })) len (v.linked b.range i),
       )
 
   module _ (c : Range) (i : IsIn c s.chunks) where
@@ -73,13 +73,13 @@ module _ {fllen sllen : ℕ} {m : Space} {t : Table} {r : Range} {s : State} (v 
       ]
 
       -- and behind it the check goes on
-      pub goes_on : (end : ℕ) → end_of c ≤ end → word_at m a ≢ 35 → (stop : ℕ) × IsBlockTo fllen sllen m t a end stop × IsInChunk s c stop
+      pub goes_on : (end : ℕ) → end_of c ≤ end → word_at m a ≢ 35 → (stop : ℕ) × IsBlockTo fllen sllen ps m t a end stop × IsInChunk s c stop
       goes_on end within other =
           let (b, j, at) = block_there other in
           let whole = IsWhole-block v.well_formed b j in
           let next = IsInChunk-behind v.well_formed c i is b j at in (
             end_of b.range,
-            subst (λ x. IsBlockTo fllen sllen m t x end (end_of b.range)) at (record {
+            subst (λ x. IsBlockTo fllen sllen ps m t x end (end_of b.range)) at (record {
               some = omega (arith, block-some v.well_formed b j);
               whole = omega (arith, whole.start, whole.len);
               before_end = omega (arith, next.to, within);
@@ -133,35 +133,35 @@ module _ {fllen sllen : ℕ} {m : Space} {t : Table} {r : Range} {s : State} (v 
   len_is b (free i o) len size (inl is) = omega (arith, is, v.sizes.free b.range i)
   len_is b (free i o) len size (inr is) = absurd (omega (arith, size.1, is, v.sizes.free b.range i, (v.well_formed.free b.range i).whole.len))
 
-  legible_block : (b : Block) → HasBlock s b → (end : ℕ) → BehindBlock s (end_of b.range) end → IsLegibleBlock m b.range.start
+  legible_block : (b : Block) → HasBlock s b → (end : ℕ) → BehindBlock s (end_of b.range) end → IsLegibleBlock ps m b.range.start
   legible_block b i end behind =
       let lies = block_in b i in
       let some = block-some v.well_formed b i in
       let whole = IsWhole-block v.well_formed b i in
       let word : IsWord m b.range.start = (omega (arith, whole.start), (omega (arith, lies.0), omega (arith, lies.1, some))) in
       record {
-        size = readable m b.range.start (legible m b.range.start (block-fits v.well_formed v.sizes b i)) word;
+        size = readable_is m b.range.start (block-fits v.well_formed v.sizes b i) word;
         behind = λ len size is.
             let same = len_is b i len size is in
             let at : end_of b.range ≡ b.range.start + len = omega (arith, same) in (
-              subst (IsLegible m) at (legible m (end_of b.range) (walk-fits v.well_formed v.sizes (end_of b.range) end behind)),
-              subst (λ a. IsLegible m (a + 8)) at (legible_is m (end_of b.range + 8) b.range.start (named b i) (omega (arith, lies.1, v.well_formed.addressable))),
+              subst (IsLegible ps m) at (legible ps m (end_of b.range) (walk-fits v.well_formed v.sizes (end_of b.range) end behind)),
+              subst (λ a. IsLegible ps m (a + 8)) at (legible_is ps m (end_of b.range + 8) b.range.start (named b i) (omega (arith, lies.1, v.well_formed.addressable))),
             );
         links = λ size.
             let f = even_free b i (omega (arith, size.1)) in
-            HasLegibleLinks-linked fllen sllen m t v.well_formed.addressable b.range (omega (arith, lies.1, v.well_formed.addressable)) (v.linked b.range f);
+            HasLegibleLinks-linked fllen sllen ps m t v.well_formed.addressable b.range (omega (arith, lies.1, v.well_formed.addressable)) (v.linked b.range f);
       }
 
   module _ (c : Range) (i : IsIn c s.chunks) where
     -- the first word of a chunk that is read
-    pub legible_first : (start : ℕ) → c.start ≡ start → IsLegible m (start + 8)
-    legible_first start at = subst (λ a. IsLegible m (a + 8)) at (legible_is m (c.start + 8) 0 (v.previous.first c i) (omega arith))
+    pub legible_first : (start : ℕ) → c.start ≡ start → IsLegible ps m (start + 8)
+    legible_first start at = subst (λ a. IsLegible ps m (a + 8)) at (legible_is ps m (c.start + 8) 0 (v.previous.first c i) (omega arith))
 
     -- the word where a check is, and if it isn't a sentinel's, those of its block
-    pub legible_there : {a : ℕ} → IsInChunk s c a → IsLegible m a
-    legible_there {a} is = legible m a (walk-fits v.well_formed v.sizes a (end_of c) is.at)
+    pub legible_there : {a : ℕ} → IsInChunk s c a → IsLegible ps m a
+    legible_there {a} is = legible ps m a (walk-fits v.well_formed v.sizes a (end_of c) is.at)
 
-    pub IsLegibleBlock-there : {a : ℕ} → IsInChunk s c a → word_at m a ≢ 35 → IsLegibleBlock m a
+    pub IsLegibleBlock-there : {a : ℕ} → IsInChunk s c a → word_at m a ≢ 35 → IsLegibleBlock ps m a
     IsLegibleBlock-there {a} is other =
         let (b, j, at) = block_there c i is other in
-        subst (IsLegibleBlock m) at (legible_block b j (end_of c) (IsInChunk-behind v.well_formed c i is b j at).at)
+        subst (IsLegibleBlock ps m) at (legible_block b j (end_of c) (IsInChunk-behind v.well_formed c i is b j at).at)

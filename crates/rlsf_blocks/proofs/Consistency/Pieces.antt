@@ -21,7 +21,7 @@ use Rattle.rlsf_blocks.specs.Steps.BlockAt.{IsBlockTo, IsExactly}
 -- ---- the blocks of a chunk, so far
 
 -- used blocks and free ranges tile the bytes from one address up to another, and the memory has their words
-pub record IsPart (fllen sllen : ℕ) (m : Space) (t : Table) (start stop : ℕ) (us : List Used) (fs : List Range) : Type 0 where
+pub record IsPart (fllen sllen : ℕ) (ps : List ℕ) (m : Space) (t : Table) (start stop : ℕ) (us : List Used) (fs : List Range) : Type 0 where
   pub used : (u : Used) → IsIn u us → IsUsed u
   pub free : (f : Range) → IsIn f fs → IsWhole f × (0 < f.len)
   pub within : (f : Range) → IsIn f fs → end_of f ≤ stop
@@ -32,14 +32,14 @@ pub record IsPart (fllen sllen : ℕ) (m : Space) (t : Table) (start stop : ℕ)
   pub free_previous : (f : Range) → IsIn f fs → word_at m (end_of f + 8) ≡ f.start
   pub apart : IsApart fs
   pub closed : (f : Range) → IsIn f fs → end_of f ≡ stop → word_at m stop % 2 ≡ 1
-  pub linked : (f : Range) → IsIn f fs → IsLinked fllen sllen m t f
+  pub linked : (f : Range) → IsIn f fs → IsLinked fllen sllen ps m t f
 
-abbrev pub SomePart : ℕ → ℕ → Space → Table → ℕ → ℕ → Type 0
-SomePart fllen sllen m t start stop = (us : List Used) × (fs : List Range) × IsPart fllen sllen m t start stop us fs
+abbrev pub SomePart : ℕ → ℕ → List ℕ → Space → Table → ℕ → ℕ → Type 0
+SomePart fllen sllen ps m t start stop = (us : List Used) × (fs : List Range) × IsPart fllen sllen ps m t start stop us fs
 
 -- no block yet
-pub SomePart-none : (fllen sllen : ℕ) (m : Space) (t : Table) (start : ℕ) → SomePart fllen sllen m t start start
-SomePart-none fllen sllen m t start = (
+pub SomePart-none : (fllen sllen : ℕ) (ps : List ℕ) (m : Space) (t : Table) (start : ℕ) → SomePart fllen sllen ps m t start start
+SomePart-none fllen sllen ps m t start = (
   [],
   [],
   record {
@@ -72,16 +72,16 @@ is_used m start stop from to whole whole_stop some = record {
       ∙ let same : stop - (start + 16) ≡ start + (stop - start) - (start + 16) = omega (arith, some) in same;
 }
 
-module _ {fllen sllen : ℕ} {m : Space} {t : Table} where
+module _ {fllen sllen : ℕ} {ps : List ℕ} {m : Space} {t : Table} where
   module _ (start stop next end : ℕ) (order : start ≤ stop) (from : m.start ≤ stop) (to : end ≤ end_of (range_of m)) (whole : stop % 32 ≡ 0)
-      (is : IsBlockTo fllen sllen m t stop end next) where
+      (is : IsBlockTo fllen sllen ps m t stop end next) where
     block_tiles : (a : ℕ) → covers (between start next) a ≡ covers (between start stop) a + covers (between stop next) a
     block_tiles a =
         covers-split start stop next a order (omega (arith, is.some)) (between start next) (between start stop) (between stop next) refl (omega (arith, order, is.some)) refl
         (omega (arith, order)) refl (omega (arith, is.some))
 
     -- one block more
-    pub SomePart-more : SomePart fllen sllen m t start stop → SomePart fllen sllen m t start next
+    pub SomePart-more : SomePart fllen sllen ps m t start stop → SomePart fllen sllen ps m t start next
     SomePart-more (us, fs, p) =
         let len : next ≡ stop + (next - stop) = omega (arith, is.some) in
         let ends : end_of (between stop next) ≡ next = sym len in
@@ -131,7 +131,7 @@ module _ {fllen sllen : ℕ} {m : Space} {t : Table} where
                 ]
               ];
               closed = λ f. elim [ inl same ↦ λ at. closed | inr i ↦ λ at. absurd (omega (arith, p.within f i, is.some, at)) ];
-              linked = λ f. elim [ inl same ↦ subst (IsLinked fllen sllen m t) (sym same) linked | inr i ↦ p.linked f i ];
+              linked = λ f. elim [ inl same ↦ subst (IsLinked fllen sllen ps m t) (sym same) linked | inr i ↦ p.linked f i ];
             },
           )
         ]
@@ -159,12 +159,12 @@ pub IsBase-valid : (fllen sllen : ℕ) (m : Space) → IsValid 128 128 fllen sll
 IsBase-valid fllen sllen m valid addressable =
     record { rows = valid.some_rows; row_length = (row_length-bounds sllen valid.power_of_two).0; addressable = addressable }
 
-abbrev pub SomeChunks : ℕ → ℕ → Space → Table → ℕ → ℕ → Type 0
-SomeChunks fllen sllen m t start stop = (s : State) × IsExactly fllen sllen m t start stop s
+abbrev pub SomeChunks : ℕ → ℕ → List ℕ → Space → Table → ℕ → ℕ → Type 0
+SomeChunks fllen sllen ps m t start stop = (s : State) × IsExactly fllen sllen ps m t start stop s
 
-module _ {fllen sllen : ℕ} {m : Space} {t : Table} (g : IsBase fllen sllen m) where
+module _ {fllen sllen : ℕ} {ps : List ℕ} {m : Space} {t : Table} (g : IsBase fllen sllen m) where
   -- no chunk
-  pub SomeChunks-none : (start : ℕ) → SomeChunks fllen sllen m t start start
+  pub SomeChunks-none : (start : ℕ) → SomeChunks fllen sllen ps m t start start
   SomeChunks-none start = (
     empty,
     (
@@ -192,7 +192,7 @@ module _ {fllen sllen : ℕ} {m : Space} {t : Table} (g : IsBase fllen sllen m) 
   -- the blocks of a chunk and its sentinel
   pub SomeChunks-one : (start stop : ℕ) → m.start ≤ start → stop + 32 ≤ end_of (range_of m) → start % 32 ≡ 0 → stop % 32 ≡ 0 → start < stop
       → IsValidClass fllen (class_of sllen (stop - start))
-      → word_at m (start + 8) ≡ 0 → word_at m stop ≡ 35 → SomePart fllen sllen m t start stop → SomeChunks fllen sllen m t start (stop + 32)
+      → word_at m (start + 8) ≡ 0 → word_at m stop ≡ 35 → SomePart fllen sllen ps m t start stop → SomeChunks fllen sllen ps m t start (stop + 32)
   SomeChunks-one start stop from to whole whole_stop some valid first sentinel (us, fs, p) =
       let c = between start (stop + 32) in
       let len : stop - start ≡ c.len - 32 = omega (arith, some) in
@@ -246,8 +246,8 @@ module _ {fllen sllen : ℕ} {m : Space} {t : Table} (g : IsBase fllen sllen m) 
       )
 
   -- chunks behind others
-  pub SomeChunks-append : (start mid stop : ℕ) → start ≤ mid → mid ≤ stop → SomeChunks fllen sllen m t start mid → SomeChunks fllen sllen m t mid stop
-      → SomeChunks fllen sllen m t start stop
+  pub SomeChunks-append : (start mid stop : ℕ) → start ≤ mid → mid ≤ stop → SomeChunks fllen sllen ps m t start mid → SomeChunks fllen sllen ps m t mid stop
+      → SomeChunks fllen sllen ps m t start stop
   SomeChunks-append start mid stop low high (s, (is, inside)) (n, (has, within)) =
       let v = is.well_formed in
       let w = has.well_formed in

@@ -1,9 +1,10 @@
 -- A memory and a table that represent a state are consistent over its chunks.
-use Rattle.std.proofs.Common.{◌≡◌, ◌≢◌, ℕ, ◌+◌, ◌-◌, ◌%◌, ◌<◌, true, arith, sym, ◌∙◌, ap, subst, inl, inr}
+use Rattle.std.proofs.Common.{◌≡◌, ◌≢◌, ℕ, ◌+◌, ◌-◌, ◌%◌, ◌<◌, ◌≤◌, List, true, arith, sym, ◌∙◌, ap, subst, inl, inr}
 use Rattle.rlsf_base.specs.declared.memory.range.Range.{Range}
 use Rattle.rlsf_base.specs.SizeClass.{class_of}
 use Rattle.rlsf_base.specs.Sizes.{IsSize}
-use Rattle.rlsf_base.specs.Space.{IsWord, Space, word_at}
+use Rattle.rlsf_base.specs.Range.{end_of}
+use Rattle.rlsf_base.specs.Space.{Space, word_at, word_range}
 use Rattle.rlsf_base.proofs.SizeClasses.Reach.{division-lt}
 use Rattle.rlsf_model.specs.Allocate.{has_class}
 use Rattle.rlsf_model.specs.ChunkRows.{IsRow}
@@ -15,31 +16,41 @@ use Rattle.rlsf_table.proofs.FreeLists.Classes.{IsIn-of_class, IsIn-of_class_fro
 use Rattle.rlsf_table.proofs.Tables.Bits.{has_class-in_row, is_in_row-own}
 use Rattle.rlsf_table.proofs.Tables.Tests.{list_any-some, list_any-true}
 use Rattle.rlsf_blocks.specs.StandsFor.{contents, StandsFor}
-use Rattle.rlsf_blocks.proofs.Words.Apart.{free_in_memory}
-use Rattle.rlsf_blocks.specs.Consistency.Consistent.{IsConsistent, RepresentedIsConsistent}
+use Rattle.rlsf_blocks.proofs.Words.Apart.{free_in_memory, home_of_free}
+use Rattle.rlsf_blocks.specs.Consistency.Consistent.{AreConsistent, IsConsistent, RepresentedAreConsistent, RepresentedIsConsistent}
 use Rattle.rlsf_blocks.specs.Consistency.Heads.{AgreesAt, HasHeads, IsFirstOf}
+use Rattle.rlsf_blocks.specs.Blocks.{walked}
 use Rattle.rlsf_blocks.specs.Consistency.Layout.{HasLayout}
 use Rattle.rlsf_blocks.specs.Consistency.Linked.{HasFreeSize, IsLinked, IsNeighbour}
+use Rattle.rlsf_blocks.specs.Consistency.Pools.{IsPoolWord, LiesInPool, all_of, pool_at}
 use Rattle.rlsf_blocks.proofs.Consistency.Classes.{exponent-le}
+use Rattle.rlsf_blocks.proofs.Consistency.Walked.{reaches_all}
 use Rattle.rlsf_blocks.proofs.Consistency.Lists.{NamesBack, has_head, head_of, linked}
 
-module _ {fllen sllen : ℕ} {m : Space} {t : Table} {s : State} (v : StandsFor fllen sllen (contents m t) s) where
-  -- each word of the first 32 bytes of a free block lies in the memory
-  word_in : (f : Range) → IsIn f s.free → (offset : ℕ) → offset % 8 ≡ 0 → offset < 32 → IsWord m (f.start + offset)
+-- each word of the chunks lies in one of the pools
+abbrev InPools : List ℕ → State → Type 0
+InPools ps s = (c : Range) → IsIn c s.chunks → (a : ℕ) → c.start ≤ a → a + 8 ≤ end_of c → LiesInPool ps (word_range a)
+
+module _ {fllen sllen : ℕ} (ps : List ℕ) {m : Space} {t : Table} {s : State} (v : StandsFor fllen sllen (contents m t) s) (inside : InPools ps s) where
+  -- each word of the first 32 bytes of a free block lies in the memory, and in one of the pools
+  word_in : (f : Range) → IsIn f s.free → (offset : ℕ) → offset % 8 ≡ 0 → offset < 32 → IsPoolWord ps m (f.start + offset)
   word_in f i offset whole below =
       let is = v.well_formed.free f i in let placed = free_in_memory v.well_formed f i in
-      (omega (arith, is.whole.start, whole), (omega (arith, placed.0), omega (arith, placed.1, is.some, is.whole.len, whole, below)))
+      let home = home_of_free v.well_formed f i in (
+        (omega (arith, is.whole.start, whole), (omega (arith, placed.0), omega (arith, placed.1, is.some, is.whole.len, whole, below))),
+        inside home.chunk home.is_chunk (f.start + offset) (omega (arith, home.from)) (omega (arith, home.to, is.some, is.whole.len, whole, below)),
+      )
 
   some_start : (f : Range) → IsIn f s.free → f.start ≢ 0
   some_start f i none = omega (arith, none, v.nonzero, (free_in_memory v.well_formed f i).0)
 
   -- its size word
-  free_size : (f : Range) → IsIn f s.free → HasFreeSize m f.start
+  free_size : (f : Range) → IsIn f s.free → HasFreeSize ps m f.start
   free_size f i =
       let is = v.well_formed.free f i in
       let word = word_in f i 0 (omega arith) (omega arith) in
       let at : f.start + 0 ≡ f.start = omega arith in (
-        subst (IsWord m) at word,
+        subst (IsPoolWord ps m) at word,
         omega (arith, v.sizes.free f i, (free_in_memory v.well_formed f i).1, v.well_formed.addressable),
         subst IsSize (sym (v.sizes.free f i)) (is.some, is.whole.len),
       )
@@ -55,21 +66,21 @@ module _ {fllen sllen : ℕ} {m : Space} {t : Table} {s : State} (v : StandsFor 
     -- two blocks of one list are neighbours where one names the other
     neighbour : (f : Range) → class_of sllen f.len ≡ class_at fl sl → (at offset : ℕ) → offset % 8 ≡ 0 → offset < 32
         → NamesBack m (of_class sllen fl sl s.free) at offset f.start
-        → IsNeighbour sllen m f at offset
+        → IsNeighbour sllen ps m f at offset
     neighbour f class at offset whole below (g, i, is, back) =
         let (j, same) = of g i in
-        subst (λ a. IsNeighbour sllen m f a offset) (sym is) (record {
+        subst (λ a. IsNeighbour sllen ps m f a offset) (sym is) (record {
           size = free_size g j;
           class = ap (class_of sllen) (v.sizes.free g j) ∙ same ∙ sym class;
           names = (word_in g j offset whole below, back);
         })
 
     -- a head is the first block of its list
-    first_of_list : head_at t fl sl ≢ 0 → IsFirstOf fllen sllen m fl sl (head_at t fl sl)
+    first_of_list : head_at t fl sl ≢ 0 → IsFirstOf fllen sllen ps m fl sl (head_at t fl sl)
     first_of_list some =
         let (f, i, at, first) = head_of m (of_class sllen fl sl s.free) (head_at t fl sl) (v.table.lists.links fl sl row place) some in
         let (j, class) = of f i in
-        subst (IsFirstOf fllen sllen m fl sl) (sym at) (record {
+        subst (IsFirstOf fllen sllen ps m fl sl) (sym at) (record {
           size = free_size f j;
           class = record { row = row; place = place; class = ap (class_of sllen) (v.sizes.free f j) ∙ class };
           first = (word_in f j 24 (omega arith) (omega arith), first);
@@ -85,7 +96,7 @@ module _ {fllen sllen : ℕ} {m : Space} {t : Table} {s : State} (v : StandsFor 
         let (f, i, at, first) = head_of m (of_class sllen fl sl s.free) (head_at t fl sl) (v.table.lists.links fl sl row place) some in
         let (j, class) = of f i in (f, j, class)
 
-    agrees_at : AgreesAt fllen sllen m t fl sl
+    agrees_at : AgreesAt fllen sllen ps m t fl sl
     agrees_at = record {
       bit = (
         λ set. let (f, i, has) = list_any-some (has_class sllen (class_at fl sl)) s.free (sym (v.table.bits.second fl sl row) ∙ set) in head_from f i has,
@@ -95,7 +106,7 @@ module _ {fllen sllen : ℕ} {m : Space} {t : Table} {s : State} (v : StandsFor 
       head = first_of_list;
     }
 
-  has_heads : HasHeads fllen sllen m t
+  has_heads : HasHeads fllen sllen ps m t
   has_heads fl row = record {
     bit = (
       λ set.
@@ -111,7 +122,7 @@ module _ {fllen sllen : ℕ} {m : Space} {t : Table} {s : State} (v : StandsFor 
   }
 
   -- each free block is linked into the list of its class
-  free_linked : (f : Range) → IsIn f s.free → IsLinked fllen sllen m t f
+  free_linked : (f : Range) → IsIn f s.free → IsLinked fllen sllen ps m t f
   free_linked f i =
       let is = v.well_formed.free f i in
       let fl = (class_of sllen f.len).exponent - 5 in
@@ -135,12 +146,18 @@ module _ {fllen sllen : ℕ} {m : Space} {t : Table} {s : State} (v : StandsFor 
         ];
       }
 
-  has_layout : (r : Range) → IsRow s r → HasLayout fllen sllen m t r s
+  has_layout : (r : Range) → IsRow s r → HasLayout fllen sllen ps m t r s
   has_layout r row = record { well_formed = v.well_formed; row = row; sizes = v.sizes; previous = v.previous; linked = free_linked }
 
-  is_consistent : (r : Range) → IsRow s r → IsConsistent fllen sllen m t r
-  unfolding IsConsistent
-  is_consistent r row = (has_heads, (s, has_layout r row))
-
 pub represented_is_consistent : RepresentedIsConsistent
-represented_is_consistent fllen sllen m t s r v row = is_consistent v r row
+unfolding IsConsistent
+represented_is_consistent fllen sllen m t s r v row =
+    let inside : InPools (all_of m) s = λ c i a from to.
+    let lies = (v.well_formed.chunks c i).lies_in in reaches_all m a (omega (arith, lies.0, from), omega (arith, lies.1, to)) in
+    (has_heads (all_of m) v inside, (s, has_layout (all_of m) v inside r row))
+
+pub represented_are_consistent : RepresentedAreConsistent
+unfolding AreConsistent LiesInPool
+represented_are_consistent fllen sllen ps m t s v rows covers =
+    let inside : InPools ps s = λ c i a from to. let (k, is, low, high) = covers c i in (k, is, (omega (arith, low, from), omega (arith, high, to))) in
+    (has_heads ps v inside, λ k is. (s, has_layout ps v inside (walked (pool_at ps k)) (rows k is)))

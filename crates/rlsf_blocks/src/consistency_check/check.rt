@@ -1,10 +1,14 @@
 //! The check of a memory and a class table.
 
-ghost use Rattle.std.specs.Prelude.{◌≡◌, ◌↔◌, length, true};
-ghost use Rattle.rlsf_base.specs.Range.{LiesIn, range_at};
+ghost use Rattle.std.specs.Prelude.{◌≡◌, ◌↔◌, ℕ, ◌+◌, ◌%◌, ◌<◌, ◌≤◌, length, true};
+ghost use Rattle.rlsf_base.specs.declared.memory.range.Range.{Range};
+ghost use Rattle.rlsf_base.specs.Range.{LiesIn, end_of, range_at};
 ghost use Rattle.rlsf_base.specs.SizeClass.{IsValid};
+ghost use Rattle.rlsf_base.specs.Space.{word_range};
 ghost use Rattle.rlsf_blocks.specs.Blocks.{walked};
-ghost use Rattle.rlsf_blocks.specs.Consistency.Consistent.{CanBeChecked, IsConsistent, RepresentedIsConsistent};
+ghost use Rattle.rlsf_blocks.specs.Consistency.Consistent.{AreConsistent, ArePoolsLegible, CanBeChecked, HasChunks, IsConsistent, RepresentedAreConsistent, RepresentedIsConsistent};
+ghost use Rattle.rlsf_blocks.specs.Steps.BlockAt.{CanReadChunks, ReachesPools};
+ghost use Rattle.rlsf_blocks.specs.Steps.Legible.{HasLegibleHeads};
 
 use crate::GRANULARITY;
 use crate::consistency_check::chunks::are_chunks;
@@ -35,11 +39,59 @@ pub fn is_consistent<const FLLEN: usize, const SLLEN: usize>(
     requires legible { CanBeChecked FLLEN SLLEN memory.now table.now (walked range) }
     ensures { (result ≡ true) ↔ IsConsistent FLLEN SLLEN memory.now table.now (walked range) }
 {
+    let pools = [memory.start(), memory.len()];
+    heads_agree(memory, table, &pools) && has_chunks(memory, table, &pools, range)
+}
+
+/// Returns whether the words of a memory and of a class table are those of a heap over some pools: whether `is_consistent` is true over each
+/// of them, and each link and each head leads to a free block in one of them. The numbers are the start and the length of each pool.
+///
+/// Words and pools may have any values. Nothing outside of the pools is read, and nothing is written. The time grows with the number of
+/// pools times that of blocks and classes.
+///
+/// Each word of the pools must be here, or memory and table must be consistent. In the latter case bytes of payloads may be out, since no
+/// byte of a payload is read.
+pub fn are_consistent<const FLLEN: usize, const SLLEN: usize>(
+    memory: &OpenMemory,
+    table: &ClassTable<FLLEN, SLLEN>,
+    pools: &[usize],
+) -> bool
+    requires parameters { IsValid 128 128 FLLEN SLLEN }
+    requires legible { ArePoolsLegible FLLEN SLLEN pools.now memory.now table.now }
+    ensures { (result ≡ true) ↔ AreConsistent FLLEN SLLEN pools.now memory.now table.now }
+{
     // Opens the memory's invariant for the prover: each address fits in a word.
     let _ = memory.start();
-    if !heads_agree(memory, table) {
+    if !heads_agree(memory, table, pools) {
         return false;
     }
+    for k in 0..pools.len() / 2 {
+        let pool = Range {
+            start: pools[2 * k],
+            len: pools[2 * k + 1],
+        };
+        if !has_chunks(memory, table, pools, pool) {
+            return false;
+        }
+    }
+    true
+}
+
+/// Returns whether the words of a range, from its start rounded up to 32 to its end, are those of complete chunks. Each word of the memory
+/// in that part of the range must lie in one of the pools.
+fn has_chunks<const FLLEN: usize, const SLLEN: usize>(
+    memory: &OpenMemory,
+    table: &ClassTable<FLLEN, SLLEN>,
+    pools: &[usize],
+    range: Range,
+) -> bool
+    requires parameters { IsValid 128 128 FLLEN SLLEN }
+    requires legible { CanReadChunks FLLEN SLLEN pools.now memory.now table.now (walked range) }
+    requires reaches { ReachesPools pools.now memory.now range }
+    ensures { (result ≡ true) ↔ HasChunks FLLEN SLLEN pools.now memory.now table.now (walked range) }
+{
+    // Opens the memory's invariant for the prover: each address fits in a word.
+    let _ = memory.start();
     // From the start to the next multiple of 32.
     let skipped = (GRANULARITY - range.start % GRANULARITY) % GRANULARITY;
     if range.len <= skipped {
@@ -48,7 +100,7 @@ pub fn is_consistent<const FLLEN: usize, const SLLEN: usize>(
     let rest = range.len - skipped;
     match range.start.checked_add(skipped) {
         Some(start) => {
-            is_within(memory, start, rest) && are_chunks(memory, table, start, start + rest)
+            is_within(memory, start, rest) && are_chunks(memory, table, pools, start, start + rest)
         }
         None => false,
     }
@@ -62,8 +114,10 @@ fn is_within(memory: &OpenMemory, start: usize, len: usize) -> bool
     start >= first && len <= all && start - first <= all - len
 }
 
-/// Does nothing. Its contract states a law, so that a check proves it: each memory and class table that represent a state are consistent
-/// over each range of its complete chunks. So `is_consistent` returns true for each allocator that keeps its invariant.
+/// Does nothing. Its contract states laws, so that a check proves them: each memory and class table that represent a state are consistent
+/// over each range of its complete chunks, and over pools of complete chunks. So `is_consistent` and `are_consistent` return true for each
+/// allocator that keeps its invariant.
 pub fn laws()
-    ensures { RepresentedIsConsistent }
+    ensures range { RepresentedIsConsistent }
+    ensures pools { RepresentedAreConsistent }
 {}

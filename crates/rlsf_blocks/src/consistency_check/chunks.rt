@@ -26,18 +26,19 @@ const SENTINEL: u64 = GRANULARITY as u64 + SIZE_USED + SIZE_SENTINEL;
 fn is_used_or_free<const FLLEN: usize, const SLLEN: usize>(
     memory: &OpenMemory,
     table: &ClassTable<FLLEN, SLLEN>,
+    pools: &[usize],
     size: u64,
     block: usize,
     len: usize,
 ) -> bool
     requires parameters { IsValid 128 128 FLLEN SLLEN }
-    requires span { IsSpanOf memory.now block (block + len + 32) }
-    requires legible { IsLegibleBlock memory.now block }
+    requires span { IsSpanOf pools.now memory.now block (block + len + 32) }
+    requires legible { IsLegibleBlock pools.now memory.now block }
     requires whole { block % 32 ≡ 0 }
     requires len { IsSize len }
     requires word { size ≡ word_at memory.now block }
     requires size { (size ≡ len) ⊎ (size ≡ len + 1) }
-    ensures { (result ≡ true) ↔ IsUsedOrFree FLLEN SLLEN memory.now table.now block (block + len) }
+    ensures { (result ≡ true) ↔ IsUsedOrFree FLLEN SLLEN pools.now memory.now table.now block (block + len) }
 {
     if !is_free(size) {
         return true;
@@ -48,7 +49,7 @@ fn is_used_or_free<const FLLEN: usize, const SLLEN: usize>(
     if is_free(memory.word(block + len)) {
         return false;
     }
-    is_linked(memory, table, block, len)
+    is_linked(memory, table, pools, block, len)
 }
 
 /// Returns the end of the block at `block`. Returns `None` if the words there aren't those of a block with 32 bytes behind it before
@@ -56,16 +57,17 @@ fn is_used_or_free<const FLLEN: usize, const SLLEN: usize>(
 fn block_end<const FLLEN: usize, const SLLEN: usize>(
     memory: &OpenMemory,
     table: &ClassTable<FLLEN, SLLEN>,
+    pools: &[usize],
     block: usize,
     end: usize,
 ) -> Option<usize>
     requires parameters { IsValid 128 128 FLLEN SLLEN }
-    requires span { IsSpanOf memory.now block end }
-    requires legible { IsLegibleBlock memory.now block }
+    requires span { IsSpanOf pools.now memory.now block end }
+    requires legible { IsLegibleBlock pools.now memory.now block }
     requires whole { block % 32 ≡ 0 }
     requires room { block + 32 ≤ end }
-    ensures some { IfSome result (IsBlockTo FLLEN SLLEN memory.now table.now block end) }
-    ensures each { (stop : ℕ) → IsBlockTo FLLEN SLLEN memory.now table.now block end stop → result ≡ Some stop }
+    ensures some { IfSome result (IsBlockTo FLLEN SLLEN pools.now memory.now table.now block end) }
+    ensures each { (stop : ℕ) → IsBlockTo FLLEN SLLEN pools.now memory.now table.now block end stop → result ≡ Some stop }
 {
     let size = memory.word(block);
     let flags = size % GRANULARITY as u64;
@@ -74,10 +76,10 @@ fn block_end<const FLLEN: usize, const SLLEN: usize>(
         return None;
     }
     let behind = block + len;
-    if !has_word(memory, behind + PREVIOUS_BLOCK, block as u64) {
+    if !has_word(memory, pools, behind + PREVIOUS_BLOCK, block as u64) {
         return None;
     }
-    if is_used_or_free(memory, table, size, block, len) {
+    if is_used_or_free(memory, table, pools, size, block, len) {
         Some(behind)
     } else {
         None
@@ -89,27 +91,28 @@ fn block_end<const FLLEN: usize, const SLLEN: usize>(
 fn checked_chunk_end<const FLLEN: usize, const SLLEN: usize>(
     memory: &OpenMemory,
     table: &ClassTable<FLLEN, SLLEN>,
+    pools: &[usize],
     chunk: usize,
     end: usize,
 ) -> Option<usize>
     requires parameters { IsValid 128 128 FLLEN SLLEN }
-    requires span { IsSpanOf memory.now chunk end }
-    requires legible { CanReadChunk FLLEN SLLEN memory.now table.now chunk end }
+    requires span { IsSpanOf pools.now memory.now chunk end }
+    requires legible { CanReadChunk FLLEN SLLEN pools.now memory.now table.now chunk end }
     requires whole { chunk % 32 ≡ 0 }
     requires some { chunk < end }
-    ensures some { IfSome result (λ stop. (chunk < stop) × (stop ≤ end) × (stop % 32 ≡ 0) × ((s : State) × IsExactly FLLEN SLLEN memory.now table.now chunk stop s)) }
-    ensures each { (s : State) (c r : Range) → HasLayout FLLEN SLLEN memory.now table.now r s → IsIn c s.chunks → c.start ≡ chunk → end_of c ≤ end → result ≡ Some (end_of c) }
+    ensures some { IfSome result (λ stop. (chunk < stop) × (stop ≤ end) × (stop % 32 ≡ 0) × ((s : State) × IsExactly FLLEN SLLEN pools.now memory.now table.now chunk stop s)) }
+    ensures each { (s : State) (c r : Range) → HasLayout FLLEN SLLEN pools.now memory.now table.now r s → IsIn c s.chunks → c.start ≡ chunk → end_of c ≤ end → result ≡ Some (end_of c) }
 {
     // A chunk has a block and a sentinel.
     if end - chunk < 2 * GRANULARITY {
         return None;
     }
-    if !has_word(memory, chunk + PREVIOUS_BLOCK, 0) {
+    if !has_word(memory, pools, chunk + PREVIOUS_BLOCK, 0) {
         return None;
     }
     let mut block = chunk;
-    while !has_word(memory, block, SENTINEL) {
-        match block_end(memory, table, block, end) {
+    while !has_word(memory, pools, block, SENTINEL) {
+        match block_end(memory, table, pools, block, end) {
             Some(next) => block = next,
             None => return None,
         }
@@ -128,19 +131,20 @@ fn checked_chunk_end<const FLLEN: usize, const SLLEN: usize>(
 pub(crate) fn are_chunks<const FLLEN: usize, const SLLEN: usize>(
     memory: &OpenMemory,
     table: &ClassTable<FLLEN, SLLEN>,
+    pools: &[usize],
     start: usize,
     end: usize,
 ) -> bool
     requires parameters { IsValid 128 128 FLLEN SLLEN }
-    requires span { IsSpanOf memory.now start end }
-    requires legible { CanReadChunks FLLEN SLLEN memory.now table.now (between start end) }
+    requires span { IsSpanOf pools.now memory.now start end }
+    requires legible { CanReadChunks FLLEN SLLEN pools.now memory.now table.now (between start end) }
     requires whole { start % 32 ≡ 0 }
     requires order { start ≤ end }
-    ensures { (result ≡ true) ↔ ((s : State) × HasLayout FLLEN SLLEN memory.now table.now (between start end) s) }
+    ensures { (result ≡ true) ↔ ((s : State) × HasLayout FLLEN SLLEN pools.now memory.now table.now (between start end) s) }
 {
     let mut chunk = start;
     while chunk < end {
-        match checked_chunk_end(memory, table, chunk, end) {
+        match checked_chunk_end(memory, table, pools, chunk, end) {
             Some(next) => chunk = next,
             None => return false,
         }

@@ -29,18 +29,19 @@ fn has_class<const FLLEN: usize, const SLLEN: usize>(size: usize, fl: usize, sl:
 /// Returns whether the first free block of a class is at an address.
 fn is_first<const FLLEN: usize, const SLLEN: usize>(
     memory: &OpenMemory,
+    pools: &[usize],
     fl: usize,
     sl: usize,
     addr: usize,
 ) -> bool
     requires parameters { IsValid 128 128 FLLEN SLLEN }
-    requires legible { IsLegibleAt memory.now addr 24 }
-    ensures { (result ≡ true) ↔ IsFirstOf FLLEN SLLEN memory.now fl sl addr }
+    requires legible { IsLegibleAt pools.now memory.now addr 24 }
+    ensures { (result ≡ true) ↔ IsFirstOf FLLEN SLLEN pools.now memory.now fl sl addr }
 {
-    match free_size(memory, addr) {
+    match free_size(memory, pools, addr) {
         Some(size) => {
             has_class::<FLLEN, SLLEN>(size, fl, sl)
-                && has_word_behind(memory, addr, PREVIOUS_FREE, 0)
+                && has_word_behind(memory, pools, addr, PREVIOUS_FREE, 0)
         }
         None => false,
     }
@@ -50,21 +51,22 @@ fn is_first<const FLLEN: usize, const SLLEN: usize>(
 fn agrees<const FLLEN: usize, const SLLEN: usize>(
     memory: &OpenMemory,
     table: &ClassTable<FLLEN, SLLEN>,
+    pools: &[usize],
     places: u128,
     fl: usize,
     sl: usize,
 ) -> bool
     requires parameters { IsValid 128 128 FLLEN SLLEN }
     requires class { (fl < FLLEN) × (sl < SLLEN) }
-    requires legible { HasLegibleHeads FLLEN SLLEN memory.now table.now }
+    requires legible { HasLegibleHeads FLLEN SLLEN pools.now memory.now table.now }
     requires places { bit places sl ≡ bit (slice_index table.now.second_level fl) sl }
-    ensures { (result ≡ true) ↔ AgreesAt FLLEN SLLEN memory.now table.now fl sl }
+    ensures { (result ≡ true) ↔ AgreesAt FLLEN SLLEN pools.now memory.now table.now fl sl }
 {
     let head = table.newest(fl, sl);
     if head == 0 {
         !places.get_bit(sl as u32)
     } else {
-        places.get_bit(sl as u32) && is_first::<FLLEN, SLLEN>(memory, fl, sl, head)
+        places.get_bit(sl as u32) && is_first::<FLLEN, SLLEN>(memory, pools, fl, sl, head)
     }
 }
 
@@ -72,18 +74,19 @@ fn agrees<const FLLEN: usize, const SLLEN: usize>(
 fn row_agrees<const FLLEN: usize, const SLLEN: usize>(
     memory: &OpenMemory,
     table: &ClassTable<FLLEN, SLLEN>,
+    pools: &[usize],
     fl: usize,
     is_set: bool,
 ) -> bool
     requires parameters { IsValid 128 128 FLLEN SLLEN }
     requires row { fl < FLLEN }
-    requires legible { HasLegibleHeads FLLEN SLLEN memory.now table.now }
-    ensures { (result ≡ true) ↔ RowAgrees FLLEN SLLEN memory.now table.now fl is_set }
+    requires legible { HasLegibleHeads FLLEN SLLEN pools.now memory.now table.now }
+    ensures { (result ≡ true) ↔ RowAgrees FLLEN SLLEN pools.now memory.now table.now fl is_set }
 {
     let places: u128 = table.sl_bitmap(fl);
     let mut has_head = false;
     for sl in 0..SLLEN {
-        if !agrees(memory, table, places, fl, sl) {
+        if !agrees(memory, table, pools, places, fl, sl) {
             return false;
         }
         if table.newest(fl, sl) != 0 {
@@ -97,14 +100,15 @@ fn row_agrees<const FLLEN: usize, const SLLEN: usize>(
 pub(crate) fn heads_agree<const FLLEN: usize, const SLLEN: usize>(
     memory: &OpenMemory,
     table: &ClassTable<FLLEN, SLLEN>,
+    pools: &[usize],
 ) -> bool
     requires parameters { IsValid 128 128 FLLEN SLLEN }
-    requires legible { HasLegibleHeads FLLEN SLLEN memory.now table.now }
-    ensures { (result ≡ true) ↔ HasHeads FLLEN SLLEN memory.now table.now }
+    requires legible { HasLegibleHeads FLLEN SLLEN pools.now memory.now table.now }
+    ensures { (result ≡ true) ↔ HasHeads FLLEN SLLEN pools.now memory.now table.now }
 {
     let rows: u128 = table.fl_bitmap();
     for fl in 0..FLLEN {
-        if !row_agrees(memory, table, fl, rows.get_bit(fl as u32)) {
+        if !row_agrees(memory, table, pools, fl, rows.get_bit(fl as u32)) {
             return false;
         }
     }

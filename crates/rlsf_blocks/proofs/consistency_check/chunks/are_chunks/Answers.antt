@@ -47,12 +47,17 @@ returns-in-None g c = (
 pub checked_chunk_end-requires : goal.checked_chunk_end-requires
 checked_chunk_end-requires g c =
     let so_far = c.loop-chunk.invariant in
-    let legible : CanReadChunk g.row.FLLEN g.row.SLLEN c.args.memory.now c.args.table.now c.loop-chunk.chunk c.args.end = elim c.requires.legible [
+    let legible : CanReadChunk g.row.FLLEN g.row.SLLEN c.args.pools.now c.args.memory.now c.args.table.now c.loop-chunk.chunk c.args.end = elim c.requires.legible [
       | inl here ↦ inl here
       | inr (s, v) ↦
           let (k, i, at, within, rest) = row_first v c.loop-chunk.chunk c.args.end c.loop-chunk-test.true (so_far.passes s v) in
           inr (s, k, between c.args.start c.args.end, v, i, at, within)
     ] in
-    let span : IsSpanOf c.args.memory.now c.loop-chunk.chunk c.args.end =
-    record { from = omega (arith, c.requires.span.from, so_far.from); to = c.requires.span.to; addressable = c.requires.span.addressable } in
+    let span : IsSpanOf c.args.pools.now c.args.memory.now c.loop-chunk.chunk c.args.end =
+    record {
+      from = omega (arith, c.requires.span.from, so_far.from);
+      to = c.requires.span.to;
+      addressable = c.requires.span.addressable;
+      pool = λ a low high. c.requires.span.pool a (omega (arith, low, so_far.from)) high;
+    } in
     (omega arith, (c.requires.parameters, (span, (legible, (so_far.whole, c.loop-chunk-test.true)))))

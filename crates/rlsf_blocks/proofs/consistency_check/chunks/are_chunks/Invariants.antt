@@ -11,8 +11,8 @@ invariant-loop-chunk g l = record {
   from : l.start ≤ l.chunk;
   to : l.chunk ≤ l.end;
   whole : l.chunk % 32 ≡ 0;
-  chunks : SomeChunks g.row.FLLEN g.row.SLLEN l.memory l.table l.start l.chunk;
-  passes : (s : State) → HasLayout g.row.FLLEN g.row.SLLEN l.memory l.table (between l.start l.end) s → IsRow s (between l.chunk l.end);
+  chunks : SomeChunks g.row.FLLEN g.row.SLLEN l.pools l.memory l.table l.start l.chunk;
+  passes : (s : State) → HasLayout g.row.FLLEN g.row.SLLEN l.pools l.memory l.table (between l.start l.end) s → IsRow s (between l.chunk l.end);
 }
 
 abbrev pub decreases-loop-chunk : goal.decreases-loop-chunk

@@ -1,10 +1,11 @@
 use Rattle.std.proofs.Common.{◌≡◌, ◌≢◌, ◌+◌, ◌-◌, ◌<◌, Some, None, true≢false, arith, refl, sym, ◌∙◌, ap, inl, inr, subst}
 use Rattle.rlsf_base.specs.SizeClass.{IsValidClass, class_of}
-use Rattle.rlsf_base.specs.Space.{IsWord, word_at}
+use Rattle.rlsf_base.specs.Space.{word_at}
 use Rattle.rlsf_blocks.proofs.Walking.ChunkEnds.{IsInChunk, IsInChunk-start}
 use Rattle.rlsf_blocks.proofs.Consistency.Classes.{map_floor-none, map_floor-valid}
 use Rattle.rlsf_blocks.proofs.Consistency.Passing.{IsLegibleBlock-there, ends_there, goes_on, legible_first, legible_there, not_at_start}
 use Rattle.rlsf_blocks.proofs.Consistency.Reading.{IsLegibleBlock-here, legible_here}
+use Rattle.rlsf_blocks.specs.Consistency.Pools.{IsPoolWord}
 use Rattle.rlsf_blocks.specs.Steps.BlockAt.{IsSpanOf}
 use Rattle.rlsf_blocks.specs.Steps.Legible.{IsLegibleBlock}
 use Rattle.rlsf_blocks.proofs.Consistency.Pieces.{IsBase-valid, SomeChunks-one, SomePart-more, SomePart-none}
@@ -17,16 +18,18 @@ loop-block-init g c = record {
   from = omega arith;
   to = omega (arith, c.if-end-chunk.false);
   whole = c.requires.whole;
-  part = SomePart-none g.row.FLLEN g.row.SLLEN c.args.memory.now c.args.table.now c.args.chunk;
+  part = SomePart-none g.row.FLLEN g.row.SLLEN c.args.pools.now c.args.memory.now c.args.table.now c.args.chunk;
   passes = λ s k r v i at within. IsInChunk-start v.well_formed k i c.args.chunk at;
 }
 
 -- where the loop goes on there is a word, and not a sentinel's
-not_last : (g : given.Over) (c : In-loop-block g) → IsWord c.args.memory.now c.loop-block.block × (word_at c.args.memory.now c.loop-block.block ≢ 35)
+not_last : (g : given.Over) (c : In-loop-block g) → IsPoolWord c.args.pools.now c.args.memory.now c.loop-block.block × (word_at c.args.memory.now c.loop-block.block ≢ 35)
 not_last g c =
     let so_far = c.loop-block.invariant in
-    let word : IsWord c.args.memory.now c.loop-block.block =
-    (omega (arith, so_far.whole), (omega (arith, c.requires.span.from, so_far.from), omega (arith, c.requires.span.to, so_far.to))) in
+    let word : IsPoolWord c.args.pools.now c.args.memory.now c.loop-block.block = (
+      (omega (arith, so_far.whole), (omega (arith, c.requires.span.from, so_far.from), omega (arith, c.requires.span.to, so_far.to))),
+      c.requires.span.pool c.loop-block.block so_far.from (omega (arith, so_far.to)),
+    ) in
     (word, λ sentinel. true≢false (sym (c.loop-block-test.ensures.1 (word, sentinel))))
 
 pub loop-block-preserved : goal.loop-block-preserved
@@ -87,13 +90,13 @@ returns-in-None-map_floor-clause-each g c = λ s k r v i at within.
 
 pub has_word-requires : goal.has_word-requires
 has_word-requires g c = elim c.requires.legible [
-  | inl here ↦ legible_here c.args.memory.now here (c.args.chunk + 8)
+  | inl here ↦ legible_here c.args.pools.now c.args.memory.now here (c.args.chunk + 8)
   | inr (s, k, r, v, i, at, within) ↦ legible_first v k i c.args.chunk at
 ]
 
 pub has_word-requires-in-loop-block : goal.has_word-requires-in-loop-block
 has_word-requires-in-loop-block g c = elim c.requires.legible [
-  | inl here ↦ legible_here c.args.memory.now here c.loop-block.block
+  | inl here ↦ legible_here c.args.pools.now c.args.memory.now here c.loop-block.block
   | inr (s, k, r, v, i, at, within) ↦ legible_there v k i (c.loop-block.invariant.passes s k r v i at within)
 ]
 
@@ -101,10 +104,15 @@ pub block_end-requires : goal.block_end-requires
 block_end-requires g c =
     let so_far = c.loop-block.invariant in
     let (word, other) = not_last g (goal.at.block_end-requires g c).In-loop-block in
-    let legible : IsLegibleBlock c.args.memory.now c.loop-block.block = elim c.requires.legible [
-      | inl here ↦ IsLegibleBlock-here c.args.memory.now here c.loop-block.block word
+    let legible : IsLegibleBlock c.args.pools.now c.args.memory.now c.loop-block.block = elim c.requires.legible [
+      | inl here ↦ IsLegibleBlock-here c.args.pools.now c.args.memory.now here c.loop-block.block word
       | inr (s, k, r, v, i, at, within) ↦ IsLegibleBlock-there v k i (so_far.passes s k r v i at within) other
     ] in
-    let span : IsSpanOf c.args.memory.now c.loop-block.block c.args.end =
-    record { from = omega (arith, c.requires.span.from, so_far.from); to = c.requires.span.to; addressable = c.requires.span.addressable } in
+    let span : IsSpanOf c.args.pools.now c.args.memory.now c.loop-block.block c.args.end =
+    record {
+      from = omega (arith, c.requires.span.from, so_far.from);
+      to = c.requires.span.to;
+      addressable = c.requires.span.addressable;
+      pool = λ a low high. c.requires.span.pool a (omega (arith, low, so_far.from)) high;
+    } in
     (omega arith, (c.requires.parameters, (span, (legible, (so_far.whole, so_far.to)))))

@@ -14,8 +14,9 @@ invariant-loop-block g l = record {
   from : l.chunk ≤ l.block;
   to : l.block + 32 ≤ l.end;
   whole : l.block % 32 ≡ 0;
-  part : SomePart g.row.FLLEN g.row.SLLEN l.memory l.table l.chunk l.block;
-  passes : (s : State) (c r : Range) → HasLayout g.row.FLLEN g.row.SLLEN l.memory l.table r s → IsIn c s.chunks → c.start ≡ l.chunk → end_of c ≤ l.end → IsInChunk s c l.block;
+  part : SomePart g.row.FLLEN g.row.SLLEN l.pools l.memory l.table l.chunk l.block;
+  passes : (s : State) (c r : Range)
+      → HasLayout g.row.FLLEN g.row.SLLEN l.pools l.memory l.table r s → IsIn c s.chunks → c.start ≡ l.chunk → end_of c ≤ l.end → IsInChunk s c l.block;
 }
 
 abbrev pub decreases-loop-block : goal.decreases-loop-block

@@ -15,5 +15,5 @@ loop-fl-preserved g c =
     c.get_bit.ensures
     ∙ ap (λ b. bit c.fl_bitmap-rows.result fl && b) (lt-ltb fl 128 (omega (arith, within, c.requires.parameters.rows_fit))) ∙ and-true (bit c.fl_bitmap-rows.result fl)
     ∙ c.fl_bitmap-rows.ensures.within fl within in
-    below_more (λ k. RowAgrees g.row.FLLEN g.row.SLLEN c.args.memory.now t k (bit t.first_level k)) fl c.loop-fl.invariant
-    (subst (RowAgrees g.row.FLLEN g.row.SLLEN c.args.memory.now t fl) same (c.if-not-row_agrees.ensures.0 refl))
+    below_more (λ k. RowAgrees g.row.FLLEN g.row.SLLEN c.args.pools.now c.args.memory.now t k (bit t.first_level k)) fl c.loop-fl.invariant
+    (subst (RowAgrees g.row.FLLEN g.row.SLLEN c.args.pools.now c.args.memory.now t fl) same (c.if-not-row_agrees.ensures.0 refl))

@@ -15,7 +15,7 @@ loop-sl-preserved g c = record {
         | else-newest-ne0 w ↦ found_not P c.loop-sl.sl c.loop-sl.has_head c.if-newest-ne0.has_head (λ some. some (sym c.newest.ensures ∙ w.if-newest-ne0.false)) w.has_head-is
             c.loop-sl.invariant.found
       ];
-  agreed = below_more (λ sl. AgreesAt g.row.FLLEN g.row.SLLEN c.args.memory.now c.args.table.now c.args.fl sl) c.loop-sl.sl c.loop-sl.invariant.agreed
+  agreed = below_more (λ sl. AgreesAt g.row.FLLEN g.row.SLLEN c.args.pools.now c.args.memory.now c.args.table.now c.args.fl sl) c.loop-sl.sl c.loop-sl.invariant.agreed
       (c.if-not-agrees.ensures.0 refl);
 }
 

@@ -7,5 +7,5 @@ use Rattle.rlsf_blocks.proofs.consistency_check.heads.row_agrees.Given as goal
 abbrev pub invariant-loop-sl : goal.invariant-loop-sl
 invariant-loop-sl g l = record {
   found : (l.has_head ≡ true) ↔ ((sl : ℕ) × (sl < l.sl) × (head_at l.table l.fl sl ≢ 0));
-  agreed : (sl : ℕ) → sl < l.sl → AgreesAt g.row.FLLEN g.row.SLLEN l.memory l.table l.fl sl;
+  agreed : (sl : ℕ) → sl < l.sl → AgreesAt g.row.FLLEN g.row.SLLEN l.pools l.memory l.table l.fl sl;
 }
