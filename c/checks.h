@@ -15,6 +15,7 @@
 #define GUARD ((size_t)16)
 #define GUARD_BYTE 0xa7
 #define CALLS_EACH 1000
+#define POOLS_CHECKED 1024 /* a heap of more segments isn't looked at */
 
 struct record {
     const void *payload; /* NULL: the entry is free */
@@ -103,12 +104,15 @@ static void look_behind(const void *payload, size_t size, const char *call) {
 
 /* Looks at the whole heap, each CALLS_EACH calls. */
 static void look_at_heap(const void *payload, const char *call) {
+    static rlsf_range pools[POOLS_CHECKED];
     static size_t calls;
+    size_t count = 0;
     if (++calls % CALLS_EACH) return;
     for (struct segment *segment = checked->segments; segment; segment = segment->next) {
-        rlsf_range pool = {(size_t)(segment + 1), segment->lent};
-        if (!rlsf_heap_check(&checked->handle.heap, &pool, 1)) report(call, payload, "words between payloads were overwritten");
+        if (count == POOLS_CHECKED) return;
+        pools[count++] = (rlsf_range){(size_t)(segment + 1), segment->lent};
     }
+    if (!rlsf_heap_check(&checked->handle.heap, pools, count)) report(call, payload, "words between payloads were overwritten");
 }
 
 static void enter_checks(void) {

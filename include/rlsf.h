@@ -27,7 +27,7 @@
  * The inline functions below aren't proved. They do this and no more:
  *   - They pass a pointer to an exported function as the number (size_t)pointer, and cast the returned number back.
  *   - They store the kind at the start of the handle, and choose the exported function by it.
- *   - rlsf_heap_init, rlsf_heap_try_add and rlsf_heap_check call several: for each pool of an array the last two call one. */
+ *   - rlsf_heap_init and rlsf_heap_try_add call several: the second calls one for each pool of an array. */
 #ifndef RLSF_H
 #define RLSF_H
 
@@ -91,7 +91,7 @@ typedef struct {
     size_t rlsf_##KIND##_usable(void *heap, size_t payload);                                          \
     rlsf_totals rlsf_##KIND##_stats(void *heap, size_t start, size_t len);                            \
     size_t rlsf_##KIND##_list(void *heap, size_t start, size_t len, size_t from, size_t *numbers, size_t room); \
-    size_t rlsf_##KIND##_check(void *heap, size_t start, size_t len);
+    size_t rlsf_##KIND##_check(void *heap, const size_t *numbers, size_t count);
 RLSF_KIND_DECLARES(small)
 RLSF_KIND_DECLARES(large)
 #undef RLSF_KIND_DECLARES
@@ -293,22 +293,18 @@ RLSF_INLINE size_t rlsf_heap_walk(const rlsf_heap *heap, const void *memory, siz
                                     : rlsf_large_list(rlsf_heap_state(heap), (size_t)memory, len, (size_t)from, &blocks->start, 3 * count);
 }
 
-/* For debugging: reads the words of each block of some pools again, the links of their free blocks, and the lists' beginnings in the handle.
- * Returns 1 if they agree. Returns 0 if they don't: then the program wrote to bytes that it may not write to, and no other call on the heap
- * is defined. A word that was overwritten may also name an address that can't be read, and the call faults there.
+/* For debugging: reads the words of each block again, the links of free blocks, and the lists' beginnings in the handle. Returns 1 if they
+ * agree. Otherwise returns 0: the program wrote to bytes that it may not write to, and no other call on the heap is defined. Whatever the
+ * words are, only the pools and the handle are read, whose first 48 bytes must be right.
  *
  * It finds each wrong header of a block, each missing sentinel, two free blocks side by side, and a free block whose neighbours in its list
- * don't name it. Of the handle it finds each flipped bit of the lists' beginnings and of their bitmaps. It doesn't read payloads, nor the
- * words before payloads with an alignment above 16. A call in another thread must not run at the same time.
+ * don't name it. Of the handle it finds each flipped bit of the lists' beginnings and of their bitmaps. It checks no payload, nor the words
+ * before payloads with an alignment above 16, but a wrong link may lead into one. So no other thread may write to the pools meanwhile.
  *
- * The pools are the first `count` of `pools`. The time grows with the number of blocks. */
+ * The first `count` of `pools`, which isn't NULL, are all pools. The time grows with their blocks times their number. */
 RLSF_INLINE int rlsf_heap_check(const rlsf_heap *heap, const rlsf_range *pools, size_t count) {
-    size_t n;
-    for (n = 0; n < count; n++)
-        if (!(heap->kind == RLSF_SMALL ? rlsf_small_check(rlsf_heap_state(heap), pools[n].start, pools[n].len)
-                                       : rlsf_large_check(rlsf_heap_state(heap), pools[n].start, pools[n].len)))
-            return 0;
-    return 1;
+    return (int)(heap->kind == RLSF_SMALL ? rlsf_small_check(rlsf_heap_state(heap), &pools->start, 2 * count)
+                                          : rlsf_large_check(rlsf_heap_state(heap), &pools->start, 2 * count));
 }
 
 #ifdef __cplusplus

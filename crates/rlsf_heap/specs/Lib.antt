@@ -17,3 +17,4 @@ pub mod ThinReplies
 pub mod ThinInPlace
 pub mod ThinUnknownAlign
 pub mod Units
+pub mod Words

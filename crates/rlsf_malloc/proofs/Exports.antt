@@ -33,7 +33,9 @@ use Rattle.rlsf_int.specs.contracts.int.BitPattern.TheBound
 use Rattle.rlsf_int.specs.declared.int.BitPattern.{Ghosts}
 use Rattle.rlsf_model.specs.ChunkRows.{IsRow}
 use Rattle.rlsf_model.specs.Sized.{live_count}
+use Rattle.rlsf_blocks.specs.Consistency.Consistent.{ArePoolsLegible}
 use Rattle.rlsf_heap.specs.Heap.{HeapView}
+use Rattle.rlsf_heap.specs.Words.{WordsView}
 use Rattle.rlsf_heap.specs.contracts.thin.ThinPayload as payload
 use Rattle.rlsf_heap.proofs.heap.Heap.TheLaws as heap_laws
 use Rattle.rlsf_heap.specs.contracts.loan.Loan as loan
@@ -49,7 +51,7 @@ use Rattle.rlsf_heap.proofs.thin.ThinPayload.from_raw.Symbol as from_raw
 use Rattle.rlsf_heap.proofs.thin.ThinPayload.from_raw.Met.{met as from_raw_met}
 use Rattle.rlsf_heap.proofs.thin.ThinPayload.into_raw.Symbol as into_raw
 use Rattle.rlsf_heap.proofs.thin.ThinPayload.into_raw.Met.{met as into_raw_met}
-use Rattle.rlsf_malloc.specs.Blocks.{AreTotals, IsCheckOf, IsListing}
+use Rattle.rlsf_malloc.specs.Blocks.{AreTotals, IsAny, IsCheckOf, IsListing}
 use Rattle.rlsf_malloc.specs.Calls.{Allocates, AllocatesZeroed, IsFresh, IsOver, IsReady, OwnsLent, aligned_for}
 use Rattle.rlsf_malloc.specs.contracts.replies.Measured as measured
 use Rattle.rlsf_malloc.specs.contracts.replies.Resized as resized
@@ -64,6 +66,7 @@ use Rattle.rlsf_malloc.proofs.Outcomes.{fresh}
 use Rattle.rlsf_malloc.proofs.Payloads as does
 use Rattle.rlsf_malloc.proofs.Payloads.{loans, payloads}
 use Rattle.rlsf_malloc.proofs.Templates.Begins
+use Rattle.rlsf_malloc.proofs.Templates.Checks
 use Rattle.rlsf_malloc.proofs.Templates.Ends
 use Rattle.rlsf_malloc.proofs.Templates.Gives1
 use Rattle.rlsf_malloc.proofs.Templates.Gives2
@@ -230,8 +233,11 @@ module _ (K : Kind) {M : Type 1} (𝓤 : Ura M) (𝓛 : Logic 𝓤) (𝓜 : Mode
   abbrev HasTotals : HeapView → ℕ → ℕ → totals_type.the_row.Denot → HeapView → Type 0
   HasTotals v n k r w = AreTotals v (range_at n k) r × (w ≡ v)
 
-  abbrev IsChecked : HeapView → ℕ → ℕ → ℕ → HeapView → Type 0
-  IsChecked v n k r w = IsCheckOf K.rows K.classes v (range_at n k) r × (w ≡ v)
+  abbrev CanCheck : WordsView → List ℕ → Type 0
+  CanCheck v ps = ArePoolsLegible K.rows K.classes ps v.memory v.table
+
+  abbrev IsChecked : WordsView → List ℕ → ℕ → WordsView → Type 0
+  IsChecked v ps r w = IsCheckOf K.rows K.classes v ps r × (w ≡ v)
 
   abbrev IsListed : HeapView → ℕ → ℕ → ℕ → List ℕ → ℕ → List ℕ → HeapView → Type 0
   IsListed v n k from was r now w = IsListing v (range_at n k) from was r now × (w ≡ v)
@@ -251,9 +257,8 @@ module _ (K : Kind) {M : Type 1} (𝓤 : Ura M) (𝓛 : Logic 𝓤) (𝓜 : Mode
       (loan_from_raw_met 𝓤 𝓛 𝓜 𝓡 takes) (at_kind (append_met 𝓤 𝓛 𝓜 𝓡 calls)) (lending_into_raw_met 𝓤 𝓛 𝓜 𝓡 passes)
 
   pub checks : Wired 𝓡.env check_in.code → (σ τ : Ty) (key : Callee)
-      → Proved (Lends2.exported usize) (Lends2.outer K IsReady usize IsRowOf IsChecked 𝓛) key (Lends2.function σ τ (ty_int w64) (check_in.name args))
-  checks calls σ τ key code = Lends2.exports K IsReady usize IsRowOf IsChecked 𝓤 𝓛 𝓜 𝓡 σ τ (ty_int w64) key (check_in.name args)
-      number_typed code (at_kind (check_in_met 𝓤 𝓛 𝓜 𝓡 calls))
+      → Proved Checks.exported (Checks.outer K IsAny CanCheck IsChecked 𝓛) key (Checks.function σ τ (check_in.name args))
+  checks calls σ τ key code = Checks.exports K IsAny CanCheck IsChecked 𝓤 𝓛 𝓜 𝓡 σ τ key (check_in.name args) code (at_kind (check_in_met 𝓤 𝓛 𝓜 𝓡 calls))
 
   pub removes : Wired 𝓡.env loan_from_raw.code → Wired 𝓡.env remove_in.code → Wired 𝓡.env lending_into_raw.code → (σ τ : Ty) (key : Callee)
       → Proved Trades1.exported (Trades1.outer K loans (does.removes K) 𝓛) key

@@ -24,6 +24,7 @@ use Rattle.rlsf_int.specs.contracts.impls.u64.U64BitPattern.TheImpl as impl64
 use Rattle.rlsf_int.proofs.impls.u16.U16BitPattern.TheImpl.Met.{passed as met16}
 use Rattle.rlsf_int.proofs.impls.u64.U64BitPattern.TheImpl.Met.{passed as met64}
 use Rattle.rlsf_heap.specs.contracts.heap.Heap.{the_row}
+use Rattle.rlsf_heap.specs.contracts.words.HeapWords.{the_row as words_row}
 
 -- a heap of this kind has bitmaps of the type B
 pub record Kind : Type 2 where
@@ -39,10 +40,15 @@ pub record Kind : Type 2 where
   pub met : (M : Type 1) (𝓤 : Ura M) (𝓛 : Logic 𝓤) (𝓜 : Model 𝓤 𝓛.H) (𝓡 : Running 𝓤 𝓛.H 𝓜) → TheBound.Met 𝓛 𝓜 𝓡 𝓡.env B ghosts dict
   pub valid : IsValid ghosts.width ghosts.width rows classes
   pub small : size (layout (the_row (param 0 B) (param 1 B) (param 2 (number rows)) (param 3 (number classes)) ghosts ghosts)) < 2 ^ 63
+  pub words_small : size (layout (words_row (param 0 B) (param 1 B) (param 2 (number rows)) (param 3 (number classes)) ghosts ghosts)) < 2 ^ 63
 
 -- the type of its heaps, as the generic calls have it
 abbrev pub row : Kind → RattleType
 row K = the_row (param 0 K.B) (param 1 K.B) (param 2 (number K.rows)) (param 3 (number K.classes)) K.ghosts K.ghosts
+
+-- the type of the words of its heaps, whatever their values are
+abbrev pub words : Kind → RattleType
+words K = words_row (param 0 K.B) (param 1 K.B) (param 2 (number K.rows)) (param 3 (number K.classes)) K.ghosts K.ghosts
 
 -- the numbers of rows and classes are valid for these bitmaps
 pub large_valid : IsValid impl64.ghosts.width impl64.ghosts.width 64 64
@@ -71,6 +77,7 @@ large = record {
   met = λ M 𝓤 𝓛 𝓜 𝓡. met64 𝓡.env M 𝓤 𝓛 𝓜 𝓡;
   valid = large_valid;
   small = lit< tt;
+  words_small = lit< tt;
 }
 
 abbrev pub large_8 : Kind
@@ -87,6 +94,7 @@ large_8 = record {
   met = λ M 𝓤 𝓛 𝓜 𝓡. met64 𝓡.env M 𝓤 𝓛 𝓜 𝓡;
   valid = large_8_valid;
   small = lit< tt;
+  words_small = lit< tt;
 }
 
 abbrev pub large_32 : Kind
@@ -103,6 +111,7 @@ large_32 = record {
   met = λ M 𝓤 𝓛 𝓜 𝓡. met64 𝓡.env M 𝓤 𝓛 𝓜 𝓡;
   valid = large_32_valid;
   small = lit< tt;
+  words_small = lit< tt;
 }
 
 abbrev pub small : Kind
@@ -119,4 +128,5 @@ small = record {
   met = λ M 𝓤 𝓛 𝓜 𝓡. met16 𝓡.env M 𝓤 𝓛 𝓜 𝓡;
   valid = small_valid;
   small = lit< tt;
+  words_small = lit< tt;
 }

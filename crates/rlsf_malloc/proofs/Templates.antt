@@ -1,5 +1,6 @@
 -- What the exports of a shape share, for each type of heaps.
 pub mod Begins
+pub mod Checks
 pub mod Ends
 pub mod Gives1
 pub mod Gives2

@@ -1,12 +1,13 @@
 -- What is listed and totalled of a heap's blocks.
-use Rattle.std.specs.Prelude.{◌≡◌, ℕ, List}
+use Rattle.std.specs.Prelude.{◌≡◌, ◌↔◌, ℕ, ◌≤◌, List}
 use Rattle.rlsf_base.specs.declared.memory.range.Range.{Range}
 use Rattle.rlsf_blocks.specs.Blocks.{AreBlocks, Block, walked}
 use Rattle.rlsf_blocks.specs.Listing.{IsListingOf, all_from}
 use Rattle.rlsf_blocks.specs.Totals.{AreTotalsOf}
 use Rattle.rlsf_blocks.specs.declared.totals.Totals.{Totals}
-use Rattle.rlsf_blocks.specs.Consistency.Consistent.{IsConsistent}
+use Rattle.rlsf_blocks.specs.Consistency.Consistent.{AreConsistent}
 use Rattle.rlsf_heap.specs.Heap.{HeapView}
+use Rattle.rlsf_heap.specs.Words.{WordsView}
 
 -- the blocks in a range, from an address on, are listed
 abbrev pub IsListing : HeapView → Range → ℕ → List ℕ → ℕ → List ℕ → Type 0
@@ -16,7 +17,11 @@ IsListing v r from was count now = (bs : List Block) × AreBlocks v.state (walke
 abbrev pub AreTotals : HeapView → Range → Totals → Type 0
 AreTotals v r t = (bs : List Block) × AreBlocks v.state (walked r) bs × AreTotalsOf bs t
 
--- the check of a range: 1 exactly where the words of the range and the class table are consistent, which they are
-pub record IsCheckOf (fllen sllen : ℕ) (v : HeapView) (r : Range) (n : ℕ) : Type 0 where
-  pub consistent : IsConsistent fllen sllen v.memory v.table (walked r)
-  pub one : n ≡ 1
+-- of words nothing is known
+abbrev pub IsAny : WordsView → Type 0
+IsAny w = Unit {0}
+
+-- the check of some pools: 1 exactly where the words are those of a heap over these pools, and else 0
+pub record IsCheckOf (fllen sllen : ℕ) (w : WordsView) (pools : List ℕ) (n : ℕ) : Type 0 where
+  pub one : (n ≡ 1) ↔ AreConsistent fllen sllen pools w.memory w.table
+  pub few : n ≤ 1

@@ -20,22 +20,39 @@ use Rattle.rlsf_heap.specs.Heap.{PayloadView}
 use Rattle.rlsf_heap.specs.Loans.{owns_loan}
 use Rattle.rlsf_heap.specs.Thin.{owns_reply}
 use Rattle.rlsf_heap.specs.contracts.heap.Heap.{the_row}
+use Rattle.rlsf_heap.specs.contracts.words.HeapWords.{the_row as words_row}
 
 -- the type of a large heap
 abbrev pub large : RattleType
 large = the_row u64 u64 (number 64) (number 64) ghosts64 ghosts64
 
+-- the type of its words, whatever their values are
+abbrev pub large_words : RattleType
+large_words = words_row u64 u64 (number 64) (number 64) ghosts64 ghosts64
+
 -- the type of a small heap
 abbrev pub small : RattleType
 small = the_row u16 u16 (number 12) (number 16) ghosts16 ghosts16
+
+-- and of its words
+abbrev pub small_words : RattleType
+small_words = words_row u16 u16 (number 12) (number 16) ghosts16 ghosts16
 
 -- the type of a heap of 64 rows of 8 classes
 abbrev pub large_8 : RattleType
 large_8 = the_row u64 u64 (number 64) (number 8) ghosts64 ghosts64
 
+-- and of its words
+abbrev pub large_8_words : RattleType
+large_8_words = words_row u64 u64 (number 64) (number 8) ghosts64 ghosts64
+
 -- the type of a heap of 64 rows of 32 classes
 abbrev pub large_32 : RattleType
 large_32 = the_row u64 u64 (number 64) (number 32) ghosts64 ghosts64
+
+-- and of its words
+abbrev pub large_32_words : RattleType
+large_32_words = words_row u64 u64 (number 64) (number 32) ghosts64 ghosts64
 
 -- a value of a type lies at a pointer, and S is true of it
 abbrev pub Holds : (R : RattleType) → (R.Denot → Type 0) → Ptr → R.Denot → Fml

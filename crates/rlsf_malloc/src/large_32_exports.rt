@@ -12,22 +12,27 @@ ghost use Rattle.rlsf_blocks.specs.Blocks.{walked};
 ghost use Rattle.rlsf_model.specs.ChunkRows.{IsRow};
 ghost use Rattle.rlsf_model.specs.Sized.{live_count};
 ghost use Rattle.rlsf_heap.specs.Heap.{HeapView, PayloadView};
+ghost use Rattle.rlsf_heap.specs.Words.{WordsView};
+ghost use Rattle.rlsf_blocks.specs.Consistency.Consistent.{ArePoolsLegible};
 ghost use Rattle.rlsf_heap.specs.Thin.{owns_reply};
-ghost use Rattle.rlsf_malloc.specs.Blocks.{AreTotals, IsCheckOf, IsListing};
+ghost use Rattle.rlsf_malloc.specs.Blocks.{AreTotals, IsAny, IsCheckOf, IsListing};
 ghost use Rattle.rlsf_malloc.specs.Calls.{AddsLent, Allocates, AllocatesZeroed, AppendsLent, CanAppend, CanLend, CanRemove, Frees, IsAt, IsFresh, IsReady, IsUsable, OwnsLent, RemovesLent, aligned_for};
-ghost use Rattle.rlsf_malloc.specs.Handle.{Gives, Holds, HoldsSome, Returns, handle_size, rest_of, large_32};
+ghost use Rattle.rlsf_malloc.specs.Handle.{Gives, Holds, HoldsSome, Returns, handle_size, rest_of, large_32, large_32_words};
 ghost use Rattle.rlsf_malloc.specs.Ranges.{IsPoolSizeOf};
 ghost use Rattle.rlsf_malloc.specs.Resizing.{ResizesAligned, ResizesAny, ResizesInPlace};
 
 use crate::{calls, pools, ranges, resizing};
 use rlsf_base::memory::OpenMemory;
 use rlsf_blocks::Totals;
-use rlsf_heap::{Heap, Loan, ThinPayload};
+use rlsf_heap::{Heap, HeapWords, Loan, ThinPayload};
 use std::alloc::Global;
 use std::mem::size_of;
 
 /// A heap of 64 rows of 32 classes.
 pub type Large32 = Heap<u64, u64, 64, 32>;
+
+/// Its words, whatever their values are.
+pub type Large32Words = HeapWords<u64, u64, 64, 32>;
 
 /// As `rlsf_large_size`, for 64 rows of 32 classes.
 #[unsafe(no_mangle)]
@@ -235,12 +240,12 @@ pub unsafe extern "C" fn rlsf_large_32_list(
 
 /// As `rlsf_large_check`, for 64 rows of 32 classes.
 #[unsafe(no_mangle)]
-pub unsafe extern "C" fn rlsf_large_32_check(heap: *mut u8, start: usize, len: usize) -> usize
-    ghost before: { HeapView }
-    requires* { sem 𝓛 (Holds large_32 IsReady heap before) ∗ ⌜ IsRow before.state (walked (range_at start len)) ⌝ }
-    ensures* { sem 𝓛 (HoldsSome large_32 heap (λ after. IsCheckOf 64 32 before (range_at start len) result × (after ≡ before))) }
+pub unsafe extern "C" fn rlsf_large_32_check(heap: *mut u8, pools: &[usize]) -> usize
+    ghost before: { WordsView }
+    requires* { sem 𝓛 (Holds large_32_words IsAny heap before) ∗ ⌜ ArePoolsLegible 64 32 pools.now before.memory before.table ⌝ }
+    ensures* { sem 𝓛 (HoldsSome large_32_words heap (λ after. IsCheckOf 64 32 before pools.now result × (after ≡ before))) }
 {
-    pools::check_in(&mut *(heap as *mut Large32), start, len)
+    pools::check_in(&mut *(heap as *mut Large32Words), pools)
 }
 
 /// As `rlsf_large_remove`, for 64 rows of 32 classes.

@@ -12,22 +12,27 @@ ghost use Rattle.rlsf_blocks.specs.Blocks.{walked};
 ghost use Rattle.rlsf_model.specs.ChunkRows.{IsRow};
 ghost use Rattle.rlsf_model.specs.Sized.{live_count};
 ghost use Rattle.rlsf_heap.specs.Heap.{HeapView, PayloadView};
+ghost use Rattle.rlsf_heap.specs.Words.{WordsView};
+ghost use Rattle.rlsf_blocks.specs.Consistency.Consistent.{ArePoolsLegible};
 ghost use Rattle.rlsf_heap.specs.Thin.{owns_reply};
-ghost use Rattle.rlsf_malloc.specs.Blocks.{AreTotals, IsCheckOf, IsListing};
+ghost use Rattle.rlsf_malloc.specs.Blocks.{AreTotals, IsAny, IsCheckOf, IsListing};
 ghost use Rattle.rlsf_malloc.specs.Calls.{AddsLent, Allocates, AllocatesZeroed, AppendsLent, CanAppend, CanLend, CanRemove, Frees, IsAt, IsFresh, IsReady, IsUsable, OwnsLent, RemovesLent, aligned_for};
-ghost use Rattle.rlsf_malloc.specs.Handle.{Gives, Holds, HoldsSome, Returns, handle_size, rest_of, large_8};
+ghost use Rattle.rlsf_malloc.specs.Handle.{Gives, Holds, HoldsSome, Returns, handle_size, rest_of, large_8, large_8_words};
 ghost use Rattle.rlsf_malloc.specs.Ranges.{IsPoolSizeOf};
 ghost use Rattle.rlsf_malloc.specs.Resizing.{ResizesAligned, ResizesAny, ResizesInPlace};
 
 use crate::{calls, pools, ranges, resizing};
 use rlsf_base::memory::OpenMemory;
 use rlsf_blocks::Totals;
-use rlsf_heap::{Heap, Loan, ThinPayload};
+use rlsf_heap::{Heap, HeapWords, Loan, ThinPayload};
 use std::alloc::Global;
 use std::mem::size_of;
 
 /// A heap of 64 rows of 8 classes.
 pub type Large8 = Heap<u64, u64, 64, 8>;
+
+/// Its words, whatever their values are.
+pub type Large8Words = HeapWords<u64, u64, 64, 8>;
 
 /// As `rlsf_large_size`, for 64 rows of 8 classes.
 #[unsafe(no_mangle)]
@@ -229,12 +234,12 @@ pub unsafe extern "C" fn rlsf_large_8_list(
 
 /// As `rlsf_large_check`, for 64 rows of 8 classes.
 #[unsafe(no_mangle)]
-pub unsafe extern "C" fn rlsf_large_8_check(heap: *mut u8, start: usize, len: usize) -> usize
-    ghost before: { HeapView }
-    requires* { sem 𝓛 (Holds large_8 IsReady heap before) ∗ ⌜ IsRow before.state (walked (range_at start len)) ⌝ }
-    ensures* { sem 𝓛 (HoldsSome large_8 heap (λ after. IsCheckOf 64 8 before (range_at start len) result × (after ≡ before))) }
+pub unsafe extern "C" fn rlsf_large_8_check(heap: *mut u8, pools: &[usize]) -> usize
+    ghost before: { WordsView }
+    requires* { sem 𝓛 (Holds large_8_words IsAny heap before) ∗ ⌜ ArePoolsLegible 64 8 pools.now before.memory before.table ⌝ }
+    ensures* { sem 𝓛 (HoldsSome large_8_words heap (λ after. IsCheckOf 64 8 before pools.now result × (after ≡ before))) }
 {
-    pools::check_in(&mut *(heap as *mut Large8), start, len)
+    pools::check_in(&mut *(heap as *mut Large8Words), pools)
 }
 
 /// As `rlsf_large_remove`, for 64 rows of 8 classes.

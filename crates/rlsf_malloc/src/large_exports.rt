@@ -12,22 +12,27 @@ ghost use Rattle.rlsf_blocks.specs.Blocks.{walked};
 ghost use Rattle.rlsf_model.specs.ChunkRows.{IsRow};
 ghost use Rattle.rlsf_model.specs.Sized.{live_count};
 ghost use Rattle.rlsf_heap.specs.Heap.{HeapView, PayloadView};
+ghost use Rattle.rlsf_heap.specs.Words.{WordsView};
+ghost use Rattle.rlsf_blocks.specs.Consistency.Consistent.{ArePoolsLegible};
 ghost use Rattle.rlsf_heap.specs.Thin.{owns_reply};
-ghost use Rattle.rlsf_malloc.specs.Blocks.{AreTotals, IsCheckOf, IsListing};
+ghost use Rattle.rlsf_malloc.specs.Blocks.{AreTotals, IsAny, IsCheckOf, IsListing};
 ghost use Rattle.rlsf_malloc.specs.Calls.{AddsLent, Allocates, AllocatesZeroed, AppendsLent, CanAppend, CanLend, CanRemove, Frees, IsAt, IsFresh, IsReady, IsUsable, OwnsLent, RemovesLent, aligned_for};
-ghost use Rattle.rlsf_malloc.specs.Handle.{Gives, Holds, HoldsSome, Returns, handle_size, rest_of, large};
+ghost use Rattle.rlsf_malloc.specs.Handle.{Gives, Holds, HoldsSome, Returns, handle_size, rest_of, large, large_words};
 ghost use Rattle.rlsf_malloc.specs.Ranges.{IsPoolSizeOf};
 ghost use Rattle.rlsf_malloc.specs.Resizing.{ResizesAligned, ResizesAny, ResizesInPlace};
 
 use crate::{calls, pools, ranges, resizing};
 use rlsf_base::memory::OpenMemory;
 use rlsf_blocks::Totals;
-use rlsf_heap::{Heap, Loan, ThinPayload};
+use rlsf_heap::{Heap, HeapWords, Loan, ThinPayload};
 use std::alloc::Global;
 use std::mem::size_of;
 
 /// A large heap.
 pub type Large = Heap<u64, u64, 64, 64>;
+
+/// Its words, whatever their values are.
+pub type LargeWords = HeapWords<u64, u64, 64, 64>;
 
 /// Returns the size of a handle of the large kind in bytes.
 #[unsafe(no_mangle)]
@@ -237,15 +242,15 @@ pub unsafe extern "C" fn rlsf_large_list(
     pools::list_in(&mut *(heap as *mut Large), start, len, from, into)
 }
 
-/// Returns 1 if the words of a range and the class table are consistent, else 0. The range is one added range or several that follow each
-/// other. The result is 1 unless the caller wrote to words that are the heap's. Nothing changes.
+/// Returns 1 if the words of the handle and of some pools are those of a heap over these pools, else 0. The numbers are the start and the
+/// length of each pool. The words may have any values: nothing outside of the handle and the pools is read. Nothing changes.
 #[unsafe(no_mangle)]
-pub unsafe extern "C" fn rlsf_large_check(heap: *mut u8, start: usize, len: usize) -> usize
-    ghost before: { HeapView }
-    requires* { sem 𝓛 (Holds large IsReady heap before) ∗ ⌜ IsRow before.state (walked (range_at start len)) ⌝ }
-    ensures* { sem 𝓛 (HoldsSome large heap (λ after. IsCheckOf 64 64 before (range_at start len) result × (after ≡ before))) }
+pub unsafe extern "C" fn rlsf_large_check(heap: *mut u8, pools: &[usize]) -> usize
+    ghost before: { WordsView }
+    requires* { sem 𝓛 (Holds large_words IsAny heap before) ∗ ⌜ ArePoolsLegible 64 64 pools.now before.memory before.table ⌝ }
+    ensures* { sem 𝓛 (HoldsSome large_words heap (λ after. IsCheckOf 64 64 before pools.now result × (after ≡ before))) }
 {
-    pools::check_in(&mut *(heap as *mut Large), start, len)
+    pools::check_in(&mut *(heap as *mut LargeWords), pools)
 }
 
 /// Removes a range, which is one added range or several that follow each other, if no block in it is used. Returns 1 if it did: its bytes are

@@ -2,7 +2,9 @@
 
 ghost use Rattle.std.specs.Prelude.{◌≡◌};
 ghost use Rattle.rlsf_base.specs.Range.{range_at};
+ghost use Rattle.rlsf_base.specs.SizeClass.{IsValid};
 ghost use Rattle.rlsf_blocks.specs.Blocks.{walked};
+ghost use Rattle.rlsf_blocks.specs.Consistency.Consistent.{ArePoolsLegible};
 ghost use Rattle.rlsf_model.specs.ChunkRows.{IsRow};
 ghost use Rattle.rlsf_malloc.specs.Blocks.{AreTotals, IsCheckOf, IsListing};
 ghost use Rattle.rlsf_malloc.specs.Calls.{CanRemove, IsReady, RemovesLent};
@@ -10,7 +12,7 @@ ghost use Rattle.rlsf_malloc.specs.Calls.{CanRemove, IsReady, RemovesLent};
 use crate::replies::Lending;
 use rlsf_base::memory::Range;
 use rlsf_blocks::{Totals, list, totals_of};
-use rlsf_heap::{Heap, Loan};
+use rlsf_heap::{Heap, HeapWords, Loan};
 use rlsf_int::BitPattern;
 
 /// Returns the totals of the blocks in a range, which is complete contiguous chunks.
@@ -39,16 +41,15 @@ pub(crate) fn list_in<F: BitPattern, S: BitPattern, const FLLEN: usize, const SL
     list(heap.iter_blocks(Range { start, len }), from, into)
 }
 
-/// Returns 1 if the words of a range, which is complete contiguous chunks, and the class table are consistent, else 0.
+/// Returns 1 if the words are those of a heap over some pools, else 0.
 pub(crate) fn check_in<F: BitPattern, S: BitPattern, const FLLEN: usize, const SLLEN: usize>(
-    heap: &mut Heap<F, S, FLLEN, SLLEN>,
-    start: usize,
-    len: usize,
+    words: &mut HeapWords<F, S, FLLEN, SLLEN>,
+    pools: &[usize],
 ) -> usize
-    requires { IsReady heap.old × IsRow heap.old.state (walked (range_at start len)) }
-    ensures { IsCheckOf FLLEN SLLEN heap.old (range_at start len) result × (heap.new ≡ heap.old) }
+    requires { IsValid F.width S.width FLLEN SLLEN × ArePoolsLegible FLLEN SLLEN pools.now words.old.memory words.old.table }
+    ensures { IsCheckOf FLLEN SLLEN words.old pools.now result × (words.new ≡ words.old) }
 {
-    heap.is_consistent(Range { start, len }) as usize
+    words.are_consistent(pools) as usize
 }
 
 /// Removes a range, which is complete contiguous chunks, and returns 1 and its bytes; or returns 0 if a block in it is used. `none` is no bytes.

@@ -12,22 +12,27 @@ ghost use Rattle.rlsf_blocks.specs.Blocks.{walked};
 ghost use Rattle.rlsf_model.specs.ChunkRows.{IsRow};
 ghost use Rattle.rlsf_model.specs.Sized.{live_count};
 ghost use Rattle.rlsf_heap.specs.Heap.{HeapView, PayloadView};
+ghost use Rattle.rlsf_heap.specs.Words.{WordsView};
+ghost use Rattle.rlsf_blocks.specs.Consistency.Consistent.{ArePoolsLegible};
 ghost use Rattle.rlsf_heap.specs.Thin.{owns_reply};
-ghost use Rattle.rlsf_malloc.specs.Blocks.{AreTotals, IsCheckOf, IsListing};
+ghost use Rattle.rlsf_malloc.specs.Blocks.{AreTotals, IsAny, IsCheckOf, IsListing};
 ghost use Rattle.rlsf_malloc.specs.Calls.{AddsLent, Allocates, AllocatesZeroed, AppendsLent, CanAppend, CanLend, CanRemove, Frees, IsAt, IsFresh, IsReady, IsUsable, OwnsLent, RemovesLent, aligned_for};
-ghost use Rattle.rlsf_malloc.specs.Handle.{Gives, Holds, HoldsSome, Returns, handle_size, rest_of, small};
+ghost use Rattle.rlsf_malloc.specs.Handle.{Gives, Holds, HoldsSome, Returns, handle_size, rest_of, small, small_words};
 ghost use Rattle.rlsf_malloc.specs.Ranges.{IsPoolSizeOf};
 ghost use Rattle.rlsf_malloc.specs.Resizing.{ResizesAligned, ResizesAny, ResizesInPlace};
 
 use crate::{calls, pools, ranges, resizing};
 use rlsf_base::memory::OpenMemory;
 use rlsf_blocks::Totals;
-use rlsf_heap::{Heap, Loan, ThinPayload};
+use rlsf_heap::{Heap, HeapWords, Loan, ThinPayload};
 use std::alloc::Global;
 use std::mem::size_of;
 
 /// A heap of the small kind.
 pub type Small = Heap<u16, u16, 12, 16>;
+
+/// Its words, whatever their values are.
+pub type SmallWords = HeapWords<u16, u16, 12, 16>;
 
 /// As `rlsf_large_size`, for the small kind.
 #[unsafe(no_mangle)]
@@ -229,12 +234,12 @@ pub unsafe extern "C" fn rlsf_small_list(
 
 /// As `rlsf_large_check`, for the small kind.
 #[unsafe(no_mangle)]
-pub unsafe extern "C" fn rlsf_small_check(heap: *mut u8, start: usize, len: usize) -> usize
-    ghost before: { HeapView }
-    requires* { sem 𝓛 (Holds small IsReady heap before) ∗ ⌜ IsRow before.state (walked (range_at start len)) ⌝ }
-    ensures* { sem 𝓛 (HoldsSome small heap (λ after. IsCheckOf 12 16 before (range_at start len) result × (after ≡ before))) }
+pub unsafe extern "C" fn rlsf_small_check(heap: *mut u8, pools: &[usize]) -> usize
+    ghost before: { WordsView }
+    requires* { sem 𝓛 (Holds small_words IsAny heap before) ∗ ⌜ ArePoolsLegible 12 16 pools.now before.memory before.table ⌝ }
+    ensures* { sem 𝓛 (HoldsSome small_words heap (λ after. IsCheckOf 12 16 before pools.now result × (after ≡ before))) }
 {
-    pools::check_in(&mut *(heap as *mut Small), start, len)
+    pools::check_in(&mut *(heap as *mut SmallWords), pools)
 }
 
 /// As `rlsf_large_remove`, for the small kind.
