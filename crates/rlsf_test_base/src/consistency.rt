@@ -1,11 +1,11 @@
 //! Tests of the check of a pool, on one whose words docs/TLSF.md describes: 256 bytes at 4096, in 8 rows of 8 classes. Blocks 4096 and
 //! 4160 of 32 bytes are free, and so is block 4224 of 96. Blocks 4128 and 4192 of 32 are used.
 
-ghost use Rattle.std.specs.Prelude.{◌≡◌, ◌<◌, length};
+ghost use Rattle.std.specs.Prelude.{◌≡◌, ◌<◌, ◌≤◌, length};
 
 use crate::answers::{all, passes};
 use rlsf_base::memory::{Layout, Memory, Range};
-use rlsf_blocks::consistency_check::is_consistent;
+use rlsf_blocks::consistency_check::{are_consistent, is_consistent};
 use rlsf_table::ClassTable;
 use rlsf_tlsf::Tlsf;
 use std::process::Abort;
@@ -30,8 +30,8 @@ const MATTERS: [bool; 32] = [
 
 /// Writes the words of the pool.
 fn write_words(memory: &mut Memory)
-    requires { (memory.old.start ≡ 4096) × (length memory.old.bytes ≡ 256) }
-    ensures { (memory.new.start ≡ 4096) × (length memory.new.bytes ≡ 256) }
+    requires { (memory.old.start ≡ 4096) × (256 ≤ length memory.old.bytes) }
+    ensures { (memory.new.start ≡ 4096) × (length memory.new.bytes ≡ length memory.old.bytes) }
 {
     for i in 0..32 {
         memory.set_word(4096 + 8 * i, WORDS[i]);
@@ -49,7 +49,7 @@ fn table_of(memory: &mut Memory) -> ClassTable<8, 8>
 }
 
 /// Returns whether a memory and a table are consistent over a range.
-fn are_consistent(memory: &Memory, table: &ClassTable<8, 8>, range: Range) -> bool {
+fn is_right(memory: &Memory, table: &ClassTable<8, 8>, range: Range) -> bool {
     is_consistent(&memory.inner, table, range)
 }
 
@@ -62,9 +62,9 @@ fn finds(memory: &mut Memory, table: &ClassTable<8, 8>, i: usize, wrong: u64) ->
 {
     let addr = 4096 + 8 * i;
     memory.set_word(addr, wrong);
-    let found = !are_consistent(memory, table, ALL);
+    let found = !is_right(memory, table, ALL);
     memory.set_word(addr, WORDS[i]);
-    found && are_consistent(memory, table, ALL)
+    found && is_right(memory, table, ALL)
 }
 
 /// Whether wrong words at an index are found: one of another flag, one of another length or address, and another one.
@@ -95,7 +95,7 @@ fn each_wrong_word_is_found(rt: HostRuntime) {
     let mut memory = zeros(&rt);
     write_words(&mut memory);
     let table = table_of(&mut memory);
-    all(&rt, &[are_consistent(&memory, &table, ALL)]);
+    all(&rt, &[is_right(&memory, &table, ALL)]);
     for i in 0..32 {
         let found = finds_wrong_words(&mut memory, &table, i);
         passes(&rt, found == [MATTERS[i]; 5], i);
@@ -127,17 +127,13 @@ fn other_tables_and_ranges(rt: HostRuntime) {
             start: *start,
             len: *len,
         };
-        passes(
-            &rt,
-            are_consistent(&memory, &table, range) == *wanted,
-            index,
-        );
+        passes(&rt, is_right(&memory, &table, range) == *wanted, index);
     }
     // The head of a class is a used block.
     table.put(&mut memory.inner, 0, 1, 4128);
-    let used = are_consistent(&memory, &table, ALL);
+    let used = is_right(&memory, &table, ALL);
     // A table without a block.
-    let none = are_consistent(&memory, &ClassTable::new(), ALL);
+    let none = is_right(&memory, &ClassTable::new(), ALL);
     all(&rt, &[!used, !none]);
 }
 
@@ -159,4 +155,54 @@ fn an_allocator_is_consistent(rt: HostRuntime) {
         len: 192,
     });
     all(&rt, &[before, after, !part]);
+}
+
+/// Pools as numbers, and whether the words are those of a heap over them. The second pool is 64 bytes at 4352: its one block is free, and
+/// leads the list of 32 bytes, whose others lie in the first pool.
+static POOLS: [(&[usize], bool); 13] = [
+    (&[4096, 256, 4352, 64], true),
+    (&[4352, 64, 4096, 256], true),
+    (&[4096, 320], true),
+    (&[4065, 351], true),
+    (&[4096, 256, 4352, 64, 4417, 31], true),
+    (&[4096, 256, 4352, 64, 8192], true),
+    // Without one of them, part of one, and more than them.
+    (&[4096, 256], false),
+    (&[4352, 64], false),
+    (&[4096, 256, 4352, 32], false),
+    (&[4128, 224, 4352, 64], false),
+    (&[4096, 256, 4352, 96], false),
+    (&[4096, 256, 4352, 64, 4416, 31], false),
+    (&[], false),
+];
+
+/// Returns whether the words of a memory and a table are those of a heap over some pools.
+fn are_right(memory: &Memory, table: &ClassTable<8, 8>, pools: &[usize]) -> bool {
+    are_consistent(&memory.inner, table, pools)
+}
+
+/// Writes the words of the second pool, and the link to it.
+fn write_second_pool(memory: &mut Memory)
+    requires { (memory.old.start ≡ 4096) × (length memory.old.bytes ≡ 512) }
+    ensures { (memory.new.start ≡ 4096) × (length memory.new.bytes ≡ 512) }
+{
+    memory.set_word(4184, 4352);
+    memory.set_word(4352, 32);
+    memory.set_word(4368, 4160);
+    memory.set_word(4384, 35);
+    memory.set_word(4392, 4352);
+}
+
+#[test]
+fn words_of_two_pools(rt: HostRuntime) {
+    let mut memory = Memory::new(rt.alloc(), 4096, 512).expect(&rt, "a memory");
+    write_words(&mut memory);
+    write_second_pool(&mut memory);
+    let mut table = table_of(&mut memory);
+    table.put(&mut memory.inner, 0, 0, 4352);
+    for (index, (pools, wanted)) in POOLS.iter().enumerate() {
+        passes(&rt, are_right(&memory, &table, pools) == *wanted, index);
+    }
+    // A heap without a pool.
+    all(&rt, &[are_right(&memory, &ClassTable::new(), &[])]);
 }

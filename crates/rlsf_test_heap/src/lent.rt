@@ -6,6 +6,7 @@ ghost use Rattle.rlsf_base.specs.Range.{AreApart, LiesIn};
 ghost use Rattle.rlsf_model.specs.Insert.{IsUntouched};
 ghost use Rattle.rlsf_heap.specs.Heap.{IsLent, lent_bytes};
 ghost use Rattle.rlsf_heap.specs.Lending.{HasPool, KeepsPlace, KeepsPools};
+ghost use Rattle.rlsf_heap.specs.Settled.{IsSettled};
 
 use crate::answers::are;
 use rlsf_base::memory::{OpenMemory, Part, Range};
@@ -107,6 +108,7 @@ fn insert(heap: &mut Small, range: Range) -> usize
     ensures pool { HasPool heap.new.state.chunks range result }
     ensures pools { KeepsPools heap.old.state.chunks heap.new.state.chunks range }
     ensures untouched { (r : Range) → IsUntouched heap.old.state.chunks r → AreApart range r → IsUntouched heap.new.state.chunks r }
+    ensures settled { IsSettled heap.old.memory → IsSettled heap.new.memory }
 {
     match heap.insert_free_block_ptr(range) {
         Some(taken) => taken.get(),
@@ -141,4 +143,91 @@ fn ranges_that_lie_apart_go_back(rt: HostRuntime) {
     // The first multiples of 32 are 0, 27 and 21 bytes behind the starts.
     let answers = new_three(rt.alloc()).unwrap_or([0; 6]);
     are(&rt, &answers, &[1024, 475, 981, 1024, 500, 1000]);
+}
+
+/// Takes a range in no chunk out of a heap, to be lent to it.
+fn take(heap: &mut Small, range: Range) -> Part
+    requires lies { LiesIn range heap.old.memory.start (length heap.old.memory.bytes) }
+    requires untouched { IsUntouched heap.old.state.chunks range }
+    requires range { IsLent heap.old range }
+    requires lent { (heap.old.lent ≡ true) × IsSettled heap.old.memory }
+    ensures heap { KeepsPlace heap.old heap.new }
+    ensures settled { IsSettled heap.new.memory }
+    ensures state { heap.new.state ≡ heap.old.state }
+    ensures others { (r : Range) → IsLent heap.old r → AreApart range r → IsLent heap.new r }
+    ensures part { (result.home ≡ heap.new.identity.home) × (range.start ≡ result.start) × (range.len ≡ length result.bytes) × IsFull result }
+{
+    heap.reclaim(range)
+}
+
+/// Lends a range, inserts it and reclaims it, twice. Returns the numbers of bytes taken, and of those that come back at last.
+fn lent_again(heap: Small, part: Part, range: Range) -> Option<[usize; 3]>
+    requires empty { (r : Range) → IsUntouched heap.state.chunks r }
+    requires lies { LiesIn range heap.memory.start (length heap.memory.bytes) }
+    requires lent { (heap.lent ≡ true) × IsSettled heap.memory }
+    requires part { (part.home ≡ heap.identity.home) × (range.start ≡ part.start) × (range.len ≡ length part.bytes) × IsFull part }
+{
+    let mut heap = heap;
+    heap.lend(part);
+    let taken = insert(&mut heap, range);
+    let part = heap.reclaim_pool(range, taken)?;
+    heap.lend(part);
+    let again = insert(&mut heap, range);
+    Some([taken, again, heap.reclaim_pool(range, again)?.len()])
+}
+
+/// Does that in a new heap.
+fn new_lent_again(alloc: Global) -> Option<[usize; 3]> {
+    let memory = OpenMemory::new(alloc, 4096, 32768).ok()?;
+    let mut heap = Small::over_lent(memory);
+    let part = take(&mut heap, LAST);
+    lent_again(heap, part, LAST)
+}
+
+#[test]
+fn a_range_is_lent_again(rt: HostRuntime) {
+    let answers = new_lent_again(rt.alloc()).unwrap_or([0; 3]);
+    are(&rt, &answers, &[981, 981, 1000]);
+}
+
+/// Lends two ranges, inserts both, and reclaims the first. Returns the numbers of bytes taken, and where the bytes that come back begin, and
+/// how many these are.
+fn one_of_two(heap: Small, first: Part, second: Part) -> Option<[usize; 4]>
+    requires empty { (r : Range) → IsUntouched heap.state.chunks r }
+    requires place { (heap.memory.start ≡ 4096) × (length heap.memory.bytes ≡ 32768) × (heap.lent ≡ true) }
+    requires first { (first.home ≡ heap.identity.home) × (first.start ≡ 16384) × (length first.bytes ≡ 1024) × IsFull first }
+    requires second { (second.home ≡ heap.identity.home) × (second.start ≡ 4101) × (length second.bytes ≡ 500) × IsFull second }
+{
+    let mut heap = heap;
+    heap.lend(first);
+    heap.lend(second);
+    let first = insert(&mut heap, FIRST);
+    let second = insert(&mut heap, BELOW);
+    let part = heap.reclaim_pool(FIRST, first)?;
+    Some([first, second, part.start(), part.len()])
+}
+
+/// Takes both ranges out of a heap first.
+fn both(heap: Small) -> Option<[usize; 4]>
+    requires empty { (r : Range) → IsUntouched heap.state.chunks r }
+    requires place { (heap.memory.start ≡ 4096) × (length heap.memory.bytes ≡ 32768) × (heap.lent ≡ true) }
+    requires lent { (r : Range) → LiesIn r 4096 32768 → IsLent heap r }
+    requires settled { IsSettled heap.memory }
+{
+    let mut heap = heap;
+    let first = take(&mut heap, FIRST);
+    let second = take(&mut heap, BELOW);
+    one_of_two(heap, first, second)
+}
+
+/// Does that in a new heap.
+fn new_one_of_two(alloc: Global) -> Option<[usize; 4]> {
+    let memory = OpenMemory::new(alloc, 4096, 32768).ok()?;
+    both(Small::over_lent(memory))
+}
+
+#[test]
+fn one_of_two_lent_ranges_goes_back(rt: HostRuntime) {
+    let answers = new_one_of_two(rt.alloc()).unwrap_or([0; 4]);
+    are(&rt, &answers, &[1024, 475, 16384, 1024]);
 }

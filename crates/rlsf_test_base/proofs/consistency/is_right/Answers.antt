@@ -1,7 +1,7 @@
 use Rattle.std.proofs.Common.{arith, inl, refl}
 use Rattle.rlsf_base.specs.Space.{range_of}
 use Rattle.rlsf_base.proofs.Lending.Present.{here-none}
-use Rattle.rlsf_test_base.proofs.consistency.are_consistent.Goals as goal
+use Rattle.rlsf_test_base.proofs.consistency.is_right.Goals as goal
 
 pub is_consistent-requires : goal.is_consistent-requires
 is_consistent-requires c =
