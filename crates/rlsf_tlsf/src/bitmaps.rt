@@ -17,6 +17,8 @@ impl<FLBitmap: Bitmap, SLBitmap: Bitmap, const FLLEN: usize, const SLLEN: usize>
 > {
     /// Returns the first-level bitmap. The bit of a row is set if and only if there is a free block whose class is in the
     /// row.
+    ///
+    /// Takes time proportional to `FLLEN`, the number of rows.
     pub fn fl_bitmap(&self) -> FLBitmap
         ensures { (fl : ℕ) → bit (FLBitmap.pattern result) fl ≡ list_any (is_in_row SLLEN fl) self.now.state.free }
     {
@@ -27,6 +29,8 @@ impl<FLBitmap: Bitmap, SLBitmap: Bitmap, const FLLEN: usize, const SLLEN: usize>
     /// the class.
     ///
     /// `fl` must be below `FLLEN`.
+    ///
+    /// Takes time proportional to `SLLEN`, the number of classes of a row.
     pub fn sl_bitmap(&self, fl: usize) -> SLBitmap
         requires { fl < FLLEN }
         ensures { (sl : ℕ) → bit (SLBitmap.pattern result) sl ≡ list_any (has_class SLLEN (class_at fl sl)) self.now.state.free }

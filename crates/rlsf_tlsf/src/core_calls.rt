@@ -36,6 +36,8 @@ pub use moving::reallocate_in;
 pub(crate) use moving::reallocate_unknown_align_in;
 
 /// Allocates a payload for `layout`, as `Tlsf::allocate` does. Returns its bytes, which are still the memory's.
+///
+/// At most 27 word accesses. No byte is copied.
 // In line, so that the tests of an alignment that is constant at the call go away.
 #[inline(always)]
 pub fn allocate_in<const FLLEN: usize, const SLLEN: usize>(
@@ -63,6 +65,8 @@ pub fn allocate_in<const FLLEN: usize, const SLLEN: usize>(
 }
 
 /// Deallocates the payload at `addr`, whose used block begins at `block`, as `Tlsf::deallocate` does.
+///
+/// At most 31 word accesses. No byte is copied.
 #[inline(always)]
 pub fn deallocate_block_in<const FLLEN: usize, const SLLEN: usize>(
     memory: &mut OpenMemory,
@@ -101,6 +105,8 @@ pub(crate) fn find_block(memory: &mut OpenMemory, addr: usize, align: Option<usi
 
 /// Deallocates the payload at `addr`. If `align` is one, it is its alignment, and it is deallocated as `Tlsf::deallocate` does. Or else it is as
 /// `Tlsf::deallocate_unknown_align` does.
+///
+/// At most 32 word accesses with the alignment, and 33 without it. No byte is copied.
 #[inline(always)]
 pub fn deallocate_in<const FLLEN: usize, const SLLEN: usize>(
     memory: &mut OpenMemory,
@@ -121,6 +127,8 @@ pub fn deallocate_in<const FLLEN: usize, const SLLEN: usize>(
 }
 
 /// Inserts a range of the memory as a pool, as `Tlsf::insert_free_block_ptr` does.
+///
+/// At most 13 word accesses for each chunk that it makes. No byte is copied.
 #[inline(always)]
 pub fn insert_in<const FLLEN: usize, const SLLEN: usize>(
     memory: &mut OpenMemory,
@@ -144,6 +152,8 @@ pub fn insert_in<const FLLEN: usize, const SLLEN: usize>(
 }
 
 /// Appends a range of the memory that begins at the end of a chunk, as `Tlsf::append_free_block_ptr` does.
+///
+/// At most 13 word accesses for each chunk that it makes, and at most 34 if a chunk grows. No byte is copied.
 #[inline(always)]
 pub fn append_in<const FLLEN: usize, const SLLEN: usize>(
     memory: &mut OpenMemory,
@@ -167,6 +177,8 @@ pub fn append_in<const FLLEN: usize, const SLLEN: usize>(
 }
 
 /// Removes an inserted range, as `Tlsf::remove_pool` does.
+///
+/// At most 9 word accesses for each chunk that it removes. No byte is copied.
 #[inline(always)]
 pub fn remove_in<const FLLEN: usize, const SLLEN: usize>(
     memory: &mut OpenMemory,

@@ -149,6 +149,8 @@ impl<FLBitmap: BitPattern, SLBitmap: BitPattern, const FLLEN: usize, const SLLEN
     /// rounded up to a multiple of 32, and stops at the range's end. It skips the sentinels at the ends of chunks.
     ///
     /// This part of the range must be complete contiguous chunks, or empty.
+    ///
+    /// Completes in constant time. So does each step of the iteration, whose reads are not counted as word accesses.
     pub fn iter_blocks(&self, range: Range) -> Blocks<'_>
         requires { IsRow self.now.state (walked range) }
         ensures blocks { AreBlocks self.now.state (walked range) result }

@@ -27,6 +27,8 @@ unsafe impl Sync for GhostState {}
 
 impl GhostState {
     /// Returns the empty state, into which no range was inserted.
+    ///
+    /// Takes no time.
     pub fn new() -> GhostState
         ensures { result.state ≡ empty }
     {
@@ -40,6 +42,8 @@ impl GhostState {
     {}
 
     /// Updates the state as an insert does.
+    ///
+    /// Takes no time.
     pub fn insert(&mut self, fllen: usize, start: usize, len: usize)
         ensures { self.new.state ≡ inserted fllen (range_at start len) self.old.state }
     {
@@ -47,6 +51,8 @@ impl GhostState {
     }
 
     /// Updates the state as an append does.
+    ///
+    /// Takes no time.
     pub fn append(&mut self, fllen: usize, start: usize, len: usize)
         ensures { self.new.state ≡ appended_to fllen (range_at start len) self.old.state }
     {
@@ -54,6 +60,8 @@ impl GhostState {
     }
 
     /// Updates the state as an allocation does that isn't refused.
+    ///
+    /// Takes no time.
     pub fn allocate(&mut self, sllen: usize, size: usize, align: usize)
         ensures { self.new.state ≡ allocated sllen size align self.old.state }
     {
@@ -61,6 +69,8 @@ impl GhostState {
     }
 
     /// Updates the state as a deallocation does.
+    ///
+    /// Takes no time.
     pub fn deallocate(&mut self, addr: usize)
         ensures { self.new.state ≡ deallocated addr self.old.state }
     {
@@ -68,6 +78,8 @@ impl GhostState {
     }
 
     /// Updates the state as a reallocation does that isn't refused.
+    ///
+    /// Takes no time.
     pub fn reallocate(&mut self, sllen: usize, addr: usize, size: usize)
         ensures { self.new.state ≡ reallocated sllen addr size self.old.state }
     {
@@ -75,6 +87,8 @@ impl GhostState {
     }
 
     /// Updates the state as a removal of the chunks of a range does.
+    ///
+    /// Takes no time.
     pub fn remove(&mut self, start: usize, len: usize)
         ensures { self.new.state ≡ removed (walked (range_at start len)) self.old.state }
     {

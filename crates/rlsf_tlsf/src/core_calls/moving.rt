@@ -22,6 +22,8 @@ use rlsf_table::ClassTable;
 /// Its bytes must be here. They are still the memory's after the call.
 ///
 /// `WHOLE` is 1 for a memory of which no byte is raw or out: its bytes are copied faster.
+///
+/// At most 66 word accesses, and at most the bytes that the payload had are copied. None is copied if it stays.
 #[inline(always)]
 pub fn reallocate_in<const FLLEN: usize, const SLLEN: usize, const WHOLE: usize>(
     memory: &mut OpenMemory,

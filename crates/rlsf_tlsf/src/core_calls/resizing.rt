@@ -18,6 +18,8 @@ use rlsf_table::ClassTable;
 ///
 /// Of `layout` only the size counts: the payload has any alignment. The length of its block has to fit in a word. Usable bytes may
 /// be out if they are in its block of the new size, too.
+///
+/// At most 24 word accesses, and at most 2 if the bytes do not suffice. No byte is copied.
 #[inline(always)]
 pub fn resize_block_in<const FLLEN: usize, const SLLEN: usize>(
     memory: &mut OpenMemory,
@@ -48,6 +50,8 @@ pub fn resize_block_in<const FLLEN: usize, const SLLEN: usize>(
 /// Gives the payload at `addr` the size of `layout` without moving it, as `resize_block_in` does. Its block is found in the memory.
 ///
 /// Of `layout` only the size counts. If `align` is one, it is the payload's alignment. No usable byte of the payload may be out.
+///
+/// At most 25 word accesses with the alignment, and 26 without it. If the bytes do not suffice, at most 3 and 4. No byte is copied.
 #[inline(always)]
 pub fn resize_in<const FLLEN: usize, const SLLEN: usize>(
     memory: &mut OpenMemory,
