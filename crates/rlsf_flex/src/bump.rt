@@ -32,6 +32,8 @@ impl BumpSource {
     /// Creates a source of the space, which has not provided anything yet.
     ///
     /// The end of the space isn't past the greatest address.
+    ///
+    /// Completes in constant time.
     pub fn new(space: Range) -> BumpSource
         requires { end_of space < 2 ^ 64 }
         ensures value { result ≡ bump_in space space.start }

@@ -105,6 +105,8 @@ impl<
     }
 
     /// Returns the source, for reading.
+    ///
+    /// Completes in constant time.
     pub fn source_ref(&self) -> &S
         ensures source { result.now ≡ self.now.source }
         ensures stands { FlexStands FLLEN SLLEN S.terms S.owes self.now }
@@ -113,6 +115,8 @@ impl<
     }
 
     /// Returns the memory, for reading.
+    ///
+    /// Completes in constant time.
     pub fn memory_ref(&self) -> &Memory
         ensures memory { result.now ≡ self.now.memory }
         ensures stands { FlexStands FLLEN SLLEN S.terms S.owes self.now }
@@ -122,7 +126,7 @@ impl<
 
     /// Makes a change of the source once, and returns its result. Nothing else changes.
     ///
-    /// Accesses no word of the memory.
+    /// Takes as long as the change does, and accesses no word of the memory.
     pub fn source_mut_unchecked<C: SourceChange<S>>(&mut self, change: C) -> C::Out
         ensures changes { C.changes change self.old.source result self.new.source }
         ensures terms { S.terms self.new.source ≡ S.terms self.old.source }
@@ -292,6 +296,8 @@ impl<
     /// requested, and less than 32 more.
     ///
     /// The address is live, with any alignment.
+    ///
+    /// Completes in constant time.
     pub fn allocation_usable_size(&self, addr: Addr) -> usize
         requires { IsSome (align_at self.now.state.machine (at addr)) }
         ensures { result ≡ length (bytes_at self.now.state.machine (at addr)) }
@@ -302,6 +308,8 @@ impl<
     /// Returns all usable bytes of the payload at `addr`: those from `addr` to the end of its block.
     ///
     /// The address is live, with any alignment.
+    ///
+    /// Completes in constant time.
     pub fn payload(&self, addr: Addr) -> &[u8]
         requires { IsSome (align_at self.now.state.machine (at addr)) }
         ensures { result.now ≡ bytes_at self.now.state.machine (at addr) }

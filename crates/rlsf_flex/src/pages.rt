@@ -43,6 +43,8 @@ impl<Options: GlobalTlsfOptions> Source<Options> {
     /// 32, the source always refuses.
     ///
     /// The end of the space isn't past the greatest address.
+    ///
+    /// Completes in constant time.
     pub fn new(space: Range) -> Self
         requires { end_of space < 2 ^ 64 }
         ensures value { result ≡ page_cursor space (first_page space) Options.COALESCE_POOLS }
