@@ -82,6 +82,8 @@ impl<FLBitmap: BitPattern, SLBitmap: BitPattern, const FLLEN: usize, const SLLEN
     /// The parameters must be valid:
     /// - `FLLEN`, the number of rows, is at least 1 and at most the number of bits of `FLBitmap`.
     /// - `SLLEN`, the number of classes of a row, is a power of two and at most the number of bits of `SLBitmap`.
+    ///
+    /// Takes time proportional to the number of classes, and accesses no word of the memory.
     pub fn new(memory: OpenMemory) -> Self
         requires valid { IsValid FLBitmap.width SLBitmap.width FLLEN SLLEN }
         requires own { IsAllOwn memory.out }
@@ -109,6 +111,8 @@ impl<FLBitmap: BitPattern, SLBitmap: BitPattern, const FLLEN: usize, const SLLEN
     /// Consumes the heap and returns its memory, as the heap leaves it. No byte of it is out, but for those that aren't lent to the heap.
     ///
     /// No payload may be live.
+    ///
+    /// Completes in constant time, without a word access.
     pub fn into_memory(self) -> OpenMemory
         requires { live_count self.state ≡ 0 }
         ensures memory { result ≡ self.memory }
@@ -133,6 +137,8 @@ impl<FLBitmap: BitPattern, SLBitmap: BitPattern, const FLLEN: usize, const SLLEN
     /// bytes weren't lent to it. Otherwise returns the heap unchanged, as the error.
     ///
     /// The memory is the one that `new` was passed: it has the same start, length and block (`home`).
+    ///
+    /// Completes in constant time, without a word access.
     pub fn try_into_memory(self) -> Result<OpenMemory, Self>
         ensures which { IsOk result ↔ ((live_count self.state ≡ 0) × (self.lent ≡ false)) }
         ensures memory { IfOk result (λ m. m ≡ self.memory) }

@@ -32,6 +32,8 @@ impl<FLBitmap: BitPattern, SLBitmap: BitPattern, const FLLEN: usize, const SLLEN
     /// to it, and more can be by `lend`.
     ///
     /// The parameters must be valid, as for `new`.
+    ///
+    /// Takes time proportional to the number of classes, and accesses no word of the memory.
     pub fn over_lent(memory: OpenMemory) -> Self
         requires { IsValid FLBitmap.width SLBitmap.width FLLEN SLLEN }
         ensures state { result.state ≡ empty }
@@ -59,6 +61,8 @@ impl<FLBitmap: BitPattern, SLBitmap: BitPattern, const FLLEN: usize, const SLLEN
     /// its own. Nothing else changes.
     ///
     /// `part` must be of this heap's memory, with bytes that are here, none of them in a chunk.
+    ///
+    /// Completes in constant time, without a word access.
     pub fn lend(&mut self, part: Part)
         requires home { part.home ≡ self.old.identity.home }
         requires full { IsFull part }
@@ -76,6 +80,8 @@ impl<FLBitmap: BitPattern, SLBitmap: BitPattern, const FLLEN: usize, const SLLEN
     /// Nothing else changes.
     ///
     /// The range must lie in the memory and overlap no chunk, and its bytes must be lent.
+    ///
+    /// Completes in constant time, without a word access.
     pub fn reclaim(&mut self, range: Range) -> Part
         requires lies_in { LiesIn range self.old.memory.start (length self.old.memory.bytes) }
         requires untouched { IsUntouched self.old.state.chunks range }

@@ -36,6 +36,8 @@ impl Drop for Loan {
 
 impl Loan {
     /// Returns no bytes.
+    ///
+    /// Completes in constant time.
     pub fn none() -> Loan
         ensures { (result.addr ≡ 0) × (result.of.start ≡ 0) }
     {
@@ -61,6 +63,8 @@ impl Loan {
     }
 
     /// Consumes the loan and returns its address. Its bytes are the caller's from now on.
+    ///
+    /// Completes in constant time.
     pub fn into_raw(self) -> usize
         ensures* handed { sem 𝓛 (owns_loan self.of) }
         ensures addr { result ≡ self.addr }
@@ -70,6 +74,8 @@ impl Loan {
     }
 
     /// Makes a loan of the caller's bytes.
+    ///
+    /// Completes in constant time.
     ///
     /// # Safety
     ///
@@ -92,6 +98,8 @@ impl<FLBitmap: BitPattern, SLBitmap: BitPattern, const FLLEN: usize, const SLLEN
     ghost use Rattle.rlsf_heap.specs.Heap.{IsLent, Stands};
 
     /// Lends the bytes of a range to the heap, as `lend` does.
+    ///
+    /// Completes in constant time, without a word access.
     pub fn lend_loan(&mut self, loan: Loan, range: Range)
         requires some { loan.of.start ≢ 0 }
         requires range { piece_range loan.of ≡ range }
@@ -112,6 +120,8 @@ impl<FLBitmap: BitPattern, SLBitmap: BitPattern, const FLLEN: usize, const SLLEN
     }
 
     /// Returns the bytes of a range, as `reclaim` does.
+    ///
+    /// Completes in constant time, without a word access.
     pub fn reclaim_loan(&mut self, range: Range) -> Loan
         requires lies_in { LiesIn range self.old.memory.start (length self.old.memory.bytes) }
         requires untouched { IsUntouched self.old.state.chunks range }

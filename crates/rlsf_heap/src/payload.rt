@@ -58,6 +58,8 @@ impl Payload {
     }
 
     /// Returns the address of the first byte.
+    ///
+    /// Completes in constant time.
     pub fn addr(&self) -> usize
         ensures { result ≡ self.now.start }
     {
@@ -65,6 +67,8 @@ impl Payload {
     }
 
     /// Returns the number of bytes. All of them may be used.
+    ///
+    /// Completes in constant time.
     pub fn len(&self) -> usize
         ensures { result ≡ length self.now.bytes }
     {
@@ -72,6 +76,8 @@ impl Payload {
     }
 
     /// Returns the alignment that was requested. The address is a multiple of it.
+    ///
+    /// Completes in constant time.
     pub fn align(&self) -> usize
         ensures { result ≡ self.now.align }
     {
@@ -79,6 +85,8 @@ impl Payload {
     }
 
     /// Returns the bytes. They must be here.
+    ///
+    /// Completes in constant time.
     pub fn as_slice(&self) -> &[u8]
         requires { IsWritten self.now }
         ensures { result.now ≡ self.now.bytes }
@@ -88,6 +96,8 @@ impl Payload {
 
     /// Returns the bytes, for reading and writing. They must be here. When the borrow ends, the payload has the bytes that
     /// were written. Nothing else changes.
+    ///
+    /// Completes in constant time.
     pub fn as_mut_slice(&mut self) -> &mut [u8]
         requires { IsWritten self.old }
         ensures* writes_back { sem 𝓛 (LendsPayload self.entry result) }
@@ -99,6 +109,8 @@ impl Payload {
     }
 
     /// Writes `value` to each byte. All are then here. Nothing else changes.
+    ///
+    /// Takes time proportional to the length. No word access is counted.
     pub fn fill(&mut self, value: u8)
         ensures bytes { self.new.bytes ≡ replicate (length self.old.bytes) value }
         ensures written { IsWritten self.new }
@@ -112,6 +124,8 @@ impl Payload {
     /// Writes `value` to each byte from index `from` on. All bytes are then here. Nothing else changes.
     ///
     /// The bytes before `from` must be here, and `from` may be at most the length.
+    ///
+    /// Takes time proportional to the number of written bytes. No word access is counted.
     pub fn fill_from(&mut self, from: usize, value: u8)
         requires place { from ≤ length self.old.bytes }
         requires kept { IsIn self.old.out 0 from }

@@ -28,6 +28,8 @@ impl<FLBitmap: BitPattern, SLBitmap: BitPattern, const FLLEN: usize, const SLLEN
     ghost use Rattle.rlsf_heap.specs.Heap.{Stands};
 
     /// Returns the number of live payloads: those that were allocated and not yet deallocated.
+    ///
+    /// Completes in constant time.
     pub fn live(&self) -> usize
         ensures { result ≡ live_count self.now.state }
     {
@@ -35,6 +37,8 @@ impl<FLBitmap: BitPattern, SLBitmap: BitPattern, const FLLEN: usize, const SLLEN
     }
 
     /// Returns whether the memory's bytes are lent to the heap in ranges.
+    ///
+    /// Completes in constant time.
     pub fn is_lent(&self) -> bool
         ensures { result ≡ self.now.lent }
     {
@@ -57,6 +61,8 @@ impl<FLBitmap: BitPattern, SLBitmap: BitPattern, const FLLEN: usize, const SLLEN
     /// reads no byte of a payload.
     ///
     /// This part of the range must be complete contiguous chunks, or empty.
+    ///
+    /// Completes in constant time. So does each step of the iteration, whose reads are not counted as word accesses.
     pub fn iter_blocks(&self, range: Range) -> Blocks<'_>
         requires { IsRow self.now.state (walked range) }
         ensures blocks { AreBlocks self.now.state (walked range) result }
@@ -70,6 +76,8 @@ impl<FLBitmap: BitPattern, SLBitmap: BitPattern, const FLLEN: usize, const SLLEN
     /// this one.
     ///
     /// `fl` must be below `FLLEN`, and `sl` below `SLLEN`.
+    ///
+    /// Completes in constant time.
     pub fn first_free(&self, fl: usize, sl: usize) -> Option<Addr>
         requires { (fl < FLLEN) × (sl < SLLEN) }
         ensures { reply result ≡ newest_of (of_class SLLEN fl sl self.now.state.free) }
@@ -79,6 +87,8 @@ impl<FLBitmap: BitPattern, SLBitmap: BitPattern, const FLLEN: usize, const SLLEN
 
     /// Returns the memory, for reading. Its words and the class table represent the state. The bytes of live payloads are
     /// out of it.
+    ///
+    /// Completes in constant time.
     pub fn memory_ref(&self) -> &OpenMemory
         ensures memory { result.now ≡ self.now.memory }
         ensures stands { Stands FLLEN SLLEN self.now }
@@ -97,6 +107,8 @@ impl<FLBitmap: Bitmap, SLBitmap: Bitmap, const FLLEN: usize, const SLLEN: usize>
     /// class has a free block.
     ///
     /// `fl` must be below `FLLEN`.
+    ///
+    /// Takes time proportional to `SLLEN`, the number of classes of a row.
     pub fn sl_bitmap(&self, fl: usize) -> SLBitmap
         requires { fl < FLLEN }
         ensures { (sl : ℕ) → bit (SLBitmap.pattern result) sl ≡ list_any (has_class SLLEN (class_at fl sl)) self.now.state.free }
@@ -105,6 +117,8 @@ impl<FLBitmap: Bitmap, SLBitmap: Bitmap, const FLLEN: usize, const SLLEN: usize>
     }
 
     /// Returns the first-level bitmap, as `Tlsf::fl_bitmap` does. The bit of a row is set if and only if the row has a free block.
+    ///
+    /// Takes time proportional to `FLLEN`, the number of rows.
     pub fn fl_bitmap(&self) -> FLBitmap
         ensures { (fl : ℕ) → bit (FLBitmap.pattern result) fl ≡ list_any (is_in_row SLLEN fl) self.now.state.free }
     {

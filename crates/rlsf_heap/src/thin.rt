@@ -57,6 +57,8 @@ impl ThinBytes {
 
 impl ThinPayload {
     /// Returns no payload.
+    ///
+    /// Completes in constant time.
     pub fn none() -> ThinPayload
         ensures { (result.addr ≡ 0) × (result.of.start ≡ 0) }
     {
@@ -118,6 +120,8 @@ impl ThinPayload {
     {}
 
     /// Returns the address of the payload, or 0, and the payload unchanged.
+    ///
+    /// Completes in constant time.
     pub fn with_addr(self) -> (usize, ThinPayload)
         ensures addr { result.0 ≡ self.addr }
         ensures payload { (result.1.addr ≡ self.addr) × (result.1.of ≡ self.of) }
@@ -128,6 +132,8 @@ impl ThinPayload {
 
     /// Consumes the payload and returns its address. What it owns is the caller's from now on: the payload's bytes, and the right
     /// to deallocate them.
+    ///
+    /// Completes in constant time.
     pub fn into_raw(self) -> usize
         ensures* handed { sem 𝓛 (owns_reply self.of) }
         ensures addr { result ≡ self.addr }
@@ -137,6 +143,8 @@ impl ThinPayload {
     }
 
     /// Makes a payload of what `into_raw` passed to the caller.
+    ///
+    /// Completes in constant time.
     ///
     /// # Safety
     ///
@@ -153,6 +161,8 @@ impl ThinPayload {
 impl Payload {
     /// Consumes the payload and returns it by its address, which isn't 0. `into_raw` of this returns the address as a number, which a
     /// foreign structure can keep.
+    ///
+    /// Completes in constant time.
     pub fn into_thin(self) -> ThinPayload
         ensures { (result.addr ≡ self.start) × (result.of ≡ self) × (self.start ≢ 0) }
     {

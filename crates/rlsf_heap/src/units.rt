@@ -54,6 +54,8 @@ impl<FLBitmap: BitPattern, SLBitmap: BitPattern, const FLLEN: usize, const SLLEN
     ghost use Rattle.rlsf_heap.specs.Heap.{Steps};
 
     /// Returns whether the memory has units of 16 bytes: whether its block is the system's, or begins at a multiple of 16.
+    ///
+    /// Completes in constant time.
     pub fn has_units(&self) -> bool
         ensures { IsTrue result ↔ GivesUnits self.now.identity }
     {
