@@ -67,6 +67,9 @@ impl<FLBitmap: BitPattern, SLBitmap: BitPattern, const FLLEN: usize, const SLLEN
     ///
     /// Returns `TooLong` if and only if the memory would end past `2^64 - 1`. Returns `OutOfMemory` if the system has no such memory, or
     /// none for the heap's own fields. The parameters of the heap must be valid (`Heap::new`).
+    ///
+    /// Asks the system twice: for the memory, and for the fields of the heap. Takes time proportional to the number of classes and
+    /// of chunks. No byte of the memory is written beside the words of these chunks.
     pub fn new(alloc: Global, len: usize) -> Result<Self, MemoryError>
         requires { IsValid FLBitmap.width SLBitmap.width FLLEN SLLEN }
         ensures memory { IfOk result (λ l. (l.slot.heap.home.start ≡ 4096) × (l.slot.heap.home.len ≡ len) × GivesUnits l.slot.heap) }
@@ -91,6 +94,8 @@ impl<FLBitmap: BitPattern, SLBitmap: BitPattern, const FLLEN: usize, const SLLEN
 
 impl<H: UnitHeap> LocalHeap<H> {
     /// Returns the number of bytes of the heap's memory. No clause states this number: nothing is known of a heap through a `&`.
+    ///
+    /// It takes constant time.
     pub fn size(&self) -> usize {
         self.counts().0
     }
@@ -109,11 +114,15 @@ impl<H: UnitHeap> LocalHeap<H> {
     }
 
     /// Returns the number of payloads of the heap that are out. No clause states this number.
+    ///
+    /// It takes constant time.
     pub fn live(&self) -> usize {
         self.counts().1
     }
 
     /// Consumes the allocator and returns its heap, in which the blocks that are out stay live.
+    ///
+    /// It takes constant time.
     pub fn into_heap(self) -> Option<H>
         ensures { IfSome result (λ h. H.constants h ≡ self.slot) }
     {

@@ -29,6 +29,8 @@ impl<T: Identified> Move for Slot<T> {
 
 impl<T: Identified> Slot<T> {
     /// Creates a slot that holds `value`.
+    ///
+    /// Takes constant time: the value is moved.
     pub fn new(value: T) -> Slot<T>
         ensures { result ≡ T.constants value }
     {
@@ -36,6 +38,8 @@ impl<T: Identified> Slot<T> {
     }
 
     /// Puts `value` into the slot, and returns what was there.
+    ///
+    /// Takes constant time: the value is moved.
     pub fn replace(&self, value: Option<T>) -> Option<T>
         requires { IfSome value (λ x. T.constants x ≡ self.now) }
         ensures { IfSome result (λ x. T.constants x ≡ self.now) }
@@ -49,6 +53,8 @@ impl<T: Identified> Slot<T> {
     }
 
     /// Consumes the slot, and returns what is there.
+    ///
+    /// Takes constant time: the value is moved.
     pub fn into_inner(self) -> Option<T>
         ensures { IfSome result (λ x. T.constants x ≡ self) }
     {

@@ -57,7 +57,8 @@ impl<FLBitmap: BitPattern, SLBitmap: BitPattern, const FLLEN: usize, const SLLEN
     /// other payloads of `pool` stay as they are. The range is the only pool of the new heap (`pool`). A range of less than 64 bytes,
     /// for a `len` up to 48, holds no pool: each allocation is then refused.
     ///
-    /// Completes in constant time: at most 27 word accesses of `pool`'s memory, whatever the pools contain.
+    /// At most 27 word accesses of `pool`'s memory, whatever the pools contain. Asks the system once, for the fields of the new heap, and
+    /// takes time proportional to the number of classes and of the new heap's chunks.
     ///
     /// Returns `None` if `pool` refuses such a payload, if its memory has no units of 16 bytes, if `len` is 2^58 or more, or if
     /// the system has no memory for the new heap's own fields. Then the state of `pool` and the values of its bytes are as they
@@ -84,6 +85,8 @@ impl<FLBitmap: BitPattern, SLBitmap: BitPattern, const FLLEN: usize, const SLLEN
     }
 
     /// Returns the allocator, which collections hold a `&` to.
+    ///
+    /// Completes in constant time.
     pub fn heap(&self) -> &LocalHeap<Box<Heap<FLBitmap, SLBitmap, FLLEN, SLLEN>>>
         ensures { result.now.slot ≡ self.now.local.slot }
     {
@@ -96,7 +99,7 @@ impl<FLBitmap: BitPattern, SLBitmap: BitPattern, const FLLEN: usize, const SLLEN
     ///
     /// The tenant must be one of `pool`.
     ///
-    /// Completes in constant time: at most 32 word accesses of `pool`'s memory, whatever the pools contain.
+    /// At most 32 word accesses of `pool`'s memory, whatever the pools contain. The fields of the heap are returned to the system.
     pub fn end(self, pool: &mut Heap<FLBitmap, SLBitmap, FLLEN, SLLEN>) -> bool
         requires { lessor self.lease ≡ pool.old.identity }
         ensures step { result ≡ true → Steps FLLEN SLLEN pool.new (Deallocates pool.old.state self.lease.start) }
