@@ -52,6 +52,8 @@ impl<FLBitmap: BitPattern, SLBitmap: BitPattern, const FLLEN: usize, const SLLEN
     SLLEN,
 > {
     /// Creates a shared heap of `heap`. Payloads that `heap` allocated are payloads of the shared heap.
+    ///
+    /// Takes no lock. The fields of the heap are moved.
     pub fn new(heap: Heap<FLBitmap, SLBitmap, FLLEN, SLLEN>) -> Self
         ensures identity { result.identity ≡ heap.identity }
     {
@@ -61,6 +63,8 @@ impl<FLBitmap: BitPattern, SLBitmap: BitPattern, const FLLEN: usize, const SLLEN
     }
 
     /// Consumes the shared heap, and returns its heap. Payloads of the shared heap are payloads of that heap.
+    ///
+    /// Takes no lock. The fields of the heap are moved.
     pub fn into_inner(self) -> Heap<FLBitmap, SLBitmap, FLLEN, SLLEN>
         ensures identity { result.identity ≡ self.identity }
     {
@@ -70,6 +74,8 @@ impl<FLBitmap: BitPattern, SLBitmap: BitPattern, const FLLEN: usize, const SLLEN
 
     /// Allocates a payload for `layout`, as `Heap::allocate` does. Its bytes may be raw. Returns `None` if the heap does.
     /// No clause says when: other threads may change the heap at any moment.
+    ///
+    /// Waits for the lock. Then completes in constant time: at most 27 word accesses, as `Heap::allocate`.
     pub fn allocate<R: Wait>(&self, rt: &R, layout: Layout) -> Option<Payload>
         ensures payload { IfSome result (λ p. p.identity ≡ self.now.identity) }
         ensures align { IfSome result (λ p. p.align ≡ layout.align) }
@@ -82,6 +88,9 @@ impl<FLBitmap: BitPattern, SLBitmap: BitPattern, const FLLEN: usize, const SLLEN
 
     /// Allocates a payload for `layout`, as `Heap::allocate_zeroed` does. Its bytes are zeros. Returns `None` if the heap does.
     /// No clause says when.
+    ///
+    /// Waits for the lock, and has it while it fills the payload: at most 27 word accesses, and time proportional to the length of
+    /// the payload.
     pub fn allocate_zeroed<R: Wait>(&self, rt: &R, layout: Layout) -> Option<Payload>
         ensures payload { IfSome result (λ p. p.identity ≡ self.now.identity) }
         ensures written { IfSome result (λ p. IsWritten p) }
@@ -98,6 +107,8 @@ impl<FLBitmap: BitPattern, SLBitmap: BitPattern, const FLLEN: usize, const SLLEN
 
     /// Allocates a payload for `layout`, as `allocate_zeroed` does, and returns it with a reference to this heap. Returns `None` if the
     /// heap does. No clause says when.
+    ///
+    /// Costs as much as `allocate_zeroed`.
     pub fn allocate_shared<R: Wait>(
         &self,
         rt: &R,
@@ -117,6 +128,8 @@ impl<FLBitmap: BitPattern, SLBitmap: BitPattern, const FLLEN: usize, const SLLEN
     /// Returns a payload with a reference to this heap.
     ///
     /// The payload must be one of this heap, and its bytes must be here.
+    ///
+    /// Completes in constant time, and takes no lock.
     pub fn adopt(
         &self,
         payload: Payload,
@@ -131,6 +144,8 @@ impl<FLBitmap: BitPattern, SLBitmap: BitPattern, const FLLEN: usize, const SLLEN
     /// Deallocates a payload, as `Heap::deallocate` does.
     ///
     /// The payload must be one of this heap.
+    ///
+    /// Waits for the lock. Then completes in constant time: at most 32 word accesses, as `Heap::deallocate`.
     pub fn deallocate<R: Wait>(&self, rt: &R, payload: Payload)
         requires { payload.identity ≡ self.now.identity }
     {
@@ -145,6 +160,9 @@ impl<FLBitmap: BitPattern, SLBitmap: BitPattern, const FLLEN: usize, const SLLEN
     /// Returns the payload as it was, as the error, if the heap does. No clause says when.
     ///
     /// The payload must be one of this heap, and its bytes must be here.
+    ///
+    /// Waits for the lock, and has it while bytes are copied: at most 66 word accesses, and each byte of the payload is copied at
+    /// most once.
     pub fn reallocate<R: Wait>(
         &self,
         rt: &R,

@@ -28,11 +28,15 @@ impl<
     const SLLEN: usize,
 > SharedHeaps<FLBitmap, SLBitmap, FLLEN, SLLEN> {
     /// Creates a set of these heaps: thread number 0 has the first, and so on.
+    ///
+    /// Completes in constant time. It takes no lock.
     pub fn new(heaps: Vec<SharedHeap<FLBitmap, SLBitmap, FLLEN, SLLEN>>) -> Self {
         SharedHeaps { heaps }
     }
 
     /// Consumes the set, and returns its heaps, in their order.
+    ///
+    /// Completes in constant time. It takes no lock.
     pub fn into_inner(self) -> Vec<SharedHeap<FLBitmap, SLBitmap, FLLEN, SLLEN>> {
         let SharedHeaps { heaps } = self;
         heaps
@@ -42,6 +46,9 @@ impl<
     /// the next one, and so on round. With more threads than heaps, some share one.
     ///
     /// Returns `None` if no heap has room.
+    ///
+    /// Waits for the lock of each heap that it asks, one after the other. For each it costs as much as
+    /// `SharedHeap::allocate_shared`.
     pub fn allocate_shared<R: Wait>(
         &self,
         rt: &R,

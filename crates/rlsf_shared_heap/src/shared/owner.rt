@@ -64,6 +64,8 @@ impl<
     /// Creates an owner of `heap`, none of whose payloads is lent.
     ///
     /// `returns` must have been made for `heap`. It has no other owner while this one, or a payload that it lent, exists.
+    ///
+    /// Never waits. The fields of the heap are moved, and no word of its memory is accessed.
     pub fn new(heap: Heap<FLBitmap, SLBitmap, FLLEN, SLLEN>, returns: &'r mut Returns) -> Self
         requires { returns.old.identity ≡ heap.identity }
         ensures heap { result.heap ≡ heap }
@@ -80,6 +82,8 @@ impl<
     /// Consumes the owner, and returns its heap.
     ///
     /// No payload may be lent.
+    ///
+    /// Never waits. The fields of the heap are moved, and no word of its memory is accessed.
     pub fn into_heap(self) -> Heap<FLBitmap, SLBitmap, FLLEN, SLLEN>
         requires { self.lent ≡ 0 }
         ensures { result ≡ self.entry.heap }
@@ -93,6 +97,8 @@ impl<
     }
 
     /// Consumes the owner, and returns its heap, if no payload is lent. Otherwise returns the owner unchanged, as the error.
+    ///
+    /// Never waits. The fields of the heap are moved, and no word of its memory is accessed.
     pub fn try_into_heap(self) -> Result<Heap<FLBitmap, SLBitmap, FLLEN, SLLEN>, Self>
         ensures which { IsOk result ↔ (self.entry.lent ≡ 0) }
         ensures heap { IfOk result (λ h. h ≡ self.entry.heap) }
@@ -106,6 +112,8 @@ impl<
     }
 
     /// Returns how many payloads are lent, with those that came back and weren't deallocated yet.
+    ///
+    /// Completes in constant time.
     pub fn lent(&self) -> usize
         ensures { result ≡ self.now.lent }
     {

@@ -86,12 +86,17 @@ impl<'h, H: ThreadHeap> SharedPayload<'h, H> {
     }
 
     /// Deallocates the payload. One that an `OwnerHeap` lent goes back to that owner, which deallocates it.
+    ///
+    /// Waits for the lock of the heap, and then takes at most 32 word accesses. For an `OwnerHeap` it takes none: while another
+    /// thread has the lock of its list, it yields the processor and tries again.
     pub fn free<R: Wait>(self, rt: &R) {
         let SharedPayload { heap, payload } = self;
         heap.deallocate(rt, payload);
     }
 
     /// Consumes the value, and returns its payload. `SharedHeap::adopt` of its heap makes the value of it again.
+    ///
+    /// Completes in constant time. It takes no lock.
     pub fn into_payload(self) -> Payload
         ensures same { result ≡ self.entry }
         ensures written { IsWritten result }
@@ -103,6 +108,9 @@ impl<'h, H: ThreadHeap> SharedPayload<'h, H> {
     /// Changes the size of the payload to `size` bytes, as `SharedHeap::reallocate` does. Bytes behind the kept ones are zeros.
     ///
     /// Returns the payload as it was, as the error, if the heap does.
+    ///
+    /// Costs as much as `SharedHeap::reallocate`, and fills the bytes behind the kept ones after it left the lock. A payload that
+    /// an `OwnerHeap` lent is returned at once, as the error.
     pub fn reallocate<R: Wait>(self, rt: &R, size: usize) -> Result<Self, Self>
         ensures reply { IsReallocation self.entry.identity self.entry size result }
         ensures zeros { IfOk result (λ p. drop (length self.entry.bytes) p.bytes ≡ replicate (length p.bytes - length self.entry.bytes) 0) }
@@ -120,6 +128,8 @@ impl<'h, H: ThreadHeap> SharedPayload<'h, H> {
     }
 
     /// Returns the address of the first byte.
+    ///
+    /// Completes in constant time. It takes no lock.
     pub fn addr(&self) -> usize
         ensures { result ≡ self.now.start }
     {
@@ -127,6 +137,8 @@ impl<'h, H: ThreadHeap> SharedPayload<'h, H> {
     }
 
     /// Returns the number of bytes. All of them may be used.
+    ///
+    /// Completes in constant time. It takes no lock.
     pub fn len(&self) -> usize
         ensures { result ≡ length self.now.bytes }
     {
@@ -134,6 +146,8 @@ impl<'h, H: ThreadHeap> SharedPayload<'h, H> {
     }
 
     /// Returns the alignment that was requested. The address is a multiple of it.
+    ///
+    /// Completes in constant time. It takes no lock.
     pub fn align(&self) -> usize
         ensures { result ≡ self.now.align }
     {
@@ -141,6 +155,8 @@ impl<'h, H: ThreadHeap> SharedPayload<'h, H> {
     }
 
     /// Returns the bytes.
+    ///
+    /// Completes in constant time. It takes no lock.
     pub fn as_slice(&self) -> &[u8]
         ensures { result.now ≡ self.now.bytes }
     {
@@ -149,6 +165,8 @@ impl<'h, H: ThreadHeap> SharedPayload<'h, H> {
 
     /// Returns the bytes, for reading and writing. When the borrow ends, the payload has the bytes that were written. Nothing else
     /// changes.
+    ///
+    /// Completes in constant time. It takes no lock.
     pub fn as_mut_slice(&mut self) -> &mut [u8]
         ensures* writes_back { sem 𝓛 (LendsShared H.row H.ThreadHeap self.entry result) }
         ensures value { result.now ≡ self.old.bytes }
@@ -162,6 +180,8 @@ impl<'h, H: ThreadHeap> SharedPayload<'h, H> {
     }
 
     /// Writes `value` to each byte. Nothing else changes.
+    ///
+    /// Takes time proportional to the length, and no lock.
     pub fn fill(&mut self, value: u8)
         ensures bytes { self.new.bytes ≡ replicate (length self.old.bytes) value }
         ensures identity { self.new.identity ≡ self.old.identity }
@@ -172,6 +192,8 @@ impl<'h, H: ThreadHeap> SharedPayload<'h, H> {
     }
 
     /// Returns the payload as a value whose drop deallocates it.
+    ///
+    /// Completes in constant time. It takes no lock.
     pub fn freed_on_drop<'r, R: Wait>(self, rt: &'r R) -> FreedOnDrop<'h, 'r, H, R>
         ensures { result.payload ≡ self.entry }
     {
@@ -196,6 +218,8 @@ impl<'h, 'r, H: ThreadHeap, R: Wait> Drop for FreedOnDrop<'h, 'r, H, R> {
 
 impl<'h, 'r, H: ThreadHeap, R: Wait> FreedOnDrop<'h, 'r, H, R> {
     /// Consumes the value, and returns its payload, which is live.
+    ///
+    /// Completes in constant time. It takes no lock.
     pub fn into_inner(self) -> SharedPayload<'h, H>
         ensures { result ≡ self.entry.payload }
     {

@@ -144,6 +144,8 @@ impl Returns {
     /// Creates a list for payloads of `heap`, of which at most `room` can be lent at once.
     ///
     /// Returns an error if the system has no memory for it.
+    ///
+    /// Asks the system for that many places, and never again.
     pub fn new<FLBitmap: BitPattern, SLBitmap: BitPattern, const FLLEN: usize, const SLLEN: usize>(
         alloc: Global,
         heap: &Heap<FLBitmap, SLBitmap, FLLEN, SLLEN>,
@@ -160,6 +162,8 @@ impl Returns {
     }
 
     /// Returns how many payloads can be lent at once.
+    ///
+    /// Completes in constant time. It takes no lock.
     pub fn room(&self) -> usize
         ensures { result ≡ self.now.room }
     {
