@@ -49,6 +49,8 @@ impl Model for Book {
 
 impl Book {
     /// Creates an allocator whose source has the complete memory as its space, with an empty journal. Nothing is live.
+    ///
+    /// Costs as much as `Locked::new`. For the journal the system is asked nothing yet.
     pub fn new(alloc: Global, memory: Memory) -> Book
         ensures heap { result.locked.heap ≡ beginning (range_of memory) true }
         ensures memory { result.locked.memory ≡ memory }
@@ -62,6 +64,8 @@ impl Book {
     }
 
     /// Returns the number of entries of the journal.
+    ///
+    /// Completes in constant time.
     pub fn len(&self) -> usize
         ensures { result ≡ length self.now.journal }
     {
@@ -79,6 +83,9 @@ impl Book {
     ///
     /// - `UnknownAddress` exactly if the address isn't live.
     /// - `NoRoom` exactly if there is no room and no memory came.
+    ///
+    /// Costs as much as the call of `Locked` that it makes. If the journal has no room for an entry, the system is asked before that, and
+    /// the time is also proportional to the length of the journal, since its entries may move.
     pub fn step(&mut self, caller: usize, call: Call) -> Reply
         ensures step { LeadsOrRefused self.old.locked.heap call result self.new.locked.heap }
         ensures entry { self.new.journal ≡ self.old.journal ++ entries_of caller call result }
@@ -104,6 +111,8 @@ impl Book {
     ///
     /// Returns `UnknownAddress` exactly if the address isn't live, else `OutOfRange` exactly if the bytes go past the usable ones. Then
     /// `bytes` is unchanged. No entry is made.
+    ///
+    /// Costs as much as `Locked::read_payload`.
     pub fn read_payload(
         &self,
         addr: Addr,
@@ -121,6 +130,8 @@ impl Book {
     ///
     /// Returns `UnknownAddress` exactly if the address isn't live, else `OutOfRange` exactly if the bytes go past the usable ones. Then
     /// nothing changes. No entry is made.
+    ///
+    /// Costs as much as `Locked::write_payload`.
     pub fn write_payload(
         &mut self,
         addr: Addr,
@@ -149,7 +160,9 @@ impl Book {
     /// - else `Mismatch` exactly if passes and journal don't agree.
     ///
     /// The memory is dropped. On an error, the journal and the passes are dropped, too. The call requests no memory.
-    /// It reads the complete table, so its time also grows with the memory's length.
+    ///
+    /// Takes time proportional to the number of passes times that of callers and of entries, and to the memory's length, since it reads
+    /// the complete table.
     pub fn close(self, callers: usize, passes: Vec<Pass>) -> Result<Closed, CloseError>
         ensures strange { IsErrOf result StrangePass ↔ (is_strange callers passes.items ≡ true) }
         ensures missing { IsErrOf result MissingPass ↔ LacksOne callers passes.items }

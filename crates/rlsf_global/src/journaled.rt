@@ -37,6 +37,8 @@ impl Journaled {
     /// order. Nothing is live, and no pass has a receipt.
     ///
     /// Returns `JournalMemory` if the system is out of memory for the passes. Then the memory is dropped.
+    ///
+    /// Costs as much as `Locked::new`, and asks the system for the passes, in time proportional to `callers`.
     pub fn new(
         alloc: Global,
         memory: Memory,
@@ -66,6 +68,9 @@ impl Journaled {
     /// - `TableMemory` if the system is out of memory for an entry of the table of live addresses.
     ///
     /// Else returns `NoRoom` if there is no room and no memory came.
+    ///
+    /// Waits for the lock, and has it as long as `Book::step` takes. If the pass has no room for a receipt, the system is asked
+    /// before that.
     pub fn allocate(
         &self,
         rt: &impl Wait,
@@ -86,6 +91,9 @@ impl Journaled {
     /// Else returns `UnknownAddress` if the address isn't live.
     ///
     /// An address that was deallocated and allocated again is live, so a call with it can't be refused.
+    ///
+    /// Waits for the lock, and has it as long as `Book::step` takes. If the pass has no room for a receipt, the system is asked
+    /// before that.
     pub fn deallocate(&self, rt: &impl Wait, pass: &mut Pass, addr: Addr) -> Result<(), GlobalError>
         requires { pass.old.caller < self.now.callers }
         ensures { Receipted done_by (Deallocate addr) result pass.old pass.new }
@@ -100,6 +108,9 @@ impl Journaled {
     /// receipt.
     ///
     /// Else returns `UnknownAddress` if the address isn't live, else `NoRoom` if there is no room and no memory came.
+    ///
+    /// Waits for the lock, and has it as long as `Book::step` takes. If the pass has no room for a receipt, the system is asked
+    /// before that.
     pub fn reallocate(
         &self,
         rt: &impl Wait,
@@ -117,6 +128,8 @@ impl Journaled {
     ///
     /// Returns `UnknownAddress` if the address isn't live, else `OutOfRange` if the bytes go past the usable ones. Then `bytes` is
     /// unchanged. No entry is made.
+    ///
+    /// Waits for the lock, and has it as long as `Locked::read_payload` takes.
     pub fn read_payload(
         &self,
         rt: &impl Wait,
@@ -134,6 +147,8 @@ impl Journaled {
     ///
     /// Returns `UnknownAddress` if the address isn't live, else `OutOfRange` if the bytes go past the usable ones. Then nothing changes. No
     /// entry is made.
+    ///
+    /// Waits for the lock, and has it as long as `Locked::write_payload` takes.
     pub fn write_payload(
         &self,
         rt: &impl Wait,
@@ -158,6 +173,8 @@ impl Journaled {
     /// - else `Mismatch` if passes and journal don't agree.
     ///
     /// The memory is dropped. On an error, the journal and the passes are dropped, too. The call requests no memory.
+    ///
+    /// Takes no lock. The time is that of `Book::close`.
     pub fn close(self, passes: Vec<Pass>) -> Result<Closed, CloseError>
         ensures strange { IsErrOf result StrangePass ↔ (is_strange self.callers passes.items ≡ true) }
         ensures missing { IsErrOf result MissingPass ↔ LacksOne self.callers passes.items }

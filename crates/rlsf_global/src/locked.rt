@@ -27,7 +27,8 @@ use std::alloc::Global;
 use std::marker::Model;
 
 /// The value behind the lock: an allocator over the page source, and the table of its live addresses. An entry of the table is a live
-/// address and its last layout. By an invariant of the type, the table lists exactly the live payloads, in the order of their addresses.
+/// address and its last layout. By an invariant of the type, the table lists exactly the live payloads, in the order of their addresses. It
+/// has a code of two bytes for each multiple of 16 in the memory. The documentation of a call says how many codes it reads or writes at most.
 ///
 /// Every call leaves the memory at its place. It leaves each byte as it is that belongs to no block before and after it, or that the
 /// source hasn't provided after it (`KeepsMemory`). An error other than `NoRoom` leaves the memory unchanged, with both counts: nothing was tried.
@@ -54,6 +55,8 @@ impl<Options: GlobalTlsfOptions> Locked<Options> {
     /// Creates an allocator whose source has the complete memory as its space. Nothing is live.
     ///
     /// It asks the system for an eighth of the memory's length, for the table. If that is refused, the next allocation asks again.
+    ///
+    /// Takes time proportional to the length of the memory, since the table is filled with zeros.
     pub fn new(alloc: Global, memory: Memory) -> Self
         ensures heap { result.heap ≡ beginning (range_of memory) Options.COALESCE_POOLS }
         ensures memory { result.memory ≡ memory }
@@ -71,6 +74,8 @@ impl<Options: GlobalTlsfOptions> Locked<Options> {
     }
 
     /// Returns the memory, for reading.
+    ///
+    /// Completes in constant time.
     pub fn memory_ref(&self) -> &Memory
         ensures memory { result.now ≡ self.now.memory }
         ensures stands { LockedStands self.now }
@@ -84,6 +89,10 @@ impl<Options: GlobalTlsfOptions> Locked<Options> {
     ///
     /// - `TableMemory` if the system is out of memory for an entry of the table. Then nothing else was tried.
     /// - else `NoRoom` exactly if there is no room and no memory came.
+    ///
+    /// If there is room, at most 27 word accesses, whatever the pools contain, and two codes of the table. No byte is copied. If the
+    /// table has no room for an entry, the system is asked first, for room for twice as many, and for the table if it refused that to
+    /// `new`.
     pub fn allocate(&mut self, layout: Layout) -> Result<Addr, GlobalError>
         ensures step { HeapAllocates self.old.heap layout result self.new.heap }
         ensures result { IfOk result (λ addr. HeapAllocated self.old.heap self.new.heap layout (at addr)) }
@@ -108,6 +117,8 @@ impl<Options: GlobalTlsfOptions> Locked<Options> {
     ///
     /// - `TableMemory` if the system is out of memory for an entry of the table. Then nothing else was tried.
     /// - else `NoRoom` exactly if there is no room and no memory came.
+    ///
+    /// Costs as much as `allocate`.
     pub fn alloc(&mut self, layout: Layout) -> Result<Addr, GlobalError>
         ensures step { HeapAllocates self.old.heap layout result self.new.heap }
         ensures result { IfOk result (λ addr. HeapAllocated self.old.heap self.new.heap layout (at addr)) }
@@ -122,6 +133,9 @@ impl<Options: GlobalTlsfOptions> Locked<Options> {
     /// Deallocates a payload. Returns `UnknownAddress` exactly if the address isn't live. Then nothing changes.
     ///
     /// An address that was deallocated and allocated again is live, so a call with it can't be refused.
+    ///
+    /// Completes in constant time: at most 32 word accesses, whatever the pools contain, and two codes of the table. No byte is
+    /// copied. The system is asked nothing.
     pub fn deallocate(&mut self, addr: Addr) -> Result<(), GlobalError>
         ensures step { HeapDeallocates self.old.heap (at addr) result self.new.heap }
         ensures result { OnOk result (HeapDeallocated self.old.heap self.new.heap (at addr)) }
@@ -147,6 +161,8 @@ impl<Options: GlobalTlsfOptions> Locked<Options> {
     /// - else `WrongLayout` exactly if `layout` isn't the last layout of the payload.
     ///
     /// An address that was deallocated and allocated again with the same layout is live, so a call with it can't be refused.
+    ///
+    /// Costs as much as `deallocate`.
     pub fn dealloc(&mut self, addr: Addr, layout: Layout) -> Result<(), GlobalError>
         ensures step { HeapDeallocatesAs self.old.heap (at addr) layout result self.new.heap }
         ensures result { OnOk result (HeapDeallocated self.old.heap self.new.heap (at addr)) }
@@ -182,6 +198,10 @@ impl<Options: GlobalTlsfOptions> Locked<Options> {
     /// The table needs no memory.
     ///
     /// `new_size` is the size of a layout with that alignment.
+    ///
+    /// If there is room, at most 66 word accesses with `ENABLE_REALLOCATION`, and 59 without it, whatever the pools contain. At most three
+    /// codes of the table. With `ENABLE_REALLOCATION` at most the bytes that the payload had are copied, and none if it has room to stay.
+    /// Without it, at most as many as both sizes have.
     pub fn realloc(
         &mut self,
         addr: Addr,
@@ -220,6 +240,8 @@ impl<Options: GlobalTlsfOptions> Locked<Options> {
     /// - else `NoRoom` exactly if there is no room and no memory came.
     ///
     /// The table needs no memory.
+    ///
+    /// If there is room, at most 59 word accesses, whatever the pools contain, and three codes of the table. The kept bytes are copied.
     pub fn reallocate(&mut self, addr: Addr, layout: Layout) -> Result<Addr, GlobalError>
         ensures step { HeapReallocates self.old.heap (at addr) layout result self.new.heap }
         ensures result { IfOk result (λ to. HeapMoved self.old.heap self.new.heap (at addr) layout (at to)) }
@@ -251,6 +273,9 @@ impl<Options: GlobalTlsfOptions> Locked<Options> {
     /// - else `NoRoom` exactly if the bytes there don't suffice.
     ///
     /// `new_size` is the size of a layout with that alignment.
+    ///
+    /// Completes in constant time: at most 25 word accesses, whatever the pools contain, and two codes of the table. No byte is
+    /// copied. The system is asked nothing.
     pub fn reallocate_no_move(
         &mut self,
         addr: Addr,
@@ -283,6 +308,8 @@ impl<Options: GlobalTlsfOptions> Locked<Options> {
     /// Returns the number of usable bytes of a payload: those requested, and less than 32 more.
     ///
     /// Returns `UnknownAddress` exactly if the address isn't live.
+    ///
+    /// Completes in constant time: one code of the table is read. Its word accesses are not counted.
     pub fn allocation_usable_size(&self, addr: Addr) -> Result<usize, GlobalError>
         ensures step { HeapUsable self.now.heap (at addr) result }
         ensures unknown { IsErrOf result UnknownAddress ↔ (layout_at self.now.heap (at addr) ≡ None) }
@@ -298,6 +325,8 @@ impl<Options: GlobalTlsfOptions> Locked<Options> {
     ///
     /// Returns `UnknownAddress` exactly if the address isn't live, else `OutOfRange` exactly if the bytes go past the usable ones. Then
     /// `bytes` is unchanged.
+    ///
+    /// Takes time proportional to `bytes.len()`. One code of the table is read. Its word accesses are not counted.
     pub fn read_payload(
         &self,
         addr: Addr,
@@ -324,6 +353,8 @@ impl<Options: GlobalTlsfOptions> Locked<Options> {
     ///
     /// Returns `UnknownAddress` exactly if the address isn't live, else `OutOfRange` exactly if the bytes go past the usable ones. Then
     /// nothing changes.
+    ///
+    /// Takes time proportional to `bytes.len()`: at most 3 word accesses, and one code of the table.
     pub fn write_payload(
         &mut self,
         addr: Addr,

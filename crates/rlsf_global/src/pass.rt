@@ -22,6 +22,8 @@ impl Model for Pass {
 
 impl Pass {
     /// Returns the caller's number.
+    ///
+    /// Completes in constant time.
     pub fn caller(&self) -> usize
         ensures { result ≡ self.now.caller }
     {
@@ -29,6 +31,8 @@ impl Pass {
     }
 
     /// Returns a receipt of each call that has an entry, in the order of the calls. A call for which the system is out of memory has none.
+    ///
+    /// Completes in constant time.
     pub fn receipts(&self) -> &[Receipt]
         ensures { result.now ≡ self.now.receipts }
     {

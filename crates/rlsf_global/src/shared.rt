@@ -28,6 +28,8 @@ impl<Options: GlobalTlsfOptions> GlobalTlsf<Options> {
     /// Creates an allocator whose source has the complete memory as its space. Nothing is live.
     ///
     /// It asks the system for an eighth of the memory's length, for the table. If that is refused, the next `alloc` asks again.
+    ///
+    /// Takes time proportional to the length of the memory, since the table is filled with zeros.
     pub fn new(alloc: Global, memory: Memory) -> Self {
         GlobalTlsf {
             locked: Mutex::new(Locked::new(alloc, memory)),
@@ -40,6 +42,8 @@ impl<Options: GlobalTlsfOptions> GlobalTlsf<Options> {
     ///
     /// - `TableMemory` if the system is out of memory for an entry of the table. Then nothing else was tried.
     /// - else `NoRoom` exactly if there is no room and no memory came.
+    ///
+    /// Waits for the lock, and has it as long as `Locked::alloc` takes: at most 27 word accesses if there is room.
     #[tactic(auto, using(crate::proofs::Refusals::allocates_refuses))]
     pub fn alloc<R: Wait>(&self, rt: &R, layout: Layout) -> Result<Addr, GlobalError>
         ensures refusals { RefusesOnlyBy (NoRoom ∷ TableMemory ∷ []) result }
@@ -55,6 +59,8 @@ impl<Options: GlobalTlsfOptions> GlobalTlsf<Options> {
     /// - else `WrongLayout` exactly if `layout` isn't the last layout of the payload.
     ///
     /// An address that was deallocated and allocated again with the same layout is live, so a call with it can't be refused.
+    ///
+    /// Waits for the lock, and has it as long as `Locked::dealloc` takes: at most 32 word accesses.
     #[tactic(auto, using(crate::proofs::Refusals::deallocates_as_refuses))]
     pub fn dealloc<R: Wait>(&self, rt: &R, addr: Addr, layout: Layout) -> Result<(), GlobalError>
         ensures refusals { RefusesOnlyBy (UnknownAddress ∷ WrongLayout ∷ []) result }
@@ -72,6 +78,8 @@ impl<Options: GlobalTlsfOptions> GlobalTlsf<Options> {
     /// - else `NoRoom` exactly if there is no room and no memory came.
     ///
     /// `new_size` is the size of a layout with that alignment.
+    ///
+    /// Waits for the lock, and has it as long as `Locked::realloc` takes: at most 66 word accesses if there is room, and its copy.
     #[tactic(auto, using(crate::proofs::Refusals::reallocates_as_refuses))]
     pub fn realloc<R: Wait>(
         &self,
@@ -96,6 +104,8 @@ impl<Options: GlobalTlsfOptions> GlobalTlsf<Options> {
     /// - else `NoRoom` exactly if the bytes there don't suffice.
     ///
     /// `new_size` is the size of a layout with that alignment.
+    ///
+    /// Waits for the lock, and has it as long as `Locked::reallocate_no_move` takes: at most 25 word accesses.
     #[tactic(auto, using(crate::proofs::Refusals::reallocates_there_refuses))]
     pub fn reallocate_no_move<R: Wait>(
         &self,
@@ -116,6 +126,8 @@ impl<Options: GlobalTlsfOptions> GlobalTlsf<Options> {
     ///
     /// Returns `UnknownAddress` exactly if the address isn't live, else `OutOfRange` exactly if the bytes go past the usable ones. Then
     /// `bytes` is unchanged.
+    ///
+    /// Waits for the lock, and has it as long as `Locked::read_payload` takes.
     #[tactic(auto, using(crate::proofs::Refusals::reads_refuses, crate::proofs::Refusals::refused_read_leaves))]
     pub fn read_payload<R: Wait>(
         &self,
@@ -135,6 +147,8 @@ impl<Options: GlobalTlsfOptions> GlobalTlsf<Options> {
     ///
     /// Returns `UnknownAddress` exactly if the address isn't live, else `OutOfRange` exactly if the bytes go past the usable ones. Then
     /// nothing changes.
+    ///
+    /// Waits for the lock, and has it as long as `Locked::write_payload` takes.
     #[tactic(auto, using(crate::proofs::Refusals::writes_refuses))]
     pub fn write_payload<R: Wait>(
         &self,
@@ -157,12 +171,16 @@ pub trait CAlloc {
     ///
     /// - `TableMemory` if the system is out of memory for an entry of the table. Then nothing else was tried.
     /// - else `NoRoom` exactly if there is no room and no memory came.
+    ///
+    /// Waits for the lock, and has it as long as `Locked::allocate` takes.
     fn allocate<R: Wait>(&self, rt: &R, layout: Layout) -> Result<Addr, GlobalError>
         ensures refusals { RefusesOnlyBy (NoRoom ∷ TableMemory ∷ []) result };
 
     /// Deallocates a payload. Returns `UnknownAddress` exactly if the address isn't live. Then nothing changes.
     ///
     /// An address that was deallocated and allocated again is live, so a call with it can't be refused.
+    ///
+    /// Waits for the lock, and has it as long as `Locked::deallocate` takes.
     fn deallocate<R: Wait>(&self, rt: &R, addr: Addr) -> Result<(), GlobalError>
         ensures refusals { RefusesOnlyBy (UnknownAddress ∷ []) result };
 
@@ -173,6 +191,8 @@ pub trait CAlloc {
     ///
     /// - `UnknownAddress` exactly if the address isn't live.
     /// - else `NoRoom` exactly if there is no room and no memory came.
+    ///
+    /// Waits for the lock, and has it as long as `Locked::reallocate` takes.
     fn reallocate<R: Wait>(
         &self,
         rt: &R,
@@ -184,6 +204,8 @@ pub trait CAlloc {
     /// Returns the number of usable bytes of a payload: those requested, and less than 32 more.
     ///
     /// Returns `UnknownAddress` exactly if the address isn't live.
+    ///
+    /// Waits for the lock, and has it as long as `Locked::allocation_usable_size` takes.
     fn allocation_usable_size<R: Wait>(&self, rt: &R, addr: Addr) -> Result<usize, GlobalError>
         ensures refusals { RefusesOnlyBy (UnknownAddress ∷ []) result };
 }
