@@ -85,6 +85,9 @@ impl<FLBitmap: Bitmap, SLBitmap: Bitmap, const FLLEN: usize, const SLLEN: usize>
     /// - `SLLEN`, the number of classes of a row, is a power of two and at most the number of bits of `SLBitmap`.
     ///
     /// Else returns `OutOfMemory` if the system refuses the marks. On an error the memory is dropped.
+    ///
+    /// Takes time proportional to the length of the memory, for the marks, and to the number of classes. No word of the memory is
+    /// accessed.
     pub fn new(alloc: Global, memory: Memory) -> Result<Self, CheckedError>
         ensures invalid { IsErrOf result InvalidClasses ↔ (IsValid FLBitmap.width SLBitmap.width FLLEN SLLEN → ⊥) }
         ensures refused { IfErr result (λ e. e ≢ InvalidClasses → e ≡ OutOfMemory) }
@@ -119,6 +122,8 @@ impl<
     const SLLEN: usize,
 > CheckedTlsf<FLBitmap, SLBitmap, FLLEN, SLLEN> {
     /// Returns the memory, for reading.
+    ///
+    /// Completes in constant time.
     pub fn memory_ref(&self) -> &Memory
         ensures memory { result.now ≡ self.now.heap.memory }
         ensures stands { Stands FLLEN SLLEN self.now.heap }
@@ -344,6 +349,8 @@ impl<
     /// Returns the number of usable bytes of a payload: those requested, and less than 32 more.
     ///
     /// Returns `UnknownAddress` exactly if no payload is live at the address.
+    ///
+    /// Completes in constant time. Its word accesses are not counted.
     pub fn usable_size(&self, addr: Addr) -> Result<usize, CheckedError>
         ensures { result ≡ if_live (align_at self.now.heap.state (at addr)) (length (bytes_at self.now.heap.state (at addr))) }
     {
@@ -356,6 +363,8 @@ impl<
     /// Returns all usable bytes of a payload.
     ///
     /// Returns `UnknownAddress` exactly if no payload is live at the address.
+    ///
+    /// Completes in constant time. Its word accesses are not counted.
     pub fn payload(&self, addr: Addr) -> Result<&[u8], CheckedError>
         ensures when { IsOk result ↔ IsSome (align_at self.now.heap.state (at addr)) }
         ensures refused { IfErr result (λ e. e ≡ UnknownAddress) }
@@ -368,6 +377,8 @@ impl<
     }
 
     /// Returns the used and free blocks of the last pool in address order. The sentinels at the ends of chunks are left out.
+    ///
+    /// Completes in constant time. So does each step of the iteration, whose reads are not counted as word accesses.
     pub fn blocks(&self) -> Blocks<'_>
         ensures blocks { AreBlocks self.now.heap.state (walked self.now.pool) result }
         ensures runs { GivesInOrder BlockInfo }
@@ -379,6 +390,8 @@ impl<
     ///
     /// Returns `UnknownAddress` exactly if no payload is live at the address, else `OutOfRange` exactly if the bytes go past the usable
     /// ones. Then `bytes` is unchanged.
+    ///
+    /// Takes time proportional to `bytes.len()`. Its word accesses are not counted.
     pub fn read(&self, addr: Addr, offset: usize, bytes: &mut [u8]) -> Result<(), CheckedError>
         ensures answer { result ≡ if_in_range (align_at self.now.heap.state (at addr)) (fits offset (length bytes.old) (bytes_at self.now.heap.state (at addr))) }
         ensures read { OnOk result (bytes.new ≡ take (length bytes.old) (drop offset (bytes_at self.now.heap.state (at addr)))) }

@@ -24,6 +24,8 @@ impl<FLBitmap: Bitmap, SLBitmap: Bitmap, const FLLEN: usize, const SLLEN: usize>
     /// - The parameters are invalid.
     /// - No class reaches the sought size.
     /// - The length is above the greatest `usize` or the longest chunk.
+    ///
+    /// Completes in constant time.
     pub fn pool_size_for_payloads(count: usize, layout: Layout) -> Option<usize>
         ensures length { IsValid FLBitmap.width SLBitmap.width FLLEN SLLEN → result ≡ pool_size_for_payloads FLLEN SLLEN count layout.size layout.align }
         ensures invalid { (IsValid FLBitmap.width SLBitmap.width FLLEN SLLEN → ⊥) → result ≡ None }
@@ -43,6 +45,8 @@ impl<FLBitmap: Bitmap, SLBitmap: Bitmap, const FLLEN: usize, const SLLEN: usize>
     /// - The parameters are invalid.
     /// - No class reaches the sought size.
     /// - The length is above the greatest `usize` or the longest chunk.
+    ///
+    /// Completes in constant time.
     pub fn pool_size_for_budget(count: usize, bytes: usize, layout: Layout) -> Option<usize>
         ensures length { IsValid FLBitmap.width SLBitmap.width FLLEN SLLEN → result ≡ pool_size_for_budget FLLEN SLLEN count bytes layout.size layout.align }
         ensures invalid { (IsValid FLBitmap.width SLBitmap.width FLLEN SLLEN → ⊥) → result ≡ None }
@@ -57,6 +61,8 @@ impl<FLBitmap: Bitmap, SLBitmap: Bitmap, const FLLEN: usize, const SLLEN: usize>
     /// starts at a multiple of 32.
     ///
     /// Returns `None` exactly if the parameters are invalid, or no pool is long enough.
+    ///
+    /// Completes in constant time.
     pub fn pool_size_to_contain_allocation(layout: Layout) -> Option<usize>
         ensures length { IsValid FLBitmap.width SLBitmap.width FLLEN SLLEN → result ≡ pool_size_to_contain_allocation FLLEN SLLEN layout.size layout.align }
         ensures invalid { (IsValid FLBitmap.width SLBitmap.width FLLEN SLLEN → ⊥) → result ≡ None }

@@ -95,6 +95,9 @@ impl<
 
     /// Returns the allocator without payloads and without a pool, over the same memory, whose bytes are unchanged. Nothing is requested
     /// from the system.
+    ///
+    /// Takes time proportional to the length of the memory, for the marks, and to the number of classes. No word of the memory is
+    /// accessed.
     pub fn reset(self) -> Self
         ensures state { result.heap.state ≡ empty }
         ensures count { live_count result.heap.state ≡ 0 }
