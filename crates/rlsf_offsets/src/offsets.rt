@@ -67,6 +67,8 @@ impl<const UNIT: usize> OffsetTlsf<UNIT> {
     }
 
     /// Returns the length of the space in bytes, a multiple of the unit.
+    ///
+    /// Completes in constant time.
     pub fn space_len(&self) -> usize
         ensures value { result ≡ self.now.units * UNIT }
         ensures divided { IsDivided UNIT self.now }
@@ -157,6 +159,8 @@ impl<const UNIT: usize> OffsetTlsf<UNIT> {
 
     /// Returns an iterator over the free ranges and the live ranges, in order of offset. What the alignment of a live range leaves in front of
     /// it belongs to its piece.
+    ///
+    /// Completes in constant time. So does each step of the iteration, whose reads are not counted as word accesses.
     pub fn pieces(&self) -> Pieces<'_, UNIT>
         ensures pieces { ArePieces UNIT self.now result }
         ensures runs { GivesInOrder Piece }
