@@ -67,6 +67,13 @@ impl<FLBitmap: BitPattern, SLBitmap: BitPattern, const FLLEN: usize, const SLLEN
     /// The range must lie in the memory and overlap no chunk.
     ///
     /// At most 13 word accesses for each chunk that it makes. No byte is copied.
+    ///
+    /// From `crates/rlsf_example_readme/src/main.rt`:
+    ///
+    /// ```
+    /// let mut pool = Tlsf::new(Memory::new(alloc, 4096, len).ok()?);
+    /// pool.insert_free_block(Range { start: 4096, len });
+    /// ```
     pub fn insert_free_block(&mut self, range: Range)
         requires lies_in { LiesIn range self.old.memory.start (length self.old.memory.bytes) }
         requires untouched { IsUntouched self.old.state.chunks range }
@@ -92,6 +99,14 @@ impl<FLBitmap: BitPattern, SLBitmap: BitPattern, const FLLEN: usize, const SLLEN
     /// The range must lie in the memory, overlap no chunk, and begin where a chunk ends.
     ///
     /// At most 13 word accesses for each chunk that it makes, and at most 34 if a chunk grows. No byte is copied.
+    ///
+    /// From `crates/rlsf_test_tlsf/src/appends.rt`:
+    ///
+    /// ```
+    /// let start = 4096 + pool;
+    /// let less = tlsf.append_free_block_ptr(Range { start, len: few });
+    /// let more = tlsf.append_free_block_ptr(Range { start, len: many });
+    /// ```
     #[tactic(auto, using(crate::proofs::Whole::none_again, crate::proofs::Whole::allocator_again))]
     pub fn append_free_block_ptr(&mut self, range: Range) -> usize
         requires { IsNext (range_of self.old.memory) self.old.state range }
@@ -117,6 +132,15 @@ impl<FLBitmap: BitPattern, SLBitmap: BitPattern, const FLLEN: usize, const SLLEN
     /// The removed part must be complete contiguous chunks, or empty. No block in it may be used.
     ///
     /// At most 9 word accesses for each chunk that it removes. No byte is copied.
+    ///
+    /// From `crates/rlsf_test_tlsf/src/removals.rt`:
+    ///
+    /// ```
+    /// tlsf.remove_pool(Range {
+    ///     start: 4096,
+    ///     len: 256,
+    /// });
+    /// ```
     #[tactic(auto, using(crate::proofs::Whole::none_again, crate::proofs::Whole::allocator_again))]
     pub fn remove_pool(&mut self, range: Range)
         requires row { IsRow self.old.state (walked range) }
@@ -151,6 +175,16 @@ impl<FLBitmap: BitPattern, SLBitmap: BitPattern, const FLLEN: usize, const SLLEN
     /// This part of the range must be complete contiguous chunks, or empty.
     ///
     /// Completes in constant time. So does each step of the iteration, whose reads are not counted as word accesses.
+    ///
+    /// With `blocks` for what this call returned, from `crates/rlsf_test_tlsf/src/walks.rt`:
+    ///
+    /// ```
+    /// for block in blocks {
+    ///     if !block.is_occupied() {
+    ///         total = total.saturating_add(block.max_payload_size());
+    ///     }
+    /// }
+    /// ```
     pub fn iter_blocks(&self, range: Range) -> Blocks<'_>
         requires { IsRow self.now.state (walked range) }
         ensures blocks { AreBlocks self.now.state (walked range) result }

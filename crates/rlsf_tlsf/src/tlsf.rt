@@ -76,6 +76,14 @@ impl<FLBitmap: BitPattern, SLBitmap: BitPattern, const FLLEN: usize, const SLLEN
     /// - `SLLEN`, the number of classes of a row, is a power of two and at most the number of bits of `SLBitmap`.
     ///
     /// Takes time proportional to the number of classes, and accesses no word of the memory.
+    ///
+    /// From `crates/rlsf_example_functions/src/pools.rt`:
+    ///
+    /// ```
+    /// let memory = Memory::new(alloc, 4096, len).ok()?;
+    /// let mut pool = Pool::new(memory);
+    /// pool.insert_free_block(Range { start: 4096, len });
+    /// ```
     pub fn new(memory: Memory) -> Self
         requires { IsValid FLBitmap.width SLBitmap.width FLLEN SLLEN }
         ensures state { result.state ≡ empty }
@@ -111,6 +119,14 @@ impl<FLBitmap: BitPattern, SLBitmap: BitPattern, const FLLEN: usize, const SLLEN
     /// bounds that the allocator is sized for (`IsSizedFor`), an allocation is never refused.
     ///
     /// Completes in constant time: at most 27 word accesses, whatever the pools contain. No byte is copied.
+    ///
+    /// From `crates/rlsf_example_readme/src/main.rt`:
+    ///
+    /// ```
+    /// let layout = Layout::from_size_align(100, 8).ok()?;
+    /// let addr = pool.allocate(layout)?;
+    /// pool.payload_mut(addr).fill(7);
+    /// ```
     // In line, so that the tests of an alignment that is constant at the call go away.
     #[inline(always)]
     #[tactic(auto, using(crate::proofs::Whole::core_again, crate::proofs::Whole::none_again, crate::proofs::Whole::allocator_again))]
@@ -140,6 +156,14 @@ impl<FLBitmap: BitPattern, SLBitmap: BitPattern, const FLLEN: usize, const SLLEN
     /// The payload at `addr` must be live, with the alignment `align`.
     ///
     /// Completes in constant time: at most 32 word accesses, whatever the pools contain. No byte is copied.
+    ///
+    /// From `crates/rlsf_example_readme/src/main.rt`:
+    ///
+    /// ```
+    /// let byte = pool.payload(addr)[99];
+    /// pool.deallocate(addr, layout.align());
+    /// Some(byte)
+    /// ```
     #[tactic(auto, using(crate::proofs::Whole::none_again, crate::proofs::Whole::allocator_again))]
     pub fn deallocate(&mut self, addr: Addr, align: usize)
         requires { align_at self.old.state (at addr) ≡ Some align }
@@ -196,6 +220,14 @@ impl<FLBitmap: BitPattern, SLBitmap: BitPattern, const FLLEN: usize, const SLLEN
     ///
     /// At most 66 word accesses, whatever the pools contain. If the payload stays, no byte is copied. If it moves, at most the
     /// bytes that it had are copied.
+    ///
+    /// From `crates/rlsf_example_functions/src/pools.rt`:
+    ///
+    /// ```
+    /// let first = pool.allocate(small).unwrap();
+    /// let second = pool.allocate(layout).unwrap();
+    /// let moved = pool.reallocate(first, layout).unwrap();
+    /// ```
     #[tactic(auto, using(crate::proofs::Whole::none_again, crate::proofs::Whole::allocator_again))]
     pub fn reallocate(&mut self, addr: Addr, layout: Layout) -> Option<Addr>
         requires { align_at self.old.state (at addr) ≡ Some layout.align }
@@ -228,6 +260,15 @@ impl<FLBitmap: BitPattern, SLBitmap: BitPattern, const FLLEN: usize, const SLLEN
     /// The payload at `addr` must be live, with the alignment of `layout`.
     ///
     /// Completes in constant time: at most 25 word accesses, whatever the pools contain. No byte is copied.
+    ///
+    /// From `crates/rlsf_test_tlsf/src/reallocations.rt`:
+    ///
+    /// ```
+    /// if tlsf.reallocate_no_move(addr, wanted).is_none() {
+    ///     tlsf.deallocate(addr, layout.align());
+    ///     return None;
+    /// }
+    /// ```
     #[tactic(auto, using(crate::proofs::Whole::none_again, crate::proofs::Whole::allocator_again))]
     pub fn reallocate_no_move(&mut self, addr: Addr, layout: Layout) -> Option<Addr>
         requires { align_at self.old.state (at addr) ≡ Some layout.align }
@@ -269,6 +310,14 @@ impl<FLBitmap: BitPattern, SLBitmap: BitPattern, const FLLEN: usize, const SLLEN
     /// The payload at `addr` must be live, with any alignment.
     ///
     /// Completes in constant time.
+    ///
+    /// From `crates/rlsf_example_libraries_tour/src/first.rt`:
+    ///
+    /// ```
+    /// pool.payload_mut(first).fill(7);
+    /// pool.payload_mut(second).fill(9);
+    /// let reads = [pool.payload(first)[0], pool.payload(second)[0]];
+    /// ```
     pub fn payload(&self, addr: Addr) -> &[u8]
         requires { IsSome (align_at self.now.state (at addr)) }
         ensures { result.now ≡ bytes_at self.now.state (at addr) }
@@ -284,6 +333,13 @@ impl<FLBitmap: BitPattern, SLBitmap: BitPattern, const FLLEN: usize, const SLLEN
     /// The payload at `addr` must be live, with any alignment.
     ///
     /// Completes in constant time: 3 word accesses. No byte is copied.
+    ///
+    /// From `crates/rlsf_example_functions/src/buffer.rt`:
+    ///
+    /// ```
+    /// self.pool.payload_mut(addr)[self.len] = byte;
+    /// self.len += 1;
+    /// ```
     pub fn payload_mut(&mut self, addr: Addr) -> &mut [u8]
         requires { IsSome (align_at self.old.state (at addr)) }
         ensures* writes_back { sem 𝓛 (lends_payload FLBitmap.row SLBitmap.row FLLEN.row SLLEN.row FLBitmap.BitPattern SLBitmap.BitPattern self.entry (at addr) result) }
@@ -310,6 +366,14 @@ impl<FLBitmap: BitPattern, SLBitmap: BitPattern, const FLLEN: usize, const SLLEN
     /// Both payloads must be live, with any alignment, and have at least `len` usable bytes.
     ///
     /// Takes time proportional to `len`: `len` bytes are copied, without a word access.
+    ///
+    /// From `crates/rlsf_test_tlsf/src/copies.rt`:
+    ///
+    /// ```
+    /// let one = left(tlsf, layout, bytes.0)?;
+    /// let two = left(tlsf, layout, bytes.1)?;
+    /// tlsf.copy_payload(one, two, len);
+    /// ```
     pub fn copy_payload(&mut self, from: Addr, to: Addr, len: usize)
         requires live { IsSome (align_at self.old.state (at from)) × IsSome (align_at self.old.state (at to)) }
         requires long { (len ≤ length (bytes_at self.old.state (at from))) × (len ≤ length (bytes_at self.old.state (at to))) }

@@ -23,6 +23,13 @@ impl<FLBitmap: BitPattern, SLBitmap: BitPattern, const FLLEN: usize, const SLLEN
     /// Returns `None` if and only if `allocate` does; then nothing changes.
     ///
     /// At most 30 word accesses, whatever the pools contain, and time proportional to the usable bytes. No byte is copied.
+    ///
+    /// From `crates/rlsf_test_tlsf/src/loans.rt`:
+    ///
+    /// ```
+    /// let addr = tlsf.allocate_zeroed(layout)?;
+    /// let bytes = tlsf.payload(addr);
+    /// ```
     pub fn allocate_zeroed(&mut self, layout: Layout) -> Option<Addr>
         ensures step { Steps FLLEN SLLEN self.old self.new (Allocates SLLEN self.old.state layout.size layout.align (reply result)) }
         ensures result { IfSome result (λ addr. IsAllocatedZeroed self.old.state self.new.state layout.size layout.align (at addr)) }
