@@ -83,6 +83,14 @@ impl<
     /// number of bits of `SLBitmap`. Nothing is outstanding at the source, and the space of the source lies in the memory.
     ///
     /// Takes time proportional to the number of classes, and accesses no word of the memory.
+    ///
+    /// From `crates/rlsf_example_functions/src/paged.rt`:
+    ///
+    /// ```
+    /// let memory = Memory::new(alloc, 65536, len).ok()?;
+    /// let space = Range { start: 65536, len };
+    /// Some(FlexTlsf::new(memory, Source::new(space)))
+    /// ```
     pub fn new(memory: Memory, source: S) -> Self
         requires valid { IsValid FLBitmap.width SLBitmap.width FLLEN SLLEN }
         requires nothing_owed { S.owes source [] }
@@ -154,6 +162,13 @@ impl<
     /// Never refuses a payload within bounds that the pools are sized for (`IsSizedFor`). Then the source is asked nothing.
     ///
     /// If there is room, completes in constant time: at most 27 word accesses, whatever the pools contain. No byte is copied.
+    ///
+    /// From `crates/rlsf_example_functions/src/paged.rt`:
+    ///
+    /// ```
+    /// let addr = flex.allocate(layout)?;
+    /// flex.payload_mut(addr).fill(byte);
+    /// ```
     pub fn allocate(&mut self, layout: Layout) -> Option<Addr>
         ensures step { FlexSteps FLLEN SLLEN S.terms S.owes S.leads self.old self.new
             (FlexAllocates FLLEN SLLEN (S.terms self.old.source) self.old.state layout.size layout.align (reply result)) }
@@ -206,6 +221,14 @@ impl<
     /// The address is live, and `align` is its alignment.
     ///
     /// Completes in constant time: at most 32 word accesses, whatever the pools contain. No byte is copied.
+    ///
+    /// From `crates/rlsf_example_functions/src/paged.rt`:
+    ///
+    /// ```
+    /// let read = flex.payload(addr)[offset];
+    /// flex.deallocate(addr, layout.align());
+    /// Some(read)
+    /// ```
     pub fn deallocate(&mut self, addr: Addr, align: usize)
         requires { align_at self.old.state.machine (at addr) ≡ Some align }
         ensures step { StepsAlone FLLEN SLLEN S.terms S.owes self.old self.new (Deallocates self.old.state.machine (at addr)) }
