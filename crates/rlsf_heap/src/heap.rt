@@ -84,6 +84,17 @@ impl<FLBitmap: BitPattern, SLBitmap: BitPattern, const FLLEN: usize, const SLLEN
     /// - `SLLEN`, the number of classes of a row, is a power of two and at most the number of bits of `SLBitmap`.
     ///
     /// Takes time proportional to the number of classes, and accesses no word of the memory.
+    ///
+    /// From `crates/rlsf_example_tenants/src/pair.rt`:
+    ///
+    /// ```
+    /// let memory = OpenMemory::new(alloc, 4096, 4096).ok()?;
+    /// let mut heap = Small::new(memory);
+    /// heap.insert_free_block(Range {
+    ///     start: 4096,
+    ///     len: 4096,
+    /// });
+    /// ```
     pub fn new(memory: OpenMemory) -> Self
         requires valid { IsValid FLBitmap.width SLBitmap.width FLLEN SLLEN }
         requires own { IsAllOwn memory.out }
@@ -113,6 +124,14 @@ impl<FLBitmap: BitPattern, SLBitmap: BitPattern, const FLLEN: usize, const SLLEN
     /// No payload may be live.
     ///
     /// Completes in constant time, without a word access.
+    ///
+    /// From `crates/rlsf_test_heap/src/pair.rt`:
+    ///
+    /// ```
+    /// let reads = with_pair(&mut heap, layout)?;
+    /// heap.into_memory().free();
+    /// Some(reads)
+    /// ```
     pub fn into_memory(self) -> OpenMemory
         requires { live_count self.state ≡ 0 }
         ensures memory { result ≡ self.memory }
@@ -139,6 +158,18 @@ impl<FLBitmap: BitPattern, SLBitmap: BitPattern, const FLLEN: usize, const SLLEN
     /// The memory is the one that `new` was passed: it has the same start, length and block (`home`).
     ///
     /// Completes in constant time, without a word access.
+    ///
+    /// From `crates/rlsf_test_heap/src/rows.rt`:
+    ///
+    /// ```
+    /// match heap.try_into_memory() {
+    ///     Ok(memory) => {
+    ///         memory.free();
+    ///         true
+    ///     }
+    ///     Err(_) => false,
+    /// }
+    /// ```
     pub fn try_into_memory(self) -> Result<OpenMemory, Self>
         ensures which { IsOk result ↔ ((live_count self.state ≡ 0) × (self.lent ≡ false)) }
         ensures memory { IfOk result (λ m. m ≡ self.memory) }
@@ -161,6 +192,16 @@ impl<FLBitmap: BitPattern, SLBitmap: BitPattern, const FLLEN: usize, const SLLEN
     /// bounds that the heap is sized for (`IsSizedFor`), an allocation is never refused.
     ///
     /// Completes in constant time: at most 27 word accesses, whatever the pools contain.
+    ///
+    /// From `crates/rlsf_example_tenants/src/pair.rt`:
+    ///
+    /// ```
+    /// let mut first = heap.allocate(layout)?;
+    /// let Some(mut second) = heap.allocate(layout) else {
+    ///     heap.deallocate(first);
+    ///     return None;
+    /// };
+    /// ```
     // In line, so that the tests of an alignment that is constant at the call go away, and no payload is passed in memory.
     #[inline(always)]
     #[tactic(auto, using(crate::proofs::OnCores::core_of))]
@@ -190,6 +231,15 @@ impl<FLBitmap: BitPattern, SLBitmap: BitPattern, const FLLEN: usize, const SLLEN
     /// Returns `None` if and only if `allocate` does.
     ///
     /// Takes at most 27 word accesses, whatever the pools contain, and fills each byte of the payload.
+    ///
+    /// From `crates/rlsf_example_libraries/src/owned.rt`:
+    ///
+    /// ```
+    /// if self.heap.live() == self.capacity {
+    ///     return None;
+    /// }
+    /// self.heap.allocate_zeroed(self.layout)
+    /// ```
     pub fn allocate_zeroed(&mut self, layout: Layout) -> Option<Payload>
         ensures step { Steps FLLEN SLLEN self.new (Allocates SLLEN self.old.state layout.size layout.align (addr_of result)) }
         ensures result { IfSome result (λ p. IsAllocatedZeroed self.old self.new layout.size layout.align p) }
@@ -213,6 +263,14 @@ impl<FLBitmap: BitPattern, SLBitmap: BitPattern, const FLLEN: usize, const SLLEN
     /// The payload must be one of this heap.
     ///
     /// Completes in constant time: at most 32 word accesses, whatever the pools contain.
+    ///
+    /// From `crates/rlsf_example_tenants/src/pair.rt`:
+    ///
+    /// ```
+    /// let bytes = [first.as_slice()[0], second.as_slice()[0]];
+    /// heap.deallocate(first);
+    /// heap.deallocate(second);
+    /// ```
     // In line, so that no payload is passed in memory.
     #[inline(always)]
     pub fn deallocate(&mut self, payload: Payload)

@@ -34,6 +34,13 @@ impl<FLBitmap: BitPattern, SLBitmap: BitPattern, const FLLEN: usize, const SLLEN
     /// The parameters must be valid, as for `new`.
     ///
     /// Takes time proportional to the number of classes, and accesses no word of the memory.
+    ///
+    /// From `crates/rlsf_example_tenants/src/lent.rt`:
+    ///
+    /// ```
+    /// let memory = OpenMemory::new(alloc, 4096, 65536).ok()?;
+    /// with_first(Small::over_lent(memory), layout)
+    /// ```
     pub fn over_lent(memory: OpenMemory) -> Self
         requires { IsValid FLBitmap.width SLBitmap.width FLLEN SLLEN }
         ensures state { result.state ≡ empty }
@@ -63,6 +70,13 @@ impl<FLBitmap: BitPattern, SLBitmap: BitPattern, const FLLEN: usize, const SLLEN
     /// `part` must be of this heap's memory, with bytes that are here, none of them in a chunk.
     ///
     /// Completes in constant time, without a word access.
+    ///
+    /// From `crates/rlsf_example_tenants/src/lent.rt`:
+    ///
+    /// ```
+    /// heap.lend(first);
+    /// let taken = heap.insert_free_block_ptr(FIRST)?;
+    /// ```
     pub fn lend(&mut self, part: Part)
         requires home { part.home ≡ self.old.identity.home }
         requires full { IsFull part }
@@ -101,6 +115,13 @@ impl<FLBitmap: BitPattern, SLBitmap: BitPattern, const FLLEN: usize, const SLLEN
     /// lie in the memory, and its bytes must be lent.
     ///
     /// Takes at most 9 word accesses for each chunk that it removes, and looks at each block of the pool up to the first used one.
+    ///
+    /// From `crates/rlsf_example_tenants/src/lent.rt`:
+    ///
+    /// ```
+    /// heap.deallocate(payload);
+    /// let part = heap.reclaim_pool(FIRST, taken.get())?;
+    /// ```
     pub fn reclaim_pool(&mut self, range: Range, taken: usize) -> Option<Part>
         requires lies_in { LiesIn range self.old.memory.start (length self.old.memory.bytes) }
         requires pool { HasPool self.old.state.chunks range taken }

@@ -87,6 +87,13 @@ impl Payload {
     /// Returns the bytes. They must be here.
     ///
     /// Completes in constant time.
+    ///
+    /// From `crates/rlsf_example_tenants/src/pair.rt`:
+    ///
+    /// ```
+    /// let first = longer(heap, first, 1000);
+    /// let bytes = [first.as_slice()[0], second.as_slice()[0]];
+    /// ```
     pub fn as_slice(&self) -> &[u8]
         requires { IsWritten self.now }
         ensures { result.now ≡ self.now.bytes }
@@ -98,6 +105,12 @@ impl Payload {
     /// were written. Nothing else changes.
     ///
     /// Completes in constant time.
+    ///
+    /// From `crates/rlsf_example_tenants/src/pair.rt`:
+    ///
+    /// ```
+    /// mark(first.as_mut_slice(), second.as_mut_slice());
+    /// ```
     pub fn as_mut_slice(&mut self) -> &mut [u8]
         requires { IsWritten self.old }
         ensures* writes_back { sem 𝓛 (LendsPayload self.entry result) }

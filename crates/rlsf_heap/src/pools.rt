@@ -63,6 +63,14 @@ impl<FLBitmap: BitPattern, SLBitmap: BitPattern, const FLLEN: usize, const SLLEN
     /// The range must lie in the memory and overlap no chunk.
     ///
     /// Takes at most 13 word accesses for each chunk that it makes, whatever the pools contain.
+    ///
+    /// From `crates/rlsf_example_tenants/src/sized.rt`:
+    ///
+    /// ```
+    /// let memory = OpenMemory::reserve(alloc, 4096, len).ok()?;
+    /// let mut heap = Small::new(memory);
+    /// heap.insert_free_block(Range { start: 4096, len });
+    /// ```
     pub fn insert_free_block(&mut self, range: Range)
         requires lies_in { LiesIn range self.old.memory.start (length self.old.memory.bytes) }
         requires untouched { IsUntouched self.old.state.chunks range }

@@ -39,6 +39,15 @@ impl<FLBitmap: BitPattern, SLBitmap: BitPattern, const FLLEN: usize, const SLLEN
     /// The payload must be one of this heap, and its bytes must be here.
     ///
     /// Takes at most 66 word accesses, whatever the pools contain. If the payload moves, each of its bytes is copied at most once.
+    ///
+    /// From `crates/rlsf_example_tenants/src/pair.rt`:
+    ///
+    /// ```
+    /// match heap.reallocate(payload, size) {
+    ///     Ok(longer) => longer,
+    ///     Err(same) => same,
+    /// }
+    /// ```
     #[tactic(auto, using(crate::proofs::OnCores::of_memory, crate::proofs::OnCores::of_ledger))]
     pub fn reallocate(&mut self, payload: Payload, size: usize) -> Result<Payload, Payload>
         requires identity { payload.identity ≡ self.old.identity }
