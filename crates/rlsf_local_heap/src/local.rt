@@ -70,6 +70,13 @@ impl<FLBitmap: BitPattern, SLBitmap: BitPattern, const FLLEN: usize, const SLLEN
     ///
     /// Asks the system twice: for the memory, and for the fields of the heap. Takes time proportional to the number of classes and
     /// of chunks. No byte of the memory is written beside the words of these chunks.
+    ///
+    /// From `crates/rlsf_example_tenants/src/words.rt`:
+    ///
+    /// ```
+    /// let heap = LocalHeap::<Box<Small>>::new(alloc, 16384).ok()?;
+    /// count(&heap, text).ok()?.get("the").copied()
+    /// ```
     pub fn new(alloc: Global, len: usize) -> Result<Self, MemoryError>
         requires { IsValid FLBitmap.width SLBitmap.width FLLEN SLLEN }
         ensures memory { IfOk result (λ l. (l.slot.heap.home.start ≡ 4096) × (l.slot.heap.home.len ≡ len) × GivesUnits l.slot.heap) }

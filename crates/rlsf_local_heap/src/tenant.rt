@@ -63,6 +63,13 @@ impl<FLBitmap: BitPattern, SLBitmap: BitPattern, const FLLEN: usize, const SLLEN
     /// Returns `None` if `pool` refuses such a payload, if its memory has no units of 16 bytes, if `len` is 2^58 or more, or if
     /// the system has no memory for the new heap's own fields. Then the state of `pool` and the values of its bytes are as they
     /// were. The parameters must be valid (`Heap::new`).
+    ///
+    /// From `crates/rlsf_example_tenants/src/words.rt`:
+    ///
+    /// ```
+    /// let tenant = Tenant::new(&mut pool, alloc, 8176)?;
+    /// let counted = count(tenant.heap(), text).ok()?.get("the").copied()?;
+    /// ```
     pub fn new(
         pool: &mut Heap<FLBitmap, SLBitmap, FLLEN, SLLEN>,
         alloc: Global,
@@ -100,6 +107,14 @@ impl<FLBitmap: BitPattern, SLBitmap: BitPattern, const FLLEN: usize, const SLLEN
     /// The tenant must be one of `pool`.
     ///
     /// At most 32 word accesses of `pool`'s memory, whatever the pools contain. The fields of the heap are returned to the system.
+    ///
+    /// From `crates/rlsf_example_tenants/src/main.rt`:
+    ///
+    /// ```
+    /// let before = has_room(pool, rt.alloc());
+    /// let ended = shop.end(pool);
+    /// let after = has_room(pool, rt.alloc());
+    /// ```
     pub fn end(self, pool: &mut Heap<FLBitmap, SLBitmap, FLLEN, SLLEN>) -> bool
         requires { lessor self.lease ≡ pool.old.identity }
         ensures step { result ≡ true → Steps FLLEN SLLEN pool.new (Deallocates pool.old.state self.lease.start) }
