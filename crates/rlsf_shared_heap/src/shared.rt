@@ -54,6 +54,16 @@ impl<FLBitmap: BitPattern, SLBitmap: BitPattern, const FLLEN: usize, const SLLEN
     /// Creates a shared heap of `heap`. Payloads that `heap` allocated are payloads of the shared heap.
     ///
     /// Takes no lock. The fields of the heap are moved.
+    ///
+    /// From `crates/rlsf_example_owned_payloads/src/main.rt`:
+    ///
+    /// ```
+    /// heap.insert_free_block_ptr(Range {
+    ///     start: 4096,
+    ///     len: 4096,
+    /// });
+    /// Some(SharedHeap::new(heap))
+    /// ```
     pub fn new(heap: Heap<FLBitmap, SLBitmap, FLLEN, SLLEN>) -> Self
         ensures identity { result.identity ≡ heap.identity }
     {
@@ -109,6 +119,14 @@ impl<FLBitmap: BitPattern, SLBitmap: BitPattern, const FLLEN: usize, const SLLEN
     /// heap does. No clause says when.
     ///
     /// Costs as much as `allocate_zeroed`.
+    ///
+    /// From `crates/rlsf_example_owned_payloads/src/main.rt`:
+    ///
+    /// ```
+    /// let layout = Layout::from_size_align(100, 8).ok()?;
+    /// let mut payload = heap.allocate_shared(rt, layout)?;
+    /// payload.fill(byte);
+    /// ```
     pub fn allocate_shared<R: Wait>(
         &self,
         rt: &R,
@@ -130,6 +148,14 @@ impl<FLBitmap: BitPattern, SLBitmap: BitPattern, const FLLEN: usize, const SLLEN
     /// The payload must be one of this heap, and its bytes must be here.
     ///
     /// Completes in constant time, and takes no lock.
+    ///
+    /// From `crates/rlsf_test_shared_heap/src/sent.rt`:
+    ///
+    /// ```
+    /// let mut payload = shared.allocate(rt, Layout::from_size_align_unchecked(100, 64))?;
+    /// payload.fill(3);
+    /// let mut tied = shared.adopt(payload);
+    /// ```
     pub fn adopt(
         &self,
         payload: Payload,
@@ -146,6 +172,13 @@ impl<FLBitmap: BitPattern, SLBitmap: BitPattern, const FLLEN: usize, const SLLEN
     /// The payload must be one of this heap.
     ///
     /// Waits for the lock. Then completes in constant time: at most 32 word accesses, as `Heap::deallocate`.
+    ///
+    /// From `crates/rlsf_test_shared_heap/src/sent.rt`:
+    ///
+    /// ```
+    /// let fives = tied.as_slice().iter().filter(|byte| **byte == 5).count();
+    /// shared.deallocate(rt, tied.into_payload());
+    /// ```
     pub fn deallocate<R: Wait>(&self, rt: &R, payload: Payload)
         requires { payload.identity ≡ self.now.identity }
     {

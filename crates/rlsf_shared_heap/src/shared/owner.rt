@@ -143,6 +143,13 @@ impl<
     /// thread has the lock of the `Returns`.
     ///
     /// Takes at most 32 word accesses for each.
+    ///
+    /// From `crates/rlsf_example_real_time/src/main.rt`:
+    ///
+    /// ```
+    /// owner.collect(LENT);
+    /// let all = first.wrapping_add(second) == played.sent && owner.lent() == 0;
+    /// ```
     pub fn collect(&mut self, most: usize) -> usize
         ensures collected { IsCollected FLLEN SLLEN self.old.heap self.new.heap result }
         ensures lent { self.old.lent ≡ self.new.lent + result }
@@ -246,6 +253,15 @@ impl<
     /// Within bounds that the heap is sized for, lent payloads included, only the first can be (`room`).
     ///
     /// Takes at most 91 word accesses, and writes each byte of the payload once.
+    ///
+    /// From `crates/rlsf_example_real_time/src/main.rt`:
+    ///
+    /// ```
+    /// let Some(mut block) = owner.allocate_lent(Layout::from_size_align_unchecked(512, 64)) else {
+    ///     return false;
+    /// };
+    /// block.fill(sample);
+    /// ```
     pub fn allocate_lent(&mut self, layout: Layout) -> Option<SharedPayload<'r, Returns>>
         ensures step { ServesLent FLLEN SLLEN self.old self.new layout.size layout.align (addr_of result) }
         ensures result { IfSome result (λ p. IsServed self.old.heap self.new.heap layout.size layout.align p) }

@@ -89,6 +89,14 @@ impl<'h, H: ThreadHeap> SharedPayload<'h, H> {
     ///
     /// Waits for the lock of the heap, and then takes at most 32 word accesses. For an `OwnerHeap` it takes none: while another
     /// thread has the lock of its list, it yields the processor and tries again.
+    ///
+    /// From `crates/rlsf_example_owned_payloads/src/main.rt`:
+    ///
+    /// ```
+    /// let bytes = [first.as_slice()[0], second.as_slice()[0]];
+    /// first.free(rt);
+    /// second.free(rt);
+    /// ```
     pub fn free<R: Wait>(self, rt: &R) {
         let SharedPayload { heap, payload } = self;
         heap.deallocate(rt, payload);
@@ -194,6 +202,13 @@ impl<'h, H: ThreadHeap> SharedPayload<'h, H> {
     /// Returns the payload as a value whose drop deallocates it.
     ///
     /// Completes in constant time. It takes no lock.
+    ///
+    /// From `crates/rlsf_test_shared_heap/src/sent.rt`:
+    ///
+    /// ```
+    /// let third = zeros(rt, shared, 100)?.freed_on_drop(rt);
+    /// let kept = third.into_inner();
+    /// ```
     pub fn freed_on_drop<'r, R: Wait>(self, rt: &'r R) -> FreedOnDrop<'h, 'r, H, R>
         ensures { result.payload ≡ self.entry }
     {

@@ -146,6 +146,13 @@ impl Returns {
     /// Returns an error if the system has no memory for it.
     ///
     /// Asks the system for that many places, and never again.
+    ///
+    /// From `crates/rlsf_example_real_time/src/main.rt`:
+    ///
+    /// ```
+    /// let mut returns = Returns::new(alloc, &heap, LENT).ok()?;
+    /// let mut owner = OwnerHeap::new(heap, &mut returns);
+    /// ```
     pub fn new<FLBitmap: BitPattern, SLBitmap: BitPattern, const FLLEN: usize, const SLLEN: usize>(
         alloc: Global,
         heap: &Heap<FLBitmap, SLBitmap, FLLEN, SLLEN>,
