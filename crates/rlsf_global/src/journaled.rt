@@ -39,6 +39,13 @@ impl Journaled {
     /// Returns `JournalMemory` if the system is out of memory for the passes. Then the memory is dropped.
     ///
     /// Costs as much as `Locked::new`, and asks the system for the passes, in time proportional to `callers`.
+    ///
+    /// From `crates/rlsf_test_global/src/drops.rt`:
+    ///
+    /// ```
+    /// let (journaled, passes) = Journaled::new(alloc, memory, 1)?;
+    /// journaled.close(passes).is_ok()
+    /// ```
     pub fn new(
         alloc: Global,
         memory: Memory,

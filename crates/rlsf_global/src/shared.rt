@@ -30,6 +30,13 @@ impl<Options: GlobalTlsfOptions> GlobalTlsf<Options> {
     /// It asks the system for an eighth of the memory's length, for the table. If that is refused, the next `alloc` asks again.
     ///
     /// Takes time proportional to the length of the memory, since the table is filled with zeros.
+    ///
+    /// From `crates/rlsf_example_global/src/main.rt`:
+    ///
+    /// ```
+    /// let memory = Memory::new(alloc, 65536, 262144).ok()?;
+    /// Some(GlobalTlsf::new(alloc, memory))
+    /// ```
     pub fn new(alloc: Global, memory: Memory) -> Self {
         GlobalTlsf {
             locked: Mutex::new(Locked::new(alloc, memory)),
@@ -44,6 +51,14 @@ impl<Options: GlobalTlsfOptions> GlobalTlsf<Options> {
     /// - else `NoRoom` exactly if there is no room and no memory came.
     ///
     /// Waits for the lock, and has it as long as `Locked::alloc` takes: at most 27 word accesses if there is room.
+    ///
+    /// From `crates/rlsf_example_global/src/main.rt`:
+    ///
+    /// ```
+    /// let layout = Layout::from_size_align_unchecked(64, 8);
+    /// let longer = Layout::from_size_align_unchecked(1000, 8);
+    /// let addr = shared.alloc(rt, layout)?;
+    /// ```
     #[tactic(auto, using(crate::proofs::Refusals::allocates_refuses))]
     pub fn alloc<R: Wait>(&self, rt: &R, layout: Layout) -> Result<Addr, GlobalError>
         ensures refusals { RefusesOnlyBy (NoRoom ∷ TableMemory ∷ []) result }
@@ -61,6 +76,13 @@ impl<Options: GlobalTlsfOptions> GlobalTlsf<Options> {
     /// An address that was deallocated and allocated again with the same layout is live, so a call with it can't be refused.
     ///
     /// Waits for the lock, and has it as long as `Locked::dealloc` takes: at most 32 word accesses.
+    ///
+    /// From `crates/rlsf_example_global/src/main.rt`:
+    ///
+    /// ```
+    /// shared.dealloc(rt, addr, longer)?;
+    /// Ok(u64::from_le_bytes(bytes))
+    /// ```
     #[tactic(auto, using(crate::proofs::Refusals::deallocates_as_refuses))]
     pub fn dealloc<R: Wait>(&self, rt: &R, addr: Addr, layout: Layout) -> Result<(), GlobalError>
         ensures refusals { RefusesOnlyBy (UnknownAddress ∷ WrongLayout ∷ []) result }
@@ -80,6 +102,12 @@ impl<Options: GlobalTlsfOptions> GlobalTlsf<Options> {
     /// `new_size` is the size of a layout with that alignment.
     ///
     /// Waits for the lock, and has it as long as `Locked::realloc` takes: at most 66 word accesses if there is room, and its copy.
+    ///
+    /// From `crates/rlsf_example_global/src/main.rt`:
+    ///
+    /// ```
+    /// let addr = shared.realloc(rt, addr, layout, longer.size())?;
+    /// ```
     #[tactic(auto, using(crate::proofs::Refusals::reallocates_as_refuses))]
     pub fn realloc<R: Wait>(
         &self,
@@ -128,6 +156,13 @@ impl<Options: GlobalTlsfOptions> GlobalTlsf<Options> {
     /// `bytes` is unchanged.
     ///
     /// Waits for the lock, and has it as long as `Locked::read_payload` takes.
+    ///
+    /// From `crates/rlsf_example_global/src/main.rt`:
+    ///
+    /// ```
+    /// let mut bytes = [0; 8];
+    /// shared.read_payload(rt, addr, 0, &mut bytes)?;
+    /// ```
     #[tactic(auto, using(crate::proofs::Refusals::reads_refuses, crate::proofs::Refusals::refused_read_leaves))]
     pub fn read_payload<R: Wait>(
         &self,
@@ -149,6 +184,13 @@ impl<Options: GlobalTlsfOptions> GlobalTlsf<Options> {
     /// nothing changes.
     ///
     /// Waits for the lock, and has it as long as `Locked::write_payload` takes.
+    ///
+    /// From `crates/rlsf_example_global/src/main.rt`:
+    ///
+    /// ```
+    /// let addr = shared.alloc(rt, layout)?;
+    /// shared.write_payload(rt, addr, 0, &number.to_le_bytes())?;
+    /// ```
     #[tactic(auto, using(crate::proofs::Refusals::writes_refuses))]
     pub fn write_payload<R: Wait>(
         &self,
