@@ -237,6 +237,14 @@ impl<
     /// Never refuses a payload within bounds that the allocator is sized for (`IsSizedFor`).
     ///
     /// Completes in constant time: at most 27 word accesses, whatever the pools contain. No byte is copied.
+    ///
+    /// From `crates/rlsf_test_tlsf/src/checked/kept.rt`:
+    ///
+    /// ```
+    /// let addr = pool.allocate(layout)?;
+    /// pool.write(addr, 0, bytes)?;
+    /// pool.deallocate(addr)
+    /// ```
     pub fn allocate(&mut self, layout: Layout) -> Result<Addr, CheckedError>
         ensures step { Steps FLLEN SLLEN self.old.heap self.new.heap (Allocates SLLEN self.old.heap.state layout.size layout.align (addr_in result)) }
         ensures result { IfOk result (λ addr. IsAllocated self.old.heap.state self.new.heap.state layout.size layout.align (at addr)) }
