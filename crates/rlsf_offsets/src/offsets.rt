@@ -53,6 +53,14 @@ impl<const UNIT: usize> OffsetTlsf<UNIT> {
     /// `UNIT` must be a power of two.
     ///
     /// Takes constant time: no byte of the shadow is written but some words.
+    ///
+    /// From `crates/rlsf_example_offsets/src/main.rt`:
+    ///
+    /// ```
+    /// let Ok(mut memory) = OffsetTlsf::<256>::new(rt.alloc(), 256 * MIB) else {
+    ///     return println!(rt; "out of memory");
+    /// };
+    /// ```
     pub fn new(alloc: Global, len: usize) -> Result<Self, MemoryError>
         requires { IsPowerOfTwo UNIT }
         ensures too_long { IsErrOf result MemoryError.TooLong ↔ (2 ^ 56 < len / UNIT) }
@@ -88,6 +96,13 @@ impl<const UNIT: usize> OffsetTlsf<UNIT> {
     /// `align` must be a power of two, and may be less than the unit.
     ///
     /// Completes in constant time: at most 27 word accesses.
+    ///
+    /// From `crates/rlsf_example_offsets/src/main.rt`:
+    ///
+    /// ```
+    /// let vertices = memory.allocate(40 * MIB, 256)?;
+    /// let texture = memory.allocate(64 * MIB, 65536)?;
+    /// ```
     pub fn allocate(&mut self, len: usize, align: usize) -> Option<usize>
         requires { IsPowerOfTwo align }
         ensures allocated { IfSome result (λ offset. IsAllocated UNIT self.old self.new len align offset) }
@@ -111,6 +126,14 @@ impl<const UNIT: usize> OffsetTlsf<UNIT> {
     /// A range must be live at `offset`.
     ///
     /// Completes in constant time: at most 33 word accesses.
+    ///
+    /// From `crates/rlsf_example_offsets/src/main.rt`:
+    ///
+    /// ```
+    /// memory.deallocate(texture);
+    /// memory.deallocate(vertices);
+    /// let frame = memory.allocate(100 * MIB, 65536)?;
+    /// ```
     pub fn deallocate(&mut self, offset: usize)
         requires { IsSome (len_at UNIT self.old offset) }
         ensures deallocated { IsDeallocated UNIT self.old self.new offset }
@@ -129,6 +152,13 @@ impl<const UNIT: usize> OffsetTlsf<UNIT> {
     /// A range must be live at `offset`.
     ///
     /// Completes in constant time: at most 26 word accesses.
+    ///
+    /// From `crates/rlsf_example_offsets/src/main.rt`:
+    ///
+    /// ```
+    /// let shadows = memory.allocate(32 * MIB, 65536)?;
+    /// memory.reallocate_in_place(shadows, 16 * MIB);
+    /// ```
     pub fn reallocate_in_place(&mut self, offset: usize, len: usize) -> bool
         requires { IsSome (len_at UNIT self.old offset) }
         ensures reallocated { result ≡ true → IsReallocated UNIT self.old self.new len offset }
@@ -161,6 +191,20 @@ impl<const UNIT: usize> OffsetTlsf<UNIT> {
     /// it belongs to its piece.
     ///
     /// Completes in constant time. So does each step of the iteration, whose reads are not counted as word accesses.
+    ///
+    /// From `crates/rlsf_example_offsets/src/main.rt`:
+    ///
+    /// ```
+    /// for piece in memory.pieces() {
+    ///     let Piece {
+    ///         offset,
+    ///         len,
+    ///         is_free,
+    ///     } = piece;
+    ///     let state = if is_free { "free" } else { "used" };
+    ///     println!(rt; "{offset}: {len} bytes {state}")?;
+    /// }
+    /// ```
     pub fn pieces(&self) -> Pieces<'_, UNIT>
         ensures pieces { ArePieces UNIT self.now result }
         ensures runs { GivesInOrder Piece }
