@@ -6,6 +6,19 @@
 //! `src/core_calls` has what `rlsf_heap` shares, with definitions in `specs/Cores`, `specs/CoreResizes` and `specs/Moving`. `specs/Lending` is for calls that lend bytes,
 //! and `specs/InPlace` for a payload's owner who writes it where it lies, as `rlsf_heap` has. `src/bitmaps` gives read access to the class table,
 //! `src/consistency` reads the words of a pool again, and `src/state` holds the ghost state. `specs/Steps` is for private functions.
+//!
+//! To read the contract of a call, open `Allocator`, `Callers` of the model (`rlsf_model/specs/`), and these files:
+//!
+//! - `allocate`, `allocate_zeroed`: `Results`, `Bounds`; model `Allocate`
+//! - `deallocate`, `deallocate_unknown_align`: `Results`, `Bounds`; model `Release`
+//! - `reallocate`: `Results`, `Bounds`; model `Reallocate`
+//! - `reallocate_no_move`: `Results`, `Bounds`; model `NoMove`
+//! - `reallocate_unknown_align`: `Results`, `Bounds`, `UnknownAlign`
+//! - `payload_mut`: `Lending`; model `Run`
+//! - `copy_payload`: `Results`, `Bounds`; model `Run`
+//! - `insert_free_block`, `insert_free_block_ptr`, `append_free_block_ptr`: `Results`, `Bounds`; model `Insert`
+//! - `remove_pool`: `Results`; model `Remove`, `ChunkRows`
+//! - `iter_blocks`: model `ChunkRows`
 #![tactic(auto)]
 
 ghost use Rattle.rlsf_model.specs.Laws.{SourceLaws, StepLaws};
