@@ -7,6 +7,24 @@
 //! `units.rt` has the payloads that `rlsf_local_heap` uses.
 //! `consistency.rt` reads the words of a pool again; `words.rt` does so where these words may have any values.
 //! `specs/Heap.antt` defines what contracts see.
+//!
+//! To read the contract of a call, open `Heap`, and these files of `specs/` and of the model (`rlsf_model/specs/`). The calls with `thin` in
+//! their names also need `ThinReplies`:
+//!
+//! - `allocate`, `allocate_zeroed`, `allocate_thin`, `allocate_thin_zeroed`: `Replies`, `Frame`; model `Allocate`
+//! - `deallocate`, `deallocate_written`, `deallocate_thin`, `deallocate_thin_written`: `Replies`, `Frame`; model `Release`
+//! - `reallocate`, `reallocate_thin`: `Replies`, `Frame`, `Reallocation`; model `Reallocate`
+//! - `reallocate_no_move`, `reallocate_thin_no_move`: `Replies`, `Frame`, `Reallocation`; model `NoMove`
+//! - `move_thin`: `ThinReplies`, `Frame`
+//! - `resize_thin_unknown_align`, `reallocate_thin_unknown_align`: `ThinUnknownAlign`, `Frame`
+//! - `allocate_units`, `deallocate_units`, `resize_units`: `Units`, `Frame`
+//! - `as_mut_slice` of a payload: `Lends`
+//! - `insert_free_block`, `insert_free_block_ptr`: `Lending`, `Frame`; model `Insert`
+//! - `append_free_block_ptr`: `Frame`; model `Insert`
+//! - `remove_pool`: `Frame`; model `Remove`, `ChunkRows`
+//! - `try_remove_pool`: `Frame`, `Pools`; model `ChunkRows`
+//! - `lend`, `reclaim`, `reclaim_pool`: `Lending`; model `Insert`
+//! - `apart`: `Replies`
 #![tactic(auto)]
 
 mod apart;
