@@ -9,6 +9,17 @@
 //! either has nothing to prove. `GlobalAllocAsFlexSource` (`src/heap`, `specs/Heap`) asks an allocator of single allocations.
 //! `src/options` has the options of an allocator behind the lock. `specs/Bump` and `proofs/BumpRanges` have definitions and lemmas for
 //! other sources that provide their space from a cursor on.
+//!
+//! To read the contract of a call, open `Callers` of the model (`rlsf_model/specs/`), and these files:
+//!
+//! - `allocate`, `allocate_zeroed`: `Results`, `StandsFor`; model `FlexAllocate`
+//! - `deallocate`, `deallocate_unknown_align`: `Results`, `StandsFor`; model `Release`
+//! - `reallocate`: `Results`, `StandsFor`; model `FlexReallocate`
+//! - `reallocate_no_move`: `Results`, `StandsFor`; model `NoMove`
+//! - `payload_mut`: `Lending`, `StandsFor`
+//! - `copy_payload`: `Results`, `StandsFor`
+//! - `trim`: `Results`, `StandsFor`; model `Trim`
+//! - `into_parts`: model `End`
 #![tactic(auto)]
 
 ghost use Rattle.rlsf_flex.specs.Laws.{FlexStatesAreWellFormed, FlexWordsReadNoPayload};
