@@ -8,6 +8,17 @@
 //! which collects a receipt of each of its calls. `close` takes the passes, and returns the journal if they agree with it: one history
 //! that explains every reply. Read `entry.rt`, `receipts.rt`, `pass.rt`, `book.rt`, `agreement.rt`, `close.rt`, `journaled.rt` and
 //! `text.rt` in this order, and the definitions in `specs/Journal` as `specs/Journal.antt` lists them.
+//!
+//! To read the contract of a call, open `Heap` of the model behind the lock (`rlsf_model_global/specs/`), and these files:
+//!
+//! - `allocate`, `alloc`, `deallocate`, `dealloc` of a `Locked`: `Results`; model `Steps`
+//! - `realloc`, `reallocate`, `reallocate_no_move` of a `Locked`: `Results`, `Memory`; model `Moves`
+//! - `allocation_usable_size`, `read_payload` of a `Locked`: model `Steps`
+//! - `write_payload` of a `Locked`: `Results`; model `Steps`
+//! - each call of a `GlobalTlsf`: `Refusals`
+//! - `step` of a `Book`: `Journal/Entries`, `Journal/Memory`, `Journal/Replay`
+//! - `allocate`, `deallocate`, `reallocate` of a `Journaled`: `Journal/Passes`
+//! - `close`: `Journal/Close`, `Journal/Replay`
 #![tactic(auto)]
 
 ghost use Rattle.rlsf_global.specs.Journal.Laws.{CallsDetermineReplies, ReceiptsAreEntries, ReplayDetermines, RunsDetermineReplies};
