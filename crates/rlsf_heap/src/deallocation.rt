@@ -1,4 +1,4 @@
-//! Deallocation of payloads whose bytes are here.
+//! Deallocation of payloads without raw bytes.
 ghost use Rattle.std.specs.Prelude.{◌≡◌, ◌≤◌, ◌+◌, IfSome, Some};
 ghost use Rattle.rlsf_base.specs.Ledger.{extent};
 ghost use Rattle.rlsf_base.specs.OpenSpace.{IsAway};
@@ -31,7 +31,7 @@ impl<FLBitmap: BitPattern, SLBitmap: BitPattern, const FLLEN: usize, const SLLEN
     /// No byte becomes raw (`raw`): if no byte of the memory was raw, none is (`settled`). The allocator's words overwrite some
     /// of the payload's bytes. After `deallocate`, the others are raw.
     ///
-    /// The payload must be one of this heap, and its bytes must be here.
+    /// The payload must be one of this heap, and none of its bytes may be raw.
     ///
     /// Completes in constant time: at most 32 word accesses, whatever the pools contain.
     pub fn deallocate_written(&mut self, payload: Payload)

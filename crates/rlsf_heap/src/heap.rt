@@ -31,7 +31,7 @@ use std::mem::ManuallyDrop;
 
 /// An allocator over the pools of one memory, which it owns. Its payloads leave the memory: each owns its bytes.
 ///
-/// No call changes a byte of the memory that no block is made of, before and after it (`spare`): one outside of all chunks, or
+/// No call changes a byte of the memory that belongs to no block, before and after it (`spare`): one outside of all chunks, or
 /// among the last 16 of a sentinel.
 ///
 /// A word access reads or writes one word (8 bytes) of the memory, of a list head or of a bitmap. A bitmap of more than 64
@@ -225,7 +225,7 @@ impl<FLBitmap: BitPattern, SLBitmap: BitPattern, const FLLEN: usize, const SLLEN
         }
     }
 
-    /// Allocates a payload for `layout`, as `allocate` does, and fills it with zeros: its bytes are here. It is filled after it
+    /// Allocates a payload for `layout`, as `allocate` does, and fills it with zeros. It is filled after it
     /// left the memory. So filling it counts no word access, but takes time proportional to its length.
     ///
     /// Returns `None` if and only if `allocate` does.

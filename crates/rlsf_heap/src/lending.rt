@@ -67,7 +67,7 @@ impl<FLBitmap: BitPattern, SLBitmap: BitPattern, const FLLEN: usize, const SLLEN
     /// Lends the bytes of `part` to the heap: its memory owns them from now on, so that a range of them can be inserted. They weren't
     /// its own. Nothing else changes.
     ///
-    /// `part` must be of this heap's memory, with bytes that are here, none of them in a chunk.
+    /// `part` must be of this heap's memory, without raw bytes, and none of its bytes in a chunk.
     ///
     /// Completes in constant time, without a word access.
     ///

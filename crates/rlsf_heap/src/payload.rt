@@ -84,7 +84,7 @@ impl Payload {
         self.align
     }
 
-    /// Returns the bytes. They must be here.
+    /// Returns the bytes. None may be raw.
     ///
     /// Completes in constant time.
     ///
@@ -101,7 +101,7 @@ impl Payload {
         self.part.as_slice()
     }
 
-    /// Returns the bytes, for reading and writing. They must be here. When the borrow ends, the payload has the bytes that
+    /// Returns the bytes, for reading and writing. None may be raw. When the borrow ends, the payload has the bytes that
     /// were written. Nothing else changes.
     ///
     /// Completes in constant time.
@@ -121,7 +121,7 @@ impl Payload {
         self.part.as_mut_slice()
     }
 
-    /// Writes `value` to each byte. All are then here. Nothing else changes.
+    /// Writes `value` to each byte. Then none is raw. Nothing else changes.
     ///
     /// Takes time proportional to the length. No word access is counted.
     pub fn fill(&mut self, value: u8)
@@ -134,9 +134,9 @@ impl Payload {
         self.part.fill(value);
     }
 
-    /// Writes `value` to each byte from index `from` on. All bytes are then here. Nothing else changes.
+    /// Writes `value` to each byte from index `from` on. Then none is raw. Nothing else changes.
     ///
-    /// The bytes before `from` must be here, and `from` may be at most the length.
+    /// None of the bytes before `from` may be raw, and `from` may be at most the length.
     ///
     /// Takes time proportional to the number of written bytes. No word access is counted.
     pub fn fill_from(&mut self, from: usize, value: u8)

@@ -24,19 +24,19 @@ impl<FLBitmap: BitPattern, SLBitmap: BitPattern, const FLLEN: usize, const SLLEN
     ghost use Rattle.rlsf_heap.specs.Heap.{Steps};
 
     /// Changes the size of a payload to `size` bytes, and returns it with its alignment. The first bytes are kept, as many
-    /// as both sizes have, and are here. The payload takes the first of these places that is large enough:
+    /// as both sizes have, and none of these is raw. The payload takes the first of these places that is large enough:
     /// - It stays at its address, with the bytes of its block and of a free block behind it.
     /// - It moves into the free block before it, joined with those bytes.
     /// - It moves into a newly allocated block, and the old block is deallocated.
     ///
-    /// The bytes behind the kept ones are as the memory has them, here or raw. If no byte of the memory is raw, all are here. No byte
-    /// of the memory becomes raw (`raw`).
+    /// The bytes behind the kept ones are as the memory has them, and may be raw. If no byte of the memory is raw, none of them is. No
+    /// byte of the memory becomes raw (`raw`).
     ///
-    /// Returns the payload as it was, as the error, if and only if no layout has this size and alignment, or this allocation
-    /// is refused; then no byte of the memory beside the payload changes (`unchanged`). Within bounds that the heap is sized for
-    /// (`IsSizedFor`), a reallocation is never refused.
+    /// Returns the payload as the error, with its address, alignment and bytes, if and only if no layout has this size and
+    /// alignment, or this allocation is refused; then no byte of the memory beside the payload changes (`unchanged`). Within bounds
+    /// that the heap is sized for (`IsSizedFor`), a reallocation is never refused.
     ///
-    /// The payload must be one of this heap, and its bytes must be here.
+    /// The payload must be one of this heap, and none of its bytes may be raw.
     ///
     /// Takes at most 66 word accesses, whatever the pools contain. If the payload moves, each of its bytes is copied at most once.
     ///
@@ -92,16 +92,16 @@ impl<FLBitmap: BitPattern, SLBitmap: BitPattern, const FLLEN: usize, const SLLEN
     }
 
     /// Changes the size of a payload to `size` bytes without moving it, and returns it with its alignment. It uses the bytes
-    /// of the payload's block and of a free block behind it. The first bytes are kept, as many as both sizes have, and are
-    /// here. No byte is copied.
+    /// of the payload's block and of a free block behind it. The first bytes are kept, as many as both sizes have, and none
+    /// of these is raw. No byte is copied.
     ///
-    /// The bytes behind the kept ones are as the memory has them, here or raw. If no byte of the memory is raw, all are here. No byte
-    /// of the memory becomes raw (`raw`).
+    /// The bytes behind the kept ones are as the memory has them, and may be raw. If no byte of the memory is raw, none of them is. No
+    /// byte of the memory becomes raw (`raw`).
     ///
-    /// Returns the payload as it was, as the error, if and only if no layout has this size and alignment, or these bytes
-    /// don't suffice; then no byte of the memory beside the payload changes (`unchanged`).
+    /// Returns the payload as the error, with its address, alignment and bytes, if and only if no layout has this size and
+    /// alignment, or these bytes don't suffice; then no byte of the memory beside the payload changes (`unchanged`).
     ///
-    /// The payload must be one of this heap, and its bytes must be here.
+    /// The payload must be one of this heap, and none of its bytes may be raw.
     ///
     /// Completes in constant time: at most 25 word accesses, whatever the pools contain.
     pub fn reallocate_no_move(&mut self, payload: Payload, size: usize) -> Result<Payload, Payload>

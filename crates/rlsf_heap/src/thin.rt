@@ -96,7 +96,7 @@ impl ThinPayload {
         self
     }
 
-    /// Returns the payload, all bytes of which are here, as one with these values. It does nothing: its contract states that its owner
+    /// Returns the payload, which has no raw byte, as one with these values. It does nothing: its contract states that its owner
     /// owns the values (`owns_bytes`).
     pub fn with_values(self) -> ThinPayload
         requires { IsWritten self.of }

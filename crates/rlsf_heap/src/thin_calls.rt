@@ -46,7 +46,7 @@ impl<FLBitmap: BitPattern, SLBitmap: BitPattern, const FLLEN: usize, const SLLEN
         }
     }
 
-    /// Allocates a payload for `layout`, as `allocate_zeroed` does, and returns it by its address. All its bytes are here, and 0.
+    /// Allocates a payload for `layout`, as `allocate_zeroed` does, and returns it by its address. All its bytes are 0.
     ///
     /// Returns none, the address 0, if and only if `allocate` returns `None`; then nothing changes.
     ///
@@ -128,7 +128,7 @@ impl<FLBitmap: BitPattern, SLBitmap: BitPattern, const FLLEN: usize, const SLLEN
     ///
     /// No byte becomes raw (`raw`): if no byte of the memory was raw, none is (`settled`).
     ///
-    /// The payload must be the one at `addr`, which isn't 0, and one of this heap, and its bytes must be here.
+    /// The payload must be the one at `addr`, which isn't 0, and one of this heap, and none of its bytes may be raw.
     ///
     /// Completes in constant time: at most 36 word accesses, whatever the pools contain.
     pub fn deallocate_thin_written(&mut self, addr: usize, payload: ThinPayload)

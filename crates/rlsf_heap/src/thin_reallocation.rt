@@ -42,12 +42,12 @@ impl<FLBitmap: BitPattern, SLBitmap: BitPattern, const FLLEN: usize, const SLLEN
     }
 
     /// Changes the size of a payload that is known by its address and its alignment, as `reallocate` does, and returns it by its
-    /// address. Its length is found in the memory. The first bytes are kept, as many as both sizes have, and are here.
+    /// address. Its length is found in the memory. The first bytes are kept, as many as both sizes have, and none is raw.
     ///
     /// Returns the payload as it was, as the error, if and only if `reallocate` does.
     ///
-    /// The payload must be the one at `addr`, which isn't 0, with the alignment `align`, and one of this heap, and its bytes must be
-    /// here.
+    /// The payload must be the one at `addr`, which isn't 0, with the alignment `align`, and one of this heap, and none of its bytes
+    /// may be raw.
     ///
     /// Takes at most 69 word accesses, whatever the pools contain. If the payload moves, each of its bytes is copied at most once.
     pub fn reallocate_thin(
@@ -77,12 +77,12 @@ impl<FLBitmap: BitPattern, SLBitmap: BitPattern, const FLLEN: usize, const SLLEN
 
     /// Changes the size of a payload that is known by its address and its alignment without moving it, as `reallocate_no_move` does,
     /// and returns it by its address. Its length is found in the memory. The first bytes are kept, as many as both sizes have, and
-    /// are here.
+    /// none of these is raw.
     ///
     /// Returns the payload as it was, as the error, if and only if `reallocate_no_move` does.
     ///
-    /// The payload must be the one at `addr`, which isn't 0, with the alignment `align`, and one of this heap, and its bytes must be
-    /// here.
+    /// The payload must be the one at `addr`, which isn't 0, with the alignment `align`, and one of this heap, and none of its bytes
+    /// may be raw.
     ///
     /// Completes in constant time: at most 28 word accesses, whatever the pools contain.
     pub fn reallocate_thin_no_move(
@@ -115,7 +115,7 @@ impl<FLBitmap: BitPattern, SLBitmap: BitPattern, const FLLEN: usize, const SLLEN
     ///
     /// Returns the payload as it was, as the error, if and only if `allocate` returns `None`; then nothing changes.
     ///
-    /// The payload must be the one at `addr`, which isn't 0, and one of this heap, and its bytes must be here. No byte of the memory
+    /// The payload must be the one at `addr`, which isn't 0, and one of this heap, and none of its bytes may be raw. No byte of the memory
     /// may be raw.
     ///
     /// Takes at most 63 word accesses, whatever the pools contain, and copies each kept byte once.

@@ -23,12 +23,12 @@ impl<FLBitmap: BitPattern, SLBitmap: BitPattern, const FLLEN: usize, const SLLEN
 
     /// Changes the size of a payload that is known by its address without moving it, as `reallocate_thin_no_move` does, whatever its
     /// alignment is. Returns it by its address, with its alignment. Of `layout` only the size counts. The first bytes are kept, as many
-    /// as both sizes have, and are here.
+    /// as both sizes have, and none of these is raw.
     ///
     /// Returns the payload as it was, as the error, if and only if the bytes of its block and of a free block behind it don't suffice;
     /// then no byte of the memory beside the payload changes (`unchanged`). No byte of the memory becomes raw (`raw`).
     ///
-    /// The payload must be the one at `addr`, which isn't 0, and one of this heap, and its bytes must be here.
+    /// The payload must be the one at `addr`, which isn't 0, and one of this heap, and none of its bytes may be raw.
     ///
     /// Completes in constant time: at most 29 word accesses, whatever the pools contain.
     pub fn resize_thin_unknown_align(
@@ -68,7 +68,7 @@ impl<FLBitmap: BitPattern, SLBitmap: BitPattern, const FLLEN: usize, const SLLEN
     /// Returns the payload as it was, as the error, if and only if this allocation is refused; then no byte of the memory beside the payload
     /// changes (`unchanged`). Within bounds that the heap is sized for (`IsSizedFor`), a reallocation is never refused.
     ///
-    /// The payload must be the one at `addr`, which isn't 0, and one of this heap, and its bytes must be here. No byte of the memory
+    /// The payload must be the one at `addr`, which isn't 0, and one of this heap, and none of its bytes may be raw. No byte of the memory
     /// may be raw.
     ///
     /// Takes at most 70 word accesses, whatever the pools contain. If the payload moves, each kept byte is copied once.
