@@ -145,7 +145,7 @@ impl<FLBitmap: BitPattern, SLBitmap: BitPattern, const FLLEN: usize, const SLLEN
 
     /// Returns a payload with a reference to this heap.
     ///
-    /// The payload must be one of this heap, and its bytes must be here.
+    /// The payload must be one of this heap, and none of its bytes may be raw.
     ///
     /// Completes in constant time, and takes no lock.
     ///
@@ -188,11 +188,11 @@ impl<FLBitmap: BitPattern, SLBitmap: BitPattern, const FLLEN: usize, const SLLEN
     }
 
     /// Changes the size of a payload to `size` bytes, as `Heap::reallocate` does. Returns it with its alignment. The first bytes
-    /// are kept, as many as both sizes have, and are here. The payload may move to another address.
+    /// are kept, as many as both sizes have, and none of these is raw. The payload may move to another address.
     ///
-    /// Returns the payload as it was, as the error, if the heap does. No clause says when.
+    /// Returns the payload as the error, with its address, alignment and bytes, if the heap does. No clause says when.
     ///
-    /// The payload must be one of this heap, and its bytes must be here.
+    /// The payload must be one of this heap, and none of its bytes may be raw.
     ///
     /// Waits for the lock, and has it while bytes are copied: at most 66 word accesses, and each byte of the payload is copied at
     /// most once.

@@ -189,7 +189,7 @@ impl<
 
     /// Deallocates a payload that isn't lent, as `Heap::deallocate_written` does.
     ///
-    /// The payload must be one of this heap, and its bytes must be here.
+    /// The payload must be one of this heap, and none of its bytes may be raw.
     ///
     /// Completes in constant time: at most 32 word accesses.
     pub fn deallocate(&mut self, payload: Payload)
@@ -207,7 +207,7 @@ impl<
     /// Changes the size of a payload that isn't lent to `size` bytes, as `Heap::reallocate` does, with the same clauses. Deallocates none
     /// that came back.
     ///
-    /// The payload must be one of this heap, and its bytes must be here.
+    /// The payload must be one of this heap, and none of its bytes may be raw.
     ///
     /// Takes at most 66 word accesses. If the payload moves, each of its bytes is copied at most once.
     pub fn reallocate(&mut self, payload: Payload, size: usize) -> Result<Payload, Payload>
@@ -228,7 +228,7 @@ impl<
     /// Lends a payload: any thread may have it, and returns it by `free`. Returns it as the error if and only if as many are lent as can
     /// be at once.
     ///
-    /// The payload must be one of this heap, and its bytes must be here.
+    /// The payload must be one of this heap, and none of its bytes may be raw.
     ///
     /// Completes in constant time, without a word access.
     pub fn lend(&mut self, payload: Payload) -> Result<SharedPayload<'r, Returns>, Payload>

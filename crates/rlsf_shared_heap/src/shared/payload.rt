@@ -45,7 +45,7 @@ impl<FLBitmap: BitPattern, SLBitmap: BitPattern, const FLLEN: usize, const SLLEN
     }
 }
 
-/// A payload of a shared heap, all of whose bytes are here, with a reference to that heap. Contracts see it as the payload.
+/// A payload of a shared heap, without raw bytes, with a reference to that heap. Contracts see it as the payload.
 ///
 /// Its type keeps that the payload is of that heap. So it can be sent through a channel or stored under a lock, and whoever receives it
 /// can read it and free it without a condition. It is `Send` and `Sync` if the heap is `Sync`.
@@ -115,7 +115,7 @@ impl<'h, H: ThreadHeap> SharedPayload<'h, H> {
 
     /// Changes the size of the payload to `size` bytes, as `SharedHeap::reallocate` does. Bytes behind the kept ones are zeros.
     ///
-    /// Returns the payload as it was, as the error, if the heap does.
+    /// Returns the payload as the error, with its address, alignment and bytes, if the heap does.
     ///
     /// Costs as much as `SharedHeap::reallocate`, and fills the bytes behind the kept ones after it left the lock. A payload that
     /// an `OwnerHeap` lent is returned at once, as the error.
