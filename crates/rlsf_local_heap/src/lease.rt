@@ -15,7 +15,7 @@ use std::marker::Model;
 /// The address at which a memory of a payload begins. Any multiple of 32 but 0 would do.
 pub(crate) const START: usize = 64;
 
-/// The right to make a payload again of the memory that was made of its units.
+/// The right to make a payload again from the memory that its units became.
 ///
 /// Dropping it leaks the payload: it stays live in its heap.
 pub struct Lease {
@@ -57,7 +57,7 @@ impl Lease {
         (memory, Lease { ptr, len })
     }
 
-    /// Makes the payload again, of the memory that was made of it.
+    /// Makes the payload again from the memory that its units became.
     ///
     /// No byte of the memory may be out.
     pub(crate) fn end(self, memory: OpenMemory) -> UnitPayload

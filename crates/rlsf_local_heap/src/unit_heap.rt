@@ -120,7 +120,7 @@ impl<H: UnitHeap> UnitHeap for Box<H> {
     }
 }
 
-/// Creates a heap over a memory, all of which is one pool. No pool is made of less than 64 bytes.
+/// Creates a heap over a memory, all of which is one pool. A memory of less than 64 bytes becomes no pool.
 pub(crate) fn over_all<
     FLBitmap: BitPattern,
     SLBitmap: BitPattern,
