@@ -5,7 +5,7 @@ use crate::ranges::GhostRanges;
 use crate::source::FlexSource;
 use rlsf_tlsf::Tlsf;
 
-/// What an allocator over a source is made of: the allocator over pools, the newest range with its chunks if it is kept, the source, and
+/// The parts of an allocator over a source: the allocator over pools, the newest range with its chunks if it is kept, the source, and
 /// the ranges that are outstanding there.
 pub(crate) struct Parts<S: FlexSource, const FLLEN: usize, const SLLEN: usize> {
     // No call here returns one of its bitmaps, so it has the widest ones: what works on it knows the lengths alone.
