@@ -192,7 +192,7 @@ fn alloc<FLBitmap: BitPattern, SLBitmap: BitPattern, const FLLEN: usize, const S
 /// Does the ops, one after another, with an allocator that has no chunk yet. One answer an op follows those already there.
 /// `Trim` is refused as `NotForTlsf`.
 ///
-/// The memory stays in place, and at `Ok` each of its bytes that no block is made of at the end is as it was.
+/// The memory stays in place, and at `Ok` each of its bytes that belongs to no block at the end is as it was.
 ///
 /// The error is `OutOfMemory` if there is no memory for the answers or the run's own tables. No clause says that it has no other
 /// cause. Then no op was done, and the answers are unchanged.
