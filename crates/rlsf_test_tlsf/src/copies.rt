@@ -1,4 +1,4 @@
-//! Bytes copied from one payload to another, and words that no block is made of.
+//! Bytes copied from one payload to another, and words that belong to no block.
 
 ghost use Rattle.std.specs.Prelude.{◌≡◌, ◌%◌, ◌+◌, ◌≤◌, ℕ, length, IfSome, IsSome};
 ghost use Rattle.rlsf_base.specs.Addr.{at};
