@@ -1,4 +1,4 @@
-//! Lists of bytes by handle, each in a payload of one store. `objects` and `strings` are made of them.
+//! Lists of bytes by handle, each in a payload of one store. `objects` and `strings` use them.
 
 ghost use Rattle.std.specs.Prelude.{◌≡◌, ◌≤◌, ◌+◌, ◌↔◌, ℕ, [], ◌∷◌, ◌++◌, List, None, Some, IfOk, OnOk, OnErr, IsErr, IsErrOf, IsSomeAnd, length, nat_eq, replicate};
 ghost use Rattle.std.specs.Map.{lookup, remove_entry};

@@ -1,4 +1,4 @@
-//! Lists of bytes, each in a payload of one allocator. `messages` and `items` are made of them.
+//! Lists of bytes, each in a payload of one allocator. `messages` and `items` use them.
 
 ghost use Rattle.std.specs.Prelude.{◌≡◌, ◌≤◌, ◌+◌, ◌∷◌, ◌++◌, ℕ, List, [], length, replicate, IfNone, IfSome, IsSome};
 ghost use Rattle.std.specs.List.{splice};
