@@ -42,6 +42,14 @@ impl<FLBitmap: BitPattern, SLBitmap: BitPattern, const FLLEN: usize, const SLLEN
     /// The range must lie in the memory and overlap no chunk.
     ///
     /// At most 13 word accesses for each chunk that it makes. No byte is copied.
+    ///
+    /// From `crates/rlsf_example_libraries/src/store.rt`:
+    ///
+    /// ```
+    /// let mut heap = Tlsf::new(memory);
+    /// let taken = heap.insert_free_block_ptr(Range { start, len });
+    /// let len = taken.map_or(0, NonZeroUsize::get);
+    /// ```
     #[tactic(auto, using(crate::proofs::Whole::none_again, crate::proofs::Whole::allocator_again))]
     pub fn insert_free_block_ptr(&mut self, range: Range) -> Option<NonZeroUsize>
         requires lies_in { LiesIn range self.old.memory.start (length self.old.memory.bytes) }

@@ -188,6 +188,13 @@ impl<FLBitmap: BitPattern, SLBitmap: BitPattern, const FLLEN: usize, const SLLEN
     /// The payload at `addr` must be live, with any alignment.
     ///
     /// Completes in constant time: at most 33 word accesses, whatever the pools contain. No byte is copied.
+    ///
+    /// From `crates/rlsf_test_tlsf/src/reallocations.rt`:
+    ///
+    /// ```
+    /// let outcome = outcome(payload, tlsf.payload(now));
+    /// tlsf.deallocate_unknown_align(now);
+    /// ```
     #[tactic(auto, using(crate::proofs::Whole::none_again, crate::proofs::Whole::allocator_again))]
     pub fn deallocate_unknown_align(&mut self, addr: Addr)
         requires { IsSome (align_at self.old.state (at addr)) }

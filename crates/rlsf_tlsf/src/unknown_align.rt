@@ -36,6 +36,13 @@ impl<FLBitmap: BitPattern, SLBitmap: BitPattern, const FLLEN: usize, const SLLEN
     ///
     /// At most 63 word accesses, whatever the pools contain. If the payload stays, no byte is copied. If it moves, at most the
     /// bytes that it had are copied.
+    ///
+    /// From `crates/rlsf_test_tlsf/src/reallocations.rt`:
+    ///
+    /// ```
+    /// let moved = tlsf.reallocate_unknown_align(addr, wanted);
+    /// let now = moved.unwrap_or(addr);
+    /// ```
     #[tactic(auto, using(crate::proofs::Whole::none_again, crate::proofs::Whole::allocator_again))]
     pub fn reallocate_unknown_align(&mut self, addr: Addr, layout: Layout) -> Option<Addr>
         requires { IsSome (align_at self.old.state (at addr)) }
