@@ -273,6 +273,13 @@ impl<
     ///
     /// If there is room, at most 66 word accesses, whatever the pools contain, and at most the bytes that the payload had are copied. None is
     /// copied if there is room for it to stay.
+    ///
+    /// From `crates/rlsf_test_flex/src/loans.rt`:
+    ///
+    /// ```
+    /// let to = flex.reallocate(addr, bytes(500))?;
+    /// let after = reads(flex, to, 528, 7);
+    /// ```
     pub fn reallocate(&mut self, addr: Addr, layout: Layout) -> Option<Addr>
         requires { align_at self.old.state.machine (at addr) ≡ Some layout.align }
         ensures step { FlexSteps FLLEN SLLEN S.terms S.owes S.leads self.old self.new
@@ -391,6 +398,13 @@ impl<
     ///
     /// At most 9 word accesses for each chunk that it removes. The time of the iteration over blocks isn't counted, and has no bound. No byte is
     /// copied.
+    ///
+    /// From `crates/rlsf_test_flex/src/trims.rt`:
+    ///
+    /// ```
+    /// flex.deallocate(newer, 1);
+    /// let one_left = flex.trim();
+    /// ```
     pub fn trim(&mut self) -> usize
         ensures step { FlexSteps FLLEN SLLEN S.terms S.owes S.leads self.old self.new (Trims (S.terms self.old.source) self.old.state result) }
         ensures refused { result ≡ 0 → self.new ≡ self.old }
