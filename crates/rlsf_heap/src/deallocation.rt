@@ -34,6 +34,13 @@ impl<FLBitmap: BitPattern, SLBitmap: BitPattern, const FLLEN: usize, const SLLEN
     /// The payload must be one of this heap, and none of its bytes may be raw.
     ///
     /// Completes in constant time: at most 32 word accesses, whatever the pools contain.
+    ///
+    /// From `crates/rlsf_test_heap/src/growing.rt`:
+    ///
+    /// ```
+    /// let byte = payload.as_slice()[0];
+    /// heap.deallocate_written(payload);
+    /// ```
     pub fn deallocate_written(&mut self, payload: Payload)
         requires identity { payload.identity ≡ self.old.identity }
         requires written { IsWritten payload }

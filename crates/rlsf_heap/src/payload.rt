@@ -124,6 +124,13 @@ impl Payload {
     /// Writes `value` to each byte. Then none is raw. Nothing else changes.
     ///
     /// Takes time proportional to the length. No word access is counted.
+    ///
+    /// From `crates/rlsf_test_heap/src/growing.rt`:
+    ///
+    /// ```
+    /// let mut payload = heap.allocate(layout)?;
+    /// payload.fill(7);
+    /// ```
     pub fn fill(&mut self, value: u8)
         ensures bytes { self.new.bytes ≡ replicate (length self.old.bytes) value }
         ensures written { IsWritten self.new }

@@ -139,6 +139,15 @@ impl<FLBitmap: BitPattern, SLBitmap: BitPattern, const FLLEN: usize, const SLLEN
     /// The range from its start, rounded up to a multiple of 32, to its end must be complete contiguous chunks, or empty.
     ///
     /// Takes at most 9 word accesses for each chunk that it removes, and looks at each block of the range up to the first used one.
+    ///
+    /// From `crates/rlsf_test_heap/src/rows.rt`:
+    ///
+    /// ```
+    /// if heap.try_remove_pool(pool) {
+    ///     return None;
+    /// }
+    /// heap.deallocate(payload);
+    /// ```
     pub fn try_remove_pool(&mut self, range: Range) -> bool
         requires { IsRow self.old.state (walked range) }
         ensures step { Steps FLLEN SLLEN self.new (RemovesIfIdle self.old.state (walked range) result) }

@@ -104,6 +104,18 @@ impl<FLBitmap: BitPattern, SLBitmap: BitPattern, const FLLEN: usize, const SLLEN
     /// The payload must be one of this heap, and none of its bytes may be raw.
     ///
     /// Completes in constant time: at most 25 word accesses, whatever the pools contain.
+    ///
+    /// From `crates/rlsf_test_heap/src/resized_rows.rt`:
+    ///
+    /// ```
+    /// match heap.reallocate_no_move(payload, size) {
+    ///     Ok(payload) => {
+    ///         let addr = payload.addr();
+    ///         (Some(payload), addr)
+    ///     }
+    ///     Err(payload) => (Some(payload), 0),
+    /// }
+    /// ```
     pub fn reallocate_no_move(&mut self, payload: Payload, size: usize) -> Result<Payload, Payload>
         requires identity { payload.identity ≡ self.old.identity }
         requires written { IsWritten payload }
