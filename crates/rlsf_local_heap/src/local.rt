@@ -109,6 +109,12 @@ impl<H: UnitHeap> LocalHeap<H> {
 
     /// Returns the number of bytes of the blocks that were allocated here and are out. A block has 16 bytes more than its
     /// payload, which has as many bytes as were requested or up to 31 more. It takes constant time. No clause states this number.
+    ///
+    /// From `crates/rlsf_test_heap/src/local.rt`:
+    ///
+    /// ```
+    /// [heap.live(), heap.used(), heap.free()]
+    /// ```
     pub fn used(&self) -> usize {
         self.used.get()
     }

@@ -94,6 +94,13 @@ impl<FLBitmap: BitPattern, SLBitmap: BitPattern, const FLLEN: usize, const SLLEN
     /// Returns the allocator, which collections hold a `&` to.
     ///
     /// Completes in constant time.
+    ///
+    /// From `crates/rlsf_example_tenants/src/words.rt`:
+    ///
+    /// ```
+    /// let counted = count(tenant.heap(), text).ok()?.get("the").copied()?;
+    /// Some((counted, tenant.end(&mut pool)))
+    /// ```
     pub fn heap(&self) -> &LocalHeap<Box<Heap<FLBitmap, SLBitmap, FLLEN, SLLEN>>>
         ensures { result.now.slot ≡ self.now.local.slot }
     {
