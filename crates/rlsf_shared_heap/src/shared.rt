@@ -86,6 +86,13 @@ impl<FLBitmap: BitPattern, SLBitmap: BitPattern, const FLLEN: usize, const SLLEN
     /// No clause says when: other threads may change the heap at any moment.
     ///
     /// Waits for the lock. Then completes in constant time: at most 27 word accesses, as `Heap::allocate`.
+    ///
+    /// From `crates/rlsf_test_shared_heap/src/sent.rt`:
+    ///
+    /// ```
+    /// let mut payload = shared.allocate(rt, Layout::from_size_align_unchecked(100, 64))?;
+    /// payload.fill(3);
+    /// ```
     pub fn allocate<R: Wait>(&self, rt: &R, layout: Layout) -> Option<Payload>
         ensures payload { IfSome result (λ p. p.identity ≡ self.now.identity) }
         ensures align { IfSome result (λ p. p.align ≡ layout.align) }

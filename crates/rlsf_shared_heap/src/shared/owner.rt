@@ -66,6 +66,13 @@ impl<
     /// `returns` must have been made for `heap`. It has no other owner while this one, or a payload that it lent, exists.
     ///
     /// Never waits. The fields of the heap are moved, and no word of its memory is accessed.
+    ///
+    /// From `crates/rlsf_example_real_time/src/main.rt`:
+    ///
+    /// ```
+    /// let mut returns = Returns::new(alloc, &heap, LENT).ok()?;
+    /// let mut owner = OwnerHeap::new(heap, &mut returns);
+    /// ```
     pub fn new(heap: Heap<FLBitmap, SLBitmap, FLLEN, SLLEN>, returns: &'r mut Returns) -> Self
         requires { returns.old.identity ≡ heap.identity }
         ensures heap { result.heap ≡ heap }
@@ -297,6 +304,15 @@ impl<
     /// The payload must be one of this heap.
     ///
     /// Completes in constant time: at most 32 word accesses.
+    ///
+    /// From `crates/rlsf_example_real_time/src/main.rt`:
+    ///
+    /// ```
+    /// Err(Some(block)) => {
+    ///     owner.take_back(block);
+    ///     false
+    /// }
+    /// ```
     pub fn take_back(&mut self, payload: SharedPayload<'r, Returns>)
         requires { payload.identity ≡ self.old.heap.identity }
         ensures step { Steps FLLEN SLLEN self.new.heap (Deallocates self.old.heap.state payload.entry.start) }

@@ -165,6 +165,15 @@ impl<'h, H: ThreadHeap> SharedPayload<'h, H> {
     /// Returns the bytes.
     ///
     /// Completes in constant time. It takes no lock.
+    ///
+    /// From `crates/rlsf_example_real_time/src/main.rt`:
+    ///
+    /// ```
+    /// let first = block.as_slice().first();
+    /// if block.as_slice().iter().all(|sample| Some(sample) == first) {
+    ///     read = read.wrapping_add(1);
+    /// }
+    /// ```
     pub fn as_slice(&self) -> &[u8]
         ensures { result.now ≡ self.now.bytes }
     {
@@ -190,6 +199,14 @@ impl<'h, H: ThreadHeap> SharedPayload<'h, H> {
     /// Writes `value` to each byte. Nothing else changes.
     ///
     /// Takes time proportional to the length, and no lock.
+    ///
+    /// From `crates/rlsf_example_owned_payloads/src/main.rt`:
+    ///
+    /// ```
+    /// let mut payload = heap.allocate_shared(rt, layout)?;
+    /// payload.fill(byte);
+    /// Some(payload)
+    /// ```
     pub fn fill(&mut self, value: u8)
         ensures bytes { self.new.bytes ≡ replicate (length self.old.bytes) value }
         ensures identity { self.new.identity ≡ self.old.identity }
