@@ -78,6 +78,13 @@ impl Journaled {
     ///
     /// Waits for the lock, and has it as long as `Book::step` takes. If the pass has no room for a receipt, the system is asked
     /// before that.
+    ///
+    /// From `crates/rlsf_test_global/src/journal/threads.rt`:
+    ///
+    /// ```
+    /// let addr = journaled.allocate(rt, pass, Layout::from_size_align_unchecked(8, 8))?;
+    /// journaled.write_payload(rt, addr, 0, &[byte; 8])?;
+    /// ```
     pub fn allocate(
         &self,
         rt: &impl Wait,

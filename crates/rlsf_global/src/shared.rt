@@ -134,6 +134,13 @@ impl<Options: GlobalTlsfOptions> GlobalTlsf<Options> {
     /// `new_size` is the size of a layout with that alignment.
     ///
     /// Waits for the lock, and has it as long as `Locked::reallocate_no_move` takes: at most 25 word accesses.
+    ///
+    /// From `crates/rlsf_test_global/src/at_once.rt`:
+    ///
+    /// ```
+    /// let third = shared.reallocate_no_move(rt, second, longer, 40)?;
+    /// shared.read_payload(rt, third, 0, &mut found)?;
+    /// ```
     #[tactic(auto, using(crate::proofs::Refusals::reallocates_there_refuses))]
     pub fn reallocate_no_move<R: Wait>(
         &self,
@@ -215,6 +222,14 @@ pub trait CAlloc {
     /// - else `NoRoom` exactly if there is no room and no memory came.
     ///
     /// Waits for the lock, and has it as long as `Locked::allocate` takes.
+    ///
+    /// From `crates/rlsf_test_global/src/at_once.rt`:
+    ///
+    /// ```
+    /// let other = shared.allocate(rt, layout)?;
+    /// let other = shared.reallocate(rt, other, longer)?;
+    /// shared.deallocate(rt, other)?;
+    /// ```
     fn allocate<R: Wait>(&self, rt: &R, layout: Layout) -> Result<Addr, GlobalError>
         ensures refusals { RefusesOnlyBy (NoRoom ∷ TableMemory ∷ []) result };
 
