@@ -17,8 +17,9 @@ pub use rlsf_tlsf::{BlockInfo, GRANULARITY};
 /// The size classes, and the pool lengths that are computed from them.
 pub mod classes {
     pub use rlsf_base::classes::{
-        laws, map_ceil, map_ceil_and_unmap, map_floor, max_pool_size, pool_size_for_objects,
-        pool_size_for_payloads, pool_size_to_contain_allocation,
+        laws, map_ceil, map_ceil_and_unmap, map_floor, max_pool_size, pool_size_for_budget,
+        pool_size_for_objects, pool_size_for_payloads, pool_size_to_contain_allocation,
+        request_size,
     };
 }
 
