@@ -1,13 +1,18 @@
 #!/usr/bin/env python3
 """Searches over all states of the reference model for calls that a pool of a computed length refuses, and for shorter pools that refuse none.
 
-usage: pool_lengths.py [--greatest UNITS] [--payloads N ..] [--classes C]
+usage: pool_lengths.py [--greatest UNITS] [--payloads N ..] [--classes C] [--by-size]
 
 For each list of at most three sizes and N payloads, one row: the length of `pool_size_for_payloads`, that of
-`pool_size_for_budget`, and the shortest pools that refuse no call. A size is the length of a block, in units of 32 bytes. The list allows
+`pool_size_for_budget`, the total of a pool for each size, and the shortest pools that refuse no call. A size is the length of a block, in units of 32 bytes. The list allows
 a call that requests at most its greatest size, if with what is live before it the payloads fit the list. The budget allows more: one payload
 less than the list, with the bytes of all but the smallest, may be live. Each payload may have any length up to the greatest. Calls are
-allocations, deallocations and reallocations. The script ends with an error if a pool of a computed length refuses a call."""
+allocations, deallocations and reallocations. The script ends with an error if a pool of a computed length refuses a call.
+
+A pool for each size has the blocks of its payloads rounded up to a length at which a class begins, and 32 bytes more. A request goes to the
+first pool whose size reaches it. With --by-size, only these pools are searched. The script ends with an error unless a request is refused
+exactly if as many payloads of its pool are live as the list has of that size, or if the pools still refuse nothing with one of them 32
+bytes shorter."""
 import argparse
 import itertools
 import sys
@@ -88,14 +93,70 @@ def shortest(length, classes, greatest, allowed):
     return length
 
 
+def least_block(size, classes):
+    """The least length of a block, at least the size, at which a class begins, in units."""
+    return Machine(30, classes).p.map_ceil_and_unmap(size * UNIT) // UNIT
+
+
+def pools_by_size(sizes, classes):
+    """For each size of a list: the size, the block that its payloads get, and how many there are, in the order of the sizes."""
+    return [(size, least_block(size, classes), sizes.count(size)) for size in sorted(set(sizes))]
+
+
+def next_by_size(states, pools, classes):
+    """The states after each call on pools by size. In place of one: `None` if a call is refused while fewer payloads of its pool are live
+    than the list has, and an error if it isn't refused while as many are."""
+    for i, (used, _, length) in enumerate(states):
+        for a, _ in used:
+            machine = machine_in(states[i], classes)
+            machine.deallocate(a * UNIT + 16)
+            yield (*states[:i], state_of(machine, length), *states[i + 1 :])
+    for request in range(1, pools[-1][0] + 1):
+        i = next(i for i, (size, _, _) in enumerate(pools) if request <= size)
+        used, _, length = states[i]
+        machine = machine_in(states[i], classes)
+        addr = machine.allocate(pools[i][1] * UNIT - 16, ALIGN)
+        if len(used) < pools[i][2]:
+            yield None if addr is None else (*states[:i], state_of(machine, length), *states[i + 1 :])
+        elif addr is not None:
+            sys.exit(f"a pool for {pools[i]} has room for more")
+
+
+def never_refuses_by_size(pools, lengths, classes):
+    """Whether pools by size of these lengths refuse no payload of their list, in any order of calls."""
+    first = tuple(((), ((0, length - 1),), length) for length in lengths)
+    seen, waiting = {first}, [first]
+    while waiting:
+        for states in next_by_size(waiting.pop(), pools, classes):
+            if states is None:
+                return False
+            if states not in seen:
+                seen.add(states)
+                waiting.append(states)
+    return True
+
+
+def by_size(sizes, classes):
+    """The total length of the pools for each size of a list, in units. Each of them one unit shorter refuses a payload."""
+    pools = pools_by_size(sizes, classes)
+    lengths = [1 + count * block for _, block, count in pools]
+    if not never_refuses_by_size(pools, lengths, classes):
+        sys.exit(f"pools for {pools} refuse a payload")
+    for i in range(len(pools)):
+        shorter = [length - (i == j) for j, length in enumerate(lengths)]
+        if never_refuses_by_size(pools, shorter, classes):
+            sys.exit(f"pools for {pools} refuse no payload with {shorter} units")
+    return sum(lengths)
+
+
 def row(sizes, classes):
-    """Of a list of payloads: the two computed lengths, and the shortest for the budget and for the list, in units."""
+    """Of a list of payloads: the two computed lengths, the shortest for the budget and for the list, and pools by size, in units."""
     greatest, count, units = max(sizes), len(sizes) - 1, sum(sizes) - min(sizes)
-    least = Machine(30, classes).p.map_ceil_and_unmap(greatest * UNIT) // UNIT
+    least = least_block(greatest, classes)
     one_size = least + 1 + count * (greatest + least - 1)
     budget = 1 + units + (count + 1) * (least - 1) + 1
     of_budget = shortest(budget, classes, greatest, within_budget(count, units))
-    return one_size, budget, of_budget, shortest(of_budget, classes, greatest, within_list(sizes))
+    return one_size, budget, of_budget, shortest(of_budget, classes, greatest, within_list(sizes)), by_size(sizes, classes)
 
 
 def main():
@@ -103,12 +164,15 @@ def main():
     parser.add_argument("--greatest", type=int, default=4, help="the greatest size, in units of 32 bytes")
     parser.add_argument("--payloads", type=int, nargs="+", default=[1, 2, 3], help="how many payloads a list has")
     parser.add_argument("--classes", type=int, default=1, help="size classes of a row")
+    parser.add_argument("--by-size", action="store_true", help="only pools by size")
     words = parser.parse_args()
-    print("| Sizes | One size | Budget | Shortest for the budget | Shortest for the list |\n|---|---|---|---|---|")
+    one_pool = [] if words.by_size else ["One size", "Budget", "Shortest for the budget", "Shortest for the list"]
+    print(f"| {' | '.join(['Sizes', *one_pool, 'By size'])} |\n{'|---' * (len(one_pool) + 2)}|")
     for n in words.payloads:
         for sizes in itertools.combinations_with_replacement(range(1, words.greatest + 1), n):
             if len(set(sizes)) <= 3:
-                lengths = " | ".join(str(UNIT * units) for units in row(sizes, words.classes))
+                units = [by_size(sizes, words.classes)] if words.by_size else row(sizes, words.classes)
+                lengths = " | ".join(str(UNIT * n) for n in units)
                 print(f"| {', '.join(str(UNIT * size) for size in sizes)} | {lengths} |", flush=True)
 
 
