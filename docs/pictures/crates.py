@@ -44,7 +44,7 @@ LAYERS = [
         [(1, "rlsf", "re-exports Tlsf and FlexTlsf", True), (1, "rlsf_heaps", "re-exports all heaps", True),
          (2, "", "A Tlsf lends its payloads. A Heap returns them as values that own their bytes. A FlexTlsf grows: it asks a source for memory.")],
         [(2, "rlsf_global", "behind one lock, for threads; a journal that explains all replies", True),
-         (1, "rlsf_shared_heap", "Heap for threads"), (1, "rlsf_local_heap", "Heap for std's collections")],
+         (1, "rlsf_shared_heap", "Heap for threads"), (1, "rlsf_local_heap", "Heap for std's collections"), (1, "rlsf_partitions", "pools by size")],
         [(1, "rlsf_offsets", "ranges of a GPU's memory"), (1, "rlsf_flex", "FlexTlsf: memory from a source"), (1, "rlsf_checked", "errors in place of conditions"),
          (2, "rlsf_heap", "Heap: payloads own their bytes")],
         [(1, "rlsf_tlsf", "Tlsf: the allocator over one memory; the work of each call has a bound")],

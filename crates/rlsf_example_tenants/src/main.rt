@@ -1,7 +1,8 @@
 //! Programs of one thread over heaps, and of std's collections. None has a proof file.
 //!
 //! `pair` and `words` are complete: each can be the `main.rt` of a crate of its own. `pair` writes two payloads at once, and makes one
-//! longer; `words` counts words in a heap and in a tenant. `sized` has allocations that are never refused. In this file two tenants of one
+//! longer; `words` counts words in a heap and in a tenant. `sized` has allocations that are never refused, and `partitions` 1,004 in pools by
+//! size. In this file two tenants of one
 //! memory have strings and maps, each in a range of its own. One fills its range, and ends. The other goes on, and the range serves the
 //! next tenant.
 #![tactic(auto)]
@@ -11,6 +12,7 @@ ghost use Rattle.rlsf_heaps.specs.Words.{lessor};
 
 mod lent;
 mod pair;
+mod partitions;
 mod sized;
 mod words;
 
@@ -128,6 +130,7 @@ fn show(rt: &(impl Print + AllocGlobal)) -> Result<(), io::Error> {
 fn main(rt: HostRuntime) -> io::Result<()> {
     lent::main(rt)?;
     pair::main(rt)?;
+    partitions::main(rt)?;
     sized::main(rt)?;
     words::main(rt)?;
     show(&rt)

@@ -1,7 +1,7 @@
 //! Heaps, whose payloads own their bytes: for one thread, for several, and for std's collections.
 //!
-//! This crate has no code of its own. It re-exports what a user of a `Heap`, a `SharedHeap`, an `OwnerHeap`, a `LocalHeap` or a `Tenant` needs,
-//! so that a caller's crate depends on it alone. `specs/Words.antt` re-exports the definitions that callers cite.
+//! This crate has no code of its own. It re-exports what a user of a `Heap`, a `SharedHeap`, an `OwnerHeap`, a `LocalHeap`, a `Tenant` or
+//! `Partitions` needs, so that a caller's crate depends on it alone. `specs/Words.antt` re-exports the definitions that callers cite.
 //!
 //! The allocators of numbers, `Tlsf` and `FlexTlsf`, are in `rlsf`.
 #![tactic(auto)]
@@ -9,6 +9,7 @@
 pub use rlsf_base::memory::{Layout, LayoutError, MemoryError, OpenMemory, Part, Range, RawParts};
 pub use rlsf_heap::{Heap, Payload, ThinPayload};
 pub use rlsf_local_heap::{Lease, LocalHeap, Tenant};
+pub use rlsf_partitions::{PartitionPayload, Partitions};
 pub use rlsf_shared_heap::{
     FreedOnDrop, OwnerHeap, Returns, SharedHeap, SharedHeaps, SharedPayload, ThreadHeap,
 };

@@ -1,0 +1,3 @@
+-- Lemmas about partitions.
+pub mod Tiles
+pub mod Lists

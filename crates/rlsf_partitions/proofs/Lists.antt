@@ -1,0 +1,331 @@
+-- Lists of pools, of which one is changed.
+use Rattle.std.proofs.Common.{◌≡◌, ℕ, zero, suc, ◌+◌, ◌-◌, ◌<◌, ◌≤◌, Bool, true, false, cond, List, [], ◌∷◌, ◌++◌, length, map, take, Option, Some, None, nat_le}
+use Rattle.std.proofs.Common.{arith, inl, inr, refl, sym, ◌∙◌, ap, subst}
+use Rattle.std.proofs.lemmas.Bool.{cases_lt}
+use Rattle.std.proofs.lemmas.Bool.Decides.{nat_tests}
+use Rattle.std.proofs.lemmas.List.Sums.{sum_by-cons}
+use Rattle.std.proofs.lemmas.Option.{none-some, same_Some}
+use Rattle.std.specs.Option.{option_map}
+use Rattle.std.specs.Prelude.{slice_get, slice_set, sum_by}
+use Rattle.rlsf_base.specs.Sizes.{pool_size_for_objects}
+use Rattle.rlsf_heap.specs.Heap.{PayloadView}
+use Rattle.rlsf_partitions.specs.Partitions.{ArePossible, HasAt, IsFullAt, IsGivenBackAt, IsKept, IsOf, IsPlaced, IsPossible, IsTakenAt, PartitionView, Quota, fresh}
+use Rattle.rlsf_partitions.specs.Partitions.{partition_for, partitions_view}
+use Rattle.rlsf_partitions.specs.Partitions.{quota_of, vacant, with_one_less, with_one_more, with_one_more_for}
+
+-- ---- an element is changed
+
+module _ {A B : Type 0} (f : A → B) where
+  pub get-map : (xs : List A) (k : ℕ) (x : A) → slice_get xs k ≡ Some x → slice_get (map f xs) k ≡ Some (f x)
+  get-map [] k x there = absurd (none-some x there)
+  get-map (y ∷ xs) zero x there = ap Some (ap f (same_Some y x there))
+  get-map (y ∷ xs) (suc k) x there = get-map xs k x there
+
+  pub set-map : (xs : List A) (k : ℕ) (x n : A) → slice_get xs k ≡ Some x → map f (slice_set xs k n) ≡ slice_set (map f xs) k (f n)
+  set-map [] k x n there = absurd (none-some x there)
+  set-map (y ∷ xs) zero x n there = refl
+  set-map (y ∷ xs) (suc k) x n there = ap (λ l. f y ∷ l) (set-map xs k x n there)
+
+module _ {A : Type 0} where
+  pub set-same : (xs : List A) (k : ℕ) (x : A) → slice_get xs k ≡ Some x → slice_set xs k x ≡ xs
+  set-same [] k x there = absurd (none-some x there)
+  set-same (y ∷ xs) zero x there = ap (λ z. z ∷ xs) (sym (same_Some y x there))
+  set-same (y ∷ xs) (suc k) x there = ap (λ l. y ∷ l) (set-same xs k x there)
+
+  pub get-set : (xs : List A) (k : ℕ) (x n : A) → slice_get xs k ≡ Some x → slice_get (slice_set xs k n) k ≡ Some n
+  get-set [] k x n there = absurd (none-some x there)
+  get-set (y ∷ xs) zero x n there = refl
+  get-set (y ∷ xs) (suc k) x n there = get-set xs k x n there
+
+  pub set-set : (xs : List A) (k : ℕ) (x n m : A) → slice_get xs k ≡ Some x → slice_set (slice_set xs k n) k m ≡ slice_set xs k m
+  set-set [] k x n m there = absurd (none-some x there)
+  set-set (y ∷ xs) zero x n m there = refl
+  set-set (y ∷ xs) (suc k) x n m there = ap (λ l. y ∷ l) (set-set xs k x n m there)
+
+  pub sum-set : (f : A → ℕ) (xs : List A) (k : ℕ) (x n : A) → slice_get xs k ≡ Some x → sum_by f (slice_set xs k n) + f x ≡ sum_by f xs + f n
+  sum-set f [] k x n there = absurd (none-some x there)
+  sum-set f (y ∷ xs) zero x n there = omega (arith, sum_by-cons f y xs, sum_by-cons f n xs, ap f (same_Some y x there))
+  sum-set f (y ∷ xs) (suc k) x n there = omega (arith, sum_by-cons f y xs, sum_by-cons f y (slice_set xs k n), sum-set f xs k x n there)
+
+-- ---- numbers
+
+pub more-set : (qs : List Quota) (k : ℕ) (q : Quota) → slice_get qs k ≡ Some q → with_one_more k qs ≡ slice_set qs k (record q { live = q.live + 1 })
+more-set [] k q there = absurd (none-some q there)
+more-set (p ∷ qs) zero q there = ap {A = Quota} (λ x. record x { live = x.live + 1 } ∷ qs) (same_Some p q there)
+more-set (p ∷ qs) (suc k) q there = ap (λ l. p ∷ l) (more-set qs k q there)
+
+pub less-set : (qs : List Quota) (k : ℕ) (q : Quota) → slice_get qs k ≡ Some q → with_one_less k qs ≡ slice_set qs k (record q { live = q.live - 1 })
+less-set [] k q there = absurd (none-some q there)
+less-set (p ∷ qs) zero q there = ap {A = Quota} (λ x. record x { live = x.live - 1 } ∷ qs) (same_Some p q there)
+less-set (p ∷ qs) (suc k) q there = ap (λ l. p ∷ l) (less-set qs k q there)
+
+-- where a size leads
+pub record IsFound (qs : List Quota) (size place : ℕ) : Type 0 where
+  pub quota : Quota
+  pub there : slice_get qs place ≡ Some quota
+  pub reaches : size ≤ quota.size
+  pub room : vacant qs size ≡ quota.count - quota.live
+  pub changed : (n : Quota) → n.size ≡ quota.size → vacant (slice_set qs place n) size ≡ n.count - n.live
+
+pub found : (qs : List Quota) (size place : ℕ) → partition_for qs size ≡ Some place → IsFound qs size place
+found [] size place told = absurd (none-some place told)
+found (q ∷ qs) size place told = by_test (nat_le size q.size) refl told (λ k. found qs size k)
+  where
+    here : nat_le size q.size ≡ true → IsFound (q ∷ qs) size 0
+    here e = record {
+      quota = q;
+      there = refl;
+      reaches = grind (arith, nat_tests);
+      room = ap (λ b. cond b (q.count - q.live) (vacant qs size)) e;
+      changed = λ n same. ap (λ m. cond (nat_le size m) (n.count - n.live) (vacant qs size)) same ∙ ap (λ b. cond b (n.count - n.live) (vacant qs size)) e;
+    }
+
+    next : nat_le size q.size ≡ false → (k : ℕ) → IsFound qs size k → IsFound (q ∷ qs) size (suc k)
+    next e k is = record {
+      quota = is.quota;
+      there = is.there;
+      reaches = is.reaches;
+      room = ap (λ b. cond b (q.count - q.live) (vacant qs size)) e ∙ is.room;
+      changed = λ n same. ap (λ b. cond b (q.count - q.live) (vacant (slice_set qs k n) size)) e ∙ is.changed n same;
+    }
+
+    behind : nat_le size q.size ≡ false → (o : Option ℕ) → partition_for qs size ≡ o → option_map (λ k. suc k) o ≡ Some place
+        → ((k : ℕ) → partition_for qs size ≡ Some k → IsFound qs size k) → IsFound (q ∷ qs) size place
+    behind e None is led rest = absurd (none-some place led)
+    behind e (Some k) is led rest = subst (IsFound (q ∷ qs) size) (same_Some (suc k) place led) (next e k (rest k is))
+
+    by_test : (b : Bool) → nat_le size q.size ≡ b → cond b (Some 0) (option_map (λ k. suc k) (partition_for qs size)) ≡ Some place
+        → ((k : ℕ) → partition_for qs size ≡ Some k → IsFound qs size k) → IsFound (q ∷ qs) size place
+    by_test true e led rest = subst (IsFound (q ∷ qs) size) (same_Some 0 place led) (here e)
+    by_test false e led rest = behind e (partition_for qs size) refl led rest
+
+-- the pool at the place is the one that the size leads to
+pub more_for : (qs : List Quota) (size place : ℕ) → partition_for qs size ≡ Some place → with_one_more place qs ≡ with_one_more_for size qs
+more_for [] size place told = refl
+more_for (q ∷ qs) size place told = by_test (nat_le size q.size) refl told (λ k. more_for qs size k)
+  where
+    more : Quota
+    more = record q { live = q.live + 1 }
+
+    behind : (o : Option ℕ) → partition_for qs size ≡ o → option_map (λ k. suc k) o ≡ Some place
+        → ((k : ℕ) → partition_for qs size ≡ Some k → with_one_more k qs ≡ with_one_more_for size qs) → with_one_more place (q ∷ qs) ≡ q ∷ with_one_more_for size qs
+    behind None is led rest = absurd (none-some place led)
+    behind (Some k) is led rest = ap (λ n. with_one_more n (q ∷ qs)) (sym (same_Some (suc k) place led)) ∙ ap (λ l. q ∷ l) (rest k is)
+
+    by_test : (b : Bool) → nat_le size q.size ≡ b → cond b (Some 0) (option_map (λ k. suc k) (partition_for qs size)) ≡ Some place
+        → ((k : ℕ) → partition_for qs size ≡ Some k → with_one_more k qs ≡ with_one_more_for size qs)
+        → with_one_more place (q ∷ qs) ≡ with_one_more_for size (q ∷ qs)
+    by_test true e led rest =
+        ap (λ n. with_one_more n (q ∷ qs)) (sym (same_Some 0 place led)) ∙ ap (λ b. cond b (more ∷ qs) (q ∷ with_one_more_for size qs)) (sym e)
+    by_test false e led rest = behind (partition_for qs size) refl led rest ∙ ap (λ b. cond b (more ∷ qs) (q ∷ with_one_more_for size qs)) (sym e)
+
+-- no pool reaches the size
+pub none_found : (qs : List Quota) (size : ℕ) → partition_for qs size ≡ None → vacant qs size ≡ 0
+none_found [] size told = refl
+none_found (q ∷ qs) size told = by_test (nat_le size q.size) refl told (λ none. none_found qs size none)
+  where
+    behind : (o : Option ℕ) → partition_for qs size ≡ o → option_map (λ k. suc k) o ≡ None → (partition_for qs size ≡ None → vacant qs size ≡ 0)
+        → vacant qs size ≡ 0
+    behind None is led rest = rest is
+    behind (Some k) is led rest = absurd (none-some (suc k) (sym led))
+
+    by_test : (b : Bool) → nat_le size q.size ≡ b → cond b (Some 0) (option_map (λ k. suc k) (partition_for qs size)) ≡ None
+        → (partition_for qs size ≡ None → vacant qs size ≡ 0) → vacant (q ∷ qs) size ≡ 0
+    by_test true e led rest = absurd (none-some 0 (sym led))
+    by_test false e led rest = ap (λ b. cond b (q.count - q.live) (vacant qs size)) e ∙ behind (partition_for qs size) refl led rest
+
+-- ---- the loop that looks for a pool
+
+-- no pool before a place reaches the size
+unfoldable pub NoneBefore : List PartitionView → ℕ → ℕ → Type 0
+NoneBefore ps size place = (k : ℕ) (p : PartitionView) → k < place → slice_get ps k ≡ Some p → p.size < size
+
+pub none_before : (ps : List PartitionView) (size : ℕ) → NoneBefore ps size 0
+unfolding NoneBefore
+none_before ps size k p less there = absurd (omega (arith, less))
+
+pub none_more : (ps : List PartitionView) (size place : ℕ) (p : PartitionView) → NoneBefore ps size place → slice_get ps place ≡ Some p → nat_le size p.size ≡ false
+    → NoneBefore ps size (place + 1)
+unfolding NoneBefore
+none_more ps size place p before there short k q less at = elim (cases_lt k place) [
+  | inl front ↦ before k q front at
+  | inr back ↦
+      let here : k ≡ place = omega (arith, less, back) in
+      let same : p ≡ q = same_Some p q (sym there ∙ ap (slice_get ps) (sym here) ∙ at) in
+      let is : p.size ≡ q.size = ap (λ r. r.size) same in
+      let small : p.size < size = grind (arith, nat_tests) in
+      omega (arith, small, is)
+]
+
+tail : (p : PartitionView) (ps : List PartitionView) (size place : ℕ) → NoneBefore (p ∷ ps) size (suc place) → NoneBefore ps size place
+unfolding NoneBefore
+tail p ps size place before k q less there = before (suc k) q (omega (arith, less)) there
+
+head : (p : PartitionView) (ps : List PartitionView) (size place : ℕ) → NoneBefore (p ∷ ps) size (suc place) → nat_le size p.size ≡ false
+unfolding NoneBefore
+head p ps size place before =
+    let small : p.size < size = before 0 p (omega arith) refl in
+    grind (arith, nat_tests)
+
+pub first_here : (ps : List PartitionView) (size place : ℕ) (p : PartitionView) → NoneBefore ps size place → slice_get ps place ≡ Some p → nat_le size p.size ≡ true
+    → Some place ≡ partition_for (map quota_of ps) size
+first_here [] size place p before there reaches = absurd (none-some p there)
+first_here (q ∷ ps) size zero p before there reaches =
+    let is : nat_le size q.size ≡ true = ap (λ r. nat_le size r.size) (same_Some q p there) ∙ reaches in
+    ap (λ b. cond b (Some 0) (option_map (λ k. suc k) (partition_for (map quota_of ps) size))) (sym is)
+first_here (q ∷ ps) size (suc place) p before there reaches =
+    ap (option_map (λ k. suc k)) (first_here ps size place p (tail q ps size place before) there reaches)
+    ∙ ap (λ b. cond b (Some 0) (option_map (λ k. suc k) (partition_for (map quota_of ps) size))) (sym (head q ps size place before))
+
+pub none_here : (ps : List PartitionView) (size : ℕ) → NoneBefore ps size (length ps) → None ≡ partition_for (map quota_of ps) size
+none_here [] size before = refl
+none_here (q ∷ ps) size before =
+    ap (option_map (λ k. suc k)) (none_here ps size (tail q ps size (length ps) before))
+    ∙ ap (λ b. cond b (Some 0) (option_map (λ k. suc k) (partition_for (map quota_of ps) size))) (sym (head q ps size (length ps) before))
+
+-- ---- a payload is allocated
+
+module _ {ps ns : List PartitionView} {place : ℕ} {p : PayloadView} (t : IsTakenAt ps ns place p) where
+  abbrev qs : List Quota
+  qs = map quota_of ps
+
+  at : slice_get qs place ≡ Some (quota_of t.was)
+  at = get-map quota_of ps place t.was t.there
+
+  set_is : map quota_of ns ≡ slice_set qs place (record (quota_of t.was) { live = t.was.live + 1 })
+  set_is = ap (map quota_of) t.set ∙ set-map quota_of ps place t.was t.now t.there ∙ ap (λ q. slice_set qs place (quota_of q)) t.taken.taken
+
+  pub taken_quotas : map quota_of ns ≡ with_one_more place qs
+  taken_quotas = set_is ∙ sym (more-set qs place (quota_of t.was) at)
+
+  pub taken_owner : IsOf (map (λ q. q.identity) ps) place p
+  taken_owner = get-map (λ q. q.identity) ps place t.was t.there ∙ ap Some (sym t.taken.identity)
+
+  pub taken_kept : IsKept (partitions_view ps) (partitions_view ns) 27
+  taken_kept = record {
+    heaps = ap (map (λ q. q.identity)) t.set ∙ set-map (λ q. q.identity) ps place t.was t.now t.there
+        ∙ ap (λ q. slice_set (map (λ x. x.identity) ps) place q.identity) t.taken.taken
+        ∙ set-same (map (λ q. q.identity) ps) place t.was.identity (get-map (λ q. q.identity) ps place t.was t.there);
+    touches = omega (arith, sum-set (λ q. q.touches) ps place t.was t.now t.there, ap (sum_by (λ q. q.touches)) t.set, t.touches);
+  }
+
+  module _ (size : ℕ) (told : partition_for qs size ≡ Some place) where
+    same : quota_of t.was ≡ (found qs size place told).quota
+    same = same_Some (quota_of t.was) (found qs size place told).quota (sym at ∙ (found qs size place told).there)
+
+    taken_less : vacant qs size ≡ vacant (map quota_of ns) size + 1
+    taken_less =
+        let f = found qs size place told in
+        let q : Quota = record (quota_of t.was) { live = t.was.live + 1 } in
+        let after : vacant (map quota_of ns) size ≡ t.was.count - (t.was.live + 1) =
+        ap (λ l. vacant l size) set_is ∙ f.changed q (ap (λ x. x.size) same) in
+        omega (arith, f.room, ap (λ x. x.count) same, ap (λ x. x.live) same, after, t.taken.room)
+
+    pub taken_placed : IsPlaced (partitions_view ps) (partitions_view ns) size place p
+    taken_placed = record {
+      first = told;
+      owner = taken_owner;
+      quotas = taken_quotas ∙ more_for qs size place told;
+      less = taken_less;
+      sized = omega (arith, (found qs size place told).reaches, ap (λ x. x.size) same, t.taken.sized);
+      aligned = t.taken.aligned;
+    }
+
+    pub some_vacant : vacant qs size ≡ 0 → ⊥
+    some_vacant none = omega (arith, none, taken_less)
+
+-- a full pool has no room for more
+pub full_vacant : (ps : List PartitionView) (size place : ℕ) → partition_for (map quota_of ps) size ≡ Some place → IsFullAt ps place → vacant (map quota_of ps) size ≡ 0
+full_vacant ps size place told (p, there, full) =
+    let f = found (map quota_of ps) size place told in
+    let same : quota_of p ≡ f.quota = same_Some (quota_of p) f.quota (sym (get-map quota_of ps place p there) ∙ f.there) in
+    omega (arith, f.room, ap (λ x. x.count) same, ap (λ x. x.live) same, full)
+
+-- so many payloads have room as are counted at the place
+pub vacant_here : (ps : List PartitionView) (size place n : ℕ) → partition_for (map quota_of ps) size ≡ Some place → HasAt ps place (λ p. n + p.live ≡ p.count)
+    → n ≡ vacant (map quota_of ps) size
+vacant_here ps size place n told (p, there, counted) =
+    let f = found (map quota_of ps) size place told in
+    let same : quota_of p ≡ f.quota = same_Some (quota_of p) f.quota (sym (get-map quota_of ps place p there) ∙ f.there) in
+    omega (arith, f.room, ap (λ x. x.count) same, ap (λ x. x.live) same, counted)
+
+-- ---- a payload is deallocated
+
+module _ {ps ns : List PartitionView} {place : ℕ} (g : IsGivenBackAt ps ns place) where
+  abbrev rs : List Quota
+  rs = map quota_of ps
+
+  was_at : slice_get rs place ≡ Some (quota_of g.was)
+  was_at = get-map quota_of ps place g.was g.there
+
+  now_is : map quota_of ns ≡ slice_set rs place (quota_of g.now)
+  now_is = ap (map quota_of) g.set ∙ set-map quota_of ps place g.was g.now g.there
+
+  less_is : record (quota_of g.was) { live = g.was.live - 1 } ≡ quota_of g.now
+  less_is =
+      let one : g.now.live + 1 - 1 ≡ g.now.live = omega arith in
+      ap {A = PartitionView} (λ w. record (quota_of w) { live = w.live - 1 }) g.given_back ∙ ap (λ n. record (quota_of g.now) { live = n }) one
+
+  pub given_freed : map quota_of ns ≡ with_one_less place rs
+  given_freed = now_is ∙ ap (slice_set rs place) (sym less_is) ∙ sym (less-set rs place (quota_of g.was) was_at)
+
+  pub given_before : rs ≡ with_one_more place (map quota_of ns)
+  given_before =
+      let now_at : slice_get (slice_set rs place (quota_of g.now)) place ≡ Some (quota_of g.now) = get-set rs place (quota_of g.was) (quota_of g.now) was_at in
+      sym (ap (with_one_more place) now_is ∙ more-set (slice_set rs place (quota_of g.now)) place (quota_of g.now) now_at
+      ∙ set-set rs place (quota_of g.was) (quota_of g.now) (record (quota_of g.now) { live = g.now.live + 1 }) was_at
+      ∙ ap (λ w. slice_set rs place (quota_of w)) (sym g.given_back) ∙ set-same rs place (quota_of g.was) was_at)
+
+  pub given_kept : IsKept (partitions_view ps) (partitions_view ns) 32
+  given_kept = record {
+    heaps = ap (map (λ q. q.identity)) g.set ∙ set-map (λ q. q.identity) ps place g.was g.now g.there
+        ∙ ap (λ w. slice_set (map (λ x. x.identity) ps) place w.identity) (sym g.given_back)
+        ∙ set-same (map (λ q. q.identity) ps) place g.was.identity (get-map (λ q. q.identity) ps place g.was g.there);
+    touches = omega (arith, sum-set (λ q. q.touches) ps place g.was g.now g.there, ap (sum_by (λ q. q.touches)) g.set, g.touches);
+  }
+
+-- ---- new pools
+
+take-get : {A : Type 0} (xs : List A) (i : ℕ) (x : A) → slice_get xs i ≡ Some x → take (suc i) xs ≡ take i xs ++ x ∷ []
+take-get [] i x there = absurd (none-some x there)
+take-get (y ∷ xs) zero x there = ap (λ z. z ∷ []) (same_Some y x there)
+take-get (y ∷ xs) (suc i) x there = ap (λ l. y ∷ l) (take-get xs i x there)
+
+take-next : {A : Type 0} (xs : List A) (i : ℕ) (x : A) → slice_get xs i ≡ Some x → take (i + 1) xs ≡ take i xs ++ x ∷ []
+take-next xs i x there =
+    let next : i + 1 ≡ suc i = omega arith in
+    ap (λ n. take n xs) next ∙ take-get xs i x there
+
+map-last : {A B : Type 0} (f : A → B) (xs : List A) (x : A) → map f (xs ++ x ∷ []) ≡ map f xs ++ f x ∷ []
+map-last f [] x = refl
+map-last f (y ∷ xs) x = ap (λ l. f y ∷ l) (map-last f xs x)
+
+-- one more pool is at the end
+pub added_fresh : (ps ns : List PartitionView) (p : PartitionView) (pair : ℕ × ℕ) → ns ≡ ps ++ p ∷ [] → p.size ≡ pair.1 → p.count ≡ pair.0 → p.live ≡ 0
+    → map quota_of ns ≡ map quota_of ps ++ fresh pair ∷ []
+added_fresh ps ns p pair more size count live =
+    ap (map quota_of) more ∙ map-last quota_of ps p
+    ∙ ap (λ n. map quota_of ps ++ record (quota_of p) { size = n } ∷ []) size
+    ∙ ap (λ n. map quota_of ps ++ record (quota_of p) { size = pair.1; count = n } ∷ []) count
+    ∙ ap (λ n. map quota_of ps ++ record (quota_of p) { size = pair.1; count = pair.0; live = n } ∷ []) live
+
+-- the pools of one pair more
+pub next_fresh : (sizes : List (ℕ × ℕ)) (i : ℕ) (pair : ℕ × ℕ) (ps ns : List PartitionView) → slice_get sizes i ≡ Some pair
+    → map quota_of ps ≡ map fresh (take i sizes) → map quota_of ns ≡ map quota_of ps ++ fresh pair ∷ []
+    → map quota_of ns ≡ map fresh (take (i + 1) sizes)
+next_fresh sizes i pair ps ns there before more =
+    more ∙ ap (λ l. l ++ fresh pair ∷ []) before ∙ sym (map-last fresh (take i sizes) pair) ∙ ap (map fresh) (sym (take-next sizes i pair there))
+
+possible-last : (sizes : List (ℕ × ℕ)) (pair : ℕ × ℕ) → ArePossible sizes → IsPossible (pool_size_for_objects 59 8 pair.0 pair.1) → ArePossible (sizes ++ pair ∷ [])
+possible-last [] pair all is = (is, tt)
+possible-last (x ∷ sizes) pair (first, rest) is = (first, possible-last sizes pair rest is)
+
+pub next_possible : (sizes : List (ℕ × ℕ)) (i : ℕ) (pair : ℕ × ℕ) → slice_get sizes i ≡ Some pair → ArePossible (take i sizes)
+    → IsPossible (pool_size_for_objects 59 8 pair.0 pair.1) → ArePossible (take (i + 1) sizes)
+next_possible sizes i pair there all is = subst ArePossible (sym (take-next sizes i pair there)) (possible-last (take i sizes) pair all is)
+
+pub possible_get : (sizes : List (ℕ × ℕ)) (i : ℕ) (pair : ℕ × ℕ) → slice_get sizes i ≡ Some pair → ArePossible sizes
+    → IsPossible (pool_size_for_objects 59 8 pair.0 pair.1)
+possible_get [] i pair there all = absurd (none-some pair there)
+possible_get (x ∷ sizes) zero pair there (first, rest) = subst (λ (y : ℕ × ℕ). IsPossible (pool_size_for_objects 59 8 y.0 y.1)) (same_Some x pair there) first
+possible_get (x ∷ sizes) (suc i) pair there (first, rest) = possible_get sizes i pair there rest

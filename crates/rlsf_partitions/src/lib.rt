@@ -1,0 +1,9 @@
+//! `Partitions`: a pool for each size of a list, each for a fixed number of payloads. Within these numbers no allocation is refused.
+//!
+//! Read `partitions.rt` first. `partition.rt` has one pool. `specs/Partitions.antt` defines what contracts see.
+#![tactic(auto)]
+
+mod partition;
+mod partitions;
+
+pub use partitions::{PartitionPayload, Partitions};
