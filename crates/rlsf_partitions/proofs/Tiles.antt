@@ -1,5 +1,6 @@
 -- Blocks of one length fill a partition's pool, whatever is allocated and freed.
-use Rattle.std.proofs.Common.{◌≡◌, ℕ, ◌+◌, ◌-◌, ◌*◌, ◌%◌, ◌<◌, ◌≤◌, cond, ◌/◌, List, [], ◌∷◌, length, Option, Some, None, IfNone, IfSome, IsNone, arith, refl, sym, ◌∙◌, ap, subst, inl, inr}
+use Rattle.std.proofs.Common.{◌≡◌, ℕ, ◌+◌, ◌-◌, ◌*◌, ◌%◌, ◌<◌, ◌≤◌, cond, ◌/◌, [], ◌∷◌, length}
+use Rattle.std.proofs.Common.{Option, Some, None, IfNone, IfSome, IsNone, arith, refl, sym, ◌∙◌, ap, subst, inl, inr}
 use Rattle.std.proofs.lemmas.Bool.{false≢true, le-leb}
 use Rattle.std.proofs.Math.Nat.{mul-le-mul_right}
 use Rattle.rlsf_base.specs.PowerOfTwo.{IsPowerOfTwo}
@@ -46,12 +47,15 @@ HasTiles-new v w r reply asked count none steps enough room =
     let part = aligned_part r in
     let step = subst (λ s. Inserts 59 s r reply w.state) none (stepped w (Inserts 59 v.state r reply) steps) in
     let after : w.state ≡ with_chunks (part ∷ []) empty = step.after ∙ ap (λ b. with_chunks (cond b (range_at part.start part.len ∷ []) []) empty)
-    (le-leb 64 part.len enough) in
-    (part, subst (IsUniform (request_size asked 16) part) (sym after) (record {
-      chunks = refl;
-      used = λ u i. absurd i;
-      free = λ f. elim [ inl same ↦ (0, ap (λ x. x.start) same ∙ omega arith) | inr bad ↦ absurd bad ];
-    }), room)
+    (le-leb 64 part.len enough) in (
+      part,
+      subst (IsUniform (request_size asked 16) part) (sym after) (record {
+        chunks = refl;
+        used = λ u i. absurd i;
+        free = λ f. elim [ inl same ↦ (0, ap (λ x. x.start) same ∙ omega arith) | inr bad ↦ absurd bad ];
+      }),
+      room,
+    )
 
 pub HasTiles-allocated : (v w : HeapView) (asked align count : ℕ) (reply : Option ℕ) → align ≡ 16 → Stands 59 8 v
     → Steps 59 8 w (Allocates 8 v.state asked align reply) → HasTiles v.state asked count → HasTiles w.state asked count

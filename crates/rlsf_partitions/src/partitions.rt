@@ -2,8 +2,8 @@
 
 ghost use Rattle.std.specs.Prelude.{◌≡◌, ◌+◌, ◌<◌, ◌≤◌, ◌↔◌, [], ◌∷◌, ◌++◌, Some, IfNone, IfOk, IfSome, IsErrOf, IsNone, IsOk, OnOk, length, map, nat_le, slice_get};
 ghost use Rattle.rlsf_base.specs.Sizes.{pool_size_for_objects};
-ghost use Rattle.rlsf_partitions.specs.Partitions.{ArePossible, HasAt, IsFullAt, IsGivenBackAt, IsKept, IsOf, IsPlaced, IsPossible, IsTakenAt, fresh, partition_for, partitions_view, quota_of, vacant};
-ghost use Rattle.rlsf_partitions.specs.Partitions.{with_one_less, with_one_more};
+ghost use Rattle.rlsf_partitions.specs.Partitions.{ArePossible, HasAt, IsFullAt, IsGivenBackAt, IsKept, IsOf, IsPlaced, IsPossible, IsTakenAt};
+ghost use Rattle.rlsf_partitions.specs.Partitions.{fresh, partition_for, partitions_view, quota_of, vacant, with_one_less, with_one_more};
 
 use crate::partition::Partition;
 use rlsf_base::memory::MemoryError;
@@ -40,7 +40,11 @@ impl Model for Partitions {
 
 impl Partitions {
     /// Creates the pools of a list of pairs: how many payloads a pool has room for, and their greatest size in bytes. Allocates a
-    /// memory for each.
+    /// memory for each, from the address 4096 on, of the length that `classes::pool_size_for_objects` returns for the pair.
+    ///
+    /// Returns one of these errors:
+    /// - `TooLong` only if there is no such length for a pair, or no memory or layout can be so long
+    /// - `OutOfMemory` if the system is out of memory
     pub fn new(alloc: Global, sizes: &[(usize, usize)]) -> Result<Partitions, MemoryError>
         ensures pools { IfOk result (λ p. p.quotas ≡ map fresh sizes.now) }
         ensures possible { IsOk result → ArePossible sizes.now }
@@ -104,7 +108,11 @@ fn pair_at(sizes: &[(usize, usize)], index: usize) -> (usize, usize)
 }
 
 /// Adds a partition for a pair of a count and a size.
-fn add(alloc: Global, partitions: &mut Vec<Partition>, pair: (usize, usize)) -> Result<(), MemoryError>
+fn add(
+    alloc: Global,
+    partitions: &mut Vec<Partition>,
+    pair: (usize, usize),
+) -> Result<(), MemoryError>
     ensures added { OnOk result (map quota_of partitions.new.items ≡ map quota_of partitions.old.items ++ fresh pair ∷ []) }
     ensures possible { IsOk result → IsPossible (pool_size_for_objects 59 8 pair.0 pair.1) }
     ensures too_long { IsErrOf result MemoryError.TooLong → IsPossible (pool_size_for_objects 59 8 pair.0 pair.1) → ⊥ }

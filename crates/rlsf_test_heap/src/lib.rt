@@ -1,9 +1,9 @@
-//! Tests of `rlsf_heap` and `rlsf_local_heap`. This crate has no other code, so that these two are proved once.
+//! Tests of `rlsf_heap`, `rlsf_local_heap` and `rlsf_partitions`. This crate has no other code, so that these are proved once.
 //!
 //! In reading order: `answers` has the assertions; `pair` and `growing` are programs without a proof file; `rows` and `resized_rows`
 //! compare the addresses of payloads with worked examples, as tables of steps; `ends` shows that dropped heaps deallocate their memory;
 //! `lent` lends ranges, and gets them back; `local` has collections in a heap, `in_place` vectors that grow and shrink there, `sizes`
-//! blocks of each size, and `printed` what is printed of one; `pools` fills new heaps and tenants; `raw` takes a payload apart; `thin` has
+//! blocks of each size, and `printed` what is printed of one; `pools` fills new heaps and tenants; `partitions` has pools by size; `raw` takes a payload apart; `thin` has
 //! payloads by their address, in `unknown_align` also of any alignment.
 #![tactic(auto)]
 
@@ -21,6 +21,8 @@ mod lent;
 mod local;
 #[cfg(test)]
 mod pair;
+#[cfg(test)]
+mod partitions;
 #[cfg(test)]
 mod pools;
 #[cfg(test)]

@@ -1,4 +1,4 @@
-use Rattle.std.proofs.Common.{◌+◌, arith}
+use Rattle.std.proofs.Common.{arith}
 use Rattle.rlsf_model.specs.Release.{Deallocates}
 use Rattle.rlsf_partitions.proofs.Tiles.{HasTiles-released, Stands-stepped}
 use Rattle.rlsf_partitions.proofs.partition.Partition.give_back.Goals as goal

@@ -1,4 +1,4 @@
-use Rattle.std.proofs.Common.{◌<◌, IsNone, arith}
+use Rattle.std.proofs.Common.{◌<◌, arith}
 use Rattle.rlsf_heap.specs.Heap.{addr_of}
 use Rattle.rlsf_model.specs.Allocate.{Allocates}
 use Rattle.rlsf_model.specs.Sized.{live_count}

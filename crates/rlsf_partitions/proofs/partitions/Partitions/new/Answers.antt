@@ -7,9 +7,10 @@ pub loop-index-preserved : goal.loop-index-preserved
 loop-index-preserved c =
     let sizes = c.args.sizes.now in
     let i = c.loop-index.index in
-    let pair = c.pair_at.result in
-    (next_fresh sizes i pair c.loop-index.partitions.items c.add.new.partitions.items c.pair_at.ensures c.loop-index.invariant.0 c.in_ok-add.ensures.added,
-      next_possible sizes i pair c.pair_at.ensures c.loop-index.invariant.1 (c.in_ok-add.ensures.possible refl))
+    let pair = c.pair_at.result in (
+      next_fresh sizes i pair c.loop-index.partitions.items c.add.new.partitions.items c.pair_at.ensures c.loop-index.invariant.0 c.in_ok-add.ensures.added,
+      next_possible sizes i pair c.pair_at.ensures c.loop-index.invariant.1 (c.in_ok-add.ensures.possible refl),
+    )
 
 pub returns-in_err-add-clause-too_long : goal.returns-in_err-add-clause-too_long
 returns-in_err-add-clause-too_long c = λ refused all.
