@@ -59,6 +59,17 @@ less-set [] k q there = absurd (none-some q there)
 less-set (p ∷ qs) zero q there = ap {A = Quota} (λ x. record x { live = x.live - 1 } ∷ qs) (same_Some p q there)
 less-set (p ∷ qs) (suc k) q there = ap (λ l. p ∷ l) (less-set qs k q there)
 
+-- each size leads where it led before
+more_places : (k : ℕ) (qs : List Quota) (size : ℕ) → partition_for (with_one_more k qs) size ≡ partition_for qs size
+more_places k [] size = refl
+more_places zero (q ∷ qs) size = refl
+more_places (suc k) (q ∷ qs) size = ap (λ o. cond (nat_le size q.size) (Some 0) (option_map (λ p. suc p) o)) (more_places k qs size)
+
+less_places : (k : ℕ) (qs : List Quota) (size : ℕ) → partition_for (with_one_less k qs) size ≡ partition_for qs size
+less_places k [] size = refl
+less_places zero (q ∷ qs) size = refl
+less_places (suc k) (q ∷ qs) size = ap (λ o. cond (nat_le size q.size) (Some 0) (option_map (λ p. suc p) o)) (less_places k qs size)
+
 -- where a size leads
 pub record IsFound (qs : List Quota) (size place : ℕ) : Type 0 where
   pub quota : Quota
@@ -206,6 +217,7 @@ module _ {ps ns : List PartitionView} {place : ℕ} {p : PayloadView} (t : IsTak
     heaps = ap (map (λ q. q.identity)) t.set ∙ set-map (λ q. q.identity) ps place t.was t.now t.there
         ∙ ap (λ q. slice_set (map (λ x. x.identity) ps) place q.identity) t.taken.taken
         ∙ set-same (map (λ q. q.identity) ps) place t.was.identity (get-map (λ q. q.identity) ps place t.was t.there);
+    sizes = ap partition_for taken_quotas ∙ (λ i size. more_places place qs size i);
     touches = omega (arith, sum-set (λ q. q.touches) ps place t.was t.now t.there, ap (sum_by (λ q. q.touches)) t.set, t.touches);
   }
 
@@ -276,11 +288,27 @@ module _ {ps ns : List PartitionView} {place : ℕ} (g : IsGivenBackAt ps ns pla
       ∙ set-set rs place (quota_of g.was) (quota_of g.now) (record (quota_of g.now) { live = g.now.live + 1 }) was_at
       ∙ ap (λ w. slice_set rs place (quota_of w)) (sym g.given_back) ∙ set-same rs place (quota_of g.was) was_at)
 
+  pub given_room : (size : ℕ) → partition_for rs size ≡ Some place → vacant (map quota_of ns) size ≡ vacant rs size + 1
+  given_room size told =
+      let ms = map quota_of ns in
+      let led : partition_for ms size ≡ Some place = ap (λ l. partition_for l size) given_freed ∙ less_places place rs size ∙ told in
+      let f = found ms size place led in
+      let now_at : slice_get ms place ≡ Some (quota_of g.now) = ap (λ l. slice_get l place) now_is
+      ∙ get-set rs place (quota_of g.was) (quota_of g.now) was_at in
+      let same : quota_of g.now ≡ f.quota = same_Some (quota_of g.now) f.quota (sym now_at ∙ f.there) in
+      let more : Quota = record (quota_of g.now) { live = g.now.live + 1 } in
+      let before : vacant rs size ≡ g.now.count - (g.now.live + 1) =
+      ap (λ l. vacant l size) (given_before ∙ more-set ms place (quota_of g.now) now_at) ∙ f.changed more (ap (λ x. x.size) same) in
+      let live : g.was.live ≡ g.now.live + 1 = ap (λ x. x.live) g.given_back in
+      let count : g.was.count ≡ g.now.count = ap (λ x. x.count) g.given_back in
+      omega (arith, f.room, ap (λ x. x.count) same, ap (λ x. x.live) same, before, live, count, g.within)
+
   pub given_kept : IsKept (partitions_view ps) (partitions_view ns) 32
   given_kept = record {
     heaps = ap (map (λ q. q.identity)) g.set ∙ set-map (λ q. q.identity) ps place g.was g.now g.there
         ∙ ap (λ w. slice_set (map (λ x. x.identity) ps) place w.identity) (sym g.given_back)
         ∙ set-same (map (λ q. q.identity) ps) place g.was.identity (get-map (λ q. q.identity) ps place g.was g.there);
+    sizes = ap partition_for given_freed ∙ (λ i size. less_places place rs size i);
     touches = omega (arith, sum-set (λ q. q.touches) ps place g.was g.now g.there, ap (sum_by (λ q. q.touches)) g.set, g.touches);
   }
 

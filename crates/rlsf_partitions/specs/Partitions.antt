@@ -113,9 +113,10 @@ pub record IsPlaced (before after : PartitionsView) (size pool : ℕ) (p : Paylo
   -- its address is a multiple of 16
   pub aligned : p.start % 16 ≡ 0
 
--- a call keeps which heaps payloads are of, and takes at most so many word accesses
+-- a call keeps which heaps payloads are of, and where each size leads, and takes at most so many word accesses
 pub record IsKept (before after : PartitionsView) (most : ℕ) : Type 0 where
   pub heaps : after.heaps ≡ before.heaps
+  pub sizes : partition_for after.quotas ≡ partition_for before.quotas
   pub touches : after.touches ≤ before.touches + most
 
 -- ---- one pool of several
@@ -139,6 +140,7 @@ pub record IsGivenBackAt (before after : List PartitionView) (place : ℕ) : Typ
   pub now : PartitionView
   pub there : slice_get before place ≡ Some was
   pub set : after ≡ slice_set before place now
+  pub within : was.live ≤ was.count
   pub given_back : was ≡ record now { live = now.live + 1; touches = was.touches }
   pub touches : now.touches ≤ was.touches + 32
 

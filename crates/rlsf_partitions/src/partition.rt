@@ -92,6 +92,7 @@ impl Partition {
     /// Deallocates a payload. It must be one of this partition.
     pub(crate) fn give_back(&mut self, payload: Payload)
         requires { payload.identity ≡ self.old.identity }
+        ensures within { self.old.live ≤ self.old.count }
         ensures given_back { self.old ≡ record self.new { live = self.new.live + 1; touches = self.old.touches } }
         ensures touches { self.new.touches ≤ self.old.touches + 32 }
     {

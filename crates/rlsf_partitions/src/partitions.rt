@@ -1,6 +1,6 @@
 //! Pools of payloads, one for each size of a list.
 
-ghost use Rattle.std.specs.Prelude.{◌≡◌, ◌+◌, ◌<◌, ◌≤◌, ◌↔◌, [], ◌∷◌, ◌++◌, Some, IfNone, IfOk, IfSome, IsErrOf, IsNone, IsOk, OnOk, length, map, nat_le, slice_get};
+ghost use Rattle.std.specs.Prelude.{◌≡◌, ◌+◌, ◌<◌, ◌≤◌, ◌↔◌, [], ◌∷◌, ◌++◌, Some, IfNone, IfOk, IfSome, IsErrOf, IsNone, IsOk, OnOk, ℕ, length, map, nat_le, slice_get};
 ghost use Rattle.rlsf_base.specs.Sizes.{pool_size_for_objects};
 ghost use Rattle.rlsf_partitions.specs.Partitions.{ArePossible, HasAt, IsFullAt, IsGivenBackAt, IsKept, IsOf, IsPlaced, IsPossible, IsTakenAt};
 ghost use Rattle.rlsf_partitions.specs.Partitions.{fresh, partition_for, partitions_view, quota_of, vacant, with_one_less, with_one_more};
@@ -77,6 +77,7 @@ impl Partitions {
         ensures room { IsNone result ↔ (vacant self.old.quotas size ≡ 0) }
         ensures refused { IfNone result (self.new ≡ self.old) }
         ensures heaps { self.new.heaps ≡ self.old.heaps }
+        ensures sizes { partition_for self.new.quotas ≡ partition_for self.old.quotas }
         ensures touches { self.new.touches ≤ self.old.touches + 27 }
     {
         take_for(&mut self.partitions, size)
@@ -91,7 +92,9 @@ impl Partitions {
         requires { IsOf self.old.heaps payload.pool payload.payload }
         ensures freed { self.new.quotas ≡ with_one_less payload.pool self.old.quotas }
         ensures before { self.old.quotas ≡ with_one_more payload.pool self.new.quotas }
+        ensures room { (size : ℕ) → partition_for self.old.quotas size ≡ Some payload.pool → vacant self.new.quotas size ≡ vacant self.old.quotas size + 1 }
         ensures heaps { self.new.heaps ≡ self.old.heaps }
+        ensures sizes { partition_for self.new.quotas ≡ partition_for self.old.quotas }
         ensures touches { self.new.touches ≤ self.old.touches + 32 }
     {
         let PartitionPayload { payload, pool } = payload;
@@ -195,6 +198,8 @@ fn give_back(partitions: &mut Vec<Partition>, pool: usize, payload: Payload)
     requires { IsOf (map (λ p. p.identity) partitions.old.items) pool payload }
     ensures freed { map quota_of partitions.new.items ≡ with_one_less pool (map quota_of partitions.old.items) }
     ensures before { map quota_of partitions.old.items ≡ with_one_more pool (map quota_of partitions.new.items) }
+    ensures room { (size : ℕ) → partition_for (map quota_of partitions.old.items) size ≡ Some pool
+        → vacant (map quota_of partitions.new.items) size ≡ vacant (map quota_of partitions.old.items) size + 1 }
     ensures kept { IsKept (partitions_view partitions.old.items) (partitions_view partitions.new.items) 32 }
 {
     give_back_at(partitions, pool, payload);
