@@ -1,5 +1,8 @@
 //! 1,000 messages and four frames, each kind in a pool for its size. No allocation is refused, so each is unwrapped.
 
+ghost use Rattle.std.specs.Prelude.{◌≡◌, IfSome};
+ghost use Rattle.rlsf_heaps.specs.Words.{vacant};
+
 use rlsf_heaps::{PartitionPayload, Partitions};
 use std::alloc::Global;
 use std::io;
@@ -88,9 +91,29 @@ fn all(alloc: Global) -> Option<[usize; 4]> {
     Some(received.counts())
 }
 
+/// Writes a message, reads it and frees it. Returns its last byte.
+fn served(pools: &mut Partitions) -> Option<u8>
+    ensures byte { IfSome result (λ byte. byte ≡ 7) }
+    ensures room { vacant pools.new.quotas 64 ≡ vacant pools.old.quotas 64 }
+{
+    let mut message = pools.allocate(MESSAGES.1)?;
+    message.payload.fill(0);
+    message.payload.as_mut_slice().fill(7);
+    let byte = message.payload.as_slice()[63];
+    pools.deallocate(message);
+    Some(byte)
+}
+
+/// Serves a message in new pools.
+fn served_once(alloc: Global) -> Option<u8> {
+    let mut pools = Partitions::new(alloc, &[MESSAGES, FRAMES]).ok()?;
+    served(&mut pools)
+}
+
 pub(crate) fn main(rt: HostRuntime) -> io::Result<()> {
     println!(rt;
         "messages, frames, and room for more of each: {:?}",
         all(rt.alloc())
-    )
+    )?;
+    println!(rt; "a message that was freed: {:?}", served_once(rt.alloc()))
 }

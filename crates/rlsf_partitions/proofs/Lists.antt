@@ -236,6 +236,7 @@ module _ {ps ns : List PartitionView} {place : ℕ} {p : PayloadView} (t : IsTak
     pub taken_placed : IsPlaced (partitions_view ps) (partitions_view ns) size place p
     taken_placed = record {
       first = told;
+      still = ap (λ l. partition_for l size) taken_quotas ∙ more_places place qs size ∙ told;
       owner = taken_owner;
       quotas = taken_quotas ∙ more_for qs size place told;
       less = taken_less;

@@ -102,6 +102,8 @@ pub record IsTaken (before after : PartitionView) (p : PayloadView) : Type 0 whe
 pub record IsPlaced (before after : PartitionsView) (size pool : ℕ) (p : PayloadView) : Type 0 where
   -- in the first one whose greatest size reaches it
   pub first : partition_for before.quotas size ≡ Some pool
+  -- which it still leads to
+  pub still : partition_for after.quotas size ≡ Some pool
   -- it is of that pool
   pub owner : IsOf before.heaps pool p
   -- one more of that pool's payloads is live
