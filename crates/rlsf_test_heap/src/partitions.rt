@@ -1,4 +1,4 @@
-//! Pools by size: which pool a payload comes from, when one is refused, and what a deallocation gives back.
+//! Pools by size: which pool a payload comes from, when one is refused, and what a deallocation makes room for.
 
 use crate::answers::{all, are};
 use rlsf_partitions::{PartitionPayload, Partitions};
