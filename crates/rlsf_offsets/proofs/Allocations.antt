@@ -1,5 +1,5 @@
 -- A range of units is allocated.
-use Rattle.std.proofs.Common.{◌≡◌, ◌≢◌, ◌⊎◌, ℕ, ◌+◌, ◌-◌, ◌*◌, ◌/◌, ◌%◌, ◌^◌, ◌<◌, ◌≤◌, Option, Some, None, arith, inl, inr, refl, sym, ◌∙◌, ap, subst}
+use Rattle.std.proofs.Common.{◌≡◌, ◌≢◌, ◌⊎◌, ℕ, ◌+◌, ◌-◌, ◌*◌, ◌/◌, ◌%◌, ◌^◌, ◌<◌, ◌≤◌, length, Option, Some, None, arith, inl, inr, refl, sym, ◌∙◌, ap, subst}
 use Rattle.std.proofs.lemmas.Bool.{cases_lt}
 use Rattle.std.proofs.lemmas.Nat.{pow-add}
 use Rattle.std.proofs.Math.Nat.{div-add-mod', mul-mod_right, mul-sub}
@@ -27,7 +27,7 @@ use Rattle.rlsf_offsets.specs.Units.{AreWhole, IsFull, IsSizedForUnits, Succeeds
 use Rattle.rlsf_model.specs.Sized.{IsSizedFor}
 use Rattle.rlsf_model.proofs.SizedWords.{never_refused}
 use Rattle.rlsf_tlsf.specs.Bounds.{IfWithinBounds, KeepsBounds}
-use Rattle.rlsf_offsets.proofs.Ranges.{IsSpace-shadow, align_of-live, align_of-same, seated, units_at-live, units_at-none, units_at-same}
+use Rattle.rlsf_offsets.proofs.Ranges.{IsSpace-shadow, align_of-live, align_of-same, chunk_end, seated, units_at-live, units_at-none, units_at-same}
 
 pub IsLayout-units : (n align : ℕ) → IsPowerOfTwo align → align ≤ 2 ^ 56 → n ≤ 2 ^ 56 → IsLayout (32 * (n - 1)) (32 * align)
 IsLayout-units n align power low few =
@@ -84,9 +84,9 @@ IsFull-longer {units} {a} is m more f i reaches =
     let from = home.from in
     let to = home.to in
     let start = is.start in
-    let len = is.len in
+    let ends = chunk_end is home.chunk home.is_chunk in
     let long = Reaches-class_of 8 f.len whole.some (32 * m) (omega arith) reaches in
-    omega (arith, chunk.lies_in.0, chunk.lies_in.1)
+    omega (arith, chunk.lies_in.0)
 
 -- each free range has fewer units than those that are sought and an eighth of them
 abbrev pub IsAllShort : Offsets → ℕ → Type 0
@@ -131,8 +131,8 @@ module _ {units : ℕ} {a b : Allocator} (is : IsShadow units a) (after : IsShad
       let steps : offset ≡ align * (q - r) = omega (arith, is_place.0, is_place.1, mul-sub align q r) in
       subst (λ m. m % align ≡ 0) (sym steps) (mul-mod_right align (q - r))
 
-  pub IsReserved-allocated : IsReserved (offsets units a) (offsets units b) n align offset
-  IsReserved-allocated =
+  pub IsReserved-allocated : length b.memory.bytes ≡ length a.memory.bytes → IsReserved (offsets units a) (offsets units b) n align offset
+  IsReserved-allocated long =
       let here = subst (IsAllocated a.state b.state size wide) is_place.1 made in
       let sized = here.sized in
       let few = here.few in
@@ -154,6 +154,7 @@ module _ {units : ℕ} {a b : Allocator} (is : IsShadow units a) (after : IsShad
             let apart : place o ≢ place offset = λ e. other (omega (arith, e)) in
             (others o other, align_of-same (offsets units a) (offsets units b) o (here.aligns (place o) apart));
         space = refl;
+        limit = ap (λ k. k / 32 - 1) long;
       }
 
   pub is_high : 2 ^ 62 ≤ addr

@@ -19,6 +19,7 @@ use Rattle.rlsf_offsets.specs.declared.stats.Stats.{Stats}
 use Rattle.rlsf_offsets.specs.Iteration.{AreInSpace, IsInSpace}
 use Rattle.rlsf_offsets.specs.Blocks.{AreAllBlocks, AreStats, AreTotals, AreWithin}
 use Rattle.rlsf_offsets.specs.Units.{IsShadow, Offsets, offsets, whole_shadow}
+use Rattle.rlsf_offsets.proofs.Ranges.{chunk_end}
 
 -- ---- where blocks lie
 
@@ -39,8 +40,8 @@ module _ {units : ℕ} {a : Allocator} (is : IsShadow units a) where
       let from = home.from in
       let to = home.to in
       let start = is.start in
-      let len = is.len in
-      subst (LiesInShadow units) (sym e) (record { from = omega (arith, inside.0); to = omega (arith, inside.1); some = more; even = has.whole.len })
+      let ends = chunk_end is home.chunk home.is_chunk in
+      subst (LiesInShadow units) (sym e) (record { from = omega (arith, inside.0); to = omega (arith, ends); some = more; even = has.whole.len })
   lies b (free i k) =
       let w = is.stands.well_formed in
       let f = w.free b.range i in
@@ -50,8 +51,8 @@ module _ {units : ℕ} {a : Allocator} (is : IsShadow units a) where
       let from = home.from in
       let to = home.to in
       let start = is.start in
-      let len = is.len in
-      record { from = omega (arith, inside.0); to = omega (arith, inside.1); some = more; even = f.whole.len }
+      let ends = chunk_end is home.chunk home.is_chunk in
+      record { from = omega (arith, inside.0); to = omega (arith, ends); some = more; even = f.whole.len }
 
   -- each address that a unit has is in a block
   block_with : (z : ℕ) → 2 ^ 62 - 32 ≤ z → z < 2 ^ 62 - 32 + 32 * units → (b : Block) × HasBlock a.state b × (b.range.start ≤ z) × (z < end_of b.range)

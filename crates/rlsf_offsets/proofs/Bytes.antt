@@ -5,12 +5,13 @@ use Rattle.std.proofs.lemmas.Nat.{pow-add}
 use Rattle.std.proofs.lemmas.Option.{none-some}
 use Rattle.std.proofs.Math.Nat.{div-add-mod', div-eq_of_lt-le, mod-lt, mul_assoc, mul-div_left, mul-le-mul_right, mul-mod_right}
 use Rattle.std.specs.Option.{option_map}
+use Rattle.std.specs.Prelude.{IfNone}
 use Rattle.rlsf_base.specs.PowerOfTwo.{IsPowerOfTwo, floor_log2}
 use Rattle.rlsf_base.proofs.Numbers.PowersOfTwo.{IsPowerOfTwo-pow, IsPowerOfTwo-positive}
 use Rattle.rlsf_model.specs.Callers.{align_at, bytes_at}
 use Rattle.rlsf_model.specs.State.{State}
-use Rattle.rlsf_offsets.specs.Units.{IsEmpty, IsReleased, IsReserved, IsResized, IsSpace, IsUnchanged, Offsets, place, units_at}
-use Rattle.rlsf_offsets.specs.Offsets.{IsAllocated, IsDeallocated, IsDivided, IsReallocated, at_multiple, len_at, rounded, units_for}
+use Rattle.rlsf_offsets.specs.Units.{IsEmpty, IsLonger, IsReleased, IsReserved, IsResized, IsSpace, IsUnchanged, Offsets, place, units_at}
+use Rattle.rlsf_offsets.specs.Offsets.{IsAllocated, IsDeallocated, IsDivided, IsGrown, IsReallocated, IsRefused, at_multiple, len_at, rounded, units_for}
 use Rattle.rlsf_offsets.proofs.Ranges.{units_at-same}
 
 -- ---- where live ranges are
@@ -289,3 +290,42 @@ pub still_live : (unit : ℕ) (v x : Offsets) (len o : ℕ) (result : Bool) → 
     → (p : ℕ) → IsSome (len_at unit v p) → IsSome (len_at unit x p)
 still_live unit v x len o true made none p live = (made refl).stay p live
 still_live unit v x len o false made none p live = subst IsSome (sym (len_at-unchanged unit v x (none refl) p)) live
+
+-- a call that is refused changes no range
+pub IsRefused-unchanged : (unit : ℕ) (v x : Offsets) → IsUnchanged v x → IsRefused unit v x
+IsRefused-unchanged unit v x is = record {
+  others = len_at-unchanged unit v x is;
+  stay = λ p live. subst IsSome (sym (len_at-unchanged unit v x is p)) live;
+  unchanged = is;
+}
+
+pub unless : {P : Type 0} (o : Option ℕ) → P → IfNone o P
+unless None p = p
+unless (Some n) p = tt
+
+-- ---- a longer space
+
+pub IsGrown-units : (unit : ℕ) (v x : Offsets) (len : ℕ) → IsLonger v x (len / unit) → IsGrown unit v x len
+unfolding len_at
+IsGrown-units unit v x len made = record {
+  space = made.space;
+  others = λ o. ap (λ (u : Option ℕ). at_multiple (o % unit) (option_map (λ (n : ℕ). n * unit) u)) (made.same (o / unit)).0;
+  units = made;
+}
+
+module _ (unit : ℕ) (v x : Offsets) (len : ℕ) where
+  -- a space that grows, or is refused to, keeps each live range
+  pub grown_live : (result : Bool) → (result ≡ true → IsLonger v x (len / unit)) → (result ≡ false → IsUnchanged v x)
+      → (p : ℕ) → IsSome (len_at unit v p) → IsSome (len_at unit x p)
+  grown_live true made none p live = subst IsSome (sym ((IsGrown-units unit v x len (made refl)).others p)) live
+  grown_live false made none p live = (IsRefused-unchanged unit v x (none refl)).stay p live
+
+  -- and its length fits in a word
+  pub grown_fits : (result : Bool) → (result ≡ true → IsLonger v x (len / unit)) → (result ≡ false → IsUnchanged v x)
+      → v.units * unit < 2 ^ 64 → len < 2 ^ 64 → x.units * unit < 2 ^ 64
+  grown_fits true made none old fits =
+      let same : x.units * unit ≡ len / unit * unit = ap (λ (n : ℕ). n * unit) (made refl).space in
+      omega (arith, same, div-add-mod' len unit, fits)
+  grown_fits false made none old fits =
+      let same : x.units * unit ≡ v.units * unit = ap (λ (n : ℕ). n * unit) (none refl).space in
+      omega (arith, same, old)

@@ -10,7 +10,6 @@ use Rattle.rlsf_model.specs.Sized.{live_count}
 use Rattle.rlsf_model.specs.State.{State, Used}
 use Rattle.rlsf_model.specs.Insert.{Inserts, aligned_part, cut, with_chunks}
 use Rattle.rlsf_base.specs.Sizes.{max_pool_size}
-use Rattle.rlsf_model.specs.State.{empty}
 use Rattle.rlsf_model.proofs.CallerWords.{align_at-none}
 use Rattle.rlsf_model.proofs.Callers.{payload_at-none}
 use Rattle.rlsf_model.proofs.Live.{deallocation_leaves_others}
@@ -24,9 +23,9 @@ use Rattle.rlsf_offsets.proofs.Ranges.{align_of-none, align_of-same, units_at-no
 pub AreWhole-deallocated : (s t : State) (addr : ℕ) → Deallocates s addr t → AreWhole s → AreWhole t
 AreWhole-deallocated s t addr step whole u i = whole u (((deallocation_leaves_others s t addr step).1 u).0 i).0
 
-pub IsReleased-deallocated : {units : ℕ} {a b : Allocator} (o addr : ℕ) → addr ≡ place o → IsDeallocated a.state b.state addr
-    → IsReleased (offsets units a) (offsets units b) o
-IsReleased-deallocated {units} {a} {b} o addr at gone =
+pub IsReleased-deallocated : {units : ℕ} {a b : Allocator} (o addr : ℕ) → addr ≡ place o → length b.memory.bytes ≡ length a.memory.bytes
+    → IsDeallocated a.state b.state addr → IsReleased (offsets units a) (offsets units b) o
+IsReleased-deallocated {units} {a} {b} o addr at long gone =
     let here = subst (IsDeallocated a.state b.state) at gone in
     record {
       gone = (units_at-none (offsets units b) o here.gone, align_of-none (offsets units b) o here.gone);
@@ -36,6 +35,7 @@ IsReleased-deallocated {units} {a} {b} o addr at gone =
             align_of-same (offsets units a) (offsets units b) p (here.aligns (place p) apart),
           );
       space = refl;
+      limit = ap (λ k. k / 32 - 1) long;
     }
 
 -- ---- the beginning
@@ -52,16 +52,25 @@ pub nothing_at : (s : State) → live_count s ≡ 0 → (a : ℕ) → align_at s
 unfolding live_count
 nothing_at s none a = align_at-none s a (payload_at-none s a (λ u held. nothing s.used u none held.0))
 
--- all of the shadow becomes one chunk
-pub shadow_chunk : (units : ℕ) (r : Range) (t : State) (reply : Option ℕ) → r ≡ whole_shadow units → Inserts 59 empty r reply t → 0 < units
-    → t.chunks ≡ whole_shadow units ∷ []
-shadow_chunk units r t reply e step some =
-    let w = whole_shadow units in
-    let len : (end_of w - w.start) / 32 * 32 ≡ w.len = omega arith in
-    let part : aligned_part w ≡ w = λ i. record { start = 2 ^ 62 - 32; len = len i } in
-    let one : cut (max_pool_size 59) w ≡ w ∷ [] = ap (λ b. cond b (w ∷ []) []) (le-leb 64 w.len (omega arith)) in
-    let pieces : cut (max_pool_size 59) (aligned_part r) ≡ w ∷ [] = ap (λ x. cut (max_pool_size 59) (aligned_part x)) e ∙ ap (cut (max_pool_size 59)) part ∙ one in
-    ap (λ (x : State). x.chunks) step.after ∙ ap (λ cs. (with_chunks cs empty).chunks) pieces
+-- without a chunk, the shadow of some units becomes one
+module _ (units : ℕ) (r : Range) (s t : State) (reply : Option ℕ) (e : r ≡ whole_shadow units) (none : s.chunks ≡ []) (step : Inserts 59 s r reply t) where
+  made : t.chunks ≡ (with_chunks (cut (max_pool_size 59) (whole_shadow units)) s).chunks
+  made =
+      let w = whole_shadow units in
+      let len : (end_of w - w.start) / 32 * 32 ≡ w.len = omega arith in
+      let part : aligned_part w ≡ w = λ i. record { start = 2 ^ 62 - 32; len = len i } in
+      ap (λ (x : State). x.chunks) step.after ∙ ap (λ x. (with_chunks (cut (max_pool_size 59) (aligned_part x)) s).chunks) e
+      ∙ ap (λ x. (with_chunks (cut (max_pool_size 59) x) s).chunks) part
+
+  pub shadow_chunk : 0 < units → t.chunks ≡ whole_shadow units ∷ []
+  shadow_chunk some =
+      let w = whole_shadow units in
+      let one : cut (max_pool_size 59) w ≡ w ∷ [] = ap (λ b. cond b (w ∷ []) []) (le-leb 64 w.len (omega arith)) in
+      made ∙ ap (λ cs. (with_chunks cs s).chunks) one ∙ ap (λ cs. w ∷ cs) none
+
+  -- no unit makes none
+  pub no_chunk : units ≡ 0 → t.chunks ≡ []
+  no_chunk zero = made ∙ ap (λ n. (with_chunks (cut (max_pool_size 59) (whole_shadow n)) s).chunks) zero ∙ none
 
 pub sized-freed : (v x : Offsets) → KeepsAllBounds 8 v.shadow.state x.shadow.state → KeepsSized v x
 unfolding KeepsSized

@@ -1,5 +1,5 @@
 -- The fields of an allocator of units: a core, whose memory's bytes are its own.
-use Rattle.std.proofs.Common.{◌≡◌, ℕ, ◌+◌, ◌-◌, ◌*◌, ◌^◌, ◌<◌, ◌≤◌, [], length, lit<, Option, None, IsSome, arith, refl, sym, ◌∙◌, ap, subst}
+use Rattle.std.proofs.Common.{◌≡◌, ℕ, ◌+◌, ◌-◌, ◌*◌, ◌^◌, ◌<◌, ◌≤◌, [], ◌∷◌, length, lit<, Option, None, IsSome, arith, refl, sym, ◌∙◌, ap, subst}
 use Rattle.rlsf_base.specs.declared.memory.range.Range.{Range}
 use Rattle.rlsf_base.specs.Space.{range_of}
 use Rattle.rlsf_model.specs.Callers.{align_at, bytes_at}
@@ -30,7 +30,7 @@ use Rattle.rlsf_blocks.specs.StandsFor.{StandsFor}
 use Rattle.rlsf_model.specs.Insert.{IsFresh}
 use Rattle.rlsf_model.proofs.SizedWords.{live_count-empty}
 use Rattle.rlsf_table.specs.Table.{HasTable}
-use Rattle.rlsf_offsets.proofs.Frees.{AreWhole-none, shadow_chunk}
+use Rattle.rlsf_offsets.proofs.Frees.{AreWhole-none, no_chunk, shadow_chunk}
 
 is_valid : IsValid 128 128 59 8
 is_valid = record { some_rows = lit< tt; rows_fit = omega arith; power_of_two = refl; classes_fit = omega arith }
@@ -38,25 +38,36 @@ is_valid = record { some_rows = lit< tt; rows_fit = omega arith; power_of_two = 
 pub IsCore-kept : {units : ℕ} {m : Space} {t : Table} {s : State} → IsKept units m t s → IsCore 59 8 m t s
 IsCore-kept is = record { valid = is_valid; stands = is.shadow.stands; is_bare = is.is_bare }
 
--- after a call on the core that keeps the chunks, the memory is the shadow of the same space
-pub IsKept-left : {units : ℕ} {m n : Space} {t y : Table} {j k : State} {most : ℕ} → IsKept units m t j → LeavesCore 59 8 m n y j k most
-    → (read_from n k).chunks ≡ (read_from m j).chunks → AreWhole (read_from n k) → IsKept units n y k
-IsKept-left {m = m} {n = n} is left chunks whole =
+-- after a call on the core that leaves one chunk of the shadow of some units, the memory is that shadow
+pub IsKept-longer : {from to : ℕ} {m n : Space} {t y : Table} {j k : State} {most : ℕ} → IsKept from m t j → LeavesCore 59 8 m n y j k most
+    → 32 * to + 32 ≤ length m.bytes → AreWhole (read_from n k) → (0 < to → (read_from n k).chunks ≡ whole_shadow to ∷ [])
+    → (to ≡ 0 → (read_from n k).chunks ≡ []) → IsKept to n y k
+IsKept-longer {m = m} {n = n} is left long whole chunks none =
     let shadow = is.shadow in
     let start = left.costs.start in
     let len = left.costs.length in
+    let most = shadow.most in
     record {
       shadow = record {
         stands = left.core.stands;
         own = λ a from to. left.own a (omega (arith, from, start)) ∙ shadow.own a (omega (arith, from, start)) (omega (arith, to, start, len));
         start = start ∙ shadow.start;
-        len = len ∙ shadow.len;
-        few = shadow.few;
+        len = omega (arith, len, long);
+        few = omega (arith, most, long);
+        most = omega (arith, len, most);
         whole = whole;
-        chunks = λ some. chunks ∙ shadow.chunks some;
+        chunks = chunks;
+        none = none;
       };
       is_bare = left.core.is_bare;
     }
+
+-- so after one that keeps the chunks, it is the shadow of the same space
+pub IsKept-left : {units : ℕ} {m n : Space} {t y : Table} {j k : State} {most : ℕ} → IsKept units m t j → LeavesCore 59 8 m n y j k most
+    → (read_from n k).chunks ≡ (read_from m j).chunks → AreWhole (read_from n k) → IsKept units n y k
+IsKept-left is left chunks whole =
+    let shadow = is.shadow in
+    IsKept-longer is left shadow.len whole (λ some. chunks ∙ shadow.chunks some) (λ zero. chunks ∙ shadow.none zero)
 
 -- each byte of a payload is the memory's own
 pub own_payload : {units : ℕ} {a : Allocator} → IsShadow units a → (u : Used) → IsIn u a.state.used → IsOwned a.memory (usable u)
@@ -105,25 +116,31 @@ module _ {m : Space} {t : Table} (bounds : (0 < m.start) × (m.start + length m.
     is_bare = ap bare none ∙ sym none;
   }
 
-  pub IsFresh-new : (r : Range) → m.start ≡ r.start → r.len ≡ length m.bytes → IsFresh (range_of m) (read_from m s) r
+  pub IsFresh-new : (r : Range) → m.start ≡ r.start → r.len ≤ length m.bytes → IsFresh (range_of m) (read_from m s) r
   IsFresh-new r start len =
       subst (λ (x : State). IsFresh (range_of m) x r) (sym read) (record { lies_in = (omega (arith, start), omega (arith, start, len)); apart = λ a from to. refl })
 
   pub none_live-new : live_count (read_from m s) ≡ 0
   none_live-new = ap live_count read ∙ live_count-empty
 
-  pub IsKept-new : (units : ℕ) → units ≤ 2 ^ 56 → m.start ≡ 2 ^ 62 - 32 → length m.bytes ≡ 32 * units + 32 → {n : Space} {y : Table} {k : State} {most : ℕ}
-      → LeavesCore 59 8 m n y s k most → (r : Range) → r ≡ whole_shadow units → (reply : Option ℕ) → Inserts 59 (read_from m s) r reply (read_from n k)
-      → live_count (read_from n k) ≡ 0 → IsKept units n y k
-  IsKept-new units few start len {n} {y} {k} left r same reply step count = record {
-    shadow = record {
-      stands = left.core.stands;
-      own = λ a from to. left.own a (omega (arith, from, left.costs.start)) ∙ own (a - m.start);
-      start = left.costs.start ∙ start;
-      len = left.costs.length ∙ len;
-      few = few;
-      whole = AreWhole-none (read_from n k) count;
-      chunks = λ some. shadow_chunk units r (read_from n k) reply same (subst (λ x. Inserts 59 x r reply (read_from n k)) read step) some;
-    };
-    is_bare = left.core.is_bare;
-  }
+  pub IsKept-new : (units most : ℕ) → units ≤ most → most ≤ 2 ^ 56 → m.start ≡ 2 ^ 62 - 32 → length m.bytes ≡ 32 * most + 32
+      → {n : Space} {y : Table} {k : State} {cost : ℕ} → LeavesCore 59 8 m n y s k cost → (r : Range) → r ≡ whole_shadow units → (reply : Option ℕ)
+      → Inserts 59 (read_from m s) r reply (read_from n k) → live_count (read_from n k) ≡ 0 → IsKept units n y k
+  IsKept-new units most fits few start len {n} {y} {k} left r same reply step count =
+      let chunks = shadow_chunk units r (read_from m s) (read_from n k) reply same (ap (λ (x : State). x.chunks) read) step in
+      let none = no_chunk units r (read_from m s) (read_from n k) reply same (ap (λ (x : State). x.chunks) read) step in
+      let long = left.costs.length in
+      record {
+        shadow = record {
+          stands = left.core.stands;
+          own = λ a from to. left.own a (omega (arith, from, left.costs.start)) ∙ own (a - m.start);
+          start = left.costs.start ∙ start;
+          len = omega (arith, long, len, fits);
+          few = omega (arith, fits, few);
+          most = omega (arith, long, len, few);
+          whole = AreWhole-none (read_from n k) count;
+          chunks = chunks;
+          none = none;
+        };
+        is_bare = left.core.is_bare;
+      }

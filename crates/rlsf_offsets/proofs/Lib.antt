@@ -5,5 +5,6 @@ mod Frees
 mod Resizes
 mod Rooms
 mod Kept
+mod Growths
 mod Bytes
 mod Blocks

@@ -1,5 +1,5 @@
 -- Where live ranges of units lie, and what callers see of them.
-use Rattle.std.proofs.Common.{◌≡◌, ℕ, ◌+◌, ◌-◌, ◌/◌, ◌%◌, ◌<◌, ◌≤◌, List, length, Option, Some, None, IsSome, true≢false, arith, inl, inr, refl, sym, ◌∙◌, ap, subst}
+use Rattle.std.proofs.Common.{◌≡◌, ℕ, ◌+◌, ◌-◌, ◌*◌, ◌/◌, ◌%◌, ◌^◌, ◌<◌, ◌≤◌, List, length, Option, Some, None, IsSome, true≢false, arith, inl, inr, refl, sym, ◌∙◌, ap, subst}
 use Rattle.std.proofs.lemmas.Bool.{cases_lt}
 use Rattle.std.proofs.lemmas.Option.{none-some}
 use Rattle.std.specs.Option.{option_map}
@@ -14,7 +14,7 @@ use Rattle.rlsf_model.proofs.Coverage.{covers-inside, coverage-unique}
 use Rattle.rlsf_model.proofs.Payloads.{IsUsed-after_start, IsUsed-some}
 use Rattle.rlsf_model.proofs.Tiling.{block_of, tiling_of, used-le, lies_in_chunk, IsPart-used}
 use Rattle.rlsf_tlsf.specs.Allocator.{Allocator}
-use Rattle.rlsf_offsets.specs.Units.{AreWhole, align_of, IsShadow, IsSpace, Offsets, offsets, place, units_at}
+use Rattle.rlsf_offsets.specs.Units.{AreWhole, align_of, IsShadow, IsSpace, Offsets, offsets, place, units_at, whole_shadow}
 
 module _ {fllen sllen : ℕ} {memory : Range} {s : State} (w : IsWellFormed fllen sllen memory s) (whole : AreWhole s) where
   -- where the block of a used block lies
@@ -22,7 +22,9 @@ module _ {fllen sllen : ℕ} {memory : Range} {s : State} (w : IsWellFormed flle
     pub payload : u.payload % 32 ≡ 0
     pub front : u.block.start + 32 ≤ u.payload
     pub low : memory.start ≤ u.block.start
-    pub high : end_of u.block + 32 ≤ end_of memory
+    pub chunk : Range
+    pub is_chunk : IsIn chunk s.chunks
+    pub high : end_of u.block + 32 ≤ end_of chunk
     pub len : length u.bytes + u.payload ≡ end_of u.block
     pub whole_len : length u.bytes % 32 ≡ 0
 
@@ -44,7 +46,9 @@ module _ {fllen sllen : ℕ} {memory : Range} {s : State} (w : IsWellFormed flle
         payload = even;
         front = omega arith;
         low = omega (arith, lies.0);
-        high = omega (arith, lies.1);
+        chunk = home.chunk;
+        is_chunk = home.is_chunk;
+        high = omega arith;
         len = omega arith;
         whole_len = omega arith;
       }
@@ -69,6 +73,16 @@ module _ {fllen sllen : ℕ} {memory : Range} {s : State} (w : IsWellFormed flle
             absurd (omega (arith, ap (λ (x : Used). x.payload) same))
         | inr fits ↦ fits
       ]
+
+-- the one chunk is the shadow of the units of the space
+pub chunk_is : {units : ℕ} {a : Allocator} → IsShadow units a → (c : Range) → IsIn c a.state.chunks → c ≡ whole_shadow units
+chunk_is {units} {a} is c i = elim (cases_lt 0 units) [
+  | inl some ↦ elim (subst (IsIn c) (is.chunks some) i) [ inl same ↦ same | inr more ↦ absurd more ]
+  | inr none ↦ absurd (subst (IsIn c) (is.none (omega arith)) i)
+]
+
+pub chunk_end : {units : ℕ} {a : Allocator} → IsShadow units a → (c : Range) → IsIn c a.state.chunks → end_of c ≡ 2 ^ 62 + 32 * units
+chunk_end {units} is c i = omega (arith, ap (λ (r : Range). end_of r) (chunk_is is c i))
 
 -- a live range is a used block
 pub record IsPiece (s : State) (offset units : ℕ) : Type 0 where
@@ -95,11 +109,11 @@ IsSpace-shadow {units} {a} is =
     let w = is.stands.well_formed in
     let v = offsets units a in
     let start = is.start in
-    let len = is.len in
     record {
       inside = λ o n told.
           let p = piece_of v w o n told in
           let b = seated w is.whole p.block p.is_in in
+          let ends = chunk_end is b.chunk b.is_chunk in
           let at = p.at in
           let count = p.len in
           let low = b.low in

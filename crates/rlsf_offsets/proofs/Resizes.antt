@@ -21,7 +21,7 @@ use Rattle.rlsf_tlsf.specs.Allocator.{Allocator}
 use Rattle.rlsf_tlsf.specs.CoreResizes.{KeepsBoundsThere, KeepsPayloads, stayed_if}
 use Rattle.rlsf_tlsf.specs.Results as results
 use Rattle.rlsf_offsets.specs.Units.{AreWhole, HasRoomInPlace, IsFreeRange, IsResized, IsShadow, KeepsSizedThere, Offsets, align_of, offsets, place, units_at}
-use Rattle.rlsf_offsets.proofs.Ranges.{IsSpace-shadow, align_of-live, align_of-same, seated, units_at-live, units_at-same}
+use Rattle.rlsf_offsets.proofs.Ranges.{IsSpace-shadow, align_of-live, align_of-same, chunk_end, seated, units_at-live, units_at-same}
 
 -- payloads that stay where they are lie at multiples of 32
 pub AreWhole-kept : {fllen sllen : ℕ} {memory : Range} (s t : State) → IsWellFormed fllen sllen memory t → align_at t ≡ align_at s → AreWhole s → AreWhole t
@@ -157,19 +157,18 @@ no_room_longer {units} {a} is first n long r =
           let f = range_at (2 ^ 62 - 32 + 32 * (first + r.now)) (32 * m) in
           let some = (w.free f free).some in
           let home = lies_in_chunk a.state (tiling_of w) f some (IsPart-free a.state (tiling_of w) f free) in
-          let chunk = w.chunks home.chunk home.is_chunk in
           let to = home.to in
-          let start = is.start in
-          let len = is.len in
-          omega (arith, chunk.lies_in.1, enough, long, inside.1)
+          let ends = chunk_end is home.chunk home.is_chunk in
+          omega (arith, ends, enough, long, inside.1)
     ]
 
 -- ---- what was resized
 
 module _ {units : ℕ} {a b : Allocator} (is : IsShadow units a) (first n size addr : ℕ) (at : addr ≡ place first) (es : size ≡ 32 * (n - 1)) (some : 0 < n)
     (live : IsSome (align_at a.state (place first))) (kept : KeepsPayloads a.state b.state addr) where
-  pub IsResized-units : IsShadow units b → results.IsResized a.state b.state addr size addr → IsResized (offsets units a) (offsets units b) n first
-  IsResized-units after made =
+  pub IsResized-units : IsShadow units b → length b.memory.bytes ≡ length a.memory.bytes → results.IsResized a.state b.state addr size addr
+      → IsResized (offsets units a) (offsets units b) n first
+  IsResized-units after long made =
       let v = offsets units a in
       let x = offsets units b in
       let (u, held) = align_at-some a.state (place first) live in
@@ -189,6 +188,7 @@ module _ {units : ℕ} {a b : Allocator} (is : IsShadow units a) (first n size a
         has_align = align_of-same v x first (aligns first);
         others = λ o other. (others o other, align_of-same v x o (aligns o));
         space = refl;
+        limit = ap (λ k. k / 32 - 1) long;
       }
 
 module _ {units : ℕ} {a : Allocator} (is : IsShadow units a) (first n size addr : ℕ) (at : addr ≡ place first) (es : size ≡ 32 * (n - 1))

@@ -1,7 +1,7 @@
 -- An allocator of offsets as its callers see it: where live ranges begin, and how many bytes they have.
 use Rattle.std.specs.Prelude.{◌≡◌, ◌≢◌, ℕ, zero, suc, ◌+◌, ◌-◌, ◌*◌, ◌/◌, ◌%◌, ◌<◌, ◌≤◌, Option, Some, None, IsSome}
 use Rattle.std.specs.Option.{option_map}
-use Rattle.rlsf_offsets.specs.Units.{ArePiecesApart, HasRoomInPlace, IsFull, IsReleased, IsReserved, IsResized, Offsets, SucceedsWithin, units_at}
+use Rattle.rlsf_offsets.specs.Units.{ArePiecesApart, HasRoomInPlace, IsFull, IsLonger, IsReleased, IsReserved, IsResized, IsUnchanged, Offsets, SucceedsWithin, units_at}
 
 -- how many units so many bytes take: the fewest that have them, and at least one
 abbrev pub units_for : ℕ → ℕ → ℕ
@@ -88,6 +88,24 @@ pub record IsReallocated (unit : ℕ) (before after : Offsets) (len offset : ℕ
   pub space : after.units ≡ before.units
   -- the same in units
   pub units : IsResized before after (units_for unit len) (offset / unit)
+
+-- the space has so many bytes now, without those behind its last complete unit
+pub record IsGrown (unit : ℕ) (before after : Offsets) (len : ℕ) : Type 0 where
+  -- it has its units
+  pub space : after.units ≡ len / unit
+  -- all ranges are as they were
+  pub others : (o : ℕ) → len_at unit after o ≡ len_at unit before o
+  -- the same in units; all that are new are free
+  pub units : IsLonger before after (len / unit)
+
+-- a refused call changes no range
+pub record IsRefused (unit : ℕ) (before after : Offsets) : Type 0 where
+  -- all ranges are as they were
+  pub others : (o : ℕ) → len_at unit after o ≡ len_at unit before o
+  -- those that were live are live
+  pub stay : (o : ℕ) → IsSome (len_at unit before o) → IsSome (len_at unit after o)
+  -- nothing else changes but the number of word accesses
+  pub unchanged : IsUnchanged before after
 
 -- the live range at an offset can be for so many bytes in place: it has them, or a free range that begins at its end has the rest
 abbrev pub HasRoomFor : ℕ → Offsets → ℕ → ℕ → Type 0

@@ -25,6 +25,10 @@ pub record Offsets : Type 0 where
 abbrev pub offsets : ℕ → Allocator → Offsets
 offsets n a = record { units = n; shadow = a }
 
+-- the most units that the space can have: its shadow has 32 bytes for each, and 32 more
+abbrev pub limit_of : Offsets → ℕ
+limit_of v = length v.shadow.memory.bytes / 32 - 1
+
 -- where the payload for a range of units lies: 32 bytes past the shadow of its first unit
 abbrev pub place : ℕ → ℕ
 place offset = 2 ^ 62 + 32 * offset
@@ -64,12 +68,15 @@ pub record IsReserved (before after : Offsets) (units align offset : ℕ) : Type
   pub others : (o : ℕ) → o ≢ offset → (units_at after o ≡ units_at before o) × (align_of after o ≡ align_of before o)
   -- and the space has as many units
   pub space : after.units ≡ before.units
+  -- and can have as many
+  pub limit : limit_of after ≡ limit_of before
 
 -- the range at the offset was deallocated
 pub record IsReleased (before after : Offsets) (offset : ℕ) : Type 0 where
   pub gone : (units_at after offset ≡ None) × (align_of after offset ≡ None)
   pub others : (o : ℕ) → o ≢ offset → (units_at after o ≡ units_at before o) × (align_of after o ≡ align_of before o)
   pub space : after.units ≡ before.units
+  pub limit : limit_of after ≡ limit_of before
 
 -- So many units from o on lie in the space. None of them is in a live range, or so near before one that its alignment may have left it
 -- out: at an alignment of one unit, nothing is left out
@@ -105,6 +112,19 @@ pub record IsResized (before after : Offsets) (units offset : ℕ) : Type 0 wher
   pub others : (o : ℕ) → o ≢ offset → (units_at after o ≡ units_at before o) × (align_of after o ≡ align_of before o)
   -- and the space has as many units
   pub space : after.units ≡ before.units
+  -- and can have as many
+  pub limit : limit_of after ≡ limit_of before
+
+-- the space got so many units
+pub record IsLonger (before after : Offsets) (units : ℕ) : Type 0 where
+  -- it has so many
+  pub space : after.units ≡ units
+  -- all ranges are as they were
+  pub same : (o : ℕ) → (units_at after o ≡ units_at before o) × (align_of after o ≡ align_of before o)
+  -- all units that it did not have are free
+  pub free : IsFreeRun after before.units (units - before.units)
+  -- and it can have as many as before
+  pub limit : limit_of after ≡ limit_of before
 
 -- nothing is live
 unfoldable pub IsEmpty : Offsets → Type 0
@@ -145,6 +165,7 @@ KeepsSized before after = (count most widest : ℕ) → IsSizedForUnits count mo
 -- a refused call changes nothing but the number of word accesses
 pub record IsUnchanged (before after : Offsets) : Type 0 where
   pub space : after.units ≡ before.units
+  pub limit : limit_of after ≡ limit_of before
   pub same : after.shadow.state ≡ before.shadow.state
 
 -- ---- the shadow
@@ -153,19 +174,22 @@ pub record IsUnchanged (before after : Offsets) : Type 0 where
 abbrev pub AreWhole : State → Type 0
 AreWhole s = (u : Used) → IsIn u s.used → (u.payload % 32 ≡ 0) × (u.align % 32 ≡ 0)
 
--- all of the shadow
+-- the shadow of so many units, and 32 bytes more
 abbrev pub whole_shadow : ℕ → Range
 whole_shadow units = range_at (2 ^ 62 - 32) (32 * units + 32)
 
--- what is true of every shadow: memory and class table represent the state, each byte is the memory's own, and all of it is one chunk
+-- What is true of every shadow: memory and class table represent the state, and each byte is the memory's own. Where the space has a unit, the
+-- one chunk is the shadow of its units; behind it is what the space can grow by
 pub record IsShadow (units : ℕ) (a : Allocator) : Type 0 where
   pub stands : StandsFor 59 8 (contents a.memory a.table) a.state
   pub own : IsOwned a.memory (range_of a.memory)
   pub start : a.memory.start ≡ 2 ^ 62 - 32
-  pub len : length a.memory.bytes ≡ 32 * units + 32
+  pub len : 32 * units + 32 ≤ length a.memory.bytes
   pub few : units ≤ 2 ^ 56
+  pub most : length a.memory.bytes ≤ 32 * 2 ^ 56 + 32
   pub whole : AreWhole a.state
   pub chunks : 0 < units → a.state.chunks ≡ whole_shadow units ∷ []
+  pub none : units ≡ 0 → a.state.chunks ≡ []
 
 -- what is true of the fields of every allocator
 pub record IsKept (units : ℕ) (m : Space) (t : Table) (s : State) : Type 0 where

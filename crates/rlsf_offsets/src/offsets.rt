@@ -1,12 +1,12 @@
 //! The allocator of offsets.
-ghost use Rattle.std.specs.Prelude.{◌≡◌, ◌≤◌, ◌<◌, ◌+◌, ◌-◌, ◌*◌, ◌/◌, ◌^◌, ◌↔◌, ◌⊎◌, ℕ, Some, None, true, false, IfErr, IfOk, IfNone, IfSome, IsErrOf, IsSome};
+ghost use Rattle.std.specs.Prelude.{◌≡◌, ◌≤◌, ◌<◌, ◌+◌, ◌-◌, ◌*◌, ◌/◌, ◌^◌, ◌↔◌, ◌⊎◌, ℕ, Some, None, true, false, IfErr, IfOk, IfNone, IfSome, IsErrOf, IsSome, max};
 ghost use Rattle.rlsf_base.specs.PowerOfTwo.{IsPowerOfTwo};
 ghost use Rattle.rlsf_offsets.specs.Offsets as offsets;
-ghost use Rattle.rlsf_offsets.specs.Offsets.{HasRoomFor, IsAllocated, IsDeallocated, IsDivided, IsFullFor, IsReallocated, SucceedsFor, len_at};
+ghost use Rattle.rlsf_offsets.specs.Offsets.{HasRoomFor, IsAllocated, IsDeallocated, IsDivided, IsFullFor, IsGrown, IsReallocated, IsRefused, SucceedsFor, len_at};
 ghost use Rattle.std.specs.Map.Iter.{GivesInOrder};
 ghost use Rattle.rlsf_offsets.specs.Iteration.{ArePieces};
 ghost use Rattle.rlsf_offsets.specs.Blocks.{AreStats};
-ghost use Rattle.rlsf_offsets.specs.Units.{IsEmpty, IsFreeRun, IsUnchanged, KeepsSized, KeepsSizedFor, KeepsSizedThere, SizesSpace};
+ghost use Rattle.rlsf_offsets.specs.Units.{IsEmpty, IsFreeRun, KeepsSized, KeepsSizedFor, KeepsSizedThere, SizesSpace, limit_of};
 
 use crate::pieces::{Piece, Pieces};
 use crate::stats::Stats;
@@ -20,7 +20,7 @@ use std::marker::Model;
 /// A range is an offset and a length in bytes. Both are multiples of `UNIT`, a power of two. Live ranges lie in the space, and no two of them
 /// have a byte in common (`IsDivided`).
 ///
-/// The allocator keeps a shadow of the space: 32 bytes for each unit, and 32 more. The system reserves it, but memory is resident only where the
+/// The allocator keeps a shadow of the space: 32 bytes for each unit that the space can get, and 32 more. The system reserves it, but memory is resident only where the
 /// shadow was written. Dropping the allocator deallocates it.
 ///
 /// The documentation of a call bounds its cost in word accesses, as that of `Tlsf` defines them. None is in the space.
@@ -42,7 +42,8 @@ impl<const UNIT: usize> Model for OffsetTlsf<UNIT> {
 }
 
 impl<const UNIT: usize> OffsetTlsf<UNIT> {
-    /// Creates an allocator of a space of `len` bytes, all of which are free. Bytes behind the last complete unit are not used.
+    /// Creates an allocator of a space of `len` bytes, all of which are free. Bytes behind the last complete unit are not used. The space can't
+    /// grow: `with_limit` makes one that can.
     ///
     /// Returns `TooLong` if and only if the space has more than `2^56` units, and `OutOfMemory` if the system refuses the shadow.
     ///
@@ -65,13 +66,53 @@ impl<const UNIT: usize> OffsetTlsf<UNIT> {
         requires { IsPowerOfTwo UNIT }
         ensures too_long { IsErrOf result MemoryError.TooLong ↔ (2 ^ 56 < len / UNIT) }
         ensures refused { IfErr result (λ e. (e ≡ MemoryError.TooLong) ⊎ (e ≡ MemoryError.OutOfMemory)) }
-        ensures units { IfOk result (λ space. space.units ≡ len / UNIT) }
+        ensures units { IfOk result (λ space. (space.units ≡ len / UNIT) × (limit_of space ≡ len / UNIT)) }
         ensures empty { IfOk result (λ space. (o : ℕ) → len_at UNIT space o ≡ None) }
         ensures free { IfOk result (λ space. IsFreeRun space 0 (len / UNIT)) }
         ensures sized { IfOk result (λ space. SizesSpace space) }
     {
-        let inner = UnitTlsf::new(alloc, len / UNIT)?;
+        let inner = UnitTlsf::new(alloc, len / UNIT, len / UNIT)?;
         Ok(OffsetTlsf { inner })
+    }
+
+    /// Creates an allocator of a space of `len` bytes that can grow to `limit` bytes, as `new` does. If `limit` is less than `len`, the space
+    /// can't grow. The shadow has room for all units that the space can get.
+    ///
+    /// Returns `TooLong` if and only if the space can get more than `2^56` units, and `OutOfMemory` if the system refuses the shadow.
+    ///
+    /// `UNIT` must be a power of two.
+    pub fn with_limit(alloc: Global, len: usize, limit: usize) -> Result<Self, MemoryError>
+        requires { IsPowerOfTwo UNIT }
+        ensures too_long { IsErrOf result MemoryError.TooLong ↔ (2 ^ 56 < max (len / UNIT) (limit / UNIT)) }
+        ensures refused { IfErr result (λ e. (e ≡ MemoryError.TooLong) ⊎ (e ≡ MemoryError.OutOfMemory)) }
+        ensures units { IfOk result (λ space. (space.units ≡ len / UNIT) × (limit_of space ≡ max (len / UNIT) (limit / UNIT))) }
+        ensures empty { IfOk result (λ space. (o : ℕ) → len_at UNIT space o ≡ None) }
+        ensures free { IfOk result (λ space. IsFreeRun space 0 (len / UNIT)) }
+        ensures sized { IfOk result (λ space. SizesSpace space) }
+    {
+        let units = len / UNIT;
+        let most = greater(units, limit / UNIT);
+        let inner = UnitTlsf::new(alloc, units, most)?;
+        Ok(OffsetTlsf { inner })
+    }
+
+    /// Makes the space `len` bytes long. Bytes behind its last complete unit are not used. The new units are free, and live ranges stay.
+    ///
+    /// Returns whether the space has the length now: if and only if it had no more units, and `len` has no more than the limit. Otherwise
+    /// nothing changes.
+    ///
+    /// Completes in constant time: at most 34 word accesses.
+    pub fn grow(&mut self, len: usize) -> bool
+        ensures grown { result ≡ true → IsGrown UNIT self.old self.new len }
+        ensures which { (result ≡ true) ↔ ((self.old.units ≤ len / UNIT) × (len / UNIT ≤ limit_of self.old)) }
+        ensures stay { (o : ℕ) → IsSome (len_at UNIT self.old o) → IsSome (len_at UNIT self.new o) }
+        ensures sized { KeepsSized self.old self.new }
+        ensures same { result ≡ false → IsRefused UNIT self.old self.new }
+        ensures touches { self.new.shadow.memory.touches ≤ self.old.shadow.memory.touches + 34 }
+    {
+        // Opens the invariant for the prover: the unit isn't 0.
+        let _ = &self.inner;
+        self.inner.grow(len / UNIT)
     }
 
     /// Returns the length of the space in bytes, a multiple of the unit.
@@ -110,7 +151,7 @@ impl<const UNIT: usize> OffsetTlsf<UNIT> {
         ensures room { (o m : ℕ) → IsFreeRun self.old o m → 9 * (offsets.units_for UNIT len + offsets.units_for UNIT align - 1) ≤ 8 * m → IsSome result }
         ensures within { SucceedsFor UNIT self.old len align (IsSome result) }
         ensures sized { KeepsSizedFor self.old self.new (offsets.units_for UNIT len) (offsets.units_for UNIT align) }
-        ensures same { IfNone result (IsUnchanged self.old self.new) }
+        ensures same { IfNone result (IsRefused UNIT self.old self.new) }
         ensures touches { self.new.shadow.memory.touches ≤ self.old.shadow.memory.touches + 27 }
     {
         // Opens the invariant for the prover: the unit isn't 0.
@@ -165,7 +206,7 @@ impl<const UNIT: usize> OffsetTlsf<UNIT> {
         ensures room { (result ≡ true) ↔ HasRoomFor UNIT self.old offset len }
         ensures stay { (o : ℕ) → IsSome (len_at UNIT self.old o) → IsSome (len_at UNIT self.new o) }
         ensures sized { KeepsSizedThere self.old self.new (offset / UNIT) (offsets.units_for UNIT len) }
-        ensures same { result ≡ false → IsUnchanged self.old self.new }
+        ensures same { result ≡ false → IsRefused UNIT self.old self.new }
         ensures touches { self.new.shadow.memory.touches ≤ self.old.shadow.memory.touches + 26 }
     {
         // Opens the invariant for the prover: the unit isn't 0.
@@ -248,4 +289,12 @@ fn units_for<const UNIT: usize>(bytes: usize) -> usize
     ensures some { 0 < result }
 {
     bytes.saturating_sub(1) / UNIT + 1
+}
+
+/// Returns the greater of two numbers.
+pub(crate) fn greater(a: usize, b: usize) -> usize
+    ensures value { result ≡ max a b }
+    ensures first { a ≤ result }
+{
+    if a < b { b } else { a }
 }

@@ -3,20 +3,25 @@
 //! Each unit of the space has 32 bytes of the shadow, a memory that an allocator divides. Alignments are in units. A range of `k`
 //! units with the alignment `a` is a payload of `32 * (k - 1)` bytes with the alignment `32 * a`: it begins 32 bytes before the payload, ends
 //! where the payload's block ends, and has exactly `k` units. The shadow begins 32 bytes before a multiple of `2^62`, so that its first unit is
-//! a multiple of each alignment. It has one unit more than the space, for the sentinel.
-ghost use Rattle.std.specs.Prelude.{◌≡◌, ◌≤◌, ◌<◌, ◌+◌, ◌-◌, ◌*◌, ◌^◌, ◌↔◌, ◌⊎◌, ℕ, Some, None, true, false, IfErr, IfOk, IfNone, IfSome, IsErrOf, IsSome};
+//! a multiple of each alignment. It has one unit more than the space can get, for the sentinel.
+ghost use Rattle.std.specs.Prelude.{◌≡◌, ◌≤◌, ◌<◌, ◌+◌, ◌-◌, ◌*◌, ◌/◌, ◌^◌, ◌↔◌, ◌⊎◌, ℕ, length, Some, None, true, false, IfErr, IfOk, IfNone, IfSome, IsErrOf, IsSome};
 ghost use Rattle.std.specs.Map.Iter.{GivesInOrder};
 ghost use Rattle.rlsf_base.specs.MemoryCalls as memories;
 ghost use Rattle.rlsf_base.specs.PowerOfTwo.{IsPowerOfTwo};
 ghost use Rattle.rlsf_offsets.specs.Blocks.{AreAllBlocks, AreTotals, AreWithin};
-ghost use Rattle.rlsf_offsets.specs.Units.{HasRoomInPlace, IsEmpty, IsFreeRun, IsFull, IsReleased, IsReserved, IsResized, IsSpace, IsUnchanged};
-ghost use Rattle.rlsf_offsets.specs.Units.{KeepsSized, KeepsSizedFor, KeepsSizedThere, SizesSpace, SucceedsWithin, place, units_at};
+ghost use Rattle.rlsf_offsets.specs.Units.{HasRoomInPlace, IsEmpty, IsFreeRun, IsFull, IsKept, IsLonger, IsReleased, IsReserved, IsResized, IsSpace, IsUnchanged};
+ghost use Rattle.rlsf_offsets.specs.Units.{KeepsSized, KeepsSizedFor, KeepsSizedThere, SizesSpace, SucceedsWithin, limit_of, place, units_at, whole_shadow};
+ghost use Rattle.rlsf_base.specs.Range.{range_at};
+ghost use Rattle.rlsf_blocks.specs.Laws.{read_from};
+ghost use Rattle.rlsf_tlsf.specs.Allocator.{allocator};
+ghost use Rattle.rlsf_tlsf.specs.Bounds.{KeepsAllBounds};
+ghost use Rattle.rlsf_tlsf.specs.Results.{KeepsFrameOfPools};
 
 use rlsf_base::memory::{Layout, MemoryError, OpenMemory, Range};
 use rlsf_blocks::{BlockInfo, Blocks, Totals, totals_of, usable_bytes, walk_blocks};
 use rlsf_table::ClassTable;
 use rlsf_tlsf::GhostState;
-use rlsf_tlsf::core_calls::{allocate_in, deallocate_in, insert_in, resize_in};
+use rlsf_tlsf::core_calls::{allocate_in, append_in, deallocate_in, insert_in, resize_in};
 use std::alloc::Global;
 use std::marker::Model;
 
@@ -64,21 +69,22 @@ impl Drop for UnitTlsf {
 }
 
 impl UnitTlsf {
-    /// Creates an allocator of a space of `units` units, none of which is in a live range.
+    /// Creates an allocator of a space of `units` units, none of which is in a live range. It can grow to `most` units.
     ///
-    /// Returns `TooLong` if and only if there are more than `2^56` units, and `OutOfMemory` if the system refuses the shadow.
-    pub(crate) fn new(alloc: Global, units: usize) -> Result<UnitTlsf, MemoryError>
-        ensures too_long { IsErrOf result MemoryError.TooLong ↔ (2 ^ 56 < units) }
+    /// Returns `TooLong` if and only if `most` is above `2^56`, and `OutOfMemory` if the system refuses the shadow.
+    pub(crate) fn new(alloc: Global, units: usize, most: usize) -> Result<UnitTlsf, MemoryError>
+        requires { units ≤ most }
+        ensures too_long { IsErrOf result MemoryError.TooLong ↔ (2 ^ 56 < most) }
         ensures refused { IfErr result (λ e. (e ≡ MemoryError.TooLong) ⊎ (e ≡ MemoryError.OutOfMemory)) }
-        ensures units { IfOk result (λ space. space.units ≡ units) }
+        ensures units { IfOk result (λ space. (space.units ≡ units) × (limit_of space ≡ most)) }
         ensures empty { IfOk result (λ space. IsEmpty space) }
         ensures free { IfOk result (λ space. IsFreeRun space 0 units) }
         ensures sized { IfOk result (λ space. SizesSpace space) }
     {
-        if units > MOST {
+        if most > MOST {
             return Err(MemoryError::TooLong);
         }
-        Ok(over(shadow(alloc, units)?, units))
+        Ok(over(shadow(alloc, most)?, units, most))
     }
 
     /// Returns the number of units of the space.
@@ -159,6 +165,30 @@ impl UnitTlsf {
         )
     }
 
+    /// Makes the space `units` units long. The new ones are free, and the ranges stay. Returns whether it has so many.
+    ///
+    /// Returns `true` if and only if it had no more, and can have as many. Otherwise nothing changes.
+    pub(crate) fn grow(&mut self, units: usize) -> bool
+        ensures longer { result ≡ true → IsLonger self.old self.new units }
+        ensures which { (result ≡ true) ↔ ((self.old.units ≤ units) × (units ≤ limit_of self.old)) }
+        ensures sized { KeepsSized self.old self.new }
+        ensures same { result ≡ false → IsUnchanged self.old self.new }
+        ensures touches { self.new.shadow.memory.touches ≤ self.old.shadow.memory.touches + 34 }
+    {
+        if can_have(self.memory.len(), self.units, units) {
+            lengthen(
+                &mut self.memory,
+                &mut self.table,
+                &mut self.state,
+                self.units,
+                units,
+            );
+            self.units = units;
+            return true;
+        }
+        false
+    }
+
     /// Returns the number of units of the live range that begins at a unit.
     pub(crate) fn len(&self, first: usize) -> usize
         requires { IsSome (units_at self.now first) }
@@ -210,7 +240,7 @@ fn chunk_len(units: usize) -> usize
     }
 }
 
-/// Reserves the shadow of a space of so many units. None of its bytes is written.
+/// Reserves the shadow of a space of up to so many units. None of its bytes is written.
 fn shadow(alloc: Global, units: usize) -> Result<OpenMemory, MemoryError>
     requires { units ≤ 2 ^ 56 }
     ensures memory { IfOk result (λ m. memories.IsReserved m (2 ^ 62 - 32) (32 * units + 32)) }
@@ -219,21 +249,73 @@ fn shadow(alloc: Global, units: usize) -> Result<OpenMemory, MemoryError>
     OpenMemory::reserve(alloc, ORIGIN - SHADOW, SHADOW * units + SHADOW)
 }
 
-/// Makes all units of a space free.
-fn over(memory: OpenMemory, units: usize) -> UnitTlsf
-    requires few { units ≤ 2 ^ 56 }
-    requires memory { memories.IsReserved memory (2 ^ 62 - 32) (32 * units + 32) }
-    ensures units { result.units ≡ units }
+/// Returns whether a space of `now` units, whose shadow has so many bytes, can have `units` units.
+fn can_have(bytes: usize, now: usize, units: usize) -> bool
+    requires { 32 ≤ bytes }
+    ensures { (result ≡ true) ↔ ((now ≤ units) × (units ≤ bytes / 32 - 1)) }
+{
+    now <= units && units < bytes / SHADOW
+}
+
+/// Makes the units of a space that has `from` units free up to a number of them, which it then has.
+fn lengthen(
+    memory: &mut OpenMemory,
+    table: &mut ClassTable<59, 8>,
+    state: &mut GhostState,
+    from: usize,
+    to: usize,
+)
+    requires kept { IsKept from memory.old table.old state.old.state }
+    requires longer { from ≤ to }
+    requires room { 32 * to + 32 ≤ length memory.old.bytes }
+    ensures kept { IsKept to memory.new table.new state.new.state }
+    ensures bounds { KeepsAllBounds 8 (read_from memory.old state.old.state) (read_from memory.new state.new.state) }
+    ensures frame { KeepsFrameOfPools (allocator memory.old table.old state.old.state) (allocator memory.new table.new state.new.state) }
+    ensures touches { memory.new.touches ≤ memory.old.touches + 34 }
+{
+    if from == 0 {
+        insert_in(memory, table, state, first_units(to));
+        return;
+    }
+    append_in(memory, table, state, units_behind(from, to));
+}
+
+/// Returns the range of the shadow for so many first units, with the sentinel behind them.
+fn first_units(to: usize) -> Range
+    requires { to ≤ 2 ^ 56 }
+    ensures { result ≡ whole_shadow to }
+{
+    Range {
+        start: START,
+        len: SHADOW * to + SHADOW,
+    }
+}
+
+/// Returns the range of the shadow behind the sentinel of a space of `from` units, up to that of one of `to`.
+fn units_behind(from: usize, to: usize) -> Range
+    requires { (from ≤ to) × (to ≤ 2 ^ 56) }
+    ensures { result ≡ range_at (2 ^ 62 + 32 * from) (32 * (to - from)) }
+{
+    Range {
+        start: ORIGIN + SHADOW * from,
+        len: SHADOW * (to - from),
+    }
+}
+
+/// Makes so many units of a space free, which can have `most`.
+fn over(memory: OpenMemory, units: usize, most: usize) -> UnitTlsf
+    requires few { (units ≤ most) × (most ≤ 2 ^ 56) }
+    requires memory { memories.IsReserved memory (2 ^ 62 - 32) (32 * most + 32) }
+    ensures units { (result.units ≡ units) × (limit_of result ≡ most) }
     ensures empty { IsEmpty result }
     ensures sized { SizesSpace result }
 {
     // Opens the memory's invariant for the prover: no address is 0, and each fits in a word.
-    let len = memory.len();
+    let _ = memory.len();
     let mut memory = memory;
     let mut table = ClassTable::new();
     let mut state = GhostState::new();
-    let start = ORIGIN - SHADOW;
-    insert_in(&mut memory, &mut table, &mut state, Range { start, len });
+    insert_in(&mut memory, &mut table, &mut state, first_units(units));
     UnitTlsf {
         memory,
         table,

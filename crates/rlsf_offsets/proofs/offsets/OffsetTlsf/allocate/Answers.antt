@@ -1,9 +1,9 @@
 use Rattle.std.proofs.Common.{◌*◌, ℕ, subst, sym, true≢false, arith}
 use Rattle.rlsf_base.specs.PowerOfTwo.{IsPowerOfTwo}
 use Rattle.rlsf_base.proofs.Numbers.PowersOfTwo.{IsPowerOfTwo-positive}
-use Rattle.rlsf_offsets.specs.Offsets.{IsAllocated, units_for}
+use Rattle.rlsf_offsets.specs.Offsets.{IsAllocated, IsRefused, units_for}
 use Rattle.rlsf_offsets.specs.Units.{IsFreeRun, IsReserved, Offsets}
-use Rattle.rlsf_offsets.proofs.Bytes.{IsAllocated-units, power_of_units}
+use Rattle.rlsf_offsets.proofs.Bytes.{IsAllocated-units, IsRefused-unchanged, power_of_units, unless}
 use Rattle.rlsf_offsets.proofs.offsets.OffsetTlsf.allocate.Goals as goal
 
 pub units_for-units-requires : goal.units_for-units-requires
@@ -31,3 +31,10 @@ returns-clause-allocated g c =
     let same = subst (λ (n : ℕ). IsReserved v x (units_for unit c.args.len) n first) c.units_for-step.ensures.value made in
     subst (λ (o : Offsets). IsAllocated unit o x c.args.len c.args.align (first * unit)) c.self.view_is
     (IsAllocated-units unit c.args.align c.self.invariant.0 c.requires v x c.args.len first same)
+
+pub returns-in_err-first-clause-same : goal.returns-in_err-first-clause-same
+returns-in_err-first-clause-same g c =
+    let unit = g.row.UNIT in
+    let v = c.self.inside.inner in
+    let x = c.allocate.new.self in
+    unless c.from_residual.result (subst (λ (o : Offsets). IsRefused unit o x) c.self.view_is (IsRefused-unchanged unit v x c.in_err-first.ensures.same))

@@ -1,8 +1,8 @@
 use Rattle.std.proofs.Common.{◌/◌, ℕ, IsSome, subst, sym}
 use Rattle.rlsf_base.proofs.Numbers.PowersOfTwo.{IsPowerOfTwo-positive}
-use Rattle.rlsf_offsets.specs.Offsets.{IsReallocated, len_at}
+use Rattle.rlsf_offsets.specs.Offsets.{IsReallocated, IsRefused, len_at}
 use Rattle.rlsf_offsets.specs.Units.{IsResized, Offsets}
-use Rattle.rlsf_offsets.proofs.Bytes.{IsReallocated-units, some_units, still_live}
+use Rattle.rlsf_offsets.proofs.Bytes.{IsReallocated-units, IsRefused-unchanged, some_units, still_live}
 use Rattle.rlsf_offsets.proofs.offsets.OffsetTlsf.reallocate_in_place.Goals as goal
 
 pub units_for-units-requires : goal.units_for-units-requires
@@ -38,3 +38,11 @@ returns-clause-stay g c =
     let made = subst (λ (n : ℕ). IsResized inner x n (c.args.offset / unit)) c.units_for-units.ensures.value (c.reallocate_in_place.ensures.resized done) in
     IsReallocated-units unit some inner x c.args.len c.args.offset live made) (c.reallocate_in_place.ensures.same) in
     λ o was. stay o (subst (λ (v : Offsets). IsSome (len_at unit v o)) (sym c.self.view_is) was)
+
+pub returns-clause-same : goal.returns-clause-same
+returns-clause-same g c =
+    let unit = g.row.UNIT in
+    let x = c.reallocate_in_place.new.self in
+    λ none.
+    subst (λ (v : Offsets). IsRefused unit v x) c.self.view_is
+    (IsRefused-unchanged unit c.self.inside.inner x (c.reallocate_in_place.ensures.same none))

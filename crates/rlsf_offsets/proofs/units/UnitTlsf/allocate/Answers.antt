@@ -146,7 +146,7 @@ returns-clause-reserved c =
     let kept = IsKept-left c.self.invariant e.left (chunks-allocated 8 s t size wide (Some addr) e.step)
     (AreWhole-allocated shadow b n align size wide es ea c.requires.some positive (Some addr) e.step) in
     let after = offsets c.self.inside.units b in
-    let made = IsReserved-allocated shadow kept.shadow n align size wide addr es ea c.requires.some c.requires.align small e.result.made in
+    let made = IsReserved-allocated shadow kept.shadow n align size wide addr es ea c.requires.some c.requires.align small e.result.made e.left.costs.length in
     subst (λ (v : Offsets). IsReserved v after n align ((addr - 2 ^ 62) / 32)) c.self.view_is made
 
 pub returns-clause-refused : goal.returns-clause-refused

@@ -31,7 +31,8 @@ pub returns-clause-released : goal.returns-clause-released
 returns-clause-released c =
     let after = offsets c.self.inside.units (allocator c.deallocate_in.new.memory c.deallocate_in.new.table c.deallocate_in.new.state.state) in
     subst (λ (v : Offsets). IsReleased v after c.args.first) c.self.view_is
-    (IsReleased-deallocated c.args.first c.place_of-addr.result c.place_of-addr.ensures c.deallocate_in.ensures.result)
+    (IsReleased-deallocated c.args.first c.place_of-addr.result c.place_of-addr.ensures c.deallocate_in.ensures.left.costs.length
+    c.deallocate_in.ensures.result)
 
 pub returns-clause-sized : goal.returns-clause-sized
 returns-clause-sized c =

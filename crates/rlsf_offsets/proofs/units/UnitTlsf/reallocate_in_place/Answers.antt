@@ -51,7 +51,8 @@ returns-clause-resized c =
     let after = offsets c.self.inside.units (allocator c.resize_in.new.memory c.resize_in.new.table c.resize_in.new.state.state) in
     λ done.
     subst (λ (v : Offsets). IsResized v after c.args.units c.args.first) c.self.view_is
-    (IsResized-units shadow c.args.first c.args.units _ c.place_of-addr.result c.place_of-addr.ensures es c.requires.some is.1 e.kept kept.shadow (e.result done))
+    (IsResized-units shadow c.args.first c.args.units _ c.place_of-addr.result c.place_of-addr.ensures es c.requires.some is.1 e.kept kept.shadow
+    e.left.costs.length (e.result done))
 
 pub returns-clause-room : goal.returns-clause-room
 returns-clause-room c =
