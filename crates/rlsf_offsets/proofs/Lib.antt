@@ -8,3 +8,4 @@ mod Kept
 mod Growths
 mod Bytes
 mod Blocks
+mod Live

@@ -3,3 +3,5 @@ pub mod Units
 pub mod Offsets
 pub mod Blocks
 pub mod Iteration
+pub mod Marks
+pub mod Checked

@@ -1,0 +1,24 @@
+use Rattle.std.proofs.Common.{◌≡◌, ap, false, subst, sym}
+use Rattle.std.specs.Prelude.{IsSome, is_some}
+use Rattle.rlsf_base.proofs.Numbers.PowersOfTwo.{IsPowerOfTwo-positive}
+use Rattle.rlsf_offsets.specs.Offsets.{len_at}
+use Rattle.rlsf_offsets.specs.Units.{Offsets}
+use Rattle.rlsf_offsets.proofs.Growths.{sized-again}
+use Rattle.rlsf_offsets.proofs.Live.{IsChecked-set, live_inside}
+use Rattle.rlsf_offsets.proofs.checked.CheckedOffsets.deallocate.Goals as goal
+
+pub returns-then-not-is_live-clause-sized : goal.returns-then-not-is_live-clause-sized
+returns-then-not-is_live-clause-sized g c = sized-again c.args.self.now
+
+pub set-requires : goal.set-requires
+set-requires g c =
+    let unit = g.row.UNIT in
+    let live = subst (λ (v : Offsets). IsSome (len_at unit v c.args.offset)) (sym c.self.view_is) (sym c.if-not-is_live.ensures) in
+    live_inside c.self.invariant c.args.offset (IsPowerOfTwo-positive unit c.self.invariant.power) live
+
+pub invariant_of-self : goal.invariant_of-self
+invariant_of-self g c =
+    let gone = c.deallocate.ensures.deallocated.units in
+    let marks = c.set.ensures in
+    IsChecked-set c.self.invariant c.deallocate.new.self c.set.new.self _ false marks.here marks.others marks.len (ap is_some gone.gone.0)
+    (λ o other. (gone.others o other).0) gone.space gone.limit
