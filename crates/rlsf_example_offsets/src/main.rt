@@ -1,5 +1,9 @@
 //! The memory of a GPU: buffers and textures are allocated and freed in another order. Lines and a map show where those lie that are left.
+//! Then a file of pages that grows: a record that finds no room makes the file longer. Last the calls that standard input has (`script`).
 #![tactic(auto)]
+
+mod pages;
+mod script;
 
 use rlsf_offsets::{OffsetTlsf, Piece, Stats};
 use std::io;
@@ -97,5 +101,7 @@ fn main(rt: HostRuntime) -> io::Result<()> {
         let letter = letter_at(&resources, cell * 4 * MIB);
         print!(rt; "{letter}")?;
     }
-    println!(rt; "")
+    println!(rt; "")?;
+    pages::print_pages(&rt)?;
+    script::run_input(&rt)
 }
