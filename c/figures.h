@@ -72,20 +72,19 @@ int mallopt(int parameter, int value) {
     return 0;
 }
 
-/* Returns the pages between two addresses to the system. Returns whether the system had memory for one of them. */
-static int drop_pages(const char *start, const char *end) {
+/* Whether the system has memory for one of the complete pages between two addresses. */
+static int is_resident(const char *start, const char *end) {
     unsigned char resident[1024];
-    size_t at = ((size_t)start + page() - 1) & ~(page() - 1), last = (size_t)end & ~(page() - 1);
-    int dropped = 0;
+    size_t at = whole_pages((size_t)start), last = (size_t)end & ~(page() - 1);
     while (at < last) {
         size_t count = (last - at) / page();
         if (count > sizeof resident) count = sizeof resident;
         if (!mincore((void *)at, count * page(), resident))
-            for (size_t n = 0; n < count && !dropped; n++) dropped = resident[n] & 1;
-        madvise((void *)at, count * page(), MADV_DONTNEED);
+            for (size_t n = 0; n < count; n++)
+                if (resident[n] & 1) return 1;
         at += count * page();
     }
-    return dropped;
+    return 0;
 }
 
 /* Returns the pages of a heap's free blocks to the system. Each block becomes a payload for so long, the long ones first: so no byte is touched
@@ -95,7 +94,9 @@ static int drop_free_pages(struct heap *heap) {
     int dropped = 0;
     for (size_t size = SEGMENT_MOST; size >= page(); size -= size / 16)
         while ((block = rlsf_malloc(&heap->handle.heap, size))) {
-            dropped |= drop_pages((char *)(block + 1), (char *)block + usable(block));
+            const char *start = (char *)(block + 1), *end = (char *)block + usable(block);
+            dropped |= is_resident(start, end);
+            drop_pages(start, end);
             block->next = blocks;
             blocks = block;
         }

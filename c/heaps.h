@@ -3,13 +3,11 @@
 #ifndef RLSF_HEAPS_H
 #define RLSF_HEAPS_H
 
-#include "segments.h"
+#include "sparse.h"
 #include <pthread.h>
 #include <signal.h>
 
 #define LARGE ((size_t)1 << 20) /* a payload of so many bytes gets a segment of its own */
-#define SEGMENT_LEAST ((size_t)512 << 10)
-#define SEGMENT_MOST ((size_t)32 << 20)
 #define COLLECTED 2  /* how many returned payloads an allocation frees */
 #define LOOKS_EACH 16 /* how many allocations pass between two looks at the list of returned payloads */
 
@@ -90,18 +88,24 @@ static void keep_empty(struct heap *heap, struct segment *segment) {
 
 static inline void set_used(struct segment *segment, size_t used) { __atomic_store_n(&segment->used, used, __ATOMIC_RELAXED); }
 
-/* Frees the last payload of a segment. */
-static __attribute__((noinline)) void free_last(struct heap *heap, struct segment *segment, void *payload) {
+/* A segment has few payloads left, or none. */
+static void look_closer(struct heap *heap, struct segment *segment) {
+    if (segment->used) become_sparse(&heap->handle.heap, segment);
+    else put_back(&heap->handle.heap, &segment->aside), keep_empty(heap, segment);
+}
+
+/* Frees one of the last payloads of a segment. */
+static __attribute__((noinline)) void free_of_few(struct heap *heap, struct segment *segment, void *payload) {
     rlsf_free(&heap->handle.heap, payload);
-    keep_empty(heap, segment);
+    look_closer(heap, segment);
 }
 
 /* Frees a payload of this thread's heap. */
 static inline void free_own(struct heap *heap, struct segment *segment, void *payload) {
     size_t used = segment->used - block_len(payload);
     set_used(segment, used);
-    if (used) rlsf_free(&heap->handle.heap, payload);
-    else free_last(heap, segment, payload);
+    if (used > segment->low) rlsf_free(&heap->handle.heap, payload);
+    else free_of_few(heap, segment, payload);
 }
 
 /* Frees at most `most` of the payloads that other threads returned. Returns whether there was one. */
@@ -169,6 +173,7 @@ static int grow(struct heap *heap, size_t align, size_t size) {
     segment = map_segment(len > need ? len : need, need);
     if (!segment) return 0;
     segment->owner = heap;
+    segment->high = FILLED;
     segment->lent = rlsf_heap_add(&heap->handle.heap, segment + 1, segment->len - sizeof *segment);
     acquire();
     segment->next = heap->segments;
@@ -179,23 +184,32 @@ static int grow(struct heap *heap, size_t align, size_t size) {
     return 1;
 }
 
-/* Counts a new payload. Returns it. */
-static inline void *count_used(void *payload) {
+/* Counts a new payload, whose block has `len` bytes. Returns it. */
+static inline void *count_used(void *payload, size_t len) {
     struct segment *segment = segment_of(payload);
-    set_used(segment, segment->used + block_len(payload));
+    size_t used = segment->used + len;
+    set_used(segment, used);
+    if (used > segment->high) become_filled(segment);
     return payload;
 }
 
 /* Places a payload in what the heap has. Each payload has room for a struct returned: one of no bytes would have none at a greater alignment. */
 static void *place(struct heap *heap, size_t align, size_t size) {
     void *payload = align > 16 ? rlsf_aligned_alloc(&heap->handle.heap, align, size ? size : 1) : rlsf_malloc(&heap->handle.heap, size);
-    return payload ? count_used(payload) : NULL;
+    return payload ? count_used(payload, block_len(payload)) : NULL;
 }
 
-/* Places a payload in the heap. Before more memory is asked for, all returned payloads are freed. */
+/* Frees all returned payloads, and puts back all blocks that were set aside. Returns whether there was one. */
+static int free_all(struct heap *heap) {
+    int found = collect_all(heap);
+    for (struct segment *segment = heap->segments; segment; segment = segment->next) found |= put_back(&heap->handle.heap, &segment->aside);
+    return found;
+}
+
+/* Places a payload in the heap. Before more memory is asked for, all that is free can be had. */
 static void *place_or_grow(struct heap *heap, size_t align, size_t size) {
     void *payload = place(heap, align, size);
-    if (!payload && collect_all(heap)) payload = place(heap, align, size);
+    if (!payload && free_all(heap)) payload = place(heap, align, size);
     if (!payload && grow(heap, align, size)) payload = place(heap, align, size);
     return payload;
 }
@@ -243,7 +257,7 @@ static void *allocate_in(struct heap *heap, size_t align, size_t size) {
     if (heap && size < LARGE && align < LARGE) return place_or_grow(heap, align, size);
     payload = map_single(align, size);
     if (!payload && heap) {
-        collect_all(heap);
+        free_all(heap);
         payload = place(heap, align, size);
     }
     return payload;

@@ -65,11 +65,7 @@ static inline void *allocate_at_16(size_t size) {
         void *payload;
         count_down(heap);
         payload = rlsf_malloc(&heap->handle.heap, size);
-        if (payload) {
-            struct segment *segment = segment_of(payload);
-            set_used(segment, segment->used + (((size_t *)payload)[-2] & ~(size_t)31));
-            return payload;
-        }
+        if (payload) return count_used(payload, ((size_t *)payload)[-2] & ~(size_t)31);
     }
     return allocate(16, size);
 }
@@ -125,8 +121,8 @@ static void *resize_own(struct heap *heap, void *payload, size_t size) {
     void *resized = rlsf_realloc(&heap->handle.heap, payload, size);
     if (!resized) return NULL;
     set_used(segment, segment->used - len);
-    count_used(resized);
-    if (!segment->used) keep_empty(heap, segment);
+    count_used(resized, block_len(resized));
+    if (segment->used <= segment->low) look_closer(heap, segment);
     return resized;
 }
 
@@ -164,7 +160,7 @@ void *realloc(void *payload, size_t size) {
     stays = owner ? owner == mine && size < LARGE : size >= LARGE;
     resized = stays ? resize(payload, size) : NULL;
     if (!resized) resized = move(payload, size);
-    if (!resized && !stays) resized = resize(payload, size);
+    if (!resized) resized = resize(payload, size);
     errno = resized ? error : ENOMEM;
     return resized;
 }

@@ -7,12 +7,16 @@
 #include <errno.h>
 #include <stdint.h>
 #include <sys/mman.h>
+#include <time.h>
 #include <unistd.h>
 
 #define SEGMENT_ALIGN ((size_t)64 << 20)
+#define SEGMENT_LEAST ((size_t)512 << 10) /* the lengths of segments of a heap */
+#define SEGMENT_MOST ((size_t)32 << 20)
 #define PLACES ((size_t)1 << 44) /* how many bytes of addresses are tried before the first ones are tried again */
 
 struct heap;
+struct aside;
 
 struct segment {
     struct heap *owner;
@@ -21,6 +25,10 @@ struct segment {
     struct segment *next;   /* of the same heap */
     struct segment *before; /* NULL: it is the first */
     _Alignas(64) size_t used; /* the bytes of blocks that hold payloads: only the owner writes it */
+    size_t low;             /* sparse.h says what is done when `used` falls to this, */
+    size_t high;            /* or rises above this */
+    time_t dropped;         /* the second in which pages of a filled segment were dropped */
+    struct aside *aside;    /* the payloads that sparse.h keeps */
 };
 
 /* The single payloads of all threads, and the bytes of their segments. */

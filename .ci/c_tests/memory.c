@@ -10,16 +10,6 @@
 
 #define MB ((size_t)1 << 20)
 
-/* The resident memory of this process in MB. */
-static size_t resident(void) {
-    char line[100] = {0};
-    unsigned long all, here;
-    FILE *file = fopen("/proc/self/statm", "r");
-    if (!file || !fgets(line, sizeof line, file) || sscanf(line, "%lu %lu", &all, &here) != 2) abort();
-    fclose(file);
-    return here * (size_t)sysconf(_SC_PAGESIZE) / MB;
-}
-
 static void large_payloads_go_back(int figures) {
     size_t before = resident(), zeroed, freed;
     char *payload = calloc(512, MB);

@@ -1,4 +1,4 @@
-/* What the tests of this folder share: a comparison that ends the program with a message. */
+/* What the tests of this folder share: a comparison that ends the program with a message, and the resident memory. */
 #include <stdio.h>
 #include <stdlib.h>
 #include <unistd.h>
@@ -12,3 +12,13 @@ static void want(const char *what, size_t got, size_t wanted) {
     _exit(1);
 }
 #define WANT(call, wanted) want(#call, (size_t)(call), (size_t)(wanted))
+
+/* The resident memory of this process in MB. */
+static inline size_t resident(void) {
+    char line[100] = {0};
+    unsigned long all, here;
+    FILE *file = fopen("/proc/self/statm", "r");
+    if (!file || !fgets(line, sizeof line, file) || sscanf(line, "%lu %lu", &all, &here) != 2) abort();
+    fclose(file);
+    return here * (size_t)sysconf(_SC_PAGESIZE) >> 20;
+}
