@@ -10,7 +10,7 @@ struct figures {
     size_t left; /* the heaps without an owner */
     size_t segments;
     size_t held;         /* the bytes of segments */
-    size_t used;         /* the bytes of blocks with payloads in them */
+    size_t used;         /* the bytes of blocks with payloads in them, but for cached ones */
     size_t empty;        /* the bytes of segments without a payload */
     size_t singles;      /* the payloads with a segment of their own */
     size_t single_bytes; /* the bytes of these segments */
@@ -19,14 +19,18 @@ struct figures {
 /* Counts what all heaps have. Other threads allocate meanwhile. */
 static struct figures count_all(void) {
     struct figures found = {0};
+    size_t cached = 0;
     acquire();
-    for (struct heap *heap = all; heap; heap = heap->next, found.heaps++)
+    for (struct heap *heap = all; heap; heap = heap->next, found.heaps++) {
+        cached += cached_bytes(heap->bins);
         for (struct segment *segment = heap->segments; segment; segment = segment->next, found.segments++) {
             size_t used = __atomic_load_n(&segment->used, __ATOMIC_RELAXED);
             found.held += segment->len;
             found.used += used;
             if (!used) found.empty += segment->len;
         }
+    }
+    found.used -= cached < found.used ? cached : found.used;
     for (struct heap *heap = left; heap; heap = heap->next_left) found.left++;
     release();
     found.singles = __atomic_load_n(&single_count, __ATOMIC_RELAXED);
@@ -109,7 +113,7 @@ static int drop_free_pages(struct heap *heap) {
 
 static int trim_heap(struct heap *heap) {
     int trimmed;
-    collect_all(heap);
+    free_all(heap);
     trimmed = heap->empty && !heap->empty->used && unmap_segment(heap, heap->empty);
     return drop_free_pages(heap) | trimmed;
 }

@@ -3,6 +3,7 @@
 #ifndef RLSF_HEAPS_H
 #define RLSF_HEAPS_H
 
+#include "cache.h"
 #include "sparse.h"
 #include <pthread.h>
 #include <signal.h>
@@ -25,6 +26,7 @@ struct heap {
     size_t held;                /* the bytes of all segments */
     struct heap *next_left;     /* the next one without an owner */
     struct heap *next;          /* of all heaps */
+    _Alignas(64) struct bin bins[CACHED_LENGTHS];
     _Alignas(64) struct returned *returned; /* what other threads freed: they push by compare-and-swap, and the owner takes all */
     _Alignas(64) rlsf_large_handle handle;
 };
@@ -108,7 +110,7 @@ static inline void free_own(struct heap *heap, struct segment *segment, void *pa
     else free_of_few(heap, segment, payload);
 }
 
-/* Frees at most `most` of the payloads that other threads returned. Returns whether there was one. */
+/* Frees at most `most` of the payloads that other threads returned, or caches them. Returns whether there was one. */
 static int collect(struct heap *heap, size_t most) {
     int found;
     notice_child();
@@ -122,7 +124,7 @@ static int collect(struct heap *heap, size_t most) {
         struct returned *payload = heap->taken;
         heap->taken = payload->next;
         __builtin_prefetch(heap->taken, 1);
-        free_own(heap, segment_of(payload), payload);
+        if (!keep_cached(heap->bins, payload)) free_own(heap, segment_of(payload), payload);
     }
     heap->countdown = heap->taken ? 1 : LOOKS_EACH;
     return found;
@@ -133,11 +135,25 @@ static inline void count_down(struct heap *heap) {
     if (!--heap->countdown) collect(heap, COLLECTED);
 }
 
-/* Frees all of them. Returns whether there was one. */
+/* Frees all cached payloads. Returns whether there was one. */
+static int free_cached(struct heap *heap) {
+    int found = 0;
+    for (size_t n = 0; n < CACHED_LENGTHS; n++)
+        for (void *payload; (payload = take_first(&heap->bins[n])); found = 1) free_own(heap, segment_of(payload), payload);
+    return found;
+}
+
+/* The same for all of them. */
 static int collect_all(struct heap *heap) {
     int found = collect(heap, SIZE_MAX);
     while (collect(heap, SIZE_MAX)) continue;
     return found;
+}
+
+/* Frees all returned and cached payloads. */
+static void free_all(struct heap *heap) {
+    collect_all(heap);
+    free_cached(heap);
 }
 
 /* Frees what was returned to one heap without an owner: each time to another. */
@@ -145,7 +161,7 @@ static void collect_left(void) {
     acquire();
     if (!forks && left) {
         visited = visited && visited->next_left ? visited->next_left : left;
-        collect_all(visited);
+        free_all(visited);
     }
     release();
 }
@@ -199,19 +215,26 @@ static void *place(struct heap *heap, size_t align, size_t size) {
     return payload ? count_used(payload, block_len(payload)) : NULL;
 }
 
-/* Frees all returned payloads, and puts back all blocks that were set aside. Returns whether there was one. */
-static int free_all(struct heap *heap) {
-    int found = collect_all(heap);
-    for (struct segment *segment = heap->segments; segment; segment = segment->next) found |= put_back(&heap->handle.heap, &segment->aside);
-    return found;
+/* Puts back the blocks that were set aside, one segment after another, until there is room for a payload. */
+static void *place_aside(struct heap *heap, size_t align, size_t size) {
+    void *payload = NULL;
+    for (struct segment *segment = heap->segments; segment && !payload; segment = segment->next)
+        if (put_back(&heap->handle.heap, &segment->aside)) payload = place(heap, align, size);
+    return payload;
 }
 
-/* Places a payload in the heap. Before more memory is asked for, all that is free can be had. */
-static void *place_or_grow(struct heap *heap, size_t align, size_t size) {
+/* Places a payload in the heap. Before that fails, all returned payloads are freed or cached, and no block is set aside. */
+static void *place_in_all(struct heap *heap, size_t align, size_t size) {
     void *payload = place(heap, align, size);
-    if (!payload && free_all(heap)) payload = place(heap, align, size);
+    if (!payload && collect_all(heap)) payload = place(heap, align, size);
+    return payload ? payload : place_aside(heap, align, size);
+}
+
+/* The same. If there is no room, it asks the system for memory, and if that refuses, it frees what is cached. */
+static void *place_or_grow(struct heap *heap, size_t align, size_t size) {
+    void *payload = place_in_all(heap, align, size);
     if (!payload && grow(heap, align, size)) payload = place(heap, align, size);
-    return payload;
+    return payload || !free_cached(heap) ? payload : place_or_grow(heap, align, size);
 }
 
 /* Makes a heap without memory. */
@@ -241,7 +264,7 @@ static struct heap *own_heap(void) {
 /* Leaves a heap to the next thread that begins. Only one of those that are left keeps a segment without a payload. */
 static void leave(struct heap *heap) {
     struct heap **to;
-    collect_all(heap);
+    free_all(heap);
     acquire();
     if (left && heap->empty && !heap->empty->used) unmap_segment(heap, heap->empty);
     to = forks ? &left_meanwhile : &left;
@@ -257,8 +280,8 @@ static void *allocate_in(struct heap *heap, size_t align, size_t size) {
     if (heap && size < LARGE && align < LARGE) return place_or_grow(heap, align, size);
     payload = map_single(align, size);
     if (!payload && heap) {
-        free_all(heap);
-        payload = place(heap, align, size);
+        free_cached(heap);
+        payload = place_in_all(heap, align, size);
     }
     return payload;
 }

@@ -5,11 +5,11 @@
  *
  * Each thread has a heap of its own (heaps.h). A payload that another thread frees is pushed on a list of its heap, and the owner frees two of
  * these in each of its allocations. The heap of a thread that ended is left to the next one that begins. Only what asks the system for memory,
- * and the begin and the end of a thread, take a lock.
+ * and the begin and the end of a thread, take a lock. A thread's few last small frees don't reach its heap (cache.h).
  *
- * Payloads below LARGE bytes lie in segments of a heap (segments.h), which are unmapped when they have no payload. Each larger payload has a
- * segment of its own: calloc touches none of its pages, realloc moves pages and copies no byte, and free returns it to the system. If there is
- * no memory for one, it is placed in what the heap has.
+ * Payloads below LARGE bytes lie in segments of a heap (segments.h), which are unmapped when they have no payload. If they have few, the pages
+ * between these are returned to the system (sparse.h). Each larger payload has a segment of its own: calloc touches none of its pages, realloc
+ * moves pages and copies no byte, and free returns it to the system. If there is no memory for one, it is placed in what the heap has.
  *
  * With RLSF_CHECK=1 in the environment, wrong calls are reported (checks.h). */
 #define _GNU_SOURCE
@@ -58,16 +58,22 @@ static __attribute__((noinline)) void *allocate(size_t align, size_t size) {
     return payload;
 }
 
+/* Allocates fewer than LARGE bytes in this thread's heap. */
+static inline void *allocate_in_heap(struct heap *heap, size_t size) {
+    void *payload = rlsf_malloc(&heap->handle.heap, size);
+    return payload ? count_used(payload, ((size_t *)payload)[-2] & ~(size_t)31) : allocate(16, size);
+}
+static __attribute__((noinline)) void *allocate_uncached(struct heap *heap, size_t size) { return allocate_in_heap(heap, size); }
+
 /* As malloc. The compiler takes a call of malloc before memset for one of calloc, which is what calls this. */
 static inline void *allocate_at_16(size_t size) {
     struct heap *heap = mine;
-    if (heap && size < LARGE) {
-        void *payload;
-        count_down(heap);
-        payload = rlsf_malloc(&heap->handle.heap, size);
-        if (payload) return count_used(payload, ((size_t *)payload)[-2] & ~(size_t)31);
-    }
-    return allocate(16, size);
+    void *payload;
+    if (!heap || size >= LARGE) return allocate(16, size);
+    count_down(heap);
+    if (size > CACHED_SIZE) return allocate_in_heap(heap, size);
+    payload = take_cached(heap->bins, size);
+    return payload ? payload : allocate_uncached(heap, size);
 }
 
 void *malloc(size_t size) { return allocate_at_16(size); }
@@ -77,7 +83,7 @@ void *calloc(size_t count, size_t size) {
     void *payload;
     if (__builtin_mul_overflow(count, size, &total)) total = SIZE_MAX;
     payload = allocate_at_16(total);
-    if (payload && segment_of(payload)->owner) memset(payload, 0, total);
+    if (payload && (total < LARGE || segment_of(payload)->owner)) memset(payload, 0, total);
     return payload;
 }
 
@@ -97,12 +103,14 @@ static __attribute__((noinline)) void free_other(void *payload) {
     errno = error;
 }
 
+static __attribute__((noinline)) void free_to_heap(struct heap *heap, struct segment *segment, void *payload) { free_own(heap, segment, payload); }
+
 void free(void *payload) {
     struct heap *heap = mine;
     if (heap && payload) {
         struct segment *segment = segment_of(payload);
         if (segment->owner == heap) {
-            free_own(heap, segment, payload);
+            if (!keep_cached(heap->bins, payload)) free_to_heap(heap, segment, payload);
             return;
         }
     }
