@@ -171,11 +171,11 @@ static void *checked_realloc(void *payload, size_t size) {
     return moved;
 }
 
-/* In a child of several threads, another one may have been in the middle of a call: no further call is checked there, and what lives is kept. */
+/* If another thread than the one that forks called, it may have been in the middle of a call, and hold checks_lock: then no further call is checked
+ * in the child, so that none takes the lock, and what lives is kept. */
 static void in_child_of_checks(void) {
     if (!checked) return;
-    pthread_mutex_init(&checks_lock, NULL);
-    if (several_threads) checked = NULL;
+    if (several_threads || (first_thread && first_thread != &here)) checked = NULL;
     else know_heap(checked);
 }
 

@@ -7,7 +7,9 @@
 #include <signal.h>
 #include <stdatomic.h>
 #include <string.h>
+#include <sys/mman.h>
 #include <sys/resource.h>
+#include <sys/syscall.h>
 #include <sys/wait.h>
 
 static void announce(const char *call, const void *payload) {
@@ -73,6 +75,7 @@ static int status_of(void (*run)(void)) {
     int status = 1;
     pid_t child = fork();
     if (child == 0) {
+        alarm(60);
         run();
         _exit(0);
     }
@@ -81,6 +84,13 @@ static int status_of(void (*run)(void)) {
 }
 
 static void in_child_of_one(void) { work(NULL); }
+
+/* While `slow`, whoever maps memory is long in a call, under the lock of the checks. */
+static volatile int slow;
+void *mmap(void *at, size_t len, int access, int flags, int file, off_t offset) {
+    if (slow) slow = 2, usleep(300000);
+    return (void *)syscall(SYS_mmap, at, len, access, flags, file, offset);
+}
 static void free_twice(void) {
     char *volatile payload = malloc(100);
     free(payload);
@@ -89,11 +99,29 @@ static void free_twice(void) {
 
 /* No call is checked: so the usable bytes are those of the block, of 128 bytes, and a wrong size isn't seen. */
 static void in_child_of_several(void) {
+    slow = 0;
     char *volatile payload = malloc(100);
     WANT(malloc_usable_size(payload), 112);
     memset(payload, 1, 112);
     free(payload);
     work(&begun);
+}
+
+/* A thread that didn't call yet forks while the only one that did is in the middle of a call. */
+static void *fork_beside(void *status) {
+    while (slow < 2) usleep(100);
+    *(int *)status = status_of(in_child_of_several);
+    return NULL;
+}
+static void fork_in_a_call(void) {
+    pthread_t thread;
+    int status = 1;
+    WANT(pthread_create(&thread, NULL, fork_beside, &status), 0);
+    slow = 1;
+    free(malloc(3000000));
+    WANT(pthread_join(thread, NULL), 0);
+    slow = 0;
+    WANT(status, 0);
 }
 
 /* A child of one thread is checked as its parent is, and one of several threads isn't. */
@@ -102,6 +130,7 @@ static void right_calls(void) {
     free(malloc(1));
     WANT(status_of(in_child_of_one), 0);
     WANT(status_of(free_twice), SIGABRT);
+    fork_in_a_call();
     for (size_t n = 0; n < 4; n++) WANT(pthread_create(&threads[n], NULL, work, NULL), 0);
     while (begun < 4) usleep(100);
     for (size_t n = 0; n < 20; n++) WANT(status_of(in_child_of_several), 0);
