@@ -106,7 +106,7 @@ static __attribute__((noinline)) void free_of_few(struct heap *heap, struct segm
 static inline void free_own(struct heap *heap, struct segment *segment, void *payload) {
     size_t used = segment->used - block_len(payload);
     set_used(segment, used);
-    if (used > segment->low) rlsf_free(&heap->handle.heap, payload);
+    if (used > segment->low) rlsf_large_free(&heap->handle.heap + 1, (size_t)payload);
     else free_of_few(heap, segment, payload);
 }
 

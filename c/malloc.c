@@ -60,7 +60,7 @@ static __attribute__((noinline)) void *allocate(size_t align, size_t size) {
 
 /* Allocates fewer than LARGE bytes in this thread's heap. */
 static inline void *allocate_in_heap(struct heap *heap, size_t size) {
-    void *payload = rlsf_malloc(&heap->handle.heap, size);
+    void *payload = (void *)rlsf_large_malloc(&heap->handle.heap + 1, size);
     return payload ? count_used(payload, ((size_t *)payload)[-2] & ~(size_t)31) : allocate(16, size);
 }
 static __attribute__((noinline)) void *allocate_uncached(struct heap *heap, size_t size) { return allocate_in_heap(heap, size); }
@@ -103,14 +103,12 @@ static __attribute__((noinline)) void free_other(void *payload) {
     errno = error;
 }
 
-static __attribute__((noinline)) void free_to_heap(struct heap *heap, struct segment *segment, void *payload) { free_own(heap, segment, payload); }
-
 void free(void *payload) {
     struct heap *heap = mine;
     if (heap && payload) {
         struct segment *segment = segment_of(payload);
         if (segment->owner == heap) {
-            if (!keep_cached(heap->bins, payload)) free_to_heap(heap, segment, payload);
+            if (!keep_cached(heap->bins, payload)) free_own(heap, segment, payload);
             return;
         }
     }
