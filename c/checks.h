@@ -157,7 +157,7 @@ static size_t checked_size(const void *payload, const char *call) {
     return size;
 }
 
-static void *checked_realloc(void *payload, size_t size) {
+static __attribute__((noinline)) void *checked_realloc(void *payload, size_t size) {
     size_t len = checked_size(payload, "realloc");
     int error = errno;
     void *moved = checked_allocate(16, size);

@@ -121,11 +121,11 @@ size_t malloc_usable_size(void *payload) {
 }
 
 /* Changes the size of a payload of this thread's heap. */
-static void *resize_own(struct heap *heap, void *payload, size_t size) {
+static inline void *resize_own(struct heap *heap, void *payload, size_t size) {
     struct segment *segment = segment_of(payload);
     size_t len = block_len(payload);
-    void *resized = rlsf_realloc(&heap->handle.heap, payload, size);
-    if (!resized) return NULL;
+    void *resized = (void *)rlsf_large_reallocate(&heap->handle.heap + 1, (size_t)payload, size);
+    if (!resized || (resized == payload && block_len(payload) == len)) return resized;
     set_used(segment, segment->used - len);
     count_used(resized, block_len(resized));
     if (segment->used <= segment->low) look_closer(heap, segment);
@@ -150,25 +150,32 @@ static void *move(void *payload, size_t size) {
     return moved;
 }
 
+/* Changes the size of a payload that moves, or is large. */
+static __attribute__((noinline)) void *resize_or_move(void *payload, size_t size) {
+    int error = errno, is_single = !segment_of(payload)->owner;
+    void *resized = is_single && size >= LARGE ? resize(payload, size) : NULL;
+    if (!resized) resized = move(payload, size);
+    if (!resized) resized = resize(payload, size);
+    errno = resized ? error : ENOMEM;
+    return resized;
+}
+
 /* As glibc's: a size of 0 frees the payload. */
 void *realloc(void *payload, size_t size) {
-    int error = errno, stays;
-    struct heap *owner;
-    void *resized;
+    struct heap *heap = mine;
     if (!payload) return malloc(size);
     if (!size) {
         free(payload);
         return NULL;
     }
-    if (!mine && checked) return checked_realloc(payload, size);
-    owner = segment_of(payload)->owner;
-    if (owner && owner == mine) count_down(owner);
-    stays = owner ? owner == mine && size < LARGE : size >= LARGE;
-    resized = stays ? resize(payload, size) : NULL;
-    if (!resized) resized = move(payload, size);
-    if (!resized) resized = resize(payload, size);
-    errno = resized ? error : ENOMEM;
-    return resized;
+    if (!heap && checked) return checked_realloc(payload, size);
+    if (heap && size < LARGE && segment_of(payload)->owner == heap) {
+        void *resized;
+        count_down(heap);
+        resized = resize_own(heap, payload, size);
+        if (resized) return resized;
+    }
+    return resize_or_move(payload, size);
 }
 
 void *reallocarray(void *payload, size_t count, size_t size) {
