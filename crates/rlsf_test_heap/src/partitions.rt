@@ -9,11 +9,7 @@ const SIZES: [(usize, usize); 3] = [(2, 16), (1, 100), (0, 200)];
 
 /// The place of a payload's pool, its address and its length.
 fn of(payload: &PartitionPayload) -> [usize; 3] {
-    [
-        payload.pool,
-        payload.payload.addr(),
-        payload.payload.len(),
-    ]
+    [payload.pool, payload.payload.addr(), payload.payload.len()]
 }
 
 /// How many more payloads of 0, 16, 17, 100, 101 and 201 bytes have room.
@@ -91,5 +87,8 @@ fn within_the_counts_none_is_refused(rt: HostRuntime) {
     are(&rt, &filled(&mut pools).unwrap_or_default(), &[0; 6]);
     all(&rt, &refused(&mut pools));
     // No memory has so many payloads.
-    all(&rt, &[Partitions::new(rt.alloc(), &[(1, 16), (usize::MAX, 16)]).is_err()]);
+    all(
+        &rt,
+        &[Partitions::new(rt.alloc(), &[(1, 16), (usize::MAX, 16)]).is_err()],
+    );
 }
