@@ -82,38 +82,67 @@ fn no_call_is_refused_while_another_thread_is_in(rt: HostRuntime) -> Result<(), 
 /// How many bytes a payload has that two threads write and read.
 const LEN: usize = 4096;
 
-/// How often each of them does.
-const TIMES: usize = 1000;
+/// How often the reader has to find other bytes than before. So often the threads take turns, also on a busy system.
+const CHANGES: usize = 100;
 
-/// Overwrites all bytes of a payload with one byte, each time with another one. Returns how often it went.
-fn write_often<R: Wait>(rt: &R, shared: &impl Shared, addr: Addr) -> usize {
+/// How often each of the two tries at most.
+const TIMES: usize = 100_000_000;
+
+/// Overwrites all bytes of a payload with one byte, each time with another one, until the other thread is done. Returns whether each
+/// write went.
+fn write_often<R: Wait>(rt: &R, shared: &impl Shared, addr: Addr, is_done: &AtomicBool) -> bool {
     for time in 0..TIMES {
+        if is_done.load(Ordering::SeqCst) {
+            break;
+        }
         if shared
             .write(rt, addr, 0, &[(time % 128) as u8; LEN])
             .is_err()
         {
-            return time;
+            is_done.store(true, Ordering::SeqCst);
+            return false;
         }
     }
-    TIMES
+    true
 }
 
-/// Whether all bytes of a payload are of one write.
-fn is_of_one_write<R: Wait>(rt: &R, shared: &impl Shared, addr: Addr) -> bool {
+/// The byte that all bytes of a payload are, if they are of one write.
+fn byte_of_one_write<R: Wait>(rt: &R, shared: &impl Shared, addr: Addr) -> Option<u8> {
     let mut bytes = [0; LEN];
     let is_read = shared.read(rt, addr, 0, &mut bytes).is_ok();
     let first = bytes[0];
-    is_read && bytes.iter().all(|byte| *byte == first)
+    if is_read && bytes.iter().all(|byte| *byte == first) {
+        Some(first)
+    } else {
+        None
+    }
 }
 
-/// How often a payload has the bytes of one write.
-fn read_often<R: Wait>(rt: &R, shared: &impl Shared, addr: Addr) -> usize {
-    for time in 0..TIMES {
-        if !is_of_one_write(rt, shared, addr) {
-            return time;
+/// Reads a payload until it has changed often, or the other thread is done. Returns whether it has, and all bytes were of one write each
+/// time.
+fn read_often<R: Wait>(rt: &R, shared: &impl Shared, addr: Addr, is_done: &AtomicBool) -> bool {
+    let mut changes: usize = 0;
+    let mut last = 0;
+    for _ in 0..TIMES {
+        let Some(byte) = byte_of_one_write(rt, shared, addr) else {
+            return false;
+        };
+        if byte != last {
+            last = byte;
+            changes = changes.wrapping_add(1);
+        }
+        if changes >= CHANGES || is_done.load(Ordering::SeqCst) {
+            break;
         }
     }
-    TIMES
+    changes >= CHANGES
+}
+
+/// Reads so, and then lets the other thread stop.
+fn read_to_end<R: Wait>(rt: &R, shared: &impl Shared, addr: Addr, is_done: &AtomicBool) -> bool {
+    let is_right = read_often(rt, shared, addr, is_done);
+    is_done.store(true, Ordering::SeqCst);
+    is_right
 }
 
 /// Whether a thread that reads a payload sees all of a write of another one, or nothing of it.
@@ -122,12 +151,13 @@ fn is_one_step<R: Threads + Wait + Sync>(
     shared: &(impl Shared + Sync),
     addr: Addr,
 ) -> bool {
-    let times = thread::join(
+    let is_done = AtomicBool::new(false);
+    let ends = thread::join(
         rt,
-        || write_often(rt, shared, addr),
-        || read_often(rt, shared, addr),
+        || write_often(rt, shared, addr, &is_done),
+        || read_to_end(rt, shared, addr, &is_done),
     );
-    times == (TIMES, TIMES)
+    ends == (true, true)
 }
 
 #[test]
