@@ -8,7 +8,7 @@ use Rattle.rlsf_base.specs.Space.{range_of}
 use Rattle.rlsf_model.specs.Insert.{Appends, IsFresh, IsNext, aligned_part, cut, extended, grown_if}
 use Rattle.rlsf_model.specs.Join.{ends_at}
 use Rattle.rlsf_model.specs.Lists.{IsIn, without}
-use Rattle.rlsf_model.specs.State.{State, Used}
+use Rattle.rlsf_model.specs.State.{State}
 use Rattle.rlsf_model.specs.WellFormed.{coverage, itself}
 use Rattle.rlsf_model.proofs.Coverage.{covers-behind}
 use Rattle.rlsf_tlsf.specs.Allocator.{Allocator}

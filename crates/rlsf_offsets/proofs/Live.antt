@@ -1,5 +1,5 @@
 -- Marks of live ranges.
-use Rattle.std.proofs.Common.{◌≡◌, ◌≢◌, ℕ, zero, suc, ◌+◌, ◌-◌, ◌*◌, ◌/◌, ◌%◌, ◌<◌, ◌≤◌, Bool, true, false, List, [], ◌∷◌, length, Option, Some, None, IsSome, true≢false, arith, inl, inr, refl, sym, ◌∙◌, ap, subst}
+use Rattle.std.proofs.Common.{◌≡◌, ◌≢◌, ℕ, zero, suc, ◌*◌, ◌/◌, ◌%◌, ◌<◌, ◌≤◌, Bool, true, false, List, [], ◌∷◌, length, Option, Some, None, IsSome, true≢false, arith, inl, inr, refl, sym, ◌∙◌, ap}
 use Rattle.std.proofs.lemmas.Bool.{cases_lt, ne_eqb}
 use Rattle.std.specs.Option.{option_map}
 use Rattle.std.specs.Prelude.{get_or, is_some, nat_eq}
@@ -8,8 +8,8 @@ use Rattle.rlsf_model.specs.Callers.{align_at, bytes_at}
 use Rattle.rlsf_model.specs.State.{State}
 use Rattle.rlsf_offsets.specs.declared.marks.Marks.{Marks}
 use Rattle.rlsf_offsets.specs.Marks.{IsChecked, is_marked}
-use Rattle.rlsf_offsets.specs.Offsets.{IsAllocated, IsDeallocated, IsGrown, IsReallocated, IsRefused, at_multiple, len_at}
-use Rattle.rlsf_offsets.specs.Units.{IsUnchanged, Offsets, limit_of, place, units_at}
+use Rattle.rlsf_offsets.specs.Offsets.{IsAllocated, IsGrown, IsReallocated, IsRefused, at_multiple, len_at}
+use Rattle.rlsf_offsets.specs.Units.{Offsets, limit_of, place, units_at}
 use Rattle.rlsf_offsets.proofs.Ranges.{units_at-same}
 use Rattle.rlsf_offsets.proofs.Bytes.{len_at-first, some_units}
 

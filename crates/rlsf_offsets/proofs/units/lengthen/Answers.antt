@@ -1,6 +1,5 @@
-use Rattle.std.proofs.Common.{◌≡◌, ◌∙◌, ◌+◌, ◌-◌, ◌*◌, ◌^◌, ◌<◌, arith, ap, subst, sym}
+use Rattle.std.proofs.Common.{◌<◌, arith, ap, subst, sym}
 use Rattle.rlsf_base.specs.declared.memory.range.Range.{Range}
-use Rattle.rlsf_base.specs.Range.{range_at}
 use Rattle.rlsf_base.specs.Space.{range_of}
 use Rattle.rlsf_blocks.specs.Laws.{read_from}
 use Rattle.rlsf_model.specs.Insert.{IsNext}

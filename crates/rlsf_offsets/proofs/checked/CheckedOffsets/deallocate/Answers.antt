@@ -1,4 +1,4 @@
-use Rattle.std.proofs.Common.{◌≡◌, ap, false, subst, sym}
+use Rattle.std.proofs.Common.{ap, false, subst, sym}
 use Rattle.std.specs.Prelude.{IsSome, is_some}
 use Rattle.rlsf_base.proofs.Numbers.PowersOfTwo.{IsPowerOfTwo-positive}
 use Rattle.rlsf_offsets.specs.Offsets.{len_at}
