@@ -25,27 +25,27 @@ def add_words(parser):
     parser.add_argument("--runs", type=int, default=3, help="how often each run is timed")
 
 
-def build(folder):
-    """Copies the crates and the program, and builds it."""
-    program = folder / "crates" / NAME / "out" / NAME
+def build(folder, name, wanted, words):
+    """Copies the crates that a program uses, and the program, whose text lies beside this file, and builds it. It is run once with these words."""
+    program = folder / "crates" / name / "out" / name
     if program.exists():
         return program
     lines = {line.split(":")[0].split(" ")[0]: line for line in (ROOT / "crates.txt").read_text().splitlines() if re.match(r"\w", line)}
-    used, new = set(), set(USED)
+    used, new = set(), set(wanted)
     while new:
         used |= new
-        new = {word for name in used for word in lines[name].split(":")[1].split() if word in lines} - used
-    (folder / "crates" / NAME / "src").mkdir(parents=True, exist_ok=True)
-    for name in used:
+        new = {word for crate in used for word in lines[crate].split(":")[1].split() if word in lines} - used
+    (folder / "crates" / name / "src").mkdir(parents=True, exist_ok=True)
+    for crate in used:
         for part in ("src", "specs", "proofs"):
-            source = ROOT / "crates" / name / part
+            source = ROOT / "crates" / crate / part
             if source.exists():
-                shutil.copytree(source, folder / "crates" / name / part, dirs_exist_ok=True)
-    listed = [line for name, line in lines.items() if name in used]
-    (folder / "crates.txt").write_text("\n".join([*listed, f"{NAME}: {' '.join(sorted(used))}"]) + "\n")
+                shutil.copytree(source, folder / "crates" / crate / part, dirs_exist_ok=True)
+    listed = [line for crate, line in lines.items() if crate in used]
+    (folder / "crates.txt").write_text("\n".join([*listed, f"{name}: {' '.join(sorted(used))}"]) + "\n")
     shutil.copy(ROOT / "HANDLES", folder / "HANDLES")
-    shutil.copy(ROOT / "tools/measuring/messages.txt", folder / "crates" / NAME / "src/main.rt")
-    subprocess.run(["rt", "run", "--", "steps", "10", "10", "0"], cwd=folder / "crates" / NAME, check=True)
+    shutil.copy(ROOT / f"tools/measuring/{name.removeprefix('measured_')}.txt", folder / "crates" / name / "src/main.rt")
+    subprocess.run(["rt", "run", "--", *words], cwd=folder / "crates" / name, check=True)
     return program
 
 
@@ -72,7 +72,7 @@ def instructions(program, live, steps):
 def measure(options, folder):
     if not shutil.which("rt") or not shutil.which("valgrind"):
         sys.exit("this needs `rt` and valgrind")
-    program = build(options.folder)
+    program = build(options.folder, NAME, USED, ["steps", "10", "10", "0"])
     print("\n| Bytes | Producers | `SharedPayload` | `GlobalTlsf` |\n|---|---|---|---|")
     for size in SIZES:
         messages = min(300_000, options.bytes // size)
