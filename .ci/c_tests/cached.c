@@ -84,10 +84,27 @@ static void *freed_under_a_limit(void *unused) {
     return unused;
 }
 
+static void *allocate_one(void *unused) {
+    fill(1, 100);
+    return unused;
+}
+
 static void in_thread(void *(*run)(void *)) {
     pthread_t thread;
     WANT(pthread_create(&thread, NULL, run, NULL), 0);
     WANT(pthread_join(thread, NULL), 0);
+}
+
+/* A heap without a thread keeps none: its segment is empty when another thread has asked the system for memory. */
+static void heap_without_thread(void) {
+    char *large;
+    in_thread(allocate_one);
+    malloc_trim(0);
+    WANT(mallinfo2().keepcost, 0);
+    free(payloads[0]);
+    large = malloc(900000);
+    WANT(mallinfo2().keepcost, 512 << 10);
+    free(large);
 }
 
 int main(void) {
@@ -100,6 +117,7 @@ int main(void) {
     WANT(held(), segments);
     in_thread(newest_first);
     in_thread(others_are_joined);
+    heap_without_thread();
     in_thread(freed_under_a_limit);
     return 0;
 }
