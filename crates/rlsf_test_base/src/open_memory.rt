@@ -222,3 +222,26 @@ fn copies_down_onto_raw_bytes(rt: HostRuntime) {
     memory.free();
     all(&rt, &[is_copied]);
 }
+
+#[test]
+fn copies_units_onto_those_before_them(rt: HostRuntime) {
+    let mut memory = wide_zeros(&rt);
+    memory.set_word(4112, 1);
+    memory.set_word(4128, 2);
+    memory.set_word(4152, 3);
+    let from = Range {
+        start: 4112,
+        len: 48,
+    };
+    memory.copy_units_at(memory.view(), from, 4096);
+    let words = [
+        memory.word(4096),
+        memory.word(4112),
+        memory.word(4128),
+        memory.word(4136),
+        memory.word(4144),
+        memory.word(4152),
+    ];
+    memory.free();
+    all(&rt, &[words == [1, 2, 0, 3, 0, 3]]);
+}
