@@ -7,7 +7,7 @@ use std::rt::Env;
 
 /// The arguments that the program takes.
 const USAGE: &str =
-    "usage: rlsf_bench_threads global|shared|both SLOTS STEPS THREADS [LEN], with SLOTS and THREADS from 1 on";
+    "usage: rlsf_bench_threads global|shared|both|one|set|lent|lent_shared|lent_malloc|heap|owner|all SLOTS STEPS THREADS [LEN], with SLOTS and THREADS from 1 on";
 
 /// How many bytes of memory there are if none are asked for: as many as the pool of `rlsf_bench` has.
 const LEN: usize = 1 << 25;
@@ -21,6 +21,22 @@ pub(crate) enum Allocators {
     Shared,
     /// `both`: the first, and then the second.
     Both,
+    /// `one`: a `SharedHeaps` of one heap.
+    One,
+    /// `set`: a `SharedHeaps` of a heap for each thread.
+    Set,
+    /// `lent`: an `OwnerHeap`, whose payloads other threads return.
+    Lent,
+    /// `lent_shared`: a `SharedHeap`, from which one thread allocates what others free.
+    LentShared,
+    /// `lent_malloc`: the system's allocator, from which one thread allocates what others free.
+    LentMalloc,
+    /// `heap`: a `Heap`, from which one thread allocates and frees in turn.
+    Heap,
+    /// `owner`: an `OwnerHeap`, from which one thread does the same.
+    Owner,
+    /// `all`: each of them.
+    All,
 }
 
 impl Allocators {
@@ -30,6 +46,14 @@ impl Allocators {
             "global" => Some(Allocators::Global),
             "shared" => Some(Allocators::Shared),
             "both" => Some(Allocators::Both),
+            "one" => Some(Allocators::One),
+            "set" => Some(Allocators::Set),
+            "lent" => Some(Allocators::Lent),
+            "lent_shared" => Some(Allocators::LentShared),
+            "lent_malloc" => Some(Allocators::LentMalloc),
+            "heap" => Some(Allocators::Heap),
+            "owner" => Some(Allocators::Owner),
+            "all" => Some(Allocators::All),
             _ => None,
         }
     }

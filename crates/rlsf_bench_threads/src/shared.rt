@@ -28,12 +28,20 @@ pub(crate) fn time<R: Print + AllocGlobal + Threads + Wait + Sync>(
     Ok(())
 }
 
-/// Creates a shared heap of one pool, which has so many bytes.
-fn new_shared(alloc: Global, len: usize) -> Result<Shared, BenchError> {
+/// Creates a heap of one pool, which has so many bytes.
+pub(crate) fn new_heap(
+    alloc: Global,
+    len: usize,
+) -> Result<Heap<usize, usize, 64, 64>, BenchError> {
     let memory = OpenMemory::reserve(alloc, START, len)?;
     let mut heap = Heap::<usize, usize, 64, 64>::new(memory);
     let _ = heap.insert_free_block_ptr(Range { start: START, len });
-    Ok(Shared::new(heap))
+    Ok(heap)
+}
+
+/// Creates a shared heap of one pool, which has so many bytes.
+pub(crate) fn new_shared(alloc: Global, len: usize) -> Result<Shared, BenchError> {
+    Ok(Shared::new(new_heap(alloc, len)?))
 }
 
 /// Lets the threads make their steps. Returns how many allocations were refused.

@@ -11,7 +11,7 @@ use std::alloc::{AllocError, Global};
 use std::sync::Wait;
 
 /// The layout that a drawn number asks for: up to 511 bytes, anywhere.
-fn layout_of(draw: u64) -> Layout {
+pub(crate) fn layout_of(draw: u64) -> Layout {
     Layout::from_size_align_unchecked((draw % 512) as usize, 1)
 }
 
