@@ -41,6 +41,8 @@ impl<FLBitmap: BitPattern, SLBitmap: BitPattern, const FLLEN: usize, const SLLEN
     /// let byte = payload.as_slice()[0];
     /// heap.deallocate_written(payload);
     /// ```
+    // In line, so that no payload is passed in memory.
+    #[inline(always)]
     pub fn deallocate_written(&mut self, payload: Payload)
         requires identity { payload.identity ≡ self.old.identity }
         requires written { IsWritten payload }

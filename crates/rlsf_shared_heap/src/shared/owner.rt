@@ -157,7 +157,23 @@ impl<
     /// owner.collect(LENT);
     /// let all = first.wrapping_add(second) == played.sent && owner.lent() == 0;
     /// ```
+    // In line, so that an owner that has lent none calls nothing.
+    #[inline(always)]
     pub fn collect(&mut self, most: usize) -> usize
+        ensures collected { IsCollected FLLEN SLLEN self.old.heap self.new.heap result }
+        ensures lent { self.old.lent ≡ self.new.lent + result }
+        ensures few { result ≤ most }
+        ensures room { self.new.room ≡ self.old.room }
+    {
+        if self.lent == 0 {
+            return 0;
+        }
+        self.collect_lent(most)
+    }
+
+    // Deallocates at most `most` payloads that came back, as `collect` does.
+    #[inline(never)]
+    fn collect_lent(&mut self, most: usize) -> usize
         ensures collected { IsCollected FLLEN SLLEN self.old.heap self.new.heap result }
         ensures lent { self.old.lent ≡ self.new.lent + result }
         ensures few { result ≤ most }
@@ -181,6 +197,8 @@ impl<
     /// `Heap::allocate` (`alone`). Within bounds that the heap is sized for, lent payloads included, it is never refused (`room`).
     ///
     /// Completes in constant time: at most 91 word accesses, whatever the pools contain.
+    // In line, so that no payload is passed in memory.
+    #[inline(always)]
     pub fn allocate(&mut self, layout: Layout) -> Option<Payload>
         ensures step { Serves FLLEN SLLEN self.old self.new layout.size layout.align (addr_of result) }
         ensures alone { self.old.lent ≡ 0 → Steps FLLEN SLLEN self.new.heap (Allocates SLLEN self.old.heap.state layout.size layout.align (addr_of result)) }
@@ -199,6 +217,7 @@ impl<
     /// The payload must be one of this heap, and none of its bytes may be raw.
     ///
     /// Completes in constant time: at most 32 word accesses.
+    #[inline(always)]
     pub fn deallocate(&mut self, payload: Payload)
         requires identity { payload.identity ≡ self.old.heap.identity }
         requires written { IsWritten payload }

@@ -1,7 +1,7 @@
 -- So many payloads were deallocated, and nothing else changed.
 use Rattle.std.proofs.Common.{◌≡◌, ◌≤◌, ◌+◌, ◌-◌}
 use Rattle.rlsf_shared_heap.specs.Owners.{IsCollected}
-use Rattle.rlsf_shared_heap.proofs.shared.owner.OwnerHeap.collect.Given as goal
+use Rattle.rlsf_shared_heap.proofs.shared.owner.OwnerHeap.collect_lent.Given as goal
 
 abbrev pub invariant-loop-count : goal.invariant-loop-count
 invariant-loop-count g l = record {
