@@ -6,6 +6,7 @@ pub use Rattle.rlsf_base.specs.ClassLaws.{LongestBlockHasAClass, MappedIsFirstRe
 pub use Rattle.rlsf_base.specs.ClassLaws.{UnreachedIsNotUnmapped}
 pub use Rattle.rlsf_base.specs.Range.{AreApart, LiesIn, end_of, range_at}
 pub use Rattle.rlsf_base.specs.SizeClass.{IsValid}
+pub use Rattle.rlsf_base.specs.Sizes.{request_size}
 pub use Rattle.rlsf_base.specs.Space.{SamePlace, Space, range_of}
 pub use Rattle.rlsf_model.specs.Allocate.{Allocates}
 pub use Rattle.rlsf_model.specs.Callers.{align_at, bytes_at}
@@ -16,15 +17,15 @@ pub use Rattle.rlsf_model.specs.Reallocate.{Keeps, Reallocates}
 pub use Rattle.rlsf_model.specs.Release.{Deallocates}
 pub use Rattle.rlsf_model.specs.Remove.{IsIdle, Removes}
 pub use Rattle.rlsf_model.specs.Run.{Fills}
-pub use Rattle.rlsf_model.specs.Sized.{IsSizedFor, live_count}
+pub use Rattle.rlsf_model.specs.Sized.{IsSizedFor, IsSizedForBudget, live_bytes, live_count}
 pub use Rattle.rlsf_model.specs.State.{State, Used, empty, Holds}
 pub use Rattle.rlsf_blocks.specs.Blocks.{walked}
 pub use Rattle.rlsf_blocks.specs.Spare.{IsSpareWord, KeepsSpare}
 pub use Rattle.rlsf_tlsf.specs.Allocator.{Allocator, IsInState, Stands, Steps}
-pub use Rattle.rlsf_tlsf.specs.Bounds.{IfWithinBounds, KeepsAllBounds, KeepsBounds, KeepsBoundsAnyAlign}
+pub use Rattle.rlsf_tlsf.specs.Bounds.{HasRoom, IfWithinBounds, IfWithinBudget, KeepsAllBounds, KeepsBounds, KeepsBoundsAnyAlign, KeepsBudgets, TakesRoom, TakesRoomAgain}
 pub use Rattle.rlsf_tlsf.specs.Results.{IsAllocated, IsAppended, IsDeallocated, IsFilled, IsInserted, IsReallocated, IsReallocatedAnyAlign, IsRemoved, IsResized}
 pub use Rattle.rlsf_tlsf.specs.Results.{IsUnchanged, KeepsFrame, KeepsFrameCopying, KeepsFrameInPlace, KeepsFrameMoving, KeepsFrameOfPools}
-pub use Rattle.rlsf_tlsf.specs.Sizing.{SizesPool}
+pub use Rattle.rlsf_tlsf.specs.Sizing.{SizesPool, SizesPoolForBudget}
 -- those that contracts over an allocator with a source cite
 pub use Rattle.rlsf_model.specs.FlexAllocate.{FlexAllocates}
 pub use Rattle.rlsf_model.specs.FlexReallocate.{FlexReallocates}

@@ -1,11 +1,12 @@
 -- What the calls of the checked allocator ensure by the clauses `result`, `refused` and `frame`, where an allocator over pools has no record for it.
 use Rattle.std.specs.Prelude.{◌≡◌, ◌≢◌, ℕ, ◌+◌, ◌<◌, ◌≤◌, length, None, OnErr, OnOk, Result}
+use Rattle.rlsf_base.specs.Sizes.{request_size}
 use Rattle.rlsf_base.specs.Space.{SamePlace}
 use Rattle.rlsf_checked.specs.Checked.{Checked}
 use Rattle.rlsf_checked.specs.declared.error.CheckedError.{CheckedError}
 use Rattle.rlsf_model.specs.Callers.{align_at, bytes_at}
 use Rattle.rlsf_model.specs.Reallocate.{Keeps}
-use Rattle.rlsf_model.specs.Sized.{live_count}
+use Rattle.rlsf_model.specs.Sized.{live_bytes, live_count}
 use Rattle.rlsf_model.specs.State.{State}
 
 -- ---- the results
@@ -20,6 +21,8 @@ pub record IsDeallocatedIfLive (before after : State) (addr : ℕ) (reply : Resu
   pub bytes : (a : ℕ) → a ≢ addr → bytes_at after a ≡ bytes_at before a
   -- if one was deallocated, one payload less is live
   pub count : OnOk reply (live_count before ≡ live_count after + 1)
+  -- and the blocks of live payloads have fewer bytes: by those that its usable bytes are sought with, or more
+  pub freed : OnOk reply (live_bytes after + request_size (length (bytes_at before addr)) 16 ≤ live_bytes before)
 
 -- the payload at an address got this size, and has the alignment that it had. It is now at `to`, which may be the same address
 pub record IsReallocatedSameAlign (before after : State) (addr size to : ℕ) : Type 0 where
@@ -64,6 +67,8 @@ pub record RefusesUntouched (before after : Checked) (answers : Type 0) (reply :
 
 -- of a call that copies no byte
 pub record KeepsCheckedFrame (before after : Checked) : Type 0 where
+  -- the chunks
+  pub chunks : after.heap.state.chunks ≡ before.heap.state.chunks
   -- the last pool
   pub pool : after.pool ≡ before.pool
   -- start and length of the memory, and where it lies
@@ -77,6 +82,8 @@ pub record KeepsCheckedFrame (before after : Checked) : Type 0 where
 pub record KeepsCheckedFrameMoving (addr : ℕ) (before after : Checked) : Type 0 where
   -- as many payloads are live as before
   pub count : live_count after.heap.state ≡ live_count before.heap.state
+  -- the chunks
+  pub chunks : after.heap.state.chunks ≡ before.heap.state.chunks
   -- the last pool
   pub pool : after.pool ≡ before.pool
   -- start and length of the memory, and where it lies
@@ -96,6 +103,8 @@ pub record KeepsCheckedFrameInPlace (addr : ℕ) (before after : Checked) : Type
   pub bytes : (a : ℕ) → a ≢ addr → bytes_at after.heap.state a ≡ bytes_at before.heap.state a
   -- as many payloads are live as before
   pub count : live_count after.heap.state ≡ live_count before.heap.state
+  -- the chunks
+  pub chunks : after.heap.state.chunks ≡ before.heap.state.chunks
   -- the last pool
   pub pool : after.pool ≡ before.pool
   -- start and length of the memory, and where it lies
@@ -113,6 +122,8 @@ pub record KeepsCheckedFrameCopying (addr len : ℕ) (before after : Checked) (r
   pub bytes : (a : ℕ) → a ≢ addr → bytes_at after.heap.state a ≡ bytes_at before.heap.state a
   -- as many payloads are live as before
   pub count : live_count after.heap.state ≡ live_count before.heap.state
+  -- the chunks
+  pub chunks : after.heap.state.chunks ≡ before.heap.state.chunks
   -- the last pool
   pub pool : after.pool ≡ before.pool
   -- start and length of the memory, and where it lies

@@ -6,8 +6,9 @@ ghost use Rattle.rlsf_base.specs.Addr.{at};
 ghost use Rattle.rlsf_model.specs.Allocate.{Allocates};
 ghost use Rattle.rlsf_model.specs.Callers.{align_at, bytes_at, copied_over};
 ghost use Rattle.rlsf_model.specs.Run.{Fills};
+ghost use Rattle.rlsf_model.specs.Sized.{live_bytes};
 ghost use Rattle.rlsf_tlsf.specs.Allocator.{Steps};
-ghost use Rattle.rlsf_tlsf.specs.Bounds.{IfWithinBounds, KeepsAllBounds, KeepsBounds};
+ghost use Rattle.rlsf_tlsf.specs.Bounds.{KeepsAllBounds, KeepsBounds, TakesRoom};
 ghost use Rattle.rlsf_tlsf.specs.Results.{IsAllocatedZeroed};
 ghost use Rattle.rlsf_checked.specs.Answers.{addr_in, copy_answer, if_live};
 ghost use Rattle.rlsf_checked.specs.declared.error.CheckedError.TheVariants.{NoRoom};
@@ -37,6 +38,7 @@ impl<
             (copied_over self.old.heap.state (at from) (at to) len))) }
         ensures result { OnOk result (bytes_at self.new.heap.state (at to) ≡ copied_over self.old.heap.state (at from) (at to) len) }
         ensures bounds { KeepsAllBounds SLLEN self.old.heap.state self.new.heap.state }
+        ensures blocks { live_bytes self.new.heap.state ≡ live_bytes self.old.heap.state }
         ensures refused { RefusesUntouched self.old self.new (result ≡ copy_answer self.old.heap.state (at from) (at to) len) result }
         ensures frame { KeepsCheckedFrameCopying (at to) len self.old self.new result }
         ensures touches { self.new.heap.memory.touches ≡ self.old.heap.memory.touches }
@@ -66,6 +68,7 @@ impl<
             (replicate (length (bytes_at self.old.heap.state (at addr))) value))) }
         ensures result { OnOk result (bytes_at self.new.heap.state (at addr) ≡ replicate (length (bytes_at self.old.heap.state (at addr))) value) }
         ensures bounds { KeepsAllBounds SLLEN self.old.heap.state self.new.heap.state }
+        ensures blocks { live_bytes self.new.heap.state ≡ live_bytes self.old.heap.state }
         ensures refused { RefusesUntouched self.old self.new (result ≡ if_live (align_at self.old.heap.state (at addr)) tt) result }
         ensures frame { KeepsCheckedFrameInPlace (at addr) self.old self.new }
         ensures touches { self.new.heap.memory.touches ≤ self.old.heap.memory.touches + 3 }
@@ -85,7 +88,7 @@ impl<
     pub fn allocate_zeroed(&mut self, layout: Layout) -> Result<Addr, CheckedError>
         ensures step { Steps FLLEN SLLEN self.old.heap self.new.heap (Allocates SLLEN self.old.heap.state layout.size layout.align (addr_in result)) }
         ensures result { IfOk result (λ addr. IsAllocatedZeroed self.old.heap.state self.new.heap.state layout.size layout.align (at addr)) }
-        ensures room { IfWithinBounds SLLEN self.old.heap.state layout.size layout.align (IsOk result) }
+        ensures room { TakesRoom SLLEN self.old.heap.state self.new.heap.state layout.size layout.align (IsOk result) }
         ensures bounds { KeepsBounds SLLEN self.old.heap.state self.new.heap.state layout.size layout.align }
         ensures refused { RefusesUnchanged self.old self.new (IfErr result (λ e. e ≡ NoRoom)) result }
         ensures frame { KeepsCheckedFrame self.old self.new }

@@ -15,17 +15,17 @@ ghost use Rattle.rlsf_model.specs.NoMove.{ReallocatesWithoutMove};
 ghost use Rattle.rlsf_model.specs.Reallocate.{Reallocates};
 ghost use Rattle.rlsf_model.specs.Release.{Deallocates};
 ghost use Rattle.rlsf_model.specs.Run.{Fills};
-ghost use Rattle.rlsf_model.specs.Sized.{live_count};
+ghost use Rattle.rlsf_model.specs.Sized.{live_bytes, live_count};
 ghost use Rattle.rlsf_model.specs.State.{empty};
 ghost use Rattle.rlsf_blocks.specs.Blocks.{AreBlocks, walked};
 ghost use Rattle.rlsf_tlsf.specs.Allocator.{Steps, Stands};
-ghost use Rattle.rlsf_tlsf.specs.Bounds.{IfWithinBounds, KeepsAllBounds, KeepsBounds};
+ghost use Rattle.rlsf_tlsf.specs.Bounds.{KeepsAllBounds, KeepsBounds, TakesRoom};
 ghost use Rattle.rlsf_tlsf.specs.Results.{IsAllocated, IsResized, KeepsFrameOfPools};
 ghost use Rattle.rlsf_checked.specs.Answers.{IsRefusedBy, append_answer, fits, if_in_range, if_live, insert_answer, is_next, is_within, addr_in, refusal_at, taken};
 ghost use Rattle.rlsf_checked.specs.declared.error.CheckedError.TheVariants.{InvalidClasses, NoRoom, OutOfMemory, UnknownAddress};
 ghost use Rattle.rlsf_checked.specs.Results.{IsDeallocatedIfLive, IsReallocatedSameAlign, RefusesUnchanged, RefusesUntouched};
 ghost use Rattle.rlsf_checked.specs.Results.{KeepsCheckedFrame, KeepsCheckedFrameInPlace, KeepsCheckedFrameMoving};
-ghost use Rattle.rlsf_checked.specs.Sizing.{KeepsBoundsSameAlign, SizesPool, SucceedsWithinBounds};
+ghost use Rattle.rlsf_checked.specs.Sizing.{AddsRoom, KeepsBoundsSameAlign, KeepsRoom, TakesRoomAgain};
 
 use crate::bytes::write_at;
 use crate::classes::are_valid;
@@ -150,7 +150,8 @@ impl<
     /// end. All payloads keep their bytes.
     ///
     /// If nothing is live, a range sizes the allocator for some bounds (`IsSizedFor`) under two conditions: its start is a multiple of 32,
-    /// and its length is at least `pool_size_for_payloads` of these bounds.
+    /// and its length is at least `pool_size_for_payloads` of these bounds. For a budget (`pool_size_for_budget`, `IsSizedForBudget`)
+    /// payloads may be live.
     ///
     /// Refuses, and changes nothing:
     ///
@@ -162,7 +163,7 @@ impl<
     pub fn insert(&mut self, range: Range) -> Result<usize, CheckedError>
         ensures step { OnOk result (Steps FLLEN SLLEN self.old.heap self.new.heap (Inserts FLLEN self.old.heap.state range (taken result))) }
         ensures result { IfOk result (λ n. self.new.pool ≡ range_at range.start n) }
-        ensures room { SizesPool FLLEN SLLEN range self.old.heap.state self.new.heap.state result }
+        ensures room { AddsRoom FLLEN SLLEN range self.old.heap.state self.new.heap.state result }
         ensures bounds { KeepsAllBounds SLLEN self.old.heap.state self.new.heap.state }
         ensures refused { RefusesUnchanged self.old self.new (result ≡ insert_answer FLLEN self.old range) result }
         ensures frame { KeepsFrameOfPools self.old.heap self.new.heap }
@@ -204,6 +205,7 @@ impl<
         ensures step { IfOk result (λ n. Steps FLLEN SLLEN self.old.heap self.new.heap (Appends FLLEN self.old.heap.state range n)) }
         ensures result { IfOk result (λ n. self.new.pool ≡ range_at self.old.pool.start (self.old.pool.len + n)) }
         ensures bounds { KeepsAllBounds SLLEN self.old.heap.state self.new.heap.state }
+        ensures room { KeepsRoom SLLEN self.old.heap.state self.new.heap.state }
         ensures refused { RefusesUnchanged self.old self.new (result ≡ append_answer FLLEN self.old range) result }
         ensures frame { KeepsFrameOfPools self.old.heap self.new.heap }
         ensures touches { self.new.heap.memory.touches ≤ self.old.heap.memory.touches
@@ -234,7 +236,7 @@ impl<
     ///
     /// Returns `NoRoom` exactly if no free block has a class that reaches the sought size. Then nothing changes.
     ///
-    /// Never refuses a payload within bounds that the allocator is sized for (`IsSizedFor`).
+    /// Never refuses a payload within bounds (`IsSizedFor`) or a budget (`IsSizedForBudget`) that the allocator is sized for.
     ///
     /// Completes in constant time: at most 27 word accesses, whatever the pools contain. No byte is copied.
     ///
@@ -248,7 +250,7 @@ impl<
     pub fn allocate(&mut self, layout: Layout) -> Result<Addr, CheckedError>
         ensures step { Steps FLLEN SLLEN self.old.heap self.new.heap (Allocates SLLEN self.old.heap.state layout.size layout.align (addr_in result)) }
         ensures result { IfOk result (λ addr. IsAllocated self.old.heap.state self.new.heap.state layout.size layout.align (at addr)) }
-        ensures room { IfWithinBounds SLLEN self.old.heap.state layout.size layout.align (IsOk result) }
+        ensures room { TakesRoom SLLEN self.old.heap.state self.new.heap.state layout.size layout.align (IsOk result) }
         ensures bounds { KeepsBounds SLLEN self.old.heap.state self.new.heap.state layout.size layout.align }
         ensures refused { RefusesUnchanged self.old self.new (IfErr result (λ e. e ≡ NoRoom)) result }
         ensures frame { KeepsCheckedFrame self.old self.new }
@@ -295,14 +297,14 @@ impl<
     /// - else `NoLayout` exactly if the size and the alignment together are above 2^63.
     /// - else `NoRoom` exactly if the reference model refuses.
     ///
-    /// Never refuses to resize a live payload within bounds that the allocator is sized for (`IsSizedFor`).
+    /// Never refuses to resize a live payload within bounds (`IsSizedFor`) or a budget (`IsSizedForBudget`) that the allocator is sized for.
     ///
     /// At most 66 word accesses, whatever the pools contain. At most the bytes that the payload had are copied.
     pub fn reallocate(&mut self, addr: Addr, size: usize) -> Result<Addr, CheckedError>
         ensures step { refusal_at self.old.heap.state (at addr) size ≡ None
             → Steps FLLEN SLLEN self.old.heap self.new.heap (Reallocates SLLEN self.old.heap.state (at addr) size (addr_in result)) }
         ensures result { IfOk result (λ to. IsReallocatedSameAlign self.old.heap.state self.new.heap.state (at addr) size (at to)) }
-        ensures room { SucceedsWithinBounds SLLEN self.old.heap.state (at addr) size result }
+        ensures room { TakesRoomAgain SLLEN self.old.heap.state self.new.heap.state (at addr) size result }
         ensures bounds { KeepsBoundsSameAlign SLLEN self.old.heap.state (at addr) size self.new.heap.state }
         ensures refused { RefusesUnchanged self.old self.new (IsRefusedBy (refusal_at self.old.heap.state (at addr) size) result) result }
         ensures frame { KeepsCheckedFrameMoving (at addr) self.old self.new }
@@ -427,6 +429,7 @@ impl<
             (written_over self.old.heap.state (at addr) offset bytes.now))) }
         ensures result { OnOk result (bytes_at self.new.heap.state (at addr) ≡ written_over self.old.heap.state (at addr) offset bytes.now) }
         ensures bounds { KeepsAllBounds SLLEN self.old.heap.state self.new.heap.state }
+        ensures blocks { live_bytes self.new.heap.state ≡ live_bytes self.old.heap.state }
         ensures refused { RefusesUntouched self.old self.new (result ≡ if_in_range (align_at self.old.heap.state (at addr))
             (fits offset (length bytes.now) (bytes_at self.old.heap.state (at addr)))) result }
         ensures frame { KeepsCheckedFrameInPlace (at addr) self.old self.new }

@@ -8,7 +8,7 @@ use Rattle.rlsf_base.proofs.Lending.Lent.{bytes_in-lent, bytes_in-lent_space, le
 use Rattle.rlsf_model.specs.Callers.{align_at, bytes_at}
 use Rattle.rlsf_model.specs.Run.{Fills}
 use Rattle.rlsf_model.specs.State.{State, Used, usable, Holds}
-use Rattle.rlsf_model.specs.Sized.{IsSizedFor, live_count}
+use Rattle.rlsf_model.specs.Sized.{IsSizedFor, live_bytes, live_count}
 use Rattle.rlsf_model.proofs.CallerWords.{filled_seen}
 use Rattle.rlsf_model.proofs.SizedWords.{count_filled, sized_filled}
 use Rattle.rlsf_table.specs.Table.{Table}
@@ -20,6 +20,7 @@ use Rattle.rlsf_blocks.proofs.Payloads.UnknownAlignment.{IsPayloadOf-holds, Lies
 use Rattle.rlsf_tlsf.specs.Allocator.{Allocator, allocator, IsAllocator, IsStanding, Stands, Steps}
 use Rattle.rlsf_tlsf.specs.Lending.{LeavesRest, touched, written}
 use Rattle.rlsf_tlsf.proofs.Arrivals.{IsAllocator-arrived, bare-reread, read_from-read_from}
+use Rattle.rlsf_tlsf.proofs.LiveBytes.{bytes_filled}
 
 -- nothing but a range changes that was lent once more touches were counted, whatever was left there
 pub IsSameOutside-lent : (m : Space) (more : ℕ) (r : Range) (w : List ℕ) → LiesIn r m.start (length m.bytes)
@@ -42,6 +43,7 @@ pub record IsLeft (fllen sllen : ℕ) (before : Allocator) (addr len : ℕ) (w :
   pub bytes : (a : ℕ) → a ≢ addr → bytes_at after.state a ≡ bytes_at before.state a
   pub aligns : align_at after.state ≡ align_at before.state
   pub count : live_count after.state ≡ live_count before.state
+  pub blocks : live_bytes after.state ≡ live_bytes before.state
   pub bounds : (count size align : ℕ) → IsSizedFor sllen count size align before.state → IsSizedFor sllen count size align after.state
   pub lengths : length (bytes_at after.state addr) ≡ length (bytes_at before.state addr)
   pub rest : LeavesRest fllen sllen before after
@@ -99,6 +101,7 @@ module _ {fl_bits sl_bits fllen sllen : ℕ} {m : Space} {x : Table} {kept : Sta
         bytes = seen.bytes;
         aligns = λ i a. seen.aligns a i;
         count = count_filled is.stands.well_formed (read_from (left_in w) s) addr (bytes_in (left_in w) (usable u)) (u, holds) fills;
+        blocks = bytes_filled s (read_from (left_in w) s) addr (bytes_in (left_in w) (usable u)) fills;
         bounds =
             λ count size align sized. sized_filled is.stands.well_formed (read_from (left_in w) s) count size align sized addr (bytes_in (left_in w) (usable u)) (u, holds) fills;
         lengths = seen.lengths addr;

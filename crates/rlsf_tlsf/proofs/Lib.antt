@@ -3,6 +3,7 @@ pub mod Arrivals
 pub mod FilledAllocations
 pub mod IdleRows
 pub mod Lent
+pub mod LiveBytes
 pub mod Moved
 pub mod NewSize
 mod Opened

@@ -2,14 +2,16 @@
 use Rattle.std.specs.Prelude.{◌≡◌, ◌≢◌, ℕ, ◌+◌, ◌<◌, ◌≤◌, length, List, None, Some, IsSome, replicate}
 use Rattle.rlsf_base.specs.declared.memory.range.Range.{Range}
 use Rattle.rlsf_base.specs.Range.{AreApart}
+use Rattle.rlsf_base.specs.Sizes.{request_size}
 use Rattle.rlsf_base.specs.Space.{SamePlace}
 use Rattle.rlsf_model.specs.Callers.{align_at, bytes_at}
 use Rattle.rlsf_model.specs.Insert.{IsUntouched}
 use Rattle.rlsf_model.specs.Reallocate.{HasRoomToStay, Keeps}
-use Rattle.rlsf_model.specs.Sized.{live_count}
+use Rattle.rlsf_model.specs.Sized.{live_bytes, live_count}
 use Rattle.rlsf_model.specs.State.{State}
 use Rattle.rlsf_tlsf.specs.Allocator.{Allocator}
-use Rattle.rlsf_tlsf.specs.Sizing.{SizesPool}
+use Rattle.rlsf_tlsf.specs.Bounds.{KeepsBudgets}
+use Rattle.rlsf_tlsf.specs.Sizing.{SizesPool, SizesPoolForBudget}
 
 -- ---- the results
 
@@ -47,6 +49,8 @@ pub record IsDeallocated (before after : State) (addr : ℕ) : Type 0 where
   pub bytes : (a : ℕ) → a ≢ addr → bytes_at after a ≡ bytes_at before a
   -- one payload less is live
   pub count : live_count before ≡ live_count after + 1
+  -- the blocks of live payloads have fewer bytes: by those that its usable bytes are sought with, or more
+  pub freed : live_bytes after + request_size (length (bytes_at before addr)) 16 ≤ live_bytes before
 
 -- the payload at an address, of this alignment, got this size. It is now at `to`, which may be the same address
 pub record IsReallocated (before after : State) (addr size align to : ℕ) : Type 0 where
@@ -109,6 +113,8 @@ pub record IsFilled (before after : State) (addr : ℕ) (w : List ℕ) : Type 0 
   pub aligns : align_at after ≡ align_at before
   -- as many payloads are live as before
   pub count : live_count after ≡ live_count before
+  -- and their blocks have as many bytes
+  pub blocks : live_bytes after ≡ live_bytes before
 
 -- the range was inserted as a pool
 pub record IsInserted (fllen sllen : ℕ) (r : Range) (before after : State) : Type 0 where
@@ -116,11 +122,21 @@ pub record IsInserted (fllen sllen : ℕ) (r : Range) (before after : State) : T
   pub untouched : (other : Range) → IsUntouched before.chunks other → AreApart r other → IsUntouched after.chunks other
   -- if nothing was live, the allocator is now sized for all bounds that the range is long enough for
   pub pool : SizesPool fllen sllen r before after
+  -- and for all budgets, whatever was live
+  pub budget : SizesPoolForBudget fllen sllen r after
+  -- it stays sized for the budgets that it was sized for
+  pub budgets : KeepsBudgets sllen before after
+  -- the blocks of live payloads have as many bytes as before
+  pub blocks : live_bytes after ≡ live_bytes before
 
 -- the range was appended to a pool
-pub record IsAppended (r : Range) (before after : State) : Type 0 where
+pub record IsAppended (sllen : ℕ) (r : Range) (before after : State) : Type 0 where
   -- a range that overlaps neither a chunk from before nor this range overlaps no chunk
   pub untouched : (other : Range) → IsUntouched before.chunks other → AreApart r other → IsUntouched after.chunks other
+  -- the allocator stays sized for the budgets that it was sized for
+  pub budgets : KeepsBudgets sllen before after
+  -- the blocks of live payloads have as many bytes as before
+  pub blocks : live_bytes after ≡ live_bytes before
 
 -- the range, of complete chunks, was removed
 pub record IsRemoved (r : Range) (before after : State) : Type 0 where
@@ -128,6 +144,8 @@ pub record IsRemoved (r : Range) (before after : State) : Type 0 where
   pub untouched : (other : Range) → IsUntouched before.chunks other → IsUntouched after.chunks other
   -- neither does the removed range
   pub gone : IsUntouched after.chunks r
+  -- the blocks of live payloads have as many bytes as before
+  pub blocks : live_bytes after ≡ live_bytes before
 
 -- ---- a refusal
 

@@ -166,7 +166,7 @@ pub fn append_in<const FLLEN: usize, const SLLEN: usize>(
     requires own { IsOwned memory.old range }
     ensures left { LeavesCore FLLEN SLLEN memory.old memory.new table.new state.old.state state.new.state (append_cost FLLEN range) }
     ensures step { Appends FLLEN (read_from memory.old state.old.state) range result (read_from memory.new state.new.state) }
-    ensures result { IsAppended range (read_from memory.old state.old.state) (read_from memory.new state.new.state) }
+    ensures result { IsAppended SLLEN range (read_from memory.old state.old.state) (read_from memory.new state.new.state) }
     ensures bounds { KeepsAllBounds SLLEN (read_from memory.old state.old.state) (read_from memory.new state.new.state) }
     ensures refused { result ≡ 0 → memory.new.bytes ≡ memory.old.bytes }
     ensures frame { KeepsFrameOfPools (allocator memory.old table.old state.old.state) (allocator memory.new table.new state.new.state) }

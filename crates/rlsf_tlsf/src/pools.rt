@@ -37,7 +37,8 @@ impl<FLBitmap: BitPattern, SLBitmap: BitPattern, const FLLEN: usize, const SLLEN
     /// no chunk; then nothing changes.
     ///
     /// Suppose that no payload is live and that the range starts at a multiple of 32. If its length is at least what
-    /// `pool_size_for_payloads` returns for some bounds, the allocator is then sized for them (`IsSizedFor`).
+    /// `pool_size_for_payloads` returns for some bounds, the allocator is then sized for them (`IsSizedFor`). For a budget
+    /// (`pool_size_for_budget`, `IsSizedForBudget`) payloads may be live.
     ///
     /// The range must lie in the memory and overlap no chunk.
     ///
@@ -119,7 +120,7 @@ impl<FLBitmap: BitPattern, SLBitmap: BitPattern, const FLLEN: usize, const SLLEN
     pub fn append_free_block_ptr(&mut self, range: Range) -> usize
         requires { IsNext (range_of self.old.memory) self.old.state range }
         ensures step { Steps FLLEN SLLEN self.old self.new (Appends FLLEN self.old.state range result) }
-        ensures result { IsAppended range self.old.state self.new.state }
+        ensures result { IsAppended SLLEN range self.old.state self.new.state }
         ensures bounds { KeepsAllBounds SLLEN self.old.state self.new.state }
         ensures refused { result ≡ 0 → self.new.memory.bytes ≡ self.old.memory.bytes }
         ensures frame { KeepsFrameOfPools self.old self.new }

@@ -13,7 +13,7 @@ ghost use Rattle.rlsf_model.specs.NoMove.{ReallocatesWithoutMove};
 ghost use Rattle.rlsf_model.specs.Reallocate.{Reallocates};
 ghost use Rattle.rlsf_model.specs.Release.{Deallocates};
 ghost use Rattle.rlsf_model.specs.Run.{Fills};
-ghost use Rattle.rlsf_model.specs.Sized.{IsSizedFor, live_count};
+ghost use Rattle.rlsf_model.specs.Sized.{IsSizedFor, live_bytes, live_count};
 ghost use Rattle.rlsf_model.specs.State.{empty};
 ghost use Rattle.rlsf_table.specs.Table.{newest_of, of_class};
 ghost use Rattle.rlsf_blocks.specs.Spare.{IsSpareWord};
@@ -65,7 +65,7 @@ impl<FLBitmap: BitPattern, SLBitmap: BitPattern, const FLLEN: usize, const SLLEN
 > {
     ghost use Rattle.rlsf_tlsf.specs.Allocator.{Stands, Steps};
     ghost use Rattle.rlsf_tlsf.specs.Lending.{LeavesRest, lends_payload, written};
-    ghost use Rattle.rlsf_tlsf.specs.Bounds.{IfWithinBounds, KeepsAllBounds, KeepsBounds};
+    ghost use Rattle.rlsf_tlsf.specs.Bounds.{KeepsAllBounds, KeepsBounds, TakesRoom, TakesRoomAgain};
     ghost use Rattle.rlsf_tlsf.specs.Results.{IsAllocated, IsDeallocated, IsFilled, IsReallocated, IsResized, IsUnchanged};
     ghost use Rattle.rlsf_tlsf.specs.Results.{KeepsFrame, KeepsFrameCopying, KeepsFrameInPlace, KeepsFrameMoving};
 
@@ -90,6 +90,7 @@ impl<FLBitmap: BitPattern, SLBitmap: BitPattern, const FLLEN: usize, const SLLEN
         ensures untouched { (r : Range) → IsUntouched result.state.chunks r }
         ensures stands { Stands FLLEN SLLEN result }
         ensures count { live_count result.state ≡ 0 }
+        ensures blocks { live_bytes result.state ≡ 0 }
         ensures memory { result.memory ≡ memory }
     {
         // Opens the memory's invariant for the prover: no address is 0, and each fits in a word.
@@ -116,7 +117,8 @@ impl<FLBitmap: BitPattern, SLBitmap: BitPattern, const FLLEN: usize, const SLLEN
     /// the newest free block of the first class that has a free block and reaches the sought size.
     ///
     /// Returns `None` if and only if no free block has a class that reaches the sought size; then nothing changes. Within
-    /// bounds that the allocator is sized for (`IsSizedFor`), an allocation is never refused.
+    /// bounds that the allocator is sized for (`IsSizedFor`), or within a budget (`IsSizedForBudget`), an allocation is never
+    /// refused.
     ///
     /// Completes in constant time: at most 27 word accesses, whatever the pools contain. No byte is copied.
     ///
@@ -133,7 +135,7 @@ impl<FLBitmap: BitPattern, SLBitmap: BitPattern, const FLLEN: usize, const SLLEN
     pub fn allocate(&mut self, layout: Layout) -> Option<Addr>
         ensures step { Steps FLLEN SLLEN self.old self.new (Allocates SLLEN self.old.state layout.size layout.align (reply result)) }
         ensures result { IfSome result (λ addr. IsAllocated self.old.state self.new.state layout.size layout.align (at addr)) }
-        ensures room { IfWithinBounds SLLEN self.old.state layout.size layout.align (IsSome result) }
+        ensures room { TakesRoom SLLEN self.old.state self.new.state layout.size layout.align (IsSome result) }
         ensures bounds { KeepsBounds SLLEN self.old.state self.new.state layout.size layout.align }
         ensures refused { IfNone result (IsUnchanged self.old self.new) }
         ensures frame { KeepsFrame self.old self.new }
@@ -221,7 +223,7 @@ impl<FLBitmap: BitPattern, SLBitmap: BitPattern, const FLLEN: usize, const SLLEN
     /// - It moves into a newly allocated block, and the old block is deallocated.
     ///
     /// Returns `None` if and only if this allocation is refused; then nothing changes. Within bounds that the allocator
-    /// is sized for (`IsSizedFor`), a reallocation is never refused.
+    /// is sized for (`IsSizedFor`), or within a budget (`IsSizedForBudget`), a reallocation is never refused.
     ///
     /// The payload at `addr` must be live, with the alignment of `layout`.
     ///
@@ -240,7 +242,7 @@ impl<FLBitmap: BitPattern, SLBitmap: BitPattern, const FLLEN: usize, const SLLEN
         requires { align_at self.old.state (at addr) ≡ Some layout.align }
         ensures step { Steps FLLEN SLLEN self.old self.new (Reallocates SLLEN self.old.state (at addr) layout.size (reply result)) }
         ensures result { IfSome result (λ to. IsReallocated self.old.state self.new.state (at addr) layout.size layout.align (at to)) }
-        ensures room { IfWithinBounds SLLEN self.old.state layout.size layout.align (IsSome result) }
+        ensures room { TakesRoomAgain SLLEN self.old.state self.new.state (at addr) layout.size layout.align (IsSome result) }
         ensures bounds { KeepsBounds SLLEN self.old.state self.new.state layout.size layout.align }
         ensures refused { IfNone result (IsUnchanged self.old self.new) }
         ensures frame { KeepsFrameMoving (at addr) layout.size self.old self.new }
@@ -357,6 +359,7 @@ impl<FLBitmap: BitPattern, SLBitmap: BitPattern, const FLLEN: usize, const SLLEN
         ensures bytes { (w : List ℕ) (a : ℕ) → a ≢ at addr → bytes_at (written self.old (at addr) (length result.now) w).state a ≡ bytes_at self.old.state a }
         ensures aligns { (w : List ℕ) → align_at (written self.old (at addr) (length result.now) w).state ≡ align_at self.old.state }
         ensures count { (w : List ℕ) → live_count (written self.old (at addr) (length result.now) w).state ≡ live_count self.old.state }
+        ensures blocks { (w : List ℕ) → live_bytes (written self.old (at addr) (length result.now) w).state ≡ live_bytes self.old.state }
         ensures bounds { (w : List ℕ) (count size align : ℕ) → IsSizedFor SLLEN count size align self.old.state
             → IsSizedFor SLLEN count size align (written self.old (at addr) (length result.now) w).state }
         ensures lengths { (w : List ℕ) → length (bytes_at (written self.old (at addr) (length result.now) w).state (at addr)) ≡ length result.now }

@@ -17,7 +17,7 @@ impl<FLBitmap: BitPattern, SLBitmap: BitPattern, const FLLEN: usize, const SLLEN
     SLLEN,
 > {
     ghost use Rattle.rlsf_tlsf.specs.Allocator.{Steps};
-    ghost use Rattle.rlsf_tlsf.specs.Bounds.{IfWithinBounds, KeepsBoundsAnyAlign};
+    ghost use Rattle.rlsf_tlsf.specs.Bounds.{HasRoom, KeepsBoundsAnyAlign};
     ghost use Rattle.rlsf_tlsf.specs.Results.{IsReallocatedAnyAlign, IsUnchanged, KeepsFrameMoving};
     ghost use Rattle.rlsf_tlsf.specs.UnknownAlign.{ReallocatesAnyAlign};
 
@@ -30,7 +30,7 @@ impl<FLBitmap: BitPattern, SLBitmap: BitPattern, const FLLEN: usize, const SLLEN
     /// It does not move into the free block before it, since its place there would depend on its alignment.
     ///
     /// Returns `None` if and only if this allocation is refused; then nothing changes. Within bounds that the allocator
-    /// is sized for (`IsSizedFor`), a reallocation is never refused.
+    /// is sized for (`IsSizedFor`), or within a budget (`IsSizedForBudget`), a reallocation is never refused.
     ///
     /// The payload at `addr` must be live, with any alignment.
     ///
@@ -48,7 +48,7 @@ impl<FLBitmap: BitPattern, SLBitmap: BitPattern, const FLLEN: usize, const SLLEN
         requires { IsSome (align_at self.old.state (at addr)) }
         ensures step { Steps FLLEN SLLEN self.old self.new (ReallocatesAnyAlign SLLEN self.old.state (at addr) layout.size layout.align (reply result)) }
         ensures result { IfSome result (λ to. IsReallocatedAnyAlign self.old.state self.new.state (at addr) layout.size layout.align (at to)) }
-        ensures room { IfWithinBounds SLLEN self.old.state layout.size layout.align (IsSome result) }
+        ensures room { HasRoom SLLEN self.old.state layout.size layout.align (IsSome result) }
         ensures bounds { KeepsBoundsAnyAlign SLLEN self.old.state (at addr) layout.size layout.align self.new.state }
         ensures refused { IfNone result (IsUnchanged self.old self.new) }
         ensures frame { KeepsFrameMoving (at addr) layout.size self.old self.new }

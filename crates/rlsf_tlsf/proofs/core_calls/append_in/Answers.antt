@@ -2,13 +2,16 @@ use Rattle.std.proofs.Common.{◌≡◌, arith, sym, ◌∙◌, ap}
 use Rattle.rlsf_base.specs.Space.{range_of}
 use Rattle.rlsf_model.specs.Insert.{Appends}
 use Rattle.rlsf_model.specs.Run.{append}
+use Rattle.rlsf_model.proofs.BudgetWords.{budget_kept}
 use Rattle.rlsf_model.proofs.CallerWords.{same_seen}
 use Rattle.rlsf_model.proofs.Callers.{callers_see_map}
+use Rattle.rlsf_model.proofs.Chunks.{used-appended}
 use Rattle.rlsf_model.proofs.SizedWords.{count_appended, sized_appended}
 use Rattle.rlsf_model.proofs.AppendedRanges.{untouched_appended}
 use Rattle.rlsf_table.proofs.Costs.{SamePlace-costs, copied_none}
 use Rattle.rlsf_blocks.specs.Laws.{read_from}
 use Rattle.rlsf_tlsf.specs.Steps.Moves.{appended_to, bare}
+use Rattle.rlsf_tlsf.proofs.LiveBytes.{bytes_same_used}
 use Rattle.rlsf_tlsf.proofs.Moved.{appended_to-bare}
 use Rattle.rlsf_tlsf.proofs.Reached.{LeavesCore-arrived, bare-core, reads}
 use Rattle.rlsf_tlsf.proofs.core_calls.append_in.Goals as goal
@@ -35,7 +38,11 @@ returns g c =
     record {
       left = LeavesCore-arrived stands k kept are.valid spare e.costs e.own e.here;
       step = step;
-      result = record { untouched = untouched_appended g.row.FLLEN s t r taken step };
+      result = record {
+        untouched = untouched_appended g.row.FLLEN s t r taken step;
+        budgets = λ count bytes size align sized. budget_kept well t count bytes size align sized (append r taken) (λ removal. removal) step;
+        blocks = bytes_same_used s t (used-appended g.row.FLLEN s t r taken step);
+      };
       bounds = λ count size align sized. sized_appended well t count size align sized r taken c.requires.next step;
       refused = e.unchanged;
       frame = record {

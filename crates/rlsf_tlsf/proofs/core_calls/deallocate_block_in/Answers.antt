@@ -7,6 +7,7 @@ use Rattle.rlsf_model.proofs.SizedWords.{count_gone, sized_gone}
 use Rattle.rlsf_blocks.specs.Laws.{read_from}
 use Rattle.rlsf_tlsf.specs.Results.{IsDeallocated}
 use Rattle.rlsf_tlsf.specs.Steps.Moves.{bare, deallocated}
+use Rattle.rlsf_tlsf.proofs.LiveBytes.{bytes_less}
 use Rattle.rlsf_tlsf.proofs.Moved.{deallocated-bare}
 use Rattle.rlsf_tlsf.proofs.Reached.{LeavesCore-arrived, bare-core, reads}
 use Rattle.rlsf_tlsf.proofs.core_calls.deallocate_block_in.Goals as goal
@@ -36,6 +37,6 @@ returns g c =
       left = LeavesCore-arrived stands k kept are.valid spare e.costs e.own e.here;
       step = reads stands k kept (Deallocates s addr) did;
       result = reads stands k kept (λ (x : State). IsDeallocated s x addr)
-          (record { gone = seen.gone; aligns = seen.aligns; bytes = seen.bytes; count = count_gone well t addr (u, holds) did });
+          (record { gone = seen.gone; aligns = seen.aligns; bytes = seen.bytes; count = count_gone well t addr (u, holds) did; freed = bytes_less well t addr did });
       bounds = λ count most widest sized. reads stands k kept (IsSizedFor g.row.SLLEN count most widest) (sized_gone well t count most widest sized addr (u, holds) did);
     }

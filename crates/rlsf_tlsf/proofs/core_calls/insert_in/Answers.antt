@@ -3,13 +3,16 @@ use Rattle.rlsf_base.specs.Addr.{reply}
 use Rattle.rlsf_base.specs.Space.{range_of}
 use Rattle.rlsf_model.specs.Insert.{Inserts}
 use Rattle.rlsf_model.specs.Run.{insert}
+use Rattle.rlsf_model.proofs.BudgetWords.{budget_kept, budget_pool}
 use Rattle.rlsf_model.proofs.CallerWords.{same_seen}
 use Rattle.rlsf_model.proofs.Callers.{callers_see_map}
+use Rattle.rlsf_model.proofs.Chunks.{used-inserted}
 use Rattle.rlsf_model.proofs.SizedWords.{count_inserted, sized_inserted, sized_pool}
 use Rattle.rlsf_model.proofs.Untouched.{untouched_inserted}
 use Rattle.rlsf_table.proofs.Costs.{SamePlace-costs, copied_none}
 use Rattle.rlsf_blocks.specs.Laws.{read_from}
 use Rattle.rlsf_tlsf.specs.Steps.Moves.{bare, inserted}
+use Rattle.rlsf_tlsf.proofs.LiveBytes.{bytes_same_used}
 use Rattle.rlsf_tlsf.proofs.Moved.{inserted-bare}
 use Rattle.rlsf_tlsf.proofs.Reached.{LeavesCore-arrived, bare-core, reads}
 use Rattle.rlsf_tlsf.proofs.core_calls.insert_in.Goals as goal
@@ -40,6 +43,10 @@ returns g c =
         untouched = untouched_inserted g.row.FLLEN s t r taken step;
         pool = λ count size align len told at32 long idle.
             sized_pool 128 128 g.row.FLLEN g.row.SLLEN count size align len s t r taken are.valid told at32 long idle step;
+        budget = λ count bytes size align len told at32 long.
+            budget_pool 128 128 g.row.FLLEN g.row.SLLEN count bytes size align len s t r taken are.valid told at32 long step;
+        budgets = λ count bytes size align sized. budget_kept well t count bytes size align sized (insert r taken) (λ removal. removal) step;
+        blocks = bytes_same_used s t (used-inserted g.row.FLLEN s t r taken step);
       };
       bounds = λ count size align sized. sized_inserted well t count size align sized r taken c.requires.fresh step;
       refused = e.refused;

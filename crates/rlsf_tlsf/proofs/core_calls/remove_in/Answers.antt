@@ -10,6 +10,7 @@ use Rattle.rlsf_blocks.specs.Blocks.{walked}
 use Rattle.rlsf_blocks.specs.Laws.{read_from}
 use Rattle.rlsf_blocks.specs.Spare.{KeepsSpare}
 use Rattle.rlsf_tlsf.specs.Steps.Moves.{bare}
+use Rattle.rlsf_tlsf.proofs.LiveBytes.{bytes_same_used}
 use Rattle.rlsf_tlsf.proofs.Reached.{IsCore-arrived, bare-core, reads}
 use Rattle.rlsf_tlsf.proofs.Removed.{IsRemovable-row, untouched_gone, untouched_removed}
 use Rattle.rlsf_tlsf.proofs.core_calls.remove_in.Goals as goal
@@ -54,7 +55,11 @@ returns g c =
         here = e.here;
       };
       step = step;
-      result = record { untouched = untouched_removed well r row idle t step; gone = untouched_gone well r row idle t step };
+      result = record {
+        untouched = untouched_removed well r row idle t step;
+        gone = untouched_gone well r row idle t step;
+        blocks = bytes_same_used s t (ap (λ (x : State). x.used) step);
+      };
       frame = record {
         aligns = seen.aligns;
         bytes = seen.bytes;

@@ -42,7 +42,7 @@ returns-in_default g c =
       room = did.room;
       bounds = did.bounds;
       refused = record { answer = refl; same = did.refused.same; pool = refl; bytes = did.refused.bytes };
-      frame = record { pool = refl; place = did.frame.place; grow = did.frame.grow; copied = did.frame.copied };
+      frame = record { chunks = did.frame.chunks; pool = refl; place = did.frame.place; grow = did.frame.grow; copied = did.frame.copied };
       touches = did.touches;
     })
 
@@ -55,6 +55,6 @@ returns g c =
       room = did.room;
       bounds = did.bounds;
       refused = record { answer = tt; same = tt; pool = tt; bytes = tt };
-      frame = record { pool = refl; place = did.frame.place; grow = did.frame.grow; copied = did.frame.copied };
+      frame = record { chunks = did.frame.chunks; pool = refl; place = did.frame.place; grow = did.frame.grow; copied = did.frame.copied };
       touches = did.touches;
     })

@@ -103,6 +103,7 @@ returns-then-not-lies_in g c =
       step = tt;
       result = tt;
       bounds = λ count size align sized. sized;
+      room = record { budgets = λ count bytes size align sized. sized; blocks = refl };
       refused = record {
         answer = sym (none_outside g.row.FLLEN (checked c.self.inside.heap c.self.inside.pool) c.args.range outside);
         same = refl;
@@ -122,6 +123,7 @@ returns-then-not-is_next g c =
       step = tt;
       result = tt;
       bounds = λ count size align sized. sized;
+      room = record { budgets = λ count bytes size align sized. sized; blocks = refl };
       refused = record {
         answer = sym (none_apart g.row.FLLEN (checked c.self.inside.heap c.self.inside.pool) c.args.range within apart);
         same = refl;
@@ -141,6 +143,7 @@ returns-then-taken-eq0 g c =
       step = tt;
       result = tt;
       bounds = did.bounds;
+      room = record { budgets = did.result.budgets; blocks = did.result.blocks };
       refused = record {
         answer =
             sym (next_answer g.row.FLLEN (checked c.self.inside.heap c.self.inside.pool) c.args.range is.within is.next
@@ -162,6 +165,7 @@ returns g c =
       step = did.step;
       result = refl;
       bounds = did.bounds;
+      room = record { budgets = did.result.budgets; blocks = did.result.blocks };
       refused = record {
         answer =
             sym (next_answer g.row.FLLEN (checked c.self.inside.heap c.self.inside.pool) c.args.range is.within is.next ∙ ap if_appended (sym step.answer)

@@ -46,11 +46,13 @@ returns g c =
       step = did.step;
       result = did.result.filled;
       bounds = did.bounds;
+      blocks = did.result.blocks;
       refused = record { answer = ap (λ b. cond b (Ok tt) (Err OutOfRange)) fits ∙ in_range _ _ _ _ _ from to; same = tt };
       frame = record {
         aligns = did.result.aligns;
         bytes = did.result.bytes;
         count = did.result.count;
+        chunks = did.frame.chunks;
         pool = refl;
         place = did.frame.place;
         copied = did.frame.copied;
@@ -65,6 +67,7 @@ returns-in_default g c =
       step = tt;
       result = tt;
       bounds = λ count size align sized. sized;
+      blocks = refl;
       refused = record { answer = not_from _ _ _ from; same = refl };
       frame = frame_copying_unchanged (at c.args.to) c.args.len (checked c.self.inside.heap c.self.inside.pool) UnknownAddress;
       touches = refl;
@@ -78,6 +81,7 @@ returns-in_default-alignment g c =
       step = tt;
       result = tt;
       bounds = λ count size align sized. sized;
+      blocks = refl;
       refused = record { answer = not_to _ _ _ _ from to; same = refl };
       frame = frame_copying_unchanged (at c.args.to) c.args.len (checked c.self.inside.heap c.self.inside.pool) UnknownAddress;
       touches = refl;
@@ -92,6 +96,7 @@ returns-then-not-both_reach g c =
       step = tt;
       result = tt;
       bounds = λ count size align sized. sized;
+      blocks = refl;
       refused = record { answer = ap (λ b. cond b (Ok tt) (Err OutOfRange)) fits ∙ in_range _ _ _ _ _ from to; same = refl };
       frame = frame_copying_unchanged (at c.args.to) c.args.len (checked c.self.inside.heap c.self.inside.pool) OutOfRange;
       touches = refl;

@@ -30,10 +30,10 @@ returns-in-Some g c =
     let did = c.deallocate.ensures in
     rw (← c.self.view_is) (record {
       step = did.step;
-      result = record { gone = did.result.gone; aligns = did.result.aligns; bytes = did.result.bytes; count = did.result.count };
+      result = record { gone = did.result.gone; aligns = did.result.aligns; bytes = did.result.bytes; count = did.result.count; freed = did.result.freed };
       bounds = did.bounds;
       refused = record { answer = ap (λ o. if_live o tt) live; same = tt };
-      frame = record { pool = refl; place = did.frame.place; grow = did.frame.grow; copied = did.frame.copied };
+      frame = record { chunks = did.frame.chunks; pool = refl; place = did.frame.place; grow = did.frame.grow; copied = did.frame.copied };
       touches = did.touches;
     })
 
@@ -42,9 +42,9 @@ returns-in-None g c =
     let none = rw (← c.self.view_is) at c.in-None.ensures.value in
     rw (← c.self.view_is) (record {
       step = tt;
-      result = record { gone = sym none; aligns = λ a apart. refl; bytes = λ a apart. refl; count = tt };
+      result = record { gone = sym none; aligns = λ a apart. refl; bytes = λ a apart. refl; count = tt; freed = tt };
       bounds = λ count size align sized. sized;
       refused = record { answer = ap (λ o. if_live o tt) none; same = refl };
-      frame = record { pool = refl; place = (refl, refl, refl, λ none. none); grow = omega arith; copied = refl };
+      frame = record { chunks = refl; pool = refl; place = (refl, refl, refl, λ none. none); grow = omega arith; copied = refl };
       touches = omega arith;
     })

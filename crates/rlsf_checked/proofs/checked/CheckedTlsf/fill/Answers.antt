@@ -33,6 +33,7 @@ returns-in_default g c =
       step = tt;
       result = tt;
       bounds = λ count size align sized. sized;
+      blocks = refl;
       refused = record { answer = ap (λ o. if_live o tt) none; same = refl };
       frame = frame_in_place_unchanged (at c.args.addr) (checked c.self.inside.heap c.self.inside.pool);
       touches = omega arith;
@@ -53,11 +54,13 @@ returns g c =
           (did.meaning w (long g k));
       result = did.filled w (long g k) ∙ over g k;
       bounds = did.bounds w;
+      blocks = did.blocks w;
       refused = record { answer = ap (λ o. if_live o tt) live; same = tt };
       frame = record {
         aligns = did.aligns w;
         bytes = did.bytes w;
         count = did.count w;
+        chunks = chunks;
         pool = refl;
         place = place;
         grow = omega (arith, touches);

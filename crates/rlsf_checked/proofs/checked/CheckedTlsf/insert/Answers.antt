@@ -98,7 +98,12 @@ returns-then-not-lies_in g c =
     rw (← c.self.view_is) (record {
       step = tt;
       result = tt;
-      room = λ count size align len told at32 long idle. tt;
+      room = record {
+        pool = λ count size align len told at32 long idle. tt;
+        budget = λ count bytes size align len told at32 long. tt;
+        budgets = λ count bytes size align sized. sized;
+        blocks = refl;
+      };
       bounds = λ count size align sized. sized;
       refused = record {
         answer = sym (outside_answer g.row.FLLEN (checked c.self.inside.heap c.self.inside.pool) c.args.range outside);
@@ -117,7 +122,12 @@ returns-then-range-self g c =
     rw (← c.self.view_is) (record {
       step = tt;
       result = tt;
-      room = λ count size align len told at32 long idle. tt;
+      room = record {
+        pool = λ count size align len told at32 long idle. tt;
+        budget = λ count bytes size align len told at32 long. tt;
+        budgets = λ count bytes size align sized. sized;
+        blocks = refl;
+      };
       bounds = λ count size align sized. sized;
       refused = record {
         answer = sym (before_answer g.row.FLLEN (checked c.self.inside.heap c.self.inside.pool) c.args.range within c.if-range-self.true);
@@ -137,7 +147,12 @@ returns-in_default g c =
     rw (← c.self.view_is) (record {
       step = tt;
       result = tt;
-      room = λ count size align len told at32 long idle. tt;
+      room = record {
+        pool = λ count size align len told at32 long idle. tt;
+        budget = λ count bytes size align len told at32 long. tt;
+        budgets = did.result.budgets;
+        blocks = did.result.blocks;
+      };
       bounds = did.bounds;
       refused = record {
         answer = sym (behind_answer g.row.FLLEN (checked c.self.inside.heap c.self.inside.pool) c.args.range is.within is.behind ∙ ap if_taken (sym step.answer));
@@ -161,7 +176,7 @@ returns g c =
           (sym c.get-len.ensures.value)
           did.step;
       result = refl;
-      room = did.result.pool;
+      room = record { pool = did.result.pool; budget = did.result.budget; budgets = did.result.budgets; blocks = did.result.blocks };
       bounds = did.bounds;
       refused = record {
         answer =

@@ -3,9 +3,10 @@ use Rattle.std.proofs.lemmas.Option.{none-some}
 use Rattle.std.specs.declared.num.NonZeroUsize.{NonZeroUsize}
 use Rattle.rlsf_base.specs.Addr.{at}
 use Rattle.rlsf_base.specs.PowerOfTwo.{floor_log2}
+use Rattle.rlsf_base.specs.Sizes.{request_size}
 use Rattle.rlsf_model.specs.Callers.{align_at, bytes_at}
 use Rattle.rlsf_model.specs.Reallocate.{Reallocates}
-use Rattle.rlsf_model.specs.Sized.{IsSizedFor}
+use Rattle.rlsf_model.specs.Sized.{IsSizedFor, live_bytes}
 use Rattle.rlsf_tlsf.specs.Allocator.{Steps}
 use Rattle.rlsf_checked.specs.Answers.{IsRefusedBy, size_refusal}
 use Rattle.rlsf_checked.specs.declared.error.CheckedError.TheVariants.{NoLayout, NoRoom, UnknownAddress}
@@ -18,6 +19,9 @@ use Rattle.rlsf_checked.proofs.Unchanged.{frame_moving_unchanged}
 use Rattle.rlsf_checked.proofs.checked.CheckedTlsf.reallocate.Given as given
 use Rattle.rlsf_checked.proofs.checked.CheckedTlsf.reallocate.Goals as goal
 use Rattle.rlsf_checked.proofs.checked.CheckedTlsf.reallocate.Goals.{After-reallocate}
+
+same_align : {m n : ℕ} → Some m ≡ Some n → m ≡ n
+same_align e = cc
 
 -- what the pools are sized for is kept
 bounds_kept : (g : given.Over) (c : After-reallocate g) (count most_size align : ℕ) → IsSizedFor g.row.SLLEN count most_size align c.self.inside.heap.state
@@ -33,7 +37,7 @@ frame_moving : (g : given.Over) (c : After-reallocate g)
     → KeepsCheckedFrameMoving (at c.args.addr) (checked c.self.inside.heap c.self.inside.pool) (checked c.reallocate.new.self c.self.inside.pool)
 frame_moving g c =
     let is = c.reallocate.ensures.frame in
-    record { count = is.count; pool = refl; place = is.place; grow = is.grow; copied = is.copied; grow_copied = is.grow_copied }
+    record { count = is.count; chunks = is.chunks; pool = refl; place = is.place; grow = is.grow; copied = is.copied; grow_copied = is.grow_copied }
 
 pub invariant_of-self : goal.invariant_of-self
 invariant_of-self g c =
@@ -80,7 +84,11 @@ returns-in_default g c =
     rw (← c.self.view_is) (record {
       step = λ fits. absurd (none-some _ (sym fits ∙ refused));
       result = tt;
-      room = λ count most_size align sized few short fits fine. absurd (none-some _ (sym fine ∙ refused));
+      room = record {
+        bounds = λ count most_size align sized few short fits fine. absurd (none-some _ (sym fine ∙ refused));
+        budget = λ count bytes most_size align sized few little short fits fine. absurd (none-some _ (sym fine ∙ refused));
+        bytes = λ align live. tt;
+      };
       bounds = λ count most_size align sized short fits. sized;
       refused = record {
         answer = subst (λ o. IsRefusedBy {A = NonZeroUsize} o (Err UnknownAddress)) (sym refused) refl;
@@ -99,7 +107,11 @@ returns-in_default-from_size_align g c =
     rw (← c.self.view_is) (record {
       step = λ fits. absurd (none-some _ (sym fits ∙ refused));
       result = tt;
-      room = λ count most_size align sized few short fits fine. absurd (none-some _ (sym fine ∙ refused));
+      room = record {
+        bounds = λ count most_size align sized few short fits fine. absurd (none-some _ (sym fine ∙ refused));
+        budget = λ count bytes most_size align sized few little short fits fine. absurd (none-some _ (sym fine ∙ refused));
+        bytes = λ align live. tt;
+      };
       bounds = λ count most_size align sized short fits. sized;
       refused = record {
         answer = subst (λ o. IsRefusedBy {A = NonZeroUsize} o (Err NoLayout)) (sym refused) refl;
@@ -121,9 +133,15 @@ returns-in_default-reallocate g c =
           λ fits. subst (λ n. Steps g.row.FLLEN g.row.SLLEN c.self.inside.heap c.reallocate.new.self (Reallocates g.row.SLLEN c.self.inside.heap.state (at c.args.addr) n None))
           size did.step;
       result = tt;
-      room = λ count most_size most sized few short fits fine.
-          let low : c.in-Some.align ≤ most = subst (λ o. IfSome o (λ a. a ≤ most)) (sym live) fits in
-          did.room count most_size most sized few (omega (arith, short, size)) (omega (arith, low, align));
+      room = record {
+        bounds = λ count most_size most sized few short fits fine.
+            let low : c.in-Some.align ≤ most = subst (λ o. IfSome o (λ a. a ≤ most)) (sym live) fits in
+            did.room.bounds count most_size most sized few (omega (arith, short, size)) (omega (arith, low, align));
+        budget = λ count bytes most_size most sized few little short fits fine.
+            let low : c.in-Some.align ≤ most = subst (λ o. IfSome o (λ a. a ≤ most)) (sym live) fits in
+            did.room.budget count bytes most_size most sized few little (omega (arith, short, size)) (omega (arith, low, align));
+        bytes = λ align live. tt;
+      };
       bounds = bounds_kept g (goal.at.returns-in_default-reallocate g c).After-reallocate;
       refused = record {
         answer =
@@ -160,7 +178,14 @@ returns g c =
         aligns = did.result.aligns;
         bytes = did.result.bytes;
       };
-      room = λ count most_size most sized few short fits fine. refl;
+      room = record {
+        bounds = λ count most_size most sized few short fits fine. refl;
+        budget = λ count bytes most_size most sized few little short fits fine. refl;
+        bytes = λ wide is.
+            let same : wide ≡ c.in-Ok.layout.align = sym (same_align (live ∙ is)) ∙ sym align in
+            subst (λ (n : ℕ × ℕ). live_bytes new.state + request_size (length (bytes_at heap.state addr)) 16 ≤ live_bytes heap.state + request_size n.0 n.1)
+            (λ i. (size i, sym same i)) (did.room.bytes refl);
+      };
       bounds = bounds_kept g (goal.at.returns g c).After-reallocate;
       refused = record {
         answer =

@@ -41,7 +41,7 @@ frame_in_place : (g : given.Over) (c : After-reallocate_no_move g)
     → KeepsCheckedFrameInPlace (at c.args.addr) (checked c.self.inside.heap c.self.inside.pool) (checked c.reallocate_no_move.new.self c.self.inside.pool)
 frame_in_place g c =
     let is = c.reallocate_no_move.ensures.frame in
-    record { aligns = is.aligns; bytes = is.bytes; count = is.count; pool = refl; place = is.place; grow = is.grow; copied = is.copied }
+    record { aligns = is.aligns; bytes = is.bytes; count = is.count; chunks = is.chunks; pool = refl; place = is.place; grow = is.grow; copied = is.copied }
 
 pub invariant_of-self : goal.invariant_of-self
 invariant_of-self g c =

@@ -42,6 +42,7 @@ returns-in_default g c =
       step = tt;
       result = tt;
       bounds = λ count size align sized. sized;
+      blocks = refl;
       refused = record { answer = ap (λ o. if_in_range o (fits c.args.offset (length c.args.bytes.now) (bytes_at c.self.inside.heap.state (at c.args.addr)))) none; same = refl };
       frame = frame_in_place_unchanged (at c.args.addr) (checked c.self.inside.heap c.self.inside.pool);
       touches = omega arith;
@@ -55,6 +56,7 @@ returns-then-not-reaches g c =
       step = tt;
       result = tt;
       bounds = λ count size align sized. sized;
+      blocks = refl;
       refused = record {
         answer =
             subst (λ o. Err OutOfRange ≡ if_in_range o (fits c.args.offset (length c.args.bytes.now) (bytes_at c.self.inside.heap.state (at c.args.addr)))) live
@@ -81,6 +83,7 @@ returns g c =
           (did.meaning w c.write_at.ensures.len);
       result = did.filled w c.write_at.ensures.len ∙ is;
       bounds = did.bounds w;
+      blocks = did.blocks w;
       refused = record {
         answer =
             subst (λ o. Ok tt ≡ if_in_range o (fits c.args.offset (length c.args.bytes.now) (bytes_at heap.state addr))) live
@@ -91,6 +94,7 @@ returns g c =
         aligns = did.aligns w;
         bytes = did.bytes w;
         count = did.count w;
+        chunks = chunks;
         pool = refl;
         place = place;
         grow = omega (arith, touches);

@@ -37,7 +37,7 @@ returns-in-Some g c =
           allocated_in_room c.args.layout.size c.args.layout.align c.allocate.new.self is.frame.place c.self.invariant.stands c.self.invariant.whole g.S.FlexSource.leads
           (at c.in-Some.addr) is.step;
       result = is.result;
-      room = record { room = is.room; unasked = λ count size align sized few short fits. refl };
+      room = record { room = is.room.bounds; unasked = λ count size align sized few short fits. refl };
       bounds = is.bounds;
       refused = tt;
       frame = record { place = is.frame.place; grow = is.frame.grow; copied = is.frame.copied };
@@ -59,7 +59,7 @@ sure : (g : given.Over) (c : In_default g) (count size align : ℕ) → IsSizedF
     → c.args.layout.align ≤ align → ⊥
 sure g c count size align sized few short fits =
     let none : c.allocate.result ≡ None = c.in_default.is in
-    true≢false (sym (subst IsSome none (c.allocate.ensures.room count size align sized few short fits)))
+    true≢false (sym (subst IsSome none (c.allocate.ensures.room.bounds count size align sized few short fits)))
 
 -- and left each byte
 bytes_stay : (g : given.Over) (c : In_default g) → c.allocate.new.self.memory.bytes ≡ c.self.inside.parts.tlsf.memory.bytes

@@ -42,7 +42,7 @@ returns-in-Some g c =
           reallocated_in_room (at c.args.addr) c.args.layout.size c.args.layout.align c.reallocate.new.self is.frame.place c.self.invariant.stands c.self.invariant.whole
           g.S.FlexSource.leads (at c.in-Some.moved) is.step;
       result = is.result;
-      room = record { room = is.room; unasked = λ count size align sized few short fits. refl };
+      room = record { room = is.room.bounds; unasked = λ count size align sized few short fits. refl };
       bounds = is.bounds;
       refused = tt;
       frame = record {
@@ -75,7 +75,7 @@ sure : (g : given.Over) (c : In_default g) (count size align : ℕ) → IsSizedF
     → c.args.layout.align ≤ align → ⊥
 sure g c count size align sized few short fits =
     let none : c.reallocate.result ≡ None = c.in_default.is in
-    true≢false (sym (subst IsSome none (c.reallocate.ensures.room count size align sized few short fits)))
+    true≢false (sym (subst IsSome none (c.reallocate.ensures.room.bounds count size align sized few short fits)))
 
 -- and left each byte
 bytes_stay : (g : given.Over) (c : In_default g) → c.reallocate.new.self.memory.bytes ≡ c.self.inside.parts.tlsf.memory.bytes

@@ -5,6 +5,7 @@ use Rattle.rlsf_blocks.specs.Laws.{read_from}
 use Rattle.rlsf_blocks.proofs.Words.NonZeroNumbers.{number, on_none, on_some}
 use Rattle.rlsf_tlsf.specs.Allocator.{Steps, allocator}
 use Rattle.rlsf_tlsf.specs.Results.{IsAllocated}
+use Rattle.rlsf_tlsf.proofs.LiveBytes.{budget_allows, bytes_more}
 use Rattle.rlsf_tlsf.proofs.Opened.{IsAllocator-opened, view-opened}
 use Rattle.rlsf_tlsf.proofs.Replied.{some_answer}
 use Rattle.rlsf_tlsf.proofs.Whole.{Steps-left, frame-left}
@@ -24,7 +25,11 @@ returns-in-Some g c =
       step = subst (λ o. Steps g.row.FLLEN g.row.SLLEN before after (Allocates g.row.SLLEN before.state size align o)) (sym answer)
           (Steps-left is e.left (Allocates g.row.SLLEN before.state size align (Some start)) e.step);
       result = on_some (IsAllocated before.state after.state size align) c.new.result start c.new.ensures e.result.made;
-      room = λ count most widest sized few short fits. some_answer c.new.result start answer;
+      room = record {
+        bounds = λ count most widest sized few short fits. some_answer c.new.result start answer;
+        budget = λ count bytes most widest sized few little short fits. some_answer c.new.result start answer;
+        bytes = bytes_more is.stands.well_formed after.state size align (Some start) c.args.layout.valid.aligned e.step;
+      };
       bounds = e.bounds;
       refused = on_none c.new.result start c.new.ensures (λ zero. absurd (omega (arith, e.result.some, zero)));
       frame = frame-left is e.left (chunks-allocated g.row.SLLEN before.state after.state size align (Some start) e.step);
@@ -40,7 +45,11 @@ returns-in-None g c =
     rw (← view-opened c.self-inside.view_is c.self.view_is) (record {
       step = Steps-left is e.left (Allocates g.row.SLLEN before.state c.args.layout.size c.args.layout.align None) e.step;
       result = tt;
-      room = e.room;
+      room = record {
+        bounds = e.room;
+        budget = budget_allows is.stands.well_formed after c.args.layout.size c.args.layout.align _ e.step;
+        bytes = bytes_more is.stands.well_formed after c.args.layout.size c.args.layout.align None c.args.layout.valid.aligned e.step;
+      };
       bounds = e.bounds;
       refused = e.refused;
       frame = frame-left is e.left (chunks-allocated g.row.SLLEN before.state after c.args.layout.size c.args.layout.align None e.step);

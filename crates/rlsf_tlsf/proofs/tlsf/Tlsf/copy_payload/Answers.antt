@@ -18,6 +18,7 @@ use Rattle.rlsf_blocks.proofs.Payloads.Fronts.{LiesIn-front, stands_copied}
 use Rattle.rlsf_tlsf.specs.Allocator.{Allocator, IsAllocator, allocator, Steps}
 use Rattle.rlsf_tlsf.specs.Steps.Moves.{bare}
 use Rattle.rlsf_tlsf.proofs.Arrivals.{IsAllocator-arrived, Steps-arrived, bare-filled, bare-kept, bytes_inside, long_inside, opened, some_inside, view_well_formed}
+use Rattle.rlsf_tlsf.proofs.LiveBytes.{bytes_filled}
 use Rattle.rlsf_tlsf.proofs.Opened.{IsAllocator-opened, view-opened}
 use Rattle.rlsf_tlsf.proofs.tlsf.Tlsf.copy_payload.Given as given
 use Rattle.rlsf_tlsf.proofs.tlsf.Tlsf.copy_payload.Goals as goal
@@ -120,6 +121,7 @@ returns g c =
         bytes = seen.bytes;
         aligns = λ i a. seen.aligns a i;
         count = count_filled w (after g d).state (at c.args.to) (front g d) (fills.block, fills.holds) fills;
+        blocks = bytes_filled c.args.self.now.state (after g d).state (at c.args.to) (front g d) fills;
       };
       bounds = λ count size align sized. sized_filled w (after g d).state count size align sized (at c.args.to) (front g d) (fills.block, fills.holds) fills;
       frame = record {

@@ -1,8 +1,9 @@
 use Rattle.std.proofs.Common.{◌≡◌, ℕ, ◌+◌, ◌^◌, ◌<◌, ◌≤◌, [], true, length, arith, ◌∙◌, ap, rules, sym, subst}
 use Rattle.rlsf_base.specs.Space.{Space}
 use Rattle.rlsf_model.specs.Insert.{IsUntouched}
-use Rattle.rlsf_model.specs.Sized.{live_count}
+use Rattle.rlsf_model.specs.Sized.{live_bytes, live_count}
 use Rattle.rlsf_model.specs.State.{State, empty}
+use Rattle.rlsf_model.proofs.BudgetWords.{live_bytes-empty}
 use Rattle.rlsf_model.proofs.SizedWords.{live_count-empty}
 use Rattle.rlsf_model.proofs.Untouched.{untouched_empty}
 use Rattle.rlsf_blocks.specs.Laws.{read_from}
@@ -37,5 +38,6 @@ returns g c = record {
   untouched = λ r. subst (λ (s : State). IsUntouched s.chunks r) (sym c.new-2.ensures) (untouched_empty r);
   stands = Stands-arrived (standing g c) c.new-2.result.state c.new-2.ensures (whole c.memory.inside.inner c.args.memory c.memory.view_is c.memory.invariant);
   count = ap (λ (s : State). live_count (read_from c.args.memory s)) c.new-2.ensures ∙ live_count-empty;
+  blocks = ap (λ (s : State). live_bytes (read_from c.args.memory s)) c.new-2.ensures ∙ live_bytes-empty;
   memory = search rules;
 }

@@ -58,6 +58,7 @@ returns g c =
         bytes = λ w. (left w).bytes;
         aligns = λ w. (left w).aligns;
         count = λ w. (left w).count;
+        blocks = λ w. (left w).blocks;
         bounds = λ w. (left w).bounds;
         lengths =
             λ w. (left w).lengths ∙ ap length (bytes_at-held (IsAllocator-opened c.self-inside.view_is c.self.invariant).stands.well_formed addr u holds)

@@ -1,12 +1,15 @@
-use Rattle.std.proofs.Common.{◌-◌, Some, None, arith, sym, ◌∙◌, subst}
+use Rattle.std.proofs.Common.{◌≡◌, ◌-◌, Some, None, arith, sym, ◌∙◌, subst}
+use Rattle.std.proofs.lemmas.Bool.{false≢true}
 use Rattle.rlsf_base.specs.Addr.{at}
 use Rattle.rlsf_base.proofs.Lending.Present.{here-none}
+use Rattle.rlsf_model.specs.Callers.{align_at}
 use Rattle.rlsf_model.specs.Reallocate.{Reallocates}
 use Rattle.rlsf_model.specs.State.{usable}
 use Rattle.rlsf_blocks.proofs.Words.NonZeroNumbers.{number, on_none, on_some}
-use Rattle.rlsf_tlsf.specs.Allocator.{Steps, allocator}
+use Rattle.rlsf_tlsf.specs.Allocator.{Allocator, Steps, allocator}
 use Rattle.rlsf_tlsf.specs.Results.{IsReallocated}
 use Rattle.rlsf_tlsf.proofs.Arrivals.{live_inside}
+use Rattle.rlsf_tlsf.proofs.LiveBytes.{budget_allows_again, bytes_resized}
 use Rattle.rlsf_tlsf.proofs.Opened.{IsAllocator-opened, view-opened}
 use Rattle.rlsf_tlsf.proofs.Replied.{some_answer}
 use Rattle.rlsf_tlsf.proofs.Whole.{core_again, Steps-left}
@@ -30,11 +33,17 @@ returns-in-Some g c =
     let answer = (number c.new.result to c.new.ensures).1 e.result.some in
     let addr = at c.args.addr in
     let size = c.args.layout.size in
+    let live = subst (λ a. align_at before.state a ≡ Some c.args.layout.align) (sym c.get.ensures.value)
+    (subst (λ (o : Allocator). align_at o.state addr ≡ Some c.args.layout.align) (sym (view-opened c.self-inside.view_is c.self.view_is)) c.requires) in
     rw (← view-opened c.self-inside.view_is c.self.view_is) (rw (← c.get.ensures.value) (record {
       step = subst (λ o. Steps g.row.FLLEN g.row.SLLEN before after (Reallocates g.row.SLLEN before.state c.get.result size o)) (sym answer)
           (Steps-left is {copies = after.memory.copied - before.memory.copied} e.left (Reallocates g.row.SLLEN before.state c.get.result size (Some to)) e.step);
       result = on_some (IsReallocated before.state after.state c.get.result size c.args.layout.align) c.new.result to c.new.ensures e.result.made;
-      room = λ count most widest sized few short fits. some_answer c.new.result to answer;
+      room = record {
+        bounds = λ count most widest sized few short fits. some_answer c.new.result to answer;
+        budget = λ count bytes most widest sized few little short fits. some_answer c.new.result to answer;
+        bytes = λ some. bytes_resized is.stands.well_formed after.state c.get.result size c.args.layout.align to live e.step;
+      };
       bounds = e.bounds;
       refused = on_none c.new.result to c.new.ensures (λ zero. absurd (omega (arith, e.result.some, zero)));
       frame = e.frame;
@@ -47,10 +56,16 @@ returns-in-None g c =
     let before = allocator c.self-inside.inside.0.0.inner c.self-inside.inside.0.1.0 c.self-inside.inside.0.1.1.0.state in
     let after = allocator c.reallocate_in.new.memory c.reallocate_in.new.table c.reallocate_in.new.state.state in
     let e = c.in-None.ensures in
+    let live = subst (λ a. align_at before.state a ≡ Some c.args.layout.align) (sym c.get.ensures.value)
+    (subst (λ (o : Allocator). align_at o.state (at c.args.addr) ≡ Some c.args.layout.align) (sym (view-opened c.self-inside.view_is c.self.view_is)) c.requires) in
     rw (← view-opened c.self-inside.view_is c.self.view_is) (rw (← c.get.ensures.value) (record {
       step = Steps-left is {copies = after.memory.copied - before.memory.copied} e.left (Reallocates g.row.SLLEN before.state c.get.result c.args.layout.size None) e.step;
       result = tt;
-      room = e.room;
+      room = record {
+        bounds = e.room;
+        budget = budget_allows_again is.stands.well_formed after.state c.get.result c.args.layout.size c.args.layout.align _ live e.step;
+        bytes = λ some. absurd (false≢true some);
+      };
       bounds = e.bounds;
       refused = e.refused;
       frame = e.frame;

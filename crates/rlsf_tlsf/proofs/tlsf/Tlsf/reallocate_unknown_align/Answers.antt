@@ -5,6 +5,7 @@ use Rattle.rlsf_tlsf.specs.Allocator.{Steps, allocator}
 use Rattle.rlsf_tlsf.specs.Results.{IsReallocatedAnyAlign}
 use Rattle.rlsf_tlsf.specs.UnknownAlign.{ReallocatesAnyAlign}
 use Rattle.rlsf_tlsf.proofs.Arrivals.{some_inside}
+use Rattle.rlsf_tlsf.proofs.LiveBytes.{budget_allows_any}
 use Rattle.rlsf_tlsf.proofs.Opened.{IsAllocator-opened, view-opened}
 use Rattle.rlsf_tlsf.proofs.Replied.{some_answer}
 use Rattle.rlsf_tlsf.proofs.Whole.{core_again, Steps-left}
@@ -32,7 +33,10 @@ returns-in-Some g c =
       step = subst (λ o. Steps g.row.FLLEN g.row.SLLEN before after (ReallocatesAnyAlign g.row.SLLEN before.state c.get.result size align o)) (sym answer)
           (Steps-left is {copies = after.memory.copied - before.memory.copied} e.left (ReallocatesAnyAlign g.row.SLLEN before.state c.get.result size align (Some to)) e.step);
       result = on_some (IsReallocatedAnyAlign before.state after.state c.get.result size align) c.new.result to c.new.ensures e.result.1;
-      room = λ count most widest sized few short fits. some_answer c.new.result to answer;
+      room = record {
+        bounds = λ count most widest sized few short fits. some_answer c.new.result to answer;
+        budget = λ count bytes most widest sized few little short fits. some_answer c.new.result to answer;
+      };
       bounds = e.bounds;
       refused = on_none c.new.result to c.new.ensures (λ zero. absurd (omega (arith, e.result.0, zero)));
       frame = e.frame;
@@ -49,7 +53,7 @@ returns-in-None g c =
       step = Steps-left is {copies = after.memory.copied - before.memory.copied} e.left
           (ReallocatesAnyAlign g.row.SLLEN before.state c.get.result c.args.layout.size c.args.layout.align None) e.step;
       result = tt;
-      room = e.room;
+      room = record { bounds = e.room; budget = budget_allows_any is.stands.well_formed after.state c.get.result c.args.layout.size c.args.layout.align _ e.step };
       bounds = e.bounds;
       refused = e.refused;
       frame = e.frame;
