@@ -7,13 +7,15 @@ use Rattle.rlsf_base.specs.MemoryCalls.{IsSpaceWith}
 use Rattle.rlsf_base.specs.OpenSpace.{IsOwned, out_raw}
 use Rattle.rlsf_base.specs.Piece.{Piece}
 use Rattle.rlsf_base.specs.Range.{range_at}
+use Rattle.rlsf_base.specs.Sizes.{request_size}
 use Rattle.rlsf_base.specs.Out.{is_own}
 use Rattle.rlsf_base.specs.Space.{Space, out_at}
+use Rattle.rlsf_model.specs.Callers.{bytes_at}
 use Rattle.rlsf_model.specs.Release.{Deallocates, released}
-use Rattle.rlsf_model.specs.Sized.{live_count}
+use Rattle.rlsf_model.specs.Sized.{live_bytes, live_count}
 use Rattle.rlsf_model.specs.State.{State, Used, Holds, usable, others, filled_at, with_bytes as with_these}
 use Rattle.rlsf_model.specs.WellFormed.{IsWellFormed}
-use Rattle.rlsf_model.proofs.CallerWords.{gone_seen}
+use Rattle.rlsf_model.proofs.CallerWords.{bytes_at-held, gone_seen}
 use Rattle.rlsf_model.proofs.Changes.{Holds-unique}
 use Rattle.rlsf_model.proofs.Chunks.{chunks-deallocated}
 use Rattle.rlsf_model.proofs.Coverage.{by_test}
@@ -24,6 +26,7 @@ use Rattle.rlsf_blocks.specs.Laws.{read_from}
 use Rattle.rlsf_blocks.specs.Spare.{KeepsSpare}
 use Rattle.rlsf_blocks.specs.StandsFor.{contents, StandsFor}
 use Rattle.rlsf_tlsf.specs.Cores.{IsCore, IsOwnFound, LeavesCore}
+use Rattle.rlsf_tlsf.proofs.LiveBytes.{bytes_less}
 use Rattle.rlsf_tlsf.proofs.Reached.{read_from-same}
 use Rattle.rlsf_tlsf.proofs.Replied.{some_more}
 use Rattle.rlsf_heap.specs.Frame.{KeepsAllBounds, KeepsHeap}
@@ -33,7 +36,7 @@ use Rattle.rlsf_heap.specs.Replies.{IsGone}
 use Rattle.rlsf_heap.proofs.Kept.{same-byte, spare-then}
 use Rattle.rlsf_heap.proofs.LentBytes.{lent_kept}
 use Rattle.rlsf_heap.proofs.OnCores.{IsHeap-left, Steps-left, heap-over}
-use Rattle.rlsf_heap.proofs.Shown.{IsReturned, IsShown, all_behind, block, ends, held, issued-released, outside-back, own-back, stands-back, wide}
+use Rattle.rlsf_heap.proofs.Shown.{IsReturned, IsShown, all_behind, block, ends, held, issued-released, long, outside-back, own-back, stands-back, wide}
 use Rattle.rlsf_heap.proofs.Rest.{outside_unlent, rest_kept}
 
 -- the other used blocks are unchanged
@@ -123,6 +126,15 @@ module _ {fl_bits sl_bits fllen sllen : ℕ} {m n : Space} {x : Table} {j : Stat
 
     pub gone_given : IsGone (read_from m j) (read_from o l) e.addr
     gone_given = gone is.stands.well_formed did
+
+    -- the blocks of live payloads have fewer bytes
+    pub freed_given : live_bytes (read_from o l) + request_size e.len 16 ≤ live_bytes (read_from m j)
+    freed_given =
+        let u = block g.shown in
+        let well = is.stands.well_formed in
+        let same : length (bytes_at (read_from m j) e.addr) ≡ e.len =
+        ap length (bytes_at-held well e.addr u (held g.shown)) ∙ (well.used u (held g.shown).0).bytes ∙ long g.shown in
+        subst (λ n. live_bytes (read_from o l) + request_size n 16 ≤ live_bytes (read_from m j)) same (bytes_less well (read_from o l) e.addr did)
 
     pub one_less : count ≡ live_count (read_from o l) + 1
     one_less = is.counted ∙ gone_given.count

@@ -3,8 +3,10 @@ use Rattle.std.specs.Prelude.{◌≡◌, ℕ, ◌+◌, ◌≤◌, length}
 use Rattle.rlsf_base.specs.declared.memory.range.Range.{Range}
 use Rattle.rlsf_model.specs.Callers.{align_at}
 use Rattle.rlsf_model.specs.Reallocate.{HasRoomToStay}
-use Rattle.rlsf_model.specs.Sized.{IsSizedFor, live_count}
+use Rattle.rlsf_model.specs.Sized.{IsSizedFor, live_bytes, live_count}
 use Rattle.rlsf_model.specs.State.{State}
+use Rattle.rlsf_tlsf.specs.Bounds.{KeepsBudgets}
+use Rattle.rlsf_tlsf.specs.Sizing.{SizesPool, SizesPoolForBudget}
 use Rattle.rlsf_heap.specs.Heap.{HeapView, PayloadView, lent_bytes}
 use Rattle.rlsf_heap.specs.Kept.{KeepsSpareBytes, NoneBecomesRaw, NoneBecomesRawBeside}
 use Rattle.rlsf_heap.specs.Settled.{IsSettled}
@@ -94,6 +96,24 @@ KeepsBounds sllen before after size align =
 -- the state after is sized for all that the state before was sized for
 abbrev pub KeepsAllBounds : ℕ → State → State → Type 0
 KeepsAllBounds sllen before after = (count most wide : ℕ) → IsSizedFor sllen count most wide before → IsSizedFor sllen count most wide after
+
+-- a pool keeps what the state before was sized for, and the bytes of live payloads' blocks
+pub record KeepsRoom (sllen : ℕ) (before after : State) : Type 0 where
+  -- it stays sized for all bounds
+  pub bounds : KeepsAllBounds sllen before after
+  -- and for all budgets
+  pub budgets : KeepsBudgets sllen before after
+  -- the blocks of live payloads have as many bytes
+  pub blocks : live_bytes after ≡ live_bytes before
+
+-- what the state is sized for after a range was inserted
+pub record AddsRoom (fllen sllen : ℕ) (r : Range) (before after : State) : Type 0 where
+  -- if nothing was live, all bounds that the range is long enough for
+  pub pool : SizesPool fllen sllen r before after
+  -- all budgets that it is long enough for, whatever was live
+  pub budget : SizesPoolForBudget fllen sllen r after
+  -- and all that it was sized for before
+  pub kept : KeepsRoom sllen before after
 
 -- a reallocation keeps bounds, and the number of payloads
 pub record KeepsSized (sllen : ℕ) (before after : State) (size align : ℕ) : Type 0 where

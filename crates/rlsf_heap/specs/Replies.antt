@@ -1,9 +1,10 @@
 -- What the allocations and reallocations of a heap return.
 use Rattle.std.specs.Prelude.{◌≡◌, ◌≢◌, ℕ, ◌+◌, ◌%◌, ◌<◌, ◌≤◌, length, replicate, slice_index, Some, None}
 use Rattle.rlsf_base.specs.Layout.{IsLayout}
+use Rattle.rlsf_base.specs.Sizes.{request_size}
 use Rattle.rlsf_model.specs.Callers.{align_at, bytes_at}
 use Rattle.rlsf_model.specs.Reallocate.{Keeps}
-use Rattle.rlsf_model.specs.Sized.{IsSizedFor, live_count}
+use Rattle.rlsf_model.specs.Sized.{IsSizedFor, live_bytes, live_count}
 use Rattle.rlsf_model.specs.State.{AreAlike, State}
 use Rattle.rlsf_heap.specs.Heap.{HeapView, IsOwners, IsWritten, LiesInChunk, PayloadView, payload_range}
 use Rattle.rlsf_heap.specs.Kept.{KeepsBytesBeside}
@@ -72,6 +73,8 @@ pub record IsDeallocated (before after : HeapView) (addr : ℕ) (p : PayloadView
   pub live : align_at before.state addr ≡ Some p.align
   -- it is not live any more
   pub gone : IsGone before.state after.state addr
+  -- the blocks of live payloads have fewer bytes: by those that its bytes are sought with, or more
+  pub freed : live_bytes after.state + request_size (length p.bytes) 16 ≤ live_bytes before.state
 
 -- what a payload is after a reallocation to a size, with an alignment
 pub record IsReallocated (state : State) (was : PayloadView) (size align : ℕ) (p : PayloadView) : Type 0 where

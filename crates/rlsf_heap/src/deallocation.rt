@@ -1,10 +1,12 @@
 //! Deallocation of payloads without raw bytes.
-ghost use Rattle.std.specs.Prelude.{◌≡◌, ◌≤◌, ◌+◌, IfSome, Some};
+ghost use Rattle.std.specs.Prelude.{◌≡◌, ◌≤◌, ◌+◌, IfSome, Some, length};
 ghost use Rattle.rlsf_base.specs.Ledger.{extent};
 ghost use Rattle.rlsf_base.specs.OpenSpace.{IsAway};
 ghost use Rattle.rlsf_base.specs.Piece.{IsFull, piece_range};
+ghost use Rattle.rlsf_base.specs.Sizes.{request_size};
 ghost use Rattle.rlsf_model.specs.Callers.{align_at};
 ghost use Rattle.rlsf_model.specs.Release.{Deallocates};
+ghost use Rattle.rlsf_model.specs.Sized.{live_bytes};
 ghost use Rattle.rlsf_tlsf.specs.Cores.{found_cost};
 ghost use Rattle.rlsf_heap.specs.Heap.{IsTicketOf, IsWritten};
 ghost use Rattle.rlsf_heap.specs.Frame.{KeepsAllBounds, KeepsFrame};
@@ -69,6 +71,7 @@ impl<FLBitmap: BitPattern, SLBitmap: BitPattern, const FLLEN: usize, const SLLEN
         ensures owner { IsAway self.old.memory (piece_range part) }
         ensures live { align_at self.old.state part.start ≡ Some ticket.align }
         ensures result { IsGone self.old.state self.new.state part.start }
+        ensures freed { live_bytes self.new.state + request_size (length part.bytes) 16 ≤ live_bytes self.old.state }
         ensures bounds { KeepsAllBounds SLLEN self.old.state self.new.state }
         ensures frame { KeepsFrame self.old self.new }
         ensures touches { self.new.memory.touches ≤ self.old.memory.touches + (found_cost align + 31) }

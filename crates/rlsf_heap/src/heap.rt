@@ -6,16 +6,18 @@ ghost use Rattle.rlsf_base.specs.OpenSpace.{home_of, IsAway, IsOwned};
 ghost use Rattle.rlsf_base.specs.Piece.{piece_range};
 ghost use Rattle.rlsf_base.specs.declared.memory.range.Range.{Range};
 ghost use Rattle.rlsf_base.specs.SizeClass.{IsValid};
+ghost use Rattle.rlsf_base.specs.Sizes.{request_size};
 ghost use Rattle.rlsf_base.specs.Space.{range_of};
 ghost use Rattle.rlsf_model.specs.Allocate.{Allocates};
 ghost use Rattle.rlsf_model.specs.Callers.{align_at};
 ghost use Rattle.rlsf_model.specs.Insert.{IsUntouched};
 ghost use Rattle.rlsf_model.specs.Release.{Deallocates};
-ghost use Rattle.rlsf_model.specs.Sized.{live_count};
+ghost use Rattle.rlsf_model.specs.Sized.{live_bytes, live_count};
 ghost use Rattle.rlsf_model.specs.State.{empty};
+ghost use Rattle.rlsf_tlsf.specs.Bounds.{TakesRoom};
 ghost use Rattle.rlsf_tlsf.specs.Cores.{found_cost};
 ghost use Rattle.rlsf_heap.specs.Heap.{addr_of, IsTicketOf, payload_range};
-ghost use Rattle.rlsf_heap.specs.Replies.{IsAllocated, IsAllocatedZeroed, IsDeallocated, IsGone, IsUnchanged, WithinBounds};
+ghost use Rattle.rlsf_heap.specs.Replies.{IsAllocated, IsAllocatedZeroed, IsDeallocated, IsGone, IsUnchanged};
 ghost use Rattle.rlsf_heap.specs.Settled.{IsSettled};
 ghost use Rattle.rlsf_heap.specs.Frame.{KeepsAllBounds, KeepsBounds, KeepsFrame, KeepsFrameBeside};
 
@@ -104,7 +106,7 @@ impl<FLBitmap: BitPattern, SLBitmap: BitPattern, const FLLEN: usize, const SLLEN
         ensures count { live_count result.state ≡ 0 }
         ensures memory { result.memory ≡ memory }
         ensures home { result.identity.home ≡ home_of memory }
-        ensures bytes { (memory.out ≡ [] → IsSettled result.memory) × (result.lent ≡ false) }
+        ensures bytes { (memory.out ≡ [] → IsSettled result.memory) × (result.lent ≡ false) × (live_bytes result.state ≡ 0) }
     {
         // Opens the memory's invariant for the prover: no address is 0, and each fits in a word.
         let _ = memory.start();
@@ -189,7 +191,8 @@ impl<FLBitmap: BitPattern, SLBitmap: BitPattern, const FLLEN: usize, const SLLEN
     /// the front of the newest free block of the first class that has a free block and reaches the sought size.
     ///
     /// Returns `None` if and only if no free block has a class that reaches the sought size; then nothing changes. Within
-    /// bounds that the heap is sized for (`IsSizedFor`), an allocation is never refused.
+    /// bounds that the heap is sized for (`IsSizedFor`), or within a budget (`IsSizedForBudget`), an allocation is never
+    /// refused.
     ///
     /// Completes in constant time: at most 27 word accesses, whatever the pools contain.
     ///
@@ -208,7 +211,7 @@ impl<FLBitmap: BitPattern, SLBitmap: BitPattern, const FLLEN: usize, const SLLEN
     pub fn allocate(&mut self, layout: Layout) -> Option<Payload>
         ensures step { Steps FLLEN SLLEN self.new (Allocates SLLEN self.old.state layout.size layout.align (addr_of result)) }
         ensures result { IfSome result (λ p. IsAllocated self.old self.new layout.size layout.align p) }
-        ensures room { WithinBounds SLLEN self.old.state layout.size layout.align (IsSome result) }
+        ensures room { TakesRoom SLLEN self.old.state self.new.state layout.size layout.align (IsSome result) }
         ensures bounds { KeepsBounds SLLEN self.old.state self.new.state layout.size layout.align }
         ensures refused { IfNone result (IsUnchanged self.old self.new) }
         ensures frame { KeepsFrame self.old self.new }
@@ -243,7 +246,7 @@ impl<FLBitmap: BitPattern, SLBitmap: BitPattern, const FLLEN: usize, const SLLEN
     pub fn allocate_zeroed(&mut self, layout: Layout) -> Option<Payload>
         ensures step { Steps FLLEN SLLEN self.new (Allocates SLLEN self.old.state layout.size layout.align (addr_of result)) }
         ensures result { IfSome result (λ p. IsAllocatedZeroed self.old self.new layout.size layout.align p) }
-        ensures room { WithinBounds SLLEN self.old.state layout.size layout.align (IsSome result) }
+        ensures room { TakesRoom SLLEN self.old.state self.new.state layout.size layout.align (IsSome result) }
         ensures bounds { KeepsBounds SLLEN self.old.state self.new.state layout.size layout.align }
         ensures refused { IfNone result (IsUnchanged self.old self.new) }
         ensures frame { KeepsFrame self.old self.new }
@@ -297,6 +300,7 @@ impl<FLBitmap: BitPattern, SLBitmap: BitPattern, const FLLEN: usize, const SLLEN
         ensures owner { IsAway self.old.memory (piece_range part) }
         ensures live { align_at self.old.state part.start ≡ Some ticket.align }
         ensures result { IsGone self.old.state self.new.state part.start }
+        ensures freed { live_bytes self.new.state + request_size (length part.bytes) 16 ≤ live_bytes self.old.state }
         ensures bounds { KeepsAllBounds SLLEN self.old.state self.new.state }
         ensures frame { KeepsFrameBeside self.old self.new (piece_range part) }
         ensures touches { self.new.memory.touches ≤ self.old.memory.touches + (found_cost align + 31) }

@@ -10,7 +10,7 @@ ghost use Rattle.rlsf_model.specs.Insert.{Appends, Inserts, IsNext, IsUntouched,
 ghost use Rattle.rlsf_model.specs.Remove.{IsIdle, Removes};
 ghost use Rattle.rlsf_blocks.specs.Blocks.{walked};
 ghost use Rattle.rlsf_tlsf.specs.Steps.UsedBlocks.{has_used};
-ghost use Rattle.rlsf_heap.specs.Frame.{KeepsAllBounds, KeepsPayloads};
+ghost use Rattle.rlsf_heap.specs.Frame.{AddsRoom, KeepsPayloads, KeepsRoom};
 ghost use Rattle.rlsf_heap.specs.Lending.{InsertsPool, KeepsPools};
 
 use crate::heap::Heap;
@@ -28,7 +28,6 @@ impl<FLBitmap: BitPattern, SLBitmap: BitPattern, const FLLEN: usize, const SLLEN
 > {
     ghost use Rattle.rlsf_heap.specs.Heap.{IsUsable, Steps};
     ghost use Rattle.rlsf_heap.specs.Pools.{RemovesIfIdle};
-    ghost use Rattle.rlsf_tlsf.specs.Sizing.{SizesPool};
 
     /// Inserts a range of the memory as a pool, and makes free chunks of its aligned part. No chunk has fewer than 64
     /// bytes.
@@ -37,7 +36,8 @@ impl<FLBitmap: BitPattern, SLBitmap: BitPattern, const FLLEN: usize, const SLLEN
     /// no chunk; then nothing changes. No byte of the memory becomes raw (`raw`).
     ///
     /// Suppose that no payload is live and that the range starts at a multiple of 32. If its length is at least what
-    /// `pool_size_for_payloads` returns for some bounds, the heap is then sized for them (`IsSizedFor`).
+    /// `pool_size_for_payloads` returns for some bounds, the heap is then sized for them (`IsSizedFor`). For a budget
+    /// (`pool_size_for_budget`, `IsSizedForBudget`) payloads may be live.
     ///
     /// The range must lie in the memory and overlap no chunk.
     ///
@@ -49,7 +49,7 @@ impl<FLBitmap: BitPattern, SLBitmap: BitPattern, const FLLEN: usize, const SLLEN
         ensures step { Steps FLLEN SLLEN self.new (Inserts FLLEN self.old.state range (reply result)) }
         ensures untouched { (r : Range) → IsUntouched self.old.state.chunks r → AreApart range r → IsUntouched self.new.state.chunks r }
         ensures pool { InsertsPool self.old.state.chunks self.new.state.chunks range result }
-        ensures room { SizesPool FLLEN SLLEN range self.old.state self.new.state × KeepsAllBounds SLLEN self.old.state self.new.state }
+        ensures room { AddsRoom FLLEN SLLEN range self.old.state self.new.state }
         ensures refused { IfNone result (self.new.memory.bytes ≡ self.old.memory.bytes) }
         ensures frame { KeepsPayloads self.old self.new }
         ensures touches { self.new.memory.touches ≤ self.old.memory.touches + 13 * length (cut (max_pool_size FLLEN) (aligned_part range)) }
@@ -78,7 +78,7 @@ impl<FLBitmap: BitPattern, SLBitmap: BitPattern, const FLLEN: usize, const SLLEN
         ensures step { Steps FLLEN SLLEN self.new (λ t. (taken : Option ℕ) × Inserts FLLEN self.old.state range taken t) }
         ensures untouched { (r : Range) → IsUntouched self.old.state.chunks r → AreApart range r → IsUntouched self.new.state.chunks r }
         ensures pool { KeepsPools self.old.state.chunks self.new.state.chunks range }
-        ensures room { SizesPool FLLEN SLLEN range self.old.state self.new.state × KeepsAllBounds SLLEN self.old.state self.new.state }
+        ensures room { AddsRoom FLLEN SLLEN range self.old.state self.new.state }
         ensures refused { cut (max_pool_size FLLEN) (aligned_part range) ≡ [] → self.new.memory.bytes ≡ self.old.memory.bytes }
         ensures frame { KeepsPayloads self.old self.new }
         ensures touches { self.new.memory.touches ≤ self.old.memory.touches + 13 * length (cut (max_pool_size FLLEN) (aligned_part range)) }
@@ -104,7 +104,7 @@ impl<FLBitmap: BitPattern, SLBitmap: BitPattern, const FLLEN: usize, const SLLEN
         requires usable { IsUsable self.old range }
         ensures step { Steps FLLEN SLLEN self.new (Appends FLLEN self.old.state range result) }
         ensures untouched { (r : Range) → IsUntouched self.old.state.chunks r → AreApart range r → IsUntouched self.new.state.chunks r }
-        ensures bounds { KeepsAllBounds SLLEN self.old.state self.new.state }
+        ensures bounds { KeepsRoom SLLEN self.old.state self.new.state }
         ensures refused { result ≡ 0 → self.new.memory.bytes ≡ self.old.memory.bytes }
         ensures frame { KeepsPayloads self.old self.new }
         ensures touches { self.new.memory.touches

@@ -8,19 +8,20 @@ pub use Rattle.rlsf_base.specs.Piece.{IsFull, Piece, piece_range}
 pub use Rattle.rlsf_base.specs.Range.{AreApart, LiesIn, end_of, range_at}
 pub use Rattle.rlsf_base.specs.RawParts.{LiesAtBlock}
 pub use Rattle.rlsf_base.specs.SizeClass.{IsValid}
-pub use Rattle.rlsf_base.specs.Sizes.{pool_size_for_payloads}
+pub use Rattle.rlsf_base.specs.Sizes.{pool_size_for_budget, pool_size_for_payloads, request_size}
 pub use Rattle.rlsf_base.specs.Space.{Space, range_of}
 -- of the state of a heap
 pub use Rattle.rlsf_model.specs.Callers.{align_at, bytes_at}
 pub use Rattle.rlsf_model.specs.Insert.{IsUntouched}
-pub use Rattle.rlsf_model.specs.Sized.{IsSizedFor, live_count}
+pub use Rattle.rlsf_model.specs.Sized.{IsSizedFor, IsSizedForBudget, live_bytes, live_count}
 pub use Rattle.rlsf_model.specs.State.{State}
 -- of a heap and its payloads
 pub use Rattle.rlsf_heap.specs.Heap.{HeapView, Identity, IsLent, IsUsable, IsWritten, PayloadView, lent_bytes, payload_range}
 pub use Rattle.rlsf_heap.specs.Replies.{IsAllocated, IsAllocatedZeroed, IsDeallocated, IsGone, IsOut, IsReallocated, IsRefused, IsResized}
 pub use Rattle.rlsf_heap.specs.Replies.{IsResizedInPlace, IsResizedOrMoved, IsReturned, IsUnchanged, LeavesOthers, WithinBounds}
-pub use Rattle.rlsf_heap.specs.Frame.{CopiesToMove, KeepsAllBounds, KeepsBounds, KeepsBytes, KeepsFrame, KeepsFrameBeside, KeepsFrameMoving}
-pub use Rattle.rlsf_heap.specs.Frame.{KeepsHeap, KeepsPayloads, KeepsSized}
+pub use Rattle.rlsf_tlsf.specs.Bounds.{IfWithinBudget, KeepsBudgets, TakesRoom}
+pub use Rattle.rlsf_heap.specs.Frame.{AddsRoom, CopiesToMove, KeepsAllBounds, KeepsBounds, KeepsBytes, KeepsFrame, KeepsFrameBeside, KeepsFrameMoving}
+pub use Rattle.rlsf_heap.specs.Frame.{KeepsHeap, KeepsPayloads, KeepsRoom, KeepsSized}
 pub use Rattle.rlsf_heap.specs.Lending.{HasPool, IsLentTo, IsReclaimed, ReclaimsPool}
 pub use Rattle.rlsf_heap.specs.Settled.{IsSettled}
 -- of tenants

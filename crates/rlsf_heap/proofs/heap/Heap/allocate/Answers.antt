@@ -8,6 +8,7 @@ use Rattle.rlsf_blocks.specs.Laws.{read_from}
 use Rattle.rlsf_blocks.specs.StandsFor.{contents, StandsFor}
 use Rattle.rlsf_tlsf.specs.Results.{IsAllocated}
 use Rattle.rlsf_tlsf.proofs.Arrivals.{arrived}
+use Rattle.rlsf_tlsf.proofs.LiveBytes.{budget_allows, bytes_more}
 use Rattle.rlsf_tlsf.proofs.Reached.{bare-core}
 use Rattle.rlsf_heap.specs.Heap.{AreIssued, Stands, Steps, lent_bytes}
 use Rattle.rlsf_heap.specs.Kept.{KeepsOwn, KeepsSpareBytes, NoneBecomesRaw}
@@ -37,12 +38,17 @@ invariant_of-self-in-None g c =
 pub returns-in-None : goal.returns-in-None
 returns-in-None g c =
     let s = read_from c.self.inside.memory c.self.inside.state.state in
+    let t = read_from c.allocate_in.new.memory c.allocate_in.new.state.state in
     let e = c.in-None.ensures in
     let ledger = c.self.inside.ledger.name in
     rw (← c.self.view_is) (record {
       step = Steps-left e.left ledger c.self.inside.lent (Allocates g.row.SLLEN s c.args.layout.size c.args.layout.align None) e.step;
       result = tt;
-      room = e.room;
+      room = record {
+        bounds = e.room;
+        budget = budget_allows c.self.invariant.stands.well_formed t c.args.layout.size c.args.layout.align _ e.step;
+        bytes = bytes_more c.self.invariant.stands.well_formed t c.args.layout.size c.args.layout.align None c.args.layout.valid.aligned e.step;
+      };
       bounds = e.bounds;
       refused = record { same = e.refused.same; bytes = e.refused.bytes };
       frame = frame-left e.left ledger c.self.inside.table (ap (λ (t : State). t.chunks) e.refused.same);
@@ -121,7 +127,11 @@ returns-in-Some g c =
         aligns = made.aligns;
         written = λ settled. over.full (settled-here n r p.lies.0 p.own (settled-stays (stays e.left) settled));
       };
-      room = e.room;
+      room = record {
+        bounds = e.room;
+        budget = λ count bytes most widest sized few little short fits. refl;
+        bytes = bytes_more c.self.invariant.stands.well_formed t size align (Some r.start) c.args.layout.valid.aligned e.step;
+      };
       bounds = e.bounds;
       refused = tt;
       frame = record {

@@ -32,7 +32,7 @@ returns-in-None g c =
       step = subst (λ n. Steps g.row.FLLEN g.row.SLLEN c.allocate_zeroed.new.self (Allocates g.row.SLLEN c.args.self.now.state c.args.layout.size c.args.layout.align (reply_of n)))
           (sym none) e.step;
       result = record { at = c.none.ensures.0 ∙ sym none; made = λ some. absurd (some none) };
-      room = λ count most wide sized few short fits. absurd (true≢false (sym (e.room count most wide sized few short fits)));
+      room = λ count most wide sized few short fits. absurd (true≢false (sym (e.room.bounds count most wide sized few short fits)));
       bounds = e.bounds;
       refused = λ _. e.refused;
       frame = e.frame;

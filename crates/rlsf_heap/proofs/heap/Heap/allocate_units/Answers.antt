@@ -65,7 +65,7 @@ returns-in_err-payload g c =
           (subst (λ (u : ℕ × ℕ). Steps g.row.FLLEN g.row.SLLEN new (Allocates g.row.SLLEN c.args.self.now.state u.0 u.1 None)) (λ i. (asks.0 i, asks.1 i)) e.step);
       result = if_some _ none;
       room = λ count most align sized few short fits.
-          absurd (true≢false (sym (e.room count most align sized few (omega (arith, asks.0, short)) (omega (arith, asks.1, fits)))));
+          absurd (true≢false (sym (e.room.bounds count most align sized few (omega (arith, asks.0, short)) (omega (arith, asks.1, fits)))));
       bounds = λ count most align sized short fits. e.bounds count most align sized (omega (arith, asks.0, short)) (omega (arith, asks.1, fits));
       refused = if_none _ none e.refused;
       frame = e.frame;

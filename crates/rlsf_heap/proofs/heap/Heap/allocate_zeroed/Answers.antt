@@ -32,7 +32,11 @@ returns g c =
         written = f.written;
         zeros = f.bytes ∙ ap (λ (n : ℕ). replicate n 0) (sym long);
       };
-      room = λ count most wide sized few short fits. refl;
+      room = record {
+        bounds = λ count most wide sized few short fits. refl;
+        budget = λ count bytes most wide sized few little short fits. refl;
+        bytes = e.room.bytes;
+      };
       bounds = e.bounds;
       refused = tt;
       frame = e.frame;
@@ -46,7 +50,12 @@ returns-in_err-payload g c =
       step = subst (λ o. Steps g.row.FLLEN g.row.SLLEN c.allocate.new.self
           (Allocates g.row.SLLEN c.args.self.now.state c.args.layout.size c.args.layout.align (addr_of o))) (sym none) e.step;
       result = if_some _ none;
-      room = λ count most wide sized few short fits. absurd (true≢false (sym (e.room count most wide sized few short fits)));
+      room = record {
+        bounds = λ count most wide sized few short fits. absurd (true≢false (sym (e.room.bounds count most wide sized few short fits)));
+        budget = λ count bytes most wide sized few little short fits.
+            absurd (true≢false (sym (e.room.budget count bytes most wide sized few little short fits)));
+        bytes = e.room.bytes;
+      };
       bounds = e.bounds;
       refused = if_none _ none e.refused;
       frame = e.frame;

@@ -33,7 +33,7 @@ returns g c =
     rw (← c.self.view_is) (record {
       step = Steps-left e.left ledger c.self.inside.lent (Appends g.row.FLLEN s c.args.range c.append_in.result) e.step;
       untouched = e.result.untouched;
-      bounds = e.bounds;
+      bounds = record { bounds = e.bounds; budgets = e.result.budgets; blocks = e.result.blocks };
       refused = e.refused;
       frame = frame-pools e.left c.self.invariant
           (used-appended g.row.FLLEN s (read_from c.append_in.new.memory c.append_in.new.state.state) c.args.range c.append_in.result e.step) ledger e.frame;

@@ -1,5 +1,7 @@
-use Rattle.std.proofs.Common.{◌≡◌, Some, arith, refl, sym, ap, subst, ◌∙◌}
+use Rattle.std.proofs.Common.{◌≡◌, ◌+◌, ◌≤◌, Some, length, arith, refl, sym, ap, subst, ◌∙◌}
+use Rattle.rlsf_base.specs.Sizes.{request_size}
 use Rattle.rlsf_model.specs.Callers.{align_at}
+use Rattle.rlsf_model.specs.Sized.{live_bytes}
 use Rattle.rlsf_heap.specs.Frame.{KeepsFrameBeside}
 use Rattle.rlsf_heap.specs.Heap.{PayloadView, payload_range}
 use Rattle.rlsf_heap.specs.Replies.{IsGone}
@@ -21,6 +23,7 @@ returns-clause-result g c =
       live = subst (λ (p : PayloadView). align_at old.state p.start ≡ Some c.args.payload.align) parts
           (did.live ∙ ap (λ n. Some n) (sym c.into_parts-part.ensures.ticket.2));
       gone = subst (λ (p : PayloadView). IsGone old.state c.put_raw.new.self.state p.start) parts did.result;
+      freed = subst (λ (p : PayloadView). live_bytes c.put_raw.new.self.state + request_size (length p.bytes) 16 ≤ live_bytes old.state) parts did.freed;
     }
 
 pub returns-clause-frame : goal.returns-clause-frame

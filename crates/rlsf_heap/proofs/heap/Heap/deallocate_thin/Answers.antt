@@ -1,7 +1,8 @@
-use Rattle.std.proofs.Common.{◌≡◌, ℕ, None, arith, sym, ap, subst, ◌∙◌}
+use Rattle.std.proofs.Common.{◌≡◌, ℕ, ◌+◌, ◌≤◌, None, length, arith, sym, ap, subst, ◌∙◌}
+use Rattle.rlsf_base.specs.Sizes.{request_size}
 use Rattle.rlsf_model.specs.Callers.{align_at}
 use Rattle.rlsf_model.specs.Release.{Deallocates}
-use Rattle.rlsf_model.specs.Sized.{IsSizedFor, live_count}
+use Rattle.rlsf_model.specs.Sized.{IsSizedFor, live_bytes, live_count}
 use Rattle.rlsf_model.specs.State.{State}
 use Rattle.rlsf_heap.specs.Heap.{HeapView, PayloadView, Steps, payload_range}
 use Rattle.rlsf_heap.specs.Kept.{NoneBecomesRawBeside}
@@ -26,6 +27,8 @@ returns g c =
           aligns = λ a apart. e.result.aligns a (λ same. apart (same ∙ from)) ∙ ap (λ (s : State). align_at s a) state;
           count = sym (ap live_count state) ∙ e.result.count;
         };
+        freed = subst (λ (x : State × ℕ). live_bytes c.put_raw.new.self.state + request_size x.1 16 ≤ live_bytes x.0)
+            (λ i. (state i, length (found.parts i).bytes)) e.freed;
       };
       bounds = λ count most wide sized. e.bounds count most wide (subst (IsSizedFor g.row.SLLEN count most wide) (sym state) sized);
       frame = record {

@@ -1,5 +1,7 @@
-use Rattle.std.proofs.Common.{◌≡◌, Some, arith, refl, sym, ap, subst, ◌∙◌}
+use Rattle.std.proofs.Common.{◌≡◌, ◌+◌, ◌≤◌, Some, length, arith, refl, sym, ap, subst, ◌∙◌}
+use Rattle.rlsf_base.specs.Sizes.{request_size}
 use Rattle.rlsf_model.specs.Callers.{align_at}
+use Rattle.rlsf_model.specs.Sized.{live_bytes}
 use Rattle.rlsf_heap.specs.Heap.{IsWritten, PayloadView}
 use Rattle.rlsf_heap.specs.Replies.{IsGone}
 use Rattle.rlsf_heap.proofs.Found.{owners}
@@ -27,4 +29,5 @@ returns-clause-result g c =
       live = subst (λ (p : PayloadView). align_at old.state p.start ≡ Some c.args.payload.align) parts
           (did.live ∙ ap (λ n. Some n) (sym c.into_parts-part.ensures.ticket.2));
       gone = subst (λ (p : PayloadView). IsGone old.state c.put_written.new.self.state p.start) parts did.result;
+      freed = subst (λ (p : PayloadView). live_bytes c.put_written.new.self.state + request_size (length p.bytes) 16 ≤ live_bytes old.state) parts did.freed;
     }

@@ -39,7 +39,11 @@ returns g c =
       untouched = e.result.untouched;
       pool = pool_if s (read_from c.insert_in.new.memory c.insert_in.new.state.state) c.args.range c.insert_in.result g.row.FLLEN
           c.self.invariant.valid.some_rows clear e.step e.result.untouched;
-      room = (e.result.pool, e.bounds);
+      room = record {
+        pool = e.result.pool;
+        budget = e.result.budget;
+        kept = record { bounds = e.bounds; budgets = e.result.budgets; blocks = e.result.blocks };
+      };
       refused = e.refused;
       frame = frame-pools e.left c.self.invariant
           (used-inserted g.row.FLLEN s (read_from c.insert_in.new.memory c.insert_in.new.state.state) c.args.range (reply c.insert_in.result) e.step) ledger e.frame;

@@ -58,8 +58,8 @@ returns-in_default g c =
       step = subst (λ s. Steps g.row.FLLEN g.row.SLLEN c.allocate.new.self (Allocates g.row.SLLEN s c.args.layout.size c.args.layout.align None)) state e.step;
       result = tt;
       room = λ count most wide sized few short fits.
-          absurd (true≢false (sym (e.room count most wide (subst (IsSizedFor g.row.SLLEN count most wide) (sym state) sized) (subst (λ s. live_count s ≤ count) (sym state) few)
-          short fits)));
+          absurd (true≢false (sym (e.room.bounds count most wide (subst (IsSizedFor g.row.SLLEN count most wide) (sym state) sized)
+          (subst (λ s. live_count s ≤ count) (sym state) few) short fits)));
       bounds = record {
         sized = λ count most wide sized short fits. e.bounds count most wide (subst (IsSizedFor g.row.SLLEN count most wide) (sym state) sized) short fits;
         count = ap live_count (e.refused.same ∙ state);

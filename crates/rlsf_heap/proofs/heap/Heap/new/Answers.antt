@@ -1,7 +1,8 @@
 use Rattle.std.proofs.Common.{ℕ, ◌-◌, ◌<◌, false, length, arith, ◌∙◌, ap, sym, subst, refl}
 use Rattle.rlsf_model.specs.Insert.{IsUntouched}
-use Rattle.rlsf_model.specs.Sized.{live_count}
+use Rattle.rlsf_model.specs.Sized.{live_bytes, live_count}
 use Rattle.rlsf_model.specs.State.{State, empty}
+use Rattle.rlsf_model.proofs.BudgetWords.{live_bytes-empty}
 use Rattle.rlsf_model.proofs.SizedWords.{live_count-empty}
 use Rattle.rlsf_model.proofs.Untouched.{untouched_empty}
 use Rattle.rlsf_blocks.specs.Laws.{read_from}
@@ -36,4 +37,4 @@ pub returns-clause-count : goal.returns-clause-count
 returns-clause-count g c = ap (λ (s : State). live_count (read_from c.args.memory s)) c.new-2.ensures ∙ live_count-empty
 
 pub returns-clause-bytes : goal.returns-clause-bytes
-returns-clause-bytes g c = ((λ none. settled-none c.args.memory none), refl)
+returns-clause-bytes g c = ((λ none. settled-none c.args.memory none), refl, ap (λ (s : State). live_bytes (read_from c.args.memory s)) c.new-2.ensures ∙ live_bytes-empty)

@@ -4,7 +4,7 @@ use Rattle.rlsf_base.specs.Piece.{piece_range}
 use Rattle.rlsf_heap.specs.Kept.{NoneBecomesRawBeside}
 use Rattle.rlsf_heap.proofs.Kept.{raw-back}
 use Rattle.rlsf_heap.proofs.OnCores.{stays}
-use Rattle.rlsf_heap.proofs.Released.{IsGiven, IsHeap-given, as_part, bounds_given, chunks_given, core_given, found_given, gone_given, keeps_given, one_less, raw_given, step_given}
+use Rattle.rlsf_heap.proofs.Released.{IsGiven, IsHeap-given, as_part, bounds_given, chunks_given, core_given, found_given, freed_given, gone_given, keeps_given, one_less, raw_given, step_given}
 use Rattle.rlsf_heap.proofs.Shown.{lies, live}
 use Rattle.rlsf_heap.proofs.heap.Heap.put_raw.Given as given
 use Rattle.rlsf_heap.proofs.heap.Heap.put_raw.Goals as goal
@@ -51,6 +51,7 @@ returns g c =
       owner = e.away;
       live = live b.shown;
       result = gone_given is b f.left at f.step;
+      freed = freed_given is b f.left at f.step;
       bounds = bounds_given is b f.left at f.step;
       frame = record {
         heap = keeps_given is b f.left at f.step c.self.inside.ledger.name c.redeem.new.self.name c.redeem.ensures.name;

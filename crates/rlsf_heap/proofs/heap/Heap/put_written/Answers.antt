@@ -4,7 +4,7 @@ use Rattle.rlsf_heap.specs.Heap.{PayloadView, payload_view}
 use Rattle.rlsf_heap.specs.Kept.{NoneBecomesRaw}
 use Rattle.rlsf_heap.proofs.Kept.{raw-stays}
 use Rattle.rlsf_heap.proofs.OnCores.{stays}
-use Rattle.rlsf_heap.proofs.Released.{IsGiven, IsHeap-given, as_part, bounds_given, chunks_given, core_given, found_given, gone_given, keeps_given, one_less, step_given}
+use Rattle.rlsf_heap.proofs.Released.{IsGiven, IsHeap-given, as_part, bounds_given, chunks_given, core_given, found_given, freed_given, gone_given, keeps_given, one_less, step_given}
 use Rattle.rlsf_heap.proofs.Settled.{settled-stays}
 use Rattle.rlsf_heap.proofs.Shown.{live}
 use Rattle.rlsf_heap.proofs.TakenBack.{IsBack, back_as, given_back, raw_back, settled_before, without}
@@ -58,6 +58,7 @@ returns g c =
       owner = e.away;
       live = live b.shown;
       result = gone_given is b f.left at f.step;
+      freed = freed_given is b f.left at f.step;
       bounds = bounds_given is b f.left at f.step;
       frame = record {
         heap = keeps_given is b f.left at f.step c.self.inside.ledger.name c.redeem.new.self.name c.redeem.ensures.name;

@@ -22,7 +22,7 @@ returns g c =
           (Allocates g.row.SLLEN h.state c.args.layout.size c.args.layout.align (addr_of c.allocate.result)))
           (unchanged g.row.FLLEN g.row.SLLEN c.args.self.now.heap between c.collect.result (omega (arith, none, lent)) collected) did.step;
       result = served _ _ _ _ _ _ _ _ collected c.allocate.result did.result;
-      room = λ count most wide sized lives short low. did.room count most wide (collected.bounds count most wide sized) (omega (arith, lives, collected.live)) short low;
+      room = λ count most wide sized lives short low. did.room.bounds count most wide (collected.bounds count most wide sized) (omega (arith, lives, collected.live)) short low;
       bounds = λ count most wide sized short low. did.bounds count most wide (collected.bounds count most wide sized) short low;
       frame = record {
         identity = did.frame.heap.identity ∙ collected.identity;
