@@ -4,7 +4,7 @@ use crate::pools::{all, are, layout_of, number};
 use rlsf::Layout;
 use rlsf_example_functions::{
     Buffer, Cache, Note, allocate_all, fill_all, filled, free_all, over_one_range, over_pages,
-    over_rations, read_back, with_pool,
+    over_rations, read_back, replace_message, with_budget, with_pool,
 };
 use std::alloc::Global;
 
@@ -102,6 +102,21 @@ fn cache_and_note(rt: HostRuntime) {
     let is_put = put_three(rt.alloc()).is_some();
     let is_noted = is_noted(rt.alloc(), layout) == Some(true);
     all(&rt, &[is_put, is_noted]);
+}
+
+/// Replaces a message by a frame. Returns whether the two frames have different addresses.
+fn is_replaced(alloc: Global) -> Option<bool> {
+    let message = Layout::from_size_align_unchecked(64, 16);
+    let frame = Layout::from_size_align_unchecked(4096, 16);
+    let mut pool = with_budget(alloc, 1, 4128, frame)?;
+    let (second, third) = replace_message(&mut pool, message, frame);
+    Some(second != third)
+}
+
+#[test]
+fn message_is_replaced_by_a_frame(rt: HostRuntime) {
+    let is_replaced = is_replaced(rt.alloc());
+    all(&rt, &[is_replaced == Some(true)]);
 }
 
 /// The byte that is read of a payload over pages.
