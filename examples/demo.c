@@ -414,6 +414,9 @@ static void lengths(size_t kind) {
     WANT(rlsf_pool_length_for_payloads(kind, 10, 16, 3), 0);
     WANT(rlsf_pool_length_for_payloads(kind, (size_t)-1, 16, 16), 0);
     WANT(rlsf_pool_length_for_payloads(3, 10, 16, 16), 0);
+    WANT(rlsf_pool_length_for_budget(kind, 10, 2048, 700, 16), 32 + 2048 + 11 * 704 + 32);
+    WANT(rlsf_pool_length_for_budget(kind, 10, 2048, 700, 3) + rlsf_pool_length_for_budget(3, 10, 2048, 700, 16), 0);
+    WANT(rlsf_pool_length_for_budget(kind, 10, (size_t)-1, 700, 16), 0);
     WANT(rlsf_pool_length_for_allocation(kind, 700, 16), 768);
     WANT(rlsf_pool_length_for_allocation(kind, 16, 0), 0);
     WANT(rlsf_pool_length_for_allocation(0, 16, 16), 0);

@@ -76,6 +76,7 @@ typedef struct {
 #define RLSF_KIND_DECLARES(KIND)                                                                      \
     size_t rlsf_##KIND##_size(void);                                                                  \
     size_t rlsf_##KIND##_pool_size(size_t size, size_t align);                                        \
+    size_t rlsf_##KIND##_pool_size_for_budget(size_t count, size_t bytes, size_t size, size_t align); \
     void rlsf_##KIND##_init(void *heap, void *block, size_t start, size_t len);                       \
     void rlsf_##KIND##_end(void *heap);                                                               \
     size_t rlsf_##KIND##_add(void *heap, size_t start, size_t len);                                   \
@@ -128,6 +129,18 @@ RLSF_INLINE size_t rlsf_heap_size(size_t kind) {
  * Returns 0 if no pool has it, the alignment is no power of two, or there is no such kind. The call takes constant time. */
 RLSF_INLINE size_t rlsf_heap_pool_size(size_t kind, size_t size, size_t align) {
     return kind == RLSF_SMALL ? rlsf_small_pool_size(size, align) : kind == RLSF_LARGE ? rlsf_large_pool_size(size, align) : 0;
+}
+
+/* Returns the length in bytes of a pool, from a multiple of 32 on, that refuses no payload of up to `size` bytes and an alignment of up to
+ * `align`. This holds while, before each allocation and each reallocation, at most `count` payloads are live, and their blocks have at most
+ * `bytes` bytes together. The block of a payload has its size and 16 bytes more, rounded up to a multiple of 32. An alignment above 16 counts as
+ * `align - 16` more bytes of the size.
+ *
+ * Returns 0 if no pool has this length, the alignment is no power of two, or there is no such kind. The call takes constant time. */
+RLSF_INLINE size_t rlsf_heap_pool_size_for_budget(size_t kind, size_t count, size_t bytes, size_t size, size_t align) {
+    return kind == RLSF_SMALL   ? rlsf_small_pool_size_for_budget(count, bytes, size, align)
+           : kind == RLSF_LARGE ? rlsf_large_pool_size_for_budget(count, bytes, size, align)
+                                : 0;
 }
 
 /* What the exported functions use of a heap, also in a call that leaves it as it is. */

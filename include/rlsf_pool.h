@@ -137,6 +137,13 @@ size_t rlsf_pool_size(void);
  *   - The length is above the greatest size_t or, in a small pool, above 131072. */
 size_t rlsf_pool_length_for_payloads(size_t kind, size_t count, size_t size, size_t align);
 
+/* Returns the length in bytes of a range in which a pool of the kind refuses no payload of up to `size` bytes and an alignment of up to `align`.
+ * At most `count` are live before each rlsf_pool_allocate and each rlsf_pool_realloc, and their blocks have at most `bytes` bytes together. The block
+ * of a payload has its size and 16 bytes more, rounded up to a multiple of 32; an alignment above 16 counts as `align - 16` more bytes of the size.
+ *
+ * Insert the range at a multiple of 32. Returns 0 in the cases of rlsf_pool_length_for_payloads. */
+size_t rlsf_pool_length_for_budget(size_t kind, size_t count, size_t bytes, size_t size, size_t align);
+
 /* Returns the least length in bytes of a range in which such a payload can be allocated while no other is live there. Insert it in the
  * same way.
  *

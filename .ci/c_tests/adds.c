@@ -134,8 +134,43 @@ static void lengths(size_t kind) {
     WANT(rlsf_heap_pool_size(kind, (size_t)-1, 16) + rlsf_heap_pool_size(kind, (size_t)-1 / 2, 16), 0);
 }
 
+/* A pool for a budget of 10 payloads with 2,048 bytes together, of up to 700 bytes each. A class begins at their block of 736 bytes, so each of
+ * 11 free ranges has up to 704, and the rest of the sum is 32 bytes twice. It refuses none, in any order: 20,000 calls keep to it. */
+static void for_budgets(size_t kind) {
+    static void *payloads[11];
+    static size_t blocks[11];
+    size_t len = rlsf_heap_pool_size_for_budget(kind, 10, 2048, 700, 16), count = 0, bytes = 0;
+    unsigned seed = 1;
+    WANT(len, 32 + 2048 + 11 * 704 + 32);
+    rlsf_heap *heap = rlsf_heap_init(&handle, kind, memory, len);
+    for (size_t n = 0; n < 20000; n++) {
+        seed = seed * 1103515245 + 12345;
+        size_t i = seed / 65536 % 11, size = seed / 64 % (n % 2 ? 60 : 701);
+        if (payloads[i]) {
+            rlsf_free(heap, payloads[i]);
+            payloads[i] = NULL;
+            count--;
+            bytes -= blocks[i];
+        } else if (count <= 10 && bytes <= 2048) {
+            payloads[i] = rlsf_malloc(heap, size);
+            WANT(payloads[i] != NULL, 1);
+            blocks[i] = (size + 16 + 31) / 32 * 32;
+            count++;
+            bytes += blocks[i];
+        }
+    }
+    for (size_t i = 0; i < 11; i++) {
+        rlsf_free(heap, payloads[i]);
+        payloads[i] = NULL;
+    }
+    WANT(rlsf_heap_pool_size_for_budget(kind, 0, 0, 16, 16), 64);
+    WANT(rlsf_heap_pool_size_for_budget(kind, 10, 131072, 700, 16), kind == RLSF_SMALL ? 0 : 138880);
+    WANT(rlsf_heap_pool_size_for_budget(kind, (size_t)-1, 0, 700, 16) + rlsf_heap_pool_size_for_budget(kind, 0, (size_t)-1, 700, 16), 0);
+    WANT(rlsf_heap_pool_size_for_budget(kind, 10, 2048, 700, 24) + rlsf_heap_pool_size_for_budget(3 * kind, 10, 2048, 700, 16), 0);
+}
+
 int main(void) {
-    static void (*const tests[])(size_t) = {errors, at_each_start, appends, of_few_bytes, lengths};
+    static void (*const tests[])(size_t) = {errors, at_each_start, appends, of_few_bytes, lengths, for_budgets};
     for (size_t n = 0; n < sizeof tests / sizeof *tests; n++) {
         tests[n](RLSF_SMALL);
         tests[n](RLSF_LARGE);

@@ -3,7 +3,7 @@ use Rattle.std.specs.Prelude.{◌≡◌, ℕ, ◌^◌, ◌≤◌, ◌<◌, Optio
 use Rattle.rlsf_base.specs.Layout.{IsLayout}
 use Rattle.rlsf_base.specs.declared.memory.range.Range.{Range}
 use Rattle.rlsf_base.specs.Range.{end_of}
-use Rattle.rlsf_base.specs.Sizes.{pool_size_to_contain_allocation}
+use Rattle.rlsf_base.specs.Sizes.{pool_size_for_budget, pool_size_to_contain_allocation}
 
 -- the address behind those of a heap over all addresses
 abbrev pub past : ℕ
@@ -21,4 +21,10 @@ or_zero (Some len) = len
 -- the least length of a pool in which a first payload is never refused; 0 where there is none, or no such layout
 pub record IsPoolSizeOf (fllen sllen size align answer : ℕ) : Type 0 where
   pub len : IsLayout size align → answer ≡ or_zero (pool_size_to_contain_allocation fllen sllen size align)
+  pub no_layout : (IsLayout size align → ⊥) → answer ≡ 0
+
+-- the length of a pool that refuses no payload up to a layout while `count` or fewer are live, whose blocks have `bytes` bytes or fewer
+-- together; 0 where there is none, or no such layout
+pub record IsPoolSizeForBudget (fllen sllen count bytes size align answer : ℕ) : Type 0 where
+  pub len : IsLayout size align → answer ≡ or_zero (pool_size_for_budget fllen sllen count bytes size align)
   pub no_layout : (IsLayout size align → ⊥) → answer ≡ 0

@@ -18,7 +18,7 @@ ghost use Rattle.rlsf_heap.specs.Thin.{owns_reply};
 ghost use Rattle.rlsf_malloc.specs.Blocks.{AreTotals, IsAny, IsCheckOf, IsListing};
 ghost use Rattle.rlsf_malloc.specs.Calls.{AddsLent, Allocates, AllocatesZeroed, AppendsLent, CanAppend, CanLend, CanRemove, Frees, IsAt, IsFresh, IsReady, IsUsable, OwnsLent, RemovesLent, aligned_for};
 ghost use Rattle.rlsf_malloc.specs.Handle.{Gives, Holds, HoldsSome, Returns, handle_size, rest_of, large_8, large_8_words};
-ghost use Rattle.rlsf_malloc.specs.Ranges.{IsPoolSizeOf};
+ghost use Rattle.rlsf_malloc.specs.Ranges.{IsPoolSizeForBudget, IsPoolSizeOf};
 ghost use Rattle.rlsf_malloc.specs.Resizing.{ResizesAligned, ResizesAny, ResizesInPlace};
 
 use crate::{calls, pools, ranges, resizing};
@@ -48,6 +48,19 @@ pub extern "C" fn rlsf_large_8_pool_size(size: usize, align: usize) -> usize
     ensures { IsPoolSizeOf 64 8 size align result }
 {
     ranges::pool_size::<u64, u64, 64, 8>(size, align)
+}
+
+/// As `rlsf_large_pool_size_for_budget`, for 64 rows of 8 classes.
+#[unsafe(no_mangle)]
+pub extern "C" fn rlsf_large_8_pool_size_for_budget(
+    count: usize,
+    bytes: usize,
+    size: usize,
+    align: usize,
+) -> usize
+    ensures { IsPoolSizeForBudget 64 8 count bytes size align result }
+{
+    ranges::pool_size_for_budget::<u64, u64, 64, 8>(count, bytes, size, align)
 }
 
 /// As `rlsf_large_init`, for 64 rows of 8 classes.

@@ -18,7 +18,7 @@ ghost use Rattle.rlsf_heap.specs.Thin.{owns_reply};
 ghost use Rattle.rlsf_malloc.specs.Blocks.{AreTotals, IsAny, IsCheckOf, IsListing};
 ghost use Rattle.rlsf_malloc.specs.Calls.{AddsLent, Allocates, AllocatesZeroed, AppendsLent, CanAppend, CanLend, CanRemove, Frees, IsAt, IsFresh, IsReady, IsUsable, OwnsLent, RemovesLent, aligned_for};
 ghost use Rattle.rlsf_malloc.specs.Handle.{Gives, Holds, HoldsSome, Returns, handle_size, rest_of, large, large_words};
-ghost use Rattle.rlsf_malloc.specs.Ranges.{IsPoolSizeOf};
+ghost use Rattle.rlsf_malloc.specs.Ranges.{IsPoolSizeForBudget, IsPoolSizeOf};
 ghost use Rattle.rlsf_malloc.specs.Resizing.{ResizesAligned, ResizesAny, ResizesInPlace};
 
 use crate::{calls, pools, ranges, resizing};
@@ -49,6 +49,21 @@ pub extern "C" fn rlsf_large_pool_size(size: usize, align: usize) -> usize
     ensures { IsPoolSizeOf 64 64 size align result }
 {
     ranges::pool_size::<u64, u64, 64, 64>(size, align)
+}
+
+/// Returns the length of a range, from a multiple of 32 on, that refuses no payload of up to a size and an alignment. This holds while, before
+/// each allocation and each reallocation, at most `count` payloads are live, and their blocks have at most `bytes` bytes together. Returns 0
+/// if no range has this length, or if the alignment is no power of two.
+#[unsafe(no_mangle)]
+pub extern "C" fn rlsf_large_pool_size_for_budget(
+    count: usize,
+    bytes: usize,
+    size: usize,
+    align: usize,
+) -> usize
+    ensures { IsPoolSizeForBudget 64 64 count bytes size align result }
+{
+    ranges::pool_size_for_budget::<u64, u64, 64, 64>(count, bytes, size, align)
 }
 
 /// Creates a heap of the large kind at a handle, over the `len` addresses from `start` on, the first of which is that of `block`. The heap owns no byte

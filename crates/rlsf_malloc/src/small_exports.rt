@@ -18,7 +18,7 @@ ghost use Rattle.rlsf_heap.specs.Thin.{owns_reply};
 ghost use Rattle.rlsf_malloc.specs.Blocks.{AreTotals, IsAny, IsCheckOf, IsListing};
 ghost use Rattle.rlsf_malloc.specs.Calls.{AddsLent, Allocates, AllocatesZeroed, AppendsLent, CanAppend, CanLend, CanRemove, Frees, IsAt, IsFresh, IsReady, IsUsable, OwnsLent, RemovesLent, aligned_for};
 ghost use Rattle.rlsf_malloc.specs.Handle.{Gives, Holds, HoldsSome, Returns, handle_size, rest_of, small, small_words};
-ghost use Rattle.rlsf_malloc.specs.Ranges.{IsPoolSizeOf};
+ghost use Rattle.rlsf_malloc.specs.Ranges.{IsPoolSizeForBudget, IsPoolSizeOf};
 ghost use Rattle.rlsf_malloc.specs.Resizing.{ResizesAligned, ResizesAny, ResizesInPlace};
 
 use crate::{calls, pools, ranges, resizing};
@@ -48,6 +48,19 @@ pub extern "C" fn rlsf_small_pool_size(size: usize, align: usize) -> usize
     ensures { IsPoolSizeOf 12 16 size align result }
 {
     ranges::pool_size::<u16, u16, 12, 16>(size, align)
+}
+
+/// As `rlsf_large_pool_size_for_budget`, for the small kind.
+#[unsafe(no_mangle)]
+pub extern "C" fn rlsf_small_pool_size_for_budget(
+    count: usize,
+    bytes: usize,
+    size: usize,
+    align: usize,
+) -> usize
+    ensures { IsPoolSizeForBudget 12 16 count bytes size align result }
+{
+    ranges::pool_size_for_budget::<u16, u16, 12, 16>(count, bytes, size, align)
 }
 
 /// As `rlsf_large_init`, for the small kind.

@@ -1,7 +1,7 @@
 -- Lengths of pools, as numbers.
 use Rattle.std.specs.Prelude.{◌≡◌, ◌≢◌, ℕ, Option, Some, None}
 use Rattle.rlsf_base.specs.Layout.{IsLayout}
-use Rattle.rlsf_base.specs.Sizes.{pool_size_for_payloads, pool_size_to_contain_allocation}
+use Rattle.rlsf_base.specs.Sizes.{pool_size_for_budget, pool_size_for_payloads, pool_size_to_contain_allocation}
 
 -- a length, or 0 where there is none
 abbrev pub or_zero : Option ℕ → ℕ
@@ -23,3 +23,8 @@ IsLengthForPayloads kind count size align answer = IsLengthFor (λ fllen sllen. 
 -- the least length in which a layout is allocated while nothing lives there
 abbrev pub IsLengthForAllocation : ℕ → ℕ → ℕ → ℕ → Type 0
 IsLengthForAllocation kind size align answer = IsLengthFor (λ fllen sllen. pool_size_to_contain_allocation fllen sllen size align) kind size align answer
+
+-- the length that never refuses payloads up to a layout, while `count` or fewer are live, whose blocks have `bytes` bytes or fewer together
+abbrev pub IsLengthForBudget : ℕ → ℕ → ℕ → ℕ → ℕ → ℕ → Type 0
+IsLengthForBudget kind count bytes size align answer =
+    IsLengthFor (λ fllen sllen. pool_size_for_budget fllen sllen count bytes size align) kind size align answer

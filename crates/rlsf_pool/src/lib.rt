@@ -11,7 +11,7 @@ ghost use Rattle.std.specs.Prelude.{◌≡◌};
 ghost use Rattle.rlsf_base.specs.Range.{range_at};
 ghost use Rattle.rlsf_pool.specs.Calls.{Allocates, AllocatesZeroed, Appends, Copies, Frees, Inserts, Reads, RemovesLast, RemovesRange, Resizes, ResizesThere, Tells, Writes};
 ghost use Rattle.rlsf_pool.specs.Handle.{HasRoomForPool, Holds, HoldsSome, room_size};
-ghost use Rattle.rlsf_pool.specs.Lengths.{IsLengthForAllocation, IsLengthForPayloads};
+ghost use Rattle.rlsf_pool.specs.Lengths.{IsLengthForAllocation, IsLengthForBudget, IsLengthForPayloads};
 ghost use Rattle.rlsf_pool.specs.Seen.{IsMade, IsReset, PoolValue, append_result, ended, insert_result, seen, status_of};
 ghost use Rattle.rlsf_pool.specs.Walks.{IsListing, IsNext, IsSummary};
 
@@ -49,6 +49,23 @@ pub extern "C" fn rlsf_pool_length_for_payloads(
     ensures { IsLengthForPayloads kind count size align result }
 {
     lengths::for_payloads(kind, count, size, align)
+}
+
+/// Returns the length in bytes of a range that refuses no payload of up to `size` bytes and an alignment of up to `align`. This holds while
+/// at most `count` payloads are live, whose blocks have at most `bytes` bytes together, if the range starts at a multiple of 32.
+///
+/// Returns 0 if there is no such kind, no such layout or no such length.
+#[unsafe(no_mangle)]
+pub extern "C" fn rlsf_pool_length_for_budget(
+    kind: usize,
+    count: usize,
+    bytes: usize,
+    size: usize,
+    align: usize,
+) -> usize
+    ensures { IsLengthForBudget kind count bytes size align result }
+{
+    lengths::for_budget(kind, count, bytes, size, align)
 }
 
 /// Returns the least length in bytes of a range in which a payload of `size` bytes, aligned to `align`, can be allocated. This holds while
