@@ -1,18 +1,21 @@
 #!/usr/bin/env python3
 """Searches over all states of the reference model for calls that a pool of a computed length refuses, and for shorter pools that refuse none.
 
-usage: pool_lengths.py [--greatest UNITS] [--payloads N ..] [--classes C] [--by-size]
+usage: pool_lengths.py [--greatest UNITS] [--payloads N ..] [--classes C] [--by-size] [--budget]
 
 For each list of at most three sizes and N payloads, one row: the length of `pool_size_for_payloads`, that of
-`pool_size_for_budget`, the total of a pool for each size, and the shortest pools that refuse no call. A size is the length of a block, in units of 32 bytes. The list allows
-a call that requests at most its greatest size, if with what is live before it the payloads fit the list. The budget allows more: one payload
+`pool_size_for_budget`, the total of a pool for each size, and the shortest pools that refuse no call. A size is the length of a block, in
+units of 32 bytes. The list allows a call that requests at most its greatest size, if with what is live before it the payloads fit the list. The budget allows more: one payload
 less than the list, with the bytes of all but the smallest, may be live. Each payload may have any length up to the greatest. Calls are
 allocations, deallocations and reallocations. The script ends with an error if a pool of a computed length refuses a call.
 
 A pool for each size has the blocks of its payloads rounded up to a length at which a class begins, and 32 bytes more. A request goes to the
 first pool whose size reaches it. With --by-size, only these pools are searched. The script ends with an error unless a request is refused
 exactly if as many payloads of its pool are live as the list has of that size, or if the pools still refuse nothing with one of them 32
-bytes shorter."""
+bytes shorter.
+
+With --budget, only pools of the length of `pool_size_for_budget` are searched. The script ends with an error if one refuses a call, or if
+one still refuses nothing when it is 32 bytes shorter."""
 import argparse
 import itertools
 import sys
@@ -149,13 +152,27 @@ def by_size(sizes, classes):
     return sum(lengths)
 
 
+def budget_of(sizes, classes):
+    """What the budget of a list allows, and the length that is computed for it, in units."""
+    count, units = len(sizes) - 1, sum(sizes) - min(sizes)
+    return within_budget(count, units), 1 + units + (count + 1) * (least_block(max(sizes), classes) - 1) + 1
+
+
+def by_budget(sizes, classes):
+    """The length of a pool for the budget of a list, in units. One unit shorter, it refuses a call."""
+    allowed, length = budget_of(sizes, classes)
+    if shortest(length, classes, max(sizes), allowed) < length:
+        sys.exit(f"a pool for the budget of {sizes} refuses no call with {length - 1} units")
+    return length
+
+
 def row(sizes, classes):
     """Of a list of payloads: the two computed lengths, the shortest for the budget and for the list, and pools by size, in units."""
-    greatest, count, units = max(sizes), len(sizes) - 1, sum(sizes) - min(sizes)
+    greatest, count = max(sizes), len(sizes) - 1
     least = least_block(greatest, classes)
     one_size = least + 1 + count * (greatest + least - 1)
-    budget = 1 + units + (count + 1) * (least - 1) + 1
-    of_budget = shortest(budget, classes, greatest, within_budget(count, units))
+    allowed, budget = budget_of(sizes, classes)
+    of_budget = shortest(budget, classes, greatest, allowed)
     return one_size, budget, of_budget, shortest(of_budget, classes, greatest, within_list(sizes)), by_size(sizes, classes)
 
 
@@ -165,13 +182,15 @@ def main():
     parser.add_argument("--payloads", type=int, nargs="+", default=[1, 2, 3], help="how many payloads a list has")
     parser.add_argument("--classes", type=int, default=1, help="size classes of a row")
     parser.add_argument("--by-size", action="store_true", help="only pools by size")
+    parser.add_argument("--budget", action="store_true", help="only pools for a budget")
     words = parser.parse_args()
-    one_pool = [] if words.by_size else ["One size", "Budget", "Shortest for the budget", "Shortest for the list"]
-    print(f"| {' | '.join(['Sizes', *one_pool, 'By size'])} |\n{'|---' * (len(one_pool) + 2)}|")
+    one = {"By size": by_size} if words.by_size else {"Budget": by_budget} if words.budget else None
+    columns = list(one) if one else ["One size", "Budget", "Shortest for the budget", "Shortest for the list", "By size"]
+    print(f"| {' | '.join(['Sizes', *columns])} |\n{'|---' * (len(columns) + 1)}|")
     for n in words.payloads:
         for sizes in itertools.combinations_with_replacement(range(1, words.greatest + 1), n):
             if len(set(sizes)) <= 3:
-                units = [by_size(sizes, words.classes)] if words.by_size else row(sizes, words.classes)
+                units = [length(sizes, words.classes) for length in one.values()] if one else row(sizes, words.classes)
                 lengths = " | ".join(str(UNIT * n) for n in units)
                 print(f"| {', '.join(str(UNIT * size) for size in sizes)} | {lengths} |", flush=True)
 
