@@ -115,8 +115,13 @@ static void look_at_heap(const void *payload, const char *call) {
     if (!rlsf_heap_check(&checked->handle.heap, pools, count)) report(call, payload, "words between payloads were overwritten");
 }
 
-static void enter_checks(void) {
+/* Whether calls are checked. To be asked first: in a child they may not be any more, and then no call may enter. */
+static int is_checked(void) {
     notice_child();
+    return checked != NULL;
+}
+
+static void enter_checks(void) {
     pthread_mutex_lock(&checks_lock);
     if (!first_thread) first_thread = &here;
     several_threads |= first_thread != &here;

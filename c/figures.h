@@ -123,9 +123,11 @@ int malloc_trim(size_t unused) {
     int trimmed = 0;
     (void)unused;
     if (mine) trimmed |= trim_heap(mine);
-    if (checked) enter_checks();
-    if (checked) trimmed |= trim_heap(checked);
-    if (checked) pthread_mutex_unlock(&checks_lock);
+    if (is_checked()) {
+        enter_checks();
+        trimmed |= trim_heap(checked);
+        pthread_mutex_unlock(&checks_lock);
+    }
     acquire();
     for (struct heap *heap = forks ? NULL : left; heap; heap = heap->next_left) trimmed |= trim_heap(heap);
     release();

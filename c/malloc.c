@@ -32,18 +32,19 @@ static void end_thread(void *heap) {
 
 static void begin_first(void) {
     begin_checks();
-    pthread_key_create(&ends, end_thread);
+    if (pthread_key_create(&ends, end_thread)) ends = (pthread_key_t)-1; /* then each thread borrows */
 }
 
-/* Returns a heap for a thread that has none: its own from now on, unless it ended. NULL if there is none, or if calls are checked. */
+/* Returns a heap for a thread that has none: its own from now on, unless it ended, or its end wouldn't be noticed. NULL if there is none, or if
+ * calls are checked. */
 static struct heap *begin_thread(void) {
     struct heap *heap;
     pthread_once(&began, begin_first);
-    if (checked) return NULL;
+    if (is_checked()) return NULL;
     heap = own_heap();
     if (heap && !ended) {
-        mine = heap;
-        pthread_setspecific(ends, heap);
+        mine = heap; /* the next call may allocate */
+        if (pthread_setspecific(ends, heap)) mine = NULL;
     }
     return heap;
 }
@@ -53,7 +54,7 @@ static __attribute__((noinline)) void *allocate(size_t align, size_t size) {
     int error = errno;
     struct heap *heap = mine ? mine : begin_thread();
     void *payload = checked ? checked_allocate(align, size) : allocate_in(heap, align, size);
-    if (heap && ended) leave(heap);
+    if (heap && !mine) leave(heap);
     errno = payload ? error : ENOMEM;
     return payload;
 }
@@ -92,13 +93,9 @@ static __attribute__((noinline)) void free_other(void *payload) {
     int error = errno;
     struct segment *segment;
     if (!payload) return;
-    if (checked) {
-        checked_free(payload, "free");
-        return;
-    }
-    notice_child();
     segment = segment_of(payload);
-    if (segment->owner) give_back(segment->owner, payload);
+    if (is_checked()) checked_free(payload, "free");
+    else if (segment->owner) give_back(segment->owner, payload);
     else unmap_single(segment);
     errno = error;
 }
@@ -117,7 +114,7 @@ void free(void *payload) {
 
 size_t malloc_usable_size(void *payload) {
     if (!payload) return 0;
-    return !mine && checked ? checked_size(payload, "malloc_usable_size") : usable(payload);
+    return !mine && is_checked() ? checked_size(payload, "malloc_usable_size") : usable(payload);
 }
 
 /* Changes the size of a payload of this thread's heap. */
@@ -168,7 +165,7 @@ void *realloc(void *payload, size_t size) {
         free(payload);
         return NULL;
     }
-    if (!heap && checked) return checked_realloc(payload, size);
+    if (!heap && is_checked()) return checked_realloc(payload, size);
     if (heap && size < LARGE && segment_of(payload)->owner == heap) {
         void *resized;
         count_down(heap);

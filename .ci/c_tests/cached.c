@@ -64,23 +64,43 @@ static void *count_as_free(void *unused) {
     return unused;
 }
 
+static struct rlimit before;
+static void refuse_memory(void) {
+    WANT(getrlimit(RLIMIT_AS, &before), 0);
+    struct rlimit none = {1, before.rlim_max};
+    WANT(setrlimit(RLIMIT_AS, &none), 0);
+}
+
 /* They are freed if the system has no memory, in a child, too. */
 static void *freed_under_a_limit(void *unused) {
-    struct rlimit before, none;
     int status = 1;
     fill(COUNT, 512);
     size_t segments = held();
     free_all(EACH);
     pid_t child = fork();
-    WANT(getrlimit(RLIMIT_AS, &before), 0);
-    none = (struct rlimit){1, before.rlim_max};
-    WANT(setrlimit(RLIMIT_AS, &none), 0);
+    refuse_memory();
     WANT(malloc(8000) == payloads[0], 1);
     if (!child) _exit(0);
     WANT(setrlimit(RLIMIT_AS, &before), 0);
     WANT(held(), segments);
     WANT(waitpid(child, &status, 0), child);
     WANT(status, 0);
+    return unused;
+}
+
+/* So they are for a payload that would get a segment of its own. The heap's only segment has 1.5 MB, of which the kept one leaves less than 1.1 MB. */
+static void *freed_for_a_large_one(void *unused) {
+    char *wide = aligned_alloc(512 << 10, 1000000), *first, *kept, *large;
+    free(wide);
+    first = malloc(500000), kept = malloc(500);
+    free(first);
+    free(kept);
+    refuse_memory();
+    large = malloc(1300000);
+    WANT(setrlimit(RLIMIT_AS, &before), 0);
+    WANT(large != NULL, 1);
+    WANT(mallinfo2().hblks, 0);
+    free(large);
     return unused;
 }
 
@@ -118,6 +138,9 @@ int main(void) {
     in_thread(newest_first);
     in_thread(others_are_joined);
     heap_without_thread();
+    malloc_trim(0);
+    in_thread(freed_for_a_large_one);
+    malloc_trim(0);
     in_thread(freed_under_a_limit);
     return 0;
 }

@@ -1,4 +1,4 @@
-/* Wrong calls, which a malloc with checks reports: the argument is the number of one. It prints what the report begins with. Without one, the
+/* Wrong calls, which a malloc with checks reports: the argument is the number of one. It prints the report, or what it begins with. Without one, the
  * calls are right, in four threads and a child. */
 #define _GNU_SOURCE
 #include "want.h"
@@ -12,15 +12,18 @@
 #include <sys/syscall.h>
 #include <sys/wait.h>
 
-static void announce(const char *call, const void *payload) {
-    printf("rlsf: %s(%p): ", call, payload);
+static const char inside[] = "this lies inside a payload", nothing[] = "no payload lives here: it was freed, or never allocated";
+static const char behind[] = "bytes behind this payload were overwritten";
+
+static void announce(const char *call, const void *payload, const char *what) {
+    printf("rlsf: %s(%p): %s\n", call, payload, what);
 }
 
 /* The bytes from an offset on are written, and the payload is freed. */
 static void write_behind(size_t size, size_t offset) {
     volatile char *payload = malloc(size);
     payload[offset] ^= 1;
-    announce("free", (const void *)payload);
+    announce("free", (const void *)payload, behind);
     free((void *)payload);
 }
 
@@ -37,14 +40,14 @@ static void misuse(size_t number) {
     static char nobody[64] __attribute__((aligned(16)));
     char *volatile payload = malloc(100), *volatile large = malloc(3000000);
     switch (number) {
-    case 1: free(payload), announce("free", payload), free(payload); break;
-    case 2: announce("free", payload + 16), free(payload + 16); break;
-    case 3: announce("free", nobody), free(nobody); break;
-    case 4: announce("free", (char *)0x123450), free((void *)0x123450); break;
-    case 5: free(large), announce("free", large), free(large); break;
-    case 6: announce("realloc", payload + 32), payload = realloc(payload + 32, 200); break;
-    case 7: free(payload), announce("realloc", payload), payload = realloc(payload, 200); break;
-    case 8: free(payload), announce("malloc_usable_size", payload), (void)!malloc_usable_size(payload); break;
+    case 1: free(payload), announce("free", payload, nothing), free(payload); break;
+    case 2: announce("free", payload + 16, inside), free(payload + 16); break;
+    case 3: announce("free", nobody, nothing), free(nobody); break;
+    case 4: announce("free", (char *)0x123450, nothing), free((void *)0x123450); break;
+    case 5: free(large), announce("free", large, nothing), free(large); break;
+    case 6: announce("realloc", payload + 32, inside), payload = realloc(payload + 32, 200); break;
+    case 7: free(payload), announce("realloc", payload, nothing), payload = realloc(payload, 200); break;
+    case 8: free(payload), announce("malloc_usable_size", payload, nothing), (void)!malloc_usable_size(payload); break;
     case 9: write_behind(100, 100); break;
     case 10: write_behind(101, 108); break;
     case 11: write_behind(3000000, 3000000); break;

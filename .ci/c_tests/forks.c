@@ -51,10 +51,12 @@ static void allocate_some(size_t round) {
     }
 }
 
-/* Allocates in a child, before malloc's own handler runs there. */
-static volatile int early;
+/* Allocates in a child, before malloc's own handler runs there, or frees what the test of given payloads allocated. */
+static volatile int early, frees_early;
+static void *free_all(void *unused);
 static void allocate_early(void) {
     static char *kept[400];
+    if (frees_early) free_all(NULL);
     if (!early) return;
     for (size_t n = 0; n < 400; n++) kept[n] = memset(malloc(n * 50 + 1), (int)n, n * 50 + 1);
     for (size_t n = 0; n < 400; n++) {
@@ -174,12 +176,15 @@ static void in_thread(void *(*run)(void *)) {
     WANT(pthread_join(thread, NULL), 0);
 }
 
-/* What was freed before a fork is free in the child, too: in the heap of the thread that forks, and in one without a thread. */
+/* What was freed before a fork is free in the child, too: in the heap of the thread that forks, and in one without a thread. So is what is freed in
+ * the child before malloc's own handler runs there. */
 static void free_before_fork(void) {
-    for (size_t round = 0; round < 2; round++) {
+    for (size_t round = 0; round < 3; round++) {
         size_t before = used();
-        if (round) in_thread(give), free_all(NULL);
+        if (round) in_thread(give);
         else give(NULL), in_thread(free_all);
+        if (round == 1) free_all(NULL);
+        frees_early = round == 2;
         WANT(mallinfo2().uordblks >= before + GIVEN * 200, 1);
         pid_t child = fork();
         if (child == 0) {
@@ -187,6 +192,8 @@ static void free_before_fork(void) {
             _exit(0);
         }
         wait_for(child);
+        frees_early = 0;
+        if (round == 2) free_all(NULL);
         WANT(used(), before);
     }
 }

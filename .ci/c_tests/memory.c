@@ -2,6 +2,8 @@
  * resident memory, in MB, after calloc of 512 MB, after its free, and after growing to 512 MB by realloc. */
 #define _GNU_SOURCE
 #include "want.h"
+#include "rlsf.h"
+#include <errno.h>
 #include <malloc.h>
 #include <stdint.h>
 #include <string.h>
@@ -154,6 +156,37 @@ static void usable_sizes(void) {
     }
 }
 
+/* What malloc's figures say is the same in each call: of a payload with a segment of its own, too, before and after its size changes. */
+static void figures_agree(void) {
+    char text[1000] = {0}, wanted[1000];
+    FILE *to = fmemopen(text, sizeof text, "w");
+    size_t heaps, left, singles = mallinfo2().hblks, bytes = mallinfo2().hblkhd, page = (size_t)sysconf(_SC_PAGESIZE);
+    char *payload = realloc(malloc(2 * MB), 5 * MB);
+    WANT(mallinfo2().hblks, singles + 1);
+    WANT(mallinfo2().hblkhd, bytes + 5 * MB + page);
+    WANT(malloc_info(1, to), EINVAL);
+    WANT(malloc_info(0, to), 0); /* the stream allocates */
+    rewind(to);
+    WANT(malloc_info(0, to), 0);
+    struct mallinfo2 found = mallinfo2();
+#pragma GCC diagnostic ignored "-Wdeprecated-declarations"
+    struct mallinfo also = mallinfo();
+    fflush(to);
+    WANT(sscanf(text, "%*[^\n]\n<heaps count=\"%zu\" left=\"%zu\"/>", &heaps, &left), 2);
+    snprintf(wanted, sizeof wanted, "<malloc version=\"rlsf " RLSF_VERSION "\">\n<heaps count=\"%zu\" left=\"%zu\"/>\n<segments count=\"%zu\" size=\"%zu\" "
+        "used=\"%zu\" empty=\"%zu\"/>\n<total type=\"mmap\" count=\"%zu\" size=\"%zu\"/>\n<system type=\"current\" size=\"%zu\"/>\n</malloc>\n",
+        heaps, left, found.ordblks, found.arena, found.uordblks, found.keepcost, found.hblks, found.hblkhd, found.arena + found.hblkhd);
+    WANT(strcmp(text, wanted), 0);
+    WANT(found.fordblks, found.arena - found.uordblks);
+    WANT(also.arena == (int)found.arena && also.ordblks == (int)found.ordblks && also.hblks == (int)found.hblks && also.hblkhd == (int)found.hblkhd, 1);
+    WANT(also.uordblks == (int)found.uordblks && also.fordblks == (int)found.fordblks && also.keepcost == (int)found.keepcost, 1);
+    fclose(to);
+    free(payload);
+    WANT(mallinfo2().hblks, singles);
+    WANT(mallinfo2().hblkhd, bytes);
+    WANT(mallopt(M_MMAP_THRESHOLD, 1 << 20), 0);
+}
+
 /* realloc of no bytes frees. A trim says whether there was something to return. */
 static void nothing_is_lost(void) {
     size_t before = used();
@@ -263,6 +296,7 @@ int main(int count, char **words) {
     heap_grows();
     alignments_in_new_memory();
     usable_sizes();
+    figures_agree();
     nothing_is_lost();
     segments_stay_short();
     places_are_taken();
