@@ -52,12 +52,16 @@ static void allocate_some(size_t round) {
 }
 
 /* Allocates in a child, before malloc's own handler runs there, or frees what the test of given payloads allocated. */
-static volatile int early, frees_early;
+static volatile int early, frees_early, frees_meanwhile;
 static void *free_all(void *unused);
+static void allocate_others(void);
+static void in_thread(void *(*run)(void *));
 static void allocate_early(void) {
     static char *kept[400];
     if (frees_early) free_all(NULL);
+    if (frees_meanwhile) allocate_others();
     if (!early) return;
+    (void)mallinfo2(); /* takes the lock, as a free may that returns memory */
     for (size_t n = 0; n < 400; n++) kept[n] = memset(malloc(n * 50 + 1), (int)n, n * 50 + 1);
     for (size_t n = 0; n < 400; n++) {
         WANT(kept[n][n * 50], (char)n);
@@ -69,6 +73,7 @@ static void allocate_early(void) {
  * fork, or another thread has malloc's lock then. */
 static void before_fork(void) {
     if (raises) raise(SIGUSR1);
+    if (frees_meanwhile) in_thread(free_all);
     for (size_t n = 0; slow && !unmaps && n < 200; n++) usleep(100);
 }
 static void watch_forks(void) { pthread_atfork(before_fork, NULL, allocate_early); }
@@ -176,23 +181,35 @@ static void in_thread(void *(*run)(void *)) {
     WANT(pthread_join(thread, NULL), 0);
 }
 
+/* What another thread frees during a fork isn't used in the child: there it may lie in the middle of a call. */
+static unsigned char *were[GIVEN];
+static void allocate_others(void) {
+    for (size_t n = 0; n < GIVEN; n++) {
+        unsigned char *other = malloc(200);
+        for (size_t k = 0; k < GIVEN; k++) WANT(other != were[k], 1);
+    }
+}
+
 /* What was freed before a fork is free in the child, too: in the heap of the thread that forks, and in one without a thread. So is what is freed in
  * the child before malloc's own handler runs there. */
 static void free_before_fork(void) {
-    for (size_t round = 0; round < 3; round++) {
+    for (size_t round = 0; round < 4; round++) {
         size_t before = used();
-        if (round) in_thread(give);
-        else give(NULL), in_thread(free_all);
+        if (round == 1 || round == 2) in_thread(give);
+        else give(NULL);
+        for (size_t n = 0; n < GIVEN; n++) were[n] = given[n];
+        if (round == 0) in_thread(free_all);
         if (round == 1) free_all(NULL);
         frees_early = round == 2;
+        frees_meanwhile = round == 3;
         WANT(mallinfo2().uordblks >= before + GIVEN * 200, 1);
         pid_t child = fork();
         if (child == 0) {
-            WANT(used(), before);
+            WANT(round == 3 || used() == before, 1);
             _exit(0);
         }
         wait_for(child);
-        frees_early = 0;
+        frees_early = frees_meanwhile = 0;
         if (round == 2) free_all(NULL);
         WANT(used(), before);
     }

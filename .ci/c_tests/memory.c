@@ -261,6 +261,21 @@ static void places_are_taken(void) {
     WANT(address_pages(), before - 60 * MB / page - 1 - len / page);
 }
 
+/* Where the system refuses to make a payload longer, no address is lost. */
+static void growth_is_refused(void) {
+    struct rlimit before, none;
+    char *payload = memset(malloc(3 * MB), 7, 3 * MB);
+    size_t pages = address_pages();
+    WANT(getrlimit(RLIMIT_DATA, &before), 0);
+    none = (struct rlimit){1, before.rlim_max};
+    WANT(setrlimit(RLIMIT_DATA, &none), 0);
+    WANT(realloc(payload, 64 * MB) == NULL, 1);
+    WANT(setrlimit(RLIMIT_DATA, &before), 0);
+    WANT(address_pages(), pages);
+    WANT(payload[3 * MB - 1], 7);
+    free(payload);
+}
+
 static void limit_addresses(size_t more) {
     struct rlimit limit = {address_pages() * (size_t)sysconf(_SC_PAGESIZE) + more, RLIM_INFINITY};
     WANT(setrlimit(RLIMIT_AS, &limit), 0);
@@ -300,6 +315,7 @@ int main(int count, char **words) {
     nothing_is_lost();
     segments_stay_short();
     places_are_taken();
+    growth_is_refused();
     under_a_limit();
     return 0;
 }
