@@ -88,17 +88,19 @@ static void *freed_under_a_limit(void *unused) {
     return unused;
 }
 
-/* So they are for a payload that would get a segment of its own. The heap's only segment has 1.5 MB, of which the kept one leaves less than 1.1 MB. */
+/* So they are for a payload that would get a segment of its own. The heap's only segment has 1.5 MB, of which the kept one leaves less than 1.1 MB.
+ * Where another payload was, calloc's is zeros, too. */
 static void *freed_for_a_large_one(void *unused) {
-    char *wide = aligned_alloc(512 << 10, 1000000), *first, *kept, *large;
+    char *wide = memset(aligned_alloc(512 << 10, 1000000), 0xff, 1000000), *first, *kept, *large;
     free(wide);
     first = malloc(500000), kept = malloc(500);
     free(first);
     free(kept);
     refuse_memory();
-    large = malloc(1300000);
+    large = calloc(1300, 1000);
     WANT(setrlimit(RLIMIT_AS, &before), 0);
     WANT(large != NULL, 1);
+    for (size_t n = 0; n < 1300000; n++) WANT(large[n], 0);
     WANT(mallinfo2().hblks, 0);
     free(large);
     return unused;
