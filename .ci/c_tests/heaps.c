@@ -9,6 +9,7 @@
 #include <pthread.h>
 #include <semaphore.h>
 #include <string.h>
+#include <sys/resource.h>
 
 enum { EACH = 10, LONG = 900000, THREADS = 3 };
 static sem_t begun, go_on[THREADS];
@@ -111,6 +112,21 @@ static void taken_over(void) {
     malloc_trim(0);
 }
 
+/* A payload of another thread's heap gets shorter where it lies, if there is no memory for another one. */
+static void shorter_in_another_heap(void) {
+    struct rlimit before, none;
+    begin(1, allocate_long);
+    WANT(getrlimit(RLIMIT_AS, &before), 0);
+    none = (struct rlimit){1, before.rlim_max};
+    WANT(setrlimit(RLIMIT_AS, &none), 0);
+    WANT(realloc(payloads[0][0], LONG - 100000) == payloads[0][0], 1);
+    WANT(realloc(payloads[0][0], LONG + 100000) == NULL, 1);
+    WANT(setrlimit(RLIMIT_AS, &before), 0);
+    end(0);
+    for (size_t n = 0; n < EACH; n++) free(payloads[0][n]);
+    malloc_trim(0);
+}
+
 /* A segment that realloc leaves without a payload is empty, too: the payload moves to another one, which had none. */
 static void *move_out(void *unused) {
     char *moved = malloc(1000), *other = malloc(LONG);
@@ -157,6 +173,7 @@ int main(void) {
     cached_are_freed();
     taken_over();
     left_in_turn();
+    shorter_in_another_heap();
     in_thread(move_out);
     none_is_lost();
     free(held);
