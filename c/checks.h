@@ -2,8 +2,8 @@
  * bytes that were overwritten behind a payload, end the program with a message.
  *
  * All threads share one heap then, under a lock, and no thread has one of its own: so the calls of malloc.c come here. A table outside of the
- * heap has each live payload and the size that was asked for. The GUARD bytes behind a payload are looked at when it is freed, and all of the
- * heap's headers each CALLS_EACH frees. */
+ * heap has each live payload and the size that was asked for. The bytes behind a payload, of which there are GUARD to 4 * GUARD, are looked at when
+ * it is freed, and all of the heap's headers each CALLS_EACH frees. */
 #ifndef RLSF_CHECKS_H
 #define RLSF_CHECKS_H
 

@@ -52,6 +52,7 @@ static void misuse(size_t number) {
     case 10: write_behind(101, 108); break;
     case 11: write_behind(3000000, 3000000); break;
     case 12: write_header(); break;
+    case 13: write_behind(100, 143); break;
     }
 }
 

@@ -53,6 +53,7 @@ def start_nginx(folder, port):
     served.mkdir(parents=True, exist_ok=True)
     for n in range(200):
         (served / f"file{n}").write_text(f"file {n}\n")
+        os.utime(served / f"file{n}", (0, 0))  # the list has the times
     (folder / "served/lines").write_text("".join(f"line {n * 7919 % 10007}\n" for n in range(3000)))
     user = "user root;" if os.geteuid() == 0 else ""
     (folder / "nginx.conf").write_text(NGINX.replace("FILES", str(folder)).replace("PORT", str(port)).replace("USER", user))
