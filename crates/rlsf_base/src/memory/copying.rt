@@ -152,31 +152,31 @@ pub(crate) fn copy_units(bytes: &mut Bytes, base: Base, from: usize, to: usize, 
     requires out { out ≡ out_with bytes.old to len }
     ensures { Becomes bytes.old bytes.new (with_bytes bytes.old to len (bytes_in bytes.old from len)) out }
 {
-    let mut index = copy_odd_unit(bytes, base, from, to, len);
+    let pairs = pairs_of(len);
+    let mut index = 0;
     // Not `<`: so the compiler can't count the rounds, and doesn't unroll the loop further. Most payloads have few units.
-    while index != len {
+    while index != pairs {
         copy_unit(bytes, base, from + index, to + index);
         let next = index + 16;
         copy_unit(bytes, base, from + next, to + next);
         index = next + 16;
     }
+    if pairs == len {
+        bytes.recount();
+        return;
+    }
+    copy_unit(bytes, base, from + pairs, to + pairs);
     bytes.recount();
 }
 
-// Copies the first unit, if the number of units is odd. Returns the number of bytes copied.
+// Returns how many of the `len` bytes are in pairs of units. It isn't `len - len % 32`, from which the compiler could count the rounds.
 #[inline(always)]
-fn copy_odd_unit(bytes: &mut Bytes, base: Base, from: usize, to: usize, len: usize) -> usize
-    requires lies { (base.ptr ≡ bytes.old.at) × Has bytes.old from len × Has bytes.old to len }
-    requires kept { IsIn bytes.old.out (from - bytes.old.skip) len × IsOwn bytes.old.out (to - bytes.old.skip) len }
-    requires units { len % 16 ≡ 0 }
-    ensures copied { HasCopied bytes.old bytes.new from to result }
-    ensures rest { (result ≤ len) × ((len - result) % 32 ≡ 0) }
+fn pairs_of(len: usize) -> usize
+    requires { len % 16 ≡ 0 }
+    ensures pairs { result % 32 ≡ 0 }
+    ensures rest { (result ≡ len) ⊎ (result + 16 ≡ len) }
 {
-    if len % 32 == 0 {
-        return 0;
-    }
-    copy_unit(bytes, base, from, to);
-    16
+    if len % 32 == 0 { len } else { len - 16 }
 }
 
 // Copies the unit from a place on to another place.

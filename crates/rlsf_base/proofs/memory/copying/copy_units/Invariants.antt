@@ -6,7 +6,7 @@ abbrev pub ghost-recount : goal.ghost-recount
 ghost-recount g a = g.out
 
 abbrev pub invariant-loop-index : goal.invariant-loop-index
-invariant-loop-index g l = (l.index ≤ l.fn.len) × ((l.fn.len - l.index) % 32 ≡ 0) × HasCopied l.fn.bytes l.bytes l.fn.from l.fn.to l.index
+invariant-loop-index g l = (l.index ≤ l.pairs) × ((l.pairs - l.index) % 32 ≡ 0) × HasCopied l.fn.bytes l.bytes l.fn.from l.fn.to l.index
 
 abbrev pub decreases-loop-index : goal.decreases-loop-index
-decreases-loop-index g l = l.fn.len - l.index
+decreases-loop-index g l = l.pairs - l.index
