@@ -8,6 +8,7 @@ ghost use Rattle.rlsf_model.specs.State.{usable};
 ghost use Rattle.rlsf_table.specs.Counts.{Costs};
 ghost use Rattle.rlsf_blocks.specs.Steps.Resize.{AtEachMoving, AtEachMovingHere, AtEachPayload, HasMovingHere, IsHereStill, IsReallocated};
 
+use crate::HEADER;
 use crate::reallocation::elsewhere::move_elsewhere;
 use crate::reallocation::previous::move_into_previous;
 use rlsf_base::memory::{Layout, OpenMemory};
@@ -42,6 +43,50 @@ fn moved<const FLLEN: usize, const SLLEN: usize, const WHOLE: usize>(
     move_elsewhere::<FLLEN, SLLEN, WHOLE>(memory, view, table, block, payload, layout)
 }
 
+/// Returns `payload`, the address of the payload in the used block at `block`. If `NARROW` is 1, it lies behind the header.
+#[inline(always)]
+fn payload_in<const NARROW: usize>(block: usize, payload: usize) -> usize
+    requires narrow { NARROW ≡ 1 → block + 16 ≡ payload }
+    ensures { result ≡ payload }
+{
+    if NARROW == 1 { block + HEADER } else { payload }
+}
+
+/// Moves the payload as `move_block` does. If `NARROW` is 1, `layout` must have the alignment 16.
+// Out of line, since it is long, and without a view: so a call that doesn't get here saves no register for it, and all of its
+// arguments are in registers. It returns a number: so a call for C returns that as it is. `NARROW` makes a function of its own of the most
+// frequent alignment, in which the compiler computes nothing by it.
+#[inline(never)]
+fn move_aligned<const FLLEN: usize, const SLLEN: usize, const WHOLE: usize, const NARROW: usize>(
+    memory: &mut OpenMemory,
+    table: &mut ClassTable<FLLEN, SLLEN>,
+    block: usize,
+    payload: usize,
+    layout: Layout,
+) -> usize
+    requires parameters { IsValid 128 128 FLLEN SLLEN }
+    requires used { HasMovingHere FLLEN SLLEN memory.old table.old block payload layout }
+    requires whole { WHOLE ≡ 1 → memory.old.out ≡ [] }
+    requires narrow { NARROW ≡ 1 → layout.align ≡ 16 }
+    ensures step { AtEachMovingHere FLLEN SLLEN memory.old table.old block payload layout (λ s u. IsReallocated FLLEN SLLEN memory.old memory.new table.new s u layout.size (reply_of result)) }
+    ensures refused { IfNone (reply_of result) (memory.new.bytes ≡ memory.old.bytes) }
+    ensures costs { Costs memory.old memory.new 63 (memory.new.copied - memory.old.copied) }
+    ensures copied { AtEachPayload FLLEN SLLEN memory.old table.old block payload layout (λ s u. memory.new.copied ≤ memory.old.copied + (usable u).len) }
+    ensures own { SameOwn memory.old memory.new }
+    ensures here { StaysHere memory.old memory.new }
+    ensures kept_here { AtEachMoving FLLEN SLLEN memory.old table.old block payload layout (λ s u. IsHereStill memory.old memory.new u (reply_of result)) }
+{
+    // No instruction: the compiler takes the alignment for 16 below.
+    if NARROW == 1 && layout.align() != 16 {
+        unreachable!();
+    }
+    let payload = payload_in::<NARROW>(block, payload);
+    match moved::<FLLEN, SLLEN, WHOLE>(memory, table, block, payload, layout) {
+        Some(to) => to,
+        None => 0,
+    }
+}
+
 /// Moves the payload at `payload`, in the used block at `block`, to a place of the size of `layout` in bytes: the free block before its
 /// own, else a newly allocated block. Returns the new address, or 0 if the allocation is refused; then no byte and no block changes.
 ///
@@ -51,9 +96,7 @@ fn moved<const FLLEN: usize, const SLLEN: usize, const WHOLE: usize>(
 ///
 /// From the new address on, as many bytes are here as the old payload has. No byte leaves or comes back, and each byte that was here
 /// is here.
-// Out of line, since it is long, and without a view: so a call that doesn't get here saves no register for it, and all of its
-// arguments are in registers. It returns a number: so a call for C returns that as it is.
-#[inline(never)]
+#[inline(always)]
 pub fn move_block<const FLLEN: usize, const SLLEN: usize, const WHOLE: usize>(
     memory: &mut OpenMemory,
     table: &mut ClassTable<FLLEN, SLLEN>,
@@ -72,8 +115,8 @@ pub fn move_block<const FLLEN: usize, const SLLEN: usize, const WHOLE: usize>(
     ensures here { StaysHere memory.old memory.new }
     ensures kept_here { AtEachMoving FLLEN SLLEN memory.old table.old block payload layout (λ s u. IsHereStill memory.old memory.new u (reply_of result)) }
 {
-    match moved::<FLLEN, SLLEN, WHOLE>(memory, table, block, payload, layout) {
-        Some(to) => to,
-        None => 0,
+    if layout.align() == 16 {
+        return move_aligned::<FLLEN, SLLEN, WHOLE, 1>(memory, table, block, payload, layout);
     }
+    move_aligned::<FLLEN, SLLEN, WHOLE, 0>(memory, table, block, payload, layout)
 }

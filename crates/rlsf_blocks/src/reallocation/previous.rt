@@ -19,7 +19,7 @@ use crate::reallocation::resize::{free_length, occupy};
 use crate::{GRANULARITY, HEADER, take_if_free, take_previous};
 use rlsf_base::memory::{Layout, OpenMemory, Range, View};
 use rlsf_base::rounding::next_multiple_of_32;
-use rlsf_table::{ClassTable, PAD, PREVIOUS_BLOCK, used_end};
+use rlsf_table::{ClassTable, PAD, PREVIOUS_BLOCK, is_free, used_end};
 
 /// Returns the start of the free block before the used one at `block`, or `block` if none is before it.
 fn start_before(memory: &mut OpenMemory, view: View, block: usize) -> usize
@@ -32,7 +32,15 @@ fn start_before(memory: &mut OpenMemory, view: View, block: usize) -> usize
     if previous == 0 {
         block
     } else {
-        block - free_length(memory, view, previous)
+        let size = memory.load_at(view, previous);
+        if !is_free(size) {
+            return block;
+        }
+        // No instruction: the compiler knows by it that the free block begins at another address.
+        if size == 0 {
+            unreachable!();
+        }
+        block - size as usize
     }
 }
 

@@ -1,6 +1,8 @@
-use Rattle.std.proofs.Common.{rules, arith, refl}
+use Rattle.std.proofs.Common.{◌∙◌, rules, arith, refl}
 use Rattle.rlsf_blocks.proofs.Deallocate.Loaded.{IsMarked-loaded}
 use Rattle.rlsf_blocks.proofs.Deallocate.Marks.{IsMarked-previous, IsPreviousOut-none, length_before, previous_word}
+use Rattle.rlsf_blocks.proofs.Deallocate.TakenIfFree.{block_there, odd_from}
+use Rattle.rlsf_blocks.proofs.Reallocate.Lengths.{end_free, end_used}
 use Rattle.rlsf_table.proofs.FreeLists.Counted.{IsFreeTable-counted}
 use Rattle.rlsf_blocks.proofs.RepresentedStates.FreeBlocks.{IsFreeTable-free}
 use Rattle.rlsf_blocks.proofs.Words.Apart.{used_in_memory}
@@ -16,14 +18,27 @@ load_at-previous-requires-clause-place c =
     let (fllen, sllen, t, s, u, v, i, at) = c.requires.used in
     previous_word v u i at refl
 
-pub free_length-requires-clause-marked : goal.free_length-requires-clause-marked
-free_length-requires-clause-marked c =
+pub load_at-size-requires-clause-place : goal.load_at-size-requires-clause-place
+load_at-size-requires-clause-place c =
     let (fllen, sllen, t, s, u, v, i, at) = c.requires.used in
     let m = c.args.memory.now in
     let n = c.load_at-previous.new.self in
     let read = c.load_at-previous.ensures in
     let marked = IsMarked-loaded m n read.start read.bytes read.out (IsMarked-previous v u i at read.word c.if-previous-eq0.false) in
-    (fllen, sllen, t, s.free, IsFreeTable-counted m n read.start read.bytes read.out (IsFreeTable-free v), marked)
+    marked.word
+
+-- a free block isn't empty
+pub unreachable-requires : goal.unreachable-requires
+unreachable-requires c =
+    let (fllen, sllen, t, s, u, v, i, at) = c.requires.used in
+    let m = c.args.memory.now in
+    let n = c.load_at-previous.new.self in
+    let read = c.load_at-previous.ensures in
+    let marked = IsMarked-loaded m n read.start read.bytes read.out (IsMarked-previous v u i at read.word c.if-previous-eq0.false) in
+    let list = IsFreeTable-counted m n read.start read.bytes read.out (IsFreeTable-free v) in
+    let (f, j, begins, long) = block_there list marked c.load_at-size.ensures.word (c.is_free.ensures.0 c.if-not-is_free.false) in
+    let placed = list.placed f j in
+    omega (arith, placed.room, long, c.if-size-eq0.true)
 
 pub overflow_sub-result : goal.overflow_sub-result
 overflow_sub-result c =
@@ -32,7 +47,8 @@ overflow_sub-result c =
     let n = c.load_at-previous.new.self in
     let read = c.load_at-previous.ensures in
     let marked = IsMarked-loaded m n read.start read.bytes read.out (IsMarked-previous v u i at read.word c.if-previous-eq0.false) in
-    let long = c.free_length.ensures.length fllen sllen t s.free (IsFreeTable-counted m n read.start read.bytes read.out (IsFreeTable-free v)) marked in
+    let list = IsFreeTable-counted m n read.start read.bytes read.out (IsFreeTable-free v) in
+    let long = end_free list marked c.load_at-size.ensures.word (c.is_free.ensures.0 c.if-not-is_free.false) in
     (length_before v u i at read.word c.if-previous-eq0.false long).within
 
 pub returns-then-previous-eq0 : goal.returns-then-previous-eq0
@@ -43,14 +59,28 @@ returns-then-previous-eq0 c = record {
   counts = search rules;
 }
 
-pub returns-else-previous-eq0 : goal.returns-else-previous-eq0
-returns-else-previous-eq0 c = record {
+pub returns-then-not-is_free : goal.returns-then-not-is_free
+returns-then-not-is_free c = record {
   start = λ fllen sllen t s u v i at.
       let m = c.args.memory.now in
       let n = c.load_at-previous.new.self in
       let read = c.load_at-previous.ensures in
       let marked = IsMarked-loaded m n read.start read.bytes read.out (IsMarked-previous v u i at read.word c.if-previous-eq0.false) in
-      let long = c.free_length.ensures.length fllen sllen t s.free (IsFreeTable-counted m n read.start read.bytes read.out (IsFreeTable-free v)) marked in
+      let list = IsFreeTable-counted m n read.start read.bytes read.out (IsFreeTable-free v) in
+      let long = end_used list marked c.load_at-size.ensures.word (odd_from c.load_at-size.result c.is_free.ensures c.if-not-is_free.true) in
+      omega arith ∙ (length_before v u i at read.word c.if-previous-eq0.false long).begins;
+  counts = search rules;
+}
+
+pub returns-else-size-eq0 : goal.returns-else-size-eq0
+returns-else-size-eq0 c = record {
+  start = λ fllen sllen t s u v i at.
+      let m = c.args.memory.now in
+      let n = c.load_at-previous.new.self in
+      let read = c.load_at-previous.ensures in
+      let marked = IsMarked-loaded m n read.start read.bytes read.out (IsMarked-previous v u i at read.word c.if-previous-eq0.false) in
+      let list = IsFreeTable-counted m n read.start read.bytes read.out (IsFreeTable-free v) in
+      let long = end_free list marked c.load_at-size.ensures.word (c.is_free.ensures.0 c.if-not-is_free.false) in
       (length_before v u i at read.word c.if-previous-eq0.false long).begins;
   counts = search rules;
 }
