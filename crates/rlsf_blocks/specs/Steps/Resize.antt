@@ -1,5 +1,5 @@
 -- A used block gets another size, in place or at another place.
-use Rattle.std.specs.Prelude.{◌≡◌, ◌≢◌, ℕ, ◌+◌, ◌-◌, ◌<◌, ◌≤◌, Bool, true, List, ◌∷◌, ◌++◌, length, Option, None, Some, IfSome, MatchOption, find}
+use Rattle.std.specs.Prelude.{◌≡◌, ◌≢◌, ℕ, ◌+◌, ◌-◌, ◌<◌, ◌≤◌, List, ◌∷◌, ◌++◌, length, Option, None, Some, IfSome, MatchOption, find}
 use Rattle.std.specs.Int.{next_multiple_of}
 use Rattle.rlsf_base.specs.declared.memory.layout.Layout.{Layout}
 use Rattle.rlsf_base.specs.declared.memory.range.Range.{Range}
@@ -146,9 +146,10 @@ IsPlanned fllen sllen m n t s u first addr = (p : Plan) × (first ≡ Some p) ×
 abbrev pub IsResized : ℕ → ℕ → Space → Space → Table → State → Used → ℕ → ℕ → Type 0
 IsResized fllen sllen m n t s u size addr = IsPlanned fllen sllen m n t s u (unmoved_plan s u size) addr
 
--- if the bytes behind the used block's end of that size are the memory's own and a call succeeded, the payload has the size in place
-abbrev pub ResizesKept : ℕ → ℕ → Space → Space → Table → State → Used → ℕ → ℕ → Bool → Type 0
-ResizesKept fllen sllen m n t s u size addr done = IsOwnedBehind m u size → done ≡ true → IsResized fllen sllen m n t s u size addr
+-- if the bytes behind the used block's end of that size are the memory's own and a call returned an address, it is the payload's, and the payload has
+-- the size in place
+abbrev pub ResizesKept : ℕ → ℕ → Space → Space → Table → State → Used → ℕ → ℕ → Option ℕ → Type 0
+ResizesKept fllen sllen m n t s u size addr reply = IsOwnedBehind m u size → IfSome reply (λ to. (to ≡ addr) × IsResized fllen sllen m n t s u size addr)
 
 -- if an address is returned, the payload lies there, in the free block before its own
 abbrev pub IsMovedBefore : ℕ → ℕ → Space → Space → Table → State → Used → ℕ → Option ℕ → Type 0

@@ -1,6 +1,6 @@
 //! A used block gets another size in place.
 
-ghost use Rattle.std.specs.Prelude.{◌≡◌, ◌+◌, ◌-◌, ◌^◌, ◌%◌, ◌≤◌, ◌<◌, ℕ, List, None, false};
+ghost use Rattle.std.specs.Prelude.{◌≡◌, ◌+◌, ◌-◌, ◌^◌, ◌%◌, ◌≤◌, ◌<◌, ℕ, List, None, IfNone};
 ghost use Rattle.rlsf_base.specs.declared.memory.range.Range.{Range};
 ghost use Rattle.rlsf_base.specs.Range.{range_at};
 ghost use Rattle.rlsf_base.specs.SizeClass.{IsValid};
@@ -56,23 +56,26 @@ pub(crate) fn occupy<const FLLEN: usize, const SLLEN: usize>(
 }
 
 /// Gives the used block at `block` of `len` bytes the length `taken`, which is another one: that of a block for the size of `layout`.
-/// Its bytes and those of a free block behind it suffice. The rest of them becomes a free block.
-// Out of line: so a call that leaves the block as it is saves no register.
+/// Its bytes and those of a free block behind it suffice. The rest of them becomes a free block. Returns the address of the payload,
+/// which lies `front` bytes behind the start of the block.
+// Out of line: so a call that leaves the block as it is saves no register. It returns the address, and reads the view again: so a call for C
+// ends with a jump here, with all arguments in registers.
 #[inline(never)]
 fn stretch<const FLLEN: usize, const SLLEN: usize>(
     memory: &mut OpenMemory,
-    view: View,
     table: &mut ClassTable<FLLEN, SLLEN>,
     block: usize,
     payload: usize,
     layout: Layout,
+    front: usize,
     len: usize,
     taken: usize,
-)
+) -> usize
     requires parameters { IsValid 128 128 FLLEN SLLEN }
     requires used { HasStretched FLLEN SLLEN memory.old table.old block payload layout.size }
-    requires view { view ≡ memory.old.view }
     requires numbers { IsStretched memory.old block payload layout.size len taken }
+    requires front { block + front ≡ payload }
+    ensures address { result ≡ payload }
     ensures done { AtEachStretched FLLEN SLLEN memory.old table.old block payload layout.size
         (λ s u. IsResized FLLEN SLLEN memory.old memory.new table.new s u layout.size payload) }
     ensures costs { Costs memory.old memory.new 22 0 }
@@ -80,8 +83,10 @@ fn stretch<const FLLEN: usize, const SLLEN: usize>(
     ensures here { StaysHere memory.old memory.new }
 {
     let _ = (payload, layout);
+    let view = memory.view();
     let next = take_if_free(memory, view, table, block + len);
     occupy(memory, view, table, block, len + next, taken);
+    block + front
 }
 
 /// Gives the payload at `payload`, in the used block at `block`, the size of `layout` in bytes without moving it. It does so if the
@@ -90,7 +95,7 @@ fn stretch<const FLLEN: usize, const SLLEN: usize>(
 /// Of `layout` only the size counts: the payload has any alignment. The length of its block has to fit in a word. Usable bytes
 /// of the payload may be out if they are in its block of the new size, too. They stay out, and no byte is read or written there.
 ///
-/// Returns whether the bytes suffice. If not, no byte and no block changes.
+/// Returns the address of the payload if the bytes suffice. If not, returns `None`, and no byte and no block changes.
 #[inline(always)]
 pub fn resize_kept_block<const FLLEN: usize, const SLLEN: usize>(
     memory: &mut OpenMemory,
@@ -99,27 +104,27 @@ pub fn resize_kept_block<const FLLEN: usize, const SLLEN: usize>(
     block: usize,
     payload: usize,
     layout: Layout,
-) -> bool
+) -> Option<usize>
     requires parameters { IsValid 128 128 FLLEN SLLEN }
     requires used { (s : State) × (u : Used) × StandsFor FLLEN SLLEN (contents memory.old table.old) s × IsUsedAt s u block payload u.align × IsOwnedBehind memory.old u layout.size }
     requires view { view ≡ memory.old.view }
     requires fits { payload - block + layout.size + 31 < 2 ^ 64 }
     ensures done { AtEachAligned FLLEN SLLEN memory.old table.old block payload (λ s u. ResizesKept FLLEN SLLEN memory.old memory.new table.new s u layout.size payload result) }
-    ensures refused { AtEachAligned FLLEN SLLEN memory.old table.old block payload (λ s u. result ≡ false → unmoved_plan s u layout.size ≡ None) }
-    ensures unchanged { result ≡ false → Counts memory.old memory.new 2 × (table.new ≡ table.old) }
+    ensures refused { AtEachAligned FLLEN SLLEN memory.old table.old block payload (λ s u. IfNone result (unmoved_plan s u layout.size ≡ None)) }
+    ensures unchanged { IfNone result (Counts memory.old memory.new 2 × (table.new ≡ table.old)) }
     ensures costs { Costs memory.old memory.new 24 0 }
     ensures own { SameOwn memory.old memory.new }
     ensures here { StaysHere memory.old memory.new }
 {
     let len = len_of_used(memory.load_at(view, block));
-    let taken = next_multiple_of_32(payload - block + layout.size());
+    let front = payload - block;
+    let taken = next_multiple_of_32(front + layout.size());
     if taken == len {
-        return true;
+        return Some(payload);
     }
     let end = block + len;
     if taken > len + free_length(memory, view, end) {
-        return false;
+        return None;
     }
-    stretch(memory, view, table, block, payload, layout, len, taken);
-    true
+    Some(stretch(memory, table, block, payload, layout, front, len, taken))
 }

@@ -11,6 +11,7 @@ ghost use Rattle.rlsf_tlsf.specs.Moving.{IsHerePayload, IsRelocated};
 ghost use Rattle.rlsf_tlsf.specs.Results.{IsReallocatedAnyAlign, IsUnchanged, KeepsFrameMoving};
 ghost use Rattle.rlsf_tlsf.specs.UnknownAlign.{ReallocatesAnyAlign};
 
+use crate::core_calls::resizing::resize_block_to;
 use crate::core_calls::{find_block, resize_block_in};
 use crate::state::GhostState;
 use rlsf_base::memory::{Layout, OpenMemory};
@@ -46,8 +47,8 @@ pub fn reallocate_in<const FLLEN: usize, const SLLEN: usize, const WHOLE: usize>
     let block = find_block(memory, addr, Some(layout.align()));
     // What lies before the payload in its block is shorter than the memory. So with any size the block's length fits in a word.
     memory.is_below_limit();
-    if resize_block_in(memory, table, state, block, addr, layout) {
-        return Some(addr);
+    if let Some(to) = resize_block_to(memory, table, state, block, addr, layout) {
+        return Some(to);
     }
     let to = move_block::<FLLEN, SLLEN, WHOLE>(memory, table, block, addr, layout);
     if to == 0 {

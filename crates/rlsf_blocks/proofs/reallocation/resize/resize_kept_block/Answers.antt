@@ -1,9 +1,10 @@
-use Rattle.std.proofs.Common.{◌≡◌, ◌+◌, ◌-◌, arith, rules, sym, ◌∙◌, ap, subst, refl, true≢false}
+use Rattle.std.proofs.Common.{◌≡◌, ◌+◌, ◌-◌, arith, ◌∙◌, ap, subst, refl}
 use Rattle.std.specs.Int.{next_multiple_of}
 use Rattle.rlsf_base.specs.Range.{end_of}
 use Rattle.rlsf_base.specs.Space.{word_at}
 use Rattle.rlsf_base.proofs.Lending.Present.{owned-same}
 use Rattle.rlsf_model.specs.Reallocate.{resized}
+use Rattle.rlsf_model.proofs.Payloads.{IsUsed-after_start}
 use Rattle.rlsf_model.specs.State.{State, Used, between}
 use Rattle.rlsf_blocks.specs.StandsFor.{contents, StandsFor}
 use Rattle.rlsf_blocks.specs.Steps.Resize.{HasRoomBehind, IsUsedAt}
@@ -28,8 +29,8 @@ use Rattle.rlsf_blocks.proofs.reallocation.resize.resize_kept_block.Goals.{After
 pub load_at-requires-clause-place : goal.load_at-requires-clause-place
 load_at-requires-clause-place g c = let (s, u, v, at, own) = c.requires.used in used_word v u at.is_used c.args.block at.start
 
-pub overflow_add-payload : goal.overflow_add-payload
-overflow_add-payload g c = record { fits = omega (arith, c.requires.fits, c.size.ensures.value) }
+pub overflow_add-front : goal.overflow_add-front
+overflow_add-front g c = record { fits = omega (arith, c.requires.fits, c.size.ensures.value) }
 
 pub next_multiple_of_32-taken-requires : goal.next_multiple_of_32-taken-requires
 next_multiple_of_32-taken-requires g c =
@@ -95,7 +96,10 @@ stretch-requires g c =
         c.requires.parameters,
         (
           (s, u, StandsFor-counted m n counts.start counts.bytes counts.out v, at, owned, room),
-          (search rules, record { own = omega (arith, same, word, c.load_at.ensures.word, c.len_of_used-len.ensures); wanted = wanted; other = c.if-taken-len.false }),
+          (
+            record { own = omega (arith, same, word, c.load_at.ensures.word, c.len_of_used-len.ensures); wanted = wanted; other = c.if-taken-len.false },
+            omega (arith, IsUsed-after_start u (v.well_formed.used u at.is_used), at.start, at.caller),
+          ),
         ),
       ),
     )
@@ -109,17 +113,20 @@ returns-then-taken-len g c =
     let read = c.load_at.ensures in
     let stays = Stays-same m n read.start read.out in
     record {
-      done = λ s u v at own yes.
+      done = λ s u v at own.
           let size = c.args.layout.size in
           let taken = taken_computed v u at size c.size.ensures.value c.next_multiple_of_32-taken.ensures.value in
           let same : end_of (resized u size) ≡ end_of u.block = omega (arith, taken, at.start, end_is v u at read.word c.len_of_used-len.ensures, c.if-taken-len.true) in (
-            kept_whole s u size,
-            or_else-kept s u size v.well_formed at.is_used same,
-            at.caller,
-            IsCarriedOut-kept v u at.is_used size own read.start read.bytes read.out same,
+            refl,
+            (
+              kept_whole s u size,
+              or_else-kept s u size v.well_formed at.is_used same,
+              at.caller,
+              IsCarriedOut-kept v u at.is_used size own read.start read.bytes read.out same,
+            ),
           );
-      refused = λ s u v at no. absurd (true≢false no);
-      unchanged = λ no. absurd (true≢false no);
+      refused = λ s u v at. tt;
+      unchanged = tt;
       costs = Costs-within (omega arith) (Costs-loaded m n read.start read.bytes read.touches read.copied read.view read.out);
       own = stays.own;
       here = stays.here;
@@ -133,12 +140,12 @@ returns-then-taken-len-2 g c =
     let counts = read g here in
     let stays = Stays-same c.args.memory.now c.free_length.new.memory counts.start counts.out in
     record {
-      done = λ s u v at own yes. absurd (true≢false (sym yes));
-      refused = λ s u v at no.
+      done = λ s u v at own. tt;
+      refused = λ s u v at.
           let far = ends g here v u at in
           let end = end_is v u at c.load_at.ensures.word c.len_of_used-len.ensures in
           no_plan s u c.args.layout.size (omega (arith, far.0, end, c.if-taken-len-2.true)) (omega (arith, far.0, far.1, c.if-taken-len-2.true));
-      unchanged = λ no. (counts, refl);
+      unchanged = (counts, refl);
       costs = Costs-within (omega arith) (Costs-counted counts);
       own = stays.own;
       here = stays.here;
@@ -155,15 +162,17 @@ returns g c =
     let stretched : Stays n c.stretch.new.memory = record { start = c.stretch.ensures.costs.start; own = c.stretch.ensures.own; here = c.stretch.ensures.here } in
     let stays = Stays-then (Stays-same m n counts.start counts.out) stretched in
     record {
-      done = λ s u v at own yes.
+      done = λ s u v at own.
           let size = c.args.layout.size in
           let far = ends g here v u at in
           let room : HasRoomBehind s u size = omega (arith, far.0, far.1, c.if-taken-len-2.false) in
           let owned = owned-same m n (between (end_of (resized u size)) (end_of u.block)) counts.start counts.out own in
-          let (p, first, there, (t, replans, stands, spare)) = c.stretch.ensures.done s u (StandsFor-counted m n counts.start counts.bytes counts.out v) at owned room in
-          (p, first, there, (t, replans, stands, KeepsSpare-counted_first m n counts.start counts.bytes counts.out s t c.stretch.new.memory spare));
-      refused = λ s u v at no. absurd (true≢false no);
-      unchanged = λ no. absurd (true≢false no);
+          let (p, first, there, (t, replans, stands, spare)) = c.stretch.ensures.done s u (StandsFor-counted m n counts.start counts.bytes counts.out v) at owned room in (
+            c.stretch.ensures.address,
+            (p, first, there, (t, replans, stands, KeepsSpare-counted_first m n counts.start counts.bytes counts.out s t c.stretch.new.memory spare)),
+          );
+      refused = λ s u v at. tt;
+      unchanged = tt;
       costs = Costs-then (Costs-counted counts) c.stretch.ensures.costs;
       own = stays.own;
       here = stays.here;

@@ -77,6 +77,7 @@ returns g c =
     let (gone, long, fits, inner) = spanned g here v u at own room in
     let stays = Stays-then (Stays-rewrites gone.rewrites) (Stays-rewrites (c.occupy.ensures.step (staying s u) (span_of s u) at.start long inner).rewrites) in
     record {
+      address = c.requires.front;
       done = λ s u v at own room.
           let size = c.args.layout.size in
           let (gone, long, fits, inner) = spanned g here v u at own room in

@@ -1,4 +1,4 @@
-use Rattle.std.proofs.Common.{◌≡◌, ◌-◌, ◌+◌, ◌≤◌, ℕ, Bool, false, IfNone, Option, Some, None, arith, refl, sym, ◌∙◌, ap, subst}
+use Rattle.std.proofs.Common.{◌≡◌, ◌-◌, ◌+◌, ◌≤◌, ℕ, false, IfNone, Option, Some, None, arith, refl, sym, ◌∙◌, ap, subst}
 use Rattle.rlsf_base.specs.Addr.{reply_of}
 use Rattle.rlsf_base.specs.declared.memory.range.Range.{Range}
 use Rattle.rlsf_base.specs.OpenSpace.{IsHere}
@@ -23,7 +23,6 @@ use Rattle.rlsf_blocks.proofs.Reallocate.Addresses.{some_reply}
 use Rattle.rlsf_blocks.proofs.Words.Apart.{used_in_memory}
 use Rattle.rlsf_tlsf.specs.Allocator.{allocator}
 use Rattle.rlsf_tlsf.specs.Bounds.{KeepsBounds}
-use Rattle.rlsf_tlsf.specs.CoreResizes.{stayed_if}
 use Rattle.rlsf_tlsf.specs.Cores.{IsCore, LeavesCoreCopying}
 use Rattle.rlsf_tlsf.specs.Results.{KeepsFrameMoving}
 use Rattle.rlsf_tlsf.specs.Steps.Moves.{bare, reallocated}
@@ -33,7 +32,7 @@ use Rattle.rlsf_tlsf.proofs.Relocated.{IsRelocated-at, span_held}
 use Rattle.rlsf_tlsf.proofs.ResizedInPlace.{IsDenied, denied_after, fits_found, own_found}
 use Rattle.rlsf_tlsf.proofs.core_calls.moving.reallocate_in.Given as given
 use Rattle.rlsf_tlsf.proofs.core_calls.moving.reallocate_in.Goals as goal
-use Rattle.rlsf_tlsf.proofs.core_calls.moving.reallocate_in.Goals.{After-resize_block_in}
+use Rattle.rlsf_tlsf.proofs.core_calls.moving.reallocate_in.Goals.{In_default}
 
 -- what a step of the model says of bounds, and of what is kept
 module _ {fllen sllen : ℕ} {m p : Space} {x y : Table} {j k : State} {most addr size align : ℕ} (are : IsCore fllen sllen m x j)
@@ -61,8 +60,8 @@ find_block-block-requires g c =
     let (u, holds, wide, _) = c.requires.here in
     (g.row.FLLEN, g.row.SLLEN, c.args.table.now, read_from c.args.memory.now c.args.state.now.state, u, c.requires.core.stands, (holds, wide ∙ sym c.align.ensures.value))
 
-pub resize_block_in-requires : goal.resize_block_in-requires
-resize_block_in-requires g c =
+pub resize_block_to-requires : goal.resize_block_to-requires
+resize_block_to-requires g c =
     let (u, holds, wide, is_here) = c.requires.here in
     let v = c.requires.core.stands in
     let counts = c.find_block-block.ensures.counts in
@@ -80,26 +79,27 @@ resize_block_in-requires g c =
 
 -- ---- it stays
 
-pub returns-then-resize_block_in : goal.returns-then-resize_block_in
-returns-then-resize_block_in g c =
+pub returns-in-Some : goal.returns-in-Some
+returns-in-Some g c =
     let (u, holds, wide, is_here) = c.requires.here in
     let v = c.requires.core.stands in
     let addr = c.args.addr in
     let size = c.args.layout.size in
     let m = c.args.memory.now in
-    let p = c.resize_block_in.new.memory in
+    let p = c.resize_block_to.new.memory in
     let s = read_from m c.args.state.now.state in
-    let t = read_from p c.resize_block_in.new.state.state in
+    let t = read_from p c.resize_block_to.new.state.state in
     let same = read_from-counted c.find_block-block.ensures.counts c.args.state.now.state in
-    let e = c.resize_block_in.ensures in
-    let yes = c.if-resize_block_in.true in
-    let did : ReallocatesWithoutMove s addr size (Some addr) t =
-    subst (λ (x : State × Bool). ReallocatesWithoutMove x.0 addr size (stayed_if x.1 addr) t) (λ i. (same i, yes i)) e.step in
-    let step : Reallocates g.row.SLLEN s addr size (Some addr) t = (unmoved_is_reallocated g.row.SLLEN s t addr size (Some addr) did).0.1 in
+    let e = c.in-Some.ensures in
+    let to = c.in-Some.to in
+    let did : ReallocatesWithoutMove s addr size (Some to) t = subst (λ (x : State). ReallocatesWithoutMove x addr size (Some to) t) same e.step in
+    let step : Reallocates g.row.SLLEN s addr size (Some to) t = (unmoved_is_reallocated g.row.SLLEN s t addr size (Some to) did).0.1 in
     let first = LeavesCore-counted_first c.find_block-block.ensures.counts e.left in
     let left = LeavesCore-within {b = 66} (omega arith) (let e : 0 ≡ p.copied - m.copied = omega (arith, first.costs.copied) in e) first in
     let from : m.start ≤ addr = omega (arith, holds.1, (used_in_memory v.well_formed u holds.0).0, IsUsed-after_start u (v.well_formed.used u holds.0)) in
-    let still : IsHere p (range_at addr (usable u).len) = λ a lo hi. left.here a (omega (arith, lo, from)) (is_here a (omega (arith, lo, holds.1)) (omega (arith, hi, holds.1))) in
+    let there = e.result.0 in
+    let still : IsHere p (range_at to (usable u).len) =
+    λ a lo hi. left.here a (omega (arith, lo, from, there)) (is_here a (omega (arith, lo, holds.1, there)) (omega (arith, hi, holds.1, there))) in
     record {
       left = left;
       step = step;
@@ -112,17 +112,17 @@ returns-then-resize_block_in g c =
 
 -- ---- it can't stay
 
-module _ (g : given.Over) (c : After-resize_block_in g) (no : c.resize_block_in.result ≡ false) where
+module _ (g : given.Over) (c : In_default g) where
   abbrev state : State
   state = read_from c.args.memory.now c.args.state.now.state
 
   abbrev u : Used
   u = c.requires.here.0
 
-  moves : IsDenied g.row.FLLEN g.row.SLLEN c.args.memory.now c.resize_block_in.new.memory c.resize_block_in.new.table state c.args.addr c.args.layout.size 3
+  moves : IsDenied g.row.FLLEN g.row.SLLEN c.args.memory.now c.resize_block_to.new.memory c.resize_block_to.new.table state c.args.addr c.args.layout.size 3
   moves =
-      let e = c.resize_block_in.ensures in
-      denied_after c.args.state.now.state c.requires.core.stands c.find_block-block.ensures.counts c.args.layout.size no e.step (e.refused no)
+      let e = c.in_default.ensures in
+      denied_after c.args.state.now.state c.requires.core.stands c.find_block-block.ensures.counts c.args.layout.size {stays = false} refl e.step e.refused
 
   used_at : IsUsedAt state u c.find_block-block.result c.args.addr c.args.layout.align
   used_at =
@@ -130,21 +130,20 @@ module _ (g : given.Over) (c : After-resize_block_in g) (no : c.resize_block_in.
       let start = c.find_block-block.ensures.block g.row.FLLEN g.row.SLLEN c.args.table.now state u c.requires.core.stands (holds, wide ∙ sym c.align.ensures.value) in
       record { is_used = holds.0; start = sym start; caller = holds.1; alignment = wide }
 
-  here : IsHere c.resize_block_in.new.memory (usable u)
-  here = here-same c.args.memory.now c.resize_block_in.new.memory (usable u) moves.counts.start moves.counts.out c.requires.here.3
+  here : IsHere c.resize_block_to.new.memory (usable u)
+  here = here-same c.args.memory.now c.resize_block_to.new.memory (usable u) moves.counts.start moves.counts.out c.requires.here.3
 
-  was : c.resize_block_in.new.state.state ≡ bare state
-  was = (c.resize_block_in.ensures.refused no).state ∙ sym (bare-core c.requires.core)
+  was : c.resize_block_to.new.state.state ≡ bare state
+  was = c.in_default.ensures.refused.state ∙ sym (bare-core c.requires.core)
 
 pub move_block-to-requires : goal.move_block-to-requires
 move_block-to-requires g c =
-    let d = (goal.at.move_block-to-requires g c).After-resize_block_in in
-    let no = c.if-resize_block_in.false in
-    let is = moves g d no in (
+    let d = (goal.at.move_block-to-requires g c).In_default in
+    let is = moves g d in (
       omega arith,
       (
         c.requires.core.valid,
-        ((state g d no, u g d no, is.stands, used_at g d no, is.plan (u g d no) c.requires.here.1, here g d no), λ one. is.counts.out ∙ c.requires.whole one),
+        ((state g d, u g d, is.stands, used_at g d, is.plan (u g d) c.requires.here.1, here g d), λ one. is.counts.out ∙ c.requires.whole one),
       ),
     )
 
@@ -152,24 +151,23 @@ move_block-to-requires g c =
 
 pub returns-then-to-eq0 : goal.returns-then-to-eq0
 returns-then-to-eq0 g c =
-    let d = (goal.at.returns-then-to-eq0 g c).After-resize_block_in in
-    let no = c.if-resize_block_in.false in
+    let d = (goal.at.returns-then-to-eq0 g c).In_default in
     let (u, holds, wide, _) = c.requires.here in
     let w = c.requires.core.stands.well_formed in
-    let o = c.resize_block_in.new.memory in
+    let o = c.resize_block_to.new.memory in
     let p = c.move_block-to.new.memory in
-    let s = state g d no in
+    let s = state g d in
     let addr = c.args.addr in
     let size = c.args.layout.size in
-    let is = moves g d no in
+    let is = moves g d in
     let e = c.move_block-to.ensures in
     let reply : reply_of c.move_block-to.result ≡ None = ap reply_of c.if-to-eq0.true in
-    let (t, by, now, spare) = e.step s u is.stands (used_at g d no) (is.plan u holds) (here g d no) in
+    let (t, by, now, spare) = e.step s u is.stands (used_at g d) (is.plan u holds) (here g d) in
     let told : Reallocates g.row.SLLEN s addr size None t =
     record { block = u; holds = holds; step = subst (λ r. ReallocatesBy g.row.SLLEN s u size (plan s u size) r t) reply by } in
     let same : t ≡ s = refusal_changes_nothing g.row.FLLEN g.row.SLLEN s t (reallocate addr size None) told refl in
-    let k = c.resize_block_in.new.state.state in
-    let kept : k ≡ bare t = was g d no ∙ ap bare (sym same) in
+    let k = c.resize_block_to.new.state.state in
+    let kept : k ≡ bare t = was g d ∙ ap bare (sym same) in
     let step = reads now k kept (Reallocates g.row.SLLEN s addr size None) told in
     let left = LeavesCore-moved is.counts now k kept c.requires.core.valid spare e.costs e.own e.here in
     record {
@@ -184,35 +182,34 @@ returns-then-to-eq0 g c =
         bytes = subst (λ r. IfNone r (p.bytes ≡ o.bytes)) reply e.refused ∙ is.counts.bytes;
       };
       frame =
-          framed c.requires.core left u holds wide step (omega (arith, e.copied s u is.stands (used_at g d no), is.counts.copied)) (λ room. absurd (is.room room));
+          framed c.requires.core left u holds wide step (omega (arith, e.copied s u is.stands (used_at g d), is.counts.copied)) (λ room. absurd (is.room room));
     }
 
 -- ---- it moves
 
 pub returns : goal.returns
 returns g c =
-    let d = (goal.at.returns g c).After-resize_block_in in
-    let no = c.if-resize_block_in.false in
+    let d = (goal.at.returns g c).In_default in
     let (u, holds, wide, is_here) = c.requires.here in
-    let o = c.resize_block_in.new.memory in
+    let o = c.resize_block_to.new.memory in
     let p = c.move_block-to.new.memory in
-    let s = state g d no in
+    let s = state g d in
     let addr = c.args.addr in
     let size = c.args.layout.size in
     let to = c.move_block-to.result in
-    let is = moves g d no in
+    let is = moves g d in
     let e = c.move_block-to.ensures in
     let reply : reply_of to ≡ Some to = sym (some_reply to c.if-to-eq0.false) in
-    let (t, by, now, spare) = e.step s u is.stands (used_at g d no) (is.plan u holds) (here g d no) in
+    let (t, by, now, spare) = e.step s u is.stands (used_at g d) (is.plan u holds) (here g d) in
     let told : Reallocates g.row.SLLEN s addr size (Some to) t =
     record { block = u; holds = holds; step = subst (λ r. ReallocatesBy g.row.SLLEN s u size (plan s u size) r t) reply by } in
     let k = c.reallocate.new.self.state in
     let kept : k ≡ bare t =
-    c.reallocate.ensures ∙ (λ i. reallocated g.row.SLLEN addr (c.size.ensures.value i) (was g d no i))
+    c.reallocate.ensures ∙ (λ i. reallocated g.row.SLLEN addr (c.size.ensures.value i) (was g d i))
     ∙ reallocated-bare c.requires.core.stands.well_formed t addr size to told in
     let step = reads now k kept (Reallocates g.row.SLLEN s addr size (Some to)) told in
     let left = LeavesCore-moved is.counts now k kept c.requires.core.valid spare e.costs e.own e.here in
-    let still = subst (IsHereStill o p u) reply (e.kept_here s u is.stands (used_at g d no) (is.plan u holds)) (here g d no) in
+    let still = subst (IsHereStill o p u) reply (e.kept_here s u is.stands (used_at g d) (is.plan u holds)) (here g d) in
     record {
       left = left;
       step = step;
@@ -221,5 +218,5 @@ returns g c =
       bounds = bounded c.requires.core left u holds wide step;
       refused = tt;
       frame =
-          framed c.requires.core left u holds wide step (omega (arith, e.copied s u is.stands (used_at g d no), is.counts.copied)) (λ room. absurd (is.room room));
+          framed c.requires.core left u holds wide step (omega (arith, e.copied s u is.stands (used_at g d), is.counts.copied)) (λ room. absurd (is.room room));
     }
