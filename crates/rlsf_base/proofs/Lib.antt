@@ -8,3 +8,4 @@ pub mod RawBlock
 pub mod SizeClasses
 pub mod SizeMaps
 pub mod Words
+mod Worked

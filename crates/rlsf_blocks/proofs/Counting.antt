@@ -1,21 +1,7 @@
 -- What a call leaves of a memory's place and counts, after one that only counted.
-use Rattle.std.proofs.Common.{◌≡◌, ℕ, ◌+◌, ◌≤◌, arith, ◌∙◌, ap}
+use Rattle.std.proofs.Common.{◌≡◌, ℕ, ◌+◌, ◌≤◌, arith, ◌∙◌}
 use Rattle.rlsf_base.specs.Space.{Space}
 use Rattle.rlsf_table.specs.Counts.{Counts}
-
--- more touches alone were counted
-pub Counts-touched : (m n : Space) (more : ℕ) → n ≡ record m { touches = m.touches + more } → Counts m n more
-Counts-touched m n more touched =
-    let now : n.touches ≡ m.touches + more = ap (λ (o : Space). o.touches) touched in
-    record {
-      start = ap (λ (o : Space). o.start) touched;
-      bytes = ap (λ (o : Space). o.bytes) touched;
-      touches = omega arith;
-      grow = omega arith;
-      copied = ap (λ (o : Space). o.copied) touched;
-      view = ap (λ (o : Space). o.view) touched;
-      out = ap (λ (o : Space). o.out) touched;
-    }
 
 -- a word alone was read
 pub Counts-loaded : (m n : Space) → n.start ≡ m.start → n.bytes ≡ m.bytes → n.touches ≡ m.touches + 1 → n.copied ≡ m.copied → n.view ≡ m.view

@@ -68,10 +68,6 @@ module _ {fllen sllen : ℕ} {memory : Range} {s : State} (w : IsWellFormed flle
       let at : used_bytes (others step.block.payload s.used) ≡ used_bytes (others addr s.used) = ap (λ a. used_bytes (others a s.used)) step.holds.1 in
       omega (arith, now, at, used_bytes-split (λ u. eqb u.payload addr) s.used)
 
-  -- a refused call changes neither
-  pub bytes_same : t ≡ s → live_bytes t ≡ live_bytes s
-  bytes_same is = ap live_bytes is
-
   module _ (count bytes size align : ℕ) (sized : IsSizedForBudget sllen count bytes size align s.chunks) where
     -- within the budget an allocation is not refused
     pub never_refused_in_budget : (z a : ℕ) → live_count s ≤ count → live_bytes s ≤ bytes → z ≤ size → a ≤ align → Allocates sllen s z a None t → ⊥

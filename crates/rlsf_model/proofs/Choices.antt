@@ -1,14 +1,14 @@
 -- The range that an allocation takes.
 use mathlib.Core.Path.{ap₂}
-use Rattle.std.proofs.Common.{false, ◌≡◌, ℕ, ◌*◌, true, cond, ◌&&◌, ◌||◌, leb, eqb, true≢false, List, [], ◌∷◌, Option, Some, None, find}
-use Rattle.std.proofs.Common.{option_and_then, arith, refl, sym, ◌∙◌, ap, subst, inl, inr, ◌≢◌, ◌++◌}
-use Rattle.std.proofs.lemmas.Bool.{cases_lt, leb-true, le-leb, lt-ltb, le-ltb, eqb-true, eq-eqb, and_parts, and_from, false_from_ne_true}
+use Rattle.std.proofs.Common.{◌≡◌, ℕ, ◌*◌, true, cond, ◌&&◌, ◌||◌, leb, eqb, true≢false, List, [], ◌∷◌, Option, Some, None, find}
+use Rattle.std.proofs.Common.{option_and_then, arith, refl, sym, ◌∙◌, ap, subst, inl, inr}
+use Rattle.std.proofs.lemmas.Bool.{cases_lt, leb-true, le-leb, lt-ltb, le-ltb, eqb-true, eq-eqb, and_parts, and_from}
 use Rattle.rlsf_base.specs.declared.memory.range.Range.{Range}
 use Rattle.rlsf_base.specs.SizeClass.{SizeClass, class_of, class_start, reaches, Reaches, IsAtMost}
 use Rattle.rlsf_base.proofs.SizeClasses.Order.{IsAtMost-refl, IsAtMost-trans, IsAtMost-total, IsAtMost-antisymm}
-use Rattle.rlsf_model.specs.Lists.{IsIn, without}
+use Rattle.rlsf_model.specs.Lists.{IsIn}
 use Rattle.rlsf_model.specs.Allocate.{is_at_most, has_class, earlier, least_reaching, choice}
-use Rattle.rlsf_model.proofs.Coverage.{by_test, find-some, find-none, find-at, IsIn-append_right}
+use Rattle.rlsf_model.proofs.Coverage.{by_test, find-some, find-none}
 
 pub is_at_most-true : (c d : SizeClass) → is_at_most c d ≡ true → IsAtMost c d
 is_at_most-true c d h = elim (cases_lt c.exponent d.exponent) [
@@ -153,16 +153,3 @@ module _ (sllen size : ℕ) (free : List Range) where
         ap (λ o. option_and_then (λ c. find (has_class sllen c) free) o) e ∙ ap (λ d. find (has_class sllen d) free) (IsAtMost-antisymm c (class_of sllen f.len) below above)
         ∙ is.found
   ]
-
--- the choice, from its place in the list on
-pub choice-from_split : (sllen size : ℕ) (front : List Range) (f : Range) (back : List Range) → ((g : Range) → IsIn g front → class_of sllen g.len ≢ class_of sllen f.len)
-    → Reaches sllen (class_of sllen f.len) size
-    → ((g : Range) → IsIn g (front ++ f ∷ back) → Reaches sllen (class_of sllen g.len) size → IsAtMost (class_of sllen f.len) (class_of sllen g.len))
-    → (choice sllen size (front ++ f ∷ back) ≡ Some f) × (without (has_class sllen (class_of sllen f.len)) (front ++ f ∷ back) ≡ front ++ back)
-choice-from_split sllen size front f back apart reached least =
-    let c = class_of sllen f.len in
-    let fails : (g : Range) → IsIn g front → has_class sllen c g ≡ false = λ g i. false_from_ne_true (has_class sllen c g) (λ e. apart g i (has_class-true sllen c g e)) in
-    let found = find-at (has_class sllen c) front f back fails (has_class-from sllen c f refl) in (
-      choice-from sllen size (front ++ f ∷ back) f (record { is_in = IsIn-append_right f front (f ∷ back) (inl refl); found = found.0; reached = reached; least = least }),
-      found.1,
-    )

@@ -166,17 +166,6 @@ IsIn-filter_from p x (y ∷ ys) i passes = by_test (p y)
     (λ e. subst (λ b. IsIn x (cond b (y ∷ filter p ys) (filter p ys))) (sym e)
     (elim i [ inl same ↦ absurd (true≢false (sym passes ∙ ap p same ∙ e)) | inr j ↦ IsIn-filter_from p x ys j passes ]))
 
--- an element that passes, behind elements that fail, is the one that is found and taken out
-pub find-at : {A : Type 0} (p : A → Bool) (front : List A) (x : A) (back : List A) → ((y : A) → IsIn y front → p y ≡ false) → p x ≡ true
-    → (find p (front ++ x ∷ back) ≡ Some x) × (without p (front ++ x ∷ back) ≡ front ++ back)
-find-at p [] x back fails passes = (ap (λ b. cond b (Some x) (find p back)) passes, ap (λ b. cond b back (x ∷ without p back)) passes)
-find-at p (y ∷ front) x back fails passes =
-    let rest = find-at p front x back (λ z i. fails z (inr i)) passes in
-    let fail = fails y (inl refl) in (
-      ap (λ b. cond b (Some y) (find p (front ++ x ∷ back))) fail ∙ rest.0,
-      ap (λ b. cond b (front ++ x ∷ back) (y ∷ without p (front ++ x ∷ back))) fail ∙ ap (λ l. y ∷ l) rest.1,
-    )
-
 -- ---- coverage
 
 module _ {A : Type 0} (range : A → Range) where

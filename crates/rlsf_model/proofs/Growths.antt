@@ -1,9 +1,7 @@
 -- Memory that comes leaves the used blocks.
-use Rattle.std.proofs.Common.{◌≡◌, ℕ, Option, Some, ap, subst, sym}
-use Rattle.rlsf_base.specs.declared.memory.range.Range.{Range}
+use Rattle.std.proofs.Common.{◌≡◌, ℕ, Some, ap, subst, sym}
 use Rattle.rlsf_model.specs.FlexState.{FlexState}
 use Rattle.rlsf_model.specs.Growth.{Outcome, refused, growth_came, range_came, TakesIn, behind}
-use Rattle.rlsf_model.specs.Insert.{Appends, Inserts}
 use Rattle.rlsf_model.specs.Lists.{IsIn}
 use Rattle.rlsf_model.specs.State.{State, Used, Holds}
 use Rattle.rlsf_model.specs.Terms.{Terms}
@@ -12,12 +10,6 @@ use Rattle.rlsf_model.proofs.Chunks.{used-appended, used-inserted}
 -- with the same used blocks, an address has the same block
 pub Holds-same : (s t : State) (addr : ℕ) (u : Used) → t.used ≡ s.used → Holds s addr u → Holds t addr u
 Holds-same s t addr u same (is_used, at) = (subst (IsIn u) (sym same) is_used, at)
-
-pub Holds-inserted : (fllen : ℕ) (s t : State) (r : Range) (reply : Option ℕ) (addr : ℕ) (u : Used) → Inserts fllen s r reply t → Holds s addr u → Holds t addr u
-Holds-inserted fllen s t r reply addr u step = Holds-same s t addr u (used-inserted fllen s t r reply step)
-
-pub Holds-appended : (fllen : ℕ) (s t : State) (r : Range) (reply : ℕ) (addr : ℕ) (u : Used) → Appends fllen s r reply t → Holds s addr u → Holds t addr u
-Holds-appended fllen s t r reply addr u step = Holds-same s t addr u (used-appended fllen s t r reply step)
 
 pub used-taken : (fllen : ℕ) (t : Terms) (s u : FlexState) (outcome : Outcome) → TakesIn fllen t s outcome u → u.machine.used ≡ s.machine.used
 used-taken fllen t s u refused step = ap (λ (x : FlexState). x.machine.used) step

@@ -93,9 +93,6 @@ module _ (r : Range) (free : List Range) (r_whole : IsWhole r) (some : 0 < r.len
   left : IsLeft r.start free (find (ends_at r.start) free)
   left = left_of r.start free r_whole.start sound
 
-  rest : List Range
-  rest = without (ends_at r.start) free
-
   right : IsRight (end_of r) (without (ends_at r.start) free) (find (starts_at (end_of r)) (without (ends_at r.start) free))
   right = right_of (end_of r) (without (ends_at r.start) free) (omega (arith, r_whole.start, r_whole.len)) (IsSound-without (ends_at r.start) free sound)
 

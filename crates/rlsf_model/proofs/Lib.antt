@@ -23,7 +23,6 @@ pub mod FlexExamples
 pub mod FlexGrowths
 pub mod FlexPayloads
 pub mod FlexReplies
-pub mod FlexRows
 pub mod FlexRuns
 pub mod FlexSimilar
 pub mod FlexSteps
@@ -34,7 +33,6 @@ pub mod Joins
 pub mod Live
 pub mod LiveAddresses
 pub mod NoMove
-pub mod NoMoveRows
 pub mod Notes
 pub mod Orders
 pub mod Owed
@@ -51,7 +49,6 @@ pub mod Releases
 pub mod Removals
 pub mod Replies
 pub mod Room
-pub mod Rows
 pub mod ShortChunks
 pub mod ShortStates
 pub mod Similar
@@ -61,8 +58,8 @@ pub mod Sums
 pub mod TakenPools
 pub mod Tiling
 pub mod TrimExamples
-pub mod TrimRows
 pub mod TrimmedSimilar
 pub mod Trims
 pub mod Uniform
 pub mod Untouched
+mod Worked

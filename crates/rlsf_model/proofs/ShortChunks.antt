@@ -19,12 +19,11 @@ use Rattle.rlsf_base.proofs.SizeMaps.Laws.{IsSize-request_size, IsUnmapped-some}
 use Rattle.rlsf_base.proofs.SizeMaps.RowLengths.{IsPower-row_length}
 use Rattle.rlsf_model.specs.Allocate.{Allocates, choice}
 use Rattle.rlsf_model.specs.Budget.{AreAtMost, AreWithin, AsksWithin, IsDenied, IsModest, RunsModestly}
-use Rattle.rlsf_model.specs.Insert.{with_chunk}
 use Rattle.rlsf_model.specs.Lists.{IsIn}
 use Rattle.rlsf_model.specs.Release.{Deallocates, released}
-use Rattle.rlsf_model.specs.Run.{Event, insert, allocate, deallocate, reallocate, Leads, MayCall, Runs}
+use Rattle.rlsf_model.specs.Run.{Event, allocate, deallocate, reallocate, Leads, MayCall, Runs}
 use Rattle.rlsf_model.specs.Sizing.{EndsRefused, EndsRefusedWithin, LayoutPoolIsExact, NeverRefuses, NeverRefusesWithin, PayloadPoolIsExact}
-use Rattle.rlsf_model.specs.State.{State, Used, Holds, empty}
+use Rattle.rlsf_model.specs.State.{State, Used, Holds}
 use Rattle.rlsf_model.specs.WellFormed.{IsWellFormed}
 use Rattle.rlsf_model.proofs.Budgets.{AreFronts-one, live_is_counted, modest_runs_are_not_denied}
 use Rattle.rlsf_model.proofs.Changes.{Holds-unique, IsIn-others, IsIn-others_from}
@@ -32,7 +31,7 @@ use Rattle.rlsf_model.proofs.Choices.{choice-from_none}
 use Rattle.rlsf_model.proofs.Cuts.{whole_product}
 use Rattle.rlsf_model.proofs.PoolLengths.{HasBudget-reached, payload_pool_is_enough}
 use Rattle.rlsf_model.proofs.ShortStates.{AreAsked, Gave, IsAt, IsPlain, Shrunk, asked, at_given, behind_is_rest, blocks_others, gives, short, shrinks, within}
-use Rattle.rlsf_model.proofs.Steps.{empty_is_well_formed, steps_keep_well_formed}
+use Rattle.rlsf_model.proofs.Steps.{steps_keep_well_formed}
 
 -- ---- runs that end refused
 
@@ -359,25 +358,3 @@ layout_pool_is_exact fl_bits sl_bits fllen sllen count size align len memory s c
           is_call = list.is_call;
           denied = list.denied;
         }
-
--- ---- an example
-
--- a chunk of 352 bytes doesn't have room for four payloads of 48 bytes or fewer, come what may
-not_four_payloads : EndsRefused 3 64 8 8 (range_at 4096 8192) (with_chunk (range_at 4096 352) empty)
-not_four_payloads =
-    let memory = range_at 4096 8192 in
-    let c = range_at 4096 352 in
-    let w = steps_keep_well_formed 8 8 memory empty (with_chunk c empty) (insert c (Some 352)) (empty_is_well_formed 8 8 memory (omega arith) (omega arith) (omega arith))
-    (record { lies_in = (omega arith, omega arith); apart = λ a low high. refl }) (record { answer = refl; after = refl }) in
-    (payload_pool_is_exact 8 8 8 8 3 64 64 memory (with_chunk c empty) c
-    (record { some_rows = omega arith; rows_fit = omega arith; power_of_two = refl; classes_fit = omega arith }) w (omega arith, omega arith) refl refl refl).1 (omega arith)
-
--- nor is a chunk of 352 bytes long enough for layouts of up to 40 bytes, three of which are live before the last call
-not_four_layouts : EndsRefusedWithin 3 40 8 8 8 (range_at 4096 8192) (with_chunk (range_at 4096 352) empty)
-not_four_layouts =
-    let memory = range_at 4096 8192 in
-    let c = range_at 4096 352 in
-    let w = steps_keep_well_formed 8 8 memory empty (with_chunk c empty) (insert c (Some 352)) (empty_is_well_formed 8 8 memory (omega arith) (omega arith) (omega arith))
-    (record { lies_in = (omega arith, omega arith); apart = λ a low high. refl }) (record { answer = refl; after = refl }) in
-    (layout_pool_is_exact 8 8 8 8 3 40 8 384 memory (with_chunk c empty) c
-    (record { some_rows = omega arith; rows_fit = omega arith; power_of_two = refl; classes_fit = omega arith }) w refl (omega arith) refl refl refl).1 (omega arith)

@@ -8,7 +8,7 @@ use Rattle.std.proofs.lemmas.Nat.{div-mul-add, le-div}
 use Rattle.std.proofs.Math.Nat.{mul-le-mul_right}
 use Rattle.rlsf_base.specs.declared.memory.range.Range.{Range}
 use Rattle.rlsf_base.specs.PowerOfTwo.{IsPowerOfTwo, floor_log2}
-use Rattle.rlsf_base.specs.Range.{end_of, range_at}
+use Rattle.rlsf_base.specs.Range.{end_of}
 use Rattle.rlsf_base.specs.SizeClass.{class_of, Reaches}
 use Rattle.rlsf_base.specs.Sizes.{request_size}
 use Rattle.rlsf_base.proofs.Numbers.PowersOfTwo.{floor_log2-mono, IsPowerOfTwo-positive}
@@ -17,13 +17,12 @@ use Rattle.rlsf_base.proofs.SizeClasses.Order.{Reaches-IsAtMost, IsAtMost-class_
 use Rattle.rlsf_base.proofs.SizeClasses.Reach.{division-lt, Reaches-class_of}
 use Rattle.rlsf_model.specs.Budget.{total_len}
 use Rattle.rlsf_model.specs.Allocate.{has_class, rest_behind, placed, Allocates}
-use Rattle.rlsf_model.specs.Insert.{with_chunk}
 use Rattle.rlsf_model.specs.Join.{ends_at, starts_at, start_or}
 use Rattle.rlsf_model.specs.Lists.{IsIn, without}
 use Rattle.rlsf_model.specs.Payload.{payload_of, block_length}
-use Rattle.rlsf_model.specs.Run.{Event, insert, append, allocate, deallocate, reallocate, fill, remove, trim, Leads, MayCall, Runs}
+use Rattle.rlsf_model.specs.Run.{Event, insert, append, allocate, deallocate, reallocate, fill, remove, trim, Leads, MayCall}
 use Rattle.rlsf_model.specs.Sizing.{UniformIsFull, AllocationKeepsUniform, DeallocationKeepsUniform, RunsKeepUniform, UniformRunsAnswer}
-use Rattle.rlsf_model.specs.State.{empty, State, Used}
+use Rattle.rlsf_model.specs.State.{State, Used}
 use Rattle.rlsf_model.specs.Uniform.{IsTimes, IsUniform, AsksUniformly, blocks_in, IsDeniedOnlyAt, AreDeniedOnlyAt}
 use Rattle.rlsf_model.specs.WellFormed.{covers, coverage, IsWellFormed}
 use Rattle.rlsf_model.proofs.Budgets.{live_is_counted}
@@ -31,7 +30,7 @@ use Rattle.rlsf_model.proofs.Changes.{IsIn-others, IsIn-rest_behind}
 use Rattle.rlsf_model.proofs.Choices.{choice-some, choice-none}
 use Rattle.rlsf_model.proofs.Coverage.{covers-inside, coverage-some, find-some, IsIn-append, IsIn-without}
 use Rattle.rlsf_model.proofs.Fillings.{shape-filled_from}
-use Rattle.rlsf_model.proofs.Steps.{empty_is_well_formed, steps_keep_well_formed, runs_keep_well_formed}
+use Rattle.rlsf_model.proofs.Steps.{steps_keep_well_formed}
 use Rattle.rlsf_model.proofs.Sums.{past, first, last, ends-le, ends_at_start, bytes_add_up}
 
 -- ---- lists
@@ -259,21 +258,3 @@ uniform_runs_answer len fllen sllen memory s t c (e ∷ es) w is some begins (u,
           (uniform_runs_answer len fllen sllen memory u t c es kept (step_uniform len fllen sllen memory s u c e w is may (asks e (inl refl)) step) some begins rest
           (λ d i. asks d (inr i))),
     )
-
--- ---- an example
-
--- seven blocks of 64 bytes and no eighth, whatever was allocated and freed before, in a chunk of 480 and 32 bytes
-seven_blocks : (t v : State) (es : List Event) (reply : Option ℕ) → Runs 8 8 (range_at 4096 512) (with_chunk (range_at 4096 512) empty) es t
-    → ((e : Event) → IsIn e es → AsksUniformly 64 e)
-    → Allocates 8 t 48 16 reply v → (reply ≡ None) ↔ (512 < (length t.used + 1) * 64 + 32)
-seven_blocks t v es reply run asks step =
-    let memory = range_at 4096 512 in
-    let w = steps_keep_well_formed 8 8 memory empty (with_chunk memory empty) (insert memory (Some 512)) (empty_is_well_formed 8 8 memory (omega arith) (omega arith) (omega arith))
-    (record { lies_in = (omega arith, omega arith); apart = λ a low high. refl }) (record { answer = refl; after = refl }) in
-    let is : IsUniform 64 memory (with_chunk memory empty) = record {
-      chunks = refl;
-      used = λ u i. absurd i;
-      free = λ f. elim [ inl same ↦ (0, ap (λ r. r.start) same) | inr none ↦ absurd none ];
-    } in
-    uniform_is_full 8 8 memory t v memory 48 16 reply (runs_keep_well_formed 8 8 memory (with_chunk memory empty) t es w run)
-    (runs_keep_uniform 64 8 8 memory (with_chunk memory empty) t memory es w is run asks) (omega arith) step

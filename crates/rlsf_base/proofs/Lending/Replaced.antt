@@ -4,9 +4,7 @@ use Rattle.std.proofs.Common.{get_or-drop}
 use Rattle.std.specs.List.{splice}
 use Rattle.rlsf_base.specs.declared.memory.range.Range.{Range}
 use Rattle.rlsf_base.specs.Range.{end_of, LiesIn}
-use Rattle.rlsf_base.specs.Space.{Space, byte_at, byte_range, bytes_in, word_range, word_at}
-use Rattle.rlsf_base.proofs.Lending.WordIsHere.{word_at-kept}
-use Rattle.rlsf_base.proofs.Lending.Present.{out-same}
+use Rattle.rlsf_base.specs.Space.{Space, byte_at, byte_range, bytes_in}
 use Rattle.rlsf_base.proofs.Words.Splices.{length-splice, splice-inside, splice-before, splice-after}
 
 -- the bytes ys are in the place of those of the range p
@@ -24,9 +22,6 @@ module _ (m n : Space) (p : Range) (ys : List ℕ) (placed : LiesIn p m.start (l
         | inl before ↦ splice-before m.bytes ys (p.start - m.start) p.len room full (r.start - m.start) r.len (omega (arith, placed, before, inside))
         | inr after ↦ ap (take r.len) (splice-after m.bytes ys (p.start - m.start) p.len room full (r.start - m.start) (omega (arith, placed, after)))
       ]
-
-  pub word_at-with : n.out ≡ m.out → (a : ℕ) → m.start ≤ a → (a + 8 ≤ p.start) ⊎ (end_of p ≤ a) → word_at n a ≡ word_at m a
-  word_at-with out a inside side = word_at-kept m n a start inside (bytes_in-with (word_range a) inside side) (λ k lo hi. out-same m n k start out)
 
   pub bytes_in-there : bytes_in n p ≡ ys
   bytes_in-there = (λ i. take p.len (drop (p.start - start i) (bytes i))) ∙ splice-inside m.bytes ys (p.start - m.start) p.len room full

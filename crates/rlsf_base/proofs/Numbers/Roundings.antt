@@ -51,11 +51,6 @@ next_multiple_of-unique x y times some above below =
       | inr at_most ↦ let order : times * y ≤ n / y * y = mul-le-mul_right y at_most in omega (arith, next_multiple_of-least x y times some above)
     ]
 
--- a multiple is its own rounding
-pub next_multiple_of-same : (times y : ℕ) → 0 < y → next_multiple_of (times * y) y ≡ times * y
-next_multiple_of-same times y some =
-    omega (arith, next_multiple_of-le (times * y) y, next_multiple_of-least (times * y) y times some (omega arith))
-
 -- ---- multiples of 32
 
 pub round32-le : (n : ℕ) → n ≤ round32 n

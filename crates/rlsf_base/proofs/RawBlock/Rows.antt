@@ -44,17 +44,6 @@ module _ {M : Type 1} {𝓤 : Ura M} (𝓛 : Logic 𝓤) (b : ℕ) where
   abbrev pub Row : ℕ → List ℕ → Fml
   Row o xs = cells (mem u8) xs b o
 
-  glue-row : (xs ys : List ℕ) (o at : ℕ) → at ≡ length xs + o → ent 𝓤 (sep 𝓤 (sem 𝓛 (Row o xs)) (sem 𝓛 (Row at ys))) (sem 𝓛 (Row o (xs ++ ys)))
-  glue-row [] ys o at e = qed 𝓛 (‵ ftrue ∷ ‵ (Row at ys) ∷ []) ∵ skip ! $ rewrite ! 0 (λ (k : ℕ). ‵ (Row k ys)) {x = o} (omega (arith, e)) refl $ done !
-  glue-row (x ∷ xs) ys o at e = qed 𝓛 (‵ (Row o (x ∷ xs)) ∷ ‵ (Row at ys) ∷ []) ∵ fsplit ! $ move ! (1 ∷ 2 ∷ []) $
-      use2 𝓛 (‵ (Row (o + 1) (xs ++ ys))) (glue-row xs ys (o + 1) at (omega (arith, e))) $ move ! (1 ∷ 0 ∷ []) $ fjoin ! $ done !
-
-  pub snoc : (xs : List ℕ) (x o at : ℕ) → at ≡ length xs + o
-      → ent 𝓤 (sep 𝓤 (sem 𝓛 (Row o xs)) (sem 𝓛 (part_at u8 full_share x b at))) (sem 𝓛 (Row o (xs ++ x ∷ [])))
-  snoc xs x o at e =
-      qed 𝓛 (‵ (Row o xs) ∷ ‵ (part_at u8 full_share x b at) ∷ []) ∵ move ! (1 ∷ []) $ nothing ! $ move ! (1 ∷ 0 ∷ []) $ fjoin ! $ move ! (1 ∷ 0 ∷ []) $
-      by ! (glue-row xs (x ∷ []) o at e)
-
   pub emptied : (xs : List ℕ) (o : ℕ) → ent 𝓤 (sem 𝓛 (Row o xs)) (𝓛.H.room (bytes_ty (length xs)) b o)
   emptied [] o = 𝓛.laws.room_nil (ty_int w8) b o
   emptied (x ∷ xs) o = qed 𝓛 (‵ (Row o (x ∷ xs)) ∷ []) ∵ fsplit ! $ use1 𝓛 (‵ (fat full_share (ty_int w8) b o (vint w8 x))) (uint_out 𝓛 full_share w8 x b o) $

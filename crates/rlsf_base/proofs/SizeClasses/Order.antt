@@ -155,7 +155,3 @@ IsFirstReaching-reaching_class sllen size any some =
         ];
       })
     ]
-
--- there is only one
-pub IsFirstReaching-unique : (sllen size : ℕ) (c d : SizeClass) → IsFirstReaching sllen size c → IsFirstReaching sllen size d → c ≡ d
-IsFirstReaching-unique sllen size c d p q = IsAtMost-antisymm c d (p.first d q.in_row q.reached) (q.first c p.in_row p.reached)

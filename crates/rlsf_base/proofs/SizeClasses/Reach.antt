@@ -36,10 +36,6 @@ module _ (sllen size : ℕ) (some : 0 < size) where
   pub class_start-lt : size * sllen < class_start sllen (class_of sllen size) + 2 ^ floor_log2 size
   class_start-lt = omega (arith, parts, mod-lt ((size - 2 ^ floor_log2 size) * sllen) (pow_pos (floor_log2 size)))
 
-  -- a size's own class reaches it exactly where the class begins at it
-  pub Reaches-class_of_self : Reaches sllen (class_of sllen size) size ↔ (class_start sllen (class_of sllen size) ≡ size * sllen)
-  Reaches-class_of_self = ((λ reached. omega (arith, class_start-le, reached)), (λ at. omega arith))
-
   -- what the class of a block reaches, the block is long enough for
   pub Reaches-class_of : (wanted : ℕ) → 0 < sllen → Reaches sllen (class_of sllen size) wanted → wanted ≤ size
   Reaches-class_of wanted any reached =

@@ -1,16 +1,14 @@
 -- Lengths of chunks that are computed for many payloads.
-use Rattle.std.proofs.Common.{◌≡◌, ℕ, ◌+◌, ◌-◌, ◌*◌, ◌/◌, ◌%◌, ◌^◌, ◌<◌, ◌≤◌, Option, Some, None, IsTrue, arith, cond, leb, inl, inr}
+use Rattle.std.proofs.Common.{◌≡◌, ℕ, ◌+◌, ◌-◌, ◌*◌, ◌^◌, ◌<◌, ◌≤◌, Option, Some, None, IsTrue, arith, cond, leb, inl, inr}
 use Rattle.std.proofs.Common.{refl, sym, ◌∙◌, ap, subst}
-use Rattle.std.specs.Int.{div_ceil}
 use Rattle.std.specs.Option.{option_and_then, option_map}
 use Rattle.std.proofs.lemmas.Bool.{cases_lt, cond-true, cond-false, le-leb, lt-ltb, lt-leb, le-ltb}
 use Rattle.std.proofs.lemmas.Option.{none-some, same_Some}
-use Rattle.std.proofs.lemmas.Grind.{div_ceil_times}
-use Rattle.std.proofs.Math.Nat.{mul-le-mul_right, mul-mod_left}
+use Rattle.std.proofs.Math.Nat.{mul-le-mul_right}
 use Rattle.rlsf_base.specs.Rounding.{round32}
 use Rattle.rlsf_base.specs.SizeClass.{class_of, class_start, is_row_length, reaching_class, Reaches}
 use Rattle.rlsf_base.specs.Sizes.{IsSize, budget_length, chunk_length, map_ceil_and_unmap, object_length, objects_in, payloads_length, pool_size_for_objects}
-use Rattle.rlsf_base.proofs.Numbers.Roundings.{round32-le, round32-least, round32-multiple}
+use Rattle.rlsf_base.proofs.Numbers.Roundings.{round32-le, round32-multiple}
 use Rattle.rlsf_base.proofs.SizeClasses.Order.{IsFirstReaching-reaching_class}
 use Rattle.rlsf_base.proofs.SizeMaps.Laws.{IsUnmapped-some}
 use Rattle.rlsf_base.proofs.SizeMaps.RowLengths.{IsPower-row_length}
@@ -45,23 +43,6 @@ pub budget-is : (fllen sllen count bytes size asked least : ℕ) {o : Option ℕ
     → o ≡ option_and_then (λ n. chunk_length fllen (budget_length count bytes n)) (map_ceil_and_unmap fllen sllen asked)
 budget-is fllen sllen count bytes size asked least is told chunk =
     chunk ∙ ap (option_and_then (λ n. chunk_length fllen (budget_length count bytes n))) (told ∙ ap (map_ceil_and_unmap fllen sllen) is)
-
-div_ceil-le : (n d : ℕ) → 0 < d → div_ceil n d ≤ n
-div_ceil-le n d some = elim (cases_lt n (div_ceil n d)) [
-  | inl more ↦
-      let above : (n + 1) * d ≤ div_ceil n d * d = mul-le-mul_right d (omega arith) in
-      let least : 1 * n ≤ d * n = mul-le-mul_right n (omega arith) in
-      absurd (omega (arith, (div_ceil_times n d some).1))
-  | inr fits ↦ fits
-]
-
--- what is left over for a SLLENth is no longer than the multiple of 32 that it is taken of
-pub slack-le : (size times d : ℕ) → 0 < d → size % 32 ≡ 0 → round32 (div_ceil (times * size) d) ≤ times * size
-slack-le size times d some whole =
-    let blocks : size ≡ size / 32 * 32 = omega arith in
-    let product : times * size ≡ times * (size / 32 * 32) = ap (λ n. times * n) blocks in
-    let parts : times * size ≡ times * (size / 32) * 32 = omega arith in
-    round32-least (div_ceil (times * size) d) (times * size) (ap (λ n. n % 32) parts ∙ mul-mod_left (times * (size / 32)) 32) (div_ceil-le (times * size) d some)
 
 pub IsSize-object : (size : ℕ) → IsSize (round32 (size + 16))
 IsSize-object size = (omega (arith, round32-le (size + 16)), round32-multiple (size + 16))

@@ -61,10 +61,6 @@ module _ (fllen : ℕ) (s : State) (r : Range) (unlimited : max_pool_size fllen 
   grows : (reply : ℕ) (t : State) → reply ≡ r.len / 32 * 32 → t ≡ extended r.start (r.len / 32 * 32) s → Appends fllen s r reply t
   grows reply t answer after = record { answer = answer ∙ ap (λ o. appended_bytes o r) (sym unlimited); after = after ∙ ap (λ o. appended o r s) (sym unlimited) }
 
-  -- by no bytes
-  pub Appends-none : r.len / 32 * 32 ≡ 0 → Appends fllen s r 0 s
-  Appends-none none = grows 0 s (sym none) (ap (λ n. extended r.start n s) (sym none))
-
   -- the chunk that is found
   pub found_chunk : (memory : Range) → 0 < r.len / 32 * 32 → IsNext memory s r → (c : Range) × IsExtensible fllen memory s c (r.len / 32 * 32) × (end_of c ≡ r.start)
   found_chunk memory some next = go (find (ends_at r.start) s.chunks) refl

@@ -191,9 +191,6 @@ module _ {fllen sllen : ℕ} {m : Space} {table : Table} {s : State} (v : Stands
 
     -- ---- the state with a used block more
 
-    bytes : List ℕ
-    bytes = more_bytes n c len
-
     long : length (more_bytes n c len) ≡ len - 16
     long =
         let room = placed.room in

@@ -44,9 +44,6 @@ module _ (m n : Space) (start : n.start ≡ m.start) (bytes : n.bytes ≡ m.byte
   KeepsSpare-counted_first s t o h a from to before after =
       h a (omega (arith, start)) (omega (arith, start, length-counted m n start bytes out)) before after ∙ byte_at-counted m n start bytes out a
 
-  pub KeepsSpare-counted_last : (s t : State) (o : Space) → KeepsSpare o s m t → KeepsSpare o s n t
-  KeepsSpare-counted_last s t o h a from to before after = byte_at-counted m n start bytes out a ∙ h a from to before after
-
 module _ (m n : Space) (more : ℕ) (touched : n ≡ record m { touches = m.touches + more }) where
   -- more touches alone were counted
   pub StandsFor-touched : {fllen sllen : ℕ} {t : Table} {s : State} → StandsFor fllen sllen (contents m t) s → StandsFor fllen sllen (contents n t) s

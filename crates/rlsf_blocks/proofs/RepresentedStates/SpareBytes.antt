@@ -1,10 +1,8 @@
 -- Bytes that are spare after some steps were spare before them, so what each step keeps, all of them keep.
-use Rattle.std.proofs.Common.{ℕ, ◌+◌, ◌<◌, ◌≤◌, List, [], ◌∷◌, arith, inl, inr, refl, sym, ◌∙◌, subst}
-use Rattle.rlsf_base.specs.declared.memory.range.Range.{Range}
+use Rattle.std.proofs.Common.{ℕ, ◌+◌, ◌<◌, ◌≤◌, arith, inl, inr, sym, ◌∙◌, subst}
 use Rattle.rlsf_base.specs.Range.{end_of}
 use Rattle.rlsf_base.specs.Space.{Space, SamePlace}
-use Rattle.rlsf_model.specs.Lists.{IsIn}
-use Rattle.rlsf_model.specs.Run.{Event, IsRemoval, Leads, Runs}
+use Rattle.rlsf_model.specs.Run.{Event, IsRemoval, Leads}
 use Rattle.rlsf_model.specs.State.{State}
 use Rattle.rlsf_model.proofs.Chunks.{chunks_stay}
 use Rattle.rlsf_blocks.specs.InBand.{sentinel_of}
@@ -18,13 +16,6 @@ IsSpare-before fllen sllen s t e a lasts step spare c i from to =
       | inl same ↦ subst (λ x. sentinel_of x + 16 ≤ a) same (spare d j (omega arith) (subst (λ x. a < end_of x) (sym same) to))
       | inr more ↦ absurd (omega (arith, spare d j (omega arith) (omega arith)))
     ]
-
--- nor does a run of steps
-pub IsSpare-before_run : (fllen sllen : ℕ) (memory : Range) (s t : State) (es : List Event) (a : ℕ) → ((e : Event) → IsIn e es → IsRemoval e → ⊥)
-    → Runs fllen sllen memory s es t → IsSpare t a → IsSpare s a
-IsSpare-before_run fllen sllen memory s t [] a lasts run spare = subst (λ x. IsSpare x a) run spare
-IsSpare-before_run fllen sllen memory s t (e ∷ es) a lasts (u, may, step, rest) spare =
-    IsSpare-before fllen sllen s u e a (lasts e (inl refl)) step (IsSpare-before_run fllen sllen memory u t es a (λ f i. lasts f (inr i)) rest spare)
 
 -- what is kept over what leads from s to t, and then over a step from t to u, is kept over both
 pub KeepsSpare-trans : (fllen sllen : ℕ) (m n o : Space) (s t u : State) (e : Event) → (IsRemoval e → ⊥) → SamePlace m n → Leads fllen sllen t e u

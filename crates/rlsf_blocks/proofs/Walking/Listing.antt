@@ -1,10 +1,9 @@
 -- What was listed of the blocks that were passed.
-use Rattle.std.proofs.Common.{◌≡◌, ℕ, ◌+◌, ◌*◌, ◌/◌, ◌<◌, ◌≤◌, cond, List, [], ◌∷◌, ◌++◌, length, take, drop, arith, refl, sym, ◌∙◌, ap}
-use Rattle.std.proofs.lemmas.Bool.{le-leb, lt-leb}
-use Rattle.std.proofs.lemmas.List.{append_assoc, drop-drop, length-take-le, take-append-le, take-take}
+use Rattle.std.proofs.Common.{◌≡◌, ℕ, ◌+◌, ◌*◌, ◌/◌, ◌≤◌, cond, List, [], ◌∷◌, ◌++◌, length, take, drop, arith, refl, sym, ◌∙◌, ap}
+use Rattle.std.proofs.lemmas.Bool.{le-leb}
+use Rattle.std.proofs.lemmas.List.{append_assoc, drop-drop}
 use Rattle.std.proofs.Math.Seq.{take-add}
 use Rattle.std.specs.List.{splice}
-use Rattle.std.specs.Prelude.{min}
 use Rattle.rlsf_base.proofs.Words.Splices.{length-splice, splice-after, splice-before, splice-inside}
 use Rattle.rlsf_blocks.specs.Blocks.{Block}
 use Rattle.rlsf_blocks.specs.Listing.{IsListingOf, all_from, all_numbers, numbers_of}
@@ -17,29 +16,10 @@ pub record IsListed (from : ℕ) (was now : List ℕ) (count : ℕ) (left all : 
   pub listed : take (3 * count) now ++ all_numbers (all_from from left) ≡ all_numbers (all_from from all)
   pub rest : drop (3 * count) now ≡ drop (3 * count) was
 
--- the blocks from an address on, with a block before it, and with one behind it
-all_from-skip : (from : ℕ) (b : Block) (bs : List Block) → b.range.start < from → all_from from (b ∷ bs) ≡ all_from from bs
-all_from-skip from b bs low = ap (λ k. cond k (b ∷ all_from from bs) (all_from from bs)) (lt-leb from b.range.start low)
-
 all_from-cons : (from : ℕ) (b : Block) (bs : List Block) → from ≤ b.range.start → all_from from (b ∷ bs) ≡ b ∷ all_from from bs
 all_from-cons from b bs high = ap (λ k. cond k (b ∷ all_from from bs) (all_from from bs)) (le-leb from b.range.start high)
 
 module _ {from : ℕ} {was now : List ℕ} {count : ℕ} {b : Block} {bs all : List Block} (is : IsListed from was now count (b ∷ bs) all) where
-  -- a block before the address is left out
-  pub skipped : b.range.start < from → IsListed from was now count bs all
-  skipped low =
-      let same = all_from-skip from b bs low in record {
-        len = is.len;
-        few = is.few;
-        counted = ap (λ l. count + length l) (sym same) ∙ is.counted;
-        listed = ap (λ l. take (3 * count) now ++ all_numbers l) (sym same) ∙ is.listed;
-        rest = is.rest;
-      }
-
-  -- a block behind it is one more than those that were listed
-  pub more_left : from ≤ b.range.start → count < length (all_from from all)
-  more_left high = omega (arith, is.counted, ap (λ (l : List Block). length l) (all_from-cons from b bs high))
-
   pub has_place : (count ≡ length was / 3 → ⊥) → 3 * count + 3 ≤ length now
   has_place room = omega (arith, is.len, is.few, room)
 
@@ -68,28 +48,6 @@ module _ {from : ℕ} {was now : List ℕ} {count : ℕ} {b : Block} {bs all : L
           ∙ ap (λ l. l ++ take 3 (drop (3 * count) (splice now (3 * count) (3 * count + 3) (numbers_of b))))
           (splice-before now (numbers_of b) (3 * count) 3 fits refl 0 (3 * count) (omega arith))
           ∙ ap (λ l. take (3 * count) now ++ l) (splice-inside now (numbers_of b) (3 * count) 3 fits refl)
-
--- where all were listed or there is no room for more, the list is complete
-pub listing : (from : ℕ) (was now : List ℕ) (count : ℕ) (left all : List Block) → IsListed from was now count left all
-    → count ≡ min (length (all_from from all)) (length was / 3)
-    → IsListingOf (all_from from all) was count now
-listing from was now count left all is told = record {
-  count = told;
-  len = is.len;
-  listed =
-      sym (ap (take (3 * count)) (sym is.listed)
-      ∙ take-append-le (3 * count) (take (3 * count) now) (all_numbers (all_from from left)) (omega (arith, length-take-le (3 * count) now fits))
-      ∙ take-take (3 * count) (3 * count) now (omega arith));
-  rest = is.rest;
-}
-  where
-    fits : 3 * count ≤ length now
-    fits = omega (arith, is.len, is.few)
-
-pub full : (from : ℕ) (was now : List ℕ) (count : ℕ) (b : Block) (bs all : List Block) → IsListed from was now count (b ∷ bs) all → from ≤ b.range.start
-    → count ≡ length was / 3
-    → IsListingOf (all_from from all) was count now
-full from was now count b bs all is high room = listing from was now count (b ∷ bs) all is (omega (arith, more_left is high, room))
 
 -- where there is no block, none is listed
 pub no_listing : (from : ℕ) (was : List ℕ) → IsListingOf (all_from from []) was 0 was

@@ -1,12 +1,12 @@
 -- The class table of the free blocks: with a block put in front, without a block, and once other words were written.
-use Rattle.std.proofs.Common.{◌≡◌, ℕ, ◌+◌, ◌^◌, ◌<◌, ◌≤◌, List, ◌∷◌, ◌++◌, length, arith, inl, inr, sym, ◌∙◌, subst}
+use Rattle.std.proofs.Common.{◌≡◌, ℕ, ◌+◌, ◌^◌, ◌<◌, ◌≤◌, List, ◌∷◌, ◌++◌, length, arith, inl, ◌∙◌}
 use Rattle.rlsf_base.specs.declared.memory.range.Range.{Range}
 use Rattle.rlsf_base.specs.Space.{Space, word_at}
 use Rattle.rlsf_model.specs.Lists.{IsIn}
 use Rattle.rlsf_model.specs.WellFormed.{coverage, itself, IsFree}
 use Rattle.rlsf_model.proofs.Coverage.{coverage-append}
 use Rattle.rlsf_table.specs.Rewrites.{IsLink, CanBeBlock, Rewrites}
-use Rattle.rlsf_table.specs.FreeTable.{IsFreeTable, IsRoom}
+use Rattle.rlsf_table.specs.FreeTable.{IsFreeTable}
 use Rattle.rlsf_table.specs.Table.{Table, head_at, of_class, HasTable}
 use Rattle.rlsf_table.proofs.FreeLists.Chains.{IsIn-removal, Links-Rewrites}
 use Rattle.rlsf_table.proofs.FreeLists.Classes.{IsIn-of_class}
@@ -27,18 +27,6 @@ IsFreeTable-IsLink links free placed rewrites among blocks apart sizes addressab
       λ f i. (let here = placed f (among f i) in before_links links (λ g j. (placed g j).whole) rewrites f.start (inl here.whole) (omega (arith, here.lies_in))) ∙ sizes f i;
   addressable = omega (arith, rewrites.start, rewrites.length, addressable);
 }
-
--- what is true of a block and of those of a list
-front : {P : Range → Type 0} (r : Range) (free : List Range) → P r → ((f : Range) → IsIn f free → P f) → (f : Range) → IsIn f (r ∷ free) → P f
-front {P} r free here later f i = elim i [ inl e ↦ subst P (sym e) here | inr j ↦ later f j ]
-
--- the table with a block put in front
-pub IsFreeTable-front : {fllen sllen : ℕ} {m n : Space} {t u : Table} (r : Range) (free : List Range) → IsRoom fllen sllen m t free r → word_at m r.start ≡ r.len
-    → HasTable fllen sllen n u (r ∷ free) → Rewrites m n (IsLink (r ∷ free)) → IsFreeTable fllen sllen n u (r ∷ free)
-IsFreeTable-front {fllen} {sllen} {m} r free room size table rewrites =
-    IsFreeTable-IsLink (r ∷ free) (r ∷ free) (front {P = CanBeBlock m} r free room.placed room.list.placed) rewrites (λ f i. i)
-    (front {P = IsFree fllen sllen} r free room.block room.list.blocks) room.apart
-    (front {P = λ f. word_at m f.start ≡ f.len} r free size room.list.sizes) room.list.addressable table
 
 -- the table without a block
 pub IsFreeTable-removal : {fllen sllen : ℕ} {m n : Space} {t u : Table} (before : List Range) (r : Range) (after : List Range)

@@ -11,7 +11,7 @@ use Rattle.rlsf_model.specs.Note.{Note, alloc, grow, dealloc}
 use Rattle.rlsf_model.specs.Run.{Event, allocate, deallocate, trim}
 use Rattle.rlsf_model.specs.Terms.{Terms}
 use Rattle.rlsf_model.proofs.Examples.{Block, block, seen}
-use Rattle.rlsf_model.proofs.FlexRows.{attempt, growing_and_taking_back, pages}
+use Rattle.rlsf_model.proofs.Worked.FlexRows.{attempt, growing_and_taking_back, pages}
 use Rattle.rlsf_model.proofs.TrimExamples.{Move, allocates, frees, gives_back, RunsWith, RunsWith-all, all_moved_by, all_moved_to, may_move_all}
 
 -- a call with its reply, and what was asked or returned for it

@@ -1,0 +1,5 @@
+-- Worked examples, which nobody cites.
+mod FlexRows
+mod NoMoveRows
+mod Rows
+mod TrimRows
