@@ -1,21 +1,17 @@
 -- Where the search for a block begins: at a row of classes and a place in it.
 use Rattle.std.specs.Prelude.{◌≡◌, ℕ, ◌+◌, ◌<◌, ◌≤◌, ◌⊎◌}
-use Rattle.rlsf_base.specs.SizeClass.{SizeClass, IsAtMost, Reaches}
+use Rattle.rlsf_base.specs.SizeClass.{SizeClass, IsAtMost, Reaches, class_at}
 
 -- a search of a row begins at one of its places, or behind them all if they are 32 or fewer
 abbrev pub CanBegin : ℕ → ℕ → Type 0
 CanBegin places start = (start < places) ⊎ ((start ≡ places) × (places ≤ 32))
 
--- the row and the place, as a class. That of the place behind a row is no class, but is ordered as one
-abbrev pub class_from : ℕ → ℕ → SizeClass
-class_from fl sl = record { exponent = 5 + fl; division = sl }
-
 -- the classes that reach a size are those from a row and place on
 pub record IsSearchStart (fllen sllen size fl sl : ℕ) : Type 0 where
   pub row : fl < fllen
   pub place : CanBegin sllen sl
-  pub reached : (d : SizeClass) → d.division < sllen → IsAtMost (class_from fl sl) d → Reaches sllen d size
-  pub first : (d : SizeClass) → d.division < sllen → Reaches sllen d size → IsAtMost (class_from fl sl) d
+  pub reached : (d : SizeClass) → d.division < sllen → IsAtMost (class_at fl sl) d → Reaches sllen d size
+  pub first : (d : SizeClass) → d.division < sllen → Reaches sllen d size → IsAtMost (class_at fl sl) d
 
 -- no class of so many rows reaches a size
 abbrev pub NoneReaches : ℕ → ℕ → ℕ → Type 0

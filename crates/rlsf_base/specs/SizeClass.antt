@@ -15,7 +15,11 @@ class_of sllen size =
     let k = floor_log2 size in
     record { exponent = k; division = (size - 2 ^ k) * sllen / 2 ^ k }
 
--- the first row begins at the size 32, and there are FLLEN rows
+-- the class at two indices: the first row begins at the size 32. Where a search begins behind a row, it is no class, but is ordered as one
+abbrev pub class_at : ℕ → ℕ → SizeClass
+class_at fl sl = record { exponent = 5 + fl; division = sl }
+
+-- there are FLLEN rows
 abbrev pub IsValidClass : ℕ → SizeClass → Type 0
 IsValidClass fllen c = c.exponent < 5 + fllen
 

@@ -1,8 +1,7 @@
 //! The steps: payloads of a heap are allocated into slots, and deallocated.
 ghost use Rattle.std.specs.Prelude.{◌≡◌, ◌%◌, ◌^◌, ◌<◌, length, IfOk};
 ghost use Rattle.std.proofs.Props.{props};
-ghost use Rattle.rlsf_heap.specs.Heap.{Identity};
-ghost use Rattle.rlsf_bench_heap.specs.Slots.{AreOf};
+ghost use Rattle.rlsf_heap.specs.Heap.{AreOf, Identity};
 
 use crate::{MEMORY, POOL};
 use rlsf_base::memory::{Layout, OpenMemory};

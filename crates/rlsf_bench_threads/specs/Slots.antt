@@ -1,14 +1,9 @@
 -- The payloads that the slots hold.
-use Rattle.std.specs.Prelude.{◌≡◌, ℕ, List, Option, None, Some, All, IfSome, slice_index_or}
+use Rattle.std.specs.Prelude.{◌≡◌, ℕ, List, Option, None, Some, slice_index_or}
 use Rattle.rlsf_base.specs.Addr.{at}
 use Rattle.rlsf_bench_threads.specs.declared.global_steps.Payload.{Payload}
-use Rattle.rlsf_heap.specs.Heap.{Identity, PayloadView}
 use Rattle.rlsf_model.specs.Callers.{align_at}
 use Rattle.rlsf_model.specs.State.{State}
-
--- each is a payload of one heap
-abbrev pub AreOf : Identity → List (Option PayloadView) → Type 0
-AreOf heap slots = All (λ slot. IfSome slot (λ payload. payload.identity ≡ heap)) slots
 
 -- a slot has this payload
 abbrev pub Has : List (Option Payload) → ℕ → Payload → Type 0

@@ -1,7 +1,6 @@
 //! The steps of a thread: payloads of the shared heap are allocated into slots, and deallocated.
 ghost use Rattle.std.specs.Prelude.{◌<◌, IfOk};
-ghost use Rattle.rlsf_heap.specs.Heap.{Identity};
-ghost use Rattle.rlsf_bench_threads.specs.Slots.{AreOf};
+ghost use Rattle.rlsf_heap.specs.Heap.{AreOf, Identity};
 
 use crate::shared::Shared;
 use rlsf_base::memory::Layout;

@@ -6,6 +6,7 @@ use Rattle.rlsf_base.specs.Range.{end_of}
 use Rattle.rlsf_base.specs.Rounding.{round32}
 use Rattle.rlsf_blocks.specs.Blocks.{AreBlocks, Block, HasBlock, IsInOrder, free, used, walked}
 use Rattle.rlsf_blocks.proofs.Words.Apart.{home_of_free, home_of_used}
+use Rattle.rlsf_blocks.proofs.Walking.Listed.{IsInOrder-append}
 use Rattle.rlsf_model.specs.Lists.{IsIn}
 use Rattle.rlsf_model.specs.State.{State}
 use Rattle.rlsf_model.specs.WellFormed.{IsWellFormed, itself}
@@ -14,15 +15,6 @@ use Rattle.rlsf_model.proofs.Payloads.{IsUsed-some}
 use Rattle.rlsf_checked.specs.AllBlocks.{IsFirstFrom}
 use Rattle.rlsf_checked.specs.Steps.Runs.{AreUpTo, IsNextRun, IsStart}
 use Rattle.rlsf_checked.specs.Steps.Standing.{in_chunks}
-
--- lists of blocks one behind another
-IsInOrder-append : (bs cs : List Block) → IsInOrder bs → IsInOrder cs → ((b c : Block) → IsIn b bs → IsIn c cs → end_of b.range ≤ c.range.start)
-    → IsInOrder (bs ++ cs)
-IsInOrder-append [] cs first second apart = second
-IsInOrder-append (b ∷ bs) cs (before, first) second apart = (
-  λ c i. elim (IsIn-append c bs cs i) [ inl j ↦ before c j | inr j ↦ apart b c (inl refl) j ],
-  IsInOrder-append bs cs first second (λ x c i j. apart x c (inr i) j),
-)
 
 -- the first one of some blocks that begins at an address or behind it, if one does
 abbrev pub IsFirstIn : ℕ → List Block → Option Block → Type 0

@@ -1,6 +1,6 @@
 -- Lemmas on the checked allocator: inserted pools, refused sizes, its invariant and its parameters.
 mod Edges
-mod FieldsOverSteps
+pub mod FieldsOverSteps
 mod Gathered
 mod Joined
 mod Parts

@@ -24,6 +24,7 @@ use Rattle.rlsf_model.proofs.Chunks.{IsIn-with_chunks}
 use Rattle.rlsf_model.proofs.Coverage.{IsIn-without, coverage-IsIn, coverage-some, covers-inside, covers-some, find-some}
 use Rattle.rlsf_model.proofs.Cuts.{IsIn-cut_within, coverage-cut_last}
 use Rattle.rlsf_model.proofs.Untouched.{IsFresh-untouched}
+use Rattle.rlsf_model.proofs.AddedChunks.{IsIn-end_of_last}
 use Rattle.rlsf_tlsf.specs.Allocator.{Allocator, Stands}
 use Rattle.rlsf_checked.specs.Answers.{append_answer, if_appended, if_taken, insert_answer, is_next, is_within}
 use Rattle.rlsf_checked.specs.Checked.{Checked}
@@ -53,11 +54,6 @@ end_of-taken start n at (d ∷ ds) c e i from to =
     let taken : end_of_last (end_of d) ds - start ≡ n = cc in
     omega arith
 
--- the last one ends there
-end_of_some : (c : Range) (cs : List Range) → (d : Range) × IsIn d (c ∷ cs) × (end_of d ≡ end_of_last (end_of c) cs)
-end_of_some c [] = (c, inl refl, refl)
-end_of_some c (d ∷ ds) = let (x, i, ends) = end_of_some d ds in (x, inr i, ends)
-
 -- so that no more is taken than the range has, and more than is skipped
 pub taken-within : (fllen : ℕ) (r : Range) (n : ℕ) → bytes_taken r.start (cut (max_pool_size fllen) (aligned_part r)) ≡ Some n
     → (n ≤ r.len) × (round32 r.start < r.start + n)
@@ -66,7 +62,7 @@ taken-within fllen r n e = go (cut (max_pool_size fllen) (aligned_part r)) refl 
     go : (cs : List Range) → cut (max_pool_size fllen) (aligned_part r) ≡ cs → bytes_taken r.start cs ≡ Some n → (n ≤ r.len) × (round32 r.start < r.start + n)
     go [] same told = absurd (none-some n told)
     go (d ∷ ds) same told =
-        let (c, i, ends) = end_of_some d ds in
+        let (c, i, ends) = IsIn-end_of_last d ds in
         let (from, to, within, some) = end_of-cut fllen (aligned_part r) c (subst (IsIn c) (sym same) i) in
         let taken : end_of_last (end_of d) ds - r.start ≡ n = cc in
         (omega (arith, round32-le r.start, from, within, some, ends), omega (arith, taken, round32-le r.start, from, within, some, ends))
@@ -268,7 +264,7 @@ appended-le fllen s r = go (max_pool_size fllen) refl
         → (end_of_last r.start cs - r.start ≤ r.len) × (0 ≡ end_of_last r.start cs - r.start → (t : State) → t ≡ with_chunks cs s → t ≡ s)
     cut-le most same [] is = (omega arith, λ none t e. e)
     cut-le most same (d ∷ ds) is =
-        let (c, i, ends) = end_of_some d ds in
+        let (c, i, ends) = IsIn-end_of_last d ds in
         let made = subst (λ o. IsIn c (cut o (aligned_part r))) (sym same) (subst (IsIn c) (sym is) i) in
         let (from, to, within, some) = end_of-cut fllen (aligned_part r) c made in
         (omega (arith, round32-le r.start, from, within, some, ends), λ none t e. absurd (omega (arith, none, ends, from, some, round32-le r.start)))

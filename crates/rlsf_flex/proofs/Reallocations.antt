@@ -7,6 +7,7 @@ use Rattle.rlsf_base.specs.Space.{SamePlace}
 use Rattle.rlsf_tlsf.specs.Allocator.{Allocator, Steps}
 use Rattle.rlsf_tlsf.specs.Results.{IsReallocated}
 use Rattle.rlsf_blocks.specs.Spare.{KeepsSpare}
+use Rattle.rlsf_blocks.proofs.Reallocate.FirstPlan.{or_else-none_first}
 use Rattle.rlsf_flex.specs.Steps.Outside.{KeepsOutsideNow}
 use Rattle.rlsf_flex.specs.StandsFor.{FlexContents, FlexStandsFor, FlexSteps, allocator_of, with_allocator}
 use Rattle.rlsf_flex.specs.Steps.Growth.{Extended, MovesPayload}
@@ -35,14 +36,9 @@ use Rattle.rlsf_flex.proofs.OutsideNow.{KeepsOutsideNow-stands, KeepsOutsideNow-
 use Rattle.rlsf_flex.proofs.SpareBytes.{KeepsSpareButFooter-all, KeepsSpareButFooter-before}
 use Rattle.rlsf_flex.proofs.InnerAllocator.{opened, stood}
 
--- where a plan is none, the first of its cases can't be
-in_place-none : (o q : Option Plan) → or_else o q ≡ None → o ≡ None
-in_place-none None q none = refl
-in_place-none (Some p) q none = absurd (none-some p (sym none))
-
 -- nor can the first two
 first_two-none : (o q r : Option Plan) → or_else o (or_else q r) ≡ None → or_else o q ≡ None
-first_two-none None q r none = in_place-none q r none
+first_two-none None q r none = or_else-none_first q r none
 first_two-none (Some p) q r none = none
 
 -- a block that can't have the size neither stays where it is nor takes from the block behind
@@ -55,7 +51,7 @@ stuck_moves {s = s} w addr size u v p stuck holds some =
 -- a block that can't have the size has fewer usable bytes
 pub stuck_short : {fllen sllen : ℕ} {memory : Range} {s : State} → IsWellFormed fllen sllen memory s → (addr size : ℕ) (u : Used) → IsStuck s addr size u
     → (usable u).len < size
-stuck_short {s = s} w addr size u stuck = usable-short w u stuck.holds.0 size (in_place-none (in_place s u size) _ stuck.no_plan)
+stuck_short {s = s} w addr size u stuck = usable-short w u stuck.holds.0 size (or_else-none_first (in_place s u size) _ stuck.no_plan)
 
 -- a refused reallocation had no plan, and an allocation is refused too
 refused_by : (sllen size : ℕ) (s t : State) (u : Used) (o : Option Plan) → ReallocatesBy sllen s u size o None t → (o ≡ None) × Allocates sllen s size u.align None t

@@ -1,6 +1,6 @@
 -- Codes and their entries.
 use Rattle.std.proofs.Common.{◌≡◌, ◌≢◌, ◌⊎◌, ℕ, suc, ◌+◌, ◌*◌, ◌^◌, ◌-◌, ◌/◌, ◌%◌, ◌<◌, ◌≤◌, ◌==◌, nat_lt, not}
-use Rattle.std.proofs.Common.{Bool, true, false, true≢false, List, [], ◌∷◌, get_or, length, Option, Some, None, IsSome}
+use Rattle.std.proofs.Common.{Bool, true, false, List, [], ◌∷◌, get_or, length, Option, Some, None, IsSome}
 use Rattle.std.proofs.Common.{if◌then◌else◌, arith, refl, sym, ap, subst, inl, inr, ◌∙◌}
 use Rattle.std.proofs.lemmas.Bool.{cases_eq}
 use Rattle.std.proofs.lemmas.Bool.Decides.{eqb_tells, leb_tells, nat_tests}
@@ -9,14 +9,8 @@ use Rattle.rlsf_global.specs.LiveRows.{AreAddresses, AreCoded, CodeSpace, HasPla
 use Rattle.rlsf_global.specs.declared.live_table.codes.Codes.{Codes}
 use Rattle.rlsf_model.specs.Lists.{IsIn}
 use Rattle.rlsf_model_global.proofs.Maps.{row_at-put_here, row_at-put_other, row_at-without_here, row_at-without_other}
-use Rattle.rlsf_model_global.proofs.Rows.{IsIn-put, IsIn-without_row, absent-row_at, put-sorted, without_row-sorted}
+use Rattle.rlsf_model_global.proofs.Rows.{IsIn-put, IsIn-without_row, absent-row_at, put-sorted, without_row-sorted, clash, clash'}
 use Rattle.rlsf_model_global.specs.Rows.{IsSorted, Row, key, put, row_at, without_row}
-
-pub clash : {X : Type 0} → true ≡ false → X
-clash e = absurd (true≢false e)
-
-pub clash' : {X : Type 0} → false ≡ true → X
-clash' e = absurd (true≢false (sym e))
 
 -- ---- the entry of an address
 

@@ -8,14 +8,11 @@ use Rattle.rlsf_model_global.specs.Heap.{Heap}
 use Rattle.rlsf_model_global.specs.Moves.{HeapMovesAway, ReallocatesAsAt, ReallocatesAt, ReallocatesThereAt, ReallocatesTo, ResizesThere, ResizesTo}
 use Rattle.rlsf_model_global.specs.Rows.{Row}
 use Rattle.rlsf_model_global.specs.Steps.{DeallocatesAsAt, DeallocatesAt, Done, HeapAllocates, Placed, ReadsAt, UsableAt, WritesAt, is_same, fits}
+use Rattle.rlsf_blocks.proofs.Refused.{err_always}
 
 -- a known answer is refused by what it is
 same : {A : Type 0} (errors : List GlobalError) (r s : Result A GlobalError) → r ≡ s → RefusesOnlyBy errors s → RefusesOnlyBy errors r
 same errors r s e by = subst (λ x. RefusesOnlyBy errors x) (sym e) by
-
-on_err : {A E X : Type 0} (r : Result A E) → X → OnErr r X
-on_err (Ok a) x = tt
-on_err (Err e) x = x
 
 pub allocates_refuses : (h g : Heap) (layout : Layout) (r : Placed) → HeapAllocates h layout r g → RefusesOnlyBy (NoRoom ∷ TableMemory ∷ []) r
 allocates_refuses h g layout (Ok addr) step = tt
@@ -31,7 +28,7 @@ deallocates_refuses h g addr None r step = same (UnknownAddress ∷ []) r _ step
 deallocates_refuses h g addr (Some row) r step = same (UnknownAddress ∷ []) r _ step.0 tt
 
 -- what both answers of a test show
-either : {A B X : Type 0} (b : Bool) → MatchBool b A B → (A → X) → (B → X) → X
+pub either : {A B X : Type 0} (b : Bool) → MatchBool b A B → (A → X) → (B → X) → X
 either true m f k = f m
 either false m f k = k m
 
@@ -52,10 +49,10 @@ reads_refuses h addr offset lent (Some row) r left step = either (fits h addr of
 -- a refused read leaves what was lent
 pub refused_read_leaves : (h : Heap) (addr offset : ℕ) (lent : List ℕ) (row : Option Row) (r : Done) (left : List ℕ) → ReadsAt h addr offset lent row r left
     → OnErr r (left ≡ lent)
-refused_read_leaves h addr offset lent None r left step = on_err r step.1
+refused_read_leaves h addr offset lent None r left step = err_always r step.1
 refused_read_leaves h addr offset lent (Some row) r left step = either (fits h addr offset (length lent)) step
     (λ m. subst (λ x. OnErr x (left ≡ lent)) (sym m.0) tt)
-    (λ m. on_err r m.1)
+    (λ m. err_always r m.1)
 
 pub writes_refuses : (h g : Heap) (addr offset : ℕ) (bytes : List ℕ) (row : Option Row) (r : Done) → WritesAt h addr offset bytes row r g
     → RefusesOnlyBy (UnknownAddress ∷ OutOfRange ∷ []) r

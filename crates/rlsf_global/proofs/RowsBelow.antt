@@ -5,7 +5,7 @@ use Rattle.std.proofs.Common.{IsSome, Option, Some, None, if◌then◌else◌, a
 use Rattle.std.proofs.lemmas.Bool.Decides.{eqb_tells, leb_tells}
 use Rattle.std.specs.declared.num.NonZeroUsize.{NonZeroUsize}
 use Rattle.rlsf_base.specs.Addr.{at}
-use Rattle.rlsf_global.proofs.CodedRows.{address-fits, clash, clash', code_at-place, code_in-none, coded-at, coded-place, row_at-in, row_at-of}
+use Rattle.rlsf_global.proofs.CodedRows.{address-fits, code_at-place, code_in-none, coded-at, coded-place, row_at-in, row_at-of}
 use Rattle.rlsf_global.specs.LiveRows.{AreAddresses, AreCoded, HasPlace, code_in}
 use Rattle.rlsf_global.specs.declared.live_table.codes.Codes.{Codes}
 use Rattle.rlsf_global.proofs.ToldLayouts.{IsTold, told-row}
@@ -13,6 +13,7 @@ use Rattle.rlsf_model.specs.Lists.{IsIn}
 use Rattle.rlsf_model.specs.State.{State}
 use Rattle.rlsf_model_global.specs.Heap.{Lists}
 use Rattle.rlsf_model_global.specs.Rows.{IsSorted, Row, key, row_at}
+use Rattle.rlsf_model_global.proofs.Rows.{clash, clash'}
 
 -- ---- the entries below a bound
 

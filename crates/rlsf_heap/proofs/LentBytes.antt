@@ -13,6 +13,7 @@ use Rattle.rlsf_model.specs.WellFormed.{IsWellFormed, coverage, itself}
 use Rattle.rlsf_model.proofs.Coverage.{covers-inside, coverage-IsIn, coverage-some}
 use Rattle.rlsf_model.proofs.Payloads.{IsUsed-after_start}
 use Rattle.rlsf_table.specs.Table.{Table}
+use Rattle.rlsf_table.proofs.Tables.Tests.{same_truth}
 use Rattle.rlsf_blocks.specs.StandsFor.{contents, IsUnlent, StandsFor}
 use Rattle.rlsf_blocks.proofs.Words.Apart.{home_of_used}
 use Rattle.rlsf_heap.specs.Heap.{is_lent_at}
@@ -22,11 +23,6 @@ use Rattle.rlsf_heap.specs.Kept.{KeepsOwn}
 guarded : (g h x y : Bool) → h ≡ g → (g ≡ true → y ≡ x) → (h && y) ≡ (g && x)
 guarded true h x y same eq = ap (λ t. t && y) same ∙ eq refl
 guarded false h x y same eq = ap (λ t. t && y) same
-
-same_test : (x y : Bool) → (x ≡ true → y ≡ true) → (y ≡ true → x ≡ true) → x ≡ y
-same_test true y there back = sym (there refl)
-same_test false true there back = back refl
-same_test false false there back = refl
 
 -- whether a byte is the memory's own, or in a chunk
 abbrev has : Space → State → ℕ → Bool
@@ -125,7 +121,7 @@ lent_pools {m = m} {n = n} {s = s} {t = t} v w start own used = lent_same m n s 
         ∙ sym (or_left (is_own (out_at m a)) (leb 1 (coverage itself s.chunks a)) is)
     go a from false is =
         let chunks : leb 1 (coverage itself t.chunks a) ≡ leb 1 (coverage itself s.chunks a) =
-        same_test (leb 1 (coverage itself t.chunks a)) (leb 1 (coverage itself s.chunks a))
+        same_truth (leb 1 (coverage itself t.chunks a)) (leb 1 (coverage itself s.chunks a))
         (λ e. le-leb 1 (coverage itself s.chunks a)
         (in_chunk_still w v.well_formed (sym used) a (omega (arith, from, start)) (own a from ∙ is) (leb-true 1 (coverage itself t.chunks a) e)))
         (λ e. le-leb 1 (coverage itself t.chunks a) (in_chunk_still v w.well_formed used a from is (leb-true 1 (coverage itself s.chunks a) e))) in

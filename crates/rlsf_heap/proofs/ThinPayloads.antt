@@ -14,10 +14,10 @@ use Rattle.rlsf_model.proofs.Payloads.{IsUsed-after_start}
 use Rattle.rlsf_table.specs.Table.{Table}
 use Rattle.rlsf_blocks.specs.Steps.LiveBlock.{AtEachBlock, IsLiveIn}
 use Rattle.rlsf_blocks.specs.StandsFor.{contents, StandsFor}
+use Rattle.rlsf_blocks.proofs.Reallocate.Addresses.{some_reply}
 use Rattle.rlsf_heap.specs.Heap.{AreIssued, HeapView, Identity, IsTicketOf, PayloadView, Stands, Steps, payload_range, payload_view}
 use Rattle.rlsf_heap.specs.Raw.{IsWhole, bytes_of}
 use Rattle.rlsf_heap.specs.Thin.{reply_of}
-use Rattle.rlsf_heap.proofs.ThinValues.{one_more_than}
 use Rattle.rlsf_heap.proofs.Shown.{IsShown, block, held, usable_is}
 
 -- no payload is at the address 0
@@ -58,10 +58,6 @@ module _ {fllen sllen : ℕ} {m : Space} {table : Table} {s : State} {entries : 
       subst (λ (o : Piece). CanCome o view r) (sym (bytes.0 ∙ ap bytes_of same)) (subst (λ (u : View × Range). CanCome (bytes_of of) u.0 u.1) (λ i. (seen i, at i))
       (subst IsWhole same bytes.1))
 
--- an address that isn't 0 is a reply
-pub reply_some : (n : ℕ) → n ≢ 0 → Some n ≡ reply_of n
-reply_some n some = let (k, e) = one_more_than n some in ap (λ m. Some m) e ∙ ap reply_of (sym e)
-
 -- an allocated payload, known by its address
 module _ (fllen sllen : ℕ) (before after : HeapView) (size align : ℕ) (p q : PayloadView) (is : q ≡ p)
     (did : Steps fllen sllen after (Allocates sllen before.state size align (Some p.start))) where
@@ -70,7 +66,7 @@ module _ (fllen sllen : ℕ) (before after : HeapView) (size align : ℕ) (p q :
 
   pub thin_step : Steps fllen sllen after (Allocates sllen before.state size align (reply_of q.start))
   thin_step =
-      subst (λ o. Steps fllen sllen after (Allocates sllen before.state size align o)) ((λ i. Some (sym is i).start) ∙ reply_some q.start is_some) did
+      subst (λ o. Steps fllen sllen after (Allocates sllen before.state size align o)) ((λ i. Some (sym is i).start) ∙ some_reply q.start is_some) did
 
 -- ---- its bytes as a part
 

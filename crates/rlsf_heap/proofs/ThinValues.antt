@@ -6,17 +6,13 @@ use mir.Val.{Val, vint, vstruct, vcons, vnil}
 use base.Logic.{ent, emp}
 use base.Fml.{Fml}
 use types.Logic.{Logic, sem}
-use denote.RattleType.{RattleType}
 use denote.Builtin.{usize}
 use denote.Shadow.{shadow, makes_shadow}
 use denote.Laws.{Tells, Is}
-use denote.Struct.Struct.{Struct}
 use Rattle.core.proofs.cell.Inside.{Good}
 use Rattle.rlsf_heap.proofs.thin.ThinPayload.TheLaws.{lowers}
 use Rattle.rlsf_heap.specs.contracts.thin.ThinPayload as thin
-
-abbrev plainly : List RattleType → RattleType
-plainly Rs = Struct (record { name = []; args = []; types = []; fields = Rs })
+use Rattle.rlsf_base.proofs.RawBlock.Values.{plainly}
 
 abbrev pub addr_val : ℕ → Val
 addr_val n = vstruct (vcons (vint w64 n) vnil)

@@ -3,8 +3,9 @@ use Rattle.std.specs.Prelude.{◌≡◌, ℕ, ◌+◌, ◌≤◌, length}
 use Rattle.rlsf_base.specs.declared.memory.range.Range.{Range}
 use Rattle.rlsf_model.specs.Callers.{align_at}
 use Rattle.rlsf_model.specs.Reallocate.{HasRoomToStay}
-use Rattle.rlsf_model.specs.Sized.{IsSizedFor, live_bytes, live_count}
+use Rattle.rlsf_model.specs.Sized.{live_bytes, live_count}
 use Rattle.rlsf_model.specs.State.{State}
+pub use Rattle.rlsf_tlsf.specs.Bounds.{KeepsAllBounds, KeepsBounds}
 use Rattle.rlsf_tlsf.specs.Bounds.{KeepsBudgets}
 use Rattle.rlsf_tlsf.specs.Sizing.{SizesPool, SizesPoolForBudget}
 use Rattle.rlsf_heap.specs.Heap.{HeapView, PayloadView, lent_bytes}
@@ -87,15 +88,6 @@ pub record KeepsPayloads (before after : HeapView) : Type 0 where
   pub count : live_count after.state ≡ live_count before.state
   -- no byte is copied
   pub copied : after.memory.copied ≡ before.memory.copied
-
--- within bounds that include this size and alignment, the state after is sized for what the state before was sized for
-abbrev pub KeepsBounds : ℕ → State → State → ℕ → ℕ → Type 0
-KeepsBounds sllen before after size align =
-    (count most wide : ℕ) → IsSizedFor sllen count most wide before → size ≤ most → align ≤ wide → IsSizedFor sllen count most wide after
-
--- the state after is sized for all that the state before was sized for
-abbrev pub KeepsAllBounds : ℕ → State → State → Type 0
-KeepsAllBounds sllen before after = (count most wide : ℕ) → IsSizedFor sllen count most wide before → IsSizedFor sllen count most wide after
 
 -- a pool keeps what the state before was sized for, and the bytes of live payloads' blocks
 pub record KeepsRoom (sllen : ℕ) (before after : State) : Type 0 where

@@ -1,5 +1,5 @@
 -- The heap and its payloads, as contracts see them, and the steps that the calls make.
-use Rattle.std.specs.Prelude.{◌≡◌, ◌+◌, ◌≤◌, ◌<◌, ℕ, Bool, true, false, ◌&&◌, ◌||◌, leb, List, length, Option, Some, None}
+use Rattle.std.specs.Prelude.{◌≡◌, ◌+◌, ◌≤◌, ◌<◌, ℕ, Bool, true, false, ◌&&◌, ◌||◌, leb, List, length, Option, Some, None, All, IfSome}
 use Rattle.rlsf_base.specs.Ledger.{Entry, Extent, IsIssued}
 use Rattle.rlsf_base.specs.Changes.{IsIn}
 use Rattle.rlsf_base.specs.OpenSpace.{Home, home_of, IsAway}
@@ -92,6 +92,10 @@ payload_range p = range_at p.start (length p.bytes)
 abbrev pub addr_of : Option PayloadView → Option ℕ
 addr_of None = None
 addr_of (Some p) = Some p.start
+
+-- each payload in a list is one of this heap
+abbrev pub AreOf : Identity → List (Option PayloadView) → Type 0
+AreOf heap slots = All (λ slot. IfSome slot (λ payload. payload.identity ≡ heap)) slots
 
 -- a ticket shows a payload of the state: its address, its length, and the alignment that was requested
 abbrev pub IsPayload : State → Extent → Type 0

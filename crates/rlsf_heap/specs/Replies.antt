@@ -4,16 +4,13 @@ use Rattle.rlsf_base.specs.Layout.{IsLayout}
 use Rattle.rlsf_base.specs.Sizes.{request_size}
 use Rattle.rlsf_model.specs.Callers.{align_at, bytes_at}
 use Rattle.rlsf_model.specs.Reallocate.{Keeps}
-use Rattle.rlsf_model.specs.Sized.{IsSizedFor, live_bytes, live_count}
+use Rattle.rlsf_model.specs.Sized.{live_bytes, live_count}
 use Rattle.rlsf_model.specs.State.{AreAlike, State}
+pub use Rattle.rlsf_tlsf.specs.Bounds.{IfWithinBounds as WithinBounds}
 use Rattle.rlsf_heap.specs.Heap.{HeapView, IsOwners, IsWritten, LiesInChunk, PayloadView, payload_range}
 use Rattle.rlsf_heap.specs.Kept.{KeepsBytesBeside}
 use Rattle.rlsf_heap.specs.Reallocation.{IsKeptHere}
 use Rattle.rlsf_heap.specs.Settled.{IsSettled}
-
--- this is so within all bounds that the state is sized for, if they include this size and alignment, and at most `count` payloads are live before
-abbrev pub WithinBounds : ℕ → State → ℕ → ℕ → Type 0 → Type 0
-WithinBounds sllen s size align is = (count most wide : ℕ) → IsSizedFor sllen count most wide s → live_count s ≤ count → size ≤ most → align ≤ wide → is
 
 -- a refused call: nothing that callers see is another
 pub record IsUnchanged (before after : HeapView) : Type 0 where

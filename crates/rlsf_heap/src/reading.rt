@@ -6,11 +6,12 @@ ghost use Rattle.rlsf_int.specs.Bits.{bit};
 ghost use Rattle.rlsf_base.specs.Addr.{reply};
 ghost use Rattle.rlsf_base.specs.declared.memory.range.Range.{Range};
 ghost use Rattle.rlsf_base.specs.Range.{end_of};
+ghost use Rattle.rlsf_base.specs.SizeClass.{class_at};
 ghost use Rattle.rlsf_model.specs.Allocate.{has_class};
 ghost use Rattle.rlsf_model.specs.ChunkRows.{IsRow};
 ghost use Rattle.rlsf_model.specs.Lists.{IsIn};
 ghost use Rattle.rlsf_model.specs.Sized.{live_count};
-ghost use Rattle.rlsf_table.specs.Table.{class_at, is_in_row, newest_of, of_class};
+ghost use Rattle.rlsf_table.specs.Table.{is_in_row, newest_of, of_class};
 ghost use Rattle.rlsf_blocks.specs.Blocks.{AreBlocks, walked};
 
 use crate::heap::Heap;

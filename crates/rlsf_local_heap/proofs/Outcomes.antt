@@ -1,5 +1,5 @@
 -- What follows from a call that may return nothing, or an error.
-use Rattle.std.proofs.Common.{◌≡◌, ◌≢◌, ℕ, Option, Some, None, Result, Ok, Err, IfSome, IfNone, IfOk, IfErr, IsSome, IsNone, MatchResult, is_ok, refl, true≢false, sym, ap, subst, ◌∙◌}
+use Rattle.std.proofs.Common.{◌≡◌, ◌≢◌, ℕ, Option, Some, None, Result, Ok, Err, IfSome, IfNone, IfOk, IfErr, IsSome, IsNone, MatchResult, is_ok, refl, true≢false, sym, ap, ◌∙◌}
 use Rattle.rlsf_base.specs.declared.memory.unit_payload.UnitPayload.{UnitPayload}
 use Rattle.rlsf_model.specs.Callers.{align_at}
 use Rattle.rlsf_model.specs.State.{State}
@@ -10,18 +10,6 @@ use Rattle.rlsf_heap.specs.Frame.{KeepsFrameBeside}
 use Rattle.rlsf_heap.specs.Units.{IsUnitRefused, IsUnitResized, heap_of, payload_len, unit_addr_of}
 use Rattle.rlsf_heap.proofs.Frames.{heap_same}
 use Rattle.rlsf_local_heap.specs.Resized.{IsAtSamePlace}
-
--- what holds of each value holds of none
-pub of_none : {A : Type 0} {r : Option A} (Is : A → Type 0) → r ≡ None → IfSome r Is
-of_none Is none = subst (λ o. IfSome o Is) (sym none) tt
-
--- what holds if there is no value holds of none
-pub at_none : {A : Type 0} {r : Option A} (Is : Type 0) → r ≡ None → Is → IfNone r Is
-at_none Is none is = subst (λ o. IfNone o Is) (sym none) is
-
-pub each_value : {A : Type 0} {Is Has : A → Type 0} (r : Option A) → ((x : A) → Is x → Has x) → IfSome r Is → IfSome r Has
-each_value None f is = tt
-each_value (Some x) f is = f x is
 
 pub each_result : {A B : Type 0} {Is Has : A → Type 0} {Was Had : B → Type 0} (r : Result A B) → ((x : A) → Is x → Has x) → ((y : B) → Was y → Had y)
     → MatchResult r Is Was → MatchResult r Has Had
@@ -63,10 +51,6 @@ pub both : {A B : Type 0} (P Q : A → B → Type 0) (o : Option A) (r : Option 
 both P Q None r is has = tt
 both P Q (Some x) None is has = tt
 both P Q (Some x) (Some y) is has = (is, has)
-
-pub if_none : {A : Type 0} {Is Has : Type 0} (o : Option A) → (Is → Has) → IfNone o Is → IfNone o Has
-if_none None f is = f is
-if_none (Some x) f is = tt
 
 -- of a heap that doesn't change, no byte becomes raw
 none_raw_beside-none : (v : HeapView) (r : Range) → NoneBecomesRawBeside v v r

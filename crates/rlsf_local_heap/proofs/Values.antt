@@ -1,18 +1,13 @@
 -- The machine values of a block for some values: what is owned determines them, and is made of nothing. Assumes `Logic`.
 use Rattle.std.proofs.Common.{◌≡◌, List, [], ◌∷◌, ◌++◌, refl, ◌∙◌}
+use Rattle.rlsf_base.proofs.RawBlock.Values.{plainly}
 use seplogic.Ra.Ura.{Ura}
 use mir.Val.{Val, vstruct, vcons, vnil, of_list}
 use base.Logic.{ent, emp}
 use base.Fml.{Fml}
 use types.Logic.{Logic, sem}
-use denote.RattleType.{RattleType}
 use denote.RawPtr.{Ptr, RawPtr, ptr_val}
 use denote.Shadow.{shadow, makes_shadow}
-use denote.Struct.Struct.{Struct}
-
--- a struct by its fields alone: what it owns does not read its name
-abbrev plainly : List RattleType → RattleType
-plainly Rs = Struct (record { name = []; args = []; types = []; fields = Rs })
 
 abbrev pub list_val : Ptr → Val
 list_val p0 = vstruct (vcons (ptr_val p0) (vcons (vstruct vnil) vnil))

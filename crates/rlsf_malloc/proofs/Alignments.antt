@@ -8,7 +8,7 @@ use Rattle.rlsf_model.specs.State.{Used}
 use Rattle.rlsf_model.specs.WellFormed.{IsUsed}
 use Rattle.rlsf_model.proofs.CallerWords.{align_at-live}
 use Rattle.rlsf_model.proofs.Payloads.{IsUsed-aligned}
-use Rattle.rlsf_blocks.proofs.Words.Frames.{wide_whole}
+use Rattle.rlsf_model.proofs.RangeLengths.{wide_whole}
 use Rattle.rlsf_heap.specs.Heap.{HeapView, Stands}
 
 -- a power of two from 16 on is 16, or 32 or more

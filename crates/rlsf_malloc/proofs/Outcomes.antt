@@ -1,12 +1,11 @@
 -- What the calls of a heap return, as the exports say it.
-use Rattle.std.proofs.Common.{◌≡◌, ◌≢◌, ◌≤◌, ℕ, zero, suc, ◌+◌, ◌-◌, length, List, [], Bool, Some, None, arith, refl, sym, subst, ◌∙◌, ap, false, true, inl, inr}
+use Rattle.std.proofs.Common.{◌≡◌, ◌≢◌, ◌≤◌, ℕ, ◌+◌, ◌-◌, length, List, [], Bool, Some, None, arith, refl, sym, subst, ◌∙◌, ap, false, true, inl, inr}
 use Rattle.std.proofs.lemmas.Bool.{cases_eq, cases_lt, false≢true}
 use denote.RawPtr.{Ptr}
 use Rattle.rlsf_base.specs.OpenSpace.{IsAway, home_of, place_in}
 use Rattle.rlsf_base.proofs.Changes.{changed-behind, changed-there, none-out}
-use Rattle.rlsf_base.specs.Changes.{IsAllOwn, IsIn as IsHereIn}
 use Rattle.rlsf_base.specs.Layout.{IsLayout}
-use Rattle.rlsf_base.specs.Out.{Change, here, out, is_own, kept_at}
+use Rattle.rlsf_base.specs.Out.{Change, out, is_own, kept_at}
 use Rattle.rlsf_base.specs.Range.{AreApart, end_of}
 use Rattle.rlsf_base.specs.Space.{Space, range_of}
 use Rattle.rlsf_base.specs.declared.memory.range.Range.{Range}
@@ -33,11 +32,6 @@ step_of fllen sllen new P step = step.0
 pub some-same : {m n : ℕ} → Some m ≡ Some n → m ≡ n
 some-same e = cc
 
--- a number that isn't 0 is an address
-pub reply_some : (n : ℕ) → n ≢ 0 → Some n ≡ reply_of n
-reply_some zero some = absurd (some refl)
-reply_some (suc n) some = refl
-
 pub same_heap : (old new : HeapView) → new.identity ≡ old.identity
     → (new.memory.start ≡ old.memory.start) × (length new.memory.bytes ≡ length old.memory.bytes) → IsReady new → new.lent ≡ old.lent
     → ((r : Range) → IsLent old r → IsLent new r) → IsSameHeap old new
@@ -51,18 +45,6 @@ itself_heap v ready = same_heap v v refl (refl, refl) ready refl (λ r is. is)
 -- a heap that is the same one is so beside any range
 pub same_beside : {u v : HeapView} (r : Range) → IsSameHeap u v → IsSameBeside r u v
 same_beside r h = record { identity = h.identity; start = h.start; len = h.len; ready = h.ready; lent = h.lent; ranges = λ q is apart. h.ranges q is }
-
--- where nothing changed, each byte is the memory's own
-pub all_own : (cs : List Change) → cs ≡ [] → IsAllOwn cs
-unfolding kept_at
-all_own cs none k = ap (λ (ds : List Change). is_own (kept_at ds k)) none
-
--- a memory of which no byte is raw or out has all its bytes here
-pub all_here : (m : Space) → IsSettled m → IsAllOwn m.out → IsHereIn m.out 0 (length m.bytes)
-unfolding IsSettled
-all_here m settled own k low high =
-    let e : m.start + k - m.start ≡ k = omega arith in
-    subst (λ (n : ℕ). kept_at m.out n ≡ here) e (settled (m.start + k) (omega arith) (subst (λ (n : ℕ). is_own (kept_at m.out n) ≡ true) (sym e) (own k)))
 
 -- a heap over addresses is fresh
 pub fresh : (p : Ptr) (start len : ℕ) (m : Space) (v : HeapView) → IsOver m v → m.start ≡ start → length m.bytes ≡ len

@@ -12,7 +12,7 @@ use Rattle.rlsf_heap.specs.Thin.{reply_of}
 use Rattle.rlsf_heap.specs.ThinUnknownAlign.{StaysOrMoves}
 use Rattle.rlsf_malloc.specs.Calls.{IsSameHeap}
 use Rattle.rlsf_malloc.specs.Resizing.{IsRefused, IsResized, Resizes, ResizesThere, ResizesWide}
-use Rattle.rlsf_malloc.proofs.Outcomes.{reply_some}
+use Rattle.rlsf_blocks.proofs.Reallocate.Addresses.{some_reply}
 
 -- where nothing is done, nothing changes
 pub unchanged : (v : HeapView) (p : PayloadView) → IsWritten p → IsRefused v p p v
@@ -56,7 +56,7 @@ module _ (old new : HeapView) (same : IsSameHeap old new) (p : PayloadView) (add
     resized q to is nonzero layout step done count = record {
       no_layout = λ never. absurd (never layout);
       step = λ l. subst (λ (n : ℕ). Reallocates sllen (owned_by old.state p) n size (reply_of to) new.state) (sym at)
-          (subst (λ o. Reallocates sllen (owned_by old.state p) addr size o new.state) (reply_some q.start nonzero ∙ ap reply_of (sym is)) (step l));
+          (subst (λ o. Reallocates sllen (owned_by old.state p) addr size o new.state) (some_reply q.start nonzero ∙ ap reply_of (sym is)) (step l));
       heap = same;
       at = λ _. sym is;
       resized = λ _. done;
@@ -85,7 +85,7 @@ module _ (old new : HeapView) (same : IsSameHeap old new) (p : PayloadView) (add
     at = λ _. is ∙ there ∙ sym at;
     no_layout = λ never. absurd (never layout);
     step = λ _. subst (λ (n : ℕ). ReallocatesWithoutMove (owned_by old.state p) n size (reply_of to) new.state) (sym at)
-        (subst (λ o. ReallocatesWithoutMove (owned_by old.state p) addr size o new.state) (reply_some q.start (λ e. some (sym there ∙ e)) ∙ ap reply_of (sym is)) step);
+        (subst (λ o. ReallocatesWithoutMove (owned_by old.state p) addr size o new.state) (some_reply q.start (λ e. some (sym there ∙ e)) ∙ ap reply_of (sym is)) step);
     heap = same;
     resized = λ _. done;
     refused = λ e. absurd (some (sym there ∙ sym is ∙ e));
@@ -115,7 +115,7 @@ module _ (old new : HeapView) (same : IsSameHeap old new) (p : PayloadView) (add
       stays = λ _ long. is ∙ enough long ∙ sym at;
       no_layout = λ never. absurd (never layout);
       step = λ _. subst (λ (n : ℕ). StaysOrMoves sllen (owned_by old.state p) n size 16 (reply_of to) new.state) (sym at)
-          (subst (λ o. StaysOrMoves sllen (owned_by old.state p) addr size 16 o new.state) (reply_some q.start nonzero ∙ ap reply_of (sym is)) step);
+          (subst (λ o. StaysOrMoves sllen (owned_by old.state p) addr size 16 o new.state) (some_reply q.start nonzero ∙ ap reply_of (sym is)) step);
       heap = same;
       at = λ _. sym is;
       there = λ e. there (sym is ∙ e ∙ at);

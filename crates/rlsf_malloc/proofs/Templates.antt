@@ -6,6 +6,7 @@ pub mod Gives1
 pub mod Gives2
 pub mod Lends2
 pub mod Lists
+pub mod Signatures
 pub mod Takes
 pub mod Trades0
 pub mod Trades1

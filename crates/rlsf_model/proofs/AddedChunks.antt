@@ -14,7 +14,7 @@ use Rattle.rlsf_model.proofs.Cuts.{IsIn-cut_within, chunks_are_cut_off_the_front
 
 -- ---- the last chunk
 
-IsIn-end_of_last : (c : Range) (cs : List Range) → (d : Range) × IsIn d (c ∷ cs) × (end_of d ≡ end_of_last (end_of c) cs)
+pub IsIn-end_of_last : (c : Range) (cs : List Range) → (d : Range) × IsIn d (c ∷ cs) × (end_of d ≡ end_of_last (end_of c) cs)
 IsIn-end_of_last c [] = (c, inl refl, refl)
 IsIn-end_of_last c (d ∷ ds) = let (x, is_in, ends) = IsIn-end_of_last d ds in (x, inr is_in, ends)
 

@@ -6,31 +6,29 @@ use Rattle.std.proofs.lemmas.List.Sums.{sum_by-cons}
 use Rattle.std.proofs.lemmas.List.Filters.{length-filter_both}
 use Rattle.std.proofs.Math.Nat.{mul-le-mul_right}
 use Rattle.rlsf_base.specs.declared.memory.range.Range.{Range}
-use Rattle.rlsf_base.specs.Range.{range_at}
 use Rattle.rlsf_base.specs.PowerOfTwo.{IsPowerOfTwo}
 use Rattle.rlsf_base.specs.Sizes.{request_size}
 use Rattle.rlsf_base.proofs.Numbers.Roundings.{round32-mono}
 use Rattle.rlsf_model.specs.Allocate.{placed, Allocates}
 use Rattle.rlsf_model.specs.Budget.{total_len, used_bytes, AreFronts, IsFront, AreAtMost, IsModest, IsFrugal, IsRequest, RunsFrugally, RunsModestly, HasBudget, HasRoomFor, IsDenied, live_after, AsksWithin, AreWithin}
-use Rattle.rlsf_model.specs.Insert.{with_chunk}
 use Rattle.rlsf_model.specs.Lists.{IsIn}
 use Rattle.rlsf_model.specs.Reallocate.{Plan, plan, moved, ReallocatesBy}
 use Rattle.rlsf_model.specs.Release.{Deallocates}
 use Rattle.rlsf_model.specs.Run.{Event, insert, append, allocate, deallocate, reallocate, fill, remove, trim, IsRemoval, Leads, MayCall, Runs}
 use Rattle.rlsf_model.specs.Sizing.{FrugalRunsAreNotDenied, ModestRunsAreNotDenied, LiveIsCounted, BoundedRunsAreNotDenied}
-use Rattle.rlsf_model.specs.State.{empty, State, Used, Holds, others, filled_if, filled_at}
+use Rattle.rlsf_model.specs.State.{State, Used, Holds, others, filled_if, filled_at}
 use Rattle.rlsf_model.specs.WellFormed.{IsWellFormed}
 use Rattle.rlsf_model.proofs.Allocations.{Allocates-keeps}
 use Rattle.rlsf_model.proofs.Changes.{IsIn-others}
 use Rattle.rlsf_model.proofs.Choices.{choice-none, choice-some}
 use Rattle.rlsf_model.proofs.Chunks.{chunks_stay, used-inserted, used-appended}
-use Rattle.rlsf_model.proofs.Coverage.{by_test, covers-le}
+use Rattle.rlsf_model.proofs.Coverage.{by_test, covers-le, IsIn-filter}
 use Rattle.rlsf_model.proofs.Fillings.{shape-filled_from}
 use Rattle.rlsf_model.proofs.Live.{live_address_has_one_block}
-use Rattle.rlsf_model.proofs.Parts.{begins_in, part, IsIn-filter, length-filter_le, part_is_well_formed, have_chunks}
+use Rattle.rlsf_model.proofs.Parts.{begins_in, part, length-filter_le, part_is_well_formed, have_chunks}
 use Rattle.rlsf_model.proofs.Payloads.{payload_of-le, block_length-request}
 use Rattle.rlsf_model.proofs.Plans.{IsSoundPlan, IsSound-plan}
-use Rattle.rlsf_model.proofs.Steps.{empty_is_well_formed, steps_keep_well_formed}
+use Rattle.rlsf_model.proofs.Steps.{steps_keep_well_formed}
 use Rattle.rlsf_model.proofs.Sums.{bytes_add_up, taken_free}
 
 -- ---- one call
@@ -66,7 +64,7 @@ never_denied live bytes most {fllen} {sllen} {memory} {s} w fronts are room few 
     subst (λ k. 32 * k + bytes + (live + k) * (least - 32) < total_len fronts) (sym have.count) room.enough in
     let used = used_bytes-filter (λ u. begins_in cs u.block) s.used in
     let (f, i, reached) = taken_free p wp most least (request_size size align) room.taken fits (omega (arith, bytes_add_up fllen sllen memory p wp, used, have.longer)) in
-    choice-none sllen (request_size size align) s.free step.0 f (IsIn-filter (begins_in cs) f s.free i) reached
+    choice-none sllen (request_size size align) s.free step.0 f (IsIn-filter (begins_in cs) f s.free i).0 reached
 
 -- a budget is room for as many blocks of the greatest length
 HasRoomFor-budget : {live most sllen : ℕ} {fronts : List Range} → HasBudget live most sllen fronts → HasRoomFor live (live * most) most sllen fronts
@@ -362,24 +360,3 @@ AreFronts-one c chunks i some = record {
   each = λ r. elim [ inl same ↦ subst (IsFront chunks) (sym same) (c, i, refl, omega arith, some) | inr none ↦ absurd none ];
   disjoint = λ a. omega (arith, covers-le c a);
 }
-
--- the chunks of a well-formed state are all fronts
-pub AreFronts-chunks : {fllen sllen : ℕ} {memory : Range} (s : State) → IsWellFormed fllen sllen memory s → AreFronts s.chunks s.chunks
-AreFronts-chunks s w = record {
-  each = λ c i. (c, i, refl, omega arith, let room = (w.chunks c i).has_room in omega arith);
-  disjoint = w.disjoint;
-}
-
--- ---- an example
-
--- a chunk of 384 bytes has room for four payloads of 48 bytes or fewer, whatever was allocated and freed before, and
--- whatever memory came
-four_payloads : (t : State) (es : List Event) → Runs 8 8 (range_at 4096 8192) (with_chunk (range_at 4096 384) empty) es t → AreWithin 3 48 16 0 es → (e : Event) → IsIn e es
-    → IsDenied e → ⊥
-four_payloads t es run within =
-    let memory = range_at 4096 8192 in
-    let c = range_at 4096 384 in
-    let w = steps_keep_well_formed 8 8 memory empty (with_chunk c empty) (insert c (Some 384)) (empty_is_well_formed 8 8 memory (omega arith) (omega arith) (omega arith))
-    (record { lies_in = (omega arith, omega arith); apart = λ a low high. refl }) (record { answer = refl; after = refl }) in
-    bounded_runs_are_not_denied 3 48 16 8 8 memory (with_chunk c empty) t (c ∷ []) es w refl (AreFronts-one c (c ∷ []) (inl refl) (omega arith))
-    (record { least = 64; taken = record { is = (omega arith, omega arith); reaches = omega arith }; enough = omega arith }) run within

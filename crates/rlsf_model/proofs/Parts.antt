@@ -1,5 +1,5 @@
 -- A part of a state: some of its chunks, with the blocks in them.
-use Rattle.std.proofs.Common.{◌≡◌, ℕ, suc, ◌+◌, ◌<◌, ◌≤◌, ◌⊎◌, Bool, cond, filter, ltb, List, [], ◌∷◌, length, arith, refl, sym, ap, subst, inl}
+use Rattle.std.proofs.Common.{◌≡◌, ℕ, suc, ◌+◌, ◌<◌, ◌≤◌, Bool, cond, filter, ltb, List, [], ◌∷◌, length, arith, refl, sym, ap, subst, inl}
 use Rattle.std.proofs.Common.{inr}
 use Rattle.std.proofs.lemmas.Bool.{cases_lt, lt-ltb, le-ltb}
 use Rattle.std.proofs.lemmas.List.Sums.{sum_by-cons}
@@ -10,7 +10,7 @@ use Rattle.rlsf_model.specs.Lists.{IsIn}
 use Rattle.rlsf_model.specs.State.{State}
 use Rattle.rlsf_model.specs.WellFormed.{covers, coverage, itself, last_bytes, IsWellFormed}
 use Rattle.rlsf_model.proofs.Changes.{IsApart-within}
-use Rattle.rlsf_model.proofs.Coverage.{by_test, inside, before, behind, where_is, covers-inside, coverage-IsIn, coverage-some, coverage-unique}
+use Rattle.rlsf_model.proofs.Coverage.{by_test, inside, before, behind, where_is, covers-inside, coverage-IsIn, coverage-some, coverage-unique, IsIn-filter}
 use Rattle.rlsf_model.proofs.Payloads.{IsUsed-some}
 use Rattle.rlsf_model.proofs.Sums.{coverage-le}
 use Rattle.rlsf_model.proofs.Tiling.{block_of, blocks, tiling_of, LiesInChunk, lies_in_chunk, IsPart-free, IsPart-used, IsWellFormed-from}
@@ -22,13 +22,6 @@ begins_in cs r = ltb 0 (coverage itself cs r.start)
 -- some chunks, and of a state the blocks that begin in them
 abbrev pub part : List Range → State → State
 part cs s = record { chunks = cs; used = filter (λ u. begins_in cs u.block) s.used; free = filter (begins_in cs) s.free }
-
-pub IsIn-filter : {A : Type 0} (p : A → Bool) (x : A) (xs : List A) → IsIn x (filter p xs) → IsIn x xs
-IsIn-filter p x [] i = absurd i
-IsIn-filter p x (y ∷ xs) i = by_test (p y)
-    (λ e. let left : (x ≡ y) ⊎ IsIn x (filter p xs) = subst (λ b. IsIn x (cond b (y ∷ filter p xs) (filter p xs))) e i in
-    elim left [ inl same ↦ inl same | inr j ↦ inr (IsIn-filter p x xs j) ])
-    (λ e. inr (IsIn-filter p x xs (subst (λ b. IsIn x (cond b (y ∷ filter p xs) (filter p xs))) e i)))
 
 pub length-filter_le : {A : Type 0} (p : A → Bool) (xs : List A) → length (filter p xs) ≤ length xs
 length-filter_le p [] = omega arith
@@ -141,11 +134,11 @@ module _ {fllen sllen : ℕ} {memory : Range} {s : State} (w : IsWellFormed flle
     row_length = w.row_length;
     addressable = w.addressable;
     chunks = λ c i. w.chunks c (are c i);
-    used = λ u i. w.used u (IsIn-filter (λ v. begins_in cs v.block) u s.used i);
-    whole = λ f i. let is = w.free f (IsIn-filter (begins_in cs) f s.free i) in (is.whole, is.some);
+    used = λ u i. w.used u (IsIn-filter (λ v. begins_in cs v.block) u s.used i).0;
+    whole = λ f i. let is = w.free f (IsIn-filter (begins_in cs) f s.free i).0 in (is.whole, is.some);
     disjoint = disjoint;
     tiled = part_tiled disjoint;
-    apart = IsApart-within (filter (begins_in cs) s.free) s.free (λ f i. IsIn-filter (begins_in cs) f s.free i) w.apart;
+    apart = IsApart-within (filter (begins_in cs) s.free) s.free (λ f i. (IsIn-filter (begins_in cs) f s.free i).0) w.apart;
   })
 
 -- ---- the chunks of some fronts

@@ -28,7 +28,7 @@ range_length-is t e len told = elim (cases_lt t.min_align 32) [
 ]
 
 -- a multiple of an alignment of 32 or more is one of 32
-wide_whole : (p align : ℕ) → IsPowerOfTwo align → 32 ≤ align → p % align ≡ 0 → p % 32 ≡ 0
+pub wide_whole : (p align : ℕ) → IsPowerOfTwo align → 32 ≤ align → p % align ≡ 0 → p % 32 ≡ 0
 wide_whole p align power wide multiple =
     let k = floor_log2 align in
     let order : 5 ≤ k = pow-between align 5 k wide (floor_log2-lt align (omega arith)) in

@@ -35,7 +35,7 @@ unfolding live_count
 live_count-empty = refl
 
 -- the alignment that is found at an address is that of the block there
-aligned : {fllen sllen : ℕ} {memory : Range} {s : State} → IsWellFormed fllen sllen memory s → (addr a : ℕ) → align_at s addr ≡ Some a → (u : Used) → Holds s addr u
+pub aligned : {fllen sllen : ℕ} {memory : Range} {s : State} → IsWellFormed fllen sllen memory s → (addr a : ℕ) → align_at s addr ≡ Some a → (u : Used) → Holds s addr u
     → u.align ≡ a
 aligned w addr a live u holds = same (sym (align_at-held w addr u holds) ∙ live)
   where

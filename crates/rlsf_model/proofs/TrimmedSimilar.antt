@@ -14,7 +14,7 @@ use Rattle.rlsf_model.proofs.Orders.{HasSame, HasSame-filter}
 use Rattle.rlsf_model.proofs.Tiling.{block_of}
 use Rattle.rlsf_model.proofs.Trims.{EndsLast-same}
 
-AreSimilar-sym : {s s' : State} → AreSimilar s s' → AreSimilar s' s
+pub AreSimilar-sym : {s s' : State} → AreSimilar s s' → AreSimilar s' s
 AreSimilar-sym r = record { chunks = λ c. ((r.chunks c).1, (r.chunks c).0); used = λ h. ((r.used h).1, (r.used h).0); free = sym r.free }
 
 -- a range holds a used block in both states or in none

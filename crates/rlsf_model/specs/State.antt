@@ -1,5 +1,5 @@
 -- The state of the reference model.
-use Rattle.std.specs.Prelude.{◌≡◌, ◌↔◌, ℕ, ◌-◌, ◌≤◌, List, [], ◌++◌, ◌==◌, if◌then◌else◌, not, drop, filter, map, take}
+use Rattle.std.specs.Prelude.{◌≡◌, ◌↔◌, ℕ, ◌-◌, List, [], ◌++◌, ◌==◌, if◌then◌else◌, not, drop, filter, map, take}
 use Rattle.rlsf_base.specs.declared.memory.range.Range.{Range}
 use Rattle.rlsf_base.specs.Range.{end_of, range_at}
 use Rattle.rlsf_model.specs.Lists.{IsIn}
@@ -40,17 +40,9 @@ Holds s addr u = IsIn u s.used × (u.payload ≡ addr)
 abbrev pub IsLive : State → ℕ → ℕ → Type 0
 IsLive s addr align = (u : Used) × Holds s addr u × (u.align ≡ align)
 
--- some used block has the address, and that alignment, and so many usable bytes or more
-abbrev pub IsPlaced : State → ℕ → ℕ → ℕ → Type 0
-IsPlaced s addr size align = (u : Used) × Holds s addr u × (u.align ≡ align) × (size ≤ (usable u).len)
-
 -- some used block has the address, and these bytes
 abbrev pub HasBytes : State → ℕ → List ℕ → Type 0
 HasBytes s addr bytes = (u : Used) × Holds s addr u × (u.bytes ≡ bytes)
-
--- some used block has the address, and its caller may use at least so many bytes from there on
-abbrev pub HasFront : State → ℕ → ℕ → Type 0
-HasFront s addr len = (u : Used) × Holds s addr u × (len ≤ (usable u).len)
 
 -- the first len bytes of one list, and behind them those of another from there on
 abbrev pub with_front : ℕ → List ℕ → List ℕ → List ℕ

@@ -18,6 +18,7 @@ use Rattle.rlsf_model.specs.State.{with_front}
 use Rattle.rlsf_model.proofs.CallerWords.{align_at-some}
 use Rattle.rlsf_model.proofs.Similar.{fill_is_similar, similar_states_agree}
 use Rattle.rlsf_model.proofs.Steps.{steps_keep_well_formed}
+use Rattle.rlsf_model.proofs.TrimmedSimilar.{AreSimilar-sym}
 use Rattle.rlsf_model_global.specs.declared.error.GlobalError.{GlobalError}
 use Rattle.rlsf_model_global.specs.declared.error.GlobalError.TheVariants.{NoRoom, OutOfRange, TableMemory, WrongLayout}
 use Rattle.rlsf_model_global.specs.Cursor.{PageCursor, PageLeads, terms_of}
@@ -31,7 +32,7 @@ use Rattle.rlsf_model_global.specs.Steps.{DeallocatesAsAt, DeallocatesAt, Done, 
 use Rattle.rlsf_model_global.proofs.StepLeavesFlex.{flex_goes}
 use Rattle.rlsf_model_global.proofs.StepLeavesHeap.{live_row}
 use Rattle.rlsf_model_global.proofs.EqualNumbers.{same_address, same_layout}
-use Rattle.rlsf_model_global.proofs.Similars.{AreSimilar-sym, AreSimilar-trans, flex_determined, lengths-same, same_placement-at, unmoved-similar}
+use Rattle.rlsf_model_global.proofs.Similars.{AreSimilar-trans, flex_determined, lengths-same, same_placement-at, unmoved-similar}
 
 -- by the result of a test of both
 both : (A B A' B' C : Type 0) (b : Bool) → (A → A' → C) → (B → B' → C) → MatchBool b A B → MatchBool b A' B' → C

@@ -6,10 +6,10 @@ use Rattle.rlsf_model.specs.Lists.{IsIn}
 use Rattle.rlsf_model_global.specs.Rows.{Row, key, IsSorted, row_at, put, without_row}
 
 -- a test isn't both
-clash : {X : Type 0} → true ≡ false → X
+pub clash : {X : Type 0} → true ≡ false → X
 clash e = absurd (true≢false e)
 
-clash' : {X : Type 0} → false ≡ true → X
+pub clash' : {X : Type 0} → false ≡ true → X
 clash' e = absurd (true≢false (sym e))
 
 -- what is in the entries with one more

@@ -18,6 +18,7 @@ use Rattle.rlsf_model.proofs.CallerWords.{bytes_at-held}
 use Rattle.rlsf_model.proofs.FlexSimilar.{flex_similar_states_agree}
 use Rattle.rlsf_model.proofs.Notes.{AnswersAgree-led, led-determined}
 use Rattle.rlsf_model.proofs.Similar.{reallocate-similar, shape-held}
+use Rattle.rlsf_model.proofs.TrimmedSimilar.{AreSimilar-sym}
 use Rattle.rlsf_model_global.specs.Cursor.{PageCursor, PageLeads, terms_of}
 use Rattle.rlsf_model_global.specs.Heap.{HaveSamePlacement, Heap}
 use Rattle.rlsf_model_global.proofs.PageAnswers.{valid64}
@@ -26,9 +27,6 @@ use Rattle.rlsf_model_global.proofs.PageAnswers.{valid64}
 
 pub AreSimilar-refl : (s : State) → AreSimilar s s
 AreSimilar-refl s = record { chunks = λ c. (λ i. i, λ i. i); used = λ x. (λ i. i, λ i. i); free = refl }
-
-pub AreSimilar-sym : {s t : State} → AreSimilar s t → AreSimilar t s
-AreSimilar-sym r = record { chunks = λ c. ((r.chunks c).1, (r.chunks c).0); used = λ x. ((r.used x).1, (r.used x).0); free = sym r.free }
 
 pub AreSimilar-trans : {s t u : State} → AreSimilar s t → AreSimilar t u → AreSimilar s u
 AreSimilar-trans r q = record {

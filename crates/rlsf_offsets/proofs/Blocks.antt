@@ -1,13 +1,13 @@
 -- The blocks of a shadow, and their totals.
-use Rattle.std.proofs.Common.{◌≡◌, ℕ, ◌+◌, ◌-◌, ◌*◌, ◌/◌, ◌%◌, ◌^◌, ◌<◌, ◌≤◌, Bool, true, false, cond, not, List, [], ◌∷◌, map, arith, inl, inr, refl, sym, ◌∙◌, ap, subst}
+use Rattle.std.proofs.Common.{◌≡◌, ℕ, ◌+◌, ◌-◌, ◌*◌, ◌/◌, ◌%◌, ◌^◌, ◌<◌, ◌≤◌, Bool, true, false, List, [], ◌∷◌, map, arith, inl, inr, refl, sym, ◌∙◌, ap, subst}
 use Rattle.std.proofs.lemmas.Bool.{cases_lt}
-use Rattle.std.proofs.lemmas.List.Sums.{sum_by-cons}
 use Rattle.std.proofs.Math.Nat.{mul-le-mul_right, mul_assoc}
 use Rattle.rlsf_base.specs.declared.memory.range.Range.{Range}
 use Rattle.rlsf_base.specs.Range.{end_of, range_at}
 use Rattle.rlsf_blocks.specs.Blocks.{AreBlocks, Block, HasBlock, IsInOrder, free, used, walked}
 use Rattle.rlsf_blocks.specs.declared.totals.Totals.{Totals}
 use Rattle.rlsf_blocks.specs.Totals.{AreTotalsOf, free_of, greatest, total, used_of}
+use Rattle.rlsf_blocks.proofs.Walking.Totals.{free_cons, free_skip, total_cons, used_cons, used_skip}
 use Rattle.rlsf_model.specs.ChunkRows.{IsRow}
 use Rattle.rlsf_model.specs.Lists.{IsIn}
 use Rattle.rlsf_model.specs.WellFormed.{coverage, itself, last_bytes}
@@ -16,7 +16,7 @@ use Rattle.rlsf_model.proofs.Payloads.{IsUsed-some}
 use Rattle.rlsf_model.proofs.Tiling.{IsPart-free, IsPart-used, block_of, lies_in_chunk, tiling_of}
 use Rattle.rlsf_tlsf.specs.Allocator.{Allocator}
 use Rattle.rlsf_offsets.specs.declared.stats.Stats.{Stats}
-use Rattle.rlsf_offsets.specs.Iteration.{AreInSpace, IsInSpace}
+use Rattle.rlsf_offsets.specs.Iteration.{AreInSpace}
 use Rattle.rlsf_offsets.specs.Blocks.{AreAllBlocks, AreStats, AreTotals, AreWithin}
 use Rattle.rlsf_offsets.specs.Units.{IsShadow, Offsets, offsets, whole_shadow}
 use Rattle.rlsf_offsets.proofs.Ranges.{chunk_end}
@@ -104,21 +104,6 @@ pub AreWithin-blocks : {units : ℕ} {a : Allocator} → IsShadow units a → (b
 AreWithin-blocks is bs all = λ b i. let home = lies is b ((all.exactly b).0 i) in (home.from, home.to)
 
 -- ---- their totals
-
-used_cons : (b : Block) (bs : List Block) → b.is_occupied ≡ true → used_of (b ∷ bs) ≡ b ∷ used_of bs
-used_cons b bs e = ap (λ k. cond k (b ∷ used_of bs) (used_of bs)) e
-
-used_skip : (b : Block) (bs : List Block) → b.is_occupied ≡ false → used_of (b ∷ bs) ≡ used_of bs
-used_skip b bs e = ap (λ k. cond k (b ∷ used_of bs) (used_of bs)) e
-
-free_cons : (b : Block) (bs : List Block) → b.is_occupied ≡ false → free_of (b ∷ bs) ≡ b ∷ free_of bs
-free_cons b bs e = ap (λ k. cond (not k) (b ∷ free_of bs) (free_of bs)) e
-
-free_skip : (b : Block) (bs : List Block) → b.is_occupied ≡ true → free_of (b ∷ bs) ≡ free_of bs
-free_skip b bs e = ap (λ k. cond (not k) (b ∷ free_of bs) (free_of bs)) e
-
-total_cons : (b : Block) (bs : List Block) → total (b ∷ bs) ≡ b.range.len + total bs
-total_cons b bs = sum_by-cons (λ (c : Block). c.range.len) b bs
 
 abbrev longest_of : List Block → ℕ
 longest_of bs = greatest (map (λ (b : Block). b.range.len) bs)
@@ -237,13 +222,3 @@ AreInSpace-within unit units bs within fits b i =
     let (from, to) = within b i in
     let few : (end_of b.range - (2 ^ 62 - 32)) / 32 * unit ≤ units * unit = mul-le-mul_right unit (omega (arith, from, to)) in
     (from, omega (arith, few, fits))
-
-pub offset_fits : (unit : ℕ) (b : Block) → IsInSpace unit b → (b.range.start - (2 ^ 62 - 32)) / 32 * unit < 2 ^ 64
-offset_fits unit b is =
-    let few : (b.range.start - (2 ^ 62 - 32)) / 32 * unit ≤ (end_of b.range - (2 ^ 62 - 32)) / 32 * unit = mul-le-mul_right unit (omega arith) in
-    omega (arith, few, is.1)
-
-pub len_fits : (unit : ℕ) (b : Block) → IsInSpace unit b → b.range.len / 32 * unit < 2 ^ 64
-len_fits unit b is =
-    let few : b.range.len / 32 * unit ≤ (end_of b.range - (2 ^ 62 - 32)) / 32 * unit = mul-le-mul_right unit (omega (arith, is.0)) in
-    omega (arith, few, is.1)

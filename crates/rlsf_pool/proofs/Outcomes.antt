@@ -1,5 +1,5 @@
 -- The outcomes of the calls of a checked allocator, as numbers.
-use Rattle.std.proofs.Common.{◌≡◌, ◌≢◌, ℕ, ◌+◌, ◌<◌, ◌≤◌, List, length, take, drop, Option, Some, None, Result, Ok, Err, arith, refl, sym, ◌∙◌}
+use Rattle.std.proofs.Common.{◌≡◌, ◌≢◌, ℕ, ◌+◌, List, length, take, drop, Option, Some, None, Result, Ok, Err, arith, refl, sym, ◌∙◌}
 use Rattle.std.proofs.Common.{ap, subst, inl, inr}
 use mathlib.Core.Path.{ap₂}
 use Rattle.std.proofs.lemmas.Option.{none-some}
@@ -16,7 +16,6 @@ use Rattle.rlsf_model.specs.Callers.{align_at, bytes_at}
 use Rattle.rlsf_model.specs.NoMove.{ReallocatesWithoutMove}
 use Rattle.rlsf_model.specs.Reallocate.{Reallocates}
 use Rattle.rlsf_model.specs.State.{State, empty}
-use Rattle.rlsf_tlsf.specs.Allocator.{Allocator, Steps}
 use Rattle.rlsf_tlsf.specs.Results.{IsAllocated, KeepsFrameOfPools}
 use Rattle.rlsf_tlsf.specs.Results as tlsf
 use Rattle.rlsf_checked.specs.Answers.{IsRefusedBy, append_answer, fits, if_in_range, if_live, insert_answer, addr_in as addr_in_result, size_refusal}
@@ -28,7 +27,7 @@ use Rattle.rlsf_checked.specs.declared.error.CheckedError.TheVariants.{InvalidCl
 use Rattle.rlsf_checked.specs.declared.error.CheckedError.TheVariants.{NoLayout, NoRoom, InUse, NotChunks}
 use Rattle.rlsf_pool.specs.Answers.{answer_of, code_of, number_of, place_of, addr_in, refused_by}
 use Rattle.rlsf_pool.specs.Calls.{Allocates, Appends, Frees, Inserts, IsKept, IsKeptBut, IsResized, IsToldBy, Reads, Resizes, ResizesThere, Tells, Writes, reach}
-use Rattle.rlsf_pool.specs.Seen.{Seen, nothing, seen_in}
+use Rattle.rlsf_pool.specs.Seen.{Seen, seen_in}
 
 -- ---- errors
 
@@ -97,11 +96,6 @@ pub none_in_empty : (addr : ℕ) → align_at empty addr ≡ None
 unfolding align_at
 none_in_empty addr = refl
 
--- the reference model made the step
-pub step_of : (fllen sllen : ℕ) (v w : Allocator) (step : State → Type 0) → Steps fllen sllen v w step → step w.state
-unfolding Steps
-step_of fllen sllen v w step did = did.0
-
 -- ---- ranges
 
 -- the last range, of which an answer has the length
@@ -141,23 +135,6 @@ module _ (fllen sllen : ℕ) (old new : Checked) (range : Range) (r : Result ℕ
     same = same_if sllen old new r refused.same refused.pool kept.place;
   }
 
--- where there is no allocator, no range is taken
-pub none_inserted : (start : ℕ) → Inserts (Err OutsideMemory) nothing start (refused_by OutsideMemory) nothing
-none_inserted start = record {
-  told = refl;
-  kept = record { classes = refl; memory = refl; aligns = refl; bytes = refl };
-  pool = λ e. absurd (number_of-some OutsideMemory e);
-  same = λ some. refl;
-}
-
-pub none_appended : Appends (Err OutsideMemory) nothing (refused_by OutsideMemory) nothing
-none_appended = record {
-  told = refl;
-  kept = record { classes = refl; memory = refl; aligns = refl; bytes = refl };
-  pool = λ e. absurd (number_of-some OutsideMemory e);
-  same = λ some. refl;
-}
-
 -- ---- payloads that are new
 
 pub allocated : (sllen : ℕ) (old new : Checked) (size align : ℕ) → IsLayout size align → (r : Result NonZeroUsize CheckedError)
@@ -180,16 +157,6 @@ allocated sllen old new size align layout (Err e) step is refused kept =
       new = λ e. absurd (number_of-some NoRoom e);
       same = λ some. same_seen sllen old new refused.same kept.pool kept.place;
     } in subst (λ d. Allocates (seen_in sllen old) size align (refused_by d) (seen_in sllen new)) (sym refused.answer) is_full
-
--- no layout has the size and the alignment
-pub no_layout : (v : Seen) (size align : ℕ) → (IsLayout size align → ⊥) → Allocates v size align (refused_by NoLayout) v
-no_layout v size align never = record {
-  no_layout = (λ e. never, λ n. refl);
-  errors = inr (inl refl);
-  step = λ l. absurd (never l);
-  new = λ e. absurd (number_of-some NoLayout e);
-  same = λ some. refl;
-}
 
 -- ---- payloads that go
 

@@ -1,10 +1,9 @@
 -- The outcomes of the calls that overwrite payloads and remove ranges, as numbers.
-use Rattle.std.proofs.Common.{◌≡◌, ◌≢◌, ◌⊎◌, ◌↔◌, ℕ, Bool, true, false, cond, List, length, replicate, Option, Some, None, Result, Ok, Err, arith, refl}
-use Rattle.std.proofs.Common.{sym, ◌∙◌, ap, subst, inl, inr}
+use Rattle.std.proofs.Common.{◌≡◌, ◌≢◌, ◌⊎◌, ◌↔◌, ℕ, Bool, true, false, cond, length, replicate, Option, Some, None, Result, Ok, Err, arith, refl}
+use Rattle.std.proofs.Common.{sym, ap, subst, inl, inr}
 use Rattle.std.proofs.lemmas.Bool.{false≢true}
-use Rattle.std.proofs.lemmas.List.{length-replicate}
 use Rattle.std.proofs.lemmas.Option.{none-some}
-use Rattle.std.specs.Prelude.{IsSome, OnErr, OnOk}
+use Rattle.std.specs.Prelude.{IsSome, OnOk}
 use Rattle.rlsf_base.specs.declared.memory.range.Range.{Range}
 use Rattle.rlsf_base.specs.Range.{range_at}
 use Rattle.rlsf_base.specs.Space.{range_of}
@@ -12,7 +11,6 @@ use Rattle.rlsf_blocks.specs.Blocks.{walked}
 use Rattle.rlsf_model.specs.Callers.{align_at, bytes_at, copied_over}
 use Rattle.rlsf_model.specs.Remove.{IsIdle, Removes}
 use Rattle.rlsf_model.specs.Run.{Fills}
-use Rattle.rlsf_model.specs.State.{State, empty}
 use Rattle.rlsf_tlsf.specs.Allocator.{Steps}
 use Rattle.rlsf_tlsf.specs.Results.{KeepsFrameOfPools}
 use Rattle.rlsf_checked.specs.Answers.{both_have, copy_answer, if_both_in_range, if_live}
@@ -21,11 +19,12 @@ use Rattle.rlsf_checked.specs.Removal.{AreChunks, IsRemovalOf, pool_without}
 use Rattle.rlsf_checked.specs.Results.{KeepsCheckedFrameCopying, KeepsCheckedFrameInPlace, RefusesUntouched}
 use Rattle.rlsf_checked.specs.declared.error.CheckedError.{CheckedError}
 use Rattle.rlsf_checked.specs.declared.error.CheckedError.TheVariants.{NotChunks, UnknownAddress}
+use Rattle.rlsf_checked.proofs.FieldsOverSteps.{step_of}
 use Rattle.rlsf_pool.specs.Answers.{code_of, number_of}
 use Rattle.rlsf_pool.specs.declared.answers.Answer.{Answer}
-use Rattle.rlsf_pool.specs.Calls.{Allocates, AllocatesZeroed, Copies, IsNew, RemovesLast, RemovesRange, Zeroes}
-use Rattle.rlsf_pool.specs.Seen.{Seen, nothing, seen_in, without_payloads}
-use Rattle.rlsf_pool.proofs.Outcomes.{kept_all, kept_but, kept_only, kept_same, number_of-some, on_done, same_unless, step_of}
+use Rattle.rlsf_pool.specs.Calls.{Allocates, AllocatesZeroed, Copies, RemovesLast, RemovesRange, Zeroes}
+use Rattle.rlsf_pool.specs.Seen.{Seen, nothing, seen_in}
+use Rattle.rlsf_pool.proofs.Outcomes.{kept_all, kept_but, kept_only, kept_same, number_of-some, on_done, same_unless}
 
 -- ---- copies
 
@@ -77,37 +76,6 @@ zeroed fllen sllen old new addr r live step filled told kept =
       aligns = kept.aligns;
       kept = kept_only sllen old new addr kept;
     }
-
--- a payload that is new and then zeroed
-pub made_zeroed : (before middle after : Seen) (size align : ℕ) (answer : Answer) → Allocates before size align answer middle → answer.error ≡ 0
-    → Zeroes middle answer.value after
-    → AllocatesZeroed before size align answer after
-made_zeroed before middle after size align answer did none zero = record {
-  middle = middle;
-  allocated = did;
-  zeroed = λ e. zero;
-  new = λ e. record {
-    new = new.new;
-    live = ap (λ f. f answer.value) zero.aligns ∙ new.live;
-    sized = omega (arith, new.sized, long);
-    few = omega (arith, new.few, long);
-    kept = record {
-      classes = zero.kept.classes ∙ new.kept.classes;
-      memory = zero.kept.memory ∙ new.kept.memory;
-      pool = zero.kept.pool ∙ new.kept.pool;
-      aligns = λ a apart. ap (λ f. f a) zero.aligns ∙ new.kept.aligns a apart;
-      bytes = λ a apart. zero.kept.bytes a apart ∙ new.kept.bytes a apart;
-    };
-  };
-  zeros = λ e. zero.zeros ∙ ap (λ n. replicate n 0) (sym long);
-  same = λ some. absurd (some none);
-}
-  where
-    new : IsNew size align answer.value before middle
-    new = did.new none
-
-    long : length (bytes_at after.state answer.value) ≡ length (bytes_at middle.state answer.value)
-    long = ap (λ (l : List ℕ). length l) zero.zeros ∙ length-replicate (length (bytes_at middle.state answer.value)) 0
 
 -- one that is refused
 pub none_zeroed : (before after : Seen) (size align : ℕ) (answer : Answer) → Allocates before size align answer after → answer.error ≢ 0
@@ -188,15 +156,3 @@ no_range_removed r = record {
   pool = λ e. absurd (number_of-some NotChunks e);
   same = λ some. refl;
 }
-
--- ---- a reset
-
-abbrev seen_at : ℕ → State → Range → Range → Seen
-seen_at classes state memory pool = record { classes = classes; state = state; memory = memory; pool = pool }
-
-pub reset_seen : (sllen : ℕ) (v w : Checked) → w.heap.state ≡ empty → w.heap.memory ≡ v.heap.memory → w.pool ≡ range_at v.heap.memory.start 0
-    → seen_in sllen w ≡ without_payloads (seen_in sllen v)
-reset_seen sllen v w state memory pool =
-    ap (λ s. seen_at sllen s (range_of w.heap.memory) w.pool) state
-    ∙ ap (λ m. seen_at sllen empty (range_of m) w.pool) memory
-    ∙ ap (λ p. seen_at sllen empty (range_of v.heap.memory) p) pool

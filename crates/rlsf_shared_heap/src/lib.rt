@@ -11,7 +11,7 @@
 //!
 //! - `reallocate` of a `SharedHeap` and of a `SharedPayload`: `SharedReallocation`
 //! - `as_mut_slice` of a `SharedPayload`: `SharedLends`
-//! - `allocate`, `allocate_lent` of an `OwnerHeap`: `Owners`; heap `Replies`, `Frame`
+//! - `allocate`, `allocate_lent` of an `OwnerHeap`: `Owners`; tlsf `Bounds`
 //! - `deallocate`, `take_back` of an `OwnerHeap`: heap `Replies`, `Frame`; model `Release`
 //! - `reallocate` of an `OwnerHeap`: `Owners`; heap `Replies`, `Frame`, `Reallocation`; model `Reallocate`
 //! - `collect` of an `OwnerHeap`: `Owners`

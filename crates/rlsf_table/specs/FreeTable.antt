@@ -1,7 +1,7 @@
 -- The free blocks by classes, as their words and the class table have them.
 use Rattle.std.specs.Prelude.{◌≡◌, ℕ, ◌+◌, ◌^◌, ◌<◌, ◌≤◌, List, ◌∷◌, ◌++◌, length, Option, None, Some, MatchOption}
 use Rattle.rlsf_base.specs.declared.memory.range.Range.{Range}
-use Rattle.rlsf_base.specs.SizeClass.{IsAtMost, class_of}
+use Rattle.rlsf_base.specs.SizeClass.{IsAtMost, class_of, class_at}
 use Rattle.rlsf_base.specs.Space.{Space, word_at}
 use Rattle.rlsf_model.specs.Allocate.{choice}
 use Rattle.rlsf_model.specs.Lists.{IsIn}
@@ -9,7 +9,7 @@ use Rattle.rlsf_model.specs.WellFormed.{coverage, itself, IsFree}
 use Rattle.rlsf_table.specs.declared.fit.FoundBlock.{FoundBlock}
 use Rattle.rlsf_table.specs.declared.table.ClassIndex.{ClassIndex}
 use Rattle.rlsf_table.specs.Rewrites.{IsLink, CanBeBlock, Rewrites}
-use Rattle.rlsf_table.specs.Table.{Table, HasBits, HasTable, IsClassAt, IsHeadOf, IsNewestAt, class_at}
+use Rattle.rlsf_table.specs.Table.{Table, HasBits, HasTable, IsClassAt, IsHeadOf, IsNewestAt}
 
 -- the free blocks are those of a list, none of which overlap, each of a valid class and with its size word; and addresses fit in a word
 pub record IsFreeTable (fllen sllen : ℕ) (m : Space) (t : Table) (free : List Range) : Type 0 where

@@ -3,7 +3,7 @@
 use Rattle.std.specs.Prelude.{◌≡◌, ◌↔◌, ℕ, ◌+◌, ◌<◌, Bool, List, [], ◌∷◌, Option, None, Some, length, filter, slice_index, slice_index_or, ◌==◌}
 use Rattle.std.specs.List.{list_any}
 use Rattle.rlsf_base.specs.declared.memory.range.Range.{Range}
-use Rattle.rlsf_base.specs.SizeClass.{SizeClass, class_of}
+use Rattle.rlsf_base.specs.SizeClass.{class_of, class_at}
 use Rattle.rlsf_base.specs.Space.{Space}
 use Rattle.rlsf_int.specs.Bits.{bit}
 use Rattle.rlsf_model.specs.Allocate.{has_class}
@@ -14,10 +14,6 @@ pub record Table : Type 0 where
   pub first_level : ℕ
   pub second_level : List ℕ
   pub heads : List (List ℕ)
-
--- the class at two indices
-abbrev pub class_at : ℕ → ℕ → SizeClass
-class_at fl sl = record { exponent = 5 + fl; division = sl }
 
 -- whether the class of a range is in a row
 abbrev pub is_in_row : ℕ → ℕ → Range → Bool

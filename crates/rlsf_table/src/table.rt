@@ -3,14 +3,14 @@
 ghost use Rattle.std.specs.Prelude.{◌≡◌, ℕ, ◌<◌, ◌≤◌, false, List, [], ◌∷◌, ◌==◌, if◌then◌else◌, slice_index};
 ghost use Rattle.rlsf_base.specs.declared.memory.range.Range.{Range};
 ghost use Rattle.rlsf_base.specs.SearchStart.{CanBegin};
-ghost use Rattle.rlsf_base.specs.SizeClass.{IsValid, class_of};
+ghost use Rattle.rlsf_base.specs.SizeClass.{IsValid, class_of, class_at};
 ghost use Rattle.rlsf_base.specs.Space.{Space};
 ghost use Rattle.rlsf_int.specs.Bits.{bit};
 ghost use Rattle.rlsf_model.specs.Lists.{IsIn};
 ghost use Rattle.rlsf_model.specs.WellFormed.{IsFree};
 ghost use Rattle.rlsf_table.specs.Counts.{Counts};
 ghost use Rattle.rlsf_table.specs.FreeTable.{HasBitsWithout, IsLeastFrom};
-ghost use Rattle.rlsf_table.specs.Table.{IsHeadSet, class_at, head_at, HasBits, HasTable};
+ghost use Rattle.rlsf_table.specs.Table.{IsHeadSet, head_at, HasBits, HasTable};
 
 use crate::rows::Rows;
 use rlsf_base::memory::OpenMemory;

@@ -7,7 +7,6 @@ use Rattle.std.specs.Option.{is_some, option_map}
 use Rattle.rlsf_base.specs.declared.memory.range.Range.{Range}
 use Rattle.rlsf_base.specs.Range.{LiesIn}
 use Rattle.rlsf_base.specs.Space.{range_of, SamePlace}
-use Rattle.rlsf_model.specs.Allocate.{Allocates}
 use Rattle.rlsf_model.specs.Lists.{IsIn}
 use Rattle.rlsf_model.specs.Reallocate.{Plan, plan, Reallocates, ReallocatesBy}
 use Rattle.rlsf_model.specs.Release.{Deallocates}
@@ -121,21 +120,6 @@ module _ {fllen sllen : ℕ} {v : Allocator} {tables : Tables} {s : RunState} (a
       → (r : RunState) × Frees s name r × IsAt fllen sllen w new r × KeepsSpare v.memory s.machine w.memory r.machine
   freed_by w place name p there step same taken =
       let (t, does, stands, keeps) = stepped at.stands w (λ x. Deallocates x (address p)) step in freed place t stands keeps name p there does same taken
-
--- the chunks stay over an allocation
-pub allocation_keeps_chunks : (sllen : ℕ) (s t : State) (size align : ℕ) (reply : Option ℕ) → Allocates sllen s size align reply t → t.chunks ≡ s.chunks
-allocation_keeps_chunks sllen s t size align None step = ap (λ u. u.chunks) step.1
-allocation_keeps_chunks sllen s t size align (Some addr) step = ap (λ u. u.chunks) step.after
-
--- and over a reallocation
-pub reallocation_keeps_chunks : (sllen : ℕ) (s t : State) (addr size : ℕ) (reply : Option ℕ) → Reallocates sllen s addr size reply t → t.chunks ≡ s.chunks
-reallocation_keeps_chunks sllen s t addr size reply step = by_plan (plan s step.block size) reply step.step
-  where
-    by_plan : (o : Option Plan) (reply : Option ℕ) → ReallocatesBy sllen s step.block size o reply t → t.chunks ≡ s.chunks
-    by_plan (Some p) None way = absurd way
-    by_plan (Some p) (Some to) way = ap (λ u. u.chunks) way.after
-    by_plan None None way = ap (λ u. u.chunks) way.1
-    by_plan None (Some to) way = ap (λ u. u.chunks) way.released.after ∙ ap (λ u. u.chunks) way.allocated.after
 
 -- one that is refused changes nothing
 pub reallocation_refused : (sllen : ℕ) (s t : State) (addr size : ℕ) → Reallocates sllen s addr size None t → t ≡ s

@@ -15,6 +15,7 @@ use Rattle.rlsf_model.proofs.Coverage.{covers-inside, coverage-IsIn, coverage-so
 use Rattle.rlsf_model.proofs.Payloads.{IsUsed-some}
 use Rattle.rlsf_model.proofs.Tiling.{tiling_of, lies_in_chunk, IsPart-free, IsPart-used, LiesInChunk}
 use Rattle.rlsf_blocks.specs.Blocks.{Block, HasBlock, used, free, AreBlocks, IsInOrder, walked}
+use Rattle.rlsf_blocks.proofs.Walking.Listed.{IsInOrder-append}
 use Rattle.rlsf_tlsf.specs.Allocator.{Allocator}
 use Rattle.rlsf_trace_runs.specs.declared.tables.Tables.{Tables}
 use Rattle.rlsf_trace_runs.specs.Runs.{RunState}
@@ -31,18 +32,6 @@ LiesBetween p b = (p.start ≤ b.range.start) × (end_of b.range ≤ end_of p)
 pub record AreGathered (s : State) (pools : List Range) (bs : List Block) : Type 0 where
   pub exactly : (b : Block) → IsIn b bs ↔ ((p : Range) × IsIn p pools × HasBlock s b × LiesBetween p b)
   pub in_order : IsInOrder bs
-
-pub AreGathered-none : (s : State) → AreGathered s [] []
-AreGathered-none s = record { exactly = λ b. (λ i. absurd i, λ (p, i, _, _). absurd i); in_order = tt }
-
--- lists of blocks one behind another
-IsInOrder-append : (bs cs : List Block) → IsInOrder bs → IsInOrder cs → ((b c : Block) → IsIn b bs → IsIn c cs → end_of b.range ≤ c.range.start)
-    → IsInOrder (bs ++ cs)
-IsInOrder-append [] cs first second apart = second
-IsInOrder-append (b ∷ bs) cs (before, first) second apart = (
-  λ c i. elim (IsIn-append c bs cs i) [ inl j ↦ before c j | inr j ↦ apart b c (inl refl) j ],
-  IsInOrder-append bs cs first second (λ x c i j. apart x c (inr i) j),
-)
 
 -- one range more, behind the others
 pub AreGathered-more : {s : State} {pools : List Range} {bs : List Block} → AreGathered s pools bs → (p : Range) (cs : List Block)

@@ -6,19 +6,13 @@ use mir.Val.{Val, vint, vstruct, vcons, vnil, of_list}
 use base.Logic.{ent, emp}
 use base.Fml.{Fml}
 use types.Logic.{Logic, sem}
-use denote.RattleType.{RattleType}
 use denote.Builtin.{usize}
 use denote.RawPtr.{Ptr, RawPtr, block_ptr, null_ptr, ptr_val, room_for, ◌+ₚ◌}
 use denote.Shadow.{shadow, makes_shadow}
-use denote.Struct.Struct.{Struct}
 use Rattle.core.proofs.cell.Inside.{Good}
 use Rattle.rlsf_base.specs.Steps.Ownership.{units_ty}
 use Rattle.rlsf_base.specs.declared.memory.view.View.{View}
-use Rattle.rlsf_base.proofs.RawBlock.Values.{base_val}
-
--- a struct by its fields alone: what it owns does not read its name
-abbrev plainly : List RattleType → RattleType
-plainly Rs = Struct (record { name = []; args = []; types = []; fields = Rs })
+use Rattle.rlsf_base.proofs.RawBlock.Values.{base_val, plainly}
 
 abbrev pub spot_val : Ptr → ℕ → Val
 spot_val p n = vstruct (vcons (ptr_val p) (vcons (vint w64 n) vnil))

@@ -35,7 +35,7 @@ base_typed (block_ptr b o) = (tt, (tt, tt))
 base_typed null_ptr = (tt, (record { fits = lit< tt }, tt))
 
 -- a struct by its fields alone: what it owns does not read its name
-abbrev plainly : List RattleType → RattleType
+abbrev pub plainly : List RattleType → RattleType
 plainly Rs = Struct (record { name = []; args = []; types = []; fields = Rs })
 
 abbrev pub base_own : Ptr → List Val → Fml

@@ -15,8 +15,8 @@ abbrev pub in_row : ℕ → ℕ → SizeClass
 in_row k j = record { exponent = k; division = j }
 
 -- the place t - SLLEN of row k, and where t is 2 * SLLEN the first place of the row after it
-abbrev pub class_at : ℕ → ℕ → ℕ → SizeClass
-class_at sllen k t = cond (nat_lt t (2 * sllen)) (in_row k (t - sllen)) (in_row (k + 1) 0)
+abbrev pub class_rounded : ℕ → ℕ → ℕ → SizeClass
+class_rounded sllen k t = cond (nat_lt t (2 * sllen)) (in_row k (t - sllen)) (in_row (k + 1) 0)
 
 module _ (sllen size k : ℕ) (any : 0 < sllen) (low : 2 ^ k ≤ size) (high : size < 2 * 2 ^ k) where
   -- a size is at least its row's power of two and less than two of them
@@ -36,7 +36,7 @@ module _ (sllen size k : ℕ) (any : 0 < sllen) (low : 2 ^ k ≤ size) (high : s
       let division : rest * sllen / 2 ^ k ≡ size * sllen / 2 ^ k - sllen = omega arith in
       ap (λ j. in_row j ((size - 2 ^ j) * sllen / 2 ^ j)) row ∙ ap (in_row k) division
 
-  pub reaching_class-at : (t : ℕ) → IsRoundedUp (size * sllen) (2 ^ k) t → reaching_class sllen size ≡ class_at sllen k t
+  pub reaching_class-at : (t : ℕ) → IsRoundedUp (size * sllen) (2 ^ k) t → reaching_class sllen size ≡ class_rounded sllen k t
   reaching_class-at t is =
       let q = size * sllen / 2 ^ k in
       let own = in_row k (q - sllen) in

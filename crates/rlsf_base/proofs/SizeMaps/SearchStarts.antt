@@ -4,12 +4,12 @@ use Rattle.std.proofs.Common.{◌≡◌, ℕ, ◌+◌, ◌-◌, ◌*◌, ◌^◌
 use Rattle.std.proofs.lemmas.Bool.{cases_lt, cond-true, cond-false, lt-ltb, le-ltb}
 use Rattle.std.proofs.lemmas.Nat.{pow_pos}
 use Rattle.std.proofs.Math.Nat.{lt_of_mul-lt-mul_right, mul-le-mul_right}
-use Rattle.rlsf_base.specs.SearchStart.{CanBegin, IsSearchStart, NoneReaches, class_from}
-use Rattle.rlsf_base.specs.SizeClass.{SizeClass, IsAtMost, IsFirstReaching, reaching_class}
+use Rattle.rlsf_base.specs.SearchStart.{CanBegin, IsSearchStart, NoneReaches}
+use Rattle.rlsf_base.specs.SizeClass.{SizeClass, IsAtMost, IsFirstReaching, reaching_class, class_at}
 use Rattle.rlsf_base.specs.Sizes.{IsSize, indices, valid_indices}
 use Rattle.rlsf_base.proofs.SizeClasses.Order.{IsFirstReaching-reaching_class, Reaches-IsAtMost}
 use Rattle.rlsf_base.proofs.SizeMaps.Quotients.{IsRoundedUp}
-use Rattle.rlsf_base.proofs.SizeMaps.Reaching.{class_at, in_row, reaching_class-at}
+use Rattle.rlsf_base.proofs.SizeMaps.Reaching.{class_rounded, in_row, reaching_class-at}
 use Rattle.rlsf_base.proofs.SizeMaps.Unmapped.{row_after}
 
 -- ---- the indices of a class
@@ -45,8 +45,8 @@ module _ (fllen sllen size : ℕ) (any : 0 < sllen) (is : IsSize size) where
 
   -- the search begins at a class that is at most those that the first one is
   same_from : (fl sl : ℕ) → fl < fllen → CanBegin sllen sl
-      → ((d : SizeClass) → d.division < sllen → IsAtMost (class_from fl sl) d → IsAtMost (reaching_class sllen size) d)
-      → ((d : SizeClass) → d.division < sllen → IsAtMost (reaching_class sllen size) d → IsAtMost (class_from fl sl) d) → IsSearchStart fllen sllen size fl sl
+      → ((d : SizeClass) → d.division < sllen → IsAtMost (class_at fl sl) d → IsAtMost (reaching_class sllen size) d)
+      → ((d : SizeClass) → d.division < sllen → IsAtMost (reaching_class sllen size) d → IsAtMost (class_at fl sl) d) → IsSearchStart fllen sllen size fl sl
   same_from fl sl row place down up = record {
     row = row;
     place = place;
@@ -62,7 +62,7 @@ module _ (fllen sllen size : ℕ) (any : 0 < sllen) (is : IsSize size) where
       let own_row : c.exponent - 5 ≡ at.0 = ap (λ p. p.0) same in
       let own_place : c.division ≡ at.1 = ap (λ p. p.1) same in
       let row : c.exponent ≡ 5 + at.0 = omega (arith, first_row) in
-      let class : c ≡ class_from at.0 at.1 = ap₂ (λ k j. record { exponent = k; division = j }) row own_place in
+      let class : c ≡ class_at at.0 at.1 = ap₂ (λ k j. record { exponent = k; division = j }) row own_place in
       same_from at.0 at.1 (omega arith) (inl (subst (λ j. j < sllen) own_place reaching.in_row))
       (λ d in_row order. subst (λ e. IsAtMost e d) (sym class) order) (λ d in_row order. subst (λ e. IsAtMost e d) class order)
 
@@ -82,7 +82,7 @@ module _ (fllen sllen size : ℕ) (any : 0 < sllen) (is : IsSize size) where
         let below : t < 2 * sllen + 1 = lt_of_mul-lt-mul_right (2 ^ k) {m = t} {n = 2 * sllen + 1} (omega (arith, rounded.tight, pow_pos k)) in
         omega arith
 
-    class_is : reaching_class sllen size ≡ class_at sllen k t
+    class_is : reaching_class sllen size ≡ class_rounded sllen k t
     class_is = reaching_class-at sllen size k any low high t rounded
 
     within : t < 2 * sllen → reaching_class sllen size ≡ in_row k (t - sllen)

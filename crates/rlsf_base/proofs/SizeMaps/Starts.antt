@@ -6,10 +6,10 @@ use Rattle.std.proofs.Math.Nat.{le_of_mul-le-mul_right, lt_of_mul-lt-mul_right, 
 use Rattle.rlsf_base.specs.SizeClass.{SizeClass, class_of, class_start, reaching_class}
 use Rattle.rlsf_base.proofs.Layouts.{pow-quotient}
 use Rattle.rlsf_base.proofs.SizeMaps.Quotients.{IsRoundedUp, IsRoundedUp-by_rest, IsRoundedUp-scaled}
-use Rattle.rlsf_base.proofs.SizeMaps.Reaching.{in_row, class_at, class_of-at, reaching_class-at}
+use Rattle.rlsf_base.proofs.SizeMaps.Reaching.{in_row, class_rounded, class_of-at, reaching_class-at}
 
 -- where the class begins that a quotient gives
-class_start-at : (sllen k t : ℕ) → sllen ≤ t → t ≤ 2 * sllen → class_start sllen (class_at sllen k t) ≡ t * 2 ^ k
+class_start-at : (sllen k t : ℕ) → sllen ≤ t → t ≤ 2 * sllen → class_start sllen (class_rounded sllen k t) ≡ t * 2 ^ k
 class_start-at sllen k t least most = elim (cases_lt t (2 * sllen)) [
   | inl within ↦
       let place : sllen + (t - sllen) ≡ t = omega arith in

@@ -28,7 +28,6 @@ use Rattle.rlsf_blocks.specs.Steps.Rest.{IsOpened, IsTaken}
 use Rattle.rlsf_blocks.specs.StandsFor.{contents, StandsFor}
 use Rattle.rlsf_blocks.proofs.Words.Apart.{used_free, free_in_memory, home_of_free}
 use Rattle.rlsf_blocks.proofs.Words.Refilled.{IsUsedStill, old_used, new_used, old_free, new_free, IsRefilled, StandsFor-refilled, KeepsSpare-refilled}
-use Rattle.rlsf_blocks.proofs.Words.Frames.{wide_whole}
 use Rattle.rlsf_blocks.proofs.Words.Stays.{IsPlacedAs, IsWritable-in, placed_by, placed_then, Stays, Stays-rewrites, Stays-then}
 use Rattle.rlsf_blocks.proofs.RepresentedStates.FreeBlocks.{CanBeBlock-free}
 use Rattle.rlsf_model.proofs.Allocations.{IsWellFormed-given, placed-fits}
@@ -36,6 +35,7 @@ use Rattle.rlsf_model.proofs.Changes.{IsIn-rest_behind}
 use Rattle.rlsf_model.proofs.Choices.{choice-some}
 use Rattle.rlsf_model.proofs.Coverage.{IsIn-append, IsIn-without}
 use Rattle.rlsf_model.proofs.Payloads.{block_length-le, block_length-whole, payload_of-after, payload_of-aligned}
+use Rattle.rlsf_model.proofs.RangeLengths.{wide_whole}
 use Rattle.rlsf_blocks.proofs.Allocate.TakenOut.{left_apart}
 
 pub length-bytes_in : (m : Space) (r : Range) → LiesIn r m.start (length m.bytes) → length (bytes_in m r) ≡ r.len

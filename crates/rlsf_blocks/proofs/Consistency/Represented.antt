@@ -1,7 +1,7 @@
 -- A memory and a table that represent a state are consistent over its chunks.
 use Rattle.std.proofs.Common.{◌≡◌, ◌≢◌, ℕ, ◌+◌, ◌-◌, ◌%◌, ◌<◌, ◌≤◌, List, true, arith, sym, ◌∙◌, ap, subst, inl, inr}
 use Rattle.rlsf_base.specs.declared.memory.range.Range.{Range}
-use Rattle.rlsf_base.specs.SizeClass.{class_of}
+use Rattle.rlsf_base.specs.SizeClass.{class_of, class_at}
 use Rattle.rlsf_base.specs.Sizes.{IsSize}
 use Rattle.rlsf_base.specs.Range.{end_of}
 use Rattle.rlsf_base.specs.Space.{Space, word_at, word_range}
@@ -11,7 +11,7 @@ use Rattle.rlsf_model.specs.ChunkRows.{IsRow}
 use Rattle.rlsf_model.specs.Lists.{IsIn}
 use Rattle.rlsf_model.specs.State.{State}
 use Rattle.rlsf_model.proofs.Choices.{has_class-from, has_class-true}
-use Rattle.rlsf_table.specs.Table.{Table, class_at, head_at, is_in_row, of_class}
+use Rattle.rlsf_table.specs.Table.{Table, head_at, is_in_row, of_class}
 use Rattle.rlsf_table.proofs.FreeLists.Classes.{IsIn-of_class, IsIn-of_class_from}
 use Rattle.rlsf_table.proofs.Tables.Bits.{has_class-in_row, is_in_row-own}
 use Rattle.rlsf_table.proofs.Tables.Tests.{list_any-some, list_any-true}

@@ -21,7 +21,7 @@ or_else-associative : (p q r : Option Plan) → or_else p (or_else q r) ≡ or_e
 or_else-associative None q r = refl
 or_else-associative (Some p) q r = refl
 
-or_else-none_first : (p q : Option Plan) → or_else p q ≡ None → p ≡ None
+pub or_else-none_first : (p q : Option Plan) → or_else p q ≡ None → p ≡ None
 or_else-none_first None q none = refl
 or_else-none_first (Some p) q none = absurd (cc)
 

@@ -6,7 +6,7 @@ use Rattle.std.specs.List.{list_any}
 use Rattle.std.specs.declared.num.NonZeroUsize.{NonZeroUsize}
 use Rattle.std.proofs.lemmas.Bool.{cases_lt, ne_eqb, and_right}
 use Rattle.rlsf_base.specs.declared.memory.range.Range.{Range}
-use Rattle.rlsf_base.specs.SizeClass.{class_of}
+use Rattle.rlsf_base.specs.SizeClass.{class_of, class_at}
 use Rattle.rlsf_base.specs.Space.{Space}
 use Rattle.rlsf_base.proofs.SizeClasses.Reach.{division-lt}
 use Rattle.rlsf_int.specs.Bits.{bit}
@@ -14,7 +14,7 @@ use Rattle.rlsf_model.specs.Allocate.{has_class}
 use Rattle.rlsf_model.specs.Lists.{IsIn}
 use Rattle.rlsf_model.specs.State.{State}
 use Rattle.rlsf_table.specs.FreeList.{Links}
-use Rattle.rlsf_table.specs.Table.{class_at, head_at, is_in_row, newest_of, of_class}
+use Rattle.rlsf_table.specs.Table.{head_at, is_in_row, newest_of, of_class}
 use Rattle.rlsf_table.proofs.FreeLists.Classes.{IsIn-of_class}
 use Rattle.rlsf_table.proofs.Tables.Tests.{list_any-false}
 use Rattle.rlsf_blocks.specs.StandsFor.{Contents, StandsFor}

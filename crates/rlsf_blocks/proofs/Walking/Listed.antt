@@ -1,10 +1,11 @@
 -- The blocks that an iteration gives.
-use Rattle.std.proofs.Common.{◌≡◌, ℕ, zero, suc, cond, ◌+◌, ◌-◌, ◌<◌, ◌≤◌, List, [], ◌∷◌, arith, inl, inr, refl, sym, ◌∙◌, ap, subst}
+use Rattle.std.proofs.Common.{◌≡◌, ℕ, zero, suc, cond, ◌+◌, ◌-◌, ◌<◌, ◌≤◌, List, [], ◌∷◌, ◌++◌, arith, inl, inr, refl, sym, ◌∙◌, ap, subst}
 use Rattle.std.proofs.lemmas.Bool.{cases_lt, lt-ltb, le-ltb}
 use Rattle.rlsf_base.specs.Range.{end_of}
 use Rattle.rlsf_base.specs.Space.{Space}
 use Rattle.rlsf_model.specs.Lists.{IsIn}
 use Rattle.rlsf_model.specs.State.{State}
+use Rattle.rlsf_model.proofs.Coverage.{IsIn-append}
 use Rattle.rlsf_table.specs.Table.{Table}
 use Rattle.rlsf_blocks.specs.Blocks.{Block, HasBlock, IsInOrder}
 use Rattle.rlsf_blocks.specs.StandsFor.{contents, StandsFor}
@@ -23,6 +24,15 @@ blocks_within-end m (suc most) start end over = ap (λ t. cond t (block_at m sta
 pub blocks_within-more : (m : Space) (most start end : ℕ) → start < end
     → blocks_within m (suc most) start end ≡ block_at m start ∷ blocks_within m most (next_of m start) end
 blocks_within-more m most start end lt = ap (λ t. cond t (block_at m start ∷ blocks_within m most (next_of m start) end) []) (lt-ltb start end lt)
+
+-- lists of blocks one behind another
+pub IsInOrder-append : (bs cs : List Block) → IsInOrder bs → IsInOrder cs → ((b c : Block) → IsIn b bs → IsIn c cs → end_of b.range ≤ c.range.start)
+    → IsInOrder (bs ++ cs)
+IsInOrder-append [] cs first second apart = second
+IsInOrder-append (b ∷ bs) cs (before, first) second apart = (
+  λ c i. elim (IsIn-append c bs cs i) [ inl j ↦ before c j | inr j ↦ apart b c (inl refl) j ],
+  IsInOrder-append bs cs first second (λ x c i j. apart x c (inr i) j),
+)
 
 -- the blocks of a list are those of the state from one address up to another, in order
 pub record AreFrom (s : State) (start end : ℕ) (bs : List Block) : Type 0 where

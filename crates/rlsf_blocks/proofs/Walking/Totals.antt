@@ -17,19 +17,19 @@ pub record IsCounted (s : Totals) (left all : List Block) : Type 0 where
   pub in_order : IsInOrder left
   pub few : s.payloads ≤ s.used
 
-used_cons : (b : Block) (bs : List Block) → b.is_occupied ≡ true → used_of (b ∷ bs) ≡ b ∷ used_of bs
+pub used_cons : (b : Block) (bs : List Block) → b.is_occupied ≡ true → used_of (b ∷ bs) ≡ b ∷ used_of bs
 used_cons b bs e = ap (λ k. cond k (b ∷ used_of bs) (used_of bs)) e
 
-used_skip : (b : Block) (bs : List Block) → b.is_occupied ≡ false → used_of (b ∷ bs) ≡ used_of bs
+pub used_skip : (b : Block) (bs : List Block) → b.is_occupied ≡ false → used_of (b ∷ bs) ≡ used_of bs
 used_skip b bs e = ap (λ k. cond k (b ∷ used_of bs) (used_of bs)) e
 
-free_cons : (b : Block) (bs : List Block) → b.is_occupied ≡ false → free_of (b ∷ bs) ≡ b ∷ free_of bs
+pub free_cons : (b : Block) (bs : List Block) → b.is_occupied ≡ false → free_of (b ∷ bs) ≡ b ∷ free_of bs
 free_cons b bs e = ap (λ k. cond (not k) (b ∷ free_of bs) (free_of bs)) e
 
-free_skip : (b : Block) (bs : List Block) → b.is_occupied ≡ true → free_of (b ∷ bs) ≡ free_of bs
+pub free_skip : (b : Block) (bs : List Block) → b.is_occupied ≡ true → free_of (b ∷ bs) ≡ free_of bs
 free_skip b bs e = ap (λ k. cond (not k) (b ∷ free_of bs) (free_of bs)) e
 
-total_cons : (b : Block) (bs : List Block) → total (b ∷ bs) ≡ b.range.len + total bs
+pub total_cons : (b : Block) (bs : List Block) → total (b ∷ bs) ≡ b.range.len + total bs
 total_cons b bs = sum_by-cons (λ (c : Block). c.range.len) b bs
 
 max_max : (a b c : ℕ) → max (max a b) c ≡ max a (max b c)

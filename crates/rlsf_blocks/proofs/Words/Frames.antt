@@ -1,11 +1,7 @@
 -- The words of the old blocks after a hole has been written over, with one word behind it and the links of the free blocks. All
 -- that is not in the hole is as it was.
-use Rattle.std.proofs.Common.{◌≡◌, ◌≢◌, ℕ, ◌+◌, ◌-◌, ◌*◌, ◌/◌, ◌%◌, ◌^◌, ◌<◌, ◌≤◌, ◌⊎◌, arith, inl, inr, sym, ◌∙◌, ap}
+use Rattle.std.proofs.Common.{◌≡◌, ◌≢◌, ℕ, ◌+◌, ◌-◌, ◌%◌, ◌<◌, ◌≤◌, ◌⊎◌, arith, inl, inr, sym}
 use Rattle.std.proofs.lemmas.Bool.{cases_lt}
-use Rattle.std.proofs.lemmas.Nat.{pow-add}
-use Rattle.std.proofs.Math.Nat.{div-add-mod'}
-use Rattle.rlsf_base.specs.PowerOfTwo.{floor_log2, IsPowerOfTwo}
-use Rattle.rlsf_base.proofs.Numbers.PowersOfTwo.{floor_log2-lt, pow-between}
 use Rattle.rlsf_base.specs.declared.memory.range.Range.{Range}
 use Rattle.rlsf_base.specs.Range.{end_of}
 use Rattle.rlsf_base.specs.Space.{Space, bytes_in, range_of, word_at}
@@ -17,6 +13,7 @@ use Rattle.rlsf_model.specs.Lists.{IsIn}
 use Rattle.rlsf_model.specs.State.{State, Used, usable}
 use Rattle.rlsf_model.specs.WellFormed.{IsWellFormed}
 use Rattle.rlsf_model.proofs.Payloads.{IsUsed-aligned, IsUsed-after_start, IsUsed-some}
+use Rattle.rlsf_model.proofs.RangeLengths.{wide_whole}
 use Rattle.rlsf_blocks.proofs.Words.Apart.{Has, used_free, free_in_memory, used_in_memory}
 
 -- of two ranges that have no address in common, one ends before the other begins
@@ -38,17 +35,6 @@ begins_there r q some apart at = elim (cases_lt r.start (end_of q)) [
   | inl before ↦ absurd (apart (end_of q - 1) (record { from = omega arith; to = omega (arith, at.to) }) (record { from = omega arith; to = omega arith }))
   | inr from ↦ omega (arith, at.from)
 ]
-
--- a multiple of an alignment of 32 or more is one of 32
-pub wide_whole : (p align : ℕ) → IsPowerOfTwo align → 32 ≤ align → p % align ≡ 0 → p % 32 ≡ 0
-wide_whole p align power wide multiple =
-    let k = floor_log2 align in
-    let order : 5 ≤ k = pow-between align 5 k wide (floor_log2-lt align (omega arith)) in
-    let split : k ≡ 5 + (k - 5) = omega arith in
-    let times : align ≡ 32 * 2 ^ (k - 5) = power ∙ ap (λ e. 2 ^ e) split ∙ pow-add 2 5 (k - 5) in
-    let product : p / align * align ≡ p / align * (32 * 2 ^ (k - 5)) = ap (λ a. p / align * a) times in
-    let granules : p ≡ 32 * (p / align * 2 ^ (k - 5)) = omega (arith, div-add-mod' p align) in
-    omega arith
 
 module _ {fllen sllen : ℕ} {m n : Space} {s : State} (w : IsWellFormed fllen sllen (range_of m) s) (hole : Range) (whole : hole.start % 32 ≡ 0) (room : 0 < hole.len)
     (past : ℕ) (second : past % 32 ≡ 8) (not_before : hole.start ≤ past) (not_far : past ≤ end_of hole + 8) (rewrites : Rewrites m n (Touched s.free hole past)) where

@@ -1,5 +1,5 @@
 -- Two values with equal numbers are equal.
-use Rattle.std.proofs.Common.{◌≡◌, ◌↔◌, ℕ, ◌<◌, Bool, ◌&&◌, nat_eq, IsTrue, Option, Some, None, ap, ap₂, subst, refl, sym, ◌∙◌}
+use Rattle.std.proofs.Common.{◌≡◌, ◌↔◌, ℕ, Bool, ◌&&◌, nat_eq, IsTrue, Option, Some, None, ap, ap₂, refl, sym, ◌∙◌}
 use Rattle.std.proofs.lemmas.Bool.{and_from, and_parts, eq-eqb, eqb-true}
 use Rattle.std.proofs.lemmas.Option.{same_Some}
 use Rattle.rlsf_global.specs.declared.entry.Call.{Call}
@@ -7,31 +7,8 @@ use Rattle.rlsf_global.specs.declared.entry.Call.TheVariants.{Allocate, Dealloca
 use Rattle.rlsf_global.specs.declared.entry.Reply.{Reply}
 use Rattle.rlsf_global.specs.declared.entry.Reply.TheVariants.{Placed}
 use Rattle.std.specs.declared.num.NonZeroUsize.{NonZeroUsize}
-use Rattle.std.proofs.Props.{props}
 use Rattle.rlsf_base.specs.declared.memory.layout.Layout.{Layout}
-use Rattle.rlsf_base.specs.Layout.{IsLayout}
-
-layout : (size align : ℕ) → IsLayout size align → Layout
-layout size align valid = record { size = size; align = align; valid = valid }
-
-valid_prop : (size align : ℕ) → IsProp (IsLayout size align)
-valid_prop size align = hlevel props
-
-positive_prop : (n : ℕ) → IsProp (0 < n)
-positive_prop n = hlevel props
-
-pub same_layout : (a b : Layout) → a.size ≡ b.size → a.align ≡ b.align → a ≡ b
-unfolding layout
-same_layout a b s t =
-    let aligned = subst (λ (m : ℕ). (v : IsLayout a.size m) → a ≡ layout a.size m v) t (λ v. ap (layout a.size a.align) (valid_prop a.size a.align a.valid v)) in
-    subst (λ (n : ℕ). (v : IsLayout n b.align) → a ≡ layout n b.align v) s aligned b.valid
-
-addr_of : (n : ℕ) → 0 < n → NonZeroUsize
-addr_of n ok = record { value = n; ok = ok }
-
-pub same_addr : (a b : NonZeroUsize) → a.value ≡ b.value → a ≡ b
-unfolding addr_of
-same_addr a b s = subst (λ (n : ℕ). (v : 0 < n) → a ≡ addr_of n v) s (λ v. ap (addr_of a.value) (positive_prop a.value a.ok v)) b.ok
+use Rattle.rlsf_model_global.proofs.EqualNumbers.{same_address, same_layout}
 
 -- a test of the numbers shows whether two values of one variant are equal
 pub told : {A B : Type 0} (variant : A → B) (value : B → Option A) (back : (a : A) → value (variant a) ≡ Some a) (x y : A) (a b : B) → a ≡ variant x → b ≡ variant y
@@ -48,7 +25,7 @@ placed r = None
 pub told_placed : (x y : NonZeroUsize) (a b : Reply) → a ≡ Placed x → b ≡ Placed y → (m n : ℕ) → m ≡ x.value → n ≡ y.value → IsTrue (nat_eq m n) ↔ (a ≡ b)
 unfolding placed
 told_placed x y a b is_a is_b m n at_x at_y =
-    told Placed placed (λ a. refl) x y a b is_a is_b (nat_eq m n) (λ h. same_addr x y (sym at_x ∙ eqb-true m n h ∙ at_y))
+    told Placed placed (λ a. refl) x y a b is_a is_b (nat_eq m n) (λ h. same_address x y (sym at_x ∙ eqb-true m n h ∙ at_y))
     (λ e. eq-eqb m n (at_x ∙ ap (λ (v : NonZeroUsize). v.value) e ∙ sym at_y))
 
 freed : Call → Option NonZeroUsize
@@ -59,7 +36,7 @@ pub told_freed : (x y : NonZeroUsize) (a b : Call) → a ≡ Deallocate x → b 
     → IsTrue (nat_eq m n) ↔ (a ≡ b)
 unfolding freed
 told_freed x y a b is_a is_b m n at_x at_y =
-    told Deallocate freed (λ a. refl) x y a b is_a is_b (nat_eq m n) (λ h. same_addr x y (sym at_x ∙ eqb-true m n h ∙ at_y))
+    told Deallocate freed (λ a. refl) x y a b is_a is_b (nat_eq m n) (λ h. same_address x y (sym at_x ∙ eqb-true m n h ∙ at_y))
     (λ e. eq-eqb m n (at_x ∙ ap (λ (v : NonZeroUsize). v.value) e ∙ sym at_y))
 
 asked : Call → Option Layout
@@ -82,6 +59,6 @@ pub told_resized : (x y : NonZeroUsize) (k l : Layout) (a b : Call) → a ≡ Re
 unfolding resized
 told_resized x y k l a b is_a is_b same t test = told (λ (p : NonZeroUsize × Layout). Reallocate p.0 p.1) resized (λ p. refl) (x, k) (y, l) a b is_a is_b t
     (λ h. let parts = and_parts (nat_eq k.size l.size) (nat_eq k.align l.align) (sym test ∙ h) in
-    ap₂ (λ (u : NonZeroUsize) (v : Layout). (u, v)) (same_addr x y same) (same_layout k l (eqb-true _ _ parts.0) (eqb-true _ _ parts.1)))
+    ap₂ (λ (u : NonZeroUsize) (v : Layout). (u, v)) (same_address x y same) (same_layout k l (eqb-true _ _ parts.0) (eqb-true _ _ parts.1)))
     (λ e. test ∙ and_from _ _ (eq-eqb k.size l.size (ap (λ (p : NonZeroUsize × Layout). p.1.size) e))
     (eq-eqb k.align l.align (ap (λ (p : NonZeroUsize × Layout). p.1.align) e)))

@@ -1,5 +1,5 @@
 -- A journal with one more entry, and a placement that is written to.
-use Rattle.std.proofs.Common.{◌≡◌, ◌≢◌, ◌<◌, ◌^◌, ℕ, Bool, true, false, List, [], ◌∷◌, ◌++◌, map, length, Option, Some, None, Ok, Err, MatchBool}
+use Rattle.std.proofs.Common.{◌≡◌, ◌≢◌, ◌<◌, ◌^◌, ℕ, Bool, true, List, [], ◌∷◌, ◌++◌, map, length, Option, Some, None, Ok, Err}
 use Rattle.std.proofs.Common.{refl, ◌∙◌, ap, sym, subst, arith, append-nil}
 use Rattle.std.proofs.lemmas.List.{map_push}
 use Rattle.std.proofs.lemmas.List.Elements.{All-push}
@@ -14,6 +14,7 @@ use Rattle.rlsf_global.specs.declared.entry.Reply.{Reply}
 use Rattle.rlsf_global.specs.declared.entry.Reply.TheVariants.{Placed, Freed, NoRoom, UnknownAddress, TableMemory, JournalMemory}
 use Rattle.rlsf_global.specs.Journal.Entries.{IsReplyTo, entries_of}
 use Rattle.rlsf_global.specs.Journal.Replay.{BookContents, BookStands, LeadsOrRefused, IsReplay, IsRun, Leads, beginning_of, step_by, step_of}
+use Rattle.rlsf_global.proofs.Refusals.{either}
 use Rattle.rlsf_model.specs.FlexState.{FlexState}
 use Rattle.rlsf_model.specs.Note.{LeadsBy, Note, alloc, dealloc, grow}
 use Rattle.rlsf_model_global.proofs.Journals.{replay_begins, replay_goes_on}
@@ -64,11 +65,6 @@ moves-start h g addr keep wanted (Err error.JournalMemory) moved = absurd moved
 reallocates-start : (h g : Heap) (addr : ℕ) (wanted : Layout) (o : Option Row) (result : Answer) → ReallocatesAt h addr wanted o result g → beginning_of g ≡ beginning_of h
 reallocates-start h g addr wanted None result (refused, same) = ap beginning_of same
 reallocates-start h g addr wanted (Some row) result moved = moves-start h g addr _ wanted result moved
-
--- with an answer to a test
-either : {A B X : Type 0} (b : Bool) → MatchBool b A B → (A → X) → (B → X) → X
-either true m f k = f m
-either false m f k = k m
 
 writes-start : (h g : Heap) (addr offset : ℕ) (bytes : List ℕ) (o : Option Row) (result : Done) → WritesAt h addr offset bytes o result g
     → beginning_of g ≡ beginning_of h

@@ -8,6 +8,7 @@ use Rattle.rlsf_malloc.proofs.Walking.{Ty, local, value_local, ty_ptr, ty_int, t
 use Rattle.rlsf_malloc.proofs.Walking.{return, RattleType, Ended, Clauses, closing, Meets}
 use Rattle.rlsf_malloc.proofs.Steps.{called, changes, finished, gives_out, lends_heap, passes, passes_number}
 use Rattle.rlsf_malloc.proofs.HeapKinds.{Kind, row}
+use Rattle.rlsf_malloc.proofs.Templates.Signatures.{one_number}
 use Rattle.rlsf_c_lemmas.proofs.Lending.{in_its_block}
 use contract.Lifetimes.{Lfts}
 use denote.Memory.{lone}
@@ -44,10 +45,7 @@ function σ τ θ callee finish = record {
 
 -- its signature, and what the call is passed beside the heap
 abbrev pub exported : Ended
-exported = record {
-  signature = record { lifetimes = 0; outlives = []; params = plain (λ κs. RawPtr) ∷ plain (λ κs. usize) ∷ []; result = plain (λ κs. usize) };
-  kept = (yes, (yes, tt));
-}
+exported = one_number usize
 
 abbrev pub more : List (Slot 5)
 more = plain (λ κs. usize) ∷ []

@@ -9,6 +9,7 @@ use Rattle.rlsf_malloc.proofs.Walking.{seq, assign, place, rv_opd, copy, opd_uni
 use Rattle.rlsf_malloc.proofs.Walking.{Meets, Good}
 use Rattle.rlsf_malloc.proofs.Steps.{Payloads, called, changes, lends_heap, taken, takes, takes_payload}
 use Rattle.rlsf_malloc.proofs.HeapKinds.{Kind, row}
+use Rattle.rlsf_malloc.proofs.Templates.Signatures.{one_number, number_and}
 use Rattle.rlsf_c_lemmas.proofs.Lending.{in_its_block}
 use contract.Lifetimes.{Lfts}
 use denote.RattleType.{Denots}
@@ -40,13 +41,10 @@ function σ τ θ source callee = record {
 
 -- its signature, and what the call is passed beside the heap
 abbrev pub exported : Ended
-exported = record {
-  signature = record { lifetimes = 0; outlives = []; params = plain (λ κs. RawPtr) ∷ plain (λ κs. usize) ∷ []; result = plain (λ κs. unit) };
-  kept = (yes, (yes, tt));
-}
+exported = one_number unit
 
 abbrev pub more : RattleType → List (Slot 5)
-more Q = plain (λ κs. usize) ∷ plain (λ κs. Q) ∷ []
+more = number_and
 
 abbrev pub keeps : (Q : RattleType) → Kepts (more Q)
 keeps Q = (yes, (yes, tt))

@@ -8,6 +8,7 @@ use Rattle.rlsf_malloc.proofs.Walking.{value_local, ty_ptr, ty_int, ty_ref, eras
 use Rattle.rlsf_malloc.proofs.Walking.{RattleType, Ended, Clauses}
 use Rattle.rlsf_malloc.proofs.Steps.{Payloads, Trades, called, changes, gives_out, lends_heap, passes_number, takes_payload}
 use Rattle.rlsf_malloc.proofs.HeapKinds.{Kind, row}
+use Rattle.rlsf_malloc.proofs.Templates.Signatures.{one_number, number_and}
 use Rattle.rlsf_c_lemmas.proofs.Lending.{in_its_block}
 use contract.Lifetimes.{Lfts}
 use denote.RattleType.{Denots}
@@ -40,13 +41,10 @@ function σ τ θ ζ source callee finish = record {
 
 -- its signature, and what the call is passed beside the heap
 abbrev pub exported : Ended
-exported = record {
-  signature = record { lifetimes = 0; outlives = []; params = plain (λ κs. RawPtr) ∷ plain (λ κs. usize) ∷ []; result = plain (λ κs. usize) };
-  kept = (yes, (yes, tt));
-}
+exported = one_number usize
 
 abbrev pub more : RattleType → List (Slot 5)
-more Q = plain (λ κs. usize) ∷ plain (λ κs. Q) ∷ []
+more = number_and
 
 abbrev pub keeps : (Q : RattleType) → Kepts (more Q)
 keeps Q = (yes, (yes, tt))

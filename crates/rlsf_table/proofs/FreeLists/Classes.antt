@@ -1,12 +1,13 @@
 -- The free blocks of one class, among all free blocks.
-use Rattle.std.proofs.Common.{◌≡◌, ℕ, ◌≤◌, Bool, true, false, cond, filter, List, [], ◌∷◌, ◌++◌, arith, inl, inr, sym, ◌∙◌, ap, subst, true≢false}
+use Rattle.std.proofs.Common.{◌≡◌, ℕ, ◌≤◌, Bool, true, false, cond, filter, List, [], ◌∷◌, ◌++◌, arith, sym, ◌∙◌, ap}
 use Rattle.std.proofs.lemmas.List.Elements.{filter-append}
 use Rattle.rlsf_base.specs.declared.memory.range.Range.{Range}
+use Rattle.rlsf_base.specs.SizeClass.{class_at}
 use Rattle.rlsf_model.specs.Allocate.{has_class}
 use Rattle.rlsf_model.specs.Lists.{IsIn}
 use Rattle.rlsf_model.specs.WellFormed.{coverage, itself}
-use Rattle.rlsf_model.proofs.Coverage.{by_test}
-use Rattle.rlsf_table.specs.Table.{class_at, of_class}
+use Rattle.rlsf_model.proofs.Coverage.{by_test, IsIn-filter, IsIn-filter_from}
+use Rattle.rlsf_table.specs.Table.{of_class}
 
 -- ---- what a filter keeps
 
@@ -15,21 +16,6 @@ filter-yes p x xs e = ap (λ b. cond b (x ∷ filter p xs) (filter p xs)) e
 
 filter-no : {A : Type 0} (p : A → Bool) (x : A) (xs : List A) → p x ≡ false → filter p (x ∷ xs) ≡ filter p xs
 filter-no p x xs e = ap (λ b. cond b (x ∷ filter p xs) (filter p xs)) e
-
--- it keeps elements of the list, which pass
-IsIn-filter : {A : Type 0} (p : A → Bool) (x : A) (xs : List A) → IsIn x (filter p xs) → IsIn x xs × (p x ≡ true)
-IsIn-filter p x [] i = absurd i
-IsIn-filter p x (y ∷ ys) i = by_test (p y)
-    (λ e. let kept : IsIn x (y ∷ filter p ys) = subst (IsIn x) (filter-yes p y ys e) i in
-    elim kept [ inl same ↦ (inl same, ap p same ∙ e) | inr j ↦ let rest = IsIn-filter p x ys j in (inr rest.0, rest.1) ])
-    (λ e. let rest = IsIn-filter p x ys (subst (IsIn x) (filter-no p y ys e) i) in (inr rest.0, rest.1))
-
--- and all of those that pass
-IsIn-filter_from : {A : Type 0} (p : A → Bool) (x : A) (xs : List A) → IsIn x xs → p x ≡ true → IsIn x (filter p xs)
-IsIn-filter_from p x [] i passes = absurd i
-IsIn-filter_from p x (y ∷ ys) i passes = by_test (p y)
-    (λ e. subst (IsIn x) (sym (filter-yes p y ys e)) (elim i [ inl same ↦ inl same | inr j ↦ inr (IsIn-filter_from p x ys j passes) ]))
-    (λ e. subst (IsIn x) (sym (filter-no p y ys e)) (elim i [ inl same ↦ absurd (true≢false (sym passes ∙ ap p same ∙ e)) | inr j ↦ IsIn-filter_from p x ys j passes ]))
 
 -- it has no address more than the list
 coverage-filter : (p : Range → Bool) (xs : List Range) (a : ℕ) → coverage itself (filter p xs) a ≤ coverage itself xs a

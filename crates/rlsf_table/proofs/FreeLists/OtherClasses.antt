@@ -1,7 +1,7 @@
 -- The links of one class were written: the lists of the other classes are as they were.
 use Rattle.std.proofs.Common.{◌≡◌, ℕ, ◌+◌, ◌≤◌, List, arith, inl, inr, subst, sym, ◌∙◌, ap}
 use Rattle.std.proofs.lemmas.Bool.{cases_eq}
-use Rattle.rlsf_base.specs.SizeClass.{class_of}
+use Rattle.rlsf_base.specs.SizeClass.{class_of, class_at}
 use Rattle.rlsf_base.specs.declared.memory.range.Range.{Range}
 use Rattle.rlsf_base.specs.Space.{Space}
 use Rattle.rlsf_model.specs.Lists.{IsIn}
@@ -9,7 +9,7 @@ use Rattle.rlsf_model.specs.WellFormed.{coverage, itself}
 use Rattle.rlsf_model.proofs.Choices.{has_class-true}
 use Rattle.rlsf_table.specs.FreeList.{Links}
 use Rattle.rlsf_table.specs.Rewrites.{IsLink, CanBeBlock, Rewrites}
-use Rattle.rlsf_table.specs.Table.{class_at, of_class}
+use Rattle.rlsf_table.specs.Table.{of_class}
 use Rattle.rlsf_table.proofs.FreeLists.Chains.{Links-Rewrites, starts_apart}
 use Rattle.rlsf_table.proofs.FreeLists.Classes.{IsIn-of_class}
 

@@ -5,14 +5,14 @@ use Rattle.std.specs.List.{list_any}
 use Rattle.std.proofs.Math.Bool.{or_comm, and-true}
 use Rattle.std.proofs.lemmas.Bool.{cases_eq, eq-eqb, ne_eqb, and_from, and_left, and_right}
 use Rattle.rlsf_base.specs.declared.memory.range.Range.{Range}
-use Rattle.rlsf_base.specs.SizeClass.{SizeClass, class_of}
+use Rattle.rlsf_base.specs.SizeClass.{SizeClass, class_of, class_at}
 use Rattle.rlsf_int.specs.Bits.{bit, bit-zero}
 use Rattle.rlsf_int.proofs.Bits.{same_from_ones}
 use Rattle.rlsf_model.specs.Allocate.{has_class}
 use Rattle.rlsf_model.proofs.Choices.{has_class-from, has_class-true}
 use Rattle.rlsf_model.specs.Lists.{IsIn}
 use Rattle.rlsf_model.proofs.Coverage.{by_test, IsIn-append_right}
-use Rattle.rlsf_table.specs.Table.{Table, class_at, is_in_row, HasBits, IsHeadOf}
+use Rattle.rlsf_table.specs.Table.{Table, is_in_row, HasBits, IsHeadOf}
 use Rattle.rlsf_table.proofs.Tables.Tests.{list_any-true, list_any-some, list_any-false, list_any-less_one, list_any-amid, filter-none, list_any-filtered}
 
 -- ---- a bit that is cleared

@@ -2,7 +2,7 @@
 use Rattle.std.proofs.Common.{◌≡◌, ℕ, ◌<◌, true≢false, List, [], ◌∷◌, Some, None, find, arith, refl, sym, ◌∙◌, subst}
 use Rattle.rlsf_base.specs.declared.memory.range.Range.{Range}
 use Rattle.rlsf_base.specs.SearchStart.{IsSearchStart, NoneReaches}
-use Rattle.rlsf_base.specs.SizeClass.{class_of, IsAtMost, Reaches}
+use Rattle.rlsf_base.specs.SizeClass.{class_of, IsAtMost, Reaches, class_at}
 use Rattle.rlsf_base.specs.Space.{Space}
 use Rattle.rlsf_base.proofs.SizeClasses.Reach.{division-lt}
 use Rattle.rlsf_model.specs.Allocate.{has_class, choice}
@@ -13,7 +13,7 @@ use Rattle.rlsf_model.proofs.Coverage.{find-some}
 use Rattle.rlsf_table.specs.declared.table.ClassIndex.{ClassIndex}
 use Rattle.rlsf_table.specs.FreeList.{Links}
 use Rattle.rlsf_table.specs.FreeTable.{IsLeastFrom}
-use Rattle.rlsf_table.specs.Table.{Table, class_at, head_at, of_class, HasLists}
+use Rattle.rlsf_table.specs.Table.{Table, head_at, of_class, HasLists}
 use Rattle.rlsf_table.proofs.Tables.Tests.{list_any-true, list_any-filtered, find-filtered}
 
 module _ (fllen sllen size : ℕ) (any : 0 < sllen) (free : List Range) (blocks : (f : Range) → IsIn f free → IsFree fllen sllen f) where

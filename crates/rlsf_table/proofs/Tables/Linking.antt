@@ -1,7 +1,7 @@
 -- The class table once a block was linked in front of the list of its class, or taken out of it.
 use Rattle.std.proofs.Common.{◌≡◌, ◌≢◌, ◌↔◌, ℕ, ◌<◌, ◌≤◌, false, List, [], ◌∷◌, ◌++◌, arith, inl, inr, refl, sym, ◌∙◌, ap, subst}
 use Rattle.std.proofs.lemmas.Bool.{false_from_ne_true}
-use Rattle.rlsf_base.specs.SizeClass.{class_of}
+use Rattle.rlsf_base.specs.SizeClass.{class_of, class_at}
 use Rattle.rlsf_base.specs.declared.memory.range.Range.{Range}
 use Rattle.rlsf_base.specs.Space.{Space}
 use Rattle.rlsf_model.specs.Allocate.{has_class}
@@ -13,7 +13,7 @@ use Rattle.rlsf_table.specs.FreeList.{Links}
 use Rattle.rlsf_table.specs.Rewrites.{IsLink, CanBeBlock, Rewrites}
 use Rattle.rlsf_table.specs.Steps.ClassList.{IsFreeList}
 use Rattle.rlsf_table.specs.FreeTable.{IsFreeTable, IsRoom}
-use Rattle.rlsf_table.specs.Table.{IsClassAt, IsHeadOf, IsHeadSet, Table, class_at, head_at, of_class, HasBits, HasTable}
+use Rattle.rlsf_table.specs.Table.{IsClassAt, IsHeadOf, IsHeadSet, Table, head_at, of_class, HasBits, HasTable}
 use Rattle.rlsf_table.proofs.FreeLists.Chains.{first_of, IsIn-removal}
 use Rattle.rlsf_table.proofs.FreeLists.Classes.{coverage-of_class, IsIn-of_class, of_class-append, of_class-front_same, of_class-front_other, of_class-amid_same}
 use Rattle.rlsf_table.proofs.FreeLists.Classes.{of_class-amid_other}

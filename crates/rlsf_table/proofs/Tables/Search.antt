@@ -1,11 +1,9 @@
 -- The search for the first class that has free ranges, from a class on, by the bits of the class table.
-use Rattle.std.proofs.Common.{◌≡◌, ℕ, ◌+◌, ◌-◌, ◌^◌, ◌<◌, ◌≤◌, true, nat_le, true≢false, List, Some, None, slice_index, arith, refl, sym, ◌∙◌}
+use Rattle.std.proofs.Common.{◌≡◌, ℕ, ◌+◌, ◌-◌, ◌<◌, ◌≤◌, true, nat_le, true≢false, List, Some, None, slice_index, arith, refl, sym, ◌∙◌}
 use Rattle.std.proofs.Common.{ap, inl, inr}
 use Rattle.std.proofs.lemmas.Bool.{cases_eq, cases_lt, cond-true, cond-false, eq-eqb, eqb-true, le-leb, lt-leb}
 use Rattle.rlsf_base.specs.declared.memory.range.Range.{Range}
-use Rattle.rlsf_base.specs.PowerOfTwo.{floor_log2}
-use Rattle.rlsf_base.specs.SizeClass.{class_of, IsAtMost}
-use Rattle.rlsf_base.proofs.Numbers.PowersOfTwo.{floor_log2-lt, pow-between}
+use Rattle.rlsf_base.specs.SizeClass.{class_of, IsAtMost, class_at}
 use Rattle.rlsf_base.proofs.SizeClasses.Reach.{division-lt}
 use Rattle.rlsf_int.specs.Bits.{bit, IsFirstOne}
 use Rattle.rlsf_model.specs.Allocate.{has_class}
@@ -13,13 +11,9 @@ use Rattle.rlsf_model.specs.Lists.{IsIn}
 use Rattle.rlsf_model.specs.WellFormed.{IsFree}
 use Rattle.rlsf_model.proofs.Choices.{has_class-from, has_class-true}
 use Rattle.rlsf_table.specs.FreeTable.{IsLeastFrom}
-use Rattle.rlsf_table.specs.Table.{Table, class_at, is_in_row, HasBits}
+use Rattle.rlsf_table.specs.Table.{Table, is_in_row, HasBits}
 use Rattle.rlsf_table.specs.Steps.Places.{scanned_places}
 use Rattle.rlsf_table.proofs.Tables.Tests.{list_any-true, list_any-some}
-
--- a free range's row is the first one or one behind it
-pub row_from : {fllen sllen : ℕ} {f : Range} → IsFree fllen sllen f → 5 ≤ (class_of sllen f.len).exponent
-row_from {f = f} is = let long : 2 ^ 5 ≤ f.len = omega (arith, is.some, is.whole.len) in pow-between f.len 5 (floor_log2 f.len) long (floor_log2-lt f.len is.some)
 
 module _ {fllen sllen : ℕ} {t : Table} {free : List Range} (any : 0 < sllen) (bits : HasBits fllen sllen t free)
     (blocks : (f : Range) → IsIn f free → IsFree fllen sllen f) where

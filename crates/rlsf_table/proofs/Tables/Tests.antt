@@ -58,7 +58,7 @@ module _ (p : Range → Bool) where
 -- ---- a range in the midst of others
 
 -- two Bools of which each is true where the other is
-same_truth : (a b : Bool) → (a ≡ true → b ≡ true) → (b ≡ true → a ≡ true) → a ≡ b
+pub same_truth : (a b : Bool) → (a ≡ true → b ≡ true) → (b ≡ true → a ≡ true) → a ≡ b
 same_truth true b to from = sym (to refl)
 same_truth false true to from = from refl
 same_truth false false to from = refl

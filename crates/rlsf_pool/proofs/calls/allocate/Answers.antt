@@ -1,10 +1,11 @@
 use Rattle.std.proofs.Common.{sym, subst}
 use Rattle.rlsf_model.specs.Allocate as machine
 use Rattle.rlsf_checked.specs.Answers.{addr_in}
+use Rattle.rlsf_checked.proofs.FieldsOverSteps.{step_of}
 use Rattle.rlsf_pool.specs.Answers.{place_of}
 use Rattle.rlsf_pool.specs.Calls.{Allocates}
 use Rattle.rlsf_pool.specs.Seen.{seen_in}
-use Rattle.rlsf_pool.proofs.Outcomes.{step_of, allocated}
+use Rattle.rlsf_pool.proofs.Outcomes.{allocated}
 use Rattle.rlsf_pool.proofs.calls.allocate.Goals as goal
 
 pub returns-in-Ok : goal.returns-in-Ok

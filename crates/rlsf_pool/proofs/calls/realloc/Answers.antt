@@ -3,10 +3,11 @@ use Rattle.rlsf_base.specs.Addr.{at}
 use Rattle.rlsf_model.specs.Callers.{align_at}
 use Rattle.rlsf_model.specs.Reallocate.{Reallocates}
 use Rattle.rlsf_checked.specs.Answers.{addr_in}
+use Rattle.rlsf_checked.proofs.FieldsOverSteps.{step_of}
 use Rattle.rlsf_pool.specs.Answers.{place_of}
 use Rattle.rlsf_pool.specs.Calls.{Resizes}
 use Rattle.rlsf_pool.specs.Seen.{seen_in}
-use Rattle.rlsf_pool.proofs.Outcomes.{step_of, none_resized, resized}
+use Rattle.rlsf_pool.proofs.Outcomes.{none_resized, resized}
 use Rattle.rlsf_pool.proofs.Zero.{none_at_zero}
 use Rattle.rlsf_pool.proofs.calls.realloc.Goals as goal
 

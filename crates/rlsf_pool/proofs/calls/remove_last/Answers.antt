@@ -3,9 +3,9 @@ use Rattle.rlsf_blocks.specs.Blocks.{walked}
 use Rattle.rlsf_model.specs.Remove.{Removes}
 use Rattle.rlsf_pool.specs.Calls.{RemovesLast}
 use Rattle.rlsf_pool.specs.Seen.{seen_in}
-use Rattle.rlsf_pool.proofs.Outcomes.{step_of}
 use Rattle.rlsf_pool.proofs.Rewritten.{removed}
 use Rattle.rlsf_pool.proofs.calls.remove_last.Goals as goal
+use Rattle.rlsf_checked.proofs.FieldsOverSteps.{step_of}
 
 pub returns-then-remove_last : goal.returns-then-remove_last
 returns-then-remove_last g c =

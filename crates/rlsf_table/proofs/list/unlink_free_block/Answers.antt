@@ -2,12 +2,13 @@
 use Rattle.std.proofs.Common.{◌≡◌, ℕ, ◌∷◌, ◌++◌, ◌+◌, List, ◌∙◌, ap, arith, inl, length, refl, subst, sym}
 use Rattle.rlsf_base.specs.Space.{Space, word_at}
 use Rattle.rlsf_base.specs.declared.memory.range.Range.{Range}
+use Rattle.rlsf_base.specs.SizeClass.{class_at}
 use Rattle.rlsf_model.proofs.Choices.{has_class-from}
 use Rattle.rlsf_model.proofs.Coverage.{IsIn-append_right}
 use Rattle.rlsf_table.specs.Counts.{Costs}
 use Rattle.rlsf_table.specs.FreeList.{Links}
 use Rattle.rlsf_table.specs.Steps.ClassList.{IsFreeList}
-use Rattle.rlsf_table.specs.Table.{class_at, head_at, of_class}
+use Rattle.rlsf_table.specs.Table.{head_at, of_class}
 use Rattle.rlsf_table.proofs.Costs.{Costs-counted, Costs-loaded, Costs-then, Costs-within}
 use Rattle.rlsf_table.proofs.Tables.Linking.{HasTable-removal, HasTable-removal_behind, IsFreeList-amid, IsFreeList-of_class, IsHeadOf-removal, Rewrites-amid_class}
 use Rattle.rlsf_table.proofs.FreeLists.Classes.{IsIn-of_class_from}

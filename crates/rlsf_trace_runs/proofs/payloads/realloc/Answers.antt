@@ -4,13 +4,14 @@ use Rattle.rlsf_base.specs.Addr.{reply}
 use Rattle.rlsf_base.specs.Layout.{IsLayout}
 use Rattle.rlsf_model.specs.Reallocate.{Reallocates}
 use Rattle.rlsf_model.specs.State.{State, Used}
+use Rattle.rlsf_model.proofs.Chunks.{chunks-reallocated}
 use Rattle.rlsf_blocks.specs.Spare.{KeepsSpare}
 use Rattle.rlsf_tlsf.proofs.Standing.{stepped}
 use Rattle.rlsf_trace_runs.specs.Names.{address}
 use Rattle.rlsf_trace_runs.specs.Runs.{Owns, RunState, with_name}
 use Rattle.rlsf_trace_runs.specs.Steps.Tables.{IsAt}
 use Rattle.rlsf_trace_runs.proofs.Named.{AreNamed-reallocated, owned_live, unnamed}
-use Rattle.rlsf_trace_runs.proofs.NamedPayloads.{IsAt-named, IsAt-unmoved, reallocation_keeps_chunks, reallocation_refused, LeadsOn-nothing, room_left}
+use Rattle.rlsf_trace_runs.proofs.NamedPayloads.{IsAt-named, IsAt-unmoved, reallocation_refused, LeadsOn-nothing, room_left}
 use Rattle.rlsf_trace_text.specs.declared.op.Answer.TheVariants.{Refused}
 use Rattle.rlsf_trace_text.specs.declared.op.Op.TheVariants.{Realloc}
 use Rattle.rlsf_trace_text.specs.declared.op.TraceError.TheVariants.{BadLayout, UnknownName}
@@ -34,7 +35,7 @@ returns-in-Some-placed g c = record {
       refl c.add_name.ensures.names in (
         _,
         (u, owns, valid, t, subst (λ a. Reallocates g.row.SLLEN s.machine a c.args.size (Some to) t) (sym holds.1) step, refl),
-        IsAt-named at c.in-Some-placed.ensures.frame.place t stands (reallocation_keeps_chunks g.row.SLLEN s.machine t (address p) c.args.size (Some to) step)
+        IsAt-named at c.in-Some-placed.ensures.frame.place t stands (chunks-reallocated g.row.SLLEN s.machine t (address p) c.args.size (Some to) step)
             c.add_name.ensures.pools
             named,
         keeps,

@@ -3,6 +3,7 @@ use Rattle.std.specs.Int.NonZero.{non_zero_usize_get}
 use Rattle.rlsf_base.specs.Addr.{reply}
 use Rattle.rlsf_model.specs.Allocate.{Allocates}
 use Rattle.rlsf_model.specs.State.{State}
+use Rattle.rlsf_model.proofs.Chunks.{chunks-allocated}
 use Rattle.rlsf_blocks.specs.Spare.{KeepsSpare}
 use Rattle.rlsf_trace_text.specs.declared.op.Answer.TheVariants.{Refused}
 use Rattle.rlsf_trace_text.specs.declared.op.Op.TheVariants.{Alloc}
@@ -12,7 +13,7 @@ use Rattle.rlsf_trace_runs.specs.Names.{address}
 use Rattle.rlsf_trace_runs.specs.Runs.{RunState, with_name}
 use Rattle.rlsf_trace_runs.specs.Steps.Tables.{IsAt}
 use Rattle.rlsf_trace_runs.proofs.Named.{AreNamed-allocated, unnamed}
-use Rattle.rlsf_trace_runs.proofs.NamedPayloads.{allocation_keeps_chunks, IsAt-named, IsAt-unmoved, LeadsOn-nothing, none_is, room_left, some_is}
+use Rattle.rlsf_trace_runs.proofs.NamedPayloads.{IsAt-named, IsAt-unmoved, LeadsOn-nothing, none_is, room_left, some_is}
 use Rattle.rlsf_trace_runs.proofs.runs.alloc.Goals as goal
 
 pub returns-in-Some : goal.returns-in-Some
@@ -27,7 +28,7 @@ returns-in-Some g c = record {
       c.add_name.ensures.names in (
         _,
         (free, t, step, refl),
-        IsAt-named at c.in-Some.ensures.frame.place t stands (allocation_keeps_chunks g.row.SLLEN s.machine t layout.size layout.align (Some addr) step) c.add_name.ensures.pools
+        IsAt-named at c.in-Some.ensures.frame.place t stands (chunks-allocated g.row.SLLEN s.machine t layout.size layout.align (Some addr) step) c.add_name.ensures.pools
             named,
         keeps,
       );

@@ -4,8 +4,9 @@ use Rattle.std.specs.Int.NonZero.{non_zero_usize_get}
 use Rattle.rlsf_example_libraries.specs.Handled.{lists_in, places_in}
 use Rattle.rlsf_example_libraries.specs.Budgets.{HasBudgetFor, HasBudgetOf}
 use Rattle.rlsf_example_libraries.specs.Stored.{FitsPool, HasAmong, place}
-use Rattle.rlsf_example_libraries.proofs.HandledStores.{HasBudgetFor-handled, OnErr-always, SamePlace-then, Shows, absent, none_stored, one_more, same_given_back, same_items}
+use Rattle.rlsf_example_libraries.proofs.HandledStores.{HasBudgetFor-handled, SamePlace-then, Shows, absent, none_stored, one_more, same_given_back, same_items}
 use Rattle.rlsf_example_libraries.proofs.items.Items.add.Goals as goal
+use Rattle.rlsf_blocks.proofs.Refused.{err_always}
 
 pub returns-in_default : goal.returns-in_default
 returns-in_default c = record {
@@ -50,7 +51,7 @@ returns-in_err-handle c = record {
   known = search rules;
   room = search rules;
   enough = search rules;
-  refused = rw (← c.self.view_is) (OnErr-always c.from_residual.result (kept c).1);
+  refused = rw (← c.self.view_is) (err_always c.from_residual.result (kept c).1);
 }
 
 -- the store with one more

@@ -4,8 +4,9 @@ use Rattle.std.specs.Int.NonZero.{non_zero_usize_get}
 use Rattle.rlsf_example_libraries.specs.Handled.{lists_in, places_in}
 use Rattle.rlsf_example_libraries.specs.Budgets.{HasBudgetFor, HasBudgetOf}
 use Rattle.rlsf_example_libraries.specs.Stored.{FitsPool, HasAmong, place}
-use Rattle.rlsf_example_libraries.proofs.HandledStores.{HasBudgetFor-handled, OnErr-always, SamePlace-then, Shows, absent, none_stored, one_more, same_given_back, same_items}
+use Rattle.rlsf_example_libraries.proofs.HandledStores.{HasBudgetFor-handled, SamePlace-then, Shows, absent, none_stored, one_more, same_given_back, same_items}
 use Rattle.rlsf_example_libraries.proofs.items.Items.add_zeros.Goals as goal
+use Rattle.rlsf_blocks.proofs.Refused.{err_always}
 
 pub returns-in_default-clause-room : goal.returns-in_default-clause-room
 returns-in_default-clause-room c = λ none fits _.
@@ -72,7 +73,7 @@ returns-in_err-handle c = record {
   enough = search rules;
   tiled = search rules;
   uniform = rw (← c.self.view_is) (λ small d is. c.keep.ensures.uniform _ d (c.add_zeros.ensures.uniform _ c.self.invariant small d is));
-  refused = rw (← c.self.view_is) (OnErr-always c.from_residual.result (kept c).1);
+  refused = rw (← c.self.view_is) (err_always c.from_residual.result (kept c).1);
 }
 
 pub returns : goal.returns

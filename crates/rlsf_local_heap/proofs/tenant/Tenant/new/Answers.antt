@@ -4,9 +4,12 @@ use Rattle.rlsf_model.specs.Callers.{align_at}
 use Rattle.rlsf_base.specs.Range.{range_at}
 use Rattle.rlsf_heap.specs.Heap.{Steps}
 use Rattle.rlsf_heap.proofs.Frames.{frame_same}
+use Rattle.rlsf_heap.proofs.Allocated.{if_none, if_some}
 use Rattle.rlsf_local_heap.specs.Constants.{chunks_of_range}
-use Rattle.rlsf_local_heap.proofs.Outcomes.{at_address, at_none, both, each_value, if_none, made_of, not_made, of_none, others_stay}
+use Rattle.rlsf_local_heap.proofs.Outcomes.{at_address, both, made_of, not_made, others_stay}
 use Rattle.rlsf_local_heap.proofs.tenant.Tenant.new.Goals as goal
+use Rattle.rlsf_tlsf.proofs.Replied.{some_more}
+use Rattle.rlsf_blocks.proofs.Refused.{none_more}
 
 pub returns-then-is_too_long : goal.returns-then-is_too_long
 returns-then-is_too_long g c =
@@ -22,10 +25,10 @@ returns-then-is_too_long g c =
 pub returns-in_err-fields : goal.returns-in_err-fields
 returns-in_err-fields g c =
     let none = c.from_residual.ensures in record {
-      step = of_none _ none;
-      result = of_none _ none;
+      step = if_some _ none;
+      result = if_some _ none;
       aligns = λ a live. refl;
-      refused = at_none _ none (record { same = refl; bytes = refl });
+      refused = if_none _ none (record { same = refl; bytes = refl });
       frame = frame_same c.args.pool.now;
       touches = omega arith;
     }
@@ -46,8 +49,8 @@ returns g c =
         live = ap (align_at new.state) ties.0.1 ∙ is.live;
         count = is.count;
       }) did.result;
-      aligns = others_stay old.state new.state payload (each_value payload (λ p is. is.new) did.result) (each_value payload (λ p is. is.aligns) did.result)
-          (if_none payload (λ is. is.same) did.refused);
+      aligns = others_stay old.state new.state payload (some_more payload (λ p is. is.new) did.result) (some_more payload (λ p is. is.aligns) did.result)
+          (none_more payload (λ is. is.same) did.refused);
       refused = not_made _ payload tenant over.some did.refused;
       frame = did.frame;
       touches = did.touches;

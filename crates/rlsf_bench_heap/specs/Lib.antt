@@ -1,2 +1,0 @@
--- The definitions of the slots.
-pub mod Slots
