@@ -2,16 +2,14 @@
 use Rattle.std.proofs.Common.{◌≡◌, ◌%◌, ℕ, refl, w64}
 use mathlib.Core.List.{List, [], ◌∷◌}
 use contract.Running.{Running, tables}
-use denote.Builtin.{usize}
 use denote.Laws.{Is}
 use denote.Memory.{lone}
 use denote.Param.{bounded, number, param}
 use denote.Param.Laws.{Laws, param_laws}
-use denote.Plain.{uint_Lawful}
 use denote.RattleType.{RattleType}
 use denote.Triple.Clauses.{Clauses, Ended, closing}
 use denote.Triple.Spec.{Meets}
-use mir.Syntax.{Args, Callee, Dict, Fn, Ty, a_number, a_type, dcons, dnil, ty_int}
+use mir.Syntax.{Args, Callee, Dict, Fn, Ty, a_number, a_type, dcons, dnil}
 use mir.Val.{Fits, Val}
 use prog.Model.{Model}
 use prog.Wired.{Wired}
@@ -53,14 +51,10 @@ use Rattle.rlsf_heap.proofs.thin.ThinPayload.into_raw.Symbol as into_raw
 use Rattle.rlsf_heap.proofs.thin.ThinPayload.into_raw.Met.{met as into_raw_met}
 use Rattle.rlsf_malloc.specs.Blocks.{AreTotals, IsAny, IsCheckOf, IsListing}
 use Rattle.rlsf_malloc.specs.Calls.{Allocates, AllocatesZeroed, IsFresh, IsOver, IsReady, OwnsLent, aligned_for}
-use Rattle.rlsf_malloc.specs.contracts.replies.Measured as measured
-use Rattle.rlsf_malloc.specs.contracts.replies.Resized as resized
-use Rattle.rlsf_malloc.proofs.replies.Measured.TheLaws as measured_laws
-use Rattle.rlsf_malloc.proofs.replies.Measured.into_raw.Symbol as measured_into_raw
-use Rattle.rlsf_malloc.proofs.replies.Measured.into_raw.Met.{met as measured_into_raw_met}
-use Rattle.rlsf_malloc.proofs.replies.Resized.TheLaws as resized_laws
-use Rattle.rlsf_malloc.proofs.replies.Resized.into_raw.Symbol as resized_into_raw
-use Rattle.rlsf_malloc.proofs.replies.Resized.into_raw.Met.{met as resized_into_raw_met}
+use Rattle.rlsf_malloc.specs.contracts.replies.Reply as reply
+use Rattle.rlsf_malloc.proofs.replies.Reply.TheLaws as reply_laws
+use Rattle.rlsf_malloc.proofs.replies.Reply.into_raw.Symbol as reply_into_raw
+use Rattle.rlsf_malloc.proofs.replies.Reply.into_raw.Met.{met as reply_into_raw_met}
 use Rattle.rlsf_malloc.proofs.HeapKinds.{Kind, row}
 use Rattle.rlsf_malloc.proofs.Outcomes.{fresh}
 use Rattle.rlsf_malloc.proofs.Payloads as does
@@ -133,8 +127,8 @@ module _ (K : Kind) {M : Type 1} (𝓤 : Ura M) (𝓛 : Logic 𝓤) (𝓜 : Mode
   abbrev Payload : Ty
   Payload = lone payload.the_row.mir
 
-  abbrev Resized : Ty
-  Resized = lone resized.the_row.mir
+  abbrev Reply : Ty
+  Reply = lone reply.the_row.mir
 
   abbrev Loan : Ty
   Loan = lone loan.the_row.mir
@@ -151,11 +145,8 @@ module _ (K : Kind) {M : Type 1} (𝓤 : Ura M) (𝓛 : Logic 𝓤) (𝓜 : Mode
   payload_typed : (q : payload.the_row.Denot) (v : Val) → Is payload.the_row q (v ∷ []) → Good Payload v
   payload_typed q v is = ((payload_laws.the_row_laws.lawful 𝓛).typed q _ is).0
 
-  resized_typed : (q : resized.the_row.Denot) (v : Val) → Is resized.the_row q (v ∷ []) → Good Resized v
-  resized_typed q v is = ((resized_laws.the_row_laws.lawful 𝓛).typed q _ is).0
-
-  number_typed : (n : ℕ) (v : Val) → Is usize n (v ∷ []) → Good (ty_int w64) v
-  number_typed n v is = ((uint_Lawful 𝓛 w64).typed n _ is).0
+  reply_typed : (q : reply.the_row.Denot) (v : Val) → Is reply.the_row q (v ∷ []) → Good Reply v
+  reply_typed q v is = ((reply_laws.the_row_laws.lawful 𝓛).typed q _ is).0
 
   pub begins : Wired 𝓡.env from_raw_parts.code → Wired 𝓡.env over.code → (key : Callee)
       → Proved Begins.exported (Begins.outer K IsOver IsFresh 𝓛) key (Begins.function (lone (row K).mir) (lone memory.mir) (over.name args))
@@ -198,33 +189,33 @@ module _ (K : Kind) {M : Type 1} (𝓤 : Ura M) (𝓛 : Logic 𝓤) (𝓜 : Mode
   frees takes calls σ τ key code = Takes.exports K payloads (does.frees K) 𝓤 𝓛 𝓜 𝓡 σ τ Payload key from_raw.name (free.name args) payload_typed code
       (from_raw_met 𝓤 𝓛 𝓜 𝓡 takes) (at_kind (free_met 𝓤 𝓛 𝓜 𝓡 calls))
 
-  pub measures : Wired 𝓡.env from_raw.code → Wired 𝓡.env usable.code → Wired 𝓡.env measured_into_raw.code → (σ τ : Ty) (key : Callee)
+  pub measures : Wired 𝓡.env from_raw.code → Wired 𝓡.env usable.code → Wired 𝓡.env reply_into_raw.code → (σ τ : Ty) (key : Callee)
       → Proved Trades0.exported (Trades0.outer K payloads (does.measures K) 𝓛) key
-      (Trades0.function σ τ Payload (lone measured.the_row.mir) from_raw.name (usable.name args) measured_into_raw.name)
-  measures takes calls passes σ τ key code = Trades0.exports K payloads (does.measures K) 𝓤 𝓛 𝓜 𝓡 σ τ Payload (lone measured.the_row.mir)
-      key from_raw.name (usable.name args) measured_into_raw.name payload_typed (λ q v is. ((measured_laws.the_row_laws.lawful 𝓛).typed q _ is).0) code
-      (from_raw_met 𝓤 𝓛 𝓜 𝓡 takes) (at_kind (usable_met 𝓤 𝓛 𝓜 𝓡 calls)) (measured_into_raw_met 𝓤 𝓛 𝓜 𝓡 passes)
+      (Trades0.function σ τ Payload Reply from_raw.name (usable.name args) reply_into_raw.name)
+  measures takes calls passes σ τ key code = Trades0.exports K payloads (does.measures K) 𝓤 𝓛 𝓜 𝓡 σ τ Payload Reply
+      key from_raw.name (usable.name args) reply_into_raw.name payload_typed reply_typed code
+      (from_raw_met 𝓤 𝓛 𝓜 𝓡 takes) (at_kind (usable_met 𝓤 𝓛 𝓜 𝓡 calls)) (reply_into_raw_met 𝓤 𝓛 𝓜 𝓡 passes)
 
-  pub reallocates : Wired 𝓡.env from_raw.code → Wired 𝓡.env resize_any.code → Wired 𝓡.env resized_into_raw.code → (σ τ : Ty) (key : Callee)
+  pub reallocates : Wired 𝓡.env from_raw.code → Wired 𝓡.env resize_any.code → Wired 𝓡.env reply_into_raw.code → (σ τ : Ty) (key : Callee)
       → Proved Trades1.exported (Trades1.outer K payloads (does.reallocates K) 𝓛) key
-      (Trades1.function σ τ Payload Resized from_raw.name (resize_any.name args) resized_into_raw.name)
-  reallocates takes calls passes σ τ key code = Trades1.exports K payloads (does.reallocates K) 𝓤 𝓛 𝓜 𝓡 σ τ Payload Resized
-      key from_raw.name (resize_any.name args) resized_into_raw.name payload_typed resized_typed code
-      (from_raw_met 𝓤 𝓛 𝓜 𝓡 takes) (at_kind (resize_any_met 𝓤 𝓛 𝓜 𝓡 calls)) (resized_into_raw_met 𝓤 𝓛 𝓜 𝓡 passes)
+      (Trades1.function σ τ Payload Reply from_raw.name (resize_any.name args) reply_into_raw.name)
+  reallocates takes calls passes σ τ key code = Trades1.exports K payloads (does.reallocates K) 𝓤 𝓛 𝓜 𝓡 σ τ Payload Reply
+      key from_raw.name (resize_any.name args) reply_into_raw.name payload_typed reply_typed code
+      (from_raw_met 𝓤 𝓛 𝓜 𝓡 takes) (at_kind (resize_any_met 𝓤 𝓛 𝓜 𝓡 calls)) (reply_into_raw_met 𝓤 𝓛 𝓜 𝓡 passes)
 
-  pub reallocates_in_place : Wired 𝓡.env from_raw.code → Wired 𝓡.env resize_in_place.code → Wired 𝓡.env resized_into_raw.code → (σ τ : Ty) (key : Callee)
+  pub reallocates_in_place : Wired 𝓡.env from_raw.code → Wired 𝓡.env resize_in_place.code → Wired 𝓡.env reply_into_raw.code → (σ τ : Ty) (key : Callee)
       → Proved Trades1.exported (Trades1.outer K payloads (does.reallocates_in_place K) 𝓛) key
-      (Trades1.function σ τ Payload Resized from_raw.name (resize_in_place.name args) resized_into_raw.name)
-  reallocates_in_place takes calls passes σ τ key code = Trades1.exports K payloads (does.reallocates_in_place K) 𝓤 𝓛 𝓜 𝓡 σ τ Payload Resized
-      key from_raw.name (resize_in_place.name args) resized_into_raw.name payload_typed resized_typed code
-      (from_raw_met 𝓤 𝓛 𝓜 𝓡 takes) (at_kind (resize_in_place_met 𝓤 𝓛 𝓜 𝓡 calls)) (resized_into_raw_met 𝓤 𝓛 𝓜 𝓡 passes)
+      (Trades1.function σ τ Payload Reply from_raw.name (resize_in_place.name args) reply_into_raw.name)
+  reallocates_in_place takes calls passes σ τ key code = Trades1.exports K payloads (does.reallocates_in_place K) 𝓤 𝓛 𝓜 𝓡 σ τ Payload Reply
+      key from_raw.name (resize_in_place.name args) reply_into_raw.name payload_typed reply_typed code
+      (from_raw_met 𝓤 𝓛 𝓜 𝓡 takes) (at_kind (resize_in_place_met 𝓤 𝓛 𝓜 𝓡 calls)) (reply_into_raw_met 𝓤 𝓛 𝓜 𝓡 passes)
 
-  pub reallocates_aligned : Wired 𝓡.env from_raw.code → Wired 𝓡.env resize_aligned.code → Wired 𝓡.env resized_into_raw.code → (σ τ : Ty) (key : Callee)
+  pub reallocates_aligned : Wired 𝓡.env from_raw.code → Wired 𝓡.env resize_aligned.code → Wired 𝓡.env reply_into_raw.code → (σ τ : Ty) (key : Callee)
       → Proved Trades2.exported (Trades2.outer K payloads (does.reallocates_aligned K) 𝓛) key
-      (Trades2.function σ τ Payload Resized from_raw.name (resize_aligned.name args) resized_into_raw.name)
-  reallocates_aligned takes calls passes σ τ key code = Trades2.exports K payloads (does.reallocates_aligned K) 𝓤 𝓛 𝓜 𝓡 σ τ Payload Resized
-      key from_raw.name (resize_aligned.name args) resized_into_raw.name payload_typed resized_typed code
-      (from_raw_met 𝓤 𝓛 𝓜 𝓡 takes) (at_kind (resize_aligned_met 𝓤 𝓛 𝓜 𝓡 calls)) (resized_into_raw_met 𝓤 𝓛 𝓜 𝓡 passes)
+      (Trades2.function σ τ Payload Reply from_raw.name (resize_aligned.name args) reply_into_raw.name)
+  reallocates_aligned takes calls passes σ τ key code = Trades2.exports K payloads (does.reallocates_aligned K) 𝓤 𝓛 𝓜 𝓡 σ τ Payload Reply
+      key from_raw.name (resize_aligned.name args) reply_into_raw.name payload_typed reply_typed code
+      (from_raw_met 𝓤 𝓛 𝓜 𝓡 takes) (at_kind (resize_aligned_met 𝓤 𝓛 𝓜 𝓡 calls)) (reply_into_raw_met 𝓤 𝓛 𝓜 𝓡 passes)
 
   -- a range is complete contiguous chunks; and what is returned of one, where nothing changes
   abbrev IsRowOf : HeapView → ℕ → ℕ → Type 0

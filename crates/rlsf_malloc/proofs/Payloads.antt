@@ -10,8 +10,7 @@ use Rattle.rlsf_malloc.specs.contracts.replies.Lending as lending
 use Rattle.rlsf_malloc.specs.Calls.{AddsLent, AppendsLent, CanAppend, CanLend, CanRemove, Frees, IsAt, IsReady, IsUsable, RemovesLent, aligned_for}
 use Rattle.rlsf_malloc.specs.Replies.{number_of}
 use Rattle.rlsf_malloc.specs.Resizing.{ResizesAligned, ResizesAny, ResizesInPlace}
-use Rattle.rlsf_malloc.specs.contracts.replies.Measured as measured
-use Rattle.rlsf_malloc.specs.contracts.replies.Resized as resized
+use Rattle.rlsf_malloc.specs.contracts.replies.Reply as reply
 use Rattle.rlsf_malloc.proofs.HeapKinds.{Kind, row}
 use Rattle.rlsf_malloc.proofs.Steps.{Payloads}
 use Rattle.rlsf_malloc.proofs.Templates.Takes.{Export as Takes}
@@ -52,22 +51,22 @@ module _ (K : Kind) where
   abbrev pub measures : Trades0 (row K) payloads
   measures = record {
     S = λ v. IsReady v;
-    Z = measured.the_row;
-    num = λ z. z.len;
+    Z = reply.the_row;
+    num = λ z. z.number;
     gives = λ z. owns_reply z.payload.of;
     Fact = λ v d x. IsAt v x d;
     Asks = λ v x q. IsReady v × IsAt v x q.of;
-    Post = λ v x q z w. IsUsable v x q.of z.len z.payload.of w;
+    Post = λ v x q z w. IsUsable v x q.of z.number z.payload.of w;
     Outer = λ v d x r w p. IsUsable v x d r p w;
     asks = λ v d x q ready known made. (ready, subst (λ (p : PayloadView). IsAt v x p) (sym made.1) known);
-    packs = λ v d x q z w ready known made did. (z.payload.of, subst (λ (p : PayloadView). IsUsable v x p z.len z.payload.of w) made.1 did, refl);
+    packs = λ v d x q z w ready known made did. (z.payload.of, subst (λ (p : PayloadView). IsUsable v x p z.number z.payload.of w) made.1 did, refl);
   }
 
   -- a reallocation of a payload whose alignment isn't known: `Did` says what it does
   abbrev resizes : (HeapView → ℕ → PayloadView → ℕ → ℕ → PayloadView → HeapView → Type 0) → Trades1 (row K) payloads
   resizes Did = record {
     S = λ v. IsReady v;
-    Z = resized.the_row;
+    Z = reply.the_row;
     num = λ z. number_of z;
     gives = λ z. owns_reply z.payload.of;
     Fact = λ v d x n. IsAtSuch (λ align. 16 ≤ align) v x d;
@@ -87,7 +86,7 @@ module _ (K : Kind) where
   abbrev pub reallocates_aligned : Trades2 (row K) payloads
   reallocates_aligned = record {
     S = λ v. IsReady v;
-    Z = resized.the_row;
+    Z = reply.the_row;
     num = λ z. number_of z;
     gives = λ z. owns_reply z.payload.of;
     Fact = λ v d x n k. IsAtSuch (λ align. align ≡ aligned_for k) v x d;

@@ -1,7 +1,7 @@
 -- The numbers that calls return.
 use Rattle.std.specs.Prelude.{ℕ}
-use Rattle.rlsf_malloc.specs.declared.replies.Resized.{Resized}
+use Rattle.rlsf_malloc.specs.declared.replies.Reply.{Reply}
 
 -- the address of a payload whose size was changed, or 0
-abbrev pub number_of : Resized → ℕ
+abbrev pub number_of : Reply → ℕ
 number_of r = r.number

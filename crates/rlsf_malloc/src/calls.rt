@@ -8,7 +8,7 @@ ghost use Rattle.rlsf_base.specs.Addr.{reply, reply_of};
 ghost use Rattle.rlsf_malloc.specs.Calls.{AddsLent, AppendsLent, CanAppend, Allocates, AllocatesZeroed, CanLend, Frees, IsAllOut, IsAt, IsOver, IsReady, IsUsable, OwnsLent, aligned_for};
 ghost use Rattle.rlsf_malloc.specs.Handle.{ArePartsOf};
 
-use crate::replies::{Lending, Measured};
+use crate::replies::{Lending, Reply};
 use rlsf_base::memory::{Layout, OpenMemory, Range, RawParts};
 use rlsf_heap::{Heap, Loan, ThinPayload};
 use rlsf_int::BitPattern;
@@ -214,13 +214,13 @@ pub(crate) fn usable<F: BitPattern, S: BitPattern, const FLLEN: usize, const SLL
     heap: &mut Heap<F, S, FLLEN, SLLEN>,
     addr: usize,
     payload: ThinPayload,
-) -> Measured
+) -> Reply
     requires { IsReady heap.old × IsAt heap.old addr payload.of }
-    ensures { IsUsable heap.old addr payload.of result.len result.payload.of heap.new }
+    ensures { IsUsable heap.old addr payload.of result.number result.payload.of heap.new }
 {
     if addr == 0 {
-        return Measured { len: 0, payload };
+        return Reply { number: 0, payload };
     }
-    let (len, payload) = heap.usable_thin(addr, payload);
-    Measured { len, payload }
+    let (number, payload) = heap.usable_thin(addr, payload);
+    Reply { number, payload }
 }

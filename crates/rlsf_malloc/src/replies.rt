@@ -8,49 +8,29 @@ ghost use Rattle.rlsf_malloc.specs.Replies.{number_of};
 
 use rlsf_heap::{Loan, ThinPayload};
 
-/// A payload and the number of its usable bytes.
-pub struct Measured {
-    /// The number of bytes, or 0 if there is no payload.
-    pub len: usize,
-    /// The payload, or none.
-    pub payload: ThinPayload,
-}
-
-impl Measured {
-    /// Passes the payload to the caller, and returns the number.
-    pub(crate) fn into_raw(self) -> usize
-        ensures* handed { sem 𝓛 (owns_reply self.payload.of) }
-        ensures len { result ≡ self.len }
-    {
-        let Measured { len, payload } = self;
-        let _ = payload.into_raw();
-        len
-    }
-}
-
-/// A payload whose size was changed, or that was left as it was.
-pub struct Resized {
-    /// Its address if its size was changed, else 0.
+/// A payload, or none, and a number: its length, or its address if its size was changed, else 0.
+pub struct Reply {
+    /// The number.
     pub number: usize,
     /// The payload, or none.
     pub payload: ThinPayload,
 }
 
-impl Resized {
+impl Reply {
     /// Returns a payload whose size was changed, with its address.
-    pub(crate) fn changed(payload: ThinPayload) -> Resized
+    pub(crate) fn changed(payload: ThinPayload) -> Reply
         ensures { (number_of result ≡ payload.addr) × (result.payload.of ≡ payload.of) }
     {
         let (number, payload) = payload.with_addr();
-        Resized { number, payload }
+        Reply { number, payload }
     }
 
-    /// Passes the payload to the caller, and returns its address if its size was changed, else 0.
+    /// Passes the payload to the caller, and returns the number.
     pub(crate) fn into_raw(self) -> usize
         ensures* handed { sem 𝓛 (owns_reply self.payload.of) }
         ensures number { result ≡ number_of self }
     {
-        let Resized { number, payload } = self;
+        let Reply { number, payload } = self;
         let _ = payload.into_raw();
         number
     }

@@ -7,7 +7,7 @@ ghost use Rattle.rlsf_malloc.specs.Replies.{number_of};
 ghost use Rattle.rlsf_malloc.specs.Resizing.{Resizes, ResizesAligned, ResizesAny, ResizesInPlace, ResizesThere, ResizesWide};
 
 use crate::calls::{allocate_aligned, at_least_16};
-use crate::replies::Resized;
+use crate::replies::Reply;
 use rlsf_base::memory::Layout;
 use rlsf_heap::{Heap, ThinPayload};
 use rlsf_int::BitPattern;
@@ -32,13 +32,13 @@ fn resize<F: BitPattern, S: BitPattern, const FLLEN: usize, const SLLEN: usize>(
     payload: ThinPayload,
     size: usize,
     align: usize,
-) -> Resized
+) -> Reply
     requires { IsReady heap.old × IsAt heap.old addr payload.of × (addr ≢ 0) × (payload.addr ≡ addr) × (payload.of.align ≡ align) }
     ensures { Resizes SLLEN heap.old payload.of size align (number_of result) result.payload.of heap.new }
 {
     match heap.reallocate_thin(addr, payload, size, align) {
-        Ok(payload) => Resized::changed(payload),
-        Err(payload) => Resized { number: 0, payload },
+        Ok(payload) => Reply::changed(payload),
+        Err(payload) => Reply { number: 0, payload },
     }
 }
 
@@ -49,13 +49,13 @@ pub(crate) fn resize_aligned<F: BitPattern, S: BitPattern, const FLLEN: usize, c
     payload: ThinPayload,
     size: usize,
     align: usize,
-) -> Resized
+) -> Reply
     requires { IsReady heap.old × IsAt heap.old addr payload.of × (payload.addr ≡ addr) × (addr ≢ 0 → payload.of.align ≡ aligned_for align) }
     ensures { ResizesAligned SLLEN heap.old addr payload.of size align (number_of result) result.payload.of heap.new }
 {
     let align = at_least_16(align);
     if addr == 0 {
-        return Resized::changed(allocate_aligned(heap, size, align));
+        return Reply::changed(allocate_aligned(heap, size, align));
     }
     resize(heap, addr, payload, size, align)
 }
@@ -69,16 +69,16 @@ fn resize_wide<F: BitPattern, S: BitPattern, const FLLEN: usize, const SLLEN: us
     addr: usize,
     payload: ThinPayload,
     size: usize,
-) -> Resized
+) -> Reply
     requires { IsReady heap.old × IsAt heap.old addr payload.of × (addr ≢ 0) × (payload.addr ≡ addr) }
     ensures { ResizesWide SLLEN heap.old payload.of size (number_of result) result.payload.of heap.new }
 {
     let Ok(layout) = Layout::from_size_align(size, 16) else {
-        return Resized { number: 0, payload };
+        return Reply { number: 0, payload };
     };
     match heap.reallocate_thin_unknown_align(addr, payload, layout) {
-        Ok(payload) => Resized::changed(payload),
-        Err(payload) => Resized { number: 0, payload },
+        Ok(payload) => Reply::changed(payload),
+        Err(payload) => Reply { number: 0, payload },
     }
 }
 
@@ -88,12 +88,12 @@ pub(crate) fn resize_any<F: BitPattern, S: BitPattern, const FLLEN: usize, const
     addr: usize,
     payload: ThinPayload,
     size: usize,
-) -> Resized
+) -> Reply
     requires { IsReady heap.old × IsAt heap.old addr payload.of × (payload.addr ≡ addr) × (addr ≢ 0 → 16 ≤ payload.of.align) }
     ensures { ResizesAny SLLEN heap.old addr payload.of size (number_of result) result.payload.of heap.new }
 {
     if addr == 0 {
-        return Resized::changed(allocate_aligned(heap, size, 16));
+        return Reply::changed(allocate_aligned(heap, size, 16));
     }
     // By this call it is known that the payload is live.
     let (_, payload) = heap.usable_thin(addr, payload);
@@ -110,17 +110,17 @@ fn resize_there<F: BitPattern, S: BitPattern, const FLLEN: usize, const SLLEN: u
     addr: usize,
     payload: ThinPayload,
     size: usize,
-) -> Resized
+) -> Reply
     requires { IsReady heap.old × IsAt heap.old addr payload.of × (addr ≢ 0) × (payload.addr ≡ addr) }
     ensures { ResizesThere heap.old payload.of size (number_of result) result.payload.of heap.new }
 {
     // Of the layout only the size counts.
     let Ok(layout) = Layout::from_size_align(size, 16) else {
-        return Resized { number: 0, payload };
+        return Reply { number: 0, payload };
     };
     match heap.resize_thin_unknown_align(addr, payload, layout) {
-        Ok(payload) => Resized::changed(payload),
-        Err(payload) => Resized { number: 0, payload },
+        Ok(payload) => Reply::changed(payload),
+        Err(payload) => Reply { number: 0, payload },
     }
 }
 
@@ -130,12 +130,12 @@ pub(crate) fn resize_in_place<F: BitPattern, S: BitPattern, const FLLEN: usize, 
     addr: usize,
     payload: ThinPayload,
     size: usize,
-) -> Resized
+) -> Reply
     requires { IsReady heap.old × IsAt heap.old addr payload.of × (payload.addr ≡ addr) × (addr ≢ 0 → 16 ≤ payload.of.align) }
     ensures { ResizesInPlace heap.old addr payload.of size (number_of result) result.payload.of heap.new }
 {
     if addr == 0 {
-        return Resized { number: 0, payload };
+        return Reply { number: 0, payload };
     }
     resize_there(heap, addr, payload, size)
 }

@@ -6,7 +6,7 @@ returns-then-addr-eq0 g c = record { usable = λ some. absurd (some c.if-addr-eq
 
 pub returns : goal.returns
 returns g c =
-    let did = c.usable_thin-len.ensures in record {
+    let did = c.usable_thin-number.ensures in record {
       usable = λ some. did.len;
       none = λ e. absurd (c.if-addr-eq0.false e);
       payload = did.payload.1;

@@ -1,4 +1,4 @@
--- `into_raw` of a measured payload passes to the caller what its payload owns.
+-- `into_raw` of a payload whose size was to change passes to the caller what its payload owns.
 use Rattle.rlsf_malloc.proofs.Walking.{List, [], ◌∷◌, refl, w64, proved, id⊢, ftrue, Val, vint, tables, ‵, ◌⊛◌, some, ◌$◌, ◌∵◌, ! }
 use Rattle.rlsf_malloc.proofs.Walking.{qed, done, keep, drop, use1, split, join, pick, rewrite, suffices, group, enter, of_opd, stop, no_more}
 use Rattle.rlsf_malloc.proofs.Walking.{and_then, returns, alloc_all, pass_all, free_all, look_at, get, sets, lands_as, usize, Is, shows, plain, nothing, owned, peeks}
@@ -16,11 +16,11 @@ use Rattle.rlsf_heap.specs.contracts.thin.ThinPayload as thin
 use Rattle.rlsf_heap.proofs.thin.ThinPayload.TheLaws as thin_laws
 use Rattle.rlsf_heap.proofs.thin.ThinPayload.into_raw.Met.{met}
 use Rattle.rlsf_malloc.proofs.Steps.{passes_number}
-use Rattle.rlsf_malloc.specs.contracts.replies.Measured as reply
-use Rattle.rlsf_malloc.proofs.replies.Measured.TheLaws as reply_laws
-use Rattle.rlsf_malloc.specs.contracts.replies.Measured.into_raw as f
-use Rattle.rlsf_malloc.proofs.replies.Measured.into_raw.Statement.{statement}
-use Rattle.rlsf_malloc.proofs.replies.Measured.into_raw.Code as code
+use Rattle.rlsf_malloc.specs.contracts.replies.Reply as reply
+use Rattle.rlsf_malloc.proofs.replies.Reply.TheLaws as reply_laws
+use Rattle.rlsf_malloc.specs.contracts.replies.Reply.into_raw as f
+use Rattle.rlsf_malloc.proofs.replies.Reply.into_raw.Statement.{statement}
+use Rattle.rlsf_malloc.proofs.replies.Reply.into_raw.Code as code
 
 abbrev stayed : Stays f.ended.signature.params f.ended.kept
 stayed = (stay_dropped (plain (λ _. reply.the_row)) f.ended.kept.0, tt)
@@ -35,10 +35,10 @@ into_raw_spec 𝓤 𝓛 𝓜 𝓡 wired =
     let y : W.Ghost = ((κs, qs, bounds, a, (v ∷ [], tt)), g) in
     qed 𝓛 ((‵ ftrue ⊛ (‵ (Z.own_val r (v ∷ [])) ⊛ ‵ ftrue)) ∷ ‵ ftrue ∷ []) ∵ split ! $ drop ! $ split ! $
     peeks ! Z (Is Z) (shows 𝓛 Z) r (v ∷ []) (λ is.
-    use1 𝓛 (some (λ (us : Valss (usize ∷ Q ∷ [])). ‵ (feq (List Val) (v ∷ []) _) ⊛ (‵ (usize.own_val r.len us.0) ⊛ (‵ (Q.own_val q us.1.0) ⊛ ‵ ftrue))))
+    use1 𝓛 (some (λ (us : Valss (usize ∷ Q ∷ [])). ‵ (feq (List Val) (v ∷ []) _) ⊛ (‵ (usize.own_val r.number us.0) ⊛ (‵ (Q.own_val q us.1.0) ⊛ ‵ ftrue))))
     (id⊢ 𝓤 _) $
     pick ! (λ us. split ! $ drop ! $ split ! $
-    peeks ! usize (Is usize) (shows 𝓛 usize) r.len us.0 (λ is_n. drop ! $ split ! $
+    peeks ! usize (Is usize) (shows 𝓛 usize) r.number us.0 (λ is_n. drop ! $ split ! $
     peeks ! Q (Is Q) (shows 𝓛 Q) q us.1.0 (λ is_us. rewrite ! 0 (λ (vs : List Val). ‵ (Q.own_val q vs)) (thin_laws.lowers.val_is q us.1.0 is_us) refl $
     peeks ! Q (Is Q) (shows 𝓛 Q) q (vq ∷ []) (λ is_q. let typed = ((thin_laws.the_row_laws.lawful 𝓛).typed q _ is_q).0 in keep ! (0 ∷ []) $
     enter ! _ _ _ _ _ $ alloc_all ! (λ l. pass_all ! refl ((reply_laws.the_row_laws.lawful 𝓛).typed r _ is) $
@@ -52,5 +52,5 @@ into_raw_spec 𝓤 𝓛 𝓜 𝓡 wired =
     -- [what the payload owned; its address; the locals]
     sets ! (of_opd ! (get ! refl)) refl (tt, record { fits = is_n.1 }) $
     returns ! (look_at ! 0 refl) $ free_all ! refl $ keep ! (0 ∷ []) $
-    suffices ! _ (ends_at 𝓛 f.ended stayed c y (vint w64 r.len) r.len ((tt, (tt, tt)), tt) (tt, tt)) $
-    owned ! usize _ (uint_Makes 𝓛 w64) r.len _ (refl, is_n.1) $ nothing ! $ nothing ! $ join ! $ nothing ! $ group ! 3 $ frame ! $ says ! refl $ done !))))))))
+    suffices ! _ (ends_at 𝓛 f.ended stayed c y (vint w64 r.number) r.number ((tt, (tt, tt)), tt) (tt, tt)) $
+    owned ! usize _ (uint_Makes 𝓛 w64) r.number _ (refl, is_n.1) $ nothing ! $ nothing ! $ join ! $ nothing ! $ group ! 3 $ frame ! $ says ! refl $ done !))))))))
