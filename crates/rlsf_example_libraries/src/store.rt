@@ -88,8 +88,7 @@ impl Store {
         ensures place { SamePlace self.old.heap.memory self.new.heap.memory }
         ensures touches { self.new.heap.memory.touches ≤ self.old.heap.memory.touches + 30 }
     {
-        let addr = self.heap.allocate(layout)?;
-        self.heap.payload_mut(addr).fill(0);
+        let addr = self.heap.allocate_zeroed(layout)?;
         Some(addr)
     }
 
