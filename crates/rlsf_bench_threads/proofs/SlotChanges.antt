@@ -1,5 +1,5 @@
 -- The payloads of slots stay live as one slot changes.
-use Rattle.std.proofs.Common.{◌≡◌, ◌≢◌, ◌⊎◌, ◌∙◌, ℕ, ◌<◌, List, Option, Some, None, ap, inl, inr, length, subst, sym, slice_index_or, slice_set, replicate, arith}
+use Rattle.std.proofs.Common.{◌≡◌, ◌≢◌, ◌⊎◌, ◌∙◌, ℕ, ◌<◌, List, Option, Some, None, inl, inr, length, subst, sym, slice_index_or, slice_set, replicate, arith}
 use Rattle.std.proofs.lemmas.Bool.{cases_eq}
 use Rattle.std.proofs.lemmas.Bool.Decides.{leb_tells}
 use Rattle.std.proofs.lemmas.List.{get_or-replicate, get_or-set_other, get_or-set_same, get_or_past, length-replicate}
@@ -36,30 +36,6 @@ module _ (s t : State) (slots : List (Option Payload)) (are : AreLive s slots) (
     where
       kept : (i : ℕ) (q : Payload) → Has (slice_set slots k None) i q → (i ≢ k) × Has slots i q
       kept i q has = elim (changed None i q has) [ inl (_, none) ↦ absurd (cc) | inr was ↦ was ]
-
-  -- it gets a payload, where none was live
-  pub AreLive-placed : (p : Payload) → align_at s (at p.addr) ≡ None → align_at t (at p.addr) ≡ Some p.layout.align
-      → ((a : ℕ) → a ≢ at p.addr → align_at t a ≡ align_at s a)
-      → AreLive t (slice_set slots k (Some p))
-  AreLive-placed p new live others = record {
-    live = λ i q has. elim (changed (Some p) i q has) [
-      | inl (_, same) ↦ subst (λ (x : Payload). align_at t (at x.addr) ≡ Some x.layout.align) (some_same same) live
-      | inr (_, was) ↦ others (at q.addr) (differs i q was) ∙ are.live i q was
-    ];
-    one = λ i j q r has too there. elim (changed (Some p) i q has) [
-      | inl (here, same) ↦ elim (changed (Some p) j r too) [
-        | inl (here_too, _) ↦ here ∙ sym here_too
-        | inr (_, was) ↦ absurd (differs j r was (sym there ∙ ap (λ (x : Payload). at x.addr) (sym (some_same same))))
-      ]
-      | inr (_, was) ↦ elim (changed (Some p) j r too) [
-        | inl (_, same) ↦ absurd (differs i q was (there ∙ ap (λ (x : Payload). at x.addr) (sym (some_same same))))
-        | inr (_, was_too) ↦ are.one i j q r was was_too there
-      ]
-    ];
-  }
-    where
-      differs : (i : ℕ) (q : Payload) → Has slots i q → at q.addr ≢ at p.addr
-      differs i q was same = let e = sym (are.live i q was) ∙ ap (align_at s) same ∙ new in absurd (cc)
 
 -- no slot has one
 pub AreLive-none : (s : State) (n : ℕ) → AreLive s (replicate n None)

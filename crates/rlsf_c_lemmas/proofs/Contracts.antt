@@ -1,5 +1,5 @@
 -- The contracts of an export and of the call that it makes.
-use Rattle.rlsf_c_lemmas.proofs.Walking.{ℕ, [], ◌∷◌, full_share, fact, ‵, raw, ◌⊛◌, ◌$◌, ◌∵◌, !, qed, done, move, join, fpack, w64, usize, uint_Lawful, yes, Is, Ptr, RawPtr}
+use Rattle.rlsf_c_lemmas.proofs.Walking.{ℕ, [], ◌∷◌, full_share, fact, ‵, raw, ◌$◌, ◌∵◌, !, qed, done, move, join, fpack, w64, usize, uint_Lawful, yes, Is, Ptr, RawPtr}
 use Rattle.rlsf_c_lemmas.proofs.Walking.{lies_at, plain, nothing, heard, Val}
 use Rattle.rlsf_c_lemmas.proofs.Parameters.{Parameters}
 use Prim.Native.Nat.{suc}
@@ -9,9 +9,7 @@ use lib.Dec.{T}
 use mir.Val.{has_ty, WT}
 use seplogic.Ra.Ura.{Ura}
 use types.Logic.{Logic, sem}
-use denote.Builtin.{unit}
 use denote.Memory.{lone}
-use denote.Plain.{Nothing-Lawful}
 use denote.RattleType.{RattleType}
 use denote.Signature.{Signature, mut_ref_to}
 use denote.Triple.Clauses.{Ended, Clauses}
@@ -23,9 +21,6 @@ pub record Returned : Type 2 where
 
 abbrev pub number : {M : Type 1} {𝓤 : Ura M} → Logic 𝓤 → Returned
 number 𝓛 = record { row = usize; typed = λ r v is. ((uint_Lawful 𝓛 w64).typed r _ is).0 }
-
-abbrev pub no_result : {M : Type 1} {𝓤 : Ura M} → Logic 𝓤 → Returned
-no_result 𝓛 = record { row = unit; typed = λ r v is. ((Nothing-Lawful 𝓛).typed r _ is).0 }
 
 -- R is the type of what lies behind the handle, A that of the result, N of what the contracts read of the other arguments, and X of what they
 -- read of these at the return
@@ -69,21 +64,6 @@ module _ {M : Type 1} {𝓤 : Ura M} {𝓛 : Logic 𝓤} {R A : RattleType} {N X
     call_requires = λ before x i. emp 𝓤;
     call_ensures = λ before x e i r after. fact 𝓤 (Did before x e r after);
     opens = λ p x before. qed 𝓛 (‵ (lies_at R full_share p before) ∷ []) ∵ nothing ! $ move ! (1 ∷ 0 ∷ []) $ join ! $ done !;
-    closes = some_value 𝓛 R A N X Did;
-  }
-
-  -- a call with a condition, which is a fact
-  abbrev pub changes_if : (R.Denot → N → Type 0) → Change 𝓛 R A N X → Contracts 𝓛 R A N X
-  changes_if Asked Did = record {
-    Ghost = R.Denot;
-    InnerGhost = Unit {0};
-    value = λ before. before;
-    inner = λ before. tt;
-    requires = λ p x before. sep 𝓤 (sem 𝓛 (lies_at R full_share p before)) (fact 𝓤 (Asked before x));
-    ensures = λ p x e before r. sem 𝓛 (fex ((after : R.Denot) × Did before x e r after) (λ z. lies_at R full_share p z.0));
-    call_requires = λ before x i. fact 𝓤 (Asked before x);
-    call_ensures = λ before x e i r after. fact 𝓤 (Did before x e r after);
-    opens = λ p x before. qed 𝓛 ((‵ (lies_at R full_share p before) ⊛ raw (fact 𝓤 (Asked before x))) ∷ []) ∵ done !;
     closes = some_value 𝓛 R A N X Did;
   }
 

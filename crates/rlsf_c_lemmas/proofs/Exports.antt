@@ -4,10 +4,10 @@ use Rattle.rlsf_c_lemmas.proofs.Walking.{prop, ◌$◌, ◌∵◌, !, qed, done,
 use Rattle.rlsf_c_lemmas.proofs.Walking.{yes, Is, shows, mem, ref_back, part_at, Ptr, RawPtr, block_ptr, lies_at, rawptr_vals, rawptr_Tells, plain, nothing, heard}
 use Rattle.rlsf_c_lemmas.proofs.Walking.{peeks, lasts, on_entry, triple_of, walk_of, Stays, stay_dropped, Goes-dropped, ends_at, framed}
 use Rattle.rlsf_c_lemmas.proofs.Lending.{in_its_block, lends}
-use Rattle.rlsf_c_lemmas.proofs.Contracts.{Contracts, Returned, no_result, signature, ended, clauses, call_signature, call_ended, call_clauses}
+use Rattle.rlsf_c_lemmas.proofs.Contracts.{Contracts, Returned, signature, ended, clauses, call_signature, call_ended, call_clauses}
 use Rattle.rlsf_c_lemmas.proofs.Parameters.{Parameters, none, numbers, mutable, shared}
-use Rattle.rlsf_c_lemmas.proofs.Passing.{PassesOn, passing, passing_only, passing_shared, passing_mutable, passes0, passes1, passes2, passes3, passes_only1, passes_shared2}
-use Rattle.rlsf_c_lemmas.proofs.Passing.{passes_mutable1, passes_mutable2, passes_mutable3}
+use Rattle.rlsf_c_lemmas.proofs.Passing.{PassesOn, passing, passing_shared, passing_mutable, passes0, passes1, passes2, passes3, passes_shared2}
+use Rattle.rlsf_c_lemmas.proofs.Passing.{passes_mutable1, passes_mutable2}
 use Prim.Native.Nat.{suc}
 use base.Logic.{SProp, ent, sep, ex, via, ex_i}
 use lib.Dec.{T}
@@ -226,13 +226,3 @@ module _ {M : Type 1} {𝓤 : Ura M} (𝓛 : Logic 𝓤) (𝓜 : Model 𝓤 𝓛
     pub exports_mutable2 : (E : RattleType) (P : Contracts 𝓛 R result.row (numbers {𝓛 = 𝓛} 2 (mutable E)).Read (numbers {𝓛 = 𝓛} 2 (mutable E)).Seen) (callee name : Callee)
         → Exported (numbers 2 (mutable E)) result P callee name (passing_mutable E 2 (lone result.row.mir) (lone R.mir) (pointee R.written) callee)
     exports_mutable2 E P callee name = exports 𝓛 𝓜 𝓡 (numbers 2 (mutable E)) R result P callee _ (passes_mutable2 𝓛 _ _ callee _ is_framed _ _ E) name
-
-    -- three numbers and a slice that the call may change
-    pub exports_mutable3 : (E : RattleType) (P : Contracts 𝓛 R result.row (numbers {𝓛 = 𝓛} 3 (mutable E)).Read (numbers {𝓛 = 𝓛} 3 (mutable E)).Seen) (callee name : Callee)
-        → Exported (numbers 3 (mutable E)) result P callee name (passing_mutable E 3 (lone result.row.mir) (lone R.mir) (pointee R.written) callee)
-    exports_mutable3 E P callee name = exports 𝓛 𝓜 𝓡 (numbers 3 (mutable E)) R result P callee _ (passes_mutable3 𝓛 _ _ callee _ is_framed _ _ E) name
-
-  -- one number, and no result
-  pub exports_only1 : (P : Contracts 𝓛 R (no_result 𝓛).row (only 1).Read (only 1).Seen) (callee name : Callee)
-      → Exported (only 1) (no_result 𝓛) P callee name (passing_only 1 (lone R.mir) (pointee R.written) callee)
-  exports_only1 P callee name = exports 𝓛 𝓜 𝓡 (only 1) R (no_result 𝓛) P callee _ (passes_only1 𝓛 _ _ callee _ is_framed _ _ refl) name

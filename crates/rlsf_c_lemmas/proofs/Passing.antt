@@ -1,14 +1,14 @@
 -- The code of an export: it makes a reference of its pointer, passes it on with the other arguments, and returns what the call returned.
-use Rattle.rlsf_c_lemmas.proofs.Walking.{◌≡◌, ℕ, List, [], ◌∷◌, refl, subst, w64, id⊢, vptr, vunit, Val, rewrite, WpFn, fact, raw, ◌⊛◌, later, ◌$◌, ◌∵◌, !, qed, done, move, use1}
+use Rattle.rlsf_c_lemmas.proofs.Walking.{ℕ, List, [], ◌∷◌, refl, w64, id⊢, vptr, Val, WpFn, fact, raw, ◌⊛◌, later, ◌$◌, ◌∵◌, !, qed, done, move, use1}
 use Rattle.rlsf_c_lemmas.proofs.Walking.{split, await, enter, of_opd, addr, stop, no_more, and_then, returns, alloc_all, pass_all, free_all, look_at, get, through, sets, lands_as}
-use Rattle.rlsf_c_lemmas.proofs.Walking.{heard, unit_lit, named}
+use Rattle.rlsf_c_lemmas.proofs.Walking.{heard, named}
 use Rattle.rlsf_c_lemmas.proofs.Parameters.{Parameters, none, numbers, mutable, shared}
 use Prim.Native.Nat.{zero, suc, ◌+◌}
 use base.Logic.{SProp, ent, sep}
 use lib.Dec.{T}
-use mir.Syntax.{Ty, ty_ptr, ty_int, ty_ref, ty_unit, mut, imm, erased, Local, local, value_local, Callee, Fn, Opd, Body, place, copy, assign, seq, call, return, rv_opd, opd_unit}
+use mir.Syntax.{Ty, ty_ptr, ty_int, ty_ref, mut, imm, erased, Local, local, value_local, Callee, Fn, Opd, Body, place, copy, assign, seq, call, return, rv_opd}
 use mir.Syntax.{addr_of, aggregate, deref, field}
-use mir.Val.{has_ty, WT, vbool, vint, vfloat, vstruct, vcode}
+use mir.Val.{has_ty, WT}
 use prog.Wp.{Calls, Loops}
 use seplogic.Ra.Ura.{Ura}
 use sound.WpLaws.{FmC}
@@ -52,12 +52,6 @@ abbrev pub passing : ℕ → Ty → Ty → Ty → Callee → Fn
 passing n τ ρ ν callee = function 0 n (local τ value_local ∷ local ty_ptr value_local ∷ words n (pointers ν [])) (n + 2) ρ
     (seq (call callee (copy (place (n + 3) []) ∷ copies 2 n []) (place 0 [])) return)
 
--- n numbers, and no result
-abbrev pub passing_only : ℕ → Ty → Ty → Callee → Fn
-passing_only n ρ ν callee =
-    function 0 n (local ty_unit value_local ∷ local ty_ptr value_local ∷ words n (local ty_unit value_local ∷ pointers ν [])) (n + 3) ρ
-    (seq (call callee (copy (place (n + 4) []) ∷ copies 2 n []) (place (n + 2) [])) (seq (assign (place 0 []) (rv_opd opd_unit)) return))
-
 -- n numbers and a slice of E that the call reads
 abbrev pub passing_shared : RattleType → ℕ → Ty → Ty → Ty → Callee → Fn
 passing_shared E n τ ρ ν callee =
@@ -74,16 +68,6 @@ passing_mutable E n τ ρ ν callee =
     (seq (assign (place (n + 5) []) (addr_of (place (n + 2) (field 0 ∷ deref (lone E.mir) ∷ []))))
     (seq (assign (place (n + 6) []) (aggregate (copy (place (n + 5) []) ∷ copy (place (n + 2) (field 1 ∷ [])) ∷ [])))
     (seq (call callee (copy (place (n + 4) []) ∷ copies 2 n (copy (place (n + 6) []) ∷ [])) (place 0 [])) return)))
-
--- a value of the type of nothing
-is_unit : (v : Val) → T (has_ty ty_unit v) → v ≡ vunit
-is_unit vunit t = refl
-is_unit (vbool x) t = absurd t
-is_unit (vint w k) t = absurd t
-is_unit (vfloat f x) t = absurd t
-is_unit (vptr b o) t = absurd t
-is_unit (vstruct vs) t = absurd t
-is_unit (vcode c) t = absurd t
 
 module _ {M : Type 1} {𝓤 : Ura M} (𝓛 : Logic 𝓤) (C : Calls 𝓤 𝓛.H) (Λ : Loops 𝓤 𝓛.H) (callee : Callee) (τ : Ty) where
   -- the function does what the call does, where ghost state is updated before and after it
@@ -160,28 +144,3 @@ module _ {M : Type 1} {𝓤 : Ura M} (𝓛 : Logic 𝓤) (C : Calls 𝓤 𝓛.H)
         calls_from ! framed _ _ after (id⊢ 𝓤 _) (and_then ! (get ! refl) (and_then ! (get ! refl) (and_then ! (get ! refl) (and_then ! (get ! refl) (no_more !))))) (λ v.
         use1 𝓛 (later (raw (post v) ⊛ raw (fact 𝓤 (T (has_ty τ v) × WT v)))) (back v) $ await ! tt $ split ! $ move ! (1 ∷ []) $ heard ! _ (λ typed.
         lands_as ! refl refl typed $ returns ! (look_at ! 0 refl) $ free_all ! refl $ done !)))
-
-    pub passes_mutable3 : (E : RattleType) → PassesOn (numbers 3 (mutable E)) (passing_mutable E 3 τ ρ ν callee)
-    passes_mutable3 E b o x fit before after post calls back =
-        qed 𝓛 (raw before ∷ []) ∵ enter ! _ _ _ _ _ $ alloc_all !
-        (λ l. pass_all ! refl ((tt, tt), ((tt, fit.0), ((tt, fit.1.0), ((tt, fit.1.1.0), ((tt, (tt, (fit.1.1.1, tt))), tt))))) $
-        sets ! (of_opd ! (get ! refl)) refl (tt, tt) $ sets ! (addr ! (through ! refl (stop !))) refl (tt, tt) $
-        sets ! (addr ! (from ! (fld ! refl (hop ! (look_in_at ! 5 (sub ! 0 refl (whole !))) (stop !))))) refl (tt, tt) $
-        sets ! (agg ! (and_then ! (get ! refl) (and_then ! (get_in ! (fld ! refl (stop !)) (sub ! 1 refl (whole !))) (no_more !)))) refl (tt, (tt, (fit.1.1.1, tt))) $
-        use1 𝓛 (later (raw (C callee (vptr b o ∷ (numbers {𝓛 = 𝓛} 3 (mutable E)).machine x) after))) calls $ await ! tt $
-        calls_from ! framed _ _ after (id⊢ 𝓤 _)
-        (and_then ! (get ! refl) (and_then ! (get ! refl) (and_then ! (get ! refl) (and_then ! (get ! refl) (and_then ! (get ! refl) (no_more !)))))) (λ v.
-        use1 𝓛 (later (raw (post v) ⊛ raw (fact 𝓤 (T (has_ty τ v) × WT v)))) (back v) $ await ! tt $ split ! $ move ! (1 ∷ []) $ heard ! _ (λ typed.
-        lands_as ! refl refl typed $ returns ! (look_at ! 0 refl) $ free_all ! refl $ done !)))
-
-  module _ (framed : FmC 𝓤 𝓛.H 𝓛.laws C) (ρ ν : Ty) (is : τ ≡ ty_unit) where
-    pub passes_only1 : PassesOn {m = 0} (numbers 1 none) (passing_only 1 ρ ν callee)
-    passes_only1 b o x fit before after post calls back =
-        qed 𝓛 (raw before ∷ []) ∵ enter ! _ _ _ _ _ $ alloc_all ! (λ l. pass_all ! refl ((tt, tt), ((tt, fit.0), tt)) $
-        sets ! (of_opd ! (get ! refl)) refl (tt, tt) $ sets ! (addr ! (through ! refl (stop !))) refl (tt, tt) $
-        use1 𝓛 (later (raw (C callee (vptr b o ∷ (numbers {𝓛 = 𝓛} {m = 0} 1 none).machine x) after))) calls $ await ! tt $
-        calls_from ! framed _ _ after (id⊢ 𝓤 _) (and_then ! (get ! refl) (and_then ! (get ! refl) (no_more !))) (λ v.
-        use1 𝓛 (later (raw (post v) ⊛ raw (fact 𝓤 (T (has_ty τ v) × WT v)))) (back v) $ await ! tt $ split ! $ move ! (1 ∷ []) $ heard ! _ (λ typed.
-        let nothing_left = is_unit v (subst (λ (σ : Ty). T (has_ty σ v)) is typed.0) in
-        rewrite ! 0 (λ (z : Val). raw (post z)) nothing_left refl $ lands_as ! nothing_left refl (tt, tt) $
-        sets ! (of_opd ! (unit_lit !)) refl (tt, tt) $ returns ! (look_at ! 0 refl) $ free_all ! refl $ done !)))

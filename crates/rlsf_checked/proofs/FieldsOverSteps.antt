@@ -87,14 +87,6 @@ live_place fllen sllen v stands addr align is =
 -- ---- marks
 
 module _ {fllen sllen : ℕ} {v : Allocator} {m : Marks} {pool : Range} (is : IsChecked fllen sllen v m pool) where
-  -- no payload lives where there is no mark
-  pub unmarked : (addr : ℕ) → mark_at m addr ≡ 0 → align_at v.state addr ≡ None
-  unmarked addr none = go (align_at v.state addr) (sym (is.marked addr) ∙ none)
-    where
-      go : (o : Option ℕ) → mark_of o ≡ 0 → o ≡ None
-      go None e = refl
-      go (Some align) e = absurd (omega (arith, e))
-
   -- and a mark shows the alignment of one
   pub marked_as : (addr : ℕ) → (mark_at m addr ≡ 0 → ⊥)
       → (align_at v.state addr ≡ Some (2 ^ (mark_at m addr - 1))) × (1 ≤ mark_at m addr) × (mark_at m addr ≤ 64) × IsPowerOfTwo (2 ^ (mark_at m addr - 1))

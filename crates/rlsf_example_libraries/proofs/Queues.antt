@@ -1,5 +1,5 @@
 -- A queue's messages, as its entries and its store have them.
-use Rattle.std.proofs.Common.{◌≡◌, ℕ, ◌-◌, ◌<◌, ◌≤◌, List, [], ◌∷◌, ◌++◌, length, map, drop, slice_index_or, Option, None, Some, IfSome, IsSomeAnd}
+use Rattle.std.proofs.Common.{◌≡◌, ℕ, ◌-◌, ◌<◌, ◌≤◌, List, [], ◌∷◌, ◌++◌, length, map, drop, slice_index_or, Option, None, Some, IsSomeAnd}
 use Rattle.std.proofs.Common.{arith, inl, inr, refl, sym, ◌∙◌, ap, subst}
 use Rattle.std.proofs.Math.Path.{ap₂}
 use Rattle.std.proofs.lemmas.Bool.{cases_lt}
@@ -101,11 +101,6 @@ pub oldest_within : (longest : Option ℕ) (memory : Range) (capacity len : ℕ)
 oldest_within None memory capacity len es e keeps some first within = absurd within
 oldest_within (Some n) memory capacity len [] e keeps some first within = absurd (omega arith)
 oldest_within (Some n) memory capacity len (x ∷ xs) e ((here, _), _) some first within = omega (arith, here, within, ap (λ y. y.len) first)
-
--- a length isn't both
-pub not_both : (longest : Option ℕ) (len : ℕ) → IsSomeAnd longest (λ n. n < len) → IfSome longest (λ n. len ≤ n) → ⊥
-not_both None len longer short = longer
-not_both (Some n) len longer short = omega arith
 
 -- the same of equal parts
 pub KeepsLongest-same : (longest : Option ℕ) {m n : Range} {c d : ℕ} {es fs : List Entry} → m ≡ n → c ≡ d → es ≡ fs → KeepsLongest longest m c es

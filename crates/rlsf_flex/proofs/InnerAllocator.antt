@@ -7,7 +7,6 @@ use Rattle.rlsf_tlsf.specs.Allocator.{Allocator, IsInState, Stands, Steps}
 use Rattle.rlsf_flex.specs.Outside.{KeepsOutside}
 use Rattle.rlsf_flex.specs.SpareBytes.{KeepsSpareButFooter}
 use Rattle.rlsf_flex.specs.StandsFor.{FlexContents, FlexStands, FlexStandsFor, FlexSteps, StepsAlone, allocator_of}
-use Rattle.rlsf_model.specs.Answers.{MayAnswerAll}
 use Rattle.rlsf_model.specs.FlexState.{FlexState, with_machine}
 use Rattle.rlsf_model.specs.Note.{LeadsBy, Note}
 use Rattle.rlsf_model.specs.State.{State}
@@ -64,13 +63,6 @@ pub flex_opened : {S : Type 0} {fllen sllen : ℕ} {terms : S → Terms} {owes :
     × FlexStandsFor fllen sllen terms owes w
 unfolding FlexSteps
 flex_opened v w step (notes, is, leads_by, answers, outside, stands, spare) = (notes, is, leads_by, outside, stands)
-
--- and of the answers
-pub flex_answered : {S : Type 0} (fllen sllen : ℕ) (terms : S → Terms) (owes : S → List Range → Type 0) {leads : S → Note → S → Type 0} (v w : FlexContents S)
-    (step : List Note → FlexState → Type 0) → FlexSteps fllen sllen terms owes leads v w step
-    → (notes : List Note) × step notes w.state × LeadsBy leads v.source notes w.source × MayAnswerAll (terms v.source) v.state.pools notes
-unfolding FlexSteps
-flex_answered fllen sllen terms owes v w step (notes, is, leads_by, answers, outside, stands, spare) = (notes, is, leads_by, answers)
 
 -- and of the bytes that no block is made of
 pub flex_spare : {S : Type 0} (fllen sllen : ℕ) (terms : S → Terms) (owes : S → List Range → Type 0) (leads : S → Note → S → Type 0) (v w : FlexContents S)

@@ -143,9 +143,6 @@ module _ {fllen sllen : ℕ} {memory : Range} {s : State} (w : IsWellFormed flle
   -- ---- from chunk to chunk
 
   module _ (r : Range) (len : ℕ) (is : IsPool s r len) where
-    pub IsEdge-start : IsEdge s r len (round32 r.start)
-    IsEdge-start = let more = is.some in record { from = omega arith; to = omega arith; parted = λ c i low high. absurd (omega arith) }
-
     module _ (a : ℕ) (edge : IsEdge s r len a) (more : a + 64 ≤ end_of r) where
       -- so a chunk begins there, where there is room for one
       pub chunk_at : (c : Range) × IsIn c s.chunks × (c.start ≡ a) × (end_of c ≤ r.start + len)

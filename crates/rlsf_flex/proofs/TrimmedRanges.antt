@@ -6,7 +6,7 @@ use Rattle.std.proofs.lemmas.Option.{same_Some}
 use Rattle.rlsf_base.specs.declared.memory.range.Range.{Range}
 use Rattle.rlsf_blocks.specs.Spare.{IsSpare}
 use Rattle.rlsf_flex.specs.Footers.{first}
-use Rattle.rlsf_flex.specs.Outside.{IsOutside, KeepsOutside, NothingGoesBack, ever_owed, handed}
+use Rattle.rlsf_flex.specs.Outside.{IsOutside, KeepsOutside, NothingGoesBack, ever_owed}
 use Rattle.rlsf_flex.specs.StandsFor.{FlexContents, FlexStandsFor, FlexSteps}
 use Rattle.rlsf_flex.specs.Steps.Trim.{GaveBack, GaveNewest, LeavesPayloads}
 use Rattle.rlsf_model.specs.Answers.{MayAnswer}
@@ -86,11 +86,6 @@ kept_to_last t s w takes (Some k) (r ∷ pools) newest pooled =
     let long : len ≡ k.len = IsPool-kept t k s (r ∷ pools) len (λ c i. (w.chunks c i).has_room) newest pool in
     let is : Range → Option KeptPool = λ q. Some (record { range = q; len = k.len }) in
     (k.len, subst (λ q. EndsLast s.chunks q k.len) same (subst (EndsLast s.chunks k.range) long (EndsLast-pool w k.range len pool)), ap is same)
-
--- what is returned isn't provided
-handed-back : (gone : List Range) (a : ℕ) → coverage itself (handed (map dealloc gone)) a ≡ 0
-handed-back [] a = refl
-handed-back (r ∷ gone) a = handed-back gone a
 
 -- ---- ranges are returned
 

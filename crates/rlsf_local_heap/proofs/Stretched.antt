@@ -102,9 +102,6 @@ module _ (E : El) where
     gained : (n' - n) % bytes w ≡ 0
     gained = differs w n' n (divides new) (divides old)
 
-    gap' : (m' - n') % bytes w ≡ 0
-    gap' = differs w m' n' (sixteens w m' (whole n')) (divides new)
-
     units : (m' - m) % 16 ≡ 0
     units = omega (arith, whole n, whole n', lengthens)
 

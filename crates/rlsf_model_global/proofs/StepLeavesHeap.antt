@@ -37,10 +37,6 @@ pub record Goes (memory : Range) (h g : Heap) (named : ℕ → Type 0) : Type 0 
   pub heap : IsHeap memory g
   pub others : (a : ℕ) → (named a → ⊥) → Stays a h g
 
--- what fewer addresses are named by is left by more
-pub Goes-more : {memory : Range} {h g : Heap} (named more : ℕ → Type 0) → ((a : ℕ) → named a → more a) → Goes memory h g named → Goes memory h g more
-Goes-more named more into goes = record { heap = goes.heap; others = λ a off. goes.others a (λ is. off (into a is)) }
-
 -- a payload that serves the layout
 served : (m : State) (a : ℕ) (layout : Layout) (p : Payload) → payload_at m a ≡ Some p → Serves layout.size layout.align p → IsServed m a layout
 served m a layout p is serves =

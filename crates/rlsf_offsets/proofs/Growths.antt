@@ -5,7 +5,7 @@ use Rattle.rlsf_base.specs.declared.memory.range.Range.{Range}
 use Rattle.rlsf_base.specs.Range.{end_of, range_at}
 use Rattle.rlsf_base.specs.Sizes.{max_pool_size}
 use Rattle.rlsf_base.specs.Space.{range_of}
-use Rattle.rlsf_model.specs.Insert.{Appends, IsFresh, IsNext, aligned_part, cut, extended, grown_if}
+use Rattle.rlsf_model.specs.Insert.{Appends, IsNext, aligned_part, cut, extended, grown_if}
 use Rattle.rlsf_model.specs.Join.{ends_at}
 use Rattle.rlsf_model.specs.Lists.{IsIn, without}
 use Rattle.rlsf_model.specs.State.{State}
@@ -75,12 +75,6 @@ IsNext-shadow {from} {a} is to some longer room =
       is_chunk = subst (λ cs. IsIn c cs) (sym one) (inl refl);
       ends = ends;
     }
-
--- a space without a chunk has none where its shadow is
-pub IsFresh-shadow : {a : Allocator} → IsShadow 0 a → (to : ℕ) → 32 * to + 32 ≤ length a.memory.bytes → IsFresh (range_of a.memory) a.state (whole_shadow to)
-IsFresh-shadow {a} is to room =
-    let start = is.start in
-    record { lies_in = (omega (arith, start), omega (arith, start, room)); apart = λ x low high. ap (λ cs. coverage itself cs x) (is.none refl) }
 
 -- ranges stay, and the new units are free
 pub IsLonger-frame : {units : ℕ} {a b : Allocator} → IsShadow units a → (to : ℕ) → units ≤ to → KeepsFrameOfPools a b → IsLonger (offsets units a) (offsets to b) to

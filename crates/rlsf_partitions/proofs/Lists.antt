@@ -329,15 +329,6 @@ map-last : {A B : Type 0} (f : A → B) (xs : List A) (x : A) → map f (xs ++ x
 map-last f [] x = refl
 map-last f (y ∷ xs) x = ap (λ l. f y ∷ l) (map-last f xs x)
 
--- one more pool is at the end
-pub added_fresh : (ps ns : List PartitionView) (p : PartitionView) (pair : ℕ × ℕ) → ns ≡ ps ++ p ∷ [] → p.size ≡ pair.1 → p.count ≡ pair.0 → p.live ≡ 0
-    → map quota_of ns ≡ map quota_of ps ++ fresh pair ∷ []
-added_fresh ps ns p pair more size count live =
-    ap (map quota_of) more ∙ map-last quota_of ps p
-    ∙ ap (λ n. map quota_of ps ++ record (quota_of p) { size = n } ∷ []) size
-    ∙ ap (λ n. map quota_of ps ++ record (quota_of p) { size = pair.1; count = n } ∷ []) count
-    ∙ ap (λ n. map quota_of ps ++ record (quota_of p) { size = pair.1; count = pair.0; live = n } ∷ []) live
-
 -- the pools of one pair more
 pub next_fresh : (sizes : List (ℕ × ℕ)) (i : ℕ) (pair : ℕ × ℕ) (ps ns : List PartitionView) → slice_get sizes i ≡ Some pair
     → map quota_of ps ≡ map fresh (take i sizes) → map quota_of ns ≡ map quota_of ps ++ fresh pair ∷ []

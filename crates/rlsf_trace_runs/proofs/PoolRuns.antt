@@ -21,15 +21,6 @@ AreInRuns-none no_firsts = record {
   in_order = λ i j d lower below same. absurd (omega arith);
 }
 
--- all pools in one run
-pub AreInRuns-one : {xs : List Range} {firsts : List ℕ} → firsts ≡ []
-    → ((i j : ℕ) (d : Range) → i < j → j < length xs → (slice_index_or xs i d).start ≤ (slice_index_or xs j d).start) → AreInRuns xs firsts
-AreInRuns-one no_firsts ascending = record {
-  ascending = λ k m d order below. absurd (omega (arith, ap length no_firsts));
-  within = λ k d below. absurd (omega (arith, ap length no_firsts));
-  in_order = λ i j d lower below same. ascending i j d lower below;
-}
-
 -- as many pools with the same starts
 pub AreInRuns-starts : {xs ys : List Range} {firsts : List ℕ} → AreInRuns xs firsts → length ys ≡ length xs
     → ((k : ℕ) (d : Range) → k < length xs → (slice_index_or ys k d).start ≡ (slice_index_or xs k d).start) → AreInRuns ys firsts

@@ -1,6 +1,6 @@
 -- A caller's receipts, entry by entry.
-use Rattle.std.proofs.Common.{◌≡◌, ◌≢◌, ◌⊎◌, ◌↔◌, ℕ, suc, ◌+◌, ◌<◌, List, [], ◌∷◌, length, drop, get_or, drop-cons, refl, sym, ap, subst}
-use Rattle.std.proofs.Common.{inl, inr, ◌∙◌, arith, Bool, true, false, if◌then◌else◌, ◌==◌, IsTrue, true≢false, add-one}
+use Rattle.std.proofs.Common.{◌≡◌, ◌≢◌, ◌⊎◌, ℕ, suc, ◌+◌, ◌<◌, List, [], ◌∷◌, length, drop, get_or, drop-cons, refl, sym, ap, subst}
+use Rattle.std.proofs.Common.{inl, inr, ◌∙◌, arith, Bool, true, false, if◌then◌else◌, ◌==◌, true≢false, add-one}
 use Rattle.std.proofs.lemmas.Bool.Decides.{eqb_tells, nat_tests}
 use Rattle.rlsf_global.specs.declared.entry.Entry.{Entry}
 use Rattle.rlsf_global.specs.declared.entry.Receipt.{Receipt}
@@ -20,13 +20,6 @@ module _ (caller : ℕ) (journal : List Entry) (n : ℕ) (e : Entry) (in_range :
 
   pub own : e.caller ≡ caller → receipts_of caller n (drop n journal) ≡ receipt n e ∷ receipts_of caller (n + 1) (drop (n + 1) journal)
   own same = ap (receipts_of caller n) parts ∙ grind (arith, nat_tests)
-
-  pub other : e.caller ≢ caller → receipts_of caller n (drop n journal) ≡ receipts_of caller (n + 1) (drop (n + 1) journal)
-  other differs = ap (receipts_of caller n) parts ∙ grind (arith, nat_tests)
-
--- the test is false where the receipts and the journal differ
-pub not_here : {A : Type 0} (P : Type 0) (x : A) (xs ys : List A) → P ↔ (xs ≡ ys) → (xs ≡ ys → ⊥) → IsTrue false ↔ P
-not_here P x xs ys iff differs = (λ h. absurd (true≢false (sym h)), λ p. absurd (differs (iff.0 p)))
 
 -- where a receipt of the entries from the number n on comes from
 record Source (caller n : ℕ) (es : List Entry) (r : Receipt) : Type 0 where

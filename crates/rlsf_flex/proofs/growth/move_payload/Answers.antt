@@ -42,10 +42,6 @@ off g c = apart c.args.tlsf.now.state (at c.args.addr) (at c.in_ok-to.to) c.args
 off_from : (g : given.Over) (c : In_ok-to g) → at c.in_ok-to.to ≢ at c.args.addr
 off_from g c same = off g c (sym same)
 
--- the payload is live while the new one is allocated
-stays_live : (g : given.Over) (c : In_ok-to g) → align_at c.allocate.new.self.state (at c.args.addr) ≡ Some c.args.layout.align
-stays_live g c = c.in_ok-to.ensures.result.aligns (at c.args.addr) (off g c) ∙ c.requires.live
-
 stays : (g : given.Over) (c : In_ok-to g) → bytes_at c.allocate.new.self.state (at c.args.addr) ≡ bytes_at c.args.tlsf.now.state (at c.args.addr)
 stays g c = c.in_ok-to.ensures.result.bytes (at c.args.addr) (off g c)
 
