@@ -5,6 +5,7 @@ use crate::shared::SharedHeap;
 use crate::shared::payload::SharedPayload;
 use rlsf_base::memory::Layout;
 use rlsf_int::BitPattern;
+use std::marker::Model;
 use std::sync::Wait;
 
 /// `SharedHeap`s for the threads of a program, one for each. A thread seldom waits for a lock, since it allocates from its own heap while
@@ -21,6 +22,16 @@ pub struct SharedHeaps<
     heaps: Vec<SharedHeap<FLBitmap, SLBitmap, FLLEN, SLLEN>>,
 }
 
+impl<FLBitmap: BitPattern, SLBitmap: BitPattern, const FLLEN: usize, const SLLEN: usize> Model
+    for SharedHeaps<FLBitmap, SLBitmap, FLLEN, SLLEN> {
+    ghost use Rattle.std.specs.Prelude.{List};
+    ghost use Rattle.rlsf_shared_heap.specs.Shared.{SharedView};
+
+    ghost Value = { List SharedView };
+
+    ghost view = { λ s. s.heaps.items };
+}
+
 impl<
     FLBitmap: BitPattern,
     SLBitmap: BitPattern,
@@ -30,14 +41,18 @@ impl<
     /// Creates a set of these heaps: thread number 0 has the first, and so on.
     ///
     /// Completes in constant time. It takes no lock.
-    pub fn new(heaps: Vec<SharedHeap<FLBitmap, SLBitmap, FLLEN, SLLEN>>) -> Self {
+    pub fn new(heaps: Vec<SharedHeap<FLBitmap, SLBitmap, FLLEN, SLLEN>>) -> Self
+        ensures { result ≡ heaps.items }
+    {
         SharedHeaps { heaps }
     }
 
     /// Consumes the set, and returns its heaps, in their order.
     ///
     /// Completes in constant time. It takes no lock.
-    pub fn into_inner(self) -> Vec<SharedHeap<FLBitmap, SLBitmap, FLLEN, SLLEN>> {
+    pub fn into_inner(self) -> Vec<SharedHeap<FLBitmap, SLBitmap, FLLEN, SLLEN>>
+        ensures { result.items ≡ self }
+    {
         let SharedHeaps { heaps } = self;
         heaps
     }
@@ -71,4 +86,21 @@ impl<
         }
         None
     }
+}
+
+// Takes only values that are `Send` and `Sync`.
+fn crosses<T: Send + Sync>(value: T) -> T {
+    value
+}
+
+// That this call is proved shows that the set is `Send` and `Sync`.
+fn crossed<
+    FLBitmap: BitPattern + Send,
+    SLBitmap: BitPattern + Send,
+    const FLLEN: usize,
+    const SLLEN: usize,
+>(
+    heaps: SharedHeaps<FLBitmap, SLBitmap, FLLEN, SLLEN>,
+) -> SharedHeaps<FLBitmap, SLBitmap, FLLEN, SLLEN> {
+    crosses(heaps)
 }
