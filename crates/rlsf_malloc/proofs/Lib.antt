@@ -1,6 +1,8 @@
 -- Lemmas of the exports. `Templates` has a manual proof for each shape of an export, and `Payloads` says what each does.
 mod Alignments
+pub mod AsWords
 pub mod AtAddresses
+pub mod Composed
 pub mod Exports
 pub mod HeapKinds
 mod Lends

@@ -5,3 +5,4 @@ pub mod Handle
 pub mod Ranges
 pub mod Replies
 pub mod Resizing
+pub mod Words
