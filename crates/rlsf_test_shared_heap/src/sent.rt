@@ -13,7 +13,7 @@ use std::thread::Threads;
 
 type Plain = Heap<u16, u16, 12, 16>;
 
-type Shared = SharedHeap<u16, u16, 12, 16>;
+pub(crate) type Shared = SharedHeap<u16, u16, 12, 16>;
 
 /// A queue of payloads.
 type Queue<'h> = MessageQueue<SharedPayload<'h, Shared>>;
@@ -31,7 +31,7 @@ const POOL: Range = Range {
 };
 
 /// Returns a shared heap of one pool.
-fn shared_heap(alloc: Global) -> Result<Shared, Fail> {
+pub(crate) fn shared_heap(alloc: Global) -> Result<Shared, Fail> {
     let memory = OpenMemory::reserve(alloc, POOL.start, POOL.len)?;
     let mut heap = Plain::new(memory);
     heap.insert_free_block_ptr(POOL);
@@ -39,7 +39,7 @@ fn shared_heap(alloc: Global) -> Result<Shared, Fail> {
 }
 
 /// Returns a payload of so many zeros, or more.
-fn zeros<'h, R: Wait>(
+pub(crate) fn zeros<'h, R: Wait>(
     rt: &R,
     shared: &'h Shared,
     size: usize,
@@ -172,13 +172,39 @@ pub(crate) fn are_all_once(
     Ok(left == 0)
 }
 
+/// Returns whether the numbers of each thread rise, in the order in which one thread received them.
+fn rise(numbers: &[u64]) -> bool {
+    let mut next = [0; THREADS];
+    for number in numbers {
+        match next.get_mut((*number / MESSAGES) as usize) {
+            Some(next) if *next <= *number => *next = number.wrapping_add(1),
+            _ => return false,
+        }
+    }
+    true
+}
+
+/// Returns whether they rise in what each thread received.
+fn all_rise(numbers: &[Result<Vec<u64>, AllocError>]) -> bool {
+    for received in numbers {
+        if let Ok(received) = received {
+            if !rise(received) {
+                return false;
+            }
+        }
+    }
+    true
+}
+
+// Messages of one thread are received in the order in which it sent them.
 #[test]
 fn each_message_is_received_once(rt: HostRuntime) -> Result<(), Fail> {
     let shared = shared_heap(rt.alloc())?;
     let numbers = of_eight(&rt, rt.alloc(), &shared)?;
     let once = are_all_once(rt.alloc(), &numbers, 100_000)?;
+    let ordered = all_rise(&numbers);
     drop(numbers);
-    all(&rt, &[once, shared.into_inner().live() == 0]);
+    all(&rt, &[once, ordered, shared.into_inner().live() == 0]);
     Ok(())
 }
 
