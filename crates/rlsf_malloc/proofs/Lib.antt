@@ -2,7 +2,6 @@
 mod Alignments
 pub mod AsWords
 pub mod AtAddresses
-pub mod Composed
 pub mod Exports
 pub mod HeapKinds
 mod Lends
@@ -15,3 +14,4 @@ pub mod Steps
 pub mod Templates
 mod TooLong
 pub mod Walking
+mod Worked

@@ -24,6 +24,7 @@ use Rattle.rlsf_model.proofs.CallerWords.{align_at-held, bytes_at-held, new_seen
 use Rattle.rlsf_model.proofs.Coverage.{by_test}
 use Rattle.rlsf_model.proofs.Payloads.{IsUsed-after_start, payload_of-le}
 use Rattle.rlsf_model.proofs.Plans.{IsSound-plan}
+use Rattle.rlsf_model.proofs.SizedWords.{aligned}
 use Rattle.rlsf_tlsf.specs.Bounds.{IfWithinBudget}
 use Rattle.rlsf_tlsf.specs.UnknownAlign.{ReallocatesAnyAlign, ResizesBy}
 
@@ -63,14 +64,6 @@ used_bytes-filled addr bytes (u ∷ us) =
     omega (arith, is, rest, sum_by-cons (λ v. v.block.len) u fs, sum_by-cons (λ v. v.block.len) u us))
 
 -- ---- calls
-
--- the alignment that is found at an address is that of the block there
-align_of : {fllen sllen : ℕ} {memory : Range} {s : State} → IsWellFormed fllen sllen memory s → (addr align : ℕ) → align_at s addr ≡ Some align → (u : Used)
-    → Holds s addr u → u.align ≡ align
-align_of w addr align live u holds = same (sym (align_at-held w addr u holds) ∙ live)
-  where
-    same : {m n : ℕ} → Some m ≡ Some n → m ≡ n
-    same e = cc
 
 -- no bytes are added where the same blocks are used
 pub bytes_same_used : (s t : State) → t.used ≡ s.used → live_bytes t ≡ live_bytes s
@@ -113,7 +106,7 @@ module _ {fllen sllen : ℕ} {memory : Range} {s : State} (w : IsWellFormed flle
   pub bytes_resized : (addr size align to : ℕ) → align_at s addr ≡ Some align → Reallocates sllen s addr size (Some to) t
       → live_bytes t + request_size (length (bytes_at s addr)) 16 ≤ live_bytes s + request_size size align
   bytes_resized addr size align to live step =
-      let wide = align_of w addr align live step.block step.holds in
+      let wide = aligned w addr align live step.block step.holds in
       subst (λ n. live_bytes t + request_size (length (bytes_at s addr)) 16 ≤ live_bytes s + request_size size n) wide
       (by_plan (plan s step.block size) refl step.step)
     where
@@ -152,7 +145,7 @@ module _ {fllen sllen : ℕ} {memory : Range} {s : State} (w : IsWellFormed flle
       go : (o : Option Plan) → ReallocatesBy sllen s step.block size o None t → P
       go (Some p) impossible = absurd impossible
       go None full =
-          let is = align_of w addr align live step.block step.holds in
+          let is = aligned w addr align live step.block step.holds in
           absurd (never_refused_in_budget w t count bytes most widest sized size step.block.align few little short (subst (λ n. n ≤ widest) (sym is) fits) full)
 
   -- nor is one at another alignment, where a payload doesn't keep its own

@@ -1,0 +1,2 @@
+-- Worked examples, which nobody cites.
+mod Composed
