@@ -166,10 +166,6 @@ here-back cs i n j m were k lo hi = elim (cases_lt k i) [
 pub back-same : (cs : List Change) (i n : ℕ) → IsIn cs i n → came_back i n cs ≡ cs
 back-same cs i n are = ap (λ t. if t then cs else change here i n ∷ cs) (all-of cs i n are)
 
--- no byte is written
-pub back-nothing : (cs : List Change) (i k : ℕ) → kept_at cs k ≡ kept_at (came_back i 0 cs) k
-back-nothing cs i k = ap (λ l. kept_at l k) (sym (back-same cs i 0 (λ j lo hi. absurd (omega (arith, lo, hi)))))
-
 -- a run is written, and then the bytes behind it
 pub back-then : (cs now : List Change) (i m n : ℕ) → ((k : ℕ) → kept_at now k ≡ kept_at (came_back i m cs) k)
     → (k : ℕ) → kept_at (came_back (i + m) n now) k ≡ kept_at (came_back i (m + n) cs) k

@@ -1,19 +1,15 @@
 -- Units of bytes that are copied one after the other: how far the copy has come.
-use Rattle.std.proofs.Common.{◌≡◌, ℕ, ◌+◌, ◌-◌, ◌≤◌, ◌⊎◌, ◌∙◌, ap, arith, drop, inl, inr, length, refl, take}
+use Rattle.std.proofs.Common.{◌≡◌, ℕ, ◌+◌, ◌-◌, ◌≤◌, ◌⊎◌, ◌∙◌, ap, arith, drop, inl, inr, length, take}
 use Rattle.std.specs.List.{splice}
 use Rattle.rlsf_base.specs.declared.memory.block.Bytes.{Bytes}
 use Rattle.rlsf_base.specs.Out.{is_own, kept_at}
 use Rattle.rlsf_base.specs.Changes.{IsIn, IsOwn, came_back}
 use Rattle.rlsf_base.specs.Steps.Fronts.{HasCopied}
 use Rattle.rlsf_base.specs.Steps.Owners.{Becomes, Has, HasHere, HasOwn, bytes_in, out_with, with_bytes}
-use Rattle.rlsf_base.proofs.Changes.{back-nothing, back-then, here-back}
-use Rattle.rlsf_base.proofs.RawBlock.Copies.{copied-more, copied-nothing}
+use Rattle.rlsf_base.proofs.Changes.{back-then, here-back}
+use Rattle.rlsf_base.proofs.RawBlock.Copies.{copied-more}
 use Rattle.rlsf_base.proofs.RawBlock.Fills.{own-written}
 use Rattle.rlsf_base.proofs.Words.Splices.{length-part, length-splice}
-
-pub HasCopied-nothing : (d : Bytes) (from to : ℕ) → HasCopied d d from to 0
-HasCopied-nothing d from to =
-    ((refl, refl, copied-nothing d.bytes (to - d.skip) (from - d.skip), refl, refl), λ k. back-nothing d.out (to - d.skip) k)
 
 module _ (d : Bytes) (from to len : ℕ) (first : Has d from len) (second : Has d to len) (here : IsIn d.out (from - d.skip) len) (own : IsOwn d.out (to - d.skip) len)
     (b : Bytes) (i : ℕ) (room : i + 16 ≤ len) (so_far : HasCopied d b from to i) where

@@ -105,9 +105,6 @@ module _ (xs ys : List ℕ) (at by len : ℕ) (less : by ≤ len) (room : at + b
 
 -- ---- units are copied one after the other
 
-pub copied-nothing : (xs : List ℕ) (at from : ℕ) → xs ≡ splice xs at (at + 0) (take 0 (drop from xs))
-copied-nothing xs at from = grind (arith, common_steps)
-
 more-sides : (a b c r : List ℕ) → (a ++ b) ++ (c ++ r) ≡ a ++ ((b ++ c) ++ r)
 more-sides a b c r = grind (arith, common_steps)
 

@@ -10,7 +10,7 @@ use Rattle.rlsf_model.specs.Lists.{IsIn}
 use Rattle.rlsf_model.specs.State.{State, Used}
 use Rattle.rlsf_model.proofs.Payloads.{payload_of-le, IsUsed-aligned, IsUsed-after_start}
 use Rattle.rlsf_blocks.proofs.Words.Apart.{used_in_memory}
-use Rattle.rlsf_blocks.proofs.Words.Frames.{wide_whole}
+use Rattle.rlsf_model.proofs.RangeLengths.{wide_whole}
 
 module _ {fllen sllen : ℕ} {m : Space} {t : Table} {s : State} (v : StandsFor fllen sllen (contents m t) s) (u : Used) (i : IsIn u s.used) {payload align : ℕ}
     (at : u.payload ≡ payload) (is : u.align ≡ align) where

@@ -38,7 +38,8 @@ use Rattle.rlsf_table.proofs.Words.Writes.{before_links, Rewrites-trans, Rewrite
 use Rattle.rlsf_blocks.proofs.Reallocate.Copies.{IsCopied, IsInside, LiesIn-copied, Rewrites-copied}
 use Rattle.rlsf_blocks.proofs.Reallocate.Previous.{into_previous-fits, planned, reach}
 use Rattle.rlsf_blocks.proofs.Words.Apart.{used_free, free_in_memory, used_in_memory}
-use Rattle.rlsf_blocks.proofs.Words.Frames.{sides, wide_whole}
+use Rattle.rlsf_blocks.proofs.Words.Frames.{sides}
+use Rattle.rlsf_model.proofs.RangeLengths.{wide_whole}
 use Rattle.rlsf_blocks.proofs.Words.NeverOut.{here_free-in, here_released}
 use Rattle.rlsf_blocks.proofs.Words.Refilled.{Touched-joined, IsUsedStill, old_used, new_used, IsFreeStill, old_free, new_free, IsRefilled, StandsFor-refilled, KeepsSpare-refilled}
 

@@ -29,7 +29,8 @@ use Rattle.rlsf_blocks.proofs.Reallocate.NextPlans.{stretched, kept_whole, tail_
 use Rattle.rlsf_blocks.proofs.Reallocate.Spans.{reach, span_of, staying, end_of-span, home, IsWhole-span}
 use Rattle.rlsf_blocks.proofs.Reallocate.Spans.{free_apart, used_apart, span-some, span_in_memory, was_free}
 use Rattle.rlsf_blocks.proofs.Words.Apart.{used_free, used_in_memory}
-use Rattle.rlsf_blocks.proofs.Words.Frames.{sides, wide_whole}
+use Rattle.rlsf_blocks.proofs.Words.Frames.{sides}
+use Rattle.rlsf_model.proofs.RangeLengths.{wide_whole}
 use Rattle.rlsf_blocks.proofs.Words.NeverOut.{own_but_front}
 use Rattle.rlsf_blocks.proofs.Words.Refilled.{Touched-joined, IsUsedStill, old_used, new_used, IsFreeStill, old_free, new_free, IsRefilled, StandsFor-refilled, KeepsSpare-refilled}
 
