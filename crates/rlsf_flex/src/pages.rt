@@ -62,6 +62,15 @@ impl<Options: GlobalTlsfOptions> Source<Options> {
         }
     }
 
+    /// Returns the address before which all ranges lie that were provided.
+    ///
+    /// Completes in constant time.
+    pub fn end(&self) -> usize
+        ensures { result ≡ self.now.at }
+    {
+        self.at
+    }
+
     /// Returns the end of the least number of complete pages, from an address on, that hold `len` bytes, if the space contains them.
     fn end_of_pages(&self, start: usize, len: usize) -> Option<usize>
         ensures { MatchOption result (end_of self.now.space < start + pages len) (λ end. (end ≡ start + pages len) × (end ≤ end_of self.now.space)) }

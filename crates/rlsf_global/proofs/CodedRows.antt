@@ -1,11 +1,11 @@
 -- Codes and their entries.
 use Rattle.std.proofs.Common.{◌≡◌, ◌≢◌, ◌⊎◌, ℕ, suc, ◌+◌, ◌*◌, ◌^◌, ◌-◌, ◌/◌, ◌%◌, ◌<◌, ◌≤◌, ◌==◌, nat_lt, not}
-use Rattle.std.proofs.Common.{Bool, true, false, List, [], ◌∷◌, get_or, length, Option, Some, None, IsSome}
+use Rattle.std.proofs.Common.{Bool, ◌&&◌, nat_le, true, false, List, [], ◌∷◌, get_or, length, Option, Some, None, IsSome}
 use Rattle.std.proofs.Common.{if◌then◌else◌, arith, refl, sym, ap, subst, inl, inr, ◌∙◌}
 use Rattle.std.proofs.lemmas.Bool.{cases_eq}
 use Rattle.std.proofs.lemmas.Bool.Decides.{eqb_tells, leb_tells, nat_tests}
 use Rattle.std.proofs.lemmas.List.{get_or_past}
-use Rattle.rlsf_global.specs.LiveRows.{AreAddresses, AreCoded, CodeSpace, HasPlace, IsKept, code_at, code_in, code_of, code_space, codes_for}
+use Rattle.rlsf_global.specs.LiveRows.{AreAddresses, AreCoded, CodeSpace, HasCapacity, HasPlace, IsKept, code_at, code_in, code_of, code_space, codes_for}
 use Rattle.rlsf_global.specs.declared.live_table.codes.Codes.{Codes}
 use Rattle.rlsf_model.specs.Lists.{IsIn}
 use Rattle.rlsf_model_global.proofs.Maps.{row_at-put_here, row_at-put_other, row_at-without_here, row_at-without_other}
@@ -170,15 +170,13 @@ address-fits a rows all r e = let found = row_at-in a rows r e in subst (λ n. n
 -- ---- what is true of a table
 
 -- a table without entries
-pub kept-none : (c e : Codes) (start len : ℕ) → start < 2 ^ 64 → len < 2 ^ 64 → length c.codes.items ≡ 0 → code_space c ≡ codes_for start len
-    → ((a : ℕ) → code_at e a ≡ code_at c a) → (0 < length e.codes.items → length e.codes.items ≡ e.count) → code_space e ≡ code_space c
-    → (rows listed : List Row) (cap : ℕ) → rows ≡ [] → listed ≡ [] → IsKept e rows 0 0 listed cap
-kept-none c e start len small short none space same all stays rows listed cap is empty =
-    let now = stays ∙ space in
-    let first : e.first ≡ start / 16 = ap (λ (s : CodeSpace). s.first) now in
-    let count : e.count ≡ len / 16 + 2 = ap (λ (s : CodeSpace). s.count) now in
-    subst (λ xs. IsKept e xs 0 0 listed cap) (sym is) (record {
-      coded = coded-same c e [] (coded-none c none) same;
+pub kept-none : (c : Codes) (start len : ℕ) → start < 2 ^ 64 → len < 2 ^ 64 → length c.codes.items ≡ 0 → code_space c ≡ codes_for start len
+    → (rows listed : List Row) (cap : ℕ) → rows ≡ [] → listed ≡ [] → IsKept c rows 0 0 listed cap
+kept-none c start len small short none space rows listed cap is empty =
+    let first : c.first ≡ start / 16 = ap (λ (s : CodeSpace). s.first) space in
+    let count : c.count ≡ len / 16 + 2 = ap (λ (s : CodeSpace). s.count) space in
+    subst (λ xs. IsKept c xs 0 0 listed cap) (sym is) (record {
+      coded = coded-none c none;
       sorted = tt;
       addresses = addresses-none;
       counted = refl;
@@ -186,7 +184,7 @@ kept-none c e start len small short none space same all stays rows listed cap is
       room = omega arith;
       none = empty;
       ready = λ some. absurd (omega (arith, some));
-      all = all;
+      few = omega (arith, none);
       narrow = omega (arith, first, count, small, short);
     })
 
@@ -198,44 +196,48 @@ module _ (c e : Codes) (rows : List Row) (live limit : ℕ) (listed : List Row) 
   count_same : e.count ≡ c.count
   count_same = ap (λ (s : CodeSpace). s.count) space
 
-  -- codes were made if there were none
-  pub kept-filled : ((a : ℕ) → code_at e a ≡ code_at c a) → length c.codes.items ≤ length e.codes.items
-      → (0 < length e.codes.items → length e.codes.items ≡ e.count) → IsKept e rows live limit listed cap
-  kept-filled same more all = record {
-    coded = coded-same c e rows kept.coded same;
-    sorted = kept.sorted;
-    addresses = kept.addresses;
-    counted = kept.counted;
-    within = kept.within;
-    room = kept.room;
-    none = kept.none;
-    ready = λ some. let was = kept.ready some in elim (leb_tells 1 (length e.codes.items)) [
-      | inl there ↦ all there.1
-      | inr none ↦ omega (arith, none.1, was, more, count_same)
-    ];
-    all = all;
-    narrow = let was = kept.narrow in omega (arith, was, first_same, count_same);
-  }
+  -- there may be more room for codes
+  module _ (codes : e.codes.items ≡ c.codes.items) (more : HasCapacity c → HasCapacity e) where
+    reserved : AreCoded e rows
+    reserved = coded-same c e rows kept.coded
+        (λ a i. if (a % 16 == 0) && nat_le (first_same i) (a / 16) then get_or (codes i) (a / 16 - first_same i) 0 else 0)
 
-  -- and there is more room
-  pub kept-longer : ((a : ℕ) → code_at e a ≡ code_at c a) → length e.codes.items ≡ c.count → (more : ℕ) (empty : List Row) (cap' : ℕ) → limit ≤ more
-      → more ≤ cap' → empty ≡ [] → IsKept e rows live more empty cap'
-  kept-longer same there more empty cap' longer room none = record {
-    coded = coded-same c e rows kept.coded same;
-    sorted = kept.sorted;
-    addresses = kept.addresses;
-    counted = kept.counted;
-    within = let was = kept.within in omega (arith, was, longer);
-    room = room;
-    none = none;
-    ready = λ some. there ∙ sym count_same;
-    all = λ some. there ∙ sym count_same;
-    narrow = let was = kept.narrow in omega (arith, was, first_same, count_same);
-  }
+    few_reserved : length e.codes.items ≤ e.count
+    few_reserved = let few = kept.few in omega (arith, few, ap length codes, count_same)
+
+    pub kept-reserved : IsKept e rows live limit listed cap
+    kept-reserved = record {
+      coded = reserved;
+      sorted = kept.sorted;
+      addresses = kept.addresses;
+      counted = kept.counted;
+      within = kept.within;
+      room = kept.room;
+      none = kept.none;
+      ready = λ some. more (kept.ready some);
+      few = few_reserved;
+      narrow = let was = kept.narrow in omega (arith, was, first_same, count_same);
+    }
+
+    -- and there is more room for entries
+    pub kept-longer : HasCapacity e → (longer : ℕ) (empty : List Row) (cap' : ℕ) → limit ≤ longer → longer ≤ cap' → empty ≡ []
+        → IsKept e rows live longer empty cap'
+    kept-longer there longer empty cap' more' room none = record {
+      coded = reserved;
+      sorted = kept.sorted;
+      addresses = kept.addresses;
+      counted = kept.counted;
+      within = let was = kept.within in omega (arith, was, more');
+      room = room;
+      none = none;
+      ready = λ some. there;
+      few = few_reserved;
+      narrow = let was = kept.narrow in omega (arith, was, first_same, count_same);
+    }
 
   -- the code of one address was set
   module _ (n code : ℕ) (here : code_at e n ≡ code) (others : (a : ℕ) → a ≢ n → code_at e a ≡ code_at c a)
-      (len : length e.codes.items ≡ length c.codes.items) where
+      (few : length e.codes.items ≤ e.count) (more : HasCapacity c → HasCapacity e) where
     with_rows : (after : List Row) (live' : ℕ) → AreCoded e after → IsSorted after → AreAddresses after → live' ≡ length after → live' ≤ limit
         → IsKept e after live' limit listed cap
     with_rows after live' coded sorted addresses counted within = record {
@@ -246,8 +248,8 @@ module _ (c e : Codes) (rows : List Row) (live limit : ℕ) (listed : List Row) 
       within = within;
       room = kept.room;
       none = kept.none;
-      ready = λ some. len ∙ kept.ready some ∙ sym count_same;
-      all = λ some. len ∙ kept.all (subst (λ k. 0 < k) len some) ∙ sym count_same;
+      ready = λ some. more (kept.ready some);
+      few = few;
       narrow = let was = kept.narrow in omega (arith, was, first_same, count_same);
     }
 

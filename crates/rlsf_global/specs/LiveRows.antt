@@ -1,5 +1,6 @@
 -- The table of live payloads as contracts see it, and how it is kept.
 use Rattle.std.specs.Prelude.{◌≡◌, ℕ, ◌+◌, ◌*◌, ◌-◌, ◌^◌, ◌<◌, ◌≤◌, ◌/◌, ◌%◌, ◌==◌, ◌&&◌, nat_le, if◌then◌else◌, List, [], Option, Some, None, get_or, length}
+use Rattle.std.specs.Vec.{vec_capacity}
 use Rattle.rlsf_base.specs.declared.memory.layout.Layout.{Layout}
 use Rattle.rlsf_base.specs.PowerOfTwo.{floor_log2}
 use Rattle.rlsf_global.specs.declared.live_table.codes.Codes.{Codes}
@@ -44,13 +45,17 @@ code_in (Some r) = code_of r.1
 abbrev pub code_at : Codes → ℕ → ℕ
 code_at c addr = if (addr % 16 == 0) && nat_le c.first (addr / 16) then get_or c.codes.items (addr / 16 - c.first) 0 else 0
 
--- the addresses that have codes once there is memory for them
+-- the addresses that have codes
 abbrev pub code_space : Codes → CodeSpace
 code_space c = record { first = c.first; count = c.count }
 
--- an address has a place among the codes that are there
+-- an address has a place among the codes that are stored
 abbrev pub HasPlace : Codes → ℕ → Type 0
 HasPlace c addr = (addr % 16 ≡ 0) × (c.first ≤ addr / 16) × (addr / 16 - c.first < length c.codes.items)
+
+-- there is room for all codes
+abbrev pub HasCapacity : Codes → Type 0
+HasCapacity c = c.count ≤ vec_capacity c.codes
 
 -- each address has the code of its entry
 unfoldable pub AreCoded : Codes → List Row → Type 0
@@ -69,8 +74,8 @@ pub record IsKept (codes : Codes) (rows : List Row) (live limit : ℕ) (listed :
   pub within : live ≤ limit
   pub room : limit ≤ capacity
   pub none : listed ≡ []
-  pub ready : 0 < limit → length codes.codes.items ≡ codes.count
-  pub all : 0 < length codes.codes.items → length codes.codes.items ≡ codes.count
+  pub ready : 0 < limit → HasCapacity codes
+  pub few : length codes.codes.items ≤ codes.count
   pub narrow : codes.first + codes.count < 2 ^ 62
 
 -- a payload with so many usable bytes may have the layout, and this is the layout's code

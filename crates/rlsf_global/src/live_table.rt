@@ -25,7 +25,8 @@ const MOST: usize = 1 << 56;
 /// Each multiple of 16 in the memory has a code of two bytes. It is 0 where no payload begins, and else it has the alignment and the last
 /// bits of the size. A payload has less than 32 bytes more than were requested, so its length in the memory determines the other bits.
 ///
-/// A call reads or writes the code of one address, or those of two, however many payloads are live. It counts them (`looks`).
+/// A call reads or writes the code of one address, or those of two, however many payloads are live. It counts them (`looks`). Where the
+/// source provided memory, it also writes zeros as the codes of that, which aren't counted.
 #[derive(Drop)]
 pub(crate) struct LiveTable {
     codes: Codes,
@@ -33,7 +34,7 @@ pub(crate) struct LiveTable {
     rows: Vec<(Addr, Layout)>,
     // How many payloads are live.
     live: usize,
-    // How many can be live until `reserve` has to make room: 0 while there are no codes.
+    // How many can be live until `reserve` has to make room: 0 while there is no room for codes.
     limit: usize,
     alloc: Global,
     // The entries, as ghost data.
@@ -53,16 +54,13 @@ impl Model for LiveTable {
 }
 
 impl LiveTable {
-    /// Creates a table without entries, for the addresses of a memory of `len` bytes from `start` on. It requests memory for their codes.
-    /// If the system is out of memory, `reserve` requests it again.
+    /// Creates a table without entries, for the addresses of a memory of `len` bytes from `start` on. It requests no memory.
     pub(crate) fn new(alloc: Global, start: usize, len: usize) -> LiveTable
         ensures rows { result.rows ≡ [] }
         ensures space { result.space ≡ codes_for start len }
     {
-        let mut codes = Codes::new(alloc, start, len);
-        let _there = codes.fill(alloc);
         LiveTable {
-            codes,
+            codes: Codes::new(alloc, start, len),
             rows: Vec::new(alloc),
             live: 0,
             limit: 0,
@@ -71,7 +69,7 @@ impl LiveTable {
         }
     }
 
-    /// Reserves room for an entry.
+    /// Reserves room for an entry. The first call reserves room for all codes, too, and writes none of them.
     pub(crate) fn reserve(&mut self) -> Result<(), AllocError>
         ensures rows { self.new.rows ≡ self.old.rows }
         ensures room { OnOk result (0 < self.new.room) }
@@ -90,7 +88,7 @@ impl LiveTable {
         ensures room { OnOk result (0 < self.new.room) }
         ensures space { self.new.space ≡ self.old.space }
     {
-        if !self.codes.fill(self.alloc) || self.limit > MOST {
+        if self.codes.reserve().is_err() || self.limit > MOST {
             return Err(AllocError);
         }
         let wanted = 2 * self.limit + 4;
@@ -111,8 +109,8 @@ impl LiveTable {
         self.codes.get(addr.get())
     }
 
-    /// Inserts an entry. The table has room for it, and its address has none.
-    pub(crate) fn put(&mut self, row: (Addr, Layout), looks: &mut GhostLooks)
+    /// Inserts an entry. The table has room for it, and its address has none. All codes of addresses before `end` are then stored.
+    pub(crate) fn put(&mut self, row: (Addr, Layout), end: usize, looks: &mut GhostLooks)
         requires room { 0 < self.old.room }
         requires fresh { row_at (key row) self.old.rows ≡ None }
         requires place { HasCode self.old.space (key row) }
@@ -122,6 +120,8 @@ impl LiveTable {
         ensures looks { looks.new.count ≡ looks.old.count + 1 }
     {
         looks.add(1);
+        let places = self.codes.before(row.0.get()) + 1;
+        self.codes.cover(places.max(self.codes.before(end)));
         self.codes.set(row.0.get(), code_of(row.1));
         self.live += 1;
         self.entries.put(row);
@@ -141,8 +141,8 @@ impl LiveTable {
         self.entries.remove(addr);
     }
 
-    /// Replaces the entry of an address by one with the same address.
-    pub(crate) fn replace(&mut self, row: (Addr, Layout), looks: &mut GhostLooks)
+    /// Replaces the entry of an address by one with the same address. All codes of addresses before `end` are then stored.
+    pub(crate) fn replace(&mut self, row: (Addr, Layout), end: usize, looks: &mut GhostLooks)
         requires live { IsSome (row_at (key row) self.old.rows) }
         ensures rows { self.new.rows ≡ put row (without_row (key row) self.old.rows) }
         ensures room { self.new.room ≡ self.old.room }
@@ -150,13 +150,21 @@ impl LiveTable {
         ensures looks { looks.new.count ≡ looks.old.count + 1 }
     {
         looks.add(1);
+        self.codes.cover(self.codes.before(end));
         self.codes.set(row.0.get(), code_of(row.1));
         self.entries.remove(row.0);
         self.entries.put(row);
     }
 
-    /// Replaces the entry of an address by one that may have another address. No other entry has that.
-    pub(crate) fn move_row(&mut self, addr: Addr, row: (Addr, Layout), looks: &mut GhostLooks)
+    /// Replaces the entry of an address by one that may have another address. No other entry has that. All codes of addresses before `end`
+    /// are then stored.
+    pub(crate) fn move_row(
+        &mut self,
+        addr: Addr,
+        row: (Addr, Layout),
+        end: usize,
+        looks: &mut GhostLooks,
+    )
         requires live { IsSome (row_at (at addr) self.old.rows) }
         requires fresh { row_at (key row) (without_row (at addr) self.old.rows) ≡ None }
         requires place { HasCode self.old.space (key row) }
@@ -167,10 +175,10 @@ impl LiveTable {
     {
         if row.0.get() == addr.get() {
             looks.add(1);
-            self.replace(row, looks);
+            self.replace(row, end, looks);
         } else {
             self.remove(addr, looks);
-            self.put(row, looks);
+            self.put(row, end, looks);
         }
     }
 

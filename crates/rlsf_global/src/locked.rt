@@ -54,9 +54,9 @@ impl<Options: GlobalTlsfOptions> Locked<Options> {
 
     /// Creates an allocator whose source has the complete memory as its space. Nothing is live.
     ///
-    /// It asks the system for an eighth of the memory's length, for the table. If that is refused, the next allocation asks again.
+    /// The system is asked nothing: the first allocation asks it for the table.
     ///
-    /// Takes time proportional to the length of the memory, since the table is filled with zeros.
+    /// Completes in constant time.
     pub fn new(alloc: Global, memory: Memory) -> Self
         ensures heap { result.heap ≡ beginning (range_of memory) Options.COALESCE_POOLS }
         ensures memory { result.memory ≡ memory }
@@ -91,8 +91,8 @@ impl<Options: GlobalTlsfOptions> Locked<Options> {
     /// - else `NoRoom` exactly if there is no room and no memory came.
     ///
     /// If there is room, at most 27 word accesses, whatever the pools contain, and two codes of the table. No byte is copied. If the
-    /// table has no room for an entry, the system is asked first, for room for twice as many, and for the table if it refused that to
-    /// `new`.
+    /// table has no room for an entry, the system is asked first, for room for twice as many, and once for an eighth of the memory's
+    /// length, of which nothing is written. Where the source provides memory, the codes of that are written.
     pub fn allocate(&mut self, layout: Layout) -> Result<Addr, GlobalError>
         ensures step { HeapAllocates self.old.heap layout result self.new.heap }
         ensures result { IfOk result (λ addr. HeapAllocated self.old.heap self.new.heap layout (at addr)) }
@@ -107,7 +107,8 @@ impl<Options: GlobalTlsfOptions> Locked<Options> {
         let Some(addr) = self.flex.allocate(layout) else {
             return Err(GlobalError::NoRoom);
         };
-        self.rows.put((addr, layout), &mut self.looks);
+        let end = self.flex.source_ref().end();
+        self.rows.put((addr, layout), end, &mut self.looks);
         Ok(addr)
     }
 
@@ -227,7 +228,9 @@ impl<Options: GlobalTlsfOptions> Locked<Options> {
         let Some(moved) = resize(&mut self.flex, addr, layout, wanted) else {
             return Err(GlobalError::NoRoom);
         };
-        self.rows.move_row(addr, (moved, wanted), &mut self.looks);
+        let end = self.flex.source_ref().end();
+        self.rows
+            .move_row(addr, (moved, wanted), end, &mut self.looks);
         Ok(moved)
     }
 
@@ -259,7 +262,8 @@ impl<Options: GlobalTlsfOptions> Locked<Options> {
         let Some(to) = move_away(&mut self.flex, addr, align, keep, layout) else {
             return Err(GlobalError::NoRoom);
         };
-        self.rows.move_row(addr, (to, layout), &mut self.looks);
+        let end = self.flex.source_ref().end();
+        self.rows.move_row(addr, (to, layout), end, &mut self.looks);
         Ok(to)
     }
 
@@ -301,7 +305,8 @@ impl<Options: GlobalTlsfOptions> Locked<Options> {
         let Some(to) = self.flex.reallocate_no_move(addr, wanted) else {
             return Err(GlobalError::NoRoom);
         };
-        self.rows.replace((to, wanted), &mut self.looks);
+        let end = self.flex.source_ref().end();
+        self.rows.replace((to, wanted), end, &mut self.looks);
         Ok(to)
     }
 

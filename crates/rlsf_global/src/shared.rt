@@ -27,9 +27,9 @@ pub type SmallGlobalTlsf = GlobalTlsf<SmallGlobalTlsfOptions>;
 impl<Options: GlobalTlsfOptions> GlobalTlsf<Options> {
     /// Creates an allocator whose source has the complete memory as its space. Nothing is live.
     ///
-    /// It asks the system for an eighth of the memory's length, for the table. If that is refused, the next `alloc` asks again.
+    /// The system is asked nothing: the first `alloc` asks it for the table.
     ///
-    /// Takes time proportional to the length of the memory, since the table is filled with zeros.
+    /// Completes in constant time.
     ///
     /// From `crates/rlsf_example_global/src/main.rt`:
     ///

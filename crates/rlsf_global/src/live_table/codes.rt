@@ -1,19 +1,19 @@
 //! A code for each multiple of 16 in a memory.
 
-ghost use Rattle.std.specs.Prelude.{◌≡◌, ◌≢◌, ◌≤◌, ◌<◌, ◌+◌, ◌*◌, ◌^◌, ℕ, length, get_or, true};
-ghost use Rattle.rlsf_global.specs.LiveRows.{HasPlace, code_at, code_of, code_space, codes_for};
+ghost use Rattle.std.specs.Prelude.{◌≡◌, ◌≢◌, ◌≤◌, ◌<◌, ◌+◌, ◌-◌, ◌*◌, ◌/◌, ◌^◌, ℕ, length, get_or, min, OnOk};
+ghost use Rattle.rlsf_global.specs.LiveRows.{HasCapacity, HasPlace, code_at, code_of, code_space, codes_for};
 
 use rlsf_base::memory::Layout;
-use std::alloc::Global;
+use std::alloc::{AllocError, Global};
 
-/// Two bytes for each multiple of 16 in a memory: the code of the layout of the payload that begins there, or 0. While the system is out of
-/// memory for them, there are none.
+/// Two bytes for each multiple of 16 in a memory: the code of the layout of the payload that begins there, or 0. Those behind the last one
+/// that was written aren't stored: they are 0.
 #[derive(Drop)]
 pub(crate) struct Codes {
     // The first multiple of 16, divided by 16.
     first: usize,
     codes: Vec<u16>,
-    // How many codes there are once there is memory for them.
+    // How many codes there can be.
     count: usize,
 }
 
@@ -30,23 +30,39 @@ impl Codes {
         }
     }
 
-    /// Makes all codes if there are none, each of them 0. Returns `false` if the system is out of memory for them.
-    pub(crate) fn fill(&mut self, alloc: Global) -> bool
-        requires { 0 < length self.old.codes.items → length self.old.codes.items ≡ self.old.count }
+    /// Reserves room for all codes, and writes none. If there is room, the system is asked nothing.
+    pub(crate) fn reserve(&mut self) -> Result<(), AllocError>
+        requires { length self.old.codes.items ≤ self.old.count }
+        ensures codes { self.new.codes.items ≡ self.old.codes.items }
+        ensures space { code_space self.new ≡ code_space self.old }
+        ensures room { OnOk result (HasCapacity self.new) }
+        ensures more { HasCapacity self.old → HasCapacity self.new }
+    {
+        self.codes.try_reserve_exact(self.count - self.codes.len())
+    }
+
+    /// Writes zeros, so that the first `places` codes are stored, or all of them if there are fewer. There is room for all.
+    pub(crate) fn cover(&mut self, places: usize)
+        requires few { length self.old.codes.items ≤ self.old.count }
+        requires room { HasCapacity self.old }
         ensures same { (a : ℕ) → code_at self.new a ≡ code_at self.old a }
-        ensures there { result ≡ true → length self.new.codes.items ≡ self.old.count }
-        ensures more { length self.old.codes.items ≤ length self.new.codes.items }
-        ensures all { 0 < length self.new.codes.items → length self.new.codes.items ≡ self.new.count }
+        ensures there { min places self.new.count ≤ length self.new.codes.items }
+        ensures few { length self.new.codes.items ≤ self.new.count }
+        ensures room { HasCapacity self.new }
         ensures space { code_space self.new ≡ code_space self.old }
     {
-        if !self.codes.is_empty() {
-            return true;
+        let wanted = places.min(self.count);
+        if wanted <= self.codes.len() {
+            return;
         }
-        let Ok(codes) = Vec::from_elem(alloc, 0, self.count) else {
-            return false;
-        };
-        self.codes = codes;
-        true
+        let _ = self.codes.resize(wanted, 0);
+    }
+
+    /// Returns how many codes lie before an address.
+    pub(crate) fn before(&self, addr: usize) -> usize
+        ensures { result ≡ addr / 16 - self.now.first }
+    {
+        (addr / 16).saturating_sub(self.first)
     }
 
     /// Returns the code of an address, or 0 if it has no place among the codes.
@@ -71,6 +87,7 @@ impl Codes {
         ensures here { code_at self.new addr ≡ code }
         ensures others { (a : ℕ) → a ≢ addr → code_at self.new a ≡ code_at self.old a }
         ensures len { length self.new.codes.items ≡ length self.old.codes.items }
+        ensures room { HasCapacity self.old → HasCapacity self.new }
         ensures space { code_space self.new ≡ code_space self.old }
     {
         let place = addr / 16 - self.first;
