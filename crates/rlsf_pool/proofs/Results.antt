@@ -4,10 +4,12 @@ use Rattle.rlsf_pool.specs.contracts.answers.Answer as an_answer
 use Rattle.rlsf_pool.specs.contracts.answers.BlockAnswer as a_block
 use Rattle.rlsf_blocks.specs.contracts.totals.Totals as the_totals
 use Rattle.rlsf_pool.specs.contracts.pool.Pool as a_pool
+use Rattle.rlsf_pool.specs.contracts.space.OffsetSpace as a_space
 use Rattle.rlsf_pool.proofs.answers.Answer.TheLaws as answer_laws
 use Rattle.rlsf_pool.proofs.answers.BlockAnswer.TheLaws as block_laws
 use Rattle.rlsf_blocks.proofs.totals.Totals.TheLaws as totals_laws
 use Rattle.rlsf_pool.proofs.pool.Pool.TheLaws as pool_laws
+use Rattle.rlsf_pool.proofs.space.OffsetSpace.TheLaws as space_laws
 use seplogic.Ra.Ura.{Ura}
 use types.Logic.{Logic}
 
@@ -23,3 +25,6 @@ module _ {M : Type 1} {𝓤 : Ura M} (𝓛 : Logic 𝓤) where
 
   abbrev pub pool : Returned
   pool = record { row = a_pool.the_row; typed = λ r v is. ((pool_laws.the_row_laws.lawful 𝓛).typed r _ is).0 }
+
+  abbrev pub space : Returned
+  space = record { row = a_space.the_row; typed = λ r v is. ((space_laws.the_row_laws.lawful 𝓛).typed r _ is).0 }

@@ -3,6 +3,7 @@
 //! Every call accepts any numbers, and returns an error for wrong ones. Read `specs/Seen` (a pool as contracts see it), `specs/Calls` and
 //! `specs/Handle` first, then this file, which has the exports. `pool.rt` has the two kinds of pools, and `calls.rt` the calls of one kind.
 //! `lengths.rt` computes lengths of pools, `walks.rt` describes blocks by numbers, and `answers.rt` has the returned values.
+//! `offsets.rt` has the exports of `include/rlsf_offsets.h`, and `space.rt` their calls, with definitions in `specs/Spaces`.
 //! `rlsf_c_lemmas` has the template of the exports' proofs.
 #![tactic(auto)]
 
@@ -18,7 +19,9 @@ ghost use Rattle.rlsf_pool.specs.Walks.{IsListing, IsNext, IsSummary};
 mod answers;
 mod calls;
 mod lengths;
+mod offsets;
 mod pool;
+mod space;
 mod walks;
 
 use answers::{Answer, BlockAnswer};

@@ -280,7 +280,8 @@ pub fn handed_over(pool: Pool) -> Pool
     crosses(pool)
 }
 
-fn crosses<T: Send>(value: T) -> T
+/// Returns a value unchanged, of a type that may move to another thread.
+pub(crate) fn crosses<T: Send>(value: T) -> T
     ensures { result ≡ value }
 {
     value
