@@ -30,6 +30,7 @@ pub use Rattle.rlsf_local_heap.specs.Tenants.{lessor}
 pub use Rattle.rlsf_shared_heap.specs.Shared.{SharedView}
 -- of heaps whose thread never waits
 pub use Rattle.rlsf_shared_heap.specs.Owners.{IsCollected, IsServed, KeepsOwner, LeavesLent, LendsNew, OwnerView, ReturnsView, Serves, ServesLent}
--- of pools by size
+-- of pools by size, and of one pool for all
+pub use Rattle.rlsf_partitions.specs.Budgets.{IsSumWith}
 pub use Rattle.rlsf_partitions.specs.Partitions.{IsKept, IsOf, IsPlaced, PartitionsView, Quota, fresh, partition_for, vacant, with_one_less}
 pub use Rattle.rlsf_partitions.specs.Partitions.{with_one_more, with_one_more_for}

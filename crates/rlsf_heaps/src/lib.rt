@@ -9,7 +9,7 @@
 pub use rlsf_base::memory::{Layout, LayoutError, MemoryError, OpenMemory, Part, Range, RawParts};
 pub use rlsf_heap::{Heap, Payload, ThinPayload};
 pub use rlsf_local_heap::{Lease, LocalHeap, Tenant};
-pub use rlsf_partitions::{PartitionPayload, Partitions};
+pub use rlsf_partitions::{Budget, PartitionPayload, Partitions};
 pub use rlsf_shared_heap::{
     FreedOnDrop, OwnerHeap, Returns, SharedHeap, SharedHeaps, SharedPayload, ThreadHeap,
 };

@@ -1,7 +1,8 @@
 //! Pools by size: which pool a payload comes from, when one is refused, and what a deallocation makes room for.
 
 use crate::answers::{all, are};
-use rlsf_partitions::{PartitionPayload, Partitions};
+use rlsf_base::memory::Layout;
+use rlsf_partitions::{Budget, PartitionPayload, Partitions};
 use std::alloc::Global;
 
 /// Two payloads of up to 16 bytes, one of up to 100, and none of up to 200.
@@ -58,6 +59,31 @@ fn refused(pools: &mut Partitions) -> [bool; 4] {
     ]
 }
 
+/// The sums of 1,000 messages of up to 64 bytes, whose blocks have 96 bytes, and four frames of up to 16,384, whose blocks have 16,416.
+fn summed() -> Option<[usize; 4]> {
+    let message = Layout::from_size_align(64, 16).ok()?;
+    let frame = Layout::from_size_align(16384, 8).ok()?;
+    let budget = Budget::new().with(1000, message)?.with(4, frame)?;
+    Some([budget.count, budget.bytes, budget.size, budget.align])
+}
+
+/// Which sums don't fit in a word: of the bytes, of the number, and neither.
+fn too_many() -> Option<[bool; 3]> {
+    let layout = Layout::from_size_align(16, 64).ok()?;
+    let few = Budget::new().with(1, layout)?;
+    let most = Budget {
+        count: usize::MAX,
+        bytes: 0,
+        size: 0,
+        align: 1,
+    };
+    Some([
+        few.with(usize::MAX / 96, layout).is_none(),
+        most.with(1, layout).is_none(),
+        few.with(usize::MAX / 96 - 1, layout).is_some(),
+    ])
+}
+
 fn new_pools(alloc: Global) -> Option<Partitions> {
     Partitions::new(alloc, &SIZES).ok()
 }
@@ -91,4 +117,14 @@ fn within_the_counts_none_is_refused(rt: HostRuntime) {
         &rt,
         &[Partitions::new(rt.alloc(), &[(1, 16), (usize::MAX, 16)]).is_err()],
     );
+}
+
+#[test]
+fn payloads_of_a_list_are_summed(rt: HostRuntime) {
+    are(
+        &rt,
+        &summed().unwrap_or_default(),
+        &[1004, 161664, 16384, 16],
+    );
+    all(&rt, &too_many().unwrap_or_default());
 }
