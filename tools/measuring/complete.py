@@ -28,6 +28,7 @@ SQL = (
 )
 PERL = "my %h; for (1 .. NUMBER) { push @{$h{$_ % 6007}}, 'x' x ($_ % 97) } print scalar(keys %h), ' ', length(join ',', map { @$_ } values %h), qq(\\n)"
 NODE = "const m = new Map(); for (let i = 0; i < NUMBER; i++) m.set('k' + i, { i }); console.log(JSON.stringify([...m]).length)"
+LUA = "local t = {} for i = 1, NUMBER do t['k' .. i % 60007] = { i, tostring(i) } end local n = 0 for _, v in pairs(t) do n = n + #v[2] end print(n)"
 FUNCTION = """
 struct tNUM { int key; struct tNUM *next; char name[NUM % 40 + 8]; double values[4]; };
 static struct tNUM *listNUM;
@@ -52,6 +53,7 @@ PROGRAMS = {
     "python with threads": ("python3", ["python3", "-c", THREADS], 20_000),
     "sqlite": ("sqlite3", ["sqlite3", ":memory:", SQL], 300_000),
     "perl": ("perl", ["perl", "-e", PERL], 1_000_000),
+    "lua": ("lua5.4", ["lua5.4", "-e", LUA], 3_000_000),
     "git log": ("git", ["git", "-C", "FILES/repository", "log", "-p", "--stat", "main"], 1),
     "git pack-objects": ("git", [*"git -C FILES/repository pack-objects -q --revs --all --stdout --no-reuse-delta --threads=1".split()], 1),
     "gcc": ("gcc", ["gcc", "-O2", "-S", "FILES/program.c", "-o", "-"], 1),

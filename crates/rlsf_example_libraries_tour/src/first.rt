@@ -1,10 +1,11 @@
 //! The first calls of a program: it makes a pool, allocates payloads, fills and reads them, resizes one, and deallocates them. None of
 //! these functions has a proof file.
 
-ghost use Rattle.std.specs.Prelude.{◌≡◌, ◌<◌, IfSome};
+ghost use Rattle.std.specs.Prelude.{◌≡◌, ◌<◌, IfSome, Some};
+ghost use Rattle.rlsf.specs.Words.{align_at, at};
 
 use crate::error::TourError;
-use rlsf::{Layout, Memory, MemoryError, Range, Tlsf};
+use rlsf::{Addr, Layout, Memory, MemoryError, Range, Tlsf};
 use std::alloc::Global;
 
 /// Chunks of up to 131,072 bytes, in 12 first-level rows of 16 classes.
@@ -30,8 +31,23 @@ fn filled(pool: &mut Pool, layout: Layout, byte: u8, offset: usize) -> Option<u8
     Some(read)
 }
 
-/// Allocates two payloads, fills both and reads the first byte of each. Resizes the first and reads it again. Deallocates both, the
-/// second one first. Returns `None` if there is no room; then both are deallocated, too.
+/// Resizes a payload, reads its first byte, and deallocates it. Returns `None` if there is no room; then it is deallocated, too.
+fn resized(pool: &mut Pool, addr: Addr, layout: Layout, longer: Layout) -> Option<u8>
+    requires live { align_at pool.old.state (at addr) ≡ Some layout.align }
+    requires align { longer.align ≡ layout.align }
+    requires some { 0 < longer.size }
+{
+    let Some(moved) = pool.reallocate(addr, longer) else {
+        pool.deallocate(addr, layout.align());
+        return None;
+    };
+    let kept = pool.payload(moved)[0];
+    pool.deallocate(moved, longer.align());
+    Some(kept)
+}
+
+/// Allocates two payloads, fills both and reads the first byte of each. Deallocates the second one, and resizes the first and reads it
+/// again. Returns `None` if there is no room; then both are deallocated, too.
 fn two(pool: &mut Pool, small: Layout, large: Layout, longer: Layout) -> Option<[u8; 3]>
     requires align { longer.align ≡ small.align }
     requires some { (0 < small.size) × (0 < large.size) × (0 < longer.size) }
@@ -44,14 +60,8 @@ fn two(pool: &mut Pool, small: Layout, large: Layout, longer: Layout) -> Option<
     pool.payload_mut(first).fill(7);
     pool.payload_mut(second).fill(9);
     let reads = [pool.payload(first)[0], pool.payload(second)[0]];
-    let Some(moved) = pool.reallocate(first, longer) else {
-        pool.deallocate(first, small.align());
-        pool.deallocate(second, large.align());
-        return None;
-    };
-    let kept = pool.payload(moved)[0];
     pool.deallocate(second, large.align());
-    pool.deallocate(moved, longer.align());
+    let kept = resized(pool, first, small, longer)?;
     Some([reads[0], reads[1], kept])
 }
 

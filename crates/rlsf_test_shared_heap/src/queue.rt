@@ -1,7 +1,6 @@
 //! A queue of messages between threads: their order, how many it takes, and whom its calls wake.
 
-use crate::answers::{all, are, none_is_wrong};
-use crate::sent::{Shared, shared_heap, zeros};
+use crate::answers::{all, none_is_wrong};
 use rlsf_example_libraries::MessageQueue;
 use std::alloc::{AllocError, Global};
 use std::sync::Wait;
@@ -71,31 +70,6 @@ fn first_wrong<R: Wait>(rt: &R, alloc: Global) -> Result<Option<usize>, AllocErr
 fn as_many_as_its_capacity_first_in_first_out(rt: HostRuntime) -> Result<(), Fail> {
     none_is_wrong(&rt, first_wrong(&rt, rt.alloc())?);
     all(&rt, &[Queue::new(rt.alloc(), 1 << 60).is_err()]);
-    Ok(())
-}
-
-/// Fills a queue of three with payloads that are freed when they are dropped, and drops it. Returns how many it took of four.
-fn filled_and_dropped<R: Wait>(
-    rt: &R,
-    alloc: Global,
-    shared: &Shared,
-) -> Result<usize, AllocError> {
-    let queue = MessageQueue::new(alloc, 3)?;
-    let mut taken: usize = 0;
-    for size in [100, 1, 200, 50] {
-        if let Some(payload) = zeros(rt, shared, size) {
-            let is_taken = queue.send(rt, payload.freed_on_drop(rt)).is_ok();
-            taken = taken.wrapping_add(is_taken as usize);
-        }
-    }
-    Ok(taken)
-}
-
-#[test]
-fn a_dropped_queue_drops_its_messages(rt: HostRuntime) -> Result<(), Fail> {
-    let shared = shared_heap(rt.alloc())?;
-    let taken = filled_and_dropped(&rt, rt.alloc(), &shared)?;
-    are(&rt, &[taken, shared.into_inner().live()], &[3, 0]);
     Ok(())
 }
 

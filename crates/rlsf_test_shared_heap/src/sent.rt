@@ -13,7 +13,7 @@ use std::thread::Threads;
 
 type Plain = Heap<u16, u16, 12, 16>;
 
-pub(crate) type Shared = SharedHeap<u16, u16, 12, 16>;
+type Shared = SharedHeap<u16, u16, 12, 16>;
 
 /// A queue of payloads.
 type Queue<'h> = MessageQueue<SharedPayload<'h, Shared>>;
@@ -31,7 +31,7 @@ const POOL: Range = Range {
 };
 
 /// Returns a shared heap of one pool.
-pub(crate) fn shared_heap(alloc: Global) -> Result<Shared, Fail> {
+fn shared_heap(alloc: Global) -> Result<Shared, Fail> {
     let memory = OpenMemory::reserve(alloc, POOL.start, POOL.len)?;
     let mut heap = Plain::new(memory);
     heap.insert_free_block_ptr(POOL);
@@ -39,7 +39,7 @@ pub(crate) fn shared_heap(alloc: Global) -> Result<Shared, Fail> {
 }
 
 /// Returns a payload of so many zeros, or more.
-pub(crate) fn zeros<'h, R: Wait>(
+fn zeros<'h, R: Wait>(
     rt: &R,
     shared: &'h Shared,
     size: usize,
