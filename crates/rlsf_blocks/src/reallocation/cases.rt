@@ -16,7 +16,7 @@ use rlsf_table::ClassTable;
 
 /// Moves the payload as `move_block` does. Returns the new address, or `None` if the allocation is refused.
 #[inline(always)]
-fn moved<const FLLEN: usize, const SLLEN: usize, const WHOLE: usize>(
+fn moved<const FLLEN: usize, const SLLEN: usize, const WHOLE: usize, const NARROW: usize>(
     memory: &mut OpenMemory,
     table: &mut ClassTable<FLLEN, SLLEN>,
     block: usize,
@@ -35,12 +35,12 @@ fn moved<const FLLEN: usize, const SLLEN: usize, const WHOLE: usize>(
     ensures kept_here { AtEachMoving FLLEN SLLEN memory.old table.old block payload layout (λ s u. IsHereStill memory.old memory.new u result) }
 {
     let view = memory.view();
-    if let Some(moved) = move_into_previous::<FLLEN, SLLEN, WHOLE>(
+    if let Some(moved) = move_into_previous::<FLLEN, SLLEN, WHOLE, NARROW>(
         memory, view, table, block, payload, layout,
     ) {
         return Some(moved);
     }
-    move_elsewhere::<FLLEN, SLLEN, WHOLE>(memory, view, table, block, payload, layout)
+    move_elsewhere::<FLLEN, SLLEN, WHOLE, NARROW>(memory, view, table, block, payload, layout)
 }
 
 /// Returns `payload`, the address of the payload in the used block at `block`. If `NARROW` is 1, it lies behind the header.
@@ -81,7 +81,7 @@ fn move_aligned<const FLLEN: usize, const SLLEN: usize, const WHOLE: usize, cons
         unreachable!();
     }
     let payload = payload_in::<NARROW>(block, payload);
-    match moved::<FLLEN, SLLEN, WHOLE>(memory, table, block, payload, layout) {
+    match moved::<FLLEN, SLLEN, WHOLE, NARROW>(memory, table, block, payload, layout) {
         Some(to) => to,
         None => 0,
     }

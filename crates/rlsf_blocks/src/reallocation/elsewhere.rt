@@ -20,7 +20,12 @@ use rlsf_table::{ClassTable, used_end};
 ///
 /// Returns the new address. If the allocation is refused, returns `None`, and no byte and no block changes.
 #[inline(always)]
-pub fn move_elsewhere<const FLLEN: usize, const SLLEN: usize, const WHOLE: usize>(
+pub fn move_elsewhere<
+    const FLLEN: usize,
+    const SLLEN: usize,
+    const WHOLE: usize,
+    const NARROW: usize,
+>(
     memory: &mut OpenMemory,
     view: View,
     table: &mut ClassTable<FLLEN, SLLEN>,

@@ -82,7 +82,12 @@ fn place_before(
 /// Returns the new address. If there is no free block before it, or the bytes don't suffice, returns `None`, and no byte
 /// and no block changes.
 #[inline(always)]
-pub(crate) fn move_into_previous<const FLLEN: usize, const SLLEN: usize, const WHOLE: usize>(
+pub(crate) fn move_into_previous<
+    const FLLEN: usize,
+    const SLLEN: usize,
+    const WHOLE: usize,
+    const NARROW: usize,
+>(
     memory: &mut OpenMemory,
     view: View,
     table: &mut ClassTable<FLLEN, SLLEN>,
