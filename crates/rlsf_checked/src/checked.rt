@@ -92,7 +92,7 @@ impl<FLBitmap: Bitmap, SLBitmap: Bitmap, const FLLEN: usize, const SLLEN: usize>
         ensures invalid { IsErrOf result InvalidClasses ↔ (IsValid FLBitmap.width SLBitmap.width FLLEN SLLEN → ⊥) }
         ensures refused { IfErr result (λ e. e ≢ InvalidClasses → e ≡ OutOfMemory) }
         ensures state { IfOk result (λ t. t.heap.state ≡ empty) }
-        ensures count { IfOk result (λ t. live_count t.heap.state ≡ 0) }
+        ensures live { IfOk result (λ t. (live_count t.heap.state ≡ 0) × (live_bytes t.heap.state ≡ 0)) }
         ensures memory { IfOk result (λ t. t.heap.memory ≡ memory) }
         ensures pool { IfOk result (λ t. t.pool ≡ range_at memory.start 0) }
         ensures stands { IfOk result (λ t. Stands FLLEN SLLEN t.heap) }
