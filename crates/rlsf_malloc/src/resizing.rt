@@ -57,6 +57,26 @@ pub(crate) fn resize_aligned<F: BitPattern, S: BitPattern, const FLLEN: usize, c
     if addr == 0 {
         return Reply::changed(allocate_aligned(heap, size, align));
     }
+    // The most frequent alignment has code of its own, in which the compiler computes nothing by it.
+    if align == 16 {
+        return resize(heap, addr, payload, size, 16);
+    }
+    resize_known(heap, addr, payload, size, align)
+}
+
+/// Changes the size of the payload at an address as `resize` does.
+// Out of line, since wide alignments are rare: so the compiler needs no frame where a payload of the alignment 16 stays.
+#[inline(never)]
+fn resize_known<F: BitPattern, S: BitPattern, const FLLEN: usize, const SLLEN: usize>(
+    heap: &mut Heap<F, S, FLLEN, SLLEN>,
+    addr: usize,
+    payload: ThinPayload,
+    size: usize,
+    align: usize,
+) -> Reply
+    requires { IsReady heap.old × IsAt heap.old addr payload.of × (addr ≢ 0) × (payload.addr ≡ addr) × (payload.of.align ≡ align) }
+    ensures { Resizes SLLEN heap.old payload.of size align (number_of result) result.payload.of heap.new }
+{
     resize(heap, addr, payload, size, align)
 }
 

@@ -52,6 +52,19 @@ fn payload_in<const NARROW: usize>(block: usize, payload: usize) -> usize
     if NARROW == 1 { block + HEADER } else { payload }
 }
 
+/// Returns `layout`. If `NARROW` is 1, it has the alignment 16.
+#[inline(always)]
+fn layout_in<const NARROW: usize>(layout: Layout) -> Layout
+    requires narrow { NARROW ≡ 1 → layout.align ≡ 16 }
+    ensures { result ≡ layout }
+{
+    if NARROW == 1 {
+        Layout::from_size_align_unchecked(layout.size(), 16)
+    } else {
+        layout
+    }
+}
+
 /// Moves the payload as `move_block` does. If `NARROW` is 1, `layout` must have the alignment 16.
 // Out of line, since it is long, and without a view: so a call that doesn't get here saves no register for it, and all of its
 // arguments are in registers. It returns a number: so a call for C returns that as it is. `NARROW` makes a function of its own of the most
@@ -76,11 +89,8 @@ fn move_aligned<const FLLEN: usize, const SLLEN: usize, const WHOLE: usize, cons
     ensures here { StaysHere memory.old memory.new }
     ensures kept_here { AtEachMoving FLLEN SLLEN memory.old table.old block payload layout (λ s u. IsHereStill memory.old memory.new u (reply_of result)) }
 {
-    // No instruction: the compiler takes the alignment for 16 below.
-    if NARROW == 1 && layout.align() != 16 {
-        unreachable!();
-    }
     let payload = payload_in::<NARROW>(block, payload);
+    let layout = layout_in::<NARROW>(layout);
     match moved::<FLLEN, SLLEN, WHOLE, NARROW>(memory, table, block, payload, layout) {
         Some(to) => to,
         None => 0,

@@ -1,6 +1,6 @@
 //! A payload moves into the free block before its own.
 
-ghost use Rattle.std.specs.Prelude.{◌≡◌, ◌+◌, ◌-◌, ◌≤◌, ℕ, None, find, IfNone, []};
+ghost use Rattle.std.specs.Prelude.{◌≡◌, ◌≢◌, ◌+◌, ◌-◌, ◌≤◌, ℕ, None, find, IfNone, IfSome, []};
 ghost use Rattle.rlsf_base.specs.SizeClass.{IsValid};
 ghost use Rattle.rlsf_base.specs.OpenSpace.{SameOwn, StaysHere};
 ghost use Rattle.rlsf_model.specs.Join.{ends_at, start_or};
@@ -21,27 +21,24 @@ use rlsf_base::memory::{Layout, OpenMemory, Range, View};
 use rlsf_base::rounding::next_multiple_of_32;
 use rlsf_table::{ClassTable, PAD, PREVIOUS_BLOCK, is_free, used_end};
 
-/// Returns the start of the free block before the used one at `block`, or `block` if none is before it.
-fn start_before(memory: &mut OpenMemory, view: View, block: usize) -> usize
+/// Returns the start of the free block before the used one at `block`, or `None` if none is before it.
+// `None` is the code's own way through, and not `block` to be compared: so nothing is tested twice.
+fn start_before(memory: &mut OpenMemory, view: View, block: usize) -> Option<usize>
     requires used { (fllen : ℕ) × (sllen : ℕ) × (t : Table) × (s : State) × (u : Used) × StandsFor fllen sllen (contents memory.old t) s × IsIn u s.used × (u.block.start ≡ block) }
     requires view { view ≡ memory.old.view }
-    ensures start { (fllen sllen : ℕ) (t : Table) → AtEachUsed fllen sllen memory.old t block (λ s u. result ≡ start_or block (find (ends_at block) s.free)) }
+    ensures start { (fllen sllen : ℕ) (t : Table) → AtEachUsed fllen sllen memory.old t block (λ s u. IfSome result (λ a. (a ≡ start_or block (find (ends_at block) s.free)) × (a ≢ block))) }
+    ensures none { (fllen sllen : ℕ) (t : Table) → AtEachUsed fllen sllen memory.old t block (λ s u. IfNone result (block ≡ start_or block (find (ends_at block) s.free))) }
     ensures counts { Counts memory.old memory.new 2 }
 {
     let previous = memory.load_at(view, block + PREVIOUS_BLOCK) as usize;
     if previous == 0 {
-        block
-    } else {
-        let size = memory.load_at(view, previous);
-        if !is_free(size) {
-            return block;
-        }
-        // No instruction: the compiler knows by it that the free block begins at another address.
-        if size == 0 {
-            unreachable!();
-        }
-        block - size as usize
+        return None;
     }
+    let size = memory.load_at(view, previous);
+    if !is_free(size) {
+        return None;
+    }
+    Some(block - size as usize)
 }
 
 /// Returns the address of the payload for the layout, and the length of its block, if the block began where the free block before
@@ -60,10 +57,7 @@ fn place_before(
         → IsUsedBlock s u block end layout.align → IsPlaceBefore s u layout.size result }
     ensures counts { Counts memory.old memory.new 3 }
 {
-    let start = start_before(memory, view, block);
-    if start == block {
-        return None;
-    }
+    let start = start_before(memory, view, block)?;
     let payload = layout.align_up(start + HEADER);
     let taken = next_multiple_of_32(payload - start + layout.size());
     let room = end - start + free_length(memory, view, end);

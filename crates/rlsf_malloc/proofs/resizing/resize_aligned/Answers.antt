@@ -1,4 +1,4 @@
-use Rattle.std.proofs.Common.{ℕ, sym, subst}
+use Rattle.std.proofs.Common.{◌∙◌, ℕ, sym, subst}
 use Rattle.rlsf_heap.specs.Heap.{PayloadView}
 use Rattle.rlsf_malloc.specs.Calls.{Allocates}
 use Rattle.rlsf_malloc.specs.Replies.{number_of}
@@ -19,11 +19,20 @@ returns-then-addr-eq0 g c =
       known = λ some. absurd (some c.if-addr-eq0.true);
     })
 
-pub returns : goal.returns
-returns g c =
+pub returns-then-align-eq16 : goal.returns-then-align-eq16
+returns-then-align-eq16 g c =
     let r = c.resize.result in record {
       fresh = λ e. absurd (c.if-addr-eq0.false e);
       known = λ some.
-          subst (λ a. Resizes g.row.SLLEN c.args.heap.now c.args.payload.of c.args.size a (number_of r) r.payload.of c.resize.new.heap) c.at_least_16-align.ensures
-          c.resize.ensures;
+          subst (λ a. Resizes g.row.SLLEN c.args.heap.now c.args.payload.of c.args.size a (number_of r) r.payload.of c.resize.new.heap)
+          (sym c.if-align-eq16.true ∙ c.at_least_16-align.ensures) c.resize.ensures;
+    }
+
+pub returns : goal.returns
+returns g c =
+    let r = c.resize_known.result in record {
+      fresh = λ e. absurd (c.if-addr-eq0.false e);
+      known = λ some.
+          subst (λ a. Resizes g.row.SLLEN c.args.heap.now c.args.payload.of c.args.size a (number_of r) r.payload.of c.resize_known.new.heap) c.at_least_16-align.ensures
+          c.resize_known.ensures;
     }

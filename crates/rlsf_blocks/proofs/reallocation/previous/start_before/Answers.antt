@@ -27,19 +27,6 @@ load_at-size-requires-clause-place c =
     let marked = IsMarked-loaded m n read.start read.bytes read.out (IsMarked-previous v u i at read.word c.if-previous-eq0.false) in
     marked.word
 
--- a free block isn't empty
-pub unreachable-requires : goal.unreachable-requires
-unreachable-requires c =
-    let (fllen, sllen, t, s, u, v, i, at) = c.requires.used in
-    let m = c.args.memory.now in
-    let n = c.load_at-previous.new.self in
-    let read = c.load_at-previous.ensures in
-    let marked = IsMarked-loaded m n read.start read.bytes read.out (IsMarked-previous v u i at read.word c.if-previous-eq0.false) in
-    let list = IsFreeTable-counted m n read.start read.bytes read.out (IsFreeTable-free v) in
-    let (f, j, begins, long) = block_there list marked c.load_at-size.ensures.word (c.is_free.ensures.0 c.if-not-is_free.false) in
-    let placed = list.placed f j in
-    omega (arith, placed.room, long, c.if-size-eq0.true)
-
 pub overflow_sub-result : goal.overflow_sub-result
 overflow_sub-result c =
     let (fllen, sllen, t, s, u, v, i, at) = c.requires.used in
@@ -53,7 +40,8 @@ overflow_sub-result c =
 
 pub returns-then-previous-eq0 : goal.returns-then-previous-eq0
 returns-then-previous-eq0 c = record {
-  start = λ fllen sllen t s u v i at.
+  start = λ fllen sllen t s u v i at. tt;
+  none = λ fllen sllen t s u v i at.
       (IsPreviousOut-none v u i at c.load_at-previous.ensures.word c.load_at-previous.new.self c.load_at-previous.ensures.start c.load_at-previous.ensures.bytes
       c.load_at-previous.ensures.out c.if-previous-eq0.true).begins;
   counts = search rules;
@@ -61,7 +49,8 @@ returns-then-previous-eq0 c = record {
 
 pub returns-then-not-is_free : goal.returns-then-not-is_free
 returns-then-not-is_free c = record {
-  start = λ fllen sllen t s u v i at.
+  start = λ fllen sllen t s u v i at. tt;
+  none = λ fllen sllen t s u v i at.
       let m = c.args.memory.now in
       let n = c.load_at-previous.new.self in
       let read = c.load_at-previous.ensures in
@@ -72,15 +61,19 @@ returns-then-not-is_free c = record {
   counts = search rules;
 }
 
-pub returns-else-size-eq0 : goal.returns-else-size-eq0
-returns-else-size-eq0 c = record {
+-- a free block isn't empty, so it begins at another address
+pub returns : goal.returns
+returns c = record {
   start = λ fllen sllen t s u v i at.
       let m = c.args.memory.now in
       let n = c.load_at-previous.new.self in
       let read = c.load_at-previous.ensures in
       let marked = IsMarked-loaded m n read.start read.bytes read.out (IsMarked-previous v u i at read.word c.if-previous-eq0.false) in
       let list = IsFreeTable-counted m n read.start read.bytes read.out (IsFreeTable-free v) in
-      let long = end_free list marked c.load_at-size.ensures.word (c.is_free.ensures.0 c.if-not-is_free.false) in
-      (length_before v u i at read.word c.if-previous-eq0.false long).begins;
+      let free = c.is_free.ensures.0 c.if-not-is_free.false in
+      let before = length_before v u i at read.word c.if-previous-eq0.false (end_free list marked c.load_at-size.ensures.word free) in
+      let (f, j, begins, long) = block_there list marked c.load_at-size.ensures.word free in
+      let placed = list.placed f j in (before.begins, λ same. omega (arith, placed.room, long, before.within, same));
+  none = λ fllen sllen t s u v i at. tt;
   counts = search rules;
 }
