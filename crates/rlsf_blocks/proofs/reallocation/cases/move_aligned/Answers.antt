@@ -18,7 +18,7 @@ payload_in-payload-requires g c =
 
 pub moved-requires : goal.moved-requires
 moved-requires g c =
-    let (s, u, v, is, first, here) = c.requires.used in
+    let (s, u, v, is, first, here) = rw (← c.layout_in-layout.ensures) at c.requires.used in
     (omega arith, (c.requires.parameters, ((s, u, v, there c.payload_in-payload.ensures is, first, here), c.requires.whole)))
 
 pub returns-in-Some : goal.returns-in-Some
@@ -27,26 +27,27 @@ returns-in-Some g c =
     let m = c.args.memory.now in
     let n = c.moved.new.memory in
     let to = c.in-Some.to in
-    let (s, u, v, is, first, here) = c.requires.used in
+    let size = c.layout_in-layout.result.size in
+    let (s, u, v, is, first, here) = rw (← c.layout_in-layout.ensures) at c.requires.used in
     let (t, by, stands, spare) = e.step s u v (there c.payload_in-payload.ensures is) first here in
     let at = c.payload_in-payload.ensures in
-    let same : Some to ≡ reply_of to = some_reply to (address_some g.row.SLLEN s t u c.args.layout.size to (plan s u c.args.layout.size) stands.well_formed.used by) in
-    record {
+    let same : Some to ≡ reply_of to = some_reply to (address_some g.row.SLLEN s t u size to (plan s u size) stands.well_formed.used by) in
+    rw (← c.layout_in-layout.ensures) (record {
       step = λ s u v is first here.
-          subst (λ o. IsReallocated g.row.FLLEN g.row.SLLEN m n c.moved.new.table s u c.args.layout.size o) same (e.step s u v (there at is) first here);
+          subst (λ o. IsReallocated g.row.FLLEN g.row.SLLEN m n c.moved.new.table s u size o) same (e.step s u v (there at is) first here);
       refused = subst (λ o. IfNone o (n.bytes ≡ m.bytes)) same tt;
       costs = e.costs;
       copied = λ s u v is. e.copied s u v (there at is);
       own = e.own;
       here = e.here;
       kept_here = λ s u v is first. subst (λ o. IsHereStill m n u o) same (e.kept_here s u v (there at is) first);
-    }
+    })
 
 pub returns-in-None : goal.returns-in-None
 returns-in-None g c =
     let e = c.in-None.ensures in
     let at = c.payload_in-payload.ensures in
-    record {
+    rw (← c.layout_in-layout.ensures) (record {
       step = λ s u v is first here. e.step s u v (there at is) first here;
       refused = e.refused;
       costs = e.costs;
@@ -54,4 +55,4 @@ returns-in-None g c =
       own = e.own;
       here = e.here;
       kept_here = λ s u v is first here. tt;
-    }
+    })
