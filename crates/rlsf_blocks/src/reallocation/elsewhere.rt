@@ -19,6 +19,8 @@ use rlsf_table::{ClassTable, used_end};
 /// `layout`. All usable bytes of the payload must be here: none is raw or out.
 ///
 /// Returns the new address. If the allocation is refused, returns `None`, and no byte and no block changes.
+///
+/// `WHOLE` is that of `move_block`. `NARROW` does nothing but make functions of their own, each with one caller.
 #[inline(always)]
 pub fn move_elsewhere<
     const FLLEN: usize,

@@ -74,7 +74,7 @@ fn place_before(
 /// usable bytes of the payload must be here: none is raw or out.
 ///
 /// Returns the new address. If there is no free block before it, or the bytes don't suffice, returns `None`, and no byte
-/// and no block changes.
+/// and no block changes. `WHOLE` and `NARROW` are those of `move_elsewhere`.
 #[inline(always)]
 pub(crate) fn move_into_previous<
     const FLLEN: usize,

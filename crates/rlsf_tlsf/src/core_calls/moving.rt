@@ -87,7 +87,7 @@ pub(crate) fn reallocate_unknown_align_in<const FLLEN: usize, const SLLEN: usize
         return Some(addr);
     }
     let view = memory.view();
-    // Not 1, so that it isn't the function that `move_block` calls for the same allocator: LLVM takes each of the two in line.
+    // `NARROW` is 2, so that it is none of the functions that `move_block` calls for the same allocator: LLVM takes each of them in line.
     match move_elsewhere::<FLLEN, SLLEN, 1, 2>(memory, view, table, block, addr, layout) {
         Some(moved) => {
             state.allocate(SLLEN, layout.size(), layout.align());
