@@ -27,7 +27,7 @@ pub use Rattle.rlsf_heap.specs.Settled.{IsSettled}
 -- of tenants
 pub use Rattle.rlsf_local_heap.specs.Tenants.{lessor}
 -- of shared heaps
-pub use Rattle.rlsf_shared_heap.specs.Shared.{SharedView}
+pub use Rattle.rlsf_shared_heap.specs.Shared.{IsOfOne, SharedView}
 -- of heaps whose thread never waits
 pub use Rattle.rlsf_shared_heap.specs.Owners.{IsCollected, IsServed, KeepsOwner, LeavesLent, LendsNew, OwnerView, ReturnsView, Serves, ServesLent}
 -- of pools by size, and of one pool for all

@@ -1,5 +1,6 @@
 //! A `SharedHeap` for each thread of a program.
 ghost use Rattle.std.specs.Prelude.{◌≡◌, ◌+◌, ◌%◌, ◌<◌, ◌≤◌, length, replicate, IfSome};
+ghost use Rattle.rlsf_shared_heap.specs.Shared.{IsOfOne};
 
 use crate::shared::SharedHeap;
 use crate::shared::payload::SharedPayload;
@@ -58,7 +59,7 @@ impl<
     }
 
     /// Allocates a payload of zeros for `layout`, as `SharedHeap::allocate_shared` does, from the heap of a thread. If that has no room, asks
-    /// the next one, and so on round. With more threads than heaps, some share one.
+    /// the next one, and so on round. With more threads than heaps, some share one. The payload is of one of the heaps (`own`).
     ///
     /// Returns `None` if no heap has room.
     ///
@@ -70,6 +71,7 @@ impl<
         thread: usize,
         layout: Layout,
     ) -> Option<SharedPayload<'_, SharedHeap<FLBitmap, SLBitmap, FLLEN, SLLEN>>>
+        ensures own { IfSome result (λ p. IsOfOne self.now p.identity) }
         ensures zeros { IfSome result (λ p. p.bytes ≡ replicate (length p.bytes) 0) }
         ensures align { IfSome result (λ p. p.align ≡ layout.align) }
         ensures aligned { IfSome result (λ p. p.start % layout.align ≡ 0) }
@@ -77,9 +79,14 @@ impl<
         ensures few { IfSome result (λ p. length p.bytes < layout.size + 32) }
     {
         let own = thread.checked_rem(self.heaps.len())?;
-        let (before, from_own) = self.heaps.split_at(own);
-        for heap in from_own.iter().chain(before) {
-            let payload = heap.allocate_shared(rt, layout);
+        let from_own = self.heaps.len() - own;
+        for turn in 0..self.heaps.len() {
+            let index = if turn < from_own {
+                own + turn
+            } else {
+                turn - from_own
+            };
+            let payload = self.heaps[index].allocate_shared(rt, layout);
             if payload.is_some() {
                 return payload;
             }
