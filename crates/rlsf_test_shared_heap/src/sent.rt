@@ -4,7 +4,7 @@ use crate::answers::all;
 use rlsf_base::memory::{Layout, OpenMemory, Range};
 use rlsf_example_libraries::MessageQueue;
 use rlsf_heap::Heap;
-use rlsf_shared_heap::{SharedHeap, SharedPayload};
+use rlsf_shared_heap::{FreedOnDrop, SharedHeap, SharedPayload};
 use std::alloc::{AllocError, Global};
 use std::sync::Wait;
 use std::test::Fail;
@@ -302,6 +302,41 @@ fn dropped_payloads_are_freed(rt: HostRuntime) -> Result<(), Fail> {
     let answers = [
         kept == Some(65536 + 16 + 256),
         next == Some(65536 + 16),
+        shared.into_inner().live() == 2,
+    ];
+    all(&rt, &answers);
+    Ok(())
+}
+
+/// Sends a payload that is freed where it is dropped. Returns whether the queue took it.
+fn sends<'h, 'r, R: Wait>(
+    rt: &'r R,
+    queue: &MessageQueue<FreedOnDrop<'h, 'r, Shared, R>>,
+    shared: &'h Shared,
+) -> bool {
+    match zeros(rt, shared, 100) {
+        Some(payload) => queue.send(rt, payload.freed_on_drop(rt)).is_ok(),
+        None => false,
+    }
+}
+
+// Three blocks of 128 bytes are live when the queue is dropped: it is full, and its last message is before its first one.
+#[test]
+fn a_dropped_queue_drops_its_messages(rt: HostRuntime) -> Result<(), Fail> {
+    let shared = shared_heap(rt.alloc())?;
+    let queue = MessageQueue::new(rt.alloc(), 3)?;
+    let sent = [0; 4].map(|_| sends(&rt, &queue, &shared));
+    let received = queue.receive(&rt).is_some();
+    let again = sends(&rt, &queue, &shared);
+    let next = zeros(&rt, &shared, 100).map(|payload| payload.addr());
+    drop(queue);
+    let merged = zeros(&rt, &shared, 200).map(|payload| payload.addr());
+    let answers = [
+        sent == [true, true, true, false],
+        received,
+        again,
+        next == Some(65536 + 16 + 384),
+        merged == Some(65536 + 16),
         shared.into_inner().live() == 2,
     ];
     all(&rt, &answers);
