@@ -2,9 +2,13 @@
 
 A pair is an allocation and a deallocation of `rlsf_bench_threads` in one thread, with the loop around them, as callgrind counts it: the
 difference of two runs, one of which makes more pairs. Then one thread allocates payloads and four threads free them. Each allocation is
-counted by the processor's trap flag (stepped_calls.c). `rt run` proves and builds the program; --quick takes the one that is there."""
+counted by the processor's trap flag (stepped_calls.c). `rt run` proves and builds the program; --quick takes the one that is there.
+
+With --original it also counts and times a model of an owner, tools/original/two_lists.rs: with one list of returned payloads, and with two."""
 import os
 import platform
+import re
+import statistics
 import subprocess
 
 from measuring.allocators import chosen, compiled, others, title
@@ -35,12 +39,26 @@ def address_of(program, function):
     return next(line.split()[0] for line in names if function in line)
 
 
-def single_calls(program, counter, kind, preloaded, calls):
-    """What the library prints of so many allocations, once some were made."""
-    environment = {**os.environ, "STEPPED": f"{address_of(program, LENT[kind])} {LIVE} {calls}"}
+def single_calls(words, function, counter, preloaded, calls):
+    """What the library prints of so many calls of a function, once some were made."""
+    environment = {**os.environ, "STEPPED": f"{address_of(words[0], function)} {LIVE} {calls}"}
     environment["LD_PRELOAD"] = " ".join(filter(None, [str(counter), preloaded]))
-    words = list(map(str, [program, kind, LIVE, calls + 2 * LIVE, GIVERS]))
-    return subprocess.run(words, env=environment, capture_output=True, text=True, check=True).stderr.strip()
+    return subprocess.run(list(map(str, words)), env=environment, capture_output=True, text=True, check=True).stderr.strip()
+
+
+def print_model(program, counter, quick):
+    """What the model's allocations take. Each time is the median of some runs, of all forms in turn."""
+    calls, runs = (300, 1) if quick else (10_000, 9)
+    forms = [(lists, how) for lists in ("one", "two") for how in ("yields", "sleeps")]
+    times = {form: [] for form in forms}
+    for form in forms * runs:
+        run = subprocess.run(list(map(str, [program, *form, 20 * calls])), capture_output=True, text=True, check=True)
+        times[form].append(list(map(int, re.findall(r" (\d+)(?=,|$)", run.stdout.strip()))))
+    print(f"\na model's allocation, counted as above, and {20 * calls} at full speed, medians of {runs} runs:", flush=True)
+    for lists, how in forms:
+        counted = single_calls([program, lists, how, calls + 2 * LIVE], f"allocate_with_{lists}", counter, "", calls)
+        half, most, longest = map(statistics.median, zip(*times[lists, how]))
+        print(f"{lists}, a thread {how}: {counted}; nanoseconds: half {half}, 99.9% {most}, longest {longest}", flush=True)
 
 
 def measure(options, folder):
@@ -57,4 +75,8 @@ def measure(options, folder):
     rows = [("`OwnerHeap`", "lent", ""), ("`SharedHeap`", "lent_shared", "")]
     rows += [(title(allocator.name), "lent_malloc", allocator.preload) for allocator in chosen(options, others())]
     for name, kind, preloaded in rows:
-        print(f"{name}: {single_calls(program, counter, kind, preloaded, 300 if options.quick else options.calls)}", flush=True)
+        calls = 300 if options.quick else options.calls
+        words = [program, kind, LIVE, calls + 2 * LIVE, GIVERS]
+        print(f"{name}: {single_calls(words, LENT[kind], counter, preloaded, calls)}", flush=True)
+    if options.original:
+        print_model(options.original / "rlsf_two_lists", counter, options.quick)
