@@ -10,6 +10,7 @@ import platform
 import re
 import statistics
 import subprocess
+import sys
 
 from measuring.allocators import chosen, compiled, others, title
 from measuring.bench import instructions, run_once, there
@@ -24,7 +25,7 @@ LENT = {"lent": "lent::allocate_lent", "lent_shared": "lent::allocate_shared", "
 
 
 def add_words(parser):
-    parser.add_argument("--calls", type=int, default=100_000, help="how many allocations are counted one by one")
+    parser.add_argument("--calls", type=int, help="how many allocations are counted one by one: 100,000 if left out, or 300 with --quick")
 
 
 def a_pair(program, allocator, quick):
@@ -43,7 +44,8 @@ def single_calls(words, function, counter, preloaded, calls):
     """What the library prints of so many calls of a function, once some were made."""
     environment = {**os.environ, "STEPPED": f"{address_of(words[0], function)} {LIVE} {calls}"}
     environment["LD_PRELOAD"] = " ".join(filter(None, [str(counter), preloaded]))
-    return subprocess.run(list(map(str, words)), env=environment, capture_output=True, text=True, check=True).stderr.strip()
+    said = subprocess.run(list(map(str, words)), env=environment, capture_output=True, text=True, check=True).stderr.strip()
+    return said if said.startswith(f"{calls} calls") else sys.exit(f"{words[0]} {words[1]} ended before {calls} calls of {function} were counted\n{said}")
 
 
 def print_model(program, counter, quick):
@@ -75,7 +77,7 @@ def measure(options, folder):
     rows = [("`OwnerHeap`", "lent", ""), ("`SharedHeap`", "lent_shared", "")]
     rows += [(title(allocator.name), "lent_malloc", allocator.preload) for allocator in chosen(options, others())]
     for name, kind, preloaded in rows:
-        calls = 300 if options.quick else options.calls
+        calls = options.calls or (300 if options.quick else 100_000)
         words = [program, kind, LIVE, calls + 2 * LIVE, GIVERS]
         print(f"{name}: {single_calls(words, LENT[kind], counter, preloaded, calls)}", flush=True)
     if options.original:

@@ -5,6 +5,7 @@
  * first; and how many are counted. Only one thread may call the function. A count has what the function calls, up to its return. It has none
  * of the kernel's instructions, and each round of a repeated instruction (`rep stos`). Only for x86-64. */
 #define _GNU_SOURCE
+#include <link.h>
 #include <signal.h>
 #include <stdio.h>
 #include <stdlib.h>
@@ -64,20 +65,19 @@ static void on_trap(int number, siginfo_t *info, void *context) {
     calls_kernel |= next[0] == 0x0f && next[1] == 0x05;
 }
 
-/* The address where the program's file is mapped. */
-static unsigned long base(void) {
-    unsigned long found = 0;
-    FILE *maps = fopen("/proc/self/maps", "r");
-    if (!maps || fscanf(maps, "%lx", &found) != 1) abort();
-    fclose(maps);
-    return found;
+/* What is added to the addresses in the program's file. The program comes first. */
+static int add_base(struct dl_phdr_info *program, size_t size, void *found) {
+    (void)size;
+    *(unsigned long *)found += program->dlpi_addr;
+    return 1;
 }
 
 __attribute__((constructor)) static void begin(void) {
     unsigned long offset;
     const char *words = getenv("STEPPED");
     if (!words || sscanf(words, "%lx %ld %ld", &offset, &skip, &count) != 3) return;
-    start = (unsigned char *)(base() + offset);
+    dl_iterate_phdr(add_base, &offset);
+    start = (unsigned char *)offset;
     size_t page = sysconf(_SC_PAGESIZE);
     struct sigaction action = {.sa_sigaction = on_trap, .sa_flags = SA_SIGINFO};
     if (mprotect((void *)((size_t)start & -page), 2 * page, PROT_READ | PROT_WRITE | PROT_EXEC) || sigaction(SIGTRAP, &action, NULL)) abort();
