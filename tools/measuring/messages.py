@@ -26,7 +26,8 @@ def add_words(parser):
 
 
 def build(folder, name, wanted, words):
-    """Copies the crates that a program uses, and the program, whose text lies beside this file, and builds it. It is run once with these words."""
+    """Copies the crates that a program uses, and the program, whose text lies beside this file, with the folder of its proof if it has one, and
+    builds it. It is run once with these words."""
     program = folder / "crates" / name / "out" / name
     if program.exists():
         return program
@@ -44,7 +45,10 @@ def build(folder, name, wanted, words):
     listed = [line for crate, line in lines.items() if crate in used]
     (folder / "crates.txt").write_text("\n".join([*listed, f"{name}: {' '.join(sorted(used))}"]) + "\n")
     shutil.copy(ROOT / "HANDLES", folder / "HANDLES")
-    shutil.copy(ROOT / f"tools/measuring/{name.removeprefix('measured_')}.txt", folder / "crates" / name / "src/main.rt")
+    text = ROOT / f"tools/measuring/{name.removeprefix('measured_')}.txt"
+    shutil.copy(text, folder / "crates" / name / "src/main.rt")
+    if text.with_suffix("").is_dir():
+        shutil.copytree(text.with_suffix(""), folder / "crates" / name, dirs_exist_ok=True)
     subprocess.run(["rt", "run", "--", *words], cwd=folder / "crates" / name, check=True)
     return program
 

@@ -1,9 +1,10 @@
-"""Measures a `CheckedOffsets` beside a TLSF in C whose nodes lie outside of the space that it divides (tools/measuring/offsets.c).
+"""Measures an `OffsetTlsf` and a `CheckedOffsets` beside a TLSF in C whose nodes lie outside of the space that it divides
+(tools/measuring/offsets.c).
 
 It needs the Rattle toolchain (`rt`), a C compiler and valgrind. A folder outside the repository gets copies of the crates below `rlsf_offsets`
 and the program `tools/measuring/offsets.txt`, which `rt run` proves and builds there. A second run takes the program that is there. The space has
-2^24 units of 256 bytes. LIVE slots are filled with ranges, which take half of it on average, and then a step replaces the range of a slot. Both
-programs print the sum of all offsets, so both return the same ones. The instructions of a step are those of one run less those of a run with no
+2^24 units of 256 bytes. LIVE slots are filled with ranges, which take half of it on average, and then a step replaces the range of a slot. All
+print the sum of all offsets, so all return the same ones. The instructions of a step are those of one run less those of a run with no
 steps; the resident bytes are the most of a run, with those of the program, its libraries and its slots."""
 import pathlib
 import re
@@ -33,7 +34,7 @@ def resident(launcher, command):
 def instructions(program, live, steps):
     """The instructions of a step."""
     def run(count):
-        command = ["valgrind", "--tool=callgrind", "--callgrind-out-file=/dev/null", str(program), str(live), str(count)]
+        command = ["valgrind", "--tool=callgrind", "--callgrind-out-file=/dev/null", *map(str, [*program, live, count])]
         return int(re.search(r"Collected : (\d+)", subprocess.run(command, capture_output=True, text=True, check=True).stderr).group(1))
     return (run(steps) - run(0)) / steps
 
@@ -41,7 +42,7 @@ def instructions(program, live, steps):
 def measure(options, folder):
     if not shutil.which("rt") or not shutil.which("valgrind"):
         sys.exit("this needs `rt` and valgrind")
-    ours = messages.build(options.folder, NAME, {"rlsf_offsets"}, ["1000", "10"])
+    ours = messages.build(options.folder, NAME, {"rlsf_offsets"}, ["proved", "1000", "10"])
     other, launcher = folder / "offsets", folder / "launch"
     for program, name in ((other, "offsets.c"), (launcher, "launch.c")):
         subprocess.run(["cc", "-O2", "-o", program, ROOT / "tools/measuring" / name], check=True)
@@ -49,10 +50,10 @@ def measure(options, folder):
     print("\n| Live ranges | | Instructions of a step | Resident MiB, fresh | after replacements |\n|---|---|---|---|---|")
     for live in LIVE:
         said = set()
-        for name, program in (("`CheckedOffsets`", ours), ("nodes outside, in C", other)):
-            fresh, after = resident(launcher, [program, live, 0]), resident(launcher, [program, live, steps])
+        for name, program in (("`OffsetTlsf`", [ours, "proved"]), ("`CheckedOffsets`", [ours, "checked"]), ("nodes outside, in C", [other])):
+            fresh, after = resident(launcher, [*program, live, 0]), resident(launcher, [*program, live, steps])
             said.add((fresh[1], after[1]))
             mean = instructions(program, live, min(steps, 10_000))
             print(f"| {live:,} | {name} | {mean:.1f} | {fresh[0] / 2**20:.1f} | {after[0] / 2**20:.1f} |", flush=True)
         if len(said) != 1:
-            sys.exit(f"{live} live ranges: the two print {said}")
+            sys.exit(f"{live} live ranges: they print {said}")
