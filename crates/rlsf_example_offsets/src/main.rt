@@ -53,7 +53,8 @@ fn resources(memory: &mut OffsetTlsf<256>) -> Option<[Resource; 3]> {
 /// Returns the letter of the resource that has the byte at an offset, or a dot if none has.
 fn letter_at(resources: &[Resource; 3], at: usize) -> char {
     for resource in resources.iter() {
-        if at >= resource.offset && at - resource.offset < resource.len {
+        // A difference below 0 wraps to more than any length.
+        if at.wrapping_sub(resource.offset) < resource.len {
             return resource.letter;
         }
     }

@@ -104,13 +104,17 @@ fn print_pieces<const UNIT: usize>(
     output: &mut String,
 ) -> Option<()> {
     for piece in space.pieces() {
-        let Piece {
-            offset,
-            len,
-            is_free,
-        } = piece;
-        let star = if is_free { "*" } else { "" };
-        write!(output, "{offset} {len}{star} ").ok()?;
+        print_piece(piece, output)?;
     }
     writeln!(output, "").ok()
+}
+
+fn print_piece(piece: Piece, output: &mut String) -> Option<()> {
+    let Piece {
+        offset,
+        len,
+        is_free,
+    } = piece;
+    let star = if is_free { "*" } else { "" };
+    write!(output, "{offset} {len}{star} ").ok()
 }
