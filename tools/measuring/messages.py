@@ -26,8 +26,8 @@ def add_words(parser):
 
 
 def build(folder, name, wanted, words):
-    """Copies the crates that a program uses, and the program, whose text lies beside this file, with the folder of its proof if it has one, and
-    builds it. It is run once with these words."""
+    """Copies the crates that a program uses, and the program, whose text lies beside this file, with the folder of its definitions if it has one,
+    and builds it. It is run once with these words."""
     program = folder / "crates" / name / "out" / name
     if program.exists():
         return program
@@ -47,8 +47,11 @@ def build(folder, name, wanted, words):
     shutil.copy(ROOT / "HANDLES", folder / "HANDLES")
     text = ROOT / f"tools/measuring/{name.removeprefix('measured_')}.txt"
     shutil.copy(text, folder / "crates" / name / "src/main.rt")
-    if text.with_suffix("").is_dir():
-        shutil.copytree(text.with_suffix(""), folder / "crates" / name, dirs_exist_ok=True)
+    # `rt` wants no `.antt` file outside of a crate.
+    for part in text.with_suffix("").rglob("*.txt"):
+        place = folder / "crates" / name / part.relative_to(text.with_suffix("")).with_suffix(".antt")
+        place.parent.mkdir(exist_ok=True)
+        shutil.copy(part, place)
     subprocess.run(["rt", "run", "--", *words], cwd=folder / "crates" / name, check=True)
     return program
 
