@@ -28,6 +28,8 @@ PROGRAMS = {
 MODES = ["free", "realloc"]
 CONFIGS = ["12x16", "59x8", "64x64"]
 SLOTS = [100, 1_000, 10_000, 50_000]
+# Payloads have fewer bytes.
+SIZES = 512
 # How many steps the shorter run does, and the longer one.
 COUNTED = (200_000, 400_000)
 TIMED = (200_000, 3_200_000)
@@ -54,7 +56,7 @@ def built(name, folder):
     """Builds one of the programs, a copy of the crate in a folder. Meanwhile the copy lies in the repository, so that `rt` takes the libraries
     that it has proved there."""
     if not PROGRAMS[name]:
-        return run_once(CRATE, "12x16 10 10 free")
+        return run_once(CRATE, "12x16 10 512 10 free")
     text = (CRATE / "src/main.rt").read_text()
     for constant, other in PROGRAMS[name]:
         if constant not in text:
@@ -65,7 +67,7 @@ def built(name, folder):
         (copy / "src").mkdir(parents=True)
         (copy / "src/main.rt").write_text(text)
         (copy / "BUILD.bazel").write_text(f'rattle_crate(name = "{name}", deps = ["//crates/rlsf_bench_common"])\n')
-        return shutil.copy(run_once(copy, "12x16 10 10 free"), folder / name)
+        return shutil.copy(run_once(copy, "12x16 10 512 10 free"), folder / name)
 
 
 def there(name):
@@ -96,7 +98,7 @@ def a_step(programs, config, slots, mode, options):
         for steps in (shorter, longer):
             lines = set()
             for program in programs:
-                words = [program, config, slots, steps, mode]
+                words = [program, config, slots, SIZES, steps, mode]
                 cost, line = seconds(words, options.core) if options.time else instructions(words)
                 least[program, steps] = min(cost, least.get((program, steps), cost))
                 lines.add(line)

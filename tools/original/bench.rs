@@ -65,6 +65,7 @@ fn next(state: &mut u64) -> u64 {
 
 fn run<F: BinInteger, S: BinInteger, const FLLEN: usize, const SLLEN: usize>(
     slots: usize,
+    sizes: u16,
     steps: u64,
     reallocates: bool,
 ) {
@@ -81,7 +82,7 @@ fn run<F: BinInteger, S: BinInteger, const FLLEN: usize, const SLLEN: usize>(
         let draw = next(&mut state);
         let slot = (draw >> 32) as usize % slots;
         let align = 1 << (slot % ALIGNS);
-        let layout = unsafe { Layout::from_size_align_unchecked((draw % 512) as usize, align) };
+        let layout = unsafe { Layout::from_size_align_unchecked((draw % u64::from(sizes)) as usize, align) };
         let mut count = |placed: Option<NonNull<u8>>| match placed {
             Some(payload) => {
                 let addr = (payload.as_ptr() as usize - base as usize) as u64;
@@ -112,15 +113,15 @@ fn run<F: BinInteger, S: BinInteger, const FLLEN: usize, const SLLEN: usize>(
 fn main() {
     let words: Vec<String> = std::env::args().collect();
     let words: Vec<&str> = words.iter().map(String::as_str).collect();
-    let [_, configuration, slots, steps, mode @ ("free" | "realloc")] = words[..] else {
-        panic!("the arguments are 12x16|59x8|64x64 SLOTS STEPS free|realloc");
+    let [_, configuration, slots, sizes, steps, mode @ ("free" | "realloc")] = words[..] else {
+        panic!("the arguments are 12x16|59x8|64x64 SLOTS SIZES STEPS free|realloc");
     };
-    let (slots, steps) = (slots.parse().unwrap(), steps.parse().unwrap());
+    let (slots, sizes, steps) = (slots.parse().unwrap(), sizes.parse().unwrap(), steps.parse().unwrap());
     let reallocates = mode == "realloc";
     match configuration {
-        "12x16" => run::<u16, u16, 12, 16>(slots, steps, reallocates),
-        "59x8" => run::<u64, u64, 59, 8>(slots, steps, reallocates),
-        "64x64" => run::<usize, usize, 64, 64>(slots, steps, reallocates),
+        "12x16" => run::<u16, u16, 12, 16>(slots, sizes, steps, reallocates),
+        "59x8" => run::<u64, u64, 59, 8>(slots, sizes, steps, reallocates),
+        "64x64" => run::<usize, usize, 64, 64>(slots, sizes, steps, reallocates),
         _ => panic!("no such configuration"),
     }
 }

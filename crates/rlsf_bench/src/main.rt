@@ -1,5 +1,5 @@
-//! Times the allocator: `rlsf_bench CONFIG SLOTS STEPS MODE` allocates payloads into slots, and frees or reallocates them. Their
-//! order seems random, and is the same in each run.
+//! Times the allocator: `rlsf_bench CONFIG SLOTS SIZES STEPS MODE` allocates payloads into slots, and frees or reallocates them. Their
+//! order and sizes, below `SIZES`, seem random, and are the same in each run.
 //!
 //! The body is `main_of` of `rlsf_bench_common`, with these parameters. `tools/measure bench` also builds the program with others of them.
 #![tactic(auto)]

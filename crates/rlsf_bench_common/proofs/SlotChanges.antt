@@ -17,7 +17,7 @@ use Rattle.rlsf_model.proofs.Determined.{refusal_changes_nothing}
 use Rattle.rlsf_model.proofs.Live.{handed_out_is_new, live_stays, reallocated_is_live}
 use Rattle.rlsf_tlsf.specs.Allocator.{Allocator, IsInState}
 use Rattle.rlsf_bench_common.specs.declared.tally.Tally.{Tally}
-use Rattle.rlsf_bench_common.specs.Runs.{ChangesSlot, DoesStep, BenchState, alignment_of, beginning, counted, nothing, size_of, slot_of, with_slot}
+use Rattle.rlsf_bench_common.specs.Runs.{ChangesSlot, DoesStep, BenchState, alignment_of, beginning, counted, nothing, slot_of, with_slot}
 use Rattle.rlsf_bench_common.specs.Slots.{AreSlotsAt, LeadsSlotsOn, held}
 
 -- an address in changed slots is in the one that was changed, or was in another before
@@ -144,21 +144,21 @@ module _ {fllen sllen aligns : ℕ} {v : Allocator} {table : List ℕ} {counts :
             at.one_slot slot other a (its ∙ ap Some (sym same ∙ moved)) there
 
     -- a step on the slot, by what it holds
-    does_on : (reallocates : Bool) (draw : ℕ) → slot ≡ slot_of (length table) draw → (o : Option ℕ) → held (slice_index_or table slot 0) ≡ o → (after : BenchState)
-        → ChangesSlot sllen (alignment_of aligns slot) reallocates slot (size_of draw) s o after
-        → DoesStep sllen aligns (length table) reallocates draw s after
-    does_on reallocates draw named o holds after step =
-        subst (λ n. ChangesSlot sllen (alignment_of aligns n) reallocates n (size_of draw) s (s.slots n) after) named
-        (subst (λ p. ChangesSlot sllen (alignment_of aligns slot) reallocates slot (size_of draw) s p after) (sym holds ∙ at.slots slot) step)
+    does_on : (reallocates : Bool) (draw size : ℕ) → slot ≡ slot_of (length table) draw → (o : Option ℕ) → held (slice_index_or table slot 0) ≡ o → (after : BenchState)
+        → ChangesSlot sllen (alignment_of aligns slot) reallocates slot size s o after
+        → DoesStep sllen aligns (length table) reallocates draw size s after
+    does_on reallocates draw size named o holds after step =
+        subst (λ n. ChangesSlot sllen (alignment_of aligns n) reallocates n size s (s.slots n) after) named
+        (subst (λ p. ChangesSlot sllen (alignment_of aligns slot) reallocates slot size s p after) (sym holds ∙ at.slots slot) step)
 
     -- a step that frees the slot's payload
-    pub LeadsSlotsOn-freed : (reallocates : Bool) → reallocates ≡ false → (draw : ℕ) → slot ≡ slot_of (length table) draw → (addr : ℕ)
+    pub LeadsSlotsOn-freed : (reallocates : Bool) → reallocates ≡ false → (draw size : ℕ) → slot ≡ slot_of (length table) draw → (addr : ℕ)
         → held (slice_index_or table slot 0) ≡ Some addr → Deallocates s.machine addr t
-        → LeadsSlotsOn fllen sllen aligns (length table) reallocates draw s w (slice_set table slot 0) counts
-    LeadsSlotsOn-freed reallocates frees draw named addr there step = (
+        → LeadsSlotsOn fllen sllen aligns (length table) reallocates draw size s w (slice_set table slot 0) counts
+    LeadsSlotsOn-freed reallocates frees draw size named addr there step = (
       after,
-      does_on reallocates draw named (Some addr) there after
-          (subst (λ r. ChangesSlot sllen (alignment_of aligns slot) r slot (size_of draw) s (Some addr) after) (sym frees) (t, step, refl)),
+      does_on reallocates draw size named (Some addr) there after
+          (subst (λ r. ChangesSlot sllen (alignment_of aligns slot) r slot size s (Some addr) after) (sym frees) (t, step, refl)),
       AreSlotsAt-freed addr (sym (at.slots slot) ∙ there) step,
     )
       where
@@ -168,35 +168,32 @@ module _ {fllen sllen aligns : ℕ} {v : Allocator} {table : List ℕ} {counts :
     -- a step that reallocates it
     pub LeadsSlotsOn-reallocated : (reallocates : Bool) → reallocates ≡ true → (draw : ℕ) → slot ≡ slot_of (length table) draw → (addr : ℕ)
         → held (slice_index_or table slot 0) ≡ Some addr → (reply : Option ℕ) (number size : ℕ)
-        → held number ≡ Some (unwrap_or reply addr) → size ≡ size_of draw → Reallocates sllen s.machine addr size reply t → (now : Tally)
+        → held number ≡ Some (unwrap_or reply addr) → Reallocates sllen s.machine addr size reply t → (now : Tally)
         → now ≡ counted reply counts
-        → LeadsSlotsOn fllen sllen aligns (length table) reallocates draw s w (slice_set table slot number) now
-    LeadsSlotsOn-reallocated reallocates does draw named addr there reply number size kept size_is step now counts_are = (
+        → LeadsSlotsOn fllen sllen aligns (length table) reallocates draw size s w (slice_set table slot number) now
+    LeadsSlotsOn-reallocated reallocates does draw named addr there reply number size kept step now counts_are = (
       after,
-      does_on reallocates draw named (Some addr) there after
-          (subst (λ r. ChangesSlot sllen (alignment_of aligns slot) r slot (size_of draw) s (Some addr) after) (sym does) (reply, t, asked, refl)),
-      AreSlotsAt-reallocated addr (sym (at.slots slot) ∙ there) reply number (size_of draw) kept asked now counts_are,
+      does_on reallocates draw size named (Some addr) there after
+          (subst (λ r. ChangesSlot sllen (alignment_of aligns slot) r slot size s (Some addr) after) (sym does) (reply, t, step, refl)),
+      AreSlotsAt-reallocated addr (sym (at.slots slot) ∙ there) reply number size kept step now counts_are,
     )
       where
-        asked : Reallocates sllen s.machine addr (size_of draw) reply t
-        asked = subst (λ n. Reallocates sllen s.machine addr n reply t) size_is step
-
         after : BenchState
         after = record { machine = t; slots = with_slot slot (Some (unwrap_or reply addr)) s.slots; tally = counted reply s.tally }
 
     -- a step that allocates into it
     pub LeadsSlotsOn-answered : (reallocates : Bool) (draw : ℕ) → slot ≡ slot_of (length table) draw → held (slice_index_or table slot 0) ≡ None
-        → (reply : Option ℕ) (number size align : ℕ) → held number ≡ reply → size ≡ size_of draw → align ≡ alignment_of aligns slot
+        → (reply : Option ℕ) (number size align : ℕ) → held number ≡ reply → align ≡ alignment_of aligns slot
         → Allocates sllen s.machine size align reply t → (now : Tally) → now ≡ counted reply counts
-        → LeadsSlotsOn fllen sllen aligns (length table) reallocates draw s w (slice_set table slot number) now
-    LeadsSlotsOn-answered reallocates draw named empty reply number size align kept size_is align_is step now counts_are = (
+        → LeadsSlotsOn fllen sllen aligns (length table) reallocates draw size s w (slice_set table slot number) now
+    LeadsSlotsOn-answered reallocates draw named empty reply number size align kept align_is step now counts_are = (
       after,
-      does_on reallocates draw named None empty after (reply, t, asked, refl),
-      AreSlotsAt-answered reply number (size_of draw) kept asked now counts_are,
+      does_on reallocates draw size named None empty after (reply, t, asked, refl),
+      AreSlotsAt-answered reply number size kept asked now counts_are,
     )
       where
-        asked : Allocates sllen s.machine (size_of draw) (alignment_of aligns slot) reply t
-        asked = subst (λ a. Allocates sllen s.machine (size_of draw) a reply t) align_is (subst (λ n. Allocates sllen s.machine n align reply t) size_is step)
+        asked : Allocates sllen s.machine size (alignment_of aligns slot) reply t
+        asked = subst (λ a. Allocates sllen s.machine size a reply t) align_is step
 
         after : BenchState
         after = record { machine = t; slots = with_slot slot reply s.slots; tally = counted reply s.tally }

@@ -1,6 +1,6 @@
 -- RunsSteps of the benchmark: what steps do to the reference model, and what is counted.
 use Rattle.std.specs.Prelude.{◌≡◌, ℕ, zero, suc, ◌+◌, ◌*◌, ◌/◌, ◌%◌, ◌^◌, nat_eq, ◌==◌, Bool, true, false, if◌then◌else◌, Option, Some, None}
-use Rattle.std.specs.Int.NonZero.{non_zero_usize_get}
+use Rattle.std.specs.Int.NonZero.{non_zero_u16_get, non_zero_usize_get}
 use Rattle.std.specs.Option.{unwrap_or}
 use Rattle.rlsf_base.specs.declared.memory.range.Range.{Range}
 use Rattle.rlsf_base.specs.Range.{range_at}
@@ -61,9 +61,9 @@ counted (Some addr) tally = record { refused = tally.refused; checksum = (tally.
 abbrev pub slot_of : ℕ → ℕ → ℕ
 slot_of slots draw = draw / 2 ^ 32 % slots
 
--- the size that it asks for
-abbrev pub size_of : ℕ → ℕ
-size_of draw = draw % 512
+-- the size that it asks for, of so many
+abbrev pub size_of : ℕ → ℕ → ℕ
+size_of sizes draw = draw % sizes
 
 -- the alignment of a slot's payloads, of so many alignments: slot after slot has 1, 2, 4 and so on, and then 1 again
 abbrev pub alignment_of : ℕ → ℕ → ℕ
@@ -81,26 +81,29 @@ ChangesSlot sllen align true slot size s (Some addr) t =
     (reply : Option ℕ) × (machine : State) × Reallocates sllen s.machine addr size reply machine
     × (t ≡ record { machine = machine; slots = with_slot slot (Some (unwrap_or reply addr)) s.slots; tally = counted reply s.tally })
 
--- one step by a number, which may be one that reallocates, on slots of so many alignments
-abbrev pub DoesStep : ℕ → ℕ → ℕ → Bool → ℕ → BenchState → BenchState → Type 0
-DoesStep sllen aligns slots reallocates draw s t =
+-- one step by a number and a size, which may be one that reallocates, on slots of so many alignments
+abbrev pub DoesStep : ℕ → ℕ → ℕ → Bool → ℕ → ℕ → BenchState → BenchState → Type 0
+DoesStep sllen aligns slots reallocates draw size s t =
     let slot = slot_of slots draw in
-    ChangesSlot sllen (alignment_of aligns slot) reallocates slot (size_of draw) s (s.slots slot) t
+    ChangesSlot sllen (alignment_of aligns slot) reallocates slot size s (s.slots slot) t
 
 -- so many steps in a mode, by the numbers in the order that they are drawn in
-abbrev pub RunsSteps : ℕ → ℕ → ℕ → Mode → ℕ → BenchState → BenchState → Type 0
-RunsSteps sllen aligns slots mode zero s t = t ≡ s
-RunsSteps sllen aligns slots mode (suc n) s t = (u : BenchState) × RunsSteps sllen aligns slots mode n s u × DoesStep sllen aligns slots (reallocates_at mode n) (drawn n) u t
+abbrev pub RunsSteps : ℕ → ℕ → ℕ → ℕ → Mode → ℕ → BenchState → BenchState → Type 0
+RunsSteps sllen aligns slots sizes mode zero s t = t ≡ s
+RunsSteps sllen aligns slots sizes mode (suc n) s t =
+    (u : BenchState) × RunsSteps sllen aligns slots sizes mode n s u × DoesStep sllen aligns slots (reallocates_at mode n) (drawn n) (size_of sizes (drawn n)) u t
 
 -- this is counted in a run of so many steps in a mode, from the state that a pool leads to
-pub record IsBench (fllen sllen aligns : ℕ) (pool : Range) (slots steps : ℕ) (mode : Mode) (tally : Tally) : Type 0 where
+pub record IsBench (fllen sllen aligns : ℕ) (pool : Range) (slots sizes steps : ℕ) (mode : Mode) (tally : Tally) : Type 0 where
   pub taken : Option ℕ
   pub machine : State
   pub inserted : Inserts fllen empty pool taken machine
   pub last : BenchState
-  pub ran : RunsSteps sllen aligns slots mode steps (beginning machine) last
+  pub ran : RunsSteps sllen aligns slots sizes mode steps (beginning machine) last
   pub counts : tally ≡ last.tally
 
 -- the steps that the command line asks for, on slots of so many alignments, in a pool of 32 MiB from address 4096 on
 abbrev pub IsAsked : Arguments → ℕ → Tally → Type 0
-IsAsked a aligns tally = IsBench (rows_of a.configuration) (classes_of a.configuration) aligns (range_at 4096 (2 ^ 25)) (non_zero_usize_get a.slots) a.steps a.mode tally
+IsAsked a aligns tally =
+    IsBench (rows_of a.configuration) (classes_of a.configuration) aligns (range_at 4096 (2 ^ 25)) (non_zero_usize_get a.slots) (non_zero_u16_get a.sizes) a.steps a.mode
+    tally

@@ -19,8 +19,8 @@ pub record AreSlotsAt (fllen sllen aligns : ℕ) (v : Allocator) (table : List �
   pub one_slot : (slot other addr : ℕ) → s.slots slot ≡ Some addr → s.slots other ≡ Some addr → slot ≡ other
   pub tally : counts ≡ s.tally
 
--- a step by a number leads from this state of the run to that of the allocator and the slots; the number determines whether it may
+-- a step by a number and a size leads from this state of the run to that of the allocator and the slots; the number determines whether it may
 -- reallocate
-abbrev pub LeadsSlotsOn : ℕ → ℕ → ℕ → ℕ → Bool → ℕ → BenchState → Allocator → List ℕ → Tally → Type 0
-LeadsSlotsOn fllen sllen aligns slots reallocates draw s w table counts =
-    (t : BenchState) × DoesStep sllen aligns slots reallocates draw s t × AreSlotsAt fllen sllen aligns w table counts t
+abbrev pub LeadsSlotsOn : ℕ → ℕ → ℕ → ℕ → Bool → ℕ → ℕ → BenchState → Allocator → List ℕ → Tally → Type 0
+LeadsSlotsOn fllen sllen aligns slots reallocates draw size s w table counts =
+    (t : BenchState) × DoesStep sllen aligns slots reallocates draw size s t × AreSlotsAt fllen sllen aligns w table counts t

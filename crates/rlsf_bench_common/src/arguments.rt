@@ -3,7 +3,7 @@
 ghost use Rattle.std.specs.Prelude.{◌≡◌};
 ghost use Rattle.rlsf_bench_common.specs.Runs.{reallocates_at};
 
-use std::num::NonZeroUsize;
+use std::num::{NonZeroU16, NonZeroUsize};
 
 /// The parameters of the allocator: the number of first-level rows, the number of classes in each, and the type of the bitmaps.
 #[derive(Clone, Copy)]
@@ -65,6 +65,8 @@ pub(crate) struct Arguments {
     pub(crate) configuration: Configuration,
     /// How many payloads can be live at once.
     pub(crate) slots: NonZeroUsize,
+    /// How many sizes a payload can have, from 0 bytes on.
+    pub(crate) sizes: NonZeroU16,
     /// How often a payload is allocated, freed or reallocated.
     pub(crate) steps: u64,
     /// What a step does to a payload that its slot holds.
@@ -74,12 +76,13 @@ pub(crate) struct Arguments {
 impl Arguments {
     /// Reads the words of a command line, of which the first is the program's name. `None` where a word is missing, wrong or too many.
     pub(crate) fn read(words: &[String]) -> Option<Arguments> {
-        let [_, configuration, slots, steps, mode] = words else {
+        let [_, configuration, slots, sizes, steps, mode] = words else {
             return None;
         };
         Some(Arguments {
             configuration: Configuration::named(configuration)?,
             slots: slots.parse().ok()?,
+            sizes: sizes.parse().ok()?,
             steps: steps.parse().ok()?,
             mode: Mode::named(mode)?,
         })

@@ -31,7 +31,7 @@ use tally::Tally;
 
 /// The arguments that a program takes.
 const USAGE: &str =
-    "the arguments are 12x16|59x8|64x64 SLOTS STEPS free|realloc, with SLOTS from 1 on";
+    "the arguments are 12x16|59x8|64x64 SLOTS SIZES STEPS free|realloc, with SLOTS from 1 on, and SIZES from 1 to 65535";
 
 /// The addresses of the pool.
 const POOL: Range = Range {
@@ -99,6 +99,7 @@ fn tally_of<const CALLED: bool, const ALIGNS: usize>(
     let Arguments {
         configuration,
         slots,
+        sizes,
         steps,
         mode,
     } = arguments;
@@ -110,6 +111,7 @@ fn tally_of<const CALLED: bool, const ALIGNS: usize>(
                 Tlsf::<u16, u16, 12, 16>::new(memory),
                 POOL,
                 slots,
+                sizes,
                 steps,
                 mode,
             )
@@ -120,6 +122,7 @@ fn tally_of<const CALLED: bool, const ALIGNS: usize>(
                 Tlsf::<u64, u64, 59, 8>::new(memory),
                 POOL,
                 slots,
+                sizes,
                 steps,
                 mode,
             )
@@ -130,6 +133,7 @@ fn tally_of<const CALLED: bool, const ALIGNS: usize>(
                 Tlsf::<usize, usize, 64, 64>::new(memory),
                 POOL,
                 slots,
+                sizes,
                 steps,
                 mode,
             )

@@ -1,7 +1,7 @@
 //! The run: payloads are allocated into slots, and freed or reallocated.
 
 ghost use Rattle.std.specs.Prelude.{◌≡◌, ◌+◌, ◌<◌, ◌≤◌, ◌^◌, length, replicate, IfOk, IfErr};
-ghost use Rattle.std.specs.Int.NonZero.{non_zero_usize_get};
+ghost use Rattle.std.specs.Int.NonZero.{non_zero_u16_get, non_zero_usize_get};
 ghost use Rattle.rlsf_base.specs.Addr.{reply};
 ghost use Rattle.rlsf_base.specs.Range.{LiesIn};
 ghost use Rattle.rlsf_model.specs.State.{empty};
@@ -17,7 +17,7 @@ use rlsf_base::memory::{Addr, Layout, Memory, Range};
 use rlsf_int::BitPattern;
 use rlsf_tlsf::Tlsf;
 use std::alloc::Global;
-use std::num::NonZeroUsize;
+use std::num::{NonZeroU16, NonZeroUsize};
 
 /// The alignment of a slot's payloads: slot after slot has 1, 2, 4 and so on, `ALIGNS` of them, and then 1 again. Where it is one
 /// alignment, the compiler knows that it is 1.
@@ -28,12 +28,21 @@ fn alignment_of<const ALIGNS: usize>(slot: usize) -> usize
     1 << (slot % ALIGNS)
 }
 
-/// The layout that a drawn number asks for in a slot: up to 511 bytes, with the slot's alignment.
-fn layout_of<const ALIGNS: usize>(draw: u64, slot: usize) -> Layout
-    requires { (0 < ALIGNS) × (ALIGNS < 64) }
-    ensures { (result.size ≡ size_of draw) × (result.align ≡ alignment_of ALIGNS slot) }
+/// The layout of so many bytes in a slot, with its alignment.
+fn layout_of<const ALIGNS: usize>(size: usize, slot: usize) -> Layout
+    requires alignments { (0 < ALIGNS) × (ALIGNS < 64) }
+    requires size { size < 2 ^ 16 }
+    ensures { (result.size ≡ size) × (result.align ≡ alignment_of ALIGNS slot) }
 {
-    Layout::from_size_align_unchecked((draw % 512) as usize, alignment_of::<ALIGNS>(slot))
+    Layout::from_size_align_unchecked(size, alignment_of::<ALIGNS>(slot))
+}
+
+/// The size that a drawn number asks for, of so many. The compiler knows none of them, since they are an argument of the program.
+fn size_of(sizes: NonZeroU16, draw: u64) -> usize
+    ensures value { result ≡ size_of (non_zero_u16_get sizes) draw }
+    ensures bound { result < 2 ^ 16 }
+{
+    (draw % u64::from(sizes.get())) as usize
 }
 
 /// The slot that a drawn number names, of so many.
@@ -71,7 +80,7 @@ fn slot_with(placed: Option<Addr>) -> usize
     }
 }
 
-/// Frees the payload of the slot that a drawn number names, or reallocates it; a slot without a payload gets one.
+/// Frees the payload of the slot that a drawn number names, or gives it a size; a slot without a payload gets one of that size.
 fn step<
     FLBitmap: BitPattern,
     SLBitmap: BitPattern,
@@ -85,13 +94,15 @@ fn step<
     tally: &mut Tally,
     reallocates: bool,
     draw: u64,
+    size: usize,
 )
     requires alignments { (0 < ALIGNS) × (ALIGNS < 64) }
     requires some { 0 < length slots.old }
+    requires size { size < 2 ^ 16 }
     requires state { (s : BenchState) × AreSlotsAt FLLEN SLLEN ALIGNS tlsf.old slots.old tally.old s }
     requires refused { tally.old.refused + 1 < 2 ^ 64 }
     ensures does { (s : BenchState) → AreSlotsAt FLLEN SLLEN ALIGNS tlsf.old slots.old tally.old s
-        → LeadsSlotsOn FLLEN SLLEN ALIGNS (length slots.old) reallocates draw s tlsf.new slots.new tally.new }
+        → LeadsSlotsOn FLLEN SLLEN ALIGNS (length slots.old) reallocates draw size s tlsf.new slots.new tally.new }
     ensures refused { tally.new.refused ≤ tally.old.refused + 1 }
 {
     let slot = slot_of(slots.len(), draw);
@@ -100,7 +111,7 @@ fn step<
             let moved = reallocate::<FLBitmap, SLBitmap, FLLEN, SLLEN, CALLED>(
                 tlsf,
                 addr,
-                layout_of::<ALIGNS>(draw, slot),
+                layout_of::<ALIGNS>(size, slot),
             );
             slots[slot] = moved.unwrap_or(addr).get();
             tally.count(moved);
@@ -115,14 +126,14 @@ fn step<
     } else {
         let placed = allocate::<FLBitmap, SLBitmap, FLLEN, SLLEN, CALLED>(
             tlsf,
-            layout_of::<ALIGNS>(draw, slot),
+            layout_of::<ALIGNS>(size, slot),
         );
         slots[slot] = slot_with(placed);
         tally.count(placed);
     }
 }
 
-/// Does so many steps on so many slots, with an allocator without chunks. The pool, which lies in its memory, is inserted first.
+/// Does so many steps on so many slots with so many sizes, from 0 on, with an allocator without chunks. The pool, which lies in its memory, is inserted first.
 /// Returns the tally of the allocations and reallocations.
 pub(crate) fn run<
     FLBitmap: BitPattern,
@@ -136,13 +147,14 @@ pub(crate) fn run<
     mut tlsf: Tlsf<FLBitmap, SLBitmap, FLLEN, SLLEN>,
     pool: Range,
     slots: NonZeroUsize,
+    sizes: NonZeroU16,
     steps: u64,
     mode: Mode,
 ) -> Result<Tally, BenchError>
     requires alignments { (0 < ALIGNS) × (ALIGNS < 64) }
     requires new { tlsf.state ≡ empty }
     requires pool { LiesIn pool tlsf.memory.start (length tlsf.memory.bytes) }
-    ensures ok { IfOk result (λ tally. IsBench FLLEN SLLEN ALIGNS pool (non_zero_usize_get slots) steps mode tally) }
+    ensures ok { IfOk result (λ tally. IsBench FLLEN SLLEN ALIGNS pool (non_zero_usize_get slots) (non_zero_u16_get sizes) steps mode tally) }
     ensures err { IfErr result (λ error. error ≡ BenchError.OutOfMemory) }
 {
     let _ = tlsf.insert_free_block_ptr(pool);
@@ -150,12 +162,14 @@ pub(crate) fn run<
     let mut draws = Xorshift::new();
     let mut tally = Tally::new();
     for number in 0..steps {
+        let draw = draws.next();
         step::<FLBitmap, SLBitmap, FLLEN, SLLEN, CALLED, ALIGNS>(
             &mut tlsf,
             &mut live,
             &mut tally,
             mode.reallocates_at(number),
-            draws.next(),
+            draw,
+            size_of(sizes, draw),
         );
     }
     Ok(tally)

@@ -5,4 +5,4 @@ use Rattle.rlsf_bench_common.proofs.steps.layout_of.Goals as goal
 
 pub from_size_align_unchecked-requires : goal.from_size_align_unchecked-requires
 from_size_align_unchecked-requires g c =
-    subst (IsLayout _) (sym c.alignment_of.ensures) (IsLayout-slot g.row.ALIGNS c.args.slot _ c.requires.0 c.requires.1 (omega arith))
+    subst (IsLayout _) (sym c.alignment_of.ensures) (IsLayout-slot g.row.ALIGNS c.args.slot _ c.requires.alignments.0 c.requires.alignments.1 (omega (arith, c.requires.size)))

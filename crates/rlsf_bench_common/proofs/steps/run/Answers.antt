@@ -1,5 +1,5 @@
 use Rattle.std.proofs.Common.{◌≡◌, ◌+◌, length, drop, replicate, arith, sym, ◌∙◌, ap, subst}
-use Rattle.std.specs.Int.NonZero.{non_zero_usize_get}
+use Rattle.std.specs.Int.NonZero.{non_zero_u16_get, non_zero_usize_get}
 use Rattle.rlsf_base.specs.Addr.{reply}
 use Rattle.rlsf_base.specs.Space.{range_of}
 use Rattle.rlsf_model.specs.Insert.{Inserts, IsFresh}
@@ -29,21 +29,27 @@ loop-number-init g c =
 pub loop-number-preserved : goal.loop-number-preserved
 loop-number-preserved g c =
     let items = c.deref_mut.ensures.value in
+    let sizes = non_zero_u16_get c.args.sizes in
     let does =
     subst (λ t. (s : BenchState) → AreSlotsAt g.row.FLLEN g.row.SLLEN g.row.ALIGNS c.loop-number.tlsf t c.loop-number.tally s
-    → LeadsSlotsOn g.row.FLLEN g.row.SLLEN g.row.ALIGNS (length t) c.reallocates_at.result c.next.result s c.step.new.tlsf c.step.new.slots c.step.new.tally) items
+    → LeadsSlotsOn g.row.FLLEN g.row.SLLEN g.row.ALIGNS (length t) c.reallocates_at.result c.next-draw.result c.size_of.result s c.step.new.tlsf c.step.new.slots
+    c.step.new.tally) items
     c.step.ensures.does in
+    let sized =
+    subst (λ n. (s : BenchState) → AreSlotsAt g.row.FLLEN g.row.SLLEN g.row.ALIGNS c.loop-number.tlsf c.loop-number.live.items c.loop-number.tally s
+    → LeadsSlotsOn g.row.FLLEN g.row.SLLEN g.row.ALIGNS (length c.loop-number.live.items) c.reallocates_at.result c.next-draw.result n s c.step.new.tlsf c.step.new.slots
+    c.step.new.tally) c.size_of.ensures.value does in
     let long : length c.step.new.slots ≡ length c.loop-number.live.items = omega (arith, c.step.auto.slots, ap length items) in
     let whole : length c.step.new.slots ≡ c.loop-number.live.len = omega (arith, c.step.auto.slots, c.deref_mut.ensures.len) in
     let next =
-    IsUnderway-next c.loop-number.invariant c.reallocates_at.result c.reallocates_at.ensures c.next.result c.next.new.self.state c.next.ensures.state c.next.ensures.number
-    c.step.new.tlsf c.step.new.slots c.step.new.tally does long c.step.ensures.refused in
-    subst (λ t. IsUnderway g.row.FLLEN g.row.SLLEN g.row.ALIGNS c.args.pool (non_zero_usize_get c.args.slots) c.args.mode c.step.new.tlsf t c.step.new.tally c.next.new.self.state
+    IsUnderway-next c.loop-number.invariant c.reallocates_at.result c.reallocates_at.ensures c.next-draw.result c.next-draw.new.self.state c.next-draw.ensures.state c.next-draw.ensures.number
+    c.step.new.tlsf c.step.new.slots c.step.new.tally sized long c.step.ensures.refused in
+    subst (λ t. IsUnderway g.row.FLLEN g.row.SLLEN g.row.ALIGNS c.args.pool (non_zero_usize_get c.args.slots) sizes c.args.mode c.step.new.tlsf t c.step.new.tally c.next-draw.new.self.state
     (c.loop-number.number + 1))
     (sym (take_all c.step.new.slots (drop (length c.step.new.slots) c.loop-number.live.items) c.loop-number.live.len whole)) next
 
 pub returns-clause-ok : goal.returns-clause-ok
 returns-clause-ok g c =
     let all : c.loop-number.number ≡ c.args.steps = omega (arith, c.loop-number-test.false, c.loop-number.auto.number-end) in
-    subst (λ n. IsBench g.row.FLLEN g.row.SLLEN g.row.ALIGNS c.args.pool (non_zero_usize_get c.args.slots) n c.args.mode c.loop-number.tally) all
+    subst (λ n. IsBench g.row.FLLEN g.row.SLLEN g.row.ALIGNS c.args.pool (non_zero_usize_get c.args.slots) (non_zero_u16_get c.args.sizes) n c.args.mode c.loop-number.tally) all
     (IsBench-end c.loop-number.invariant)

@@ -42,11 +42,10 @@ returns-then-reallocates-clause-does g c = λ s at.
     ap held (get_or_default c.args.slots.now slot 0 _ c.slot_of-slot.ensures.bound) ∙ held-address _ c.new.result c.new.ensures
     ∙ ap (option_map non_zero_usize_get) c.in-Some.is in
     let moved = reply c.reallocate-moved.result in
-    let size = c.layout_of.result.size in
-    let (t, step, stands, _) = stepped at.stands c.reallocate-moved.new.tlsf (λ o n. Reallocates g.row.SLLEN o addr size moved n) c.reallocate-moved.ensures in
+    let (t, step, stands, _) = stepped at.stands c.reallocate-moved.new.tlsf (λ o n. Reallocates g.row.SLLEN o addr c.layout_of.result.size moved n) c.reallocate-moved.ensures in
     let kept = held-moved c.get.result c.unwrap_or.result c.reallocate-moved.result c.in-Some.addr c.get.ensures.value c.unwrap_or.ensures in
     LeadsSlotsOn-reallocated at slot c.slot_of-slot.ensures.bound t stands c.args.reallocates c.if-reallocates.true c.args.draw c.slot_of-slot.ensures.value addr there
-    moved c.get.result size kept c.layout_of.ensures.0 step c.count.new.self c.count.ensures.counts
+    moved c.get.result c.args.size kept (subst (λ n. Reallocates g.row.SLLEN s.machine addr n moved t) c.layout_of.ensures.0 step) c.count.new.self c.count.ensures.counts
 
 pub returns-else-reallocates-clause-does : goal.returns-else-reallocates-clause-does
 returns-else-reallocates-clause-does g c = λ s at.
@@ -56,7 +55,7 @@ returns-else-reallocates-clause-does g c = λ s at.
     ap held (get_or_default c.args.slots.now slot 0 _ c.slot_of-slot.ensures.bound) ∙ held-address _ c.new.result c.new.ensures
     ∙ ap (option_map non_zero_usize_get) c.in-Some.is in
     let (t, step, stands, _) = stepped at.stands c.deallocate.new.tlsf (λ o n. Deallocates o addr n) c.deallocate.ensures in
-    LeadsSlotsOn-freed at slot c.slot_of-slot.ensures.bound t stands c.args.reallocates c.if-reallocates.false c.args.draw c.slot_of-slot.ensures.value addr there step
+    LeadsSlotsOn-freed at slot c.slot_of-slot.ensures.bound t stands c.args.reallocates c.if-reallocates.false c.args.draw c.args.size c.slot_of-slot.ensures.value addr there step
 
 pub returns-in_default-clause-does : goal.returns-in_default-clause-does
 returns-in_default-clause-does g c = λ s at.
@@ -67,5 +66,5 @@ returns-in_default-clause-does g c = λ s at.
     ap held (get_or_default c.args.slots.now c.slot_of-slot.result 0 _ c.slot_of-slot.ensures.bound) ∙ held-address _ c.new.result c.new.ensures
     ∙ ap (option_map non_zero_usize_get) c.in_default.is in
     LeadsSlotsOn-answered at c.slot_of-slot.result c.slot_of-slot.ensures.bound t stands c.args.reallocates c.args.draw c.slot_of-slot.ensures.value empty placed c.slot_with.result
-    layout.size layout.align
-    c.slot_with.ensures c.layout_of-in_default.ensures.0 c.layout_of-in_default.ensures.1 step c.count-in_default.new.self c.count-in_default.ensures.counts
+    c.args.size layout.align c.slot_with.ensures c.layout_of-in_default.ensures.1
+    (subst (λ n. Allocates g.row.SLLEN s.machine n layout.align placed t) c.layout_of-in_default.ensures.0 step) c.count-in_default.new.self c.count-in_default.ensures.counts
