@@ -18,7 +18,7 @@ use Rattle.rlsf_model.proofs.Live.{handed_out_is_new, live_stays, reallocated_is
 use Rattle.rlsf_tlsf.specs.Allocator.{Allocator, IsInState}
 use Rattle.rlsf_bench_common.specs.declared.tally.Tally.{Tally}
 use Rattle.rlsf_bench_common.specs.Runs.{ChangesSlot, DoesStep, BenchState, alignment_of, beginning, counted, nothing, slot_of, with_slot}
-use Rattle.rlsf_bench_common.specs.Slots.{AreSlotsAt, LeadsSlotsOn, held}
+use Rattle.rlsf_bench_common.specs.Slots.{AreSlotsAt, LeadsSlots, held}
 
 -- an address in changed slots is in the one that was changed, or was in another before
 with_slot-cases : (slot : ℕ) (held : Option ℕ) (slots : ℕ → Option ℕ) (other addr : ℕ) → with_slot slot held slots other ≡ Some addr
@@ -152,10 +152,10 @@ module _ {fllen sllen aligns : ℕ} {v : Allocator} {table : List ℕ} {counts :
         (subst (λ p. ChangesSlot sllen (alignment_of aligns slot) reallocates slot size s p after) (sym holds ∙ at.slots slot) step)
 
     -- a step that frees the slot's payload
-    pub LeadsSlotsOn-freed : (reallocates : Bool) → reallocates ≡ false → (draw size : ℕ) → slot ≡ slot_of (length table) draw → (addr : ℕ)
+    pub LeadsSlots-freed : (reallocates : Bool) → reallocates ≡ false → (draw size : ℕ) → slot ≡ slot_of (length table) draw → (addr : ℕ)
         → held (slice_index_or table slot 0) ≡ Some addr → Deallocates s.machine addr t
-        → LeadsSlotsOn fllen sllen aligns (length table) reallocates draw size s w (slice_set table slot 0) counts
-    LeadsSlotsOn-freed reallocates frees draw size named addr there step = (
+        → LeadsSlots fllen sllen aligns (length table) reallocates draw size s w (slice_set table slot 0) counts
+    LeadsSlots-freed reallocates frees draw size named addr there step = (
       after,
       does_on reallocates draw size named (Some addr) there after
           (subst (λ r. ChangesSlot sllen (alignment_of aligns slot) r slot size s (Some addr) after) (sym frees) (t, step, refl)),
@@ -166,12 +166,12 @@ module _ {fllen sllen aligns : ℕ} {v : Allocator} {table : List ℕ} {counts :
         after = record { machine = t; slots = with_slot slot None s.slots; tally = s.tally }
 
     -- a step that reallocates it
-    pub LeadsSlotsOn-reallocated : (reallocates : Bool) → reallocates ≡ true → (draw : ℕ) → slot ≡ slot_of (length table) draw → (addr : ℕ)
+    pub LeadsSlots-reallocated : (reallocates : Bool) → reallocates ≡ true → (draw : ℕ) → slot ≡ slot_of (length table) draw → (addr : ℕ)
         → held (slice_index_or table slot 0) ≡ Some addr → (reply : Option ℕ) (number size : ℕ)
         → held number ≡ Some (unwrap_or reply addr) → Reallocates sllen s.machine addr size reply t → (now : Tally)
         → now ≡ counted reply counts
-        → LeadsSlotsOn fllen sllen aligns (length table) reallocates draw size s w (slice_set table slot number) now
-    LeadsSlotsOn-reallocated reallocates does draw named addr there reply number size kept step now counts_are = (
+        → LeadsSlots fllen sllen aligns (length table) reallocates draw size s w (slice_set table slot number) now
+    LeadsSlots-reallocated reallocates does draw named addr there reply number size kept step now counts_are = (
       after,
       does_on reallocates draw size named (Some addr) there after
           (subst (λ r. ChangesSlot sllen (alignment_of aligns slot) r slot size s (Some addr) after) (sym does) (reply, t, step, refl)),
@@ -182,11 +182,11 @@ module _ {fllen sllen aligns : ℕ} {v : Allocator} {table : List ℕ} {counts :
         after = record { machine = t; slots = with_slot slot (Some (unwrap_or reply addr)) s.slots; tally = counted reply s.tally }
 
     -- a step that allocates into it
-    pub LeadsSlotsOn-answered : (reallocates : Bool) (draw : ℕ) → slot ≡ slot_of (length table) draw → held (slice_index_or table slot 0) ≡ None
+    pub LeadsSlots-answered : (reallocates : Bool) (draw : ℕ) → slot ≡ slot_of (length table) draw → held (slice_index_or table slot 0) ≡ None
         → (reply : Option ℕ) (number size align : ℕ) → held number ≡ reply → align ≡ alignment_of aligns slot
         → Allocates sllen s.machine size align reply t → (now : Tally) → now ≡ counted reply counts
-        → LeadsSlotsOn fllen sllen aligns (length table) reallocates draw size s w (slice_set table slot number) now
-    LeadsSlotsOn-answered reallocates draw named empty reply number size align kept align_is step now counts_are = (
+        → LeadsSlots fllen sllen aligns (length table) reallocates draw size s w (slice_set table slot number) now
+    LeadsSlots-answered reallocates draw named empty reply number size align kept align_is step now counts_are = (
       after,
       does_on reallocates draw size named None empty after (reply, t, asked, refl),
       AreSlotsAt-answered reply number size kept asked now counts_are,

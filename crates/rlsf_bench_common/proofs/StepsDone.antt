@@ -11,7 +11,7 @@ use Rattle.rlsf_bench_common.specs.declared.arguments.Mode.{Mode}
 use Rattle.rlsf_bench_common.specs.declared.tally.Tally.{Tally}
 use Rattle.rlsf_bench_common.specs.Draws.{drawn, next_state, seed, state_after}
 use Rattle.rlsf_bench_common.specs.Runs.{DoesStep, IsBench, BenchState, RunsSteps, beginning, nothing, reallocates_at, size_of}
-use Rattle.rlsf_bench_common.specs.Slots.{AreSlotsAt, LeadsSlotsOn}
+use Rattle.rlsf_bench_common.specs.Slots.{AreSlotsAt, LeadsSlots}
 use Rattle.rlsf_bench_common.proofs.SlotChanges.{AreSlotsAt-beginning}
 
 -- as many elements as a list has, of it and another, are those that it has
@@ -61,7 +61,7 @@ module _ {fllen sllen aligns : ℕ} {pool : Range} {size sizes : ℕ} {mode : Mo
   pub IsUnderway-next : {done : ℕ} (w : IsUnderway fllen sllen aligns pool size sizes mode v table counts draws done) (reallocates : Bool) → reallocates ≡ reallocates_at mode done
       → (draw now : ℕ) → now ≡ next_state draws → draw ≡ now * 0x2545f4914f6cdd1d % 2 ^ 64
       → (u : Allocator) (new : List ℕ) (more : Tally)
-      → ((s : BenchState) → AreSlotsAt fllen sllen aligns v table counts s → LeadsSlotsOn fllen sllen aligns (length table) reallocates draw (size_of sizes draw) s u new more)
+      → ((s : BenchState) → AreSlotsAt fllen sllen aligns v table counts s → LeadsSlots fllen sllen aligns (length table) reallocates draw (size_of sizes draw) s u new more)
       → length new ≡ length table → more.refused ≤ counts.refused + 1 → IsUnderway fllen sllen aligns pool size sizes mode u new more now (done + 1)
   IsUnderway-next {done} w reallocates turn draw now after number u new more does long refused =
       let (t, step, at) = does w.state w.at in

@@ -21,6 +21,6 @@ pub record AreSlotsAt (fllen sllen aligns : ℕ) (v : Allocator) (table : List �
 
 -- a step by a number and a size leads from this state of the run to that of the allocator and the slots; the number determines whether it may
 -- reallocate
-abbrev pub LeadsSlotsOn : ℕ → ℕ → ℕ → ℕ → Bool → ℕ → ℕ → BenchState → Allocator → List ℕ → Tally → Type 0
-LeadsSlotsOn fllen sllen aligns slots reallocates draw size s w table counts =
+abbrev pub LeadsSlots : ℕ → ℕ → ℕ → ℕ → Bool → ℕ → ℕ → BenchState → Allocator → List ℕ → Tally → Type 0
+LeadsSlots fllen sllen aligns slots reallocates draw size s w table counts =
     (t : BenchState) × DoesStep sllen aligns slots reallocates draw size s t × AreSlotsAt fllen sllen aligns w table counts t

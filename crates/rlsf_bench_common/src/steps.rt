@@ -6,7 +6,7 @@ ghost use Rattle.rlsf_base.specs.Addr.{reply};
 ghost use Rattle.rlsf_base.specs.Range.{LiesIn};
 ghost use Rattle.rlsf_model.specs.State.{empty};
 ghost use Rattle.rlsf_bench_common.specs.Runs.{alignment_of, slot_of, size_of, BenchState, IsBench};
-ghost use Rattle.rlsf_bench_common.specs.Slots.{AreSlotsAt, LeadsSlotsOn, held};
+ghost use Rattle.rlsf_bench_common.specs.Slots.{AreSlotsAt, LeadsSlots, held};
 
 use crate::arguments::Mode;
 use crate::calls::{allocate, deallocate, reallocate};
@@ -102,7 +102,7 @@ fn step<
     requires state { (s : BenchState) × AreSlotsAt FLLEN SLLEN ALIGNS tlsf.old slots.old tally.old s }
     requires refused { tally.old.refused + 1 < 2 ^ 64 }
     ensures does { (s : BenchState) → AreSlotsAt FLLEN SLLEN ALIGNS tlsf.old slots.old tally.old s
-        → LeadsSlotsOn FLLEN SLLEN ALIGNS (length slots.old) reallocates draw size s tlsf.new slots.new tally.new }
+        → LeadsSlots FLLEN SLLEN ALIGNS (length slots.old) reallocates draw size s tlsf.new slots.new tally.new }
     ensures refused { tally.new.refused ≤ tally.old.refused + 1 }
 {
     let slot = slot_of(slots.len(), draw);

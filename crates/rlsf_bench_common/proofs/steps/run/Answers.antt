@@ -8,7 +8,7 @@ use Rattle.rlsf_tlsf.proofs.Arrivals.{opened}
 use Rattle.rlsf_tlsf.proofs.Standing.{in_state}
 use Rattle.rlsf_bench_common.proofs.FirstPool.{pool_is_fresh}
 use Rattle.rlsf_bench_common.specs.Runs.{IsBench, BenchState}
-use Rattle.rlsf_bench_common.specs.Slots.{AreSlotsAt, LeadsSlotsOn}
+use Rattle.rlsf_bench_common.specs.Slots.{AreSlotsAt, LeadsSlots}
 use Rattle.rlsf_bench_common.proofs.StepsDone.{IsUnderway, IsUnderway-beginning, IsUnderway-next, IsBench-end, take_all}
 use Rattle.rlsf_bench_common.proofs.steps.run.Goals as goal
 
@@ -32,20 +32,20 @@ loop-number-preserved g c =
     let sizes = non_zero_u16_get c.args.sizes in
     let does =
     subst (λ t. (s : BenchState) → AreSlotsAt g.row.FLLEN g.row.SLLEN g.row.ALIGNS c.loop-number.tlsf t c.loop-number.tally s
-    → LeadsSlotsOn g.row.FLLEN g.row.SLLEN g.row.ALIGNS (length t) c.reallocates_at.result c.next-draw.result c.size_of.result s c.step.new.tlsf c.step.new.slots
+    → LeadsSlots g.row.FLLEN g.row.SLLEN g.row.ALIGNS (length t) c.reallocates_at.result c.next-draw.result c.size_of.result s c.step.new.tlsf c.step.new.slots
     c.step.new.tally) items
     c.step.ensures.does in
     let sized =
     subst (λ n. (s : BenchState) → AreSlotsAt g.row.FLLEN g.row.SLLEN g.row.ALIGNS c.loop-number.tlsf c.loop-number.live.items c.loop-number.tally s
-    → LeadsSlotsOn g.row.FLLEN g.row.SLLEN g.row.ALIGNS (length c.loop-number.live.items) c.reallocates_at.result c.next-draw.result n s c.step.new.tlsf c.step.new.slots
+    → LeadsSlots g.row.FLLEN g.row.SLLEN g.row.ALIGNS (length c.loop-number.live.items) c.reallocates_at.result c.next-draw.result n s c.step.new.tlsf c.step.new.slots
     c.step.new.tally) c.size_of.ensures.value does in
     let long : length c.step.new.slots ≡ length c.loop-number.live.items = omega (arith, c.step.auto.slots, ap length items) in
     let whole : length c.step.new.slots ≡ c.loop-number.live.len = omega (arith, c.step.auto.slots, c.deref_mut.ensures.len) in
     let next =
-    IsUnderway-next c.loop-number.invariant c.reallocates_at.result c.reallocates_at.ensures c.next-draw.result c.next-draw.new.self.state c.next-draw.ensures.state c.next-draw.ensures.number
-    c.step.new.tlsf c.step.new.slots c.step.new.tally sized long c.step.ensures.refused in
-    subst (λ t. IsUnderway g.row.FLLEN g.row.SLLEN g.row.ALIGNS c.args.pool (non_zero_usize_get c.args.slots) sizes c.args.mode c.step.new.tlsf t c.step.new.tally c.next-draw.new.self.state
-    (c.loop-number.number + 1))
+    IsUnderway-next c.loop-number.invariant c.reallocates_at.result c.reallocates_at.ensures c.next-draw.result c.next-draw.new.self.state c.next-draw.ensures.state
+    c.next-draw.ensures.number c.step.new.tlsf c.step.new.slots c.step.new.tally sized long c.step.ensures.refused in
+    subst (λ t. IsUnderway g.row.FLLEN g.row.SLLEN g.row.ALIGNS c.args.pool (non_zero_usize_get c.args.slots) sizes c.args.mode c.step.new.tlsf t c.step.new.tally
+    c.next-draw.new.self.state (c.loop-number.number + 1))
     (sym (take_all c.step.new.slots (drop (length c.step.new.slots) c.loop-number.live.items) c.loop-number.live.len whole)) next
 
 pub returns-clause-ok : goal.returns-clause-ok

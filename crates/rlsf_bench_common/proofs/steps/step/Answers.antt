@@ -9,7 +9,7 @@ use Rattle.rlsf_model.specs.Release.{Deallocates}
 use Rattle.rlsf_model.specs.State.{IsLive}
 use Rattle.rlsf_tlsf.proofs.Standing.{live_in, stepped}
 use Rattle.rlsf_bench_common.specs.Slots.{held}
-use Rattle.rlsf_bench_common.proofs.SlotChanges.{LeadsSlotsOn-freed, LeadsSlotsOn-reallocated, LeadsSlotsOn-answered, held-address, held-moved}
+use Rattle.rlsf_bench_common.proofs.SlotChanges.{LeadsSlots-freed, LeadsSlots-reallocated, LeadsSlots-answered, held-address, held-moved}
 use Rattle.rlsf_bench_common.proofs.steps.step.Goals as goal
 
 pub reallocate-moved-requires : goal.reallocate-moved-requires
@@ -44,7 +44,7 @@ returns-then-reallocates-clause-does g c = λ s at.
     let moved = reply c.reallocate-moved.result in
     let (t, step, stands, _) = stepped at.stands c.reallocate-moved.new.tlsf (λ o n. Reallocates g.row.SLLEN o addr c.layout_of.result.size moved n) c.reallocate-moved.ensures in
     let kept = held-moved c.get.result c.unwrap_or.result c.reallocate-moved.result c.in-Some.addr c.get.ensures.value c.unwrap_or.ensures in
-    LeadsSlotsOn-reallocated at slot c.slot_of-slot.ensures.bound t stands c.args.reallocates c.if-reallocates.true c.args.draw c.slot_of-slot.ensures.value addr there
+    LeadsSlots-reallocated at slot c.slot_of-slot.ensures.bound t stands c.args.reallocates c.if-reallocates.true c.args.draw c.slot_of-slot.ensures.value addr there
     moved c.get.result c.args.size kept (subst (λ n. Reallocates g.row.SLLEN s.machine addr n moved t) c.layout_of.ensures.0 step) c.count.new.self c.count.ensures.counts
 
 pub returns-else-reallocates-clause-does : goal.returns-else-reallocates-clause-does
@@ -55,7 +55,7 @@ returns-else-reallocates-clause-does g c = λ s at.
     ap held (get_or_default c.args.slots.now slot 0 _ c.slot_of-slot.ensures.bound) ∙ held-address _ c.new.result c.new.ensures
     ∙ ap (option_map non_zero_usize_get) c.in-Some.is in
     let (t, step, stands, _) = stepped at.stands c.deallocate.new.tlsf (λ o n. Deallocates o addr n) c.deallocate.ensures in
-    LeadsSlotsOn-freed at slot c.slot_of-slot.ensures.bound t stands c.args.reallocates c.if-reallocates.false c.args.draw c.args.size c.slot_of-slot.ensures.value addr there step
+    LeadsSlots-freed at slot c.slot_of-slot.ensures.bound t stands c.args.reallocates c.if-reallocates.false c.args.draw c.args.size c.slot_of-slot.ensures.value addr there step
 
 pub returns-in_default-clause-does : goal.returns-in_default-clause-does
 returns-in_default-clause-does g c = λ s at.
@@ -65,6 +65,6 @@ returns-in_default-clause-does g c = λ s at.
     let empty =
     ap held (get_or_default c.args.slots.now c.slot_of-slot.result 0 _ c.slot_of-slot.ensures.bound) ∙ held-address _ c.new.result c.new.ensures
     ∙ ap (option_map non_zero_usize_get) c.in_default.is in
-    LeadsSlotsOn-answered at c.slot_of-slot.result c.slot_of-slot.ensures.bound t stands c.args.reallocates c.args.draw c.slot_of-slot.ensures.value empty placed c.slot_with.result
+    LeadsSlots-answered at c.slot_of-slot.result c.slot_of-slot.ensures.bound t stands c.args.reallocates c.args.draw c.slot_of-slot.ensures.value empty placed c.slot_with.result
     c.args.size layout.align c.slot_with.ensures c.layout_of-in_default.ensures.1
     (subst (λ n. Allocates g.row.SLLEN s.machine n layout.align placed t) c.layout_of-in_default.ensures.0 step) c.count-in_default.new.self c.count-in_default.ensures.counts
