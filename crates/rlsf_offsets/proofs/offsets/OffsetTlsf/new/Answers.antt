@@ -1,16 +1,20 @@
-use Rattle.std.proofs.Common.{ap, true≢false}
-use Rattle.std.specs.Prelude.{is_ok}
-use Rattle.rlsf_base.proofs.Numbers.PowersOfTwo.{IsPowerOfTwo-positive}
-use Rattle.rlsf_offsets.proofs.Bytes.{len_at-empty}
+use Rattle.std.proofs.Common.{◌≡◌, ◌↔◌, ◌/◌, ◌^◌, ◌<◌, ℕ, arith, subst}
+use Rattle.std.specs.Prelude.{IfOk, IsErrOf, max}
+use Rattle.rlsf_base.specs.declared.memory.MemoryError.TheVariants.{TooLong}
+use Rattle.rlsf_offsets.specs.Units.{Offsets, limit_of}
 use Rattle.rlsf_offsets.proofs.offsets.OffsetTlsf.new.Goals as goal
 
 pub returns : goal.returns
 returns g c =
-    let e = c.in_ok-inner.ensures in record {
-      too_long = (λ long. absurd (true≢false (ap is_ok long)), λ far. absurd (true≢false (ap is_ok (e.too_long.1 far))));
-      refused = tt;
-      units = e.units;
-      empty = len_at-empty g.row.UNIT (IsPowerOfTwo-positive g.row.UNIT c.requires) c.in_ok-inner.inner e.empty;
+    let e = c.with_limit.ensures in
+    let r = c.with_limit.result in
+    let units = c.args.len / g.row.UNIT in
+    let same : max units units ≡ units = omega arith in
+    record {
+      too_long = subst (λ (n : ℕ). IsErrOf r TooLong ↔ (2 ^ 56 < n)) same e.too_long;
+      refused = e.refused;
+      units = subst (λ (n : ℕ). IfOk r (λ (space : Offsets). (space.units ≡ units) × (limit_of space ≡ n))) same e.units;
+      empty = e.empty;
       free = e.free;
       sized = e.sized;
     }
