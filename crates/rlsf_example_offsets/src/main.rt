@@ -61,7 +61,7 @@ fn letter_at(resources: &[Resource; 3], at: usize) -> char {
     '.'
 }
 
-/// Prints each piece of the memory, and the totals.
+/// Prints each piece of the memory.
 fn print_pieces(rt: &HostRuntime, memory: &OffsetTlsf<256>) -> io::Result<()> {
     for piece in memory.pieces() {
         let Piece {
@@ -72,6 +72,11 @@ fn print_pieces(rt: &HostRuntime, memory: &OffsetTlsf<256>) -> io::Result<()> {
         let state = if is_free { "free" } else { "used" };
         println!(rt; "{offset}: {len} bytes {state}")?;
     }
+    Ok(())
+}
+
+/// Prints the totals of the memory.
+fn print_stats(rt: &HostRuntime, memory: &OffsetTlsf<256>) -> io::Result<()> {
     let Stats {
         ranges,
         used,
@@ -81,13 +86,8 @@ fn print_pieces(rt: &HostRuntime, memory: &OffsetTlsf<256>) -> io::Result<()> {
     println!(rt; "{ranges} ranges: {used} bytes used, {free} free, {longest} side by side")
 }
 
-fn main(rt: HostRuntime) -> io::Result<()> {
-    let Ok(mut memory) = OffsetTlsf::<256>::new(rt.alloc(), 256 * MIB) else {
-        return println!(rt; "out of memory");
-    };
-    let Some(resources) = resources(&mut memory) else {
-        return println!(rt; "no room");
-    };
+/// Prints where each resource lies.
+fn print_resources(rt: &HostRuntime, resources: &[Resource; 3]) -> io::Result<()> {
     for resource in resources.iter() {
         let Resource {
             letter,
@@ -96,13 +96,39 @@ fn main(rt: HostRuntime) -> io::Result<()> {
         } = *resource;
         println!(rt; "{letter}: {len} bytes at {offset}")?;
     }
-    print_pieces(&rt, &memory)?;
-    // A letter shows what lies at the first byte of each 4 MiB.
+    Ok(())
+}
+
+/// Prints a map: a letter shows what lies at the first byte of each 4 MiB.
+fn print_map(rt: &HostRuntime, resources: &[Resource; 3]) -> io::Result<()> {
     for cell in 0..64usize {
-        let letter = letter_at(&resources, cell * 4 * MIB);
+        let letter = letter_at(resources, cell * 4 * MIB);
         print!(rt; "{letter}")?;
     }
-    println!(rt; "")?;
+    println!(rt; "")
+}
+
+/// Allocates the resources, and prints what the memory has.
+fn print_memory(rt: &HostRuntime, memory: &mut OffsetTlsf<256>) -> io::Result<()> {
+    let Some(resources) = resources(memory) else {
+        return println!(rt; "no room");
+    };
+    print_resources(rt, &resources)?;
+    print_pieces(rt, memory)?;
+    print_stats(rt, memory)?;
+    print_map(rt, &resources)
+}
+
+/// Divides the memory of a GPU.
+fn divide_memory(rt: &HostRuntime) -> io::Result<()> {
+    let Ok(mut memory) = OffsetTlsf::<256>::new(rt.alloc(), 256 * MIB) else {
+        return println!(rt; "out of memory");
+    };
+    print_memory(rt, &mut memory)
+}
+
+fn main(rt: HostRuntime) -> io::Result<()> {
+    divide_memory(&rt)?;
     pages::print_pages(&rt)?;
     script::run_input(&rt)
 }

@@ -31,8 +31,12 @@ pub(crate) fn print_pages(rt: &HostRuntime) -> io::Result<()> {
     let Ok(mut file) = OffsetTlsf::<4096>::with_limit(rt.alloc(), PAGE, 256 * PAGE) else {
         return println!(rt; "out of memory");
     };
+    print_records(rt, &mut file)
+}
+
+fn print_records(rt: &HostRuntime, file: &mut OffsetTlsf<4096>) -> io::Result<()> {
     for len in [3000, 5000, 100000, 8192, 900000, 40000] {
-        print_record(rt, &mut file, len)?;
+        print_record(rt, file, len)?;
     }
     let pages = file.space_len() / PAGE;
     println!(rt; "the file has {pages} pages")

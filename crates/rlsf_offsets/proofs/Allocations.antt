@@ -4,6 +4,7 @@ use Rattle.std.proofs.lemmas.Bool.{cases_lt}
 use Rattle.std.proofs.lemmas.Nat.{pow-add}
 use Rattle.std.proofs.Math.Nat.{div-add-mod', mul-mod_right, mul-sub}
 use Rattle.std.proofs.lemmas.Option.{none-some}
+use Rattle.std.specs.Prelude.{IfNone, IfSome}
 use Rattle.rlsf_base.specs.declared.memory.range.Range.{Range}
 use Rattle.rlsf_base.specs.PowerOfTwo.{IsPowerOfTwo, floor_log2}
 use Rattle.rlsf_base.specs.Layout.{IsLayout}
@@ -191,3 +192,11 @@ module _ (v x : Offsets) (n align size wide : ℕ) (es : size ≡ 32 * (n - 1)) 
 pub sized-same : (v x : Offsets) (n align : ℕ) → x.shadow.state ≡ v.shadow.state → KeepsSizedFor v x n align
 unfolding KeepsSizedFor
 sized-same v x n align same = λ count most widest sized short fits. subst (IsSizedFor 8 count (32 * (most - 1)) (32 * widest)) (sym same) sized
+
+-- ---- what is said of a call that returned `None`
+
+pub if_some : {A : Type 0} {r : Option A} (Is : A → Type 0) → r ≡ None → IfSome r Is
+if_some Is none = subst (λ o. IfSome o Is) (sym none) tt
+
+pub if_none : {A : Type 0} {r : Option A} (Is : Type 0) → r ≡ None → Is → IfNone r Is
+if_none Is none is = subst (λ o. IfNone o Is) (sym none) is

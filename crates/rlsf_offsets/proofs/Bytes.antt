@@ -5,7 +5,6 @@ use Rattle.std.proofs.lemmas.Nat.{pow-add}
 use Rattle.std.proofs.lemmas.Option.{none-some}
 use Rattle.std.proofs.Math.Nat.{div-add-mod', div-eq_of_lt-le, mod-lt, mul_assoc, mul-div_left, mul-le-mul_right, mul-mod_right}
 use Rattle.std.specs.Option.{option_map}
-use Rattle.std.specs.Prelude.{IfNone}
 use Rattle.rlsf_base.specs.PowerOfTwo.{IsPowerOfTwo, floor_log2}
 use Rattle.rlsf_base.proofs.Numbers.PowersOfTwo.{IsPowerOfTwo-pow, IsPowerOfTwo-positive}
 use Rattle.rlsf_model.specs.Callers.{align_at, bytes_at}
@@ -299,9 +298,9 @@ IsRefused-unchanged unit v x is = record {
   unchanged = is;
 }
 
-pub unless : {P : Type 0} (o : Option ℕ) → P → IfNone o P
-unless None p = p
-unless (Some n) p = tt
+-- nor does one that is refused before it begins
+pub IsRefused-same : (unit : ℕ) (v : Offsets) → IsRefused unit v v
+IsRefused-same unit v = IsRefused-unchanged unit v v (record { space = refl; limit = refl; same = refl })
 
 -- ---- a longer space
 

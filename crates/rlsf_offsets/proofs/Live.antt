@@ -2,11 +2,13 @@
 use Rattle.std.proofs.Common.{◌≡◌, ◌≢◌, ℕ, zero, suc, ◌*◌, ◌/◌, ◌%◌, ◌<◌, ◌≤◌, Bool, true, false, List, [], ◌∷◌, length, Option, Some, None, IsSome, true≢false, arith, inl, inr, refl, sym, ◌∙◌, ap}
 use Rattle.std.proofs.lemmas.Bool.{cases_lt, ne_eqb}
 use Rattle.std.specs.Option.{option_map}
-use Rattle.std.specs.Prelude.{get_or, is_some, nat_eq}
+use Rattle.std.specs.Prelude.{Err, Ok, get_or, is_some, nat_eq}
 use Rattle.std.proofs.lemmas.Option.{none-some}
 use Rattle.rlsf_model.specs.Callers.{align_at, bytes_at}
 use Rattle.rlsf_model.specs.State.{State}
+use Rattle.rlsf_offsets.specs.declared.error.OffsetError.TheVariants.{UnknownOffset}
 use Rattle.rlsf_offsets.specs.declared.marks.Marks.{Marks}
+use Rattle.rlsf_offsets.specs.Checked.{if_live}
 use Rattle.rlsf_offsets.specs.Marks.{IsChecked, is_marked}
 use Rattle.rlsf_offsets.specs.Offsets.{IsAllocated, IsGrown, IsReallocated, IsRefused, at_multiple, len_at}
 use Rattle.rlsf_offsets.specs.Units.{Offsets, limit_of, place, units_at}
@@ -34,6 +36,19 @@ live-other unit v o other = ne_eqb (o % unit) 0 other ∙ go (o % unit) other
     go : (r : ℕ) → r ≢ 0 → false ≡ is_some (at_multiple r (option_map (λ (n : ℕ). n * unit) (units_at v (o / unit))))
     go zero none = absurd (none refl)
     go (suc r) none = refl
+
+pub none_at : (o : Option ℕ) → false ≡ is_some o → o ≡ None
+none_at None dead = refl
+none_at (Some n) dead = absurd (true≢false (sym dead))
+
+-- what the checked calls return, by whether one is
+pub unknown : {A : Type 0} (o : Option ℕ) (x : A) → false ≡ is_some o → Err UnknownOffset ≡ if_live o x
+unknown None x dead = refl
+unknown (Some n) x dead = absurd (true≢false (sym dead))
+
+pub known : {A : Type 0} (o : Option ℕ) (x : A) → true ≡ is_some o → Ok x ≡ if_live o x
+known None x live = absurd (true≢false live)
+known (Some n) x live = refl
 
 -- where no range begins, none of units does
 pub none_live : (unit : ℕ) → 0 < unit → (v : Offsets) (first : ℕ) → len_at unit v (first * unit) ≡ None → false ≡ is_some (units_at v first)

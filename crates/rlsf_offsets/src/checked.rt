@@ -1,6 +1,6 @@
 //! An allocator of offsets that refuses each call that its caller may not make, in place of conditions.
 
-ghost use Rattle.std.specs.Prelude.{◌≡◌, ◌≤◌, ◌<◌, ◌+◌, ◌*◌, ◌/◌, ◌^◌, ◌↔◌, ◌⊎◌, ℕ, None, max, is_some, true, IfErr, IfOk, IsErrOf, IsOk, OnErr};
+ghost use Rattle.std.specs.Prelude.{◌≡◌, ◌≤◌, ◌<◌, ◌+◌, ◌-◌, ◌*◌, ◌/◌, ◌^◌, ◌↔◌, ◌⊎◌, ℕ, None, max, is_some, true, IfErr, IfOk, IsErrOf, IsOk, OnErr};
 ghost use Rattle.std.specs.Map.Iter.{GivesInOrder};
 ghost use Rattle.rlsf_base.specs.PowerOfTwo.{IsPowerOfTwo};
 ghost use Rattle.rlsf_offsets.specs.Blocks.{AreStats};
@@ -8,7 +8,7 @@ ghost use Rattle.rlsf_offsets.specs.Checked.{IsAllocation, IsGrowth, IsReallocat
 ghost use Rattle.rlsf_offsets.specs.Iteration.{ArePieces};
 ghost use Rattle.rlsf_offsets.specs.Offsets as offsets;
 ghost use Rattle.rlsf_offsets.specs.Offsets.{IsAllocated, IsDeallocated, IsDivided, IsGrown, IsReallocated, IsRefused, SucceedsFor, len_at};
-ghost use Rattle.rlsf_offsets.specs.Units.{KeepsSized, KeepsSizedFor, KeepsSizedThere, SizesSpace, limit_of};
+ghost use Rattle.rlsf_offsets.specs.Units.{IsFreeRun, KeepsSized, KeepsSizedFor, KeepsSizedThere, SizesSpace, limit_of};
 ghost use Rattle.rlsf_offsets.specs.declared.error.OffsetError.TheVariants.{BadUnit, NoRoom, OutOfMemory, TooLong, TooShort};
 
 use crate::error::OffsetError;
@@ -54,6 +54,7 @@ impl<const UNIT: usize> CheckedOffsets<UNIT> {
         ensures refused { IfErr result (λ e. (e ≡ BadUnit) ⊎ (e ≡ TooLong) ⊎ (e ≡ OutOfMemory)) }
         ensures units { IfOk result (λ space. (space.units ≡ len / UNIT) × (limit_of space ≡ max (len / UNIT) (limit / UNIT))) }
         ensures empty { IfOk result (λ space. (o : ℕ) → len_at UNIT space o ≡ None) }
+        ensures free { IfOk result (λ space. IsFreeRun space 0 (len / UNIT)) }
         ensures sized { IfOk result (λ space. SizesSpace space) }
     {
         if !is_power(UNIT) {
@@ -99,6 +100,7 @@ impl<const UNIT: usize> CheckedOffsets<UNIT> {
     pub fn allocate(&mut self, len: usize, align: usize) -> Result<usize, OffsetError>
         ensures allocated { IfOk result (λ offset. IsAllocated UNIT self.old self.new len align offset) }
         ensures which { IsAllocation UNIT self.old len align result }
+        ensures room { IsPowerOfTwo align → (o m : ℕ) → IsFreeRun self.old o m → 9 * (offsets.units_for UNIT len + offsets.units_for UNIT align - 1) ≤ 8 * m → IsOk result }
         ensures within { IsPowerOfTwo align → SucceedsFor UNIT self.old len align (IsOk result) }
         ensures sized { KeepsSizedFor self.old self.new (offsets.units_for UNIT len) (offsets.units_for UNIT align) }
         ensures same { OnErr result (IsRefused UNIT self.old self.new) }

@@ -71,8 +71,7 @@ impl<const UNIT: usize> OffsetTlsf<UNIT> {
         ensures free { IfOk result (λ space. IsFreeRun space 0 (len / UNIT)) }
         ensures sized { IfOk result (λ space. SizesSpace space) }
     {
-        let inner = UnitTlsf::new(alloc, len / UNIT, len / UNIT)?;
-        Ok(OffsetTlsf { inner })
+        Self::with_limit(alloc, len, len)
     }
 
     /// Creates an allocator of a space of `len` bytes that can grow to `limit` bytes, as `new` does. If `limit` is less than `len`, the space
@@ -92,8 +91,10 @@ impl<const UNIT: usize> OffsetTlsf<UNIT> {
     {
         let units = len / UNIT;
         let most = greater(units, limit / UNIT);
-        let inner = UnitTlsf::new(alloc, units, most)?;
-        Ok(OffsetTlsf { inner })
+        match UnitTlsf::new(alloc, units, most) {
+            Ok(inner) => Ok(OffsetTlsf { inner }),
+            Err(error) => Err(error),
+        }
     }
 
     /// Makes the space `len` bytes long. Bytes behind its last complete unit are not used. The new units are free, and live ranges stay.

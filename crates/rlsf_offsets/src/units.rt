@@ -84,7 +84,10 @@ impl UnitTlsf {
         if most > MOST {
             return Err(MemoryError::TooLong);
         }
-        Ok(over(shadow(alloc, most)?, units, most))
+        match shadow(alloc, most) {
+            Ok(memory) => Ok(over(memory, units, most)),
+            Err(error) => Err(error),
+        }
     }
 
     /// Returns the number of units of the space.

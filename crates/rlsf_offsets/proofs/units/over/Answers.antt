@@ -32,22 +32,17 @@ invariant_of-result c =
     IsKept-new bounds table own state c.new-state.ensures c.args.units c.args.most c.requires.few.0 c.requires.few.1 c.requires.memory.start c.requires.memory.len
     e.left c.first_units.result c.first_units.ensures _ e.step (e.frame.count ∙ none)
 
-pub returns-clause-units : goal.returns-clause-units
-returns-clause-units c = (refl, omega (arith, c.insert_in.ensures.left.costs.length, c.requires.memory.len))
-
-pub returns-clause-empty : goal.returns-clause-empty
-returns-clause-empty c =
+pub returns : goal.returns
+returns c =
     let m = c.args.memory in
+    let e = c.insert_in.ensures in
     let none = none_live-new c.len.ensures.bounds (c.new-table.ensures m) c.requires.memory.own c.new-state.result.state c.new-state.ensures in
     let after = allocator c.insert_in.new.memory c.insert_in.new.table c.insert_in.new.state.state in
-    IsEmpty-fresh (offsets c.args.units after) (nothing_at after.state (c.insert_in.ensures.frame.count ∙ none))
-
-pub returns-clause-sized : goal.returns-clause-sized
-returns-clause-sized c =
-    let m = c.args.memory in
-    let none = none_live-new c.len.ensures.bounds (c.new-table.ensures m) c.requires.memory.own c.new-state.result.state c.new-state.ensures in
-    let after = allocator c.insert_in.new.memory c.insert_in.new.table c.insert_in.new.state.state in
+    let x = offsets c.args.units after in
     let start = ap (λ (r : Range). r.start) c.first_units.ensures in
     let long = ap (λ (r : Range). r.len) c.first_units.ensures in
-    SizesSpace-fresh (offsets c.args.units after) c.first_units.result (read_from m c.new-state.result.state) (omega (arith, start)) (omega (arith, long)) none
-    c.insert_in.ensures.result.pool
+    record {
+      units = (refl, omega (arith, e.left.costs.length, c.requires.memory.len));
+      empty = IsEmpty-fresh x (nothing_at after.state (e.frame.count ∙ none));
+      sized = SizesSpace-fresh x c.first_units.result (read_from m c.new-state.result.state) (omega (arith, start)) (omega (arith, long)) none e.result.pool;
+    }

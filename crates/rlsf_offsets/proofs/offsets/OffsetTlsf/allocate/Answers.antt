@@ -1,9 +1,13 @@
-use Rattle.std.proofs.Common.{◌*◌, ℕ, subst, sym, true≢false, arith}
-use Rattle.rlsf_base.specs.PowerOfTwo.{IsPowerOfTwo}
+use Rattle.std.proofs.Common.{◌*◌, ◌^◌, ◌<◌, ◌≤◌, ℕ, Option, arith, refl, subst, sym, true≢false}
+use Rattle.std.proofs.Math.Nat.{mul-le-mul_right}
+use Rattle.std.proofs.lemmas.Option.{none-some}
+use Rattle.std.specs.Prelude.{IsSome}
 use Rattle.rlsf_base.proofs.Numbers.PowersOfTwo.{IsPowerOfTwo-positive}
-use Rattle.rlsf_offsets.specs.Offsets.{IsAllocated, IsRefused, units_for}
-use Rattle.rlsf_offsets.specs.Units.{IsFreeRun, IsReserved, Offsets}
-use Rattle.rlsf_offsets.proofs.Bytes.{IsAllocated-units, IsRefused-unchanged, power_of_units, unless}
+use Rattle.rlsf_base.specs.PowerOfTwo.{IsPowerOfTwo}
+use Rattle.rlsf_offsets.specs.Offsets.{units_for}
+use Rattle.rlsf_offsets.specs.Units.{IsReserved, SucceedsWithin}
+use Rattle.rlsf_offsets.proofs.Allocations.{if_none, if_some}
+use Rattle.rlsf_offsets.proofs.Bytes.{IsAllocated-units, IsRefused-unchanged, power_of_units}
 use Rattle.rlsf_offsets.proofs.offsets.OffsetTlsf.allocate.Goals as goal
 
 pub units_for-units-requires : goal.units_for-units-requires
@@ -16,25 +20,50 @@ pub allocate-requires-clause-align : goal.allocate-requires-clause-align
 allocate-requires-clause-align g c =
     subst IsPowerOfTwo (sym c.units_for-step.ensures.value) (power_of_units g.row.UNIT c.args.align c.self.invariant.0 c.requires)
 
-pub returns-in_err-first-clause-room : goal.returns-in_err-first-clause-room
-returns-in_err-first-clause-room g c = λ o m run long.
-    absurd (true≢false (sym (c.in_err-first.ensures.room o m (subst (λ (v : Offsets). IsFreeRun v o m) (sym c.self.view_is) run)
-    (omega (arith, long, c.units_for-units.ensures.value, c.units_for-step.ensures.value)))))
+pub overflow_mul-result : goal.overflow_mul-result
+overflow_mul-result g c =
+    let made = c.in_ok-first.ensures.reserved in
+    let fits : c.in_ok-first.first * g.row.UNIT ≤ c.self.inside.inner.units * g.row.UNIT = mul-le-mul_right g.row.UNIT (omega (arith, made.inside)) in
+    omega (arith, fits, c.self.invariant.1)
 
-pub returns-clause-allocated : goal.returns-clause-allocated
-returns-clause-allocated g c =
+pub invariant_of-self : goal.invariant_of-self
+invariant_of-self g c = (c.self.invariant.0, subst (λ (n : ℕ). n * g.row.UNIT < 2 ^ 64) (sym c.in_err-first.ensures.same.space) c.self.invariant.1)
+
+pub invariant_of-self-2 : goal.invariant_of-self-2
+invariant_of-self-2 g c = (c.self.invariant.0, subst (λ (n : ℕ). n * g.row.UNIT < 2 ^ 64) (sym c.in_ok-first.ensures.reserved.space) c.self.invariant.1)
+
+pub returns-in_err-first : goal.returns-in_err-first
+returns-in_err-first g c =
+    let e = c.in_err-first.ensures in
+    let none = c.from_residual.ensures in
+    rw (← c.self.view_is, ← c.units_for-units.ensures.value, ← c.units_for-step.ensures.value) (record {
+      allocated = if_some _ none;
+      refused = (λ h. e.refused.0 refl, λ h. none);
+      room = λ o m run long. absurd (true≢false (sym (e.room o m run long)));
+      within = subst (λ (o : Option ℕ). SucceedsWithin c.self.inside.inner c.units_for-units.result c.units_for-step.result (IsSome o)) (sym none) e.within;
+      sized = e.sized;
+      same = if_none _ none (IsRefused-unchanged g.row.UNIT c.self.inside.inner c.allocate.new.self e.same);
+      touches = e.touches;
+    })
+
+pub returns : goal.returns
+returns g c =
     let unit = g.row.UNIT in
     let v = c.self.inside.inner in
     let x = c.allocate.new.self in
     let first = c.in_ok-first.first in
-    let made = subst (λ (n : ℕ). IsReserved v x n c.units_for-step.result first) c.units_for-units.ensures.value c.in_ok-first.ensures.reserved in
-    let same = subst (λ (n : ℕ). IsReserved v x (units_for unit c.args.len) n first) c.units_for-step.ensures.value made in
-    subst (λ (o : Offsets). IsAllocated unit o x c.args.len c.args.align (first * unit)) c.self.view_is
-    (IsAllocated-units unit c.args.align c.self.invariant.0 c.requires v x c.args.len first same)
-
-pub returns-in_err-first-clause-same : goal.returns-in_err-first-clause-same
-returns-in_err-first-clause-same g c =
-    let unit = g.row.UNIT in
-    let v = c.self.inside.inner in
-    let x = c.allocate.new.self in
-    unless c.from_residual.result (subst (λ (o : Offsets). IsRefused unit o x) c.self.view_is (IsRefused-unchanged unit v x c.in_err-first.ensures.same))
+    let e = c.in_ok-first.ensures in
+    let n = c.units_for-units.ensures.value in
+    let a = c.units_for-step.ensures.value in
+    let made : IsReserved v x (units_for unit c.args.len) (units_for unit c.args.align) first
+    = subst (λ (p : ℕ × ℕ). IsReserved v x p.0 p.1 first) (λ i. (n i, a i)) e.reserved in
+    let allocated = IsAllocated-units unit c.args.align c.self.invariant.0 c.requires v x c.args.len first made in
+    rw (← c.self.view_is, ← n, ← a) (record {
+      allocated = allocated;
+      refused = (λ h. absurd (none-some _ (sym h)), λ full. absurd (none-some _ (sym (e.refused.1 full))));
+      room = λ o m run long. refl;
+      within = e.within;
+      sized = e.sized;
+      same = tt;
+      touches = e.touches;
+    })

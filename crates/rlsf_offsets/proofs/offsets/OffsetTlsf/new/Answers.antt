@@ -1,6 +1,20 @@
-use Rattle.rlsf_base.proofs.Numbers.PowersOfTwo.{IsPowerOfTwo-positive}
-use Rattle.rlsf_offsets.proofs.Bytes.{len_at-empty}
+use Rattle.std.proofs.Common.{◌≡◌, ◌↔◌, ◌/◌, ◌^◌, ◌<◌, ℕ, arith, subst}
+use Rattle.std.specs.Prelude.{IfOk, IsErrOf, max}
+use Rattle.rlsf_base.specs.declared.memory.MemoryError.TheVariants.{TooLong}
+use Rattle.rlsf_offsets.specs.Units.{Offsets, limit_of}
 use Rattle.rlsf_offsets.proofs.offsets.OffsetTlsf.new.Goals as goal
 
-pub returns-clause-empty : goal.returns-clause-empty
-returns-clause-empty g c = len_at-empty g.row.UNIT (IsPowerOfTwo-positive g.row.UNIT c.requires) c.in_ok-inner.inner c.in_ok-inner.ensures.empty
+pub returns : goal.returns
+returns g c =
+    let e = c.with_limit.ensures in
+    let r = c.with_limit.result in
+    let units = c.args.len / g.row.UNIT in
+    let same : max units units ≡ units = omega arith in
+    record {
+      too_long = subst (λ (n : ℕ). IsErrOf r TooLong ↔ (2 ^ 56 < n)) same e.too_long;
+      refused = e.refused;
+      units = subst (λ (n : ℕ). IfOk r (λ (space : Offsets). (space.units ≡ units) × (limit_of space ≡ n))) same e.units;
+      empty = e.empty;
+      free = e.free;
+      sized = e.sized;
+    }

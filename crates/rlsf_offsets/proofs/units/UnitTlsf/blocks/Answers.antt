@@ -1,4 +1,5 @@
 use Rattle.std.proofs.Common.{subst}
+use Rattle.std_collections.proofs.IterRuns.{gives_in_order}
 use Rattle.rlsf_offsets.specs.Blocks.{AreAllBlocks, AreWithin}
 use Rattle.rlsf_offsets.specs.Units.{Offsets}
 use Rattle.rlsf_offsets.proofs.Blocks.{AreAllBlocks-row, AreWithin-blocks, IsRow-shadow}
@@ -9,20 +10,16 @@ walk_blocks-requires c =
     let shadow = c.self.invariant.shadow in
     (59, 8, _, _, shadow.stands, IsRow-shadow shadow c.chunk_len-len.result c.chunk_len-len.ensures.some c.chunk_len-len.ensures.none)
 
-pub returns-clause-blocks : goal.returns-clause-blocks
-returns-clause-blocks c =
+pub returns : goal.returns
+returns c =
     let shadow = c.self.invariant.shadow in
     let some = c.chunk_len-len.ensures.some in
     let none = c.chunk_len-len.ensures.none in
     let len = c.chunk_len-len.result in
-    subst (λ (v : Offsets). AreAllBlocks v c.walk_blocks.result) c.self.view_is
-    (AreAllBlocks-row shadow len some none c.walk_blocks.result (c.walk_blocks.ensures.blocks 59 8 _ _ shadow.stands (IsRow-shadow shadow len some none)))
-
-pub returns-clause-within : goal.returns-clause-within
-returns-clause-within c =
-    let shadow = c.self.invariant.shadow in
-    let some = c.chunk_len-len.ensures.some in
-    let none = c.chunk_len-len.ensures.none in
-    let len = c.chunk_len-len.result in
-    let all = AreAllBlocks-row shadow len some none c.walk_blocks.result (c.walk_blocks.ensures.blocks 59 8 _ _ shadow.stands (IsRow-shadow shadow len some none)) in
-    subst (λ (v : Offsets). AreWithin v.units c.walk_blocks.result) c.self.view_is (AreWithin-blocks shadow c.walk_blocks.result all)
+    let bs = c.walk_blocks.result in
+    let all = AreAllBlocks-row shadow len some none bs (c.walk_blocks.ensures.blocks 59 8 _ _ shadow.stands (IsRow-shadow shadow len some none)) in
+    record {
+      blocks = subst (λ (v : Offsets). AreAllBlocks v bs) c.self.view_is all;
+      within = subst (λ (v : Offsets). AreWithin v.units bs) c.self.view_is (AreWithin-blocks shadow bs all);
+      runs = gives_in_order;
+    }

@@ -3,7 +3,7 @@ use Rattle.std.specs.Prelude.{IsSome}
 use Rattle.rlsf_blocks.specs.Laws.{read_from}
 use Rattle.rlsf_model.proofs.Chunks.{chunks-deallocated}
 use Rattle.rlsf_tlsf.specs.Allocator.{allocator}
-use Rattle.rlsf_offsets.specs.Units.{IsReleased, KeepsSized, Offsets, offsets, units_at}
+use Rattle.rlsf_offsets.specs.Units.{Offsets, offsets, units_at}
 use Rattle.rlsf_offsets.proofs.Frees.{AreWhole-deallocated, IsReleased-deallocated, sized-freed}
 use Rattle.rlsf_offsets.proofs.Kept.{IsCore-kept, IsKept-left, own_found}
 use Rattle.rlsf_offsets.proofs.Ranges.{live_place}
@@ -27,15 +27,13 @@ invariant_of-self c =
     let addr = c.place_of-addr.result in
     IsKept-left c.self.invariant e.left (chunks-deallocated s t addr e.step) (AreWhole-deallocated s t addr e.step c.self.invariant.shadow.whole)
 
-pub returns-clause-released : goal.returns-clause-released
-returns-clause-released c =
-    let after = offsets c.self.inside.units (allocator c.deallocate_in.new.memory c.deallocate_in.new.table c.deallocate_in.new.state.state) in
-    subst (λ (v : Offsets). IsReleased v after c.args.first) c.self.view_is
-    (IsReleased-deallocated c.args.first c.place_of-addr.result c.place_of-addr.ensures c.deallocate_in.ensures.left.costs.length
-    c.deallocate_in.ensures.result)
-
-pub returns-clause-sized : goal.returns-clause-sized
-returns-clause-sized c =
-    let before = offsets c.self.inside.units (allocator c.self.inside.memory c.self.inside.table c.self.inside.state.state) in
-    let after = offsets c.self.inside.units (allocator c.deallocate_in.new.memory c.deallocate_in.new.table c.deallocate_in.new.state.state) in
-    subst (λ (v : Offsets). KeepsSized v after) c.self.view_is (sized-freed before after c.deallocate_in.ensures.bounds)
+pub returns : goal.returns
+returns c =
+    let e = c.deallocate_in.ensures in
+    let v = offsets c.self.inside.units (allocator c.self.inside.memory c.self.inside.table c.self.inside.state.state) in
+    let x = offsets c.self.inside.units (allocator c.deallocate_in.new.memory c.deallocate_in.new.table c.deallocate_in.new.state.state) in
+    rw (← c.self.view_is) (record {
+      released = IsReleased-deallocated c.args.first c.place_of-addr.result c.place_of-addr.ensures e.left.costs.length e.result;
+      sized = sized-freed v x e.bounds;
+      touches = e.left.costs.touches;
+    })
