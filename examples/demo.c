@@ -70,7 +70,7 @@ static void texts(void) {
         "the end lies past the greatest address",
         "no block begins at the address or behind it",
         "a payload is live in the range",
-        "the range isn't complete contiguous chunks",
+        "the range isn't an inserted one",
         "unknown error",
     };
     for (size_t i = 0; i < sizeof all / sizeof *all; i++) WANT(strcmp(rlsf_pool_error_text(i), all[i]), 0);
@@ -258,7 +258,7 @@ static void removals(size_t kind) {
     free(p);
 }
 
-/* Any range is removed once no payload lives in it, and nothing but complete chunks is. */
+/* Each inserted range is removed once no payload lives in it, as it has grown, and nothing else is. */
 static void ranges(size_t kind) {
     rlsf_pool *p = room();
     WANT(rlsf_pool_init(p, kind, 4096, 65536), RLSF_OK);
@@ -268,15 +268,16 @@ static void ranges(size_t kind) {
     ANSWER(rlsf_pool_insert(p, 8192, 1024), RLSF_OK, 1024);
     ANSWER(rlsf_pool_insert(p, 9216, 1024), RLSF_OK, 1024);           /* contiguous with the range before */
     size_t wrong[][2] = {{0, 0}, {4096, 0}, {4096, 992}, {4096, 1025}, {4128, 992}, {4064, 1056}, {4095, 1025}, {5120, 1024}, {8192, 1536},
-                         {8704, 512}, {9216, 1056}, {8192, 4096}, {69632, 0}, {4096, (size_t)-1}, {(size_t)-1, (size_t)-1}};
+                         {8704, 512}, {9216, 1056}, {8192, 2048}, {8185, 1031}, {69632, 0}, {4096, (size_t)-1}, {(size_t)-1, (size_t)-1}};
     for (size_t i = 0; i < sizeof wrong / sizeof *wrong; i++) WANT(rlsf_pool_remove(p, wrong[i][0], wrong[i][1]), RLSF_NOT_CHUNKS);
     WANT(rlsf_pool_remove(p, 4096, 1024), RLSF_IN_USE);
-    WANT(rlsf_pool_remove(p, 8185, 1031), RLSF_OK);                   /* from 8192 on */
+    WANT(rlsf_pool_remove(p, 8192, 1024), RLSF_OK);
     WANT(rlsf_pool_remove(p, 8192, 1024), RLSF_NOT_CHUNKS);           /* twice */
     WANT(rlsf_pool_stats(p).free, 1024 - 32 + 1024 - 32 - 928);
     ANSWER(rlsf_pool_insert(p, 8192, 1024), RLSF_NOT_BEHIND, 0);
     ANSWER(rlsf_pool_append(p, 10240, 64), RLSF_OK, 64);              /* the last range is unchanged */
     WANT(rlsf_pool_usable(p, addr).error, RLSF_OK);
+    WANT(rlsf_pool_remove(p, 9216, 1024), RLSF_NOT_CHUNKS);           /* a part of it */
     WANT(rlsf_pool_remove(p, 9216, 1088), RLSF_OK);
     ANSWER(rlsf_pool_allocate(p, 900, 16), RLSF_NO_ROOM, 0);
     ANSWER(rlsf_pool_append(p, 9216, 64), RLSF_NOT_NEXT, 0);

@@ -54,7 +54,7 @@ typedef enum rlsf_pool_error {
     RLSF_TOO_LONG = 13,       /* the end lies past the greatest address */
     RLSF_NO_BLOCK = 14,       /* no block begins at the address or behind it */
     RLSF_IN_USE = 15,         /* a payload is live in the range */
-    RLSF_NOT_CHUNKS = 16      /* the range isn't complete contiguous chunks of the memory */
+    RLSF_NOT_CHUNKS = 16      /* the range isn't an inserted one, with everything appended to it */
 } rlsf_pool_error;
 
 /* Returns the text of an error, in lower case and without a full stop. Returns "unknown error" if no error has the number. The text is
@@ -76,7 +76,7 @@ static inline const char *rlsf_pool_error_text(size_t error) {
     case RLSF_TOO_LONG: return "the end lies past the greatest address";
     case RLSF_NO_BLOCK: return "no block begins at the address or behind it";
     case RLSF_IN_USE: return "a payload is live in the range";
-    case RLSF_NOT_CHUNKS: return "the range isn't complete contiguous chunks";
+    case RLSF_NOT_CHUNKS: return "the range isn't an inserted one";
     default: return "unknown error";
     }
 }
@@ -111,7 +111,7 @@ typedef struct {
 } rlsf_pool_span;
 
 /* The size of a handle of either kind in bytes. */
-#define RLSF_POOL_SIZE 33888
+#define RLSF_POOL_SIZE 33912
 
 /* Room for a handle that is static or on the stack: pass (rlsf_pool *)&handle to each call. (tested) A handle whose bytes are all 0, as a
  * static one begins, is that of an ended pool: rlsf_pool_destroy does nothing there. */
@@ -155,7 +155,8 @@ size_t rlsf_pool_length_for_allocation(size_t kind, size_t size, size_t align);
  * Returns RLSF_NO_KIND, RLSF_ZERO_START or RLSF_TOO_LONG, each exactly if it applies, or RLSF_OUT_OF_MEMORY. After an error, all calls find
  * a pool without an address, and rlsf_pool_destroy must still be called.
  *
- * (tested) The call requests len + len / 16 bytes and a few more from malloc. No other call requests any. The memory begins as zeros. */
+ * (tested) The call requests len + len / 16 bytes and a few more from malloc. After it, only rlsf_pool_insert requests any, for a list of ranges,
+ * and not for the first range. The memory begins as zeros. */
 size_t rlsf_pool_init(rlsf_pool *pool, size_t kind, size_t start, size_t len);
 
 /* Ends a pool. The handle can be used for a new pool. Until then all calls find a pool without an address, and another rlsf_pool_destroy does
@@ -176,18 +177,18 @@ size_t rlsf_pool_len(const rlsf_pool *pool);
 /* Inserts a range of the memory. Its aligned part becomes free, in chunks of at least 64 bytes. Returns the number of bytes from its start
  * to the end of its last chunk. Payloads and their bytes are unchanged.
  *
- * Returns RLSF_OUTSIDE_MEMORY, RLSF_NOT_BEHIND or RLSF_TOO_SHORT, each exactly if it applies. */
+ * Returns RLSF_OUTSIDE_MEMORY or RLSF_NOT_BEHIND, each exactly if it applies, else RLSF_OUT_OF_MEMORY, or RLSF_TOO_SHORT exactly if it applies. While
+ * the last range is empty, no memory is requested. */
 rlsf_pool_answer rlsf_pool_insert(rlsf_pool *pool, size_t start, size_t len);
 
-/* Removes a range, from its start, rounded up to a multiple of 32, to its end. It may be an inserted range of the length that rlsf_pool_insert
- * returned, a part of one that begins and ends where chunks do, or several contiguous ranges. Payloads and their bytes are unchanged.
+/* Removes an inserted range: `start` is its start as inserted, and `len` the length that rlsf_pool_insert returned, and what rlsf_pool_append has
+ * returned for it since then. Payloads and their bytes are unchanged.
  *
- * If the removed part ended where the last range ends, the last range then ends where that part began, so the part can be inserted again. If
- * it was another part of the last range, the last range becomes what is behind it. Otherwise the last range is unchanged. Then rlsf_pool_insert
- * refuses the removed part, because it isn't behind the last range. The time grows with the number of blocks of the contiguous ranges, and
- * with the length of the memory before them.
+ * If it was the last range, that is empty then and has the same start, so the range can be inserted again. Otherwise the last range is unchanged,
+ * and rlsf_pool_insert refuses the removed one, because it isn't behind the last range. The time grows with the numbers of ranges and of blocks of
+ * this one.
  *
- * Returns RLSF_NOT_CHUNKS exactly if it applies or the range is outside of the memory, else RLSF_IN_USE exactly if it applies. */
+ * Returns RLSF_NOT_CHUNKS exactly if it applies, as to a part of a range or to several, else RLSF_IN_USE exactly if it applies. */
 size_t rlsf_pool_remove(rlsf_pool *pool, size_t start, size_t len);
 
 /* Removes the last range. Then the last range is empty and has the same start, so the range can be inserted again. Payloads and their bytes

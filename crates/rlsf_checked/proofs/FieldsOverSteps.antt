@@ -4,7 +4,6 @@ use Rattle.std.proofs.Common.{sym, ◌∙◌, ap, subst, inl, inr}
 use Rattle.std.proofs.lemmas.Bool.{cases_eq, cases_lt, le-leb, lt-leb}
 use Rattle.std.proofs.Math.Nat.{mod-eq_of_lt}
 use Rattle.rlsf_base.specs.declared.memory.layout.Layout.{Layout}
-use Rattle.rlsf_base.specs.declared.memory.range.Range.{Range}
 use Rattle.rlsf_base.specs.Layout.{IsLayout}
 use Rattle.rlsf_base.specs.PowerOfTwo.{IsPowerOfTwo, floor_log2}
 use Rattle.rlsf_base.specs.Range.{end_of}
@@ -23,11 +22,11 @@ use Rattle.rlsf_model.proofs.Live.{payload_lies_in_one_chunk}
 use Rattle.rlsf_model.proofs.Payloads.{IsUsed-after_start, IsUsed-aligned, IsUsed-even}
 use Rattle.rlsf_tlsf.specs.Allocator.{Allocator, Stands, Steps}
 use Rattle.rlsf_checked.specs.Answers.{size_refusal}
+use Rattle.rlsf_checked.specs.Checked.{PoolList}
 use Rattle.rlsf_checked.specs.declared.error.CheckedError.TheVariants.{NoLayout}
 use Rattle.rlsf_checked.specs.declared.marks.Marks.{Marks}
-use Rattle.rlsf_checked.specs.Steps.Marks.{HasMark, edge_at, mark_at, mark_of}
+use Rattle.rlsf_checked.specs.Steps.Marks.{HasMark, mark_at, mark_of}
 use Rattle.rlsf_checked.specs.Steps.Standing.{IsChecked}
-use Rattle.rlsf_checked.proofs.Edges.{AreEdges-same}
 
 -- the allocator after a step is valid
 pub stands_after : (fllen sllen : ℕ) (v w : Allocator) (step : State → Type 0) → Steps fllen sllen v w step → Stands fllen sllen w
@@ -86,7 +85,7 @@ live_place fllen sllen v stands addr align is =
 
 -- ---- marks
 
-module _ {fllen sllen : ℕ} {v : Allocator} {m : Marks} {pool : Range} (is : IsChecked fllen sllen v m pool) where
+module _ {fllen sllen : ℕ} {v : Allocator} {m : Marks} {pools : PoolList} (is : IsChecked fllen sllen v m pools) where
   -- and a mark shows the alignment of one
   pub marked_as : (addr : ℕ) → (mark_at m addr ≡ 0 → ⊥)
       → (align_at v.state addr ≡ Some (2 ^ (mark_at m addr - 1))) × (1 ≤ mark_at m addr) × (mark_at m addr ≤ 64) × IsPowerOfTwo (2 ^ (mark_at m addr - 1))
@@ -110,46 +109,44 @@ module _ {fllen sllen : ℕ} {v : Allocator} {m : Marks} {pool : Range} (is : Is
 
   -- a step that keeps place, chunks and edges, with the marks of the payloads after it
   pub kept : (w : Allocator) (n : Marks) → Stands fllen sllen w → SamePlace v.memory w.memory → w.state.chunks ≡ v.state.chunks
-      → ((a : ℕ) → HasMark m a → HasMark n a) → ((a : ℕ) → edge_at n a ≡ edge_at m a)
-      → ((a : ℕ) → mark_at n a ≡ mark_of (align_at w.state a)) → IsChecked fllen sllen w n pool
-  kept w n stands place chunks places edges marked = record {
+      → ((a : ℕ) → HasMark m a → HasMark n a) → ((a : ℕ) → mark_at n a ≡ mark_of (align_at w.state a)) → IsChecked fllen sllen w n pools
+  kept w n stands place chunks places marked = record {
     stands = stands;
     marked = marked;
     covers = λ a even low high. places a (is.covers a even (omega (arith, place.0, low)) (omega (arith, place.0, place.1, high)));
-    edged = AreEdges-same m n v.state w.state edges chunks is.edged;
-    some_address = omega (arith, is.some_address, place.0);
     low = omega (arith, is.low, place.0);
     high = omega (arith, is.high, place.0, place.1);
-    below = λ c i. is.below c (subst (IsIn c) chunks i);
-    apart = λ c i. is.apart c (subst (IsIn c) chunks i);
-    room = is.room;
-    row = IsRow-same v.state w.state (walked pool) chunks is.row;
+    pools = record {
+      each = λ p one. let pool = is.pools.each p one in record { room = pool.room; row = IsRow-same v.state w.state (walked p) chunks pool.row };
+      order = is.pools.order;
+      behind = is.pools.behind;
+      homes = λ c i. is.pools.homes c (subst (IsIn c) chunks i);
+    };
   }
 
   -- one mark was set, as the payload at its address shows, and no other payload changed its alignment
   pub marked_at : (w : Allocator) (n : Marks) (addr : ℕ) → Stands fllen sllen w → SamePlace v.memory w.memory → w.state.chunks ≡ v.state.chunks
-      → ((a : ℕ) → HasMark m a → HasMark n a) → ((a : ℕ) → edge_at n a ≡ edge_at m a)
-      → mark_at n addr ≡ mark_of (align_at w.state addr) → ((a : ℕ) → a ≢ addr → mark_at n a ≡ mark_at m a)
+      → ((a : ℕ) → HasMark m a → HasMark n a) → mark_at n addr ≡ mark_of (align_at w.state addr) → ((a : ℕ) → a ≢ addr → mark_at n a ≡ mark_at m a)
       → ((a : ℕ) → a ≢ addr → align_at w.state a ≡ align_at v.state a)
-      → IsChecked fllen sllen w n pool
-  marked_at w n addr stands place chunks places edges here marks aligns = kept w n stands place chunks places edges (λ a. elim (cases_eq a addr) [
+      → IsChecked fllen sllen w n pools
+  marked_at w n addr stands place chunks places here marks aligns = kept w n stands place chunks places (λ a. elim (cases_eq a addr) [
     | inl same ↦ ap (mark_at n) same ∙ here ∙ ap (λ x. mark_of (align_at w.state x)) (sym same)
     | inr apart ↦ marks a apart ∙ is.marked a ∙ ap mark_of (sym (aligns a apart))
   ])
 
   -- no mark was set, and no payload changed its alignment
   pub unchanged : (w : Allocator) → Stands fllen sllen w → SamePlace v.memory w.memory → w.state.chunks ≡ v.state.chunks → align_at w.state ≡ align_at v.state
-      → IsChecked fllen sllen w m pool
-  unchanged w stands place chunks aligns = kept w m stands place chunks (λ a has. has) (λ a. refl) (λ a. is.marked a ∙ ap (λ f. mark_of (f a)) (sym aligns))
+      → IsChecked fllen sllen w m pools
+  unchanged w stands place chunks aligns = kept w m stands place chunks (λ a has. has) (λ a. is.marked a ∙ ap (λ f. mark_of (f a)) (sym aligns))
 
   -- a payload got another size: no mark is left where it was, and then its mark was set where it is
   pub marked_moved : (w : Allocator) (left n : Marks) (addr to align : ℕ) → Stands fllen sllen w → SamePlace v.memory w.memory → w.state.chunks ≡ v.state.chunks
-      → ((a : ℕ) → HasMark m a → HasMark n a) → ((a : ℕ) → edge_at n a ≡ edge_at m a) → ((a : ℕ) → a ≢ addr → mark_at left a ≡ mark_at m a) → mark_at left addr ≡ 0
+      → ((a : ℕ) → HasMark m a → HasMark n a) → ((a : ℕ) → a ≢ addr → mark_at left a ≡ mark_at m a) → mark_at left addr ≡ 0
       → ((a : ℕ) → a ≢ to → mark_at n a ≡ mark_at left a) → mark_at n to ≡ suc (floor_log2 align) → align_at w.state to ≡ Some align
       → (to ≢ addr → align_at w.state addr ≡ None)
-      → ((a : ℕ) → a ≢ addr → a ≢ to → align_at w.state a ≡ align_at v.state a) → IsChecked fllen sllen w n pool
-  marked_moved w left n addr to align stands place chunks places edges others cleared new set live gone aligns =
-      kept w n stands place chunks places edges (λ a. elim (cases_eq a to) [
+      → ((a : ℕ) → a ≢ addr → a ≢ to → align_at w.state a ≡ align_at v.state a) → IsChecked fllen sllen w n pools
+  marked_moved w left n addr to align stands place chunks places others cleared new set live gone aligns =
+      kept w n stands place chunks places (λ a. elim (cases_eq a to) [
         | inl there ↦ ap (mark_at n) there ∙ set ∙ sym (ap mark_of (ap (align_at w.state) there ∙ live))
         | inr apart ↦ elim (cases_eq a addr) [
           | inl here ↦ new a apart ∙ ap (mark_at left) here ∙ cleared ∙ sym (ap mark_of (ap (align_at w.state) here ∙ gone (λ same. apart (here ∙ sym same))))

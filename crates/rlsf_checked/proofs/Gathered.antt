@@ -1,20 +1,26 @@
--- The blocks of one run after another are all blocks.
-use Rattle.std.proofs.Common.{◌≡◌, ℕ, ◌-◌, ◌<◌, ◌≤◌, List, [], ◌∷◌, ◌++◌, Option, Some, None, cond, false, true≢false, find, nat_le, arith, refl, sym, ◌∙◌, ap, subst, inl, inr}
+-- The blocks of one pool after another are all blocks.
+use Rattle.std.proofs.Common.{◌≡◌, ◌↔◌, ◌⊎◌, ℕ, ◌<◌, ◌≤◌, List, [], ◌∷◌, ◌++◌, Option, Some, None, cond, false, true≢false, find, nat_le, get_or, length, take, ◌+◌, ◌^◌, arith, refl, sym, ◌∙◌, ap, subst, inl, inr}
 use Rattle.std.proofs.lemmas.Bool.{cases_lt, le-leb, leb-true}
+use Rattle.std.proofs.lemmas.List.{take_all, take_more}
 use Rattle.rlsf_base.specs.declared.memory.range.Range.{Range}
 use Rattle.rlsf_base.specs.Range.{end_of}
 use Rattle.rlsf_base.specs.Rounding.{round32}
+use Rattle.rlsf_base.proofs.Numbers.Roundings.{round32-le, round32-least}
 use Rattle.rlsf_blocks.specs.Blocks.{AreBlocks, Block, HasBlock, IsInOrder, free, used, walked}
+use Rattle.rlsf_blocks.specs.Totals.{free_of, total, used_of}
 use Rattle.rlsf_blocks.proofs.Words.Apart.{home_of_free, home_of_used}
 use Rattle.rlsf_blocks.proofs.Walking.Listed.{IsInOrder-append}
+use Rattle.rlsf_model.specs.ChunkRows.{IsRow}
 use Rattle.rlsf_model.specs.Lists.{IsIn}
 use Rattle.rlsf_model.specs.State.{State}
-use Rattle.rlsf_model.specs.WellFormed.{IsWellFormed, itself}
-use Rattle.rlsf_model.proofs.Coverage.{by_test, IsIn-append, IsIn-append_left, IsIn-append_right, coverage-IsIn, coverage-unique, covers-inside}
+use Rattle.rlsf_model.specs.WellFormed.{IsWellFormed}
+use Rattle.rlsf_model.proofs.Coverage.{by_test, IsIn-append, IsIn-append_left, IsIn-append_right}
 use Rattle.rlsf_model.proofs.Payloads.{IsUsed-some}
 use Rattle.rlsf_checked.specs.AllBlocks.{IsFirstFrom}
-use Rattle.rlsf_checked.specs.Steps.Runs.{AreUpTo, IsNextRun, IsStart}
-use Rattle.rlsf_checked.specs.Steps.Standing.{in_chunks}
+use Rattle.rlsf_checked.specs.Checked.{PoolList}
+use Rattle.rlsf_checked.specs.Steps.Standing.{ArePools, IsOneOf}
+use Rattle.rlsf_checked.proofs.Joined.{total-le}
+use Rattle.rlsf_checked.proofs.ListedPools.{IsIn-get_or, IsIn-take, before_at, behind_at, only}
 
 -- the first one of some blocks that begins at an address or behind it, if one does
 abbrev pub IsFirstIn : ℕ → List Block → Option Block → Type 0
@@ -51,8 +57,17 @@ first_in from (b ∷ bs) (first, rest) o e = by_test (nat_le from b.range.start)
       ],
     )
 
+-- the block lies in the part of a pool that is iterated over
+abbrev LiesInWalked : Block → Range → Type 0
+LiesInWalked b p = ((walked p).start ≤ b.range.start) × (end_of b.range ≤ end_of (walked p))
+
+-- the blocks of some pools, in the order of their addresses
+pub record AreIn (s : State) (ps : List Range) (bs : List Block) : Type 0 where
+  pub exactly : (b : Block) → IsIn b bs ↔ (HasBlock s b × (p : Range) × IsIn p ps × LiesInWalked b p)
+  pub in_order : IsInOrder bs
+
 -- the chunk in which a block lies
-pub record Home (s : State) (b : Block) : Type 0 where
+record Home (s : State) (b : Block) : Type 0 where
   pub chunk : Range
   pub is_chunk : IsIn chunk s.chunks
   pub from : chunk.start ≤ b.range.start
@@ -60,7 +75,7 @@ pub record Home (s : State) (b : Block) : Type 0 where
   pub some : 0 < b.range.len
 
 module _ {fllen sllen : ℕ} {memory : Range} {s : State} (w : IsWellFormed fllen sllen memory s) where
-  pub home_of : (b : Block) → HasBlock s b → Home s b
+  home_of : (b : Block) → HasBlock s b → Home s b
   home_of b (used u i same occupied) =
       let home = home_of_used w u i in record {
         chunk = home.chunk;
@@ -73,138 +88,141 @@ module _ {fllen sllen : ℕ} {memory : Range} {s : State} (w : IsWellFormed flle
       let home = home_of_free w b.range i in
       record { chunk = home.chunk; is_chunk = home.is_chunk; from = home.from; to = omega (arith, home.to); some = (w.free b.range i).some }
 
-  -- each address of a block is in a chunk
-  held : (b : Block) → HasBlock s b → 1 ≤ in_chunks s b.range.start
-  held b has =
+  -- a block lies in the memory
+  pub lies_in_memory : (b : Block) → HasBlock s b → (memory.start ≤ b.range.start) × (end_of b.range ≤ end_of memory)
+  lies_in_memory b has =
       let home = home_of b has in
-      omega (
-        arith,
-        coverage-IsIn itself home.chunk s.chunks b.range.start home.is_chunk,
-        covers-inside home.chunk b.range.start home.from (omega (arith, home.to, home.some)),
-      )
+      let chunk = (w.chunks home.chunk home.is_chunk).lies_in in
+      (omega (arith, home.from, chunk.0), omega (arith, home.to, chunk.1))
 
-  -- no block is before the place where the search begins
-  pub none_yet : {from end : ℕ} → IsStart s from end → from ≤ memory.start → AreUpTo s from end []
-  none_yet start low = record {
-    start = start;
-    blocks = record {
-      exactly = λ b. (
-        λ i. absurd i,
-        λ (has, from_b, to_b). (let home = home_of b has in absurd (omega (arith, to_b, home.from, home.some, low, (w.chunks home.chunk home.is_chunk).lies_in.0))),
-      );
-      in_order = tt;
-    };
-  }
+  -- so together they are no longer
+  pub fits : (bs : List Block) → IsInOrder bs → ((b : Block) → IsIn b bs → HasBlock s b) → total (used_of bs) + total (free_of bs) < 2 ^ 64
+  fits bs order has =
+      let some = total-le bs 0 (end_of memory) (omega arith) order (λ b i. (omega arith, (lies_in_memory b (has b i)).1)) in
+      omega (arith, some, w.addressable)
 
-  -- a block that begins before the place ends there, or before
-  ends_before : {from end : ℕ} → IsStart s from end → from < end → (b : Block) → HasBlock s b → b.range.start < from → end_of b.range ≤ from
-  ends_before {from} start lt b has before = elim (cases_lt from (end_of b.range)) [
-    | inl past ↦
+  module _ {pools : PoolList} (are : ArePools s pools) where
+    -- the pool in which a block lies
+    in_pool : (b : Block) → HasBlock s b → (p : Range) × IsOneOf p pools × LiesInWalked b p
+    in_pool b has =
         let home = home_of b has in
-        absurd (omega (
-          arith,
-          start.outside lt,
-          coverage-IsIn itself home.chunk s.chunks (from - 1) home.is_chunk,
-          covers-inside home.chunk (from - 1) (omega (arith, home.from, before)) (omega (arith, home.to, past)),
-        ))
-    | inr fine ↦ fine
-  ]
+        let (p, one, from, to) = are.homes home.chunk home.is_chunk in
+        let start : round32 p.start ≤ home.chunk.start = round32-least p.start home.chunk.start (w.chunks home.chunk home.is_chunk).whole.start from in
+        (p, one, (omega (arith, start, home.from), omega (arith, start, home.from, home.to, home.some, to)))
 
-  -- a block that begins in a run ends in it
-  ends_within : {from end next : ℕ} {r : Range} → IsNextRun s from end r next → (b : Block) → HasBlock s b → r.start ≤ b.range.start → b.range.start < end_of r
-      → end_of b.range ≤ end_of r
-  ends_within {r = r} run b has low high =
-      let a = b.range.start in
-      let home = home_of b has in
-      let at : round32 r.start ≡ r.start = omega (arith, run.start) in
-      let (d, j, from, begin, finish, up_to) = run.row a (omega (arith, low, at)) (omega (arith, high, at, low)) in
-      let same : home.chunk ≡ d = coverage-unique itself home.chunk d s.chunks a (w.disjoint a) home.is_chunk j
-      (covers-inside home.chunk a home.from (omega (arith, home.to, home.some))) (covers-inside d a begin finish) in
-      omega (arith, home.to, ap end_of same, up_to, at, low, high)
-
-  module _ {from end next : ℕ} {r : Range} {bs : List Block} (have : AreUpTo s from end bs) (lt : from < end) (run : IsNextRun s from end r next)
-      (cs : List Block) (are : AreBlocks s (walked r) cs) where
-    at : round32 r.start ≡ r.start
-    at = omega (arith, run.start)
-
-    -- a block of the run begins and ends in it
-    in_run : (c : Block) → IsIn c cs → HasBlock s c × (r.start ≤ c.range.start) × (end_of c.range ≤ end_of r)
-    in_run c i =
-        let (has, low, high) = (are.exactly c).0 i in
-        let some = (home_of c has).some in
-        (has, omega (arith, low, at), omega (arith, high, low, at, some))
-
-    -- and the blocks that do are those
-    of_run : (b : Block) → HasBlock s b → r.start ≤ b.range.start → b.range.start < end_of r → IsIn b cs
-    of_run b has low high = (are.exactly b).1 (has, omega (arith, low, at), omega (arith, ends_within run b has low high, at, low, high))
-
-    -- a block that begins before the next place is one of those before, or one of the run
-    pub old_or_new : (b : Block) → HasBlock s b → b.range.start < next → IsIn b (bs ++ cs)
-    old_or_new b has before = elim (cases_lt b.range.start from) [
-      | inl old ↦ IsIn-append_left b bs cs ((have.blocks.exactly b).1 (has, omega arith, omega (arith, ends_before have.start lt b has old)))
-      | inr new ↦ elim (cases_lt b.range.start r.start) [
-        | inl early ↦ absurd (omega (arith, held b has, run.before b.range.start new early))
-        | inr from_run ↦ elim (cases_lt b.range.start (end_of r)) [
-          | inl inner ↦ IsIn-append_right b bs cs (of_run b has from_run inner)
-          | inr late ↦ absurd (omega (arith, held b has, run.behind b.range.start late before))
-        ]
-      ]
-    ]
-
-    -- the first block of the run from an address on is the first of all, if no block before is
-    pub first_found : (low : ℕ) → ((b : Block) → IsIn b bs → b.range.start < low) → (b : Block) → IsFirstIn low cs (Some b) → IsFirstFrom s low (Some b)
-    first_found low none b (i, from_low, least) =
-        let (has, begins, ends) = in_run b i in (
-          has,
-          from_low,
-          λ c held_c late. elim (cases_lt c.range.start next) [
-            | inl early ↦ elim (IsIn-append c bs cs (old_or_new c held_c early)) [
-              | inl j ↦ absurd (omega (arith, none c j, late))
-              | inr j ↦ least c j late
-            ]
-            | inr behind_run ↦ omega (arith, behind_run, ends, run.high)
-          ],
-        )
-
-    pub none_found : (low : ℕ) → ((b : Block) → IsIn b bs → b.range.start < low) → IsFirstIn low cs None → (b : Block) → IsIn b (bs ++ cs) → b.range.start < low
-    none_found low before rest b i = elim (IsIn-append b bs cs i) [ inl j ↦ before b j | inr j ↦ rest b j ]
-
-    pub one_more_run : AreUpTo s next end (bs ++ cs)
-    one_more_run = record {
-      start = run.left;
-      blocks = record {
-        exactly = λ b. (
-          λ i. elim (IsIn-append b bs cs i) [
-            | inl j ↦ let (has, low, high) = (have.blocks.exactly b).0 j in (has, low, omega (arith, high, run.progress))
-            | inr j ↦ let (has, low, high) = in_run b j in (has, omega arith, omega (arith, high, run.high))
-          ],
-          λ (has, low, high). old_or_new b has (omega (arith, high, (home_of b has).some)),
-        );
-        in_order = IsInOrder-append bs cs have.blocks.in_order are.in_order (λ b c i j.
-            let (old, below, before) = (have.blocks.exactly b).0 i in
-            let (new, from_run, within) = in_run c j in
-            omega (arith, before, from_run, run.low));
-      };
+    -- the blocks of pools and of a later one
+    pub one_more : {ps : List Range} {bs : List Block} → AreIn s ps bs → (p : Range) (cs : List Block) → AreBlocks s (walked p) cs
+        → ((q : Range) → IsIn q ps → IsIn q pools.earlier × (end_of q ≤ p.start)) → AreIn s (ps ++ p ∷ []) (bs ++ cs)
+    one_more {ps} {bs} have p cs blocks before = record {
+      exactly = λ b. (
+        λ i. elim (IsIn-append b bs cs i) [
+          | inl j ↦ let (has, q, k, lies) = (have.exactly b).0 j in (has, q, IsIn-append_left q ps (p ∷ []) k, lies)
+          | inr j ↦ let (has, low, high) = (blocks.exactly b).0 j in (has, p, IsIn-append_right p ps (p ∷ []) (inl refl), (low, high))
+        ],
+        λ (has, q, i, lies). elim (IsIn-append q ps (p ∷ []) i) [
+          | inl j ↦ IsIn-append_left b bs cs ((have.exactly b).1 (has, q, j, lies))
+          | inr j ↦ let (low, high) = subst (LiesInWalked b) (only j) lies in IsIn-append_right b bs cs ((blocks.exactly b).1 (has, low, high))
+        ],
+      );
+      in_order = IsInOrder-append bs cs have.in_order blocks.in_order (λ b c i j.
+          let (old, q, k, lies) = (have.exactly b).0 i in
+          let (new, from, to) = (blocks.exactly c).0 j in
+          let (l, ends) = before q k in
+          omega (arith, lies.1, (are.each q (inl l)).room, ends, from, round32-le p.start));
     }
 
-  -- at the end each block is one of them
-  pub each_block : {from end : ℕ} {bs : List Block} → AreUpTo s from end bs → end ≤ from → (b : Block) → HasBlock s b → IsIn b bs
-  each_block have past b has =
-      let home = home_of b has in
-      (have.blocks.exactly b).1 (has, omega arith, omega (arith, home.to, have.start.below home.chunk home.is_chunk, past))
+    -- those of all pools are all blocks
+    pub all_of_them : {bs cs : List Block} → AreIn s pools.earlier bs → AreBlocks s (walked pools.last) cs → AreBlocks s memory (bs ++ cs)
+    all_of_them {bs} {cs} have blocks =
+        let both = one_more have pools.last cs blocks (λ q i. (i, are.behind q i)) in
+        record {
+          exactly = λ b. (
+            λ i. (let (has, q, j, lies) = (both.exactly b).0 i in let (low, high) = lies_in_memory b has in (has, low, high)),
+            λ (has, low, high). (
+                let (p, one, lies) = in_pool b has in
+                (both.exactly b).1 (
+                  has,
+                  p,
+                  elim one [
+                    | inl i ↦ IsIn-append_left p pools.earlier (pools.last ∷ []) i
+                    | inr (same, some) ↦ IsIn-append_right p pools.earlier (pools.last ∷ []) (inl same)
+                  ],
+                  lies,
+                )),
+          );
+          in_order = both.in_order;
+        }
 
-  -- so they are all blocks
-  pub all_of_them : {from end : ℕ} {bs : List Block} → AreUpTo s from end bs → end ≤ from → AreBlocks s memory bs
-  all_of_them have past = record {
-    exactly = λ b. (
-      λ i. (
-          let (has, low, high) = (have.blocks.exactly b).0 i in
-          let home = home_of b has in
-          let chunk = (w.chunks home.chunk home.is_chunk).lies_in in
-          (has, omega (arith, home.from, chunk.0), omega (arith, home.to, chunk.1))),
-      λ (has, low, high). (
-          let home = home_of b has in
-          (have.blocks.exactly b).1 (has, omega arith, omega (arith, home.to, have.start.below home.chunk home.is_chunk, past))),
-    );
-    in_order = have.blocks.in_order;
-  }
+    -- the first block of a pool from an address on is the first of all, if no block of the pools before is behind it; and if it has none, no
+    -- block of these and of it is
+    module _ {ps : List Range} {bs : List Block} (have : AreIn s ps bs) (low : ℕ) (none : (b : Block) → IsIn b bs → b.range.start < low) (p : Range) (cs : List Block)
+        (blocks : AreBlocks s (walked p) cs) where
+      pub first_found : ((q : Range) → IsOneOf q pools → IsIn q ps ⊎ ((q ≡ p) ⊎ (end_of p ≤ q.start))) → (b : Block) → IsFirstIn low cs (Some b)
+          → IsFirstFrom s low (Some b)
+      first_found rest b (i, from_low, least) =
+          let (has, from, to) = (blocks.exactly b).0 i in (
+            has,
+            from_low,
+            λ c held late.
+                let (q, one, lies) = in_pool c held in
+                elim (rest q one) [
+                  | inl before ↦ absurd (omega (arith, none c ((have.exactly c).1 (held, q, before, lies)), late))
+                  | inr other ↦ elim other [
+                    | inl same ↦ let (begins, ends) = subst (LiesInWalked c) same lies in least c ((blocks.exactly c).1 (held, begins, ends)) late
+                    | inr behind ↦ omega (arith, behind, lies.0, round32-le q.start, to, from, (home_of b has).some)
+                  ]
+                ],
+          )
+
+      pub none_found : IsFirstIn low cs None → (b : Block) → IsIn b (bs ++ cs) → b.range.start < low
+      none_found rest b i = elim (IsIn-append b bs cs i) [ inl j ↦ none b j | inr j ↦ rest b j ]
+
+    -- the pool at an index
+    module _ (items : List Range) (same : items ≡ pools.earlier) (i : ℕ) (p : Range) (within : i < length items) (is : p ≡ get_or items i p) where
+      lt : i < length pools.earlier
+      lt = subst (λ (xs : List Range). i < length xs) same within
+
+      at : p ≡ get_or pools.earlier i p
+      at = subst (λ (xs : List Range). p ≡ get_or xs i p) same is
+
+      here : IsIn p pools.earlier
+      here = subst (λ x. IsIn x pools.earlier) (sym at) (IsIn-get_or pools.earlier i p lt)
+
+      pub row_at : IsRow s (walked p)
+      row_at = (are.each p (inl here)).row
+
+      pub one_more_pool : {bs : List Block} → AreIn s (take i pools.earlier) bs → (cs : List Block) → AreBlocks s (walked p) cs
+          → AreIn s (take (i + 1) pools.earlier) (bs ++ cs)
+      one_more_pool {bs} have cs blocks =
+          subst (λ ps. AreIn s ps (bs ++ cs)) (sym (take_more pools.earlier i p lt ∙ ap (λ q. take i pools.earlier ++ q ∷ []) (sym at)))
+          (one_more have p cs blocks (λ q j.
+          (IsIn-take pools.earlier i q j, subst (λ (x : Range). end_of q ≤ x.start) (sym at) (before_at pools.earlier i p are.order lt q j))))
+
+      pub first_at : {bs : List Block} → AreIn s (take i pools.earlier) bs → (low : ℕ) → ((b : Block) → IsIn b bs → b.range.start < low) → (cs : List Block)
+          → AreBlocks s (walked p) cs → (b : Block) → IsFirstIn low cs (Some b) → IsFirstFrom s low (Some b)
+      first_at {bs} have low none cs blocks = first_found have low none p cs blocks rest
+        where
+          rest : (q : Range) → IsOneOf q pools → IsIn q (take i pools.earlier) ⊎ ((q ≡ p) ⊎ (end_of p ≤ q.start))
+          rest q (inr last) = inr (inr (omega (arith, are.behind p here, ap (λ (x : Range). x.start) last.0)))
+          rest q (inl j) = elim (behind_at pools.earlier i p are.order lt q j) [
+            | inl k ↦ inl k
+            | inr k ↦ inr (elim k [ inl one ↦ inl (one ∙ sym at) | inr behind ↦ inr (subst (λ (x : Range). end_of x ≤ q.start) (sym at) behind) ])
+          ]
+
+    -- at the end of the list those are the blocks of its pools
+    pub all_earlier : {bs : List Block} (i : ℕ) → length pools.earlier ≤ i → AreIn s (take i pools.earlier) bs → AreIn s pools.earlier bs
+    all_earlier {bs} i past have = subst (λ ps. AreIn s ps bs) (take_all i pools.earlier past) have
+
+    -- so the first of the last pool is the first of all, if there is one
+    pub first_of_last : {bs : List Block} → AreIn s pools.earlier bs → (low : ℕ) → ((b : Block) → IsIn b bs → b.range.start < low) → (cs : List Block)
+        → AreBlocks s (walked pools.last) cs → (o : Option Block) → find (λ b. nat_le low b.range.start) cs ≡ o → IsFirstFrom s low o
+    first_of_last have low none cs blocks None e = λ b has.
+        none_found have low none pools.last cs blocks (first_in low cs blocks.in_order None e) b
+        (let (from, to) = lies_in_memory b has in ((all_of_them have blocks).exactly b).1 (has, from, to))
+    first_of_last have low none cs blocks (Some b) e =
+        first_found have low none pools.last cs blocks (λ q one. elim one [ inl i ↦ inl i | inr (same, some) ↦ inr (inl same) ]) b
+        (first_in low cs blocks.in_order (Some b) e)
+
+-- no pool has no block
+pub none_yet : (s : State) → AreIn s [] []
+none_yet s = record { exactly = λ b. (λ i. absurd i, λ (has, p, i, lies). absurd i); in_order = tt }

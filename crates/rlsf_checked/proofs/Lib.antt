@@ -1,14 +1,10 @@
--- Lemmas on the checked allocator: inserted pools, refused sizes, its invariant and its parameters.
-mod Edges
+-- Lemmas on the checked allocator: its invariant, its pools, refused sizes and its parameters.
 pub mod FieldsOverSteps
 mod Gathered
 mod Joined
-mod Parts
-mod Pools
-mod Removed
-mod RemovedRanges
-mod RunsByEdges
+mod ListedPools
+mod PoolsOverSteps
+mod RemovedPools
 mod SizeRefusals
-mod ToggledEdges
 mod Unchanged
 mod Validity

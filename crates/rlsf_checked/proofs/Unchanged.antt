@@ -11,7 +11,7 @@ frame_unchanged v = record { aligns = refl; bytes = refl; count = refl; place = 
 
 pub frame_moving_unchanged : (addr : ℕ) (c : Checked) → KeepsCheckedFrameMoving addr c c
 frame_moving_unchanged addr c =
-    record { count = refl; chunks = refl; pool = refl; place = (refl, refl, refl, λ none. none); grow = omega arith; copied = omega arith; grow_copied = omega arith }
+    record { count = refl; chunks = refl; pools = refl; place = (refl, refl, refl, λ none. none); grow = omega arith; copied = omega arith; grow_copied = omega arith }
 
 pub frame_in_place_unchanged : (addr : ℕ) (c : Checked) → KeepsCheckedFrameInPlace addr c c
 frame_in_place_unchanged addr c = record {
@@ -19,7 +19,7 @@ frame_in_place_unchanged addr c = record {
   bytes = λ a apart. refl;
   count = refl;
   chunks = refl;
-  pool = refl;
+  pools = refl;
   place = (refl, refl, refl, λ none. none);
   grow = omega arith;
   copied = refl;
@@ -31,7 +31,7 @@ frame_copying_unchanged addr len c e = record {
   bytes = λ a apart. refl;
   count = refl;
   chunks = refl;
-  pool = refl;
+  pools = refl;
   place = (refl, refl, refl, λ none. none);
   copied = tt;
 }

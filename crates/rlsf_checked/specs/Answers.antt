@@ -1,5 +1,5 @@
 -- The results of the calls, and when each error is returned.
-use Rattle.std.specs.Prelude.{◌≡◌, ◌==◌, ℕ, zero, suc, ◌+◌, ◌^◌, Bool, ◌&&◌, List, length, nat_le, nat_lt, Option, Some}
+use Rattle.std.specs.Prelude.{◌≡◌, ◌==◌, ◌⊎◌, ◌<◌, ◌≤◌, ℕ, zero, suc, ◌+◌, ◌^◌, Bool, true, ◌&&◌, List, length, nat_le, nat_lt, Option, Some}
 use Rattle.std.specs.Prelude.{None, Result, Ok, Err, IfErr, if◌then◌else◌}
 use Rattle.std.specs.declared.num.NonZeroUsize.{NonZeroUsize}
 use Rattle.rlsf_base.specs.declared.memory.range.Range.{Range}
@@ -11,7 +11,7 @@ use Rattle.rlsf_model.specs.Callers.{align_at, bytes_at}
 use Rattle.rlsf_model.specs.Insert.{aligned_part, appended_bytes, bytes_taken, cut}
 use Rattle.rlsf_model.specs.State.{State}
 use Rattle.rlsf_checked.specs.declared.error.CheckedError.{CheckedError}
-use Rattle.rlsf_checked.specs.declared.error.CheckedError.TheVariants.{NoLayout, NoRoom, NotBehind, NotNext, OutOfRange, OutsideMemory, TooShort, UnknownAddress}
+use Rattle.rlsf_checked.specs.declared.error.CheckedError.TheVariants.{NoLayout, NoRoom, NotBehind, NotNext, OutOfMemory, OutOfRange, OutsideMemory, TooShort, UnknownAddress}
 use Rattle.rlsf_checked.specs.Checked.{Checked}
 
 -- an address where no payload has an alignment is refused
@@ -79,8 +79,14 @@ if_taken (Some n) = Ok n
 abbrev pub insert_answer : ℕ → Checked → Range → Result ℕ CheckedError
 insert_answer fllen v r =
     if is_within (range_of v.heap.memory) r then
-    (if nat_lt r.start (end_of v.pool) then Err NotBehind else if_taken (bytes_taken r.start (cut (max_pool_size fllen) (aligned_part r))))
+    (if nat_lt r.start (end_of v.pools.last) then Err NotBehind else if_taken (bytes_taken r.start (cut (max_pool_size fllen) (aligned_part r))))
     else Err OutsideMemory
+
+-- A range is inserted or refused so. Or, if it may be inserted and another pool is the last one, the system has no memory for the list of pools
+abbrev pub IsInsertAnswer : ℕ → Checked → Range → Result ℕ CheckedError → Type 0
+IsInsertAnswer fllen v r result =
+    (result ≡ insert_answer fllen v r)
+    ⊎ ((result ≡ Err OutOfMemory) × (0 < v.pools.last.len) × (is_within (range_of v.heap.memory) r ≡ true) × (end_of v.pools.last ≤ r.start))
 
 -- a range that isn't empty ends at the address
 abbrev pub is_next : Range → ℕ → Bool
@@ -95,5 +101,5 @@ if_appended (suc n) = Ok (suc n)
 -- the number of taken bytes is returned
 abbrev pub append_answer : ℕ → Checked → Range → Result ℕ CheckedError
 append_answer fllen v r =
-    if is_within (range_of v.heap.memory) r then (if is_next v.pool r.start then if_appended (appended_bytes (max_pool_size fllen) r) else Err NotNext)
+    if is_within (range_of v.heap.memory) r then (if is_next v.pools.last r.start then if_appended (appended_bytes (max_pool_size fllen) r) else Err NotNext)
     else Err OutsideMemory

@@ -51,8 +51,8 @@ pub record RefusesUnchanged {A : Type 0} (before after : Checked) (answers : Typ
   pub answer : answers
   -- at an error, chunks, blocks and payloads are as they were
   pub same : OnErr reply (after.heap.state ≡ before.heap.state)
-  -- and so is the last pool
-  pub pool : OnErr reply (after.pool ≡ before.pool)
+  -- and so are the pools
+  pub pools : OnErr reply (after.pools ≡ before.pools)
   -- and each byte of the memory
   pub bytes : OnErr reply (after.heap.memory.bytes ≡ before.heap.memory.bytes)
 
@@ -69,8 +69,8 @@ pub record RefusesUntouched (before after : Checked) (answers : Type 0) (reply :
 pub record KeepsCheckedFrame (before after : Checked) : Type 0 where
   -- the chunks
   pub chunks : after.heap.state.chunks ≡ before.heap.state.chunks
-  -- the last pool
-  pub pool : after.pool ≡ before.pool
+  -- the pools
+  pub pools : after.pools ≡ before.pools
   -- start and length of the memory, and where it lies
   pub place : SamePlace before.heap.memory after.heap.memory
   -- word accesses are only added
@@ -84,8 +84,8 @@ pub record KeepsCheckedFrameMoving (addr : ℕ) (before after : Checked) : Type 
   pub count : live_count after.heap.state ≡ live_count before.heap.state
   -- the chunks
   pub chunks : after.heap.state.chunks ≡ before.heap.state.chunks
-  -- the last pool
-  pub pool : after.pool ≡ before.pool
+  -- the pools
+  pub pools : after.pools ≡ before.pools
   -- start and length of the memory, and where it lies
   pub place : SamePlace before.heap.memory after.heap.memory
   -- word accesses are only added
@@ -105,8 +105,8 @@ pub record KeepsCheckedFrameInPlace (addr : ℕ) (before after : Checked) : Type
   pub count : live_count after.heap.state ≡ live_count before.heap.state
   -- the chunks
   pub chunks : after.heap.state.chunks ≡ before.heap.state.chunks
-  -- the last pool
-  pub pool : after.pool ≡ before.pool
+  -- the pools
+  pub pools : after.pools ≡ before.pools
   -- start and length of the memory, and where it lies
   pub place : SamePlace before.heap.memory after.heap.memory
   -- word accesses are only added
@@ -124,8 +124,8 @@ pub record KeepsCheckedFrameCopying (addr len : ℕ) (before after : Checked) (r
   pub count : live_count after.heap.state ≡ live_count before.heap.state
   -- the chunks
   pub chunks : after.heap.state.chunks ≡ before.heap.state.chunks
-  -- the last pool
-  pub pool : after.pool ≡ before.pool
+  -- the pools
+  pub pools : after.pools ≡ before.pools
   -- start and length of the memory, and where it lies
   pub place : SamePlace before.heap.memory after.heap.memory
   -- if the call succeeds, so many bytes are copied

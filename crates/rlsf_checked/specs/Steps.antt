@@ -1,5 +1,5 @@
 -- Definitions for private functions and the type's invariant.
 pub mod Classes
+pub mod Lists
 pub mod Marks
-pub mod Runs
 pub mod Standing

@@ -16,20 +16,15 @@ impl<
     const FLLEN: usize,
     const SLLEN: usize,
 > CheckedTlsf<FLBitmap, SLBitmap, FLLEN, SLLEN> {
-    /// Returns the totals of the used and free blocks of all pools. The time grows with the number of blocks and with the length of the
-    /// memory, of which one mark in 32 bytes is read.
+    /// Returns the totals of the used and free blocks of all pools. The time grows with the numbers of blocks and pools.
     pub fn totals(&self) -> Totals
         ensures { AreAllTotals self.now result }
     {
-        let (start, end) = self.bounds_of_runs();
-        let mut from = start;
         let mut sum = NO_TOTALS;
-        while from < end {
-            let (blocks, next) = self.next_blocks(from, end);
-            sum = joined(sum, totals_of(blocks));
-            from = next;
+        for pool in &self.pools.earlier {
+            sum = joined(sum, totals_of(self.heap.iter_blocks(*pool)));
         }
-        sum
+        joined(sum, totals_of(self.blocks()))
     }
 
     /// Lists the blocks of all pools that begin at `from` or behind it, in address order, three numbers for each: where it begins, its
@@ -40,15 +35,11 @@ impl<
     pub fn list(&self, from: usize, into: &mut [usize]) -> usize
         ensures { IsListingOfAll self.now from into.old result into.new }
     {
-        let (start, end) = self.bounds_of_runs();
-        let mut place = start;
         let mut count = 0;
-        while place < end {
-            let (blocks, next) = self.next_blocks(place, end);
-            count = list_more(blocks, from, into, count);
-            place = next;
+        for pool in &self.pools.earlier {
+            count = list_more(self.heap.iter_blocks(*pool), from, into, count);
         }
-        count
+        list_more(self.blocks(), from, into, count)
     }
 
     /// Returns the first block, of any pool, that begins at `from` or behind it. Returns `None` exactly if none does. The time grows as
@@ -56,16 +47,12 @@ impl<
     pub fn next_block(&self, from: usize) -> Option<BlockInfo>
         ensures { IsFirstFrom self.now.heap.state from result }
     {
-        let (start, end) = self.bounds_of_runs();
-        let mut place = start;
-        while place < end {
-            let (blocks, next) = self.next_blocks(place, end);
-            if let Some(block) = first_of(blocks, from) {
+        for pool in &self.pools.earlier {
+            if let Some(block) = first_of(self.heap.iter_blocks(*pool), from) {
                 return Some(block);
             }
-            place = next;
         }
-        None
+        first_of(self.blocks(), from)
     }
 }
 

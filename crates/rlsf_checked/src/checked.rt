@@ -21,8 +21,9 @@ ghost use Rattle.rlsf_blocks.specs.Blocks.{AreBlocks, walked};
 ghost use Rattle.rlsf_tlsf.specs.Allocator.{Steps, Stands};
 ghost use Rattle.rlsf_tlsf.specs.Bounds.{KeepsAllBounds, KeepsBounds, TakesRoom};
 ghost use Rattle.rlsf_tlsf.specs.Results.{IsAllocated, IsResized, KeepsFrameOfPools};
-ghost use Rattle.rlsf_checked.specs.Answers.{IsRefusedBy, append_answer, fits, if_in_range, if_live, insert_answer, is_next, is_within, addr_in, refusal_at, taken};
+ghost use Rattle.rlsf_checked.specs.Answers.{IsInsertAnswer, IsRefusedBy, append_answer, fits, if_in_range, if_live, is_next, is_within, addr_in, refusal_at, taken};
 ghost use Rattle.rlsf_checked.specs.declared.error.CheckedError.TheVariants.{InvalidClasses, NoRoom, OutOfMemory, UnknownAddress};
+ghost use Rattle.rlsf_checked.specs.Pools.{no_pools, with_longer_last, with_pool};
 ghost use Rattle.rlsf_checked.specs.Results.{IsDeallocatedIfLive, IsReallocatedSameAlign, RefusesUnchanged, RefusesUntouched};
 ghost use Rattle.rlsf_checked.specs.Results.{KeepsCheckedFrame, KeepsCheckedFrameInPlace, KeepsCheckedFrameMoving};
 ghost use Rattle.rlsf_checked.specs.Sizing.{AddsRoom, KeepsBoundsSameAlign, KeepsRoom, TakesRoomAgain};
@@ -31,8 +32,8 @@ use crate::bytes::write_at;
 use crate::classes::are_valid;
 use crate::error::CheckedError;
 use crate::marks::{Marks, align_of, mark_of};
+use crate::pools::Pools;
 use rlsf_base::memory::{Addr, Layout, Memory, Range};
-use rlsf_base::rounding::next_multiple_of_32;
 use rlsf_blocks::{BlockInfo, Blocks};
 use rlsf_int::{BitPattern, Bitmap};
 use rlsf_tlsf::Tlsf;
@@ -42,8 +43,8 @@ use std::marker::Model;
 /// An allocator whose calls have no preconditions: each call tests its arguments, and refuses those that a caller may not pass.
 ///
 /// A mark is a byte for each 16 addresses of the memory. It records whether a payload begins there, and with which alignment. Each call
-/// reads one mark and writes at most two. The byte's highest bit is set where a run of contiguous chunks begins or ends, so that the blocks
-/// of all pools can be found. After `new`, the allocator requests nothing from the system.
+/// reads one mark and writes at most two. The pools are listed, so that the blocks of all of them can be found. After `new`, only `insert`
+/// requests memory from the system, for the list of pools, and not for the first pool.
 ///
 /// The documentation of a call bounds its cost in word accesses, as that of `Tlsf` defines them. Reads and writes of marks aren't counted.
 #[derive(Drop)]
@@ -55,20 +56,20 @@ pub struct CheckedTlsf<
 > {
     pub(crate) heap: Tlsf<FLBitmap, SLBitmap, FLLEN, SLLEN>,
     pub(crate) marks: Marks,
-    // The last pool, up to the end of its last chunk.
-    pub(crate) pool: Range,
+    pub(crate) pools: Pools,
 }
 
 impl<FLBitmap: BitPattern, SLBitmap: BitPattern, const FLLEN: usize, const SLLEN: usize> Model
     for CheckedTlsf<FLBitmap, SLBitmap, FLLEN, SLLEN> {
     ghost use Rattle.rlsf_checked.specs.Checked.{Checked, checked};
+    ghost use Rattle.rlsf_checked.specs.Steps.Lists.{listed};
     ghost use Rattle.rlsf_checked.specs.Steps.Standing.{IsChecked};
 
     ghost Value = { Checked };
 
-    ghost view = { λ t. checked t.heap t.pool };
+    ghost view = { λ t. checked t.heap (listed t.pools) };
 
-    ghost invariant = { λ t. IsChecked FLLEN SLLEN t.heap t.marks t.pool };
+    ghost invariant = { λ t. IsChecked FLLEN SLLEN t.heap t.marks (listed t.pools) };
 }
 
 impl<FLBitmap: Bitmap, SLBitmap: Bitmap, const FLLEN: usize, const SLLEN: usize> CheckedTlsf<
@@ -94,7 +95,7 @@ impl<FLBitmap: Bitmap, SLBitmap: Bitmap, const FLLEN: usize, const SLLEN: usize>
         ensures state { IfOk result (λ t. t.heap.state ≡ empty) }
         ensures live { IfOk result (λ t. (live_count t.heap.state ≡ 0) × (live_bytes t.heap.state ≡ 0)) }
         ensures memory { IfOk result (λ t. t.heap.memory ≡ memory) }
-        ensures pool { IfOk result (λ t. t.pool ≡ range_at memory.start 0) }
+        ensures pools { IfOk result (λ t. t.pools ≡ no_pools memory.start) }
         ensures stands { IfOk result (λ t. Stands FLLEN SLLEN t.heap) }
     {
         if !are_valid::<FLBitmap, SLBitmap, FLLEN, SLLEN>() {
@@ -103,14 +104,11 @@ impl<FLBitmap: Bitmap, SLBitmap: Bitmap, const FLLEN: usize, const SLLEN: usize>
         let Some(marks) = Marks::new(alloc, &memory) else {
             return Err(CheckedError::OutOfMemory);
         };
-        let pool = Range {
-            start: memory.start(),
-            len: 0,
-        };
+        let pools = Pools::new(alloc, memory.start());
         Ok(CheckedTlsf {
             heap: Tlsf::new(memory),
             marks,
-            pool,
+            pools,
         })
     }
 }
@@ -157,34 +155,36 @@ impl<
     ///
     /// - `OutsideMemory` exactly if the range doesn't lie in the memory.
     /// - else `NotBehind` exactly if the range begins before the end of the last pool.
+    /// - else `OutOfMemory` if another pool is the last one and the system is out of memory for the list of pools.
     /// - else `TooShort` exactly if no chunk can be made of the range.
     ///
     /// At most 13 word accesses for each chunk that it makes. No byte is copied.
     pub fn insert(&mut self, range: Range) -> Result<usize, CheckedError>
         ensures step { OnOk result (Steps FLLEN SLLEN self.old.heap self.new.heap (Inserts FLLEN self.old.heap.state range (taken result))) }
-        ensures result { IfOk result (λ n. self.new.pool ≡ range_at range.start n) }
+        ensures result { IfOk result (λ n. self.new.pools ≡ with_pool self.old.pools (range_at range.start n)) }
         ensures room { AddsRoom FLLEN SLLEN range self.old.heap.state self.new.heap.state result }
         ensures bounds { KeepsAllBounds SLLEN self.old.heap.state self.new.heap.state }
-        ensures refused { RefusesUnchanged self.old self.new (result ≡ insert_answer FLLEN self.old range) result }
+        ensures refused { RefusesUnchanged self.old self.new (IsInsertAnswer FLLEN self.old range result) result }
         ensures frame { KeepsFrameOfPools self.old.heap self.new.heap }
         ensures touches { self.new.heap.memory.touches ≤ self.old.heap.memory.touches + 13 * length (cut (max_pool_size FLLEN) (aligned_part range)) }
     {
         if !lies_in(self.heap.memory_ref(), range) {
             return Err(CheckedError::OutsideMemory);
         }
-        if range.start < self.pool.start + self.pool.len {
+        if range.start < self.pools.last.start + self.pools.last.len {
             return Err(CheckedError::NotBehind);
+        }
+        if !self.pools.reserve() {
+            return Err(CheckedError::OutOfMemory);
         }
         let Some(taken) = self.heap.insert_free_block_ptr(range) else {
             return Err(CheckedError::TooShort);
         };
         let len = taken.get();
-        self.pool = Range {
+        self.pools.add(Range {
             start: range.start,
             len,
-        };
-        self.marks.flip(next_multiple_of_32(range.start));
-        self.marks.flip(range.start + len);
+        });
         Ok(len)
     }
 
@@ -203,7 +203,7 @@ impl<
     /// At most 13 word accesses for each chunk that it makes, and at most 34 if a chunk grows. No byte is copied.
     pub fn append(&mut self, range: Range) -> Result<usize, CheckedError>
         ensures step { IfOk result (λ n. Steps FLLEN SLLEN self.old.heap self.new.heap (Appends FLLEN self.old.heap.state range n)) }
-        ensures result { IfOk result (λ n. self.new.pool ≡ range_at self.old.pool.start (self.old.pool.len + n)) }
+        ensures result { IfOk result (λ n. self.new.pools ≡ with_longer_last self.old.pools n) }
         ensures bounds { KeepsAllBounds SLLEN self.old.heap.state self.new.heap.state }
         ensures room { KeepsRoom SLLEN self.old.heap.state self.new.heap.state }
         ensures refused { RefusesUnchanged self.old self.new (result ≡ append_answer FLLEN self.old range) result }
@@ -214,7 +214,7 @@ impl<
         if !lies_in(self.heap.memory_ref(), range) {
             return Err(CheckedError::OutsideMemory);
         }
-        let pool = self.pool;
+        let pool = self.pools.last;
         if !is_next(pool.start, pool.len, range.start) {
             return Err(CheckedError::NotNext);
         }
@@ -222,12 +222,7 @@ impl<
         if taken == 0 {
             return Err(CheckedError::TooShort);
         }
-        self.pool = Range {
-            start: pool.start,
-            len: pool.len + taken,
-        };
-        self.marks.flip(range.start);
-        self.marks.flip(range.start + taken);
+        self.pools.extend(taken);
         Ok(taken)
     }
 
@@ -390,10 +385,10 @@ impl<
     ///
     /// Completes in constant time. So does each step of the iteration, whose reads are not counted as word accesses.
     pub fn blocks(&self) -> Blocks<'_>
-        ensures blocks { AreBlocks self.now.heap.state (walked self.now.pool) result }
+        ensures blocks { AreBlocks self.now.heap.state (walked self.now.pools.last) result }
         ensures runs { GivesInOrder BlockInfo }
     {
-        self.heap.iter_blocks(self.pool)
+        self.heap.iter_blocks(self.pools.last)
     }
 
     /// Reads `bytes.len()` bytes of a payload into `bytes`, from an offset on.

@@ -1,11 +1,12 @@
 //! The errors of the checked allocator.
 
-/// Why a call was refused. Each error has a number. If more than one applies, the call returns the first of them in this order.
+/// Why a call was refused. Each error has a number. If more than one applies, the call returns the first of them in this order, but
+/// `OutOfMemory` of `insert` comes after `NotBehind`.
 #[derive(Clone, Copy, Debug, PartialEq, Eq)]
 pub enum CheckedError {
     /// The numbers of first-level rows and of classes in a row are not valid for the bitmaps.
     InvalidClasses = 1,
-    /// The system is out of memory for the marks.
+    /// The system is out of memory for the marks or for the list of pools.
     OutOfMemory = 2,
     /// No payload is live at the address.
     UnknownAddress = 3,
@@ -25,6 +26,6 @@ pub enum CheckedError {
     NoRoom = 10,
     /// A block of the range is used. The numbers between are those of the library for C.
     InUse = 15,
-    /// The range isn't complete contiguous chunks.
+    /// The range isn't a pool.
     NotChunks = 16,
 }

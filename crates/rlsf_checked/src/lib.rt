@@ -2,9 +2,8 @@
 //!
 //! Read `specs/Checked` (the allocator as contracts see it) and `specs/Answers` (when each error is returned) first, then `src/checked`, which
 //! has most calls. `src/removal` removes pools, and `src/bytes` copies and fills the bytes of payloads. `src/error` has the errors.
-//! `src/marks` keeps a mark for each address at which a payload may be, and an edge where contiguous chunks begin or end. `src/runs` and
-//! `src/all_blocks` find the blocks of all pools by these. `src/classes` and `src/lengths` test parameters and lengths. `specs/Steps` is for
-//! private functions.
+//! `src/marks` keeps a mark for each address at which a payload may be, and `src/pools` the list of pools. `src/all_blocks` has the calls over
+//! the blocks of all pools. `src/classes` and `src/lengths` test parameters and lengths. `specs/Steps` is for private functions.
 #![tactic(auto)]
 
 mod all_blocks;
@@ -14,8 +13,8 @@ mod classes;
 mod error;
 mod lengths;
 mod marks;
+mod pools;
 mod removal;
-mod runs;
 
 pub use checked::CheckedTlsf;
 pub use error::CheckedError;

@@ -18,8 +18,9 @@ use Rattle.rlsf_model.specs.Reallocate.{Reallocates}
 use Rattle.rlsf_model.specs.State.{State, empty}
 use Rattle.rlsf_tlsf.specs.Results.{IsAllocated, KeepsFrameOfPools}
 use Rattle.rlsf_tlsf.specs.Results as tlsf
-use Rattle.rlsf_checked.specs.Answers.{IsRefusedBy, append_answer, fits, if_in_range, if_live, insert_answer, addr_in as addr_in_result, size_refusal}
-use Rattle.rlsf_checked.specs.Checked.{Checked}
+use Rattle.rlsf_checked.specs.Answers.{IsInsertAnswer, IsRefusedBy, append_answer, fits, if_in_range, if_live, insert_answer, addr_in as addr_in_result, size_refusal}
+use Rattle.rlsf_checked.specs.Checked.{Checked, PoolList}
+use Rattle.rlsf_checked.specs.Pools.{with_longer_last, with_pool}
 use Rattle.rlsf_checked.specs.Results.{IsDeallocatedIfLive, IsReallocatedSameAlign, RefusesUnchanged, RefusesUntouched}
 use Rattle.rlsf_checked.specs.Results.{KeepsCheckedFrame, KeepsCheckedFrameInPlace, KeepsCheckedFrameMoving}
 use Rattle.rlsf_checked.specs.declared.error.CheckedError.{CheckedError}
@@ -27,7 +28,7 @@ use Rattle.rlsf_checked.specs.declared.error.CheckedError.TheVariants.{InvalidCl
 use Rattle.rlsf_checked.specs.declared.error.CheckedError.TheVariants.{NoLayout, NoRoom, InUse, NotChunks}
 use Rattle.rlsf_pool.specs.Answers.{answer_of, code_of, number_of, place_of, addr_in, refused_by}
 use Rattle.rlsf_pool.specs.Calls.{Allocates, Appends, Frees, Inserts, IsKept, IsKeptBut, IsResized, IsToldBy, Reads, Resizes, ResizesThere, Tells, Writes, reach}
-use Rattle.rlsf_pool.specs.Seen.{Seen, seen_in}
+use Rattle.rlsf_pool.specs.Seen.{Seen, nothing, seen_in}
 
 -- ---- errors
 
@@ -71,25 +72,25 @@ addr_in-same (Err e) = sym (addr_in-refused e)
 pub same_range : (m n : Space) → SamePlace m n → range_of n ≡ range_of m
 same_range m n place = ap₂ range_at place.0 place.1
 
-abbrev seen_at : ℕ → State → Range → Range → Seen
-seen_at classes state memory pool = record { classes = classes; state = state; memory = memory; pool = pool }
+abbrev seen_at : ℕ → State → Range → PoolList → Seen
+seen_at classes state memory pools = record { classes = classes; state = state; memory = memory; pools = pools }
 
-pub same_seen : (sllen : ℕ) (old new : Checked) → new.heap.state ≡ old.heap.state → new.pool ≡ old.pool → SamePlace old.heap.memory new.heap.memory
+pub same_seen : (sllen : ℕ) (old new : Checked) → new.heap.state ≡ old.heap.state → new.pools ≡ old.pools → SamePlace old.heap.memory new.heap.memory
     → seen_in sllen new ≡ seen_in sllen old
 same_seen sllen old new state pool place =
-    ap (λ s. seen_at sllen s (range_of new.heap.memory) new.pool) state
-    ∙ ap (λ r. seen_at sllen old.heap.state r new.pool) (same_range old.heap.memory new.heap.memory place)
+    ap (λ s. seen_at sllen s (range_of new.heap.memory) new.pools) state
+    ∙ ap (λ r. seen_at sllen old.heap.state r new.pools) (same_range old.heap.memory new.heap.memory place)
     ∙ ap (λ p. seen_at sllen old.heap.state (range_of old.heap.memory) p) pool
 
-pub kept_but : (sllen : ℕ) (old new : Checked) (addr : ℕ) → SamePlace old.heap.memory new.heap.memory → new.pool ≡ old.pool
+pub kept_but : (sllen : ℕ) (old new : Checked) (addr : ℕ) → SamePlace old.heap.memory new.heap.memory → new.pools ≡ old.pools
     → ((a : ℕ) → a ≢ addr → align_at new.heap.state a ≡ align_at old.heap.state a)
     → ((a : ℕ) → a ≢ addr → bytes_at new.heap.state a ≡ bytes_at old.heap.state a)
     → IsKeptBut addr (seen_in sllen old) (seen_in sllen new)
 kept_but sllen old new addr place pool aligns bytes =
-    record { classes = refl; memory = same_range old.heap.memory new.heap.memory place; pool = pool; aligns = aligns; bytes = bytes }
+    record { classes = refl; memory = same_range old.heap.memory new.heap.memory place; pools = pool; aligns = aligns; bytes = bytes }
 
 pub kept_same : (addr : ℕ) (v : Seen) → IsKeptBut addr v v
-kept_same addr v = record { classes = refl; memory = refl; pool = refl; aligns = λ a apart. refl; bytes = λ a apart. refl }
+kept_same addr v = record { classes = refl; memory = refl; pools = refl; aligns = λ a apart. refl; bytes = λ a apart. refl }
 
 -- where there is no allocator, nothing is live
 pub none_in_empty : (addr : ℕ) → align_at empty addr ≡ None
@@ -98,14 +99,14 @@ none_in_empty addr = refl
 
 -- ---- ranges
 
--- the last range, of which an answer has the length
-pool_if : (old new pool : Range) (make : ℕ → Range) (r : Result ℕ CheckedError) → IfOk r (λ n. new ≡ make n) → (answer_of r).error ≡ 0
+-- the ranges, of which an answer has the length of the last one
+pools_if : (new : PoolList) (make : ℕ → PoolList) (r : Result ℕ CheckedError) → IfOk r (λ n. new ≡ make n) → (answer_of r).error ≡ 0
     → new ≡ make (answer_of r).value
-pool_if old new pool make (Ok n) made none = made
-pool_if old new pool make (Err e) made none = absurd (number_of-some e none)
+pools_if new make (Ok n) made none = made
+pools_if new make (Err e) made none = absurd (number_of-some e none)
 
 -- and where it is an error
-same_if : (sllen : ℕ) (old new : Checked) (r : Result ℕ CheckedError) → OnErr r (new.heap.state ≡ old.heap.state) → OnErr r (new.pool ≡ old.pool)
+same_if : (sllen : ℕ) (old new : Checked) (r : Result ℕ CheckedError) → OnErr r (new.heap.state ≡ old.heap.state) → OnErr r (new.pools ≡ old.pools)
     → SamePlace old.heap.memory new.heap.memory
     → (answer_of r).error ≢ 0 → seen_in sllen new ≡ seen_in sllen old
 same_if sllen old new (Ok n) same pool place some = absurd (some refl)
@@ -116,23 +117,32 @@ pub kept_all : (sllen : ℕ) (old new : Checked) → KeepsFrameOfPools old.heap 
 kept_all sllen old new kept =
     record { classes = refl; memory = same_range old.heap.memory new.heap.memory kept.place; aligns = kept.aligns; bytes = kept.bytes }
 
+-- where there is no allocator, a range is outside of the memory
+pub none_inserted : (r : Range) → Inserts (Err OutsideMemory) nothing r (refused_by OutsideMemory) nothing
+none_inserted r = record {
+  told = inl refl;
+  kept = record { classes = refl; memory = refl; aligns = refl; bytes = refl };
+  pools = λ e. absurd (number_of-some OutsideMemory e);
+  same = λ some. refl;
+}
+
 module _ (fllen sllen : ℕ) (old new : Checked) (range : Range) (r : Result ℕ CheckedError) (kept : KeepsFrameOfPools old.heap new.heap) where
-  pub inserted : IfOk r (λ n. new.pool ≡ range_at range.start n) → RefusesUnchanged old new (r ≡ insert_answer fllen old range) r
-      → Inserts (insert_answer fllen old range) (seen_in sllen old) range.start (answer_of r) (seen_in sllen new)
-  inserted pool refused = record {
-    told = ap answer_of refused.answer;
+  pub inserted : IfOk r (λ n. new.pools ≡ with_pool old.pools (range_at range.start n)) → RefusesUnchanged old new (IsInsertAnswer fllen old range r) r
+      → Inserts (insert_answer fllen old range) (seen_in sllen old) range (answer_of r) (seen_in sllen new)
+  inserted pools refused = record {
+    told = elim refused.answer [ inl e ↦ inl (ap answer_of e) | inr (e, some, within, behind) ↦ inr (ap answer_of e, (some, within, behind)) ];
     kept = kept_all sllen old new kept;
-    pool = pool_if old.pool new.pool old.pool (λ n. range_at range.start n) r pool;
-    same = same_if sllen old new r refused.same refused.pool kept.place;
+    pools = pools_if new.pools (λ n. with_pool old.pools (range_at range.start n)) r pools;
+    same = same_if sllen old new r refused.same refused.pools kept.place;
   }
 
-  pub appended : IfOk r (λ n. new.pool ≡ range_at old.pool.start (old.pool.len + n)) → RefusesUnchanged old new (r ≡ append_answer fllen old range) r
+  pub appended : IfOk r (λ n. new.pools ≡ with_longer_last old.pools n) → RefusesUnchanged old new (r ≡ append_answer fllen old range) r
       → Appends (append_answer fllen old range) (seen_in sllen old) (answer_of r) (seen_in sllen new)
-  appended pool refused = record {
+  appended pools refused = record {
     told = ap answer_of refused.answer;
     kept = kept_all sllen old new kept;
-    pool = pool_if old.pool new.pool old.pool (λ n. range_at old.pool.start (old.pool.len + n)) r pool;
-    same = same_if sllen old new r refused.same refused.pool kept.place;
+    pools = pools_if new.pools (λ n. with_longer_last old.pools n) r pools;
+    same = same_if sllen old new r refused.same refused.pools kept.place;
   }
 
 -- ---- payloads that are new
@@ -146,7 +156,7 @@ allocated sllen old new size align layout (Ok addr) step is refused kept = recor
   errors = inl refl;
   step = λ l. step;
   new = λ e.
-      record { new = is.new; live = is.live; sized = is.sized; few = is.few; kept = kept_but sllen old new (at addr) kept.place kept.pool is.aligns is.bytes };
+      record { new = is.new; live = is.live; sized = is.sized; few = is.few; kept = kept_but sllen old new (at addr) kept.place kept.pools is.aligns is.bytes };
   same = λ some. absurd (some refl);
 }
 allocated sllen old new size align layout (Err e) step is refused kept =
@@ -155,7 +165,7 @@ allocated sllen old new size align layout (Err e) step is refused kept =
       errors = inr (inr refl);
       step = λ l. step;
       new = λ e. absurd (number_of-some NoRoom e);
-      same = λ some. same_seen sllen old new refused.same kept.pool kept.place;
+      same = λ some. same_seen sllen old new refused.same kept.pools kept.place;
     } in subst (λ d. Allocates (seen_in sllen old) size align (refused_by d) (seen_in sllen new)) (sym refused.answer) is_full
 
 -- ---- payloads that go
@@ -170,7 +180,7 @@ pub freed : (sllen : ℕ) (old new : Checked) (addr : ℕ) (r : Result (Unit {0}
 freed sllen old new addr r is refused kept = record {
   told = ap code_of refused.answer;
   gone = is.gone;
-  kept = kept_but sllen old new addr kept.place kept.pool is.aligns is.bytes;
+  kept = kept_but sllen old new addr kept.place kept.pools is.aligns is.bytes;
   same = same_unless sllen old new r refused.same;
 }
 
@@ -195,7 +205,7 @@ module _ (sllen : ℕ) (old new : Checked) (addr size : ℕ) where
   Refuses r = RefusesUnchanged old new (IsRefusedBy (size_refusal (align_at old.heap.state addr) size) r) r
 
   -- after an error all is as it was
-  same_placed : (r : Result NonZeroUsize CheckedError) → new.pool ≡ old.pool → SamePlace old.heap.memory new.heap.memory → OnErr r (new.heap.state ≡ old.heap.state)
+  same_placed : (r : Result NonZeroUsize CheckedError) → new.pools ≡ old.pools → SamePlace old.heap.memory new.heap.memory → OnErr r (new.heap.state ≡ old.heap.state)
       → (place_of r).error ≢ 0 → seen_in sllen new ≡ seen_in sllen old
   same_placed (Ok to) pool place same some = absurd (some refl)
   same_placed (Err e) pool place same some = same_seen sllen old new same pool place
@@ -208,7 +218,7 @@ module _ (sllen : ℕ) (old new : Checked) (addr size : ℕ) where
     told = told_by (size_refusal (align_at old.heap.state addr) size) r refused.answer;
     step = λ none. subst (λ o. Reallocates sllen old.heap.state addr size o new.heap.state) (addr_in-same r) (step none);
     resized = moved r is;
-    same = same_placed r kept.pool kept.place refused.same;
+    same = same_placed r kept.pools kept.place refused.same;
   }
     where
       moved : (r : Result NonZeroUsize CheckedError) → IfOk r (λ to. IsReallocatedSameAlign old.heap.state new.heap.state addr size (at to)) → (place_of r).error ≡ 0
@@ -224,7 +234,7 @@ module _ (sllen : ℕ) (old new : Checked) (addr size : ℕ) where
         bytes = is.bytes;
         classes = refl;
         memory = same_range old.heap.memory new.heap.memory kept.place;
-        pool = kept.pool;
+        pools = kept.pools;
       }
       moved (Err d) is e = absurd (number_of-some d e)
 
@@ -237,7 +247,7 @@ module _ (sllen : ℕ) (old new : Checked) (addr size : ℕ) where
     step = λ none. subst (λ o. ReallocatesWithoutMove old.heap.state addr size o new.heap.state) (addr_in-same r) (step none);
     there = stays r is;
     resized = stayed r is;
-    same = same_placed r kept.pool kept.place refused.same;
+    same = same_placed r kept.pools kept.place refused.same;
   }
     where
       stays : (r : Result NonZeroUsize CheckedError) → IfOk r (λ to. tlsf.IsResized old.heap.state new.heap.state addr size (at to)) → (place_of r).error ≡ 0
@@ -258,7 +268,7 @@ module _ (sllen : ℕ) (old new : Checked) (addr size : ℕ) where
         bytes = λ a apart apart'. kept.bytes a apart;
         classes = refl;
         memory = same_range old.heap.memory new.heap.memory kept.place;
-        pool = kept.pool;
+        pools = kept.pools;
       }
       stayed (Err d) is e = absurd (number_of-some d e)
 
@@ -316,7 +326,7 @@ on_refused A (Err d) did some = did
 
 -- a call that writes bytes of one payload keeps the others
 pub kept_only : (sllen : ℕ) (old new : Checked) (addr : ℕ) → KeepsCheckedFrameInPlace addr old new → IsKeptBut addr (seen_in sllen old) (seen_in sllen new)
-kept_only sllen old new addr kept = kept_but sllen old new addr kept.place kept.pool (λ a apart. ap (λ f. f a) kept.aligns) kept.bytes
+kept_only sllen old new addr kept = kept_but sllen old new addr kept.place kept.pools (λ a apart. ap (λ f. f a) kept.aligns) kept.bytes
 
 pub written : (sllen : ℕ) (old new : Checked) (addr offset : ℕ) (bytes : List ℕ) (r : Result (Unit {0}) CheckedError)
     → OnOk r (bytes_at new.heap.state addr ≡ splice (bytes_at old.heap.state addr) offset (offset + length bytes) bytes)

@@ -5,8 +5,6 @@ use Rattle.std.proofs.lemmas.Bool.{false≢true}
 use Rattle.std.proofs.lemmas.Option.{none-some}
 use Rattle.std.specs.Prelude.{IsSome, OnOk}
 use Rattle.rlsf_base.specs.declared.memory.range.Range.{Range}
-use Rattle.rlsf_base.specs.Range.{range_at}
-use Rattle.rlsf_base.specs.Space.{range_of}
 use Rattle.rlsf_blocks.specs.Blocks.{walked}
 use Rattle.rlsf_model.specs.Callers.{align_at, bytes_at, copied_over}
 use Rattle.rlsf_model.specs.Remove.{IsIdle, Removes}
@@ -15,7 +13,8 @@ use Rattle.rlsf_tlsf.specs.Allocator.{Steps}
 use Rattle.rlsf_tlsf.specs.Results.{KeepsFrameOfPools}
 use Rattle.rlsf_checked.specs.Answers.{both_have, copy_answer, if_both_in_range, if_live}
 use Rattle.rlsf_checked.specs.Checked.{Checked}
-use Rattle.rlsf_checked.specs.Removal.{AreChunks, IsRemovalOf, pool_without}
+use Rattle.rlsf_checked.specs.Pools.{without_last, without_pool_at}
+use Rattle.rlsf_checked.specs.Removal.{IsRemovalOf}
 use Rattle.rlsf_checked.specs.Results.{KeepsCheckedFrameCopying, KeepsCheckedFrameInPlace, RefusesUntouched}
 use Rattle.rlsf_checked.specs.declared.error.CheckedError.{CheckedError}
 use Rattle.rlsf_checked.specs.declared.error.CheckedError.TheVariants.{NotChunks, UnknownAddress}
@@ -35,7 +34,7 @@ copied sllen old new from to len r did refused kept = record {
   told = ap code_of refused.answer;
   copied = on_done (bytes_at new.heap.state to ≡ copied_over old.heap.state from to len) r did;
   aligns = kept.aligns;
-  kept = kept_but sllen old new to kept.place kept.pool (λ a apart. ap (λ f. f a) kept.aligns) kept.bytes;
+  kept = kept_but sllen old new to kept.place kept.pools (λ a apart. ap (λ f. f a) kept.aligns) kept.bytes;
   same = same_unless sllen old new r refused.same;
 }
 
@@ -96,23 +95,23 @@ nothing_zeroed size align answer did = none_zeroed nothing nothing size align an
 
 -- ---- removals
 
-pub removed : (sllen : ℕ) (old new : Checked) (b : Bool) → (b ≡ true → Removes old.heap.state (walked old.pool) new.heap.state)
-    → (b ≡ true → new.pool ≡ range_at old.pool.start 0) → ((b ≡ true) ↔ IsIdle old.heap.state (walked old.pool)) → (b ≡ false → new ≡ old)
+pub removed : (sllen : ℕ) (old new : Checked) (b : Bool) → (b ≡ true → Removes old.heap.state (walked old.pools.last) new.heap.state)
+    → (b ≡ true → new.pools ≡ without_last old.pools) → ((b ≡ true) ↔ IsIdle old.heap.state (walked old.pools.last)) → (b ≡ false → new ≡ old)
     → KeepsFrameOfPools old.heap new.heap → RemovesLast (seen_in sllen old) (cond b 0 15) (seen_in sllen new)
-removed sllen old new true step pool idle same kept = record {
+removed sllen old new true step pools idle same kept = record {
   errors = inl refl;
   idle = (λ e. idle.0 refl, λ i. refl);
   step = λ e. step refl;
   kept = kept_all sllen old new kept;
-  pool = λ e. pool refl;
+  pools = λ e. pools refl;
   same = λ some. absurd (some refl);
 }
-removed sllen old new false step pool idle same kept = record {
+removed sllen old new false step pools idle same kept = record {
   errors = inr refl;
   idle = (λ e. absurd (omega (arith, e)), λ i. absurd (false≢true (idle.1 i)));
   step = λ e. absurd (omega (arith, e));
   kept = kept_all sllen old new kept;
-  pool = λ e. absurd (omega (arith, e));
+  pools = λ e. absurd (omega (arith, e));
   same = λ some. ap (seen_in sllen) (same refl);
 }
 
@@ -122,7 +121,7 @@ none_removed = record {
   idle = (λ e a low high. refl, λ i. refl);
   step = λ e. refl;
   kept = record { classes = refl; memory = refl; aligns = refl; bytes = refl };
-  pool = λ e. refl;
+  pools = λ e. refl;
   same = λ some. refl;
 }
 
@@ -133,26 +132,23 @@ step_if fllen sllen old new range (Ok x) step = step_of fllen sllen old.heap new
 step_if fllen sllen old new range (Err e) step = tt
 
 pub range_removed : (fllen sllen : ℕ) (old new : Checked) (range : Range) (r : Result (Unit {0}) CheckedError)
-    → OnOk r (Steps fllen sllen old.heap new.heap (Removes old.heap.state (walked range))) → OnOk r (new.pool ≡ pool_without old.pool (walked range))
-    → RefusesUntouched old new (IsRemovalOf (range_of old.heap.memory) old.heap.state range r) r → KeepsFrameOfPools old.heap new.heap
+    → OnOk r (Steps fllen sllen old.heap new.heap (Removes old.heap.state (walked range))) → OnOk r (new.pools ≡ without_pool_at old.pools range.start)
+    → RefusesUntouched old new (IsRemovalOf old.pools old.heap.state range r) r → KeepsFrameOfPools old.heap new.heap
     → RemovesRange (seen_in sllen old) range (code_of r) (seen_in sllen new)
-range_removed fllen sllen old new range r step pool refused kept = record {
+range_removed fllen sllen old new range r step pools refused kept = record {
   told = (r, refl, refused.answer);
   step = on_done (Removes old.heap.state (walked range) new.heap.state) r (step_if fllen sllen old new range r step);
   kept = kept_all sllen old new kept;
-  pool = on_done (new.pool ≡ pool_without old.pool (walked range)) r pool;
+  pools = on_done (new.pools ≡ without_pool_at old.pools range.start) r pools;
   same = same_unless sllen old new r refused.same;
 }
 
--- where there is no allocator, no range is chunks
-no_chunks : (r : Range) → AreChunks (nothing).memory (nothing).state r → ⊥
-no_chunks r are = let (c, i, from, begins, ends, up_to) = are.row (walked r).start (omega arith) (omega (arith, are.some)) in absurd i
-
+-- where there is no allocator, no range was inserted
 pub no_range_removed : (r : Range) → RemovesRange nothing r (number_of NotChunks) nothing
 no_range_removed r = record {
-  told = (Err NotChunks, refl, inl (refl, no_chunks r));
+  told = (Err NotChunks, refl, inl (refl, λ i. i));
   step = λ e. absurd (number_of-some NotChunks e);
   kept = record { classes = refl; memory = refl; aligns = refl; bytes = refl };
-  pool = λ e. absurd (number_of-some NotChunks e);
+  pools = λ e. absurd (number_of-some NotChunks e);
   same = λ some. refl;
 }

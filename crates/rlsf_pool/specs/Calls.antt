@@ -1,8 +1,8 @@
 -- What the calls return, and what they do to the map of live payloads.
-use Rattle.std.specs.Prelude.{◌≡◌, ◌≢◌, ◌⊎◌, ◌↔◌, ℕ, ◌+◌, ◌<◌, ◌≤◌, List, length, take, drop, replicate, Option, Some, None, Result}
+use Rattle.std.specs.Prelude.{◌≡◌, ◌≢◌, ◌⊎◌, ◌↔◌, ℕ, ◌+◌, ◌<◌, ◌≤◌, true, List, length, take, drop, replicate, Option, Some, None, Result}
 use Rattle.std.specs.List.{splice}
 use Rattle.rlsf_base.specs.declared.memory.range.Range.{Range}
-use Rattle.rlsf_base.specs.Range.{range_at}
+use Rattle.rlsf_base.specs.Range.{end_of, range_at}
 use Rattle.rlsf_base.specs.Layout.{IsLayout}
 use Rattle.rlsf_model.specs.Allocate as machine
 use Rattle.rlsf_blocks.specs.Blocks.{walked}
@@ -11,11 +11,13 @@ use Rattle.rlsf_model.specs.NoMove.{ReallocatesWithoutMove}
 use Rattle.rlsf_model.specs.Reallocate.{Keeps, Reallocates}
 use Rattle.rlsf_model.specs.Remove.{IsIdle, Removes}
 use Rattle.rlsf_model.specs.Run.{Fills}
-use Rattle.rlsf_checked.specs.Answers.{copy_answer, fits, if_in_range, if_live, size_refusal}
-use Rattle.rlsf_checked.specs.Removal.{IsRemovalOf, pool_without}
+use Rattle.rlsf_checked.specs.Answers.{copy_answer, fits, if_in_range, if_live, is_within, size_refusal}
+use Rattle.rlsf_checked.specs.Pools.{with_longer_last, with_pool, without_last, without_pool_at}
+use Rattle.rlsf_checked.specs.Removal.{IsRemovalOf}
 use Rattle.rlsf_checked.specs.declared.error.CheckedError.{CheckedError}
+use Rattle.rlsf_checked.specs.declared.error.CheckedError.TheVariants.{OutOfMemory}
 use Rattle.rlsf_pool.specs.declared.answers.Answer.{Answer}
-use Rattle.rlsf_pool.specs.Answers.{answer_of, code_of, number_of, addr_in}
+use Rattle.rlsf_pool.specs.Answers.{answer_of, code_of, number_of, addr_in, refused_by}
 use Rattle.rlsf_pool.specs.Seen.{Seen}
 
 -- all payloads stay, with their alignments and their bytes
@@ -25,26 +27,30 @@ pub record IsKept (before after : Seen) : Type 0 where
   pub aligns : align_at after.state ≡ align_at before.state
   pub bytes : bytes_at after.state ≡ bytes_at before.state
 
--- all payloads except the one at an address stay, and so does the last range
+-- all payloads except the one at an address stay, and so do the ranges
 pub record IsKeptBut (addr : ℕ) (before after : Seen) : Type 0 where
   pub classes : after.classes ≡ before.classes
   pub memory : after.memory ≡ before.memory
-  pub pool : after.pool ≡ before.pool
+  pub pools : after.pools ≡ before.pools
   pub aligns : (a : ℕ) → a ≢ addr → align_at after.state a ≡ align_at before.state a
   pub bytes : (a : ℕ) → a ≢ addr → bytes_at after.state a ≡ bytes_at before.state a
 
--- a range is inserted: what is returned, and the last range then
-pub record Inserts (expected : Result ℕ CheckedError) (before : Seen) (start : ℕ) (answer : Answer) (after : Seen) : Type 0 where
-  pub told : answer ≡ answer_of expected
+-- the system may have no memory for the list of ranges: one is the last, and a range in the memory is behind it
+abbrev pub MayLackMemory : Seen → Range → Type 0
+MayLackMemory before r = (0 < before.pools.last.len) × (is_within before.memory r ≡ true) × (end_of before.pools.last ≤ r.start)
+
+-- a range is inserted: what is returned, and the ranges then
+pub record Inserts (expected : Result ℕ CheckedError) (before : Seen) (r : Range) (answer : Answer) (after : Seen) : Type 0 where
+  pub told : (answer ≡ answer_of expected) ⊎ ((answer ≡ refused_by OutOfMemory) × MayLackMemory before r)
   pub kept : IsKept before after
-  pub pool : answer.error ≡ 0 → after.pool ≡ range_at start answer.value
+  pub pools : answer.error ≡ 0 → after.pools ≡ with_pool before.pools (range_at r.start answer.value)
   pub same : answer.error ≢ 0 → after ≡ before
 
--- a range is appended: what is returned, and the last range then
+-- a range is appended: what is returned, and the ranges then
 pub record Appends (expected : Result ℕ CheckedError) (before : Seen) (answer : Answer) (after : Seen) : Type 0 where
   pub told : answer ≡ answer_of expected
   pub kept : IsKept before after
-  pub pool : answer.error ≡ 0 → after.pool ≡ range_at before.pool.start (before.pool.len + answer.value)
+  pub pools : answer.error ≡ 0 → after.pools ≡ with_longer_last before.pools answer.value
   pub same : answer.error ≢ 0 → after ≡ before
 
 -- a payload is new at an address
@@ -82,7 +88,7 @@ pub record IsResized (addr size to : ℕ) (before after : Seen) : Type 0 where
   pub bytes : (a : ℕ) → a ≢ addr → a ≢ to → bytes_at after.state a ≡ bytes_at before.state a
   pub classes : after.classes ≡ before.classes
   pub memory : after.memory ≡ before.memory
-  pub pool : after.pool ≡ before.pool
+  pub pools : after.pools ≡ before.pools
 
 -- the refusal that is reported is the answer; if none is, only room may be missing
 abbrev pub IsToldBy : Option CheckedError → ℕ → Type 0
@@ -157,16 +163,16 @@ pub record AllocatesZeroed (before : Seen) (size align : ℕ) (answer : Answer) 
 -- the last range is removed exactly if no payload lives in it; then the last range is empty, at the same start
 pub record RemovesLast (before : Seen) (answer : ℕ) (after : Seen) : Type 0 where
   pub errors : (answer ≡ 0) ⊎ (answer ≡ 15)
-  pub idle : (answer ≡ 0) ↔ IsIdle before.state (walked before.pool)
-  pub step : answer ≡ 0 → Removes before.state (walked before.pool) after.state
+  pub idle : (answer ≡ 0) ↔ IsIdle before.state (walked before.pools.last)
+  pub step : answer ≡ 0 → Removes before.state (walked before.pools.last) after.state
   pub kept : IsKept before after
-  pub pool : answer ≡ 0 → after.pool ≡ range_at before.pool.start 0
+  pub pools : answer ≡ 0 → after.pools ≡ without_last before.pools
   pub same : answer ≢ 0 → after ≡ before
 
--- a range is removed if it is complete contiguous chunks in which no payload lives, or why it isn't; and the last range then
+-- a range is removed if it was inserted and no payload lives in it, or why it isn't; and the ranges then
 pub record RemovesRange (before : Seen) (r : Range) (answer : ℕ) (after : Seen) : Type 0 where
-  pub told : (e : Result (Unit {0}) CheckedError) × (answer ≡ code_of e) × IsRemovalOf before.memory before.state r e
+  pub told : (e : Result (Unit {0}) CheckedError) × (answer ≡ code_of e) × IsRemovalOf before.pools before.state r e
   pub step : answer ≡ 0 → Removes before.state (walked r) after.state
   pub kept : IsKept before after
-  pub pool : answer ≡ 0 → after.pool ≡ pool_without before.pool (walked r)
+  pub pools : answer ≡ 0 → after.pools ≡ without_pool_at before.pools r.start
   pub same : answer ≢ 0 → after ≡ before

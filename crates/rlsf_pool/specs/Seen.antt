@@ -5,7 +5,8 @@ use Rattle.rlsf_base.specs.Range.{range_at}
 use Rattle.rlsf_base.specs.Space.{range_of}
 use Rattle.rlsf_model.specs.State.{State, empty}
 use Rattle.rlsf_checked.specs.Answers.{append_answer, insert_answer}
-use Rattle.rlsf_checked.specs.Checked.{Checked}
+use Rattle.rlsf_checked.specs.Checked.{Checked, PoolList}
+use Rattle.rlsf_checked.specs.Pools.{no_pools}
 use Rattle.rlsf_checked.specs.declared.error.CheckedError.{CheckedError}
 use Rattle.rlsf_checked.specs.declared.error.CheckedError.TheVariants.{OutsideMemory}
 use Rattle.rlsf_pool.specs.declared.pool.Pool.{Pool}
@@ -15,20 +16,20 @@ use Rattle.rlsf_pool.specs.declared.pool.Pool.TheVariants.{Refused, Small, Large
 abbrev pub PoolValue : Type 0
 PoolValue = Pool
 
--- how many classes each row has, the payloads and blocks, the addresses, and the last range
+-- how many classes each row has, the payloads and blocks, the addresses, and the ranges that were inserted
 pub record Seen : Type 0 where
   pub classes : ℕ
   pub state : State
   pub memory : Range
-  pub pool : Range
+  pub pools : PoolList
 
 -- what is seen of a checked allocator
 abbrev pub seen_in : ℕ → Checked → Seen
-seen_in sllen v = record { classes = sllen; state = v.heap.state; memory = range_of v.heap.memory; pool = v.pool }
+seen_in sllen v = record { classes = sllen; state = v.heap.state; memory = range_of v.heap.memory; pools = v.pools }
 
 -- what is seen where there is no allocator: no address
 abbrev pub nothing : Seen
-nothing = record { classes = 0; state = empty; memory = range_at 0 0; pool = range_at 0 0 }
+nothing = record { classes = 0; state = empty; memory = range_at 0 0; pools = no_pools 0 }
 
 -- what is seen of a pool
 abbrev pub seen : PoolValue → Seen
@@ -42,7 +43,7 @@ status_of (Refused e) = e
 status_of (Small v) = 0
 status_of (Large v) = 0
 
--- what is returned for a range that is inserted
+-- what is returned for a range that is inserted, if the system has memory
 abbrev pub insert_result : PoolValue → Range → Result ℕ CheckedError
 insert_result (Refused e) r = Err OutsideMemory
 insert_result (Small v) r = insert_answer 12 v r
@@ -66,7 +67,7 @@ classes_of kind = if kind == 1 then 16 else 64
 
 -- a pool of the kind, with the addresses, into which no range was inserted yet
 abbrev pub fresh : ℕ → ℕ → ℕ → Seen
-fresh kind start len = record { classes = classes_of kind; state = empty; memory = range_at start len; pool = range_at start 0 }
+fresh kind start len = record { classes = classes_of kind; state = empty; memory = range_at start len; pools = no_pools start }
 
 -- why no pool was made; or the system is out of memory, or there is a pool that is fresh
 abbrev pub IsMadeBy : Option ℕ → ℕ → ℕ → ℕ → PoolValue → Type 0
@@ -79,7 +80,7 @@ IsMade kind start len p = IsMadeBy (init_refusal kind start len) kind start len 
 
 -- a pool without payloads and without a range, over the same memory
 abbrev pub without_payloads : Seen → Seen
-without_payloads v = record { classes = v.classes; state = empty; memory = v.memory; pool = range_at v.memory.start 0 }
+without_payloads v = record { classes = v.classes; state = empty; memory = v.memory; pools = no_pools v.memory.start }
 
 -- what a pool becomes: its payloads and ranges are gone, and the error because of which there is none stays
 pub record IsReset (before after : PoolValue) : Type 0 where

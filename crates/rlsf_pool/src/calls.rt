@@ -16,7 +16,7 @@ pub(crate) fn insert<F: BitPattern, S: BitPattern, const FLLEN: usize, const SLL
     heap: &mut CheckedTlsf<F, S, FLLEN, SLLEN>,
     range: Range,
 ) -> Answer
-    ensures { Inserts (insert_answer FLLEN heap.old range) (seen_in SLLEN heap.old) range.start result (seen_in SLLEN heap.new) }
+    ensures { Inserts (insert_answer FLLEN heap.old range) (seen_in SLLEN heap.old) range result (seen_in SLLEN heap.new) }
 {
     to_answer(heap.insert(range))
 }

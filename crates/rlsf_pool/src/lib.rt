@@ -150,7 +150,7 @@ pub unsafe extern "C" fn rlsf_pool_len(pool: *mut u8) -> usize
 pub unsafe extern "C" fn rlsf_pool_insert(pool: *mut u8, start: usize, len: usize) -> Answer
     ghost before: { PoolValue }
     requires* { sem 𝓛 (Holds pool before) }
-    ensures* { sem 𝓛 (HoldsSome pool (λ after. Inserts (insert_result before (range_at start len)) (seen before) start result (seen after))) }
+    ensures* { sem 𝓛 (HoldsSome pool (λ after. Inserts (insert_result before (range_at start len)) (seen before) (range_at start len) result (seen after))) }
 {
     Pool::insert(&mut *(pool as *mut Pool), start, len)
 }
@@ -304,7 +304,7 @@ pub unsafe extern "C" fn rlsf_pool_allocate_zeroed(
     Pool::allocate_zeroed(&mut *(pool as *mut Pool), size, align)
 }
 
-/// Removes a range if it is complete contiguous chunks and no payload lives in it. Returns 0, or the error.
+/// Removes a range if it was inserted and no payload lives in it. Returns 0, or the error.
 #[unsafe(no_mangle)]
 pub unsafe extern "C" fn rlsf_pool_remove(pool: *mut u8, start: usize, len: usize) -> usize
     ghost before: { PoolValue }

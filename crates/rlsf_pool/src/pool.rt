@@ -87,7 +87,7 @@ impl Pool {
 
     /// Inserts a range of the memory.
     pub fn insert(&mut self, start: usize, len: usize) -> Answer
-        ensures { Inserts (insert_result self.old (range_at start len)) (seen self.old) start result (seen self.new) }
+        ensures { Inserts (insert_result self.old (range_at start len)) (seen self.old) (range_at start len) result (seen self.new) }
     {
         match self {
             Pool::Refused(_) => refused(CheckedError::OutsideMemory),

@@ -1,32 +1,16 @@
--- Marks and edges of addresses.
-use Rattle.std.specs.Prelude.{◌≡◌, ◌≢◌, ℕ, suc, ◌-◌, ◌/◌, ◌%◌, ◌≤◌, ◌<◌, ◌==◌, ◌&&◌, length, get_or, nat_le, Option, Some, None}
+-- Marks of addresses.
+use Rattle.std.specs.Prelude.{◌≡◌, ℕ, suc, ◌-◌, ◌/◌, ◌%◌, ◌≤◌, ◌<◌, ◌==◌, ◌&&◌, length, get_or, nat_le, Option, Some, None}
 use Rattle.std.specs.Prelude.{if◌then◌else◌}
 use Rattle.rlsf_base.specs.PowerOfTwo.{floor_log2}
 use Rattle.rlsf_checked.specs.declared.marks.Marks.{Marks}
 
--- the byte of an address, which is 0 where it has none
-abbrev pub byte_at : Marks → ℕ → ℕ
-byte_at m a = if (a % 16 == 0) && nat_le m.first (a / 16) then get_or m.bytes.items (a / 16 - m.first) 0 else 0
-
--- the mark of an address
+-- the mark of an address, which is 0 where it has none
 abbrev pub mark_at : Marks → ℕ → ℕ
-mark_at m a = byte_at m a % 128
+mark_at m a = if (a % 16 == 0) && nat_le m.first (a / 16) then get_or m.bytes.items (a / 16 - m.first) 0 else 0
 
--- 1 where an address has an edge, else 0
-abbrev pub edge_at : Marks → ℕ → ℕ
-edge_at m a = byte_at m a / 128
-
--- the address has a mark and an edge
+-- the address has a mark
 abbrev pub HasMark : Marks → ℕ → Type 0
 HasMark m a = (a % 16 ≡ 0) × (m.first ≤ a / 16) × (a / 16 - m.first < length m.bytes.items)
-
--- the first multiple of 32 that has an edge, from one address on, or the end
-pub record IsNextEdge (m : Marks) (from end to : ℕ) : Type 0 where
-  pub low : from ≤ to
-  pub high : to ≤ end
-  pub whole : to % 32 ≡ 0
-  pub none : (a : ℕ) → from ≤ a → a < to → a % 32 ≡ 0 → edge_at m a ≡ 0
-  pub some : to < end → edge_at m to ≢ 0
 
 -- the mark that is set where a payload has the alignment, if there is one
 abbrev pub mark_of : Option ℕ → ℕ

@@ -1,5 +1,5 @@
 -- What is true of every checked allocator's fields.
-use Rattle.std.specs.Prelude.{◌≡◌, ℕ, ◌+◌, ◌-◌, ◌%◌, ◌<◌, ◌≤◌, ◌⊎◌}
+use Rattle.std.specs.Prelude.{◌≡◌, ℕ, ◌%◌, ◌<◌, ◌≤◌, ◌⊎◌, List, [], ◌∷◌, ⊤}
 use Rattle.rlsf_base.specs.declared.memory.range.Range.{Range}
 use Rattle.rlsf_base.specs.Range.{end_of}
 use Rattle.rlsf_base.specs.Rounding.{round32}
@@ -9,31 +9,38 @@ use Rattle.rlsf_model.specs.Callers.{align_at}
 use Rattle.rlsf_model.specs.ChunkRows.{IsRow}
 use Rattle.rlsf_model.specs.Lists.{IsIn}
 use Rattle.rlsf_model.specs.State.{State}
-use Rattle.rlsf_model.specs.WellFormed.{coverage, itself}
 use Rattle.rlsf_tlsf.specs.Allocator.{Allocator, Stands}
+use Rattle.rlsf_checked.specs.Checked.{PoolList}
 use Rattle.rlsf_checked.specs.declared.marks.Marks.{Marks}
-use Rattle.rlsf_checked.specs.Steps.Marks.{HasMark, edge_at, mark_at, mark_of}
+use Rattle.rlsf_checked.specs.Steps.Marks.{HasMark, mark_at, mark_of}
 
--- how many chunks have an address
-abbrev pub in_chunks : State → ℕ → ℕ
-in_chunks s a = coverage itself s.chunks a
+-- each range ends where the later ones begin, or before
+abbrev pub AreInOrder : List Range → Type 0
+AreInOrder [] = ⊤
+AreInOrder (p ∷ ps) = ((q : Range) → IsIn q ps → end_of p ≤ q.start) × AreInOrder ps
 
--- a multiple of 32 has an edge exactly if a chunk has it or the address before, and not both
-abbrev pub AreEdges : Marks → State → Type 0
-AreEdges m s = (a : ℕ) → a % 32 ≡ 0 → edge_at m a ≡ (in_chunks s a + in_chunks s (a - 1)) % 2
+-- the range is complete contiguous chunks, at least one, from its start, rounded up to a multiple of 32, to its end
+pub record IsPool (s : State) (p : Range) : Type 0 where
+  pub room : round32 p.start < end_of p
+  pub row : IsRow s (walked p)
+
+-- the range is one of the pools
+abbrev pub IsOneOf : Range → PoolList → Type 0
+IsOneOf p pools = IsIn p pools.earlier ⊎ ((p ≡ pools.last) × (0 < p.len))
+
+-- Pools, of which none overlaps another. Each chunk lies in one of them
+pub record ArePools (s : State) (pools : PoolList) : Type 0 where
+  pub each : (p : Range) → IsOneOf p pools → IsPool s p
+  pub order : AreInOrder pools.earlier
+  pub behind : (p : Range) → IsIn p pools.earlier → end_of p ≤ pools.last.start
+  pub homes : (c : Range) → IsIn c s.chunks → (p : Range) × IsOneOf p pools × (p.start ≤ c.start) × (end_of c ≤ end_of p)
 
 -- Memory and class table represent the state. A mark is that of the payload's alignment exactly if a payload is live, and else 0. Each
--- address at which a payload may be has a mark, and none is 0. An edge is where contiguous chunks begin or end. The last pool lies in the
--- memory and is contiguous chunks, at least one if it isn't empty. No chunk ends behind it, and none crosses its start.
-pub record IsChecked (fllen sllen : ℕ) (heap : Allocator) (marks : Marks) (pool : Range) : Type 0 where
+-- address at which a payload may be has a mark, and none is 0. The last pool lies in the memory, and no chunk is outside of the pools.
+pub record IsChecked (fllen sllen : ℕ) (heap : Allocator) (marks : Marks) (list : PoolList) : Type 0 where
   pub stands : Stands fllen sllen heap
   pub marked : (a : ℕ) → mark_at marks a ≡ mark_of (align_at heap.state a)
   pub covers : (a : ℕ) → a % 16 ≡ 0 → heap.memory.start ≤ a → a ≤ end_of (range_of heap.memory) → HasMark marks a
-  pub edged : AreEdges marks heap.state
-  pub some_address : 0 < heap.memory.start
-  pub low : heap.memory.start ≤ pool.start
-  pub high : end_of pool ≤ end_of (range_of heap.memory)
-  pub below : (c : Range) → IsIn c heap.state.chunks → end_of c ≤ end_of pool
-  pub apart : (c : Range) → IsIn c heap.state.chunks → (end_of c ≤ pool.start) ⊎ (pool.start ≤ c.start)
-  pub room : 0 < pool.len → round32 pool.start < end_of pool
-  pub row : IsRow heap.state (walked pool)
+  pub low : heap.memory.start ≤ list.last.start
+  pub high : end_of list.last ≤ end_of (range_of heap.memory)
+  pub pools : ArePools heap.state list

@@ -14,5 +14,5 @@ use Rattle.rlsf_pool.proofs.pool.Pool.insert.Met.{met}
 
 pub rlsf_pool_insert_spec : {M : Type 1} → statement M
 rlsf_pool_insert_spec 𝓤 𝓛 𝓜 𝓡 wired =
-    exports2 𝓛 𝓜 𝓡 the_row (answer 𝓛) (changes (λ before x e r after. Inserts (insert_result before (range_at x.0 x.1.0)) (seen before) x.0 r (seen after))) g.Key.name f.Key.name
+    exports2 𝓛 𝓜 𝓡 the_row (answer 𝓛) (changes (λ v x e r w. Inserts (insert_result v (range_at x.0 x.1.0)) (seen v) (range_at x.0 x.1.0) r (seen w))) g.Key.name f.Key.name
     (met 𝓤 𝓛 𝓜 𝓡 (code.calls-rlsf_pool::pool::Pool::insert 𝓡.env wired)) (code.unfolded 𝓤 𝓛.H 𝓜 𝓡 wired)

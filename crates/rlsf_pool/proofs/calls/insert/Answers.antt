@@ -10,5 +10,5 @@ returns g c =
     let old = c.args.heap.now in
     let new = c.insert.new.self in
     let did = c.insert.ensures in
-    subst (λ a. Inserts (insert_answer g.row.FLLEN old c.args.range) (seen_in g.row.SLLEN old) c.args.range.start a (seen_in g.row.SLLEN new)) (sym c.to_answer.ensures)
+    subst (λ a. Inserts (insert_answer g.row.FLLEN old c.args.range) (seen_in g.row.SLLEN old) c.args.range a (seen_in g.row.SLLEN new)) (sym c.to_answer.ensures)
     (inserted g.row.FLLEN g.row.SLLEN old new c.args.range c.insert.result did.frame did.result did.refused)

@@ -13,6 +13,6 @@ returns-then-remove_last g c =
     let old = c.args.heap.now in
     let new = c.remove_last.new.self in
     let did = c.remove_last.ensures in
-    let step = λ (e : c.remove_last.result ≡ true). step_of g.row.FLLEN sllen old.heap new.heap (λ t. Removes old.heap.state (walked old.pool) t) (did.step e) in
+    let step = λ (e : c.remove_last.result ≡ true). step_of g.row.FLLEN sllen old.heap new.heap (λ t. Removes old.heap.state (walked old.pools.last) t) (did.step e) in
     subst (λ b. RemovesLast (seen_in sllen old) (cond b 0 15) (seen_in sllen new)) c.if-remove_last.true
     (removed sllen old new c.remove_last.result step did.result did.idle did.refused did.frame)

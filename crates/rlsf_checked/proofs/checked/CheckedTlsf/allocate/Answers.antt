@@ -19,7 +19,7 @@ set-requires g c =
     let did = c.in-Some.ensures in
     let there = subst (HasMark c.self.inside.marks) (sym c.get.ensures.value)
     (has_mark c.self.invariant c.allocate.new.self (stands_after _ _ _ _ _ did.step) did.frame.place (at c.in-Some.addr) c.args.layout.align did.result.live) in
-    record { place = there; small = c.mark_of.ensures.small }
+    there
 
 pub invariant_of-self-2 : goal.invariant_of-self-2
 invariant_of-self-2 g c =
@@ -29,8 +29,8 @@ invariant_of-self-2 g c =
     let addr = at c.in-Some.addr in
     let here : mark_at marks addr ≡ mark_of (align_at heap.state addr) =
     subst (λ a. mark_at marks a ≡ suc (floor_log2 c.args.layout.align)) c.get.ensures.value
-    (c.set.ensures.here ∙ c.mark_of.ensures.value ∙ ap (λ n. suc (floor_log2 n)) c.align.ensures.value) ∙ sym (ap mark_of did.result.live) in
-    marked_at c.self.invariant heap marks addr (stands_after _ _ _ _ _ did.step) did.frame.place did.frame.chunks c.set.ensures.places c.set.ensures.edges here
+    (c.set.ensures.here ∙ c.mark_of.ensures ∙ ap (λ n. suc (floor_log2 n)) c.align.ensures.value) ∙ sym (ap mark_of did.result.live) in
+    marked_at c.self.invariant heap marks addr (stands_after _ _ _ _ _ did.step) did.frame.place did.frame.chunks c.set.ensures.places here
     (λ a apart. c.set.ensures.others a (λ same. apart (same ∙ c.get.ensures.value))) did.result.aligns
 
 pub returns-in_default : goal.returns-in_default
@@ -41,8 +41,8 @@ returns-in_default g c =
       result = tt;
       room = did.room;
       bounds = did.bounds;
-      refused = record { answer = refl; same = did.refused.same; pool = refl; bytes = did.refused.bytes };
-      frame = record { chunks = did.frame.chunks; pool = refl; place = did.frame.place; grow = did.frame.grow; copied = did.frame.copied };
+      refused = record { answer = refl; same = did.refused.same; pools = refl; bytes = did.refused.bytes };
+      frame = record { chunks = did.frame.chunks; pools = refl; place = did.frame.place; grow = did.frame.grow; copied = did.frame.copied };
       touches = did.touches;
     })
 
@@ -54,7 +54,7 @@ returns g c =
       result = did.result;
       room = did.room;
       bounds = did.bounds;
-      refused = record { answer = tt; same = tt; pool = tt; bytes = tt };
-      frame = record { chunks = did.frame.chunks; pool = refl; place = did.frame.place; grow = did.frame.grow; copied = did.frame.copied };
+      refused = record { answer = tt; same = tt; pools = tt; bytes = tt };
+      frame = record { chunks = did.frame.chunks; pools = refl; place = did.frame.place; grow = did.frame.grow; copied = did.frame.copied };
       touches = did.touches;
     })

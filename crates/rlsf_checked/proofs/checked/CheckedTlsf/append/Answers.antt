@@ -5,11 +5,11 @@ use Rattle.rlsf_model.specs.Insert.{Appends}
 use Rattle.rlsf_model.specs.State.{State}
 use Rattle.rlsf_tlsf.specs.Allocator.{Stands}
 use Rattle.rlsf_checked.specs.Answers.{if_appended, is_next, is_within}
-use Rattle.rlsf_checked.specs.Checked.{checked}
-use Rattle.rlsf_checked.proofs.Edges.{flips}
-use Rattle.rlsf_checked.proofs.Pools.{appended_fits, handed_on, next_answer, next_is, next_range, none_apart, none_appended, none_outside, pool_fits, some_appended, within_is}
+use Rattle.rlsf_checked.specs.Checked.{PoolList, checked}
+use Rattle.rlsf_checked.specs.Steps.Lists.{listed}
+use Rattle.rlsf_checked.specs.Steps.Standing.{IsChecked}
+use Rattle.rlsf_checked.proofs.PoolsOverSteps.{appended_fits, handed_on, next_answer, next_is, next_range, none_apart, none_appended, none_outside, pool_fits, some_appended, within_is}
 use Rattle.rlsf_checked.proofs.FieldsOverSteps.{stands_after, step_of, unchanged}
-use Rattle.rlsf_checked.proofs.ToggledEdges.{appended_edges, appended_place}
 use Rattle.rlsf_checked.proofs.Unchanged.{frame_unchanged}
 use Rattle.rlsf_checked.proofs.checked.CheckedTlsf.append.Given as given
 use Rattle.rlsf_checked.proofs.checked.CheckedTlsf.append.Goals as goal
@@ -18,17 +18,17 @@ use Rattle.rlsf_checked.proofs.checked.CheckedTlsf.append.Goals.{After-append_fr
 -- the range lies in the memory and begins where the last pool ends
 record IsNextRange (g : given.Over) (c : Else-not-is_next g) : Type 0 where
   pub within : true ≡ is_within (range_of c.self.inside.heap.memory) c.args.range
-  pub next : true ≡ is_next c.self.inside.pool c.args.range.start
-  pub some : 0 < c.self.inside.pool.len
-  pub ends : c.args.range.start ≡ end_of c.self.inside.pool
+  pub next : true ≡ is_next c.self.inside.pools.last c.args.range.start
+  pub some : 0 < c.self.inside.pools.last.len
+  pub ends : c.args.range.start ≡ end_of c.self.inside.pools.last
   pub lies : LiesIn c.args.range c.self.inside.heap.memory.start (length c.self.inside.heap.memory.bytes)
 
 is_next_range : (g : given.Over) (c : Else-not-is_next g) → IsNextRange g c
 is_next_range g c =
     let within : true ≡ is_within (range_of c.self.inside.heap.memory) c.args.range =
     sym c.if-not-lies_in.false ∙ c.lies_in.ensures ∙ ap (λ m. is_within (range_of m) c.args.range) c.memory_ref.ensures.memory in
-    let next : true ≡ is_next c.self.inside.pool c.args.range.start = sym c.if-not-is_next.false ∙ c.is_next.ensures in
-    let (some, ends) = next_is c.self.inside.pool c.args.range next in
+    let next : true ≡ is_next c.self.inside.pools.last c.args.range.start = sym c.if-not-is_next.false ∙ c.is_next.ensures in
+    let (some, ends) = next_is c.self.inside.pools.last c.args.range next in
     record { within = within; next = next; some = some; ends = ends; lies = within_is (range_of c.self.inside.heap.memory) c.args.range within }
 
 -- the allocator is valid after the reference model's step
@@ -59,41 +59,20 @@ invariant_of-self g c =
     unchanged c.self.invariant c.append_free_block_ptr-taken.new.self (stands_after _ _ _ _ _ did.step) did.frame.place (ap (λ (s : State). s.chunks) (same_state g c))
     did.frame.aligns
 
-pub overflow_add-self : goal.overflow_add-self
-overflow_add-self g c =
-    let is = is_next_range g (goal.at.overflow_add-self g c).Else-not-is_next in
-    let (stands, step) = appended g (goal.at.overflow_add-self g c).After-append_free_block_ptr-taken in
+pub extend-requires : goal.extend-requires
+extend-requires g c =
+    let is = is_next_range g (goal.at.extend-requires g c).Else-not-is_next in
+    let (stands, step) = appended g (goal.at.extend-requires g c).After-append_free_block_ptr-taken in
     let fits = appended_fits c.self.invariant c.args.range is.some is.ends is.lies c.append_free_block_ptr-taken.new.self _ step in
-    record { fits = omega (arith, fits) }
-
-pub flip-requires : goal.flip-requires
-flip-requires g c =
-    let is = is_next_range g (goal.at.flip-requires g c).Else-not-is_next in
-    let (stands, step) = appended g (goal.at.flip-requires g c).After-append_free_block_ptr-taken in
-    (appended_place c.self.invariant _ stands c.args.range _ is.some is.ends is.lies (omega (arith, c.if-taken-eq0.false)) step).low
-
-pub overflow_add-range : goal.overflow_add-range
-overflow_add-range g c =
-    let is = is_next_range g (goal.at.overflow_add-range g c).Else-not-is_next in
-    let (stands, step) = appended g (goal.at.overflow_add-range g c).After-append_free_block_ptr-taken in
-    let fits = appended_fits c.self.invariant c.args.range is.some is.ends is.lies c.append_free_block_ptr-taken.new.self _ step in
-    record { fits = omega (arith, fits, is.ends) }
-
-pub flip-requires-2 : goal.flip-requires-2
-flip-requires-2 g c =
-    let is = is_next_range g (goal.at.flip-requires-2 g c).Else-not-is_next in
-    let (stands, step) = appended g (goal.at.flip-requires-2 g c).After-append_free_block_ptr-taken in
-    c.flip.ensures.places _ (appended_place c.self.invariant _ stands c.args.range _ is.some is.ends is.lies (omega (arith, c.if-taken-eq0.false)) step).high
+    omega (arith, fits)
 
 pub invariant_of-self-2 : goal.invariant_of-self-2
 invariant_of-self-2 g c =
     let is = is_next_range g (goal.at.invariant_of-self-2 g c).Else-not-is_next in
     let (stands, step) = appended g (goal.at.invariant_of-self-2 g c).After-append_free_block_ptr-taken in
-    let first = flips c.flip.ensures.here c.flip.ensures.others c.flip.ensures.marks c.flip.ensures.places in
-    let second = flips c.flip-2.ensures.here c.flip-2.ensures.others c.flip-2.ensures.marks c.flip-2.ensures.places in
     let did = c.append_free_block_ptr-taken.ensures in
-    handed_on c.self.invariant c.args.range is.some is.ends is.lies _ stands did.frame.place did.frame.aligns _ step c.flip-2.new.self
-    (appended_edges c.self.invariant _ stands c.args.range _ is.some is.ends is.lies (omega (arith, c.if-taken-eq0.false)) step c.flip.new.self c.flip-2.new.self first second)
+    subst (λ (p : PoolList). IsChecked g.row.FLLEN g.row.SLLEN c.append_free_block_ptr-taken.new.self c.self.inside.marks p) (sym c.extend.ensures)
+    (handed_on c.self.invariant c.args.range is.some is.ends is.lies _ stands did.frame.place did.frame.aligns _ step)
 
 pub returns-then-not-lies_in : goal.returns-then-not-lies_in
 returns-then-not-lies_in g c =
@@ -105,9 +84,9 @@ returns-then-not-lies_in g c =
       bounds = λ count size align sized. sized;
       room = record { budgets = λ count bytes size align sized. sized; blocks = refl };
       refused = record {
-        answer = sym (none_outside g.row.FLLEN (checked c.self.inside.heap c.self.inside.pool) c.args.range outside);
+        answer = sym (none_outside g.row.FLLEN (checked c.self.inside.heap (listed c.self.inside.pools)) c.args.range outside);
         same = refl;
-        pool = refl;
+        pools = refl;
         bytes = refl;
       };
       frame = frame_unchanged c.self.inside.heap;
@@ -118,16 +97,16 @@ pub returns-then-not-is_next : goal.returns-then-not-is_next
 returns-then-not-is_next g c =
     let within : true ≡ is_within (range_of c.self.inside.heap.memory) c.args.range =
     sym c.if-not-lies_in.false ∙ c.lies_in.ensures ∙ ap (λ m. is_within (range_of m) c.args.range) c.memory_ref.ensures.memory in
-    let apart : false ≡ is_next c.self.inside.pool c.args.range.start = sym c.if-not-is_next.true ∙ c.is_next.ensures in
+    let apart : false ≡ is_next c.self.inside.pools.last c.args.range.start = sym c.if-not-is_next.true ∙ c.is_next.ensures in
     rw (← c.self.view_is) (record {
       step = tt;
       result = tt;
       bounds = λ count size align sized. sized;
       room = record { budgets = λ count bytes size align sized. sized; blocks = refl };
       refused = record {
-        answer = sym (none_apart g.row.FLLEN (checked c.self.inside.heap c.self.inside.pool) c.args.range within apart);
+        answer = sym (none_apart g.row.FLLEN (checked c.self.inside.heap (listed c.self.inside.pools)) c.args.range within apart);
         same = refl;
-        pool = refl;
+        pools = refl;
         bytes = refl;
       };
       frame = frame_unchanged c.self.inside.heap;
@@ -146,10 +125,10 @@ returns-then-taken-eq0 g c =
       room = record { budgets = did.result.budgets; blocks = did.result.blocks };
       refused = record {
         answer =
-            sym (next_answer g.row.FLLEN (checked c.self.inside.heap c.self.inside.pool) c.args.range is.within is.next
+            sym (next_answer g.row.FLLEN (checked c.self.inside.heap (listed c.self.inside.pools)) c.args.range is.within is.next
             ∙ ap if_appended (sym step.answer ∙ c.if-taken-eq0.true));
         same = same_state g (goal.at.returns-then-taken-eq0 g c).Then-taken-eq0;
-        pool = refl;
+        pools = refl;
         bytes = did.refused c.if-taken-eq0.true;
       };
       frame = did.frame;
@@ -163,15 +142,15 @@ returns g c =
     let did = c.append_free_block_ptr-taken.ensures in
     rw (← c.self.view_is) (record {
       step = did.step;
-      result = refl;
+      result = c.extend.ensures;
       bounds = did.bounds;
       room = record { budgets = did.result.budgets; blocks = did.result.blocks };
       refused = record {
         answer =
-            sym (next_answer g.row.FLLEN (checked c.self.inside.heap c.self.inside.pool) c.args.range is.within is.next ∙ ap if_appended (sym step.answer)
+            sym (next_answer g.row.FLLEN (checked c.self.inside.heap (listed c.self.inside.pools)) c.args.range is.within is.next ∙ ap if_appended (sym step.answer)
             ∙ some_appended _ c.if-taken-eq0.false);
         same = tt;
-        pool = tt;
+        pools = tt;
         bytes = tt;
       };
       frame = did.frame;

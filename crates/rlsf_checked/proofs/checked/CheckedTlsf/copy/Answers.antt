@@ -4,6 +4,7 @@ use Rattle.rlsf_model.specs.Callers.{bytes_at}
 use Rattle.rlsf_checked.specs.Answers.{both_have, if_both_in_range, if_in_range}
 use Rattle.rlsf_checked.specs.declared.error.CheckedError.TheVariants.{OutOfRange, UnknownAddress}
 use Rattle.rlsf_checked.specs.Checked.{checked}
+use Rattle.rlsf_checked.specs.Steps.Lists.{listed}
 use Rattle.rlsf_checked.proofs.FieldsOverSteps.{stands_after, unchanged}
 use Rattle.rlsf_checked.proofs.Unchanged.{frame_copying_unchanged}
 use Rattle.rlsf_checked.proofs.checked.CheckedTlsf.copy.Given as given
@@ -53,7 +54,7 @@ returns g c =
         bytes = did.result.bytes;
         count = did.result.count;
         chunks = did.frame.chunks;
-        pool = refl;
+        pools = refl;
         place = did.frame.place;
         copied = did.frame.copied;
       };
@@ -69,7 +70,7 @@ returns-in_default g c =
       bounds = λ count size align sized. sized;
       blocks = refl;
       refused = record { answer = not_from _ _ _ from; same = refl };
-      frame = frame_copying_unchanged (at c.args.to) c.args.len (checked c.self.inside.heap c.self.inside.pool) UnknownAddress;
+      frame = frame_copying_unchanged (at c.args.to) c.args.len (checked c.self.inside.heap (listed c.self.inside.pools)) UnknownAddress;
       touches = refl;
     })
 
@@ -83,7 +84,7 @@ returns-in_default-alignment g c =
       bounds = λ count size align sized. sized;
       blocks = refl;
       refused = record { answer = not_to _ _ _ _ from to; same = refl };
-      frame = frame_copying_unchanged (at c.args.to) c.args.len (checked c.self.inside.heap c.self.inside.pool) UnknownAddress;
+      frame = frame_copying_unchanged (at c.args.to) c.args.len (checked c.self.inside.heap (listed c.self.inside.pools)) UnknownAddress;
       touches = refl;
     })
 
@@ -98,6 +99,6 @@ returns-then-not-both_reach g c =
       bounds = λ count size align sized. sized;
       blocks = refl;
       refused = record { answer = ap (λ b. cond b (Ok tt) (Err OutOfRange)) fits ∙ in_range _ _ _ _ _ from to; same = refl };
-      frame = frame_copying_unchanged (at c.args.to) c.args.len (checked c.self.inside.heap c.self.inside.pool) OutOfRange;
+      frame = frame_copying_unchanged (at c.args.to) c.args.len (checked c.self.inside.heap (listed c.self.inside.pools)) OutOfRange;
       touches = refl;
     })

@@ -11,7 +11,7 @@ set-requires g c =
     let live : align_at c.self.inside.heap.state (at c.args.addr) ≡ Some c.in-Some.align = sym (rw (← c.self.view_is) at c.in-Some.ensures.value) in
     let there = subst (HasMark c.self.inside.marks) (sym c.get.ensures.value)
     (has_mark c.self.invariant c.self.inside.heap c.self.invariant.stands (refl, refl, refl, λ none. none) (at c.args.addr) c.in-Some.align live) in
-    record { place = there; small = omega arith }
+    there
 
 pub invariant_of-self : goal.invariant_of-self
 invariant_of-self g c =
@@ -21,7 +21,7 @@ invariant_of-self g c =
     let addr = at c.args.addr in
     let here : mark_at marks addr ≡ mark_of (align_at heap.state addr) =
     subst (λ a. mark_at marks a ≡ 0) c.get.ensures.value c.set.ensures.here ∙ sym (ap mark_of did.result.gone) in
-    marked_at c.self.invariant heap marks addr (stands_after _ _ _ _ _ did.step) did.frame.place did.frame.chunks c.set.ensures.places c.set.ensures.edges here
+    marked_at c.self.invariant heap marks addr (stands_after _ _ _ _ _ did.step) did.frame.place did.frame.chunks c.set.ensures.places here
     (λ a apart. c.set.ensures.others a (λ same. apart (same ∙ c.get.ensures.value))) did.result.aligns
 
 pub returns-in-Some : goal.returns-in-Some
@@ -33,7 +33,7 @@ returns-in-Some g c =
       result = record { gone = did.result.gone; aligns = did.result.aligns; bytes = did.result.bytes; count = did.result.count; freed = did.result.freed };
       bounds = did.bounds;
       refused = record { answer = ap (λ o. if_live o tt) live; same = tt };
-      frame = record { chunks = did.frame.chunks; pool = refl; place = did.frame.place; grow = did.frame.grow; copied = did.frame.copied };
+      frame = record { chunks = did.frame.chunks; pools = refl; place = did.frame.place; grow = did.frame.grow; copied = did.frame.copied };
       touches = did.touches;
     })
 
@@ -45,6 +45,6 @@ returns-in-None g c =
       result = record { gone = sym none; aligns = λ a apart. refl; bytes = λ a apart. refl; count = tt; freed = tt };
       bounds = λ count size align sized. sized;
       refused = record { answer = ap (λ o. if_live o tt) none; same = refl };
-      frame = record { chunks = refl; pool = refl; place = (refl, refl, refl, λ none. none); grow = omega arith; copied = refl };
+      frame = record { chunks = refl; pools = refl; place = (refl, refl, refl, λ none. none); grow = omega arith; copied = refl };
       touches = omega arith;
     })

@@ -7,6 +7,7 @@ use Rattle.rlsf_tlsf.specs.Allocator.{Steps}
 use Rattle.rlsf_tlsf.specs.Lending.{written}
 use Rattle.rlsf_checked.specs.Answers.{if_live}
 use Rattle.rlsf_checked.specs.Checked.{checked}
+use Rattle.rlsf_checked.specs.Steps.Lists.{listed}
 use Rattle.rlsf_checked.proofs.FieldsOverSteps.{unchanged}
 use Rattle.rlsf_checked.proofs.Unchanged.{frame_in_place_unchanged}
 use Rattle.rlsf_checked.proofs.checked.CheckedTlsf.fill.Given as given
@@ -35,7 +36,7 @@ returns-in_default g c =
       bounds = λ count size align sized. sized;
       blocks = refl;
       refused = record { answer = ap (λ o. if_live o tt) none; same = refl };
-      frame = frame_in_place_unchanged (at c.args.addr) (checked c.self.inside.heap c.self.inside.pool);
+      frame = frame_in_place_unchanged (at c.args.addr) (checked c.self.inside.heap (listed c.self.inside.pools));
       touches = omega arith;
     })
 
@@ -61,7 +62,7 @@ returns g c =
         bytes = did.bytes w;
         count = did.count w;
         chunks = chunks;
-        pool = refl;
+        pools = refl;
         place = place;
         grow = omega (arith, touches);
         copied = copied;

@@ -1,4 +1,5 @@
-use Rattle.std.proofs.Common.{◌≡◌, ◌+◌, ◌^◌, ◌<◌, ◌≤◌, length, true, Ok, Some, None, arith, refl, sym, ◌∙◌, ap, subst, false}
+use Rattle.std.proofs.Common.{◌≡◌, ◌<◌, ◌≤◌, length, true, true≢false, Ok, Some, None, arith, refl, sym, ◌∙◌, ap, subst, inl, inr, false}
+use Rattle.std.proofs.lemmas.Bool.{cases_lt}
 use Rattle.rlsf_base.specs.Addr.{at}
 use Rattle.rlsf_base.specs.Range.{LiesIn, end_of, range_at}
 use Rattle.rlsf_base.specs.Space.{range_of}
@@ -6,12 +7,11 @@ use Rattle.rlsf_model.specs.Insert.{Inserts}
 use Rattle.rlsf_model.specs.State.{State}
 use Rattle.rlsf_tlsf.specs.Allocator.{Stands, Steps}
 use Rattle.rlsf_checked.specs.Answers.{if_taken, is_within}
-use Rattle.rlsf_checked.specs.Checked.{checked}
-use Rattle.rlsf_checked.specs.Steps.Marks.{HasMark}
+use Rattle.rlsf_checked.specs.Checked.{PoolList, checked}
+use Rattle.rlsf_checked.specs.Pools.{with_pool}
+use Rattle.rlsf_checked.specs.Steps.Lists.{listed}
 use Rattle.rlsf_checked.specs.Steps.Standing.{IsChecked}
-use Rattle.rlsf_checked.proofs.Edges.{Flips, flips}
-use Rattle.rlsf_checked.proofs.ToggledEdges.{inserted_edges, inserted_place}
-use Rattle.rlsf_checked.proofs.Pools.{before_answer, behind_answer, handed_in, none_taken, outside_answer, pool_fits, untouched, within_is}
+use Rattle.rlsf_checked.proofs.PoolsOverSteps.{before_answer, behind_answer, handed_in, none_taken, outside_answer, pool_fits, untouched, within_is}
 use Rattle.rlsf_checked.proofs.FieldsOverSteps.{stands_after, step_of, unchanged}
 use Rattle.rlsf_checked.proofs.Unchanged.{frame_unchanged}
 use Rattle.rlsf_checked.proofs.checked.CheckedTlsf.insert.Given as given
@@ -21,7 +21,7 @@ use Rattle.rlsf_checked.proofs.checked.CheckedTlsf.insert.Goals.{Else-range-self
 -- the range lies in the memory, behind the last pool
 record IsBehind (g : given.Over) (c : Else-range-self g) : Type 0 where
   pub within : true ≡ is_within (range_of c.self.inside.heap.memory) c.args.range
-  pub behind : end_of c.self.inside.pool ≤ c.args.range.start
+  pub behind : end_of c.self.inside.pools.last ≤ c.args.range.start
   pub lies : LiesIn c.args.range c.self.inside.heap.memory.start (length c.self.inside.heap.memory.bytes)
 
 is_behind : (g : given.Over) (c : Else-range-self g) → IsBehind g c
@@ -46,36 +46,15 @@ insert_free_block_ptr-requires g c =
 
 pub invariant_of-self : goal.invariant_of-self
 invariant_of-self g c =
+    subst (λ (p : PoolList). IsChecked g.row.FLLEN g.row.SLLEN c.self.inside.heap c.self.inside.marks p) (sym c.reserve.ensures.same) c.self.invariant
+
+pub invariant_of-self-in_default : goal.invariant_of-self-in_default
+invariant_of-self-in_default g c =
     let did = c.in_default.ensures in
     let heap = c.insert_free_block_ptr.new.self in
     let same : heap.state ≡ c.self.inside.heap.state = none_taken g.row.FLLEN c.self.inside.heap.state heap.state c.args.range (step_of _ _ _ _ _ did.step) in
-    unchanged c.self.invariant heap (stands_after _ _ _ _ _ did.step) did.frame.place (ap (λ (s : State). s.chunks) same) did.frame.aligns
-
-pub next_multiple_of_32-requires : goal.next_multiple_of_32-requires
-next_multiple_of_32-requires g c =
-    let is = is_behind g (goal.at.next_multiple_of_32-requires g c).Else-range-self in
-    let (stands, step) = inserted g (goal.at.next_multiple_of_32-requires g c).In-Some in
-    record { fits = (inserted_place c.self.invariant _ stands c.args.range _ is.behind is.lies step).fits }
-
-pub overflow_add-range : goal.overflow_add-range
-overflow_add-range g c =
-    let is = is_behind g (goal.at.overflow_add-range g c).Else-range-self in
-    let (stands, step) = inserted g (goal.at.overflow_add-range g c).In-Some in
-    let place = inserted_place c.self.invariant _ stands c.args.range _ is.behind is.lies step in
-    record { fits = subst (λ a. c.args.range.start + a < 2 ^ 64) (sym c.get-len.ensures.value) place.last_fits }
-
-pub flip-requires : goal.flip-requires
-flip-requires g c =
-    let is = is_behind g (goal.at.flip-requires g c).Else-range-self in
-    let (stands, step) = inserted g (goal.at.flip-requires g c).In-Some in
-    subst (HasMark c.self.inside.marks) (sym c.next_multiple_of_32.ensures.value) (inserted_place c.self.invariant _ stands c.args.range _ is.behind is.lies step).low
-
-pub flip-requires-2 : goal.flip-requires-2
-flip-requires-2 g c =
-    let is = is_behind g (goal.at.flip-requires-2 g c).Else-range-self in
-    let (stands, step) = inserted g (goal.at.flip-requires-2 g c).In-Some in
-    subst (λ a. HasMark c.flip.new.self (c.args.range.start + a)) (sym c.get-len.ensures.value)
-    (c.flip.ensures.places _ (inserted_place c.self.invariant _ stands c.args.range _ is.behind is.lies step).high)
+    subst (λ (p : PoolList). IsChecked g.row.FLLEN g.row.SLLEN heap c.self.inside.marks p) (sym c.reserve.ensures.same)
+    (unchanged c.self.invariant heap (stands_after _ _ _ _ _ did.step) did.frame.place (ap (λ (s : State). s.chunks) same) did.frame.aligns)
 
 pub invariant_of-self-2 : goal.invariant_of-self-2
 invariant_of-self-2 g c =
@@ -83,13 +62,14 @@ invariant_of-self-2 g c =
     let (stands, step) = inserted g (goal.at.invariant_of-self-2 g c).In-Some in
     let heap = c.insert_free_block_ptr.new.self in
     let did = c.in-Some.ensures in
-    let first = subst (Flips c.self.inside.marks c.flip.new.self) c.next_multiple_of_32.ensures.value
-    (flips c.flip.ensures.here c.flip.ensures.others c.flip.ensures.marks c.flip.ensures.places) in
-    let second = subst (λ a. Flips c.flip.new.self c.flip-2.new.self (c.args.range.start + a)) c.get-len.ensures.value
-    (flips c.flip-2.ensures.here c.flip-2.ensures.others c.flip-2.ensures.marks c.flip-2.ensures.places) in
-    subst (λ k. IsChecked g.row.FLLEN g.row.SLLEN heap c.flip-2.new.self (range_at c.args.range.start k)) (sym c.get-len.ensures.value)
-    (handed_in c.self.invariant c.args.range is.behind is.lies heap stands did.frame.place did.frame.aligns _ step c.flip-2.new.self
-    (inserted_edges c.self.invariant heap stands c.args.range _ is.behind is.lies step c.flip.new.self c.flip-2.new.self first second))
+    let pools = listed c.self.inside.pools in
+    subst (λ (p : PoolList). IsChecked g.row.FLLEN g.row.SLLEN heap c.self.inside.marks p)
+    (sym (
+    c.add.ensures
+    ∙ ap (λ p. with_pool p (range_at c.args.range.start c.get-len.result)) c.reserve.ensures.same
+    ∙ ap (λ n. with_pool pools (range_at c.args.range.start n)) c.get-len.ensures.value
+    ))
+    (handed_in c.self.invariant heap stands did.frame.place did.frame.aligns c.args.range is.behind is.lies _ step)
 
 pub returns-then-not-lies_in : goal.returns-then-not-lies_in
 returns-then-not-lies_in g c =
@@ -106,9 +86,9 @@ returns-then-not-lies_in g c =
       };
       bounds = λ count size align sized. sized;
       refused = record {
-        answer = sym (outside_answer g.row.FLLEN (checked c.self.inside.heap c.self.inside.pool) c.args.range outside);
+        answer = inl (sym (outside_answer g.row.FLLEN (checked c.self.inside.heap (listed c.self.inside.pools)) c.args.range outside));
         same = refl;
-        pool = refl;
+        pools = refl;
         bytes = refl;
       };
       frame = frame_unchanged c.self.inside.heap;
@@ -130,11 +110,33 @@ returns-then-range-self g c =
       };
       bounds = λ count size align sized. sized;
       refused = record {
-        answer = sym (before_answer g.row.FLLEN (checked c.self.inside.heap c.self.inside.pool) c.args.range within c.if-range-self.true);
+        answer = inl (sym (before_answer g.row.FLLEN (checked c.self.inside.heap (listed c.self.inside.pools)) c.args.range within c.if-range-self.true));
         same = refl;
-        pool = refl;
+        pools = refl;
         bytes = refl;
       };
+      frame = frame_unchanged c.self.inside.heap;
+      touches = omega arith;
+    })
+
+pub returns-then-not-reserve : goal.returns-then-not-reserve
+returns-then-not-reserve g c =
+    let is = is_behind g (goal.at.returns-then-not-reserve g c).Else-range-self in
+    let some : 0 < c.self.inside.pools.last.len = elim (cases_lt 0 c.self.inside.pools.last.len) [
+      | inl more ↦ more
+      | inr none ↦ absurd (true≢false (sym (c.reserve.ensures.first (omega (arith, none))) ∙ c.if-not-reserve.true))
+    ] in
+    rw (← c.self.view_is) (record {
+      step = tt;
+      result = tt;
+      room = record {
+        pool = λ count size align len told at32 long idle. tt;
+        budget = λ count bytes size align len told at32 long. tt;
+        budgets = λ count bytes size align sized. sized;
+        blocks = refl;
+      };
+      bounds = λ count size align sized. sized;
+      refused = record { answer = inr (refl, some, sym is.within, is.behind); same = refl; pools = c.reserve.ensures.same; bytes = refl };
       frame = frame_unchanged c.self.inside.heap;
       touches = omega arith;
     })
@@ -155,9 +157,12 @@ returns-in_default g c =
       };
       bounds = did.bounds;
       refused = record {
-        answer = sym (behind_answer g.row.FLLEN (checked c.self.inside.heap c.self.inside.pool) c.args.range is.within is.behind ∙ ap if_taken (sym step.answer));
+        answer =
+            inl (
+            sym (behind_answer g.row.FLLEN (checked c.self.inside.heap (listed c.self.inside.pools)) c.args.range is.within is.behind ∙ ap if_taken (sym step.answer))
+            );
         same = none_taken g.row.FLLEN c.self.inside.heap.state c.insert_free_block_ptr.new.self.state c.args.range step;
-        pool = refl;
+        pools = c.reserve.ensures.same;
         bytes = did.refused;
       };
       frame = did.frame;
@@ -175,15 +180,17 @@ returns g c =
           subst (λ n. Steps g.row.FLLEN g.row.SLLEN heap c.insert_free_block_ptr.new.self (Inserts g.row.FLLEN heap.state c.args.range (Some n)))
           (sym c.get-len.ensures.value)
           did.step;
-      result = refl;
+      result = c.add.ensures ∙ ap (λ p. with_pool p (range_at c.args.range.start c.get-len.result)) c.reserve.ensures.same;
       room = record { pool = did.result.pool; budget = did.result.budget; budgets = did.result.budgets; blocks = did.result.blocks };
       bounds = did.bounds;
       refused = record {
         answer =
+            inl (
             ap Ok c.get-len.ensures.value
-            ∙ sym (behind_answer g.row.FLLEN (checked heap c.self.inside.pool) c.args.range is.within is.behind ∙ ap if_taken (sym step.answer));
+            ∙ sym (behind_answer g.row.FLLEN (checked heap (listed c.self.inside.pools)) c.args.range is.within is.behind ∙ ap if_taken (sym step.answer))
+            );
         same = tt;
-        pool = tt;
+        pools = tt;
         bytes = tt;
       };
       frame = did.frame;

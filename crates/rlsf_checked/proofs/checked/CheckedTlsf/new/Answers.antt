@@ -1,12 +1,14 @@
-use Rattle.std.proofs.Common.{◌≡◌, ◌<◌, ◌≤◌, ◌%◌, Result, Ok, Err, ℕ, refl, sym, ◌∙◌, ap, subst}
+use Rattle.std.proofs.Common.{◌≡◌, ◌≤◌, ◌%◌, Result, Ok, Err, ℕ, refl, sym, ◌∙◌, ap, subst}
 use Rattle.std.proofs.lemmas.Bool.{false≢true}
-use Rattle.rlsf_base.specs.Range.{end_of, range_at}
+use Rattle.rlsf_base.specs.Range.{end_of}
 use Rattle.rlsf_base.specs.Space.{Space, range_of}
+use Rattle.rlsf_checked.specs.Checked.{PoolList}
+use Rattle.rlsf_checked.specs.Pools.{no_pools}
 use Rattle.rlsf_checked.specs.Steps.Marks.{HasMark}
 use Rattle.rlsf_checked.specs.Steps.Standing.{IsChecked}
 use Rattle.rlsf_checked.specs.declared.error.CheckedError.{CheckedError}
 use Rattle.rlsf_checked.specs.declared.error.CheckedError.TheVariants.{InvalidClasses, OutOfMemory}
-use Rattle.rlsf_checked.proofs.Pools.{made}
+use Rattle.rlsf_checked.proofs.PoolsOverSteps.{made}
 use Rattle.rlsf_checked.proofs.checked.CheckedTlsf.new.Goals as goal
 
 pub invariant_of-result : goal.invariant_of-result
@@ -16,9 +18,9 @@ invariant_of-result g c =
     let covers =
     subst (λ (x : Space). (a : ℕ) → a % 16 ≡ 0 → x.start ≤ a → a ≤ end_of (range_of x) → HasMark marks a) (sym c.new-2.ensures.memory)
     c.in-Some.ensures.covers in
-    subst (λ n. IsChecked g.row.FLLEN g.row.SLLEN heap marks (range_at n 0)) (ap (λ (x : Space). x.start) c.new-2.ensures.memory ∙ sym c.start.ensures.value)
-    (made heap marks c.new-2.ensures.stands c.new-2.ensures.state
-    (subst (λ (x : Space). 0 < x.start) (sym c.new-2.ensures.memory) c.start.ensures.bounds.0) c.in-Some.ensures.none covers)
+    subst (λ (pools : PoolList). IsChecked g.row.FLLEN g.row.SLLEN heap marks pools)
+    (ap (λ (x : Space). no_pools x.start) c.new-2.ensures.memory ∙ ap no_pools (sym c.start.ensures.value) ∙ sym c.new-pools.ensures)
+    (made heap marks c.new-2.ensures.stands c.new-2.ensures.state c.in-Some.ensures.none covers)
 
 pub returns : goal.returns
 returns g c = record {
@@ -27,7 +29,7 @@ returns g c = record {
   state = c.new-2.ensures.state;
   live = (c.new-2.ensures.count, c.new-2.ensures.blocks);
   memory = c.new-2.ensures.memory;
-  pool = ap (λ n. range_at n 0) c.start.ensures.value;
+  pools = c.new-pools.ensures ∙ ap no_pools c.start.ensures.value;
   stands = c.new-2.ensures.stands;
 }
   where
@@ -41,7 +43,7 @@ returns-in_default g c = record {
   state = tt;
   live = tt;
   memory = tt;
-  pool = tt;
+  pools = tt;
   stands = tt;
 }
   where
@@ -55,6 +57,6 @@ returns-then-not-are_valid g c = record {
   state = tt;
   live = tt;
   memory = tt;
-  pool = tt;
+  pools = tt;
   stands = tt;
 }

@@ -1,42 +1,40 @@
-use Rattle.std.proofs.Common.{◌<◌, None, Some, [], ◌++◌, arith, sym}
-use Rattle.rlsf_checked.proofs.Gathered.{each_block, first_found, first_in, none_found, none_yet, one_more_run}
+use Rattle.std.proofs.Common.{None, Some, [], ◌++◌, length, rules, arith, ap, sym}
 use Rattle.rlsf_tlsf.proofs.Arrivals.{well_formed}
-use Rattle.rlsf_checked.proofs.RunsByEdges.{started, starts}
+use Rattle.rlsf_checked.proofs.Gathered.{all_earlier, first_at, first_in, first_of_last, none_found, none_yet, one_more_pool, row_at}
 use Rattle.rlsf_checked.proofs.checked.CheckedTlsf.next_block.Goals as goal
 
-pub loop-place-init : goal.loop-place-init
-loop-place-init g c =
-    let w = well_formed c.args.self.now.heap c.bounds_of_runs-start.ensures.stands in
-    let start = c.bounds_of_runs-start.ensures.start in
-    (start, ([], none_yet w (started start) c.bounds_of_runs-start.ensures.low, λ b i. absurd i))
+pub loop-pool-init : goal.loop-pool-init
+loop-pool-init g c = ([], none_yet _, λ b i. absurd i)
+
+pub iter_blocks-requires : goal.iter_blocks-requires
+iter_blocks-requires g c =
+    let w = well_formed c.self.inside.heap c.self.invariant.stands in
+    (omega arith, row_at w c.self.invariant.pools _ c.deref-pool-items.ensures.value c.loop-pool.pool-index _ c.loop-pool-test.true (search rules))
 
 pub returns-in-Some : goal.returns-in-Some
-returns-in-Some g c =
-    let w = well_formed c.args.self.now.heap c.bounds_of_runs-start.ensures.stands in
-    let (start, (bs, upto, none)) = c.loop-place.invariant in
-    let is = c.next_blocks-blocks.ensures in
-    first_found w upto (omega (arith, c.loop-place-test.true)) is.run c.next_blocks-blocks.result.0 is.blocks c.args.from none c.in-Some.block
-    (first_in c.args.from c.next_blocks-blocks.result.0 is.blocks.in_order (Some c.in-Some.block) (sym c.in-Some.ensures))
+returns-in-Some g c = rw (← c.self.view_is) (
+    let w = well_formed c.self.inside.heap c.self.invariant.stands in
+    let (bs, have, none) = rw (← c.self.view_is) at c.loop-pool.invariant in
+    let blocks = c.iter_blocks.ensures.blocks in
+    let items = c.deref-pool-items.ensures.value in
+    first_at w c.self.invariant.pools _ items c.loop-pool.pool-index _ c.loop-pool-test.true (search rules) have c.args.from none c.iter_blocks.result blocks c.in-Some.block
+    (first_in c.args.from c.iter_blocks.result blocks.in_order (Some c.in-Some.block) (sym c.in-Some.ensures)))
 
-pub loop-place-preserved : goal.loop-place-preserved
-loop-place-preserved g c =
-    let w = well_formed c.args.self.now.heap c.bounds_of_runs-start.ensures.stands in
-    let (start, (bs, upto, none)) = c.loop-place.invariant in
-    let lt : c.loop-place.place < c.bounds_of_runs-start.result.1 = omega (arith, c.loop-place-test.true) in (
-      starts c.next_blocks-blocks.ensures.run.left,
-      (
-        bs ++ c.next_blocks-blocks.result.0,
-        one_more_run w upto lt c.next_blocks-blocks.ensures.run c.next_blocks-blocks.result.0 c.next_blocks-blocks.ensures.blocks,
-        none_found w upto lt c.next_blocks-blocks.ensures.run c.next_blocks-blocks.result.0 c.next_blocks-blocks.ensures.blocks c.args.from none
-            (first_in c.args.from c.next_blocks-blocks.result.0 c.next_blocks-blocks.ensures.blocks.in_order None (sym c.in_default.ensures)),
-      ),
-    )
+pub loop-pool-preserved : goal.loop-pool-preserved
+loop-pool-preserved g c = rw (← c.self.view_is) (
+    let w = well_formed c.self.inside.heap c.self.invariant.stands in
+    let (bs, have, none) = rw (← c.self.view_is) at c.loop-pool.invariant in
+    let blocks = c.iter_blocks.ensures.blocks in (
+      bs ++ c.iter_blocks.result,
+      one_more_pool w c.self.invariant.pools _ c.deref-pool-items.ensures.value c.loop-pool.pool-index _ c.loop-pool-test.true (search rules) have _ blocks,
+      none_found w c.self.invariant.pools have c.args.from none _ c.iter_blocks.result blocks
+          (first_in c.args.from c.iter_blocks.result blocks.in_order None (sym c.in_default.ensures)),
+    ))
 
 pub returns : goal.returns
-returns g c =
-    let w = well_formed c.args.self.now.heap c.bounds_of_runs-start.ensures.stands in
-    let (start, (bs, upto, none)) = c.loop-place.invariant in
-    λ b has. none b (each_block w upto (omega (arith, c.loop-place-test.false)) b has)
-
-pub loop-place-smaller : goal.loop-place-smaller
-loop-place-smaller g c = omega (arith, c.next_blocks-blocks.ensures.run.progress, c.next_blocks-blocks.ensures.run.left.order)
+returns g c = rw (← c.self.view_is) (
+    let w = well_formed c.self.inside.heap c.self.invariant.stands in
+    let (bs, have, none) = rw (← c.self.view_is) at c.loop-pool.invariant in
+    let all = all_earlier w c.self.invariant.pools c.loop-pool.pool-index (omega (arith, c.loop-pool-test.false, ap length c.deref-pool-items.ensures.value)) have in
+    let last = rw (← c.self.view_is) at c.blocks-2.ensures.blocks in
+    first_of_last w c.self.invariant.pools all c.args.from none c.blocks-2.result last c.first_of-2.result (sym c.first_of-2.ensures))

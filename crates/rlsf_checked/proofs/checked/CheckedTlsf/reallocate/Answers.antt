@@ -13,6 +13,7 @@ use Rattle.rlsf_checked.specs.declared.error.CheckedError.TheVariants.{NoLayout,
 use Rattle.rlsf_checked.specs.Checked.{checked}
 use Rattle.rlsf_checked.specs.Results.{KeepsCheckedFrameMoving}
 use Rattle.rlsf_checked.specs.Steps.Marks.{HasMark, mark_at}
+use Rattle.rlsf_checked.specs.Steps.Lists.{listed}
 use Rattle.rlsf_checked.proofs.SizeRefusals.{past_is_refused, unknown_is_refused}
 use Rattle.rlsf_checked.proofs.FieldsOverSteps.{has_mark, left_behind, marked_moved, size_fits, stands_after, step_of, unchanged}
 use Rattle.rlsf_checked.proofs.Unchanged.{frame_moving_unchanged}
@@ -34,10 +35,10 @@ bounds_kept g c count most_size align sized short fits =
 
 -- and so is what every call keeps
 frame_moving : (g : given.Over) (c : After-reallocate g)
-    → KeepsCheckedFrameMoving (at c.args.addr) (checked c.self.inside.heap c.self.inside.pool) (checked c.reallocate.new.self c.self.inside.pool)
+    → KeepsCheckedFrameMoving (at c.args.addr) (checked c.self.inside.heap (listed c.self.inside.pools)) (checked c.reallocate.new.self (listed c.self.inside.pools))
 frame_moving g c =
     let is = c.reallocate.ensures.frame in
-    record { count = is.count; chunks = is.chunks; pool = refl; place = is.place; grow = is.grow; copied = is.copied; grow_copied = is.grow_copied }
+    record { count = is.count; chunks = is.chunks; pools = refl; place = is.place; grow = is.grow; copied = is.copied; grow_copied = is.grow_copied }
 
 pub invariant_of-self : goal.invariant_of-self
 invariant_of-self g c =
@@ -49,7 +50,7 @@ set-requires g c =
     let live : align_at c.self.inside.heap.state (at c.args.addr) ≡ Some c.in-Some.align = sym (rw (← c.self.view_is) at c.in-Some.ensures.value) in
     let there = subst (HasMark c.self.inside.marks) (sym c.get-left.ensures.value)
     (has_mark c.self.invariant c.self.inside.heap c.self.invariant.stands (refl, refl, refl, λ none. none) (at c.args.addr) c.in-Some.align live) in
-    record { place = there; small = omega arith }
+    there
 
 pub set-requires-2 : goal.set-requires-2
 set-requires-2 g c =
@@ -57,7 +58,7 @@ set-requires-2 g c =
     let there = c.set.ensures.places c.get.result
     (subst (HasMark c.self.inside.marks) (sym c.get.ensures.value)
     (has_mark c.self.invariant c.reallocate.new.self (stands_after _ _ _ _ _ did.step) did.frame.place (at c.in-Some-reallocate.moved) c.in-Ok.layout.align did.result.live)) in
-    record { place = there; small = c.mark_of-mark.ensures.small }
+    there
 
 pub invariant_of-self-2 : goal.invariant_of-self-2
 invariant_of-self-2 g c =
@@ -71,9 +72,9 @@ invariant_of-self-2 g c =
     let cleared : mark_at c.set.new.self addr ≡ 0 = subst (λ a. mark_at c.set.new.self a ≡ 0) c.get-left.ensures.value c.set.ensures.here in
     let set : mark_at c.set-2.new.self to ≡ suc (floor_log2 layout.align) =
     subst (λ a. mark_at c.set-2.new.self a ≡ suc (floor_log2 layout.align)) c.get.ensures.value
-    (c.set-2.ensures.here ∙ c.mark_of-mark.ensures.value ∙ ap (λ n. suc (floor_log2 n)) (sym c.in-Ok.ensures.layout.1)) in
+    (c.set-2.ensures.here ∙ c.mark_of-mark.ensures ∙ ap (λ n. suc (floor_log2 n)) (sym c.in-Ok.ensures.layout.1)) in
     marked_moved c.self.invariant heap c.set.new.self c.set-2.new.self addr to layout.align (stands_after _ _ _ _ _ did.step) did.frame.place did.frame.chunks
-    (λ a has. c.set-2.ensures.places a (c.set.ensures.places a has)) (λ a. c.set-2.ensures.edges a ∙ c.set.ensures.edges a)
+    (λ a has. c.set-2.ensures.places a (c.set.ensures.places a has))
     (λ a apart. c.set.ensures.others a (λ same. apart (same ∙ c.get-left.ensures.value))) cleared
     (λ a apart. c.set-2.ensures.others a (λ same. apart (same ∙ c.get.ensures.value))) set did.result.live
     (left_behind g.row.FLLEN g.row.SLLEN c.self.inside.heap c.self.invariant.stands heap.state addr c.in-Some.align layout.size to live step) did.result.aligns
@@ -93,10 +94,10 @@ returns-in_default g c =
       refused = record {
         answer = subst (λ o. IsRefusedBy {A = NonZeroUsize} o (Err UnknownAddress)) (sym refused) refl;
         same = refl;
-        pool = refl;
+        pools = refl;
         bytes = refl;
       };
-      frame = frame_moving_unchanged (at c.args.addr) (checked c.self.inside.heap c.self.inside.pool);
+      frame = frame_moving_unchanged (at c.args.addr) (checked c.self.inside.heap (listed c.self.inside.pools));
       touches = omega arith;
     })
 
@@ -116,10 +117,10 @@ returns-in_default-from_size_align g c =
       refused = record {
         answer = subst (λ o. IsRefusedBy {A = NonZeroUsize} o (Err NoLayout)) (sym refused) refl;
         same = refl;
-        pool = refl;
+        pools = refl;
         bytes = refl;
       };
-      frame = frame_moving_unchanged (at c.args.addr) (checked c.self.inside.heap c.self.inside.pool);
+      frame = frame_moving_unchanged (at c.args.addr) (checked c.self.inside.heap (listed c.self.inside.pools));
       touches = omega arith;
     })
 
@@ -148,7 +149,7 @@ returns-in_default-reallocate g c =
             subst (λ o. IsRefusedBy {A = NonZeroUsize} (size_refusal o c.args.size) (Err NoRoom)) live
             (subst (λ o. IsRefusedBy {A = NonZeroUsize} o (Err NoRoom)) (sym (size_fits c.in-Ok.layout c.args.size c.in-Some.align size align)) refl);
         same = did.refused.same;
-        pool = refl;
+        pools = refl;
         bytes = did.refused.bytes;
       };
       frame = frame_moving g (goal.at.returns-in_default-reallocate g c).After-reallocate;
@@ -192,7 +193,7 @@ returns g c =
             subst (λ o. IsRefusedBy (size_refusal o c.args.size) (Ok c.in-Some-reallocate.moved)) live
             (subst (λ o. IsRefusedBy o (Ok c.in-Some-reallocate.moved)) (sym (size_fits c.in-Ok.layout c.args.size c.in-Some.align size align)) tt);
         same = tt;
-        pool = tt;
+        pools = tt;
         bytes = tt;
       };
       frame = frame_moving g (goal.at.returns g c).After-reallocate;

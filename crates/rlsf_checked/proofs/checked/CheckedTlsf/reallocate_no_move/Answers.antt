@@ -10,6 +10,7 @@ use Rattle.rlsf_checked.specs.Answers.{IsRefusedBy, size_refusal}
 use Rattle.rlsf_checked.specs.Checked.{checked}
 use Rattle.rlsf_checked.specs.declared.error.CheckedError.TheVariants.{NoLayout, NoRoom, UnknownAddress}
 use Rattle.rlsf_checked.specs.Results.{KeepsCheckedFrameInPlace}
+use Rattle.rlsf_checked.specs.Steps.Lists.{listed}
 use Rattle.rlsf_checked.proofs.SizeRefusals.{past_is_refused, unknown_is_refused}
 use Rattle.rlsf_checked.proofs.FieldsOverSteps.{size_fits, stands_after, unchanged}
 use Rattle.rlsf_checked.proofs.Unchanged.{frame_in_place_unchanged}
@@ -38,10 +39,10 @@ bounds_kept g c count most_size align sized short fits =
 
 -- and so is what every call keeps
 frame_in_place : (g : given.Over) (c : After-reallocate_no_move g)
-    → KeepsCheckedFrameInPlace (at c.args.addr) (checked c.self.inside.heap c.self.inside.pool) (checked c.reallocate_no_move.new.self c.self.inside.pool)
+    → KeepsCheckedFrameInPlace (at c.args.addr) (checked c.self.inside.heap (listed c.self.inside.pools)) (checked c.reallocate_no_move.new.self (listed c.self.inside.pools))
 frame_in_place g c =
     let is = c.reallocate_no_move.ensures.frame in
-    record { aligns = is.aligns; bytes = is.bytes; count = is.count; chunks = is.chunks; pool = refl; place = is.place; grow = is.grow; copied = is.copied }
+    record { aligns = is.aligns; bytes = is.bytes; count = is.count; chunks = is.chunks; pools = refl; place = is.place; grow = is.grow; copied = is.copied }
 
 pub invariant_of-self : goal.invariant_of-self
 invariant_of-self g c =
@@ -63,10 +64,10 @@ returns-in_default g c =
       refused = record {
         answer = subst (λ o. IsRefusedBy {A = NonZeroUsize} o (Err UnknownAddress)) (sym refused) refl;
         same = refl;
-        pool = refl;
+        pools = refl;
         bytes = refl;
       };
-      frame = frame_in_place_unchanged (at c.args.addr) (checked c.self.inside.heap c.self.inside.pool);
+      frame = frame_in_place_unchanged (at c.args.addr) (checked c.self.inside.heap (listed c.self.inside.pools));
       touches = omega arith;
     })
 
@@ -81,10 +82,10 @@ returns-in_default-from_size_align g c =
       refused = record {
         answer = subst (λ o. IsRefusedBy {A = NonZeroUsize} o (Err NoLayout)) (sym refused) refl;
         same = refl;
-        pool = refl;
+        pools = refl;
         bytes = refl;
       };
-      frame = frame_in_place_unchanged (at c.args.addr) (checked c.self.inside.heap c.self.inside.pool);
+      frame = frame_in_place_unchanged (at c.args.addr) (checked c.self.inside.heap (listed c.self.inside.pools));
       touches = omega arith;
     })
 
@@ -102,7 +103,7 @@ returns-in_default-reallocate_no_move g c =
             subst (λ o. IsRefusedBy {A = NonZeroUsize} (size_refusal o c.args.size) (Err NoRoom)) live
             (subst (λ o. IsRefusedBy {A = NonZeroUsize} o (Err NoRoom)) (sym (size_fits c.in-Ok.layout c.args.size c.in-Some.align size align)) refl);
         same = did.refused.same;
-        pool = refl;
+        pools = refl;
         bytes = did.refused.bytes;
       };
       frame = frame_in_place g (goal.at.returns-in_default-reallocate_no_move g c).After-reallocate_no_move;
@@ -129,7 +130,7 @@ returns g c =
             subst (λ o. IsRefusedBy (size_refusal o c.args.size) (Ok to)) live
             (subst (λ o. IsRefusedBy o (Ok to)) (sym (size_fits c.in-Ok.layout c.args.size c.in-Some.align size align)) tt);
         same = tt;
-        pool = tt;
+        pools = tt;
         bytes = tt;
       };
       frame = frame_in_place g (goal.at.returns g c).After-reallocate_no_move;

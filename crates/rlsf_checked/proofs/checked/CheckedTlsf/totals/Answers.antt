@@ -1,55 +1,65 @@
-use Rattle.std.proofs.Common.{[], ◌++◌, arith, refl}
-use Rattle.rlsf_checked.proofs.Gathered.{all_of_them, none_yet, one_more_run}
-use Rattle.rlsf_checked.proofs.Joined.{total-append, total-le}
+use Rattle.std.proofs.Common.{[], ◌++◌, length, rules, arith, ap, refl}
 use Rattle.rlsf_tlsf.proofs.Arrivals.{well_formed}
-use Rattle.rlsf_checked.proofs.RunsByEdges.{started, starts}
+use Rattle.rlsf_checked.proofs.Gathered.{all_earlier, all_of_them, fits, none_yet, one_more_pool, row_at}
+use Rattle.rlsf_checked.proofs.Joined.{total-append}
 use Rattle.rlsf_checked.proofs.checked.CheckedTlsf.totals.Goals as goal
 
-pub loop-from-init : goal.loop-from-init
-loop-from-init g c =
-    let w = well_formed c.args.self.now.heap c.bounds_of_runs-start.ensures.stands in
-    let start = c.bounds_of_runs-start.ensures.start in
-    (start, ([], none_yet w (started start) c.bounds_of_runs-start.ensures.low, record { payloads = refl; used = refl; free = refl; longest = refl }, omega arith))
+pub loop-pool-init : goal.loop-pool-init
+loop-pool-init g c = ([], none_yet _, record { payloads = refl; used = refl; free = refl; longest = refl }, omega arith)
+
+pub iter_blocks-requires : goal.iter_blocks-requires
+iter_blocks-requires g c =
+    let w = well_formed c.self.inside.heap c.self.invariant.stands in
+    (omega arith, row_at w c.self.invariant.pools _ c.deref-pool-items.ensures.value c.loop-pool.pool-index _ c.loop-pool-test.true (search rules))
 
 pub joined-sum-requires-clause-fits : goal.joined-sum-requires-clause-fits
 joined-sum-requires-clause-fits g c =
-    let w = well_formed c.args.self.now.heap c.bounds_of_runs-start.ensures.stands in
-    let (start, (bs, upto, sums, few)) = c.loop-from.invariant in
-    let run = c.next_blocks-blocks.ensures.run in
-    let more = one_more_run w upto (omega (arith, c.loop-from-test.true)) run c.next_blocks-blocks.result.0 c.next_blocks-blocks.ensures.blocks in
-    let bounded = total-le (bs ++ c.next_blocks-blocks.result.0) 0 c.next_blocks-blocks.result.1 (omega arith) more.blocks.in_order (λ b i.
-    let (has, low, high) = (more.blocks.exactly b).0 i in (omega arith, omega (arith, high))) in
+    let w = well_formed c.self.inside.heap c.self.invariant.stands in
+    let (bs, have, sums, few) = rw (← c.self.view_is) at c.loop-pool.invariant in
+    let blocks = c.iter_blocks.ensures.blocks in
+    let more = one_more_pool w c.self.invariant.pools _ c.deref-pool-items.ensures.value c.loop-pool.pool-index _ c.loop-pool-test.true (search rules) have _ blocks in
     let t = c.totals_of.ensures.totals in
     omega (
       arith,
-      bounded,
-      total-append bs c.next_blocks-blocks.result.0,
-      run.left.order,
-      c.bounds_of_runs-start.ensures.high,
+      fits w (bs ++ c.iter_blocks.result) more.in_order (λ b i. ((more.exactly b).0 i).0),
+      total-append bs c.iter_blocks.result,
       sums.used,
       sums.free,
       t.used,
       t.free,
     )
 
-pub loop-from-preserved : goal.loop-from-preserved
-loop-from-preserved g c =
-    let w = well_formed c.args.self.now.heap c.bounds_of_runs-start.ensures.stands in
-    let (start, (bs, upto, sums, few)) = c.loop-from.invariant in (
-      starts c.next_blocks-blocks.ensures.run.left,
-      (
-        bs ++ c.next_blocks-blocks.result.0,
-        one_more_run w upto (omega (arith, c.loop-from-test.true)) c.next_blocks-blocks.ensures.run c.next_blocks-blocks.result.0 c.next_blocks-blocks.ensures.blocks,
-        c.joined-sum.ensures.totals bs c.next_blocks-blocks.result.0 sums c.totals_of.ensures.totals,
-        c.joined-sum.ensures.few,
-      ),
+pub joined-requires-clause-fits : goal.joined-requires-clause-fits
+joined-requires-clause-fits g c =
+    let w = well_formed c.self.inside.heap c.self.invariant.stands in
+    let (bs, have, sums, few) = rw (← c.self.view_is) at c.loop-pool.invariant in
+    let all = all_earlier w c.self.invariant.pools c.loop-pool.pool-index (omega (arith, c.loop-pool-test.false, ap length c.deref-pool-items.ensures.value)) have in
+    let both = all_of_them w c.self.invariant.pools all (rw (← c.self.view_is) at c.blocks-2.ensures.blocks) in
+    let t = c.totals_of-2.ensures.totals in
+    omega (
+      arith,
+      fits w (bs ++ c.blocks-2.result) both.in_order (λ b i. ((both.exactly b).0 i).0),
+      total-append bs c.blocks-2.result,
+      sums.used,
+      sums.free,
+      t.used,
+      t.free,
     )
 
-pub returns : goal.returns
-returns g c =
-    let w = well_formed c.args.self.now.heap c.bounds_of_runs-start.ensures.stands in
-    let (start, (bs, upto, sums, few)) = c.loop-from.invariant in
-    (bs, all_of_them w upto (omega (arith, c.loop-from-test.false)), sums)
+pub loop-pool-preserved : goal.loop-pool-preserved
+loop-pool-preserved g c = rw (← c.self.view_is) (
+    let w = well_formed c.self.inside.heap c.self.invariant.stands in
+    let (bs, have, sums, few) = rw (← c.self.view_is) at c.loop-pool.invariant in (
+      bs ++ c.iter_blocks.result,
+      one_more_pool w c.self.invariant.pools _ c.deref-pool-items.ensures.value c.loop-pool.pool-index _ c.loop-pool-test.true (search rules) have _ c.iter_blocks.ensures.blocks,
+      c.joined-sum.ensures.totals bs c.iter_blocks.result sums c.totals_of.ensures.totals,
+      c.joined-sum.ensures.few,
+    ))
 
-pub loop-from-smaller : goal.loop-from-smaller
-loop-from-smaller g c = omega (arith, c.next_blocks-blocks.ensures.run.progress, c.next_blocks-blocks.ensures.run.left.order)
+pub returns : goal.returns
+returns g c = rw (← c.self.view_is) (
+    let w = well_formed c.self.inside.heap c.self.invariant.stands in
+    let (bs, have, sums, few) = rw (← c.self.view_is) at c.loop-pool.invariant in
+    let all = all_earlier w c.self.invariant.pools c.loop-pool.pool-index (omega (arith, c.loop-pool-test.false, ap length c.deref-pool-items.ensures.value)) have in
+    let last = rw (← c.self.view_is) at c.blocks-2.ensures.blocks in
+    (bs ++ c.blocks-2.result, all_of_them w c.self.invariant.pools all last, c.joined.ensures.totals bs c.blocks-2.result sums c.totals_of-2.ensures.totals))

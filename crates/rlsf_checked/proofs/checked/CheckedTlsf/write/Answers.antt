@@ -9,6 +9,7 @@ use Rattle.rlsf_tlsf.specs.Lending.{written}
 use Rattle.rlsf_checked.specs.Answers.{fits, if_in_range}
 use Rattle.rlsf_checked.specs.declared.error.CheckedError.TheVariants.{OutOfRange}
 use Rattle.rlsf_checked.specs.Checked.{checked}
+use Rattle.rlsf_checked.specs.Steps.Lists.{listed}
 use Rattle.rlsf_checked.proofs.FieldsOverSteps.{unchanged}
 use Rattle.rlsf_checked.proofs.Unchanged.{frame_in_place_unchanged}
 use Rattle.rlsf_checked.proofs.checked.CheckedTlsf.write.Given as given
@@ -44,7 +45,7 @@ returns-in_default g c =
       bounds = λ count size align sized. sized;
       blocks = refl;
       refused = record { answer = ap (λ o. if_in_range o (fits c.args.offset (length c.args.bytes.now) (bytes_at c.self.inside.heap.state (at c.args.addr)))) none; same = refl };
-      frame = frame_in_place_unchanged (at c.args.addr) (checked c.self.inside.heap c.self.inside.pool);
+      frame = frame_in_place_unchanged (at c.args.addr) (checked c.self.inside.heap (listed c.self.inside.pools));
       touches = omega arith;
     })
 
@@ -63,7 +64,7 @@ returns-then-not-reaches g c =
             (ap (λ b. cond b (Ok tt) (Err OutOfRange)) told);
         same = refl;
       };
-      frame = frame_in_place_unchanged (at c.args.addr) (checked c.self.inside.heap c.self.inside.pool);
+      frame = frame_in_place_unchanged (at c.args.addr) (checked c.self.inside.heap (listed c.self.inside.pools));
       touches = omega arith;
     })
 
@@ -95,7 +96,7 @@ returns g c =
         bytes = did.bytes w;
         count = did.count w;
         chunks = chunks;
-        pool = refl;
+        pools = refl;
         place = place;
         grow = omega (arith, touches);
         copied = copied;

@@ -1,7 +1,7 @@
--- What is true of a checked allocator's fields once a range was inserted.
+-- What is true of a checked allocator's fields once a range was inserted or appended.
 use Rattle.std.proofs.Common.{◌≡◌, ℕ, zero, suc, ◌*◌, ◌/◌, find, ◌+◌, ◌-◌, ◌%◌, ◌^◌, ◌<◌, ◌≤◌, ◌⊎◌, true, false, cond, nat_le}
 use Rattle.std.proofs.Common.{nat_lt, List, [], ◌∷◌, length, Option, None, Some, Ok, Err, arith, refl, sym, ◌∙◌, ap, subst, inl, inr}
-use Rattle.std.proofs.lemmas.Bool.{and_from, and_parts, cases_lt, eqb-true, le-leb, le-ltb, leb-true, lt-ltb, ltb-true}
+use Rattle.std.proofs.lemmas.Bool.{and_parts, cases_lt, eqb-true, le-ltb, leb-true, lt-ltb, ltb-true}
 use Rattle.std.proofs.lemmas.Option.{none-some}
 use Rattle.std.specs.Prelude.{◌==◌}
 use Rattle.rlsf_base.specs.declared.memory.range.Range.{Range}
@@ -13,13 +13,13 @@ use Rattle.rlsf_base.proofs.Numbers.Roundings.{round32-le}
 use Rattle.rlsf_blocks.specs.Blocks.{walked}
 use Rattle.rlsf_model.specs.Callers.{align_at}
 use Rattle.rlsf_model.specs.ChunkRows.{IsRow}
-use Rattle.rlsf_model.specs.Insert.{Appends, Inserts, IsNext, IsUntouched, aligned_part, appended, appended_bytes, bytes_taken, cut, end_of_last, extended, grown_if, with_chunks}
+use Rattle.rlsf_model.specs.Insert.{Appends, Inserts, IsClear, IsNext, IsUntouched, aligned_part, appended, appended_bytes, bytes_taken, cut, end_of_last, extended, grown_if, with_chunks}
 use Rattle.rlsf_model.specs.Join.{ends_at}
 use Rattle.rlsf_model.specs.Lists.{IsIn}
 use Rattle.rlsf_model.specs.State.{State, empty}
 use Rattle.rlsf_model.specs.WellFormed.{coverage, itself}
 use Rattle.rlsf_model.proofs.CallerWords.{align_at-none}
-use Rattle.rlsf_model.proofs.ChunkRows.{IsRow-appended, IsRow-inserted}
+use Rattle.rlsf_model.proofs.ChunkRows.{IsRow-appended, IsRow-inserted, IsRow-kept, IsRow-kept_apart}
 use Rattle.rlsf_model.proofs.Chunks.{IsIn-with_chunks}
 use Rattle.rlsf_model.proofs.Coverage.{IsIn-without, coverage-IsIn, coverage-some, covers-inside, covers-some, find-some}
 use Rattle.rlsf_model.proofs.Cuts.{IsIn-cut_within, coverage-cut_last}
@@ -27,12 +27,13 @@ use Rattle.rlsf_model.proofs.Untouched.{IsFresh-untouched}
 use Rattle.rlsf_model.proofs.AddedChunks.{IsIn-end_of_last}
 use Rattle.rlsf_tlsf.specs.Allocator.{Allocator, Stands}
 use Rattle.rlsf_checked.specs.Answers.{append_answer, if_appended, if_taken, insert_answer, is_next, is_within}
-use Rattle.rlsf_checked.specs.Checked.{Checked}
+use Rattle.rlsf_checked.specs.Checked.{Checked, PoolList}
+use Rattle.rlsf_checked.specs.Pools.{no_pools, with_longer_last, with_pool}
 use Rattle.rlsf_checked.specs.declared.error.CheckedError.TheVariants.{NotBehind, NotNext, OutsideMemory}
 use Rattle.rlsf_checked.specs.declared.marks.Marks.{Marks}
-use Rattle.rlsf_checked.specs.Steps.Marks.{HasMark, byte_at, mark_at, mark_of}
-use Rattle.rlsf_checked.specs.Steps.Standing.{AreEdges, IsChecked}
-use Rattle.rlsf_checked.proofs.Edges.{no_edges}
+use Rattle.rlsf_checked.specs.Steps.Marks.{HasMark, mark_at, mark_of}
+use Rattle.rlsf_checked.specs.Steps.Standing.{ArePools, IsChecked, IsOneOf, IsPool}
+use Rattle.rlsf_checked.proofs.ListedPools.{inserted_order, is_in, one_of}
 
 -- no chunk of a part ends behind the last one
 end_of-cut : (fllen : ℕ) (part c : Range) → IsIn c (cut (max_pool_size fllen) part)
@@ -67,81 +68,98 @@ taken-within fllen r n e = go (cut (max_pool_size fllen) (aligned_part r)) refl 
         let taken : end_of_last (end_of d) ds - r.start ≡ n = cc in
         (omega (arith, round32-le r.start, from, within, some, ends), omega (arith, taken, round32-le r.start, from, within, some, ends))
 
--- no chunk ends behind what is taken of a range that is inserted behind all chunks
-pub inserted-below : (fllen : ℕ) (s t : State) (r : Range) (n : ℕ) → ((c : Range) → IsIn c s.chunks → end_of c ≤ r.start) → Inserts fllen s r (Some n) t
-    → (c : Range) → IsIn c t.chunks → end_of c ≤ r.start + n
-inserted-below fllen s t r n below step c i =
+-- a chunk after an insert was there, or lies in what is taken of the range
+inserted_in : (fllen : ℕ) (s t : State) (r : Range) (n : ℕ) → Inserts fllen s r (Some n) t → (c : Range) → IsIn c t.chunks
+    → ((r.start ≤ c.start) × (end_of c ≤ r.start + n)) ⊎ IsIn c s.chunks
+inserted_in fllen s t r n step c i =
     let cs = cut (max_pool_size fllen) (aligned_part r) in
     elim (IsIn-with_chunks c cs s (subst (λ (x : State). IsIn c x.chunks) step.after i)) [
       | inl made ↦
           let (from, to, in_part, some) = end_of-cut fllen (aligned_part r) c made in
-          end_of-taken r.start n (aligned_part r).start cs c (sym step.answer) made (omega (arith, round32-le r.start, from, to)) to
-      | inr old ↦ omega (arith, below c old)
+          inl (
+            omega (arith, round32-le r.start, from),
+            end_of-taken r.start n (aligned_part r).start cs c (sym step.answer) made (omega (arith, round32-le r.start, from, to)) to,
+          )
+      | inr old ↦ inr old
     ]
 
--- marks that show the same payloads, with the edges of a state
-pub record AreRenewed (m k : Marks) (s : State) : Type 0 where
-  pub marks : (a : ℕ) → mark_at k a ≡ mark_at m a
-  pub places : (a : ℕ) → HasMark m a → HasMark k a
-  pub edges : AreEdges k s
+-- the range is the last pool after that, if no pool is behind its start
+pub inserted_pools : (fllen : ℕ) (s t : State) (pools : PoolList) (r : Range) (n : ℕ) → ArePools s pools → end_of pools.last ≤ r.start → Inserts fllen s r (Some n) t
+    → ArePools t (with_pool pools (range_at r.start n))
+inserted_pools fllen s t pools r n are behind step =
+    let taken = taken-within fllen r n (sym step.answer) in
+    record {
+      each = λ p one. elim one [
+        | inl i ↦ let is = are.each p (one_of pools p i) in record { room = is.room; row = IsRow-kept fllen s t r (walked p) (Some n) step is.row }
+        | inr (same, some) ↦ subst (IsPool t) (sym same) (record { room = taken.1; row = IsRow-inserted fllen s t r n step })
+      ];
+      order = inserted_order pools are;
+      behind = λ p i. elim (one_of pools p i) [ inl j ↦ omega (arith, are.behind p j, behind) | inr (same, some) ↦ omega (arith, ap end_of same, behind) ];
+      homes = λ c i. elim (inserted_in fllen s t r n step c i) [
+        | inl (from, to) ↦ (range_at r.start n, inr (refl, omega (arith, taken.1, round32-le r.start)), from, to)
+        | inr old ↦ let (p, one, from, to) = are.homes c old in (p, inl (is_in pools p one), from, to)
+      ];
+    }
 
-module _ {fllen sllen : ℕ} {v : Allocator} {m : Marks} {pool : Range} (is : IsChecked fllen sllen v m pool) (r : Range) (behind : end_of pool ≤ r.start) where
-  -- no chunk has a byte behind the last pool
-  pub untouched : IsUntouched v.state.chunks r
-  unfolding IsUntouched
-  untouched a low high = elim (cases_lt (coverage itself v.state.chunks a) 1) [
+module _ {fllen sllen : ℕ} {v : Allocator} {m : Marks} {pools : PoolList} (is : IsChecked fllen sllen v m pools) where
+  -- no chunk ends behind the last pool
+  pub below : (c : Range) → IsIn c v.state.chunks → end_of c ≤ end_of pools.last
+  below c i =
+      let (p, one, from, to) = is.pools.homes c i in
+      elim one [ inl j ↦ omega (arith, to, is.pools.behind p j) | inr (same, some) ↦ omega (arith, to, ap end_of same) ]
+
+  -- no chunk has a byte behind it
+  pub clear : (r : Range) → end_of pools.last ≤ r.start → IsClear r v.state.chunks
+  clear r behind a low high = elim (cases_lt (coverage itself v.state.chunks a) 1) [
     | inl none ↦ omega (arith, none)
-    | inr some ↦ let (c, i, from, to) = coverage-some itself v.state.chunks a some in absurd (omega (arith, is.below c i, to, low, behind))
+    | inr some ↦ let (c, i, from, to) = coverage-some itself v.state.chunks a some in absurd (omega (arith, below c i, to, low, behind))
   ]
 
-  module _ (lies_in : LiesIn r v.memory.start (length v.memory.bytes)) (w : Allocator) (stands : Stands fllen sllen w) (place : SamePlace v.memory w.memory)
-      (aligns : align_at w.state ≡ align_at v.state) where
-    -- what was taken of the range is the last pool
-    pub handed_in : (n : ℕ) → Inserts fllen v.state r (Some n) w.state → (k : Marks) → AreRenewed m k w.state → IsChecked fllen sllen w k (range_at r.start n)
-    handed_in n step k renewed = record {
+  pub untouched : (r : Range) → end_of pools.last ≤ r.start → IsUntouched v.state.chunks r
+  unfolding IsUntouched
+  untouched r behind a low high = clear r behind a low high
+
+  -- every address of a pool fits in a word
+  pub pool_fits : end_of pools.last < 2 ^ 64
+  unfolding Stands
+  pool_fits = omega (arith, is.high, is.stands.stands.well_formed.addressable)
+
+  module _ (w : Allocator) (stands : Stands fllen sllen w) (place : SamePlace v.memory w.memory) (aligns : align_at w.state ≡ align_at v.state) where
+    -- the fields are those of a checked allocator with other pools
+    pub renewed : (after : PoolList) → ArePools w.state after → v.memory.start ≤ after.last.start → end_of after.last ≤ end_of (range_of v.memory)
+        → IsChecked fllen sllen w m after
+    renewed after are low high = record {
       stands = stands;
-      marked = λ a. renewed.marks a ∙ is.marked a ∙ ap (λ f. mark_of (f a)) (sym aligns);
-      covers = λ a even low high. renewed.places a (is.covers a even (omega (arith, place.0, low)) (omega (arith, place.0, place.1, high)));
-      edged = renewed.edges;
-      some_address = omega (arith, is.some_address, place.0);
-      low = omega (arith, lies_in.0, place.0);
-      high = omega (arith, lies_in.1, place.0, place.1, (taken-within fllen r n (sym step.answer)).0);
-      below = inserted-below fllen v.state w.state r n (λ c i. omega (arith, is.below c i, behind)) step;
-      apart = apart;
-      room = λ more. (taken-within fllen r n (sym step.answer)).1;
-      row = IsRow-inserted fllen v.state w.state r n step;
+      marked = λ a. is.marked a ∙ ap (λ f. mark_of (f a)) (sym aligns);
+      covers = λ a even low high. is.covers a even (omega (arith, place.0, low)) (omega (arith, place.0, place.1, high));
+      low = omega (arith, low, place.0);
+      high = omega (arith, high, place.0, place.1);
+      pools = are;
     }
-      where
-        apart : (c : Range) → IsIn c w.state.chunks → (end_of c ≤ r.start) ⊎ (r.start ≤ c.start)
-        apart c i =
-            let cs = cut (max_pool_size fllen) (aligned_part r) in
-            elim (IsIn-with_chunks c cs v.state (subst (λ (s : State). IsIn c s.chunks) step.after i)) [
-              | inl made ↦ let (from, to, in_part, some) = end_of-cut fllen (aligned_part r) c made in inr (omega (arith, round32-le r.start, from))
-              | inr old ↦ inl (omega (arith, is.below c old, behind))
-            ]
+
+    -- what was taken of a range is the last pool
+    pub handed_in : (r : Range) → end_of pools.last ≤ r.start → LiesIn r v.memory.start (length v.memory.bytes) → (n : ℕ) → Inserts fllen v.state r (Some n) w.state
+        → IsChecked fllen sllen w m (with_pool pools (range_at r.start n))
+    handed_in r behind lies n step = renewed (with_pool pools (range_at r.start n)) (inserted_pools fllen v.state w.state pools r n is.pools behind step) lies.0
+        (omega (arith, lies.1, (taken-within fllen r n (sym step.answer)).0))
 
 -- an allocator to which nothing was handed, with marks that are all 0
-pub made : {fllen sllen : ℕ} (heap : Allocator) (m : Marks) → Stands fllen sllen heap → heap.state ≡ empty → 0 < heap.memory.start → ((a : ℕ) → byte_at m a ≡ 0)
+pub made : {fllen sllen : ℕ} (heap : Allocator) (m : Marks) → Stands fllen sllen heap → heap.state ≡ empty → ((a : ℕ) → mark_at m a ≡ 0)
     → ((a : ℕ) → a % 16 ≡ 0 → heap.memory.start ≤ a → a ≤ end_of (range_of heap.memory) → HasMark m a)
-    → IsChecked fllen sllen heap m (range_at heap.memory.start 0)
-made heap m stands none some zeros covers = record {
+    → IsChecked fllen sllen heap m (no_pools heap.memory.start)
+made heap m stands none zeros covers = record {
   stands = stands;
-  marked = λ a. ap (λ b. b % 128) (zeros a) ∙ ap mark_of (sym (ap (λ s. align_at s a) none ∙ align_at-none empty a refl));
+  marked = λ a. zeros a ∙ ap mark_of (sym (ap (λ s. align_at s a) none ∙ align_at-none empty a refl));
   covers = covers;
-  edged = no_edges m heap.state zeros (ap (λ (s : State). s.chunks) none);
-  some_address = some;
   low = omega arith;
   high = omega arith;
-  below = λ c i. absurd (subst (λ (s : State). IsIn c s.chunks) none i);
-  apart = λ c i. absurd (subst (λ (s : State). IsIn c s.chunks) none i);
-  room = λ more. absurd (omega (arith, more));
-  row = λ a low high. absurd (omega (arith, round32-le heap.memory.start));
+  pools = record {
+    each = λ p one. elim one [ inl i ↦ absurd i | inr (same, some) ↦ absurd (omega (arith, some, ap (λ (x : Range). x.len) same)) ];
+    order = tt;
+    behind = λ p i. absurd i;
+    homes = λ c i. absurd (subst (λ (s : State). IsIn c s.chunks) none i);
+  };
 }
-
--- every address of the last pool fits in a word
-pub pool_fits : {fllen sllen : ℕ} {v : Allocator} {m : Marks} {pool : Range} → IsChecked fllen sllen v m pool → end_of pool < 2 ^ 64
-unfolding Stands
-pool_fits is = omega (arith, is.high, is.stands.stands.well_formed.addressable)
 
 -- where nothing is taken, nothing changes
 pub none_taken : (fllen : ℕ) (s t : State) (r : Range) → Inserts fllen s r None t → t ≡ s
@@ -157,44 +175,39 @@ within_is whole r e =
     let (from, to) = and_parts (nat_le whole.start r.start) (nat_le (end_of r) (end_of whole)) (sym e) in
     (leb-true whole.start r.start from, leb-true (end_of r) (end_of whole) to)
 
--- and one that does is found to
-pub is_within-lies : (whole r : Range) → LiesIn r whole.start whole.len → is_within whole r ≡ true
-is_within-lies whole r (from, to) = and_from _ _ (le-leb whole.start r.start from) (le-leb (end_of r) (end_of whole) to)
-
 -- what is returned of a range in the memory that doesn't begin before the end of the last pool
-pub behind_answer : (fllen : ℕ) (v : Checked) (r : Range) → true ≡ is_within (range_of v.heap.memory) r → end_of v.pool ≤ r.start
+pub behind_answer : (fllen : ℕ) (v : Checked) (r : Range) → true ≡ is_within (range_of v.heap.memory) r → end_of v.pools.last ≤ r.start
     → insert_answer fllen v r ≡ if_taken (bytes_taken r.start (cut (max_pool_size fllen) (aligned_part r)))
 behind_answer fllen v r within behind =
     let told = if_taken (bytes_taken r.start (cut (max_pool_size fllen) (aligned_part r))) in
-    ap (λ t. cond t (cond (nat_lt r.start (end_of v.pool)) (Err NotBehind) told) (Err OutsideMemory)) (sym within)
-    ∙ ap (λ t. cond t (Err NotBehind) told) (le-ltb r.start (end_of v.pool) behind)
+    ap (λ t. cond t (cond (nat_lt r.start (end_of v.pools.last)) (Err NotBehind) told) (Err OutsideMemory)) (sym within)
+    ∙ ap (λ t. cond t (Err NotBehind) told) (le-ltb r.start (end_of v.pools.last) behind)
 
 -- one outside of the memory is refused
 pub outside_answer : (fllen : ℕ) (v : Checked) (r : Range) → false ≡ is_within (range_of v.heap.memory) r → insert_answer fllen v r ≡ Err OutsideMemory
 outside_answer fllen v r outside =
     let told = if_taken (bytes_taken r.start (cut (max_pool_size fllen) (aligned_part r))) in
-    ap (λ t. cond t (cond (nat_lt r.start (end_of v.pool)) (Err NotBehind) told) (Err OutsideMemory)) (sym outside)
+    ap (λ t. cond t (cond (nat_lt r.start (end_of v.pools.last)) (Err NotBehind) told) (Err OutsideMemory)) (sym outside)
 
 -- and so is one before the end of the last pool
-pub before_answer : (fllen : ℕ) (v : Checked) (r : Range) → true ≡ is_within (range_of v.heap.memory) r → r.start < end_of v.pool
+pub before_answer : (fllen : ℕ) (v : Checked) (r : Range) → true ≡ is_within (range_of v.heap.memory) r → r.start < end_of v.pools.last
     → insert_answer fllen v r ≡ Err NotBehind
 before_answer fllen v r within before =
     let told = if_taken (bytes_taken r.start (cut (max_pool_size fllen) (aligned_part r))) in
-    ap (λ t. cond t (cond (nat_lt r.start (end_of v.pool)) (Err NotBehind) told) (Err OutsideMemory)) (sym within)
-    ∙ ap (λ t. cond t (Err NotBehind) told) (lt-ltb r.start (end_of v.pool) before)
+    ap (λ t. cond t (cond (nat_lt r.start (end_of v.pools.last)) (Err NotBehind) told) (Err OutsideMemory)) (sym within)
+    ∙ ap (λ t. cond t (Err NotBehind) told) (lt-ltb r.start (end_of v.pools.last) before)
 
 -- ---- a range behind the last pool
 
 -- the last pool ends with a chunk
-pub last_chunk : {fllen sllen : ℕ} {v : Allocator} {m : Marks} {pool : Range} → IsChecked fllen sllen v m pool → 0 < pool.len
-    → (c : Range) × IsIn c v.state.chunks × (end_of c ≡ end_of pool)
-last_chunk {pool = pool} is some =
-    let room = is.room some in
-    let (c, i, from, low, high, to) = is.row (end_of pool - 1) (omega (arith, room)) (omega (arith, room)) in
+pub last_chunk : {s : State} {p : Range} → IsPool s p → (c : Range) × IsIn c s.chunks × (end_of c ≡ end_of p)
+last_chunk {p = p} is =
+    let room = is.room in
+    let (c, i, from, low, high, to) = is.row (end_of p - 1) (omega (arith, room)) (omega (arith, room)) in
     (c, i, omega (arith, room, high, to))
 
 -- the chunks of a range that begins where a chunk ends don't end behind what is appended of it
-pub appended-below : (fllen : ℕ) (s : State) (r : Range) → r.start % 32 ≡ 0 → (n : ℕ) → n ≡ appended_bytes (max_pool_size fllen) r
+appended-below : (fllen : ℕ) (s : State) (r : Range) → r.start % 32 ≡ 0 → (n : ℕ) → n ≡ appended_bytes (max_pool_size fllen) r
     → ((c : Range) → IsIn c s.chunks → end_of c ≤ r.start)
     → (c : Range) → IsIn c (appended (max_pool_size fllen) r s).chunks → end_of c ≤ r.start + n
 appended-below fllen s r whole n told below = go (max_pool_size fllen) refl told
@@ -225,35 +238,29 @@ appended-below fllen s r whole n told below = go (max_pool_size fllen) refl told
           | inr old ↦ omega (arith, below c old)
         ]
 
--- and none of them crosses an address before it that no chunk crosses
-appended-apart : (fllen : ℕ) (s : State) (r : Range) (start : ℕ) → r.start % 32 ≡ 0 → start < r.start
-    → ((c : Range) → IsIn c s.chunks → (end_of c ≤ start) ⊎ (start ≤ c.start))
-    → (c : Range) → IsIn c (appended (max_pool_size fllen) r s).chunks → (end_of c ≤ start) ⊎ (start ≤ c.start)
-appended-apart fllen s r start whole before apart = go (max_pool_size fllen) refl
+-- and each was there, or doesn't begin before an address at which the chunk that ends there doesn't begin either
+appended-old : (fllen : ℕ) (s : State) (r : Range) (start : ℕ) → start < r.start → ((c : Range) → IsIn c s.chunks → end_of c ≡ r.start → start ≤ c.start)
+    → (c : Range) → IsIn c (appended (max_pool_size fllen) r s).chunks → IsIn c s.chunks ⊎ (start ≤ c.start)
+appended-old fllen s r start before last = go (max_pool_size fllen) refl
   where
-    grown-apart : (k : ℕ) (o : Option Range) → find (ends_at r.start) s.chunks ≡ o → (c : Range) → IsIn c (grown_if o k s).chunks
-        → (end_of c ≤ start) ⊎ (start ≤ c.start)
-    grown-apart k None found c i = apart c i
-    grown-apart k (Some d) found c (inl same) =
+    grown-old : (k : ℕ) (o : Option Range) → find (ends_at r.start) s.chunks ≡ o → (c : Range) → IsIn c (grown_if o k s).chunks → IsIn c s.chunks ⊎ (start ≤ c.start)
+    grown-old k None found c i = inl i
+    grown-old k (Some d) found c (inl same) =
         let (held, passes) = find-some (ends_at r.start) d s.chunks found in
-        let ends : end_of d ≡ r.start = eqb-true (end_of d) r.start passes in
-        elim (apart d held) [
-          | inl low ↦ absurd (omega (arith, low, ends, before))
-          | inr high ↦ inr (omega (arith, high, ap (λ (x : Range). x.start) same))
-        ]
-    grown-apart k (Some d) found c (inr j) = apart c (IsIn-without (ends_at (end_of d)) c s.chunks j)
+        inr (omega (arith, last d held (eqb-true (end_of d) r.start passes), ap (λ (x : Range). x.start) same))
+    grown-old k (Some d) found c (inr j) = inl (IsIn-without (ends_at (end_of d)) c s.chunks j)
 
-    extended-apart : (k : ℕ) → (c : Range) → IsIn c (extended r.start k s).chunks → (end_of c ≤ start) ⊎ (start ≤ c.start)
-    extended-apart zero c i = apart c i
-    extended-apart (suc k) c i = grown-apart (suc k) (find (ends_at r.start) s.chunks) refl c i
+    extended-old : (k : ℕ) → (c : Range) → IsIn c (extended r.start k s).chunks → IsIn c s.chunks ⊎ (start ≤ c.start)
+    extended-old zero c i = inl i
+    extended-old (suc k) c i = grown-old (suc k) (find (ends_at r.start) s.chunks) refl c i
 
-    go : (o : Option ℕ) → max_pool_size fllen ≡ o → (c : Range) → IsIn c (appended o r s).chunks → (end_of c ≤ start) ⊎ (start ≤ c.start)
-    go None same c i = extended-apart (r.len / 32 * 32) c i
+    go : (o : Option ℕ) → max_pool_size fllen ≡ o → (c : Range) → IsIn c (appended o r s).chunks → IsIn c s.chunks ⊎ (start ≤ c.start)
+    go None same c i = extended-old (r.len / 32 * 32) c i
     go (Some most) same c i = elim (IsIn-with_chunks c (cut (Some most) (aligned_part r)) s i) [
       | inl made ↦
           let (from, to, within, some) = end_of-cut fllen (aligned_part r) c (subst (λ o. IsIn c (cut o (aligned_part r))) (sym same) made) in
-          inr (omega (arith, from, before, whole))
-      | inr old ↦ apart c old
+          inr (omega (arith, from, before, round32-le r.start))
+      | inr old ↦ inl old
     ]
 
 -- no more is taken than the range has, and where nothing is, nothing changes
@@ -284,76 +291,109 @@ appended-le fllen s r = go (max_pool_size fllen) refl
 pub none_appended : (fllen : ℕ) (s t : State) (r : Range) → Appends fllen s r 0 t → t ≡ s
 none_appended fllen s t r step = (appended-le fllen s r).1 t step
 
-module _ {fllen sllen : ℕ} {v : Allocator} {m : Marks} {pool : Range} (is : IsChecked fllen sllen v m pool) (r : Range) (some : 0 < pool.len) (next : r.start ≡ end_of pool)
-    (lies_in : LiesIn r v.memory.start (length v.memory.bytes)) where
+module _ {fllen sllen : ℕ} {v : Allocator} {m : Marks} {pools : PoolList} (is : IsChecked fllen sllen v m pools) (r : Range) (some : 0 < pools.last.len)
+    (next : r.start ≡ end_of pools.last) (lies_in : LiesIn r v.memory.start (length v.memory.bytes)) where
+  last_is : IsPool v.state pools.last
+  last_is = is.pools.each pools.last (inr (refl, some))
+
   pub next_range : IsNext (range_of v.memory) v.state r
   next_range =
-      let (c, i, ends) = last_chunk is some in
+      let (c, i, ends) = last_chunk last_is in
       record { fresh = IsFresh-untouched (range_of v.memory) v.state r lies_in (untouched is r (omega (arith, next))); chunk = c; is_chunk = i; ends = ends ∙ sym next }
 
-  pub whole_start : r.start % 32 ≡ 0
+  whole_start : r.start % 32 ≡ 0
   unfolding Stands
   whole_start =
-      let (c, i, ends) = last_chunk is some in
+      let (c, i, ends) = last_chunk last_is in
       let whole = (is.stands.stands.well_formed.chunks c i).whole in
       omega (arith, whole.start, whole.len, ends, next)
 
-  pub longer_row : (w : Allocator) (n : ℕ) → Appends fllen v.state r n w.state → IsRow w.state (walked (range_at pool.start (pool.len + n)))
+  longer_row : (w : Allocator) (n : ℕ) → Appends fllen v.state r n w.state → IsRow w.state (walked (range_at pools.last.start (pools.last.len + n)))
   unfolding Stands
   longer_row w n step =
-      let room = is.room some in
-      let p = walked pool in
+      let room = last_is.room in
+      let p = walked pools.last in
       let ends : end_of p ≡ r.start = omega (arith, room, next) in
-      let long : p.len + n ≡ pool.start + (pool.len + n) - p.start = omega (arith, room) in
-      subst (λ l. IsRow w.state (range_at p.start l)) long (IsRow-appended is.stands.stands.well_formed r p ends (omega (arith, room)) is.row n w.state step)
+      let long : p.len + n ≡ pools.last.start + (pools.last.len + n) - p.start = omega (arith, room) in
+      subst (λ l. IsRow w.state (range_at p.start l)) long (IsRow-appended is.stands.stands.well_formed r p ends (omega (arith, room)) last_is.row n w.state step)
 
   -- no more is taken than the range has, so its end fits in a word
-  pub appended_fits : (w : Allocator) (n : ℕ) → Appends fllen v.state r n w.state → (n ≤ r.len) × (end_of pool + n < 2 ^ 64)
+  pub appended_fits : (w : Allocator) (n : ℕ) → Appends fllen v.state r n w.state → (n ≤ r.len) × (end_of pools.last + n < 2 ^ 64)
   unfolding Stands
   appended_fits w n step =
       let few : n ≤ r.len = omega (arith, step.answer, (appended-le fllen v.state r).0) in
       (few, omega (arith, few, lies_in.1, is.stands.stands.well_formed.addressable, next))
 
+  appended_pools : (w : Allocator) (n : ℕ) → Appends fllen v.state r n w.state → ArePools w.state (with_longer_last pools n)
+  appended_pools w n step = record {
+    each = λ p one. elim one [
+      | inl i ↦
+          let was = is.pools.each p (inl i) in
+          let apart : end_of (walked p) ≡ r.start → ⊥ = λ ends. omega (arith, ends, was.room, is.pools.behind p i, next, some) in
+          record {
+            room = was.room;
+            row = IsRow-kept_apart v.state r (walked p) (clear is r (omega (arith, next))) apart was.row fllen n w.state step;
+          }
+      | inr (same, long) ↦ subst (IsPool w.state) (sym same) (record { room = omega (arith, last_is.room); row = longer_row w n step })
+    ];
+    order = is.pools.order;
+    behind = is.pools.behind;
+    homes = homes;
+  }
+    where
+      -- a chunk that ends with the last pool is in it
+      at_end : (c : Range) → IsIn c v.state.chunks → end_of c ≡ r.start → pools.last.start ≤ c.start
+      at_end c i ends =
+          let (p, one, from, to) = is.pools.homes c i in
+          elim one [
+            | inl j ↦ absurd (omega (arith, ends, to, is.pools.behind p j, next, some))
+            | inr (same, long) ↦ omega (arith, from, ap (λ (x : Range). x.start) same)
+          ]
+
+      homes : (c : Range) → IsIn c w.state.chunks → (p : Range) × IsOneOf p (with_longer_last pools n) × (p.start ≤ c.start) × (end_of c ≤ end_of p)
+      homes c i =
+          let j = subst (λ (x : State). IsIn c x.chunks) step.after i in
+          let to = appended-below fllen v.state r whole_start n step.answer (λ d k. omega (arith, below is d k, next)) c j in
+          elim (appended-old fllen v.state r pools.last.start (omega (arith, next, some)) at_end c j) [
+            | inr from ↦ (range_at pools.last.start (pools.last.len + n), inr (refl, omega (arith, some)), from, omega (arith, to, next))
+            | inl old ↦
+                let (p, one, from, end) = is.pools.homes c old in
+                elim one [
+                  | inl k ↦ (p, inl k, from, end)
+                  | inr (same, long) ↦ (
+                    range_at pools.last.start (pools.last.len + n),
+                    inr (refl, omega (arith, some)),
+                    omega (arith, from, ap (λ (x : Range). x.start) same),
+                    omega (arith, to, next),
+                  )
+                ]
+          ]
+
   -- the last pool is longer by what was taken
   pub handed_on : (w : Allocator) → Stands fllen sllen w → SamePlace v.memory w.memory → align_at w.state ≡ align_at v.state → (n : ℕ)
-      → Appends fllen v.state r n w.state → (k : Marks) → AreRenewed m k w.state → IsChecked fllen sllen w k (range_at pool.start (pool.len + n))
-  handed_on w stands place aligns n step k renewed = record {
-    stands = stands;
-    marked = λ a. renewed.marks a ∙ is.marked a ∙ ap (λ f. mark_of (f a)) (sym aligns);
-    covers = λ a even low high. renewed.places a (is.covers a even (omega (arith, place.0, low)) (omega (arith, place.0, place.1, high)));
-    edged = renewed.edges;
-    some_address = omega (arith, is.some_address, place.0);
-    low = omega (arith, is.low, place.0);
-    high = omega (arith, lies_in.1, place.0, place.1, next, step.answer, (appended-le fllen v.state r).0);
-    below = λ c i. omega (
-      arith,
-      next,
-      appended-below fllen v.state r whole_start n step.answer (λ d j. omega (arith, is.below d j, next)) c (subst (λ (s : State). IsIn c s.chunks) step.after i),
-    );
-    apart = λ c i. appended-apart fllen v.state r pool.start whole_start (omega (arith, next, some)) is.apart c (subst (λ (s : State). IsIn c s.chunks) step.after i);
-    room = λ more. omega (arith, is.room some);
-    row = longer_row w n step;
-  }
+      → Appends fllen v.state r n w.state → IsChecked fllen sllen w m (with_longer_last pools n)
+  handed_on w stands place aligns n step = renewed is w stands place aligns (with_longer_last pools n) (appended_pools w n step) is.low
+      (omega (arith, lies_in.1, next, step.answer, (appended-le fllen v.state r).0))
 
 -- what is returned of a range in the memory that begins where the last pool ends
-pub next_answer : (fllen : ℕ) (v : Checked) (r : Range) → true ≡ is_within (range_of v.heap.memory) r → true ≡ is_next v.pool r.start
+pub next_answer : (fllen : ℕ) (v : Checked) (r : Range) → true ≡ is_within (range_of v.heap.memory) r → true ≡ is_next v.pools.last r.start
     → append_answer fllen v r ≡ if_appended (appended_bytes (max_pool_size fllen) r)
 next_answer fllen v r within next =
     let told = if_appended (appended_bytes (max_pool_size fllen) r) in
-    ap (λ t. cond t (cond (is_next v.pool r.start) told (Err NotNext)) (Err OutsideMemory)) (sym within) ∙ ap (λ t. cond t told (Err NotNext)) (sym next)
+    ap (λ t. cond t (cond (is_next v.pools.last r.start) told (Err NotNext)) (Err OutsideMemory)) (sym within) ∙ ap (λ t. cond t told (Err NotNext)) (sym next)
 
 -- one outside of the memory isn't appended
 pub none_outside : (fllen : ℕ) (v : Checked) (r : Range) → false ≡ is_within (range_of v.heap.memory) r → append_answer fllen v r ≡ Err OutsideMemory
 none_outside fllen v r outside =
     let told = if_appended (appended_bytes (max_pool_size fllen) r) in
-    ap (λ t. cond t (cond (is_next v.pool r.start) told (Err NotNext)) (Err OutsideMemory)) (sym outside)
+    ap (λ t. cond t (cond (is_next v.pools.last r.start) told (Err NotNext)) (Err OutsideMemory)) (sym outside)
 
 -- nor one that isn't next
-pub none_apart : (fllen : ℕ) (v : Checked) (r : Range) → true ≡ is_within (range_of v.heap.memory) r → false ≡ is_next v.pool r.start
+pub none_apart : (fllen : ℕ) (v : Checked) (r : Range) → true ≡ is_within (range_of v.heap.memory) r → false ≡ is_next v.pools.last r.start
     → append_answer fllen v r ≡ Err NotNext
 none_apart fllen v r within apart =
     let told = if_appended (appended_bytes (max_pool_size fllen) r) in
-    ap (λ t. cond t (cond (is_next v.pool r.start) told (Err NotNext)) (Err OutsideMemory)) (sym within) ∙ ap (λ t. cond t told (Err NotNext)) (sym apart)
+    ap (λ t. cond t (cond (is_next v.pools.last r.start) told (Err NotNext)) (Err OutsideMemory)) (sym within) ∙ ap (λ t. cond t told (Err NotNext)) (sym apart)
 
 -- a range that is found to be next begins where a chunk ends
 pub next_is : (pool r : Range) → true ≡ is_next pool r.start → (0 < pool.len) × (r.start ≡ end_of pool)
