@@ -91,10 +91,8 @@ impl<const UNIT: usize> OffsetTlsf<UNIT> {
     {
         let units = len / UNIT;
         let most = greater(units, limit / UNIT);
-        match UnitTlsf::new(alloc, units, most) {
-            Ok(inner) => Ok(OffsetTlsf { inner }),
-            Err(error) => Err(error),
-        }
+        let inner = UnitTlsf::new(alloc, units, most)?;
+        Ok(OffsetTlsf { inner })
     }
 
     /// Makes the space `len` bytes long. Bytes behind its last complete unit are not used. The new units are free, and live ranges stay.

@@ -84,10 +84,7 @@ impl UnitTlsf {
         if most > MOST {
             return Err(MemoryError::TooLong);
         }
-        match shadow(alloc, most) {
-            Ok(memory) => Ok(over(memory, units, most)),
-            Err(error) => Err(error),
-        }
+        Ok(over(shadow(alloc, most)?, units, most))
     }
 
     /// Returns the number of units of the space.

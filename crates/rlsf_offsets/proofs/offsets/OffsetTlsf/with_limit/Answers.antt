@@ -2,29 +2,16 @@ use Rattle.std.proofs.Common.{ap, true≢false}
 use Rattle.std.specs.Prelude.{is_ok}
 use Rattle.rlsf_base.proofs.Numbers.PowersOfTwo.{IsPowerOfTwo-positive}
 use Rattle.rlsf_offsets.proofs.Bytes.{len_at-empty}
-use Rattle.rlsf_offsets.proofs.Frees.{same_error}
 use Rattle.rlsf_offsets.proofs.offsets.OffsetTlsf.with_limit.Goals as goal
 
-pub returns-in-Ok : goal.returns-in-Ok
-returns-in-Ok g c =
-    let e = c.in-Ok.ensures in
+pub returns : goal.returns
+returns g c =
+    let e = c.in_ok-inner.ensures in
     rw (← c.greater-most.ensures.value) (record {
       too_long = (λ long. absurd (true≢false (ap is_ok long)), λ far. absurd (true≢false (ap is_ok (e.too_long.1 far))));
       refused = tt;
       units = e.units;
-      empty = len_at-empty g.row.UNIT (IsPowerOfTwo-positive g.row.UNIT c.requires) c.in-Ok.inner e.empty;
+      empty = len_at-empty g.row.UNIT (IsPowerOfTwo-positive g.row.UNIT c.requires) c.in_ok-inner.inner e.empty;
       free = e.free;
       sized = e.sized;
-    })
-
-pub returns-in-Err : goal.returns-in-Err
-returns-in-Err g c =
-    let e = c.in-Err.ensures in
-    rw (← c.greater-most.ensures.value) (record {
-      too_long = (λ long. e.too_long.0 (same_error _ _ long), λ far. same_error _ _ (e.too_long.1 far));
-      refused = e.refused;
-      units = tt;
-      empty = tt;
-      free = tt;
-      sized = tt;
     })

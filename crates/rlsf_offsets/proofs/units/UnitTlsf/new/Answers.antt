@@ -1,4 +1,4 @@
-use Rattle.std.proofs.Common.{ℕ, ap, arith, inl, inr, refl, rules, subst, true≢false}
+use Rattle.std.proofs.Common.{ℕ, ap, arith, inl, refl, subst, true≢false}
 use Rattle.std.specs.Prelude.{is_ok}
 use Rattle.rlsf_offsets.specs.Units.{IsFreeRun}
 use Rattle.rlsf_offsets.proofs.Rooms.{fresh_run}
@@ -14,8 +14,8 @@ returns-then-most-gt-MOST c = record {
   sized = tt;
 }
 
-pub returns-in-Ok : goal.returns-in-Ok
-returns-in-Ok c =
+pub returns : goal.returns
+returns c =
     let e = c.over.ensures in record {
       too_long = (λ long. absurd (true≢false (ap is_ok long)), λ far. absurd (omega (arith, c.if-most-gt-MOST.false, far)));
       refused = tt;
@@ -23,15 +23,4 @@ returns-in-Ok c =
       empty = e.empty;
       free = subst (λ (n : ℕ). IsFreeRun c.over.result 0 n) e.units.0 (fresh_run c.over.result e.empty);
       sized = e.sized;
-    }
-
-pub returns-in-Err : goal.returns-in-Err
-returns-in-Err c =
-    let none = c.in-Err.ensures.refused in record {
-      too_long = (λ long. search rules, λ far. absurd (omega (arith, c.if-most-gt-MOST.false, far)));
-      refused = inr none;
-      units = tt;
-      empty = tt;
-      free = tt;
-      sized = tt;
     }
