@@ -1,7 +1,6 @@
 -- A range of units is deallocated, and a space in which nothing is live.
 use Rattle.std.proofs.Common.{◌≡◌, ◌≢◌, ℕ, ◌+◌, ◌-◌, ◌*◌, ◌/◌, ◌%◌, ◌^◌, ◌<◌, List, [], ◌∷◌, cond, length, Option, None, arith, refl, ◌∙◌, ap, subst}
 use Rattle.std.proofs.lemmas.Bool.{le-leb}
-use Rattle.std.specs.Prelude.{Err, Ok, Result}
 use Rattle.rlsf_base.specs.declared.memory.range.Range.{Range}
 use Rattle.rlsf_base.specs.Range.{end_of}
 use Rattle.rlsf_model.specs.Callers.{align_at}
@@ -40,16 +39,6 @@ IsReleased-deallocated {units} {a} {b} o addr at long gone =
     }
 
 -- ---- the beginning
-
-abbrev error_or : {A E : Type 0} → E → Result A E → E
-error_or e (Ok x) = e
-error_or e (Err f) = f
-
--- two errors that are equal as results are so as results of another type
-pub same_error : {A B E : Type 0} (e f : E) → ◌≡◌ {A = Result A E} (Err e) (Err f) → ◌≡◌ {A = Result B E} (Err e) (Err f)
-same_error {A} {B} {E} e f same =
-    let inside : e ≡ f = ap {A = Result A E} (error_or e) same in
-    λ i. Err (inside i)
 
 nothing : (used : List Used) (u : Used) → length used ≡ 0 → IsIn u used → ⊥
 nothing [] u e i = i
