@@ -250,18 +250,18 @@ size_t rlsf_pool_write(rlsf_pool *pool, size_t addr, size_t offset, const void *
  * fewer bytes. */
 size_t rlsf_pool_copy(rlsf_pool *pool, size_t from, size_t to, size_t len);
 
-/* Returns the totals of the used and free blocks of all ranges. The time grows with the number of blocks and the length of the memory. */
+/* Returns the totals of the used and free blocks of all ranges. The time grows with the numbers of blocks and ranges. */
 rlsf_pool_statistics rlsf_pool_stats(const rlsf_pool *pool);
 
 /* Returns the first block, of any range, that begins at `from` or behind it. To iterate, begin at 0 and continue at each block's
- * start + len. The time grows with the number of blocks up to that one and the length of the memory before it.
+ * start + len. The time grows with the numbers of blocks and ranges up to that one.
  *
  * Returns RLSF_NO_BLOCK exactly if it applies. */
 rlsf_pool_block rlsf_pool_walk(const rlsf_pool *pool, size_t from);
 
 /* Lists the blocks of all ranges that begin at `from` or behind it, in address order, as three numbers each: start, length, and 1 if
  * used, else 0. Returns the number of listed blocks: all of them, or `len / 3` if there are more. The numbers behind those of the listed
- * blocks are unchanged. The time grows with the number of blocks and the length of the memory.
+ * blocks are unchanged. The time grows with the numbers of blocks and ranges.
  *
  * The condition for `into` applies to `numbers`, which has room for `len` numbers, less than 2^60. */
 size_t rlsf_pool_list(const rlsf_pool *pool, size_t from, size_t *numbers, size_t len);
