@@ -19,7 +19,7 @@ type Queue<'r> = MessageQueue<Option<Lent<'r>>>;
 /// How many threads return payloads, how many payloads there are, and how many of them may be lent at once.
 const GIVERS: usize = 8;
 
-const COUNT: usize = 2_000;
+const COUNT: usize = 1_000_000;
 
 const LENT: usize = 1000;
 

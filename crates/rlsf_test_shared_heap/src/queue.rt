@@ -14,6 +14,16 @@ type Queue = MessageQueue<usize>;
 
 static CAPACITIES: [usize; 8] = [0, 1, 2, 3, 7, 64, 1001, 65536];
 
+/// Sends the `n`th number, every third one by `try_send`. Returns whether it was sent.
+fn is_sent<R: Wait>(rt: &R, queue: &Queue, number: usize, n: usize) -> bool {
+    let result = if n % 3 == 2 {
+        queue.try_send(number)
+    } else {
+        queue.send(rt, number)
+    };
+    result.is_ok()
+}
+
 /// Sends the numbers from `first` on, but at most `most`, until one is refused. Those before the `waited` number are sent by
 /// `wait_and_send`, every other one. Returns how many were sent.
 fn sent<R: Wait>(rt: &R, queue: &Queue, first: usize, most: usize, waited: usize) -> usize {
@@ -21,7 +31,7 @@ fn sent<R: Wait>(rt: &R, queue: &Queue, first: usize, most: usize, waited: usize
         let number = first.wrapping_add(n);
         if n % 2 == 1 && n < waited {
             queue.wait_and_send(rt, number);
-        } else if queue.send(rt, number).is_err() {
+        } else if !is_sent(rt, queue, number, n) {
             return n;
         }
     }
@@ -111,6 +121,7 @@ fn no_call_is_refused_while_another_thread_is_in(rt: HostRuntime) -> Result<(), 
 #[derive(Clone, Copy)]
 enum Wakes {
     Send,
+    TrySend,
     WaitAndSend,
     Receive,
     WaitAndReceive,
@@ -150,7 +161,7 @@ fn reaches<R: Wait>(rt: &R, count: &AtomicU64, wanted: u64) -> bool {
 /// Waits for a message, or for room.
 fn wait_once<R: Wait>(rt: &R, meeting: &Meeting, wakes: Wakes) {
     match wakes {
-        Wakes::Send | Wakes::WaitAndSend => {
+        Wakes::Send | Wakes::TrySend | Wakes::WaitAndSend => {
             let _ = meeting.queue.wait_and_receive(rt);
         }
         Wakes::Receive | Wakes::WaitAndReceive => meeting.queue.wait_and_send(rt, 0),
@@ -168,12 +179,23 @@ fn wait_often<R: Wait>(rt: &R, meeting: &Meeting, wakes: Wakes) {
     meeting.left.fetch_add(1, Ordering::SeqCst);
 }
 
+/// Sends a message by `try_send`, which is refused while another thread has the lock.
+fn try_often<R: Wait>(rt: &R, queue: &Queue) {
+    for _ in 0..5000 {
+        if queue.try_send(0).is_ok() {
+            return;
+        }
+        nap(rt);
+    }
+}
+
 /// Makes the call that wakes one thread.
 fn wake<R: Wait>(rt: &R, queue: &Queue, wakes: Wakes) {
     match wakes {
         Wakes::Send => {
             let _ = queue.send(rt, 0);
         }
+        Wakes::TrySend => try_often(rt, queue),
         Wakes::WaitAndSend => queue.wait_and_send(rt, 0),
         Wakes::Receive => {
             let _ = queue.receive(rt);
@@ -203,7 +225,10 @@ fn wake_often<R: Wait>(rt: &R, meeting: &Meeting, wakes: Wakes) -> u64 {
 /// Wakes threads that wait, also if one of the calls doesn't.
 fn release<R: Wait>(rt: &R, queue: &Queue, wakes: Wakes) {
     let (full, other) = match wakes {
-        Wakes::Send | Wakes::WaitAndSend => (Wakes::Receive, [Wakes::Send, Wakes::WaitAndSend]),
+        Wakes::Send | Wakes::TrySend | Wakes::WaitAndSend => (
+            Wakes::Receive,
+            [Wakes::Send, Wakes::WaitAndSend],
+        ),
         Wakes::Receive | Wakes::WaitAndReceive => (
             Wakes::Send,
             [Wakes::Receive, Wakes::WaitAndReceive],
@@ -259,10 +284,11 @@ fn meet<R: Threads + Wait + Sync>(rt: &R, alloc: Global, wakes: Wakes) -> Result
 fn each_call_wakes_one_that_waits(rt: HostRuntime) -> Result<(), Fail> {
     let turns = [
         meet(&rt, rt.alloc(), Wakes::Send)?,
+        meet(&rt, rt.alloc(), Wakes::TrySend)?,
         meet(&rt, rt.alloc(), Wakes::WaitAndSend)?,
         meet(&rt, rt.alloc(), Wakes::Receive)?,
         meet(&rt, rt.alloc(), Wakes::WaitAndReceive)?,
     ];
-    all(&rt, &[turns == [TURNS; 4]]);
+    all(&rt, &[turns == [TURNS; 5]]);
     Ok(())
 }
