@@ -3,7 +3,7 @@ use Rattle.std.proofs.Common.{◌≡◌, ◌≢◌, ◌⊎◌, ℕ, suc, ◌+◌
 use Rattle.std.proofs.Common.{Bool, ◌&&◌, nat_le, true, false, List, [], ◌∷◌, get_or, length, Option, Some, None, IsSome}
 use Rattle.std.proofs.Common.{if◌then◌else◌, arith, refl, sym, ap, subst, inl, inr, ◌∙◌}
 use Rattle.std.proofs.lemmas.Bool.{cases_eq}
-use Rattle.std.proofs.lemmas.Bool.Decides.{eqb_tells, leb_tells, nat_tests}
+use Rattle.std.proofs.lemmas.Bool.Decides.{eqb_tells, nat_tests}
 use Rattle.std.proofs.lemmas.List.{get_or_past}
 use Rattle.rlsf_global.specs.LiveRows.{AreAddresses, AreCoded, CodeSpace, HasCapacity, HasPlace, IsKept, code_at, code_in, code_of, code_space, codes_for}
 use Rattle.rlsf_global.specs.declared.live_table.codes.Codes.{Codes}
@@ -116,6 +116,36 @@ length-put row (r ∷ rows) none = by (nat_lt (key r) (key row)) (key r == key r
     by true false rest e = let h = rest e in omega (arith, h)
     by false false rest e = omega arith
 
+-- no more than one more, whether the address has an entry or not
+pub length-put_most : (row : Row) (rows : List Row) → length (put row rows) ≤ length rows + 1
+length-put_most row [] = omega arith
+length-put_most row (r ∷ rows) = by (nat_lt (key r) (key row)) (key r == key row) (length-put_most row rows)
+  where
+    by : (lt eq : Bool) → length (put row rows) ≤ length rows + 1
+        → length (if lt then r ∷ put row rows else if eq then row ∷ rows else row ∷ r ∷ rows) ≤ suc (length rows) + 1
+    by true eq rest = omega (arith, rest)
+    by false true rest = omega arith
+    by false false rest = omega arith
+
+-- one less, if the address has an entry
+length-without_most : (a : ℕ) (rows : List Row) → length (without_row a rows) ≤ length rows
+length-without_most a [] = omega arith
+length-without_most a (r ∷ rows) = by (key r == a) (length-without_most a rows)
+  where
+    by : (eq : Bool) → length (without_row a rows) ≤ length rows → length (if not eq then r ∷ without_row a rows else without_row a rows) ≤ suc (length rows)
+    by true rest = omega (arith, rest)
+    by false rest = omega (arith, rest)
+
+pub length-without_less : (a : ℕ) (rows : List Row) → IsSome (row_at a rows) → length (without_row a rows) + 1 ≤ length rows
+length-without_less a [] some = cc
+length-without_less a (r ∷ rows) some = by (key r == a) (length-without_most a rows) (length-without_less a rows) some
+  where
+    by : (eq : Bool) → length (without_row a rows) ≤ length rows → (IsSome (row_at a rows) → length (without_row a rows) + 1 ≤ length rows)
+        → IsSome (if eq then Some r else row_at a rows)
+        → length (if not eq then r ∷ without_row a rows else without_row a rows) + 1 ≤ suc (length rows)
+    by true most rest some = omega (arith, most)
+    by false most rest some = let less = rest some in omega (arith, less)
+
 without-absent : (a : ℕ) (rows : List Row) → ((r : Row) → IsIn r rows → key r ≢ a) → without_row a rows ≡ rows
 without-absent a [] n = refl
 without-absent a (r ∷ rows) n = by (key r == a) (eqb_tells (key r) a) (without-absent a rows (λ x i. n x (inr i)))
@@ -169,27 +199,32 @@ address-fits a rows all r e = let found = row_at-in a rows r e in subst (λ n. n
 
 -- ---- what is true of a table
 
+-- one with an entry is counted
+pub some-live : (addr : ℕ) (rows : List Row) → IsSome (row_at addr rows) → 0 < length rows
+some-live addr [] some = cc
+some-live addr (r ∷ rows) some = omega arith
+
 -- a table without entries
 pub kept-none : (c : Codes) (start len : ℕ) → start < 2 ^ 64 → len < 2 ^ 64 → length c.codes.items ≡ 0 → code_space c ≡ codes_for start len
-    → (rows listed : List Row) (cap : ℕ) → rows ≡ [] → listed ≡ [] → IsKept c rows 0 0 listed cap
-kept-none c start len small short none space rows listed cap is empty =
+    → (rows : List Row) → rows ≡ [] → IsKept c rows 0
+kept-none c start len small short none space rows is =
     let first : c.first ≡ start / 16 = ap (λ (s : CodeSpace). s.first) space in
     let count : c.count ≡ len / 16 + 2 = ap (λ (s : CodeSpace). s.count) space in
-    subst (λ xs. IsKept c xs 0 0 listed cap) (sym is) (record {
+    subst (λ xs. IsKept c xs 0) (sym is) (record {
       coded = coded-none c none;
       sorted = tt;
       addresses = addresses-none;
       counted = refl;
-      within = omega arith;
-      room = omega arith;
-      none = empty;
       ready = λ some. absurd (omega (arith, some));
       few = omega (arith, none);
       narrow = omega (arith, first, count, small, short);
     })
 
-module _ (c e : Codes) (rows : List Row) (live limit : ℕ) (listed : List Row) (cap : ℕ) (kept : IsKept c rows live limit listed cap)
-    (space : code_space e ≡ code_space c) where
+-- where an entry is, there is room for all codes
+pub kept-ready : (c : Codes) (rows : List Row) (live : ℕ) → IsKept c rows live → (addr : ℕ) → IsSome (row_at addr rows) → HasCapacity c
+kept-ready c rows live kept addr some = let few = some-live addr rows some in let count = kept.counted in kept.ready (omega (arith, few, count))
+
+module _ (c e : Codes) (rows : List Row) (live : ℕ) (kept : IsKept c rows live) (space : code_space e ≡ code_space c) where
   first_same : e.first ≡ c.first
   first_same = ap (λ (s : CodeSpace). s.first) space
 
@@ -197,90 +232,59 @@ module _ (c e : Codes) (rows : List Row) (live limit : ℕ) (listed : List Row) 
   count_same = ap (λ (s : CodeSpace). s.count) space
 
   -- there may be more room for codes
-  module _ (codes : e.codes.items ≡ c.codes.items) (more : HasCapacity c → HasCapacity e) where
-    reserved : AreCoded e rows
-    reserved = coded-same c e rows kept.coded
-        (λ a i. if (a % 16 == 0) && nat_le (first_same i) (a / 16) then get_or (codes i) (a / 16 - first_same i) 0 else 0)
+  pub kept-reserved : e.codes.items ≡ c.codes.items → (HasCapacity c → HasCapacity e) → IsKept e rows live
+  kept-reserved codes more = record {
+    coded = coded-same c e rows kept.coded
+        (λ a i. if (a % 16 == 0) && nat_le (first_same i) (a / 16) then get_or (codes i) (a / 16 - first_same i) 0 else 0);
+    sorted = kept.sorted;
+    addresses = kept.addresses;
+    counted = kept.counted;
+    ready = λ some. more (kept.ready some);
+    few = let few = kept.few in omega (arith, few, ap length codes, count_same);
+    narrow = let was = kept.narrow in omega (arith, was, first_same, count_same);
+  }
 
-    few_reserved : length e.codes.items ≤ e.count
-    few_reserved = let few = kept.few in omega (arith, few, ap length codes, count_same)
-
-    pub kept-reserved : IsKept e rows live limit listed cap
-    kept-reserved = record {
-      coded = reserved;
-      sorted = kept.sorted;
-      addresses = kept.addresses;
-      counted = kept.counted;
-      within = kept.within;
-      room = kept.room;
-      none = kept.none;
-      ready = λ some. more (kept.ready some);
-      few = few_reserved;
-      narrow = let was = kept.narrow in omega (arith, was, first_same, count_same);
-    }
-
-    -- and there is more room for entries
-    pub kept-longer : HasCapacity e → (longer : ℕ) (empty : List Row) (cap' : ℕ) → limit ≤ longer → longer ≤ cap' → empty ≡ []
-        → IsKept e rows live longer empty cap'
-    kept-longer there longer empty cap' more' room none = record {
-      coded = reserved;
-      sorted = kept.sorted;
-      addresses = kept.addresses;
-      counted = kept.counted;
-      within = let was = kept.within in omega (arith, was, more');
-      room = room;
-      none = none;
-      ready = λ some. there;
-      few = few_reserved;
-      narrow = let was = kept.narrow in omega (arith, was, first_same, count_same);
-    }
-
-  -- the code of one address was set
+  -- the code of one address was set, and there is room for all codes
   module _ (n code : ℕ) (here : code_at e n ≡ code) (others : (a : ℕ) → a ≢ n → code_at e a ≡ code_at c a)
-      (few : length e.codes.items ≤ e.count) (more : HasCapacity c → HasCapacity e) where
-    with_rows : (after : List Row) (live' : ℕ) → AreCoded e after → IsSorted after → AreAddresses after → live' ≡ length after → live' ≤ limit
-        → IsKept e after live' limit listed cap
-    with_rows after live' coded sorted addresses counted within = record {
+      (few : length e.codes.items ≤ e.count) (room : HasCapacity e) where
+    with_rows : (after : List Row) (live' : ℕ) → AreCoded e after → IsSorted after → AreAddresses after → live' ≡ length after → IsKept e after live'
+    with_rows after live' coded sorted addresses counted = record {
       coded = coded;
       sorted = sorted;
       addresses = addresses;
       counted = counted;
-      within = within;
-      room = kept.room;
-      none = kept.none;
-      ready = λ some. more (kept.ready some);
+      ready = λ some. room;
       few = few;
       narrow = let was = kept.narrow in omega (arith, was, first_same, count_same);
     }
 
-    pub kept-put : (row : Row) → n ≡ key row → code ≡ code_of row.1 → row_at (key row) rows ≡ None → key row < 2 ^ 64 → live < limit → (after : List Row)
-        → after ≡ put row rows → IsKept e after (live + 1) limit listed cap
-    kept-put row is made fresh fits room after e' =
+    pub kept-put : (row : Row) → n ≡ key row → code ≡ code_of row.1 → row_at (key row) rows ≡ None → key row < 2 ^ 64 → (after : List Row)
+        → after ≡ put row rows → IsKept e after (live + 1)
+    kept-put row is made fresh fits after e' =
         let now : code_at e (key row) ≡ code_of row.1 = subst (λ m. code_at e m ≡ code_of row.1) is (here ∙ made) in
         let longer = length-put row rows fresh in
         let count = kept.counted in
-        subst (λ xs. IsKept e xs (live + 1) limit listed cap) (sym e') (with_rows (put row rows) (live + 1)
+        subst (λ xs. IsKept e xs (live + 1)) (sym e') (with_rows (put row rows) (live + 1)
         (coded-put c e rows kept.coded row now (subst (λ m. (a : ℕ) → a ≢ m → code_at e a ≡ code_at c a) is others))
-        (sorted-put row rows kept.sorted fresh) (addresses-put row rows fits kept.addresses) (omega (arith, longer, count)) (omega (arith, room)))
+        (sorted-put row rows kept.sorted fresh) (addresses-put row rows fits kept.addresses) (omega (arith, longer, count)))
 
     pub kept-without : (addr : ℕ) → n ≡ addr → code ≡ 0 → IsSome (row_at addr rows) → (after : List Row) → after ≡ without_row addr rows
-        → IsKept e after (live - 1) limit listed cap
+        → IsKept e after (live - 1)
     kept-without addr is zero some after e' =
         let now : code_at e addr ≡ 0 = subst (λ m. code_at e m ≡ 0) is (here ∙ zero) in
         let shorter = length-without addr rows kept.sorted some in
         let count = kept.counted in
-        let within = kept.within in
-        subst (λ xs. IsKept e xs (live - 1) limit listed cap) (sym e') (with_rows (without_row addr rows) (live - 1)
+        subst (λ xs. IsKept e xs (live - 1)) (sym e') (with_rows (without_row addr rows) (live - 1)
         (coded-without c e rows kept.coded addr now (subst (λ m. (a : ℕ) → a ≢ m → code_at e a ≡ code_at c a) is others))
-        (without_row-sorted addr rows kept.sorted) (addresses-without addr rows kept.addresses) (omega (arith, shorter, count)) (omega (arith, within)))
+        (without_row-sorted addr rows kept.sorted) (addresses-without addr rows kept.addresses) (omega (arith, shorter, count)))
 
     pub kept-replaced : (row : Row) → n ≡ key row → code ≡ code_of row.1 → IsSome (row_at (key row) rows) → key row < 2 ^ 64 → (after : List Row)
-        → after ≡ put row (without_row (key row) rows) → IsKept e after live limit listed cap
+        → after ≡ put row (without_row (key row) rows) → IsKept e after live
     kept-replaced row is made some fits after e' =
         let now : code_at e (key row) ≡ code_of row.1 = subst (λ m. code_at e m ≡ code_of row.1) is (here ∙ made) in
         let same = length-replaced row rows kept.sorted some in
         let rest = without_row (key row) rows in
-        subst (λ xs. IsKept e xs live limit listed cap) (sym e') (with_rows (put row rest) live
+        subst (λ xs. IsKept e xs live) (sym e') (with_rows (put row rest) live
         (coded-replaced c e rows kept.coded row now (subst (λ m. (a : ℕ) → a ≢ m → code_at e a ≡ code_at c a) is others))
         (sorted-replaced row rows kept.sorted) (addresses-put row rest fits (addresses-without (key row) rows kept.addresses))
-        (kept.counted ∙ sym same) kept.within)
+        (kept.counted ∙ sym same))

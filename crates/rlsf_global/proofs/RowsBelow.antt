@@ -1,12 +1,12 @@
 -- The entries whose addresses are below a bound.
-use Rattle.std.proofs.Common.{◌≡◌, ◌≢◌, ◌⊎◌, ℕ, suc, ◌+◌, ◌*◌, ◌^◌, ◌<◌, ◌≤◌, ◌==◌, nat_lt, filter, Bool}
+use Rattle.std.proofs.Common.{◌≡◌, ◌≢◌, ◌⊎◌, ℕ, zero, suc, ◌+◌, ◌*◌, ◌^◌, ◌<◌, ◌≤◌, ◌==◌, nat_lt, filter, Bool}
 use Rattle.std.proofs.Common.{true, false, List, [], ◌∷◌, ◌++◌, append-nil, get_or, length, length-append}
 use Rattle.std.proofs.Common.{IsSome, Option, Some, None, if◌then◌else◌, arith, refl, sym, ap, subst, inl, inr, ◌∙◌}
 use Rattle.std.proofs.lemmas.Bool.Decides.{eqb_tells, leb_tells}
 use Rattle.std.specs.declared.num.NonZeroUsize.{NonZeroUsize}
 use Rattle.rlsf_base.specs.Addr.{at}
 use Rattle.rlsf_global.proofs.CodedRows.{address-fits, code_at-place, code_in-none, coded-at, coded-place, row_at-in, row_at-of}
-use Rattle.rlsf_global.specs.LiveRows.{AreAddresses, AreCoded, HasPlace, code_in}
+use Rattle.rlsf_global.specs.LiveRows.{AreAddresses, AreCoded, HasPlace, IsKept, code_in}
 use Rattle.rlsf_global.specs.declared.live_table.codes.Codes.{Codes}
 use Rattle.rlsf_global.proofs.ToldLayouts.{IsTold, told-row}
 use Rattle.rlsf_model.specs.Lists.{IsIn}
@@ -24,6 +24,11 @@ below b rows = filter (λ r. nat_lt (key r) b) rows
 pub entry : Option Row → List Row
 entry None = []
 entry (Some r) = r ∷ []
+
+length-entry : (o : Option Row) → length (entry o) ≤ 1
+unfolding entry
+length-entry None = omega arith
+length-entry (Some r) = omega arith
 
 below-none : (b : ℕ) (rows : List Row) → ((r : Row) → IsIn r rows → b ≤ key r) → below b rows ≡ []
 unfolding below
@@ -111,6 +116,20 @@ module _ (c : Codes) (rows : List Row) (coded : AreCoded c rows) (sorted : IsSor
   pub below-end : below ((c.first + length c.codes.items) * 16) rows ≡ rows
   below-end = below-all ((c.first + length c.codes.items) * 16) rows (λ r i. let p = place_in r i in omega (arith, p))
 
+  -- so there are at most as many entries as places
+  below-few : (n : ℕ) → length (below ((c.first + n) * 16) rows) ≤ n
+  below-few zero = omega (arith, ap length below-first)
+  below-few (suc n) =
+      let here = entry (row_at ((c.first + n) * 16) rows) in
+      let more = ap length (below-place n) ∙ length-append (below ((c.first + n) * 16) rows) here in
+      let rest = below-few n in
+      let one = length-entry (row_at ((c.first + n) * 16) rows) in
+      let next : n + 1 ≡ suc n = omega arith in
+      subst (λ m. length (below ((c.first + m) * 16) rows) ≤ suc n) next (omega (arith, more, rest, one))
+
+  rows-few : length rows ≤ length c.codes.items
+  rows-few = let few = below-few (length c.codes.items) in omega (arith, few, ap length below-end)
+
   code_in_place : (place code : ℕ) → code ≡ get_or c.codes.items place 0 → code ≡ code_in (row_at ((c.first + place) * 16) rows)
   code_in_place place code is = is ∙ sym (code_at-place c ((c.first + place) * 16) place refl) ∙ coded-at c rows coded ((c.first + place) * 16)
 
@@ -152,3 +171,10 @@ module _ (c : Codes) (rows : List Row) (coded : AreCoded c rows) (sorted : IsSor
       → IsTold rows m addr code
   told_in m lists place code addr here is some =
       told-row rows m lists addr code (code_in_place place code is ∙ ap (λ n. code_in (row_at n rows)) (sym here)) some
+
+-- so a count of payloads fits in a word, with one more
+pub live-few : (c : Codes) (rows : List Row) (live : ℕ) → IsKept c rows live → live < 2 ^ 62
+live-few c rows live kept =
+    let few = rows-few c rows kept.coded kept.sorted in
+    let count = kept.counted in let stored = kept.few in let narrow = kept.narrow in
+    omega (arith, few, count, stored, narrow)

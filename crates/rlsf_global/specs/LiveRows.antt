@@ -1,5 +1,5 @@
 -- The table of live payloads as contracts see it, and how it is kept.
-use Rattle.std.specs.Prelude.{◌≡◌, ℕ, ◌+◌, ◌*◌, ◌-◌, ◌^◌, ◌<◌, ◌≤◌, ◌/◌, ◌%◌, ◌==◌, ◌&&◌, nat_le, if◌then◌else◌, List, [], Option, Some, None, get_or, length}
+use Rattle.std.specs.Prelude.{◌≡◌, ℕ, ◌+◌, ◌*◌, ◌-◌, ◌^◌, ◌<◌, ◌≤◌, ◌/◌, ◌%◌, ◌==◌, ◌&&◌, nat_le, if◌then◌else◌, List, Option, Some, None, get_or, length}
 use Rattle.std.specs.Vec.{vec_capacity}
 use Rattle.rlsf_base.specs.declared.memory.layout.Layout.{Layout}
 use Rattle.rlsf_base.specs.PowerOfTwo.{floor_log2}
@@ -22,7 +22,7 @@ pub record HasCode (s : CodeSpace) (addr : ℕ) : Type 0 where
   pub above : s.first ≤ addr / 16
   pub below : addr / 16 - s.first < s.count
 
--- A table as contracts see it: the entries in the order of their addresses, how many more have room, and the addresses that have codes.
+-- A table as contracts see it: the entries in the order of their addresses, for how many codes it has room, and the addresses that have codes.
 pub record LiveRows : Type 0 where
   pub rows : List Row
   pub room : ℕ
@@ -31,6 +31,10 @@ pub record LiveRows : Type 0 where
 -- the value of a table by its parts
 abbrev pub live_rows : List Row → ℕ → CodeSpace → LiveRows
 live_rows rows room space = record { rows = rows; room = room; space = space }
+
+-- the table has room for all codes, so it asks the system for nothing more
+abbrev pub HasCodes : LiveRows → Type 0
+HasCodes t = t.space.count ≤ t.room
 
 -- What the table keeps of a layout: the last five bits of its size, and the logarithm of its alignment. It is never 0.
 abbrev pub code_of : Layout → ℕ
@@ -65,16 +69,13 @@ AreCoded codes rows = (a : ℕ) → code_at codes a ≡ code_in (row_at a rows)
 unfoldable pub AreAddresses : List Row → Type 0
 AreAddresses rows = (r : Row) → IsIn r rows → key r < 2 ^ 64
 
--- What is true of each table: its entries are sorted and have their codes, and an empty `Vec` has room for them.
-pub record IsKept (codes : Codes) (rows : List Row) (live limit : ℕ) (listed : List Row) (capacity : ℕ) : Type 0 where
+-- What is true of each table: its entries are sorted, counted and have their codes, and if there is one, there is room for all codes.
+pub record IsKept (codes : Codes) (rows : List Row) (live : ℕ) : Type 0 where
   pub coded : AreCoded codes rows
   pub sorted : IsSorted rows
   pub addresses : AreAddresses rows
   pub counted : live ≡ length rows
-  pub within : live ≤ limit
-  pub room : limit ≤ capacity
-  pub none : listed ≡ []
-  pub ready : 0 < limit → HasCapacity codes
+  pub ready : 0 < live → HasCapacity codes
   pub few : length codes.codes.items ≤ codes.count
   pub narrow : codes.first + codes.count < 2 ^ 62
 

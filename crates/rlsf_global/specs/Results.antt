@@ -1,11 +1,13 @@
 -- What the calls behind the lock ensure: a record for each of the clauses `result`, `refused`, `frame` and `touches`.
-use Rattle.std.specs.Prelude.{◌≡◌, ◌≢◌, ℕ, ◌+◌, ◌≤◌, Bool, true, List, length, min, None, Some, OnErr, OnOk}
+use Rattle.std.specs.Prelude.{◌≡◌, ◌≢◌, ℕ, ◌+◌, ◌≤◌, Bool, true, List, length, min, None, Some, Err, OnErr, OnOk}
 use Rattle.std.specs.List.{splice}
 use Rattle.rlsf_base.specs.declared.memory.layout.Layout.{Layout}
 use Rattle.rlsf_global.specs.Journal.Replay.{BookContents}
 use Rattle.rlsf_global.specs.Kept.{KeepsFirst}
+use Rattle.rlsf_global.specs.LiveRows.{HasCodes, LiveRows}
 use Rattle.rlsf_global.specs.Locked.{LockedContents, flex_of}
 use Rattle.rlsf_global.specs.Memory.{BoundsOnResize, CopiesOnResize, KeepsMemory}
+use Rattle.rlsf_model_global.specs.declared.error.GlobalError.TheVariants.{TableMemory}
 use Rattle.rlsf_model_global.specs.Heap.{HasLayout, Heap, content_at, layout_at}
 use Rattle.rlsf_model_global.specs.Left.{in_both}
 use Rattle.rlsf_model_global.specs.Steps.{Placed}
@@ -110,6 +112,11 @@ pub record IsLockedUntouched (before after : LockedContents) : Type 0 where
 abbrev pub LooksAtMost : ℕ → LockedContents → LockedContents → Type 0
 LooksAtMost most before after = after.looks ≤ before.looks + most
 
+-- Of an allocation: it lacks memory for the table only if there is no room for all codes, and else there is room for them afterwards.
+abbrev pub ReservesCodes : Placed → LiveRows → LiveRows → Type 0
+ReservesCodes (Err TableMemory) before after = HasCodes before → ⊥
+ReservesCodes answer before after = HasCodes after
+
 -- of a call that copies no byte
 pub record KeepsLocked (before after : LockedContents) : Type 0 where
   -- place of the memory, and the bytes that belong to no block
@@ -120,6 +127,8 @@ pub record KeepsLocked (before after : LockedContents) : Type 0 where
   pub copied : after.memory.copied ≡ before.memory.copied
   -- few codes of the table are read or written
   pub looks : LooksAtMost 2 before after
+  -- and if there is room for all codes, it stays
+  pub codes : HasCodes before.live → HasCodes after.live
 
 -- of a call that writes bytes of a payload
 pub record KeepsLockedWriting (before after : LockedContents) : Type 0 where
@@ -133,6 +142,8 @@ pub record KeepsLockedWriting (before after : LockedContents) : Type 0 where
   pub copied : after.memory.copied ≡ before.memory.copied
   -- one code of the table is read
   pub looks : LooksAtMost 1 before after
+  -- and if there is room for all codes, it stays
+  pub codes : HasCodes before.live → HasCodes after.live
 
 -- of a call that changes the size of the payload at an address
 pub record KeepsLockedResizing (enabled : Bool) (addr size wanted : ℕ) (before after : LockedContents) : Type 0 where
@@ -144,6 +155,8 @@ pub record KeepsLockedResizing (enabled : Bool) (addr size wanted : ℕ) (before
   pub copied : CopiesOnResize enabled before.heap.flex.machine addr size wanted before.memory after.memory
   -- few codes of the table are read or written
   pub looks : LooksAtMost 3 before after
+  -- and if there is room for all codes, it stays
+  pub codes : HasCodes before.live → HasCodes after.live
 
 -- of a call that moves the payload at an address
 pub record KeepsLockedMoving (addr size : ℕ) (answer : Placed) (before after : LockedContents) : Type 0 where
@@ -157,6 +170,8 @@ pub record KeepsLockedMoving (addr size : ℕ) (answer : Placed) (before after :
   pub copied_none : OnErr answer (after.memory.copied ≡ before.memory.copied)
   -- few codes of the table are read or written
   pub looks : LooksAtMost 3 before after
+  -- and if there is room for all codes, it stays
+  pub codes : HasCodes before.live → HasCodes after.live
 
 -- of a call of a book that writes bytes of a payload
 pub record KeepsBookWriting (before after : BookContents) : Type 0 where

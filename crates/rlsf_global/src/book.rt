@@ -1,13 +1,14 @@
 //! An allocator with a journal of its placement calls.
 
-ghost use Rattle.std.specs.Prelude.{◌≡◌, ◌≢◌, ◌≤◌, ◌↔◌, ◌+◌, ◌++◌, [], length, IfOk, IsErrOf, OnErr, true};
+ghost use Rattle.std.specs.Prelude.{◌≡◌, ◌≢◌, ◌<◌, ◌≤◌, ◌↔◌, ◌+◌, ◌^◌, ◌++◌, [], length, IfOk, IsErrOf, OnErr, OnOk, true};
+ghost use Rattle.std.specs.Vec.{vec_capacity};
 ghost use Rattle.rlsf_base.specs.Addr.{at};
 ghost use Rattle.rlsf_base.specs.Space.{range_of};
 ghost use Rattle.rlsf_global.specs.Results.{IsLockedUntouched, KeepsBookWriting};
 ghost use Rattle.rlsf_global.specs.Journal.Close.{is_strange, AreComplete, LacksOne, Agree};
 ghost use Rattle.rlsf_global.specs.declared.close.CloseError.TheVariants.{MissingPass, StrangePass, Mismatch};
-ghost use Rattle.rlsf_global.specs.declared.entry.Reply.TheVariants.{JournalMemory};
-ghost use Rattle.rlsf_global.specs.Journal.Entries.{IfRefused, IsReplyTo, entries_of};
+ghost use Rattle.rlsf_global.specs.declared.entry.Reply.TheVariants.{JournalMemory, TableMemory};
+ghost use Rattle.rlsf_global.specs.Journal.Entries.{IfRefused, IsReplyTo, entries_of, most_live};
 ghost use Rattle.rlsf_global.specs.Journal.Memory.{LeavesMemory};
 ghost use Rattle.rlsf_global.specs.Journal.Replay.{BookStands, IsRun, LeadsOrRefused};
 ghost use Rattle.rlsf_model_global.specs.Heap.{beginning};
@@ -19,9 +20,9 @@ use crate::close::{CloseError, Closed};
 use crate::entry::{Call, Entry, Reply};
 use crate::locked::Locked;
 use crate::pass::Pass;
-use rlsf_base::memory::{Addr, Memory};
+use rlsf_base::memory::{Addr, Layout, Memory};
 use rlsf_model_global::GlobalError;
-use std::alloc::Global;
+use std::alloc::{AllocError, Global};
 use std::marker::Model;
 
 /// An allocator with a journal of its placement calls.
@@ -35,22 +36,25 @@ use std::marker::Model;
 pub struct Book {
     locked: Locked<()>,
     journal: Vec<Entry>,
+    // Room for the live addresses, so that `close` asks for no memory. It has none of them.
+    rows: Vec<(Addr, Layout)>,
 }
 
 impl Model for Book {
-    ghost use Rattle.rlsf_global.specs.Journal.Replay.{BookContents, IsRun};
+    ghost use Rattle.std.specs.Vec.{vec_capacity};
+    ghost use Rattle.rlsf_global.specs.Journal.Replay.{BookContents, IsBook};
 
     ghost Value = { BookContents };
 
     ghost view = { λ b. record { locked = b.locked; journal = b.journal.items } };
 
-    ghost invariant = { λ b. IsRun b.journal.items b.locked.heap };
+    ghost invariant = { λ b. IsBook b.journal.items b.locked.heap b.rows.items (vec_capacity b.rows) };
 }
 
 impl Book {
     /// Creates an allocator whose source has the complete memory as its space, with an empty journal. Nothing is live.
     ///
-    /// Costs as much as `Locked::new`. For the journal the system is asked nothing yet.
+    /// Costs as much as `Locked::new`. The system is asked nothing.
     pub fn new(alloc: Global, memory: Memory) -> Book
         ensures heap { result.locked.heap ≡ beginning (range_of memory) true }
         ensures memory { result.locked.memory ≡ memory }
@@ -60,6 +64,7 @@ impl Book {
         Book {
             locked: Locked::new(alloc, memory),
             journal: Vec::new(alloc),
+            rows: Vec::new(alloc),
         }
     }
 
@@ -77,15 +82,16 @@ impl Book {
     /// Refuses without an entry, and changes nothing:
     ///
     /// - `JournalMemory` if the system is out of memory for an entry. Then nothing was tried.
-    /// - else `TableMemory` if the system is out of memory for an entry of the table of live addresses, in an allocation.
+    /// - else `TableMemory`, in an allocation, if the system is out of memory for the list of live addresses that `close` returns, or for
+    ///   the codes of the table.
     ///
     /// Refuses with an entry, and changes nothing else:
     ///
     /// - `UnknownAddress` exactly if the address isn't live.
     /// - `NoRoom` exactly if there is no room and no memory came.
     ///
-    /// Costs as much as the call of `Locked` that it makes. If the journal has no room for an entry, the system is asked before that, and
-    /// the time is also proportional to the length of the journal, since its entries may move.
+    /// Costs as much as the call of `Locked` that it makes. If the journal has no room for an entry, or, in an allocation, the list for one
+    /// more live address, the system is asked before that. Then the time is also proportional to the lengths of both, which may move.
     pub fn step(&mut self, caller: usize, call: Call) -> Reply
         ensures step { LeadsOrRefused self.old.locked.heap call result self.new.locked.heap }
         ensures entry { self.new.journal ≡ self.old.journal ++ entries_of caller call result }
@@ -95,6 +101,9 @@ impl Book {
     {
         if self.journal.try_reserve(1).is_err() {
             return Reply::JournalMemory;
+        }
+        if reserve_row(&mut self.rows, self.locked.live(), call).is_err() {
+            return Reply::TableMemory;
         }
         let reply = answer(&mut self.locked, call);
         if !matches!(reply, Reply::TableMemory) {
@@ -181,11 +190,31 @@ impl Book {
         if !agree(callers, &passes, &self.journal) {
             return Err(CloseError::Mismatch);
         }
-        let Book { locked, journal } = self;
+        let Book {
+            locked,
+            journal,
+            rows,
+        } = self;
         Ok(Closed {
             journal,
-            live: locked.into_rows(),
+            live: locked.listed_in(rows),
         })
+    }
+}
+
+/// Reserves room for the live addresses after a call, in an empty `Vec` with room for the `live` addresses before it.
+fn reserve_row(rows: &mut Vec<(Addr, Layout)>, live: usize, call: Call) -> Result<(), AllocError>
+    requires none { rows.old.items ≡ [] }
+    requires few { live < 2 ^ 62 }
+    requires room { live ≤ vec_capacity rows.old }
+    ensures none { rows.new.items ≡ [] }
+    ensures kept { vec_capacity rows.old ≤ vec_capacity rows.new }
+    ensures room { OnOk result (most_live call live ≤ vec_capacity rows.new) }
+    ensures fits { OnErr result (IsReplyTo call TableMemory) }
+{
+    match call {
+        Call::Allocate(_) => rows.try_reserve(live + 1),
+        Call::Deallocate(_) | Call::Reallocate(..) => Ok(()),
     }
 }
 

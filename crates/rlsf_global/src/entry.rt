@@ -24,8 +24,8 @@ pub enum Reply {
     NoRoom,
     /// The address isn't live. Nothing changed.
     UnknownAddress,
-    /// The system is out of memory for one more entry of the table of live addresses. Nothing changed, and no entry of the journal was
-    /// made.
+    /// The system is out of memory for the codes of the table of live addresses, or for the list of these that closing returns. Nothing
+    /// changed, and no entry of the journal was made.
     TableMemory,
     /// The system is out of memory for an entry or a receipt. Nothing changed, and no entry was made.
     JournalMemory,

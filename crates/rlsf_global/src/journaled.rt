@@ -72,7 +72,7 @@ impl Journaled {
     /// Refuses without an entry or a receipt, and changes nothing:
     ///
     /// - `JournalMemory` if the system is out of memory for a receipt or an entry.
-    /// - `TableMemory` if the system is out of memory for an entry of the table of live addresses.
+    /// - `TableMemory` if the system is out of memory for the list of live addresses that `close` returns, or for the codes of the table.
     ///
     /// Else returns `NoRoom` if there is no room and no memory came.
     ///

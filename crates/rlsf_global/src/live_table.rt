@@ -1,9 +1,8 @@
 //! The table of live payloads.
 
-ghost use Rattle.std.specs.Prelude.{◌≡◌, ◌<◌, ◌≤◌, ◌+◌, [], length, None, OnOk, IsSome};
-ghost use Rattle.std.specs.Vec.{vec_capacity};
+ghost use Rattle.std.specs.Prelude.{◌≡◌, ◌<◌, ◌≤◌, ◌+◌, ◌^◌, [], length, None, OnErr, OnOk, IsSome};
 ghost use Rattle.rlsf_base.specs.Addr.{at};
-ghost use Rattle.rlsf_global.specs.LiveRows.{AreAddresses, AreCoded, HasCode, code_in, codes_for};
+ghost use Rattle.rlsf_global.specs.LiveRows.{AreAddresses, AreCoded, HasCode, HasCodes, code_in, codes_for};
 ghost use Rattle.rlsf_model_global.specs.Rows.{IsSorted, key, put, row_at, without_row};
 
 pub(crate) mod codes;
@@ -17,9 +16,6 @@ use rlsf_base::memory::{Addr, Layout};
 use std::alloc::{AllocError, Global};
 use std::marker::Model;
 
-/// The greatest limit that is doubled, so that the new one doesn't overflow.
-const MOST: usize = 1 << 56;
-
 /// A table of live payloads: addresses, each with its last layout. Contracts see the entries in the order of their addresses.
 ///
 /// Each multiple of 16 in the memory has a code of two bytes. It is 0 where no payload begins, and else it has the alignment and the last
@@ -30,27 +26,21 @@ const MOST: usize = 1 << 56;
 #[derive(Drop)]
 pub(crate) struct LiveTable {
     codes: Codes,
-    // Room for all entries, so that `rows_of` asks for no memory. It has none of them.
-    rows: Vec<(Addr, Layout)>,
     // How many payloads are live.
     live: usize,
-    // How many can be live until `reserve` has to make room: 0 while there is no room for codes.
-    limit: usize,
-    alloc: Global,
     // The entries, as ghost data.
     entries: GhostEntries,
 }
 
 impl Model for LiveTable {
-    ghost use Rattle.std.specs.Prelude.{◌-◌};
     ghost use Rattle.std.specs.Vec.{vec_capacity};
     ghost use Rattle.rlsf_global.specs.LiveRows.{IsKept, LiveRows, code_space, live_rows};
 
     ghost Value = { LiveRows };
 
-    ghost view = { λ t. live_rows t.entries.rows (t.limit - t.live) (code_space t.codes) };
+    ghost view = { λ t. live_rows t.entries.rows (vec_capacity t.codes.codes) (code_space t.codes) };
 
-    ghost invariant = { λ t. IsKept t.codes t.entries.rows t.live t.limit t.rows.items (vec_capacity t.rows) };
+    ghost invariant = { λ t. IsKept t.codes t.entries.rows t.live };
 }
 
 impl LiveTable {
@@ -61,43 +51,27 @@ impl LiveTable {
     {
         LiveTable {
             codes: Codes::new(alloc, start, len),
-            rows: Vec::new(alloc),
             live: 0,
-            limit: 0,
-            alloc,
             entries: GhostEntries::new(),
         }
     }
 
-    /// Reserves room for an entry. The first call reserves room for all codes, too, and writes none of them.
-    pub(crate) fn reserve(&mut self) -> Result<(), AllocError>
-        ensures rows { self.new.rows ≡ self.old.rows }
-        ensures room { OnOk result (0 < self.new.room) }
-        ensures space { self.new.space ≡ self.old.space }
+    /// Returns how many entries there are.
+    pub(crate) fn len(&self) -> usize
+        ensures len { result ≡ length self.now.rows }
+        ensures few { result < 2 ^ 62 }
     {
-        if self.live < self.limit {
-            return Ok(());
-        }
-        self.make_room()
+        self.live
     }
 
-    /// Does what `reserve` does if there is no room.
-    #[inline(never)]
-    fn make_room(&mut self) -> Result<(), AllocError>
+    /// Reserves room for all codes, and writes none of them. If there is room, the system is asked nothing.
+    pub(crate) fn reserve(&mut self) -> Result<(), AllocError>
         ensures rows { self.new.rows ≡ self.old.rows }
-        ensures room { OnOk result (0 < self.new.room) }
+        ensures room { OnOk result (HasCodes self.new) }
+        ensures refused { OnErr result (HasCodes self.old → ⊥) }
         ensures space { self.new.space ≡ self.old.space }
     {
-        if self.codes.reserve().is_err() || self.limit > MOST {
-            return Err(AllocError);
-        }
-        let wanted = 2 * self.limit + 4;
-        let Ok(rows) = Vec::with_capacity(self.alloc, wanted) else {
-            return Err(AllocError);
-        };
-        self.rows = rows;
-        self.limit = wanted;
-        Ok(())
+        self.codes.reserve()
     }
 
     /// Returns the code of an address: 0 if it has no entry.
@@ -109,13 +83,13 @@ impl LiveTable {
         self.codes.get(addr.get())
     }
 
-    /// Inserts an entry. The table has room for it, and its address has none. All codes of addresses before `end` are then stored.
+    /// Inserts an entry. There is room for all codes, and its address has none. All codes of addresses before `end` are then stored.
     pub(crate) fn put(&mut self, row: (Addr, Layout), end: usize, looks: &mut GhostLooks)
-        requires room { 0 < self.old.room }
+        requires room { HasCodes self.old }
         requires fresh { row_at (key row) self.old.rows ≡ None }
         requires place { HasCode self.old.space (key row) }
         ensures rows { self.new.rows ≡ put row self.old.rows }
-        ensures room { self.old.room ≡ self.new.room + 1 }
+        ensures room { HasCodes self.new }
         ensures space { self.new.space ≡ self.old.space }
         ensures looks { looks.new.count ≡ looks.old.count + 1 }
     {
@@ -131,7 +105,7 @@ impl LiveTable {
     pub(crate) fn remove(&mut self, addr: Addr, looks: &mut GhostLooks)
         requires live { IsSome (row_at (at addr) self.old.rows) }
         ensures rows { self.new.rows ≡ without_row (at addr) self.old.rows }
-        ensures room { self.new.room ≡ self.old.room + 1 }
+        ensures room { HasCodes self.new }
         ensures space { self.new.space ≡ self.old.space }
         ensures looks { looks.new.count ≡ looks.old.count + 1 }
     {
@@ -145,7 +119,7 @@ impl LiveTable {
     pub(crate) fn replace(&mut self, row: (Addr, Layout), end: usize, looks: &mut GhostLooks)
         requires live { IsSome (row_at (key row) self.old.rows) }
         ensures rows { self.new.rows ≡ put row (without_row (key row) self.old.rows) }
-        ensures room { self.new.room ≡ self.old.room }
+        ensures room { HasCodes self.new }
         ensures space { self.new.space ≡ self.old.space }
         ensures looks { looks.new.count ≡ looks.old.count + 1 }
     {
@@ -169,7 +143,7 @@ impl LiveTable {
         requires fresh { row_at (key row) (without_row (at addr) self.old.rows) ≡ None }
         requires place { HasCode self.old.space (key row) }
         ensures rows { self.new.rows ≡ put row (without_row (at addr) self.old.rows) }
-        ensures room { self.new.room ≡ self.old.room }
+        ensures room { HasCodes self.new }
         ensures space { self.new.space ≡ self.old.space }
         ensures looks { looks.new.count ≡ looks.old.count + 2 }
     {
@@ -182,22 +156,17 @@ impl LiveTable {
         }
     }
 
-    /// Takes the table apart. Returns its codes, and a `Vec` with room for all entries, which has none.
-    pub(crate) fn into_parts(self) -> (Codes, Vec<(Addr, Layout)>)
-        ensures codes { AreCoded result.0 self.rows }
+    /// Takes the table apart. Returns its codes.
+    pub(crate) fn into_codes(self) -> Codes
+        ensures codes { AreCoded result self.rows }
         ensures sorted { IsSorted self.rows }
         ensures addresses { AreAddresses self.rows }
-        ensures none { result.1.items ≡ [] }
-        ensures room { length self.rows ≤ vec_capacity result.1 }
     {
         let LiveTable {
             codes,
-            rows,
             live: _,
-            limit: _,
-            alloc: _,
             entries: _,
         } = self;
-        (codes, rows)
+        codes
     }
 }

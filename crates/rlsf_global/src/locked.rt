@@ -1,14 +1,15 @@
 //! The value behind the lock: an allocator over pages, and the table of its live addresses.
 
-ghost use Rattle.std.specs.Prelude.{◌≡◌, ◌↔◌, ◌+◌, ◌≤◌, length, nat_le, IfOk, IsErrOf, None, OnErr, OnOk, drop, take};
+ghost use Rattle.std.specs.Prelude.{◌≡◌, ◌↔◌, ◌+◌, ◌≤◌, ◌<◌, ◌^◌, [], length, nat_le, IfOk, IfSome, IsErrOf, IsNone, None, OnErr, OnOk, drop, take};
 ghost use Rattle.std.specs.List.{splice};
+ghost use Rattle.std.specs.Vec.{vec_capacity};
 ghost use Rattle.rlsf_base.specs.Addr.{at};
 ghost use Rattle.rlsf_base.specs.Layout.{IsLayout};
 ghost use Rattle.rlsf_base.specs.Space.{range_of};
 ghost use Rattle.rlsf_global.specs.Memory.{IfUnasked};
 ghost use Rattle.rlsf_global.specs.Results.{HeapAllocated, HeapDeallocated, HeapMoved, HeapReallocated, HeapResized, HeapWritten};
 ghost use Rattle.rlsf_global.specs.Results.{BoundsResizing, IsLockedUnchanged, IsLockedUntouched};
-ghost use Rattle.rlsf_global.specs.Results.{KeepsLocked, KeepsLockedMoving, KeepsLockedResizing, KeepsLockedWriting};
+ghost use Rattle.rlsf_global.specs.Results.{KeepsLocked, KeepsLockedMoving, KeepsLockedResizing, KeepsLockedWriting, ReservesCodes};
 ghost use Rattle.rlsf_model.specs.Allocate.{HasRoomFor};
 ghost use Rattle.rlsf_model_global.specs.declared.error.GlobalError.TheVariants.{UnknownAddress};
 ghost use Rattle.rlsf_model_global.specs.Heap.{beginning, content_at, layout_at};
@@ -54,7 +55,7 @@ impl<Options: GlobalTlsfOptions> Locked<Options> {
 
     /// Creates an allocator whose source has the complete memory as its space. Nothing is live.
     ///
-    /// The system is asked nothing: the first allocation asks it for the table.
+    /// The system is asked nothing: the first allocation asks it for the codes of the table.
     ///
     /// Completes in constant time.
     pub fn new(alloc: Global, memory: Memory) -> Self
@@ -87,12 +88,13 @@ impl<Options: GlobalTlsfOptions> Locked<Options> {
     ///
     /// Refuses, and changes nothing:
     ///
-    /// - `TableMemory` if the system is out of memory for an entry of the table. Then nothing else was tried.
+    /// - `TableMemory` if the system is out of memory for the codes of the table, and only if they have no room yet. Then nothing else was
+    ///   tried.
     /// - else `NoRoom` exactly if there is no room and no memory came.
     ///
-    /// If there is room, at most 27 word accesses, whatever the pools contain, and two codes of the table. No byte is copied. If the
-    /// table has no room for an entry, the system is asked first, for room for twice as many, and once for an eighth of the memory's
-    /// length, of which nothing is written. Where the source provides memory, the codes of that are written.
+    /// If there is room, at most 27 word accesses, whatever the pools contain, and two codes of the table. No byte is copied. The first
+    /// call asks the system for an eighth of the memory's length, for the codes, of which nothing is written. Once it was granted, no call
+    /// asks the system (`table`, `frame`). Where the source provides memory, the codes of that are written.
     pub fn allocate(&mut self, layout: Layout) -> Result<Addr, GlobalError>
         ensures step { HeapAllocates self.old.heap layout result self.new.heap }
         ensures result { IfOk result (λ addr. HeapAllocated self.old.heap self.new.heap layout (at addr)) }
@@ -100,6 +102,7 @@ impl<Options: GlobalTlsfOptions> Locked<Options> {
         ensures unasked { IfUnasked result (self.new.memory ≡ self.old.memory) }
         ensures frame { KeepsLocked self.old self.new }
         ensures touches { HasRoomFor 64 self.old.heap.flex.machine layout.size layout.align → self.new.memory.touches ≤ self.old.memory.touches + 27 }
+        ensures table { ReservesCodes result self.old.live self.new.live }
     {
         if self.rows.reserve().is_err() {
             return Err(GlobalError::TableMemory);
@@ -116,7 +119,8 @@ impl<Options: GlobalTlsfOptions> Locked<Options> {
     ///
     /// Refuses, and changes nothing:
     ///
-    /// - `TableMemory` if the system is out of memory for an entry of the table. Then nothing else was tried.
+    /// - `TableMemory` if the system is out of memory for the codes of the table, and only if they have no room yet. Then nothing else was
+    ///   tried.
     /// - else `NoRoom` exactly if there is no room and no memory came.
     ///
     /// Costs as much as `allocate`.
@@ -127,6 +131,7 @@ impl<Options: GlobalTlsfOptions> Locked<Options> {
         ensures unasked { IfUnasked result (self.new.memory ≡ self.old.memory) }
         ensures frame { KeepsLocked self.old self.new }
         ensures touches { HasRoomFor 64 self.old.heap.flex.machine layout.size layout.align → self.new.memory.touches ≤ self.old.memory.touches + 27 }
+        ensures table { ReservesCodes result self.old.live self.new.live }
     {
         self.allocate(layout)
     }
@@ -385,18 +390,46 @@ impl<Options: GlobalTlsfOptions> Locked<Options> {
 }
 
 impl<Options: GlobalTlsfOptions> Locked<Options> {
-    /// Returns the live addresses with their last layouts, in the order of the addresses. The memory is dropped. The call requests no memory,
-    /// and takes time proportional to the memory's length.
-    pub fn into_rows(self) -> Vec<(Addr, Layout)>
+    /// Returns the number of live payloads.
+    ///
+    /// Completes in constant time.
+    pub fn live(&self) -> usize
+        ensures live { result ≡ length self.now.heap.asked }
+        ensures few { result < 2 ^ 62 }
+    {
+        self.rows.len()
+    }
+
+    /// Returns the live addresses with their last layouts, in the order of the addresses. They replace the elements of `rows`.
+    ///
+    /// Returns `None` exactly if the capacity of `rows` is less than `live` returns.
+    ///
+    /// The memory is dropped. The system is asked nothing. Takes time proportional to the memory's length.
+    pub fn into_rows(self, mut rows: Vec<(Addr, Layout)>) -> Option<Vec<(Addr, Layout)>>
+        ensures rows { IfSome result (λ listed. listed.items ≡ self.heap.asked) }
+        ensures sorted { IfSome result (λ listed. IsSorted listed.items) }
+        ensures short { IsNone result ↔ (vec_capacity rows < length self.heap.asked) }
+    {
+        if rows.capacity() < self.live() {
+            return None;
+        }
+        rows.clear();
+        Some(self.listed_in(rows))
+    }
+
+    /// Returns the live addresses with their last layouts, in the order of the addresses, in an empty `Vec` with room for all.
+    pub(crate) fn listed_in(self, rows: Vec<(Addr, Layout)>) -> Vec<(Addr, Layout)>
+        requires none { rows.items ≡ [] }
+        requires room { length self.heap.asked ≤ vec_capacity rows }
         ensures rows { result.items ≡ self.heap.asked }
         ensures sorted { IsSorted result.items }
     {
         let Locked {
             flex,
-            rows,
+            rows: table,
             looks: _,
         } = self;
-        rows_of(&flex, rows)
+        rows_of(&flex, table, rows)
     }
 }
 

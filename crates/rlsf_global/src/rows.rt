@@ -1,6 +1,7 @@
 //! The entries of a table of live payloads: their codes and the lengths of the payloads determine them.
 
-ghost use Rattle.std.specs.Prelude.{◌≡◌, ◌+◌};
+ghost use Rattle.std.specs.Prelude.{◌≡◌, ◌≤◌, ◌+◌, [], length};
+ghost use Rattle.std.specs.Vec.{vec_capacity};
 ghost use Rattle.rlsf_base.specs.Addr.{at};
 ghost use Rattle.rlsf_base.specs.declared.memory.layout.Layout.{Layout};
 ghost use Rattle.rlsf_global.specs.LiveRows.{IsToldBy};
@@ -42,15 +43,18 @@ fn layout_of(code: u16, usable: usize) -> Layout
     Layout::from_size_align_unchecked(size, align)
 }
 
-/// Returns the entries in the order of their addresses. It asks for no memory.
+/// Returns the entries in the order of their addresses, in an empty `Vec` with room for all. It asks for no memory.
 pub(crate) fn rows_of<Options: GlobalTlsfOptions>(
     flex: &PagedTlsf<Options>,
     table: LiveTable,
+    mut rows: Vec<(Addr, Layout)>,
 ) -> Vec<(Addr, Layout)>
     requires lists { Lists table.rows flex.now.state.machine }
+    requires none { rows.items ≡ [] }
+    requires room { length table.rows ≤ vec_capacity rows }
     ensures { result.items ≡ table.rows }
 {
-    let (codes, mut rows) = table.into_parts();
+    let codes = table.into_codes();
     for place in 0..codes.len() {
         let code = codes.code(place);
         if code == 0 {

@@ -27,7 +27,7 @@ pub type SmallGlobalTlsf = GlobalTlsf<SmallGlobalTlsfOptions>;
 impl<Options: GlobalTlsfOptions> GlobalTlsf<Options> {
     /// Creates an allocator whose source has the complete memory as its space. Nothing is live.
     ///
-    /// The system is asked nothing: the first `alloc` asks it for the table.
+    /// The system is asked nothing: the first `alloc` asks it for the codes of the table. No other call asks it.
     ///
     /// Completes in constant time.
     ///
@@ -47,7 +47,8 @@ impl<Options: GlobalTlsfOptions> GlobalTlsf<Options> {
     ///
     /// Refuses, and changes nothing:
     ///
-    /// - `TableMemory` if the system is out of memory for an entry of the table. Then nothing else was tried.
+    /// - `TableMemory` if the system is out of memory for the codes of the table. Then nothing else was tried. Once a call got
+    ///   them, none returns this.
     /// - else `NoRoom` exactly if there is no room and no memory came.
     ///
     /// Waits for the lock, and has it as long as `Locked::alloc` takes: at most 27 word accesses if there is room.
@@ -218,7 +219,8 @@ pub trait CAlloc {
     ///
     /// Refuses, and changes nothing:
     ///
-    /// - `TableMemory` if the system is out of memory for an entry of the table. Then nothing else was tried.
+    /// - `TableMemory` if the system is out of memory for the codes of the table. Then nothing else was tried. Once a call got
+    ///   them, none returns this.
     /// - else `NoRoom` exactly if there is no room and no memory came.
     ///
     /// Waits for the lock, and has it as long as `Locked::allocate` takes.

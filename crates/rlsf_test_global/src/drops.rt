@@ -35,10 +35,11 @@ fn mapped(rt: &(impl Files + AllocGlobal)) -> Option<usize> {
 }
 
 /// Ends the value under the lock, with a payload. Returns how many payloads it says were live.
-fn end_locked(alloc: Global, memory: Memory) -> usize {
+fn end_locked(alloc: Global, memory: Memory) -> Result<usize, Fail> {
     let mut locked = Locked::<()>::new(alloc, memory);
     let _placed = locked.alloc(Layout::from_size_align_unchecked(100, 8));
-    locked.into_rows().len()
+    let room = Vec::with_capacity(alloc, 1)?;
+    Ok(locked.into_rows(room).map_or(0, |rows| rows.len()))
 }
 
 /// Makes an allocator, and ends it. Returns whether it ended so.
@@ -51,7 +52,7 @@ fn made_and_ended<R: Wait>(rt: &R, alloc: Global, end: End) -> Result<bool, Fail
                 .alloc(rt, Layout::from_size_align_unchecked(100, 8))
                 .is_ok()
         }
-        End::IntoRows => end_locked(alloc, memory) == 1,
+        End::IntoRows => end_locked(alloc, memory)? == 1,
         End::Close => {
             let (journaled, passes) = Journaled::new(alloc, memory, 1)?;
             journaled.close(passes).is_ok()

@@ -1,13 +1,17 @@
 //! Calls of the value under the lock, with what they answer.
 
+ghost use Rattle.std.specs.Prelude.{◌≡◌, false};
+
+use crate::answers::passes;
 use crate::steps::{
     ALIKE, Call, NO_STEP, PAGES, Run, SMALL_PAGES, Step, UNREAD, call_of, counted, done,
     none_is_wrong, placed, rising, told,
 };
-use rlsf_base::memory::{Addr, Memory};
-use rlsf_global::{GlobalTlsfOptions, Locked, SmallGlobalTlsfOptions};
+use rlsf_base::memory::{Addr, Layout, Memory};
+use rlsf_global::{GlobalError, GlobalTlsfOptions, Locked, SmallGlobalTlsfOptions};
 use std::alloc::Global;
 use std::process::Abort;
+use std::test::Fail;
 
 /// What a call answers.
 fn answer<Options: GlobalTlsfOptions>(locked: &mut Locked<Options>, call: Call) -> usize {
@@ -86,4 +90,39 @@ fn pages_are_taken_as_they_are_needed(rt: HostRuntime) {
 fn addresses_layouts_and_offsets_are_tested(rt: HostRuntime) {
     all_go_so::<()>(&rt, rt.alloc(), &ALIKE);
     all_go_so::<SmallGlobalTlsfOptions>(&rt, rt.alloc(), &ALIKE);
+}
+
+/// Allocates twice, if the first call finds room. Returns whether the second one lacks memory for the table, which the codes exclude.
+fn lacks_table_memory_later(locked: &mut Locked<()>, layout: Layout) -> bool
+    ensures { result ≡ false }
+{
+    match locked.allocate(layout) {
+        Ok(addr) => {
+            let _freed = locked.deallocate(addr);
+            matches!(locked.alloc(layout), Err(GlobalError::TableMemory))
+        }
+        Err(_) => false,
+    }
+}
+
+/// The lengths of the lists of three live payloads, in lists with room for two and for three.
+fn listed(alloc: Global, room: usize) -> Result<Option<usize>, Fail> {
+    let memory = Memory::new(alloc, 65536, 65536)?;
+    let mut locked = Locked::<()>::new(alloc, memory);
+    let layout = Layout::from_size_align_unchecked(1, 1);
+    let later = lacks_table_memory_later(&mut locked, layout);
+    let _second = locked.alloc(layout);
+    let _third = locked.alloc(layout);
+    if later || locked.live() != 3 {
+        return Ok(None);
+    }
+    let rows = Vec::with_capacity(alloc, room)?;
+    Ok(Some(locked.into_rows(rows).map_or(0, |rows| rows.len())))
+}
+
+#[test]
+fn live_payloads_are_listed_if_there_is_room(rt: HostRuntime) -> Result<(), Fail> {
+    passes(&rt, listed(rt.alloc(), 2)? == Some(0), 2);
+    passes(&rt, listed(rt.alloc(), 3)? == Some(3), 3);
+    Ok(())
 }

@@ -1,5 +1,5 @@
 -- A journal with one more entry, and a placement that is written to.
-use Rattle.std.proofs.Common.{◌≡◌, ◌≢◌, ◌<◌, ◌^◌, ℕ, Bool, true, List, [], ◌∷◌, ◌++◌, map, length, Option, Some, None, Ok, Err}
+use Rattle.std.proofs.Common.{◌≡◌, ◌≢◌, ◌<◌, ◌≤◌, ◌^◌, ℕ, Bool, true, List, [], ◌∷◌, ◌++◌, map, length, Option, Some, None, IsSome, Ok, Err}
 use Rattle.std.proofs.Common.{refl, ◌∙◌, ap, sym, subst, arith, append-nil}
 use Rattle.std.proofs.lemmas.List.{map_push}
 use Rattle.std.proofs.lemmas.List.Elements.{All-push}
@@ -12,8 +12,9 @@ use Rattle.rlsf_global.specs.declared.entry.Call.TheVariants.{Allocate, Dealloca
 use Rattle.rlsf_global.specs.declared.entry.Entry.{Entry}
 use Rattle.rlsf_global.specs.declared.entry.Reply.{Reply}
 use Rattle.rlsf_global.specs.declared.entry.Reply.TheVariants.{Placed, Freed, NoRoom, UnknownAddress, TableMemory, JournalMemory}
-use Rattle.rlsf_global.specs.Journal.Entries.{IsReplyTo, entries_of}
-use Rattle.rlsf_global.specs.Journal.Replay.{BookContents, BookStands, LeadsOrRefused, IsReplay, IsRun, Leads, beginning_of, step_by, step_of}
+use Rattle.rlsf_global.specs.Journal.Entries.{IsReplyTo, entries_of, most_live}
+use Rattle.rlsf_global.specs.Journal.Replay.{BookContents, BookStands, LeadsOrRefused, IsBook, IsReplay, IsRun, Leads, beginning_of, step_by, step_of}
+use Rattle.rlsf_global.proofs.CodedRows.{length-put_most, length-without_less}
 use Rattle.rlsf_global.proofs.Refusals.{either}
 use Rattle.rlsf_model.specs.FlexState.{FlexState}
 use Rattle.rlsf_model.specs.Note.{LeadsBy, Note, alloc, dealloc, grow}
@@ -25,7 +26,7 @@ use Rattle.rlsf_model_global.specs.History.{IsHistory, LeadsTo, Step, write}
 use Rattle.rlsf_model_global.specs.Moves.{HeapMovesAway, ReallocatesAt}
 use Rattle.rlsf_model_global.specs.Replays as placement
 use Rattle.rlsf_model_global.specs.Replays.{journal_of}
-use Rattle.rlsf_model_global.specs.Rows.{Row, row_at}
+use Rattle.rlsf_model_global.specs.Rows.{Row, row_at, without_row}
 use Rattle.rlsf_model_global.specs.Steps.{DeallocatesAt, Done, HeapWrites, Placed as Answer, Takes, WritesAt, fits}
 
 -- ---- a step leaves the space
@@ -73,32 +74,108 @@ writes-start h g addr offset bytes (Some row) result step = either (fits h addr 
     (λ did. ap beginning_of did.1.2)
     (λ refused. ap beginning_of refused.1)
 
--- an entry's step: the reply is one of the call's, a journal has it, and it leaves the space
+-- ---- a step makes at most one payload more live, and that alone in an allocation
+
+deallocates-few : (h g : Heap) (addr : ℕ) (o : Option Row) (result : Done) → o ≡ row_at addr h.asked → DeallocatesAt h addr o result g → length g.asked ≤ length h.asked
+deallocates-few h g addr None result is (refused, same) = let e = ap (λ (x : Heap). length x.asked) same in omega (arith, e)
+deallocates-few h g addr (Some row) result is (done, (m, frees, after)) =
+    let e = ap (λ (x : Heap). length x.asked) after in
+    let less = length-without_less addr h.asked (subst IsSome is refl) in
+    omega (arith, e, less)
+
+moves-few : (h g : Heap) (addr keep : ℕ) (wanted : Layout) (result : Answer) → IsSome (row_at addr h.asked) → HeapMovesAway h addr keep wanted result g
+    → length g.asked ≤ length h.asked
+moves-few h g addr keep wanted (Ok to) some (moved, rows) =
+    let e = ap length rows in
+    let less = length-without_less addr h.asked some in
+    let most = length-put_most (to, wanted) (without_row addr h.asked) in
+    omega (arith, e, less, most)
+moves-few h g addr keep wanted (Err error.NoRoom) some (takes, same) = let e = ap (λ (x : Heap). length x.asked) same in omega (arith, e)
+moves-few h g addr keep wanted (Err error.UnknownAddress) some moved = absurd moved
+moves-few h g addr keep wanted (Err error.WrongLayout) some moved = absurd moved
+moves-few h g addr keep wanted (Err error.TableMemory) some moved = absurd moved
+moves-few h g addr keep wanted (Err error.OutOfRange) some moved = absurd moved
+moves-few h g addr keep wanted (Err error.JournalMemory) some moved = absurd moved
+
+reallocates-few : (h g : Heap) (addr : ℕ) (wanted : Layout) (o : Option Row) (result : Answer) → o ≡ row_at addr h.asked → ReallocatesAt h addr wanted o result g
+    → length g.asked ≤ length h.asked
+reallocates-few h g addr wanted None result is (refused, same) = let e = ap (λ (x : Heap). length x.asked) same in omega (arith, e)
+reallocates-few h g addr wanted (Some row) result is moved = moves-few h g addr _ wanted result (subst IsSome is refl) moved
+
+writes-asked : (h g : Heap) (addr offset : ℕ) (bytes : List ℕ) (o : Option Row) (result : Done) → WritesAt h addr offset bytes o result g → g.asked ≡ h.asked
+writes-asked h g addr offset bytes None result step = ap (λ (x : Heap). x.asked) step.1
+writes-asked h g addr offset bytes (Some row) result step = either (fits h addr offset (length bytes)) step
+    (λ did. ap (λ (x : Heap). x.asked) did.1.2)
+    (λ refused. ap (λ (x : Heap). x.asked) refused.1)
+
+stays-few : (h g : Heap) (call : Call) → g ≡ h → length g.asked ≤ most_live call (length h.asked)
+stays-few h g (Allocate layout) same = let e = ap (λ (x : Heap). length x.asked) same in omega (arith, e)
+stays-few h g (Deallocate addr) same = let e = ap (λ (x : Heap). length x.asked) same in omega (arith, e)
+stays-few h g (Reallocate addr layout) same = let e = ap (λ (x : Heap). length x.asked) same in omega (arith, e)
+
+-- an entry's step: the reply is one of the call's, a journal has it, it leaves the space, and few payloads are live
 record IsEntered (h : Heap) (call : Call) (reply : Reply) (g : Heap) : Type 0 where
   fits : IsReplyTo call reply
   leads : LeadsTo h (step_by call reply) g
   kept : journal_of (step_by call reply ∷ []) ≡ step_by call reply ∷ []
   start : beginning_of g ≡ beginning_of h
+  few : length g.asked ≤ most_live call (length h.asked)
 
 enters : (h g : Heap) (call : Call) (reply : Reply) → Leads h call reply g → IsEntered h call reply g
 enters h g (Allocate layout) (Placed addr) step =
-    record { fits = tt; leads = step; kept = refl; start = takes-start h layout.size layout.align (Some (at addr)) g.flex g.source step.0 }
-enters h g (Allocate layout) NoRoom step = record { fits = tt; leads = step; kept = refl; start = ap beginning_of step.1 }
+    record {
+      fits = tt;
+      leads = step;
+      kept = refl;
+      start = takes-start h layout.size layout.align (Some (at addr)) g.flex g.source step.0;
+      few = let e = ap length step.1 in let most = length-put_most (addr, layout) h.asked in omega (arith, e, most);
+    }
+enters h g (Allocate layout) NoRoom step = record { fits = tt; leads = step; kept = refl; start = ap beginning_of step.1; few = stays-few h g (Allocate layout) step.1 }
 enters h g (Allocate layout) Freed step = absurd step
 enters h g (Allocate layout) UnknownAddress step = absurd step
 enters h g (Allocate layout) TableMemory step = absurd step
 enters h g (Allocate layout) JournalMemory step = absurd step
-enters h g (Deallocate addr) Freed step = record { fits = tt; leads = step; kept = refl; start = deallocates-start h g (at addr) (row_at (at addr) h.asked) _ step }
-enters h g (Deallocate addr) UnknownAddress step = record { fits = tt; leads = step; kept = refl; start = deallocates-start h g (at addr) (row_at (at addr) h.asked) _ step }
+enters h g (Deallocate addr) Freed step = record {
+  fits = tt;
+  leads = step;
+  kept = refl;
+  start = deallocates-start h g (at addr) (row_at (at addr) h.asked) _ step;
+  few = deallocates-few h g (at addr) (row_at (at addr) h.asked) _ refl step;
+}
+enters h g (Deallocate addr) UnknownAddress step = record {
+  fits = tt;
+  leads = step;
+  kept = refl;
+  start = deallocates-start h g (at addr) (row_at (at addr) h.asked) _ step;
+  few = deallocates-few h g (at addr) (row_at (at addr) h.asked) _ refl step;
+}
 enters h g (Deallocate addr) (Placed to) step = absurd step
 enters h g (Deallocate addr) NoRoom step = absurd step
 enters h g (Deallocate addr) TableMemory step = absurd step
 enters h g (Deallocate addr) JournalMemory step = absurd step
 enters h g (Reallocate addr layout) (Placed to) step =
-    record { fits = tt; leads = step; kept = refl; start = reallocates-start h g (at addr) layout (row_at (at addr) h.asked) _ step }
-enters h g (Reallocate addr layout) NoRoom step = record { fits = tt; leads = step; kept = refl; start = reallocates-start h g (at addr) layout (row_at (at addr) h.asked) _ step }
+    record {
+      fits = tt;
+      leads = step;
+      kept = refl;
+      start = reallocates-start h g (at addr) layout (row_at (at addr) h.asked) _ step;
+      few = reallocates-few h g (at addr) layout (row_at (at addr) h.asked) _ refl step;
+    }
+enters h g (Reallocate addr layout) NoRoom step = record {
+  fits = tt;
+  leads = step;
+  kept = refl;
+  start = reallocates-start h g (at addr) layout (row_at (at addr) h.asked) _ step;
+  few = reallocates-few h g (at addr) layout (row_at (at addr) h.asked) _ refl step;
+}
 enters h g (Reallocate addr layout) UnknownAddress step =
-    record { fits = tt; leads = step; kept = refl; start = reallocates-start h g (at addr) layout (row_at (at addr) h.asked) _ step }
+    record {
+      fits = tt;
+      leads = step;
+      kept = refl;
+      start = reallocates-start h g (at addr) layout (row_at (at addr) h.asked) _ step;
+      few = reallocates-few h g (at addr) layout (row_at (at addr) h.asked) _ refl step;
+    }
 enters h g (Reallocate addr layout) Freed step = absurd step
 enters h g (Reallocate addr layout) TableMemory step = absurd step
 enters h g (Reallocate addr layout) JournalMemory step = absurd step
@@ -167,7 +244,7 @@ unfolding BookStands
 run_stands b run = run
 
 -- nothing placed is one
-pub run_begins : (h : Heap) (space : Range) → h ≡ beginning space true → end_of h.source.space < 2 ^ 64 → IsRun [] h
+run_begins : (h : Heap) (space : Range) → h ≡ beginning space true → end_of h.source.space < 2 ^ 64 → IsRun [] h
 run_begins h space new small = record {
   replay = subst (IsReplay []) (sym new) (begun space true);
   grows = ap (λ (x : Heap). x.source.grows) new;
@@ -190,6 +267,14 @@ answered-start h g call UnknownAddress step = (enters h g call UnknownAddress st
 answered-start h g call TableMemory step = ap beginning_of step
 answered-start h g call JournalMemory step = ap beginning_of step
 
+answered-few : (h g : Heap) (call : Call) (reply : Reply) → LeadsOrRefused h call reply g → length g.asked ≤ most_live call (length h.asked)
+answered-few h g call (Placed to) step = (enters h g call (Placed to) step).few
+answered-few h g call Freed step = (enters h g call Freed step).few
+answered-few h g call NoRoom step = (enters h g call NoRoom step).few
+answered-few h g call UnknownAddress step = (enters h g call UnknownAddress step).few
+answered-few h g call TableMemory step = stays-few h g call step
+answered-few h g call JournalMemory step = stays-few h g call step
+
 -- a call goes on with a run
 pub run_goes_on : (es : List Entry) (caller : ℕ) (call : Call) (reply : Reply) (h g : Heap) → IsRun es h → LeadsOrRefused h call reply g
     → IsRun (es ++ entries_of caller call reply) g
@@ -200,3 +285,32 @@ run_goes_on es caller call reply h g run step =
 pub run_written : (es : List Entry) (h g : Heap) (addr offset : ℕ) (bytes : List ℕ) (result : Done) → IsRun es h → HeapWrites h addr offset bytes result g → IsRun es g
 run_written es h g addr offset bytes result run step =
     stays_run es es h g run (writes-start h g addr offset bytes (row_at addr h.asked) result step) (written es h g addr offset bytes result run.replay step)
+
+-- ---- books
+
+-- nothing is live in a new one
+pub book_begins : (h : Heap) (space : Range) → h ≡ beginning space true → end_of h.source.space < 2 ^ 64 → (es : List Entry) → es ≡ [] → (listed : List Row) (cap : ℕ)
+    → listed ≡ [] → IsBook es h listed cap
+book_begins h space new small es is listed cap none = record {
+  run = subst (λ l. IsRun l h) (sym is) (run_begins h space new small);
+  none = none;
+  room = let e = ap (λ (x : Heap). length x.asked) new in omega (arith, e);
+}
+
+-- after a call there is room for the live addresses where there was room for one more
+pub book_goes_on : (es after : List Entry) (caller : ℕ) (call : Call) (reply : Reply) (h g : Heap) → IsRun es h → LeadsOrRefused h call reply g
+    → after ≡ es ++ entries_of caller call reply → (listed : List Row) (cap : ℕ) → listed ≡ [] → most_live call (length h.asked) ≤ cap → IsBook after g listed cap
+book_goes_on es after caller call reply h g run step is listed cap none room = record {
+  run = subst (λ l. IsRun l g) (sym is) (run_goes_on es caller call reply h g run step);
+  none = none;
+  room = let few = answered-few h g call reply step in omega (arith, few, room);
+}
+
+-- a write leaves them
+pub book_written : (es : List Entry) (h g : Heap) (addr offset : ℕ) (bytes : List ℕ) (result : Done) (listed : List Row) (cap : ℕ) → IsBook es h listed cap
+    → HeapWrites h addr offset bytes result g → IsBook es g listed cap
+book_written es h g addr offset bytes result listed cap book step = record {
+  run = run_written es h g addr offset bytes result book.run step;
+  none = book.none;
+  room = let e = ap length (writes-asked h g addr offset bytes (row_at addr h.asked) result step) in let room = book.room in omega (arith, e, room);
+}

@@ -18,6 +18,11 @@ IsReplyTo (Reallocate addr layout) Freed = ⊥
 IsReplyTo (Reallocate addr layout) TableMemory = ⊥
 IsReplyTo call reply = Unit {0}
 
+-- how many payloads are live at most after a call, where so many are before it
+abbrev pub most_live : Call → ℕ → ℕ
+most_live (Allocate layout) live = live + 1
+most_live call live = live
+
 -- the entries of a call: one, or none if it is out of memory
 abbrev pub entries_of : ℕ → Call → Reply → List Entry
 entries_of caller call TableMemory = []

@@ -1,5 +1,5 @@
 -- The heap that a journal replays to.
-use Rattle.std.specs.Prelude.{◌≡◌, ◌<◌, ◌^◌, List, map, All, Ok, Err, true}
+use Rattle.std.specs.Prelude.{◌≡◌, ℕ, ◌<◌, ◌≤◌, ◌^◌, List, [], length, map, All, Ok, Err, true}
 use Rattle.rlsf_base.specs.Addr.{at}
 use Rattle.rlsf_base.specs.Range.{end_of}
 use Rattle.rlsf_global.specs.Locked.{LockedContents}
@@ -15,6 +15,7 @@ use Rattle.rlsf_model_global.specs.Heap.{Heap, beginning}
 use Rattle.rlsf_model_global.specs.History.{Step, allocate, deallocate, reallocate}
 use Rattle.rlsf_model_global.specs.Moves.{HeapReallocates}
 use Rattle.rlsf_model_global.specs.Replays as placement
+use Rattle.rlsf_model_global.specs.Rows.{Row}
 use Rattle.rlsf_model_global.specs.Steps.{HeapAllocates, HeapDeallocates}
 
 -- a call with its reply is a step from one heap to another
@@ -61,11 +62,17 @@ pub record IsRun (journal : List Entry) (h : Heap) : Type 0 where
   pub grows : h.source.grows ≡ true
   pub addressable : end_of h.source.space < 2 ^ 64
 
+-- What is true of each book: its journal is a run to its heap, and an empty `Vec` has room for the live addresses.
+pub record IsBook (journal : List Entry) (h : Heap) (listed : List Row) (capacity : ℕ) : Type 0 where
+  pub run : IsRun journal h
+  pub none : listed ≡ []
+  pub room : length h.asked ≤ capacity
+
 -- a book as contracts see it: the value with the heap, and the entries
 pub record BookContents : Type 0 where
   pub locked : LockedContents
   pub journal : List Entry
 
--- what the type of a book keeps: its journal is a run to its heap
+-- what the type of a book keeps of its contents: its journal is a run to its heap
 unfoldable pub BookStands : BookContents → Type 0
 BookStands b = IsRun b.journal b.locked.heap

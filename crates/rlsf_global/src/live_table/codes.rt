@@ -1,6 +1,6 @@
 //! A code for each multiple of 16 in a memory.
 
-ghost use Rattle.std.specs.Prelude.{◌≡◌, ◌≢◌, ◌≤◌, ◌<◌, ◌+◌, ◌-◌, ◌*◌, ◌/◌, ◌^◌, ℕ, length, get_or, min, OnOk};
+ghost use Rattle.std.specs.Prelude.{◌≡◌, ◌≢◌, ◌≤◌, ◌<◌, ◌+◌, ◌-◌, ◌*◌, ◌/◌, ◌^◌, ℕ, length, get_or, min, OnErr, OnOk};
 ghost use Rattle.rlsf_global.specs.LiveRows.{HasCapacity, HasPlace, code_at, code_of, code_space, codes_for};
 
 use rlsf_base::memory::Layout;
@@ -37,6 +37,7 @@ impl Codes {
         ensures space { code_space self.new ≡ code_space self.old }
         ensures room { OnOk result (HasCapacity self.new) }
         ensures more { HasCapacity self.old → HasCapacity self.new }
+        ensures refused { OnErr result (HasCapacity self.old → ⊥) }
     {
         self.codes.try_reserve_exact(self.count - self.codes.len())
     }

@@ -1,9 +1,8 @@
-use Rattle.std.proofs.Common.{◌≡◌, ◌≢◌, [], ◌∷◌, ◌++◌, ◌∙◌, ap, sym, subst}
+use Rattle.std.proofs.Common.{rules, ◌≡◌, ◌≢◌, [], ◌∷◌, ◌++◌, ◌∙◌, ap, sym}
 use Rattle.std.proofs.lemmas.Bool.{false≢true}
 use Rattle.rlsf_global.specs.declared.entry.Reply.TheVariants.{TableMemory}
 use Rattle.rlsf_global.specs.Journal.Entries.{entries_of}
-use Rattle.rlsf_global.specs.Journal.Replay.{IsRun}
-use Rattle.rlsf_global.proofs.Journal.Replays.{one_entry, run_goes_on}
+use Rattle.rlsf_global.proofs.Journal.Replays.{book_goes_on, one_entry}
 use Rattle.rlsf_global.proofs.book.Book.step.Goals as goal
 use Rattle.rlsf_global.proofs.book.Book.step.Goals.{in-TableMemory, in_default}
 
@@ -19,9 +18,8 @@ pushed c = c.push_reserved.ensures.items ∙ ap (λ l. l ++ record { caller = c.
 
 pub invariant_of-self-then-not-matches : goal.invariant_of-self-then-not-matches
 invariant_of-self-then-not-matches c =
-    subst (λ l. IsRun l c.answer-reply.new.locked.heap) (sym (pushed c))
-    (run_goes_on c.self.inside.journal.items c.args.caller c.args.call c.answer-reply.result c.self.inside.locked.heap c.answer-reply.new.locked.heap c.self.invariant
-    c.answer-reply.ensures.step)
+    book_goes_on c.self.inside.journal.items _ c.args.caller c.args.call c.answer-reply.result c.self.inside.locked.heap c.answer-reply.new.locked.heap c.self.invariant.run
+    c.answer-reply.ensures.step (pushed c) c.reserve_row.new.rows.items _ c.reserve_row.ensures.none (search rules)
 
 pub returns-then-not-matches : goal.returns-then-not-matches
 returns-then-not-matches c = record {

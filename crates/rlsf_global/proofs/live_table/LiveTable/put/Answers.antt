@@ -1,8 +1,12 @@
-use Rattle.std.proofs.Common.{◌≡◌, ◌^◌, ◌-◌, ◌<◌, ◌≤◌, ◌∙◌, None, ap, arith, length, subst, sym}
+use Rattle.std.proofs.Common.{◌≡◌, ◌^◌, ◌<◌, ◌≤◌, ◌∙◌, None, ap, arith, length, subst, sym}
 use Rattle.rlsf_global.proofs.CodedRows.{kept-put}
+use Rattle.rlsf_global.proofs.RowsBelow.{live-few}
 use Rattle.rlsf_global.specs.LiveRows.{CodeSpace, LiveRows}
 use Rattle.rlsf_model_global.specs.Rows.{key, row_at}
 use Rattle.rlsf_global.proofs.live_table.LiveTable.put.Goals as goal
+
+pub overflow_add-self : goal.overflow_add-self
+overflow_add-self c = let few = live-few c.self.inside.codes c.self.inside.entries.rows c.self.inside.live c.self.invariant in omega (arith, few)
 
 pub invariant_of-self : goal.invariant_of-self
 invariant_of-self c =
@@ -11,10 +15,9 @@ invariant_of-self c =
     let set = c.set.ensures in
     let codes = c.set.new.self in
     let fresh = subst (λ (v : LiveRows). row_at (key c.args.row) v.rows ≡ None) (sym c.self.view_is) c.requires.fresh in
-    let room : 0 < t.limit - t.live = subst (λ (v : LiveRows). 0 < v.room) (sym c.self.view_is) c.requires.room in
     let fits = subst (λ n. n < 2 ^ 64) c.get-2.ensures.value c.get-2.type_inv in
     let count = ap (λ (s : CodeSpace). s.count) set.space in
     let few : length codes.codes.items ≤ codes.count = omega (arith, cover.few, set.len, count) in
-    kept-put t.codes codes t.entries.rows t.live t.limit t.rows.items _ c.self.invariant (set.space ∙ cover.space)
-    c.get-2.result c.code_of.result set.here (λ a off. set.others a off ∙ cover.same a) few (λ _. set.room cover.room)
-    c.args.row c.get-2.ensures.value c.code_of.ensures fresh fits (omega (arith, room)) c.put.new.self.rows c.put.ensures
+    kept-put t.codes codes t.entries.rows t.live c.self.invariant (set.space ∙ cover.space)
+    c.get-2.result c.code_of.result set.here (λ a off. set.others a off ∙ cover.same a) few (set.room cover.room)
+    c.args.row c.get-2.ensures.value c.code_of.ensures fresh fits c.put.new.self.rows c.put.ensures

@@ -22,6 +22,6 @@ invariant_of-self c =
     let fits = subst (λ n. n < 2 ^ 64) c.get.ensures.value c.get.type_inv in
     let count = ap (λ (s : CodeSpace). s.count) set.space in
     let few : length codes.codes.items ≤ codes.count = omega (arith, cover.few, set.len, count) in
-    kept-replaced t.codes codes t.entries.rows t.live t.limit t.rows.items _ c.self.invariant (set.space ∙ cover.space)
-    c.get.result c.code_of.result set.here (λ a off. set.others a off ∙ cover.same a) few (λ _. set.room cover.room)
+    kept-replaced t.codes codes t.entries.rows t.live c.self.invariant (set.space ∙ cover.space)
+    c.get.result c.code_of.result set.here (λ a off. set.others a off ∙ cover.same a) few (set.room cover.room)
     c.args.row c.get.ensures.value c.code_of.ensures some fits c.put.new.self.rows (c.put.ensures ∙ ap (put c.args.row) c.remove.ensures)

@@ -18,8 +18,9 @@ returns-then-is_err g c = rw (← c.self.view_is) (record {
   unasked = refl;
   frame =
       keeps_unchanged c.self.inside.flex c.self.inside.rows c.reserve.new.self c.self.inside.looks.count
-      c.self.inside.looks.count (omega arith);
+      c.self.inside.looks.count (omega arith) (search rules);
   touches = search rules;
+  table = search rules;
 })
 
 pub invariant_of-self-in_default : goal.invariant_of-self-in_default
@@ -73,8 +74,10 @@ returns-in_default g c = rw (← c.self.view_is) (record {
     grow = c.in_default.ensures.frame.grow;
     copied = c.in_default.ensures.frame.copied;
     looks = omega arith;
+    codes = search rules;
   };
   touches = c.in_default.ensures.touches;
+  table = search rules;
 })
 
 pub returns : goal.returns
@@ -109,6 +112,8 @@ returns g c = rw (← c.self.view_is) (record {
     grow = c.in-Some.ensures.frame.grow;
     copied = c.in-Some.ensures.frame.copied;
     looks = omega (arith, c.put.ensures.looks);
+    codes = λ _. c.put.ensures.room;
   };
   touches = c.in-Some.ensures.touches;
+  table = c.put.ensures.room;
 })

@@ -41,7 +41,7 @@ returns-in_default g c =
       refused = record { same = refl; memory = refl };
       frame =
           keeps_unchanged c.self.inside.flex c.self.inside.rows c.self.inside.rows c.self.inside.looks.count
-          c.row_of.new.looks.count (omega (arith, c.row_of.ensures.looks));
+          c.row_of.new.looks.count (omega (arith, c.row_of.ensures.looks)) (λ has. has);
       touches = omega arith;
     })
 
@@ -64,6 +64,7 @@ returns g c =
         grow = did.frame.grow;
         copied = did.frame.copied;
         looks = omega (arith, c.row_of.ensures.looks, c.remove.ensures.looks);
+        codes = λ _. c.remove.ensures.room;
       };
       touches = did.touches;
     })

@@ -145,6 +145,7 @@ returns g c =
         grow = c.resize.ensures.frame.grow;
         copied = copied g call;
         looks = omega (arith, c.row_of.ensures.looks, c.move_row.ensures.looks);
+        codes = λ _. c.move_row.ensures.room;
       };
       touches = record { room = touches_there g call; elsewhere = touches_elsewhere g call };
     })
@@ -163,6 +164,7 @@ returns-in_default g c =
         grow = omega arith;
         copied = copies_nothing _ _ _ _ _ _;
         looks = omega (arith, c.row_of.ensures.looks);
+        codes = λ has. has;
       };
       touches = record { room = λ _ _. omega arith; elsewhere = λ _ _. omega arith };
     })
@@ -183,6 +185,7 @@ returns-then-ne g c =
         grow = omega arith;
         copied = copies_nothing _ _ _ _ _ _;
         looks = omega (arith, c.row_of.ensures.looks);
+        codes = λ has. has;
       };
       touches = record { room = λ _ _. omega arith; elsewhere = λ _ _. omega arith };
     })
@@ -212,6 +215,7 @@ returns-in_default-resize g c =
         grow = c.resize.ensures.frame.grow;
         copied = copied g call;
         looks = omega (arith, c.row_of.ensures.looks);
+        codes = λ has. has;
       };
       touches = record { room = touches_there g call; elsewhere = touches_elsewhere g call };
     })

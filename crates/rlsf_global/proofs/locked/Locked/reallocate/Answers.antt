@@ -99,6 +99,7 @@ returns g c =
             ∙ ap (min c.args.layout.size) (c.allocation_usable_size.ensures ∙ ap length (sym (content_at-is before (at c.args.addr)))));
         copied_none = tt;
         looks = omega (arith, c.row_of.ensures.looks, c.move_row.ensures.looks);
+        codes = λ _. c.move_row.ensures.room;
       };
       touches = c.move_away.ensures.touches;
     })
@@ -118,6 +119,7 @@ returns-in_default g c =
         copied = tt;
         copied_none = refl;
         looks = omega (arith, c.row_of.ensures.looks);
+        codes = λ has. has;
       };
       touches = λ _. omega arith;
     })
@@ -143,6 +145,7 @@ returns-in_default-move_away g c =
         copied = tt;
         copied_none = c.in_default-move_away.ensures.frame.copied_none;
         looks = omega (arith, c.row_of.ensures.looks);
+        codes = λ has. has;
       };
       touches = c.move_away.ensures.touches;
     })

@@ -110,6 +110,7 @@ returns g c =
         grow = did.frame.grow;
         copied = did.frame.copied;
         looks = omega (arith, c.row_of.ensures.looks, c.replace.ensures.looks);
+        codes = λ _. c.replace.ensures.room;
       };
       touches = did.touches;
     })
@@ -125,7 +126,7 @@ returns-in_default g c =
       unasked = refl;
       frame =
           keeps_unchanged c.self.inside.flex c.self.inside.rows c.self.inside.rows c.self.inside.looks.count
-          c.row_of.new.looks.count (omega (arith, c.row_of.ensures.looks));
+          c.row_of.new.looks.count (omega (arith, c.row_of.ensures.looks)) (λ has. has);
       touches = omega arith;
     })
 
@@ -142,7 +143,7 @@ returns-then-ne g c =
       unasked = refl;
       frame =
           keeps_unchanged c.self.inside.flex c.self.inside.rows c.self.inside.rows c.self.inside.looks.count
-          c.row_of.new.looks.count (omega (arith, c.row_of.ensures.looks));
+          c.row_of.new.looks.count (omega (arith, c.row_of.ensures.looks)) (λ has. has);
       touches = omega arith;
     })
 
@@ -173,6 +174,7 @@ returns-in_default-reallocate_no_move g c =
         grow = did.frame.grow;
         copied = did.frame.copied;
         looks = omega (arith, c.row_of.ensures.looks);
+        codes = λ has. has;
       };
       touches = did.touches;
     })

@@ -47,6 +47,7 @@ returns-in_default g c = rw (← c.self.view_is) (record {
     grow = omega arith;
     copied = refl;
     looks = omega (arith, c.row_of.ensures.looks);
+    codes = λ has. has;
   };
   touches = omega arith;
 })
@@ -67,6 +68,7 @@ returns-then-not-fits g c = rw (← c.self.view_is) (record {
     grow = omega arith;
     copied = refl;
     looks = omega (arith, c.row_of.ensures.looks);
+    codes = λ has. has;
   };
   touches = omega arith;
 })
@@ -113,6 +115,7 @@ returns g c = rw (← c.self.view_is) (record {
         grow = search rules;
         copied = copied;
         looks = omega (arith, c.row_of.ensures.looks);
+        codes = λ has. has;
       });
   touches = (
       let (chunks, after, source, place, stands, touches, copied) = c.payload_mut.ensures.rest c.write_at.new.payload in
