@@ -59,12 +59,15 @@ int main(int argc, char **argv) {
     size_t steps = argc > 3 ? strtoul(argv[3], 0, 10) : 100000, refused;
     void *memory = malloc(LEN);
     rlsf_heap *heap = rlsf_heap_init(&handle, strcmp(over, "large") ? RLSF_SMALL : RLSF_LARGE, memory, LEN);
+    /* Volatile, so that the compiler doesn't know the function, and no loop becomes a part of main. There its length depends on what the
+     * header's functions leave in registers: the handle's address was fetched again in each step, or not. */
+    size_t (*volatile run)(rlsf_heap *, size_t, size_t) = over_heap;
     double begun;
     if (!longest || !heap) abort();
+    if (!strcmp(over, "malloc")) run = over_malloc;
+    if (!strcmp(over, "nothing")) run = over_nothing;
     begun = now();
-    if (!strcmp(over, "malloc")) refused = over_malloc(heap, longest, steps);
-    else if (!strcmp(over, "nothing")) refused = over_nothing(heap, longest, steps);
-    else refused = over_heap(heap, longest, steps);
+    refused = run(heap, longest, steps);
     printf("%zu refused, %.1f ns a step\n", refused, (now() - begun) / (double)steps);
     return 0;
 }

@@ -3,7 +3,7 @@ use Rattle.std.proofs.Common.{◌≡◌, ℕ, ◌^◌, ◌<◌, List, length, ar
 use Rattle.rlsf_base.specs.Changes.{IsOwn}
 use Rattle.rlsf_base.specs.Out.{Change}
 use Rattle.rlsf_base.specs.OpenSpace.{Home, place_in}
-use Rattle.rlsf_base.specs.Piece.{CanCome, IsPiece, IsPieceOf, Piece, first_place, home_from, piece_range}
+use Rattle.rlsf_base.specs.Piece.{CanCome, HasBytes, IsPiece, IsPieceOf, Piece, first_place, home_from, piece_range}
 use Rattle.rlsf_base.specs.Range.{LiesIn}
 use Rattle.rlsf_base.specs.RawParts.{TakesParts}
 use Rattle.rlsf_base.specs.Steps.Block.{IsMemory, memory_of, start_of, view_of}
@@ -56,6 +56,15 @@ module _ (p : Piece) (view : View) (range : Range) (can : CanCome p view range) 
   same_piece q made =
       made ∙ (λ i. record { home = home_from (sym can.viewed i) (is.1 i); start = (sym can.placed i).start; bytes = is.0.2 i; out = is.0.3 i })
       ∙ (λ i. record { home = record { start = sym can.first.1 i; len = p.home.len; view = p.home.view }; start = p.start; bytes = p.bytes; out = p.out })
+
+-- and the owner has the bytes of that part
+pub has_bytes : (p : Piece) → CanCome p p.home.view (piece_range p) → (e : Bytes) → IsOwnerOf p e → HasBytes p e
+has_bytes p can e is = (
+  is_piece p p.home.view (piece_range p) can e is,
+  (λ i. home_from p.home.view (is.1 i)) ∙ (λ i. record { start = sym can.first.1 i; len = p.home.len; view = p.home.view }),
+  is.0.2,
+  is.0.3,
+)
 
 -- and can be made one again
 pub can_come : (p : Piece) (e : Bytes) → IsPiece p.home.view (piece_range p) e → home_from p.home.view e.of ≡ p.home → e.bytes ≡ p.bytes → e.out ≡ p.out

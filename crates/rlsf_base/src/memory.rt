@@ -19,6 +19,7 @@ mod opening;
 mod part;
 mod range;
 mod raw_parts;
+mod thin_bytes;
 mod unit_payload;
 mod view;
 pub(crate) mod zeroed;
@@ -28,6 +29,7 @@ pub use layout::{Layout, LayoutError};
 pub use open_memory::OpenMemory;
 pub use part::Part;
 pub use range::{Addr, Range};
+pub use thin_bytes::ThinBytes;
 pub use unit_payload::UnitPayload;
 pub use view::View;
 

@@ -7,7 +7,7 @@ use Rattle.rlsf_base.specs.Piece.{Piece, piece_range}
 use Rattle.rlsf_model.specs.State.{State}
 use Rattle.rlsf_heap.specs.Frame.{KeepsBytes, KeepsFrame, KeepsHeap, KeepsSized}
 use Rattle.rlsf_heap.specs.Heap.{HeapView, IsOwners, PayloadView, Steps, lent_bytes, payload_range, payload_view}
-use Rattle.rlsf_heap.specs.Kept.{KeepsBytesBeside, KeepsSpareBytes, NoneBecomesRaw, NoneBecomesRawBeside}
+use Rattle.rlsf_heap.specs.Kept.{KeepsBytesBeside, KeepsSpareBytes, NoneBecomesRaw}
 use Rattle.rlsf_heap.specs.Reallocation.{owned_by}
 use Rattle.rlsf_heap.specs.Replies.{IsReallocated, IsReallocatedHere, IsRefused, IsResized, IsReturned}
 use Rattle.rlsf_heap.specs.Settled.{IsSettled}
@@ -34,10 +34,6 @@ lent_found v = refl
 pub raw_found : (v w new : HeapView) → w ≡ found v → NoneBecomesRaw w new → NoneBecomesRaw v new
 unfolding NoneBecomesRaw
 raw_found v w new is none = subst (λ (x : HeapView). NoneBecomesRaw x new) is none
-
-pub raw_beside_found : (v w new : HeapView) → w ≡ found v → (r : Range) → NoneBecomesRawBeside w new r → NoneBecomesRawBeside v new r
-unfolding NoneBecomesRawBeside
-raw_beside_found v w new is r none = subst (λ (x : HeapView). NoneBecomesRawBeside x new r) is none
 
 pub beside_found : (v w new : HeapView) → w ≡ found v → (r : Range) → KeepsBytesBeside w new r → KeepsBytesBeside v new r
 unfolding KeepsBytesBeside
@@ -71,11 +67,6 @@ frame_found v w new is kept = record {
 pub owners : (v : HeapView) (q : Piece) (align ledger : ℕ) (p : PayloadView) → payload_view q align ledger ≡ p → IsAway v.memory (piece_range q) → IsOwners v p
 unfolding IsOwners
 owners v q align ledger p is away = subst (λ (o : PayloadView). IsAway v.memory (payload_range o)) is away
-
-pub owners_found : (v w : HeapView) → w ≡ found v → (q : Piece) (align ledger : ℕ) (p : PayloadView) → payload_view q align ledger ≡ p → IsAway w.memory (piece_range q)
-    → IsOwners v p
-owners_found v w is q align ledger p same away =
-    owners v q align ledger p same (subst (λ (o : HeapView). IsAway o.memory (piece_range q)) is away)
 
 -- the length of a payload was found in the memory, and the payload is returned with it and with its alignment
 pub record IsFound (v w : HeapView) (p q : PayloadView) (addr align : ℕ) : Type 0 where

@@ -5,7 +5,7 @@ use Rattle.rlsf_base.specs.declared.memory.ledger.Ticket.{Ticket}
 use Rattle.rlsf_base.specs.declared.memory.range.Range.{Range}
 use Rattle.rlsf_base.specs.declared.memory.view.View.{View}
 use Rattle.rlsf_base.specs.OpenSpace.{Home, home_of}
-use Rattle.rlsf_base.specs.Piece.{CanCome, Piece}
+use Rattle.rlsf_base.specs.Piece.{CanCome, IsFull, Piece, piece_range}
 use Rattle.rlsf_base.specs.Space.{Space}
 use Rattle.rlsf_model.specs.Allocate.{Allocates, placed}
 use Rattle.rlsf_model.specs.Lists.{IsIn}
@@ -15,7 +15,7 @@ use Rattle.rlsf_table.specs.Table.{Table}
 use Rattle.rlsf_blocks.specs.Steps.LiveBlock.{AtEachBlock, IsLiveIn}
 use Rattle.rlsf_blocks.specs.StandsFor.{contents, StandsFor}
 use Rattle.rlsf_blocks.proofs.Reallocate.Addresses.{some_reply}
-use Rattle.rlsf_heap.specs.Heap.{AreIssued, HeapView, Identity, IsTicketOf, PayloadView, Stands, Steps, payload_range, payload_view}
+use Rattle.rlsf_heap.specs.Heap.{AreIssued, HeapView, Identity, IsTicketOf, IsWritten, PayloadView, Stands, Steps, payload_range, payload_view}
 use Rattle.rlsf_heap.specs.Raw.{IsWhole, bytes_of}
 use Rattle.rlsf_heap.specs.Thin.{reply_of}
 use Rattle.rlsf_heap.proofs.Shown.{IsShown, block, held, usable_is}
@@ -78,3 +78,15 @@ module _ (of : PayloadView) (q : Piece) (one : q ≡ bytes_of of) where
   -- its ticket is one of this part
   pub ticket_of_bytes : (t : Ticket) → IsTicketFor of t → IsTicketOf q of.align (extent t.addr t.len t.align)
   ticket_of_bytes t is = (ap (λ (o : Piece). o.start) one ∙ sym is.1, ap (λ (o : Piece). length o.bytes) one ∙ sym is.2, sym is.3)
+
+  -- they are of its heap
+  pub identity_of_bytes : (t : Ticket) → IsTicketFor of t → ◌≡◌ {A = Identity} (record { home = q.home; ledger = t.name }) of.identity
+  identity_of_bytes t is = λ i. record { home = (one i).home; ledger = is.0 i }
+
+  -- they can be a part again
+  pub comes_back : IsWhole of → CanCome q q.home.view (piece_range q)
+  comes_back whole = subst (λ (o : Piece). CanCome o o.home.view (piece_range o)) (sym one) whole
+
+  -- and are here if the payload's are
+  pub written_bytes : IsWritten of → IsFull q
+  written_bytes written = subst (λ (o : Piece). IsFull o) (sym one) written

@@ -3,7 +3,7 @@ ghost use Rattle.std.specs.Prelude.{[], false, Some, ◌≡◌, ◌≤◌, ◌+�
 ghost use Rattle.rlsf_base.specs.Changes.{IsAllOwn};
 ghost use Rattle.rlsf_base.specs.Ledger.{extent};
 ghost use Rattle.rlsf_base.specs.OpenSpace.{home_of, IsAway, IsOwned};
-ghost use Rattle.rlsf_base.specs.Piece.{piece_range};
+ghost use Rattle.rlsf_base.specs.Piece.{CanCome, piece_range};
 ghost use Rattle.rlsf_base.specs.declared.memory.range.Range.{Range};
 ghost use Rattle.rlsf_base.specs.SizeClass.{IsValid};
 ghost use Rattle.rlsf_base.specs.Sizes.{request_size};
@@ -23,7 +23,7 @@ ghost use Rattle.rlsf_heap.specs.Frame.{KeepsAllBounds, KeepsBounds, KeepsFrame,
 
 use crate::payload::Payload;
 use rlsf_base::memory::ledger::{Ledger, Ticket};
-use rlsf_base::memory::{Layout, OpenMemory, Part};
+use rlsf_base::memory::{Layout, OpenMemory, ThinBytes};
 use rlsf_int::BitPattern;
 use rlsf_table::ClassTable;
 use rlsf_tlsf::GhostState;
@@ -286,28 +286,35 @@ impl<FLBitmap: BitPattern, SLBitmap: BitPattern, const FLLEN: usize, const SLLEN
     {
         let align = payload.align();
         let (part, ticket) = payload.into_parts();
-        self.put_raw(part, ticket, Some(align));
+        let addr = part.start();
+        self.put_raw(addr, part.into_thin_bytes(), ticket, Some(align));
     }
 
-    // Deallocates a payload by its bytes, which become raw, and its ticket. If `align` is one, it is the payload's alignment.
+    // Deallocates the payload at an address by its bytes, which become raw, and its ticket. If `align` is one, it is the payload's alignment.
     #[inline(always)]
     #[tactic(auto, using(crate::proofs::OnCores::of_memory, crate::proofs::OnCores::of_ledger))]
-    pub(crate) fn put_raw(&mut self, part: Part, ticket: Ticket, align: Option<usize>)
-        requires ticket { IsTicketOf part ticket.align (extent ticket.addr ticket.len ticket.align) }
-        requires identity { record { home = part.home; ledger = ticket.name } ≡ self.old.identity }
+    pub(crate) fn put_raw(
+        &mut self,
+        addr: usize,
+        bytes: ThinBytes,
+        ticket: Ticket,
+        align: Option<usize>,
+    )
+        requires bytes { (bytes.piece.start ≡ addr) × CanCome bytes.piece bytes.piece.home.view (piece_range bytes.piece) }
+        requires ticket { IsTicketOf bytes.piece ticket.align (extent ticket.addr ticket.len ticket.align) }
+        requires identity { record { home = bytes.piece.home; ledger = ticket.name } ≡ self.old.identity }
         requires align { IfSome align (λ a. ticket.align ≡ a) }
-        ensures step { Steps FLLEN SLLEN self.new (Deallocates self.old.state part.start) }
-        ensures owner { IsAway self.old.memory (piece_range part) }
-        ensures live { align_at self.old.state part.start ≡ Some ticket.align }
-        ensures result { IsGone self.old.state self.new.state part.start }
-        ensures freed { live_bytes self.new.state + request_size (length part.bytes) 16 ≤ live_bytes self.old.state }
+        ensures step { Steps FLLEN SLLEN self.new (Deallocates self.old.state bytes.piece.start) }
+        ensures owner { IsAway self.old.memory (piece_range bytes.piece) }
+        ensures live { align_at self.old.state bytes.piece.start ≡ Some ticket.align }
+        ensures result { IsGone self.old.state self.new.state bytes.piece.start }
+        ensures freed { live_bytes self.new.state + request_size (length bytes.piece.bytes) 16 ≤ live_bytes self.old.state }
         ensures bounds { KeepsAllBounds SLLEN self.old.state self.new.state }
-        ensures frame { KeepsFrameBeside self.old self.new (piece_range part) }
+        ensures frame { KeepsFrameBeside self.old self.new (piece_range bytes.piece) }
         ensures touches { self.new.memory.touches ≤ self.old.memory.touches + (found_cost align + 31) }
     {
-        let addr = part.start();
         self.ledger.redeem(ticket);
-        self.memory.put_room(part);
+        self.memory.put_thin_room(bytes);
         deallocate_in(
             &mut self.memory,
             &mut self.table,

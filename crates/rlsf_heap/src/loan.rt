@@ -9,8 +9,7 @@ ghost use Rattle.rlsf_heap.specs.Lending.{IsLentTo, IsReclaimed};
 ghost use Rattle.rlsf_heap.specs.Loans.{owns_loan};
 
 use crate::heap::Heap;
-use crate::thin::ThinBytes;
-use rlsf_base::memory::{Part, Range};
+use rlsf_base::memory::{Part, Range, ThinBytes};
 use rlsf_int::BitPattern;
 use std::marker::{Model, PhantomData};
 

@@ -3,7 +3,6 @@
 ghost use Rattle.std.specs.Prelude.{◌≡◌, ◌≢◌, ℕ, List, length};
 ghost use Rattle.std.specs.Borrow.{sem};
 ghost use Rattle.rlsf_base.specs.Ledger.{extent, IsIssued};
-ghost use Rattle.rlsf_base.specs.Piece.{CanCome, Piece, piece_owns};
 ghost use Rattle.rlsf_heap.specs.Heap.{Identity, IsTicketOf, IsWritten, PayloadView, payload_view};
 ghost use Rattle.rlsf_heap.specs.Raw.{bytes_of, IsWhole};
 ghost use Rattle.rlsf_heap.specs.Thin.{owns_bytes, owns_reply, written_payload};
@@ -11,18 +10,8 @@ ghost use Rattle.rlsf_heap.specs.ThinInPlace.{LendsBytes};
 
 use crate::payload::Payload;
 use rlsf_base::memory::ledger::{Ledger, Ticket};
-use rlsf_base::memory::{Part, Range, View};
+use rlsf_base::memory::{Part, ThinBytes};
 use std::marker::{Model, PhantomData};
-
-/// The bytes of a payload whose place isn't known yet. The value takes no space.
-pub(crate) struct ThinBytes {
-    pub(crate) mark: PhantomData<()>,
-    pub(crate) ghost piece: { Piece },
-}
-
-impl Model for ThinBytes {
-    ghost also_owns = { λ b. piece_owns b.piece };
-}
 
 /// A payload by its address, or none, where the address is 0. It owns the payload's bytes, and the right to deallocate them. It
 /// takes one word: its heap, its bytes and its alignment are known to the prover alone (`of`).
@@ -41,17 +30,6 @@ impl Model for ThinPayload {
 impl Drop for ThinPayload {
     fn drop(self) {
         let ThinPayload { addr: _ } = self;
-    }
-}
-
-impl ThinBytes {
-    // The part with these bytes, by a view of the memory that they left and their addresses there.
-    pub(crate) unsafe fn into_part(self, view: View, range: Range) -> Part
-        requires { CanCome self.piece view range }
-        ensures { result ≡ self.piece }
-    {
-        let ThinBytes { mark: _ } = self;
-        Part::from_raw(view, range)
     }
 }
 

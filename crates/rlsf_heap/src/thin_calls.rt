@@ -105,12 +105,12 @@ impl<FLBitmap: BitPattern, SLBitmap: BitPattern, const FLLEN: usize, const SLLEN
         (part, ticket)
     }
 
-    /// Deallocates a payload that is known by its address, as `deallocate` does. Its length is found in the memory. No byte but
-    /// the payload's becomes raw (`raw`).
+    /// Deallocates a payload that is known by its address, as `deallocate` does. No byte but the payload's becomes raw
+    /// (`raw`).
     ///
     /// The payload must be the one at `addr`, which isn't 0, and one of this heap.
     ///
-    /// Completes in constant time: at most 36 word accesses, whatever the pools contain.
+    /// Completes in constant time: at most 33 word accesses, whatever the pools contain.
     pub fn deallocate_thin(&mut self, addr: usize, payload: ThinPayload)
         requires some { (payload.of.start ≡ addr) × (addr ≢ 0) }
         requires heap { payload.of.identity ≡ self.old.identity }
@@ -118,19 +118,19 @@ impl<FLBitmap: BitPattern, SLBitmap: BitPattern, const FLLEN: usize, const SLLEN
         ensures result { IsDeallocated self.old self.new addr payload.of }
         ensures bounds { KeepsAllBounds SLLEN self.old.state self.new.state }
         ensures frame { KeepsFrameBeside self.old self.new (payload_range payload.of) }
-        ensures touches { self.new.memory.touches ≤ self.old.memory.touches + 36 }
+        ensures touches { self.new.memory.touches ≤ self.old.memory.touches + 33 }
     {
-        let (part, ticket) = self.find_part(addr, payload);
-        self.put_raw(part, ticket, None);
+        let (bytes, ticket) = unsafe { payload.into_parts() };
+        self.put_raw(addr, bytes, ticket, None);
     }
 
-    /// Deallocates a payload that is known by its address, as `deallocate_written` does. Its length is found in the memory.
+    /// Deallocates a payload that is known by its address, as `deallocate_written` does.
     ///
     /// No byte becomes raw (`raw`): if no byte of the memory was raw, none is (`settled`).
     ///
     /// The payload must be the one at `addr`, which isn't 0, and one of this heap, and none of its bytes may be raw.
     ///
-    /// Completes in constant time: at most 36 word accesses, whatever the pools contain.
+    /// Completes in constant time: at most 33 word accesses, whatever the pools contain.
     pub fn deallocate_thin_written(&mut self, addr: usize, payload: ThinPayload)
         requires some { (payload.of.start ≡ addr) × (addr ≢ 0) }
         requires heap { payload.of.identity ≡ self.old.identity }
@@ -139,9 +139,9 @@ impl<FLBitmap: BitPattern, SLBitmap: BitPattern, const FLLEN: usize, const SLLEN
         ensures result { IsDeallocated self.old self.new addr payload.of }
         ensures bounds { KeepsAllBounds SLLEN self.old.state self.new.state }
         ensures frame { KeepsFrame self.old self.new }
-        ensures touches { self.new.memory.touches ≤ self.old.memory.touches + 36 }
+        ensures touches { self.new.memory.touches ≤ self.old.memory.touches + 33 }
     {
-        let (part, ticket) = self.find_part(addr, payload);
-        self.put_written(part, ticket, None);
+        let (bytes, ticket) = unsafe { payload.into_parts() };
+        self.put_written(addr, bytes, ticket, None);
     }
 }

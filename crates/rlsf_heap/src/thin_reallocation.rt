@@ -142,7 +142,7 @@ impl<FLBitmap: BitPattern, SLBitmap: BitPattern, const FLLEN: usize, const SLLEN
             return Err(ThinPayload::from_parts(addr, part, ticket));
         };
         copy_front(part.as_slice(), to.as_mut_slice());
-        self.put_written(part, ticket, None);
+        self.put_written(addr, part.into_thin_bytes(), ticket, None);
         Ok(to.into_thin())
     }
 }

@@ -68,7 +68,7 @@ impl Part {
     }
 
     // The part with these fields.
-    fn of(view: View, range: Range, bytes: Bytes) -> Part
+    pub(crate) fn of(view: View, range: Range, bytes: Bytes) -> Part
         requires { IsPiece view range bytes }
         ensures { IsPieceOf view range bytes result }
     {
@@ -193,7 +193,7 @@ impl OpenMemory {
         ensures counts { CountsNothing self.old self.new }
         ensures back { IsPutBack self.old self.new part }
     {
-        self.bytes.put_back(part.into_bytes());
+        self.put_thin_back(part.into_thin_bytes());
     }
 
     /// Puts the bytes of `part` back. They are then raw. Nothing else changes.
@@ -208,6 +208,6 @@ impl OpenMemory {
         ensures own { IsOwned self.new (piece_range part) }
         ensures beside { StaysBeside self.old self.new (piece_range part) }
     {
-        self.bytes.put_room(part.into_bytes());
+        self.put_thin_room(part.into_thin_bytes());
     }
 }

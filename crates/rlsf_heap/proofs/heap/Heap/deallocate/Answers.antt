@@ -1,25 +1,46 @@
 use Rattle.std.proofs.Common.{◌≡◌, ◌+◌, ◌≤◌, Some, length, arith, refl, sym, ap, subst, ◌∙◌}
+use Rattle.rlsf_base.specs.Piece.{CanCome, Piece, piece_range}
 use Rattle.rlsf_base.specs.Sizes.{request_size}
 use Rattle.rlsf_model.specs.Callers.{align_at}
 use Rattle.rlsf_model.specs.Sized.{live_bytes}
 use Rattle.rlsf_heap.specs.Frame.{KeepsFrameBeside}
-use Rattle.rlsf_heap.specs.Heap.{PayloadView, payload_range}
+use Rattle.rlsf_heap.specs.Heap.{PayloadView, payload_range, payload_view}
 use Rattle.rlsf_heap.specs.Replies.{IsGone}
 use Rattle.rlsf_heap.proofs.Found.{owners}
+use Rattle.rlsf_heap.proofs.heap.Heap.deallocate.Given as given
 use Rattle.rlsf_heap.proofs.heap.Heap.deallocate.Goals as goal
+use Rattle.rlsf_heap.proofs.heap.Heap.deallocate.Goals.{After-into_thin_bytes}
+
+-- its bytes, with its alignment and its ticket's name, are the payload
+thin_parts : (g : given.Over) (c : After-into_thin_bytes g)
+    → payload_view c.into_thin_bytes.result.piece c.args.payload.align c.into_parts-part.result.1.name ≡ c.args.payload
+thin_parts g c =
+    ap (λ (q : Piece). payload_view q c.args.payload.align c.into_parts-part.result.1.name) c.into_thin_bytes.ensures.piece ∙ c.into_parts-part.ensures.parts
 
 pub put_raw-requires : goal.put_raw-requires
 put_raw-requires g c =
+    let q = c.into_thin_bytes.ensures.piece in
     let t = c.into_parts-part.ensures.ticket in
-    let identity = ap (λ (p : PayloadView). p.identity) c.into_parts-part.ensures.parts ∙ c.requires in
-    (omega arith, ((t.0, t.1, refl), (identity, sym t.2 ∙ sym c.align-align.ensures)))
+    let identity = ap (λ (p : PayloadView). p.identity) (thin_parts g (goal.at.put_raw-requires g c).After-into_thin_bytes) ∙ c.requires in (
+      omega arith,
+      (
+        (
+          ap (λ (p : Piece). p.start) q ∙ sym c.start-addr.ensures,
+          subst (λ (p : Piece). CanCome p p.home.view (piece_range p)) (sym q) c.into_thin_bytes.ensures.can,
+        ),
+        (
+          (ap (λ (p : Piece). p.start) q ∙ t.0, ap (λ (p : Piece). length p.bytes) q ∙ t.1, refl),
+          (identity, sym t.2 ∙ sym c.align-align.ensures),
+        ),
+      ),
+    )
 
 pub returns-clause-result : goal.returns-clause-result
 returns-clause-result g c =
-    let parts = c.into_parts-part.ensures.parts in
+    let parts = thin_parts g (goal.at.returns-clause-result g c).After-into_thin_bytes in
     let old = c.args.self.now in
     let did = c.put_raw.ensures in record {
-      owner = owners old c.into_parts-part.result.0 c.args.payload.align c.into_parts-part.result.1.name c.args.payload parts did.owner;
+      owner = owners old c.into_thin_bytes.result.piece c.args.payload.align c.into_parts-part.result.1.name c.args.payload parts did.owner;
       live = subst (λ (p : PayloadView). align_at old.state p.start ≡ Some c.args.payload.align) parts
           (did.live ∙ ap (λ n. Some n) (sym c.into_parts-part.ensures.ticket.2));
       gone = subst (λ (p : PayloadView). IsGone old.state c.put_raw.new.self.state p.start) parts did.result;
@@ -28,4 +49,5 @@ returns-clause-result g c =
 
 pub returns-clause-frame : goal.returns-clause-frame
 returns-clause-frame g c =
-    subst (λ (p : PayloadView). KeepsFrameBeside c.args.self.now c.put_raw.new.self (payload_range p)) c.into_parts-part.ensures.parts c.put_raw.ensures.frame
+    subst (λ (p : PayloadView). KeepsFrameBeside c.args.self.now c.put_raw.new.self (payload_range p))
+    (thin_parts g (goal.at.returns-clause-frame g c).After-into_thin_bytes) c.put_raw.ensures.frame

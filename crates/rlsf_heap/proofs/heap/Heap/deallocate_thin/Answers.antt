@@ -1,42 +1,46 @@
-use Rattle.std.proofs.Common.{◌≡◌, ℕ, ◌+◌, ◌≤◌, None, length, arith, sym, ap, subst, ◌∙◌}
+use Rattle.std.proofs.Common.{◌+◌, ◌≤◌, Some, length, arith, refl, sym, ap, subst, ◌∙◌}
+use Rattle.rlsf_base.specs.Piece.{Piece, piece_range}
 use Rattle.rlsf_base.specs.Sizes.{request_size}
 use Rattle.rlsf_model.specs.Callers.{align_at}
 use Rattle.rlsf_model.specs.Release.{Deallocates}
-use Rattle.rlsf_model.specs.Sized.{IsSizedFor, live_bytes, live_count}
-use Rattle.rlsf_model.specs.State.{State}
-use Rattle.rlsf_heap.specs.Heap.{HeapView, PayloadView, Steps, payload_range}
-use Rattle.rlsf_heap.specs.Kept.{NoneBecomesRawBeside}
-use Rattle.rlsf_base.specs.Piece.{piece_range}
-use Rattle.rlsf_heap.proofs.Found.{heap_found, owners_found, raw_beside_found}
+use Rattle.rlsf_model.specs.Sized.{live_bytes}
+use Rattle.rlsf_heap.specs.Frame.{KeepsFrameBeside}
+use Rattle.rlsf_heap.specs.Heap.{Steps}
+use Rattle.rlsf_heap.specs.Replies.{IsGone}
+use Rattle.rlsf_heap.proofs.Found.{owners}
+use Rattle.rlsf_heap.proofs.ThinPayloads.{comes_back, identity_of_bytes, payload_of_bytes, ticket_of_bytes}
 use Rattle.rlsf_heap.proofs.heap.Heap.deallocate_thin.Goals as goal
+
+pub put_raw-requires : goal.put_raw-requires
+put_raw-requires g c =
+    let e = c.into_parts.ensures in
+    let of = c.args.payload.of in
+    let q = c.into_parts.result.0.piece in
+    let t = ticket_of_bytes of q e.bytes.0 c.into_parts.result.1 e.ticket in (
+      omega arith,
+      (
+        (ap (λ (p : Piece). p.start) e.bytes.0 ∙ c.requires.some.0, comes_back of q e.bytes.0 e.bytes.1),
+        ((t.0, t.1, refl), (identity_of_bytes of q e.bytes.0 c.into_parts.result.1 e.ticket ∙ c.requires.heap, tt)),
+      ),
+    )
 
 pub returns : goal.returns
 returns g c =
     let e = c.put_raw.ensures in
-    let found = c.find_part-part.ensures in
-    let heap = found.heap in
-    let state = ap (λ (v : HeapView). v.state) heap in
-    let from : c.find_part-part.result.0.start ≡ c.args.addr = ap (λ (p : PayloadView). p.start) found.parts ∙ c.requires.some.0 in record {
-      step = subst (λ (x : State × ℕ). Steps g.row.FLLEN g.row.SLLEN c.put_raw.new.self (Deallocates x.0 x.1)) (λ i. (state i, from i)) e.step;
+    let of = c.args.payload.of in
+    let one = c.into_parts.ensures.bytes.0 in
+    let parts = payload_of_bytes of c.into_parts.result.0.piece one in
+    let from = ap (λ (p : Piece). p.start) one ∙ c.requires.some.0 in
+    let old = c.args.self.now in
+    let new = c.put_raw.new.self in record {
+      step = subst (λ n. Steps g.row.FLLEN g.row.SLLEN new (Deallocates old.state n)) from e.step;
       result = record {
-        owner = owners_found c.args.self.now c.find_part-part.new.self heap c.find_part-part.result.0 c.args.payload.of.align c.find_part-part.result.1.name
-            c.args.payload.of found.parts e.owner;
-        live = found.live;
-        gone = record {
-          gone = subst (λ n. align_at c.put_raw.new.self.state n ≡ None) from e.result.gone;
-          aligns = λ a apart. e.result.aligns a (λ same. apart (same ∙ from)) ∙ ap (λ (s : State). align_at s a) state;
-          count = sym (ap live_count state) ∙ e.result.count;
-        };
-        freed = subst (λ (x : State × ℕ). live_bytes c.put_raw.new.self.state + request_size x.1 16 ≤ live_bytes x.0)
-            (λ i. (state i, length (found.parts i).bytes)) e.freed;
+        owner = owners old c.into_parts.result.0.piece of.align of.identity.ledger of parts e.owner;
+        live = ap (align_at old.state) (sym from) ∙ e.live ∙ ap (λ n. Some n) c.into_parts.ensures.ticket.3;
+        gone = subst (IsGone old.state new.state) from e.result;
+        freed = subst (λ (p : Piece). live_bytes new.state + request_size (length p.bytes) 16 ≤ live_bytes old.state) one e.freed;
       };
-      bounds = λ count most wide sized. e.bounds count most wide (subst (IsSizedFor g.row.SLLEN count most wide) (sym state) sized);
-      frame = record {
-        heap = heap_found c.args.self.now c.find_part-part.new.self c.put_raw.new.self heap e.frame.heap;
-        raw = subst (NoneBecomesRawBeside c.args.self.now c.put_raw.new.self) (ap (λ (p : PayloadView). payload_range p) found.parts)
-            (raw_beside_found c.args.self.now c.find_part-part.new.self c.put_raw.new.self heap (piece_range c.find_part-part.result.0) e.frame.raw);
-        chunks = e.frame.chunks ∙ ap (λ (s : State). s.chunks) state;
-        copied = e.frame.copied ∙ ap (λ (v : HeapView). v.memory.copied) heap;
-      };
-      touches = omega (arith, e.touches, ap (λ (v : HeapView). v.memory.touches) heap);
+      bounds = e.bounds;
+      frame = subst (λ (p : Piece). KeepsFrameBeside old new (piece_range p)) one e.frame;
+      touches = e.touches;
     }

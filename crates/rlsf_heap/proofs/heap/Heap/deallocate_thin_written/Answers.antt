@@ -1,34 +1,48 @@
-use Rattle.std.proofs.Common.{◌≡◌, ℕ, ◌+◌, ◌≤◌, None, length, arith, sym, ap, subst, ◌∙◌}
+use Rattle.std.proofs.Common.{◌+◌, ◌≤◌, Some, length, arith, refl, sym, ap, subst, ◌∙◌}
+use Rattle.rlsf_base.specs.Piece.{Piece}
 use Rattle.rlsf_base.specs.Sizes.{request_size}
 use Rattle.rlsf_model.specs.Callers.{align_at}
 use Rattle.rlsf_model.specs.Release.{Deallocates}
-use Rattle.rlsf_model.specs.Sized.{IsSizedFor, live_bytes, live_count}
-use Rattle.rlsf_model.specs.State.{State}
-use Rattle.rlsf_heap.specs.Heap.{HeapView, PayloadView, Steps}
-use Rattle.rlsf_heap.proofs.Found.{frame_found, owners_found}
+use Rattle.rlsf_model.specs.Sized.{live_bytes}
+use Rattle.rlsf_heap.specs.Heap.{Steps}
+use Rattle.rlsf_heap.specs.Replies.{IsGone}
+use Rattle.rlsf_heap.proofs.Found.{owners}
+use Rattle.rlsf_heap.proofs.ThinPayloads.{comes_back, identity_of_bytes, payload_of_bytes, ticket_of_bytes, written_bytes}
 use Rattle.rlsf_heap.proofs.heap.Heap.deallocate_thin_written.Goals as goal
+
+pub put_written-requires : goal.put_written-requires
+put_written-requires g c =
+    let e = c.into_parts.ensures in
+    let of = c.args.payload.of in
+    let q = c.into_parts.result.0.piece in
+    let t = ticket_of_bytes of q e.bytes.0 c.into_parts.result.1 e.ticket in (
+      omega arith,
+      (
+        (ap (λ (p : Piece). p.start) e.bytes.0 ∙ c.requires.some.0, comes_back of q e.bytes.0 e.bytes.1),
+        (
+          (t.0, t.1, refl),
+          (identity_of_bytes of q e.bytes.0 c.into_parts.result.1 e.ticket ∙ c.requires.heap, (written_bytes of q e.bytes.0 c.requires.written, tt)),
+        ),
+      ),
+    )
 
 pub returns : goal.returns
 returns g c =
     let e = c.put_written.ensures in
-    let found = c.find_part-part.ensures in
-    let heap = found.heap in
-    let state = ap (λ (v : HeapView). v.state) heap in
-    let from : c.find_part-part.result.0.start ≡ c.args.addr = ap (λ (p : PayloadView). p.start) found.parts ∙ c.requires.some.0 in record {
-      step = subst (λ (x : State × ℕ). Steps g.row.FLLEN g.row.SLLEN c.put_written.new.self (Deallocates x.0 x.1)) (λ i. (state i, from i)) e.step;
+    let of = c.args.payload.of in
+    let one = c.into_parts.ensures.bytes.0 in
+    let parts = payload_of_bytes of c.into_parts.result.0.piece one in
+    let from = ap (λ (p : Piece). p.start) one ∙ c.requires.some.0 in
+    let old = c.args.self.now in
+    let new = c.put_written.new.self in record {
+      step = subst (λ n. Steps g.row.FLLEN g.row.SLLEN new (Deallocates old.state n)) from e.step;
       result = record {
-        owner = owners_found c.args.self.now c.find_part-part.new.self heap c.find_part-part.result.0 c.args.payload.of.align c.find_part-part.result.1.name
-            c.args.payload.of found.parts e.owner;
-        live = found.live;
-        gone = record {
-          gone = subst (λ n. align_at c.put_written.new.self.state n ≡ None) from e.result.gone;
-          aligns = λ a apart. e.result.aligns a (λ same. apart (same ∙ from)) ∙ ap (λ (s : State). align_at s a) state;
-          count = sym (ap live_count state) ∙ e.result.count;
-        };
-        freed = subst (λ (x : State × ℕ). live_bytes c.put_written.new.self.state + request_size x.1 16 ≤ live_bytes x.0)
-            (λ i. (state i, length (found.parts i).bytes)) e.freed;
+        owner = owners old c.into_parts.result.0.piece of.align of.identity.ledger of parts e.owner;
+        live = ap (align_at old.state) (sym from) ∙ e.live ∙ ap (λ n. Some n) c.into_parts.ensures.ticket.3;
+        gone = subst (IsGone old.state new.state) from e.result;
+        freed = subst (λ (p : Piece). live_bytes new.state + request_size (length p.bytes) 16 ≤ live_bytes old.state) one e.freed;
       };
-      bounds = λ count most wide sized. e.bounds count most wide (subst (IsSizedFor g.row.SLLEN count most wide) (sym state) sized);
-      frame = frame_found c.args.self.now c.find_part-part.new.self c.put_written.new.self heap e.frame;
-      touches = omega (arith, e.touches, ap (λ (v : HeapView). v.memory.touches) heap);
+      bounds = e.bounds;
+      frame = e.frame;
+      touches = e.touches;
     }

@@ -1,4 +1,5 @@
 use Rattle.std.proofs.Common.{◌≡◌, ◌≢◌, ◌+◌, ◌%◌, ◌<◌, ◌≤◌, ℕ, List, None, length, true≢false, arith, refl, sym, ap, subst, ◌∙◌}
+use Rattle.rlsf_base.specs.Piece.{CanCome, Piece, piece_range}
 use Rattle.rlsf_model.specs.Allocate.{Allocates}
 use Rattle.rlsf_model.specs.Callers.{align_at, bytes_at}
 use Rattle.rlsf_model.specs.Reallocate.{Keeps}
@@ -17,14 +18,22 @@ as_mut_slice-requires g c = c.in-Some.ensures.result.written (settled_found c.ar
 
 pub put_written-requires : goal.put_written-requires
 put_written-requires g c =
-    let t = c.find_part-part.ensures.ticket in let parts = c.find_part-part.ensures.parts in (
+    let q = c.into_thin_bytes.ensures.piece in
+    let t = c.find_part-part.ensures.ticket in
+    let parts = ap (λ (p : Piece). payload_view p c.args.payload.of.align c.find_part-part.result.1.name) q ∙ c.find_part-part.ensures.parts in (
       omega arith,
       (
-        (t.0, t.1, refl),
         (
-          ap (λ (p : PayloadView). p.identity) parts ∙ c.requires.heap
-              ∙ sym (ap (λ (v : HeapView). v.identity) c.find_part-part.ensures.heap) ∙ sym c.in-Some.ensures.frame.heap.identity,
-          (subst (λ (p : PayloadView). IsWritten p) (sym parts) c.requires.written, tt),
+          ap (λ (p : PayloadView). p.start) parts ∙ c.requires.some.0,
+          subst (λ (p : Piece). CanCome p p.home.view (piece_range p)) (sym q) c.into_thin_bytes.ensures.can,
+        ),
+        (
+          (ap (λ (p : Piece). p.start) q ∙ t.0, ap (λ (p : Piece). length p.bytes) q ∙ t.1, refl),
+          (
+            ap (λ (p : PayloadView). p.identity) parts ∙ c.requires.heap
+                ∙ sym (ap (λ (v : HeapView). v.identity) c.find_part-part.ensures.heap) ∙ sym c.in-Some.ensures.frame.heap.identity,
+            (subst (λ (p : PayloadView). IsWritten p) (sym parts) c.requires.written, tt),
+          ),
         ),
       ),
     )
@@ -38,8 +47,8 @@ bytes : (g : given.Over) (c : goal.After-into_thin g) → c.into_thin.result.of.
 bytes g c = ap (λ (p : PayloadView). p.bytes) c.into_thin.ensures.1 ∙ c.as_mut_slice.ensures.filled c.copy_front.new.to c.copy_front.ensures.1
 
 -- the old payload was at its address
-from : (g : given.Over) (c : goal.After-into_thin g) → c.find_part-part.result.0.start ≡ c.args.addr
-from g c = ap (λ (p : PayloadView). p.start) c.find_part-part.ensures.parts ∙ c.requires.some.0
+from : (g : given.Over) (c : goal.After-into_thin g) → c.into_thin_bytes.result.piece.start ≡ c.args.addr
+from g c = ap (λ (p : Piece). p.start) c.into_thin_bytes.ensures.piece ∙ ap (λ (p : PayloadView). p.start) c.find_part-part.ensures.parts ∙ c.requires.some.0
 
 -- they are two
 other : (g : given.Over) (c : goal.After-into_thin g) → c.in-Some.to.start ≢ c.args.addr
@@ -98,7 +107,7 @@ returns g c =
     let is = there g c in
     record {
       step = move_step g.row.FLLEN g.row.SLLEN c.args.self.now c.find_part-part.new.self c.allocate.new.self c.put_written.new.self heap c.args.layout.size
-          c.args.layout.align c.args.addr c.find_part-part.result.0.start c.in-Some.to.start (from g c) a.step p.step c.into_thin.result.of.start is;
+          c.args.layout.align c.args.addr c.into_thin_bytes.result.piece.start c.in-Some.to.start (from g c) a.step p.step c.into_thin.result.of.start is;
       result = record {
         at = c.into_thin.ensures.0 ∙ ap (λ (o : PayloadView). o.start) (sym thin);
         of = record {
@@ -107,7 +116,7 @@ returns g c =
           made = record {
             live = ap (align_at c.put_written.new.self.state) is ∙ p.result.aligns c.in-Some.to.start (λ e. other g c (e ∙ from g c)) ∙ a.result.live;
             long = as_long g c ∙ a.result.long ∙ ap length (sym (others_stay g.row.FLLEN g.row.SLLEN c.args.self.now c.find_part-part.new.self c.allocate.new.self
-                c.put_written.new.self heap c.args.layout.size c.args.layout.align c.args.addr c.find_part-part.result.0.start c.in-Some.to.start (from g c) a.step
+                c.put_written.new.self heap c.args.layout.size c.args.layout.align c.args.addr c.into_thin_bytes.result.piece.start c.in-Some.to.start (from g c) a.step
                 p.step c.in-Some.to.start (other g c)))
                 ∙ ap (λ n. length (bytes_at c.put_written.new.self.state n)) (sym is);
             aligned = subst (λ n. n % c.args.layout.align ≡ 0) (sym is) a.result.aligned;

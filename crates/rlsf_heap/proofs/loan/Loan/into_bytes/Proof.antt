@@ -17,7 +17,7 @@ use Rattle.rlsf_base.proofs.RawBlock.Values.{mark_val, mark_own, mark_made}
 use Rattle.rlsf_heap.specs.Loans.{owns_from}
 use Rattle.rlsf_heap.proofs.ThinValues.{addr_val, addr_told, addr_typed, one_more_than}
 use Rattle.rlsf_heap.proofs.LoanValues.{loan_Tells, loan_vals}
-use Rattle.rlsf_heap.specs.contracts.thin.ThinBytes as bytes_type
+use Rattle.rlsf_base.specs.contracts.memory.thin_bytes.ThinBytes as bytes_type
 use Rattle.rlsf_heap.specs.contracts.loan.Loan as loan
 use Rattle.rlsf_heap.specs.contracts.loan.Loan.into_bytes as f
 use Rattle.rlsf_heap.proofs.loan.Loan.into_bytes.Statement.{statement}

@@ -32,7 +32,7 @@ use Rattle.rlsf_base.proofs.memory.ledger.Ticket.from_raw.Met.{met as raw_met}
 use Rattle.rlsf_heap.specs.Raw.{IsWhole, bytes_of}
 use Rattle.rlsf_heap.specs.Thin.{owns_at}
 use Rattle.rlsf_heap.proofs.ThinValues.{addr_val, addr_told, addr_typed, one_more_than, payload_Tells, payload_vals}
-use Rattle.rlsf_heap.specs.contracts.thin.ThinBytes as bytes_type
+use Rattle.rlsf_base.specs.contracts.memory.thin_bytes.ThinBytes as bytes_type
 use Rattle.rlsf_heap.specs.contracts.thin.ThinPayload as raw_payload
 use Rattle.rlsf_heap.specs.contracts.thin.ThinPayload.into_parts as f
 use Rattle.rlsf_heap.proofs.thin.ThinPayload.into_parts.Statement.{statement}

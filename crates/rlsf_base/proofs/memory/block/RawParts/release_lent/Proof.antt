@@ -1,5 +1,5 @@
 -- Shows that `release_lent` returns those of its bytes that aren't out. Assumes `Logic`.
-use Rattle.std.proofs.Common.{◌≡◌, ℕ, List, [], ◌∷◌, length, refl}
+use Rattle.std.proofs.Common.{ℕ, List, [], ◌∷◌, refl}
 use mir.Val.{Val}
 use base.Fml.{ftrue}
 use contract.Monad.{fact}

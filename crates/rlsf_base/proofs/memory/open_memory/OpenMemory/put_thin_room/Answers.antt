@@ -7,11 +7,11 @@ use Rattle.rlsf_base.specs.Space.{Space}
 use Rattle.rlsf_base.specs.Steps.Block.{start_of}
 use Rattle.rlsf_base.proofs.Lending.BytesBeside.{changed-own, changed-own_stays, changed-stays}
 use Rattle.rlsf_base.proofs.Lending.Memories.{with_contents}
-use Rattle.rlsf_base.proofs.memory.open_memory.OpenMemory.put_room.Goals as goal
+use Rattle.rlsf_base.proofs.memory.open_memory.OpenMemory.put_thin_room.Goals as goal
 
 pub returns : goal.returns
 returns c =
-    let m = c.self.inside in let p = c.args.part in let now = c.args.self.now in
+    let m = c.self.inside in let p = c.args.bytes.piece in let now = c.args.self.now in
     let n : Space = with_contents now (start_of m.shift m.len_and_skip) c.put_room.new.self.bytes c.put_room.new.self.out in
     let start : n.start ≡ now.start = ap (λ (s : Space). s.start) c.self.view_is in
     let out : n.out ≡ out_raw now (piece_range p) = search rules in

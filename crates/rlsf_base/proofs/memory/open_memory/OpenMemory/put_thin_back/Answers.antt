@@ -10,11 +10,11 @@ use Rattle.rlsf_base.specs.OpenSpace.{Home, out_with}
 use Rattle.rlsf_base.specs.Steps.Block.{start_of, view_of}
 use Rattle.rlsf_base.specs.Steps.Ownership.{units_in}
 use Rattle.rlsf_base.proofs.Lending.Memories.{with_contents}
-use Rattle.rlsf_base.proofs.memory.open_memory.OpenMemory.put_back.Goals as goal
+use Rattle.rlsf_base.proofs.memory.open_memory.OpenMemory.put_thin_back.Goals as goal
 
 pub put_back-requires : goal.put_back-requires
 put_back-requires c =
-    let m = c.self.inside in let p = c.args.part in let b = c.into_bytes.result in let now = c.args.self.now in
+    let m = c.self.inside in let p = c.args.bytes.piece in let b = c.into_bytes.result in let now = c.args.self.now in
     let (is, of, bytes, out) = c.into_bytes.ensures in
     let view : p.home.view ≡ view_of m.base m.shift = ap (λ (h : Home). h.view) c.requires.home ∙ sym (ap (λ (s : Space). s.view) c.self.view_is) in
     let shift : p.home.view.shift ≡ m.shift = ap (λ (v : View). v.shift) view in
@@ -36,7 +36,7 @@ put_back-requires c =
 
 pub returns-clause-back : goal.returns-clause-back
 returns-clause-back c =
-    let m = c.self.inside in let p = c.args.part in let now = c.args.self.now in
+    let m = c.self.inside in let p = c.args.bytes.piece in let now = c.args.self.now in
     let n : Space = with_contents now (start_of m.shift m.len_and_skip) c.put_back.new.self.bytes c.put_back.new.self.out in
     let start : n.start ≡ now.start = ap (λ (s : Space). s.start) c.self.view_is in
     let out : n.out ≡ out_with now (piece_range p) = search rules in
