@@ -39,6 +39,22 @@ impl Codes {
         ensures more { HasCapacity self.old → HasCapacity self.new }
         ensures refused { OnErr result (HasCapacity self.old → ⊥) }
     {
+        if self.count <= self.codes.capacity() {
+            return Ok(());
+        }
+        self.make_room()
+    }
+
+    /// Does what `reserve` does if there is no room.
+    #[inline(never)]
+    fn make_room(&mut self) -> Result<(), AllocError>
+        requires { length self.old.codes.items ≤ self.old.count }
+        ensures codes { self.new.codes.items ≡ self.old.codes.items }
+        ensures space { code_space self.new ≡ code_space self.old }
+        ensures room { OnOk result (HasCapacity self.new) }
+        ensures more { HasCapacity self.old → HasCapacity self.new }
+        ensures refused { OnErr result (HasCapacity self.old → ⊥) }
+    {
         self.codes.try_reserve_exact(self.count - self.codes.len())
     }
 
