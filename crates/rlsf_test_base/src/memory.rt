@@ -289,11 +289,11 @@ fn mapped(rt: &(impl Abort + Files + AllocGlobal)) -> usize {
     pages.saturating_mul(4096)
 }
 
-/// Frees 512 MiB of memories. Under `rt try` a process keeps 256 MiB of freed memory, to find uses of it. What is freed from then on
-/// takes the place of what was freed before.
+/// Frees 512 MiB of memories, each as long as those that the test counts. Under `rt try` a process keeps 256 MiB of freed memory, to find
+/// uses of it. What is freed from then on takes the place of what was freed before.
 fn free_memories(rt: &(impl Abort + AllocGlobal)) {
-    for _ in 0..128 {
-        let memory = OpenMemory::reserve(rt.alloc(), 4096, 1 << 22);
+    for _ in 0..512 {
+        let memory = OpenMemory::reserve(rt.alloc(), 4096, 1 << 20);
         memory.expect(rt, "a memory").free();
     }
 }
