@@ -1,4 +1,4 @@
-use Rattle.std.proofs.Common.{arith, refl}
+use Rattle.std.proofs.Common.{arith, refl, ◌∙◌}
 use Rattle.rlsf_shared_heap.proofs.shared.owner.OwnerHeap.lend_new.Goals as goal
 
 pub returns-then-room-self : goal.returns-then-room-self
@@ -24,6 +24,11 @@ returns-in_err-payload g c =
       frame = record { identity = did.frame.heap.identity; settled = did.frame.bytes.settled; room = refl };
       touches = did.touches;
     }))
+
+pub new-requires : goal.new-requires
+new-requires g c =
+    let did = c.in_ok-payload.ensures.result in
+    record { own = did.made.identity ∙ c.self.invariant.0; written = did.written }
 
 pub returns : goal.returns
 returns g c =
