@@ -14,3 +14,6 @@ returns g c =
       sized = did.sized;
       few = did.few;
     })
+
+pub returns-in_err-payload : goal.returns-in_err-payload
+returns-in_err-payload g c = rw c.from_residual.ensures (record { payload = tt; zeros = tt; align = tt; aligned = tt; sized = tt; few = tt })
