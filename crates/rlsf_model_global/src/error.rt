@@ -10,7 +10,7 @@ pub enum GlobalError {
     UnknownAddress = 2,
     /// The layout isn't the one that was last requested for the address.
     WrongLayout = 3,
-    /// The system is out of memory for one more entry of the table of live addresses.
+    /// The system is out of memory for the table of live addresses or, with a journal, for the list that `close` returns.
     TableMemory = 4,
     /// The bytes go past the usable ones.
     OutOfRange = 5,
