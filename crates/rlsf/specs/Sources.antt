@@ -18,4 +18,4 @@ pub use Rattle.rlsf_model_global.specs.Pages.{IsPageCursor, MayOwe}
 pub use Rattle.rlsf_model.proofs.Between.{IsIn-between, coverage-between}
 pub use Rattle.rlsf_model.proofs.Coverage.{IsIn-append, IsIn-append_left, IsIn-append_right, coverage-append, covers-before, covers-behind, inside, before, behind, where_is}
 -- of allocators of single allocations
-pub use Rattle.rlsf_flex.specs.Heap.{Allocation, HeapLeads, HeapNote, HeapOwes, IsAllocated, OwesAllocated, allocate, allocation_at, bytes_of_allocation, deallocate, heap_terms}
+pub use Rattle.rlsf_flex.specs.Heap.{Allocation, HeapLeads, HeapNote, HeapOwes, IsAllocationIn, OwesAllocated, allocate, allocation_at, bytes_of_allocation, deallocate, heap_terms}

@@ -7,7 +7,7 @@ use Rattle.std.specs.Prelude.{leb, ltb, ◌&&◌, if◌then◌else◌}
 use Rattle.std.proofs.lemmas.Bool.{cases_lt, false≢true}
 use Rattle.std.proofs.Math.Nat.{eq-or-lt_of_le}
 use Rattle.rlsf_base.specs.Out.{Change, Kept, here, raw, out, is_here, is_own, all_here, in_run, kept_at}
-use Rattle.rlsf_base.specs.Changes.{change, IsIn, IsOwn, came_back, came_raw, shifted}
+use Rattle.rlsf_base.specs.Changes.{change, AreBytesHere, IsOwn, came_back, came_raw, shifted}
 
 pub and-false : (t : Bool) → (t && false) ≡ false
 and-false true = refl
@@ -38,7 +38,7 @@ pub none-out : (k : ℕ) → kept_at [] k ≡ here
 unfolding kept_at
 none-out k = refl
 
-pub own-in : (cs : List Change) (i n : ℕ) → IsIn cs i n → IsOwn cs i n
+pub own-in : (cs : List Change) (i n : ℕ) → AreBytesHere cs i n → IsOwn cs i n
 own-in cs i n h k lo hi = ap is_own (h k lo hi)
 
 pub raw-own : (cs : List Change) (i n : ℕ) → IsOwn (came_raw i n cs) i n
@@ -78,11 +78,11 @@ and-right : (t u : Bool) → (t && u) ≡ true → u ≡ true
 and-right true u e = e
 and-right false u e = absurd (false≢true e)
 
-pub all-of : (cs : List Change) (i n : ℕ) → IsIn cs i n → all_here cs i n ≡ true
+pub all-of : (cs : List Change) (i n : ℕ) → AreBytesHere cs i n → all_here cs i n ≡ true
 all-of cs i zero h = refl
 all-of cs i (suc n) h = ap₂ (λ t u. is_here t && u) (h i (omega arith) (omega arith)) (all-of cs (suc i) n (λ k lo hi. h k (omega arith) (omega arith)))
 
-pub of-all : (cs : List Change) (i n : ℕ) → all_here cs i n ≡ true → IsIn cs i n
+pub of-all : (cs : List Change) (i n : ℕ) → all_here cs i n ≡ true → AreBytesHere cs i n
 of-all cs i zero e k lo hi = absurd (omega arith)
 of-all cs i (suc n) e k lo hi = elim (eq-or-lt_of_le lo) [
   | inl same ↦ subst (λ j. kept_at cs j ≡ here) same (is-here (kept_at cs i) (and-left _ _ e))
@@ -91,7 +91,7 @@ of-all cs i (suc n) e k lo hi = elim (eq-or-lt_of_le lo) [
 
 -- ---- bytes that were written, or came back
 
-back-if : (t : Bool) (cs : List Change) (i n k : ℕ) → (t ≡ true → IsIn cs i n)
+back-if : (t : Bool) (cs : List Change) (i n k : ℕ) → (t ≡ true → AreBytesHere cs i n)
     → kept_at (if t then cs else change here i n ∷ cs) k ≡ kept_at (change here i n ∷ cs) k
 back-if false cs i n k are = refl
 back-if true cs i n k are = elim (cases_lt k i) [
@@ -147,13 +147,13 @@ back-more cs i n j m from to others k = elim (cases_lt k j) [
 ]
 
 -- bytes that are here are so after a change of others, and after any that are written
-pub here-beside : (t : Kept) (cs : List Change) (i n j m : ℕ) → (j + m ≤ i) ⊎ (i + n ≤ j) → IsIn cs j m → IsIn (change t i n ∷ cs) j m
+pub here-beside : (t : Kept) (cs : List Change) (i n j m : ℕ) → (j + m ≤ i) ⊎ (i + n ≤ j) → AreBytesHere cs j m → AreBytesHere (change t i n ∷ cs) j m
 here-beside t cs i n j m side were k lo hi = elim side [
   | inl before ↦ changed-before t cs i n k (omega arith) ∙ were k lo hi
   | inr behind ↦ changed-behind t cs i n k (omega arith) ∙ were k lo hi
 ]
 
-pub here-back : (cs : List Change) (i n j m : ℕ) → IsIn cs j m → IsIn (came_back i n cs) j m
+pub here-back : (cs : List Change) (i n j m : ℕ) → AreBytesHere cs j m → AreBytesHere (came_back i n cs) j m
 here-back cs i n j m were k lo hi = elim (cases_lt k i) [
   | inl before ↦ back-before cs i n k before ∙ were k lo hi
   | inr behind ↦ elim (cases_lt k (i + n)) [
@@ -163,7 +163,7 @@ here-back cs i n j m were k lo hi = elim (cases_lt k i) [
 ]
 
 -- bytes that are here and are written are as they were
-pub back-same : (cs : List Change) (i n : ℕ) → IsIn cs i n → came_back i n cs ≡ cs
+pub back-same : (cs : List Change) (i n : ℕ) → AreBytesHere cs i n → came_back i n cs ≡ cs
 back-same cs i n are = ap (λ t. if t then cs else change here i n ∷ cs) (all-of cs i n are)
 
 -- a run is written, and then the bytes behind it

@@ -3,11 +3,11 @@ use Rattle.std.proofs.Common.{◌≡◌, ℕ, ◌^◌, ◌<◌, List, length, ar
 use Rattle.rlsf_base.specs.Changes.{IsOwn}
 use Rattle.rlsf_base.specs.Out.{Change}
 use Rattle.rlsf_base.specs.OpenSpace.{Home, place_in}
-use Rattle.rlsf_base.specs.Piece.{CanCome, HasBytes, IsPiece, IsPieceOf, Piece, first_place, home_from, piece_range}
+use Rattle.rlsf_base.specs.Piece.{CanCome, HasPartBytes, IsPiece, IsPieceOf, Piece, first_place, home_from, piece_range}
 use Rattle.rlsf_base.specs.Range.{LiesIn}
 use Rattle.rlsf_base.specs.RawParts.{TakesParts}
 use Rattle.rlsf_base.specs.Steps.Block.{IsMemory, memory_of, start_of, view_of}
-use Rattle.rlsf_base.specs.Steps.Owners.{Owns}
+use Rattle.rlsf_base.specs.Steps.Owners.{OwnsValues}
 use Rattle.rlsf_base.specs.Steps.Ownership.{units_in}
 use Rattle.rlsf_base.specs.declared.memory.block.Base.{Base}
 use Rattle.rlsf_base.specs.declared.memory.block.Bytes.{Bytes}
@@ -18,7 +18,7 @@ use Rattle.rlsf_base.specs.declared.memory.zeroed.Supplier.{Supplier}
 -- the owner of what a part owns
 abbrev pub IsOwnerOf : Piece → Bytes → Type 0
 IsOwnerOf p e =
-    Owns e p.home.view.base.ptr (place_in p.home.view p.start) p.bytes p.out (units_in p.home.view.shift (first_place p.home) p.home.len)
+    OwnsValues e p.home.view.base.ptr (place_in p.home.view p.start) p.bytes p.out (units_in p.home.view.shift (first_place p.home) p.home.len)
     × (e.of ≡ (first_place p.home, p.home.len))
 
 module _ (p : Piece) (view : View) (range : Range) (can : CanCome p view range) (e : Bytes) (is : IsOwnerOf p e) where
@@ -58,7 +58,7 @@ module _ (p : Piece) (view : View) (range : Range) (can : CanCome p view range) 
       ∙ (λ i. record { home = record { start = sym can.first.1 i; len = p.home.len; view = p.home.view }; start = p.start; bytes = p.bytes; out = p.out })
 
 -- and the owner has the bytes of that part
-pub has_bytes : (p : Piece) → CanCome p p.home.view (piece_range p) → (e : Bytes) → IsOwnerOf p e → HasBytes p e
+pub has_bytes : (p : Piece) → CanCome p p.home.view (piece_range p) → (e : Bytes) → IsOwnerOf p e → HasPartBytes p e
 has_bytes p can e is = (
   is_piece p p.home.view (piece_range p) can e is,
   (λ i. home_from p.home.view (is.1 i)) ∙ (λ i. record { start = sym can.first.1 i; len = p.home.len; view = p.home.view }),

@@ -7,16 +7,16 @@ abbrev pub change : Kept → ℕ → ℕ → Change
 change t i n = record { start = i; len = n; kept = t }
 
 -- each of n bytes from the place i on has the state t
-abbrev pub IsRun : Kept → List Change → ℕ → ℕ → Type 0
-IsRun t cs i n = (k : ℕ) → i ≤ k → k < i + n → kept_at cs k ≡ t
+abbrev pub HaveByteState : Kept → List Change → ℕ → ℕ → Type 0
+HaveByteState t cs i n = (k : ℕ) → i ≤ k → k < i + n → kept_at cs k ≡ t
 
 -- each of n bytes from a place on is here
-abbrev pub IsIn : List Change → ℕ → ℕ → Type 0
-IsIn = IsRun here
+abbrev pub AreBytesHere : List Change → ℕ → ℕ → Type 0
+AreBytesHere = HaveByteState here
 
 -- each of n bytes from a place on is out
-abbrev pub IsOut : List Change → ℕ → ℕ → Type 0
-IsOut = IsRun out
+abbrev pub AreBytesOut : List Change → ℕ → ℕ → Type 0
+AreBytesOut = HaveByteState out
 
 -- each of n bytes from the place i on is the memory's own: here or raw
 abbrev pub IsOwn : List Change → ℕ → ℕ → Type 0

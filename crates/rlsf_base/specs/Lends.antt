@@ -15,8 +15,8 @@ abbrev pub lent_space : Space → ℕ → ℕ → List ℕ → Space
 lent_space m at len w = record { start = m.start; bytes = refilled m.bytes (at - m.start) len w; touches = m.touches; copied = m.copied; view = m.view; out = m.out }
 
 -- the memory ends with what r leaves in its len bytes from the address at on, and else as it was
-abbrev pub LendsBytes : MutBor Space → ℕ → ℕ → MutBor (List ℕ) → Fml
-LendsBytes m at len r = Lends memory.the_row (Array u8 0) m r (lent_space m.now at len)
+abbrev pub LendsSpaceBytes : MutBor Space → ℕ → ℕ → MutBor (List ℕ) → Fml
+LendsSpaceBytes m at len r = Lends memory.the_row (Array u8 0) m r (lent_space m.now at len)
 
 -- the same of a memory from which bytes can leave
 abbrev pub LendsOpenBytes : MutBor Space → ℕ → ℕ → MutBor (List ℕ) → Fml

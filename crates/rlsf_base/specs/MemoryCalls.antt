@@ -9,7 +9,7 @@ use Rattle.rlsf_base.specs.Range.{AreApart}
 use Rattle.rlsf_base.specs.Space.{Space, bytes_in, range_of}
 
 -- a new memory of so many bytes from an address on, each of which may be raw
-pub record IsReserved (m : Space) (from size : ℕ) : Type 0 where
+pub record IsReservedMemory (m : Space) (from size : ℕ) : Type 0 where
   -- it begins there
   pub start : m.start ≡ from
   -- it has so many bytes

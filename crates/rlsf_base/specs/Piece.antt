@@ -4,7 +4,7 @@ use Rattle.rlsf_base.specs.declared.memory.range.Range.{Range}
 use Rattle.rlsf_base.specs.declared.memory.view.View.{View}
 use Rattle.rlsf_base.specs.declared.memory.block.Bytes.{Bytes}
 use Rattle.rlsf_base.specs.Out.{Change, kept_at}
-use Rattle.rlsf_base.specs.Changes.{IsIn, IsOwn}
+use Rattle.rlsf_base.specs.Changes.{AreBytesHere, IsOwn}
 use Rattle.rlsf_base.specs.Range.{LiesIn, range_at}
 use Rattle.rlsf_base.specs.OpenSpace.{Home, place_in}
 use Rattle.rlsf_base.specs.Space.{Space, out_at}
@@ -29,7 +29,7 @@ home_from view of = record { start = start_of view.shift of.0; len = of.1; view 
 
 -- each byte of a part is here
 abbrev pub IsFull : Piece → Type 0
-IsFull p = IsIn p.out 0 (length p.bytes)
+IsFull p = AreBytesHere p.out 0 (length p.bytes)
 
 -- each byte of a part has the state that it has in a memory, from the range's start on
 unfoldable pub HasStatesOf : Space → Range → Piece → Type 0
@@ -44,8 +44,8 @@ pub record IsPiece (view : View) (range : Range) (bytes : Bytes) : Type 0 where
   pub small : bytes.skip + range.len < 2 ^ 63
 
 -- the owner of a part's bytes
-abbrev pub HasBytes : Piece → Bytes → Type 0
-HasBytes p b = IsPiece p.home.view (piece_range p) b × (home_from p.home.view b.of ≡ p.home) × (b.bytes ≡ p.bytes) × (b.out ≡ p.out)
+abbrev pub HasPartBytes : Piece → Bytes → Type 0
+HasPartBytes p b = IsPiece p.home.view (piece_range p) b × (home_from p.home.view b.of ≡ p.home) × (b.bytes ≡ p.bytes) × (b.out ≡ p.out)
 
 -- the part with these fields
 abbrev pub IsPieceOf : View → Range → Bytes → Piece → Type 0

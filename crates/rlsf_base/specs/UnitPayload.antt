@@ -13,15 +13,15 @@ abbrev pub pointer_to : View → ℕ → Ptr
 pointer_to v addr = v.base.ptr +ₚ place_in v addr
 
 -- a pointer to the units of so many bytes at an address of a memory, whose block is aligned to 16
-pub record IsPlaced (home : Home) (ptr : Ptr) (start len : ℕ) : Type 0 where
+pub record IsUnitPointer (home : Home) (ptr : Ptr) (start len : ℕ) : Type 0 where
   pub at : ptr ≡ pointer_to home.view start
   pub lies : LiesIn (range_at start len) home.start home.len
   pub grid : home.view.shift % 16 ≡ 0
   pub aligned : (start % 16 ≡ 0) × (len % 16 ≡ 0)
 
 -- so many bytes can be the first ones of a payload of len bytes that stay with their owner: they are complete units
-abbrev pub IsKept : ℕ → ℕ → Type 0
-IsKept kept len = (kept ≤ len) × (kept % 16 ≡ 0)
+abbrev pub AreCompleteUnits : ℕ → ℕ → Type 0
+AreCompleteUnits kept len = (kept ≤ len) × (kept % 16 ≡ 0)
 
 -- the ticket for so many bytes at an address, of the alignment 16, and room for the units behind the first ones at a pointer
 abbrev pub unit_payload_owns : ℕ → ℕ → ℕ → Ptr → ℕ → ℕ → Fml

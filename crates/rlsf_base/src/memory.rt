@@ -74,7 +74,7 @@ impl Drop for Memory {
 }
 
 impl Memory {
-    ghost use Rattle.rlsf_base.specs.Lends.{LendsBytes};
+    ghost use Rattle.rlsf_base.specs.Lends.{LendsSpaceBytes};
 
     /// Creates a memory of `len` zero bytes at the addresses from `start` on. If `len` is zero, the system is not asked
     /// for memory.
@@ -133,7 +133,7 @@ impl Memory {
     /// `range` must lie in the memory.
     pub fn slice_mut(&mut self, range: Range) -> &mut [u8]
         requires { LiesIn range self.old.start (length self.old.bytes) }
-        ensures* writes_back { sem 𝓛 (LendsBytes self.entry range.start range.len result) }
+        ensures* writes_back { sem 𝓛 (LendsSpaceBytes self.entry range.start range.len result) }
         ensures value { result.now ≡ bytes_in self.old range }
     {
         self.inner.slice_mut(range)

@@ -17,8 +17,8 @@ use Rattle.rlsf_model.proofs.Determined.{refusal_changes_nothing}
 use Rattle.rlsf_model.proofs.Live.{handed_out_is_new, live_stays, reallocated_is_live}
 use Rattle.rlsf_tlsf.specs.Allocator.{Allocator, IsInState}
 use Rattle.rlsf_bench_common.specs.declared.tally.Tally.{Tally}
-use Rattle.rlsf_bench_common.specs.Runs.{ChangesSlot, DoesStep, BenchState, alignment_of, beginning, counted, nothing, slot_of, with_slot}
-use Rattle.rlsf_bench_common.specs.Slots.{AreSlotsAt, LeadsSlots, held}
+use Rattle.rlsf_bench_common.specs.Runs.{ChangesSlot, DoesStep, BenchState, alignment_of, bench_beginning, tally_after, empty_tally, slot_of, with_slot}
+use Rattle.rlsf_bench_common.specs.Slots.{AreSlotsAt, LeadsSlots, slot_address}
 
 -- an address in changed slots is in the one that was changed, or was in another before
 with_slot-cases : (slot : ℕ) (held : Option ℕ) (slots : ℕ → Option ℕ) (other addr : ℕ) → with_slot slot held slots other ≡ Some addr
@@ -31,14 +31,14 @@ with_slot-cases slot held slots other addr is = elim (eqb_tells slot other) [
 module _ {fllen sllen aligns : ℕ} {v : Allocator} {table : List ℕ} {counts : Tally} {s : BenchState} (at : AreSlotsAt fllen sllen aligns v table counts s) (slot : ℕ)
     (below : slot < length table) where
   -- what the slots hold once one is changed
-  slots-set : (number other : ℕ) → held (slice_index_or (slice_set table slot number) other 0) ≡ with_slot slot (held number) s.slots other
+  slots-set : (number other : ℕ) → slot_address (slice_index_or (slice_set table slot number) other 0) ≡ with_slot slot (slot_address number) s.slots other
   slots-set number other = elim (eqb_tells slot other) [
     | inl (is_true, same) ↦
-        ap held (subst (λ i. slice_index_or (slice_set table slot number) i 0 ≡ number) same (get_or-set_same table slot number 0 below))
-        ∙ sym (ap (λ b. cond b (held number) (s.slots other)) is_true)
+        ap slot_address (subst (λ i. slice_index_or (slice_set table slot number) i 0 ≡ number) same (get_or-set_same table slot number 0 below))
+        ∙ sym (ap (λ b. cond b (slot_address number) (s.slots other)) is_true)
     | inr (is_false, differ) ↦
-        ap held (get_or-set_other table slot other number 0 (λ same. differ (sym same)))
-        ∙ at.slots other ∙ sym (ap (λ b. cond b (held number) (s.slots other)) is_false)
+        ap slot_address (get_or-set_other table slot other number 0 (λ same. differ (sym same)))
+        ∙ at.slots other ∙ sym (ap (λ b. cond b (slot_address number) (s.slots other)) is_false)
   ]
 
   module _ {w : Allocator} (t : State) (stands : IsInState fllen sllen w t) where
@@ -59,9 +59,9 @@ module _ {fllen sllen aligns : ℕ} {v : Allocator} {table : List ℕ} {counts :
         kept other a is = elim (with_slot-cases slot None s.slots other a is) [ inl (_, none) ↦ absurd (cc) | inr was ↦ was ]
 
     -- after an allocation into it
-    pub AreSlotsAt-answered : (reply : Option ℕ) (number size : ℕ) → held number ≡ reply → Allocates sllen s.machine size (alignment_of aligns slot) reply t
-        → (now : Tally) → now ≡ counted reply counts
-        → AreSlotsAt fllen sllen aligns w (slice_set table slot number) now (record { machine = t; slots = with_slot slot reply s.slots; tally = counted reply s.tally })
+    pub AreSlotsAt-answered : (reply : Option ℕ) (number size : ℕ) → slot_address number ≡ reply → Allocates sllen s.machine size (alignment_of aligns slot) reply t
+        → (now : Tally) → now ≡ tally_after reply counts
+        → AreSlotsAt fllen sllen aligns w (slice_set table slot number) now (record { machine = t; slots = with_slot slot reply s.slots; tally = tally_after reply s.tally })
     AreSlotsAt-answered reply number size kept step now counts_are = record {
       stands = stands;
       slots = λ other. slots-set number other ∙ ap (λ o. with_slot slot o s.slots other) kept;
@@ -80,7 +80,7 @@ module _ {fllen sllen aligns : ℕ} {v : Allocator} {table : List ℕ} {counts :
           | inr (_, there_too) ↦ at.one_slot one other a there there_too
         ]
       ];
-      tally = counts_are ∙ ap (counted reply) at.tally;
+      tally = counts_are ∙ ap (tally_after reply) at.tally;
     }
       where
         cases : (other a : ℕ) → with_slot slot reply s.slots other ≡ Some a
@@ -93,11 +93,11 @@ module _ {fllen sllen aligns : ℕ} {v : Allocator} {table : List ℕ} {counts :
             (subst (λ r. Allocates sllen s.machine size (alignment_of aligns slot) r t) new step)
 
     -- after a reallocation of the slot's payload
-    pub AreSlotsAt-reallocated : (addr : ℕ) → s.slots slot ≡ Some addr → (reply : Option ℕ) (number size : ℕ) → held number ≡ Some (unwrap_or reply addr)
+    pub AreSlotsAt-reallocated : (addr : ℕ) → s.slots slot ≡ Some addr → (reply : Option ℕ) (number size : ℕ) → slot_address number ≡ Some (unwrap_or reply addr)
         → Reallocates sllen s.machine addr size reply t
-        → (now : Tally) → now ≡ counted reply counts
+        → (now : Tally) → now ≡ tally_after reply counts
         → AreSlotsAt fllen sllen aligns w (slice_set table slot number) now
-        (record { machine = t; slots = with_slot slot (Some (unwrap_or reply addr)) s.slots; tally = counted reply s.tally })
+        (record { machine = t; slots = with_slot slot (Some (unwrap_or reply addr)) s.slots; tally = tally_after reply s.tally })
     AreSlotsAt-reallocated addr its reply number size kept step now counts_are = record {
       stands = stands;
       slots = λ other. slots-set number other ∙ ap (λ o. with_slot slot o s.slots other) kept;
@@ -116,7 +116,7 @@ module _ {fllen sllen aligns : ℕ} {v : Allocator} {table : List ℕ} {counts :
           | inr (_, there_too) ↦ at.one_slot one other a there there_too
         ]
       ];
-      tally = counts_are ∙ ap (counted reply) at.tally;
+      tally = counts_are ∙ ap (tally_after reply) at.tally;
     }
       where
         cases : (other a : ℕ) → with_slot slot (Some (unwrap_or reply addr)) s.slots other ≡ Some a
@@ -144,7 +144,7 @@ module _ {fllen sllen aligns : ℕ} {v : Allocator} {table : List ℕ} {counts :
             at.one_slot slot other a (its ∙ ap Some (sym same ∙ moved)) there
 
     -- a step on the slot, by what it holds
-    does_on : (reallocates : Bool) (draw size : ℕ) → slot ≡ slot_of (length table) draw → (o : Option ℕ) → held (slice_index_or table slot 0) ≡ o → (after : BenchState)
+    does_on : (reallocates : Bool) (draw size : ℕ) → slot ≡ slot_of (length table) draw → (o : Option ℕ) → slot_address (slice_index_or table slot 0) ≡ o → (after : BenchState)
         → ChangesSlot sllen (alignment_of aligns slot) reallocates slot size s o after
         → DoesStep sllen aligns (length table) reallocates draw size s after
     does_on reallocates draw size named o holds after step =
@@ -153,7 +153,7 @@ module _ {fllen sllen aligns : ℕ} {v : Allocator} {table : List ℕ} {counts :
 
     -- a step that frees the slot's payload
     pub LeadsSlots-freed : (reallocates : Bool) → reallocates ≡ false → (draw size : ℕ) → slot ≡ slot_of (length table) draw → (addr : ℕ)
-        → held (slice_index_or table slot 0) ≡ Some addr → Deallocates s.machine addr t
+        → slot_address (slice_index_or table slot 0) ≡ Some addr → Deallocates s.machine addr t
         → LeadsSlots fllen sllen aligns (length table) reallocates draw size s w (slice_set table slot 0) counts
     LeadsSlots-freed reallocates frees draw size named addr there step = (
       after,
@@ -167,9 +167,9 @@ module _ {fllen sllen aligns : ℕ} {v : Allocator} {table : List ℕ} {counts :
 
     -- a step that reallocates it
     pub LeadsSlots-reallocated : (reallocates : Bool) → reallocates ≡ true → (draw : ℕ) → slot ≡ slot_of (length table) draw → (addr : ℕ)
-        → held (slice_index_or table slot 0) ≡ Some addr → (reply : Option ℕ) (number size : ℕ)
-        → held number ≡ Some (unwrap_or reply addr) → Reallocates sllen s.machine addr size reply t → (now : Tally)
-        → now ≡ counted reply counts
+        → slot_address (slice_index_or table slot 0) ≡ Some addr → (reply : Option ℕ) (number size : ℕ)
+        → slot_address number ≡ Some (unwrap_or reply addr) → Reallocates sllen s.machine addr size reply t → (now : Tally)
+        → now ≡ tally_after reply counts
         → LeadsSlots fllen sllen aligns (length table) reallocates draw size s w (slice_set table slot number) now
     LeadsSlots-reallocated reallocates does draw named addr there reply number size kept step now counts_are = (
       after,
@@ -179,12 +179,12 @@ module _ {fllen sllen aligns : ℕ} {v : Allocator} {table : List ℕ} {counts :
     )
       where
         after : BenchState
-        after = record { machine = t; slots = with_slot slot (Some (unwrap_or reply addr)) s.slots; tally = counted reply s.tally }
+        after = record { machine = t; slots = with_slot slot (Some (unwrap_or reply addr)) s.slots; tally = tally_after reply s.tally }
 
     -- a step that allocates into it
-    pub LeadsSlots-answered : (reallocates : Bool) (draw : ℕ) → slot ≡ slot_of (length table) draw → held (slice_index_or table slot 0) ≡ None
-        → (reply : Option ℕ) (number size align : ℕ) → held number ≡ reply → align ≡ alignment_of aligns slot
-        → Allocates sllen s.machine size align reply t → (now : Tally) → now ≡ counted reply counts
+    pub LeadsSlots-answered : (reallocates : Bool) (draw : ℕ) → slot ≡ slot_of (length table) draw → slot_address (slice_index_or table slot 0) ≡ None
+        → (reply : Option ℕ) (number size align : ℕ) → slot_address number ≡ reply → align ≡ alignment_of aligns slot
+        → Allocates sllen s.machine size align reply t → (now : Tally) → now ≡ tally_after reply counts
         → LeadsSlots fllen sllen aligns (length table) reallocates draw size s w (slice_set table slot number) now
     LeadsSlots-answered reallocates draw named empty reply number size align kept align_is step now counts_are = (
       after,
@@ -196,21 +196,21 @@ module _ {fllen sllen aligns : ℕ} {v : Allocator} {table : List ℕ} {counts :
         asked = subst (λ a. Allocates sllen s.machine size a reply t) align_is step
 
         after : BenchState
-        after = record { machine = t; slots = with_slot slot reply s.slots; tally = counted reply s.tally }
+        after = record { machine = t; slots = with_slot slot reply s.slots; tally = tally_after reply s.tally }
 
 -- what a slot holds, by the address that its number is
-pub held-address : (number : ℕ) (o : Option NonZeroUsize) → MatchOption o (number ≡ 0) (λ addr. non_zero_usize_get addr ≡ number)
-    → held number ≡ option_map non_zero_usize_get o
-held-address zero None is = refl
-held-address zero (Some addr) is = absurd (omega (arith, is, addr.ok))
-held-address (suc before) None is = absurd (omega (arith, is))
-held-address (suc before) (Some addr) is = ap Some (sym is)
+pub slot_address-address : (number : ℕ) (o : Option NonZeroUsize) → MatchOption o (number ≡ 0) (λ addr. non_zero_usize_get addr ≡ number)
+    → slot_address number ≡ option_map non_zero_usize_get o
+slot_address-address zero None is = refl
+slot_address-address zero (Some addr) is = absurd (omega (arith, is, addr.ok))
+slot_address-address (suc before) None is = absurd (omega (arith, is))
+slot_address-address (suc before) (Some addr) is = ap Some (sym is)
 
 -- what the slot of a payload holds after a reallocation
-pub held-moved : (number : ℕ) (now : NonZeroUsize) (moved : Option NonZeroUsize) (addr : NonZeroUsize) → number ≡ non_zero_usize_get now → now ≡ unwrap_or moved addr
-    → held number ≡ Some (unwrap_or (option_map non_zero_usize_get moved) (non_zero_usize_get addr))
-held-moved number now None addr value is = held-address number (Some addr) (ap non_zero_usize_get (sym is) ∙ sym value)
-held-moved number now (Some to) addr value is = held-address number (Some to) (ap non_zero_usize_get (sym is) ∙ sym value)
+pub slot_address-moved : (number : ℕ) (now : NonZeroUsize) (moved : Option NonZeroUsize) (addr : NonZeroUsize) → number ≡ non_zero_usize_get now → now ≡ unwrap_or moved addr
+    → slot_address number ≡ Some (unwrap_or (option_map non_zero_usize_get moved) (non_zero_usize_get addr))
+slot_address-moved number now None addr value is = slot_address-address number (Some addr) (ap non_zero_usize_get (sym is) ∙ sym value)
+slot_address-moved number now (Some to) addr value is = slot_address-address number (Some to) (ap non_zero_usize_get (sym is) ∙ sym value)
 
 -- an element of a list of equal ones, or the default past its end
 replicate_same : {A : Type 0} (x : A) (n i : ℕ) → slice_index_or (replicate n x) i x ≡ x
@@ -221,11 +221,11 @@ replicate_same x n i = elim (leb_tells n i) [
 
 -- with empty slots, a run is at its beginning
 pub AreSlotsAt-beginning : {fllen sllen aligns : ℕ} {v : Allocator} {table : List ℕ} {counts : Tally} (s : State) (n : ℕ) → IsInState fllen sllen v s
-    → table ≡ replicate n 0 → counts ≡ nothing
-    → AreSlotsAt fllen sllen aligns v table counts (beginning s)
+    → table ≡ replicate n 0 → counts ≡ empty_tally
+    → AreSlotsAt fllen sllen aligns v table counts (bench_beginning s)
 AreSlotsAt-beginning {table = table} s n stands empty none = record {
   stands = stands;
-  slots = λ slot. ap (λ t. held (slice_index_or t slot 0)) empty ∙ ap held (replicate_same 0 n slot);
+  slots = λ slot. ap (λ t. slot_address (slice_index_or t slot 0)) empty ∙ ap slot_address (replicate_same 0 n slot);
   live = λ slot addr is. absurd (no_address addr is);
   one_slot = λ slot other addr is _. absurd (no_address addr is);
   tally = none;

@@ -10,7 +10,7 @@ use Rattle.rlsf_tlsf.specs.Allocator.{Allocator, IsInState}
 use Rattle.rlsf_bench_common.specs.declared.arguments.Mode.{Mode}
 use Rattle.rlsf_bench_common.specs.declared.tally.Tally.{Tally}
 use Rattle.rlsf_bench_common.specs.Draws.{drawn, next_state, seed, state_after}
-use Rattle.rlsf_bench_common.specs.Runs.{DoesStep, IsBench, BenchState, RunsSteps, beginning, nothing, reallocates_at, size_of}
+use Rattle.rlsf_bench_common.specs.Runs.{DoesStep, IsBench, BenchState, RunsSteps, bench_beginning, empty_tally, reallocates_at, size_of}
 use Rattle.rlsf_bench_common.specs.Slots.{AreSlotsAt, LeadsSlots}
 use Rattle.rlsf_bench_common.proofs.SlotChanges.{AreSlotsAt-beginning}
 
@@ -34,7 +34,7 @@ pub record IsUnderway (fllen sllen aligns : ℕ) (pool : Range) (size sizes : �
   pub machine : State
   pub inserted : Inserts fllen empty pool taken machine
   pub state : BenchState
-  pub ran : RunsSteps sllen aligns size sizes mode done (beginning machine) state
+  pub ran : RunsSteps sllen aligns size sizes mode done (bench_beginning machine) state
   pub at : AreSlotsAt fllen sllen aligns v table counts state
   pub slots : length table ≡ size
   pub generator : draws ≡ state_after done
@@ -43,13 +43,13 @@ pub record IsUnderway (fllen sllen aligns : ℕ) (pool : Range) (size sizes : �
 module _ {fllen sllen aligns : ℕ} {pool : Range} {size sizes : ℕ} {mode : Mode} {v : Allocator} {table : List ℕ} {counts : Tally} {draws : ℕ} where
   -- before the first step
   pub IsUnderway-beginning : (taken : Option ℕ) (s : State) → Inserts fllen empty pool taken s → IsInState fllen sllen v s → table ≡ replicate size 0
-      → counts ≡ nothing → draws ≡ seed
+      → counts ≡ empty_tally → draws ≡ seed
       → IsUnderway fllen sllen aligns pool size sizes mode v table counts draws 0
   IsUnderway-beginning taken s inserted stands none nothing_yet seeded = record {
     taken = taken;
     machine = s;
     inserted = inserted;
-    state = beginning s;
+    state = bench_beginning s;
     ran = refl;
     at = AreSlotsAt-beginning s size stands none nothing_yet;
     slots = ap length none ∙ length-replicate size 0;
@@ -78,7 +78,7 @@ module _ {fllen sllen aligns : ℕ} {pool : Range} {size sizes : ℕ} {mode : Mo
         machine = w.machine;
         inserted = w.inserted;
         state = t;
-        ran = subst (λ n. RunsSteps sllen aligns size sizes mode n (beginning w.machine) t) last (w.state, w.ran, here);
+        ran = subst (λ n. RunsSteps sllen aligns size sizes mode n (bench_beginning w.machine) t) last (w.state, w.ran, here);
         at = at;
         slots = long ∙ w.slots;
         generator = drawing ∙ state_after-next done;

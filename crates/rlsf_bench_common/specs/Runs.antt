@@ -18,16 +18,16 @@ use Rattle.rlsf_bench_common.specs.declared.tally.Tally.{Tally}
 use Rattle.rlsf_bench_common.specs.Draws.{drawn}
 
 -- the number of first-level rows of a configuration
-abbrev pub rows_of : Configuration → ℕ
-rows_of TwelveBySixteen = 12
-rows_of FiftyNineByEight = 59
-rows_of SixtyFourBySixtyFour = 64
+abbrev pub bench_rows : Configuration → ℕ
+bench_rows TwelveBySixteen = 12
+bench_rows FiftyNineByEight = 59
+bench_rows SixtyFourBySixtyFour = 64
 
 -- the number of classes in a first-level row of a configuration
-abbrev pub classes_of : Configuration → ℕ
-classes_of TwelveBySixteen = 16
-classes_of FiftyNineByEight = 8
-classes_of SixtyFourBySixtyFour = 64
+abbrev pub bench_classes : Configuration → ℕ
+bench_classes TwelveBySixteen = 16
+bench_classes FiftyNineByEight = 8
+bench_classes SixtyFourBySixtyFour = 64
 
 -- whether the step of this number, from 0 on, reallocates the payload that its slot holds: each eighth does, in the mode for it
 abbrev pub reallocates_at : Mode → ℕ → Bool
@@ -41,21 +41,21 @@ pub record BenchState : Type 0 where
   pub tally : Tally
 
 -- nothing is counted yet
-abbrev pub nothing : Tally
-nothing = record { refused = 0; checksum = 0 }
+abbrev pub empty_tally : Tally
+empty_tally = record { refused = 0; checksum = 0 }
 
 -- from this state of the model on, with empty slots
-abbrev pub beginning : State → BenchState
-beginning machine = record { machine = machine; slots = λ slot. None; tally = nothing }
+abbrev pub bench_beginning : State → BenchState
+bench_beginning machine = record { machine = machine; slots = λ slot. None; tally = empty_tally }
 
 -- the slots with what one of them holds now
 abbrev pub with_slot : ℕ → Option ℕ → (ℕ → Option ℕ) → ℕ → Option ℕ
 with_slot slot held slots = λ other. if nat_eq slot other then held else slots other
 
 -- the count after one more allocation or reallocation
-abbrev pub counted : Option ℕ → Tally → Tally
-counted None tally = record { refused = tally.refused + 1; checksum = tally.checksum }
-counted (Some addr) tally = record { refused = tally.refused; checksum = (tally.checksum * 31 % 2 ^ 64 + addr) % 2 ^ 64 }
+abbrev pub tally_after : Option ℕ → Tally → Tally
+tally_after None tally = record { refused = tally.refused + 1; checksum = tally.checksum }
+tally_after (Some addr) tally = record { refused = tally.refused; checksum = (tally.checksum * 31 % 2 ^ 64 + addr) % 2 ^ 64 }
 
 -- the slot that a number names, of so many
 abbrev pub slot_of : ℕ → ℕ → ℕ
@@ -74,12 +74,12 @@ alignment_of aligns slot = 2 ^ (slot % aligns)
 abbrev pub ChangesSlot : ℕ → ℕ → Bool → ℕ → ℕ → BenchState → Option ℕ → BenchState → Type 0
 ChangesSlot sllen align reallocates slot size s None t =
     (reply : Option ℕ) × (machine : State) × Allocates sllen s.machine size align reply machine
-    × (t ≡ record { machine = machine; slots = with_slot slot reply s.slots; tally = counted reply s.tally })
+    × (t ≡ record { machine = machine; slots = with_slot slot reply s.slots; tally = tally_after reply s.tally })
 ChangesSlot sllen align false slot size s (Some addr) t =
     (machine : State) × Deallocates s.machine addr machine × (t ≡ record { machine = machine; slots = with_slot slot None s.slots; tally = s.tally })
 ChangesSlot sllen align true slot size s (Some addr) t =
     (reply : Option ℕ) × (machine : State) × Reallocates sllen s.machine addr size reply machine
-    × (t ≡ record { machine = machine; slots = with_slot slot (Some (unwrap_or reply addr)) s.slots; tally = counted reply s.tally })
+    × (t ≡ record { machine = machine; slots = with_slot slot (Some (unwrap_or reply addr)) s.slots; tally = tally_after reply s.tally })
 
 -- one step by a number and a size, which may be one that reallocates, on slots of so many alignments
 abbrev pub DoesStep : ℕ → ℕ → ℕ → Bool → ℕ → ℕ → BenchState → BenchState → Type 0
@@ -99,11 +99,11 @@ pub record IsBench (fllen sllen aligns : ℕ) (pool : Range) (slots sizes steps 
   pub machine : State
   pub inserted : Inserts fllen empty pool taken machine
   pub last : BenchState
-  pub ran : RunsSteps sllen aligns slots sizes mode steps (beginning machine) last
+  pub ran : RunsSteps sllen aligns slots sizes mode steps (bench_beginning machine) last
   pub counts : tally ≡ last.tally
 
 -- the steps that the command line asks for, on slots of so many alignments, in a pool of 32 MiB from address 4096 on
 abbrev pub IsAsked : Arguments → ℕ → Tally → Type 0
 IsAsked a aligns tally =
-    IsBench (rows_of a.configuration) (classes_of a.configuration) aligns (range_at 4096 (2 ^ 25)) (non_zero_usize_get a.slots) (non_zero_u16_get a.sizes) a.steps a.mode
+    IsBench (bench_rows a.configuration) (bench_classes a.configuration) aligns (range_at 4096 (2 ^ 25)) (non_zero_usize_get a.slots) (non_zero_u16_get a.sizes) a.steps a.mode
     tally

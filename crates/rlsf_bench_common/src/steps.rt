@@ -6,7 +6,7 @@ ghost use Rattle.rlsf_base.specs.Addr.{reply};
 ghost use Rattle.rlsf_base.specs.Range.{LiesIn};
 ghost use Rattle.rlsf_model.specs.State.{empty};
 ghost use Rattle.rlsf_bench_common.specs.Runs.{alignment_of, slot_of, size_of, BenchState, IsBench};
-ghost use Rattle.rlsf_bench_common.specs.Slots.{AreSlotsAt, LeadsSlots, held};
+ghost use Rattle.rlsf_bench_common.specs.Slots.{AreSlotsAt, LeadsSlots, slot_address};
 
 use crate::arguments::Mode;
 use crate::calls::{allocate, deallocate, reallocate};
@@ -72,7 +72,7 @@ fn empty_slots(alloc: Global, slots: usize) -> Result<Vec<usize>, BenchError>
 
 /// A slot that holds what an allocation returned.
 fn slot_with(placed: Option<Addr>) -> usize
-    ensures { held result ≡ reply placed }
+    ensures { slot_address result ≡ reply placed }
 {
     match placed {
         Some(addr) => addr.get(),

@@ -2,7 +2,7 @@
 
 ghost use Rattle.std.specs.Prelude.{◌≡◌, ◌+◌, ◌<◌, ◌≤◌, ◌^◌};
 ghost use Rattle.rlsf_base.specs.Addr.{reply};
-ghost use Rattle.rlsf_bench_common.specs.Runs.{counted, nothing};
+ghost use Rattle.rlsf_bench_common.specs.Runs.{tally_after, empty_tally};
 
 use rlsf_base::memory::Addr;
 use std::fmt;
@@ -19,7 +19,7 @@ pub(crate) struct Tally {
 impl Tally {
     /// Before the first of them.
     pub(crate) fn new() -> Tally
-        ensures { result ≡ nothing }
+        ensures { result ≡ empty_tally }
     {
         Tally {
             refused: 0,
@@ -30,7 +30,7 @@ impl Tally {
     /// Counts one more, by its answer.
     pub(crate) fn count(&mut self, placed: Option<Addr>)
         requires { self.old.refused + 1 < 2 ^ 64 }
-        ensures counts { self.new ≡ counted (reply placed) self.old }
+        ensures counts { self.new ≡ tally_after (reply placed) self.old }
         ensures refused { self.new.refused ≤ self.old.refused + 1 }
     {
         match placed {

@@ -6,10 +6,10 @@ use Rattle.rlsf_model.specs.Callers.{align_at}
 use Rattle.rlsf_model.specs.State.{State}
 
 -- a slot has this payload
-abbrev pub Has : List (Option Payload) → ℕ → Payload → Type 0
-Has slots i p = slice_index_or slots i None ≡ Some p
+abbrev pub HasPayload : List (Option Payload) → ℕ → Payload → Type 0
+HasPayload slots i p = slice_index_or slots i None ≡ Some p
 
 -- each is live in the state, with its alignment, and in no other slot
-pub record AreLive (s : State) (slots : List (Option Payload)) : Type 0 where
-  pub live : (i : ℕ) (p : Payload) → Has slots i p → align_at s (at p.addr) ≡ Some p.layout.align
-  pub one : (i j : ℕ) (p q : Payload) → Has slots i p → Has slots j q → at p.addr ≡ at q.addr → i ≡ j
+pub record AreSlotsLive (s : State) (slots : List (Option Payload)) : Type 0 where
+  pub live : (i : ℕ) (p : Payload) → HasPayload slots i p → align_at s (at p.addr) ≡ Some p.layout.align
+  pub one : (i j : ℕ) (p q : Payload) → HasPayload slots i p → HasPayload slots j q → at p.addr ≡ at q.addr → i ≡ j

@@ -1,7 +1,7 @@
 //! The steps over the allocator of a `GlobalTlsf` alone, without its lock and its table. They are those of `global_steps.rt` in one thread.
 
 ghost use Rattle.std.specs.Prelude.{◌≡◌, IfOk, None, replicate};
-ghost use Rattle.rlsf_bench_threads.specs.Slots.{AreLive};
+ghost use Rattle.rlsf_bench_threads.specs.Slots.{AreSlotsLive};
 
 use crate::global_steps::{Payload, Tally, layout_of};
 use crate::load::Load;
@@ -26,8 +26,8 @@ pub(crate) fn time<R: Print + AllocGlobal>(rt: &R, load: Load) -> Result<(), Ben
 
 /// Deallocates the payload of a slot; a slot without a payload gets one.
 fn step(flex: &mut Paged, slots: &mut [Option<Payload>], index: usize, tally: &mut Tally, draw: u64)
-    requires live { AreLive flex.old.state.machine slots.old }
-    ensures live { AreLive flex.new.state.machine slots.new }
+    requires live { AreSlotsLive flex.old.state.machine slots.old }
+    ensures live { AreSlotsLive flex.new.state.machine slots.new }
 {
     if index >= slots.len() {
         return;

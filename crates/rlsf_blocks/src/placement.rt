@@ -11,7 +11,7 @@ ghost use Rattle.rlsf_model.specs.Payload.{block_length, payload_of};
 ghost use Rattle.rlsf_model.specs.State.{State};
 ghost use Rattle.rlsf_table.specs.Counts.{Costs, Counts};
 ghost use Rattle.rlsf_table.specs.Table.{IsClassAt};
-ghost use Rattle.rlsf_blocks.specs.Steps.Rest.{AtChoice, AtEachChosen, AtEachRest, AtEachTaken, IsChosenIn, IsInnerRoom, IsFreeBlockBehind, IsOpened, IsTaken, room_of, start_of};
+ghost use Rattle.rlsf_blocks.specs.Steps.Rest.{AtChoice, AtEachChosen, AtEachRest, AtEachTaken, IsChosenIn, IsInnerRoom, IsFreeBlockBehind, IsOpened, IsTaken, room_of, range_start};
 ghost use Rattle.rlsf_blocks.specs.Steps.Standing.{InEach, StepsTo};
 ghost use Rattle.rlsf_blocks.specs.StandsFor.{contents, StandsFor};
 
@@ -145,7 +145,7 @@ pub fn allocate_range<const FLLEN: usize, const SLLEN: usize>(
     requires parameters { IsValid 128 128 FLLEN SLLEN }
     requires stands { (s : State) × StandsFor FLLEN SLLEN (contents memory.old table.old) s }
     requires view { view ≡ memory.old.view }
-    ensures step { InEach FLLEN SLLEN memory.old table.old (λ s. StepsTo FLLEN SLLEN memory.old memory.new table.new s (Allocates SLLEN s layout.size layout.align (start_of result))) }
+    ensures step { InEach FLLEN SLLEN memory.old table.old (λ s. StepsTo FLLEN SLLEN memory.old memory.new table.new s (Allocates SLLEN s layout.size layout.align (range_start result))) }
     ensures len { InEach FLLEN SLLEN memory.old table.old (λ s. IfSome result (λ r. AtChoice SLLEN s layout.size layout.align (λ f. r.len ≡ room_of f layout.size layout.align))) }
     ensures unchanged { IfNone result (Counts memory.old memory.new 4 × (table.new ≡ table.old)) }
     ensures costs { Costs memory.old memory.new 27 0 }

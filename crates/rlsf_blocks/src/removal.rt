@@ -11,7 +11,7 @@ ghost use Rattle.rlsf_model.specs.State.{State};
 ghost use Rattle.rlsf_table.specs.Counts.{Costs};
 ghost use Rattle.rlsf_blocks.specs.Blocks.{walked};
 ghost use Rattle.rlsf_blocks.specs.StandsFor.{contents, StandsFor};
-ghost use Rattle.rlsf_blocks.specs.Steps.Removal.{AreRemoved, CountsRemoved, IsIdleChunk, IsRemoved};
+ghost use Rattle.rlsf_blocks.specs.Steps.Removal.{AreRemoved, CountsRemoved, IsIdleChunk, IsChunkRemoved};
 ghost use Rattle.rlsf_blocks.specs.Steps.Standing.{InEach};
 
 use crate::GRANULARITY;
@@ -28,7 +28,7 @@ fn remove_chunk<const FLLEN: usize, const SLLEN: usize>(
 ) -> usize
     requires parameters { IsValid 128 128 FLLEN SLLEN }
     requires idle { (s : State) × (c : Range) × StandsFor FLLEN SLLEN (contents memory.old table.old) s × IsIdleChunk s c start }
-    ensures step { (s : State) (c : Range) → StandsFor FLLEN SLLEN (contents memory.old table.old) s → IsIdleChunk s c start → IsRemoved FLLEN SLLEN memory.old memory.new table.new s c result }
+    ensures step { (s : State) (c : Range) → StandsFor FLLEN SLLEN (contents memory.old table.old) s → IsIdleChunk s c start → IsChunkRemoved FLLEN SLLEN memory.old memory.new table.new s c result }
     ensures costs { Costs memory.old memory.new 9 0 }
     ensures own { SameOwn memory.old memory.new }
     ensures here { StaysHere memory.old memory.new }

@@ -18,7 +18,7 @@ use Rattle.rlsf_model.proofs.Coverage.{by_test, IsIn-append, IsIn-append_left, I
 use Rattle.rlsf_model.proofs.Payloads.{IsUsed-some}
 use Rattle.rlsf_checked.specs.AllBlocks.{IsFirstFrom}
 use Rattle.rlsf_checked.specs.Checked.{PoolList}
-use Rattle.rlsf_checked.specs.Steps.Standing.{ArePools, IsOneOf}
+use Rattle.rlsf_checked.specs.Steps.Standing.{AreCheckedPools, IsOneOf}
 use Rattle.rlsf_checked.proofs.Joined.{total-le}
 use Rattle.rlsf_checked.proofs.ListedPools.{IsIn-get_or, IsIn-take, before_at, behind_at, only}
 
@@ -101,7 +101,7 @@ module _ {fllen sllen : ℕ} {memory : Range} {s : State} (w : IsWellFormed flle
       let some = total-le bs 0 (end_of memory) (omega arith) order (λ b i. (omega arith, (lies_in_memory b (has b i)).1)) in
       omega (arith, some, w.addressable)
 
-  module _ {pools : PoolList} (are : ArePools s pools) where
+  module _ {pools : PoolList} (are : AreCheckedPools s pools) where
     -- the pool in which a block lies
     in_pool : (b : Block) → HasBlock s b → (p : Range) × IsOneOf p pools × LiesInWalked b p
     in_pool b has =

@@ -8,8 +8,8 @@ use Rattle.rlsf_model.specs.Lists.{IsIn}
 use Rattle.rlsf_model.specs.State.{State}
 use Rattle.rlsf_model.proofs.Coverage.{by_test, IsIn-append, IsIn-append_left, IsIn-append_right, IsIn-filter}
 use Rattle.rlsf_checked.specs.Checked.{PoolList}
-use Rattle.rlsf_checked.specs.Pools.{inserted}
-use Rattle.rlsf_checked.specs.Steps.Standing.{AreInOrder, ArePools, IsOneOf}
+use Rattle.rlsf_checked.specs.Pools.{current_pools}
+use Rattle.rlsf_checked.specs.Steps.Standing.{AreInOrder, AreCheckedPools, IsOneOf}
 
 -- the only element of a list
 pub only : {p q : Range} → IsIn p (q ∷ []) → p ≡ q
@@ -17,13 +17,13 @@ only i = elim i [ inl same ↦ same | inr none ↦ absurd none ]
 
 -- ---- the pools that are inserted
 
-with_last : (pools : PoolList) → 0 < pools.last.len → inserted pools ≡ pools.earlier ++ pools.last ∷ []
+with_last : (pools : PoolList) → 0 < pools.last.len → current_pools pools ≡ pools.earlier ++ pools.last ∷ []
 with_last pools some = ap (λ b. cond b (pools.earlier ++ pools.last ∷ []) pools.earlier) (lt-ltb 0 pools.last.len some)
 
-no_last : (pools : PoolList) → pools.last.len ≤ 0 → inserted pools ≡ pools.earlier
+no_last : (pools : PoolList) → pools.last.len ≤ 0 → current_pools pools ≡ pools.earlier
 no_last pools none = ap (λ b. cond b (pools.earlier ++ pools.last ∷ []) pools.earlier) (le-ltb 0 pools.last.len none)
 
-pub one_of : (pools : PoolList) (p : Range) → IsIn p (inserted pools) → IsOneOf p pools
+pub one_of : (pools : PoolList) (p : Range) → IsIn p (current_pools pools) → IsOneOf p pools
 one_of pools p i = elim (cases_lt 0 pools.last.len) [
   | inl some ↦ elim (IsIn-append p pools.earlier (pools.last ∷ []) (subst (IsIn p) (with_last pools some) i)) [
     | inl j ↦ inl j
@@ -32,7 +32,7 @@ one_of pools p i = elim (cases_lt 0 pools.last.len) [
   | inr none ↦ inl (subst (IsIn p) (no_last pools none) i)
 ]
 
-pub is_in : (pools : PoolList) (p : Range) → IsOneOf p pools → IsIn p (inserted pools)
+pub is_in : (pools : PoolList) (p : Range) → IsOneOf p pools → IsIn p (current_pools pools)
 is_in pools p (inl i) = elim (cases_lt 0 pools.last.len) [
   | inl some ↦ subst (IsIn p) (sym (with_last pools some)) (IsIn-append_left p pools.earlier (pools.last ∷ []) i)
   | inr none ↦ subst (IsIn p) (sym (no_last pools none)) i
@@ -52,7 +52,7 @@ AreInOrder-add (p ∷ ps) r (first, rest) ends = (
   AreInOrder-add ps r rest (λ q j. ends q (inr j)),
 )
 
-pub inserted_order : {s : State} (pools : PoolList) → ArePools s pools → AreInOrder (inserted pools)
+pub inserted_order : {s : State} (pools : PoolList) → AreCheckedPools s pools → AreInOrder (current_pools pools)
 inserted_order pools are = elim (cases_lt 0 pools.last.len) [
   | inl some ↦ subst AreInOrder (sym (with_last pools some)) (AreInOrder-add pools.earlier pools.last are.order are.behind)
   | inr none ↦ subst AreInOrder (sym (no_last pools none)) are.order

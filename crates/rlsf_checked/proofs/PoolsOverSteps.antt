@@ -32,7 +32,7 @@ use Rattle.rlsf_checked.specs.Pools.{no_pools, with_longer_last, with_pool}
 use Rattle.rlsf_checked.specs.declared.error.CheckedError.TheVariants.{NotBehind, NotNext, OutsideMemory}
 use Rattle.rlsf_checked.specs.declared.marks.Marks.{Marks}
 use Rattle.rlsf_checked.specs.Steps.Marks.{HasMark, mark_at, mark_of}
-use Rattle.rlsf_checked.specs.Steps.Standing.{ArePools, IsChecked, IsOneOf, IsPool}
+use Rattle.rlsf_checked.specs.Steps.Standing.{AreCheckedPools, IsChecked, IsOneOf, IsCheckedPool}
 use Rattle.rlsf_checked.proofs.ListedPools.{inserted_order, is_in, one_of}
 
 -- no chunk of a part ends behind the last one
@@ -84,14 +84,14 @@ inserted_in fllen s t r n step c i =
     ]
 
 -- the range is the last pool after that, if no pool is behind its start
-pub inserted_pools : (fllen : ℕ) (s t : State) (pools : PoolList) (r : Range) (n : ℕ) → ArePools s pools → end_of pools.last ≤ r.start → Inserts fllen s r (Some n) t
-    → ArePools t (with_pool pools (range_at r.start n))
+pub inserted_pools : (fllen : ℕ) (s t : State) (pools : PoolList) (r : Range) (n : ℕ) → AreCheckedPools s pools → end_of pools.last ≤ r.start → Inserts fllen s r (Some n) t
+    → AreCheckedPools t (with_pool pools (range_at r.start n))
 inserted_pools fllen s t pools r n are behind step =
     let taken = taken-within fllen r n (sym step.answer) in
     record {
       each = λ p one. elim one [
         | inl i ↦ let is = are.each p (one_of pools p i) in record { room = is.room; row = IsRow-kept fllen s t r (walked p) (Some n) step is.row }
-        | inr (same, some) ↦ subst (IsPool t) (sym same) (record { room = taken.1; row = IsRow-inserted fllen s t r n step })
+        | inr (same, some) ↦ subst (IsCheckedPool t) (sym same) (record { room = taken.1; row = IsRow-inserted fllen s t r n step })
       ];
       order = inserted_order pools are;
       behind = λ p i. elim (one_of pools p i) [ inl j ↦ omega (arith, are.behind p j, behind) | inr (same, some) ↦ omega (arith, ap end_of same, behind) ];
@@ -126,7 +126,7 @@ module _ {fllen sllen : ℕ} {v : Allocator} {m : Marks} {pools : PoolList} (is 
 
   module _ (w : Allocator) (stands : Stands fllen sllen w) (place : SamePlace v.memory w.memory) (aligns : align_at w.state ≡ align_at v.state) where
     -- the fields are those of a checked allocator with other pools
-    pub renewed : (after : PoolList) → ArePools w.state after → v.memory.start ≤ after.last.start → end_of after.last ≤ end_of (range_of v.memory)
+    pub renewed : (after : PoolList) → AreCheckedPools w.state after → v.memory.start ≤ after.last.start → end_of after.last ≤ end_of (range_of v.memory)
         → IsChecked fllen sllen w m after
     renewed after are low high = record {
       stands = stands;
@@ -200,7 +200,7 @@ before_answer fllen v r within before =
 -- ---- a range behind the last pool
 
 -- the last pool ends with a chunk
-pub last_chunk : {s : State} {p : Range} → IsPool s p → (c : Range) × IsIn c s.chunks × (end_of c ≡ end_of p)
+pub last_chunk : {s : State} {p : Range} → IsCheckedPool s p → (c : Range) × IsIn c s.chunks × (end_of c ≡ end_of p)
 last_chunk {p = p} is =
     let room = is.room in
     let (c, i, from, low, high, to) = is.row (end_of p - 1) (omega (arith, room)) (omega (arith, room)) in
@@ -293,7 +293,7 @@ none_appended fllen s t r step = (appended-le fllen s r).1 t step
 
 module _ {fllen sllen : ℕ} {v : Allocator} {m : Marks} {pools : PoolList} (is : IsChecked fllen sllen v m pools) (r : Range) (some : 0 < pools.last.len)
     (next : r.start ≡ end_of pools.last) (lies_in : LiesIn r v.memory.start (length v.memory.bytes)) where
-  last_is : IsPool v.state pools.last
+  last_is : IsCheckedPool v.state pools.last
   last_is = is.pools.each pools.last (inr (refl, some))
 
   pub next_range : IsNext (range_of v.memory) v.state r
@@ -324,7 +324,7 @@ module _ {fllen sllen : ℕ} {v : Allocator} {m : Marks} {pools : PoolList} (is 
       let few : n ≤ r.len = omega (arith, step.answer, (appended-le fllen v.state r).0) in
       (few, omega (arith, few, lies_in.1, is.stands.stands.well_formed.addressable, next))
 
-  appended_pools : (w : Allocator) (n : ℕ) → Appends fllen v.state r n w.state → ArePools w.state (with_longer_last pools n)
+  appended_pools : (w : Allocator) (n : ℕ) → Appends fllen v.state r n w.state → AreCheckedPools w.state (with_longer_last pools n)
   appended_pools w n step = record {
     each = λ p one. elim one [
       | inl i ↦
@@ -334,7 +334,7 @@ module _ {fllen sllen : ℕ} {v : Allocator} {m : Marks} {pools : PoolList} (is 
             room = was.room;
             row = IsRow-kept_apart v.state r (walked p) (clear is r (omega (arith, next))) apart was.row fllen n w.state step;
           }
-      | inr (same, long) ↦ subst (IsPool w.state) (sym same) (record { room = omega (arith, last_is.room); row = longer_row w n step })
+      | inr (same, long) ↦ subst (IsCheckedPool w.state) (sym same) (record { room = omega (arith, last_is.room); row = longer_row w n step })
     ];
     order = is.pools.order;
     behind = is.pools.behind;

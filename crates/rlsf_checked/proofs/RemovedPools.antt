@@ -19,7 +19,7 @@ use Rattle.rlsf_tlsf.specs.Allocator.{Allocator, Stands}
 use Rattle.rlsf_checked.specs.Checked.{PoolList, pools_of}
 use Rattle.rlsf_checked.specs.Pools.{without_last, without_pool_at}
 use Rattle.rlsf_checked.specs.declared.marks.Marks.{Marks}
-use Rattle.rlsf_checked.specs.Steps.Standing.{ArePools, IsChecked, IsOneOf, IsPool}
+use Rattle.rlsf_checked.specs.Steps.Standing.{AreCheckedPools, IsChecked, IsOneOf, IsCheckedPool}
 use Rattle.rlsf_checked.proofs.ListedPools.{AreInOrder-filter, same_or_apart}
 use Rattle.rlsf_checked.proofs.PoolsOverSteps.{renewed}
 
@@ -36,9 +36,9 @@ left_row s t r p removes row off a begins ends =
     ] in
     (c, subst (λ (x : State). IsIn c x.chunks) (sym removes) stays, from, low, high, to)
 
-module _ {fllen sllen : ℕ} {memory : Range} {s t : State} {pools : PoolList} (w : IsWellFormed fllen sllen memory s) (are : ArePools s pools) where
+module _ {fllen sllen : ℕ} {memory : Range} {s t : State} {pools : PoolList} (w : IsWellFormed fllen sllen memory s) (are : AreCheckedPools s pools) where
   -- so is a pool
-  left_pool : (r p : Range) → Removes s (walked r) t → round32 r.start < end_of r → IsOneOf p pools → (end_of p ≤ r.start) ⊎ (end_of r ≤ p.start) → IsPool t p
+  left_pool : (r p : Range) → Removes s (walked r) t → round32 r.start < end_of r → IsOneOf p pools → (end_of p ≤ r.start) ⊎ (end_of r ≤ p.start) → IsCheckedPool t p
   left_pool r p removes some one off =
       let is = are.each p one in
       let apart : (end_of (walked p) ≤ (walked r).start) ⊎ (end_of (walked r) ≤ (walked p).start) = elim off [
@@ -59,7 +59,7 @@ module _ {fllen sllen : ℕ} {memory : Range} {s t : State} {pools : PoolList} (
       )
 
   -- the last pool is empty
-  pub removed_last : Removes s (walked pools.last) t → ArePools t (without_last pools)
+  pub removed_last : Removes s (walked pools.last) t → AreCheckedPools t (without_last pools)
   removed_last removes = record {
     each = λ p one. elim one [
       | inl i ↦
@@ -81,7 +81,7 @@ module _ {fllen sllen : ℕ} {memory : Range} {s t : State} {pools : PoolList} (
 
   -- another pool is gone
   removed_earlier : (r : Range) → IsIn r pools.earlier → Removes s (walked r) t
-      → ArePools t (pools_of (filter (λ p. not (p.start == r.start)) pools.earlier) pools.last)
+      → AreCheckedPools t (pools_of (filter (λ p. not (p.start == r.start)) pools.earlier) pools.last)
   removed_earlier r held removes = record {
     each = λ p one. elim one [
       | inl i ↦
@@ -125,8 +125,8 @@ module _ {fllen sllen : ℕ} {memory : Range} {s t : State} {pools : PoolList} (
           (λ e. ap not e))
 
   -- a pool is gone
-  pub removed_pools : (r : Range) → IsOneOf r pools → Removes s (walked r) t → ArePools t (without_pool_at pools r.start)
-  removed_pools r one removes = cond_both (pools.last.start == r.start) _ _ (ArePools t)
+  pub removed_pools : (r : Range) → IsOneOf r pools → Removes s (walked r) t → AreCheckedPools t (without_pool_at pools r.start)
+  removed_pools r one removes = cond_both (pools.last.start == r.start) _ _ (AreCheckedPools t)
       (λ e. elim one [
         | inl i ↦ absurd (omega (arith, are.behind r i, (are.each r (inl i)).room, round32-le r.start, eqb-true pools.last.start r.start e))
         | inr last ↦ removed_last (subst (λ x. Removes s (walked x) t) last.0 removes)
@@ -160,7 +160,7 @@ removed_last_pool {w = w} {pools = pools} is stands place aligns removes =
     renewed is w stands place aligns (without_last pools) (removed_last is.stands.stands.well_formed is.pools removes) is.low (omega (arith, is.high))
 
 -- the part of the last pool that is iterated over is contiguous chunks, or empty
-pub last_row : {s : State} {pools : PoolList} → ArePools s pools → IsRow s (walked pools.last)
+pub last_row : {s : State} {pools : PoolList} → AreCheckedPools s pools → IsRow s (walked pools.last)
 last_row {pools = pools} are = elim (cases_lt 0 pools.last.len) [
   | inl some ↦ (are.each pools.last (inr (refl, some))).row
   | inr none ↦ λ a low high. absurd (omega (arith, none, low, high, round32-le pools.last.start))

@@ -9,16 +9,16 @@ use Rattle.rlsf_model.specs.State.{State}
 use Rattle.rlsf_checked.specs.Checked.{Checked}
 
 -- all used and free blocks of the state, in the order of their addresses
-abbrev pub AreAllBlocks : Checked → List Block → Type 0
-AreAllBlocks v bs = AreBlocks v.heap.state (range_of v.heap.memory) bs
+abbrev pub AreCheckedBlocks : Checked → List Block → Type 0
+AreCheckedBlocks v bs = AreBlocks v.heap.state (range_of v.heap.memory) bs
 
 -- their totals
 abbrev pub AreAllTotals : Checked → Totals → Type 0
-AreAllTotals v t = (bs : List Block) × AreAllBlocks v bs × AreTotalsOf bs t
+AreAllTotals v t = (bs : List Block) × AreCheckedBlocks v bs × AreTotalsOf bs t
 
 -- those that begin at an address or behind it are listed
 abbrev pub IsListingOfAll : Checked → ℕ → List ℕ → ℕ → List ℕ → Type 0
-IsListingOfAll v from was count now = (bs : List Block) × AreAllBlocks v bs × IsListingOf (all_from from bs) was count now
+IsListingOfAll v from was count now = (bs : List Block) × AreCheckedBlocks v bs × IsListingOf (all_from from bs) was count now
 
 -- the first block that begins at an address or behind it, if one does
 abbrev pub IsFirstFrom : State → ℕ → Option Block → Type 0

@@ -9,12 +9,12 @@ abbrev pub no_pools : ℕ → PoolList
 no_pools start = pools_of [] (range_at start 0)
 
 -- the pools that were inserted and not removed
-abbrev pub inserted : PoolList → List Range
-inserted pools = if nat_lt 0 pools.last.len then pools.earlier ++ pools.last ∷ [] else pools.earlier
+abbrev pub current_pools : PoolList → List Range
+current_pools pools = if nat_lt 0 pools.last.len then pools.earlier ++ pools.last ∷ [] else pools.earlier
 
 -- a range is the last pool, and those that were inserted are before it
 abbrev pub with_pool : PoolList → Range → PoolList
-with_pool pools r = pools_of (inserted pools) r
+with_pool pools r = pools_of (current_pools pools) r
 
 -- the last pool is so many bytes longer
 abbrev pub with_longer_last : PoolList → ℕ → PoolList

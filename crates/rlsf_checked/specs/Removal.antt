@@ -6,13 +6,13 @@ use Rattle.rlsf_model.specs.Lists.{IsIn}
 use Rattle.rlsf_model.specs.Remove.{IsIdle}
 use Rattle.rlsf_model.specs.State.{State}
 use Rattle.rlsf_checked.specs.Checked.{PoolList}
-use Rattle.rlsf_checked.specs.Pools.{inserted}
+use Rattle.rlsf_checked.specs.Pools.{current_pools}
 use Rattle.rlsf_checked.specs.declared.error.CheckedError.{CheckedError}
 use Rattle.rlsf_checked.specs.declared.error.CheckedError.TheVariants.{InUse, NotChunks}
 
 -- A range is removed if it is a pool of which no block is used, and else refused by one of two errors. The cases exclude each other, so each
 -- result is returned exactly if its condition holds
 abbrev pub IsRemovalOf : PoolList → State → Range → Result (Unit {0}) CheckedError → Type 0
-IsRemovalOf pools s r (Ok x) = IsIn r (inserted pools) × IsIdle s (walked r)
+IsRemovalOf pools s r (Ok x) = IsIn r (current_pools pools) × IsIdle s (walked r)
 IsRemovalOf pools s r (Err e) =
-    ((e ≡ NotChunks) × (IsIn r (inserted pools) → ⊥)) ⊎ ((e ≡ InUse) × IsIn r (inserted pools) × (IsIdle s (walked r) → ⊥))
+    ((e ≡ NotChunks) × (IsIn r (current_pools pools) → ⊥)) ⊎ ((e ≡ InUse) × IsIn r (current_pools pools) × (IsIdle s (walked r) → ⊥))

@@ -11,30 +11,30 @@ use Rattle.rlsf_checked.specs.declared.error.CheckedError.{CheckedError}
 
 -- If nothing was live and the call succeeds, a range from a multiple of 32 on that is long enough for a pool of some bounds sizes the
 -- allocator for them.
-abbrev pub SizesPool : ℕ → ℕ → Range → State → State → Result ℕ CheckedError → Type 0
-SizesPool fllen sllen r before after result =
+abbrev pub SizesCheckedPool : ℕ → ℕ → Range → State → State → Result ℕ CheckedError → Type 0
+SizesCheckedPool fllen sllen r before after result =
     (count size align len : ℕ) → pool_size_for_payloads fllen sllen count size align ≡ Some len → r.start % 32 ≡ 0 → len ≤ r.len → live_count before ≡ 0
     → OnOk result (IsSizedFor sllen count size align after)
 
 -- If the call succeeds, such a range sizes the allocator for some budget, whatever was live.
-abbrev pub SizesPoolForBudget : ℕ → ℕ → Range → State → Result ℕ CheckedError → Type 0
-SizesPoolForBudget fllen sllen r after result =
+abbrev pub SizesCheckedPoolForBudget : ℕ → ℕ → Range → State → Result ℕ CheckedError → Type 0
+SizesCheckedPoolForBudget fllen sllen r after result =
     (count bytes size align len : ℕ) → pool_size_for_budget fllen sllen count bytes size align ≡ Some len → r.start % 32 ≡ 0 → len ≤ r.len
     → OnOk result (IsSizedForBudget sllen count bytes size align after.chunks)
 
 -- What the allocator is sized for after a range was inserted, or was refused.
-pub record AddsRoom (fllen sllen : ℕ) (r : Range) (before after : State) (result : Result ℕ CheckedError) : Type 0 where
+pub record AddsCheckedRoom (fllen sllen : ℕ) (r : Range) (before after : State) (result : Result ℕ CheckedError) : Type 0 where
   -- if nothing was live, all bounds that the range is long enough for
-  pub pool : SizesPool fllen sllen r before after result
+  pub pool : SizesCheckedPool fllen sllen r before after result
   -- all budgets that it is long enough for
-  pub budget : SizesPoolForBudget fllen sllen r after result
+  pub budget : SizesCheckedPoolForBudget fllen sllen r after result
   -- and all budgets that it was sized for before
   pub budgets : KeepsBudgets sllen before after
   -- the blocks of live payloads have as many bytes
   pub blocks : live_bytes after ≡ live_bytes before
 
 -- The allocator stays sized for all budgets, and the blocks of live payloads have as many bytes.
-pub record KeepsRoom (sllen : ℕ) (before after : State) : Type 0 where
+pub record KeepsCheckedRoom (sllen : ℕ) (before after : State) : Type 0 where
   -- it stays sized for them
   pub budgets : KeepsBudgets sllen before after
   -- the blocks have as many bytes
@@ -55,7 +55,7 @@ SucceedsWithinBudget sllen before addr size result =
     → IfSome (align_at before addr) (λ a. a ≤ align) → refusal_at before addr size ≡ None → IsOk result
 
 -- such a reallocation, within bounds and within budgets
-pub record TakesRoomAgain {A : Type 0} (sllen : ℕ) (before after : State) (addr size : ℕ) (result : Result A CheckedError) : Type 0 where
+pub record TakesCheckedRoomAgain {A : Type 0} (sllen : ℕ) (before after : State) (addr size : ℕ) (result : Result A CheckedError) : Type 0 where
   -- it succeeds within bounds
   pub bounds : SucceedsWithinBounds sllen before addr size result
   -- and within budgets

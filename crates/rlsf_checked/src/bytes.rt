@@ -9,7 +9,7 @@ ghost use Rattle.rlsf_model.specs.Run.{Fills};
 ghost use Rattle.rlsf_model.specs.Sized.{live_bytes};
 ghost use Rattle.rlsf_tlsf.specs.Allocator.{Steps};
 ghost use Rattle.rlsf_tlsf.specs.Bounds.{KeepsAllBounds, KeepsBounds, TakesRoom};
-ghost use Rattle.rlsf_tlsf.specs.Results.{IsAllocatedZeroed};
+ghost use Rattle.rlsf_tlsf.specs.Results.{IsAllocatedWithZeros};
 ghost use Rattle.rlsf_checked.specs.Answers.{addr_in, copy_answer, if_live};
 ghost use Rattle.rlsf_checked.specs.declared.error.CheckedError.TheVariants.{NoRoom};
 ghost use Rattle.rlsf_checked.specs.Results.{KeepsCheckedFrame, KeepsCheckedFrameCopying, KeepsCheckedFrameInPlace, RefusesUnchanged, RefusesUntouched};
@@ -87,7 +87,7 @@ impl<
     /// At most 30 word accesses, whatever the pools contain, and time proportional to the usable bytes. No byte is copied.
     pub fn allocate_zeroed(&mut self, layout: Layout) -> Result<Addr, CheckedError>
         ensures step { Steps FLLEN SLLEN self.old.heap self.new.heap (Allocates SLLEN self.old.heap.state layout.size layout.align (addr_in result)) }
-        ensures result { IfOk result (λ addr. IsAllocatedZeroed self.old.heap.state self.new.heap.state layout.size layout.align (at addr)) }
+        ensures result { IfOk result (λ addr. IsAllocatedWithZeros self.old.heap.state self.new.heap.state layout.size layout.align (at addr)) }
         ensures room { TakesRoom SLLEN self.old.heap.state self.new.heap.state layout.size layout.align (IsOk result) }
         ensures bounds { KeepsBounds SLLEN self.old.heap.state self.new.heap.state layout.size layout.align }
         ensures refused { RefusesUnchanged self.old self.new (IfErr result (λ e. e ≡ NoRoom)) result }

@@ -26,7 +26,7 @@ ghost use Rattle.rlsf_checked.specs.declared.error.CheckedError.TheVariants.{Inv
 ghost use Rattle.rlsf_checked.specs.Pools.{no_pools, with_longer_last, with_pool};
 ghost use Rattle.rlsf_checked.specs.Results.{IsDeallocatedIfLive, IsReallocatedSameAlign, RefusesUnchanged, RefusesUntouched};
 ghost use Rattle.rlsf_checked.specs.Results.{KeepsCheckedFrame, KeepsCheckedFrameInPlace, KeepsCheckedFrameMoving};
-ghost use Rattle.rlsf_checked.specs.Sizing.{AddsRoom, KeepsBoundsSameAlign, KeepsRoom, TakesRoomAgain};
+ghost use Rattle.rlsf_checked.specs.Sizing.{AddsCheckedRoom, KeepsBoundsSameAlign, KeepsCheckedRoom, TakesCheckedRoomAgain};
 
 use crate::bytes::write_at;
 use crate::classes::are_valid;
@@ -162,7 +162,7 @@ impl<
     pub fn insert(&mut self, range: Range) -> Result<usize, CheckedError>
         ensures step { OnOk result (Steps FLLEN SLLEN self.old.heap self.new.heap (Inserts FLLEN self.old.heap.state range (taken result))) }
         ensures result { IfOk result (λ n. self.new.pools ≡ with_pool self.old.pools (range_at range.start n)) }
-        ensures room { AddsRoom FLLEN SLLEN range self.old.heap.state self.new.heap.state result }
+        ensures room { AddsCheckedRoom FLLEN SLLEN range self.old.heap.state self.new.heap.state result }
         ensures bounds { KeepsAllBounds SLLEN self.old.heap.state self.new.heap.state }
         ensures refused { RefusesUnchanged self.old self.new (IsInsertAnswer FLLEN self.old range result) result }
         ensures frame { KeepsFrameOfPools self.old.heap self.new.heap }
@@ -205,7 +205,7 @@ impl<
         ensures step { IfOk result (λ n. Steps FLLEN SLLEN self.old.heap self.new.heap (Appends FLLEN self.old.heap.state range n)) }
         ensures result { IfOk result (λ n. self.new.pools ≡ with_longer_last self.old.pools n) }
         ensures bounds { KeepsAllBounds SLLEN self.old.heap.state self.new.heap.state }
-        ensures room { KeepsRoom SLLEN self.old.heap.state self.new.heap.state }
+        ensures room { KeepsCheckedRoom SLLEN self.old.heap.state self.new.heap.state }
         ensures refused { RefusesUnchanged self.old self.new (result ≡ append_answer FLLEN self.old range) result }
         ensures frame { KeepsFrameOfPools self.old.heap self.new.heap }
         ensures touches { self.new.heap.memory.touches ≤ self.old.heap.memory.touches
@@ -299,7 +299,7 @@ impl<
         ensures step { refusal_at self.old.heap.state (at addr) size ≡ None
             → Steps FLLEN SLLEN self.old.heap self.new.heap (Reallocates SLLEN self.old.heap.state (at addr) size (addr_in result)) }
         ensures result { IfOk result (λ to. IsReallocatedSameAlign self.old.heap.state self.new.heap.state (at addr) size (at to)) }
-        ensures room { TakesRoomAgain SLLEN self.old.heap.state self.new.heap.state (at addr) size result }
+        ensures room { TakesCheckedRoomAgain SLLEN self.old.heap.state self.new.heap.state (at addr) size result }
         ensures bounds { KeepsBoundsSameAlign SLLEN self.old.heap.state (at addr) size self.new.heap.state }
         ensures refused { RefusesUnchanged self.old self.new (IsRefusedBy (refusal_at self.old.heap.state (at addr) size) result) result }
         ensures frame { KeepsCheckedFrameMoving (at addr) self.old self.new }

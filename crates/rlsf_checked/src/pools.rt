@@ -2,8 +2,8 @@
 
 ghost use Rattle.std.specs.Prelude.{◌≡◌, ◌↔◌, ◌<◌, ◌+◌, ◌^◌, true};
 ghost use Rattle.rlsf_model.specs.Lists.{IsIn};
-ghost use Rattle.rlsf_checked.specs.Pools.{inserted, no_pools, with_longer_last, with_pool, without_last, without_pool_at};
-ghost use Rattle.rlsf_checked.specs.Steps.Lists.{HasRoom, listed};
+ghost use Rattle.rlsf_checked.specs.Pools.{current_pools, no_pools, with_longer_last, with_pool, without_last, without_pool_at};
+ghost use Rattle.rlsf_checked.specs.Steps.Lists.{HasRoomForLast, listed};
 
 use rlsf_base::memory::Range;
 use std::alloc::Global;
@@ -31,7 +31,7 @@ impl Pools {
     /// Requests room for one more pool, if there is one. Returns whether the system has it. The pools stay.
     pub(crate) fn reserve(&mut self) -> bool
         ensures same { listed self.new ≡ listed self.old }
-        ensures room { result ≡ true → HasRoom self.new }
+        ensures room { result ≡ true → HasRoomForLast self.new }
         ensures first { (self.old.last.len ≡ 0) → result ≡ true }
     {
         self.last.len == 0 || self.earlier.reserve(1).is_ok()
@@ -39,7 +39,7 @@ impl Pools {
 
     /// Adds a last pool. There must be room for it.
     pub(crate) fn add(&mut self, pool: Range)
-        requires { HasRoom self.old }
+        requires { HasRoomForLast self.old }
         ensures { listed self.new ≡ with_pool (listed self.old) pool }
     {
         if self.last.len > 0 {
@@ -58,7 +58,7 @@ impl Pools {
 
     /// Returns whether a range is a pool.
     pub(crate) fn contains(&self, range: Range) -> bool
-        ensures { (result ≡ true) ↔ IsIn range (inserted (listed self.now)) }
+        ensures { (result ≡ true) ↔ IsIn range (current_pools (listed self.now)) }
     {
         for pool in &self.earlier {
             if is_same(*pool, range) {

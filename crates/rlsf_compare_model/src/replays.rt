@@ -3,8 +3,8 @@
 ghost use Rattle.std.specs.Prelude.{◌≡◌, [], IfOk, length};
 ghost use Rattle.rlsf_base.specs.PowerOfTwo.{IsPowerOfTwo};
 ghost use Rattle.rlsf_base.specs.Range.{LiesIn};
-ghost use Rattle.rlsf_model.specs.FlexState.{empty};
-ghost use Rattle.rlsf_trace_flex_runs.specs.Listed.{MayOwe};
+ghost use Rattle.rlsf_model.specs.FlexState.{flex_empty};
+ghost use Rattle.rlsf_trace_flex_runs.specs.Listed.{ListedMayOwe};
 
 use crate::error::Failure;
 use crate::output::print_questions;
@@ -43,7 +43,7 @@ fn parts_in(
     questions: usize,
 ) -> Result<(Memory, ListedSource), Failure>
     requires { IsPowerOfTwo capabilities.min_align }
-    ensures { IfOk result (λ parts. LiesIn parts.1.terms.space parts.0.start (length parts.0.bytes) × MayOwe parts.1 []) }
+    ensures { IfOk result (λ parts. LiesIn parts.1.terms.space parts.0.start (length parts.0.bytes) × ListedMayOwe parts.1 []) }
 {
     let source = ListedSource::new(alloc, space, capabilities, answers, questions)?;
     let memory = Memory::new(alloc, space.start, space.len)?;
@@ -57,7 +57,7 @@ fn output_by(
     parts: (Memory, ListedSource),
     ops: &[Op],
 ) -> Result<String, Failure>
-    requires { LiesIn parts.1.terms.space parts.0.start (length parts.0.bytes) × MayOwe parts.1 [] }
+    requires { LiesIn parts.1.terms.space parts.0.start (length parts.0.bytes) × ListedMayOwe parts.1 [] }
 {
     let (memory, source) = parts;
     match configuration {
@@ -89,7 +89,7 @@ fn output_with<FLBitmap: BitPattern, SLBitmap: BitPattern, const FLLEN: usize, c
     mut flex: FlexTlsf<ListedSource, FLBitmap, SLBitmap, FLLEN, SLLEN>,
     ops: &[Op],
 ) -> Result<String, Failure>
-    requires { flex.state ≡ empty }
+    requires { flex.state ≡ flex_empty }
 {
     let mut answers = Vec::new(alloc);
     let run = run_flex(alloc, &mut flex, ops, &mut answers);

@@ -56,8 +56,8 @@ abbrev pub with_list : Handled → ℕ → List ℕ → State → Handled
 with_list h handle bytes state = record h { lists = h.lists ++ (handle, bytes) ∷ []; next = handle + 1; state = state }
 
 -- with other bytes under a handle, and another state of the allocator
-abbrev pub with_bytes_of : Handled → ℕ → List ℕ → State → Handled
-with_bytes_of h handle bytes state = record h { lists = set_value (nat_eq handle) h.lists bytes; state = state }
+abbrev pub with_handled_bytes : Handled → ℕ → List ℕ → State → Handled
+with_handled_bytes h handle bytes state = record h { lists = set_value (nat_eq handle) h.lists bytes; state = state }
 
 -- with this many more bytes the list of a handle is no longer than a size
 abbrev pub IsShortWithMore : Handled → ℕ → ℕ → ℕ → Type 0

@@ -52,7 +52,7 @@ pub record KeepsQueue (before after : Queue) : Type 0 where
 -- ---- a pool of objects that own their bytes
 
 -- an object was taken
-pub record IsTaken (before after : OwnedPool) (object : PayloadView) : Type 0 where
+pub record IsObjectTaken (before after : OwnedPool) (object : PayloadView) : Type 0 where
   -- one more is out, and nothing else changed
   pub taken : after ≡ record before { live = before.live + 1 }
   -- the object is a payload of the pool's heap

@@ -6,7 +6,7 @@ ghost use Rattle.rlsf_base.specs.Addr.{at};
 ghost use Rattle.rlsf_base.specs.Space.{SamePlace, range_of};
 ghost use Rattle.std.specs.Map.Iter.{GivesInOrder};
 ghost use Rattle.rlsf_blocks.specs.Blocks.{IsInOrder};
-ghost use Rattle.rlsf_example_libraries.specs.Handled.{IsShortWithMore, with_bytes_of, with_list};
+ghost use Rattle.rlsf_example_libraries.specs.Handled.{IsShortWithMore, with_handled_bytes, with_list};
 ghost use Rattle.rlsf_example_libraries.specs.Objects.{set_answer};
 ghost use Rattle.rlsf_example_libraries.specs.Budgets.{HasBudgetOf};
 ghost use Rattle.rlsf_base.specs.Sizes.{request_size};
@@ -141,7 +141,7 @@ impl Items {
     ) -> Result<(), SetError>
         ensures answer { result ≡ set_answer (lookup (nat_eq handle) self.old.lists) (offset + length bytes.now) }
         ensures written { OnOk result (IsSomeAnd (lookup (nat_eq handle) self.old.lists) (λ old.
-            self.new ≡ with_bytes_of self.old handle (with_bytes_over old offset bytes.now) self.new.state)) }
+            self.new ≡ with_handled_bytes self.old handle (with_bytes_over old offset bytes.now) self.new.state)) }
         ensures uniform { (len : ℕ) → KeepsUniform self.old.state self.new.state len }
         ensures refused { OnErr result (self.new ≡ self.old) }
     {
@@ -160,7 +160,7 @@ impl Items {
     pub(crate) fn append(&mut self, handle: usize, more: &[u8]) -> Result<(), StringError>
         requires { self.old.align ≡ 1 }
         ensures appended { OnOk result (IsSomeAnd (lookup (nat_eq handle) self.old.lists) (λ old.
-            self.new ≡ with_bytes_of self.old handle (old ++ more.now) self.new.state)) }
+            self.new ≡ with_handled_bytes self.old handle (old ++ more.now) self.new.state)) }
         ensures unknown { IsErrOf result string_error.UnknownHandle ↔ (lookup (nat_eq handle) self.old.lists ≡ None) }
         ensures enough { (live size : ℕ) → HasBudgetOf self.old live size → IsShortWithMore self.old handle (length more.now) size → IsErrOf result string_error.NoRoom → ⊥ }
         ensures refused { OnErr result (self.new ≡ record self.old { state = self.new.state }) }

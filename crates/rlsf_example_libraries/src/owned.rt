@@ -2,7 +2,7 @@
 
 ghost use Rattle.std.specs.Prelude.{◌≡◌, ◌+◌, ◌-◌, ◌^◌, ◌≤◌, ◌↔◌, ℕ, None, Some, IfNone, IfOk, IfSome, IsErrOf, IsNone};
 ghost use Rattle.rlsf_base.specs.Sizes.{pool_size_for_payloads};
-ghost use Rattle.rlsf_example_libraries.specs.Results.{IsTaken};
+ghost use Rattle.rlsf_example_libraries.specs.Results.{IsObjectTaken};
 
 use rlsf::{Layout, Range, classes};
 use rlsf_base::memory::{MemoryError, OpenMemory};
@@ -84,7 +84,7 @@ impl OwnedObjects {
     ///
     /// Returns `None` if and only if the number of objects that are out is the capacity; then nothing changes.
     pub fn take(&mut self) -> Option<Payload>
-        ensures result { IfSome result (λ object. IsTaken self.old self.new object) }
+        ensures result { IfSome result (λ object. IsObjectTaken self.old self.new object) }
         ensures room { IsNone result ↔ (self.old.live ≡ self.old.capacity) }
         ensures refused { IfNone result (self.new ≡ self.old) }
         ensures frame { self.new.identity ≡ self.old.identity }

@@ -11,7 +11,7 @@ use Rattle.rlsf_flex.specs.StandsFor.{FlexContents, FlexStandsFor}
 use Rattle.rlsf_flex.specs.Steps.Growth.{AskedGrowth, AskedRange, Extended, MayCome, Took, outcome_of_growth, outcome_of_range}
 use Rattle.rlsf_model.specs.Answers.{MayAnswer, MayAnswerAll}
 use Rattle.rlsf_model.specs.FlexState.{FlexState, KeptPool}
-use Rattle.rlsf_model.specs.Growth.{IsPossible, Questions, growth_came, growth_note, growth_question, if_fits, is_more, notes_of, nothing, questions, questions_for}
+use Rattle.rlsf_model.specs.Growth.{IsPossible, Questions, growth_came, growth_note, growth_question, if_fits, is_more, notes_of, no_questions, questions, questions_for}
 use Rattle.rlsf_model.specs.Growth.{questions_kept, range_length, range_note, refused, TakesIn}
 use Rattle.rlsf_model.specs.Note.{Note, LeadsBy, alloc, grow}
 use Rattle.rlsf_model.specs.Terms.{Terms}
@@ -113,7 +113,7 @@ pub extended_past : {S : Type 0} {fllen sllen : ℕ} {terms : S → Terms} {owes
     → Extended fllen sllen terms owes leads before before e false
 extended_past {terms = terms} {before = before} {e = e} {k = k} is_kept past stands =
     let t = terms before.source in
-    let q : questions t before.state.kept (Some e) ≡ nothing = ap (λ o. questions_for t o e) is_kept ∙ ap (λ o. questions_kept t k e o) past in
+    let q : questions t before.state.kept (Some e) ≡ no_questions = ap (λ o. questions_for t o e) is_kept ∙ ap (λ o. questions_kept t k e o) past in
     record {
       outcome = refused;
       notes = [];

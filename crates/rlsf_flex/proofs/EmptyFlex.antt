@@ -8,14 +8,14 @@ use Rattle.rlsf_tlsf.specs.Allocator.{Allocator, Stands}
 use Rattle.rlsf_tlsf.proofs.Standing.{in_state}
 use Rattle.rlsf_flex.specs.StandsFor.{FlexStandsFor}
 use Rattle.rlsf_flex.proofs.InnerAllocator.{contents_at}
-use Rattle.rlsf_model.specs.FlexState.{empty}
+use Rattle.rlsf_model.specs.FlexState.{flex_empty}
 use Rattle.rlsf_model.specs.State as state
 use Rattle.rlsf_model.specs.Terms.{Terms}
 use Rattle.rlsf_model.proofs.FlexSteps.{flex_empty_is_well_formed}
 
 pub FlexStandsFor-empty : {S : Type 0} (fllen sllen : ℕ) (terms : S → Terms) (owes : S → List Range → Type 0) (v : Allocator) (m : Space) (x : S)
     → v.state ≡ state.empty → Stands fllen sllen v → v.memory ≡ m
-    → owes x [] → LiesIn (terms x).space m.start (length m.bytes) → FlexStandsFor fllen sllen terms owes (contents_at v x empty)
+    → owes x [] → LiesIn (terms x).space m.start (length m.bytes) → FlexStandsFor fllen sllen terms owes (contents_at v x flex_empty)
 FlexStandsFor-empty fllen sllen terms owes v m x start stands memory owed lies =
     let is : StandsFor fllen sllen (contents v.memory v.table) state.empty =
     subst (StandsFor fllen sllen (contents v.memory v.table)) start (in_state fllen sllen v stands).stands in

@@ -20,7 +20,7 @@ use Rattle.rlsf_model.specs.Growth.{behind, growth_came, longer}
 use Rattle.rlsf_model.specs.Insert.{Appends, IsNext}
 use Rattle.rlsf_model.specs.Lists.{IsIn}
 use Rattle.rlsf_model.specs.Note.{grow}
-use Rattle.rlsf_model.specs.PoolLength.{HasPool, IsPoolSize}
+use Rattle.rlsf_model.specs.PoolLength.{HasFreePool, IsPoolSize}
 use Rattle.rlsf_model.specs.State.{State}
 use Rattle.rlsf_model.specs.Terms.{IsGrown, Terms, with_len}
 use Rattle.rlsf_model.specs.WellFormed.{coverage, itself, IsWellFormed}
@@ -84,7 +84,7 @@ module _ {S : Type 0} {fl_bits sl_bits fllen sllen e : ℕ} (valid : IsValid fl_
       subst (λ r. IsNext r v.state.machine (behind k len)) (range_of-same v.memory m place.0 place.1) (behind_next c.before.well_formed c.was asked len c.kept c.is_grown more)
 
   -- a pool of it is taken
-  pub Grew-taken : (t : State) (n : ℕ) → Appends fllen v.state.machine (behind k len) n t → HasPool e t × IsTaken v.state.machine (behind k len) n t
+  pub Grew-taken : (t : State) (n : ℕ) → Appends fllen v.state.machine (behind k len) n t → HasFreePool e t × IsTaken v.state.machine (behind k len) n t
   Grew-taken t n step =
       let (room, whole, short) = pool_size_is fl_bits sl_bits fllen sllen e valid c.size in
       let (taken, pool) =

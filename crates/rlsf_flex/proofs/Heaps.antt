@@ -10,7 +10,7 @@ use Rattle.rlsf_model.specs.Lists.{IsIn}
 use Rattle.rlsf_model.specs.Terms.{IsGiven}
 use Rattle.rlsf_model.proofs.Between.{IsIn-between}
 use Rattle.rlsf_model.proofs.Coverage.{IsIn-append_right}
-use Rattle.rlsf_flex.specs.Heap.{Allocation, HeapNote, allocate, allocation_at, allocation_of, bytes_of_allocation, HeapOwes, heap_terms, IsAllocated}
+use Rattle.rlsf_flex.specs.Heap.{Allocation, HeapNote, allocate, allocation_at, allocation_of, bytes_of_allocation, HeapOwes, heap_terms, IsAllocationIn}
 
 -- the bytes of the ranges' allocations are the ranges
 bytes_of_allocation-allocations : (align : ℕ) (rs : List Range) → map bytes_of_allocation (map (allocation_of align) rs) ≡ rs
@@ -50,7 +50,7 @@ module _ {T : Type 0} (owes : T → List Allocation → Type 0) (align : ℕ) wh
 
   -- an allocation is provided
   pub HeapOwes-more : (x y : T) (space : Range) (size : ℕ) (r : Range) (owed : List Range) → r.len ≡ next_multiple_of size align → IsLayout r.len align → 0 < r.start
-      → IsAllocated space (map (allocation_of align) owed) (allocation_of align r) × owes y (allocation_of align r ∷ map (allocation_of align) owed)
+      → IsAllocationIn space (map (allocation_of align) owed) (allocation_of align r) × owes y (allocation_of align r ∷ map (allocation_of align) owed)
       → HeapOwes owes align x owed
       → IsGiven (heap_terms space align) owed size r × HeapOwes owes align y (r ∷ owed)
   HeapOwes-more x y space size r owed len layout some (is, owed_then) h = (

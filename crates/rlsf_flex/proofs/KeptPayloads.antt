@@ -4,18 +4,18 @@ use Rattle.rlsf_base.specs.Space.{SamePlace}
 use Rattle.rlsf_model.specs.Callers.{align_at, bytes_at}
 use Rattle.rlsf_model.specs.Sized.{IsSizedFor, live_count}
 use Rattle.rlsf_tlsf.specs.Allocator.{Allocator}
-use Rattle.rlsf_flex.specs.Steps.Growth.{KeepsPayloads}
+use Rattle.rlsf_flex.specs.Steps.Growth.{HasSamePayloads}
 use Rattle.rlsf_flex.proofs.Places.{SamePlace-refl, SamePlace-then}
 
 -- nothing was done
-pub KeepsPayloads-refl : {sllen : ℕ} (v : Allocator) → KeepsPayloads sllen v v
-KeepsPayloads-refl v =
+pub HasSamePayloads-refl : {sllen : ℕ} (v : Allocator) → HasSamePayloads sllen v v
+HasSamePayloads-refl v =
     record { aligns = refl; bytes = refl; count = refl; bounds = λ count size align sized. sized; place = SamePlace-refl v.memory; grow = omega arith; copied = refl }
 
 -- the state stayed
-pub KeepsPayloads-same : {sllen : ℕ} (v w : Allocator) → w.state ≡ v.state → SamePlace v.memory w.memory → v.memory.touches ≤ w.memory.touches
-    → w.memory.copied ≡ v.memory.copied → KeepsPayloads sllen v w
-KeepsPayloads-same {sllen} v w same place grow copied = record {
+pub HasSamePayloads-same : {sllen : ℕ} (v w : Allocator) → w.state ≡ v.state → SamePlace v.memory w.memory → v.memory.touches ≤ w.memory.touches
+    → w.memory.copied ≡ v.memory.copied → HasSamePayloads sllen v w
+HasSamePayloads-same {sllen} v w same place grow copied = record {
   aligns = ap align_at same;
   bytes = ap bytes_at same;
   count = ap live_count same;
@@ -26,8 +26,8 @@ KeepsPayloads-same {sllen} v w same place grow copied = record {
 }
 
 -- one growth and then another
-pub KeepsPayloads-trans : {sllen : ℕ} (u v w : Allocator) → KeepsPayloads sllen u v → KeepsPayloads sllen v w → KeepsPayloads sllen u w
-KeepsPayloads-trans u v w first second = record {
+pub HasSamePayloads-trans : {sllen : ℕ} (u v w : Allocator) → HasSamePayloads sllen u v → HasSamePayloads sllen v w → HasSamePayloads sllen u w
+HasSamePayloads-trans u v w first second = record {
   aligns = second.aligns ∙ first.aligns;
   bytes = second.bytes ∙ first.bytes;
   count = second.count ∙ first.count;

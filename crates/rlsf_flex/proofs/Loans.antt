@@ -9,7 +9,7 @@ use Rattle.rlsf_blocks.specs.Spare.{KeepsSpare}
 use Rattle.rlsf_blocks.specs.StandsFor.{contents, StandsFor}
 use Rattle.rlsf_blocks.proofs.Payloads.Filled.{filled_in}
 use Rattle.rlsf_blocks.proofs.Payloads.UnknownAlignment.{IsPayloadOf-holds, LiesIn-usable}
-use Rattle.rlsf_flex.specs.Lending.{written}
+use Rattle.rlsf_flex.specs.Lending.{flex_written}
 use Rattle.rlsf_flex.specs.StandsFor.{FlexContents, FlexStandsFor, allocator_of}
 use Rattle.rlsf_model.specs.Callers.{align_at, bytes_at}
 use Rattle.rlsf_model.specs.State.{Used, usable, Holds}
@@ -36,7 +36,7 @@ module _ {S : Type 0} {fllen sllen : ℕ} {terms : S → Terms} {owes : S → Li
   -- what was left is the payload's, cut to it or filled up
   pub left : IsSome (align_at v.state.machine addr) → (len : ℕ) → len ≡ length (bytes_at v.state.machine addr)
       → SamePlace v.memory (tlsf.written (allocator_of v) addr len w).memory → v.memory.out ≡ []
-      → FlexStandsFor fllen sllen terms owes (written v addr len w)
+      → FlexStandsFor fllen sllen terms owes (flex_written v addr len w)
   unfolding tlsf.written
   left live len whole place none =
       let (u, holds) = align_at-some v.state.machine addr live in

@@ -19,7 +19,7 @@ use Rattle.rlsf_model.specs.FlexWellFormed.{IsFlexWellFormed, IsNewest}
 use Rattle.rlsf_model.specs.Growth.{range_came, keeps, range_length}
 use Rattle.rlsf_model.specs.Insert.{Inserts}
 use Rattle.rlsf_model.specs.Lists.{IsIn}
-use Rattle.rlsf_model.specs.PoolLength.{HasPool, IsPoolSize}
+use Rattle.rlsf_model.specs.PoolLength.{HasFreePool, IsPoolSize}
 use Rattle.rlsf_model.specs.State.{State}
 use Rattle.rlsf_model.specs.Terms.{IsGiven, Terms}
 use Rattle.rlsf_model.proofs.FlexGrowths.{given_keeps}
@@ -46,7 +46,7 @@ module _ {S : Type 0} {fl_bits sl_bits fllen sllen e : ℕ} (valid : IsValid fl_
     {v : FlexContents S} {y : S} {len : ℕ} {r : Range}
     (c : Came fllen sllen e terms owes v y len r) where
   -- a pool of it is taken
-  pub Came-taken : (t : State) (taken : Option ℕ) → Inserts fllen v.state.machine r taken t → (n : ℕ) × (taken ≡ Some n) × IsTaken v.state.machine r n t × HasPool e t
+  pub Came-taken : (t : State) (taken : Option ℕ) → Inserts fllen v.state.machine r taken t → (n : ℕ) × (taken ≡ Some n) × IsTaken v.state.machine r n t × HasFreePool e t
   Came-taken t taken step =
       let (room, whole, short) = pool_size_is fl_bits sl_bits fllen sllen e valid c.size in
       inserted_pool fllen sllen e v.state.machine t r taken valid.some_rows room whole short (HasAlignedPart-given (terms v.source) v.state.pools e len r c.told c.is_given) step

@@ -32,14 +32,14 @@ pub data HeapNote : Type 0 where
 
 -- an allocation that is a possible answer while these are owed: its address is a multiple of its alignment, and its bytes lie in
 -- the space and overlap no other allocation
-pub record IsAllocated (space : Range) (owed : List Allocation) (a : Allocation) : Type 0 where
+pub record IsAllocationIn (space : Range) (owed : List Allocation) (a : Allocation) : Type 0 where
   pub aligned : a.addr % a.align ≡ 0
   pub vacant : IsVacant space (map bytes_of_allocation owed) (bytes_of_allocation a)
 
 -- what is owed after a question for an allocation: the same if none came; otherwise also the one that came, which is a possible answer
 abbrev pub OwesAllocated : Range → (List Allocation → Type 0) → List Allocation → ℕ → ℕ → Option NonZeroUsize → Type 0
 OwesAllocated space owes owed size align reply =
-    MatchOption reply (owes owed) (λ addr. let a = allocation_at (at addr) size align in IsAllocated space owed a × owes (a ∷ owed))
+    MatchOption reply (owes owed) (λ addr. let a = allocation_at (at addr) size align in IsAllocationIn space owed a × owes (a ∷ owed))
 
 -- ---- as a source, which asks with one alignment and whole multiples of it
 

@@ -12,7 +12,7 @@ ghost use Rattle.rlsf_model.specs.Callers.{align_at, bytes_at, copied_over};
 ghost use Rattle.rlsf_model.specs.End.{notes_at_end, owed_at_end};
 ghost use Rattle.rlsf_model.specs.FlexAllocate.{FlexAllocates};
 ghost use Rattle.rlsf_model.specs.FlexReallocate.{FlexReallocates};
-ghost use Rattle.rlsf_model.specs.FlexState.{empty};
+ghost use Rattle.rlsf_model.specs.FlexState.{flex_empty};
 ghost use Rattle.rlsf_model.specs.Note.{LeadsBy};
 ghost use Rattle.rlsf_model.specs.NoMove.{ReallocatesWithoutMove};
 ghost use Rattle.rlsf_model.specs.Reallocate.{HasRoomToResize, HasRoomToStay, Keeps};
@@ -71,8 +71,8 @@ impl<
     const SLLEN: usize,
 > FlexTlsf<S, FLBitmap, SLBitmap, FLLEN, SLLEN> {
     ghost use Rattle.rlsf_tlsf.specs.Bounds.{IfWithinBounds, KeepsAllBounds, KeepsBounds};
-    ghost use Rattle.rlsf_tlsf.specs.Results.{IsAllocated, IsAllocatedZeroed, IsDeallocated, IsFilled, IsReallocated, IsResized};
-    ghost use Rattle.rlsf_flex.specs.Lending.{LeavesRest, lends_payload, written};
+    ghost use Rattle.rlsf_tlsf.specs.Results.{IsAllocated, IsAllocatedWithZeros, IsDeallocated, IsFilled, IsReallocated, IsResized};
+    ghost use Rattle.rlsf_flex.specs.Lending.{FlexLeavesRest, flex_lends_payload, flex_written};
     ghost use Rattle.rlsf_flex.specs.Results.{IsUnchangedButSource, KeepsFlexFrame, KeepsFlexFrameAlone, KeepsFlexFrameCopying};
     ghost use Rattle.rlsf_flex.specs.Results.{KeepsFlexFrameInPlace, KeepsFlexFrameMoving, KeepsFlexFrameOfTrim, SizesFreedRoom, SucceedsUnasked};
     ghost use Rattle.rlsf_flex.specs.StandsFor.{FillsAlone, FlexStands, FlexSteps, StepsAlone};
@@ -95,7 +95,7 @@ impl<
         requires valid { IsValid FLBitmap.width SLBitmap.width FLLEN SLLEN }
         requires nothing_owed { S.owes source [] }
         requires space { LiesIn (S.terms source).space memory.start (length memory.bytes) }
-        ensures state { result.state ≡ empty }
+        ensures state { result.state ≡ flex_empty }
         ensures count { live_count result.state.machine ≡ 0 }
         ensures stands { FlexStands FLLEN SLLEN S.terms S.owes result }
         ensures source { result.source ≡ source }
@@ -198,7 +198,7 @@ impl<
     pub fn allocate_zeroed(&mut self, layout: Layout) -> Option<Addr>
         ensures step { FlexSteps FLLEN SLLEN S.terms S.owes S.leads self.old self.new
             (FlexAllocates FLLEN SLLEN (S.terms self.old.source) self.old.state layout.size layout.align (reply result)) }
-        ensures result { IfSome result (λ addr. IsAllocatedZeroed self.old.state.machine self.new.state.machine layout.size layout.align (at addr)) }
+        ensures result { IfSome result (λ addr. IsAllocatedWithZeros self.old.state.machine self.new.state.machine layout.size layout.align (at addr)) }
         ensures room { SucceedsUnasked SLLEN self.old self.new layout.size layout.align (IsSome result) }
         ensures bounds { KeepsBounds SLLEN self.old.state.machine self.new.state.machine layout.size layout.align }
         ensures refused { IfNone result (IsUnchangedButSource self.old self.new) }
@@ -355,17 +355,17 @@ impl<
     /// Completes in constant time: 3 word accesses. No byte is copied.
     pub fn payload_mut(&mut self, addr: Addr) -> &mut [u8]
         requires { IsSome (align_at self.old.state.machine (at addr)) }
-        ensures* writes_back { sem 𝓛 (lends_payload S.row FLBitmap.row SLBitmap.row FLLEN.row SLLEN.row S.FlexSource FLBitmap.BitPattern SLBitmap.BitPattern self.entry (at addr) result) }
+        ensures* writes_back { sem 𝓛 (flex_lends_payload S.row FLBitmap.row SLBitmap.row FLLEN.row SLLEN.row S.FlexSource FLBitmap.BitPattern SLBitmap.BitPattern self.entry (at addr) result) }
         ensures value { result.now ≡ bytes_at self.old.state.machine (at addr) }
         ensures meaning { (w : List ℕ) → length w ≡ length result.now
-            → FillsAlone FLLEN SLLEN S.terms S.owes self.old (written self.old (at addr) (length result.now) w) (at addr) w }
-        ensures filled { (w : List ℕ) → length w ≡ length result.now → bytes_at (written self.old (at addr) (length result.now) w).state.machine (at addr) ≡ w }
-        ensures bytes { (w : List ℕ) (a : ℕ) → a ≢ at addr → bytes_at (written self.old (at addr) (length result.now) w).state.machine a ≡ bytes_at self.old.state.machine a }
-        ensures aligns { (w : List ℕ) → align_at (written self.old (at addr) (length result.now) w).state.machine ≡ align_at self.old.state.machine }
-        ensures count { (w : List ℕ) → live_count (written self.old (at addr) (length result.now) w).state.machine ≡ live_count self.old.state.machine }
-        ensures bounds { (w : List ℕ) → KeepsAllBounds SLLEN self.old.state.machine (written self.old (at addr) (length result.now) w).state.machine }
-        ensures lengths { (w : List ℕ) → length (bytes_at (written self.old (at addr) (length result.now) w).state.machine (at addr)) ≡ length result.now }
-        ensures rest { (w : List ℕ) → LeavesRest FLLEN SLLEN S.terms S.owes self.old (written self.old (at addr) (length result.now) w) }
+            → FillsAlone FLLEN SLLEN S.terms S.owes self.old (flex_written self.old (at addr) (length result.now) w) (at addr) w }
+        ensures filled { (w : List ℕ) → length w ≡ length result.now → bytes_at (flex_written self.old (at addr) (length result.now) w).state.machine (at addr) ≡ w }
+        ensures bytes { (w : List ℕ) (a : ℕ) → a ≢ at addr → bytes_at (flex_written self.old (at addr) (length result.now) w).state.machine a ≡ bytes_at self.old.state.machine a }
+        ensures aligns { (w : List ℕ) → align_at (flex_written self.old (at addr) (length result.now) w).state.machine ≡ align_at self.old.state.machine }
+        ensures count { (w : List ℕ) → live_count (flex_written self.old (at addr) (length result.now) w).state.machine ≡ live_count self.old.state.machine }
+        ensures bounds { (w : List ℕ) → KeepsAllBounds SLLEN self.old.state.machine (flex_written self.old (at addr) (length result.now) w).state.machine }
+        ensures lengths { (w : List ℕ) → length (bytes_at (flex_written self.old (at addr) (length result.now) w).state.machine (at addr)) ≡ length result.now }
+        ensures rest { (w : List ℕ) → FlexLeavesRest FLLEN SLLEN S.terms S.owes self.old (flex_written self.old (at addr) (length result.now) w) }
     {
         self.parts.tlsf.payload_mut(addr)
     }

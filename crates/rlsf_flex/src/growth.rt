@@ -9,7 +9,7 @@ ghost use Rattle.rlsf_tlsf.specs.Allocator.{Stands};
 ghost use Rattle.rlsf_tlsf.specs.Bounds.{KeepsBounds};
 ghost use Rattle.rlsf_tlsf.specs.Results.{IsReallocated};
 ghost use Rattle.rlsf_flex.specs.StandsFor.{FlexStandsFor, kept_pool};
-ghost use Rattle.rlsf_flex.specs.Steps.Growth.{AskedGrowth, AskedRange, Extended, IsAsBefore, KeepsPayloads, MovesPayload, kept_len, kept_start};
+ghost use Rattle.rlsf_flex.specs.Steps.Growth.{AskedGrowth, AskedRange, Extended, IsAsBefore, HasSamePayloads, MovesPayload, kept_len, kept_start};
 ghost use Rattle.rlsf_flex.specs.Steps.Parts.{flex_over};
 ghost use Rattle.rlsf_model.specs.Allocate.{Allocates};
 ghost use Rattle.rlsf_model.specs.Callers.{align_at, bytes_at};
@@ -71,7 +71,7 @@ impl<S: FlexSource, const FLLEN: usize, const SLLEN: usize> Parts<S, FLLEN, SLLE
         requires stands { FlexStandsFor FLLEN SLLEN S.terms S.owes (flex_over self.old) }
         requires whole { self.old.tlsf.memory.out ≡ [] }
         ensures step { AskedRange FLLEN SLLEN S.terms S.owes S.leads (flex_over self.old) (flex_over self.new) wanted result }
-        ensures payloads { KeepsPayloads SLLEN self.old.tlsf self.new.tlsf }
+        ensures payloads { HasSamePayloads SLLEN self.old.tlsf self.new.tlsf }
         ensures refused { IfNone result (IsAsBefore self.old.tlsf self.new.tlsf) }
     {
         let len = range_len(&self.source, wanted)?;
@@ -95,7 +95,7 @@ impl<S: FlexSource, const FLLEN: usize, const SLLEN: usize> Parts<S, FLLEN, SLLE
         requires whole { self.old.tlsf.memory.out ≡ [] }
         ensures step { AskedGrowth FLLEN SLLEN S.terms S.owes S.leads (flex_over self.old) (flex_over self.new) (kept_pool pool) len wanted result }
         ensures whole { self.new.tlsf.memory.out ≡ [] }
-        ensures payloads { KeepsPayloads SLLEN self.old.tlsf self.new.tlsf }
+        ensures payloads { HasSamePayloads SLLEN self.old.tlsf self.new.tlsf }
         ensures refused { IfNone result (IsAsBefore self.old.tlsf self.new.tlsf) }
     {
         let Parts {
@@ -137,7 +137,7 @@ impl<S: FlexSource, const FLLEN: usize, const SLLEN: usize> Parts<S, FLLEN, SLLE
         requires stands { FlexStandsFor FLLEN SLLEN S.terms S.owes (flex_over self.old) }
         requires whole { self.old.tlsf.memory.out ≡ [] }
         ensures step { Extended FLLEN SLLEN S.terms S.owes S.leads (flex_over self.old) (flex_over self.new) wanted result }
-        ensures payloads { KeepsPayloads SLLEN self.old.tlsf self.new.tlsf }
+        ensures payloads { HasSamePayloads SLLEN self.old.tlsf self.new.tlsf }
         ensures refused { result ≡ false → IsAsBefore self.old.tlsf self.new.tlsf }
     {
         let Some(pool) = self.kept else {

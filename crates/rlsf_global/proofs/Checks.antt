@@ -6,7 +6,7 @@ use Rattle.rlsf_model.specs.Callers.{bytes_at}
 use Rattle.rlsf_model_global.specs.declared.error.GlobalError.TheVariants.{OutOfRange, WrongLayout}
 use Rattle.rlsf_model_global.specs.Heap.{Heap}
 use Rattle.rlsf_model_global.specs.Rows.{Row, row_at}
-use Rattle.rlsf_model_global.specs.Steps.{DeallocatesAsAt, Done, HeapReads, HeapUsable, HeapWrites, ReadsAt, Releases, UsableAt, WritesAt, WritesIn, fits, is_same}
+use Rattle.rlsf_model_global.specs.Steps.{DeallocatesAsAt, Done, HeapReads, HeapUsable, HeapWrites, ReadsAt, Releases, UsableAt, WritesAt, WritesIn, are_usable, is_same}
 
 -- two answers are equal
 abbrev Is : Done → Done → Type 0
@@ -39,29 +39,29 @@ module _ (h : Heap) (addr : ℕ) (layout : Layout) (row : Row) where
 
 module _ (h : Heap) (addr offset : ℕ) (row : Row) (there : row_at addr h.asked ≡ Some row) where
   module _ (lent : List ℕ) where
-    pub reads_in : (left : List ℕ) → true ≡ fits h addr offset (length lent) → left ≡ take (length lent) (drop offset (bytes_at h.flex.machine addr))
+    pub reads_in : (left : List ℕ) → true ≡ are_usable h addr offset (length lent) → left ≡ take (length lent) (drop offset (bytes_at h.flex.machine addr))
         → HeapReads h addr offset lent (Ok tt) left
     reads_in left e same =
         subst (λ o. ReadsAt h addr offset lent o (Ok tt) left) (sym there)
         (when_true (Is (Ok tt) (Ok tt) × (left ≡ take (length lent) (drop offset (bytes_at h.flex.machine addr)))) (Is (Ok tt) (Err OutOfRange) × (left ≡ lent))
-        (fits h addr offset (length lent)) e (refl, same))
+        (are_usable h addr offset (length lent)) e (refl, same))
 
-    pub reads_out : false ≡ fits h addr offset (length lent) → HeapReads h addr offset lent (Err OutOfRange) lent
+    pub reads_out : false ≡ are_usable h addr offset (length lent) → HeapReads h addr offset lent (Err OutOfRange) lent
     reads_out e =
         subst (λ o. ReadsAt h addr offset lent o (Err OutOfRange) lent) (sym there)
         (when_false (Is (Err OutOfRange) (Ok tt) × (lent ≡ take (length lent) (drop offset (bytes_at h.flex.machine addr))))
-        (Is (Err OutOfRange) (Err OutOfRange) × (lent ≡ lent)) (fits h addr offset (length lent)) e (refl, refl))
+        (Is (Err OutOfRange) (Err OutOfRange) × (lent ≡ lent)) (are_usable h addr offset (length lent)) e (refl, refl))
 
   module _ (bytes : List ℕ) where
-    pub writes_in : (g : Heap) → true ≡ fits h addr offset (length bytes) → WritesIn h addr offset bytes g → HeapWrites h addr offset bytes (Ok tt) g
+    pub writes_in : (g : Heap) → true ≡ are_usable h addr offset (length bytes) → WritesIn h addr offset bytes g → HeapWrites h addr offset bytes (Ok tt) g
     writes_in g e step =
         subst (λ o. WritesAt h addr offset bytes o (Ok tt) g) (sym there)
-        (when_true (Is (Ok tt) (Ok tt) × WritesIn h addr offset bytes g) (Is (Ok tt) (Err OutOfRange) × (g ≡ h)) (fits h addr offset (length bytes)) e (refl, step))
+        (when_true (Is (Ok tt) (Ok tt) × WritesIn h addr offset bytes g) (Is (Ok tt) (Err OutOfRange) × (g ≡ h)) (are_usable h addr offset (length bytes)) e (refl, step))
 
-    pub writes_out : false ≡ fits h addr offset (length bytes) → HeapWrites h addr offset bytes (Err OutOfRange) h
+    pub writes_out : false ≡ are_usable h addr offset (length bytes) → HeapWrites h addr offset bytes (Err OutOfRange) h
     writes_out e =
         subst (λ o. WritesAt h addr offset bytes o (Err OutOfRange) h) (sym there)
-        (when_false (Is (Err OutOfRange) (Ok tt) × WritesIn h addr offset bytes h) (Is (Err OutOfRange) (Err OutOfRange) × (h ≡ h)) (fits h addr offset (length bytes)) e
+        (when_false (Is (Err OutOfRange) (Ok tt) × WritesIn h addr offset bytes h) (Is (Err OutOfRange) (Err OutOfRange) × (h ≡ h)) (are_usable h addr offset (length bytes)) e
         (refl, refl))
 
 -- the usable length of a payload with an entry

@@ -5,7 +5,7 @@ use Rattle.std.proofs.Common.{if◌then◌else◌, arith, refl, sym, ap, subst, 
 use Rattle.std.proofs.lemmas.Bool.{cases_eq}
 use Rattle.std.proofs.lemmas.Bool.Decides.{eqb_tells, nat_tests}
 use Rattle.std.proofs.lemmas.List.{get_or_past}
-use Rattle.rlsf_global.specs.LiveRows.{AreAddresses, AreCoded, CodeSpace, HasCapacity, HasPlace, IsKept, code_at, code_in, code_of, code_space, codes_for}
+use Rattle.rlsf_global.specs.LiveRows.{AreAddresses, AreCoded, CodeSpace, HasCapacity, HasPlace, IsLiveTable, code_at, code_in, code_of, code_space, codes_for}
 use Rattle.rlsf_global.specs.declared.live_table.codes.Codes.{Codes}
 use Rattle.rlsf_model.specs.Lists.{IsIn}
 use Rattle.rlsf_model_global.proofs.Maps.{row_at-put_here, row_at-put_other, row_at-without_here, row_at-without_other}
@@ -206,11 +206,11 @@ some-live addr (r ∷ rows) some = omega arith
 
 -- a table without entries
 pub kept-none : (c : Codes) (start len : ℕ) → start < 2 ^ 64 → len < 2 ^ 64 → length c.codes.items ≡ 0 → code_space c ≡ codes_for start len
-    → (rows : List Row) → rows ≡ [] → IsKept c rows 0
+    → (rows : List Row) → rows ≡ [] → IsLiveTable c rows 0
 kept-none c start len small short none space rows is =
     let first : c.first ≡ start / 16 = ap (λ (s : CodeSpace). s.first) space in
     let count : c.count ≡ len / 16 + 2 = ap (λ (s : CodeSpace). s.count) space in
-    subst (λ xs. IsKept c xs 0) (sym is) (record {
+    subst (λ xs. IsLiveTable c xs 0) (sym is) (record {
       coded = coded-none c none;
       sorted = tt;
       addresses = addresses-none;
@@ -221,10 +221,10 @@ kept-none c start len small short none space rows is =
     })
 
 -- where an entry is, there is room for all codes
-pub kept-ready : (c : Codes) (rows : List Row) (live : ℕ) → IsKept c rows live → (addr : ℕ) → IsSome (row_at addr rows) → HasCapacity c
+pub kept-ready : (c : Codes) (rows : List Row) (live : ℕ) → IsLiveTable c rows live → (addr : ℕ) → IsSome (row_at addr rows) → HasCapacity c
 kept-ready c rows live kept addr some = let few = some-live addr rows some in let count = kept.counted in kept.ready (omega (arith, few, count))
 
-module _ (c e : Codes) (rows : List Row) (live : ℕ) (kept : IsKept c rows live) (space : code_space e ≡ code_space c) where
+module _ (c e : Codes) (rows : List Row) (live : ℕ) (kept : IsLiveTable c rows live) (space : code_space e ≡ code_space c) where
   first_same : e.first ≡ c.first
   first_same = ap (λ (s : CodeSpace). s.first) space
 
@@ -232,7 +232,7 @@ module _ (c e : Codes) (rows : List Row) (live : ℕ) (kept : IsKept c rows live
   count_same = ap (λ (s : CodeSpace). s.count) space
 
   -- there may be more room for codes
-  pub kept-reserved : e.codes.items ≡ c.codes.items → (HasCapacity c → HasCapacity e) → IsKept e rows live
+  pub kept-reserved : e.codes.items ≡ c.codes.items → (HasCapacity c → HasCapacity e) → IsLiveTable e rows live
   kept-reserved codes more = record {
     coded = coded-same c e rows kept.coded
         (λ a i. if (a % 16 == 0) && nat_le (first_same i) (a / 16) then get_or (codes i) (a / 16 - first_same i) 0 else 0);
@@ -247,7 +247,7 @@ module _ (c e : Codes) (rows : List Row) (live : ℕ) (kept : IsKept c rows live
   -- the code of one address was set, and there is room for all codes
   module _ (n code : ℕ) (here : code_at e n ≡ code) (others : (a : ℕ) → a ≢ n → code_at e a ≡ code_at c a)
       (few : length e.codes.items ≤ e.count) (room : HasCapacity e) where
-    with_rows : (after : List Row) (live' : ℕ) → AreCoded e after → IsSorted after → AreAddresses after → live' ≡ length after → IsKept e after live'
+    with_rows : (after : List Row) (live' : ℕ) → AreCoded e after → IsSorted after → AreAddresses after → live' ≡ length after → IsLiveTable e after live'
     with_rows after live' coded sorted addresses counted = record {
       coded = coded;
       sorted = sorted;
@@ -259,32 +259,32 @@ module _ (c e : Codes) (rows : List Row) (live : ℕ) (kept : IsKept c rows live
     }
 
     pub kept-put : (row : Row) → n ≡ key row → code ≡ code_of row.1 → row_at (key row) rows ≡ None → key row < 2 ^ 64 → (after : List Row)
-        → after ≡ put row rows → IsKept e after (live + 1)
+        → after ≡ put row rows → IsLiveTable e after (live + 1)
     kept-put row is made fresh fits after e' =
         let now : code_at e (key row) ≡ code_of row.1 = subst (λ m. code_at e m ≡ code_of row.1) is (here ∙ made) in
         let longer = length-put row rows fresh in
         let count = kept.counted in
-        subst (λ xs. IsKept e xs (live + 1)) (sym e') (with_rows (put row rows) (live + 1)
+        subst (λ xs. IsLiveTable e xs (live + 1)) (sym e') (with_rows (put row rows) (live + 1)
         (coded-put c e rows kept.coded row now (subst (λ m. (a : ℕ) → a ≢ m → code_at e a ≡ code_at c a) is others))
         (sorted-put row rows kept.sorted fresh) (addresses-put row rows fits kept.addresses) (omega (arith, longer, count)))
 
     pub kept-without : (addr : ℕ) → n ≡ addr → code ≡ 0 → IsSome (row_at addr rows) → (after : List Row) → after ≡ without_row addr rows
-        → IsKept e after (live - 1)
+        → IsLiveTable e after (live - 1)
     kept-without addr is zero some after e' =
         let now : code_at e addr ≡ 0 = subst (λ m. code_at e m ≡ 0) is (here ∙ zero) in
         let shorter = length-without addr rows kept.sorted some in
         let count = kept.counted in
-        subst (λ xs. IsKept e xs (live - 1)) (sym e') (with_rows (without_row addr rows) (live - 1)
+        subst (λ xs. IsLiveTable e xs (live - 1)) (sym e') (with_rows (without_row addr rows) (live - 1)
         (coded-without c e rows kept.coded addr now (subst (λ m. (a : ℕ) → a ≢ m → code_at e a ≡ code_at c a) is others))
         (without_row-sorted addr rows kept.sorted) (addresses-without addr rows kept.addresses) (omega (arith, shorter, count)))
 
     pub kept-replaced : (row : Row) → n ≡ key row → code ≡ code_of row.1 → IsSome (row_at (key row) rows) → key row < 2 ^ 64 → (after : List Row)
-        → after ≡ put row (without_row (key row) rows) → IsKept e after live
+        → after ≡ put row (without_row (key row) rows) → IsLiveTable e after live
     kept-replaced row is made some fits after e' =
         let now : code_at e (key row) ≡ code_of row.1 = subst (λ m. code_at e m ≡ code_of row.1) is (here ∙ made) in
         let same = length-replaced row rows kept.sorted some in
         let rest = without_row (key row) rows in
-        subst (λ xs. IsKept e xs live) (sym e') (with_rows (put row rest) live
+        subst (λ xs. IsLiveTable e xs live) (sym e') (with_rows (put row rest) live
         (coded-replaced c e rows kept.coded row now (subst (λ m. (a : ℕ) → a ≢ m → code_at e a ≡ code_at c a) is others))
         (sorted-replaced row rows kept.sorted) (addresses-put row rest fits (addresses-without (key row) rows kept.addresses))
         (kept.counted ∙ sym same))

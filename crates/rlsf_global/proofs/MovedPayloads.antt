@@ -17,7 +17,7 @@ use Rattle.rlsf_global.proofs.Placements.{no_row}
 use Rattle.rlsf_model_global.proofs.PageAnswers.{refused_notes}
 use Rattle.rlsf_global.proofs.Resizes.{IsPlaced, none_left}
 use Rattle.rlsf_model_global.proofs.Rows.{absent-row_at, put-sorted, without_row-sorted}
-use Rattle.rlsf_model.specs.Callers.{IsResized, align_at, bytes_at, payload_at}
+use Rattle.rlsf_model.specs.Callers.{IsResizedInMap, align_at, bytes_at, payload_at}
 use Rattle.rlsf_model.specs.FlexAllocate.{FlexAllocates}
 use Rattle.rlsf_model.specs.FlexReallocate.{FlexReallocates}
 use Rattle.rlsf_model.specs.FlexState.{FlexState, with_machine}
@@ -137,7 +137,7 @@ module _ (f f' : FlexContents PageCursor) (addr : ℕ) (wanted : Layout) (to : N
   pub reallocated_left : FlexStandsFor 64 64 terms_of MayOwe f → IsSomeLive f.state.machine addr → at to ≢ addr → align_at f'.state.machine addr ≡ None
   reallocated_left stood live apart =
       let (notes, step, led, outside, stands) = flex_opened f f' (FlexReallocates 64 64 (terms_of f.source) f.state addr wanted.size (Some (at to))) steps in
-      let is : IsResized (payload_at f.state.machine) addr wanted.size (at to) (payload_at f'.state.machine) =
+      let is : IsResizedInMap (payload_at f.state.machine) addr wanted.size (at to) (payload_at f'.state.machine) =
       flex_callers_see_map 64 64 (terms_of f.source) (range_of f.memory) (range_of f'.memory) f.state f'.state (reallocate addr wanted.size (Some (at to))) notes
       stood.well_formed.machine stands.well_formed.machine live step in
       align_at-none f'.state.machine addr (is.left apart)

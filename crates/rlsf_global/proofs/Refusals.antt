@@ -5,9 +5,9 @@ use Rattle.rlsf_global.specs.Refusals.{RefusesOnlyBy}
 use Rattle.rlsf_model_global.specs.declared.error.GlobalError.{GlobalError}
 use Rattle.rlsf_model_global.specs.declared.error.GlobalError.TheVariants.{JournalMemory, NoRoom, OutOfRange, TableMemory, UnknownAddress, WrongLayout}
 use Rattle.rlsf_model_global.specs.Heap.{Heap}
-use Rattle.rlsf_model_global.specs.Moves.{HeapMovesAway, ReallocatesAsAt, ReallocatesAt, ReallocatesThereAt, ReallocatesTo, ResizesThere, ResizesTo}
+use Rattle.rlsf_model_global.specs.Moves.{HeapMovesAway, ReallocatesAsAt, ReallocatesAt, ReallocatesThereAt, ReallocatesTo, HeapResizesThere, ResizesTo}
 use Rattle.rlsf_model_global.specs.Rows.{Row}
-use Rattle.rlsf_model_global.specs.Steps.{DeallocatesAsAt, DeallocatesAt, Done, HeapAllocates, Placed, ReadsAt, UsableAt, WritesAt, is_same, fits}
+use Rattle.rlsf_model_global.specs.Steps.{DeallocatesAsAt, DeallocatesAt, Done, HeapAllocates, Placed, ReadsAt, UsableAt, WritesAt, is_same, are_usable}
 use Rattle.rlsf_blocks.proofs.Refused.{err_always}
 
 -- a known answer is refused by what it is
@@ -42,7 +42,7 @@ deallocates_as_refuses h g addr layout (Some row) r step = either (is_same row.1
 pub reads_refuses : (h : Heap) (addr offset : ℕ) (lent : List ℕ) (row : Option Row) (r : Done) (left : List ℕ) → ReadsAt h addr offset lent row r left
     → RefusesOnlyBy (UnknownAddress ∷ OutOfRange ∷ []) r
 reads_refuses h addr offset lent None r left step = same (UnknownAddress ∷ OutOfRange ∷ []) r _ step.0 (inl refl)
-reads_refuses h addr offset lent (Some row) r left step = either (fits h addr offset (length lent)) step
+reads_refuses h addr offset lent (Some row) r left step = either (are_usable h addr offset (length lent)) step
     (λ m. same (UnknownAddress ∷ OutOfRange ∷ []) r _ m.0 tt)
     (λ m. same (UnknownAddress ∷ OutOfRange ∷ []) r _ m.0 (inr (inl refl)))
 
@@ -50,14 +50,14 @@ reads_refuses h addr offset lent (Some row) r left step = either (fits h addr of
 pub refused_read_leaves : (h : Heap) (addr offset : ℕ) (lent : List ℕ) (row : Option Row) (r : Done) (left : List ℕ) → ReadsAt h addr offset lent row r left
     → OnErr r (left ≡ lent)
 refused_read_leaves h addr offset lent None r left step = err_always r step.1
-refused_read_leaves h addr offset lent (Some row) r left step = either (fits h addr offset (length lent)) step
+refused_read_leaves h addr offset lent (Some row) r left step = either (are_usable h addr offset (length lent)) step
     (λ m. subst (λ x. OnErr x (left ≡ lent)) (sym m.0) tt)
     (λ m. err_always r m.1)
 
 pub writes_refuses : (h g : Heap) (addr offset : ℕ) (bytes : List ℕ) (row : Option Row) (r : Done) → WritesAt h addr offset bytes row r g
     → RefusesOnlyBy (UnknownAddress ∷ OutOfRange ∷ []) r
 writes_refuses h g addr offset bytes None r step = same (UnknownAddress ∷ OutOfRange ∷ []) r _ step.0 (inl refl)
-writes_refuses h g addr offset bytes (Some row) r step = either (fits h addr offset (length bytes)) step
+writes_refuses h g addr offset bytes (Some row) r step = either (are_usable h addr offset (length bytes)) step
     (λ m. same (UnknownAddress ∷ OutOfRange ∷ []) r _ m.0 tt)
     (λ m. same (UnknownAddress ∷ OutOfRange ∷ []) r _ m.0 (inr (inl refl)))
 
@@ -108,7 +108,7 @@ reallocates_as_refuses enabled h g addr layout size (Some row) r step = either (
     (λ w. to_refuses enabled h g addr layout w.layout r w.made)
     (λ m. same (UnknownAddress ∷ WrongLayout ∷ NoRoom ∷ []) r _ m.0 (inr (inl refl)))
 
-there_refuses : (h g : Heap) (addr : ℕ) (wanted : Layout) (r : Placed) → ResizesThere h addr wanted r g → RefusesOnlyBy (UnknownAddress ∷ WrongLayout ∷ NoRoom ∷ []) r
+there_refuses : (h g : Heap) (addr : ℕ) (wanted : Layout) (r : Placed) → HeapResizesThere h addr wanted r g → RefusesOnlyBy (UnknownAddress ∷ WrongLayout ∷ NoRoom ∷ []) r
 there_refuses h g addr wanted (Ok to) step = tt
 there_refuses h g addr wanted (Err NoRoom) step = inr (inr (inl refl))
 there_refuses h g addr wanted (Err UnknownAddress) step = absurd step

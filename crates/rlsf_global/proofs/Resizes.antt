@@ -16,7 +16,7 @@ use Rattle.rlsf_model.specs.NoMove.{ReallocatesWithoutMove}
 use Rattle.rlsf_model_global.specs.declared.error.GlobalError.TheVariants.{NoRoom, WrongLayout}
 use Rattle.rlsf_model_global.specs.Cursor.{PageCursor, terms_of}
 use Rattle.rlsf_model_global.specs.Heap.{Heap, Lists}
-use Rattle.rlsf_model_global.specs.Moves.{ReallocatesThereAt, ResizesThere, Wanted}
+use Rattle.rlsf_model_global.specs.Moves.{ReallocatesThereAt, HeapResizesThere, Wanted}
 use Rattle.rlsf_model_global.specs.Rows.{Row, put, row_at, without_row}
 use Rattle.rlsf_model_global.specs.Steps.{Placed, is_same}
 
@@ -26,16 +26,16 @@ IsPlaced a b = a ≡ b
 
 module _ (h : Heap) (addr : ℕ) (layout : Layout) (n : ℕ) (row : Row) where
   pub resizes_in : (wanted : Layout) (result : Placed) (g : Heap) → true ≡ is_same row.1 layout → wanted.size ≡ n → wanted.align ≡ layout.align
-      → ResizesThere h addr wanted result g
+      → HeapResizesThere h addr wanted result g
       → ReallocatesThereAt h addr layout n (Some row) result g
   resizes_in wanted result g e size align step =
-      when_true (Wanted n layout.align (λ wanted. ResizesThere h addr wanted result g)) ((result ≡ Err WrongLayout) × (g ≡ h)) (is_same row.1 layout) e
+      when_true (Wanted n layout.align (λ wanted. HeapResizesThere h addr wanted result g)) ((result ≡ Err WrongLayout) × (g ≡ h)) (is_same row.1 layout) e
       (record { layout = wanted; size = size; align = align; made = step })
 
   pub resizes_out : false ≡ is_same row.1 layout → {o : Option Row} → o ≡ Some row → ReallocatesThereAt h addr layout n o (Err WrongLayout) h
   resizes_out e found =
       subst (λ o. ReallocatesThereAt h addr layout n o (Err WrongLayout) h) (sym found)
-      (when_false (Wanted n layout.align (λ wanted. ResizesThere h addr wanted (Err WrongLayout) h)) (IsPlaced (Err WrongLayout) (Err WrongLayout) × (h ≡ h))
+      (when_false (Wanted n layout.align (λ wanted. HeapResizesThere h addr wanted (Err WrongLayout) h)) (IsPlaced (Err WrongLayout) (Err WrongLayout) × (h ≡ h))
       (is_same row.1 layout) e (refl, refl))
 
 -- the new entry is that of the address
@@ -51,7 +51,7 @@ module _ (f : FlexContents PageCursor) (rows : List Row) (v : IsLocked f rows) (
     (stays : f'.source ≡ f.source) where
   module _ (to : NonZeroUsize) (there : at to ≡ addr) (steps : StepsAlone 64 64 terms_of MayOwe f f' (ReallocatesWithoutMove f.state.machine addr wanted.size (Some (at to))))
       (rows' : List Row) (now : rows' ≡ put (to, wanted) (without_row addr rows)) where
-    pub resized : ResizesThere (heap_of f rows) addr wanted (Ok to) (heap_of f' rows')
+    pub resized : HeapResizesThere (heap_of f rows) addr wanted (Ok to) (heap_of f' rows')
     resized =
         let (step, after, stands, spare) = alone_opened f f' (ReallocatesWithoutMove f.state.machine addr wanted.size (Some (at to))) steps in (
           f'.state.machine,
@@ -83,7 +83,7 @@ module _ (f : FlexContents PageCursor) (rows : List Row) (v : IsLocked f rows) (
     heap_as_it_was =
         ap (λ (s : FlexState). record { flex = s; source = f'.source; asked = rows }) same ∙ ap (λ (x : PageCursor). record { flex = f.state; source = x; asked = rows }) stays
 
-    pub not_resized : ResizesThere (heap_of f rows) addr wanted (Err NoRoom) (heap_of f' rows)
+    pub not_resized : HeapResizesThere (heap_of f rows) addr wanted (Err NoRoom) (heap_of f' rows)
     not_resized =
         let (step, after, stands, spare) = alone_opened f f' (ReallocatesWithoutMove f.state.machine addr wanted.size None) steps in
         (subst (λ (s : FlexState). ReallocatesWithoutMove f.state.machine addr wanted.size None s.machine) same step, heap_as_it_was)

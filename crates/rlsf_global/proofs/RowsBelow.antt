@@ -6,7 +6,7 @@ use Rattle.std.proofs.lemmas.Bool.Decides.{eqb_tells, leb_tells}
 use Rattle.std.specs.declared.num.NonZeroUsize.{NonZeroUsize}
 use Rattle.rlsf_base.specs.Addr.{at}
 use Rattle.rlsf_global.proofs.CodedRows.{address-fits, code_at-place, code_in-none, coded-at, coded-place, row_at-in, row_at-of}
-use Rattle.rlsf_global.specs.LiveRows.{AreAddresses, AreCoded, HasPlace, IsKept, code_in}
+use Rattle.rlsf_global.specs.LiveRows.{AreAddresses, AreCoded, HasPlace, IsLiveTable, code_in}
 use Rattle.rlsf_global.specs.declared.live_table.codes.Codes.{Codes}
 use Rattle.rlsf_global.proofs.ToldLayouts.{IsTold, told-row}
 use Rattle.rlsf_model.specs.Lists.{IsIn}
@@ -173,7 +173,7 @@ module _ (c : Codes) (rows : List Row) (coded : AreCoded c rows) (sorted : IsSor
       told-row rows m lists addr code (code_in_place place code is ∙ ap (λ n. code_in (row_at n rows)) (sym here)) some
 
 -- so a count of payloads fits in a word, with one more
-pub live-few : (c : Codes) (rows : List Row) (live : ℕ) → IsKept c rows live → live < 2 ^ 62
+pub live-few : (c : Codes) (rows : List Row) (live : ℕ) → IsLiveTable c rows live → live < 2 ^ 62
 live-few c rows live kept =
     let few = rows-few c rows kept.coded kept.sorted in
     let count = kept.counted in let stored = kept.few in let narrow = kept.narrow in

@@ -70,7 +70,7 @@ unfoldable pub AreAddresses : List Row → Type 0
 AreAddresses rows = (r : Row) → IsIn r rows → key r < 2 ^ 64
 
 -- What is true of each table: its entries are sorted, counted and have their codes, and if there is one, there is room for all codes.
-pub record IsKept (codes : Codes) (rows : List Row) (live : ℕ) : Type 0 where
+pub record IsLiveTable (codes : Codes) (rows : List Row) (live : ℕ) : Type 0 where
   pub coded : AreCoded codes rows
   pub sorted : IsSorted rows
   pub addresses : AreAddresses rows

@@ -34,13 +34,13 @@ pub(crate) struct LiveTable {
 
 impl Model for LiveTable {
     ghost use Rattle.std.specs.Vec.{vec_capacity};
-    ghost use Rattle.rlsf_global.specs.LiveRows.{IsKept, LiveRows, code_space, live_rows};
+    ghost use Rattle.rlsf_global.specs.LiveRows.{IsLiveTable, LiveRows, code_space, live_rows};
 
     ghost Value = { LiveRows };
 
     ghost view = { λ t. live_rows t.entries.rows (vec_capacity t.codes.codes) (code_space t.codes) };
 
-    ghost invariant = { λ t. IsKept t.codes t.entries.rows t.live };
+    ghost invariant = { λ t. IsLiveTable t.codes t.entries.rows t.live };
 }
 
 impl LiveTable {

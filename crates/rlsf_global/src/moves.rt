@@ -6,7 +6,7 @@ ghost use Rattle.rlsf_flex.specs.StandsFor.{FlexStandsFor};
 ghost use Rattle.rlsf_global.specs.Locked.{heap_of};
 ghost use Rattle.rlsf_model_global.specs.Pages.{MayOwe};
 ghost use Rattle.rlsf_global.specs.Memory.{BoundsOnResize};
-ghost use Rattle.rlsf_global.specs.Steps.Moves.{IsGivenLayout, KeepsMoving, KeepsResizing, ResizesTo, StaysRefused};
+ghost use Rattle.rlsf_global.specs.Steps.Moves.{IsGivenLayout, KeepsMoving, KeepsResizing, ResizesWithAnyRows, StaysRefused};
 ghost use Rattle.rlsf_model.specs.Allocate.{HasRoomFor};
 ghost use Rattle.rlsf_model.specs.Callers.{align_at, bytes_at};
 ghost use Rattle.rlsf_model_global.specs.declared.error.GlobalError.TheVariants.{NoRoom};
@@ -57,7 +57,7 @@ pub(crate) fn resize<Options: GlobalTlsfOptions>(
     requires sized { layout.size ≤ length (bytes_at flex.old.state.machine (at addr)) }
     requires aligned { wanted.align ≡ layout.align }
     requires stands { FlexStandsFor 64 64 terms_of MayOwe flex.old }
-    ensures step { IfSome result (λ to. ResizesTo Options.ENABLE_REALLOCATION flex.old flex.new (at addr) layout wanted to) }
+    ensures step { IfSome result (λ to. ResizesWithAnyRows Options.ENABLE_REALLOCATION flex.old flex.new (at addr) layout wanted to) }
     ensures moved { IfSome result (λ to. IsGivenLayout flex.old flex.new (at addr) wanted (at to)) }
     ensures none { IfNone result ((rows : List Row) → ReallocatesTo Options.ENABLE_REALLOCATION (heap_of flex.old rows) (at addr) layout wanted (Err NoRoom)
         (heap_of flex.new rows)) }

@@ -15,15 +15,15 @@ use Rattle.rlsf_model.specs.WellFormed.{IsWellFormed}
 use Rattle.rlsf_model.proofs.CallerWords.{align_at-held, bytes_at-held}
 use Rattle.rlsf_table.specs.Table.{Table}
 use Rattle.rlsf_blocks.specs.StandsFor.{contents, StandsFor}
-use Rattle.rlsf_tlsf.specs.Cores.{IsPlaced}
-use Rattle.rlsf_heap.specs.Heap.{AreIssued, IsOutside}
+use Rattle.rlsf_tlsf.specs.Cores.{IsPayloadRange}
+use Rattle.rlsf_heap.specs.Heap.{AreIssued, IsOutsideChunks}
 use Rattle.rlsf_heap.proofs.LiveCounts.{live_fits}
 use Rattle.rlsf_heap.proofs.Read.{stands-without}
 use Rattle.rlsf_heap.proofs.Rest.{own_without}
 use Rattle.rlsf_heap.proofs.Tickets.{issued-more}
 
 module _ {fllen sllen : ℕ} {n : Space} {y : Table} {s t : State} {size align : ℕ} {r : Range} (places : Places sllen s size align r.start t)
-    (now : StandsFor fllen sllen (contents n y) t) (p : IsPlaced n s t size align r) where
+    (now : StandsFor fllen sllen (contents n y) t) (p : IsPayloadRange n s t size align r) where
   abbrev new : Used
   new = placed places.range size align places.bytes
 
@@ -41,7 +41,7 @@ module _ {fllen sllen : ℕ} {n : Space} {y : Table} {s t : State} {size align :
   stands-left o start bytes gone = stands-without now new is_new o start bytes (gone ∙ ap (out_without n) (λ i. range_at (sym at_new i) (sym many i)))
 
   -- the same bytes outside of all chunks are the memory's own
-  pub own-left : (o : Space) → o.start ≡ n.start → o.out ≡ out_without n r → (a : ℕ) → n.start ≤ a → IsOutside t a → is_own (out_at o a) ≡ is_own (out_at n a)
+  pub own-left : (o : Space) → o.start ≡ n.start → o.out ≡ out_without n r → (a : ℕ) → n.start ≤ a → IsOutsideChunks t a → is_own (out_at o a) ≡ is_own (out_at n a)
   own-left o start gone = own_without now new is_new o start (gone ∙ ap (out_without n) (λ i. range_at (sym at_new i) (sym many i)))
 
   -- a ticket is issued for them

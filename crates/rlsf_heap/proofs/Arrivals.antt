@@ -18,7 +18,7 @@ use Rattle.rlsf_blocks.specs.StandsFor.{contents, StandsFor}
 use Rattle.rlsf_tlsf.specs.Steps.Moves.{bare}
 use Rattle.rlsf_tlsf.proofs.Arrivals.{arrived, bare-read_from}
 use Rattle.rlsf_tlsf.proofs.Moved.{bare-bare}
-use Rattle.rlsf_heap.specs.Heap.{AreAmong, AreIssued, HeapView, IsHeap, IsLent, OwnsRest, Stands, Steps, heap_view, is_lent_at, lent_bytes}
+use Rattle.rlsf_heap.specs.Heap.{AreAmong, AreIssued, HeapView, IsHeapOf, IsLent, OwnsRest, Stands, Steps, heap_view, is_lent_at, lent_bytes}
 use Rattle.rlsf_heap.proofs.LentBytes.{lent_own_if}
 use Rattle.rlsf_heap.proofs.Rest.{owns_unlent}
 
@@ -32,7 +32,7 @@ no_used t u none i = go t.used none i
     go (w ∷ ws) e i = omega (arith, e)
 
 module _ {fl_bits sl_bits fllen sllen : ℕ} {m : Space} {x : Table} {s : State} {es : List Entry} {count : ℕ} {lent : Bool}
-    (is : IsHeap fl_bits sl_bits fllen sllen m x s es count lent) where
+    (is : IsHeapOf fl_bits sl_bits fllen sllen m x s es count lent) where
   -- the ghost state of a heap is its state without bytes
   pub bare-kept : bare (read_from m s) ≡ s
   bare-kept = bare-read_from m s ∙ is.is_bare
@@ -66,7 +66,7 @@ module _ {fllen sllen : ℕ} {n : Space} {x : Table} {t : State} (v : StandsFor 
   stands = subst (StandsFor fllen sllen (contents n x)) (sym (arrived v reached e)) v
 
   pub IsHeap-arrived : {fl_bits sl_bits : ℕ} → IsValid fl_bits sl_bits fllen sllen → (es : List Entry) → AreIssued t es → (count : ℕ) → count ≡ live_count t
-      → {lent : Bool} → (lent ≡ false → OwnsRest n t) → IsHeap fl_bits sl_bits fllen sllen n x reached es count lent
+      → {lent : Bool} → (lent ≡ false → OwnsRest n t) → IsHeapOf fl_bits sl_bits fllen sllen n x reached es count lent
   IsHeap-arrived valid es tickets count counted {lent} rest = record {
     valid = valid;
     stands = stands;

@@ -20,7 +20,7 @@ use Rattle.rlsf_blocks.specs.StandsFor.{contents, StandsFor}
 use Rattle.rlsf_blocks.proofs.Payloads.Unlent.{bytes_in-same, stands_beside}
 use Rattle.rlsf_blocks.proofs.Words.Apart.{home_of_used, used_in_memory}
 use Rattle.rlsf_tlsf.proofs.Arrivals.{read_from-read_from}
-use Rattle.rlsf_heap.specs.Heap.{AreIssued, IsHeap, OwnsRest}
+use Rattle.rlsf_heap.specs.Heap.{AreIssued, IsHeapOf, OwnsRest}
 
 -- at most the bytes of a range changed, or their states
 pub record IsChangedIn (r : Range) (m n : Space) : Type 0 where
@@ -70,7 +70,7 @@ module _ {fllen sllen : ℕ} {m n : Space} {x : Table} {s : State} (v : StandsFo
       go (u ∷ us) each = λ i. record { block = u.block; payload = u.payload; align = u.align; bytes = each u (inl refl) i } ∷ go us (λ y h. each y (inr h)) i
 
 module _ {fl_bits sl_bits fllen sllen : ℕ} {m n : Space} {x : Table} {j : State} {es : List Entry} {count : ℕ} {lent : Bool}
-    (is : IsHeap fl_bits sl_bits fllen sllen m x j es count lent) (r : Range) (clear : IsUntouched j.chunks r) (changed : IsChangedIn r m n) where
+    (is : IsHeapOf fl_bits sl_bits fllen sllen m x j es count lent) (r : Range) (clear : IsUntouched j.chunks r) (changed : IsChangedIn r m n) where
   pub same_state : read_from n j ≡ read_from m j
   same_state = sym (read_from-read_from n m j) ∙ reread is.stands r clear changed
 
@@ -78,7 +78,7 @@ module _ {fl_bits sl_bits fllen sllen : ℕ} {m n : Space} {x : Table} {j : Stat
   stands_lent = subst (StandsFor fllen sllen (contents n x)) (read_from-read_from n m j) (stands is.stands r clear changed)
 
   -- it is a heap, where the range is its own, or its bytes are lent in ranges
-  pub IsHeap-lent : (lent ≡ false → IsOwned n r) → IsHeap fl_bits sl_bits fllen sllen n x j es count lent
+  pub IsHeap-lent : (lent ≡ false → IsOwned n r) → IsHeapOf fl_bits sl_bits fllen sllen n x j es count lent
   IsHeap-lent owned = record {
     valid = is.valid;
     stands = stands_lent;

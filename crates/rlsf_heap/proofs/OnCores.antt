@@ -15,7 +15,7 @@ use Rattle.rlsf_tlsf.specs.Allocator.{allocator}
 use Rattle.rlsf_tlsf.specs.Cores.{IsCore, LeavesCore, LeavesCoreCopying}
 use Rattle.rlsf_tlsf.specs.Results.{KeepsFrameOfPools}
 use Rattle.rlsf_heap.specs.Frame.{KeepsBytes, KeepsFrame, KeepsHeap, KeepsPayloads}
-use Rattle.rlsf_heap.specs.Heap.{AreIssued, HeapView, Identity, IsHeap, OwnsRest, Stands, Steps, heap_view, is_lent_at, lent_bytes}
+use Rattle.rlsf_heap.specs.Heap.{AreIssued, HeapView, Identity, IsHeapOf, OwnsRest, Stands, Steps, heap_view, is_lent_at, lent_bytes}
 use Rattle.rlsf_heap.specs.Kept.{KeepsSpareBytes, NoneBecomesRaw}
 use Rattle.rlsf_heap.proofs.Kept.{raw-stays}
 use Rattle.rlsf_heap.proofs.LentBytes.{lent_kept, lent_pools}
@@ -26,7 +26,7 @@ use Rattle.rlsf_heap.proofs.Settled.{settled-stays}
 
 -- the core of a heap
 pub core_of : {fl_bits sl_bits fllen sllen : ℕ} {m : Space} {x : Table} {j : State} {es : List Entry} {count : ℕ} {lent : Bool}
-    → IsHeap fl_bits sl_bits fllen sllen m x j es count lent → fl_bits ≤ 128 → IsCore fllen sllen m x j
+    → IsHeapOf fl_bits sl_bits fllen sllen m x j es count lent → fl_bits ≤ 128 → IsCore fllen sllen m x j
 core_of is limit = record { valid = IsValid-widest limit is.valid; stands = is.stands; is_bare = is.is_bare }
 
 -- what is of the heap that callers see is of this memory and this ledger
@@ -63,7 +63,7 @@ module _ {fllen sllen : ℕ} {m n : Space} {y : Table} {j k : State} {most copie
   stays = record { start = left.costs.start; own = left.own; here = left.here }
 
   pub IsHeap-left : {fl_bits sl_bits : ℕ} → IsValid fl_bits sl_bits fllen sllen → (fs : List Entry) → AreIssued (read_from n k) fs
-      → (now : ℕ) → now ≡ live_count (read_from n k) → {lent : Bool} → (lent ≡ false → OwnsRest n (read_from n k)) → IsHeap fl_bits sl_bits fllen sllen n y k fs now lent
+      → (now : ℕ) → now ≡ live_count (read_from n k) → {lent : Bool} → (lent ≡ false → OwnsRest n (read_from n k)) → IsHeapOf fl_bits sl_bits fllen sllen n y k fs now lent
   IsHeap-left valid fs tickets now counted rest = record {
     valid = valid;
     stands = left.core.stands;
@@ -98,14 +98,14 @@ module _ {fllen sllen : ℕ} {m n : Space} {y : Table} {j k : State} {most : ℕ
 
 -- where no used block changes
 module _ {fllen sllen : ℕ} {m n : Space} {x y : Table} {j k : State} {most : ℕ} (left : LeavesCore fllen sllen m n y j k most) where
-  pub IsHeap-pools : {fl_bits sl_bits : ℕ} {es : List Entry} {count : ℕ} {lent : Bool} → IsHeap fl_bits sl_bits fllen sllen m x j es count lent
-      → (read_from n k).used ≡ (read_from m j).used → IsHeap fl_bits sl_bits fllen sllen n y k es count lent
+  pub IsHeap-pools : {fl_bits sl_bits : ℕ} {es : List Entry} {count : ℕ} {lent : Bool} → IsHeapOf fl_bits sl_bits fllen sllen m x j es count lent
+      → (read_from n k).used ≡ (read_from m j).used → IsHeapOf fl_bits sl_bits fllen sllen n y k es count lent
   IsHeap-pools {es = es} {count = count} is used =
       IsHeap-left left is.valid es (issued-same (read_from m j) (read_from n k) used is.tickets) count
       (is.counted ∙ live_count-same (read_from m j) (read_from n k) (sym used))
       (λ not_lent. rest_pools is.stands left.core.stands left.costs.start left.own used (is.rest not_lent))
 
-  pub frame-pools : {fl_bits sl_bits : ℕ} {es : List Entry} {count : ℕ} {lent : Bool} → IsHeap fl_bits sl_bits fllen sllen m x j es count lent
+  pub frame-pools : {fl_bits sl_bits : ℕ} {es : List Entry} {count : ℕ} {lent : Bool} → IsHeapOf fl_bits sl_bits fllen sllen m x j es count lent
       → (read_from n k).used ≡ (read_from m j).used → (ledger : ℕ) → KeepsFrameOfPools (allocator m x j) (allocator n y k)
       → KeepsPayloads (heap_view m x j ledger lent) (heap_view n y k ledger lent)
   frame-pools is used ledger frame = record {

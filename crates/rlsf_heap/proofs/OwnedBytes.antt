@@ -16,15 +16,15 @@ use Rattle.rlsf_base.proofs.Changes.{none-out}
 use Rattle.rlsf_base.proofs.RawBlock.Rows.{held-in}
 use Rattle.rlsf_tlsf.specs.InPlace.{bytes_from}
 use Rattle.rlsf_heap.specs.Heap.{Identity}
-use Rattle.rlsf_heap.specs.Raw.{IsWhole, bytes_of, payload_owns}
+use Rattle.rlsf_heap.specs.Raw.{CanComeBack, bytes_of, payload_owns}
 use Rattle.rlsf_heap.specs.Thin.{owns_bytes, written_payload}
 use Rattle.rlsf_heap.specs.ThinInPlace.{LendsBytes, bytes_there}
 use Rattle.rlsf_heap.proofs.WrittenBytes.{all_own}
 
 module _ {M : Type 1} {𝓤 : Ura M} (𝓛 : Logic 𝓤) where
   -- other bytes of the same number can be a part of the memory again
-  whole_again : (h : Identity) (addr : ℕ) (bs ws : List ℕ) (align : ℕ) → length ws ≡ length bs → IsWhole (written_payload h addr bs align)
-      → IsWhole (written_payload h addr ws align)
+  whole_again : (h : Identity) (addr : ℕ) (bs ws : List ℕ) (align : ℕ) → length ws ≡ length bs → CanComeBack (written_payload h addr bs align)
+      → CanComeBack (written_payload h addr ws align)
   whole_again h addr bs ws align long can = record {
     viewed = refl;
     placed = refl;
@@ -51,7 +51,7 @@ module _ {M : Type 1} {𝓤 : Ura M} (𝓛 : Logic 𝓤) where
       flt_i ! (length w.0) (2 ^ 63) (omega (arith, small, w.1)) $ fjoin ! $
       rewrite ! 0 (λ (r : Ptr). ‵ (bytes_own r place w.0 [] units)) (sym there) refl $
       rewrite ! 1 (λ (m : ℕ). ‵ (ticket_owns h.ledger x.0 (extent addr m align))) (sym w.1) refl $ fjoin ! $
-      fpack ! (ℕ × IsWhole (written_payload h addr w.0 align))
+      fpack ! (ℕ × CanComeBack (written_payload h addr w.0 align))
       (λ u. fsep (piece_owns (bytes_of (written_payload h addr w.0 align))) (ticket_owns h.ledger u.0 (extent addr (length w.0) align)))
       (x.0, whole_again h addr bs w.0 align w.1 x.1) $ done !))))
 

@@ -13,7 +13,7 @@ use Rattle.rlsf_base.specs.Space.{Space, out_at}
 use Rattle.rlsf_model.specs.Callers.{bytes_at}
 use Rattle.rlsf_model.specs.Release.{Deallocates, released}
 use Rattle.rlsf_model.specs.Sized.{live_bytes, live_count}
-use Rattle.rlsf_model.specs.State.{State, Used, Holds, usable, others, filled_at, with_bytes as with_these}
+use Rattle.rlsf_model.specs.State.{State, Used, Holds, usable, others, filled_at, used_with_bytes as with_these}
 use Rattle.rlsf_model.specs.WellFormed.{IsWellFormed}
 use Rattle.rlsf_model.proofs.CallerWords.{bytes_at-held, gone_seen}
 use Rattle.rlsf_model.proofs.Changes.{Holds-unique}
@@ -30,7 +30,7 @@ use Rattle.rlsf_tlsf.proofs.LiveBytes.{bytes_less}
 use Rattle.rlsf_tlsf.proofs.Reached.{read_from-same}
 use Rattle.rlsf_tlsf.proofs.Replied.{some_more}
 use Rattle.rlsf_heap.specs.Frame.{KeepsAllBounds, KeepsHeap}
-use Rattle.rlsf_heap.specs.Heap.{AreIssued, IsHeap, IsOutside, IsTicketOf, Steps, heap_view}
+use Rattle.rlsf_heap.specs.Heap.{AreIssued, IsHeapOf, IsOutsideChunks, IsTicketOf, Steps, heap_view}
 use Rattle.rlsf_heap.specs.Kept.{KeepsOwn}
 use Rattle.rlsf_heap.specs.Replies.{IsGone}
 use Rattle.rlsf_heap.proofs.Kept.{same-byte, spare-then}
@@ -83,7 +83,7 @@ pub record IsGiven (fllen sllen : ℕ) (m n : Space) (x : Table) (j : State) (es
   pub long : length n.bytes ≡ length m.bytes
   pub view : n.view ≡ m.view
   pub grow : m.touches ≤ n.touches
-  pub rest : (a : ℕ) → m.start ≤ a → IsOutside (read_from m j) a → is_own (out_at n a) ≡ is_own (out_at m a)
+  pub rest : (a : ℕ) → m.start ≤ a → IsOutsideChunks (read_from m j) a → is_own (out_at n a) ≡ is_own (out_at m a)
   pub steps : (t : State) → Deallocates (read_from n j) e.addr t → Deallocates (read_from m j) e.addr t
 
 -- without values: the state is the same
@@ -110,7 +110,7 @@ raw_given {fllen} {sllen} {m} {n} {x} {j} {es} {k} {e} p memory grow =
     }
 
 module _ {fl_bits sl_bits fllen sllen : ℕ} {m n : Space} {x : Table} {j : State} {es : List Entry} {count k : ℕ} {e : Extent} {lent : Bool}
-    (is : IsHeap fl_bits sl_bits fllen sllen m x j es count lent) (g : IsGiven fllen sllen m n x j es k e) where
+    (is : IsHeapOf fl_bits sl_bits fllen sllen m x j es count lent) (g : IsGiven fllen sllen m n x j es k e) where
   pub core_given : fl_bits ≤ 128 → IsCore fllen sllen n x j
   core_given limit = record { valid = IsValid-widest limit is.valid; stands = g.stands; is_bare = is.is_bare }
 
@@ -145,7 +145,7 @@ module _ {fl_bits sl_bits fllen sllen : ℕ} {m n : Space} {x : Table} {j : Stat
     own_given : KeepsOwn m (read_from m j) o (read_from o l)
     own_given a from out again = left.own a (omega (arith, from, g.start)) ∙ g.rest a from out
 
-    pub IsHeap-given : (fs : List Entry) → fs ≡ set es k (entry_of e false) → IsHeap fl_bits sl_bits fllen sllen o y l fs (count - 1) lent
+    pub IsHeap-given : (fs : List Entry) → fs ≡ set es k (entry_of e false) → IsHeapOf fl_bits sl_bits fllen sllen o y l fs (count - 1) lent
     IsHeap-given fs entries =
         IsHeap-left left is.valid fs
         (subst (AreIssued (read_from o l)) (sym entries) (subst (λ (t : State). AreIssued t (set es k (entry_of e false)))

@@ -14,7 +14,7 @@ use Rattle.rlsf_model.proofs.Payloads.{IsUsed-after_start}
 use Rattle.rlsf_table.specs.Table.{Table}
 use Rattle.rlsf_blocks.specs.StandsFor.{contents, IsUnlent, StandsFor}
 use Rattle.rlsf_blocks.proofs.Words.Apart.{home_of_used, used_used}
-use Rattle.rlsf_tlsf.specs.CoreResizes.{KeepsPayloads}
+use Rattle.rlsf_tlsf.specs.CoreResizes.{KeepsPayloadsResizing}
 use Rattle.rlsf_heap.specs.Heap.{AreIssued, IsPayload}
 use Rattle.rlsf_heap.specs.ThinUnknownAlign.{renewed_entries}
 use Rattle.rlsf_tlsf.proofs.Placed.{lies_used}
@@ -32,7 +32,7 @@ issued_renewed {s} {t} {es} key shown len tickets is others there =
 -- ---- the payload at an address may have another size
 
 module _ {fllen sllen : ℕ} {m o : Space} {x y : Table} {s t : State} {addr : ℕ} (v : StandsFor fllen sllen (contents m x) s) (w : StandsFor fllen sllen (contents o y) t)
-    (kept : KeepsPayloads s t addr) where
+    (kept : KeepsPayloadsResizing s t addr) where
   -- each payload is live, with its alignment
   pub still : (a : ℕ) (u : Used) → Holds s a u → (z : Used) × Holds t a z × (z.align ≡ u.align)
   still a u holds = align_at-live t a u.align (ap (λ f. f a) kept.aligns ∙ align_at-held v.well_formed a u holds)

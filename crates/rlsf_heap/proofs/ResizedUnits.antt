@@ -19,7 +19,7 @@ use Rattle.rlsf_blocks.proofs.Words.Apart.{used_in_memory}
 use Rattle.rlsf_blocks.proofs.Words.NeverOut.{here_behind_used}
 use Rattle.rlsf_blocks.specs.Steps.Resize.{IsOwnedBehind}
 use Rattle.rlsf_blocks.proofs.Reallocate.NextPlans.{in_place-fits, kept_whole}
-use Rattle.rlsf_tlsf.specs.CoreResizes.{KeepsPayloads}
+use Rattle.rlsf_tlsf.specs.CoreResizes.{KeepsPayloadsResizing}
 use Rattle.rlsf_tlsf.specs.Results.{IsResized}
 use Rattle.rlsf_heap.specs.Heap.{AreIssued}
 use Rattle.rlsf_heap.specs.ThinUnknownAlign.{renewed_entries}
@@ -85,7 +85,7 @@ module _ {fllen sllen : ℕ} {m n : Space} {table : Table} {s : State} {es : Lis
   own-behind size fits a lo hi = own-back b a (omega (arith, lo, reaches b.shown size, fits)) (omega (arith, lo, hi, reaches b.shown size, ends b.shown, b.within))
 
   -- a call kept the payloads, but for its size
-  module _ {o : Space} {y : Table} {t : State} (w : StandsFor fllen sllen (contents o y) t) (keeps : KeepsPayloads s t start) where
+  module _ {o : Space} {y : Table} {t : State} (w : StandsFor fllen sllen (contents o y) t) (keeps : KeepsPayloadsResizing s t start) where
     now-held : (z : Used) × Holds t start z × (z.align ≡ (block b.shown).align)
     now-held = still (stands-back b) w keeps start (block b.shown) (held b.shown)
 

@@ -18,13 +18,13 @@ use Rattle.rlsf_blocks.specs.Laws.{read_from}
 use Rattle.rlsf_blocks.specs.StandsFor.{contents, IsUnlent, StandsFor}
 use Rattle.rlsf_blocks.proofs.Words.Apart.{home_of_used}
 use Rattle.rlsf_tlsf.proofs.Placed.{lies_used}
-use Rattle.rlsf_heap.specs.Heap.{AreAmong, IsHeap, IsOutside, IsUsable, OwnsRest, heap_view, is_lent_at, lent_bytes}
+use Rattle.rlsf_heap.specs.Heap.{AreAmong, IsHeapOf, IsOutsideChunks, IsUsable, OwnsRest, heap_view, is_lent_at, lent_bytes}
 use Rattle.rlsf_heap.specs.Kept.{KeepsOwn}
 use Rattle.rlsf_heap.proofs.LentBytes.{own_outside}
 use Rattle.rlsf_heap.proofs.Read.{out-left}
 
 -- they are no usable bytes of payloads
-pub outside_unlent : {fllen sllen : ℕ} {memory : Range} {s : State} → IsWellFormed fllen sllen memory s → (a : ℕ) → IsOutside s a → IsUnlent s a
+pub outside_unlent : {fllen sllen : ℕ} {memory : Range} {s : State} → IsWellFormed fllen sllen memory s → (a : ℕ) → IsOutsideChunks s a → IsUnlent s a
 outside_unlent {s = s} w a out u i = elim (cases_lt a u.payload) [
   | inl before ↦ inl before
   | inr from ↦ elim (cases_lt a (end_of u.block)) [
@@ -52,7 +52,7 @@ owns_unlent {s = s} v rest a from unlent = elim (cases_lt 0 (coverage itself s.c
 -- a call that leaves the chunks
 pub rest_kept : (m n : Space) (s t : State) → n.start ≡ m.start → t.chunks ≡ s.chunks → KeepsOwn m s n t → OwnsRest m s → OwnsRest n t
 rest_kept m n s t start chunks keeps rest a from out =
-    let was : IsOutside s a = subst (λ (cs : List Range). coverage itself cs a ≡ 0) chunks out in
+    let was : IsOutsideChunks s a = subst (λ (cs : List Range). coverage itself cs a ≡ 0) chunks out in
     keeps a (omega (arith, from, start)) was out ∙ rest a (omega (arith, from, start)) was
 
 -- a call that leaves the used blocks
@@ -64,7 +64,7 @@ rest_pools v w start own used rest a from out =
 
 -- the bytes of a payload left
 pub own_without : {fllen sllen : ℕ} {o : Space} {y : Table} {t : State} (v : StandsFor fllen sllen (contents o y) t) (u : Used) (i : IsIn u t.used) (q : Space)
-    → q.start ≡ o.start → q.out ≡ out_without o (usable u) → (a : ℕ) → o.start ≤ a → IsOutside t a → is_own (out_at q a) ≡ is_own (out_at o a)
+    → q.start ≡ o.start → q.out ≡ out_without o (usable u) → (a : ℕ) → o.start ≤ a → IsOutsideChunks t a → is_own (out_at q a) ≡ is_own (out_at o a)
 own_without {o = o} v u i q start gone a from out = ap is_own (out-left o q (usable u) start (lies_used v u i).0 gone a from (elim (outside_unlent v.well_formed a out u i) [
   | inl before ↦ inl before
   | inr behind ↦ inr (omega (arith, behind, (v.well_formed.used u i).within))
@@ -81,7 +81,7 @@ rest_owned m s r from clear rest a low high = rest a (omega (arith, low, from)) 
 
 -- so is one that the heap may use
 pub owned_range : {fl_bits sl_bits fllen sllen : ℕ} {m : Space} {x : Table} {j : State} {es : List Entry} {count : ℕ} {lent : Bool}
-    → IsHeap fl_bits sl_bits fllen sllen m x j es count lent → (r : Range) → m.start ≤ r.start → IsUntouched j.chunks r → (ledger : ℕ) → IsUsable (heap_view m x j ledger lent) r
+    → IsHeapOf fl_bits sl_bits fllen sllen m x j es count lent → (r : Range) → m.start ≤ r.start → IsUntouched j.chunks r → (ledger : ℕ) → IsUsable (heap_view m x j ledger lent) r
     → IsOwned m r
 unfolding lent_bytes
 owned_range {m = m} {j = j} {lent = lent} is r from clear ledger can_use = go lent refl

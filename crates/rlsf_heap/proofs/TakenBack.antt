@@ -34,7 +34,7 @@ use Rattle.rlsf_blocks.specs.StandsFor.{contents, StandsFor}
 use Rattle.rlsf_blocks.proofs.Payloads.Filled.{IsSameOutside, filled_in}
 use Rattle.rlsf_tlsf.specs.Allocator.{allocator}
 use Rattle.rlsf_tlsf.specs.Bounds.{KeepsBounds}
-use Rattle.rlsf_tlsf.specs.CoreResizes.{KeepsPayloads}
+use Rattle.rlsf_tlsf.specs.CoreResizes.{KeepsPayloadsResizing}
 use Rattle.rlsf_tlsf.specs.Cores.{IsCore, IsOwnFound, LeavesCoreCopying}
 use Rattle.rlsf_tlsf.specs.Moving.{IsHerePayload, IsRelocated, span}
 use Rattle.rlsf_tlsf.specs.Results.{KeepsFrameMoving as CoreFrame}
@@ -43,14 +43,14 @@ use Rattle.rlsf_tlsf.proofs.Reached.{bare-core}
 use Rattle.rlsf_tlsf.proofs.Relocated.{span_held}
 use Rattle.rlsf_tlsf.proofs.Replied.{some_more}
 use Rattle.rlsf_tlsf.proofs.UnknownAlign.{denied_short, no_room_to_stay}
-use Rattle.rlsf_heap.specs.Heap.{AreIssued, IsHeap, IsOutside, PayloadView, Steps, heap_view, is_lent_at, payload_range}
+use Rattle.rlsf_heap.specs.Heap.{AreIssued, IsHeapOf, IsOutsideChunks, PayloadView, Steps, heap_view, is_lent_at, payload_range}
 use Rattle.rlsf_heap.specs.Frame.{KeepsAllBounds, KeepsBytes, KeepsFrameMoving, KeepsHeap, KeepsSized}
 use Rattle.rlsf_heap.specs.Handover.{IsHandedOver, IsTakenBack}
 use Rattle.rlsf_heap.specs.Kept.{KeepsBytesBeside, KeepsOwn, NoneBecomesRaw}
 use Rattle.rlsf_heap.specs.Reallocation.{owned_by}
 use Rattle.rlsf_heap.specs.Replies.{IsRefused, IsResized}
 use Rattle.rlsf_heap.specs.Settled.{IsSettled}
-use Rattle.rlsf_heap.specs.ThinUnknownAlign.{HasRoom}
+use Rattle.rlsf_heap.specs.ThinUnknownAlign.{IfBytesSuffice}
 use Rattle.rlsf_heap.proofs.Arrivals.{IsHeap-arrived, Steps-arrived}
 use Rattle.rlsf_heap.proofs.Kept.{raw-left, raw-stays, raw-with, same-byte, spare-last, spare-then}
 use Rattle.rlsf_heap.proofs.LentBytes.{lent_kept}
@@ -128,7 +128,7 @@ taken_back {es = es} {fs = fs} pay is =
     back_as pay (refl, refl, refl) issued is.memory is.long is.counts (without key shown issued after)
 
 -- where the state is the same, so are its payloads
-pub kept_same : {s t : State} (addr : ℕ) → t ≡ s → KeepsPayloads s t addr
+pub kept_same : {s t : State} (addr : ℕ) → t ≡ s → KeepsPayloadsResizing s t addr
 kept_same addr same = record {
   aligns = ap align_at same;
   bytes = λ a off. ap (λ (u : State). bytes_at u a) same;
@@ -137,7 +137,7 @@ kept_same addr same = record {
 }
 
 module _ {fl_bits sl_bits fllen sllen : ℕ} {m n : Space} {x : Table} {j : State} {es fs : List Entry} {count : ℕ} {lent : Bool}
-    (is : IsHeap fl_bits sl_bits fllen sllen m x j es count lent)
+    (is : IsHeapOf fl_bits sl_bits fllen sllen m x j es count lent)
     (pay : PayloadView) (back : IsBack m n es fs pay) where
   abbrev shown : Extent
   shown = extent pay.start (length pay.bytes) pay.align
@@ -204,7 +204,7 @@ module _ {fl_bits sl_bits fllen sllen : ℕ} {m n : Space} {x : Table} {j : Stat
   settled_before = settled-back m n (payload_range pay) back.memory.start (omega (arith, low, back.memory.start)) back.memory.out
 
   -- the same bytes outside of all chunks are its own
-  rest_back : (a : ℕ) → m.start ≤ a → IsOutside (read_from m j) a → is_own (out_at n a) ≡ is_own (out_at m a)
+  rest_back : (a : ℕ) → m.start ≤ a → IsOutsideChunks (read_from m j) a → is_own (out_at n a) ≡ is_own (out_at m a)
   rest_back a from out = ap is_own (outside.out a from (elim (outside_unlent is.stands.well_formed a out (block p) (held p).0) [
     | inl before ↦ inl before
     | inr behind ↦ inr (omega (arith, behind, (is.stands.well_formed.used (block p) (held p).0).within))
@@ -278,7 +278,7 @@ module _ {fl_bits sl_bits fllen sllen : ℕ} {m n : Space} {x : Table} {j : Stat
 
   -- where it was refused to be resized in place, it has no room
   pub no_room : {t : State} (size : ℕ) (A : Type 0) → ReallocatesWithoutMove (read_from n j) pay.start size None t
-      → HasRoom (read_from m j) pay.start size (length pay.bytes) A
+      → IfBytesSuffice (read_from m j) pay.start size (length pay.bytes) A
   no_room size A refused = record {
     enough = λ enough. absurd (omega (arith, enough, denied_short stands_in.well_formed refused, ap length bytes_are));
     stays = λ room. absurd (no_room_to_stay stands_in.well_formed refused (room_back size room));
@@ -290,7 +290,7 @@ module _ {fl_bits sl_bits fllen sllen : ℕ} {m n : Space} {x : Table} {j : Stat
 
   -- the call left it where it was
   module _ {o : Space} {y : Table} {k : State} {most copies : ℕ} (core : LeavesCoreCopying fllen sllen n o y j k most copies)
-      (kept : KeepsPayloads (read_from n j) (read_from o k) pay.start) where
+      (kept : KeepsPayloadsResizing (read_from n j) (read_from o k) pay.start) where
     pub here_there : IsHere o (span (read_from n j) pay.start pay.start)
     here_there a lo hi =
         core.here a (omega (arith, low, lo)) (here_in a (omega (arith, lo, held_in.1)) (omega (arith, hi, held_in.1, long p, ap length bytes_are)))
@@ -389,7 +389,7 @@ module _ {fl_bits sl_bits fllen sllen : ℕ} {m n : Space} {x : Table} {j : Stat
             (omega (arith, from, back.memory.start, core.costs.start)) again
             ∙ core.own a (omega (arith, from, back.memory.start)) ∙ rest_back a from out
 
-        pub IsHeap-over : (read_from o k).chunks ≡ j.chunks → IsHeap fl_bits sl_bits fllen sllen q y k gs count lent
+        pub IsHeap-over : (read_from o k).chunks ≡ j.chunks → IsHeapOf fl_bits sl_bits fllen sllen q y k gs count lent
         IsHeap-over chunks =
             IsHeap-arrived standing k (sym (bare-core core.core)) is.valid gs issued_over count (is.counted ∙ sym (at.count ∙ count_back))
             (λ not_lent. rest_kept m q (read_from m j) (read_from o k) (over.memory.start ∙ core.costs.start ∙ back.memory.start) chunks own_over_all (is.rest not_lent))

@@ -16,7 +16,7 @@ use Rattle.rlsf_blocks.specs.Steps.LiveBlock.{AtEachBlock, IsLiveIn}
 use Rattle.rlsf_blocks.specs.StandsFor.{contents, StandsFor}
 use Rattle.rlsf_blocks.proofs.Reallocate.Addresses.{some_reply}
 use Rattle.rlsf_heap.specs.Heap.{AreIssued, HeapView, Identity, IsTicketOf, IsWritten, PayloadView, Stands, Steps, payload_range, payload_view}
-use Rattle.rlsf_heap.specs.Raw.{IsWhole, bytes_of}
+use Rattle.rlsf_heap.specs.Raw.{CanComeBack, bytes_of}
 use Rattle.rlsf_heap.specs.Thin.{reply_of}
 use Rattle.rlsf_heap.proofs.Shown.{IsShown, block, held, usable_is}
 
@@ -49,14 +49,14 @@ module _ {fllen sllen : ℕ} {m : Space} {table : Table} {s : State} {entries : 
   ranged r each = each fllen sllen (contents m table) s (block p) refl v ((held p).0, (held p).1 ∙ same) ∙ usable_is p
 
   -- the bytes of a payload that was found with its ticket lie where its length says
-  pub comes_found : (h : Identity) → home_of m ≡ h.home → of.identity ≡ h → (p : PayloadView) → p ≡ of → (q : Piece) → (q ≡ bytes_of p) × IsWhole p → (n : Space)
+  pub comes_found : (h : Identity) → home_of m ≡ h.home → of.identity ≡ h → (p : PayloadView) → p ≡ of → (q : Piece) → (q ≡ bytes_of p) × CanComeBack p → (n : Space)
       → n ≡ record m { touches = m.touches + 3 } → (view : View) → view ≡ n.view → (r : Range) → AtEachBlock m addr (λ u. r ≡ usable u) → CanCome q view r
   comes_found h home heap p same q bytes n touched view viewed r each =
       let at : payload_range of ≡ r = sym (ranged r each) in
       let seen : of.identity.home.view ≡ view = ap (λ (i : Identity). i.home.view) heap ∙ sym (ap (λ (o : Home). o.view) home) ∙ sym (ap (λ (o : Space). o.view) touched)
       ∙ sym viewed in
       subst (λ (o : Piece). CanCome o view r) (sym (bytes.0 ∙ ap bytes_of same)) (subst (λ (u : View × Range). CanCome (bytes_of of) u.0 u.1) (λ i. (seen i, at i))
-      (subst IsWhole same bytes.1))
+      (subst CanComeBack same bytes.1))
 
 -- an allocated payload, known by its address
 module _ (fllen sllen : ℕ) (before after : HeapView) (size align : ℕ) (p q : PayloadView) (is : q ≡ p)
@@ -84,7 +84,7 @@ module _ (of : PayloadView) (q : Piece) (one : q ≡ bytes_of of) where
   identity_of_bytes t is = λ i. record { home = (one i).home; ledger = is.0 i }
 
   -- they can be a part again
-  pub comes_back : IsWhole of → CanCome q q.home.view (piece_range q)
+  pub comes_back : CanComeBack of → CanCome q q.home.view (piece_range q)
   comes_back whole = subst (λ (o : Piece). CanCome o o.home.view (piece_range o)) (sym one) whole
 
   -- and are here if the payload's are

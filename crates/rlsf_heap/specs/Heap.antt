@@ -1,7 +1,7 @@
 -- The heap and its payloads, as contracts see them, and the steps that the calls make.
 use Rattle.std.specs.Prelude.{◌≡◌, ◌+◌, ◌≤◌, ◌<◌, ℕ, Bool, true, false, ◌&&◌, ◌||◌, leb, List, length, Option, Some, None, All, IfSome}
 use Rattle.rlsf_base.specs.Ledger.{Entry, Extent, IsIssued}
-use Rattle.rlsf_base.specs.Changes.{IsIn}
+use Rattle.rlsf_base.specs.Changes.{AreBytesHere}
 use Rattle.rlsf_base.specs.OpenSpace.{Home, home_of, IsAway}
 use Rattle.rlsf_base.specs.Out.{Change, is_own}
 use Rattle.rlsf_base.specs.Piece.{Piece}
@@ -37,12 +37,12 @@ abbrev pub heap_view : Space → Table → State → ℕ → Bool → HeapView
 heap_view m t s ledger lent = record { identity = record { home = home_of m; ledger = ledger }; memory = m; table = t; state = read_from m s; lent = lent }
 
 -- an address in no chunk
-abbrev pub IsOutside : State → ℕ → Type 0
-IsOutside s a = coverage itself s.chunks a ≡ 0
+abbrev pub IsOutsideChunks : State → ℕ → Type 0
+IsOutsideChunks s a = coverage itself s.chunks a ≡ 0
 
 -- each byte outside of all chunks is the memory's own
 abbrev pub OwnsRest : Space → State → Type 0
-OwnsRest m s = (a : ℕ) → m.start ≤ a → IsOutside s a → is_own (out_at m a) ≡ true
+OwnsRest m s = (a : ℕ) → m.start ≤ a → IsOutsideChunks s a → is_own (out_at m a) ≡ true
 
 -- whether a byte is lent to a heap: it is the memory's own, or in a chunk
 abbrev pub is_lent_at : Space → State → ℕ → Bool
@@ -82,7 +82,7 @@ IsTicketOf p align shown = (p.start ≡ shown.addr) × (length p.bytes ≡ shown
 
 -- each byte of a payload is here
 abbrev pub IsWritten : PayloadView → Type 0
-IsWritten p = IsIn p.out 0 (length p.bytes)
+IsWritten p = AreBytesHere p.out 0 (length p.bytes)
 
 -- the addresses of a payload's bytes
 abbrev pub payload_range : PayloadView → Range
@@ -109,7 +109,7 @@ pub record AreIssued (s : State) (es : List Entry) : Type 0 where
 -- what is true of every heap's fields: the parameters are valid, memory and table represent the state, the ghost state has no bytes of
 -- payloads, the live entries of the ledger are those of live payloads, the count is that of the live payloads, and unless its bytes are lent to it
 -- in ranges, it owns those outside of all chunks
-pub record IsHeap (fl_bits sl_bits fllen sllen : ℕ) (m : Space) (t : Table) (s : State) (es : List Entry) (count : ℕ) (lent : Bool) : Type 0 where
+pub record IsHeapOf (fl_bits sl_bits fllen sllen : ℕ) (m : Space) (t : Table) (s : State) (es : List Entry) (count : ℕ) (lent : Bool) : Type 0 where
   pub valid : IsValid fl_bits sl_bits fllen sllen
   pub stands : StandsFor fllen sllen (contents m t) (read_from m s)
   pub is_bare : bare s ≡ s

@@ -6,7 +6,7 @@ use Rattle.rlsf_base.specs.Out.{raw, is_own}
 use Rattle.rlsf_base.specs.Space.{Space, byte_at, out_at}
 use Rattle.rlsf_blocks.specs.Spare.{KeepsSpare}
 use Rattle.rlsf_model.specs.State.{State}
-use Rattle.rlsf_heap.specs.Heap.{HeapView, IsOutside}
+use Rattle.rlsf_heap.specs.Heap.{HeapView, IsOutsideChunks}
 
 -- each byte of the memory that no block is made of, before and after, is as it was
 unfoldable pub KeepsSpareBytes : HeapView → HeapView → Type 0
@@ -19,7 +19,7 @@ KeepsBytesBeside before after r = (a : ℕ) → before.memory.start ≤ a → a 
 
 -- each byte in no chunk, before and after, is the memory's own if and only if it was
 abbrev pub KeepsOwn : Space → State → Space → State → Type 0
-KeepsOwn m s n t = (a : ℕ) → m.start ≤ a → IsOutside s a → IsOutside t a → is_own (out_at n a) ≡ is_own (out_at m a)
+KeepsOwn m s n t = (a : ℕ) → m.start ≤ a → IsOutsideChunks s a → IsOutsideChunks t a → is_own (out_at n a) ≡ is_own (out_at m a)
 
 -- no byte becomes raw: each that is raw was raw
 unfoldable pub NoneBecomesRaw : HeapView → HeapView → Type 0

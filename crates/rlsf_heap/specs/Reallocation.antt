@@ -1,6 +1,6 @@
 -- Reallocated payloads, as contracts see them.
 use Rattle.std.specs.Prelude.{ℕ, length, min, Option, Some, None, Result, Ok, Err}
-use Rattle.rlsf_base.specs.Changes.{IsIn}
+use Rattle.rlsf_base.specs.Changes.{AreBytesHere}
 use Rattle.rlsf_model.specs.State.{State, filled}
 use Rattle.rlsf_heap.specs.Heap.{PayloadView}
 
@@ -15,4 +15,4 @@ moved_to (Err p) = None
 
 -- the first bytes of the second payload are here, as many as both payloads have
 abbrev pub IsKeptHere : PayloadView → PayloadView → Type 0
-IsKeptHere old new = IsIn new.out 0 (min (length old.bytes) (length new.bytes))
+IsKeptHere old new = AreBytesHere new.out 0 (min (length old.bytes) (length new.bytes))

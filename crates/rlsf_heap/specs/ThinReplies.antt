@@ -34,7 +34,7 @@ pub record IsThinReply (P : PayloadView → Type 0) (p : ThinPayload) : Type 0 w
   pub made : p.of.start ≢ 0 → P p.of
 
 -- what a payload is that moved into a new one
-pub record IsMoved (before after : HeapView) (addr size align : ℕ) (was p : PayloadView) : Type 0 where
+pub record IsThinMoved (before after : HeapView) (addr size align : ℕ) (was p : PayloadView) : Type 0 where
   -- it is of this heap
   pub identity : p.identity ≡ before.identity
   -- it has the requested alignment

@@ -55,7 +55,7 @@ pub record IsRefusedThere (before after : HeapView) (sllen addr : ℕ) (was p : 
   pub touches : after.memory.touches ≤ before.memory.touches + 7
 
 -- where the bytes of a payload suffice, or those with the free block behind it, this is so
-pub record HasRoom (s : State) (addr size len : ℕ) (is : Type 0) : Type 0 where
+pub record IfBytesSuffice (s : State) (addr size len : ℕ) (is : Type 0) : Type 0 where
   -- its own bytes suffice
   pub enough : size ≤ len → is
   -- those with the free block behind it suffice
@@ -92,7 +92,7 @@ pub record HasRoomAny (sllen : ℕ) (s : State) (addr size align len : ℕ) (r :
   -- within bounds, it isn't refused
   pub fits : WithinBounds sllen s size align (IsOk r)
   -- where there is room, the payload stays
-  pub there : HasRoom s addr size len (MatchResult r (λ p. p.of.start ≡ addr) (λ p. ⊥))
+  pub there : IfBytesSuffice s addr size len (MatchResult r (λ p. p.of.start ≡ addr) (λ p. ⊥))
 
 -- such a call keeps bounds that include both alignments, and the number of payloads
 pub record KeepsSizedAny (sllen : ℕ) (before after : State) (size from to : ℕ) : Type 0 where

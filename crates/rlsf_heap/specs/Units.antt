@@ -9,12 +9,12 @@ use Rattle.rlsf_heap.specs.Heap.{HeapView, Identity}
 use Rattle.rlsf_heap.specs.Kept.{KeepsBytesBeside}
 
 -- which heap a payload is of
-abbrev pub heap_of : UnitPayload → Identity
-heap_of p = record { home = p.home; ledger = p.name }
+abbrev pub identity_of : UnitPayload → Identity
+identity_of p = record { home = p.home; ledger = p.name }
 
 -- a payload is of a heap, and complete: none of its bytes stay with their owner
 abbrev pub IsCompleteOf : UnitPayload → Identity → Type 0
-IsCompleteOf p heap = (heap_of p ≡ heap) × (p.kept ≡ 0)
+IsCompleteOf p heap = (identity_of p ≡ heap) × (p.kept ≡ 0)
 
 -- the address of a payload that has another size, or none if it kept its own
 abbrev pub stayed_at : Result UnitPayload UnitPayload → Option ℕ
@@ -52,7 +52,7 @@ pub record IsUnitAllocated (before after : HeapView) (size : ℕ) (p : UnitPaylo
 -- a payload of units has a length, where it was
 pub record IsInPlace (heap : Identity) (was : UnitPayload) (len : ℕ) (p : UnitPayload) : Type 0 where
   -- it is of this heap
-  pub identity : heap_of p ≡ heap
+  pub identity : identity_of p ≡ heap
   -- it is where it was
   pub start : p.start ≡ was.start
   -- and so is its pointer

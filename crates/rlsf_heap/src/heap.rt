@@ -62,13 +62,13 @@ pub struct Heap<
 
 impl<FLBitmap: BitPattern, SLBitmap: BitPattern, const FLLEN: usize, const SLLEN: usize> Model
     for Heap<FLBitmap, SLBitmap, FLLEN, SLLEN> {
-    ghost use Rattle.rlsf_heap.specs.Heap.{HeapView, heap_view, IsHeap};
+    ghost use Rattle.rlsf_heap.specs.Heap.{HeapView, heap_view, IsHeapOf};
 
     ghost Value = { HeapView };
 
     ghost view = { λ h. heap_view h.memory h.table h.state.state h.ledger.name h.lent };
 
-    ghost invariant = { λ h. IsHeap FLBitmap.width SLBitmap.width FLLEN SLLEN h.memory h.table h.state.state h.ledger.entries h.live h.lent };
+    ghost invariant = { λ h. IsHeapOf FLBitmap.width SLBitmap.width FLLEN SLLEN h.memory h.table h.state.state h.ledger.entries h.live h.lent };
 }
 
 impl<FLBitmap: BitPattern, SLBitmap: BitPattern, const FLLEN: usize, const SLLEN: usize> Heap<

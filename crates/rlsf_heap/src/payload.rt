@@ -1,7 +1,7 @@
 //! Payloads that left the memory of a heap.
 ghost use Rattle.std.specs.Prelude.{◌≡◌, ◌≢◌, ◌-◌, ◌≤◌, ◌++◌, ℕ, List, length, replicate, take};
 ghost use Rattle.std.specs.Borrow.{sem};
-ghost use Rattle.rlsf_base.specs.Changes.{IsIn};
+ghost use Rattle.rlsf_base.specs.Changes.{AreBytesHere};
 ghost use Rattle.rlsf_heap.specs.Heap.{IsWritten};
 ghost use Rattle.rlsf_heap.specs.Lends.{IsRewritten};
 
@@ -148,7 +148,7 @@ impl Payload {
     /// Takes time proportional to the number of written bytes. No word access is counted.
     pub fn fill_from(&mut self, from: usize, value: u8)
         requires place { from ≤ length self.old.bytes }
-        requires kept { IsIn self.old.out 0 from }
+        requires kept { AreBytesHere self.old.out 0 from }
         ensures bytes { self.new.bytes ≡ take from self.old.bytes ++ replicate (length self.old.bytes - from) value }
         ensures written { IsWritten self.new }
         ensures identity { self.new.identity ≡ self.old.identity }

@@ -11,7 +11,7 @@ ghost use Rattle.rlsf_heap.specs.Frame.{KeepsAllBounds, KeepsFrame, KeepsSized};
 ghost use Rattle.rlsf_heap.specs.Heap.{IsTicketOf, payload_view};
 ghost use Rattle.rlsf_heap.specs.Reallocation.{owned_by};
 ghost use Rattle.rlsf_heap.specs.Replies.{IsRefused};
-ghost use Rattle.rlsf_heap.specs.ThinUnknownAlign.{HasRoom, IsResizedThere, renewed_entries};
+ghost use Rattle.rlsf_heap.specs.ThinUnknownAlign.{IfBytesSuffice, IsResizedThere, renewed_entries};
 
 use crate::heap::Heap;
 use rlsf_base::memory::ledger::{Ledger, Ticket};
@@ -78,7 +78,7 @@ impl<FLBitmap: BitPattern, SLBitmap: BitPattern, const FLLEN: usize, const SLLEN
             (payload_view result.1 result.2.align result.2.name) }
         ensures kept { result.0 ≡ false → KeepsAllBounds SLLEN self.old.state self.new.state × (self.new.memory.touches ≤ self.old.memory.touches + (found_cost align + 2)) }
         ensures live { align_at self.old.state part.start ≡ Some ticket.align }
-        ensures room { HasRoom self.old.state part.start layout.size (length part.bytes) (result.0 ≡ true) }
+        ensures room { IfBytesSuffice self.old.state part.start layout.size (length part.bytes) (result.0 ≡ true) }
         ensures place { (result.1.start ≡ part.start) × (result.2.align ≡ ticket.align) }
         ensures ticket { IsTicketOf result.1 result.2.align (extent result.2.addr result.2.len result.2.align) }
         ensures bounds { KeepsSized SLLEN self.old.state self.new.state layout.size ticket.align }

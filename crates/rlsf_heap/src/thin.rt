@@ -4,7 +4,7 @@ ghost use Rattle.std.specs.Prelude.{◌≡◌, ◌≢◌, ℕ, List, length};
 ghost use Rattle.std.specs.Borrow.{sem};
 ghost use Rattle.rlsf_base.specs.Ledger.{extent, IsIssued};
 ghost use Rattle.rlsf_heap.specs.Heap.{Identity, IsTicketOf, IsWritten, PayloadView, payload_view};
-ghost use Rattle.rlsf_heap.specs.Raw.{bytes_of, IsWhole};
+ghost use Rattle.rlsf_heap.specs.Raw.{bytes_of, CanComeBack};
 ghost use Rattle.rlsf_heap.specs.Thin.{owns_bytes, owns_reply, written_payload};
 ghost use Rattle.rlsf_heap.specs.ThinInPlace.{LendsBytes};
 
@@ -56,7 +56,7 @@ impl ThinPayload {
     // Consumes the payload and returns its bytes and its ticket.
     pub(crate) unsafe fn into_parts(self) -> (ThinBytes, Ticket)
         requires { self.of.start ≢ 0 }
-        ensures bytes { (result.0.piece ≡ bytes_of self.of) × IsWhole self.of }
+        ensures bytes { (result.0.piece ≡ bytes_of self.of) × CanComeBack self.of }
         ensures ticket { (result.1.name ≡ self.of.identity.ledger) × (result.1.addr ≡ self.of.start) × (result.1.len ≡ length self.of.bytes) × (result.1.align ≡ self.of.align) }
     {
         let ThinPayload { addr: _ } = self;

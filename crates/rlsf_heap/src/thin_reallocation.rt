@@ -7,7 +7,7 @@ ghost use Rattle.rlsf_heap.specs.Heap.{IsWritten};
 ghost use Rattle.rlsf_heap.specs.Reallocation.{owned_by};
 ghost use Rattle.rlsf_heap.specs.Replies.{IsRefused, IsResizedInPlace, IsResizedOrMoved, WithinBounds};
 ghost use Rattle.rlsf_heap.specs.Settled.{IsSettled};
-ghost use Rattle.rlsf_heap.specs.ThinReplies.{IsLeft, IsMoved, IsThin, MovesElsewhere, thin_moved_to};
+ghost use Rattle.rlsf_heap.specs.ThinReplies.{IsLeft, IsThinMoved, IsThin, MovesElsewhere, thin_moved_to};
 ghost use Rattle.rlsf_heap.specs.Frame.{KeepsFrame, KeepsFrameMoving, KeepsSized};
 
 use crate::heap::Heap;
@@ -130,7 +130,7 @@ impl<FLBitmap: BitPattern, SLBitmap: BitPattern, const FLLEN: usize, const SLLEN
         requires written { IsWritten payload.of }
         requires settled { IsSettled self.old.memory }
         ensures step { Steps FLLEN SLLEN self.new (MovesElsewhere SLLEN self.old.state addr layout.size layout.align (thin_moved_to result)) }
-        ensures result { IfOk result (λ p. IsThin (λ of. IsMoved self.old self.new addr layout.size layout.align payload.of of) p) }
+        ensures result { IfOk result (λ p. IsThin (λ of. IsThinMoved self.old self.new addr layout.size layout.align payload.of of) p) }
         ensures room { WithinBounds SLLEN self.old.state layout.size layout.align (IsOk result) }
         ensures bounds { KeepsSized SLLEN self.old.state self.new.state layout.size layout.align }
         ensures refused { IfErr result (λ p. IsThin (λ of. IsLeft self.old self.new payload.of of) p) }

@@ -5,7 +5,7 @@ ghost use Rattle.rlsf_heap.specs.Heap.{IsWritten};
 ghost use Rattle.rlsf_heap.specs.Reallocation.{owned_by};
 ghost use Rattle.rlsf_heap.specs.Settled.{IsSettled};
 ghost use Rattle.rlsf_heap.specs.ThinReplies.{IsThin, thin_moved_to};
-ghost use Rattle.rlsf_heap.specs.ThinUnknownAlign.{HasRoom, HasRoomAny, IsRefusedAny, IsRefusedThere, IsResizedAny, IsResizedThere, KeepsSizedAny, StaysOrMoves};
+ghost use Rattle.rlsf_heap.specs.ThinUnknownAlign.{IfBytesSuffice, HasRoomAny, IsRefusedAny, IsRefusedThere, IsResizedAny, IsResizedThere, KeepsSizedAny, StaysOrMoves};
 ghost use Rattle.rlsf_heap.specs.Frame.{KeepsFrame, KeepsSized};
 
 use crate::heap::Heap;
@@ -42,7 +42,7 @@ impl<FLBitmap: BitPattern, SLBitmap: BitPattern, const FLLEN: usize, const SLLEN
         requires written { IsWritten payload.of }
         ensures step { Steps FLLEN SLLEN self.new (ReallocatesWithoutMove (owned_by self.old.state payload.of) addr layout.size (thin_moved_to result)) }
         ensures result { IfOk result (λ p. IsThin (λ of. IsResizedThere self.old self.new addr layout.size payload.of of) p) }
-        ensures room { HasRoom self.old.state addr layout.size (length payload.of.bytes) (IsOk result) }
+        ensures room { IfBytesSuffice self.old.state addr layout.size (length payload.of.bytes) (IsOk result) }
         ensures bounds { KeepsSized SLLEN self.old.state self.new.state layout.size payload.of.align }
         ensures refused { IfErr result (λ p. IsThin (λ of. IsRefusedThere self.old self.new SLLEN addr payload.of of) p) }
         ensures frame { KeepsFrame self.old self.new }

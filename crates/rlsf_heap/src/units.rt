@@ -4,7 +4,7 @@ ghost use Rattle.rlsf_base.specs.Range.{range_at};
 ghost use Rattle.rlsf_model.specs.Allocate.{Allocates};
 ghost use Rattle.rlsf_model.specs.NoMove.{ReallocatesWithoutMove};
 ghost use Rattle.rlsf_model.specs.Release.{Deallocates};
-ghost use Rattle.rlsf_heap.specs.Units.{GivesUnits, IsCompleteOf, IsUnitAllocated, IsUnitRefused, IsUnitResized, heap_of, payload_len, stayed_at, unit_addr_of};
+ghost use Rattle.rlsf_heap.specs.Units.{GivesUnits, IsCompleteOf, IsUnitAllocated, IsUnitRefused, IsUnitResized, identity_of, payload_len, stayed_at, unit_addr_of};
 ghost use Rattle.rlsf_heap.specs.Frame.{KeepsAllBounds, KeepsBounds, KeepsFrame, KeepsFrameBeside, KeepsSized};
 ghost use Rattle.rlsf_heap.specs.Replies.{IsGone, IsUnchanged, WithinBounds};
 
@@ -132,7 +132,7 @@ impl<FLBitmap: BitPattern, SLBitmap: BitPattern, const FLLEN: usize, const SLLEN
         len: usize,
         size: usize,
     ) -> Result<UnitPayload, UnitPayload>
-        requires heap { heap_of payload ≡ self.old.identity }
+        requires heap { identity_of payload ≡ self.old.identity }
         requires len { len ≡ payload.len }
         requires size { size ≤ 2 ^ 63 - 16 }
         requires kept { payload.kept ≡ min payload.len (payload_len size) }

@@ -7,7 +7,7 @@ use Rattle.rlsf_base.specs.declared.memory.range.Range.{Range}
 use Rattle.rlsf_heap.specs.Heap.{HeapView}
 use Rattle.rlsf_heap.specs.Kept.{NoneBecomesRawBeside}
 use Rattle.rlsf_heap.specs.Frame.{KeepsFrameBeside}
-use Rattle.rlsf_heap.specs.Units.{IsUnitRefused, IsUnitResized, heap_of, payload_len, unit_addr_of}
+use Rattle.rlsf_heap.specs.Units.{IsUnitRefused, IsUnitResized, identity_of, payload_len, unit_addr_of}
 use Rattle.rlsf_heap.proofs.Frames.{heap_same}
 use Rattle.rlsf_local_heap.specs.Resized.{IsAtSamePlace}
 
@@ -62,7 +62,7 @@ pub frame_beside-same : (v : HeapView) (r : Range) → KeepsFrameBeside v v r
 frame_beside-same v r = record { heap = heap_same v; raw = none_raw_beside-none v r; chunks = refl; copied = refl }
 
 -- a payload of units that has another size, or not, is at the same place
-pub stays_there : (old new : HeapView) (r : Result UnitPayload UnitPayload) (was : UnitPayload) (size : ℕ) → heap_of was ≡ old.identity
+pub stays_there : (old new : HeapView) (r : Result UnitPayload UnitPayload) (was : UnitPayload) (size : ℕ) → identity_of was ≡ old.identity
     → IfOk r (IsUnitResized old new was size) → IfErr r (IsUnitRefused old new was)
     → MatchResult r (λ p. IsAtSamePlace was p (payload_len size)) (λ p. IsAtSamePlace was p was.len)
 stays_there old new (Ok p) was size heap is none = let t = is.place in (t.identity ∙ sym heap, t.start, t.ptr, t.kept, t.long)

@@ -20,7 +20,7 @@ use Rattle.core.specs.contracts.option.Option as option
 use Rattle.rlsf_base.specs.Ledger.{extent, ticket_owns}
 use Rattle.rlsf_base.specs.OpenSpace.{Home}
 use Rattle.rlsf_base.specs.Steps.Ownership.{units_ty}
-use Rattle.rlsf_base.specs.UnitPayload.{IsPlaced}
+use Rattle.rlsf_base.specs.UnitPayload.{IsUnitPointer}
 use Rattle.rlsf_base.specs.contracts.memory.unit_payload.UnitPayload as payload
 use Rattle.rlsf_base.proofs.RawBlock.PointerValues.{room-complete, spot_val, spot_own, spot_told}
 use Rattle.rlsf_heap.specs.Heap.{Identity}
@@ -42,7 +42,7 @@ whole n = omega arith
 
 -- the units of a payload for n bytes are room for a type of that size, and what the block has beside it is in its token
 pub hands_out : {M : Type 1} {𝓤 : Ura M} (𝓛 : Logic 𝓤) (r : Identity) (τ : Ty) (b o start key n a : ℕ) → capped (size τ) ≡ n → capped (align τ) ≡ a
-    → IsPlaced r.home (block_ptr b o) start (payload_len n) → n < 2 ^ 63 → a ≤ 16
+    → IsUnitPointer r.home (block_ptr b o) start (payload_len n) → n < 2 ^ 63 → a ≤ 16
     → ent 𝓤 (sep 𝓤 (sem 𝓛 (ticket_owns r.ledger key (extent start (payload_len n) 16))) (sem 𝓛 (froom (units_ty (payload_len n / 16)) b o)))
     (sep 𝓤 (𝓛.H.room τ b o) (sem 𝓛 (block_token r τ (block_ptr b o))))
 hands_out {𝓤 = 𝓤} 𝓛 r τ b o start key n a sized aligned placed small slim =
@@ -50,22 +50,22 @@ hands_out {𝓤 = 𝓤} 𝓛 r τ b o start key n a sized aligned placed small s
     let short : size τ < 2 ^ 63 = capped_small (size τ) (omega arith) in
     let same : n ≡ size τ = sym sized ∙ capped_is (size τ) (omega arith) in
     let m = payload_len (size τ) in
-    let is : IsPlaced r.home p start m = subst (λ (k : ℕ). IsPlaced r.home p start (payload_len k)) same placed in
+    let is : IsUnitPointer r.home p start m = subst (λ (k : ℕ). IsUnitPointer r.home p start (payload_len k)) same placed in
     qed 𝓛 (‵ (ticket_owns r.ledger key (extent start (payload_len n) 16)) ∷ ‵ (froom (units_ty (payload_len n / 16)) b o) ∷ []) ∵
     rewrite ! 0 (λ (k : ℕ). ‵ (ticket_owns r.ledger key (extent start (payload_len k) 16))) same refl $
     rewrite ! 1 (λ (k : ℕ). ‵ (froom (units_ty (payload_len k / 16)) b o)) same refl $ move ! (1 ∷ []) $
     use1 𝓛 (‵ (froom τ b o) ⊛ ‵ (beside_value (align_w τ) (size τ) m p)) (handed 𝓛 τ b o m (holds (size τ)) (whole (size τ))) $ split ! $ frame ! $
     move ! (1 ∷ 0 ∷ []) $ fjoin ! $
-    fpack ! (IsPlaced r.home p start m × (size τ < 2 ^ 63)) (λ _. fsep (ticket_owns r.ledger key (extent start m 16)) (beside_value (align_w τ) (size τ) m p))
+    fpack ! (IsUnitPointer r.home p start m × (size τ < 2 ^ 63)) (λ _. fsep (ticket_owns r.ledger key (extent start m 16)) (beside_value (align_w τ) (size τ) m p))
     (is, short) $
-    fpack ! ℕ (λ k. fex (IsPlaced r.home p start m × (size τ < 2 ^ 63))
+    fpack ! ℕ (λ k. fex (IsUnitPointer r.home p start m × (size τ < 2 ^ 63))
     (λ _. fsep (ticket_owns r.ledger k (extent start m 16)) (beside_value (align_w τ) (size τ) m p))) key $
-    fpack ! ℕ (λ j. fex ℕ (λ k. fex (IsPlaced r.home p j m × (size τ < 2 ^ 63))
+    fpack ! ℕ (λ j. fex ℕ (λ k. fex (IsUnitPointer r.home p j m × (size τ < 2 ^ 63))
     (λ _. fsep (ticket_owns r.ledger k (extent j m 16)) (beside_value (align_w τ) (size τ) m p)))) start $ done !
 
 module _ {M : Type 1} {𝓤 : Ura M} {𝓛 : Logic 𝓤} {K : Type 0} {Γ : List (Item 𝓤)} {G : Goal 𝓤 𝓛.H} where
   pub taken : K → (r : Identity) (n a : ℕ) (x : Taken.Denot) (v : Val) → Told r n a x
-      → ((b o start key : ℕ) → IsPlaced r.home (block_ptr b o) start (payload_len n) → payload_len n < 2 ^ 64 → n < 2 ^ 63 → a ≤ 16
+      → ((b o start key : ℕ) → IsUnitPointer r.home (block_ptr b o) start (payload_len n) → payload_len n < 2 ^ 64 → n < 2 ^ 63 → a ≤ 16
       → v ≡ live 1 (vcons (spot_val (block_ptr b o) (payload_len n)) vnil)
       → Seq K 𝓛 (‵ (ticket_owns r.ledger key (extent start (payload_len n) 16)) ∷ ‵ (froom (units_ty (payload_len n / 16)) b o) ∷ Γ) G)
       → (v ≡ live 0 vnil → Seq K 𝓛 Γ G) → Seq K 𝓛 (‵ (Taken.own_val x (v ∷ [])) ∷ Γ) G
@@ -79,7 +79,7 @@ module _ {M : Type 1} {𝓤 : Ura M} {𝓛 : Logic 𝓤} {K : Type 0} {Γ : List
       in_a_block t w.ptr (λ p. room_for (units_ty (w.len / 16)) p) (id⊢ 𝓤 (never 𝓤)) (λ b o e.
       rewrite t 0 (λ (k : ℕ). ‵ (froom (units_ty (k / 16)) b o)) told.1 refl $ move t (1 ∷ []) $
       rewrite t 0 (λ (u : ℕ × ℕ). ‵ (ticket_owns u.0 w.key (extent w.start u.1 16))) (λ i. ((told.0.0 i).ledger, told.1 i)) refl $
-      some b o w.start w.key (subst (λ (u : Home × Ptr × ℕ). IsPlaced u.0 u.1 w.start u.2) (λ i. ((told.0.0 i).home, e i, told.1 i)) w.placed)
+      some b o w.start w.key (subst (λ (u : Home × Ptr × ℕ). IsUnitPointer u.0 u.1 w.start u.2) (λ i. ((told.0.0 i).home, e i, told.1 i)) w.placed)
       (subst (λ (k : ℕ). k < 2 ^ 64) told.1 parts.1) told.2 told.3
       (ap only is ∙ ap (λ (xs : List Val). live 1 (of_list xs)) (is' ∙ ap (λ (xs : List Val). xs ++ []) parts.0)
       ∙ (λ i. live 1 (vcons (spot_val (e i) (told.1 i)) vnil)))))))))

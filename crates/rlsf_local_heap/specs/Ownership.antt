@@ -12,7 +12,7 @@ use denote.RawPtr.{Ptr, block_ptr, null_ptr}
 use denote.Sharing.{said}
 use denote.Hidden.{guarded}
 use Rattle.rlsf_base.specs.Ledger.{extent, ticket_owns}
-use Rattle.rlsf_base.specs.UnitPayload.{IsPlaced}
+use Rattle.rlsf_base.specs.UnitPayload.{IsUnitPointer}
 use Rattle.rlsf_heap.specs.Heap.{Identity}
 use Rattle.rlsf_heap.specs.Units.{payload_len}
 
@@ -46,5 +46,5 @@ block_beside τ p = beside_value (align_w τ) (size τ) (payload_len (size τ)) 
 
 -- the right to deallocate a block for a τ at p: the ticket for the payload that holds it, and what that payload has beside the τ
 abbrev pub block_token : Identity → Ty → Ptr → Fml
-block_token h τ p = fex ℕ (λ start. fex ℕ (λ key. fex (IsPlaced h.home p start (payload_len (size τ)) × (size τ < 2 ^ 63)) (λ _.
+block_token h τ p = fex ℕ (λ start. fex ℕ (λ key. fex (IsUnitPointer h.home p start (payload_len (size τ)) × (size τ < 2 ^ 63)) (λ _.
     fsep (ticket_owns h.ledger key (extent start (payload_len (size τ)) 16)) (block_beside τ p))))

@@ -3,7 +3,7 @@ ghost use Rattle.std.specs.Prelude.{◌≡◌, ℕ, ◌*◌, ◌^◌, ◌<◌, �
 ghost use Rattle.std.specs.Mem.{type_size};
 ghost use Rattle.std.specs.Allocator.{block_with_items};
 ghost use Rattle.rlsf_heap.specs.Heap.{Identity};
-ghost use Rattle.rlsf_heap.specs.Units.{IsCompleteOf, heap_of, payload_len};
+ghost use Rattle.rlsf_heap.specs.Units.{IsCompleteOf, identity_of, payload_len};
 ghost use Rattle.rlsf_local_heap.specs.Ownership.{block_beside, block_token};
 
 use rlsf_base::memory::UnitPayload;
@@ -63,7 +63,7 @@ impl<T> Buffer<T> {
     ) -> (Buffer<T>, UnitPayload)
         requires payload { (payload.len ≡ payload_len (cap * type_size T.row)) × (payload.kept ≡ 0) }
         requires sizes { (len ≡ self.len) × (len ≤ cap) × (len ≤ self.cap) × (cap * type_size T.row < 2 ^ 63) × (whole ≡ payload_len (self.cap * type_size T.row)) }
-        ensures { (result.0.heap ≡ heap_of payload) × (result.0.len ≡ len) × (result.0.cap ≡ cap) × (result.0.items ≡ self.items) × IsCompleteOf result.1 self.heap }
+        ensures { (result.0.heap ≡ identity_of payload) × (result.0.len ≡ len) × (result.0.cap ≡ cap) × (result.0.items ≡ self.items) × IsCompleteOf result.1 self.heap }
     {
         let Buffer { ptr: old, marker } = self;
         let UnitPayload { ptr, len: _ } = payload;
@@ -82,7 +82,7 @@ impl<T> Seats<T> {
     pub(crate) fn with(self, payload: UnitPayload, cap: usize) -> Buffer<T>
         requires place { (payload.ptr ≡ self.ptr) × (payload.len ≡ payload_len (cap * type_size T.row)) × (payload.kept ≡ payload_len (self.cap * type_size T.row)) }
         requires sizes { (self.len ≤ self.cap) × (self.cap ≤ cap) × (cap * type_size T.row < 2 ^ 63) }
-        ensures { (result.ptr ≡ self.ptr) × (result.heap ≡ heap_of payload) × (result.len ≡ self.len) × (result.cap ≡ cap) × (result.items ≡ self.items) }
+        ensures { (result.ptr ≡ self.ptr) × (result.heap ≡ identity_of payload) × (result.len ≡ self.len) × (result.cap ≡ cap) × (result.items ≡ self.items) }
     {
         let Seats { ptr, marker } = self;
         let UnitPayload { ptr: _, len: _ } = payload;

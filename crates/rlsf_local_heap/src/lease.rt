@@ -5,7 +5,7 @@ ghost use Rattle.rlsf_base.specs.Changes.{IsAllOwn, IsOwn};
 ghost use Rattle.rlsf_base.specs.OpenSpace.{Home, home_of, IsOwned, place_in};
 ghost use Rattle.rlsf_base.specs.RawParts.{LiesAtBlock};
 ghost use Rattle.rlsf_base.specs.Space.{range_of};
-ghost use Rattle.rlsf_base.specs.UnitPayload.{IsPlaced};
+ghost use Rattle.rlsf_base.specs.UnitPayload.{IsUnitPointer};
 ghost use Rattle.rlsf_local_heap.specs.Leases.{IsLeased};
 
 use rlsf_base::memory::{OpenMemory, RawParts, UnitPayload};
@@ -25,7 +25,7 @@ pub struct Lease {
     pub ghost name: { ℕ },
     pub ghost key: { ℕ },
     pub ghost start: { ℕ },
-    pub ghost placed: { IsPlaced home ptr start len },
+    pub ghost placed: { IsUnitPointer home ptr start len },
     pub ghost memory: { Home },
     pub ghost leased: { IsLeased memory ptr len },
 }
@@ -43,14 +43,14 @@ impl Drop for Lease {
 }
 
 impl Lease {
-    ghost use Rattle.rlsf_heap.specs.Units.{IsCompleteOf, heap_of};
+    ghost use Rattle.rlsf_heap.specs.Units.{IsCompleteOf, identity_of};
     ghost use Rattle.rlsf_local_heap.specs.Tenants.{lessor};
 
     /// Makes a memory of the units of a complete payload, in constant time, and returns it with the right to end it. Its bytes are raw.
     pub(crate) fn begin(alloc: Global, payload: UnitPayload) -> (OpenMemory, Lease)
         requires { (payload.len < 2 ^ 59) × (payload.kept ≡ 0) }
         ensures memory { (home_of result.0 ≡ result.1.memory) × (result.0.start ≡ 64) × IsAllOwn result.0.out }
-        ensures payload { (lessor result.1 ≡ heap_of payload) × (result.1.start ≡ payload.start) × (result.1.memory.len ≡ payload.len) }
+        ensures payload { (lessor result.1 ≡ identity_of payload) × (result.1.start ≡ payload.start) × (result.1.memory.len ≡ payload.len) }
     {
         let UnitPayload { ptr, len } = payload;
         let memory = unsafe { OpenMemory::from_raw_parts(alloc, ptr, START, len) };

@@ -3,10 +3,10 @@ ghost use Rattle.std.specs.Prelude.{◌≡◌, ◌↔◌, ◌+◌, ◌*◌, ◌^
 ghost use Rattle.std.specs.Mem.{type_size};
 ghost use Rattle.rlsf_base.specs.Range.{range_at};
 ghost use Rattle.rlsf_base.specs.SizeClass.{IsValid};
-ghost use Rattle.rlsf_heap.specs.Units.{GivesUnits, IsCompleteOf, heap_of, payload_len};
+ghost use Rattle.rlsf_heap.specs.Units.{GivesUnits, IsCompleteOf, identity_of, payload_len};
 ghost use Rattle.rlsf_local_heap.specs.Constants.{chunks_of_range, constants_of};
 ghost use Rattle.rlsf_local_heap.specs.Ownership.{block_token};
-ghost use Rattle.rlsf_local_heap.specs.Resized.{HasPlaces, IsAtSamePlace, StaysWith};
+ghost use Rattle.rlsf_local_heap.specs.Resized.{IsBufferResized, IsAtSamePlace, StaysWith};
 
 use crate::buffer::Buffer;
 use crate::slot::Slot;
@@ -203,7 +203,7 @@ impl<H: UnitHeap> LocalHeap<H> {
         len: usize,
         size: usize,
     ) -> Result<UnitPayload, UnitPayload>
-        requires heap { heap_of payload ≡ self.now.slot.heap }
+        requires heap { identity_of payload ≡ self.now.slot.heap }
         requires len { len ≡ payload.len }
         requires small { size < 2 ^ 63 }
         requires kept { payload.kept ≡ min payload.len (payload_len size) }
@@ -235,7 +235,7 @@ impl<H: UnitHeap> LocalHeap<H> {
     ) -> Result<Buffer<T>, Buffer<T>>
         requires buffer { (buffer.heap ≡ self.now.slot.heap) × (buffer.len ≡ len) × (buffer.cap ≡ old_cap) }
         requires sizes { (len ≤ old_cap) × (len ≤ new_cap) × (old_cap * type_size T.row < 2 ^ 63) × (new_cap * type_size T.row < 2 ^ 63) }
-        ensures { MatchResult result (λ b. HasPlaces buffer len new_cap b) (λ b. StaysWith buffer len old_cap b) }
+        ensures { MatchResult result (λ b. IsBufferResized buffer len new_cap b) (λ b. StaysWith buffer len old_cap b) }
     {
         let whole = array_len::<T>(old_cap);
         let (seats, payload) = buffer.lend(whole, old_cap.min(new_cap));
@@ -262,7 +262,7 @@ impl<H: UnitHeap> LocalHeap<H> {
     ) -> Result<Buffer<T>, Buffer<T>>
         requires buffer { (buffer.heap ≡ self.now.slot.heap) × (buffer.len ≡ len) × (whole ≡ payload_len (buffer.cap * type_size T.row)) }
         requires sizes { (len ≤ buffer.cap) × (len ≤ new_cap) × (new_cap * type_size T.row < 2 ^ 63) }
-        ensures { MatchResult result (λ b. HasPlaces buffer len new_cap b) (λ b. StaysWith buffer len buffer.cap b) }
+        ensures { MatchResult result (λ b. IsBufferResized buffer len new_cap b) (λ b. StaysWith buffer len buffer.cap b) }
     {
         // A payload has the greatest alignment of a type.
         let Some(payload) = self.take(new_cap * size_of::<T>(), UNIT) else {

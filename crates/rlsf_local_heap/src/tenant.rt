@@ -49,7 +49,7 @@ impl<FLBitmap: BitPattern, SLBitmap: BitPattern, const FLLEN: usize, const SLLEN
     ghost use Rattle.rlsf_heap.specs.Heap.{Steps};
     ghost use Rattle.rlsf_heap.specs.Frame.{KeepsFrame, KeepsFrameBeside};
     ghost use Rattle.rlsf_heap.specs.Replies.{IsGone, IsUnchanged};
-    ghost use Rattle.rlsf_heap.specs.Units.{heap_of};
+    ghost use Rattle.rlsf_heap.specs.Units.{identity_of};
     ghost use Rattle.rlsf_local_heap.specs.Constants.{chunks_of_range};
     ghost use Rattle.rlsf_local_heap.specs.Tenants.{IsLet, lessor};
 
@@ -153,7 +153,7 @@ impl<FLBitmap: BitPattern, SLBitmap: BitPattern, const FLLEN: usize, const SLLEN
         requires small { IfSome payload (λ p. (p.len < 2 ^ 59) × (p.kept ≡ 0)) }
         ensures some { IfSome payload (λ p. IsSome result) }
         ensures none { IfNone payload (IsNone result) }
-        ensures lease { IfSome payload (λ p. IfSome result (λ t. (lessor t.lease ≡ heap_of p) × (t.lease.start ≡ p.start) × (t.lease.memory.len ≡ p.len))) }
+        ensures lease { IfSome payload (λ p. IfSome result (λ t. (lessor t.lease ≡ identity_of p) × (t.lease.start ≡ p.start) × (t.lease.memory.len ≡ p.len))) }
         ensures pool { IfSome payload (λ p. IfSome result (λ t. t.local.slot.chunks ≡ chunks_of_range FLLEN (range_at 64 p.len))) }
     {
         let (memory, lease) = Lease::begin(alloc, payload?);

@@ -7,7 +7,7 @@ ghost use Rattle.rlsf_base.specs.Space.{range_of};
 ghost use Rattle.rlsf_model.specs.Insert.{Inserts};
 ghost use Rattle.rlsf_model.specs.State.{empty};
 ghost use Rattle.rlsf_heap.specs.Heap.{Steps};
-ghost use Rattle.rlsf_heap.specs.Units.{IsCompleteOf, heap_of, payload_len};
+ghost use Rattle.rlsf_heap.specs.Units.{IsCompleteOf, identity_of, payload_len};
 ghost use Rattle.rlsf_local_heap.specs.Constants.{chunks_of_range, constants_of};
 ghost use Rattle.rlsf_local_heap.specs.Resized.{IsAtSamePlace};
 
@@ -39,7 +39,7 @@ pub trait UnitHeap: Identified + Drop {
         len: usize,
         size: usize,
     ) -> Result<UnitPayload, UnitPayload>
-        requires heap { heap_of payload ≡ (Self.constants self.old).heap }
+        requires heap { identity_of payload ≡ (Self.constants self.old).heap }
         requires len { len ≡ payload.len }
         requires size { size ≤ 2 ^ 63 - 16 }
         requires kept { payload.kept ≡ min payload.len (payload_len size) }

@@ -50,7 +50,7 @@ use Rattle.rlsf_heap.proofs.thin.ThinPayload.from_raw.Met.{met as from_raw_met}
 use Rattle.rlsf_heap.proofs.thin.ThinPayload.into_raw.Symbol as into_raw
 use Rattle.rlsf_heap.proofs.thin.ThinPayload.into_raw.Met.{met as into_raw_met}
 use Rattle.rlsf_malloc.specs.Blocks.{AreTotals, IsAny, IsCheckOf, IsListing}
-use Rattle.rlsf_malloc.specs.Calls.{Allocates, AllocatesZeroed, IsFresh, IsOver, IsReady, OwnsLent, aligned_for}
+use Rattle.rlsf_malloc.specs.Calls.{AllocatesPayload, AllocatesZeroed, IsFreshHeap, IsOver, IsReady, OwnsLent, aligned_for}
 use Rattle.rlsf_malloc.specs.contracts.replies.Reply as reply
 use Rattle.rlsf_malloc.proofs.replies.Reply.TheLaws as reply_laws
 use Rattle.rlsf_malloc.proofs.replies.Reply.into_raw.Symbol as reply_into_raw
@@ -149,8 +149,8 @@ module _ (K : Kind) {M : Type 1} (𝓤 : Ura M) (𝓛 : Logic 𝓤) (𝓜 : Mode
   reply_typed q v is = ((reply_laws.the_row_laws.lawful 𝓛).typed q _ is).0
 
   pub begins : Wired 𝓡.env from_raw_parts.code → Wired 𝓡.env over.code → (key : Callee)
-      → Proved Begins.exported (Begins.outer K IsOver IsFresh 𝓛) key (Begins.function (lone (row K).mir) (lone memory.mir) (over.name args))
-  begins has_from_raw_parts has_over key code = Begins.exports K IsOver IsFresh fresh 𝓤 𝓛 𝓜 𝓡 key (over.name args)
+      → Proved Begins.exported (Begins.outer K IsOver IsFreshHeap 𝓛) key (Begins.function (lone (row K).mir) (lone memory.mir) (over.name args))
+  begins has_from_raw_parts has_over key code = Begins.exports K IsOver IsFreshHeap fresh 𝓤 𝓛 𝓜 𝓡 key (over.name args)
       (λ v w is. ((row_laws.lawful 𝓛).typed v _ is).0) code (from_raw_parts_met 𝓤 𝓛 𝓜 𝓡 has_from_raw_parts) (at_kind (over_met 𝓤 𝓛 𝓜 𝓡 has_over))
 
   abbrev IsEmpty : HeapView → Type 0
@@ -167,15 +167,15 @@ module _ (K : Kind) {M : Type 1} (𝓤 : Ura M) (𝓛 : Logic 𝓤) (𝓜 : Mode
       key (parts.name args) (λ v w is. ((row_laws.lawful 𝓛).typed v _ is).0) code (at_kind (parts_met 𝓤 𝓛 𝓜 𝓡 has_parts)) (release_met 𝓤 𝓛 𝓜 𝓡 has_release)
 
   pub mallocs : Wired 𝓡.env malloc.code → Wired 𝓡.env into_raw.code → (σ τ : Ty) (key : Callee)
-      → Proved Gives1.exported (Gives1.outer K (λ v n p w. Allocates K.classes v n 16 p w) 𝓛) key
+      → Proved Gives1.exported (Gives1.outer K (λ v n p w. AllocatesPayload K.classes v n 16 p w) 𝓛) key
       (Gives1.function σ τ Payload (malloc.name args) into_raw.name)
-  mallocs calls passes σ τ key code = Gives1.exports K (λ v n p w. Allocates K.classes v n 16 p w) 𝓤 𝓛 𝓜 𝓡 σ τ
+  mallocs calls passes σ τ key code = Gives1.exports K (λ v n p w. AllocatesPayload K.classes v n 16 p w) 𝓤 𝓛 𝓜 𝓡 σ τ
       key (malloc.name args) into_raw.name code (at_kind (malloc_met 𝓤 𝓛 𝓜 𝓡 calls)) (into_raw_met 𝓤 𝓛 𝓜 𝓡 passes)
 
   pub allocates : Wired 𝓡.env allocate.code → Wired 𝓡.env into_raw.code → (σ τ : Ty) (key : Callee)
-      → Proved Gives2.exported (Gives2.outer K (λ v n k p w. Allocates K.classes v n (aligned_for k) p w) 𝓛) key
+      → Proved Gives2.exported (Gives2.outer K (λ v n k p w. AllocatesPayload K.classes v n (aligned_for k) p w) 𝓛) key
       (Gives2.function σ τ Payload (allocate.name args) into_raw.name)
-  allocates calls passes σ τ key code = Gives2.exports K (λ v n k p w. Allocates K.classes v n (aligned_for k) p w) 𝓤 𝓛 𝓜 𝓡 σ τ
+  allocates calls passes σ τ key code = Gives2.exports K (λ v n k p w. AllocatesPayload K.classes v n (aligned_for k) p w) 𝓤 𝓛 𝓜 𝓡 σ τ
       key (allocate.name args) into_raw.name code (at_kind (allocate_met 𝓤 𝓛 𝓜 𝓡 calls)) (into_raw_met 𝓤 𝓛 𝓜 𝓡 passes)
 
   pub allocates_zeroed : Wired 𝓡.env allocate_zeroed.code → Wired 𝓡.env into_raw.code → (σ τ : Ty) (key : Callee)

@@ -22,7 +22,7 @@ use Rattle.rlsf_heap.specs.Frame.{KeepsBytes, KeepsFrame, KeepsHeap}
 use Rattle.rlsf_heap.specs.Replies.{IsAllocated, IsUnchanged}
 use Rattle.rlsf_heap.specs.Settled.{IsSettled}
 use Rattle.rlsf_heap.specs.Thin.{reply_of}
-use Rattle.rlsf_malloc.specs.Calls.{Adds, Allocates, Frees, IsAllOut, IsFresh, IsOver, IsReady, IsSameBeside, IsSameHeap, RemovesPool}
+use Rattle.rlsf_malloc.specs.Calls.{Adds, AllocatesPayload, Frees, IsAllOut, IsFreshHeap, IsOver, IsReady, IsSameBeside, IsSameHeap, RemovesPool}
 
 -- a step leads to the state after
 pub step_of : (fllen sllen : ℕ) (new : HeapView) (P : State → Type 0) → Steps fllen sllen new P → P new.state
@@ -48,7 +48,7 @@ same_beside r h = record { identity = h.identity; start = h.start; len = h.len; 
 
 -- a heap over addresses is fresh
 pub fresh : (p : Ptr) (start len : ℕ) (m : Space) (v : HeapView) → IsOver m v → m.start ≡ start → length m.bytes ≡ len
-    → (m.view.base.ptr ≡ p) × (place_in m.view start ≡ 0) → IsAway m (range_of m) → IsFresh p start len v
+    → (m.view.base.ptr ≡ p) × (place_in m.view start ≡ 0) → IsAway m (range_of m) → IsFreshHeap p start len v
 fresh p start len m v is its_start its_len lies away = record {
   lies = subst (λ (n : Space). (n.view.base.ptr ≡ p) × (place_in n.view start ≡ 0)) (sym is.memory) lies;
   begins = ap (λ (n : Space). n.start) is.memory ∙ its_start;
@@ -78,7 +78,7 @@ kept_heap {old = old} {new = new} kept bytes ready =
 pub allocated : (fllen sllen : ℕ) (old new : HeapView) (size align : ℕ) (p : PayloadView) → IsReady old → IsLayout size align
     → Steps fllen sllen new (machine.Allocates sllen old.state size align (reply_of p.start)) → (p.start ≢ 0 → IsWritten p)
     → (p.start ≢ 0 → IsAllocated old new size align p) → KeepsFrame old new → (p.start ≡ 0 → IsUnchanged old new)
-    → Allocates sllen old size align p new
+    → AllocatesPayload sllen old size align p new
 allocated fllen sllen old new size align p ready layout step written made frame refused = record {
   no_layout = λ never. absurd (never layout);
   step = λ l. step_of fllen sllen new (machine.Allocates sllen old.state size align (reply_of p.start)) step;

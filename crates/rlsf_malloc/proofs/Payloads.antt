@@ -7,8 +7,8 @@ use Rattle.rlsf_base.specs.Piece.{Piece}
 use Rattle.rlsf_heap.specs.Loans.{owns_loan}
 use Rattle.rlsf_heap.specs.contracts.loan.Loan as loan
 use Rattle.rlsf_malloc.specs.contracts.replies.Lending as lending
-use Rattle.rlsf_malloc.specs.Calls.{AddsLent, AppendsLent, CanAppend, CanLend, CanRemove, Frees, IsAt, IsReady, IsUsable, RemovesLent, aligned_for}
-use Rattle.rlsf_malloc.specs.Replies.{number_of}
+use Rattle.rlsf_malloc.specs.Calls.{AddsLent, AppendsLent, CanAppend, CanLend, CanRemove, Frees, IsPayloadAt, IsReady, IsUsableSize, RemovesLent, aligned_for}
+use Rattle.rlsf_malloc.specs.Replies.{reply_number}
 use Rattle.rlsf_malloc.specs.Resizing.{ResizesAligned, ResizesAny, ResizesInPlace}
 use Rattle.rlsf_malloc.specs.contracts.replies.Reply as reply
 use Rattle.rlsf_malloc.proofs.HeapKinds.{Kind, row}
@@ -26,25 +26,25 @@ loans = record { Q = loan.the_row; D = Piece; owns = owns_loan; Makes = λ x d q
 
 -- the payload at an address, whose alignment P is true of
 abbrev IsAtSuch : (ℕ → Type 0) → HeapView → ℕ → PayloadView → Type 0
-IsAtSuch P v x d = IsAt v x d × (x ≢ 0 → P d.align)
+IsAtSuch P v x d = IsPayloadAt v x d × (x ≢ 0 → P d.align)
 
 -- a call may be made with the payload q, which has the address x
 abbrev CanResize : (ℕ → Type 0) → HeapView → ℕ → thin.the_row.Denot → Type 0
-CanResize P v x q = IsReady v × IsAt v x q.of × (q.addr ≡ x) × (x ≢ 0 → P q.of.align)
+CanResize P v x q = IsReady v × IsPayloadAt v x q.of × (q.addr ≡ x) × (x ≢ 0 → P q.of.align)
 
 pub can_resize : (P : ℕ → Type 0) (v : HeapView) (d : PayloadView) (x : ℕ) (q : thin.the_row.Denot) → IsReady v → IsAtSuch P v x d → payloads.Makes x d q → CanResize P v x q
 can_resize P v d x q ready known made =
-    (ready, subst (λ (p : PayloadView). IsAt v x p) (sym made.1) known.0, made.0, λ some. subst (λ (p : PayloadView). P p.align) (sym made.1) (known.1 some))
+    (ready, subst (λ (p : PayloadView). IsPayloadAt v x p) (sym made.1) known.0, made.0, λ some. subst (λ (p : PayloadView). P p.align) (sym made.1) (known.1 some))
 
 module _ (K : Kind) where
   abbrev pub frees : Takes (row K) payloads
   frees = record {
     S = λ v. IsReady v;
-    Fact = λ v d x. IsAt v x d;
-    Asks = λ v x q. IsReady v × IsAt v x q.of;
+    Fact = λ v d x. IsPayloadAt v x d;
+    Asks = λ v x q. IsReady v × IsPayloadAt v x q.of;
     Post = λ v x q w. Frees v x q.of w;
     Outer = λ v d x w. Frees v x d w;
-    asks = λ v d x q ready known made. (ready, subst (λ (p : PayloadView). IsAt v x p) (sym made.1) known);
+    asks = λ v d x q ready known made. (ready, subst (λ (p : PayloadView). IsPayloadAt v x p) (sym made.1) known);
     packs = λ v d x q w ready known made did. subst (λ (p : PayloadView). Frees v x p w) made.1 did;
   }
 
@@ -54,12 +54,12 @@ module _ (K : Kind) where
     Z = reply.the_row;
     num = λ z. z.number;
     gives = λ z. owns_reply z.payload.of;
-    Fact = λ v d x. IsAt v x d;
-    Asks = λ v x q. IsReady v × IsAt v x q.of;
-    Post = λ v x q z w. IsUsable v x q.of z.number z.payload.of w;
-    Outer = λ v d x r w p. IsUsable v x d r p w;
-    asks = λ v d x q ready known made. (ready, subst (λ (p : PayloadView). IsAt v x p) (sym made.1) known);
-    packs = λ v d x q z w ready known made did. (z.payload.of, subst (λ (p : PayloadView). IsUsable v x p z.number z.payload.of w) made.1 did, refl);
+    Fact = λ v d x. IsPayloadAt v x d;
+    Asks = λ v x q. IsReady v × IsPayloadAt v x q.of;
+    Post = λ v x q z w. IsUsableSize v x q.of z.number z.payload.of w;
+    Outer = λ v d x r w p. IsUsableSize v x d r p w;
+    asks = λ v d x q ready known made. (ready, subst (λ (p : PayloadView). IsPayloadAt v x p) (sym made.1) known);
+    packs = λ v d x q z w ready known made did. (z.payload.of, subst (λ (p : PayloadView). IsUsableSize v x p z.number z.payload.of w) made.1 did, refl);
   }
 
   -- a reallocation of a payload whose alignment isn't known: `Did` says what it does
@@ -67,14 +67,14 @@ module _ (K : Kind) where
   resizes Did = record {
     S = λ v. IsReady v;
     Z = reply.the_row;
-    num = λ z. number_of z;
+    num = λ z. reply_number z;
     gives = λ z. owns_reply z.payload.of;
     Fact = λ v d x n. IsAtSuch (λ align. 16 ≤ align) v x d;
     Asks = λ v x q n. CanResize (λ align. 16 ≤ align) v x q;
-    Post = λ v x q n z w. Did v x q.of n (number_of z) z.payload.of w;
+    Post = λ v x q n z w. Did v x q.of n (reply_number z) z.payload.of w;
     Outer = λ v d x n r w p. Did v x d n r p w;
     asks = λ v d x n q ready known made. can_resize (λ align. 16 ≤ align) v d x q ready known made;
-    packs = λ v d x n q z w ready known made did. (z.payload.of, subst (λ (p : PayloadView). Did v x p n (number_of z) z.payload.of w) made.1 did, refl);
+    packs = λ v d x n q z w ready known made did. (z.payload.of, subst (λ (p : PayloadView). Did v x p n (reply_number z) z.payload.of w) made.1 did, refl);
   }
 
   abbrev pub reallocates : Trades1 (row K) payloads
@@ -87,15 +87,15 @@ module _ (K : Kind) where
   reallocates_aligned = record {
     S = λ v. IsReady v;
     Z = reply.the_row;
-    num = λ z. number_of z;
+    num = λ z. reply_number z;
     gives = λ z. owns_reply z.payload.of;
     Fact = λ v d x n k. IsAtSuch (λ align. align ≡ aligned_for k) v x d;
     Asks = λ v x q n k. CanResize (λ align. align ≡ aligned_for k) v x q;
-    Post = λ v x q n k z w. ResizesAligned K.classes v x q.of n k (number_of z) z.payload.of w;
+    Post = λ v x q n k z w. ResizesAligned K.classes v x q.of n k (reply_number z) z.payload.of w;
     Outer = λ v d x n k r w p. ResizesAligned K.classes v x d n k r p w;
     asks = λ v d x n k q ready known made. can_resize (λ align. align ≡ aligned_for k) v d x q ready known made;
     packs = λ v d x n k q z w ready known made did.
-        (z.payload.of, subst (λ (p : PayloadView). ResizesAligned K.classes v x p n k (number_of z) z.payload.of w) made.1 did, refl);
+        (z.payload.of, subst (λ (p : PayloadView). ResizesAligned K.classes v x p n k (reply_number z) z.payload.of w) made.1 did, refl);
   }
 
   abbrev pub adds : Trades1 (row K) loans

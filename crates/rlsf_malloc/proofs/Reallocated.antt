@@ -11,11 +11,11 @@ use Rattle.rlsf_heap.specs.Replies.{IsReallocated, IsRefused as IsHeapRefused, L
 use Rattle.rlsf_heap.specs.Thin.{reply_of}
 use Rattle.rlsf_heap.specs.ThinUnknownAlign.{StaysOrMoves}
 use Rattle.rlsf_malloc.specs.Calls.{IsSameHeap}
-use Rattle.rlsf_malloc.specs.Resizing.{IsRefused, IsResized, Resizes, ResizesThere, ResizesWide}
+use Rattle.rlsf_malloc.specs.Resizing.{IsResizeRefused, IsPayloadResized, Resizes, ResizesThere, ResizesWide}
 use Rattle.rlsf_blocks.proofs.Reallocate.Addresses.{some_reply}
 
 -- where nothing is done, nothing changes
-pub unchanged : (v : HeapView) (p : PayloadView) → IsWritten p → IsRefused v p p v
+pub unchanged : (v : HeapView) (p : PayloadView) → IsWritten p → IsResizeRefused v p p v
 unchanged v p written = record {
   kept = record { heap = refl; start = refl; align = refl; bytes = refl; written = written };
   alike = record { chunks = refl; used = refl; free = refl };
@@ -25,7 +25,7 @@ unchanged v p written = record {
 module _ (old new : HeapView) (same : IsSameHeap old new) (p : PayloadView) (addr : ℕ) (at : p.start ≡ addr) (some : addr ≢ 0) (size : ℕ) where
   -- the payload has its new size
   pub is_resized : (align : ℕ) (q : PayloadView) → q.identity ≡ old.identity → q.align ≡ align → IsReallocated new.state p size align q → IsWritten q
-      → LeavesOthers old.state new.state addr q.start → (q.start ≢ addr → align_at new.state addr ≡ None) → IsResized old p size align q new
+      → LeavesOthers old.state new.state addr q.start → (q.start ≢ addr → align_at new.state addr ≡ None) → IsPayloadResized old p size align q new
   is_resized align q identity requested made written others gone = record {
     at = record { start = refl; heap = λ _. identity ∙ sym same.identity; written = λ _. written };
     sized = record { live = made.live; requested = requested; aligned = made.aligned; sized = made.sized; few = made.few; long = made.long };
@@ -36,7 +36,7 @@ module _ (old new : HeapView) (same : IsSameHeap old new) (p : PayloadView) (add
   }
 
   -- it is as it was
-  pub is_refused : (align : ℕ) (q : PayloadView) → p.identity ≡ old.identity → p.align ≡ align → IsHeapRefused old new addr align p q → IsRefused old p q new
+  pub is_refused : (align : ℕ) (q : PayloadView) → p.identity ≡ old.identity → p.align ≡ align → IsHeapRefused old new addr align p q → IsResizeRefused old p q new
   is_refused align q heap wide is = record {
     kept = record {
       heap = is.identity ∙ sym heap;
@@ -51,7 +51,7 @@ module _ (old new : HeapView) (same : IsSameHeap old new) (p : PayloadView) (add
 
   module _ (sllen align : ℕ) where
     pub resized : (q : PayloadView) (to : ℕ) → to ≡ q.start → q.start ≢ 0 → IsLayout size align
-        → (IsLayout size align → Reallocates sllen (owned_by old.state p) addr size (Some q.start) new.state) → IsResized old p size align q new
+        → (IsLayout size align → Reallocates sllen (owned_by old.state p) addr size (Some q.start) new.state) → IsPayloadResized old p size align q new
         → live_count new.state ≡ live_count old.state → Resizes sllen old p size align to q new
     resized q to is nonzero layout step done count = record {
       no_layout = λ never. absurd (never layout);
@@ -64,7 +64,7 @@ module _ (old new : HeapView) (same : IsSameHeap old new) (p : PayloadView) (add
       count = count;
     }
 
-    pub not_resized : (q : PayloadView) → (IsLayout size align → Reallocates sllen (owned_by old.state p) addr size None new.state) → IsRefused old p q new
+    pub not_resized : (q : PayloadView) → (IsLayout size align → Reallocates sllen (owned_by old.state p) addr size None new.state) → IsResizeRefused old p q new
         → live_count new.state ≡ live_count old.state → Resizes sllen old p size align 0 q new
     not_resized q step refused count = record {
       no_layout = λ _. refl;
@@ -77,7 +77,7 @@ module _ (old new : HeapView) (same : IsSameHeap old new) (p : PayloadView) (add
     }
 
   pub resized_there : (q : PayloadView) (to : ℕ) → to ≡ q.start → q.start ≡ addr → IsLayout size 16
-      → ReallocatesWithoutMove (owned_by old.state p) addr size (Some q.start) new.state → IsResized old p size p.align q new
+      → ReallocatesWithoutMove (owned_by old.state p) addr size (Some q.start) new.state → IsPayloadResized old p size p.align q new
       → live_count new.state ≡ live_count old.state → ResizesThere old p size to q new
   resized_there q to is there layout step done count = record {
     stays = λ _ enough. is ∙ there ∙ sym at;
@@ -93,7 +93,7 @@ module _ (old new : HeapView) (same : IsSameHeap old new) (p : PayloadView) (add
   }
 
   pub not_resized_there : (q : PayloadView) → q.start ≡ addr → ReallocatesWithoutMove (owned_by old.state p) addr size None new.state → (size ≤ length p.bytes → ⊥)
-      → IsRefused old p q new → live_count new.state ≡ live_count old.state → ResizesThere old p size 0 q new
+      → IsResizeRefused old p q new → live_count new.state ≡ live_count old.state → ResizesThere old p size 0 q new
   not_resized_there q there step short refused count = record {
     stays = λ _ enough. absurd (short enough);
     there = there ∙ sym at;
@@ -109,7 +109,7 @@ module _ (old new : HeapView) (same : IsSameHeap old new) (p : PayloadView) (add
   module _ (sllen : ℕ) where
     pub resized_wide : (q : PayloadView) (to : ℕ) → to ≡ q.start → q.start ≢ 0 → IsLayout size 16
         → StaysOrMoves sllen (owned_by old.state p) addr size 16 (Some q.start) new.state → (size ≤ length p.bytes → q.start ≡ addr)
-        → (q.start ≡ addr → q.align ≡ p.align) → (q.start ≢ addr → q.align ≡ 16) → IsResized old p size q.align q new
+        → (q.start ≡ addr → q.align ≡ p.align) → (q.start ≢ addr → q.align ≡ 16) → IsPayloadResized old p size q.align q new
         → live_count new.state ≡ live_count old.state → ResizesWide sllen old p size to q new
     resized_wide q to is nonzero layout step enough there moved done count = record {
       stays = λ _ long. is ∙ enough long ∙ sym at;
@@ -126,7 +126,7 @@ module _ (old new : HeapView) (same : IsSameHeap old new) (p : PayloadView) (add
     }
 
     pub not_resized_wide : (q : PayloadView) → StaysOrMoves sllen (owned_by old.state p) addr size 16 None new.state → (size ≤ length p.bytes → ⊥)
-        → IsRefused old p q new → live_count new.state ≡ live_count old.state → ResizesWide sllen old p size 0 q new
+        → IsResizeRefused old p q new → live_count new.state ≡ live_count old.state → ResizesWide sllen old p size 0 q new
     not_resized_wide q step short refused count = record {
       stays = λ _ long. absurd (short long);
       no_layout = λ _. refl;

@@ -7,7 +7,7 @@ use Rattle.rlsf_model.specs.Allocate as machine
 use Rattle.rlsf_model.proofs.Choices.{choice-from_none}
 use Rattle.rlsf_heap.specs.Heap.{HeapView, PayloadView, Stands}
 use Rattle.rlsf_heap.specs.Thin.{reply_of}
-use Rattle.rlsf_malloc.specs.Calls.{Allocates, IsReady}
+use Rattle.rlsf_malloc.specs.Calls.{AllocatesPayload, IsReady}
 use Rattle.rlsf_malloc.proofs.Outcomes.{itself_heap}
 
 module _ (fllen sllen : ℕ) (v : HeapView) (stands : Stands fllen sllen v) (size align : ℕ) (long : 2 ^ (5 + fllen) < size + 48) where
@@ -21,7 +21,7 @@ module _ (fllen sllen : ℕ) (v : HeapView) (stands : Stands fllen sllen v) (siz
       let whole : 2 ^ (5 + fllen) ≡ 32 * 2 ^ fllen = pow-add 2 5 fllen in
       omega (arith, round32-le (size + (align - 16) + 16), free.whole.len))
 
-  pub refused : (p : PayloadView) → p.start ≡ 0 → IsReady v → Allocates sllen v size align p v
+  pub refused : (p : PayloadView) → p.start ≡ 0 → IsReady v → AllocatesPayload sllen v size align p v
   refused p none ready = record {
     no_layout = λ never. none;
     step = λ layout. subst (λ n. machine.Allocates sllen v.state size align (reply_of n) v.state) (sym none) (no_choice, refl);

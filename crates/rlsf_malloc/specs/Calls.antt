@@ -45,7 +45,7 @@ pub record IsSameBeside (changed : Range) (before after : HeapView) : Type 0 whe
   pub ranges : (r : Range) → IsLent before r → AreApart changed r → IsLent after r
 
 -- the payload of a heap at an address: its bytes have values. At the address 0 there is none
-pub record IsAt (v : HeapView) (addr : ℕ) (p : PayloadView) : Type 0 where
+pub record IsPayloadAt (v : HeapView) (addr : ℕ) (p : PayloadView) : Type 0 where
   pub start : p.start ≡ addr
   pub heap : addr ≢ 0 → p.identity ≡ v.identity
   pub written : addr ≢ 0 → IsWritten p
@@ -69,11 +69,11 @@ pub record IsSized (size align : ℕ) (p : PayloadView) (after : HeapView) : Typ
 
 -- an allocation: the address 0 is returned exactly where there is no such layout or the model refuses it. The other payloads stay live, with
 -- their alignments
-pub record Allocates (sllen : ℕ) (before : HeapView) (size align : ℕ) (p : PayloadView) (after : HeapView) : Type 0 where
+pub record AllocatesPayload (sllen : ℕ) (before : HeapView) (size align : ℕ) (p : PayloadView) (after : HeapView) : Type 0 where
   pub no_layout : (IsLayout size align → ⊥) → p.start ≡ 0
   pub step : IsLayout size align → machine.Allocates sllen before.state size align (reply_of p.start) after.state
   pub heap : IsSameHeap before after
-  pub at : IsAt after p.start p
+  pub at : IsPayloadAt after p.start p
   pub new : p.start ≢ 0 → align_at before.state p.start ≡ None
   pub sized : p.start ≢ 0 → IsSized size align p after
   pub aligns : (a : ℕ) → a ≢ p.start → align_at after.state a ≡ align_at before.state a
@@ -83,7 +83,7 @@ pub record Allocates (sllen : ℕ) (before : HeapView) (size align : ℕ) (p : P
 
 -- an allocation of `count` times `size` bytes, which are zeros
 pub record AllocatesZeroed (sllen : ℕ) (before : HeapView) (count size : ℕ) (p : PayloadView) (after : HeapView) : Type 0 where
-  pub allocates : Allocates sllen before (count * size) 16 p after
+  pub allocates : AllocatesPayload sllen before (count * size) 16 p after
   pub zeros : p.start ≢ 0 → p.bytes ≡ replicate (length p.bytes) 0
 
 -- a payload is gone
@@ -102,7 +102,7 @@ pub record Frees (before : HeapView) (addr : ℕ) (p : PayloadView) (after : Hea
   pub nothing : addr ≡ 0 → after ≡ before
 
 -- the number of usable bytes of a payload, or 0 for the address 0. Nothing changes
-pub record IsUsable (before : HeapView) (addr : ℕ) (p : PayloadView) (len : ℕ) (q : PayloadView) (after : HeapView) : Type 0 where
+pub record IsUsableSize (before : HeapView) (addr : ℕ) (p : PayloadView) (len : ℕ) (q : PayloadView) (after : HeapView) : Type 0 where
   pub usable : addr ≢ 0 → len ≡ length p.bytes
   pub none : addr ≡ 0 → len ≡ 0
   pub payload : q ≡ p
@@ -212,7 +212,7 @@ pub record IsOver (m : Space) (v : HeapView) : Type 0 where
 
 -- a heap without a payload, over len addresses from start on, of which it owns no byte, and to which no range was added: the byte at the
 -- address start + k is to lie k behind the block
-pub record IsFresh (block : Ptr) (start len : ℕ) (v : HeapView) : Type 0 where
+pub record IsFreshHeap (block : Ptr) (start len : ℕ) (v : HeapView) : Type 0 where
   pub lies : (v.memory.view.base.ptr ≡ block) × (place_in v.memory.view start ≡ 0)
   pub begins : v.memory.start ≡ start
   pub long : length v.memory.bytes ≡ len

@@ -55,8 +55,8 @@ abbrev pub large_32_words : RattleType
 large_32_words = words_row u64 u64 (number 64) (number 32) ghosts64 ghosts64
 
 -- a value of a type lies at a pointer, and S is true of it
-abbrev pub Holds : (R : RattleType) → (R.Denot → Type 0) → Ptr → R.Denot → Fml
-Holds R S p v = fex (S v) (λ _. lies_at R full_share p v)
+abbrev pub HoldsValue : (R : RattleType) → (R.Denot → Type 0) → Ptr → R.Denot → Fml
+HoldsValue R S p v = fex (S v) (λ _. lies_at R full_share p v)
 
 -- a value of which P is true lies at a pointer
 abbrev pub HoldsSome : (R : RattleType) → Ptr → (R.Denot → Type 0) → Fml

@@ -3,5 +3,5 @@ use Rattle.std.specs.Prelude.{ℕ}
 use Rattle.rlsf_malloc.specs.declared.replies.Reply.{Reply}
 
 -- the address of a payload whose size was changed, or 0
-abbrev pub number_of : Reply → ℕ
-number_of r = r.number
+abbrev pub reply_number : Reply → ℕ
+reply_number r = r.number

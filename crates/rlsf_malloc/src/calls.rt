@@ -5,7 +5,7 @@ ghost use Rattle.rlsf_base.specs.Range.{range_at};
 ghost use Rattle.rlsf_base.specs.SizeClass.{IsValid};
 ghost use Rattle.rlsf_model.specs.Sized.{live_count};
 ghost use Rattle.rlsf_base.specs.Addr.{reply, reply_of};
-ghost use Rattle.rlsf_malloc.specs.Calls.{AddsLent, AppendsLent, CanAppend, Allocates, AllocatesZeroed, CanLend, Frees, IsAllOut, IsAt, IsOver, IsReady, IsUsable, OwnsLent, aligned_for};
+ghost use Rattle.rlsf_malloc.specs.Calls.{AddsLent, AppendsLent, CanAppend, AllocatesPayload, AllocatesZeroed, CanLend, Frees, IsAllOut, IsPayloadAt, IsOver, IsReady, IsUsableSize, OwnsLent, aligned_for};
 ghost use Rattle.rlsf_malloc.specs.Handle.{ArePartsOf};
 
 use crate::replies::{Lending, Reply};
@@ -124,7 +124,7 @@ fn allocate_for<F: BitPattern, S: BitPattern, const FLLEN: usize, const SLLEN: u
     align: usize,
 ) -> ThinPayload
     requires { IsReady heap.old }
-    ensures { (result.addr ≡ result.of.start) × Allocates SLLEN heap.old size align result.of heap.new }
+    ensures { (result.addr ≡ result.of.start) × AllocatesPayload SLLEN heap.old size align result.of heap.new }
 {
     // After this test the compiler leaves out those of the layout's size and of its row.
     if !may_fit::<FLLEN>(size) {
@@ -144,7 +144,7 @@ pub(crate) fn malloc<F: BitPattern, S: BitPattern, const FLLEN: usize, const SLL
     size: usize,
 ) -> ThinPayload
     requires { IsReady heap.old }
-    ensures { (result.addr ≡ result.of.start) × Allocates SLLEN heap.old size 16 result.of heap.new }
+    ensures { (result.addr ≡ result.of.start) × AllocatesPayload SLLEN heap.old size 16 result.of heap.new }
 {
     allocate_for(heap, size, 16)
 }
@@ -158,7 +158,7 @@ pub(crate) fn allocate_aligned<
     const SLLEN: usize,
 >(heap: &mut Heap<F, S, FLLEN, SLLEN>, size: usize, align: usize) -> ThinPayload
     requires { IsReady heap.old }
-    ensures { (result.addr ≡ result.of.start) × Allocates SLLEN heap.old size align result.of heap.new }
+    ensures { (result.addr ≡ result.of.start) × AllocatesPayload SLLEN heap.old size align result.of heap.new }
 {
     allocate_for(heap, size, align)
 }
@@ -170,7 +170,7 @@ pub(crate) fn allocate<F: BitPattern, S: BitPattern, const FLLEN: usize, const S
     align: usize,
 ) -> ThinPayload
     requires { IsReady heap.old }
-    ensures { (result.addr ≡ result.of.start) × Allocates SLLEN heap.old size (aligned_for align) result.of heap.new }
+    ensures { (result.addr ≡ result.of.start) × AllocatesPayload SLLEN heap.old size (aligned_for align) result.of heap.new }
 {
     allocate_aligned(heap, size, at_least_16(align))
 }
@@ -200,7 +200,7 @@ pub(crate) fn free<F: BitPattern, S: BitPattern, const FLLEN: usize, const SLLEN
     addr: usize,
     payload: ThinPayload,
 )
-    requires { IsReady heap.old × IsAt heap.old addr payload.of }
+    requires { IsReady heap.old × IsPayloadAt heap.old addr payload.of }
     ensures { Frees heap.old addr payload.of heap.new }
 {
     if addr != 0 {
@@ -215,8 +215,8 @@ pub(crate) fn usable<F: BitPattern, S: BitPattern, const FLLEN: usize, const SLL
     addr: usize,
     payload: ThinPayload,
 ) -> Reply
-    requires { IsReady heap.old × IsAt heap.old addr payload.of }
-    ensures { IsUsable heap.old addr payload.of result.number result.payload.of heap.new }
+    requires { IsReady heap.old × IsPayloadAt heap.old addr payload.of }
+    ensures { IsUsableSize heap.old addr payload.of result.number result.payload.of heap.new }
 {
     if addr == 0 {
         return Reply { number: 0, payload };

@@ -16,8 +16,8 @@ ghost use Rattle.rlsf_heap.specs.Words.{WordsView};
 ghost use Rattle.rlsf_blocks.specs.Consistency.Consistent.{ArePoolsLegible};
 ghost use Rattle.rlsf_heap.specs.Thin.{owns_reply};
 ghost use Rattle.rlsf_malloc.specs.Blocks.{AreTotals, IsAny, IsCheckOf, IsListing};
-ghost use Rattle.rlsf_malloc.specs.Calls.{AddsLent, Allocates, AllocatesZeroed, AppendsLent, CanAppend, CanLend, CanRemove, Frees, IsAt, IsFresh, IsReady, IsUsable, OwnsLent, RemovesLent, aligned_for};
-ghost use Rattle.rlsf_malloc.specs.Handle.{Gives, Holds, HoldsSome, Returns, handle_size, rest_of, large_32, large_32_words};
+ghost use Rattle.rlsf_malloc.specs.Calls.{AddsLent, AllocatesPayload, AllocatesZeroed, AppendsLent, CanAppend, CanLend, CanRemove, Frees, IsPayloadAt, IsFreshHeap, IsReady, IsUsableSize, OwnsLent, RemovesLent, aligned_for};
+ghost use Rattle.rlsf_malloc.specs.Handle.{Gives, HoldsValue, HoldsSome, Returns, handle_size, rest_of, large_32, large_32_words};
 ghost use Rattle.rlsf_malloc.specs.Ranges.{IsPoolSizeForBudget, IsPoolSizeOf};
 ghost use Rattle.rlsf_malloc.specs.Resizing.{ResizesAligned, ResizesAny, ResizesInPlace};
 
@@ -73,7 +73,7 @@ pub unsafe extern "C" fn rlsf_large_32_init(
     len: usize,
 )
     requires* { sem 𝓛 (room_at large_32 heap) ∗ ⌜ CanStart start len × IsInBlock block ⌝ }
-    ensures* { sem 𝓛 (HoldsSome large_32 heap (λ after. IsFresh block start len after)) }
+    ensures* { sem 𝓛 (HoldsSome large_32 heap (λ after. IsFreshHeap block start len after)) }
 {
     let memory = OpenMemory::over_addresses(alloc, block, start, len);
     std::ptr::write(heap as *mut Large32, calls::over(memory));
@@ -83,7 +83,7 @@ pub unsafe extern "C" fn rlsf_large_32_init(
 #[unsafe(no_mangle)]
 pub unsafe extern "C" fn rlsf_large_32_end(heap: *mut u8)
     ghost before: { HeapView }
-    requires* { sem 𝓛 (Holds large_32 IsReady heap before) ∗ ⌜ (live_count before.state ≡ 0) × (before.identity.home.start % 8 ≡ 0) ⌝ }
+    requires* { sem 𝓛 (HoldsValue large_32 IsReady heap before) ∗ ⌜ (live_count before.state ≡ 0) × (before.identity.home.start % 8 ≡ 0) ⌝ }
     ensures* { sem 𝓛 (room_at large_32 heap) ∗ sem 𝓛 (rest_of before.identity.home before.memory.out (OwnsLent before)) }
 {
     let parts = calls::parts(std::ptr::read(heap as *const Large32));
@@ -94,7 +94,7 @@ pub unsafe extern "C" fn rlsf_large_32_end(heap: *mut u8)
 #[unsafe(no_mangle)]
 pub unsafe extern "C" fn rlsf_large_32_add(heap: *mut u8, start: usize, len: usize) -> usize
     ghost before: { HeapView × Piece }
-    requires* { sem 𝓛 (Holds large_32 IsReady heap before.0) ∗ (sem 𝓛 (owns_loan before.1) ∗ ⌜ CanLend before.0 start len before.1 ⌝) }
+    requires* { sem 𝓛 (HoldsValue large_32 IsReady heap before.0) ∗ (sem 𝓛 (owns_loan before.1) ∗ ⌜ CanLend before.0 start len before.1 ⌝) }
     ensures* { sem 𝓛 (Returns large_32 heap (λ after back. AddsLent 64 before.0 start len result back after)) }
 {
     let loan = Loan::from_raw(start);
@@ -106,7 +106,7 @@ pub unsafe extern "C" fn rlsf_large_32_add(heap: *mut u8, start: usize, len: usi
 #[unsafe(no_mangle)]
 pub unsafe extern "C" fn rlsf_large_32_append(heap: *mut u8, start: usize, len: usize) -> usize
     ghost before: { HeapView × Piece }
-    requires* { sem 𝓛 (Holds large_32 IsReady heap before.0) ∗ (sem 𝓛 (owns_loan before.1) ∗ ⌜ CanAppend before.0 start len before.1 ⌝) }
+    requires* { sem 𝓛 (HoldsValue large_32 IsReady heap before.0) ∗ (sem 𝓛 (owns_loan before.1) ∗ ⌜ CanAppend before.0 start len before.1 ⌝) }
     ensures* { sem 𝓛 (Returns large_32 heap (λ after back. AppendsLent 64 before.0 start len result back after)) }
 {
     let loan = Loan::from_raw(start);
@@ -118,8 +118,8 @@ pub unsafe extern "C" fn rlsf_large_32_append(heap: *mut u8, start: usize, len: 
 #[unsafe(no_mangle)]
 pub unsafe extern "C" fn rlsf_large_32_malloc(heap: *mut u8, size: usize) -> usize
     ghost before: { HeapView }
-    requires* { sem 𝓛 (Holds large_32 IsReady heap before) }
-    ensures* { sem 𝓛 (Gives large_32 heap (λ after payload. (payload.start ≡ result) × Allocates 32 before size 16 payload after)) }
+    requires* { sem 𝓛 (HoldsValue large_32 IsReady heap before) }
+    ensures* { sem 𝓛 (Gives large_32 heap (λ after payload. (payload.start ≡ result) × AllocatesPayload 32 before size 16 payload after)) }
 {
     let payload = calls::malloc(&mut *(heap as *mut Large32), size);
     payload.into_raw()
@@ -129,8 +129,8 @@ pub unsafe extern "C" fn rlsf_large_32_malloc(heap: *mut u8, size: usize) -> usi
 #[unsafe(no_mangle)]
 pub unsafe extern "C" fn rlsf_large_32_allocate(heap: *mut u8, size: usize, align: usize) -> usize
     ghost before: { HeapView }
-    requires* { sem 𝓛 (Holds large_32 IsReady heap before) }
-    ensures* { sem 𝓛 (Gives large_32 heap (λ after payload. (payload.start ≡ result) × Allocates 32 before size (aligned_for align) payload after)) }
+    requires* { sem 𝓛 (HoldsValue large_32 IsReady heap before) }
+    ensures* { sem 𝓛 (Gives large_32 heap (λ after payload. (payload.start ≡ result) × AllocatesPayload 32 before size (aligned_for align) payload after)) }
 {
     let payload = calls::allocate(&mut *(heap as *mut Large32), size, align);
     payload.into_raw()
@@ -144,7 +144,7 @@ pub unsafe extern "C" fn rlsf_large_32_allocate_zeroed(
     size: usize,
 ) -> usize
     ghost before: { HeapView }
-    requires* { sem 𝓛 (Holds large_32 IsReady heap before) }
+    requires* { sem 𝓛 (HoldsValue large_32 IsReady heap before) }
     ensures* { sem 𝓛 (Gives large_32 heap (λ after payload. (payload.start ≡ result) × AllocatesZeroed 32 before count size payload after)) }
 {
     let payload = calls::allocate_zeroed(&mut *(heap as *mut Large32), count, size);
@@ -155,7 +155,7 @@ pub unsafe extern "C" fn rlsf_large_32_allocate_zeroed(
 #[unsafe(no_mangle)]
 pub unsafe extern "C" fn rlsf_large_32_free(heap: *mut u8, addr: usize)
     ghost before: { HeapView × PayloadView }
-    requires* { sem 𝓛 (Holds large_32 IsReady heap before.0) ∗ (sem 𝓛 (owns_reply before.1) ∗ ⌜ IsAt before.0 addr before.1 ⌝) }
+    requires* { sem 𝓛 (HoldsValue large_32 IsReady heap before.0) ∗ (sem 𝓛 (owns_reply before.1) ∗ ⌜ IsPayloadAt before.0 addr before.1 ⌝) }
     ensures* { sem 𝓛 (HoldsSome large_32 heap (λ after. Frees before.0 addr before.1 after)) }
 {
     let payload = ThinPayload::from_raw(addr);
@@ -166,7 +166,7 @@ pub unsafe extern "C" fn rlsf_large_32_free(heap: *mut u8, addr: usize)
 #[unsafe(no_mangle)]
 pub unsafe extern "C" fn rlsf_large_32_reallocate(heap: *mut u8, addr: usize, size: usize) -> usize
     ghost before: { HeapView × PayloadView }
-    requires* { sem 𝓛 (Holds large_32 IsReady heap before.0) ∗ (sem 𝓛 (owns_reply before.1) ∗ ⌜ IsAt before.0 addr before.1 × (addr ≢ 0 → 16 ≤ before.1.align) ⌝) }
+    requires* { sem 𝓛 (HoldsValue large_32 IsReady heap before.0) ∗ (sem 𝓛 (owns_reply before.1) ∗ ⌜ IsPayloadAt before.0 addr before.1 × (addr ≢ 0 → 16 ≤ before.1.align) ⌝) }
     ensures* { sem 𝓛 (Gives large_32 heap (λ after payload. ResizesAny 32 before.0 addr before.1 size result payload after)) }
 {
     let payload = ThinPayload::from_raw(addr);
@@ -183,7 +183,7 @@ pub unsafe extern "C" fn rlsf_large_32_reallocate_aligned(
     align: usize,
 ) -> usize
     ghost before: { HeapView × PayloadView }
-    requires* { sem 𝓛 (Holds large_32 IsReady heap before.0) ∗ (sem 𝓛 (owns_reply before.1) ∗ ⌜ IsAt before.0 addr before.1 × (addr ≢ 0 → before.1.align ≡ aligned_for align) ⌝) }
+    requires* { sem 𝓛 (HoldsValue large_32 IsReady heap before.0) ∗ (sem 𝓛 (owns_reply before.1) ∗ ⌜ IsPayloadAt before.0 addr before.1 × (addr ≢ 0 → before.1.align ≡ aligned_for align) ⌝) }
     ensures* { sem 𝓛 (Gives large_32 heap (λ after payload. ResizesAligned 32 before.0 addr before.1 size align result payload after)) }
 {
     let payload = ThinPayload::from_raw(addr);
@@ -205,7 +205,7 @@ pub unsafe extern "C" fn rlsf_large_32_reallocate_in_place(
     size: usize,
 ) -> usize
     ghost before: { HeapView × PayloadView }
-    requires* { sem 𝓛 (Holds large_32 IsReady heap before.0) ∗ (sem 𝓛 (owns_reply before.1) ∗ ⌜ IsAt before.0 addr before.1 × (addr ≢ 0 → 16 ≤ before.1.align) ⌝) }
+    requires* { sem 𝓛 (HoldsValue large_32 IsReady heap before.0) ∗ (sem 𝓛 (owns_reply before.1) ∗ ⌜ IsPayloadAt before.0 addr before.1 × (addr ≢ 0 → 16 ≤ before.1.align) ⌝) }
     ensures* { sem 𝓛 (Gives large_32 heap (λ after payload. ResizesInPlace before.0 addr before.1 size result payload after)) }
 {
     let payload = ThinPayload::from_raw(addr);
@@ -217,8 +217,8 @@ pub unsafe extern "C" fn rlsf_large_32_reallocate_in_place(
 #[unsafe(no_mangle)]
 pub unsafe extern "C" fn rlsf_large_32_usable(heap: *mut u8, addr: usize) -> usize
     ghost before: { HeapView × PayloadView }
-    requires* { sem 𝓛 (Holds large_32 IsReady heap before.0) ∗ (sem 𝓛 (owns_reply before.1) ∗ ⌜ IsAt before.0 addr before.1 ⌝) }
-    ensures* { sem 𝓛 (Gives large_32 heap (λ after payload. IsUsable before.0 addr before.1 result payload after)) }
+    requires* { sem 𝓛 (HoldsValue large_32 IsReady heap before.0) ∗ (sem 𝓛 (owns_reply before.1) ∗ ⌜ IsPayloadAt before.0 addr before.1 ⌝) }
+    ensures* { sem 𝓛 (Gives large_32 heap (λ after payload. IsUsableSize before.0 addr before.1 result payload after)) }
 {
     let payload = ThinPayload::from_raw(addr);
     let measured = calls::usable(&mut *(heap as *mut Large32), addr, payload);
@@ -229,7 +229,7 @@ pub unsafe extern "C" fn rlsf_large_32_usable(heap: *mut u8, addr: usize) -> usi
 #[unsafe(no_mangle)]
 pub unsafe extern "C" fn rlsf_large_32_stats(heap: *mut u8, start: usize, len: usize) -> Totals
     ghost before: { HeapView }
-    requires* { sem 𝓛 (Holds large_32 IsReady heap before) ∗ ⌜ IsRow before.state (walked (range_at start len)) ⌝ }
+    requires* { sem 𝓛 (HoldsValue large_32 IsReady heap before) ∗ ⌜ IsRow before.state (walked (range_at start len)) ⌝ }
     ensures* { sem 𝓛 (HoldsSome large_32 heap (λ after. AreTotals before (range_at start len) result × (after ≡ before))) }
 {
     pools::totals_in(&mut *(heap as *mut Large32), start, len)
@@ -245,7 +245,7 @@ pub unsafe extern "C" fn rlsf_large_32_list(
     into: &mut [usize],
 ) -> usize
     ghost before: { HeapView }
-    requires* { sem 𝓛 (Holds large_32 IsReady heap before) ∗ ⌜ IsRow before.state (walked (range_at start len)) ⌝ }
+    requires* { sem 𝓛 (HoldsValue large_32 IsReady heap before) ∗ ⌜ IsRow before.state (walked (range_at start len)) ⌝ }
     ensures* { sem 𝓛 (HoldsSome large_32 heap (λ after. IsListing before (range_at start len) from into.old result into.new × (after ≡ before))) }
 {
     pools::list_in(&mut *(heap as *mut Large32), start, len, from, into)
@@ -255,7 +255,7 @@ pub unsafe extern "C" fn rlsf_large_32_list(
 #[unsafe(no_mangle)]
 pub unsafe extern "C" fn rlsf_large_32_check(heap: *mut u8, pools: &[usize]) -> usize
     ghost before: { WordsView }
-    requires* { sem 𝓛 (Holds large_32_words IsAny heap before) ∗ ⌜ ArePoolsLegible 64 32 pools.now before.memory before.table ⌝ }
+    requires* { sem 𝓛 (HoldsValue large_32_words IsAny heap before) ∗ ⌜ ArePoolsLegible 64 32 pools.now before.memory before.table ⌝ }
     ensures* { sem 𝓛 (HoldsSome large_32_words heap (λ after. IsCheckOf 64 32 before pools.now result × (after ≡ before))) }
 {
     pools::check_in(&mut *(heap as *mut Large32Words), pools)
@@ -265,7 +265,7 @@ pub unsafe extern "C" fn rlsf_large_32_check(heap: *mut u8, pools: &[usize]) -> 
 #[unsafe(no_mangle)]
 pub unsafe extern "C" fn rlsf_large_32_remove(heap: *mut u8, start: usize, len: usize) -> usize
     ghost before: { HeapView × Piece }
-    requires* { sem 𝓛 (Holds large_32 IsReady heap before.0) ∗ (sem 𝓛 (owns_loan before.1) ∗ ⌜ CanRemove before.0 start len before.1 ⌝) }
+    requires* { sem 𝓛 (HoldsValue large_32 IsReady heap before.0) ∗ (sem 𝓛 (owns_loan before.1) ∗ ⌜ CanRemove before.0 start len before.1 ⌝) }
     ensures* { sem 𝓛 (Returns large_32 heap (λ after back. RemovesLent before.0 start len result back after)) }
 {
     let none = Loan::from_raw(start);

@@ -4,7 +4,7 @@ ghost use Rattle.std.specs.Borrow.{sem};
 ghost use Rattle.std.specs.Prelude.{◌≡◌};
 ghost use Rattle.rlsf_heap.specs.Loans.{owns_loan};
 ghost use Rattle.rlsf_heap.specs.Thin.{owns_reply};
-ghost use Rattle.rlsf_malloc.specs.Replies.{number_of};
+ghost use Rattle.rlsf_malloc.specs.Replies.{reply_number};
 
 use rlsf_heap::{Loan, ThinPayload};
 
@@ -19,7 +19,7 @@ pub struct Reply {
 impl Reply {
     /// Returns a payload whose size was changed, with its address.
     pub(crate) fn changed(payload: ThinPayload) -> Reply
-        ensures { (number_of result ≡ payload.addr) × (result.payload.of ≡ payload.of) }
+        ensures { (reply_number result ≡ payload.addr) × (result.payload.of ≡ payload.of) }
     {
         let (number, payload) = payload.with_addr();
         Reply { number, payload }
@@ -28,7 +28,7 @@ impl Reply {
     /// Passes the payload to the caller, and returns the number.
     pub(crate) fn into_raw(self) -> usize
         ensures* handed { sem 𝓛 (owns_reply self.payload.of) }
-        ensures number { result ≡ number_of self }
+        ensures number { result ≡ reply_number self }
     {
         let Reply { number, payload } = self;
         let _ = payload.into_raw();

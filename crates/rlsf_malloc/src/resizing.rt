@@ -2,8 +2,8 @@
 
 ghost use Rattle.std.specs.Prelude.{◌≡◌, ◌≢◌, ◌↔◌, ◌≤◌, IsTrue, Some};
 ghost use Rattle.rlsf_model.specs.Callers.{align_at};
-ghost use Rattle.rlsf_malloc.specs.Calls.{IsAt, IsLiveAligned, IsReady, aligned_for};
-ghost use Rattle.rlsf_malloc.specs.Replies.{number_of};
+ghost use Rattle.rlsf_malloc.specs.Calls.{IsPayloadAt, IsLiveAligned, IsReady, aligned_for};
+ghost use Rattle.rlsf_malloc.specs.Replies.{reply_number};
 ghost use Rattle.rlsf_malloc.specs.Resizing.{Resizes, ResizesAligned, ResizesAny, ResizesInPlace, ResizesThere, ResizesWide};
 
 use crate::calls::{allocate_aligned, at_least_16};
@@ -33,8 +33,8 @@ fn resize<F: BitPattern, S: BitPattern, const FLLEN: usize, const SLLEN: usize>(
     size: usize,
     align: usize,
 ) -> Reply
-    requires { IsReady heap.old × IsAt heap.old addr payload.of × (addr ≢ 0) × (payload.addr ≡ addr) × (payload.of.align ≡ align) }
-    ensures { Resizes SLLEN heap.old payload.of size align (number_of result) result.payload.of heap.new }
+    requires { IsReady heap.old × IsPayloadAt heap.old addr payload.of × (addr ≢ 0) × (payload.addr ≡ addr) × (payload.of.align ≡ align) }
+    ensures { Resizes SLLEN heap.old payload.of size align (reply_number result) result.payload.of heap.new }
 {
     match heap.reallocate_thin(addr, payload, size, align) {
         Ok(payload) => Reply::changed(payload),
@@ -50,8 +50,8 @@ pub(crate) fn resize_aligned<F: BitPattern, S: BitPattern, const FLLEN: usize, c
     size: usize,
     align: usize,
 ) -> Reply
-    requires { IsReady heap.old × IsAt heap.old addr payload.of × (payload.addr ≡ addr) × (addr ≢ 0 → payload.of.align ≡ aligned_for align) }
-    ensures { ResizesAligned SLLEN heap.old addr payload.of size align (number_of result) result.payload.of heap.new }
+    requires { IsReady heap.old × IsPayloadAt heap.old addr payload.of × (payload.addr ≡ addr) × (addr ≢ 0 → payload.of.align ≡ aligned_for align) }
+    ensures { ResizesAligned SLLEN heap.old addr payload.of size align (reply_number result) result.payload.of heap.new }
 {
     let align = at_least_16(align);
     if addr == 0 {
@@ -74,8 +74,8 @@ fn resize_known<F: BitPattern, S: BitPattern, const FLLEN: usize, const SLLEN: u
     size: usize,
     align: usize,
 ) -> Reply
-    requires { IsReady heap.old × IsAt heap.old addr payload.of × (addr ≢ 0) × (payload.addr ≡ addr) × (payload.of.align ≡ align) }
-    ensures { Resizes SLLEN heap.old payload.of size align (number_of result) result.payload.of heap.new }
+    requires { IsReady heap.old × IsPayloadAt heap.old addr payload.of × (addr ≢ 0) × (payload.addr ≡ addr) × (payload.of.align ≡ align) }
+    ensures { Resizes SLLEN heap.old payload.of size align (reply_number result) result.payload.of heap.new }
 {
     resize(heap, addr, payload, size, align)
 }
@@ -90,8 +90,8 @@ fn resize_wide<F: BitPattern, S: BitPattern, const FLLEN: usize, const SLLEN: us
     payload: ThinPayload,
     size: usize,
 ) -> Reply
-    requires { IsReady heap.old × IsAt heap.old addr payload.of × (addr ≢ 0) × (payload.addr ≡ addr) }
-    ensures { ResizesWide SLLEN heap.old payload.of size (number_of result) result.payload.of heap.new }
+    requires { IsReady heap.old × IsPayloadAt heap.old addr payload.of × (addr ≢ 0) × (payload.addr ≡ addr) }
+    ensures { ResizesWide SLLEN heap.old payload.of size (reply_number result) result.payload.of heap.new }
 {
     let Ok(layout) = Layout::from_size_align(size, 16) else {
         return Reply { number: 0, payload };
@@ -109,8 +109,8 @@ pub(crate) fn resize_any<F: BitPattern, S: BitPattern, const FLLEN: usize, const
     payload: ThinPayload,
     size: usize,
 ) -> Reply
-    requires { IsReady heap.old × IsAt heap.old addr payload.of × (payload.addr ≡ addr) × (addr ≢ 0 → 16 ≤ payload.of.align) }
-    ensures { ResizesAny SLLEN heap.old addr payload.of size (number_of result) result.payload.of heap.new }
+    requires { IsReady heap.old × IsPayloadAt heap.old addr payload.of × (payload.addr ≡ addr) × (addr ≢ 0 → 16 ≤ payload.of.align) }
+    ensures { ResizesAny SLLEN heap.old addr payload.of size (reply_number result) result.payload.of heap.new }
 {
     if addr == 0 {
         return Reply::changed(allocate_aligned(heap, size, 16));
@@ -131,8 +131,8 @@ fn resize_there<F: BitPattern, S: BitPattern, const FLLEN: usize, const SLLEN: u
     payload: ThinPayload,
     size: usize,
 ) -> Reply
-    requires { IsReady heap.old × IsAt heap.old addr payload.of × (addr ≢ 0) × (payload.addr ≡ addr) }
-    ensures { ResizesThere heap.old payload.of size (number_of result) result.payload.of heap.new }
+    requires { IsReady heap.old × IsPayloadAt heap.old addr payload.of × (addr ≢ 0) × (payload.addr ≡ addr) }
+    ensures { ResizesThere heap.old payload.of size (reply_number result) result.payload.of heap.new }
 {
     // Of the layout only the size counts.
     let Ok(layout) = Layout::from_size_align(size, 16) else {
@@ -151,8 +151,8 @@ pub(crate) fn resize_in_place<F: BitPattern, S: BitPattern, const FLLEN: usize, 
     payload: ThinPayload,
     size: usize,
 ) -> Reply
-    requires { IsReady heap.old × IsAt heap.old addr payload.of × (payload.addr ≡ addr) × (addr ≢ 0 → 16 ≤ payload.of.align) }
-    ensures { ResizesInPlace heap.old addr payload.of size (number_of result) result.payload.of heap.new }
+    requires { IsReady heap.old × IsPayloadAt heap.old addr payload.of × (payload.addr ≡ addr) × (addr ≢ 0 → 16 ≤ payload.of.align) }
+    ensures { ResizesInPlace heap.old addr payload.of size (reply_number result) result.payload.of heap.new }
 {
     if addr == 0 {
         return Reply { number: 0, payload };

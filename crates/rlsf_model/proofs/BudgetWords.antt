@@ -24,7 +24,7 @@ use Rattle.rlsf_model.proofs.Budgets.{AreFronts-kept, AreFronts-one, never_denie
 use Rattle.rlsf_model.proofs.Choices.{choice-some}
 use Rattle.rlsf_model.proofs.Coverage.{by_test}
 use Rattle.rlsf_model.proofs.Payloads.{block_length-request}
-use Rattle.rlsf_model.proofs.PoolLengths.{HasRoomFor-pool}
+use Rattle.rlsf_model.proofs.PoolLengths.{HasRoomForBudget-pool}
 
 pub live_bytes-empty : live_bytes empty ≡ 0
 unfolding live_bytes
@@ -93,7 +93,7 @@ unfolding IsSizedForBudget
 budget_chunk fl_bits sl_bits fllen sllen count bytes size align len chunks c valid told is_chunk long some =
     let sought = request_size size align in
     let pool = IsBudgetPool-some fllen sllen count bytes sought len valid.power_of_two (IsSize-request_size size align) told in
-    (c ∷ [], AreFronts-one c chunks is_chunk some, HasRoomFor-pool count bytes sought sllen len c pool long)
+    (c ∷ [], AreFronts-one c chunks is_chunk some, HasRoomForBudget-pool count bytes sought sllen len c pool long)
 
 -- so is a range that is inserted, from a multiple of 32 on, whatever is live elsewhere
 pub budget_pool : (fl_bits sl_bits fllen sllen count bytes size align len : ℕ) (s t : State) (r : Range) (reply : Option ℕ) → IsValid fl_bits sl_bits fllen sllen

@@ -10,7 +10,7 @@ use Rattle.rlsf_base.specs.PowerOfTwo.{IsPowerOfTwo}
 use Rattle.rlsf_base.specs.Sizes.{request_size}
 use Rattle.rlsf_base.proofs.Numbers.Roundings.{round32-mono}
 use Rattle.rlsf_model.specs.Allocate.{placed, Allocates}
-use Rattle.rlsf_model.specs.Budget.{total_len, used_bytes, AreFronts, IsFront, AreAtMost, IsModest, IsFrugal, IsRequest, RunsFrugally, RunsModestly, HasBudget, HasRoomFor, IsDenied, live_after, AsksWithin, AreWithin}
+use Rattle.rlsf_model.specs.Budget.{total_len, used_bytes, AreFronts, IsFront, AreAtMost, IsModest, IsFrugal, IsRequest, RunsFrugally, RunsModestly, HasBudget, HasRoomForBudget, IsDenied, live_after, AsksWithin, AreWithin}
 use Rattle.rlsf_model.specs.Lists.{IsIn}
 use Rattle.rlsf_model.specs.Reallocate.{Plan, plan, moved, ReallocatesBy}
 use Rattle.rlsf_model.specs.Release.{Deallocates}
@@ -49,7 +49,7 @@ used_bytes-filter p (u ∷ us) =
 
 -- where there is room for the used blocks and one more, an allocation is not refused
 pub never_denied : (live bytes most : ℕ) {fllen sllen : ℕ} {memory : Range} {s : State} → IsWellFormed fllen sllen memory s → (fronts : List Range)
-    → AreFronts s.chunks fronts → HasRoomFor live bytes most sllen fronts → length s.used ≤ live → used_bytes s.used ≤ bytes
+    → AreFronts s.chunks fronts → HasRoomForBudget live bytes most sllen fronts → length s.used ≤ live → used_bytes s.used ≤ bytes
     → (size align : ℕ) → request_size size align ≤ most → (t : State) → Allocates sllen s size align None t → ⊥
 never_denied live bytes most {fllen} {sllen} {memory} {s} w fronts are room few little size align fits t step =
     let have = have_chunks s.chunks w.disjoint fronts are.each are.disjoint in
@@ -67,8 +67,8 @@ never_denied live bytes most {fllen} {sllen} {memory} {s} w fronts are room few 
     choice-none sllen (request_size size align) s.free step.0 f (IsIn-filter (begins_in cs) f s.free i).0 reached
 
 -- a budget is room for as many blocks of the greatest length
-HasRoomFor-budget : {live most sllen : ℕ} {fronts : List Range} → HasBudget live most sllen fronts → HasRoomFor live (live * most) most sllen fronts
-HasRoomFor-budget budget = record { least = budget.least; taken = budget.taken; enough = budget.enough }
+HasRoomForBudget-budget : {live most sllen : ℕ} {fronts : List Range} → HasBudget live most sllen fronts → HasRoomForBudget live (live * most) most sllen fronts
+HasRoomForBudget-budget budget = record { least = budget.least; taken = budget.taken; enough = budget.enough }
 
 within_budget : (live most : ℕ) (us : List Used) → AreAtMost most us → length us ≤ live → used_bytes us ≤ live * most
 within_budget live most us small few =
@@ -81,7 +81,7 @@ pub not_denied : (live most : ℕ) {fllen sllen : ℕ} {memory : Range} {s : Sta
     → HasBudget live most sllen fronts → length s.used ≤ live → (size align : ℕ) → request_size size align ≤ most → (t : State)
     → Allocates sllen s size align None t → ⊥
 not_denied live most {s = s} w fronts are small budget few size align fits t step =
-    never_denied live (live * most) most w fronts are (HasRoomFor-budget budget) few (within_budget live most s.used small few) size align fits t step
+    never_denied live (live * most) most w fronts are (HasRoomForBudget-budget budget) few (within_budget live most s.used small few) size align fits t step
 
 -- ---- steps
 
@@ -159,7 +159,7 @@ module _ (most : ℕ) {fllen sllen : ℕ} {memory : Range} {s : State} (w : IsWe
 -- ---- calls for which there is room
 
 module _ (live bytes most : ℕ) {fllen sllen : ℕ} {memory : Range} {s : State} (w : IsWellFormed fllen sllen memory s) (fronts : List Range)
-    (are : AreFronts s.chunks fronts) (room : HasRoomFor live bytes most sllen fronts) where
+    (are : AreFronts s.chunks fronts) (room : HasRoomForBudget live bytes most sllen fronts) where
   step_not_denied : (t : State) (e : Event) → IsFrugal live bytes most s e → Leads fllen sllen s e t → IsDenied e → ⊥
   step_not_denied t (insert r reply) frugal step denied = absurd denied
   step_not_denied t (append r reply) frugal step denied = absurd denied
@@ -213,7 +213,7 @@ runs_frugally live most fllen sllen memory s t (e ∷ es) w small (u, may, modes
 
 pub modest_runs_are_not_denied : ModestRunsAreNotDenied
 modest_runs_are_not_denied live most fllen sllen memory s t fronts es w are small budget run =
-    frugal_runs_are_not_denied live (live * most) most fllen sllen memory s t fronts es w are (HasRoomFor-budget budget)
+    frugal_runs_are_not_denied live (live * most) most fllen sllen memory s t fronts es w are (HasRoomForBudget-budget budget)
     (runs_frugally live most fllen sllen memory s t es w small run)
 
 -- ---- how many payloads are live

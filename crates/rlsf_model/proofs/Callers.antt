@@ -4,12 +4,12 @@ use Rattle.std.proofs.lemmas.Bool.{eq-eqb, eqb-true}
 use Rattle.std.proofs.lemmas.Option.{none-some}
 use Rattle.std.specs.Option.{option_map}
 use Rattle.rlsf_base.specs.declared.memory.range.Range.{Range}
-use Rattle.rlsf_model.specs.Callers.{Payload, payload_in, payload_at, IsUnchanged, IsSet}
-use Rattle.rlsf_model.specs.Laws.{CallersSeeMap, Gives, PayloadIsInBlock}
+use Rattle.rlsf_model.specs.Callers.{Payload, payload_in, payload_at, IsSameMap, IsSet}
+use Rattle.rlsf_model.specs.Laws.{CallersSeeMap, CallReturns, PayloadIsInBlock}
 use Rattle.rlsf_model.specs.Lists.{IsIn}
 use Rattle.rlsf_model.specs.Reallocate.{Plan, plan, moved, ReallocatesBy}
-use Rattle.rlsf_model.specs.Run.{Event, insert, append, allocate, deallocate, reallocate, fill, remove, trim, Leads, MayCall, Names}
-use Rattle.rlsf_model.specs.State.{State, Used, Holds, others, with_bytes}
+use Rattle.rlsf_model.specs.Run.{Event, insert, append, allocate, deallocate, reallocate, fill, remove, trim, Leads, MayCall, CallNames}
+use Rattle.rlsf_model.specs.State.{State, Used, Holds, others, used_with_bytes}
 use Rattle.rlsf_model.specs.WellFormed.{IsWellFormed}
 use Rattle.rlsf_model.proofs.Changes.{Holds-unique, IsIn-others}
 use Rattle.rlsf_model.proofs.Coverage.{find-some, find-none}
@@ -57,22 +57,22 @@ module _ {fllen sllen : ℕ} {memory : Range} {s : State} (w : IsWellFormed flle
   after = steps_keep_well_formed fllen sllen memory s t e w may step
 
   -- what a step names neither in its call nor in its reply is as it was
-  pub payload_at-unnamed : (a : ℕ) → (Names e a → ⊥) → (Gives e a → ⊥) → payload_at t a ≡ payload_at s a
+  pub payload_at-unnamed : (a : ℕ) → (CallNames e a → ⊥) → (CallReturns e a → ⊥) → payload_at t a ≡ payload_at s a
   payload_at-unnamed a other new = go (payload_at s a) refl
     where
       go : (o : Option Payload) → payload_at s a ≡ o → payload_at t a ≡ o
       go (Some p) told =
           let (u, held, is) = payload_at-has s a p told in
-          let stays = other_payloads_stay fllen sllen s t e u step held.0 (λ names. other (subst (Names e) held.1 names)) in
+          let stays = other_payloads_stay fllen sllen s t e u step held.0 (λ names. other (subst (CallNames e) held.1 names)) in
           payload_at-held after a u (stays, held.1) ∙ ap Some is
       go None told = payload_at-none t a (λ v held.
-          let was = used_was_used fllen sllen s t e v step held.0 (λ names. other (subst (Names e) held.1 names)) (λ gives. new (subst (Gives e) held.1 gives)) in
+          let was = used_was_used fllen sllen s t e v step held.0 (λ names. other (subst (CallNames e) held.1 names)) (λ gives. new (subst (CallReturns e) held.1 gives)) in
           none-some (payload_in v) (sym told ∙ payload_at-held w a v (was, held.1)))
 
 -- what changes at one address alone
 changed : {fllen sllen : ℕ} {memory : Range} {s : State} → IsWellFormed fllen sllen memory s → (t : State) (e : Event) → MayCall memory s e → Leads fllen sllen s e t
     → (addr : ℕ) (now : Option Payload)
-    → payload_at t addr ≡ now → ((a : ℕ) → a ≢ addr → Names e a → ⊥) → ((a : ℕ) → a ≢ addr → Gives e a → ⊥)
+    → payload_at t addr ≡ now → ((a : ℕ) → a ≢ addr → CallNames e a → ⊥) → ((a : ℕ) → a ≢ addr → CallReturns e a → ⊥)
     → IsSet (payload_at s) addr now (payload_at t)
 changed {s = s} w t e may step addr now here other new = record { here = here; others = λ a apart. payload_at-unnamed w t e may step a (other a apart) (new a apart) }
 
@@ -87,7 +87,7 @@ module _ (s t : State) (u : Used) (size to : ℕ) (apart : to ≢ u.payload) whe
       ]
   left_behind sllen None step x held = released_is_not_live step.meanwhile t u.payload x.align step.released (x, held, refl)
 
-unchanged : {s t : State} → t ≡ s → IsUnchanged (payload_at s) (payload_at t)
+unchanged : {s t : State} → t ≡ s → IsSameMap (payload_at s) (payload_at t)
 unchanged same a = ap (λ x. payload_at x a) same
 
 pub callers_see_map : CallersSeeMap
@@ -138,7 +138,7 @@ callers_see_map fllen sllen memory s t (reallocate addr size (Some to)) w may st
 callers_see_map fllen sllen memory s t (fill addr bytes) w may step =
     let u = step.block in
     let wt = steps_keep_well_formed fllen sllen memory s t (fill addr bytes) w may step in
-    let v = with_bytes u bytes in (
+    let v = used_with_bytes u bytes in (
       payload_in u,
       payload_at-held w addr u step.holds,
       step.length,

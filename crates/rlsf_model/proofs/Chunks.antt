@@ -8,7 +8,7 @@ use Rattle.rlsf_base.specs.Sizes.{max_pool_size}
 use Rattle.rlsf_model.specs.Allocate.{Allocates}
 use Rattle.rlsf_model.specs.Insert.{cut, aligned_part, with_chunk, with_chunks, grown_if, extended, appended, Inserts, Appends}
 use Rattle.rlsf_model.specs.Join.{ends_at}
-use Rattle.rlsf_model.specs.Laws.{IsKept, ChunksStay, InsertedChunksLieInRange}
+use Rattle.rlsf_model.specs.Laws.{IsChunkKept, ChunksStay, InsertedChunksLieInRange}
 use Rattle.rlsf_model.specs.Lists.{IsIn, without}
 use Rattle.rlsf_model.specs.Reallocate.{Plan, plan, ReallocatesBy, Reallocates}
 use Rattle.rlsf_model.specs.Release.{Deallocates}
@@ -36,10 +36,10 @@ IsIn-with_chunks_old c [] r i = i
 IsIn-with_chunks_old c (d ∷ cs) r i = IsIn-with_chunks_old c cs (with_chunk d r) (inr i)
 
 module _ (c : Range) (s t : State) (i : IsIn c s.chunks) where
-  stays : (r : State) → IsIn c r.chunks → t ≡ r → IsKept c t
+  stays : (r : State) → IsIn c r.chunks → t ≡ r → IsChunkKept c t
   stays r j after = (c, subst (λ x. IsIn c x.chunks) (sym after) j, refl, inl refl)
 
-  grown_kept : (at n : ℕ) → 32 ≤ n → (o : Option Range) → find (ends_at at) s.chunks ≡ o → IsKept c (grown_if o n s)
+  grown_kept : (at n : ℕ) → 32 ≤ n → (o : Option Range) → find (ends_at at) s.chunks ≡ o → IsChunkKept c (grown_if o n s)
   grown_kept at n long None found = (c, i, refl, inl refl)
   grown_kept at n long (Some d) found =
       let ends : end_of d ≡ at = eqb-true (end_of d) at (find-some (ends_at at) d s.chunks found).1 in
@@ -51,19 +51,19 @@ module _ (c : Range) (s t : State) (i : IsIn c s.chunks) where
         | inr j ↦ (c, inr j, refl, inl refl)
       ]
 
-  extended_kept : (at n : ℕ) → n % 32 ≡ 0 → IsKept c (extended at n s)
+  extended_kept : (at n : ℕ) → n % 32 ≡ 0 → IsChunkKept c (extended at n s)
   extended_kept at zero whole = (c, i, refl, inl refl)
   extended_kept at (suc n) whole = grown_kept at (suc n) (omega arith) (find (ends_at at) s.chunks) refl
 
-  appended_kept : (o : Option ℕ) (r : Range) → IsKept c (appended o r s)
+  appended_kept : (o : Option ℕ) (r : Range) → IsChunkKept c (appended o r s)
   appended_kept None r = extended_kept r.start (r.len / 32 * 32) (omega arith)
   appended_kept (Some most) r = (c, IsIn-with_chunks_old c (cut (Some most) (aligned_part r)) s i, refl, inl refl)
 
-  allocate_kept : (sllen size align : ℕ) (reply : Option ℕ) → Allocates sllen s size align reply t → IsKept c t
+  allocate_kept : (sllen size align : ℕ) (reply : Option ℕ) → Allocates sllen s size align reply t → IsChunkKept c t
   allocate_kept sllen size align None step = stays s i step.1
   allocate_kept sllen size align (Some addr) step = stays _ i step.after
 
-  reallocate_kept : (sllen size : ℕ) (u : Used) (o : Option Plan) (reply : Option ℕ) → ReallocatesBy sllen s u size o reply t → IsKept c t
+  reallocate_kept : (sllen size : ℕ) (u : Used) (o : Option Plan) (reply : Option ℕ) → ReallocatesBy sllen s u size o reply t → IsChunkKept c t
   reallocate_kept sllen size u (Some p) None step = absurd step
   reallocate_kept sllen size u (Some p) (Some addr) step = stays _ i step.after
   reallocate_kept sllen size u None None step = stays s i step.1
@@ -72,7 +72,7 @@ module _ (c : Range) (s t : State) (i : IsIn c s.chunks) where
 
 pub chunks_stay : ChunksStay
 chunks_stay fllen sllen s t (insert r reply) c lasts step i = stays c s t i _ (IsIn-with_chunks_old c (cut (max_pool_size fllen) (aligned_part r)) s i) step.after
-chunks_stay fllen sllen s t (append r reply) c lasts step i = subst (IsKept c) (sym step.after) (appended_kept c s t i (max_pool_size fllen) r)
+chunks_stay fllen sllen s t (append r reply) c lasts step i = subst (IsChunkKept c) (sym step.after) (appended_kept c s t i (max_pool_size fllen) r)
 chunks_stay fllen sllen s t (allocate size align reply) c lasts step i = allocate_kept c s t i sllen size align reply step
 chunks_stay fllen sllen s t (deallocate addr) c lasts step i = stays c s t i _ i step.after
 chunks_stay fllen sllen s t (reallocate addr size reply) c lasts step i = reallocate_kept c s t i sllen size step.block (plan s step.block size) reply step.step

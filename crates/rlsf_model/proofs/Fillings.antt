@@ -3,22 +3,22 @@ use Rattle.std.proofs.Common.{◌≡◌, ◌≢◌, ◌⊎◌, ℕ, ◌+◌, con
 use Rattle.std.proofs.lemmas.Bool.{cases_eq, eq-eqb, ne_eqb}
 use Rattle.rlsf_model.specs.Lists.{IsIn}
 use Rattle.rlsf_model.specs.Run.{Fills}
-use Rattle.rlsf_model.specs.State.{State, Used, shape_of, AreAlike, Holds, with_bytes, filled_if, filled_at}
+use Rattle.rlsf_model.specs.State.{State, Used, shape_of, AreAlike, Holds, used_with_bytes, filled_if, filled_at}
 use Rattle.rlsf_model.specs.WellFormed.{covers, coverage}
 use Rattle.rlsf_model.proofs.Coverage.{by_test, IsIn-map, IsIn-map_from}
 use Rattle.rlsf_model.proofs.Tiling.{block_of}
 
 module _ (addr : ℕ) (bytes : List ℕ) where
-  pub filled_if-here : (u : Used) → u.payload ≡ addr → filled_if addr bytes u ≡ with_bytes u bytes
-  filled_if-here u at = ap (λ b. cond b (with_bytes u bytes) u) (eq-eqb u.payload addr at)
+  pub filled_if-here : (u : Used) → u.payload ≡ addr → filled_if addr bytes u ≡ used_with_bytes u bytes
+  filled_if-here u at = ap (λ b. cond b (used_with_bytes u bytes) u) (eq-eqb u.payload addr at)
 
   pub filled_if-other : (u : Used) → u.payload ≢ addr → filled_if addr bytes u ≡ u
-  filled_if-other u apart = ap (λ b. cond b (with_bytes u bytes) u) (ne_eqb u.payload addr apart)
+  filled_if-other u apart = ap (λ b. cond b (used_with_bytes u bytes) u) (ne_eqb u.payload addr apart)
 
   -- ---- which blocks there are
 
   -- the block at the address has the bytes
-  pub IsIn-filled : (u : Used) (used : List Used) → IsIn u used → u.payload ≡ addr → IsIn (with_bytes u bytes) (filled_at addr bytes used)
+  pub IsIn-filled : (u : Used) (used : List Used) → IsIn u used → u.payload ≡ addr → IsIn (used_with_bytes u bytes) (filled_at addr bytes used)
   IsIn-filled u used i at = subst (λ v. IsIn v (filled_at addr bytes used)) (filled_if-here u at) (IsIn-map (filled_if addr bytes) u used i)
 
   -- every other block is as it was
@@ -27,7 +27,7 @@ module _ (addr : ℕ) (bytes : List ℕ) where
 
   -- and there are no more
   pub IsIn-filled_from : (v : Used) (used : List Used) → IsIn v (filled_at addr bytes used)
-      → ((u : Used) × IsIn u used × (u.payload ≡ addr) × (v ≡ with_bytes u bytes)) ⊎ (IsIn v used × (v.payload ≢ addr))
+      → ((u : Used) × IsIn u used × (u.payload ≡ addr) × (v ≡ used_with_bytes u bytes)) ⊎ (IsIn v used × (v.payload ≢ addr))
   IsIn-filled_from v used i =
       let (u, j, is) = IsIn-map_from (filled_if addr bytes) v used i in
       elim (cases_eq u.payload addr) [
@@ -53,8 +53,8 @@ module _ (addr : ℕ) (bytes : List ℕ) where
 
   shape-filled_if : (u : Used) → shape_of (filled_if addr bytes u) ≡ shape_of u
   shape-filled_if u = by_test (eqb u.payload addr)
-      (λ e. ap (λ b. shape_of (cond b (with_bytes u bytes) u)) e)
-      (λ e. ap (λ b. shape_of (cond b (with_bytes u bytes) u)) e)
+      (λ e. ap (λ b. shape_of (cond b (used_with_bytes u bytes) u)) e)
+      (λ e. ap (λ b. shape_of (cond b (used_with_bytes u bytes) u)) e)
 
   -- a block had its range, its address and its alignment before
   pub shape-filled_from : (v : Used) (used : List Used) → IsIn v (filled_at addr bytes used) → (u : Used) × IsIn u used × (shape_of v ≡ shape_of u)
@@ -79,5 +79,5 @@ module _ {s t : State} {addr : ℕ} {bytes : List ℕ} (step : Fills s addr byte
   }
 
   -- the payload that was filled has the bytes that were left, and the block and the alignment that it had
-  pub filled_holds : Holds t addr (with_bytes step.block bytes)
-  filled_holds = (subst (λ x. IsIn (with_bytes step.block bytes) x.used) (sym step.after) (IsIn-filled addr bytes step.block s.used step.holds.0 step.holds.1), step.holds.1)
+  pub filled_holds : Holds t addr (used_with_bytes step.block bytes)
+  filled_holds = (subst (λ x. IsIn (used_with_bytes step.block bytes) x.used) (sym step.after) (IsIn-filled addr bytes step.block s.used step.holds.0 step.holds.1), step.holds.1)

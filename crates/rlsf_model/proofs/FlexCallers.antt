@@ -6,7 +6,7 @@ use Rattle.std.proofs.lemmas.Bool.Decides.{eqb_tells}
 use Rattle.std.specs.Option.{option_map}
 use Rattle.rlsf_base.specs.declared.memory.range.Range.{Range}
 use Rattle.rlsf_model.specs.Allocate.{Places, placed}
-use Rattle.rlsf_model.specs.Callers.{Changes, Serves, payload_at, payload_in, IsResized}
+use Rattle.rlsf_model.specs.Callers.{Changes, ServesLayout, payload_at, payload_in, IsResizedInMap}
 use Rattle.rlsf_model.specs.FlexState.{FlexState}
 use Rattle.rlsf_model.specs.Laws.{FlexCallersSeeMap}
 use Rattle.rlsf_model.specs.Lists.{IsIn}
@@ -75,7 +75,7 @@ module _ {fllen sllen : ℕ} {memory : Range} {t : State} (whole : IsWellFormed 
       fresh : payload_at s addr ≡ None
       fresh = payload_at-none s addr (λ v (i, at). first_alone whole b v s.used is i (at ∙ step.answer))
 
-      serves : Serves size align (payload_in b)
+      serves : ServesLayout size align (payload_in b)
       serves =
           let after_start = payload_of-after step.range.start align in
           record {
@@ -92,7 +92,7 @@ module _ {fllen sllen : ℕ} {memory : Range} {t : State} (whole : IsWellFormed 
   -- a payload that moves away, seen from a well-formed state after it
   moved_changes : (s m : State) (u : Used) (addr size to : ℕ) → IsIn u s.used → u.payload ≡ addr → payload_at s addr ≡ Some (payload_in u) → m.used ≡ s.used
       → to ≢ addr → MovesAway sllen m u size to t
-      → IsResized (payload_at s) addr size to (payload_at t)
+      → IsResizedInMap (payload_at s) addr size to (payload_at t)
   moved_changes s m u addr size to held_in at was same elsewhere step = record {
     old = payload_in u;
     was = was;

@@ -19,7 +19,7 @@ use Rattle.rlsf_model.specs.Growth.{IsPossible, Outcome, behind, range_came, gro
 use Rattle.rlsf_model.specs.Insert.{Appends, Inserts, IsClear, IsFresh, IsNext}
 use Rattle.rlsf_model.specs.Laws.{GrowthHasRoom, GrowthKeepsWellFormed}
 use Rattle.rlsf_model.specs.Lists.{IsIn}
-use Rattle.rlsf_model.specs.PoolLength.{HasPool}
+use Rattle.rlsf_model.specs.PoolLength.{HasFreePool}
 use Rattle.rlsf_model.specs.Run.{Event, insert, append, Leads, MayCall}
 use Rattle.rlsf_model.specs.State.{State, between}
 use Rattle.rlsf_model.specs.Terms.{IsGiven, IsGrown, Terms, with_len}
@@ -304,7 +304,7 @@ module _ {fllen sllen : ℕ} {memory : Range} {t : Terms} {s : FlexState} (w : I
       → IsPossible (questions t s.kept (pool_size_to_contain_allocation fllen sllen size align)) outcome
       → MayAnswerAll t s.pools (notes_of (questions t s.kept (pool_size_to_contain_allocation fllen sllen size align)) outcome) → TakesIn fllen t s outcome u
       → is_more outcome ≡ true
-      → pool_size_to_contain_allocation fllen sllen size align ≡ Some e → HasPool e u.machine
+      → pool_size_to_contain_allocation fllen sllen size align ≡ Some e → HasFreePool e u.machine
   taken_has_pool fl_bits sl_bits size align e valid refused u possible answers takes more wanted = absurd (false≢true more)
   taken_has_pool fl_bits sl_bits size align e valid (range_came r) u possible answers (len, step, pools, kept) more wanted =
       let (n, asked, g) = given_answer t s.pools (questions t s.kept (pool_size_to_contain_allocation fllen sllen size align)) r possible answers in

@@ -2,7 +2,7 @@
 use Rattle.std.proofs.Common.{◌≡◌, ℕ, [], ◌∷◌, length, Some, None, arith, refl, sym, ◌∙◌, ap, subst, inl, inr}
 use Rattle.std.proofs.lemmas.Option.{same_Some}
 use Rattle.rlsf_base.specs.declared.memory.range.Range.{Range}
-use Rattle.rlsf_model.specs.Callers.{Payload, Serves, payload_at, payload_in}
+use Rattle.rlsf_model.specs.Callers.{Payload, ServesLayout, payload_at, payload_in}
 use Rattle.rlsf_model.specs.FlexState.{FlexState}
 use Rattle.rlsf_model.specs.Laws.{FlexStepsChangeMap, FlexRunsChangeMap, FlexPayloadsAreApart, FlexAllocationHasSize, FlexReallocationHasSize, FlexReallocationKeepsBytes}
 use Rattle.rlsf_model.specs.Laws.{FlexOtherPayloadsStay, FlexOthersStayInRuns, FlexUsedWasUsed, FlexUsedWasUsedInRuns, HasSize}
@@ -46,7 +46,7 @@ flex_payloads_are_apart fl_bits sl_bits fllen sllen memory t s u cs valid w run 
 
 -- the used block of a payload that serves a layout
 HasSize-serves : {fllen sllen : ℕ} {memory : Range} {m : State} → IsWellFormed fllen sllen memory m → (size align addr : ℕ) (p : Payload) → payload_at m addr ≡ Some p
-    → Serves size align p → HasSize m size addr
+    → ServesLayout size align p → HasSize m size addr
 HasSize-serves {m = m} w size align addr p told serves =
     let (v, holds, is) = payload_at-has m addr p told in
     let long : length p.bytes ≡ (usable v).len = ap (λ (q : Payload). length q.bytes) (sym is) ∙ (w.used v holds.0).bytes in

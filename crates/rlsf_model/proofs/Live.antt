@@ -12,8 +12,8 @@ use Rattle.rlsf_model.specs.Laws.{ReallocationKeepsBytes, OtherPayloadsStay, Use
 use Rattle.rlsf_model.specs.Laws.{FillLeavesOthers, DeallocationLeavesOthers}
 use Rattle.rlsf_model.specs.Lists.{IsIn}
 use Rattle.rlsf_model.specs.Reallocate.{Keeps, Plan, plan, moved, ReallocatesBy, Reallocates}
-use Rattle.rlsf_model.specs.Run.{insert, append, allocate, deallocate, reallocate, fill, remove, trim, Fills, Names}
-use Rattle.rlsf_model.specs.State.{State, Used, Holds, IsLive, usable, others, filled, with_bytes}
+use Rattle.rlsf_model.specs.Run.{insert, append, allocate, deallocate, reallocate, fill, remove, trim, Fills, CallNames}
+use Rattle.rlsf_model.specs.State.{State, Used, Holds, IsLive, usable, others, filled, used_with_bytes}
 use Rattle.rlsf_model.specs.WellFormed.{covers, coverage, itself, IsUsed, IsWellFormed}
 use Rattle.rlsf_model.proofs.Allocations.{placed-fits, IsUsed-placed}
 use Rattle.rlsf_model.proofs.Changes.{Holds-unique, IsIn-others, IsIn-others_from}
@@ -298,7 +298,7 @@ other_payloads_stay fllen sllen s t (remove r) u step i apart = stays_at u s t i
 other_payloads_stay fllen sllen s t (trim count) u step i apart = absurd step
 
 pub live_stays : LiveStays
-live_stays fllen sllen s t e addr align step (u, (i, at), is) apart = (u, (other_payloads_stay fllen sllen s t e u step i (λ names. apart (subst (Names e) at names)), at), is)
+live_stays fllen sllen s t e addr align step (u, (i, at), is) apart = (u, (other_payloads_stay fllen sllen s t e u step i (λ names. apart (subst (CallNames e) at names)), at), is)
 
 pub released_is_not_live : ReleasedIsNotLive
 released_is_not_live s t addr align step (v, (i, at), is) =
@@ -347,7 +347,7 @@ used_was_used fllen sllen s t (trim count) u step i other new = absurd step
 pub filled_has_bytes : FilledHasBytes
 filled_has_bytes fllen sllen memory s t addr align bytes w (u, held, is) step =
     let same : step.block ≡ u = Holds-unique w addr step.block u step.holds held in
-    let v = with_bytes step.block bytes in
+    let v = used_with_bytes step.block bytes in
     ((v, filled_holds step, ap (λ x. x.align) same ∙ is), (v, filled_holds step, refl))
 
 pub fill_leaves_others : FillLeavesOthers

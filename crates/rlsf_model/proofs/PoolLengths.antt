@@ -9,7 +9,7 @@ use Rattle.rlsf_base.specs.Sizes.{IsSize, payloads_length, request_size}
 use Rattle.rlsf_base.proofs.Numbers.Roundings.{round32-same}
 use Rattle.rlsf_base.proofs.SizeMaps.ChunkLengths.{IsBudgetPool, IsBudgetPool-some, IsObjectPool-some, IsPayloadPool, IsPayloadPool-some}
 use Rattle.rlsf_base.proofs.SizeMaps.Laws.{IsSize-request_size}
-use Rattle.rlsf_model.specs.Budget.{HasBudget, HasRoomFor, total_len}
+use Rattle.rlsf_model.specs.Budget.{HasBudget, HasRoomForBudget, total_len}
 use Rattle.rlsf_model.specs.Insert.{body}
 use Rattle.rlsf_model.specs.Lists.{IsIn}
 use Rattle.rlsf_model.specs.Run.{Event, insert, append, allocate, deallocate, reallocate, fill, remove, trim}
@@ -52,9 +52,9 @@ sums : (count bytes n len : ℕ) → 32 + bytes + (count + 1) * n + 32 < len + 3
 sums count bytes n len long = omega arith
 
 -- bytes that a chunk's length leaves out, since it is a multiple of 32, do no harm
-pub HasRoomFor-pool : {fllen : ℕ} (count bytes size sllen len : ℕ) (c : Range) → IsBudgetPool fllen sllen count bytes size len → len < c.len + 32
-    → HasRoomFor count bytes size sllen (c ∷ [])
-HasRoomFor-pool count bytes size sllen len c pool long =
+pub HasRoomForBudget-pool : {fllen : ℕ} (count bytes size sllen len : ℕ) (c : Range) → IsBudgetPool fllen sllen count bytes size len → len < c.len + 32
+    → HasRoomForBudget count bytes size sllen (c ∷ [])
+HasRoomForBudget-pool count bytes size sllen len c pool long =
     let all : c.len ≡ total_len (c ∷ []) = omega (arith, sum_by-cons (λ (r : Range). r.len) c []) in
     record {
       least = pool.least;
@@ -68,7 +68,7 @@ budget_pool_is_enough fl_bits sl_bits fllen sllen count bytes size align len mem
     let sought = request_size size align in
     let pool = IsBudgetPool-some fllen sllen count bytes sought len valid.power_of_two (IsSize-request_size size align) told in
     frugal_runs_are_not_denied count bytes sought fllen sllen memory s t (c ∷ []) es w (AreFronts-one c s.chunks is_chunk (omega arith))
-    (HasRoomFor-pool count bytes sought sllen len c pool (omega arith)) run
+    (HasRoomForBudget-pool count bytes sought sllen len c pool (omega arith)) run
 
 -- ---- objects of one size
 

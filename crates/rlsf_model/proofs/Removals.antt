@@ -4,7 +4,7 @@ use Rattle.std.proofs.Common.{inl, inr}
 use Rattle.std.proofs.lemmas.Bool.{cases_lt, le-leb, lt-leb}
 use Rattle.rlsf_base.specs.declared.memory.range.Range.{Range}
 use Rattle.rlsf_base.specs.Range.{end_of}
-use Rattle.rlsf_model.specs.Laws.{LeavesOthers, RemovalLeavesOthers}
+use Rattle.rlsf_model.specs.Laws.{LeavesOtherRanges, RemovalLeavesOthers}
 use Rattle.rlsf_model.specs.Lists.{IsIn}
 use Rattle.rlsf_model.specs.Remove.{lies_within, outside_of, IsRemovable, Removes}
 use Rattle.rlsf_model.specs.State.{State}
@@ -142,7 +142,7 @@ module _ {fllen sllen : ℕ} {memory : Range} {s : State} (w : IsWellFormed flle
 
 pub removal_leaves_others : RemovalLeavesOthers
 removal_leaves_others fllen sllen memory s t r w may step =
-    subst (λ (x : State). LeavesOthers r s.chunks x.chunks × LeavesOthers r s.free x.free × (x.used ≡ s.used)) (sym step) (
+    subst (λ (x : State). LeavesOtherRanges r s.chunks x.chunks × LeavesOtherRanges r s.free x.free × (x.used ≡ s.used)) (sym step) (
       record { clear = chunks_clear w r may itself (λ c a i. omega arith); left = λ x. IsIn-outside_from r x s.chunks; were = λ x i. (IsIn-outside r x s.chunks i).0 },
       record { clear = free_clear w r may; left = λ x. IsIn-outside_from r x s.free; were = λ x i. (IsIn-outside r x s.free i).0 },
       refl,

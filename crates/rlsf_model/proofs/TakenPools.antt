@@ -16,7 +16,7 @@ use Rattle.rlsf_model.specs.Allocate.{choice, Allocates}
 use Rattle.rlsf_model.specs.Insert.{aligned_part, appended, appended_bytes, body, bytes_taken, cut, end_of_last, extended, grown, grown_if, with_chunks, Appends, Inserts, IsNext}
 use Rattle.rlsf_model.specs.Join.{ends_at}
 use Rattle.rlsf_model.specs.Lists.{IsIn}
-use Rattle.rlsf_model.specs.PoolLength.{HasAlignedPart, HasPool, IsPoolSize}
+use Rattle.rlsf_model.specs.PoolLength.{HasAlignedPart, HasFreePool, IsPoolSize}
 use Rattle.rlsf_model.specs.State.{State}
 use Rattle.rlsf_model.specs.WellFormed.{IsWellFormed, IsWhole}
 use Rattle.rlsf_model.proofs.AddedChunks.{AreCutFrom, AreCutFrom-cut, IsIn-with_chunks_new}
@@ -49,7 +49,7 @@ pool_size_is fl_bits sl_bits fllen sllen e valid pool =
 
 -- a pool has room for its allocation
 pub pool_has_a_choice : (fl_bits sl_bits fllen sllen size align e : ℕ) (t : State) → IsValid fl_bits sl_bits fllen sllen
-    → pool_size_to_contain_allocation fllen sllen size align ≡ Some e → HasPool e t → choice sllen (request_size size align) t.free ≡ None → ⊥
+    → pool_size_to_contain_allocation fllen sllen size align ≡ Some e → HasFreePool e t → choice sllen (request_size size align) t.free ≡ None → ⊥
 pool_has_a_choice fl_bits sl_bits fllen sllen size align e t valid told pool none =
     let (room, e_is, class, reached) = pool_contains_its_allocation fl_bits sl_bits fllen sllen size align e valid told in
     let f = pool.range in
@@ -63,7 +63,7 @@ pool_has_a_choice fl_bits sl_bits fllen sllen size align e t valid told pool non
 
 -- so that it isn't refused
 pub pool_is_found : (fl_bits sl_bits fllen sllen size align e : ℕ) (memory : Range) (t u : State) → IsValid fl_bits sl_bits fllen sllen → IsWellFormed fllen sllen memory t
-    → pool_size_to_contain_allocation fllen sllen size align ≡ Some e → HasPool e t → Allocates sllen t size align None u → ⊥
+    → pool_size_to_contain_allocation fllen sllen size align ≡ Some e → HasFreePool e t → Allocates sllen t size align None u → ⊥
 pool_is_found fl_bits sl_bits fllen sllen size align e memory t u valid w told pool refused = pool_has_a_choice fl_bits sl_bits fllen sllen size align e t valid told pool refused.0
 
 -- ---- a range becomes chunks of its own
@@ -81,7 +81,7 @@ IsPartOf-aligned_part e r room whole has =
     record { from = omega arith; to = omega arith; nearly = omega arith; long = long }
 
 cut_pool : (e end : ℕ) (s : State) (r part : Range) (cs : List Range) → IsPartOf e r part → AreCutFrom e part end cs
-    → IsTaken s r (end - r.start) (with_chunks cs s) × HasPool e (with_chunks cs s)
+    → IsTaken s r (end - r.start) (with_chunks cs s) × HasFreePool e (with_chunks cs s)
 cut_pool e end s r part cs is are =
     let (c, c_in, c_long) = are.wide in
     let (d, d_in, d_end) = are.last in
@@ -101,7 +101,7 @@ cut_pool e end s r part cs is are =
 -- a range that is inserted is taken, and has a pool
 pub inserted_pool : (fllen sllen e : ℕ) (s t : State) (r : Range) (taken : Option ℕ) → 0 < fllen → 64 ≤ e → e % 32 ≡ 0
     → ((p : ℕ) → max_pool_size fllen ≡ Some p → e ≤ p)
-    → HasAlignedPart r e → Inserts fllen s r taken t → (n : ℕ) × (taken ≡ Some n) × IsTaken s r n t × HasPool e t
+    → HasAlignedPart r e → Inserts fllen s r taken t → (n : ℕ) × (taken ≡ Some n) × IsTaken s r n t × HasFreePool e t
 inserted_pool fllen sllen e s t r taken rows room whole short has step =
     let part = aligned_part r in
     let cs = cut (max_pool_size fllen) part in
@@ -109,7 +109,7 @@ inserted_pool fllen sllen e s t r taken rows room whole short has step =
     let is = IsPartOf-aligned_part e r room whole has in
     let are = AreCutFrom-cut fllen e part rows room short (omega arith) is.long in
     let (is_taken, pool) = cut_pool e end s r part cs is are in
-    (end - r.start, step.answer ∙ are.told r.start, subst (IsTaken s r (end - r.start)) (sym step.after) is_taken, subst (HasPool e) (sym step.after) pool)
+    (end - r.start, step.answer ∙ are.told r.start, subst (IsTaken s r (end - r.start)) (sym step.after) is_taken, subst (HasFreePool e) (sym step.after) pool)
 
 -- no chunk is cut off fewer than 64 bytes
 bytes_taken-long : (fllen start n : ℕ) (part : Range) → 0 < fllen → bytes_taken start (cut (max_pool_size fllen) part) ≡ Some n → 64 ≤ part.len
@@ -139,7 +139,7 @@ inserted_taken fllen s t r n rows step =
 
 module _ {fllen sllen : ℕ} {memory : Range} {s : State} (w : IsWellFormed fllen sllen memory s) (e m : ℕ) (r : Range) (some : 0 < m) (m32 : m % 32 ≡ 0) (long : e ≤ m)
     (within : m ≤ r.len) (nearly : r.len < m + 64) where
-  grown_pool : (c : Range) → IsIn c s.chunks → end_of c ≡ r.start → IsTaken s r m (grown c m s) × HasPool e (grown c m s)
+  grown_pool : (c : Range) → IsIn c s.chunks → end_of c ≡ r.start → IsTaken s r m (grown c m s) × HasFreePool e (grown c m s)
   grown_pool c is_chunk ends =
       let chunk = w.chunks c is_chunk in
       let room = chunk.has_room in
@@ -160,7 +160,7 @@ module _ {fllen sllen : ℕ} {memory : Range} {s : State} (w : IsWellFormed flle
 
   -- the chunk that ends there is found
   grown_if_pool : (c : Range) → IsIn c s.chunks → end_of c ≡ r.start → (o : Option Range) → find (ends_at r.start) s.chunks ≡ o
-      → IsTaken s r m (grown_if o m s) × HasPool e (grown_if o m s)
+      → IsTaken s r m (grown_if o m s) × HasFreePool e (grown_if o m s)
   grown_if_pool c is_chunk ends None none = absurd (true≢false (sym (eq-eqb (end_of c) r.start ends) ∙ find-none (ends_at r.start) c s.chunks none is_chunk))
   grown_if_pool c is_chunk ends (Some d) found =
       let (is_in, passes) = find-some (ends_at r.start) d s.chunks found in
@@ -173,18 +173,18 @@ extended-some at (suc n) s some = refl
 -- a range that is appended is taken, and has a pool
 pub appended_pool : (fllen sllen e : ℕ) (memory : Range) (s t : State) (r : Range) (n : ℕ) → IsWellFormed fllen sllen memory s → IsNext memory s r → 64 ≤ e
     → e % 32 ≡ 0
-    → ((p : ℕ) → max_pool_size fllen ≡ Some p → e ≤ p) → e ≤ r.len → Appends fllen s r n t → IsTaken s r n t × HasPool e t
+    → ((p : ℕ) → max_pool_size fllen ≡ Some p → e ≤ p) → e ≤ r.len → Appends fllen s r n t → IsTaken s r n t × HasFreePool e t
 appended_pool fllen sllen e memory s t r n w next room whole short long step =
     let chunk = w.chunks next.chunk next.is_chunk in
     let begins : r.start % 32 ≡ 0 = omega (arith, chunk.whole.start, chunk.whole.len, next.ends) in
     let by = pool_by begins (max_pool_size fllen) refl in
-    (subst (IsTaken s r n) (sym step.after) (subst (λ k. IsTaken s r k (appended (max_pool_size fllen) r s)) (sym step.answer) by.0), subst (HasPool e) (sym step.after) by.1)
+    (subst (IsTaken s r n) (sym step.after) (subst (λ k. IsTaken s r k (appended (max_pool_size fllen) r s)) (sym step.answer) by.0), subst (HasFreePool e) (sym step.after) by.1)
   where
-    pool_by : r.start % 32 ≡ 0 → (o : Option ℕ) → max_pool_size fllen ≡ o → IsTaken s r (appended_bytes o r) (appended o r s) × HasPool e (appended o r s)
+    pool_by : r.start % 32 ≡ 0 → (o : Option ℕ) → max_pool_size fllen ≡ o → IsTaken s r (appended_bytes o r) (appended o r s) × HasFreePool e (appended o r s)
     pool_by begins None is =
         let m = r.len / 32 * 32 in
         let some : 0 < m = omega arith in
-        subst (λ x. IsTaken s r m x × HasPool e x) (sym (extended-some r.start m s some))
+        subst (λ x. IsTaken s r m x × HasFreePool e x) (sym (extended-some r.start m s some))
         (grown_if_pool w e m r some (omega arith) (omega arith) (omega arith) (omega arith) next.chunk next.is_chunk next.ends (find (ends_at r.start) s.chunks) refl)
     pool_by begins (Some most) is =
         let part = aligned_part r in
@@ -192,8 +192,8 @@ appended_pool fllen sllen e memory s t r n w next room whole short long step =
         let fits = IsPartOf-aligned_part e r room whole (inr (begins, long)) in
         let are = AreCutFrom-cut fllen e part w.rows room short (omega arith) fits.long in
         let pool = cut_pool e (end_of_last part.start (cut (max_pool_size fllen) part)) s r part (cut (max_pool_size fllen) part) fits are in
-        subst (λ a. IsTaken s r (end_of_last a (cut (Some most) part) - r.start) (with_chunks (cut (Some most) part) s) × HasPool e (with_chunks (cut (Some most) part) s)) at
-        (subst (λ o. IsTaken s r (end_of_last part.start (cut o part) - r.start) (with_chunks (cut o part) s) × HasPool e (with_chunks (cut o part) s)) is pool)
+        subst (λ a. IsTaken s r (end_of_last a (cut (Some most) part) - r.start) (with_chunks (cut (Some most) part) s) × HasFreePool e (with_chunks (cut (Some most) part) s)) at
+        (subst (λ o. IsTaken s r (end_of_last part.start (cut o part) - r.start) (with_chunks (cut o part) s) × HasFreePool e (with_chunks (cut o part) s)) is pool)
 
 -- 64 bytes or more that are appended are taken
 pub appended_taken : (fllen sllen : ℕ) (memory : Range) (s t : State) (r : Range) (n : ℕ) → IsWellFormed fllen sllen memory s → IsNext memory s r → 64 ≤ r.len

@@ -39,7 +39,7 @@ pub record HasBudget (live most sllen : ℕ) (ranges : List Range) : Type 0 wher
 
 -- Some ranges are long enough for `live` blocks of `bytes` bytes together, and one more of `most`. Their total length is above a sum:
 -- 32 bytes for each range, `bytes`, and `least - 32` for each block and each range. A free range of `least` bytes can be taken
-pub record HasRoomFor (live bytes most sllen : ℕ) (ranges : List Range) : Type 0 where
+pub record HasRoomForBudget (live bytes most sllen : ℕ) (ranges : List Range) : Type 0 where
   pub least : ℕ
   pub taken : IsTakenFor sllen most least
   pub enough : 32 * length ranges + bytes + (live + length ranges) * (least - 32) < total_len ranges

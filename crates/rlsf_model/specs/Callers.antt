@@ -24,13 +24,13 @@ unfoldable pub align_at : State → ℕ → Option ℕ
 align_at s addr = option_map (λ p. p.align) (payload_at s addr)
 
 -- the bytes of a payload, or none of a payload that isn't there
-abbrev pub bytes_of : Option Payload → List ℕ
-bytes_of None = []
-bytes_of (Some p) = p.bytes
+abbrev pub bytes_or_none : Option Payload → List ℕ
+bytes_or_none None = []
+bytes_or_none (Some p) = p.bytes
 
 -- the bytes of the payload at an address, or none where no payload is
 unfoldable pub bytes_at : State → ℕ → List ℕ
-bytes_at s addr = bytes_of (payload_at s addr)
+bytes_at s addr = bytes_or_none (payload_at s addr)
 
 -- the bytes of the payload at `to` once the first `len` of the one at `from` are copied over its first
 abbrev pub copied_over : State → ℕ → ℕ → ℕ → List ℕ
@@ -41,14 +41,14 @@ abbrev pub written_over : State → ℕ → ℕ → List ℕ → List ℕ
 written_over s addr offset bytes = splice (bytes_at s addr) offset (offset + length bytes) bytes
 
 -- a payload that serves a layout: it has the alignment, the requested bytes, and less than 32 more
-pub record Serves (size align : ℕ) (p : Payload) : Type 0 where
+pub record ServesLayout (size align : ℕ) (p : Payload) : Type 0 where
   pub aligned : p.align ≡ align
   pub enough : size ≤ length p.bytes
   pub few : length p.bytes < size + 32
 
 -- the map is as it was
-abbrev pub IsUnchanged : (ℕ → Option Payload) → (ℕ → Option Payload) → Type 0
-IsUnchanged before after = (a : ℕ) → after a ≡ before a
+abbrev pub IsSameMap : (ℕ → Option Payload) → (ℕ → Option Payload) → Type 0
+IsSameMap before after = (a : ℕ) → after a ≡ before a
 
 -- the map has this at the address, and is as it was at all others
 pub record IsSet (before : ℕ → Option Payload) (addr : ℕ) (now : Option Payload) (after : ℕ → Option Payload) : Type 0 where
@@ -57,11 +57,11 @@ pub record IsSet (before : ℕ → Option Payload) (addr : ℕ) (now : Option Pa
 
 -- a payload gets another size: it is at the address `to`, its old one or one where none was, with its alignment and with the
 -- bytes that both sizes have; at no other address is any other change
-pub record IsResized (before : ℕ → Option Payload) (addr size to : ℕ) (after : ℕ → Option Payload) : Type 0 where
+pub record IsResizedInMap (before : ℕ → Option Payload) (addr size to : ℕ) (after : ℕ → Option Payload) : Type 0 where
   pub old : Payload
   pub was : before addr ≡ Some old
   pub now : Payload
-  pub serves : Serves size old.align now
+  pub serves : ServesLayout size old.align now
   pub kept : Keeps old.bytes now.bytes
   pub new : to ≢ addr → before to ≡ None
   pub here : after to ≡ Some now
@@ -70,19 +70,19 @@ pub record IsResized (before : ℕ → Option Payload) (addr size to : ℕ) (aft
 
 -- what a call with its reply does to the map
 abbrev pub Changes : (ℕ → Option Payload) → Event → (ℕ → Option Payload) → Type 0
-Changes before (insert r reply) after = IsUnchanged before after
-Changes before (append r reply) after = IsUnchanged before after
-Changes before (allocate size align None) after = IsUnchanged before after
-Changes before (allocate size align (Some addr)) after = (p : Payload) × (before addr ≡ None) × Serves size align p × IsSet before addr (Some p) after
+Changes before (insert r reply) after = IsSameMap before after
+Changes before (append r reply) after = IsSameMap before after
+Changes before (allocate size align None) after = IsSameMap before after
+Changes before (allocate size align (Some addr)) after = (p : Payload) × (before addr ≡ None) × ServesLayout size align p × IsSet before addr (Some p) after
 Changes before (deallocate addr) after = (p : Payload) × (before addr ≡ Some p) × IsSet before addr None after
-Changes before (reallocate addr size None) after = IsUnchanged before after
-Changes before (reallocate addr size (Some to)) after = IsResized before addr size to after
+Changes before (reallocate addr size None) after = IsSameMap before after
+Changes before (reallocate addr size (Some to)) after = IsResizedInMap before addr size to after
 Changes before (fill addr bytes) after =
     (p : Payload) × (before addr ≡ Some p) × (length bytes ≡ length p.bytes) × IsSet before addr (Some (record { align = p.align; bytes = bytes })) after
-Changes before (remove r) after = IsUnchanged before after
-Changes before (trim count) after = IsUnchanged before after
+Changes before (remove r) after = IsSameMap before after
+Changes before (trim count) after = IsSameMap before after
 
 -- what a list of calls with their replies does to the map, one after another
 abbrev pub ChangesAll : (ℕ → Option Payload) → List Event → (ℕ → Option Payload) → Type 0
-ChangesAll before [] after = IsUnchanged before after
+ChangesAll before [] after = IsSameMap before after
 ChangesAll before (e ∷ es) after = (between : ℕ → Option Payload) × Changes before e between × ChangesAll between es after

@@ -7,7 +7,7 @@ use Rattle.rlsf_model.specs.FlexReallocate.{FlexReallocates}
 use Rattle.rlsf_model.specs.FlexState.{FlexState, with_machine}
 use Rattle.rlsf_model.specs.Lists.{IsIn}
 use Rattle.rlsf_model.specs.Note.{Note}
-use Rattle.rlsf_model.specs.Run.{Event, insert, append, allocate, deallocate, reallocate, fill, remove, trim, IsRefused, IsRemoval, IsSameCall, Leads, MayCall}
+use Rattle.rlsf_model.specs.Run.{Event, insert, append, allocate, deallocate, reallocate, fill, remove, trim, IsCallRefused, IsRemoval, IsSameCall, Leads, MayCall}
 use Rattle.rlsf_model.specs.State.{State}
 use Rattle.rlsf_model.specs.Terms.{Terms}
 use Rattle.rlsf_model.specs.Trim.{Trims}
@@ -80,7 +80,7 @@ HandsIn e = ⊥
 -- moves, and the old one is deallocated. A trim is one removal for each range that is returned.
 abbrev pub ComesTo : Event → List Event → Type 0
 ComesTo (trim count) es = (length es ≡ count) × ((e : Event) → IsIn e es → IsRemoval e)
-ComesTo e [] = IsRefused e
+ComesTo e [] = IsCallRefused e
 ComesTo e (c ∷ []) = c ≡ e
 ComesTo e (h ∷ c ∷ []) = HandsIn h × (c ≡ e)
 ComesTo (reallocate addr size (Some to)) (h ∷ c ∷ d ∷ []) = HandsIn h × ((align : ℕ) × (c ≡ allocate size align (Some to))) × (d ≡ deallocate addr)

@@ -15,8 +15,8 @@ pub record FlexState : Type 0 where
   pub kept : Option KeptPool
 
 -- nothing was asked for yet
-abbrev pub empty : FlexState
-empty = record { machine = state.empty; pools = []; kept = None }
+abbrev pub flex_empty : FlexState
+flex_empty = record { machine = state.empty; pools = []; kept = None }
 
 -- with another state of the reference model
 abbrev pub with_machine : FlexState → state.State → FlexState

@@ -16,8 +16,8 @@ pub record Questions : Type 0 where
   pub range : Option ℕ
 
 -- nothing is asked
-abbrev pub nothing : Questions
-nothing = record { growth = None; range = None }
+abbrev pub no_questions : Questions
+no_questions = record { growth = None; range = None }
 
 -- the number, if it fits in a word
 abbrev pub if_fits : ℕ → Option ℕ
@@ -34,7 +34,7 @@ growth_question t k n = if t.grow then Some (k.range, n) else None
 -- what is asked where a pool is kept that is to be n bytes long. If that isn't a length nothing is asked, not even
 -- for a new range (rlsf 0.2.3 does so)
 abbrev pub questions_kept : Terms → KeptPool → ℕ → Option ℕ → Questions
-questions_kept t k e None = nothing
+questions_kept t k e None = no_questions
 questions_kept t k e (Some n) = record {
   growth = growth_question t k n;
   range = (if t.contiguous then None else range_length t e);
@@ -47,7 +47,7 @@ questions_for t (Some k) e = questions_kept t k e (if_fits (k.len + e))
 
 -- what is asked for the pool that an allocation wants; nothing where no pool would do
 abbrev pub questions : Terms → Option KeptPool → Option ℕ → Questions
-questions t kept None = nothing
+questions t kept None = no_questions
 questions t kept (Some e) = questions_for t kept e
 
 -- what came of the questions: nothing, a growth to a length, or a range

@@ -11,7 +11,7 @@ use Rattle.rlsf_model.specs.Answers.{MayAnswerAll}
 use Rattle.rlsf_model.specs.Callers.{Payload, payload_in, payload_at, Changes, ChangesAll}
 use Rattle.rlsf_model.specs.End.{notes_at_end, owed_at_end}
 use Rattle.rlsf_model.specs.FlexRun.{AllComeTo, AreSameCalls, FlexEvent, FlexLeads, FlexMayCall, HandsIn, IsFlexRun, IsFlexStep, events_in, notes_in}
-use Rattle.rlsf_model.specs.FlexState.{FlexState, AreFlexSimilar, empty as flex_empty}
+use Rattle.rlsf_model.specs.FlexState.{FlexState, AreFlexSimilar, flex_empty}
 use Rattle.rlsf_model.specs.FlexWellFormed.{IsFlexWellFormed}
 use Rattle.rlsf_model.specs.Growth.{Extends, IsPossible, Outcome, Questions, is_more, notes_of}
 use Rattle.rlsf_model.specs.Insert.{body, cut, Inserts, IsClear}
@@ -22,8 +22,8 @@ use Rattle.rlsf_model.specs.Owed.{OwesAfterAll}
 use Rattle.rlsf_model.specs.Reallocate.{Keeps, Reallocates}
 use Rattle.rlsf_model.specs.Release.{Deallocates}
 use Rattle.rlsf_model.specs.Remove.{IsIdle, IsRemovable, Removes}
-use Rattle.rlsf_model.specs.Run.{Event, insert, append, allocate, deallocate, reallocate, fill, remove, trim, Fills, Leads, MayCall, Names, Runs, IsRemoval, IsSameCall}
-use Rattle.rlsf_model.specs.Run.{IsRefused}
+use Rattle.rlsf_model.specs.Run.{Event, insert, append, allocate, deallocate, reallocate, fill, remove, trim, Fills, Leads, MayCall, CallNames, Runs, IsRemoval, IsSameCall}
+use Rattle.rlsf_model.specs.Run.{IsCallRefused}
 use Rattle.rlsf_model.specs.State.{State, Used, empty, usable, Holds, HasBytes, IsLive, AreAlike, IsReordered, AreSimilar}
 use Rattle.rlsf_model.specs.Terms.{Terms}
 use Rattle.rlsf_model.specs.WellFormed.{covers, IsWellFormed}
@@ -56,7 +56,7 @@ OrderMeansNothing = (fllen sllen : ℕ) (memory : Range) (s s' t : State) (e : E
 
 -- a refused call changes nothing
 abbrev pub RefusalChangesNothing : Type 0
-RefusalChangesNothing = (fllen sllen : ℕ) (s t : State) (e : Event) → Leads fllen sllen s e t → IsRefused e → t ≡ s
+RefusalChangesNothing = (fllen sllen : ℕ) (s t : State) (e : Event) → Leads fllen sllen s e t → IsCallRefused e → t ≡ s
 
 -- the length of the first chunk that is cut off: all there is, but no more than the greatest length
 abbrev pub first_length : Option ℕ → ℕ → ℕ
@@ -148,15 +148,15 @@ IdleChunkIsOneRange = (fllen sllen : ℕ) (memory : Range) (s : State) (c : Rang
     → IsIn (body c) s.free × ((f : Range) → IsIn f s.free → covers c f.start ≡ 1 → f ≡ body c)
 
 -- among the chunks is this one, or a longer one that begins where it does
-abbrev pub IsKept : Range → State → Type 0
-IsKept c t = (d : Range) × IsIn d t.chunks × (d.start ≡ c.start) × ((d ≡ c) ⊎ (end_of c + 32 ≤ end_of d))
+abbrev pub IsChunkKept : Range → State → Type 0
+IsChunkKept c t = (d : Range) × IsIn d t.chunks × (d.start ≡ c.start) × ((d ≡ c) ⊎ (end_of c + 32 ≤ end_of d))
 
 -- each step that takes no memory away keeps the chunks, one of which may grow: so no byte of a chunk leaves them
 abbrev pub ChunksStay : Type 0
-ChunksStay = (fllen sllen : ℕ) (s t : State) (e : Event) (c : Range) → (IsRemoval e → ⊥) → Leads fllen sllen s e t → IsIn c s.chunks → IsKept c t
+ChunksStay = (fllen sllen : ℕ) (s t : State) (e : Event) (c : Range) → (IsRemoval e → ⊥) → Leads fllen sllen s e t → IsIn c s.chunks → IsChunkKept c t
 
 -- of some ranges those in r are gone, with each byte that they had of it, and the others are left
-pub record LeavesOthers (r : Range) (before after : List Range) : Type 0 where
+pub record LeavesOtherRanges (r : Range) (before after : List Range) : Type 0 where
   pub clear : IsClear r after
   pub left : (x : Range) → IsIn x before → ((r.start ≤ x.start) × (end_of x ≤ end_of r)) ⊎ IsIn x after
   pub were : (x : Range) → IsIn x after → IsIn x before
@@ -164,11 +164,11 @@ pub record LeavesOthers (r : Range) (before after : List Range) : Type 0 where
 -- a removal takes the chunks and the free ranges in its range away, and leaves all others and each used block with its bytes
 abbrev pub RemovalLeavesOthers : Type 0
 RemovalLeavesOthers = (fllen sllen : ℕ) (memory : Range) (s t : State) (r : Range) → IsWellFormed fllen sllen memory s → IsRemovable s r → Removes s r t
-    → LeavesOthers r s.chunks t.chunks × LeavesOthers r s.free t.free × (t.used ≡ s.used)
+    → LeavesOtherRanges r s.chunks t.chunks × LeavesOtherRanges r s.free t.free × (t.used ≡ s.used)
 
 -- a step that doesn't name a payload leaves its block with its bytes as it was
 abbrev pub OtherPayloadsStay : Type 0
-OtherPayloadsStay = (fllen sllen : ℕ) (s t : State) (e : Event) (u : Used) → Leads fllen sllen s e t → IsIn u s.used → (Names e u.payload → ⊥) → IsIn u t.used
+OtherPayloadsStay = (fllen sllen : ℕ) (s t : State) (e : Event) (u : Used) → Leads fllen sllen s e t → IsIn u s.used → (CallNames e u.payload → ⊥) → IsIn u t.used
 
 -- the address that an allocation returns was not live, and is live with the requested alignment
 abbrev pub HandedOutIsNew : Type 0
@@ -182,7 +182,7 @@ ReallocatedIsLive = (fllen sllen : ℕ) (memory : Range) (s t : State) (addr siz
 
 -- a live address stays live over each step that doesn't name it, as an allocation or a deallocation of another
 abbrev pub LiveStays : Type 0
-LiveStays = (fllen sllen : ℕ) (s t : State) (e : Event) (addr align : ℕ) → Leads fllen sllen s e t → IsLive s addr align → (Names e addr → ⊥) → IsLive t addr align
+LiveStays = (fllen sllen : ℕ) (s t : State) (e : Event) (addr align : ℕ) → Leads fllen sllen s e t → IsLive s addr align → (CallNames e addr → ⊥) → IsLive t addr align
 
 -- an address that was deallocated is not live
 abbrev pub ReleasedIsNotLive : Type 0
@@ -209,20 +209,20 @@ InsertedChunksLieInRange = (fllen : ℕ) (s t : State) (r : Range) (reply : Opti
     → IsIn c s.chunks ⊎ ((r.start ≤ c.start) × (end_of c ≤ end_of r))
 
 -- the call returns the address
-abbrev pub Gives : Event → ℕ → Type 0
-Gives (insert r reply) addr = ⊥
-Gives (append r reply) addr = ⊥
-Gives (allocate size align reply) addr = reply ≡ Some addr
-Gives (deallocate at) addr = ⊥
-Gives (reallocate at size reply) addr = reply ≡ Some addr
-Gives (fill at bytes) addr = ⊥
-Gives (remove r) addr = ⊥
-Gives (trim count) addr = ⊥
+abbrev pub CallReturns : Event → ℕ → Type 0
+CallReturns (insert r reply) addr = ⊥
+CallReturns (append r reply) addr = ⊥
+CallReturns (allocate size align reply) addr = reply ≡ Some addr
+CallReturns (deallocate at) addr = ⊥
+CallReturns (reallocate at size reply) addr = reply ≡ Some addr
+CallReturns (fill at bytes) addr = ⊥
+CallReturns (remove r) addr = ⊥
+CallReturns (trim count) addr = ⊥
 
 -- a used block that a step names neither in its call nor in its reply was there before, with the same bytes
 abbrev pub UsedWasUsed : Type 0
 UsedWasUsed = (fllen sllen : ℕ) (s t : State) (e : Event) (u : Used) → Leads fllen sllen s e t → IsIn u t.used
-    → (Names e u.payload → ⊥) → (Gives e u.payload → ⊥) → IsIn u s.used
+    → (CallNames e u.payload → ⊥) → (CallReturns e u.payload → ⊥) → IsIn u s.used
 
 -- from similar states the same call has the same reply, and leads to similar states
 abbrev pub SimilarStatesAgree : Type 0
@@ -385,12 +385,12 @@ FlexReallocationKeepsBytes = (fl_bits sl_bits fllen sllen : ℕ) (memory : Range
 -- a step over a source that doesn't name a payload leaves its block with its bytes as it was
 abbrev pub FlexOtherPayloadsStay : Type 0
 FlexOtherPayloadsStay = (fllen sllen : ℕ) (t : Terms) (s u : FlexState) (e : Event) (notes : List Note) (x : Used) → FlexLeads fllen sllen t s e notes u
-    → IsIn x s.machine.used → (Names e x.payload → ⊥) → IsIn x u.machine.used
+    → IsIn x s.machine.used → (CallNames e x.payload → ⊥) → IsIn x u.machine.used
 
 -- a used block that a step over a source names neither in its call nor in its reply was there before, with the same bytes
 abbrev pub FlexUsedWasUsed : Type 0
 FlexUsedWasUsed = (fllen sllen : ℕ) (t : Terms) (s u : FlexState) (e : Event) (notes : List Note) (x : Used) → FlexLeads fllen sllen t s e notes u
-    → IsIn x u.machine.used → (Names e x.payload → ⊥) → (Gives e x.payload → ⊥) → IsIn x s.machine.used
+    → IsIn x u.machine.used → (CallNames e x.payload → ⊥) → (CallReturns e x.payload → ⊥) → IsIn x s.machine.used
 
 -- a run over a source changes the callers' map call by call
 abbrev pub FlexRunsChangeMap : Type 0
@@ -400,12 +400,12 @@ FlexRunsChangeMap = (fl_bits sl_bits fllen sllen : ℕ) (memory : Range) (t : Te
 -- a run over a source of which no call names a payload leaves its block with its bytes as it was
 abbrev pub FlexOthersStayInRuns : Type 0
 FlexOthersStayInRuns = (fllen sllen : ℕ) (memory : Range) (t : Terms) (s u : FlexState) (cs : List FlexEvent) (x : Used) → IsFlexRun fllen sllen memory t s cs u
-    → IsIn x s.machine.used → ((e : Event) → IsIn e (events_in cs) → Names e x.payload → ⊥) → IsIn x u.machine.used
+    → IsIn x s.machine.used → ((e : Event) → IsIn e (events_in cs) → CallNames e x.payload → ⊥) → IsIn x u.machine.used
 
 -- a used block that a run over a source names in none of its calls and replies was there before, with the same bytes
 abbrev pub FlexUsedWasUsedInRuns : Type 0
 FlexUsedWasUsedInRuns = (fllen sllen : ℕ) (memory : Range) (t : Terms) (s u : FlexState) (cs : List FlexEvent) (x : Used) → IsFlexRun fllen sllen memory t s cs u
-    → IsIn x u.machine.used → ((e : Event) → IsIn e (events_in cs) → Names e x.payload → ⊥) → ((e : Event) → IsIn e (events_in cs) → Gives e x.payload → ⊥)
+    → IsIn x u.machine.used → ((e : Event) → IsIn e (events_in cs) → CallNames e x.payload → ⊥) → ((e : Event) → IsIn e (events_in cs) → CallReturns e x.payload → ⊥)
     → IsIn x s.machine.used
 
 -- to whatever it is asked a source gives answers that it may give while these ranges are outstanding, and this comes of them

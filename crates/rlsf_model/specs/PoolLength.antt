@@ -16,7 +16,7 @@ abbrev pub HasAlignedPart : Range → ℕ → Type 0
 HasAlignedPart r e = (e + 32 ≤ r.len) ⊎ ((r.start % 32 ≡ 0) × (e ≤ r.len))
 
 -- a free range is as long as that of a chunk of e bytes
-pub record HasPool (e : ℕ) (t : State) : Type 0 where
+pub record HasFreePool (e : ℕ) (t : State) : Type 0 where
   pub range : Range
   pub is_free : IsIn range t.free
   pub long : e ≤ range.len + 32

@@ -68,26 +68,26 @@ IsSameCall (trim m) (trim n) = Unit {0}
 IsSameCall e e' = ⊥
 
 -- the call was refused: it had no room, or no chunk to make
-abbrev pub IsRefused : Event → Type 0
-IsRefused (insert r reply) = reply ≡ None
-IsRefused (append r reply) = ⊥
-IsRefused (allocate size align reply) = reply ≡ None
-IsRefused (deallocate addr) = ⊥
-IsRefused (reallocate addr size reply) = reply ≡ None
-IsRefused (fill addr bytes) = ⊥
-IsRefused (remove r) = ⊥
-IsRefused (trim count) = ⊥
+abbrev pub IsCallRefused : Event → Type 0
+IsCallRefused (insert r reply) = reply ≡ None
+IsCallRefused (append r reply) = ⊥
+IsCallRefused (allocate size align reply) = reply ≡ None
+IsCallRefused (deallocate addr) = ⊥
+IsCallRefused (reallocate addr size reply) = reply ≡ None
+IsCallRefused (fill addr bytes) = ⊥
+IsCallRefused (remove r) = ⊥
+IsCallRefused (trim count) = ⊥
 
 -- the call names the payload at the address
-abbrev pub Names : Event → ℕ → Type 0
-Names (insert r reply) addr = ⊥
-Names (append r reply) addr = ⊥
-Names (allocate size align reply) addr = ⊥
-Names (deallocate at) addr = at ≡ addr
-Names (reallocate at size reply) addr = at ≡ addr
-Names (fill at bytes) addr = at ≡ addr
-Names (remove r) addr = ⊥
-Names (trim count) addr = ⊥
+abbrev pub CallNames : Event → ℕ → Type 0
+CallNames (insert r reply) addr = ⊥
+CallNames (append r reply) addr = ⊥
+CallNames (allocate size align reply) addr = ⊥
+CallNames (deallocate at) addr = at ≡ addr
+CallNames (reallocate at size reply) addr = at ≡ addr
+CallNames (fill at bytes) addr = at ≡ addr
+CallNames (remove r) addr = ⊥
+CallNames (trim count) addr = ⊥
 
 -- the call removes memory
 abbrev pub IsRemoval : Event → Type 0

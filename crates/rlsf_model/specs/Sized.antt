@@ -2,7 +2,7 @@
 use Rattle.std.specs.Prelude.{ℕ, List, ◌==◌, filter, length}
 use Rattle.rlsf_base.specs.declared.memory.range.Range.{Range}
 use Rattle.rlsf_base.specs.Sizes.{request_size}
-use Rattle.rlsf_model.specs.Budget.{AreAtMost, AreFronts, HasBudget, HasRoomFor, used_bytes}
+use Rattle.rlsf_model.specs.Budget.{AreAtMost, AreFronts, HasBudget, HasRoomForBudget, used_bytes}
 use Rattle.rlsf_model.specs.State.{State}
 
 -- how many payloads are live
@@ -27,4 +27,4 @@ block_bytes s addr = used_bytes (filter (λ u. u.payload == addr) s.used)
 -- so while the live payloads keep to both numbers such a payload is never refused, wherever they lie
 unfoldable pub IsSizedForBudget : ℕ → ℕ → ℕ → ℕ → ℕ → List Range → Type 0
 IsSizedForBudget sllen count bytes size align chunks =
-    (fronts : List Range) × AreFronts chunks fronts × HasRoomFor count bytes (request_size size align) sllen fronts
+    (fronts : List Range) × AreFronts chunks fronts × HasRoomForBudget count bytes (request_size size align) sllen fronts

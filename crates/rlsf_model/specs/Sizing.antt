@@ -5,7 +5,7 @@ use Rattle.rlsf_base.specs.PowerOfTwo.{IsPowerOfTwo}
 use Rattle.rlsf_base.specs.SizeClass.{class_of, IsValid, Reaches}
 use Rattle.rlsf_base.specs.Sizes.{IsSize, map_ceil_and_unmap, payloads_length, pool_size_for_budget, pool_size_for_objects, pool_size_for_payloads, request_size}
 use Rattle.rlsf_model.specs.Allocate.{Allocates}
-use Rattle.rlsf_model.specs.Budget.{total_len, used_bytes, AreFronts, AreAtMost, HasBudget, IsTakenFor, HasRoomFor, RunsFrugally, RunsModestly, IsDenied, AreWithin, live_after}
+use Rattle.rlsf_model.specs.Budget.{total_len, used_bytes, AreFronts, AreAtMost, HasBudget, IsTakenFor, HasRoomForBudget, RunsFrugally, RunsModestly, IsDenied, AreWithin, live_after}
 use Rattle.rlsf_model.specs.FlexRun.{FlexEvent, IsFlexRun, events_in, notes_in}
 use Rattle.rlsf_model.specs.FlexState.{FlexState}
 use Rattle.rlsf_model.specs.Lists.{IsIn}
@@ -42,7 +42,7 @@ ModestRunsAreNotDenied = (live most fllen sllen : ℕ) (memory : Range) (s t : S
 -- reallocation is refused, whatever memory comes meanwhile
 abbrev pub FrugalRunsAreNotDenied : Type 0
 FrugalRunsAreNotDenied = (live bytes most fllen sllen : ℕ) (memory : Range) (s t : State) (fronts : List Range) (es : List Event) → IsWellFormed fllen sllen memory s
-    → AreFronts s.chunks fronts → HasRoomFor live bytes most sllen fronts
+    → AreFronts s.chunks fronts → HasRoomForBudget live bytes most sllen fronts
     → RunsFrugally live bytes most fllen sllen memory s es t → (e : Event) → IsIn e es → IsDenied e → ⊥
 
 -- how many payloads are live after a step

@@ -53,12 +53,12 @@ abbrev pub others : ℕ → List Used → List Used
 others addr used = filter (λ u. not (u.payload == addr)) used
 
 -- a used block with other bytes
-abbrev pub with_bytes : Used → List ℕ → Used
-with_bytes u bytes = record { block = u.block; payload = u.payload; align = u.align; bytes = bytes }
+abbrev pub used_with_bytes : Used → List ℕ → Used
+used_with_bytes u bytes = record { block = u.block; payload = u.payload; align = u.align; bytes = bytes }
 
 -- a used block, with these bytes if its caller has the address
 abbrev pub filled_if : ℕ → List ℕ → Used → Used
-filled_if addr bytes u = if u.payload == addr then with_bytes u bytes else u
+filled_if addr bytes u = if u.payload == addr then used_with_bytes u bytes else u
 
 -- the used blocks, with these bytes in the one at an address
 abbrev pub filled_at : ℕ → List ℕ → List Used → List Used

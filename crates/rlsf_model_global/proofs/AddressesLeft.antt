@@ -8,7 +8,7 @@ use Rattle.std.specs.Option.{option_map}
 use Rattle.std.specs.declared.num.NonZeroUsize.{NonZeroUsize}
 use Rattle.rlsf_base.specs.Addr.{at}
 use Rattle.rlsf_base.specs.declared.memory.layout.Layout.{Layout}
-use Rattle.rlsf_model.specs.Callers.{Payload, align_at, bytes_at, bytes_of, payload_at}
+use Rattle.rlsf_model.specs.Callers.{Payload, align_at, bytes_at, bytes_or_none, payload_at}
 use Rattle.rlsf_model.specs.Run.{allocate as machine_allocates}
 use Rattle.rlsf_model.specs.State.{Holds, Used, usable}
 use Rattle.rlsf_model.specs.WellFormed.{covers}
@@ -17,9 +17,9 @@ use Rattle.rlsf_model.proofs.Callers.{payload_at-has}
 use Rattle.rlsf_model.proofs.Coverage.{covers-inside}
 use Rattle.rlsf_model.proofs.Live.{live_addresses_are_aligned, payloads_are_disjoint}
 use Rattle.rlsf_model_global.specs.Heap.{Agrees, Heap, Lists, content_at, layout_at, row_layout}
-use Rattle.rlsf_model_global.specs.Left.{AllocationLeaves, DeallocationLeaves, HasByte, PayloadsAreApart, PayloadsServe, ReadTells, WriteLeaves}
+use Rattle.rlsf_model_global.specs.Left.{AllocationLeaves, DeallocationLeaves, HasByte, HeapPayloadsAreApart, PayloadsServe, ReadTells, WriteLeaves}
 use Rattle.rlsf_model_global.specs.Rows.{Row, put, row_at}
-use Rattle.rlsf_model_global.specs.Steps.{DeallocatesAt, DeallocatesAsAt, Done, ReadsAt, Releases, WritesAt, WritesIn, fits, is_same}
+use Rattle.rlsf_model_global.specs.Steps.{DeallocatesAt, DeallocatesAsAt, Done, ReadsAt, Releases, WritesAt, WritesIn, are_usable, is_same}
 use Rattle.rlsf_model_global.specs.declared.error.GlobalError.TheVariants.{OutOfRange, WrongLayout}
 use Rattle.rlsf_model_global.proofs.StepLeavesFlex.{flex_goes}
 use Rattle.rlsf_model_global.proofs.StepLeavesHeap.{no_row}
@@ -54,14 +54,14 @@ block_of_byte : (h : Heap) (a x : ℕ) → HasByte h a x → (u : Used) × Holds
 unfolding content_at bytes_at
 block_of_byte h a x has = go (payload_at h.flex.machine a) refl has
   where
-    go : (o : Option Payload) → payload_at h.flex.machine a ≡ o → (a ≤ x) × (x < a + length (bytes_of (payload_at h.flex.machine a)))
-        → (u : Used) × Holds h.flex.machine a u × (length u.bytes ≡ length (bytes_of (payload_at h.flex.machine a)))
-    go None told (low, high) = let none : length (bytes_of (payload_at h.flex.machine a)) ≡ 0 = ap (λ o. length (bytes_of o)) told in absurd (omega arith)
+    go : (o : Option Payload) → payload_at h.flex.machine a ≡ o → (a ≤ x) × (x < a + length (bytes_or_none (payload_at h.flex.machine a)))
+        → (u : Used) × Holds h.flex.machine a u × (length u.bytes ≡ length (bytes_or_none (payload_at h.flex.machine a)))
+    go None told (low, high) = let none : length (bytes_or_none (payload_at h.flex.machine a)) ≡ 0 = ap (λ o. length (bytes_or_none o)) told in absurd (omega arith)
     go (Some p) told has =
         let (u, held, is) = payload_at-has h.flex.machine a p told in
-        (u, held, ap (λ (q : Payload). length q.bytes) is ∙ ap (λ o. length (bytes_of o)) (sym told))
+        (u, held, ap (λ (q : Payload). length q.bytes) is ∙ ap (λ o. length (bytes_or_none o)) (sym told))
 
-pub payloads_are_apart : PayloadsAreApart
+pub payloads_are_apart : HeapPayloadsAreApart
 payloads_are_apart memory h a b x w has has' = elim (cases_eq a b) [
   | inl same ↦ same
   | inr apart ↦
@@ -138,7 +138,7 @@ write_leaves memory h g addr offset bytes w step = go (row_at addr h.asked) step
     go (Some row) step =
         either (AreSame (Ok tt) (Ok tt) × WritesIn h addr offset bytes g) (AreSame (Ok tt) (Err OutOfRange) × (g ≡ h))
         ((bytes_at g.flex.machine addr ≡ now) × (option_map row_layout (row_at addr g.asked) ≡ option_map row_layout (row_at addr h.asked)))
-        (fits h addr offset (length bytes))
+        (are_usable h addr offset (length bytes))
         (λ e did. wrote did.1) (λ e did. refused_not tt OutOfRange did.0) step
 
 pub read_tells : ReadTells
@@ -151,5 +151,5 @@ read_tells h g addr offset lent left step = go (row_at addr h.asked) step.0
     go : (o : Option Row) → ReadsAt h addr offset lent o (Ok tt) left → left ≡ told
     go None step = refused_not tt _ step.0
     go (Some row) step =
-        either (AreSame (Ok tt) (Ok tt) × (left ≡ told)) (AreSame (Ok tt) (Err OutOfRange) × (left ≡ lent)) (left ≡ told) (fits h addr offset (length lent))
+        either (AreSame (Ok tt) (Ok tt) × (left ≡ told)) (AreSame (Ok tt) (Err OutOfRange) × (left ≡ lent)) (left ≡ told) (are_usable h addr offset (length lent))
         (λ e did. did.1) (λ e did. refused_not tt OutOfRange did.0) step

@@ -14,12 +14,12 @@ use Rattle.rlsf_model.proofs.CallerWords.{align_at-some, bytes_at-map}
 use Rattle.rlsf_model.proofs.NoMove.{unmoved_is_reallocated}
 use Rattle.rlsf_model_global.specs.declared.error.GlobalError.TheVariants.{NoRoom, OutOfRange, TableMemory, WrongLayout}
 use Rattle.rlsf_model_global.specs.Heap.{Heap, content_at, layout_at, row_layout, with_state}
-use Rattle.rlsf_model_global.specs.History.{Gives, LeadsTo, Names, Step, allocate, deallocate, deallocate_as, reallocate, reallocate_as, reallocate_there, read, usable, write}
+use Rattle.rlsf_model_global.specs.History.{IsPlacedAt, LeadsTo, Names, Step, allocate, deallocate, deallocate_as, reallocate, reallocate_as, reallocate_there, read, usable, write}
 use Rattle.rlsf_model_global.specs.Isolation.{HistoriesKeepHeap, IsSameAt, StepsKeepHeap, UnnamedStays, UnnamedStaysThroughout}
-use Rattle.rlsf_model_global.specs.Moves.{HeapMovesAway, ReallocatesAsAt, ReallocatesAt, ReallocatesThereAt, ReallocatesTo, ResizesThere, ResizesTo, Wanted}
+use Rattle.rlsf_model_global.specs.Moves.{HeapMovesAway, ReallocatesAsAt, ReallocatesAt, ReallocatesThereAt, ReallocatesTo, HeapResizesThere, ResizesTo, Wanted}
 use Rattle.rlsf_model_global.specs.Rows.{Row, put, row_at, without_row}
 use Rattle.rlsf_model_global.specs.Standing.{IsHeap}
-use Rattle.rlsf_model_global.specs.Steps.{DeallocatesAsAt, DeallocatesAt, Done, Placed, Releases, WritesAt, WritesIn, fits, is_same}
+use Rattle.rlsf_model_global.specs.Steps.{DeallocatesAsAt, DeallocatesAt, Done, Placed, Releases, WritesAt, WritesIn, are_usable, is_same}
 use Rattle.rlsf_model_global.proofs.StepLeavesFlex.{flex_goes}
 use Rattle.rlsf_model_global.proofs.StepLeavesHeap.{Goes, Stays, allocated, live_row, released, replaced, resized, stays_all, written}
 
@@ -35,10 +35,10 @@ is_same-align a b e = eqb-true a.align b.align (and_parts (eqb a.size b.size) (e
 module _ {memory : Range} (h : Heap) (w : IsHeap memory h) (g : Heap) where
   -- ---- a payload that is allocated, deallocated or written
 
-  allocation_goes : (layout : Layout) (result : Placed) → LeadsTo h (allocate layout result) g → Goes memory h g (Gives result)
+  allocation_goes : (layout : Layout) (result : Placed) → LeadsTo h (allocate layout result) g → Goes memory h g (IsPlacedAt result)
   allocation_goes layout (Ok addr) step = allocated h w g addr layout step.0 step.1
-  allocation_goes layout (Err NoRoom) step = stays_all h w (Gives (Err NoRoom)) g step.1
-  allocation_goes layout (Err TableMemory) step = stays_all h w (Gives (Err TableMemory)) g step
+  allocation_goes layout (Err NoRoom) step = stays_all h w (IsPlacedAt (Err NoRoom)) g step.1
+  allocation_goes layout (Err TableMemory) step = stays_all h w (IsPlacedAt (Err TableMemory)) g step
   allocation_goes layout (Err e) step = absurd step
 
   deallocation_goes : (addr : ℕ) (o : Option Row) (result : Done) → DeallocatesAt h addr o result g → Goes memory h g (λ a. addr ≡ a)
@@ -55,7 +55,7 @@ module _ {memory : Range} (h : Heap) (w : IsHeap memory h) (g : Heap) where
   write_goes addr offset bytes None result step = stays_all h w (λ a. addr ≡ a) g step.1
   write_goes addr offset bytes (Some row) result step =
       either ((result ≡ Ok tt) × WritesIn h addr offset bytes g) ((result ≡ Err OutOfRange) × (g ≡ h)) (Goes memory h g (λ a. addr ≡ a))
-      (fits h addr offset (length bytes))
+      (are_usable h addr offset (length bytes))
       (λ within did. written h w g addr offset bytes did.1) (λ past did. stays_all h w (λ a. addr ≡ a) g did.1) step
 
   -- ---- a payload that gets another size
@@ -64,58 +64,58 @@ module _ {memory : Range} (h : Heap) (w : IsHeap memory h) (g : Heap) where
     live : IsSomeLive h.flex.machine addr
     live = align_at-some h.flex.machine addr (subst IsSome (sym (live_row h addr row w.lists there)) refl)
 
-    moving_goes : (keep : ℕ) (result : Placed) → HeapMovesAway h addr keep wanted result g → Goes memory h g (λ a. (addr ≡ a) ⊎ Gives result a)
+    moving_goes : (keep : ℕ) (result : Placed) → HeapMovesAway h addr keep wanted result g → Goes memory h g (λ a. (addr ≡ a) ⊎ IsPlacedAt result a)
     moving_goes keep (Ok to) step = replaced h w addr row there g to wanted step.1 keep step.0
-    moving_goes keep (Err NoRoom) step = stays_all h w (λ a. (addr ≡ a) ⊎ Gives (Err NoRoom) a) g step.1
+    moving_goes keep (Err NoRoom) step = stays_all h w (λ a. (addr ≡ a) ⊎ IsPlacedAt (Err NoRoom) a) g step.1
     moving_goes keep (Err e) step = absurd step
 
-    resizing_goes : row.1.align ≡ wanted.align → (result : Placed) → ResizesTo h addr wanted result g → Goes memory h g (λ a. (addr ≡ a) ⊎ Gives result a)
+    resizing_goes : row.1.align ≡ wanted.align → (result : Placed) → ResizesTo h addr wanted result g → Goes memory h g (λ a. (addr ≡ a) ⊎ IsPlacedAt result a)
     resizing_goes aligned (Ok to) ((notes, step, led), asked) =
         resized h w addr row there g to wanted asked notes aligned
         (flex_goes h.source g.source w.owed.cursor h.flex w.flex w.owed g.flex notes led (machine_reallocates addr wanted.size (Some (at to))) tt live step)
-    resizing_goes aligned (Err NoRoom) step = stays_all h w (λ a. (addr ≡ a) ⊎ Gives (Err NoRoom) a) g step.1
+    resizing_goes aligned (Err NoRoom) step = stays_all h w (λ a. (addr ≡ a) ⊎ IsPlacedAt (Err NoRoom) a) g step.1
     resizing_goes aligned (Err e) step = absurd step
 
-    unmoved_goes : row.1.align ≡ wanted.align → (result : Placed) → ResizesThere h addr wanted result g → Goes memory h g (λ a. (addr ≡ a) ⊎ Gives result a)
+    unmoved_goes : row.1.align ≡ wanted.align → (result : Placed) → HeapResizesThere h addr wanted result g → Goes memory h g (λ a. (addr ≡ a) ⊎ IsPlacedAt result a)
     unmoved_goes aligned (Ok to) (m, did, after) =
         let u = with_machine h.flex m in
         let room : ReallocatesInRoom 64 h.flex addr wanted.size (at to) [] u =
         record { machine = m; reallocates = (unmoved_is_reallocated 64 h.flex.machine m addr wanted.size (Some (at to)) did).0.1; none = refl; after = refl } in
-        subst (λ (x : Heap). Goes memory h x (λ a. (addr ≡ a) ⊎ Gives (Ok to) a)) (sym after)
+        subst (λ (x : Heap). Goes memory h x (λ a. (addr ≡ a) ⊎ IsPlacedAt (Ok to) a)) (sym after)
         (resized h w addr row there (with_state h m (put (to, wanted) (without_row addr h.asked))) to wanted refl [] aligned
         (flex_goes h.source h.source w.owed.cursor h.flex w.flex w.owed u [] refl (machine_reallocates addr wanted.size (Some (at to))) tt live (inl room)))
-    unmoved_goes aligned (Err NoRoom) step = stays_all h w (λ a. (addr ≡ a) ⊎ Gives (Err NoRoom) a) g step.1
+    unmoved_goes aligned (Err NoRoom) step = stays_all h w (λ a. (addr ≡ a) ⊎ IsPlacedAt (Err NoRoom) a) g step.1
     unmoved_goes aligned (Err e) step = absurd step
 
   reallocation_as_goes : (enabled : Bool) (addr : ℕ) (layout : Layout) (n : ℕ) (o : Option Row) (result : Placed) → row_at addr h.asked ≡ o
       → ReallocatesAsAt enabled h addr layout n o result g
-      → Goes memory h g (λ a. (addr ≡ a) ⊎ Gives result a)
-  reallocation_as_goes enabled addr layout n None result there step = stays_all h w (λ a. (addr ≡ a) ⊎ Gives result a) g step.1
+      → Goes memory h g (λ a. (addr ≡ a) ⊎ IsPlacedAt result a)
+  reallocation_as_goes enabled addr layout n None result there step = stays_all h w (λ a. (addr ≡ a) ⊎ IsPlacedAt result a) g step.1
   reallocation_as_goes enabled addr layout n (Some row) result there step =
       either (Wanted n layout.align (λ wanted. ReallocatesTo enabled h addr layout wanted result g)) ((result ≡ Err WrongLayout) × (g ≡ h))
-      (Goes memory h g (λ a. (addr ≡ a) ⊎ Gives result a)) (is_same row.1 layout)
+      (Goes memory h g (λ a. (addr ≡ a) ⊎ IsPlacedAt result a)) (is_same row.1 layout)
       (λ same did. made enabled did.layout (is_same-align row.1 layout same ∙ sym did.align) did.made)
-      (λ differs did. stays_all h w (λ a. (addr ≡ a) ⊎ Gives result a) g did.1) step
+      (λ differs did. stays_all h w (λ a. (addr ≡ a) ⊎ IsPlacedAt result a) g did.1) step
     where
       made : (b : Bool) (wanted : Layout) → row.1.align ≡ wanted.align → ReallocatesTo b h addr layout wanted result g
-          → Goes memory h g (λ a. (addr ≡ a) ⊎ Gives result a)
+          → Goes memory h g (λ a. (addr ≡ a) ⊎ IsPlacedAt result a)
       made true wanted aligned did = resizing_goes addr row there wanted aligned result did
       made false wanted aligned did = moving_goes addr row there wanted (min layout.size wanted.size) result did
 
   reallocation_goes : (addr : ℕ) (wanted : Layout) (o : Option Row) (result : Placed) → row_at addr h.asked ≡ o → ReallocatesAt h addr wanted o result g
-      → Goes memory h g (λ a. (addr ≡ a) ⊎ Gives result a)
-  reallocation_goes addr wanted None result there step = stays_all h w (λ a. (addr ≡ a) ⊎ Gives result a) g step.1
+      → Goes memory h g (λ a. (addr ≡ a) ⊎ IsPlacedAt result a)
+  reallocation_goes addr wanted None result there step = stays_all h w (λ a. (addr ≡ a) ⊎ IsPlacedAt result a) g step.1
   reallocation_goes addr wanted (Some row) result there step = moving_goes addr row there wanted (min wanted.size (length (bytes_at h.flex.machine addr))) result step
 
   reallocation_there_goes : (addr : ℕ) (layout : Layout) (n : ℕ) (o : Option Row) (result : Placed) → row_at addr h.asked ≡ o
       → ReallocatesThereAt h addr layout n o result g
-      → Goes memory h g (λ a. (addr ≡ a) ⊎ Gives result a)
-  reallocation_there_goes addr layout n None result there step = stays_all h w (λ a. (addr ≡ a) ⊎ Gives result a) g step.1
+      → Goes memory h g (λ a. (addr ≡ a) ⊎ IsPlacedAt result a)
+  reallocation_there_goes addr layout n None result there step = stays_all h w (λ a. (addr ≡ a) ⊎ IsPlacedAt result a) g step.1
   reallocation_there_goes addr layout n (Some row) result there step =
-      either (Wanted n layout.align (λ wanted. ResizesThere h addr wanted result g)) ((result ≡ Err WrongLayout) × (g ≡ h))
-      (Goes memory h g (λ a. (addr ≡ a) ⊎ Gives result a)) (is_same row.1 layout)
+      either (Wanted n layout.align (λ wanted. HeapResizesThere h addr wanted result g)) ((result ≡ Err WrongLayout) × (g ≡ h))
+      (Goes memory h g (λ a. (addr ≡ a) ⊎ IsPlacedAt result a)) (is_same row.1 layout)
       (λ same did. unmoved_goes addr row there did.layout (is_same-align row.1 layout same ∙ sym did.align) result did.made)
-      (λ differs did. stays_all h w (λ a. (addr ≡ a) ⊎ Gives result a) g did.1) step
+      (λ differs did. stays_all h w (λ a. (addr ≡ a) ⊎ IsPlacedAt result a) g did.1) step
 
   -- ---- each step
 

@@ -6,11 +6,11 @@ use Rattle.rlsf_model.proofs.Similar.{fill_is_similar}
 use Rattle.rlsf_model_global.specs.declared.error.GlobalError.TheVariants.{OutOfRange, TableMemory}
 use Rattle.rlsf_model_global.specs.Heap.{HaveSamePlacement, Heap, beginning}
 use Rattle.rlsf_model_global.specs.History.{IsHistory, LeadsTo, Step, allocate, deallocate, deallocate_as, reallocate, reallocate_as, reallocate_there, read, usable, write}
-use Rattle.rlsf_model_global.specs.Replays.{AreSameAnswers, AreSameCalls, IsSameCall, JournalDetermines, LacksMemory, OthersKeepPlacement, ReplayBegins, ReplayDetermines}
+use Rattle.rlsf_model_global.specs.Replays.{AreSameAnswers, HaveSameCalls, HasSameCall, JournalDetermines, LacksMemory, OthersKeepPlacement, ReplayBegins, ReplaysDetermine}
 use Rattle.rlsf_model_global.specs.Replays.{ReplayGoesOn, is_entry, journal_of}
 use Rattle.rlsf_model_global.specs.Rows.{Row, row_at}
 use Rattle.rlsf_model_global.specs.Standing.{IsHeap}
-use Rattle.rlsf_model_global.specs.Steps.{Done, WritesAt, WritesIn, fits}
+use Rattle.rlsf_model_global.specs.Steps.{Done, WritesAt, WritesIn, are_usable}
 use Rattle.rlsf_model_global.proofs.Histories.{either, steps_keep_heap}
 use Rattle.rlsf_model_global.proofs.LastStepsDecide.{beginning_is_heap}
 use Rattle.rlsf_model_global.proofs.Replayed.{placement_determines}
@@ -25,7 +25,7 @@ wrote h g addr offset bytes (m, step, after) =
 writes : (h g : Heap) (addr offset : ℕ) (bytes : List ℕ) (o : Option Row) (result : Done) → WritesAt h addr offset bytes o result g → HaveSamePlacement h g
 writes h g addr offset bytes None result step = same_placement-refl h g step.1
 writes h g addr offset bytes (Some row) result step =
-    either ((result ≡ Ok tt) × WritesIn h addr offset bytes g) ((result ≡ Err OutOfRange) × (g ≡ h)) (HaveSamePlacement h g) (fits h addr offset (length bytes))
+    either ((result ≡ Ok tt) × WritesIn h addr offset bytes g) ((result ≡ Err OutOfRange) × (g ≡ h)) (HaveSamePlacement h g) (are_usable h addr offset (length bytes))
     (λ e did. wrote h g addr offset bytes did.1) (λ e did. same_placement-refl h g did.1) step
 
 pub others_keep_placement : OthersKeepPlacement
@@ -62,7 +62,7 @@ replayed memory h g (s ∷ steps) w (m, step, rest) = by (is_entry s) refl (repl
 
 -- replays of the same calls agree
 replays_agree : (memory : Range) (h h' g g' : Heap) (steps steps' : List Step) → HaveSamePlacement h h' → LeadsOn memory h steps g → LeadsOn memory h' steps' g'
-    → AreSameCalls steps steps'
+    → HaveSameCalls steps steps'
     → AreSameAnswers steps steps' × HaveSamePlacement g g'
 replays_agree memory h h' g g' [] [] near run run' same = (tt, same_placement-trans (same_placement-sym run) (same_placement-trans near run'))
 replays_agree memory h h' g g' [] (s' ∷ steps') near run run' same = absurd same
@@ -80,20 +80,20 @@ journal_determines memory h h' g g' steps steps' w w' near run run' same =
     replays_agree memory h h' g g' (journal_of steps) (journal_of steps') near (replayed memory h g steps w run) (replayed memory h' g' steps' w' run') same
 
 -- a call is the same as itself
-IsSameCall-refl : (s : Step) → IsSameCall s s
-IsSameCall-refl (allocate layout m) = refl
-IsSameCall-refl (deallocate addr m) = refl
-IsSameCall-refl (deallocate_as addr layout m) = (refl, refl)
-IsSameCall-refl (reallocate_as enabled addr layout size m) = (refl, refl, refl, refl)
-IsSameCall-refl (reallocate addr wanted m) = (refl, refl)
-IsSameCall-refl (reallocate_there addr layout size m) = (refl, refl, refl)
-IsSameCall-refl (read addr offset lent m left) = (refl, refl, refl)
-IsSameCall-refl (write addr offset bytes m) = (refl, refl, refl)
-IsSameCall-refl (usable addr m) = refl
+HasSameCall-refl : (s : Step) → HasSameCall s s
+HasSameCall-refl (allocate layout m) = refl
+HasSameCall-refl (deallocate addr m) = refl
+HasSameCall-refl (deallocate_as addr layout m) = (refl, refl)
+HasSameCall-refl (reallocate_as enabled addr layout size m) = (refl, refl, refl, refl)
+HasSameCall-refl (reallocate addr wanted m) = (refl, refl)
+HasSameCall-refl (reallocate_there addr layout size m) = (refl, refl, refl)
+HasSameCall-refl (read addr offset lent m left) = (refl, refl, refl)
+HasSameCall-refl (write addr offset bytes m) = (refl, refl, refl)
+HasSameCall-refl (usable addr m) = refl
 
-AreSameCalls-refl : (steps : List Step) → AreSameCalls steps steps
-AreSameCalls-refl [] = tt
-AreSameCalls-refl (s ∷ steps) = (IsSameCall-refl s, AreSameCalls-refl steps)
+HaveSameCalls-refl : (steps : List Step) → HaveSameCalls steps steps
+HaveSameCalls-refl [] = tt
+HaveSameCalls-refl (s ∷ steps) = (HasSameCall-refl s, HaveSameCalls-refl steps)
 
 -- ---- replays from the beginning
 
@@ -117,9 +117,9 @@ pub replay_goes_on : ReplayGoesOn
 replay_goes_on space grows journal h g s (steps, run, same) step =
     (steps ++ s ∷ [], IsHistory-append (beginning space grows) h g steps s run step, journal_of-append steps (s ∷ []) ∙ ap (λ l. l ++ journal_of (s ∷ [])) same)
 
-pub replay_determines : ReplayDetermines
+pub replay_determines : ReplaysDetermine
 replay_determines space grows journal h g addressable (steps, run, same) (steps', run', same') =
     let start = beginning space grows in
     let w = beginning_is_heap space grows addressable in
     (journal_determines space start start h g steps steps' w w (same_placement-refl start start refl) run run'
-    (subst (AreSameCalls (journal_of steps)) (same ∙ sym same') (AreSameCalls-refl (journal_of steps)))).1
+    (subst (HaveSameCalls (journal_of steps)) (same ∙ sym same') (HaveSameCalls-refl (journal_of steps)))).1

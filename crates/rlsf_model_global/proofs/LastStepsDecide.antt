@@ -7,7 +7,7 @@ use Rattle.rlsf_base.specs.declared.memory.range.Range.{Range}
 use Rattle.rlsf_model.proofs.FlexSteps.{flex_empty_is_well_formed}
 use Rattle.rlsf_model_global.specs.Cursor.{first_page, page_cursor, terms_of}
 use Rattle.rlsf_model_global.specs.Heap.{Heap, beginning, layout_at}
-use Rattle.rlsf_model_global.specs.History.{Gives, IsHistory, Names, NoneNames, Step, allocate, deallocate, deallocate_as, reallocate, reallocate_as, reallocate_there}
+use Rattle.rlsf_model_global.specs.History.{IsPlacedAt, IsHistory, Names, NoneNames, Step, allocate, deallocate, deallocate_as, reallocate, reallocate_as, reallocate_there}
 use Rattle.rlsf_model_global.specs.History.{read, usable, write}
 use Rattle.rlsf_model_global.specs.Isolation.{BeginningIsHeap, HistoriesListPayloads, IsLeftBy, PayloadsAreIsolated}
 use Rattle.rlsf_model_global.specs.Standing.{IsHeap}
@@ -31,11 +31,11 @@ histories_list_payloads space grows steps end addressable run =
 
 -- ---- whether a step names an address
 
-gives_or : (result : Placed) (a : ℕ) → Gives result a ⊎ (Gives result a → ⊥)
+gives_or : (result : Placed) (a : ℕ) → IsPlacedAt result a ⊎ (IsPlacedAt result a → ⊥)
 gives_or (Ok to) a = cases_eq (at to) a
 gives_or (Err e) a = inr (λ bad. bad)
 
-called_or : (addr : ℕ) (result : Placed) (a : ℕ) → ((addr ≡ a) ⊎ Gives result a) ⊎ ((addr ≡ a) ⊎ Gives result a → ⊥)
+called_or : (addr : ℕ) (result : Placed) (a : ℕ) → ((addr ≡ a) ⊎ IsPlacedAt result a) ⊎ ((addr ≡ a) ⊎ IsPlacedAt result a → ⊥)
 called_or addr result a = elim (cases_eq addr a) [
   | inl same ↦ inl (inl same)
   | inr off ↦ elim (gives_or result a) [

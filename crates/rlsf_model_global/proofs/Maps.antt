@@ -6,7 +6,7 @@ use Rattle.std.proofs.lemmas.Bool.Decides.{nat_tests}
 use Rattle.std.proofs.lemmas.Option.{none-some}
 use Rattle.rlsf_base.specs.declared.memory.layout.Layout.{Layout}
 use Rattle.rlsf_model.specs.Callers.{align_at, bytes_at}
-use Rattle.rlsf_model.specs.FlexState.{FlexState, empty}
+use Rattle.rlsf_model.specs.FlexState.{FlexState, flex_empty}
 use Rattle.rlsf_model.specs.State.{State}
 use Rattle.rlsf_model_global.specs.Heap.{Agrees, Lists}
 use Rattle.rlsf_model_global.specs.Rows.{Row, key, put, row_at, without_row}
@@ -45,7 +45,7 @@ agrees-filled None l b b' len h = h
 agrees-filled (Some r) l b b' len (is, enough, few) = (is, omega (arith, enough, len), omega (arith, few, len))
 
 -- nothing is live at the beginning
-pub Lists-none : (s : FlexState) → s ≡ empty → Lists [] s.machine
+pub Lists-none : (s : FlexState) → s ≡ flex_empty → Lists [] s.machine
 unfolding align_at
 Lists-none s same a = ap (λ (x : FlexState). align_at x.machine a) same
 

@@ -8,7 +8,7 @@ use Rattle.std.specs.declared.num.NonZeroUsize.{NonZeroUsize}
 use Rattle.rlsf_base.specs.Addr.{at}
 use Rattle.rlsf_base.specs.declared.memory.layout.Layout.{Layout}
 use Rattle.rlsf_base.specs.declared.memory.range.Range.{Range}
-use Rattle.rlsf_model.specs.Callers.{IsResized, align_at, bytes_at, payload_at}
+use Rattle.rlsf_model.specs.Callers.{IsResizedInMap, align_at, bytes_at, payload_at}
 use Rattle.rlsf_model.specs.FlexReallocate.{ReallocatesInRoom}
 use Rattle.rlsf_model.specs.FlexState.{with_machine}
 use Rattle.rlsf_model.specs.Note.{Note}
@@ -19,7 +19,7 @@ use Rattle.rlsf_model.proofs.CallerWords.{align_at-some, bytes_at-told}
 use Rattle.rlsf_model.proofs.NoMove.{unmoved_is_reallocated}
 use Rattle.rlsf_model_global.specs.Heap.{Agrees, Heap, Lists, content_at, layout_at, row_layout, with_state}
 use Rattle.rlsf_model_global.specs.Left.{IsMoved, IsMovedTo, ReallocationAsLeaves, ReallocationLeaves, ReallocationThereLeaves, in_both}
-use Rattle.rlsf_model_global.specs.Moves.{ReallocatesAsAt, ReallocatesAt, ReallocatesThereAt, ReallocatesTo, Replaces, ResizesThere, Wanted}
+use Rattle.rlsf_model_global.specs.Moves.{ReallocatesAsAt, ReallocatesAt, ReallocatesThereAt, ReallocatesTo, Replaces, HeapResizesThere, Wanted}
 use Rattle.rlsf_model_global.specs.Rows.{Row, put, row_at, without_row}
 use Rattle.rlsf_model_global.specs.Standing.{IsHeap}
 use Rattle.rlsf_model_global.specs.Steps.{Placed, is_same}
@@ -58,7 +58,7 @@ module _ {memory : Range} (h : Heap) (w : IsHeap memory h) (addr : ℕ) (row : R
       → IsMoved h g addr (at to) (in_both h g addr (at to)) wanted
   unfolding content_at
   resized_moved g asked notes is =
-      let r : IsResized (payload_at h.flex.machine) addr wanted.size (at to) (payload_at g.flex.machine) = is.changes in
+      let r : IsResizedInMap (payload_at h.flex.machine) addr wanted.size (at to) (payload_at g.flex.machine) = is.changes in
       let was : bytes_at h.flex.machine addr ≡ r.old.bytes = bytes_at-told h.flex.machine addr r.old r.was in
       let now : bytes_at g.flex.machine (at to) ≡ r.now.bytes = bytes_at-told g.flex.machine (at to) r.now r.here in
       record {
@@ -86,7 +86,7 @@ module _ {memory : Range} (h : Heap) (w : IsHeap memory h) (addr : ℕ) (row : R
       )
 
   -- in place
-  there_moved : (g : Heap) → ResizesThere h addr wanted (Ok to) g → (at to ≡ addr) × IsMoved h g addr (at to) (in_both h g addr (at to)) wanted
+  there_moved : (g : Heap) → HeapResizesThere h addr wanted (Ok to) g → (at to ≡ addr) × IsMoved h g addr (at to) (in_both h g addr (at to)) wanted
   there_moved g (m, did, after) =
       let u = with_machine h.flex m in
       let (same, step) = (unmoved_is_reallocated 64 h.flex.machine m addr wanted.size (Some (at to)) did).0 in
@@ -120,7 +120,7 @@ reallocation_there_leaves memory h g addr layout n to w step = go (row_at addr h
         → (at to ≡ addr) × IsMovedTo h g addr (at to) (in_both h g addr (at to)) layout n
     go None there step = refused_not to _ step.0
     go (Some row) there step =
-        either (Wanted n layout.align (λ wanted. ResizesThere h addr wanted (Ok to) g)) (AreSamePlaces (Ok to) (Err WrongLayout) × (g ≡ h))
+        either (Wanted n layout.align (λ wanted. HeapResizesThere h addr wanted (Ok to) g)) (AreSamePlaces (Ok to) (Err WrongLayout) × (g ≡ h))
         ((at to ≡ addr) × IsMovedTo h g addr (at to) (in_both h g addr (at to)) layout n) (is_same row.1 layout)
         (λ e did. let (same, moved) = there_moved h w addr row there to did.layout g did.made in (same, (did.layout, did.size, did.align, moved)))
         (λ e did. refused_not to WrongLayout did.0) step

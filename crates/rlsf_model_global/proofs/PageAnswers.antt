@@ -17,7 +17,7 @@ use Rattle.rlsf_model.specs.Terms.{Terms, with_len}
 use Rattle.rlsf_model.proofs.GivenAnswers.{more_wanted}
 use Rattle.rlsf_model.proofs.RangeLengths.{if_fits-some, range_asked, range_length-is}
 use Rattle.rlsf_model.proofs.TakenPools.{pool_size_is}
-use Rattle.rlsf_model_global.specs.Cursor.{PageCursor, PageLeads, moved_to, pages, terms_of}
+use Rattle.rlsf_model_global.specs.Cursor.{PageCursor, PageLeads, with_cursor_at, pages, terms_of}
 use Rattle.rlsf_model_global.specs.Pages.{IsPageCursor, MayOwe}
 use Rattle.rlsf_model_global.proofs.Cursors.{IsPageCursor-given, IsPageCursor-grown, given_range, grown_range}
 
@@ -81,7 +81,7 @@ module _ (x y : PageCursor) (is : IsPageCursor x) (owed : List Range) (may : May
   page_answered : (n : ℕ) (r : Range) → 0 < n → LeadsBy PageLeads x (alloc n (Some r) ∷ []) y → IsAnswered x owed (alloc n (Some r) ∷ []) y (r ∷ owed)
   page_answered n r some (z, (fits, at, goes), last) =
       let page = range_at x.at (pages n) in
-      let next = moved_to x (x.at + pages n) in
+      let next = with_cursor_at x (x.at + pages n) in
       let (told, now) = given_range x is n (pages n) some refl fits owed may in
       record {
         answers = λ m i. elim i [
@@ -113,7 +113,7 @@ module _ (x y : PageCursor) (is : IsPageCursor x) (owed : List Range) (may : May
       let told : MayAnswer (terms_of x) owed (grow r n (Some len)) =
       λ before after parts. (grown_range x is r n len last whole short within before after (subst (MayOwe x) parts may)).0 in
       let first : MayOwe x ([] ++ r ∷ rest) = subst (MayOwe x) split may in
-      let to : y ≡ moved_to x (r.start + len) = end ∙ goes ∙ ap (λ m. moved_to x (r.start + m)) (sym whole) in
+      let to : y ≡ with_cursor_at x (r.start + len) = end ∙ goes ∙ ap (λ m. with_cursor_at x (r.start + m)) (sym whole) in
       record {
         answers = λ m i. elim i [ inl e ↦ subst (MayAnswer (terms_of x) owed) (sym e) told | inr none ↦ absurd none ];
         cursor = subst IsPageCursor (sym to) (IsPageCursor-grown x is r n len whole within [] rest first);

@@ -24,11 +24,11 @@ use Rattle.rlsf_model_global.specs.declared.error.GlobalError.TheVariants.{NoRoo
 use Rattle.rlsf_model_global.specs.Cursor.{PageCursor, PageLeads, terms_of}
 use Rattle.rlsf_model_global.specs.Heap.{HaveSamePlacement, Heap}
 use Rattle.rlsf_model_global.specs.History.{allocate, deallocate, deallocate_as, reallocate, reallocate_as, reallocate_there, read, usable, write}
-use Rattle.rlsf_model_global.specs.Moves.{HeapMovesAway, ReallocatesAsAt, ReallocatesAt, ReallocatesThereAt, ReallocatesTo, Replaces, Resizes, ResizesThere, ResizesTo, Wanted}
+use Rattle.rlsf_model_global.specs.Moves.{HeapMovesAway, ReallocatesAsAt, ReallocatesAt, ReallocatesThereAt, ReallocatesTo, Replaces, FlexResizes, HeapResizesThere, ResizesTo, Wanted}
 use Rattle.rlsf_model_global.specs.Replays.{LacksMemory, PlacementDetermines}
 use Rattle.rlsf_model_global.specs.Rows.{Row, put, row_at, without_row}
 use Rattle.rlsf_model_global.specs.Standing.{IsHeap}
-use Rattle.rlsf_model_global.specs.Steps.{DeallocatesAsAt, DeallocatesAt, Done, HeapAllocates, Placed, ReadsAt, Releases, Takes, UsableAt, WritesAt, WritesIn, fits, is_same}
+use Rattle.rlsf_model_global.specs.Steps.{DeallocatesAsAt, DeallocatesAt, Done, HeapAllocates, Placed, ReadsAt, Releases, Takes, UsableAt, WritesAt, WritesIn, are_usable, is_same}
 use Rattle.rlsf_model_global.proofs.StepLeavesFlex.{flex_goes}
 use Rattle.rlsf_model_global.proofs.StepLeavesHeap.{live_row}
 use Rattle.rlsf_model_global.proofs.EqualNumbers.{same_address, same_layout}
@@ -72,8 +72,8 @@ module _ {memory : Range} (h h' : Heap) (w : IsHeap memory h) (w' : IsHeap memor
       let same : m ≡ n = cc in
       (same, d.1, d.2)
 
-  resized : (addr size : ℕ) → IsSomeLive h.flex.machine addr → (m n : Option ℕ) (u u' : FlexState) (y y' : PageCursor) → Resizes h addr size m u y
-      → Resizes h' addr size n u' y' → (m ≡ n) × AreFlexSimilar u u' × (y ≡ y')
+  resized : (addr size : ℕ) → IsSomeLive h.flex.machine addr → (m n : Option ℕ) (u u' : FlexState) (y y' : PageCursor) → FlexResizes h addr size m u y
+      → FlexResizes h' addr size n u' y' → (m ≡ n) × AreFlexSimilar u u' × (y ≡ y')
   resized addr size lives m n u u' y y' (notes, step, led) b =
       let (notes', step', led') =
       subst (λ (c : PageCursor). (ns : List Note) × FlexReallocates 64 64 (terms_of c) h'.flex addr size n ns u' × LeadsBy PageLeads c ns y') (sym r.source) b in
@@ -188,7 +188,7 @@ module _ {memory : Range} (h h' : Heap) (w : IsHeap memory h) (w' : IsHeap memor
     resizes_to addr wanted lives (Err NoRoom) (Err e) s t = absurd t
     resizes_to addr wanted lives (Err e) n s t = absurd s
 
-    resizes_there : (addr : ℕ) (wanted : Layout) (m n : Placed) → ResizesThere h addr wanted m g → ResizesThere h' addr wanted n g' → (m ≡ n) × HaveSamePlacement g g'
+    resizes_there : (addr : ℕ) (wanted : Layout) (m n : Placed) → HeapResizesThere h addr wanted m g → HeapResizesThere h' addr wanted n g' → (m ≡ n) × HaveSamePlacement g g'
     resizes_there addr wanted (Ok a) (Ok b) (i, step, after) (j, step', after') =
         let (reply, near) = unmoved-similar w.flex.machine w'.flex.machine r.machine addr wanted.size (Some (at a)) (Some (at b)) i j step step' in
         let same = same_address a b (same_Some (at a) (at b) reply) in (
@@ -235,12 +235,12 @@ module _ {memory : Range} (h h' : Heap) (w : IsHeap memory h) (w' : IsHeap memor
         → (m ≡ n) × HaveSamePlacement g g'
     reallocates_there addr layout size None m n s t = (s.0 ∙ sym t.0, stay s.1 t.1)
     reallocates_there addr layout size (Some row) m n s t =
-        both (Wanted size layout.align (λ wanted. ResizesThere h addr wanted m g)) ((m ≡ Err WrongLayout) × (g ≡ h))
-        (Wanted size layout.align (λ wanted. ResizesThere h' addr wanted n g')) ((n ≡ Err WrongLayout) × (g' ≡ h')) ((m ≡ n) × HaveSamePlacement g g')
+        both (Wanted size layout.align (λ wanted. HeapResizesThere h addr wanted m g)) ((m ≡ Err WrongLayout) × (g ≡ h))
+        (Wanted size layout.align (λ wanted. HeapResizesThere h' addr wanted n g')) ((n ≡ Err WrongLayout) × (g' ≡ h')) ((m ≡ n) × HaveSamePlacement g g')
         (is_same row.1 layout)
         (λ x y.
         let same = same_layout x.layout y.layout (x.size ∙ sym y.size) (x.align ∙ sym y.align) in
-        resizes_there addr x.layout m n x.made (subst (λ (l : Layout). ResizesThere h' addr l n g') (sym same) y.made))
+        resizes_there addr x.layout m n x.made (subst (λ (l : Layout). HeapResizesThere h' addr l n g') (sym same) y.made))
         (λ x y. (x.0 ∙ sym y.0, stay x.1 y.1)) s t
 
     -- ---- a payload that is read or written, or whose length is returned
@@ -252,7 +252,7 @@ module _ {memory : Range} (h h' : Heap) (w : IsHeap memory h) (w' : IsHeap memor
           let (v, held') = live' addr row there in
           lengths-same w.flex.machine w'.flex.machine r.machine addr u v held held'
 
-      fits-same : (offset m n : ℕ) → m ≡ n → fits h' addr offset n ≡ fits h addr offset m
+      fits-same : (offset m n : ℕ) → m ≡ n → are_usable h' addr offset n ≡ are_usable h addr offset m
       fits-same offset m n same = ap₂ (λ i j. nat_le (offset + i) j) (sym same) (sym lengths)
 
     reads : (addr offset : ℕ) (lent lent' left left' : List ℕ) → length lent ≡ length lent' → (o : Option Row) (m n : Done) → row_at addr h.asked ≡ o
@@ -263,7 +263,7 @@ module _ {memory : Range} (h h' : Heap) (w : IsHeap memory h) (w' : IsHeap memor
         let B = (m ≡ Err OutOfRange) × (left ≡ lent) in
         let A' = (n ≡ Ok tt) × (left' ≡ take (length lent') (drop offset (bytes_at h'.flex.machine addr))) in
         let B' = (n ≡ Err OutOfRange) × (left' ≡ lent') in
-        both A B A' B' (m ≡ n) (fits h addr offset (length lent)) (λ x y. x.0 ∙ sym y.0) (λ x y. x.0 ∙ sym y.0) s
+        both A B A' B' (m ≡ n) (are_usable h addr offset (length lent)) (λ x y. x.0 ∙ sym y.0) (λ x y. x.0 ∙ sym y.0) s
         (subst (λ b. MatchBool b A' B') (fits-same addr row there offset (length lent) (length lent') same) t)
 
     wrote : (addr offset : ℕ) (bytes bytes' : List ℕ) → WritesIn h addr offset bytes g → WritesIn h' addr offset bytes' g' → HaveSamePlacement g g'
@@ -278,7 +278,7 @@ module _ {memory : Range} (h h' : Heap) (w : IsHeap memory h) (w' : IsHeap memor
     writes addr offset bytes bytes' same (Some row) m n there s t =
         let A' = (n ≡ Ok tt) × WritesIn h' addr offset bytes' g' in
         let B' = (n ≡ Err OutOfRange) × (g' ≡ h') in
-        both ((m ≡ Ok tt) × WritesIn h addr offset bytes g) ((m ≡ Err OutOfRange) × (g ≡ h)) A' B' ((m ≡ n) × HaveSamePlacement g g') (fits h addr offset (length bytes))
+        both ((m ≡ Ok tt) × WritesIn h addr offset bytes g) ((m ≡ Err OutOfRange) × (g ≡ h)) A' B' ((m ≡ n) × HaveSamePlacement g g') (are_usable h addr offset (length bytes))
         (λ x y. (x.0 ∙ sym y.0, wrote addr offset bytes bytes' x.1 y.1)) (λ x y. (x.0 ∙ sym y.0, stay x.1 y.1)) s
         (subst (λ b. MatchBool b A' B') (fits-same addr row there offset (length bytes) (length bytes') same) t)
 

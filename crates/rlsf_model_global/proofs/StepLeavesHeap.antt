@@ -7,7 +7,7 @@ use Rattle.std.specs.declared.num.NonZeroUsize.{NonZeroUsize}
 use Rattle.rlsf_base.specs.Addr.{at}
 use Rattle.rlsf_base.specs.declared.memory.layout.Layout.{Layout}
 use Rattle.rlsf_base.specs.declared.memory.range.Range.{Range}
-use Rattle.rlsf_model.specs.Callers.{Payload, Serves, IsResized, align_at, bytes_at, payload_at}
+use Rattle.rlsf_model.specs.Callers.{Payload, ServesLayout, IsResizedInMap, align_at, bytes_at, payload_at}
 use Rattle.rlsf_model.specs.FlexRun.{AsksNothing}
 use Rattle.rlsf_model.specs.FlexState.{FlexState, with_machine}
 use Rattle.rlsf_model.specs.FlexWellFormed.{IsFlexWellFormed}
@@ -38,7 +38,7 @@ pub record Goes (memory : Range) (h g : Heap) (named : ℕ → Type 0) : Type 0 
   pub others : (a : ℕ) → (named a → ⊥) → Stays a h g
 
 -- a payload that serves the layout
-served : (m : State) (a : ℕ) (layout : Layout) (p : Payload) → payload_at m a ≡ Some p → Serves layout.size layout.align p → IsServed m a layout
+served : (m : State) (a : ℕ) (layout : Layout) (p : Payload) → payload_at m a ≡ Some p → ServesLayout layout.size layout.align p → IsServed m a layout
 served m a layout p is serves =
     let here = bytes_at-told m a p is in
     record {
@@ -71,7 +71,7 @@ pub record IsReplaced (memory : Range) (h : Heap) (state : FlexState) (source : 
   pub new : payload_at h.flex.machine to ≡ None
   pub now : Payload
   pub here : payload_at state.machine to ≡ Some now
-  pub serves : Serves wanted.size wanted.align now
+  pub serves : ServesLayout wanted.size wanted.align now
   pub rest : List ℕ
   pub bytes : now.bytes ≡ with_front keep (bytes_at h.flex.machine addr) rest
   pub gone : payload_at state.machine addr ≡ None
@@ -217,10 +217,10 @@ module _ {memory : Range} (h : Heap) (w : IsHeap memory h) where
     pub resized : (notes : List Note) → row.1.align ≡ wanted.align
         → FlexGoes memory h.source h.flex (machine_reallocates addr wanted.size (Some (at to))) notes g.source g.flex → Goes memory h g (λ a. (addr ≡ a) ⊎ (at to ≡ a))
     resized notes aligned is =
-        let r : IsResized (payload_at h.flex.machine) addr wanted.size (at to) (payload_at g.flex.machine) = is.changes in
+        let r : IsResizedInMap (payload_at h.flex.machine) addr wanted.size (at to) (payload_at g.flex.machine) = is.changes in
         let same : r.old.align ≡ wanted.align =
         same_Some r.old.align wanted.align (sym (align_at-told h.flex.machine addr r.old r.was) ∙ live_row h addr row w.lists there ∙ ap Some aligned) in
-        let serves = subst (λ n. Serves wanted.size n r.now) same r.serves in
+        let serves = subst (λ n. ServesLayout wanted.size n r.now) same r.serves in
         moved
         (record {
           flex = is.flex;

@@ -26,8 +26,8 @@ abbrev pub first_page : Range → ℕ
 first_page space = min (round32 space.start) (end_of space)
 
 -- with the cursor at another address
-abbrev pub moved_to : PageCursor → ℕ → PageCursor
-moved_to c at = record { space = c.space; at = at; grows = c.grows }
+abbrev pub with_cursor_at : PageCursor → ℕ → PageCursor
+with_cursor_at c at = record { space = c.space; at = at; grows = c.grows }
 
 -- it takes nothing back, and isn't one range
 abbrev pub terms_of : PageCursor → Terms
@@ -37,7 +37,7 @@ terms_of c = record { space = c.space; dealloc = false; grow = c.grows; contiguo
 -- way; what doesn't fit is refused, and then nothing changes
 abbrev pub PageLeads : PageCursor → Note → PageCursor → Type 0
 PageLeads x (alloc size None) y = (end_of x.space < x.at + pages size) × (y ≡ x)
-PageLeads x (alloc size (Some r)) y = (x.at + pages size ≤ end_of x.space) × (r ≡ range_at x.at (pages size)) × (y ≡ moved_to x (x.at + pages size))
+PageLeads x (alloc size (Some r)) y = (x.at + pages size ≤ end_of x.space) × (r ≡ range_at x.at (pages size)) × (y ≡ with_cursor_at x (x.at + pages size))
 PageLeads x (grow r len None) y = ((end_of r ≢ x.at) ⊎ (end_of x.space < r.start + pages len)) × (y ≡ x)
-PageLeads x (grow r len (Some given)) y = (end_of r ≡ x.at) × (r.start + pages len ≤ end_of x.space) × (given ≡ pages len) × (y ≡ moved_to x (r.start + pages len))
+PageLeads x (grow r len (Some given)) y = (end_of r ≡ x.at) × (r.start + pages len ≤ end_of x.space) × (given ≡ pages len) × (y ≡ with_cursor_at x (r.start + pages len))
 PageLeads x (dealloc r) y = y ≡ x

@@ -4,7 +4,7 @@ use Rattle.std.specs.Option.{option_map}
 use Rattle.rlsf_base.specs.declared.memory.layout.Layout.{Layout}
 use Rattle.rlsf_base.specs.declared.memory.range.Range.{Range}
 use Rattle.rlsf_model.specs.Callers.{align_at, bytes_at}
-use Rattle.rlsf_model.specs.FlexState.{FlexState, empty, with_machine}
+use Rattle.rlsf_model.specs.FlexState.{FlexState, flex_empty, with_machine}
 use Rattle.rlsf_model.specs.State.{AreSimilar, State}
 use Rattle.rlsf_model_global.specs.Cursor.{PageCursor, first_page, page_cursor}
 use Rattle.rlsf_model_global.specs.Rows.{Row, row_at}
@@ -17,7 +17,7 @@ pub record Heap : Type 0 where
 
 -- nothing was placed in the space yet
 abbrev pub beginning : Range → Bool → Heap
-beginning space grows = record { flex = empty; source = page_cursor space (first_page space) grows; asked = [] }
+beginning space grows = record { flex = flex_empty; source = page_cursor space (first_page space) grows; asked = [] }
 
 -- with another state of the reference model, and other entries
 abbrev pub with_state : Heap → State → List Row → Heap

@@ -35,18 +35,18 @@ LeadsTo h (write addr offset bytes result) g = HeapWrites h addr offset bytes re
 LeadsTo h (usable addr result) g = HeapUsable h addr result × (g ≡ h)
 
 -- the answer is the address
-abbrev pub Gives : Placed → ℕ → Type 0
-Gives (Ok to) a = at to ≡ a
-Gives (Err e) a = ⊥
+abbrev pub IsPlacedAt : Placed → ℕ → Type 0
+IsPlacedAt (Ok to) a = at to ≡ a
+IsPlacedAt (Err e) a = ⊥
 
 -- the step names the address, in its call or in its reply
 abbrev pub Names : Step → ℕ → Type 0
-Names (allocate layout result) a = Gives result a
+Names (allocate layout result) a = IsPlacedAt result a
 Names (deallocate addr result) a = addr ≡ a
 Names (deallocate_as addr layout result) a = addr ≡ a
-Names (reallocate_as enabled addr layout new_size result) a = (addr ≡ a) ⊎ Gives result a
-Names (reallocate addr wanted result) a = (addr ≡ a) ⊎ Gives result a
-Names (reallocate_there addr layout new_size result) a = (addr ≡ a) ⊎ Gives result a
+Names (reallocate_as enabled addr layout new_size result) a = (addr ≡ a) ⊎ IsPlacedAt result a
+Names (reallocate addr wanted result) a = (addr ≡ a) ⊎ IsPlacedAt result a
+Names (reallocate_there addr layout new_size result) a = (addr ≡ a) ⊎ IsPlacedAt result a
 Names (read addr offset lent result left) a = addr ≡ a
 Names (write addr offset bytes result) a = addr ≡ a
 Names (usable addr result) a = addr ≡ a

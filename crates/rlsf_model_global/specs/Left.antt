@@ -24,8 +24,8 @@ abbrev pub HasByte : Heap → ℕ → ℕ → Type 0
 HasByte h a x = (a ≤ x) × (x < a + length (content_at h a))
 
 -- no byte is one of two payloads
-abbrev pub PayloadsAreApart : Type 0
-PayloadsAreApart = (memory : Range) (h : Heap) (a b x : ℕ) → IsHeap memory h → HasByte h a x → HasByte h b x → a ≡ b
+abbrev pub HeapPayloadsAreApart : Type 0
+HeapPayloadsAreApart = (memory : Range) (h : Heap) (a b x : ℕ) → IsHeap memory h → HasByte h a x → HasByte h b x → a ≡ b
 
 -- an allocation leaves a payload of its layout where none was
 abbrev pub AllocationLeaves : Type 0

@@ -27,8 +27,8 @@ pub record Replaces (h : Heap) (addr keep size align to : ℕ) (flex : FlexState
   pub after : flex ≡ with_machine meanwhile freed
 
 -- the reference model reallocates, and its questions lead the cursor on
-abbrev pub Resizes : Heap → ℕ → ℕ → Option ℕ → FlexState → PageCursor → Type 0
-Resizes h addr size reply flex source =
+abbrev pub FlexResizes : Heap → ℕ → ℕ → Option ℕ → FlexState → PageCursor → Type 0
+FlexResizes h addr size reply flex source =
     (notes : List Note) × FlexReallocates 64 64 (terms_of h.source) h.flex addr size reply notes flex × LeadsBy PageLeads h.source notes source
 
 -- the payload moves into another, with an entry for it in the place of the old one's; where there is no room and no memory came, nothing
@@ -41,16 +41,16 @@ HeapMovesAway h addr keep wanted (Err e) g = ⊥
 -- the payload gets another size by the reference model, with an entry for it in the place of the old one's; where there is no room and no memory
 -- came, nothing changes
 abbrev pub ResizesTo : Heap → ℕ → Layout → Placed → Heap → Type 0
-ResizesTo h addr wanted (Ok to) g = Resizes h addr wanted.size (Some (at to)) g.flex g.source × (g.asked ≡ put (to, wanted) (without_row addr h.asked))
-ResizesTo h addr wanted (Err NoRoom) g = Resizes h addr wanted.size None h.flex h.source × (g ≡ h)
+ResizesTo h addr wanted (Ok to) g = FlexResizes h addr wanted.size (Some (at to)) g.flex g.source × (g.asked ≡ put (to, wanted) (without_row addr h.asked))
+ResizesTo h addr wanted (Err NoRoom) g = FlexResizes h addr wanted.size None h.flex h.source × (g ≡ h)
 ResizesTo h addr wanted (Err e) g = ⊥
 
 -- the payload gets another size in place, and its entry another layout; where the bytes there don't suffice, nothing changes
-abbrev pub ResizesThere : Heap → ℕ → Layout → Placed → Heap → Type 0
-ResizesThere h addr wanted (Ok to) g =
+abbrev pub HeapResizesThere : Heap → ℕ → Layout → Placed → Heap → Type 0
+HeapResizesThere h addr wanted (Ok to) g =
     (m : State) × ReallocatesWithoutMove h.flex.machine addr wanted.size (Some (at to)) m × (g ≡ with_state h m (put (to, wanted) (without_row addr h.asked)))
-ResizesThere h addr wanted (Err NoRoom) g = ReallocatesWithoutMove h.flex.machine addr wanted.size None h.flex.machine × (g ≡ h)
-ResizesThere h addr wanted (Err e) g = ⊥
+HeapResizesThere h addr wanted (Err NoRoom) g = ReallocatesWithoutMove h.flex.machine addr wanted.size None h.flex.machine × (g ≡ h)
+HeapResizesThere h addr wanted (Err e) g = ⊥
 
 -- a layout has the size and the alignment, and the step is made with it
 pub record Wanted (n a : ℕ) (step : Layout → Type 0) : Type 0 where
@@ -87,7 +87,7 @@ HeapReallocates h addr wanted result g = ReallocatesAt h addr wanted (row_at add
 abbrev pub ReallocatesThereAt : Heap → ℕ → Layout → ℕ → Option Row → Placed → Heap → Type 0
 ReallocatesThereAt h addr layout new_size None result g = (result ≡ Err UnknownAddress) × (g ≡ h)
 ReallocatesThereAt h addr layout new_size (Some row) result g =
-    MatchBool (is_same row.1 layout) (Wanted new_size layout.align (λ wanted. ResizesThere h addr wanted result g)) ((result ≡ Err WrongLayout) × (g ≡ h))
+    MatchBool (is_same row.1 layout) (Wanted new_size layout.align (λ wanted. HeapResizesThere h addr wanted result g)) ((result ≡ Err WrongLayout) × (g ≡ h))
 
 -- another size for a payload of a layout, in place
 abbrev pub HeapReallocatesThere : Heap → ℕ → Layout → ℕ → Placed → Heap → Type 0

@@ -8,18 +8,18 @@ use Rattle.rlsf_model_global.specs.History.{IsHistory, LeadsTo, Step, allocate, 
 use Rattle.rlsf_model_global.specs.Standing.{IsHeap}
 
 -- two calls are the same, whatever they answer, and whatever bytes are written or lent
-abbrev pub IsSameCall : Step → Step → Type 0
-IsSameCall (allocate layout m) (allocate layout' n) = layout ≡ layout'
-IsSameCall (deallocate addr m) (deallocate addr' n) = addr ≡ addr'
-IsSameCall (deallocate_as addr layout m) (deallocate_as addr' layout' n) = (addr ≡ addr') × (layout ≡ layout')
-IsSameCall (reallocate_as enabled addr layout size m) (reallocate_as enabled' addr' layout' size' n) =
+abbrev pub HasSameCall : Step → Step → Type 0
+HasSameCall (allocate layout m) (allocate layout' n) = layout ≡ layout'
+HasSameCall (deallocate addr m) (deallocate addr' n) = addr ≡ addr'
+HasSameCall (deallocate_as addr layout m) (deallocate_as addr' layout' n) = (addr ≡ addr') × (layout ≡ layout')
+HasSameCall (reallocate_as enabled addr layout size m) (reallocate_as enabled' addr' layout' size' n) =
     (enabled ≡ enabled') × (addr ≡ addr') × (layout ≡ layout') × (size ≡ size')
-IsSameCall (reallocate addr wanted m) (reallocate addr' wanted' n) = (addr ≡ addr') × (wanted ≡ wanted')
-IsSameCall (reallocate_there addr layout size m) (reallocate_there addr' layout' size' n) = (addr ≡ addr') × (layout ≡ layout') × (size ≡ size')
-IsSameCall (read addr offset lent m left) (read addr' offset' lent' n left') = (addr ≡ addr') × (offset ≡ offset') × (length lent ≡ length lent')
-IsSameCall (write addr offset bytes m) (write addr' offset' bytes' n) = (addr ≡ addr') × (offset ≡ offset') × (length bytes ≡ length bytes')
-IsSameCall (usable addr m) (usable addr' n) = addr ≡ addr'
-IsSameCall s s' = ⊥
+HasSameCall (reallocate addr wanted m) (reallocate addr' wanted' n) = (addr ≡ addr') × (wanted ≡ wanted')
+HasSameCall (reallocate_there addr layout size m) (reallocate_there addr' layout' size' n) = (addr ≡ addr') × (layout ≡ layout') × (size ≡ size')
+HasSameCall (read addr offset lent m left) (read addr' offset' lent' n left') = (addr ≡ addr') × (offset ≡ offset') × (length lent ≡ length lent')
+HasSameCall (write addr offset bytes m) (write addr' offset' bytes' n) = (addr ≡ addr') × (offset ≡ offset') × (length bytes ≡ length bytes')
+HasSameCall (usable addr m) (usable addr' n) = addr ≡ addr'
+HasSameCall s s' = ⊥
 
 -- two steps answer the same, whatever bytes are read
 abbrev pub IsSameAnswer : Step → Step → Type 0
@@ -42,7 +42,7 @@ LacksMemory s = ⊥
 -- from the same placement, the same call has the same answer, unless the system refused, and leads to the same placement
 abbrev pub PlacementDetermines : Type 0
 PlacementDetermines = (memory : Range) (h h' g g' : Heap) (s s' : Step) → IsHeap memory h → IsHeap memory h' → HaveSamePlacement h h' → LeadsTo h s g → LeadsTo h' s' g'
-    → IsSameCall s s'
+    → HasSameCall s s'
     → (LacksMemory s → ⊥) → (LacksMemory s' → ⊥) → IsSameAnswer s s' × HaveSamePlacement g g'
 
 -- a step that a journal has: no read, no write, no question for a length, and no step that was out of memory for a table entry
@@ -63,11 +63,11 @@ journal_of [] = []
 journal_of (s ∷ steps) = if is_entry s then s ∷ journal_of steps else journal_of steps
 
 -- the calls are the same, one by one
-abbrev pub AreSameCalls : List Step → List Step → Type 0
-AreSameCalls [] [] = Unit {0}
-AreSameCalls [] (s ∷ steps) = ⊥
-AreSameCalls (s ∷ steps) [] = ⊥
-AreSameCalls (s ∷ steps) (s' ∷ steps') = IsSameCall s s' × AreSameCalls steps steps'
+abbrev pub HaveSameCalls : List Step → List Step → Type 0
+HaveSameCalls [] [] = Unit {0}
+HaveSameCalls [] (s ∷ steps) = ⊥
+HaveSameCalls (s ∷ steps) [] = ⊥
+HaveSameCalls (s ∷ steps) (s' ∷ steps') = HasSameCall s s' × HaveSameCalls steps steps'
 
 -- so are the answers
 abbrev pub AreSameAnswers : List Step → List Step → Type 0
@@ -80,22 +80,22 @@ AreSameAnswers (s ∷ steps) (s' ∷ steps') = IsSameAnswer s s' × AreSameAnswe
 abbrev pub JournalDetermines : Type 0
 JournalDetermines = (memory : Range) (h h' g g' : Heap) (steps steps' : List Step) → IsHeap memory h → IsHeap memory h' → HaveSamePlacement h h' → IsHistory h steps g
     → IsHistory h' steps' g'
-    → AreSameCalls (journal_of steps) (journal_of steps') → AreSameAnswers (journal_of steps) (journal_of steps') × HaveSamePlacement g g'
+    → HaveSameCalls (journal_of steps) (journal_of steps') → AreSameAnswers (journal_of steps) (journal_of steps') × HaveSamePlacement g g'
 
 -- a journal replays to a heap: steps that have it lead there from the beginning, whatever was read and written meanwhile
-abbrev pub IsReplay : Range → Bool → List Step → Heap → Type 0
-IsReplay space grows journal h = (steps : List Step) × IsHistory (beginning space grows) steps h × (journal_of steps ≡ journal)
+abbrev pub ReplaysTo : Range → Bool → List Step → Heap → Type 0
+ReplaysTo space grows journal h = (steps : List Step) × IsHistory (beginning space grows) steps h × (journal_of steps ≡ journal)
 
 -- the empty journal replays to the beginning
 abbrev pub ReplayBegins : Type 0
-ReplayBegins = (space : Range) (grows : Bool) → IsReplay space grows [] (beginning space grows)
+ReplayBegins = (space : Range) (grows : Bool) → ReplaysTo space grows [] (beginning space grows)
 
 -- a step more is an entry more, or none if a journal doesn't have it
 abbrev pub ReplayGoesOn : Type 0
-ReplayGoesOn = (space : Range) (grows : Bool) (journal : List Step) (h g : Heap) (s : Step) → IsReplay space grows journal h → LeadsTo h s g
-    → IsReplay space grows (journal ++ journal_of (s ∷ [])) g
+ReplayGoesOn = (space : Range) (grows : Bool) (journal : List Step) (h g : Heap) (s : Step) → ReplaysTo space grows journal h → LeadsTo h s g
+    → ReplaysTo space grows (journal ++ journal_of (s ∷ [])) g
 
 -- all heaps to which a journal replays have one placement
-abbrev pub ReplayDetermines : Type 0
-ReplayDetermines = (space : Range) (grows : Bool) (journal : List Step) (h g : Heap) → end_of space < 2 ^ 64 → IsReplay space grows journal h → IsReplay space grows journal g
+abbrev pub ReplaysDetermine : Type 0
+ReplaysDetermine = (space : Range) (grows : Bool) (journal : List Step) (h g : Heap) → end_of space < 2 ^ 64 → ReplaysTo space grows journal h → ReplaysTo space grows journal g
     → HaveSamePlacement h g

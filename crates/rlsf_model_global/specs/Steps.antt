@@ -64,8 +64,8 @@ abbrev pub HeapDeallocatesAs : Heap → ℕ → Layout → Done → Heap → Typ
 HeapDeallocatesAs h addr layout result g = DeallocatesAsAt h addr layout (row_at addr h.asked) result g
 
 -- so many bytes from an offset on are usable at the address
-abbrev pub fits : Heap → ℕ → ℕ → ℕ → Bool
-fits h addr offset len = nat_le (offset + len) (length (bytes_at h.flex.machine addr))
+abbrev pub are_usable : Heap → ℕ → ℕ → ℕ → Bool
+are_usable h addr offset len = nat_le (offset + len) (length (bytes_at h.flex.machine addr))
 
 -- bytes are written over those of the payload from an offset on
 abbrev pub WritesIn : Heap → ℕ → ℕ → List ℕ → Heap → Type 0
@@ -76,7 +76,7 @@ WritesIn h addr offset bytes g =
 abbrev pub WritesAt : Heap → ℕ → ℕ → List ℕ → Option Row → Done → Heap → Type 0
 WritesAt h addr offset bytes None result g = (result ≡ Err UnknownAddress) × (g ≡ h)
 WritesAt h addr offset bytes (Some row) result g =
-    MatchBool (fits h addr offset (length bytes)) ((result ≡ Ok tt) × WritesIn h addr offset bytes g) ((result ≡ Err OutOfRange) × (g ≡ h))
+    MatchBool (are_usable h addr offset (length bytes)) ((result ≡ Ok tt) × WritesIn h addr offset bytes g) ((result ≡ Err OutOfRange) × (g ≡ h))
 
 -- a write into a payload
 abbrev pub HeapWrites : Heap → ℕ → ℕ → List ℕ → Done → Heap → Type 0
@@ -86,7 +86,7 @@ HeapWrites h addr offset bytes result g = WritesAt h addr offset bytes (row_at a
 abbrev pub ReadsAt : Heap → ℕ → ℕ → List ℕ → Option Row → Done → List ℕ → Type 0
 ReadsAt h addr offset lent None result left = (result ≡ Err UnknownAddress) × (left ≡ lent)
 ReadsAt h addr offset lent (Some row) result left =
-    MatchBool (fits h addr offset (length lent)) ((result ≡ Ok tt) × (left ≡ take (length lent) (drop offset (bytes_at h.flex.machine addr))))
+    MatchBool (are_usable h addr offset (length lent)) ((result ≡ Ok tt) × (left ≡ take (length lent) (drop offset (bytes_at h.flex.machine addr))))
     ((result ≡ Err OutOfRange) × (left ≡ lent))
 
 -- a read of a payload into what was lent

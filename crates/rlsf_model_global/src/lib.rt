@@ -7,8 +7,8 @@
 #![tactic(auto)]
 
 ghost use Rattle.rlsf_model_global.specs.Isolation.{BeginningIsHeap, HistoriesKeepHeap, HistoriesListPayloads, PayloadsAreIsolated, StepsKeepHeap, UnnamedStays, UnnamedStaysThroughout};
-ghost use Rattle.rlsf_model_global.specs.Left.{AllocationLeaves, DeallocationLeaves, PayloadsAreApart, PayloadsServe, ReadTells, ReallocationAsLeaves, ReallocationLeaves, ReallocationThereLeaves, WriteLeaves};
-ghost use Rattle.rlsf_model_global.specs.Replays.{JournalDetermines, OthersKeepPlacement, PlacementDetermines, ReplayBegins, ReplayDetermines, ReplayGoesOn};
+ghost use Rattle.rlsf_model_global.specs.Left.{AllocationLeaves, DeallocationLeaves, HeapPayloadsAreApart, PayloadsServe, ReadTells, ReallocationAsLeaves, ReallocationLeaves, ReallocationThereLeaves, WriteLeaves};
+ghost use Rattle.rlsf_model_global.specs.Replays.{JournalDetermines, OthersKeepPlacement, PlacementDetermines, ReplayBegins, ReplaysDetermine, ReplayGoesOn};
 
 mod error;
 
@@ -34,7 +34,7 @@ pub fn isolation()
     ensures isolated { PayloadsAreIsolated }
     ensures listed { HistoriesListPayloads }
     ensures serve { PayloadsServe }
-    ensures apart { PayloadsAreApart }
+    ensures apart { HeapPayloadsAreApart }
     ensures allocated { AllocationLeaves }
     ensures deallocated { DeallocationLeaves }
     ensures written { WriteLeaves }
@@ -58,5 +58,5 @@ pub fn replays()
     ensures journal { JournalDetermines }
     ensures begins { ReplayBegins }
     ensures goes_on { ReplayGoesOn }
-    ensures one_placement { ReplayDetermines }
+    ensures one_placement { ReplaysDetermine }
 {}

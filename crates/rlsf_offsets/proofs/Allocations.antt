@@ -24,7 +24,7 @@ use Rattle.rlsf_model.proofs.Tiling.{tiling_of, lies_in_chunk, IsPart-free}
 use Rattle.rlsf_model.proofs.Room.{refused_without_reach}
 use Rattle.rlsf_tlsf.specs.Allocator.{Allocator}
 use Rattle.rlsf_tlsf.specs.Results.{IsAllocated}
-use Rattle.rlsf_offsets.specs.Units.{AreWhole, IsFull, IsSizedForUnits, SucceedsWithin, KeepsSizedFor, IsReserved, IsShadow, Offsets, offsets, place, units_at}
+use Rattle.rlsf_offsets.specs.Units.{AreWhole, HasNoRoomFor, IsSizedForUnits, SucceedsWithin, KeepsSizedFor, IsReserved, IsShadow, Offsets, offsets, place, units_at}
 use Rattle.rlsf_model.specs.Sized.{IsSizedFor}
 use Rattle.rlsf_model.proofs.SizedWords.{never_refused}
 use Rattle.rlsf_tlsf.specs.Bounds.{IfWithinBounds, KeepsBounds}
@@ -62,22 +62,22 @@ module _ {units : ℕ} {a : Allocator} (is : IsShadow units a) (b : Allocator) (
   AreWhole-allocated (Some addr) step = AreWhole-placed a.state b.state size wide align addr ea wider step is.whole
 
   -- refused: the class of no free range reaches
-  pub IsFull-refused : Allocates 8 a.state size wide None b.state → IsFull (offsets units a) (n + align - 1)
-  unfolding IsFull
+  pub IsFull-refused : Allocates 8 a.state size wide None b.state → HasNoRoomFor (offsets units a) (n + align - 1)
+  unfolding HasNoRoomFor
   IsFull-refused step = subst (λ m. (f : Range) → IsIn f a.state.free → Reaches 8 (class_of 8 f.len) m → ⊥) sought
       ((refused_without_reach 8 (request_size size wide) a.state.free).0 step.0)
 
-  pub IsFull-answered : (addr : ℕ) → Allocates 8 a.state size wide (Some addr) b.state → IsFull (offsets units a) (n + align - 1) → ⊥
-  unfolding IsFull
+  pub IsFull-answered : (addr : ℕ) → Allocates 8 a.state size wide (Some addr) b.state → HasNoRoomFor (offsets units a) (n + align - 1) → ⊥
+  unfolding HasNoRoomFor
   IsFull-answered addr step full =
       let none = (refused_without_reach 8 (request_size size wide) a.state.free).1
       (subst (λ m. (f : Range) → IsIn f a.state.free → Reaches 8 (class_of 8 f.len) m → ⊥) (sym sought) full) in
       none-some step.range (sym none ∙ step.chosen)
 
 -- more units than the space has are in no free range
-pub IsFull-longer : {units : ℕ} {a : Allocator} → IsShadow units a → (m : ℕ) → units < m → IsFull (offsets units a) m
-unfolding IsFull
-IsFull-longer {units} {a} is m more f i reaches =
+pub HasNoRoomFor-longer : {units : ℕ} {a : Allocator} → IsShadow units a → (m : ℕ) → units < m → HasNoRoomFor (offsets units a) m
+unfolding HasNoRoomFor
+HasNoRoomFor-longer {units} {a} is m more f i reaches =
     let w = is.stands.well_formed in
     let whole = w.free f i in
     let home = lies_in_chunk a.state (tiling_of w) f whole.some (IsPart-free a.state (tiling_of w) f i) in
@@ -93,8 +93,8 @@ IsFull-longer {units} {a} is m more f i reaches =
 abbrev pub IsAllShort : Offsets → ℕ → Type 0
 IsAllShort v m = (f : Range) → IsIn f v.shadow.state.free → 8 * f.len < 9 * (32 * m)
 
-pub IsAllShort-full : (v : Offsets) (m : ℕ) → 0 < m → IsFull v m → IsAllShort v m
-unfolding IsFull
+pub IsAllShort-full : (v : Offsets) (m : ℕ) → 0 < m → HasNoRoomFor v m → IsAllShort v m
+unfolding HasNoRoomFor
 IsAllShort-full v m some full f i = elim (cases_lt (8 * f.len) (9 * (32 * m))) [
   | inl short ↦ short
   | inr long ↦ absurd (full f i (Reaches-from_slack 8 f.len (omega arith) (32 * m) (omega arith)))
@@ -166,8 +166,8 @@ module _ {units : ℕ} {a b : Allocator} (is : IsShadow units a) (after : IsShad
 module _ {units : ℕ} {a : Allocator} (is : IsShadow units a) (n align : ℕ) (some : 0 < n) (wider : 0 < align) where
   -- a space that is sized for some bounds isn't full within them
   not_full : (count most widest : ℕ) → IsSizedForUnits count most widest (offsets units a) → live_count a.state ≤ count → n ≤ most → align ≤ widest
-      → IsFull (offsets units a) (n + align - 1) → ⊥
-  unfolding IsFull
+      → HasNoRoomFor (offsets units a) (n + align - 1) → ⊥
+  unfolding HasNoRoomFor
   not_full count most widest sized few short fits full =
       let size = 32 * (n - 1) in
       let wide = 32 * align in
@@ -176,7 +176,7 @@ module _ {units : ℕ} {a : Allocator} (is : IsShadow units a) (n align : ℕ) (
       (subst (λ m. (f : Range) → IsIn f a.state.free → Reaches 8 (class_of 8 f.len) m → ⊥) (sym sought) full) in
       never_refused is.stands.well_formed a.state count (32 * (most - 1)) (32 * widest) sized size wide few (omega (arith, short)) (omega (arith, fits)) (none, refl)
 
-  pub within-full : (P : Type 0) → IsFull (offsets units a) (n + align - 1) → SucceedsWithin (offsets units a) n align P
+  pub within-full : (P : Type 0) → HasNoRoomFor (offsets units a) (n + align - 1) → SucceedsWithin (offsets units a) n align P
   unfolding SucceedsWithin
   within-full P full = λ count most widest sized few short fits. absurd (not_full count most widest sized few short fits full)
 

@@ -17,7 +17,7 @@ use Rattle.rlsf_model.proofs.Tiling.{IsPart-free, IsPart-used, block_of, lies_in
 use Rattle.rlsf_tlsf.specs.Allocator.{Allocator}
 use Rattle.rlsf_offsets.specs.declared.stats.Stats.{Stats}
 use Rattle.rlsf_offsets.specs.Iteration.{AreInSpace}
-use Rattle.rlsf_offsets.specs.Blocks.{AreAllBlocks, AreStats, AreTotals, AreWithin}
+use Rattle.rlsf_offsets.specs.Blocks.{AreAllBlocks, AreStats, AreSpaceTotals, AreWithinSpace}
 use Rattle.rlsf_offsets.specs.Units.{IsShadow, Offsets, offsets, whole_shadow}
 use Rattle.rlsf_offsets.proofs.Ranges.{chunk_end}
 
@@ -100,8 +100,8 @@ module _ {units : ℕ} {a : Allocator} (is : IsShadow units a) where
     in_order = are.in_order;
   }
 
-pub AreWithin-blocks : {units : ℕ} {a : Allocator} → IsShadow units a → (bs : List Block) → AreAllBlocks (offsets units a) bs → AreWithin units bs
-AreWithin-blocks is bs all = λ b i. let home = lies is b ((all.exactly b).0 i) in (home.from, home.to)
+pub AreWithinSpace-blocks : {units : ℕ} {a : Allocator} → IsShadow units a → (bs : List Block) → AreAllBlocks (offsets units a) bs → AreWithinSpace units bs
+AreWithinSpace-blocks is bs all = λ b i. let home = lies is b ((all.exactly b).0 i) in (home.from, home.to)
 
 -- ---- their totals
 
@@ -168,9 +168,9 @@ span (b ∷ bs) low high fits order within cover =
     ]) in
     omega (arith, rest, first, total_cons b bs)
 
-pub AreTotals-blocks : {units : ℕ} {a : Allocator} → IsShadow units a → (bs : List Block) (t : Totals) → AreAllBlocks (offsets units a) bs → AreTotalsOf bs t
-    → AreTotals (offsets units a) t
-AreTotals-blocks {units} {a} is bs t all of =
+pub AreSpaceTotals-blocks : {units : ℕ} {a : Allocator} → IsShadow units a → (bs : List Block) (t : Totals) → AreAllBlocks (offsets units a) bs → AreTotalsOf bs t
+    → AreSpaceTotals (offsets units a) t
+AreSpaceTotals-blocks {units} {a} is bs t all of =
     let home = λ (b : Block) (i : IsIn b bs). lies is b ((all.exactly b).0 i) in
     let sums = summed bs (λ b i. (home b i).even) in
     let length_all = span bs (2 ^ 62 - 32) (2 ^ 62 - 32 + 32 * units) (omega arith) all.in_order (λ b i. ((home b i).from, (home b i).to, (home b i).some)) (λ z from to.
@@ -198,7 +198,7 @@ in_space unit shadow all even same =
     let whole : shadow ≡ 32 * (shadow / 32) = omega (arith, even) in
     sym (mul_assoc 32 (shadow / 32) unit) ∙ ap (λ n. n * unit) (sym whole ∙ same)
 
-pub AreStats-totals : (unit : ℕ) (v : Offsets) (t : Totals) (s : Stats) → AreTotals v t → s.ranges ≡ t.payloads → s.used ≡ t.used / 32 * unit
+pub AreStats-totals : (unit : ℕ) (v : Offsets) (t : Totals) (s : Stats) → AreSpaceTotals v t → s.ranges ≡ t.payloads → s.used ≡ t.used / 32 * unit
     → s.free ≡ t.free / 32 * unit → s.longest ≡ t.longest / 32 * unit → AreStats unit v s
 AreStats-totals unit v t s are ranges in_used in_free longest =
     let of = are.totals in
@@ -217,7 +217,7 @@ AreStats-totals unit v t s are ranges in_used in_free longest =
 
 -- ---- the pieces that they are for
 
-pub AreInSpace-within : (unit units : ℕ) (bs : List Block) → AreWithin units bs → units * unit < 2 ^ 64 → AreInSpace unit bs
+pub AreInSpace-within : (unit units : ℕ) (bs : List Block) → AreWithinSpace units bs → units * unit < 2 ^ 64 → AreInSpace unit bs
 AreInSpace-within unit units bs within fits b i =
     let (from, to) = within b i in
     let few : (end_of b.range - (2 ^ 62 - 32)) / 32 * unit ≤ units * unit = mul-le-mul_right unit (omega (arith, from, to)) in

@@ -9,8 +9,8 @@ use Rattle.rlsf_base.specs.PowerOfTwo.{IsPowerOfTwo, floor_log2}
 use Rattle.rlsf_base.proofs.Numbers.PowersOfTwo.{IsPowerOfTwo-pow, IsPowerOfTwo-positive}
 use Rattle.rlsf_model.specs.Callers.{align_at, bytes_at}
 use Rattle.rlsf_model.specs.State.{State}
-use Rattle.rlsf_offsets.specs.Units.{IsEmpty, IsLonger, IsReleased, IsReserved, IsResized, IsSpace, IsUnchanged, Offsets, place, units_at}
-use Rattle.rlsf_offsets.specs.Offsets.{IsAllocated, IsDeallocated, IsDivided, IsGrown, IsReallocated, IsRefused, at_multiple, len_at, rounded, units_for}
+use Rattle.rlsf_offsets.specs.Units.{IsEmpty, IsLonger, IsReleased, IsReserved, IsRangeResized, IsSpace, IsSpaceUnchanged, Offsets, place, units_at}
+use Rattle.rlsf_offsets.specs.Offsets.{IsRangeAllocated, IsRangeDeallocated, IsDivided, IsSpaceGrown, IsRangeReallocated, KeepsRanges, at_multiple, len_at, rounded, units_of_bytes}
 use Rattle.rlsf_offsets.proofs.Ranges.{units_at-same}
 
 -- ---- where live ranges are
@@ -129,7 +129,7 @@ module _ (unit : ℕ) (some : 0 < unit) where
 
   -- ---- what calls do
 
-  pub IsDeallocated-units : (v x : Offsets) (o : ℕ) → IsSome (len_at unit v o) → IsReleased v x (o / unit) → IsDeallocated unit v x o
+  pub IsDeallocated-units : (v x : Offsets) (o : ℕ) → IsSome (len_at unit v o) → IsReleased v x (o / unit) → IsRangeDeallocated unit v x o
   IsDeallocated-units v x o some gone =
       let first = some_len v o some in
       let same : (p : ℕ) → p ≢ o → len_at unit x p ≡ len_at unit v p = λ p other.
@@ -157,7 +157,7 @@ record IsUnitAlign (unit align units : ℕ) : Type 0 where
   times : ℕ
   whole : units * unit ≡ times * align
 
-unit_align : (unit align : ℕ) → IsPowerOfTwo unit → IsPowerOfTwo align → IsUnitAlign unit align (units_for unit align)
+unit_align : (unit align : ℕ) → IsPowerOfTwo unit → IsPowerOfTwo align → IsUnitAlign unit align (units_of_bytes unit align)
 unit_align unit align is_unit is_align =
     let a = floor_log2 unit in
     let b = floor_log2 align in
@@ -172,7 +172,7 @@ unit_align unit align is_unit is_align =
           let split : q ≡ q - 1 + 1 = omega (arith, positive) in
           let less : q * unit ≡ (q - 1 + 1) * unit = ap (λ k. k * unit) split in
           let whole : (align - 1) / unit ≡ q - 1 = div-eq_of_lt-le unit (omega (arith, less, product)) (omega (arith, less, product)) in
-          let units : units_for unit align ≡ q = omega (arith, whole) in
+          let units : units_of_bytes unit align ≡ q = omega (arith, whole) in
           record {
             power = subst IsPowerOfTwo (sym units) (IsPowerOfTwo-pow (b - a));
             times = 1;
@@ -185,7 +185,7 @@ unit_align unit align is_unit is_align =
           let positive : 0 < q = IsPowerOfTwo-positive q (IsPowerOfTwo-pow (a - b)) in
           let below : align ≤ unit = omega (arith, product, mul-le-mul_right align positive) in
           let whole : (align - 1) / unit ≡ 0 = div-eq_of_lt-le unit (omega arith) (omega (arith, below)) in
-          let units : units_for unit align ≡ 1 = omega (arith, whole) in
+          let units : units_of_bytes unit align ≡ 1 = omega (arith, whole) in
           record {
             power = subst IsPowerOfTwo (sym units) (IsPowerOfTwo-pow 0);
             times = q;
@@ -194,24 +194,24 @@ unit_align unit align is_unit is_align =
     ]
 
 module _ (unit align : ℕ) (is_unit : IsPowerOfTwo unit) (is_align : IsPowerOfTwo align) where
-  pub power_of_units : IsPowerOfTwo (units_for unit align)
+  pub power_of_units : IsPowerOfTwo (units_of_bytes unit align)
   power_of_units = (unit_align unit align is_unit is_align).power
 
   -- a multiple of the alignment in units is one in bytes
-  aligned : (first : ℕ) → first % units_for unit align ≡ 0 → first * unit % align ≡ 0
+  aligned : (first : ℕ) → first % units_of_bytes unit align ≡ 0 → first * unit % align ≡ 0
   aligned first none =
       let is = unit_align unit align is_unit is_align in
-      let a = units_for unit align in
+      let a = units_of_bytes unit align in
       let q = first / a in
       let whole : first ≡ q * a = omega (arith, div-add-mod' first a, none) in
       let bytes : first * unit ≡ align * (q * is.times) = ap (λ k. k * unit) whole ∙ mul_assoc q a unit ∙ ap (λ k. q * k) is.whole ∙ omega arith in
       subst (λ k. k % align ≡ 0) (sym bytes) (mul-mod_right align (q * is.times))
 
-  pub IsAllocated-units : (v x : Offsets) (len first : ℕ) → IsReserved v x (units_for unit len) (units_for unit align) first
-      → IsAllocated unit v x len align (first * unit)
+  pub IsAllocated-units : (v x : Offsets) (len first : ℕ) → IsReserved v x (units_of_bytes unit len) (units_of_bytes unit align) first
+      → IsRangeAllocated unit v x len align (first * unit)
   IsAllocated-units v x len first made =
       let some = IsPowerOfTwo-positive unit is_unit in
-      let n = units_for unit len in
+      let n = units_of_bytes unit len in
       let o = first * unit in
       let new : len_at unit v o ≡ None = len_at-none unit some v first made.new in
       let other : (p : ℕ) → IsSome (len_at unit v p) → p ≢ o = λ p live same.
@@ -237,15 +237,15 @@ module _ (unit align : ℕ) (is_unit : IsPowerOfTwo unit) (is_align : IsPowerOfT
         others = rest;
         stay = λ p live. subst IsSome (sym (rest p (other p live))) live;
         space = made.space;
-        units = subst (λ k. IsReserved v x n (units_for unit align) k) (sym (mul-div_left first some)) made;
+        units = subst (λ k. IsReserved v x n (units_of_bytes unit align) k) (sym (mul-div_left first some)) made;
       }
 
 -- ---- in place
 
 module _ (unit : ℕ) (some : 0 < unit) (v x : Offsets) (len o : ℕ) (live : IsSome (len_at unit v o)) where
-  pub IsReallocated-units : IsResized v x (units_for unit len) (o / unit) → IsReallocated unit v x len o
+  pub IsReallocated-units : IsRangeResized v x (units_of_bytes unit len) (o / unit) → IsRangeReallocated unit v x len o
   IsReallocated-units made =
-      let n = units_for unit len in
+      let n = units_of_bytes unit len in
       let first = some_len unit some v o live in
       let rest : (p : ℕ) → p ≢ o → len_at unit x p ≡ len_at unit v p = λ p other.
       others unit some v x (o / unit) (λ u apart. (made.others u apart).0) p (λ e. other (e ∙ sym first)) in
@@ -277,7 +277,7 @@ module _ (unit : ℕ) (some : 0 < unit) (v x : Offsets) (len o : ℕ) (live : Is
       }
 
 -- where nothing changed, the ranges are those that were live
-len_at-unchanged : (unit : ℕ) (v x : Offsets) → IsUnchanged v x → (p : ℕ) → len_at unit x p ≡ len_at unit v p
+len_at-unchanged : (unit : ℕ) (v x : Offsets) → IsSpaceUnchanged v x → (p : ℕ) → len_at unit x p ≡ len_at unit v p
 unfolding len_at
 len_at-unchanged unit v x is p =
     let o = p / unit in
@@ -285,28 +285,28 @@ len_at-unchanged unit v x is p =
     ap (λ (u : Option ℕ). at_multiple (p % unit) (option_map (λ (n : ℕ). n * unit) u)) same
 
 -- a reallocation in place that is done or refused leaves each live range live
-pub still_live : (unit : ℕ) (v x : Offsets) (len o : ℕ) (result : Bool) → (result ≡ true → IsReallocated unit v x len o) → (result ≡ false → IsUnchanged v x)
+pub still_live : (unit : ℕ) (v x : Offsets) (len o : ℕ) (result : Bool) → (result ≡ true → IsRangeReallocated unit v x len o) → (result ≡ false → IsSpaceUnchanged v x)
     → (p : ℕ) → IsSome (len_at unit v p) → IsSome (len_at unit x p)
 still_live unit v x len o true made none p live = (made refl).stay p live
 still_live unit v x len o false made none p live = subst IsSome (sym (len_at-unchanged unit v x (none refl) p)) live
 
 -- a call that is refused changes no range
-pub IsRefused-unchanged : (unit : ℕ) (v x : Offsets) → IsUnchanged v x → IsRefused unit v x
-IsRefused-unchanged unit v x is = record {
+pub KeepsRanges-unchanged : (unit : ℕ) (v x : Offsets) → IsSpaceUnchanged v x → KeepsRanges unit v x
+KeepsRanges-unchanged unit v x is = record {
   others = len_at-unchanged unit v x is;
   stay = λ p live. subst IsSome (sym (len_at-unchanged unit v x is p)) live;
   unchanged = is;
 }
 
 -- nor does one that is refused before it begins
-pub IsRefused-same : (unit : ℕ) (v : Offsets) → IsRefused unit v v
-IsRefused-same unit v = IsRefused-unchanged unit v v (record { space = refl; limit = refl; same = refl })
+pub KeepsRanges-same : (unit : ℕ) (v : Offsets) → KeepsRanges unit v v
+KeepsRanges-same unit v = KeepsRanges-unchanged unit v v (record { space = refl; limit = refl; same = refl })
 
 -- ---- a longer space
 
-pub IsGrown-units : (unit : ℕ) (v x : Offsets) (len : ℕ) → IsLonger v x (len / unit) → IsGrown unit v x len
+pub IsSpaceGrown-units : (unit : ℕ) (v x : Offsets) (len : ℕ) → IsLonger v x (len / unit) → IsSpaceGrown unit v x len
 unfolding len_at
-IsGrown-units unit v x len made = record {
+IsSpaceGrown-units unit v x len made = record {
   space = made.space;
   others = λ o. ap (λ (u : Option ℕ). at_multiple (o % unit) (option_map (λ (n : ℕ). n * unit) u)) (made.same (o / unit)).0;
   units = made;
@@ -314,13 +314,13 @@ IsGrown-units unit v x len made = record {
 
 module _ (unit : ℕ) (v x : Offsets) (len : ℕ) where
   -- a space that grows, or is refused to, keeps each live range
-  pub grown_live : (result : Bool) → (result ≡ true → IsLonger v x (len / unit)) → (result ≡ false → IsUnchanged v x)
+  pub grown_live : (result : Bool) → (result ≡ true → IsLonger v x (len / unit)) → (result ≡ false → IsSpaceUnchanged v x)
       → (p : ℕ) → IsSome (len_at unit v p) → IsSome (len_at unit x p)
-  grown_live true made none p live = subst IsSome (sym ((IsGrown-units unit v x len (made refl)).others p)) live
-  grown_live false made none p live = (IsRefused-unchanged unit v x (none refl)).stay p live
+  grown_live true made none p live = subst IsSome (sym ((IsSpaceGrown-units unit v x len (made refl)).others p)) live
+  grown_live false made none p live = (KeepsRanges-unchanged unit v x (none refl)).stay p live
 
   -- and its length fits in a word
-  pub grown_fits : (result : Bool) → (result ≡ true → IsLonger v x (len / unit)) → (result ≡ false → IsUnchanged v x)
+  pub grown_fits : (result : Bool) → (result ≡ true → IsLonger v x (len / unit)) → (result ≡ false → IsSpaceUnchanged v x)
       → v.units * unit < 2 ^ 64 → len < 2 ^ 64 → x.units * unit < 2 ^ 64
   grown_fits true made none old fits =
       let same : x.units * unit ≡ len / unit * unit = ap (λ (n : ℕ). n * unit) (made refl).space in

@@ -15,7 +15,7 @@ use Rattle.rlsf_model.proofs.Callers.{payload_at-none}
 use Rattle.rlsf_model.proofs.Live.{deallocation_leaves_others}
 use Rattle.rlsf_tlsf.specs.Allocator.{Allocator}
 use Rattle.rlsf_tlsf.specs.Results.{IsDeallocated}
-use Rattle.rlsf_offsets.specs.Units.{AreWhole, IsEmpty, SizesSpace, KeepsSized, whole_shadow, IsReleased, Offsets, offsets, place}
+use Rattle.rlsf_offsets.specs.Units.{AreWhole, IsEmpty, SizesSpace, KeepsSpaceSized, whole_shadow, IsReleased, Offsets, offsets, place}
 use Rattle.rlsf_tlsf.specs.Bounds.{KeepsAllBounds}
 use Rattle.rlsf_tlsf.specs.Sizing.{SizesPool}
 use Rattle.rlsf_offsets.proofs.Ranges.{align_of-none, align_of-same, units_at-none, units_at-same}
@@ -72,8 +72,8 @@ module _ (units : ℕ) (r : Range) (s t : State) (reply : Option ℕ) (e : r ≡
   pub no_chunk : units ≡ 0 → t.chunks ≡ []
   no_chunk zero = made ∙ ap (λ n. (with_chunks (cut (max_pool_size 59) (whole_shadow n)) s).chunks) zero ∙ none
 
-pub sized-freed : (v x : Offsets) → KeepsAllBounds 8 v.shadow.state x.shadow.state → KeepsSized v x
-unfolding KeepsSized
+pub sized-freed : (v x : Offsets) → KeepsAllBounds 8 v.shadow.state x.shadow.state → KeepsSpaceSized v x
+unfolding KeepsSpaceSized
 sized-freed v x kept = λ count most widest sized. kept count (32 * (most - 1)) (32 * widest) sized
 
 pub IsEmpty-fresh : (v : Offsets) → ((a : ℕ) → align_at v.shadow.state a ≡ None) → IsEmpty v

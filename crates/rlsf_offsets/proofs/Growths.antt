@@ -13,7 +13,7 @@ use Rattle.rlsf_model.specs.WellFormed.{coverage, itself}
 use Rattle.rlsf_model.proofs.Coverage.{covers-behind}
 use Rattle.rlsf_tlsf.specs.Allocator.{Allocator}
 use Rattle.rlsf_tlsf.specs.Results.{KeepsFrameOfPools}
-use Rattle.rlsf_offsets.specs.Units.{AreWhole, IsLonger, IsShadow, KeepsSized, Offsets, offsets, place, units_at, whole_shadow}
+use Rattle.rlsf_offsets.specs.Units.{AreWhole, IsLonger, IsShadow, KeepsSpaceSized, Offsets, offsets, place, units_at, whole_shadow}
 use Rattle.rlsf_offsets.proofs.Ranges.{IsSpace-shadow, align_of-same, units_at-same}
 
 pub AreWhole-used : (s t : State) → t.used ≡ s.used → AreWhole s → AreWhole t
@@ -95,6 +95,6 @@ IsLonger-frame {units} {a} {b} is to longer frame =
       limit = ap (λ (k : ℕ). k / 32 - 1) frame.place.1;
     }
 
-pub sized-again : (v : Offsets) → KeepsSized v v
-unfolding KeepsSized
+pub sized-again : (v : Offsets) → KeepsSpaceSized v v
+unfolding KeepsSpaceSized
 sized-again v = λ count most widest sized. sized

@@ -14,7 +14,7 @@ use Rattle.rlsf_model.proofs.Tiling.{tiling_of, lies_in_chunk, IsPart-used}
 use Rattle.rlsf_tlsf.specs.Allocator.{Allocator}
 use Rattle.rlsf_tlsf.specs.Cores.{IsCore, IsOwnFound, LeavesCore}
 use Rattle.rlsf_tlsf.specs.Steps.Moves.{bare}
-use Rattle.rlsf_offsets.specs.Units.{AreWhole, IsKept, whole_shadow, IsShadow, place}
+use Rattle.rlsf_offsets.specs.Units.{AreWhole, IsUnitAllocator, whole_shadow, IsShadow, place}
 use Rattle.rlsf_base.specs.OpenSpace.{IsOwned}
 use Rattle.rlsf_base.specs.SizeClass.{IsValid}
 use Rattle.rlsf_base.specs.Space.{Space}
@@ -35,14 +35,14 @@ use Rattle.rlsf_offsets.proofs.Frees.{AreWhole-none, no_chunk, shadow_chunk}
 is_valid : IsValid 128 128 59 8
 is_valid = record { some_rows = lit< tt; rows_fit = omega arith; power_of_two = refl; classes_fit = omega arith }
 
-pub IsCore-kept : {units : ℕ} {m : Space} {t : Table} {s : State} → IsKept units m t s → IsCore 59 8 m t s
+pub IsCore-kept : {units : ℕ} {m : Space} {t : Table} {s : State} → IsUnitAllocator units m t s → IsCore 59 8 m t s
 IsCore-kept is = record { valid = is_valid; stands = is.shadow.stands; is_bare = is.is_bare }
 
 -- after a call on the core that leaves one chunk of the shadow of some units, the memory is that shadow
-pub IsKept-longer : {from to : ℕ} {m n : Space} {t y : Table} {j k : State} {most : ℕ} → IsKept from m t j → LeavesCore 59 8 m n y j k most
+pub IsUnitAllocator-longer : {from to : ℕ} {m n : Space} {t y : Table} {j k : State} {most : ℕ} → IsUnitAllocator from m t j → LeavesCore 59 8 m n y j k most
     → 32 * to + 32 ≤ length m.bytes → AreWhole (read_from n k) → (0 < to → (read_from n k).chunks ≡ whole_shadow to ∷ [])
-    → (to ≡ 0 → (read_from n k).chunks ≡ []) → IsKept to n y k
-IsKept-longer {m = m} {n = n} is left long whole chunks none =
+    → (to ≡ 0 → (read_from n k).chunks ≡ []) → IsUnitAllocator to n y k
+IsUnitAllocator-longer {m = m} {n = n} is left long whole chunks none =
     let shadow = is.shadow in
     let start = left.costs.start in
     let len = left.costs.length in
@@ -63,11 +63,11 @@ IsKept-longer {m = m} {n = n} is left long whole chunks none =
     }
 
 -- so after one that keeps the chunks, it is the shadow of the same space
-pub IsKept-left : {units : ℕ} {m n : Space} {t y : Table} {j k : State} {most : ℕ} → IsKept units m t j → LeavesCore 59 8 m n y j k most
-    → (read_from n k).chunks ≡ (read_from m j).chunks → AreWhole (read_from n k) → IsKept units n y k
-IsKept-left is left chunks whole =
+pub IsUnitAllocator-left : {units : ℕ} {m n : Space} {t y : Table} {j k : State} {most : ℕ} → IsUnitAllocator units m t j → LeavesCore 59 8 m n y j k most
+    → (read_from n k).chunks ≡ (read_from m j).chunks → AreWhole (read_from n k) → IsUnitAllocator units n y k
+IsUnitAllocator-left is left chunks whole =
     let shadow = is.shadow in
-    IsKept-longer is left shadow.len whole (λ some. chunks ∙ shadow.chunks some) (λ zero. chunks ∙ shadow.none zero)
+    IsUnitAllocator-longer is left shadow.len whole (λ some. chunks ∙ shadow.chunks some) (λ zero. chunks ∙ shadow.none zero)
 
 -- each byte of a payload is the memory's own
 pub own_payload : {units : ℕ} {a : Allocator} → IsShadow units a → (u : Used) → IsIn u a.state.used → IsOwned a.memory (usable u)
@@ -80,21 +80,21 @@ own_payload {units} {a} is u i =
     λ p from to. is.own p (omega (arith, from, IsUsed-after_start u used, lies.0, home.from)) (omega (arith, to, IsUsed-after_start u used, lies.1, home.to))
 
 -- the live range at a unit has a used block, whose payload is the memory's own
-pub own_found : {units : ℕ} {m : Space} {t : Table} {s : State} → IsKept units m t s → (first addr : ℕ) → addr ≡ place first
+pub own_found : {units : ℕ} {m : Space} {t : Table} {s : State} → IsUnitAllocator units m t s → (first addr : ℕ) → addr ≡ place first
     → IsSome (align_at (read_from m s) (place first)) → IsOwnFound m (read_from m s) addr None
 own_found {m = m} {s = s} is first addr at some =
     let (u, holds) = align_at-some (read_from m s) (place first) some in
     (u, ((holds.0, holds.1 ∙ sym at), tt), own_payload is.shadow u holds.0)
 
 -- so its bytes are found by words
-pub live_found : {units : ℕ} {m : Space} {t : Table} {s : State} → IsKept units m t s → (first addr : ℕ) → addr ≡ place first
+pub live_found : {units : ℕ} {m : Space} {t : Table} {s : State} → IsUnitAllocator units m t s → (first addr : ℕ) → addr ≡ place first
     → IsSome (align_at (read_from m s) (place first)) → IsLiveIn m addr
 live_found {m = m} {t = t} {s = s} is first addr at some =
     let (u, holds) = align_at-some (read_from m s) (place first) some in
     (59, 8, contents m t, read_from m s, refl, is.shadow.stands, (u, (holds.0, holds.1 ∙ sym at)))
 
 -- and so is its length
-pub found_len : {units : ℕ} {m : Space} {t : Table} {s : State} → IsKept units m t s → (first addr : ℕ) → addr ≡ place first
+pub found_len : {units : ℕ} {m : Space} {t : Table} {s : State} → IsUnitAllocator units m t s → (first addr : ℕ) → addr ≡ place first
     → IsSome (align_at (read_from m s) (place first)) → (r : Range) → AtEachBlock m addr (λ u. r ≡ usable u) → r.len ≡ length (bytes_at (read_from m s) (place first))
 found_len {m = m} {t = t} {s = s} is first addr at some r each =
     let w = is.shadow.stands.well_formed in
@@ -125,7 +125,7 @@ module _ {m : Space} {t : Table} (bounds : (0 < m.start) × (m.start + length m.
 
   pub IsKept-new : (units most : ℕ) → units ≤ most → most ≤ 2 ^ 56 → m.start ≡ 2 ^ 62 - 32 → length m.bytes ≡ 32 * most + 32
       → {n : Space} {y : Table} {k : State} {cost : ℕ} → LeavesCore 59 8 m n y s k cost → (r : Range) → r ≡ whole_shadow units → (reply : Option ℕ)
-      → Inserts 59 (read_from m s) r reply (read_from n k) → live_count (read_from n k) ≡ 0 → IsKept units n y k
+      → Inserts 59 (read_from m s) r reply (read_from n k) → live_count (read_from n k) ≡ 0 → IsUnitAllocator units n y k
   IsKept-new units most fits few start len {n} {y} {k} left r same reply step count =
       let chunks = shadow_chunk units r (read_from m s) (read_from n k) reply same (ap (λ (x : State). x.chunks) read) step in
       let none = no_chunk units r (read_from m s) (read_from n k) reply same (ap (λ (x : State). x.chunks) read) step in

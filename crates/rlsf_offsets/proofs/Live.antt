@@ -8,9 +8,9 @@ use Rattle.rlsf_model.specs.Callers.{align_at, bytes_at}
 use Rattle.rlsf_model.specs.State.{State}
 use Rattle.rlsf_offsets.specs.declared.error.OffsetError.TheVariants.{UnknownOffset}
 use Rattle.rlsf_offsets.specs.declared.marks.Marks.{Marks}
-use Rattle.rlsf_offsets.specs.Checked.{if_live}
-use Rattle.rlsf_offsets.specs.Marks.{IsChecked, is_marked}
-use Rattle.rlsf_offsets.specs.Offsets.{IsAllocated, IsGrown, IsReallocated, IsRefused, at_multiple, len_at}
+use Rattle.rlsf_offsets.specs.Checked.{if_range_live}
+use Rattle.rlsf_offsets.specs.Marks.{IsCheckedSpace, is_marked}
+use Rattle.rlsf_offsets.specs.Offsets.{IsRangeAllocated, IsSpaceGrown, IsRangeReallocated, KeepsRanges, at_multiple, len_at}
 use Rattle.rlsf_offsets.specs.Units.{Offsets, limit_of, place, units_at}
 use Rattle.rlsf_offsets.proofs.Ranges.{units_at-same}
 use Rattle.rlsf_offsets.proofs.Bytes.{len_at-first, some_units}
@@ -22,7 +22,7 @@ still_some unit None = refl
 still_some unit (Some n) = refl
 
 -- at a multiple of the unit the mark says so
-pub live-whole : {unit : ℕ} {v : Offsets} {m : Marks} → IsChecked unit v m → (o : ℕ) → o % unit ≡ 0 → is_marked m (o / unit) ≡ is_some (len_at unit v o)
+pub live-whole : {unit : ℕ} {v : Offsets} {m : Marks} → IsCheckedSpace unit v m → (o : ℕ) → o % unit ≡ 0 → is_marked m (o / unit) ≡ is_some (len_at unit v o)
 unfolding len_at
 live-whole {unit} {v} is o e =
     let x = units_at v (o / unit) in
@@ -42,11 +42,11 @@ none_at None dead = refl
 none_at (Some n) dead = absurd (true≢false (sym dead))
 
 -- what the checked calls return, by whether one is
-pub unknown : {A : Type 0} (o : Option ℕ) (x : A) → false ≡ is_some o → Err UnknownOffset ≡ if_live o x
+pub unknown : {A : Type 0} (o : Option ℕ) (x : A) → false ≡ is_some o → Err UnknownOffset ≡ if_range_live o x
 unknown None x dead = refl
 unknown (Some n) x dead = absurd (true≢false (sym dead))
 
-pub known : {A : Type 0} (o : Option ℕ) (x : A) → true ≡ is_some o → Ok x ≡ if_live o x
+pub known : {A : Type 0} (o : Option ℕ) (x : A) → true ≡ is_some o → Ok x ≡ if_range_live o x
 known None x live = absurd (true≢false live)
 known (Some n) x live = refl
 
@@ -65,14 +65,14 @@ marked_inside (x ∷ xs) zero e = omega arith
 marked_inside (x ∷ xs) (suc i) e = let less = marked_inside xs i e in omega (arith, less)
 
 -- so a live range begins at a unit that has a mark
-pub live_inside : {unit : ℕ} {v : Offsets} {m : Marks} → IsChecked unit v m → (o : ℕ) → 0 < unit → IsSome (len_at unit v o) → o / unit < length m.marks.items
+pub live_inside : {unit : ℕ} {v : Offsets} {m : Marks} → IsCheckedSpace unit v m → (o : ℕ) → 0 < unit → IsSome (len_at unit v o) → o / unit < length m.marks.items
 live_inside {unit} {v} {m} is o some live = marked_inside m.marks.items (o / unit) (is.marked (o / unit) ∙ some_units unit some v o live)
 
 -- ---- what stays true
 
-module _ {unit : ℕ} {v : Offsets} {m : Marks} (is : IsChecked unit v m) (x : Offsets) where
+module _ {unit : ℕ} {v : Offsets} {m : Marks} (is : IsCheckedSpace unit v m) (x : Offsets) where
   -- where no range began or ended
-  pub IsChecked-same : ((o : ℕ) → is_some (units_at x o) ≡ is_some (units_at v o)) → limit_of x ≡ limit_of v → x.units ≤ limit_of v → IsChecked unit x m
+  pub IsChecked-same : ((o : ℕ) → is_some (units_at x o) ≡ is_some (units_at v o)) → limit_of x ≡ limit_of v → x.units ≤ limit_of v → IsCheckedSpace unit x m
   IsChecked-same same limit few =
       let covers = is.covers in
       record {
@@ -86,7 +86,7 @@ module _ {unit : ℕ} {v : Offsets} {m : Marks} (is : IsChecked unit v m) (x : O
   module _ (n : Marks) (first : ℕ) (set : Bool) (here : is_marked n first ≡ set) (marks : (o : ℕ) → o ≢ first → is_marked n o ≡ is_marked m o)
       (len : length n.marks.items ≡ length m.marks.items) where
     pub IsChecked-set : is_some (units_at x first) ≡ set → ((o : ℕ) → o ≢ first → units_at x o ≡ units_at v o) → x.units ≡ v.units
-        → limit_of x ≡ limit_of v → IsChecked unit x n
+        → limit_of x ≡ limit_of v → IsCheckedSpace unit x n
     IsChecked-set at others space limit =
         let covers = is.covers in
         let few = is.few in
@@ -105,7 +105,7 @@ module _ {unit : ℕ} {v : Offsets} {m : Marks} (is : IsChecked unit v m) (x : O
           few = omega (arith, limit, few, space);
         }
 
-  pub IsChecked-refused : IsRefused unit v x → IsChecked unit x m
+  pub IsChecked-refused : KeepsRanges unit v x → IsCheckedSpace unit x m
   IsChecked-refused none =
       let u = none.unchanged in
       let few = is.few in
@@ -115,10 +115,10 @@ module _ {unit : ℕ} {v : Offsets} {m : Marks} (is : IsChecked unit v m) (x : O
       = units_at-same v x o (ap (λ (s : State). align_at s (place o)) u.same) (ap (λ (s : State). bytes_at s (place o)) u.same) in
       ap is_some same) u.limit (omega (arith, u.space, few))
 
-  pub IsChecked-grown : (len : ℕ) → len / unit ≤ limit_of v → IsGrown unit v x len → IsChecked unit x m
+  pub IsChecked-grown : (len : ℕ) → len / unit ≤ limit_of v → IsSpaceGrown unit v x len → IsCheckedSpace unit x m
   IsChecked-grown len fits made = IsChecked-same (λ o. ap is_some (made.units.same o).0) made.units.limit (omega (arith, made.space, fits))
 
-  pub IsChecked-reallocated : (len o : ℕ) → 0 < unit → IsSome (len_at unit v o) → IsReallocated unit v x len o → IsChecked unit x m
+  pub IsChecked-reallocated : (len o : ℕ) → 0 < unit → IsSome (len_at unit v o) → IsRangeReallocated unit v x len o → IsCheckedSpace unit x m
   IsChecked-reallocated len o some live made =
       let few = is.few in
       let first = o / unit in
@@ -135,7 +135,7 @@ module _ {unit : ℕ} {v : Offsets} {m : Marks} (is : IsChecked unit v m) (x : O
       ]) made.units.limit (omega (arith, made.units.space, few))
 
 -- the range that was allocated begins at a unit that has a mark
-pub allocated_inside : {unit : ℕ} {v : Offsets} {m : Marks} → IsChecked unit v m → (x : Offsets) (len align o : ℕ) → IsAllocated unit v x len align o
+pub allocated_inside : {unit : ℕ} {v : Offsets} {m : Marks} → IsCheckedSpace unit v m → (x : Offsets) (len align o : ℕ) → IsRangeAllocated unit v x len align o
     → o / unit < length m.marks.items
 allocated_inside {unit} is x len align o made =
     let covers = is.covers in

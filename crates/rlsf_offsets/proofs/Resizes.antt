@@ -18,9 +18,9 @@ use Rattle.rlsf_model.proofs.CallerWords.{align_at-held, align_at-live, align_at
 use Rattle.rlsf_model.proofs.Coverage.{coverage-unique, covers-inside, find-none, find-some}
 use Rattle.rlsf_model.proofs.Tiling.{IsPart-free, free-le, lies_in_chunk, tiling_of}
 use Rattle.rlsf_tlsf.specs.Allocator.{Allocator}
-use Rattle.rlsf_tlsf.specs.CoreResizes.{KeepsBoundsThere, KeepsPayloads, stayed_if}
+use Rattle.rlsf_tlsf.specs.CoreResizes.{KeepsBoundsThere, KeepsPayloadsResizing, stayed_if}
 use Rattle.rlsf_tlsf.specs.Results as results
-use Rattle.rlsf_offsets.specs.Units.{AreWhole, HasRoomInPlace, IsFreeRange, IsResized, IsShadow, KeepsSizedThere, Offsets, align_of, offsets, place, units_at}
+use Rattle.rlsf_offsets.specs.Units.{AreWhole, HasRoomInPlace, IsFreeRange, IsRangeResized, IsShadow, KeepsSizedThere, Offsets, align_of, offsets, place, units_at}
 use Rattle.rlsf_offsets.proofs.Ranges.{IsSpace-shadow, align_of-live, align_of-same, chunk_end, seated, units_at-live, units_at-same}
 
 -- payloads that stay where they are lie at multiples of 32
@@ -165,9 +165,9 @@ no_room_longer {units} {a} is first n long r =
 -- ---- what was resized
 
 module _ {units : ℕ} {a b : Allocator} (is : IsShadow units a) (first n size addr : ℕ) (at : addr ≡ place first) (es : size ≡ 32 * (n - 1)) (some : 0 < n)
-    (live : IsSome (align_at a.state (place first))) (kept : KeepsPayloads a.state b.state addr) where
+    (live : IsSome (align_at a.state (place first))) (kept : KeepsPayloadsResizing a.state b.state addr) where
   pub IsResized-units : IsShadow units b → length b.memory.bytes ≡ length a.memory.bytes → results.IsResized a.state b.state addr size addr
-      → IsResized (offsets units a) (offsets units b) n first
+      → IsRangeResized (offsets units a) (offsets units b) n first
   IsResized-units after long made =
       let v = offsets units a in
       let x = offsets units b in

@@ -14,7 +14,7 @@ use Rattle.rlsf_model.proofs.Coverage.{covers-inside, covers-before, covers-behi
 use Rattle.rlsf_model.proofs.Payloads.{payload_of-le}
 use Rattle.rlsf_model.proofs.Tiling.{block_of, tiling_of, free-le}
 use Rattle.rlsf_tlsf.specs.Allocator.{Allocator}
-use Rattle.rlsf_offsets.specs.Units.{IsEmpty, IsFreeRun, IsFull, whole_shadow, IsShadow, Offsets, offsets, place, units_at}
+use Rattle.rlsf_offsets.specs.Units.{IsEmpty, IsFreeRun, HasNoRoomFor, whole_shadow, IsShadow, Offsets, offsets, place, units_at}
 use Rattle.rlsf_offsets.proofs.Ranges.{align_of-live, seated, units_at-live}
 use Rattle.rlsf_offsets.proofs.Allocations.{IsAllShort-full}
 
@@ -86,7 +86,7 @@ module _ {units : ℕ} {a : Allocator} (is : IsShadow units a) (w : IsWellFormed
       (f, i, omega arith)
 
 -- where no free range reaches so many units, no run of free units is long
-pub no_run : {units : ℕ} {a : Allocator} → IsShadow units a → (sought o m : ℕ) → 0 < sought → IsFull (offsets units a) sought
+pub no_run : {units : ℕ} {a : Allocator} → IsShadow units a → (sought o m : ℕ) → 0 < sought → HasNoRoomFor (offsets units a) sought
     → IsFreeRun (offsets units a) o m → 9 * sought ≤ 8 * m → ⊥
 no_run {units} {a} is sought o m some full run long =
     let short = IsAllShort-full (offsets units a) sought some full in

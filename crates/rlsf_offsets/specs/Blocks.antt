@@ -14,11 +14,11 @@ pub record AreAllBlocks (v : Offsets) (bs : List Block) : Type 0 where
   pub in_order : IsInOrder bs
 
 -- all of them are for units of the space
-abbrev pub AreWithin : ℕ → List Block → Type 0
-AreWithin units bs = (b : Block) → IsIn b bs → (2 ^ 62 - 32 ≤ b.range.start) × (end_of b.range ≤ 2 ^ 62 - 32 + 32 * units)
+abbrev pub AreWithinSpace : ℕ → List Block → Type 0
+AreWithinSpace units bs = (b : Block) → IsIn b bs → (2 ^ 62 - 32 ≤ b.range.start) × (end_of b.range ≤ 2 ^ 62 - 32 + 32 * units)
 
 -- the totals of the shadow
-pub record AreTotals (v : Offsets) (t : Totals) : Type 0 where
+pub record AreSpaceTotals (v : Offsets) (t : Totals) : Type 0 where
   pub blocks : List Block
   pub all : AreAllBlocks v blocks
   pub totals : AreTotalsOf blocks t

@@ -3,13 +3,13 @@ use Rattle.std.specs.Prelude.{◌≡◌, ◌⊎◌, ℕ, ◌*◌, ◌/◌, ◌<�
 use Rattle.rlsf_base.specs.PowerOfTwo.{IsPowerOfTwo}
 use Rattle.rlsf_offsets.specs.declared.error.OffsetError.{OffsetError}
 use Rattle.rlsf_offsets.specs.declared.error.OffsetError.TheVariants.{BadAlign, NoRoom, TooLong, TooShort, UnknownOffset}
-use Rattle.rlsf_offsets.specs.Offsets.{HasRoomFor, IsFullFor, len_at}
+use Rattle.rlsf_offsets.specs.Offsets.{HasRoomForBytes, IsFullFor, len_at}
 use Rattle.rlsf_offsets.specs.Units.{Offsets, limit_of}
 
 -- an offset at which no range is live is refused
-abbrev pub if_live : {A : Type 0} → Option ℕ → A → Result A OffsetError
-if_live None x = Err UnknownOffset
-if_live (Some n) x = Ok x
+abbrev pub if_range_live : {A : Type 0} → Option ℕ → A → Result A OffsetError
+if_range_live None x = Err UnknownOffset
+if_range_live (Some n) x = Ok x
 
 -- the length of a live range
 abbrev pub len_or : Option ℕ → Result ℕ OffsetError
@@ -24,10 +24,10 @@ IsAllocation unit v len align (Err e) =
     ⊎ ((e ≡ NoRoom) × IsPowerOfTwo align × (len ≤ v.units * unit) × IsFullFor unit v len align)
 
 -- a reallocation in place
-abbrev pub IsReallocation : ℕ → Offsets → ℕ → ℕ → Result (Unit {0}) OffsetError → Type 0
-IsReallocation unit v offset len (Ok x) = IsSome (len_at unit v offset) × HasRoomFor unit v offset len
-IsReallocation unit v offset len (Err e) =
-    ((e ≡ UnknownOffset) × (len_at unit v offset ≡ None)) ⊎ ((e ≡ NoRoom) × IsSome (len_at unit v offset) × (HasRoomFor unit v offset len → ⊥))
+abbrev pub IsRangeReallocation : ℕ → Offsets → ℕ → ℕ → Result (Unit {0}) OffsetError → Type 0
+IsRangeReallocation unit v offset len (Ok x) = IsSome (len_at unit v offset) × HasRoomForBytes unit v offset len
+IsRangeReallocation unit v offset len (Err e) =
+    ((e ≡ UnknownOffset) × (len_at unit v offset ≡ None)) ⊎ ((e ≡ NoRoom) × IsSome (len_at unit v offset) × (HasRoomForBytes unit v offset len → ⊥))
 
 -- a growth of the space
 abbrev pub IsGrowth : ℕ → Offsets → ℕ → Result (Unit {0}) OffsetError → Type 0

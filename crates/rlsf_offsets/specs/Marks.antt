@@ -9,7 +9,7 @@ abbrev pub is_marked : Marks → ℕ → Bool
 is_marked m o = get_or m.marks.items o false
 
 -- The unit is a power of two. A mark is set exactly where a live range begins. Each unit that the space can have has one
-pub record IsChecked (unit : ℕ) (v : Offsets) (m : Marks) : Type 0 where
+pub record IsCheckedSpace (unit : ℕ) (v : Offsets) (m : Marks) : Type 0 where
   pub power : IsPowerOfTwo unit
   pub marked : (o : ℕ) → is_marked m o ≡ is_some (units_at v o)
   pub covers : limit_of v ≤ length m.marks.items

@@ -85,8 +85,8 @@ pub record IsFreeRun (v : Offsets) (o units : ℕ) : Type 0 where
   pub clear : (p n align : ℕ) → units_at v p ≡ Some n → align_of v p ≡ Some align → (p + n ≤ o) ⊎ (o + units + align ≤ p + 1)
 
 -- no free range has a size class that reaches so many units
-unfoldable pub IsFull : Offsets → ℕ → Type 0
-IsFull v units = (f : Range) → IsIn f v.shadow.state.free → Reaches 8 (class_of 8 f.len) (32 * units) → ⊥
+unfoldable pub HasNoRoomFor : Offsets → ℕ → Type 0
+HasNoRoomFor v units = (f : Range) → IsIn f v.shadow.state.free → Reaches 8 (class_of 8 f.len) (32 * units) → ⊥
 
 -- a free range begins at a unit, and has so many units
 unfoldable pub IsFreeRange : Offsets → ℕ → ℕ → Type 0
@@ -99,7 +99,7 @@ pub record HasRoomInPlace (v : Offsets) (offset units : ℕ) : Type 0 where
   pub room : (units ≤ now) ⊎ ((more : ℕ) × IsFreeRange v (offset + now) more × (units ≤ now + more))
 
 -- the live range at an offset got exactly so many units in place
-pub record IsResized (before after : Offsets) (units offset : ℕ) : Type 0 where
+pub record IsRangeResized (before after : Offsets) (units offset : ℕ) : Type 0 where
   -- it is live, and has exactly these units
   pub live : units_at after offset ≡ Some units
   -- it lies in the space
@@ -159,11 +159,11 @@ KeepsSizedThere before after offset units =
     → IsSizedForUnits count most widest after
 
 -- the space stays sized for all bounds
-unfoldable pub KeepsSized : Offsets → Offsets → Type 0
-KeepsSized before after = (count most widest : ℕ) → IsSizedForUnits count most widest before → IsSizedForUnits count most widest after
+unfoldable pub KeepsSpaceSized : Offsets → Offsets → Type 0
+KeepsSpaceSized before after = (count most widest : ℕ) → IsSizedForUnits count most widest before → IsSizedForUnits count most widest after
 
 -- a refused call changes nothing but the number of word accesses
-pub record IsUnchanged (before after : Offsets) : Type 0 where
+pub record IsSpaceUnchanged (before after : Offsets) : Type 0 where
   pub space : after.units ≡ before.units
   pub limit : limit_of after ≡ limit_of before
   pub same : after.shadow.state ≡ before.shadow.state
@@ -192,6 +192,6 @@ pub record IsShadow (units : ℕ) (a : Allocator) : Type 0 where
   pub none : units ≡ 0 → a.state.chunks ≡ []
 
 -- what is true of the fields of every allocator
-pub record IsKept (units : ℕ) (m : Space) (t : Table) (s : State) : Type 0 where
+pub record IsUnitAllocator (units : ℕ) (m : Space) (t : Table) (s : State) : Type 0 where
   pub shadow : IsShadow units (allocator m t s)
   pub is_bare : bare s ≡ s

@@ -4,11 +4,11 @@ ghost use Rattle.std.specs.Prelude.{◌≡◌, ◌≤◌, ◌<◌, ◌+◌, ◌-
 ghost use Rattle.std.specs.Map.Iter.{GivesInOrder};
 ghost use Rattle.rlsf_base.specs.PowerOfTwo.{IsPowerOfTwo};
 ghost use Rattle.rlsf_offsets.specs.Blocks.{AreStats};
-ghost use Rattle.rlsf_offsets.specs.Checked.{IsAllocation, IsGrowth, IsReallocation, if_live, len_or};
+ghost use Rattle.rlsf_offsets.specs.Checked.{IsAllocation, IsGrowth, IsRangeReallocation, if_range_live, len_or};
 ghost use Rattle.rlsf_offsets.specs.Iteration.{ArePieces};
 ghost use Rattle.rlsf_offsets.specs.Offsets as offsets;
-ghost use Rattle.rlsf_offsets.specs.Offsets.{IsAllocated, IsDeallocated, IsDivided, IsGrown, IsReallocated, IsRefused, SucceedsFor, len_at};
-ghost use Rattle.rlsf_offsets.specs.Units.{IsFreeRun, KeepsSized, KeepsSizedFor, KeepsSizedThere, SizesSpace, limit_of};
+ghost use Rattle.rlsf_offsets.specs.Offsets.{IsRangeAllocated, IsRangeDeallocated, IsDivided, IsSpaceGrown, IsRangeReallocated, KeepsRanges, SucceedsFor, len_at};
+ghost use Rattle.rlsf_offsets.specs.Units.{IsFreeRun, KeepsSpaceSized, KeepsSizedFor, KeepsSizedThere, SizesSpace, limit_of};
 ghost use Rattle.rlsf_offsets.specs.declared.error.OffsetError.TheVariants.{BadUnit, NoRoom, OutOfMemory, TooLong, TooShort};
 
 use crate::error::OffsetError;
@@ -30,14 +30,14 @@ pub struct CheckedOffsets<const UNIT: usize> {
 }
 
 impl<const UNIT: usize> Model for CheckedOffsets<UNIT> {
-    ghost use Rattle.rlsf_offsets.specs.Marks.{IsChecked};
+    ghost use Rattle.rlsf_offsets.specs.Marks.{IsCheckedSpace};
     ghost use Rattle.rlsf_offsets.specs.Units.{Offsets};
 
     ghost Value = { Offsets };
 
     ghost view = { λ o. o.inner };
 
-    ghost invariant = { λ o. IsChecked UNIT o.inner o.marks };
+    ghost invariant = { λ o. IsCheckedSpace UNIT o.inner o.marks };
 }
 
 impl<const UNIT: usize> CheckedOffsets<UNIT> {
@@ -98,12 +98,12 @@ impl<const UNIT: usize> CheckedOffsets<UNIT> {
     ///
     /// Completes in constant time: at most 27 word accesses.
     pub fn allocate(&mut self, len: usize, align: usize) -> Result<usize, OffsetError>
-        ensures allocated { IfOk result (λ offset. IsAllocated UNIT self.old self.new len align offset) }
+        ensures allocated { IfOk result (λ offset. IsRangeAllocated UNIT self.old self.new len align offset) }
         ensures which { IsAllocation UNIT self.old len align result }
-        ensures room { IsPowerOfTwo align → (o m : ℕ) → IsFreeRun self.old o m → 9 * (offsets.units_for UNIT len + offsets.units_for UNIT align - 1) ≤ 8 * m → IsOk result }
+        ensures room { IsPowerOfTwo align → (o m : ℕ) → IsFreeRun self.old o m → 9 * (offsets.units_of_bytes UNIT len + offsets.units_of_bytes UNIT align - 1) ≤ 8 * m → IsOk result }
         ensures within { IsPowerOfTwo align → SucceedsFor UNIT self.old len align (IsOk result) }
-        ensures sized { KeepsSizedFor self.old self.new (offsets.units_for UNIT len) (offsets.units_for UNIT align) }
-        ensures same { OnErr result (IsRefused UNIT self.old self.new) }
+        ensures sized { KeepsSizedFor self.old self.new (offsets.units_of_bytes UNIT len) (offsets.units_of_bytes UNIT align) }
+        ensures same { OnErr result (KeepsRanges UNIT self.old self.new) }
         ensures touches { self.new.shadow.memory.touches ≤ self.old.shadow.memory.touches + 27 }
     {
         if !is_power(align) {
@@ -124,10 +124,10 @@ impl<const UNIT: usize> CheckedOffsets<UNIT> {
     ///
     /// Completes in constant time: at most 33 word accesses.
     pub fn deallocate(&mut self, offset: usize) -> Result<(), OffsetError>
-        ensures deallocated { IfOk result (λ x. IsDeallocated UNIT self.old self.new offset) }
-        ensures which { result ≡ if_live (len_at UNIT self.old offset) tt }
-        ensures sized { KeepsSized self.old self.new }
-        ensures same { OnErr result (IsRefused UNIT self.old self.new) }
+        ensures deallocated { IfOk result (λ x. IsRangeDeallocated UNIT self.old self.new offset) }
+        ensures which { result ≡ if_range_live (len_at UNIT self.old offset) tt }
+        ensures sized { KeepsSpaceSized self.old self.new }
+        ensures same { OnErr result (KeepsRanges UNIT self.old self.new) }
         ensures touches { self.new.shadow.memory.touches ≤ self.old.shadow.memory.touches + 33 }
     {
         if !self.is_live(offset) {
@@ -147,10 +147,10 @@ impl<const UNIT: usize> CheckedOffsets<UNIT> {
     ///
     /// Completes in constant time: at most 26 word accesses.
     pub fn reallocate_in_place(&mut self, offset: usize, len: usize) -> Result<(), OffsetError>
-        ensures reallocated { IfOk result (λ x. IsReallocated UNIT self.old self.new len offset) }
-        ensures which { IsReallocation UNIT self.old offset len result }
-        ensures sized { KeepsSizedThere self.old self.new (offset / UNIT) (offsets.units_for UNIT len) }
-        ensures same { OnErr result (IsRefused UNIT self.old self.new) }
+        ensures reallocated { IfOk result (λ x. IsRangeReallocated UNIT self.old self.new len offset) }
+        ensures which { IsRangeReallocation UNIT self.old offset len result }
+        ensures sized { KeepsSizedThere self.old self.new (offset / UNIT) (offsets.units_of_bytes UNIT len) }
+        ensures same { OnErr result (KeepsRanges UNIT self.old self.new) }
         ensures touches { self.new.shadow.memory.touches ≤ self.old.shadow.memory.touches + 26 }
     {
         if !self.is_live(offset) {
@@ -171,10 +171,10 @@ impl<const UNIT: usize> CheckedOffsets<UNIT> {
     ///
     /// Completes in constant time: at most 34 word accesses.
     pub fn grow(&mut self, len: usize) -> Result<(), OffsetError>
-        ensures grown { IfOk result (λ x. IsGrown UNIT self.old self.new len) }
+        ensures grown { IfOk result (λ x. IsSpaceGrown UNIT self.old self.new len) }
         ensures which { IsGrowth UNIT self.old len result }
-        ensures sized { KeepsSized self.old self.new }
-        ensures same { OnErr result (IsRefused UNIT self.old self.new) }
+        ensures sized { KeepsSpaceSized self.old self.new }
+        ensures same { OnErr result (KeepsRanges UNIT self.old self.new) }
         ensures touches { self.new.shadow.memory.touches ≤ self.old.shadow.memory.touches + 34 }
     {
         if !self.inner.grow(len) {

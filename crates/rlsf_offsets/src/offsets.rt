@@ -2,11 +2,11 @@
 ghost use Rattle.std.specs.Prelude.{◌≡◌, ◌≤◌, ◌<◌, ◌+◌, ◌-◌, ◌*◌, ◌/◌, ◌^◌, ◌↔◌, ◌⊎◌, ℕ, Some, None, true, false, IfErr, IfOk, IfNone, IfSome, IsErrOf, IsSome, max};
 ghost use Rattle.rlsf_base.specs.PowerOfTwo.{IsPowerOfTwo};
 ghost use Rattle.rlsf_offsets.specs.Offsets as offsets;
-ghost use Rattle.rlsf_offsets.specs.Offsets.{HasRoomFor, IsAllocated, IsDeallocated, IsDivided, IsFullFor, IsGrown, IsReallocated, IsRefused, SucceedsFor, len_at};
+ghost use Rattle.rlsf_offsets.specs.Offsets.{HasRoomForBytes, IsRangeAllocated, IsRangeDeallocated, IsDivided, IsFullFor, IsSpaceGrown, IsRangeReallocated, KeepsRanges, SucceedsFor, len_at};
 ghost use Rattle.std.specs.Map.Iter.{GivesInOrder};
 ghost use Rattle.rlsf_offsets.specs.Iteration.{ArePieces};
 ghost use Rattle.rlsf_offsets.specs.Blocks.{AreStats};
-ghost use Rattle.rlsf_offsets.specs.Units.{IsEmpty, IsFreeRun, KeepsSized, KeepsSizedFor, KeepsSizedThere, SizesSpace, limit_of};
+ghost use Rattle.rlsf_offsets.specs.Units.{IsEmpty, IsFreeRun, KeepsSpaceSized, KeepsSizedFor, KeepsSizedThere, SizesSpace, limit_of};
 
 use crate::pieces::{Piece, Pieces};
 use crate::stats::Stats;
@@ -102,11 +102,11 @@ impl<const UNIT: usize> OffsetTlsf<UNIT> {
     ///
     /// Completes in constant time: at most 34 word accesses.
     pub fn grow(&mut self, len: usize) -> bool
-        ensures grown { result ≡ true → IsGrown UNIT self.old self.new len }
+        ensures grown { result ≡ true → IsSpaceGrown UNIT self.old self.new len }
         ensures which { (result ≡ true) ↔ ((self.old.units ≤ len / UNIT) × (len / UNIT ≤ limit_of self.old)) }
         ensures stay { (o : ℕ) → IsSome (len_at UNIT self.old o) → IsSome (len_at UNIT self.new o) }
-        ensures sized { KeepsSized self.old self.new }
-        ensures same { result ≡ false → IsRefused UNIT self.old self.new }
+        ensures sized { KeepsSpaceSized self.old self.new }
+        ensures same { result ≡ false → KeepsRanges UNIT self.old self.new }
         ensures touches { self.new.shadow.memory.touches ≤ self.old.shadow.memory.touches + 34 }
     {
         // Opens the invariant for the prover: the unit isn't 0.
@@ -145,12 +145,12 @@ impl<const UNIT: usize> OffsetTlsf<UNIT> {
     /// ```
     pub fn allocate(&mut self, len: usize, align: usize) -> Option<usize>
         requires { IsPowerOfTwo align }
-        ensures allocated { IfSome result (λ offset. IsAllocated UNIT self.old self.new len align offset) }
+        ensures allocated { IfSome result (λ offset. IsRangeAllocated UNIT self.old self.new len align offset) }
         ensures refused { (result ≡ None) ↔ IsFullFor UNIT self.old len align }
-        ensures room { (o m : ℕ) → IsFreeRun self.old o m → 9 * (offsets.units_for UNIT len + offsets.units_for UNIT align - 1) ≤ 8 * m → IsSome result }
+        ensures room { (o m : ℕ) → IsFreeRun self.old o m → 9 * (offsets.units_of_bytes UNIT len + offsets.units_of_bytes UNIT align - 1) ≤ 8 * m → IsSome result }
         ensures within { SucceedsFor UNIT self.old len align (IsSome result) }
-        ensures sized { KeepsSizedFor self.old self.new (offsets.units_for UNIT len) (offsets.units_for UNIT align) }
-        ensures same { IfNone result (IsRefused UNIT self.old self.new) }
+        ensures sized { KeepsSizedFor self.old self.new (offsets.units_of_bytes UNIT len) (offsets.units_of_bytes UNIT align) }
+        ensures same { IfNone result (KeepsRanges UNIT self.old self.new) }
         ensures touches { self.new.shadow.memory.touches ≤ self.old.shadow.memory.touches + 27 }
     {
         // Opens the invariant for the prover: the unit isn't 0.
@@ -176,8 +176,8 @@ impl<const UNIT: usize> OffsetTlsf<UNIT> {
     /// ```
     pub fn deallocate(&mut self, offset: usize)
         requires { IsSome (len_at UNIT self.old offset) }
-        ensures deallocated { IsDeallocated UNIT self.old self.new offset }
-        ensures sized { KeepsSized self.old self.new }
+        ensures deallocated { IsRangeDeallocated UNIT self.old self.new offset }
+        ensures sized { KeepsSpaceSized self.old self.new }
         ensures touches { self.new.shadow.memory.touches ≤ self.old.shadow.memory.touches + 33 }
     {
         self.inner.deallocate(offset / UNIT);
@@ -201,11 +201,11 @@ impl<const UNIT: usize> OffsetTlsf<UNIT> {
     /// ```
     pub fn reallocate_in_place(&mut self, offset: usize, len: usize) -> bool
         requires { IsSome (len_at UNIT self.old offset) }
-        ensures reallocated { result ≡ true → IsReallocated UNIT self.old self.new len offset }
-        ensures room { (result ≡ true) ↔ HasRoomFor UNIT self.old offset len }
+        ensures reallocated { result ≡ true → IsRangeReallocated UNIT self.old self.new len offset }
+        ensures room { (result ≡ true) ↔ HasRoomForBytes UNIT self.old offset len }
         ensures stay { (o : ℕ) → IsSome (len_at UNIT self.old o) → IsSome (len_at UNIT self.new o) }
-        ensures sized { KeepsSizedThere self.old self.new (offset / UNIT) (offsets.units_for UNIT len) }
-        ensures same { result ≡ false → IsRefused UNIT self.old self.new }
+        ensures sized { KeepsSizedThere self.old self.new (offset / UNIT) (offsets.units_of_bytes UNIT len) }
+        ensures same { result ≡ false → KeepsRanges UNIT self.old self.new }
         ensures touches { self.new.shadow.memory.touches ≤ self.old.shadow.memory.touches + 26 }
     {
         // Opens the invariant for the prover: the unit isn't 0.
@@ -284,7 +284,7 @@ fn in_bytes<const UNIT: usize>(shadow: usize) -> usize
 /// Returns how many units so many bytes take: the fewest that have them, and at least one.
 fn units_for<const UNIT: usize>(bytes: usize) -> usize
     requires { 0 < UNIT }
-    ensures value { result ≡ offsets.units_for UNIT bytes }
+    ensures value { result ≡ offsets.units_of_bytes UNIT bytes }
     ensures some { 0 < result }
 {
     bytes.saturating_sub(1) / UNIT + 1

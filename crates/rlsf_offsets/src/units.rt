@@ -8,9 +8,9 @@ ghost use Rattle.std.specs.Prelude.{◌≡◌, ◌≤◌, ◌<◌, ◌+◌, ◌-
 ghost use Rattle.std.specs.Map.Iter.{GivesInOrder};
 ghost use Rattle.rlsf_base.specs.MemoryCalls as memories;
 ghost use Rattle.rlsf_base.specs.PowerOfTwo.{IsPowerOfTwo};
-ghost use Rattle.rlsf_offsets.specs.Blocks.{AreAllBlocks, AreTotals, AreWithin};
-ghost use Rattle.rlsf_offsets.specs.Units.{HasRoomInPlace, IsEmpty, IsFreeRun, IsFull, IsKept, IsLonger, IsReleased, IsReserved, IsResized, IsSpace, IsUnchanged};
-ghost use Rattle.rlsf_offsets.specs.Units.{KeepsSized, KeepsSizedFor, KeepsSizedThere, SizesSpace, SucceedsWithin, limit_of, place, units_at, whole_shadow};
+ghost use Rattle.rlsf_offsets.specs.Blocks.{AreAllBlocks, AreSpaceTotals, AreWithinSpace};
+ghost use Rattle.rlsf_offsets.specs.Units.{HasRoomInPlace, IsEmpty, IsFreeRun, HasNoRoomFor, IsUnitAllocator, IsLonger, IsReleased, IsReserved, IsRangeResized, IsSpace, IsSpaceUnchanged};
+ghost use Rattle.rlsf_offsets.specs.Units.{KeepsSpaceSized, KeepsSizedFor, KeepsSizedThere, SizesSpace, SucceedsWithin, limit_of, place, units_at, whole_shadow};
 ghost use Rattle.rlsf_base.specs.Range.{range_at};
 ghost use Rattle.rlsf_blocks.specs.Laws.{read_from};
 ghost use Rattle.rlsf_tlsf.specs.Allocator.{allocator};
@@ -47,13 +47,13 @@ pub(crate) struct UnitTlsf {
 
 impl Model for UnitTlsf {
     ghost use Rattle.rlsf_tlsf.specs.Allocator.{allocator};
-    ghost use Rattle.rlsf_offsets.specs.Units.{IsKept, Offsets, offsets};
+    ghost use Rattle.rlsf_offsets.specs.Units.{IsUnitAllocator, Offsets, offsets};
 
     ghost Value = { Offsets };
 
     ghost view = { λ o. offsets o.units (allocator o.memory o.table o.state.state) };
 
-    ghost invariant = { λ o. IsKept o.units o.memory o.table o.state.state };
+    ghost invariant = { λ o. IsUnitAllocator o.units o.memory o.table o.state.state };
 }
 
 impl Drop for UnitTlsf {
@@ -103,11 +103,11 @@ impl UnitTlsf {
         requires some { 0 < units }
         requires align { IsPowerOfTwo align }
         ensures reserved { IfSome result (λ first. IsReserved self.old self.new units align first) }
-        ensures refused { (result ≡ None) ↔ IsFull self.old (units + align - 1) }
+        ensures refused { (result ≡ None) ↔ HasNoRoomFor self.old (units + align - 1) }
         ensures room { (o m : ℕ) → IsFreeRun self.old o m → 9 * (units + align - 1) ≤ 8 * m → IsSome result }
         ensures within { SucceedsWithin self.old units align (IsSome result) }
         ensures sized { KeepsSizedFor self.old self.new units align }
-        ensures same { IfNone result (IsUnchanged self.old self.new) }
+        ensures same { IfNone result (IsSpaceUnchanged self.old self.new) }
         ensures touches { self.new.shadow.memory.touches ≤ self.old.shadow.memory.touches + 27 }
     {
         // Each free range is shorter.
@@ -123,7 +123,7 @@ impl UnitTlsf {
     pub(crate) fn deallocate(&mut self, first: usize)
         requires { IsSome (units_at self.old first) }
         ensures released { IsReleased self.old self.new first }
-        ensures sized { KeepsSized self.old self.new }
+        ensures sized { KeepsSpaceSized self.old self.new }
         ensures touches { self.new.shadow.memory.touches ≤ self.old.shadow.memory.touches + 33 }
     {
         let addr = place_of(first, self.units);
@@ -143,10 +143,10 @@ impl UnitTlsf {
     pub(crate) fn reallocate_in_place(&mut self, first: usize, units: usize) -> bool
         requires some { 0 < units }
         requires live { IsSome (units_at self.old first) }
-        ensures resized { result ≡ true → IsResized self.old self.new units first }
+        ensures resized { result ≡ true → IsRangeResized self.old self.new units first }
         ensures room { (result ≡ true) ↔ HasRoomInPlace self.old first units }
         ensures sized { KeepsSizedThere self.old self.new first units }
-        ensures same { result ≡ false → IsUnchanged self.old self.new }
+        ensures same { result ≡ false → IsSpaceUnchanged self.old self.new }
         ensures touches { self.new.shadow.memory.touches ≤ self.old.shadow.memory.touches + 26 }
     {
         // The space is shorter.
@@ -171,8 +171,8 @@ impl UnitTlsf {
     pub(crate) fn grow(&mut self, units: usize) -> bool
         ensures longer { result ≡ true → IsLonger self.old self.new units }
         ensures which { (result ≡ true) ↔ ((self.old.units ≤ units) × (units ≤ limit_of self.old)) }
-        ensures sized { KeepsSized self.old self.new }
-        ensures same { result ≡ false → IsUnchanged self.old self.new }
+        ensures sized { KeepsSpaceSized self.old self.new }
+        ensures same { result ≡ false → IsSpaceUnchanged self.old self.new }
         ensures touches { self.new.shadow.memory.touches ≤ self.old.shadow.memory.touches + 34 }
     {
         if can_have(self.memory.len(), self.units, units) {
@@ -201,7 +201,7 @@ impl UnitTlsf {
     /// Returns the blocks of the shadow, used and free, in order.
     pub(crate) fn blocks(&self) -> Blocks<'_>
         ensures blocks { AreAllBlocks self.now result }
-        ensures within { AreWithin self.now.units result }
+        ensures within { AreWithinSpace self.now.units result }
         ensures runs { GivesInOrder BlockInfo }
     {
         let len = chunk_len(self.units);
@@ -210,7 +210,7 @@ impl UnitTlsf {
 
     /// Returns the totals of the shadow, in its bytes.
     pub(crate) fn totals(&self) -> Totals
-        ensures totals { AreTotals self.now result }
+        ensures totals { AreSpaceTotals self.now result }
         ensures few { (result.used ≤ 32 * self.now.units) × (result.free ≤ 32 * self.now.units) × (result.longest ≤ 32 * self.now.units) }
     {
         // Opens the invariant for the prover: the memory represents the state.
@@ -243,7 +243,7 @@ fn chunk_len(units: usize) -> usize
 /// Reserves the shadow of a space of up to so many units. None of its bytes is written.
 fn shadow(alloc: Global, units: usize) -> Result<OpenMemory, MemoryError>
     requires { units ≤ 2 ^ 56 }
-    ensures memory { IfOk result (λ m. memories.IsReserved m (2 ^ 62 - 32) (32 * units + 32)) }
+    ensures memory { IfOk result (λ m. memories.IsReservedMemory m (2 ^ 62 - 32) (32 * units + 32)) }
     ensures refused { IfErr result (λ e. e ≡ MemoryError.OutOfMemory) }
 {
     OpenMemory::reserve(alloc, ORIGIN - SHADOW, SHADOW * units + SHADOW)
@@ -265,10 +265,10 @@ fn lengthen(
     from: usize,
     to: usize,
 )
-    requires kept { IsKept from memory.old table.old state.old.state }
+    requires kept { IsUnitAllocator from memory.old table.old state.old.state }
     requires longer { from ≤ to }
     requires room { 32 * to + 32 ≤ length memory.old.bytes }
-    ensures kept { IsKept to memory.new table.new state.new.state }
+    ensures kept { IsUnitAllocator to memory.new table.new state.new.state }
     ensures bounds { KeepsAllBounds 8 (read_from memory.old state.old.state) (read_from memory.new state.new.state) }
     ensures frame { KeepsFrameOfPools (allocator memory.old table.old state.old.state) (allocator memory.new table.new state.new.state) }
     ensures touches { memory.new.touches ≤ memory.old.touches + 34 }
@@ -305,7 +305,7 @@ fn units_behind(from: usize, to: usize) -> Range
 /// Makes so many units of a space free, which can have `most`.
 fn over(memory: OpenMemory, units: usize, most: usize) -> UnitTlsf
     requires few { (units ≤ most) × (most ≤ 2 ^ 56) }
-    requires memory { memories.IsReserved memory (2 ^ 62 - 32) (32 * most + 32) }
+    requires memory { memories.IsReservedMemory memory (2 ^ 62 - 32) (32 * most + 32) }
     ensures units { (result.units ≡ units) × (limit_of result ≡ most) }
     ensures empty { IsEmpty result }
     ensures sized { SizesSpace result }

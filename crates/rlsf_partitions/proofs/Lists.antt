@@ -9,7 +9,7 @@ use Rattle.std.specs.Option.{option_map}
 use Rattle.std.specs.Prelude.{slice_get, slice_set, sum_by}
 use Rattle.rlsf_base.specs.Sizes.{pool_size_for_objects}
 use Rattle.rlsf_heap.specs.Heap.{PayloadView}
-use Rattle.rlsf_partitions.specs.Partitions.{ArePossible, HasAt, IsFullAt, IsGivenBackAt, IsKept, IsOf, IsPlaced, IsPossible, IsTakenAt, PartitionView, Quota, fresh}
+use Rattle.rlsf_partitions.specs.Partitions.{ArePossible, HasAt, IsFullAt, IsGivenBackAt, IsKept, IsOf, IsPlaced, ArePossibleLengths, IsTakenAt, PartitionView, Quota, fresh}
 use Rattle.rlsf_partitions.specs.Partitions.{partition_for, partitions_view}
 use Rattle.rlsf_partitions.specs.Partitions.{quota_of, vacant, with_one_less, with_one_more, with_one_more_for}
 
@@ -336,16 +336,16 @@ pub next_fresh : (sizes : List (ℕ × ℕ)) (i : ℕ) (pair : ℕ × ℕ) (ps n
 next_fresh sizes i pair ps ns there before more =
     more ∙ ap (λ l. l ++ fresh pair ∷ []) before ∙ sym (map-last fresh (take i sizes) pair) ∙ ap (map fresh) (sym (take-next sizes i pair there))
 
-possible-last : (sizes : List (ℕ × ℕ)) (pair : ℕ × ℕ) → ArePossible sizes → IsPossible (pool_size_for_objects 59 8 pair.0 pair.1) → ArePossible (sizes ++ pair ∷ [])
+possible-last : (sizes : List (ℕ × ℕ)) (pair : ℕ × ℕ) → ArePossible sizes → ArePossibleLengths (pool_size_for_objects 59 8 pair.0 pair.1) → ArePossible (sizes ++ pair ∷ [])
 possible-last [] pair all is = (is, tt)
 possible-last (x ∷ sizes) pair (first, rest) is = (first, possible-last sizes pair rest is)
 
 pub next_possible : (sizes : List (ℕ × ℕ)) (i : ℕ) (pair : ℕ × ℕ) → slice_get sizes i ≡ Some pair → ArePossible (take i sizes)
-    → IsPossible (pool_size_for_objects 59 8 pair.0 pair.1) → ArePossible (take (i + 1) sizes)
+    → ArePossibleLengths (pool_size_for_objects 59 8 pair.0 pair.1) → ArePossible (take (i + 1) sizes)
 next_possible sizes i pair there all is = subst ArePossible (sym (take-next sizes i pair there)) (possible-last (take i sizes) pair all is)
 
 pub possible_get : (sizes : List (ℕ × ℕ)) (i : ℕ) (pair : ℕ × ℕ) → slice_get sizes i ≡ Some pair → ArePossible sizes
-    → IsPossible (pool_size_for_objects 59 8 pair.0 pair.1)
+    → ArePossibleLengths (pool_size_for_objects 59 8 pair.0 pair.1)
 possible_get [] i pair there all = absurd (none-some pair there)
-possible_get (x ∷ sizes) zero pair there (first, rest) = subst (λ (y : ℕ × ℕ). IsPossible (pool_size_for_objects 59 8 y.0 y.1)) (same_Some x pair there) first
+possible_get (x ∷ sizes) zero pair there (first, rest) = subst (λ (y : ℕ × ℕ). ArePossibleLengths (pool_size_for_objects 59 8 y.0 y.1)) (same_Some x pair there) first
 possible_get (x ∷ sizes) (suc i) pair there (first, rest) = possible_get sizes i pair there rest

@@ -41,14 +41,14 @@ fresh pair = record { size = pair.1; count = pair.0; live = 0 }
 -- ---- lengths
 
 -- a memory from the address 4096 on may be so long, and a payload so large
-abbrev pub IsPossible : Option (ℕ × ℕ) → Type 0
-IsPossible None = ⊥
-IsPossible (Some (len, asked)) = (4096 + len < 2 ^ 64) × IsLayout asked 16
+abbrev pub ArePossibleLengths : Option (ℕ × ℕ) → Type 0
+ArePossibleLengths None = ⊥
+ArePossibleLengths (Some (len, asked)) = (4096 + len < 2 ^ 64) × IsLayout asked 16
 
 -- there is a pool for so many payloads of each of these sizes: pairs of a count and a size
 abbrev pub ArePossible : List (ℕ × ℕ) → Type 0
 ArePossible [] = ⊤
-ArePossible (pair ∷ pairs) = IsPossible (pool_size_for_objects 59 8 pair.0 pair.1) × ArePossible pairs
+ArePossible (pair ∷ pairs) = ArePossibleLengths (pool_size_for_objects 59 8 pair.0 pair.1) × ArePossible pairs
 
 -- ---- where a payload belongs
 
@@ -86,7 +86,7 @@ with_one_less zero (q ∷ qs) = record q { live = q.live - 1 } ∷ qs
 with_one_less (suc place) (q ∷ qs) = q ∷ with_one_less place qs
 
 -- a payload of a pool was allocated
-pub record IsTaken (before after : PartitionView) (p : PayloadView) : Type 0 where
+pub record IsTakenFrom (before after : PartitionView) (p : PayloadView) : Type 0 where
   -- one more is live, and nothing else changed
   pub taken : after ≡ record before { live = before.live + 1; touches = after.touches }
   -- fewer were live than have room
@@ -133,7 +133,7 @@ pub record IsTakenAt (before after : List PartitionView) (place : ℕ) (p : Payl
   pub now : PartitionView
   pub there : slice_get before place ≡ Some was
   pub set : after ≡ slice_set before place now
-  pub taken : IsTaken was now p
+  pub taken : IsTakenFrom was now p
   pub touches : now.touches ≤ was.touches + 27
 
 -- a payload of the pool at this place was deallocated

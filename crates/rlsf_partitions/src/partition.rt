@@ -2,7 +2,7 @@
 
 ghost use Rattle.std.specs.Prelude.{◌≡◌, ◌+◌, ◌≤◌, ◌↔◌, IfNone, IfOk, IfSome, IsErrOf, IsNone, IsOk};
 ghost use Rattle.rlsf_base.specs.Sizes.{pool_size_for_objects};
-ghost use Rattle.rlsf_partitions.specs.Partitions.{IsPossible, IsTaken};
+ghost use Rattle.rlsf_partitions.specs.Partitions.{ArePossibleLengths, IsTakenFrom};
 
 use rlsf_base::classes;
 use rlsf_base::memory::{Layout, MemoryError, OpenMemory, Range};
@@ -39,8 +39,8 @@ impl Model for Partition {
 impl Partition {
     /// Creates a partition for `count` payloads of up to `size` bytes. Allocates a memory for it.
     pub(crate) fn new(alloc: Global, count: usize, size: usize) -> Result<Partition, MemoryError>
-        ensures possible { IsOk result → IsPossible (pool_size_for_objects 59 8 count size) }
-        ensures too_long { IsErrOf result MemoryError.TooLong → IsPossible (pool_size_for_objects 59 8 count size) → ⊥ }
+        ensures possible { IsOk result → ArePossibleLengths (pool_size_for_objects 59 8 count size) }
+        ensures too_long { IsErrOf result MemoryError.TooLong → ArePossibleLengths (pool_size_for_objects 59 8 count size) → ⊥ }
         ensures ever { IsErrOf result MemoryError.ZeroStart → ⊥ }
         ensures made { IfOk result (λ p. (p.size ≡ size) × (p.count ≡ count) × (p.live ≡ 0)) }
     {
@@ -78,7 +78,7 @@ impl Partition {
 
     /// Allocates a payload. Its bytes may be raw. Returns `None` if and only if no more have room; then nothing changes.
     pub(crate) fn take(&mut self) -> Option<Payload>
-        ensures taken { IfSome result (λ payload. IsTaken self.old self.new payload) }
+        ensures taken { IfSome result (λ payload. IsTakenFrom self.old self.new payload) }
         ensures full { IsNone result ↔ (self.old.live ≡ self.old.count) }
         ensures refused { IfNone result (self.new ≡ self.old) }
         ensures touches { self.new.touches ≤ self.old.touches + 27 }

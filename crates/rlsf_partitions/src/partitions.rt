@@ -2,7 +2,7 @@
 
 ghost use Rattle.std.specs.Prelude.{◌≡◌, ◌+◌, ◌<◌, ◌≤◌, ◌↔◌, [], ◌∷◌, ◌++◌, Some, IfNone, IfOk, IfSome, IsErrOf, IsNone, IsOk, OnOk, ℕ, length, map, nat_le, slice_get};
 ghost use Rattle.rlsf_base.specs.Sizes.{pool_size_for_objects};
-ghost use Rattle.rlsf_partitions.specs.Partitions.{ArePossible, HasAt, IsFullAt, IsGivenBackAt, IsKept, IsOf, IsPlaced, IsPossible, IsTakenAt};
+ghost use Rattle.rlsf_partitions.specs.Partitions.{ArePossible, HasAt, IsFullAt, IsGivenBackAt, IsKept, IsOf, IsPlaced, ArePossibleLengths, IsTakenAt};
 ghost use Rattle.rlsf_partitions.specs.Partitions.{fresh, partition_for, partitions_view, quota_of, vacant, with_one_less, with_one_more};
 
 use crate::partition::Partition;
@@ -117,8 +117,8 @@ fn add(
     pair: (usize, usize),
 ) -> Result<(), MemoryError>
     ensures added { OnOk result (map quota_of partitions.new.items ≡ map quota_of partitions.old.items ++ fresh pair ∷ []) }
-    ensures possible { IsOk result → IsPossible (pool_size_for_objects 59 8 pair.0 pair.1) }
-    ensures too_long { IsErrOf result MemoryError.TooLong → IsPossible (pool_size_for_objects 59 8 pair.0 pair.1) → ⊥ }
+    ensures possible { IsOk result → ArePossibleLengths (pool_size_for_objects 59 8 pair.0 pair.1) }
+    ensures too_long { IsErrOf result MemoryError.TooLong → ArePossibleLengths (pool_size_for_objects 59 8 pair.0 pair.1) → ⊥ }
     ensures ever { IsErrOf result MemoryError.ZeroStart → ⊥ }
 {
     if partitions.reserve(1).is_err() {

@@ -26,46 +26,46 @@ use Rattle.rlsf_checked.specs.Results.{KeepsCheckedFrame, KeepsCheckedFrameInPla
 use Rattle.rlsf_checked.specs.declared.error.CheckedError.{CheckedError}
 use Rattle.rlsf_checked.specs.declared.error.CheckedError.TheVariants.{InvalidClasses, OutOfMemory, UnknownAddress, OutOfRange, OutsideMemory, NotBehind, NotNext, TooShort}
 use Rattle.rlsf_checked.specs.declared.error.CheckedError.TheVariants.{NoLayout, NoRoom, InUse, NotChunks}
-use Rattle.rlsf_pool.specs.Answers.{answer_of, code_of, number_of, place_of, addr_in, refused_by}
-use Rattle.rlsf_pool.specs.Calls.{Allocates, Appends, Frees, Inserts, IsKept, IsKeptBut, IsResized, IsToldBy, Reads, Resizes, ResizesThere, Tells, Writes, reach}
+use Rattle.rlsf_pool.specs.Answers.{answer_of, reply_code, error_code, address_answer, answer_value, refused_by}
+use Rattle.rlsf_pool.specs.Calls.{PoolAllocates, PoolAppends, PoolFrees, PoolInserts, KeepsSeenPayloads, IsKeptBut, IsSeenResized, IsReportedAs, Reads, PoolResizes, PoolResizesThere, Tells, PoolWrites, reach}
 use Rattle.rlsf_pool.specs.Seen.{Seen, nothing, seen_in}
 
 -- ---- errors
 
 -- no error has the number 0
-pub number_of-some : (e : CheckedError) → number_of e ≡ 0 → ⊥
-number_of-some InvalidClasses e = omega (arith, e)
-number_of-some OutOfMemory e = omega (arith, e)
-number_of-some UnknownAddress e = omega (arith, e)
-number_of-some OutOfRange e = omega (arith, e)
-number_of-some OutsideMemory e = omega (arith, e)
-number_of-some NotBehind e = omega (arith, e)
-number_of-some NotNext e = omega (arith, e)
-number_of-some TooShort e = omega (arith, e)
-number_of-some NoLayout e = omega (arith, e)
-number_of-some NoRoom e = omega (arith, e)
-number_of-some InUse e = omega (arith, e)
-number_of-some NotChunks e = omega (arith, e)
+pub error_code-some : (e : CheckedError) → error_code e ≡ 0 → ⊥
+error_code-some InvalidClasses e = omega (arith, e)
+error_code-some OutOfMemory e = omega (arith, e)
+error_code-some UnknownAddress e = omega (arith, e)
+error_code-some OutOfRange e = omega (arith, e)
+error_code-some OutsideMemory e = omega (arith, e)
+error_code-some NotBehind e = omega (arith, e)
+error_code-some NotNext e = omega (arith, e)
+error_code-some TooShort e = omega (arith, e)
+error_code-some NoLayout e = omega (arith, e)
+error_code-some NoRoom e = omega (arith, e)
+error_code-some InUse e = omega (arith, e)
+error_code-some NotChunks e = omega (arith, e)
 
 -- an error places nothing
-pub addr_in-refused : (e : CheckedError) → addr_in (refused_by e) ≡ None
-addr_in-refused InvalidClasses = refl
-addr_in-refused OutOfMemory = refl
-addr_in-refused UnknownAddress = refl
-addr_in-refused OutOfRange = refl
-addr_in-refused OutsideMemory = refl
-addr_in-refused NotBehind = refl
-addr_in-refused NotNext = refl
-addr_in-refused TooShort = refl
-addr_in-refused NoLayout = refl
-addr_in-refused NoRoom = refl
-addr_in-refused InUse = refl
-addr_in-refused NotChunks = refl
+pub answer_value-refused : (e : CheckedError) → answer_value (refused_by e) ≡ None
+answer_value-refused InvalidClasses = refl
+answer_value-refused OutOfMemory = refl
+answer_value-refused UnknownAddress = refl
+answer_value-refused OutOfRange = refl
+answer_value-refused OutsideMemory = refl
+answer_value-refused NotBehind = refl
+answer_value-refused NotNext = refl
+answer_value-refused TooShort = refl
+answer_value-refused NoLayout = refl
+answer_value-refused NoRoom = refl
+answer_value-refused InUse = refl
+answer_value-refused NotChunks = refl
 
 -- what is placed is what the answer says
-pub addr_in-same : (r : Result NonZeroUsize CheckedError) → addr_in_result r ≡ addr_in (place_of r)
-addr_in-same (Ok addr) = refl
-addr_in-same (Err e) = sym (addr_in-refused e)
+pub answer_value-same : (r : Result NonZeroUsize CheckedError) → addr_in_result r ≡ answer_value (address_answer r)
+answer_value-same (Ok addr) = refl
+answer_value-same (Err e) = sym (answer_value-refused e)
 
 -- ---- what is seen
 
@@ -103,7 +103,7 @@ none_in_empty addr = refl
 pools_if : (new : PoolList) (make : ℕ → PoolList) (r : Result ℕ CheckedError) → IfOk r (λ n. new ≡ make n) → (answer_of r).error ≡ 0
     → new ≡ make (answer_of r).value
 pools_if new make (Ok n) made none = made
-pools_if new make (Err e) made none = absurd (number_of-some e none)
+pools_if new make (Err e) made none = absurd (error_code-some e none)
 
 -- and where it is an error
 same_if : (sllen : ℕ) (old new : Checked) (r : Result ℕ CheckedError) → OnErr r (new.heap.state ≡ old.heap.state) → OnErr r (new.pools ≡ old.pools)
@@ -113,22 +113,22 @@ same_if sllen old new (Ok n) same pool place some = absurd (some refl)
 same_if sllen old new (Err e) same pool place some = same_seen sllen old new same pool place
 
 -- the payloads that a call on pools keeps
-pub kept_all : (sllen : ℕ) (old new : Checked) → KeepsFrameOfPools old.heap new.heap → IsKept (seen_in sllen old) (seen_in sllen new)
+pub kept_all : (sllen : ℕ) (old new : Checked) → KeepsFrameOfPools old.heap new.heap → KeepsSeenPayloads (seen_in sllen old) (seen_in sllen new)
 kept_all sllen old new kept =
     record { classes = refl; memory = same_range old.heap.memory new.heap.memory kept.place; aligns = kept.aligns; bytes = kept.bytes }
 
 -- where there is no allocator, a range is outside of the memory
-pub none_inserted : (r : Range) → Inserts (Err OutsideMemory) nothing r (refused_by OutsideMemory) nothing
+pub none_inserted : (r : Range) → PoolInserts (Err OutsideMemory) nothing r (refused_by OutsideMemory) nothing
 none_inserted r = record {
   told = inl refl;
   kept = record { classes = refl; memory = refl; aligns = refl; bytes = refl };
-  pools = λ e. absurd (number_of-some OutsideMemory e);
+  pools = λ e. absurd (error_code-some OutsideMemory e);
   same = λ some. refl;
 }
 
 module _ (fllen sllen : ℕ) (old new : Checked) (range : Range) (r : Result ℕ CheckedError) (kept : KeepsFrameOfPools old.heap new.heap) where
   pub inserted : IfOk r (λ n. new.pools ≡ with_pool old.pools (range_at range.start n)) → RefusesUnchanged old new (IsInsertAnswer fllen old range r) r
-      → Inserts (insert_answer fllen old range) (seen_in sllen old) range (answer_of r) (seen_in sllen new)
+      → PoolInserts (insert_answer fllen old range) (seen_in sllen old) range (answer_of r) (seen_in sllen new)
   inserted pools refused = record {
     told = elim refused.answer [ inl e ↦ inl (ap answer_of e) | inr (e, some, within, behind) ↦ inr (ap answer_of e, (some, within, behind)) ];
     kept = kept_all sllen old new kept;
@@ -137,7 +137,7 @@ module _ (fllen sllen : ℕ) (old new : Checked) (range : Range) (r : Result ℕ
   }
 
   pub appended : IfOk r (λ n. new.pools ≡ with_longer_last old.pools n) → RefusesUnchanged old new (r ≡ append_answer fllen old range) r
-      → Appends (append_answer fllen old range) (seen_in sllen old) (answer_of r) (seen_in sllen new)
+      → PoolAppends (append_answer fllen old range) (seen_in sllen old) (answer_of r) (seen_in sllen new)
   appended pools refused = record {
     told = ap answer_of refused.answer;
     kept = kept_all sllen old new kept;
@@ -150,7 +150,7 @@ module _ (fllen sllen : ℕ) (old new : Checked) (range : Range) (r : Result ℕ
 pub allocated : (sllen : ℕ) (old new : Checked) (size align : ℕ) → IsLayout size align → (r : Result NonZeroUsize CheckedError)
     → machine.Allocates sllen old.heap.state size align (addr_in_result r) new.heap.state
     → IfOk r (λ addr. IsAllocated old.heap.state new.heap.state size align (at addr)) → RefusesUnchanged old new (IfErr r (λ e. e ≡ NoRoom)) r → KeepsCheckedFrame old new
-    → Allocates (seen_in sllen old) size align (place_of r) (seen_in sllen new)
+    → PoolAllocates (seen_in sllen old) size align (address_answer r) (seen_in sllen new)
 allocated sllen old new size align layout (Ok addr) step is refused kept = record {
   no_layout = (λ e. absurd (omega (arith, e)), λ never. absurd (never layout));
   errors = inl refl;
@@ -160,33 +160,33 @@ allocated sllen old new size align layout (Ok addr) step is refused kept = recor
   same = λ some. absurd (some refl);
 }
 allocated sllen old new size align layout (Err e) step is refused kept =
-    let is_full : Allocates (seen_in sllen old) size align (refused_by NoRoom) (seen_in sllen new) = record {
+    let is_full : PoolAllocates (seen_in sllen old) size align (refused_by NoRoom) (seen_in sllen new) = record {
       no_layout = (λ e. absurd (omega (arith, e)), λ never. absurd (never layout));
       errors = inr (inr refl);
       step = λ l. step;
-      new = λ e. absurd (number_of-some NoRoom e);
+      new = λ e. absurd (error_code-some NoRoom e);
       same = λ some. same_seen sllen old new refused.same kept.pools kept.place;
-    } in subst (λ d. Allocates (seen_in sllen old) size align (refused_by d) (seen_in sllen new)) (sym refused.answer) is_full
+    } in subst (λ d. PoolAllocates (seen_in sllen old) size align (refused_by d) (seen_in sllen new)) (sym refused.answer) is_full
 
 -- ---- payloads that go
 
 -- after an error all is as it was
-pub same_unless : (sllen : ℕ) (old new : Checked) (r : Result (Unit {0}) CheckedError) → OnErr r (new ≡ old) → code_of r ≢ 0 → seen_in sllen new ≡ seen_in sllen old
+pub same_unless : (sllen : ℕ) (old new : Checked) (r : Result (Unit {0}) CheckedError) → OnErr r (new ≡ old) → reply_code r ≢ 0 → seen_in sllen new ≡ seen_in sllen old
 same_unless sllen old new (Ok x) same some = absurd (some refl)
 same_unless sllen old new (Err e) same some = ap (seen_in sllen) same
 
 pub freed : (sllen : ℕ) (old new : Checked) (addr : ℕ) (r : Result (Unit {0}) CheckedError) → IsDeallocatedIfLive old.heap.state new.heap.state addr r
-    → RefusesUntouched old new (r ≡ if_live (align_at old.heap.state addr) tt) r → KeepsCheckedFrame old new → Frees (seen_in sllen old) addr (code_of r) (seen_in sllen new)
+    → RefusesUntouched old new (r ≡ if_live (align_at old.heap.state addr) tt) r → KeepsCheckedFrame old new → PoolFrees (seen_in sllen old) addr (reply_code r) (seen_in sllen new)
 freed sllen old new addr r is refused kept = record {
-  told = ap code_of refused.answer;
+  told = ap reply_code refused.answer;
   gone = is.gone;
   kept = kept_but sllen old new addr kept.place kept.pools is.aligns is.bytes;
   same = same_unless sllen old new r refused.same;
 }
 
-pub none_freed : (v : Seen) (addr : ℕ) → align_at v.state addr ≡ None → Frees v addr (number_of UnknownAddress) v
+pub none_freed : (v : Seen) (addr : ℕ) → align_at v.state addr ≡ None → PoolFrees v addr (error_code UnknownAddress) v
 none_freed v addr none = record {
-  told = sym (ap (λ o. code_of (if_live o tt)) none);
+  told = sym (ap (λ o. reply_code (if_live o tt)) none);
   gone = none;
   kept = kept_same addr v;
   same = λ some. refl;
@@ -194,10 +194,10 @@ none_freed v addr none = record {
 
 -- ---- payloads that get another size
 
-told_by : (o : Option CheckedError) (r : Result NonZeroUsize CheckedError) → IsRefusedBy o r → IsToldBy o (place_of r).error
-told_by (Some e) r is = ap (λ x. (place_of x).error) is
+told_by : (o : Option CheckedError) (r : Result NonZeroUsize CheckedError) → IsRefusedBy o r → IsReportedAs o (address_answer r).error
+told_by (Some e) r is = ap (λ x. (address_answer x).error) is
 told_by None (Ok addr) is = inl refl
-told_by None (Err e) is = inr (ap number_of is)
+told_by None (Err e) is = inr (ap error_code is)
 
 module _ (sllen : ℕ) (old new : Checked) (addr size : ℕ) where
   -- what a call refuses to give another size
@@ -206,23 +206,23 @@ module _ (sllen : ℕ) (old new : Checked) (addr size : ℕ) where
 
   -- after an error all is as it was
   same_placed : (r : Result NonZeroUsize CheckedError) → new.pools ≡ old.pools → SamePlace old.heap.memory new.heap.memory → OnErr r (new.heap.state ≡ old.heap.state)
-      → (place_of r).error ≢ 0 → seen_in sllen new ≡ seen_in sllen old
+      → (address_answer r).error ≢ 0 → seen_in sllen new ≡ seen_in sllen old
   same_placed (Ok to) pool place same some = absurd (some refl)
   same_placed (Err e) pool place same some = same_seen sllen old new same pool place
 
   pub resized : (r : Result NonZeroUsize CheckedError)
       → (size_refusal (align_at old.heap.state addr) size ≡ None → Reallocates sllen old.heap.state addr size (addr_in_result r) new.heap.state)
       → IfOk r (λ to. IsReallocatedSameAlign old.heap.state new.heap.state addr size (at to)) → Refuses r → KeepsCheckedFrameMoving addr old new
-      → Resizes (seen_in sllen old) addr size (place_of r) (seen_in sllen new)
+      → PoolResizes (seen_in sllen old) addr size (address_answer r) (seen_in sllen new)
   resized r step is refused kept = record {
     told = told_by (size_refusal (align_at old.heap.state addr) size) r refused.answer;
-    step = λ none. subst (λ o. Reallocates sllen old.heap.state addr size o new.heap.state) (addr_in-same r) (step none);
+    step = λ none. subst (λ o. Reallocates sllen old.heap.state addr size o new.heap.state) (answer_value-same r) (step none);
     resized = moved r is;
     same = same_placed r kept.pools kept.place refused.same;
   }
     where
-      moved : (r : Result NonZeroUsize CheckedError) → IfOk r (λ to. IsReallocatedSameAlign old.heap.state new.heap.state addr size (at to)) → (place_of r).error ≡ 0
-          → IsResized addr size (place_of r).value (seen_in sllen old) (seen_in sllen new)
+      moved : (r : Result NonZeroUsize CheckedError) → IfOk r (λ to. IsReallocatedSameAlign old.heap.state new.heap.state addr size (at to)) → (address_answer r).error ≡ 0
+          → IsSeenResized addr size (address_answer r).value (seen_in sllen old) (seen_in sllen new)
       moved (Ok to) is e = record {
         live = is.live;
         sized = is.sized;
@@ -236,27 +236,27 @@ module _ (sllen : ℕ) (old new : Checked) (addr size : ℕ) where
         memory = same_range old.heap.memory new.heap.memory kept.place;
         pools = kept.pools;
       }
-      moved (Err d) is e = absurd (number_of-some d e)
+      moved (Err d) is e = absurd (error_code-some d e)
 
   pub resized_there : (r : Result NonZeroUsize CheckedError)
       → (size_refusal (align_at old.heap.state addr) size ≡ None → ReallocatesWithoutMove old.heap.state addr size (addr_in_result r) new.heap.state)
       → IfOk r (λ to. tlsf.IsResized old.heap.state new.heap.state addr size (at to)) → Refuses r → KeepsCheckedFrameInPlace addr old new
-      → ResizesThere (seen_in sllen old) addr size (place_of r) (seen_in sllen new)
+      → PoolResizesThere (seen_in sllen old) addr size (address_answer r) (seen_in sllen new)
   resized_there r step is refused kept = record {
     told = told_by (size_refusal (align_at old.heap.state addr) size) r refused.answer;
-    step = λ none. subst (λ o. ReallocatesWithoutMove old.heap.state addr size o new.heap.state) (addr_in-same r) (step none);
+    step = λ none. subst (λ o. ReallocatesWithoutMove old.heap.state addr size o new.heap.state) (answer_value-same r) (step none);
     there = stays r is;
     resized = stayed r is;
     same = same_placed r kept.pools kept.place refused.same;
   }
     where
-      stays : (r : Result NonZeroUsize CheckedError) → IfOk r (λ to. tlsf.IsResized old.heap.state new.heap.state addr size (at to)) → (place_of r).error ≡ 0
-          → (place_of r).value ≡ addr
+      stays : (r : Result NonZeroUsize CheckedError) → IfOk r (λ to. tlsf.IsResized old.heap.state new.heap.state addr size (at to)) → (address_answer r).error ≡ 0
+          → (address_answer r).value ≡ addr
       stays (Ok to) is e = is.there
-      stays (Err d) is e = absurd (number_of-some d e)
+      stays (Err d) is e = absurd (error_code-some d e)
 
-      stayed : (r : Result NonZeroUsize CheckedError) → IfOk r (λ to. tlsf.IsResized old.heap.state new.heap.state addr size (at to)) → (place_of r).error ≡ 0
-          → IsResized addr size addr (seen_in sllen old) (seen_in sllen new)
+      stayed : (r : Result NonZeroUsize CheckedError) → IfOk r (λ to. tlsf.IsResized old.heap.state new.heap.state addr size (at to)) → (address_answer r).error ≡ 0
+          → IsSeenResized addr size addr (seen_in sllen old) (seen_in sllen new)
       stayed (Ok to) is e = record {
         live = ap (λ f. f addr) kept.aligns;
         sized = is.sized;
@@ -270,28 +270,28 @@ module _ (sllen : ℕ) (old new : Checked) (addr size : ℕ) where
         memory = same_range old.heap.memory new.heap.memory kept.place;
         pools = kept.pools;
       }
-      stayed (Err d) is e = absurd (number_of-some d e)
+      stayed (Err d) is e = absurd (error_code-some d e)
 
 -- where none is live, none gets another size
 refuses : (o : Option ℕ) (size : ℕ) → o ≡ None → size_refusal o size ≡ Some UnknownAddress
 refuses o size none = ap (λ p. size_refusal p size) none
 
-pub none_resized : (v : Seen) (addr size : ℕ) → align_at v.state addr ≡ None → Resizes v addr size (refused_by UnknownAddress) v
+pub none_resized : (v : Seen) (addr size : ℕ) → align_at v.state addr ≡ None → PoolResizes v addr size (refused_by UnknownAddress) v
 none_resized v addr size none =
     let refused = refuses (align_at v.state addr) size none in record {
-      told = subst (λ o. IsToldBy o 3) (sym refused) refl;
+      told = subst (λ o. IsReportedAs o 3) (sym refused) refl;
       step = λ e. absurd (none-some UnknownAddress (sym e ∙ refused));
-      resized = λ e. absurd (number_of-some UnknownAddress e);
+      resized = λ e. absurd (error_code-some UnknownAddress e);
       same = λ some. refl;
     }
 
-pub none_resized_there : (v : Seen) (addr size : ℕ) → align_at v.state addr ≡ None → ResizesThere v addr size (refused_by UnknownAddress) v
+pub none_resized_there : (v : Seen) (addr size : ℕ) → align_at v.state addr ≡ None → PoolResizesThere v addr size (refused_by UnknownAddress) v
 none_resized_there v addr size none =
     let refused = refuses (align_at v.state addr) size none in record {
-      told = subst (λ o. IsToldBy o 3) (sym refused) refl;
+      told = subst (λ o. IsReportedAs o 3) (sym refused) refl;
       step = λ e. absurd (none-some UnknownAddress (sym e ∙ refused));
-      there = λ e. absurd (number_of-some UnknownAddress e);
-      resized = λ e. absurd (number_of-some UnknownAddress e);
+      there = λ e. absurd (error_code-some UnknownAddress e);
+      resized = λ e. absurd (error_code-some UnknownAddress e);
       same = λ some. refl;
     }
 
@@ -301,26 +301,26 @@ pub none_told : (v : Seen) (addr : ℕ) → align_at v.state addr ≡ None → T
 none_told v addr none = sym (ap (λ o. answer_of (if_live o (length (bytes_at v.state addr)))) none)
 
 unreached : (v : Seen) (addr offset len : ℕ) → align_at v.state addr ≡ None → 3 ≡ reach v addr offset len
-unreached v addr offset len none = sym (ap (λ o. code_of (if_in_range o (fits offset len (bytes_at v.state addr)))) none)
+unreached v addr offset len none = sym (ap (λ o. reply_code (if_in_range o (fits offset len (bytes_at v.state addr)))) none)
 
 pub none_read : (v : Seen) (addr offset : ℕ) (was : List ℕ) → align_at v.state addr ≡ None → Reads v addr offset was 3 was
-none_read v addr offset was none = record { told = unreached v addr offset (length was) none; read = λ e. absurd (number_of-some UnknownAddress e); same = λ some. refl }
+none_read v addr offset was none = record { told = unreached v addr offset (length was) none; read = λ e. absurd (error_code-some UnknownAddress e); same = λ some. refl }
 
-pub none_written : (v : Seen) (addr offset : ℕ) (bytes : List ℕ) → align_at v.state addr ≡ None → Writes v addr offset bytes 3 v
+pub none_written : (v : Seen) (addr offset : ℕ) (bytes : List ℕ) → align_at v.state addr ≡ None → PoolWrites v addr offset bytes 3 v
 none_written v addr offset bytes none = record {
   told = unreached v addr offset (length bytes) none;
-  written = λ e. absurd (number_of-some UnknownAddress e);
+  written = λ e. absurd (error_code-some UnknownAddress e);
   aligns = refl;
   kept = kept_same addr v;
   same = λ some. refl;
 }
 
 -- what an error or its absence says of a fact
-pub on_done : (A : Type 0) (r : Result (Unit {0}) CheckedError) → OnOk r A → code_of r ≡ 0 → A
+pub on_done : (A : Type 0) (r : Result (Unit {0}) CheckedError) → OnOk r A → reply_code r ≡ 0 → A
 on_done A (Ok x) did e = did
-on_done A (Err d) did e = absurd (number_of-some d e)
+on_done A (Err d) did e = absurd (error_code-some d e)
 
-pub on_refused : (A : Type 0) (r : Result (Unit {0}) CheckedError) → OnErr r A → code_of r ≢ 0 → A
+pub on_refused : (A : Type 0) (r : Result (Unit {0}) CheckedError) → OnErr r A → reply_code r ≢ 0 → A
 on_refused A (Ok x) did some = absurd (some refl)
 on_refused A (Err d) did some = did
 
@@ -331,9 +331,9 @@ kept_only sllen old new addr kept = kept_but sllen old new addr kept.place kept.
 pub written : (sllen : ℕ) (old new : Checked) (addr offset : ℕ) (bytes : List ℕ) (r : Result (Unit {0}) CheckedError)
     → OnOk r (bytes_at new.heap.state addr ≡ splice (bytes_at old.heap.state addr) offset (offset + length bytes) bytes)
     → RefusesUntouched old new (r ≡ if_in_range (align_at old.heap.state addr) (fits offset (length bytes) (bytes_at old.heap.state addr))) r
-    → KeepsCheckedFrameInPlace addr old new → Writes (seen_in sllen old) addr offset bytes (code_of r) (seen_in sllen new)
+    → KeepsCheckedFrameInPlace addr old new → PoolWrites (seen_in sllen old) addr offset bytes (reply_code r) (seen_in sllen new)
 written sllen old new addr offset bytes r did refused kept = record {
-  told = ap code_of refused.answer;
+  told = ap reply_code refused.answer;
   written = on_done (bytes_at new.heap.state addr ≡ splice (bytes_at old.heap.state addr) offset (offset + length bytes) bytes) r did;
   aligns = kept.aligns;
   kept = kept_only sllen old new addr kept;
@@ -342,9 +342,9 @@ written sllen old new addr offset bytes r did refused kept = record {
 
 pub read_as : (v : Seen) (addr offset : ℕ) (was now : List ℕ) (r : Result (Unit {0}) CheckedError)
     → r ≡ if_in_range (align_at v.state addr) (fits offset (length was) (bytes_at v.state addr)) → OnOk r (now ≡ take (length was) (drop offset (bytes_at v.state addr)))
-    → OnErr r (now ≡ was) → Reads v addr offset was (code_of r) now
+    → OnErr r (now ≡ was) → Reads v addr offset was (reply_code r) now
 read_as v addr offset was now r told did same = record {
-  told = ap code_of told;
+  told = ap reply_code told;
   read = on_done (now ≡ take (length was) (drop offset (bytes_at v.state addr))) r did;
   same = on_refused (now ≡ was) r same;
 }

@@ -19,19 +19,19 @@ use Rattle.rlsf_checked.specs.Results.{KeepsCheckedFrameCopying, KeepsCheckedFra
 use Rattle.rlsf_checked.specs.declared.error.CheckedError.{CheckedError}
 use Rattle.rlsf_checked.specs.declared.error.CheckedError.TheVariants.{NotChunks, UnknownAddress}
 use Rattle.rlsf_checked.proofs.FieldsOverSteps.{step_of}
-use Rattle.rlsf_pool.specs.Answers.{code_of, number_of}
+use Rattle.rlsf_pool.specs.Answers.{reply_code, error_code}
 use Rattle.rlsf_pool.specs.declared.answers.Answer.{Answer}
-use Rattle.rlsf_pool.specs.Calls.{Allocates, AllocatesZeroed, Copies, RemovesLast, RemovesRange, Zeroes}
+use Rattle.rlsf_pool.specs.Calls.{PoolAllocates, PoolAllocatesZeroed, PoolCopies, RemovesLast, RemovesRange, Zeroes}
 use Rattle.rlsf_pool.specs.Seen.{Seen, nothing, seen_in}
-use Rattle.rlsf_pool.proofs.Outcomes.{kept_all, kept_but, kept_only, kept_same, number_of-some, on_done, same_unless}
+use Rattle.rlsf_pool.proofs.Outcomes.{kept_all, kept_but, kept_only, kept_same, error_code-some, on_done, same_unless}
 
 -- ---- copies
 
 pub copied : (sllen : ℕ) (old new : Checked) (from to len : ℕ) (r : Result (Unit {0}) CheckedError)
     → OnOk r (bytes_at new.heap.state to ≡ copied_over old.heap.state from to len) → RefusesUntouched old new (r ≡ copy_answer old.heap.state from to len) r
-    → KeepsCheckedFrameCopying to len old new r → Copies (seen_in sllen old) from to len (code_of r) (seen_in sllen new)
+    → KeepsCheckedFrameCopying to len old new r → PoolCopies (seen_in sllen old) from to len (reply_code r) (seen_in sllen new)
 copied sllen old new from to len r did refused kept = record {
-  told = ap code_of refused.answer;
+  told = ap reply_code refused.answer;
   copied = on_done (bytes_at new.heap.state to ≡ copied_over old.heap.state from to len) r did;
   aligns = kept.aligns;
   kept = kept_but sllen old new to kept.place kept.pools (λ a apart. ap (λ f. f a) kept.aligns) kept.bytes;
@@ -45,10 +45,10 @@ refused_both (Some a) None fits none = refl
 refused_both (Some a) (Some b) fits (inl none) = absurd (none-some a (sym none))
 refused_both (Some a) (Some b) fits (inr none) = absurd (none-some b (sym none))
 
-pub none_copied : (v : Seen) (from to len : ℕ) → (align_at v.state from ≡ None) ⊎ (align_at v.state to ≡ None) → Copies v from to len 3 v
+pub none_copied : (v : Seen) (from to len : ℕ) → (align_at v.state from ≡ None) ⊎ (align_at v.state to ≡ None) → PoolCopies v from to len 3 v
 none_copied v from to len none = record {
-  told = sym (ap code_of (refused_both (align_at v.state from) (align_at v.state to) (both_have len (bytes_at v.state from) (bytes_at v.state to)) none));
-  copied = λ e. absurd (number_of-some UnknownAddress e);
+  told = sym (ap reply_code (refused_both (align_at v.state from) (align_at v.state to) (both_have len (bytes_at v.state from) (bytes_at v.state to)) none));
+  copied = λ e. absurd (error_code-some UnknownAddress e);
   aligns = refl;
   kept = kept_same to v;
   same = λ some. refl;
@@ -77,8 +77,8 @@ zeroed fllen sllen old new addr r live step filled told kept =
     }
 
 -- one that is refused
-pub none_zeroed : (before after : Seen) (size align : ℕ) (answer : Answer) → Allocates before size align answer after → answer.error ≢ 0
-    → AllocatesZeroed before size align answer after
+pub none_zeroed : (before after : Seen) (size align : ℕ) (answer : Answer) → PoolAllocates before size align answer after → answer.error ≢ 0
+    → PoolAllocatesZeroed before size align answer after
 none_zeroed before after size align answer did some = record {
   middle = after;
   allocated = did;
@@ -89,7 +89,7 @@ none_zeroed before after size align answer did some = record {
 }
 
 -- where there is no allocator, every allocation is refused
-pub nothing_zeroed : (size align : ℕ) (answer : Answer) → Allocates nothing size align answer nothing → AllocatesZeroed nothing size align answer nothing
+pub nothing_zeroed : (size align : ℕ) (answer : Answer) → PoolAllocates nothing size align answer nothing → PoolAllocatesZeroed nothing size align answer nothing
 unfolding align_at
 nothing_zeroed size align answer did = none_zeroed nothing nothing size align answer did (λ none. none-some align (did.new none).live)
 
@@ -134,7 +134,7 @@ step_if fllen sllen old new range (Err e) step = tt
 pub range_removed : (fllen sllen : ℕ) (old new : Checked) (range : Range) (r : Result (Unit {0}) CheckedError)
     → OnOk r (Steps fllen sllen old.heap new.heap (Removes old.heap.state (walked range))) → OnOk r (new.pools ≡ without_pool_at old.pools range.start)
     → RefusesUntouched old new (IsRemovalOf old.pools old.heap.state range r) r → KeepsFrameOfPools old.heap new.heap
-    → RemovesRange (seen_in sllen old) range (code_of r) (seen_in sllen new)
+    → RemovesRange (seen_in sllen old) range (reply_code r) (seen_in sllen new)
 range_removed fllen sllen old new range r step pools refused kept = record {
   told = (r, refl, refused.answer);
   step = on_done (Removes old.heap.state (walked range) new.heap.state) r (step_if fllen sllen old new range r step);
@@ -144,11 +144,11 @@ range_removed fllen sllen old new range r step pools refused kept = record {
 }
 
 -- where there is no allocator, no range was inserted
-pub no_range_removed : (r : Range) → RemovesRange nothing r (number_of NotChunks) nothing
+pub no_range_removed : (r : Range) → RemovesRange nothing r (error_code NotChunks) nothing
 no_range_removed r = record {
   told = (Err NotChunks, refl, inl (refl, λ i. i));
-  step = λ e. absurd (number_of-some NotChunks e);
+  step = λ e. absurd (error_code-some NotChunks e);
   kept = record { classes = refl; memory = refl; aligns = refl; bytes = refl };
-  pools = λ e. absurd (number_of-some NotChunks e);
+  pools = λ e. absurd (error_code-some NotChunks e);
   same = λ some. refl;
 }

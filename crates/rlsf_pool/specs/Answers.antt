@@ -8,23 +8,23 @@ use Rattle.rlsf_checked.specs.declared.error.CheckedError.TheVariants.{NoLayout,
 use Rattle.rlsf_pool.specs.declared.answers.Answer.{Answer}
 
 -- the number of an error
-abbrev pub number_of : CheckedError → ℕ
-number_of InvalidClasses = 1
-number_of OutOfMemory = 2
-number_of UnknownAddress = 3
-number_of OutOfRange = 4
-number_of OutsideMemory = 5
-number_of NotBehind = 6
-number_of NotNext = 7
-number_of TooShort = 8
-number_of NoLayout = 9
-number_of NoRoom = 10
-number_of InUse = 15
-number_of NotChunks = 16
+abbrev pub error_code : CheckedError → ℕ
+error_code InvalidClasses = 1
+error_code OutOfMemory = 2
+error_code UnknownAddress = 3
+error_code OutOfRange = 4
+error_code OutsideMemory = 5
+error_code NotBehind = 6
+error_code NotNext = 7
+error_code TooShort = 8
+error_code NoLayout = 9
+error_code NoRoom = 10
+error_code InUse = 15
+error_code NotChunks = 16
 
 -- an answer that is an error
 abbrev pub refused_by : CheckedError → Answer
-refused_by e = record { error = number_of e; value = 0 }
+refused_by e = record { error = error_code e; value = 0 }
 
 -- a number, or an error
 abbrev pub answer_of : Result ℕ CheckedError → Answer
@@ -32,14 +32,14 @@ answer_of (Ok n) = record { error = 0; value = n }
 answer_of (Err e) = refused_by e
 
 -- an address, or an error
-abbrev pub place_of : Result NonZeroUsize CheckedError → Answer
-place_of (Ok addr) = record { error = 0; value = at addr }
-place_of (Err e) = refused_by e
+abbrev pub address_answer : Result NonZeroUsize CheckedError → Answer
+address_answer (Ok addr) = record { error = 0; value = at addr }
+address_answer (Err e) = refused_by e
 
 -- 0, or an error
-abbrev pub code_of : Result (Unit {0}) CheckedError → ℕ
-code_of (Ok x) = 0
-code_of (Err e) = number_of e
+abbrev pub reply_code : Result (Unit {0}) CheckedError → ℕ
+reply_code (Ok x) = 0
+reply_code (Err e) = error_code e
 
 -- the value, where there is no error
 abbrev pub value_if : ℕ → ℕ → Option ℕ
@@ -47,5 +47,5 @@ value_if zero value = Some value
 value_if (suc e) value = None
 
 -- the value that is returned, if there is one
-abbrev pub addr_in : Answer → Option ℕ
-addr_in a = value_if a.error a.value
+abbrev pub answer_value : Answer → Option ℕ
+answer_value a = value_if a.error a.value

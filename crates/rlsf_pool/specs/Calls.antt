@@ -17,11 +17,11 @@ use Rattle.rlsf_checked.specs.Removal.{IsRemovalOf}
 use Rattle.rlsf_checked.specs.declared.error.CheckedError.{CheckedError}
 use Rattle.rlsf_checked.specs.declared.error.CheckedError.TheVariants.{OutOfMemory}
 use Rattle.rlsf_pool.specs.declared.answers.Answer.{Answer}
-use Rattle.rlsf_pool.specs.Answers.{answer_of, code_of, number_of, addr_in, refused_by}
+use Rattle.rlsf_pool.specs.Answers.{answer_of, reply_code, error_code, answer_value, refused_by}
 use Rattle.rlsf_pool.specs.Seen.{Seen}
 
 -- all payloads stay, with their alignments and their bytes
-pub record IsKept (before after : Seen) : Type 0 where
+pub record KeepsSeenPayloads (before after : Seen) : Type 0 where
   pub classes : after.classes ≡ before.classes
   pub memory : after.memory ≡ before.memory
   pub aligns : align_at after.state ≡ align_at before.state
@@ -40,16 +40,16 @@ abbrev pub MayLackMemory : Seen → Range → Type 0
 MayLackMemory before r = (0 < before.pools.last.len) × (is_within before.memory r ≡ true) × (end_of before.pools.last ≤ r.start)
 
 -- a range is inserted: what is returned, and the ranges then
-pub record Inserts (expected : Result ℕ CheckedError) (before : Seen) (r : Range) (answer : Answer) (after : Seen) : Type 0 where
+pub record PoolInserts (expected : Result ℕ CheckedError) (before : Seen) (r : Range) (answer : Answer) (after : Seen) : Type 0 where
   pub told : (answer ≡ answer_of expected) ⊎ ((answer ≡ refused_by OutOfMemory) × MayLackMemory before r)
-  pub kept : IsKept before after
+  pub kept : KeepsSeenPayloads before after
   pub pools : answer.error ≡ 0 → after.pools ≡ with_pool before.pools (range_at r.start answer.value)
   pub same : answer.error ≢ 0 → after ≡ before
 
 -- a range is appended: what is returned, and the ranges then
-pub record Appends (expected : Result ℕ CheckedError) (before : Seen) (answer : Answer) (after : Seen) : Type 0 where
+pub record PoolAppends (expected : Result ℕ CheckedError) (before : Seen) (answer : Answer) (after : Seen) : Type 0 where
   pub told : answer ≡ answer_of expected
-  pub kept : IsKept before after
+  pub kept : KeepsSeenPayloads before after
   pub pools : answer.error ≡ 0 → after.pools ≡ with_longer_last before.pools answer.value
   pub same : answer.error ≢ 0 → after ≡ before
 
@@ -62,22 +62,22 @@ pub record IsNew (size align addr : ℕ) (before after : Seen) : Type 0 where
   pub kept : IsKeptBut addr before after
 
 -- an allocation is refused if there is no such layout; else it is refused if and only if the reference model refuses it
-pub record Allocates (before : Seen) (size align : ℕ) (answer : Answer) (after : Seen) : Type 0 where
+pub record PoolAllocates (before : Seen) (size align : ℕ) (answer : Answer) (after : Seen) : Type 0 where
   pub no_layout : (answer.error ≡ 9) ↔ (IsLayout size align → ⊥)
   pub errors : (answer.error ≡ 0) ⊎ ((answer.error ≡ 9) ⊎ (answer.error ≡ 10))
-  pub step : IsLayout size align → machine.Allocates before.classes before.state size align (addr_in answer) after.state
+  pub step : IsLayout size align → machine.Allocates before.classes before.state size align (answer_value answer) after.state
   pub new : answer.error ≡ 0 → IsNew size align answer.value before after
   pub same : answer.error ≢ 0 → after ≡ before
 
 -- a payload is deallocated, if one lives at the address
-pub record Frees (before : Seen) (addr answer : ℕ) (after : Seen) : Type 0 where
-  pub told : answer ≡ code_of (if_live (align_at before.state addr) tt)
+pub record PoolFrees (before : Seen) (addr answer : ℕ) (after : Seen) : Type 0 where
+  pub told : answer ≡ reply_code (if_live (align_at before.state addr) tt)
   pub gone : align_at after.state addr ≡ None
   pub kept : IsKeptBut addr before after
   pub same : answer ≢ 0 → after ≡ before
 
 -- a payload has another size, at its address or at one where none was, and its alignment; as many bytes as both sizes have are kept
-pub record IsResized (addr size to : ℕ) (before after : Seen) : Type 0 where
+pub record IsSeenResized (addr size to : ℕ) (before after : Seen) : Type 0 where
   pub live : align_at after.state to ≡ align_at before.state addr
   pub sized : size ≤ length (bytes_at after.state to)
   pub few : length (bytes_at after.state to) < size + 32
@@ -91,23 +91,23 @@ pub record IsResized (addr size to : ℕ) (before after : Seen) : Type 0 where
   pub pools : after.pools ≡ before.pools
 
 -- the refusal that is reported is the answer; if none is, only room may be missing
-abbrev pub IsToldBy : Option CheckedError → ℕ → Type 0
-IsToldBy (Some e) error = error ≡ number_of e
-IsToldBy None error = (error ≡ 0) ⊎ (error ≡ 10)
+abbrev pub IsReportedAs : Option CheckedError → ℕ → Type 0
+IsReportedAs (Some e) error = error ≡ error_code e
+IsReportedAs None error = (error ≡ 0) ⊎ (error ≡ 10)
 
 -- a payload gets another size, or why it doesn't
-pub record Resizes (before : Seen) (addr size : ℕ) (answer : Answer) (after : Seen) : Type 0 where
-  pub told : IsToldBy (size_refusal (align_at before.state addr) size) answer.error
-  pub step : size_refusal (align_at before.state addr) size ≡ None → Reallocates before.classes before.state addr size (addr_in answer) after.state
-  pub resized : answer.error ≡ 0 → IsResized addr size answer.value before after
+pub record PoolResizes (before : Seen) (addr size : ℕ) (answer : Answer) (after : Seen) : Type 0 where
+  pub told : IsReportedAs (size_refusal (align_at before.state addr) size) answer.error
+  pub step : size_refusal (align_at before.state addr) size ≡ None → Reallocates before.classes before.state addr size (answer_value answer) after.state
+  pub resized : answer.error ≡ 0 → IsSeenResized addr size answer.value before after
   pub same : answer.error ≢ 0 → after ≡ before
 
 -- a payload gets another size where it stands, or why it doesn't
-pub record ResizesThere (before : Seen) (addr size : ℕ) (answer : Answer) (after : Seen) : Type 0 where
-  pub told : IsToldBy (size_refusal (align_at before.state addr) size) answer.error
-  pub step : size_refusal (align_at before.state addr) size ≡ None → ReallocatesWithoutMove before.state addr size (addr_in answer) after.state
+pub record PoolResizesThere (before : Seen) (addr size : ℕ) (answer : Answer) (after : Seen) : Type 0 where
+  pub told : IsReportedAs (size_refusal (align_at before.state addr) size) answer.error
+  pub step : size_refusal (align_at before.state addr) size ≡ None → ReallocatesWithoutMove before.state addr size (answer_value answer) after.state
   pub there : answer.error ≡ 0 → answer.value ≡ addr
-  pub resized : answer.error ≡ 0 → IsResized addr size addr before after
+  pub resized : answer.error ≡ 0 → IsSeenResized addr size addr before after
   pub same : answer.error ≢ 0 → after ≡ before
 
 -- how many bytes the caller of a payload may use, if one lives at the address
@@ -116,7 +116,7 @@ Tells before addr answer = answer ≡ answer_of (if_live (align_at before.state 
 
 -- 0, or why so many bytes from an offset on aren't those of a payload
 abbrev pub reach : Seen → ℕ → ℕ → ℕ → ℕ
-reach before addr offset len = code_of (if_in_range (align_at before.state addr) (fits offset len (bytes_at before.state addr)))
+reach before addr offset len = reply_code (if_in_range (align_at before.state addr) (fits offset len (bytes_at before.state addr)))
 
 -- bytes are read, if there are so many
 pub record Reads (before : Seen) (addr offset : ℕ) (was : List ℕ) (answer : ℕ) (now : List ℕ) : Type 0 where
@@ -125,7 +125,7 @@ pub record Reads (before : Seen) (addr offset : ℕ) (was : List ℕ) (answer : 
   pub same : answer ≢ 0 → now ≡ was
 
 -- bytes are written, if there are so many, and all else stays
-pub record Writes (before : Seen) (addr offset : ℕ) (bytes : List ℕ) (answer : ℕ) (after : Seen) : Type 0 where
+pub record PoolWrites (before : Seen) (addr offset : ℕ) (bytes : List ℕ) (answer : ℕ) (after : Seen) : Type 0 where
   pub told : answer ≡ reach before addr offset (length bytes)
   pub written : answer ≡ 0 → bytes_at after.state addr ≡ splice (bytes_at before.state addr) offset (offset + length bytes) bytes
   pub aligns : align_at after.state ≡ align_at before.state
@@ -133,8 +133,8 @@ pub record Writes (before : Seen) (addr offset : ℕ) (bytes : List ℕ) (answer
   pub same : answer ≢ 0 → after ≡ before
 
 -- the first bytes of one payload are copied over those of another, if there are so many, and all else stays
-pub record Copies (before : Seen) (from to len answer : ℕ) (after : Seen) : Type 0 where
-  pub told : answer ≡ code_of (copy_answer before.state from to len)
+pub record PoolCopies (before : Seen) (from to len answer : ℕ) (after : Seen) : Type 0 where
+  pub told : answer ≡ reply_code (copy_answer before.state from to len)
   pub copied : answer ≡ 0 → bytes_at after.state to ≡ copied_over before.state from to len
   pub aligns : align_at after.state ≡ align_at before.state
   pub kept : IsKeptBut to before after
@@ -152,9 +152,9 @@ pub record Zeroes (before : Seen) (addr : ℕ) (after : Seen) : Type 0 where
   pub kept : IsKeptBut addr before after
 
 -- an allocation, after which the payload's bytes become zeros
-pub record AllocatesZeroed (before : Seen) (size align : ℕ) (answer : Answer) (after : Seen) : Type 0 where
+pub record PoolAllocatesZeroed (before : Seen) (size align : ℕ) (answer : Answer) (after : Seen) : Type 0 where
   pub middle : Seen
-  pub allocated : Allocates before size align answer middle
+  pub allocated : PoolAllocates before size align answer middle
   pub zeroed : answer.error ≡ 0 → Zeroes middle answer.value after
   pub new : answer.error ≡ 0 → IsNew size align answer.value before after
   pub zeros : answer.error ≡ 0 → bytes_at after.state answer.value ≡ zeros_for after answer.value
@@ -165,14 +165,14 @@ pub record RemovesLast (before : Seen) (answer : ℕ) (after : Seen) : Type 0 wh
   pub errors : (answer ≡ 0) ⊎ (answer ≡ 15)
   pub idle : (answer ≡ 0) ↔ IsIdle before.state (walked before.pools.last)
   pub step : answer ≡ 0 → Removes before.state (walked before.pools.last) after.state
-  pub kept : IsKept before after
+  pub kept : KeepsSeenPayloads before after
   pub pools : answer ≡ 0 → after.pools ≡ without_last before.pools
   pub same : answer ≢ 0 → after ≡ before
 
 -- a range is removed if it was inserted and no payload lives in it, or why it isn't; and the ranges then
 pub record RemovesRange (before : Seen) (r : Range) (answer : ℕ) (after : Seen) : Type 0 where
-  pub told : (e : Result (Unit {0}) CheckedError) × (answer ≡ code_of e) × IsRemovalOf before.pools before.state r e
+  pub told : (e : Result (Unit {0}) CheckedError) × (answer ≡ reply_code e) × IsRemovalOf before.pools before.state r e
   pub step : answer ≡ 0 → Removes before.state (walked r) after.state
-  pub kept : IsKept before after
+  pub kept : KeepsSeenPayloads before after
   pub pools : answer ≡ 0 → after.pools ≡ without_pool_at before.pools r.start
   pub same : answer ≢ 0 → after ≡ before

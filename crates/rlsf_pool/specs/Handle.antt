@@ -11,16 +11,16 @@ use Rattle.rlsf_pool.specs.contracts.pool.Pool.{the_row}
 use Rattle.rlsf_pool.specs.contracts.space.OffsetSpace.{the_row as the_space}
 
 -- a pool lies at the handle
-abbrev pub Holds : Ptr → PoolValue → Fml
-Holds p v = lies_at the_row full_share p v
+abbrev pub HoldsPool : Ptr → PoolValue → Fml
+HoldsPool p v = lies_at the_row full_share p v
 
 -- a pool of which P is true
 abbrev pub SomePool : (PoolValue → Type 0) → Type 0
 SomePool P = (v : PoolValue) × P v
 
 -- a pool of which P is true lies at the handle
-abbrev pub HoldsSome : Ptr → (PoolValue → Type 0) → Fml
-HoldsSome p P = fex (SomePool P) (λ x. lies_at the_row full_share p x.0)
+abbrev pub HoldsSomePool : Ptr → (PoolValue → Type 0) → Fml
+HoldsSomePool p P = fex (SomePool P) (λ x. lies_at the_row full_share p x.0)
 
 -- there is room for a pool at the handle
 abbrev pub HasRoomForPool : Ptr → Fml

@@ -62,17 +62,17 @@ init_refusal kind start len =
     else Some 11
 
 -- how many classes each row of a pool of the kind has
-abbrev pub classes_of : ℕ → ℕ
-classes_of kind = if kind == 1 then 16 else 64
+abbrev pub classes_of_kind : ℕ → ℕ
+classes_of_kind kind = if kind == 1 then 16 else 64
 
 -- a pool of the kind, with the addresses, into which no range was inserted yet
-abbrev pub fresh : ℕ → ℕ → ℕ → Seen
-fresh kind start len = record { classes = classes_of kind; state = empty; memory = range_at start len; pools = no_pools start }
+abbrev pub fresh_pool : ℕ → ℕ → ℕ → Seen
+fresh_pool kind start len = record { classes = classes_of_kind kind; state = empty; memory = range_at start len; pools = no_pools start }
 
 -- why no pool was made; or the system is out of memory, or there is a pool that is fresh
 abbrev pub IsMadeBy : Option ℕ → ℕ → ℕ → ℕ → PoolValue → Type 0
 IsMadeBy (Some e) kind start len p = p ≡ Refused e
-IsMadeBy None kind start len p = (p ≡ Refused 2) ⊎ ((status_of p ≡ 0) × (seen p ≡ fresh kind start len))
+IsMadeBy None kind start len p = (p ≡ Refused 2) ⊎ ((status_of p ≡ 0) × (seen p ≡ fresh_pool kind start len))
 
 -- what is made of a kind, a start and a length
 abbrev pub IsMade : ℕ → ℕ → ℕ → PoolValue → Type 0

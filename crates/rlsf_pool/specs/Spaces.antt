@@ -2,8 +2,8 @@
 use Rattle.std.specs.Prelude.{◌≡◌, ◌⊎◌, ℕ, ◌+◌, ◌^◌, ◌<◌, ◌≤◌, max, None, Result, Ok, Err, IfOk, OnErr}
 use Rattle.rlsf_blocks.specs.declared.totals.Totals.{Totals}
 use Rattle.rlsf_offsets.specs.Blocks.{AreStats}
-use Rattle.rlsf_offsets.specs.Checked.{IsAllocation, IsGrowth, IsReallocation, if_live, len_or}
-use Rattle.rlsf_offsets.specs.Offsets.{IsAllocated, IsDeallocated, IsGrown, IsReallocated, IsRefused, len_at}
+use Rattle.rlsf_offsets.specs.Checked.{IsAllocation, IsGrowth, IsRangeReallocation, if_range_live, len_or}
+use Rattle.rlsf_offsets.specs.Offsets.{IsRangeAllocated, IsRangeDeallocated, IsSpaceGrown, IsRangeReallocated, KeepsRanges, len_at}
 use Rattle.rlsf_offsets.specs.Units.{Offsets, limit_of}
 use Rattle.rlsf_offsets.specs.declared.error.OffsetError.{OffsetError}
 use Rattle.rlsf_offsets.specs.declared.error.OffsetError.TheVariants.{BadUnit, BadAlign, NoRoom, OutOfMemory, TooLong, TooShort, UnknownOffset}
@@ -22,9 +22,9 @@ space_status (Refused e) = e
 space_status (Ready v) = 0
 
 -- how many units there are
-abbrev pub units_in : SpaceValue → ℕ
-units_in (Refused e) = 0
-units_in (Ready v) = v.units
+abbrev pub space_units : SpaceValue → ℕ
+space_units (Refused e) = 0
+space_units (Ready v) = v.units
 
 -- what is left of a space that was ended: none, and no error
 abbrev pub ended_space : SpaceValue
@@ -64,54 +64,54 @@ IsSpaceMade units limit (Refused e) = ((e ≡ 4) × (2 ^ 56 < max units limit)) 
 IsSpaceMade units limit (Ready v) = (v.units ≡ units) × (limit_of v ≡ max units limit) × ((o : ℕ) → len_at 1 v o ≡ None)
 
 -- an allocation: each error exactly if it applies, and then nothing changes
-pub record Allocates (before : Offsets) (units align : ℕ) (answer : Answer) (after : Offsets) : Type 0 where
+pub record AllocatesUnits (before : Offsets) (units align : ℕ) (answer : Answer) (after : Offsets) : Type 0 where
   pub outcome : Result ℕ OffsetError
   pub told : answer ≡ answer_for outcome
   pub which : IsAllocation 1 before units align outcome
-  pub allocated : IfOk outcome (λ offset. IsAllocated 1 before after units align offset)
-  pub same : OnErr outcome (IsRefused 1 before after)
+  pub allocated : IfOk outcome (λ offset. IsRangeAllocated 1 before after units align offset)
+  pub same : OnErr outcome (KeepsRanges 1 before after)
   pub touches : after.shadow.memory.touches ≤ before.shadow.memory.touches + 27
 
 abbrev pub AllocatesIn : SpaceValue → ℕ → ℕ → Answer → SpaceValue → Type 0
 AllocatesIn (Refused e) units align answer after = (answer ≡ refused_for 8) × (after ≡ Refused e)
 AllocatesIn (Ready v) units align answer (Refused e) = ⊥
-AllocatesIn (Ready v) units align answer (Ready x) = Allocates v units align answer x
+AllocatesIn (Ready v) units align answer (Ready x) = AllocatesUnits v units align answer x
 
 -- a deallocation
-pub record Frees (before : Offsets) (offset answer : ℕ) (after : Offsets) : Type 0 where
+pub record FreesUnits (before : Offsets) (offset answer : ℕ) (after : Offsets) : Type 0 where
   pub outcome : Result (Unit {0}) OffsetError
   pub told : answer ≡ code_for outcome
-  pub which : outcome ≡ if_live (len_at 1 before offset) tt
-  pub deallocated : IfOk outcome (λ x. IsDeallocated 1 before after offset)
-  pub same : OnErr outcome (IsRefused 1 before after)
+  pub which : outcome ≡ if_range_live (len_at 1 before offset) tt
+  pub deallocated : IfOk outcome (λ x. IsRangeDeallocated 1 before after offset)
+  pub same : OnErr outcome (KeepsRanges 1 before after)
   pub touches : after.shadow.memory.touches ≤ before.shadow.memory.touches + 33
 
 abbrev pub FreesIn : SpaceValue → ℕ → ℕ → SpaceValue → Type 0
 FreesIn (Refused e) offset answer after = (answer ≡ 8) × (after ≡ Refused e)
 FreesIn (Ready v) offset answer (Refused e) = ⊥
-FreesIn (Ready v) offset answer (Ready x) = Frees v offset answer x
+FreesIn (Ready v) offset answer (Ready x) = FreesUnits v offset answer x
 
 -- a reallocation in place
-pub record Resizes (before : Offsets) (offset units answer : ℕ) (after : Offsets) : Type 0 where
+pub record ResizesUnits (before : Offsets) (offset units answer : ℕ) (after : Offsets) : Type 0 where
   pub outcome : Result (Unit {0}) OffsetError
   pub told : answer ≡ code_for outcome
-  pub which : IsReallocation 1 before offset units outcome
-  pub reallocated : IfOk outcome (λ x. IsReallocated 1 before after units offset)
-  pub same : OnErr outcome (IsRefused 1 before after)
+  pub which : IsRangeReallocation 1 before offset units outcome
+  pub reallocated : IfOk outcome (λ x. IsRangeReallocated 1 before after units offset)
+  pub same : OnErr outcome (KeepsRanges 1 before after)
   pub touches : after.shadow.memory.touches ≤ before.shadow.memory.touches + 26
 
 abbrev pub ResizesIn : SpaceValue → ℕ → ℕ → ℕ → SpaceValue → Type 0
 ResizesIn (Refused e) offset units answer after = (answer ≡ 8) × (after ≡ Refused e)
 ResizesIn (Ready v) offset units answer (Refused e) = ⊥
-ResizesIn (Ready v) offset units answer (Ready x) = Resizes v offset units answer x
+ResizesIn (Ready v) offset units answer (Ready x) = ResizesUnits v offset units answer x
 
 -- a growth of the space
 pub record Grows (before : Offsets) (units answer : ℕ) (after : Offsets) : Type 0 where
   pub outcome : Result (Unit {0}) OffsetError
   pub told : answer ≡ code_for outcome
   pub which : IsGrowth 1 before units outcome
-  pub grown : IfOk outcome (λ x. IsGrown 1 before after units)
-  pub same : OnErr outcome (IsRefused 1 before after)
+  pub grown : IfOk outcome (λ x. IsSpaceGrown 1 before after units)
+  pub same : OnErr outcome (KeepsRanges 1 before after)
   pub touches : after.shadow.memory.touches ≤ before.shadow.memory.touches + 34
 
 abbrev pub GrowsIn : SpaceValue → ℕ → ℕ → SpaceValue → Type 0

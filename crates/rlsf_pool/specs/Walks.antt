@@ -18,9 +18,9 @@ block_of None = record { error = 14; start = 0; len = 0; used = 0 }
 block_of (Some b) = record { error = 0; start = b.range.start; len = b.range.len; used = if b.is_occupied then 1 else 0 }
 
 -- the first block that begins at an address or behind it
-abbrev pub IsNext : Seen → ℕ → BlockAnswer → Type 0
-IsNext v from answer = (b : Option Block) × IsFirstFrom v.state from b × (answer ≡ block_of b)
+abbrev pub IsNextBlock : Seen → ℕ → BlockAnswer → Type 0
+IsNextBlock v from answer = (b : Option Block) × IsFirstFrom v.state from b × (answer ≡ block_of b)
 
 -- the used and free blocks, from an address on, are listed
-abbrev pub IsListing : Seen → ℕ → List ℕ → ℕ → List ℕ → Type 0
-IsListing v from was count now = (bs : List Block) × AreBlocks v.state v.memory bs × IsListingOf (all_from from bs) was count now
+abbrev pub IsPoolListing : Seen → ℕ → List ℕ → ℕ → List ℕ → Type 0
+IsPoolListing v from was count now = (bs : List Block) × AreBlocks v.state v.memory bs × IsListingOf (all_from from bs) was count now

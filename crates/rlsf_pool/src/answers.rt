@@ -1,7 +1,7 @@
 //! The values that calls return to C: numbers and structs of numbers.
 
 ghost use Rattle.std.specs.Prelude.{◌≡◌};
-ghost use Rattle.rlsf_pool.specs.Answers.{answer_of, code_of, number_of, place_of, refused_by};
+ghost use Rattle.rlsf_pool.specs.Answers.{answer_of, reply_code, error_code, address_answer, refused_by};
 
 use rlsf_base::memory::Addr;
 use rlsf_checked::CheckedError;
@@ -50,7 +50,7 @@ pub struct BlockAnswer {
 
 /// Returns the number of an error.
 pub(crate) fn number(error: CheckedError) -> usize
-    ensures { result ≡ number_of error }
+    ensures { result ≡ error_code error }
 {
     match error {
         CheckedError::InvalidClasses => 1,
@@ -90,7 +90,7 @@ pub(crate) fn to_answer(outcome: Result<usize, CheckedError>) -> Answer
 
 /// Returns an address or an error as an `Answer`.
 pub(crate) fn to_place(outcome: Result<Addr, CheckedError>) -> Answer
-    ensures { result ≡ place_of outcome }
+    ensures { result ≡ address_answer outcome }
 {
     match outcome {
         Ok(addr) => Answer {
@@ -103,7 +103,7 @@ pub(crate) fn to_place(outcome: Result<Addr, CheckedError>) -> Answer
 
 /// Returns 0, or the number of the error.
 pub(crate) fn to_code(outcome: Result<(), CheckedError>) -> usize
-    ensures { result ≡ code_of outcome }
+    ensures { result ≡ reply_code outcome }
 {
     match outcome {
         Ok(()) => OK,

@@ -3,7 +3,7 @@
 ghost use Rattle.std.specs.Prelude.{IsSome};
 ghost use Rattle.rlsf_model.specs.Callers.{align_at};
 ghost use Rattle.rlsf_checked.specs.Answers.{append_answer, insert_answer};
-ghost use Rattle.rlsf_pool.specs.Calls.{Allocates, AllocatesZeroed, Appends, Copies, Frees, Inserts, Reads, RemovesLast, RemovesRange, Resizes, ResizesThere, Tells, Writes, Zeroes};
+ghost use Rattle.rlsf_pool.specs.Calls.{PoolAllocates, PoolAllocatesZeroed, PoolAppends, PoolCopies, PoolFrees, PoolInserts, Reads, RemovesLast, RemovesRange, PoolResizes, PoolResizesThere, Tells, PoolWrites, Zeroes};
 ghost use Rattle.rlsf_pool.specs.Seen.{nothing, seen_in};
 
 use crate::answers::{Answer, IN_USE, OK, number, refused, to_answer, to_code, to_place};
@@ -16,7 +16,7 @@ pub(crate) fn insert<F: BitPattern, S: BitPattern, const FLLEN: usize, const SLL
     heap: &mut CheckedTlsf<F, S, FLLEN, SLLEN>,
     range: Range,
 ) -> Answer
-    ensures { Inserts (insert_answer FLLEN heap.old range) (seen_in SLLEN heap.old) range result (seen_in SLLEN heap.new) }
+    ensures { PoolInserts (insert_answer FLLEN heap.old range) (seen_in SLLEN heap.old) range result (seen_in SLLEN heap.new) }
 {
     to_answer(heap.insert(range))
 }
@@ -26,7 +26,7 @@ pub(crate) fn append<F: BitPattern, S: BitPattern, const FLLEN: usize, const SLL
     heap: &mut CheckedTlsf<F, S, FLLEN, SLLEN>,
     range: Range,
 ) -> Answer
-    ensures { Appends (append_answer FLLEN heap.old range) (seen_in SLLEN heap.old) result (seen_in SLLEN heap.new) }
+    ensures { PoolAppends (append_answer FLLEN heap.old range) (seen_in SLLEN heap.old) result (seen_in SLLEN heap.new) }
 {
     to_answer(heap.append(range))
 }
@@ -37,7 +37,7 @@ pub(crate) fn allocate<F: BitPattern, S: BitPattern, const FLLEN: usize, const S
     size: usize,
     align: usize,
 ) -> Answer
-    ensures { Allocates (seen_in SLLEN heap.old) size align result (seen_in SLLEN heap.new) }
+    ensures { PoolAllocates (seen_in SLLEN heap.old) size align result (seen_in SLLEN heap.new) }
 {
     match Layout::from_size_align(size, align) {
         Ok(layout) => to_place(heap.allocate(layout)),
@@ -47,7 +47,7 @@ pub(crate) fn allocate<F: BitPattern, S: BitPattern, const FLLEN: usize, const S
 
 /// Returns the error of an allocation if there is no allocator: `NoLayout` if no layout has the size and alignment, else `NoRoom`.
 pub(crate) fn allocate_nothing(size: usize, align: usize) -> Answer
-    ensures { Allocates nothing size align result nothing }
+    ensures { PoolAllocates nothing size align result nothing }
 {
     match Layout::from_size_align(size, align) {
         Ok(_) => refused(CheckedError::NoRoom),
@@ -60,7 +60,7 @@ pub(crate) fn free<F: BitPattern, S: BitPattern, const FLLEN: usize, const SLLEN
     heap: &mut CheckedTlsf<F, S, FLLEN, SLLEN>,
     addr: usize,
 ) -> usize
-    ensures { Frees (seen_in SLLEN heap.old) addr result (seen_in SLLEN heap.new) }
+    ensures { PoolFrees (seen_in SLLEN heap.old) addr result (seen_in SLLEN heap.new) }
 {
     heap.memory_ref();
     match Addr::new(addr) {
@@ -75,7 +75,7 @@ pub(crate) fn realloc<F: BitPattern, S: BitPattern, const FLLEN: usize, const SL
     addr: usize,
     size: usize,
 ) -> Answer
-    ensures { Resizes (seen_in SLLEN heap.old) addr size result (seen_in SLLEN heap.new) }
+    ensures { PoolResizes (seen_in SLLEN heap.old) addr size result (seen_in SLLEN heap.new) }
 {
     heap.memory_ref();
     match Addr::new(addr) {
@@ -90,7 +90,7 @@ pub(crate) fn realloc_no_move<F: BitPattern, S: BitPattern, const FLLEN: usize, 
     addr: usize,
     size: usize,
 ) -> Answer
-    ensures { ResizesThere (seen_in SLLEN heap.old) addr size result (seen_in SLLEN heap.new) }
+    ensures { PoolResizesThere (seen_in SLLEN heap.old) addr size result (seen_in SLLEN heap.new) }
 {
     heap.memory_ref();
     match Addr::new(addr) {
@@ -136,7 +136,7 @@ pub(crate) fn write<F: BitPattern, S: BitPattern, const FLLEN: usize, const SLLE
     offset: usize,
     bytes: &[u8],
 ) -> usize
-    ensures { Writes (seen_in SLLEN heap.old) addr offset bytes.now result (seen_in SLLEN heap.new) }
+    ensures { PoolWrites (seen_in SLLEN heap.old) addr offset bytes.now result (seen_in SLLEN heap.new) }
 {
     heap.memory_ref();
     match Addr::new(addr) {
@@ -152,7 +152,7 @@ pub(crate) fn copy<F: BitPattern, S: BitPattern, const FLLEN: usize, const SLLEN
     to: usize,
     len: usize,
 ) -> usize
-    ensures { Copies (seen_in SLLEN heap.old) from to len result (seen_in SLLEN heap.new) }
+    ensures { PoolCopies (seen_in SLLEN heap.old) from to len result (seen_in SLLEN heap.new) }
 {
     heap.memory_ref();
     let Some(source) = Addr::new(from) else {
@@ -184,7 +184,7 @@ pub(crate) fn allocate_zeroed<F: BitPattern, S: BitPattern, const FLLEN: usize, 
     size: usize,
     align: usize,
 ) -> Answer
-    ensures { AllocatesZeroed (seen_in SLLEN heap.old) size align result (seen_in SLLEN heap.new) }
+    ensures { PoolAllocatesZeroed (seen_in SLLEN heap.old) size align result (seen_in SLLEN heap.new) }
 {
     let answer = allocate(heap, size, align);
     if answer.error == OK {

@@ -10,11 +10,11 @@
 ghost use Rattle.std.specs.Borrow.{sem};
 ghost use Rattle.std.specs.Prelude.{◌≡◌};
 ghost use Rattle.rlsf_base.specs.Range.{range_at};
-ghost use Rattle.rlsf_pool.specs.Calls.{Allocates, AllocatesZeroed, Appends, Copies, Frees, Inserts, Reads, RemovesLast, RemovesRange, Resizes, ResizesThere, Tells, Writes};
-ghost use Rattle.rlsf_pool.specs.Handle.{HasRoomForPool, Holds, HoldsSome, room_size};
+ghost use Rattle.rlsf_pool.specs.Calls.{PoolAllocates, PoolAllocatesZeroed, PoolAppends, PoolCopies, PoolFrees, PoolInserts, Reads, RemovesLast, RemovesRange, PoolResizes, PoolResizesThere, Tells, PoolWrites};
+ghost use Rattle.rlsf_pool.specs.Handle.{HasRoomForPool, HoldsPool, HoldsSomePool, room_size};
 ghost use Rattle.rlsf_pool.specs.Lengths.{IsLengthForAllocation, IsLengthForBudget, IsLengthForPayloads};
 ghost use Rattle.rlsf_pool.specs.Seen.{IsMade, IsReset, PoolValue, append_result, ended, insert_result, seen, status_of};
-ghost use Rattle.rlsf_pool.specs.Walks.{IsListing, IsNext, IsSummary};
+ghost use Rattle.rlsf_pool.specs.Walks.{IsPoolListing, IsNextBlock, IsSummary};
 
 mod answers;
 mod calls;
@@ -93,7 +93,7 @@ pub unsafe extern "C" fn rlsf_pool_init(
     len: usize,
 ) -> usize
     requires* { sem 𝓛 (HasRoomForPool pool) }
-    ensures* { sem 𝓛 (HoldsSome pool (λ after. IsMade kind start len after × (result ≡ status_of after))) }
+    ensures* { sem 𝓛 (HoldsSomePool pool (λ after. IsMade kind start len after × (result ≡ status_of after))) }
 {
     std::ptr::write(pool as *mut Pool, Pool::new(alloc, kind, start, len));
     Pool::status(&mut *(pool as *mut Pool))
@@ -103,8 +103,8 @@ pub unsafe extern "C" fn rlsf_pool_init(
 #[unsafe(no_mangle)]
 pub unsafe extern "C" fn rlsf_pool_destroy(pool: *mut u8)
     ghost before: { PoolValue }
-    requires* { sem 𝓛 (Holds pool before) }
-    ensures* { sem 𝓛 (HoldsSome pool (λ after. after ≡ ended)) }
+    requires* { sem 𝓛 (HoldsPool pool before) }
+    ensures* { sem 𝓛 (HoldsSomePool pool (λ after. after ≡ ended)) }
 {
     std::ptr::write(
         pool as *mut Pool,
@@ -116,7 +116,7 @@ pub unsafe extern "C" fn rlsf_pool_destroy(pool: *mut u8)
 #[unsafe(no_mangle)]
 pub unsafe extern "C" fn rlsf_pool_room(pool: *mut u8)
     ghost before: { PoolValue }
-    requires* { sem 𝓛 (Holds pool before) ∗ ⌜ before ≡ ended ⌝ }
+    requires* { sem 𝓛 (HoldsPool pool before) ∗ ⌜ before ≡ ended ⌝ }
     ensures* { sem 𝓛 (HasRoomForPool pool) }
 {
     discard(std::ptr::read(pool as *const Pool));
@@ -126,8 +126,8 @@ pub unsafe extern "C" fn rlsf_pool_room(pool: *mut u8)
 #[unsafe(no_mangle)]
 pub unsafe extern "C" fn rlsf_pool_reset(pool: *mut u8)
     ghost before: { PoolValue }
-    requires* { sem 𝓛 (Holds pool before) }
-    ensures* { sem 𝓛 (HoldsSome pool (λ after. IsReset before after)) }
+    requires* { sem 𝓛 (HoldsPool pool before) }
+    ensures* { sem 𝓛 (HoldsSomePool pool (λ after. IsReset before after)) }
 {
     std::ptr::write(
         pool as *mut Pool,
@@ -139,8 +139,8 @@ pub unsafe extern "C" fn rlsf_pool_reset(pool: *mut u8)
 #[unsafe(no_mangle)]
 pub unsafe extern "C" fn rlsf_pool_len(pool: *mut u8) -> usize
     ghost before: { PoolValue }
-    requires* { sem 𝓛 (Holds pool before) }
-    ensures* { sem 𝓛 (HoldsSome pool (λ after. (result ≡ (seen before).memory.len) × (after ≡ before))) }
+    requires* { sem 𝓛 (HoldsPool pool before) }
+    ensures* { sem 𝓛 (HoldsSomePool pool (λ after. (result ≡ (seen before).memory.len) × (after ≡ before))) }
 {
     Pool::len(&mut *(pool as *mut Pool))
 }
@@ -149,8 +149,8 @@ pub unsafe extern "C" fn rlsf_pool_len(pool: *mut u8) -> usize
 #[unsafe(no_mangle)]
 pub unsafe extern "C" fn rlsf_pool_insert(pool: *mut u8, start: usize, len: usize) -> Answer
     ghost before: { PoolValue }
-    requires* { sem 𝓛 (Holds pool before) }
-    ensures* { sem 𝓛 (HoldsSome pool (λ after. Inserts (insert_result before (range_at start len)) (seen before) (range_at start len) result (seen after))) }
+    requires* { sem 𝓛 (HoldsPool pool before) }
+    ensures* { sem 𝓛 (HoldsSomePool pool (λ after. PoolInserts (insert_result before (range_at start len)) (seen before) (range_at start len) result (seen after))) }
 {
     Pool::insert(&mut *(pool as *mut Pool), start, len)
 }
@@ -159,8 +159,8 @@ pub unsafe extern "C" fn rlsf_pool_insert(pool: *mut u8, start: usize, len: usiz
 #[unsafe(no_mangle)]
 pub unsafe extern "C" fn rlsf_pool_append(pool: *mut u8, start: usize, len: usize) -> Answer
     ghost before: { PoolValue }
-    requires* { sem 𝓛 (Holds pool before) }
-    ensures* { sem 𝓛 (HoldsSome pool (λ after. Appends (append_result before (range_at start len)) (seen before) result (seen after))) }
+    requires* { sem 𝓛 (HoldsPool pool before) }
+    ensures* { sem 𝓛 (HoldsSomePool pool (λ after. PoolAppends (append_result before (range_at start len)) (seen before) result (seen after))) }
 {
     Pool::append(&mut *(pool as *mut Pool), start, len)
 }
@@ -169,8 +169,8 @@ pub unsafe extern "C" fn rlsf_pool_append(pool: *mut u8, start: usize, len: usiz
 #[unsafe(no_mangle)]
 pub unsafe extern "C" fn rlsf_pool_allocate(pool: *mut u8, size: usize, align: usize) -> Answer
     ghost before: { PoolValue }
-    requires* { sem 𝓛 (Holds pool before) }
-    ensures* { sem 𝓛 (HoldsSome pool (λ after. Allocates (seen before) size align result (seen after))) }
+    requires* { sem 𝓛 (HoldsPool pool before) }
+    ensures* { sem 𝓛 (HoldsSomePool pool (λ after. PoolAllocates (seen before) size align result (seen after))) }
 {
     Pool::allocate(&mut *(pool as *mut Pool), size, align)
 }
@@ -179,8 +179,8 @@ pub unsafe extern "C" fn rlsf_pool_allocate(pool: *mut u8, size: usize, align: u
 #[unsafe(no_mangle)]
 pub unsafe extern "C" fn rlsf_pool_free(pool: *mut u8, addr: usize) -> usize
     ghost before: { PoolValue }
-    requires* { sem 𝓛 (Holds pool before) }
-    ensures* { sem 𝓛 (HoldsSome pool (λ after. Frees (seen before) addr result (seen after))) }
+    requires* { sem 𝓛 (HoldsPool pool before) }
+    ensures* { sem 𝓛 (HoldsSomePool pool (λ after. PoolFrees (seen before) addr result (seen after))) }
 {
     Pool::free(&mut *(pool as *mut Pool), addr)
 }
@@ -189,8 +189,8 @@ pub unsafe extern "C" fn rlsf_pool_free(pool: *mut u8, addr: usize) -> usize
 #[unsafe(no_mangle)]
 pub unsafe extern "C" fn rlsf_pool_realloc(pool: *mut u8, addr: usize, size: usize) -> Answer
     ghost before: { PoolValue }
-    requires* { sem 𝓛 (Holds pool before) }
-    ensures* { sem 𝓛 (HoldsSome pool (λ after. Resizes (seen before) addr size result (seen after))) }
+    requires* { sem 𝓛 (HoldsPool pool before) }
+    ensures* { sem 𝓛 (HoldsSomePool pool (λ after. PoolResizes (seen before) addr size result (seen after))) }
 {
     Pool::realloc(&mut *(pool as *mut Pool), addr, size)
 }
@@ -203,8 +203,8 @@ pub unsafe extern "C" fn rlsf_pool_realloc_no_move(
     size: usize,
 ) -> Answer
     ghost before: { PoolValue }
-    requires* { sem 𝓛 (Holds pool before) }
-    ensures* { sem 𝓛 (HoldsSome pool (λ after. ResizesThere (seen before) addr size result (seen after))) }
+    requires* { sem 𝓛 (HoldsPool pool before) }
+    ensures* { sem 𝓛 (HoldsSomePool pool (λ after. PoolResizesThere (seen before) addr size result (seen after))) }
 {
     Pool::realloc_no_move(&mut *(pool as *mut Pool), addr, size)
 }
@@ -213,8 +213,8 @@ pub unsafe extern "C" fn rlsf_pool_realloc_no_move(
 #[unsafe(no_mangle)]
 pub unsafe extern "C" fn rlsf_pool_usable(pool: *mut u8, addr: usize) -> Answer
     ghost before: { PoolValue }
-    requires* { sem 𝓛 (Holds pool before) }
-    ensures* { sem 𝓛 (HoldsSome pool (λ after. Tells (seen before) addr result × (after ≡ before))) }
+    requires* { sem 𝓛 (HoldsPool pool before) }
+    ensures* { sem 𝓛 (HoldsSomePool pool (λ after. Tells (seen before) addr result × (after ≡ before))) }
 {
     Pool::usable(&mut *(pool as *mut Pool), addr)
 }
@@ -228,8 +228,8 @@ pub unsafe extern "C" fn rlsf_pool_read(
     into: &mut [u8],
 ) -> usize
     ghost before: { PoolValue }
-    requires* { sem 𝓛 (Holds pool before) }
-    ensures* { sem 𝓛 (HoldsSome pool (λ after. Reads (seen before) addr offset into.old result into.new × (after ≡ before))) }
+    requires* { sem 𝓛 (HoldsPool pool before) }
+    ensures* { sem 𝓛 (HoldsSomePool pool (λ after. Reads (seen before) addr offset into.old result into.new × (after ≡ before))) }
 {
     Pool::read(&mut *(pool as *mut Pool), addr, offset, into)
 }
@@ -243,8 +243,8 @@ pub unsafe extern "C" fn rlsf_pool_write(
     bytes: &[u8],
 ) -> usize
     ghost before: { PoolValue }
-    requires* { sem 𝓛 (Holds pool before) }
-    ensures* { sem 𝓛 (HoldsSome pool (λ after. Writes (seen before) addr offset bytes.now result (seen after))) }
+    requires* { sem 𝓛 (HoldsPool pool before) }
+    ensures* { sem 𝓛 (HoldsSomePool pool (λ after. PoolWrites (seen before) addr offset bytes.now result (seen after))) }
 {
     Pool::write(&mut *(pool as *mut Pool), addr, offset, bytes)
 }
@@ -253,8 +253,8 @@ pub unsafe extern "C" fn rlsf_pool_write(
 #[unsafe(no_mangle)]
 pub unsafe extern "C" fn rlsf_pool_stats(pool: *mut u8) -> Totals
     ghost before: { PoolValue }
-    requires* { sem 𝓛 (Holds pool before) }
-    ensures* { sem 𝓛 (HoldsSome pool (λ after. IsSummary (seen before) result × (after ≡ before))) }
+    requires* { sem 𝓛 (HoldsPool pool before) }
+    ensures* { sem 𝓛 (HoldsSomePool pool (λ after. IsSummary (seen before) result × (after ≡ before))) }
 {
     Pool::stats(&mut *(pool as *mut Pool))
 }
@@ -263,8 +263,8 @@ pub unsafe extern "C" fn rlsf_pool_stats(pool: *mut u8) -> Totals
 #[unsafe(no_mangle)]
 pub unsafe extern "C" fn rlsf_pool_walk(pool: *mut u8, from: usize) -> BlockAnswer
     ghost before: { PoolValue }
-    requires* { sem 𝓛 (Holds pool before) }
-    ensures* { sem 𝓛 (HoldsSome pool (λ after. IsNext (seen before) from result × (after ≡ before))) }
+    requires* { sem 𝓛 (HoldsPool pool before) }
+    ensures* { sem 𝓛 (HoldsSomePool pool (λ after. IsNextBlock (seen before) from result × (after ≡ before))) }
 {
     Pool::walk(&mut *(pool as *mut Pool), from)
 }
@@ -274,8 +274,8 @@ pub unsafe extern "C" fn rlsf_pool_walk(pool: *mut u8, from: usize) -> BlockAnsw
 #[unsafe(no_mangle)]
 pub unsafe extern "C" fn rlsf_pool_list(pool: *mut u8, from: usize, into: &mut [usize]) -> usize
     ghost before: { PoolValue }
-    requires* { sem 𝓛 (Holds pool before) }
-    ensures* { sem 𝓛 (HoldsSome pool (λ after. IsListing (seen before) from into.old result into.new × (after ≡ before))) }
+    requires* { sem 𝓛 (HoldsPool pool before) }
+    ensures* { sem 𝓛 (HoldsSomePool pool (λ after. IsPoolListing (seen before) from into.old result into.new × (after ≡ before))) }
 {
     Pool::list(&mut *(pool as *mut Pool), from, into)
 }
@@ -284,8 +284,8 @@ pub unsafe extern "C" fn rlsf_pool_list(pool: *mut u8, from: usize, into: &mut [
 #[unsafe(no_mangle)]
 pub unsafe extern "C" fn rlsf_pool_copy(pool: *mut u8, from: usize, to: usize, len: usize) -> usize
     ghost before: { PoolValue }
-    requires* { sem 𝓛 (Holds pool before) }
-    ensures* { sem 𝓛 (HoldsSome pool (λ after. Copies (seen before) from to len result (seen after))) }
+    requires* { sem 𝓛 (HoldsPool pool before) }
+    ensures* { sem 𝓛 (HoldsSomePool pool (λ after. PoolCopies (seen before) from to len result (seen after))) }
 {
     Pool::copy(&mut *(pool as *mut Pool), from, to, len)
 }
@@ -298,8 +298,8 @@ pub unsafe extern "C" fn rlsf_pool_allocate_zeroed(
     align: usize,
 ) -> Answer
     ghost before: { PoolValue }
-    requires* { sem 𝓛 (Holds pool before) }
-    ensures* { sem 𝓛 (HoldsSome pool (λ after. AllocatesZeroed (seen before) size align result (seen after))) }
+    requires* { sem 𝓛 (HoldsPool pool before) }
+    ensures* { sem 𝓛 (HoldsSomePool pool (λ after. PoolAllocatesZeroed (seen before) size align result (seen after))) }
 {
     Pool::allocate_zeroed(&mut *(pool as *mut Pool), size, align)
 }
@@ -308,8 +308,8 @@ pub unsafe extern "C" fn rlsf_pool_allocate_zeroed(
 #[unsafe(no_mangle)]
 pub unsafe extern "C" fn rlsf_pool_remove(pool: *mut u8, start: usize, len: usize) -> usize
     ghost before: { PoolValue }
-    requires* { sem 𝓛 (Holds pool before) }
-    ensures* { sem 𝓛 (HoldsSome pool (λ after. RemovesRange (seen before) (range_at start len) result (seen after))) }
+    requires* { sem 𝓛 (HoldsPool pool before) }
+    ensures* { sem 𝓛 (HoldsSomePool pool (λ after. RemovesRange (seen before) (range_at start len) result (seen after))) }
 {
     Pool::remove(&mut *(pool as *mut Pool), start, len)
 }
@@ -318,8 +318,8 @@ pub unsafe extern "C" fn rlsf_pool_remove(pool: *mut u8, start: usize, len: usiz
 #[unsafe(no_mangle)]
 pub unsafe extern "C" fn rlsf_pool_remove_last(pool: *mut u8) -> usize
     ghost before: { PoolValue }
-    requires* { sem 𝓛 (Holds pool before) }
-    ensures* { sem 𝓛 (HoldsSome pool (λ after. RemovesLast (seen before) result (seen after))) }
+    requires* { sem 𝓛 (HoldsPool pool before) }
+    ensures* { sem 𝓛 (HoldsSomePool pool (λ after. RemovesLast (seen before) result (seen after))) }
 {
     Pool::remove_last(&mut *(pool as *mut Pool))
 }

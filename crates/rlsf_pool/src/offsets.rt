@@ -3,7 +3,7 @@
 ghost use Rattle.std.specs.Borrow.{sem};
 ghost use Rattle.std.specs.Prelude.{◌≡◌};
 ghost use Rattle.rlsf_pool.specs.Handle.{HasRoomForSpace, HoldsSomeSpace, HoldsSpace, space_size};
-ghost use Rattle.rlsf_pool.specs.Spaces.{AllocatesIn, FreesIn, GrowsIn, IsSpaceMade, ResizesIn, SpaceValue, TellsIn, TotalsIn, ended_space, space_status, units_in};
+ghost use Rattle.rlsf_pool.specs.Spaces.{AllocatesIn, FreesIn, GrowsIn, IsSpaceMade, ResizesIn, SpaceValue, TellsIn, TotalsIn, ended_space, space_status, space_units};
 
 use crate::answers::Answer;
 use crate::space::{OffsetSpace, discard, finish};
@@ -65,7 +65,7 @@ pub unsafe extern "C" fn rlsf_offsets_room(space: *mut u8)
 pub unsafe extern "C" fn rlsf_offsets_units(space: *mut u8) -> usize
     ghost before: { SpaceValue }
     requires* { sem 𝓛 (HoldsSpace space before) }
-    ensures* { sem 𝓛 (HoldsSomeSpace space (λ after. (result ≡ units_in before) × (after ≡ before))) }
+    ensures* { sem 𝓛 (HoldsSomeSpace space (λ after. (result ≡ space_units before) × (after ≡ before))) }
 {
     OffsetSpace::units(&mut *(space as *mut OffsetSpace))
 }

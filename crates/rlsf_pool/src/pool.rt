@@ -2,9 +2,9 @@
 
 ghost use Rattle.std.specs.Prelude.{◌≡◌};
 ghost use Rattle.rlsf_base.specs.Range.{range_at};
-ghost use Rattle.rlsf_pool.specs.Calls.{Allocates, AllocatesZeroed, Appends, Copies, Frees, Inserts, Reads, RemovesLast, RemovesRange, Resizes, ResizesThere, Tells, Writes};
+ghost use Rattle.rlsf_pool.specs.Calls.{PoolAllocates, PoolAllocatesZeroed, PoolAppends, PoolCopies, PoolFrees, PoolInserts, Reads, RemovesLast, RemovesRange, PoolResizes, PoolResizesThere, Tells, PoolWrites};
 ghost use Rattle.rlsf_pool.specs.Seen.{IsMade, IsReset, append_result, ended, init_refusal, insert_result, seen, status_of};
-ghost use Rattle.rlsf_pool.specs.Walks.{IsListing, IsNext, IsSummary};
+ghost use Rattle.rlsf_pool.specs.Walks.{IsPoolListing, IsNextBlock, IsSummary};
 
 use crate::answers::{Answer, BlockAnswer, NO_KIND, OK, TOO_LONG, ZERO_START, number, refused};
 use crate::{calls, walks};
@@ -87,7 +87,7 @@ impl Pool {
 
     /// Inserts a range of the memory.
     pub fn insert(&mut self, start: usize, len: usize) -> Answer
-        ensures { Inserts (insert_result self.old (range_at start len)) (seen self.old) (range_at start len) result (seen self.new) }
+        ensures { PoolInserts (insert_result self.old (range_at start len)) (seen self.old) (range_at start len) result (seen self.new) }
     {
         match self {
             Pool::Refused(_) => refused(CheckedError::OutsideMemory),
@@ -98,7 +98,7 @@ impl Pool {
 
     /// Appends a range to the last pool.
     pub fn append(&mut self, start: usize, len: usize) -> Answer
-        ensures { Appends (append_result self.old (range_at start len)) (seen self.old) result (seen self.new) }
+        ensures { PoolAppends (append_result self.old (range_at start len)) (seen self.old) result (seen self.new) }
     {
         match self {
             Pool::Refused(_) => refused(CheckedError::OutsideMemory),
@@ -109,7 +109,7 @@ impl Pool {
 
     /// Allocates a payload.
     pub fn allocate(&mut self, size: usize, align: usize) -> Answer
-        ensures { Allocates (seen self.old) size align result (seen self.new) }
+        ensures { PoolAllocates (seen self.old) size align result (seen self.new) }
     {
         match self {
             Pool::Refused(_) => calls::allocate_nothing(size, align),
@@ -120,7 +120,7 @@ impl Pool {
 
     /// Deallocates a payload.
     pub fn free(&mut self, addr: usize) -> usize
-        ensures { Frees (seen self.old) addr result (seen self.new) }
+        ensures { PoolFrees (seen self.old) addr result (seen self.new) }
     {
         match self {
             Pool::Refused(_) => number(CheckedError::UnknownAddress),
@@ -131,7 +131,7 @@ impl Pool {
 
     /// Changes the size of a payload.
     pub fn realloc(&mut self, addr: usize, size: usize) -> Answer
-        ensures { Resizes (seen self.old) addr size result (seen self.new) }
+        ensures { PoolResizes (seen self.old) addr size result (seen self.new) }
     {
         match self {
             Pool::Refused(_) => refused(CheckedError::UnknownAddress),
@@ -142,7 +142,7 @@ impl Pool {
 
     /// Changes the size of a payload without moving it.
     pub fn realloc_no_move(&mut self, addr: usize, size: usize) -> Answer
-        ensures { ResizesThere (seen self.old) addr size result (seen self.new) }
+        ensures { PoolResizesThere (seen self.old) addr size result (seen self.new) }
     {
         match self {
             Pool::Refused(_) => refused(CheckedError::UnknownAddress),
@@ -175,7 +175,7 @@ impl Pool {
 
     /// Writes bytes of a payload.
     pub fn write(&mut self, addr: usize, offset: usize, bytes: &[u8]) -> usize
-        ensures { Writes (seen self.old) addr offset bytes.now result (seen self.new) }
+        ensures { PoolWrites (seen self.old) addr offset bytes.now result (seen self.new) }
     {
         match self {
             Pool::Refused(_) => number(CheckedError::UnknownAddress),
@@ -186,7 +186,7 @@ impl Pool {
 
     /// Copies the first bytes of a payload over those of another.
     pub fn copy(&mut self, from: usize, to: usize, len: usize) -> usize
-        ensures { Copies (seen self.old) from to len result (seen self.new) }
+        ensures { PoolCopies (seen self.old) from to len result (seen self.new) }
     {
         match self {
             Pool::Refused(_) => number(CheckedError::UnknownAddress),
@@ -197,7 +197,7 @@ impl Pool {
 
     /// Allocates a payload of zeros.
     pub fn allocate_zeroed(&mut self, size: usize, align: usize) -> Answer
-        ensures { AllocatesZeroed (seen self.old) size align result (seen self.new) }
+        ensures { PoolAllocatesZeroed (seen self.old) size align result (seen self.new) }
     {
         match self {
             Pool::Refused(_) => calls::allocate_nothing(size, align),
@@ -241,7 +241,7 @@ impl Pool {
 
     /// Returns the first block that begins at an address or behind it.
     pub fn walk(&mut self, from: usize) -> BlockAnswer
-        ensures { IsNext (seen self.old) from result × (self.new ≡ self.old) }
+        ensures { IsNextBlock (seen self.old) from result × (self.new ≡ self.old) }
     {
         match self {
             Pool::Refused(_) => walks::NO_BLOCK,
@@ -252,7 +252,7 @@ impl Pool {
 
     /// Lists the blocks of all pools that begin at an address or behind it. Returns how many are listed.
     pub fn list(&mut self, from: usize, into: &mut [usize]) -> usize
-        ensures { IsListing (seen self.old) from into.old result into.new × (self.new ≡ self.old) }
+        ensures { IsPoolListing (seen self.old) from into.old result into.new × (self.new ≡ self.old) }
     {
         match self {
             Pool::Refused(_) => 0,

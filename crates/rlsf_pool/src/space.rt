@@ -1,7 +1,7 @@
 //! A space of units that a program divides into ranges.
 
 ghost use Rattle.std.specs.Prelude.{◌≡◌};
-ghost use Rattle.rlsf_pool.specs.Spaces.{AllocatesIn, FreesIn, GrowsIn, IsSpaceMade, ResizesIn, TellsIn, TotalsIn, answer_for, code_for, ended_space, number_for, refused_for, space_status, stats_in, units_in};
+ghost use Rattle.rlsf_pool.specs.Spaces.{AllocatesIn, FreesIn, GrowsIn, IsSpaceMade, ResizesIn, TellsIn, TotalsIn, answer_for, code_for, ended_space, number_for, refused_for, space_status, stats_in, space_units};
 
 use crate::answers::{Answer, OK};
 use crate::pool::crosses;
@@ -44,7 +44,7 @@ impl OffsetSpace {
 
     /// Returns the number of units of the space.
     pub fn units(&mut self) -> usize
-        ensures { (result ≡ units_in self.old) × (self.new ≡ self.old) }
+        ensures { (result ≡ space_units self.old) × (self.new ≡ self.old) }
     {
         match self {
             OffsetSpace::Refused(_) => 0,

@@ -17,8 +17,8 @@ abbrev pub most_usable : List Moment → ℕ
 most_usable moments = fold (λ most m. max most m.usable) 0 moments
 
 -- the bytes of the used blocks together
-abbrev pub used_bytes : List Block → ℕ
-used_bytes blocks = sum_by (λ b. if b.is_occupied then b.range.len else 0) blocks
+abbrev pub occupied_bytes : List Block → ℕ
+occupied_bytes blocks = sum_by (λ b. if b.is_occupied then b.range.len else 0) blocks
 
 -- the bytes of the free blocks together
 abbrev pub free_bytes : List Block → ℕ

@@ -29,7 +29,7 @@ pub(crate) fn summary_of(watched: &Watched) -> Summary
     ensures last { result.last ≡ spec.last_moment watched.now.moments.items }
     ensures live { result.most_live ≡ spec.most_live watched.now.moments.items }
     ensures usable { result.most_usable ≡ spec.most_usable watched.now.moments.items }
-    ensures used { result.used_bytes ≡ spec.used_bytes watched.now.blocks.items }
+    ensures used { result.used_bytes ≡ spec.occupied_bytes watched.now.blocks.items }
     ensures free { result.free_bytes ≡ spec.free_bytes watched.now.blocks.items }
     ensures count { result.free_blocks ≡ spec.free_count watched.now.blocks.items }
     ensures longest { result.longest ≡ spec.longest_free watched.now.blocks.items }
@@ -77,7 +77,7 @@ fn most_usable(moments: &[Moment]) -> u128
 
 /// The bytes of the used blocks, with their headers.
 fn used_bytes(blocks: &[BlockInfo]) -> u128
-    ensures { result ≡ spec.used_bytes blocks.now }
+    ensures { result ≡ spec.occupied_bytes blocks.now }
 {
     blocks
         .iter()

@@ -47,8 +47,8 @@ HasNewest fllen sllen m t block fl sl = (r : Range) × (before after : List Rang
     × IsFreeTable fllen sllen m t (before ++ (r ∷ after))
 
 -- the block is the newest free one, and no words were written but links of free blocks
-abbrev pub IsLinked : ℕ → ℕ → Space → Space → Table → Range → List Range → Type 0
-IsLinked fllen sllen m n t r free = HasTable fllen sllen n t (r ∷ free) × Rewrites m n (IsLink (r ∷ free))
+abbrev pub IsNewestFree : ℕ → ℕ → Space → Space → Table → Range → List Range → Type 0
+IsNewestFree fllen sllen m n t r free = HasTable fllen sllen n t (r ∷ free) × Rewrites m n (IsLink (r ∷ free))
 
 -- the block is no free one any more, and no words were written but links of blocks that were free
 abbrev pub IsUnlinked : ℕ → ℕ → Space → Space → Table → Range → List Range → List Range → Type 0

@@ -10,7 +10,7 @@ ghost use Rattle.rlsf_table.specs.Counts.{Costs};
 ghost use Rattle.rlsf_table.specs.Rewrites.{CanBeBlock};
 ghost use Rattle.rlsf_table.specs.Table.{IsClassAt};
 ghost use Rattle.rlsf_table.specs.Steps.ClassList.{first_then, unlinking_touches, AtEachFront, AtEachPlace, IsFirstOrOwn, IsFreeList, IsRelinked};
-ghost use Rattle.rlsf_table.specs.FreeTable.{AtEachListed, AtEachNewest, AtEachRoom, HasNewest, IsFreeTable, IsLinked, IsRoom, IsUnlinked};
+ghost use Rattle.rlsf_table.specs.FreeTable.{AtEachListed, AtEachNewest, AtEachRoom, HasNewest, IsFreeTable, IsNewestFree, IsRoom, IsUnlinked};
 
 use crate::block_words::{NEXT_FREE, PREVIOUS_FREE};
 use crate::table::{ClassIndex, ClassTable};
@@ -77,7 +77,7 @@ pub fn link_free_block<const FLLEN: usize, const SLLEN: usize>(
     requires parameters { IsValid 128 128 FLLEN SLLEN }
     requires room { (r : Range) × (free : List Range) × (r.start ≡ block) × (r.len ≡ len) × IsRoom FLLEN SLLEN memory.old table.old free r }
     requires view { view ≡ memory.old.view }
-    ensures step { AtEachRoom FLLEN SLLEN memory.old table.old block len (IsLinked FLLEN SLLEN memory.old memory.new table.new) }
+    ensures step { AtEachRoom FLLEN SLLEN memory.old table.old block len (IsNewestFree FLLEN SLLEN memory.old memory.new table.new) }
     ensures costs { Costs memory.old memory.new 9 0 }
 {
     // Here `class_of_block` would take a register more, which an allocation would have to save.
@@ -97,7 +97,7 @@ pub fn link_joined_block<const FLLEN: usize, const SLLEN: usize>(
     requires parameters { IsValid 128 128 FLLEN SLLEN }
     requires room { (r : Range) × (free : List Range) × (r.start ≡ block) × (r.len ≡ len) × IsRoom FLLEN SLLEN memory.old table.old free r }
     requires view { view ≡ memory.old.view }
-    ensures step { AtEachRoom FLLEN SLLEN memory.old table.old block len (IsLinked FLLEN SLLEN memory.old memory.new table.new) }
+    ensures step { AtEachRoom FLLEN SLLEN memory.old table.old block len (IsNewestFree FLLEN SLLEN memory.old memory.new table.new) }
     ensures costs { Costs memory.old memory.new 9 0 }
 {
     memory.is_below_limit();
@@ -119,7 +119,7 @@ fn link_in_class<const FLLEN: usize, const SLLEN: usize>(
     requires class { IsClassAt FLLEN SLLEN len class.fl class.sl }
     requires room { (r : Range) × (free : List Range) × (r.start ≡ block) × (r.len ≡ len) × IsRoom FLLEN SLLEN memory.old table.old free r }
     requires view { view ≡ memory.old.view }
-    ensures step { AtEachRoom FLLEN SLLEN memory.old table.old block len (IsLinked FLLEN SLLEN memory.old memory.new table.new) }
+    ensures step { AtEachRoom FLLEN SLLEN memory.old table.old block len (IsNewestFree FLLEN SLLEN memory.old memory.new table.new) }
     ensures costs { Costs memory.old memory.new 9 0 }
 {
     let _ = len;

@@ -3,7 +3,7 @@
 ghost use Rattle.std.specs.Prelude.{◌≡◌, ◌≢◌, ℕ, ◌+◌, ◌<◌, ◌≤◌, ◌↔◌, ◌||◌, ◌==◌, false, IsTrue, slice_index};
 ghost use Rattle.rlsf_base.specs.SearchStart.{CanBegin};
 ghost use Rattle.rlsf_int.specs.Bits.{bit, IsFirstOne};
-ghost use Rattle.rlsf_table.specs.Steps.Places.{joined, row_word, scanned_places, IsFirstFrom};
+ghost use Rattle.rlsf_table.specs.Steps.Places.{joined, row_word, scanned_places, IsFirstPlaceFrom};
 
 use rlsf_int::{BinInteger, Bitmap};
 
@@ -85,7 +85,7 @@ impl<const ROWS: usize, const PLACES: usize> Rows<ROWS, PLACES> {
     /// Returns the least set place of a row from `start` on, if there is one. A short row may be searched from behind its last place.
     pub(crate) fn first_from(&self, fl: usize, start: usize) -> Option<usize>
         requires { (fl < ROWS) × CanBegin PLACES start × (PLACES ≤ 128) }
-        ensures { IsFirstFrom PLACES (row_word PLACES self.now.low self.now.high fl) start result }
+        ensures { IsFirstPlaceFrom PLACES (row_word PLACES self.now.low self.now.high fl) start result }
     {
         if PLACES <= 64 {
             let places = self.low[fl] & (u64::MAX << start);
@@ -107,7 +107,7 @@ impl<const ROWS: usize, const PLACES: usize> Rows<ROWS, PLACES> {
     /// Returns the least set place of a row behind `place`, if there is one.
     pub(crate) fn first_behind(&self, fl: usize, place: usize) -> Option<usize>
         requires { (fl < ROWS) × (place < PLACES) × (PLACES ≤ 128) }
-        ensures { IsFirstFrom PLACES (row_word PLACES self.now.low self.now.high fl) (place + 1) result }
+        ensures { IsFirstPlaceFrom PLACES (row_word PLACES self.now.low self.now.high fl) (place + 1) result }
     {
         if PLACES <= 64 {
             // All ones but the lowest, moved up: no place has to be tested.

@@ -11,7 +11,7 @@ use Rattle.rlsf_flex.specs.StandsFor.{FlexContents, FlexSteps}
 use Rattle.rlsf_model.specs.Allocate.{choice, Places}
 use Rattle.rlsf_model.specs.Answers.{MayAnswerAll}
 use Rattle.rlsf_model.specs.FlexAllocate.{FlexAllocates}
-use Rattle.rlsf_model.specs.FlexState.{FlexState, KeptPool, empty}
+use Rattle.rlsf_model.specs.FlexState.{FlexState, KeptPool, flex_empty}
 use Rattle.rlsf_model.specs.Growth.{Extends, Outcome, range_came, growth_came, is_more, notes_of, questions, refused}
 use Rattle.rlsf_model.specs.Insert.{Inserts}
 use Rattle.rlsf_model.specs.Lists.{IsIn}
@@ -56,13 +56,13 @@ HasAskedThen m None notes = IsFull m × (notes ≡ alloc 64 None ∷ [])
 HasAskedThen m (Some b) notes = (IsFull m × (q : Range) × (notes ≡ alloc 64 (Some q) ∷ [])) ⊎ ((IsFull m → ⊥) × (notes ≡ []))
 
 -- the first one has no room; no pool is kept after it
-asks_first : (space memory : Range) (u : FlexState) (reply : Option ℕ) (notes : List Note) → FlexAllocates 8 8 (plain space) empty 1 1 reply notes u
+asks_first : (space memory : Range) (u : FlexState) (reply : Option ℕ) (notes : List Note) → FlexAllocates 8 8 (plain space) flex_empty 1 1 reply notes u
     → MayAnswerAll (plain space) [] notes → IsWellFormed 8 8 memory u.machine → (u.kept ≡ None) × HasAskedFirst reply notes u.machine
 asks_first space memory u None notes did answers w =
     (ap (λ (v : FlexState). v.kept) did.extends.after, (did.extends.asked, ap (λ (v : FlexState). choice 8 32 v.machine.free) did.extends.after))
 asks_first space memory u (Some a) notes (inl did) answers w = absurd (true≢false (sym (ap is_some did.allocates.chosen)))
 asks_first space memory u (Some a) notes (inr did) answers w =
-    let (none, r, is, len, inserts) = more_is_a_range space empty did.meanwhile did.outcome notes refl did.more did.asks.extends in
+    let (none, r, is, len, inserts) = more_is_a_range space flex_empty did.meanwhile did.outcome notes refl did.more did.asks.extends in
     let given : IsGiven (plain space) [] 64 r = answers (alloc 64 (Some r)) (subst (IsIn (alloc 64 (Some r))) (sym is) (inl refl)) in
     let places : Places 8 did.meanwhile.machine 1 1 a u.machine = subst (λ (v : FlexState). Places 8 did.meanwhile.machine 1 1 a v.machine) (sym did.after) did.allocates in (
       ap (λ (v : FlexState). v.kept) did.after ∙ none,
@@ -121,12 +121,12 @@ two_asked (Some a) (Some b) ms ns m asked (r, is, short, long) (inr (room, none)
 
 -- two allocations of one byte from the empty state, and what the source remembers of them
 pub asked_for_two : (space memory : Range) (x y z : Listed) (begin s u : FlexState) (size align : ℕ) (first second : Option ℕ) (ms ns : List Note)
-    → begin ≡ empty → size ≡ 1 → align ≡ 1 → x.terms ≡ plain space → x.asked ≡ [] → 2 ≤ x.room
+    → begin ≡ flex_empty → size ≡ 1 → align ≡ 1 → x.terms ≡ plain space → x.asked ≡ [] → 2 ≤ x.room
     → FlexAllocates 8 8 x.terms begin size align first ms s → MayAnswerAll x.terms begin.pools ms → IsWellFormed 8 8 memory s.machine → LeadsBy Remembers x ms y
     → FlexAllocates 8 8 y.terms s size align second ns u → LeadsBy Remembers y ns z → IsAskedForTwo first second z.asked
 asked_for_two space memory x y z begin s u size align first second ms ns is_empty one_byte any terms none room one answers w led_one two led_two =
     let same : y.terms ≡ plain space = terms-led (λ (v : Listed). v.terms) Remembers (λ a b n led. led.terms) x y ms led_one ∙ terms in
-    let did : FlexAllocates 8 8 (plain space) empty 1 1 first ms s =
+    let did : FlexAllocates 8 8 (plain space) flex_empty 1 1 first ms s =
     subst (λ v. FlexAllocates 8 8 (plain space) v 1 1 first ms s) is_empty
     (at_one begin (plain space) first ms s (subst (λ t. FlexAllocates 8 8 t begin size align first ms s) terms one)) in
     let given : MayAnswerAll (plain space) [] ms =

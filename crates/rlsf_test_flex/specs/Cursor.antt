@@ -21,7 +21,7 @@ pub record IsCursor (c : Cursor) : Type 0 where
   pub power : IsPowerOfTwo c.terms.min_align
 
 -- the ranges lie in the space before the cursor, and don't overlap
-pub record MayOwe (c : Cursor) (owed : List Range) : Type 0 where
+pub record CursorMayOwe (c : Cursor) (owed : List Range) : Type 0 where
   pub start : (r : Range) → IsIn r owed → c.terms.space.start ≤ r.start
   pub end : (r : Range) → IsIn r owed → end_of r ≤ c.at
   pub disjoint : (a : ℕ) → coverage itself owed a ≤ 1

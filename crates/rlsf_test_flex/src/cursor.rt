@@ -3,7 +3,7 @@
 ghost use Rattle.std.specs.Prelude.{◌≡◌, ◌<◌, ◌≤◌, ◌+◌, ◌%◌, ◌^◌, [], IfSome};
 ghost use Rattle.rlsf_base.specs.PowerOfTwo.{IsPowerOfTwo};
 ghost use Rattle.rlsf_base.specs.Range.{end_of};
-ghost use Rattle.rlsf_test_flex.specs.Cursor.{KeepsTerms, MayOwe};
+ghost use Rattle.rlsf_test_flex.specs.Cursor.{KeepsTerms, CursorMayOwe};
 
 use rlsf_base::memory::Range;
 use rlsf_flex::FlexSource;
@@ -122,7 +122,7 @@ impl<'a> CursorSource<'a> {
           terms = record { space = space; dealloc = habits.dealloc; grow = habits.grow; contiguous = habits.contiguous; min_align = habits.min_align };
           at = space.start;
         } }
-        ensures owed { MayOwe result [] }
+        ensures owed { CursorMayOwe result [] }
     {
         CursorSource {
             space,
@@ -174,7 +174,7 @@ impl<'a> CursorSource<'a> {
 impl<'a> FlexSource for CursorSource<'a> {
     ghost terms = { λ c. c.terms };
 
-    ghost owes = { MayOwe };
+    ghost owes = { CursorMayOwe };
 
     ghost leads = { KeepsTerms };
 

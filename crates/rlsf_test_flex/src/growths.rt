@@ -2,7 +2,7 @@
 
 ghost use Rattle.std.specs.Prelude.{◌≡◌, [], length};
 ghost use Rattle.rlsf_base.specs.Range.{LiesIn};
-ghost use Rattle.rlsf_test_flex.specs.Cursor.{MayOwe};
+ghost use Rattle.rlsf_test_flex.specs.Cursor.{CursorMayOwe};
 
 use crate::cursor::{CursorSource, Habits, Question, Questions};
 use crate::heaps::{Case, Outcome, Step, are_right, is_right, number, parts};
@@ -81,7 +81,7 @@ fn first_wrong(
     layout: Layout,
     addresses: &[usize],
 ) -> Option<usize>
-    requires { (parts.0.start ≡ 4096) × (length parts.0.bytes ≡ 4096) × LiesIn parts.1.terms.space 4096 4096 × MayOwe parts.1 [] }
+    requires { (parts.0.start ≡ 4096) × (length parts.0.bytes ≡ 4096) × LiesIn parts.1.terms.space 4096 4096 × CursorMayOwe parts.1 [] }
 {
     let (memory, source) = parts;
     match shape {

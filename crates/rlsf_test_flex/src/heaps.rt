@@ -2,7 +2,7 @@
 
 ghost use Rattle.std.specs.Prelude.{◌≡◌, [], length, IfSome};
 ghost use Rattle.rlsf_base.specs.Range.{LiesIn};
-ghost use Rattle.rlsf_test_flex.specs.Cursor.{MayOwe};
+ghost use Rattle.rlsf_test_flex.specs.Cursor.{CursorMayOwe};
 
 use crate::cursor::{CursorSource, Habits, NEITHER, Question, Questions};
 use rlsf_base::memory::{Addr, Layout, Memory, Range};
@@ -142,7 +142,7 @@ pub fn parts<'a>(
     habits: Habits,
     seen: &'a Cell<Questions>,
 ) -> Option<(Memory, CursorSource<'a>)>
-    ensures { IfSome result (λ r. (r.0.start ≡ 4096) × (length r.0.bytes ≡ 4096) × LiesIn r.1.terms.space 4096 4096 × MayOwe r.1 []) }
+    ensures { IfSome result (λ r. (r.0.start ≡ 4096) × (length r.0.bytes ≡ 4096) × LiesIn r.1.terms.space 4096 4096 × CursorMayOwe r.1 []) }
 {
     if space.start < 4096 || space.start > 8192 || space.len > 8192 - space.start {
         return None;

@@ -3,7 +3,7 @@
 ghost use Rattle.std.specs.Prelude.{◌≡◌, ◌≤◌, []};
 ghost use Rattle.rlsf_base.specs.Addr.{reply};
 ghost use Rattle.rlsf_test_flex.specs.Questions.{IsAskedForTwo, plain};
-ghost use Rattle.rlsf_model.specs.FlexState.{empty};
+ghost use Rattle.rlsf_model.specs.FlexState.{flex_empty};
 
 use crate::heaps::all;
 use rlsf_base::memory::{Addr, Layout, Memory, Range};
@@ -14,7 +14,7 @@ use std::alloc::Global;
 /// Two payloads of one byte, from an allocator that has asked for nothing, over a source that neither grows a range nor takes one
 /// back. It has room for two questions.
 fn two_payloads(flex: &mut FlexTlsf<ListedSource, u8, u8, 8, 8>) -> (Option<Addr>, Option<Addr>)
-    requires empty { flex.old.state ≡ empty }
+    requires empty { flex.old.state ≡ flex_empty }
     requires terms { flex.old.source.terms ≡ plain flex.old.source.terms.space }
     requires nothing_asked { flex.old.source.asked ≡ [] }
     requires room { 2 ≤ flex.old.source.room }

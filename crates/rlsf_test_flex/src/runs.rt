@@ -2,7 +2,7 @@
 //! are stored runs of `rlsf_compare_model` (`listed_runs.py`).
 
 ghost use Rattle.std.specs.Prelude.{◌≡◌};
-ghost use Rattle.rlsf_model.specs.FlexState.{empty};
+ghost use Rattle.rlsf_model.specs.FlexState.{flex_empty};
 
 use crate::heaps::all;
 use crate::sources::parts;
@@ -53,7 +53,7 @@ fn answers_follow<
     flex: &mut FlexTlsf<ListedSource, FLBitmap, SLBitmap, FLLEN, SLLEN>,
     addresses: (usize, usize),
 ) -> Option<bool>
-    requires { flex.old.state ≡ empty }
+    requires { flex.old.state ≡ flex_empty }
 {
     let layout = Layout::from_size_align_unchecked(1, 1);
     let ops = [Op::Alloc(1, layout), Op::Alloc(2, layout)];

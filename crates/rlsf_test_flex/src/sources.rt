@@ -3,7 +3,7 @@
 ghost use Rattle.std.specs.Prelude.{◌≡◌, [], length, IfSome};
 ghost use Rattle.rlsf_base.specs.PowerOfTwo.{IsPowerOfTwo};
 ghost use Rattle.rlsf_base.specs.Range.{range_at};
-ghost use Rattle.rlsf_trace_flex_runs.specs.Listed.{MayOwe};
+ghost use Rattle.rlsf_trace_flex_runs.specs.Listed.{ListedMayOwe};
 
 use rlsf_base::memory::{Memory, Range};
 use rlsf_trace_flex_runs::{Capabilities, ListedSource, SourceAnswer};
@@ -20,7 +20,7 @@ pub fn parts(
     answers: &[SourceAnswer],
 ) -> Option<(Memory, ListedSource)>
     requires { IsPowerOfTwo capabilities.min_align }
-    ensures { IfSome result (λ r. (r.0.start ≡ 4096) × (length r.0.bytes ≡ 16384) × (r.1.terms.space ≡ range_at 4096 16384) × MayOwe r.1 []) }
+    ensures { IfSome result (λ r. (r.0.start ≡ 4096) × (length r.0.bytes ≡ 16384) × (r.1.terms.space ≡ range_at 4096 16384) × ListedMayOwe r.1 []) }
 {
     let space = Range {
         start: 4096,
@@ -40,7 +40,7 @@ pub fn parts_of(
     questions: usize,
 ) -> Option<(Memory, ListedSource)>
     requires { IsPowerOfTwo capabilities.min_align }
-    ensures { IfSome result (λ r. (r.0.start ≡ space.start) × (length r.0.bytes ≡ space.len) × (r.1.terms.space ≡ space) × MayOwe r.1 []) }
+    ensures { IfSome result (λ r. (r.0.start ≡ space.start) × (length r.0.bytes ≡ space.len) × (r.1.terms.space ≡ space) × ListedMayOwe r.1 []) }
 {
     let Ok(memory) = Memory::new(alloc, space.start, space.len) else {
         return None;

@@ -3,12 +3,12 @@ use Rattle.std.specs.Prelude.{◌≡◌, ◌≢◌, ℕ, List, Option, All, IfSo
 use Rattle.rlsf_heap.specs.Heap.{Identity, IsWritten, PayloadView}
 
 -- it is one of a heap
-abbrev pub IsOf : Identity → Option PayloadView → Type 0
-IsOf heap slot = IfSome slot (λ payload. payload.identity ≡ heap)
+abbrev pub IsSlotOf : Identity → Option PayloadView → Type 0
+IsSlotOf heap slot = IfSome slot (λ payload. payload.identity ≡ heap)
 
 -- each is
-abbrev pub AreOf : Identity → List (Option PayloadView) → Type 0
-AreOf heap slots = All (IsOf heap) slots
+abbrev pub AreSlotsOf : Identity → List (Option PayloadView) → Type 0
+AreSlotsOf heap slots = All (IsSlotOf heap) slots
 
 -- it is one of a heap, and each of its bytes is here
 abbrev pub IsWrittenOf : Identity → Option PayloadView → Type 0

@@ -3,7 +3,7 @@ ghost use Rattle.std.specs.Prelude.{◌≡◌, ◌↔◌, [], ◌∷◌, ◌≤�
 ghost use Rattle.rlsf_base.specs.Changes.{IsAllOwn};
 ghost use Rattle.rlsf_base.specs.Range.{range_at};
 ghost use Rattle.rlsf_model.specs.Sized.{live_count};
-ghost use Rattle.rlsf_test_heap.specs.Slots.{AreOf, IsOf};
+ghost use Rattle.rlsf_test_heap.specs.Slots.{AreSlotsOf, IsSlotOf};
 
 use crate::answers::{all, are, none_is_wrong};
 use rlsf_base::memory::{Layout, OpenMemory, Range};
@@ -45,7 +45,7 @@ fn address(payload: &Option<Payload>) -> usize {
 
 /// Deallocates a payload, if there is one.
 pub(crate) fn give_back(heap: &mut Small, payload: Option<Payload>)
-    requires { IsOf heap.old.identity payload }
+    requires { IsSlotOf heap.old.identity payload }
     ensures { heap.new.identity ≡ heap.old.identity }
 {
     if let Some(payload) = payload {
@@ -121,9 +121,9 @@ fn allocated_at(
     size: usize,
     align: usize,
 ) -> usize
-    requires own { AreOf heap.old.identity slots.old }
+    requires own { AreSlotsOf heap.old.identity slots.old }
     ensures identity { heap.new.identity ≡ heap.old.identity }
-    ensures own { AreOf heap.old.identity slots.new }
+    ensures own { AreSlotsOf heap.old.identity slots.new }
 {
     let Ok(layout) = Layout::from_size_align(size, align) else {
         return usize::MAX;
@@ -139,9 +139,9 @@ fn allocated_at(
 
 /// Deallocates the payload in a slot. Returns whether there was one.
 fn freed_at(heap: &mut Small, slots: &mut [Option<Payload>], slot: usize) -> bool
-    requires own { AreOf heap.old.identity slots.old }
+    requires own { AreSlotsOf heap.old.identity slots.old }
     ensures identity { heap.new.identity ≡ heap.old.identity }
-    ensures own { AreOf heap.old.identity slots.new }
+    ensures own { AreSlotsOf heap.old.identity slots.new }
 {
     if slot >= slots.len() {
         return false;
@@ -162,9 +162,9 @@ fn len_at(slots: &[Option<Payload>], slot: usize) -> usize {
 
 /// Whether a step has its expected result.
 fn goes_so(heap: &mut Small, slots: &mut [Option<Payload>], step: Step) -> bool
-    requires own { AreOf heap.old.identity slots.old }
+    requires own { AreSlotsOf heap.old.identity slots.old }
     ensures identity { heap.new.identity ≡ heap.old.identity }
-    ensures own { AreOf heap.old.identity slots.new }
+    ensures own { AreSlotsOf heap.old.identity slots.new }
 {
     match step {
         Step::Allocate(slot, size, align, wanted) => {
@@ -181,7 +181,7 @@ fn goes_so(heap: &mut Small, slots: &mut [Option<Payload>], step: Step) -> bool
 
 /// The index of the first step with another result.
 fn first_wrong(heap: &mut Small, slots: &mut [Option<Payload>], steps: &[Step]) -> Option<usize>
-    requires { AreOf heap.old.identity slots.old }
+    requires { AreSlotsOf heap.old.identity slots.old }
 {
     for (index, step) in steps.iter().enumerate() {
         if !goes_so(heap, slots, *step) {

@@ -5,7 +5,7 @@ use Rattle.rlsf_base.specs.Space.{Space, range_of}
 use Rattle.rlsf_model.specs.Lists.{IsIn}
 use Rattle.rlsf_model.specs.Callers.{align_at, bytes_at}
 use Rattle.rlsf_model.specs.Run.{Fills, IsSomeLive}
-use Rattle.rlsf_model.specs.State.{State, Used, filled_at, usable, with_bytes, Holds, IsLive}
+use Rattle.rlsf_model.specs.State.{State, Used, filled_at, usable, used_with_bytes, Holds, IsLive}
 use Rattle.rlsf_model.proofs.CallerWords.{align_at-live, align_at-some, bytes_at-held}
 use Rattle.rlsf_model.specs.WellFormed.{IsWellFormed}
 use Rattle.rlsf_model.proofs.Coverage.{by_test}
@@ -128,8 +128,8 @@ bare-filled s t addr bytes step = ap bare step.after ∙ ap (λ (used : List Use
     go : (used : List Used) → map bare_used (filled_at addr bytes used) ≡ map bare_used used
     go [] = refl
     go (u ∷ us) = by_test (eqb u.payload addr)
-        (λ e. ap (λ b. bare_used (cond b (with_bytes u bytes) u) ∷ map bare_used (filled_at addr bytes us)) e ∙ ap (λ l. bare_used u ∷ l) (go us))
-        (λ e. ap (λ b. bare_used (cond b (with_bytes u bytes) u) ∷ map bare_used (filled_at addr bytes us)) e ∙ ap (λ l. bare_used u ∷ l) (go us))
+        (λ e. ap (λ b. bare_used (cond b (used_with_bytes u bytes) u) ∷ map bare_used (filled_at addr bytes us)) e ∙ ap (λ l. bare_used u ∷ l) (go us))
+        (λ e. ap (λ b. bare_used (cond b (used_with_bytes u bytes) u) ∷ map bare_used (filled_at addr bytes us)) e ∙ ap (λ l. bare_used u ∷ l) (go us))
 
 module _ {fl_bits sl_bits fllen sllen : ℕ} {m : Space} {x : Table} {s : State} (is : IsAllocator fl_bits sl_bits fllen sllen m x s) (v : Allocator)
     (view : allocator m x s ≡ v) where

@@ -16,7 +16,7 @@ use Rattle.rlsf_model.specs.Reallocate.{Plan, Reallocates, ReallocatesBy, Replan
 use Rattle.rlsf_model.specs.Release.{Deallocates, released}
 use Rattle.rlsf_model.specs.Run.{Fills}
 use Rattle.rlsf_model.specs.Sized.{block_bytes, live_bytes}
-use Rattle.rlsf_model.specs.State.{State, Used, Holds, filled_at, others, with_bytes}
+use Rattle.rlsf_model.specs.State.{State, Used, Holds, filled_at, others, used_with_bytes}
 use Rattle.rlsf_model.specs.WellFormed.{IsWellFormed}
 use Rattle.rlsf_model.proofs.Allocations.{Allocates-keeps}
 use Rattle.rlsf_model.proofs.BudgetWords.{bytes_gone, bytes_new, never_refused_in_budget}
@@ -57,10 +57,10 @@ used_bytes-filled addr bytes (u ∷ us) =
     let rest = used_bytes-filled addr bytes us in
     by_test (eqb u.payload addr)
     (λ e.
-    let is : used_bytes (filled_at addr bytes (u ∷ us)) ≡ used_bytes (with_bytes u bytes ∷ fs) = ap (λ b. used_bytes (cond b (with_bytes u bytes) u ∷ fs)) e in
-    omega (arith, is, rest, sum_by-cons (λ v. v.block.len) (with_bytes u bytes) fs, sum_by-cons (λ v. v.block.len) u us))
+    let is : used_bytes (filled_at addr bytes (u ∷ us)) ≡ used_bytes (used_with_bytes u bytes ∷ fs) = ap (λ b. used_bytes (cond b (used_with_bytes u bytes) u ∷ fs)) e in
+    omega (arith, is, rest, sum_by-cons (λ v. v.block.len) (used_with_bytes u bytes) fs, sum_by-cons (λ v. v.block.len) u us))
     (λ e.
-    let is : used_bytes (filled_at addr bytes (u ∷ us)) ≡ used_bytes (u ∷ fs) = ap (λ b. used_bytes (cond b (with_bytes u bytes) u ∷ fs)) e in
+    let is : used_bytes (filled_at addr bytes (u ∷ us)) ≡ used_bytes (u ∷ fs) = ap (λ b. used_bytes (cond b (used_with_bytes u bytes) u ∷ fs)) e in
     omega (arith, is, rest, sum_by-cons (λ v. v.block.len) u fs, sum_by-cons (λ v. v.block.len) u us))
 
 -- ---- calls

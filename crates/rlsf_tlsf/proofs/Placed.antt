@@ -20,7 +20,7 @@ use Rattle.rlsf_blocks.specs.Steps.Rest.{room_of}
 use Rattle.rlsf_blocks.proofs.Allocate.Placements.{IsFitting, fitting, is_free}
 use Rattle.rlsf_blocks.proofs.Words.Apart.{free_in_memory, used_in_memory}
 use Rattle.rlsf_blocks.proofs.Words.NeverOut.{here_free}
-use Rattle.rlsf_tlsf.specs.Cores.{IsPlaced}
+use Rattle.rlsf_tlsf.specs.Cores.{IsPayloadRange}
 use Rattle.rlsf_tlsf.specs.Results.{IsAllocated}
 
 -- the bytes of a payload lie in the memory
@@ -69,7 +69,7 @@ module _ {fllen sllen : ℕ} {m n : Space} {table changed : Table} {s t : State}
         count = count_new v.well_formed t size align addr power places;
       }
 
-  pub IsPlaced-at : (r : Range) → r.start ≡ addr → r.len ≡ room_of places.range size align → IsPlaced n s t size align r
+  pub IsPlaced-at : (r : Range) → r.start ≡ addr → r.len ≡ room_of places.range size align → IsPayloadRange n s t size align r
   IsPlaced-at r at long =
       let same : usable new ≡ r = λ i. range_at ((at_new ∙ sym at) i) (sym long i) in record {
         made = subst (IsAllocated s t size align) (sym at) made;

@@ -18,7 +18,7 @@ stayed_if true addr = Some addr
 stayed_if false addr = None
 
 -- what of the payloads a call keeps that may give the one at the address another size
-pub record KeepsPayloads (before after : State) (addr : ℕ) : Type 0 where
+pub record KeepsPayloadsResizing (before after : State) (addr : ℕ) : Type 0 where
   -- all payloads have their addresses and alignments
   pub aligns : align_at after ≡ align_at before
   -- the other payloads have the bytes that they had

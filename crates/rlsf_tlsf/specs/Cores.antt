@@ -77,7 +77,7 @@ abbrev pub IsOwnFound : Space → State → ℕ → Option ℕ → Type 0
 IsOwnFound m s addr align = (u : Used) × IsFound s addr align u × IsOwned m (usable u)
 
 -- the range has the bytes of a payload that was allocated for this size and alignment
-pub record IsPlaced (n : Space) (before after : State) (size align : ℕ) (r : Range) : Type 0 where
+pub record IsPayloadRange (n : Space) (before after : State) (size align : ℕ) (r : Range) : Type 0 where
   -- it was allocated
   pub made : IsAllocated before after size align r.start
   -- these are all its bytes

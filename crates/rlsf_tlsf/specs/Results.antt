@@ -33,7 +33,7 @@ pub record IsAllocated (before after : State) (size align addr : ℕ) : Type 0 w
   pub count : live_count after ≡ live_count before + 1
 
 -- a payload was allocated at the address, for this size and alignment, and its bytes are zeros
-pub record IsAllocatedZeroed (before after : State) (size align addr : ℕ) : Type 0 where
+pub record IsAllocatedWithZeros (before after : State) (size align addr : ℕ) : Type 0 where
   -- it was allocated
   pub made : IsAllocated before after size align addr
   -- its bytes are 0

@@ -12,10 +12,10 @@ ghost use Rattle.rlsf_model.specs.Remove.{IsIdle, Removes};
 ghost use Rattle.rlsf_table.specs.Counts.{Counts};
 ghost use Rattle.rlsf_blocks.specs.Blocks.{walked};
 ghost use Rattle.rlsf_blocks.specs.Laws.{read_from};
-ghost use Rattle.rlsf_blocks.specs.Steps.Rest.{start_of};
+ghost use Rattle.rlsf_blocks.specs.Steps.Rest.{range_start};
 ghost use Rattle.rlsf_tlsf.specs.Allocator.{allocator};
 ghost use Rattle.rlsf_tlsf.specs.Bounds.{IfWithinBounds, KeepsAllBounds, KeepsBounds};
-ghost use Rattle.rlsf_tlsf.specs.Cores.{AtEachFound, HasFound, IsCore, IsOwnBlock, IsOwnFound, IsPlaced, LeavesCore, append_cost, found_cost, insert_cost};
+ghost use Rattle.rlsf_tlsf.specs.Cores.{AtEachFound, HasFound, IsCore, IsOwnBlock, IsOwnFound, IsPayloadRange, LeavesCore, append_cost, found_cost, insert_cost};
 ghost use Rattle.rlsf_tlsf.specs.Results.{IsAppended, IsDeallocated, IsInserted, IsRemoved, IsUnchanged, KeepsFrameOfPools};
 
 mod resizing;
@@ -48,8 +48,8 @@ pub fn allocate_in<const FLLEN: usize, const SLLEN: usize>(
 ) -> Option<Range>
     requires { IsCore FLLEN SLLEN memory.old table.old state.old.state }
     ensures left { LeavesCore FLLEN SLLEN memory.old memory.new table.new state.old.state state.new.state 27 }
-    ensures step { Allocates SLLEN (read_from memory.old state.old.state) layout.size layout.align (start_of result) (read_from memory.new state.new.state) }
-    ensures result { IfSome result (λ r. IsPlaced memory.new (read_from memory.old state.old.state) (read_from memory.new state.new.state) layout.size layout.align r) }
+    ensures step { Allocates SLLEN (read_from memory.old state.old.state) layout.size layout.align (range_start result) (read_from memory.new state.new.state) }
+    ensures result { IfSome result (λ r. IsPayloadRange memory.new (read_from memory.old state.old.state) (read_from memory.new state.new.state) layout.size layout.align r) }
     ensures room { IfWithinBounds SLLEN (read_from memory.old state.old.state) layout.size layout.align (IsSome result) }
     ensures bounds { KeepsBounds SLLEN (read_from memory.old state.old.state) (read_from memory.new state.new.state) layout.size layout.align }
     ensures refused { IfNone result (IsUnchanged (allocator memory.old table.old state.old.state) (allocator memory.new table.new state.new.state)) }

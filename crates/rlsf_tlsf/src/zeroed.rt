@@ -16,7 +16,7 @@ impl<FLBitmap: BitPattern, SLBitmap: BitPattern, const FLLEN: usize, const SLLEN
 > {
     ghost use Rattle.rlsf_tlsf.specs.Allocator.{Steps};
     ghost use Rattle.rlsf_tlsf.specs.Bounds.{KeepsBounds, TakesRoom};
-    ghost use Rattle.rlsf_tlsf.specs.Results.{IsAllocatedZeroed, IsUnchanged, KeepsFrame};
+    ghost use Rattle.rlsf_tlsf.specs.Results.{IsAllocatedWithZeros, IsUnchanged, KeepsFrame};
 
     /// Allocates a payload for `layout`, as `allocate` does, and fills all its usable bytes with zeros. Returns its address.
     ///
@@ -32,7 +32,7 @@ impl<FLBitmap: BitPattern, SLBitmap: BitPattern, const FLLEN: usize, const SLLEN
     /// ```
     pub fn allocate_zeroed(&mut self, layout: Layout) -> Option<Addr>
         ensures step { Steps FLLEN SLLEN self.old self.new (Allocates SLLEN self.old.state layout.size layout.align (reply result)) }
-        ensures result { IfSome result (λ addr. IsAllocatedZeroed self.old.state self.new.state layout.size layout.align (at addr)) }
+        ensures result { IfSome result (λ addr. IsAllocatedWithZeros self.old.state self.new.state layout.size layout.align (at addr)) }
         ensures room { TakesRoom SLLEN self.old.state self.new.state layout.size layout.align (IsSome result) }
         ensures bounds { KeepsBounds SLLEN self.old.state self.new.state layout.size layout.align }
         ensures refused { IfNone result (IsUnchanged self.old self.new) }

@@ -14,7 +14,7 @@ use Rattle.rlsf_model.proofs.Between.{IsIn-between, coverage-between}
 use Rattle.rlsf_model.proofs.Coverage.{IsIn-append, IsIn-append_left, IsIn-append_right, inside, before, behind, covers-before, covers-behind, covers-split, coverage-append}
 use Rattle.rlsf_model.proofs.Coverage.{where_is}
 use Rattle.rlsf_trace_flex_runs.specs.declared.listed.Question.{Question}
-use Rattle.rlsf_trace_flex_runs.specs.Listed.{HandsOut, Listed, MayOwe}
+use Rattle.rlsf_trace_flex_runs.specs.Listed.{HandsOut, Listed, ListedMayOwe}
 
 -- one of two ranges ends where the other begins, or before
 abbrev pub AreApart : Range → Range → Type 0
@@ -48,8 +48,8 @@ abbrev with_taken : Listed → Range → Listed
 with_taken s r = record s { taken = s.taken ++ r ∷ [] }
 
 -- a range that was provided may be outstanding beside the others
-new_range : (s t : Listed) (r : Range) → HandsOut s r t → (owed : List Range) → MayOwe s owed → MayOwe t (r ∷ owed)
-new_range s t r out owed may = subst (λ (u : Listed). MayOwe u (r ∷ owed)) (sym out.after) (record { in_space = in_space; taken = taken; disjoint = disjoint })
+new_range : (s t : Listed) (r : Range) → HandsOut s r t → (owed : List Range) → ListedMayOwe s owed → ListedMayOwe t (r ∷ owed)
+new_range s t r out owed may = subst (λ (u : Listed). ListedMayOwe u (r ∷ owed)) (sym out.after) (record { in_space = in_space; taken = taken; disjoint = disjoint })
   where
     in_space : (q : Range) → IsIn q (r ∷ owed) → LiesIn q s.terms.space.start s.terms.space.len
     in_space q (inl e) = subst (λ (q : Range). LiesIn q s.terms.space.start s.terms.space.len) (sym e) out.vacant.lies_in
@@ -66,15 +66,15 @@ new_range s t r out owed may = subst (λ (u : Listed). MayOwe u (r ∷ owed)) (s
     ]
 
 -- what a source remembers doesn't change what it may owe
-pub remembering : (t u : Listed) (asked : List Question) → u ≡ record t { asked = asked } → (owed : List Range) → MayOwe t owed → MayOwe u owed
-remembering t u asked same owed may = subst (λ (v : Listed). MayOwe v owed) (sym same) (record { in_space = may.in_space; taken = may.taken; disjoint = may.disjoint })
+pub remembering : (t u : Listed) (asked : List Question) → u ≡ record t { asked = asked } → (owed : List Range) → ListedMayOwe t owed → ListedMayOwe u owed
+remembering t u asked same owed may = subst (λ (v : Listed). ListedMayOwe v owed) (sym same) (record { in_space = may.in_space; taken = may.taken; disjoint = may.disjoint })
 
 -- what an answer to the question for a range leaves
 pub answered : (s t u : Listed) (asked : List Question) (min_size : ℕ) (answer : Option Range)
     → MatchOption answer (t ≡ s) (λ r. HandsOut s r t × (min_size ≤ r.len) × IsPowerOfTwo s.terms.min_align × (r.start % s.terms.min_align ≡ 0))
     → u ≡ record t { asked = asked }
-    → (owed : List Range) → MayOwe s owed → MatchOption answer (MayOwe u owed) (λ r. IsGiven s.terms owed min_size r × MayOwe u (r ∷ owed))
-answered s t u asked min_size None as_before same owed may = remembering t u asked same owed (subst (λ (v : Listed). MayOwe v owed) (sym as_before) may)
+    → (owed : List Range) → ListedMayOwe s owed → MatchOption answer (ListedMayOwe u owed) (λ r. IsGiven s.terms owed min_size r × ListedMayOwe u (r ∷ owed))
+answered s t u asked min_size None as_before same owed may = remembering t u asked same owed (subst (λ (v : Listed). ListedMayOwe v owed) (sym as_before) may)
 answered s t u asked min_size (Some r) (out, long, power, aligned) same owed may = (
   record { lies_in = out.vacant.lies_in; apart = λ a low high. omega (arith, may.taken a, out.vacant.apart a low high); long = long; power = power; aligned = aligned },
   remembering t u asked same (r ∷ owed) (new_range s t r out owed may),
@@ -86,11 +86,11 @@ behind_range r len = range_at (end_of r) (len - r.len)
 
 -- a range and the bytes behind it that were provided are one that may be outstanding
 longer_range : (s t : Listed) (r : Range) (min_new_len len : ℕ) → r.len ≤ min_new_len → min_new_len ≤ len → HandsOut s (behind_range r len) t → (xs ys : List Range)
-    → MayOwe s (xs ++ r ∷ ys)
-    → IsGrown s.terms (xs ++ ys) r min_new_len len × MayOwe t (xs ++ with_len r len ∷ ys)
+    → ListedMayOwe s (xs ++ r ∷ ys)
+    → IsGrown s.terms (xs ++ ys) r min_new_len len × ListedMayOwe t (xs ++ with_len r len ∷ ys)
 longer_range s t r min_new_len len longer long out xs ys may = (
   record { lies_in = lies_in; apart = apart; long = long },
-  subst (λ (u : Listed). MayOwe u (xs ++ with_len r len ∷ ys)) (sym out.after) (record { in_space = in_space; taken = taken; disjoint = disjoint }),
+  subst (λ (u : Listed). ListedMayOwe u (xs ++ with_len r len ∷ ys)) (sym out.after) (record { in_space = in_space; taken = taken; disjoint = disjoint }),
 )
   where
     new : Range
@@ -131,16 +131,16 @@ longer_range s t r min_new_len len longer long out xs ys may = (
 -- what an answer to the question for growth leaves
 pub answered_growth : (s t u : Listed) (asked : List Question) (r : Range) (min_new_len : ℕ) (answer : Option ℕ) → r.len ≤ min_new_len
     → MatchOption answer (t ≡ s) (λ len. HandsOut s (behind_range r len) t × (min_new_len ≤ len)) → u ≡ record t { asked = asked }
-    → (xs ys : List Range) → MayOwe s (xs ++ r ∷ ys)
-    → MatchOption answer (MayOwe u (xs ++ r ∷ ys)) (λ len. IsGrown s.terms (xs ++ ys) r min_new_len len × MayOwe u (xs ++ with_len r len ∷ ys))
+    → (xs ys : List Range) → ListedMayOwe s (xs ++ r ∷ ys)
+    → MatchOption answer (ListedMayOwe u (xs ++ r ∷ ys)) (λ len. IsGrown s.terms (xs ++ ys) r min_new_len len × ListedMayOwe u (xs ++ with_len r len ∷ ys))
 answered_growth s t u asked r min_new_len None longer as_before same xs ys may =
-    remembering t u asked same (xs ++ r ∷ ys) (subst (λ (v : Listed). MayOwe v (xs ++ r ∷ ys)) (sym as_before) may)
+    remembering t u asked same (xs ++ r ∷ ys) (subst (λ (v : Listed). ListedMayOwe v (xs ++ r ∷ ys)) (sym as_before) may)
 answered_growth s t u asked r min_new_len (Some len) longer (out, long) same xs ys may =
     let (grown, owes) = longer_range s t r min_new_len len longer long out xs ys may in
     (grown, remembering t u asked same (xs ++ with_len r len ∷ ys) owes)
 
 -- a range returns to the source
-pub gone_range : (s : Listed) (r : Range) (xs ys : List Range) → MayOwe s (xs ++ r ∷ ys) → MayOwe s (xs ++ ys)
+pub gone_range : (s : Listed) (r : Range) (xs ys : List Range) → ListedMayOwe s (xs ++ r ∷ ys) → ListedMayOwe s (xs ++ ys)
 gone_range s r xs ys may = record {
   in_space = λ q i. may.in_space q (IsIn-between q r xs ys i);
   taken = λ a. omega (arith, may.taken a, coverage-between r xs ys a);

@@ -27,7 +27,7 @@ use Rattle.rlsf_model.proofs.CallerWords.{align_at-held, align_at-live, bytes_at
 use Rattle.rlsf_trace_runs.specs.declared.names.Payload.{Payload}
 use Rattle.rlsf_trace_runs.specs.Events.{IsDoneBy}
 use Rattle.rlsf_trace_runs.specs.Names.{address, AreNamed, NameTable}
-use Rattle.rlsf_trace_runs.specs.Runs.{Frees, Owns, RunState, with_machine as with_state, without_name}
+use Rattle.rlsf_trace_runs.specs.Runs.{FreesName, Owns, RunState, run_with_machine as with_state, without_name}
 use Rattle.rlsf_trace_runs.proofs.Named.{AreNamed-filled, AreNamed-freed, AreNamed-kept, IsSetAt, owned_live}
 use Rattle.rlsf_trace_text.specs.declared.op.Answer.{Answer}
 use Rattle.rlsf_trace_text.specs.declared.op.Answer.TheVariants.{Done, Placed, Refused}
@@ -127,7 +127,7 @@ module _ {S : Type 0} {fllen sllen : ℕ} {terms : S → Terms} {owes : S → Li
 
       -- the payload of a name was deallocated
       pub freed : {new : NameTable} (op : Op) (name : ℕ) (p : Payload) → get nat_eq table name ≡ Some p → IsDoneBy op Done (deallocate (address p) ∷ [])
-          → ((r : RunState) → Frees (without_source (run_of v table)) name r
+          → ((r : RunState) → FreesName (without_source (run_of v table)) name r
           → DoesFlex fllen sllen (terms v.source) (run_of v table) op Done [] (with_run (run_of v table) r))
           → StepsAlone fllen sllen terms owes v w (Deallocates v.state.machine (address p)) → IsSetAt name None table new
           → LeadsOn fllen sllen terms owes leads v table op Done w new

@@ -12,9 +12,9 @@ use Rattle.rlsf_flex.specs.Outside.{KeepsOutside}
 use Rattle.rlsf_flex.specs.StandsFor.{FlexContents, FlexStands}
 use Rattle.rlsf_flex.proofs.Outside.{KeepsOutside-refl, KeepsOutside-then}
 use Rattle.rlsf_trace_flex_runs.specs.FlexEvents.{RunsFlexByEvents}
-use Rattle.rlsf_trace_flex_runs.specs.FlexRuns.{beginning, DoesFlex, FlexRunState, RunsFlex}
+use Rattle.rlsf_trace_flex_runs.specs.FlexRuns.{flex_beginning, DoesFlex, FlexRunState, RunsFlex}
 use Rattle.rlsf_trace_flex_runs.specs.Steps.Names.{IsFlexAt, LeadsOn, MakesFlex, run_of}
-use Rattle.rlsf_model.specs.FlexState.{empty, FlexState}
+use Rattle.rlsf_model.specs.FlexState.{flex_empty, FlexState}
 use Rattle.rlsf_model.specs.Note.{Note, LeadsBy}
 use Rattle.rlsf_model.specs.Terms.{Terms}
 use Rattle.rlsf_model.proofs.Notes.{LeadsBy-append, terms-led}
@@ -32,10 +32,10 @@ pub record IsUnderway {S : Type 0} (fllen sllen : ℕ) (terms : S → Terms) (ow
   pub notes : List Note
   pub at : IsFlexAt fllen sllen terms owes v table
   pub runs : (more : List Answer) (others : List Note) (t : FlexRunState) → RunsFlex fllen sllen (terms first.source) (run_of v table) (drop done ops) more others t
-      → RunsFlex fllen sllen (terms first.source) beginning ops (given ++ more) (notes ++ others) t
+      → RunsFlex fllen sllen (terms first.source) flex_beginning ops (given ++ more) (notes ++ others) t
   pub by_events : (more : List Answer) (others : List Note) (t : FlexState)
       → RunsFlexByEvents fllen sllen (range_of first.memory) (terms first.source) v.state (drop done ops) more others t
-      → RunsFlexByEvents fllen sllen (range_of first.memory) (terms first.source) empty ops (given ++ more) (notes ++ others) t
+      → RunsFlexByEvents fllen sllen (range_of first.memory) (terms first.source) flex_empty ops (given ++ more) (notes ++ others) t
   pub leads_by : LeadsBy leads first.source notes v.source
   pub same_terms : terms v.source ≡ terms first.source
   pub outside : KeepsOutside first.memory [] notes v.memory v.state.pools
@@ -44,7 +44,7 @@ pub record IsUnderway {S : Type 0} (fllen sllen : ℕ) (terms : S → Terms) (ow
 module _ {S : Type 0} {fllen sllen : ℕ} {terms : S → Terms} {owes : S → List Range → Type 0} {leads : S → Note → S → Type 0} {first : FlexContents S}
     {ops : List Op} where
   -- at the beginning, with an empty table
-  pub IsUnderway-beginning : {table : NameTable} → FlexStands fllen sllen terms owes first → first.state ≡ empty → IsEmpty table → length ops ≤ spare table
+  pub IsUnderway-beginning : {table : NameTable} → FlexStands fllen sllen terms owes first → first.state ≡ flex_empty → IsEmpty table → length ops ≤ spare table
       → IsUnderway fllen sllen terms owes leads first ops first table 0 []
   unfolding FlexStands
   IsUnderway-beginning {table} stands new no_names room = record {
@@ -77,16 +77,16 @@ module _ {S : Type 0} {fllen sllen : ℕ} {terms : S → Terms} {owes : S → Li
         notes = u.notes ++ on.notes;
         at = on.at;
         runs =
-            λ more others t runs. subst (λ l. RunsFlex fllen sllen (terms first.source) beginning ops l ((u.notes ++ on.notes) ++ others) t)
+            λ more others t runs. subst (λ l. RunsFlex fllen sllen (terms first.source) flex_beginning ops l ((u.notes ++ on.notes) ++ others) t)
             (sym (append_assoc given (answer ∷ []) more))
-            (subst (λ ns. RunsFlex fllen sllen (terms first.source) beginning ops (given ++ answer ∷ more) ns t) (sym (append_assoc u.notes on.notes others))
+            (subst (λ ns. RunsFlex fllen sllen (terms first.source) flex_beginning ops (given ++ answer ∷ more) ns t) (sym (append_assoc u.notes on.notes others))
             (u.runs (answer ∷ more) (on.notes ++ others) t
             (subst (λ l. RunsFlex fllen sllen (terms first.source) (run_of v table) l (answer ∷ more) (on.notes ++ others) t) (sym left_ops)
             (run_of w new, on.notes, others, refl, here, runs))));
         by_events =
-            λ more others t run. subst (λ l. RunsFlexByEvents fllen sllen (range_of first.memory) (terms first.source) empty ops l ((u.notes ++ on.notes) ++ others) t)
+            λ more others t run. subst (λ l. RunsFlexByEvents fllen sllen (range_of first.memory) (terms first.source) flex_empty ops l ((u.notes ++ on.notes) ++ others) t)
             (sym (append_assoc given (answer ∷ []) more))
-            (subst (λ ns. RunsFlexByEvents fllen sllen (range_of first.memory) (terms first.source) empty ops (given ++ answer ∷ more) ns t)
+            (subst (λ ns. RunsFlexByEvents fllen sllen (range_of first.memory) (terms first.source) flex_empty ops (given ++ answer ∷ more) ns t)
             (sym (append_assoc u.notes on.notes others))
             (u.by_events (answer ∷ more) (on.notes ++ others) t
             (subst (λ l. RunsFlexByEvents fllen sllen (range_of first.memory) (terms first.source) v.state l (answer ∷ more) (on.notes ++ others) t) (sym left_ops)
@@ -106,19 +106,19 @@ module _ {S : Type 0} {fllen sllen : ℕ} {terms : S → Terms} {owes : S → Li
   -- at the end
   pub RunsFlex-end : {v : FlexContents S} {table : NameTable} {done : ℕ} {given : List Answer} (u : IsUnderway fllen sllen terms owes leads first ops v table done given)
       → length ops ≤ done
-      → RunsFlex fllen sllen (terms first.source) beginning ops given u.notes (run_of v table)
-  RunsFlex-end {v} {table} {given = given} u past = subst (λ l. RunsFlex fllen sllen (terms first.source) beginning ops l u.notes (run_of v table)) (append-nil given)
-      (subst (λ ns. RunsFlex fllen sllen (terms first.source) beginning ops (given ++ []) ns (run_of v table)) (append-nil u.notes)
+      → RunsFlex fllen sllen (terms first.source) flex_beginning ops given u.notes (run_of v table)
+  RunsFlex-end {v} {table} {given = given} u past = subst (λ l. RunsFlex fllen sllen (terms first.source) flex_beginning ops l u.notes (run_of v table)) (append-nil given)
+      (subst (λ ns. RunsFlex fllen sllen (terms first.source) flex_beginning ops (given ++ []) ns (run_of v table)) (append-nil u.notes)
       (u.runs [] [] (run_of v table)
       (subst (λ l. RunsFlex fllen sllen (terms first.source) (run_of v table) l [] [] (run_of v table)) (sym (drop_of_length-le ops past)) (refl, refl))))
 
   -- and by the calls of the reference model
   pub RunsFlexByEvents-end : {v : FlexContents S} {table : NameTable} {done : ℕ} {given : List Answer} (u : IsUnderway fllen sllen terms owes leads first ops v table done given)
       → length ops ≤ done
-      → RunsFlexByEvents fllen sllen (range_of first.memory) (terms first.source) empty ops given u.notes v.state
+      → RunsFlexByEvents fllen sllen (range_of first.memory) (terms first.source) flex_empty ops given u.notes v.state
   RunsFlexByEvents-end {v} {given = given} u past =
-      subst (λ l. RunsFlexByEvents fllen sllen (range_of first.memory) (terms first.source) empty ops l u.notes v.state) (append-nil given)
-      (subst (λ ns. RunsFlexByEvents fllen sllen (range_of first.memory) (terms first.source) empty ops (given ++ []) ns v.state) (append-nil u.notes)
+      subst (λ l. RunsFlexByEvents fllen sllen (range_of first.memory) (terms first.source) flex_empty ops l u.notes v.state) (append-nil given)
+      (subst (λ ns. RunsFlexByEvents fllen sllen (range_of first.memory) (terms first.source) flex_empty ops (given ++ []) ns v.state) (append-nil u.notes)
       (u.by_events [] [] v.state
       (subst (λ l. RunsFlexByEvents fllen sllen (range_of first.memory) (terms first.source) v.state l [] [] v.state) (sym (drop_of_length-le ops past))
       ([], refl, refl, refl))))

@@ -4,7 +4,7 @@ use Rattle.rlsf_base.specs.Addr.{reply}
 use Rattle.rlsf_base.specs.Layout.{IsLayout}
 use Rattle.rlsf_model.specs.FlexAllocate.{FlexAllocates}
 use Rattle.rlsf_model.specs.FlexReallocate.{FlexReallocates}
-use Rattle.rlsf_model.specs.FlexState.{FlexState, empty, with_machine}
+use Rattle.rlsf_model.specs.FlexState.{FlexState, flex_empty, with_machine}
 use Rattle.rlsf_model.specs.Note.{Note}
 use Rattle.rlsf_model.specs.State.{Used}
 use Rattle.rlsf_model.specs.Terms.{Terms}
@@ -22,8 +22,8 @@ pub record FlexRunState : Type 0 where
   pub named : ℕ → Option ℕ
 
 -- nothing is done yet
-abbrev pub beginning : FlexRunState
-beginning = record { flex = empty; named = λ name. None }
+abbrev pub flex_beginning : FlexRunState
+flex_beginning = record { flex = flex_empty; named = λ name. None }
 
 -- the run as one without a source: its pools are the outstanding ranges
 abbrev pub without_source : FlexRunState → RunState

@@ -24,7 +24,7 @@ pub record Listed : Type 0 where
   pub asked : List Question
 
 -- the ranges lie in the space, have no address that wasn't provided, and don't overlap
-pub record MayOwe (s : Listed) (owed : List Range) : Type 0 where
+pub record ListedMayOwe (s : Listed) (owed : List Range) : Type 0 where
   pub in_space : (r : Range) → IsIn r owed → LiesIn r s.terms.space.start s.terms.space.len
   pub taken : (a : ℕ) → coverage itself owed a ≤ coverage itself s.taken a
   pub disjoint : (a : ℕ) → coverage itself owed a ≤ 1

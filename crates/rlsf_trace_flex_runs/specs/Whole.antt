@@ -4,8 +4,8 @@ use Rattle.rlsf_base.specs.Space.{range_of}
 use Rattle.rlsf_flex.specs.Outside.{KeepsOutside}
 use Rattle.rlsf_flex.specs.StandsFor.{FlexContents}
 use Rattle.rlsf_trace_flex_runs.specs.FlexEvents.{RunsFlexByEvents}
-use Rattle.rlsf_trace_flex_runs.specs.FlexRuns.{FlexRunState, RunsFlex, beginning}
-use Rattle.rlsf_model.specs.FlexState.{empty}
+use Rattle.rlsf_trace_flex_runs.specs.FlexRuns.{FlexRunState, RunsFlex, flex_beginning}
+use Rattle.rlsf_model.specs.FlexState.{flex_empty}
 use Rattle.rlsf_model.specs.Note.{Note, LeadsBy}
 use Rattle.rlsf_model.specs.Terms.{Terms}
 use Rattle.rlsf_trace_text.specs.declared.op.Op.{Op}
@@ -18,6 +18,6 @@ abbrev pub RunsFlexTo : {S : Type 0} → ℕ → ℕ → (S → Terms) → (S �
     → Type 0
 RunsFlexTo fllen sllen terms leads before ops answers after =
     (notes : List Note) × (t : FlexRunState)
-    × RunsFlex fllen sllen (terms before.source) beginning ops answers notes t × LeadsBy leads before.source notes after.source
+    × RunsFlex fllen sllen (terms before.source) flex_beginning ops answers notes t × LeadsBy leads before.source notes after.source
     × (after.state ≡ t.flex) × KeepsOutside before.memory [] notes after.memory t.flex.pools
-    × RunsFlexByEvents fllen sllen (range_of before.memory) (terms before.source) empty ops answers notes after.state
+    × RunsFlexByEvents fllen sllen (range_of before.memory) (terms before.source) flex_empty ops answers notes after.state

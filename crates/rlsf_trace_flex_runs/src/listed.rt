@@ -3,7 +3,7 @@
 ghost use Rattle.std.specs.Prelude.{◌≡◌, ◌≤◌, ◌-◌, ◌%◌, [], IfOk, MatchOption};
 ghost use Rattle.rlsf_base.specs.PowerOfTwo.{IsPowerOfTwo};
 ghost use Rattle.rlsf_base.specs.Range.{end_of, range_at};
-ghost use Rattle.rlsf_trace_flex_runs.specs.Listed.{HandsOut, MayOwe, Remembers, remembered, terms_in};
+ghost use Rattle.rlsf_trace_flex_runs.specs.Listed.{HandsOut, ListedMayOwe, Remembers, remembered, terms_in};
 
 use crate::ranges::hand_out;
 use rlsf_base::memory::Range;
@@ -98,7 +98,7 @@ impl ListedSource {
     ) -> Result<ListedSource, AllocError>
         requires power { IsPowerOfTwo capabilities.min_align }
         ensures terms { IfOk result (λ source. source.terms ≡ terms_in space capabilities) }
-        ensures owed { IfOk result (λ source. MayOwe source []) }
+        ensures owed { IfOk result (λ source. ListedMayOwe source []) }
         ensures room { IfOk result (λ source. source.room ≡ questions) }
         ensures asked { IfOk result (λ source. source.asked ≡ []) }
     {
@@ -188,7 +188,7 @@ impl ListedSource {
 impl FlexSource for ListedSource {
     ghost terms = { λ s. s.terms };
 
-    ghost owes = { MayOwe };
+    ghost owes = { ListedMayOwe };
 
     ghost leads = { Remembers };
 

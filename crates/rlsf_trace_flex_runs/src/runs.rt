@@ -5,7 +5,7 @@ ghost use Rattle.std.specs.HashMap.{spare};
 ghost use Rattle.rlsf_base.specs.Space.{SamePlace};
 ghost use Rattle.rlsf_trace_flex_runs.specs.Steps.Names.{IsFlexAt, LeadsOn};
 ghost use Rattle.rlsf_trace_flex_runs.specs.Whole.{RunsFlexTo};
-ghost use Rattle.rlsf_model.specs.FlexState.{empty};
+ghost use Rattle.rlsf_model.specs.FlexState.{flex_empty};
 ghost use Rattle.rlsf_trace_text.specs.declared.op.Answer.{Answer};
 
 use crate::payloads::{alloc, fill, free, get, put, realloc, realloc_no_move, usable};
@@ -68,7 +68,7 @@ pub fn run_flex<
     ops: &[Op],
     answers: &mut Vec<Answer>,
 ) -> Result<(), RunError>
-    requires { flex.old.state ≡ empty }
+    requires { flex.old.state ≡ flex_empty }
     ensures runs { OnOk result ((given : List Answer) × (answers.new.items ≡ answers.old.items ++ given)
         × RunsFlexTo FLLEN SLLEN S.terms S.leads flex.old ops.now given flex.new) }
     ensures refused { OnErr result ((answers.new.items ≡ answers.old.items) × (flex.new ≡ flex.old)) }

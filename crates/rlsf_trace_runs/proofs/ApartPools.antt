@@ -11,7 +11,7 @@ use Rattle.rlsf_model.specs.Insert.{IsClear}
 use Rattle.rlsf_model.specs.Lists.{IsIn}
 use Rattle.rlsf_model.specs.WellFormed.{covers, coverage, itself}
 use Rattle.rlsf_model.proofs.Coverage.{inside, before, behind, by_test, where_is, covers-before, covers-behind, covers-inside, coverage-IsIn}
-use Rattle.rlsf_trace_runs.specs.Steps.Pools.{AreApart, IsInOrder, IsLastBegun}
+use Rattle.rlsf_trace_runs.specs.Steps.Pools.{ArePoolsApart, AreInAddressOrder, IsLastBegun}
 use Rattle.rlsf_trace_runs.proofs.Overlapping.{coverage-apart, IsApart, IsIn-at, no_range, nth_range}
 use Rattle.rlsf_trace_runs.proofs.SamePools.{coverage-permutation, IsIn-each, IsIn-permutation}
 
@@ -31,15 +31,15 @@ coverage-set (x ∷ xs) zero y d a below = omega arith
 coverage-set (x ∷ xs) (suc i) y d a below = omega (arith, coverage-set xs i y d a (omega arith))
 
 -- in another order
-pub AreApart-permutation : {xs ys : List Range} → AreApart xs → IsPermutation xs ys → AreApart ys
-AreApart-permutation {xs} {ys} o same = record {
+pub ArePoolsApart-permutation : {xs ys : List Range} → ArePoolsApart xs → IsPermutation xs ys → ArePoolsApart ys
+ArePoolsApart-permutation {xs} {ys} o same = record {
   some = λ p there. o.some p (IsIn-permutation p ys xs (IsPermutation-sym xs ys same) there);
   once = λ a. omega (arith, coverage-permutation xs ys a same, o.once a);
 }
 
 -- with one more
-pub AreApart-more : {xs : List Range} → AreApart xs → (pool : Range) → pool.start < end_of pool → IsClear pool xs → AreApart (pool ∷ xs)
-AreApart-more {xs} o pool some clear = record {
+pub ArePoolsApart-more : {xs : List Range} → ArePoolsApart xs → (pool : Range) → pool.start < end_of pool → IsClear pool xs → ArePoolsApart (pool ∷ xs)
+ArePoolsApart-more {xs} o pool some clear = record {
   some = λ p. elim [ inl is ↦ subst (λ q. q.start < end_of q) (sym is) some | inr there ↦ o.some p there ];
   once = λ a. elim (where_is pool a) [
     | inside one from to ↦ omega (arith, clear a from to)
@@ -48,7 +48,7 @@ AreApart-more {xs} o pool some clear = record {
   ];
 }
 
-module _ {xs : List Range} (o : AreApart xs) where
+module _ {xs : List Range} (o : ArePoolsApart xs) where
   pub some_at : (k : ℕ) (d : Range) → k < length xs → (slice_index_or xs k d).start < end_of (slice_index_or xs k d)
   some_at k d below = o.some (slice_index_or xs k d) (IsIn-at xs k d below)
 
@@ -76,7 +76,7 @@ module _ {xs : List Range} (o : AreApart xs) where
       ]
 
   -- in the order of their starts they are in order
-  pub IsInOrder-ascending : ((i j : ℕ) (d : Range) → i < j → j < length xs → (slice_index_or xs i d).start ≤ (slice_index_or xs j d).start) → IsInOrder xs
+  pub IsInOrder-ascending : ((i j : ℕ) (d : Range) → i < j → j < length xs → (slice_index_or xs i d).start ≤ (slice_index_or xs j d).start) → AreInAddressOrder xs
   IsInOrder-ascending ascending = record {
     some = some_at;
     apart = λ i j d lower below. ends_first i j d (λ same. absurd (omega (arith, same))) (omega arith) below (ascending i j d lower below);

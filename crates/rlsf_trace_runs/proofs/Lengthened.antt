@@ -11,7 +11,7 @@ use Rattle.rlsf_model.specs.Lists.{IsIn}
 use Rattle.rlsf_model.specs.WellFormed.{covers, coverage, itself}
 use Rattle.rlsf_model.proofs.Coverage.{inside, before, behind, where_is, covers-split}
 use Rattle.rlsf_trace_runs.specs.Runs.{longer_pool, longer_pool_at}
-use Rattle.rlsf_trace_runs.specs.Steps.Pools.{AreApart, EndsAt}
+use Rattle.rlsf_trace_runs.specs.Steps.Pools.{ArePoolsApart, EndsAt}
 use Rattle.rlsf_trace_runs.proofs.ApartPools.{coverage-set, ends_first, some_at}
 use Rattle.rlsf_trace_runs.proofs.SamePools.{IsIn-each}
 use Rattle.rlsf_trace_runs.proofs.Overlapping.{no_range, nth_range}
@@ -56,7 +56,7 @@ coverage-longer_pool addr more p (x ∷ xs) a (inl is) ends = elim (is_lengthene
 ]
 coverage-longer_pool addr more p (x ∷ xs) a (inr there) ends = omega (arith, covers-longer_pool_at addr more x a, coverage-longer_pool addr more p xs a there ends)
 
-module _ {xs : List Range} (o : AreApart xs) where
+module _ {xs : List Range} (o : ArePoolsApart xs) where
   -- one pool alone ends where it does
   one_end : (i k addr : ℕ) → EndsAt xs i addr → k < length xs → k ≢ i → end_of (nth_range xs k) ≢ addr
   one_end i k addr (below, ends) within differ same = elim (cases_lt (nth_range xs i).start (nth_range xs k).start) [
@@ -105,7 +105,7 @@ module _ {xs : List Range} (o : AreApart xs) where
 
   module _ (r : Range) (clear : IsClear r xs) (i more : ℕ) (ends : EndsAt xs i r.start) (fits : more ≤ r.len) where
     -- one that takes bytes which no other has stays apart from them
-    pub AreApart-longer_pool : AreApart (map (longer_pool_at r.start more) xs)
+    pub AreApart-longer_pool : ArePoolsApart (map (longer_pool_at r.start more) xs)
     AreApart-longer_pool = record {
       some = λ p there.
           let (q, old, is) = IsIn-longer_pool r.start more p xs there in

@@ -25,9 +25,9 @@ use Rattle.rlsf_trace_text.specs.declared.op.Op.{Op}
 use Rattle.rlsf_trace_runs.specs.declared.names.Payload.{Payload}
 use Rattle.rlsf_trace_runs.specs.declared.tables.Tables.{Tables}
 use Rattle.rlsf_trace_runs.specs.Names.{address, AreNamed}
-use Rattle.rlsf_trace_runs.specs.Runs.{Does, Frees, Owns, RunState, with_machine}
-use Rattle.rlsf_trace_runs.specs.Steps.Pools.{AreApart, AreInRuns}
-use Rattle.rlsf_trace_runs.specs.Steps.Tables.{HasRoom, IsAt, LeadsOn}
+use Rattle.rlsf_trace_runs.specs.Runs.{Does, FreesName, Owns, RunState, run_with_machine}
+use Rattle.rlsf_trace_runs.specs.Steps.Pools.{ArePoolsApart, AreInRuns}
+use Rattle.rlsf_trace_runs.specs.Steps.Tables.{HaveRoomForOps, IsAt, OpLeadsOn}
 use Rattle.rlsf_trace_runs.proofs.Named.{AreNamed-filled, AreNamed-freed, AreNamed-kept, IsSetAt, owned_live}
 
 -- what a test for a payload didn't find
@@ -41,7 +41,7 @@ some_is f None e = absurd (true≢false (sym e))
 some_is f (Some x) e = refl
 
 -- tables with room for one op more have room for these ops
-pub room_left : (tables : Tables) (ops : ℕ) → HasRoom tables (ops + 1) → HasRoom tables ops
+pub room_left : (tables : Tables) (ops : ℕ) → HaveRoomForOps tables (ops + 1) → HaveRoomForOps tables ops
 room_left tables ops room = record { names = omega (arith, room.names); pools = omega (arith, room.pools) }
 
 module _ {fllen sllen : ℕ} {v : Allocator} {tables : Tables} {s : RunState} (at : IsAt fllen sllen v tables s) where
@@ -59,7 +59,7 @@ module _ {fllen sllen : ℕ} {v : Allocator} {tables : Tables} {s : RunState} (a
   found_live name (Some p) is = live_in at.stands (address p) p.align (at.named.live name p (sym is))
 
   -- an op that changes nothing
-  pub LeadsOn-nothing : (op : Op) (answer : Answer) → Does fllen sllen (range_of v.memory) s op answer s → LeadsOn fllen sllen v s op answer v tables
+  pub LeadsOn-nothing : (op : Op) (answer : Answer) → Does fllen sllen (range_of v.memory) s op answer s → OpLeadsOn fllen sllen v s op answer v tables
   LeadsOn-nothing op answer does = (s, does, at, λ a from to was is. refl)
 
   -- where other payloads may be named, but the chunks stay
@@ -70,7 +70,7 @@ module _ {fllen sllen : ℕ} {v : Allocator} {tables : Tables} {s : RunState} (a
     stands = stands;
     named = are;
     pools = subst (λ p. IsPermutation s.pools p.ranges.items) (sym same) at.pools;
-    apart = subst (λ p. AreApart p.ranges.items) (sym same) at.apart;
+    apart = subst (λ p. ArePoolsApart p.ranges.items) (sym same) at.apart;
     in_runs = subst (λ p. AreInRuns p.ranges.items p.firsts.items) (sym same) at.in_runs;
     inside = λ p i. moved p (at.inside p (subst (λ table. IsIn p table.ranges.items) same i));
     covered = λ a. subst (λ cs. coverage itself cs a ≤ coverage itself s.pools a) (sym chunks) (at.covered a);
@@ -82,14 +82,14 @@ module _ {fllen sllen : ℕ} {v : Allocator} {tables : Tables} {s : RunState} (a
 
   -- after a fill
   pub IsAt-filled : {w : Allocator} → SamePlace v.memory w.memory → (t : State) → IsInState fllen sllen w t → (addr : ℕ) (bytes : List ℕ)
-      → Fills s.machine addr bytes t → IsAt fllen sllen w tables (with_machine s t)
+      → Fills s.machine addr bytes t → IsAt fllen sllen w tables (run_with_machine s t)
   IsAt-filled place t stands addr bytes step =
       IsAt-named place t stands (fill_leaves_others s.machine t addr bytes step).0 refl
       (AreNamed-filled at.named fllen sllen (range_of v.memory) t addr bytes at.stands.stands.well_formed step)
 
   -- after a step that leaves the chunks and every alignment
   pub IsAt-aligned : {w : Allocator} → SamePlace v.memory w.memory → (t : State) → IsInState fllen sllen w t → w.state.chunks ≡ v.state.chunks
-      → align_at w.state ≡ align_at v.state → IsAt fllen sllen w tables (with_machine s t)
+      → align_at w.state ≡ align_at v.state → IsAt fllen sllen w tables (run_with_machine s t)
   IsAt-aligned {w} place t stands chunks aligns =
       IsAt-named place t stands (ap (λ x. x.chunks) (sym stands.state) ∙ chunks ∙ ap (λ x. x.chunks) at.stands.state) refl
       (AreNamed-kept at.named t
@@ -104,7 +104,7 @@ module _ {fllen sllen : ℕ} {v : Allocator} {tables : Tables} {s : RunState} (a
   pub freed : {w : Allocator} {new : Tables} → SamePlace v.memory w.memory → (t : State) → IsInState fllen sllen w t → KeepsSpare v.memory s.machine w.memory t
       → (name : ℕ) (p : Payload)
       → get nat_eq tables.names name ≡ Some p → Deallocates s.machine (address p) t → new.pools ≡ tables.pools → IsSetAt name None tables.names new.names
-      → (r : RunState) × Frees s name r × IsAt fllen sllen w new r × KeepsSpare v.memory s.machine w.memory r.machine
+      → (r : RunState) × FreesName s name r × IsAt fllen sllen w new r × KeepsSpare v.memory s.machine w.memory r.machine
   freed place t stands keeps name p there step same taken =
       let (u, owns, holds, _) = owned name p there in (
         _,
@@ -117,7 +117,7 @@ module _ {fllen sllen : ℕ} {v : Allocator} {tables : Tables} {s : RunState} (a
   -- so it is where an allocator's call deallocated it
   pub freed_by : {new : Tables} (w : Allocator) → SamePlace v.memory w.memory → (name : ℕ) (p : Payload) → get nat_eq tables.names name ≡ Some p
       → Steps fllen sllen v w (Deallocates v.state (address p)) → new.pools ≡ tables.pools → IsSetAt name None tables.names new.names
-      → (r : RunState) × Frees s name r × IsAt fllen sllen w new r × KeepsSpare v.memory s.machine w.memory r.machine
+      → (r : RunState) × FreesName s name r × IsAt fllen sllen w new r × KeepsSpare v.memory s.machine w.memory r.machine
   freed_by w place name p there step same taken =
       let (t, does, stands, keeps) = stepped at.stands w (λ x. Deallocates x (address p)) step in freed place t stands keeps name p there does same taken
 

@@ -13,7 +13,7 @@ use Rattle.rlsf_model.proofs.Coverage.{inside, before, behind, covers-inside, co
 use Rattle.rlsf_model.proofs.Cuts.{coverage-cut, coverage-cut_last}
 use Rattle.rlsf_model.proofs.Insertions.{IsWhole-aligned_part}
 use Rattle.rlsf_model.proofs.Untouched.{coverage-with_chunks}
-use Rattle.rlsf_trace_runs.specs.Runs.{with_pool}
+use Rattle.rlsf_trace_runs.specs.Runs.{with_new_pool}
 
 -- a chunk that was there is there still
 pub IsIn-with_chunks_old : (cs : List Range) (s : State) (c : Range) → IsIn c s.chunks → IsIn c (with_chunks cs s).chunks
@@ -34,18 +34,18 @@ last_of c (d ∷ cs) = let (e, i, is) = last_of d cs in (e, inr i, is)
 -- a pool by the chunks that are made of its range
 covered_by : (r : Range) (cs : List Range) (reply : Option ℕ) → reply ≡ bytes_taken r.start cs → (pools : List Range) (a : ℕ)
     → coverage itself cs a ≤ covers (record { start = round32 r.start; len = end_of_last (round32 r.start) cs - round32 r.start }) a
-    → coverage itself cs a + coverage itself pools a ≤ coverage itself (with_pool r reply pools) a
-covered_by r [] reply is pools a within = subst (λ o. 0 + coverage itself pools a ≤ coverage itself (with_pool r o pools) a) (sym is) (omega arith)
+    → coverage itself cs a + coverage itself pools a ≤ coverage itself (with_new_pool r reply pools) a
+covered_by r [] reply is pools a within = subst (λ o. 0 + coverage itself pools a ≤ coverage itself (with_new_pool r o pools) a) (sym is) (omega arith)
 covered_by r (c ∷ cs) reply is pools a within =
     let end = end_of_last (end_of c) cs in
     let up = round32 r.start in
     let same : end - up ≡ r.start + (end - r.start) - up = omega (arith, round32-le r.start) in
-    subst (λ o. coverage itself (c ∷ cs) a + coverage itself pools a ≤ coverage itself (with_pool r o pools) a) (sym is)
+    subst (λ o. coverage itself (c ∷ cs) a + coverage itself pools a ≤ coverage itself (with_new_pool r o pools) a) (sym is)
     (subst (λ n. coverage itself (c ∷ cs) a + coverage itself pools a ≤ covers (record { start = up; len = n }) a + coverage itself pools a) same (omega (arith, within)))
 
 -- all chunks of the state after an insert are in pools, if those before it were
 pub coverage-with_pool : (fllen : ℕ) (s : State) (r : Range) (reply : Option ℕ) (t : State) → Inserts fllen s r reply t → (pools : List Range) (a : ℕ)
-    → coverage itself s.chunks a ≤ coverage itself pools a → coverage itself t.chunks a ≤ coverage itself (with_pool r reply pools) a
+    → coverage itself s.chunks a ≤ coverage itself pools a → coverage itself t.chunks a ≤ coverage itself (with_new_pool r reply pools) a
 coverage-with_pool fllen s r reply t step pools a old =
     let cs = cut (max_pool_size fllen) (aligned_part r) in
     let new : coverage itself t.chunks a ≡ coverage itself cs a + coverage itself s.chunks a = ap (λ u. coverage itself u.chunks a) step.after ∙ coverage-with_chunks cs s a in

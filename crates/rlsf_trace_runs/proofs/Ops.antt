@@ -11,7 +11,7 @@ use Rattle.rlsf_model.specs.Allocate.{Allocates}
 use Rattle.rlsf_model.specs.Lists.{IsIn}
 use Rattle.rlsf_model.specs.Reallocate.{Reallocates}
 use Rattle.rlsf_model.specs.Run.{Fills}
-use Rattle.rlsf_model.specs.State.{State, Used, Holds, usable, with_bytes}
+use Rattle.rlsf_model.specs.State.{State, Used, Holds, usable, used_with_bytes}
 use Rattle.rlsf_model.specs.WellFormed.{IsWellFormed}
 use Rattle.rlsf_model.proofs.Changes.{Holds-unique}
 use Rattle.rlsf_model.proofs.Chunks.{used-inserted, used-appended}
@@ -22,10 +22,10 @@ use Rattle.rlsf_trace_text.specs.declared.op.Answer.TheVariants.{Inserted, Appen
 use Rattle.rlsf_trace_text.specs.declared.op.Op.{Op}
 use Rattle.rlsf_trace_text.specs.declared.op.Op.TheVariants.{Insert, Append, Alloc, Free, FreeUnknown, Realloc, ReallocNoMove, Fill, Put, Get, Usable as OpUsable, Block as OpBlock}
 use Rattle.rlsf_trace_text.specs.declared.op.Op.TheVariants.{Trim}
-use Rattle.rlsf_trace_runs.specs.Runs.{Does, Frees, RunState, with_name, without_name}
+use Rattle.rlsf_trace_runs.specs.Runs.{Does, FreesName, RunState, with_name, without_name}
 use Rattle.rlsf_trace_runs.proofs.NamedPayloads.{reallocation_refused}
 use Rattle.rlsf_trace_runs.specs.Moments.{name_in, usable_bytes}
-use Rattle.rlsf_trace_runs.specs.Steps.Changes.{live_in, Measures, usable_in}
+use Rattle.rlsf_trace_runs.specs.Steps.Changes.{live_in, Measures, usable_or_zero}
 use Rattle.rlsf_trace_runs.proofs.Weights.{IsBlind, weight, weight-allocated, weight-deallocated, weight-filled, weight-reallocated}
 
 -- no payload has the name, or one that weighs so much
@@ -93,7 +93,7 @@ module _ {fllen sllen : ℕ} {memory : Range} (f : Used → ℕ) (blind : IsBlin
       (λ w wy. omega (arith, ap (weight f) same, weighs-once f s.machine s.named ws name x y wx (subst (λ r. WeighsIn f r s.named name y) same wy)))
 
   -- a payload was deallocated
-  freed : (name x y : ℕ) → Frees s name t → WeighsIn f s.machine s.named name x → WeighsIn f t.machine t.named name y → Balance t.machine x y
+  freed : (name x y : ℕ) → FreesName s name t → WeighsIn f s.machine s.named name x → WeighsIn f t.machine t.named name y → Balance t.machine x y
   freed name x y (u, (i, its), m, step, is) wx = onto m (without_name name s.named) s.pools name x y is
       (λ w wy. omega (
         arith,
@@ -131,7 +131,7 @@ module _ {fllen sllen : ℕ} {memory : Range} (f : Used → ℕ) (blind : IsBlin
         arith,
         weight-filled f blind s.machine m u.payload bytes step,
         weighs-held f s.machine s.named ws name u.payload x step.block its step.holds wx,
-        weighs-held f m s.named w name u.payload y (with_bytes step.block bytes) its (filled_holds step) wy,
+        weighs-held f m s.named w name u.payload y (used_with_bytes step.block bytes) its (filled_holds step) wy,
         blind step.block bytes,
       ))
 
@@ -288,8 +288,8 @@ Weighs-live s None told is = ap live_in is
 Weighs-live s (Some name) None is = inl (is, refl)
 Weighs-live s (Some name) (Some bytes) (u, owns, _) = inr (u, owns, refl)
 
-pub Weighs-bytes : (s : RunState) (o told : Option ℕ) → Measures s o told → Weighs length_of s o (usable_in told)
-Weighs-bytes s None told is = ap usable_in is
+pub Weighs-bytes : (s : RunState) (o told : Option ℕ) → Measures s o told → Weighs length_of s o (usable_or_zero told)
+Weighs-bytes s None told is = ap usable_or_zero is
 Weighs-bytes s (Some name) None is = inl (is, refl)
 Weighs-bytes s (Some name) (Some bytes) (u, owns, is) = inr (u, owns, is)
 
@@ -305,7 +305,7 @@ module _ {fllen sllen : ℕ} {memory : Range} (s t : RunState) (ws : IsWellForme
         weight-one s.machine.used,
       )
 
-  pub usable-balanced : usable_bytes t.machine.used + usable_in before ≡ usable_bytes s.machine.used + usable_in after
+  pub usable-balanced : usable_bytes t.machine.used + usable_or_zero before ≡ usable_bytes s.machine.used + usable_or_zero after
   usable-balanced =
-      balanced length_of (λ u bytes. refl) s t ws wt op answer does (usable_in before) (usable_in after) (Weighs-bytes s (name_in op) before was)
+      balanced length_of (λ u bytes. refl) s t ws wt op answer does (usable_or_zero before) (usable_or_zero after) (Weighs-bytes s (name_in op) before was)
       (Weighs-bytes t (name_in op) after is)

@@ -11,7 +11,7 @@ use Rattle.rlsf_tlsf.specs.Allocator.{Allocator}
 use Rattle.rlsf_trace_text.specs.declared.op.Answer.{Answer}
 use Rattle.rlsf_trace_text.specs.declared.op.Op.{Op}
 use Rattle.rlsf_trace_runs.specs.declared.tables.Tables.{Tables}
-use Rattle.rlsf_trace_runs.specs.Runs.{beginning, Does, RunState}
+use Rattle.rlsf_trace_runs.specs.Runs.{run_beginning, Does, RunState}
 use Rattle.rlsf_trace_runs.specs.Steps.Tables.{IsAt}
 use Rattle.rlsf_trace_runs.specs.declared.moments.Moment.{Moment}
 use Rattle.rlsf_trace_runs.specs.Moments.{last_of, moment_of, Passes}
@@ -30,21 +30,21 @@ pub record IsPassing (fllen sllen : ℕ) (m : Space) (ops : List Op) (v : Alloca
     (told : List Moment) : Type 0 where
   pub states : List RunState
   pub state : RunState
-  pub last : last_of beginning states ≡ state
+  pub last : last_of run_beginning states ≡ state
   pub at : IsAt fllen sllen v tables state
   pub now : moment ≡ moment_of state
   pub leads : (more : List Answer) (us : List RunState) → Passes fllen sllen (range_of m) state (drop done ops) more us
-      → Passes fllen sllen (range_of m) beginning ops (given ++ more) (states ++ us)
+      → Passes fllen sllen (range_of m) run_beginning ops (given ++ more) (states ++ us)
   pub moments : told ≡ map moment_of states
   pub place : SamePlace m v.memory
 
 module _ {fllen sllen : ℕ} {m : Space} {ops : List Op} {v : Allocator} {tables : Tables} {moment : Moment} where
   -- at the beginning
-  pub IsPassing-beginning : IsAt fllen sllen v tables beginning → m ≡ v.memory → moment ≡ moment_of beginning
+  pub IsPassing-beginning : IsAt fllen sllen v tables run_beginning → m ≡ v.memory → moment ≡ moment_of run_beginning
       → IsPassing fllen sllen m ops v tables moment 0 [] []
   IsPassing-beginning at same now = record {
     states = [];
-    state = beginning;
+    state = run_beginning;
     last = refl;
     at = at;
     now = now;
@@ -67,12 +67,12 @@ module _ {fllen sllen : ℕ} {m : Space} {ops : List Op} {v : Allocator} {tables
       record {
         states = w.states ++ t ∷ [];
         state = t;
-        last = last_of-push beginning t w.states;
+        last = last_of-push run_beginning t w.states;
         at = at;
         now = now;
         leads = λ more us passes.
-            subst (λ l. Passes fllen sllen (range_of m) beginning ops l ((w.states ++ t ∷ []) ++ us)) (sym (append_assoc given (answer ∷ []) more))
-            (subst (λ l. Passes fllen sllen (range_of m) beginning ops (given ++ answer ∷ more) l) (sym (append_assoc w.states (t ∷ []) us))
+            subst (λ l. Passes fllen sllen (range_of m) run_beginning ops l ((w.states ++ t ∷ []) ++ us)) (sym (append_assoc given (answer ∷ []) more))
+            (subst (λ l. Passes fllen sllen (range_of m) run_beginning ops (given ++ answer ∷ more) l) (sym (append_assoc w.states (t ∷ []) us))
             (w.leads (answer ∷ more) (t ∷ us) (subst (λ l. Passes fllen sllen (range_of m) w.state l (answer ∷ more) (t ∷ us)) (sym left_ops) (here, passes))));
         moments = ap₂ (λ l x. l ++ x ∷ []) w.moments now ∙ sym (map-push w.states t);
         place = (place.0 ∙ w.place.0, place.1 ∙ w.place.1, place.2 ∙ w.place.2, λ none. place.3 (w.place.3 none));
@@ -86,10 +86,10 @@ module _ {fllen sllen : ℕ} {m : Space} {ops : List Op} {v : Allocator} {tables
 
   -- at the end
   pub Passes-end : {done : ℕ} {given : List Answer} {told : List Moment} (w : IsPassing fllen sllen m ops v tables moment done given told) → length ops ≤ done
-      → Passes fllen sllen (range_of m) beginning ops given w.states
+      → Passes fllen sllen (range_of m) run_beginning ops given w.states
   Passes-end {done} {given} w past =
-      subst (λ l. Passes fllen sllen (range_of m) beginning ops l w.states) (append-nil given)
-      (subst (λ l. Passes fllen sllen (range_of m) beginning ops (given ++ []) l) (append-nil w.states)
+      subst (λ l. Passes fllen sllen (range_of m) run_beginning ops l w.states) (append-nil given)
+      (subst (λ l. Passes fllen sllen (range_of m) run_beginning ops (given ++ []) l) (append-nil w.states)
       (w.leads [] [] (subst (λ l. Passes fllen sllen (range_of m) w.state l [] []) (sym (drop_of_length-le ops past)) tt)))
 
   -- the lists by other names
@@ -101,7 +101,7 @@ module _ {fllen sllen : ℕ} {m : Space} {ops : List Op} {v : Allocator} {tables
   -- the blocks of the allocator are those of the last state
   pub all_blocks_of : {done : ℕ} {given : List Answer} {told : List Moment} (w : IsPassing fllen sllen m ops v tables moment done given told) (bs : List Block)
       → AreBlocks v.state (range_of v.memory) bs
-      → AreBlocks (last_of beginning w.states).machine (range_of m) bs
+      → AreBlocks (last_of run_beginning w.states).machine (range_of m) bs
   all_blocks_of w bs are =
       subst (λ (s : RunState). AreBlocks s.machine (range_of m) bs) (sym w.last)
       (subst (λ s. AreBlocks s (range_of m) bs) w.at.stands.state

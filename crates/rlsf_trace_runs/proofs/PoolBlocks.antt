@@ -19,7 +19,7 @@ use Rattle.rlsf_blocks.proofs.Walking.Listed.{IsInOrder-append}
 use Rattle.rlsf_tlsf.specs.Allocator.{Allocator}
 use Rattle.rlsf_trace_runs.specs.declared.tables.Tables.{Tables}
 use Rattle.rlsf_trace_runs.specs.Runs.{RunState}
-use Rattle.rlsf_trace_runs.specs.Steps.Pools.{IsInOrder as ArePoolsInOrder}
+use Rattle.rlsf_trace_runs.specs.Steps.Pools.{AreInAddressOrder as ArePoolsInOrder}
 use Rattle.rlsf_trace_runs.specs.Steps.Tables.{IsAt}
 use Rattle.rlsf_trace_runs.proofs.RunStates.{some_pool}
 use Rattle.rlsf_trace_runs.proofs.SamePools.{IsIn-permutation}

@@ -10,8 +10,8 @@ use Rattle.rlsf_trace_text.specs.declared.op.Answer.{Answer}
 use Rattle.rlsf_trace_text.specs.declared.op.Op.{Op}
 use Rattle.rlsf_trace_text.specs.Printing.{line_text, text_of}
 use Rattle.rlsf_trace_runs.specs.declared.tables.Tables.{Tables}
-use Rattle.rlsf_trace_runs.specs.Runs.{beginning, Does, RunsOps, RunState}
-use Rattle.rlsf_trace_runs.specs.Steps.Tables.{IsAt, LeadsOn}
+use Rattle.rlsf_trace_runs.specs.Runs.{run_beginning, Does, RunsOps, RunState}
+use Rattle.rlsf_trace_runs.specs.Steps.Tables.{IsAt, OpLeadsOn}
 use Rattle.rlsf_trace_runs.specs.Replays.{IsPrintedRun}
 
 -- the first ops were done, with one answer each, and the text has their lines
@@ -20,15 +20,15 @@ pub record IsPrinting (fllen sllen : ℕ) (m : Space) (ops : List Op) (v : Alloc
   pub given : List Answer
   pub at : IsAt fllen sllen v tables state
   pub leads : (more : List Answer) (t : RunState) → RunsOps fllen sllen (range_of m) state (drop done ops) more t
-      → RunsOps fllen sllen (range_of m) beginning ops (given ++ more) t
+      → RunsOps fllen sllen (range_of m) run_beginning ops (given ++ more) t
   pub printed : (more : List Answer) → text_of ops (given ++ more) ≡ text ++ text_of (drop done ops) more
   pub place : SamePlace m v.memory
 
 module _ {fllen sllen : ℕ} {m : Space} {ops : List Op} {v : Allocator} {tables : Tables} where
   -- at the beginning
-  pub IsPrinting-beginning : IsAt fllen sllen v tables beginning → m ≡ v.memory → (text : List ℕ) → text ≡ [] → IsPrinting fllen sllen m ops v tables 0 text
+  pub IsPrinting-beginning : IsAt fllen sllen v tables run_beginning → m ≡ v.memory → (text : List ℕ) → text ≡ [] → IsPrinting fllen sllen m ops v tables 0 text
   IsPrinting-beginning at same text none = subst (IsPrinting fllen sllen m ops v tables 0) (sym none) (record {
-    state = beginning;
+    state = run_beginning;
     given = [];
     at = at;
     leads = λ more t runs. runs;
@@ -39,7 +39,7 @@ module _ {fllen sllen : ℕ} {m : Space} {ops : List Op} {v : Allocator} {tables
   -- one op more
   pub IsPrinting-next : {done : ℕ} {text : List ℕ} (w : IsPrinting fllen sllen m ops v tables done text) (op : Op) → ((d : Op) → op ≡ slice_index_or ops done d)
       → done < length ops → (answer : Answer) (roomy : Tables) (w2 : Allocator) (new : Tables) → ((s : RunState) → IsAt fllen sllen v tables s → IsAt fllen sllen v roomy s)
-      → ((s : RunState) → IsAt fllen sllen v roomy s → LeadsOn fllen sllen v s op answer w2 new) → SamePlace v.memory w2.memory
+      → ((s : RunState) → IsAt fllen sllen v roomy s → OpLeadsOn fllen sllen v s op answer w2 new) → SamePlace v.memory w2.memory
       → (line more : List ℕ) → line ≡ text ++ line_text op answer → more ≡ line ++ 10 ∷ [] → IsPrinting fllen sllen m ops w2 new (done + 1) more
   IsPrinting-next {done} {text} w op is below answer roomy w2 new room does place line more printed ended =
       let (t, step, at, _) = does w.state (room w.state w.at) in
@@ -48,7 +48,7 @@ module _ {fllen sllen : ℕ} {m : Space} {ops : List Op} {v : Allocator} {tables
         state = t;
         given = w.given ++ answer ∷ [];
         at = at;
-        leads = λ others u runs. subst (λ l. RunsOps fllen sllen (range_of m) beginning ops l u) (sym (append_assoc w.given (answer ∷ []) others))
+        leads = λ others u runs. subst (λ l. RunsOps fllen sllen (range_of m) run_beginning ops l u) (sym (append_assoc w.given (answer ∷ []) others))
             (w.leads (answer ∷ others) u (subst (λ l. RunsOps fllen sllen (range_of m) w.state l (answer ∷ others) u) (sym left_ops) (t, here, runs)));
         printed = λ others.
             ap (text_of ops) (append_assoc w.given (answer ∷ []) others)
@@ -76,8 +76,8 @@ module _ {fllen sllen : ℕ} {m : Space} {ops : List Op} {v : Allocator} {tables
       none_left : drop done ops ≡ []
       none_left = drop_of_length-le ops past
 
-      ran : RunsOps fllen sllen (range_of m) beginning ops w.given w.state
-      ran = subst (λ l. RunsOps fllen sllen (range_of m) beginning ops l w.state) (append-nil w.given)
+      ran : RunsOps fllen sllen (range_of m) run_beginning ops w.given w.state
+      ran = subst (λ l. RunsOps fllen sllen (range_of m) run_beginning ops l w.state) (append-nil w.given)
           (w.leads [] w.state (subst (λ l. RunsOps fllen sllen (range_of m) w.state l [] w.state) (sym none_left) refl))
 
       printed : text_of ops w.given ≡ text

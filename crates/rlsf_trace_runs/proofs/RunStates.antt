@@ -21,13 +21,13 @@ use Rattle.rlsf_model.specs.Run.{append, insert}
 use Rattle.rlsf_model.proofs.ChunkRows.{IsRow-appended, IsRow-inserted, IsRow-kept, IsRow-kept_apart}
 use Rattle.rlsf_model.proofs.Live.{live_stays}
 use Rattle.rlsf_trace_runs.specs.declared.tables.Tables.{Tables}
-use Rattle.rlsf_trace_runs.specs.Runs.{RunState, beginning, longer_pool, longer_pool_at, MayAppend, MayInsert, with_pool}
+use Rattle.rlsf_trace_runs.specs.Runs.{RunState, run_beginning, longer_pool, longer_pool_at, MayAppend, MayInsert, with_new_pool}
 use Rattle.rlsf_trace_runs.specs.Names.{address}
-use Rattle.rlsf_trace_runs.specs.Steps.Pools.{AreApart, AreInRuns, EndsAt}
+use Rattle.rlsf_trace_runs.specs.Steps.Pools.{ArePoolsApart, AreInRuns, EndsAt}
 use Rattle.rlsf_trace_runs.specs.Steps.Tables.{IsAt}
 use Rattle.rlsf_trace_runs.proofs.Named.{AreNamed-empty, AreNamed-kept, AreNamed-same}
 use Rattle.rlsf_trace_runs.proofs.NewPools.{coverage-with_pool, pool_bounds}
-use Rattle.rlsf_trace_runs.proofs.ApartPools.{AreApart-more, AreApart-permutation}
+use Rattle.rlsf_trace_runs.proofs.ApartPools.{ArePoolsApart-more, ArePoolsApart-permutation}
 use Rattle.rlsf_trace_runs.proofs.AppendedChunks.{IsLonger, IsLonger-appended}
 use Rattle.rlsf_trace_runs.proofs.Lengthened.{AreApart-longer_pool, coverage-longer_pool, is_lengthened, IsIn-longer_pool, longer_pool-each, longer_pools-start}
 use Rattle.rlsf_trace_runs.proofs.Overlapping.{IsIn-at, no_range, nth_range}
@@ -107,7 +107,7 @@ module _ {fllen sllen : ℕ} {v : Allocator} {tables : Tables} {s : RunState} (a
     pub IsAt-inserted : {new : Tables} (r pool : Range) (len : ℕ) → Inserts fllen s.machine r (Some len) t → MayInsert (range_of v.memory) s.pools r
         → pool ≡ between (round32 r.start) (r.start + len) → new.names ≡ tables.names → IsPermutation (pool ∷ tables.pools.ranges.items) new.pools.ranges.items
         → AreInRuns new.pools.ranges.items new.pools.firsts.items
-        → IsAt fllen sllen w new (record { machine = t; named = s.named; pools = with_pool r (Some len) s.pools })
+        → IsAt fllen sllen w new (record { machine = t; named = s.named; pools = with_new_pool r (Some len) s.pools })
     IsAt-inserted {new} r pool len step may is names added in_runs =
         let (from, to) = may.lies_in in
         let (some, clear) = new_pool r pool len t may step stands.stands.well_formed is in
@@ -123,7 +123,7 @@ module _ {fllen sllen : ℕ} {v : Allocator} {tables : Tables} {s : RunState} (a
           pools =
               IsPermutation-trans _ _ _ (IsPermutation-cons made s.pools tables.pools.ranges.items at.pools)
               (subst (λ p. IsPermutation (p ∷ tables.pools.ranges.items) new.pools.ranges.items) is added);
-          apart = AreApart-permutation (AreApart-more at.apart pool some clear) added;
+          apart = ArePoolsApart-permutation (ArePoolsApart-more at.apart pool some clear) added;
           in_runs = in_runs;
           inside = λ p i. elim (IsIn-permutation p new.pools.ranges.items (pool ∷ tables.pools.ranges.items)
               (IsPermutation-sym (pool ∷ tables.pools.ranges.items) new.pools.ranges.items added) i) [
@@ -162,7 +162,7 @@ module _ {fllen sllen : ℕ} {v : Allocator} {tables : Tables} {s : RunState} (a
           AreNamed-kept (AreNamed-same at.named (λ name. ap (λ table. get nat_eq table name) names)) t
           (λ addr align live. live_stays fllen sllen s.machine t (append r more) addr align step live (λ never. never));
       pools = subst (IsPermutation (map f s.pools)) (sym is) (IsPermutation-map f s.pools tables.pools.ranges.items at.pools);
-      apart = subst AreApart (sym is) (AreApart-longer_pool at.apart r (IsClear-tables r may.vacant) i more ends longer.within);
+      apart = subst ArePoolsApart (sym is) (AreApart-longer_pool at.apart r (IsClear-tables r may.vacant) i more ends longer.within);
       in_runs =
           subst (λ l. AreInRuns l new.pools.firsts.items) (sym is) (subst (AreInRuns (map f tables.pools.ranges.items)) (sym firsts)
           (AreInRuns-starts at.in_runs (length-map tables.pools.ranges.items f) (longer_pools-start r.start more tables.pools.ranges.items)));
@@ -203,7 +203,7 @@ module _ {fllen sllen : ℕ} {v : Allocator} {tables : Tables} {s : RunState} (a
 
 -- with no chunk and empty tables, a run is at its beginning
 pub IsAt-beginning : {fllen sllen : ℕ} {v : Allocator} {tables : Tables} → IsInState fllen sllen v empty → tables.names.entries ≡ [] → tables.pools.ranges.items ≡ []
-    → tables.pools.firsts.items ≡ [] → IsAt fllen sllen v tables beginning
+    → tables.pools.firsts.items ≡ [] → IsAt fllen sllen v tables run_beginning
 IsAt-beginning {v = v} {tables = tables} stands no_names no_pools no_runs = record {
   stands = stands;
   named = AreNamed-empty empty no_names;
@@ -227,7 +227,7 @@ IsAt-roomy {v = v} {tables = tables} {new = new} {s = s} at names (pools, firsts
     one_name = at.named.one_name;
   };
   pools = subst (IsPermutation s.pools) (sym pools) at.pools;
-  apart = subst AreApart (sym pools) at.apart;
+  apart = subst ArePoolsApart (sym pools) at.apart;
   in_runs = subst (λ l. AreInRuns l new.pools.firsts.items) (sym pools) (subst (AreInRuns tables.pools.ranges.items) (sym firsts) at.in_runs);
   inside = subst (λ l. (p : Range) → IsIn p l → LiesIn p v.memory.start (length v.memory.bytes)) (sym pools) at.inside;
   covered = at.covered;
@@ -241,7 +241,7 @@ IsAt-sorted {tables = tables} {new = new} {s = s} at names same in_runs = record
   stands = at.stands;
   named = AreNamed-same at.named (λ name. ap (λ table. get nat_eq table name) names);
   pools = IsPermutation-trans s.pools tables.pools.ranges.items new.pools.ranges.items at.pools same;
-  apart = AreApart-permutation at.apart same;
+  apart = ArePoolsApart-permutation at.apart same;
   in_runs = in_runs;
   inside = λ p there. at.inside p (IsIn-permutation p new.pools.ranges.items tables.pools.ranges.items
       (IsPermutation-sym tables.pools.ranges.items new.pools.ranges.items same) there);

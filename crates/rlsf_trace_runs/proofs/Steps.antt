@@ -12,7 +12,7 @@ use Rattle.rlsf_trace_runs.specs.Runs.{Does, RunState}
 use Rattle.rlsf_trace_runs.specs.Steps.Tables.{IsAt}
 use Rattle.rlsf_trace_runs.specs.declared.moments.Moment.{Moment}
 use Rattle.rlsf_trace_runs.specs.Moments.{moment_of, name_in, usable_bytes}
-use Rattle.rlsf_trace_runs.specs.Steps.Changes.{live_in, Measures, usable_in}
+use Rattle.rlsf_trace_runs.specs.Steps.Changes.{live_in, Measures, usable_or_zero}
 use Rattle.rlsf_trace_runs.proofs.Ops.{live-balanced, usable-balanced}
 
 module _ {fllen sllen : ℕ} {v w : Allocator} {tables new : Tables} (s t : RunState) (at : IsAt fllen sllen v tables s) (then : IsAt fllen sllen w new t)
@@ -26,11 +26,11 @@ module _ {fllen sllen : ℕ} {v w : Allocator} {tables new : Tables} (s t : RunS
   pub live-after : length t.machine.used + live_in before ≡ moment.live + live_in after
   live-after = omega (arith, live-balanced s t at.stands.stands.well_formed whole op answer does before after was is, ap (λ (x : Moment). x.live) now)
 
-  pub usable-after : usable_bytes t.machine.used + usable_in before ≡ moment.usable + usable_in after
+  pub usable-after : usable_bytes t.machine.used + usable_or_zero before ≡ moment.usable + usable_or_zero after
   usable-after = omega (arith, usable-balanced s t at.stands.stands.well_formed whole op answer does before after was is, ap (λ (x : Moment). x.usable) now)
 
   -- so what has these counts is the moment of the state after it
-  pub moment-after : (told : Moment) → told.live + live_in before ≡ moment.live + live_in after → told.usable + usable_in before ≡ moment.usable + usable_in after
+  pub moment-after : (told : Moment) → told.live + live_in before ≡ moment.live + live_in after → told.usable + usable_or_zero before ≡ moment.usable + usable_or_zero after
       → told ≡ moment_of t
   moment-after told live usable =
       let lives : told.live ≡ length t.machine.used = omega (arith, live, live-after) in

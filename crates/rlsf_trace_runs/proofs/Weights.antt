@@ -9,7 +9,7 @@ use Rattle.rlsf_model.specs.Lists.{IsIn}
 use Rattle.rlsf_model.specs.Reallocate.{moved, Plan, plan, Reallocates, ReallocatesBy}
 use Rattle.rlsf_model.specs.Release.{Deallocates}
 use Rattle.rlsf_model.specs.Run.{Fills}
-use Rattle.rlsf_model.specs.State.{State, Used, Holds, others, with_bytes, filled_if}
+use Rattle.rlsf_model.specs.State.{State, Used, Holds, others, used_with_bytes, filled_if}
 use Rattle.rlsf_model.specs.WellFormed.{IsWellFormed}
 use Rattle.rlsf_model.proofs.Allocations.{Allocates-keeps}
 use Rattle.rlsf_model.proofs.Changes.{Holds-unique, IsIn-others_from}
@@ -18,7 +18,7 @@ use Rattle.rlsf_model.proofs.Live.{handed_out_is_new, live_address_has_one_block
 
 -- a measure sees no bytes
 abbrev pub IsBlind : (Used → ℕ) → Type 0
-IsBlind f = (u : Used) (bytes : List ℕ) → f (with_bytes u bytes) ≡ f u
+IsBlind f = (u : Used) (bytes : List ℕ) → f (used_with_bytes u bytes) ≡ f u
 
 -- the used blocks of a state together
 abbrev pub weight : (Used → ℕ) → State → ℕ
@@ -79,8 +79,8 @@ module _ (f : Used → ℕ) where
 module _ (f : Used → ℕ) (blind : IsBlind f) where
   weight-filled_if : (addr : ℕ) (bytes : List ℕ) (u : Used) → f (filled_if addr bytes u) ≡ f u
   weight-filled_if addr bytes u = by_test (eqb u.payload addr)
-      (λ e. ap (λ b. f (cond b (with_bytes u bytes) u)) e ∙ blind u bytes)
-      (λ e. ap (λ b. f (cond b (with_bytes u bytes) u)) e)
+      (λ e. ap (λ b. f (cond b (used_with_bytes u bytes) u)) e ∙ blind u bytes)
+      (λ e. ap (λ b. f (cond b (used_with_bytes u bytes) u)) e)
 
   weight-map : (addr : ℕ) (bytes : List ℕ) (us : List Used) → sum_by f (map (filled_if addr bytes) us) ≡ sum_by f us
   weight-map addr bytes [] = refl

@@ -6,7 +6,7 @@ use Rattle.rlsf_blocks.specs.Blocks.{AreBlocks}
 use Rattle.rlsf_trace_text.specs.declared.op.Answer.{Answer}
 use Rattle.rlsf_trace_text.specs.declared.op.Op.{Op}
 use Rattle.rlsf_trace_text.specs.declared.op.Op.TheVariants.{Insert, Append, Alloc, Free, FreeUnknown, Realloc, ReallocNoMove, Fill, Put, Get, Usable, Block, Trim}
-use Rattle.rlsf_trace_runs.specs.Runs.{RunState, beginning, Does}
+use Rattle.rlsf_trace_runs.specs.Runs.{RunState, run_beginning, Does}
 use Rattle.rlsf_trace_runs.specs.declared.moments.Moment.{Moment}
 use Rattle.rlsf_trace_runs.specs.declared.watched.Watched.{Watched}
 
@@ -49,6 +49,6 @@ last_of s (u ∷ us) = last_of u us
 -- those of the last state.
 pub record IsWatched (fllen sllen : ℕ) (memory : Range) (ops : List Op) (w : Watched) : Type 0 where
   pub states : List RunState
-  pub passed : Passes fllen sllen memory beginning ops w.answers.items states
+  pub passed : Passes fllen sllen memory run_beginning ops w.answers.items states
   pub moments : w.moments.items ≡ map moment_of states
-  pub blocks : AreBlocks (last_of beginning states).machine memory w.blocks.items
+  pub blocks : AreBlocks (last_of run_beginning states).machine memory w.blocks.items

@@ -14,7 +14,7 @@ use Rattle.rlsf_trace_text.specs.Faults.{out_of_memory}
 use Rattle.rlsf_trace_runs.specs.Output.{AppendsBeginning}
 use Rattle.rlsf_trace_text.specs.Printing.{text_of}
 use Rattle.rlsf_trace_text.specs.Reading.{TraceText, trace_in}
-use Rattle.rlsf_trace_runs.specs.Runs.{RunState, beginning, RunsOps}
+use Rattle.rlsf_trace_runs.specs.Runs.{RunState, run_beginning, RunsOps}
 
 -- the number of first-level rows of a configuration
 abbrev pub rows_of : Configuration → ℕ
@@ -33,12 +33,12 @@ classes_of OneByOne = 1
 classes_of EightByOne = 1
 
 -- an allocator with these parameters over this memory does the ops from its beginning, with these answers
-abbrev pub IsRun : ℕ → ℕ → Range → List Op → List Answer → Type 0
-IsRun fllen sllen memory ops answers = (last : RunState) × RunsOps fllen sllen memory beginning ops answers last
+abbrev pub IsTraceRun : ℕ → ℕ → Range → List Op → List Answer → Type 0
+IsTraceRun fllen sllen memory ops answers = (last : RunState) × RunsOps fllen sllen memory run_beginning ops answers last
 
 -- the text is what is printed for such a run
 abbrev pub IsPrintedRun : ℕ → ℕ → Range → List Op → List ℕ → Type 0
-IsPrintedRun fllen sllen memory ops text = (answers : List Answer) × IsRun fllen sllen memory ops answers × (text ≡ text_of ops answers)
+IsPrintedRun fllen sllen memory ops text = (answers : List Answer) × IsTraceRun fllen sllen memory ops answers × (text ≡ text_of ops answers)
 
 -- the output is what is printed for a run of the input's ops, with the configuration and the memory that it names
 pub record IsOutput (input output : List ℕ) : Type 0 where
@@ -47,7 +47,7 @@ pub record IsOutput (input output : List ℕ) : Type 0 where
   pub ops : List Op
   pub asked : map command_of ops ≡ trace.commands
   pub answers : List Answer
-  pub ran : IsRun (rows_of trace.configuration) (classes_of trace.configuration) (range_at trace.start trace.len) ops answers
+  pub ran : IsTraceRun (rows_of trace.configuration) (classes_of trace.configuration) (range_at trace.start trace.len) ops answers
   pub printed : output ≡ text_of ops answers
 
 -- such an output is appended

@@ -33,17 +33,17 @@ pub record RunState : Type 0 where
   pub pools : List Range
 
 -- nothing is done yet
-abbrev pub beginning : RunState
-beginning = record { machine = empty; named = λ name. None; pools = [] }
+abbrev pub run_beginning : RunState
+run_beginning = record { machine = empty; named = λ name. None; pools = [] }
 
 -- the range lies in the memory, and overlaps no pool
 abbrev pub MayInsert : Range → List Range → Range → Type 0
 MayInsert memory pools r = IsVacant memory pools r
 
 -- the pools with the new one of a range: it begins at the range's start rounded up to 32, and the answer has its end
-abbrev pub with_pool : Range → Option ℕ → List Range → List Range
-with_pool r None pools = pools
-with_pool r (Some len) pools = between (round32 r.start) (r.start + len) ∷ pools
+abbrev pub with_new_pool : Range → Option ℕ → List Range → List Range
+with_new_pool r None pools = pools
+with_new_pool r (Some len) pools = between (round32 r.start) (r.start + len) ∷ pools
 
 -- the range may be inserted, and begins where a pool ends
 pub record MayAppend (memory : Range) (pools : List Range) (r : Range) : Type 0 where
@@ -82,12 +82,12 @@ abbrev pub Owns : RunState → ℕ → Used → Type 0
 Owns s name u = IsIn u s.machine.used × (s.named name ≡ Some u.payload)
 
 -- with another state of the model
-abbrev pub with_machine : RunState → State → RunState
-with_machine s machine = record { machine = machine; named = s.named; pools = s.pools }
+abbrev pub run_with_machine : RunState → State → RunState
+run_with_machine s machine = record { machine = machine; named = s.named; pools = s.pools }
 
 -- the payload of a name is deallocated, and the name is free
-abbrev pub Frees : RunState → ℕ → RunState → Type 0
-Frees s name t =
+abbrev pub FreesName : RunState → ℕ → RunState → Type 0
+FreesName s name t =
     (u : Used) × Owns s name u × (machine : State) × Deallocates s.machine u.payload machine
     × (t ≡ record { machine = machine; named = without_name name s.named; pools = s.pools })
 
@@ -121,26 +121,26 @@ abbrev pub Does : ℕ → ℕ → Range → RunState → Op → Answer → RunSt
 Does fllen sllen memory s op (Refused error) t = IsOpRefused memory s op error × (t ≡ s)
 Does fllen sllen memory s (Insert r) (Inserted len) t =
     MayInsert memory s.pools r × (machine : State) × Inserts fllen s.machine r (reply len) machine
-    × (t ≡ record { machine = machine; named = s.named; pools = with_pool r (reply len) s.pools })
+    × (t ≡ record { machine = machine; named = s.named; pools = with_new_pool r (reply len) s.pools })
 Does fllen sllen memory s (Append r) (Appended more) t =
     MayAppend memory s.pools r × (machine : State) × Appends fllen s.machine r more machine
     × (t ≡ record { machine = machine; named = s.named; pools = map (longer_pool_at r.start more) s.pools })
 Does fllen sllen memory s (Alloc name layout) (Placed addr) t =
     (s.named name ≡ None) × (machine : State) × Allocates sllen s.machine layout.size layout.align (reply addr) machine
     × (t ≡ record { machine = machine; named = with_name name (reply addr) s.named; pools = s.pools })
-Does fllen sllen memory s (Free name) Done t = Frees s name t
-Does fllen sllen memory s (FreeUnknown name) Done t = Frees s name t
+Does fllen sllen memory s (Free name) Done t = FreesName s name t
+Does fllen sllen memory s (FreeUnknown name) Done t = FreesName s name t
 Does fllen sllen memory s (Realloc name size) (Placed addr) t =
     (u : Used) × Owns s name u × IsLayout size u.align × (machine : State) × Reallocates sllen s.machine u.payload size (reply addr) machine
     × (t ≡ record { machine = machine; named = with_name name (reply addr) s.named; pools = s.pools })
 Does fllen sllen memory s (ReallocNoMove name size) (Placed addr) t =
     (u : Used) × Owns s name u × IsLayout size u.align × (machine : State) × ReallocatesWithoutMove s.machine u.payload size (reply addr) machine
-    × (t ≡ with_machine s machine)
+    × (t ≡ run_with_machine s machine)
 Does fllen sllen memory s (Fill name byte) Done t =
-    (u : Used) × Owns s name u × (machine : State) × Fills s.machine u.payload (replicate (usable u).len byte) machine × (t ≡ with_machine s machine)
+    (u : Used) × Owns s name u × (machine : State) × Fills s.machine u.payload (replicate (usable u).len byte) machine × (t ≡ run_with_machine s machine)
 Does fllen sllen memory s (Put name offset byte) Done t =
     (u : Used) × Owns s name u × (offset < (usable u).len) × (machine : State) × Fills s.machine u.payload (slice_set u.bytes offset byte) machine
-    × (t ≡ with_machine s machine)
+    × (t ≡ run_with_machine s machine)
 Does fllen sllen memory s (Get name offset) (Byte byte) t =
     (u : Used) × Owns s name u × (offset < (usable u).len) × (byte ≡ slice_index u.bytes offset) × (t ≡ s)
 Does fllen sllen memory s (OpUsable name) (Usable bytes) t = (u : Used) × Owns s name u × (bytes ≡ (usable u).len) × (t ≡ s)

@@ -4,7 +4,7 @@ use Rattle.rlsf_base.specs.Space.{range_of}
 use Rattle.rlsf_model.specs.State.{empty}
 use Rattle.rlsf_blocks.specs.Spare.{KeepsSpare}
 use Rattle.rlsf_tlsf.specs.Allocator.{Allocator}
-use Rattle.rlsf_trace_runs.specs.Runs.{RunState, RunsOps, beginning}
+use Rattle.rlsf_trace_runs.specs.Runs.{RunState, RunsOps, run_beginning}
 use Rattle.rlsf_trace_text.specs.declared.op.Op.{Op}
 use Rattle.rlsf_trace_text.specs.declared.op.Answer.{Answer}
 
@@ -12,5 +12,5 @@ use Rattle.rlsf_trace_text.specs.declared.op.Answer.{Answer}
 -- then in no block is unchanged.
 abbrev pub RunsTo : ℕ → ℕ → Allocator → List Op → List Answer → Allocator → Type 0
 RunsTo fllen sllen before ops answers after =
-    (t : RunState) × RunsOps fllen sllen (range_of before.memory) beginning ops answers t × (after.state ≡ t.machine)
+    (t : RunState) × RunsOps fllen sllen (range_of before.memory) run_beginning ops answers t × (after.state ≡ t.machine)
     × KeepsSpare before.memory empty after.memory t.machine

@@ -4,7 +4,7 @@ ghost use Rattle.std.specs.Prelude.{IfOk};
 ghost use Rattle.rlsf_base.specs.Space.{range_of};
 ghost use Rattle.rlsf_blocks.specs.Blocks.{AreBlocks};
 ghost use Rattle.rlsf_trace_runs.specs.Runs.{RunState};
-ghost use Rattle.rlsf_trace_runs.specs.Steps.Pools.{IsInOrder};
+ghost use Rattle.rlsf_trace_runs.specs.Steps.Pools.{AreInAddressOrder};
 ghost use Rattle.rlsf_trace_runs.specs.Steps.Tables.{IsAt};
 
 use crate::runs::RunError;
@@ -26,7 +26,7 @@ pub(crate) fn all_blocks<
     tables: &Tables,
 ) -> Result<Vec<BlockInfo>, RunError>
     requires state { (s : RunState) × IsAt FLLEN SLLEN tlsf.now tables.now s }
-    requires in_order { IsInOrder tables.now.pools.ranges.items }
+    requires in_order { AreInAddressOrder tables.now.pools.ranges.items }
     ensures { IfOk result (λ bs. AreBlocks tlsf.now.state (range_of tlsf.now.memory) bs.items) }
 {
     let mut all = Vec::new(alloc);

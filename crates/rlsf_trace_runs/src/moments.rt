@@ -3,9 +3,9 @@
 ghost use Rattle.std.specs.Prelude.{◌≡◌, ℕ, ◌+◌, ◌<◌, ◌≤◌, ◌^◌};
 ghost use Rattle.rlsf_base.specs.Space.{SamePlace};
 ghost use Rattle.rlsf_trace_runs.specs.Runs.{RunState};
-ghost use Rattle.rlsf_trace_runs.specs.Steps.Tables.{HasRoom, IsAt};
+ghost use Rattle.rlsf_trace_runs.specs.Steps.Tables.{HaveRoomForOps, IsAt};
 ghost use Rattle.rlsf_trace_runs.specs.Moments.{moment_of, name_in};
-ghost use Rattle.rlsf_trace_runs.specs.Steps.Changes.{LeadsWatched, live_in, Measures, usable_in};
+ghost use Rattle.rlsf_trace_runs.specs.Steps.Changes.{LeadsWatched, live_in, Measures, usable_or_zero};
 
 use crate::runs::step;
 use crate::tables::Tables;
@@ -61,9 +61,9 @@ fn usable_of<FLBitmap: BitPattern, SLBitmap: BitPattern, const FLLEN: usize, con
 // The moment after an op, by what is usable of the payload that it is on, before it and after it: no other payload changes.
 fn moved_on(moment: Moment, before: Option<usize>, after: Option<usize>) -> Moment
     requires live { (moment.live + 1 < 2 ^ 64) × (live_in before ≤ moment.live + live_in after) }
-    requires usable { (moment.usable + 2 ^ 64 < 2 ^ 128) × (usable_in before ≤ moment.usable + usable_in after) }
+    requires usable { (moment.usable + 2 ^ 64 < 2 ^ 128) × (usable_or_zero before ≤ moment.usable + usable_or_zero after) }
     ensures live { result.live + live_in before ≡ moment.live + live_in after }
-    ensures usable { result.usable + usable_in before ≡ moment.usable + usable_in after }
+    ensures usable { result.usable + usable_or_zero before ≡ moment.usable + usable_or_zero after }
 {
     let live = moment.live + usize::from(after.is_some()) - usize::from(before.is_some());
     let usable = moment.usable + after.unwrap_or(0) as u128 - before.unwrap_or(0) as u128;
@@ -83,11 +83,11 @@ pub(crate) fn watched_step<
     moment: Moment,
 ) -> (Answer, Moment)
     requires state { (s : RunState) × IsAt FLLEN SLLEN tlsf.old tables.old s × (moment ≡ moment_of s) }
-    requires room { HasRoom tables.old 1 }
+    requires room { HaveRoomForOps tables.old 1 }
     requires few { (moment.live + 1 < 2 ^ 64) × (moment.usable + 2 ^ 64 < 2 ^ 128) }
     ensures does { (s : RunState) → IsAt FLLEN SLLEN tlsf.old tables.old s → LeadsWatched FLLEN SLLEN tlsf.old s op moment result.0 result.1 tlsf.new tables.new }
     ensures few { (result.1.live ≤ moment.live + 1) × (result.1.usable < moment.usable + 2 ^ 64) }
-    ensures room { (ops : ℕ) → HasRoom tables.old (ops + 1) → HasRoom tables.new ops }
+    ensures room { (ops : ℕ) → HaveRoomForOps tables.old (ops + 1) → HaveRoomForOps tables.new ops }
     ensures place { SamePlace tlsf.old.memory tlsf.new.memory }
 {
     let before = usable_of(tlsf, tables, op);

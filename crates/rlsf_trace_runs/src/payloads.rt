@@ -7,7 +7,7 @@ ghost use Rattle.rlsf_model.specs.Callers.{align_at};
 ghost use Rattle.rlsf_trace_text.specs.declared.op.Op.TheVariants.{Free, FreeUnknown, Realloc, ReallocNoMove, Fill, Put, Get, Usable};
 ghost use Rattle.rlsf_trace_runs.specs.Names.{address};
 ghost use Rattle.rlsf_trace_runs.specs.Runs.{RunState};
-ghost use Rattle.rlsf_trace_runs.specs.Steps.Tables.{HasRoom, IsAt, LeadsOn};
+ghost use Rattle.rlsf_trace_runs.specs.Steps.Tables.{HaveRoomForOps, IsAt, OpLeadsOn};
 
 use crate::names::Payload;
 use crate::tables::Tables;
@@ -37,8 +37,8 @@ pub(crate) fn free<
     const SLLEN: usize,
 >(tlsf: &mut Tlsf<FLBitmap, SLBitmap, FLLEN, SLLEN>, tables: &mut Tables, name: usize) -> Answer
     requires { (s : RunState) × IsAt FLLEN SLLEN tlsf.old tables.old s }
-    ensures does { (s : RunState) → IsAt FLLEN SLLEN tlsf.old tables.old s → LeadsOn FLLEN SLLEN tlsf.old s (Free name) result tlsf.new tables.new }
-    ensures room { (ops : ℕ) → HasRoom tables.old (ops + 1) → HasRoom tables.new ops }
+    ensures does { (s : RunState) → IsAt FLLEN SLLEN tlsf.old tables.old s → OpLeadsOn FLLEN SLLEN tlsf.old s (Free name) result tlsf.new tables.new }
+    ensures room { (ops : ℕ) → HaveRoomForOps tables.old (ops + 1) → HaveRoomForOps tables.new ops }
     ensures place { SamePlace tlsf.old.memory tlsf.new.memory }
 {
     let Some(payload) = payload_of(tlsf, tables, name) else {
@@ -57,8 +57,8 @@ pub(crate) fn free_unknown<
     const SLLEN: usize,
 >(tlsf: &mut Tlsf<FLBitmap, SLBitmap, FLLEN, SLLEN>, tables: &mut Tables, name: usize) -> Answer
     requires { (s : RunState) × IsAt FLLEN SLLEN tlsf.old tables.old s }
-    ensures does { (s : RunState) → IsAt FLLEN SLLEN tlsf.old tables.old s → LeadsOn FLLEN SLLEN tlsf.old s (FreeUnknown name) result tlsf.new tables.new }
-    ensures room { (ops : ℕ) → HasRoom tables.old (ops + 1) → HasRoom tables.new ops }
+    ensures does { (s : RunState) → IsAt FLLEN SLLEN tlsf.old tables.old s → OpLeadsOn FLLEN SLLEN tlsf.old s (FreeUnknown name) result tlsf.new tables.new }
+    ensures room { (ops : ℕ) → HaveRoomForOps tables.old (ops + 1) → HaveRoomForOps tables.new ops }
     ensures place { SamePlace tlsf.old.memory tlsf.new.memory }
 {
     let Some(payload) = payload_of(tlsf, tables, name) else {
@@ -83,9 +83,9 @@ pub(crate) fn realloc<
     size: usize,
 ) -> Answer
     requires state { (s : RunState) × IsAt FLLEN SLLEN tlsf.old tables.old s }
-    requires room { HasRoom tables.old 1 }
-    ensures does { (s : RunState) → IsAt FLLEN SLLEN tlsf.old tables.old s → LeadsOn FLLEN SLLEN tlsf.old s (Realloc name size) result tlsf.new tables.new }
-    ensures room { (ops : ℕ) → HasRoom tables.old (ops + 1) → HasRoom tables.new ops }
+    requires room { HaveRoomForOps tables.old 1 }
+    ensures does { (s : RunState) → IsAt FLLEN SLLEN tlsf.old tables.old s → OpLeadsOn FLLEN SLLEN tlsf.old s (Realloc name size) result tlsf.new tables.new }
+    ensures room { (ops : ℕ) → HaveRoomForOps tables.old (ops + 1) → HaveRoomForOps tables.new ops }
     ensures place { SamePlace tlsf.old.memory tlsf.new.memory }
 {
     let Some(old) = payload_of(tlsf, tables, name) else {
@@ -116,7 +116,7 @@ pub(crate) fn realloc_no_move<
     size: usize,
 ) -> Answer
     requires { (s : RunState) × IsAt FLLEN SLLEN tlsf.old tables.now s }
-    ensures does { (s : RunState) → IsAt FLLEN SLLEN tlsf.old tables.now s → LeadsOn FLLEN SLLEN tlsf.old s (ReallocNoMove name size) result tlsf.new tables.now }
+    ensures does { (s : RunState) → IsAt FLLEN SLLEN tlsf.old tables.now s → OpLeadsOn FLLEN SLLEN tlsf.old s (ReallocNoMove name size) result tlsf.new tables.now }
     ensures place { SamePlace tlsf.old.memory tlsf.new.memory }
 {
     let Some(payload) = payload_of(tlsf, tables, name) else {
@@ -141,7 +141,7 @@ pub(crate) fn fill<
     byte: u8,
 ) -> Answer
     requires { (s : RunState) × IsAt FLLEN SLLEN tlsf.old tables.now s }
-    ensures does { (s : RunState) → IsAt FLLEN SLLEN tlsf.old tables.now s → LeadsOn FLLEN SLLEN tlsf.old s (Fill name byte) result tlsf.new tables.now }
+    ensures does { (s : RunState) → IsAt FLLEN SLLEN tlsf.old tables.now s → OpLeadsOn FLLEN SLLEN tlsf.old s (Fill name byte) result tlsf.new tables.now }
     ensures place { SamePlace tlsf.old.memory tlsf.new.memory }
 {
     let Some(payload) = payload_of(tlsf, tables, name) else {
@@ -166,7 +166,7 @@ pub(crate) fn put<
     byte: u8,
 ) -> Answer
     requires { (s : RunState) × IsAt FLLEN SLLEN tlsf.old tables.now s }
-    ensures does { (s : RunState) → IsAt FLLEN SLLEN tlsf.old tables.now s → LeadsOn FLLEN SLLEN tlsf.old s (Put name offset byte) result tlsf.new tables.now }
+    ensures does { (s : RunState) → IsAt FLLEN SLLEN tlsf.old tables.now s → OpLeadsOn FLLEN SLLEN tlsf.old s (Put name offset byte) result tlsf.new tables.now }
     ensures place { SamePlace tlsf.old.memory tlsf.new.memory }
 {
     let Some(payload) = payload_of(tlsf, tables, name) else {
@@ -193,7 +193,7 @@ pub(crate) fn get<
     offset: usize,
 ) -> Answer
     requires { (s : RunState) × IsAt FLLEN SLLEN tlsf.now tables.now s }
-    ensures { (s : RunState) → IsAt FLLEN SLLEN tlsf.now tables.now s → LeadsOn FLLEN SLLEN tlsf.now s (Get name offset) result tlsf.now tables.now }
+    ensures { (s : RunState) → IsAt FLLEN SLLEN tlsf.now tables.now s → OpLeadsOn FLLEN SLLEN tlsf.now s (Get name offset) result tlsf.now tables.now }
 {
     let Some(payload) = payload_of(tlsf, tables, name) else {
         return Answer::Refused(TraceError::UnknownName);
@@ -212,7 +212,7 @@ pub(crate) fn usable<
     const SLLEN: usize,
 >(tlsf: &Tlsf<FLBitmap, SLBitmap, FLLEN, SLLEN>, tables: &Tables, name: usize) -> Answer
     requires { (s : RunState) × IsAt FLLEN SLLEN tlsf.now tables.now s }
-    ensures { (s : RunState) → IsAt FLLEN SLLEN tlsf.now tables.now s → LeadsOn FLLEN SLLEN tlsf.now s (Usable name) result tlsf.now tables.now }
+    ensures { (s : RunState) → IsAt FLLEN SLLEN tlsf.now tables.now s → OpLeadsOn FLLEN SLLEN tlsf.now s (Usable name) result tlsf.now tables.now }
 {
     match payload_of(tlsf, tables, name) {
         Some(payload) => Answer::Usable(tlsf.allocation_usable_size(payload.addr)),

@@ -8,7 +8,7 @@ ghost use Rattle.rlsf_base.specs.Range.{end_of};
 ghost use Rattle.rlsf_base.specs.Rounding.{round32};
 ghost use Rattle.rlsf_model.specs.Lists.{IsIn};
 ghost use Rattle.rlsf_model.specs.WellFormed.{coverage, itself};
-ghost use Rattle.rlsf_trace_runs.specs.Steps.Pools.{AreApart, AreInRuns, BeginsRun, EndsAt, IsInOrder, IsLastBegun};
+ghost use Rattle.rlsf_trace_runs.specs.Steps.Pools.{ArePoolsApart, AreInRuns, BeginsRun, EndsAt, AreInAddressOrder, IsLastBegun};
 
 use rlsf_base::memory::Range;
 use rlsf_tlsf::GRANULARITY;
@@ -57,10 +57,10 @@ impl Pools {
 
     /// Makes one run of all pools.
     pub(crate) fn sort(&mut self)
-        requires { AreApart self.old.ranges.items }
+        requires { ArePoolsApart self.old.ranges.items }
         ensures ranges { IsPermutation self.old.ranges.items self.new.ranges.items }
         ensures in_runs { AreInRuns self.new.ranges.items self.new.firsts.items }
-        ensures in_order { IsInOrder self.new.ranges.items }
+        ensures in_order { AreInAddressOrder self.new.ranges.items }
     {
         self.firsts.clear();
         sort_from(&mut self.ranges, 0);
@@ -175,7 +175,7 @@ fn last_begun(pools: &Pools, addr: usize) -> Option<usize>
 /// Whether a range overlaps one of the pools: if it does, it overlaps the last one that begins before its end.
 pub(crate) fn overlaps_any(pools: &Pools, range: Range) -> bool
     requires in_runs { AreInRuns pools.now.ranges.items pools.now.firsts.items }
-    requires apart { AreApart pools.now.ranges.items }
+    requires apart { ArePoolsApart pools.now.ranges.items }
     requires addressable { (end_of range < 2 ^ 64) × ((p : Range) → IsIn p pools.now.ranges.items → end_of p < 2 ^ 64) }
     ensures { IsTrue result ↔ ((a : ℕ) × ((range.start ≤ a) × (a < end_of range)) × (0 < coverage itself pools.now.ranges.items a)) }
 {
@@ -188,7 +188,7 @@ pub(crate) fn overlaps_any(pools: &Pools, range: Range) -> bool
 /// The place of the pool that ends at an address, if one does: that is the last one that begins before the address.
 pub(crate) fn ending_at(pools: &Pools, addr: usize) -> Option<usize>
     requires in_runs { AreInRuns pools.now.ranges.items pools.now.firsts.items }
-    requires apart { AreApart pools.now.ranges.items }
+    requires apart { ArePoolsApart pools.now.ranges.items }
     requires addressable { (p : Range) → IsIn p pools.now.ranges.items → end_of p < 2 ^ 64 }
     ensures found { IfSome result (λ place. EndsAt pools.now.ranges.items place addr) }
     ensures none { IfNone result ((p : Range) → IsIn p pools.now.ranges.items → end_of p ≢ addr) }
@@ -207,7 +207,7 @@ pub(crate) fn ending_at(pools: &Pools, addr: usize) -> Option<usize>
 /// Whether a pool begins at the range's start rounded up to 32, and ends where the range does.
 pub(crate) fn is_pool(pools: &Pools, range: Range) -> bool
     requires in_runs { AreInRuns pools.now.ranges.items pools.now.firsts.items }
-    requires apart { AreApart pools.now.ranges.items }
+    requires apart { ArePoolsApart pools.now.ranges.items }
     requires addressable { (end_of range < 2 ^ 64) × ((p : Range) → IsIn p pools.now.ranges.items → end_of p < 2 ^ 64) }
     ensures { IsTrue result ↔ ((p : Range) × IsIn p pools.now.ranges.items × (p.start ≡ round32 range.start) × (end_of p ≡ end_of range)) }
 {

@@ -13,8 +13,8 @@ ghost use Rattle.rlsf_trace_text.specs.declared.op.Op.TheVariants.{Insert, Appen
 ghost use Rattle.rlsf_trace_runs.specs.Events.{RunsByEvents};
 ghost use Rattle.rlsf_trace_runs.specs.Runs.{RunState};
 ghost use Rattle.rlsf_trace_runs.specs.Whole.{RunsTo};
-ghost use Rattle.rlsf_trace_runs.specs.Steps.Pools.{AreApart, AreInRuns};
-ghost use Rattle.rlsf_trace_runs.specs.Steps.Tables.{HasRoom, IsAt, LeadsOn};
+ghost use Rattle.rlsf_trace_runs.specs.Steps.Pools.{ArePoolsApart, AreInRuns};
+ghost use Rattle.rlsf_trace_runs.specs.Steps.Tables.{HaveRoomForOps, IsAt, OpLeadsOn};
 
 use crate::names::Payload;
 use crate::payloads::{fill, free, free_unknown, get, put, realloc, realloc_no_move, usable};
@@ -54,7 +54,7 @@ pub(crate) fn lies_in(memory: &Memory, range: Range) -> bool
 // Whether the range lies in the memory, and overlaps no pool.
 fn is_vacant(memory: &Memory, pools: &Pools, range: Range) -> bool
     requires in_runs { AreInRuns pools.now.ranges.items pools.now.firsts.items }
-    requires apart { AreApart pools.now.ranges.items }
+    requires apart { ArePoolsApart pools.now.ranges.items }
     requires inside { (p : Range) → IsIn p pools.now.ranges.items → LiesIn p memory.now.start (length memory.now.bytes) }
     requires addressable { end_of (range_of memory.now) < 2 ^ 64 }
     ensures { IsTrue result ↔ IsVacant (range_of memory.now) pools.now.ranges.items range }
@@ -71,7 +71,7 @@ fn may_insert<FLBitmap: BitPattern, SLBitmap: BitPattern, const FLLEN: usize, co
     requires { (s : RunState) × IsAt FLLEN SLLEN tlsf.now tables.now s }
     ensures vacant { IsTrue result ↔ IsVacant (range_of tlsf.now.memory) tables.now.pools.ranges.items range }
     ensures in_runs { AreInRuns tables.now.pools.ranges.items tables.now.pools.firsts.items }
-    ensures apart { AreApart tables.now.pools.ranges.items }
+    ensures apart { ArePoolsApart tables.now.pools.ranges.items }
     ensures addressable { (p : Range) → IsIn p tables.now.pools.ranges.items → end_of p < 2 ^ 64 }
 {
     is_vacant(tlsf.memory_ref(), &tables.pools, range)
@@ -84,9 +84,9 @@ pub fn step<FLBitmap: BitPattern, SLBitmap: BitPattern, const FLLEN: usize, cons
     op: Op,
 ) -> Answer
     requires state { (s : RunState) × IsAt FLLEN SLLEN tlsf.old tables.old s }
-    requires room { HasRoom tables.old 1 }
-    ensures does { (s : RunState) → IsAt FLLEN SLLEN tlsf.old tables.old s → LeadsOn FLLEN SLLEN tlsf.old s op result tlsf.new tables.new }
-    ensures room { (ops : ℕ) → HasRoom tables.old (ops + 1) → HasRoom tables.new ops }
+    requires room { HaveRoomForOps tables.old 1 }
+    ensures does { (s : RunState) → IsAt FLLEN SLLEN tlsf.old tables.old s → OpLeadsOn FLLEN SLLEN tlsf.old s op result tlsf.new tables.new }
+    ensures room { (ops : ℕ) → HaveRoomForOps tables.old (ops + 1) → HaveRoomForOps tables.new ops }
     ensures place { SamePlace tlsf.old.memory tlsf.new.memory }
 {
     match op {
@@ -113,9 +113,9 @@ fn insert<FLBitmap: BitPattern, SLBitmap: BitPattern, const FLLEN: usize, const 
     range: Range,
 ) -> Answer
     requires state { (s : RunState) × IsAt FLLEN SLLEN tlsf.old tables.old s }
-    requires room { HasRoom tables.old 1 }
-    ensures does { (s : RunState) → IsAt FLLEN SLLEN tlsf.old tables.old s → LeadsOn FLLEN SLLEN tlsf.old s (Insert range) result tlsf.new tables.new }
-    ensures room { (ops : ℕ) → HasRoom tables.old (ops + 1) → HasRoom tables.new ops }
+    requires room { HaveRoomForOps tables.old 1 }
+    ensures does { (s : RunState) → IsAt FLLEN SLLEN tlsf.old tables.old s → OpLeadsOn FLLEN SLLEN tlsf.old s (Insert range) result tlsf.new tables.new }
+    ensures room { (ops : ℕ) → HaveRoomForOps tables.old (ops + 1) → HaveRoomForOps tables.new ops }
     ensures place { SamePlace tlsf.old.memory tlsf.new.memory }
 {
     if !may_insert(tlsf, tables, range) {
@@ -147,8 +147,8 @@ fn append<FLBitmap: BitPattern, SLBitmap: BitPattern, const FLLEN: usize, const 
     range: Range,
 ) -> Answer
     requires { (s : RunState) × IsAt FLLEN SLLEN tlsf.old tables.old s }
-    ensures does { (s : RunState) → IsAt FLLEN SLLEN tlsf.old tables.old s → LeadsOn FLLEN SLLEN tlsf.old s (Append range) result tlsf.new tables.new }
-    ensures room { (ops : ℕ) → HasRoom tables.old (ops + 1) → HasRoom tables.new ops }
+    ensures does { (s : RunState) → IsAt FLLEN SLLEN tlsf.old tables.old s → OpLeadsOn FLLEN SLLEN tlsf.old s (Append range) result tlsf.new tables.new }
+    ensures room { (ops : ℕ) → HaveRoomForOps tables.old (ops + 1) → HaveRoomForOps tables.new ops }
     ensures place { SamePlace tlsf.old.memory tlsf.new.memory }
 {
     if !may_insert(tlsf, tables, range) {
@@ -170,9 +170,9 @@ fn alloc<FLBitmap: BitPattern, SLBitmap: BitPattern, const FLLEN: usize, const S
     layout: Layout,
 ) -> Answer
     requires state { (s : RunState) × IsAt FLLEN SLLEN tlsf.old tables.old s }
-    requires room { HasRoom tables.old 1 }
-    ensures does { (s : RunState) → IsAt FLLEN SLLEN tlsf.old tables.old s → LeadsOn FLLEN SLLEN tlsf.old s (Alloc name layout) result tlsf.new tables.new }
-    ensures room { (ops : ℕ) → HasRoom tables.old (ops + 1) → HasRoom tables.new ops }
+    requires room { HaveRoomForOps tables.old 1 }
+    ensures does { (s : RunState) → IsAt FLLEN SLLEN tlsf.old tables.old s → OpLeadsOn FLLEN SLLEN tlsf.old s (Alloc name layout) result tlsf.new tables.new }
+    ensures room { (ops : ℕ) → HaveRoomForOps tables.old (ops + 1) → HaveRoomForOps tables.new ops }
     ensures place { SamePlace tlsf.old.memory tlsf.new.memory }
 {
     if tables.names.contains_key(&name) {

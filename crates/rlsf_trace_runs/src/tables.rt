@@ -5,8 +5,8 @@ ghost use Rattle.std.specs.HashMap.{get, IsEmpty};
 ghost use Rattle.rlsf_base.specs.declared.memory.range.Range.{Range};
 ghost use Rattle.rlsf_base.specs.Range.{end_of};
 ghost use Rattle.rlsf_trace_runs.specs.Runs.{longer_pool};
-ghost use Rattle.rlsf_trace_runs.specs.Steps.Pools.{AreApart, AreInRuns, IsInOrder};
-ghost use Rattle.rlsf_trace_runs.specs.Steps.Tables.{HasRoom};
+ghost use Rattle.rlsf_trace_runs.specs.Steps.Pools.{ArePoolsApart, AreInRuns, AreInAddressOrder};
+ghost use Rattle.rlsf_trace_runs.specs.Steps.Tables.{HaveRoomForOps};
 
 use crate::names::Payload;
 use crate::pools::Pools;
@@ -27,7 +27,7 @@ impl Tables {
     /// Empty tables with room for so many ops, or an error if the system is out of memory.
     pub fn with_room(alloc: Global, ops: usize) -> Result<Tables, AllocError>
         ensures empty { IfOk result (λ tables. IsEmpty tables.names × (tables.pools.ranges.items ≡ []) × (tables.pools.firsts.items ≡ [])) }
-        ensures room { IfOk result (λ tables. HasRoom tables ops) }
+        ensures room { IfOk result (λ tables. HaveRoomForOps tables ops) }
     {
         let names = HashMap::with_capacity(alloc, ops)?;
         let pools = Pools::with_room(alloc, ops)?;
@@ -38,7 +38,7 @@ impl Tables {
     pub fn make_room(&mut self) -> Result<(), AllocError>
         ensures names { (name : ℕ) → get nat_eq self.new.names name ≡ get nat_eq self.old.names name }
         ensures pools { (self.new.pools.ranges.items ≡ self.old.pools.ranges.items) × (self.new.pools.firsts.items ≡ self.old.pools.firsts.items) }
-        ensures room { OnOk result (HasRoom self.new 1) }
+        ensures room { OnOk result (HaveRoomForOps self.new 1) }
     {
         self.names.try_reserve(1)?;
         self.pools.ranges.try_reserve(1)
@@ -46,10 +46,10 @@ impl Tables {
 
     /// Puts the pools in the order of their addresses.
     pub fn sort_pools(&mut self)
-        requires { AreApart self.old.pools.ranges.items }
+        requires { ArePoolsApart self.old.pools.ranges.items }
         ensures pools { IsPermutation self.old.pools.ranges.items self.new.pools.ranges.items }
         ensures in_runs { AreInRuns self.new.pools.ranges.items self.new.pools.firsts.items }
-        ensures in_order { IsInOrder self.new.pools.ranges.items }
+        ensures in_order { AreInAddressOrder self.new.pools.ranges.items }
         ensures names { self.new.names ≡ self.old.names }
     {
         self.pools.sort();
@@ -57,12 +57,12 @@ impl Tables {
 
     /// Adds a pool. There is room for it.
     pub(crate) fn add_pool(&mut self, pool: Range)
-        requires room { HasRoom self.old 1 }
+        requires room { HaveRoomForOps self.old 1 }
         requires in_runs { AreInRuns self.old.pools.ranges.items self.old.pools.firsts.items }
         ensures pools { IsPermutation (pool ∷ self.old.pools.ranges.items) self.new.pools.ranges.items }
         ensures in_runs { AreInRuns self.new.pools.ranges.items self.new.pools.firsts.items }
         ensures names { self.new.names ≡ self.old.names }
-        ensures room { (ops : ℕ) → HasRoom self.old (ops + 1) → HasRoom self.new ops }
+        ensures room { (ops : ℕ) → HaveRoomForOps self.old (ops + 1) → HaveRoomForOps self.new ops }
     {
         self.pools.add(pool);
     }
@@ -74,7 +74,7 @@ impl Tables {
             ≡ slice_set self.old.pools.ranges.items place (longer_pool more (slice_index_or self.old.pools.ranges.items place d)) }
         ensures firsts { self.new.pools.firsts.items ≡ self.old.pools.firsts.items }
         ensures names { self.new.names ≡ self.old.names }
-        ensures room { (ops : ℕ) → HasRoom self.old (ops + 1) → HasRoom self.new ops }
+        ensures room { (ops : ℕ) → HaveRoomForOps self.old (ops + 1) → HaveRoomForOps self.new ops }
     {
         let pool = &mut self.pools.ranges[place];
         pool.len += more;
@@ -82,10 +82,10 @@ impl Tables {
 
     /// Names a payload. There is room for it; a payload that had the name has it no more.
     pub(crate) fn add_name(&mut self, name: usize, payload: Payload)
-        requires { HasRoom self.old 1 }
+        requires { HaveRoomForOps self.old 1 }
         ensures names { (other : ℕ) → get nat_eq self.new.names other ≡ (if nat_eq name other then Some payload else get nat_eq self.old.names other) }
         ensures pools { self.new.pools ≡ self.old.pools }
-        ensures room { (ops : ℕ) → HasRoom self.old (ops + 1) → HasRoom self.new ops }
+        ensures room { (ops : ℕ) → HaveRoomForOps self.old (ops + 1) → HaveRoomForOps self.new ops }
     {
         let _ = self.names.insert(name, payload);
     }
@@ -95,7 +95,7 @@ impl Tables {
         ensures value { result ≡ get nat_eq self.old.names name }
         ensures names { (other : ℕ) → get nat_eq self.new.names other ≡ (if nat_eq name other then None else get nat_eq self.old.names other) }
         ensures pools { self.new.pools ≡ self.old.pools }
-        ensures room { (ops : ℕ) → HasRoom self.old (ops + 1) → HasRoom self.new ops }
+        ensures room { (ops : ℕ) → HaveRoomForOps self.old (ops + 1) → HaveRoomForOps self.new ops }
     {
         self.names.remove(&name)
     }

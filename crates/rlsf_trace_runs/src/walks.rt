@@ -6,8 +6,8 @@ ghost use Rattle.rlsf_base.specs.Space.{range_of};
 ghost use Rattle.rlsf_model.specs.Lists.{IsIn};
 ghost use Rattle.rlsf_trace_text.specs.declared.op.Op.TheVariants.{Block};
 ghost use Rattle.rlsf_trace_runs.specs.Runs.{MayWalk, RunState};
-ghost use Rattle.rlsf_trace_runs.specs.Steps.Pools.{AreApart, AreInRuns};
-ghost use Rattle.rlsf_trace_runs.specs.Steps.Tables.{IsAt, LeadsOn};
+ghost use Rattle.rlsf_trace_runs.specs.Steps.Pools.{ArePoolsApart, AreInRuns};
+ghost use Rattle.rlsf_trace_runs.specs.Steps.Tables.{IsAt, OpLeadsOn};
 
 use crate::pools::{Pools, is_pool};
 use crate::runs::lies_in;
@@ -20,7 +20,7 @@ use rlsf_trace_text::{Answer, TraceError};
 // Whether the range lies in the memory and is a pool's, but for what its start is rounded up by.
 fn may_walk(memory: &Memory, pools: &Pools, range: Range) -> bool
     requires in_runs { AreInRuns pools.now.ranges.items pools.now.firsts.items }
-    requires apart { AreApart pools.now.ranges.items }
+    requires apart { ArePoolsApart pools.now.ranges.items }
     requires inside { (p : Range) → IsIn p pools.now.ranges.items → LiesIn p memory.now.start (length memory.now.bytes) }
     requires addressable { end_of (range_of memory.now) < 2 ^ 64 }
     ensures { IsTrue result ↔ MayWalk (range_of memory.now) pools.now.ranges.items range }
@@ -42,7 +42,7 @@ pub(crate) fn block<
     index: usize,
 ) -> Answer
     requires { (s : RunState) × IsAt FLLEN SLLEN tlsf.now tables.now s }
-    ensures { (s : RunState) → IsAt FLLEN SLLEN tlsf.now tables.now s → LeadsOn FLLEN SLLEN tlsf.now s (Block range index) result tlsf.now tables.now }
+    ensures { (s : RunState) → IsAt FLLEN SLLEN tlsf.now tables.now s → OpLeadsOn FLLEN SLLEN tlsf.now s (Block range index) result tlsf.now tables.now }
 {
     if !may_walk(tlsf.memory_ref(), &tables.pools, range) {
         return Answer::Refused(TraceError::BadRange);

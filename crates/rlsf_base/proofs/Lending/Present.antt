@@ -3,11 +3,11 @@ use Rattle.std.proofs.Common.{◌≡◌, ℕ, ◌+◌, ◌-◌, ◌≤◌, ap, �
 use Rattle.rlsf_base.specs.declared.memory.range.Range.{Range}
 use Rattle.rlsf_base.specs.Range.{end_of}
 use Rattle.rlsf_base.specs.Out.{Change, is_own, kept_at}
-use Rattle.rlsf_base.specs.Changes.{IsIn, IsOwn}
+use Rattle.rlsf_base.specs.Changes.{AreBytesHere, IsOwn}
 use Rattle.rlsf_base.specs.Space.{Space, out_at, word_range}
 use Rattle.rlsf_base.specs.OpenSpace.{IsHere, IsOwned, SameOwn}
 
-pub here-in : (out : List Change) (m : Space) (r : Range) (i : ℕ) → out ≡ m.out → m.start ≤ r.start → i ≡ r.start - m.start → IsHere m r → IsIn out i r.len
+pub here-in : (out : List Change) (m : Space) (r : Range) (i : ℕ) → out ≡ m.out → m.start ≤ r.start → i ≡ r.start - m.start → IsHere m r → AreBytesHere out i r.len
 here-in out m r i same inside place here k lo hi =
     let a = k + m.start in let back : k ≡ a - m.start = omega arith in
     ap (λ (u : List Change). kept_at u k) same ∙ ap (λ (j : ℕ). kept_at m.out j) back ∙ here a (omega (arith, place, lo)) (omega (arith, place, hi, inside))

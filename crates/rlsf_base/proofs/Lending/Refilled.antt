@@ -3,7 +3,7 @@ use Rattle.std.proofs.Common.{◌≡◌, ℕ, List, ◌++◌, length, take, drop
 use Rattle.std.proofs.Math.Seq.{take-append_seam, take-length}
 use Rattle.std.specs.List.{refill}
 use Rattle.rlsf_base.specs.Lends.{refilled}
-use Rattle.rlsf_base.specs.Changes.{IsIn}
+use Rattle.rlsf_base.specs.Changes.{AreBytesHere}
 use Rattle.rlsf_base.specs.Out.{Change}
 use Rattle.rlsf_base.proofs.Words.Splices.{length-splice, splice-inside}
 
@@ -20,5 +20,5 @@ module _ (old w : List ℕ) where
       ∙ splice-inside old (refill (length old) old w) 0 (length old) (omega arith) whole
       ∙ ap (λ n. take n (w ++ drop (length w) old)) (sym long) ∙ take-append_seam w (drop (length w) old)
 
-  pub refilled-here : (cs : List Change) → IsIn cs 0 (length old) → IsIn cs 0 (length (refilled old 0 (length old) w))
+  pub refilled-here : (cs : List Change) → AreBytesHere cs 0 (length old) → AreBytesHere cs 0 (length (refilled old 0 (length old) w))
   refilled-here cs here k lo hi = here k lo (omega (arith, hi, refilled-long))

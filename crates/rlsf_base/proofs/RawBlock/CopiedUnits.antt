@@ -3,15 +3,15 @@ use Rattle.std.proofs.Common.{◌≡◌, ℕ, ◌+◌, ◌-◌, ◌≤◌, ◌�
 use Rattle.std.specs.List.{splice}
 use Rattle.rlsf_base.specs.declared.memory.block.Bytes.{Bytes}
 use Rattle.rlsf_base.specs.Out.{is_own, kept_at}
-use Rattle.rlsf_base.specs.Changes.{IsIn, IsOwn, came_back}
+use Rattle.rlsf_base.specs.Changes.{AreBytesHere, IsOwn, came_back}
 use Rattle.rlsf_base.specs.Steps.Fronts.{HasCopied}
-use Rattle.rlsf_base.specs.Steps.Owners.{Becomes, Has, HasHere, HasOwn, bytes_in, out_with, with_bytes}
+use Rattle.rlsf_base.specs.Steps.Owners.{Becomes, Has, HasHere, HasOwn, values_in, changes_with, values_with}
 use Rattle.rlsf_base.proofs.Changes.{back-then, here-back}
 use Rattle.rlsf_base.proofs.RawBlock.Copies.{copied-more}
 use Rattle.rlsf_base.proofs.RawBlock.Fills.{own-written}
 use Rattle.rlsf_base.proofs.Words.Splices.{length-part, length-splice}
 
-module _ (d : Bytes) (from to len : ℕ) (first : Has d from len) (second : Has d to len) (here : IsIn d.out (from - d.skip) len) (own : IsOwn d.out (to - d.skip) len)
+module _ (d : Bytes) (from to len : ℕ) (first : Has d from len) (second : Has d to len) (here : AreBytesHere d.out (from - d.skip) len) (own : IsOwn d.out (to - d.skip) len)
     (b : Bytes) (i : ℕ) (room : i + 16 ≤ len) (so_far : HasCopied d b from to i) where
   long : length b.bytes ≡ length d.bytes
   long =
@@ -37,7 +37,7 @@ module _ (d : Bytes) (from to len : ℕ) (first : Has d from len) (second : Has 
 
   -- once it is, the copy has come as far as there
   pub one_further : (n : Bytes) → (from + len ≤ to) ⊎ (to ≤ from)
-      → Becomes b n (with_bytes b (to + i) 16 (bytes_in b (from + i) 16)) (out_with b (to + i) 16) → HasCopied d n from to (i + 16)
+      → Becomes b n (values_with b (to + i) 16 (values_in b (from + i) 16)) (changes_with b (to + i) 16) → HasCopied d n from to (i + 16)
   one_further n order e =
       let at = to - d.skip in let start = from - d.skip in
       let there : to + i - b.skip ≡ at + i = omega (arith, so_far.0.1, second) in

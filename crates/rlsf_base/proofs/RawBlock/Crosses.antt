@@ -16,7 +16,7 @@ use denote.Param.Send.{IsSend, IsSync, Common, AllSend, part_keyless, owning_sen
 use Rattle.core.specs.declared.alloc.Allocator.{Ghosts}
 use Rattle.std_alloc.proofs.SendSync.{FreesAnywhere, quiet}
 use Rattle.rlsf_base.specs.Out.{Change, Kept, here, raw, out, kept_at}
-use Rattle.rlsf_base.specs.Steps.Ownership.{units_ty, byte_in, held, byte_shown, shown, way_if, ways_of, begins_in, own_unit, bytes_own, bytes_lent, deed_owns, units_own}
+use Rattle.rlsf_base.specs.Steps.Ownership.{units_ty, byte_in, held, byte_shown, bytes_shown, way_if, ways_of, begins_in, own_unit, bytes_own, bytes_lent, deed_owns, units_own}
 use Rattle.rlsf_base.specs.contracts.memory.block.Bytes as Bytes
 use Rattle.rlsf_base.specs.contracts.memory.block.Deed as Deed
 use Rattle.rlsf_base.specs.contracts.memory.block.Units as Units
@@ -42,9 +42,9 @@ byte-Common here x b o κ = u8_sync.shared x b o κ
 byte-Common raw x b o κ = tt
 byte-Common out x b o κ = tt
 
-shown-Common : (is : ℕ → Kept) (k : ℕ) (b o : ℕ) (bs : List ℕ) → Common (shown is k bs b o)
-shown-Common is k b o [] κ = tt
-shown-Common is k b o (x ∷ xs) κ = (byte-Common (is k) x b o κ, shown-Common is (suc k) b (o + 1) xs κ)
+bytes_shown-Common : (is : ℕ → Kept) (k : ℕ) (b o : ℕ) (bs : List ℕ) → Common (bytes_shown is k bs b o)
+bytes_shown-Common is k b o [] κ = tt
+bytes_shown-Common is k b o (x ∷ xs) κ = (byte-Common (is k) x b o κ, bytes_shown-Common is (suc k) b (o + 1) xs κ)
 
 way-Keyless : (t : Bool) (b o : ℕ) → Keyless (way_if t b o)
 way-Keyless true b o = (tt, tt)
@@ -59,7 +59,7 @@ bytes-Keyless (block_ptr b o) skip bs cs units = (tt, (held-Keyless (kept_at cs)
 bytes-Keyless null_ptr skip bs cs units = tt
 
 bytes_lent-Common : (p : Ptr) (skip : ℕ) (bs : List ℕ) (cs : List Change) → Common (bytes_lent p skip bs cs)
-bytes_lent-Common (block_ptr b o) skip bs cs κ = (tt, shown-Common (kept_at cs) 0 b (skip + o) bs κ)
+bytes_lent-Common (block_ptr b o) skip bs cs κ = (tt, bytes_shown-Common (kept_at cs) 0 b (skip + o) bs κ)
 bytes_lent-Common null_ptr skip bs cs κ = tt
 
 pub Bytes-send : IsSend Bytes.the_row

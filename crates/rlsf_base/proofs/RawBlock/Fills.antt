@@ -8,7 +8,7 @@ use Rattle.std.proofs.lemmas.Slice.{drop-append-drop}
 use Rattle.std.proofs.lemmas.Grind.{common_steps}
 use Rattle.std.specs.List.{splice}
 use Rattle.rlsf_base.specs.Out.{Change, raw, is_own}
-use Rattle.rlsf_base.specs.Changes.{IsIn, IsOwn, IsAllOwn, came_back, came_raw}
+use Rattle.rlsf_base.specs.Changes.{AreBytesHere, IsOwn, IsAllOwn, came_back, came_raw}
 use Rattle.rlsf_base.proofs.Changes.{changed-there, changed-before, changed-behind, back-there, back-before, back-behind, none-out}
 
 pub all_own : (cs : List Change) (i n : ℕ) → IsAllOwn cs → IsAllOwn (came_raw i n cs)
@@ -44,7 +44,7 @@ filled-from old from i value behind in_row =
     ∙ (λ k. take_at (front ++ now) (drop i old) i long k ++ (value ∷ drop-append-drop i old (front ++ now) (i + 1) (omega arith) long k))
     ∙ append_assoc front now (value ∷ rest) ∙ (λ k. front ++ sym (append_assoc now (value ∷ []) rest) k) ∙ (λ k. front ++ (next k ++ rest))
 
-pub grows : (cs : List Change) (i : ℕ) → IsIn cs 0 i → IsIn (came_back i 1 cs) 0 (i + 1)
+pub grows : (cs : List Change) (i : ℕ) → AreBytesHere cs 0 i → AreBytesHere (came_back i 1 cs) 0 (i + 1)
 grows cs i was k lo hi = elim (cases_lt k i) [
   | inl before ↦ back-before cs i 1 k before ∙ was k lo (omega (arith, before))
   | inr behind ↦ back-there cs i 1 k behind (omega (arith, hi))
@@ -63,7 +63,7 @@ pub one_more : (old new : List ℕ) (i : ℕ) → i < length new → length old 
     → splice (take i new ++ drop i old) i (i + 1) (slice_index new i ∷ []) ≡ take (i + 1) new ++ drop (i + 1) old
 one_more old new i in_row long = grind (arith, common_steps)
 
-pub grows-by : (cs : List Change) (i n : ℕ) → IsIn cs 0 i → IsIn (came_back i n cs) 0 (i + n)
+pub grows-by : (cs : List Change) (i n : ℕ) → AreBytesHere cs 0 i → AreBytesHere (came_back i n cs) 0 (i + n)
 grows-by cs i n was k lo hi = elim (cases_lt k i) [
   | inl before ↦ back-before cs i n k before ∙ was k lo (omega (arith, before))
   | inr behind ↦ back-there cs i n k behind (omega (arith, hi))

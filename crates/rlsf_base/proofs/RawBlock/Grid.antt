@@ -10,7 +10,7 @@ use types.Logic.{Logic, sem}
 use types.Kit.{‵, ◌⊛◌, ◌$◌, ◌∵◌, !, qed, by, move, drop as skip', use0, use1, use2, split, fsplit, fjoin, rewrite, done}
 use denote.Steps.{nothing}
 use Rattle.rlsf_base.specs.Out.{Change, kept_at}
-use Rattle.rlsf_base.specs.Changes.{IsOwn, IsOut, left, came_raw}
+use Rattle.rlsf_base.specs.Changes.{IsOwn, AreBytesOut, left, came_raw}
 use Rattle.rlsf_base.specs.Steps.Ownership.{bytes_ty, units_ty, held, ways_of, own_unit}
 use Rattle.rlsf_base.proofs.RawBlock.Rows.{Around, room_out, goes, comes_raw, clash}
 use Rattle.rlsf_base.proofs.Changes.{in_run-yes, in_run-before, in_run-behind, raw-own}
@@ -101,7 +101,7 @@ module _ {M : Type 1} {𝓤 : Ura M} (𝓛 : Logic 𝓤) (b : ℕ) where
           (0 ∷ 2 ∷ 1 ∷ []) $ done !
 
       -- and comes back, where it was out: it is raw
-      pub puts_units : IsOut cs i (n * 16)
+      pub puts_units : AreBytesOut cs i (n * 16)
           → ent 𝓤 (sep 𝓤 (𝓛.H.room (units_ty n) b (j * 16 + o))
           (sep 𝓤 (sem 𝓛 (held (kept_at cs) 0 xs b (skip + o))) (sem 𝓛 (ways_of (own_unit cs skip (length xs)) 0 N b o))))
           (sep 𝓤 (sem 𝓛 (held (kept_at (came_raw i (n * 16) cs)) 0 xs b (skip + o))) (sem 𝓛 (ways_of (own_unit (came_raw i (n * 16) cs) skip (length xs)) 0 N b o)))
@@ -120,7 +120,7 @@ module _ {M : Type 1} {𝓤 : Ura M} (𝓛 : Logic 𝓤) (b : ℕ) where
 
       -- units that are owned beside the bytes are out
       pub clash_units : Model 𝓤 𝓛.H
-          → ent 𝓤 (sep 𝓤 (𝓛.H.room (units_ty n) b (j * 16 + o)) (sem 𝓛 (held (kept_at cs) 0 xs b (skip + o)))) (fact 𝓤 (IsOut cs i (n * 16)))
+          → ent 𝓤 (sep 𝓤 (𝓛.H.room (units_ty n) b (j * 16 + o)) (sem 𝓛 (held (kept_at cs) 0 xs b (skip + o)))) (fact 𝓤 (AreBytesOut cs i (n * 16)))
       clash_units 𝓜 = qed 𝓛 (‵ (froom (units_ty n) b (j * 16 + o)) ∷ ‵ (held (kept_at cs) 0 xs b (skip + o)) ∷ []) ∵
           use1 𝓛 (‵ (froom (bytes_ty (n * 16)) b (j * 16 + o)) ⊛ ‵ (ways n b (j * 16 + o))) (opened 𝓛 b n (j * 16 + o)) $ split ! $ move ! (1 ∷ []) $ skip' ! $
           rewrite ! 0 (λ (k : ℕ). ‵ (froom (bytes_ty (n * 16)) b k)) (sym there) refl $ by ! (clash 𝓛 b 𝓜 cs (skip + o) xs i (n * 16) inside)

@@ -14,7 +14,7 @@ use denote.Steps.{peeks}
 use Rattle.rlsf_base.specs.OpenSpace.{Home, place_in}
 use Rattle.rlsf_base.specs.Out.{Change, kept_at}
 use Rattle.rlsf_base.specs.Steps.Ownership.{bytes_own, held, own_unit, ways_of}
-use Rattle.rlsf_base.specs.UnitPayload.{IsPlaced, pointer_to}
+use Rattle.rlsf_base.specs.UnitPayload.{IsUnitPointer, pointer_to}
 use Rattle.rlsf_base.specs.declared.memory.view.View.{View}
 use Rattle.rlsf_base.proofs.memory.block.RawParts.TheLaws.{lowers as parts_lowers}
 use Rattle.rlsf_base.specs.contracts.memory.block.Base as base_type
@@ -43,9 +43,9 @@ module _ {M : Type 1} {𝓤 : Ura M} {𝓛 : Logic 𝓤} {K : Type 0} {Γ : List
 
 -- units at a place of a block are placed where the view's pointer points
 pub placed_in_block : (view : View) (home : Home) (b o addr place len asked : ℕ) → view.base.ptr ≡ block_ptr b o → place ≡ place_in view addr → asked ≡ len
-    → IsPlaced home (pointer_to view addr) addr asked → IsPlaced home (block_ptr b (place + o)) addr len
+    → IsUnitPointer home (pointer_to view addr) addr asked → IsUnitPointer home (block_ptr b (place + o)) addr len
 placed_in_block view home b o addr place len asked here placed same is =
     let swapped : place + o ≡ o + place = omega arith in
     let pointed : pointer_to view addr ≡ block_ptr b (place + o) =
     ap (λ (k : ℕ). view.base.ptr +ₚ k) (sym placed) ∙ ap (λ (q : Ptr). q +ₚ place) here ∙ ap (λ (k : ℕ). block_ptr b k) (sym swapped) in
-    subst (λ (u : Ptr × ℕ). IsPlaced home u.0 addr u.1) (λ i. (pointed i, same i)) is
+    subst (λ (u : Ptr × ℕ). IsUnitPointer home u.0 addr u.1) (λ i. (pointed i, same i)) is

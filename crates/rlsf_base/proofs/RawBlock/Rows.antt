@@ -27,8 +27,8 @@ use Rattle.std.proofs.Common.{inl, inr}
 use Rattle.std.proofs.lemmas.Bool.{false≢true}
 use Rattle.std.proofs.Math.Nat.{eq-or-lt_of_le}
 use Rattle.rlsf_base.specs.Out.{Change, Kept, here, raw, out, is_own, kept_at}
-use Rattle.rlsf_base.specs.Changes.{change, IsIn, IsOut, IsOwn, left, came_back, came_raw, shifted}
-use Rattle.rlsf_base.specs.Steps.Ownership.{bytes_ty, byte_in, held, byte_shown, shown}
+use Rattle.rlsf_base.specs.Changes.{change, AreBytesHere, AreBytesOut, IsOwn, left, came_back, came_raw, shifted}
+use Rattle.rlsf_base.specs.Steps.Ownership.{bytes_ty, byte_in, held, byte_shown, bytes_shown}
 use Rattle.rlsf_base.proofs.Changes.{changed-there, changed-before, changed-behind, back-at, shifted-at}
 
 -- what holds at k and from there on holds from k on
@@ -165,7 +165,7 @@ module _ {M : Type 1} {𝓤 : Ura M} (𝓛 : Logic 𝓤) (b : ℕ) where
       λ j. fsep (before j) (behind j)
 
   module _ (cs : List Change) (o : ℕ) (xs : List ℕ) (i n : ℕ) where
-    pub run_out : i + n ≤ length xs → IsIn cs i n
+    pub run_out : i + n ≤ length xs → AreBytesHere cs i n
         → ent 𝓤 (sem 𝓛 (held (kept_at cs) 0 xs b o)) (sep 𝓤 (sem 𝓛 (Row (i + o) (take n (drop i xs)))) (sem 𝓛 (Around (kept_at cs) o xs i n)))
     run_out le inside =
         let run = take n (drop i xs) in
@@ -173,7 +173,7 @@ module _ {M : Type 1} {𝓤 : Ura M} (𝓛 : Logic 𝓤) (b : ℕ) where
         (apart (kept_at cs) o xs i n le) $ split ! $
         rewrite ! 0 (λ (F : Fml). ‵ F) (held-in (kept_at cs) i run (i + o) (λ j lo hi. inside j lo (omega (arith, length-take n (drop i xs))))) refl $ done !
 
-    pub run_in : i + n ≤ length xs → IsIn cs i n → (ws : List ℕ) → n ≡ length ws
+    pub run_in : i + n ≤ length xs → AreBytesHere cs i n → (ws : List ℕ) → n ≡ length ws
         → ent 𝓤 (sep 𝓤 (sem 𝓛 (Row (i + o) ws)) (sem 𝓛 (Around (kept_at cs) o xs i n))) (sem 𝓛 (held (kept_at cs) 0 (take i xs ++ (ws ++ drop (i + n) xs)) b o))
     run_in le inside ws long = qed 𝓛 (‵ (Row (i + o) ws) ∷ ‵ (Around (kept_at cs) o xs i n) ∷ []) ∵
         rewrite ! 0 (λ (F : Fml). ‵ F) (sym (held-in (kept_at cs) i ws (i + o) (λ j lo hi. inside j lo (omega (arith, long))))) refl $
@@ -276,7 +276,7 @@ module _ {M : Type 1} {𝓤 : Ura M} (𝓛 : Logic 𝓤) (b : ℕ) where
         (λ j lo hi. or-first is k j first (λ lo'. others j lo' (omega arith)) lo))))
 
     pub clash : (cs : List Change) (o : ℕ) (xs : List ℕ) (i n : ℕ) → i + n ≤ length xs
-        → ent 𝓤 (sep 𝓤 (𝓛.H.room (bytes_ty n) b (i + o)) (sem 𝓛 (held (kept_at cs) 0 xs b o))) (fact 𝓤 (IsOut cs i n))
+        → ent 𝓤 (sep 𝓤 (𝓛.H.room (bytes_ty n) b (i + o)) (sem 𝓛 (held (kept_at cs) 0 xs b o))) (fact 𝓤 (AreBytesOut cs i n))
     clash cs o xs i n le =
         let run = take n (drop i xs) in let as_many : n ≡ length run = omega (arith, length-take n (drop i xs), length-drop i xs) in
         qed 𝓛 (‵ (froom (bytes_ty n) b (i + o)) ∷ ‵ (held (kept_at cs) 0 xs b o) ∷ []) ∵ move ! (1 ∷ []) $
@@ -284,18 +284,18 @@ module _ {M : Type 1} {𝓤 : Ura M} (𝓛 : Logic 𝓤) (b : ℕ) where
         rewrite ! 1 (λ (k : ℕ). ‵ (froom (bytes_ty k) b (i + o))) as_many refl $
         use2 𝓛 (raw' (fact 𝓤 ((j : ℕ) → i ≤ j → j < i + length run → kept_at cs j ≡ out))) (clash-room (kept_at cs) i run (i + o)) $
         heard ! ((j : ℕ) → i ≤ j → j < i + length run → kept_at cs j ≡ out)
-        (λ was. by ! (fact_i 𝓤 (IsOut cs i n) (emp 𝓤) (λ j lo hi. was j lo (omega (arith, as_many)))))
+        (λ was. by ! (fact_i 𝓤 (AreBytesOut cs i n) (emp 𝓤) (λ j lo hi. was j lo (omega (arith, as_many)))))
 
     -- bytes with values are room
     pub clash_row : (cs : List Change) (o : ℕ) (xs : List ℕ) (i : ℕ) (ws : List ℕ) → i + length ws ≤ length xs
-        → ent 𝓤 (sep 𝓤 (sem 𝓛 (Row (i + o) ws)) (sem 𝓛 (held (kept_at cs) 0 xs b o))) (fact 𝓤 (IsOut cs i (length ws)))
+        → ent 𝓤 (sep 𝓤 (sem 𝓛 (Row (i + o) ws)) (sem 𝓛 (held (kept_at cs) 0 xs b o))) (fact 𝓤 (AreBytesOut cs i (length ws)))
     clash_row cs o xs i ws le =
         qed 𝓛 (‵ (Row (i + o) ws) ∷ ‵ (held (kept_at cs) 0 xs b o) ∷ []) ∵ use1 𝓛 (‵ (froom (bytes_ty (length ws)) b (i + o))) (emptied ws (i + o)) $ by !
         (clash cs o xs i (length ws) le)
 
   module _ (κ : Lft) where
     abbrev Seen : (ℕ → Kept) → ℕ → ℕ → List ℕ → Fml
-    Seen is k o xs = shown is k xs b o κ
+    Seen is k o xs = bytes_shown is k xs b o κ
 
     shown-in : (is : ℕ → Kept) (k : ℕ) (xs : List ℕ) (o : ℕ) → ((j : ℕ) → k ≤ j → j < k + length xs → is j ≡ here)
         → Seen is k o xs ≡ elements_shared u8 xs b o κ
@@ -319,8 +319,8 @@ module _ {M : Type 1} {𝓤 : Ura M} (𝓛 : Logic 𝓤) (b : ℕ) where
         qed 𝓛 (‵ (Seen is k o (x ∷ xs)) ∷ []) ∵ fsplit ! $ move ! (1 ∷ []) $ use1 𝓛 (‵ (Seen is (suc k) (o + 1) (take n xs))) (up_to is xs n (suc k) (o + 1)) $
         move ! (1 ∷ 0 ∷ []) $ fjoin ! $ done !
 
-    pub run_seen : (cs : List Change) (o : ℕ) (xs : List ℕ) (i n : ℕ) → i ≤ length xs → IsIn cs i n
-        → ent 𝓤 (sem 𝓛 (shown (kept_at cs) 0 xs b o κ)) (sem 𝓛 (elements_shared u8 (take n (drop i xs)) b (i + o) κ))
+    pub run_seen : (cs : List Change) (o : ℕ) (xs : List ℕ) (i n : ℕ) → i ≤ length xs → AreBytesHere cs i n
+        → ent 𝓤 (sem 𝓛 (bytes_shown (kept_at cs) 0 xs b o κ)) (sem 𝓛 (elements_shared u8 (take n (drop i xs)) b (i + o) κ))
     run_seen cs o xs i n le inside =
         let is = kept_at cs in let run = take n (drop i xs) in
         qed 𝓛 (‵ (Seen is 0 o xs) ∷ []) ∵ use1 𝓛 (‵ (Seen is i (i + o) (drop i xs))) (from_on is xs i 0 i o (i + o) le (omega arith) refl) $

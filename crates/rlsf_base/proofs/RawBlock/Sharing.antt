@@ -16,7 +16,7 @@ use denote.Struct.Field.{u8-field}
 use denote.Struct.Laws.{u8-laws, u8-copy}
 use denote.Struct.Lending.{Lends, Lends-both, Lends-first, Lends-nothing, Lends-said, Lends-false}
 use Rattle.rlsf_base.specs.Out.{Change, Kept, here, raw, out, kept_at}
-use Rattle.rlsf_base.specs.Steps.Ownership.{byte_in, held, byte_shown, shown, ways_of, own_unit, bytes_own, bytes_lent}
+use Rattle.rlsf_base.specs.Steps.Ownership.{byte_in, held, byte_shown, bytes_shown, ways_of, own_unit, bytes_own, bytes_lent}
 
 u8_laws : Laws u8
 u8_laws = of_field u8-field u8-laws refl (copy_shared u8-field u8-copy)
@@ -26,14 +26,14 @@ byte_laws here x b o = uint_row_laws w8 x b o
 byte_laws raw x b o = nothing_shr_laws
 byte_laws out x b o = nothing_shr_laws
 
-shown_laws : (is : ℕ → Kept) (k : ℕ) (xs : List ℕ) (b o : ℕ) → ShrLaws (shown is k xs b o)
+shown_laws : (is : ℕ → Kept) (k : ℕ) (xs : List ℕ) (b o : ℕ) → ShrLaws (bytes_shown is k xs b o)
 shown_laws is k [] b o = nothing_shr_laws
-shown_laws is k (x ∷ xs) b o = beside_shr_laws (byte_shown (is k) x b o) (shown is (suc k) xs b (o + 1)) (byte_laws (is k) x b o) (shown_laws is (suc k) xs b (o + 1))
+shown_laws is k (x ∷ xs) b o = beside_shr_laws (byte_shown (is k) x b o) (bytes_shown is (suc k) xs b (o + 1)) (byte_laws (is k) x b o) (shown_laws is (suc k) xs b (o + 1))
 
 pub bytes_lent_laws : (p : Ptr) (skip : ℕ) (bs : List ℕ) (cs : List Change) → ShrLaws (bytes_lent p skip bs cs)
 bytes_lent_laws (block_ptr b o) skip bs cs =
     let small : Fml = flt (length bs) (2 ^ 63) in
-    beside_shr_laws (said small) (shown (kept_at cs) 0 bs b (skip + o)) (said_shr_laws small tt) (shown_laws (kept_at cs) 0 bs b (skip + o))
+    beside_shr_laws (said small) (bytes_shown (kept_at cs) 0 bs b (skip + o)) (said_shr_laws small tt) (shown_laws (kept_at cs) 0 bs b (skip + o))
 bytes_lent_laws null_ptr skip bs cs = said_shr_laws ffalse tt
 
 module _ {M : Type 1} {𝓤 : Ura M} (𝓛 : Logic 𝓤) (l : Lft) (inc : Incl l u8.lives) where
@@ -42,10 +42,10 @@ module _ {M : Type 1} {𝓤 : Ura M} (𝓛 : Logic 𝓤) (l : Lft) (inc : Incl l
   Lends-byte raw x b o = Lends-nothing 𝓛 (froom (ty_int w8) b o) l
   Lends-byte out x b o = Lends-nothing 𝓛 ftrue l
 
-  Lends-held : (is : ℕ → Kept) (k b o : ℕ) (bs : List ℕ) → Lends 𝓛 (held is k bs b o) (shown is k bs b o) l
+  Lends-held : (is : ℕ → Kept) (k b o : ℕ) (bs : List ℕ) → Lends 𝓛 (held is k bs b o) (bytes_shown is k bs b o) l
   Lends-held is k b o [] = Lends-nothing 𝓛 ftrue l
   Lends-held is k b o (x ∷ bs) =
-      Lends-both 𝓛 (byte_in (is k) x b o) (held is (suc k) bs b (o + 1)) (byte_shown (is k) x b o) (shown is (suc k) bs b (o + 1)) l
+      Lends-both 𝓛 (byte_in (is k) x b o) (held is (suc k) bs b (o + 1)) (byte_shown (is k) x b o) (bytes_shown is (suc k) bs b (o + 1)) l
       (Lends-byte (is k) x b o) (Lends-held is (suc k) b (o + 1) bs)
 
   -- the ways show nothing
@@ -53,6 +53,6 @@ module _ {M : Type 1} {𝓤 : Ura M} (𝓛 : Logic 𝓤) (l : Lft) (inc : Incl l
   Lends-bytes (block_ptr b o) skip bs cs units =
       let small : Fml = flt (length bs) (2 ^ 63) in let bytes : Fml = held (kept_at cs) 0 bs b (skip + o) in let the_ways : Fml =
       ways_of (own_unit cs skip (length bs)) 0 units b o in
-      Lends-both 𝓛 small (fsep bytes the_ways) (said small) (shown (kept_at cs) 0 bs b (skip + o)) l (Lends-said 𝓛 small tt l)
-      (Lends-first 𝓛 bytes the_ways (shown (kept_at cs) 0 bs b (skip + o)) l (Lends-held (kept_at cs) 0 b (skip + o) bs))
+      Lends-both 𝓛 small (fsep bytes the_ways) (said small) (bytes_shown (kept_at cs) 0 bs b (skip + o)) l (Lends-said 𝓛 small tt l)
+      (Lends-first 𝓛 bytes the_ways (bytes_shown (kept_at cs) 0 bs b (skip + o)) l (Lends-held (kept_at cs) 0 b (skip + o) bs))
   Lends-bytes null_ptr skip bs cs units = Lends-false 𝓛 (said ffalse) l

@@ -16,7 +16,7 @@ use Rattle.std.proofs.Math.Bool.{not}
 use Rattle.std.proofs.Math.Dec.{eqb-suc-zero}
 use Rattle.std.proofs.lemmas.Bool.{cases_lt, eq-eqb}
 use Rattle.rlsf_base.specs.Out.{Change, raw, out, is_own, kept_at}
-use Rattle.rlsf_base.specs.Changes.{IsOut, IsOwn, left, came_back, came_raw}
+use Rattle.rlsf_base.specs.Changes.{AreBytesOut, IsOwn, left, came_back, came_raw}
 use Rattle.rlsf_base.specs.Steps.Ownership.{units_for, units_in, units_from, way_if, ways_of, begins_in, own_unit}
 use Rattle.rlsf_base.proofs.RawBlock.OpenedUnits.{ways}
 use Rattle.rlsf_base.proofs.Changes.{and-false, in_run-yes, in_run-before, in_run-behind, changed-there, changed-before, changed-behind, back-there, back-before, back-behind}
@@ -77,7 +77,7 @@ unit-all cs skip len u own = elim (cases_lt (u * 16) skip) [
 ]
 
 -- where each byte is out, it has none
-pub unit-gone : (cs : List Change) (skip len u : ℕ) → IsOut cs 0 len → own_unit cs skip len u ≡ false
+pub unit-gone : (cs : List Change) (skip len u : ℕ) → AreBytesOut cs 0 len → own_unit cs skip len u ≡ false
 unit-gone cs skip len u gone = elim (cases_lt (u * 16) skip) [
   | inl before ↦ no-and _ _ (in_run-before skip len (u * 16) before)
   | inr behind ↦ elim (cases_lt (u * 16) (skip + len)) [
@@ -104,7 +104,7 @@ unit-written cs skip len i n u own = unit-same cs (came_back i n cs) skip len u 
 ])
 
 -- the changes cs by which a run of n from the place p on is the owner's; ds by which it isn't; and ps, those of the run alone
-pub parted : (cs ds ps : List Change) (skip len p n u : ℕ) → skip ≤ p → p + n ≤ skip + len → IsOwn cs (p - skip) n → IsOut ds (p - skip) n
+pub parted : (cs ds ps : List Change) (skip len p n u : ℕ) → skip ≤ p → p + n ≤ skip + len → IsOwn cs (p - skip) n → AreBytesOut ds (p - skip) n
     → ((k : ℕ) → (k < p - skip) ⊎ (p - skip + n ≤ k) → is_own (kept_at ds k) ≡ is_own (kept_at cs k)) → IsOwn ps 0 n
     → Shares (own_unit cs skip len u) (own_unit ds skip len u) (own_unit ps p n u)
 parted cs ds ps skip len p n u from to own gone same all = let k = u * 16 - skip in elim (cases_lt (u * 16) p) [
@@ -129,7 +129,7 @@ around-raw cs i n k side = elim side [ inl before ↦ ap is_own (sym (changed-be
 pub around-back : (cs : List Change) (i n k : ℕ) → (k < i) ⊎ (i + n ≤ k) → is_own (kept_at cs k) ≡ is_own (kept_at (came_back i n cs) k)
 around-back cs i n k side = elim side [ inl before ↦ ap is_own (sym (back-before cs i n k before)) | inr past ↦ ap is_own (sym (back-behind cs i n k past)) ]
 
-pub left-out : (cs : List Change) (i n : ℕ) → IsOut (left i n cs) i n
+pub left-out : (cs : List Change) (i n : ℕ) → AreBytesOut (left i n cs) i n
 left-out cs i n k lo hi = changed-there out cs i n k lo hi
 
 pub back-own : (cs : List Change) (i n : ℕ) → IsOwn (came_back i n cs) i n

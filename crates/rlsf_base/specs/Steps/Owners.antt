@@ -3,7 +3,7 @@ use Rattle.std.specs.Prelude.{◌≡◌, ℕ, ◌+◌, ◌-◌, ◌≤◌, List,
 use Rattle.std.specs.List.{splice}
 use denote.RawPtr.{Ptr}
 use Rattle.rlsf_base.specs.Out.{Change}
-use Rattle.rlsf_base.specs.Changes.{IsIn, IsOut, IsOwn, left, came_back, came_raw, shifted}
+use Rattle.rlsf_base.specs.Changes.{AreBytesHere, AreBytesOut, IsOwn, left, came_back, came_raw, shifted}
 use Rattle.rlsf_base.specs.declared.memory.block.Bytes.{Bytes}
 use Rattle.rlsf_base.specs.declared.memory.block.Units.{Units}
 
@@ -13,32 +13,32 @@ Has b place len = (b.skip ≤ place) × (place + len ≤ b.skip + length b.bytes
 
 -- it has these bytes, and each is here
 abbrev pub HasHere : Bytes → ℕ → ℕ → Type 0
-HasHere b place len = Has b place len × IsIn b.out (place - b.skip) len
+HasHere b place len = Has b place len × AreBytesHere b.out (place - b.skip) len
 
 -- it has these bytes, and none is out
 abbrev pub HasOwn : Bytes → ℕ → ℕ → Type 0
 HasOwn b place len = Has b place len × IsOwn b.out (place - b.skip) len
 
 -- the values of these bytes
-abbrev pub bytes_in : Bytes → ℕ → ℕ → List ℕ
-bytes_in b place len = take len (drop (place - b.skip) b.bytes)
+abbrev pub values_in : Bytes → ℕ → ℕ → List ℕ
+values_in b place len = take len (drop (place - b.skip) b.bytes)
 
 -- the values of all bytes, with others for the len bytes from a place on
-abbrev pub with_bytes : Bytes → ℕ → ℕ → List ℕ → List ℕ
-with_bytes b place len values = splice b.bytes (place - b.skip) (place - b.skip + len) values
+abbrev pub values_with : Bytes → ℕ → ℕ → List ℕ → List ℕ
+values_with b place len values = splice b.bytes (place - b.skip) (place - b.skip + len) values
 
 -- the changes, once the len bytes from a place on are written, or came back with values
-abbrev pub out_with : Bytes → ℕ → ℕ → List Change
-out_with b place len = came_back (place - b.skip) len b.out
+abbrev pub changes_with : Bytes → ℕ → ℕ → List Change
+changes_with b place len = came_back (place - b.skip) len b.out
 
 -- the owner of bytes with these values and changes, from the place skip of the block at a pointer on, and of the block's units
-abbrev pub Owns : Bytes → Ptr → ℕ → List ℕ → List Change → ℕ → Type 0
-Owns b at skip values out units = (b.at ≡ at) × (b.skip ≡ skip) × (b.bytes ≡ values) × (b.out ≡ out) × (b.units ≡ units)
+abbrev pub OwnsValues : Bytes → Ptr → ℕ → List ℕ → List Change → ℕ → Type 0
+OwnsValues b at skip values out units = (b.at ≡ at) × (b.skip ≡ skip) × (b.bytes ≡ values) × (b.out ≡ out) × (b.units ≡ units)
 
 -- the owner of the len bytes from a place on that left another owner: each keeps its value and its state
 abbrev pub IsPartOf : Bytes → Bytes → ℕ → ℕ → Type 0
 IsPartOf b part place len =
-    Owns part b.at place (bytes_in b place len) (shifted (place - b.skip) b.out) b.units × (part.of ≡ (b.skip, length b.bytes))
+    OwnsValues part b.at place (values_in b place len) (shifted (place - b.skip) b.out) b.units × (part.of ≡ (b.skip, length b.bytes))
 
 -- the count units from the unit first on that left an owner, and which memory they are of
 abbrev pub AreUnitsOf : Bytes → Units → ℕ → ℕ → ℕ × ℕ → Type 0
@@ -59,8 +59,8 @@ GivesOut old new place len = Becomes old new old.bytes (left (place - old.skip) 
 -- bytes that were out come back to a place, with these values
 abbrev pub TakesBack : Bytes → Bytes → ℕ → List ℕ → Type 0
 TakesBack old new place values =
-    IsOut old.out (place - old.skip) (length values) × Becomes old new (with_bytes old place (length values) values) (out_with old place (length values))
+    AreBytesOut old.out (place - old.skip) (length values) × Becomes old new (values_with old place (length values) values) (changes_with old place (length values))
 
 -- len bytes that were out come back to a place, raw
 abbrev pub TakesBackRoom : Bytes → Bytes → ℕ → ℕ → Type 0
-TakesBackRoom old new place len = IsOut old.out (place - old.skip) len × Becomes old new old.bytes (came_raw (place - old.skip) len old.out)
+TakesBackRoom old new place len = AreBytesOut old.out (place - old.skip) len × Becomes old new old.bytes (came_raw (place - old.skip) len old.out)

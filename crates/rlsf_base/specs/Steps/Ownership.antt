@@ -67,12 +67,12 @@ byte_shown here x b o = shared_of u8 x b o
 byte_shown raw x b o = nothing
 byte_shown out x b o = nothing
 
-abbrev pub shown : (ℕ → Kept) → ℕ → List ℕ → ℕ → ℕ → Lft → Fml
-shown is k [] b o = nothing
-shown is k (x ∷ xs) b o = beside (byte_shown (is k) x b o) (shown is (suc k) xs b (o + 1))
+abbrev pub bytes_shown : (ℕ → Kept) → ℕ → List ℕ → ℕ → ℕ → Lft → Fml
+bytes_shown is k [] b o = nothing
+bytes_shown is k (x ∷ xs) b o = beside (byte_shown (is k) x b o) (bytes_shown is (suc k) xs b (o + 1))
 
 abbrev pub bytes_lent : Ptr → ℕ → List ℕ → List Change → Lft → Fml
-bytes_lent (block_ptr b o) skip bs cs = beside (said (flt (length bs) (2 ^ 63))) (shown (kept_at cs) 0 bs b (skip + o))
+bytes_lent (block_ptr b o) skip bs cs = beside (said (flt (length bs) (2 ^ 63))) (bytes_shown (kept_at cs) 0 bs b (skip + o))
 bytes_lent null_ptr skip bs cs = said ffalse
 
 -- the allocator's token for a block of units, and the way back to the units. The way back takes room for the bytes and the ways of
@@ -101,8 +101,8 @@ abbrev pub lent_at : Ptr → ℕ → List ℕ → List Change → Fml
 lent_at p start bs cs = bytes_own p 0 bs cs (units_from start (length bs))
 
 -- the bytes bs at p, whose addresses begin at start; where start is a multiple of 16, with the ways of their units
-abbrev pub bytes_at : Ptr → ℕ → List ℕ → Fml
-bytes_at p start bs = bytes_own p 0 bs [] (units_from start (length bs))
+abbrev pub bytes_at_pointer : Ptr → ℕ → List ℕ → Fml
+bytes_at_pointer p start bs = bytes_own p 0 bs [] (units_from start (length bs))
 
 -- room for n bytes at p, whose addresses begin at start; where start is a multiple of 16, with the ways of their units
 abbrev pub room_at : Ptr → ℕ → ℕ → Fml

@@ -4,8 +4,8 @@ ghost use Rattle.std.specs.Borrow.{sem};
 ghost use base.Fml.{ftrue};
 ghost use denote.RawPtr.{Ptr, null_ptr, ◌+ₚ◌};
 ghost use Rattle.rlsf_base.specs.Out.{Change, kept_at};
-ghost use Rattle.rlsf_base.specs.Changes.{IsIn, IsOwn, came_raw, left};
-ghost use Rattle.rlsf_base.specs.Steps.Ownership.{IsInBlock, bytes_at, bytes_own, bytes_lent, deed_owns, lent_at, room_at, units_for, units_from, units_own};
+ghost use Rattle.rlsf_base.specs.Changes.{AreBytesHere, IsOwn, came_raw, left};
+ghost use Rattle.rlsf_base.specs.Steps.Ownership.{IsInBlock, bytes_at_pointer, bytes_own, bytes_lent, deed_owns, lent_at, room_at, units_for, units_from, units_own};
 
 use std::alloc::Allocator;
 use std::marker::{Model, PhantomData, Send, Sync};
@@ -145,7 +145,7 @@ pub(crate) fn forget<A: Allocator>(bytes: Bytes, deed: Deed<A>)
 /// Returns the owner of the caller's bytes at `block`, which are to have the addresses from `start` on.
 pub(crate) unsafe fn adopt(block: *mut u8, start: usize) -> Bytes
     ghost bytes: { List ℕ }
-    requires* { sem 𝓛 (bytes_at block start bytes) }
+    requires* { sem 𝓛 (bytes_at_pointer block start bytes) }
     ensures { (result.at ≡ block) × (result.skip ≡ 0) × (result.bytes ≡ bytes) × (result.out ≡ []) × (result.units ≡ units_from start (length bytes)) }
 {
     let _ = block;
@@ -195,7 +195,7 @@ impl RawParts {
     /// Each byte must be here.
     pub fn release(self) -> *mut u8
         requires { (self.bytes.at ≡ self.base.ptr) × (self.bytes.skip ≡ 0) × (self.bytes.out ≡ []) × (self.bytes.units ≡ units_from self.start (length self.bytes.bytes)) }
-        ensures* handed { sem 𝓛 (bytes_at result self.start self.bytes.bytes) }
+        ensures* handed { sem 𝓛 (bytes_at_pointer result self.start self.bytes.bytes) }
         ensures block { result ≡ self.base.ptr }
     {
         let RawParts {
@@ -262,7 +262,7 @@ impl<A: Allocator> Deed<A> {
 
 impl Bytes {
     ghost use Rattle.rlsf_base.specs.Steps.LentParts.{lends_part};
-    ghost use Rattle.rlsf_base.specs.Steps.Owners.{Has, HasHere, HasOwn, Owns, IsPartOf, AreUnitsOf, Becomes, GivesOut, TakesBack, TakesBackRoom, bytes_in, out_with, with_bytes};
+    ghost use Rattle.rlsf_base.specs.Steps.Owners.{Has, HasHere, HasOwn, OwnsValues, IsPartOf, AreUnitsOf, Becomes, GivesOut, TakesBack, TakesBackRoom, values_in, changes_with, values_with};
 
     /// Consumes the owner: the bytes are nobody's.
     pub(crate) fn end(self) {
@@ -280,7 +280,7 @@ impl Bytes {
     pub(crate) unsafe fn from_raw() -> Bytes
         ghost of: { Ptr × ℕ × List ℕ × List Change × (ℕ × ℕ) × ℕ }
         requires* { sem 𝓛 (bytes_own of.0 of.1 of.2 of.3 of.5) }
-        ensures { Owns result of.0 of.1 of.2 of.3 of.5 × (result.of ≡ of.4) }
+        ensures { OwnsValues result of.0 of.1 of.2 of.3 of.5 × (result.of ≡ of.4) }
     {
         Bytes { mark: PhantomData }
     }
@@ -289,7 +289,7 @@ impl Bytes {
     /// the units only if the block began there before.
     pub(crate) fn from_first(self, base: Base, skip: usize) -> (Base, Bytes)
         requires { (base.ptr ≡ self.at) × (self.skip ≡ skip) }
-        ensures { (result.0.ptr ≡ base.ptr +ₚ skip) × Owns result.1 result.0.ptr 0 self.bytes self.out (if eqb skip 0 then self.units else 0) }
+        ensures { (result.0.ptr ≡ base.ptr +ₚ skip) × OwnsValues result.1 result.0.ptr 0 self.bytes self.out (if eqb skip 0 then self.units else 0) }
     {
         let Bytes { mark: _ } = self;
         let ptr = unsafe { base.ptr.add(skip) };
@@ -299,7 +299,7 @@ impl Bytes {
     /// Writes the byte at the place `place` of the block. It may not be out, and is then here. No other byte changes.
     pub(crate) fn write(&mut self, base: Base, place: usize, byte: u8)
         requires { (base.ptr ≡ self.old.at) × HasOwn self.old place 1 }
-        ensures { Becomes self.old self.new (with_bytes self.old place 1 (byte ∷ [])) (out_with self.old place 1) }
+        ensures { Becomes self.old self.new (values_with self.old place 1 (byte ∷ [])) (changes_with self.old place 1) }
     {
         unsafe { base.ptr.add(place).write(byte) }
     }
@@ -309,7 +309,7 @@ impl Bytes {
     #[inline(always)]
     pub(crate) fn write_word(&mut self, base: Base, place: usize, word: [u8; 8])
         requires { (base.ptr ≡ self.old.at) × HasOwn self.old place 8 }
-        ensures { Becomes self.old self.new (with_bytes self.old place 8 word) (out_with self.old place 8) }
+        ensures { Becomes self.old self.new (values_with self.old place 8 word) (changes_with self.old place 8) }
     {
         unsafe { (base.ptr.add(place) as *mut [u8; 8]).write(word) }
     }
@@ -319,7 +319,7 @@ impl Bytes {
     #[inline(always)]
     pub(crate) fn write_unit(&mut self, base: Base, place: usize, unit: [u8; 16])
         requires { (base.ptr ≡ self.old.at) × HasOwn self.old place 16 }
-        ensures { Becomes self.old self.new (with_bytes self.old place 16 unit) (out_with self.old place 16) }
+        ensures { Becomes self.old self.new (values_with self.old place 16 unit) (changes_with self.old place 16) }
     {
         unsafe { (base.ptr.add(place) as *mut [u8; 16]).write(unit) }
     }
@@ -335,7 +335,7 @@ impl Bytes {
     /// Empties the list of changes. Each byte must be here. No byte changes.
     #[inline(always)]
     pub(crate) fn settle(&mut self)
-        requires { IsIn self.old.out 0 (length self.old.bytes) }
+        requires { AreBytesHere self.old.out 0 (length self.old.bytes) }
         ensures { Becomes self.old self.new self.old.bytes [] }
     {
         self.recount();
@@ -345,7 +345,7 @@ impl Bytes {
     #[inline(always)]
     pub(crate) fn slice(&self, base: Base, place: usize, len: usize) -> &[u8]
         requires { (base.ptr ≡ self.now.at) × HasHere self.now place len }
-        ensures { result.now ≡ bytes_in self.now place len }
+        ensures { result.now ≡ values_in self.now place len }
     {
         unsafe { slice::from_raw_parts(base.ptr.add(place), len) }
     }
@@ -354,7 +354,7 @@ impl Bytes {
     #[inline(always)]
     pub(crate) fn slice_ahead(&self, from: Base, units: &Units, ahead: usize, len: usize) -> &[u8]
         requires { (from.ptr ≡ self.now.at +ₚ units.now.first * 16) × HasHere self.now (units.now.first * 16 + ahead) len }
-        ensures { result.now ≡ bytes_in self.now (units.now.first * 16 + ahead) len }
+        ensures { result.now ≡ values_in self.now (units.now.first * 16 + ahead) len }
     {
         let _ = units;
         unsafe { slice::from_raw_parts(from.ptr.add(ahead), len) }
@@ -365,7 +365,7 @@ impl Bytes {
     pub(crate) fn slice_mut(&mut self, base: Base, place: usize, len: usize) -> &mut [u8]
         requires { (base.ptr ≡ self.old.at) × HasHere self.old place len }
         ensures* writes_back { sem 𝓛 (lends_part self.entry (place - self.old.skip) len result) }
-        ensures value { result.now ≡ bytes_in self.old place len }
+        ensures value { result.now ≡ values_in self.old place len }
     {
         unsafe { slice::from_raw_parts_mut(base.ptr.add(place), len) }
     }
@@ -383,7 +383,7 @@ impl Bytes {
     /// Puts bytes of this block back, which are here, with the values that they have in `part`. They were out.
     #[inline(always)]
     pub(crate) fn put_back(&mut self, part: Bytes)
-        requires { (part.at ≡ self.old.at) × Has self.old part.skip (length part.bytes) × IsIn part.out 0 (length part.bytes) × (part.units ≡ self.old.units) }
+        requires { (part.at ≡ self.old.at) × Has self.old part.skip (length part.bytes) × AreBytesHere part.out 0 (length part.bytes) × (part.units ≡ self.old.units) }
         ensures { TakesBack self.old self.new part.skip part.bytes }
     {
         let Bytes { mark: _ } = part;

@@ -3,9 +3,9 @@
 ghost use Rattle.std.specs.Prelude.{◌≡◌, ℕ, ◌+◌, ◌-◌, ◌%◌, ◌^◌, ◌<◌, ◌≤◌, ◌⊎◌, List, length, take};
 ghost use Rattle.core.specs.List.{copy_within};
 ghost use Rattle.rlsf_base.specs.Out.{Change, kept_at};
-ghost use Rattle.rlsf_base.specs.Changes.{IsIn, IsOwn};
+ghost use Rattle.rlsf_base.specs.Changes.{AreBytesHere, IsOwn};
 ghost use Rattle.rlsf_base.specs.Steps.Fronts.{HasCopied, HasFront};
-ghost use Rattle.rlsf_base.specs.Steps.Owners.{Has, HasHere, HasOwn, Becomes, Gets, bytes_in, out_with, with_bytes};
+ghost use Rattle.rlsf_base.specs.Steps.Owners.{Has, HasHere, HasOwn, Becomes, Gets, values_in, changes_with, values_with};
 
 use super::block::{Base, Bytes};
 
@@ -15,9 +15,9 @@ use super::block::{Base, Bytes};
 pub(crate) fn copy_bytes(bytes: &mut Bytes, base: Base, from: usize, to: usize, len: usize)
     ghost out: { List Change }
     requires lies { (base.ptr ≡ bytes.old.at) × Has bytes.old from len × Has bytes.old to len × (bytes.old.skip + length bytes.old.bytes < 2 ^ 64) }
-    requires kept { IsIn bytes.old.out (from - bytes.old.skip) len × IsOwn bytes.old.out (to - bytes.old.skip) len }
-    requires out { out ≡ out_with bytes.old to len }
-    ensures { Becomes bytes.old bytes.new (with_bytes bytes.old to len (bytes_in bytes.old from len)) out }
+    requires kept { AreBytesHere bytes.old.out (from - bytes.old.skip) len × IsOwn bytes.old.out (to - bytes.old.skip) len }
+    requires out { out ≡ changes_with bytes.old to len }
+    ensures { Becomes bytes.old bytes.new (values_with bytes.old to len (values_in bytes.old from len)) out }
 {
     copy(bytes, base, from, to, len);
     bytes.recount();
@@ -27,9 +27,9 @@ pub(crate) fn copy_bytes(bytes: &mut Bytes, base: Base, from: usize, to: usize, 
 #[inline(always)]
 fn copy(bytes: &mut Bytes, base: Base, from: usize, to: usize, len: usize)
     requires lies { (base.ptr ≡ bytes.old.at) × Has bytes.old from len × Has bytes.old to len × (bytes.old.skip + length bytes.old.bytes < 2 ^ 64) }
-    requires kept { IsIn bytes.old.out (from - bytes.old.skip) len × IsOwn bytes.old.out (to - bytes.old.skip) len }
-    ensures bytes { Gets bytes.old bytes.new (with_bytes bytes.old to len (bytes_in bytes.old from len)) }
-    ensures out { (k : ℕ) → kept_at bytes.new.out k ≡ kept_at (out_with bytes.old to len) k }
+    requires kept { AreBytesHere bytes.old.out (from - bytes.old.skip) len × IsOwn bytes.old.out (to - bytes.old.skip) len }
+    ensures bytes { Gets bytes.old bytes.new (values_with bytes.old to len (values_in bytes.old from len)) }
+    ensures out { (k : ℕ) → kept_at bytes.new.out k ≡ kept_at (changes_with bytes.old to len) k }
 {
     if from + len <= to || to + len <= from {
         copy_apart::<1>(bytes, base, from, to, len);
@@ -44,9 +44,9 @@ fn copy(bytes: &mut Bytes, base: Base, from: usize, to: usize, len: usize)
 #[inline(never)]
 fn copy_up(bytes: &mut Bytes, base: Base, from: usize, by: usize, len: usize)
     requires lies { (base.ptr ≡ bytes.old.at) × (by < len) × Has bytes.old from (by + len) × (bytes.old.skip + length bytes.old.bytes < 2 ^ 64) }
-    requires kept { IsIn bytes.old.out (from - bytes.old.skip) len × IsOwn bytes.old.out (from - bytes.old.skip + len) by }
-    ensures bytes { Gets bytes.old bytes.new (with_bytes bytes.old (from + by) len (bytes_in bytes.old from len)) }
-    ensures out { (k : ℕ) → kept_at bytes.new.out k ≡ kept_at (out_with bytes.old (from + by) len) k }
+    requires kept { AreBytesHere bytes.old.out (from - bytes.old.skip) len × IsOwn bytes.old.out (from - bytes.old.skip + len) by }
+    ensures bytes { Gets bytes.old bytes.new (values_with bytes.old (from + by) len (values_in bytes.old from len)) }
+    ensures out { (k : ℕ) → kept_at bytes.new.out k ≡ kept_at (changes_with bytes.old (from + by) len) k }
 {
     copy_apart::<0>(bytes, base, from + len - by, from + len, by);
     let rest = bytes.slice_mut(base, from, len);
@@ -57,9 +57,9 @@ fn copy_up(bytes: &mut Bytes, base: Base, from: usize, by: usize, len: usize)
 #[inline(never)]
 fn copy_down(bytes: &mut Bytes, base: Base, to: usize, by: usize, len: usize)
     requires lies { (base.ptr ≡ bytes.old.at) × (by < len) × Has bytes.old to (by + len) × (bytes.old.skip + length bytes.old.bytes < 2 ^ 64) }
-    requires kept { IsIn bytes.old.out (to - bytes.old.skip + by) len × IsOwn bytes.old.out (to - bytes.old.skip) by }
-    ensures bytes { Gets bytes.old bytes.new (with_bytes bytes.old to len (bytes_in bytes.old (to + by) len)) }
-    ensures out { (k : ℕ) → kept_at bytes.new.out k ≡ kept_at (out_with bytes.old to len) k }
+    requires kept { AreBytesHere bytes.old.out (to - bytes.old.skip + by) len × IsOwn bytes.old.out (to - bytes.old.skip) by }
+    ensures bytes { Gets bytes.old bytes.new (values_with bytes.old to len (values_in bytes.old (to + by) len)) }
+    ensures out { (k : ℕ) → kept_at bytes.new.out k ≡ kept_at (changes_with bytes.old to len) k }
 {
     copy_apart::<0>(bytes, base, to + by, to, by);
     let rest = bytes.slice_mut(base, to + by, len);
@@ -69,10 +69,10 @@ fn copy_down(bytes: &mut Bytes, base: Base, to: usize, by: usize, len: usize)
 // To bytes that don't overlap those copied.
 fn copy_apart<const UNITS: usize>(bytes: &mut Bytes, base: Base, from: usize, to: usize, len: usize)
     requires lies { (base.ptr ≡ bytes.old.at) × Has bytes.old from len × Has bytes.old to len × (bytes.old.skip + length bytes.old.bytes < 2 ^ 64) }
-    requires kept { IsIn bytes.old.out (from - bytes.old.skip) len × IsOwn bytes.old.out (to - bytes.old.skip) len }
+    requires kept { AreBytesHere bytes.old.out (from - bytes.old.skip) len × IsOwn bytes.old.out (to - bytes.old.skip) len }
     requires apart { (from + len ≤ to) ⊎ (to + len ≤ from) }
-    ensures bytes { Gets bytes.old bytes.new (with_bytes bytes.old to len (bytes_in bytes.old from len)) }
-    ensures out { (k : ℕ) → kept_at bytes.new.out k ≡ kept_at (out_with bytes.old to len) k }
+    ensures bytes { Gets bytes.old bytes.new (values_with bytes.old to len (values_in bytes.old from len)) }
+    ensures out { (k : ℕ) → kept_at bytes.new.out k ≡ kept_at (changes_with bytes.old to len) k }
 {
     let mut part = bytes.take_out(to, len);
     write_bytes::<UNITS>(&mut part, base, to, bytes.slice(base, from, len));
@@ -83,7 +83,7 @@ fn copy_apart<const UNITS: usize>(bytes: &mut Bytes, base: Base, from: usize, to
 #[inline(always)]
 fn write_bytes<const UNITS: usize>(bytes: &mut Bytes, base: Base, place: usize, from: &[u8])
     requires { (base.ptr ≡ bytes.old.at) × (bytes.old.skip ≡ place) × (length bytes.old.bytes ≡ length from.now) × IsOwn bytes.old.out 0 (length from.now) × (place + length from.now < 2 ^ 64) }
-    ensures { Gets bytes.old bytes.new from.now × IsIn bytes.new.out 0 (length from.now) }
+    ensures { Gets bytes.old bytes.new from.now × AreBytesHere bytes.new.out 0 (length from.now) }
 {
     let written = write_units::<UNITS>(bytes, base, place, from);
     if UNITS == 0 {
@@ -122,8 +122,8 @@ fn write_units<const UNITS: usize>(
 #[inline(never)]
 fn write_end(bytes: &mut Bytes, base: Base, place: usize, from: &[u8], written: usize)
     requires place { (base.ptr ≡ bytes.old.at) × (bytes.old.skip ≡ place) × (length bytes.old.bytes ≡ length from.now) × IsOwn bytes.old.out 0 (length from.now) × (place + length from.now < 2 ^ 64) }
-    requires written { (written ≤ length from.now) × (take written bytes.old.bytes ≡ take written from.now) × IsIn bytes.old.out 0 written }
-    ensures { Gets bytes.old bytes.new from.now × IsIn bytes.new.out 0 (length from.now) }
+    requires written { (written ≤ length from.now) × (take written bytes.old.bytes ≡ take written from.now) × AreBytesHere bytes.old.out 0 written }
+    ensures { Gets bytes.old bytes.new from.now × AreBytesHere bytes.new.out 0 (length from.now) }
 {
     write_rest(bytes, base, place, from, written);
 }
@@ -132,8 +132,8 @@ fn write_end(bytes: &mut Bytes, base: Base, place: usize, from: &[u8], written: 
 #[inline(always)]
 fn write_rest(bytes: &mut Bytes, base: Base, place: usize, from: &[u8], written: usize)
     requires place { (base.ptr ≡ bytes.old.at) × (bytes.old.skip ≡ place) × (length bytes.old.bytes ≡ length from.now) × IsOwn bytes.old.out 0 (length from.now) × (place + length from.now < 2 ^ 64) }
-    requires written { (written ≤ length from.now) × (take written bytes.old.bytes ≡ take written from.now) × IsIn bytes.old.out 0 written }
-    ensures { Gets bytes.old bytes.new from.now × IsIn bytes.new.out 0 (length from.now) }
+    requires written { (written ≤ length from.now) × (take written bytes.old.bytes ≡ take written from.now) × AreBytesHere bytes.old.out 0 written }
+    ensures { Gets bytes.old bytes.new from.now × AreBytesHere bytes.new.out 0 (length from.now) }
 {
     for index in written..from.len() {
         bytes.write(base, place + index, from[index]);
@@ -147,10 +147,10 @@ fn write_rest(bytes: &mut Bytes, base: Base, place: usize, from: &[u8], written:
 pub(crate) fn copy_units(bytes: &mut Bytes, base: Base, from: usize, to: usize, len: usize)
     ghost out: { List Change }
     requires lies { (base.ptr ≡ bytes.old.at) × Has bytes.old from len × Has bytes.old to len × (bytes.old.skip + length bytes.old.bytes < 2 ^ 64) }
-    requires kept { IsIn bytes.old.out (from - bytes.old.skip) len × IsOwn bytes.old.out (to - bytes.old.skip) len }
+    requires kept { AreBytesHere bytes.old.out (from - bytes.old.skip) len × IsOwn bytes.old.out (to - bytes.old.skip) len }
     requires units { (len % 16 ≡ 0) × ((from + len ≤ to) ⊎ (to ≤ from)) }
-    requires out { out ≡ out_with bytes.old to len }
-    ensures { Becomes bytes.old bytes.new (with_bytes bytes.old to len (bytes_in bytes.old from len)) out }
+    requires out { out ≡ changes_with bytes.old to len }
+    ensures { Becomes bytes.old bytes.new (values_with bytes.old to len (values_in bytes.old from len)) out }
 {
     let pairs = pairs_of(len);
     let mut index = 0;
@@ -183,7 +183,7 @@ fn pairs_of(len: usize) -> usize
 #[inline(always)]
 fn copy_unit(bytes: &mut Bytes, base: Base, from: usize, to: usize)
     requires { (base.ptr ≡ bytes.old.at) × HasHere bytes.old from 16 × HasOwn bytes.old to 16 }
-    ensures { Becomes bytes.old bytes.new (with_bytes bytes.old to 16 (bytes_in bytes.old from 16)) (out_with bytes.old to 16) }
+    ensures { Becomes bytes.old bytes.new (values_with bytes.old to 16 (values_in bytes.old from 16)) (changes_with bytes.old to 16) }
 {
     let unit = unit_at(bytes, base, from);
     bytes.write_unit(base, to, unit);
@@ -193,7 +193,7 @@ fn copy_unit(bytes: &mut Bytes, base: Base, from: usize, to: usize)
 #[inline(always)]
 fn unit_at(bytes: &Bytes, base: Base, place: usize) -> [u8; 16]
     requires { (base.ptr ≡ bytes.now.at) × HasHere bytes.now place 16 }
-    ensures { result ≡ bytes_in bytes.now place 16 }
+    ensures { result ≡ values_in bytes.now place 16 }
 {
     match bytes.slice(base, place, 16).first_chunk::<16>() {
         Some(unit) => *unit,

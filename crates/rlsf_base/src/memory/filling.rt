@@ -1,6 +1,6 @@
 //! Fills a block's bytes with one value.
 ghost use Rattle.std.specs.Prelude.{◌≡◌, ◌+◌, ◌-◌, ◌^◌, ◌<◌, ◌≤◌, ◌++◌, [], length, replicate, take};
-ghost use Rattle.rlsf_base.specs.Changes.{IsIn, IsOwn};
+ghost use Rattle.rlsf_base.specs.Changes.{AreBytesHere, IsOwn};
 ghost use Rattle.rlsf_base.specs.Steps.Owners.{Becomes};
 
 use super::block::{Base, Bytes};
@@ -28,7 +28,7 @@ pub(crate) fn fill_bytes_from(
     value: u8,
 )
     requires own { (base.ptr ≡ bytes.old.at) × (bytes.old.skip ≡ place) × (length bytes.old.bytes ≡ len) × IsOwn bytes.old.out 0 len × (place + len < 2 ^ 63) }
-    requires kept { (from ≤ len) × IsIn bytes.old.out 0 from }
+    requires kept { (from ≤ len) × AreBytesHere bytes.old.out 0 from }
     ensures { Becomes bytes.old bytes.new (take from bytes.old.bytes ++ replicate (len - from) value) [] }
 {
     for index in from..len {

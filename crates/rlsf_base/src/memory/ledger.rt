@@ -125,7 +125,7 @@ impl Ticket {
     ghost use Rattle.std.specs.Prelude.{◌+◌, ◌-◌, ◌*◌, ◌≤◌};
     ghost use Rattle.rlsf_base.specs.OpenSpace.{place_in};
     ghost use Rattle.rlsf_base.specs.Piece.{home_from};
-    ghost use Rattle.rlsf_base.specs.UnitPayload.{IsPlaced, pointer_to};
+    ghost use Rattle.rlsf_base.specs.UnitPayload.{IsUnitPointer, pointer_to};
 
     // Returns the last units of the `len` bytes at a place of the block, with this ticket for all of these bytes.
     pub(crate) fn with_units(
@@ -137,7 +137,7 @@ impl Ticket {
     ) -> UnitPayload
         requires units { (units.at ≡ view.base.ptr) × (units.first * 16 + units.count * 16 ≡ place + len) × (units.count * 16 ≤ len) }
         requires ticket { (self.len ≡ len) × (self.align ≡ 16) × (place ≡ place_in view self.addr) }
-        requires placed { IsPlaced (home_from view units.of) (pointer_to view self.addr) self.addr self.len }
+        requires placed { IsUnitPointer (home_from view units.of) (pointer_to view self.addr) self.addr self.len }
         ensures place { (result.home ≡ home_from view units.of) × (result.start ≡ self.addr) × (result.len ≡ len) × (result.kept ≡ len - units.count * 16) }
         ensures ticket { (result.name ≡ self.name) × (result.key ≡ self.key) }
     {

@@ -1,7 +1,7 @@
 //! A memory from which bytes can leave.
 ghost use Rattle.std.specs.Prelude.{◌≡◌, ◌+◌, ◌-◌, ◌%◌, ◌^◌, ◌<◌, ◌≤◌, ◌⊎◌, ◌↔◌, [], length, IfOk, IsOk, IsErrOf};
 ghost use Rattle.std.specs.Borrow.{sem};
-ghost use Rattle.rlsf_base.specs.MemoryCalls.{IsReserved, IsSpaceWith, IsZeroed};
+ghost use Rattle.rlsf_base.specs.MemoryCalls.{IsReservedMemory, IsSpaceWith, IsZeroed};
 ghost use Rattle.rlsf_base.specs.OpenSpace.{IsHere, IsOwned, IsReadable, IsWritable, SameOwn, StaysHere, WritesWord, out_with};
 ghost use Rattle.rlsf_base.specs.Range.{end_of, range_at, LiesIn};
 ghost use Rattle.rlsf_base.specs.Space.{bytes_in, word_range, range_of, word_at, with_bytes};
@@ -91,7 +91,7 @@ impl OpenMemory {
         ensures zero_start { IsErrOf result MemoryError.ZeroStart ↔ (start ≡ 0) }
         ensures too_long { IsErrOf result MemoryError.TooLong ↔ ((1 ≤ start) × (2 ^ 64 ≤ start + len)) }
         ensures empty { (1 ≤ start) × (start < 2 ^ 64) × (len ≡ 0) → IsOk result }
-        ensures memory { IfOk result (λ m. IsReserved m start len) }
+        ensures memory { IfOk result (λ m. IsReservedMemory m start len) }
     {
         addressed(start, len)?;
         match take_raw(alloc, start % 16, len) {

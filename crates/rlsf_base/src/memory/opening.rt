@@ -1,6 +1,6 @@
 //! A `Memory` as one from which bytes can leave, and back.
 ghost use Rattle.std.specs.Prelude.{◌≡◌, [], length};
-ghost use Rattle.rlsf_base.specs.Changes.{IsIn};
+ghost use Rattle.rlsf_base.specs.Changes.{AreBytesHere};
 
 use super::Memory;
 use super::open_memory::OpenMemory;
@@ -21,7 +21,7 @@ impl OpenMemory {
     ///
     /// Each byte must be here.
     pub fn into_closed(self) -> Memory
-        requires { IsIn self.out 0 (length self.bytes) }
+        requires { AreBytesHere self.out 0 (length self.bytes) }
         ensures start { result.start ≡ self.start }
         ensures bytes { result.bytes ≡ self.bytes }
         ensures touches { result.touches ≡ self.touches }

@@ -1,7 +1,7 @@
 //! Bytes of a memory that left it: how they leave, and come back.
 ghost use Rattle.std.specs.Prelude.{◌≡◌, ◌≤◌, ◌-◌, ◌++◌, ℕ, List, length, replicate, take};
 ghost use Rattle.std.specs.Borrow.{sem};
-ghost use Rattle.rlsf_base.specs.Changes.{IsIn};
+ghost use Rattle.rlsf_base.specs.Changes.{AreBytesHere};
 ghost use Rattle.rlsf_base.specs.MemoryCalls.{CountsNothing, IsPutBack, IsSpaceWith, IsTakenOut, StaysBeside};
 ghost use Rattle.rlsf_base.specs.OpenSpace.{home_of, IsAway, IsOwned, out_raw, out_with, out_without};
 ghost use Rattle.rlsf_base.specs.Piece.{piece_range, IsFull};
@@ -43,12 +43,12 @@ impl Drop for Part {
 
 impl Part {
     ghost use Rattle.rlsf_base.specs.LendsPiece.{LendsPiece, lent_piece};
-    ghost use Rattle.rlsf_base.specs.Piece.{CanCome, HasBytes, IsFull, IsPiece, IsPieceOf, Piece, piece_owns};
+    ghost use Rattle.rlsf_base.specs.Piece.{CanCome, HasPartBytes, IsFull, IsPiece, IsPieceOf, Piece, piece_owns};
 
     // Consumes the part and returns the owner of its bytes. Only a method can take a part apart.
     #[inline(always)]
     pub(crate) fn into_bytes(self) -> Bytes
-        ensures { HasBytes self result }
+        ensures { HasPartBytes self result }
     {
         let Part {
             view: _,
@@ -149,7 +149,7 @@ impl Part {
     /// The address and the length don't change.
     pub fn fill_from(&mut self, from: usize, value: u8)
         requires place { from ≤ length self.old.bytes }
-        requires kept { IsIn self.old.out 0 from }
+        requires kept { AreBytesHere self.old.out 0 from }
         ensures bytes { self.new.bytes ≡ take from self.old.bytes ++ replicate (length self.old.bytes - from) value }
         ensures full { IsFull self.new }
         ensures home { self.new.home ≡ self.old.home }

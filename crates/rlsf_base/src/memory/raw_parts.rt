@@ -6,7 +6,7 @@ ghost use Rattle.rlsf_base.specs.Changes.{IsAllOwn, IsOwn, left};
 ghost use Rattle.rlsf_base.specs.RawParts.{CanStart, LiesAtBlock, TakesParts};
 ghost use Rattle.rlsf_base.specs.Space.{range_of};
 ghost use Rattle.rlsf_base.specs.OpenSpace.{place_in, IsAway, IsOwned};
-ghost use Rattle.rlsf_base.specs.Steps.Ownership.{IsInBlock, bytes_at, room_at, units_from};
+ghost use Rattle.rlsf_base.specs.Steps.Ownership.{IsInBlock, bytes_at_pointer, room_at, units_from};
 
 use super::Memory;
 use super::block::{Base, Bytes, RawParts, adopt, adopt_none, adopt_room};
@@ -138,7 +138,7 @@ impl Memory {
     /// of 16, `block` must be aligned to 16, else to 8.
     pub unsafe fn from_raw_parts(alloc: Global, block: *mut u8, start: usize, len: usize) -> Memory
         ghost bytes: { List ℕ }
-        requires* { sem 𝓛 (bytes_at block start bytes) ∗ ⌜ (length bytes ≡ len) × CanStart start len ⌝ }
+        requires* { sem 𝓛 (bytes_at_pointer block start bytes) ∗ ⌜ (length bytes ≡ len) × CanStart start len ⌝ }
         ensures start { result.start ≡ start }
         ensures bytes { result.bytes ≡ bytes }
         ensures counts { (result.touches ≡ 0) × (result.copied ≡ 0) }

@@ -2,7 +2,7 @@
 ghost use Rattle.std.specs.Prelude.{◌≡◌};
 ghost use Rattle.rlsf_base.specs.MemoryCalls.{CountsNothing, IsPutBack, IsSpaceWith, StaysBeside};
 ghost use Rattle.rlsf_base.specs.OpenSpace.{home_of, IsAway, IsOwned, out_raw, out_with};
-ghost use Rattle.rlsf_base.specs.Piece.{CanCome, HasBytes, IsFull, Piece, piece_owns, piece_range};
+ghost use Rattle.rlsf_base.specs.Piece.{CanCome, HasPartBytes, IsFull, Piece, piece_owns, piece_range};
 ghost use Rattle.rlsf_base.specs.Space.{with_bytes};
 
 use super::block::Bytes;
@@ -27,7 +27,7 @@ impl ThinBytes {
     // The owner of these bytes.
     unsafe fn into_bytes(self) -> Bytes
         requires { CanCome self.piece self.piece.home.view (piece_range self.piece) }
-        ensures { HasBytes self.piece result }
+        ensures { HasPartBytes self.piece result }
     {
         let ThinBytes { mark: _ } = self;
         Bytes::from_raw()

@@ -8,7 +8,7 @@ ghost use Rattle.rlsf_base.specs.Piece.{piece_range, IsUnits};
 ghost use Rattle.rlsf_base.specs.Range.{LiesIn, range_at};
 ghost use Rattle.rlsf_base.specs.Space.{word_at};
 ghost use Rattle.rlsf_base.specs.Steps.UnitParts.{AreUnitsAt, IsSpotAt, IsTicketFor};
-ghost use Rattle.rlsf_base.specs.UnitPayload.{IsKept, IsPlaced};
+ghost use Rattle.rlsf_base.specs.UnitPayload.{AreCompleteUnits, IsUnitPointer};
 
 use super::block::{Base, Units};
 use super::ledger::{Ledger, Ticket};
@@ -29,8 +29,8 @@ pub struct UnitPayload {
     pub ghost key: { ℕ },
     pub ghost start: { ℕ },
     pub ghost kept: { ℕ },
-    pub ghost placed: { IsPlaced home ptr start len },
-    pub ghost within: { IsKept kept len },
+    pub ghost placed: { IsUnitPointer home ptr start len },
+    pub ghost within: { AreCompleteUnits kept len },
 }
 
 impl Model for UnitPayload {
@@ -142,7 +142,7 @@ impl OpenMemory {
     ) -> UnitPayload
         requires place { LiesIn (range_at start len) self.old.start (length self.old.bytes) }
         requires units { (start % 16 ≡ 0) × (len % 16 ≡ 0) }
-        requires kept { IsKept kept len }
+        requires kept { AreCompleteUnits kept len }
         requires aligned { HasUnits self.old }
         requires own { IsOwned self.old (range_at (start + kept) (len - kept)) }
         requires ticket { (ticket.addr ≡ start) × (ticket.len ≡ len) × (ticket.align ≡ 16) }

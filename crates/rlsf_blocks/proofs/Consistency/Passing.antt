@@ -17,13 +17,13 @@ use Rattle.rlsf_model.specs.ChunkRows.{IsRow}
 use Rattle.rlsf_model.specs.Lists.{IsIn}
 use Rattle.rlsf_model.specs.State.{State, between}
 use Rattle.rlsf_table.specs.Table.{Table}
-use Rattle.rlsf_blocks.specs.Consistency.Layout.{HasLayout}
+use Rattle.rlsf_blocks.specs.Consistency.Layout.{HasInBandLayout}
 use Rattle.rlsf_blocks.specs.Consistency.Linked.{IsLinked}
 use Rattle.rlsf_blocks.specs.Steps.BlockAt.{IsBlockTo, IsUsedOrFree}
 use Rattle.rlsf_blocks.specs.Steps.Legible.{IsLegible, IsLegibleBlock}
 use Rattle.rlsf_blocks.proofs.Consistency.Reading.{HasLegibleLinks-linked, legible, legible_is, readable_is}
 
-module _ {fllen sllen : ℕ} {ps : List ℕ} {m : Space} {t : Table} {r : Range} {s : State} (v : HasLayout fllen sllen ps m t r s) where
+module _ {fllen sllen : ℕ} {ps : List ℕ} {m : Space} {t : Table} {r : Range} {s : State} (v : HasInBandLayout fllen sllen ps m t r s) where
   -- the word behind a block names it
   named : (b : Block) → HasBlock s b → word_at m (end_of b.range + 8) ≡ b.range.start
   named b (used u i same o) = ap (λ r. word_at m (end_of r + 8)) same ∙ v.previous.used u i ∙ ap (λ r. r.start) (sym same)

@@ -20,7 +20,7 @@ use Rattle.rlsf_blocks.proofs.Words.Apart.{free_in_memory, home_of_free}
 use Rattle.rlsf_blocks.specs.Consistency.Consistent.{AreConsistent, IsConsistent, RepresentedAreConsistent, RepresentedIsConsistent}
 use Rattle.rlsf_blocks.specs.Consistency.Heads.{AgreesAt, HasHeads, IsFirstOf}
 use Rattle.rlsf_blocks.specs.Blocks.{walked}
-use Rattle.rlsf_blocks.specs.Consistency.Layout.{HasLayout}
+use Rattle.rlsf_blocks.specs.Consistency.Layout.{HasInBandLayout}
 use Rattle.rlsf_blocks.specs.Consistency.Linked.{HasFreeSize, IsLinked, IsNeighbour}
 use Rattle.rlsf_blocks.specs.Consistency.Pools.{IsPoolWord, LiesInPool, all_of, pool_at}
 use Rattle.rlsf_blocks.proofs.Consistency.Classes.{exponent-le}
@@ -146,7 +146,7 @@ module _ {fllen sllen : ℕ} (ps : List ℕ) {m : Space} {t : Table} {s : State}
         ];
       }
 
-  has_layout : (r : Range) → IsRow s r → HasLayout fllen sllen ps m t r s
+  has_layout : (r : Range) → IsRow s r → HasInBandLayout fllen sllen ps m t r s
   has_layout r row = record { well_formed = v.well_formed; row = row; sizes = v.sizes; previous = v.previous; linked = free_linked }
 
 pub represented_is_consistent : RepresentedIsConsistent

@@ -9,8 +9,8 @@ use Rattle.rlsf_model.specs.State.{State, between}
 use Rattle.rlsf_table.specs.Table.{Table}
 use Rattle.rlsf_blocks.specs.Consistency.Consistent.{AreConsistent, HasChunks, IsConsistent}
 use Rattle.rlsf_blocks.specs.Consistency.Heads.{HasHeads}
-use Rattle.rlsf_blocks.specs.Consistency.Layout.{HasLayout}
-use Rattle.rlsf_blocks.specs.Consistency.Pools.{IsPool, LiesInPool, all_of, pool_at}
+use Rattle.rlsf_blocks.specs.Consistency.Layout.{HasInBandLayout}
+use Rattle.rlsf_blocks.specs.Consistency.Pools.{HasPoolAt, LiesInPool, all_of, pool_at}
 use Rattle.rlsf_blocks.specs.Steps.BlockAt.{ReachesPools}
 use Rattle.rlsf_blocks.proofs.Consistency.Pieces.{IsBase, SomeChunks-none}
 
@@ -24,13 +24,13 @@ unfolding LiesInPool
 reaches_all m a lies = (0, omega arith, lies)
 
 -- and one of a pool lies in that
-pub reaches_pool : (ps : List ℕ) (m : Space) (k : ℕ) → IsPool ps k → ReachesPools ps m (pool_at ps k)
+pub reaches_pool : (ps : List ℕ) (m : Space) (k : ℕ) → HasPoolAt ps k → ReachesPools ps m (pool_at ps k)
 unfolding LiesInPool
 reaches_pool ps m k is a lies inside = (k, is, lies)
 
 -- the layout is that of another range, if that is a row
-over : {fllen sllen : ℕ} {ps : List ℕ} {m : Space} {t : Table} {r : Range} {s : State} → HasLayout fllen sllen ps m t r s → (q : Range) → IsRow s q
-    → HasLayout fllen sllen ps m t q s
+over : {fllen sllen : ℕ} {ps : List ℕ} {m : Space} {t : Table} {r : Range} {s : State} → HasInBandLayout fllen sllen ps m t r s → (q : Range) → IsRow s q
+    → HasInBandLayout fllen sllen ps m t q s
 over v q row = record { well_formed = v.well_formed; row = row; sizes = v.sizes; previous = v.previous; linked = v.linked }
 
 -- two ranges with the same start and end are the same row
@@ -96,12 +96,12 @@ module _ (fllen sllen : ℕ) (ps : List ℕ) (m : Space) (t : Table) (r : Range)
         (s, over v span (row_same s (walked r) span (omega (arith, starts)) (omega (arith, ends, end)) v.row))
 
 -- a range lies in a pool
-pub LiesInPool-at : (ps : List ℕ) (r : Range) (k : ℕ) → IsPool ps k → LiesIn r (pool_at ps k).start (pool_at ps k).len → LiesInPool ps r
+pub LiesInPool-at : (ps : List ℕ) (r : Range) (k : ℕ) → HasPoolAt ps k → LiesIn r (pool_at ps k).start (pool_at ps k).len → LiesInPool ps r
 unfolding LiesInPool
 LiesInPool-at ps r k is lies = (k, is, lies)
 
 -- and in none of them
-pub LiesInPool-none : (ps : List ℕ) (r : Range) → ((k : ℕ) → IsPool ps k → LiesIn r (pool_at ps k).start (pool_at ps k).len → ⊥) → LiesInPool ps r → ⊥
+pub LiesInPool-none : (ps : List ℕ) (r : Range) → ((k : ℕ) → HasPoolAt ps k → LiesIn r (pool_at ps k).start (pool_at ps k).len → ⊥) → LiesInPool ps r → ⊥
 unfolding LiesInPool
 LiesInPool-none ps r none (k, is, lies) = none k is lies
 
@@ -111,11 +111,11 @@ module _ (fllen sllen : ℕ) (ps : List ℕ) (m : Space) (t : Table) where
   unfolding AreConsistent
   pools_heads are = are.0
 
-  pub pools_chunks : AreConsistent fllen sllen ps m t → (k : ℕ) → IsPool ps k → HasChunks fllen sllen ps m t (walked (pool_at ps k))
+  pub pools_chunks : AreConsistent fllen sllen ps m t → (k : ℕ) → HasPoolAt ps k → HasChunks fllen sllen ps m t (walked (pool_at ps k))
   unfolding AreConsistent
   pools_chunks are = are.1
 
-  pub AreConsistent-from : HasHeads fllen sllen ps m t → ((k : ℕ) → IsPool ps k → HasChunks fllen sllen ps m t (walked (pool_at ps k)))
+  pub AreConsistent-from : HasHeads fllen sllen ps m t → ((k : ℕ) → HasPoolAt ps k → HasChunks fllen sllen ps m t (walked (pool_at ps k)))
       → AreConsistent fllen sllen ps m t
   unfolding AreConsistent
   AreConsistent-from heads chunks = (heads, chunks)

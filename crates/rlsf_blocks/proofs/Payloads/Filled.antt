@@ -7,7 +7,7 @@ use Rattle.rlsf_base.specs.Space.{Space, byte_range, bytes_in, out_at, range_of}
 use Rattle.rlsf_base.proofs.Lending.Replaced.{byte_at-same}
 use Rattle.rlsf_model.specs.Lists.{IsIn}
 use Rattle.rlsf_model.specs.Run.{Fills}
-use Rattle.rlsf_model.specs.State.{State, Used, usable, Holds, with_bytes, filled_if, filled}
+use Rattle.rlsf_model.specs.State.{State, Used, usable, Holds, used_with_bytes, filled_if, filled}
 use Rattle.rlsf_model.specs.WellFormed.{IsUsed, IsWellFormed}
 use Rattle.rlsf_model.proofs.Changes.{Holds-unique}
 use Rattle.rlsf_model.proofs.Coverage.{IsIn-map, map-same}
@@ -66,8 +66,8 @@ module _ {fllen sllen : ℕ} {v : Contents} {s : State} (old : StandsFor fllen s
     where
       reads : (x : Used) → IsIn x s.used → filled_if addr (bytes_in n (usable u)) x ≡ with_bytes_of n x
       reads x i = elim (cases_eq x.payload addr) [
-        | inl at ↦ filled_if-here addr (bytes_in n (usable u)) x at ∙ ap (λ y. with_bytes x (bytes_in n (usable y))) (Holds-unique w addr u x holds (i, at))
-        | inr other ↦ filled_if-other addr (bytes_in n (usable u)) x other ∙ ap (with_bytes x) (sym (bytes_in-other x i other))
+        | inl at ↦ filled_if-here addr (bytes_in n (usable u)) x at ∙ ap (λ y. used_with_bytes x (bytes_in n (usable y))) (Holds-unique w addr u x holds (i, at))
+        | inr other ↦ filled_if-other addr (bytes_in n (usable u)) x other ∙ ap (used_with_bytes x) (sym (bytes_in-other x i other))
       ]
 
   fills : Fills s addr (bytes_in n (usable u)) (read_from n s)

@@ -7,7 +7,7 @@ use Rattle.rlsf_model.specs.State.{State, Used}
 use Rattle.rlsf_blocks.specs.Spare.{KeepsSpare}
 use Rattle.rlsf_blocks.specs.StandsFor.{contents, StandsFor}
 use Rattle.rlsf_table.specs.Counts.{Counts}
-use Rattle.rlsf_blocks.specs.Steps.Resize.{IsCarriedOut, IsReallocated, IsUsedAt}
+use Rattle.rlsf_blocks.specs.Steps.Resize.{IsCarriedOut, StepsToReallocated, IsUsedAt}
 use Rattle.rlsf_table.specs.Table.{Table}
 use Rattle.rlsf_blocks.proofs.RepresentedStates.Counted.{KeepsSpare-counted, KeepsSpare-counted_first, StandsFor-counted}
 
@@ -43,7 +43,7 @@ module _ {fllen sllen : ℕ} (m n : Space) (table changed : Table) (s : State) w
   module _ (u : Used) (size : ℕ) where
     -- a plan was carried out
     pub IsReallocated-planned : (p : Plan) (addr : ℕ) → plan s u size ≡ Some p → p.payload ≡ addr
-        → IsCarriedOut fllen sllen (contents m table) (contents n changed) s u p → IsReallocated fllen sllen m n changed s u size (Some addr)
+        → IsCarriedOut fllen sllen (contents m table) (contents n changed) s u p → StepsToReallocated fllen sllen m n changed s u size (Some addr)
     IsReallocated-planned p addr first at (t, replans, stands, spare) =
         (t, subst (λ o. ReallocatesBy sllen s u size o (Some addr) t) (sym first) (subst (λ a. Replans s u p a t) at replans), stands, spare)
 
@@ -52,7 +52,7 @@ module _ {fllen sllen : ℕ} (m n : Space) (table changed : Table) (s : State) w
         → IfNone reply (Counts m n most × (changed ≡ table))
         → MatchOption reply (Allocates sllen s size u.align None s)
         (λ addr. (t : State) × MovesAway sllen s u size addr t × StandsFor fllen sllen (contents n changed) t × KeepsSpare m s n t)
-        → IsReallocated fllen sllen m n changed s u size reply
+        → StepsToReallocated fllen sllen m n changed s u size reply
     IsReallocated-elsewhere None most none v unchanged refused = (
       s,
       subst (λ o. ReallocatesBy sllen s u size o None s) (sym none) refused,
@@ -63,6 +63,6 @@ module _ {fllen sllen : ℕ} (m n : Space) (table changed : Table) (s : State) w
         (t, subst (λ o. ReallocatesBy sllen s u size o (Some addr) t) (sym none) moves, stands, spare)
 
     -- something was refused before that
-    pub IsReallocated-counted_first : (l : Space) (most : ℕ) (reply : Option ℕ) → Counts l m most → IsReallocated fllen sllen m n changed s u size reply
-        → IsReallocated fllen sllen l n changed s u size reply
+    pub IsReallocated-counted_first : (l : Space) (most : ℕ) (reply : Option ℕ) → Counts l m most → StepsToReallocated fllen sllen m n changed s u size reply
+        → StepsToReallocated fllen sllen l n changed s u size reply
     IsReallocated-counted_first l most reply counts (t, step, stands, spare) = (t, step, stands, KeepsSpare-counted_first l m counts.start counts.bytes counts.out s t n spare)

@@ -11,12 +11,12 @@ use Rattle.rlsf_table.specs.Table.{Table}
 use Rattle.rlsf_blocks.specs.Blocks.{walked}
 use Rattle.rlsf_blocks.specs.StandsFor.{contents, StandsFor}
 use Rattle.rlsf_blocks.specs.Consistency.Heads.{HasHeads}
-use Rattle.rlsf_blocks.specs.Consistency.Layout.{HasLayout}
-use Rattle.rlsf_blocks.specs.Consistency.Pools.{ArePoolsHere, IsPool, all_of, pool_at}
+use Rattle.rlsf_blocks.specs.Consistency.Layout.{HasInBandLayout}
+use Rattle.rlsf_blocks.specs.Consistency.Pools.{ArePoolsHere, HasPoolAt, all_of, pool_at}
 
 -- a range of the memory has the words of complete chunks of some state, or is empty
 abbrev pub HasChunks : ℕ → ℕ → List ℕ → Space → Table → Range → Type 0
-HasChunks fllen sllen ps m t r = (s : State) × HasLayout fllen sllen ps m t r s
+HasChunks fllen sllen ps m t r = (s : State) × HasInBandLayout fllen sllen ps m t r s
 
 -- the bitmaps and heads of the table agree, and the range has the words of complete chunks of some state
 unfoldable pub IsConsistent : ℕ → ℕ → Space → Table → Range → Type 0
@@ -30,7 +30,7 @@ CanBeChecked fllen sllen m t r = IsHere m (range_of m) ⊎ IsConsistent fllen sl
 -- the words are those of a heap over these pools: the bitmaps and heads of the table agree, and each pool, from its start rounded up to 32 to
 -- its end, has the words of complete chunks, whose free blocks' links lead to free blocks in these pools
 unfoldable pub AreConsistent : ℕ → ℕ → List ℕ → Space → Table → Type 0
-AreConsistent fllen sllen ps m t = HasHeads fllen sllen ps m t × ((k : ℕ) → IsPool ps k → HasChunks fllen sllen ps m t (walked (pool_at ps k)))
+AreConsistent fllen sllen ps m t = HasHeads fllen sllen ps m t × ((k : ℕ) → HasPoolAt ps k → HasChunks fllen sllen ps m t (walked (pool_at ps k)))
 
 -- A check of pools may read each word that it needs: each word of the pools is here, or memory and table are consistent over them. In the
 -- latter case bytes of payloads may be out
@@ -45,6 +45,6 @@ RepresentedIsConsistent = (fllen sllen : ℕ) (m : Space) (t : Table) (s : State
 -- and over pools of complete chunks, of which each chunk lies in one
 abbrev pub RepresentedAreConsistent : Type 0
 RepresentedAreConsistent = (fllen sllen : ℕ) (ps : List ℕ) (m : Space) (t : Table) (s : State) → StandsFor fllen sllen (contents m t) s
-    → ((k : ℕ) → IsPool ps k → IsRow s (walked (pool_at ps k)))
-    → ((c : Range) → IsIn c s.chunks → (k : ℕ) × IsPool ps k × ((pool_at ps k).start ≤ c.start) × (end_of c ≤ end_of (pool_at ps k)))
+    → ((k : ℕ) → HasPoolAt ps k → IsRow s (walked (pool_at ps k)))
+    → ((c : Range) → IsIn c s.chunks → (k : ℕ) × HasPoolAt ps k × ((pool_at ps k).start ≤ c.start) × (end_of c ≤ end_of (pool_at ps k)))
     → AreConsistent fllen sllen ps m t

@@ -13,7 +13,7 @@ use Rattle.rlsf_blocks.specs.Consistency.Linked.{IsLinked}
 -- The range is complete chunks of a well-formed state, or empty: used blocks, free blocks and sentinels tile the chunks, and no two free
 -- blocks adjoin. The memory has the size word of each block, and the word that names the block before it. Each free block is linked into
 -- the list of its class
-pub record HasLayout (fllen sllen : ℕ) (ps : List ℕ) (m : Space) (t : Table) (r : Range) (s : State) : Type 0 where
+pub record HasInBandLayout (fllen sllen : ℕ) (ps : List ℕ) (m : Space) (t : Table) (r : Range) (s : State) : Type 0 where
   pub well_formed : IsWellFormed fllen sllen (range_of m) s
   pub row : IsRow s r
   pub sizes : HasSizes m s

@@ -6,8 +6,8 @@ use Rattle.rlsf_base.specs.OpenSpace.{IsHere}
 use Rattle.rlsf_base.specs.Space.{IsWord, Space, word_range}
 
 -- there is a pool at an index
-abbrev pub IsPool : List ℕ → ℕ → Type 0
-IsPool ps k = 2 * k + 1 < length ps
+abbrev pub HasPoolAt : List ℕ → ℕ → Type 0
+HasPoolAt ps k = 2 * k + 1 < length ps
 
 -- the pool at an index
 abbrev pub pool_at : List ℕ → ℕ → Range
@@ -15,7 +15,7 @@ pool_at ps k = range_at (slice_index ps (2 * k)) (slice_index ps (2 * k + 1))
 
 -- a range lies in one of the pools
 unfoldable pub LiesInPool : List ℕ → Range → Type 0
-LiesInPool ps r = (k : ℕ) × IsPool ps k × LiesIn r (pool_at ps k).start (pool_at ps k).len
+LiesInPool ps r = (k : ℕ) × HasPoolAt ps k × LiesIn r (pool_at ps k).start (pool_at ps k).len
 
 -- a word of the memory is at the address, and lies in one of the pools
 abbrev pub IsPoolWord : List ℕ → Space → ℕ → Type 0

@@ -6,7 +6,7 @@ use Rattle.rlsf_base.specs.Space.{Space, range_of, word_at, word_range}
 use Rattle.rlsf_model.specs.Lists.{IsIn}
 use Rattle.rlsf_model.specs.State.{State, between}
 use Rattle.rlsf_table.specs.Table.{Table}
-use Rattle.rlsf_blocks.specs.Consistency.Layout.{HasLayout}
+use Rattle.rlsf_blocks.specs.Consistency.Layout.{HasInBandLayout}
 use Rattle.rlsf_blocks.specs.Consistency.Linked.{IsLinked}
 use Rattle.rlsf_blocks.specs.Consistency.Pools.{ArePoolsHere, LiesInPool}
 
@@ -36,13 +36,13 @@ ReachesPools ps m r = (a : ℕ) → LiesIn (word_range a) r.start r.len → Lies
 
 -- the state's chunks are exactly the bytes from one address up to another, and the memory has their words
 abbrev pub IsExactly : ℕ → ℕ → List ℕ → Space → Table → ℕ → ℕ → State → Type 0
-IsExactly fllen sllen ps m t start stop s = HasLayout fllen sllen ps m t (between start stop) s × ((c : Range) → IsIn c s.chunks → (start ≤ c.start) × (end_of c ≤ stop))
+IsExactly fllen sllen ps m t start stop s = HasInBandLayout fllen sllen ps m t (between start stop) s × ((c : Range) → IsIn c s.chunks → (start ≤ c.start) × (end_of c ≤ stop))
 
 -- where a check of a chunk reads: each byte of the pools is here, or the memory has the words of a state whose chunk begins there
 abbrev pub CanReadChunk : ℕ → ℕ → List ℕ → Space → Table → ℕ → ℕ → Type 0
 CanReadChunk fllen sllen ps m t chunk end =
-    ArePoolsHere ps m ⊎ ((s : State) × (c : Range) × (r : Range) × HasLayout fllen sllen ps m t r s × IsIn c s.chunks × (c.start ≡ chunk) × (end_of c ≤ end))
+    ArePoolsHere ps m ⊎ ((s : State) × (c : Range) × (r : Range) × HasInBandLayout fllen sllen ps m t r s × IsIn c s.chunks × (c.start ≡ chunk) × (end_of c ≤ end))
 
 -- so for contiguous chunks
 abbrev pub CanReadChunks : ℕ → ℕ → List ℕ → Space → Table → Range → Type 0
-CanReadChunks fllen sllen ps m t r = ArePoolsHere ps m ⊎ ((s : State) × HasLayout fllen sllen ps m t r s)
+CanReadChunks fllen sllen ps m t r = ArePoolsHere ps m ⊎ ((s : State) × HasInBandLayout fllen sllen ps m t r s)

@@ -21,8 +21,8 @@ abbrev pub AreRemoved : ℕ → ℕ → Space → Space → Table → State → 
 AreRemoved fllen sllen m n t s r = StandsFor fllen sllen (contents n t) (removed r s) × KeepsSpare m s n s
 
 -- a chunk is gone, which ended at the address
-abbrev pub IsRemoved : ℕ → ℕ → Space → Space → Table → State → Range → ℕ → Type 0
-IsRemoved fllen sllen m n t s c end = StandsFor fllen sllen (contents n t) (removed c s) × KeepsSpare m s n s × (end_of c ≡ end)
+abbrev pub IsChunkRemoved : ℕ → ℕ → Space → Space → Table → State → Range → ℕ → Type 0
+IsChunkRemoved fllen sllen m n t s c end = StandsFor fllen sllen (contents n t) (removed c s) × KeepsSpare m s n s × (end_of c ≡ end)
 
 -- at most nine touches were counted for each chunk in a range
 abbrev pub CountsRemoved : Space → Space → State → Range → Type 0

@@ -143,21 +143,21 @@ abbrev pub IsPlanned : ℕ → ℕ → Space → Space → Table → State → U
 IsPlanned fllen sllen m n t s u first addr = (p : Plan) × (first ≡ Some p) × (p.payload ≡ addr) × StepsTo fllen sllen m n t s (Replans s u p p.payload)
 
 -- the payload at the address has the size in place
-abbrev pub IsResized : ℕ → ℕ → Space → Space → Table → State → Used → ℕ → ℕ → Type 0
-IsResized fllen sllen m n t s u size addr = IsPlanned fllen sllen m n t s u (unmoved_plan s u size) addr
+abbrev pub IsPlannedInPlace : ℕ → ℕ → Space → Space → Table → State → Used → ℕ → ℕ → Type 0
+IsPlannedInPlace fllen sllen m n t s u size addr = IsPlanned fllen sllen m n t s u (unmoved_plan s u size) addr
 
 -- if the bytes behind the used block's end of that size are the memory's own and a call returned an address, it is the payload's, and the payload has
 -- the size in place
 abbrev pub ResizesKept : ℕ → ℕ → Space → Space → Table → State → Used → ℕ → ℕ → Option ℕ → Type 0
-ResizesKept fllen sllen m n t s u size addr reply = IsOwnedBehind m u size → IfSome reply (λ to. (to ≡ addr) × IsResized fllen sllen m n t s u size addr)
+ResizesKept fllen sllen m n t s u size addr reply = IsOwnedBehind m u size → IfSome reply (λ to. (to ≡ addr) × IsPlannedInPlace fllen sllen m n t s u size addr)
 
 -- if an address is returned, the payload lies there, in the free block before its own
 abbrev pub IsMovedBefore : ℕ → ℕ → Space → Space → Table → State → Used → ℕ → Option ℕ → Type 0
 IsMovedBefore fllen sllen m n t s u size reply = IfSome reply (IsPlanned fllen sllen m n t s u (into_previous s u size))
 
 -- a reallocation of the used block, with its reply, leads to a represented state
-abbrev pub IsReallocated : ℕ → ℕ → Space → Space → Table → State → Used → ℕ → Option ℕ → Type 0
-IsReallocated fllen sllen m n t s u size reply = StepsTo fllen sllen m n t s (ReallocatesBy sllen s u size (plan s u size) reply)
+abbrev pub StepsToReallocated : ℕ → ℕ → Space → Space → Table → State → Used → ℕ → Option ℕ → Type 0
+StepsToReallocated fllen sllen m n t s u size reply = StepsTo fllen sllen m n t s (ReallocatesBy sllen s u size (plan s u size) reply)
 
 -- the used block, with another alignment of its payload
 abbrev pub realigned : Used → ℕ → Used

@@ -72,9 +72,9 @@ abbrev pub room_of : Range → ℕ → ℕ → ℕ
 room_of f size align = (usable (placed f size align [])).len
 
 -- the address of the first byte of a range, if there is one
-abbrev pub start_of : Option Range → Option ℕ
-start_of None = None
-start_of (Some r) = Some r.start
+abbrev pub range_start : Option Range → Option ℕ
+range_start None = None
+range_start (Some r) = Some r.start
 
 -- the words once the free range f isn't in the list any more, and what is left of it behind its front is
 pub record IsOpened (fllen sllen : ℕ) (m n : Space) (t : Table) (s : State) (f front : Range) : Type 0 where

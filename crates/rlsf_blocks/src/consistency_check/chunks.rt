@@ -8,7 +8,7 @@ ghost use Rattle.rlsf_base.specs.Sizes.{IsSize};
 ghost use Rattle.rlsf_base.specs.Space.{word_at};
 ghost use Rattle.rlsf_model.specs.Lists.{IsIn};
 ghost use Rattle.rlsf_model.specs.State.{State, between};
-ghost use Rattle.rlsf_blocks.specs.Consistency.Layout.{HasLayout};
+ghost use Rattle.rlsf_blocks.specs.Consistency.Layout.{HasInBandLayout};
 ghost use Rattle.rlsf_blocks.specs.Steps.BlockAt.{CanReadChunk, CanReadChunks, IsBlockTo, IsExactly, IsSpanOf, IsUsedOrFree};
 ghost use Rattle.rlsf_blocks.specs.Steps.Legible.{IsLegibleBlock};
 
@@ -101,7 +101,7 @@ fn checked_chunk_end<const FLLEN: usize, const SLLEN: usize>(
     requires whole { chunk % 32 ≡ 0 }
     requires some { chunk < end }
     ensures some { IfSome result (λ stop. (chunk < stop) × (stop ≤ end) × (stop % 32 ≡ 0) × ((s : State) × IsExactly FLLEN SLLEN pools.now memory.now table.now chunk stop s)) }
-    ensures each { (s : State) (c r : Range) → HasLayout FLLEN SLLEN pools.now memory.now table.now r s → IsIn c s.chunks → c.start ≡ chunk → end_of c ≤ end → result ≡ Some (end_of c) }
+    ensures each { (s : State) (c r : Range) → HasInBandLayout FLLEN SLLEN pools.now memory.now table.now r s → IsIn c s.chunks → c.start ≡ chunk → end_of c ≤ end → result ≡ Some (end_of c) }
 {
     // A chunk has a block and a sentinel.
     if end - chunk < 2 * GRANULARITY {
@@ -140,7 +140,7 @@ pub(crate) fn are_chunks<const FLLEN: usize, const SLLEN: usize>(
     requires legible { CanReadChunks FLLEN SLLEN pools.now memory.now table.now (between start end) }
     requires whole { start % 32 ≡ 0 }
     requires order { start ≤ end }
-    ensures { (result ≡ true) ↔ ((s : State) × HasLayout FLLEN SLLEN pools.now memory.now table.now (between start end) s) }
+    ensures { (result ≡ true) ↔ ((s : State) × HasInBandLayout FLLEN SLLEN pools.now memory.now table.now (between start end) s) }
 {
     let mut chunk = start;
     while chunk < end {

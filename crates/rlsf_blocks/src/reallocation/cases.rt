@@ -6,7 +6,7 @@ ghost use Rattle.rlsf_base.specs.SizeClass.{IsValid};
 ghost use Rattle.rlsf_base.specs.OpenSpace.{SameOwn, StaysHere};
 ghost use Rattle.rlsf_model.specs.State.{usable};
 ghost use Rattle.rlsf_table.specs.Counts.{Costs};
-ghost use Rattle.rlsf_blocks.specs.Steps.Resize.{AtEachMoving, AtEachMovingHere, AtEachPayload, HasMovingHere, IsHereStill, IsReallocated};
+ghost use Rattle.rlsf_blocks.specs.Steps.Resize.{AtEachMoving, AtEachMovingHere, AtEachPayload, HasMovingHere, IsHereStill, StepsToReallocated};
 
 use crate::HEADER;
 use crate::reallocation::elsewhere::move_elsewhere;
@@ -26,7 +26,7 @@ fn moved<const FLLEN: usize, const SLLEN: usize, const WHOLE: usize, const NARRO
     requires parameters { IsValid 128 128 FLLEN SLLEN }
     requires used { HasMovingHere FLLEN SLLEN memory.old table.old block payload layout }
     requires whole { WHOLE ≡ 1 → memory.old.out ≡ [] }
-    ensures step { AtEachMovingHere FLLEN SLLEN memory.old table.old block payload layout (λ s u. IsReallocated FLLEN SLLEN memory.old memory.new table.new s u layout.size result) }
+    ensures step { AtEachMovingHere FLLEN SLLEN memory.old table.old block payload layout (λ s u. StepsToReallocated FLLEN SLLEN memory.old memory.new table.new s u layout.size result) }
     ensures refused { IfNone result (memory.new.bytes ≡ memory.old.bytes) }
     ensures costs { Costs memory.old memory.new 63 (memory.new.copied - memory.old.copied) }
     ensures copied { AtEachPayload FLLEN SLLEN memory.old table.old block payload layout (λ s u. memory.new.copied ≤ memory.old.copied + (usable u).len) }
@@ -81,7 +81,7 @@ fn move_aligned<const FLLEN: usize, const SLLEN: usize, const WHOLE: usize, cons
     requires used { HasMovingHere FLLEN SLLEN memory.old table.old block payload layout }
     requires whole { WHOLE ≡ 1 → memory.old.out ≡ [] }
     requires narrow { NARROW ≡ 1 → layout.align ≡ 16 }
-    ensures step { AtEachMovingHere FLLEN SLLEN memory.old table.old block payload layout (λ s u. IsReallocated FLLEN SLLEN memory.old memory.new table.new s u layout.size (reply_of result)) }
+    ensures step { AtEachMovingHere FLLEN SLLEN memory.old table.old block payload layout (λ s u. StepsToReallocated FLLEN SLLEN memory.old memory.new table.new s u layout.size (reply_of result)) }
     ensures refused { IfNone (reply_of result) (memory.new.bytes ≡ memory.old.bytes) }
     ensures costs { Costs memory.old memory.new 63 (memory.new.copied - memory.old.copied) }
     ensures copied { AtEachPayload FLLEN SLLEN memory.old table.old block payload layout (λ s u. memory.new.copied ≤ memory.old.copied + (usable u).len) }
@@ -117,7 +117,7 @@ pub fn move_block<const FLLEN: usize, const SLLEN: usize, const WHOLE: usize>(
     requires parameters { IsValid 128 128 FLLEN SLLEN }
     requires used { HasMovingHere FLLEN SLLEN memory.old table.old block payload layout }
     requires whole { WHOLE ≡ 1 → memory.old.out ≡ [] }
-    ensures step { AtEachMovingHere FLLEN SLLEN memory.old table.old block payload layout (λ s u. IsReallocated FLLEN SLLEN memory.old memory.new table.new s u layout.size (reply_of result)) }
+    ensures step { AtEachMovingHere FLLEN SLLEN memory.old table.old block payload layout (λ s u. StepsToReallocated FLLEN SLLEN memory.old memory.new table.new s u layout.size (reply_of result)) }
     ensures refused { IfNone (reply_of result) (memory.new.bytes ≡ memory.old.bytes) }
     ensures costs { Costs memory.old memory.new 63 (memory.new.copied - memory.old.copied) }
     ensures copied { AtEachPayload FLLEN SLLEN memory.old table.old block payload layout (λ s u. memory.new.copied ≤ memory.old.copied + (usable u).len) }

@@ -11,7 +11,7 @@ ghost use Rattle.rlsf_blocks.specs.StandsFor.{contents, StandsFor};
 ghost use Rattle.rlsf_table.specs.Counts.{Costs, Counts};
 ghost use Rattle.rlsf_table.specs.FreeTable.{IsFreeTable};
 ghost use Rattle.rlsf_blocks.specs.Steps.Join.{IsMarked};
-ghost use Rattle.rlsf_blocks.specs.Steps.Resize.{AtEachAligned, AtEachSpanRoom, AtEachStretched, HasStretched, IsFreeLength, IsOccupied, IsOwnedBehind, IsResized, IsSpanRoom, IsStretched, IsUsedAt, ResizesKept};
+ghost use Rattle.rlsf_blocks.specs.Steps.Resize.{AtEachAligned, AtEachSpanRoom, AtEachStretched, HasStretched, IsFreeLength, IsOccupied, IsOwnedBehind, IsPlannedInPlace, IsSpanRoom, IsStretched, IsUsedAt, ResizesKept};
 ghost use Rattle.rlsf_table.specs.Table.{Table};
 
 use crate::{leave_rest, take_if_free};
@@ -77,7 +77,7 @@ fn stretch<const FLLEN: usize, const SLLEN: usize>(
     requires front { block + front ≡ payload }
     ensures address { result ≡ payload }
     ensures done { AtEachStretched FLLEN SLLEN memory.old table.old block payload layout.size
-        (λ s u. IsResized FLLEN SLLEN memory.old memory.new table.new s u layout.size payload) }
+        (λ s u. IsPlannedInPlace FLLEN SLLEN memory.old memory.new table.new s u layout.size payload) }
     ensures costs { Costs memory.old memory.new 22 0 }
     ensures own { SameOwn memory.old memory.new }
     ensures here { StaysHere memory.old memory.new }

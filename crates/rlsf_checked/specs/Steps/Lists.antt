@@ -9,5 +9,5 @@ abbrev pub listed : Pools → PoolList
 listed p = pools_of p.earlier.items p.last
 
 -- if there is a last pool, it has room beside the earlier ones
-abbrev pub HasRoom : Pools → Type 0
-HasRoom p = 0 < p.last.len → vec_len p.earlier < vec_capacity p.earlier
+abbrev pub HasRoomForLast : Pools → Type 0
+HasRoomForLast p = 0 < p.last.len → vec_len p.earlier < vec_capacity p.earlier

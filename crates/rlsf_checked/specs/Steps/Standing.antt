@@ -20,7 +20,7 @@ AreInOrder [] = ⊤
 AreInOrder (p ∷ ps) = ((q : Range) → IsIn q ps → end_of p ≤ q.start) × AreInOrder ps
 
 -- the range is complete contiguous chunks, at least one, from its start, rounded up to a multiple of 32, to its end
-pub record IsPool (s : State) (p : Range) : Type 0 where
+pub record IsCheckedPool (s : State) (p : Range) : Type 0 where
   pub room : round32 p.start < end_of p
   pub row : IsRow s (walked p)
 
@@ -29,8 +29,8 @@ abbrev pub IsOneOf : Range → PoolList → Type 0
 IsOneOf p pools = IsIn p pools.earlier ⊎ ((p ≡ pools.last) × (0 < p.len))
 
 -- Pools, of which none overlaps another. Each chunk lies in one of them
-pub record ArePools (s : State) (pools : PoolList) : Type 0 where
-  pub each : (p : Range) → IsOneOf p pools → IsPool s p
+pub record AreCheckedPools (s : State) (pools : PoolList) : Type 0 where
+  pub each : (p : Range) → IsOneOf p pools → IsCheckedPool s p
   pub order : AreInOrder pools.earlier
   pub behind : (p : Range) → IsIn p pools.earlier → end_of p ≤ pools.last.start
   pub homes : (c : Range) → IsIn c s.chunks → (p : Range) × IsOneOf p pools × (p.start ≤ c.start) × (end_of c ≤ end_of p)
@@ -43,4 +43,4 @@ pub record IsChecked (fllen sllen : ℕ) (heap : Allocator) (marks : Marks) (lis
   pub covers : (a : ℕ) → a % 16 ≡ 0 → heap.memory.start ≤ a → a ≤ end_of (range_of heap.memory) → HasMark marks a
   pub low : heap.memory.start ≤ list.last.start
   pub high : end_of list.last ≤ end_of (range_of heap.memory)
-  pub pools : ArePools heap.state list
+  pub pools : AreCheckedPools heap.state list

@@ -17,7 +17,7 @@ use Rattle.rlsf_model.specs.Reallocate.{MovesAway}
 use Rattle.rlsf_model.specs.Sized.{IsSizedFor, live_count}
 use Rattle.rlsf_model.specs.State.{Used, Holds}
 use Rattle.rlsf_model.specs.Terms.{Terms}
-use Rattle.rlsf_model.specs.PoolLength.{HasPool}
+use Rattle.rlsf_model.specs.PoolLength.{HasFreePool}
 
 -- the outcome of a question for a range
 abbrev pub outcome_of_range : Option Range → Outcome
@@ -51,7 +51,7 @@ pub record IsAsBefore {A : Type 0} (before after : A) : Type 0 where
 
 -- growth leaves every payload, what the pools are sized for, the place of the memory and the count of copied bytes as they were;
 -- touches only grow
-pub record KeepsPayloads (sllen : ℕ) (before after : Allocator) : Type 0 where
+pub record HasSamePayloads (sllen : ℕ) (before after : Allocator) : Type 0 where
   pub aligns : align_at after.state ≡ align_at before.state
   pub bytes : bytes_at after.state ≡ bytes_at before.state
   pub count : live_count after.state ≡ live_count before.state
@@ -68,7 +68,7 @@ pub record Took {S : Type 0} (fllen sllen : ℕ) (terms : S → Terms) (owes : S
   pub outside : KeepsOutsideNow before.memory before.state.pools after.memory after.state.pools
   pub spare : KeepsSpareButFooter (terms before.source) before.memory before.state after.memory after.state
   pub stands : FlexStandsFor fllen sllen terms owes after
-  pub room : is_more outcome ≡ true → HasPool e after.state.machine
+  pub room : is_more outcome ≡ true → HasFreePool e after.state.machine
 
 module _ {S : Type 0} (fllen sllen : ℕ) (terms : S → Terms) (owes : S → List Range → Type 0) (leads : S → Note → S → Type 0) (before after : FlexContents S) where
   -- a range was asked for, if there is a question, and what came was taken in
@@ -94,7 +94,7 @@ module _ {S : Type 0} (fllen sllen : ℕ) (terms : S → Terms) (owes : S → Li
     pub spare : KeepsSpareButFooter (terms before.source) before.memory before.state after.memory after.state
     pub stands : FlexStandsFor fllen sllen terms owes after
     pub came : more ≡ is_more outcome
-    pub room : is_more outcome ≡ true → HasPool e after.state.machine
+    pub room : is_more outcome ≡ true → HasFreePool e after.state.machine
 
 -- the payload at an address moved to another, and memory and class table represent the state that came of it
 pub record MovesPayload (fllen sllen : ℕ) (before after : Allocator) (addr size to : ℕ) : Type 0 where

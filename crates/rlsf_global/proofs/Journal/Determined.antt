@@ -18,15 +18,15 @@ use Rattle.rlsf_model_global.proofs.Similars.{same_placement-refl}
 use Rattle.rlsf_model_global.specs.declared.error.GlobalError.TheVariants as error
 use Rattle.rlsf_model_global.specs.Heap.{Heap, beginning}
 use Rattle.rlsf_model_global.specs.History.{IsHistory}
-use Rattle.rlsf_model_global.specs.Replays.{AreSameAnswers, AreSameCalls, IsSameAnswer, IsSameCall, journal_of}
+use Rattle.rlsf_model_global.specs.Replays.{AreSameAnswers, HaveSameCalls, IsSameAnswer, HasSameCall, journal_of}
 use Rattle.rlsf_model_global.specs.Steps.{Done, Placed as Answer}
 
 -- ---- one entry
 
-same_call : (c d : Call) (r q : Reply) → c ≡ d → IsSameCall (step_by c r) (step_by d q)
-same_call c d r q same = subst (λ (x : Call). IsSameCall (step_by c r) (step_by x q)) same (by c)
+same_call : (c d : Call) (r q : Reply) → c ≡ d → HasSameCall (step_by c r) (step_by d q)
+same_call c d r q same = subst (λ (x : Call). HasSameCall (step_by c r) (step_by x q)) same (by c)
   where
-    by : (x : Call) → IsSameCall (step_by x r) (step_by x q)
+    by : (x : Call) → HasSameCall (step_by x r) (step_by x q)
     by (Allocate layout) = refl
     by (Deallocate addr) = refl
     by (Reallocate addr layout) = (refl, refl)
@@ -79,7 +79,7 @@ same_reply c d r q same fits fits' = subst (λ (x : Call). IsReplyTo x q → IsS
 
 -- ---- all entries
 
-same_calls : (es fs : List Entry) → calls_of es ≡ calls_of fs → AreSameCalls (map step_of es) (map step_of fs)
+same_calls : (es fs : List Entry) → calls_of es ≡ calls_of fs → HaveSameCalls (map step_of es) (map step_of fs)
 same_calls [] [] same = tt
 same_calls [] (f ∷ fs) same = absurd (omega (arith, ap length same))
 same_calls (e ∷ es) [] same = absurd (omega (arith, ap length same))
@@ -106,7 +106,7 @@ calls_determine_replies es fs h g small same run run' calls =
     let start = beginning_of h in
     let w = beginning_is_heap h.source.space h.source.grows small in
     let there = subst (λ (b : Heap). IsHistory b steps' g) (sym same) history' in
-    let asked = subst (λ l. AreSameCalls l (journal_of steps')) (sym journal) (subst (AreSameCalls (map step_of es)) (sym journal') (same_calls es fs calls)) in
+    let asked = subst (λ l. HaveSameCalls l (journal_of steps')) (sym journal) (subst (HaveSameCalls (map step_of es)) (sym journal') (same_calls es fs calls)) in
     let (answers, placement) = journal_determines h.source.space start start h g steps steps' w w (same_placement-refl start start refl) history there asked in
     (same_replies es fs calls run.fits run'.fits (subst (AreSameAnswers (map step_of es)) journal' (subst (λ l. AreSameAnswers l (journal_of steps')) journal answers)), placement)
 

@@ -13,7 +13,7 @@ use Rattle.rlsf_global.specs.declared.entry.Entry.{Entry}
 use Rattle.rlsf_global.specs.declared.entry.Reply.{Reply}
 use Rattle.rlsf_global.specs.declared.entry.Reply.TheVariants.{Placed, Freed, NoRoom, UnknownAddress, TableMemory, JournalMemory}
 use Rattle.rlsf_global.specs.Journal.Entries.{IsReplyTo, entries_of, most_live}
-use Rattle.rlsf_global.specs.Journal.Replay.{BookContents, BookStands, LeadsOrRefused, IsBook, IsReplay, IsRun, Leads, beginning_of, step_by, step_of}
+use Rattle.rlsf_global.specs.Journal.Replay.{BookContents, BookStands, LeadsOrRefused, IsBook, IsReplay, IsRun, CallLeads, beginning_of, step_by, step_of}
 use Rattle.rlsf_global.proofs.CodedRows.{length-put_most, length-without_less}
 use Rattle.rlsf_global.proofs.Refusals.{either}
 use Rattle.rlsf_model.specs.FlexState.{FlexState}
@@ -27,7 +27,7 @@ use Rattle.rlsf_model_global.specs.Moves.{HeapMovesAway, ReallocatesAt}
 use Rattle.rlsf_model_global.specs.Replays as placement
 use Rattle.rlsf_model_global.specs.Replays.{journal_of}
 use Rattle.rlsf_model_global.specs.Rows.{Row, row_at, without_row}
-use Rattle.rlsf_model_global.specs.Steps.{DeallocatesAt, Done, HeapWrites, Placed as Answer, Takes, WritesAt, fits}
+use Rattle.rlsf_model_global.specs.Steps.{DeallocatesAt, Done, HeapWrites, Placed as Answer, Takes, WritesAt, are_usable}
 
 -- ---- a step leaves the space
 
@@ -70,7 +70,7 @@ reallocates-start h g addr wanted (Some row) result moved = moves-start h g addr
 writes-start : (h g : Heap) (addr offset : ℕ) (bytes : List ℕ) (o : Option Row) (result : Done) → WritesAt h addr offset bytes o result g
     → beginning_of g ≡ beginning_of h
 writes-start h g addr offset bytes None result step = ap beginning_of step.1
-writes-start h g addr offset bytes (Some row) result step = either (fits h addr offset (length bytes)) step
+writes-start h g addr offset bytes (Some row) result step = either (are_usable h addr offset (length bytes)) step
     (λ did. ap beginning_of did.1.2)
     (λ refused. ap beginning_of refused.1)
 
@@ -104,7 +104,7 @@ reallocates-few h g addr wanted (Some row) result is moved = moves-few h g addr 
 
 writes-asked : (h g : Heap) (addr offset : ℕ) (bytes : List ℕ) (o : Option Row) (result : Done) → WritesAt h addr offset bytes o result g → g.asked ≡ h.asked
 writes-asked h g addr offset bytes None result step = ap (λ (x : Heap). x.asked) step.1
-writes-asked h g addr offset bytes (Some row) result step = either (fits h addr offset (length bytes)) step
+writes-asked h g addr offset bytes (Some row) result step = either (are_usable h addr offset (length bytes)) step
     (λ did. ap (λ (x : Heap). x.asked) did.1.2)
     (λ refused. ap (λ (x : Heap). x.asked) refused.1)
 
@@ -121,7 +121,7 @@ record IsEntered (h : Heap) (call : Call) (reply : Reply) (g : Heap) : Type 0 wh
   start : beginning_of g ≡ beginning_of h
   few : length g.asked ≤ most_live call (length h.asked)
 
-enters : (h g : Heap) (call : Call) (reply : Reply) → Leads h call reply g → IsEntered h call reply g
+enters : (h g : Heap) (call : Call) (reply : Reply) → CallLeads h call reply g → IsEntered h call reply g
 enters h g (Allocate layout) (Placed addr) step =
     record {
       fits = tt;
@@ -187,20 +187,20 @@ pub begun : (space : Range) (grows : Bool) → IsReplay [] (beginning space grow
 begun space grows = record { fits = λ k d short. absurd (omega (arith, short)); replayed = replay_begins space grows }
 
 -- what steps lead to, with one step more
-goes_on : (h g : Heap) (journal : List Step) (s : Step) → beginning_of g ≡ beginning_of h → placement.IsReplay h.source.space h.source.grows journal h → LeadsTo h s g
-    → placement.IsReplay g.source.space g.source.grows (journal ++ journal_of (s ∷ [])) g
+goes_on : (h g : Heap) (journal : List Step) (s : Step) → beginning_of g ≡ beginning_of h → placement.ReplaysTo h.source.space h.source.grows journal h → LeadsTo h s g
+    → placement.ReplaysTo g.source.space g.source.grows (journal ++ journal_of (s ∷ [])) g
 goes_on h g journal s same run step =
     subst (λ (b : Heap). (steps : List Step) × IsHistory b steps g × (journal_of steps ≡ journal ++ journal_of (s ∷ []))) (sym same)
     (replay_goes_on h.source.space h.source.grows journal h g s run step)
 
 -- with an entry of a step
-entered : (es : List Entry) (e : Entry) (h g : Heap) → IsReplay es h → Leads h e.call e.reply g → IsReplay (es ++ e ∷ []) g
+entered : (es : List Entry) (e : Entry) (h g : Heap) → IsReplay es h → CallLeads h e.call e.reply g → IsReplay (es ++ e ∷ []) g
 entered es e h g run step =
     let is = enters h g e.call e.reply step in
     record {
       fits = All-push (λ (e : Entry). IsReplyTo e.call e.reply) es e run.fits is.fits;
       replayed =
-          subst (λ l. placement.IsReplay g.source.space g.source.grows l g) (ap (λ l. map step_of es ++ l) is.kept ∙ sym (map_push step_of es e))
+          subst (λ l. placement.ReplaysTo g.source.space g.source.grows l g) (ap (λ l. map step_of es ++ l) is.kept ∙ sym (map_push step_of es e))
           (goes_on h g (map step_of es) (step_of e) is.start run.replayed is.leads);
     }
 
@@ -232,7 +232,7 @@ recorded es caller call JournalMemory h g run step = unentered es h g run step
 pub written : (es : List Entry) (h g : Heap) (addr offset : ℕ) (bytes : List ℕ) (result : Done) → IsReplay es h → HeapWrites h addr offset bytes result g → IsReplay es g
 written es h g addr offset bytes result run step = record {
   fits = run.fits;
-  replayed = subst (λ l. placement.IsReplay g.source.space g.source.grows l g) (append-nil (map step_of es))
+  replayed = subst (λ l. placement.ReplaysTo g.source.space g.source.grows l g) (append-nil (map step_of es))
       (goes_on h g (map step_of es) (write addr offset bytes result) (writes-start h g addr offset bytes (row_at addr h.asked) result step) run.replayed step);
 }
 

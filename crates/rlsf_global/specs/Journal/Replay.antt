@@ -19,21 +19,21 @@ use Rattle.rlsf_model_global.specs.Rows.{Row}
 use Rattle.rlsf_model_global.specs.Steps.{HeapAllocates, HeapDeallocates}
 
 -- a call with its reply is a step from one heap to another
-abbrev pub Leads : Heap → Call → Reply → Heap → Type 0
-Leads h (Allocate layout) (Placed addr) g = HeapAllocates h layout (Ok addr) g
-Leads h (Allocate layout) NoRoom g = HeapAllocates h layout (Err error.NoRoom) g
-Leads h (Deallocate addr) Freed g = HeapDeallocates h (at addr) (Ok tt) g
-Leads h (Deallocate addr) UnknownAddress g = HeapDeallocates h (at addr) (Err error.UnknownAddress) g
-Leads h (Reallocate addr layout) (Placed to) g = HeapReallocates h (at addr) layout (Ok to) g
-Leads h (Reallocate addr layout) NoRoom g = HeapReallocates h (at addr) layout (Err error.NoRoom) g
-Leads h (Reallocate addr layout) UnknownAddress g = HeapReallocates h (at addr) layout (Err error.UnknownAddress) g
-Leads h call reply g = ⊥
+abbrev pub CallLeads : Heap → Call → Reply → Heap → Type 0
+CallLeads h (Allocate layout) (Placed addr) g = HeapAllocates h layout (Ok addr) g
+CallLeads h (Allocate layout) NoRoom g = HeapAllocates h layout (Err error.NoRoom) g
+CallLeads h (Deallocate addr) Freed g = HeapDeallocates h (at addr) (Ok tt) g
+CallLeads h (Deallocate addr) UnknownAddress g = HeapDeallocates h (at addr) (Err error.UnknownAddress) g
+CallLeads h (Reallocate addr layout) (Placed to) g = HeapReallocates h (at addr) layout (Ok to) g
+CallLeads h (Reallocate addr layout) NoRoom g = HeapReallocates h (at addr) layout (Err error.NoRoom) g
+CallLeads h (Reallocate addr layout) UnknownAddress g = HeapReallocates h (at addr) layout (Err error.UnknownAddress) g
+CallLeads h call reply g = ⊥
 
 -- a call is a step, or it is out of memory and changes nothing
 abbrev pub LeadsOrRefused : Heap → Call → Reply → Heap → Type 0
 LeadsOrRefused h call TableMemory g = g ≡ h
 LeadsOrRefused h call JournalMemory g = g ≡ h
-LeadsOrRefused h call reply g = Leads h call reply g
+LeadsOrRefused h call reply g = CallLeads h call reply g
 
 -- the step of a call with its reply, as a value
 abbrev pub step_by : Call → Reply → Step
@@ -53,7 +53,7 @@ beginning_of h = beginning h.source.space h.source.grows
 -- entry, they lead there from nothing placed, one after another.
 pub record IsReplay (journal : List Entry) (h : Heap) : Type 0 where
   pub fits : All (λ e. IsReplyTo e.call e.reply) journal
-  pub replayed : placement.IsReplay h.source.space h.source.grows (map step_of journal) h
+  pub replayed : placement.ReplaysTo h.source.space h.source.grows (map step_of journal) h
 
 -- The journal replays to the heap, over a source whose newest range grows, in a space whose addresses fit in a word. So it is one run of the
 -- allocator that the coalescing kind of shared allocators has, and the laws of journals hold of it.

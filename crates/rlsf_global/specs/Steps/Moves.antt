@@ -23,8 +23,8 @@ pub record IsGivenLayout (before after : FlexContents PageCursor) (addr : ℕ) (
   pub bytes : (a : ℕ) → a ≢ addr → a ≢ to → bytes_at after.state.machine a ≡ bytes_at before.state.machine a
 
 -- whatever entries the table has, the payload of a layout is resized, and its entry is the one at the returned address
-abbrev pub ResizesTo : Bool → FlexContents PageCursor → FlexContents PageCursor → ℕ → Layout → Layout → NonZeroUsize → Type 0
-ResizesTo enabled before after addr layout wanted to =
+abbrev pub ResizesWithAnyRows : Bool → FlexContents PageCursor → FlexContents PageCursor → ℕ → Layout → Layout → NonZeroUsize → Type 0
+ResizesWithAnyRows enabled before after addr layout wanted to =
     (rows : List Row) → ReallocatesTo enabled (heap_of before rows) addr layout wanted (Ok to) (heap_of after (put (to, wanted) (without_row addr rows)))
 
 -- what a move into a new payload keeps

@@ -23,7 +23,7 @@ use prog.Memory.{size}
 use Rattle.rlsf_base.specs.SizeClass.{IsValid}
 use Rattle.rlsf_malloc.proofs.HeapKinds.{Kind, words}
 use Rattle.rlsf_malloc.proofs.Steps.{lasting, tokens, all_shares}
-use Rattle.rlsf_malloc.specs.Handle.{Holds, HoldsSome}
+use Rattle.rlsf_malloc.specs.Handle.{HoldsValue, HoldsSome}
 use denote.Memory.{lone}
 
 -- the code
@@ -95,7 +95,7 @@ module _ (K : Kind) (S : (words K).Denot → Type 0) (Fact : (words K).Denot →
     abbrev pub outer : Clauses 𝓤 exported
     outer κs a = record {
       ghost = R.Denot;
-      requires = λ g. sep 𝓤 (sem 𝓛 (Holds R S a.0 g)) (fact 𝓤 (Fact g a.1.0.now));
+      requires = λ g. sep 𝓤 (sem 𝓛 (HoldsValue R S a.0 g)) (fact 𝓤 (Fact g a.1.0.now));
       ensures = λ g r end. sem 𝓛 (HoldsSome R a.0 (λ w. Post g a.1.0.now r w));
     }
 

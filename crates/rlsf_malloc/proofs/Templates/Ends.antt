@@ -23,7 +23,7 @@ use Rattle.rlsf_base.specs.contracts.memory.block.RawParts.release_lent as k
 use Rattle.rlsf_malloc.proofs.HeapKinds.{Kind, row}
 use Rattle.rlsf_malloc.proofs.Steps.{at_kind, kind_lasts, lasting, tokens, all_shares}
 use contract.Lifetimes.{toks}
-use Rattle.rlsf_malloc.specs.Handle.{ArePartsOf, Holds, first_of, rest_of}
+use Rattle.rlsf_malloc.specs.Handle.{ArePartsOf, HoldsValue, first_of, rest_of}
 
 abbrev P : RattleType
 P = parts.the_row
@@ -68,7 +68,7 @@ module _ (K : Kind) (S Fact Asked : (row K).Denot → Type 0) (home : (row K).De
     abbrev pub outer : Clauses 𝓤 exported
     outer κs a = record {
       ghost = R.Denot;
-      requires = λ v. sep 𝓤 (sem 𝓛 (Holds R S a.0 v)) (fact 𝓤 (Fact v));
+      requires = λ v. sep 𝓤 (sem 𝓛 (HoldsValue R S a.0 v)) (fact 𝓤 (Fact v));
       ensures = λ v r end. sep 𝓤 (sem 𝓛 (room_at R a.0)) (sem 𝓛 (rest_of (home v) (changes v) (told v)));
     }
 

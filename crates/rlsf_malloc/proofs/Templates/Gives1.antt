@@ -20,7 +20,7 @@ use Rattle.rlsf_heap.specs.Thin.{owns_reply}
 use Rattle.rlsf_heap.specs.contracts.thin.ThinPayload as payload
 use Rattle.rlsf_heap.proofs.thin.ThinPayload.TheLaws as payload_laws
 use Rattle.rlsf_malloc.specs.Calls.{IsReady}
-use Rattle.rlsf_malloc.specs.Handle.{Holds, HoldsBeside}
+use Rattle.rlsf_malloc.specs.Handle.{HoldsValue, HoldsBeside}
 
 -- the code
 abbrev pub function : Ty → Ty → Ty → Callee → Callee → Fn
@@ -84,7 +84,7 @@ module _ (K : Kind) (Allocated : HeapView → ℕ → PayloadView → HeapView �
     abbrev pub outer : Clauses 𝓤 exported
     outer κs a = record {
       ghost = R.Denot;
-      requires = λ g. sem 𝓛 (Holds R IsReady a.0 g);
+      requires = λ g. sem 𝓛 (HoldsValue R IsReady a.0 g);
       ensures = λ g r end. sem 𝓛 (HoldsBeside R a.0 PayloadView (λ w y. Outer g a.1.0 r w y) (λ w y. owns_reply y));
     }
 

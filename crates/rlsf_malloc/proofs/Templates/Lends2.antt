@@ -14,7 +14,7 @@ use contract.Lifetimes.{Lfts}
 use denote.RattleType.{Denots}
 use denote.Signature.{Slot, types_at}
 use denote.Triple.End.{Kepts}
-use Rattle.rlsf_malloc.specs.Handle.{Holds, HoldsSome}
+use Rattle.rlsf_malloc.specs.Handle.{HoldsValue, HoldsSome}
 
 -- the code
 abbrev pub function : Ty → Ty → Ty → Callee → Fn
@@ -68,7 +68,7 @@ module _ (K : Kind) (S : (row K).Denot → Type 0)
     abbrev pub outer : Clauses 𝓤 (exported A)
     outer κs a = record {
       ghost = R.Denot;
-      requires = λ g. sep 𝓤 (sem 𝓛 (Holds R S a.0 g)) (fact 𝓤 (Fact g a.1.0 a.1.1.0));
+      requires = λ g. sep 𝓤 (sem 𝓛 (HoldsValue R S a.0 g)) (fact 𝓤 (Fact g a.1.0 a.1.1.0));
       ensures = λ g r end. sem 𝓛 (HoldsSome R a.0 (λ w. Post g a.1.0 a.1.1.0 r w));
     }
 

@@ -21,7 +21,7 @@ use contract.BorrowLft.{⊑_static}
 use contract.Lifetimes.{toks}
 use Rattle.rlsf_malloc.proofs.HeapKinds.{Kind, row}
 use Rattle.rlsf_malloc.proofs.Steps.{at_kind, kind_lasts, lasting, tokens, all_shares}
-use Rattle.rlsf_malloc.specs.Handle.{Holds, HoldsSome}
+use Rattle.rlsf_malloc.specs.Handle.{HoldsValue, HoldsSome}
 use denote.Memory.{lone}
 
 -- the code
@@ -82,7 +82,7 @@ module _ (K : Kind) (S : (row K).Denot → Type 0) (Fact : (row K).Denot → ℕ
     abbrev pub outer : Clauses 𝓤 exported
     outer κs a = record {
       ghost = R.Denot;
-      requires = λ g. sep 𝓤 (sem 𝓛 (Holds R S a.0 g)) (fact 𝓤 (Fact g a.1.0 a.1.1.0));
+      requires = λ g. sep 𝓤 (sem 𝓛 (HoldsValue R S a.0 g)) (fact 𝓤 (Fact g a.1.0 a.1.1.0));
       ensures = λ g r end. sem 𝓛 (HoldsSome R a.0 (λ w. Post g a.1.0 a.1.1.0 a.1.1.1.0 a.1.1.1.1.0.now r end.1.1.1.1.0.now w));
     }
 

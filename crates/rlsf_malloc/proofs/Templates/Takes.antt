@@ -15,7 +15,7 @@ use contract.Lifetimes.{Lfts}
 use denote.RattleType.{Denots}
 use denote.Signature.{Slot, types_at}
 use denote.Triple.End.{Kepts}
-use Rattle.rlsf_malloc.specs.Handle.{Holds, HoldsSome}
+use Rattle.rlsf_malloc.specs.Handle.{HoldsValue, HoldsSome}
 
 -- the code
 abbrev pub function : Ty → Ty → Ty → Callee → Callee → Fn
@@ -83,7 +83,7 @@ module _ (K : Kind) (P : Payloads) (T : Export (row K) P) where
     abbrev pub outer : Clauses 𝓤 exported
     outer κs a = record {
       ghost = R.Denot × D;
-      requires = λ g. sep 𝓤 (sem 𝓛 (Holds R S a.0 g.0)) (sep 𝓤 (sem 𝓛 (owns g.1)) (fact 𝓤 (Fact g.0 g.1 a.1.0)));
+      requires = λ g. sep 𝓤 (sem 𝓛 (HoldsValue R S a.0 g.0)) (sep 𝓤 (sem 𝓛 (owns g.1)) (fact 𝓤 (Fact g.0 g.1 a.1.0)));
       ensures = λ g r end. sem 𝓛 (HoldsSome R a.0 (λ w. Outer g.0 g.1 a.1.0 w));
     }
 

@@ -4,7 +4,7 @@ use Rattle.rlsf_base.specs.declared.memory.range.Range.{Range}
 use Rattle.rlsf_base.specs.Range.{range_at}
 use Rattle.rlsf_model.specs.End.{notes_at_end}
 use Rattle.rlsf_model.specs.FlexAllocate.{FlexAllocates}
-use Rattle.rlsf_model.specs.FlexState.{FlexState, empty}
+use Rattle.rlsf_model.specs.FlexState.{FlexState, flex_empty}
 use Rattle.rlsf_model.specs.Growth.{Outcome, refused, growth_came, range_came}
 use Rattle.rlsf_model.specs.Note.{Note, alloc, grow, dealloc}
 use Rattle.rlsf_model.specs.Terms.{Terms}
@@ -23,19 +23,26 @@ attempt size outcome = record { size = size; align = 1; outcome = outcome }
 -- newest first, these free ranges and these ranges of the source. At the end the source is passed these ranges
 record GivesOver (fllen sllen : ℕ) (t : Terms) (allocations : List Allocation) (used : List Block) (free pools : List Range) (at_end : List Note) : Type 0 where
   after : FlexState
-  run : RunsOver fllen sllen t empty allocations after
+  run : RunsOver fllen sllen t flex_empty allocations after
   used_is : seen after.machine.used ≡ used
   free_is : after.machine.free ≡ free
   pools_are : after.pools ≡ pools
   end_is : notes_at_end t after.pools ≡ at_end
 
 -- what attempts give, computed
-gives_over : (fllen sllen : ℕ) (t : Terms) (attempts : List Attempt) → may_attempt_all fllen sllen t empty attempts ≡ true
-    → GivesOver fllen sllen t (all_done fllen sllen t empty attempts) (seen (all_after fllen sllen t empty attempts).machine.used)
-    (all_after fllen sllen t empty attempts).machine.free
-    (all_after fllen sllen t empty attempts).pools (notes_at_end t (all_after fllen sllen t empty attempts).pools)
+gives_over : (fllen sllen : ℕ) (t : Terms) (attempts : List Attempt) → may_attempt_all fllen sllen t flex_empty attempts ≡ true
+    → GivesOver fllen sllen t (all_done fllen sllen t flex_empty attempts) (seen (all_after fllen sllen t flex_empty attempts).machine.used)
+    (all_after fllen sllen t flex_empty attempts).machine.free
+    (all_after fllen sllen t flex_empty attempts).pools (notes_at_end t (all_after fllen sllen t flex_empty attempts).pools)
 gives_over fllen sllen t attempts may =
-    record { after = all_after fllen sllen t empty attempts; run = RunsOver-all fllen sllen t empty attempts may; used_is = refl; free_is = refl; pools_are = refl; end_is = refl }
+    record {
+      after = all_after fllen sllen t flex_empty attempts;
+      run = RunsOver-all fllen sllen t flex_empty attempts may;
+      used_is = refl;
+      free_is = refl;
+      pools_are = refl;
+      end_is = refl;
+    }
 
 -- a source of one range that grows, at an odd start
 abbrev pub one_growing_range : Terms
@@ -86,12 +93,13 @@ grown_range_goes_back : GivesOver 8 8 growing_and_taking_back
 grown_range_goes_back = gives_over 8 8 growing_and_taking_back (attempt 1 (range_came (range_at 4097 96)) ∷ attempt 1 (growth_came 159) ∷ []) refl
 
 -- no pool of 8 rows of 8 classes serves 8000 bytes, and no source is asked for one
-too_long_to_ask : (t : Terms) → FlexAllocates 8 8 t empty 8000 1 None [] empty
+too_long_to_ask : (t : Terms) → FlexAllocates 8 8 t flex_empty 8000 1 None [] flex_empty
 too_long_to_ask t = record { full = (refl, refl); extends = record { possible = tt; asked = refl; after = refl } }
 
 -- a source that gives nothing, whatever it is able to, is asked once
 nothing_comes : (space : Range) (takes_back grows is_contiguous : Bool)
-    → FlexAllocates 8 8 (record { space = space; dealloc = takes_back; grow = grows; contiguous = is_contiguous; min_align = 1 }) empty 1 1 None (alloc 96 None ∷ []) empty
+    → FlexAllocates 8 8 (record { space = space; dealloc = takes_back; grow = grows; contiguous = is_contiguous; min_align = 1 }) flex_empty 1 1 None
+    (alloc 96 None ∷ []) flex_empty
 nothing_comes space takes_back grows is_contiguous = record { full = (refl, refl); extends = record { possible = tt; asked = refl; after = refl } }
 
 -- a source of 64 bytes that grows its range, which is the only one or not

@@ -5,7 +5,7 @@ use Rattle.rlsf_base.specs.declared.memory.range.Range.{Range}
 use Rattle.rlsf_base.specs.Range.{range_at}
 use Rattle.rlsf_model.specs.End.{notes_at_end}
 use Rattle.rlsf_model.specs.FlexRun.{FlexEvent}
-use Rattle.rlsf_model.specs.FlexState.{FlexState, KeptPool, empty}
+use Rattle.rlsf_model.specs.FlexState.{FlexState, KeptPool, flex_empty}
 use Rattle.rlsf_model.specs.Growth.{refused, growth_came, range_came}
 use Rattle.rlsf_model.specs.Note.{Note, alloc, grow, dealloc}
 use Rattle.rlsf_model.specs.Run.{Event, allocate, deallocate, trim}
@@ -22,7 +22,7 @@ call event notes = record { event = event; notes = notes }
 -- ranges and these ranges of the source, of which this is kept. At the end the source is passed these ranges
 record GivesWith (fllen sllen : ℕ) (t : Terms) (calls : List FlexEvent) (used : List Block) (free pools : List Range) (kept : Option KeptPool) (at_end : List Note) : Type 0 where
   after : FlexState
-  run : RunsWith fllen sllen t empty calls after
+  run : RunsWith fllen sllen t flex_empty calls after
   used_is : seen after.machine.used ≡ used
   free_is : after.machine.free ≡ free
   pools_are : after.pools ≡ pools
@@ -30,14 +30,14 @@ record GivesWith (fllen sllen : ℕ) (t : Terms) (calls : List FlexEvent) (used 
   end_is : notes_at_end t after.pools ≡ at_end
 
 -- what calls give, computed
-gives_with : (fllen sllen : ℕ) (t : Terms) (moves : List Move) → may_move_all fllen sllen t empty moves ≡ true
-    → GivesWith fllen sllen t (all_moved_by fllen sllen t empty moves) (seen (all_moved_to fllen sllen t empty moves).machine.used)
-    (all_moved_to fllen sllen t empty moves).machine.free
-    (all_moved_to fllen sllen t empty moves).pools (all_moved_to fllen sllen t empty moves).kept (notes_at_end t (all_moved_to fllen sllen t empty moves).pools)
+gives_with : (fllen sllen : ℕ) (t : Terms) (moves : List Move) → may_move_all fllen sllen t flex_empty moves ≡ true
+    → GivesWith fllen sllen t (all_moved_by fllen sllen t flex_empty moves) (seen (all_moved_to fllen sllen t flex_empty moves).machine.used)
+    (all_moved_to fllen sllen t flex_empty moves).machine.free
+    (all_moved_to fllen sllen t flex_empty moves).pools (all_moved_to fllen sllen t flex_empty moves).kept (notes_at_end t (all_moved_to fllen sllen t flex_empty moves).pools)
 gives_with fllen sllen t moves may =
     record {
-      after = all_moved_to fllen sllen t empty moves;
-      run = RunsWith-all fllen sllen t empty moves may;
+      after = all_moved_to fllen sllen t flex_empty moves;
+      run = RunsWith-all fllen sllen t flex_empty moves may;
       used_is = refl;
       free_is = refl;
       pools_are = refl;

@@ -12,7 +12,7 @@ use Rattle.std.proofs.Math.Nat.{add-mul-mod_self_right, pow-suc}
 use Rattle.rlsf_base.specs.SearchStart.{CanBegin}
 use Rattle.rlsf_int.specs.Bits.{bit, IsFirstOne}
 use Rattle.rlsf_int.proofs.Unsigned as unsigned
-use Rattle.rlsf_table.specs.Steps.Places.{joined, row_word, row_words, scanned_places, IsFirstFrom}
+use Rattle.rlsf_table.specs.Steps.Places.{joined, row_word, row_words, scanned_places, IsFirstPlaceFrom}
 use Rattle.rlsf_table.proofs.Tables.Bits.{bit-cleared, bit-kept}
 use Rattle.rlsf_table.proofs.Tables.Search.{scanned_places-few, scanned_places-many}
 
@@ -106,14 +106,14 @@ module _ (sllen : ℕ) (low high : List ℕ) (fl : ℕ) (few : sllen ≤ 64) whe
       scan = scanned-few start _ (unsigned.first_one w64 (slice_index low fl) start fits from)
 
       pub first_from-few : bit_and (slice_index low fl) ((2 ^ 64 - 1) * 2 ^ start % 2 ^ 64) ≢ 0
-          → IsFirstFrom sllen (row_word sllen low high fl) start (Some (trailing_zeros w64 (bit_and (slice_index low fl) ((2 ^ 64 - 1) * 2 ^ start % 2 ^ 64))))
+          → IsFirstPlaceFrom sllen (row_word sllen low high fl) start (Some (trailing_zeros w64 (bit_and (slice_index low fl) ((2 ^ 64 - 1) * 2 ^ start % 2 ^ 64))))
       first_from-few some =
           let below =
           trailing-some w64 (bit_and (slice_index low fl) ((2 ^ 64 - 1) * 2 ^ start % 2 ^ 64)) some
           (omega (arith, and_le_l (slice_index low fl) ((2 ^ 64 - 1) * 2 ^ start % 2 ^ 64))) in
           (omega (arith, below, scanned_places-few sllen few), scan)
 
-      pub first_from-few_none : bit_and (slice_index low fl) ((2 ^ 64 - 1) * 2 ^ start % 2 ^ 64) ≡ 0 → IsFirstFrom sllen (row_word sllen low high fl) start None
+      pub first_from-few_none : bit_and (slice_index low fl) ((2 ^ 64 - 1) * 2 ^ start % 2 ^ 64) ≡ 0 → IsFirstPlaceFrom sllen (row_word sllen low high fl) start None
       first_from-few_none none =
           subst (λ place. IsFirstOne (scanned_places sllen) (row_word sllen low high fl) start place) (trailing-none w64 _ none ∙ sym (scanned_places-few sllen few)) scan
 
@@ -142,13 +142,13 @@ module _ (sllen : ℕ) (low high : List ℕ) (fl : ℕ) (few : sllen ≤ 64) whe
       ]
 
       pub behind-few : bit_and (slice_index low fl) ((2 ^ 64 - 2) * 2 ^ place % 2 ^ 64) ≢ 0
-          → IsFirstFrom sllen (row_word sllen low high fl) (place + 1) (Some (trailing_zeros w64 (bit_and (slice_index low fl) ((2 ^ 64 - 2) * 2 ^ place % 2 ^ 64))))
+          → IsFirstPlaceFrom sllen (row_word sllen low high fl) (place + 1) (Some (trailing_zeros w64 (bit_and (slice_index low fl) ((2 ^ 64 - 2) * 2 ^ place % 2 ^ 64))))
       behind-few some =
           let word = bit_and (slice_index low fl) ((2 ^ 64 - 2) * 2 ^ place % 2 ^ 64) in
           let less = trailing-some w64 word some (omega (arith, and_le_l (slice_index low fl) ((2 ^ 64 - 2) * 2 ^ place % 2 ^ 64))) in
           (omega (arith, less, scanned_places-few sllen few), scan_behind)
 
-      pub behind-few_none : bit_and (slice_index low fl) ((2 ^ 64 - 2) * 2 ^ place % 2 ^ 64) ≡ 0 → IsFirstFrom sllen (row_word sllen low high fl) (place + 1) None
+      pub behind-few_none : bit_and (slice_index low fl) ((2 ^ 64 - 2) * 2 ^ place % 2 ^ 64) ≡ 0 → IsFirstPlaceFrom sllen (row_word sllen low high fl) (place + 1) None
       behind-few_none none =
           subst (λ a. IsFirstOne (scanned_places sllen) (row_word sllen low high fl) (place + 1) a) (trailing-none w64 _ none ∙ sym (scanned_places-few sllen few)) scan_behind
 

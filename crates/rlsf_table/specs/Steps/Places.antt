@@ -20,6 +20,6 @@ abbrev pub row_words : ℕ → ℕ → List ℕ → List ℕ → List ℕ
 row_words fllen sllen low high = map (row_word sllen low high) (range_with_len 0 fllen)
 
 -- the least scanned place of a word from start on that has a one, if one has
-abbrev pub IsFirstFrom : ℕ → ℕ → ℕ → Option ℕ → Type 0
-IsFirstFrom sllen word start None = IsFirstOne (scanned_places sllen) word start (scanned_places sllen)
-IsFirstFrom sllen word start (Some place) = (place < scanned_places sllen) × IsFirstOne (scanned_places sllen) word start place
+abbrev pub IsFirstPlaceFrom : ℕ → ℕ → ℕ → Option ℕ → Type 0
+IsFirstPlaceFrom sllen word start None = IsFirstOne (scanned_places sllen) word start (scanned_places sllen)
+IsFirstPlaceFrom sllen word start (Some place) = (place < scanned_places sllen) × IsFirstOne (scanned_places sllen) word start place

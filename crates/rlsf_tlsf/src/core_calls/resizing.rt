@@ -3,7 +3,7 @@
 ghost use Rattle.std.specs.Prelude.{◌≡◌, ◌<◌, ◌+◌, ◌-◌, ◌^◌, true, false, IfNone, IfSome};
 ghost use Rattle.rlsf_model.specs.NoMove.{ReallocatesWithoutMove};
 ghost use Rattle.rlsf_blocks.specs.Laws.{read_from};
-ghost use Rattle.rlsf_tlsf.specs.CoreResizes.{IsOwnBehind, KeepsBoundsThere, KeepsCore, KeepsPayloads, stayed_if};
+ghost use Rattle.rlsf_tlsf.specs.CoreResizes.{IsOwnBehind, KeepsBoundsThere, KeepsCore, KeepsPayloadsResizing, stayed_if};
 ghost use Rattle.rlsf_tlsf.specs.Cores.{IsCore, IsOwnFound, LeavesCore, found_cost};
 ghost use Rattle.rlsf_tlsf.specs.Results.{IsResized};
 
@@ -30,7 +30,7 @@ pub(crate) fn resize_block_to<const FLLEN: usize, const SLLEN: usize>(
     ensures left { LeavesCore FLLEN SLLEN memory.old memory.new table.new state.old.state state.new.state 24 }
     ensures step { ReallocatesWithoutMove (read_from memory.old state.old.state) addr layout.size result (read_from memory.new state.new.state) }
     ensures result { IfSome result (λ to. (to ≡ addr) × IsResized (read_from memory.old state.old.state) (read_from memory.new state.new.state) addr layout.size addr) }
-    ensures kept { KeepsPayloads (read_from memory.old state.old.state) (read_from memory.new state.new.state) addr }
+    ensures kept { KeepsPayloadsResizing (read_from memory.old state.old.state) (read_from memory.new state.new.state) addr }
     ensures bounds { KeepsBoundsThere SLLEN (read_from memory.old state.old.state) (read_from memory.new state.new.state) addr layout.size }
     ensures refused { IfNone result (KeepsCore memory.old memory.new table.old table.new state.old.state state.new.state 2) }
 {
@@ -64,7 +64,7 @@ pub fn resize_block_in<const FLLEN: usize, const SLLEN: usize>(
     ensures left { LeavesCore FLLEN SLLEN memory.old memory.new table.new state.old.state state.new.state 24 }
     ensures step { ReallocatesWithoutMove (read_from memory.old state.old.state) addr layout.size (stayed_if result addr) (read_from memory.new state.new.state) }
     ensures result { result ≡ true → IsResized (read_from memory.old state.old.state) (read_from memory.new state.new.state) addr layout.size addr }
-    ensures kept { KeepsPayloads (read_from memory.old state.old.state) (read_from memory.new state.new.state) addr }
+    ensures kept { KeepsPayloadsResizing (read_from memory.old state.old.state) (read_from memory.new state.new.state) addr }
     ensures bounds { KeepsBoundsThere SLLEN (read_from memory.old state.old.state) (read_from memory.new state.new.state) addr layout.size }
     ensures refused { result ≡ false → KeepsCore memory.old memory.new table.old table.new state.old.state state.new.state 2 }
 {
@@ -93,7 +93,7 @@ pub fn resize_in<const FLLEN: usize, const SLLEN: usize>(
     ensures left { LeavesCore FLLEN SLLEN memory.old memory.new table.new state.old.state state.new.state (found_cost align + 24) }
     ensures step { ReallocatesWithoutMove (read_from memory.old state.old.state) addr layout.size (stayed_if result addr) (read_from memory.new state.new.state) }
     ensures result { result ≡ true → IsResized (read_from memory.old state.old.state) (read_from memory.new state.new.state) addr layout.size addr }
-    ensures kept { KeepsPayloads (read_from memory.old state.old.state) (read_from memory.new state.new.state) addr }
+    ensures kept { KeepsPayloadsResizing (read_from memory.old state.old.state) (read_from memory.new state.new.state) addr }
     ensures bounds { KeepsBoundsThere SLLEN (read_from memory.old state.old.state) (read_from memory.new state.new.state) addr layout.size }
     ensures refused { result ≡ false → KeepsCore memory.old memory.new table.old table.new state.old.state state.new.state (found_cost align + 2) }
 {

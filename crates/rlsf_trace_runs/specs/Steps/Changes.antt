@@ -17,9 +17,9 @@ live_in None = 0
 live_in (Some bytes) = 1
 
 -- so many bytes are usable, of a payload that may be live
-abbrev pub usable_in : Option ℕ → ℕ
-usable_in None = 0
-usable_in (Some bytes) = bytes
+abbrev pub usable_or_zero : Option ℕ → ℕ
+usable_or_zero None = 0
+usable_or_zero (Some bytes) = bytes
 
 -- a live payload has the name and this many usable bytes; or no number is given, and no live payload has it
 abbrev pub MeasuresName : RunState → ℕ → Option ℕ → Type 0

@@ -6,7 +6,7 @@ use Rattle.rlsf_model.specs.Lists.{IsIn}
 use Rattle.rlsf_model.specs.WellFormed.{coverage, itself}
 
 -- pools each of which has an address, and no two of which have the same
-pub record AreApart (pools : List Range) : Type 0 where
+pub record ArePoolsApart (pools : List Range) : Type 0 where
   pub some : (p : Range) → IsIn p pools → p.start < end_of p
   pub once : (a : ℕ) → coverage itself pools a ≤ 1
 
@@ -38,7 +38,7 @@ IsLastBegun pools count addr (Some place) =
     × ((k : ℕ) (d : Range) → k < count → (slice_index_or pools k d).start < addr → (slice_index_or pools k d).start ≤ (slice_index_or pools place d).start)
 
 -- all pools in the order of their addresses: none is empty, and each ends where the later ones begin or before
-pub record IsInOrder (pools : List Range) : Type 0 where
+pub record AreInAddressOrder (pools : List Range) : Type 0 where
   pub some : (i : ℕ) (d : Range) → i < length pools → (slice_index_or pools i d).start < end_of (slice_index_or pools i d)
   pub apart : (i j : ℕ) (d : Range) → i < j → j < length pools → end_of (slice_index_or pools i d) ≤ (slice_index_or pools j d).start
 

@@ -15,10 +15,10 @@ use Rattle.rlsf_tlsf.specs.Allocator.{Allocator, IsInState}
 use Rattle.rlsf_trace_runs.specs.declared.tables.Tables.{Tables}
 use Rattle.rlsf_trace_runs.specs.Names.{AreNamed}
 use Rattle.rlsf_trace_runs.specs.Runs.{Does, RunState}
-use Rattle.rlsf_trace_runs.specs.Steps.Pools.{AreApart, AreInRuns}
+use Rattle.rlsf_trace_runs.specs.Steps.Pools.{ArePoolsApart, AreInRuns}
 
 -- the tables have room for so many ops
-pub record HasRoom (tables : Tables) (ops : ℕ) : Type 0 where
+pub record HaveRoomForOps (tables : Tables) (ops : ℕ) : Type 0 where
   pub names : ops ≤ spare tables.names
   pub pools : vec_len tables.pools.ranges + ops ≤ vec_capacity tables.pools.ranges
 
@@ -27,13 +27,13 @@ pub record IsAt (fllen sllen : ℕ) (v : Allocator) (tables : Tables) (s : RunSt
   pub stands : IsInState fllen sllen v s.machine
   pub named : AreNamed s.machine tables.names s.named
   pub pools : IsPermutation s.pools tables.pools.ranges.items
-  pub apart : AreApart tables.pools.ranges.items
+  pub apart : ArePoolsApart tables.pools.ranges.items
   pub in_runs : AreInRuns tables.pools.ranges.items tables.pools.firsts.items
   pub inside : (p : Range) → IsIn p tables.pools.ranges.items → LiesIn p v.memory.start (length v.memory.bytes)
   pub covered : (a : ℕ) → coverage itself s.machine.chunks a ≤ coverage itself s.pools a
   pub rows : (p : Range) → IsIn p s.pools → IsRow s.machine p
 
 -- an op and its answer lead from this state of the run to that of the allocator and the tables; spare bytes are unchanged
-abbrev pub LeadsOn : ℕ → ℕ → Allocator → RunState → Op → Answer → Allocator → Tables → Type 0
-LeadsOn fllen sllen v s op answer w new =
+abbrev pub OpLeadsOn : ℕ → ℕ → Allocator → RunState → Op → Answer → Allocator → Tables → Type 0
+OpLeadsOn fllen sllen v s op answer w new =
     (t : RunState) × Does fllen sllen (range_of v.memory) s op answer t × IsAt fllen sllen w new t × KeepsSpare v.memory s.machine w.memory t.machine

@@ -10,7 +10,7 @@ use Rattle.rlsf_model.proofs.Choices.{choice-some}
 use Rattle.rlsf_table.specs.Table.{IsClassAt}
 use Rattle.rlsf_table.proofs.FreeLists.Counted.{word_at-counted}
 use Rattle.rlsf_blocks.specs.StandsFor.{contents, StandsFor}
-use Rattle.rlsf_blocks.specs.Steps.Rest.{start_of}
+use Rattle.rlsf_blocks.specs.Steps.Rest.{range_start}
 use Rattle.rlsf_blocks.proofs.RepresentedStates.Counted.{KeepsSpare-counted, KeepsSpare-counted_first, StandsFor-counted}
 use Rattle.rlsf_blocks.proofs.RepresentedStates.FreeBlocks.{IsFreeTable-free}
 use Rattle.rlsf_blocks.proofs.Refused.{none_none, none_some}
@@ -46,7 +46,7 @@ returns-in_err-found g c =
       step = λ s v.
           let none = sought g at s (c.in_err-found.ensures.choice s.free (IsFreeTable-free v)) in (
             s,
-            subst (λ o. Allocates g.row.SLLEN s c.args.layout.size c.args.layout.align (start_of o) s) (sym c.from_residual.ensures) (none, refl),
+            subst (λ o. Allocates g.row.SLLEN s c.args.layout.size c.args.layout.align (range_start o) s) (sym c.from_residual.ensures) (none, refl),
             searched g at v,
             KeepsSpare-counted m n counts.start counts.bytes counts.out s s,
           );

@@ -1,7 +1,7 @@
 use Rattle.std.proofs.Common.{◌∙◌, ℕ, sym, subst}
 use Rattle.rlsf_heap.specs.Heap.{PayloadView}
-use Rattle.rlsf_malloc.specs.Calls.{Allocates}
-use Rattle.rlsf_malloc.specs.Replies.{number_of}
+use Rattle.rlsf_malloc.specs.Calls.{AllocatesPayload}
+use Rattle.rlsf_malloc.specs.Replies.{reply_number}
 use Rattle.rlsf_malloc.specs.Resizing.{Resizes, ResizesAligned}
 use Rattle.rlsf_malloc.proofs.resizing.resize_aligned.Goals as goal
 
@@ -14,7 +14,7 @@ returns-then-addr-eq0 g c =
     (record {
       fresh = λ e. (
         sym c.allocate_aligned.ensures.0,
-        subst (λ a. Allocates g.row.SLLEN c.args.heap.now c.args.size a p c.allocate_aligned.new.heap) c.at_least_16-align.ensures c.allocate_aligned.ensures.1,
+        subst (λ a. AllocatesPayload g.row.SLLEN c.args.heap.now c.args.size a p c.allocate_aligned.new.heap) c.at_least_16-align.ensures c.allocate_aligned.ensures.1,
       );
       known = λ some. absurd (some c.if-addr-eq0.true);
     })
@@ -24,7 +24,7 @@ returns-then-align-eq16 g c =
     let r = c.resize.result in record {
       fresh = λ e. absurd (c.if-addr-eq0.false e);
       known = λ some.
-          subst (λ a. Resizes g.row.SLLEN c.args.heap.now c.args.payload.of c.args.size a (number_of r) r.payload.of c.resize.new.heap)
+          subst (λ a. Resizes g.row.SLLEN c.args.heap.now c.args.payload.of c.args.size a (reply_number r) r.payload.of c.resize.new.heap)
           (sym c.if-align-eq16.true ∙ c.at_least_16-align.ensures) c.resize.ensures;
     }
 
@@ -33,6 +33,6 @@ returns g c =
     let r = c.resize_known.result in record {
       fresh = λ e. absurd (c.if-addr-eq0.false e);
       known = λ some.
-          subst (λ a. Resizes g.row.SLLEN c.args.heap.now c.args.payload.of c.args.size a (number_of r) r.payload.of c.resize_known.new.heap) c.at_least_16-align.ensures
+          subst (λ a. Resizes g.row.SLLEN c.args.heap.now c.args.payload.of c.args.size a (reply_number r) r.payload.of c.resize_known.new.heap) c.at_least_16-align.ensures
           c.resize_known.ensures;
     }

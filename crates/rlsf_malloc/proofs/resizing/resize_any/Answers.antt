@@ -2,7 +2,7 @@ use Rattle.std.proofs.Common.{◌≡◌, ℕ, Some, arith, rules, true≢false, 
 use Rattle.rlsf_model.specs.Callers.{align_at}
 use Rattle.rlsf_heap.specs.Heap.{HeapView, PayloadView}
 use Rattle.rlsf_malloc.specs.Calls.{IsLiveAligned}
-use Rattle.rlsf_malloc.specs.Replies.{number_of}
+use Rattle.rlsf_malloc.specs.Replies.{reply_number}
 use Rattle.rlsf_malloc.specs.Resizing.{Resizes, ResizesAny, ResizesWide}
 use Rattle.rlsf_malloc.proofs.Outcomes.{some-same}
 use Rattle.rlsf_malloc.proofs.resizing.resize_any.Goals as goal
@@ -32,7 +32,7 @@ returns-then-is_narrow g c =
     sym (ap (λ (v : HeapView). align_at v.state c.args.addr) did.same) ∙ c.is_narrow.ensures.0 c.if-is_narrow.true in
     record {
       fresh = λ e. absurd (c.if-addr-eq0.false e);
-      narrow = λ some e. subst (λ (u : HeapView × PayloadView). Resizes g.row.SLLEN u.0 u.1 c.args.size 16 (number_of r) r.payload.of new)
+      narrow = λ some e. subst (λ (u : HeapView × PayloadView). Resizes g.row.SLLEN u.0 u.1 c.args.size 16 (reply_number r) r.payload.of new)
           (λ i. (did.same i, did.payload.1 i)) c.resize.ensures;
       wide = λ some wide. absurd (omega (arith, wide, some-same (sym narrow ∙ did.live)));
     }
@@ -44,6 +44,6 @@ returns-else-is_narrow g c =
     record {
       fresh = λ e. absurd (c.if-addr-eq0.false e);
       narrow = λ some e. absurd (true≢false (sym (c.is_narrow.ensures.1 (state ∙ did.live ∙ ap (λ n. Some n) e)) ∙ c.if-is_narrow.false));
-      wide = λ some wide. subst (λ (u : HeapView × PayloadView). ResizesWide g.row.SLLEN u.0 u.1 c.args.size (number_of r) r.payload.of new)
+      wide = λ some wide. subst (λ (u : HeapView × PayloadView). ResizesWide g.row.SLLEN u.0 u.1 c.args.size (reply_number r) r.payload.of new)
           (λ i. (did.same i, did.payload.1 i)) c.resize_wide.ensures;
     }

@@ -6,7 +6,7 @@ use Rattle.rlsf_model.specs.Insert.{IsNext}
 use Rattle.rlsf_model.proofs.Chunks.{used-appended, used-inserted}
 use Rattle.rlsf_offsets.proofs.Frees.{no_chunk, shadow_chunk}
 use Rattle.rlsf_offsets.proofs.Growths.{AreWhole-used, IsNext-shadow, few_chunks, longer_shadow}
-use Rattle.rlsf_offsets.proofs.Kept.{IsCore-kept, IsKept-longer}
+use Rattle.rlsf_offsets.proofs.Kept.{IsCore-kept, IsUnitAllocator-longer}
 use Rattle.rlsf_offsets.proofs.units.lengthen.Goals as goal
 
 -- ---- the first units
@@ -20,7 +20,7 @@ returns-then-from-eq0 c =
     let t = read_from c.insert_in.new.memory c.insert_in.new.state.state in
     let none = kept.shadow.none c.if-from-eq0.true in
     record {
-      kept = IsKept-longer kept e.left c.requires.room (AreWhole-used s t (used-inserted 59 s t r _ e.step) kept.shadow.whole)
+      kept = IsUnitAllocator-longer kept e.left c.requires.room (AreWhole-used s t (used-inserted 59 s t r _ e.step) kept.shadow.whole)
           (shadow_chunk c.args.to r s t _ c.first_units.ensures none e.step) (no_chunk c.args.to r s t _ c.first_units.ensures none e.step);
       bounds = e.bounds;
       frame = e.frame;
@@ -63,7 +63,7 @@ returns c =
     let start = ap (λ (r : Range). r.start) c.units_behind.ensures in
     let len = ap (λ (r : Range). r.len) c.units_behind.ensures in
     record {
-      kept = IsKept-longer kept e.left c.requires.room (AreWhole-used s t (used-appended 59 s t r _ e.step) kept.shadow.whole)
+      kept = IsUnitAllocator-longer kept e.left c.requires.room (AreWhole-used s t (used-appended 59 s t r _ e.step) kept.shadow.whole)
           (λ more. longer_shadow c.args.from c.args.to s t r _ some c.requires.longer (kept.shadow.chunks some) start len e.step)
           (λ zero. absurd (omega (arith, zero, some, c.requires.longer)));
       bounds = e.bounds;

@@ -1,7 +1,7 @@
 use Rattle.std.proofs.Common.{◌≡◌, None, sym, subst}
 use Rattle.rlsf_base.specs.Addr.{at}
 use Rattle.rlsf_model.specs.Callers.{align_at}
-use Rattle.rlsf_pool.specs.Answers.{code_of}
+use Rattle.rlsf_pool.specs.Answers.{reply_code}
 use Rattle.rlsf_pool.specs.Calls.{Reads}
 use Rattle.rlsf_pool.specs.Seen.{seen_in}
 use Rattle.rlsf_pool.proofs.Outcomes.{none_read, read_as}
@@ -16,7 +16,7 @@ returns-in-Some g c =
     let now = c.read.new.bytes in
     let done = read_as v (at c.in-Some.addr) c.args.offset was now c.read.result did.answer did.read did.refused in
     subst (λ n. Reads v c.args.addr c.args.offset was n now) (sym c.to_code.ensures)
-    (subst (λ a. Reads v a c.args.offset was (code_of c.read.result) now) c.in-Some.ensures done)
+    (subst (λ a. Reads v a c.args.offset was (reply_code c.read.result) now) c.in-Some.ensures done)
 
 pub returns-in-None : goal.returns-in-None
 returns-in-None g c =

@@ -1,8 +1,8 @@
 use Rattle.std.proofs.Common.{◌≡◌, None, sym, subst}
 use Rattle.rlsf_base.specs.Addr.{at}
 use Rattle.rlsf_model.specs.Callers.{align_at}
-use Rattle.rlsf_pool.specs.Answers.{code_of}
-use Rattle.rlsf_pool.specs.Calls.{Writes}
+use Rattle.rlsf_pool.specs.Answers.{reply_code}
+use Rattle.rlsf_pool.specs.Calls.{PoolWrites}
 use Rattle.rlsf_pool.specs.Seen.{seen_in}
 use Rattle.rlsf_pool.proofs.Outcomes.{none_written, written}
 use Rattle.rlsf_pool.proofs.Zero.{none_at_zero}
@@ -16,8 +16,8 @@ returns-in-Some g c =
     let did = c.write.ensures in
     let bytes = c.args.bytes.now in
     let done = written sllen old new (at c.in-Some.addr) c.args.offset bytes c.write.result did.result did.refused did.frame in
-    subst (λ n. Writes (seen_in sllen old) c.args.addr c.args.offset bytes n (seen_in sllen new)) (sym c.to_code.ensures)
-    (subst (λ a. Writes (seen_in sllen old) a c.args.offset bytes (code_of c.write.result) (seen_in sllen new)) c.in-Some.ensures done)
+    subst (λ n. PoolWrites (seen_in sllen old) c.args.addr c.args.offset bytes n (seen_in sllen new)) (sym c.to_code.ensures)
+    (subst (λ a. PoolWrites (seen_in sllen old) a c.args.offset bytes (reply_code c.write.result) (seen_in sllen new)) c.in-Some.ensures done)
 
 pub returns-in-None : goal.returns-in-None
 returns-in-None g c =
@@ -25,4 +25,4 @@ returns-in-None g c =
     let bytes = c.args.bytes.now in
     let none : align_at v.state c.args.addr ≡ None =
     subst (λ a. align_at v.state a ≡ None) (sym c.in-None.ensures) (none_at_zero g.row.FLLEN g.row.SLLEN c.args.heap.now.heap c.memory_ref.ensures.stands) in
-    subst (λ n. Writes v c.args.addr c.args.offset bytes n v) (sym c.number.ensures) (none_written v c.args.addr c.args.offset bytes none)
+    subst (λ n. PoolWrites v c.args.addr c.args.offset bytes n v) (sym c.number.ensures) (none_written v c.args.addr c.args.offset bytes none)

@@ -29,7 +29,7 @@ use Rattle.std_heap.proofs.Handle.{heap_val, heap_Tells}
 use Rattle.std_heap.specs.contracts.Global.{the_row as Heap}
 use Rattle.rlsf_base.specs.RawParts.{CanStart, LiesAtBlock}
 use Rattle.rlsf_base.specs.OpenSpace.{place_in}
-use Rattle.rlsf_base.specs.Steps.Ownership.{bytes_at, bytes_own, units_for, units_from}
+use Rattle.rlsf_base.specs.Steps.Ownership.{bytes_at_pointer, bytes_own, units_for, units_from}
 use Rattle.rlsf_base.specs.contracts.memory.Memory as memory
 use Rattle.rlsf_base.proofs.memory.Memory.TheLaws as memory_laws
 use Rattle.rlsf_base.specs.contracts.memory.block.RawParts as parts_type
@@ -80,7 +80,7 @@ readdressed_spec 𝓤 𝓛 𝓜 𝓡 wired =
     (and_then ! (get ! refl) (no_more !)) (λ v.
     use1 𝓛 (later (some (λ (p : Ptr). (‵ ftrue ⊛ ‵ (RawPtr.own_val p (v ∷ []))) ⊛
     some (λ (ws : (Unit {0} × (Unit {0} × (Unit {0} × (Unit {0} × Unit {0})))) × Unit {0}). ‵ (lasts g.ended z.0.0 z.0.3 ws) ⊛
-    (‵ (bytes_at p parts.start parts.bytes.bytes) ⊛ raw (fact 𝓤 (p ≡ parts.base.ptr))))))) (id⊢ 𝓤 _) $
+    (‵ (bytes_at_pointer p parts.start parts.bytes.bytes) ⊛ raw (fact 𝓤 (p ≡ parts.base.ptr))))))) (id⊢ 𝓤 _) $
     await ! tt $ pick ! (λ p. split ! $ split ! $ drop ! $
     peeks ! RawPtr (Is RawPtr) (shows 𝓛 RawPtr) p (v ∷ []) (λ is_ptr. lands_as ! refl refl ((rawptr_Lawful 𝓛).typed p _ is_ptr).0 $
     move ! (1 ∷ []) $ pick ! (λ ws. split ! $ drop ! $ split ! $ move ! (1 ∷ []) $ drop ! $

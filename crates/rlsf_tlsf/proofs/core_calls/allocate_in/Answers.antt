@@ -4,7 +4,7 @@ use Rattle.rlsf_model.specs.Sized.{IsSizedFor}
 use Rattle.rlsf_model.specs.State.{State}
 use Rattle.rlsf_model.proofs.SizedWords.{never_refused, sized_new}
 use Rattle.rlsf_blocks.specs.Laws.{read_from}
-use Rattle.rlsf_tlsf.specs.Cores.{IsPlaced}
+use Rattle.rlsf_tlsf.specs.Cores.{IsPayloadRange}
 use Rattle.rlsf_tlsf.specs.Steps.Moves.{allocated, bare}
 use Rattle.rlsf_tlsf.proofs.Moved.{allocated-bare}
 use Rattle.rlsf_tlsf.proofs.Placed.{IsPlaced-at}
@@ -56,7 +56,7 @@ returns-in-Some g c =
     record {
       left = LeavesCore-arrived stands after is c.requires.valid spare e.costs e.own e.here;
       step = reads stands after is (Allocates g.row.SLLEN s size align (Some range.start)) places;
-      result = reads stands after is (λ (x : State). IsPlaced n s x size align range) (IsPlaced-at c.requires.stands power places stands e.own range refl long);
+      result = reads stands after is (λ (x : State). IsPayloadRange n s x size align range) (IsPlaced-at c.requires.stands power places stands e.own range refl long);
       room = λ count most widest sized few short fits. refl;
       bounds = λ count most widest sized short fits. reads stands after is (IsSizedFor g.row.SLLEN count most widest)
           (sized_new c.requires.stands.well_formed t count most widest sized size align (Some range.start) power short fits places);

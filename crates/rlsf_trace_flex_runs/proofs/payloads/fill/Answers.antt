@@ -3,7 +3,7 @@ use Rattle.rlsf_trace_flex_runs.specs.FlexRuns.{without_source}
 use Rattle.rlsf_trace_flex_runs.specs.Steps.Names.{run_of}
 use Rattle.rlsf_model.specs.Run.{Fills}
 use Rattle.rlsf_trace_runs.specs.Names.{address}
-use Rattle.rlsf_trace_runs.specs.Runs.{with_machine}
+use Rattle.rlsf_trace_runs.specs.Runs.{run_with_machine}
 use Rattle.rlsf_trace_runs.proofs.Named.{unnamed}
 use Rattle.rlsf_trace_text.specs.declared.op.Answer.TheVariants.{Refused}
 use Rattle.rlsf_trace_text.specs.declared.op.Op.TheVariants.{Fill}
@@ -31,7 +31,7 @@ returns g c =
     let rest = c.payload_mut.ensures.rest w in
     filled c.requires rest.2 rest.3 (Fill c.args.name c.args.byte) (address p) w (address p, w, refl) (λ m step. (
       refl,
-      with_machine (without_source s) m,
+      run_with_machine (without_source s) m,
       (u, owns, m, subst (λ l. Fills s.flex.machine u.payload l m) bytes (subst (λ a. Fills s.flex.machine a w m) (sym holds.1) step), refl),
       refl,
       refl,

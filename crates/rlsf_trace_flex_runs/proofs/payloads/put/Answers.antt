@@ -4,7 +4,7 @@ use Rattle.rlsf_trace_flex_runs.specs.FlexRuns.{without_source}
 use Rattle.rlsf_trace_flex_runs.specs.Steps.Names.{run_of}
 use Rattle.rlsf_model.specs.Run.{Fills}
 use Rattle.rlsf_trace_runs.specs.Names.{address}
-use Rattle.rlsf_trace_runs.specs.Runs.{with_machine}
+use Rattle.rlsf_trace_runs.specs.Runs.{run_with_machine}
 use Rattle.rlsf_trace_runs.proofs.Named.{unnamed}
 use Rattle.rlsf_trace_text.specs.declared.op.Answer.TheVariants.{Refused}
 use Rattle.rlsf_trace_text.specs.declared.op.Op.TheVariants.{Put}
@@ -50,7 +50,7 @@ returns g c =
     subst (λ a. Fills s.flex.machine a (slice_set u.bytes c.args.offset c.args.byte) m) (sym holds.1)
     (subst (λ l. Fills s.flex.machine (address p) (slice_set l c.args.offset c.args.byte) m) lent step) in (
       refl,
-      with_machine (without_source s) m,
+      run_with_machine (without_source s) m,
       (u, owns, omega (arith, c.if-offset-allocation_usable_size.false, c.allocation_usable_size.ensures, ap length its, long), m, fills, refl),
       refl,
       refl,

@@ -2,7 +2,7 @@ use Rattle.std.proofs.Common.{length, replicate, refl, sym, ◌∙◌, ap, subst
 use Rattle.rlsf_model.specs.Run.{Fills}
 use Rattle.rlsf_tlsf.proofs.Standing.{bytes_in, stepped}
 use Rattle.rlsf_trace_runs.specs.Names.{address}
-use Rattle.rlsf_trace_runs.specs.Runs.{with_machine}
+use Rattle.rlsf_trace_runs.specs.Runs.{run_with_machine}
 use Rattle.rlsf_trace_runs.proofs.NamedPayloads.{IsAt-filled, owned, LeadsOn-nothing}
 use Rattle.rlsf_trace_text.specs.declared.op.Answer.TheVariants.{Refused}
 use Rattle.rlsf_trace_text.specs.declared.op.Op.TheVariants.{Fill}
@@ -27,6 +27,6 @@ returns g c = record {
       let whole = ap length (c.payload_mut.ensures.value ∙ bytes_in at.stands (address p) u holds) ∙ long in
       let bytes = c.fill.ensures.after (λ y e. e) ∙ ap (λ n. replicate n c.args.byte) whole in
       let fills = subst (λ l. Fills s.machine u.payload l t) bytes (subst (λ a. Fills s.machine a w t) (sym holds.1) step) in
-      (with_machine s t, (u, owns, t, fills, refl), IsAt-filled at (c.payload_mut.ensures.rest w).1 t stands (address p) w step, keeps);
+      (run_with_machine s t, (u, owns, t, fills, refl), IsAt-filled at (c.payload_mut.ensures.rest w).1 t stands (address p) w step, keeps);
   place = (c.payload_mut.ensures.rest c.fill.new.self).1;
 }

@@ -6,7 +6,7 @@ use Rattle.rlsf_trace_text.specs.declared.op.Op.TheVariants.{Put}
 use Rattle.rlsf_trace_text.specs.declared.op.TraceError.TheVariants.{BadOffset, UnknownName}
 use Rattle.rlsf_tlsf.proofs.Standing.{bytes_in, stepped}
 use Rattle.rlsf_trace_runs.specs.Names.{address}
-use Rattle.rlsf_trace_runs.specs.Runs.{with_machine}
+use Rattle.rlsf_trace_runs.specs.Runs.{run_with_machine}
 use Rattle.rlsf_trace_runs.proofs.NamedPayloads.{IsAt-filled, LeadsOn-nothing, owned}
 use Rattle.rlsf_trace_runs.proofs.Named.{unnamed}
 use Rattle.rlsf_trace_runs.proofs.payloads.put.Goals as goal
@@ -47,7 +47,7 @@ returns g c = record {
       let fills =
       subst (λ a. Fills s.machine a (slice_set u.bytes c.args.offset c.args.byte) t) (sym holds.1)
       (subst (λ l. Fills s.machine (address p) (slice_set l c.args.offset c.args.byte) t) lent step) in (
-        with_machine s t,
+        run_with_machine s t,
         (u, owns, omega (arith, c.if-offset-payload.false, ap length bytes, long), t, fills, refl),
         IsAt-filled at (c.payload_mut.ensures.rest w).1 t stands (address p) w step,
         keeps,

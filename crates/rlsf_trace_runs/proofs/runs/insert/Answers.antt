@@ -11,7 +11,7 @@ use Rattle.rlsf_trace_text.specs.declared.op.Op.TheVariants.{Insert}
 use Rattle.rlsf_trace_text.specs.declared.op.TraceError.TheVariants.{BadRange}
 use Rattle.rlsf_blocks.specs.Spare.{KeepsSpare}
 use Rattle.rlsf_tlsf.proofs.Standing.{of_state, stepped}
-use Rattle.rlsf_trace_runs.specs.Runs.{MayInsert, RunState, with_pool}
+use Rattle.rlsf_trace_runs.specs.Runs.{MayInsert, RunState, with_new_pool}
 use Rattle.rlsf_trace_runs.specs.Steps.Tables.{IsAt}
 use Rattle.rlsf_trace_runs.proofs.NewPools.{pool_bounds}
 use Rattle.rlsf_trace_runs.proofs.NamedPayloads.{LeadsOn-nothing, room_left}
@@ -75,7 +75,7 @@ returns-in_default g c = record {
       let none : reply c.insert_free_block_ptr-taken.result ≡ None = ap reply c.in_default.is in
       let refused = subst (λ o. Inserts g.row.FLLEN s.machine c.args.range o t) none step in
       subst (λ o. (x : RunState) × (MayInsert (range_of c.args.tlsf.now.memory) s.pools c.args.range × (machine : State) × Inserts g.row.FLLEN s.machine c.args.range o machine
-      × (x ≡ record { machine = machine; named = s.named; pools = with_pool c.args.range o s.pools }))
+      × (x ≡ record { machine = machine; named = s.named; pools = with_new_pool c.args.range o s.pools }))
       × IsAt g.row.FLLEN g.row.SLLEN c.insert_free_block_ptr-taken.new.self c.args.tables.now x
       × KeepsSpare c.args.tlsf.now.memory s.machine c.insert_free_block_ptr-taken.new.self.memory x.machine) (sym none)
       (_, (may, t, refused, refl), IsAt-not_inserted at c.insert_free_block_ptr-taken.ensures.frame.place t stands c.args.range refused, keeps);

@@ -25,7 +25,7 @@ use Rattle.std_heap.specs.contracts.Global.{the_row as Heap}
 use Rattle.rlsf_base.proofs.RawBlock.Dropped.{all_dropped, all_go}
 use Rattle.rlsf_base.specs.RawParts.{CanStart}
 use Rattle.rlsf_base.specs.OpenSpace.{place_in}
-use Rattle.rlsf_base.specs.Steps.Ownership.{bytes_at, units_from}
+use Rattle.rlsf_base.specs.Steps.Ownership.{bytes_at_pointer, units_from}
 use Rattle.rlsf_base.specs.contracts.memory.Memory as memory
 use Rattle.rlsf_base.proofs.memory.Memory.TheLaws as memory_laws
 use Rattle.rlsf_base.specs.contracts.memory.block.Bytes as owner
@@ -51,7 +51,7 @@ from_raw_parts_spec 𝓤 𝓛 𝓜 𝓡 wired =
     let h = a.0 in let p = a.1.0 in let start = a.1.1.0 in let len = a.1.1.1.0 in
     let y : W.Ghost = ((κs, qs, bounds, a, (heap_val ∷ [], (rawptr_vals p, (uint_vals w64 start, (uint_vals w64 len, tt))))), bytes) in
     let Asked : Type 0 = (length bytes ≡ len) × CanStart start len in
-    qed 𝓛 ((‵ ftrue ⊛ ‵ (owns (Heap ∷ RawPtr ∷ usize ∷ usize ∷ []) a y.0.4)) ∷ (‵ (bytes_at p start bytes) ⊛ raw (fact 𝓤 Asked)) ∷ []) ∵
+    qed 𝓛 ((‵ ftrue ⊛ ‵ (owns (Heap ∷ RawPtr ∷ usize ∷ usize ∷ []) a y.0.4)) ∷ (‵ (bytes_at_pointer p start bytes) ⊛ raw (fact 𝓤 Asked)) ∷ []) ∵
     move ! (1 ∷ []) $ split ! $ move ! (1 ∷ []) $ heard ! Asked (λ asked. move ! (1 ∷ []) $ split ! $ drop ! $ fsplit ! $ keep ! (0 ∷ 2 ∷ []) $
     -- [the heap's handle; the bytes]
     enter ! _ _ _ _ _ $ alloc_all !

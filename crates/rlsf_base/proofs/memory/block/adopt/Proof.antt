@@ -14,7 +14,7 @@ use denote.Triple.Entry.{on_entry}
 use denote.Triple.Walked.{says, Stays, walk_of, stay_dropped, Goes-dropped, ends_at}
 use Rattle.std.proofs.raw_atomic.Walks.{proved}
 use Rattle.rlsf_base.specs.Out.{Change}
-use Rattle.rlsf_base.specs.Steps.Ownership.{bytes_at, units_from}
+use Rattle.rlsf_base.specs.Steps.Ownership.{bytes_at_pointer, units_from}
 use Rattle.rlsf_base.proofs.RawBlock.Values.{mark_val, mark_own, mark_made}
 use Rattle.rlsf_base.specs.contracts.memory.block.Bytes as owner
 use Rattle.rlsf_base.specs.contracts.memory.block.adopt as f
@@ -35,7 +35,7 @@ adopt_spec 𝓤 𝓛 𝓜 𝓡 wired =
     let y : W.Ghost = ((κs, qs, bounds, a, (rawptr_vals a.0, (uint_vals w64 start, tt))), bytes) in
     let no_changes : List Change = [] in
     let made : (owner.the_row).Denot = record { mark = record {}; at = a.0; skip = 0; bytes = bytes; out = no_changes; of = (0, 0); units = units_from start (length bytes) } in
-    qed 𝓛 (raw (on_entry 𝓛 f.signature κs qs a y.0.4) ∷ ‵ (bytes_at a.0 start bytes) ∷ []) ∵ drop ! $
+    qed 𝓛 (raw (on_entry 𝓛 f.signature κs qs a y.0.4) ∷ ‵ (bytes_at_pointer a.0 start bytes) ∷ []) ∵ drop ! $
     enter ! _ _ _ _ _ $ alloc_all ! (λ l. pass_all ! refl (((rawptr_Lawful 𝓛).typed a.0 _ refl).0, ((tt, record { fits = are.1.0.1 }), tt)) $
     sets ! (agg ! (no_more !)) refl (tt, tt) $ sets ! (agg ! (and_then ! (get ! refl) (no_more !))) refl (tt, (tt, tt)) $
     returns ! (look_at ! 0 refl) $ free_all ! refl $

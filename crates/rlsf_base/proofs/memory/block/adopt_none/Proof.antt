@@ -16,7 +16,7 @@ use denote.Triple.Entry.{on_entry}
 use denote.Triple.Walked.{says, Stays, walk_of, stay_dropped, Goes-dropped, ends_at}
 use Rattle.std.proofs.raw_atomic.Walks.{proved}
 use Rattle.rlsf_base.specs.Out.{Change, kept_at}
-use Rattle.rlsf_base.specs.Changes.{IsOut, left}
+use Rattle.rlsf_base.specs.Changes.{AreBytesOut, left}
 use Rattle.rlsf_base.specs.Steps.Ownership.{IsInBlock, held, bytes_own, units_from, own_unit, ways_of}
 use Rattle.rlsf_base.proofs.RawBlock.Rows.{held-gone}
 use Rattle.rlsf_base.proofs.RawBlock.Units.{left-out, unit-gone, ways_none}
@@ -39,7 +39,7 @@ adopt_none_spec 𝓤 𝓛 𝓜 𝓡 wired =
     let start = a.1.0 in let len = a.1.1.0 in let units = units_from start len in
     let y : W.Ghost = ((κs, qs, bounds, a, (rawptr_vals a.0, (uint_vals w64 start, (uint_vals w64 len, tt)))), g) in
     let bs : List ℕ = replicate len 0 in let no_changes : List Change = [] in let cs = left 0 len no_changes in let as_many : length bs ≡ len = length-replicate len 0 in
-    let gone : IsOut cs 0 len = left-out no_changes 0 len in
+    let gone : AreBytesOut cs 0 len = left-out no_changes 0 len in
     let made : (owner.the_row).Denot = record { mark = record {}; at = a.0; skip = 0; bytes = bs; out = cs; of = (0, 0); units = units } in
     let Asked : Type 0 = IsInBlock a.0 × (len < 2 ^ 63) in
     qed 𝓛 (raw (on_entry 𝓛 f.signature κs qs a y.0.4) ∷ raw (fact 𝓤 Asked) ∷ []) ∵ drop ! $

@@ -2,7 +2,7 @@ use Rattle.std.proofs.Common.{◌≡◌, ◌+◌, ◌-◌, ◌≤◌, ◌∙◌,
 use Rattle.std.proofs.lemmas.List.{take_rest}
 use Rattle.std.specs.List.{splice}
 use Rattle.rlsf_base.specs.Out.{Change}
-use Rattle.rlsf_base.specs.Changes.{IsIn, IsOwn, came_back}
+use Rattle.rlsf_base.specs.Changes.{AreBytesHere, IsOwn, came_back}
 use Rattle.rlsf_base.proofs.RawBlock.Fills.{grows-by, more-by, own-written}
 use Rattle.rlsf_base.proofs.memory.copying.write_units.Goals as goal
 
@@ -17,6 +17,6 @@ loop-unit-preserved g c =
     let bytes = e.0.2 ∙ (λ j. splice (is.1.2 j) (at j) (at j + 16) (unit j)) ∙ more-by old new i 16 fits in (
       fits,
       (e.0.0 ∙ is.1.0, e.0.1 ∙ is.1.1, bytes, e.0.3 ∙ is.1.3, e.0.4 ∙ is.1.4),
-      subst (λ (u : List Change). IsIn u 0 (i + 16)) (sym cs) (grows-by c.loop-unit.bytes.out i 16 is.2),
+      subst (λ (u : List Change). AreBytesHere u 0 (i + 16)) (sym cs) (grows-by c.loop-unit.bytes.out i 16 is.2),
       subst (λ (u : List Change). IsOwn u 0 (length new)) (sym cs) (own-written c.loop-unit.bytes.out i 16 0 (length new) is.3),
     )

@@ -1,7 +1,7 @@
 use Rattle.std.proofs.Common.{◌≡◌, ◌<◌, ◌+◌, ◌-◌, ◌∙◌, ap, arith, length, List, [], ◌∷◌, subst, sym}
 use Rattle.std.specs.List.{splice}
 use Rattle.rlsf_base.specs.Out.{Change}
-use Rattle.rlsf_base.specs.Changes.{IsIn, IsOwn, came_back}
+use Rattle.rlsf_base.specs.Changes.{AreBytesHere, IsOwn, came_back}
 use Rattle.rlsf_base.proofs.RawBlock.Fills.{filled-from, grows, own-written}
 use Rattle.rlsf_base.proofs.memory.filling.fill_bytes_from.Goals as goal
 
@@ -15,6 +15,6 @@ loop-index-preserved c =
       omega (arith, is.0),
       omega (arith, c.loop-index-test.true),
       (e.0.0 ∙ is.2.0, e.0.1 ∙ is.2.1, bytes, e.0.3 ∙ is.2.3, e.0.4 ∙ is.2.4),
-      subst (λ (u : List Change). IsIn u 0 (i + 1)) (sym cs) (grows c.loop-index.bytes.out i is.3),
+      subst (λ (u : List Change). AreBytesHere u 0 (i + 1)) (sym cs) (grows c.loop-index.bytes.out i is.3),
       subst (λ (u : List Change). IsOwn u 0 c.args.len) (sym cs) (own-written c.loop-index.bytes.out i 1 0 c.args.len is.4),
     )

@@ -4,7 +4,7 @@ use Rattle.rlsf_base.specs.Range.{end_of}
 use Rattle.rlsf_base.specs.Space.{range_of}
 use Rattle.rlsf_blocks.specs.Blocks.{walked}
 use Rattle.rlsf_blocks.specs.Consistency.Consistent.{HasChunks}
-use Rattle.rlsf_blocks.specs.Consistency.Pools.{IsPool, pool_at}
+use Rattle.rlsf_blocks.specs.Consistency.Pools.{HasPoolAt, pool_at}
 use Rattle.rlsf_blocks.specs.Steps.BlockAt.{CanReadChunks}
 use Rattle.rlsf_blocks.specs.Steps.Legible.{HasLegibleHeads}
 use Rattle.rlsf_blocks.proofs.Consistency.Reading.{HasLegibleHeads-agree, HasLegibleHeads-here}
@@ -35,7 +35,7 @@ has_chunks-requires g c =
     let m = c.args.memory.now in
     let t = c.args.table.now in
     let k = c.loop-k.k in
-    let is : IsPool ps k = omega (arith, c.loop-k-test.true) in
+    let is : HasPoolAt ps k = omega (arith, c.loop-k-test.true) in
     let legible : CanReadChunks g.row.FLLEN g.row.SLLEN ps m t (walked (pool_at ps k)) = elim c.requires.legible [
       | inl here ↦ inl here
       | inr are ↦ inr (pools_chunks g.row.FLLEN g.row.SLLEN ps m t are k is)

@@ -2,7 +2,7 @@
 use Rattle.std.proofs.Common.{◌≡◌, ◌-◌, ◌%◌, ◌≤◌}
 use Rattle.rlsf_model.specs.ChunkRows.{IsRow}
 use Rattle.rlsf_model.specs.State.{State, between}
-use Rattle.rlsf_blocks.specs.Consistency.Layout.{HasLayout}
+use Rattle.rlsf_blocks.specs.Consistency.Layout.{HasInBandLayout}
 use Rattle.rlsf_blocks.proofs.Consistency.Pieces.{SomeChunks}
 use Rattle.rlsf_blocks.proofs.consistency_check.chunks.are_chunks.Given as goal
 
@@ -12,7 +12,7 @@ invariant-loop-chunk g l = record {
   to : l.chunk ≤ l.end;
   whole : l.chunk % 32 ≡ 0;
   chunks : SomeChunks g.row.FLLEN g.row.SLLEN l.pools l.memory l.table l.start l.chunk;
-  passes : (s : State) → HasLayout g.row.FLLEN g.row.SLLEN l.pools l.memory l.table (between l.start l.end) s → IsRow s (between l.chunk l.end);
+  passes : (s : State) → HasInBandLayout g.row.FLLEN g.row.SLLEN l.pools l.memory l.table (between l.start l.end) s → IsRow s (between l.chunk l.end);
 }
 
 abbrev pub decreases-loop-chunk : goal.decreases-loop-chunk

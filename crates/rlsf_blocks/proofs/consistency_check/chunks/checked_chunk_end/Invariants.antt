@@ -5,7 +5,7 @@ use Rattle.rlsf_base.specs.Range.{end_of}
 use Rattle.rlsf_blocks.proofs.Walking.ChunkEnds.{IsInChunk}
 use Rattle.rlsf_model.specs.Lists.{IsIn}
 use Rattle.rlsf_model.specs.State.{State}
-use Rattle.rlsf_blocks.specs.Consistency.Layout.{HasLayout}
+use Rattle.rlsf_blocks.specs.Consistency.Layout.{HasInBandLayout}
 use Rattle.rlsf_blocks.proofs.Consistency.Pieces.{SomePart}
 use Rattle.rlsf_blocks.proofs.consistency_check.chunks.checked_chunk_end.Given as goal
 
@@ -16,7 +16,7 @@ invariant-loop-block g l = record {
   whole : l.block % 32 ≡ 0;
   part : SomePart g.row.FLLEN g.row.SLLEN l.pools l.memory l.table l.chunk l.block;
   passes : (s : State) (c r : Range)
-      → HasLayout g.row.FLLEN g.row.SLLEN l.pools l.memory l.table r s → IsIn c s.chunks → c.start ≡ l.chunk → end_of c ≤ l.end → IsInChunk s c l.block;
+      → HasInBandLayout g.row.FLLEN g.row.SLLEN l.pools l.memory l.table r s → IsIn c s.chunks → c.start ≡ l.chunk → end_of c ≤ l.end → IsInChunk s c l.block;
 }
 
 abbrev pub decreases-loop-block : goal.decreases-loop-block

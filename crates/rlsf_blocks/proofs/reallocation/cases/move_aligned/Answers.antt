@@ -2,7 +2,7 @@ use Rattle.std.proofs.Common.{◌≡◌, ◌∙◌, ℕ, Some, IfNone, arith, su
 use Rattle.rlsf_base.specs.Addr.{reply_of}
 use Rattle.rlsf_blocks.proofs.Reallocate.Addresses.{address_some, some_reply}
 use Rattle.rlsf_blocks.proofs.Deallocate.Addresses.{narrow_start}
-use Rattle.rlsf_blocks.specs.Steps.Resize.{IsHereStill, IsReallocated, IsUsedAt}
+use Rattle.rlsf_blocks.specs.Steps.Resize.{IsHereStill, StepsToReallocated, IsUsedAt}
 use Rattle.rlsf_model.specs.Reallocate.{plan}
 use Rattle.rlsf_model.specs.State.{State, Used}
 use Rattle.rlsf_blocks.proofs.reallocation.cases.move_aligned.Goals as goal
@@ -34,7 +34,7 @@ returns-in-Some g c =
     let same : Some to ≡ reply_of to = some_reply to (address_some g.row.SLLEN s t u size to (plan s u size) stands.well_formed.used by) in
     rw (← c.layout_in-layout.ensures) (record {
       step = λ s u v is first here.
-          subst (λ o. IsReallocated g.row.FLLEN g.row.SLLEN m n c.moved.new.table s u size o) same (e.step s u v (there at is) first here);
+          subst (λ o. StepsToReallocated g.row.FLLEN g.row.SLLEN m n c.moved.new.table s u size o) same (e.step s u v (there at is) first here);
       refused = subst (λ o. IfNone o (n.bytes ≡ m.bytes)) same tt;
       costs = e.costs;
       copied = λ s u v is. e.copied s u v (there at is);

@@ -5,9 +5,9 @@ use Rattle.rlsf_model.specs.Remove.{IsIdle}
 use Rattle.rlsf_tlsf.proofs.Arrivals.{well_formed}
 use Rattle.rlsf_tlsf.proofs.IdleRows.{idle_if, used_if}
 use Rattle.rlsf_checked.specs.Checked.{PoolList}
-use Rattle.rlsf_checked.specs.Pools.{inserted}
+use Rattle.rlsf_checked.specs.Pools.{current_pools}
 use Rattle.rlsf_checked.specs.Steps.Lists.{listed}
-use Rattle.rlsf_checked.specs.Steps.Standing.{IsChecked, IsOneOf, IsPool}
+use Rattle.rlsf_checked.specs.Steps.Standing.{IsChecked, IsOneOf, IsCheckedPool}
 use Rattle.rlsf_checked.proofs.FieldsOverSteps.{stands_after, step_of}
 use Rattle.rlsf_checked.proofs.ListedPools.{one_of}
 use Rattle.rlsf_checked.proofs.RemovedPools.{removed_pool}
@@ -20,7 +20,7 @@ use Rattle.rlsf_checked.proofs.checked.CheckedTlsf.remove_pool.Goals.{Else-not-c
 is_one : (g : given.Over) (c : Else-not-contains g) → IsOneOf c.args.range (listed c.self.inside.pools)
 is_one g c = one_of (listed c.self.inside.pools) c.args.range (c.contains.ensures.0 c.if-not-contains.false)
 
-is_pool : (g : given.Over) (c : Else-not-contains g) → IsPool c.self.inside.heap.state c.args.range
+is_pool : (g : given.Over) (c : Else-not-contains g) → IsCheckedPool c.self.inside.heap.state c.args.range
 is_pool g c = c.self.invariant.pools.each c.args.range (is_one g c)
 
 pub iter_blocks-requires : goal.iter_blocks-requires
@@ -55,7 +55,7 @@ returns-then-any_used g c =
     let row = (is_pool g (goal.at.returns-then-any_used g c).Else-not-contains).row in
     let used : IsIdle c.self.inside.heap.state (walked c.args.range) → ⊥ =
     used_if w (walked c.args.range) row c.iter_blocks.result c.iter_blocks.ensures.blocks (sym c.any_used.ensures ∙ c.if-any_used.true) in
-    let is : IsIn c.args.range (inserted (listed c.self.inside.pools)) = c.contains.ensures.0 c.if-not-contains.false in
+    let is : IsIn c.args.range (current_pools (listed c.self.inside.pools)) = c.contains.ensures.0 c.if-not-contains.false in
     rw (← c.self.view_is) (record {
       step = tt;
       result = tt;
@@ -69,7 +69,7 @@ returns g c =
     let w = well_formed c.self.inside.heap c.self.invariant.stands in
     let row = (is_pool g (goal.at.returns g c).Else-not-contains).row in
     let idle = idle_if w (walked c.args.range) row c.iter_blocks.result c.iter_blocks.ensures.blocks (sym c.any_used.ensures ∙ c.if-any_used.false) in
-    let is : IsIn c.args.range (inserted (listed c.self.inside.pools)) = c.contains.ensures.0 c.if-not-contains.false in
+    let is : IsIn c.args.range (current_pools (listed c.self.inside.pools)) = c.contains.ensures.0 c.if-not-contains.false in
     let did = c.remove_pool.ensures in
     rw (← c.self.view_is) (record {
       step = did.step;

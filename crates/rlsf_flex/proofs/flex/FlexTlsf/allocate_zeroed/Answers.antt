@@ -1,6 +1,6 @@
 use Rattle.std.proofs.Common.{replicate, length, arith, sym, ◌∙◌, ap, subst}
 use Rattle.rlsf_base.specs.Addr.{at}
-use Rattle.rlsf_flex.specs.Lending.{written}
+use Rattle.rlsf_flex.specs.Lending.{flex_written}
 use Rattle.rlsf_flex.specs.StandsFor.{FlexStandsFor, allocator_of}
 use Rattle.rlsf_tlsf.specs.Lending as tlsf
 use Rattle.rlsf_flex.proofs.FilledAllocations.{FlexSteps-filled}
@@ -49,7 +49,7 @@ returns-clause-frame g c =
     let (chunks, same, source, place, stands, touches, copied) = c.payload_mut.ensures.rest w in
     record {
       place =
-          SamePlace-then c.args.self.now.memory made.memory (written made (at c.in_ok-addr.addr) (length c.payload_mut.result.now) w).memory is.place place;
+          SamePlace-then c.args.self.now.memory made.memory (flex_written made (at c.in_ok-addr.addr) (length c.payload_mut.result.now) w).memory is.place place;
       grow = omega (arith, is.grow, touches);
       copied = copied ∙ is.copied;
     }

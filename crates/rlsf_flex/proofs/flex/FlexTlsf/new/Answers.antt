@@ -1,6 +1,6 @@
 use Rattle.std.proofs.Common.{◌≡◌, arith, None, refl, sym, subst}
 use Rattle.rlsf_flex.specs.StandsFor.{FlexStandsFor, flex_contents}
-use Rattle.rlsf_model.specs.FlexState.{FlexState, empty}
+use Rattle.rlsf_model.specs.FlexState.{FlexState, flex_empty}
 use Rattle.rlsf_table.proofs.Parameters.{IsValid-widest}
 use Rattle.rlsf_tlsf.proofs.Standing.{in_state}
 use Rattle.rlsf_flex.proofs.EmptyFlex.{FlexStandsFor-empty}
@@ -16,7 +16,7 @@ new-requires g c = (omega arith, IsValid-widest g.FLBitmap.BitPattern.width_limi
 stands : (g : given.Over) (c : After-new-2 g)
     → FlexStandsFor g.row.FLLEN g.row.SLLEN g.S.FlexSource.terms g.S.FlexSource.owes (flex_contents c.new.result None c.args.source c.new-2.result.ranges)
 stands g c =
-    let is : (flex_contents c.new.result None c.args.source c.new-2.result.ranges).state ≡ empty =
+    let is : (flex_contents c.new.result None c.args.source c.new-2.result.ranges).state ≡ flex_empty =
     λ i. record { machine = c.new.ensures.state i; pools = c.new-2.ensures i; kept = None } in
     subst (λ (s : FlexState). FlexStandsFor g.row.FLLEN g.row.SLLEN g.S.FlexSource.terms g.S.FlexSource.owes (contents_at c.new.result c.args.source s)) (sym is)
     (FlexStandsFor-empty g.row.FLLEN g.row.SLLEN g.S.FlexSource.terms g.S.FlexSource.owes c.new.result c.args.memory c.args.source c.new.ensures.state c.new.ensures.stands

@@ -6,7 +6,7 @@ use Rattle.rlsf_base.specs.declared.memory.range.Range.{Range}
 use Rattle.rlsf_base.specs.Layout.{IsLayout}
 use Rattle.rlsf_base.specs.Range.{range_at}
 use Rattle.rlsf_flex.proofs.Heaps.{Allocation-equal, HeapOwes-more, asked_for}
-use Rattle.rlsf_flex.specs.Heap.{Allocation, allocate, allocation_at, allocation_of, IsAllocated}
+use Rattle.rlsf_flex.specs.Heap.{Allocation, allocate, allocation_at, allocation_of, IsAllocationIn}
 use Rattle.rlsf_flex.proofs.heap.GlobalAllocAsFlexSourceFlexSource.alloc.Goals as goal
 
 pub returns-in-Err : goal.returns-in-Err
@@ -57,6 +57,6 @@ returns-in_ok-addr-in-Ok g c =
       );
       owes = λ owed h.
           let before = map (allocation_of align) owed in
-          let came = subst (λ a. IsAllocated space before a × g.T.GlobalAlloc.owes c.alloc.new.self (a ∷ before)) same (c.in_ok-addr-in-Ok.ensures.owes before h.allocations) in
+          let came = subst (λ a. IsAllocationIn space before a × g.T.GlobalAlloc.owes c.alloc.new.self (a ∷ before)) same (c.in_ok-addr-in-Ok.ensures.owes before h.allocations) in
           HeapOwes-more g.T.GlobalAlloc.owes align c.args.self.now.0 c.alloc.new.self space c.args.min_size r owed long valid c.get.ensures.nonzero came h;
     }

@@ -4,7 +4,7 @@ use Rattle.rlsf_tlsf.specs.Allocator.{Allocator, IsInState}
 use Rattle.rlsf_flex.specs.Footers.{first_len, first_start, footer_of, Footers}
 use Rattle.rlsf_flex.specs.Steps.Footing.{IsFooted}
 use Rattle.rlsf_flex.specs.StandsFor.{kept_pool}
-use Rattle.rlsf_flex.specs.Steps.Growth.{KeepsPayloads}
+use Rattle.rlsf_flex.specs.Steps.Growth.{HasSamePayloads}
 use Rattle.rlsf_flex.specs.Steps.Parts.{flex_over}
 use Rattle.rlsf_model.specs.Growth.{behind, longer}
 use Rattle.rlsf_model.specs.Insert.{Appends, IsNext}
@@ -19,7 +19,7 @@ use Rattle.rlsf_flex.proofs.Frames.{ends_here, spare_here}
 use Rattle.rlsf_flex.proofs.Growths.{Grew, Grew-footers, Grew-longer, Grew-next, Grew-taken, Grew-took}
 use Rattle.rlsf_flex.proofs.Outcomes.{Took-named, Took-refused}
 use Rattle.rlsf_flex.proofs.Kept.{IsKeptPool-known}
-use Rattle.rlsf_flex.proofs.KeptPayloads.{KeepsPayloads-refl, KeepsPayloads-same, KeepsPayloads-trans}
+use Rattle.rlsf_flex.proofs.KeptPayloads.{HasSamePayloads-refl, HasSamePayloads-same, HasSamePayloads-trans}
 use Rattle.rlsf_flex.proofs.Places.{SamePlace-refl}
 use Rattle.rlsf_flex.proofs.Rewritten.{IsFooted-none, IsFooted-written}
 use Rattle.rlsf_flex.proofs.InnerAllocator.{inner_in}
@@ -149,7 +149,7 @@ returns-then-not-grows g c = record {
       let before = flex_over c.args.self.now in
       AskedGrowth-none (kept_pool c.args.pool) c.args.len fixed refl
       (Took-refused before c.args.self.now.source c.requires.stands refl c.requires.stands.owed c.args.wanted);
-  payloads = KeepsPayloads-refl c.args.self.now.tlsf;
+  payloads = HasSamePayloads-refl c.args.self.now.tlsf;
   whole = c.requires.whole;
   refused = record { same = refl };
 }
@@ -169,7 +169,7 @@ returns-in_err-grown g c =
           let owed =
           subst (g.S.FlexSource.owes y) (sym kept.split) (c.in_err-grown.ensures.owes [] kept.rest (subst (g.S.FlexSource.owes c.args.self.now.source) kept.split v.owed)) in
           AskedGrowth-asked (kept_pool c.args.pool) c.args.len grows c.in_err-grown.ensures.leads (Took-refused before y v same owed c.args.wanted);
-      payloads = KeepsPayloads-refl c.args.self.now.tlsf;
+      payloads = HasSamePayloads-refl c.args.self.now.tlsf;
       whole = c.requires.whole;
       refused = record { same = refl };
     })
@@ -193,7 +193,7 @@ returns g c = record {
       c.append_free_block_ptr-taken.ensures.frame.place));
   payloads =
       let did = c.append_free_block_ptr-taken.ensures in
-      let taken : KeepsPayloads g.row.SLLEN c.if-supports_dealloc.tlsf c.append_free_block_ptr-taken.new.self =
+      let taken : HasSamePayloads g.row.SLLEN c.if-supports_dealloc.tlsf c.append_free_block_ptr-taken.new.self =
       record {
         aligns = did.frame.aligns;
         bytes = did.frame.bytes;
@@ -206,9 +206,9 @@ returns g c = record {
       elim c.if-supports_dealloc.branch [
         | then-supports_dealloc w ↦
             let wrote = w.write_footer.ensures in
-            let footed = KeepsPayloads-same c.args.self.now.tlsf w.write_footer.new.tlsf wrote.state wrote.footer.place wrote.grow wrote.copied in
-            KeepsPayloads-trans _ _ _ (subst (KeepsPayloads g.row.SLLEN c.args.self.now.tlsf) (sym w.tlsf-is) footed) taken
-        | else-supports_dealloc w ↦ subst (λ (d : Allocator). KeepsPayloads g.row.SLLEN d c.append_free_block_ptr-taken.new.self) w.tlsf-is taken
+            let footed = HasSamePayloads-same c.args.self.now.tlsf w.write_footer.new.tlsf wrote.state wrote.footer.place wrote.grow wrote.copied in
+            HasSamePayloads-trans _ _ _ (subst (HasSamePayloads g.row.SLLEN c.args.self.now.tlsf) (sym w.tlsf-is) footed) taken
+        | else-supports_dealloc w ↦ subst (λ (d : Allocator). HasSamePayloads g.row.SLLEN d c.append_free_block_ptr-taken.new.self) w.tlsf-is taken
       ];
   whole =
       let (stands, footed) = moved g (goal.at.returns g c).Joined-supports_dealloc (grew g (goal.at.returns g c).In_ok-grown) in

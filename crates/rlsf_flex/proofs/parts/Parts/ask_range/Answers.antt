@@ -8,7 +8,7 @@ use Rattle.rlsf_base.specs.Space.{range_of}
 use Rattle.rlsf_blocks.specs.Spare.{KeepsSpare}
 use Rattle.rlsf_tlsf.specs.Allocator.{IsInState}
 use Rattle.rlsf_flex.specs.StandsFor.{kept_of, kept_pool}
-use Rattle.rlsf_flex.specs.Steps.Growth.{KeepsPayloads}
+use Rattle.rlsf_flex.specs.Steps.Growth.{HasSamePayloads}
 use Rattle.rlsf_flex.specs.Steps.Parts.{flex_over}
 use Rattle.rlsf_model.specs.Growth.{keeps}
 use Rattle.rlsf_model.specs.Insert.{Inserts}
@@ -22,7 +22,7 @@ use Rattle.rlsf_flex.proofs.Calls.{stays_in}
 use Rattle.rlsf_flex.proofs.NewRanges.{Came, Came-footer, Came-took}
 use Rattle.rlsf_flex.proofs.Outcomes.{Took-named, Took-refused}
 use Rattle.rlsf_flex.proofs.Kept.{kept_of-then_some}
-use Rattle.rlsf_flex.proofs.KeptPayloads.{KeepsPayloads-refl, KeepsPayloads-same, KeepsPayloads-trans}
+use Rattle.rlsf_flex.proofs.KeptPayloads.{HasSamePayloads-refl, HasSamePayloads-same, HasSamePayloads-trans}
 use Rattle.rlsf_flex.proofs.RangeLengths.{range_length-whole}
 use Rattle.rlsf_flex.proofs.Rewritten.{IsFooted-named}
 use Rattle.rlsf_flex.proofs.InnerAllocator.{opened, opened_whole, stood_at}
@@ -79,7 +79,7 @@ returns-in_err-len g c =
       step =
           let before = flex_over c.args.self.now in
           AskedRange-none (sym c.in_err-len.ensures) refl (Took-refused before c.args.self.now.source c.requires.stands refl c.requires.stands.owed c.args.wanted);
-      payloads = KeepsPayloads-refl c.args.self.now.tlsf;
+      payloads = HasSamePayloads-refl c.args.self.now.tlsf;
       refused = record { same = refl };
     })
 
@@ -91,7 +91,7 @@ returns-in_err-range g c =
           let same = g.met.S.FlexSource.constant c.args.self.now.source c.alloc.new.self (alloc c.in_ok-len.len c.alloc.result) c.alloc.ensures.leads in
           AskedRange-asked (sym c.in_ok-len.ensures) c.in_err-range.ensures.leads
           (Took-refused before c.alloc.new.self c.requires.stands same (c.in_err-range.ensures.owes c.args.self.now.owed.ranges c.requires.stands.owed) c.args.wanted);
-      payloads = KeepsPayloads-refl c.args.self.now.tlsf;
+      payloads = HasSamePayloads-refl c.args.self.now.tlsf;
       refused = record { same = refl };
     })
 
@@ -118,7 +118,7 @@ returns g c = record {
   payloads =
       let did = c.insert_free_block_ptr.ensures in
       let wrote = c.write_footer_if.ensures in
-      let taken : KeepsPayloads g.row.SLLEN c.args.self.now.tlsf c.insert_free_block_ptr.new.self =
+      let taken : HasSamePayloads g.row.SLLEN c.args.self.now.tlsf c.insert_free_block_ptr.new.self =
       record {
         aligns = did.frame.aligns;
         bytes = did.frame.bytes;
@@ -128,6 +128,6 @@ returns g c = record {
         grow = did.frame.grow;
         copied = did.frame.copied;
       } in
-      KeepsPayloads-trans _ _ _ taken (KeepsPayloads-same c.insert_free_block_ptr.new.self c.write_footer_if.new.tlsf wrote.state wrote.footer.place wrote.grow wrote.copied);
+      HasSamePayloads-trans _ _ _ taken (HasSamePayloads-same c.insert_free_block_ptr.new.self c.write_footer_if.new.tlsf wrote.state wrote.footer.place wrote.grow wrote.copied);
   refused = tt;
 }

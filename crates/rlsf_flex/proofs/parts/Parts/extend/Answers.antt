@@ -1,7 +1,7 @@
 use Rattle.std.proofs.Common.{rules, ◌≡◌, ◌+◌, None, true, false, true≢false, refl, sym, ◌∙◌, ap}
 use Rattle.rlsf_flex.specs.StandsFor.{kept_of}
 use Rattle.rlsf_flex.proofs.Asks.{extended_first, extended_grown, extended_past, extended_refused, extended_second, if_none, sum_fits, sum_past, terms_stay}
-use Rattle.rlsf_flex.proofs.KeptPayloads.{KeepsPayloads-refl, KeepsPayloads-trans}
+use Rattle.rlsf_flex.proofs.KeptPayloads.{HasSamePayloads-refl, HasSamePayloads-trans}
 use Rattle.rlsf_flex.proofs.parts.Parts.extend.Goals as goal
 
 pub returns-in_default : goal.returns-in_default
@@ -18,7 +18,7 @@ returns-in_default-checked_add g c = record {
   step =
       extended_past (ap kept_of c.in-Some.is) (sum_past c.checked_add.result (c.in-Some.pool.len + c.args.wanted) c.checked_add.ensures c.in_default-checked_add.is)
       c.requires.stands;
-  payloads = KeepsPayloads-refl c.args.self.now.tlsf;
+  payloads = HasSamePayloads-refl c.args.self.now.tlsf;
   refused = λ none. record { same = refl };
 }
 
@@ -55,7 +55,7 @@ returns g c = record {
       let same = terms_stay kept fits.0 h g.met.S.FlexSource.constant in
       extended_second kept fits.0 h (sym c.is_some-2.ensures ∙ c.if-is_some.false) (sym (ap (λ t. t.contiguous) same) ∙ many_ranges) same c.is_some-3.ensures
       c.ask_range-2.ensures.step;
-  payloads = KeepsPayloads-trans _ _ _ c.ask_growth.ensures.payloads c.ask_range-2.ensures.payloads;
+  payloads = HasSamePayloads-trans _ _ _ c.ask_growth.ensures.payloads c.ask_range-2.ensures.payloads;
   refused = λ none.
       let first = if_none c.ask_growth.result c.ask_growth.ensures.refused (sym c.is_some-2.ensures ∙ c.if-is_some.false) in
       let second = if_none c.ask_range-2.result c.ask_range-2.ensures.refused (sym c.is_some-3.ensures ∙ none) in

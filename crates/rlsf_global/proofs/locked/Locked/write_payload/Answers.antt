@@ -3,7 +3,7 @@ use Rattle.rlsf_global.proofs.Layouts.{content_at-bytes, content_at-is, layout_a
 use Rattle.std.proofs.Common.{rules, arith, ◌+◌, nat_le, length, Ok, Err, lit<, refl, ap, ◌∙◌, subst, sym}
 use Rattle.std.specs.List.{splice}
 use Rattle.rlsf_base.specs.Addr.{at}
-use Rattle.rlsf_flex.specs.Lending.{written}
+use Rattle.rlsf_flex.specs.Lending.{flex_written}
 use Rattle.rlsf_global.specs.Locked.{heap_of}
 use Rattle.rlsf_global.proofs.Checks.{writes_in, writes_out}
 use Rattle.rlsf_global.proofs.Lives.{known, unknown}
@@ -27,10 +27,10 @@ pub invariant_of-self-2 : goal.invariant_of-self-2
 invariant_of-self-2 g c =
     let w = c.write_at.new.payload in
     let did = c.payload_mut.ensures in
-    let after = written c.self.inside.flex (at c.args.addr) (length c.payload_mut.result.now) w in
+    let after = flex_written c.self.inside.flex (at c.args.addr) (length c.payload_mut.result.now) w in
     let (chunks, after_place, source, place, stands, touches, copied) = did.rest w in
     listed c.self.inside.flex after c.self.inside.rows c.self.inside.rows c.self.invariant.space place refl
-    (filled_locked c.self.inside.flex c.self.inside.rows.rows c.self.invariant.locked (written c.self.inside.flex (at c.args.addr) (length c.payload_mut.result.now) w)
+    (filled_locked c.self.inside.flex c.self.inside.rows.rows c.self.invariant.locked (flex_written c.self.inside.flex (at c.args.addr) (length c.payload_mut.result.now) w)
     (at c.args.addr) w
     (did.meaning w c.write_at.ensures.len) refl
     (did.aligns w) (did.lengths w ∙ ap length did.value) (did.bytes w))
@@ -82,7 +82,7 @@ returns g c = rw (← c.self.view_is) (record {
       let bytes = c.args.bytes.now in
       let w = c.write_at.new.payload in
       let did = c.payload_mut.ensures in
-      let after = written c.self.inside.flex addr (length c.payload_mut.result.now) w in
+      let after = flex_written c.self.inside.flex addr (length c.payload_mut.result.now) w in
       let (fills, leads) = filled c.self.inside.flex c.self.inside.rows.rows c.self.invariant.locked after addr w (did.meaning w c.write_at.ensures.len) refl in
       let spliced =
       subst (λ l. Fills h.flex.machine addr l after.state.machine) (c.write_at.ensures.bytes ∙ ap (λ l. splice l offset (offset + length bytes) bytes) did.value) fills in
@@ -94,7 +94,7 @@ returns g c = rw (← c.self.view_is) (record {
       let w = c.write_at.new.payload in
       let did = c.payload_mut.ensures in
       let before = heap_of c.self.inside.flex c.self.inside.rows.rows in
-      let after = heap_of (written c.self.inside.flex addr (length c.payload_mut.result.now) w) c.self.inside.rows.rows in
+      let after = heap_of (flex_written c.self.inside.flex addr (length c.payload_mut.result.now) w) c.self.inside.rows.rows in
       record {
         written = content_at-is after addr ∙ did.filled w c.write_at.ensures.len ∙ c.write_at.ensures.bytes
             ∙ ap (λ l. splice l c.args.offset (c.args.offset + length bytes) bytes) (did.value ∙ sym (content_at-is before addr));
@@ -105,7 +105,7 @@ returns g c = rw (← c.self.view_is) (record {
   frame = (
       let w = c.write_at.new.payload in
       let did = c.payload_mut.ensures in
-      let written_flex = written c.self.inside.flex (at c.args.addr) (length c.payload_mut.result.now) w in
+      let written_flex = flex_written c.self.inside.flex (at c.args.addr) (length c.payload_mut.result.now) w in
       let before = heap_of c.self.inside.flex c.self.inside.rows.rows in
       let after = heap_of written_flex c.self.inside.rows.rows in
       let (chunks, after_place, source, place, stands, touches, copied) = did.rest w in

@@ -5,7 +5,7 @@ use Rattle.rlsf_base.specs.declared.memory.ledger.Ledger.{Ledger}
 use Rattle.rlsf_model.specs.Callers.{align_at}
 use Rattle.rlsf_blocks.specs.Laws.{read_from}
 use Rattle.rlsf_blocks.proofs.RepresentedStates.Counted.{StandsFor-touched}
-use Rattle.rlsf_heap.specs.Heap.{HeapView, Identity, IsHeap, PayloadView, heap_view, payload_view}
+use Rattle.rlsf_heap.specs.Heap.{HeapView, Identity, IsHeapOf, PayloadView, heap_view, payload_view}
 use Rattle.rlsf_heap.specs.Raw.{bytes_of}
 use Rattle.rlsf_heap.proofs.Found.{found}
 use Rattle.rlsf_heap.proofs.PayloadsApart.{shown_live}
@@ -36,7 +36,7 @@ invariant_of-self g c =
     let m = c.self.inside.memory in let k = c.self.inside.state.state in let entries = c.self.inside.ledger.entries in
     let old = c.self.invariant in
     let Held : Space → List Entry → Type 0 =
-    λ n es. IsHeap g.FLBitmap.BitPattern.width g.SLBitmap.BitPattern.width g.row.FLLEN g.row.SLLEN n c.self.inside.table k es c.self.inside.live c.self.inside.lent in
+    λ n es. IsHeapOf g.FLBitmap.BitPattern.width g.SLBitmap.BitPattern.width g.row.FLLEN g.row.SLLEN n c.self.inside.table k es c.self.inside.live c.self.inside.lent in
     let counted : Held (record m { touches = m.touches + 3 }) entries = record {
       valid = old.valid;
       stands = StandsFor-touched m (record m { touches = m.touches + 3 }) 3 refl old.stands;

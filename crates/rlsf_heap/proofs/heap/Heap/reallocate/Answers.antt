@@ -9,7 +9,7 @@ use Rattle.rlsf_model.specs.State.{State}
 use Rattle.rlsf_blocks.specs.Laws.{read_from}
 use Rattle.rlsf_tlsf.specs.Allocator.{allocator}
 use Rattle.rlsf_tlsf.specs.Bounds.{KeepsBounds}
-use Rattle.rlsf_tlsf.specs.CoreResizes.{KeepsPayloads}
+use Rattle.rlsf_tlsf.specs.CoreResizes.{KeepsPayloadsResizing}
 use Rattle.rlsf_tlsf.specs.Moving.{IsRelocated, span}
 use Rattle.rlsf_tlsf.specs.Results.{KeepsFrameMoving as CoreFrame}
 use Rattle.rlsf_tlsf.proofs.Relocated.{end_relocated}
@@ -41,7 +41,7 @@ module _ (g : given.Over) (c : In_default-moved g) where
   back_refused : IsBack c.self.inside.memory c.take_back.new.memory c.self.inside.ledger.entries c.take_back.new.ledger.entries c.args.payload
   back_refused = taken_back c.args.payload c.take_back.ensures.back
 
-  kept : KeepsPayloads (read_from c.take_back.new.memory c.self.inside.state.state) (read_from c.reallocate_in-moved.new.memory c.reallocate_in-moved.new.state.state)
+  kept : KeepsPayloadsResizing (read_from c.take_back.new.memory c.self.inside.state.state) (read_from c.reallocate_in-moved.new.memory c.reallocate_in-moved.new.state.state)
       c.args.payload.start
   kept = kept_same c.args.payload.start c.in_default-moved.ensures.refused.same
 

@@ -10,7 +10,7 @@ use Rattle.rlsf_model.specs.State.{State}
 use Rattle.rlsf_model.proofs.CallerWords.{align_at-live}
 use Rattle.rlsf_model.proofs.Coverage.{by_test}
 use Rattle.rlsf_blocks.specs.Laws.{read_from}
-use Rattle.rlsf_tlsf.specs.CoreResizes.{KeepsBoundsThere, KeepsPayloads, stayed_if}
+use Rattle.rlsf_tlsf.specs.CoreResizes.{KeepsBoundsThere, KeepsPayloadsResizing, stayed_if}
 use Rattle.rlsf_tlsf.specs.Moving.{span}
 use Rattle.rlsf_tlsf.specs.Results.{IsResized}
 use Rattle.rlsf_tlsf.proofs.Reached.{read_from-counted}
@@ -69,8 +69,8 @@ module _ (g : given.Over) (c : After-resize_in-done g) where
   told : (So : ℕ → Type 0) → So c.start-addr.result → So c.args.part.start
   told So so = subst So c.start-addr.ensures so
 
-  kept : KeepsPayloads s t c.args.part.start
-  kept = told (KeepsPayloads s t) c.resize_in-done.ensures.kept
+  kept : KeepsPayloadsResizing s t c.args.part.start
+  kept = told (KeepsPayloadsResizing s t) c.resize_in-done.ensures.kept
 
   there : IsAt c.resize_in-done.new.memory s t c.args.part.start c.args.ticket.align c.args.part.start
   there = there_at c.self.invariant pay back c.resize_in-done.ensures.left kept

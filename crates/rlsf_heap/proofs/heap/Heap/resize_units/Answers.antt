@@ -11,11 +11,11 @@ use Rattle.rlsf_model.specs.State.{Holds, State, Used, usable}
 use Rattle.rlsf_table.proofs.Parameters.{IsValid-widest}
 use Rattle.rlsf_blocks.specs.Laws.{read_from}
 use Rattle.rlsf_blocks.specs.StandsFor.{contents, StandsFor}
-use Rattle.rlsf_tlsf.specs.CoreResizes.{KeepsBoundsThere, KeepsPayloads, stayed_if}
+use Rattle.rlsf_tlsf.specs.CoreResizes.{KeepsBoundsThere, KeepsPayloadsResizing, stayed_if}
 use Rattle.rlsf_tlsf.specs.Results.{IsResized}
 use Rattle.rlsf_tlsf.proofs.Reached.{read_from-counted, read_from-same}
 use Rattle.rlsf_heap.specs.Frame.{KeepsFrameBeside, KeepsSized}
-use Rattle.rlsf_heap.specs.Heap.{AreIssued, HeapView, Identity, IsHeap, Stands, Steps, heap_view}
+use Rattle.rlsf_heap.specs.Heap.{AreIssued, HeapView, Identity, IsHeapOf, Stands, Steps, heap_view}
 use Rattle.rlsf_heap.specs.Kept.{KeepsBytesBeside, KeepsOwn, NoneBecomesRawBeside}
 use Rattle.rlsf_heap.specs.Units.{IsInPlace, payload_len}
 use Rattle.rlsf_heap.proofs.Kept.{raw-tail, same-byte, spare-first, spare-last}
@@ -131,8 +131,8 @@ module _ (g : given.Over) (c : After-resize_block_in g) where
       subst (λ d. ReallocatesWithoutMove (read_from m k) c.args.payload.start c.args.size (stayed_if d c.args.payload.start) t) did
       (told is (λ s u a size. ReallocatesWithoutMove s a size (stayed_if c.resize_block_in.result a) u) c.resize_block_in.ensures.step)
 
-  keeps : {t : State} → t ≡ read_from o j → KeepsPayloads (read_from m k) t c.args.payload.start
-  keeps is = told is (λ s u a size. KeepsPayloads s u a) c.resize_block_in.ensures.kept
+  keeps : {t : State} → t ≡ read_from o j → KeepsPayloadsResizing (read_from m k) t c.args.payload.start
+  keeps is = told is (λ s u a size. KeepsPayloadsResizing s u a) c.resize_block_in.ensures.kept
 
   sized : {t : State} → t ≡ read_from o j → KeepsSized g.row.SLLEN (read_from m k) t c.args.size 16
   sized is =
@@ -178,7 +178,7 @@ module _ (g : given.Over) (c : After-resize_block_in g) where
 
       heap : (fs : List Entry) → fs ≡ c.put_unit_payload-block.new.ledger.entries ++ entry_of (extent (c.put_unit_payload-block.result + 16) len 16) true ∷ []
           → q.out ≡ out_without o (range_at (c.put_unit_payload-block.result + 16 + c.lesser-kept.result) (len - c.lesser-kept.result))
-          → IsHeap g.FLBitmap.BitPattern.width g.SLBitmap.BitPattern.width g.row.FLLEN g.row.SLLEN q c.resize_block_in.new.table j fs c.self.inside.live c.self.inside.lent
+          → IsHeapOf g.FLBitmap.BitPattern.width g.SLBitmap.BitPattern.width g.row.FLLEN g.row.SLLEN q c.resize_block_in.new.table j fs c.self.inside.live c.self.inside.lent
       heap fs entries out = record {
         valid = c.self.invariant.valid;
         stands = now-stands b w (keeps as_left) now fits as_long q start bytes (out ∙ (λ i. out_without o (range_at (at i + kept_is i) (long i - kept_is i))));

@@ -21,7 +21,7 @@ use Rattle.std.proofs.raw_atomic.Walks.{proved}
 use Rattle.rlsf_base.specs.Ledger.{Extent, extent, ledger_owns, ticket_owns, IsIssued}
 use Rattle.rlsf_base.specs.Piece.{piece_owns}
 use Rattle.rlsf_base.specs.contracts.memory.ledger.Ledger as ledger
-use Rattle.rlsf_heap.specs.Raw.{IsWhole, bytes_of}
+use Rattle.rlsf_heap.specs.Raw.{CanComeBack, bytes_of}
 use Rattle.rlsf_heap.specs.Thin.{owns_at}
 use Rattle.rlsf_heap.proofs.ThinTickets.{shows_live}
 use Rattle.rlsf_heap.proofs.ThinValues.{addr_val, addr_own, addr_made, addr_told, addr_typed, one_more_than, payload_Tells, payload_vals}
@@ -52,7 +52,7 @@ checked_spec 𝓤 𝓛 𝓜 𝓡 wired =
     -- [what the payload owns; the ledger; its token]
     let more = one_more_than p.start asked.0 in let k : ℕ = more.0 in let e : p.start ≡ suc k = more.1 in
     rewrite ! 0 (λ (n : ℕ). ‵ (owns_at n p)) e refl $
-    use1 𝓛 (some (λ (x : ℕ × IsWhole p). ‵ (piece_owns (bytes_of p)) ⊛ ‵ (ticket_owns p.identity.ledger x.0 v))) (id⊢ 𝓤 _) $
+    use1 𝓛 (some (λ (x : ℕ × CanComeBack p). ‵ (piece_owns (bytes_of p)) ⊛ ‵ (ticket_owns p.identity.ledger x.0 v))) (id⊢ 𝓤 _) $
     pick ! (λ x. split ! $ move ! (2 ∷ 3 ∷ 1 ∷ 0 ∷ []) $
     -- [the ledger; its token; the ticket; the bytes]
     enter ! _ _ _ _ _ $ alloc_all ! (λ n. pass_all ! refl (addr_typed d.addr fits, ((tt, tt), tt)) $
@@ -65,7 +65,7 @@ checked_spec 𝓤 𝓛 𝓜 𝓡 wired =
     sets ! (of_opd ! (get ! refl)) refl (addr_typed d.addr fits) $
     returns ! (look_at ! 0 refl) $ free_all ! refl $ keep ! (3 ∷ 5 ∷ 0 ∷ 1 ∷ 2 ∷ 4 ∷ []) $
     rewrite ! 0 (λ (m : ℕ). ‵ (ticket_owns m x.0 v)) {x = p.identity.ledger} {y = l.name} (sym asked.1) refl $ move ! (1 ∷ 0 ∷ []) $ fjoin ! $
-    fpack ! (ℕ × IsWhole p) (λ u. fsep (piece_owns (bytes_of p)) (ticket_owns p.identity.ledger u.0 v)) x $
+    fpack ! (ℕ × CanComeBack p) (λ u. fsep (piece_owns (bytes_of p)) (ticket_owns p.identity.ledger u.0 v)) x $
     rewrite ! 0 (λ (m : ℕ). ‵ (owns_at m p)) {x = p.start} {y = suc k} (sym e) refl $
     use0 𝓛 (‵ (addr_own d.addr (addr_val d.addr ∷ []))) (addr_made 𝓛 d.addr fits) $ fjoin ! $
     -- [the payload; the ledger's last value; its borrow; its token; its first part]

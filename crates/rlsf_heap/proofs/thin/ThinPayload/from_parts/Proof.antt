@@ -38,7 +38,7 @@ use Rattle.rlsf_base.proofs.memory.ledger.Ticket.TheLaws as ticket_laws
 use Rattle.rlsf_base.specs.contracts.memory.ledger.Ticket.into_raw as k
 use Rattle.rlsf_base.proofs.memory.ledger.Ticket.into_raw.Met.{met as ticket_met}
 use Rattle.rlsf_heap.specs.Heap.{IsTicketOf, PayloadView, payload_view}
-use Rattle.rlsf_heap.specs.Raw.{IsWhole}
+use Rattle.rlsf_heap.specs.Raw.{CanComeBack}
 use Rattle.rlsf_heap.specs.Thin.{owns_at}
 use Rattle.rlsf_heap.proofs.ThinValues.{addr_val, addr_own, addr_made, one_more_than}
 use Rattle.rlsf_heap.specs.contracts.thin.ThinPayload as raw_payload
@@ -108,7 +108,7 @@ from_parts_spec 𝓤 𝓛 𝓜 𝓡 wired =
     rewrite ! 0 (λ (u : ℕ × ℕ). ‵ (ticket_owns t.name t.key (extent u.0 u.1 t.align))) {x = (p.start, length p.bytes)} {y = (t.addr, t.len)}
     (λ i. (sym asked.2.0 i, sym asked.2.1 i)) refl $
     move ! (1 ∷ 0 ∷ []) $ fjoin ! $
-    fpack ! (ℕ × IsWhole made_of) (λ u. fsep (piece_owns p) (ticket_owns t.name u.0 (extent p.start (length p.bytes) t.align))) (t.key, can) $
+    fpack ! (ℕ × CanComeBack made_of) (λ u. fsep (piece_owns p) (ticket_owns t.name u.0 (extent p.start (length p.bytes) t.align))) (t.key, can) $
     rewrite ! 0 (λ (m : ℕ). ‵ (owns_at m made_of)) {x = p.start} {y = suc n} (sym e) refl $
     use0 𝓛 (‵ (addr_own addr (addr_val addr ∷ []))) (addr_made 𝓛 addr are.0.1) $ fjoin ! $
     let made : (raw_payload.the_row).Denot = record { addr = addr; of = made_of } in

@@ -29,7 +29,7 @@ use Rattle.rlsf_base.proofs.memory.ledger.Ticket.TheLaws.{lowers as ticket_lower
 use Rattle.rlsf_base.specs.contracts.memory.ledger.Ticket as ticket_type
 use Rattle.rlsf_base.specs.contracts.memory.ledger.Ticket.from_raw as g
 use Rattle.rlsf_base.proofs.memory.ledger.Ticket.from_raw.Met.{met as raw_met}
-use Rattle.rlsf_heap.specs.Raw.{IsWhole, bytes_of}
+use Rattle.rlsf_heap.specs.Raw.{CanComeBack, bytes_of}
 use Rattle.rlsf_heap.specs.Thin.{owns_at}
 use Rattle.rlsf_heap.proofs.ThinValues.{addr_val, addr_told, addr_typed, one_more_than, payload_Tells, payload_vals}
 use Rattle.rlsf_base.specs.contracts.memory.thin_bytes.ThinBytes as bytes_type
@@ -59,7 +59,7 @@ into_parts_spec 𝓤 𝓛 𝓜 𝓡 wired =
     move ! (1 ∷ []) $ heard ! Asked (λ asked. split ! $ drop ! $ fsplit ! $ fsplit ! $ keep ! (1 ∷ []) $
     let more = one_more_than p.start asked in let k : ℕ = more.0 in let e : p.start ≡ suc k = more.1 in
     rewrite ! 0 (λ (n : ℕ). ‵ (owns_at n p)) e refl $
-    use1 𝓛 (some (λ (x : ℕ × IsWhole p). ‵ (piece_owns (bytes_of p)) ⊛ ‵ (ticket_owns p.identity.ledger x.0 shown_is))) (id⊢ 𝓤 _) $
+    use1 𝓛 (some (λ (x : ℕ × CanComeBack p). ‵ (piece_owns (bytes_of p)) ⊛ ‵ (ticket_owns p.identity.ledger x.0 shown_is))) (id⊢ 𝓤 _) $
     pick ! (λ x. split ! $
     -- [the bytes; the ticket]
     enter ! _ _ _ _ _ $ alloc_all ! (λ l. pass_all ! refl (addr_typed d.addr fits, tt) $

@@ -27,7 +27,7 @@ use Rattle.core.proofs.ptr.Rows.{El}
 use Rattle.std.proofs.raw_atomic.Walks.{proved_at, leaves}
 use Rattle.rlsf_base.specs.Ledger.{extent, ticket_owns}
 use Rattle.rlsf_base.specs.Steps.Ownership.{units_ty}
-use Rattle.rlsf_base.specs.UnitPayload.{IsKept, IsPlaced}
+use Rattle.rlsf_base.specs.UnitPayload.{AreCompleteUnits, IsUnitPointer}
 use Rattle.rlsf_base.specs.contracts.memory.unit_payload.UnitPayload as payload_type
 use Rattle.rlsf_base.proofs.RawBlock.PointerValues.{spot_val, spot_own, spot_made}
 use Rattle.rlsf_base.proofs.RawBlock.Values.{two_val, two_of}
@@ -87,8 +87,8 @@ lend_spec 𝓤 𝓛 𝓜 𝓡 wired T L =
     sets ! (of_opd ! (get ! refl)) refl (tt, (tt, (record { fits = fits }, tt))) $
     sets ! (agg ! (and_then ! (get ! refl) (and_then ! (get ! refl) (no_more !)))) refl (tt, ((tt, (tt, tt)), ((tt, (record { fits = fits }, tt)), tt))) $
     returns ! (look_at ! 0 refl) $ free_all ! refl $
-    let placed : IsPlaced h.home p start full = subst (λ (v : Ptr × ℕ). IsPlaced h.home v.0 start v.1) (λ i. (e i, as_long i)) is.0 in
-    let within : IsKept k full = (subst (λ (j : ℕ). k ≤ j) as_long (lengthens E 𝓛 len small cap b o asked.1 asked.2), in_units (size (block_type E small))) in
+    let placed : IsUnitPointer h.home p start full = subst (λ (v : Ptr × ℕ). IsUnitPointer h.home v.0 start v.1) (λ i. (e i, as_long i)) is.0 in
+    let within : AreCompleteUnits k full = (subst (λ (j : ℕ). k ≤ j) as_long (lengthens E 𝓛 len small cap b o asked.1 asked.2), in_units (size (block_type E small))) in
     let y : (seats.the_row R).Denot = record { ptr = p; marker = record {}; len = len; cap = small; items = xs } in
     let t : (payload_type.the_row).Denot =
     record { ptr = p; len = full; home = h.home; name = h.ledger; key = key; start = start; kept = k; placed = placed; within = within } in

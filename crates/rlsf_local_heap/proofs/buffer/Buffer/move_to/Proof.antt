@@ -35,13 +35,13 @@ use Rattle.std.proofs.raw_atomic.Walks.{proved_at, leaves}
 use Rattle.std.specs.Allocator.{block_with_items}
 use Rattle.rlsf_base.specs.Ledger.{extent, ticket_owns}
 use Rattle.rlsf_base.specs.Steps.Ownership.{units_ty}
-use Rattle.rlsf_base.specs.UnitPayload.{IsPlaced}
+use Rattle.rlsf_base.specs.UnitPayload.{IsUnitPointer}
 use Rattle.rlsf_base.specs.contracts.memory.unit_payload.UnitPayload as payload_type
 use Rattle.rlsf_base.proofs.RawBlock.PointerValues.{room-complete, spot_val, spot_own, spot_told, spot_made}
 use Rattle.rlsf_base.proofs.RawBlock.Values.{two_val, two_of}
 use Rattle.rlsf_base.proofs.RawBlock.Walks.{then_runs, out_of_block}
 use Rattle.rlsf_heap.specs.Heap.{Identity}
-use Rattle.rlsf_heap.specs.Units.{IsCompleteOf, heap_of, payload_len}
+use Rattle.rlsf_heap.specs.Units.{IsCompleteOf, identity_of, payload_len}
 use Rattle.rlsf_local_heap.specs.Ownership.{block_beside, block_token}
 use Rattle.rlsf_local_heap.proofs.SmallerUnits.{handed, returned}
 use Rattle.rlsf_local_heap.proofs.Stretched.{array_len, block_size, block_type, emptied, parted}
@@ -70,14 +70,14 @@ move_to_spec 𝓤 𝓛 𝓜 𝓡 wired T L =
     let full = a.1.1.1.0 in
     let cap' = a.1.1.1.1.0 in
     let h : Identity = x.heap in
-    let h' : Identity = heap_of w in
+    let h' : Identity = identity_of w in
     let u : Ty = block_type E cap in
     let u' : Ty = block_type E cap' in
     let m = array_len E cap in
     let m' = array_len E cap' in
     let Long : Type 0 = (w.len ≡ payload_len (cap' * s)) × (w.kept ≡ 0) in
     let Sizes : Type 0 = (len ≡ x.len) × (len ≤ cap') × (len ≤ cap) × (cap' * s < 2 ^ 63) × (full ≡ payload_len (cap * s)) in
-    let Token = λ (g : Identity) (v : Ty) (p : Ptr) (j k : ℕ). fex (IsPlaced g.home p j (payload_len (size v)) × (size v < 2 ^ 63))
+    let Token = λ (g : Identity) (v : Ty) (p : Ptr) (j k : ℕ). fex (IsUnitPointer g.home p j (payload_len (size v)) × (size v < 2 ^ 63))
     (λ _. fsep (ticket_owns g.ledger k (extent j (payload_len (size v)) 16)) (block_beside v p)) in
     qed 𝓛 (((‵ (flft κ q) ⊛ ‵ ftrue) ⊛ ‵ (owns (types_at En₀.signature.params z.0.0) a vss))
     ∷ (raw (fact 𝓤 (κ ⊑ T.lives)) ⊛ raw (fact 𝓤 Long) ⊛ raw (fact 𝓤 Sizes)) ∷ []) ∵
@@ -146,13 +146,13 @@ move_to_spec 𝓤 𝓛 𝓜 𝓡 wired T L =
     use0 𝓛 (‵ (spot_own old full (spot_val old full ∷ []))) (spot_made 𝓛 old full are.1.1.1.0.1) $ fjoin ! $
     -- [the old payload; the values; κ's; the other new places; what is beside; the new ticket; the numbers]
     move ! (5 ∷ 4 ∷ []) $ fjoin ! $
-    let placed' : IsPlaced h'.home new w.start m' = subst (λ (v : Ptr × ℕ). IsPlaced h'.home v.0 w.start v.1) (λ i. (e' i, long i)) w.placed in
+    let placed' : IsUnitPointer h'.home new w.start m' = subst (λ (v : Ptr × ℕ). IsUnitPointer h'.home v.0 w.start v.1) (λ i. (e' i, long i)) w.placed in
     let short : size u' < 2 ^ 63 = subst (λ (j : ℕ). j < 2 ^ 63) (sym (block_size E cap')) sizes.3 in
-    fpack ! (IsPlaced h'.home new w.start m' × (size u' < 2 ^ 63)) (λ _. fsep (ticket_owns h'.ledger w.key (extent w.start m' 16)) (block_beside u' new)) (placed', short) $
+    fpack ! (IsUnitPointer h'.home new w.start m' × (size u' < 2 ^ 63)) (λ _. fsep (ticket_owns h'.ledger w.key (extent w.start m' 16)) (block_beside u' new)) (placed', short) $
     fpack ! ℕ (λ i. Token h' u' new w.start i) w.key $ fpack ! ℕ (λ j. fex ℕ (λ i. Token h' u' new j i)) w.start $
     -- [the new token; the old payload; the values; κ's; the other new places; the numbers]
     move ! (2 ∷ 4 ∷ 0 ∷ []) $ fjoin3 ! $ use0 𝓛 (‵ (list_own new (list_val new ∷ []))) (list_made 𝓛 new tt) $ fjoin ! $
-    let placed : IsPlaced h.home old start full = subst (λ (v : Ptr × ℕ). IsPlaced h.home v.0 start v.1) (λ i. (e i, as_long i)) is.0 in
+    let placed : IsUnitPointer h.home old start full = subst (λ (v : Ptr × ℕ). IsUnitPointer h.home v.0 start v.1) (λ i. (e i, as_long i)) is.0 in
     let r : (buffer.the_row R).Denot = record { ptr = new; marker = record {}; heap = h'; len = len; cap = cap'; items = xs } in
     let back : (payload_type.the_row).Denot =
     record { ptr = old; len = full; home = h.home; name = h.ledger; key = key; start = start; kept = 0; placed = placed; within = (omega arith, refl) } in

@@ -26,10 +26,10 @@ use Rattle.core.proofs.ptr.Rows.{El}
 use Rattle.std.proofs.raw_atomic.Walks.{proved_at, leaves}
 use Rattle.rlsf_base.specs.Ledger.{extent, ticket_owns}
 use Rattle.rlsf_base.specs.Steps.Ownership.{units_ty}
-use Rattle.rlsf_base.specs.UnitPayload.{IsPlaced}
+use Rattle.rlsf_base.specs.UnitPayload.{IsUnitPointer}
 use Rattle.rlsf_base.proofs.RawBlock.PointerValues.{spot_val, spot_told}
 use Rattle.rlsf_heap.specs.Heap.{Identity}
-use Rattle.rlsf_heap.specs.Units.{heap_of, payload_len}
+use Rattle.rlsf_heap.specs.Units.{identity_of, payload_len}
 use Rattle.rlsf_local_heap.specs.Ownership.{block_beside}
 use Rattle.rlsf_local_heap.proofs.Stretched.{array_len, block_size, block_type, stretched}
 use Rattle.rlsf_local_heap.proofs.Values.{list_val, list_own, list_told, list_made}
@@ -53,13 +53,13 @@ with_spec 𝓤 𝓛 𝓜 𝓡 wired T L =
     let x = a.0 in let xs = x.items in let len = x.len in let small = x.cap in
     let t = a.1.0 in
     let cap = a.1.1.0 in
-    let h : Identity = heap_of t in
+    let h : Identity = identity_of t in
     let u : Ty = block_type E cap in
     let m = array_len E cap in
     let k = array_len E small in
     let Place : Type 0 = (t.ptr ≡ x.ptr) × (t.len ≡ payload_len (cap * s)) × (t.kept ≡ payload_len (small * s)) in
     let Sizes : Type 0 = (len ≤ small) × (small ≤ cap) × (cap * s < 2 ^ 63) in
-    let Token = λ (h : Identity) (u : Ty) (p : Ptr) (j k : ℕ). fex (IsPlaced h.home p j (payload_len (size u)) × (size u < 2 ^ 63))
+    let Token = λ (h : Identity) (u : Ty) (p : Ptr) (j k : ℕ). fex (IsUnitPointer h.home p j (payload_len (size u)) × (size u < 2 ^ 63))
     (λ _. fsep (ticket_owns h.ledger k (extent j (payload_len (size u)) 16)) (block_beside u p)) in
     qed 𝓛 (((‵ (flft κ q) ⊛ ‵ ftrue) ⊛ ‵ (owns (types_at En₀.signature.params z.0.0) a vss))
     ∷ (raw (fact 𝓤 (κ ⊑ T.lives)) ⊛ raw (fact 𝓤 Place) ⊛ raw (fact 𝓤 Sizes)) ∷ []) ∵
@@ -76,9 +76,9 @@ with_spec 𝓤 𝓛 𝓜 𝓡 wired T L =
     use3 𝓛 (‵ (froom (block_type E (cap - len)) b (o + len * s)) ⊛ ‵ (block_beside u p)) (stretched E 𝓛 len small cap b o sizes.0 sizes.1) $ split ! $
     -- [the places; what is beside; the ticket; no more; the values; κ's]
     move ! (2 ∷ 1 ∷ []) $ fjoin ! $
-    let placed : IsPlaced h.home p t.start m = subst (λ (v : Ptr × ℕ). IsPlaced h.home v.0 t.start v.1) (λ i. (at i, long i)) t.placed in
+    let placed : IsUnitPointer h.home p t.start m = subst (λ (v : Ptr × ℕ). IsUnitPointer h.home v.0 t.start v.1) (λ i. (at i, long i)) t.placed in
     let short : size u < 2 ^ 63 = subst (λ (j : ℕ). j < 2 ^ 63) (sym (block_size E cap)) sizes.2 in
-    fpack ! (IsPlaced h.home p t.start m × (size u < 2 ^ 63)) (λ _. fsep (ticket_owns h.ledger t.key (extent t.start m 16)) (block_beside u p)) (placed, short) $
+    fpack ! (IsUnitPointer h.home p t.start m × (size u < 2 ^ 63)) (λ _. fsep (ticket_owns h.ledger t.key (extent t.start m 16)) (block_beside u p)) (placed, short) $
     fpack ! ℕ (λ i. Token h u p t.start i) t.key $ fpack ! ℕ (λ j. fex ℕ (λ i. Token h u p j i)) t.start $
     -- [the token; the places; no more; the values; κ's]
     move ! (3 ∷ 1 ∷ 0 ∷ []) $ fjoin3 ! $ keep ! (0 ∷ 2 ∷ []) $

@@ -25,7 +25,7 @@ use Rattle.std.proofs.raw_atomic.Walks.{proved}
 use Rattle.rlsf_base.specs.Changes.{IsOwn}
 use Rattle.rlsf_base.specs.RawParts.{LiesAtBlock}
 use Rattle.rlsf_base.specs.OpenSpace.{place_in}
-use Rattle.rlsf_base.specs.UnitPayload.{IsPlaced}
+use Rattle.rlsf_base.specs.UnitPayload.{IsUnitPointer}
 use Rattle.rlsf_base.specs.Steps.Ownership.{room_at, units_ty}
 use Rattle.rlsf_base.proofs.RawBlock.PointerValues.{room-complete, spot_val, spot_own, spot_told, spot_made, spot_typed, ptr_typed, unmoved}
 use Rattle.rlsf_base.specs.contracts.memory.unit_payload.UnitPayload as payload_type
@@ -89,7 +89,7 @@ into_payload_spec 𝓤 𝓛 𝓜 𝓡 wired =
     returns ! (look_at ! 0 refl) $ free_all ! refl $
     let same : parts.len ≡ len = place.1 ∙ d.leased.long in
     let pointed : d.ptr ≡ q = sym (there ∙ based ∙ (λ i. d.leased.at i +ₚ d.leased.first i) ∙ unmoved d.ptr) in
-    let placed : IsPlaced d.home q d.start len = subst (λ (u : Ptr). IsPlaced d.home u d.start len) pointed d.placed in
+    let placed : IsUnitPointer d.home q d.start len = subst (λ (u : Ptr). IsUnitPointer d.home u d.start len) pointed d.placed in
     let x : (payload_type.the_row).Denot =
     record { ptr = q; len = len; home = d.home; name = d.name; key = d.key; start = d.start; kept = 0; placed = placed; within = (omega arith, refl) } in
     rewrite ! 0 (λ (u : ℕ × ℕ). ‵ (room_at q u.0 u.1)) {x = (d.memory.start, len)} {y = (parts.start, parts.len)} (λ i. (place.0 i, same i)) refl $

@@ -30,7 +30,7 @@ use denote.Triple.Walked.{walk_of}
 use Rattle.core.proofs.atomic.Steps.{fm}
 use Rattle.std.proofs.raw_atomic.Walks.{proved_at, leaves}
 use Rattle.rlsf_base.specs.Steps.Ownership.{units_ty}
-use Rattle.rlsf_base.specs.UnitPayload.{IsPlaced}
+use Rattle.rlsf_base.specs.UnitPayload.{IsUnitPointer}
 use Rattle.rlsf_base.specs.contracts.memory.unit_payload.UnitPayload as payload
 use Rattle.rlsf_base.proofs.RawBlock.PointerValues.{room-complete, spot_val, spot_own, spot_made}
 use Rattle.rlsf_heap.specs.Heap.{Identity}
@@ -86,7 +86,7 @@ deallocate_spec 𝓤 𝓛 𝓜 𝓡 wired T L gU dU gI dI dd mU mI md =
     rewrite ! 0 (λ (F : Fml). ‵ F) (sym (room-complete (block_ptr b o) m 0 refl)) refl $
     move ! (1 ∷ 0 ∷ []) $ fjoin ! $
     let p : Ptr = block_ptr b o in let short : size τ < 2 ^ 63 = is.1 in let same : size τ ≡ n = sym (capped_is (size τ) (omega arith)) ∙ asked.0 in
-    let placed : IsPlaced r.home p start m = subst (λ (u : Ptr). IsPlaced r.home u start m) e is.0 in
+    let placed : IsUnitPointer r.home p start m = subst (λ (u : Ptr). IsUnitPointer r.home u start m) e is.0 in
     move ! (1 ∷ []) $ split ! $ move ! (1 ∷ []) $ fsplit ! $ fsplit ! $ keep ! (4 ∷ 1 ∷ 3 ∷ []) $
     regoal ! (λ (us : List Val). prop (WpFn 𝓤 H C Λ fn us Post))
     (λ i. are.0.0 i ++ ((are.1.0 ∙ ap (λ (u : Ptr). ptr_val u ∷ []) e) i ++ (are.1.1.0.0 i ++ (are.1.1.1.0.0 i ++ [])))) refl $

@@ -4,7 +4,7 @@ use Rattle.std.specs.Prelude.{Err, is_some, true}
 use Rattle.rlsf_base.specs.PowerOfTwo.{IsPowerOfTwo}
 use Rattle.rlsf_offsets.specs.Checked.{IsAllocation}
 use Rattle.rlsf_offsets.proofs.Allocations.{sized-same}
-use Rattle.rlsf_offsets.proofs.Bytes.{IsRefused-same}
+use Rattle.rlsf_offsets.proofs.Bytes.{KeepsRanges-same}
 use Rattle.rlsf_offsets.proofs.Live.{IsChecked-refused, IsChecked-set, allocated_inside}
 use Rattle.rlsf_offsets.proofs.checked.CheckedOffsets.allocate.Goals as goal
 
@@ -17,7 +17,7 @@ returns-then-not-is_power g c =
       room = λ power o m run long. absurd (not_power power);
       within = λ power. absurd (not_power power);
       sized = sized-same v v _ _ refl;
-      same = IsRefused-same g.row.UNIT v;
+      same = KeepsRanges-same g.row.UNIT v;
       touches = omega arith;
     }
 

@@ -1,10 +1,10 @@
 use Rattle.std.proofs.Common.{◌≡◌, ap, arith, false, subst, sym}
 use Rattle.std.specs.Prelude.{IsSome, Ok, is_some}
 use Rattle.rlsf_base.proofs.Numbers.PowersOfTwo.{IsPowerOfTwo-positive}
-use Rattle.rlsf_offsets.specs.Checked.{if_live}
+use Rattle.rlsf_offsets.specs.Checked.{if_range_live}
 use Rattle.rlsf_offsets.specs.Offsets.{len_at}
 use Rattle.rlsf_offsets.specs.Units.{Offsets}
-use Rattle.rlsf_offsets.proofs.Bytes.{IsRefused-same}
+use Rattle.rlsf_offsets.proofs.Bytes.{KeepsRanges-same}
 use Rattle.rlsf_offsets.proofs.Growths.{sized-again}
 use Rattle.rlsf_offsets.proofs.Live.{IsChecked-set, known, live_inside, unknown}
 use Rattle.rlsf_offsets.proofs.checked.CheckedOffsets.deallocate.Goals as goal
@@ -15,7 +15,7 @@ returns-then-not-is_live g c =
       deallocated = tt;
       which = unknown _ tt c.if-not-is_live.ensures;
       sized = sized-again v;
-      same = IsRefused-same g.row.UNIT v;
+      same = KeepsRanges-same g.row.UNIT v;
       touches = omega arith;
     }
 
@@ -36,5 +36,5 @@ pub returns : goal.returns
 returns g c =
     let e = c.deallocate.ensures in
     let live = known _ tt c.if-not-is_live.ensures in
-    let which = subst (λ (v : Offsets). Ok tt ≡ if_live (len_at g.row.UNIT v c.args.offset) tt) (sym c.self.view_is) live in
+    let which = subst (λ (v : Offsets). Ok tt ≡ if_range_live (len_at g.row.UNIT v c.args.offset) tt) (sym c.self.view_is) live in
     rw (← c.self.view_is) (record { deallocated = e.deallocated; which = which; sized = e.sized; same = tt; touches = e.touches })

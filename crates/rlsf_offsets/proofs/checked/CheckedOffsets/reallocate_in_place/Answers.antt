@@ -3,7 +3,7 @@ use Rattle.std.specs.Prelude.{IsSome}
 use Rattle.rlsf_base.proofs.Numbers.PowersOfTwo.{IsPowerOfTwo-positive}
 use Rattle.rlsf_offsets.specs.Offsets.{len_at}
 use Rattle.rlsf_offsets.specs.Units.{Offsets}
-use Rattle.rlsf_offsets.proofs.Bytes.{IsRefused-same}
+use Rattle.rlsf_offsets.proofs.Bytes.{KeepsRanges-same}
 use Rattle.rlsf_offsets.proofs.Live.{IsChecked-reallocated, IsChecked-refused, none_at}
 use Rattle.rlsf_offsets.proofs.Resizes.{sized-there-same}
 use Rattle.rlsf_offsets.proofs.checked.CheckedOffsets.reallocate_in_place.Goals as goal
@@ -14,7 +14,7 @@ returns-then-not-is_live g c =
       reallocated = tt;
       which = inl (refl, none_at _ c.if-not-is_live.ensures);
       sized = sized-there-same v v _ _ refl;
-      same = IsRefused-same g.row.UNIT v;
+      same = KeepsRanges-same g.row.UNIT v;
       touches = omega arith;
     }
 

@@ -4,10 +4,10 @@ use Rattle.std.proofs.lemmas.Option.{none-some}
 use Rattle.std.specs.Prelude.{IsSome}
 use Rattle.rlsf_base.proofs.Numbers.PowersOfTwo.{IsPowerOfTwo-positive}
 use Rattle.rlsf_base.specs.PowerOfTwo.{IsPowerOfTwo}
-use Rattle.rlsf_offsets.specs.Offsets.{units_for}
+use Rattle.rlsf_offsets.specs.Offsets.{units_of_bytes}
 use Rattle.rlsf_offsets.specs.Units.{IsReserved, SucceedsWithin}
 use Rattle.rlsf_offsets.proofs.Allocations.{if_none, if_some}
-use Rattle.rlsf_offsets.proofs.Bytes.{IsAllocated-units, IsRefused-unchanged, power_of_units}
+use Rattle.rlsf_offsets.proofs.Bytes.{IsAllocated-units, KeepsRanges-unchanged, power_of_units}
 use Rattle.rlsf_offsets.proofs.offsets.OffsetTlsf.allocate.Goals as goal
 
 pub units_for-units-requires : goal.units_for-units-requires
@@ -42,7 +42,7 @@ returns-in_err-first g c =
       room = λ o m run long. absurd (true≢false (sym (e.room o m run long)));
       within = subst (λ (o : Option ℕ). SucceedsWithin c.self.inside.inner c.units_for-units.result c.units_for-step.result (IsSome o)) (sym none) e.within;
       sized = e.sized;
-      same = if_none _ none (IsRefused-unchanged g.row.UNIT c.self.inside.inner c.allocate.new.self e.same);
+      same = if_none _ none (KeepsRanges-unchanged g.row.UNIT c.self.inside.inner c.allocate.new.self e.same);
       touches = e.touches;
     })
 
@@ -55,7 +55,7 @@ returns g c =
     let e = c.in_ok-first.ensures in
     let n = c.units_for-units.ensures.value in
     let a = c.units_for-step.ensures.value in
-    let made : IsReserved v x (units_for unit c.args.len) (units_for unit c.args.align) first
+    let made : IsReserved v x (units_of_bytes unit c.args.len) (units_of_bytes unit c.args.align) first
     = subst (λ (p : ℕ × ℕ). IsReserved v x p.0 p.1 first) (λ i. (n i, a i)) e.reserved in
     let allocated = IsAllocated-units unit c.args.align c.self.invariant.0 c.requires v x c.args.len first made in
     rw (← c.self.view_is, ← n, ← a) (record {

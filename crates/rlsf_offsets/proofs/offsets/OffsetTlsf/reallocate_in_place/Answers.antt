@@ -1,8 +1,8 @@
 use Rattle.std.proofs.Common.{◌≡◌, ◌/◌, ℕ, IsSome, subst, sym, true}
 use Rattle.rlsf_base.proofs.Numbers.PowersOfTwo.{IsPowerOfTwo-positive}
-use Rattle.rlsf_offsets.specs.Offsets.{IsReallocated, len_at}
-use Rattle.rlsf_offsets.specs.Units.{IsResized, Offsets}
-use Rattle.rlsf_offsets.proofs.Bytes.{IsReallocated-units, IsRefused-unchanged, some_units, still_live}
+use Rattle.rlsf_offsets.specs.Offsets.{IsRangeReallocated, len_at}
+use Rattle.rlsf_offsets.specs.Units.{IsRangeResized, Offsets}
+use Rattle.rlsf_offsets.proofs.Bytes.{IsReallocated-units, KeepsRanges-unchanged, some_units, still_live}
 use Rattle.rlsf_offsets.proofs.offsets.OffsetTlsf.reallocate_in_place.Goals as goal
 
 pub units_for-units-requires : goal.units_for-units-requires
@@ -27,13 +27,13 @@ returns g c =
     let n = c.units_for-units.ensures.value in
     let some = IsPowerOfTwo-positive unit c.self.invariant.0 in
     let live = subst (λ (v : Offsets). IsSome (len_at unit v offset)) (sym c.self.view_is) c.requires in
-    let made : done ≡ true → IsReallocated unit v x len offset = λ is.
-    IsReallocated-units unit some v x len offset live (subst (λ (k : ℕ). IsResized v x k (offset / unit)) n (e.resized is)) in
+    let made : done ≡ true → IsRangeReallocated unit v x len offset = λ is.
+    IsReallocated-units unit some v x len offset live (subst (λ (k : ℕ). IsRangeResized v x k (offset / unit)) n (e.resized is)) in
     rw (← c.self.view_is, ← n) (record {
       reallocated = made;
       room = e.room;
       stay = still_live unit v x len offset done made e.same;
       sized = e.sized;
-      same = λ none. IsRefused-unchanged unit v x (e.same none);
+      same = λ none. KeepsRanges-unchanged unit v x (e.same none);
       touches = e.touches;
     })

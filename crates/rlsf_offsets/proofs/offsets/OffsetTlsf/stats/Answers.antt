@@ -1,5 +1,5 @@
 use Rattle.std.proofs.Common.{arith, refl, subst}
-use Rattle.rlsf_offsets.specs.Blocks.{AreTotals}
+use Rattle.rlsf_offsets.specs.Blocks.{AreSpaceTotals}
 use Rattle.rlsf_offsets.specs.Units.{Offsets}
 use Rattle.rlsf_offsets.proofs.Blocks.{AreStats-totals, few_bytes}
 use Rattle.rlsf_offsets.proofs.offsets.OffsetTlsf.stats.Goals as goal
@@ -21,5 +21,5 @@ in_bytes-longest-requires g c =
 
 pub returns : goal.returns
 returns g c =
-    let are = subst (λ (v : Offsets). AreTotals v c.totals-totals.result) c.self.view_is c.totals-totals.ensures.totals in
+    let are = subst (λ (v : Offsets). AreSpaceTotals v c.totals-totals.result) c.self.view_is c.totals-totals.ensures.totals in
     AreStats-totals g.row.UNIT c.args.self.now c.totals-totals.result _ are refl c.in_bytes-used.ensures c.in_bytes-free.ensures c.in_bytes-longest.ensures

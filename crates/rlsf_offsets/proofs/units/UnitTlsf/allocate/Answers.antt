@@ -5,9 +5,9 @@ use Rattle.rlsf_base.proofs.Numbers.PowersOfTwo.{IsPowerOfTwo-positive}
 use Rattle.rlsf_blocks.specs.Laws.{read_from}
 use Rattle.rlsf_model.proofs.Chunks.{chunks-allocated}
 use Rattle.rlsf_tlsf.specs.Allocator.{allocator}
-use Rattle.rlsf_offsets.specs.Units.{IsKept, offsets}
-use Rattle.rlsf_offsets.proofs.Allocations.{AreWhole-allocated, IsFull-answered, IsFull-longer, IsFull-refused, IsLayout-units, IsReserved-allocated, if_none, if_some, is_high, sized-kept, sized-same, within-full, within-room}
-use Rattle.rlsf_offsets.proofs.Kept.{IsKept-left}
+use Rattle.rlsf_offsets.specs.Units.{IsUnitAllocator, offsets}
+use Rattle.rlsf_offsets.proofs.Allocations.{AreWhole-allocated, IsFull-answered, HasNoRoomFor-longer, IsFull-refused, IsLayout-units, IsReserved-allocated, if_none, if_some, is_high, sized-kept, sized-same, within-full, within-room}
+use Rattle.rlsf_offsets.proofs.Kept.{IsUnitAllocator-left}
 use Rattle.rlsf_offsets.proofs.Rooms.{no_run}
 use Rattle.rlsf_offsets.proofs.units.UnitTlsf.allocate.Goals as goal
 use Rattle.rlsf_offsets.proofs.units.UnitTlsf.allocate.Goals.{In_ok-payload}
@@ -20,7 +20,7 @@ returns-then-saturating_add-self c =
     let align = c.args.align in
     let positive = IsPowerOfTwo-positive align c.requires.align in
     let shadow = c.self.invariant.shadow in
-    let full = IsFull-longer shadow (n + align - 1)
+    let full = HasNoRoomFor-longer shadow (n + align - 1)
     (omega (arith, c.saturating_add.ensures, c.if-saturating_add-self.true, shadow.few, c.requires.some, positive)) in
     let v = offsets c.self.inside.units (allocator c.self.inside.memory c.self.inside.table c.self.inside.state.state) in
     rw (← c.self.view_is) (record {
@@ -72,7 +72,7 @@ returns-in_err-payload c =
 small : (c : In_ok-payload) → c.args.align ≤ 2 ^ 56
 small c = omega (arith, c.saturating_add.ensures, c.if-saturating_add-self.false, c.self.invariant.shadow.few, c.requires.some)
 
-kept : (c : In_ok-payload) → IsKept c.self.inside.units c.allocate_in.new.memory c.allocate_in.new.table c.allocate_in.new.state.state
+kept : (c : In_ok-payload) → IsUnitAllocator c.self.inside.units c.allocate_in.new.memory c.allocate_in.new.table c.allocate_in.new.state.state
 kept c =
     let n = c.args.units in
     let align = c.args.align in
@@ -85,7 +85,7 @@ kept c =
     let s = read_from c.self.inside.memory c.self.inside.state.state in
     let size = c.from_size_align_unchecked-layout.result.size in
     let wide = c.from_size_align_unchecked-layout.result.align in
-    IsKept-left c.self.invariant e.left (chunks-allocated 8 s b.state size wide (Some addr) e.step)
+    IsUnitAllocator-left c.self.invariant e.left (chunks-allocated 8 s b.state size wide (Some addr) e.step)
     (AreWhole-allocated shadow b n align size wide es ea c.requires.some positive (Some addr) e.step)
 
 pub overflow_sub-result : goal.overflow_sub-result

@@ -1,8 +1,8 @@
 use Rattle.std.proofs.Common.{subst}
 use Rattle.std_collections.proofs.IterRuns.{gives_in_order}
-use Rattle.rlsf_offsets.specs.Blocks.{AreAllBlocks, AreWithin}
+use Rattle.rlsf_offsets.specs.Blocks.{AreAllBlocks, AreWithinSpace}
 use Rattle.rlsf_offsets.specs.Units.{Offsets}
-use Rattle.rlsf_offsets.proofs.Blocks.{AreAllBlocks-row, AreWithin-blocks, IsRow-shadow}
+use Rattle.rlsf_offsets.proofs.Blocks.{AreAllBlocks-row, AreWithinSpace-blocks, IsRow-shadow}
 use Rattle.rlsf_offsets.proofs.units.UnitTlsf.blocks.Goals as goal
 
 pub walk_blocks-requires : goal.walk_blocks-requires
@@ -20,6 +20,6 @@ returns c =
     let all = AreAllBlocks-row shadow len some none bs (c.walk_blocks.ensures.blocks 59 8 _ _ shadow.stands (IsRow-shadow shadow len some none)) in
     record {
       blocks = subst (λ (v : Offsets). AreAllBlocks v bs) c.self.view_is all;
-      within = subst (λ (v : Offsets). AreWithin v.units bs) c.self.view_is (AreWithin-blocks shadow bs all);
+      within = subst (λ (v : Offsets). AreWithinSpace v.units bs) c.self.view_is (AreWithinSpace-blocks shadow bs all);
       runs = gives_in_order;
     }

@@ -5,7 +5,7 @@ use Rattle.rlsf_model.proofs.Chunks.{chunks-deallocated}
 use Rattle.rlsf_tlsf.specs.Allocator.{allocator}
 use Rattle.rlsf_offsets.specs.Units.{Offsets, offsets, units_at}
 use Rattle.rlsf_offsets.proofs.Frees.{AreWhole-deallocated, IsReleased-deallocated, sized-freed}
-use Rattle.rlsf_offsets.proofs.Kept.{IsCore-kept, IsKept-left, own_found}
+use Rattle.rlsf_offsets.proofs.Kept.{IsCore-kept, IsUnitAllocator-left, own_found}
 use Rattle.rlsf_offsets.proofs.Ranges.{live_place}
 use Rattle.rlsf_offsets.proofs.units.UnitTlsf.deallocate.Goals as goal
 
@@ -25,7 +25,7 @@ invariant_of-self c =
     let s = read_from c.self.inside.memory c.self.inside.state.state in
     let t = read_from c.deallocate_in.new.memory c.deallocate_in.new.state.state in
     let addr = c.place_of-addr.result in
-    IsKept-left c.self.invariant e.left (chunks-deallocated s t addr e.step) (AreWhole-deallocated s t addr e.step c.self.invariant.shadow.whole)
+    IsUnitAllocator-left c.self.invariant e.left (chunks-deallocated s t addr e.step) (AreWhole-deallocated s t addr e.step c.self.invariant.shadow.whole)
 
 pub returns : goal.returns
 returns c =

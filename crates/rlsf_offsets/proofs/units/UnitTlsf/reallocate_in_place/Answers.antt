@@ -3,8 +3,8 @@ use Rattle.std.specs.Prelude.{IsSome}
 use Rattle.rlsf_blocks.specs.Laws.{read_from}
 use Rattle.rlsf_tlsf.specs.Allocator.{allocator}
 use Rattle.rlsf_tlsf.proofs.Reached.{read_from-counted}
-use Rattle.rlsf_offsets.specs.Units.{IsKept, Offsets, offsets, units_at}
-use Rattle.rlsf_offsets.proofs.Kept.{IsCore-kept, IsKept-left, own_found}
+use Rattle.rlsf_offsets.specs.Units.{IsUnitAllocator, Offsets, offsets, units_at}
+use Rattle.rlsf_offsets.proofs.Kept.{IsCore-kept, IsUnitAllocator-left, own_found}
 use Rattle.rlsf_offsets.proofs.Ranges.{live_place}
 use Rattle.rlsf_offsets.proofs.Resizes.{AreWhole-kept, IsResized-units, no_room_longer, room_of, sized-there, sized-there-same}
 use Rattle.rlsf_offsets.proofs.units.UnitTlsf.reallocate_in_place.Goals as goal
@@ -36,12 +36,12 @@ resize_in-requires c =
     let is = live_place c.self.invariant.shadow c.args.first (subst (λ (v : Offsets). IsSome (units_at v c.args.first)) (sym c.self.view_is) c.requires.live) in
     (omega arith, (IsCore-kept c.self.invariant, own_found c.self.invariant c.args.first c.place_of-addr.result c.place_of-addr.ensures is.1))
 
-kept : (c : After-resize_in) → IsKept c.self.inside.units c.resize_in.new.memory c.resize_in.new.table c.resize_in.new.state.state
+kept : (c : After-resize_in) → IsUnitAllocator c.self.inside.units c.resize_in.new.memory c.resize_in.new.table c.resize_in.new.state.state
 kept c =
     let e = c.resize_in.ensures in
     let s = read_from c.self.inside.memory c.self.inside.state.state in
     let t = read_from c.resize_in.new.memory c.resize_in.new.state.state in
-    IsKept-left c.self.invariant e.left e.kept.chunks (AreWhole-kept s t e.left.core.stands.well_formed e.kept.aligns c.self.invariant.shadow.whole)
+    IsUnitAllocator-left c.self.invariant e.left e.kept.chunks (AreWhole-kept s t e.left.core.stands.well_formed e.kept.aligns c.self.invariant.shadow.whole)
 
 pub invariant_of-self : goal.invariant_of-self
 invariant_of-self c = kept (goal.at.invariant_of-self c).After-resize_in

@@ -1,5 +1,5 @@
 use Rattle.std.proofs.Common.{sym, subst, inl}
-use Rattle.rlsf_pool.specs.Calls.{Copies}
+use Rattle.rlsf_pool.specs.Calls.{PoolCopies}
 use Rattle.rlsf_pool.specs.Seen.{nothing, seen}
 use Rattle.rlsf_pool.proofs.Outcomes.{none_in_empty}
 use Rattle.rlsf_pool.proofs.Rewritten.{none_copied}
@@ -7,6 +7,6 @@ use Rattle.rlsf_pool.proofs.pool.Pool.copy.Goals as goal
 
 pub returns-in-Refused : goal.returns-in-Refused
 returns-in-Refused c =
-    subst (λ p. Copies (seen p) c.args.from c.args.to c.args.len c.number.result (seen p)) (sym c.in-Refused.is)
-    (subst (λ r. Copies nothing c.args.from c.args.to c.args.len r nothing) (sym c.number.ensures)
+    subst (λ p. PoolCopies (seen p) c.args.from c.args.to c.args.len c.number.result (seen p)) (sym c.in-Refused.is)
+    (subst (λ r. PoolCopies nothing c.args.from c.args.to c.args.len r nothing) (sym c.number.ensures)
     (none_copied nothing c.args.from c.args.to c.args.len (inl (none_in_empty c.args.from))))

@@ -1,7 +1,7 @@
 use Rattle.std.proofs.Common.{Err, sym, subst}
 use Rattle.rlsf_base.specs.Range.{range_at}
 use Rattle.rlsf_checked.specs.declared.error.CheckedError.TheVariants.{OutsideMemory}
-use Rattle.rlsf_pool.specs.Calls.{Inserts}
+use Rattle.rlsf_pool.specs.Calls.{PoolInserts}
 use Rattle.rlsf_pool.specs.Seen.{insert_result, nothing, seen}
 use Rattle.rlsf_pool.proofs.Outcomes.{none_inserted}
 use Rattle.rlsf_pool.proofs.pool.Pool.insert.Goals as goal
@@ -9,5 +9,5 @@ use Rattle.rlsf_pool.proofs.pool.Pool.insert.Goals as goal
 pub returns-in-Refused : goal.returns-in-Refused
 returns-in-Refused c =
     let r = range_at c.args.start c.args.len in
-    subst (λ p. Inserts (insert_result p r) (seen p) r c.refused.result (seen p)) (sym c.in-Refused.is)
-    (subst (λ a. Inserts (Err OutsideMemory) nothing r a nothing) (sym c.refused.ensures) (none_inserted r))
+    subst (λ p. PoolInserts (insert_result p r) (seen p) r c.refused.result (seen p)) (sym c.in-Refused.is)
+    (subst (λ a. PoolInserts (Err OutsideMemory) nothing r a nothing) (sym c.refused.ensures) (none_inserted r))

@@ -4,7 +4,7 @@ use Rattle.rlsf_base.specs.Range.{end_of}
 use Rattle.rlsf_test_flex.specs.Cursor.{Cursor}
 use Rattle.rlsf_test_flex.specs.HeapCursor.{heap_cursor, OwesAllocations}
 use Rattle.rlsf_test_flex.proofs.HeapCursors.{answered_allocation}
-use Rattle.rlsf_flex.specs.Heap.{Allocation, allocation_at, IsAllocated}
+use Rattle.rlsf_flex.specs.Heap.{Allocation, allocation_at, IsAllocationIn}
 use Rattle.rlsf_test_flex.proofs.heap_source.CursorAllocGlobalAlloc.alloc.Goals as goal
 
 pub returns-clause-owes : goal.returns-clause-owes
@@ -23,7 +23,7 @@ returns-clause-owes c =
     subst (λ (v : Cursor). (c.in_ok-end.end ≡ start + c.size-size.result) × (c.in_ok-end.end ≤ end_of v.terms.space)) (sym c.self.view_is) c.in_ok-end.ensures in
     let ends : addr + size ≡ c.in_ok-end.end = omega (arith, is_start, stops, c.size-size.ensures.value) in
     subst (λ (end : ℕ). (owed : List Allocation) → OwesAllocations c.args.self.now owed
-    → IsAllocated c.args.self.now.terms.space owed a × OwesAllocations (heap_cursor space end) (a ∷ owed)) ends
+    → IsAllocationIn c.args.self.now.terms.space owed a × OwesAllocations (heap_cursor space end) (a ∷ owed)) ends
     (subst (λ (old : Cursor). (owed : List Allocation) → OwesAllocations old owed
-    → IsAllocated old.terms.space owed a × OwesAllocations (heap_cursor space (addr + size)) (a ∷ owed)) same
+    → IsAllocationIn old.terms.space owed a × OwesAllocations (heap_cursor space (addr + size)) (a ∷ owed)) same
     (answered_allocation space c.self.inside.at addr size align c.self.invariant (omega (arith, begins, is_start)) aligned (omega (arith, ends, fits))))

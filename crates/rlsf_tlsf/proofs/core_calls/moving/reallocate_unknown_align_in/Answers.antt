@@ -15,7 +15,7 @@ use Rattle.rlsf_blocks.specs.Laws.{read_from}
 use Rattle.rlsf_blocks.specs.Steps.Resize.{IsUsedAt}
 use Rattle.rlsf_blocks.proofs.Counting.{Counts-counted_first}
 use Rattle.rlsf_blocks.proofs.Reallocate.FirstPlan.{in_place-none}
-use Rattle.rlsf_tlsf.specs.CoreResizes.{KeepsBoundsThere, KeepsPayloads, stayed_if}
+use Rattle.rlsf_tlsf.specs.CoreResizes.{KeepsBoundsThere, KeepsPayloadsResizing, stayed_if}
 use Rattle.rlsf_tlsf.specs.Results.{IsResized}
 use Rattle.rlsf_tlsf.specs.Steps.Moves.{allocated, bare, deallocated}
 use Rattle.rlsf_tlsf.specs.UnknownAlign.{ResizesBy}
@@ -65,7 +65,7 @@ returns-then-resize_block_in g c =
     let did : ReallocatesWithoutMove s addr size (Some addr) t =
     subst (λ (x : State × Bool). ReallocatesWithoutMove x.0 addr size (stayed_if x.1 addr) t) (λ i. (same i, yes i)) e.step in
     let is = subst (λ (x : State). IsResized x t addr size addr) same (e.result yes) in
-    let kept = subst (λ (x : State). KeepsPayloads x t addr) same e.kept in
+    let kept = subst (λ (x : State). KeepsPayloadsResizing x t addr) same e.kept in
     let bounds = subst (λ (x : State). KeepsBoundsThere g.row.SLLEN x t addr size) same e.bounds in
     let still : align_at t addr ≡ align_at s addr = ap (λ f. f addr) kept.aligns in
     record {

@@ -11,7 +11,7 @@ use Rattle.rlsf_model.proofs.Coverage.{by_test}
 use Rattle.rlsf_model.proofs.NoMove.{unmoved_is_reallocated}
 use Rattle.rlsf_model.proofs.SizedWords.{count_resized, sized_resized}
 use Rattle.rlsf_blocks.specs.Laws.{read_from}
-use Rattle.rlsf_tlsf.specs.CoreResizes.{KeepsPayloads}
+use Rattle.rlsf_tlsf.specs.CoreResizes.{KeepsPayloadsResizing}
 use Rattle.rlsf_tlsf.specs.Results.{IsResized}
 use Rattle.rlsf_tlsf.specs.Steps.Moves.{bare, reallocated}
 use Rattle.rlsf_tlsf.proofs.Moved.{reallocated-bare}
@@ -90,7 +90,7 @@ returns g c =
       left = LeavesCore-arrived stands k kept are.valid spare e.costs e.own e.here;
       step = reads stands k kept (ReallocatesWithoutMove s addr size (Some c.in-Some.to)) (subst (λ a. ReallocatesWithoutMove s addr size (Some a) t) (sym same) did);
       result = (same, reads stands k kept (λ (x : State). IsResized s x addr size addr) (record { there = refl; sized = seen.sized; few = seen.few; kept = seen.kept }));
-      kept = reads stands k kept (λ (x : State). KeepsPayloads s x addr) (record {
+      kept = reads stands k kept (λ (x : State). KeepsPayloadsResizing s x addr) (record {
         aligns = λ i a. aligned a i;
         bytes = λ a apart. seen.bytes a apart apart;
         count = count_resized well t addr size (Some addr) (u, holds) reached;

@@ -3,7 +3,7 @@ use Rattle.rlsf_model.specs.NoMove.{ReallocatesWithoutMove}
 use Rattle.rlsf_model.specs.State.{State}
 use Rattle.rlsf_blocks.specs.Laws.{read_from}
 use Rattle.rlsf_blocks.proofs.Counting.{Counts-counted_first}
-use Rattle.rlsf_tlsf.specs.CoreResizes.{KeepsBoundsThere, KeepsPayloads, stayed_if}
+use Rattle.rlsf_tlsf.specs.CoreResizes.{KeepsBoundsThere, KeepsPayloadsResizing, stayed_if}
 use Rattle.rlsf_tlsf.specs.Cores.{found_cost}
 use Rattle.rlsf_tlsf.specs.Results.{IsResized}
 use Rattle.rlsf_tlsf.proofs.Reached.{IsCore-counted, LeavesCore-counted_first, read_from-counted}
@@ -44,7 +44,7 @@ returns g c =
       left = LeavesCore-counted_first counts e.left;
       step = subst (λ (s : State). ReallocatesWithoutMove s addr size (stayed_if c.resize_block_in.result addr) t) same e.step;
       result = λ yes. subst (λ (s : State). IsResized s t addr size addr) same (e.result yes);
-      kept = subst (λ (s : State). KeepsPayloads s t addr) same e.kept;
+      kept = subst (λ (s : State). KeepsPayloadsResizing s t addr) same e.kept;
       bounds = subst (λ (s : State). KeepsBoundsThere g.row.SLLEN s t addr size) same e.bounds;
       refused = λ no. let r = e.refused no in
           record { counts = Counts-counted_first c.args.memory.now c.find_block-block.new.memory o (found_cost c.args.align) 2 counts r.counts; table = r.table; state = r.state };

@@ -7,7 +7,7 @@ use Rattle.rlsf_model.specs.State.{usable}
 use Rattle.rlsf_table.proofs.Costs.{SamePlace-costs, copied_none}
 use Rattle.rlsf_blocks.specs.Laws.{read_from}
 use Rattle.rlsf_tlsf.specs.Allocator.{Allocator, Steps, allocator}
-use Rattle.rlsf_tlsf.specs.CoreResizes.{KeepsBoundsThere, KeepsPayloads, stayed_if}
+use Rattle.rlsf_tlsf.specs.CoreResizes.{KeepsBoundsThere, KeepsPayloadsResizing, stayed_if}
 use Rattle.rlsf_tlsf.specs.Results.{IsResized, KeepsFrameInPlace}
 use Rattle.rlsf_tlsf.proofs.Arrivals.{live_inside}
 use Rattle.rlsf_tlsf.proofs.Opened.{IsAllocator-opened, view-opened}
@@ -55,7 +55,7 @@ module _ (g : given.Over) (c : After-resize_in g) where
 
   frame : KeepsFrameInPlace (at c.args.addr) c.args.layout.align before after
   frame =
-      let kept = told (KeepsPayloads before.state after.state) c.resize_in.ensures.kept in
+      let kept = told (KeepsPayloadsResizing before.state after.state) c.resize_in.ensures.kept in
       let costs = c.resize_in.ensures.left.costs in record {
         live = ap (λ f. f (at c.args.addr)) kept.aligns ∙ live;
         aligns = kept.aligns;

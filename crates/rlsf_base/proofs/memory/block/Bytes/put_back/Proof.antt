@@ -19,7 +19,7 @@ use denote.Triple.Walked.{says, Stays, stay_ref, stay_dropped, walk_of, Goes-ref
 use Rattle.core.proofs.alloc.Calls.{Goes-blank}
 use Rattle.std.proofs.raw_atomic.Walks.{proved}
 use Rattle.rlsf_base.specs.Out.{kept_at}
-use Rattle.rlsf_base.specs.Changes.{IsIn, IsOut, came_back}
+use Rattle.rlsf_base.specs.Changes.{AreBytesHere, AreBytesOut, came_back}
 use Rattle.rlsf_base.specs.Steps.Owners.{Has}
 use Rattle.rlsf_base.specs.Steps.Ownership.{held, bytes_own, ways_of, own_unit}
 use Rattle.rlsf_base.proofs.RawBlock.Rows.{Row, comes, clash_row, held-in}
@@ -48,7 +48,7 @@ put_back_spec 𝓤 𝓛 𝓜 𝓡 wired =
     let vss : List Val × (List Val × Unit {0}) = (mut_vals a.0, (mark_val ∷ [], tt)) in
     let ws = part.bytes in let i = part.skip - d.skip in let n = length ws in
     let Asked : Type 0 =
-    (part.at ≡ d.at) × Has d part.skip (length part.bytes) × IsIn part.out 0 (length part.bytes) × (part.units ≡ d.units) in
+    (part.at ≡ d.at) × Has d part.skip (length part.bytes) × AreBytesHere part.out 0 (length part.bytes) × (part.units ≡ d.units) in
     let y : W.Ghost = ((κs, qs, bounds, a, vss), g) in
     qed 𝓛 (((‵ (flft κs.0 qs.0) ⊛ ‵ ftrue) ⊛ ‵ (owns (types_at f.signature.params κs) a vss)) ∷ raw (fact 𝓤 Asked) ∷ []) ∵
     move ! (1 ∷ []) $ heard ! Asked (λ asked. split ! $ split ! $ move ! (2 ∷ []) $ fsplit ! $ move ! (1 ∷ []) $ fsplit ! $ fsplit ! $ keep ! (3 ∷ 4 ∷ 1 ∷ []) $
@@ -70,7 +70,7 @@ put_back_spec 𝓤 𝓛 𝓜 𝓡 wired =
       length-drop (i + n) d.bytes,
     ) in
     let new : (owner.the_row).Denot = record { mark = d.mark; at = d.at; skip = d.skip; bytes = bs; out = cs; of = d.of; units = d.units } in
-    let come : IsOut d.out i n → (u : ℕ) → Shares (own_unit cs d.skip (length d.bytes) u) (own_unit d.out d.skip (length d.bytes) u) (own_unit part.out part.skip n u)
+    let come : AreBytesOut d.out i n → (u : ℕ) → Shares (own_unit cs d.skip (length d.bytes) u) (own_unit d.out d.skip (length d.bytes) u) (own_unit part.out part.skip n u)
     =
     λ was u. parted cs d.out part.out d.skip (length d.bytes) part.skip n u asked.1.0 asked.1.1 (back-own d.out i n) was (λ k side. around-back d.out i n k side)
     (own-in part.out 0 n asked.2) in
@@ -78,7 +78,7 @@ put_back_spec 𝓤 𝓛 𝓜 𝓡 wired =
     -- [the part's bytes; its ways; the bytes; the ways with the mark; ..]
     move ! (0 ∷ 2 ∷ 1 ∷ []) $
     rewrite ! 0 (λ (F : Fml). ‵ F) (held-in 𝓛 b (kept_at part.out) 0 ws (part.skip + o) asked.2) refl $ rewrite ! 0 (λ (k : ℕ). ‵ (Row 𝓛 b k ws)) there refl $
-    learns ! 2 (IsOut d.out i n) (clash_row 𝓛 b 𝓜 d.out (d.skip + o) d.bytes i ws within) (λ was.
+    learns ! 2 (AreBytesOut d.out i n) (clash_row 𝓛 b 𝓜 d.out (d.skip + o) d.bytes i ws within) (λ was.
     use2 𝓛 (‵ (held (kept_at cs) 0 bs b (d.skip + o))) (comes 𝓛 b d.out (d.skip + o) d.bytes i n within ws refl) $
     -- [the bytes; the part's ways; the ways with the mark; ..]
     move ! (2 ∷ []) $ fsplit ! $ move ! (3 ∷ 0 ∷ []) $ rewrite ! 0 (λ (k : ℕ). ‵ (ways_of (own_unit part.out part.skip n) 0 k b o)) asked.3 refl $

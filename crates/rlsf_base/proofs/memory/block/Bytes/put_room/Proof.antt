@@ -18,7 +18,7 @@ use denote.Triple.Walked.{says, Stays, stay_ref, stay_dropped, walk_of, Goes-ref
 use Rattle.core.proofs.alloc.Calls.{Goes-blank}
 use Rattle.std.proofs.raw_atomic.Walks.{proved}
 use Rattle.rlsf_base.specs.Out.{kept_at}
-use Rattle.rlsf_base.specs.Changes.{IsOwn, IsOut, came_raw}
+use Rattle.rlsf_base.specs.Changes.{IsOwn, AreBytesOut, came_raw}
 use Rattle.rlsf_base.specs.Steps.Owners.{Has}
 use Rattle.rlsf_base.specs.Steps.Ownership.{bytes_ty, held, bytes_own, ways_of, own_unit}
 use Rattle.rlsf_base.proofs.RawBlock.Rows.{comes_raw, clash, held-room}
@@ -60,14 +60,14 @@ put_room_spec 𝓤 𝓛 𝓜 𝓡 wired =
     let there : part.skip + o ≡ i + (d.skip + o) = omega (arith, asked.1) in
     let cs = came_raw i n d.out in
     let new : (owner.the_row).Denot = record { mark = d.mark; at = d.at; skip = d.skip; bytes = d.bytes; out = cs; of = d.of; units = d.units } in
-    let come : IsOut d.out i n → (u : ℕ) → Shares (own_unit cs d.skip (length d.bytes) u) (own_unit d.out d.skip (length d.bytes) u) (own_unit part.out part.skip n u)
+    let come : AreBytesOut d.out i n → (u : ℕ) → Shares (own_unit cs d.skip (length d.bytes) u) (own_unit d.out d.skip (length d.bytes) u) (own_unit part.out part.skip n u)
     = λ was u. parted cs d.out part.out d.skip (length d.bytes) part.skip n u asked.1.0 asked.1.1 (raw-own d.out i n) was (λ k side. around-raw d.out i n k side) asked.2 in
     move ! (7 ∷ []) $ rewrite ! 0 (λ (p : Ptr). ‵ (bytes_own p part.skip part.bytes part.out part.units)) (asked.0 ∙ e) refl $ fsplit ! $ flt_l ! (λ small'. fsplit ! $
     -- [the part's bytes; its ways; the bytes; the ways with the mark; ..]
     move ! (0 ∷ 2 ∷ 1 ∷ []) $
     use1 𝓛 (‵ (froom (bytes_ty n) b (part.skip + o))) (held-room 𝓛 b (kept_at part.out) 0 ws (part.skip + o) asked.2) $ rewrite ! 0
     (λ (k : ℕ). ‵ (froom (bytes_ty n) b k)) there refl $
-    learns ! 2 (IsOut d.out i n) (clash 𝓛 b 𝓜 d.out (d.skip + o) d.bytes i n within) (λ was.
+    learns ! 2 (AreBytesOut d.out i n) (clash 𝓛 b 𝓜 d.out (d.skip + o) d.bytes i n within) (λ was.
     use2 𝓛 (‵ (held (kept_at cs) 0 d.bytes b (d.skip + o))) (comes_raw 𝓛 b d.out (d.skip + o) d.bytes i n within) $
     -- [the bytes; the part's ways; the ways with the mark; ..]
     move ! (2 ∷ []) $ fsplit ! $ move ! (3 ∷ 0 ∷ []) $ rewrite ! 0 (λ (k : ℕ). ‵ (ways_of (own_unit part.out part.skip n) 0 k b o)) asked.3 refl $

@@ -18,7 +18,7 @@ use denote.Triple.Walked.{says, Stays, stay_ref, stay_dropped, walk_of, Goes-ref
 use Rattle.core.proofs.alloc.Calls.{Goes-blank}
 use Rattle.std.proofs.raw_atomic.Walks.{proved}
 use Rattle.rlsf_base.specs.Out.{kept_at}
-use Rattle.rlsf_base.specs.Changes.{IsOut, came_raw}
+use Rattle.rlsf_base.specs.Changes.{AreBytesOut, came_raw}
 use Rattle.rlsf_base.specs.Steps.Owners.{Has}
 use Rattle.rlsf_base.specs.Steps.Ownership.{held, ways_of, own_unit, bytes_own, units_own}
 use Rattle.rlsf_base.proofs.RawBlock.Grid.{puts_units, clash_units}
@@ -57,7 +57,7 @@ put_units_spec 𝓤 𝓛 𝓜 𝓡 wired =
     let cs = came_raw i n d.out in
     let new : (owner.the_row).Denot = record { mark = d.mark; at = d.at; skip = d.skip; bytes = d.bytes; out = cs; of = d.of; units = d.units } in
     move ! (7 ∷ []) $ rewrite ! 0 (λ (p : Ptr). ‵ (units_own p first count)) (asked.0 ∙ e) refl $
-    learns ! 2 (IsOut d.out i n) (clash_units 𝓛 b o d.units first count asked.2 d.out d.skip d.bytes asked.1.0 asked.1.1 𝓜) (λ was.
+    learns ! 2 (AreBytesOut d.out i n) (clash_units 𝓛 b o d.units first count asked.2 d.out d.skip d.bytes asked.1.0 asked.1.1 𝓜) (λ was.
     -- [the units; the bytes; the ways with the mark; ..]
     move ! (2 ∷ []) $ fsplit ! $ move ! (2 ∷ 3 ∷ 0 ∷ []) $
     use3 𝓛 (‵ (held (kept_at cs) 0 d.bytes b (d.skip + o)) ⊛ ‵ (ways_of (own_unit cs d.skip (length d.bytes)) 0 d.units b o))

@@ -35,7 +35,7 @@ use denote.Triple.Walked.{says, Stays, stay_dropped, walk_of, Goes-dropped, Goes
 use Rattle.core.proofs.alloc.Shapes.{after}
 use Rattle.std.proofs.raw_atomic.Walks.{proved}
 use Rattle.rlsf_base.specs.Out.{kept_at}
-use Rattle.rlsf_base.specs.Changes.{IsIn}
+use Rattle.rlsf_base.specs.Changes.{AreBytesHere}
 use Rattle.rlsf_base.specs.Steps.Owners.{HasHere}
 use Rattle.rlsf_base.specs.Steps.Ownership.{held, bytes_own, ways_of, own_unit}
 use Rattle.rlsf_base.specs.Lends.{refilled}
@@ -71,7 +71,7 @@ module _ {M : Type 1} {𝓤 : Ura M} (𝓛 : Logic 𝓤) (rb ro b o : ℕ) (d : 
   abbrev new : List ℕ → (owner.the_row).Denot
   new ws = owner_with d (refilled d.bytes i len ws)
 
-  back : d.at ≡ block_ptr b o → i + len ≤ length d.bytes → IsIn d.out i len → length d.bytes < 2 ^ 63 → (ws : List ℕ) → length ws ≡ len
+  back : d.at ≡ block_ptr b o → i + len ≤ length d.bytes → AreBytesHere d.out i len → length d.bytes < 2 ^ 63 → (ws : List ℕ) → length ws ≡ len
       → ent 𝓤 (sep 𝓤 (sem 𝓛 (cells (mem u8) ws b (i + (d.skip + o)))) (sem 𝓛 Rest)) (sem 𝓛 ((mem owner.the_row).own_at (new ws) rb ro))
   unfolding part_of
   back e within inside small ws same =

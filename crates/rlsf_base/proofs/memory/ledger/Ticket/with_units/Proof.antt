@@ -26,7 +26,7 @@ use Rattle.rlsf_base.specs.OpenSpace.{Home, place_in}
 use Rattle.rlsf_base.specs.Piece.{home_from}
 use Rattle.rlsf_base.specs.Ledger.{extent, ticket_owns}
 use Rattle.rlsf_base.specs.Steps.Ownership.{units_ty, units_own}
-use Rattle.rlsf_base.specs.UnitPayload.{IsKept, IsPlaced, pointer_to}
+use Rattle.rlsf_base.specs.UnitPayload.{AreCompleteUnits, IsUnitPointer, pointer_to}
 use Rattle.rlsf_base.proofs.RawBlock.OwnerValues.{ticket_vals, ticket_Tells, units_vals, units_Tells, view_vals, view_Tells}
 use Rattle.rlsf_base.proofs.RawBlock.Parts.{placed_in_block}
 use Rattle.rlsf_base.proofs.RawBlock.PointerValues.{spot_val, spot_own, spot_made, view_val, view_fits}
@@ -79,7 +79,7 @@ with_units_spec 𝓤 𝓛 𝓜 𝓡 wired =
     (mark_val ∷ [], (view_vals view, (uint_vals w64 place, (uint_vals w64 len, (mark_val ∷ [], tt))))) in
     let Run : Type 0 = (run.at ≡ view.base.ptr) × (run.first * 16 + run.count * 16 ≡ place + len) × (run.count * 16 ≤ len) in
     let Shown : Type 0 = (t.len ≡ len) × (t.align ≡ 16) × (place ≡ place_in view t.addr) in
-    let Lies : Type 0 = IsPlaced home (pointer_to view t.addr) t.addr t.len in
+    let Lies : Type 0 = IsUnitPointer home (pointer_to view t.addr) t.addr t.len in
     let y : W.Ghost = ((κs, qs, bounds, a, vss), g) in
     qed 𝓛 ((‵ ftrue ⊛ ‵ (owns (types_at f.signature.params κs) a vss)) ∷ (raw (fact 𝓤 Run) ⊛ raw (fact 𝓤 Shown) ⊛ raw (fact 𝓤 Lies)) ∷ []) ∵
     move ! (1 ∷ []) $ split ! $ heard ! Run (λ is. split ! $ heard ! Shown (λ shown. heard ! Lies (λ lies.
@@ -95,9 +95,9 @@ with_units_spec 𝓤 𝓛 𝓜 𝓡 wired =
     returns ! (look_at ! 0 refl) $ free_all ! refl $
     let p : Ptr = block_ptr b (place + o) in
     let many : run.count ≡ (len - kept) / 16 = omega (arith, is.2) in
-    let within : IsKept kept len = (omega arith, omega (arith, lies.aligned.1, shown.0, is.2)) in let there : run.first * 16 + o ≡ place + o + kept =
+    let within : AreCompleteUnits kept len = (omega arith, omega (arith, lies.aligned.1, shown.0, is.2)) in let there : run.first * 16 + o ≡ place + o + kept =
     omega (arith, is.1, is.2) in
-    let placed : IsPlaced home p t.addr len = placed_in_block view home b o t.addr place len t.len (sym is.0 ∙ e) shown.2 shown.0 lies in
+    let placed : IsUnitPointer home p t.addr len = placed_in_block view home b o t.addr place len t.len (sym is.0 ∙ e) shown.2 shown.0 lies in
     let x : (payload_type.the_row).Denot =
     record { ptr = p; len = len; home = home; name = t.name; key = t.key; start = t.addr; kept = kept; placed = placed; within = within } in
     rewrite ! 0 (λ (u : ℕ × ℕ). ‵ (froom (units_ty u.0) b u.1)) {x = ((len - kept) / 16, place + o + kept)} {y = (run.count, run.first * 16 + o)} (λ i. (many i, there i)) refl $

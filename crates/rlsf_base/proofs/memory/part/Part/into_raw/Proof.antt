@@ -30,7 +30,7 @@ use Rattle.core.proofs.cell.Inside.{one}
 use Rattle.std.proofs.raw_atomic.Walks.{proved_at}
 use Rattle.rlsf_base.specs.Out.{Change}
 use Rattle.rlsf_base.specs.OpenSpace.{Home}
-use Rattle.rlsf_base.specs.Piece.{HasBytes, first_place}
+use Rattle.rlsf_base.specs.Piece.{HasPartBytes, first_place}
 use Rattle.rlsf_base.specs.Steps.Ownership.{bytes_own, units_in}
 use Rattle.rlsf_base.proofs.Pieces.{can_come}
 use Rattle.rlsf_base.specs.contracts.memory.block.Bytes as owner
@@ -77,7 +77,7 @@ into_raw_spec 𝓤 𝓛 𝓜 𝓡 wired =
     calls_at ! (framed 𝓤 H 𝓜 (tables 𝓤 H 𝓜 𝓡 𝓡.env)) G (bytes_met 𝓤 𝓛 𝓜 𝓡 (code.calls-rlsf_base::memory::part::Part::into_bytes 𝓡.env wired)) y
     (and_then ! (get ! refl) (no_more !)) (λ u.
     use1 𝓛 (later (some (λ (d : (owner.the_row).Denot). (‵ ftrue ⊛ ‵ ((owner.the_row).own_val d (u ∷ []))) ⊛
-    some (λ (ws : Lasts g.ended tt (p, tt)). ‵ (lasts g.ended y.0.0 y.0.3 ws) ⊛ raw (fact 𝓤 (HasBytes p d)))))) (id⊢ 𝓤 _) $
+    some (λ (ws : Lasts g.ended tt (p, tt)). ‵ (lasts g.ended y.0.0 y.0.3 ws) ⊛ raw (fact 𝓤 (HasPartBytes p d)))))) (id⊢ 𝓤 _) $
     await ! tt $ pick ! (λ d. split ! $ split ! $ drop ! $
     peeks ! owner.the_row (Is owner.the_row) (shows 𝓛 owner.the_row) d (u ∷ [])
     (λ is. let typed = ((owner_laws.the_row_laws.lawful 𝓛).typed d _ is).0 in lands_as ! refl refl typed $
