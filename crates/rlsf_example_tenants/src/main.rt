@@ -93,16 +93,16 @@ fn print_counts<A: Allocator + Copy>(rt: &impl Print, counts: &Counts<A>) -> Res
 }
 
 /// Counts the words for the blog, and ends the shop while the counts are in the blog's range.
-fn serve(
+fn serve<A: Allocator + Copy>(
     rt: &(impl Print + AllocGlobal),
     pool: &mut Small,
     shop: Room,
-    blog: &Room,
+    blog: A,
 ) -> Result<(), io::Error>
     requires { lessor shop.lease ≡ pool.old.identity }
     ensures { pool.new.identity ≡ pool.old.identity }
 {
-    let Ok(counts) = count(blog.heap(), "the cat saw the dog") else {
+    let Ok(counts) = count(blog, "the cat saw the dog") else {
         return rt.println("the blog has no room");
     };
     end(rt, pool, shop)?;
@@ -119,7 +119,7 @@ fn show(rt: &(impl Print + AllocGlobal)) -> Result<(), io::Error> {
     let Some(blog) = Room::new(&mut pool, rt.alloc(), BLOG) else {
         return rt.println("no room for the blog");
     };
-    serve(rt, &mut pool, shop, &blog)?;
+    serve(rt, &mut pool, shop, blog.heap())?;
     let ended = blog.end(&mut pool);
     println!(rt;
         "the blog has ended: {ended}, and {} ranges are out",

@@ -25,10 +25,15 @@ pub(crate) fn count<A: Allocator + Copy>(alloc: A, text: &str) -> Result<Counts<
     Ok(counts)
 }
 
+/// Counts the words of a text. Returns how often "the" occurs.
+fn occurrences<A: Allocator + Copy>(alloc: A, text: &str) -> Option<u64> {
+    count(alloc, text).ok()?.get("the").copied()
+}
+
 /// Counts in a heap of 16,384 bytes. Returns how often "the" occurs.
 fn in_heap(alloc: Global, text: &str) -> Option<u64> {
     let heap = LocalHeap::<Box<Small>>::new(alloc, 16384).ok()?;
-    count(&heap, text).ok()?.get("the").copied()
+    occurrences(&heap, text)
 }
 
 /// Counts in a tenant, which has 8,176 bytes of a pool. Also returns whether the tenant ended: then the pool has the bytes again.
@@ -40,7 +45,7 @@ fn in_tenant(alloc: Global, text: &str) -> Option<(u64, bool)> {
         len: 16384,
     });
     let tenant = Tenant::new(&mut pool, alloc, 8176)?;
-    let counted = count(tenant.heap(), text).ok()?.get("the").copied()?;
+    let counted = occurrences(tenant.heap(), text)?;
     Some((counted, tenant.end(&mut pool)))
 }
 

@@ -75,7 +75,7 @@ impl<FLBitmap: BitPattern, SLBitmap: BitPattern, const FLLEN: usize, const SLLEN
     ///
     /// ```
     /// let heap = LocalHeap::<Box<Small>>::new(alloc, 16384).ok()?;
-    /// count(&heap, text).ok()?.get("the").copied()
+    /// occurrences(&heap, text)
     /// ```
     pub fn new(alloc: Global, len: usize) -> Result<Self, MemoryError>
         requires { IsValid FLBitmap.width SLBitmap.width FLLEN SLLEN }

@@ -68,7 +68,7 @@ impl<FLBitmap: BitPattern, SLBitmap: BitPattern, const FLLEN: usize, const SLLEN
     ///
     /// ```
     /// let tenant = Tenant::new(&mut pool, alloc, 8176)?;
-    /// let counted = count(tenant.heap(), text).ok()?.get("the").copied()?;
+    /// let counted = occurrences(tenant.heap(), text)?;
     /// ```
     pub fn new(
         pool: &mut Heap<FLBitmap, SLBitmap, FLLEN, SLLEN>,
@@ -98,7 +98,7 @@ impl<FLBitmap: BitPattern, SLBitmap: BitPattern, const FLLEN: usize, const SLLEN
     /// From `crates/rlsf_example_tenants/src/words.rt`:
     ///
     /// ```
-    /// let counted = count(tenant.heap(), text).ok()?.get("the").copied()?;
+    /// let counted = occurrences(tenant.heap(), text)?;
     /// Some((counted, tenant.end(&mut pool)))
     /// ```
     pub fn heap(&self) -> &LocalHeap<Box<Heap<FLBitmap, SLBitmap, FLLEN, SLLEN>>>
