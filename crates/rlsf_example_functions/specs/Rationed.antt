@@ -20,8 +20,8 @@ rationed_terms x = record { space = x.bump.space; dealloc = false; grow = false;
 abbrev pub RationedOwes : Rationed → List Range → Type 0
 RationedOwes x owed = BumpOwes x.bump owed
 
--- A range has the requested bytes, from the first multiple of 32 on, and one range less is left. None is provided if none is left
--- or if the space ends before; then nothing changes.
+-- A range has the requested bytes, from the first multiple of 32 on, and one range less is left. No range is provided
+-- if none is left, or if the space is too short; then nothing changes.
 abbrev pub RationedLeads : Rationed → Note → Rationed → Type 0
 RationedLeads x (alloc size None) y = ((x.left ≡ 0) ⊎ (end_of x.bump.space < round32 x.bump.at + size)) × (y ≡ x)
 RationedLeads x (alloc size (Some r)) y = (y.left + 1 ≡ x.left) × (r ≡ range_at (round32 x.bump.at) size) × (y.bump ≡ bump_in x.bump.space (end_of r))

@@ -9,7 +9,7 @@ use std::io;
 use std::sync::Wait;
 use std::thread::{Threads, join};
 
-/// Chunks of up to 131,072 bytes, in 12 rows of 16 classes.
+/// 12 rows of 16 classes, with chunks of up to 131,072 bytes.
 type Shared = SharedHeap<u16, u16, 12, 16>;
 
 /// Returns a heap with one pool of 4096 bytes, for several threads.

@@ -8,7 +8,7 @@ use rlsf_heaps::{Heap, Layout, OpenMemory, Part, Range};
 use std::alloc::Global;
 use std::io;
 
-/// Chunks of up to 131,072 bytes, in 12 rows of 16 classes.
+/// 12 rows of 16 classes, with chunks of up to 131,072 bytes.
 type Small = Heap<u16, u16, 12, 16>;
 
 /// The range that goes back. Neither its start nor its end is a multiple of 32.

@@ -8,7 +8,7 @@ use rlsf_heaps::{Heap, Layout, OpenMemory, Payload, Range};
 use std::alloc::Global;
 use std::io;
 
-/// Chunks of up to 131,072 bytes, in 12 rows of 16 classes.
+/// 12 rows of 16 classes, with chunks of up to 131,072 bytes.
 type Small = Heap<u16, u16, 12, 16>;
 
 /// Returns a heap with one pool: 4096 bytes from address 4096 on, to which `OpenMemory::new` wrote zeros.

@@ -6,7 +6,7 @@ use std::alloc::{AllocError, Allocator, Global};
 use std::collections::BTreeMap;
 use std::io;
 
-/// Chunks of up to 131,072 bytes, in 12 rows of 16 classes.
+/// 12 rows of 16 classes, with chunks of up to 131,072 bytes.
 pub(crate) type Small = Heap<u16, u16, 12, 16>;
 
 /// The words of a text, and how often each occurs.

@@ -8,7 +8,7 @@ use rlsf_base::memory::{Layout, OpenMemory, Range};
 use rlsf_heap::{Heap, Payload};
 use std::alloc::Global;
 
-/// Chunks of up to 131,072 bytes, in 12 rows of 16 classes.
+/// 12 rows of 16 classes, with chunks of up to 131,072 bytes.
 type Small = Heap<u16, u16, 12, 16>;
 
 /// Makes a payload at least `size` bytes long, or returns it as it is if the heap refuses. Its first byte stays.

@@ -14,7 +14,7 @@ use rlsf_heap::Heap;
 use std::alloc::Global;
 use std::process::Abort;
 
-/// Chunks of up to 131,072 bytes, in 12 rows of 16 classes.
+/// 12 rows of 16 classes, with chunks of up to 131,072 bytes.
 type Small = Heap<u16, u16, 12, 16>;
 
 /// Lends a range, inserts it and reclaims it. Returns the number of bytes taken, and of those that come back.

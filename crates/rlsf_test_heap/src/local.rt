@@ -17,7 +17,7 @@ use std::mem::ManuallyDrop;
 use std::process::Abort;
 use std::test::Fail;
 
-/// Chunks of up to 131,072 bytes, in 12 rows of 16 classes.
+/// 12 rows of 16 classes, with chunks of up to 131,072 bytes.
 type Small = Box<Heap<u16, u16, 12, 16>>;
 
 /// A heap over a range of another's memory.

@@ -12,7 +12,7 @@ use rlsf_base::memory::{Layout, OpenMemory, Range, RawParts};
 use rlsf_heap::{Heap, Payload};
 use std::alloc::Global;
 
-/// Chunks of up to 131,072 bytes, in 12 rows of 16 classes.
+/// 12 rows of 16 classes, with chunks of up to 131,072 bytes.
 type Small = Heap<u16, u16, 12, 16>;
 
 struct Pair {

@@ -12,7 +12,7 @@ use std::process::Abort;
 /// Chunks of any length.
 type Large = Box<Heap<u64, u64, 59, 8>>;
 
-/// Chunks of up to 131,072 bytes, in 12 rows of 16 classes.
+/// 12 rows of 16 classes, with chunks of up to 131,072 bytes.
 type Small = Heap<u16, u16, 12, 16>;
 
 /// A heap over a range of another's memory.

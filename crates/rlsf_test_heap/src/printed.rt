@@ -6,7 +6,7 @@ use std::alloc::{AllocError, Allocator, Global};
 use std::process::Abort;
 use std::test::Fail;
 
-/// Chunks of up to 131,072 bytes, in 12 rows of 16 classes.
+/// 12 rows of 16 classes, with chunks of up to 131,072 bytes.
 type Small = Box<Heap<u16, u16, 12, 16>>;
 
 /// What is printed of a heap.

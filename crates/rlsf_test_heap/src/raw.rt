@@ -7,7 +7,7 @@ use rlsf_base::memory::{Layout, OpenMemory, Range};
 use rlsf_heap::Heap;
 use std::alloc::Global;
 
-/// Chunks of up to 131,072 bytes, in 12 rows of 16 classes.
+/// 12 rows of 16 classes, with chunks of up to 131,072 bytes.
 type Small = Heap<u16, u16, 12, 16>;
 
 /// Allocates a payload, writes it, makes it one that is known by its address alone, and deallocates it by this number. Returns its length.
