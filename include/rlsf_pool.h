@@ -111,7 +111,7 @@ typedef struct {
 } rlsf_pool_span;
 
 /* The size of a handle of either kind in bytes. */
-#define RLSF_POOL_SIZE 33912
+#define RLSF_POOL_SIZE 33928
 
 /* Room for a handle that is static or on the stack: pass (rlsf_pool *)&handle to each call. (tested) A handle whose bytes are all 0, as a
  * static one begins, is that of an ended pool: rlsf_pool_destroy does nothing there. */

@@ -50,7 +50,8 @@ LAYERS = [
         [(1, "rlsf_tlsf", "Tlsf: the allocator over one memory; the work of each call has a bound")],
     ]),
     ("Parts", "of an allocator's calls", "#d9efd9", [
-        [(1, "rlsf_table", "free blocks by size class"), (1, "rlsf_blocks", "chunks and blocks in the memory, and how payloads are resized")],
+        [(1, "rlsf_table", "free blocks by size class"), (1, "rlsf_blocks", "chunks and blocks in the memory, and how payloads are resized"),
+         (1, "rlsf_codes", "tables of live addresses")],
     ]),
     ("Model", "definitions and laws", "#e4dcf2", [
         [(1, "rlsf_model", "the reference model: lists of ranges"), (1, "rlsf_model_global", "the model behind the lock")],

@@ -24,8 +24,9 @@ use Rattle.rlsf_tlsf.specs.Allocator.{Allocator, Stands, Steps}
 use Rattle.rlsf_checked.specs.Answers.{size_refusal}
 use Rattle.rlsf_checked.specs.Checked.{PoolList}
 use Rattle.rlsf_checked.specs.declared.error.CheckedError.TheVariants.{NoLayout}
-use Rattle.rlsf_checked.specs.declared.marks.Marks.{Marks}
-use Rattle.rlsf_checked.specs.Steps.Marks.{HasMark, mark_at, mark_of}
+use Rattle.rlsf_codes.specs.declared.codes.Codes.{Codes}
+use Rattle.rlsf_checked.specs.Steps.Marks.{mark_of}
+use Rattle.rlsf_codes.specs.Codes.{HasPlace, code_at}
 use Rattle.rlsf_checked.specs.Steps.Standing.{IsChecked}
 
 -- the allocator after a step is valid
@@ -85,31 +86,39 @@ live_place fllen sllen v stands addr align is =
 
 -- ---- marks
 
-module _ {fllen sllen : ℕ} {v : Allocator} {m : Marks} {pools : PoolList} (is : IsChecked fllen sllen v m pools) where
+module _ {fllen sllen : ℕ} {v : Allocator} {m : Codes ℕ} {pools : PoolList} (is : IsChecked fllen sllen v m pools) where
   -- and a mark shows the alignment of one
-  pub marked_as : (addr : ℕ) → (mark_at m addr ≡ 0 → ⊥)
-      → (align_at v.state addr ≡ Some (2 ^ (mark_at m addr - 1))) × (1 ≤ mark_at m addr) × (mark_at m addr ≤ 64) × IsPowerOfTwo (2 ^ (mark_at m addr - 1))
+  pub marked_as : (addr : ℕ) → (code_at m addr ≡ 0 → ⊥)
+      → (align_at v.state addr ≡ Some (2 ^ (code_at m addr - 1))) × (1 ≤ code_at m addr) × (code_at m addr ≤ 64) × IsPowerOfTwo (2 ^ (code_at m addr - 1))
   marked_as addr some = go (align_at v.state addr) refl
     where
       go : (o : Option ℕ) → align_at v.state addr ≡ o
-          → (align_at v.state addr ≡ Some (2 ^ (mark_at m addr - 1))) × (1 ≤ mark_at m addr) × (mark_at m addr ≤ 64) × IsPowerOfTwo (2 ^ (mark_at m addr - 1))
+          → (align_at v.state addr ≡ Some (2 ^ (code_at m addr - 1))) × (1 ≤ code_at m addr) × (code_at m addr ≤ 64) × IsPowerOfTwo (2 ^ (code_at m addr - 1))
       go None e = absurd (some (is.marked addr ∙ ap mark_of e))
       go (Some align) e =
           let place = live_place fllen sllen v is.stands addr align e in
-          let mark : mark_at m addr ≡ suc (floor_log2 align) = is.marked addr ∙ ap mark_of e in
-          let less : mark_at m addr - 1 ≡ floor_log2 align = omega (arith, mark) in
-          let power : align ≡ 2 ^ (mark_at m addr - 1) = place.power ∙ ap (λ k. 2 ^ k) (sym less) in
-          (e ∙ ap Some power, omega (arith, mark), omega (arith, mark, place.short), IsPowerOfTwo-pow (mark_at m addr - 1))
+          let mark : code_at m addr ≡ suc (floor_log2 align) = is.marked addr ∙ ap mark_of e in
+          let less : code_at m addr - 1 ≡ floor_log2 align = omega (arith, mark) in
+          let power : align ≡ 2 ^ (code_at m addr - 1) = place.power ∙ ap (λ k. 2 ^ k) (sym less) in
+          (e ∙ ap Some power, omega (arith, mark), omega (arith, mark, place.short), IsPowerOfTwo-pow (code_at m addr - 1))
 
   -- a live address has a mark
-  pub has_mark : (w : Allocator) → Stands fllen sllen w → SamePlace v.memory w.memory → (addr align : ℕ) → align_at w.state addr ≡ Some align → HasMark m addr
+  pub has_mark : (w : Allocator) → Stands fllen sllen w → SamePlace v.memory w.memory → (addr align : ℕ) → align_at w.state addr ≡ Some align → HasPlace m addr
   has_mark w stands place addr align live =
       let there = live_place fllen sllen w stands addr align live in
       is.covers addr there.even (omega (arith, there.low, place.0)) (omega (arith, there.high, place.0, place.1))
 
+  -- an address without a place has the mark of none
+  pub no_mark : m.none ≡ 0
+  no_mark = by (align_at v.state 1) refl
+    where
+      by : (o : Option ℕ) → align_at v.state 1 ≡ o → m.none ≡ 0
+      by None e = is.marked 1 ∙ ap mark_of e
+      by (Some align) e = let there = live_place fllen sllen v is.stands 1 align e in absurd (omega (arith, there.even))
+
   -- a step that keeps place, chunks and edges, with the marks of the payloads after it
-  pub kept : (w : Allocator) (n : Marks) → Stands fllen sllen w → SamePlace v.memory w.memory → w.state.chunks ≡ v.state.chunks
-      → ((a : ℕ) → HasMark m a → HasMark n a) → ((a : ℕ) → mark_at n a ≡ mark_of (align_at w.state a)) → IsChecked fllen sllen w n pools
+  pub kept : (w : Allocator) (n : Codes ℕ) → Stands fllen sllen w → SamePlace v.memory w.memory → w.state.chunks ≡ v.state.chunks
+      → ((a : ℕ) → HasPlace m a → HasPlace n a) → ((a : ℕ) → code_at n a ≡ mark_of (align_at w.state a)) → IsChecked fllen sllen w n pools
   kept w n stands place chunks places marked = record {
     stands = stands;
     marked = marked;
@@ -125,12 +134,12 @@ module _ {fllen sllen : ℕ} {v : Allocator} {m : Marks} {pools : PoolList} (is 
   }
 
   -- one mark was set, as the payload at its address shows, and no other payload changed its alignment
-  pub marked_at : (w : Allocator) (n : Marks) (addr : ℕ) → Stands fllen sllen w → SamePlace v.memory w.memory → w.state.chunks ≡ v.state.chunks
-      → ((a : ℕ) → HasMark m a → HasMark n a) → mark_at n addr ≡ mark_of (align_at w.state addr) → ((a : ℕ) → a ≢ addr → mark_at n a ≡ mark_at m a)
+  pub marked_at : (w : Allocator) (n : Codes ℕ) (addr : ℕ) → Stands fllen sllen w → SamePlace v.memory w.memory → w.state.chunks ≡ v.state.chunks
+      → ((a : ℕ) → HasPlace m a → HasPlace n a) → code_at n addr ≡ mark_of (align_at w.state addr) → ((a : ℕ) → a ≢ addr → code_at n a ≡ code_at m a)
       → ((a : ℕ) → a ≢ addr → align_at w.state a ≡ align_at v.state a)
       → IsChecked fllen sllen w n pools
   marked_at w n addr stands place chunks places here marks aligns = kept w n stands place chunks places (λ a. elim (cases_eq a addr) [
-    | inl same ↦ ap (mark_at n) same ∙ here ∙ ap (λ x. mark_of (align_at w.state x)) (sym same)
+    | inl same ↦ ap (code_at n) same ∙ here ∙ ap (λ x. mark_of (align_at w.state x)) (sym same)
     | inr apart ↦ marks a apart ∙ is.marked a ∙ ap mark_of (sym (aligns a apart))
   ])
 
@@ -140,16 +149,16 @@ module _ {fllen sllen : ℕ} {v : Allocator} {m : Marks} {pools : PoolList} (is 
   unchanged w stands place chunks aligns = kept w m stands place chunks (λ a has. has) (λ a. is.marked a ∙ ap (λ f. mark_of (f a)) (sym aligns))
 
   -- a payload got another size: no mark is left where it was, and then its mark was set where it is
-  pub marked_moved : (w : Allocator) (left n : Marks) (addr to align : ℕ) → Stands fllen sllen w → SamePlace v.memory w.memory → w.state.chunks ≡ v.state.chunks
-      → ((a : ℕ) → HasMark m a → HasMark n a) → ((a : ℕ) → a ≢ addr → mark_at left a ≡ mark_at m a) → mark_at left addr ≡ 0
-      → ((a : ℕ) → a ≢ to → mark_at n a ≡ mark_at left a) → mark_at n to ≡ suc (floor_log2 align) → align_at w.state to ≡ Some align
+  pub marked_moved : (w : Allocator) (left n : Codes ℕ) (addr to align : ℕ) → Stands fllen sllen w → SamePlace v.memory w.memory → w.state.chunks ≡ v.state.chunks
+      → ((a : ℕ) → HasPlace m a → HasPlace n a) → ((a : ℕ) → a ≢ addr → code_at left a ≡ code_at m a) → code_at left addr ≡ 0
+      → ((a : ℕ) → a ≢ to → code_at n a ≡ code_at left a) → code_at n to ≡ suc (floor_log2 align) → align_at w.state to ≡ Some align
       → (to ≢ addr → align_at w.state addr ≡ None)
       → ((a : ℕ) → a ≢ addr → a ≢ to → align_at w.state a ≡ align_at v.state a) → IsChecked fllen sllen w n pools
   marked_moved w left n addr to align stands place chunks places others cleared new set live gone aligns =
       kept w n stands place chunks places (λ a. elim (cases_eq a to) [
-        | inl there ↦ ap (mark_at n) there ∙ set ∙ sym (ap mark_of (ap (align_at w.state) there ∙ live))
+        | inl there ↦ ap (code_at n) there ∙ set ∙ sym (ap mark_of (ap (align_at w.state) there ∙ live))
         | inr apart ↦ elim (cases_eq a addr) [
-          | inl here ↦ new a apart ∙ ap (mark_at left) here ∙ cleared ∙ sym (ap mark_of (ap (align_at w.state) here ∙ gone (λ same. apart (here ∙ sym same))))
+          | inl here ↦ new a apart ∙ ap (code_at left) here ∙ cleared ∙ sym (ap mark_of (ap (align_at w.state) here ∙ gone (λ same. apart (here ∙ sym same))))
           | inr other ↦ new a apart ∙ others a other ∙ is.marked a ∙ ap mark_of (sym (aligns a other apart))
         ]
       ])

@@ -30,8 +30,9 @@ use Rattle.rlsf_checked.specs.Answers.{append_answer, if_appended, if_taken, ins
 use Rattle.rlsf_checked.specs.Checked.{Checked, PoolList}
 use Rattle.rlsf_checked.specs.Pools.{no_pools, with_longer_last, with_pool}
 use Rattle.rlsf_checked.specs.declared.error.CheckedError.TheVariants.{NotBehind, NotNext, OutsideMemory}
-use Rattle.rlsf_checked.specs.declared.marks.Marks.{Marks}
-use Rattle.rlsf_checked.specs.Steps.Marks.{HasMark, mark_at, mark_of}
+use Rattle.rlsf_codes.specs.declared.codes.Codes.{Codes}
+use Rattle.rlsf_checked.specs.Steps.Marks.{mark_of}
+use Rattle.rlsf_codes.specs.Codes.{HasPlace, code_at}
 use Rattle.rlsf_checked.specs.Steps.Standing.{AreCheckedPools, IsChecked, IsOneOf, IsCheckedPool}
 use Rattle.rlsf_checked.proofs.ListedPools.{inserted_order, is_in, one_of}
 
@@ -101,7 +102,7 @@ inserted_pools fllen s t pools r n are behind step =
       ];
     }
 
-module _ {fllen sllen : ℕ} {v : Allocator} {m : Marks} {pools : PoolList} (is : IsChecked fllen sllen v m pools) where
+module _ {fllen sllen : ℕ} {v : Allocator} {m : Codes ℕ} {pools : PoolList} (is : IsChecked fllen sllen v m pools) where
   -- no chunk ends behind the last pool
   pub below : (c : Range) → IsIn c v.state.chunks → end_of c ≤ end_of pools.last
   below c i =
@@ -144,8 +145,8 @@ module _ {fllen sllen : ℕ} {v : Allocator} {m : Marks} {pools : PoolList} (is 
         (omega (arith, lies.1, (taken-within fllen r n (sym step.answer)).0))
 
 -- an allocator to which nothing was handed, with marks that are all 0
-pub made : {fllen sllen : ℕ} (heap : Allocator) (m : Marks) → Stands fllen sllen heap → heap.state ≡ empty → ((a : ℕ) → mark_at m a ≡ 0)
-    → ((a : ℕ) → a % 16 ≡ 0 → heap.memory.start ≤ a → a ≤ end_of (range_of heap.memory) → HasMark m a)
+pub made : {fllen sllen : ℕ} (heap : Allocator) (m : Codes ℕ) → Stands fllen sllen heap → heap.state ≡ empty → ((a : ℕ) → code_at m a ≡ 0)
+    → ((a : ℕ) → a % 16 ≡ 0 → heap.memory.start ≤ a → a ≤ end_of (range_of heap.memory) → HasPlace m a)
     → IsChecked fllen sllen heap m (no_pools heap.memory.start)
 made heap m stands none zeros covers = record {
   stands = stands;
@@ -291,7 +292,7 @@ appended-le fllen s r = go (max_pool_size fllen) refl
 pub none_appended : (fllen : ℕ) (s t : State) (r : Range) → Appends fllen s r 0 t → t ≡ s
 none_appended fllen s t r step = (appended-le fllen s r).1 t step
 
-module _ {fllen sllen : ℕ} {v : Allocator} {m : Marks} {pools : PoolList} (is : IsChecked fllen sllen v m pools) (r : Range) (some : 0 < pools.last.len)
+module _ {fllen sllen : ℕ} {v : Allocator} {m : Codes ℕ} {pools : PoolList} (is : IsChecked fllen sllen v m pools) (r : Range) (some : 0 < pools.last.len)
     (next : r.start ≡ end_of pools.last) (lies_in : LiesIn r v.memory.start (length v.memory.bytes)) where
   last_is : IsCheckedPool v.state pools.last
   last_is = is.pools.each pools.last (inr (refl, some))

@@ -18,7 +18,7 @@ use Rattle.rlsf_model.proofs.Removals.{IsIn-outside, IsIn-outside_from, lies_wit
 use Rattle.rlsf_tlsf.specs.Allocator.{Allocator, Stands}
 use Rattle.rlsf_checked.specs.Checked.{PoolList, pools_of}
 use Rattle.rlsf_checked.specs.Pools.{without_last, without_pool_at}
-use Rattle.rlsf_checked.specs.declared.marks.Marks.{Marks}
+use Rattle.rlsf_codes.specs.declared.codes.Codes.{Codes}
 use Rattle.rlsf_checked.specs.Steps.Standing.{AreCheckedPools, IsChecked, IsOneOf, IsCheckedPool}
 use Rattle.rlsf_checked.proofs.ListedPools.{AreInOrder-filter, same_or_apart}
 use Rattle.rlsf_checked.proofs.PoolsOverSteps.{renewed}
@@ -137,7 +137,7 @@ module _ {fllen sllen : ℕ} {memory : Range} {s t : State} {pools : PoolList} (
       ])
 
 -- the fields of an allocator, of which a pool was removed
-pub removed_pool : {fllen sllen : ℕ} {v w : Allocator} {m : Marks} {pools : PoolList} (is : IsChecked fllen sllen v m pools) → Stands fllen sllen w
+pub removed_pool : {fllen sllen : ℕ} {v w : Allocator} {m : Codes ℕ} {pools : PoolList} (is : IsChecked fllen sllen v m pools) → Stands fllen sllen w
     → SamePlace v.memory w.memory → align_at w.state ≡ align_at v.state → (r : Range) → IsOneOf r pools → Removes v.state (walked r) w.state
     → IsChecked fllen sllen w m (without_pool_at pools r.start)
 unfolding Stands
@@ -152,7 +152,7 @@ removed_pool {w = w} {pools = pools} is stands place aligns r one removes =
     (omega (arith, is.high, short))
 
 -- or the last one
-pub removed_last_pool : {fllen sllen : ℕ} {v w : Allocator} {m : Marks} {pools : PoolList} (is : IsChecked fllen sllen v m pools) → Stands fllen sllen w
+pub removed_last_pool : {fllen sllen : ℕ} {v w : Allocator} {m : Codes ℕ} {pools : PoolList} (is : IsChecked fllen sllen v m pools) → Stands fllen sllen w
     → SamePlace v.memory w.memory → align_at w.state ≡ align_at v.state → Removes v.state (walked pools.last) w.state
     → IsChecked fllen sllen w m (without_last pools)
 unfolding Stands

@@ -31,10 +31,11 @@ ghost use Rattle.rlsf_checked.specs.Sizing.{AddsCheckedRoom, KeepsBoundsSameAlig
 use crate::bytes::write_at;
 use crate::classes::are_valid;
 use crate::error::CheckedError;
-use crate::marks::{Marks, align_of, mark_of};
+use crate::marks::{align_of, mark_of, no_marks};
 use crate::pools::Pools;
 use rlsf_base::memory::{Addr, Layout, Memory, Range};
 use rlsf_blocks::{BlockInfo, Blocks};
+use rlsf_codes::Codes;
 use rlsf_int::{BitPattern, Bitmap};
 use rlsf_tlsf::Tlsf;
 use std::alloc::Global;
@@ -55,7 +56,7 @@ pub struct CheckedTlsf<
     const SLLEN: usize,
 > {
     pub(crate) heap: Tlsf<FLBitmap, SLBitmap, FLLEN, SLLEN>,
-    pub(crate) marks: Marks,
+    pub(crate) marks: Codes<u8>,
     pub(crate) pools: Pools,
 }
 
@@ -101,7 +102,7 @@ impl<FLBitmap: Bitmap, SLBitmap: Bitmap, const FLLEN: usize, const SLLEN: usize>
         if !are_valid::<FLBitmap, SLBitmap, FLLEN, SLLEN>() {
             return Err(CheckedError::InvalidClasses);
         }
-        let Some(marks) = Marks::new(alloc, &memory) else {
+        let Some(marks) = no_marks(alloc, &memory) else {
             return Err(CheckedError::OutOfMemory);
         };
         let pools = Pools::new(alloc, memory.start());

@@ -2,7 +2,7 @@
 //!
 //! Read `specs/Checked` (the allocator as contracts see it) and `specs/Answers` (when each error is returned) first, then `src/checked`, which
 //! has most calls. `src/removal` removes pools, and `src/bytes` copies and fills the bytes of payloads. `src/error` has the errors.
-//! `src/marks` keeps a mark for each address at which a payload may be, and `src/pools` the list of pools. `src/all_blocks` has the calls over
+//! `src/marks` makes marks, which are codes of `rlsf_codes`, and `src/pools` keeps the list of pools. `src/all_blocks` has the calls over
 //! the blocks of all pools. `src/classes` and `src/lengths` test parameters and lengths. `specs/Steps` is for private functions.
 #![tactic(auto)]
 

@@ -9,7 +9,7 @@ use Rattle.rlsf_flex.specs.StandsFor.{FlexContents, FlexStandsFor, FlexSteps, St
 use Rattle.rlsf_flex.proofs.InnerAllocator.{alone_opened, flex_opened, flex_spare}
 use Rattle.rlsf_flex.proofs.OutsideNow.{KeepsOutsideNow-spare}
 use Rattle.rlsf_flex.proofs.Places.{SamePlace-refl, SamePlace-then}
-use Rattle.rlsf_global.specs.LiveRows.{HasCodes, LiveRows}
+use Rattle.rlsf_global.specs.LiveRows.{HasCodes, LiveRows, looked}
 use Rattle.rlsf_global.specs.Locked.{locked_contents}
 use Rattle.rlsf_global.specs.Memory.{CopiesOnResize, KeepsMemory}
 use Rattle.rlsf_global.specs.Results.{KeepsLocked}
@@ -110,9 +110,13 @@ module _ (f f' : FlexContents PageCursor) where
 pub KeepsMemory-refl : (f : FlexContents PageCursor) → KeepsMemory f f
 KeepsMemory-refl f = record { place = SamePlace-refl f.memory; spare = λ a low high one two. refl; outside = λ a low high none. refl }
 
-pub keeps_unchanged : (f : FlexContents PageCursor) (live live' : LiveRows) (n m : ℕ) → m ≤ n + 2 → (HasCodes live → HasCodes live')
-    → KeepsLocked (locked_contents f live n) (locked_contents f live' m)
-keeps_unchanged f live live' n m few codes = record { memory = KeepsMemory-refl f; grow = omega arith; copied = refl; looks = few; codes = codes }
+pub keeps_unchanged : (f : FlexContents PageCursor) (live live' : LiveRows) → live'.looks ≤ live.looks + 2 → (HasCodes live → HasCodes live')
+    → KeepsLocked (locked_contents f live) (locked_contents f live')
+keeps_unchanged f live live' few codes = record { memory = KeepsMemory-refl f; grow = omega arith; copied = refl; looks = few; codes = codes }
+
+-- only a code was read
+pub keeps_looked : (f : FlexContents PageCursor) (live : LiveRows) → KeepsLocked (locked_contents f live) (locked_contents f (looked live))
+keeps_looked f live = keeps_unchanged f live (looked live) (omega arith) (λ has. has)
 
 -- ---- one step after another
 

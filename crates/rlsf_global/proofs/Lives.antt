@@ -1,5 +1,5 @@
 -- A call that names an address is refused as unknown exactly where no payload is.
-use Rattle.std.proofs.Common.{◌≡◌, ◌↔◌, ℕ, Bool, true, false, true≢false, List, None, Some, Result, Err, IsErrOf, IsSome, refl, subst, sym, ◌∙◌, ap}
+use Rattle.std.proofs.Common.{◌≡◌, ◌↔◌, ℕ, Bool, true, false, true≢false, List, Option, None, Some, is_some, Result, Err, IsErrOf, IsSome, refl, subst, sym, ◌∙◌, ap}
 use Rattle.std.proofs.lemmas.Option.{none-some}
 use Rattle.rlsf_flex.specs.StandsFor.{FlexContents}
 use Rattle.rlsf_global.proofs.Layouts.{layout_at-none, layout_at-some}
@@ -31,3 +31,18 @@ module _ (f : FlexContents PageCursor) (rows : List Row) (addr : ℕ) where
 -- an entry that was found is one
 pub has_row : (rows : List Row) (addr : ℕ) (row : Row) → row_at addr rows ≡ Some row → IsSome (row_at addr rows)
 has_row rows addr row there = subst IsSome (sym there) refl
+
+-- what a test for an entry shows
+pub found_row : (rows : List Row) (addr : ℕ) → true ≡ is_some (row_at addr rows) → (row : Row) × (row_at addr rows ≡ Some row)
+found_row rows addr = by (row_at addr rows)
+  where
+    by : (o : Option Row) → true ≡ is_some o → (row : Row) × (o ≡ Some row)
+    by None e = absurd (true≢false e)
+    by (Some row) e = (row, refl)
+
+pub no_row_found : (rows : List Row) (addr : ℕ) → false ≡ is_some (row_at addr rows) → row_at addr rows ≡ None
+no_row_found rows addr = by (row_at addr rows)
+  where
+    by : (o : Option Row) → false ≡ is_some o → o ≡ None
+    by None e = refl
+    by (Some row) e = absurd (true≢false (sym e))

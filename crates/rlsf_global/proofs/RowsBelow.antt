@@ -6,8 +6,9 @@ use Rattle.std.proofs.lemmas.Bool.Decides.{eqb_tells, leb_tells}
 use Rattle.std.specs.declared.num.NonZeroUsize.{NonZeroUsize}
 use Rattle.rlsf_base.specs.Addr.{at}
 use Rattle.rlsf_global.proofs.CodedRows.{address-fits, code_at-place, code_in-none, coded-at, coded-place, row_at-in, row_at-of}
-use Rattle.rlsf_global.specs.LiveRows.{AreAddresses, AreCoded, HasPlace, IsLiveTable, code_in}
-use Rattle.rlsf_global.specs.declared.live_table.codes.Codes.{Codes}
+use Rattle.rlsf_codes.specs.Codes.{HasPlace}
+use Rattle.rlsf_codes.specs.declared.codes.Codes.{Codes}
+use Rattle.rlsf_global.specs.LiveRows.{AreAddresses, AreCoded, IsLiveTable, code_in}
 use Rattle.rlsf_global.proofs.ToldLayouts.{IsTold, told-row}
 use Rattle.rlsf_model.specs.Lists.{IsIn}
 use Rattle.rlsf_model.specs.State.{State}
@@ -101,7 +102,7 @@ below-next a b (r ∷ rows) s lt gap =
 
 -- ---- the entries below the address of a place
 
-module _ (c : Codes) (rows : List Row) (coded : AreCoded c rows) (sorted : IsSorted rows) where
+module _ (c : Codes ℕ) (rows : List Row) (coded : AreCoded c rows) (sorted : IsSorted rows) where
   place_in : (r : Row) → IsIn r rows → HasPlace c (key r)
   place_in r i = coded-place c rows coded (key r) (subst (λ o. IsSome o) (sym (row_at-of rows r sorted i)) refl)
 
@@ -130,18 +131,18 @@ module _ (c : Codes) (rows : List Row) (coded : AreCoded c rows) (sorted : IsSor
   rows-few : length rows ≤ length c.codes.items
   rows-few = let few = below-few (length c.codes.items) in omega (arith, few, ap length below-end)
 
-  code_in_place : (place code : ℕ) → code ≡ get_or c.codes.items place 0 → code ≡ code_in (row_at ((c.first + place) * 16) rows)
+  code_in_place : (place code : ℕ) → code ≡ get_or c.codes.items place c.none → code ≡ code_in (row_at ((c.first + place) * 16) rows)
   code_in_place place code is = is ∙ sym (code_at-place c ((c.first + place) * 16) place refl) ∙ coded-at c rows coded ((c.first + place) * 16)
 
   -- where there is no code, these are the same at the next place
-  pub below-empty : (place code : ℕ) → code ≡ get_or c.codes.items place 0 → code ≡ 0
+  pub below-empty : (place code : ℕ) → code ≡ get_or c.codes.items place c.none → code ≡ 0
       → below ((c.first + (place + 1)) * 16) rows ≡ below ((c.first + place) * 16) rows
   unfolding entry
   below-empty place code is none =
       below-place place ∙ ap (λ o. below ((c.first + place) * 16) rows ++ entry o) (code_in-none _ (sym (code_in_place place code is) ∙ none)) ∙ append-nil _
 
   -- where there is a code, its address is one of a machine
-  pub place-some : (place code : ℕ) → AreAddresses rows → code ≡ get_or c.codes.items place 0 → code ≢ 0
+  pub place-some : (place code : ℕ) → AreAddresses rows → code ≡ get_or c.codes.items place c.none → code ≢ 0
       → (0 < (c.first + place) * 16) × ((c.first + place) * 16 < 2 ^ 64)
   place-some place code all is some = by (row_at ((c.first + place) * 16) rows) refl (code_in_place place code is)
     where
@@ -167,14 +168,14 @@ module _ (c : Codes) (rows : List Row) (coded : AreCoded c rows) (sorted : IsSor
 
   -- at a place with a code is a payload, whose layout is determined
   pub told_in : (m : State) → Lists rows m → (place code : ℕ) (addr : NonZeroUsize) → at addr ≡ (c.first + place) * 16
-      → code ≡ get_or c.codes.items place 0 → code ≢ 0
+      → code ≡ get_or c.codes.items place c.none → code ≢ 0
       → IsTold rows m addr code
   told_in m lists place code addr here is some =
       told-row rows m lists addr code (code_in_place place code is ∙ ap (λ n. code_in (row_at n rows)) (sym here)) some
 
 -- so a count of payloads fits in a word, with one more
-pub live-few : (c : Codes) (rows : List Row) (live : ℕ) → IsLiveTable c rows live → live < 2 ^ 62
+pub live-few : (c : Codes ℕ) (rows : List Row) (live : ℕ) → IsLiveTable c rows live → live < 2 ^ 62
 live-few c rows live kept =
     let few = rows-few c rows kept.coded kept.sorted in
-    let count = kept.counted in let stored = kept.few in let narrow = kept.narrow in
+    let count = kept.counted in let stored = c.few in let narrow = c.narrow in
     omega (arith, few, count, stored, narrow)

@@ -2,7 +2,8 @@
 use Rattle.std.specs.Prelude.{◌≡◌, ℕ, List, length}
 use Rattle.rlsf_base.specs.Space.{Space}
 use Rattle.rlsf_flex.specs.StandsFor.{FlexContents, FlexStandsFor}
-use Rattle.rlsf_global.specs.LiveRows.{CodeSpace, LiveRows, codes_for}
+use Rattle.rlsf_codes.specs.Codes.{CodeSpace, codes_for}
+use Rattle.rlsf_global.specs.LiveRows.{LiveRows}
 use Rattle.rlsf_model_global.specs.Pages.{MayOwe}
 use Rattle.rlsf_model_global.specs.Cursor.{PageCursor, terms_of}
 use Rattle.rlsf_model_global.specs.Heap.{Heap, Lists}
@@ -24,8 +25,8 @@ abbrev pub heap_of : FlexContents PageCursor → List Row → Heap
 heap_of f rows = record { flex = f.state; source = f.source; asked = rows }
 
 -- the contents by their parts
-abbrev pub locked_contents : FlexContents PageCursor → LiveRows → ℕ → LockedContents
-locked_contents f live looks = record { memory = f.memory; table = f.table; heap = heap_of f live.rows; live = live; looks = looks }
+abbrev pub locked_contents : FlexContents PageCursor → LiveRows → LockedContents
+locked_contents f live = record { memory = f.memory; table = f.table; heap = heap_of f live.rows; live = live; looks = live.looks }
 
 -- the allocator over pages
 abbrev pub flex_of : LockedContents → FlexContents PageCursor
@@ -39,8 +40,8 @@ pub record IsLocked (f : FlexContents PageCursor) (rows : List Row) : Type 0 whe
   pub lists : Lists rows f.state.machine
 
 -- the addresses with codes are those of the memory
-abbrev pub IsSpaceOf : Space → CodeSpace → Type 0
-IsSpaceOf m s = s ≡ codes_for m.start (length m.bytes)
+abbrev pub IsSpaceOf : Space → CodeSpace ℕ → Type 0
+IsSpaceOf m s = s ≡ codes_for m.start (length m.bytes) 0
 
 -- and the table of live addresses has a code for each multiple of 16 in the memory
 pub record IsListed (f : FlexContents PageCursor) (live : LiveRows) : Type 0 where

@@ -1,18 +1,16 @@
 //! The table of live payloads.
 
-ghost use Rattle.std.specs.Prelude.{◌≡◌, ◌<◌, ◌≤◌, ◌+◌, ◌^◌, [], length, None, OnErr, OnOk, IsSome};
+ghost use Rattle.std.specs.Prelude.{◌≡◌, ◌<◌, ◌≤◌, ◌+◌, ◌^◌, [], length, is_some, None, OnErr, OnOk, IsSome};
 ghost use Rattle.rlsf_base.specs.Addr.{at};
-ghost use Rattle.rlsf_global.specs.LiveRows.{AreAddresses, AreCoded, HasCode, HasCodes, code_in, codes_for};
+ghost use Rattle.rlsf_codes.specs.Codes.{HasCode, codes_for};
+ghost use Rattle.rlsf_global.specs.LiveRows.{AreAddresses, AreCoded, HasCodes, code_in, code_of, looked};
 ghost use Rattle.rlsf_model_global.specs.Rows.{IsSorted, key, put, row_at, without_row};
 
-pub(crate) mod codes;
 mod entries;
-pub(crate) mod looks;
 
-use crate::live_table::codes::{Codes, code_of};
 use crate::live_table::entries::GhostEntries;
-use crate::live_table::looks::GhostLooks;
 use rlsf_base::memory::{Addr, Layout};
+use rlsf_codes::Codes;
 use std::alloc::{AllocError, Global};
 use std::marker::Model;
 
@@ -21,11 +19,11 @@ use std::marker::Model;
 /// Each multiple of 16 in the memory has a code of two bytes. It is 0 where no payload begins, and else it has the alignment and the last
 /// bits of the size. A payload has less than 32 bytes more than were requested, so its length in the memory determines the other bits.
 ///
-/// A call reads or writes the code of one address, or those of two, however many payloads are live. It counts them (`looks`). Where the
-/// source provided memory, it also writes zeros as the codes of that, which aren't counted.
+/// A call reads or writes the code of one address, or those of two, however many payloads are live. The codes count them (`looks`), but for
+/// `has_row`. Where the source provided memory, a call also stores zeros as the codes of that, which aren't counted.
 #[derive(Drop)]
 pub(crate) struct LiveTable {
-    codes: Codes,
+    codes: Codes<u16>,
     // How many payloads are live.
     live: usize,
     // The entries, as ghost data.
@@ -33,12 +31,11 @@ pub(crate) struct LiveTable {
 }
 
 impl Model for LiveTable {
-    ghost use Rattle.std.specs.Vec.{vec_capacity};
-    ghost use Rattle.rlsf_global.specs.LiveRows.{IsLiveTable, LiveRows, code_space, live_rows};
+    ghost use Rattle.rlsf_global.specs.LiveRows.{IsLiveTable, LiveRows, live_rows};
 
     ghost Value = { LiveRows };
 
-    ghost view = { λ t. live_rows t.entries.rows (vec_capacity t.codes.codes) (code_space t.codes) };
+    ghost view = { λ t. live_rows t.entries.rows t.codes };
 
     ghost invariant = { λ t. IsLiveTable t.codes t.entries.rows t.live };
 }
@@ -47,10 +44,11 @@ impl LiveTable {
     /// Creates a table without entries, for the addresses of a memory of `len` bytes from `start` on. It requests no memory.
     pub(crate) fn new(alloc: Global, start: usize, len: usize) -> LiveTable
         ensures rows { result.rows ≡ [] }
-        ensures space { result.space ≡ codes_for start len }
+        ensures space { result.space ≡ codes_for start len 0 }
+        ensures looks { result.looks ≡ 0 }
     {
         LiveTable {
-            codes: Codes::new(alloc, start, len),
+            codes: Codes::new(alloc, start, len, 0),
             live: 0,
             entries: GhostEntries::new(),
         }
@@ -70,30 +68,36 @@ impl LiveTable {
         ensures room { OnOk result (HasCodes self.new) }
         ensures refused { OnErr result (HasCodes self.old → ⊥) }
         ensures space { self.new.space ≡ self.old.space }
+        ensures looks { self.new.looks ≡ self.old.looks }
     {
         self.codes.reserve()
     }
 
-    /// Returns the code of an address: 0 if it has no entry.
-    pub(crate) fn code(&self, addr: Addr, looks: &mut GhostLooks) -> u16
-        ensures code { result ≡ code_in (row_at (at addr) self.now.rows) }
-        ensures looks { looks.new.count ≡ looks.old.count + 1 }
+    /// Returns whether an address has an entry, and counts no code.
+    pub(crate) fn has_row(&self, addr: Addr) -> bool
+        ensures { result ≡ is_some (row_at (at addr) self.now.rows) }
     {
-        looks.add(1);
-        self.codes.get(addr.get())
+        self.codes.get(addr.get()) != 0
+    }
+
+    /// Returns the code of an address: 0 if it has no entry.
+    pub(crate) fn look(&mut self, addr: Addr) -> u16
+        ensures code { result ≡ code_in (row_at (at addr) self.old.rows) }
+        ensures table { self.new ≡ looked self.old }
+    {
+        self.codes.look(addr.get())
     }
 
     /// Inserts an entry. There is room for all codes, and its address has none. All codes of addresses before `end` are then stored.
-    pub(crate) fn put(&mut self, row: (Addr, Layout), end: usize, looks: &mut GhostLooks)
+    pub(crate) fn put(&mut self, row: (Addr, Layout), end: usize)
         requires room { HasCodes self.old }
         requires fresh { row_at (key row) self.old.rows ≡ None }
         requires place { HasCode self.old.space (key row) }
         ensures rows { self.new.rows ≡ put row self.old.rows }
         ensures room { HasCodes self.new }
         ensures space { self.new.space ≡ self.old.space }
-        ensures looks { looks.new.count ≡ looks.old.count + 1 }
+        ensures looks { self.new.looks ≡ self.old.looks + 1 }
     {
-        looks.add(1);
         let places = self.codes.before(row.0.get()) + 1;
         self.codes.cover(places.max(self.codes.before(end)));
         self.codes.set(row.0.get(), code_of(row.1));
@@ -102,28 +106,26 @@ impl LiveTable {
     }
 
     /// Removes the entry of an address, which has one.
-    pub(crate) fn remove(&mut self, addr: Addr, looks: &mut GhostLooks)
+    pub(crate) fn remove(&mut self, addr: Addr)
         requires live { IsSome (row_at (at addr) self.old.rows) }
         ensures rows { self.new.rows ≡ without_row (at addr) self.old.rows }
         ensures room { HasCodes self.new }
         ensures space { self.new.space ≡ self.old.space }
-        ensures looks { looks.new.count ≡ looks.old.count + 1 }
+        ensures looks { self.new.looks ≡ self.old.looks + 1 }
     {
-        looks.add(1);
         self.codes.set(addr.get(), 0);
         self.live -= 1;
         self.entries.remove(addr);
     }
 
     /// Replaces the entry of an address by one with the same address. All codes of addresses before `end` are then stored.
-    pub(crate) fn replace(&mut self, row: (Addr, Layout), end: usize, looks: &mut GhostLooks)
+    pub(crate) fn replace(&mut self, row: (Addr, Layout), end: usize)
         requires live { IsSome (row_at (key row) self.old.rows) }
         ensures rows { self.new.rows ≡ put row (without_row (key row) self.old.rows) }
         ensures room { HasCodes self.new }
         ensures space { self.new.space ≡ self.old.space }
-        ensures looks { looks.new.count ≡ looks.old.count + 1 }
+        ensures looks { self.new.looks ≡ self.old.looks + 1 }
     {
-        looks.add(1);
         self.codes.cover(self.codes.before(end));
         self.codes.set(row.0.get(), code_of(row.1));
         self.entries.remove(row.0);
@@ -132,32 +134,25 @@ impl LiveTable {
 
     /// Replaces the entry of an address by one that may have another address. No other entry has that. All codes of addresses before `end`
     /// are then stored.
-    pub(crate) fn move_row(
-        &mut self,
-        addr: Addr,
-        row: (Addr, Layout),
-        end: usize,
-        looks: &mut GhostLooks,
-    )
+    pub(crate) fn move_row(&mut self, addr: Addr, row: (Addr, Layout), end: usize)
         requires live { IsSome (row_at (at addr) self.old.rows) }
         requires fresh { row_at (key row) (without_row (at addr) self.old.rows) ≡ None }
         requires place { HasCode self.old.space (key row) }
         ensures rows { self.new.rows ≡ put row (without_row (at addr) self.old.rows) }
         ensures room { HasCodes self.new }
         ensures space { self.new.space ≡ self.old.space }
-        ensures looks { looks.new.count ≡ looks.old.count + 2 }
+        ensures looks { self.new.looks ≤ self.old.looks + 2 }
     {
         if row.0.get() == addr.get() {
-            looks.add(1);
-            self.replace(row, end, looks);
+            self.replace(row, end);
         } else {
-            self.remove(addr, looks);
-            self.put(row, end, looks);
+            self.remove(addr);
+            self.put(row, end);
         }
     }
 
     /// Takes the table apart. Returns its codes.
-    pub(crate) fn into_codes(self) -> Codes
+    pub(crate) fn into_codes(self) -> Codes<u16>
         ensures codes { AreCoded result self.rows }
         ensures sorted { IsSorted self.rows }
         ensures addresses { AreAddresses self.rows }
@@ -169,4 +164,11 @@ impl LiveTable {
         } = self;
         codes
     }
+}
+
+/// Returns the code of a layout.
+fn code_of(layout: Layout) -> u16
+    ensures { result ≡ code_of layout }
+{
+    (1 + layout.size() % 32) as u16 + 32 * layout.align().ilog2() as u16
 }

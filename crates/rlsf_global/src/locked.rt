@@ -18,7 +18,6 @@ ghost use Rattle.rlsf_model_global.specs.Rows.{IsSorted};
 ghost use Rattle.rlsf_model_global.specs.Steps.{HeapAllocates, HeapDeallocates, HeapDeallocatesAs, HeapReads, HeapUsable, HeapWrites};
 
 use crate::live_table::LiveTable;
-use crate::live_table::looks::GhostLooks;
 use crate::moves::{PagedTlsf, move_away, resize};
 use crate::rows::{row_of, rows_of};
 use rlsf_base::memory::{Addr, Layout, Memory, Range};
@@ -37,7 +36,6 @@ use std::marker::Model;
 pub struct Locked<Options: GlobalTlsfOptions> {
     flex: PagedTlsf<Options>,
     rows: LiveTable,
-    looks: GhostLooks,
 }
 
 impl<Options: GlobalTlsfOptions> Model for Locked<Options> {
@@ -45,7 +43,7 @@ impl<Options: GlobalTlsfOptions> Model for Locked<Options> {
 
     ghost Value = { LockedContents };
 
-    ghost view = { λ l. locked_contents l.flex l.rows l.looks.count };
+    ghost view = { λ l. locked_contents l.flex l.rows };
 
     ghost invariant = { λ l. IsListed l.flex l.rows };
 }
@@ -70,7 +68,6 @@ impl<Options: GlobalTlsfOptions> Locked<Options> {
         Locked {
             flex: FlexTlsf::new(memory, Source::new(space)),
             rows: LiveTable::new(alloc, space.start, space.len),
-            looks: GhostLooks::new(),
         }
     }
 
@@ -111,7 +108,7 @@ impl<Options: GlobalTlsfOptions> Locked<Options> {
             return Err(GlobalError::NoRoom);
         };
         let end = self.flex.source_ref().end();
-        self.rows.put((addr, layout), end, &mut self.looks);
+        self.rows.put((addr, layout), end);
         Ok(addr)
     }
 
@@ -150,11 +147,11 @@ impl<Options: GlobalTlsfOptions> Locked<Options> {
         ensures frame { KeepsLocked self.old self.new }
         ensures touches { self.new.memory.touches ≤ self.old.memory.touches + 32 }
     {
-        let Some(row) = row_of(&self.flex, &self.rows, addr, &mut self.looks) else {
+        let Some(row) = row_of(&self.flex, &mut self.rows, addr) else {
             // Only a live address has an entry, so nothing is deallocated twice.
             return Err(GlobalError::UnknownAddress);
         };
-        self.rows.remove(addr, &mut self.looks);
+        self.rows.remove(addr);
         self.flex.deallocate(addr, row.1.align());
         Ok(())
     }
@@ -177,14 +174,14 @@ impl<Options: GlobalTlsfOptions> Locked<Options> {
         ensures frame { KeepsLocked self.old self.new }
         ensures touches { self.new.memory.touches ≤ self.old.memory.touches + 32 }
     {
-        let Some(row) = row_of(&self.flex, &self.rows, addr, &mut self.looks) else {
+        let Some(row) = row_of(&self.flex, &mut self.rows, addr) else {
             // Refused before the layout is compared: an address without an entry has none.
             return Err(GlobalError::UnknownAddress);
         };
         if row.1 != layout {
             return Err(GlobalError::WrongLayout);
         }
-        self.rows.remove(addr, &mut self.looks);
+        self.rows.remove(addr);
         self.flex.deallocate(addr, layout.align());
         Ok(())
     }
@@ -223,7 +220,7 @@ impl<Options: GlobalTlsfOptions> Locked<Options> {
         ensures frame { KeepsLockedResizing Options.ENABLE_REALLOCATION (at addr) layout.size new_size self.old self.new }
         ensures touches { BoundsResizing Options.ENABLE_REALLOCATION (at addr) new_size layout.align self.old self.new }
     {
-        let Some(row) = row_of(&self.flex, &self.rows, addr, &mut self.looks) else {
+        let Some(row) = row_of(&self.flex, &mut self.rows, addr) else {
             return Err(GlobalError::UnknownAddress);
         };
         if row.1 != layout {
@@ -234,8 +231,7 @@ impl<Options: GlobalTlsfOptions> Locked<Options> {
             return Err(GlobalError::NoRoom);
         };
         let end = self.flex.source_ref().end();
-        self.rows
-            .move_row(addr, (moved, wanted), end, &mut self.looks);
+        self.rows.move_row(addr, (moved, wanted), end);
         Ok(moved)
     }
 
@@ -259,7 +255,7 @@ impl<Options: GlobalTlsfOptions> Locked<Options> {
         ensures frame { KeepsLockedMoving (at addr) layout.size result self.old self.new }
         ensures touches { HasRoomFor 64 self.old.heap.flex.machine layout.size layout.align → self.new.memory.touches ≤ self.old.memory.touches + 59 }
     {
-        let Some(row) = row_of(&self.flex, &self.rows, addr, &mut self.looks) else {
+        let Some(row) = row_of(&self.flex, &mut self.rows, addr) else {
             return Err(GlobalError::UnknownAddress);
         };
         let align = row.1.align();
@@ -268,7 +264,7 @@ impl<Options: GlobalTlsfOptions> Locked<Options> {
             return Err(GlobalError::NoRoom);
         };
         let end = self.flex.source_ref().end();
-        self.rows.move_row(addr, (to, layout), end, &mut self.looks);
+        self.rows.move_row(addr, (to, layout), end);
         Ok(to)
     }
 
@@ -300,7 +296,7 @@ impl<Options: GlobalTlsfOptions> Locked<Options> {
         ensures frame { KeepsLocked self.old self.new }
         ensures touches { self.new.memory.touches ≤ self.old.memory.touches + 25 }
     {
-        let Some(row) = row_of(&self.flex, &self.rows, addr, &mut self.looks) else {
+        let Some(row) = row_of(&self.flex, &mut self.rows, addr) else {
             return Err(GlobalError::UnknownAddress);
         };
         if row.1 != layout {
@@ -311,7 +307,7 @@ impl<Options: GlobalTlsfOptions> Locked<Options> {
             return Err(GlobalError::NoRoom);
         };
         let end = self.flex.source_ref().end();
-        self.rows.replace((to, wanted), end, &mut self.looks);
+        self.rows.replace((to, wanted), end);
         Ok(to)
     }
 
@@ -325,9 +321,9 @@ impl<Options: GlobalTlsfOptions> Locked<Options> {
         ensures unknown { IsErrOf result UnknownAddress ↔ (layout_at self.now.heap (at addr) ≡ None) }
         ensures len { IfOk result (λ n. n ≡ length (content_at self.now.heap (at addr))) }
     {
-        let Some(_row) = row_of(&self.flex, &self.rows, addr, &mut GhostLooks::new()) else {
+        if !self.rows.has_row(addr) {
             return Err(GlobalError::UnknownAddress);
-        };
+        }
         Ok(self.flex.allocation_usable_size(addr))
     }
 
@@ -348,9 +344,9 @@ impl<Options: GlobalTlsfOptions> Locked<Options> {
         ensures told { OnOk result (bytes.new ≡ take (length bytes.old) (drop offset (content_at self.now.heap (at addr)))) }
         ensures refused { OnErr result (bytes.new ≡ bytes.old) }
     {
-        let Some(_row) = row_of(&self.flex, &self.rows, addr, &mut GhostLooks::new()) else {
+        if !self.rows.has_row(addr) {
             return Err(GlobalError::UnknownAddress);
-        };
+        }
         let payload = self.flex.payload(addr);
         if !fits(offset, bytes.len(), payload.len()) {
             return Err(GlobalError::OutOfRange);
@@ -378,7 +374,7 @@ impl<Options: GlobalTlsfOptions> Locked<Options> {
         ensures frame { KeepsLockedWriting self.old self.new }
         ensures touches { self.new.memory.touches ≤ self.old.memory.touches + 3 }
     {
-        let Some(_row) = row_of(&self.flex, &self.rows, addr, &mut self.looks) else {
+        let Some(_row) = row_of(&self.flex, &mut self.rows, addr) else {
             return Err(GlobalError::UnknownAddress);
         };
         if !fits(offset, bytes.len(), self.flex.allocation_usable_size(addr)) {
@@ -424,11 +420,7 @@ impl<Options: GlobalTlsfOptions> Locked<Options> {
         ensures rows { result.items ≡ self.heap.asked }
         ensures sorted { IsSorted result.items }
     {
-        let Locked {
-            flex,
-            rows: table,
-            looks: _,
-        } = self;
+        let Locked { flex, rows: table } = self;
         rows_of(&flex, table, rows)
     }
 }

@@ -1,31 +1,29 @@
 //! The entries of a table of live payloads: their codes and the lengths of the payloads determine them.
 
-ghost use Rattle.std.specs.Prelude.{◌≡◌, ◌≤◌, ◌+◌, [], length};
+ghost use Rattle.std.specs.Prelude.{◌≡◌, ◌≤◌, [], length};
 ghost use Rattle.std.specs.Vec.{vec_capacity};
 ghost use Rattle.rlsf_base.specs.Addr.{at};
 ghost use Rattle.rlsf_base.specs.declared.memory.layout.Layout.{Layout};
-ghost use Rattle.rlsf_global.specs.LiveRows.{IsToldBy};
+ghost use Rattle.rlsf_global.specs.LiveRows.{IsToldBy, looked};
 ghost use Rattle.rlsf_model_global.specs.Heap.{Lists};
 ghost use Rattle.rlsf_model_global.specs.Rows.{row_at};
 
 use crate::live_table::LiveTable;
-use crate::live_table::looks::GhostLooks;
 use crate::moves::PagedTlsf;
 use rlsf_base::memory::{Addr, Layout};
 use rlsf_flex::GlobalTlsfOptions;
 
-/// Returns the entry of an address, if it has one.
+/// Returns the entry of an address, if it has one. One code is read, and counted.
 pub(crate) fn row_of<Options: GlobalTlsfOptions>(
     flex: &PagedTlsf<Options>,
-    table: &LiveTable,
+    table: &mut LiveTable,
     addr: Addr,
-    looks: &mut GhostLooks,
 ) -> Option<(Addr, Layout)>
-    requires lists { Lists table.now.rows flex.now.state.machine }
-    ensures row { result ≡ row_at (at addr) table.now.rows }
-    ensures looks { looks.new.count ≡ looks.old.count + 1 }
+    requires lists { Lists table.old.rows flex.now.state.machine }
+    ensures row { result ≡ row_at (at addr) table.old.rows }
+    ensures table { table.new ≡ looked table.old }
 {
-    let code = table.code(addr, looks);
+    let code = table.look(addr);
     if code == 0 {
         return None;
     }

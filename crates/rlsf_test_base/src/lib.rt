@@ -1,7 +1,7 @@
-//! Tests of `rlsf_int`, `rlsf_base` and the check of a pool. This crate has no other code, so that these are proved once.
+//! Tests of `rlsf_int`, `rlsf_base`, `rlsf_codes` and the check of a pool. This crate has no other code, so that these are proved once.
 //!
 //! `integers.rt` tests bitmaps, `classes.rt` size classes, and `pools.rt` computed lengths of pools. `layouts.rt` tests layouts,
-//! and `memory.rt` and `open_memory.rt` memories. `consistency.rt` tests the check of a pool.
+//! `memory.rt` and `open_memory.rt` memories, and `codes.rt` codes. `consistency.rt` tests the check of a pool.
 //! `answers.rt` has results that several tests compare.
 #![tactic(auto)]
 
@@ -9,6 +9,8 @@
 mod answers;
 #[cfg(test)]
 mod classes;
+#[cfg(test)]
+mod codes;
 #[cfg(test)]
 mod consistency;
 #[cfg(test)]

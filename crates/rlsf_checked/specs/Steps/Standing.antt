@@ -11,8 +11,9 @@ use Rattle.rlsf_model.specs.Lists.{IsIn}
 use Rattle.rlsf_model.specs.State.{State}
 use Rattle.rlsf_tlsf.specs.Allocator.{Allocator, Stands}
 use Rattle.rlsf_checked.specs.Checked.{PoolList}
-use Rattle.rlsf_checked.specs.declared.marks.Marks.{Marks}
-use Rattle.rlsf_checked.specs.Steps.Marks.{HasMark, mark_at, mark_of}
+use Rattle.rlsf_codes.specs.declared.codes.Codes.{Codes}
+use Rattle.rlsf_checked.specs.Steps.Marks.{mark_of}
+use Rattle.rlsf_codes.specs.Codes.{HasPlace, code_at}
 
 -- each range ends where the later ones begin, or before
 abbrev pub AreInOrder : List Range → Type 0
@@ -37,10 +38,10 @@ pub record AreCheckedPools (s : State) (pools : PoolList) : Type 0 where
 
 -- Memory and class table represent the state. A mark is that of the payload's alignment exactly if a payload is live, and else 0. Each
 -- address at which a payload may be has a mark, and none is 0. The last pool lies in the memory, and no chunk is outside of the pools.
-pub record IsChecked (fllen sllen : ℕ) (heap : Allocator) (marks : Marks) (list : PoolList) : Type 0 where
+pub record IsChecked (fllen sllen : ℕ) (heap : Allocator) (marks : Codes ℕ) (list : PoolList) : Type 0 where
   pub stands : Stands fllen sllen heap
-  pub marked : (a : ℕ) → mark_at marks a ≡ mark_of (align_at heap.state a)
-  pub covers : (a : ℕ) → a % 16 ≡ 0 → heap.memory.start ≤ a → a ≤ end_of (range_of heap.memory) → HasMark marks a
+  pub marked : (a : ℕ) → code_at marks a ≡ mark_of (align_at heap.state a)
+  pub covers : (a : ℕ) → a % 16 ≡ 0 → heap.memory.start ≤ a → a ≤ end_of (range_of heap.memory) → HasPlace marks a
   pub low : heap.memory.start ≤ list.last.start
   pub high : end_of list.last ≤ end_of (range_of heap.memory)
   pub pools : AreCheckedPools heap.state list

@@ -2,7 +2,8 @@ use Rattle.std.proofs.Common.{◌≡◌, suc, refl, sym, ◌∙◌, ap, subst}
 use Rattle.rlsf_base.specs.Addr.{at}
 use Rattle.rlsf_base.specs.PowerOfTwo.{IsPowerOfTwo, floor_log2}
 use Rattle.rlsf_model.specs.Callers.{align_at}
-use Rattle.rlsf_checked.specs.Steps.Marks.{HasMark, mark_at, mark_of}
+use Rattle.rlsf_checked.specs.Steps.Marks.{mark_of}
+use Rattle.rlsf_codes.specs.Codes.{HasPlace, code_at}
 use Rattle.rlsf_checked.proofs.FieldsOverSteps.{has_mark, marked_at, stands_after, unchanged}
 use Rattle.rlsf_checked.proofs.checked.CheckedTlsf.allocate_zeroed.Goals as goal
 
@@ -17,7 +18,7 @@ mark_of-requires g c = subst IsPowerOfTwo (sym c.align.ensures.value) c.args.lay
 pub set-requires : goal.set-requires
 set-requires g c =
     let did = c.in-Some.ensures in
-    let there = subst (HasMark c.self.inside.marks) (sym c.get.ensures.value)
+    let there = subst (HasPlace c.self.inside.marks) (sym c.get.ensures.value)
     (has_mark c.self.invariant c.allocate_zeroed.new.self (stands_after _ _ _ _ _ did.step) did.frame.place (at c.in-Some.addr) c.args.layout.align did.result.made.live) in
     there
 
@@ -27,8 +28,8 @@ invariant_of-self-2 g c =
     let heap = c.allocate_zeroed.new.self in
     let marks = c.set.new.self in
     let addr = at c.in-Some.addr in
-    let here : mark_at marks addr ≡ mark_of (align_at heap.state addr) =
-    subst (λ a. mark_at marks a ≡ suc (floor_log2 c.args.layout.align)) c.get.ensures.value
+    let here : code_at marks addr ≡ mark_of (align_at heap.state addr) =
+    subst (λ a. code_at marks a ≡ suc (floor_log2 c.args.layout.align)) c.get.ensures.value
     (c.set.ensures.here ∙ c.mark_of.ensures ∙ ap (λ n. suc (floor_log2 n)) c.align.ensures.value) ∙ sym (ap mark_of did.result.made.live) in
     marked_at c.self.invariant heap marks addr (stands_after _ _ _ _ _ did.step) did.frame.place did.frame.chunks c.set.ensures.places here
     (λ a apart. c.set.ensures.others a (λ same. apart (same ∙ c.get.ensures.value))) did.result.made.aligns

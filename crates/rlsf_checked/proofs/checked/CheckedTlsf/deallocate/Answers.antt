@@ -2,14 +2,15 @@ use Rattle.std.proofs.Common.{◌≡◌, Some, arith, refl, sym, ◌∙◌, ap, 
 use Rattle.rlsf_base.specs.Addr.{at}
 use Rattle.rlsf_model.specs.Callers.{align_at}
 use Rattle.rlsf_checked.specs.Answers.{if_live}
-use Rattle.rlsf_checked.specs.Steps.Marks.{HasMark, mark_at, mark_of}
+use Rattle.rlsf_checked.specs.Steps.Marks.{mark_of}
+use Rattle.rlsf_codes.specs.Codes.{HasPlace, code_at}
 use Rattle.rlsf_checked.proofs.FieldsOverSteps.{has_mark, marked_at, stands_after}
 use Rattle.rlsf_checked.proofs.checked.CheckedTlsf.deallocate.Goals as goal
 
 pub set-requires : goal.set-requires
 set-requires g c =
     let live : align_at c.self.inside.heap.state (at c.args.addr) ≡ Some c.in-Some.align = sym (rw (← c.self.view_is) at c.in-Some.ensures.value) in
-    let there = subst (HasMark c.self.inside.marks) (sym c.get.ensures.value)
+    let there = subst (HasPlace c.self.inside.marks) (sym c.get.ensures.value)
     (has_mark c.self.invariant c.self.inside.heap c.self.invariant.stands (refl, refl, refl, λ none. none) (at c.args.addr) c.in-Some.align live) in
     there
 
@@ -19,8 +20,8 @@ invariant_of-self g c =
     let heap = c.deallocate.new.self in
     let marks = c.set.new.self in
     let addr = at c.args.addr in
-    let here : mark_at marks addr ≡ mark_of (align_at heap.state addr) =
-    subst (λ a. mark_at marks a ≡ 0) c.get.ensures.value c.set.ensures.here ∙ sym (ap mark_of did.result.gone) in
+    let here : code_at marks addr ≡ mark_of (align_at heap.state addr) =
+    subst (λ a. code_at marks a ≡ 0) c.get.ensures.value c.set.ensures.here ∙ sym (ap mark_of did.result.gone) in
     marked_at c.self.invariant heap marks addr (stands_after _ _ _ _ _ did.step) did.frame.place did.frame.chunks c.set.ensures.places here
     (λ a apart. c.set.ensures.others a (λ same. apart (same ∙ c.get.ensures.value))) did.result.aligns
 

@@ -4,7 +4,7 @@ use Rattle.rlsf_base.specs.Range.{end_of}
 use Rattle.rlsf_base.specs.Space.{Space, range_of}
 use Rattle.rlsf_checked.specs.Checked.{PoolList}
 use Rattle.rlsf_checked.specs.Pools.{no_pools}
-use Rattle.rlsf_checked.specs.Steps.Marks.{HasMark}
+use Rattle.rlsf_codes.specs.Codes.{HasPlace}
 use Rattle.rlsf_checked.specs.Steps.Standing.{IsChecked}
 use Rattle.rlsf_checked.specs.declared.error.CheckedError.{CheckedError}
 use Rattle.rlsf_checked.specs.declared.error.CheckedError.TheVariants.{InvalidClasses, OutOfMemory}
@@ -13,24 +13,24 @@ use Rattle.rlsf_checked.proofs.checked.CheckedTlsf.new.Goals as goal
 
 pub invariant_of-result : goal.invariant_of-result
 invariant_of-result g c =
-    let heap = c.new-2.result in
+    let heap = c.new.result in
     let marks = c.in-Some.marks in
     let covers =
-    subst (λ (x : Space). (a : ℕ) → a % 16 ≡ 0 → x.start ≤ a → a ≤ end_of (range_of x) → HasMark marks a) (sym c.new-2.ensures.memory)
+    subst (λ (x : Space). (a : ℕ) → a % 16 ≡ 0 → x.start ≤ a → a ≤ end_of (range_of x) → HasPlace marks a) (sym c.new.ensures.memory)
     c.in-Some.ensures.covers in
     subst (λ (pools : PoolList). IsChecked g.row.FLLEN g.row.SLLEN heap marks pools)
-    (ap (λ (x : Space). no_pools x.start) c.new-2.ensures.memory ∙ ap no_pools (sym c.start.ensures.value) ∙ sym c.new-pools.ensures)
-    (made heap marks c.new-2.ensures.stands c.new-2.ensures.state c.in-Some.ensures.none covers)
+    (ap (λ (x : Space). no_pools x.start) c.new.ensures.memory ∙ ap no_pools (sym c.start.ensures.value) ∙ sym c.new-pools.ensures)
+    (made heap marks c.new.ensures.stands c.new.ensures.state c.in-Some.ensures.none covers)
 
 pub returns : goal.returns
 returns g c = record {
   invalid = ((λ bad. absurd (no_error bad)), (λ none. absurd (none (c.are_valid.ensures.0 c.if-not-are_valid.false))));
   refused = tt;
-  state = c.new-2.ensures.state;
-  live = (c.new-2.ensures.count, c.new-2.ensures.blocks);
-  memory = c.new-2.ensures.memory;
+  state = c.new.ensures.state;
+  live = (c.new.ensures.count, c.new.ensures.blocks);
+  memory = c.new.ensures.memory;
   pools = c.new-pools.ensures ∙ ap no_pools c.start.ensures.value;
-  stands = c.new-2.ensures.stands;
+  stands = c.new.ensures.stands;
 }
   where
     no_error : {A E : Type 0} {x : A} {e : E} → Ok x ≡ Err e → ⊥

@@ -12,7 +12,7 @@ use Rattle.rlsf_checked.specs.Answers.{IsRefusedBy, size_refusal}
 use Rattle.rlsf_checked.specs.declared.error.CheckedError.TheVariants.{NoLayout, NoRoom, UnknownAddress}
 use Rattle.rlsf_checked.specs.Checked.{checked}
 use Rattle.rlsf_checked.specs.Results.{KeepsCheckedFrameMoving}
-use Rattle.rlsf_checked.specs.Steps.Marks.{HasMark, mark_at}
+use Rattle.rlsf_codes.specs.Codes.{HasPlace, code_at}
 use Rattle.rlsf_checked.specs.Steps.Lists.{listed}
 use Rattle.rlsf_checked.proofs.SizeRefusals.{past_is_refused, unknown_is_refused}
 use Rattle.rlsf_checked.proofs.FieldsOverSteps.{has_mark, left_behind, marked_moved, size_fits, stands_after, step_of, unchanged}
@@ -48,7 +48,7 @@ invariant_of-self g c =
 pub set-requires : goal.set-requires
 set-requires g c =
     let live : align_at c.self.inside.heap.state (at c.args.addr) ≡ Some c.in-Some.align = sym (rw (← c.self.view_is) at c.in-Some.ensures.value) in
-    let there = subst (HasMark c.self.inside.marks) (sym c.get-left.ensures.value)
+    let there = subst (HasPlace c.self.inside.marks) (sym c.get-left.ensures.value)
     (has_mark c.self.invariant c.self.inside.heap c.self.invariant.stands (refl, refl, refl, λ none. none) (at c.args.addr) c.in-Some.align live) in
     there
 
@@ -56,7 +56,7 @@ pub set-requires-2 : goal.set-requires-2
 set-requires-2 g c =
     let did = c.in-Some-reallocate.ensures in
     let there = c.set.ensures.places c.get.result
-    (subst (HasMark c.self.inside.marks) (sym c.get.ensures.value)
+    (subst (HasPlace c.self.inside.marks) (sym c.get.ensures.value)
     (has_mark c.self.invariant c.reallocate.new.self (stands_after _ _ _ _ _ did.step) did.frame.place (at c.in-Some-reallocate.moved) c.in-Ok.layout.align did.result.live)) in
     there
 
@@ -69,9 +69,9 @@ invariant_of-self-2 g c =
     let layout = c.in-Ok.layout in
     let live : align_at c.self.inside.heap.state addr ≡ Some c.in-Some.align = sym (rw (← c.self.view_is) at c.in-Some.ensures.value) in
     let step : Reallocates g.row.SLLEN c.self.inside.heap.state addr layout.size (Some to) heap.state = step_of _ _ _ _ _ did.step in
-    let cleared : mark_at c.set.new.self addr ≡ 0 = subst (λ a. mark_at c.set.new.self a ≡ 0) c.get-left.ensures.value c.set.ensures.here in
-    let set : mark_at c.set-2.new.self to ≡ suc (floor_log2 layout.align) =
-    subst (λ a. mark_at c.set-2.new.self a ≡ suc (floor_log2 layout.align)) c.get.ensures.value
+    let cleared : code_at c.set.new.self addr ≡ 0 = subst (λ a. code_at c.set.new.self a ≡ 0) c.get-left.ensures.value c.set.ensures.here in
+    let set : code_at c.set-2.new.self to ≡ suc (floor_log2 layout.align) =
+    subst (λ a. code_at c.set-2.new.self a ≡ suc (floor_log2 layout.align)) c.get.ensures.value
     (c.set-2.ensures.here ∙ c.mark_of-mark.ensures ∙ ap (λ n. suc (floor_log2 n)) (sym c.in-Ok.ensures.layout.1)) in
     marked_moved c.self.invariant heap c.set.new.self c.set-2.new.self addr to layout.align (stands_after _ _ _ _ _ did.step) did.frame.place did.frame.chunks
     (λ a has. c.set-2.ensures.places a (c.set.ensures.places a has))

@@ -3,8 +3,9 @@ use Rattle.rlsf_base.specs.Range.{end_of}
 use Rattle.rlsf_base.specs.Space.{Space, range_of}
 use Rattle.rlsf_checked.specs.Checked.{PoolList}
 use Rattle.rlsf_checked.specs.Pools.{no_pools}
-use Rattle.rlsf_checked.specs.Steps.Marks.{HasMark}
+use Rattle.rlsf_codes.specs.Codes.{HasPlace}
 use Rattle.rlsf_checked.specs.Steps.Standing.{IsChecked}
+use Rattle.rlsf_checked.proofs.FieldsOverSteps.{no_mark}
 use Rattle.rlsf_checked.proofs.PoolsOverSteps.{made}
 use Rattle.rlsf_checked.proofs.checked.CheckedTlsf.reset.Goals as goal
 
@@ -14,11 +15,11 @@ invariant_of-result g c =
     let marks = c.clear-2.new.self in
     let old = c.self.inside.heap in
     let memory : heap.memory ≡ old.memory = c.new.ensures.memory ∙ c.into_memory-memory.ensures in
-    let covers = subst (λ (x : Space). (a : ℕ) → a % 16 ≡ 0 → x.start ≤ a → a ≤ end_of (range_of x) → HasMark marks a) (sym memory)
+    let covers = subst (λ (x : Space). (a : ℕ) → a % 16 ≡ 0 → x.start ≤ a → a ≤ end_of (range_of x) → HasPlace marks a) (sym memory)
     (λ a even low high. c.clear-2.ensures.places a (c.self.invariant.covers a even low high)) in
     subst (λ (pools : PoolList). IsChecked g.row.FLLEN g.row.SLLEN heap marks pools)
     (ap (λ (x : Space). no_pools x.start) c.new.ensures.memory ∙ ap no_pools (sym c.start.ensures.value) ∙ sym c.clear.ensures)
-    (made heap marks c.new.ensures.stands c.new.ensures.state c.clear-2.ensures.none covers)
+    (made heap marks c.new.ensures.stands c.new.ensures.state (λ a. c.clear-2.ensures.none a ∙ no_mark c.self.invariant) covers)
 
 pub returns : goal.returns
 returns g c = rw (← c.self.view_is) (record {

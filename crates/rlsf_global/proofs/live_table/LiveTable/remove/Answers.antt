@@ -1,7 +1,8 @@
-use Rattle.std.proofs.Common.{◌≤◌, IsSome, ap, arith, length, refl, subst, sym}
+use Rattle.std.proofs.Common.{IsSome, refl, subst, sym}
 use Rattle.rlsf_base.specs.Addr.{at}
 use Rattle.rlsf_global.proofs.CodedRows.{coded-place, kept-ready, kept-without}
-use Rattle.rlsf_global.specs.LiveRows.{CodeSpace, HasPlace, LiveRows}
+use Rattle.rlsf_codes.specs.Codes.{HasPlace}
+use Rattle.rlsf_global.specs.LiveRows.{LiveRows}
 use Rattle.rlsf_model_global.specs.Rows.{row_at}
 use Rattle.rlsf_global.proofs.live_table.LiveTable.remove.Goals as goal
 
@@ -16,10 +17,6 @@ invariant_of-self c =
     let t = c.self.inside in
     let set = c.set.ensures in
     let some = subst (λ (v : LiveRows). IsSome (row_at (at c.args.addr) v.rows)) (sym c.self.view_is) c.requires.live in
-    let codes = c.set.new.self in
-    let count = ap (λ (s : CodeSpace). s.count) set.space in
-    let was = c.self.invariant.few in
-    let few : length codes.codes.items ≤ codes.count = omega (arith, was, set.len, count) in
-    kept-without t.codes codes t.entries.rows t.live c.self.invariant set.space c.get.result 0 set.here set.others few
+    kept-without t.codes c.set.new.self t.entries.rows t.live c.self.invariant set.space c.get.result 0 set.here set.others
     (set.room (kept-ready t.codes t.entries.rows t.live c.self.invariant (at c.args.addr) some))
     (at c.args.addr) c.get.ensures.value refl some c.remove.new.self.rows c.remove.ensures

@@ -17,8 +17,7 @@ returns-then-is_err g c = rw (← c.self.view_is) (record {
   refused = record { same = rw c.reserve.ensures.rows refl; bytes = refl };
   unasked = refl;
   frame =
-      keeps_unchanged c.self.inside.flex c.self.inside.rows c.reserve.new.self c.self.inside.looks.count
-      c.self.inside.looks.count (omega arith) (search rules);
+      keeps_unchanged c.self.inside.flex c.self.inside.rows c.reserve.new.self (omega (arith, c.reserve.ensures.looks)) (search rules);
   touches = search rules;
   table = search rules;
 })
@@ -73,7 +72,7 @@ returns-in_default g c = rw (← c.self.view_is) (record {
     memory = kept_allocated c.self.inside.flex c.allocate.new.self c.args.layout.size c.args.layout.align None c.in_default.ensures.step;
     grow = c.in_default.ensures.frame.grow;
     copied = c.in_default.ensures.frame.copied;
-    looks = omega arith;
+    looks = omega (arith, c.reserve.ensures.looks);
     codes = search rules;
   };
   touches = c.in_default.ensures.touches;
@@ -111,7 +110,7 @@ returns g c = rw (← c.self.view_is) (record {
     memory = kept_allocated c.self.inside.flex c.allocate.new.self c.args.layout.size c.args.layout.align (Some (at c.in-Some.addr)) c.in-Some.ensures.step;
     grow = c.in-Some.ensures.frame.grow;
     copied = c.in-Some.ensures.frame.copied;
-    looks = omega (arith, c.put.ensures.looks);
+    looks = omega (arith, c.put.ensures.looks, c.reserve.ensures.looks);
     codes = λ _. c.put.ensures.room;
   };
   touches = c.in-Some.ensures.touches;

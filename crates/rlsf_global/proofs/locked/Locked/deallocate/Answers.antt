@@ -1,4 +1,4 @@
-use Rattle.rlsf_global.proofs.KeptMemories.{keeps_unchanged, kept_alone}
+use Rattle.rlsf_global.proofs.KeptMemories.{keeps_looked, kept_alone}
 use Rattle.rlsf_global.proofs.Deallocations.{deallocated}
 use Rattle.std.proofs.Common.{Some, Ok, Err, lit<, ap, refl, ◌∙◌, subst, sym, arith}
 use Rattle.rlsf_base.specs.Addr.{at}
@@ -13,8 +13,13 @@ use Rattle.rlsf_global.proofs.locked.Locked.deallocate.Goals as goal
 pub row_of-requires : goal.row_of-requires
 row_of-requires g c = (lit< tt, c.self.invariant.locked.lists)
 
+pub invariant_of-self : goal.invariant_of-self
+invariant_of-self g c = rw c.row_of.ensures.table (record { locked = c.self.invariant.locked; space = c.self.invariant.space })
+
 pub remove-requires : goal.remove-requires
-remove-requires g c = record { live = has_row c.self.inside.rows.rows (at c.args.addr) c.in-Some.row (sym c.in-Some.ensures.row) }
+remove-requires g c =
+    rw c.row_of.ensures.table
+    (record { live = has_row c.self.inside.rows.rows (at c.args.addr) c.in-Some.row (sym c.in-Some.ensures.row) })
 
 pub deallocate-requires : goal.deallocate-requires
 deallocate-requires g c = (
@@ -26,22 +31,21 @@ deallocate-requires g c = (
 pub invariant_of-self-2 : goal.invariant_of-self-2
 invariant_of-self-2 g c =
     let did = c.deallocate.ensures in
-    listed c.self.inside.flex c.deallocate.new.self c.self.inside.rows c.remove.new.self c.self.invariant.space did.frame.place c.remove.ensures.space
+    listed c.self.inside.flex c.deallocate.new.self c.self.inside.rows c.remove.new.self c.self.invariant.space did.frame.place
+    (rw c.row_of.ensures.table at c.remove.ensures.space)
     (released_locked c.self.inside.flex c.self.inside.rows.rows c.self.invariant.locked c.deallocate.new.self (at c.args.addr) did.step did.frame.source _
-    c.remove.ensures.rows did.result.gone did.result.aligns did.result.bytes)
+    (rw c.row_of.ensures.table at c.remove.ensures.rows) did.result.gone did.result.aligns did.result.bytes)
 
 pub returns-in_default : goal.returns-in_default
 returns-in_default g c =
     let absent = sym c.in_default.ensures.row in
     let h = heap_of c.self.inside.flex c.self.inside.rows.rows in
-    rw (← c.self.view_is) (record {
+    rw (← c.self.view_is, c.row_of.ensures.table) (record {
       step = subst (λ o. DeallocatesAt h (at c.args.addr) o (Err UnknownAddress) h) (sym absent) (refl, refl);
       result = tt;
       unknown = unknown c.self.inside.flex c.self.inside.rows.rows (at c.args.addr) absent;
       refused = record { same = refl; memory = refl };
-      frame =
-          keeps_unchanged c.self.inside.flex c.self.inside.rows c.self.inside.rows c.self.inside.looks.count
-          c.row_of.new.looks.count (omega (arith, c.row_of.ensures.looks)) (λ has. has);
+      frame = keeps_looked c.self.inside.flex c.self.inside.rows;
       touches = omega arith;
     })
 
@@ -53,17 +57,17 @@ returns g c =
     let after = heap_of c.deallocate.new.self c.remove.new.self.rows in
     let gone =
     released c.self.inside.flex c.self.inside.rows.rows c.self.invariant.locked c.deallocate.new.self (at c.args.addr) did.step did.frame.source _
-    c.remove.ensures.rows in
+    (rw c.row_of.ensures.table at c.remove.ensures.rows) in
     rw (← c.self.view_is) (record {
       step = subst (λ o. DeallocatesAt h (at c.args.addr) o (Ok tt) after) (sym row) (refl, gone);
-      result = deallocated h after (at c.args.addr) c.remove.ensures.rows did.result.bytes;
+      result = deallocated h after (at c.args.addr) (rw c.row_of.ensures.table at c.remove.ensures.rows) did.result.bytes;
       unknown = known c.self.inside.flex c.self.inside.rows.rows (at c.args.addr) _ row (Ok tt) refl;
       refused = tt;
       frame = record {
         memory = kept_alone c.self.inside.flex c.deallocate.new.self _ c.self.invariant.locked.flex did.step did.frame.place;
         grow = did.frame.grow;
         copied = did.frame.copied;
-        looks = omega (arith, c.row_of.ensures.looks, c.remove.ensures.looks);
+        looks = let looks = rw c.row_of.ensures.table at c.remove.ensures.looks in omega (arith, looks);
         codes = λ _. c.remove.ensures.room;
       };
       touches = did.touches;

@@ -5,6 +5,7 @@ use Rattle.std.proofs.Common.{rules, IsSome, ◌≡◌, ◌≤◌, ◌+◌, true
 use Rattle.rlsf_global.proofs.KeptMemories.{KeepsMemory-refl, copies_nothing}
 use Rattle.rlsf_global.proofs.Layouts.{content_at-bytes, layout_at-moved_left, layout_at-moved_other, layout_at-none, layout_at-put_here}
 use Rattle.rlsf_base.specs.Addr.{at}
+use Rattle.rlsf_global.specs.LiveRows.{looked}
 use Rattle.rlsf_global.specs.Locked.{heap_of, locked_contents}
 use Rattle.rlsf_global.specs.Memory.{CopiesOnResize}
 use Rattle.rlsf_global.proofs.Checks.{same_align, same_size}
@@ -24,6 +25,12 @@ use Rattle.rlsf_global.proofs.locked.Locked.realloc.Goals.{After-move_row, After
 pub row_of-requires : goal.row_of-requires
 row_of-requires g c = (lit< tt, c.self.invariant.locked.lists)
 
+pub invariant_of-self : goal.invariant_of-self
+invariant_of-self g c = rw c.row_of.ensures.table (record { locked = c.self.invariant.locked; space = c.self.invariant.space })
+
+pub invariant_of-self-then-ne : goal.invariant_of-self-then-ne
+invariant_of-self-then-ne g c = rw c.row_of.ensures.table (record { locked = c.self.invariant.locked; space = c.self.invariant.space })
+
 pub resize-requires : goal.resize-requires
 resize-requires g c =
     let row = sym c.in-Some.ensures.row in
@@ -37,30 +44,37 @@ resize-requires g c =
     (lit< tt, (live, (sized, (c.from_size_align_unchecked-wanted.ensures.1 ∙ c.align.ensures.value, c.self.invariant.locked.flex))))
 
 pub move_row-requires-clause-live : goal.move_row-requires-clause-live
-move_row-requires-clause-live g c = has_row c.self.inside.rows.rows (at c.args.addr) c.in-Some.row (sym c.in-Some.ensures.row)
+move_row-requires-clause-live g c =
+    rw c.row_of.ensures.table
+    (has_row c.self.inside.rows.rows (at c.args.addr) c.in-Some.row (sym c.in-Some.ensures.row))
 
 pub move_row-requires-clause-fresh : goal.move_row-requires-clause-fresh
 move_row-requires-clause-fresh g c =
-    moved_row c.self.inside.flex c.self.inside.rows.rows c.self.invariant.locked c.resize.new.flex (at c.args.addr) c.from_size_align_unchecked-wanted.result c.in-Some-resize.moved
-    c.in-Some-resize.ensures.moved
+    rw c.row_of.ensures.table
+    (moved_row c.self.inside.flex c.self.inside.rows.rows c.self.invariant.locked c.resize.new.flex (at c.args.addr) c.from_size_align_unchecked-wanted.result
+    c.in-Some-resize.moved
+    c.in-Some-resize.ensures.moved)
 
 pub move_row-requires-clause-place : goal.move_row-requires-clause-place
 move_row-requires-clause-place g c =
-    let moved = c.in-Some-resize.ensures.moved in
+    rw c.row_of.ensures.table
+    (let moved = c.in-Some-resize.ensures.moved in
     has_code c.resize.new.flex moved.stands c.self.inside.rows.space
     (space_stays c.self.inside.flex.memory c.resize.new.flex.memory c.self.inside.rows.space c.self.invariant.space c.resize.ensures.frame.memory.place)
-    (at c.in-Some-resize.moved) _ moved.live
+    (at c.in-Some-resize.moved) _ moved.live)
 
 pub invariant_of-self-in_default-resize : goal.invariant_of-self-in_default-resize
 invariant_of-self-in_default-resize g c =
-    listed c.self.inside.flex c.resize.new.flex c.self.inside.rows c.self.inside.rows c.self.invariant.space c.resize.ensures.frame.memory.place refl
-    (refused_locked c.self.inside.flex c.self.inside.rows.rows c.self.invariant.locked c.resize.new.flex c.in_default-resize.ensures.refused)
+    rw c.row_of.ensures.table
+    (listed c.self.inside.flex c.resize.new.flex c.self.inside.rows (looked c.self.inside.rows) c.self.invariant.space c.resize.ensures.frame.memory.place refl
+    (refused_locked c.self.inside.flex c.self.inside.rows.rows c.self.invariant.locked c.resize.new.flex c.in_default-resize.ensures.refused))
 
 pub invariant_of-self-2 : goal.invariant_of-self-2
 invariant_of-self-2 g c =
-    listed c.self.inside.flex c.resize.new.flex c.self.inside.rows c.move_row.new.self c.self.invariant.space c.resize.ensures.frame.memory.place c.move_row.ensures.space
+    listed c.self.inside.flex c.resize.new.flex c.self.inside.rows c.move_row.new.self c.self.invariant.space c.resize.ensures.frame.memory.place
+    (rw c.row_of.ensures.table at c.move_row.ensures.space)
     (moved_locked c.self.inside.flex c.self.inside.rows.rows c.self.invariant.locked c.resize.new.flex (at c.args.addr)
-    c.from_size_align_unchecked-wanted.result c.in-Some-resize.moved c.in-Some-resize.ensures.moved _ c.move_row.ensures.rows)
+    c.from_size_align_unchecked-wanted.result c.in-Some-resize.moved c.in-Some-resize.ensures.moved _ (rw c.row_of.ensures.table at c.move_row.ensures.rows))
 
 -- the reference model made the step
 did_step : (g : given.Over) (c : After-move_row g)
@@ -73,7 +87,8 @@ did_step g c =
     let wanted = c.from_size_align_unchecked-wanted in
     let enabled = g.Options.GlobalTlsfOptions.ENABLE_REALLOCATION in
     let step =
-    subst (λ l. ReallocatesTo enabled h (at c.args.addr) c.args.layout wanted.result (Ok c.in-Some-resize.moved) (heap_of c.resize.new.flex l)) (sym c.move_row.ensures.rows)
+    subst (λ l. ReallocatesTo enabled h (at c.args.addr) c.args.layout wanted.result (Ok c.in-Some-resize.moved) (heap_of c.resize.new.flex l))
+    (sym (rw c.row_of.ensures.table at c.move_row.ensures.rows))
     (c.in-Some-resize.ensures.step c.self.inside.rows.rows) in
     subst (λ o. ReallocatesAsAt enabled h (at c.args.addr) c.args.layout c.args.new_size o (Ok c.in-Some-resize.moved) after) (sym row)
     (reallocates_in enabled h (at c.args.addr) c.args.layout c.args.new_size c.in-Some.row wanted.result (Ok c.in-Some-resize.moved) after (not-false _ c.if-ne.ensures)
@@ -108,14 +123,14 @@ pub returns : goal.returns
 returns g c =
     let k = (goal.at.returns g c).After-move_row in
     let call = (goal.at.returns g c).After-resize in
-    let rows = c.move_row.ensures.rows in
+    let rows = rw c.row_of.ensures.table at c.move_row.ensures.rows in
     let step = did_step g k in
     let moved = c.in-Some-resize.ensures.moved in
     let wanted = c.from_size_align_unchecked-wanted in
     let enabled = g.Options.GlobalTlsfOptions.ENABLE_REALLOCATION in
     let before = heap_of c.self.inside.flex c.self.inside.rows.rows in
     let after = heap_of c.resize.new.flex c.move_row.new.self.rows in
-    let contents = locked_contents c.self.inside.flex c.self.inside.rows c.self.inside.looks.count in
+    let contents = locked_contents c.self.inside.flex c.self.inside.rows in
     let row = sym c.in-Some.ensures.row in
     let sized =
     subst (λ n. n ≤ length (bytes_at c.self.inside.flex.state.machine (at c.args.addr))) (same_size c.in-Some.row.1 c.args.layout (not-false _ c.if-ne.ensures))
@@ -144,7 +159,7 @@ returns g c =
         memory = c.resize.ensures.frame.memory;
         grow = c.resize.ensures.frame.grow;
         copied = copied g call;
-        looks = omega (arith, c.row_of.ensures.looks, c.move_row.ensures.looks);
+        looks = let looks = rw c.row_of.ensures.table at c.move_row.ensures.looks in omega (arith, looks);
         codes = λ _. c.move_row.ensures.room;
       };
       touches = record { room = touches_there g call; elsewhere = touches_elsewhere g call };
@@ -153,7 +168,7 @@ returns g c =
 pub returns-in_default : goal.returns-in_default
 returns-in_default g c =
     let absent = sym c.in_default.ensures.row in
-    rw (← c.self.view_is) (record {
+    rw (← c.self.view_is, c.row_of.ensures.table) (record {
       step = search rules;
       result = tt;
       unknown = unknown c.self.inside.flex c.self.inside.rows.rows (at c.args.addr) absent;
@@ -163,7 +178,7 @@ returns-in_default g c =
         memory = KeepsMemory-refl c.self.inside.flex;
         grow = omega arith;
         copied = copies_nothing _ _ _ _ _ _;
-        looks = omega (arith, c.row_of.ensures.looks);
+        looks = omega arith;
         codes = λ has. has;
       };
       touches = record { room = λ _ _. omega arith; elsewhere = λ _ _. omega arith };
@@ -172,7 +187,7 @@ returns-in_default g c =
 pub returns-then-ne : goal.returns-then-ne
 returns-then-ne g c =
     let row = sym c.in-Some.ensures.row in
-    rw (← c.self.view_is) (record {
+    rw (← c.self.view_is, c.row_of.ensures.table) (record {
       step =
           reallocates_out g.Options.GlobalTlsfOptions.ENABLE_REALLOCATION (heap_of c.self.inside.flex c.self.inside.rows.rows) (at c.args.addr) c.args.layout c.args.new_size
           c.in-Some.row (not-true _ c.if-ne.ensures) row;
@@ -184,7 +199,7 @@ returns-then-ne g c =
         memory = KeepsMemory-refl c.self.inside.flex;
         grow = omega arith;
         copied = copies_nothing _ _ _ _ _ _;
-        looks = omega (arith, c.row_of.ensures.looks);
+        looks = omega arith;
         codes = λ has. has;
       };
       touches = record { room = λ _ _. omega arith; elsewhere = λ _ _. omega arith };
@@ -199,7 +214,7 @@ returns-in_default-resize g c =
     let wanted = c.from_size_align_unchecked-wanted in
     let enabled = g.Options.GlobalTlsfOptions.ENABLE_REALLOCATION in
     let stays = c.in_default-resize.ensures.refused in
-    rw (← c.self.view_is) (record {
+    rw (← c.self.view_is, c.row_of.ensures.table) (record {
       step =
           subst (λ o. ReallocatesAsAt enabled h (at c.args.addr) c.args.layout c.args.new_size o (Err NoRoom) after) (sym row)
           (reallocates_in enabled h (at c.args.addr) c.args.layout c.args.new_size c.in-Some.row wanted.result (Err NoRoom) after (not-false _ c.if-ne.ensures)
@@ -214,7 +229,7 @@ returns-in_default-resize g c =
         memory = c.resize.ensures.frame.memory;
         grow = c.resize.ensures.frame.grow;
         copied = copied g call;
-        looks = omega (arith, c.row_of.ensures.looks);
+        looks = omega arith;
         codes = λ has. has;
       };
       touches = record { room = touches_there g call; elsewhere = touches_elsewhere g call };

@@ -1,9 +1,10 @@
 use Rattle.std.proofs.Common.{rules, ◌≡◌, IsSome, Some, Ok, Err, lit<, ap, ◌∙◌, subst, sym, refl, arith}
 use Rattle.rlsf_model_global.specs.Heap.{layout_at}
-use Rattle.rlsf_global.proofs.KeptMemories.{keeps_unchanged, kept_alone}
+use Rattle.rlsf_global.proofs.KeptMemories.{keeps_looked, kept_alone}
 use Rattle.rlsf_global.proofs.MovedPayloads.{same_heap}
 use Rattle.rlsf_global.proofs.Layouts.{content_at-bytes, layout_at-moved_other, layout_at-put_here}
 use Rattle.rlsf_base.specs.Addr.{at}
+use Rattle.rlsf_global.specs.LiveRows.{looked}
 use Rattle.rlsf_global.specs.Locked.{heap_of, locked_contents}
 use Rattle.rlsf_global.proofs.Checks.{same_align}
 use Rattle.rlsf_global.proofs.Kept.{kept_there}
@@ -24,10 +25,16 @@ replaced : (g : given.Over) (c : After-replace g)
     → c.replace.new.self.rows ≡ put (c.in-Some-reallocate_no_move.to, c.from_size_align_unchecked-wanted.result) (without_row (at c.args.addr) c.self.inside.rows.rows)
 replaced g c =
     row_there c.self.inside.rows.rows c.replace.new.self.rows (at c.args.addr) c.in-Some-reallocate_no_move.to c.from_size_align_unchecked-wanted.result
-    c.in-Some-reallocate_no_move.ensures.result.there c.replace.ensures.rows
+    c.in-Some-reallocate_no_move.ensures.result.there (rw c.row_of.ensures.table at c.replace.ensures.rows)
 
 pub row_of-requires : goal.row_of-requires
 row_of-requires g c = (lit< tt, c.self.invariant.locked.lists)
+
+pub invariant_of-self : goal.invariant_of-self
+invariant_of-self g c = rw c.row_of.ensures.table (record { locked = c.self.invariant.locked; space = c.self.invariant.space })
+
+pub invariant_of-self-then-ne : goal.invariant_of-self-then-ne
+invariant_of-self-then-ne g c = rw c.row_of.ensures.table (record { locked = c.self.invariant.locked; space = c.self.invariant.space })
 
 pub reallocate_no_move-requires : goal.reallocate_no_move-requires
 reallocate_no_move-requires g c =
@@ -37,23 +44,27 @@ reallocate_no_move-requires g c =
 
 pub invariant_of-self-in_default-reallocate_no_move : goal.invariant_of-self-in_default-reallocate_no_move
 invariant_of-self-in_default-reallocate_no_move g c =
-    let did = c.in_default-reallocate_no_move.ensures in
-    listed c.self.inside.flex c.reallocate_no_move.new.self c.self.inside.rows c.self.inside.rows c.self.invariant.space did.frame.place refl
+    rw c.row_of.ensures.table
+    (let did = c.in_default-reallocate_no_move.ensures in
+    listed c.self.inside.flex c.reallocate_no_move.new.self c.self.inside.rows (looked c.self.inside.rows) c.self.invariant.space did.frame.place refl
     (not_resized_locked c.self.inside.flex c.self.inside.rows.rows c.self.invariant.locked c.reallocate_no_move.new.self (at c.args.addr) c.from_size_align_unchecked-wanted.result
-    did.frame.source did.step did.refused.same)
+    did.frame.source did.step did.refused.same))
 
 pub replace-requires : goal.replace-requires
-replace-requires g c = record {
-  live =
-      subst (λ a. IsSome (row_at a c.self.inside.rows.rows)) (sym c.in-Some-reallocate_no_move.ensures.result.there)
-      (has_row c.self.inside.rows.rows (at c.args.addr) c.in-Some.row (sym c.in-Some.ensures.row));
-}
+replace-requires g c =
+    rw c.row_of.ensures.table
+    (record {
+      live =
+          subst (λ a. IsSome (row_at a c.self.inside.rows.rows)) (sym c.in-Some-reallocate_no_move.ensures.result.there)
+          (has_row c.self.inside.rows.rows (at c.args.addr) c.in-Some.row (sym c.in-Some.ensures.row));
+    })
 
 pub invariant_of-self-2 : goal.invariant_of-self-2
 invariant_of-self-2 g c =
     let did = c.in-Some-reallocate_no_move.ensures in
     let rows = replaced g c in
-    listed c.self.inside.flex c.reallocate_no_move.new.self c.self.inside.rows c.replace.new.self c.self.invariant.space did.frame.place c.replace.ensures.space
+    listed c.self.inside.flex c.reallocate_no_move.new.self c.self.inside.rows c.replace.new.self c.self.invariant.space did.frame.place
+    (rw c.row_of.ensures.table at c.replace.ensures.space)
     (resized_locked c.self.inside.flex c.self.inside.rows.rows c.self.invariant.locked c.reallocate_no_move.new.self (at c.args.addr) c.from_size_align_unchecked-wanted.result
     did.frame.source
     c.in-Some-reallocate_no_move.to did.result.there did.step _ rows
@@ -95,7 +106,7 @@ returns g c =
         there = did.result.there;
         live = (wanted.result, subst (λ a. layout_at after a ≡ Some wanted.result) did.result.there here, wanted.ensures.0, wanted.ensures.1 ∙ c.align.ensures.value);
         kept =
-            kept_there (locked_contents c.self.inside.flex c.self.inside.rows c.self.inside.looks.count) c.self.invariant.locked _ c.in-Some-reallocate_no_move.to
+            kept_there (locked_contents c.self.inside.flex c.self.inside.rows) c.self.invariant.locked _ c.in-Some-reallocate_no_move.to
             (at c.args.addr) c.args.layout
             c.args.new_size step;
         layouts = λ a off. layout_at-moved_other before after (at c.args.addr) (c.in-Some-reallocate_no_move.to, wanted.result) rows a off
@@ -109,7 +120,7 @@ returns g c =
         memory = kept_alone c.self.inside.flex c.reallocate_no_move.new.self _ c.self.invariant.locked.flex did.step did.frame.place;
         grow = did.frame.grow;
         copied = did.frame.copied;
-        looks = omega (arith, c.row_of.ensures.looks, c.replace.ensures.looks);
+        looks = let looks = rw c.row_of.ensures.table at c.replace.ensures.looks in omega (arith, looks);
         codes = λ _. c.replace.ensures.room;
       };
       touches = did.touches;
@@ -118,22 +129,20 @@ returns g c =
 pub returns-in_default : goal.returns-in_default
 returns-in_default g c =
     let absent = sym c.in_default.ensures.row in
-    rw (← c.self.view_is) (record {
+    rw (← c.self.view_is, c.row_of.ensures.table) (record {
       step = search rules;
       result = tt;
       unknown = unknown c.self.inside.flex c.self.inside.rows.rows (at c.args.addr) absent;
       refused = record { same = refl; bytes = refl };
       unasked = refl;
-      frame =
-          keeps_unchanged c.self.inside.flex c.self.inside.rows c.self.inside.rows c.self.inside.looks.count
-          c.row_of.new.looks.count (omega (arith, c.row_of.ensures.looks)) (λ has. has);
+      frame = keeps_looked c.self.inside.flex c.self.inside.rows;
       touches = omega arith;
     })
 
 pub returns-then-ne : goal.returns-then-ne
 returns-then-ne g c =
     let row = sym c.in-Some.ensures.row in
-    rw (← c.self.view_is) (record {
+    rw (← c.self.view_is, c.row_of.ensures.table) (record {
       step =
           resizes_out (heap_of c.self.inside.flex c.self.inside.rows.rows) (at c.args.addr) c.args.layout c.args.new_size
           c.in-Some.row (not-true _ c.if-ne.ensures) row;
@@ -141,9 +150,7 @@ returns-then-ne g c =
       unknown = known c.self.inside.flex c.self.inside.rows.rows (at c.args.addr) _ row (Err WrongLayout) refl;
       refused = record { same = refl; bytes = refl };
       unasked = refl;
-      frame =
-          keeps_unchanged c.self.inside.flex c.self.inside.rows c.self.inside.rows c.self.inside.looks.count
-          c.row_of.new.looks.count (omega (arith, c.row_of.ensures.looks)) (λ has. has);
+      frame = keeps_looked c.self.inside.flex c.self.inside.rows;
       touches = omega arith;
     })
 
@@ -157,7 +164,7 @@ returns-in_default-reallocate_no_move g c =
     let step =
     not_resized c.self.inside.flex c.self.inside.rows.rows c.self.invariant.locked c.reallocate_no_move.new.self (at c.args.addr) wanted.result did.frame.source did.step
     did.refused.same in
-    rw (← c.self.view_is) (record {
+    rw (← c.self.view_is, c.row_of.ensures.table) (record {
       step =
           subst (λ o. ReallocatesThereAt h (at c.args.addr) c.args.layout c.args.new_size o (Err NoRoom) after) (sym row)
           (resizes_in h (at c.args.addr) c.args.layout c.args.new_size c.in-Some.row wanted.result (Err NoRoom) after (not-false _ c.if-ne.ensures) wanted.ensures.0
@@ -173,7 +180,7 @@ returns-in_default-reallocate_no_move g c =
         memory = kept_alone c.self.inside.flex c.reallocate_no_move.new.self _ c.self.invariant.locked.flex did.step did.frame.place;
         grow = did.frame.grow;
         copied = did.frame.copied;
-        looks = omega (arith, c.row_of.ensures.looks);
+        looks = omega arith;
         codes = λ has. has;
       };
       touches = did.touches;

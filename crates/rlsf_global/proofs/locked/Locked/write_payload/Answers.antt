@@ -4,6 +4,7 @@ use Rattle.std.proofs.Common.{rules, arith, ◌+◌, nat_le, length, Ok, Err, li
 use Rattle.std.specs.List.{splice}
 use Rattle.rlsf_base.specs.Addr.{at}
 use Rattle.rlsf_flex.specs.Lending.{flex_written}
+use Rattle.rlsf_global.specs.LiveRows.{looked}
 use Rattle.rlsf_global.specs.Locked.{heap_of}
 use Rattle.rlsf_global.proofs.Checks.{writes_in, writes_out}
 use Rattle.rlsf_global.proofs.Lives.{known, unknown}
@@ -15,6 +16,12 @@ use Rattle.rlsf_global.proofs.locked.Locked.write_payload.Goals as goal
 
 pub row_of-requires : goal.row_of-requires
 row_of-requires g c = (lit< tt, c.self.invariant.locked.lists)
+
+pub invariant_of-self : goal.invariant_of-self
+invariant_of-self g c = rw c.row_of.ensures.table (record { locked = c.self.invariant.locked; space = c.self.invariant.space })
+
+pub invariant_of-self-then-not-fits : goal.invariant_of-self-then-not-fits
+invariant_of-self-then-not-fits g c = rw c.row_of.ensures.table (record { locked = c.self.invariant.locked; space = c.self.invariant.space })
 
 pub allocation_usable_size-requires : goal.allocation_usable_size-requires
 allocation_usable_size-requires g c =
@@ -29,14 +36,15 @@ invariant_of-self-2 g c =
     let did = c.payload_mut.ensures in
     let after = flex_written c.self.inside.flex (at c.args.addr) (length c.payload_mut.result.now) w in
     let (chunks, after_place, source, place, stands, touches, copied) = did.rest w in
-    listed c.self.inside.flex after c.self.inside.rows c.self.inside.rows c.self.invariant.space place refl
+    rw c.row_of.ensures.table
+    (listed c.self.inside.flex after c.self.inside.rows (looked c.self.inside.rows) c.self.invariant.space place refl
     (filled_locked c.self.inside.flex c.self.inside.rows.rows c.self.invariant.locked (flex_written c.self.inside.flex (at c.args.addr) (length c.payload_mut.result.now) w)
     (at c.args.addr) w
     (did.meaning w c.write_at.ensures.len) refl
-    (did.aligns w) (did.lengths w ∙ ap length did.value) (did.bytes w))
+    (did.aligns w) (did.lengths w ∙ ap length did.value) (did.bytes w)))
 
 pub returns-in_default : goal.returns-in_default
-returns-in_default g c = rw (← c.self.view_is) (record {
+returns-in_default g c = rw (← c.self.view_is, c.row_of.ensures.table) (record {
   step = search rules;
   result = tt;
   unknown = unknown c.self.inside.flex c.self.inside.rows.rows (at c.args.addr) (sym c.in_default.ensures.row);
@@ -46,14 +54,14 @@ returns-in_default g c = rw (← c.self.view_is) (record {
     memory = KeepsMemory-refl c.self.inside.flex;
     grow = omega arith;
     copied = refl;
-    looks = omega (arith, c.row_of.ensures.looks);
+    looks = omega arith;
     codes = λ has. has;
   };
   touches = omega arith;
 })
 
 pub returns-then-not-fits : goal.returns-then-not-fits
-returns-then-not-fits g c = rw (← c.self.view_is) (record {
+returns-then-not-fits g c = rw (← c.self.view_is, c.row_of.ensures.table) (record {
   step = (
       let h = heap_of c.self.inside.flex c.self.inside.rows.rows in
       let bytes = c.args.bytes.now in
@@ -67,14 +75,14 @@ returns-then-not-fits g c = rw (← c.self.view_is) (record {
     memory = KeepsMemory-refl c.self.inside.flex;
     grow = omega arith;
     copied = refl;
-    looks = omega (arith, c.row_of.ensures.looks);
+    looks = omega arith;
     codes = λ has. has;
   };
   touches = omega arith;
 })
 
 pub returns : goal.returns
-returns g c = rw (← c.self.view_is) (record {
+returns g c = rw (← c.self.view_is, c.row_of.ensures.table) (record {
   step = (
       let h = heap_of c.self.inside.flex c.self.inside.rows.rows in
       let addr = at c.args.addr in
@@ -114,7 +122,7 @@ returns g c = rw (← c.self.view_is) (record {
         memory = kept_alone c.self.inside.flex written_flex _ c.self.invariant.locked.flex (did.meaning w c.write_at.ensures.len) place;
         grow = search rules;
         copied = copied;
-        looks = omega (arith, c.row_of.ensures.looks);
+        looks = omega arith;
         codes = λ has. has;
       });
   touches = (

@@ -7,24 +7,24 @@ use std::marker::{Model, Send, Sync};
 
 /// How many codes were read or written.
 #[derive(Drop)]
-pub(crate) struct GhostLooks {
+pub(crate) struct Looks {
     ghost count: { ℕ },
 }
 
-impl Model for GhostLooks {
+impl Model for Looks {
     ghost also_owns = { λ _. ftrue };
 }
 
-unsafe impl Send for GhostLooks {}
+unsafe impl Send for Looks {}
 
-unsafe impl Sync for GhostLooks {}
+unsafe impl Sync for Looks {}
 
-impl GhostLooks {
+impl Looks {
     /// Creates a count of no codes.
-    pub(crate) fn new() -> GhostLooks
+    pub(crate) fn new() -> Looks
         ensures { result.count ≡ 0 }
     {
-        GhostLooks {}
+        Looks {}
     }
 
     /// Counts so many codes.

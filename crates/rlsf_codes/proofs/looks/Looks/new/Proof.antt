@@ -10,10 +10,10 @@ use denote.Shadow.{makes_shadow}
 use denote.Steps.{nothing}
 use denote.Triple.Walked.{says, Stays, walk_of, ends_at}
 use Rattle.std.proofs.raw_atomic.Walks.{proved}
-use Rattle.rlsf_global.specs.contracts.live_table.looks.GhostLooks as looks
-use Rattle.rlsf_global.specs.contracts.live_table.looks.GhostLooks.new as f
-use Rattle.rlsf_global.proofs.live_table.looks.GhostLooks.new.Statement.{statement}
-use Rattle.rlsf_global.proofs.live_table.looks.GhostLooks.new.Code as code
+use Rattle.rlsf_codes.specs.contracts.looks.Looks as looks
+use Rattle.rlsf_codes.specs.contracts.looks.Looks.new as f
+use Rattle.rlsf_codes.proofs.looks.Looks.new.Statement.{statement}
+use Rattle.rlsf_codes.proofs.looks.Looks.new.Code as code
 
 abbrev stayed : Stays f.ended.signature.params f.ended.kept
 stayed = tt

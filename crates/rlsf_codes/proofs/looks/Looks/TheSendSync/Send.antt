@@ -3,7 +3,7 @@ use denote.Param.Send.{IsSend, AllSend, owning_send, struct_send}
 use denote.Struct.Struct.{exits_of}
 use denote.Struct.Owning.{shape, fields, to}
 use Rattle.std_alloc.proofs.SendSync.{quiet}
-use Rattle.rlsf_global.specs.contracts.live_table.looks.GhostLooks as Looks
+use Rattle.rlsf_codes.specs.contracts.looks.Looks as Looks
 
 pub send : IsSend Looks.the_row
 send =

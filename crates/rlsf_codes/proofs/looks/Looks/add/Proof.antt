@@ -14,10 +14,10 @@ use denote.Signature.{plain, types_at}
 use denote.Steps.{nothing, opens, closes}
 use denote.Triple.Walked.{says, Stays, stay_ref, stay_dropped, walk_of, Goes-ref, Goes-dropped, ends_at}
 use Rattle.std.proofs.raw_atomic.Walks.{proved}
-use Rattle.rlsf_global.specs.contracts.live_table.looks.GhostLooks as looks
-use Rattle.rlsf_global.specs.contracts.live_table.looks.GhostLooks.add as f
-use Rattle.rlsf_global.proofs.live_table.looks.GhostLooks.add.Statement.{statement}
-use Rattle.rlsf_global.proofs.live_table.looks.GhostLooks.add.Code as code
+use Rattle.rlsf_codes.specs.contracts.looks.Looks as looks
+use Rattle.rlsf_codes.specs.contracts.looks.Looks.add as f
+use Rattle.rlsf_codes.proofs.looks.Looks.add.Statement.{statement}
+use Rattle.rlsf_codes.proofs.looks.Looks.add.Code as code
 
 abbrev stayed : Stays f.ended.signature.params f.ended.kept
 stayed =

@@ -1,0 +1,2 @@
+-- Definitions for codes.
+pub mod Codes
