@@ -1,7 +1,7 @@
 //! Tests of `rlsf_int`, `rlsf_base`, `rlsf_codes` and the check of a pool. This crate has no other code, so that these are proved once.
 //!
 //! `integers.rt` tests bitmaps, `classes.rt` size classes, and `pools.rt` computed lengths of pools. `layouts.rt` tests layouts,
-//! `memory.rt` and `open_memory.rt` memories, and `codes.rt` codes. `consistency.rt` tests the check of a pool.
+//! `ranges.rt` ranges, `memory.rt` and `open_memory.rt` memories, and `codes.rt` codes. `consistency.rt` tests the check of a pool.
 //! `answers.rt` has results that several tests compare.
 #![tactic(auto)]
 
@@ -23,3 +23,5 @@ mod memory;
 mod open_memory;
 #[cfg(test)]
 mod pools;
+#[cfg(test)]
+mod ranges;

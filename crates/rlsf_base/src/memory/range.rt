@@ -16,3 +16,20 @@ pub struct Range {
     /// The number of bytes.
     pub len: usize,
 }
+
+impl Range {
+    ghost use Rattle.std.specs.Prelude.{◌↔◌, IsTrue};
+    ghost use Rattle.rlsf_base.specs.Range.{LiesIn};
+
+    /// Returns whether the range lies in `space`: whether it begins no earlier and ends no later. Neither range has to end within the
+    /// address space.
+    ///
+    /// Completes in constant time.
+    pub fn lies_in(self, space: Range) -> bool
+        ensures { IsTrue result ↔ LiesIn self space.start space.len }
+    {
+        self.start >= space.start
+            && self.len <= space.len
+            && self.start - space.start <= space.len - self.len
+    }
+}
