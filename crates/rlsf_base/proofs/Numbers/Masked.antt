@@ -36,13 +36,7 @@ exponent align power fits = pow-between align (floor_log2 align) 63 (omega (arit
 
 module _ (n align : ℕ) (power : IsPowerOfTwo align) (word : align < 2 ^ 64) where
   pub align_up-fits : next_multiple_of n align < 2 ^ 64 → n + (align - 1) < 2 ^ 64
-  align_up-fits fits =
-      let k = floor_log2 align in
-      let sum = sum_fits n k (exponent align power word) (subst (λ a. next_multiple_of n a < 2 ^ 64) power fits) in
-      subst (λ a. n + (a - 1) < 2 ^ 64) (sym power) sum
+  align_up-fits fits = grind (arith, sum_fits, exponent)
 
   pub align_up-masked : n + (align - 1) < 2 ^ 64 → bit_and (n + (align - 1)) (2 ^ 64 - 1 - (align - 1)) ≡ next_multiple_of n align
-  align_up-masked fits =
-      let k = floor_log2 align in
-      let by_power = masked n k (exponent align power word) (subst (λ a. n + (a - 1) < 2 ^ 64) power fits) in
-      subst (λ a. bit_and (n + (a - 1)) (2 ^ 64 - 1 - (a - 1)) ≡ next_multiple_of n a) (sym power) by_power
+  align_up-masked fits = grind (arith, masked, exponent, bit_and)

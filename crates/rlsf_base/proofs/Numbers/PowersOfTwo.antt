@@ -28,10 +28,7 @@ floor_log2-lt n some = (halvings_bounds n n some (omega arith)).1
 
 -- where n lies between two powers, their exponents are in order
 pub pow-between : (n j k : ℕ) → 2 ^ j ≤ n → n < 2 ^ suc k → j ≤ k
-pow-between n j k low high = elim (cases_lt k j) [
-  | inl less ↦ let apart : 2 ^ suc k ≤ 2 ^ j = pow_mono less in omega arith
-  | inr at_most ↦ at_most
-]
+pow-between n j k low high = grind (arith, cases_lt, pow_mono)
 
 -- the logarithm is the one exponent whose power of two n has
 pub floor_log2-unique : (n k : ℕ) → 2 ^ k ≤ n → n < 2 ^ suc k → floor_log2 n ≡ k

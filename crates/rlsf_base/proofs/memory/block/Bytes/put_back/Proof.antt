@@ -7,7 +7,7 @@ use mir.Val.{Val, vunit}
 use base.Fml.{Fml, ftrue, flft}
 use contract.Monad.{fact}
 use contract.Running.{tables}
-use types.Kit.{‵, raw, ◌⊛◌, ◌$◌, ◌∵◌, !, qed, move, keep, use2, split, join, rewrite, suffices, frame, fsplit, fsplit3, fjoin, fjoin3, feq_i, flt_i, flt_l, done}
+use types.Kit.{‵, raw, ◌⊛◌, ◌$◌, ◌∵◌, !, qed, move, keep, use2, split, rewrite, suffices, fsplit, feq_i, flt_l}
 use types.Run.{unit_lit, of_opd, returns, enter}
 use types.ByLocal.{alloc_all, pass_all, free_all, look_at, sets}
 use denote.RattleType.{owns}
@@ -20,7 +20,7 @@ use Rattle.std.proofs.raw_atomic.Walks.{proved}
 use Rattle.rlsf_base.specs.Out.{kept_at}
 use Rattle.rlsf_base.specs.Changes.{AreBytesHere, AreBytesOut, came_back}
 use Rattle.rlsf_base.specs.Steps.Owners.{Has}
-use Rattle.rlsf_base.specs.Steps.Ownership.{held, bytes_own, ways_of, own_unit}
+use Rattle.rlsf_base.specs.Steps.Ownership.{bytes_own, ways_of, own_unit}
 use Rattle.rlsf_base.proofs.RawBlock.Rows.{Row, comes, clash_row, held-in}
 use Rattle.rlsf_base.proofs.Changes.{own-in}
 use Rattle.rlsf_base.proofs.RawBlock.Units.{Shares, parted, around-back, ways_join, back-own}
@@ -34,11 +34,9 @@ use Rattle.rlsf_base.specs.contracts.memory.block.Bytes.put_back as f
 use Rattle.rlsf_base.proofs.memory.block.Bytes.put_back.Statement.{statement}
 use Rattle.rlsf_base.proofs.memory.block.Bytes.put_back.Code as code
 
-abbrev stayed : Stays f.ended.signature.params f.ended.kept
-stayed = others_dropped f.ended.signature.params f.ended.kept (stay_ref (0 ∷ []) tt (plain (λ _. owner.the_row)))
-
 pub put_back_spec : {M : Type 1} → statement M
 put_back_spec 𝓤 𝓛 𝓜 𝓡 wired =
+    let stayed : Stays f.ended.signature.params f.ended.kept = others_dropped f.ended.signature.params f.ended.kept (stay_ref (0 ∷ []) tt (plain (λ _. owner.the_row))) in
     let c = f.clauses 𝓛 𝓜.mem 𝓡.returns in let W = walk_of 𝓛 f.ended stayed c in let 𝓣 = tables 𝓤 𝓛.H 𝓜 𝓡 𝓡.env in
     proved 𝓛 f.ended stayed c 𝓜 𝓡
     (others_go 𝓛 1 f.ended.signature.params f.ended.kept stayed.0 (Goes-ref 𝓛 1 0 tt (plain (λ _. owner.the_row))) ((λ κs x w. tt), tt))

@@ -1,12 +1,11 @@
 -- Shows that `put_room` gives the owner a run of its bytes back, as room. None of them was the owner's before, since they are another's. Assumes `Logic`.
-use Rattle.std.proofs.Common.{◌≡◌, ℕ, ◌+◌, ◌-◌, ◌^◌, ◌≤◌, List, [], ◌∷◌, length, refl, sym, ◌∙◌, arith}
+use Rattle.std.proofs.Common.{◌≡◌, ℕ, ◌+◌, ◌-◌, ◌^◌, ◌≤◌, List, [], ◌∷◌, length, refl, ◌∙◌, arith}
 use mir.Syntax.{named}
 use mir.Val.{Val, vunit}
 use base.Fml.{ftrue, froom, flft}
 use contract.Monad.{fact}
 use contract.Running.{tables}
-use types.Kit.{‵, raw, ◌⊛◌, ◌$◌, ◌∵◌, !, qed, move, keep, use1, use2, split, join, rewrite, suffices, frame, fsplit, fsplit3, fjoin, fjoin3, feq_i, flt_i, flt_l}
-use types.Kit.{done}
+use types.Kit.{‵, raw, ◌⊛◌, ◌$◌, ◌∵◌, !, qed, move, keep, use1, use2, split, rewrite, suffices, fsplit, feq_i, flt_l}
 use types.Run.{unit_lit, of_opd, returns, enter}
 use types.ByLocal.{alloc_all, pass_all, free_all, look_at, sets}
 use denote.RattleType.{owns}
@@ -19,7 +18,7 @@ use Rattle.std.proofs.raw_atomic.Walks.{proved}
 use Rattle.rlsf_base.specs.Out.{kept_at}
 use Rattle.rlsf_base.specs.Changes.{IsOwn, AreBytesOut, came_raw}
 use Rattle.rlsf_base.specs.Steps.Owners.{Has}
-use Rattle.rlsf_base.specs.Steps.Ownership.{bytes_ty, held, bytes_own, ways_of, own_unit}
+use Rattle.rlsf_base.specs.Steps.Ownership.{bytes_ty, bytes_own, ways_of, own_unit}
 use Rattle.rlsf_base.proofs.RawBlock.Rows.{comes_raw, clash, held-room}
 use Rattle.rlsf_base.proofs.Changes.{raw-own}
 use Rattle.rlsf_base.proofs.RawBlock.Units.{Shares, parted, around-raw, ways_join}
@@ -33,11 +32,9 @@ use Rattle.rlsf_base.specs.contracts.memory.block.Bytes.put_room as f
 use Rattle.rlsf_base.proofs.memory.block.Bytes.put_room.Statement.{statement}
 use Rattle.rlsf_base.proofs.memory.block.Bytes.put_room.Code as code
 
-abbrev stayed : Stays f.ended.signature.params f.ended.kept
-stayed = others_dropped f.ended.signature.params f.ended.kept (stay_ref (0 ∷ []) tt (plain (λ _. owner.the_row)))
-
 pub put_room_spec : {M : Type 1} → statement M
 put_room_spec 𝓤 𝓛 𝓜 𝓡 wired =
+    let stayed : Stays f.ended.signature.params f.ended.kept = others_dropped f.ended.signature.params f.ended.kept (stay_ref (0 ∷ []) tt (plain (λ _. owner.the_row))) in
     let c = f.clauses 𝓛 𝓜.mem 𝓡.returns in let W = walk_of 𝓛 f.ended stayed c in let 𝓣 = tables 𝓤 𝓛.H 𝓜 𝓡 𝓡.env in
     proved 𝓛 f.ended stayed c 𝓜 𝓡
     (others_go 𝓛 1 f.ended.signature.params f.ended.kept stayed.0 (Goes-ref 𝓛 1 0 tt (plain (λ _. owner.the_row))) ((λ κs x w. tt), tt))

@@ -1,11 +1,11 @@
 -- Shows that `put_units` gives the owner a run of its units back. None of their bytes was the owner's before, since they are another's. Assumes `Logic`.
-use Rattle.std.proofs.Common.{◌≡◌, ◌+◌, ◌-◌, ◌*◌, ◌^◌, ◌≤◌, List, [], ◌∷◌, length, refl, sym, ◌∙◌}
+use Rattle.std.proofs.Common.{◌≡◌, ◌+◌, ◌-◌, ◌*◌, ◌^◌, ◌≤◌, List, [], ◌∷◌, refl, ◌∙◌}
 use mir.Syntax.{named}
 use mir.Val.{Val, vunit}
 use base.Fml.{ftrue, flft}
 use contract.Monad.{fact}
 use contract.Running.{tables}
-use types.Kit.{‵, raw, ◌⊛◌, ◌$◌, ◌∵◌, !, qed, move, keep, use3, split, join, rewrite, suffices, frame, fsplit, fsplit3, fjoin, fjoin3, feq_i, flt_i, flt_l, done}
+use types.Kit.{‵, raw, ◌⊛◌, ◌$◌, ◌∵◌, !, qed, move, keep, use3, split, rewrite, suffices, fsplit, feq_i}
 use types.Run.{unit_lit, of_opd, returns, enter}
 use types.ByLocal.{alloc_all, pass_all, free_all, look_at, sets}
 use denote.RattleType.{owns}
@@ -15,10 +15,9 @@ use denote.Signature.{plain, types_at}
 use denote.Steps.{heard}
 use denote.Triple.Walked.{says, Stays, stay_ref, walk_of, Goes-ref, ends_at}
 use Rattle.std.proofs.raw_atomic.Walks.{proved}
-use Rattle.rlsf_base.specs.Out.{kept_at}
 use Rattle.rlsf_base.specs.Changes.{AreBytesOut, came_raw}
 use Rattle.rlsf_base.specs.Steps.Owners.{Has}
-use Rattle.rlsf_base.specs.Steps.Ownership.{held, ways_of, own_unit, bytes_own, units_own}
+use Rattle.rlsf_base.specs.Steps.Ownership.{units_own}
 use Rattle.rlsf_base.proofs.RawBlock.Grid.{puts_units, clash_units}
 use Rattle.rlsf_base.proofs.RawBlock.Dropped.{others_dropped, others_go}
 use Rattle.rlsf_base.proofs.RawBlock.OpenOwner.{opens_owner, closes_owner, bytes_in, ways_in, ends_kept}
@@ -31,11 +30,9 @@ use Rattle.rlsf_base.specs.contracts.memory.block.Bytes.put_units as f
 use Rattle.rlsf_base.proofs.memory.block.Bytes.put_units.Statement.{statement}
 use Rattle.rlsf_base.proofs.memory.block.Bytes.put_units.Code as code
 
-abbrev stayed : Stays f.ended.signature.params f.ended.kept
-stayed = others_dropped f.ended.signature.params f.ended.kept (stay_ref (0 ∷ []) tt (plain (λ _. owner.the_row)))
-
 pub put_units_spec : {M : Type 1} → statement M
 put_units_spec 𝓤 𝓛 𝓜 𝓡 wired =
+    let stayed : Stays f.ended.signature.params f.ended.kept = others_dropped f.ended.signature.params f.ended.kept (stay_ref (0 ∷ []) tt (plain (λ _. owner.the_row))) in
     let c = f.clauses 𝓛 𝓜.mem 𝓡.returns in let W = walk_of 𝓛 f.ended stayed c in let 𝓣 = tables 𝓤 𝓛.H 𝓜 𝓡 𝓡.env in
     proved 𝓛 f.ended stayed c 𝓜 𝓡
     (others_go 𝓛 1 f.ended.signature.params f.ended.kept stayed.0 (Goes-ref 𝓛 1 0 tt (plain (λ _. owner.the_row))) ((λ κs x w. tt), tt))

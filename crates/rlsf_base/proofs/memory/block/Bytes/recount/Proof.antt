@@ -1,21 +1,20 @@
 -- Shows that `recount` counts other changes, where each byte is the same by these. Assumes `Logic`.
-use Rattle.std.proofs.Common.{ap, ◌*◌, ◌-◌, ◌≡◌, ℕ, ◌<◌, ◌+◌, ◌^◌, List, [], ◌∷◌, length, refl, sym, arith}
+use Rattle.std.proofs.Common.{ap, ◌*◌, ◌-◌, ◌≡◌, ℕ, ◌<◌, ◌+◌, ◌^◌, List, [], ◌∷◌, length, refl, arith}
 use mir.Syntax.{named}
 use mir.Val.{Val, vunit}
 use base.Fml.{Fml, ftrue, flft}
 use contract.Monad.{fact}
-use types.Kit.{‵, raw, ◌⊛◌, ◌$◌, ◌∵◌, !, qed, move, keep, split, join, rewrite, suffices, frame, fsplit, fsplit3, fjoin, fjoin3, feq_i, flt_i, flt_l, done}
+use types.Kit.{‵, raw, ◌⊛◌, ◌$◌, ◌∵◌, !, qed, move, keep, split, rewrite, suffices, fsplit, feq_i}
 use types.Run.{unit_lit, of_opd, returns, enter}
 use types.ByLocal.{alloc_all, pass_all, free_all, look_at, sets}
 use denote.RattleType.{owns}
-use denote.RawPtr.{Ptr}
 use denote.Ref.{mut_vals, mut_Tells}
 use denote.Signature.{plain, types_at}
 use denote.Steps.{heard}
 use denote.Triple.Walked.{says, Stays, stay_ref, walk_of, Goes-ref, ends_at}
 use Rattle.std.proofs.raw_atomic.Walks.{proved}
 use Rattle.rlsf_base.specs.Out.{Change, is_own, kept_at}
-use Rattle.rlsf_base.specs.Steps.Ownership.{bytes_own, own_unit}
+use Rattle.rlsf_base.specs.Steps.Ownership.{own_unit}
 use Rattle.rlsf_base.proofs.RawBlock.OpenOwner.{opens_owner, closes_owner, ends_kept}
 use Rattle.rlsf_base.proofs.RawBlock.Rows.{held-same}
 use Rattle.rlsf_base.proofs.RawBlock.Units.{ways-same, unit-same}
@@ -24,11 +23,9 @@ use Rattle.rlsf_base.specs.contracts.memory.block.Bytes.recount as f
 use Rattle.rlsf_base.proofs.memory.block.Bytes.recount.Statement.{statement}
 use Rattle.rlsf_base.proofs.memory.block.Bytes.recount.Code as code
 
-abbrev stayed : Stays f.ended.signature.params f.ended.kept
-stayed = (stay_ref (0 ∷ []) tt (plain (λ _. owner.the_row)), tt)
-
 pub recount_spec : {M : Type 1} → statement M
 recount_spec 𝓤 𝓛 𝓜 𝓡 wired =
+    let stayed : Stays f.ended.signature.params f.ended.kept = (stay_ref (0 ∷ []) tt (plain (λ _. owner.the_row)), tt) in
     let c = f.clauses 𝓛 𝓜.mem 𝓡.returns in let W = walk_of 𝓛 f.ended stayed c in
     proved 𝓛 f.ended stayed c 𝓜 𝓡
     (Goes-ref 𝓛 1 0 tt (plain (λ _. owner.the_row)), tt)

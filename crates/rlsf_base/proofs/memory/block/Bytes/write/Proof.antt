@@ -33,11 +33,9 @@ use Rattle.rlsf_base.specs.contracts.memory.block.Bytes.write as f
 use Rattle.rlsf_base.proofs.memory.block.Bytes.write.Statement.{statement}
 use Rattle.rlsf_base.proofs.memory.block.Bytes.write.Code as code
 
-abbrev stayed : Stays f.ended.signature.params f.ended.kept
-stayed = others_dropped f.ended.signature.params f.ended.kept (stay_ref (0 ∷ []) tt (plain (λ _. owner.the_row)))
-
 pub write_spec : {M : Type 1} → statement M
 write_spec 𝓤 𝓛 𝓜 𝓡 wired =
+    let stayed : Stays f.ended.signature.params f.ended.kept = others_dropped f.ended.signature.params f.ended.kept (stay_ref (0 ∷ []) tt (plain (λ _. owner.the_row))) in
     let c = f.clauses 𝓛 𝓜.mem 𝓡.returns in let W = walk_of 𝓛 f.ended stayed c in let 𝓣 = tables 𝓤 𝓛.H 𝓜 𝓡 𝓡.env in
     proved 𝓛 f.ended stayed c 𝓜 𝓡
     (others_go 𝓛 1 f.ended.signature.params f.ended.kept stayed.0 (Goes-ref 𝓛 1 0 tt (plain (λ _. owner.the_row))) ((λ κs x w. tt), ((λ κs x w. tt), ((λ κs x w. tt), tt))))

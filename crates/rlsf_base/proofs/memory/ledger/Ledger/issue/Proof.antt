@@ -11,43 +11,27 @@ use types.ByLocal.{alloc_all, pass_all, free_all, look_at, get, sets}
 use denote.RattleType.{owns}
 use denote.Ref.{mut_vals, mut_Tells}
 use denote.Plain.{uint_vals, uint_Tells}
-use denote.Builtin.{usize}
 use denote.Signature.{plain, types_at}
 use denote.Steps.{nothing, opens, closes}
-use denote.Triple.Walked.{Stays, stay_ref, stay_dropped, walk_of, Goes-ref, Goes-dropped, ends_at}
+use denote.Triple.Walked.{Stays, stay_ref, walk_of, Goes-ref, ends_at}
 use Rattle.core.proofs.mem.Facts.{says_three}
 use Rattle.std.proofs.raw_atomic.Walks.{proved}
 use Rattle.rlsf_base.specs.Ledger.{Extent, entry_of, extent, ledger_owns, ticket_owns}
 use Rattle.rlsf_base.proofs.RawBlock.Tickets.{issues}
 use Rattle.rlsf_base.proofs.RawBlock.Values.{mark_val, mark_own, mark_made}
+use Rattle.rlsf_base.proofs.RawBlock.Dropped.{others_dropped, others_go}
 use Rattle.rlsf_base.specs.contracts.memory.ledger.Ledger as ledger
 use Rattle.rlsf_base.specs.contracts.memory.ledger.Ticket as ticket
 use Rattle.rlsf_base.specs.contracts.memory.ledger.Ledger.issue as f
 use Rattle.rlsf_base.proofs.memory.ledger.Ledger.issue.Statement.{statement}
 use Rattle.rlsf_base.proofs.memory.ledger.Ledger.issue.Code as code
 
-abbrev stayed : Stays f.ended.signature.params f.ended.kept
-stayed = (
-  stay_ref (0 ∷ []) tt (plain (λ _. ledger.the_row)),
-  (
-    stay_dropped (plain (λ _. usize)) f.ended.kept.1.0,
-    (stay_dropped (plain (λ _. usize)) f.ended.kept.1.1.0, (stay_dropped (plain (λ _. usize)) f.ended.kept.1.1.1.0, tt)),
-  ),
-)
-
 pub issue_spec : {M : Type 1} → statement M
 issue_spec 𝓤 𝓛 𝓜 𝓡 wired =
+    let stayed : Stays f.ended.signature.params f.ended.kept = others_dropped f.ended.signature.params f.ended.kept (stay_ref (0 ∷ []) tt (plain (λ _. ledger.the_row))) in
     let c = f.clauses 𝓛 𝓜.mem 𝓡.returns in let W = walk_of 𝓛 f.ended stayed c in let 𝓣 = tables 𝓤 𝓛.H 𝓜 𝓡 𝓡.env in
-    proved 𝓛 f.ended stayed c 𝓜 𝓡 (
-      Goes-ref 𝓛 1 0 tt (plain (λ _. ledger.the_row)),
-      (
-        Goes-dropped 𝓛 1 (plain (λ _. usize)) f.ended.kept.1.0 (λ κs x w. refl),
-        (
-          Goes-dropped 𝓛 1 (plain (λ _. usize)) f.ended.kept.1.1.0 (λ κs x w. refl),
-          (Goes-dropped 𝓛 1 (plain (λ _. usize)) f.ended.kept.1.1.1.0 (λ κs x w. refl), tt),
-        ),
-      ),
-    )
+    proved 𝓛 f.ended stayed c 𝓜 𝓡
+    (others_go 𝓛 1 f.ended.signature.params f.ended.kept stayed.0 (Goes-ref 𝓛 1 0 tt (plain (λ _. ledger.the_row))) ((λ κs x w. tt), ((λ κs x w. tt), ((λ κs x w. tt), tt))))
     f.Key.name code.function (code.unfolded 𝓤 𝓛.H 𝓜 𝓡 wired)
     (λ κs. (mut_vals, (uint_vals w64, (uint_vals w64, (uint_vals w64, tt)))))
     (λ κs. (mut_Tells (named 0) κs.0 ledger.the_row, (uint_Tells w64, (uint_Tells w64, (uint_Tells w64, tt))))) (λ κs qs bounds a g are.

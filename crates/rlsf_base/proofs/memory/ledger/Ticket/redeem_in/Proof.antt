@@ -26,11 +26,9 @@ use Rattle.rlsf_base.specs.contracts.memory.ledger.Ticket.redeem_in as f
 use Rattle.rlsf_base.proofs.memory.ledger.Ticket.redeem_in.Statement.{statement}
 use Rattle.rlsf_base.proofs.memory.ledger.Ticket.redeem_in.Code as code
 
-abbrev stayed : Stays f.ended.signature.params f.ended.kept
-stayed = (stay_dropped (plain (λ _. ticket.the_row)) f.ended.kept.0, (stay_ref (0 ∷ []) tt (plain (λ _. ledger.the_row)), tt))
-
 pub redeem_in_spec : {M : Type 1} → statement M
 redeem_in_spec 𝓤 𝓛 𝓜 𝓡 wired =
+    let stayed : Stays f.ended.signature.params f.ended.kept = (stay_dropped (plain (λ _. ticket.the_row)) f.ended.kept.0, (stay_ref (0 ∷ []) tt (plain (λ _. ledger.the_row)), tt)) in
     let c = f.clauses 𝓛 𝓜.mem 𝓡.returns in let W = walk_of 𝓛 f.ended stayed c in let 𝓣 = tables 𝓤 𝓛.H 𝓜 𝓡 𝓡.env in
     proved 𝓛 f.ended stayed c 𝓜 𝓡
     (Goes-blank 𝓛 1 (plain (λ _. ticket.the_row)) f.ended.kept.0 (λ κs x w. tt), (Goes-ref 𝓛 1 0 tt (plain (λ _. ledger.the_row)), tt))

@@ -13,12 +13,11 @@ use types.Run.{enter, of_opd, no_more, and_then, returns, unit_lit}
 use types.ByLocal.{alloc_all, pass_all, free_all, look_at, get, sets, lands_as}
 use denote.Builtin.{unit}
 use denote.Exit.{rest, yes}
-use denote.Laws.{Is, shows}
 use denote.Param.{layout}
 use denote.RattleType.{owns}
 use denote.RawPtr.{Ptr}
 use denote.Signature.{plain, types_at}
-use denote.Steps.{nothing, heard, peeks, only}
+use denote.Steps.{nothing, heard, only}
 use denote.Triple.Call.{calls_at}
 use denote.Triple.Clauses.{lasts, Lasts}
 use denote.Triple.Entry.{alive}
@@ -33,6 +32,7 @@ use Rattle.rlsf_base.specs.OpenSpace.{Home}
 use Rattle.rlsf_base.specs.Piece.{HasPartBytes, first_place}
 use Rattle.rlsf_base.specs.Steps.Ownership.{bytes_own, units_in}
 use Rattle.rlsf_base.proofs.Pieces.{can_come}
+use Rattle.rlsf_base.proofs.RawBlock.Walks.{hears}
 use Rattle.rlsf_base.specs.contracts.memory.block.Bytes as owner
 use Rattle.rlsf_base.proofs.memory.block.Bytes.TheLaws as owner_laws
 use Rattle.rlsf_base.specs.contracts.memory.block.Bytes.into_raw as k
@@ -76,12 +76,8 @@ into_raw_spec 𝓤 𝓛 𝓜 𝓡 wired =
     nothing ! $ move ! (1 ∷ 0 ∷ []) $ join ! $ nothing ! $ join ! $ nothing ! $ move ! (1 ∷ 0 ∷ []) $ use2 𝓛 (raw (G.pre y)) (id⊢ 𝓤 _) $
     calls_at ! (framed 𝓤 H 𝓜 (tables 𝓤 H 𝓜 𝓡 𝓡.env)) G (bytes_met 𝓤 𝓛 𝓜 𝓡 (code.calls-rlsf_base::memory::part::Part::into_bytes 𝓡.env wired)) y
     (and_then ! (get ! refl) (no_more !)) (λ u.
-    use1 𝓛 (later (some (λ (d : (owner.the_row).Denot). (‵ ftrue ⊛ ‵ ((owner.the_row).own_val d (u ∷ []))) ⊛
-    some (λ (ws : Lasts g.ended tt (p, tt)). ‵ (lasts g.ended y.0.0 y.0.3 ws) ⊛ raw (fact 𝓤 (HasPartBytes p d)))))) (id⊢ 𝓤 _) $
-    await ! tt $ pick ! (λ d. split ! $ split ! $ drop ! $
-    peeks ! owner.the_row (Is owner.the_row) (shows 𝓛 owner.the_row) d (u ∷ [])
-    (λ is. let typed = ((owner_laws.the_row_laws.lawful 𝓛).typed d _ is).0 in lands_as ! refl refl typed $
-    move ! (1 ∷ []) $ pick ! (λ ws. split ! $ drop ! $ heard ! _ (λ has.
+    hears ! tt owner.the_row u (lasts g.ended y.0.0 y.0.3) (λ d. raw (fact 𝓤 (HasPartBytes p d))) (id⊢ 𝓤 _) (λ d is. heard ! _ (λ has.
+    let typed = ((owner_laws.the_row_laws.lawful 𝓛).typed d _ is).0 in lands_as ! refl refl typed $
     -- [the owner; nothing; the locals]
     let K = triple_of 𝓛 k.signature (k.spec 𝓛 𝓜.mem 𝓡.returns) in
     let x : K.Ghost = ((tt, tt, tt, (d, tt), (u ∷ [], tt)), tt) in
@@ -101,4 +97,4 @@ into_raw_spec 𝓤 𝓛 𝓜 𝓡 wired =
     returns ! (look_at ! 0 refl) $ free_all ! refl $ keep ! (0 ∷ []) $
     suffices ! _ (ends_at 𝓛 En₀ stays c z vunit tt (rest (P.exit yes) p, tt) (tt, tt)) $
     feq_i ! (List Val) (vunit ∷ []) (vunit ∷ []) refl $ nothing ! $ nothing ! $ join ! $ nothing ! $ group ! 3 $ frame ! $ says ! (can_come p d has.0 has.1 has.2 has.3) $
-    done !)))))))))))
+    done !)))))))))
