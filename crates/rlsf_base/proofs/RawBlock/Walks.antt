@@ -1,14 +1,14 @@
 -- What the manual proofs about calls share.
 use Rattle.std.proofs.Common.{ℕ, List, [], ◌∷◌, take, drop as behind, take-append-drop, subst}
-use base.Logic.{SProp, ent, via, fst∗}
+use base.Logic.{SProp, ent, emp, via, fst∗}
 use base.Fml.{Fml, ftrue}
-use contract.Monad.{fact, fact_use}
+use contract.Monad.{fact, fact_i, fact_use}
 use seplogic.Ra.Ura.{Ura}
 use mir.Syntax.{Body}
 use mir.Val.{Val}
 use prog.Wp.{Env, Calls, Loops, Wp, after_seq, after_block}
 use types.Logic.{Logic}
-use types.Kit.{Item, Goal, Soaks, Seq, Post, any_q, post, ⋆, ⊢++, mean, ‵, raw, ◌⊛◌, some, later, ◌$◌, use1, await, pick, split, drop, move}
+use types.Kit.{Item, Goal, Soaks, Seq, Post, any_q, post, ⋆, ⊢++, mean, ‵, raw, ◌⊛◌, some, later, ◌$◌, Step, use0, use1, await, pick, split, drop, move}
 use denote.Laws.{Is, shows}
 use denote.RattleType.{RattleType}
 use denote.Steps.{peeks}
@@ -34,6 +34,10 @@ module _ {M : Type 1} {𝓤 : Ura M} {𝓛 : Logic 𝓤} {K : Type 0} {Γ : List
     prf = fact_use 𝓤 φ (via 𝓤 (⋆ 𝓛 (take n Γ)) (subst (λ (Δ : List (Item 𝓤)). ent 𝓤 (⋆ 𝓛 Δ) (⋆ 𝓛 (take n Γ))) (take-append-drop n Γ)
         (via 𝓤 _ (⊢++ 𝓛 (take n Γ) (behind n Γ)) (fst∗ 𝓤 (⋆ 𝓛 (take n Γ)) (⋆ 𝓛 (behind n Γ))))) shown) (λ x. (k x).prf);
   }
+
+  -- a fact is put beside the entries
+  pub told : K → {φ : Type 0} → φ → Step K 𝓛 (raw (fact 𝓤 φ) ∷ Γ) G Γ G
+  told t {φ} x = use0 𝓛 (raw (fact 𝓤 φ)) (fact_i 𝓤 φ (emp 𝓤) x)
 
   -- it is learned, where it stands
   pub hears : K → Soaks G → (R : RattleType) (v : Val) {Ws : Type 0} (left : Ws → Fml) (said : R.Denot → Item 𝓤) {P : SProp 𝓤} → ent 𝓤 P (mean 𝓛 (Returned R v left said))

@@ -2,12 +2,11 @@
 use Rattle.std.proofs.Common.{◌≡◌, ℕ, [], ◌∷◌, length, refl, ◌∙◌, ap, w64}
 use base.Logic.{id⊢}
 use base.Fml.{ftrue}
-use contract.Monad.{fact, fact_i}
+use contract.Monad.{fact}
 use contract.Running.{tables}
-use types.Kit.{‵, raw, ◌⊛◌, ◌$◌, ◌∵◌, !, qed, move, keep, drop, use0, use1, use2, split, join, fsplit, suffices, group, done}
+use types.Kit.{‵, raw, ◌⊛◌, ◌$◌, ◌∵◌, !, qed, move, keep, drop, use1, use2, split, join, fsplit, suffices, group, done}
 use types.Run.{of_opd, no_more, and_then, returns, enter}
 use types.ByLocal.{alloc_all, pass_all, free_all, look_at, get, sets, lands_as}
-use base.Logic.{emp}
 use denote.Builtin.{usize}
 use denote.RattleType.{owns}
 use denote.Plain.{uint_vals, uint_Tells, uint_Makes}
@@ -27,7 +26,7 @@ use Rattle.rlsf_base.specs.OpenSpace.{place_in}
 use Rattle.rlsf_base.specs.Steps.Ownership.{bytes_at_pointer, units_from}
 use Rattle.rlsf_base.specs.contracts.memory.Memory as memory
 use Rattle.rlsf_base.proofs.memory.Memory.TheLaws as memory_laws
-use Rattle.rlsf_base.proofs.RawBlock.Walks.{hears}
+use Rattle.rlsf_base.proofs.RawBlock.Walks.{hears, told}
 use Rattle.rlsf_base.specs.contracts.memory.block.Bytes as owner
 use Rattle.rlsf_base.proofs.memory.block.Bytes.TheLaws as owner_laws
 use Rattle.rlsf_base.specs.contracts.memory.Memory.from_raw_parts as f
@@ -69,11 +68,8 @@ from_raw_parts_spec 𝓤 𝓛 𝓜 𝓡 wired =
     let m : K.Ghost = ((tt, tt, tt, (h, (p, (start, (len, (d, tt))))), (heap_val ∷ [], (rawptr_vals p, (uint_vals w64 start, (uint_vals w64 len, (v ∷ [], tt)))))), tt) in
     nothing ! $ move ! (1 ∷ 0 ∷ []) $ join ! $ owned ! usize _ (uint_Makes 𝓛 w64) len _ (refl, are.1.1.1.0.1) $ join ! $ owned ! usize _ (uint_Makes 𝓛 w64) start _
     (refl, are.1.1.0.1) $ join ! $ owned ! RawPtr _ (rawptr_Makes 𝓛) p _ refl $ join ! $ move ! (1 ∷ 0 ∷ []) $ join ! $ nothing ! $ join ! $
-    let Owed1 : Type 0 = (d.at ≡ p) × (d.skip ≡ 0) × (length d.bytes ≡ len) × (d.out ≡ []) × (d.units ≡ units_from start len) in
-    let Owed2 : Type 0 = CanStart start len in
-    use0 𝓛 (raw (fact 𝓤 Owed2)) (fact_i 𝓤 Owed2 (emp 𝓤) asked.1) $
-    use0 𝓛 (raw (fact 𝓤 Owed1)) (fact_i 𝓤 Owed1 (emp 𝓤) (did.0, did.1, ap length did.2 ∙ asked.0, did.3, did.4 ∙ ap (λ (n : ℕ). units_from start n) asked.0)) $
-    join ! $ move ! (1 ∷ 0 ∷ []) $
+    let Owed : Type 0 = (d.at ≡ p) × (d.skip ≡ 0) × (length d.bytes ≡ len) × (d.out ≡ []) × (d.units ≡ units_from start len) in
+    told ! asked.1 $ told ! {φ = Owed} (did.0, did.1, ap length did.2 ∙ asked.0, did.3, did.4 ∙ ap (λ (n : ℕ). units_from start n) asked.0) $ join ! $ move ! (1 ∷ 0 ∷ []) $
     use2 𝓛 (raw (K.pre m)) (id⊢ 𝓤 _) $
     calls_at ! (framed 𝓤 𝓛.H 𝓜 (tables 𝓤 𝓛.H 𝓜 𝓡 𝓡.env)) K (over_met 𝓤 𝓛 𝓜 𝓡 (code.calls-rlsf_base::memory::Memory::over 𝓡.env wired)) m
     (and_then ! (get ! refl) (and_then ! (get ! refl) (and_then ! (get ! refl) (and_then ! (get ! refl) (and_then ! (get ! refl) (no_more !)))))) (λ u.
@@ -84,8 +80,4 @@ from_raw_parts_spec 𝓤 𝓛 𝓜 𝓡 wired =
     returns ! (look_at ! 0 refl) $ free_all ! refl $
     suffices ! _ (ends_at 𝓛 f.ended stayed c y u r (tt, (tt, (tt, (tt, tt)))) (tt, (tt, (tt, (tt, tt))))) $
     nothing ! $ nothing ! $ join ! $ nothing ! $ join ! $ nothing ! $ join ! $ nothing ! $ join ! $ nothing ! $ group ! 3 $
-    use0 𝓛 (raw (fact 𝓤 ((r.view.base.ptr ≡ p) × (place_in r.view start ≡ 0))))
-    (fact_i 𝓤 ((r.view.base.ptr ≡ p) × (place_in r.view start ≡ 0)) (emp 𝓤) its_block) $
-    use0 𝓛 (raw (fact 𝓤 ((r.touches ≡ 0) × (r.copied ≡ 0)))) (fact_i 𝓤 ((r.touches ≡ 0) × (r.copied ≡ 0)) (emp 𝓤) its_counts) $ join ! $
-    use0 𝓛 (raw (fact 𝓤 (r.bytes ≡ bytes))) (fact_i 𝓤 (r.bytes ≡ bytes) (emp 𝓤) (its_bytes ∙ did.2)) $ join ! $
-    use0 𝓛 (raw (fact 𝓤 (r.start ≡ start))) (fact_i 𝓤 (r.start ≡ start) (emp 𝓤) its_start) $ join ! $ move ! (1 ∷ 0 ∷ []) $ done !))))))))))))
+    told ! its_block $ told ! its_counts $ join ! $ told ! (its_bytes ∙ did.2) $ join ! $ told ! its_start $ join ! $ move ! (1 ∷ 0 ∷ []) $ done !))))))))))))

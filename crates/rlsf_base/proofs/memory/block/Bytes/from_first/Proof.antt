@@ -1,5 +1,5 @@
 -- Shows that `from_first` is the owner of the same bytes, by the place of the first. Assumes `Logic`.
-use Rattle.std.proofs.Common.{◌≡◌, ℕ, ◌+◌, ◌^◌, List, [], ◌∷◌, length, refl, sym, ap, ◌∙◌, arith, w64}
+use Rattle.std.proofs.Common.{◌≡◌, ℕ, ◌+◌, ◌^◌, [], ◌∷◌, length, refl, sym, ap, ◌∙◌, arith, w64}
 use Rattle.std.specs.Prelude.{eqb, if◌then◌else◌}
 use base.Fraction.{full_share}
 use mir.Val.{Val}
@@ -42,10 +42,9 @@ from_first_spec 𝓤 𝓛 𝓜 𝓡 wired =
     f.Key.name code.function (code.unfolded 𝓤 𝓛.H 𝓜 𝓡 wired)
     (λ κs. (bytes_vals, (base_vals, (uint_vals w64, tt)))) (λ κs. (bytes_Tells, (base_Tells, (uint_Tells w64, tt)))) (λ κs qs bounds a g are.
     let d = a.0 in let base = a.1.0 in let skip = a.1.1.0 in
-    let vss : List Val × (List Val × (List Val × Unit {0})) = (mark_val ∷ [], (base_vals base, (uint_vals w64 skip, tt))) in
     let Asked : Type 0 = (base.ptr ≡ d.at) × (d.skip ≡ skip) in
-    let y : W.Ghost = ((κs, qs, bounds, a, vss), g) in
-    qed 𝓛 ((‵ ftrue ⊛ ‵ (owns (types_at f.signature.params κs) a vss)) ∷ raw (fact 𝓤 Asked) ∷ []) ∵
+    let y : W.Ghost = ((κs, qs, bounds, a, (mark_val ∷ [], (base_vals base, (uint_vals w64 skip, tt)))), g) in
+    qed 𝓛 ((‵ ftrue ⊛ ‵ (owns (types_at f.signature.params κs) a y.0.4)) ∷ raw (fact 𝓤 Asked) ∷ []) ∵
     move ! (1 ∷ []) $ heard ! Asked (λ asked. split ! $ drop ! $ fsplit ! $ fsplit ! $ keep ! (1 ∷ []) $
     enter ! _ _ _ _ _ $ alloc_all ! (λ l. pass_all ! refl ((tt, (tt, tt)), (base_typed base.ptr, ((tt, record { fits = are.1.1.0.1 }), tt))) $
     in_a_block ! d.at (λ p. bytes_own p d.skip d.bytes d.out d.units) (id⊢ 𝓤 (never 𝓤)) (λ b o e. fsplit ! $ flt_l ! (λ small. fsplit ! $

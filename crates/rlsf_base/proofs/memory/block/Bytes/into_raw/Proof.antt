@@ -24,8 +24,7 @@ into_raw_spec 𝓤 𝓛 𝓜 𝓡 wired =
     (all_go 𝓛 0 f.ended.signature.params f.ended.kept ((λ κs x w. tt), tt))
     f.Key.name code.function (code.unfolded 𝓤 𝓛.H 𝓜 𝓡 wired)
     (λ κs. ((λ t. mark_val ∷ []), tt)) (λ κs. (lowers.val_is, tt)) (λ κs qs bounds a g are.
-    let vss : List Val × Unit {0} = (mark_val ∷ [], tt) in
-    let y : W.Ghost = ((κs, qs, bounds, a, vss), g) in
+    let y : W.Ghost = ((κs, qs, bounds, a, (mark_val ∷ [], tt)), g) in
     qed 𝓛 ((‵ ftrue ⊛ (‵ ((owner.the_row).own_val a.0 (mark_val ∷ [])) ⊛ ‵ ftrue)) ∷ ‵ ftrue ∷ []) ∵
     split ! $ drop ! $ split ! $ fsplit ! $ keep ! (1 ∷ []) $
     enter ! _ _ _ _ _ $ alloc_all ! (λ l. pass_all ! refl ((tt, (tt, tt)), tt) $

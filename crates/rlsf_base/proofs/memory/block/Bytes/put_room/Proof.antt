@@ -41,12 +41,11 @@ put_room_spec 𝓤 𝓛 𝓜 𝓡 wired =
     f.Key.name code.function (code.unfolded 𝓤 𝓛.H 𝓜 𝓡 wired)
     (λ κs. (mut_vals, (bytes_vals, tt))) (λ κs. (mut_Tells (named 0) κs.0 owner.the_row, (bytes_Tells, tt))) (λ κs qs bounds a g are.
     let d = a.0.now in let part = a.1.0 in
-    let vss : List Val × (List Val × Unit {0}) = (mut_vals a.0, (mark_val ∷ [], tt)) in
     let ws = part.bytes in let i = part.skip - d.skip in let n = length ws in
     let Asked : Type 0 =
     (part.at ≡ d.at) × Has d part.skip (length part.bytes) × IsOwn part.out 0 (length part.bytes) × (part.units ≡ d.units) in
-    let y : W.Ghost = ((κs, qs, bounds, a, vss), g) in
-    qed 𝓛 (((‵ (flft κs.0 qs.0) ⊛ ‵ ftrue) ⊛ ‵ (owns (types_at f.signature.params κs) a vss)) ∷ raw (fact 𝓤 Asked) ∷ []) ∵
+    let y : W.Ghost = ((κs, qs, bounds, a, (mut_vals a.0, (mark_val ∷ [], tt))), g) in
+    qed 𝓛 (((‵ (flft κs.0 qs.0) ⊛ ‵ ftrue) ⊛ ‵ (owns (types_at f.signature.params κs) a y.0.4)) ∷ raw (fact 𝓤 Asked) ∷ []) ∵
     move ! (1 ∷ []) $ heard ! Asked (λ asked. split ! $ split ! $ move ! (2 ∷ []) $ fsplit ! $ move ! (1 ∷ []) $ fsplit ! $ fsplit ! $ keep ! (3 ∷ 4 ∷ 1 ∷ []) $
     -- [self; its token; the part's bytes]
     enter ! _ _ _ _ _ $ alloc_all ! (λ l. pass_all ! refl ((tt, tt), ((tt, (tt, tt)), tt)) $

@@ -39,11 +39,10 @@ put_units_spec 𝓤 𝓛 𝓜 𝓡 wired =
     f.Key.name code.function (code.unfolded 𝓤 𝓛.H 𝓜 𝓡 wired)
     (λ κs. (mut_vals, (units_vals, tt))) (λ κs. (mut_Tells (named 0) κs.0 owner.the_row, (units_Tells, tt))) (λ κs qs bounds a g are.
     let d = a.0.now in let run = a.1.0 in
-    let vss : List Val × (List Val × Unit {0}) = (mut_vals a.0, (mark_val ∷ [], tt)) in
     let first = run.first in let count = run.count in let i = first * 16 - d.skip in let n = count * 16 in
     let Asked : Type 0 = (run.at ≡ d.at) × Has d (first * 16) (count * 16) × (first + count ≤ d.units) in
-    let y : W.Ghost = ((κs, qs, bounds, a, vss), g) in
-    qed 𝓛 (((‵ (flft κs.0 qs.0) ⊛ ‵ ftrue) ⊛ ‵ (owns (types_at f.signature.params κs) a vss)) ∷ raw (fact 𝓤 Asked) ∷ []) ∵
+    let y : W.Ghost = ((κs, qs, bounds, a, (mut_vals a.0, (mark_val ∷ [], tt))), g) in
+    qed 𝓛 (((‵ (flft κs.0 qs.0) ⊛ ‵ ftrue) ⊛ ‵ (owns (types_at f.signature.params κs) a y.0.4)) ∷ raw (fact 𝓤 Asked) ∷ []) ∵
     move ! (1 ∷ []) $ heard ! Asked (λ asked. split ! $ split ! $ move ! (2 ∷ []) $ fsplit ! $ move ! (1 ∷ []) $ fsplit ! $ fsplit ! $ keep ! (3 ∷ 4 ∷ 1 ∷ []) $
     -- [self; its token; the part's bytes]
     enter ! _ _ _ _ _ $ alloc_all ! (λ l. pass_all ! refl ((tt, tt), ((tt, (tt, tt)), tt)) $

@@ -32,11 +32,10 @@ recount_spec 𝓤 𝓛 𝓜 𝓡 wired =
     f.Key.name code.function (code.unfolded 𝓤 𝓛.H 𝓜 𝓡 wired)
     (λ κs. (mut_vals, tt)) (λ κs. (mut_Tells (named 0) κs.0 owner.the_row, tt)) (λ κs qs bounds a g are.
     let d = a.0.now in
-    let vss : List Val × Unit {0} = (mut_vals a.0, tt) in
     let cs : List Change = g in
     let Asked : Type 0 = (k : ℕ) → k < length d.bytes → kept_at d.out k ≡ kept_at cs k in
-    let y : W.Ghost = ((κs, qs, bounds, a, vss), g) in
-    qed 𝓛 (((‵ (flft κs.0 qs.0) ⊛ ‵ ftrue) ⊛ ‵ (owns (types_at f.signature.params κs) a vss)) ∷ raw (fact 𝓤 Asked) ∷ []) ∵
+    let y : W.Ghost = ((κs, qs, bounds, a, (mut_vals a.0, tt)), g) in
+    qed 𝓛 (((‵ (flft κs.0 qs.0) ⊛ ‵ ftrue) ⊛ ‵ (owns (types_at f.signature.params κs) a y.0.4)) ∷ raw (fact 𝓤 Asked) ∷ []) ∵
     move ! (1 ∷ []) $ heard ! Asked (λ asked. split ! $ split ! $ move ! (2 ∷ []) $ fsplit ! $ keep ! (0 ∷ 2 ∷ []) $
     enter ! _ _ _ _ _ $ alloc_all ! (λ l. pass_all ! refl ((tt, tt), tt) $
     opens_owner ! tt κs.0 qs.0 a.0 (λ us b o e small.

@@ -47,10 +47,9 @@ slice_spec 𝓤 𝓛 𝓜 𝓡 wired =
     (λ κs. (shr_vals, (base_vals, (uint_vals w64, (uint_vals w64, tt)))))
     (λ κs. (shr_Tells (named 0) κs.0 owner.the_row, (base_Tells, (uint_Tells w64, (uint_Tells w64, tt))))) (λ κs qs bounds a g are.
     let κ = κs.0 in let d = a.0.now in let base = a.1.0 in let place = a.1.1.0 in let len = a.1.1.1.0 in
-    let vss : List Val × (List Val × (List Val × (List Val × Unit {0}))) = (shr_vals a.0, (base_vals base, (uint_vals w64 place, (uint_vals w64 len, tt)))) in
     let Asked : Type 0 = (base.ptr ≡ d.at) × HasHere d place len in
-    let y : W.Ghost = ((κs, qs, bounds, a, vss), g) in
-    qed 𝓛 (((‵ (flft κ qs.0) ⊛ ‵ ftrue) ⊛ ‵ (owns (types_at f.signature.params κs) a vss)) ∷ raw (fact 𝓤 Asked) ∷ []) ∵
+    let y : W.Ghost = ((κs, qs, bounds, a, (shr_vals a.0, (base_vals base, (uint_vals w64 place, (uint_vals w64 len, tt))))), g) in
+    qed 𝓛 (((‵ (flft κ qs.0) ⊛ ‵ ftrue) ⊛ ‵ (owns (types_at f.signature.params κs) a y.0.4)) ∷ raw (fact 𝓤 Asked) ∷ []) ∵
     move ! (1 ∷ []) $ heard ! Asked (λ asked. split ! $ split ! $ move ! (2 ∷ []) $ fsplit ! $ fsplit ! $ keep ! (1 ∷ 3 ∷ []) $
     -- [what the `&` shows; the token of κ]
     enter ! _ _ _ _ _ $ alloc_all ! (λ l. pass_all ! refl ((tt, tt), (base_typed base.ptr, ((tt, record { fits = are.1.1.0.1 }), ((tt, record { fits = are.1.1.1.0.1 }), tt)))) $

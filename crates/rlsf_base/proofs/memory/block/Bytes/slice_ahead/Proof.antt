@@ -52,11 +52,9 @@ slice_ahead_spec 𝓤 𝓛 𝓜 𝓡 wired =
     (λ κs. (shr_Tells (named 0) κs.0 owner.the_row, (base_Tells, (shr_Tells (named 1) κs.1.0 units_type.the_row, (uint_Tells w64, (uint_Tells w64, tt))))))
     (λ κs qs bounds a g are.
     let κ = κs.0 in let d = a.0.now in let base = a.1.0 in let spot : ℕ = a.1.1.0.now.first * 16 in let ahead = a.1.1.1.0 in let len = a.1.1.1.1.0 in
-    let vss : List Val × (List Val × (List Val × (List Val × (List Val × Unit {0})))) =
-    (shr_vals a.0, (base_vals base, (shr_vals a.1.1.0, (uint_vals w64 ahead, (uint_vals w64 len, tt))))) in
     let Asked : Type 0 = (base.ptr ≡ d.at +ₚ spot) × HasHere d (spot + ahead) len in
-    let y : W.Ghost = ((κs, qs, bounds, a, vss), g) in
-    qed 𝓛 (((‵ (flft κ qs.0) ⊛ (‵ (flft κs.1.0 qs.1.0) ⊛ ‵ ftrue)) ⊛ ‵ (owns (types_at f.signature.params κs) a vss)) ∷ raw (fact 𝓤 Asked) ∷ []) ∵
+    let y : W.Ghost = ((κs, qs, bounds, a, (shr_vals a.0, (base_vals base, (shr_vals a.1.1.0, (uint_vals w64 ahead, (uint_vals w64 len, tt)))))), g) in
+    qed 𝓛 (((‵ (flft κ qs.0) ⊛ (‵ (flft κs.1.0 qs.1.0) ⊛ ‵ ftrue)) ⊛ ‵ (owns (types_at f.signature.params κs) a y.0.4)) ∷ raw (fact 𝓤 Asked) ∷ []) ∵
     move ! (1 ∷ []) $ heard ! Asked (λ asked. split ! $ split ! $ move ! (2 ∷ []) $ fsplit ! $ fsplit ! $ keep ! (1 ∷ 3 ∷ 4 ∷ []) $
     -- [what the `&` shows; the token of κ; that of the other lifetime]
     enter ! _ _ _ _ _ $ alloc_all !

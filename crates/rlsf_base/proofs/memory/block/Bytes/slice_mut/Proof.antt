@@ -92,10 +92,9 @@ slice_mut_spec 𝓤 𝓛 𝓜 𝓡 wired =
     (λ κs. (mut_Tells (named 0) κs.0 owner.the_row, (base_Tells, (uint_Tells w64, (uint_Tells w64, tt))))) (λ κs qs bounds a g are.
     let κ = κs.0 in let q = qs.0 in let rb = a.0.ref_ptr.0 in let ro = a.0.ref_ptr.1 in let γ = a.0.ghost_name in let d = a.0.now in let base = a.1.0 in let place = a.1.1.0 in
     let len = a.1.1.1.0 in
-    let vss : List Val × (List Val × (List Val × (List Val × Unit {0}))) = (mut_vals a.0, (base_vals base, (uint_vals w64 place, (uint_vals w64 len, tt)))) in
     let Asked : Type 0 = (base.ptr ≡ d.at) × HasHere d place len in
-    let y : W.Ghost = ((κs, qs, bounds, a, vss), g) in
-    qed 𝓛 (((‵ (flft κ q) ⊛ ‵ ftrue) ⊛ ‵ (owns (types_at f.signature.params κs) a vss)) ∷ raw (fact 𝓤 Asked) ∷ []) ∵
+    let y : W.Ghost = ((κs, qs, bounds, a, (mut_vals a.0, (base_vals base, (uint_vals w64 place, (uint_vals w64 len, tt))))), g) in
+    qed 𝓛 (((‵ (flft κ q) ⊛ ‵ ftrue) ⊛ ‵ (owns (types_at f.signature.params κs) a y.0.4)) ∷ raw (fact 𝓤 Asked) ∷ []) ∵
     move ! (1 ∷ []) $ heard ! Asked (λ asked. split ! $ split ! $ move ! (2 ∷ []) $ fsplit ! $ fsplit3 ! $ keep ! (1 ∷ 2 ∷ 4 ∷ []) $
     enter ! _ _ _ _ _ $ alloc_all ! (λ l. pass_all ! refl ((tt, tt), (base_typed base.ptr, ((tt, record { fits = are.1.1.0.1 }), ((tt, record { fits = are.1.1.1.0.1 }), tt)))) $
     opens ! tt owner.the_row {h = d} rb ro (λ vs. move ! (1 ∷ []) $ fsplit ! $ move ! (1 ∷ []) $

@@ -43,10 +43,9 @@ write_spec 𝓤 𝓛 𝓜 𝓡 wired =
     (λ κs. (mut_vals, (base_vals, (uint_vals w64, (uint_vals w8, tt))))) (λ κs. (mut_Tells (named 0) κs.0 owner.the_row, (base_Tells, (uint_Tells w64, (uint_Tells w8, tt)))))
     (λ κs qs bounds a g are.
     let d = a.0.now in let base = a.1.0 in let place = a.1.1.0 in let byte = a.1.1.1.0 in
-    let vss : List Val × (List Val × (List Val × (List Val × Unit {0}))) = (mut_vals a.0, (base_vals base, (uint_vals w64 place, (uint_vals w8 byte, tt)))) in
     let Asked : Type 0 = (base.ptr ≡ d.at) × HasOwn d place 1 in
-    let y : W.Ghost = ((κs, qs, bounds, a, vss), g) in
-    qed 𝓛 (((‵ (flft κs.0 qs.0) ⊛ ‵ ftrue) ⊛ ‵ (owns (types_at f.signature.params κs) a vss)) ∷ raw (fact 𝓤 Asked) ∷ []) ∵
+    let y : W.Ghost = ((κs, qs, bounds, a, (mut_vals a.0, (base_vals base, (uint_vals w64 place, (uint_vals w8 byte, tt))))), g) in
+    qed 𝓛 (((‵ (flft κs.0 qs.0) ⊛ ‵ ftrue) ⊛ ‵ (owns (types_at f.signature.params κs) a y.0.4)) ∷ raw (fact 𝓤 Asked) ∷ []) ∵
     move ! (1 ∷ []) $ heard ! Asked (λ asked. split ! $ split ! $ move ! (2 ∷ []) $ fsplit ! $ keep ! (0 ∷ 2 ∷ []) $
     enter ! _ _ _ _ _ $ alloc_all ! (λ l. pass_all ! refl ((tt, tt), (base_typed base.ptr, ((tt, record { fits = are.1.1.0.1 }), ((tt, record { fits = are.1.1.1.0.1 }), tt)))) $
     opens_owner ! tt κs.0 qs.0 a.0 (λ us b o e small.

@@ -1,6 +1,5 @@
 -- Shows that `release` returns the bytes that it was given. Assumes `Logic`.
 use Rattle.std.proofs.Common.{◌≡◌, ℕ, List, [], ◌∷◌, length, refl}
-use mir.Val.{Val}
 use base.Fml.{ftrue}
 use contract.Monad.{fact}
 use types.Kit.{‵, raw, ◌⊛◌, ◌$◌, ◌∵◌, !, qed, move, keep, drop, split, join, frame, group, feq_i, rewrite, suffices, done}
@@ -32,9 +31,8 @@ release_spec 𝓤 𝓛 𝓜 𝓡 wired =
     f.Key.name code.function (code.unfolded 𝓤 𝓛.H 𝓜 𝓡 wired)
     (λ κs. ((λ r. parts_lowers.lowered r ∷ []), tt)) (λ κs. (parts_lowers.val_is, tt)) (λ κs qs bounds a g are.
     let base = a.0.base in let d = a.0.bytes in
-    let vss : List Val × Unit {0} = (parts_lowers.lowered a.0 ∷ [], tt) in
     let Asked : Type 0 = (d.at ≡ base.ptr) × (d.skip ≡ 0) × (d.out ≡ []) × (d.units ≡ units_from a.0.start (length d.bytes)) in
-    let y : W.Ghost = ((κs, qs, bounds, a, vss), g) in
+    let y : W.Ghost = ((κs, qs, bounds, a, (parts_lowers.lowered a.0 ∷ [], tt)), g) in
     qed 𝓛 ((‵ ftrue ⊛ (‵ ((parts_type.the_row).own_val a.0 (parts_lowers.lowered a.0 ∷ [])) ⊛ ‵ ftrue)) ∷ raw (fact 𝓤 Asked) ∷ []) ∵
     move ! (1 ∷ []) $ heard ! Asked (λ asked. split ! $ drop ! $ split ! $
     bytes_of_parts ! a.0 (λ is. keep ! (0 ∷ []) $

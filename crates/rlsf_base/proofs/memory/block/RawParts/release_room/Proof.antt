@@ -1,6 +1,5 @@
 -- Shows that `release_room` returns the room of the bytes that it was given. Assumes `Logic`.
-use Rattle.std.proofs.Common.{◌≡◌, ℕ, ◌+◌, List, [], ◌∷◌, length, refl, sym, ap, ◌∙◌, arith}
-use mir.Val.{Val}
+use Rattle.std.proofs.Common.{◌≡◌, ℕ, ◌+◌, [], ◌∷◌, length, refl, sym, ap, ◌∙◌, arith}
 use base.Fml.{Fml, ftrue, froom}
 use contract.Monad.{fact}
 use types.Kit.{use1, ‵, raw, ◌⊛◌, ◌$◌, ◌∵◌, !, qed, move, keep, drop, split, join, frame, group, fsplit, fjoin, feq_i, flt_l, rewrite, suffices, done}
@@ -36,10 +35,9 @@ release_room_spec 𝓤 𝓛 𝓜 𝓡 wired =
     f.Key.name code.function (code.unfolded 𝓤 𝓛.H 𝓜 𝓡 wired)
     (λ κs. ((λ r. parts_lowers.lowered r ∷ []), tt)) (λ κs. (parts_lowers.val_is, tt)) (λ κs qs bounds a g are.
     let base = a.0.base in let d = a.0.bytes in
-    let vss : List Val × Unit {0} = (parts_lowers.lowered a.0 ∷ [], tt) in
     let Asked : Type 0 = (d.at ≡ base.ptr) × (d.skip ≡ 0) × (length d.bytes ≡ a.0.len) × (d.units ≡ units_from a.0.start (length d.bytes)) in
     let Owned : Type 0 = IsOwn d.out 0 a.0.len in
-    let y : W.Ghost = ((κs, qs, bounds, a, vss), g) in
+    let y : W.Ghost = ((κs, qs, bounds, a, (parts_lowers.lowered a.0 ∷ [], tt)), g) in
     qed 𝓛 ((‵ ftrue ⊛ (‵ ((parts_type.the_row).own_val a.0 (parts_lowers.lowered a.0 ∷ [])) ⊛ ‵ ftrue)) ∷ (raw (fact 𝓤 Asked) ⊛ raw (fact 𝓤 Owned)) ∷ [])
     ∵
     move ! (1 ∷ []) $ split ! $ heard ! Asked (λ asked. heard ! Owned (λ own. split ! $ drop ! $ split ! $

@@ -1,7 +1,6 @@
 -- Shows that `issue` makes an entry and its ticket. Assumes `Logic`.
-use Rattle.std.proofs.Common.{List, [], ◌∷◌, ◌++◌, length, true, refl, arith, w64}
+use Rattle.std.proofs.Common.{[], ◌∷◌, ◌++◌, length, true, refl, arith, w64}
 use mir.Syntax.{named}
-use mir.Val.{Val}
 use base.Fml.{ftrue, flft}
 use contract.Running.{tables}
 use types.Kit.{‵, ◌⊛◌, later, await, ◌$◌, ◌∵◌, !, qed, move, keep, use0, use1, split, join, suffices, frame, fsplit, fsplit3, fjoin, fjoin3, done}
@@ -36,12 +35,11 @@ issue_spec 𝓤 𝓛 𝓜 𝓡 wired =
     (λ κs. (mut_vals, (uint_vals w64, (uint_vals w64, (uint_vals w64, tt)))))
     (λ κs. (mut_Tells (named 0) κs.0 ledger.the_row, (uint_Tells w64, (uint_Tells w64, (uint_Tells w64, tt))))) (λ κs qs bounds a g are.
     let rb = a.0.ref_ptr.0 in let ro = a.0.ref_ptr.1 in let d = a.0.now in let v : Extent = extent a.1.0 a.1.1.0 a.1.1.1.0 in
-    let vss : List Val × (List Val × (List Val × (List Val × Unit {0}))) = (mut_vals a.0, (uint_vals w64 a.1.0, (uint_vals w64 a.1.1.0, (uint_vals w64 a.1.1.1.0, tt)))) in
-    let y : W.Ghost = ((κs, qs, bounds, a, vss), g) in
+    let y : W.Ghost = ((κs, qs, bounds, a, (mut_vals a.0, (uint_vals w64 a.1.0, (uint_vals w64 a.1.1.0, (uint_vals w64 a.1.1.1.0, tt))))), g) in
     let k = length d.entries in
     let new : (ledger.the_row).Denot = record { mark = d.mark; name = d.name; entries = d.entries ++ entry_of v true ∷ [] } in
     let out : (ticket.the_row).Denot = record { mark = record {}; name = d.name; key = k; addr = a.1.0; len = a.1.1.0; align = a.1.1.1.0 } in
-    qed 𝓛 (((‵ (flft κs.0 qs.0) ⊛ ‵ ftrue) ⊛ ‵ (owns (types_at f.signature.params κs) a vss)) ∷ ‵ ftrue ∷ []) ∵
+    qed 𝓛 (((‵ (flft κs.0 qs.0) ⊛ ‵ ftrue) ⊛ ‵ (owns (types_at f.signature.params κs) a y.0.4)) ∷ ‵ ftrue ∷ []) ∵
     split ! $ split ! $ move ! (2 ∷ []) $ fsplit ! $ keep ! (0 ∷ 2 ∷ []) $
     enter ! _ _ _ _ _ $ alloc_all !
     (λ l. pass_all ! refl ((tt, tt), ((tt, record { fits = are.1.0.1 }), ((tt, record { fits = are.1.1.0.1 }), ((tt, record { fits = are.1.1.1.0.1 }), tt)))) $

@@ -1,7 +1,6 @@
 -- Shows that `with_units` puts the room of the units behind the kept bytes and the ticket together. Assumes `Logic`.
-use Rattle.std.proofs.Common.{◌≡◌, ℕ, ◌+◌, ◌-◌, ◌*◌, ◌/◌, ◌≤◌, List, [], ◌∷◌, refl, sym, ◌∙◌, arith, w64}
+use Rattle.std.proofs.Common.{◌≡◌, ℕ, ◌+◌, ◌-◌, ◌*◌, ◌/◌, ◌≤◌, [], ◌∷◌, refl, sym, ◌∙◌, arith, w64}
 use base.Fraction.{full_share}
-use mir.Val.{Val}
 use base.Logic.{never, id⊢}
 use base.Fml.{ftrue, fat, froom}
 use contract.Monad.{fact}
@@ -49,13 +48,11 @@ with_units_spec 𝓤 𝓛 𝓜 𝓡 wired =
     (λ κs. (ticket_Tells, (view_Tells, (uint_Tells w64, (uint_Tells w64, (units_Tells, tt)))))) (λ κs qs bounds a g are.
     let t = a.0 in let view = a.1.0 in let place = a.1.1.0 in let len = a.1.1.1.0 in let run = a.1.1.1.1.0 in let home : Home = home_from view run.of in
     let kept : ℕ = len - run.count * 16 in
-    let vss : List Val × (List Val × (List Val × (List Val × (List Val × Unit {0})))) =
-    (mark_val ∷ [], (view_vals view, (uint_vals w64 place, (uint_vals w64 len, (mark_val ∷ [], tt))))) in
     let Run : Type 0 = (run.at ≡ view.base.ptr) × (run.first * 16 + run.count * 16 ≡ place + len) × (run.count * 16 ≤ len) in
     let Shown : Type 0 = (t.len ≡ len) × (t.align ≡ 16) × (place ≡ place_in view t.addr) in
     let Lies : Type 0 = IsUnitPointer home (pointer_to view t.addr) t.addr t.len in
-    let y : W.Ghost = ((κs, qs, bounds, a, vss), g) in
-    qed 𝓛 ((‵ ftrue ⊛ ‵ (owns (types_at f.signature.params κs) a vss)) ∷ (raw (fact 𝓤 Run) ⊛ raw (fact 𝓤 Shown) ⊛ raw (fact 𝓤 Lies)) ∷ []) ∵
+    let y : W.Ghost = ((κs, qs, bounds, a, (mark_val ∷ [], (view_vals view, (uint_vals w64 place, (uint_vals w64 len, (mark_val ∷ [], tt)))))), g) in
+    qed 𝓛 ((‵ ftrue ⊛ ‵ (owns (types_at f.signature.params κs) a y.0.4)) ∷ (raw (fact 𝓤 Run) ⊛ raw (fact 𝓤 Shown) ⊛ raw (fact 𝓤 Lies)) ∷ []) ∵
     move ! (1 ∷ []) $ split ! $ heard ! Run (λ is. split ! $ heard ! Shown (λ shown. heard ! Lies (λ lies.
     split ! $ drop ! $ fsplit ! $ fsplit ! $ drop ! $ move ! (1 ∷ []) $ fsplit ! $ drop ! $ fsplit ! $ drop ! $ fsplit ! $ drop ! $ fsplit ! $ fsplit ! $ keep ! (1 ∷ 3 ∷ []) $
     -- [the units' room; the ticket]

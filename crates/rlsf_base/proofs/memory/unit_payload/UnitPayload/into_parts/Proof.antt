@@ -50,11 +50,10 @@ into_parts_spec 𝓤 𝓛 𝓜 𝓡 wired =
     f.Key.name code.function (code.unfolded 𝓤 𝓛.H 𝓜 𝓡 wired)
     (λ κs. (payload_vals, (uint_vals w64, tt))) (λ κs. (payload_Tells, (uint_Tells w64, tt))) (λ κs qs bounds a g are.
     let d = a.0 in let len = d.len in let kept = a.1.0 in
-    let vss : List Val × (List Val × Unit {0}) = (spot_val d.ptr len ∷ [], (uint_vals w64 kept, tt)) in
-    let y : W.Ghost = ((κs, qs, bounds, a, vss), g) in
+    let y : W.Ghost = ((κs, qs, bounds, a, (spot_val d.ptr len ∷ [], (uint_vals w64 kept, tt))), g) in
     let fits : len < 2 ^ 64 = (spot_told d.ptr len (spot_val d.ptr len ∷ []) are.0.0).1 in
     let at : Ptr = d.home.view.base.ptr in let place : ℕ = place_in d.home.view d.start in let count : ℕ = (len - d.kept) / 16 in
-    qed 𝓛 ((‵ ftrue ⊛ ‵ (owns (types_at f.signature.params κs) a vss)) ∷ raw (fact 𝓤 (kept ≡ d.kept)) ∷ []) ∵
+    qed 𝓛 ((‵ ftrue ⊛ ‵ (owns (types_at f.signature.params κs) a y.0.4)) ∷ raw (fact 𝓤 (kept ≡ d.kept)) ∷ []) ∵
     move ! (1 ∷ []) $ heard ! (kept ≡ d.kept) (λ asked.
     split ! $ drop ! $ fsplit ! $ fsplit ! $ drop ! $ fsplit ! $ keep ! (1 ∷ 0 ∷ []) $
     -- [the room; the ticket]
