@@ -1,12 +1,11 @@
 -- What a part owned is that part again.
-use Rattle.std.proofs.Common.{◌≡◌, ℕ, ◌+◌, ◌%◌, ◌^◌, ◌<◌, [], List, length, arith, refl, sym, ap, ◌∙◌, subst}
+use Rattle.std.proofs.Common.{◌≡◌, ℕ, ◌+◌, ◌%◌, ◌^◌, ◌<◌, [], List, length, arith, sym, ap, ◌∙◌}
 use Rattle.rlsf_base.specs.Changes.{IsOwn}
-use Rattle.rlsf_base.specs.Out.{Change, is_own, kept_at}
-use Rattle.rlsf_base.specs.OpenSpace.{Home, place_in}
+use Rattle.rlsf_base.specs.Out.{is_own, kept_at}
+use Rattle.rlsf_base.specs.OpenSpace.{place_in}
 use Rattle.rlsf_base.specs.Piece.{CanCome, HasPartBytes, IsPiece, IsPieceOf, Piece, first_place, home_from, piece_range}
-use Rattle.rlsf_base.specs.Range.{LiesIn}
 use Rattle.rlsf_base.specs.RawParts.{TakesParts}
-use Rattle.rlsf_base.specs.Steps.Block.{IsMemory, memory_of, start_of, view_of}
+use Rattle.rlsf_base.specs.Steps.Block.{IsMemory, memory_of}
 use Rattle.rlsf_base.specs.Steps.Owners.{Becomes, OwnsValues}
 use Rattle.rlsf_base.specs.Steps.Ownership.{units_in}
 use Rattle.rlsf_base.specs.declared.memory.block.Base.{Base}

@@ -1,10 +1,9 @@
 -- A range leaves, comes back, or is written: what its bytes are then, and what those beside it are.
-use Rattle.std.proofs.Common.{◌≡◌, ◌-◌, ◌≤◌, ap, arith, inl, inr, sym, ◌∙◌, true, ◌∷◌}
+use Rattle.std.proofs.Common.{◌≡◌, ◌-◌, ◌≤◌, ap, arith, ◌∙◌, true, ◌∷◌}
 use Rattle.std.proofs.lemmas.Bool.{cases_lt}
 use Rattle.rlsf_base.specs.declared.memory.range.Range.{Range}
 use Rattle.rlsf_base.specs.Out.{Kept, is_own, kept_at}
 use Rattle.rlsf_base.specs.Changes.{change}
-use Rattle.rlsf_base.specs.Range.{end_of}
 use Rattle.rlsf_base.specs.Space.{Space}
 use Rattle.rlsf_base.specs.OpenSpace.{IsHere, IsOwned, SameOwn, StaysHere, StaysHereBeside, StaysOwn, StaysOwnBeside, out_with}
 use Rattle.rlsf_base.proofs.Changes.{back-there, back-before, back-behind, changed-there, changed-before, changed-behind}

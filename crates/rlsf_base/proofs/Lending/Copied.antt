@@ -1,9 +1,9 @@
 -- What a copy leaves: the bytes there, which are here, and every other word and byte as it was.
-use Rattle.std.proofs.Common.{◌≡◌, ℕ, ◌+◌, ◌-◌, ◌<◌, ◌≤◌, ◌⊎◌, [], length, drop, arith, inl, inr, ap, sym, ◌∙◌, length-drop, length-take}
+use Rattle.std.proofs.Common.{◌≡◌, ℕ, ◌+◌, ◌-◌, ◌<◌, ◌≤◌, ◌⊎◌, [], length, drop, arith, inl, inr, ap, ◌∙◌, length-drop, length-take}
 use Rattle.std.proofs.lemmas.Bool.{cases_lt}
 use Rattle.std.specs.List.{splice}
 use Rattle.rlsf_base.specs.declared.memory.range.Range.{Range}
-use Rattle.rlsf_base.specs.Out.{here, is_own, kept_at}
+use Rattle.rlsf_base.specs.Out.{here, kept_at}
 use Rattle.rlsf_base.specs.Range.{end_of, LiesIn, range_at}
 use Rattle.rlsf_base.specs.Space.{Space, bytes_in, out_at, word_at, word_range, with_bytes}
 use Rattle.rlsf_base.specs.OpenSpace.{IsOwned, SameOwn, StaysHere, out_with}

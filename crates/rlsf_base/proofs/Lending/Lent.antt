@@ -1,5 +1,5 @@
 -- What is left through a lent range, whatever that is: the bytes there, and every other byte as it was.
-use Rattle.std.proofs.Common.{◌≡◌, ℕ, ◌-◌, ◌≤◌, ◌⊎◌, List, ◌++◌, length, drop, arith, refl, ◌∙◌, length-append, length-drop, length-take, take_at}
+use Rattle.std.proofs.Common.{◌≡◌, ℕ, ◌-◌, ◌≤◌, ◌⊎◌, List, length, drop, arith, refl, ◌∙◌, length-append, length-drop, length-take, take_at}
 use Rattle.std.specs.List.{refill}
 use Rattle.rlsf_base.specs.declared.memory.range.Range.{Range}
 use Rattle.rlsf_base.specs.Range.{end_of, LiesIn}

@@ -1,5 +1,5 @@
 -- Bytes that were lent as a whole: there are as many as before, and they are those that were left.
-use Rattle.std.proofs.Common.{◌≡◌, ℕ, List, ◌++◌, length, take, drop, arith, sym, ap, ◌∙◌, length-append, length-drop, length-take}
+use Rattle.std.proofs.Common.{◌≡◌, ℕ, List, ◌++◌, length, drop, arith, length-append, length-drop, length-take}
 use Rattle.std.proofs.Math.Seq.{take-append_seam, take-length}
 use Rattle.std.specs.List.{refill}
 use Rattle.rlsf_base.specs.Lends.{refilled}

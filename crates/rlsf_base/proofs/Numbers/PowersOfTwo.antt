@@ -1,5 +1,5 @@
 -- The laws of logarithms and powers of two.
-use Rattle.std.proofs.Common.{◌≡◌, ℕ, zero, suc, ◌+◌, ◌-◌, ◌*◌, ◌/◌, ◌^◌, ◌<◌, ◌≤◌, ◌↔◌, IsTrue, arith, eq-eqb, inl, inr, sym}
+use Rattle.std.proofs.Common.{◌≡◌, ℕ, zero, suc, ◌+◌, ◌-◌, ◌*◌, ◌/◌, ◌^◌, ◌<◌, ◌≤◌, ◌↔◌, IsTrue, arith, eq-eqb, sym}
 use Rattle.std.proofs.Common.{◌∙◌, ap}
 use Rattle.std.proofs.lemmas.Nat.{ones_cat, ones_le_self, pow_below, pow_pos, zero_from_ones}
 use Rattle.std.proofs.lemmas.Bool.{cases_lt, eqb-true}

@@ -8,7 +8,7 @@ use base.Fml.{Lft, Share, Fml, ftrue, feq, fsep, flft, froom, fobs, fauth, fobor
 use mir.Syntax.{named}
 use mir.Val.{Val}
 use types.Logic.{Logic, sem}
-use types.Kit.{Item, Goal, Soaks, Seq, Step, step, ‵, ◌⊛◌, prop, ◌$◌, ◌∵◌, !, qed, done, move, keep, frame, use1, use2, join, split, rewrite, fsplit, fsplit3, fjoin, fjoin3, flt_i}
+use types.Kit.{Item, Goal, Soaks, Seq, Step, step, ‵, ◌⊛◌, prop, ◌$◌, ◌∵◌, !, qed, done, move, frame, use1, use2, join, split, rewrite, fsplit, fsplit3, fjoin, fjoin3, flt_i}
 use types.SemTy.{Body}
 use denote.Memory.{mem, cell_at}
 use denote.RawPtr.{Ptr, block_ptr}

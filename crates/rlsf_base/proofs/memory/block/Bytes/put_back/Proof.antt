@@ -1,5 +1,5 @@
 -- Shows that `put_back` gives the owner a run of its bytes back, as they are now. None of them was the owner's before, since they are another's. Assumes `Logic`.
-use Rattle.std.proofs.Common.{◌≡◌, ℕ, ◌+◌, ◌-◌, ◌^◌, ◌≤◌, List, [], ◌∷◌, ◌++◌, length, take, drop as behind, refl, sym, ◌∙◌, arith}
+use Rattle.std.proofs.Common.{◌≡◌, ℕ, ◌+◌, ◌-◌, ◌≤◌, List, [], ◌∷◌, ◌++◌, length, take, drop as behind, refl, sym, ◌∙◌, arith}
 use Rattle.std.proofs.Common.{length-take, length-drop, length-append}
 use Rattle.std.specs.List.{splice}
 use mir.Syntax.{named}

@@ -1,5 +1,5 @@
 -- Shows that `put_room` gives the owner a run of its bytes back, as room. None of them was the owner's before, since they are another's. Assumes `Logic`.
-use Rattle.std.proofs.Common.{◌≡◌, ℕ, ◌+◌, ◌-◌, ◌^◌, ◌≤◌, List, [], ◌∷◌, length, refl, ◌∙◌, arith}
+use Rattle.std.proofs.Common.{◌≡◌, ℕ, ◌+◌, ◌-◌, ◌≤◌, List, [], ◌∷◌, length, refl, ◌∙◌, arith}
 use mir.Syntax.{named}
 use mir.Val.{Val, vunit}
 use base.Fml.{ftrue, froom, flft}

@@ -1,5 +1,5 @@
 -- Shows that `put_units` gives the owner a run of its units back. None of their bytes was the owner's before, since they are another's. Assumes `Logic`.
-use Rattle.std.proofs.Common.{◌≡◌, ◌+◌, ◌-◌, ◌*◌, ◌^◌, ◌≤◌, List, [], ◌∷◌, refl, ◌∙◌}
+use Rattle.std.proofs.Common.{◌≡◌, ◌+◌, ◌-◌, ◌*◌, ◌≤◌, List, [], ◌∷◌, refl, ◌∙◌}
 use mir.Syntax.{named}
 use mir.Val.{Val, vunit}
 use base.Fml.{ftrue, flft}

@@ -1,5 +1,5 @@
 -- Shows that `recount` counts other changes, where each byte is the same by these. Assumes `Logic`.
-use Rattle.std.proofs.Common.{ap, ◌*◌, ◌-◌, ◌≡◌, ℕ, ◌<◌, ◌+◌, ◌^◌, List, [], ◌∷◌, length, refl, arith}
+use Rattle.std.proofs.Common.{ap, ◌*◌, ◌-◌, ◌≡◌, ℕ, ◌<◌, ◌+◌, List, [], ◌∷◌, length, refl, arith}
 use mir.Syntax.{named}
 use mir.Val.{Val, vunit}
 use base.Fml.{Fml, ftrue, flft}

@@ -18,9 +18,9 @@ use denote.Param.{layout}
 use denote.RawPtr.{Ptr, ◌+ₚ◌, in_a_block}
 use denote.Ref.{shr_vals, shr_Tells}
 use denote.Plain.{uint_vals, uint_Tells}
-use denote.Builtin.{u8, RefOf}
+use denote.Builtin.{u8}
 use denote.Opens.{hide, unhide}
-use denote.Signature.{Slot, plain, types_at}
+use denote.Signature.{types_at}
 use denote.Slice.{slice_val, elements_shared}
 use denote.Steps.{nothing, heard}
 use denote.Triple.Walked.{says, Stays, walk_of, ends_at}
@@ -37,9 +37,6 @@ use Rattle.rlsf_base.specs.contracts.memory.block.Units as units_type
 use Rattle.rlsf_base.specs.contracts.memory.block.Bytes.slice_ahead as f
 use Rattle.rlsf_base.proofs.memory.block.Bytes.slice_ahead.Statement.{statement}
 use Rattle.rlsf_base.proofs.memory.block.Bytes.slice_ahead.Code as code
-
-abbrev units_ref : Slot 2
-units_ref = RefOf (1 ∷ []) tt (plain (λ _. units_type.the_row)) (λ _. tt)
 
 pub slice_ahead_spec : {M : Type 1} → statement M
 slice_ahead_spec 𝓤 𝓛 𝓜 𝓡 wired =

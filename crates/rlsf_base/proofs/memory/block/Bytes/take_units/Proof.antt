@@ -1,5 +1,5 @@
 -- Shows that `take_units` parts the owner from the room of a run of its units, which the result owns. Assumes `Logic`.
-use Rattle.std.proofs.Common.{◌+◌, ◌-◌, ◌*◌, ◌^◌, ◌≤◌, [], ◌∷◌, refl, sym, w64}
+use Rattle.std.proofs.Common.{◌+◌, ◌-◌, ◌*◌, ◌≤◌, [], ◌∷◌, refl, sym, w64}
 use mir.Syntax.{named}
 use base.Fml.{ftrue, froom, flft}
 use contract.Monad.{fact}

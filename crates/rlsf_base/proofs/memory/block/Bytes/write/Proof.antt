@@ -1,5 +1,5 @@
 -- Shows that `write` writes the room of a byte, which is here from now on. Assumes `Logic`.
-use Rattle.std.proofs.Common.{◌≡◌, ℕ, ◌+◌, ◌^◌, ◌<◌, List, [], ◌∷◌, refl, ◌∙◌, arith, w8, w64}
+use Rattle.std.proofs.Common.{◌≡◌, ℕ, ◌+◌, List, [], ◌∷◌, refl, ◌∙◌, arith, w8, w64}
 use base.Fraction.{full_share}
 use mir.Syntax.{named, ty_int}
 use mir.Val.{Val, vunit}

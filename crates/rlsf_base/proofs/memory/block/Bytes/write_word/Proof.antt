@@ -1,5 +1,5 @@
 -- Shows that `write_word` writes the room of eight bytes, which are here from now on. Assumes `Logic`.
-use Rattle.std.proofs.Common.{◌≡◌, ◌+◌, ◌^◌, ◌<◌, List, [], ◌∷◌, length, map, refl, sym, ◌∙◌, arith, w8, w64}
+use Rattle.std.proofs.Common.{◌≡◌, ◌+◌, List, [], ◌∷◌, length, map, refl, sym, ◌∙◌, arith, w8, w64}
 use base.Fraction.{full_share}
 use mir.Syntax.{named, ty_int}
 use mir.Val.{Val, vunit, vint}

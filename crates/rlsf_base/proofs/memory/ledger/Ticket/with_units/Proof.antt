@@ -30,8 +30,6 @@ use Rattle.rlsf_base.proofs.RawBlock.PointerValues.{spot_val, spot_own, spot_mad
 use Rattle.rlsf_base.proofs.RawBlock.Values.{mark_val}
 use Rattle.rlsf_base.proofs.RawBlock.Dropped.{all_dropped, all_go}
 use Rattle.rlsf_base.specs.contracts.memory.view.View as view_type
-use Rattle.rlsf_base.specs.contracts.memory.block.Units as units_type
-use Rattle.rlsf_base.specs.contracts.memory.ledger.Ticket as ticket_type
 use Rattle.rlsf_base.specs.contracts.memory.unit_payload.UnitPayload as payload_type
 use Rattle.rlsf_base.specs.contracts.memory.ledger.Ticket.with_units as f
 use Rattle.rlsf_base.proofs.memory.ledger.Ticket.with_units.Statement.{statement}

@@ -1,5 +1,5 @@
 -- Shows that `into_bytes` is the owner of these bytes. Assumes `Logic`.
-use Rattle.std.proofs.Common.{ℕ, [], ◌∷◌, ◌++◌, refl}
+use Rattle.std.proofs.Common.{ℕ, [], ◌∷◌, refl}
 use base.Logic.{id⊢}
 use base.Fml.{ftrue}
 use contract.Monad.{fact}
